@@ -1,2 +1,11 @@
 pub mod Name
 pub mod Reading
+pub mod Sorting
+pub mod Zone
+pub mod Covering
+pub mod Bitmap
+pub mod Base32hex
+pub mod ZoneChain
+pub mod Serial
+pub mod Dnskey
+pub mod Signing

@@ -1,0 +1,102 @@
+-- The chain of a zone: its names in order, and the data of each name's record (RFC 4034, 4; RFC 5155, 3 and 7.1).
+use Rattle.std.specs.Prelude.{ℕ, Bool, false, ◌==◌, List, [], ◌∷◌, ◌++◌, map, filter, length, if◌then◌else◌}
+use Rattle.std.specs.List.{flat_map}
+use Rattle.std.specs.Str.{bytes_eq}
+use Rattle.std.specs.Int.{w16, to_be_bytes}
+use Rattle.std.specs.declared.cmp.Ordering.{Ordering}
+use Rattle.std.specs.Ordering.{nat_cmp}
+use Rattle.std.specs.Cmp.Lexicographic.{slice_cmp}
+use Rattle.definitions.specs.Sorting.{sort_by}
+use Rattle.definitions.specs.Name.{Name, labels_eq, name_cmp, wire}
+use Rattle.definitions.specs.Zone.{Zone, has, is_delegation, kept_owners, kept}
+use Rattle.definitions.specs.Bitmap.{bitmap}
+
+-- which chain a zone has; for NSEC3 its iterations, its salt and whether it opts out
+pub data Mode : Type 0 where
+  Nsec : Mode
+  Nsec3 : ℕ → List ℕ → Bool → Mode
+
+abbrev pub optout_of : Mode → Bool
+optout_of Nsec = false
+optout_of (Nsec3 iterations salt optout) = optout
+
+-- a name and what it stands under
+abbrev pub with_parents : Name → List Name
+with_parents [] = [] ∷ []
+with_parents (l ∷ n) = (l ∷ n) ∷ with_parents n
+
+-- the owners of NSEC records: the live owners, in canonical order (RFC 4034, 4; RFC 4035, 2.3)
+abbrev pub nsec_names : Zone → List Name
+nsec_names z = sort_by name_cmp (kept_owners z false)
+
+-- the names of NSEC3 records: the kept owners and the empty non-terminals above them (RFC 5155, 7.1)
+abbrev pub nsec3_names : Zone → Bool → List Name
+nsec3_names z optout = sort_by name_cmp (filter (kept z optout) (flat_map with_parents (kept_owners z optout)))
+
+abbrev pub chain_names : Zone → Mode → List Name
+chain_names z Nsec = nsec_names z
+chain_names z (Nsec3 iterations salt optout) = nsec3_names z optout
+
+-- the types at an owner
+abbrev pub types_at : Zone → Name → List ℕ
+types_at z o = map (λ r. r.rtype) (filter (λ r. labels_eq r.owner o) z.records)
+
+abbrev pub at_apex : Zone → Name → List ℕ → List ℕ
+at_apex z o ts = if labels_eq o z.apex then ts else []
+
+abbrev pub if_has : Zone → Name → ℕ → List ℕ
+if_has z o t = if has z o t then t ∷ [] else []
+
+-- the bits of an NSEC record (RFC 4034, 4.1.2; RFC 4035, 2.3)
+abbrev pub nsec_types : Zone → Name → List ℕ
+nsec_types z o =
+    if is_delegation z o then 2 ∷ if_has z o 43 ++ 46 ∷ 47 ∷ []
+    else types_at z o ++ 46 ∷ 47 ∷ at_apex z o (48 ∷ [])
+
+-- the bits of an NSEC3 record; none at an empty non-terminal (RFC 5155, 7.1)
+abbrev pub nsec3_types : Zone → Name → List ℕ
+nsec3_types z o =
+    if is_delegation z o then 2 ∷ (if has z o 43 then 43 ∷ 46 ∷ [] else [])
+    else let ts = types_at z o in
+    if length ts == 0 then [] else ts ++ 46 ∷ at_apex z o (48 ∷ 51 ∷ [])
+
+-- each item with the one behind it, the last with the first
+abbrev pub links : {A : Type 0} → A → List A → List (A × A)
+links first [] = []
+links first (a ∷ []) = (a, first) ∷ []
+links first (a ∷ b ∷ bs) = (a, b) ∷ links first (b ∷ bs)
+
+-- what stands behind an item
+abbrev pub behind : {A : Type 0} → (A → A → Bool) → A → A → List (A × A) → A
+behind eq d a [] = d
+behind eq d a (l ∷ ls) = let later = behind eq d a ls in if eq a l.0 then l.1 else later
+
+abbrev pub head_or : {A : Type 0} → A → List A → A
+head_or d [] = d
+head_or d (a ∷ xs) = a
+
+-- the next name of a name's NSEC record (RFC 4034, 4.1.1)
+abbrev pub nsec_next : Zone → Name → Name
+nsec_next z o = behind labels_eq z.apex o (links z.apex (nsec_names z))
+
+-- An NSEC record's data: the next name, as names of the zone are spelled, and the bits (RFC 4034, 4.1; RFC 6840, 5.1).
+abbrev pub nsec_data : Zone → (Name → Name) → Name → List ℕ
+nsec_data z spelled o = wire (spelled (nsec_next z o)) ++ bitmap (nsec_types z o)
+
+-- hashes as octets
+abbrev pub hash_cmp : List ℕ → List ℕ → Ordering
+hash_cmp = slice_cmp nat_cmp
+
+-- the hashes of the names of the chain in order, under the hash of the zone's parameters
+abbrev pub hashes : (Name → List ℕ) → Zone → Bool → List (List ℕ)
+hashes hash z optout = sort_by hash_cmp (map hash (nsec3_names z optout))
+
+-- the next hash of a name's NSEC3 record (RFC 5155, 3.1.7)
+abbrev pub nsec3_next : (Name → List ℕ) → Zone → Bool → Name → List ℕ
+nsec3_next hash z optout o = let hs = hashes hash z optout in behind bytes_eq [] (hash o) (links (head_or [] hs) hs)
+
+-- an NSEC3 record's data (RFC 5155, 3.2)
+abbrev pub nsec3_data : (Name → List ℕ) → Zone → ℕ → List ℕ → Bool → Name → List ℕ
+nsec3_data hash z iterations salt optout o =
+    let next = nsec3_next hash z optout o in
+    1 ∷ (if optout then 1 else 0) ∷ to_be_bytes w16 iterations ++ length salt ∷ salt ++ length next ∷ next ++ bitmap (nsec3_types z o)
