@@ -1,0 +1,9 @@
+pub mod NameRows
+pub mod ReadingRows
+pub mod ZoneRows
+pub mod ChainRows
+pub mod BitmapRows
+pub mod KeyRows
+pub mod NameLaws
+pub mod ChainLaws
+pub mod LawProofs
