@@ -1,6 +1,6 @@
 -- Names as they stand in a message (RFC 1035, 4.1.4).
-use Rattle.std.specs.Prelude.{◌≡◌, ℕ, zero, suc, ◌+◌, ◌-◌, ◌*◌, ◌<◌, ◌≤◌, true, false, List, [], ◌∷◌, ◌++◌, length, Some, None, Result, Ok, Err, slice_get, slice_range, nat_le, nat_lt, nat_eq}
-use Rattle.definitions.specs.Name.{Name, Label}
+use Rattle.std.specs.Prelude.{◌≡◌, ℕ, zero, suc, ◌+◌, ◌-◌, ◌*◌, ◌<◌, ◌≤◌, true, false, List, [], ◌∷◌, ◌++◌, length, Option, Some, None, Result, Ok, Err, slice_get, slice_range, nat_le, nat_lt, nat_eq}
+use Rattle.definitions.specs.Name.{Name, Label, wire_len}
 
 -- What stands at a place, with so many pointers left: a root octet, a label of 1 to 63 octets and what
 -- follows it, or a pointer to a place before its own.
