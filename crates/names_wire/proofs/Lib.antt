@@ -1,1 +1,2 @@
 pub mod Lowercase
+pub mod OnError

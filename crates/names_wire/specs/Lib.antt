@@ -1,2 +1,4 @@
 pub mod Label
+pub mod Pending
 pub mod Refill
+pub mod Symbols

@@ -5,3 +5,4 @@ pub mod builder;
 pub mod label;
 pub mod octets;
 pub mod order;
+pub mod symbol;
