@@ -1,7 +1,7 @@
 -- Symbols of text as the code has them, and a reader that takes characters one by one (RFC 1035, 5.1).
-use Rattle.std.specs.Prelude.{◌≡◌, ℕ, Bool, true, List, [], ◌∷◌, ◌++◌, Option, Some, None}
+use Rattle.std.specs.Prelude.{◌≡◌, ℕ, Bool, true, List, [], ◌∷◌, ◌++◌, if◌then◌else◌, Option, Some, None}
 use Rattle.std.specs.Option.{option_map}
-use Rattle.definitions.specs.Text.{Plain, Quoted, Decimal, is_digit, symbols_of}
+use Rattle.definitions.specs.Text.{Plain, Quoted, Decimal, is_digit, symbols_of, is_symbol, spelling}
 use Rattle.definitions.specs.Text as text
 use Rattle.names_wire.specs.declared.symbol.Symbol.{Symbol}
 use Rattle.names_wire.specs.declared.symbol.Symbol.TheVariants.{Char, SimpleEscape, DecimalEscape}
@@ -19,3 +19,7 @@ followed_by (Some s) read = option_map (λ ss. symbol_of s ∷ ss) read
 -- whatever follows these characters, they are read as this symbol
 abbrev pub ReadsAs : List ℕ → Symbol → Type 0
 ReadsAs chars s = (rest : List ℕ) → symbols_of (chars ++ rest) ≡ option_map (λ ss. symbol_of s ∷ ss) (symbols_of rest)
+
+-- how a symbol is written, if it is one
+abbrev pub written : text.Symbol → Option (List ℕ)
+written s = if is_symbol s then Some (spelling s) else None

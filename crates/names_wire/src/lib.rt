@@ -2,6 +2,7 @@
 #![tactic(auto)]
 
 pub mod builder;
+pub mod display;
 pub mod label;
 pub mod octets;
 pub mod order;

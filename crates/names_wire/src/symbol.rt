@@ -4,7 +4,7 @@ ghost use Rattle.std.specs.Prelude.{◌≡◌, ◌≢◌, false, ◌↔◌, ◌+
 ghost use Rattle.definitions.specs.Text.{is_symbol, is_digit, octet, spelling, symbol_of_octet, symbols_of, octet_at, Plain, Quoted};
 ghost use Rattle.std.specs.Option.{option_map};
 ghost use Rattle.std.specs.Result.{result_ok};
-ghost use Rattle.names_wire.specs.Symbols.{symbol_of, followed_by, ReadsAs};
+ghost use Rattle.names_wire.specs.Symbols.{symbol_of, followed_by, written, ReadsAs};
 
 use std::fmt;
 use std::marker::Model;
@@ -57,6 +57,23 @@ impl Symbol {
             Symbol::SimpleEscape(value) if value >= b' ' && value <= b'~' && !value.is_ascii_digit() => Ok(value),
             Symbol::DecimalEscape(value) => Ok(value),
             _ => Err(SymbolCharsError::BadSymbol),
+        }
+    }
+}
+
+/// The symbol as it is written: what is no symbol is written too, but no clause says how.
+impl fmt::Display for Symbol {
+    ghost output = { λ s. written (symbol_of s) };
+
+    #[tactic(auto, using(std::proofs::lemmas::Fmt::decimal_digit))]
+    fn fmt<W: fmt::Write>(&self, f: &mut fmt::Formatter<W>) -> fmt::Result {
+        match *self {
+            Symbol::Char(ch) => write!(f, "{ch}"),
+            Symbol::SimpleEscape(value) => write!(f, "\\{}", value as char),
+            Symbol::DecimalEscape(value) => {
+                let (hundreds, tens, units) = (value / 100, value / 10 % 10, value % 10);
+                write!(f, "\\{hundreds}{tens}{units}")
+            }
         }
     }
 }
