@@ -6,4 +6,5 @@ pub mod display;
 pub mod label;
 pub mod octets;
 pub mod order;
+pub mod owned;
 pub mod symbol;

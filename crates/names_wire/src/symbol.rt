@@ -1,6 +1,6 @@
 //! Symbols, of which the text of names is made (RFC 1035, 5.1).
 
-ghost use Rattle.std.specs.Prelude.{◌≡◌, ◌≢◌, false, ◌↔◌, ◌++◌, ℕ, List, [], ◌∷◌, true, IfOk, IfSome, IsOk, IsTrue, OnErr, None, Some};
+ghost use Rattle.std.specs.Prelude.{◌≡◌, ◌≢◌, false, ◌↔◌, ◌++◌, ℕ, List, [], ◌∷◌, true, IfOk, IfSome, IsOk, IsTrue, OnErr, OnOk, None, Some};
 ghost use Rattle.definitions.specs.Text.{is_symbol, is_digit, octet, spelling, symbol_of_octet, symbols_of, octet_at, Plain, Quoted};
 ghost use Rattle.std.specs.Option.{option_map};
 ghost use Rattle.std.specs.Result.{result_ok};
@@ -153,7 +153,8 @@ impl SymbolReader {
 
     /// Ends the text, which is refused within an escape.
     pub fn finish(self) -> Result<(), SymbolCharsError>
-        ensures { IsOk result ↔ (self ≡ []) }
+        ensures ok { OnOk result (self ≡ []) }
+        ensures err { OnErr result (symbols_of self ≡ None) }
     {
         match self.pending {
             Pending::Nothing => Ok(()),
