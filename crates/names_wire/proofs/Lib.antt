@@ -1,3 +1,4 @@
+pub mod Along
 pub mod Lowercase
 pub mod OnError
 pub mod PartLabel

@@ -1,9 +1,12 @@
 //! Labels in wire form.
 
-ghost use Rattle.std.specs.Prelude.{◌≡◌, ◌==◌, ◌≤◌, ◌↔◌, [], ◌∷◌, length, MatchResult, Ok, Err, IfOk, IsOk, IsTrue};
+ghost use Rattle.std.specs.Prelude.{◌≡◌, ◌==◌, ◌≤◌, ◌↔◌, [], ◌∷◌, length, MatchResult, Ok, Err, IfOk, IsOk, IsTrue, OnOk, OnErr, ◌++◌, ◌+◌};
 ghost use Rattle.std.specs.Ordering.{nat_cmp};
 ghost use Rattle.std.specs.Cmp.Lexicographic.{slice_cmp};
 
+use crate::builder::{OctetsBuilder, ShortBuf};
+use crate::labels::SliceLabelsIter;
+use crate::owned::OwnedLabel;
 use std::cmp::Ordering;
 use thiserror::Error;
 
@@ -44,6 +47,7 @@ pub enum SplitLabelError {
 
 impl<'a> Label<'a> {
     ghost use Rattle.names_wire.specs.Label.{octets_of, lowered, wire_label, split};
+    ghost use Rattle.names_wire.specs.Slices.{labels_along};
 
     /// The most octets that a label has.
     pub const MAX_LEN: usize = 63;
@@ -114,6 +118,16 @@ impl<'a> Label<'a> {
         }
     }
 
+    /// The labels of octets from a place on, through pointers: up to the root's label, or to what is no label.
+    ///
+    /// There are none where the place is not within the octets. At most 255 pointers are followed, each to a
+    /// place before its own (RFC 1035, 4.1.4).
+    pub fn iter_slice(slice: &'a [u8], start: usize) -> SliceLabelsIter<'a>
+        ensures { result ≡ labels_along 255 slice.now start }
+    {
+        SliceLabelsIter::new(slice, start)
+    }
+
     /// The octets, without their length.
     pub fn as_slice(&self) -> &'a [u8]
         ensures value { result.now ≡ octets_of self.now }
@@ -168,5 +182,25 @@ impl<'a> Label<'a> {
             Ordering::Equal => self.cmp(other),
             order => order,
         }
+    }
+
+    /// Appends the octets behind their number. A refused call leaves the target as it was.
+    pub fn compose<B: OctetsBuilder>(&self, target: &mut B) -> Result<(), ShortBuf>
+        ensures ok { OnOk result (B.bytes target.new ≡ B.bytes target.old ++ wire_label (octets_of self.now)) }
+        ensures err { OnErr result (B.bytes target.new ≡ B.bytes target.old) }
+        ensures full { OnErr result (B.lacks_room target.old (length (octets_of self.now) + 1)) }
+    {
+        target.append_slice(OwnedLabel::from_label(*self).as_wire_slice())
+    }
+
+    /// As `compose`, with ASCII letters lowered (RFC 4034, 6.2).
+    pub fn compose_canonical<B: OctetsBuilder>(&self, target: &mut B) -> Result<(), ShortBuf>
+        ensures ok { OnOk result (B.bytes target.new ≡ B.bytes target.old ++ wire_label (lowered self.now)) }
+        ensures err { OnErr result (B.bytes target.new ≡ B.bytes target.old) }
+        ensures full { OnErr result (B.lacks_room target.old (length (octets_of self.now) + 1)) }
+    {
+        let mut label = OwnedLabel::from_label(*self);
+        label.make_canonical();
+        target.append_slice(label.as_wire_slice())
     }
 }

@@ -4,7 +4,10 @@
 pub mod builder;
 pub mod display;
 pub mod label;
+pub mod label_mut;
+pub mod labels;
 pub mod octets;
 pub mod order;
 pub mod owned;
+pub mod owned_order;
 pub mod symbol;
