@@ -1,12 +1,12 @@
 -- The labels along a row and its pointers, step by step.
-use Rattle.std.proofs.Common.{◌≡◌, ◌⊎◌, inl, inr, ℕ, zero, suc, ◌+◌, ◌-◌, ◌<◌, ◌≤◌, Bool, true, false, cond, List, [], ◌∷◌, ◌++◌, length, take, drop, refl, sym, ap, subst, ◌∙◌, arith, Option, Some, None, Result, Ok, Err, nat_eq, nat_le, nat_lt, length-drop, length-take-le}
-use Rattle.std.proofs.lemmas.List.{drop_all, append-nil, drop-drop}
+use Rattle.std.proofs.Common.{◌≡◌, ◌⊎◌, inl, inr, ℕ, zero, suc, ◌+◌, ◌-◌, ◌≤◌, Bool, true, false, cond, List, [], ◌∷◌, ◌++◌, length, take, drop, refl, sym, ap, ◌∙◌, arith, Option, Some, None, Result, Ok, Err, nat_le, length-drop, length-take-le}
+use Rattle.std.proofs.lemmas.List.{drop_all, drop-drop}
 use Rattle.std.proofs.lemmas.Bool.{leb-true}
 use Rattle.std.specs.Iterator.{MakesProgress, item_count}
 use Rattle.names_wire.specs.Label.{split, no_length}
 use Rattle.names_wire.specs.declared.label.SplitLabelError.{SplitLabelError}
 use Rattle.names_wire.specs.declared.label.SplitLabelError.TheVariants.{ShortInput}
-use Rattle.names_wire.specs.Slices.{Row, stop, with_label, leads_to, pointer_from, row_behind, row_at, labels_along}
+use Rattle.names_wire.specs.Slices.{Row, stop, with_label, leads_to, pointer_from, row_behind, labels_along}
 
 -- what the first step makes of the label in front
 abbrev step : ℕ → ℕ → List ℕ → Result (List ℕ × List ℕ) SplitLabelError → Row
@@ -45,7 +45,7 @@ parts b bs label rest h = go (nat_le b 63) (nat_le b (length bs)) refl h
     go true true k e = record {
       room = leb-true b (length bs) k;
       count = ap length (sym (ap (λ (r : Result (List ℕ × List ℕ) SplitLabelError). elim r as (λ _. List ℕ) [ Ok x ↦ x.0 | Err e ↦ [] ]) e)) ∙ length-take-le b bs (leb-true b (length bs) k);
-      after = ap (λ (r : Result (List ℕ × List ℕ) SplitLabelError). elim r as (λ _. List ℕ) [ Ok x ↦ x.1 | Err e ↦ [] ]) e
+      after = ap (λ (r : Result (List ℕ × List ℕ) SplitLabelError). elim r as (λ _. List ℕ) [ Ok x ↦ x.1 | Err e ↦ [] ]) e;
     }
     go true false k e = cc
     go false t k e = cc

@@ -1,5 +1,5 @@
 -- What has been read of a label's text.
-use Rattle.std.proofs.Common.{◌≡◌, ◌≢◌, ◌⊎◌, inl, inr, ℕ, ◌+◌, ◌<◌, ◌≤◌, Bool, true, false, cond, ◌&&◌, ◌||◌, not, List, [], ◌∷◌, ◌++◌, map, length, refl, sym, ap, ◌∙◌, append_assoc, arith, nat_le, nat_lt, length-append, subst, Option, Some, None}
+use Rattle.std.proofs.Common.{◌≡◌, ◌⊎◌, inl, inr, ℕ, ◌<◌, ◌≤◌, Bool, true, false, cond, ◌&&◌, ◌||◌, not, List, [], ◌∷◌, ◌++◌, map, length, refl, sym, ap, ◌∙◌, append_assoc, arith, nat_le, nat_lt, length-append, subst, Option, Some, None}
 use Rattle.std.specs.Option.{option_map}
 use Rattle.std.specs.Iterator.{Yields}
 use Rattle.std.specs.List.{list_all, list_any}
@@ -32,7 +32,11 @@ pub waited : (text pending onward octets : List ℕ) (c : ℕ) → PartRead text
 waited text pending onward octets c p h = record {
   symbols = p.symbols;
   read = λ rest. ap symbols_of (append_assoc text (c ∷ []) rest) ∙ p.read (c ∷ rest) ∙ ap (option_map (λ us. p.symbols ++ us)) (h rest);
-  spelled = p.spelled; each = p.each; undivided = p.undivided; first = p.first; short = p.short
+  spelled = p.spelled;
+  each = p.each;
+  undivided = p.undivided;
+  first = p.first;
+  short = p.short;
 }
 
 joined : (ss : List Symbol) (s : Symbol) (o : Option (List Symbol)) → option_map (λ us. ss ++ us) (option_map (λ us. s ∷ us) o) ≡ option_map (λ us. (ss ++ s ∷ []) ++ us) o
@@ -80,7 +84,7 @@ took text pending onward octets longer c s p h v n e = record {
   each = all_end p.symbols s p.each v;
   undivided = none_end p.symbols s p.undivided (opposite (is_dot s) (λ d. n (inl d)));
   first = first_end p.symbols s p.first (λ m. opposite (is_bracket s) (λ b. n (inr (inl (p.spelled ∙ m, b)))));
-  short = few
+  short = few;
 }
   where
     below : (length octets ≤ 63) → (nat_le 63 (length octets) ≡ false) → length longer ≤ 63

@@ -1,5 +1,5 @@
 -- Symbols of text as the code has them, and a reader that takes characters one by one (RFC 1035, 5.1).
-use Rattle.std.specs.Prelude.{◌≡◌, ℕ, Bool, true, List, [], ◌∷◌, ◌++◌, if◌then◌else◌, Option, Some, None}
+use Rattle.std.specs.Prelude.{◌≡◌, ℕ, List, ◌∷◌, ◌++◌, if◌then◌else◌, Option, Some, None}
 use Rattle.std.specs.Option.{option_map}
 use Rattle.definitions.specs.Text.{Plain, Quoted, Decimal, is_digit, symbols_of, is_symbol, spelling}
 use Rattle.definitions.specs.Text as text

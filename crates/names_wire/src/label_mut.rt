@@ -7,6 +7,7 @@ ghost use Rattle.names_wire.specs.Label.{octets_of, split};
 use crate::label::{Label, LongLabelError, SplitLabelError};
 
 /// A label, which borrows its octets and may change them.
+#[derive(Drop)]
 pub struct LabelMut<'a> {
     octets: &'a mut [u8],
     ghost short: { length octets.now ≤ 63 },
@@ -30,7 +31,9 @@ impl<'a> LabelMut<'a> {
     /// Splits the label in front, with its length octet, from what stands behind it.
     ///
     /// A pointer is refused and not followed. What is written through either part is written in the slice.
-    pub fn split_from_mut(slice: &'a mut [u8]) -> Result<(LabelMut<'a>, &'a mut [u8]), SplitLabelError>
+    pub fn split_from_mut(
+        slice: &'a mut [u8],
+    ) -> Result<(LabelMut<'a>, &'a mut [u8]), SplitLabelError>
         ensures { MatchResult result (λ found. split slice.old ≡ Ok (mut_octets found.0, found.1.now)) (λ e. split slice.old ≡ Err e) }
     {
         let len = Label::split_from(slice)?.0.len();

@@ -62,7 +62,9 @@ impl OwnedLabel {
     /// The label that the characters spell: 1 to 63 symbols without a dot that separates (RFC 1035, 5.1).
     ///
     /// It stops at the first character behind which no label can come.
-    pub fn from_chars<C: Iterator<Item = char> + Drop>(chars: C) -> Result<OwnedLabel, LabelFromStrError>
+    pub fn from_chars<C: Iterator<Item = char> + Drop>(
+        chars: C,
+    ) -> Result<OwnedLabel, LabelFromStrError>
         requires can { C.can_next chars }
         requires ends { IsFinite (C.remaining chars) }
         ensures ok { IfOk result (λ label. (text : List ℕ) × Drains C.next_gives chars text × (label_of_text text ≡ Some (owned_octets label))) }

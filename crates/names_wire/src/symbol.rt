@@ -54,7 +54,8 @@ impl Symbol {
     {
         match self {
             Symbol::Char(ch) if ch >= ' ' && ch <= '~' && ch != '\\' => Ok(ch as u8),
-            Symbol::SimpleEscape(value) if value >= b' ' && value <= b'~' && !value.is_ascii_digit() => Ok(value),
+            Symbol::SimpleEscape(value)
+                if value >= b' ' && value <= b'~' && !value.is_ascii_digit() => Ok(value),
             Symbol::DecimalEscape(value) => Ok(value),
             _ => Err(SymbolCharsError::BadSymbol),
         }

@@ -1,6 +1,5 @@
-use Rattle.std.proofs.Common.{◌≡◌, ◌∷◌, [], ◌∙◌, sym, ap, true, Ok, length, List, ℕ}
+use Rattle.std.proofs.Common.{◌≡◌, ◌∷◌, [], ◌∙◌, sym, ap, Ok, List, ℕ}
 use Rattle.names_wire.specs.Label.{octets_of}
-use Rattle.names_wire.specs.Slices.{labels_along}
 use Rattle.names_wire.proofs.Along.{along_end, along_none, along_root, along_some, behind_label, progress, behind_short}
 use Rattle.names_wire.proofs.PartLabel.{not_both}
 use Rattle.names_wire.proofs.labels.SliceLabelsIterIterator.next.Goals as goal
@@ -23,8 +22,8 @@ pub returns-in-Ok-2-clause-steps : goal.returns-in-Ok-2-clause-steps
 returns-in-Ok-2-clause-steps c =
     sym c.self.view_is ∙ sym c.follow-place.ensures.same
     ∙ along_some c.follow-place.result.1 c.self.inside.slice.now c.follow-place.result.0 _ (octets_of c.in-Ok.label) c.in-Ok.field-0-1.now c.in-Ok.ensures
-      (λ e. not_both c.is_root.result (c.is_root.ensures.1 e) c.if-is_root.false)
-      (behind_label c.self.inside.slice.now c.follow-place.result.0 (octets_of c.in-Ok.label) c.in-Ok.field-0-1.now c.follow-place.ensures.within c.in-Ok.ensures)
+    (λ e. not_both c.is_root.result (c.is_root.ensures.1 e) c.if-is_root.false)
+    (behind_label c.self.inside.slice.now c.follow-place.result.0 (octets_of c.in-Ok.label) c.in-Ok.field-0-1.now c.follow-place.ensures.within c.in-Ok.ensures)
 
 pub returns-in-Ok-2-clause-goes : goal.returns-in-Ok-2-clause-goes
 returns-in-Ok-2-clause-goes c = progress _ _ _ _ (returns-in-Ok-2-clause-steps c)

@@ -1,4 +1,3 @@
-use Rattle.std.proofs.Common.{List}
 use Rattle.names_wire.specs.Owned.{owned_octets}
 use Rattle.names_wire.proofs.PartLabel.{PartRead}
 use Rattle.names_wire.proofs.owned.OwnedLabel.from_chars.Given as goal
