@@ -2,3 +2,4 @@ pub mod Along
 pub mod Lowercase
 pub mod OnError
 pub mod PartLabel
+pub mod Printed

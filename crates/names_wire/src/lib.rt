@@ -6,6 +6,7 @@ pub mod display;
 pub mod label;
 pub mod label_mut;
 pub mod labels;
+pub mod laws;
 pub mod octets;
 pub mod order;
 pub mod owned;
