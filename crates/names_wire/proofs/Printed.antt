@@ -1,11 +1,11 @@
 -- What is printed of a label is read as the same label.
-use Rattle.std.proofs.Common.{◌≡◌, ℕ, zero, suc, ◌+◌, ◌-◌, ◌*◌, ◌/◌, ◌%◌, ◌<◌, ◌≤◌, Bool, true, false, cond, ◌&&◌, ◌||◌, not, List, [], ◌∷◌, ◌++◌, map, length, refl, sym, ap, ◌∙◌, append_assoc, arith, nat_eq, nat_le, nat_lt, Option, Some, None, ◌⊎◌, inl, inr, subst}
+use Rattle.std.proofs.Common.{◌≡◌, ℕ, ◌+◌, ◌-◌, ◌*◌, ◌/◌, ◌%◌, ◌<◌, ◌≤◌, Bool, true, false, cond, ◌&&◌, ◌||◌, not, List, [], ◌∷◌, ◌++◌, map, length, refl, sym, ap, ◌∙◌, arith, nat_eq, nat_le, nat_lt, Option, Some, None, ◌⊎◌, inl, inr, subst}
 use Rattle.std.specs.Option.{option_map}
 use Rattle.std.specs.List.{flat_map, list_all, list_any, AllByRecursion}
 use Rattle.std.proofs.lemmas.List.{length-map}
-use Rattle.std.proofs.lemmas.Bool.{eqb-true, leb-true, leb-false, le-leb, lt-ltb}
+use Rattle.std.proofs.lemmas.Bool.{eqb-true, leb-true, le-leb, lt-ltb}
 use Rattle.definitions.specs.Name.{IsLabel}
-use Rattle.definitions.specs.Text.{Symbol, Plain, Quoted, Decimal, is_symbol, is_printable, is_digit, is_dot, is_bracket, is_quoted, octet, octet_at, spelling, three_digits, escape_at, symbol_at, symbol_of_octet, symbols_of, symbols_behind, tail_len, text_of_octet, text_of_label, begins_binary, is_label_text, label_of_symbols, label_of_text}
+use Rattle.definitions.specs.Text.{Symbol, Plain, Quoted, Decimal, is_symbol, is_printable, is_digit, is_dot, is_bracket, is_quoted, octet, octet_at, spelling, three_digits, escape_at, symbol_at, symbol_of_octet, symbols_of, symbols_behind, tail_len, text_of_label, begins_binary, label_of_symbols, label_of_text}
 
 both : (a b : Bool) → (a && b) ≡ true → (a ≡ true) × (b ≡ true)
 both true b h = (refl, h)
