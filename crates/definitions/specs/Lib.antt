@@ -10,3 +10,4 @@ pub mod Serial
 pub mod Dnskey
 pub mod Signing
 pub mod Laws
+pub mod Text

@@ -1,0 +1,5 @@
+pub mod Along
+pub mod Lowercase
+pub mod OnError
+pub mod PartLabel
+pub mod Printed

@@ -1,0 +1,8 @@
+pub mod Label
+pub mod Owned
+pub mod Pending
+pub mod Refill
+pub mod Slices
+pub mod Spelled
+pub mod Symbols
+pub mod Writable

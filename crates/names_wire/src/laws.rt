@@ -1,0 +1,16 @@
+//! Laws of labels. Each is a function without a parameter, whose contract is the law.
+
+ghost use Rattle.std.specs.Prelude.{◌≡◌, ◌<◌, ℕ, List, Some};
+ghost use Rattle.std.specs.List.{AllByRecursion};
+ghost use Rattle.definitions.specs.Name.{IsLabel};
+ghost use Rattle.definitions.specs.Text.{Symbol, Spells, label_of_text, symbols_of, text_of_label};
+
+/// What is printed of a label is read as the same octets (RFC 1035, 5.1).
+pub fn printed_label_is_read_back()
+    ensures { (l : List ℕ) → IsLabel l → AllByRecursion (λ b. b < 256) l → label_of_text (text_of_label l) ≡ Some l }
+{}
+
+/// A text that is made of symbols is read as these, and so as no others (RFC 1035, 5.1).
+pub fn spelled_symbols_are_read()
+    ensures { (text : List ℕ) (symbols : List Symbol) → Spells text symbols → symbols_of text ≡ Some symbols }
+{}
