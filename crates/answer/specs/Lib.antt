@@ -1,2 +1,5 @@
 pub mod Answers
 pub mod Message
+pub mod Accepting
+pub mod Served
+pub mod Given

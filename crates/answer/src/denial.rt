@@ -1,4 +1,5 @@
-//! DNSSEC record data, and what hashes names.
+//! DNSSEC record data, what hashes names, and why a zone has no chain.
 pub mod dnskey;
 pub mod ds;
+pub mod generate;
 pub mod hasher;

@@ -6,5 +6,6 @@ pub mod denial;
 pub mod message;
 pub mod names;
 pub mod plain;
+pub mod publisher;
 pub mod question;
 pub mod scheme;

@@ -1,0 +1,2 @@
+//! A publisher of one signed zone whose keys roll.
+pub mod fault;
