@@ -3,6 +3,7 @@
 #![tactic(auto)]
 
 pub mod denial;
+pub mod judge;
 pub mod message;
 pub mod names;
 pub mod plain;

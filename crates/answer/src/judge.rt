@@ -1,0 +1,2 @@
+//! Judging a zone answer from bytes alone.
+pub mod verdict;
