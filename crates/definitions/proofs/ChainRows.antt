@@ -1,0 +1,66 @@
+-- Chains of small zones, by computing.
+use Rattle.std.proofs.Common.{◌≡◌, true, false, [], ◌∷◌, ◌++◌, refl, length}
+use Rattle.std.specs.Prelude.{codes}
+use Rattle.definitions.specs.Name.{wire}
+use Rattle.definitions.specs.Zone.{Zone}
+use Rattle.definitions.specs.Covering.{covers, hash_covers}
+use Rattle.definitions.specs.Base32hex.{base32hex}
+use Rattle.definitions.specs.ZoneChain.{nsec_names, nsec3_names, nsec_next, nsec_types, nsec3_types, nsec_data}
+use Rattle.definitions.proofs.NameRows.{example}
+use Rattle.definitions.proofs.ZoneRows.{small, rr}
+
+digits_of_foobar : base32hex (codes "foobar") ≡ codes "cpnmuoj1e8"
+digits_of_foobar = refl
+
+chain_in_order : nsec_names small ≡ example ∷ (codes "a" ∷ example) ∷ (codes "b" ∷ codes "c" ∷ example) ∷ (codes "d" ∷ example) ∷ (codes "*" ∷ codes "w" ∷ example) ∷ []
+chain_in_order = refl
+
+last_leads_to_apex : nsec_next small (codes "*" ∷ codes "w" ∷ example) ≡ example
+last_leads_to_apex = refl
+
+next_in_order : nsec_next small (codes "a" ∷ example) ≡ codes "b" ∷ codes "c" ∷ example
+next_in_order = refl
+
+-- with opt-out and exclusion the unsigned delegation has no record; empty non-terminals have one
+hashed_names : length (nsec3_names small true) ∷ length (nsec3_names small false) ∷ [] ≡ 6 ∷ 7 ∷ []
+hashed_names = refl
+
+opt_out_names : nsec3_names small true ≡ example ∷ (codes "a" ∷ example) ∷ (codes "c" ∷ example) ∷ (codes "b" ∷ codes "c" ∷ example) ∷ (codes "w" ∷ example) ∷ (codes "*" ∷ codes "w" ∷ example) ∷ []
+opt_out_names = refl
+
+abbrev deep : Zone
+deep = record { apex = example; records = rr example 6 [] ∷ rr (codes "a" ∷ codes "b" ∷ codes "d" ∷ example) 2 [] ∷ [] }
+
+deep_delegation : length (nsec3_names deep true) ∷ length (nsec3_names deep false) ∷ [] ≡ 1 ∷ 4 ∷ []
+deep_delegation = refl
+
+deep_names : nsec3_names deep false ≡ example ∷ (codes "d" ∷ example) ∷ (codes "b" ∷ codes "d" ∷ example) ∷ (codes "a" ∷ codes "b" ∷ codes "d" ∷ example) ∷ []
+deep_names = refl
+
+bits_at_apex : nsec_types small example ≡ 6 ∷ 46 ∷ 47 ∷ 48 ∷ []
+bits_at_apex = refl
+
+bits_at_delegation : nsec_types small (codes "d" ∷ example) ≡ 2 ∷ 46 ∷ 47 ∷ []
+bits_at_delegation = refl
+
+hashed_bits : nsec3_types small (codes "d" ∷ example) ++ nsec3_types small (codes "c" ∷ example) ++ nsec3_types small example ≡ 2 ∷ 6 ∷ 46 ∷ 48 ∷ 51 ∷ []
+hashed_bits = refl
+
+nsec_record : nsec_data small (λ n. n) (codes "a" ∷ example) ≡ wire (codes "b" ∷ codes "c" ∷ example) ++ 0 ∷ 6 ∷ 64 ∷ 0 ∷ 0 ∷ 0 ∷ 0 ∷ 3 ∷ []
+nsec_record = refl
+
+-- what one record covers
+covered_between : covers example (codes "b" ∷ example) (codes "d" ∷ example) (codes "C" ∷ example) ≡ true
+covered_between = refl
+
+covered_at_end : covers example (codes "b" ∷ example) example (codes "x" ∷ example) ≡ true
+covered_at_end = refl
+
+not_owner_nor_next : covers example (codes "b" ∷ example) (codes "d" ∷ example) (codes "b" ∷ example) ∷ covers example (codes "b" ∷ example) (codes "d" ∷ example) (codes "d" ∷ example) ∷ [] ≡ false ∷ false ∷ []
+not_owner_nor_next = refl
+
+around_the_circle : hash_covers (5 ∷ []) (2 ∷ []) (7 ∷ []) ∷ hash_covers (5 ∷ []) (2 ∷ []) (1 ∷ []) ∷ hash_covers (5 ∷ []) (2 ∷ []) (3 ∷ []) ∷ [] ≡ true ∷ true ∷ false ∷ []
+around_the_circle = refl
+
+single_covers_all_but_itself : hash_covers (5 ∷ []) (5 ∷ []) (4 ∷ []) ∷ hash_covers (5 ∷ []) (5 ∷ []) (6 ∷ []) ∷ hash_covers (5 ∷ []) (5 ∷ []) (5 ∷ []) ∷ [] ≡ true ∷ true ∷ false ∷ []
+single_covers_all_but_itself = refl
