@@ -4,3 +4,6 @@ pub mod ZoneRows
 pub mod ChainRows
 pub mod BitmapRows
 pub mod KeyRows
+pub mod NameLaws
+pub mod ChainLaws
+pub mod LawProofs

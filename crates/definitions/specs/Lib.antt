@@ -9,3 +9,4 @@ pub mod ZoneChain
 pub mod Serial
 pub mod Dnskey
 pub mod Signing
+pub mod Laws

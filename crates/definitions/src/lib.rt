@@ -2,3 +2,5 @@
 //! of a name and a type, the rules and contents of denial chains, type bitmaps, key tags, signed octets
 //! and serial times. The definitions stand in `specs/`. No code of the product is here.
 #![tactic(auto)]
+
+pub mod laws;
