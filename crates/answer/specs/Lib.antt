@@ -1,0 +1,3 @@
+pub mod KeyState
+pub mod KeyAnswers
+
