@@ -4,3 +4,5 @@ pub mod Accepting
 pub mod Served
 pub mod Given
 pub mod Judging
+pub mod KeyState
+pub mod KeyAnswers

@@ -3,7 +3,9 @@
 #![tactic(auto)]
 
 pub mod denial;
+pub mod event;
 pub mod judge;
+pub mod keyset;
 pub mod message;
 pub mod names;
 pub mod plain;

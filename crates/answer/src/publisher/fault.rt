@@ -1,5 +1,6 @@
 //! Why a publisher refuses.
 use crate::denial::generate::SigningError;
+use crate::keyset;
 use thiserror::Error;
 
 /// Which chain a zone gets.
@@ -40,6 +41,19 @@ pub enum ZoneFault {
     #[error("no chain: {0}")]
     Chain(SigningError),
     #[error("out of memory")]
+    Memory,
+}
+
+/// Why a call on the keys of a zone is refused. A refused call changes nothing.
+#[derive(Debug, Drop)]
+pub enum KeyFault {
+    /// The reference was bound to another key by an earlier add.
+    ReferenceBound,
+    /// The scheme made no digest of the key.
+    DigestFailed,
+    /// The key set refuses.
+    Key(keyset::Error),
+    /// Memory ran out.
     Memory,
 }
 
