@@ -6,3 +6,5 @@ pub mod Given
 pub mod Judging
 pub mod KeyState
 pub mod KeyAnswers
+pub mod Bindings
+pub mod KeyCalls
