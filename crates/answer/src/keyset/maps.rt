@@ -1,7 +1,8 @@
 //! What is looked up and changed in a set's two maps, seen in order of reference and of kind.
-ghost use Rattle.std.specs.Prelude.{◌≡◌, ◌*◌, ◌≤◌, map, string_bytes, OnOk, OnErr};
+ghost use Rattle.std.specs.Prelude.{◌≡◌, ℕ, ◌*◌, ◌≤◌, map, string_bytes, OnOk, OnErr};
+ghost use Rattle.std.specs.List.{list_any};
 ghost use Rattle.std.specs.FinMap.Entries.{put};
-ghost use Rattle.answer.specs.KeyState.{by_reference, by_kind, reference_cmp, kind_cmp, has_tag, on_keys, started, reported1, reported2, waited1, waited2, misses, greatest_rest, texts, listed, without};
+ghost use Rattle.answer.specs.KeyState.{by_reference, by_kind, reference_cmp, kind_cmp, has_tag, on_keys, started, reported1, reported2, waited1, waited2, misses, greatest_rest, texts, listed, without, conflicts, suitable, some_key, ksk_is, zsk_is, current, is_present};
 
 use crate::keyset::keys::Key;
 use crate::keyset::rolls::{RollState, RollType, Turn};
@@ -47,6 +48,67 @@ pub(crate) fn is_listed(references: &[&str], reference: &str) -> bool
     ensures { result ≡ listed (texts references.now) reference.now }
 {
     references.iter().any(|listed| *listed == reference)
+}
+
+/// Whether a roll that is running is in the way of this one.
+pub(crate) fn is_blocked(
+    rollstates: &HashMap<RollType, RollState>,
+    rolltype: RollType,
+) -> bool
+    ensures { result ≡ list_any (λ e. conflicts rolltype e.0) (by_kind rollstates.now.entries) }
+{
+    rollstates
+        .keys()
+        .any(|running| rolltype.conflicts_with(*running))
+}
+
+/// Whether keys would serve in all roles after the start of a roll.
+pub(crate) fn serves_after_start(
+    keys: &HashMap<String, Key>,
+    rolltype: RollType,
+    old: &[&str],
+    new: &[&str],
+) -> bool
+    ensures { (now : ℕ) → result ≡ suitable rolltype (started rolltype now (texts old.now) (texts new.now) (by_reference keys.now.entries)) }
+{
+    match rolltype {
+        RollType::AlgorithmRoll => {
+            has_ksk_after_start(keys, rolltype, old, new)
+                && has_zsk_after_start(keys, rolltype, old, new)
+        }
+    }
+}
+
+fn has_ksk_after_start(
+    keys: &HashMap<String, Key>,
+    rolltype: RollType,
+    old: &[&str],
+    new: &[&str],
+) -> bool
+    ensures { (now : ℕ) → result ≡ some_key (ksk_is (current is_present)) (started rolltype now (texts old.now) (texts new.now) (by_reference keys.now.entries)) }
+{
+    keys.iter().any(|(reference, key)| {
+        let is_old = is_listed(old, reference.as_str());
+        let is_new = is_listed(new, reference.as_str());
+        key.roles_after_start(rolltype, is_old, is_new)
+            .has_current_ksk()
+    })
+}
+
+fn has_zsk_after_start(
+    keys: &HashMap<String, Key>,
+    rolltype: RollType,
+    old: &[&str],
+    new: &[&str],
+) -> bool
+    ensures { (now : ℕ) → result ≡ some_key (zsk_is (current is_present)) (started rolltype now (texts old.now) (texts new.now) (by_reference keys.now.entries)) }
+{
+    keys.iter().any(|(reference, key)| {
+        let is_old = is_listed(old, reference.as_str());
+        let is_new = is_listed(new, reference.as_str());
+        key.roles_after_start(rolltype, is_old, is_new)
+            .has_current_zsk()
+    })
 }
 
 /// Puts a key in.
