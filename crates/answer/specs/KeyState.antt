@@ -1,6 +1,7 @@
 -- The keys of a zone, their flags and stamps, and the rolls that replace them (RFC 6781, section 4.1). Moments are
 -- numbers of nanoseconds. What a roll does is a table of functions on one key, and a call maps them over the keys.
 use Rattle.std.specs.Prelude.{ℕ, ◌+◌, ◌-◌, ◌*◌, Bool, true, false, not, ◌&&◌, ◌||◌, ◌==◌, List, [], ◌∷◌, ◌++◌, map, Option, Some, None, Result, Ok, Err, is_some, if◌then◌else◌, max, String, string_bytes}
+use Rattle.std.specs.Borrow.{Bor}
 use Rattle.std.specs.List.{filter, list_any}
 use Rattle.std.specs.Str.{bytes_eq}
 use Rattle.std.specs.declared.cmp.Ordering.{Ordering}
@@ -19,6 +20,8 @@ use Rattle.answer.specs.declared.keyset.rolls.RollState.{RollState}
 use Rattle.answer.specs.declared.keyset.rolls.RollState.TheVariants as state
 use Rattle.answer.specs.declared.keyset.rolls.RollType.{RollType}
 use Rattle.answer.specs.declared.keyset.rolls.RollType.TheVariants as roll
+use Rattle.answer.specs.declared.keyset.rolls.Turn.{Turn}
+use Rattle.answer.specs.declared.keyset.rolls.Turn.TheVariants as turn
 
 abbrev pub Reference : Type 0
 Reference = List ℕ
@@ -44,11 +47,16 @@ pub record Key : Type 0 where
   pub tag : ℕ
   pub stamps : KeyTimestamps
 
+-- the entries of a hashed map, in the order of what f makes of a key
+abbrev pub in_order : {K Q X : Type 0} → (Q → Q → Ordering) → (K → Q) → List (K × X) → List (Q × X)
+in_order R f [] = []
+in_order R f (e ∷ es) = entries.put R (f e.0) e.1 (in_order R f es)
+
 -- the name of the zone, keys in ascending order of reference, rolls in the order of their kinds
 pub record KeySetState : Type 0 where
   pub name : List (List ℕ)
   pub keys : List (Reference × Key)
-  pub rolls : List (ℕ × RollState)
+  pub rolls : List (RollType × RollState)
 
 pub data Refusal : Type 0 where
   KeyExists : Refusal
@@ -70,14 +78,23 @@ pub data Refusal : Type 0 where
 abbrev pub reference_cmp : Reference → Reference → Ordering
 reference_cmp = slice_cmp nat_cmp
 
+abbrev pub by_reference : {A X : Type 0} → List (String A × X) → List (Reference × X)
+by_reference es = in_order reference_cmp string_bytes es
+
 abbrev pub key_of : KeySetState → Reference → Option Key
 key_of s q = entries.find reference_cmp q s.keys
 
 abbrev pub index_of : RollType → ℕ
 index_of roll.AlgorithmRoll = 5
 
+abbrev pub kind_cmp : RollType → RollType → Ordering
+kind_cmp a b = nat_cmp (index_of a) (index_of b)
+
+abbrev pub by_kind : {X : Type 0} → List (RollType × X) → List (RollType × X)
+by_kind es = in_order kind_cmp (λ r. r) es
+
 abbrev pub phase_of : KeySetState → RollType → Option RollState
-phase_of s r = entries.find nat_cmp (index_of r) s.rolls
+phase_of s r = entries.find kind_cmp r s.rolls
 
 -- the role that stands for the key: its only one, or of a combined key that of the KSK
 abbrev pub main_role : KeyType → Flags
@@ -213,6 +230,11 @@ looked1 roll.AlgorithmRoll k = looks_if (main_is (current is_present) k.roles) k
 abbrev pub looked2 : RollType → Key → Option (Option ℕ)
 looked2 roll.AlgorithmRoll k = looks_if (ksk_is (current signs) k.roles) k.stamps.ds_visible
 
+-- the first wait, or the second
+abbrev pub looked : Turn → RollType → Key → Option (Option ℕ)
+looked turn.First r k = looked1 r k
+looked turn.Second r k = looked2 r k
+
 -- whether the stamp that a wait reads is missing
 abbrev pub is_missing : Option (Option ℕ) → Bool
 is_missing None = false
@@ -225,32 +247,35 @@ rest_of ttl now None = 0
 rest_of ttl now (Some None) = 0
 rest_of ttl now (Some (Some since)) = ttl * 1000000000 - (now - since)
 
-abbrev pub looked_at : RollType → (Key → Option (Option ℕ)) → Key → Option (Option ℕ)
-looked_at r looked k = if touches r k.roles then looked k else None
+abbrev pub looked_at : RollType → Turn → Key → Option (Option ℕ)
+looked_at r t k = if touches r k.roles then looked t r k else None
 
-abbrev pub misses : RollType → (Key → Option (Option ℕ)) → List (Reference × Key) → Bool
-misses r looked es = list_any (λ e. is_missing (looked_at r looked e.1)) es
+abbrev pub misses : RollType → Turn → List (Reference × Key) → Bool
+misses r t es = list_any (λ e. is_missing (looked_at r t e.1)) es
 
 abbrev pub greatest : List ℕ → ℕ
 greatest [] = 0
 greatest (n ∷ ns) = max n (greatest ns)
 
-abbrev pub greatest_rest : RollType → (Key → Option (Option ℕ)) → ℕ → ℕ → List (Reference × Key) → ℕ
-greatest_rest r looked ttl now es = greatest (map (λ e. rest_of ttl now (looked_at r looked e.1)) es)
+abbrev pub greatest_rest : RollType → Turn → ℕ → ℕ → List (Reference × Key) → ℕ
+greatest_rest r t ttl now es = greatest (map (λ e. rest_of ttl now (looked_at r t e.1)) es)
 
 -- ---- changes of all keys
 
 abbrev pub on_keys : RollType → (Key → Key) → List (Reference × Key) → List (Reference × Key)
 on_keys r h es = map (λ e. (e.0, when (touches r e.1.roles) h e.1)) es
 
+abbrev pub texts : List (Bor Reference) → List Reference
+texts rs = map (λ r. r.now) rs
+
 abbrev pub listed : List Reference → Reference → Bool
 listed qs q = list_any (λ p. bytes_eq p q) qs
 
-abbrev pub started_key : RollType → ℕ → List Reference → List Reference → Reference → Key → Key
-started_key r now olds news q k = if listed news q then started_new r now k else if listed olds q then started_old k else k
+abbrev pub started_key : RollType → ℕ → Bool → Bool → Key → Key
+started_key r now is_old is_new k = if is_new then started_new r now k else if is_old then started_old k else k
 
 abbrev pub started : RollType → ℕ → List Reference → List Reference → List (Reference × Key) → List (Reference × Key)
-started r now olds news es = map (λ e. (e.0, started_key r now olds news e.0 e.1)) es
+started r now olds news es = map (λ e. (e.0, started_key r now (listed olds e.0) (listed news e.0) e.1)) es
 
 -- ---- actions
 
@@ -278,14 +303,14 @@ Answer = Result (KeySetState × List Action) Refusal
 
 -- the roll's next phase, with its actions, beside these keys
 abbrev pub entered : RollType → RollState → List (Reference × Key) → KeySetState → KeySetState
-entered r p ks s = record s { keys = ks; rolls = entries.put nat_cmp (index_of r) p s.rolls }
+entered r p ks s = record s { keys = ks; rolls = entries.put kind_cmp r p s.rolls }
 
 abbrev pub enter : RollType → RollState → List (Reference × Key) → KeySetState → Answer
 enter r p ks s = Ok (entered r p ks s, actions_in r (Some p))
 
--- whether a roll may not start while the one of this index runs
-abbrev pub conflicts : RollType → ℕ → Bool
-conflicts roll.AlgorithmRoll i = true
+-- whether a roll may not start while the other runs
+abbrev pub conflicts : RollType → RollType → Bool
+conflicts roll.AlgorithmRoll running = true
 
 abbrev pub old_fault : RollType → KeySetState → Reference → Option Refusal
 old_fault r s q = elim (key_of s q) [ None ↦ Some KeyNotFound | Some k ↦ if touches r k.roles then None else Some WrongKeyType ]
@@ -345,25 +370,28 @@ report2 r ttl now s = elim (phase_of s r) [
 ]
 
 -- why a wait is refused
-abbrev pub wait_fault : RollType → (Key → Option (Option ℕ)) → ℕ → ℕ → List (Reference × Key) → Option Refusal
-wait_fault r looked ttl now es =
-    if misses r looked es then Some MissingTimestamp
-    else if greatest_rest r looked ttl now es == 0 then None else Some (Wait (greatest_rest r looked ttl now es))
+abbrev pub wait_fault : RollType → Turn → ℕ → ℕ → List (Reference × Key) → Option Refusal
+wait_fault r t ttl now es =
+    if misses r t es then Some MissingTimestamp
+    else if greatest_rest r t ttl now es == 0 then None else Some (Wait (greatest_rest r t ttl now es))
 
 abbrev pub wait1 : RollType → ℕ → KeySetState → Answer
 wait1 r now s = elim (phase_of s r) [
-  | Some (state.CacheExpire1 ttl) ↦ unless_fault (wait_fault r (looked1 r) ttl now s.keys) (enter r state.Propagation2 (on_keys r (waited1 r now) s.keys) s)
+  | Some (state.CacheExpire1 ttl) ↦ unless_fault (wait_fault r turn.First ttl now s.keys) (enter r state.Propagation2 (on_keys r (waited1 r now) s.keys) s)
   | _ ↦ Err WrongStateForRollOperation
 ]
 
 abbrev pub wait2 : RollType → ℕ → KeySetState → Answer
 wait2 r now s = elim (phase_of s r) [
-  | Some (state.CacheExpire2 ttl) ↦ unless_fault (wait_fault r (looked2 r) ttl now s.keys) (enter r state.Done (on_keys r (waited2 r now) s.keys) s)
+  | Some (state.CacheExpire2 ttl) ↦ unless_fault (wait_fault r turn.Second ttl now s.keys) (enter r state.Done (on_keys r (waited2 r now) s.keys) s)
   | _ ↦ Err WrongStateForRollOperation
 ]
 
+abbrev pub without : {X : Type 0} → RollType → List (RollType × X) → List (RollType × X)
+without r rs = entries.where_key kind_cmp (λ q. not (index_of q == index_of r)) rs
+
 abbrev pub ended : RollType → KeySetState → KeySetState
-ended r s = record s { rolls = entries.where_key nat_cmp (λ i. not (i == index_of r)) s.rolls }
+ended r s = record s { rolls = without r s.rolls }
 
 abbrev pub done : RollType → KeySetState → Answer
 done r s = elim (phase_of s r) [
@@ -371,8 +399,8 @@ done r s = elim (phase_of s r) [
   | _ ↦ Err WrongStateForRollOperation
 ]
 
-abbrev pub has_tag : ℕ → KeySetState → Bool
-has_tag tag s = list_any (λ e. e.1.tag == tag) s.keys
+abbrev pub has_tag : ℕ → List (Reference × Key) → Bool
+has_tag tag es = list_any (λ e. e.1.tag == tag) es
 
 abbrev pub new_key : Option Reference → KeyType → ℕ → ℕ → ℕ → Key
 new_key private roles algorithm tag created = record {
@@ -389,7 +417,7 @@ added q k s = record s { keys = entries.put reference_cmp q k s.keys }
 
 abbrev pub add : Reference → Key → KeySetState → Answer
 add q k s =
-    if has_tag k.tag s then Err DuplicateKeyTag
+    if has_tag k.tag s.keys then Err DuplicateKeyTag
     else if is_some (key_of s q) then Err KeyExists
     else Ok (added q k s, [])
 

@@ -3,10 +3,13 @@
 
 pub mod errors;
 pub mod keys;
+mod maps;
 pub mod rolls;
+pub mod set;
 pub mod time;
 
 pub use errors::Error;
 pub use keys::{Available, Key, KeyState, KeyTimestamps, KeyType};
 pub use rolls::{Action, RollState, RollType};
+pub use set::KeySet;
 pub use time::UnixTime;

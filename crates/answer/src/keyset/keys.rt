@@ -1,7 +1,7 @@
 //! Keys, their flags and their stamps.
-ghost use Rattle.std.specs.Prelude.{◌≡◌, ◌||◌, is_some, option_copied, option_map, string_bytes};
+ghost use Rattle.std.specs.Prelude.{ℕ, ◌*◌, ◌≤◌, ◌≡◌, ◌||◌, is_some, option_copied, option_map, string_bytes};
 
-use crate::keyset::rolls::RollType;
+use crate::keyset::rolls::{RollType, Turn};
 use crate::keyset::time::UnixTime;
 use crate::plain::SecurityAlgorithm;
 use std::marker::Model;
@@ -301,7 +301,7 @@ impl Model for Key {
 }
 
 impl Key {
-    ghost use Rattle.answer.specs.KeyState.{new_key, text_of, touches, started_new, started_old, reported1, reported2, waited1, waited2, looked1, looked2};
+    ghost use Rattle.answer.specs.KeyState.{new_key, text_of, touches, started_new, started_old, started_key, looked_at, is_missing, rest_of, reported1, reported2, waited1, waited2, looked1, looked2};
 
     pub(crate) fn new(
         privref: Option<String>,
@@ -384,7 +384,7 @@ impl Key {
         }
     }
 
-    pub(crate) fn start_new(&mut self, rolltype: RollType, now: &UnixTime)
+    fn start_new(&mut self, rolltype: RollType, now: &UnixTime)
         ensures { self.new ≡ started_new rolltype now.now self.old }
     {
         match rolltype {
@@ -395,7 +395,7 @@ impl Key {
         }
     }
 
-    pub(crate) fn start_old(&mut self)
+    fn start_old(&mut self)
         ensures { self.new ≡ started_old self.old }
     {
         self.keytype = self.keytype.retiring();
@@ -451,8 +451,77 @@ impl Key {
         }
     }
 
+    /// The key's roles after the start of a roll, as one of its old keys, of its new ones or of neither.
+    pub(crate) fn roles_after_start(
+        &self,
+        rolltype: RollType,
+        is_old: bool,
+        is_new: bool,
+    ) -> KeyType
+        ensures { (now : ℕ) → result ≡ (started_key rolltype now is_old is_new self.now).roles }
+    {
+        match rolltype {
+            RollType::AlgorithmRoll => {
+                if is_new {
+                    self.keytype.serving()
+                } else if is_old {
+                    self.keytype.retiring()
+                } else {
+                    self.keytype
+                }
+            }
+        }
+    }
+
+    pub(crate) fn start(&mut self, rolltype: RollType, is_old: bool, is_new: bool, now: &UnixTime)
+        ensures { self.new ≡ started_key rolltype now.now is_old is_new self.old }
+    {
+        if is_new {
+            self.start_new(rolltype, now);
+        } else if is_old {
+            self.start_old();
+        }
+    }
+
+    /// The stamp that a wait reads, where it looks at the key.
+    fn awaited(&self, rolltype: RollType, turn: Turn) -> Option<Option<UnixTime>>
+        ensures { result ≡ looked_at rolltype turn self.now }
+    {
+        if !self.is_touched_by(rolltype) {
+            return None;
+        }
+        match turn {
+            Turn::First => self.awaited1(rolltype),
+            Turn::Second => self.awaited2(rolltype),
+        }
+    }
+
+    /// Whether the key lacks the stamp that a wait reads.
+    pub(crate) fn misses_stamp(&self, rolltype: RollType, turn: Turn) -> bool
+        ensures { result ≡ is_missing (looked_at rolltype turn self.now) }
+    {
+        match self.awaited(rolltype, turn) {
+            Some(None) => true,
+            None | Some(Some(_)) => false,
+        }
+    }
+
+    /// How many nanoseconds a wait still takes for this key.
+    pub(crate) fn rest(&self, rolltype: RollType, turn: Turn, ttl: u32, now: &UnixTime) -> u128
+        ensures exact { result ≡ rest_of ttl now.now (looked_at rolltype turn self.now) }
+        ensures bound { result ≤ ttl * 1_000_000_000 }
+    {
+        match self.awaited(rolltype, turn) {
+            Some(Some(since)) => {
+                let whole = u128::from(ttl) * 1_000_000_000;
+                whole.saturating_sub(since.elapsed(now).as_nanos())
+            }
+            None | Some(None) => 0,
+        }
+    }
+
     /// The stamp that the first wait reads, where it looks at the key.
-    pub(crate) fn looked1(&self, rolltype: RollType) -> Option<Option<UnixTime>>
+    fn awaited1(&self, rolltype: RollType) -> Option<Option<UnixTime>>
         ensures { result ≡ looked1 rolltype self.now }
     {
         match rolltype {
@@ -468,7 +537,7 @@ impl Key {
     }
 
     /// The stamp that the second wait reads, where it looks at the key.
-    pub(crate) fn looked2(&self, rolltype: RollType) -> Option<Option<UnixTime>>
+    fn awaited2(&self, rolltype: RollType) -> Option<Option<UnixTime>>
         ensures { result ≡ looked2 rolltype self.now }
     {
         match rolltype {

@@ -1,10 +1,21 @@
 //! Rolls, their phases, and what they ask for.
+ghost use Rattle.std.specs.Prelude.{◌≡◌, IfOk};
+ghost use Rattle.answer.specs.KeyState.{actions1, actions2, actions3, actions_in, conflicts};
+
+use std::alloc::{AllocError, Global};
 
 /// A way to replace keys.
 #[derive(Clone, Copy, Debug, PartialEq, Eq, Hash)]
 pub enum RollType {
     /// All keys of a zone, for another algorithm (RFC 6781, section 4.1.4).
     AlgorithmRoll,
+}
+
+/// Which of a roll's two waits.
+#[derive(Clone, Copy, Debug, PartialEq, Eq)]
+pub enum Turn {
+    First,
+    Second,
 }
 
 /// How far a roll has come.
@@ -47,4 +58,78 @@ pub enum Action {
     ReportRrsigPropagated,
     /// Wait until all servers have the signatures.
     WaitRrsigPropagated,
+}
+
+impl RollType {
+    /// Whether this roll may not start while the other runs.
+    pub(crate) fn conflicts_with(self, running: RollType) -> bool
+        ensures { result ≡ conflicts self running }
+    {
+        match (self, running) {
+            (RollType::AlgorithmRoll, RollType::AlgorithmRoll) => true,
+        }
+    }
+
+    /// What a roll in this phase asks for.
+    pub(crate) fn actions_in(
+        self,
+        alloc: Global,
+        phase: Option<RollState>,
+    ) -> Result<Vec<Action>, AllocError>
+        ensures { IfOk result (λ v. v.items ≡ actions_in self phase) }
+    {
+        match phase {
+            Some(RollState::Propagation1) => self.first_actions(alloc),
+            Some(RollState::Propagation2) => self.second_actions(alloc),
+            Some(RollState::Done) => self.last_actions(alloc),
+            None | Some(RollState::CacheExpire1(_) | RollState::CacheExpire2(_)) => {
+                Ok(Vec::new(alloc))
+            }
+        }
+    }
+
+    fn first_actions(self, alloc: Global) -> Result<Vec<Action>, AllocError>
+        ensures { IfOk result (λ v. v.items ≡ actions1 self) }
+    {
+        let actions = match self {
+            RollType::AlgorithmRoll => vec![
+                in alloc;
+                Action::UpdateDnskeyRrset,
+                Action::UpdateRrsig,
+                Action::ReportDnskeyPropagated,
+                Action::ReportRrsigPropagated,
+            ]?,
+        };
+        Ok(actions)
+    }
+
+    fn second_actions(self, alloc: Global) -> Result<Vec<Action>, AllocError>
+        ensures { IfOk result (λ v. v.items ≡ actions2 self) }
+    {
+        let actions = match self {
+            RollType::AlgorithmRoll => vec![
+                in alloc;
+                Action::CreateCdsRrset,
+                Action::UpdateDsRrset,
+                Action::ReportDsPropagated,
+            ]?,
+        };
+        Ok(actions)
+    }
+
+    fn last_actions(self, alloc: Global) -> Result<Vec<Action>, AllocError>
+        ensures { IfOk result (λ v. v.items ≡ actions3 self) }
+    {
+        let actions = match self {
+            RollType::AlgorithmRoll => vec![
+                in alloc;
+                Action::RemoveCdsRrset,
+                Action::UpdateDnskeyRrset,
+                Action::UpdateRrsig,
+                Action::WaitDnskeyPropagated,
+                Action::WaitRrsigPropagated,
+            ]?,
+        };
+        Ok(actions)
+    }
 }
