@@ -1,2 +1,5 @@
 pub mod Answers
 pub mod Message
+pub mod Record
+pub mod View
+pub mod Written
