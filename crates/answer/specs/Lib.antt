@@ -8,3 +8,6 @@ pub mod KeyState
 pub mod KeyAnswers
 pub mod Bindings
 pub mod KeyCalls
+pub mod Record
+pub mod View
+pub mod Written
