@@ -11,3 +11,4 @@ pub mod KeyCalls
 pub mod Record
 pub mod View
 pub mod Written
+pub mod GroupView
