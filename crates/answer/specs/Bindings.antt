@@ -3,6 +3,7 @@ use Rattle.std.specs.Prelude.{ℕ, Bool, false, not, List, [], ◌∷◌, map, f
 use Rattle.std.specs.declared.cmp.Ordering.{Ordering}
 use Rattle.std.specs.Ordering.{nat_cmp}
 use Rattle.definitions.specs.Sorting.{sort_by}
+use Rattle.answer.specs.Served.{by_tag}
 use Rattle.answer.specs.declared.publisher.keys.Publication.{Publication}
 use Rattle.answer.specs.declared.publisher.keys.Publication.TheVariants as publication
 use Rattle.std.specs.FinMap.Entries as entries
@@ -116,13 +117,7 @@ is_published s p q = elim (key_of s q) [ None ↦ false | Some k ↦ has_role p 
 abbrev pub published : ZoneKeys → Publication → List BoundKey
 published s p = map (λ e. e.1) (filter (λ e. is_published s.keys p e.0) s.bound)
 
--- in order of tag
-abbrev pub tag_cmp : BoundKey → BoundKey → Ordering
-tag_cmp a b = nat_cmp (key_tag a.key) (key_tag b.key)
-
-abbrev pub published_by_tag : ZoneKeys → Publication → List BoundKey
-published_by_tag s p = sort_by tag_cmp (published s p)
-
+-- their keys
 abbrev pub dnskeys : List BoundKey → List Dnskey
 dnskeys bs = map (λ b. b.key) bs
 
@@ -130,6 +125,14 @@ dnskeys bs = map (λ b. b.key) bs
 abbrev pub ds_of : BoundKey → Ds
 ds_of b = record { tag = key_tag b.key; algorithm = b.key.algorithm; digest_type = 2; digest = b.digest }
 
+-- DS records by tag
+abbrev pub ds_cmp : Ds → Ds → Ordering
+ds_cmp a b = nat_cmp a.tag b.tag
+
 -- the DS set, in order of tag
 abbrev pub ds_set : ZoneKeys → List Ds
-ds_set s = map ds_of (published_by_tag s publication.AtParent)
+ds_set s = sort_by ds_cmp (map ds_of (published s publication.AtParent))
+
+-- the keys of these references, in order of tag
+abbrev pub keys_by_tag : ZoneKeys → Publication → List Dnskey
+keys_by_tag s p = by_tag (dnskeys (published s p))

@@ -3,6 +3,7 @@ use Rattle.std.specs.Prelude.{◌≡◌, ℕ, List, Option, Some, None, Result, 
 use Rattle.answer.specs.declared.publisher.fault.KeyFault.{KeyFault}
 use Rattle.answer.specs.declared.publisher.fault.KeyFault.TheVariants as fault
 use Rattle.answer.specs.declared.keyset.rolls.Action.{Action}
+use Rattle.answer.specs.declared.keyset.errors.Error.{Error}
 use Rattle.answer.specs.declared.keyset.errors.Error.TheVariants as error
 use Rattle.answer.specs.KeyState.{Refusal}
 use Rattle.answer.specs.KeyAnswers.{refusal_of}
@@ -19,6 +20,11 @@ fault_of fault.ReferenceBound = Some bindings.ReferenceBound
 fault_of fault.DigestFailed = Some bindings.DigestFailed
 fault_of (fault.Key e) = refused (refusal_of e)
 fault_of fault.Memory = None
+
+-- the fault that an error of the key set becomes
+abbrev pub fault_from : Error → KeyFault
+fault_from error.Memory = fault.Memory
+fault_from e = fault.Key e
 
 -- want of memory has its own name
 abbrev pub IsNamed : KeyFault → Type 0

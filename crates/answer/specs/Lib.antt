@@ -12,3 +12,5 @@ pub mod Record
 pub mod View
 pub mod Written
 pub mod GroupView
+pub mod BoundView
+pub mod NewKeys

@@ -71,7 +71,7 @@ impl KeySet {
         &self.rollstates
     }
 
-    fn key(&self, reference: &str) -> Option<&Key>
+    pub(crate) fn key(&self, reference: &str) -> Option<&Key>
         ensures { option_copied result ≡ key_of self.now reference.now }
     {
         self.keys.get(reference)

@@ -1,6 +1,7 @@
 //! Why a publisher refuses.
 use crate::denial::generate::SigningError;
 use crate::keyset;
+use std::alloc::{AllocError, AllocFailed};
 use thiserror::Error;
 
 /// Which chain a zone gets.
@@ -74,4 +75,40 @@ pub enum AnswerFault {
     TooLong,
     #[error("out of memory")]
     Memory,
+}
+
+impl From<AllocError> for KeyFault {
+    ghost use Rattle.std.specs.Prelude.{◌≡◌};
+    ghost use Rattle.answer.specs.declared.publisher.fault.KeyFault.TheVariants.{Memory};
+
+    ghost from_gives = { λ _ e. e ≡ Memory };
+
+    fn from(_error: AllocError) -> KeyFault {
+        KeyFault::Memory
+    }
+}
+
+impl<T: Drop> From<AllocFailed<T>> for KeyFault {
+    ghost use Rattle.std.specs.Prelude.{◌≡◌};
+    ghost use Rattle.answer.specs.declared.publisher.fault.KeyFault.TheVariants.{Memory};
+
+    ghost from_gives = { λ _ e. e ≡ Memory };
+
+    fn from(_error: AllocFailed<T>) -> KeyFault {
+        KeyFault::Memory
+    }
+}
+
+impl From<keyset::Error> for KeyFault {
+    ghost use Rattle.std.specs.Prelude.{◌≡◌};
+    ghost use Rattle.answer.specs.KeyCalls.{fault_from};
+
+    ghost from_gives = { λ error fault. fault ≡ fault_from error };
+
+    fn from(error: keyset::Error) -> KeyFault {
+        match error {
+            keyset::Error::Memory => KeyFault::Memory,
+            error => KeyFault::Key(error),
+        }
+    }
 }
