@@ -114,3 +114,13 @@ module _ {X : Type 0} (eq : RollType → RollType → Bool) (tied : (a b : RollT
   by_kind-removed es fs q h =
       in_order-where_key kind_cmp (λ r. r) kind_total kind_same es fs (λ p. not (eqb (index_of p) (index_of q)))
         (λ p. updated es fs q None h p ∙ turned (eqb (index_of p) (index_of q)) (eq_by_cmp kind_cmp p q) (lookup (eq_by_cmp kind_cmp p) es) (sym (unsigned_ties (index_of p) (index_of q))))
+
+keys_any : {K X : Type 0} (p : K → Bool) (es : List (K × X)) → list_any p (keys_of es) ≡ list_any {X = K × X} (λ e. p e.0) (map (λ e. (e.0, e.1)) es)
+keys_any p [] = refl
+keys_any p (e ∷ es) = ap (λ b. p e.0 || b) (keys_any p es)
+
+-- a test of the kinds, in whatever order
+pub any_kind-by_kind : {X : Type 0} (eq : RollType → RollType → Bool) (tied : (a b : RollType) → eq a b ≡ eq_by_cmp kind_cmp a b) (p : RollType → Bool) (es : List (RollType × X)) → IsDistinct eq (keys_of es) → list_any p (keys_of es) ≡ list_any (λ e. p e.0) (by_kind es)
+any_kind-by_kind eq tied p es h =
+    keys_any p es
+    ∙ list_any-IsPermutation (λ e. p e.0) (map (λ e. (e.0, e.1)) es) (by_kind es) (in_order-permutes kind_cmp (λ r. r) kind_total eq tied es h)
