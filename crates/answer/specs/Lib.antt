@@ -1,3 +1,3 @@
 pub mod KeyState
 pub mod KeyAnswers
-
+pub mod KeyTexts
