@@ -70,7 +70,7 @@ greatest-by_reference f es h =
     ∙ greatest-IsPermutation (map (λ e. f e.1) (map (λ e. (string_bytes e.0, e.1)) es)) (map (λ e. f e.1) (by_reference es))
       (IsPermutation-map (λ e. f e.1) (map (λ e. (string_bytes e.0, e.1)) es) (by_reference es) (permutes es h))
 
-kind_total : IsTotalOrder kind_cmp
+pub kind_total : IsTotalOrder kind_cmp
 kind_total = record {
   antisymm = λ x y. nat_cmp_total.antisymm (index_of x) (index_of y);
   trans = λ x y z. nat_cmp_total.trans (index_of x) (index_of y) (index_of z);

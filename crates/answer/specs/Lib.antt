@@ -1,3 +1,4 @@
 pub mod KeyState
 pub mod KeyAnswers
 pub mod KeyTexts
+pub mod KeyLaws

@@ -3,6 +3,7 @@
 
 pub mod errors;
 pub mod keys;
+pub mod laws;
 mod maps;
 pub mod rolls;
 pub mod set;
