@@ -70,7 +70,7 @@ greatest-by_reference f es h =
     ∙ greatest-IsPermutation (map (λ e. f e.1) (map (λ e. (string_bytes e.0, e.1)) es)) (map (λ e. f e.1) (by_reference es))
       (IsPermutation-map (λ e. f e.1) (map (λ e. (string_bytes e.0, e.1)) es) (by_reference es) (permutes es h))
 
-kind_total : IsTotalOrder kind_cmp
+pub kind_total : IsTotalOrder kind_cmp
 kind_total = record {
   antisymm = λ x y. nat_cmp_total.antisymm (index_of x) (index_of y);
   trans = λ x y z. nat_cmp_total.trans (index_of x) (index_of y) (index_of z);
@@ -114,3 +114,13 @@ module _ {X : Type 0} (eq : RollType → RollType → Bool) (tied : (a b : RollT
   by_kind-removed es fs q h =
       in_order-where_key kind_cmp (λ r. r) kind_total kind_same es fs (λ p. not (eqb (index_of p) (index_of q)))
         (λ p. updated es fs q None h p ∙ turned (eqb (index_of p) (index_of q)) (eq_by_cmp kind_cmp p q) (lookup (eq_by_cmp kind_cmp p) es) (sym (unsigned_ties (index_of p) (index_of q))))
+
+keys_any : {K X : Type 0} (p : K → Bool) (es : List (K × X)) → list_any p (keys_of es) ≡ list_any {X = K × X} (λ e. p e.0) (map (λ e. (e.0, e.1)) es)
+keys_any p [] = refl
+keys_any p (e ∷ es) = ap (λ b. p e.0 || b) (keys_any p es)
+
+-- a test of the kinds, in whatever order
+pub any_kind-by_kind : {X : Type 0} (eq : RollType → RollType → Bool) (tied : (a b : RollType) → eq a b ≡ eq_by_cmp kind_cmp a b) (p : RollType → Bool) (es : List (RollType × X)) → IsDistinct eq (keys_of es) → list_any p (keys_of es) ≡ list_any (λ e. p e.0) (by_kind es)
+any_kind-by_kind eq tied p es h =
+    keys_any p es
+    ∙ list_any-IsPermutation (λ e. p e.0) (map (λ e. (e.0, e.1)) es) (by_kind es) (in_order-permutes kind_cmp (λ r. r) kind_total eq tied es h)

@@ -4,3 +4,4 @@ pub mod TagSum
 pub mod BoundKeys
 pub mod TagPlaces
 pub mod AddProofs
+pub mod KeyWaits

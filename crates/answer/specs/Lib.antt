@@ -14,3 +14,5 @@ pub mod Written
 pub mod GroupView
 pub mod BoundView
 pub mod NewKeys
+pub mod KeyTexts
+pub mod KeyLaws

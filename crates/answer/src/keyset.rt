@@ -3,6 +3,7 @@
 
 pub mod errors;
 pub mod keys;
+pub mod laws;
 mod maps;
 pub mod rolls;
 pub mod set;
@@ -13,3 +14,6 @@ pub use keys::{Available, Key, KeyState, KeyTimestamps, KeyType};
 pub use rolls::{Action, RollState, RollType};
 pub use set::KeySet;
 pub use time::UnixTime;
+
+#[cfg(test)]
+mod tests;

@@ -1,6 +1,7 @@
 //! Why a call on a key set is refused.
 
 use std::alloc::{AllocError, AllocFailed};
+use std::fmt;
 use std::time::Duration;
 
 /// Why a call on a key set is refused. A refused call changes nothing.
@@ -55,5 +56,37 @@ impl<T: Drop> From<AllocFailed<T>> for Error {
 
     fn from(_error: AllocFailed<T>) -> Error {
         Error::Memory
+    }
+}
+
+impl fmt::Display for Error {
+    ghost use Rattle.std.specs.Prelude.{Some};
+    ghost use Rattle.answer.specs.KeyTexts.{error_text};
+
+    ghost output = { λ e. Some (error_text e) };
+
+    fn fmt<W: fmt::Write>(&self, f: &mut fmt::Formatter<W>) -> fmt::Result {
+        match self {
+            Error::KeyExists => write!(f, "key already exists"),
+            Error::KeyNotFound => write!(f, "key not found"),
+            Error::KeyNotOld => write!(f, "key is still in use, not old"),
+            Error::DuplicateKeyTag => write!(f, "Key tag already present"),
+            Error::WrongKeyType => write!(f, "key has the wrong type"),
+            Error::WrongKeyState => write!(f, "key is in the wrong state"),
+            Error::NoSuitableKeyPresent => write!(f, "no suitable key present after key roll"),
+            Error::WrongStateForRollOperation => write!(f, "wrong roll state for operation"),
+            Error::ConflictingRollInProgress => write!(f, "conflicting roll is in progress"),
+            Error::AlgorithmSetsMismatch => {
+                write!(f, "algorithm set mismatch for non-algorithm key roll")
+            }
+            Error::Wait(rest) => {
+                let seconds = rest.as_secs();
+                let nanos = rest.subsec_nanos();
+                write!(f, "wait for duration {seconds}.{nanos:09}s")
+            }
+            Error::UnknownRollType => write!(f, "unable to parse string as roll type"),
+            Error::MissingTimestamp => write!(f, "timestamp is missing"),
+            Error::Memory => write!(f, "out of memory"),
+        }
     }
 }

@@ -1,9 +1,11 @@
 //! Keys, their flags and their stamps.
-ghost use Rattle.std.specs.Prelude.{ℕ, ◌*◌, ◌≤◌, ◌≡◌, ◌||◌, is_some, option_copied, option_map, string_bytes};
+ghost use Rattle.answer.specs.KeyTexts.{stage};
+ghost use Rattle.std.specs.Prelude.{ℕ, [], if◌then◌else◌, ◌*◌, ◌≤◌, ◌≡◌, ◌||◌, is_some, option_copied, option_map, string_bytes};
 
 use crate::keyset::rolls::{RollType, Turn};
 use crate::keyset::time::UnixTime;
 use crate::plain::SecurityAlgorithm;
+use std::fmt;
 use std::marker::Model;
 
 /// Whether a key that is added may be rolled to.
@@ -120,6 +122,49 @@ impl KeyState {
         } else {
             self
         }
+    }
+}
+
+impl fmt::Display for KeyState {
+    ghost use Rattle.std.specs.Prelude.{Some};
+    ghost use Rattle.answer.specs.KeyTexts.{flags_text};
+
+    ghost output = { λ f. Some (flags_text f) };
+
+    fn fmt<W: fmt::Write>(&self, f: &mut fmt::Formatter<W>) -> fmt::Result {
+        let old = if_set(self.old, "Old");
+        let before_signer = if_set(self.old && self.signer, ", ");
+        let signer = if_set(self.signer, "Signer");
+        let before_present = if_set((self.old || self.signer) && self.present, ", ");
+        let present = if_set(self.present, "Present");
+        let is_first = !self.old && !self.signer && !self.present;
+        let before_at_parent = if_set(!is_first && self.at_parent, ", ");
+        let at_parent = if_set(self.at_parent, "At Parent");
+        let stage = stage(self.old, self.signer, self.present);
+        write!(
+            f,
+            "{old}{before_signer}{signer}{before_present}{present}{before_at_parent}{at_parent}{stage}"
+        )
+    }
+}
+
+fn if_set(is_set: bool, text: &str) -> &str
+    ensures { result.now ≡ (if is_set then text.now else []) }
+{
+    if is_set { text } else { "" }
+}
+
+fn stage(old: bool, signer: bool, present: bool) -> &'static str
+    ensures { result.now ≡ stage old signer present }
+{
+    match (old, signer, present) {
+        (false, false, false) => "(Future)",
+        (false, false, true) => " (Incoming)",
+        (false, true, true) => " (Active)",
+        (true, true, true) => " (Leaving)",
+        (true, false, true) => " (Retired)",
+        (true, false, false) => " (Stale)",
+        (_, true, false) => "",
     }
 }
 

@@ -2,7 +2,9 @@
 ghost use Rattle.std.specs.Prelude.{◌≡◌, IfOk};
 ghost use Rattle.answer.specs.KeyState.{actions1, actions2, actions3, actions_in, conflicts};
 
+use crate::keyset::errors::Error;
 use std::alloc::{AllocError, Global};
+use std::str::FromStr;
 
 /// A way to replace keys.
 #[derive(Clone, Copy, Debug, PartialEq, Eq, Hash)]
@@ -58,6 +60,23 @@ pub enum Action {
     ReportRrsigPropagated,
     /// Wait until all servers have the signatures.
     WaitRrsigPropagated,
+}
+
+impl FromStr for RollType {
+    type Err = Error;
+
+    ghost use Rattle.std.specs.Prelude.{◌≡◌};
+    ghost use Rattle.answer.specs.KeyTexts.{read_roll};
+
+    ghost from_str_gives = { λ text r. r ≡ read_roll text };
+
+    fn from_str(text: &str) -> Result<RollType, Error> {
+        if text == "algorithm-roll" {
+            Ok(RollType::AlgorithmRoll)
+        } else {
+            Err(Error::UnknownRollType)
+        }
+    }
 }
 
 impl RollType {

@@ -1,0 +1,16 @@
+//! Laws of key sets.
+ghost use Rattle.answer.specs.KeyLaws.{FirstWaitCountsFromReport, PhasesFollow, SecondWaitCountsFromReport, StartsEnter, WaitsAreExact};
+
+/// What holds of every key set, for every roll and at every moment.
+pub fn keyset_laws()
+    // A wait is accepted exactly where the TTL has passed since each stamp that it reads.
+    ensures waits_are_exact { WaitsAreExact }
+    // Behind a report these stamps are the moment of the report.
+    ensures first_wait { FirstWaitCountsFromReport }
+    ensures second_wait { SecondWaitCountsFromReport }
+
+    // An accepted call leads to the next phase, and answers its actions.
+    ensures starts_enter { StartsEnter }
+    ensures phases_follow { PhasesFollow }
+{
+}
