@@ -1,5 +1,6 @@
 pub mod Answers
 pub mod Message
 pub mod Record
+pub mod Star
 pub mod View
 pub mod Written

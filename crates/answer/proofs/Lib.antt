@@ -1,0 +1,3 @@
+pub mod NameOrders
+pub mod NameEnds
+pub mod NameLaws
