@@ -3,7 +3,7 @@ use Rattle.std.proofs.Common.{◌≡◌, ℕ, zero, suc, ◌+◌, ◌-◌, ◌*�
 use Rattle.std.specs.Prelude.{sum_by}
 use Rattle.std.specs.List.{AllByRecursion, flat_map}
 use Rattle.std.proofs.lemmas.List.Sums.{sum_by-cons, sum_by-append, sum_by_push}
-use Rattle.std.proofs.lemmas.List.{get_or-map, length-map, map_more, take-map, append-nil}
+use Rattle.std.proofs.lemmas.List.{drop-map, get_or-map, length-map, map_more, take-map, append-nil}
 use Rattle.std.proofs.lemmas.List.Concat.{flat_map-append}
 use Rattle.definitions.specs.Signing.{label_count}
 use Rattle.answer.specs.Star.{begins_with_star}
@@ -104,3 +104,7 @@ star_counted (l ∷ n) h = rw h (add-one (length n))
 pub unstarred : (n : Name) → begins_with_star n ≡ false → label_count n ≡ length n
 unstarred [] h = refl
 unstarred (l ∷ n) h = rw h (add-one (length n))
+
+-- copies of the last labels
+pub last_labels : {X : Type 0} (f : X → Label) (xs ys from : List X) (new : Name) (n : Name) (k j : ℕ) → new ≡ map f ys ++ map f from → ys ≡ [] → from ≡ drop k xs → map f xs ≡ n → k ≡ j → new ≡ drop j n
+last_labels f xs ys from new n k j e h g v s = e ∙ (λ t. map f (h t) ++ map f (g t)) ∙ sym (drop-map f k xs) ∙ (λ t. drop (s t) (v t))
