@@ -1,3 +1,4 @@
-pub mod NameOrders
 pub mod NameEnds
 pub mod NameLaws
+pub mod NameOrders
+pub mod NameWalk

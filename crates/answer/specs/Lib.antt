@@ -1,6 +1,9 @@
 pub mod Answers
 pub mod Message
+pub mod Opaque
+pub mod Rdata
 pub mod Record
 pub mod Star
 pub mod View
+pub mod Walk
 pub mod Written
