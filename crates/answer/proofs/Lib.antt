@@ -5,3 +5,7 @@ pub mod BoundKeys
 pub mod TagPlaces
 pub mod AddProofs
 pub mod KeyWaits
+pub mod NameEnds
+pub mod NameLaws
+pub mod NameOrders
+pub mod NameWalk

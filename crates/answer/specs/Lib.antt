@@ -8,8 +8,12 @@ pub mod KeyState
 pub mod KeyAnswers
 pub mod Bindings
 pub mod KeyCalls
+pub mod Opaque
+pub mod Rdata
 pub mod Record
+pub mod Star
 pub mod View
+pub mod Walk
 pub mod Written
 pub mod GroupView
 pub mod BoundView
