@@ -1,1 +1,2 @@
 pub mod TagSum
+pub mod SignOctets

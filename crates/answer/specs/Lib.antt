@@ -4,3 +4,4 @@ pub mod Accepting
 pub mod Served
 pub mod Given
 pub mod GroupView
+pub mod Rrsig
