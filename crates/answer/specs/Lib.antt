@@ -5,3 +5,7 @@ pub mod Served
 pub mod Given
 pub mod GroupView
 pub mod Rrsig
+pub mod Record
+pub mod Star
+pub mod View
+pub mod Written
