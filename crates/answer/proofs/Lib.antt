@@ -3,3 +3,4 @@ pub mod SignOctets
 pub mod NameOrders
 pub mod NameEnds
 pub mod NameLaws
+pub mod SignMade
