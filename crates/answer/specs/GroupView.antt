@@ -1,5 +1,5 @@
 -- An RRset on its way into an answer, as contracts see it.
-use Rattle.std.specs.Prelude.{◌≡◌, ℕ, ◌+◌, ◌%◌, Bool, true, List, Option, Some}
+use Rattle.std.specs.Prelude.{◌≡◌, ℕ, ◌+◌, ◌%◌, Bool, true, List, Option, Some, None, Contains}
 use Rattle.definitions.specs.Name.{Name}
 use Rattle.definitions.specs.Dnskey.{Dnskey, key_tag}
 use Rattle.definitions.specs.Signing.{Fields, label_count, signed_octets}
@@ -48,3 +48,7 @@ pub record IsRrsigData (sign : Dnskey → List ℕ → Option (List ℕ)) (verif
   pub made : sign key (octets_of apex at life g key) ≡ Some signature
   pub passes : verifies key (octets_of apex at life g key) signature ≡ true
   pub data_is : d ≡ rrsig_data (fields_of apex at life g key) signature
+
+-- the scheme fails for one of some keys
+abbrev pub FailsFor : (Dnskey → List ℕ → Option (List ℕ)) → Name → ℕ → ℕ → GroupView → List Dnskey → Type 0
+FailsFor sign apex at life g keys = (k : Dnskey) × (Contains keys k × (sign k (octets_of apex at life g k) ≡ None))

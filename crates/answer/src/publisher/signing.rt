@@ -3,7 +3,7 @@ ghost use Rattle.std.specs.Prelude.{◌≡◌, ◌+◌, ◌%◌, ◌++◌, map, 
 ghost use Rattle.std.specs.List.{AllZip};
 ghost use Rattle.definitions.specs.Name.{wire};
 ghost use Rattle.definitions.specs.Signing.{signed_octets, signed_owner};
-ghost use Rattle.answer.specs.GroupView.{IsRrsigData, fields_of, octets_of};
+ghost use Rattle.answer.specs.GroupView.{FailsFor, IsRrsigData, fields_of, octets_of};
 ghost use Rattle.answer.specs.Rrsig.{record_head, with_length};
 ghost use Rattle.answer.specs.declared.scheme.SchemeError.TheVariants as error;
 
@@ -90,6 +90,7 @@ pub fn sign_group<S: Scheme, Octs: Octets>(
     keys: &[Dnskey<Octs>],
 ) -> Result<Vec<Vec<u8>>, SchemeError>
     ensures made { IfOk result (λ ds. AllZip (IsRrsigData (S.signature_of scheme.now) (S.verifies scheme.now) terms.now.apex.now terms.now.at terms.now.life group.now) keys.now (map (λ d. d.items) ds.items)) }
+    ensures failed { result ≡ Err error.Failed → FailsFor (S.signature_of scheme.now) terms.now.apex.now terms.now.at terms.now.life group.now keys.now }
 {
     let mut signatures = Vec::with_capacity(alloc, keys.len())?;
     for key in keys {
