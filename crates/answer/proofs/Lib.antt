@@ -9,3 +9,5 @@ pub mod NameEnds
 pub mod NameLaws
 pub mod NameOrders
 pub mod NameWalk
+pub mod SignOctets
+pub mod SignMade

@@ -10,12 +10,13 @@ pub mod Bindings
 pub mod KeyCalls
 pub mod Opaque
 pub mod Rdata
+pub mod GroupView
+pub mod Rrsig
 pub mod Record
 pub mod Star
 pub mod View
 pub mod Walk
 pub mod Written
-pub mod GroupView
 pub mod BoundView
 pub mod NewKeys
 pub mod KeyTexts

@@ -2,3 +2,4 @@
 pub mod fault;
 pub mod keys;
 pub mod group;
+pub mod signing;
