@@ -3,3 +3,4 @@ pub mod Message
 pub mod Accepting
 pub mod Served
 pub mod Given
+pub mod ZoneView

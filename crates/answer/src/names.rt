@@ -9,6 +9,8 @@ use std::alloc::{AllocError, Global};
 use std::cmp::Ordering;
 use std::marker::Model;
 
+mod stars;
+
 /// Octets that are read as one slice.
 pub trait Octets {
     /// The octets.
