@@ -11,3 +11,9 @@ pub mod NameOrders
 pub mod NameWalk
 pub mod SignOctets
 pub mod SignMade
+pub mod ZoneSorting
+pub mod ZoneNames
+pub mod ZoneTtls
+pub mod ZoneLists
+pub mod ZoneServed
+pub mod ZoneFaults

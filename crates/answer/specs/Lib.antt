@@ -21,3 +21,4 @@ pub mod BoundView
 pub mod NewKeys
 pub mod KeyTexts
 pub mod KeyLaws
+pub mod ZoneView

@@ -14,6 +14,7 @@ use std::cmp::Ordering;
 use std::marker::Model;
 
 pub mod parsed;
+mod stars;
 
 pub use parsed::ParsedName;
 

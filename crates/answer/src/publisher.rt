@@ -3,3 +3,4 @@ pub mod fault;
 pub mod keys;
 pub mod group;
 pub mod signing;
+mod zone;

@@ -1,0 +1,45 @@
+-- How a zone's records and its mode are seen, and the laws of the records' order.
+use Rattle.std.specs.Prelude.{ℕ, List, [], ◌∷◌, Bool, true, false, ◌&&◌, ◌||◌, ◌==◌, ◌≡◌, length, map, filter}
+use Rattle.std.specs.List.{AllByRecursion}
+use Rattle.std.specs.List.Sorted.{IsStrictlySortedBy}
+use Rattle.std.specs.Cmp.{IsTotalOrder, then_total, on_total}
+use Rattle.std.specs.Cmp.Lexicographic.{slice_cmp}
+use Rattle.std.specs.Ordering.{nat_cmp}
+use Rattle.std.proofs.lemmas.Cmp.{lists_total, nat_cmp_total, nat_list_cmp_total}
+use Rattle.definitions.specs.Name.{Name, from_root, name_cmp, low, at_or_above, strictly_above, labels_eq}
+use Rattle.definitions.specs.ZoneChain.{Mode}
+use Rattle.answer.specs.Accepting.{HandedRr, record_cmp, has_star, soas}
+use Rattle.definitions.specs.ZoneChain as chain
+use Rattle.answer.specs.declared.publisher.fault.Mode as declared
+use Rattle.answer.specs.declared.publisher.fault.Mode.TheVariants.{Nsec}
+
+abbrev pub mode_of : declared.Mode → Mode
+mode_of Nsec = chain.Nsec
+
+pub name_cmp_total : IsTotalOrder name_cmp
+name_cmp_total = on_total from_root (lists_total nat_list_cmp_total)
+
+pub record_cmp_total : IsTotalOrder record_cmp
+record_cmp_total =
+    then_total (on_total (λ (r : HandedRr). r.owner) name_cmp_total)
+        (then_total (on_total (λ (r : HandedRr). r.rtype) nat_cmp_total) (on_total (λ (r : HandedRr). r.bytes) nat_list_cmp_total))
+
+-- a test holds of an item and the next
+abbrev pub neighbours : {A : Type 0} → (A → A → Bool) → List A → Bool
+neighbours p [] = false
+neighbours p (a ∷ []) = false
+neighbours p (a ∷ b ∷ xs) = p a b || neighbours p (b ∷ xs)
+
+-- what is known of the records of an accepted zone, in order
+pub record IsPublished (apex : Name) (rs : List HandedRr) : Type 0 where
+  pub rising : IsStrictlySortedBy record_cmp rs
+  pub inside : AllByRecursion (λ r. at_or_above apex r.owner ≡ true) rs
+  pub plain : AllByRecursion (λ r. (((r.rtype == 2) && strictly_above apex r.owner) || has_star r.owner) ≡ false) rs
+  pub soa : length (soas apex rs) ≡ 1
+
+-- an accepted zone
+pub record AcceptedZone : Type 0 where
+  pub apex : Name
+  pub mode : Mode
+  pub limit : ℕ
+  pub records : List HandedRr
