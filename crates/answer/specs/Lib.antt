@@ -4,3 +4,6 @@ pub mod Accepting
 pub mod Served
 pub mod Given
 pub mod Judging
+pub mod Record
+pub mod View
+pub mod Written

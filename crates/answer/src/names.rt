@@ -9,6 +9,10 @@ use std::alloc::{AllocError, Global};
 use std::cmp::Ordering;
 use std::marker::Model;
 
+pub mod parsed;
+
+pub use parsed::ParsedName;
+
 /// Octets that are read as one slice.
 pub trait Octets {
     /// The octets.
@@ -59,6 +63,14 @@ impl Name {
         Name {
             labels: Vec::new(alloc),
         }
+    }
+
+    /// The name of labels, the leftmost first.
+    pub(crate) fn from_labels(labels: Vec<Vec<u8>>) -> Name
+        requires { IsName (map (λ v. v.items) labels.items) }
+        ensures { result ≡ map (λ v. v.items) labels.items }
+    {
+        Name { labels }
     }
 
     /// The same name, with the same spelling.
@@ -164,7 +176,10 @@ impl Name {
         }
         let skipped = self.labels.len() - base.labels.len();
         for i in 0..base.labels.len() {
-            if !self.labels[skipped + i].as_slice().eq_ignore_ascii_case(base.labels[i].as_slice()) {
+            if !self.labels[skipped + i]
+                .as_slice()
+                .eq_ignore_ascii_case(base.labels[i].as_slice())
+            {
                 return false;
             }
         }
