@@ -4,6 +4,8 @@ pub mod Accepting
 pub mod Served
 pub mod Given
 pub mod Judging
+pub mod GroupView
 pub mod Record
 pub mod View
 pub mod Written
+pub mod Facts

@@ -1,2 +1,3 @@
 //! A publisher of one signed zone whose keys roll.
 pub mod fault;
+pub mod group;

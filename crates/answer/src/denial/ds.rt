@@ -24,7 +24,12 @@ impl<Octs: Octets> Model for Ds<Octs> {
 
 impl<Octs: Octets> Ds<Octs> {
     /// A digest of its fields.
-    pub fn new(key_tag: u16, algorithm: SecurityAlgorithm, digest_type: DigestAlgorithm, digest: Octs) -> Self
+    pub fn new(
+        key_tag: u16,
+        algorithm: SecurityAlgorithm,
+        digest_type: DigestAlgorithm,
+        digest: Octs,
+    ) -> Self
         ensures key_tag { result.tag ≡ key_tag }
         ensures algorithm { result.algorithm ≡ algorithm }
         ensures digest_type { result.digest_type ≡ digest_type }
