@@ -1,1 +1,5 @@
 pub mod TagSum
+pub mod SignOctets
+pub mod NameOrders
+pub mod NameEnds
+pub mod NameLaws

@@ -9,3 +9,5 @@ pub mod Record
 pub mod View
 pub mod Written
 pub mod Facts
+pub mod Rrsig
+pub mod Star

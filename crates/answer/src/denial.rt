@@ -3,3 +3,4 @@ pub mod dnskey;
 pub mod ds;
 pub mod generate;
 pub mod hasher;
+pub mod rrsig;

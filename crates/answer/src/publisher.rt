@@ -1,3 +1,4 @@
 //! A publisher of one signed zone whose keys roll.
 pub mod fault;
 pub mod group;
+pub mod signing;
