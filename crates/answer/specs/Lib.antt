@@ -11,9 +11,7 @@ pub mod KeyCalls
 pub mod Opaque
 pub mod Rdata
 pub mod GroupView
-pub mod Rrsig
 pub mod Record
-pub mod Star
 pub mod View
 pub mod Walk
 pub mod Written
@@ -22,3 +20,6 @@ pub mod NewKeys
 pub mod KeyTexts
 pub mod KeyLaws
 pub mod ZoneView
+pub mod Facts
+pub mod Rrsig
+pub mod Star
