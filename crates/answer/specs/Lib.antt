@@ -23,3 +23,4 @@ pub mod ZoneView
 pub mod Facts
 pub mod Rrsig
 pub mod Star
+pub mod Publishing

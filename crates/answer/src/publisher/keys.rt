@@ -7,7 +7,7 @@ ghost use Rattle.definitions.specs.Sorting.{put_by, sort_by};
 ghost use Rattle.std.specs.Ordering.{nat_cmp};
 ghost use Rattle.answer.specs.KeyState.{text_of, is_available, texts, reference_cmp, Reference, add, new_key};
 ghost use Rattle.answer.specs.Bindings.{ZoneKeys, BoundKey, no_keys, apply, Add, Start, Report1, Wait1, Report2, Wait2, Finish, bound_at, is_bound_away, has_role, is_published, published, keys_by_tag, flags_of, roles_of, dnskey_for, ds_of, ds_set};
-ghost use Rattle.answer.specs.BoundView.{by_text, IsDigested};
+ghost use Rattle.answer.specs.BoundView.{by_text};
 ghost use Rattle.answer.specs.KeyAnswers.{Gives};
 ghost use Rattle.answer.specs.KeyCalls.{GivesKeys};
 ghost use Rattle.answer.specs.NewKeys.{add_of, added_tag, AddsBound};
@@ -15,7 +15,7 @@ ghost use Rattle.answer.specs.NewKeys.{add_of, added_tag, AddsBound};
 use crate::denial::dnskey::Dnskey;
 use crate::denial::ds::Ds;
 use crate::keyset::set::KeySet;
-use crate::keyset::{Available, Error, KeyType, UnixTime};
+use crate::keyset::{Action, Available, Error, KeyType, RollType, UnixTime};
 use crate::names::Name;
 use crate::plain::{DigestAlgorithm, SecurityAlgorithm};
 use crate::publisher::fault::KeyFault;
@@ -192,7 +192,7 @@ impl ZoneKeys {
     ) -> Result<(), KeyFault>
         requires same { key ≡ dnskey_for new.kind new.algorithm new.public_key.items }
         requires free { is_bound_away self.old.bound (string_bytes new.pubref) key ≡ false }
-        ensures { (digests : dnskey.Dnskey → Option (List ℕ)) → digests key ≡ Some digest.items → IsDigested digests self.old.bound
+        ensures { (digests : dnskey.Dnskey → Option (List ℕ)) → digests key ≡ Some digest.items
             → GivesKeys (λ _. []) self.old self.new result (apply digests (add_of new) new.created self.old) }
     {
         let bound = BoundKey { key, digest };
@@ -233,6 +233,16 @@ impl ZoneKeys {
                 self.bound.remove(reference.as_str());
                 Err(KeyFault::from(error))
             }
+        }
+    }
+
+    /// Starts a roll.
+    pub(crate) fn start_roll(&mut self, rolltype: RollType, old: &[&str], new: &[&str], now: &UnixTime) -> Result<Vec<Action>, KeyFault>
+        ensures { (digests : dnskey.Dnskey → Option (List ℕ)) → GivesKeys (λ v. v.items) self.old self.new result (apply digests (Start rolltype (texts old.now) (texts new.now)) now.now self.old) }
+    {
+        match self.keys.start_roll(rolltype, old, new, now) {
+            Ok(actions) => Ok(actions),
+            Err(error) => Err(KeyFault::from(error)),
         }
     }
 
