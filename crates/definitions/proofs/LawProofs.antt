@@ -67,6 +67,6 @@ rises apex (b ∷ ns) r =
 pub one_link_speaks : OneLinkSpeaks
 one_link_speaks apex q names r h =
     let found : (l : Name × Name) × (filter (speaks name_cmp name_cmp_total apex q) (links apex (apex ∷ names)) ≡ l ∷ []) =
-      one_speaks name_cmp name_cmp_total apex q apex names (tied_itself name_cmp_total apex)
-        (λ e. apex_first apex q h (name_cmp_total.antisymm apex q ∙ ap ordering_reverse e)) (rises apex names r) in
+    one_speaks name_cmp name_cmp_total apex q apex names (tied_itself name_cmp_total apex)
+    (λ e. apex_first apex q h (name_cmp_total.antisymm apex q ∙ ap ordering_reverse e)) (rises apex names r) in
     (found.0, (λ i. filter (λ l. speaks_alike apex q l i) (links apex (apex ∷ names))) ∙ found.1)

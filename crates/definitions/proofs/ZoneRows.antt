@@ -13,12 +13,12 @@ abbrev pub small : Zone
 small = record {
   apex = example;
   records =
-    rr example 6 (1 ∷ [])
-    ∷ rr (codes "a" ∷ example) 1 (192 ∷ 0 ∷ 2 ∷ 1 ∷ [])
-    ∷ rr (codes "b" ∷ codes "c" ∷ example) 1 (192 ∷ 0 ∷ 2 ∷ 2 ∷ [])
-    ∷ rr (codes "*" ∷ codes "w" ∷ example) 16 (1 ∷ 120 ∷ [])
-    ∷ rr (codes "d" ∷ example) 2 (0 ∷ [])
-    ∷ [];
+      rr example 6 (1 ∷ [])
+      ∷ rr (codes "a" ∷ example) 1 (192 ∷ 0 ∷ 2 ∷ 1 ∷ [])
+      ∷ rr (codes "b" ∷ codes "c" ∷ example) 1 (192 ∷ 0 ∷ 2 ∷ 2 ∷ [])
+      ∷ rr (codes "*" ∷ codes "w" ∷ example) 16 (1 ∷ 120 ∷ [])
+      ∷ rr (codes "d" ∷ example) 2 (0 ∷ [])
+      ∷ [];
 }
 
 other_type : verdict small false (codes "a" ∷ example) 15 ≡ NoType
