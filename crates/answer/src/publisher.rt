@@ -1,7 +1,6 @@
 //! A publisher of one signed zone whose keys roll.
 pub mod fault;
 pub mod keys;
-pub mod publishing;
 pub mod group;
 pub mod signing;
 mod zone;
