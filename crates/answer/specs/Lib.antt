@@ -24,3 +24,4 @@ pub mod Facts
 pub mod Rrsig
 pub mod Star
 pub mod Publishing
+pub mod Simulating
