@@ -2,12 +2,13 @@
 use Rattle.std.specs.Prelude.{ℕ, Bool, false, not, List, [], ◌∷◌, map, filter, Option, Some, None, Result, Ok, Err, if◌then◌else◌}
 use Rattle.std.specs.declared.cmp.Ordering.{Ordering}
 use Rattle.std.specs.Ordering.{nat_cmp}
+use Rattle.std.specs.Cmp.Lexicographic.{slice_cmp}
 use Rattle.definitions.specs.Sorting.{sort_by}
 use Rattle.answer.specs.Served.{by_tag}
 use Rattle.answer.specs.declared.publisher.keys.Publication.{Publication}
 use Rattle.answer.specs.declared.publisher.keys.Publication.TheVariants as publication
 use Rattle.std.specs.FinMap.Entries as entries
-use Rattle.definitions.specs.Dnskey.{Dnskey, Ds, key_tag, same_key}
+use Rattle.definitions.specs.Dnskey.{Dnskey, Ds, dnskey_data, key_tag, same_key}
 use Rattle.answer.specs.declared.keyset.keys.KeyType.{KeyType}
 use Rattle.answer.specs.declared.keyset.keys.KeyType.TheVariants.{Ksk, Zsk}
 use Rattle.answer.specs.declared.publisher.keys.KeyKind.{KeyKind}
@@ -136,3 +137,7 @@ ds_set s = sort_by ds_cmp (map ds_of (published s publication.AtParent))
 -- the keys of these references, in order of tag
 abbrev pub keys_by_tag : ZoneKeys → Publication → List Dnskey
 keys_by_tag s p = by_tag (dnskeys (published s p))
+
+-- the data of the DNSKEY RRset, in canonical order (RFC 4034, 6.3)
+abbrev pub dnskey_rdata : ZoneKeys → List (List ℕ)
+dnskey_rdata s = sort_by (slice_cmp nat_cmp) (map dnskey_data (dnskeys (published s publication.Present)))

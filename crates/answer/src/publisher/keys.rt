@@ -3,10 +3,11 @@ ghost use Rattle.std.specs.Prelude.{◌≡◌, ◌<◌, ◌≤◌, [], ◌∷◌
 ghost use Rattle.std.specs.List.{AllByRecursion};
 ghost use Rattle.std.specs.FinMap.Entries.{put};
 ghost use Rattle.definitions.specs.Dnskey as dnskey;
+ghost use Rattle.definitions.specs.Dnskey.{dnskey_data};
 ghost use Rattle.definitions.specs.Sorting.{put_by, sort_by};
 ghost use Rattle.std.specs.Ordering.{nat_cmp};
 ghost use Rattle.answer.specs.KeyState.{text_of, is_available, texts, reference_cmp, Reference, add, new_key};
-ghost use Rattle.answer.specs.Bindings.{ZoneKeys, BoundKey, no_keys, apply, Add, Start, Report1, Wait1, Report2, Wait2, Finish, bound_at, is_bound_away, has_role, is_published, published, keys_by_tag, flags_of, roles_of, dnskey_for, ds_of, ds_set};
+ghost use Rattle.answer.specs.Bindings.{ZoneKeys, BoundKey, no_keys, apply, Add, Start, Report1, Wait1, Report2, Wait2, Finish, bound_at, is_bound_away, has_role, is_published, published, keys_by_tag, flags_of, roles_of, dnskey_for, ds_of, ds_set, dnskey_rdata};
 ghost use Rattle.answer.specs.BoundView.{by_text};
 ghost use Rattle.answer.specs.KeyAnswers.{Gives};
 ghost use Rattle.answer.specs.KeyCalls.{GivesKeys};
@@ -19,8 +20,8 @@ use crate::keyset::{Action, Available, Error, KeyType, RollType, UnixTime};
 use crate::names::Name;
 use crate::plain::{DigestAlgorithm, SecurityAlgorithm};
 use crate::publisher::fault::KeyFault;
+use crate::publisher::ranked::{put_data, put_ranked};
 use std::alloc::{AllocError, Global};
-use std::cmp::Ordering;
 use std::collections::BTreeMap;
 use std::marker::Model;
 
@@ -102,6 +103,15 @@ impl BoundKey {
         ensures { result.now ≡ self.now.key }
     {
         &self.key
+    }
+
+    /// The DNSKEY record's data of the key.
+    fn to_rdata(&self, alloc: Global) -> Result<Vec<u8>, AllocError>
+        ensures { IfOk result (λ d. d.items ≡ dnskey_data self.now.key) }
+    {
+        let mut rdata = Vec::new(alloc);
+        self.key.compose(&mut rdata)?;
+        Ok(rdata)
     }
 
     /// The DS record's data of the key.
@@ -313,10 +323,23 @@ impl ZoneKeys {
         let mut keys = Vec::new(self.alloc);
         for (reference, bound) in &self.bound {
             if self.is_published(reference.as_str(), which) {
-                put_by_tag(&mut keys, bound.key.try_clone(self.alloc)?)?;
+                put_ranked(&mut keys, bound.key.try_clone(self.alloc)?)?;
             }
         }
         Ok(keys)
+    }
+
+    /// The data of the DNSKEY RRset, in canonical order (RFC 4034, 6.3).
+    pub(crate) fn dnskey_data(&self) -> Result<Vec<Vec<u8>>, AllocError>
+        ensures { IfOk result (λ v. map (λ d. d.items) v.items ≡ dnskey_rdata self.now) }
+    {
+        let mut rdata = Vec::new(self.alloc);
+        for (reference, bound) in &self.bound {
+            if self.is_published(reference.as_str(), Publication::Present) {
+                put_data(&mut rdata, bound.to_rdata(self.alloc)?)?;
+            }
+        }
+        Ok(rdata)
     }
 
     /// The DS set of the parent, in order of tag (RFC 4034, 5).
@@ -326,67 +349,11 @@ impl ZoneKeys {
         let mut set = Vec::new(self.alloc);
         for (reference, bound) in &self.bound {
             if self.is_published(reference.as_str(), Publication::AtParent) {
-                put_by_tag(&mut set, bound.to_ds(self.alloc)?)?;
+                put_ranked(&mut set, bound.to_ds(self.alloc)?)?;
             }
         }
         Ok(set)
     }
-}
-
-/// What has a key tag.
-pub(crate) trait Tagged {
-    ghost tag_of: { Self → ℕ };
-
-    fn tag(&self) -> u16
-        ensures { result ≡ tag_of self.now };
-}
-
-impl Tagged for Dnskey<Vec<u8>> {
-    ghost use Rattle.definitions.specs.Dnskey.{key_tag};
-
-    ghost tag_of = { key_tag };
-
-    fn tag(&self) -> u16 {
-        self.key_tag()
-    }
-}
-
-impl Tagged for Ds<Vec<u8>> {
-    ghost tag_of = { λ d. d.tag };
-
-    fn tag(&self) -> u16 {
-        self.key_tag()
-    }
-}
-
-/// Puts an item in its place by tag, unless one of its tag is there.
-fn put_by_tag<T: Tagged + Drop>(list: &mut Vec<T>, item: T) -> Result<(), AllocError>
-    ensures ok { OnOk result (list.new.items ≡ put_by (λ a b. nat_cmp (T.tag_of a) (T.tag_of b)) item list.old.items) }
-    ensures err { OnErr result (list.new.items ≡ list.old.items) }
-{
-    match place_by_tag(list, item.tag()) {
-        Ok(_) => Ok(()),
-        Err(place) => {
-            list.insert(place, item)?;
-            Ok(())
-        }
-    }
-}
-
-/// Where an item of this tag is, or else where one goes.
-fn place_by_tag<T: Tagged>(list: &[T], tag: u16) -> Result<usize, usize>
-    ensures found { IfOk result (λ i. (item : _) → T.tag_of item ≡ tag → put_by (λ a b. nat_cmp (T.tag_of a) (T.tag_of b)) item list.now ≡ list.now) }
-    ensures within { IfErr result (λ i. i ≤ length list.now) }
-    ensures place { IfErr result (λ i. (item : _) → T.tag_of item ≡ tag → put_by (λ a b. nat_cmp (T.tag_of a) (T.tag_of b)) item list.now ≡ insert list.now i item) }
-{
-    for (place, there) in list.iter().enumerate() {
-        match tag.cmp(&there.tag()) {
-            Ordering::Less => return Err(place),
-            Ordering::Equal => return Ok(place),
-            Ordering::Greater => {}
-        }
-    }
-    Err(list.len())
 }
 
 /// Adds a key of a tag to the key set alone.
