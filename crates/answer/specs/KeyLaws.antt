@@ -1,5 +1,5 @@
 -- What the laws of key sets say.
-use Rattle.std.specs.Prelude.{◌≡◌, ℕ, ◌-◌, ◌*◌, ◌≤◌, ◌↔◌, Bool, true, List, Option, Some, None, Result, Ok, is_some, ◌&&◌}
+use Rattle.std.specs.Prelude.{◌≡◌, ℕ, ◌-◌, ◌*◌, ◌≤◌, ◌↔◌, Bool, true, List, Option, Some, None, Ok, ◌&&◌}
 use Rattle.std.specs.List.{list_any, AllByRecursion}
 use Rattle.answer.specs.declared.keyset.rolls.Action.{Action}
 use Rattle.answer.specs.declared.keyset.rolls.RollState.{RollState}
@@ -7,7 +7,7 @@ use Rattle.answer.specs.declared.keyset.rolls.RollState.TheVariants as state
 use Rattle.answer.specs.declared.keyset.rolls.RollType.{RollType}
 use Rattle.answer.specs.declared.keyset.rolls.Turn.{Turn}
 use Rattle.answer.specs.declared.keyset.rolls.Turn.TheVariants as turn
-use Rattle.answer.specs.KeyState.{Reference, Key, KeySetState, Answer, phase_of, actions_in, looked_at, wait_fault, on_keys, reported1, reported2, touches, main_is, ksk_is, current, is_present, signs, start, report1, report2, wait1, wait2, done}
+use Rattle.answer.specs.KeyState.{Reference, Key, KeySetState, Answer, phase_of, actions_in, looked_at, wait_fault, on_keys, reported1, reported2, touches, main_is, ksk_is, current, is_present, signs, start, report1, report2, wait1, wait2}
 
 -- the whole TTL has passed since the stamp that is read, where one is
 abbrev pub HasPassed : ℕ → ℕ → Option (Option ℕ) → Type 0

@@ -1,4 +1,5 @@
 //! Laws of key sets.
+ghost use Rattle.answer.specs.KeyRows.{PublishesInTurn, RefusesOnTheWay};
 ghost use Rattle.answer.specs.KeyLaws.{FirstWaitCountsFromReport, PhasesFollow, SecondWaitCountsFromReport, StartsEnter, WaitsAreExact};
 
 /// What holds of every key set, for every roll and at every moment.
@@ -12,5 +13,11 @@ pub fn keyset_laws()
     // An accepted call leads to the next phase, and answers its actions.
     ensures starts_enter { StartsEnter }
     ensures phases_follow { PhasesFollow }
+{}
+
+/// A zone's first roll, worked through on the definitions: two fresh keys come into use.
+pub fn first_roll()
+    ensures published { PublishesInTurn }
+    ensures refused { RefusesOnTheWay }
 {
 }
