@@ -1,5 +1,5 @@
 -- Waits, and the phases of rolls.
-use Rattle.std.proofs.Common.{◌≡◌, ℕ, ◌-◌, ◌*◌, ◌≤◌, ◌↔◌, Bool, true, false, cond, ◌||◌, List, [], ◌∷◌, map, refl, sym, ap, ◌∙◌, arith, eqb, subst}
+use Rattle.std.proofs.Common.{◌≡◌, ℕ, ◌-◌, ◌*◌, ◌≤◌, ◌↔◌, Bool, true, false, not, cond, ◌||◌, ◌&&◌, List, [], ◌∷◌, map, refl, sym, ap, ◌∙◌, arith, eqb, subst}
 use Rattle.std.proofs.lemmas.Bool.{eqb-true}
 use Rattle.std.specs.Prelude.{Option, Some, None, Ok, Err, if◌then◌else◌}
 use Rattle.std.specs.List.{list_any, AllByRecursion}
@@ -14,7 +14,7 @@ use Rattle.answer.specs.declared.keyset.rolls.RollType.TheVariants.{AlgorithmRol
 use Rattle.answer.specs.declared.keyset.rolls.Turn.{Turn}
 use Rattle.answer.specs.declared.keyset.rolls.Turn.TheVariants.{First, Second}
 use Rattle.answer.specs.KeyState.{Reference, Key, KeySetState, Answer, Refusal, MissingTimestamp, Wait, WrongStateForRollOperation, kind_cmp, phase_of, looked_at, looks_if, is_missing, rest_of, misses, greatest_rest, wait_fault, on_keys, when, reported1, reported2, enter, unless_fault, touches, ksk_is, current, is_present, signs, start_fault, started, report1, report2, wait1, wait2, waited1, waited2}
-use Rattle.answer.specs.KeyLaws.{HasPassed, WaitsAreExact, is_watched1, is_watched2, FirstWaitCountsFromReport, SecondWaitCountsFromReport, Enters, PhasesFollow, StartsEnter}
+use Rattle.answer.specs.KeyLaws.{HasPassed, WaitsAreExact, is_watched1, IsWhole, is_watched2, FirstWaitCountsFromReport, SecondWaitCountsFromReport, Enters, PhasesFollow, StartsEnter}
 use Rattle.answer.proofs.KeyMaps.{kind_total, kind_tied}
 
 fault_of : Bool → ℕ → Option Refusal
@@ -148,15 +148,19 @@ first_wait r ttl reported now es =
       λ w. exact.1 (all_after P Q R h (λ k _ q. subst (HasPassed ttl now) (sym (looked_after1 r reported k.roles k)) q) es (no_premise es) (passed_stamped ttl reported now (is_watched1 r) es w)),
     )
 
+whole_ksk : (roles : KeyType) → IsWhole roles → ksk_is (current signs) roles ≡ ksk_is (current is_present) roles
+whole_ksk (Ksk f) h = ap (λ b. not f.old && b) h
+whole_ksk (Zsk f) h = refl
+
 pub second_wait : SecondWaitCountsFromReport
-second_wait r ttl reported now es sound =
+second_wait r ttl reported now es whole =
     let h = λ (k : Key). when (touches r k.roles) (reported2 r reported) k in
     let P : Key → Type 0 = λ k. HasPassed ttl now (looked_at r Second k) in
     let Q : Key → Type 0 = λ k. HasPassed ttl now (looks_if (is_watched2 r k) (Some reported)) in
-    let R : Key → Type 0 = λ k. ksk_is (current signs) k.roles ≡ ksk_is (current is_present) k.roles in
+    let R : Key → Type 0 = λ k. IsWhole k.roles in
     let exact = waits_exact r Second ttl now (map (λ e. (e.0, h e.1)) es) in (
-      λ n. stamped_passed ttl reported now (is_watched2 r) es (all_before P Q R h (λ k s p. subst (HasPassed ttl now) (looked_after2 r reported k.roles k s) p) es sound (exact.0 n)),
-      λ w. exact.1 (all_after P Q R h (λ k s q. subst (HasPassed ttl now) (sym (looked_after2 r reported k.roles k s)) q) es sound (passed_stamped ttl reported now (is_watched2 r) es w)),
+      λ n. stamped_passed ttl reported now (is_watched2 r) es (all_before P Q R h (λ k s p. subst (HasPassed ttl now) (looked_after2 r reported k.roles k (whole_ksk k.roles s)) p) es whole (exact.0 n)),
+      λ w. exact.1 (all_after P Q R h (λ k s q. subst (HasPassed ttl now) (sym (looked_after2 r reported k.roles k (whole_ksk k.roles s))) q) es whole (passed_stamped ttl reported now (is_watched2 r) es w)),
     )
 
 -- ---- phases

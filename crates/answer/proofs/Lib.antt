@@ -1,3 +1,4 @@
 pub mod KeyOrder
 pub mod KeyMaps
 pub mod KeyWaits
+pub mod KeyWhole

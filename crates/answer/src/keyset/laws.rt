@@ -1,6 +1,6 @@
 //! Laws of key sets.
 ghost use Rattle.answer.specs.KeyRows.{PublishesInTurn, RefusesOnTheWay};
-ghost use Rattle.answer.specs.KeyLaws.{FirstWaitCountsFromReport, PhasesFollow, SecondWaitCountsFromReport, StartsEnter, WaitsAreExact};
+ghost use Rattle.answer.specs.KeyLaws.{AddsStayWhole, FirstWaitCountsFromReport, KeysStayWhole, PhasesFollow, SecondWaitCountsFromReport, StartsEnter, WaitsAreExact};
 
 /// What holds of every key set, for every roll and at every moment.
 pub fn keyset_laws()
@@ -9,6 +9,10 @@ pub fn keyset_laws()
     // Behind a report these stamps are the moment of the report.
     ensures first_wait { FirstWaitCountsFromReport }
     ensures second_wait { SecondWaitCountsFromReport }
+
+    // The second law's premise holds from the first key on.
+    ensures adds_stay_whole { AddsStayWhole }
+    ensures keys_stay_whole { KeysStayWhole }
 
     // An accepted call leads to the next phase, and answers its actions.
     ensures starts_enter { StartsEnter }
@@ -19,5 +23,4 @@ pub fn keyset_laws()
 pub fn first_roll()
     ensures published { PublishesInTurn }
     ensures refused { RefusesOnTheWay }
-{
-}
+{}

@@ -136,7 +136,10 @@ fn first_keys_wait(rt: HostRuntime) -> Result<(), Fail> {
     let alloc = rt.alloc();
     let mut set = report_first(alloc)?;
     let early = set.cache_expired1(ROLL, &at(3599)).err().ok_or("accepted")?;
-    assert_eq!(rt; early.to_string(alloc)?.as_str(), "wait for duration 1.000000000s");
+    assert_eq!(rt;
+        early.to_string(alloc)?.as_str(),
+        "wait for duration 1.000000000s"
+    );
     let actions = set.cache_expired1(ROLL, &at(3600))?;
     let want = [
         Action::CreateCdsRrset,
@@ -144,7 +147,13 @@ fn first_keys_wait(rt: HostRuntime) -> Result<(), Fail> {
         Action::ReportDsPropagated,
     ];
     assert_eq!(rt; actions.as_slice(), want.as_slice());
-    assert_flags(&rt, alloc, &set, "K1", "Signer, Present, At Parent (Active)")?;
+    assert_flags(
+        &rt,
+        alloc,
+        &set,
+        "K1",
+        "Signer, Present, At Parent (Active)",
+    )?;
     assert_flags(&rt, alloc, &set, "Z1", "Signer, Present (Active)")?;
     Ok(())
 }
@@ -172,7 +181,13 @@ fn first_keys_wait_again(rt: HostRuntime) -> Result<(), Fail> {
 fn first_keys_are_rolled_in(rt: HostRuntime) -> Result<(), Fail> {
     let alloc = rt.alloc();
     let set = roll_first(alloc)?;
-    assert_flags(&rt, alloc, &set, "K1", "Signer, Present, At Parent (Active)")?;
+    assert_flags(
+        &rt,
+        alloc,
+        &set,
+        "K1",
+        "Signer, Present, At Parent (Active)",
+    )?;
     assert_flags(&rt, alloc, &set, "Z1", "Signer, Present (Active)")?;
     assert!(rt; set.rollstates().is_empty());
     assert!(rt; set.actions(ROLL)?.is_empty());
@@ -183,11 +198,23 @@ fn first_keys_are_rolled_in(rt: HostRuntime) -> Result<(), Fail> {
 fn old_keys_leave(rt: HostRuntime) -> Result<(), Fail> {
     let alloc = rt.alloc();
     let started = start_second(alloc)?;
-    assert_flags(&rt, alloc, &started, "K1", "Old, Signer, Present, At Parent (Leaving)")?;
+    assert_flags(
+        &rt,
+        alloc,
+        &started,
+        "K1",
+        "Old, Signer, Present, At Parent (Leaving)",
+    )?;
     assert_flags(&rt, alloc, &started, "K2", "Signer, Present (Active)")?;
     let waited = wait_in_second(alloc)?;
     assert_flags(&rt, alloc, &waited, "K1", "Old, Signer, Present (Leaving)")?;
-    assert_flags(&rt, alloc, &waited, "K2", "Signer, Present, At Parent (Active)")?;
+    assert_flags(
+        &rt,
+        alloc,
+        &waited,
+        "K2",
+        "Signer, Present, At Parent (Active)",
+    )?;
     Ok(())
 }
 
