@@ -7,13 +7,12 @@ use Rattle.std.proofs.lemmas.List.Sorted.{IsPermutation-map, list_any-IsPermutat
 use Rattle.std.specs.Map.{lookup, keys_of, values_of}
 use Rattle.std.specs.Str.{bytes_eq}
 use Rattle.std.specs.String.{string_eq}
-use Rattle.std.specs.declared.cmp.Ordering.{Ordering}
-use Rattle.std.specs.Ordering.{nat_cmp, eq_by_cmp}
+use Rattle.std.specs.Ordering.{eq_by_cmp}
 use Rattle.std.specs.Cmp.{IsTotalOrder, eq_by_cmp_equiv, nat_cmp_total}
 use Rattle.std.specs.Cmp.{unsigned_ties}
 use Rattle.std.specs.Cmp.Lexicographic.{nat_list_cmp_total, texts_ties}
 use Rattle.std.specs.FinMap.{IsAntisymmetric, nat_cmp-IsAntisymmetric, slice_cmp-IsAntisymmetric}
-use Rattle.std.specs.FinMap.Entries.{put, find, where_key}
+use Rattle.std.specs.FinMap.Entries.{put, find}
 use Rattle.answer.specs.declared.keyset.rolls.RollType.{RollType}
 use Rattle.answer.specs.declared.keyset.rolls.RollType.TheVariants.{AlgorithmRoll}
 use Rattle.answer.specs.KeyState.{Reference, by_reference, by_kind, reference_cmp, kind_cmp, index_of, greatest, without}
@@ -28,15 +27,16 @@ find-by_reference q es = find-in_order reference_cmp string_bytes nat_list_cmp_t
 pub by_reference-put : {A X : Type 0} (es fs : List (String A × X)) (q : Reference) (v : X) → ((p : Reference) → lookup (λ k. bytes_eq p (string_bytes k)) fs ≡ cond (bytes_eq q p) (Some v) (lookup (λ k. bytes_eq p (string_bytes k)) es)) → by_reference fs ≡ put reference_cmp q v (by_reference es)
 by_reference-put es fs q v h =
     in_order-put reference_cmp string_bytes nat_list_cmp_total reference_same es fs q v
-      (λ p. (λ i. lookup (λ k. sym (texts_ties p (string_bytes k)) i) fs)
-        ∙ h p
-        ∙ (λ i. cond ((texts_ties q p ∙ (eq_by_cmp_equiv nat_list_cmp_total).symm q p) i) (Some v) (lookup (λ k. texts_ties p (string_bytes k) i) es)))
+    (λ p. (λ i. lookup (λ k. sym (texts_ties p (string_bytes k)) i) fs)
+    ∙ h p
+    ∙ (λ i. cond ((texts_ties q p ∙ (eq_by_cmp_equiv nat_list_cmp_total).symm q p) i) (Some v) (lookup (λ k. texts_ties p (string_bytes k) i) es)))
 
 pub by_reference-map : {A X : Type 0} (g : Reference → X → X) (es : List (String A × X)) → by_reference (map (λ e. (e.0, g (string_bytes e.0) e.1)) es) ≡ map (λ e. (e.0, g e.0 e.1)) (by_reference es)
 by_reference-map g es = in_order-map reference_cmp string_bytes nat_list_cmp_total reference_same g es
 
-permutes : {A X : Type 0} (es : List (String A × X)) → IsDistinct string_eq (keys_of es) → IsPermutation (map (λ e. (string_bytes e.0, e.1)) es) (by_reference es)
-permutes es h = in_order-permutes reference_cmp string_bytes nat_list_cmp_total string_eq (λ x y. texts_ties (string_bytes x) (string_bytes y)) es h
+-- the list has the entries of the map, where no two keys are equal
+pub by_reference-permutes : {A X : Type 0} (es : List (String A × X)) → IsDistinct string_eq (keys_of es) → IsPermutation (map (λ e. (string_bytes e.0, e.1)) es) (by_reference es)
+by_reference-permutes es h = in_order-permutes reference_cmp string_bytes nat_list_cmp_total string_eq (λ x y. texts_ties (string_bytes x) (string_bytes y)) es h
 
 pub list_any-map : {X Y : Type 0} (p : Y → Bool) (f : X → Y) (xs : List X) → list_any p (map f xs) ≡ list_any (λ x. p (f x)) xs
 list_any-map p f [] = refl
@@ -58,7 +58,7 @@ map-values_of f (e ∷ es) = ap (λ ys. f e.1 ∷ ys) (map-values_of f es)
 pub any-by_reference : {A X : Type 0} (p : Reference → X → Bool) (es : List (String A × X)) → IsDistinct string_eq (keys_of es) → list_any (λ e. p (string_bytes e.0) e.1) es ≡ list_any (λ e. p e.0 e.1) (by_reference es)
 any-by_reference p es h =
     sym (list_any-map (λ e. p e.0 e.1) (λ e. (string_bytes e.0, e.1)) es)
-    ∙ list_any-IsPermutation (λ e. p e.0 e.1) (map (λ e. (string_bytes e.0, e.1)) es) (by_reference es) (permutes es h)
+    ∙ list_any-IsPermutation (λ e. p e.0 e.1) (map (λ e. (string_bytes e.0, e.1)) es) (by_reference es) (by_reference-permutes es h)
 
 pub any_value-by_reference : {A X : Type 0} (p : X → Bool) (es : List (String A × X)) → IsDistinct string_eq (keys_of es) → list_any p (values_of es) ≡ list_any (λ e. p e.1) (by_reference es)
 any_value-by_reference p es h = list_any-values_of p es ∙ any-by_reference (λ _ v. p v) es h
@@ -68,7 +68,7 @@ pub greatest-by_reference : {A X : Type 0} (f : X → ℕ) (es : List (String A 
 greatest-by_reference f es h =
     ap greatest (map-values_of f es ∙ sym (map-map (λ e. f e.1) (λ e. (string_bytes e.0, e.1)) es))
     ∙ greatest-IsPermutation (map (λ e. f e.1) (map (λ e. (string_bytes e.0, e.1)) es)) (map (λ e. f e.1) (by_reference es))
-      (IsPermutation-map (λ e. f e.1) (map (λ e. (string_bytes e.0, e.1)) es) (by_reference es) (permutes es h))
+    (IsPermutation-map (λ e. f e.1) (map (λ e. (string_bytes e.0, e.1)) es) (by_reference es) (by_reference-permutes es h))
 
 pub kind_total : IsTotalOrder kind_cmp
 kind_total = record {
@@ -113,7 +113,7 @@ module _ {X : Type 0} (eq : RollType → RollType → Bool) (tied : (a b : RollT
   pub by_kind-removed : (es fs : List (RollType × X)) (q : RollType) → ((p : RollType) → lookup (eq p) fs ≡ cond (eq q p) None (lookup (eq p) es)) → by_kind fs ≡ without q (by_kind es)
   by_kind-removed es fs q h =
       in_order-where_key kind_cmp (λ r. r) kind_total kind_same es fs (λ p. not (eqb (index_of p) (index_of q)))
-        (λ p. updated es fs q None h p ∙ turned (eqb (index_of p) (index_of q)) (eq_by_cmp kind_cmp p q) (lookup (eq_by_cmp kind_cmp p) es) (sym (unsigned_ties (index_of p) (index_of q))))
+      (λ p. updated es fs q None h p ∙ turned (eqb (index_of p) (index_of q)) (eq_by_cmp kind_cmp p q) (lookup (eq_by_cmp kind_cmp p) es) (sym (unsigned_ties (index_of p) (index_of q))))
 
 keys_any : {K X : Type 0} (p : K → Bool) (es : List (K × X)) → list_any p (keys_of es) ≡ list_any {X = K × X} (λ e. p e.0) (map (λ e. (e.0, e.1)) es)
 keys_any p [] = refl

@@ -1,17 +1,16 @@
 -- The entries of a hashed map, seen in order.
-use Rattle.std.proofs.Common.{◌≡◌, ℕ, ◌≤◌, Bool, true, false, cond, not, List, [], ◌∷◌, ◌++◌, map, refl, sym, ap, ◌∙◌, T, subst, arith}
-use Rattle.std.specs.Prelude.{Option, Some, None, String, string_bytes, max}
-use Rattle.std.specs.List.{list_any, IsDistinct, AllByRecursion, All}
+use Rattle.std.proofs.Common.{◌≡◌, ℕ, ◌≤◌, Bool, true, false, cond, List, [], ◌∷◌, map, refl, sym, ap, ◌∙◌, T, subst, arith}
+use Rattle.std.specs.Prelude.{Some, None, max}
+use Rattle.std.specs.List.{IsDistinct, AllByRecursion}
 use Rattle.std.specs.List.Sorted.{IsPermutation}
-use Rattle.std.proofs.lemmas.List.Sorted.{IsPermutation-refl, IsPermutation-cons, IsPermutation-trans, IsPermutation-middle, IsPermutation-map, IsPermutation-sym, list_any-IsPermutation, All-permutation}
+use Rattle.std.proofs.lemmas.List.Sorted.{IsPermutation-refl, IsPermutation-cons, IsPermutation-trans, IsPermutation-middle, IsPermutation-sym, All-permutation}
 use Rattle.std.proofs.lemmas.List.Elements.{All-from_recursion, recursion_from_All}
 use Rattle.std.specs.Map.{lookup, keys_of}
 use Rattle.std.specs.Map.Calls.{RetainsPairs}
-use Rattle.std.specs.Str.{bytes_eq}
 use Rattle.std.specs.declared.cmp.Ordering.{Ordering}
 use Rattle.std.specs.declared.cmp.Ordering.TheVariants.{Less, Equal, Greater}
-use Rattle.std.specs.Ordering.{nat_cmp, eq_by_cmp, is_eq}
-use Rattle.std.specs.Cmp.{IsTotalOrder, eq_by_cmp_equiv}
+use Rattle.std.specs.Ordering.{eq_by_cmp, is_eq}
+use Rattle.std.specs.Cmp.{IsTotalOrder}
 use Rattle.std.specs.FinMap.{IsAntisymmetric}
 use Rattle.std.specs.FinMap.Entries.{put, find, where_key, find-put, find-where_key, is_sorted, is_sorted-put, is_sorted-where_key, same_entries, by_order}
 use Rattle.answer.specs.KeyState.{in_order, greatest}
@@ -31,13 +30,13 @@ module _ {K Q X : Type 0} (R : Q → Q → Ordering) (f : K → Q) (o : IsTotalO
     pub in_order-put : (es fs : List (K × X)) (q : Q) (v : X) → ((p : Q) → lookup (λ k. eq_by_cmp R p (f k)) fs ≡ cond (eq_by_cmp R p q) (Some v) (lookup (λ k. eq_by_cmp R p (f k)) es)) → in_order R f fs ≡ put R q v (in_order R f es)
     in_order-put es fs q v h =
         same_entries R o same (in_order R f fs) (put R q v (in_order R f es)) (is_sorted-in_order fs) (is_sorted-put R o q v (in_order R f es) (is_sorted-in_order es))
-          (λ p. find-in_order p fs ∙ h p ∙ ap (cond (eq_by_cmp R p q) (Some v)) (sym (find-in_order p es)) ∙ sym (find-put R o p q v (in_order R f es)))
+        (λ p. find-in_order p fs ∙ h p ∙ ap (cond (eq_by_cmp R p q) (Some v)) (sym (find-in_order p es)) ∙ sym (find-put R o p q v (in_order R f es)))
 
     -- the entries without those whose keys fail a test
     pub in_order-where_key : (es fs : List (K × X)) (keep : Q → Bool) → ((p : Q) → lookup (λ k. eq_by_cmp R p (f k)) fs ≡ cond (keep p) (lookup (λ k. eq_by_cmp R p (f k)) es) None) → in_order R f fs ≡ where_key R keep (in_order R f es)
     in_order-where_key es fs keep h =
         same_entries R o same (in_order R f fs) (where_key R keep (in_order R f es)) (is_sorted-in_order fs) (is_sorted-where_key R keep (in_order R f es) (is_sorted-in_order es))
-          (λ p. find-in_order p fs ∙ h p ∙ ap (λ x. cond (keep p) x None) (sym (find-in_order p es)) ∙ sym (find-where_key R keep p (λ x e. ap keep (sym (same p x e))) (in_order R f es)))
+        (λ p. find-in_order p fs ∙ h p ∙ ap (λ x. cond (keep p) x None) (sym (find-in_order p es)) ∙ sym (find-where_key R keep p (λ x e. ap keep (sym (same p x e))) (in_order R f es)))
 
     put_mapped : (g : Q → X → X) (q : Q) (v : X) (es : List (Q × X)) → put R q (g q v) (map (λ e. (e.0, g e.0 e.1)) es) ≡ map (λ e. (e.0, g e.0 e.1)) (put R q v es)
     put_mapped g q v [] = refl
@@ -72,8 +71,8 @@ module _ {K Q X : Type 0} (R : Q → Q → Ordering) (f : K → Q) (o : IsTotalO
   in_order-permutes eq tied [] h = IsPermutation-refl []
   in_order-permutes eq tied (e ∷ es) h =
       IsPermutation-trans ((f e.0, e.1) ∷ map (λ e. (f e.0, e.1)) es) ((f e.0, e.1) ∷ in_order R f es) (put R (f e.0) e.1 (in_order R f es))
-        (IsPermutation-cons (f e.0, e.1) (map (λ e. (f e.0, e.1)) es) (in_order R f es) (in_order-permutes eq tied es h.1))
-        (put_permutes (f e.0) e.1 (in_order R f es) (find-in_order (f e.0) es ∙ lookup_none eq tied e.0 es h.0))
+      (IsPermutation-cons (f e.0, e.1) (map (λ e. (f e.0, e.1)) es) (in_order R f es) (in_order-permutes eq tied es h.1))
+      (put_permutes (f e.0) e.1 (in_order R f es) (find-in_order (f e.0) es ∙ lookup_none eq tied e.0 es h.0))
 
 -- a closure that always keeps and writes g of each key and value, and stays as it was
 pub map_pairs : {F K X : Type 0} (C : F → K → X → Bool → X → F → Type 0) (g : K → X → X) (f : F) → ((k : K) (v : X) (b : Bool) (w : X) (f' : F) → C f k v b w f' → (b ≡ true) × (w ≡ g k v) × (f' ≡ f)) → (es kept : List (K × X)) → RetainsPairs C f es kept → kept ≡ map (λ e. (e.0, g e.0 e.1)) es

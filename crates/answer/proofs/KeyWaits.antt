@@ -1,10 +1,8 @@
 -- Waits, and the phases of rolls.
-use Rattle.std.proofs.Common.{◌≡◌, ℕ, ◌-◌, ◌*◌, ◌≤◌, ◌↔◌, Bool, true, false, cond, ◌||◌, ◌&&◌, List, [], ◌∷◌, map, refl, sym, ap, ◌∙◌, arith, max, eqb, subst}
+use Rattle.std.proofs.Common.{◌≡◌, ℕ, ◌-◌, ◌*◌, ◌≤◌, ◌↔◌, Bool, true, false, not, cond, ◌||◌, ◌&&◌, List, [], ◌∷◌, map, refl, sym, ap, ◌∙◌, arith, eqb, subst}
 use Rattle.std.proofs.lemmas.Bool.{eqb-true}
 use Rattle.std.specs.Prelude.{Option, Some, None, Ok, Err, if◌then◌else◌}
 use Rattle.std.specs.List.{list_any, AllByRecursion}
-use Rattle.std.specs.Cmp.{tied_itself}
-use Rattle.std.specs.Ordering.{is_eq, eq_by_cmp}
 use Rattle.std.specs.FinMap.Entries.{put, find, find-put}
 use Rattle.answer.specs.declared.keyset.keys.KeyType.{KeyType}
 use Rattle.answer.specs.declared.keyset.keys.KeyType.TheVariants.{Ksk, Zsk}
@@ -15,8 +13,8 @@ use Rattle.answer.specs.declared.keyset.rolls.RollType.{RollType}
 use Rattle.answer.specs.declared.keyset.rolls.RollType.TheVariants.{AlgorithmRoll}
 use Rattle.answer.specs.declared.keyset.rolls.Turn.{Turn}
 use Rattle.answer.specs.declared.keyset.rolls.Turn.TheVariants.{First, Second}
-use Rattle.answer.specs.KeyState.{Reference, Key, KeySetState, Answer, Refusal, MissingTimestamp, Wait, WrongStateForRollOperation, kind_cmp, phase_of, actions_in, looked_at, looks_if, is_missing, rest_of, misses, greatest, greatest_rest, wait_fault, on_keys, when, reported1, reported2, entered, enter, unless_fault, touches, main_is, ksk_is, current, is_present, signs, start, start_fault, started, report1, report2, wait1, wait2, waited1, waited2}
-use Rattle.answer.specs.KeyLaws.{HasPassed, WaitsAreExact, is_watched1, is_watched2, FirstWaitCountsFromReport, SecondWaitCountsFromReport, Enters, PhasesFollow, StartsEnter}
+use Rattle.answer.specs.KeyState.{Reference, Key, KeySetState, Answer, Refusal, MissingTimestamp, Wait, WrongStateForRollOperation, kind_cmp, phase_of, looked_at, looks_if, is_missing, rest_of, misses, greatest_rest, wait_fault, on_keys, when, reported1, reported2, enter, unless_fault, touches, ksk_is, current, is_present, signs, start_fault, started, report1, report2, wait1, wait2, waited1, waited2}
+use Rattle.answer.specs.KeyLaws.{HasPassed, WaitsAreExact, is_watched1, IsWhole, is_watched2, FirstWaitCountsFromReport, SecondWaitCountsFromReport, Enters, PhasesFollow, StartsEnter}
 use Rattle.answer.proofs.KeyMaps.{kind_total, kind_tied}
 
 fault_of : Bool → ℕ → Option Refusal
@@ -72,11 +70,10 @@ module _ (r : RollType) (t : Turn) (ttl now : ℕ) where
 
   pub waits_exact : (es : List (Reference × Key)) → (wait_fault r t ttl now es ≡ None) ↔ AllByRecursion (λ e. HasPassed ttl now (looked_at r t e.1)) es
   unfolding fault_of
-  waits_exact es =
-      (
-        λ h. (let n = no_fault (misses r t es) (greatest_rest r t ttl now es) h in all_passed es n.0 n.1),
-        λ h. (λ i. fault_of (none_missing es h i) (no_rest es h i)),
-      )
+  waits_exact es = (
+    λ h. (let n = no_fault (misses r t es) (greatest_rest r t ttl now es) h in all_passed es n.0 n.1),
+    λ h. (λ i. fault_of (none_missing es h i) (no_rest es h i)),
+  )
 
 pub WaitsAreExact-holds : WaitsAreExact
 WaitsAreExact-holds r t ttl now es = waits_exact r t ttl now es
@@ -146,22 +143,24 @@ first_wait r ttl reported now es =
     let P : Key → Type 0 = λ k. HasPassed ttl now (looked_at r First k) in
     let Q : Key → Type 0 = λ k. HasPassed ttl now (looks_if (is_watched1 r k) (Some reported)) in
     let R : Key → Type 0 = λ k. Unit {0} in
-    let exact = waits_exact r First ttl now (map (λ e. (e.0, h e.1)) es) in
-    (
+    let exact = waits_exact r First ttl now (map (λ e. (e.0, h e.1)) es) in (
       λ n. stamped_passed ttl reported now (is_watched1 r) es (all_before P Q R h (λ k _ p. subst (HasPassed ttl now) (looked_after1 r reported k.roles k) p) es (no_premise es) (exact.0 n)),
       λ w. exact.1 (all_after P Q R h (λ k _ q. subst (HasPassed ttl now) (sym (looked_after1 r reported k.roles k)) q) es (no_premise es) (passed_stamped ttl reported now (is_watched1 r) es w)),
     )
 
+whole_ksk : (roles : KeyType) → IsWhole roles → ksk_is (current signs) roles ≡ ksk_is (current is_present) roles
+whole_ksk (Ksk f) h = ap (λ b. not f.old && b) h
+whole_ksk (Zsk f) h = refl
+
 pub second_wait : SecondWaitCountsFromReport
-second_wait r ttl reported now es sound =
+second_wait r ttl reported now es whole =
     let h = λ (k : Key). when (touches r k.roles) (reported2 r reported) k in
     let P : Key → Type 0 = λ k. HasPassed ttl now (looked_at r Second k) in
     let Q : Key → Type 0 = λ k. HasPassed ttl now (looks_if (is_watched2 r k) (Some reported)) in
-    let R : Key → Type 0 = λ k. ksk_is (current signs) k.roles ≡ ksk_is (current is_present) k.roles in
-    let exact = waits_exact r Second ttl now (map (λ e. (e.0, h e.1)) es) in
-    (
-      λ n. stamped_passed ttl reported now (is_watched2 r) es (all_before P Q R h (λ k s p. subst (HasPassed ttl now) (looked_after2 r reported k.roles k s) p) es sound (exact.0 n)),
-      λ w. exact.1 (all_after P Q R h (λ k s q. subst (HasPassed ttl now) (sym (looked_after2 r reported k.roles k s)) q) es sound (passed_stamped ttl reported now (is_watched2 r) es w)),
+    let R : Key → Type 0 = λ k. IsWhole k.roles in
+    let exact = waits_exact r Second ttl now (map (λ e. (e.0, h e.1)) es) in (
+      λ n. stamped_passed ttl reported now (is_watched2 r) es (all_before P Q R h (λ k s p. subst (HasPassed ttl now) (looked_after2 r reported k.roles k (whole_ksk k.roles s)) p) es whole (exact.0 n)),
+      λ w. exact.1 (all_after P Q R h (λ k s q. subst (HasPassed ttl now) (sym (looked_after2 r reported k.roles k (whole_ksk k.roles s))) q) es whole (passed_stamped ttl reported now (is_watched2 r) es w)),
     )
 
 -- ---- phases

@@ -17,3 +17,4 @@ pub mod ZoneTtls
 pub mod ZoneLists
 pub mod ZoneServed
 pub mod ZoneFaults
+pub mod KeyWhole

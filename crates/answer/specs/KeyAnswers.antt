@@ -1,5 +1,5 @@
 -- What the calls of a key set return, beside the definitions.
-use Rattle.std.specs.Prelude.{◌≡◌, ℕ, List, map, Option, Some, None, Result, Ok, Err, IsSome}
+use Rattle.std.specs.Prelude.{◌≡◌, List, Option, Some, None, Result, Ok, Err, IsSome}
 use Rattle.std.specs.Duration.{as_nanos}
 use Rattle.answer.specs.declared.keyset.errors.Error.{Error}
 use Rattle.answer.specs.declared.keyset.errors.Error.TheVariants as error

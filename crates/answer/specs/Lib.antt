@@ -25,3 +25,4 @@ pub mod Rrsig
 pub mod Star
 pub mod Publishing
 pub mod Simulating
+pub mod KeyRows

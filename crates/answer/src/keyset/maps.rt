@@ -21,8 +21,7 @@ pub(crate) fn has_tag(keys: &HashMap<String, Key>, key_tag: u16) -> bool
 pub(crate) fn misses_stamp(keys: &HashMap<String, Key>, rolltype: RollType, turn: Turn) -> bool
     ensures { result ≡ misses rolltype turn (by_reference keys.now.entries) }
 {
-    keys.values()
-        .any(|key| key.misses_stamp(rolltype, turn))
+    keys.values().any(|key| key.misses_stamp(rolltype, turn))
 }
 
 /// How many nanoseconds a wait still takes.
@@ -51,10 +50,7 @@ pub(crate) fn is_listed(references: &[&str], reference: &str) -> bool
 }
 
 /// Whether a roll that is running is in the way of this one.
-pub(crate) fn is_blocked(
-    rollstates: &HashMap<RollType, RollState>,
-    rolltype: RollType,
-) -> bool
+pub(crate) fn is_blocked(rollstates: &HashMap<RollType, RollState>, rolltype: RollType) -> bool
     ensures { result ≡ list_any (λ e. conflicts rolltype e.0) (by_kind rollstates.now.entries) }
 {
     rollstates

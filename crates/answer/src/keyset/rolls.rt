@@ -111,8 +111,7 @@ impl RollType {
         ensures { IfOk result (λ v. v.items ≡ actions1 self) }
     {
         let actions = match self {
-            RollType::AlgorithmRoll => vec![
-                in alloc;
+            RollType::AlgorithmRoll => vec![in alloc;
                 Action::UpdateDnskeyRrset,
                 Action::UpdateRrsig,
                 Action::ReportDnskeyPropagated,
@@ -126,8 +125,7 @@ impl RollType {
         ensures { IfOk result (λ v. v.items ≡ actions2 self) }
     {
         let actions = match self {
-            RollType::AlgorithmRoll => vec![
-                in alloc;
+            RollType::AlgorithmRoll => vec![in alloc;
                 Action::CreateCdsRrset,
                 Action::UpdateDsRrset,
                 Action::ReportDsPropagated,
@@ -140,8 +138,7 @@ impl RollType {
         ensures { IfOk result (λ v. v.items ≡ actions3 self) }
     {
         let actions = match self {
-            RollType::AlgorithmRoll => vec![
-                in alloc;
+            RollType::AlgorithmRoll => vec![in alloc;
                 Action::RemoveCdsRrset,
                 Action::UpdateDnskeyRrset,
                 Action::UpdateRrsig,

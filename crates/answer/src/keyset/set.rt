@@ -8,8 +8,8 @@ ghost use Rattle.answer.specs.KeyAnswers.{Gives, Finds};
 use crate::keyset::errors::Error;
 use crate::keyset::keys::{Available, Key, KeyState, KeyType};
 use crate::keyset::maps::{
-    greatest_rest, has_tag, is_blocked, is_listed, misses_stamp, put_key, put_phase, remove_phase, report_keys1,
-    report_keys2, serves_after_start, start_keys, wait_keys1, wait_keys2,
+    greatest_rest, has_tag, is_blocked, is_listed, misses_stamp, put_key, put_phase, remove_phase,
+    report_keys1, report_keys2, serves_after_start, start_keys, wait_keys1, wait_keys2,
 };
 use crate::keyset::rolls::{Action, RollState, RollType, Turn};
 use crate::keyset::time::UnixTime;

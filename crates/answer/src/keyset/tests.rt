@@ -1,4 +1,6 @@
 //! A zone's first keys, their replacement, refusals and texts.
+ghost use Rattle.std.specs.Prelude.{◌*◌, ◌≡◌};
+
 use super::{Action, Available, Error, Key, KeySet, KeyType, RollState, RollType, UnixTime};
 use crate::names::Name;
 use crate::plain::SecurityAlgorithm;
@@ -8,9 +10,12 @@ use std::test::Fail;
 use std::time::Duration;
 
 const ROLL: RollType = RollType::AlgorithmRoll;
+
 const TTL: u32 = 3600;
 
-fn at(seconds: u64) -> UnixTime {
+fn at(seconds: u64) -> UnixTime
+    ensures { result ≡ seconds * 1_000_000_000 }
+{
     UnixTime::new(Duration::from_secs(seconds))
 }
 
@@ -60,86 +65,163 @@ fn assert_flags(
     Ok(())
 }
 
-/// Runs a whole roll from this moment on, each wait for as long as it takes.
-fn roll(set: &mut KeySet, old: &[&str], new: &[&str], start: u64) -> Result<(), Error>
-    requires { start < 1000000 }
-{
-    set.start_roll(ROLL, old, new, &at(start))?;
-    set.propagation1_complete(ROLL, TTL, &at(start))?;
-    set.cache_expired1(ROLL, &at(start + 3600))?;
-    set.propagation2_complete(ROLL, TTL, &at(start + 3600))?;
-    set.cache_expired2(ROLL, &at(start + 7200))?;
+fn start_first(alloc: Global) -> Result<KeySet, Error> {
+    let mut set = with_two_keys(alloc)?;
+    set.start_roll(ROLL, &[], &["K1", "Z1"], &at(0))?;
+    Ok(set)
+}
+
+fn report_first(alloc: Global) -> Result<KeySet, Error> {
+    let mut set = start_first(alloc)?;
+    set.propagation1_complete(ROLL, TTL, &at(0))?;
+    Ok(set)
+}
+
+fn report_second(alloc: Global) -> Result<KeySet, Error> {
+    let mut set = report_first(alloc)?;
+    set.cache_expired1(ROLL, &at(3600))?;
+    set.propagation2_complete(ROLL, TTL, &at(3600))?;
+    Ok(set)
+}
+
+fn roll_first(alloc: Global) -> Result<KeySet, Error> {
+    let mut set = report_second(alloc)?;
+    set.cache_expired2(ROLL, &at(7200))?;
     set.roll_done(ROLL)?;
-    Ok(())
+    Ok(set)
+}
+
+fn start_second(alloc: Global) -> Result<KeySet, Error> {
+    let mut set = roll_first(alloc)?;
+    add_ksk(&mut set, alloc, "K2", 2)?;
+    add_zsk(&mut set, alloc, "Z2", 3)?;
+    set.start_roll(ROLL, &["K1", "Z1", "K1"], &["K2", "Z2"], &at(7200))?;
+    Ok(set)
+}
+
+fn wait_in_second(alloc: Global) -> Result<KeySet, Error> {
+    let mut set = start_second(alloc)?;
+    set.propagation1_complete(ROLL, 0, &at(7200))?;
+    set.cache_expired1(ROLL, &at(7200))?;
+    Ok(set)
+}
+
+fn roll_second(alloc: Global) -> Result<KeySet, Error> {
+    let mut set = wait_in_second(alloc)?;
+    set.propagation2_complete(ROLL, 0, &at(7200))?;
+    set.cache_expired2(ROLL, &at(7200))?;
+    Ok(set)
 }
 
 #[test]
-fn first_keys_are_rolled_in(rt: HostRuntime) -> Result<(), Fail> {
+fn first_keys_start(rt: HostRuntime) -> Result<(), Fail> {
     let alloc = rt.alloc();
     let mut set = with_two_keys(alloc)?;
     assert_flags(&rt, alloc, &set, "K1", "(Future)")?;
-    assert!(rt; set.actions(ROLL)?.is_empty());
-
-    let first = [
+    let actions = set.start_roll(ROLL, &[], &["K1", "Z1"], &at(0))?;
+    let want = [
         Action::UpdateDnskeyRrset,
         Action::UpdateRrsig,
         Action::ReportDnskeyPropagated,
         Action::ReportRrsigPropagated,
     ];
-    let actions = set.start_roll(ROLL, &[], &["K1", "Z1"], &at(0))?;
-    assert_eq!(rt; actions.as_slice(), first.as_slice());
-    assert_eq!(rt; set.actions(ROLL)?.as_slice(), first.as_slice());
+    assert_eq!(rt; actions.as_slice(), want.as_slice());
     assert_flags(&rt, alloc, &set, "K1", "Signer, Present (Active)")?;
     assert_flags(&rt, alloc, &set, "Z1", "Signer, Present (Active)")?;
+    Ok(())
+}
 
-    assert!(rt; set.propagation1_complete(ROLL, TTL, &at(0))?.is_empty());
+#[test]
+fn first_keys_wait(rt: HostRuntime) -> Result<(), Fail> {
+    let alloc = rt.alloc();
+    let mut set = report_first(alloc)?;
     let early = set.cache_expired1(ROLL, &at(3599)).err().ok_or("accepted")?;
-    assert_eq!(rt; early.to_string(alloc)?.as_str(), "wait for duration 1.000000000s");
-    let second = [
+    assert_eq!(rt;
+        early.to_string(alloc)?.as_str(),
+        "wait for duration 1.000000000s"
+    );
+    let actions = set.cache_expired1(ROLL, &at(3600))?;
+    let want = [
         Action::CreateCdsRrset,
         Action::UpdateDsRrset,
         Action::ReportDsPropagated,
     ];
-    let actions = set.cache_expired1(ROLL, &at(3600))?;
-    assert_eq!(rt; actions.as_slice(), second.as_slice());
-    assert_flags(&rt, alloc, &set, "K1", "Signer, Present, At Parent (Active)")?;
+    assert_eq!(rt; actions.as_slice(), want.as_slice());
+    assert_flags(
+        &rt,
+        alloc,
+        &set,
+        "K1",
+        "Signer, Present, At Parent (Active)",
+    )?;
     assert_flags(&rt, alloc, &set, "Z1", "Signer, Present (Active)")?;
+    Ok(())
+}
 
-    assert!(rt; set.propagation2_complete(ROLL, TTL, &at(3600))?.is_empty());
-    assert!(rt; matches!(set.cache_expired2(ROLL, &at(3601)), Err(Error::Wait(_))));
-    let last = [
+#[test]
+fn first_keys_wait_again(rt: HostRuntime) -> Result<(), Fail> {
+    let alloc = rt.alloc();
+    let mut set = report_second(alloc)?;
+    assert!(rt; matches!(set.cache_expired2(ROLL, &at(7199)), Err(Error::Wait(_))));
+    let actions = set.cache_expired2(ROLL, &at(7200))?;
+    let want = [
         Action::RemoveCdsRrset,
         Action::UpdateDnskeyRrset,
         Action::UpdateRrsig,
         Action::WaitDnskeyPropagated,
         Action::WaitRrsigPropagated,
     ];
-    let actions = set.cache_expired2(ROLL, &at(7200))?;
-    assert_eq!(rt; actions.as_slice(), last.as_slice());
+    assert_eq!(rt; actions.as_slice(), want.as_slice());
+    assert_eq!(rt; set.actions(ROLL)?.as_slice(), want.as_slice());
     assert_eq!(rt; set.rollstates().get(&ROLL).copied(), Some(RollState::Done));
-    assert_flags(&rt, alloc, &set, "K1", "Signer, Present, At Parent (Active)")?;
+    Ok(())
+}
+
+#[test]
+fn first_keys_are_rolled_in(rt: HostRuntime) -> Result<(), Fail> {
+    let alloc = rt.alloc();
+    let set = roll_first(alloc)?;
+    assert_flags(
+        &rt,
+        alloc,
+        &set,
+        "K1",
+        "Signer, Present, At Parent (Active)",
+    )?;
     assert_flags(&rt, alloc, &set, "Z1", "Signer, Present (Active)")?;
-    assert!(rt; set.roll_done(ROLL)?.is_empty());
     assert!(rt; set.rollstates().is_empty());
+    assert!(rt; set.actions(ROLL)?.is_empty());
+    Ok(())
+}
+
+#[test]
+fn old_keys_leave(rt: HostRuntime) -> Result<(), Fail> {
+    let alloc = rt.alloc();
+    let started = start_second(alloc)?;
+    assert_flags(
+        &rt,
+        alloc,
+        &started,
+        "K1",
+        "Old, Signer, Present, At Parent (Leaving)",
+    )?;
+    assert_flags(&rt, alloc, &started, "K2", "Signer, Present (Active)")?;
+    let waited = wait_in_second(alloc)?;
+    assert_flags(&rt, alloc, &waited, "K1", "Old, Signer, Present (Leaving)")?;
+    assert_flags(
+        &rt,
+        alloc,
+        &waited,
+        "K2",
+        "Signer, Present, At Parent (Active)",
+    )?;
     Ok(())
 }
 
 #[test]
 fn old_keys_are_rolled_out(rt: HostRuntime) -> Result<(), Fail> {
     let alloc = rt.alloc();
-    let mut set = with_two_keys(alloc)?;
-    roll(&mut set, &[], &["K1", "Z1"], 0)?;
-    add_ksk(&mut set, alloc, "K2", 2)?;
-    add_zsk(&mut set, alloc, "Z2", 3)?;
-    set.start_roll(ROLL, &["K1", "Z1", "K1"], &["K2", "Z2"], &at(7200))?;
-    assert_flags(&rt, alloc, &set, "K1", "Old, Signer, Present, At Parent (Leaving)")?;
-    assert_flags(&rt, alloc, &set, "K2", "Signer, Present (Active)")?;
-    set.propagation1_complete(ROLL, 0, &at(7200))?;
-    set.cache_expired1(ROLL, &at(7200))?;
-    assert_flags(&rt, alloc, &set, "K1", "Old, Signer, Present (Leaving)")?;
-    assert_flags(&rt, alloc, &set, "K2", "Signer, Present, At Parent (Active)")?;
-    set.propagation2_complete(ROLL, 0, &at(7200))?;
-    set.cache_expired2(ROLL, &at(7200))?;
+    let set = roll_second(alloc)?;
     assert_flags(&rt, alloc, &set, "K1", "Old (Stale)")?;
     assert_flags(&rt, alloc, &set, "Z1", "Old (Stale)")?;
     assert_flags(&rt, alloc, &set, "Z2", "Signer, Present (Active)")?;
@@ -148,26 +230,35 @@ fn old_keys_are_rolled_out(rt: HostRuntime) -> Result<(), Fail> {
     Ok(())
 }
 
-#[test]
-fn starts_are_refused(rt: HostRuntime) -> Result<(), Fail> {
-    let alloc = rt.alloc();
+/// Why a start for these keys is refused, beside two fresh keys.
+fn refusal(alloc: Global, old: &[&str], new: &[&str]) -> Result<Option<Error>, Error> {
     let mut set = with_two_keys(alloc)?;
-    let now = at(0);
-    assert!(rt; matches!(set.start_roll(ROLL, &["K"], &["K1"], &now), Err(Error::KeyNotFound)));
-    assert!(rt; matches!(set.start_roll(ROLL, &[], &["K1", "Z"], &now), Err(Error::KeyNotFound)));
-    let twice = ["K1", "Z1", "K1"];
-    assert!(rt; matches!(set.start_roll(ROLL, &[], &twice, &now), Err(Error::WrongKeyState)));
-    // What stands before the second place is looked at first.
-    let missing = ["K1", "Z", "K1"];
-    assert!(rt; matches!(set.start_roll(ROLL, &[], &missing, &now), Err(Error::KeyNotFound)));
-    let both = set.start_roll(ROLL, &["K1"], &["K1", "Z1"], &now);
-    assert!(rt; matches!(both, Err(Error::WrongKeyState)));
-    let without_zsk = set.start_roll(ROLL, &[], &["K1"], &now);
-    assert!(rt; matches!(without_zsk, Err(Error::NoSuitableKeyPresent)));
-    assert_flags(&rt, alloc, &set, "K1", "(Future)")?;
+    Ok(set.start_roll(ROLL, old, new, &at(0)).err())
+}
 
-    set.start_roll(ROLL, &[], &["K1", "Z1"], &now)?;
-    let again = set.start_roll(ROLL, &[], &[], &now);
+#[test]
+fn lists_of_keys_are_refused(rt: HostRuntime) -> Result<(), Fail> {
+    let alloc = rt.alloc();
+    let missing_old = refusal(alloc, &["K"], &["K1"])?;
+    assert!(rt; matches!(missing_old, Some(Error::KeyNotFound)));
+    let missing_new = refusal(alloc, &[], &["K1", "Z"])?;
+    assert!(rt; matches!(missing_new, Some(Error::KeyNotFound)));
+    let twice = refusal(alloc, &[], &["K1", "Z1", "K1"])?;
+    assert!(rt; matches!(twice, Some(Error::WrongKeyState)));
+    // What stands before the second place is looked at first.
+    let missing_between = refusal(alloc, &[], &["K1", "Z", "K1"])?;
+    assert!(rt; matches!(missing_between, Some(Error::KeyNotFound)));
+    let in_both = refusal(alloc, &["K1"], &["K1", "Z1"])?;
+    assert!(rt; matches!(in_both, Some(Error::WrongKeyState)));
+    let without_zsk = refusal(alloc, &[], &["K1"])?;
+    assert!(rt; matches!(without_zsk, Some(Error::NoSuitableKeyPresent)));
+    Ok(())
+}
+
+#[test]
+fn a_roll_is_not_started_twice(rt: HostRuntime) -> Result<(), Fail> {
+    let mut set = start_first(rt.alloc())?;
+    let again = set.start_roll(ROLL, &[], &[], &at(0));
     assert!(rt; matches!(again, Err(Error::WrongStateForRollOperation)));
     Ok(())
 }
@@ -200,7 +291,12 @@ fn a_key_that_is_not_available_is_refused(rt: HostRuntime) -> Result<(), Fail> {
 fn adds_are_refused(rt: HostRuntime) -> Result<(), Fail> {
     let alloc = rt.alloc();
     let mut set = with_two_keys(alloc)?;
-    assert!(rt; matches!(add_zsk(&mut set, alloc, "Z2", 0), Err(Error::DuplicateKeyTag)));
+    assert!(rt;
+        matches!(
+            add_zsk(&mut set, alloc, "Z2", 0),
+            Err(Error::DuplicateKeyTag)
+        )
+    );
     assert!(rt; matches!(add_zsk(&mut set, alloc, "K1", 5), Err(Error::KeyExists)));
     assert_eq!(rt; set.keys().len(), 2);
     Ok(())
@@ -220,10 +316,6 @@ fn calls_out_of_turn_are_refused(rt: HostRuntime) -> Result<(), Fail> {
     for refusal in &refusals {
         assert!(rt; matches!(refusal, Some(Error::WrongStateForRollOperation)));
     }
-    set.start_roll(ROLL, &[], &["K1", "Z1"], &now)?;
-    assert!(rt; set.cache_expired1(ROLL, &now).is_err());
-    set.propagation1_complete(ROLL, TTL, &now)?;
-    assert!(rt; set.propagation1_complete(ROLL, TTL, &now).is_err());
     Ok(())
 }
 
@@ -236,15 +328,30 @@ fn errors_have_texts(rt: HostRuntime) -> Result<(), Fail> {
         (Error::DuplicateKeyTag, "Key tag already present"),
         (Error::WrongKeyType, "key has the wrong type"),
         (Error::WrongKeyState, "key is in the wrong state"),
-        (Error::NoSuitableKeyPresent, "no suitable key present after key roll"),
-        (Error::WrongStateForRollOperation, "wrong roll state for operation"),
-        (Error::ConflictingRollInProgress, "conflicting roll is in progress"),
+        (
+            Error::NoSuitableKeyPresent,
+            "no suitable key present after key roll",
+        ),
+        (
+            Error::WrongStateForRollOperation,
+            "wrong roll state for operation",
+        ),
+        (
+            Error::ConflictingRollInProgress,
+            "conflicting roll is in progress",
+        ),
         (
             Error::AlgorithmSetsMismatch,
             "algorithm set mismatch for non-algorithm key roll",
         ),
-        (Error::Wait(Duration::from_millis(7)), "wait for duration 0.007000000s"),
-        (Error::UnknownRollType, "unable to parse string as roll type"),
+        (
+            Error::Wait(Duration::from_millis(7)),
+            "wait for duration 0.007000000s",
+        ),
+        (
+            Error::UnknownRollType,
+            "unable to parse string as roll type",
+        ),
         (Error::MissingTimestamp, "timestamp is missing"),
         (Error::Memory, "out of memory"),
     ];

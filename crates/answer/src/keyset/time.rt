@@ -66,6 +66,7 @@ impl Add<Duration> for UnixTime {
     type Output = UnixTime;
 
     ghost can_add = { λ t d. FitsDuration (t + as_nanos d) };
+
     ghost add_gives = { λ t d r. r ≡ t + as_nanos d };
 
     fn add(self, duration: Duration) -> UnixTime {

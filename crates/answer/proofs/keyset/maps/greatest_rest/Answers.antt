@@ -1,4 +1,4 @@
-use Rattle.std.proofs.Common.{◌≡◌, ℕ, List, [], ◌∙◌, sym, ap, arith, map, max}
+use Rattle.std.proofs.Common.{◌≡◌, ℕ, List, [], ◌∙◌, ap, arith, map, max}
 use Rattle.std.specs.Map.{values_of}
 use Rattle.answer.specs.KeyState.{greatest, rest_of, looked_at, Key}
 use Rattle.answer.proofs.KeyMaps.{greatest-by_reference}

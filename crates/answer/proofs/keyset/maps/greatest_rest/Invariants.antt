@@ -6,5 +6,5 @@ use Rattle.answer.proofs.keyset.maps.greatest_rest.Given as goal
 abbrev pub invariant-loop-key : goal.invariant-loop-key
 invariant-loop-key l =
     (max l.greatest (greatest (map (λ k. rest_of l.ttl l.now (looked_at l.rolltype l.turn k)) l.key-iterator))
-      ≡ greatest (map (λ k. rest_of l.ttl l.now (looked_at l.rolltype l.turn k)) l.initial.key-iterator))
+    ≡ greatest (map (λ k. rest_of l.ttl l.now (looked_at l.rolltype l.turn k)) l.initial.key-iterator))
     × (l.greatest ≤ l.ttl * 1_000_000_000)
