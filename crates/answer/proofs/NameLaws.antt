@@ -9,7 +9,7 @@ use Rattle.definitions.specs.Signing.{label_count}
 use Rattle.answer.specs.Star.{begins_with_star}
 use Rattle.definitions.specs.Name.{Name, Label, IsLabel, IsName, wire, wire_len, low}
 
-wire_len-cons : (l : Label) (n : Name) → wire_len (l ∷ n) ≡ length l + 1 + wire_len n
+pub wire_len-cons : (l : Label) (n : Name) → wire_len (l ∷ n) ≡ length l + 1 + wire_len n
 wire_len-cons l n = omega (arith, sum_by-cons (λ k. length k + 1) l n)
 
 pub wire_len-drop-le : (k : ℕ) (n : Name) → wire_len (drop k n) ≤ wire_len n

@@ -6,4 +6,5 @@ pub mod Record
 pub mod Star
 pub mod View
 pub mod Walk
+pub mod Windows
 pub mod Written

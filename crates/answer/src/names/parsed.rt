@@ -59,7 +59,7 @@ impl<'a> ParsedName<'a> {
                 return Ok(Name::from_labels(labels));
             };
             at += 1 + label.len();
-            labels.push(label.to_vec(alloc)?)?;
+            labels.push(Vec::from_slice(alloc, label)?)?;
         }
         Ok(Name::from_labels(labels))
     }
