@@ -1,4 +1,5 @@
 pub mod MessageBitmap
+pub mod MessageRecords
 pub mod NameEnds
 pub mod NameLabels
 pub mod NameLaws

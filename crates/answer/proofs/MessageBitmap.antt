@@ -65,3 +65,11 @@ found_behind s (Some ws) t h = refl
 
 pub found_some : (n : ℕ) (bs : List ℕ) (s : Split) (t : ℕ) → first_window bs ≡ Some s → IsSome (windows_upto (suc n) bs) → found (windows_upto (suc n) bs) t ≡ cond (eqb s.number (t / 256)) (bit_in s.octets t) (found (windows_upto n s.rest) t)
 found_some n bs s t h some = ap (λ o. found o t) (some_upto n bs s h) ∙ found_behind s (windows_upto n s.rest) t (ap is_some (sym (some_upto n bs s h)) ∙ some)
+
+pub unread : (o : Option Windows) (t : ℕ) → is_some o ≡ false → found o t ≡ false
+unread None t h = refl
+unread (Some ws) t h = cc
+
+pub test_some : (xs : List ℕ) (t : Bool) → t ≡ eqb (length xs) 0 → t ≡ false → 0 < length xs
+test_some [] t e h = cc
+test_some (x ∷ xs) t e h = omega arith
