@@ -5,3 +5,4 @@ pub mod NameLabels
 pub mod NameLaws
 pub mod NameOrders
 pub mod NameWalk
+pub mod NameWritten

@@ -117,3 +117,6 @@ grow old acc x b y h g = g ∙ ap (λ s. s ++ b) h ∙ append_assoc old acc b
 pub label_drop : {X : Type 0} (f : X → Label) (xs : List X) (i : ℕ) (x : X) (n : Name) → i < length xs → x ≡ get_or xs i x → map f xs ≡ n → drop i n ≡ f x ∷ drop (i + 1) n
 label_drop f xs i x n h e v =
     ap (drop i) (sym v) ∙ drop-map f i xs ∙ ap (map f) (drop_more xs i x h) ∙ (λ t. f (sym e t) ∷ sym (drop-map f (i + 1) xs) t) ∙ ap (λ m. f x ∷ drop (i + 1) m) v
+
+pub wire_len-some : (n : Name) → 1 ≤ wire_len n
+wire_len-some n = omega arith

@@ -8,3 +8,4 @@ pub mod View
 pub mod Walk
 pub mod Windows
 pub mod Written
+pub mod WrittenLaws
