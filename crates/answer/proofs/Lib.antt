@@ -5,7 +5,10 @@ pub mod BoundKeys
 pub mod TagPlaces
 pub mod AddProofs
 pub mod KeyWaits
+pub mod MessageBitmap
+pub mod MessageRecords
 pub mod NameEnds
+pub mod NameLabels
 pub mod NameLaws
 pub mod NameOrders
 pub mod NameWalk
@@ -18,3 +21,4 @@ pub mod ZoneLists
 pub mod ZoneServed
 pub mod ZoneFaults
 pub mod KeyWhole
+pub mod NameWritten

@@ -14,6 +14,7 @@ pub mod GroupView
 pub mod Record
 pub mod View
 pub mod Walk
+pub mod Windows
 pub mod Written
 pub mod BoundView
 pub mod NewKeys
@@ -26,3 +27,4 @@ pub mod Star
 pub mod Publishing
 pub mod Simulating
 pub mod KeyRows
+pub mod WrittenLaws
