@@ -4,3 +4,4 @@ pub mod NameOrders
 pub mod NameEnds
 pub mod NameLaws
 pub mod SignMade
+pub mod SignAnswer

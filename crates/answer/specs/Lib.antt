@@ -9,3 +9,5 @@ pub mod Record
 pub mod Star
 pub mod View
 pub mod Written
+pub mod Composed
+pub mod AnswerFaults

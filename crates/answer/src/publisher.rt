@@ -2,3 +2,4 @@
 pub mod fault;
 pub mod group;
 pub mod signing;
+pub mod compose;
