@@ -22,3 +22,4 @@ pub mod ZoneServed
 pub mod ZoneFaults
 pub mod KeyWhole
 pub mod NameWritten
+pub mod SignAnswer

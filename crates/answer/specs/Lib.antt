@@ -28,3 +28,5 @@ pub mod Publishing
 pub mod Simulating
 pub mod KeyRows
 pub mod WrittenLaws
+pub mod Composed
+pub mod AnswerFaults

@@ -5,3 +5,4 @@ mod ranked;
 pub mod group;
 pub mod signing;
 mod zone;
+pub mod compose;
