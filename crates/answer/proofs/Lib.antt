@@ -3,3 +3,5 @@ pub mod SignOctets
 pub mod NameOrders
 pub mod NameEnds
 pub mod NameLaws
+pub mod JudgeRecords
+pub mod JudgeClosest
