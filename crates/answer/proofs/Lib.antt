@@ -1,7 +1,11 @@
 pub mod TagSum
 pub mod SignOctets
 pub mod NameOrders
+pub mod MessageBitmap
+pub mod MessageRecords
 pub mod NameEnds
+pub mod NameLabels
 pub mod NameLaws
 pub mod JudgeRecords
 pub mod JudgeClosest
+pub mod NameWalk

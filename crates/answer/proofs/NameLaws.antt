@@ -9,7 +9,7 @@ use Rattle.definitions.specs.Signing.{label_count}
 use Rattle.answer.specs.Star.{begins_with_star}
 use Rattle.definitions.specs.Name.{Name, Label, IsLabel, IsName, wire, wire_len, low}
 
-wire_len-cons : (l : Label) (n : Name) → wire_len (l ∷ n) ≡ length l + 1 + wire_len n
+pub wire_len-cons : (l : Label) (n : Name) → wire_len (l ∷ n) ≡ length l + 1 + wire_len n
 wire_len-cons l n = omega (arith, sum_by-cons (λ k. length k + 1) l n)
 
 pub wire_len-drop-le : (k : ℕ) (n : Name) → wire_len (drop k n) ≤ wire_len n
@@ -108,3 +108,7 @@ unstarred (l ∷ n) h = rw h (add-one (length n))
 -- copies of the last labels
 pub last_labels : {X : Type 0} (f : X → Label) (xs ys from : List X) (new : Name) (n : Name) (k j : ℕ) → new ≡ map f ys ++ map f from → ys ≡ [] → from ≡ drop k xs → map f xs ≡ n → k ≡ j → new ≡ drop j n
 last_labels f xs ys from new n k j e h g v s = e ∙ (λ t. map f (h t) ++ map f (g t)) ∙ sym (drop-map f k xs) ∙ (λ t. drop (s t) (v t))
+
+-- one more part behind what was written so far
+pub grow : (old acc x b y : List ℕ) → x ≡ old ++ acc → y ≡ x ++ b → y ≡ old ++ (acc ++ b)
+grow old acc x b y h g = g ∙ ap (λ s. s ++ b) h ∙ append_assoc old acc b

@@ -131,3 +131,13 @@ stops_here whole o p rest t s e d h = e ∙ sym (decided o rest (ap is_ne (sym e
 
 pub goes_on : (whole o p rest : Ordering) (t : Bool) → whole ≡ ordering_then o rest → p ≡ o → t ≡ is_ne p → t ≡ false → whole ≡ rest
 goes_on whole o p rest t s e d h = s ∙ tied o rest (ap is_ne (sym e) ∙ sym d ∙ h)
+
+pub nothing_past : {X : Type 0} (xs : List X) (i : ℕ) → length xs ≤ i → slice_get xs i ≡ None
+nothing_past [] i h = refl
+nothing_past (x ∷ xs) zero h = absurd (omega arith)
+nothing_past (x ∷ xs) (suc i) h = nothing_past xs i (omega arith)
+
+pub item_there : (xs : List ℕ) (i x : ℕ) → i < length xs → x ≡ get_or xs i x → slice_get xs i ≡ Some x
+item_there [] i x h e = absurd (omega arith)
+item_there (y ∷ xs) zero x h e = ap Some (sym e)
+item_there (y ∷ xs) (suc i) x h e = item_there xs i x (omega arith) e

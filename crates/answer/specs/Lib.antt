@@ -5,8 +5,12 @@ pub mod Served
 pub mod Given
 pub mod Judging
 pub mod GroupView
+pub mod Opaque
+pub mod Rdata
 pub mod Record
 pub mod View
+pub mod Walk
+pub mod Windows
 pub mod Written
 pub mod Facts
 pub mod Rrsig

@@ -9,6 +9,7 @@ use std::alloc::AllocError;
 
 /// Writes a header at the end: id 0, the flags, one question and how many records the answer and the
 /// authority section have (RFC 1035, 4.1.1).
+#[tactic(auto, unfolding(crate::specs::Written::header_octets))]
 pub(crate) fn push_header(
     out: &mut Vec<u8>,
     flags: u16,
@@ -26,6 +27,7 @@ pub(crate) fn push_header(
 }
 
 /// Writes a question at the end (RFC 1035, 4.1.2).
+#[tactic(auto, unfolding(crate::specs::Written::question_octets))]
 pub(crate) fn push_question(
     out: &mut Vec<u8>,
     name: &Name,
@@ -40,6 +42,7 @@ pub(crate) fn push_question(
 }
 
 /// Writes a record at the end (RFC 1035, 4.1.3).
+#[tactic(auto, unfolding(crate::specs::Written::record_octets))]
 pub(crate) fn push_record(
     out: &mut Vec<u8>,
     owner: &Name,

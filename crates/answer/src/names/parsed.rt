@@ -1,7 +1,9 @@
 //! Names as they stand in a message (RFC 1035, 4.1.4), read in place.
-ghost use Rattle.std.specs.Prelude.{◌≡◌, ℕ, ◌+◌, ◌<◌, ◌≤◌, length, IfOk};
+ghost use Rattle.std.specs.Prelude.{◌≡◌, ℕ, ◌+◌, ◌<◌, ◌≤◌, length, IfOk, IfSome};
+ghost use Rattle.std.specs.Option.{option_map};
 ghost use Rattle.definitions.specs.Name.{same};
 ghost use Rattle.answer.specs.Message.{owner_at};
+ghost use Rattle.answer.specs.Walk.{walk, behind_walk, label_here};
 ghost use Rattle.answer.specs.View.{Gives, named, name_read, NameReads};
 
 use crate::message::MessageError;
@@ -52,12 +54,12 @@ impl<'a> ParsedName<'a> {
     {
         let mut labels = Vec::new(alloc);
         let mut at = self.start;
-        for _ in 0..128 {
+        for _ in 0..128usize {
             let Some(label) = label_at(self.message, at) else {
                 return Ok(Name::from_labels(labels));
             };
             at += 1 + label.len();
-            labels.push(label.to_vec(alloc)?)?;
+            labels.push(Vec::from_slice(alloc, label)?)?;
         }
         Ok(Name::from_labels(labels))
     }
@@ -78,7 +80,10 @@ impl<'a> ParsedName<'a> {
 }
 
 /// The label at a place of a message, where one stands there.
-fn label_at(message: &[u8], at: usize) -> Option<&[u8]> {
+fn label_at(message: &[u8], at: usize) -> Option<&[u8]>
+    ensures value { option_map (λ l. l.now) result ≡ label_here message.now at }
+    ensures inside { IfSome result (λ l. at + 1 + length l.now ≤ length message.now) }
+{
     let size = *message.get(at)? as usize;
     if size == 0 || size > 63 || size > message.len() - at - 1 {
         return None;
@@ -87,10 +92,14 @@ fn label_at(message: &[u8], at: usize) -> Option<&[u8]> {
 }
 
 /// The place behind the name at a place of a message, where a name stands there.
-fn name_end(message: &[u8], start: usize) -> Result<usize, MessageError> {
+fn name_end(message: &[u8], start: usize) -> Result<usize, MessageError>
+    ensures exact { Gives (λ n. n) result (behind_walk (walk 128 255 message.now start)) }
+    ensures inside { IfOk result (λ n. n ≤ length message.now) }
+    ensures before { IfOk result (λ n. start < n) }
+{
     let mut at = start;
     let mut room = 255;
-    for _ in 0..128 {
+    for _ in 0..128usize {
         let size = match message.get(at) {
             None => return Err(MessageError::ShortInput),
             Some(size) => *size as usize,
