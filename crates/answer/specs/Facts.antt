@@ -1,5 +1,5 @@
--- What a judge takes from two messages, and what it concludes (RFC 4035, 5; RFC 4592; RFC 5155, 8 for the words).
-use Rattle.std.specs.Prelude.{ℕ, ◌+◌, ◌/◌, ◌%◌, Bool, true, false, not, ◌&&◌, ◌||◌, ◌==◌, List, [], ◌∷◌, filter, map, length, Option, Some, None, nat_lt, if◌then◌else◌}
+-- What a judge takes from two messages, and what follows from it (RFC 4034, 3 and 4; RFC 4035, 5; RFC 4592).
+use Rattle.std.specs.Prelude.{◌≡◌, MatchBool, ℕ, ◌+◌, ◌/◌, ◌%◌, Bool, true, false, not, ◌&&◌, ◌||◌, ◌==◌, List, [], ◌∷◌, filter, map, length, Option, Some, None, nat_eq, nat_lt, if◌then◌else◌}
 use Rattle.std.specs.List.{list_any, filter_map}
 use Rattle.std.specs.Str.{bytes_eq}
 use Rattle.definitions.specs.Name.{Name, same, at_or_above, strictly_above, wire_len}
@@ -9,6 +9,9 @@ use Rattle.definitions.specs.Covering.{covers}
 use Rattle.definitions.specs.Bitmap.{bitmap_has}
 use Rattle.definitions.specs.Zone.{Verdict, Records, NoType, NoName, StarNoType, Delegated, star_under, sorted_data}
 use Rattle.answer.specs.Answers.{Answers}
+use Rattle.answer.specs.declared.judge.verdict.Refusal.{Refusal}
+use Rattle.answer.specs.declared.judge.verdict.Refusal.TheVariants as r
+use Rattle.answer.specs.Judging.{Handing, is_first}
 use Rattle.answer.specs.Message.{Spelled, Asked, rrsig_at, canonical_data}
 
 -- ---- keys
@@ -35,6 +38,10 @@ pub record Link : Type 0 where
   pub owner : Name
   pub next : Name
   pub bits : List ℕ
+
+-- a record of a signature (RFC 4034, 3)
+abbrev pub is_signature : Spelled → Bool
+is_signature s = nat_eq s.rtype 46
 
 -- ---- what follows from facts
 
@@ -108,3 +115,15 @@ denied apex q t fs = or_else (first_some (at_owner apex q t) fs) (or_else (first
 abbrev pub decided : Name → Option (List (List ℕ)) → List Link → Name → ℕ → Option Verdict
 decided apex (Some ds) fs q t = Some (Records ds)
 decided apex None fs q t = denied apex q t fs
+
+-- ---- first refusals
+
+-- Beside a DS set that isn't empty a refusal is the first that the messages bring, or comes where they bring none;
+-- memory may run out anywhere.
+abbrev pub RefusesFirst : Refusal → Option Refusal → Type 0
+RefusesFirst r.Memory first = Unit {0}
+RefusesFirst e first = MatchBool (is_first e) (first ≡ Some e) (first ≡ None)
+
+abbrev pub handed : Name → List Ds → List ℕ → List ℕ → Asked → ℕ → ℕ → Handing
+handed apex ds dnskey_bytes answer_bytes asked now limit =
+    record { apex = apex; ds = ds; dnskey_bytes = dnskey_bytes; answer_bytes = answer_bytes; asked = asked; now = now; limit = limit }

@@ -1,4 +1,8 @@
 //! What a judge answers.
+ghost use Rattle.std.specs.Prelude.{◌≡◌, map};
+ghost use Rattle.answer.specs.declared.judge.verdict.Refusal.TheVariants.{Memory};
+
+use std::alloc::AllocError;
 use std::marker::Model;
 use thiserror::Error;
 
@@ -14,6 +18,22 @@ impl Model for DataList {
     ghost Value = { List (List ℕ) };
 
     ghost view = { λ d. map (λ v. v.items) d.items.items };
+}
+
+impl DataList {
+    /// A list of data.
+    pub(crate) fn new(items: Vec<Vec<u8>>) -> Self
+        ensures { result ≡ map (λ v. v.items) items.items }
+    {
+        DataList { items }
+    }
+
+    /// The data, ascending.
+    pub fn as_slice(&self) -> &[Vec<u8>]
+        ensures { map (λ v. v.items) result.now ≡ self.now }
+    {
+        &self.items
+    }
 }
 
 /// What a zone says of a name and a type.
@@ -72,6 +92,14 @@ pub enum Refusal {
     NotProven,
     #[error("out of memory")]
     Memory,
+}
+
+impl From<AllocError> for Refusal {
+    ghost from_gives = { λ _ r. r ≡ Memory };
+
+    fn from(_e: AllocError) -> Refusal {
+        Refusal::Memory
+    }
 }
 
 /// A verdict, and how often `verify` and `hash` were called.
