@@ -6,3 +6,4 @@ pub mod Given
 pub mod Judging
 pub mod KeyState
 pub mod KeyAnswers
+pub mod Events

@@ -1,4 +1,7 @@
 //! The lines of events.
+ghost use Rattle.std.specs.Prelude.{◌≤◌, IfOk};
+ghost use Rattle.answer.specs.Events.{added_octets, added_by_act, added_by_call};
+
 use crate::fields::{key_octets, name, reference, references};
 use crate::line_error::LineError;
 use crate::numbers::{number_u16, number_u32, number_u64, number_u8, place};
@@ -10,7 +13,9 @@ use std::alloc::Global;
 use std::time::Duration;
 
 /// Reads a line of an event: a call on the zone's keys, a thing shown, or a judgement.
-pub fn read_event(alloc: Global, fields: &[&str]) -> Result<Event, LineError> {
+pub fn read_event(alloc: Global, fields: &[&str]) -> Result<Event, LineError>
+    ensures { IfOk result (λ e. added_octets e ≤ 65531) }
+{
     let Some((last, fields)) = fields.split_last() else {
         return Err(LineError::Unreadable);
     };
@@ -20,7 +25,9 @@ pub fn read_event(alloc: Global, fields: &[&str]) -> Result<Event, LineError> {
 }
 
 /// Reads a line but for its moment.
-fn read_act(alloc: Global, fields: &[&str]) -> Result<Act, LineError> {
+fn read_act(alloc: Global, fields: &[&str]) -> Result<Act, LineError>
+    ensures { IfOk result (λ a. added_by_act a ≤ 65531) }
+{
     match *fields {
         ["ds"] => Ok(Act::ShowDs),
         ["dnskey"] => Ok(Act::ShowDnskey),
@@ -52,7 +59,9 @@ fn read_add(
     pubref: &str,
     algorithm: &str,
     octets: &str,
-) -> Result<KeyCall, LineError> {
+) -> Result<KeyCall, LineError>
+    ensures { IfOk result (λ c. added_by_call c ≤ 65531) }
+{
     let pubref = reference(alloc, pubref)?;
     let algorithm = SecurityAlgorithm::from_int(number_u8(algorithm)?);
     let public_key = key_octets(alloc, octets)?;
@@ -75,7 +84,9 @@ fn read_add(
     }
 }
 
-fn read_roll_call(alloc: Global, fields: &[&str]) -> Result<KeyCall, LineError> {
+fn read_roll_call(alloc: Global, fields: &[&str]) -> Result<KeyCall, LineError>
+    ensures { IfOk result (λ c. added_by_call c ≤ 65531) }
+{
     match *fields {
         ["start", roll, old, new] => Ok(KeyCall::StartRoll {
             rolltype: read_roll(roll)?,

@@ -1,4 +1,6 @@
 //! Names, references and octets as fields of a line. The field `-` stands for nothing.
+ghost use Rattle.std.specs.Prelude.{◌≤◌, length, IfOk};
+
 use crate::line_error::LineError;
 use answer::names::{FromStrError, Name, NameError};
 use base64::DecodeAllocError;
@@ -63,7 +65,9 @@ pub fn hex_octets(alloc: Global, field: &str, most: usize) -> Result<Vec<u8>, Li
 }
 
 /// A key's octets in base64 (RFC 4648, 4); `-` for none.
-pub fn key_octets(alloc: Global, field: &str) -> Result<Vec<u8>, LineError> {
+pub fn key_octets(alloc: Global, field: &str) -> Result<Vec<u8>, LineError>
+    ensures small { IfOk result (λ v. length v.items ≤ 65531) }
+{
     if field == "-" {
         return Ok(Vec::new(alloc));
     }

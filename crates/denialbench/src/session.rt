@@ -1,4 +1,7 @@
 //! A session: a zone, its records, and the events that follow.
+ghost use Rattle.std.specs.Prelude.{◌≤◌, All};
+ghost use Rattle.answer.specs.Events.{added_octets};
+
 use crate::event_lines::read_event;
 use crate::line_error::LineError;
 use crate::lines::Lines;
@@ -14,6 +17,7 @@ pub struct Session {
     pub zone: Zone,
     pub records: Vec<Record>,
     pub events: Vec<Event>,
+    ghost fit: { All (λ e. added_octets e ≤ 65531) events.items },
 }
 
 /// Why an input is no session.
@@ -59,6 +63,7 @@ struct Reading {
     zone: Option<Zone>,
     records: Vec<Record>,
     events: Vec<Event>,
+    ghost fit: { All (λ e. added_octets e ≤ 65531) events.items },
 }
 
 impl Reading {

@@ -1,5 +1,5 @@
 //! The lines of a zone: the zone itself, and its records.
-ghost use Rattle.std.specs.Prelude.{◌≡◌, ◌++◌, IfOk};
+ghost use Rattle.std.specs.Prelude.{◌≡◌, ◌≤◌, ◌++◌, IfOk};
 
 use crate::fields::{hex_octets, name, wire_name};
 use crate::line_error::LineError;
@@ -25,6 +25,7 @@ pub struct Zone {
     pub limit: u16,
     /// How many seconds a signature lives.
     pub life: u32,
+    ghost comparable: { life ≤ 2147483647 },
 }
 
 /// Reads `zone APEX nsec LIMIT LIFE`.
@@ -40,7 +41,9 @@ pub fn read_zone(alloc: Global, fields: &[&str]) -> Result<Zone, LineError> {
     }
 }
 
-fn read_life(field: &str) -> Result<u32, LineError> {
+fn read_life(field: &str) -> Result<u32, LineError>
+    ensures { IfOk result (λ life. life ≤ 2147483647) }
+{
     let life = number_u32(field)?;
     if life > MAX_LIFE {
         return Err(LineError::Unreadable);
