@@ -30,3 +30,4 @@ pub mod KeyRows
 pub mod WrittenLaws
 pub mod Composed
 pub mod AnswerFaults
+pub mod Events

@@ -1,0 +1,5 @@
+pub mod Input
+pub mod Names
+pub mod Numbers
+pub mod Printed
+pub mod Status
