@@ -31,3 +31,5 @@ pub mod WrittenLaws
 pub mod Composed
 pub mod AnswerFaults
 pub mod Events
+pub mod Answering
+pub mod Questions

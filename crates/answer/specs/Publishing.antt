@@ -1,5 +1,5 @@
 -- What a publisher holds, and the digests and hashes of its scheme and hasher.
-use Rattle.std.specs.Prelude.{ℕ, List, [], Option, Some, None}
+use Rattle.std.specs.Prelude.{ℕ, ◌/◌, ◌%◌, List, [], Option, Some, None}
 use Rattle.definitions.specs.Name.{Name, wire, low}
 use Rattle.definitions.specs.Dnskey.{Dnskey, digested}
 use Rattle.definitions.specs.ZoneChain.{Mode, Nsec, Nsec3}
@@ -31,3 +31,7 @@ hash_in hash (Nsec3 iterations salt optout) n = hash_or_none (hash (wire (low n)
 -- how the zone is served
 abbrev pub served : (List ℕ → ℕ → ℕ → List ℕ → Option (List ℕ)) → AcceptedZone → Served
 served hash z = served_of z.apex z.mode (hash_in hash z.mode) z.records
+
+-- whole seconds modulo 2^32, as signatures carry them (RFC 4034, 3.1.5)
+abbrev pub second_of : ℕ → ℕ
+second_of at = at / 1000000000 % 4294967296

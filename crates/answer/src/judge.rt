@@ -84,7 +84,7 @@ pub fn judge<C: Checks>(
 
 /// Whether a question is answered and judged: class IN, at or below the apex, and none of the types that signing
 /// adds, of aliases, or that no zone holds (RFC 6895, 3.1).
-fn is_allowed(apex: &Name, question: &Question) -> bool
+pub(crate) fn is_allowed(apex: &Name, question: &Question) -> bool
     ensures { result ≡ is_allowed apex.now (record { name = question.now.name; rtype = question.now.rtype; class = question.now.class }) }
 {
     question.class == Class::IN

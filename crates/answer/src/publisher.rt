@@ -1,6 +1,7 @@
 //! A publisher of one signed zone whose keys roll.
 pub mod fault;
 pub mod keys;
+pub mod publishing;
 mod ranked;
 pub mod group;
 pub mod signing;
