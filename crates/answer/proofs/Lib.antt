@@ -1,6 +1,11 @@
+pub mod NameEnds
+pub mod NameLaws
+pub mod NameOrders
+pub mod NameWalk
 pub mod ZoneSorting
 pub mod ZoneNames
 pub mod ZoneTtls
 pub mod ZoneLists
 pub mod ZoneServed
+pub mod ZoneChains
 pub mod ZoneFaults

@@ -4,3 +4,10 @@ pub mod Accepting
 pub mod Served
 pub mod Given
 pub mod ZoneView
+pub mod Opaque
+pub mod Rdata
+pub mod Record
+pub mod Star
+pub mod View
+pub mod Walk
+pub mod Written

@@ -53,7 +53,7 @@ fault_of Short = ShortInput
 fault_of Malformed = Form
 
 -- a name and the place behind it
-abbrev pub owner_at : ℕ → List ℕ → ℕ → Result (Name × ℕ) MessageError
+unfoldable pub owner_at : ℕ → List ℕ → ℕ → Result (Name × ℕ) MessageError
 owner_at k m p = elim (name_at k m p) [ Ok r ↦ Ok r | Err f ↦ Err (fault_of f) ]
 
 abbrev pub asked_at : ℕ → List ℕ → ℕ → Result (Asked × ℕ) MessageError
@@ -121,9 +121,13 @@ rrsig_fields m s signer = record { covered = pair m s; algorithm = slice_index m
 abbrev pub behind : Spelled → ℕ
 behind r = r.start + r.length
 
--- a name within a record's data from a place on, and the place behind it; what a pointer leads to may lie anywhere
+-- a name from a place on, and the place behind it, no further than a limit; what a pointer leads to may lie anywhere
+abbrev pub name_upto : ℕ → List ℕ → ℕ → ℕ → Option (Name × ℕ)
+name_upto k m p limit = elim (owner_at k m p) [ Err e ↦ None | Ok n ↦ if_true (nat_le n.1 limit) n ]
+
+-- a name within a record's data
 abbrev pub name_in : ℕ → List ℕ → Spelled → ℕ → Option (Name × ℕ)
-name_in k m r p = elim (owner_at k m p) [ Err e ↦ None | Ok n ↦ if_true (nat_le n.1 (behind r)) n ]
+name_in k m r p = name_upto k m p (behind r)
 
 -- A signature's fields, its signer in canonical form, and its octets (RFC 4034, 3.1); None where the data do not read so.
 abbrev pub rrsig_at : ℕ → List ℕ → Spelled → Option (Fields × List ℕ)

@@ -1,6 +1,14 @@
 //! Messages as bytes: reading them in place and writing them (RFC 1035, 4).
 use thiserror::Error;
 
+pub(crate) mod bitmap;
+mod octets;
+pub(crate) mod rdata;
+pub mod view;
+pub(crate) mod write;
+
+pub use view::{MessageView, Records, ViewRecord, read_message};
+
 /// Why bytes are not a message with one question, at the first place where reading stops.
 #[derive(Clone, Copy, Debug, PartialEq, Eq, Drop, Error)]
 pub enum MessageError {

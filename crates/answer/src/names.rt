@@ -1,15 +1,22 @@
 //! Names, kept as their labels, and octets that a key or a digest may lie in.
-ghost use Rattle.std.specs.Prelude.{◌≡◌, ℕ, ◌+◌, ◌-◌, ◌<◌, ◌≤◌, ◌↔◌, ◌++◌, [], ◌∷◌, List, length, drop, map, IfOk, OnOk, OnErr, IfSome, IsTrue, Some, None, Ok, Err};
+ghost use Rattle.std.specs.Prelude.{◌≡◌, ℕ, ◌+◌, ◌-◌, ◌<◌, ◌≤◌, ◌↔◌, ◌++◌, [], List, length, drop, map, IfOk, OnOk, IfSome, slice_get};
+ghost use Rattle.std.specs.Option.{option_map};
+ghost use Rattle.std.specs.Ordering.{nat_cmp};
+ghost use Rattle.std.specs.Cmp.Lexicographic.{slice_cmp};
 ghost use Rattle.std.specs.Str.{str_to_ascii_lowercase};
 ghost use Rattle.definitions.specs.Name.{wire, wire_len, low, same, at_or_above, strictly_above, name_cmp, IsName};
 ghost use Rattle.definitions.specs.Signing.{label_count};
 ghost use Rattle.definitions.specs.Zone.{star_under};
+ghost use Rattle.answer.specs.Star.{begins_with_star};
 
 use std::alloc::{AllocError, Global};
 use std::cmp::Ordering;
 use std::marker::Model;
 
+pub mod parsed;
 mod stars;
+
+pub use parsed::ParsedName;
 
 /// Octets that are read as one slice.
 pub trait Octets {
@@ -63,6 +70,14 @@ impl Name {
         }
     }
 
+    /// The name of labels, the leftmost first.
+    pub(crate) fn from_labels(labels: Vec<Vec<u8>>) -> Name
+        requires { IsName (map (λ v. v.items) labels.items) }
+        ensures { result ≡ map (λ v. v.items) labels.items }
+    {
+        Name { labels }
+    }
+
     /// The same name, with the same spelling.
     pub fn try_clone(&self, alloc: Global) -> Result<Name, AllocError>
         ensures { IfOk result (λ n. n ≡ self.now) }
@@ -76,9 +91,7 @@ impl Name {
         ensures { IfOk result (λ n. n ≡ drop (length self.now - count) self.now) }
     {
         let mut labels = Vec::with_capacity(alloc, count)?;
-        for label in &self.labels[self.labels.len() - count..] {
-            labels.push(label.clone()?)?;
-        }
+        push_labels(alloc, &mut labels, &self.labels[self.labels.len() - count..])?;
         Ok(Name { labels })
     }
 
@@ -91,10 +104,8 @@ impl Name {
             return Ok(None);
         }
         let mut labels = Vec::with_capacity(alloc, self.labels.len() + 1)?;
-        labels.push(b"*".to_vec(alloc)?)?;
-        for label in &self.labels {
-            labels.push(label.clone()?)?;
-        }
+        labels.push(Vec::from_slice(alloc, b"*")?)?;
+        push_labels(alloc, &mut labels, &self.labels)?;
         Ok(Some(Name { labels }))
     }
 
@@ -103,6 +114,16 @@ impl Name {
         ensures { result ≡ length self.now }
     {
         self.labels.len()
+    }
+
+    /// The label at a place, the leftmost at 0.
+    pub fn label_at(&self, index: usize) -> Option<&[u8]>
+        ensures { option_map (λ l. l.now) result ≡ slice_get self.now index }
+    {
+        match self.labels.get(index) {
+            None => None,
+            Some(label) => Some(label.as_slice()),
+        }
     }
 
     /// The octets of the wire form, the root's included.
@@ -126,10 +147,12 @@ impl Name {
     }
 
     /// Whether the first label is a star (RFC 4592, 2.1.1).
-    pub fn is_wildcard(&self) -> bool {
-        match self.labels.first() {
+    pub fn is_wildcard(&self) -> bool
+        ensures { result ≡ begins_with_star self.now }
+    {
+        match self.label_at(0) {
             None => false,
-            Some(label) => label.as_slice() == b"*".as_slice(),
+            Some(label) => label == b"*".as_slice(),
         }
     }
 
@@ -137,36 +160,43 @@ impl Name {
     pub fn name_eq(&self, other: &Name) -> bool
         ensures { result ≡ same self.now other.now }
     {
-        self.labels.len() == other.labels.len() && self.ends_with(other)
+        self.len() == other.len() && self.ends_with(other)
     }
 
     /// The canonical order of names (RFC 4034, 6.1).
     pub fn name_cmp(&self, other: &Name) -> Ordering
         ensures { result ≡ name_cmp self.now other.now }
     {
-        let mut i = self.labels.len();
-        let mut j = other.labels.len();
-        while i > 0 && j > 0 {
-            i -= 1;
-            j -= 1;
-            let order = lowered_cmp(&self.labels[i], &other.labels[j]);
-            if order != Ordering::Equal {
+        let mut left = self.len();
+        let mut right = other.len();
+        while left > 0 && right > 0 {
+            left -= 1;
+            right -= 1;
+            let (Some(a), Some(b)) = (self.label_at(left), other.label_at(right)) else {
+                return Ordering::Equal;
+            };
+            let order = lowered_cmp(a, b);
+            if order.is_ne() {
                 return order;
             }
         }
-        i.cmp(&j)
+        left.cmp(&right)
     }
 
     /// Whether another name is at or above this one.
     pub fn ends_with(&self, base: &Name) -> bool
         ensures { result ≡ at_or_above base.now self.now }
     {
-        if base.labels.len() > self.labels.len() {
+        let count = base.len();
+        if count > self.len() {
             return false;
         }
-        let skipped = self.labels.len() - base.labels.len();
-        for i in 0..base.labels.len() {
-            if !self.labels[skipped + i].as_slice().eq_ignore_ascii_case(base.labels[i].as_slice()) {
+        let skipped = self.len() - count;
+        for index in 0..count {
+            let (Some(a), Some(b)) = (self.label_at(skipped + index), base.label_at(index)) else {
+                return false;
+            };
+            if !a.eq_ignore_ascii_case(b) {
                 return false;
             }
         }
@@ -177,7 +207,7 @@ impl Name {
     pub fn is_below(&self, base: &Name) -> bool
         ensures { result ≡ strictly_above base.now self.now }
     {
-        base.labels.len() < self.labels.len() && self.ends_with(base)
+        base.len() < self.len() && self.ends_with(base)
     }
 
     /// Writes the wire form at the end, as spelled (RFC 1035, 3.1).
@@ -198,20 +228,40 @@ impl Name {
     {
         for label in &self.labels {
             out.push(label.len() as u8)?;
-            let start = out.len();
-            out.extend_from_slice(label)?;
-            out[start..].make_ascii_lowercase();
+            push_lowered(out, label)?;
         }
         out.push(0)?;
         Ok(())
     }
 }
 
+/// Adds octets at the end, letters lowered.
+fn push_lowered(out: &mut Vec<u8>, octets: &[u8]) -> Result<(), AllocError>
+    ensures { OnOk result (out.new.items ≡ out.old.items ++ str_to_ascii_lowercase octets.now) }
+{
+    for octet in octets {
+        out.push(octet.to_ascii_lowercase())?;
+    }
+    Ok(())
+}
+
+/// Adds copies of labels at the end.
+fn push_labels(alloc: Global, labels: &mut Vec<Vec<u8>>, from: &[Vec<u8>]) -> Result<(), AllocError>
+    ensures { OnOk result (map (λ v. v.items) labels.new.items ≡ map (λ v. v.items) labels.old.items ++ map (λ v. v.items) from.now) }
+{
+    for label in from {
+        labels.push(Vec::from_slice(alloc, label)?)?;
+    }
+    Ok(())
+}
+
 /// Two labels octet by octet, letters lowered.
-fn lowered_cmp(a: &[u8], b: &[u8]) -> Ordering {
-    for (x, y) in a.iter().zip(b) {
-        let order = x.to_ascii_lowercase().cmp(&y.to_ascii_lowercase());
-        if order != Ordering::Equal {
+fn lowered_cmp(a: &[u8], b: &[u8]) -> Ordering
+    ensures { result ≡ slice_cmp nat_cmp (str_to_ascii_lowercase a.now) (str_to_ascii_lowercase b.now) }
+{
+    for index in 0..a.len().min(b.len()) {
+        let order = a[index].to_ascii_lowercase().cmp(&b[index].to_ascii_lowercase());
+        if order.is_ne() {
             return order;
         }
     }

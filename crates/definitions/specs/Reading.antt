@@ -80,14 +80,18 @@ abbrev pub behind_labels : Name → Result Name ReadFault → Result Name ReadFa
 behind_labels ls (Ok rest) = Ok (ls ++ rest)
 behind_labels ls (Err f) = Err f
 
+-- a name of 255 octets has at most so many heads between two pointers
+unfoldable pub most_heads : ℕ
+most_heads = 128
+
 -- the labels at a place, following at most so many pointers, in so many octets
 abbrev pub labels_at : ℕ → ℕ → List ℕ → ℕ → Result Name ReadFault
-labels_at zero room m p = elim (run_at 128 0 room m p) [ Err f ↦ Err f | Ok r ↦ elim r.end [ AtRoot ↦ Ok r.labels | To to ↦ Err Malformed ] ]
-labels_at (suc k) room m p = elim (run_at 128 (suc k) room m p) [ Err f ↦ Err f | Ok r ↦ elim r.end [ AtRoot ↦ Ok r.labels | To to ↦ behind_labels r.labels (labels_at k r.room m to) ] ]
+labels_at zero room m p = elim (run_at most_heads 0 room m p) [ Err f ↦ Err f | Ok r ↦ elim r.end [ AtRoot ↦ Ok r.labels | To to ↦ Err Malformed ] ]
+labels_at (suc k) room m p = elim (run_at most_heads (suc k) room m p) [ Err f ↦ Err f | Ok r ↦ elim r.end [ AtRoot ↦ Ok r.labels | To to ↦ behind_labels r.labels (labels_at k r.room m to) ] ]
 
 -- behind its first pointer or its root octet
 abbrev pub end_at : ℕ → List ℕ → ℕ → Result ℕ ReadFault
-end_at k m p = elim (run_at 128 k 255 m p) [ Err f ↦ Err f | Ok r ↦ Ok r.behind ]
+end_at k m p = elim (run_at most_heads k 255 m p) [ Err f ↦ Err f | Ok r ↦ Ok r.behind ]
 
 -- a name of at most 255 octets, and the place behind it
 abbrev pub name_at : ℕ → List ℕ → ℕ → Result (Name × ℕ) ReadFault
