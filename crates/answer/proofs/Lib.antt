@@ -1,4 +1,7 @@
+pub mod MessageBitmap
+pub mod MessageRecords
 pub mod NameEnds
+pub mod NameLabels
 pub mod NameLaws
 pub mod NameOrders
 pub mod NameWalk
@@ -9,3 +12,4 @@ pub mod ZoneLists
 pub mod ZoneServed
 pub mod ZoneChains
 pub mod ZoneFaults
+pub mod NameWritten

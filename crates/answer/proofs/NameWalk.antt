@@ -7,7 +7,7 @@ use Rattle.definitions.specs.Reading.{ReadFault, Short, Malformed, Run, End, AtR
 use Rattle.answer.specs.declared.message.MessageError.{MessageError}
 use Rattle.answer.specs.declared.message.MessageError.TheVariants.{ShortInput, Form}
 use Rattle.answer.specs.Message.{owner_at, fault_of}
-use Rattle.std.specs.Result.{OnOk}
+use Rattle.std.specs.Result.{is_ok}
 use Rattle.answer.specs.View.{name_read, NameReads}
 use Rattle.answer.specs.Walk.{walk, flat_run, behind_walk}
 
@@ -162,4 +162,4 @@ pub owner_err : (m : List ℕ) (p : ℕ) (e : MessageError) → behind_walk (wal
 owner_err m p e h = behind_err (owner_at 0 m p) e (ap behind_walk (owner-walk m p) ∙ h)
 
 pub reads_ok : (m : List ℕ) (p : ℕ) (r : Name × ℕ) → owner_at 0 m p ≡ Ok r → NameReads m p
-reads_ok m p r h = let P : Result (Name × ℕ) MessageError → Type 0 = λ o. OnOk o (Unit {0}) in subst P (sym h) tt
+reads_ok m p r h = ap is_ok h

@@ -10,4 +10,6 @@ pub mod Record
 pub mod Star
 pub mod View
 pub mod Walk
+pub mod Windows
 pub mod Written
+pub mod WrittenLaws

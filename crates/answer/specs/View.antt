@@ -1,5 +1,5 @@
 -- What readings of a message give, as contracts see it.
-use Rattle.std.specs.Prelude.{◌≡◌, ℕ, List, [], Result, Ok, Err, OnOk}
+use Rattle.std.specs.Prelude.{◌≡◌, ℕ, List, [], Result, Ok, Err, IsOk}
 use Rattle.definitions.specs.Name.{Name}
 use Rattle.answer.specs.declared.message.MessageError.{MessageError}
 use Rattle.answer.specs.Message.{Spelled, owner_at, records_at}
@@ -27,4 +27,4 @@ records_read n m p = elim (records_at n 0 m p) [ Ok rs ↦ rs | Err e ↦ [] ]
 
 -- a name reads at a place
 abbrev pub NameReads : List ℕ → ℕ → Type 0
-NameReads m p = OnOk (owner_at 0 m p) (Unit {0})
+NameReads m p = IsOk (owner_at 0 m p)

@@ -1,18 +1,16 @@
 //! The set of types of an NSEC or NSEC3 record (RFC 4034, 4.1.2), read in place.
-ghost use Rattle.std.specs.Prelude.{◌≡◌, ◌∷◌, ◌++◌, length, IfSome, MatchOption};
+ghost use Rattle.std.specs.Prelude.{◌≡◌};
+ghost use Rattle.std.specs.Option.{option_map};
 ghost use Rattle.definitions.specs.Bitmap.{is_bitmap, bitmap_has, bit_in};
+ghost use Rattle.answer.specs.Windows.{split, first_window};
 
 use crate::plain::Rtype;
 
-/// A window: its number and its octets.
-#[derive(Drop)]
-struct Window<'a> {
-    number: u8,
-    octets: &'a [u8],
-}
-
-/// The window at the front and what is behind it; None where there is none of 1 to 32 octets.
-fn split_window(bytes: &[u8]) -> Option<(Window<'_>, &[u8])> {
+/// The window at the front, its number and its octets, and what is behind it; None where there is none of 1
+/// to 32 octets.
+fn split_window(bytes: &[u8]) -> Option<(u8, &[u8], &[u8])>
+    ensures value { option_map (λ w. split w.0 w.1.now w.2.now) result ≡ first_window bytes.now }
+{
     let (number, bytes) = bytes.split_first()?;
     let (len, bytes) = bytes.split_first()?;
     let len = *len as usize;
@@ -20,13 +18,7 @@ fn split_window(bytes: &[u8]) -> Option<(Window<'_>, &[u8])> {
         return None;
     }
     let (octets, rest) = bytes.split_at(len);
-    Some((
-        Window {
-            number: *number,
-            octets,
-        },
-        rest,
-    ))
+    Some((*number, octets, rest))
 }
 
 /// Whether octets spell windows.
@@ -40,7 +32,7 @@ pub(crate) fn is_bitmap(bytes: &[u8]) -> bool
         }
         match split_window(rest) {
             None => return false,
-            Some((_, behind)) => rest = behind,
+            Some((_, _, behind)) => rest = behind,
         }
     }
     rest.is_empty()
@@ -57,9 +49,9 @@ pub(crate) fn bitmap_has(bytes: &[u8], rtype: Rtype) -> bool
     for _ in 0..bytes.len() {
         match split_window(rest) {
             None => return false,
-            Some((window, behind)) => {
-                if u16::from(window.number) == rtype.to_int() / 256 {
-                    return bit_of(window.octets, rtype);
+            Some((number, octets, behind)) => {
+                if u16::from(number) == rtype.to_int() / 256 {
+                    return bit_of(octets, rtype);
                 }
                 rest = behind;
             },
