@@ -25,3 +25,4 @@ pub mod ZoneFaults
 pub mod KeyWhole
 pub mod NameWritten
 pub mod SignAnswer
+pub mod ZoneChains

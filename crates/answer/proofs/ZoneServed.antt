@@ -1,5 +1,5 @@
 -- What an accepted zone says of names.
-use Rattle.std.proofs.Common.{◌≡◌, ℕ, Bool, true, false, ◌&&◌, ◌||◌, not, List, [], ◌∷◌, ◌++◌, map, Option, Some, None, inl, inr, refl, sym, ap, subst, ◌∙◌, ⊎_elim, cond, eqb, arith}
+use Rattle.std.proofs.Common.{◌≡◌, ℕ, Bool, true, false, ◌&&◌, ◌||◌, not, List, [], ◌∷◌, ◌++◌, map, Option, Some, None, inl, inr, refl, sym, ap, subst, ◌∙◌, ⊎_elim, cond, eqb, arith, ◌+◌, ◌<◌, length, drop, get_or, drop-cons, add-one}
 use Rattle.std.specs.List.{list_any, AllByRecursion, filter}
 use Rattle.std.specs.Prelude.{if◌then◌else◌}
 use Rattle.std.specs.Char.{to_ascii_lowercase}
@@ -8,7 +8,8 @@ use Rattle.std.proofs.lemmas.Bool.{and_parts, and_from, or_cases, or_parts, or_l
 use Rattle.definitions.specs.Name.{Name, low, labels_eq, same, at_or_above, strictly_above}
 use Rattle.definitions.specs.Zone.{Zone, Rr, Verdict, Records, NoType, NoName, owners, has, is_delegation, cut, cut_above, is_live, is_kept, kept_owners, kept, exists, ce, star_under, at_existing, at_star, verdict, data_at, Delegated, StarRecords, StarNoType}
 use Rattle.answer.specs.Accepting.{HandedRr, rr_of, zone_with, has_star, has_unlike_ttls, unlike_ttls}
-use Rattle.answer.specs.ZoneView.{IsPublished, neighbours}
+use Rattle.answer.specs.Served.{ttl_among, spelled_among}
+use Rattle.answer.specs.ZoneView.{IsPublished, neighbours, is_of}
 use Rattle.answer.proofs.ZoneLists.{Has, found, any_from, all_at, all_more, filter_all, list_any-map}
 use Rattle.answer.proofs.ZoneNames.{same_labels, labels_eq-same, low-low, at_or_above-low, strictly_above-low}
 
@@ -116,3 +117,25 @@ verdict_none apex rs h k name t x =
     let z = zone_with apex rs in
     ap (by_cut z name t) (no_cut apex rs h (low name)) ∙ ap (by_exists z name t) x
     ∙ elim (ce z (low name)) as (λ (o : Option Name). (elim o [ None ↦ NoName | Some e ↦ at_star z (star_under e) t ]) ≡ NoName) [ None ↦ refl | Some e ↦ ap (λ b. if b then (if has z (star_under e) t then StarRecords (data_at z (star_under e) t) else StarNoType) else NoName) (no_star apex rs h k e) ]
+
+pub has_is : (apex : Name) (rs : List HandedRr) (q : Name) (t : ℕ) → has (zone_with apex rs) (low q) t ≡ list_any (is_of q t) rs
+has_is apex rs q t = list_any-map (λ (r : Rr). labels_eq r.owner (low q) && eqb r.rtype t) rr_of rs
+
+-- what stands at the front of what is left
+ahead_is : (rs : List HandedRr) (i : ℕ) (r : HandedRr) → i < length rs → r ≡ get_or rs i r → drop i rs ≡ r ∷ drop (i + 1) rs
+ahead_is rs i r h e = drop-cons rs i r h ∙ (λ j. sym e j ∷ drop (sym (add-one i) j) rs)
+
+pub ttl_later : (rs : List HandedRr) (q : Name) (t i : ℕ) (r : HandedRr) → i < length rs → r ≡ get_or rs i r → is_of q t r ≡ false → ttl_among (drop (i + 1) rs) (low q) t ≡ ttl_among (drop i rs) (low q) t
+ttl_later rs q t i r h e n = sym (ap (λ xs. ttl_among xs (low q) t) (ahead_is rs i r h e) ∙ ap (λ b. if b then r.ttl else ttl_among (drop (i + 1) rs) (low q) t) n)
+
+pub ttl_here : (rs : List HandedRr) (q : Name) (t i : ℕ) (r : HandedRr) → i < length rs → r ≡ get_or rs i r → is_of q t r ≡ true → ttl_among (drop i rs) (low q) t ≡ r.ttl
+ttl_here rs q t i r h e n = ap (λ xs. ttl_among xs (low q) t) (ahead_is rs i r h e) ∙ ap (λ b. if b then r.ttl else ttl_among (drop (i + 1) rs) (low q) t) n
+
+pub spelled_later : (rs : List HandedRr) (q : Name) (i : ℕ) (r : HandedRr) → i < length rs → r ≡ get_or rs i r → same r.owner q ≡ false → spelled_among (drop (i + 1) rs) (low q) ≡ spelled_among (drop i rs) (low q)
+spelled_later rs q i r h e n = sym (ap (λ xs. spelled_among xs (low q)) (ahead_is rs i r h e) ∙ ap (λ b. if b then r.owner else spelled_among (drop (i + 1) rs) (low q)) n)
+
+pub spelled_here : (rs : List HandedRr) (q : Name) (i : ℕ) (r : HandedRr) → i < length rs → r ≡ get_or rs i r → same r.owner q ≡ true → spelled_among (drop i rs) (low q) ≡ r.owner
+spelled_here rs q i r h e n = ap (λ xs. spelled_among xs (low q)) (ahead_is rs i r h e) ∙ ap (λ b. if b then r.owner else spelled_among (drop (i + 1) rs) (low q)) n
+
+pub any_later : (p : HandedRr → Bool) (rs : List HandedRr) (i : ℕ) (r : HandedRr) → i < length rs → r ≡ get_or rs i r → p r ≡ false → list_any p (drop (i + 1) rs) ≡ list_any p (drop i rs)
+any_later p rs i r h e n = sym (ap (list_any p) (ahead_is rs i r h e) ∙ ap (λ b. b || list_any p (drop (i + 1) rs)) n)

@@ -8,6 +8,7 @@ pub mod KeyState
 pub mod KeyAnswers
 pub mod Bindings
 pub mod KeyCalls
+pub mod ZoneView
 pub mod Opaque
 pub mod Rdata
 pub mod GroupView
@@ -20,7 +21,6 @@ pub mod BoundView
 pub mod NewKeys
 pub mod KeyTexts
 pub mod KeyLaws
-pub mod ZoneView
 pub mod Facts
 pub mod Rrsig
 pub mod Star

@@ -6,15 +6,27 @@ use Rattle.std.specs.Cmp.{IsTotalOrder, then_total, on_total}
 use Rattle.std.specs.Cmp.Lexicographic.{slice_cmp}
 use Rattle.std.specs.Ordering.{nat_cmp}
 use Rattle.std.proofs.lemmas.Cmp.{lists_total, nat_cmp_total, nat_list_cmp_total}
-use Rattle.definitions.specs.Name.{Name, from_root, name_cmp, low, at_or_above, strictly_above, labels_eq}
+use Rattle.definitions.specs.Name.{Name, from_root, name_cmp, low, at_or_above, strictly_above, same}
 use Rattle.definitions.specs.ZoneChain.{Mode}
 use Rattle.answer.specs.Accepting.{HandedRr, record_cmp, has_star, soas}
 use Rattle.definitions.specs.ZoneChain as chain
 use Rattle.answer.specs.declared.publisher.fault.Mode as declared
 use Rattle.answer.specs.declared.publisher.fault.Mode.TheVariants.{Nsec}
+use Rattle.answer.specs.declared.plain.record.Record.{Record}
+use Rattle.answer.specs.declared.plain.record.ZoneRecordData.{ZoneRecordData}
+use Rattle.answer.specs.declared.plain.record.ZoneRecordData.TheVariants.{Unknown}
+use Rattle.answer.specs.Rdata.{rtype_of, written_of, canonical_of}
 
 abbrev pub mode_of : declared.Mode → Mode
 mode_of Nsec = chain.Nsec
+
+abbrev pub is_unknown : ZoneRecordData → Bool
+is_unknown (Unknown d) = true
+is_unknown _ = false
+
+-- a record as handed in
+abbrev pub handed_of : Record → HandedRr
+handed_of r = record { owner = r.owner; class = r.class; ttl = r.ttl; rtype = rtype_of r.rdata; is_unknown = is_unknown r.rdata; written = written_of r.rdata; bytes = canonical_of r.rdata }
 
 pub name_cmp_total : IsTotalOrder name_cmp
 name_cmp_total = on_total from_root (lists_total nat_list_cmp_total)
@@ -43,3 +55,15 @@ pub record AcceptedZone : Type 0 where
   pub mode : Mode
   pub limit : ℕ
   pub records : List HandedRr
+
+-- the data of a record: as spelled, and in canonical form
+pub record Datum : Type 0 where
+  pub written : List ℕ
+  pub bytes : List ℕ
+
+abbrev pub data_of : HandedRr → Datum
+data_of r = record { written = r.written; bytes = r.bytes }
+
+-- a record is of a name, up to case, and a type
+abbrev pub is_of : Name → ℕ → HandedRr → Bool
+is_of name t r = same r.owner name && (r.rtype == t)

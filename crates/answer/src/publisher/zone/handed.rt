@@ -1,11 +1,13 @@
 //! Records with their data composed.
-ghost use Rattle.std.specs.Prelude.{◌≡◌, ◌==◌, not, ◌&&◌, []};
+ghost use Rattle.std.specs.Prelude.{◌≡◌, ◌==◌, not, ◌&&◌, [], IfOk};
 ghost use Rattle.std.specs.Prelude.{◌∷◌, ◌||◌};
 ghost use Rattle.definitions.specs.Name.{at_or_above, strictly_above, same};
 ghost use Rattle.answer.specs.Accepting.{among, is_meta, is_star, has_star, unlike_ttls};
 
 use crate::names::Name;
+use crate::plain::record::{Record, ZoneRecordData};
 use crate::plain::{Class, Rtype, Ttl};
+use std::alloc::{AllocError, Global};
 use std::cmp::Ordering;
 use std::marker::Model;
 
@@ -30,7 +32,84 @@ impl Model for HandedRecord {
     ghost view = { λ r. record { owner = r.owner; class = r.class; ttl = r.ttl; rtype = r.rtype; is_unknown = r.is_unknown; written = r.written.items; bytes = r.canonical.items } };
 }
 
+/// The data of one record: as spelled, and in canonical form.
+#[derive(Debug, Drop)]
+pub(crate) struct RecordData {
+    pub written: Vec<u8>,
+    pub canonical: Vec<u8>,
+}
+
+impl Model for RecordData {
+    ghost use Rattle.answer.specs.ZoneView.{Datum};
+
+    ghost Value = { Datum };
+
+    ghost view = { λ d. record { written = d.written.items; bytes = d.canonical.items } };
+}
+
 impl HandedRecord {
+    ghost use Rattle.answer.specs.ZoneView.{handed_of, data_of, is_of};
+
+    /// A record with its data composed.
+    pub fn new(alloc: Global, given: Record) -> Result<HandedRecord, AllocError>
+        ensures { IfOk result (λ r. r ≡ handed_of given) }
+    {
+        let Record { owner, class, ttl, rdata } = given;
+        let mut written = Vec::new(alloc);
+        rdata.compose_rdata(&mut written)?;
+        let mut canonical = Vec::new(alloc);
+        rdata.compose_canonical_rdata(&mut canonical)?;
+        let rtype = rdata.rtype();
+        let is_unknown = matches!(rdata, ZoneRecordData::Unknown(_));
+        Ok(HandedRecord {
+            owner,
+            class,
+            ttl,
+            rtype,
+            is_unknown,
+            written,
+            canonical,
+        })
+    }
+
+    /// The owner, as spelled.
+    pub fn owner(&self) -> &Name
+        ensures { result.now ≡ self.now.owner }
+    {
+        &self.owner
+    }
+
+    /// The type.
+    pub fn rtype(&self) -> Rtype
+        ensures { result ≡ self.now.rtype }
+    {
+        self.rtype
+    }
+
+    /// The TTL.
+    pub fn ttl(&self) -> Ttl
+        ensures { result ≡ self.now.ttl }
+    {
+        self.ttl
+    }
+
+    /// Whether the owner is of a name, up to case, and the type is this.
+    pub fn is_of(&self, name: &Name, rtype: Rtype) -> bool
+        ensures { result ≡ is_of name.now rtype self.now }
+    {
+        self.owner.name_eq(name) && self.rtype == rtype
+    }
+
+    /// The data, as spelled and in canonical form.
+    pub fn data(&self) -> Result<RecordData, AllocError>
+        ensures { IfOk result (λ d. d ≡ data_of self.now) }
+    {
+        Ok(RecordData {
+            written: self.written.clone()?,
+            canonical: self.canonical.clone()?,
+        })
+    }
+
     /// Whether the class is another than IN (RFC 1035, 3.2.4).
     pub fn is_of_other_class(&self) -> bool
         ensures { result ≡ not (self.now.class == 1) }

@@ -4,7 +4,7 @@ use Rattle.answer.specs.Accepting.{first_fault, record_cmp, sorted_records, unli
 use Rattle.answer.specs.ZoneView.{mode_of, neighbours}
 use Rattle.definitions.specs.ZoneChain.{optout_of}
 use Rattle.answer.proofs.ZoneFaults.{plain_from_none, unlike_ttls_are, IsPlain}
-use Rattle.answer.proofs.publisher.zone.ZoneRecords.new.Goals as goal
+use Rattle.answer.proofs.publisher.zone.ZoneRecords.of_handed.Goals as goal
 
 pub returns-then-has_unlike_neighbours-clause-fault : goal.returns-then-has_unlike_neighbours-clause-fault
 returns-then-has_unlike_neighbours-clause-fault c =
