@@ -26,3 +26,4 @@ pub mod KeyWhole
 pub mod NameWritten
 pub mod SignAnswer
 pub mod ZoneChains
+pub mod ZoneBitmap

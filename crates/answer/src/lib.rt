@@ -12,3 +12,4 @@ pub mod plain;
 pub mod publisher;
 pub mod question;
 pub mod scheme;
+pub mod simulate;

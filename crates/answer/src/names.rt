@@ -14,9 +14,12 @@ use std::cmp::Ordering;
 use std::marker::Model;
 
 pub mod parsed;
+mod shared;
 mod stars;
+mod text;
 
 pub use parsed::ParsedName;
+pub use text::{FromStrError, NameError};
 
 /// Octets that are read as one slice.
 pub trait Octets {

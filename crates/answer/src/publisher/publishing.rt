@@ -182,6 +182,13 @@ impl<'a, S: Scheme, H: Nsec3Hasher> Publisher<'a, S, H> {
         }
     }
 
+    /// The name of the zone.
+    pub fn apex(&self) -> &Name
+        ensures { result.now ≡ self.now.zone.apex }
+    {
+        self.zone.apex()
+    }
+
     /// The key set.
     pub fn key_set(&self) -> &KeySet
         ensures { result.now ≡ self.now.keys.keys }

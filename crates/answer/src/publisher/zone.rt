@@ -14,6 +14,8 @@ use crate::publisher::zone::sorting::{has_unlike_neighbours, sorted};
 use std::alloc::{AllocError, Global};
 use std::marker::Model;
 
+mod answers;
+mod bitmap;
 mod faults;
 mod handed;
 mod lookups;

@@ -47,6 +47,13 @@ impl Model for RecordData {
     ghost view = { λ d. record { written = d.written.items; bytes = d.canonical.items } };
 }
 
+impl RecordData {
+    /// The data as spelled, and in canonical form.
+    pub fn into_parts(self) -> (Vec<u8>, Vec<u8>) {
+        (self.written, self.canonical)
+    }
+}
+
 impl HandedRecord {
     ghost use Rattle.answer.specs.ZoneView.{handed_of, data_of, is_of};
 
@@ -98,6 +105,18 @@ impl HandedRecord {
         ensures { result ≡ is_of name.now rtype self.now }
     {
         self.owner.name_eq(name) && self.rtype == rtype
+    }
+
+    /// The lesser of the TTL and the last four octets of the data, which in an SOA record are its minimum
+    /// (RFC 1035, 3.3.13).
+    pub fn chain_ttl(&self) -> Ttl {
+        match self.canonical.as_slice() {
+            [.., a, b, c, d] => {
+                let minimum = u32::from_be_bytes([*a, *b, *c, *d]);
+                Ttl::from_secs(self.ttl.as_secs().min(minimum))
+            }
+            _ => self.ttl,
+        }
     }
 
     /// The data, as spelled and in canonical form.
