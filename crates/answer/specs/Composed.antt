@@ -16,7 +16,7 @@ abbrev pub IsWritten : (Dnskey → List ℕ → Option (List ℕ)) → (Dnskey �
 IsWritten sign verifies apex at life keys g ws =
     (signatures : List (List ℕ))
     × (AllZip (IsRrsigData sign verifies apex at life g) (if g.signed then keys else []) signatures
-      × (ws ≡ map (record_of g g.rtype) g.written ++ map (record_of g 46) signatures))
+    × (ws ≡ map (record_of g g.rtype) g.written ++ map (record_of g 46) signatures))
 
 -- the records of RRsets one after another
 abbrev pub joined : List (List Written) → List Written
@@ -27,7 +27,7 @@ abbrev pub IsSection : (Dnskey → List ℕ → Option (List ℕ)) → (Dnskey �
 IsSection sign verifies apex at life keys gs octets count =
     (pieces : List (List Written))
     × (AllZip (IsWritten sign verifies apex at life keys) gs pieces
-      × (octets ≡ flat_map record_octets (joined pieces)) × (count ≡ length (joined pieces)))
+    × (octets ≡ flat_map record_octets (joined pieces)) × (count ≡ length (joined pieces)))
 
 -- the message that answers a question with RRsets in its answer and authority sections
 pub record IsAnswer (sign : Dnskey → List ℕ → Option (List ℕ)) (verifies : Dnskey → List ℕ → List ℕ → Bool) (apex : Name) (at life : ℕ) (keys : List Dnskey) (flags : ℕ) (asked : Asked) (answer authority : List GroupView) (m : List ℕ) : Type 0 where

@@ -1,4 +1,5 @@
 //! A publisher of one signed zone whose keys roll.
+pub mod compose;
 pub mod fault;
 pub mod keys;
 pub mod publishing;
@@ -6,4 +7,3 @@ mod ranked;
 pub mod group;
 pub mod signing;
 mod zone;
-pub mod compose;

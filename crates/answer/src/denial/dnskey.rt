@@ -131,7 +131,9 @@ impl<Octs: Octets> Dnskey<Octs> {
         if self.algorithm.to_int() == 1 {
             return rsamd5_tag(octets);
         }
-        let head = u32::from(self.flags) + u32::from(self.protocol) * 256 + u32::from(self.algorithm.to_int());
+        let head = u32::from(self.flags)
+            + u32::from(self.protocol) * 256
+            + u32::from(self.algorithm.to_int());
         tag_of_sum(sum_of(octets).wrapping_add(head))
     }
 }
@@ -159,7 +161,11 @@ fn rsamd5_tag(octets: &[u8]) -> u16
     ensures { result ≡ (if nat_lt (length octets.now) 3 then 0 else slice_index octets.now (length octets.now - 3) * 256 + slice_index octets.now (length octets.now - 2)) }
 {
     let len = octets.len();
-    if len < 3 { 0 } else { u16::from(octets[len - 3]) * 256 + u16::from(octets[len - 2]) }
+    if len < 3 {
+        0
+    } else {
+        u16::from(octets[len - 3]) * 256 + u16::from(octets[len - 2])
+    }
 }
 
 /// The sum of octets as 16-bit numbers. A tag needs it modulo 2^32 only.
@@ -168,7 +174,11 @@ fn sum_of(octets: &[u8]) -> u32
 {
     let mut sum = 0u32;
     for (i, octet) in octets.iter().enumerate() {
-        let term = if i % 2 == 0 { u32::from(*octet) * 256 } else { u32::from(*octet) };
+        let term = if i % 2 == 0 {
+            u32::from(*octet) * 256
+        } else {
+            u32::from(*octet)
+        };
         sum = sum.wrapping_add(term);
     }
     sum
@@ -180,4 +190,46 @@ fn tag_of_sum(sum: u32) -> u16
 {
     let sum = u64::from(sum);
     ((sum + sum / 65536) % 65536) as u16
+}
+
+#[cfg(test)]
+mod tests {
+    use super::*;
+    use std::test::Fail;
+
+    #[test]
+    fn key_tags(rt: HostRuntime) {
+        let rows: [(u16, u8, &[u8], u16); 6] = [
+            (256, 8, &[], 1032),
+            (257, 13, &[0x00, 0x10], 1054),
+            (256, 13, &[0x00, 0x01, 0x00, 0x00], 1038),
+            (256, 13, &[0x00, 0x05, 0x00, 0x00], 1042),
+            (256, 1, &[0xAA, 0x12, 0x34, 0x56], 0x1234),
+            (256, 1, &[0xAA, 0x12], 0),
+        ];
+        for (flags, algorithm, octets, want) in rows {
+            let key = Dnskey::<&[u8]>::new(
+                flags,
+                3,
+                SecurityAlgorithm::from_int(algorithm),
+                octets,
+            );
+            assert_eq!(rt; key.key_tag(), want);
+        }
+    }
+
+    #[test]
+    fn record_data(rt: HostRuntime) -> Result<(), Fail> {
+        let data: &[u8] = &[1, 1, 3, 13, 0, 16];
+        let mut out = Vec::new(rt.alloc());
+        assert!(rt; Dnskey::from_rdata(&data[..3]).is_none());
+        if let Some(key) = Dnskey::from_rdata(data) {
+            assert!(rt; key.is_zone_key());
+            assert!(rt; key.same_key(&key.try_clone(rt.alloc())?));
+            assert_eq!(rt; key.key_tag(), 1054);
+            key.compose(&mut out)?;
+        }
+        assert_eq!(rt; out.as_slice(), data);
+        Ok(())
+    }
 }

@@ -11,7 +11,7 @@ use crate::names::Octets;
 use crate::plain::{Class, Rtype};
 use crate::publisher::fault::AnswerFault;
 use crate::publisher::group::RrGroup;
-use crate::publisher::signing::{sign_group, SignatureTerms};
+use crate::publisher::signing::{SignatureTerms, sign_group};
 use crate::question::Question;
 use crate::scheme::{Scheme, SchemeError};
 use std::alloc::{AllocError, Global};
@@ -93,7 +93,12 @@ fn signatures_of<S: Scheme, Octs: Octets>(
 
 impl Section {
     /// Writes records of one type at the owner of an RRset.
-    fn push_records(&mut self, group: &RrGroup, rtype: Rtype, datas: &[Vec<u8>]) -> Result<(), AnswerFault>
+    fn push_records(
+        &mut self,
+        group: &RrGroup,
+        rtype: Rtype,
+        datas: &[Vec<u8>],
+    ) -> Result<(), AnswerFault>
         ensures octets { OnOk result (self.new.octets.items ≡ self.old.octets.items ++ flat_map record_octets (map (record_of group.now rtype) (map (λ d. d.items) datas.now))) }
         ensures count { OnOk result (self.new.count ≡ self.old.count + length datas.now) }
     {
@@ -114,7 +119,14 @@ impl Section {
         if data.len() > LONGEST {
             return Err(AnswerFault::TooLong);
         }
-        push_record(&mut self.octets, group.owner(), rtype, Class::IN, group.ttl(), data)?;
+        push_record(
+            &mut self.octets,
+            group.owner(),
+            rtype,
+            Class::IN,
+            group.ttl(),
+            data,
+        )?;
         self.count = count;
         Ok(())
     }
@@ -142,5 +154,104 @@ impl From<SchemeError> for AnswerFault {
             SchemeError::Failed => AnswerFault::SignFailed,
             SchemeError::Memory => AnswerFault::Memory,
         }
+    }
+}
+
+#[cfg(test)]
+mod tests {
+    use super::*;
+    use crate::names::Name;
+    use crate::plain::{DigestAlgorithm, SecurityAlgorithm, Ttl};
+    use std::test::Fail;
+
+    /// Signs by a copy of the octets.
+    struct Copying;
+
+    impl Scheme for Copying {
+        ghost use Rattle.std.specs.Prelude.{Some, None};
+        ghost use Rattle.std.specs.Str.{bytes_eq};
+
+        ghost verifies = { λ _ _ octets signature. bytes_eq octets signature };
+
+        ghost signature_of = { λ _ _ octets. Some octets };
+
+        ghost digest_of = { λ _ _ _. None };
+
+        fn sign(
+            &self,
+            alloc: Global,
+            _key: &Dnskey<&[u8]>,
+            octets: &[u8],
+        ) -> Result<Vec<u8>, SchemeError> {
+            Ok(octets.to_vec(alloc)?)
+        }
+
+        fn verify(&self, _key: &Dnskey<&[u8]>, octets: &[u8], signature: &[u8]) -> bool {
+            octets == signature
+        }
+
+        fn digest(
+            &self,
+            _alloc: Global,
+            _algorithm: DigestAlgorithm,
+            _octets: &[u8],
+        ) -> Result<Vec<u8>, SchemeError> {
+            Err(SchemeError::Failed)
+        }
+    }
+
+    #[test]
+    fn an_answer_with_a_signature(rt: HostRuntime) -> Result<(), Fail> {
+        let alloc = rt.alloc();
+        let apex = Name::root(alloc);
+        let terms = SignatureTerms {
+            apex: &apex,
+            at: 0x1_0000_0005,
+            life: 10,
+        };
+        let octets: &[u8] = &[0, 1, 0, 0];
+        let keys = [Dnskey::<&[u8]>::new(256, 3, SecurityAlgorithm::ECDSAP256SHA256, octets)];
+        let address: &[u8] = &[192, 0, 2, 1];
+        let mut written = Vec::new(alloc);
+        written.push(address.to_vec(alloc)?)?;
+        let mut canonical = Vec::new(alloc);
+        canonical.push(address.to_vec(alloc)?)?;
+        let group = RrGroup::new(
+            Name::root(alloc),
+            0,
+            Rtype::A,
+            Ttl::from_secs(3600),
+            written,
+            canonical,
+            true,
+        );
+        let question = Question {
+            name: Name::root(alloc),
+            rtype: Rtype::A,
+            class: Class::IN,
+        };
+        let message = compose_answer(
+            alloc,
+            &Copying,
+            &terms,
+            &keys,
+            0x8400,
+            &question,
+            &[group],
+            &[],
+        )?;
+        // RFC 4034, 3.1: type A, algorithm 13, no labels, TTL, expiration 15, inception 5, tag 1038, the root
+        let fields: &[u8] = &[0, 1, 13, 0, 0, 0, 14, 16, 0, 0, 0, 15, 0, 0, 0, 5, 4, 14, 0];
+        let record: &[u8] = &[0, 0, 1, 0, 1, 0, 0, 14, 16, 0, 4, 192, 0, 2, 1];
+        let mut want = Vec::new(alloc);
+        want.extend_from_slice(&[0, 0, 0x84, 0, 0, 1, 0, 2, 0, 0, 0, 0])?;
+        want.extend_from_slice(&[0, 0, 1, 0, 1])?;
+        want.extend_from_slice(record)?;
+        want.extend_from_slice(&[0, 0, 46, 0, 1, 0, 0, 14, 16, 0, 53])?;
+        want.extend_from_slice(fields)?;
+        want.extend_from_slice(fields)?;
+        want.extend_from_slice(record)?;
+        assert_eq!(rt; message.as_slice(), want.as_slice());
+        Ok(())
     }
 }
