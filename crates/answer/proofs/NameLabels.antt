@@ -1,16 +1,15 @@
 -- The labels of a name within a message, one after another.
-use Rattle.std.proofs.Common.{◌≡◌, ℕ, zero, suc, ◌+◌, ◌-◌, ◌<◌, ◌≤◌, ◌⊎◌, inl, inr, Bool, true, false, ◌&&◌, List, [], ◌∷◌, ◌++◌, length, Some, None, Ok, Err, Option, Result, refl, sym, ap, subst, ◌∙◌, eqb, ltb, leb, append_assoc, length-drop, drop, arith}
+use Rattle.std.proofs.Common.{◌≡◌, ℕ, zero, suc, ◌+◌, ◌-◌, ◌<◌, ◌≤◌, ◌⊎◌, inl, inr, Bool, true, false, ◌&&◌, List, [], ◌∷◌, ◌++◌, length, Some, None, Ok, Err, Option, Result, refl, sym, ap, ◌∙◌, ltb, leb, append_assoc, length-drop, drop, arith}
 use Rattle.std.specs.Prelude.{slice_get, slice_range}
 use Rattle.std.specs.List.{AllByRecursion}
 use Rattle.std.specs.Result.{IsOk}
 use Rattle.std.specs.Option.{is_none}
 use Rattle.std.specs.Str.{bytes_eq, str_to_ascii_lowercase}
 use Rattle.std.proofs.lemmas.Slice.Eq.{bytes_eq-Decides}
-use Rattle.std.proofs.lemmas.Bool.{le-leb, lt-leb, lt-ltb, ltb-true, leb-true, cases_eq, cases_lt}
+use Rattle.std.proofs.lemmas.Bool.{le-leb, lt-ltb, ltb-true, leb-true, cases_eq, cases_lt}
 use Rattle.std.proofs.lemmas.List.{length-take-le, append-nil, drop_all}
 use Rattle.definitions.specs.Name.{Name, Label, IsLabel, IsName, wire_len, same}
 use Rattle.answer.specs.declared.message.MessageError.{MessageError}
-use Rattle.answer.specs.declared.message.MessageError.TheVariants.{ShortInput, Form}
 use Rattle.answer.specs.Message.{owner_at, if_true}
 use Rattle.answer.specs.View.{name_read, NameReads}
 use Rattle.answer.specs.Walk.{walk, label_here}
@@ -55,7 +54,7 @@ here_some m p n l g h =
       some = rw len (ltb-true 0 n b.0);
       short = rw len (leb-true n 63 b.1);
       inside = rw len inside;
-      are = ap (λ k. slice_range m (p + 1) (p + 1 + k)) len ∙ t.1
+      are = ap (λ k. slice_range m (p + 1) (p + 1 + k)) len ∙ t.1;
     }
 
 pub here : (m : List ℕ) (p : ℕ) (l : Label) → label_here m p ≡ Some l → Here m p l
@@ -89,6 +88,7 @@ walk_more h room m p l ls e w t = go (cases_lt room (length l + 2))
         let b : r.1 ≡ e = ap place_read f in
         record { rest = r.0; reads = g ∙ (λ i. Ok (r.0, b i)); are = a; fits = fits }
     front (Err x) g f fits = cc
+
     go : ((room < length l + 2) ⊎ (length l + 2 ≤ room)) → More h room m p l ls e
     go (inl full) = let x = walk_full h room m p (length l) t.get t.some t.short t.inside full in cc
     go (inr fits) =
@@ -105,12 +105,15 @@ walk_last h room m p ls e w none = go (slice_get m p) refl none
         let x : tests m p n ≡ true = (λ i. lt-ltb 0 n some i && le-leb n 63 near i && le-leb (p + 1 + n) (length m) inside i) in
         let y : Some (slice_range m (p + 1) (p + 1 + n)) ≡ None = ap (λ b. if_true b (slice_range m (p + 1) (p + 1 + n))) (sym x) ∙ t in
         cc
+
     near : (n : ℕ) → slice_get m p ≡ Some n → if_true (tests m p n) (slice_range m (p + 1) (p + 1 + n)) ≡ None → 0 < n → ((63 < n) ⊎ (n ≤ 63)) → ls ≡ []
     near n g t some (inl far) = let x = walk_far h room m p n g far in cc
     near n g t some (inr le) = short n g t some le (cases_lt (length m) (p + 1 + n))
+
     root : (n : ℕ) → slice_get m p ≡ Some n → if_true (tests m p n) (slice_range m (p + 1) (p + 1 + n)) ≡ None → ((n ≡ 0) ⊎ (n ≡ 0 → ⊥)) → ls ≡ []
     root n g t (inl z) = ap labels_read (sym w ∙ walk_root h room m p (g ∙ ap Some z))
     root n g t (inr nz) = near n g t (omega (arith, nz)) (cases_lt 63 n)
+
     go : (o : Option ℕ) → slice_get m p ≡ o → here_of m p o ≡ None → ls ≡ []
     go None g t = let x = walk_none h room m p g in cc
     go (Some n) g t = root n g t (cases_eq n 0)
@@ -154,9 +157,11 @@ pub left_more : (h : ℕ) (m : List ℕ) (p q : ℕ) (front : Name) (whole : Nam
 left_more h m p q front whole l left g s =
     let n = walk_more h left.room m p l left.rest left.behind left.reads (here m p l g) in
     record {
-      rest = n.rest; room = left.room - (length l + 1); behind = left.behind;
+      rest = n.rest;
+      room = left.room - (length l + 1);
+      behind = left.behind;
       reads = ap (λ at. walk h (left.room - (length l + 1)) m at) (sym s) ∙ n.reads;
-      joins = append_assoc front (l ∷ []) n.rest ∙ ap (λ k. front ++ k) (sym n.are) ∙ left.joins
+      joins = append_assoc front (l ∷ []) n.rest ∙ ap (λ k. front ++ k) (sym n.are) ∙ left.joins;
     }
 
 pub left_done : (h : ℕ) (m : List ℕ) (p : ℕ) (front whole : Name) → Left (suc h) m p front whole → label_here m p ≡ None → front ≡ whole
@@ -185,9 +190,11 @@ pub compared_more : (h : ℕ) (m : List ℕ) (p q i : ℕ) (whole other : Name) 
 compared_more h m p q i whole other l b c g d e s =
     let n = walk_more h c.room m p l c.rest c.behind c.reads (here m p l g) in
     record {
-      rest = n.rest; room = c.room - (length l + 1); behind = c.behind;
+      rest = n.rest;
+      room = c.room - (length l + 1);
+      behind = c.behind;
       reads = ap (λ at. walk h (c.room - (length l + 1)) m at) (sym s) ∙ n.reads;
-      tied = more_same h m p i whole other l b c n d ∙ ap (λ t. t && same n.rest (drop (i + 1) other)) ((bytes_eq-Decides (str_to_ascii_lowercase l) (str_to_ascii_lowercase b)).1 e)
+      tied = more_same h m p i whole other l b c n d ∙ ap (λ t. t && same n.rest (drop (i + 1) other)) ((bytes_eq-Decides (str_to_ascii_lowercase l) (str_to_ascii_lowercase b)).1 e);
     }
 
 pub compared_unlike : (h : ℕ) (m : List ℕ) (p i : ℕ) (whole other : Name) (l b : Label) → Compared (suc h) m p i whole other → label_here m p ≡ Some l → drop i other ≡ b ∷ drop (i + 1) other → bytes_eq (str_to_ascii_lowercase l) (str_to_ascii_lowercase b) ≡ false → same whole other ≡ false
@@ -205,6 +212,7 @@ compared_last h m p i whole other c past = go (label_here m p) refl
   where
     end : same whole other ≡ same c.rest []
     end = c.tied ∙ ap (same c.rest) (drop_all i other past)
+
     go : (o : Option Label) → label_here m p ≡ o → same whole other ≡ is_none o
     go None g = let e = walk_last h c.room m p c.rest c.behind c.reads g in end ∙ ap (λ n. same n []) e
     go (Some l) g = let n = walk_more h c.room m p l c.rest c.behind c.reads (here m p l g) in end ∙ ap (λ k. same k []) n.are

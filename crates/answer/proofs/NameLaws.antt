@@ -1,13 +1,13 @@
 -- What holds of names and of their parts.
-use Rattle.std.proofs.Common.{◌≡◌, ℕ, zero, suc, ◌+◌, ◌-◌, ◌*◌, ◌<◌, ◌≤◌, List, [], ◌∷◌, ◌++◌, length, drop, take, map, get_or, refl, sym, ap, ◌∙◌, length-append, append_assoc, lit<, lit≤, add-one, true, false, arith}
+use Rattle.std.proofs.Common.{◌≡◌, ℕ, zero, suc, ◌+◌, ◌*◌, ◌<◌, ◌≤◌, List, [], ◌∷◌, ◌++◌, length, drop, take, map, get_or, refl, sym, ap, ◌∙◌, append_assoc, lit<, lit≤, add-one, true, false, arith}
 use Rattle.std.specs.Prelude.{sum_by}
 use Rattle.std.specs.List.{AllByRecursion, flat_map}
-use Rattle.std.proofs.lemmas.List.Sums.{sum_by-cons, sum_by-append, sum_by_push}
+use Rattle.std.proofs.lemmas.List.Sums.{sum_by-cons, sum_by_push}
 use Rattle.std.proofs.lemmas.List.{drop-map, drop_more, get_or-map, length-map, map_more, take-map, append-nil}
 use Rattle.std.proofs.lemmas.List.Concat.{flat_map-append}
 use Rattle.definitions.specs.Signing.{label_count}
 use Rattle.answer.specs.Star.{begins_with_star}
-use Rattle.definitions.specs.Name.{Name, Label, IsLabel, IsName, wire, wire_len, low}
+use Rattle.definitions.specs.Name.{Name, Label, IsLabel, IsName, wire_len}
 
 pub wire_len-cons : (l : Label) (n : Name) → wire_len (l ∷ n) ≡ length l + 1 + wire_len n
 wire_len-cons l n = omega (arith, sum_by-cons (λ k. length k + 1) l n)
@@ -67,10 +67,12 @@ label_read f xs i x h e n =
     let k : length (get_or (map f xs) i []) ≡ length (f x) = ap length at in
     let s : sum_by (λ l. length l + 1) (take i (map f xs)) ≡ sum_by (λ l. length l + 1) (map f (take i xs)) = ap (λ m. sum_by (λ l. length l + 1) m) same in
     record {
-      some = omega (arith, l.some, k); short = omega (arith, l.short, k);
+      some = omega (arith, l.some, k);
+      short = omega (arith, l.short, k);
       room = omega (arith, r, k, s);
       len = ap wire_len t ∙ wire_len-push (map f (take i xs)) (f x);
-      taken = t; whole = n.short
+      taken = t;
+      whole = n.short;
     }
 
 -- the wire form of labels so far, with one more

@@ -1,16 +1,15 @@
 -- Orders of names, label by label.
-use Rattle.std.proofs.Common.{◌≡◌, ℕ, zero, suc, ◌+◌, ◌-◌, ◌<◌, ◌≤◌, ◌⊎◌, inl, inr, Bool, true, false, List, [], ◌∷◌, ◌++◌, length, drop, take, map, refl, sym, ap, subst, ◌∙◌, add-one, add-zero, append_assoc, length-append, ltb, get_or, min, arith}
-use Rattle.std.specs.Prelude.{Option, Some, None, slice_get, reverse}
+use Rattle.std.proofs.Common.{◌≡◌, ℕ, zero, suc, ◌+◌, ◌-◌, ◌<◌, ◌≤◌, ◌⊎◌, inl, inr, Bool, true, false, List, [], ◌∷◌, ◌++◌, length, drop, take, map, refl, sym, ap, ◌∙◌, add-one, get_or, min, arith}
+use Rattle.std.specs.Prelude.{Some, None, slice_get, reverse}
 use Rattle.std.specs.Str.{str_to_ascii_lowercase}
 use Rattle.std.specs.declared.cmp.Ordering.{Ordering}
 use Rattle.std.specs.declared.cmp.Ordering.TheVariants.{Less, Equal, Greater}
-use Rattle.std.specs.Ordering.{nat_cmp, ordering_then, is_ne, MatchOrdering}
+use Rattle.std.specs.Ordering.{nat_cmp, ordering_then, is_ne}
 use Rattle.std.specs.Cmp.Lexicographic.{slice_cmp}
 use Rattle.std.proofs.lemmas.List.{map-append, reverse-append, length-map, length-reverse, length-take-le, length-drop, take_all, drop_all, drop-map, drop_more}
-use Rattle.std.proofs.lemmas.Cmp.{nat_cmp_total, tied_itself, ranked}
 use Rattle.std.specs.Char.{to_ascii_lowercase}
 use Rattle.std.proofs.lemmas.Bool.Decides.{nat_tests}
-use Rattle.std.proofs.lemmas.Bool.{cases_lt, lt-ltb, le-ltb, ne_eqb, cases_eq}
+use Rattle.std.proofs.lemmas.Bool.{cases_lt, lt-ltb, le-ltb, ne_eqb}
 use Rattle.definitions.specs.Name.{Name, Label, low, from_root, name_cmp}
 
 pub none_past : {X : Type 0} (xs : List X) (i : ℕ) → None ≡ slice_get xs i → length xs ≤ i
@@ -109,21 +108,25 @@ lowered_ends a b i e = go (cases_lt (length a) (length b))
   where
     la : length (str_to_ascii_lowercase a) ≡ length a
     la = length-map a to_ascii_lowercase
+
     lb : length (str_to_ascii_lowercase b) ≡ length b
     lb = length-map b to_ascii_lowercase
+
     some : (xs : List ℕ) → 0 < length xs → slice_cmp nat_cmp [] xs ≡ Less
     some [] h = absurd (omega arith)
     some (x ∷ xs) h = refl
+
     more : (xs : List ℕ) → slice_cmp nat_cmp xs [] ≡ nat_cmp (length xs) 0
     more xs = cmp_to_nil nat_cmp xs
+
     go : ((length a < length b) ⊎ (length b ≤ length a)) → nat_cmp (length a) (length b) ≡ lowered_from a b i
     go (inl l) =
         rw (drop_all i (str_to_ascii_lowercase a) (omega (arith, la, e)))
-          (less_is (length a) (length b) l ∙ sym (some (drop i (str_to_ascii_lowercase b)) (omega (arith, e, lb, length-drop i (str_to_ascii_lowercase b)))))
+        (less_is (length a) (length b) l ∙ sym (some (drop i (str_to_ascii_lowercase b)) (omega (arith, e, lb, length-drop i (str_to_ascii_lowercase b)))))
     go (inr l) =
         let k : length a - length b ≡ length (drop i (str_to_ascii_lowercase a)) = omega (arith, e, la, length-drop i (str_to_ascii_lowercase a)) in
         rw (drop_all i (str_to_ascii_lowercase b) (omega (arith, lb, e)))
-          (shifted (length a) (length b) l ∙ ap (λ j. nat_cmp j 0) k ∙ sym (more (drop i (str_to_ascii_lowercase a))))
+        (shifted (length a) (length b) l ∙ ap (λ j. nat_cmp j 0) k ∙ sym (more (drop i (str_to_ascii_lowercase a))))
 
 -- the code's test of an answer that decides before the rest
 pub stops_here : (whole o p rest : Ordering) (t : Bool) → whole ≡ ordering_then o rest → p ≡ o → t ≡ is_ne p → t ≡ true → p ≡ whole

@@ -6,5 +6,4 @@ ghost use Rattle.answer.specs.WrittenLaws.{NamesReadBack};
 /// and 4.1.4).
 pub fn names_read_back()
     ensures { NamesReadBack }
-{
-}
+{}

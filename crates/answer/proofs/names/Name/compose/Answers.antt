@@ -1,7 +1,7 @@
-use Rattle.std.proofs.Common.{◌≡◌, ◌++◌, ◌∷◌, ◌+◌, [], map, rules, arith, sym, ◌∙◌, ap, take, length, append_assoc}
+use Rattle.std.proofs.Common.{◌≡◌, ◌++◌, ◌∷◌, [], map, arith, ◌∙◌, ap, take, length, append_assoc}
 use Rattle.std.specs.List.{flat_map}
 use Rattle.std.proofs.lemmas.List.{take_all}
-use Rattle.definitions.specs.Name.{IsName, Name, wire}
+use Rattle.definitions.specs.Name.{IsName}
 use Rattle.answer.proofs.NameLaws.{label_read, spelled_more}
 use Rattle.answer.proofs.names.Name.compose.Goals as goal
 
@@ -16,8 +16,8 @@ loop-label-preserved c =
     let n : IsName (map (λ v. v.items) c.deref-label-items.result.now) = rw c.deref-label-items.ensures.value c.self.invariant in
     let r = label_read (λ v. v.items) c.deref-label-items.result.now c.loop-label.label-index c.label-item.result c.loop-label-test.true c.label-item.is n in
     spelled_more c.args.out.now.items c.loop-label.out.items c.push.new.self.items c.extend_from_slice.new.self.items c.len.result _ c.label-item.result.items _
-      r.taken c.loop-label.invariant c.in_ok-push.ensures.items (c.in_ok-extend_from_slice.ensures.items ∙ ap (λ s. c.push.new.self.items ++ s) c.deref.ensures.value)
-      (c.len.ensures ∙ c.label-item.result.ok.0)
+    r.taken c.loop-label.invariant c.in_ok-push.ensures.items (c.in_ok-extend_from_slice.ensures.items ∙ ap (λ s. c.push.new.self.items ++ s) c.deref.ensures.value)
+    (c.len.ensures ∙ c.label-item.result.ok.0)
 
 pub returns : goal.returns
 returns c =

@@ -1,6 +1,5 @@
-use Rattle.std.proofs.Common.{◌≡◌, ℕ, suc, ◌+◌, ◌-◌, ◌<◌, ◌≤◌, List, [], ◌∷◌, Some, None, Option, Bool, true, false, not, map, length, drop, get_or, refl, sym, ap, subst, ◌∙◌, arith}
+use Rattle.std.proofs.Common.{◌≡◌, ℕ, suc, ◌+◌, ◌-◌, ◌<◌, ◌≤◌, List, ◌∷◌, Some, None, Option, Bool, true, false, not, map, length, drop, refl, sym, ap, subst, ◌∙◌, arith}
 use Rattle.std.specs.Option.{is_none, option_map}
-use Rattle.std.specs.Str.{bytes_eq, str_to_ascii_lowercase}
 use Rattle.std.proofs.lemmas.List.{length-map}
 use Rattle.definitions.specs.Name.{Name, Label, IsName}
 use Rattle.answer.proofs.NameEnds.{unlike}
