@@ -52,7 +52,7 @@ here_some m p n l g h =
       some = rw len (ltb-true 0 n b.0);
       short = rw len (leb-true n 63 b.1);
       inside = rw len inside;
-      are = ap (λ k. slice_range m (p + 1) (p + 1 + k)) len ∙ t.1
+      are = ap (λ k. slice_range m (p + 1) (p + 1 + k)) len ∙ t.1;
     }
 
 pub here : (m : List ℕ) (p : ℕ) (l : Label) → label_here m p ≡ Some l → Here m p l
@@ -86,6 +86,7 @@ walk_more h room m p l ls e w t = go (cases_lt room (length l + 2))
         let b : r.1 ≡ e = ap place_read f in
         record { rest = r.0; reads = g ∙ (λ i. Ok (r.0, b i)); are = a; fits = fits }
     front (Err x) g f fits = cc
+
     go : ((room < length l + 2) ⊎ (length l + 2 ≤ room)) → More h room m p l ls e
     go (inl full) = let x = walk_full h room m p (length l) t.get t.some t.short t.inside full in cc
     go (inr fits) =
@@ -102,12 +103,15 @@ walk_last h room m p ls e w none = go (slice_get m p) refl none
         let x : tests m p n ≡ true = (λ i. lt-ltb 0 n some i && le-leb n 63 near i && le-leb (p + 1 + n) (length m) inside i) in
         let y : Some (slice_range m (p + 1) (p + 1 + n)) ≡ None = ap (λ b. if_true b (slice_range m (p + 1) (p + 1 + n))) (sym x) ∙ t in
         cc
+
     near : (n : ℕ) → slice_get m p ≡ Some n → if_true (tests m p n) (slice_range m (p + 1) (p + 1 + n)) ≡ None → 0 < n → ((63 < n) ⊎ (n ≤ 63)) → ls ≡ []
     near n g t some (inl far) = let x = walk_far h room m p n g far in cc
     near n g t some (inr le) = short n g t some le (cases_lt (length m) (p + 1 + n))
+
     root : (n : ℕ) → slice_get m p ≡ Some n → if_true (tests m p n) (slice_range m (p + 1) (p + 1 + n)) ≡ None → ((n ≡ 0) ⊎ (n ≡ 0 → ⊥)) → ls ≡ []
     root n g t (inl z) = ap labels_read (sym w ∙ walk_root h room m p (g ∙ ap Some z))
     root n g t (inr nz) = near n g t (omega (arith, nz)) (cases_lt 63 n)
+
     go : (o : Option ℕ) → slice_get m p ≡ o → here_of m p o ≡ None → ls ≡ []
     go None g t = let x = walk_none h room m p g in cc
     go (Some n) g t = root n g t (cases_eq n 0)
@@ -151,9 +155,11 @@ pub left_more : (h : ℕ) (m : List ℕ) (p q : ℕ) (front : Name) (whole : Nam
 left_more h m p q front whole l left g s =
     let n = walk_more h left.room m p l left.rest left.behind left.reads (here m p l g) in
     record {
-      rest = n.rest; room = left.room - (length l + 1); behind = left.behind;
+      rest = n.rest;
+      room = left.room - (length l + 1);
+      behind = left.behind;
       reads = ap (λ at. walk h (left.room - (length l + 1)) m at) (sym s) ∙ n.reads;
-      joins = append_assoc front (l ∷ []) n.rest ∙ ap (λ k. front ++ k) (sym n.are) ∙ left.joins
+      joins = append_assoc front (l ∷ []) n.rest ∙ ap (λ k. front ++ k) (sym n.are) ∙ left.joins;
     }
 
 pub left_done : (h : ℕ) (m : List ℕ) (p : ℕ) (front whole : Name) → Left (suc h) m p front whole → label_here m p ≡ None → front ≡ whole

@@ -67,10 +67,12 @@ label_read f xs i x h e n =
     let k : length (get_or (map f xs) i []) ≡ length (f x) = ap length at in
     let s : sum_by (λ l. length l + 1) (take i (map f xs)) ≡ sum_by (λ l. length l + 1) (map f (take i xs)) = ap (λ m. sum_by (λ l. length l + 1) m) same in
     record {
-      some = omega (arith, l.some, k); short = omega (arith, l.short, k);
+      some = omega (arith, l.some, k);
+      short = omega (arith, l.short, k);
       room = omega (arith, r, k, s);
       len = ap wire_len t ∙ wire_len-push (map f (take i xs)) (f x);
-      taken = t; whole = n.short
+      taken = t;
+      whole = n.short;
     }
 
 -- the wire form of labels so far, with one more

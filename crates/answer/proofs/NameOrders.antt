@@ -109,21 +109,25 @@ lowered_ends a b i e = go (cases_lt (length a) (length b))
   where
     la : length (str_to_ascii_lowercase a) ≡ length a
     la = length-map a to_ascii_lowercase
+
     lb : length (str_to_ascii_lowercase b) ≡ length b
     lb = length-map b to_ascii_lowercase
+
     some : (xs : List ℕ) → 0 < length xs → slice_cmp nat_cmp [] xs ≡ Less
     some [] h = absurd (omega arith)
     some (x ∷ xs) h = refl
+
     more : (xs : List ℕ) → slice_cmp nat_cmp xs [] ≡ nat_cmp (length xs) 0
     more xs = cmp_to_nil nat_cmp xs
+
     go : ((length a < length b) ⊎ (length b ≤ length a)) → nat_cmp (length a) (length b) ≡ lowered_from a b i
     go (inl l) =
         rw (drop_all i (str_to_ascii_lowercase a) (omega (arith, la, e)))
-          (less_is (length a) (length b) l ∙ sym (some (drop i (str_to_ascii_lowercase b)) (omega (arith, e, lb, length-drop i (str_to_ascii_lowercase b)))))
+        (less_is (length a) (length b) l ∙ sym (some (drop i (str_to_ascii_lowercase b)) (omega (arith, e, lb, length-drop i (str_to_ascii_lowercase b)))))
     go (inr l) =
         let k : length a - length b ≡ length (drop i (str_to_ascii_lowercase a)) = omega (arith, e, la, length-drop i (str_to_ascii_lowercase a)) in
         rw (drop_all i (str_to_ascii_lowercase b) (omega (arith, lb, e)))
-          (shifted (length a) (length b) l ∙ ap (λ j. nat_cmp j 0) k ∙ sym (more (drop i (str_to_ascii_lowercase a))))
+        (shifted (length a) (length b) l ∙ ap (λ j. nat_cmp j 0) k ∙ sym (more (drop i (str_to_ascii_lowercase a))))
 
 -- the code's test of an answer that decides before the rest
 pub stops_here : (whole o p rest : Ordering) (t : Bool) → whole ≡ ordering_then o rest → p ≡ o → t ≡ is_ne p → t ≡ true → p ≡ whole

@@ -90,7 +90,11 @@ impl Name {
         ensures { IfOk result (λ n. n ≡ drop (length self.now - count) self.now) }
     {
         let mut labels = Vec::with_capacity(alloc, count)?;
-        push_labels(alloc, &mut labels, &self.labels[self.labels.len() - count..])?;
+        push_labels(
+            alloc,
+            &mut labels,
+            &self.labels[self.labels.len() - count..],
+        )?;
         Ok(Name { labels })
     }
 
@@ -259,7 +263,9 @@ fn lowered_cmp(a: &[u8], b: &[u8]) -> Ordering
     ensures { result ≡ slice_cmp nat_cmp (str_to_ascii_lowercase a.now) (str_to_ascii_lowercase b.now) }
 {
     for index in 0..a.len().min(b.len()) {
-        let order = a[index].to_ascii_lowercase().cmp(&b[index].to_ascii_lowercase());
+        let order = a[index]
+            .to_ascii_lowercase()
+            .cmp(&b[index].to_ascii_lowercase());
         if order.is_ne() {
             return order;
         }

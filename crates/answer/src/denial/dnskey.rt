@@ -131,7 +131,9 @@ impl<Octs: Octets> Dnskey<Octs> {
         if self.algorithm.to_int() == 1 {
             return rsamd5_tag(octets);
         }
-        let head = u32::from(self.flags) + u32::from(self.protocol) * 256 + u32::from(self.algorithm.to_int());
+        let head = u32::from(self.flags)
+            + u32::from(self.protocol) * 256
+            + u32::from(self.algorithm.to_int());
         tag_of_sum(sum_of(octets).wrapping_add(head))
     }
 }
@@ -159,7 +161,11 @@ fn rsamd5_tag(octets: &[u8]) -> u16
     ensures { result ≡ (if nat_lt (length octets.now) 3 then 0 else slice_index octets.now (length octets.now - 3) * 256 + slice_index octets.now (length octets.now - 2)) }
 {
     let len = octets.len();
-    if len < 3 { 0 } else { u16::from(octets[len - 3]) * 256 + u16::from(octets[len - 2]) }
+    if len < 3 {
+        0
+    } else {
+        u16::from(octets[len - 3]) * 256 + u16::from(octets[len - 2])
+    }
 }
 
 /// The sum of octets as 16-bit numbers. A tag needs it modulo 2^32 only.
@@ -168,7 +174,11 @@ fn sum_of(octets: &[u8]) -> u32
 {
     let mut sum = 0u32;
     for (i, octet) in octets.iter().enumerate() {
-        let term = if i % 2 == 0 { u32::from(*octet) * 256 } else { u32::from(*octet) };
+        let term = if i % 2 == 0 {
+            u32::from(*octet) * 256
+        } else {
+            u32::from(*octet)
+        };
         sum = sum.wrapping_add(term);
     }
     sum

@@ -1,14 +1,12 @@
 //! Records as a zone holds them (RFC 1035, 3.2.1).
 ghost use Rattle.std.specs.Prelude.{◌≡◌, ◌<◌, ◌++◌, ◌↔◌, length, IfOk, OnOk, IsErr};
 
-use std::alloc::AllocError;
-use std::marker::Model;
-
-use thiserror::Error;
-
 use crate::message::write::push_u32;
 use crate::names::Name;
 use crate::plain::{Class, Rtype, Ttl};
+use std::alloc::AllocError;
+use std::marker::Model;
+use thiserror::Error;
 
 /// The data of an SOA record (RFC 1035, 3.3.13).
 #[derive(Debug, Drop)]

@@ -32,7 +32,12 @@ pub fn signed_octets(
 }
 
 /// What each record of a signed RRset begins with.
-fn signed_head(alloc: Global, fields: &ProtoRrsig, owner: &Name, class: Class) -> Result<Vec<u8>, AllocError>
+fn signed_head(
+    alloc: Global,
+    fields: &ProtoRrsig,
+    owner: &Name,
+    class: Class,
+) -> Result<Vec<u8>, AllocError>
     ensures { IfOk result (λ v. v.items ≡ record_head (signed_owner fields.now.labels owner.now) fields.now.covered class fields.now.ttl) }
 {
     let mut head = Vec::new(alloc);
@@ -44,7 +49,12 @@ fn signed_head(alloc: Global, fields: &ProtoRrsig, owner: &Name, class: Class) -
 }
 
 /// Writes the owner in canonical form, or the wildcard that it stems from (RFC 4035, 5.3.2).
-fn compose_signed_owner(alloc: Global, labels: u8, owner: &Name, out: &mut Vec<u8>) -> Result<(), AllocError>
+fn compose_signed_owner(
+    alloc: Global,
+    labels: u8,
+    owner: &Name,
+    out: &mut Vec<u8>,
+) -> Result<(), AllocError>
     ensures ok { OnOk result (out.new.items ≡ out.old.items ++ wire (signed_owner labels owner.now)) }
 {
     if labels >= owner.rrsig_label_count() {

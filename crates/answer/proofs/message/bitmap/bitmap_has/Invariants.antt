@@ -7,5 +7,5 @@ use Rattle.answer.proofs.message.bitmap.bitmap_has.Given as goal
 abbrev pub invariant-loop : goal.invariant-loop
 invariant-loop l = record {
   tied : found (windows_upto (length l.bytes) l.bytes) l.rtype ≡ found (windows_upto (length l.bytes - l.counter) l.rest) l.rtype;
-  some : IsSome (windows_upto (length l.bytes - l.counter) l.rest)
+  some : IsSome (windows_upto (length l.bytes - l.counter) l.rest);
 }

@@ -16,7 +16,7 @@ pub returns-in-None : goal.returns-in-None
 returns-in-None c =
     let n = length c.args.bytes.now in
     sym (c.loop.invariant ∙ ap (λ k. is_some (windows_upto k c.loop.rest)) (one_less n c.loop.counter (omega arith))
-      ∙ is_none_upto (n - (c.loop.counter + 1)) c.loop.rest (sym c.in-None.ensures.value) (test_some c.loop.rest c.is_empty.result c.is_empty.ensures c.if-is_empty.false))
+    ∙ is_none_upto (n - (c.loop.counter + 1)) c.loop.rest (sym c.in-None.ensures.value) (test_some c.loop.rest c.is_empty.result c.is_empty.ensures c.if-is_empty.false))
 
 pub loop-preserved : goal.loop-preserved
 loop-preserved c =

@@ -16,8 +16,8 @@ loop-label-preserved c =
     let n : IsName (map (λ v. v.items) c.deref-label-items.result.now) = rw c.deref-label-items.ensures.value c.self.invariant in
     let r = label_read (λ v. v.items) c.deref-label-items.result.now c.loop-label.label-index c.label-item.result c.loop-label-test.true c.label-item.is n in
     spelled_more c.args.out.now.items c.loop-label.out.items c.push.new.self.items c.extend_from_slice.new.self.items c.len.result _ c.label-item.result.items _
-      r.taken c.loop-label.invariant c.in_ok-push.ensures.items (c.in_ok-extend_from_slice.ensures.items ∙ ap (λ s. c.push.new.self.items ++ s) c.deref.ensures.value)
-      (c.len.ensures ∙ c.label-item.result.ok.0)
+    r.taken c.loop-label.invariant c.in_ok-push.ensures.items (c.in_ok-extend_from_slice.ensures.items ∙ ap (λ s. c.push.new.self.items ++ s) c.deref.ensures.value)
+    (c.len.ensures ∙ c.label-item.result.ok.0)
 
 pub returns : goal.returns
 returns c =

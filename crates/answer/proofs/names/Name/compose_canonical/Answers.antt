@@ -20,8 +20,8 @@ loop-label-preserved c =
     let lowered = str_to_ascii_lowercase c.label-item.result.items in
     let taken = ap low r.taken ∙ map-append str_to_ascii_lowercase _ (c.label-item.result.items ∷ []) in
     spelled_more c.args.out.now.items c.loop-label.out.items c.push.new.self.items c.push_lowered.new.out.items c.len.result _ lowered _
-      taken c.loop-label.invariant c.in_ok-push.ensures.items (c.in_ok-push_lowered.ensures ∙ ap (λ s. c.push.new.self.items ++ str_to_ascii_lowercase s) c.deref.ensures.value)
-      (c.len.ensures ∙ c.label-item.result.ok.0 ∙ sym (length-map c.label-item.result.items to_ascii_lowercase))
+    taken c.loop-label.invariant c.in_ok-push.ensures.items (c.in_ok-push_lowered.ensures ∙ ap (λ s. c.push.new.self.items ++ str_to_ascii_lowercase s) c.deref.ensures.value)
+    (c.len.ensures ∙ c.label-item.result.ok.0 ∙ sym (length-map c.label-item.result.items to_ascii_lowercase))
 
 pub returns : goal.returns
 returns c =
@@ -29,4 +29,3 @@ returns c =
     let e : map (λ v. v.items) (take c.loop-label.label-index c.deref-label-items.result.now) ≡ c.args.self.now = ap (map (λ v. v.items)) (t ∙ c.deref-label-items.ensures.value) ∙ c.self.view_is in
     let i : c.loop-label.out.items ≡ c.args.out.now.items ++ flat_map (λ k. length k ∷ k) (low c.args.self.now) = c.loop-label.invariant ∙ ap (λ m. c.args.out.now.items ++ flat_map (λ k. length k ∷ k) (low m)) e in
     record { ok = c.in_ok-push-2.ensures.items ∙ ap (λ s. s ++ 0 ∷ []) i ∙ append_assoc c.args.out.now.items (flat_map (λ k. length k ∷ k) (low c.args.self.now)) (0 ∷ []) }
-

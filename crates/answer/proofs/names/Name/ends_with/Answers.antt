@@ -12,7 +12,7 @@ loop-index-init c =
     record {
       tied = ends-begins c.args.base.now c.args.self.now (c.len-2.result - c.len-count.result + 0) (omega (arith, c.len-count.ensures, c.len-2.ensures, c.len.ensures));
       count = c.len-count.ensures;
-      whole = omega (arith, c.len-count.ensures, c.len-2.ensures, c.len.ensures)
+      whole = omega (arith, c.len-count.ensures, c.len-2.ensures, c.len.ensures);
     }
 
 pub loop-index-preserved : goal.loop-index-preserved
@@ -24,7 +24,7 @@ loop-index-preserved c =
     record {
       tied = c.loop-index.invariant.tied ∙ s ∙ ap (λ k. begins_with (drop k c.args.self.now) (drop (i + 1) c.args.base.now)) (add_assoc j i 1);
       count = c.loop-index.invariant.count;
-      whole = c.loop-index.invariant.whole
+      whole = c.loop-index.invariant.whole;
     }
 
 pub returns-then-not-eq_ignore_ascii_case : goal.returns-then-not-eq_ignore_ascii_case

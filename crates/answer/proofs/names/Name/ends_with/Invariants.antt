@@ -7,5 +7,5 @@ abbrev pub invariant-loop-index : goal.invariant-loop-index
 invariant-loop-index l = record {
   tied : at_or_above l.base l.self ≡ begins_with (drop (l.skipped + l.index) l.self) (drop l.index l.base);
   count : l.count ≡ length l.base;
-  whole : l.skipped + l.count ≡ length l.self
+  whole : l.skipped + l.count ≡ length l.self;
 }

@@ -14,7 +14,7 @@ loop-left-init c =
     record {
       tied = λ t. name_cmp (sym (take_whole a _ c.len-left.ensures) t) (sym (take_whole b _ c.len-right.ensures) t);
       left = omega (arith, c.len-left.ensures);
-      right = omega (arith, c.len-right.ensures)
+      right = omega (arith, c.len-right.ensures);
     }
 
 pub returns-then-is_ne : goal.returns-then-is_ne
@@ -38,7 +38,7 @@ loop-left-preserved c =
     record {
       tied = goes_on _ _ c.lowered_cmp-order.result (name_cmp (take (c.loop-left.left - 1) a) (take (c.loop-left.right - 1) b)) c.is_ne.result (c.loop-left.invariant.tied ∙ s) e c.is_ne.ensures c.if-is_ne.false;
       left = omega (arith, c.loop-left.invariant.left);
-      right = omega (arith, c.loop-left.invariant.right)
+      right = omega (arith, c.loop-left.invariant.right);
     }
 
 pub returns-in_default : goal.returns-in_default
@@ -52,5 +52,5 @@ returns c =
     let a = c.args.self.now in
     let b = c.args.other.now in
     c.cmp.ensures ∙ name_cmp_ends a b c.loop-left.left c.loop-left.right c.loop-left.invariant.left c.loop-left.invariant.right
-      (elim c.loop-left-test.branch [ then-loop-left-test+else-right-gt0 w ↦ inr (omega arith) | else-loop-left-test w ↦ inl (omega arith) ])
+    (elim c.loop-left-test.branch [ then-loop-left-test+else-right-gt0 w ↦ inr (omega arith) | else-loop-left-test w ↦ inl (omega arith) ])
     ∙ sym c.loop-left.invariant.tied

@@ -17,9 +17,9 @@ loop-preserved c =
     let g : slice_get m c.loop.at ≡ Some n = item_there m c.loop.at n (omega (arith, t.3.0)) t.1 in
     record {
       tied = c.loop.invariant.tied ∙ ap (λ h. behind_walk (walk h c.loop.room m c.loop.at)) (heads c.loop.counter c.loop-test.true)
-        ∙ behind_label (128 - (c.loop.counter + 1)) c.loop.room m c.loop.at n (c.loop.at + (n + 1)) g (omega arith) c.if-size-gt63.false (omega (arith, t.3.0)) c.if-size-room.false (omega arith);
+          ∙ behind_label (128 - (c.loop.counter + 1)) c.loop.room m c.loop.at n (c.loop.at + (n + 1)) g (omega arith) c.if-size-gt63.false (omega (arith, t.3.0)) c.if-size-room.false (omega arith);
       room = omega (arith, c.loop.invariant.room);
-      onward = omega (arith, c.loop.invariant.onward)
+      onward = omega (arith, c.loop.invariant.onward);
     }
 
 pub returns-in-None : goal.returns-in-None
@@ -27,8 +27,9 @@ returns-in-None c =
     let m = c.args.message.now in
     record {
       exact = c.loop.invariant.tied ∙ ap (λ h. behind_walk (walk h c.loop.room m c.loop.at)) (heads c.loop.counter c.loop-test.true)
-        ∙ ap behind_walk (walk_none (128 - (c.loop.counter + 1)) c.loop.room m c.loop.at (nothing_past m c.loop.at (ltb-false c.loop.at (length m) (sym c.in-None.ensures.lookup.0))));
-      inside = tt; before = tt
+          ∙ ap behind_walk (walk_none (128 - (c.loop.counter + 1)) c.loop.room m c.loop.at (nothing_past m c.loop.at (ltb-false c.loop.at (length m) (sym c.in-None.ensures.lookup.0))));
+      inside = tt;
+      before = tt;
     }
 
 pub returns-then-size-eq0 : goal.returns-then-size-eq0
@@ -39,9 +40,9 @@ returns-then-size-eq0 c =
     let g : slice_get m c.loop.at ≡ Some n = item_there m c.loop.at n (omega (arith, t.3.0)) t.1 in
     record {
       exact = c.loop.invariant.tied ∙ ap (λ h. behind_walk (walk h c.loop.room m c.loop.at)) (heads c.loop.counter c.loop-test.true)
-        ∙ ap behind_walk (walk_root (128 - (c.loop.counter + 1)) c.loop.room m c.loop.at (g ∙ ap Some c.if-size-eq0.true));
+          ∙ ap behind_walk (walk_root (128 - (c.loop.counter + 1)) c.loop.room m c.loop.at (g ∙ ap Some c.if-size-eq0.true));
       inside = omega (arith, t.3.0);
-      before = omega (arith, c.loop.invariant.onward)
+      before = omega (arith, c.loop.invariant.onward);
     }
 
 pub returns-then-size-gt63 : goal.returns-then-size-gt63
@@ -52,8 +53,9 @@ returns-then-size-gt63 c =
     let g : slice_get m c.loop.at ≡ Some n = item_there m c.loop.at n (omega (arith, t.3.0)) t.1 in
     record {
       exact = c.loop.invariant.tied ∙ ap (λ h. behind_walk (walk h c.loop.room m c.loop.at)) (heads c.loop.counter c.loop-test.true)
-        ∙ ap behind_walk (walk_far (128 - (c.loop.counter + 1)) c.loop.room m c.loop.at n g c.if-size-gt63.true);
-      inside = tt; before = tt
+          ∙ ap behind_walk (walk_far (128 - (c.loop.counter + 1)) c.loop.room m c.loop.at n g c.if-size-gt63.true);
+      inside = tt;
+      before = tt;
     }
 
 pub returns-then-message-at : goal.returns-then-message-at
@@ -64,8 +66,9 @@ returns-then-message-at c =
     let g : slice_get m c.loop.at ≡ Some n = item_there m c.loop.at n (omega (arith, t.3.0)) t.1 in
     record {
       exact = c.loop.invariant.tied ∙ ap (λ h. behind_walk (walk h c.loop.room m c.loop.at)) (heads c.loop.counter c.loop-test.true)
-        ∙ ap behind_walk (walk_short (128 - (c.loop.counter + 1)) c.loop.room m c.loop.at n g (omega arith) c.if-size-gt63.false (omega (arith, t.3.0)));
-      inside = tt; before = tt
+          ∙ ap behind_walk (walk_short (128 - (c.loop.counter + 1)) c.loop.room m c.loop.at n g (omega arith) c.if-size-gt63.false (omega (arith, t.3.0)));
+      inside = tt;
+      before = tt;
     }
 
 pub returns-then-size-room : goal.returns-then-size-room
@@ -76,8 +79,9 @@ returns-then-size-room c =
     let g : slice_get m c.loop.at ≡ Some n = item_there m c.loop.at n (omega (arith, t.3.0)) t.1 in
     record {
       exact = c.loop.invariant.tied ∙ ap (λ h. behind_walk (walk h c.loop.room m c.loop.at)) (heads c.loop.counter c.loop-test.true)
-        ∙ ap behind_walk (walk_full (128 - (c.loop.counter + 1)) c.loop.room m c.loop.at n g (omega arith) c.if-size-gt63.false (omega (arith, t.3.0)) c.if-size-room.true);
-      inside = tt; before = tt
+          ∙ ap behind_walk (walk_full (128 - (c.loop.counter + 1)) c.loop.room m c.loop.at n g (omega arith) c.if-size-gt63.false (omega (arith, t.3.0)) c.if-size-room.true);
+      inside = tt;
+      before = tt;
     }
 
 pub returns : goal.returns

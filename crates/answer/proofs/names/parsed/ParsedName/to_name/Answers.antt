@@ -24,7 +24,7 @@ loop-preserved c =
     let front : Name = map (λ v. v.items) c.loop.labels.items in
     let left = next c.loop.counter m c.loop.at front c.args.self.now c.loop-test.true c.loop.invariant in
     let f : map (λ v. v.items) c.push.new.self.items ≡ front ++ l ∷ [] =
-      ap (map (λ v. v.items)) c.in_ok-push.ensures.items ∙ map_push (λ v. v.items) c.loop.labels.items c.in_ok-from_slice.field-0 ∙ ap (λ k. front ++ k ∷ []) c.in_ok-from_slice.ensures.items in
+    ap (map (λ v. v.items)) c.in_ok-push.ensures.items ∙ map_push (λ v. v.items) c.loop.labels.items c.in_ok-from_slice.field-0 ∙ ap (λ k. front ++ k ∷ []) c.in_ok-from_slice.ensures.items in
     rw f (left_more (128 - (c.loop.counter + 1)) m c.loop.at (c.loop.at + (1 + length l)) front c.args.self.now l left (sym c.in-Some.ensures.value) (omega arith))
 
 pub from_labels-requires : goal.from_labels-requires

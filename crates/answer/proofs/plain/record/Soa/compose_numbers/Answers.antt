@@ -15,4 +15,4 @@ returns c =
     let y = grow old (b s.serial ++ b s.refresh) c.push_u32-2.new.out.items (b s.retry) c.push_u32-3.new.out.items x c.in_ok-push_u32-3.ensures in
     let z = grow old (b s.serial ++ b s.refresh ++ b s.retry) c.push_u32-3.new.out.items (b s.expire) c.push_u32-4.new.out.items y c.in_ok-push_u32-4.ensures in
     IfOk-equal c.push_u32-5.result c.push_u32-5.new.out.items (c.push_u32-4.new.out.items ++ b s.minimum) _ c.push_u32-5.ensures
-      (grow old (b s.serial ++ b s.refresh ++ b s.retry ++ b s.expire) c.push_u32-4.new.out.items (b s.minimum) _ z refl)
+    (grow old (b s.serial ++ b s.refresh ++ b s.retry ++ b s.expire) c.push_u32-4.new.out.items (b s.minimum) _ z refl)
