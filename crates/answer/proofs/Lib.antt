@@ -9,3 +9,4 @@ pub mod NameLaws
 pub mod JudgeRecords
 pub mod JudgeClosest
 pub mod NameWalk
+pub mod NameWritten

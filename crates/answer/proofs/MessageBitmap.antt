@@ -1,8 +1,8 @@
 -- Sets of types, window by window.
-use Rattle.std.proofs.Common.{◌≡◌, ℕ, zero, suc, ◌+◌, ◌-◌, ◌/◌, ◌<◌, ◌≤◌, Bool, true, false, ◌&&◌, List, [], ◌∷◌, length, take, drop, Some, None, Option, refl, sym, ap, ◌∙◌, eqb, leb, cond, arith}
+use Rattle.std.proofs.Common.{◌≡◌, ℕ, zero, suc, ◌/◌, ◌<◌, Bool, true, false, ◌&&◌, List, [], ◌∷◌, length, take, drop, Some, None, Option, refl, sym, ap, ◌∙◌, eqb, leb, cond, arith}
 use Rattle.std.specs.Option.{is_some, IsSome}
 use Rattle.std.proofs.lemmas.Bool.{ne_eqb}
-use Rattle.definitions.specs.Bitmap.{windows_upto, in_windows, bit_in}
+use Rattle.definitions.specs.Bitmap.{windows_upto, bit_in}
 use Rattle.answer.specs.Message.{if_true}
 use Rattle.answer.specs.Windows.{Split, split, first_window, found}
 

@@ -1,13 +1,15 @@
 -- The labels of a name within a message, one after another.
-use Rattle.std.proofs.Common.{◌≡◌, ℕ, zero, suc, ◌+◌, ◌-◌, ◌<◌, ◌≤◌, ◌⊎◌, inl, inr, Bool, true, false, ◌&&◌, List, [], ◌∷◌, ◌++◌, length, Some, None, Ok, Err, Option, Result, refl, sym, ap, subst, ◌∙◌, eqb, ltb, leb, append_assoc, length-drop, arith}
+use Rattle.std.proofs.Common.{◌≡◌, ℕ, zero, suc, ◌+◌, ◌-◌, ◌<◌, ◌≤◌, ◌⊎◌, inl, inr, Bool, true, false, ◌&&◌, List, [], ◌∷◌, ◌++◌, length, Some, None, Ok, Err, Option, Result, refl, sym, ap, ◌∙◌, ltb, leb, append_assoc, length-drop, drop, arith}
 use Rattle.std.specs.Prelude.{slice_get, slice_range}
 use Rattle.std.specs.List.{AllByRecursion}
 use Rattle.std.specs.Result.{IsOk}
-use Rattle.std.proofs.lemmas.Bool.{le-leb, lt-leb, lt-ltb, ltb-true, leb-true, cases_eq, cases_lt}
-use Rattle.std.proofs.lemmas.List.{length-take-le, append-nil}
-use Rattle.definitions.specs.Name.{Name, Label, IsLabel, IsName, wire_len}
+use Rattle.std.specs.Option.{is_none}
+use Rattle.std.specs.Str.{bytes_eq, str_to_ascii_lowercase}
+use Rattle.std.proofs.lemmas.Slice.Eq.{bytes_eq-Decides}
+use Rattle.std.proofs.lemmas.Bool.{le-leb, lt-ltb, ltb-true, leb-true, cases_eq, cases_lt}
+use Rattle.std.proofs.lemmas.List.{length-take-le, append-nil, drop_all}
+use Rattle.definitions.specs.Name.{Name, Label, IsLabel, IsName, wire_len, same}
 use Rattle.answer.specs.declared.message.MessageError.{MessageError}
-use Rattle.answer.specs.declared.message.MessageError.TheVariants.{ShortInput, Form}
 use Rattle.answer.specs.Message.{owner_at, if_true}
 use Rattle.answer.specs.View.{name_read, NameReads}
 use Rattle.answer.specs.Walk.{walk, label_here}
@@ -169,3 +171,48 @@ left_done h m p front whole left g =
 
 pub left_none : (m : List ℕ) (p : ℕ) (front whole : Name) → Left 0 m p front whole → ⊥
 left_none m p front whole left = let x = walk_zero left.room m p in let y = left.reads in cc
+
+-- two names so far the same, from one place of each on
+pub record Compared (h : ℕ) (m : List ℕ) (p i : ℕ) (whole other : Name) : Type 0 where
+  pub rest : Name
+  pub room : ℕ
+  pub behind : ℕ
+  pub reads : walk h room m p ≡ Ok (rest, behind)
+  pub tied : same whole other ≡ same rest (drop i other)
+
+pub compared_all : (m : List ℕ) (p : ℕ) (whole other : Name) → NameReads m p → name_read m p ≡ whole → Compared 128 m p 0 whole other
+compared_all m p whole other h e = let w = name_walk m p h in record { rest = name_read m p; room = 255; behind = w.0; reads = w.1; tied = ap (λ n. same n other) (sym e) }
+
+more_same : (h : ℕ) (m : List ℕ) (p i : ℕ) (whole other : Name) (l b : Label) → (c : Compared (suc h) m p i whole other) → (n : More h c.room m p l c.rest c.behind) → drop i other ≡ b ∷ drop (i + 1) other → same whole other ≡ (bytes_eq (str_to_ascii_lowercase l) (str_to_ascii_lowercase b) && same n.rest (drop (i + 1) other))
+more_same h m p i whole other l b c n d = c.tied ∙ (λ t. same (n.are t) (d t))
+
+pub compared_more : (h : ℕ) (m : List ℕ) (p q i : ℕ) (whole other : Name) (l b : Label) → Compared (suc h) m p i whole other → label_here m p ≡ Some l → drop i other ≡ b ∷ drop (i + 1) other → str_to_ascii_lowercase l ≡ str_to_ascii_lowercase b → p + 1 + length l ≡ q → Compared h m q (i + 1) whole other
+compared_more h m p q i whole other l b c g d e s =
+    let n = walk_more h c.room m p l c.rest c.behind c.reads (here m p l g) in
+    record {
+      rest = n.rest;
+      room = c.room - (length l + 1);
+      behind = c.behind;
+      reads = ap (λ at. walk h (c.room - (length l + 1)) m at) (sym s) ∙ n.reads;
+      tied = more_same h m p i whole other l b c n d ∙ ap (λ t. t && same n.rest (drop (i + 1) other)) ((bytes_eq-Decides (str_to_ascii_lowercase l) (str_to_ascii_lowercase b)).1 e);
+    }
+
+pub compared_unlike : (h : ℕ) (m : List ℕ) (p i : ℕ) (whole other : Name) (l b : Label) → Compared (suc h) m p i whole other → label_here m p ≡ Some l → drop i other ≡ b ∷ drop (i + 1) other → bytes_eq (str_to_ascii_lowercase l) (str_to_ascii_lowercase b) ≡ false → same whole other ≡ false
+compared_unlike h m p i whole other l b c g d e =
+    let n = walk_more h c.room m p l c.rest c.behind c.reads (here m p l g) in
+    more_same h m p i whole other l b c n d ∙ ap (λ t. t && same n.rest (drop (i + 1) other)) e
+
+pub compared_short : (h : ℕ) (m : List ℕ) (p i : ℕ) (whole other : Name) (b : Label) → Compared (suc h) m p i whole other → label_here m p ≡ None → drop i other ≡ b ∷ drop (i + 1) other → same whole other ≡ false
+compared_short h m p i whole other b c g d =
+    let e = walk_last h c.room m p c.rest c.behind c.reads g in
+    c.tied ∙ (λ t. same (e t) (d t))
+
+pub compared_last : (h : ℕ) (m : List ℕ) (p i : ℕ) (whole other : Name) → Compared (suc h) m p i whole other → length other ≤ i → same whole other ≡ is_none (label_here m p)
+compared_last h m p i whole other c past = go (label_here m p) refl
+  where
+    end : same whole other ≡ same c.rest []
+    end = c.tied ∙ ap (same c.rest) (drop_all i other past)
+
+    go : (o : Option Label) → label_here m p ≡ o → same whole other ≡ is_none o
+    go None g = let e = walk_last h c.room m p c.rest c.behind c.reads g in end ∙ ap (λ n. same n []) e
+    go (Some l) g = let n = walk_more h c.room m p l c.rest c.behind c.reads (here m p l g) in end ∙ ap (λ k. same k []) n.are

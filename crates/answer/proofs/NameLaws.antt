@@ -1,13 +1,13 @@
 -- What holds of names and of their parts.
-use Rattle.std.proofs.Common.{◌≡◌, ℕ, zero, suc, ◌+◌, ◌-◌, ◌*◌, ◌<◌, ◌≤◌, List, [], ◌∷◌, ◌++◌, length, drop, take, map, get_or, refl, sym, ap, ◌∙◌, length-append, append_assoc, lit<, lit≤, add-one, true, false, arith}
+use Rattle.std.proofs.Common.{◌≡◌, ℕ, zero, suc, ◌+◌, ◌*◌, ◌<◌, ◌≤◌, List, [], ◌∷◌, ◌++◌, length, drop, take, map, get_or, refl, sym, ap, ◌∙◌, append_assoc, lit<, lit≤, add-one, true, false, arith}
 use Rattle.std.specs.Prelude.{sum_by}
 use Rattle.std.specs.List.{AllByRecursion, flat_map}
-use Rattle.std.proofs.lemmas.List.Sums.{sum_by-cons, sum_by-append, sum_by_push}
-use Rattle.std.proofs.lemmas.List.{drop-map, get_or-map, length-map, map_more, take-map, append-nil}
+use Rattle.std.proofs.lemmas.List.Sums.{sum_by-cons, sum_by_push}
+use Rattle.std.proofs.lemmas.List.{drop-map, drop_more, get_or-map, length-map, map_more, take-map, append-nil}
 use Rattle.std.proofs.lemmas.List.Concat.{flat_map-append}
 use Rattle.definitions.specs.Signing.{label_count}
 use Rattle.answer.specs.Star.{begins_with_star}
-use Rattle.definitions.specs.Name.{Name, Label, IsLabel, IsName, wire, wire_len, low}
+use Rattle.definitions.specs.Name.{Name, Label, IsLabel, IsName, wire_len}
 
 pub wire_len-cons : (l : Label) (n : Name) → wire_len (l ∷ n) ≡ length l + 1 + wire_len n
 wire_len-cons l n = omega (arith, sum_by-cons (λ k. length k + 1) l n)
@@ -114,3 +114,11 @@ last_labels f xs ys from new n k j e h g v s = e ∙ (λ t. map f (h t) ++ map f
 -- one more part behind what was written so far
 pub grow : (old acc x b y : List ℕ) → x ≡ old ++ acc → y ≡ x ++ b → y ≡ old ++ (acc ++ b)
 grow old acc x b y h g = g ∙ ap (λ s. s ++ b) h ∙ append_assoc old acc b
+
+-- the label at a place of a name and those behind it
+pub label_drop : {X : Type 0} (f : X → Label) (xs : List X) (i : ℕ) (x : X) (n : Name) → i < length xs → x ≡ get_or xs i x → map f xs ≡ n → drop i n ≡ f x ∷ drop (i + 1) n
+label_drop f xs i x n h e v =
+    ap (drop i) (sym v) ∙ drop-map f i xs ∙ ap (map f) (drop_more xs i x h) ∙ (λ t. f (sym e t) ∷ sym (drop-map f (i + 1) xs) t) ∙ ap (λ m. f x ∷ drop (i + 1) m) v
+
+pub wire_len-some : (n : Name) → 1 ≤ wire_len n
+wire_len-some n = omega arith

@@ -1,9 +1,9 @@
 -- Reading a name without pointers, step by step.
-use Rattle.std.proofs.Common.{◌≡◌, ℕ, zero, suc, ◌+◌, ◌-◌, ◌<◌, ◌≤◌, ◌⊎◌, inl, inr, Bool, true, false, List, [], ◌∷◌, ◌++◌, length, Some, None, Ok, Err, Option, Result, refl, sym, ap, subst, ◌∙◌, eqb, ltb, leb, arith}
+use Rattle.std.proofs.Common.{◌≡◌, ℕ, zero, suc, ◌+◌, ◌-◌, ◌<◌, ◌≤◌, Bool, true, false, List, [], ◌∷◌, length, Some, None, Ok, Err, Option, Result, refl, ap, ◌∙◌, eqb, leb, arith}
 use Rattle.std.specs.Prelude.{slice_get, slice_range}
-use Rattle.std.proofs.lemmas.Bool.{le-leb, lt-leb, lt-ltb, ne_eqb}
+use Rattle.std.proofs.lemmas.Bool.{le-leb, lt-leb, ne_eqb}
 use Rattle.definitions.specs.Name.{Name, Label}
-use Rattle.definitions.specs.Reading.{ReadFault, Short, Malformed, Run, End, AtRoot, To, most_heads, run_at, with_label, pointer_at, name_at}
+use Rattle.definitions.specs.Reading.{ReadFault, Short, Malformed, Run, AtRoot, To, most_heads, run_at, with_label}
 use Rattle.answer.specs.declared.message.MessageError.{MessageError}
 use Rattle.answer.specs.declared.message.MessageError.TheVariants.{ShortInput, Form}
 use Rattle.answer.specs.Message.{owner_at, fault_of}

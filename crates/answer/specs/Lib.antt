@@ -15,3 +15,4 @@ pub mod Written
 pub mod Facts
 pub mod Rrsig
 pub mod Star
+pub mod WrittenLaws

@@ -1,6 +1,6 @@
 -- Messages by the field layout of RFC 1035, 4: one question, and the records of all sections in order. The
 -- first argument is how many pointers may be followed in a name.
-use Rattle.std.specs.Prelude.{ℕ, zero, suc, ◌+◌, ◌*◌, Bool, true, false, ◌&&◌, ◌==◌, List, [], ◌∷◌, ◌++◌, length, Option, Some, None, Result, Ok, Err, slice_get, slice_range, slice_index, nat_le, nat_eq, if◌then◌else◌}
+use Rattle.std.specs.Prelude.{ℕ, zero, suc, ◌+◌, ◌*◌, Bool, true, false, List, [], ◌∷◌, ◌++◌, length, Option, Some, None, Result, Ok, Err, slice_get, slice_range, slice_index, nat_le, nat_eq}
 use Rattle.definitions.specs.Name.{Name, wire, low}
 use Rattle.definitions.specs.Signing.{Fields}
 use Rattle.definitions.specs.Bitmap.{is_bitmap}

@@ -1,5 +1,5 @@
 -- The readings of records and of their data, as contracts see them.
-use Rattle.std.specs.Prelude.{ℕ, List, Option, Some, None}
+use Rattle.std.specs.Prelude.{ℕ, List}
 use Rattle.definitions.specs.Name.{Name, low}
 use Rattle.definitions.specs.Signing.{Fields}
 use Rattle.answer.specs.Message.{Spelled}

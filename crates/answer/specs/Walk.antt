@@ -1,5 +1,5 @@
 -- A name without pointers, read label by label.
-use Rattle.std.specs.Prelude.{ℕ, ◌+◌, ◌&&◌, List, [], ◌∷◌, length, Option, Some, None, Result, Ok, Err, slice_get, slice_range, nat_le, nat_lt}
+use Rattle.std.specs.Prelude.{ℕ, ◌+◌, ◌&&◌, List, length, Option, Some, None, Result, Ok, Err, slice_get, slice_range, nat_le, nat_lt}
 use Rattle.definitions.specs.Name.{Name, Label}
 use Rattle.definitions.specs.Reading.{ReadFault, Run, run_at}
 use Rattle.answer.specs.declared.message.MessageError.{MessageError}

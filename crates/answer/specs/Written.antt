@@ -1,7 +1,7 @@
 -- Messages as they are written (RFC 1035, 4.1): one question, no compression.
-use Rattle.std.specs.Prelude.{ℕ, List, [], ◌∷◌, ◌++◌, length}
+use Rattle.std.specs.Prelude.{ℕ, List, ◌++◌, length}
 use Rattle.std.specs.List.{flat_map}
-use Rattle.std.specs.Int.{w16, w32, to_be_bytes}
+use Rattle.std.specs.Int.{w16, to_be_bytes}
 use Rattle.definitions.specs.Name.{Name, wire}
 use Rattle.definitions.specs.Signing.{canonical_record}
 use Rattle.answer.specs.Message.{Asked}

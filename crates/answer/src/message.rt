@@ -2,6 +2,7 @@
 use thiserror::Error;
 
 pub(crate) mod bitmap;
+pub mod laws;
 mod octets;
 pub(crate) mod rdata;
 pub mod view;
@@ -22,3 +23,6 @@ pub enum MessageError {
     #[error("message has not one question")]
     NotOneQuestion,
 }
+
+#[cfg(test)]
+mod tests;

@@ -70,10 +70,13 @@ impl<'a> ParsedName<'a> {
     {
         let mut at = self.start;
         for label in &other.labels {
-            match label_at(self.message, at) {
-                Some(octets) if octets.eq_ignore_ascii_case(label) => at += 1 + octets.len(),
-                _ => return false,
+            let Some(octets) = label_at(self.message, at) else {
+                return false;
+            };
+            if !octets.eq_ignore_ascii_case(label) {
+                return false;
             }
+            at += 1 + octets.len();
         }
         label_at(self.message, at).is_none()
     }

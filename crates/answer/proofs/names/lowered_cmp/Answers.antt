@@ -1,6 +1,5 @@
-use Rattle.std.proofs.Common.{◌≡◌, ◌+◌, ◌∙◌, length, get_or, sym, min, ◌<◌, arith}
-use Rattle.std.specs.Ordering.{nat_cmp, is_ne}
-use Rattle.std.specs.Char.{to_ascii_lowercase}
+use Rattle.std.proofs.Common.{◌+◌, ◌∙◌, sym, arith}
+use Rattle.std.specs.Ordering.{nat_cmp}
 use Rattle.answer.proofs.NameOrders.{lowered_from, lowered_at, lowered_ends, stops_here, goes_on}
 use Rattle.answer.proofs.names.lowered_cmp.Goals as goal
 

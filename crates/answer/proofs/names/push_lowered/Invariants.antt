@@ -1,4 +1,4 @@
-use Rattle.std.proofs.Common.{◌≡◌, ◌++◌, map, take}
+use Rattle.std.proofs.Common.{◌≡◌, ◌++◌, take}
 use Rattle.std.specs.Str.{str_to_ascii_lowercase}
 use Rattle.answer.proofs.names.push_lowered.Given as goal
 

@@ -1,4 +1,4 @@
-use Rattle.std.proofs.Common.{◌≡◌, ℕ, suc, ◌+◌, ◌-◌, ◌<◌, List, length, sym, ap, ◌∙◌, arith}
+use Rattle.std.proofs.Common.{◌≡◌, ℕ, suc, ◌+◌, ◌-◌, ◌<◌, length, sym, ap, ◌∙◌, arith}
 use Rattle.std.specs.Option.{is_some}
 use Rattle.std.proofs.lemmas.Bool.{eqb-true}
 use Rattle.definitions.specs.Bitmap.{windows_upto}
@@ -10,22 +10,27 @@ one_less n i h = omega arith
 
 pub returns-then-is_empty : goal.returns-then-is_empty
 returns-then-is_empty c =
-    sym (c.loop.invariant ∙ nothing_upto (length c.args.bytes.now - c.loop.counter) c.loop.rest (eqb-true (length c.loop.rest) 0 (sym c.is_empty.ensures ∙ c.if-is_empty.true)))
+    sym (c.loop.invariant ∙ nothing_upto (length c.args.bytes.now - c.loop.counter) c.loop.rest.now (eqb-true (length c.loop.rest.now) 0 (sym c.is_empty.ensures ∙ c.if-is_empty.true)))
 
 pub returns-in-None : goal.returns-in-None
 returns-in-None c =
     let n = length c.args.bytes.now in
+<<<<<<< HEAD
     sym (c.loop.invariant ∙ ap (λ k. is_some (windows_upto k c.loop.rest)) (one_less n c.loop.counter (omega arith))
     ∙ is_none_upto (n - (c.loop.counter + 1)) c.loop.rest (sym c.in-None.ensures.value) (test_some c.loop.rest c.is_empty.result c.is_empty.ensures c.if-is_empty.false))
+=======
+    sym (c.loop.invariant ∙ ap (λ k. is_some (windows_upto k c.loop.rest.now)) (one_less n c.loop.counter (omega arith))
+    ∙ is_none_upto (n - (c.loop.counter + 1)) c.loop.rest.now (sym c.in-None.ensures.value) (test_some c.loop.rest.now c.is_empty.result c.is_empty.ensures c.if-is_empty.false))
+>>>>>>> messages
 
 pub loop-preserved : goal.loop-preserved
 loop-preserved c =
     let n = length c.args.bytes.now in
-    c.loop.invariant ∙ ap (λ k. is_some (windows_upto k c.loop.rest)) (one_less n c.loop.counter (omega arith))
-    ∙ is_some_upto (n - (c.loop.counter + 1)) c.loop.rest _ (sym c.in-Some.ensures.value)
+    c.loop.invariant ∙ ap (λ k. is_some (windows_upto k c.loop.rest.now)) (one_less n c.loop.counter (omega arith))
+    ∙ is_some_upto (n - (c.loop.counter + 1)) c.loop.rest.now _ (sym c.in-Some.ensures.value)
 
 pub returns : goal.returns
 returns c =
     let n = length c.args.bytes.now in
     let e : n - c.loop.counter ≡ 0 = omega arith in
-    c.is_empty-2.ensures ∙ sym (c.loop.invariant ∙ ap (λ k. is_some (windows_upto k c.loop.rest)) e ∙ last_upto c.loop.rest)
+    c.is_empty-2.ensures ∙ sym (c.loop.invariant ∙ ap (λ k. is_some (windows_upto k c.loop.rest.now)) e ∙ last_upto c.loop.rest.now)

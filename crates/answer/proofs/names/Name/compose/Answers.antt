@@ -1,7 +1,7 @@
-use Rattle.std.proofs.Common.{◌≡◌, ◌++◌, ◌∷◌, ◌+◌, [], map, rules, arith, sym, ◌∙◌, ap, take, length, append_assoc}
+use Rattle.std.proofs.Common.{◌≡◌, ◌++◌, ◌∷◌, [], map, arith, ◌∙◌, ap, take, length, append_assoc}
 use Rattle.std.specs.List.{flat_map}
 use Rattle.std.proofs.lemmas.List.{take_all}
-use Rattle.definitions.specs.Name.{IsName, Name, wire}
+use Rattle.definitions.specs.Name.{IsName}
 use Rattle.answer.proofs.NameLaws.{label_read, spelled_more}
 use Rattle.answer.proofs.names.Name.compose.Goals as goal
 

@@ -1,9 +1,9 @@
-use Rattle.std.proofs.Common.{◌≡◌, ◌++◌, ◌∷◌, ◌+◌, [], map, rules, arith, sym, ◌∙◌, ap, take, length, append_assoc}
+use Rattle.std.proofs.Common.{◌≡◌, ◌++◌, ◌∷◌, [], map, arith, sym, ◌∙◌, ap, take, length, append_assoc}
 use Rattle.std.specs.List.{flat_map}
 use Rattle.std.specs.Str.{str_to_ascii_lowercase}
 use Rattle.std.specs.Char.{to_ascii_lowercase}
 use Rattle.std.proofs.lemmas.List.{take_all, map-append, length-map}
-use Rattle.definitions.specs.Name.{IsName, Name, wire, low}
+use Rattle.definitions.specs.Name.{IsName, low}
 use Rattle.answer.proofs.NameLaws.{label_read, spelled_more}
 use Rattle.answer.proofs.names.Name.compose_canonical.Goals as goal
 

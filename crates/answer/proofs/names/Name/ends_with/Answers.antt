@@ -1,5 +1,4 @@
-use Rattle.std.proofs.Common.{◌≡◌, ◌∙◌, ◌+◌, ◌-◌, ◌≤◌, Bool, false, true, IsTrue, length, map, sym, ap, refl, add_assoc, arith, drop}
-use Rattle.std.specs.Char.{to_ascii_lowercase}
+use Rattle.std.proofs.Common.{◌∙◌, ◌+◌, ◌-◌, sym, ap, refl, add_assoc, arith, drop}
 use Rattle.answer.proofs.NameOrders.{none_past}
 use Rattle.answer.proofs.NameEnds.{begins_with, ends_short, ends-begins, begins_none, begins_differs, begins_agrees, unlike}
 use Rattle.answer.proofs.names.Name.ends_with.Goals as goal

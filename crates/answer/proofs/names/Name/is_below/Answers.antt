@@ -1,4 +1,4 @@
-use Rattle.std.proofs.Common.{◌≡◌, ◌∙◌, sym, arith}
+use Rattle.std.proofs.Common.{◌∙◌, sym, arith}
 use Rattle.std.proofs.lemmas.Bool.{le-ltb}
 use Rattle.answer.proofs.NameEnds.{strictly-ends, strictly_short}
 use Rattle.answer.proofs.names.Name.is_below.Goals as goal

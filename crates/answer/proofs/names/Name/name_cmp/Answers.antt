@@ -1,7 +1,4 @@
-use Rattle.std.proofs.Common.{◌≡◌, ◌∙◌, ◌-◌, inl, inr, length, take, sym, arith}
-use Rattle.std.specs.Ordering.{ordering_then, nat_cmp}
-use Rattle.std.specs.Cmp.Lexicographic.{slice_cmp}
-use Rattle.std.specs.Str.{str_to_ascii_lowercase}
+use Rattle.std.proofs.Common.{◌∙◌, ◌-◌, inl, inr, take, sym, arith}
 use Rattle.definitions.specs.Name.{name_cmp}
 use Rattle.answer.proofs.NameOrders.{stops_here, goes_on, name_cmp-take, name_cmp_ends, take_whole, none_past}
 use Rattle.answer.proofs.names.Name.name_cmp.Goals as goal

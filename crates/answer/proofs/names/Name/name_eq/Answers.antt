@@ -1,4 +1,4 @@
-use Rattle.std.proofs.Common.{◌≡◌, ◌∙◌, sym, arith}
+use Rattle.std.proofs.Common.{◌∙◌, sym, arith}
 use Rattle.std.proofs.lemmas.Bool.{ne_eqb}
 use Rattle.answer.proofs.NameEnds.{same-ends, other_length}
 use Rattle.answer.proofs.names.Name.name_eq.Goals as goal

@@ -1,4 +1,4 @@
-use Rattle.std.proofs.Common.{◌≡◌, ◌∙◌, ◌-◌, ◌≤◌, map, sym, ap, arith, length}
+use Rattle.std.proofs.Common.{◌∙◌, sym, ap, arith, length}
 use Rattle.std.proofs.lemmas.List.{length-map}
 use Rattle.answer.proofs.NameLaws.{few_labels, star_counted, star_some, unstarred}
 use Rattle.answer.proofs.names.Name.rrsig_label_count.Goals as goal

@@ -1,4 +1,4 @@
-use Rattle.std.proofs.Common.{◌≡◌, ◌-◌, drop, length, map, ap, sym, ◌∙◌, refl, arith}
+use Rattle.std.proofs.Common.{◌-◌, drop, length, ap, ◌∙◌, arith}
 use Rattle.std.proofs.lemmas.List.{take_rest, length-map}
 use Rattle.definitions.specs.Name.{IsName}
 use Rattle.answer.proofs.NameLaws.{last_labels, IsName-drop}

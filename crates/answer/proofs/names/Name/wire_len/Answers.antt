@@ -1,4 +1,4 @@
-use Rattle.std.proofs.Common.{◌≡◌, map, rules, arith, sym, ◌∙◌, ap, take, length}
+use Rattle.std.proofs.Common.{map, arith, ◌∙◌, ap}
 use Rattle.std.proofs.lemmas.List.{take_all}
 use Rattle.definitions.specs.Name.{IsName, wire_len}
 use Rattle.answer.proofs.NameLaws.{label_read}

@@ -1,4 +1,3 @@
-use Rattle.std.proofs.Common.{◌≡◌, sym}
 use Rattle.std.proofs.lemmas.Result.{err_from_is_err_and}
 use Rattle.answer.proofs.NameWalk.{owner_ok, owner_err, reads_ok}
 use Rattle.answer.proofs.names.parsed.ParsedName.parse.Goals as goal

@@ -1,7 +1,6 @@
-use Rattle.std.proofs.Common.{◌≡◌, ℕ, suc, ◌+◌, ◌-◌, ◌<◌, ◌≤◌, List, [], ◌∷◌, ◌++◌, Some, Option, map, length, sym, ap, subst, ◌∙◌, arith}
+use Rattle.std.proofs.Common.{◌≡◌, ℕ, suc, ◌+◌, ◌-◌, ◌<◌, ◌≤◌, List, [], ◌∷◌, ◌++◌, map, length, sym, ap, subst, ◌∙◌, arith}
 use Rattle.std.proofs.lemmas.List.{map_push}
-use Rattle.definitions.specs.Name.{Name, Label}
-use Rattle.answer.specs.Walk.{label_here}
+use Rattle.definitions.specs.Name.{Name}
 use Rattle.answer.proofs.NameLabels.{Left, left_all, left_more, left_done, left_none, name_is}
 use Rattle.answer.proofs.names.parsed.ParsedName.to_name.Goals as goal
 
