@@ -9,6 +9,10 @@ use Rattle.std.specs.Prelude.{nat_lt, if◌then◌else◌}
 use Rattle.std.specs.Str.{str_to_ascii_lowercase}
 use Rattle.definitions.specs.Name.{Name, wire, low}
 use Rattle.definitions.specs.Signing.{Fields, fields_data, label_count, signed_owner, signed_octets, canonical_record}
+use Rattle.std.proofs.lemmas.List.Folds.{flat_map-map}
+use Rattle.answer.specs.Written.{record_octets}
+use Rattle.answer.specs.GroupView.{GroupView}
+use Rattle.answer.specs.Composed.{record_of}
 use Rattle.answer.specs.Rrsig.{record_head, with_length}
 
 -- an owner with more labels than are counted is signed as a star and its last labels
@@ -48,3 +52,14 @@ signed_octets_written h f owner class xs i head out o e n =
     o ∙ ap (λ ys. fields_data f ++ flat_map (λ v. head ++ with_length (h v)) ys) (ap (λ k. take k xs) n ∙ take-length xs)
     ∙ ap (λ b. fields_data f ++ flat_map (λ v. b ++ with_length (h v)) xs) e
     ∙ ap (λ b. fields_data f ++ b) (flat_map-heads h (signed_owner f.labels owner) f.covered class f.ttl xs)
+
+-- one item more, where an item was read in place
+pub flat_map-pushed : {X A : Type 0} (f : X → List A) (bs old new : List A) (xs : List X) (i : ℕ) (x : X) → i < length xs → x ≡ get_or xs i x → old ≡ bs ++ flat_map f (take i xs) → new ≡ old ++ f x → new ≡ bs ++ flat_map f (take (i + 1) xs)
+flat_map-pushed f bs old new xs i x h e o n =
+    n ∙ ap (λ a. a ++ f x) o ∙ ap (λ v. (bs ++ flat_map f (take i xs)) ++ f v) e ∙ flat_map-next f bs xs i x h
+
+-- all records of one type were written
+pub records_written : {X : Type 0} (h : X → List ℕ) (g : GroupView) (t : ℕ) (xs : List X) (i : ℕ) (old new : List ℕ) → new ≡ old ++ flat_map (λ v. record_octets (record_of g t (h v))) (take i xs) → i ≡ length xs → new ≡ old ++ flat_map record_octets (map (record_of g t) (map h xs))
+records_written h g t xs i old new e n =
+    e ∙ ap (λ ys. old ++ flat_map (λ v. record_octets (record_of g t (h v))) ys) (ap (λ k. take k xs) n ∙ take-length xs)
+    ∙ ap (λ b. old ++ b) (sym (flat_map-map record_octets (record_of g t) (map h xs) ∙ flat_map-map (λ d. record_octets (record_of g t d)) h xs))

@@ -1,4 +1,5 @@
 //! A publisher of one signed zone whose keys roll.
+pub mod compose;
 pub mod fault;
 pub mod group;
 pub mod signing;

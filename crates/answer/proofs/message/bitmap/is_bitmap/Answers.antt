@@ -15,13 +15,8 @@ returns-then-is_empty c =
 pub returns-in-None : goal.returns-in-None
 returns-in-None c =
     let n = length c.args.bytes.now in
-<<<<<<< HEAD
-    sym (c.loop.invariant ∙ ap (λ k. is_some (windows_upto k c.loop.rest)) (one_less n c.loop.counter (omega arith))
-    ∙ is_none_upto (n - (c.loop.counter + 1)) c.loop.rest (sym c.in-None.ensures.value) (test_some c.loop.rest c.is_empty.result c.is_empty.ensures c.if-is_empty.false))
-=======
     sym (c.loop.invariant ∙ ap (λ k. is_some (windows_upto k c.loop.rest.now)) (one_less n c.loop.counter (omega arith))
     ∙ is_none_upto (n - (c.loop.counter + 1)) c.loop.rest.now (sym c.in-None.ensures.value) (test_some c.loop.rest.now c.is_empty.result c.is_empty.ensures c.if-is_empty.false))
->>>>>>> messages
 
 pub loop-preserved : goal.loop-preserved
 loop-preserved c =
