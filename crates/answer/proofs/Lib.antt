@@ -10,3 +10,5 @@ pub mod JudgeRecords
 pub mod JudgeClosest
 pub mod NameWalk
 pub mod NameWritten
+pub mod SignMade
+pub mod SignAnswer

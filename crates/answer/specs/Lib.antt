@@ -16,3 +16,5 @@ pub mod Facts
 pub mod Rrsig
 pub mod Star
 pub mod WrittenLaws
+pub mod Composed
+pub mod AnswerFaults
