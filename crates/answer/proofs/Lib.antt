@@ -15,6 +15,7 @@ pub mod NameLaws
 pub mod JudgeRecords
 pub mod JudgeClosest
 pub mod NameWalk
+pub mod NameWritten
 pub mod SignMade
 pub mod ZoneSorting
 pub mod ZoneNames
@@ -23,7 +24,6 @@ pub mod ZoneLists
 pub mod ZoneServed
 pub mod ZoneFaults
 pub mod KeyWhole
-pub mod NameWritten
 pub mod SignAnswer
 pub mod ZoneChains
 pub mod ZoneBitmap

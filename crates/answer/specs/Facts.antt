@@ -1,6 +1,6 @@
 -- What a judge takes from two messages, and what follows from it (RFC 4034, 3 and 4; RFC 4035, 5; RFC 4592).
 use Rattle.std.specs.Prelude.{◌≡◌, MatchBool, ℕ, ◌+◌, ◌/◌, ◌%◌, Bool, true, false, not, ◌&&◌, ◌||◌, ◌==◌, List, [], ◌∷◌, filter, map, length, Option, Some, None, nat_eq, nat_lt, if◌then◌else◌}
-use Rattle.std.specs.List.{list_any, filter_map}
+use Rattle.std.specs.List.{find, list_any}
 use Rattle.std.specs.Str.{bytes_eq}
 use Rattle.definitions.specs.Name.{Name, same, at_or_above, strictly_above, wire_len}
 use Rattle.definitions.specs.Dnskey.{Dnskey, Ds, key_tag, digested, dnskey_data}
@@ -12,7 +12,8 @@ use Rattle.answer.specs.Answers.{Answers}
 use Rattle.answer.specs.declared.judge.verdict.Refusal.{Refusal}
 use Rattle.answer.specs.declared.judge.verdict.Refusal.TheVariants as r
 use Rattle.answer.specs.Judging.{Handing, is_first}
-use Rattle.answer.specs.Message.{Spelled, Asked, rrsig_at, canonical_data}
+use Rattle.answer.specs.Message.{Spelled, Asked}
+use Rattle.answer.specs.declared.message.rdata.RrsigView.{RrsigView}
 
 -- ---- keys
 
@@ -30,6 +31,27 @@ names_key a apex k d = (d.tag == key_tag k) && (d.algorithm == k.algorithm) && d
 -- a usable key that a DS record names
 abbrev pub is_trusted : Answers → Name → List Ds → Dnskey → Bool
 is_trusted a apex ds k = is_usable k && list_any (names_key a apex k) ds
+
+-- ---- signatures
+
+-- the fields of a signature that was read, the signer as spelled
+abbrev pub fields_read : RrsigView → Fields
+fields_read s = record { covered = s.type_covered; algorithm = s.algorithm; labels = s.labels; ttl = s.original_ttl; expiration = s.expiration; inception = s.inception; tag = s.key_tag; signer = s.signer }
+
+-- the apex's signature, in time, with the labels of the owner (RFC 4035, 5.3.1)
+abbrev pub is_due : Name → ℕ → Name → Fields → Bool
+is_due apex now owner f = (f.labels == label_count owner) && in_time f now && same f.signer apex
+
+abbrev pub fits_key : Fields → Dnskey → Bool
+fits_key f k = (key_tag k == f.tag) && (k.algorithm == f.algorithm)
+
+-- a signature verifies an RRset that isn't empty, under the key of its tag and algorithm (RFC 4035, 5.3.3)
+abbrev pub signs : Answers → Name → List Dnskey → ℕ → Name → List (List ℕ) → Fields → List ℕ → Bool
+signs a apex keys now owner items f signature =
+    elim (not (length items == 0) && is_due apex now owner f) [
+      | false ↦ false
+      | true ↦ elim (find (fits_key f) keys) [ None ↦ false | Some k ↦ a.verifies k (signed_octets f owner 1 items) signature ]
+    ]
 
 -- ---- facts
 

@@ -40,15 +40,17 @@ pub fn judge<C: Checks>(
     checks: &mut C,
     limit: u16,
 ) -> Result<Judgement, Refused>
-    ensures judges {
-        Judges 0
-            (record {
-                apex = apex.now; ds = ds.now; dnskey_bytes = dnskey_bytes.now; answer_bytes = answer_bytes.now;
-                asked = record { name = question.now.name; rtype = question.now.rtype; class = question.now.class };
-                now = now; limit = limit
-            })
-            (answer_of result) (verifications_of result) (hashes_of result)
-    }
+    ensures judges { Judges 0
+        (record {
+          apex = apex.now;
+          ds = ds.now;
+          dnskey_bytes = dnskey_bytes.now;
+          answer_bytes = answer_bytes.now;
+          asked = record { name = question.now.name; rtype = question.now.rtype; class = question.now.class };
+          now = now;
+          limit = limit;
+        })
+        (answer_of result) (verifications_of result) (hashes_of result) }
     ensures verified { C.verified checks.new ≡ C.verified checks.old + verifications_of result }
     ensures hashed { C.hashed checks.new ≡ C.hashed checks.old + hashes_of result }
     ensures same { C.answers checks.new ≡ C.answers checks.old }
@@ -68,7 +70,17 @@ pub fn judge<C: Checks>(
         });
     }
     let mut verifications = 0;
-    match judge_messages(alloc, apex, ds, dnskey_bytes, answer_bytes, question, now, checks, &mut verifications) {
+    match judge_messages(
+        alloc,
+        apex,
+        ds,
+        dnskey_bytes,
+        answer_bytes,
+        question,
+        now,
+        checks,
+        &mut verifications,
+    ) {
         Ok(verdict) => Ok(Judgement {
             verdict,
             verifications,
@@ -89,7 +101,10 @@ pub(crate) fn is_allowed(apex: &Name, question: &Question) -> bool
 {
     question.class == Class::IN
         && question.name.ends_with(apex)
-        && !matches!(question.rtype.to_int(), 46 | 47 | 48 | 50 | 51 | 5 | 39 | 0 | 41 | 128..=255)
+        && !matches!(
+            question.rtype.to_int(),
+            46 | 47 | 48 | 50 | 51 | 5 | 39 | 0 | 41 | 128..=255
+        )
 }
 
 /// The verdict of two messages beside a DS set that isn't empty. The count rises by one with each signature that
@@ -121,15 +136,47 @@ fn judge_messages<C: Checks>(
         return Err(Refusal::EqualTags);
     }
     let trusted = trusted_keys(alloc, apex, ds, &keys, checks)?;
-    let trust = Trust { apex, keys: &trusted, now };
-    if !are_verified(alloc, dnskey_bytes, &key_records, &keys, &trust, checks, count)? {
+    let trust = Trust {
+        apex,
+        keys: &trusted,
+        moment: now,
+    };
+    if !are_verified(
+        alloc,
+        dnskey_bytes,
+        &key_records,
+        &keys,
+        &trust,
+        checks,
+        count,
+    )? {
         return Err(Refusal::NoTrustedKey);
     }
     let usable = usable_keys(alloc, &keys)?;
-    let trust = Trust { apex, keys: &usable, now };
+    let trust = Trust {
+        apex,
+        keys: &usable,
+        moment: now,
+    };
     let records = records_of(alloc, &answer_view)?;
-    let facts = read_facts(alloc, answer_bytes, &records, &trust, &question.name, question.rtype, checks, count)?;
-    let verdict = decide(alloc, apex, facts.answer, &facts.links, &question.name, question.rtype)?;
+    let facts = read_facts(
+        alloc,
+        answer_bytes,
+        &records,
+        &trust,
+        &question.name,
+        question.rtype,
+        checks,
+        count,
+    )?;
+    let verdict = decide(
+        alloc,
+        apex,
+        facts.answer,
+        &facts.links,
+        &question.name,
+        question.rtype,
+    )?;
     verdict.ok_or(Refusal::NotProven)
 }
 

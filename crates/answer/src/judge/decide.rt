@@ -58,7 +58,8 @@ impl<'a> Link<'a> {
     fn covers(&self, apex: &Name, name: &Name) -> bool
         ensures { result ≡ link_covers apex.now self.now name.now }
     {
-        self.owner.name_cmp(name).is_lt() && (self.next.name_eq(apex) || name.name_cmp(&self.next).is_lt())
+        self.owner.name_cmp(name).is_lt()
+            && (self.next.name_eq(apex) || name.name_cmp(&self.next).is_lt())
     }
 
     /// What the link says of its own name.
@@ -71,7 +72,11 @@ impl<'a> Link<'a> {
         if self.is_cut(apex) && rtype != Rtype::DS {
             return Some(Verdict::Delegated);
         }
-        if self.has(rtype) { None } else { Some(Verdict::NoType) }
+        if self.has(rtype) {
+            None
+        } else {
+            Some(Verdict::NoType)
+        }
     }
 
     /// Whether the owner is a delegation above a name.
@@ -111,12 +116,20 @@ impl<'a> Link<'a> {
         ensures { option_map verdict_of result ≡ at_star apex.now star.now rtype self.now }
     {
         if self.owner.name_eq(star) {
-            return if self.has(rtype) { None } else { Some(Verdict::StarNoType) };
+            return if self.has(rtype) {
+                None
+            } else {
+                Some(Verdict::StarNoType)
+            };
         }
         if !self.covers(apex, star) {
             return None;
         }
-        Some(if self.next.is_below(star) { Verdict::StarNoType } else { Verdict::NoName })
+        Some(if self.next.is_below(star) {
+            Verdict::StarNoType
+        } else {
+            Verdict::NoName
+        })
     }
 
     /// What the link, with the others, says of a name that it covers.

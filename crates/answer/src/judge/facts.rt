@@ -85,7 +85,11 @@ fn read_nsec_group(
         return Ok(None);
     }
     let group = read_group(alloc, message, records, &owner, Rtype::NSEC)?;
-    Ok(if group.items.len() == 1 { Some(group) } else { None })
+    Ok(if group.items.len() == 1 {
+        Some(group)
+    } else {
+        None
+    })
 }
 
 /// Whether a record is an NSEC record of class IN.

@@ -1,7 +1,11 @@
 //! RRsets of a message and the signatures that verify them (RFC 4035, 5.3).
-ghost use Rattle.std.specs.Prelude.{◌≡◌, ◌+◌, ◌<◌, ◌≤◌, ◌^◌, [], MatchOption, length, map, filter};
+ghost use Rattle.std.specs.Prelude.{◌≡◌, ◌==◌, ◌&&◌, ◌+◌, ◌<◌, ◌≤◌, ◌^◌, [], IfOk, MatchOption, length, map, filter};
 ghost use Rattle.answer.specs.Record.{spelled};
-ghost use Rattle.answer.specs.Facts.{is_signature};
+ghost use Rattle.answer.specs.Facts.{is_signature, is_due, fits_key, fields_read, signs};
+ghost use Rattle.std.specs.Option.{option_map};
+ghost use Rattle.std.specs.List.{find};
+ghost use Rattle.definitions.specs.Name.{same};
+ghost use Rattle.definitions.specs.Signing.{in_time, signed_octets};
 ghost use Rattle.definitions.specs.Serial.{serial_le};
 
 use crate::denial::rrsig::ProtoRrsig;
@@ -9,7 +13,7 @@ use crate::judge::keys::TaggedKey;
 use crate::message::ViewRecord;
 use crate::message::rdata::RrsigView;
 use crate::names::{Name, ParsedName};
-use crate::plain::{Class, Rtype, SecurityAlgorithm};
+use crate::plain::{Class, Rtype};
 use crate::publisher::signing::signed_octets;
 use crate::scheme::Checks;
 use std::alloc::{AllocError, Global};
@@ -29,7 +33,7 @@ pub(crate) struct Group {
 pub(crate) struct Trust<'a> {
     pub(crate) apex: &'a Name,
     pub(crate) keys: &'a [TaggedKey<'a>],
-    pub(crate) now: u32,
+    pub(crate) moment: u32,
 }
 
 impl Group {
@@ -56,7 +60,9 @@ impl Group {
     }
 
     /// Whether the group has a type and an owner, up to case.
-    pub(crate) fn is_of(&self, owner: &ParsedName, rtype: Rtype) -> bool {
+    pub(crate) fn is_of(&self, owner: &ParsedName, rtype: Rtype) -> bool
+        ensures { result ≡ ((self.now.rtype == rtype) && same owner.now self.now.owner) }
+    {
         self.rtype == rtype && owner.name_eq(&self.owner)
     }
 }
@@ -171,15 +177,16 @@ fn verifies<C: Checks>(
     count: &mut u32,
 ) -> Result<bool, AllocError>
     requires { count.old + 1 < 2 ^ 32 }
+    ensures signs { IfOk result (λ b. b ≡ signs (C.answers checks.old) trust.now.apex.now trust.now.keys.now trust.now.moment group.now.owner (map (λ d. d.items) group.now.items.items) (fields_read signature.now) signature.now.signature.now) }
     ensures counted { C.verified checks.new + count.old ≡ C.verified checks.old + count.new }
     ensures bound { count.new ≤ count.old + 1 }
     ensures hashed { C.hashed checks.new ≡ C.hashed checks.old }
     ensures same { C.answers checks.new ≡ C.answers checks.old }
 {
-    if !trust.accepts(signature, group) {
+    if group.items.is_empty() || !trust.is_due(signature, &group.owner) {
         return Ok(false);
     }
-    let Some(key) = trust.key(signature.key_tag, signature.algorithm) else {
+    let Some(key) = trust.key(signature) else {
         return Ok(false);
     };
     let octets = octets_of(alloc, signature, group)?;
@@ -188,7 +195,9 @@ fn verifies<C: Checks>(
 }
 
 /// What a signature of a group is made over (RFC 4034, 3.1.8.1).
-fn octets_of(alloc: Global, signature: &RrsigView, group: &Group) -> Result<Vec<u8>, AllocError> {
+fn octets_of(alloc: Global, signature: &RrsigView, group: &Group) -> Result<Vec<u8>, AllocError>
+    ensures { IfOk result (λ v. v.items ≡ signed_octets (fields_read signature.now) group.now.owner 1 (map (λ d. d.items) group.now.items.items)) }
+{
     let fields = ProtoRrsig::new(
         signature.type_covered,
         signature.algorithm,
@@ -203,24 +212,33 @@ fn octets_of(alloc: Global, signature: &RrsigView, group: &Group) -> Result<Vec<
 }
 
 impl<'a> Trust<'a> {
-    /// Whether a signature is the apex's, holds at the moment, and counts the labels of a group's owner.
-    fn accepts(&self, signature: &RrsigView, group: &Group) -> bool {
-        !group.items.is_empty()
-            && signature.labels == group.owner.rrsig_label_count()
-            && serial_le(signature.inception, self.now)
-            && serial_le(self.now, signature.expiration)
+    /// Whether a signature is the apex's, holds at the moment, and counts the labels of an owner (RFC 4035, 5.3.1).
+    fn is_due(&self, signature: &RrsigView, owner: &Name) -> bool
+        ensures { result ≡ is_due self.now.apex.now self.now.moment owner.now (fields_read signature.now) }
+    {
+        signature.labels == owner.rrsig_label_count()
+            && in_time(signature, self.moment)
             && signature.signer.name_eq(self.apex)
     }
 
-    /// The key of a tag and an algorithm.
-    fn key(&self, tag: u16, algorithm: SecurityAlgorithm) -> Option<&TaggedKey<'a>> {
+    /// The key of a signature's tag and algorithm.
+    fn key(&self, signature: &RrsigView) -> Option<&TaggedKey<'a>>
+        ensures { option_map (λ k. k.now) result ≡ find (fits_key (fields_read signature.now)) self.now.keys.now }
+    {
         for key in self.keys {
-            if key.tag() == tag && key.dnskey().algorithm() == algorithm {
+            if key.tag() == signature.key_tag && key.dnskey().algorithm() == signature.algorithm {
                 return Some(key);
             }
         }
         None
     }
+}
+
+/// Whether a signature holds at a moment (RFC 4034, 3.1.5).
+fn in_time(signature: &RrsigView, now: u32) -> bool
+    ensures { result ≡ in_time (fields_read signature.now) now }
+{
+    serial_le(signature.inception, now) && serial_le(now, signature.expiration)
 }
 
 /// Whether a serial number is another, or less than half the circle before it (RFC 1982, 3.2).

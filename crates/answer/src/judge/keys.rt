@@ -116,7 +116,11 @@ fn data_of<'a>(message: &'a [u8], record: &ViewRecord) -> &'a [u8]
     ensures { result.now ≡ data_of message.now (spelled record.now) }
 {
     let end = message.len().min(record.start + record.length);
-    if record.start < end { &message[record.start..end] } else { &[] }
+    if record.start < end {
+        &message[record.start..end]
+    } else {
+        &[]
+    }
 }
 
 /// Whether two unlike keys have one tag.
@@ -144,7 +148,10 @@ fn clashes_with_any(key: &TaggedKey, keys: &[TaggedKey]) -> bool
 }
 
 /// The keys that may sign what is in the zone.
-pub(crate) fn usable_keys<'a>(alloc: Global, keys: &'a [TaggedKey]) -> Result<Vec<TaggedKey<'a>>, AllocError>
+pub(crate) fn usable_keys<'a>(
+    alloc: Global,
+    keys: &'a [TaggedKey],
+) -> Result<Vec<TaggedKey<'a>>, AllocError>
     ensures { IfOk result (λ ks. ks.items ≡ filter is_usable keys.now) }
 {
     let mut usable = Vec::new(alloc);

@@ -9,5 +9,5 @@ read_facts-requires g c =
       c.in_ok-keys_view.ensures.few,
       c.are_verified.ensures.few,
       same_count c.in_ok-key_records.key_records.items c.in_ok-keys_view.keys_view.records c.in_ok-key_records.ensures,
-      same_count c.in_ok-records.records.items c.in_ok-keys_view.answer_view.records c.in_ok-records.ensures
+      same_count c.in_ok-records.records.items c.in_ok-keys_view.answer_view.records c.in_ok-records.ensures,
     )
