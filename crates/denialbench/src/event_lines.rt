@@ -4,7 +4,7 @@ ghost use Rattle.answer.specs.Events.{added_octets, added_by_act, added_by_call}
 
 use crate::fields::{key_octets, name, reference, references};
 use crate::line_error::LineError;
-use crate::numbers::{number_u16, number_u32, number_u64, number_u8, place};
+use crate::numbers::{number_u8, number_u16, number_u32, number_u64, place};
 use answer::event::{Act, Event, KeyCall};
 use answer::keyset::{Available, RollType, UnixTime};
 use answer::plain::{Class, Rtype, SecurityAlgorithm};

@@ -1,5 +1,6 @@
 //! Names, references and octets as fields of a line. The field `-` stands for nothing.
-ghost use Rattle.std.specs.Prelude.{◌≤◌, length, IfOk};
+ghost use Rattle.std.specs.Prelude.{◌≡◌, ◌≤◌, ◌↔◌, length, IfOk, IsErrOf, Some, None, true, false, string_bytes};
+ghost use Rattle.denialbench.specs.Fields.{base64_field, hex_field, key_field, is_reference};
 
 use crate::line_error::LineError;
 use answer::names::{FromStrError, Name, NameError};
@@ -30,8 +31,11 @@ pub fn wire_name(alloc: Global, octets: &[u8]) -> Result<Name, LineError> {
 }
 
 /// What a key is called: text without a comma, neither empty nor `-`.
-pub fn reference(alloc: Global, field: &str) -> Result<String, LineError> {
-    if field.is_empty() || field == "-" || field.contains(',') {
+pub fn reference(alloc: Global, field: &str) -> Result<String, LineError>
+    ensures ok { IfOk result (λ s. string_bytes s ≡ field.now) }
+    ensures unreadable { IsErrOf result LineError.Unreadable ↔ (is_reference field.now ≡ false) }
+{
+    if field == "-" || field.is_empty() || field.as_bytes().contains(&b',') {
         return Err(LineError::Unreadable);
     }
     Ok(String::from_str(alloc, field)?)
@@ -50,7 +54,10 @@ pub fn references(alloc: Global, field: &str) -> Result<Vec<String>, LineError> 
 }
 
 /// Octets as hexadecimal digits, at most so many of them; `-` for none.
-pub fn hex_octets(alloc: Global, field: &str, most: usize) -> Result<Vec<u8>, LineError> {
+pub fn hex_octets(alloc: Global, field: &str, most: usize) -> Result<Vec<u8>, LineError>
+    ensures ok { IfOk result (λ v. hex_field most field.now ≡ Some v.items) }
+    ensures unreadable { IsErrOf result LineError.Unreadable → hex_field most field.now ≡ None }
+{
     if field == "-" {
         return Ok(Vec::new(alloc));
     }
@@ -66,6 +73,8 @@ pub fn hex_octets(alloc: Global, field: &str, most: usize) -> Result<Vec<u8>, Li
 
 /// A key's octets in base64 (RFC 4648, 4); `-` for none.
 pub fn key_octets(alloc: Global, field: &str) -> Result<Vec<u8>, LineError>
+    ensures ok { IfOk result (λ v. key_field field.now ≡ Some v.items) }
+    ensures unreadable { IsErrOf result LineError.Unreadable → key_field field.now ≡ None }
     ensures small { IfOk result (λ v. length v.items ≤ 65531) }
 {
     if field == "-" {
@@ -74,9 +83,19 @@ pub fn key_octets(alloc: Global, field: &str) -> Result<Vec<u8>, LineError>
     if field.is_empty() {
         return Err(LineError::Unreadable);
     }
+    let octets = base64_octets(alloc, field)?;
+    if octets.len() > MAX_KEY {
+        return Err(LineError::Unreadable);
+    }
+    Ok(octets)
+}
+
+fn base64_octets(alloc: Global, field: &str) -> Result<Vec<u8>, LineError>
+    ensures ok { IfOk result (λ v. base64_field field.now ≡ Some v.items) }
+    ensures unreadable { IsErrOf result LineError.Unreadable → base64_field field.now ≡ None }
+{
     match STANDARD.decode(alloc, field.as_bytes()) {
-        Ok(octets) if octets.len() <= MAX_KEY => Ok(octets),
-        Ok(_) => Err(LineError::Unreadable),
+        Ok(octets) => Ok(octets),
         Err(DecodeAllocError::OutOfMemory) => Err(LineError::Memory),
         Err(_) => Err(LineError::Unreadable),
     }

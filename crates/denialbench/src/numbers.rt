@@ -93,6 +93,9 @@ mod tests {
         assert_eq!(rt; number_u16("65536"), Err(LineError::Unreadable));
         assert_eq!(rt; number_u8("255"), Ok(255));
         assert_eq!(rt; number_u8("256"), Err(LineError::Unreadable));
-        assert_eq!(rt; place("18446744073709551615"), Ok(18_446_744_073_709_551_615));
+        assert_eq!(rt;
+            place("18446744073709551615"),
+            Ok(18_446_744_073_709_551_615)
+        );
     }
 }

@@ -1,6 +1,7 @@
 //! A run of the bench: from what a reader gives to what a writer takes.
-ghost use Rattle.std.specs.Prelude.{◌≡◌, ℕ, OnOk, IfOk};
+ghost use Rattle.std.specs.Prelude.{◌≡◌, ◌≢◌, ℕ, List, OnOk, IfOk, IfSome, string_bytes};
 ghost use Rattle.std.specs.Io.KnownBytes.{Appends};
+ghost use Rattle.denialbench.specs.Responses.{Responds, refused_line};
 
 use crate::input::read_all;
 use crate::named::Named;
@@ -25,7 +26,9 @@ pub struct Response {
 ///
 /// Where a line cannot be read, one line with its number is all that is written. Nothing is written before the
 /// whole input is read and answered.
-pub fn run<R: Read, W: Write>(alloc: Global, reader: &mut R, writer: &mut W) -> Status {
+pub fn run<R: Read, W: Write>(alloc: Global, reader: &mut R, writer: &mut W) -> Status
+    ensures { result ≢ Status.Fault → IfSome (R.remaining reader.old) (λ input. (text : List ℕ) × Responds input result text × Appends (W.contents writer.old) (W.contents writer.new) text) }
+{
     let Ok(input) = read_all(alloc, reader) else {
         return Status::Fault;
     };
@@ -38,13 +41,17 @@ pub fn run<R: Read, W: Write>(alloc: Global, reader: &mut R, writer: &mut W) -> 
     }
 }
 
-fn write_out<W: Write>(writer: &mut W, octets: &[u8]) -> io::Result<()> {
+fn write_out<W: Write>(writer: &mut W, octets: &[u8]) -> io::Result<()>
+    ensures { OnOk result (Appends (W.contents writer.old) (W.contents writer.new) octets.now) }
+{
     writer.write_all(octets)?;
     writer.flush()
 }
 
 /// What is answered to an input. Its only error is want of memory.
-pub fn respond(alloc: Global, input: &[u8]) -> Result<Response, AllocError> {
+pub fn respond(alloc: Global, input: &[u8]) -> Result<Response, AllocError>
+    ensures { IfOk result (λ r. Responds input.now r.status (string_bytes r.text)) }
+{
     match read_session(alloc, input) {
         Ok(session) => Ok(Response {
             status: Status::Done,
@@ -52,10 +59,16 @@ pub fn respond(alloc: Global, input: &[u8]) -> Result<Response, AllocError> {
         }),
         Err(SessionError::Line(number)) => Ok(Response {
             status: Status::BadLine,
-            text: format!(in alloc; "line {number}: cannot be read\n")?,
+            text: refusal(alloc, number)?,
         }),
         Err(SessionError::Memory) => Err(AllocError),
     }
+}
+
+fn refusal(alloc: Global, number: usize) -> Result<String, AllocError>
+    ensures { IfOk result (λ t. string_bytes t ≡ refused_line number) }
+{
+    format!(in alloc; "line {number}: cannot be read\n")
 }
 
 /// Lets a session happen, and prints a line for each event, or one for a zone that is refused.

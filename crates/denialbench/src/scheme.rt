@@ -34,7 +34,12 @@ impl Scheme for BenchScheme {
 
     ghost digest_of = { λ _ t octets. if nat_eq t 2 then Some (sha256 octets) else None };
 
-    fn sign(&self, alloc: Global, key: &Dnskey<&[u8]>, octets: &[u8]) -> Result<Vec<u8>, SchemeError> {
+    fn sign(
+        &self,
+        alloc: Global,
+        key: &Dnskey<&[u8]>,
+        octets: &[u8],
+    ) -> Result<Vec<u8>, SchemeError> {
         match Vec::from_slice(alloc, &stand_in(key, octets)) {
             Ok(signature) => Ok(signature),
             Err(_) => Err(SchemeError::Memory),
@@ -45,7 +50,12 @@ impl Scheme for BenchScheme {
         stand_in(key, octets).as_slice() == signature
     }
 
-    fn digest(&self, alloc: Global, algorithm: DigestAlgorithm, octets: &[u8]) -> Result<Vec<u8>, SchemeError> {
+    fn digest(
+        &self,
+        alloc: Global,
+        algorithm: DigestAlgorithm,
+        octets: &[u8],
+    ) -> Result<Vec<u8>, SchemeError> {
         if algorithm != DigestAlgorithm::SHA256 {
             return Err(SchemeError::Failed);
         }

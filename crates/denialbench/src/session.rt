@@ -1,5 +1,6 @@
 //! A session: a zone, its records, and the events that follow.
-ghost use Rattle.std.specs.Prelude.{◌≤◌, All};
+ghost use Rattle.std.specs.Prelude.{◌≤◌, All, IfErr};
+ghost use Rattle.denialbench.specs.Responses.{IsSessionError};
 ghost use Rattle.answer.specs.Events.{added_octets};
 
 use crate::event_lines::read_event;
@@ -31,7 +32,9 @@ pub enum SessionError {
 }
 
 /// Reads a whole input. Where no line of it counts, the line behind its last is the one that cannot be read.
-pub fn read_session(alloc: Global, input: &[u8]) -> Result<Session, SessionError> {
+pub fn read_session(alloc: Global, input: &[u8]) -> Result<Session, SessionError>
+    ensures { IfErr result (IsSessionError input.now) }
+{
     let mut lines = Lines::new(input);
     let mut reading = Reading::new(alloc);
     while let Some(line) = lines.next_line() {

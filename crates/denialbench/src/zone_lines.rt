@@ -87,7 +87,28 @@ fn read_soa(alloc: Global, octets: &[u8]) -> Result<Soa, LineError> {
     let (mname, rest) = split_name(octets)?;
     let (rname, numbers) = split_name(rest)?;
     match *numbers {
-        [a0, a1, a2, a3, b0, b1, b2, b3, c0, c1, c2, c3, d0, d1, d2, d3, e0, e1, e2, e3] => Ok(Soa {
+        [
+            a0,
+            a1,
+            a2,
+            a3,
+            b0,
+            b1,
+            b2,
+            b3,
+            c0,
+            c1,
+            c2,
+            c3,
+            d0,
+            d1,
+            d2,
+            d3,
+            e0,
+            e1,
+            e2,
+            e3,
+        ] => Ok(Soa {
             mname: wire_name(alloc, mname)?,
             rname: wire_name(alloc, rname)?,
             serial: u32::from_be_bytes([a0, a1, a2, a3]),

@@ -9,11 +9,7 @@ use std::test::Fail;
 const ZONE: &str = "zone example nsec 0 86400\n";
 
 /// Runs an input, given and taken so many octets a call.
-fn run_in_steps(
-    alloc: Global,
-    input: &[u8],
-    step: usize,
-) -> Result<(Status, Vec<u8>), Fail> {
+fn run_in_steps(alloc: Global, input: &[u8], step: usize) -> Result<(Status, Vec<u8>), Fail> {
     let mut source = Source::new(input, step);
     let mut sink = Sink {
         taken: Vec::new(alloc),
@@ -163,7 +159,11 @@ fn records_stand_before_events(rt: HostRuntime) -> Result<(), Fail> {
 
 #[test]
 fn octets_outside_utf8_stand_in_comments_alone(rt: HostRuntime) -> Result<(), Fail> {
-    assert_refused(&rt, b"# \xff\nzone example nsec 0 86400\nkey ksk \xff 13 ABA= 0\n", 3)?;
+    assert_refused(
+        &rt,
+        b"# \xff\nzone example nsec 0 86400\nkey ksk \xff 13 ABA= 0\n",
+        3,
+    )?;
     assert_refused(&rt, b"zone \xc3\xa9.example nsec 0 86400\n", 1)
 }
 
@@ -177,16 +177,16 @@ fn data_and_keys_have_limits(rt: HostRuntime) -> Result<(), Fail> {
     input.extend_from_slice(b"\nds\n")?;
     assert_refused(&rt, &input, 2)?;
     // 21,844 groups of three octets are 65,532.
-    let letters = vec![in alloc; b'A'; 87_376]?;
+    let letters = vec![in alloc; b'A'; 87_372]?;
     let mut input = ZONE.as_bytes().to_vec(alloc)?;
     input.extend_from_slice(b"key ksk K 13 ")?;
     input.extend_from_slice(&letters)?;
-    input.extend_from_slice(b" 0\nds\n")?;
+    input.extend_from_slice(b"AAAA 0\nds\n")?;
     assert_refused(&rt, &input, 2)?;
     // One octet less is read: the next line is the first that cannot be.
     let mut input = ZONE.as_bytes().to_vec(alloc)?;
     input.extend_from_slice(b"key ksk K 13 ")?;
-    input.extend_from_slice(&letters[..87_372])?;
+    input.extend_from_slice(&letters)?;
     input.extend_from_slice(b"AAA= 0\nds\n")?;
     assert_refused(&rt, &input, 3)
 }

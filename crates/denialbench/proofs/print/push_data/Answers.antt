@@ -1,4 +1,4 @@
-use Rattle.std.proofs.Common.{arith, map}
+use Rattle.std.proofs.Common.{arith}
 use Rattle.std.proofs.lemmas.Grind.{common_steps}
 use Rattle.denialbench.specs.Printed.{octets_text}
 use Rattle.denialbench.proofs.PrintLemmas.{list_text-map}
