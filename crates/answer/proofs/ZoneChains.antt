@@ -59,22 +59,22 @@ put_all_climbing : {A : Type 0} (cmp : A → A → Ordering) → IsTotalOrder cm
 put_all_climbing cmp o front x [] h k = refl
 put_all_climbing cmp o front x (y ∷ ys) h k = ⊎_elim
     (λ e.
-        let same : cmp y x ≡ Equal = ap (λ z. cmp z x) e ∙ tied_itself o x in
-        let past : put_by cmp y (front ++ x ∷ []) ≡ front ++ x ∷ [] =
-            ap (λ z. put_by cmp z (front ++ x ∷ [])) e ∙ put_past cmp x front (x ∷ []) h
-            ∙ ap (λ (p : Ordering). front ++ elim p [ Less ↦ x ∷ x ∷ [] | Equal ↦ x ∷ [] | Greater ↦ x ∷ x ∷ [] ]) (tied_itself o x) in
-        let rest = put_all_climbing cmp o front x ys h (subst (λ z. Climbs cmp z ys) e k.1) in
-        ap (λ into. put_all_by cmp into ys) past ∙ rest
-        ∙ sym (ap (λ (p : Ordering). front ++ elim p [ Less ↦ tidy cmp x ys | Equal ↦ tidy cmp x ys | Greater ↦ x ∷ tidy cmp y ys ]) same))
+    let same : cmp y x ≡ Equal = ap (λ z. cmp z x) e ∙ tied_itself o x in
+    let past : put_by cmp y (front ++ x ∷ []) ≡ front ++ x ∷ [] =
+    ap (λ z. put_by cmp z (front ++ x ∷ [])) e ∙ put_past cmp x front (x ∷ []) h
+    ∙ ap (λ (p : Ordering). front ++ elim p [ Less ↦ x ∷ x ∷ [] | Equal ↦ x ∷ [] | Greater ↦ x ∷ x ∷ [] ]) (tied_itself o x) in
+    let rest = put_all_climbing cmp o front x ys h (subst (λ z. Climbs cmp z ys) e k.1) in
+    ap (λ into. put_all_by cmp into ys) past ∙ rest
+    ∙ sym (ap (λ (p : Ordering). front ++ elim p [ Less ↦ tidy cmp x ys | Equal ↦ tidy cmp x ys | Greater ↦ x ∷ tidy cmp y ys ]) same))
     (λ e.
-        let above = all_greater cmp o x y front e h in
-        let past : put_by cmp y (front ++ x ∷ []) ≡ (front ++ x ∷ []) ++ y ∷ [] =
-            put_past cmp y front (x ∷ []) above
-            ∙ ap (λ (p : Ordering). front ++ elim p [ Less ↦ y ∷ x ∷ [] | Equal ↦ x ∷ [] | Greater ↦ x ∷ y ∷ [] ]) e
-            ∙ sym (append_assoc front (x ∷ []) (y ∷ [])) in
-        let rest = put_all_climbing cmp o (front ++ x ∷ []) y ys (all_append (λ a. cmp y a ≡ Greater) front x above e) k.1 in
-        ap (λ into. put_all_by cmp into ys) past ∙ rest ∙ append_assoc front (x ∷ []) (tidy cmp y ys)
-        ∙ sym (ap (λ (p : Ordering). front ++ elim p [ Less ↦ tidy cmp x ys | Equal ↦ tidy cmp x ys | Greater ↦ x ∷ tidy cmp y ys ]) e))
+    let above = all_greater cmp o x y front e h in
+    let past : put_by cmp y (front ++ x ∷ []) ≡ (front ++ x ∷ []) ++ y ∷ [] =
+    put_past cmp y front (x ∷ []) above
+    ∙ ap (λ (p : Ordering). front ++ elim p [ Less ↦ y ∷ x ∷ [] | Equal ↦ x ∷ [] | Greater ↦ x ∷ y ∷ [] ]) e
+    ∙ sym (append_assoc front (x ∷ []) (y ∷ [])) in
+    let rest = put_all_climbing cmp o (front ++ x ∷ []) y ys (all_append (λ a. cmp y a ≡ Greater) front x above e) k.1 in
+    ap (λ into. put_all_by cmp into ys) past ∙ rest ∙ append_assoc front (x ∷ []) (tidy cmp y ys)
+    ∙ sym (ap (λ (p : Ordering). front ++ elim p [ Less ↦ tidy cmp x ys | Equal ↦ tidy cmp x ys | Greater ↦ x ∷ tidy cmp y ys ]) e))
     k.0
 
 sort_by_climbing : {A : Type 0} (cmp : A → A → Ordering) → IsTotalOrder cmp → (x : A) (ys : List A) → Climbs cmp x ys → sort_by cmp (x ∷ ys) ≡ tidy cmp x ys
@@ -122,20 +122,20 @@ pairs_above : {A : Type 0} (cmp : A → A → Ordering) → IsTotalOrder cmp →
 pairs_above cmp o first w x [] e k = (e, tt)
 pairs_above {A} cmp o first w x (y ∷ ys) e k = ⊎_elim
     (λ q. let same : cmp y x ≡ Equal = ap (λ z. cmp z x) q ∙ tied_itself o x in
-        subst (λ p. AllByRecursion (λ (m : A × A). cmp m.0 w ≡ Greater) (elim p [ Less ↦ pairs cmp first x ys | Equal ↦ pairs cmp first x ys | Greater ↦ (x, y) ∷ pairs cmp first y ys ])) (sym same)
-            (pairs_above cmp o first w x ys e (subst (λ z. Climbs cmp z ys) q k.1)))
+    subst (λ p. AllByRecursion (λ (m : A × A). cmp m.0 w ≡ Greater) (elim p [ Less ↦ pairs cmp first x ys | Equal ↦ pairs cmp first x ys | Greater ↦ (x, y) ∷ pairs cmp first y ys ])) (sym same)
+    (pairs_above cmp o first w x ys e (subst (λ z. Climbs cmp z ys) q k.1)))
     (λ g. subst (λ p. AllByRecursion (λ (m : A × A). cmp m.0 w ≡ Greater) (elim p [ Less ↦ pairs cmp first x ys | Equal ↦ pairs cmp first x ys | Greater ↦ (x, y) ∷ pairs cmp first y ys ])) (sym g)
-        (e, pairs_above cmp o first w y ys (greater_trans cmp o y x w g e) k.1))
+    (e, pairs_above cmp o first w y ys (greater_trans cmp o y x w g e) k.1))
     k.0
 
 pairs_rising : {A : Type 0} (cmp : A → A → Ordering) → IsTotalOrder cmp → (first x : A) (ys : List A) → Climbs cmp x ys → Rising cmp (pairs cmp first x ys)
 pairs_rising cmp o first x [] k = (tt, tt)
 pairs_rising {A} cmp o first x (y ∷ ys) k = ⊎_elim
     (λ q. let same : cmp y x ≡ Equal = ap (λ z. cmp z x) q ∙ tied_itself o x in
-        subst (λ p. Rising cmp (elim p [ Less ↦ pairs cmp first x ys | Equal ↦ pairs cmp first x ys | Greater ↦ (x, y) ∷ pairs cmp first y ys ])) (sym same)
-            (pairs_rising cmp o first x ys (subst (λ z. Climbs cmp z ys) q k.1)))
+    subst (λ p. Rising cmp (elim p [ Less ↦ pairs cmp first x ys | Equal ↦ pairs cmp first x ys | Greater ↦ (x, y) ∷ pairs cmp first y ys ])) (sym same)
+    (pairs_rising cmp o first x ys (subst (λ z. Climbs cmp z ys) q k.1)))
     (λ g. subst (λ p. Rising cmp (elim p [ Less ↦ pairs cmp first x ys | Equal ↦ pairs cmp first x ys | Greater ↦ (x, y) ∷ pairs cmp first y ys ])) (sym g)
-        (pairs_above cmp o first x y ys g k.1, pairs_rising cmp o first y ys k.1))
+    (pairs_above cmp o first x y ys g k.1, pairs_rising cmp o first y ys k.1))
     k.0
 
 apart : (a b : Name) → name_cmp a b ≡ Greater → labels_eq a b ≡ false
@@ -162,9 +162,9 @@ tabled {B} F G next (l ∷ ls) h =
     let right : List (Name × Name) = filter (λ (m : Name × Name). F m.0 m.1) ls in
     ap (λ n. map (λ o. G o (next o)) (cond (F l.0 n) (l.0 ∷ left) left)) h.0
     ∙ elim (F l.0 l.1) as (λ b. map (λ o. G o (next o)) (cond b (l.0 ∷ left) left) ≡ map (λ (m : Name × Name). G m.0 m.1) (cond b (l ∷ right) right)) [
-        | true ↦ (λ i. G l.0 (h.0 i) ∷ rest i)
-        | false ↦ rest
-      ]
+      | true ↦ (λ i. G l.0 (h.0 i) ∷ rest i)
+      | false ↦ rest
+    ]
 
 -- the links of records in order
 abbrev pub record_links : Name → List HandedRr → List (Name × Name)
@@ -212,7 +212,7 @@ links_rise first (r ∷ rs) h = pairs_rising name_cmp name_cmp_total first (low 
 next_is : (apex : Name) (rs : List HandedRr) → IsPublished apex rs → AllByRecursion (λ (m : Name × Name). nsec_next (zone_with apex rs) m.0 ≡ m.1) (record_links (low apex) rs)
 next_is apex rs p =
     subst (λ ls. AllByRecursion (λ (m : Name × Name). behind labels_eq (low apex) m.0 ls ≡ m.1) (record_links (low apex) rs)) (sym (links_are apex rs p))
-        (behind_each (low apex) (record_links (low apex) rs) (links_rise (low apex) rs p.rising))
+    (behind_each (low apex) (record_links (low apex) rs) (links_rise (low apex) rs p.rising))
 
 -- the bits of a name of the chain
 types_are : (apex : Name) (rs : List HandedRr) → IsPublished apex rs → (o : Name) → nsec_types (zone_with apex rs) o ≡ types_at (zone_with apex rs) o ++ 46 ∷ 47 ∷ at_apex (zone_with apex rs) o (48 ∷ [])

@@ -41,15 +41,15 @@ second_and_seventh a b d f g h i p q r s t u v o e =
 pub plain_from_none : (apex : Name) (mode : Mode) (limit : ℕ) (rs : List HandedRr) → first_fault apex mode limit rs ≡ None → IsPlain apex (sorted_records rs)
 plain_from_none apex mode limit rs e =
     let k = second_and_seventh
-        (list_any (λ (r : HandedRr). not (eqb r.class 1)) rs)
-        (list_any (λ (r : HandedRr). not (at_or_above apex r.owner)) rs)
-        (list_any (λ (r : HandedRr). among (46 ∷ 47 ∷ 48 ∷ 50 ∷ 51 ∷ []) r.rtype) rs)
-        (list_any (λ (r : HandedRr). among (5 ∷ 39 ∷ []) r.rtype) rs)
-        (list_any is_meta rs)
-        (list_any (λ (r : HandedRr). eqb r.rtype 2 && is_star r.owner) rs)
-        (list_any (λ (r : HandedRr). (eqb r.rtype 2 && strictly_above apex r.owner) || has_star r.owner) rs)
-        fault.WrongClass fault.OutsideApex fault.SignedType fault.Alias fault.MetaType fault.StarNs fault.NotYet
-        (cond (over_limit mode limit) (Some fault.IterationsOverLimit) None) e in
+    (list_any (λ (r : HandedRr). not (eqb r.class 1)) rs)
+    (list_any (λ (r : HandedRr). not (at_or_above apex r.owner)) rs)
+    (list_any (λ (r : HandedRr). among (46 ∷ 47 ∷ 48 ∷ 50 ∷ 51 ∷ []) r.rtype) rs)
+    (list_any (λ (r : HandedRr). among (5 ∷ 39 ∷ []) r.rtype) rs)
+    (list_any is_meta rs)
+    (list_any (λ (r : HandedRr). eqb r.rtype 2 && is_star r.owner) rs)
+    (list_any (λ (r : HandedRr). (eqb r.rtype 2 && strictly_above apex r.owner) || has_star r.owner) rs)
+    fault.WrongClass fault.OutsideApex fault.SignedType fault.Alias fault.MetaType fault.StarNs fault.NotYet
+    (cond (over_limit mode limit) (Some fault.IterationsOverLimit) None) e in
     record {
       inside = all_sorted (λ r. at_or_above apex r.owner ≡ true) record_cmp rs (all_pass (λ (r : HandedRr). at_or_above apex r.owner) rs k.0);
       plain = all_sorted (λ r. (((eqb r.rtype 2) && strictly_above apex r.owner) || has_star r.owner) ≡ false) record_cmp rs (all_fail (λ (r : HandedRr). ((eqb r.rtype 2) && strictly_above apex r.owner) || has_star r.owner) rs k.1);

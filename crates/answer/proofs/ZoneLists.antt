@@ -23,7 +23,6 @@ pub all_at : {A : Type 0} (P : A → Type 0) (xs : List A) (a : A) → AllByRecu
 all_at P [] a p h = absurd h
 all_at P (x ∷ xs) a p h = ⊎_elim (λ e. subst P (sym e) p.0) (λ k. all_at P xs a p.1 k) h
 
-
 pub list_any-map : {A B : Type 0} (p : B → Bool) (f : A → B) (xs : List A) → list_any p (map f xs) ≡ list_any (λ x. p (f x)) xs
 list_any-map p f [] = refl
 list_any-map p f (x ∷ xs) = ap (λ b. p (f x) || b) (list_any-map p f xs)

@@ -53,7 +53,7 @@ kept_is apex rs h optout o = rw (no_cut_above apex rs h o, no_delegation apex rs
 all_kept : (apex : Name) (rs : List HandedRr) → Plain apex rs → Inside apex rs → (optout : Bool) (of : List HandedRr) → Inside apex of → AllByRecursion (λ r. is_kept (zone_with apex rs) optout (low r.owner) ≡ true) of
 all_kept apex rs h k optout of j =
     all_more (λ r. at_or_above apex r.owner ≡ true) (λ r. is_kept (zone_with apex rs) optout (low r.owner) ≡ true) of
-        (λ r e. kept_is apex rs h optout (low r.owner) ∙ at_or_above-low apex r.owner ∙ e) j
+    (λ r e. kept_is apex rs h optout (low r.owner) ∙ at_or_above-low apex r.owner ∙ e) j
 
 pub unlike_kept : (apex : Name) (rs : List HandedRr) → Plain apex rs → Inside apex rs → (optout : Bool) → has_unlike_ttls (zone_with apex rs) optout rs ≡ list_any (λ r. list_any (unlike_ttls r) rs) rs
 unlike_kept apex rs h k optout =
@@ -75,7 +75,7 @@ owners_kept apex rs h k optout = filter_owners (is_kept (zone_with apex rs) opto
 pub exists_is : (apex : Name) (rs : List HandedRr) → Plain apex rs → Inside apex rs → (optout : Bool) (q : Name) → kept (zone_with apex rs) optout (low q) ≡ (at_or_above apex q && list_any (λ r. at_or_above q r.owner) rs)
 exists_is apex rs h k optout q =
     rw (owners_kept apex rs h k optout, list_any-map (at_or_above (low q)) (λ (r : HandedRr). low r.owner) rs, at_or_above-low apex q)
-        (ap (λ b. at_or_above apex q && b) (any_low q rs))
+    (ap (λ b. at_or_above apex q && b) (any_low q rs))
 
 lower_star : (c : ℕ) → to_ascii_lowercase (to_ascii_lowercase c) ≡ 42 → c ≡ 42
 lower_star c e = grind arith
@@ -90,8 +90,8 @@ star_in : (e n : Name) → at_or_above (star_under e) (low n) ≡ true → has_s
 star_in e [] h = absurd (false≢true h)
 star_in e (l ∷ n) h = ⊎_elim
     (λ s. let p : low (star_under e) ≡ low (low (l ∷ n)) = same_labels _ _ s in
-        let q : str_to_ascii_lowercase (str_to_ascii_lowercase l) ≡ 42 ∷ [] = cc in
-        or_left (bytes_eq (42 ∷ []) l) _ (ap (bytes_eq (42 ∷ [])) (star_label l q)))
+    let q : str_to_ascii_lowercase (str_to_ascii_lowercase l) ≡ 42 ∷ [] = cc in
+    or_left (bytes_eq (42 ∷ []) l) _ (ap (bytes_eq (42 ∷ [])) (star_label l q)))
     (λ s. or_right (bytes_eq (42 ∷ []) l) _ (star_in e n s))
     (or_cases (same (star_under e) (low (l ∷ n))) (at_or_above (star_under e) (low n)) h)
 

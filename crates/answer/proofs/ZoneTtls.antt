@@ -45,12 +45,12 @@ between : (r s t : HandedRr) → record_cmp r s ≡ Less → record_cmp s t ≡ 
 between r s t a b e =
     let o = set_cmp_total in
     ⊎_elim
-        (λ l. ⊎_elim
-            (λ m. let k = o.trans r s t l m in cc)
-            (λ m. let k : set_cmp r s ≡ set_cmp r t = alike_right o s t r m in cc)
-            (set_below s t b))
-        (λ l. (l, sym (o.congr r s t l) ∙ e))
-        (set_below r s a)
+    (λ l. ⊎_elim
+    (λ m. let k = o.trans r s t l m in cc)
+    (λ m. let k : set_cmp r s ≡ set_cmp r t = alike_right o s t r m in cc)
+    (set_below s t b))
+    (λ l. (l, sym (o.congr r s t l) ∙ e))
+    (set_below r s a)
 
 set_from_parts : (r s : HandedRr) → same r.owner s.owner ≡ true → eqb r.rtype s.rtype ≡ true → set_cmp r s ≡ Equal
 set_from_parts r s a b =
@@ -85,9 +85,9 @@ near r s t a b e =
     let k = between r s t a b u.set in
     let rs = parts_of_set r s k.0 in
     ⊎_elim
-        (λ same_ttl. let q = eqb-true r.ttl s.ttl same_ttl in inr (unlike_from s t (record { set = k.1; ttl = ap (λ n. eqb n t.ttl) (sym q) ∙ u.ttl; unsigned = ap (λ n. eqb n 46) (sym rs.1) ∙ u.unsigned })))
-        (λ other. inl (unlike_from r s (record { set = k.0; ttl = other; unsigned = u.unsigned })))
-        (cases_Bool (eqb r.ttl s.ttl))
+    (λ same_ttl. let q = eqb-true r.ttl s.ttl same_ttl in inr (unlike_from s t (record { set = k.1; ttl = ap (λ n. eqb n t.ttl) (sym q) ∙ u.ttl; unsigned = ap (λ n. eqb n 46) (sym rs.1) ∙ u.unsigned })))
+    (λ other. inl (unlike_from r s (record { set = k.0; ttl = other; unsigned = u.unsigned })))
+    (cases_Bool (eqb r.ttl s.ttl))
 
 unlike_back : (r s : HandedRr) → unlike_ttls r s ≡ true → unlike_ttls s r ≡ true
 unlike_back r s e =
@@ -111,13 +111,13 @@ later_from : (xs : List HandedRr) (r s : HandedRr) → Has xs r → Has xs s →
 later_from [] r s h k e = absurd h
 later_from (x ∷ xs) r s h k e = ⊎_elim
     (λ p. ⊎_elim
-        (λ q. absurd (unlike_itself x (ap (λ t. unlike_ttls t x) (sym p) ∙ ap (λ t. unlike_ttls r t) (sym q) ∙ e)))
-        (λ j. or_left _ _ (any_from (unlike_ttls x) xs s j (ap (λ t. unlike_ttls t s) (sym p) ∙ e)))
-        k)
+    (λ q. absurd (unlike_itself x (ap (λ t. unlike_ttls t x) (sym p) ∙ ap (λ t. unlike_ttls r t) (sym q) ∙ e)))
+    (λ j. or_left _ _ (any_from (unlike_ttls x) xs s j (ap (λ t. unlike_ttls t s) (sym p) ∙ e)))
+    k)
     (λ j. ⊎_elim
-        (λ q. or_left _ _ (any_from (unlike_ttls x) xs r j (ap (λ t. unlike_ttls t r) (sym q) ∙ unlike_back r s e)))
-        (λ i. or_right _ _ (later_from xs r s j i e))
-        k)
+    (λ q. or_left _ _ (any_from (unlike_ttls x) xs r j (ap (λ t. unlike_ttls t r) (sym q) ∙ unlike_back r s e)))
+    (λ i. or_right _ _ (later_from xs r s j i e))
+    k)
     h
 
 below_next : (x : HandedRr) (xs : List HandedRr) → IsStrictlySortedBy record_cmp (x ∷ xs) → AllByRecursion (λ y. record_cmp x y ≡ Less) xs × IsStrictlySortedBy record_cmp xs
@@ -131,16 +131,16 @@ neighbours_from (x ∷ y ∷ ys) s e =
     let a = below_next x (y ∷ ys) s in
     let b = below_next y ys a.1 in
     ⊎_elim
-        (λ h. let f = found (unlike_ttls x) (y ∷ ys) h in
-            ⊎_elim
-                (λ q. or_left _ _ (ap (λ t. unlike_ttls x t) (sym q) ∙ f.2))
-                (λ k. ⊎_elim
-                    (λ u. or_left _ _ u)
-                    (λ u. or_right _ _ (neighbours_from (y ∷ ys) a.1 (or_left _ (later ys) (any_from (unlike_ttls y) ys f.0 k u))))
-                    (near x y f.0 a.0.0 (all_at (λ z. record_cmp y z ≡ Less) ys f.0 b.0 k) f.2))
-                f.1)
-        (λ h. or_right _ _ (neighbours_from (y ∷ ys) a.1 h))
-        (or_cases (list_any (unlike_ttls x) (y ∷ ys)) (later (y ∷ ys)) e)
+    (λ h. let f = found (unlike_ttls x) (y ∷ ys) h in
+    ⊎_elim
+    (λ q. or_left _ _ (ap (λ t. unlike_ttls x t) (sym q) ∙ f.2))
+    (λ k. ⊎_elim
+    (λ u. or_left _ _ u)
+    (λ u. or_right _ _ (neighbours_from (y ∷ ys) a.1 (or_left _ (later ys) (any_from (unlike_ttls y) ys f.0 k u))))
+    (near x y f.0 a.0.0 (all_at (λ z. record_cmp y z ≡ Less) ys f.0 b.0 k) f.2))
+    f.1)
+    (λ h. or_right _ _ (neighbours_from (y ∷ ys) a.1 h))
+    (or_cases (list_any (unlike_ttls x) (y ∷ ys)) (later (y ∷ ys)) e)
 
 -- two neighbours are two items
 pair_of_neighbours : (xs : List HandedRr) → neighbours unlike_ttls xs ≡ true → (r s : HandedRr) × Has xs r × Has xs s × (unlike_ttls r s ≡ true)

@@ -34,7 +34,7 @@ name_cmp_total = on_total from_root (lists_total nat_list_cmp_total)
 pub record_cmp_total : IsTotalOrder record_cmp
 record_cmp_total =
     then_total (on_total (λ (r : HandedRr). r.owner) name_cmp_total)
-        (then_total (on_total (λ (r : HandedRr). r.rtype) nat_cmp_total) (on_total (λ (r : HandedRr). r.bytes) nat_list_cmp_total))
+    (then_total (on_total (λ (r : HandedRr). r.rtype) nat_cmp_total) (on_total (λ (r : HandedRr). r.bytes) nat_list_cmp_total))
 
 -- a test holds of an item and the next
 abbrev pub neighbours : {A : Type 0} → (A → A → Bool) → List A → Bool

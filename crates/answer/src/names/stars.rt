@@ -19,6 +19,8 @@ impl Name {
     pub fn has_star(&self) -> bool
         ensures { result ≡ has_star self.now }
     {
-        self.labels.iter().any(|label| b"*".as_slice() == label.as_slice())
+        self.labels
+            .iter()
+            .any(|label| b"*".as_slice() == label.as_slice())
     }
 }

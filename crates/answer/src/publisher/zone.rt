@@ -45,7 +45,13 @@ impl Model for ZoneRecords {
 impl ZoneRecords {
     /// A zone of these records, unless one of them or the chain has a fault. Each fault of the list is sought in the
     /// whole list before the next (RFC 1035, 5.2; RFC 2181, 5.2; RFC 4035, 2).
-    pub fn new(alloc: Global, apex: Name, records: Vec<Record>, mode: Mode, limit: u16) -> Result<ZoneRecords, ZoneFault>
+    pub fn new(
+        alloc: Global,
+        apex: Name,
+        records: Vec<Record>,
+        mode: Mode,
+        limit: u16,
+    ) -> Result<ZoneRecords, ZoneFault>
         ensures zone { IfOk result (λ z. z ≡ record { apex = apex; mode = mode_of mode; limit = limit; records = sorted_records (map handed_of records.items) }) }
         ensures accepted { IfOk result (λ z. IsAccepted apex (mode_of mode) limit (map handed_of records.items)) }
         ensures fault { IfErr result (λ f. (f ≡ ZoneFault.Memory) ⊎ IsFault apex (mode_of mode) limit (map handed_of records.items) f) }
@@ -57,7 +63,13 @@ impl ZoneRecords {
     }
 
     /// A zone of records whose data are composed.
-    fn of_handed(alloc: Global, apex: Name, records: Vec<HandedRecord>, mode: Mode, limit: u16) -> Result<ZoneRecords, ZoneFault>
+    fn of_handed(
+        alloc: Global,
+        apex: Name,
+        records: Vec<HandedRecord>,
+        mode: Mode,
+        limit: u16,
+    ) -> Result<ZoneRecords, ZoneFault>
         ensures zone { IfOk result (λ z. z ≡ record { apex = apex; mode = mode_of mode; limit = limit; records = sorted_records records.items }) }
         ensures accepted { IfOk result (λ z. IsAccepted apex (mode_of mode) limit records.items) }
         ensures fault { IfErr result (λ f. (f ≡ ZoneFault.Memory) ⊎ IsFault apex (mode_of mode) limit records.items f) }

@@ -10,7 +10,12 @@ use crate::publisher::fault::{Mode, ZoneFault};
 use crate::publisher::zone::handed::HandedRecord;
 
 /// The first fault of a list, each sought in the whole list before the next.
-pub(super) fn first_fault(apex: &Name, mode: &Mode, limit: u16, records: &[HandedRecord]) -> Option<ZoneFault>
+pub(super) fn first_fault(
+    apex: &Name,
+    mode: &Mode,
+    limit: u16,
+    records: &[HandedRecord],
+) -> Option<ZoneFault>
     ensures { result ≡ first_fault apex.now (mode_of mode.now) limit records.now }
 {
     if any_of_other_class(records) {

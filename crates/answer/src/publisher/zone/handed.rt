@@ -61,7 +61,12 @@ impl HandedRecord {
     pub fn new(alloc: Global, given: Record) -> Result<HandedRecord, AllocError>
         ensures { IfOk result (λ r. r ≡ handed_of given) }
     {
-        let Record { owner, class, ttl, rdata } = given;
+        let Record {
+            owner,
+            class,
+            ttl,
+            rdata,
+        } = given;
         let mut written = Vec::new(alloc);
         rdata.compose_rdata(&mut written)?;
         let mut canonical = Vec::new(alloc);

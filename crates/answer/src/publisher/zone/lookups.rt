@@ -30,7 +30,12 @@ impl ZoneRecords {
     }
 
     /// The data of an owner and a type, in canonical order (RFC 4034, 6.3).
-    pub fn data_at(&self, alloc: Global, name: &Name, rtype: Rtype) -> Result<Vec<RecordData>, AllocError>
+    pub fn data_at(
+        &self,
+        alloc: Global,
+        name: &Name,
+        rtype: Rtype,
+    ) -> Result<Vec<RecordData>, AllocError>
         ensures { IfOk result (λ v. v.items ≡ map data_of (filter (is_of name.now rtype) self.now.records)) }
     {
         data_among(alloc, &self.records, name, rtype)
@@ -67,7 +72,12 @@ impl ZoneRecords {
 }
 
 /// The data of an owner and a type among some records.
-fn data_among(alloc: Global, records: &[HandedRecord], name: &Name, rtype: Rtype) -> Result<Vec<RecordData>, AllocError>
+fn data_among(
+    alloc: Global,
+    records: &[HandedRecord],
+    name: &Name,
+    rtype: Rtype,
+) -> Result<Vec<RecordData>, AllocError>
     ensures { IfOk result (λ v. v.items ≡ map data_of (filter (is_of name.now rtype) records.now)) }
 {
     let mut data = Vec::new(alloc);
@@ -80,7 +90,11 @@ fn data_among(alloc: Global, records: &[HandedRecord], name: &Name, rtype: Rtype
 }
 
 /// The types at an owner among some records.
-pub(super) fn types_among(alloc: Global, records: &[HandedRecord], name: &Name) -> Result<Vec<u16>, AllocError>
+pub(super) fn types_among(
+    alloc: Global,
+    records: &[HandedRecord],
+    name: &Name,
+) -> Result<Vec<u16>, AllocError>
     ensures { IfOk result (λ v. v.items ≡ map (λ r. r.rtype) (filter (λ r. same r.owner name.now) records.now)) }
 {
     let mut types = Vec::new(alloc);

@@ -9,7 +9,10 @@ use std::alloc::{AllocError, Global};
 use std::collections::BTreeSet;
 
 /// The records in canonical order, of those that are equal the first.
-pub(super) fn sorted(alloc: Global, records: Vec<HandedRecord>) -> Result<Vec<HandedRecord>, AllocError>
+pub(super) fn sorted(
+    alloc: Global,
+    records: Vec<HandedRecord>,
+) -> Result<Vec<HandedRecord>, AllocError>
     ensures items { IfOk result (λ v. v.items ≡ sorted_records records.items) }
     ensures rising { IfOk result (λ v. IsStrictlySortedBy record_cmp v.items) }
 {

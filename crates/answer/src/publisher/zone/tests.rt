@@ -9,6 +9,7 @@ use std::alloc::Global;
 use std::test::Fail;
 
 const EXAMPLE: &[u8] = b"\x07example\x00";
+
 const A_EXAMPLE: &[u8] = b"\x01a\x07example\x00";
 
 fn name(alloc: Global, octets: &[u8]) -> Result<Name, Fail> {
@@ -16,8 +17,18 @@ fn name(alloc: Global, octets: &[u8]) -> Result<Name, Fail> {
     Ok(parsed.to_name(alloc)?)
 }
 
-fn record(alloc: Global, owner: &[u8], class: u16, ttl: u32, rtype: u16, octets: &[u8]) -> Result<Record, Fail> {
-    let data = UnknownRecordData::from_octets(Rtype::from_int(rtype), Vec::from_slice(alloc, octets)?)?;
+fn record(
+    alloc: Global,
+    owner: &[u8],
+    class: u16,
+    ttl: u32,
+    rtype: u16,
+    octets: &[u8],
+) -> Result<Record, Fail> {
+    let data = UnknownRecordData::from_octets(
+        Rtype::from_int(rtype),
+        Vec::from_slice(alloc, octets)?,
+    )?;
     Ok(Record::new(
         name(alloc, owner)?,
         Class::from_int(class),
@@ -95,12 +106,18 @@ fn faults_of_the_chain(rt: HostRuntime) -> Result<(), Fail> {
     let mut records = Vec::new(alloc);
     records.push(soa(alloc, 1)?)?;
     records.push(soa(alloc, 2)?)?;
-    assert_eq!(rt; fault_of_all(alloc, records)?, Some(ZoneFault::Chain(SigningError::NoSingleSoa)));
+    assert_eq!(rt;
+        fault_of_all(alloc, records)?,
+        Some(ZoneFault::Chain(SigningError::NoSingleSoa))
+    );
     let mut records = Vec::new(alloc);
     records.push(soa(alloc, 1)?)?;
     records.push(record(alloc, A_EXAMPLE, 1, 1, 1, b"\x01\x02\x03\x04")?)?;
     records.push(record(alloc, A_EXAMPLE, 1, 2, 1, b"\x01\x02\x03\x05")?)?;
-    assert_eq!(rt; fault_of_all(alloc, records)?, Some(ZoneFault::Chain(SigningError::MultipleTtlValues)));
+    assert_eq!(rt;
+        fault_of_all(alloc, records)?,
+        Some(ZoneFault::Chain(SigningError::MultipleTtlValues))
+    );
     let mut records = Vec::new(alloc);
     records.push(soa(alloc, 1)?)?;
     records.push(record(alloc, A_EXAMPLE, 1, 1, 1, b"\x01\x02\x03\x04")?)?;
@@ -113,7 +130,14 @@ fn faults_of_the_chain(rt: HostRuntime) -> Result<(), Fail> {
 fn what_a_zone_has(rt: HostRuntime) -> Result<(), Fail> {
     let alloc = rt.alloc();
     let mut records = Vec::new(alloc);
-    records.push(record(alloc, b"\x01b\x01C\x07example\x00", 1, 60, 1, b"\x01\x02\x03\x04")?)?;
+    records.push(record(
+        alloc,
+        b"\x01b\x01C\x07example\x00",
+        1,
+        60,
+        1,
+        b"\x01\x02\x03\x04",
+    )?)?;
     records.push(soa(alloc, 1)?)?;
     let zone = ZoneRecords::new(alloc, name(alloc, EXAMPLE)?, records, Mode::Nsec, 0)?;
     let b = name(alloc, b"\x01B\x01c\x07example\x00")?;
