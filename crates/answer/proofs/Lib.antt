@@ -26,4 +26,3 @@ pub mod ZoneFaults
 pub mod KeyWhole
 pub mod SignAnswer
 pub mod ZoneChains
-pub mod ZoneBitmap

@@ -33,4 +33,3 @@ pub mod AnswerFaults
 pub mod Events
 pub mod Answering
 pub mod Questions
-pub mod BitmapView

@@ -1,6 +1,6 @@
 //! A simulation of a zone's key life: key calls, things shown, and judgements of them.
 ghost use Rattle.std.specs.Prelude.{◌≡◌, ◌⊎◌, ◌<◌, ◌≤◌, ◌^◌, ℕ, All, map, IfOk, IfErr, length};
-ghost use Rattle.answer.specs.Accepting.{IsAccepted, IsFault, sorted_records};
+ghost use Rattle.answer.specs.Accepting.{IsAccepted, IsFault};
 ghost use Rattle.answer.specs.ZoneView.{mode_of, handed_of};
 ghost use Rattle.answer.specs.Events.{added_octets};
 
@@ -34,6 +34,9 @@ pub fn simulate<S: Scheme, H: Nsec3Hasher>(
 ) -> Result<Vec<Outcome>, ZoneFault>
     requires life { life < 2 ^ 31 }
     requires keys { All (λ e. added_octets e ≤ 65531) events.now }
+    ensures each { IfOk result (λ outcomes. length outcomes.items ≡ length events.now) }
+    ensures accepted { IfOk result (λ outcomes. IsAccepted apex (mode_of mode) limit (map handed_of records.items)) }
+    ensures fault { IfErr result (λ f. (f ≡ ZoneFault.Memory) ⊎ IsFault apex (mode_of mode) limit (map handed_of records.items) f) }
 {
     let publisher = Publisher::new(alloc, apex, records, mode, scheme, hasher, limit, life)?;
     let mut run = Run::new(alloc, publisher, limit);

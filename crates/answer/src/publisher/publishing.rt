@@ -5,7 +5,7 @@ ghost use Rattle.answer.specs.Judging.{is_allowed};
 ghost use Rattle.answer.specs.Questions.{asked_of};
 ghost use Rattle.answer.specs.Served.{key_group, ttl_among};
 ghost use Rattle.answer.specs.GroupView.{Presents};
-ghost use Rattle.answer.specs.Answering.{AnswersZone, AnswersKeys};
+ghost use Rattle.answer.specs.Answering.{AnswersKeys, SignsAnswer};
 ghost use Rattle.answer.specs.Accepting.{IsAccepted, IsFault, sorted_records};
 ghost use Rattle.answer.specs.ZoneView.{mode_of, handed_of};
 ghost use Rattle.answer.specs.KeyState.{text_of, is_available, texts};
@@ -146,7 +146,7 @@ impl<'a, S: Scheme, H: Nsec3Hasher> Publisher<'a, S, H> {
     /// The zone's answer to a question at a moment, signed by each key that signs the zone.
     pub fn answer(&self, question: &Question, now: &UnixTime) -> Result<Vec<u8>, AnswerFault>
         ensures allowed { IsErrOf result AnswerFault.QuestionNotAllowed ↔ (is_allowed self.now.zone.apex (asked_of question.now) ≡ false) }
-        ensures given { IfOk result (λ m. AnswersZone (S.signature_of self.now.scheme.now) (S.verifies self.now.scheme.now) (served (H.hash_of self.now.hasher.now) self.now.zone) self.now.zone.apex (second_of now.now) self.now.life (keys_by_tag self.now.keys Publication.SignsZone) (asked_of question.now) m.items) }
+        ensures signed { IfOk result (λ m. SignsAnswer (S.signature_of self.now.scheme.now) (S.verifies self.now.scheme.now) self.now.zone.apex (second_of now.now) self.now.life (keys_by_tag self.now.keys Publication.SignsZone) (asked_of question.now) m.items) }
     {
         if !is_allowed(self.zone.apex(), question) {
             return Err(AnswerFault::QuestionNotAllowed);
