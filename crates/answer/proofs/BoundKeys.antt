@@ -46,4 +46,4 @@ removed-put [] q k v same h = ap (λ b. cond b [] ((k, v) ∷ [])) (is_eq-itself
 removed-put (e ∷ es) q k v same h =
     let absent = not_here (is_eq (slice_cmp nat_cmp q (string_bytes e.0))) e.1 (find reference_cmp q (by_text es)) h in
     removed_at q k v e es (slice_cmp nat_cmp (string_bytes k) (string_bytes e.0)) (is_eq-itself q (string_bytes k) same) (ap (λ p. is_eq (slice_cmp nat_cmp p (string_bytes e.0))) (sym same) ∙ absent.0) (ap (λ p. is_eq (slice_cmp nat_cmp p (string_bytes e.0))) same)
-      (removed-put es q k v same absent.1)
+    (removed-put es q k v same absent.1)

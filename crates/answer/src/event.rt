@@ -67,15 +67,27 @@ pub enum KeyCall {
         new: Vec<String>,
     },
     /// Reports that the first changes are on all servers, with the greatest TTL in seconds.
-    Propagation1Complete { rolltype: RollType, ttl: u32 },
+    Propagation1Complete {
+        rolltype: RollType,
+        ttl: u32,
+    },
     /// Says that what was served before the first report has expired.
-    CacheExpired1 { rolltype: RollType },
+    CacheExpired1 {
+        rolltype: RollType,
+    },
     /// Reports that the second changes are on all servers, with the greatest TTL in seconds.
-    Propagation2Complete { rolltype: RollType, ttl: u32 },
+    Propagation2Complete {
+        rolltype: RollType,
+        ttl: u32,
+    },
     /// Says that what was served before the second report has expired.
-    CacheExpired2 { rolltype: RollType },
+    CacheExpired2 {
+        rolltype: RollType,
+    },
     /// Ends a roll whose last actions are done.
-    RollDone { rolltype: RollType },
+    RollDone {
+        rolltype: RollType,
+    },
 }
 
 /// What comes of an event. A thing that is shown says its place.

@@ -30,7 +30,12 @@ pub trait Scheme {
     /// The digest of a type of octets; None for a failure.
     ghost digest_of: { Self → ℕ → List ℕ → Option (List ℕ) };
 
-    fn sign(&self, alloc: Global, key: &Dnskey<&[u8]>, octets: &[u8]) -> Result<Vec<u8>, SchemeError>
+    fn sign(
+        &self,
+        alloc: Global,
+        key: &Dnskey<&[u8]>,
+        octets: &[u8],
+    ) -> Result<Vec<u8>, SchemeError>
         ensures answer { IfOk result (λ s. signature_of self.now key.now octets.now ≡ Some s.items) }
         ensures passes { IfOk result (λ s. verifies self.now key.now octets.now s.items ≡ true) }
         ensures failed { IsErrOf result SchemeError.Failed → signature_of self.now key.now octets.now ≡ None };
@@ -38,7 +43,12 @@ pub trait Scheme {
     fn verify(&self, key: &Dnskey<&[u8]>, octets: &[u8], signature: &[u8]) -> bool
         ensures { result ≡ verifies self.now key.now octets.now signature.now };
 
-    fn digest(&self, alloc: Global, algorithm: DigestAlgorithm, octets: &[u8]) -> Result<Vec<u8>, SchemeError>
+    fn digest(
+        &self,
+        alloc: Global,
+        algorithm: DigestAlgorithm,
+        octets: &[u8],
+    ) -> Result<Vec<u8>, SchemeError>
         ensures answer { IfOk result (λ d. digest_of self.now algorithm octets.now ≡ Some d.items) }
         ensures fits { IfOk result (λ d. length d.items ≤ 65531) }
         ensures failed { IsErrOf result SchemeError.Failed → digest_of self.now algorithm octets.now ≡ None };
@@ -60,7 +70,12 @@ pub trait Checks {
         ensures others { hashed self.new ≡ hashed self.old }
         ensures same { answers self.new ≡ answers self.old };
 
-    fn digest(&mut self, alloc: Global, algorithm: DigestAlgorithm, octets: &[u8]) -> Result<Vec<u8>, SchemeError>
+    fn digest(
+        &mut self,
+        alloc: Global,
+        algorithm: DigestAlgorithm,
+        octets: &[u8],
+    ) -> Result<Vec<u8>, SchemeError>
         ensures answer { IfOk result (λ d. (answers self.old).digest algorithm octets.now ≡ Some d.items) }
         ensures failed { IsErrOf result SchemeError.Failed → (answers self.old).digest algorithm octets.now ≡ None }
         ensures verifications { verified self.new ≡ verified self.old }

@@ -36,9 +36,9 @@ fn reads_a_small_message(rt: HostRuntime) {
             .name
             .name_eq(&name(&rt, rt.alloc(), b"\x01a\x07example\x00"))
     );
-    let mut count = 0;
+    let mut count = 0usize;
     for entry in view.records() {
-        count += 1;
+        count = usize::saturating_add(count, 1);
         assert!(rt;
             entry
                 .owner
@@ -46,10 +46,9 @@ fn reads_a_small_message(rt: HostRuntime) {
         );
         assert_eq!(rt; entry.rtype, Rtype::A);
         assert_eq!(rt; entry.ttl, Ttl::from_secs(3600));
-        assert_eq!(rt;
-            &SMALL[entry.start..entry.start + entry.length],
-            b"\xc0\x00\x02\x01".as_slice()
-        );
+        let end = entry.start + entry.length;
+        assert!(rt; entry.start <= end && end <= SMALL.len());
+        assert_eq!(rt; &SMALL[entry.start..end], b"\xc0\x00\x02\x01".as_slice());
     }
     assert_eq!(rt; count, 1);
 }

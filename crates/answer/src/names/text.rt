@@ -51,7 +51,9 @@ impl Name {
         match ParsedName::parse(octets, 0) {
             Err(MessageError::ShortInput) => Err(NameError::ShortInput),
             Err(_) => Err(NameError::Malformed),
-            Ok((name, end)) if end == octets.len() => name.to_name(alloc).map_err(|_| NameError::Memory),
+            Ok((name, end)) if end == octets.len() => name
+                .to_name(alloc)
+                .map_err(|_| NameError::Memory),
             Ok(_) => Err(NameError::TrailingData),
         }
     }
@@ -124,8 +126,16 @@ fn push_label(wire: &mut Vec<u8>, label: &mut Vec<u8>) -> Result<(), FromStrErro
 /// The first symbol of a text, and what follows it; None where no symbol stands there.
 fn first_symbol(text: &[u8]) -> Option<(Symbol, &[u8])> {
     match text {
-        [b'\\', a @ b'0'..=b'9', b @ b'0'..=b'9', c @ b'0'..=b'9', rest @ ..] => {
-            let number = u32::from(*a - b'0') * 100 + u32::from(*b - b'0') * 10 + u32::from(*c - b'0');
+        [
+            b'\\',
+            a @ b'0'..=b'9',
+            b @ b'0'..=b'9',
+            c @ b'0'..=b'9',
+            rest @ ..,
+        ] => {
+            let number = u32::from(*a - b'0') * 100
+                + u32::from(*b - b'0') * 10
+                + u32::from(*c - b'0');
             let octet = u8::try_from(number).ok()?;
             Some((Symbol::Octet(octet), rest))
         }
@@ -183,7 +193,9 @@ mod tests {
     #[test]
     fn refuses_other_texts(rt: HostRuntime) -> Result<(), Fail> {
         let alloc = rt.alloc();
-        for text in ["", "a..b", ".a", "\\256", "\\[x", "a.\\[x", "a\\", "\\1", "\\12x"] {
+        for text in [
+            "", "a..b", ".a", "\\256", "\\[x", "a.\\[x", "a\\", "\\1", "\\12x",
+        ] {
             assert!(rt; octets_of(alloc, text)?.is_none(), "{text}");
         }
         Ok(())

@@ -1,5 +1,5 @@
 //! Writing answers (RFC 1035, 4.1; RFC 4035, 3.1.1).
-ghost use Rattle.std.specs.Prelude.{◌≡◌, ◌+◌, ◌++◌, [], map, length, IfOk, OnOk, if◌then◌else◌};
+ghost use Rattle.std.specs.Prelude.{◌≡◌, ◌+◌, ◌++◌, [], map, length, Err, IfOk, OnOk, if◌then◌else◌};
 ghost use Rattle.std.specs.List.{AllZip, flat_map};
 ghost use Rattle.answer.specs.GroupView.{IsRrsigData};
 ghost use Rattle.answer.specs.Written.{record_octets};
@@ -31,7 +31,8 @@ pub fn compose_answer<S: Scheme, Octs: Octets>(
     answer: &[RrGroup],
     authority: &[RrGroup],
 ) -> Result<Vec<u8>, AnswerFault>
-    ensures { IfOk result (λ m. IsAnswer (S.signature_of scheme.now) (S.verifies scheme.now) terms.now.apex.now terms.now.at terms.now.life keys.now flags (record { name = question.now.name; rtype = question.now.rtype; class = question.now.class }) answer.now authority.now m.items) }
+    ensures allowed { result ≡ Err AnswerFault.QuestionNotAllowed → ⊥ }
+    ensures written { IfOk result (λ m. IsAnswer (S.signature_of scheme.now) (S.verifies scheme.now) terms.now.apex.now terms.now.at terms.now.life keys.now flags (record { name = question.now.name; rtype = question.now.rtype; class = question.now.class }) answer.now authority.now m.items) }
 {
     let answers = write_section(alloc, scheme, terms, keys, answer)?;
     let authorities = write_section(alloc, scheme, terms, keys, authority)?;
@@ -61,7 +62,8 @@ fn write_section<S: Scheme, Octs: Octets>(
     keys: &[Dnskey<Octs>],
     groups: &[RrGroup],
 ) -> Result<Section, AnswerFault>
-    ensures { IfOk result (λ s. IsSection (S.signature_of scheme.now) (S.verifies scheme.now) terms.now.apex.now terms.now.at terms.now.life keys.now groups.now s.octets.items s.count) }
+    ensures allowed { result ≡ Err AnswerFault.QuestionNotAllowed → ⊥ }
+    ensures written { IfOk result (λ s. IsSection (S.signature_of scheme.now) (S.verifies scheme.now) terms.now.apex.now terms.now.at terms.now.life keys.now groups.now s.octets.items s.count) }
 {
     let mut section = Section {
         octets: Vec::new(alloc),
@@ -99,6 +101,7 @@ impl Section {
         rtype: Rtype,
         datas: &[Vec<u8>],
     ) -> Result<(), AnswerFault>
+        ensures allowed { result ≡ Err AnswerFault.QuestionNotAllowed → ⊥ }
         ensures octets { OnOk result (self.new.octets.items ≡ self.old.octets.items ++ flat_map record_octets (map (record_of group.now rtype) (map (λ d. d.items) datas.now))) }
         ensures count { OnOk result (self.new.count ≡ self.old.count + length datas.now) }
     {
@@ -110,6 +113,7 @@ impl Section {
 
     /// Writes a record at the owner of an RRset.
     fn push(&mut self, group: &RrGroup, rtype: Rtype, data: &[u8]) -> Result<(), AnswerFault>
+        ensures allowed { result ≡ Err AnswerFault.QuestionNotAllowed → ⊥ }
         ensures octets { OnOk result (self.new.octets.items ≡ self.old.octets.items ++ record_octets (record_of group.now rtype data.now)) }
         ensures count { OnOk result (self.new.count ≡ self.old.count + 1) }
     {

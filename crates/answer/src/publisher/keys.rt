@@ -247,7 +247,13 @@ impl ZoneKeys {
     }
 
     /// Starts a roll from the old keys to the new ones.
-    pub(crate) fn start_roll(&mut self, rolltype: RollType, old: &[&str], new: &[&str], now: &UnixTime) -> Result<Vec<Action>, KeyFault>
+    pub(crate) fn start_roll(
+        &mut self,
+        rolltype: RollType,
+        old: &[&str],
+        new: &[&str],
+        now: &UnixTime,
+    ) -> Result<Vec<Action>, KeyFault>
         ensures { (digests : dnskey.Dnskey → Option (List ℕ)) → GivesKeys (λ v. v.items) self.old self.new result (apply digests (Start rolltype (texts old.now) (texts new.now)) now.now self.old) }
     {
         match self.keys.start_roll(rolltype, old, new, now) {
@@ -257,7 +263,12 @@ impl ZoneKeys {
     }
 
     /// Reports that a roll's first changes are on all servers; `ttl` is the greatest one of what they replaced.
-    pub(crate) fn propagation1_complete(&mut self, rolltype: RollType, ttl: u32, now: &UnixTime) -> Result<Vec<Action>, KeyFault>
+    pub(crate) fn propagation1_complete(
+        &mut self,
+        rolltype: RollType,
+        ttl: u32,
+        now: &UnixTime,
+    ) -> Result<Vec<Action>, KeyFault>
         ensures { (digests : dnskey.Dnskey → Option (List ℕ)) → GivesKeys (λ v. v.items) self.old self.new result (apply digests (Report1 rolltype ttl) now.now self.old) }
     {
         match self.keys.propagation1_complete(rolltype, ttl, now) {
@@ -267,7 +278,11 @@ impl ZoneKeys {
     }
 
     /// Ends a roll's first wait.
-    pub(crate) fn cache_expired1(&mut self, rolltype: RollType, now: &UnixTime) -> Result<Vec<Action>, KeyFault>
+    pub(crate) fn cache_expired1(
+        &mut self,
+        rolltype: RollType,
+        now: &UnixTime,
+    ) -> Result<Vec<Action>, KeyFault>
         ensures { (digests : dnskey.Dnskey → Option (List ℕ)) → GivesKeys (λ v. v.items) self.old self.new result (apply digests (Wait1 rolltype) now.now self.old) }
     {
         match self.keys.cache_expired1(rolltype, now) {
@@ -277,7 +292,12 @@ impl ZoneKeys {
     }
 
     /// Reports that a roll's second changes are on all servers; `ttl` is the greatest one of what they replaced.
-    pub(crate) fn propagation2_complete(&mut self, rolltype: RollType, ttl: u32, now: &UnixTime) -> Result<Vec<Action>, KeyFault>
+    pub(crate) fn propagation2_complete(
+        &mut self,
+        rolltype: RollType,
+        ttl: u32,
+        now: &UnixTime,
+    ) -> Result<Vec<Action>, KeyFault>
         ensures { (digests : dnskey.Dnskey → Option (List ℕ)) → GivesKeys (λ v. v.items) self.old self.new result (apply digests (Report2 rolltype ttl) now.now self.old) }
     {
         match self.keys.propagation2_complete(rolltype, ttl, now) {
@@ -287,7 +307,11 @@ impl ZoneKeys {
     }
 
     /// Ends a roll's second wait.
-    pub(crate) fn cache_expired2(&mut self, rolltype: RollType, now: &UnixTime) -> Result<Vec<Action>, KeyFault>
+    pub(crate) fn cache_expired2(
+        &mut self,
+        rolltype: RollType,
+        now: &UnixTime,
+    ) -> Result<Vec<Action>, KeyFault>
         ensures { (digests : dnskey.Dnskey → Option (List ℕ)) → GivesKeys (λ v. v.items) self.old self.new result (apply digests (Wait2 rolltype) now.now self.old) }
     {
         match self.keys.cache_expired2(rolltype, now) {

@@ -267,7 +267,13 @@ impl<'a, S: Scheme, H: Nsec3Hasher> Publisher<'a, S, H> {
     }
 
     /// Starts a roll from the old keys to the new ones.
-    pub fn start_roll(&mut self, rolltype: RollType, old: &[&str], new: &[&str], now: &UnixTime) -> Result<Vec<Action>, KeyFault>
+    pub fn start_roll(
+        &mut self,
+        rolltype: RollType,
+        old: &[&str],
+        new: &[&str],
+        now: &UnixTime,
+    ) -> Result<Vec<Action>, KeyFault>
         ensures keys { GivesKeys (λ v. v.items) self.old.keys self.new.keys result (apply (digest_at (S.digest_of self.old.scheme.now) self.old.zone.apex) (Start rolltype (texts old.now) (texts new.now)) now.now self.old.keys) }
         ensures rest { self.new ≡ record self.old { keys = self.new.keys } }
     {
@@ -275,7 +281,12 @@ impl<'a, S: Scheme, H: Nsec3Hasher> Publisher<'a, S, H> {
     }
 
     /// Reports that a roll's first changes are on all servers; `ttl` is the greatest one of what they replaced.
-    pub fn propagation1_complete(&mut self, rolltype: RollType, ttl: u32, now: &UnixTime) -> Result<Vec<Action>, KeyFault>
+    pub fn propagation1_complete(
+        &mut self,
+        rolltype: RollType,
+        ttl: u32,
+        now: &UnixTime,
+    ) -> Result<Vec<Action>, KeyFault>
         ensures keys { GivesKeys (λ v. v.items) self.old.keys self.new.keys result (apply (digest_at (S.digest_of self.old.scheme.now) self.old.zone.apex) (Report1 rolltype ttl) now.now self.old.keys) }
         ensures rest { self.new ≡ record self.old { keys = self.new.keys } }
     {
@@ -283,7 +294,11 @@ impl<'a, S: Scheme, H: Nsec3Hasher> Publisher<'a, S, H> {
     }
 
     /// Ends a roll's first wait.
-    pub fn cache_expired1(&mut self, rolltype: RollType, now: &UnixTime) -> Result<Vec<Action>, KeyFault>
+    pub fn cache_expired1(
+        &mut self,
+        rolltype: RollType,
+        now: &UnixTime,
+    ) -> Result<Vec<Action>, KeyFault>
         ensures keys { GivesKeys (λ v. v.items) self.old.keys self.new.keys result (apply (digest_at (S.digest_of self.old.scheme.now) self.old.zone.apex) (Wait1 rolltype) now.now self.old.keys) }
         ensures rest { self.new ≡ record self.old { keys = self.new.keys } }
     {
@@ -291,7 +306,12 @@ impl<'a, S: Scheme, H: Nsec3Hasher> Publisher<'a, S, H> {
     }
 
     /// Reports that a roll's second changes are on all servers; `ttl` is the greatest one of what they replaced.
-    pub fn propagation2_complete(&mut self, rolltype: RollType, ttl: u32, now: &UnixTime) -> Result<Vec<Action>, KeyFault>
+    pub fn propagation2_complete(
+        &mut self,
+        rolltype: RollType,
+        ttl: u32,
+        now: &UnixTime,
+    ) -> Result<Vec<Action>, KeyFault>
         ensures keys { GivesKeys (λ v. v.items) self.old.keys self.new.keys result (apply (digest_at (S.digest_of self.old.scheme.now) self.old.zone.apex) (Report2 rolltype ttl) now.now self.old.keys) }
         ensures rest { self.new ≡ record self.old { keys = self.new.keys } }
     {
@@ -299,7 +319,11 @@ impl<'a, S: Scheme, H: Nsec3Hasher> Publisher<'a, S, H> {
     }
 
     /// Ends a roll's second wait.
-    pub fn cache_expired2(&mut self, rolltype: RollType, now: &UnixTime) -> Result<Vec<Action>, KeyFault>
+    pub fn cache_expired2(
+        &mut self,
+        rolltype: RollType,
+        now: &UnixTime,
+    ) -> Result<Vec<Action>, KeyFault>
         ensures keys { GivesKeys (λ v. v.items) self.old.keys self.new.keys result (apply (digest_at (S.digest_of self.old.scheme.now) self.old.zone.apex) (Wait2 rolltype) now.now self.old.keys) }
         ensures rest { self.new ≡ record self.old { keys = self.new.keys } }
     {
@@ -316,7 +340,12 @@ impl<'a, S: Scheme, H: Nsec3Hasher> Publisher<'a, S, H> {
 }
 
 /// The digest of type 2 of a key at the apex (RFC 4034, 5.1.4).
-fn key_digest<S: Scheme>(alloc: Global, scheme: &S, apex: &Name, key: &Dnskey<Vec<u8>>) -> Result<Vec<u8>, KeyFault>
+fn key_digest<S: Scheme>(
+    alloc: Global,
+    scheme: &S,
+    apex: &Name,
+    key: &Dnskey<Vec<u8>>,
+) -> Result<Vec<u8>, KeyFault>
     ensures ok { IfOk result (λ d. digest_at (S.digest_of scheme.now) apex.now key.now ≡ Some d.items) }
     ensures err { IfErr result (λ f. (f ≡ KeyFault.Memory) ⊎ ((f ≡ KeyFault.DigestFailed) × (digest_at (S.digest_of scheme.now) apex.now key.now ≡ None))) }
 {

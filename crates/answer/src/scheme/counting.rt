@@ -53,7 +53,12 @@ impl<'a, S: Scheme, H: Nsec3Hasher, L: Ledger, M: Ledger> Checks for SchemeCheck
         self.scheme.verify(key, octets, signature)
     }
 
-    fn digest(&mut self, alloc: Global, algorithm: DigestAlgorithm, octets: &[u8]) -> Result<Vec<u8>, SchemeError> {
+    fn digest(
+        &mut self,
+        alloc: Global,
+        algorithm: DigestAlgorithm,
+        octets: &[u8],
+    ) -> Result<Vec<u8>, SchemeError> {
         self.scheme.digest(alloc, algorithm, octets)
     }
 

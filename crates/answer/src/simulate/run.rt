@@ -54,7 +54,9 @@ impl<'a, S: Scheme, H: Nsec3Hasher> Run<'a, S, H> {
             Act::ShowDs => self.show_ds(),
             Act::ShowDnskey => self.show_dnskey(&event.at),
             Act::Ask(question) => self.ask(question, &event.at),
-            Act::Judge { ds, dnskey, answer } => Ok(self.judge_shown(*ds, *dnskey, *answer, &event.at)),
+            Act::Judge { ds, dnskey, answer } => Ok(self.judge_shown(
+                *ds, *dnskey, *answer, &event.at,
+            )),
             Act::JudgeBytes {
                 ds,
                 dnskey_bytes,
@@ -158,16 +160,29 @@ impl<'a, S: Scheme, H: Nsec3Hasher> Run<'a, S, H> {
 
     /// Judges three things that were shown, for the question of the zone answer.
     fn judge_shown(&self, ds: usize, dnskey: usize, answer: usize, at: &UnixTime) -> Outcome {
-        match (self.shown.get(ds), self.shown.get(dnskey), self.shown.get(answer)) {
-            (Some(Shown::OfParent(ds)), Some(Shown::OfKeys(keys)), Some(Shown::OfZone(question, octets))) => {
-                Outcome::Judged(self.judged(ds, keys, octets, question, at))
-            }
+        match (
+            self.shown.get(ds),
+            self.shown.get(dnskey),
+            self.shown.get(answer),
+        ) {
+            (
+                Some(Shown::OfParent(ds)),
+                Some(Shown::OfKeys(keys)),
+                Some(Shown::OfZone(question, octets)),
+            ) => { Outcome::Judged(self.judged(ds, keys, octets, question, at)) }
             _ => Outcome::BadPlace,
         }
     }
 
     /// Judges any bytes beside a DS set that was shown.
-    fn judge_bytes(&self, ds: usize, dnskey_bytes: &[u8], answer_bytes: &[u8], question: &Question, at: &UnixTime) -> Outcome {
+    fn judge_bytes(
+        &self,
+        ds: usize,
+        dnskey_bytes: &[u8],
+        answer_bytes: &[u8],
+        question: &Question,
+        at: &UnixTime,
+    ) -> Outcome {
         match self.shown.get(ds) {
             Some(Shown::OfParent(ds)) => {
                 Outcome::Judged(self.judged(ds, dnskey_bytes, answer_bytes, question, at))
@@ -176,7 +191,14 @@ impl<'a, S: Scheme, H: Nsec3Hasher> Run<'a, S, H> {
         }
     }
 
-    fn judged(&self, ds: &[Ds<Vec<u8>>], dnskey_bytes: &[u8], answer_bytes: &[u8], question: &Question, at: &UnixTime) -> Result<Judgement, Refused> {
+    fn judged(
+        &self,
+        ds: &[Ds<Vec<u8>>],
+        dnskey_bytes: &[u8],
+        answer_bytes: &[u8],
+        question: &Question,
+        at: &UnixTime,
+    ) -> Result<Judgement, Refused> {
         counted::<S, H, Brand, Brand>(
             self.alloc,
             self.publisher.scheme,
@@ -217,7 +239,17 @@ fn counted<S: Scheme, H: Nsec3Hasher, L: Ledger, M: Ledger>(
     requires second_some { 0 < M.parts }
 {
     let mut checks = SchemeChecks::<S, H, L, M>::new(scheme, hasher, first, second);
-    judge(alloc, apex, ds, dnskey_bytes, answer_bytes, question, now, &mut checks, limit)
+    judge(
+        alloc,
+        apex,
+        ds,
+        dnskey_bytes,
+        answer_bytes,
+        question,
+        now,
+        &mut checks,
+        limit,
+    )
 }
 
 /// A text where there is one.

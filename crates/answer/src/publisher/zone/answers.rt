@@ -11,7 +11,12 @@ use std::cmp::Ordering;
 impl ZoneRecords {
     /// The RRsets of the answer to a question, in order: the one asked for, or else the SOA record and the links
     /// that prove what is missing (RFC 4035, 3.1).
-    pub fn groups(&self, alloc: Global, name: &Name, rtype: Rtype) -> Result<Vec<RrGroup>, AllocError> {
+    pub fn groups(
+        &self,
+        alloc: Global,
+        name: &Name,
+        rtype: Rtype,
+    ) -> Result<Vec<RrGroup>, AllocError> {
         let mut groups = Vec::new(alloc);
         if self.has(name, rtype) {
             groups.push(self.rrset(alloc, name.try_clone(alloc)?, rtype)?)?;
@@ -75,7 +80,15 @@ impl ZoneRecords {
         canonical.push(octets)?;
         let owner = link.owner.try_clone(alloc)?;
         let count = owner.rrsig_label_count();
-        Ok(RrGroup::new(owner, count, Rtype::NSEC, self.chain_ttl(), written, canonical, true))
+        Ok(RrGroup::new(
+            owner,
+            count,
+            Rtype::NSEC,
+            self.chain_ttl(),
+            written,
+            canonical,
+            true,
+        ))
     }
 
     /// The TTL of the chain: the lesser of the SOA record's own and its minimum (RFC 9077, 3).
@@ -114,7 +127,11 @@ impl ZoneRecords {
         for record in &self.records {
             longest = longest.max(record.owner().common_suffix(name));
         }
-        let count = if longest < name.len() { longest } else { name.len().saturating_sub(1) };
+        let count = if longest < name.len() {
+            longest
+        } else {
+            name.len().saturating_sub(1)
+        };
         name.suffix(alloc, count)
     }
 }

@@ -24,8 +24,8 @@ returns-in-Ok c =
     let A : ℕ → Type 0 = λ t. added_tag c.self.inside.keys c.args.new t ≡ Ok (c.add_key.new.keys, []) in
     let P : ZoneKeys → Type 0 = λ s. lifted (bind (string_bytes c.args.new.pubref) c.args.bound s.bound) (added_to s c.args.new c.args.bound) ≡ Ok (record { keys = c.add_key.new.keys; bound = by_text c.insert.new.self.entries }, []) in
     subst P c.self.view_is
-      (lifted_ok (bind (string_bytes c.args.new.pubref) c.args.bound (by_text es)) (by_text c.insert.new.self.entries) (added_tag c.self.inside.keys c.args.new (key_tag c.args.bound.key)) c.add_key.new.keys (subst A tag c.in-Ok.ensures)
-        (ap (λ p. put reference_cmp p c.args.bound (by_text es)) (sym c.in_ok-clone.ensures.cases) ∙ sym (put-by_text es c.in_ok-clone.field-0 c.args.bound) ∙ ap by_text (sym c.in_ok-insert.ensures.entries)))
+    (lifted_ok (bind (string_bytes c.args.new.pubref) c.args.bound (by_text es)) (by_text c.insert.new.self.entries) (added_tag c.self.inside.keys c.args.new (key_tag c.args.bound.key)) c.add_key.new.keys (subst A tag c.in-Ok.ensures)
+    (ap (λ p. put reference_cmp p c.args.bound (by_text es)) (sym c.in_ok-clone.ensures.cases) ∙ sym (put-by_text es c.in_ok-clone.field-0 c.args.bound) ∙ ap by_text (sym c.in_ok-insert.ensures.entries)))
 
 pub returns : goal.returns
 returns c =
