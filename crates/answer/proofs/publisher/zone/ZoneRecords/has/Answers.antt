@@ -1,0 +1,12 @@
+use Rattle.std.proofs.Common.{sym, ◌∙◌, ap, ◌≡◌}
+use Rattle.answer.specs.Accepting.{HandedRr}
+use Rattle.std.proofs.Common.{List}
+use Rattle.std.specs.List.{list_any}
+use Rattle.answer.specs.ZoneView.{is_of}
+use Rattle.answer.proofs.ZoneServed.{has_is}
+use Rattle.answer.proofs.publisher.zone.ZoneRecords.has.Goals as goal
+
+pub returns : goal.returns
+returns c =
+    let records : c.deref.result.now ≡ c.args.self.now.records = c.deref.ensures.value ∙ ap (λ z. z.records) c.self.view_is in
+    c.any_of.ensures ∙ ap (list_any (is_of c.args.name.now c.args.rtype)) records ∙ sym (has_is c.args.self.now.apex c.args.self.now.records c.args.name.now c.args.rtype)

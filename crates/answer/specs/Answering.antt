@@ -1,0 +1,43 @@
+-- What a publisher's messages are.
+use Rattle.std.specs.Prelude.{◌≡◌, ℕ, Bool, false, List, [], ◌∷◌, ◌++◌, length, Option}
+use Rattle.std.specs.List.{AllZip}
+use Rattle.definitions.specs.Name.{Name}
+use Rattle.definitions.specs.Dnskey.{Dnskey}
+use Rattle.definitions.specs.Zone.{Verdict, verdict, Records, NoName, StarRecords, Delegated}
+use Rattle.answer.specs.Message.{Asked}
+use Rattle.answer.specs.GroupView.{GroupView, Presents}
+use Rattle.answer.specs.Composed.{IsAnswer}
+use Rattle.answer.specs.Served.{Served, answer_groups, key_group}
+
+-- an authoritative answer, one that no such name exists, or a referral (RFC 1035, 4.1.1)
+abbrev pub flags_for : Verdict → ℕ
+flags_for NoName = 33795
+flags_for Delegated = 32768
+flags_for _ = 33792
+
+-- how many RRsets stand in the answer section: the one asked for, where it is there
+abbrev pub answered : Verdict → ℕ
+answered (Records ds) = 1
+answered (StarRecords ds) = 1
+answered _ = 0
+
+-- the message that answers a question: the RRsets of the answer in order, those asked for in the answer section
+pub record AnswersZone (sign : Dnskey → List ℕ → Option (List ℕ)) (verifies : Dnskey → List ℕ → List ℕ → Bool) (s : Served) (apex : Name) (at life : ℕ) (keys : List Dnskey) (asked : Asked) (m : List ℕ) : Type 0 where
+  pub answer : List GroupView
+  pub authority : List GroupView
+  pub groups_are : AllZip Presents (answer ++ authority) (answer_groups s asked.name asked.rtype)
+  pub split : length answer ≡ answered (verdict s.zone false asked.name asked.rtype)
+  pub written : IsAnswer sign verifies apex at life keys (flags_for (verdict s.zone false asked.name asked.rtype)) asked answer authority m
+
+-- the DNSKEY answer: the keys that are present
+pub record AnswersKeys (sign : Dnskey → List ℕ → Option (List ℕ)) (verifies : Dnskey → List ℕ → List ℕ → Bool) (s : Served) (apex : Name) (at life : ℕ) (present keys : List Dnskey) (m : List ℕ) : Type 0 where
+  pub group : GroupView
+  pub presents : Presents group (key_group apex (s.ttl_of s.zone.apex 6) present)
+  pub written : IsAnswer sign verifies apex at life keys 33792 (record { name = apex; rtype = 48; class = 1 }) (group ∷ []) [] m
+
+-- the message that answers a question with some RRsets, each with its signatures
+pub record SignsAnswer (sign : Dnskey → List ℕ → Option (List ℕ)) (verifies : Dnskey → List ℕ → List ℕ → Bool) (apex : Name) (at life : ℕ) (keys : List Dnskey) (asked : Asked) (m : List ℕ) : Type 0 where
+  pub flags : ℕ
+  pub answer : List GroupView
+  pub authority : List GroupView
+  pub written : IsAnswer sign verifies apex at life keys flags asked answer authority m

@@ -1,0 +1,39 @@
+-- Answers as they are written: RRsets, each with its signatures behind it.
+use Rattle.std.specs.Prelude.{◌≡◌, ℕ, ◌+◌, ◌≤◌, Bool, List, [], ◌++◌, map, length, Option, if◌then◌else◌}
+use Rattle.std.specs.List.{AllZip, flat_map}
+use Rattle.definitions.specs.Name.{Name}
+use Rattle.definitions.specs.Dnskey.{Dnskey}
+use Rattle.answer.specs.Message.{Asked}
+use Rattle.answer.specs.Written.{Written, record_octets, message_octets}
+use Rattle.answer.specs.GroupView.{GroupView, IsRrsigData}
+
+-- a record of an RRset, or a signature of it
+abbrev pub record_of : GroupView → ℕ → List ℕ → Written
+record_of g t d = record { owner = g.owner; rtype = t; class = 1; ttl = g.ttl; octets = d }
+
+-- the records of an RRset, then its signatures, where it is signed
+abbrev pub IsWritten : (Dnskey → List ℕ → Option (List ℕ)) → (Dnskey → List ℕ → List ℕ → Bool) → Name → ℕ → ℕ → List Dnskey → GroupView → List Written → Type 0
+IsWritten sign verifies apex at life keys g ws =
+    (signatures : List (List ℕ))
+    × (AllZip (IsRrsigData sign verifies apex at life g) (if g.signed then keys else []) signatures
+    × (ws ≡ map (record_of g g.rtype) g.written ++ map (record_of g 46) signatures))
+
+-- the records of RRsets one after another
+abbrev pub joined : List (List Written) → List Written
+joined pieces = flat_map (λ p. p) pieces
+
+-- so many records in so many octets
+abbrev pub IsSection : (Dnskey → List ℕ → Option (List ℕ)) → (Dnskey → List ℕ → List ℕ → Bool) → Name → ℕ → ℕ → List Dnskey → List GroupView → List ℕ → ℕ → Type 0
+IsSection sign verifies apex at life keys gs octets count =
+    (pieces : List (List Written))
+    × (AllZip (IsWritten sign verifies apex at life keys) gs pieces
+    × (octets ≡ flat_map record_octets (joined pieces)) × (count ≡ length (joined pieces)))
+
+-- the message that answers a question with RRsets in its answer and authority sections
+pub record IsAnswer (sign : Dnskey → List ℕ → Option (List ℕ)) (verifies : Dnskey → List ℕ → List ℕ → Bool) (apex : Name) (at life : ℕ) (keys : List Dnskey) (flags : ℕ) (asked : Asked) (answer authority : List GroupView) (m : List ℕ) : Type 0 where
+  pub answers : List (List Written)
+  pub authorities : List (List Written)
+  pub answers_are : AllZip (IsWritten sign verifies apex at life keys) answer answers
+  pub authorities_are : AllZip (IsWritten sign verifies apex at life keys) authority authorities
+  pub octets_are : m ≡ message_octets flags asked (joined answers) (joined authorities)
+  pub short : length m ≤ 65535

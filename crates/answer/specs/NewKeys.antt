@@ -1,0 +1,22 @@
+-- What an add of the code hands in, as a call of the definitions.
+use Rattle.std.specs.Prelude.{◌≡◌, ℕ, [], Option, Result, Ok, Err, string_bytes}
+use Rattle.definitions.specs.Dnskey.{key_tag}
+use Rattle.answer.specs.declared.publisher.keys.NewKey.{NewKey}
+use Rattle.answer.specs.declared.publisher.fault.KeyFault.{KeyFault}
+use Rattle.answer.specs.KeyState.{KeySetState, Answer, add, new_key, text_of, is_available}
+use Rattle.answer.specs.Bindings.{Call, Add, ZoneKeys, BoundKey, roles_of, bind, lifted}
+use Rattle.answer.specs.KeyCalls.{GivesKeys}
+
+abbrev pub add_of : NewKey → Call
+add_of n = Add n.kind (string_bytes n.pubref) (text_of n.privref) n.algorithm n.public_key.items (is_available n.available)
+
+-- the add to the key set alone, by the key's tag
+abbrev pub added_tag : KeySetState → NewKey → ℕ → Answer
+added_tag s n tag = add (string_bytes n.pubref) (new_key (text_of n.privref) (roles_of n.kind (is_available n.available)) n.algorithm tag n.created) s
+
+abbrev pub added_to : ZoneKeys → NewKey → BoundKey → Answer
+added_to s n b = added_tag s.keys n (key_tag b.key)
+
+-- the key set takes the key, and the reference is bound to it
+abbrev pub AddsBound : {X : Type 0} → ZoneKeys → ZoneKeys → Result X KeyFault → NewKey → BoundKey → Type 0
+AddsBound old new result n b = GivesKeys (λ _. []) old new result (lifted (bind (string_bytes n.pubref) b old.bound) (added_to old n b))

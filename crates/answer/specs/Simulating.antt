@@ -1,0 +1,121 @@
+-- What a simulation of a zone's life answers, event by event.
+use Rattle.std.specs.Prelude.{◌≡◌, ℕ, ◌+◌, ◌/◌, ◌%◌, ◌≤◌, Bool, true, false, List, [], ◌∷◌, ◌++◌, map, length, Option, Some, None, Result, Ok, Err, slice_get, string_bytes}
+use Rattle.definitions.specs.Name.{Name}
+use Rattle.definitions.specs.Dnskey.{Dnskey, Ds}
+use Rattle.answer.specs.declared.event.Event.{Event}
+use Rattle.answer.specs.declared.event.Act.{Act}
+use Rattle.answer.specs.declared.event.Act.TheVariants as act
+use Rattle.answer.specs.declared.event.KeyCall.{KeyCall}
+use Rattle.answer.specs.declared.event.KeyCall.TheVariants as call
+use Rattle.answer.specs.declared.event.Outcome.{Outcome}
+use Rattle.answer.specs.declared.event.Outcome.TheVariants as outcome
+use Rattle.answer.specs.declared.question.Question.{Question}
+use Rattle.answer.specs.declared.publisher.fault.AnswerFault.{AnswerFault}
+use Rattle.answer.specs.declared.publisher.fault.AnswerFault.TheVariants as refusal
+use Rattle.answer.specs.declared.publisher.keys.KeyKind.TheVariants.{Ksk, Zsk}
+use Rattle.answer.specs.declared.publisher.keys.Publication.TheVariants as publication
+use Rattle.answer.specs.Answers.{Answers}
+use Rattle.answer.specs.Message.{Asked}
+use Rattle.answer.specs.KeyState.{text_of, is_available}
+use Rattle.answer.specs.Bindings.{ZoneKeys, Call, Add, Start, Report1, Wait1, Report2, Wait2, Finish, apply, no_keys, ds_set, published, dnskeys}
+use Rattle.answer.specs.KeyCalls.{GivesKeys}
+use Rattle.answer.specs.ZoneView.{AcceptedZone}
+use Rattle.answer.specs.Publishing.{digest_at, served}
+use Rattle.answer.specs.Given as given
+use Rattle.answer.specs.Judging.{Handing, Judges, answer_of, verifications_of, hashes_of, is_allowed}
+
+-- an accepted zone, how long its signatures hold, and what its scheme and hasher answer
+pub record World : Type 0 where
+  pub zone : AcceptedZone
+  pub life : ℕ
+  pub answers : Answers
+
+-- what was shown
+pub data Shown : Type 0 where
+  OfParent : List Ds → Shown
+  OfKeys : List ℕ → Shown
+  OfZone : Asked → List ℕ → Shown
+
+-- the keys now, and the things shown so far
+pub record Sofar : Type 0 where
+  pub keys : ZoneKeys
+  pub shown : List Shown
+
+abbrev pub begin : Name → Sofar
+begin apex = record { keys = no_keys apex; shown = [] }
+
+-- whole seconds, as signatures carry them (RFC 4034, 3.1.5)
+abbrev pub seconds : ℕ → ℕ
+seconds at = at / 1000000000
+
+abbrev pub asked_of : Question Name → Asked
+asked_of q = record { name = q.name; rtype = q.rtype; class = q.class }
+
+-- a key call by its arguments
+abbrev pub call_of : KeyCall → Call
+call_of (call.AddKeyKsk pubref privref algorithm key available) = Add Ksk (string_bytes pubref) (text_of privref) algorithm key.items (is_available available)
+call_of (call.AddKeyZsk pubref privref algorithm key available) = Add Zsk (string_bytes pubref) (text_of privref) algorithm key.items (is_available available)
+call_of (call.StartRoll r olds news) = Start r (map string_bytes olds.items) (map string_bytes news.items)
+call_of (call.Propagation1Complete r ttl) = Report1 r ttl
+call_of (call.CacheExpired1 r) = Wait1 r
+call_of (call.Propagation2Complete r ttl) = Report2 r ttl
+call_of (call.CacheExpired2 r) = Wait2 r
+call_of (call.RollDone r) = Finish r
+
+-- what a judgement is handed
+abbrev pub handing : World → List Ds → List ℕ → List ℕ → Asked → ℕ → Handing
+handing w ds keys answer asked at = record {
+  apex = w.zone.apex;
+  ds = ds;
+  dnskey_bytes = keys;
+  answer_bytes = answer;
+  asked = asked;
+  now = seconds at % 4294967296;
+  limit = w.zone.limit;
+}
+
+-- a judgement of these things, or no such things
+abbrev pub JudgesThings : World → ℕ → Option Shown → Option Shown → Option Shown → Outcome → Type 0
+JudgesThings w at (Some (OfParent ds)) (Some (OfKeys keys)) (Some (OfZone asked answer)) (outcome.Judged j) = Judges 0 (handing w ds keys answer asked at) (answer_of j) (verifications_of j) (hashes_of j)
+JudgesThings w at (Some (OfParent ds)) (Some (OfKeys keys)) (Some (OfZone asked answer)) _ = ⊥
+JudgesThings w at _ _ _ o = o ≡ outcome.BadPlace
+
+abbrev pub JudgesBytes : World → ℕ → Option Shown → List ℕ → List ℕ → Asked → Outcome → Type 0
+JudgesBytes w at (Some (OfParent ds)) keys answer asked (outcome.Judged j) = Judges 0 (handing w ds keys answer asked at) (answer_of j) (verifications_of j) (hashes_of j)
+JudgesBytes w at (Some (OfParent ds)) keys answer asked _ = ⊥
+JudgesBytes w at _ keys answer asked o = o ≡ outcome.BadPlace
+
+-- a question that isn't allowed is refused so, and no other
+abbrev pub RefusesAsked : Bool → AnswerFault → Type 0
+RefusesAsked allowed refusal.QuestionNotAllowed = allowed ≡ false
+RefusesAsked allowed _ = allowed ≡ true
+
+-- One event, its outcome, and what there is after it: a key call gives what the table says; a thing that is shown
+-- takes the next place; a judgement is of what stands at its places.
+abbrev pub StepOf : World → Sofar → ℕ → Act → Outcome → Sofar → Type 0
+StepOf w s at (act.Key c) (outcome.Key r) t =
+    GivesKeys (λ v. v.items) s.keys t.keys r (apply (digest_at w.answers.digest w.zone.apex) (call_of c) at s.keys) × (t.shown ≡ s.shown)
+StepOf w s at act.ShowDs (outcome.Ds place set) t =
+    (place ≡ length s.shown) × (set.items ≡ ds_set s.keys) × (t ≡ record s { shown = s.shown ++ OfParent set.items ∷ [] })
+StepOf w s at act.ShowDnskey (outcome.Message place octets) t =
+    (place ≡ length s.shown)
+    × given.GivesKeys w.answers.verifies 0 (served w.answers.hash w.zone) w.zone.apex (dnskeys (published s.keys publication.Present)) (dnskeys (published s.keys publication.SignsKeys)) (seconds at) w.life octets.items
+    × (t ≡ record s { shown = s.shown ++ OfKeys octets.items ∷ [] })
+StepOf w s at act.ShowDnskey (outcome.Refused refusal.QuestionNotAllowed) t = ⊥
+StepOf w s at act.ShowDnskey (outcome.Refused e) t = t ≡ s
+StepOf w s at (act.Ask q) (outcome.Message place octets) t =
+    (place ≡ length s.shown)
+    × (is_allowed w.zone.apex (asked_of q) ≡ true)
+    × given.GivesAnswer w.answers.verifies 0 (served w.answers.hash w.zone) w.zone.apex (dnskeys (published s.keys publication.SignsZone)) (seconds at) w.life (asked_of q) octets.items
+    × (t ≡ record s { shown = s.shown ++ OfZone (asked_of q) octets.items ∷ [] })
+StepOf w s at (act.Ask q) (outcome.Refused e) t = RefusesAsked (is_allowed w.zone.apex (asked_of q)) e × (t ≡ s)
+StepOf w s at (act.Judge ds keys answer) o t = JudgesThings w at (slice_get s.shown ds) (slice_get s.shown keys) (slice_get s.shown answer) o × (t ≡ s)
+StepOf w s at (act.JudgeBytes ds keys answer q) o t = JudgesBytes w at (slice_get s.shown ds) keys.items answer.items (asked_of q) o × (t ≡ s)
+StepOf w s at _ _ t = ⊥
+
+-- one outcome an event, up to what there is in the end
+abbrev pub Simulates : World → Sofar → List Event → List Outcome → Sofar → Type 0
+Simulates w s [] [] u = u ≡ s
+Simulates w s (e ∷ es) (o ∷ os) u = (t : Sofar) × StepOf w s e.at e.act o t × Simulates w t es os u
+Simulates w s [] (o ∷ os) u = ⊥
+Simulates w s (e ∷ es) [] u = ⊥

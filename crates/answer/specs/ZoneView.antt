@@ -1,0 +1,69 @@
+-- How a zone's records and its mode are seen, and the laws of the records' order.
+use Rattle.std.specs.Prelude.{ℕ, List, [], ◌∷◌, Bool, true, false, ◌&&◌, ◌||◌, ◌==◌, ◌≡◌, length, map, filter}
+use Rattle.std.specs.List.{AllByRecursion}
+use Rattle.std.specs.List.Sorted.{IsStrictlySortedBy}
+use Rattle.std.specs.Cmp.{IsTotalOrder, then_total, on_total}
+use Rattle.std.specs.Cmp.Lexicographic.{slice_cmp}
+use Rattle.std.specs.Ordering.{nat_cmp}
+use Rattle.std.proofs.lemmas.Cmp.{lists_total, nat_cmp_total, nat_list_cmp_total}
+use Rattle.definitions.specs.Name.{Name, from_root, name_cmp, low, at_or_above, strictly_above, same}
+use Rattle.definitions.specs.ZoneChain.{Mode}
+use Rattle.answer.specs.Accepting.{HandedRr, record_cmp, has_star, soas}
+use Rattle.definitions.specs.ZoneChain as chain
+use Rattle.answer.specs.declared.publisher.fault.Mode as declared
+use Rattle.answer.specs.declared.publisher.fault.Mode.TheVariants.{Nsec}
+use Rattle.answer.specs.declared.plain.record.Record.{Record}
+use Rattle.answer.specs.declared.plain.record.ZoneRecordData.{ZoneRecordData}
+use Rattle.answer.specs.declared.plain.record.ZoneRecordData.TheVariants.{Unknown}
+use Rattle.answer.specs.Rdata.{rtype_of, written_of, canonical_of}
+
+abbrev pub mode_of : declared.Mode → Mode
+mode_of Nsec = chain.Nsec
+
+abbrev pub is_unknown : ZoneRecordData → Bool
+is_unknown (Unknown d) = true
+is_unknown _ = false
+
+-- a record as handed in
+abbrev pub handed_of : Record → HandedRr
+handed_of r = record { owner = r.owner; class = r.class; ttl = r.ttl; rtype = rtype_of r.rdata; is_unknown = is_unknown r.rdata; written = written_of r.rdata; bytes = canonical_of r.rdata }
+
+pub name_cmp_total : IsTotalOrder name_cmp
+name_cmp_total = on_total from_root (lists_total nat_list_cmp_total)
+
+pub record_cmp_total : IsTotalOrder record_cmp
+record_cmp_total =
+    then_total (on_total (λ (r : HandedRr). r.owner) name_cmp_total)
+    (then_total (on_total (λ (r : HandedRr). r.rtype) nat_cmp_total) (on_total (λ (r : HandedRr). r.bytes) nat_list_cmp_total))
+
+-- a test holds of an item and the next
+abbrev pub neighbours : {A : Type 0} → (A → A → Bool) → List A → Bool
+neighbours p [] = false
+neighbours p (a ∷ []) = false
+neighbours p (a ∷ b ∷ xs) = p a b || neighbours p (b ∷ xs)
+
+-- what is known of the records of an accepted zone, in order
+pub record IsPublished (apex : Name) (rs : List HandedRr) : Type 0 where
+  pub rising : IsStrictlySortedBy record_cmp rs
+  pub inside : AllByRecursion (λ r. at_or_above apex r.owner ≡ true) rs
+  pub plain : AllByRecursion (λ r. (((r.rtype == 2) && strictly_above apex r.owner) || has_star r.owner) ≡ false) rs
+  pub soa : length (soas apex rs) ≡ 1
+
+-- an accepted zone
+pub record AcceptedZone : Type 0 where
+  pub apex : Name
+  pub mode : Mode
+  pub limit : ℕ
+  pub records : List HandedRr
+
+-- the data of a record: as spelled, and in canonical form
+pub record Datum : Type 0 where
+  pub written : List ℕ
+  pub bytes : List ℕ
+
+abbrev pub data_of : HandedRr → Datum
+data_of r = record { written = r.written; bytes = r.bytes }
+
+-- a record is of a name, up to case, and a type
+abbrev pub is_of : Name → ℕ → HandedRr → Bool
+is_of name t r = same r.owner name && (r.rtype == t)

@@ -1,0 +1,260 @@
+//! Judging a zone answer from bytes alone (RFC 4035, 5).
+ghost use Rattle.std.specs.Prelude.{◌≡◌, ℕ, ◌+◌, ◌<◌, ◌≤◌, ◌^◌, List, [], Option, IfOk, IfErr, OnOk, length, map, filter, true};
+ghost use Rattle.answer.specs.Record.{spelled};
+ghost use Rattle.answer.specs.Message.{message};
+ghost use Rattle.answer.specs.View.{Gives};
+ghost use Rattle.answer.specs.Facts.{Link, is_signature, decided, RefusesFirst, handed};
+ghost use Rattle.answer.specs.Judging.{Judges, verdict_of, answer_of, verifications_of, hashes_of, is_allowed, message_refusal, same_question, verification_bound};
+
+mod decide;
+mod facts;
+mod groups;
+mod keys;
+#[cfg(test)]
+mod tests;
+pub mod verdict;
+
+use crate::denial::ds::Ds;
+use crate::judge::decide::decide;
+use crate::judge::facts::read_facts;
+use crate::judge::groups::{Group, Trust, verify_groups};
+use crate::judge::keys::{TaggedKey, has_equal_tags, read_keys, trusted_keys, usable_keys};
+use crate::judge::verdict::{Judgement, Refusal, Refused, Verdict};
+use crate::message::{MessageError, MessageView, ViewRecord, read_message};
+use crate::names::{Name, ParsedName};
+use crate::plain::{Class, Rtype};
+use crate::question::Question;
+use crate::scheme::Checks;
+use std::alloc::{AllocError, Global};
+
+/// Judges what a zone says of a question, from a DS set, a DNSKEY answer and a zone answer (RFC 4035, 5). The
+/// moment is in whole seconds modulo 2^32; the limit is on the iterations of NSEC3 records.
+pub fn judge<C: Checks>(
+    alloc: Global,
+    apex: &Name,
+    ds: &[Ds<Vec<u8>>],
+    dnskey_bytes: &[u8],
+    answer_bytes: &[u8],
+    question: &Question,
+    now: u32,
+    checks: &mut C,
+    limit: u16,
+) -> Result<Judgement, Refused>
+    ensures judges { Judges 0
+        (record {
+          apex = apex.now;
+          ds = ds.now;
+          dnskey_bytes = dnskey_bytes.now;
+          answer_bytes = answer_bytes.now;
+          asked = record { name = question.now.name; rtype = question.now.rtype; class = question.now.class };
+          now = now;
+          limit = limit;
+        })
+        (answer_of result) (verifications_of result) (hashes_of result) }
+    ensures verified { C.verified checks.new ≡ C.verified checks.old + verifications_of result }
+    ensures hashed { C.hashed checks.new ≡ C.hashed checks.old + hashes_of result }
+    ensures same { C.answers checks.new ≡ C.answers checks.old }
+{
+    if !is_allowed(apex, question) {
+        return Err(Refused {
+            refusal: Refusal::QuestionNotAllowed,
+            verifications: 0,
+            hashes: 0,
+        });
+    }
+    if ds.is_empty() {
+        return Ok(Judgement {
+            verdict: Verdict::Unsigned,
+            verifications: 0,
+            hashes: 0,
+        });
+    }
+    let mut verifications = 0;
+    match judge_messages(
+        alloc,
+        apex,
+        ds,
+        dnskey_bytes,
+        answer_bytes,
+        question,
+        now,
+        checks,
+        &mut verifications,
+    ) {
+        Ok(verdict) => Ok(Judgement {
+            verdict,
+            verifications,
+            hashes: 0,
+        }),
+        Err(refusal) => Err(Refused {
+            refusal,
+            verifications,
+            hashes: 0,
+        }),
+    }
+}
+
+/// Whether a question is answered and judged: class IN, at or below the apex, and none of the types that signing
+/// adds, of aliases, or that no zone holds (RFC 6895, 3.1).
+pub(crate) fn is_allowed(apex: &Name, question: &Question) -> bool
+    ensures { result ≡ is_allowed apex.now (record { name = question.now.name; rtype = question.now.rtype; class = question.now.class }) }
+{
+    question.class == Class::IN
+        && question.name.ends_with(apex)
+        && !matches!(
+            question.rtype.to_int(),
+            46 | 47 | 48 | 50 | 51 | 5 | 39 | 0 | 41 | 128..=255
+        )
+}
+
+/// The verdict of two messages beside a DS set that isn't empty. The count rises by one with each signature that
+/// is verified against a key.
+fn judge_messages<C: Checks>(
+    alloc: Global,
+    apex: &Name,
+    ds: &[Ds<Vec<u8>>],
+    dnskey_bytes: &[u8],
+    answer_bytes: &[u8],
+    question: &Question,
+    now: u32,
+    checks: &mut C,
+    count: &mut u32,
+) -> Result<Verdict, Refusal>
+    requires { count.old ≡ 0 }
+    ensures verdict { OnOk result (message_refusal 0 (handed apex.now ds.now dnskey_bytes.now answer_bytes.now (record { name = question.now.name; rtype = question.now.rtype; class = question.now.class }) now 0) ≡ None) }
+    ensures refusal { IfErr result (λ e. RefusesFirst e (message_refusal 0 (handed apex.now ds.now dnskey_bytes.now answer_bytes.now (record { name = question.now.name; rtype = question.now.rtype; class = question.now.class }) now 0))) }
+    ensures decided { IfOk result (λ v. (answer : Option (List (List ℕ))) × (links : List Link) × (decided apex.now answer links question.now.name question.now.rtype ≡ Some (verdict_of v))) }
+    ensures counted { C.verified checks.new ≡ C.verified checks.old + count.new }
+    ensures bound { count.new ≤ verification_bound 0 (handed apex.now ds.now dnskey_bytes.now answer_bytes.now (record { name = question.now.name; rtype = question.now.rtype; class = question.now.class }) now 0) }
+    ensures hashed { C.hashed checks.new ≡ C.hashed checks.old }
+    ensures same { C.answers checks.new ≡ C.answers checks.old }
+{
+    let (keys_view, answer_view) = read_messages(apex, dnskey_bytes, answer_bytes, question)?;
+    let key_records = records_of(alloc, &keys_view)?;
+    let keys = read_keys(alloc, apex, dnskey_bytes, &key_records)?;
+    if has_equal_tags(&keys) {
+        return Err(Refusal::EqualTags);
+    }
+    let trusted = trusted_keys(alloc, apex, ds, &keys, checks)?;
+    let trust = Trust {
+        apex,
+        keys: &trusted,
+        moment: now,
+    };
+    if !are_verified(
+        alloc,
+        dnskey_bytes,
+        &key_records,
+        &keys,
+        &trust,
+        checks,
+        count,
+    )? {
+        return Err(Refusal::NoTrustedKey);
+    }
+    let usable = usable_keys(alloc, &keys)?;
+    let trust = Trust {
+        apex,
+        keys: &usable,
+        moment: now,
+    };
+    let records = records_of(alloc, &answer_view)?;
+    let facts = read_facts(
+        alloc,
+        answer_bytes,
+        &records,
+        &trust,
+        &question.name,
+        question.rtype,
+        checks,
+        count,
+    )?;
+    let verdict = decide(
+        alloc,
+        apex,
+        facts.answer,
+        &facts.links,
+        &question.name,
+        question.rtype,
+    )?;
+    verdict.ok_or(Refusal::NotProven)
+}
+
+/// Reads both messages, which answer the keys' question and the one that is asked.
+fn read_messages<'a>(
+    apex: &Name,
+    dnskey_bytes: &'a [u8],
+    answer_bytes: &'a [u8],
+    question: &Question,
+) -> Result<(MessageView<'a>, MessageView<'a>), Refusal>
+    ensures keys { IfOk result (λ v. message 0 dnskey_bytes.now ≡ Ok v.0) }
+    ensures answer { IfOk result (λ v. message 0 answer_bytes.now ≡ Ok v.1) }
+    ensures asks_keys { IfOk result (λ v. same_question v.0.asked (record { name = apex.now; rtype = 48; class = 1 }) ≡ true) }
+    ensures asks_answer { IfOk result (λ v. same_question v.1.asked (record { name = question.now.name; rtype = question.now.rtype; class = question.now.class }) ≡ true) }
+    ensures few { IfOk result (λ v. length v.0.records + length v.1.records ≤ 393210) }
+    ensures refusal { IfErr result (λ e. RefusesFirst e (message_refusal 0 (handed apex.now [] dnskey_bytes.now answer_bytes.now (record { name = question.now.name; rtype = question.now.rtype; class = question.now.class }) 0 0))) }
+{
+    let keys = read_counted(dnskey_bytes).map_err(|_| Refusal::BadDnskeyMessage)?;
+    let answer = read_counted(answer_bytes).map_err(|_| Refusal::BadAnswerMessage)?;
+    if !asks(&keys, apex, Rtype::DNSKEY, Class::IN)
+        || !asks(&answer, &question.name, question.rtype, question.class)
+    {
+        return Err(Refusal::QuestionMismatch);
+    }
+    Ok((keys, answer))
+}
+
+/// Reads a message, which has no more records than three counts of 16 bits.
+fn read_counted(bytes: &[u8]) -> Result<MessageView<'_>, MessageError>
+    ensures exact { Gives (λ v. v) result (message 0 bytes.now) }
+    ensures few { IfOk result (λ v. length v.records ≤ 196605) }
+{
+    read_message(bytes)
+}
+
+/// Whether a message asks for a name, up to case, a type and a class.
+fn asks(view: &MessageView, name: &Name, rtype: Rtype, class: Class) -> bool
+    ensures { result ≡ same_question view.now.asked (record { name = name.now; rtype = rtype; class = class }) }
+{
+    let asked = view.question();
+    asked.name.name_eq(name) && asked.rtype == rtype && asked.class == class
+}
+
+/// The records of a message.
+fn records_of<'a>(alloc: Global, view: &MessageView<'a>) -> Result<Vec<ViewRecord<'a>>, AllocError>
+    ensures { IfOk result (λ rs. map spelled rs.items ≡ view.now.records) }
+{
+    let mut records = Vec::new(alloc);
+    for record in view.records() {
+        records.push(record)?;
+    }
+    Ok(records)
+}
+
+/// Whether a trusted key signs the keys.
+fn are_verified<C: Checks>(
+    alloc: Global,
+    message: &[u8],
+    records: &[ViewRecord],
+    keys: &[TaggedKey],
+    trust: &Trust,
+    checks: &mut C,
+    count: &mut u32,
+) -> Result<bool, AllocError>
+    requires { count.old + length records.now < 2 ^ 32 }
+    ensures counted { C.verified checks.new + count.old ≡ C.verified checks.old + count.new }
+    ensures bound { count.new ≤ count.old + length (filter is_signature (map spelled records.now)) }
+    ensures few { count.new ≤ count.old + length records.now }
+    ensures hashed { C.hashed checks.new ≡ C.hashed checks.old }
+    ensures same { C.answers checks.new ≡ C.answers checks.old }
+{
+    let mut group = Group::new(alloc, trust.apex.try_clone(alloc)?, Rtype::DNSKEY);
+    for key in keys {
+        let mut item = Vec::new(alloc);
+        key.dnskey().compose(&mut item)?;
+        group.put(item)?;
+    }
+    let mut groups = [group];
+    verify_groups(alloc, message, records, trust, &mut groups, checks, count)?;
+    Ok(groups[0].verified)
+}

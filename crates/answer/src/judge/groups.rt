@@ -1,0 +1,249 @@
+//! RRsets of a message and the signatures that verify them (RFC 4035, 5.3).
+ghost use Rattle.std.specs.Prelude.{◌≡◌, ◌==◌, ◌&&◌, ◌+◌, ◌<◌, ◌≤◌, ◌^◌, [], IfOk, MatchOption, length, map, filter};
+ghost use Rattle.answer.specs.Record.{spelled};
+ghost use Rattle.answer.specs.Facts.{is_signature, is_due, fits_key, fields_read, signs};
+ghost use Rattle.std.specs.Option.{option_map};
+ghost use Rattle.std.specs.List.{find};
+ghost use Rattle.definitions.specs.Name.{same};
+ghost use Rattle.definitions.specs.Signing.{in_time, signed_octets};
+ghost use Rattle.definitions.specs.Serial.{serial_le};
+
+use crate::denial::rrsig::ProtoRrsig;
+use crate::judge::keys::TaggedKey;
+use crate::message::ViewRecord;
+use crate::message::rdata::RrsigView;
+use crate::names::{Name, ParsedName};
+use crate::plain::{Class, Rtype};
+use crate::publisher::signing::signed_octets;
+use crate::scheme::Checks;
+use std::alloc::{AllocError, Global};
+use std::cmp::Ordering;
+
+/// An RRset of a message: its canonical data ascending, each once, and whether a signature verified it.
+#[derive(Debug, Drop)]
+pub(crate) struct Group {
+    pub(crate) owner: Name,
+    pub(crate) rtype: Rtype,
+    pub(crate) items: Vec<Vec<u8>>,
+    pub(crate) verified: bool,
+}
+
+/// What signatures are held against: the apex, the keys that may sign, and the moment.
+#[derive(Drop)]
+pub(crate) struct Trust<'a> {
+    pub(crate) apex: &'a Name,
+    pub(crate) keys: &'a [TaggedKey<'a>],
+    pub(crate) moment: u32,
+}
+
+impl Group {
+    /// An RRset with no data yet.
+    pub(crate) fn new(alloc: Global, owner: Name, rtype: Rtype) -> Self
+        ensures owner { result.owner ≡ owner }
+        ensures rtype { result.rtype ≡ rtype }
+        ensures items { result.items.items ≡ [] }
+    {
+        Group {
+            owner,
+            rtype,
+            items: Vec::new(alloc),
+            verified: false,
+        }
+    }
+
+    /// Puts data in their place, unless they are there.
+    pub(crate) fn put(&mut self, item: Vec<u8>) -> Result<(), AllocError> {
+        if let Some(place) = place_of(&self.items, &item) {
+            self.items.insert(place, item)?;
+        }
+        Ok(())
+    }
+
+    /// Whether the group has a type and an owner, up to case.
+    pub(crate) fn is_of(&self, owner: &ParsedName, rtype: Rtype) -> bool
+        ensures { result ≡ ((self.now.rtype == rtype) && same owner.now self.now.owner) }
+    {
+        self.rtype == rtype && owner.name_eq(&self.owner)
+    }
+}
+
+/// Where an item belongs in an ascending list; None where it is there.
+fn place_of(items: &[Vec<u8>], item: &[u8]) -> Option<usize>
+    ensures { MatchOption result (Unit {0}) (λ i. i ≤ length items.now) }
+{
+    for (i, other) in items.iter().enumerate() {
+        match item.cmp(other.as_slice()) {
+            Ordering::Less => return Some(i),
+            Ordering::Equal => return None,
+            Ordering::Greater => {},
+        }
+    }
+    Some(items.len())
+}
+
+/// The RRset of an owner and a type: what reads of the records of class IN.
+pub(crate) fn read_group(
+    alloc: Global,
+    message: &[u8],
+    records: &[ViewRecord],
+    owner: &Name,
+    rtype: Rtype,
+) -> Result<Group, AllocError> {
+    let mut group = Group::new(alloc, owner.try_clone(alloc)?, rtype);
+    for record in records {
+        if record.class == Class::IN && group.is_of(&record.owner, record.rtype) {
+            if let Some(item) = record.canonical_data(alloc, message)? {
+                group.put(item)?;
+            }
+        }
+    }
+    Ok(group)
+}
+
+/// Tries the signatures of a message in order, each on its group until one verifies it. The count rises by one
+/// with each that is verified against a key.
+pub(crate) fn verify_groups<C: Checks>(
+    alloc: Global,
+    message: &[u8],
+    records: &[ViewRecord],
+    trust: &Trust,
+    groups: &mut [Group],
+    checks: &mut C,
+    count: &mut u32,
+) -> Result<(), AllocError>
+    requires { count.old + length records.now < 2 ^ 32 }
+    ensures counted { C.verified checks.new + count.old ≡ C.verified checks.old + count.new }
+    ensures bound { count.new ≤ count.old + length (filter is_signature (map spelled records.now)) }
+    ensures few { count.new ≤ count.old + length records.now }
+    ensures hashed { C.hashed checks.new ≡ C.hashed checks.old }
+    ensures same { C.answers checks.new ≡ C.answers checks.old }
+{
+    for record in records {
+        if record.rtype == Rtype::RRSIG {
+            verify_record(alloc, message, record, trust, groups, checks, count)?;
+        }
+    }
+    Ok(())
+}
+
+/// Tries one signature on its group, unless one verified that before.
+fn verify_record<C: Checks>(
+    alloc: Global,
+    message: &[u8],
+    record: &ViewRecord,
+    trust: &Trust,
+    groups: &mut [Group],
+    checks: &mut C,
+    count: &mut u32,
+) -> Result<(), AllocError>
+    requires { count.old + 1 < 2 ^ 32 }
+    ensures counted { C.verified checks.new + count.old ≡ C.verified checks.old + count.new }
+    ensures bound { count.new ≤ count.old + 1 }
+    ensures hashed { C.hashed checks.new ≡ C.hashed checks.old }
+    ensures same { C.answers checks.new ≡ C.answers checks.old }
+{
+    if record.class != Class::IN {
+        return Ok(());
+    }
+    let Some(signature) = RrsigView::read(alloc, message, record)? else {
+        return Ok(());
+    };
+    if let Some(place) = unverified(groups, &record.owner, signature.type_covered) {
+        let group = &mut groups[place];
+        group.verified = verifies(alloc, &signature, trust, group, checks, count)?;
+    }
+    Ok(())
+}
+
+/// The place of the group of an owner and a type, if no signature verified it yet.
+fn unverified(groups: &[Group], owner: &ParsedName, rtype: Rtype) -> Option<usize>
+    ensures { MatchOption result (Unit {0}) (λ i. i < length groups.now) }
+{
+    for (i, group) in groups.iter().enumerate() {
+        if !group.verified && group.is_of(owner, rtype) {
+            return Some(i);
+        }
+    }
+    None
+}
+
+/// Whether a signature verifies its group (RFC 4035, 5.3.1 and 5.3.3).
+fn verifies<C: Checks>(
+    alloc: Global,
+    signature: &RrsigView,
+    trust: &Trust,
+    group: &Group,
+    checks: &mut C,
+    count: &mut u32,
+) -> Result<bool, AllocError>
+    requires { count.old + 1 < 2 ^ 32 }
+    ensures signs { IfOk result (λ b. b ≡ signs (C.answers checks.old) trust.now.apex.now trust.now.keys.now trust.now.moment group.now.owner (map (λ d. d.items) group.now.items.items) (fields_read signature.now) signature.now.signature.now) }
+    ensures counted { C.verified checks.new + count.old ≡ C.verified checks.old + count.new }
+    ensures bound { count.new ≤ count.old + 1 }
+    ensures hashed { C.hashed checks.new ≡ C.hashed checks.old }
+    ensures same { C.answers checks.new ≡ C.answers checks.old }
+{
+    if group.items.is_empty() || !trust.is_due(signature, &group.owner) {
+        return Ok(false);
+    }
+    let Some(key) = trust.key(signature) else {
+        return Ok(false);
+    };
+    let octets = octets_of(alloc, signature, group)?;
+    *count += 1;
+    Ok(checks.verify(key.dnskey(), &octets, signature.signature))
+}
+
+/// What a signature of a group is made over (RFC 4034, 3.1.8.1).
+fn octets_of(alloc: Global, signature: &RrsigView, group: &Group) -> Result<Vec<u8>, AllocError>
+    ensures { IfOk result (λ v. v.items ≡ signed_octets (fields_read signature.now) group.now.owner 1 (map (λ d. d.items) group.now.items.items)) }
+{
+    let fields = ProtoRrsig::new(
+        signature.type_covered,
+        signature.algorithm,
+        signature.labels,
+        signature.original_ttl,
+        signature.expiration,
+        signature.inception,
+        signature.key_tag,
+        signature.signer.try_clone(alloc)?,
+    );
+    signed_octets(alloc, &fields, &group.owner, Class::IN, &group.items)
+}
+
+impl<'a> Trust<'a> {
+    /// Whether a signature is the apex's, holds at the moment, and counts the labels of an owner (RFC 4035, 5.3.1).
+    fn is_due(&self, signature: &RrsigView, owner: &Name) -> bool
+        ensures { result ≡ is_due self.now.apex.now self.now.moment owner.now (fields_read signature.now) }
+    {
+        signature.labels == owner.rrsig_label_count()
+            && in_time(signature, self.moment)
+            && signature.signer.name_eq(self.apex)
+    }
+
+    /// The key of a signature's tag and algorithm.
+    fn key(&self, signature: &RrsigView) -> Option<&TaggedKey<'a>>
+        ensures { option_map (λ k. k.now) result ≡ find (fits_key (fields_read signature.now)) self.now.keys.now }
+    {
+        for key in self.keys {
+            if key.tag() == signature.key_tag && key.dnskey().algorithm() == signature.algorithm {
+                return Some(key);
+            }
+        }
+        None
+    }
+}
+
+/// Whether a signature holds at a moment (RFC 4034, 3.1.5).
+fn in_time(signature: &RrsigView, now: u32) -> bool
+    ensures { result ≡ in_time (fields_read signature.now) now }
+{
+    serial_le(signature.inception, now) && serial_le(now, signature.expiration)
+}
+
+/// Whether a serial number is another, or less than half the circle before it (RFC 1982, 3.2).
+fn serial_le(a: u32, b: u32) -> bool
+    ensures { result ≡ serial_le a b }
+{
+    b.wrapping_sub(a) < 0x8000_0000
+}

@@ -1,0 +1,9 @@
+//! Laws of messages: what is written reads back.
+
+ghost use Rattle.answer.specs.WrittenLaws.{NamesReadBack};
+
+/// A name in wire form reads as itself, with its own spelling, wherever it stands in a message (RFC 1035, 3.1
+/// and 4.1.4).
+pub fn names_read_back()
+    ensures { NamesReadBack }
+{}

@@ -1,0 +1,9 @@
+//! A publisher of one signed zone whose keys roll.
+pub mod compose;
+pub mod fault;
+pub mod group;
+pub mod keys;
+pub mod publishing;
+mod ranked;
+pub mod signing;
+mod zone;

@@ -1,0 +1,360 @@
+//! The publisher.
+ghost use Rattle.std.specs.Prelude.{◌≡◌, ◌⊎◌, ◌<◌, ◌≤◌, ◌^◌, ◌↔◌, [], map, length, string_bytes, IfOk, IfErr, IsErrOf, OnOk, Some, None, false};
+ghost use Rattle.definitions.specs.Name.{low};
+ghost use Rattle.answer.specs.Judging.{is_allowed};
+ghost use Rattle.answer.specs.Questions.{asked_of};
+ghost use Rattle.answer.specs.Served.{key_group, ttl_among};
+ghost use Rattle.answer.specs.GroupView.{Presents};
+ghost use Rattle.answer.specs.Answering.{AnswersKeys, SignsAnswer};
+ghost use Rattle.answer.specs.Accepting.{IsAccepted, IsFault, sorted_records};
+ghost use Rattle.answer.specs.ZoneView.{mode_of, handed_of};
+ghost use Rattle.answer.specs.KeyState.{text_of, is_available, texts};
+ghost use Rattle.answer.specs.Bindings.{no_keys, apply, dnskey_for, ds_set, published, dnskeys, keys_by_tag, Add, Start, Report1, Wait1, Report2, Wait2, Finish};
+ghost use Rattle.answer.specs.KeyCalls.{GivesKeys};
+ghost use Rattle.answer.specs.NewKeys.{add_of};
+ghost use Rattle.answer.specs.Publishing.{digest_at, served, second_of};
+
+use crate::denial::dnskey::Dnskey;
+use crate::denial::ds::Ds;
+use crate::denial::hasher::Nsec3Hasher;
+use crate::judge::is_allowed;
+use crate::keyset::set::KeySet;
+use crate::keyset::{Action, Available, Error, RollType, UnixTime};
+use crate::names::Name;
+use crate::plain::record::Record;
+use crate::plain::{Class, DigestAlgorithm, Rtype, SecurityAlgorithm};
+use crate::publisher::compose::compose_answer;
+use crate::publisher::fault::{AnswerFault, KeyFault, Mode, ZoneFault};
+use crate::publisher::group::RrGroup;
+use crate::publisher::keys::{KeyKind, NewKey, Publication, ZoneKeys};
+use crate::publisher::signing::SignatureTerms;
+use crate::publisher::zone::ZoneRecords;
+use crate::question::Question;
+use crate::scheme::{Scheme, SchemeError};
+use std::alloc::{AllocError, Global};
+use std::slice;
+
+/// The flags of a response, authoritative (RFC 1035, 4.1.1).
+const AUTHORITATIVE: u16 = 0x8400;
+
+/// The flags of one that says that no such name exists.
+const NO_SUCH_NAME: u16 = 0x8403;
+
+/// Publishes one signed zone while its keys roll (RFC 4035, 2 and 3; RFC 6781, 4.1).
+///
+/// It answers questions in signed messages, and shows the DS set that the parent is to have. Scheme and hasher are
+/// borrowed.
+#[derive(Drop)]
+pub struct Publisher<'a, S: Scheme, H: Nsec3Hasher> {
+    alloc: Global,
+    pub(crate) zone: ZoneRecords,
+    pub(crate) keys: ZoneKeys,
+    pub(crate) scheme: &'a S,
+    pub(crate) hasher: &'a H,
+    pub(crate) life: u32,
+}
+
+impl<'a, S: Scheme, H: Nsec3Hasher> Publisher<'a, S, H> {
+    /// A publisher of these records, without keys. Records that are equal up to TTL are one, the first. A signature
+    /// holds for `life` seconds from the moment of its answer.
+    pub fn new(
+        alloc: Global,
+        apex: Name,
+        records: Vec<Record>,
+        mode: Mode,
+        scheme: &'a S,
+        hasher: &'a H,
+        limit: u16,
+        life: u32,
+    ) -> Result<Self, ZoneFault>
+        requires { life < 2 ^ 31 }
+        ensures zone { IfOk result (λ p. p.zone ≡ record { apex = apex; mode = mode_of mode; limit = limit; records = sorted_records (map handed_of records.items) }) }
+        ensures keys { IfOk result (λ p. p.keys ≡ no_keys apex) }
+        ensures scheme { IfOk result (λ p. p.scheme.now ≡ scheme.now) }
+        ensures hasher { IfOk result (λ p. p.hasher.now ≡ hasher.now) }
+        ensures life { IfOk result (λ p. p.life ≡ life) }
+        ensures accepted { IfOk result (λ p. IsAccepted apex (mode_of mode) limit (map handed_of records.items)) }
+        ensures fault { IfErr result (λ f. (f ≡ ZoneFault.Memory) ⊎ IsFault apex (mode_of mode) limit (map handed_of records.items) f) }
+    {
+        let Ok(name) = apex.try_clone(alloc) else {
+            return Err(ZoneFault::Memory);
+        };
+        let zone = ZoneRecords::new(alloc, apex, records, mode, limit)?;
+        Ok(Publisher {
+            alloc,
+            zone,
+            keys: ZoneKeys::new(alloc, name),
+            scheme,
+            hasher,
+            life,
+        })
+    }
+
+    /// The answer for the DNSKEY RRset: the keys that are present, signed by each key that signs keys, at a moment.
+    pub fn dnskey_answer(&self, now: &UnixTime) -> Result<Vec<u8>, AnswerFault>
+        ensures { IfOk result (λ m. AnswersKeys (S.signature_of self.now.scheme.now) (S.verifies self.now.scheme.now) (served (H.hash_of self.now.hasher.now) self.now.zone) self.now.zone.apex (second_of now.now) self.now.life (dnskeys (published self.now.keys Publication.Present)) (keys_by_tag self.now.keys Publication.SignsKeys) m.items) }
+    {
+        let keys = self.keys.keys_by_tag(Publication::SignsKeys)?;
+        let group = self.dnskey_group()?;
+        let question = Question {
+            name: self.zone.apex().try_clone(self.alloc)?,
+            rtype: Rtype::DNSKEY,
+            class: Class::IN,
+        };
+        compose_answer(
+            self.alloc,
+            self.scheme,
+            &self.terms(now),
+            &keys,
+            AUTHORITATIVE,
+            &question,
+            slice::from_ref(&group),
+            &[],
+        )
+    }
+
+    /// The DNSKEY RRset.
+    fn dnskey_group(&self) -> Result<RrGroup, AllocError>
+        ensures { IfOk result (λ g. Presents g (key_group self.now.zone.apex (ttl_among self.now.zone.records (low self.now.zone.apex) 6) (dnskeys (published self.now.keys Publication.Present)))) }
+    {
+        let owner = self.zone.apex().try_clone(self.alloc)?;
+        let count = owner.rrsig_label_count();
+        Ok(RrGroup::new(
+            owner,
+            count,
+            Rtype::DNSKEY,
+            self.zone.soa_ttl(),
+            self.keys.dnskey_data()?,
+            self.keys.dnskey_data()?,
+            true,
+        ))
+    }
+
+    /// What this publisher's signatures of a moment are made with.
+    fn terms(&self, now: &UnixTime) -> SignatureTerms<'_>
+        ensures apex { result.apex.now ≡ self.now.zone.apex }
+        ensures at { result.at ≡ second_of now.now }
+        ensures life { result.life ≡ self.now.life }
+    {
+        SignatureTerms {
+            apex: self.zone.apex(),
+            at: u64::from(now.timestamp()),
+            life: self.life,
+        }
+    }
+
+    /// The zone's answer to a question at a moment, signed by each key that signs the zone.
+    pub fn answer(&self, question: &Question, now: &UnixTime) -> Result<Vec<u8>, AnswerFault>
+        ensures allowed { IsErrOf result AnswerFault.QuestionNotAllowed ↔ (is_allowed self.now.zone.apex (asked_of question.now) ≡ false) }
+        ensures signed { IfOk result (λ m. SignsAnswer (S.signature_of self.now.scheme.now) (S.verifies self.now.scheme.now) self.now.zone.apex (second_of now.now) self.now.life (keys_by_tag self.now.keys Publication.SignsZone) (asked_of question.now) m.items) }
+    {
+        if !is_allowed(self.zone.apex(), question) {
+            return Err(AnswerFault::QuestionNotAllowed);
+        }
+        let keys = self.keys.keys_by_tag(Publication::SignsZone)?;
+        let groups = self
+            .zone
+            .groups(self.alloc, &question.name, question.rtype)?;
+        let (flags, answered) = self.sections(question, groups.len());
+        let (answer, authority) = groups.split_at(answered);
+        compose_answer(
+            self.alloc,
+            self.scheme,
+            &self.terms(now),
+            &keys,
+            flags,
+            question,
+            answer,
+            authority,
+        )
+    }
+
+    /// The flags of an answer, and how many of its RRsets stand in the answer section.
+    fn sections(&self, question: &Question, groups: usize) -> (u16, usize)
+        ensures { result.1 ≤ groups }
+    {
+        if self.zone.has(&question.name, question.rtype) {
+            (AUTHORITATIVE, groups.min(1))
+        } else if self.zone.exists(&question.name) {
+            (AUTHORITATIVE, 0)
+        } else {
+            (NO_SUCH_NAME, 0)
+        }
+    }
+
+    /// The name of the zone.
+    pub fn apex(&self) -> &Name
+        ensures { result.now ≡ self.now.zone.apex }
+    {
+        self.zone.apex()
+    }
+
+    /// The key set.
+    pub fn key_set(&self) -> &KeySet
+        ensures { result.now ≡ self.now.keys.keys }
+    {
+        self.keys.key_set()
+    }
+
+    /// The DS set that the parent is to have, of digest type 2, in order of tag (RFC 4034, 5; RFC 4509).
+    pub fn ds_set(&self) -> Result<Vec<Ds<Vec<u8>>>, AllocError>
+        ensures { IfOk result (λ v. v.items ≡ ds_set self.now.keys) }
+    {
+        self.keys.ds_set()
+    }
+
+    /// Adds a key signing key of these octets, at most 65,531 of them.
+    pub fn add_key_ksk(
+        &mut self,
+        pubref: String,
+        privref: Option<String>,
+        algorithm: SecurityAlgorithm,
+        public_key: Vec<u8>,
+        creation_ts: UnixTime,
+        available: Available,
+    ) -> Result<(), KeyFault>
+        requires { length public_key.items ≤ 65531 }
+        ensures keys { GivesKeys (λ _. []) self.old.keys self.new.keys result (apply (digest_at (S.digest_of self.old.scheme.now) self.old.zone.apex) (Add KeyKind.Ksk (string_bytes pubref) (text_of privref) algorithm public_key.items (is_available available)) creation_ts self.old.keys) }
+        ensures rest { self.new ≡ record self.old { keys = self.new.keys } }
+    {
+        self.add_key(NewKey {
+            kind: KeyKind::Ksk,
+            pubref,
+            privref,
+            algorithm,
+            public_key,
+            created: creation_ts,
+            available,
+        })
+    }
+
+    /// Adds a zone signing key of these octets, at most 65,531 of them.
+    pub fn add_key_zsk(
+        &mut self,
+        pubref: String,
+        privref: Option<String>,
+        algorithm: SecurityAlgorithm,
+        public_key: Vec<u8>,
+        creation_ts: UnixTime,
+        available: Available,
+    ) -> Result<(), KeyFault>
+        requires { length public_key.items ≤ 65531 }
+        ensures keys { GivesKeys (λ _. []) self.old.keys self.new.keys result (apply (digest_at (S.digest_of self.old.scheme.now) self.old.zone.apex) (Add KeyKind.Zsk (string_bytes pubref) (text_of privref) algorithm public_key.items (is_available available)) creation_ts self.old.keys) }
+        ensures rest { self.new ≡ record self.old { keys = self.new.keys } }
+    {
+        self.add_key(NewKey {
+            kind: KeyKind::Zsk,
+            pubref,
+            privref,
+            algorithm,
+            public_key,
+            created: creation_ts,
+            available,
+        })
+    }
+
+    fn add_key(&mut self, new: NewKey) -> Result<(), KeyFault>
+        ensures keys { GivesKeys (λ _. []) self.old.keys self.new.keys result (apply (digest_at (S.digest_of self.old.scheme.now) self.old.zone.apex) (add_of new) new.created self.old.keys) }
+        ensures rest { self.new ≡ record self.old { keys = self.new.keys } }
+    {
+        let public_key = new.public_key.clone()?;
+        let key = Dnskey::new(new.kind.flags(), 3, new.algorithm, public_key);
+        if self.keys.is_bound_away(new.pubref.as_str(), &key) {
+            return Err(KeyFault::ReferenceBound);
+        }
+        let digest = key_digest(self.alloc, self.scheme, self.zone.apex(), &key)?;
+        self.keys.add(new, key, digest)
+    }
+
+    /// Starts a roll from the old keys to the new ones.
+    pub fn start_roll(
+        &mut self,
+        rolltype: RollType,
+        old: &[&str],
+        new: &[&str],
+        now: &UnixTime,
+    ) -> Result<Vec<Action>, KeyFault>
+        ensures keys { GivesKeys (λ v. v.items) self.old.keys self.new.keys result (apply (digest_at (S.digest_of self.old.scheme.now) self.old.zone.apex) (Start rolltype (texts old.now) (texts new.now)) now.now self.old.keys) }
+        ensures rest { self.new ≡ record self.old { keys = self.new.keys } }
+    {
+        self.keys.start_roll(rolltype, old, new, now)
+    }
+
+    /// Reports that a roll's first changes are on all servers; `ttl` is the greatest one of what they replaced.
+    pub fn propagation1_complete(
+        &mut self,
+        rolltype: RollType,
+        ttl: u32,
+        now: &UnixTime,
+    ) -> Result<Vec<Action>, KeyFault>
+        ensures keys { GivesKeys (λ v. v.items) self.old.keys self.new.keys result (apply (digest_at (S.digest_of self.old.scheme.now) self.old.zone.apex) (Report1 rolltype ttl) now.now self.old.keys) }
+        ensures rest { self.new ≡ record self.old { keys = self.new.keys } }
+    {
+        self.keys.propagation1_complete(rolltype, ttl, now)
+    }
+
+    /// Ends a roll's first wait.
+    pub fn cache_expired1(
+        &mut self,
+        rolltype: RollType,
+        now: &UnixTime,
+    ) -> Result<Vec<Action>, KeyFault>
+        ensures keys { GivesKeys (λ v. v.items) self.old.keys self.new.keys result (apply (digest_at (S.digest_of self.old.scheme.now) self.old.zone.apex) (Wait1 rolltype) now.now self.old.keys) }
+        ensures rest { self.new ≡ record self.old { keys = self.new.keys } }
+    {
+        self.keys.cache_expired1(rolltype, now)
+    }
+
+    /// Reports that a roll's second changes are on all servers; `ttl` is the greatest one of what they replaced.
+    pub fn propagation2_complete(
+        &mut self,
+        rolltype: RollType,
+        ttl: u32,
+        now: &UnixTime,
+    ) -> Result<Vec<Action>, KeyFault>
+        ensures keys { GivesKeys (λ v. v.items) self.old.keys self.new.keys result (apply (digest_at (S.digest_of self.old.scheme.now) self.old.zone.apex) (Report2 rolltype ttl) now.now self.old.keys) }
+        ensures rest { self.new ≡ record self.old { keys = self.new.keys } }
+    {
+        self.keys.propagation2_complete(rolltype, ttl, now)
+    }
+
+    /// Ends a roll's second wait.
+    pub fn cache_expired2(
+        &mut self,
+        rolltype: RollType,
+        now: &UnixTime,
+    ) -> Result<Vec<Action>, KeyFault>
+        ensures keys { GivesKeys (λ v. v.items) self.old.keys self.new.keys result (apply (digest_at (S.digest_of self.old.scheme.now) self.old.zone.apex) (Wait2 rolltype) now.now self.old.keys) }
+        ensures rest { self.new ≡ record self.old { keys = self.new.keys } }
+    {
+        self.keys.cache_expired2(rolltype, now)
+    }
+
+    /// Ends a roll whose last actions are done.
+    pub fn roll_done(&mut self, rolltype: RollType) -> Result<Vec<Action>, KeyFault>
+        ensures keys { GivesKeys (λ v. v.items) self.old.keys self.new.keys result (apply (digest_at (S.digest_of self.old.scheme.now) self.old.zone.apex) (Finish rolltype) 0 self.old.keys) }
+        ensures rest { self.new ≡ record self.old { keys = self.new.keys } }
+    {
+        self.keys.roll_done(rolltype)
+    }
+}
+
+/// The digest of type 2 of a key at the apex (RFC 4034, 5.1.4).
+fn key_digest<S: Scheme>(
+    alloc: Global,
+    scheme: &S,
+    apex: &Name,
+    key: &Dnskey<Vec<u8>>,
+) -> Result<Vec<u8>, KeyFault>
+    ensures ok { IfOk result (λ d. digest_at (S.digest_of scheme.now) apex.now key.now ≡ Some d.items) }
+    ensures err { IfErr result (λ f. (f ≡ KeyFault.Memory) ⊎ ((f ≡ KeyFault.DigestFailed) × (digest_at (S.digest_of scheme.now) apex.now key.now ≡ None))) }
+{
+    let mut octets = Vec::new(alloc);
+    apex.compose_canonical(&mut octets)?;
+    key.compose(&mut octets)?;
+    match scheme.digest(alloc, DigestAlgorithm::SHA256, &octets) {
+        Ok(digest) => Ok(digest),
+        Err(SchemeError::Failed) => Err(KeyFault::DigestFailed),
+        Err(SchemeError::Memory) => Err(KeyFault::Memory),
+    }
+}

@@ -1,0 +1,53 @@
+//! A simulation of a zone's key life: key calls, things shown, and judgements of them.
+ghost use Rattle.std.specs.Prelude.{◌≡◌, ◌⊎◌, ◌<◌, ◌≤◌, ◌^◌, ℕ, All, map, IfOk, IfErr, length};
+ghost use Rattle.answer.specs.Accepting.{IsAccepted, IsFault};
+ghost use Rattle.answer.specs.ZoneView.{mode_of, handed_of};
+ghost use Rattle.answer.specs.Events.{added_octets};
+
+use crate::denial::hasher::Nsec3Hasher;
+use crate::event::{Event, Outcome};
+use crate::names::Name;
+use crate::plain::record::Record;
+use crate::publisher::fault::{Mode, ZoneFault};
+use crate::publisher::publishing::Publisher;
+use crate::scheme::Scheme;
+use crate::simulate::run::Run;
+use std::alloc::Global;
+
+mod run;
+
+/// Runs events over a zone, one outcome an event.
+///
+/// A thing that is shown takes the next place, from 0 on; a judgement names the places of what it judges. A refused
+/// key call or showing is an outcome of its own. The whole is refused as [`Publisher::new`] refuses the zone, and
+/// with `Memory` where the run's own lists cannot grow.
+pub fn simulate<S: Scheme, H: Nsec3Hasher>(
+    alloc: Global,
+    apex: Name,
+    records: Vec<Record>,
+    mode: Mode,
+    scheme: &S,
+    hasher: &H,
+    limit: u16,
+    life: u32,
+    events: &[Event],
+) -> Result<Vec<Outcome>, ZoneFault>
+    requires life { life < 2 ^ 31 }
+    requires keys { All (λ e. added_octets e ≤ 65531) events.now }
+    ensures each { IfOk result (λ outcomes. length outcomes.items ≡ length events.now) }
+    ensures accepted { IfOk result (λ outcomes. IsAccepted apex (mode_of mode) limit (map handed_of records.items)) }
+    ensures fault { IfErr result (λ f. (f ≡ ZoneFault.Memory) ⊎ IsFault apex (mode_of mode) limit (map handed_of records.items) f) }
+{
+    let publisher = Publisher::new(alloc, apex, records, mode, scheme, hasher, limit, life)?;
+    let mut run = Run::new(alloc, publisher, limit);
+    let mut outcomes = Vec::new(alloc);
+    for event in events {
+        let Ok(outcome) = run.serve(event) else {
+            return Err(ZoneFault::Memory);
+        };
+        if outcomes.push(outcome).is_err() {
+            return Err(ZoneFault::Memory);
+        }
+    }
+    Ok(outcomes)
+}

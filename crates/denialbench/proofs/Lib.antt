@@ -1,0 +1,4 @@
+pub mod InputLemmas
+pub mod LineLemmas
+pub mod NumberLemmas
+pub mod PrintLemmas
