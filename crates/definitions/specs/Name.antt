@@ -29,7 +29,6 @@ wire n = flat_map (λ l. length l ∷ l) n ++ 0 ∷ []
 pub record IsLabel (l : Label) : Type 0 where
   pub some : 0 < length l
   pub short : length l ≤ 63
-  pub octets : AllByRecursion (λ b. b < 256) l
 
 -- at most 255 octets in wire form (RFC 1035, 2.3.4)
 pub record IsName (n : Name) : Type 0 where
