@@ -1,2 +1,3 @@
 pub mod Name
 pub mod Reading
+pub mod Text
