@@ -1,8 +1,8 @@
 -- Reading back the labels that octets spell.
 use Rattle.std.specs.Prelude.{slice_get, Option, None, Some, Result, Ok, Err}
 use Rattle.std.specs.Result.{IsOk, IsErr}
-use Rattle.std.proofs.Common.{◌≡◌, ℕ, zero, suc, ◌+◌, ◌-◌, ◌<◌, ◌≤◌, List, [], ◌∷◌, ◌++◌, length, take, drop, refl, sym, ap, ◌∙◌, append_assoc, length-append, arith}
-use Rattle.std.proofs.lemmas.List.{take_at, drop_at, append-nil, drop-drop}
+use Rattle.std.proofs.Common.{◌≡◌, ℕ, zero, suc, ◌+◌, ◌-◌, ◌<◌, ◌≤◌, List, [], ◌∷◌, ◌++◌, length, take, drop, refl, sym, ap, ◌∙◌, append_assoc, length-append, add-one, arith}
+use Rattle.std.proofs.lemmas.List.{take_at, drop_at, append-nil, drop-drop, take-append-drop}
 use Rattle.std.specs.List.{AllByRecursion}
 use Rattle.definitions.specs.Name.{Name, Label, wire}
 use Rattle.names_flat.specs.Flat.{spelled, labels_up_to, labels_in, name_in, IsRun, SplitsLabel}
@@ -99,3 +99,36 @@ there xs ys i x rest e h = sym (slice_get-drop xs i ∙ ap (λ zs. slice_get zs 
 pub ok_unless : {T E : Type 0} (r : Result T E) → (IsErr r → ⊥) → IsOk r
 ok_unless (Ok x) h = refl
 ok_unless (Err e) h = absurd (h refl)
+
+pub few_labels : (ls : Name) → length (spelled ls) ≤ 255 → length ls ≤ 255
+few_labels ls h = omega (arith, length-spelled ls)
+
+pub none_past : {X : Type 0} (xs : List X) (i : ℕ) → None ≡ slice_get xs i → length xs ≤ i
+none_past [] i h = omega arith
+none_past (x ∷ xs) zero h = cc
+none_past (x ∷ xs) (suc i) h = omega (arith, none_past xs i h)
+
+pub some_within : {X : Type 0} (xs : List X) (i : ℕ) (x : X) → Some x ≡ slice_get xs i → i < length xs
+some_within [] i x h = cc
+some_within (y ∷ xs) zero x h = omega arith
+some_within (y ∷ xs) (suc i) x h = omega (arith, some_within xs i x h)
+
+take_suc : {X : Type 0} (xs : List X) (i : ℕ) (x : X) → Some x ≡ slice_get xs i → take (suc i) xs ≡ take i xs ++ x ∷ []
+take_suc [] i x h = cc
+take_suc (y ∷ xs) zero x h = let e : y ≡ x = cc in λ t. e t ∷ []
+take_suc (y ∷ xs) (suc i) x h = ap (λ zs. y ∷ zs) (take_suc xs i x h)
+
+pub take_one : {X : Type 0} (xs : List X) (i : ℕ) (x : X) → Some x ≡ slice_get xs i → take (i + 1) xs ≡ take i xs ++ x ∷ []
+take_one xs i x h = ap (λ k. take k xs) (add-one i) ∙ take_suc xs i x h
+
+pub length-spelled_push : (ls : Name) (l : Label) → length (spelled (ls ++ l ∷ [])) ≡ length (spelled ls) + (length l + 1)
+length-spelled_push ls l =
+    omega (arith, ap length (spelled-append ls (l ∷ [])), length-append (spelled ls) (spelled (l ∷ [])), length-append l [])
+
+-- the octets of the labels up to a place and of the one there
+pub spelled_more : (ls : Name) (i : ℕ) (l : Label) → Some l ≡ slice_get ls i → length (spelled (take (i + 1) ls)) ≡ length (spelled (take i ls)) + (length l + 1)
+spelled_more ls i l h = ap (λ m. length (spelled m)) (take_one ls i l h) ∙ length-spelled_push (take i ls) l
+
+pub length-spelled-take : (i : ℕ) (ls : Name) → length (spelled (take i ls)) ≤ length (spelled ls)
+length-spelled-take i ls =
+    omega (arith, ap (λ m. length (spelled m)) (take-append-drop i ls), ap length (spelled-append (take i ls) (drop i ls)), length-append (spelled (take i ls)) (spelled (drop i ls)))

@@ -31,7 +31,11 @@ pub record SplitsLabel (run : List ℕ) (label : Label) (rest : List ℕ) : Type
 abbrev pub name_in : List ℕ → Name
 name_in bs = take (length (labels_in bs) - 1) (labels_in bs)
 
+-- the octets are the wire form of the name
+pub record SpellsName (bs : List ℕ) (n : Name) : Type 0 where
+  pub octets : wire n ≡ bs
+  pub name : IsName n
+
 -- the octets are the wire form of a name
-pub record IsFlat (bs : List ℕ) : Type 0 where
-  pub spells : wire (name_in bs) ≡ bs
-  pub name : IsName (name_in bs)
+abbrev pub IsFlat : List ℕ → Type 0
+IsFlat bs = SpellsName bs (name_in bs)

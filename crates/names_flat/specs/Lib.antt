@@ -1,2 +1,5 @@
+pub mod Compare
 pub mod Flat
 pub mod Label
+pub mod Order
+pub mod Refused

@@ -1,4 +1,4 @@
-ghost use Rattle.std.specs.Prelude.{◌≡◌, ℕ, List, length, ◌≤◌, ◌<◌, [], IfOk, IsErr, ◌↔◌};
+ghost use Rattle.std.specs.Prelude.{◌≡◌, ℕ, List, length, ◌≤◌, ◌<◌, [], IfOk, IsErr, ◌↔◌, IsTrue};
 
 /// A label, which borrows its octets.
 #[derive(Clone, Copy)]
@@ -37,9 +37,27 @@ impl<'a> Label<'a> {
         self.octets
     }
 
+    pub fn is_empty(&self) -> bool
+        ensures { IsTrue result ↔ (octets_of self.now ≡ []) }
+    {
+        self.octets.is_empty()
+    }
+
     pub fn len(&self) -> usize
         ensures { result ≡ length (octets_of self.now) }
     {
         self.octets.len()
+    }
+}
+
+#[derive(Clone, Copy, Debug, PartialEq, Eq)]
+pub enum LabelTypeError {
+    Undefined,
+    Extended(u8),
+}
+
+impl std::fmt::Display for LabelTypeError {
+    fn fmt<W: std::fmt::Write>(&self, f: &mut std::fmt::Formatter<W>) -> std::fmt::Result {
+        write!(f, "label type")
     }
 }

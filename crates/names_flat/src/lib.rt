@@ -2,6 +2,10 @@
 //! have in common, however they are kept.
 #![tactic(auto)]
 
+mod check;
 mod flat;
 pub mod label;
+pub mod name_error;
 pub mod octets;
+mod order;
+pub mod traits;
