@@ -1,8 +1,7 @@
 -- Two names, compared label by label.
-use Rattle.std.proofs.Common.{◌≡◌, ℕ, zero, suc, ◌+◌, ◌-◌, ◌<◌, ◌≤◌, Bool, true, false, ◌&&◌, ◌||◌, List, [], ◌∷◌, ◌++◌, length, drop, take, map, refl, sym, ap, ◌∙◌, add-one, arith}
-use Rattle.std.specs.Prelude.{Option, Some, None, slice_get}
+use Rattle.std.proofs.Common.{◌≡◌, ℕ, zero, suc, ◌+◌, ◌<◌, ◌≤◌, Bool, true, false, ◌&&◌, ◌||◌, [], ◌∷◌, length, drop, refl, sym, ap, ◌∙◌, add-one, arith}
+use Rattle.std.specs.Prelude.{Some, slice_get}
 use Rattle.std.specs.Str.{bytes_eq, str_to_ascii_lowercase}
-use Rattle.std.proofs.lemmas.Slice.Eq.{bytes_eq-Decides}
 use Rattle.std.proofs.lemmas.Cmp.{nat_list_eq_equiv}
 use Rattle.definitions.specs.Name.{Name, Label, same, at_or_above}
 use Rattle.names_flat.specs.Compare.{begins_with}
@@ -19,20 +18,12 @@ begins_from (x ∷ m) (y ∷ n) (suc i) zero a b h k = begins_from m (y ∷ n) i
 begins_from (x ∷ m) (y ∷ n) zero (suc j) a b h k = begins_from (x ∷ m) n zero j a b h k
 begins_from (x ∷ m) (y ∷ n) (suc i) (suc j) a b h k = begins_from m n i j a b h k
 
--- the test of two labels, from the code's answer
-pub unlike : (a b : Label) (r : Bool) → r ≡ false → (a ≡ b → r ≡ true) → bytes_eq a b ≡ false
-unlike a b r failed holds = go (bytes_eq a b) refl
-  where
-    go : (t : Bool) → bytes_eq a b ≡ t → t ≡ false
-    go false e = refl
-    go true e = let x : r ≡ true = holds ((bytes_eq-Decides a b).0 e) in cc
-
 pub begins_differs : (m n : Name) (i j : ℕ) (a b : Label) → Some a ≡ slice_get m i → Some b ≡ slice_get n j → bytes_eq (str_to_ascii_lowercase a) (str_to_ascii_lowercase b) ≡ false → begins_with (drop i m) (drop j n) ≡ false
 begins_differs m n i j a b h k d = begins_from m n i j a b h k ∙ ap (λ t. t && begins_with (drop (suc i) m) (drop (suc j) n)) d
 
-pub begins_agrees : (m n : Name) (i j : ℕ) (a b : Label) → Some a ≡ slice_get m i → Some b ≡ slice_get n j → str_to_ascii_lowercase a ≡ str_to_ascii_lowercase b → begins_with (drop i m) (drop j n) ≡ begins_with (drop (i + 1) m) (drop (j + 1) n)
+pub begins_agrees : (m n : Name) (i j : ℕ) (a b : Label) → Some a ≡ slice_get m i → Some b ≡ slice_get n j → bytes_eq (str_to_ascii_lowercase a) (str_to_ascii_lowercase b) ≡ true → begins_with (drop i m) (drop j n) ≡ begins_with (drop (i + 1) m) (drop (j + 1) n)
 begins_agrees m n i j a b h k d =
-    begins_from m n i j a b h k ∙ ap (λ t. t && begins_with (drop (suc i) m) (drop (suc j) n)) ((bytes_eq-Decides (str_to_ascii_lowercase a) (str_to_ascii_lowercase b)).1 d)
+    begins_from m n i j a b h k ∙ ap (λ t. t && begins_with (drop (suc i) m) (drop (suc j) n)) d
     ∙ (λ t. begins_with (drop (sym (add-one i) t) m) (drop (sym (add-one j) t) n))
 
 -- a shorter list begins with no longer one

@@ -1,22 +1,20 @@
 -- Orders of names, label by label.
-use Rattle.std.proofs.Common.{◌≡◌, ℕ, zero, suc, ◌+◌, ◌-◌, ◌<◌, ◌≤◌, ◌⊎◌, inl, inr, Bool, true, false, List, [], ◌∷◌, ◌++◌, length, drop, take, map, refl, sym, ap, subst, ◌∙◌, add-one, add-zero, append_assoc, length-append, ltb, get_or, min, arith}
-use Rattle.std.specs.Prelude.{Option, Some, None, slice_get, reverse}
+use Rattle.std.proofs.Common.{◌≡◌, ℕ, zero, suc, ◌+◌, ◌<◌, ◌≤◌, ◌⊎◌, inl, inr, Bool, true, false, List, [], ◌∷◌, ◌++◌, length, drop, take, map, refl, sym, ap, subst, ◌∙◌, add-one, arith}
+use Rattle.std.specs.Prelude.{Some, slice_get, reverse}
 use Rattle.std.specs.Str.{str_to_ascii_lowercase}
 use Rattle.std.specs.declared.cmp.Ordering.{Ordering}
 use Rattle.std.specs.declared.cmp.Ordering.TheVariants.{Less, Equal, Greater}
 use Rattle.std.specs.Ordering.{nat_cmp, ordering_then, is_ne, MatchOrdering}
 use Rattle.std.specs.Cmp.Lexicographic.{slice_cmp}
-use Rattle.std.proofs.lemmas.List.{map-append, reverse-append, length-map, length-reverse, length-take-le, length-drop, take_all, drop_all, drop-map, drop_more}
+use Rattle.std.proofs.lemmas.List.{map-append, reverse-append, length-map, length-reverse, length-take-le, length-drop, take_all, drop_all}
 use Rattle.std.proofs.lemmas.Cmp.{nat_cmp_total, tied_itself, ranked}
-use Rattle.std.specs.Char.{to_ascii_lowercase}
-use Rattle.std.proofs.lemmas.Bool.Decides.{nat_tests}
-use Rattle.std.proofs.lemmas.Bool.{cases_lt, lt-ltb, le-ltb, ne_eqb, cases_eq}
+use Rattle.names_wire.specs.Label.{wire_label}
+use Rattle.std.proofs.lemmas.Bool.{lt-ltb, le-ltb, ne_eqb, cases_eq}
 use Rattle.definitions.specs.Name.{Name, Label, low, from_root, name_cmp}
 use Rattle.names_flat.specs.Flat.{spelled}
 use Rattle.names_flat.specs.Order.{in_case}
 use Rattle.names_flat.specs.declared.order.Case.{Case}
-use Rattle.names_flat.specs.declared.order.Case.TheVariants.{Kept, Lowered}
-use Rattle.names_flat.proofs.Runs.{take_one, drop-one, spelled-append}
+use Rattle.names_flat.proofs.Runs.{take_one}
 
 pub decided : (o rest : Ordering) → is_ne o ≡ true → ordering_then o rest ≡ o
 decided Less rest h = refl
@@ -87,10 +85,6 @@ cmp_append (c ∷ a) [] x y h = absurd (omega arith)
 cmp_append (c ∷ a) (d ∷ b) x y h =
     ap (ordering_then (nat_cmp c d)) (cmp_append a b x y (omega arith)) ∙ sym (then_assoc (nat_cmp c d) (slice_cmp nat_cmp a b) (slice_cmp nat_cmp x y))
 
-pub length-in_case : (c : Case) (l : Label) → length (in_case c l) ≡ length l
-length-in_case Kept l = refl
-length-in_case Lowered l = length-map l _
-
 nat_tied : (m n : ℕ) → is_ne (nat_cmp m n) ≡ false → m ≡ n
 nat_tied m n h = let r : MatchOrdering Equal (m < n) (m ≡ n) (n < m) = subst (λ o. MatchOrdering o (m < n) (m ≡ n) (n < m)) (tied_is (nat_cmp m n) h) (ranked m n (nat_cmp m n) refl) in r
 
@@ -108,23 +102,22 @@ cmp_from c m n i = slice_cmp nat_cmp (spelled (drop i (map (in_case c) m))) (spe
 cmp_at : (c : Case) (m n : Name) (i : ℕ) (a b : Label) → Some a ≡ slice_get m i → Some b ≡ slice_get n i → cmp_from c m n i ≡ slice_cmp nat_cmp (spelled (in_case c a ∷ drop (i + 1) (map (in_case c) m))) (spelled (in_case c b ∷ drop (i + 1) (map (in_case c) n)))
 cmp_at c m n i a b g h = λ t. slice_cmp nat_cmp (spelled (drop_in_case c m i a g t)) (spelled (drop_in_case c n i b h t))
 
--- labels of unlike lengths decide
-pub lengths_decide : (c : Case) (m n : Name) (i : ℕ) (a b : Label) → Some a ≡ slice_get m i → Some b ≡ slice_get n i → is_ne (nat_cmp (length a) (length b)) ≡ true → cmp_from c m n i ≡ nat_cmp (length a) (length b)
-lengths_decide c m n i a b g h ne =
-    cmp_at c m n i a b g h
-    ∙ (λ t. ordering_then (nat_cmp (length-in_case c a t) (length-in_case c b t)) (slice_cmp nat_cmp (in_case c a ++ spelled (drop (i + 1) (map (in_case c) m))) (in_case c b ++ spelled (drop (i + 1) (map (in_case c) n)))))
-    ∙ decided (nat_cmp (length a) (length b)) _ ne
+-- labels behind their lengths decide before what is behind them
+cmp_labels : (a b x y : List ℕ) → slice_cmp nat_cmp (wire_label a ++ x) (wire_label b ++ y) ≡ ordering_then (slice_cmp nat_cmp (wire_label a) (wire_label b)) (slice_cmp nat_cmp x y)
+cmp_labels a b x y = go (is_ne (nat_cmp (length a) (length b))) refl
+  where
+    go : (t : Bool) → is_ne (nat_cmp (length a) (length b)) ≡ t → slice_cmp nat_cmp (wire_label a ++ x) (wire_label b ++ y) ≡ ordering_then (slice_cmp nat_cmp (wire_label a) (wire_label b)) (slice_cmp nat_cmp x y)
+    go false t = cmp_append (wire_label a) (wire_label b) x y (ap suc (nat_tied (length a) (length b) t))
+    go true t =
+        let o = nat_cmp (length a) (length b) in
+        decided o (slice_cmp nat_cmp (a ++ x) (b ++ y)) t
+        ∙ sym (decided o (ordering_then (slice_cmp nat_cmp a b) (slice_cmp nat_cmp x y)) t)
+        ∙ sym (then_assoc o (slice_cmp nat_cmp a b) (slice_cmp nat_cmp x y))
 
--- else the octets decide before the labels behind
-pub octets_then : (c : Case) (m n : Name) (i : ℕ) (a b : Label) → Some a ≡ slice_get m i → Some b ≡ slice_get n i → is_ne (nat_cmp (length a) (length b)) ≡ false → cmp_from c m n i ≡ ordering_then (slice_cmp nat_cmp (in_case c a) (in_case c b)) (cmp_from c m n (i + 1))
-octets_then c m n i a b g h eq =
-    let rest = spelled (drop (i + 1) (map (in_case c) m)) in
-    let other = spelled (drop (i + 1) (map (in_case c) n)) in
-    let e : length (in_case c a) ≡ length (in_case c b) = length-in_case c a ∙ nat_tied (length a) (length b) eq ∙ sym (length-in_case c b) in
-    let z : nat_cmp (length (in_case c a)) (length (in_case c b)) ≡ Equal = ap (nat_cmp (length (in_case c a))) (sym e) ∙ tied_itself nat_cmp_total (length (in_case c a)) in
-    cmp_at c m n i a b g h
-    ∙ ap (λ o. ordering_then o (slice_cmp nat_cmp (in_case c a ++ rest) (in_case c b ++ other))) z
-    ∙ cmp_append (in_case c a) (in_case c b) rest other e
+-- the labels at a place decide before those behind it
+pub labels_then : (c : Case) (m n : Name) (i : ℕ) (a b : Label) → Some a ≡ slice_get m i → Some b ≡ slice_get n i → cmp_from c m n i ≡ ordering_then (slice_cmp nat_cmp (wire_label (in_case c a)) (wire_label (in_case c b))) (cmp_from c m n (i + 1))
+labels_then c m n i a b g h =
+    cmp_at c m n i a b g h ∙ cmp_labels (in_case c a) (in_case c b) (spelled (drop (i + 1) (map (in_case c) m))) (spelled (drop (i + 1) (map (in_case c) n)))
 
 some_spelled : (ls : Name) → 0 < length ls → slice_cmp nat_cmp [] (spelled ls) ≡ Less
 some_spelled [] h = absurd (omega arith)
@@ -139,6 +132,7 @@ cmp_used_up c m n i e h = go (cases_eq i (length n))
   where
     lm : drop i (map (in_case c) m) ≡ []
     lm = drop_all i (map (in_case c) m) (omega (arith, length-map m (in_case c)))
+
     go : ((i ≡ length n) ⊎ (i ≡ length n → ⊥)) → nat_cmp i (length n) ≡ cmp_from c m n i
     go (inl f) =
         let ln : drop i (map (in_case c) n) ≡ [] = drop_all i (map (in_case c) n) (omega (arith, length-map n (in_case c))) in
@@ -151,40 +145,6 @@ pub cmp_longer : (c : Case) (m n : Name) (i : ℕ) (a : Label) → Some a ≡ sl
 cmp_longer c m n i a g h =
     let ln : drop i (map (in_case c) n) ≡ [] = drop_all i (map (in_case c) n) (omega (arith, length-map n (in_case c))) in
     rw (drop_in_case c m i a g, ln) refl
-
-abbrev pub lowered_from : List ℕ → List ℕ → ℕ → Ordering
-lowered_from a b i = slice_cmp nat_cmp (drop i (str_to_ascii_lowercase a)) (drop i (str_to_ascii_lowercase b))
-
--- the octets at a place, or else those behind it
-pub lowered_at : (a b : List ℕ) (i : ℕ) (d : ℕ) → i < length a → i < length b → lowered_from a b i ≡ ordering_then (nat_cmp (to_ascii_lowercase (get_or a i d)) (to_ascii_lowercase (get_or b i d))) (lowered_from a b (i + 1))
-lowered_at a b i d h k = λ t. slice_cmp nat_cmp (at a h t) (at b k t)
-  where
-    at : (c : List ℕ) → i < length c → drop i (str_to_ascii_lowercase c) ≡ to_ascii_lowercase (get_or c i d) ∷ drop (i + 1) (str_to_ascii_lowercase c)
-    at c h = drop-map to_ascii_lowercase i c ∙ ap (map to_ascii_lowercase) (drop_more c i d h) ∙ ap (λ s. to_ascii_lowercase (get_or c i d) ∷ s) (sym (drop-map to_ascii_lowercase (i + 1) c))
-
-shifted : (m n : ℕ) → n ≤ m → nat_cmp m n ≡ nat_cmp (m - n) 0
-shifted m n h = grind (arith, nat_tests)
-
--- where one text is used up, the lengths decide
-pub lowered_ends : (a b : List ℕ) (i : ℕ) → i ≡ min (length a) (length b) → nat_cmp (length a) (length b) ≡ lowered_from a b i
-lowered_ends a b i e = go (cases_lt (length a) (length b))
-  where
-    la : length (str_to_ascii_lowercase a) ≡ length a
-    la = length-map a to_ascii_lowercase
-    lb : length (str_to_ascii_lowercase b) ≡ length b
-    lb = length-map b to_ascii_lowercase
-    some : (xs : List ℕ) → 0 < length xs → slice_cmp nat_cmp [] xs ≡ Less
-    some [] h = absurd (omega arith)
-    some (x ∷ xs) h = refl
-    more : (xs : List ℕ) → slice_cmp nat_cmp xs [] ≡ nat_cmp (length xs) 0
-    more xs = cmp_to_nil nat_cmp xs
-    go : ((length a < length b) ⊎ (length b ≤ length a)) → nat_cmp (length a) (length b) ≡ lowered_from a b i
-    go (inl l) =
-        rw (drop_all i (str_to_ascii_lowercase a) (omega (arith, la, e)))
-          (less_is (length a) (length b) l ∙ sym (some (drop i (str_to_ascii_lowercase b)) (omega (arith, e, lb, length-drop i (str_to_ascii_lowercase b)))))
-    go (inr l) =
-        rw (drop_all i (str_to_ascii_lowercase b) (omega (arith, lb, e)))
-          (shifted (length a) (length b) l ∙ ap {y = length (drop i (str_to_ascii_lowercase a))} (λ k. nat_cmp k 0) (omega (arith, e, la, length-drop i (str_to_ascii_lowercase a))) ∙ sym (more (drop i (str_to_ascii_lowercase a))))
 
 -- the code's test of an answer that decides before the rest
 pub stops_here : (whole o p rest : Ordering) (t : Bool) → whole ≡ ordering_then o rest → p ≡ o → t ≡ is_ne p → t ≡ true → p ≡ whole

@@ -1,8 +1,7 @@
 -- Reading back the labels that octets spell.
-use Rattle.std.specs.Prelude.{slice_get, Option, None, Some, Result, Ok, Err}
-use Rattle.std.specs.Result.{IsOk, IsErr}
+use Rattle.std.specs.Prelude.{slice_get, None, Some}
 use Rattle.std.proofs.Common.{◌≡◌, ℕ, zero, suc, ◌+◌, ◌-◌, ◌<◌, ◌≤◌, List, [], ◌∷◌, ◌++◌, length, take, drop, refl, sym, ap, ◌∙◌, append_assoc, length-append, add-one, arith}
-use Rattle.std.proofs.lemmas.List.{take_at, drop_at, append-nil, drop-drop, take-append-drop}
+use Rattle.std.proofs.lemmas.List.{take_at, drop_at, drop-drop, take-append-drop}
 use Rattle.std.specs.List.{AllByRecursion}
 use Rattle.definitions.specs.Name.{Name, Label, wire}
 use Rattle.names_flat.specs.Flat.{spelled, labels_up_to, labels_in, name_in, IsRun, SplitsLabel}
@@ -56,10 +55,13 @@ splits_label run rest b r e = go (labels_in run) refl
         let t : take b rest ≡ l = ap (take b) rl ∙ take_at l (spelled ls) b (sym bl) in
         let d : drop b rest ≡ spelled ls = ap (drop b) rl ∙ drop_at l (spelled ls) b (sym bl) in
         let ld : labels_in (drop b rest) ≡ ls = ap labels_in d ∙ labels_in-spelled ls in
-        let all : AllByRecursion (λ k. length k ≤ 63) (l ∷ ls) = rw h at r.short in
-        ( omega (arith, bl, ap length rl, length-append l (spelled ls)),
-          record { first = h ∙ (λ i. sym t i ∷ sym ld i)
-                 ; behind = record { whole = d ∙ ap spelled (sym ld); short = rw ld all.1 } } )
+        let all : AllByRecursion (λ k. length k ≤ 63) (l ∷ ls) = rw h at r.short in (
+          omega (arith, bl, ap length rl, length-append l (spelled ls)),
+          record {
+            first = h ∙ (λ i. sym t i ∷ sym ld i);
+            behind = record { whole = d ∙ ap spelled (sym ld); short = rw ld all.1 };
+          },
+        )
 
 pub empty_run : (run : List ℕ) → length run ≡ 0 → labels_in run ≡ []
 unfolding labels_in
@@ -95,10 +97,6 @@ nothing_at (x ∷ xs) (suc i) (suc j) e h = nothing_at xs i j e (omega arith)
 
 pub there : {X : Type 0} (xs ys : List X) (i : ℕ) (x : X) (rest : List X) → drop i xs ≡ ys → ys ≡ x ∷ rest → Some x ≡ slice_get xs i
 there xs ys i x rest e h = sym (slice_get-drop xs i ∙ ap (λ zs. slice_get zs 0) (e ∙ h))
-
-pub ok_unless : {T E : Type 0} (r : Result T E) → (IsErr r → ⊥) → IsOk r
-ok_unless (Ok x) h = refl
-ok_unless (Err e) h = absurd (h refl)
 
 pub few_labels : (ls : Name) → length (spelled ls) ≤ 255 → length ls ≤ 255
 few_labels ls h = omega (arith, length-spelled ls)

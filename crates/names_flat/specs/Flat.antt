@@ -39,3 +39,12 @@ pub record SpellsName (bs : List ℕ) (n : Name) : Type 0 where
 -- the octets are the wire form of a name
 abbrev pub IsFlat : List ℕ → Type 0
 IsFlat bs = SpellsName bs (name_in bs)
+
+-- the octets are the labels of the relative name
+pub record SpellsRelative (bs : List ℕ) (n : Name) : Type 0 where
+  pub octets : spelled n ≡ bs
+  pub name : IsName n
+
+-- the octets are the labels of a relative name
+abbrev pub IsFlatRelative : List ℕ → Type 0
+IsFlatRelative bs = SpellsRelative bs (labels_in bs)

@@ -1,5 +1,7 @@
 pub mod Compare
+pub mod Feed
 pub mod Flat
-pub mod Label
+pub mod Laws
 pub mod Order
 pub mod Refused
+pub mod RefusedRelative

@@ -1,5 +1,4 @@
 -- Labels in the case in which they are compared.
-use Rattle.std.specs.Prelude.{List, ℕ}
 use Rattle.std.specs.Str.{str_to_ascii_lowercase}
 use Rattle.definitions.specs.Name.{Label}
 use Rattle.names_flat.specs.declared.order.Case.{Case}

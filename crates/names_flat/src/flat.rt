@@ -1,8 +1,8 @@
 ghost use Rattle.std.specs.Prelude.{◌≡◌, ℕ, List, length, [], MatchOption, option_map, slice_get};
 ghost use Rattle.names_flat.specs.Flat.{labels_in, IsRun, SplitsLabel};
-ghost use Rattle.names_flat.specs.Label.{octets_of};
+ghost use Rattle.names_wire.specs.Label.{octets_of};
 
-use crate::label::Label;
+use names_wire::label::Label;
 
 /// The first label of labels in a row, and the row behind it.
 pub(crate) fn split_label(run: &[u8]) -> Option<(Label<'_>, &[u8])>

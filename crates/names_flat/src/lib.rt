@@ -4,8 +4,14 @@
 
 mod check;
 mod flat;
-pub mod label;
+pub mod laws;
+pub mod name;
 pub mod name_error;
-pub mod octets;
+mod name_order;
 mod order;
+pub mod relative;
+pub mod relative_error;
+mod relative_order;
+pub mod to_name;
+pub mod to_relative;
 pub mod traits;

@@ -1,6 +1,6 @@
 //! Why octets are no name.
 
-use crate::label::LabelTypeError;
+use names_wire::label::{LabelTypeError, SplitLabelError};
 use thiserror::Error;
 
 /// Why octets are not the wire form of an absolute name.
@@ -24,4 +24,30 @@ pub enum NameError {
     /// The octets end inside a label, or there are none.
     #[error("unexpected end of input")]
     ShortInput,
+}
+
+impl From<SplitLabelError> for NameError {
+    ghost use Rattle.std.specs.Prelude.{◌≡◌};
+    ghost use Rattle.names_flat.specs.Refused.{of_split};
+
+    ghost from_gives = { λ e n. n ≡ of_split e };
+
+    fn from(error: SplitLabelError) -> NameError {
+        match error {
+            SplitLabelError::Pointer(_) => NameError::CompressedName,
+            SplitLabelError::BadType(kind) => NameError::BadLabel(kind),
+            SplitLabelError::ShortInput => NameError::ShortInput,
+        }
+    }
+}
+
+impl From<LabelTypeError> for NameError {
+    ghost use Rattle.std.specs.Prelude.{◌≡◌};
+    ghost use Rattle.names_flat.specs.declared.name_error.NameError.TheVariants.{BadLabel};
+
+    ghost from_gives = { λ e n. n ≡ BadLabel e };
+
+    fn from(kind: LabelTypeError) -> NameError {
+        NameError::BadLabel(kind)
+    }
 }

@@ -3,12 +3,13 @@
 ghost use Rattle.std.specs.Prelude.{◌≡◌, length, map};
 ghost use Rattle.std.specs.Ordering.{nat_cmp};
 ghost use Rattle.std.specs.Cmp.Lexicographic.{slice_cmp};
-ghost use Rattle.std.specs.Str.{str_to_ascii_lowercase};
+ghost use Rattle.names_wire.specs.Label.{octets_of, wire_label};
 ghost use Rattle.definitions.specs.Name.{name_cmp};
 ghost use Rattle.names_flat.specs.Flat.{spelled};
 ghost use Rattle.names_flat.specs.Order.{in_case};
 
 use crate::traits::Labels;
+use names_wire::label::Label;
 use std::cmp::Ordering;
 
 /// Whether ASCII letters are compared as they are or lowered.
@@ -18,24 +19,12 @@ pub(crate) enum Case {
     Lowered,
 }
 
-fn lowered_cmp(a: &[u8], b: &[u8]) -> Ordering
-    ensures { result ≡ slice_cmp nat_cmp (str_to_ascii_lowercase a.now) (str_to_ascii_lowercase b.now) }
-{
-    for index in 0..a.len().min(b.len()) {
-        let order = a[index].to_ascii_lowercase().cmp(&b[index].to_ascii_lowercase());
-        if order.is_ne() {
-            return order;
-        }
-    }
-    a.len().cmp(&b.len())
-}
-
-fn octets_cmp(a: &[u8], b: &[u8], case: Case) -> Ordering
-    ensures { result ≡ slice_cmp nat_cmp (in_case case a.now) (in_case case b.now) }
+fn label_cmp(a: Label<'_>, b: Label<'_>, case: Case) -> Ordering
+    ensures { result ≡ slice_cmp nat_cmp (wire_label (in_case case (octets_of a.entry))) (wire_label (in_case case (octets_of b.entry))) }
 {
     match case {
-        Case::Kept => a.cmp(b),
-        Case::Lowered => lowered_cmp(a, b),
+        Case::Kept => a.composed_cmp(&b),
+        Case::Lowered => a.lowercase_composed_cmp(&b),
     }
 }
 
@@ -51,7 +40,7 @@ pub(crate) fn labels_cmp<A: Labels, B: Labels>(name: &A, other: &B) -> Ordering
         let (Some(a), Some(b)) = (name.label_at(left), other.label_at(right)) else {
             return Ordering::Equal;
         };
-        let order = lowered_cmp(a.as_slice(), b.as_slice());
+        let order = a.cmp(&b);
         if order.is_ne() {
             return order;
         }
@@ -71,11 +60,7 @@ pub(crate) fn labels_composed_cmp<A: Labels, B: Labels>(name: &A, other: &B, cas
         let Some(b) = other.label_at(index) else {
             return Ordering::Greater;
         };
-        let lengths = a.len().cmp(&b.len());
-        if lengths.is_ne() {
-            return lengths;
-        }
-        let order = octets_cmp(a.as_slice(), b.as_slice(), case);
+        let order = label_cmp(a, b, case);
         if order.is_ne() {
             return order;
         }

@@ -3,10 +3,10 @@
 ghost use Rattle.std.specs.Prelude.{◌≡◌, ◌≤◌, ◌+◌, ◌-◌, length, option_map, slice_get, drop};
 ghost use Rattle.definitions.specs.Name.{Name, at_or_above, same};
 ghost use Rattle.names_flat.specs.Flat.{spelled};
-ghost use Rattle.names_flat.specs.Label.{octets_of};
+ghost use Rattle.names_wire.specs.Label.{octets_of};
 ghost use Rattle.names_flat.specs.Compare.{begins_with};
 
-use crate::label::Label;
+use names_wire::label::Label;
 
 /// Labels that are reached by place, the leftmost first. An absolute name has the root's empty label last.
 pub trait Labels {
@@ -32,7 +32,7 @@ pub(crate) fn agrees_from<A: Labels, B: Labels>(name: &A, start: usize, other: &
         let (Some(a), Some(b)) = (name.label_at(start + index), other.label_at(index)) else {
             return false;
         };
-        if !a.as_slice().eq_ignore_ascii_case(b.as_slice()) {
+        if a != b {
             return false;
         }
     }

@@ -1,4 +1,4 @@
-use Rattle.std.proofs.Common.{length, ◌≤◌}
+use Rattle.std.proofs.Common.{length}
 use Rattle.names_flat.proofs.Checks.{HasRead}
 use Rattle.names_flat.proofs.check.check_absolute.Given as goal
 

@@ -10,7 +10,7 @@ returns-in_err-rest c =
 pub loop-preserved : goal.loop-preserved
 loop-preserved c = record {
   rest = c.in_ok-rest.ensures.behind;
-  at = drop-one (labels_in c.args.run.now) c.loop.counter _ _ (c.loop.invariant.at ∙ c.in_ok-rest.ensures.first)
+  at = drop-one (labels_in c.args.run.now) c.loop.counter _ _ (c.loop.invariant.at ∙ c.in_ok-rest.ensures.first);
 }
 
 pub returns-in_err-label : goal.returns-in_err-label

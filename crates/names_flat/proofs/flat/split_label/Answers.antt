@@ -1,9 +1,8 @@
-use Rattle.std.proofs.Common.{rules, ◌≡◌, ℕ, List, length, [], sym, ap, ◌∙◌, arith}
-use Rattle.std.specs.Result.{IsOk}
-use Rattle.names_flat.proofs.Runs.{empty_run, splits_label, first_short, ok_unless}
+use Rattle.std.proofs.Common.{◌≡◌, length}
+use Rattle.names_flat.proofs.Runs.{empty_run, splits_label, first_short}
 use Rattle.std.proofs.lemmas.Result.{IfOk-at_ok}
 use Rattle.std.proofs.Common.{◌≤◌}
-use Rattle.names_flat.specs.Label.{octets_of}
+use Rattle.names_wire.specs.Label.{octets_of}
 use Rattle.names_flat.proofs.flat.split_label.Goals as goal
 
 pub returns-in_err-len : goal.returns-in_err-len
@@ -19,7 +18,7 @@ unwrap-label-requires c =
     let s = splits_label c.args.run.now c.in_ok-len.rest.now c.in_ok-len.field-0-0.now c.requires c.in_ok-len.ensures.cases.0 in
     let f = first_short _ _ _ c.requires s.1 in
     let e : length c.split_at.result.0.now ≤ 63 = rw (c.split_at.ensures.front, c.from.ensures) f in
-    ok_unless c.from_slice.result (λ h. let g = c.from_slice.ensures.long.0 h in absurd (omega arith))
+    c.from_slice.ensures.err.1 e
 
 pub returns : goal.returns
 returns c =

@@ -1,9 +1,6 @@
-use Rattle.std.proofs.Common.{◌≡◌, ◌∙◌, ◌-◌, take, inl, inr, length, sym, ap, arith}
-use Rattle.std.specs.Ordering.{ordering_then, nat_cmp}
-use Rattle.std.specs.Cmp.Lexicographic.{slice_cmp}
-use Rattle.std.specs.Str.{str_to_ascii_lowercase}
+use Rattle.std.proofs.Common.{◌∙◌, ◌-◌, take, inl, inr, sym, arith}
 use Rattle.definitions.specs.Name.{name_cmp}
-use Rattle.names_flat.specs.Label.{octets_of}
+use Rattle.names_wire.specs.Label.{octets_of}
 use Rattle.names_flat.proofs.Runs.{none_past}
 use Rattle.names_flat.proofs.Orders.{stops_here, goes_on, name_cmp-take, name_cmp_ends, take_whole}
 use Rattle.names_flat.proofs.order.labels_cmp.Goals as goal
@@ -16,31 +13,25 @@ loop-left-init g c =
     record {
       tied = λ t. name_cmp (sym (take_whole a _ c.label_count-left.ensures.count) t) (sym (take_whole b _ c.label_count-right.ensures.count) t);
       left = omega (arith, c.label_count-left.ensures.count);
-      right = omega (arith, c.label_count-right.ensures.count)
+      right = omega (arith, c.label_count-right.ensures.count);
     }
 
 pub returns-then-is_ne : goal.returns-then-is_ne
 returns-then-is_ne g c =
     let a = g.A.Labels.labels c.args.name.now in
     let b = g.B.Labels.labels c.args.other.now in
-    let x = octets_of c.in-Some-Some.a in
-    let y = octets_of c.in-Some-Some.b in
-    let e = c.lowered_cmp-order.ensures ∙ (λ t. slice_cmp nat_cmp (str_to_ascii_lowercase (c.as_slice.ensures t)) (str_to_ascii_lowercase (c.as_slice-in-loop-left.ensures t))) in
-    let s = name_cmp-take a b c.loop-left.left c.loop-left.right (c.loop-left.left - 1) (c.loop-left.right - 1) x y (omega arith) (omega arith) c.in-Some-Some.ensures c.in-Some-Some.ensures' in
-    stops_here _ _ c.lowered_cmp-order.result (name_cmp (take (c.loop-left.left - 1) a) (take (c.loop-left.right - 1) b)) _ (c.loop-left.invariant.tied ∙ s) e c.is_ne.ensures c.if-is_ne.true
+    let s = name_cmp-take a b c.loop-left.left c.loop-left.right (c.loop-left.left - 1) (c.loop-left.right - 1) (octets_of c.in-Some-Some.a) (octets_of c.in-Some-Some.b) (omega arith) (omega arith) c.in-Some-Some.ensures c.in-Some-Some.ensures' in
+    stops_here _ _ c.cmp-order.result (name_cmp (take (c.loop-left.left - 1) a) (take (c.loop-left.right - 1) b)) _ (c.loop-left.invariant.tied ∙ s) c.cmp-order.ensures c.is_ne.ensures c.if-is_ne.true
 
 pub loop-left-preserved : goal.loop-left-preserved
 loop-left-preserved g c =
     let a = g.A.Labels.labels c.args.name.now in
     let b = g.B.Labels.labels c.args.other.now in
-    let x = octets_of c.in-Some-Some.a in
-    let y = octets_of c.in-Some-Some.b in
-    let e = c.lowered_cmp-order.ensures ∙ (λ t. slice_cmp nat_cmp (str_to_ascii_lowercase (c.as_slice.ensures t)) (str_to_ascii_lowercase (c.as_slice-in-loop-left.ensures t))) in
-    let s = name_cmp-take a b c.loop-left.left c.loop-left.right (c.loop-left.left - 1) (c.loop-left.right - 1) x y (omega arith) (omega arith) c.in-Some-Some.ensures c.in-Some-Some.ensures' in
+    let s = name_cmp-take a b c.loop-left.left c.loop-left.right (c.loop-left.left - 1) (c.loop-left.right - 1) (octets_of c.in-Some-Some.a) (octets_of c.in-Some-Some.b) (omega arith) (omega arith) c.in-Some-Some.ensures c.in-Some-Some.ensures' in
     record {
-      tied = goes_on _ _ c.lowered_cmp-order.result (name_cmp (take (c.loop-left.left - 1) a) (take (c.loop-left.right - 1) b)) _ (c.loop-left.invariant.tied ∙ s) e c.is_ne.ensures c.if-is_ne.false;
+      tied = goes_on _ _ c.cmp-order.result (name_cmp (take (c.loop-left.left - 1) a) (take (c.loop-left.right - 1) b)) _ (c.loop-left.invariant.tied ∙ s) c.cmp-order.ensures c.is_ne.ensures c.if-is_ne.false;
       left = omega (arith, c.loop-left.invariant.left);
-      right = omega (arith, c.loop-left.invariant.right)
+      right = omega (arith, c.loop-left.invariant.right);
     }
 
 pub returns-in_default : goal.returns-in_default
@@ -54,5 +45,5 @@ returns g c =
     let a = g.A.Labels.labels c.args.name.now in
     let b = g.B.Labels.labels c.args.other.now in
     c.cmp.ensures ∙ name_cmp_ends a b c.loop-left.left c.loop-left.right c.loop-left.invariant.left c.loop-left.invariant.right
-      (elim c.loop-left-test.branch [ then-loop-left-test+else-right-gt0 w ↦ inr (omega arith) | else-loop-left-test w ↦ inl (omega arith) ])
+    (elim c.loop-left-test.branch [ then-loop-left-test+else-right-gt0 w ↦ inr (omega arith) | else-loop-left-test w ↦ inl (omega arith) ])
     ∙ sym c.loop-left.invariant.tied

@@ -1,10 +1,8 @@
-use Rattle.std.proofs.Common.{◌≡◌, ◌∙◌, ◌-◌, ◌+◌, inl, inr, length, sym, ap, refl, arith}
-use Rattle.std.specs.Ordering.{nat_cmp, is_ne}
-use Rattle.std.specs.Cmp.Lexicographic.{slice_cmp}
-use Rattle.names_flat.specs.Label.{octets_of}
-use Rattle.names_flat.specs.Order.{in_case}
+use Rattle.std.proofs.Common.{◌≡◌, ◌∙◌, ◌+◌, length, sym, arith}
+use Rattle.std.specs.Ordering.{nat_cmp}
+use Rattle.names_wire.specs.Label.{octets_of}
 use Rattle.names_flat.proofs.Runs.{none_past, some_within}
-use Rattle.names_flat.proofs.Orders.{stops_here, goes_on, cmp_from, lengths_decide, octets_then, cmp_used_up, cmp_longer}
+use Rattle.names_flat.proofs.Orders.{stops_here, goes_on, cmp_from, labels_then, cmp_used_up, cmp_longer}
 use Rattle.names_flat.proofs.order.labels_composed_cmp.Goals as goal
 
 pub returns-in_default-label_at : goal.returns-in_default-label_at
@@ -17,33 +15,18 @@ pub returns-then-is_ne : goal.returns-then-is_ne
 returns-then-is_ne g c =
     let a = g.A.Labels.labels c.args.name.now in
     let b = g.B.Labels.labels c.args.other.now in
-    let x = octets_of c.in-Some.a in
-    let y = octets_of c.in-Some-label_at.b in
-    let e = c.cmp-lengths.ensures ∙ (λ t. nat_cmp (c.len.ensures t) (c.len-in-loop-index.ensures t)) in
-    sym (c.loop-index.invariant.tied ∙ lengths_decide c.args.case a b c.loop-index.index x y c.in-Some.ensures c.in-Some-label_at.ensures (ap is_ne (sym e) ∙ sym c.is_ne.ensures ∙ c.if-is_ne.true) ∙ sym e)
-
-pub returns-then-is_ne-2 : goal.returns-then-is_ne-2
-returns-then-is_ne-2 g c =
-    let a = g.A.Labels.labels c.args.name.now in
-    let b = g.B.Labels.labels c.args.other.now in
-    let x = octets_of c.in-Some.a in
-    let y = octets_of c.in-Some-label_at.b in
-    let e = c.cmp-lengths.ensures ∙ (λ t. nat_cmp (c.len.ensures t) (c.len-in-loop-index.ensures t)) in
-    let f = c.octets_cmp-order.ensures ∙ (λ t. slice_cmp nat_cmp (in_case c.args.case (c.as_slice.ensures t)) (in_case c.args.case (c.as_slice-in-loop-index.ensures t))) in
-    stops_here _ _ c.octets_cmp-order.result (cmp_from c.args.case a b (c.loop-index.index + 1)) _ (c.loop-index.invariant.tied ∙ octets_then c.args.case a b c.loop-index.index x y c.in-Some.ensures c.in-Some-label_at.ensures (ap is_ne (sym e) ∙ sym c.is_ne.ensures ∙ c.if-is_ne.false)) f c.is_ne-in-loop-index.ensures c.if-is_ne-2.true
+    let s = labels_then c.args.case a b c.loop-index.index (octets_of c.in-Some.a) (octets_of c.in-Some-label_at.b) c.in-Some.ensures c.in-Some-label_at.ensures in
+    stops_here _ _ c.label_cmp-order.result (cmp_from c.args.case a b (c.loop-index.index + 1)) _ (c.loop-index.invariant.tied ∙ s) c.label_cmp-order.ensures c.is_ne.ensures c.if-is_ne.true
 
 pub loop-index-preserved : goal.loop-index-preserved
 loop-index-preserved g c =
     let a = g.A.Labels.labels c.args.name.now in
     let b = g.B.Labels.labels c.args.other.now in
-    let x = octets_of c.in-Some.a in
-    let y = octets_of c.in-Some-label_at.b in
-    let e = c.cmp-lengths.ensures ∙ (λ t. nat_cmp (c.len.ensures t) (c.len-in-loop-index.ensures t)) in
-    let f = c.octets_cmp-order.ensures ∙ (λ t. slice_cmp nat_cmp (in_case c.args.case (c.as_slice.ensures t)) (in_case c.args.case (c.as_slice-in-loop-index.ensures t))) in
+    let s = labels_then c.args.case a b c.loop-index.index (octets_of c.in-Some.a) (octets_of c.in-Some-label_at.b) c.in-Some.ensures c.in-Some-label_at.ensures in
     record {
-      tied = goes_on _ _ c.octets_cmp-order.result (cmp_from c.args.case a b (c.loop-index.index + 1)) _ (c.loop-index.invariant.tied ∙ octets_then c.args.case a b c.loop-index.index x y c.in-Some.ensures c.in-Some-label_at.ensures (ap is_ne (sym e) ∙ sym c.is_ne.ensures ∙ c.if-is_ne.false)) f c.is_ne-in-loop-index.ensures c.if-is_ne-2.false;
-      within = omega (arith, some_within b c.loop-index.index y c.in-Some-label_at.ensures);
-      count = c.loop-index.invariant.count
+      tied = goes_on _ _ c.label_cmp-order.result (cmp_from c.args.case a b (c.loop-index.index + 1)) _ (c.loop-index.invariant.tied ∙ s) c.label_cmp-order.ensures c.is_ne.ensures c.if-is_ne.false;
+      within = omega (arith, some_within b c.loop-index.index (octets_of c.in-Some-label_at.b) c.in-Some-label_at.ensures);
+      count = c.loop-index.invariant.count;
     }
 
 pub returns : goal.returns

@@ -1,8 +1,6 @@
-use Rattle.std.proofs.Common.{sym, ◌∙◌, arith, ap, refl, ◌≡◌, ◌+◌, length, take}
-use Rattle.std.specs.Prelude.{slice_get}
+use Rattle.std.proofs.Common.{◌∙◌, arith, ◌+◌}
 use Rattle.std.proofs.Math.Facts.{Fits-of_lt}
-use Rattle.names_flat.specs.Flat.{spelled}
-use Rattle.names_flat.specs.Label.{octets_of}
+use Rattle.names_wire.specs.Label.{octets_of}
 use Rattle.names_flat.proofs.Runs.{spelled_more, length-spelled-take, none_past}
 use Rattle.names_flat.proofs.traits.ToLabelIter.compose_len.Goals as goal
 use Rattle.names_flat.proofs.traits.ToLabelIter.compose_len.Goals.{in-Some, in_default}
@@ -23,5 +21,5 @@ loop-index-preserved g c =
         | in_default w ↦ absurd (omega (arith, none_past ls c.loop-index.index w.in_default.ensures, c.loop-index.invariant.last))
       ];
       short = c.loop-index.invariant.short;
-      last = c.loop-index.invariant.last
+      last = c.loop-index.invariant.last;
     }

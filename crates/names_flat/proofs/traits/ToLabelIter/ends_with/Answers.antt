@@ -1,5 +1,5 @@
 use Rattle.std.proofs.Common.{sym, ◌∙◌, arith}
-use Rattle.std.proofs.Common.{◌≡◌, ◌<◌, length, false}
+use Rattle.std.proofs.Common.{◌<◌, length}
 use Rattle.std.proofs.lemmas.Bool.{lt-leb}
 use Rattle.names_flat.proofs.Compares.{ends-begins, ends_short}
 use Rattle.names_flat.proofs.Runs.{few_labels}
@@ -12,10 +12,10 @@ agrees_from-requires g c =
 pub returns-then-tail-count : goal.returns-then-tail-count
 returns-then-tail-count g c =
     c.agrees_from.ensures ∙ sym (ends-begins (g.N.Labels.labels c.args.base.now) (g.Self.Labels.labels c.args.self.now) _
-      (omega (arith, c.label_count-count.ensures.count, c.label_count-tail.ensures.count)))
+    (omega (arith, c.label_count-count.ensures.count, c.label_count-tail.ensures.count)))
 
 pub returns-else-tail-count : goal.returns-else-tail-count
 returns-else-tail-count g c =
     let short : length (g.Self.Labels.labels c.args.self.now) < length (g.N.Labels.labels c.args.base.now) =
-      omega (arith, c.label_count-count.ensures.count, c.label_count-tail.ensures.count) in
+    omega (arith, c.label_count-count.ensures.count, c.label_count-tail.ensures.count) in
     lt-leb _ _ c.if-tail-count.false ∙ ends_short (g.N.Labels.labels c.args.base.now) (g.Self.Labels.labels c.args.self.now) short

@@ -1,0 +1,49 @@
+//! What any two absolute names have in common, however they are kept.
+
+ghost use Rattle.std.specs.Prelude.{◌≡◌, ◌++◌, ◌∷◌, []};
+ghost use Rattle.std.specs.Ordering.{nat_cmp};
+ghost use Rattle.std.specs.Cmp.Lexicographic.{slice_cmp};
+ghost use Rattle.definitions.specs.Name.{Name, IsName, low, wire, same, name_cmp};
+
+use crate::order::{Case, labels_cmp, labels_composed_cmp};
+use crate::traits::{ToLabelIter, labels_eq};
+use std::cmp::Ordering;
+
+/// Labels that end with the root's.
+pub trait Absolute: ToLabelIter {
+    /// The labels without the root's.
+    ghost name: { Self → Name };
+
+    ghost rooted: { (n : Self) → Self.labels n ≡ name n ++ [] ∷ [] };
+}
+
+/// An absolute name, however it is kept.
+pub trait ToName: Absolute {
+    /// Whether the names are the same up to ASCII case (RFC 4343, 3).
+    fn name_eq<N: Absolute>(&self, other: &N) -> bool
+        ensures { result ≡ same (Self.name self.now) (N.name other.now) }
+    {
+        labels_eq(self, other)
+    }
+
+    /// Canonical order: labels from the root on, in lower case; an absent label comes first (RFC 4034, 6.1).
+    fn name_cmp<N: Absolute>(&self, other: &N) -> Ordering
+        ensures { result ≡ name_cmp (Self.name self.now) (N.name other.now) }
+    {
+        labels_cmp(self, other)
+    }
+
+    /// The order of the octets in wire form.
+    fn composed_cmp<N: Absolute>(&self, other: &N) -> Ordering
+        ensures { result ≡ slice_cmp nat_cmp (wire (Self.name self.now)) (wire (N.name other.now)) }
+    {
+        labels_composed_cmp(self, other, Case::Kept)
+    }
+
+    /// The order of the octets in wire form, with ASCII letters lowered.
+    fn lowercase_composed_cmp<N: Absolute>(&self, other: &N) -> Ordering
+        ensures { result ≡ slice_cmp nat_cmp (wire (low (Self.name self.now))) (wire (low (N.name other.now))) }
+    {
+        labels_composed_cmp(self, other, Case::Lowered)
+    }
+}

@@ -1,0 +1,128 @@
+//! Octets that grow at their end.
+
+ghost use Rattle.std.specs.Prelude.{◌≡◌, ℕ, List, ◌++◌, take, OnOk, OnErr, length, refl, ◌+◌, ◌<◌};
+ghost use Rattle.std.specs.Borrow.{Lends, sem, Array, u8 as byte};
+ghost use Rattle.std.specs.Vec.{with_items, vec_len, vec_capacity};
+ghost use Rattle.arrayvec.specs.ArrayVec.{with_items as with_array_items};
+ghost use Rattle.names_wire.specs.Refill.{refilled};
+
+use arrayvec::ArrayVec;
+use thiserror::Error;
+
+/// No room is left: a fixed buffer is full, or a growing one was refused memory.
+#[derive(Clone, Copy, Debug, PartialEq, Eq, Error)]
+#[error("buffer too short")]
+pub struct ShortBuf;
+
+/// A target that octets are appended to. A refused call leaves it as it was.
+pub trait OctetsBuilder {
+    ghost bytes: { Self → List ℕ };
+
+    /// So many more octets don't fit: a fixed buffer has no room for them, or a growing one would need more memory.
+    ghost lacks_room: { Self → ℕ → Type 0 };
+
+    /// The same builder with other octets, as many as it had.
+    ghost with_bytes: { Self → List ℕ → Self };
+
+    fn append_slice(&mut self, octets: &[u8]) -> Result<(), ShortBuf>
+        ensures ok { OnOk result (bytes self.new ≡ bytes self.old ++ octets.now) }
+        ensures err { OnErr result (bytes self.new ≡ bytes self.old) }
+        ensures full { OnErr result (lacks_room self.old (length octets.now)) };
+
+    /// Keeps the first octets, or all where there are no more than `len`.
+    fn truncate(&mut self, len: usize)
+        ensures { bytes self.new ≡ take len (bytes self.old) };
+
+    fn as_slice(&self) -> &[u8]
+        ensures { result.now ≡ bytes self.now };
+
+    fn as_mut_slice(&mut self) -> &mut [u8]
+        ensures* writes_back { sem 𝓛 (Lends Self.row (Array byte 0) self.entry result (with_bytes self.entry.now)) }
+        ensures value { result.now ≡ bytes self.old };
+
+    ghost shows: { (b : Self) (xs : List ℕ) → length xs ≡ length (bytes b) → bytes (with_bytes b xs) ≡ xs };
+}
+
+impl OctetsBuilder for Vec<u8> {
+    ghost bytes = { λ v. v.items };
+
+    ghost lacks_room = { λ v n. vec_capacity v < vec_len v + n };
+
+    ghost with_bytes = { with_items };
+
+    ghost shows = { λ b xs h. refilled b.len b.items xs b.ok.0 h };
+
+    fn append_slice(&mut self, octets: &[u8]) -> Result<(), ShortBuf> {
+        match self.extend_from_slice(octets) {
+            Ok(()) => Ok(()),
+            Err(_) => Err(ShortBuf),
+        }
+    }
+
+    fn truncate(&mut self, len: usize) {
+        Vec::truncate(self, len);
+    }
+
+    fn as_slice(&self) -> &[u8] {
+        self.as_slice()
+    }
+
+    fn as_mut_slice(&mut self) -> &mut [u8] {
+        self.as_mut_slice()
+    }
+}
+
+impl<const N: usize> OctetsBuilder for ArrayVec<u8, N> {
+    ghost bytes = { λ v. v.items };
+
+    ghost lacks_room = { λ v n. N < length v.items + n };
+
+    ghost with_bytes = { with_array_items };
+
+    ghost shows = { λ b xs h. refilled (length b.items) b.items xs refl h };
+
+    fn append_slice(&mut self, octets: &[u8]) -> Result<(), ShortBuf> {
+        match self.try_extend_from_slice(octets) {
+            Ok(()) => Ok(()),
+            Err(_) => Err(ShortBuf),
+        }
+    }
+
+    fn truncate(&mut self, len: usize) {
+        ArrayVec::truncate(self, len);
+    }
+
+    fn as_slice(&self) -> &[u8] {
+        self.as_slice()
+    }
+
+    fn as_mut_slice(&mut self) -> &mut [u8] {
+        self.as_mut_slice()
+    }
+}
+
+impl<B: OctetsBuilder> OctetsBuilder for &mut B {
+    ghost bytes = { λ b. B.bytes b.now };
+
+    ghost lacks_room = { λ b n. B.lacks_room b.now n };
+
+    ghost with_bytes = { λ b xs. record b { now = B.with_bytes b.now xs } };
+
+    ghost shows = { λ b xs h. B.shows b.now xs h };
+
+    fn append_slice(&mut self, octets: &[u8]) -> Result<(), ShortBuf> {
+        (**self).append_slice(octets)
+    }
+
+    fn truncate(&mut self, len: usize) {
+        (**self).truncate(len)
+    }
+
+    fn as_slice(&self) -> &[u8] {
+        (**self).as_slice()
+    }
+
+    fn as_mut_slice(&mut self) -> &mut [u8] {
+        (**self).as_mut_slice()
+    }
+}

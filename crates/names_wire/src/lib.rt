@@ -1,0 +1,7 @@
+//! Octets whoever keeps them, and the labels of domain names: in wire form, as text and compared.
+#![tactic(auto)]
+
+pub mod builder;
+pub mod label;
+pub mod octets;
+pub mod order;
