@@ -1,1 +1,3 @@
 pub mod Lowercase
+pub mod OnError
+pub mod PartLabel

@@ -73,6 +73,14 @@ impl<'a> Label<'a> {
         Ok(Label { octets: slice })
     }
 
+    /// The label of octets that are few enough.
+    pub(crate) fn from_short(octets: &'a [u8]) -> Label<'a>
+        requires { length octets.now ≤ 63 }
+        ensures { octets_of result ≡ octets.now }
+    {
+        Label { octets }
+    }
+
     /// Splits the label in front, with its length octet, from what stands behind it.
     ///
     /// A pointer is refused and not followed.

@@ -2,6 +2,9 @@
 #![tactic(auto)]
 
 pub mod builder;
+pub mod display;
 pub mod label;
 pub mod octets;
 pub mod order;
+pub mod owned;
+pub mod symbol;

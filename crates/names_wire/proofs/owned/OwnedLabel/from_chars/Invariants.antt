@@ -1,0 +1,10 @@
+use Rattle.std.proofs.Common.{List}
+use Rattle.names_wire.specs.Owned.{owned_octets}
+use Rattle.names_wire.proofs.PartLabel.{PartRead}
+use Rattle.names_wire.proofs.owned.OwnedLabel.from_chars.Given as goal
+
+abbrev pub invariant-loop-ch : goal.invariant-loop-ch
+invariant-loop-ch g l =
+    (goal.iterator-loop-ch g).can_next l.ch-iterator ×
+    (goal.iterator-loop-ch g).is_finite l.ch-iterator ×
+    PartRead l.yielded l.reader (owned_octets l.label)

@@ -1,0 +1,25 @@
+-- Symbols of text as the code has them, and a reader that takes characters one by one (RFC 1035, 5.1).
+use Rattle.std.specs.Prelude.{◌≡◌, ℕ, Bool, true, List, [], ◌∷◌, ◌++◌, if◌then◌else◌, Option, Some, None}
+use Rattle.std.specs.Option.{option_map}
+use Rattle.definitions.specs.Text.{Plain, Quoted, Decimal, is_digit, symbols_of, is_symbol, spelling}
+use Rattle.definitions.specs.Text as text
+use Rattle.names_wire.specs.declared.symbol.Symbol.{Symbol}
+use Rattle.names_wire.specs.declared.symbol.Symbol.TheVariants.{Char, SimpleEscape, DecimalEscape}
+
+abbrev pub symbol_of : Symbol → text.Symbol
+symbol_of (Char c) = Plain c
+symbol_of (SimpleEscape c) = Quoted c
+symbol_of (DecimalEscape b) = Decimal b
+
+-- a symbol that was read, if one was, and then others
+abbrev pub followed_by : Option Symbol → Option (List text.Symbol) → Option (List text.Symbol)
+followed_by None read = read
+followed_by (Some s) read = option_map (λ ss. symbol_of s ∷ ss) read
+
+-- whatever follows these characters, they are read as this symbol
+abbrev pub ReadsAs : List ℕ → Symbol → Type 0
+ReadsAs chars s = (rest : List ℕ) → symbols_of (chars ++ rest) ≡ option_map (λ ss. symbol_of s ∷ ss) (symbols_of rest)
+
+-- how a symbol is written, if it is one
+abbrev pub written : text.Symbol → Option (List ℕ)
+written s = if is_symbol s then Some (spelling s) else None
