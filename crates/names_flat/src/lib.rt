@@ -2,6 +2,7 @@
 //! have in common, however they are kept.
 #![tactic(auto)]
 
+pub mod builder;
 mod check;
 mod flat;
 pub mod laws;
@@ -9,6 +10,7 @@ pub mod name;
 pub mod name_error;
 mod name_order;
 mod order;
+pub mod push_error;
 pub mod relative;
 pub mod relative_error;
 mod relative_order;

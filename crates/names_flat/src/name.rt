@@ -2,7 +2,7 @@
 
 ghost use Rattle.std.specs.Prelude.{◌≡◌, ◌↔◌, ◌+◌, ◌++◌, ◌∷◌, [], ℕ, List, length, slice_index_or, IfOk, IfErr, IsOk, IsTrue};
 ghost use Rattle.definitions.specs.Name.{IsName, wire};
-ghost use Rattle.names_flat.specs.Flat.{IsRun, labels_in, SpellsName};
+ghost use Rattle.names_flat.specs.Flat.{IsRun, IsFlat, labels_in, name_in, SpellsName};
 ghost use Rattle.names_flat.specs.Refused.{RefusedName};
 ghost use Rattle.names_wire.specs.Label.{octets_of};
 
@@ -49,6 +49,14 @@ impl<Octs: Octets> Name<Octs> {
             Ok(()) => Ok(Name { octets }),
             Err(error) => Err(error),
         }
+    }
+
+    /// The name over octets that were found to spell one.
+    pub(crate) fn of_octets(octets: Octs) -> Self
+        requires { IsFlat (Octs.bytes octets) }
+        ensures { result ≡ name_in (Octs.bytes octets) }
+    {
+        Name { octets }
     }
 
     /// The wire form.
@@ -137,6 +145,8 @@ impl<Octs: Octets> Labels for Name<Octs> {
 
     ghost labels = { λ n. n ++ [] ∷ [] };
 
+    ghost name = { λ n. n };
+
     fn label_count(&self) -> usize {
         flat::label_count(self.run())
     }
@@ -150,8 +160,6 @@ impl<Octs: Octets> ToLabelIter for Name<Octs> {}
 
 impl<Octs: Octets> Absolute for Name<Octs> {
     ghost use Rattle.std.specs.Prelude.{refl};
-
-    ghost name = { λ n. n };
 
     ghost rooted = { λ n. refl };
 }

@@ -2,7 +2,7 @@
 
 ghost use Rattle.std.specs.Prelude.{◌≡◌, ◌↔◌, ◌-◌, ◌==◌, [], ℕ, List, length, slice_get, option_map, IfOk, IfErr, IsOk};
 ghost use Rattle.definitions.specs.Name.{IsName};
-ghost use Rattle.names_flat.specs.Flat.{IsRun, labels_in, spelled, SpellsRelative};
+ghost use Rattle.names_flat.specs.Flat.{IsRun, IsFlatRelative, labels_in, spelled, SpellsRelative};
 ghost use Rattle.names_flat.specs.RefusedRelative.{RefusedRelative};
 ghost use Rattle.names_wire.specs.Label.{octets_of};
 
@@ -46,6 +46,14 @@ impl<Octs: Octets> RelativeName<Octs> {
             Ok(()) => Ok(RelativeName { octets }),
             Err(error) => Err(error),
         }
+    }
+
+    /// The name over octets that were found to spell one.
+    pub(crate) fn of_octets(octets: Octs) -> Self
+        requires { IsFlatRelative (Octs.bytes octets) }
+        ensures { result ≡ labels_in (Octs.bytes octets) }
+    {
+        RelativeName { octets }
     }
 
     /// The labels, each behind its length.
@@ -143,6 +151,8 @@ impl<'a> RelativeName<&'a [u8]> {
 impl<Octs: Octets> Labels for RelativeName<Octs> {
     ghost labels = { λ n. n };
 
+    ghost name = { λ n. n };
+
     fn label_count(&self) -> usize {
         flat::label_count(self.run())
     }
@@ -154,6 +164,10 @@ impl<Octs: Octets> Labels for RelativeName<Octs> {
 
 impl<Octs: Octets> ToLabelIter for RelativeName<Octs> {}
 
-impl<Octs: Octets> Relative for RelativeName<Octs> {}
+impl<Octs: Octets> Relative for RelativeName<Octs> {
+    ghost use Rattle.std.specs.Prelude.{refl};
+
+    ghost unrooted = { λ n. refl };
+}
 
 impl<Octs: Octets> ToRelativeName for RelativeName<Octs> {}

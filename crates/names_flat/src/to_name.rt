@@ -3,7 +3,7 @@
 ghost use Rattle.std.specs.Prelude.{◌≡◌, ◌++◌, ◌∷◌, []};
 ghost use Rattle.std.specs.Ordering.{nat_cmp};
 ghost use Rattle.std.specs.Cmp.Lexicographic.{slice_cmp};
-ghost use Rattle.definitions.specs.Name.{Name, IsName, low, wire, same, name_cmp};
+ghost use Rattle.definitions.specs.Name.{low, wire, same, name_cmp};
 
 use crate::order::{Case, labels_cmp, labels_composed_cmp};
 use crate::traits::{ToLabelIter, labels_eq};
@@ -11,10 +11,7 @@ use std::cmp::Ordering;
 
 /// Labels that end with the root's.
 pub trait Absolute: ToLabelIter {
-    /// The labels without the root's.
-    ghost name: { Self → Name };
-
-    ghost rooted: { (n : Self) → Self.labels n ≡ name n ++ [] ∷ [] };
+    ghost rooted: { (n : Self) → Self.labels n ≡ Self.name n ++ [] ∷ [] };
 }
 
 /// An absolute name, however it is kept.

@@ -8,7 +8,9 @@ use crate::traits::{ToLabelIter, labels_eq};
 use std::cmp::Ordering;
 
 /// Labels that do not end with the root's: at most 254 octets in wire form.
-pub trait Relative: ToLabelIter {}
+pub trait Relative: ToLabelIter {
+    ghost unrooted: { (n : Self) → Self.labels n ≡ Self.name n };
+}
 
 /// A relative name, however it is kept.
 pub trait ToRelativeName: Relative {

@@ -1,7 +1,7 @@
 //! What names have in common, however they are kept: labels by place.
 
 ghost use Rattle.std.specs.Prelude.{◌≡◌, ◌≤◌, ◌+◌, ◌-◌, length, option_map, slice_get, drop};
-ghost use Rattle.definitions.specs.Name.{Name, at_or_above, same};
+ghost use Rattle.definitions.specs.Name.{Name, IsName, at_or_above, same};
 ghost use Rattle.names_flat.specs.Flat.{spelled};
 ghost use Rattle.names_wire.specs.Label.{octets_of};
 ghost use Rattle.names_flat.specs.Compare.{begins_with};
@@ -13,10 +13,14 @@ pub trait Labels {
     /// The labels in their order.
     ghost labels: { Self → Name };
 
+    /// The labels without the root's.
+    ghost name: { Self → Name };
+
     /// How many labels there are, the root's included.
     fn label_count(&self) -> usize
         ensures count { result ≡ length (labels self.now) }
-        ensures short { length (spelled (labels self.now)) ≤ 255 };
+        ensures short { length (spelled (labels self.now)) ≤ 255 }
+        ensures name { IsName (name self.now) };
 
     /// The label at a place, counted from the left, or `None` past the last one.
     fn label_at(&self, index: usize) -> Option<Label<'_>>

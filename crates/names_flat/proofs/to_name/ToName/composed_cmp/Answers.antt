@@ -11,4 +11,4 @@ pub returns : goal.returns
 returns g c =
     c.labels_composed_cmp.ensures
     ∙ (λ t. slice_cmp nat_cmp (spelled (map (in_case Kept) (g.met.Self.Absolute.rooted c.args.self.now t))) (spelled (map (in_case Kept) (g.met.N.Absolute.rooted c.args.other.now t))))
-    ∙ (λ t. slice_cmp nat_cmp (spelled-kept (g.Self.Absolute.name c.args.self.now) t) (spelled-kept (g.N.Absolute.name c.args.other.now) t))
+    ∙ (λ t. slice_cmp nat_cmp (spelled-kept (g.Self.Labels.name c.args.self.now) t) (spelled-kept (g.N.Labels.name c.args.other.now) t))

@@ -11,4 +11,4 @@ pub returns : goal.returns
 returns g c =
     c.labels_composed_cmp.ensures
     ∙ (λ t. slice_cmp nat_cmp (spelled (map (in_case Lowered) (g.met.Self.Absolute.rooted c.args.self.now t))) (spelled (map (in_case Lowered) (g.met.N.Absolute.rooted c.args.other.now t))))
-    ∙ (λ t. slice_cmp nat_cmp (spelled-lowered (g.Self.Absolute.name c.args.self.now) t) (spelled-lowered (g.N.Absolute.name c.args.other.now) t))
+    ∙ (λ t. slice_cmp nat_cmp (spelled-lowered (g.Self.Labels.name c.args.self.now) t) (spelled-lowered (g.N.Labels.name c.args.other.now) t))
