@@ -25,8 +25,8 @@ builds bs head b h = go b.open_label refl
         let t : take (length (spelled b.done)) bs ≡ spelled b.done = ap (take (length (spelled b.done))) os ∙ take_at (spelled b.done) (0 ∷ o ∷ r) (length (spelled b.done)) refl in
         let ls : labels_in (take (length (spelled b.done)) bs) ≡ b.done = ap labels_in t ∙ labels_in-spelled b.done in
         let d : drop (suc (length (spelled b.done))) bs ≡ o ∷ r =
-          ap (drop (suc (length (spelled b.done)))) (os ∙ sym (append_assoc (spelled b.done) (0 ∷ []) (o ∷ r)))
-          ∙ drop_at (spelled b.done ++ 0 ∷ []) (o ∷ r) (suc (length (spelled b.done))) (omega (arith, length-append (spelled b.done) (0 ∷ []))) in
+        ap (drop (suc (length (spelled b.done)))) (os ∙ sym (append_assoc (spelled b.done) (0 ∷ []) (o ∷ r)))
+        ∙ drop_at (spelled b.done ++ 0 ∷ []) (o ∷ r) (suc (length (spelled b.done))) (omega (arith, length-append (spelled b.done) (0 ∷ []))) in
         ap (building bs) hd ∙ (λ i. record { done = ls i; open_label = (d ∙ sym e) i })
 
 -- a buffer that holds this keeps what is read back
@@ -51,7 +51,7 @@ some_open bs head b h = go b.open_label refl
         let x : Some head ≡ Some (length (spelled b.done)) = h.place ∙ ap (λ l. head_of l (length (spelled b.done))) e in
         let y : head ≡ length (spelled b.done) = cc in
         let os : bs ≡ spelled b.done ++ 0 ∷ b.open_label = h.octets ∙ ap (λ l. spelled b.done ++ open_octets l) e ∙ ap (λ l. spelled b.done ++ 0 ∷ l) (sym e) in
-        ( omega (arith, ap length e), y, omega (arith, y, ap length os, length-append (spelled b.done) (0 ∷ b.open_label)), os )
+        (omega (arith, ap length e), y, omega (arith, y, ap length os, length-append (spelled b.done) (0 ∷ b.open_label)), os)
 
 -- octets that are added to an open label
 pub adds_open : (bs : List ℕ) (head : ℕ) (b : Building) (os : List ℕ) → Holds bs (Some head) b → length b.open_label + length os ≤ 63 → length bs + length os ≤ 254 → Holds (bs ++ os) (Some head) (with_octets b os)
@@ -62,11 +62,11 @@ adds_open bs head b os h label name = go b.open_label refl
     go (o ∷ r) e =
         let w : open_octets (b.open_label ++ os) ≡ 0 ∷ (b.open_label ++ os) = ap (λ l. open_octets (l ++ os)) e ∙ ap (λ l. 0 ∷ (l ++ os)) (sym e) in
         let x : bs ++ os ≡ spelled b.done ++ open_octets (b.open_label ++ os) =
-          ap (λ s. s ++ os) (some_open bs head b h).3 ∙ append_assoc (spelled b.done) (0 ∷ b.open_label) os ∙ ap (λ s. spelled b.done ++ s) (sym w) in
+        ap (λ s. s ++ os) (some_open bs head b h).3 ∙ append_assoc (spelled b.done) (0 ∷ b.open_label) os ∙ ap (λ s. spelled b.done ++ s) (sym w) in
         record {
           octets = x;
           place = h.place ∙ ap (λ l. head_of l (length (spelled b.done))) e ∙ ap (λ l. head_of (l ++ os) (length (spelled b.done))) (sym e);
-          short = record { labels = h.short.labels; open_label = omega (arith, label, length-append b.open_label os); name = omega (arith, name, sym (ap length x), length-append bs os) }
+          short = record { labels = h.short.labels; open_label = omega (arith, label, length-append b.open_label os); name = omega (arith, name, sym (ap length x), length-append bs os) };
         }
 
 -- octets that open a label
@@ -82,7 +82,8 @@ opens bs b (o ∷ os) h some label name =
       short = record {
         labels = h.short.labels;
         open_label = omega (arith, label, length-append b.open_label (o ∷ os), ap length e);
-        name = omega (arith, name, ap length y, length-append bs (0 ∷ o ∷ os)) }
+        name = omega (arith, name, ap length y, length-append bs (0 ∷ o ∷ os));
+      };
     }
 
 -- how long the octets get
@@ -117,14 +118,15 @@ ends_open bs head b h =
     let s = some_open bs head b h in
     let a : all_labels b ≡ b.done ++ b.open_label ∷ [] = labels_with_open b.done b.open_label s.0 in
     let x : set bs head (length b.open_label) ≡ spelled (all_labels b) =
-      (λ i. set (s.3 i) head (length b.open_label)) ∙ set_at (spelled b.done) 0 b.open_label (length b.open_label) head (sym s.1) ∙ sym (spelled-push b.done b.open_label) ∙ ap spelled (sym a) in
+    (λ i. set (s.3 i) head (length b.open_label)) ∙ set_at (spelled b.done) 0 b.open_label (length b.open_label) head (sym s.1) ∙ sym (spelled-push b.done b.open_label) ∙ ap spelled (sym a) in
     record {
       octets = x ∙ sym (append-nil (spelled (all_labels b)));
       place = refl;
       short = record {
         labels = rw a (plain_push b.done b.open_label h.short.labels (record { some = s.0; short = h.short.open_label }));
         open_label = omega arith;
-        name = omega (arith, h.short.name, ap length h.octets, ap length x, ap length (append-nil (spelled (all_labels b))), length-set bs head (length b.open_label)) }
+        name = omega (arith, h.short.name, ap length h.octets, ap length x, ap length (append-nil (spelled (all_labels b))), length-set bs head (length b.open_label));
+      };
     }
   where
     labels_with_open : (ls : Name) (l : Label) → 0 < length l → labels_with ls l ≡ ls ++ l ∷ []
@@ -141,7 +143,7 @@ pub holds_labels : (bs : List ℕ) (n : Name) → SpellsRelative bs n → length
 holds_labels bs n s short = record {
   octets = sym s.octets ∙ sym (append-nil (spelled n));
   place = refl;
-  short = record { labels = s.name.labels; open_label = omega arith; name = omega (arith, short, ap length s.octets, ap length (append-nil (spelled n))) }
+  short = record { labels = s.name.labels; open_label = omega arith; name = omega (arith, short, ap length s.octets, ap length (append-nil (spelled n))) };
 }
 
 -- the same, from what the code knows
@@ -173,14 +175,15 @@ run_behind bs b ls h a short =
     let x : bs ≡ spelled b.done = h.octets ∙ ap (λ l. spelled b.done ++ open_octets l) e ∙ append-nil (spelled b.done) in
     let d : all_labels b ≡ b.done = ap (labels_with b.done) e in
     let y : bs ++ spelled ls ≡ spelled (all_labels b ++ ls) ++ [] =
-      ap (λ s. s ++ spelled ls) x ∙ sym (spelled-append b.done ls) ∙ ap (λ n. spelled (n ++ ls)) (sym d) ∙ sym (append-nil (spelled (all_labels b ++ ls))) in
+    ap (λ s. s ++ spelled ls) x ∙ sym (spelled-append b.done ls) ∙ ap (λ n. spelled (n ++ ls)) (sym d) ∙ sym (append-nil (spelled (all_labels b ++ ls))) in
     record {
       octets = y;
       place = refl;
       short = record {
         labels = rw d (all_append IsLabel b.done ls h.short.labels a);
         open_label = omega arith;
-        name = omega (arith, short, ap length y, length-append bs (spelled ls)) }
+        name = omega (arith, short, ap length y, length-append bs (spelled ls));
+      };
     }
 
 -- the open label ended, and labels behind it
@@ -205,8 +208,14 @@ open_length n (o ∷ os) = omega (arith, ap length (spelled-push n (o ∷ os)), 
 -- how long the octets get
 pub longer_labels : (b : Building) (ls : Name) → length (octets_of_building (with_labels b ls)) ≡ length (octets_of_building b) + length (spelled ls)
 longer_labels b ls =
-    omega (arith, ap length (append-nil (spelled (all_labels b ++ ls))), ap length (spelled-append (all_labels b) ls), length-append (spelled (all_labels b)) (spelled ls),
-      open_length b.done b.open_label, length-append (spelled b.done) (open_octets b.open_label))
+    omega (
+      arith,
+      ap length (append-nil (spelled (all_labels b ++ ls))),
+      ap length (spelled-append (all_labels b) ls),
+      length-append (spelled (all_labels b)) (spelled ls),
+      open_length b.done b.open_label,
+      length-append (spelled b.done) (open_octets b.open_label),
+    )
 
 -- the same, from what the code knows
 pub behind_at : (bs new : List ℕ) (head : Option ℕ) (b now : Building) (ls : Name) (len : ℕ) → Holds bs head b → b ≡ now → new ≡ closed (bs ++ spelled ls) head (length now.open_label) → AllByRecursion IsLabel ls → len ≡ length (octets_of_building now) → len + length (spelled ls) ≤ 254 → Holds new None (with_labels now ls)
@@ -241,8 +250,9 @@ read_finished bs n s = ap labels_in (sym s.octets) ∙ labels_in-spelled n
 
 pub empty_holds : (bs : List ℕ) → bs ≡ [] → Holds bs None (record { done = []; open_label = [] })
 empty_holds bs e = record {
-  octets = e; place = refl;
-  short = record { labels = tt; open_label = omega arith; name = omega arith }
+  octets = e;
+  place = refl;
+  short = record { labels = tt; open_label = omega arith; name = omega arith };
 }
 
 closed-push : (xs : List ℕ) (head : Option ℕ) (v o : ℕ) → MatchOption head (Unit {0}) (λ place. place < length xs) → closed (xs ++ o ∷ []) head v ≡ closed xs head v ++ o ∷ []
@@ -259,9 +269,9 @@ origin_at bs new head b now ls len h e w a l short =
     let v = length now.open_label in
     let run : bs ++ spelled (ls ++ [] ∷ []) ≡ (bs ++ spelled ls) ++ 0 ∷ [] = ap (λ s. bs ++ s) (spelled-append ls ([] ∷ [])) ∙ sym (append_assoc bs (spelled ls) (0 ∷ [])) in
     let c : new ≡ closed (bs ++ spelled ls) head v ++ 0 ∷ [] =
-      w ∙ ap (λ s. closed s head v) run ∙ closed-push (bs ++ spelled ls) head v 0 (place_within bs (spelled ls) head b h) in
+    w ∙ ap (λ s. closed s head v) run ∙ closed-push (bs ++ spelled ls) head v 0 (place_within bs (spelled ls) head b h) in
     under_root (closed (bs ++ spelled ls) head v) new (all_labels now ++ ls)
-      (finished (closed (bs ++ spelled ls) head v) (with_labels now ls) (behind_at bs (closed (bs ++ spelled ls) head v) head b now ls len h e refl a l short)) c
+    (finished (closed (bs ++ spelled ls) head v) (with_labels now ls) (behind_at bs (closed (bs ++ spelled ls) head v) head b now ls len h e refl a l short)) c
 
 pub read_name : (bs : List ℕ) (n : Name) → SpellsName bs n → name_in bs ≡ n
 read_name bs n s = ap name_in (sym s.octets) ∙ name_in-wire n

@@ -4,6 +4,7 @@
 
 pub mod builder;
 mod check;
+mod display;
 mod flat;
 pub mod laws;
 pub mod name;
@@ -14,6 +15,8 @@ pub mod push_error;
 pub mod relative;
 pub mod relative_error;
 mod relative_order;
+#[cfg(test)]
+mod tests;
 pub mod to_name;
 pub mod to_relative;
 pub mod traits;

@@ -14,11 +14,11 @@ loop-index-preserved g c =
     let old = g.B.OctetsBuilder.bytes c.args.builder.now in
     record {
       octets = c.in_default-append_behind.ensures.ok
-        ∙ (λ t. c.loop-index.invariant.octets t ++ (c.len.ensures.value t ∷ c.as_slice.ensures.value t))
-        ∙ append_assoc old (spelled (take c.loop-index.index ls)) (length l ∷ l)
-        ∙ ap (λ s. old ++ s) (sym (spelled-push (take c.loop-index.index ls) l) ∙ ap spelled (sym (take_one ls c.loop-index.index l c.in-Some.ensures)));
+          ∙ (λ t. c.loop-index.invariant.octets t ++ (c.len.ensures.value t ∷ c.as_slice.ensures.value t))
+          ∙ append_assoc old (spelled (take c.loop-index.index ls)) (length l ∷ l)
+          ∙ ap (λ s. old ++ s) (sym (spelled-push (take c.loop-index.index ls) l) ∙ ap spelled (sym (take_one ls c.loop-index.index l c.in-Some.ensures)));
       len = c.loop-index.invariant.len;
-      last = c.loop-index.invariant.last
+      last = c.loop-index.invariant.last;
     }
 
 pub returns-clause-ok : goal.returns-clause-ok

@@ -14,8 +14,8 @@ invariant_of-self-2 g c =
     let run = label_spelled l some in
     let w = c.close.ensures ∙ (λ t. closed ((c.in_ok-append_behind.ensures.ok ∙ ap (λ s. bs ++ s) (sym run)) t) c.self.inside.head (c.open_len-open.ensures.value t)) in
     holds_building new None (with_labels c.args.self.now (labels_with [] l))
-      (behind_at bs new c.self.inside.head (building bs c.self.inside.head) c.args.self.now (labels_with [] l) c.len-len.result c.self.invariant c.self.view_is w
-        (one_label l some (omega arith)) c.len-len.ensures.value (omega (arith, ap length run)))
+    (behind_at bs new c.self.inside.head (building bs c.self.inside.head) c.args.self.now (labels_with [] l) c.len-len.result c.self.invariant c.self.view_is w
+    (one_label l some (omega arith)) c.len-len.ensures.value (omega (arith, ap length run)))
 
 pub returns-clause-ok : goal.returns-clause-ok
 returns-clause-ok g c =
@@ -26,8 +26,8 @@ returns-clause-ok g c =
     let run = label_spelled l some in
     let w = c.close.ensures ∙ (λ t. closed ((c.in_ok-append_behind.ensures.ok ∙ ap (λ s. bs ++ s) (sym run)) t) c.self.inside.head (c.open_len-open.ensures.value t)) in
     builds new None (with_labels c.args.self.now (labels_with [] l))
-      (behind_at bs new c.self.inside.head (building bs c.self.inside.head) c.args.self.now (labels_with [] l) c.len-len.result c.self.invariant c.self.view_is w
-        (one_label l some (omega arith)) c.len-len.ensures.value (omega (arith, ap length run)))
+    (behind_at bs new c.self.inside.head (building bs c.self.inside.head) c.args.self.now (labels_with [] l) c.len-len.result c.self.invariant c.self.view_is w
+    (one_label l some (omega arith)) c.len-len.ensures.value (omega (arith, ap length run)))
 
 pub returns-clause-long_name : goal.returns-clause-long_name
 returns-clause-long_name g c =

@@ -12,8 +12,8 @@ invariant_of-self-2 g c =
     let run = g.met.N.Relative.unrooted c.args.name.now in
     let w = c.close.ensures ∙ (λ t. closed ((c.in_ok-append_labels.ensures.ok ∙ ap (λ m. bs ++ spelled m) run) t) c.self.inside.head (c.open_len-open.ensures.value t)) in
     holds_building new None (with_labels c.args.self.now n)
-      (behind_at bs new c.self.inside.head (building bs c.self.inside.head) c.args.self.now n c.len-len.result c.self.invariant c.self.view_is w
-        c.append_labels.ensures.name.labels c.len-len.ensures.value (omega (arith, ap (λ m. length (spelled m)) run, c.compose_len.ensures, c.from.ensures)))
+    (behind_at bs new c.self.inside.head (building bs c.self.inside.head) c.args.self.now n c.len-len.result c.self.invariant c.self.view_is w
+    c.append_labels.ensures.name.labels c.len-len.ensures.value (omega (arith, ap (λ m. length (spelled m)) run, c.compose_len.ensures, c.from.ensures)))
 
 pub returns-clause-ok : goal.returns-clause-ok
 returns-clause-ok g c =
@@ -23,8 +23,8 @@ returns-clause-ok g c =
     let run = g.met.N.Relative.unrooted c.args.name.now in
     let w = c.close.ensures ∙ (λ t. closed ((c.in_ok-append_labels.ensures.ok ∙ ap (λ m. bs ++ spelled m) run) t) c.self.inside.head (c.open_len-open.ensures.value t)) in
     builds new None (with_labels c.args.self.now n)
-      (behind_at bs new c.self.inside.head (building bs c.self.inside.head) c.args.self.now n c.len-len.result c.self.invariant c.self.view_is w
-        c.append_labels.ensures.name.labels c.len-len.ensures.value (omega (arith, ap (λ m. length (spelled m)) run, c.compose_len.ensures, c.from.ensures)))
+    (behind_at bs new c.self.inside.head (building bs c.self.inside.head) c.args.self.now n c.len-len.result c.self.invariant c.self.view_is w
+    c.append_labels.ensures.name.labels c.len-len.ensures.value (omega (arith, ap (λ m. length (spelled m)) run, c.compose_len.ensures, c.from.ensures)))
 
 pub returns-clause-long_name : goal.returns-clause-long_name
 returns-clause-long_name g c =

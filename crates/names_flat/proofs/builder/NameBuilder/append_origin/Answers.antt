@@ -14,7 +14,7 @@ of_octets-requires g c =
     let run = g.met.N.Absolute.rooted c.args.origin.now in
     let w = c.close.ensures ∙ (λ t. closed ((c.in-Ok.ensures.ok ∙ ap (λ m. bs ++ spelled m) run) t) c.self.inside.head (c.open_len-open.ensures.value t)) in
     let f = origin_at bs new c.self.inside.head (building bs c.self.inside.head) c.args.self n c.len-len.result c.self.invariant c.self.view_is w
-        c.append_labels.ensures.name.labels c.len-len.ensures.value (omega (arith, ap (λ m. length (spelled m)) run, length-spelled_push n [], c.compose_len.ensures, c.from.ensures)) in
+    c.append_labels.ensures.name.labels c.len-len.ensures.value (omega (arith, ap (λ m. length (spelled m)) run, length-spelled_push n [], c.compose_len.ensures, c.from.ensures)) in
     subst (λ xs. IsFlat xs) (sym (g.met.B.BuiltOctets.kept c.close.new.builder)) (spells_flat new (all_labels c.args.self ++ n) f)
 
 pub returns-in-Ok-clause-ok : goal.returns-in-Ok-clause-ok
@@ -25,5 +25,5 @@ returns-in-Ok-clause-ok g c =
     let run = g.met.N.Absolute.rooted c.args.origin.now in
     let w = c.close.ensures ∙ (λ t. closed ((c.in-Ok.ensures.ok ∙ ap (λ m. bs ++ spelled m) run) t) c.self.inside.head (c.open_len-open.ensures.value t)) in
     let f = origin_at bs new c.self.inside.head (building bs c.self.inside.head) c.args.self n c.len-len.result c.self.invariant c.self.view_is w
-        c.append_labels.ensures.name.labels c.len-len.ensures.value (omega (arith, ap (λ m. length (spelled m)) run, length-spelled_push n [], c.compose_len.ensures, c.from.ensures)) in
+    c.append_labels.ensures.name.labels c.len-len.ensures.value (omega (arith, ap (λ m. length (spelled m)) run, length-spelled_push n [], c.compose_len.ensures, c.from.ensures)) in
     c.of_octets.ensures ∙ ap name_in (g.met.B.BuiltOctets.kept c.close.new.builder) ∙ read_name new (all_labels c.args.self ++ n) f

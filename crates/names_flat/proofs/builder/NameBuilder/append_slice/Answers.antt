@@ -12,8 +12,8 @@ invariant_of-self-else-open-gt0 g c =
     let new = g.B.OctetsBuilder.bytes c.append_behind.new.builder in
     let heads : 1 ≤ c.if-open-eq0.heads = elim c.if-open-eq0.branch [ then-open-eq0 w ↦ omega arith | else-open-eq0 w ↦ omega arith ] in
     holds_building new (Some c.len-len.result) (with_octets c.args.self.now c.args.octets.now)
-      (opens_at bs new c.self.inside.head (building bs c.self.inside.head) c.args.self.now c.args.octets.now c.len-len.result c.self.invariant c.self.view_is
-        (omega (arith, c.open_len-open.ensures.value)) c.len-len.ensures.value (test_some c.args.octets.now _ c.is_empty.ensures c.if-is_empty.false) (omega arith) (omega (arith, heads)) c.in_ok-append_behind.ensures.ok)
+    (opens_at bs new c.self.inside.head (building bs c.self.inside.head) c.args.self.now c.args.octets.now c.len-len.result c.self.invariant c.self.view_is
+    (omega (arith, c.open_len-open.ensures.value)) c.len-len.ensures.value (test_some c.args.octets.now _ c.is_empty.ensures c.if-is_empty.false) (omega arith) (omega (arith, heads)) c.in_ok-append_behind.ensures.ok)
 
 pub returns-in_ok-append_behind-clause-ok : goal.returns-in_ok-append_behind-clause-ok
 returns-in_ok-append_behind-clause-ok g c =
@@ -21,5 +21,5 @@ returns-in_ok-append_behind-clause-ok g c =
     let new = g.B.OctetsBuilder.bytes c.append_behind.new.builder in
     let heads : 1 ≤ c.if-open-eq0.heads = elim c.if-open-eq0.branch [ then-open-eq0 w ↦ omega arith | else-open-eq0 w ↦ omega arith ] in
     builds new (Some c.len-len.result) (with_octets c.args.self.now c.args.octets.now)
-      (opens_at bs new c.self.inside.head (building bs c.self.inside.head) c.args.self.now c.args.octets.now c.len-len.result c.self.invariant c.self.view_is
-        (omega (arith, c.open_len-open.ensures.value)) c.len-len.ensures.value (test_some c.args.octets.now _ c.is_empty.ensures c.if-is_empty.false) (omega arith) (omega (arith, heads)) c.in_ok-append_behind.ensures.ok)
+    (opens_at bs new c.self.inside.head (building bs c.self.inside.head) c.args.self.now c.args.octets.now c.len-len.result c.self.invariant c.self.view_is
+    (omega (arith, c.open_len-open.ensures.value)) c.len-len.ensures.value (test_some c.args.octets.now _ c.is_empty.ensures c.if-is_empty.false) (omega arith) (omega (arith, heads)) c.in_ok-append_behind.ensures.ok)

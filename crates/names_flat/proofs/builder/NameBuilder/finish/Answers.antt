@@ -10,7 +10,7 @@ of_octets-requires g c =
     let bs = g.B.OctetsBuilder.bytes c.self.inside.builder in
     let new = g.B.OctetsBuilder.bytes c.close.new.builder in
     let f = finished_at bs new c.self.inside.head (building bs c.self.inside.head) c.args.self c.self.invariant c.self.view_is
-      (c.close.ensures ∙ ap (λ k. closed bs c.self.inside.head k) c.open_len-open.ensures.value) in
+    (c.close.ensures ∙ ap (λ k. closed bs c.self.inside.head k) c.open_len-open.ensures.value) in
     subst (λ xs. IsFlatRelative xs) (sym (g.met.B.BuiltOctets.kept c.close.new.builder)) (spells_relative new (all_labels c.args.self) f)
 
 pub returns : goal.returns
@@ -18,5 +18,5 @@ returns g c =
     let bs = g.B.OctetsBuilder.bytes c.self.inside.builder in
     let new = g.B.OctetsBuilder.bytes c.close.new.builder in
     let f = finished_at bs new c.self.inside.head (building bs c.self.inside.head) c.args.self c.self.invariant c.self.view_is
-      (c.close.ensures ∙ ap (λ k. closed bs c.self.inside.head k) c.open_len-open.ensures.value) in
+    (c.close.ensures ∙ ap (λ k. closed bs c.self.inside.head k) c.open_len-open.ensures.value) in
     c.of_octets.ensures ∙ ap labels_in (g.met.B.BuiltOctets.kept c.close.new.builder) ∙ read_finished new (all_labels c.args.self) f

@@ -11,7 +11,7 @@ of_octets-requires g c =
     let shut = g.B.OctetsBuilder.bytes c.close.new.builder in
     let new = g.B.OctetsBuilder.bytes c.append_slice.new.self in
     let f = finished_at bs shut c.self.inside.head (building bs c.self.inside.head) c.args.self c.self.invariant c.self.view_is
-      (c.close.ensures ∙ ap (λ k. closed bs c.self.inside.head k) c.open_len-open.ensures.value) in
+    (c.close.ensures ∙ ap (λ k. closed bs c.self.inside.head k) c.open_len-open.ensures.value) in
     subst (λ xs. IsFlat xs) (sym (g.met.B.BuiltOctets.kept c.append_slice.new.self)) (spells_flat new (all_labels c.args.self) (under_root shut new (all_labels c.args.self) f c.in-Ok.ensures.ok))
 
 pub returns-in-Ok-clause-ok : goal.returns-in-Ok-clause-ok
@@ -20,5 +20,5 @@ returns-in-Ok-clause-ok g c =
     let shut = g.B.OctetsBuilder.bytes c.close.new.builder in
     let new = g.B.OctetsBuilder.bytes c.append_slice.new.self in
     let f = finished_at bs shut c.self.inside.head (building bs c.self.inside.head) c.args.self c.self.invariant c.self.view_is
-      (c.close.ensures ∙ ap (λ k. closed bs c.self.inside.head k) c.open_len-open.ensures.value) in
+    (c.close.ensures ∙ ap (λ k. closed bs c.self.inside.head k) c.open_len-open.ensures.value) in
     c.of_octets.ensures ∙ ap name_in (g.met.B.BuiltOctets.kept c.append_slice.new.self) ∙ read_name new (all_labels c.args.self) (under_root shut new (all_labels c.args.self) f c.in-Ok.ensures.ok)
