@@ -1,11 +1,11 @@
 -- What a builder holds.
-use Rattle.std.proofs.Common.{◌≡◌, ℕ, zero, suc, ◌+◌, ◌-◌, ◌<◌, ◌≤◌, List, [], ◌∷◌, ◌++◌, length, take, drop, set, refl, sym, ap, subst, ◌∙◌, append_assoc, length-append, arith}
+use Rattle.std.proofs.Common.{◌≡◌, ℕ, suc, ◌+◌, ◌-◌, ◌<◌, ◌≤◌, List, [], ◌∷◌, ◌++◌, length, take, drop, set, refl, sym, ap, subst, ◌∙◌, append_assoc, length-append, arith}
 use Rattle.std.specs.Prelude.{Option, Some, None, MatchOption}
 use Rattle.std.specs.List.{AllByRecursion}
 use Rattle.std.proofs.lemmas.List.{append-nil, take_at, drop_at, set_at, set-append_left, length-set}
 use Rattle.definitions.specs.Name.{Name, Label, IsLabel}
-use Rattle.names_flat.specs.Flat.{spelled, labels_in, SpellsRelative, IsFlatRelative, SpellsName, name_in}
-use Rattle.names_flat.specs.Building.{Building, open_octets, octets_of_building, labels_with, all_labels, ended, closed, with_octets, with_labels, head_of, building, IsShort, Holds}
+use Rattle.names_flat.specs.Flat.{spelled, labels_in, SpellsRelative, SpellsName, name_in}
+use Rattle.names_flat.specs.Building.{Building, open_octets, octets_of_building, labels_with, all_labels, ended, closed, with_octets, with_labels, head_of, building, Holds}
 use Rattle.names_flat.proofs.Runs.{labels_in-spelled, spelled-append, name_in-wire}
 use Rattle.names_flat.proofs.Checks.{plain_push, spelled-push, length-spelled_sum}
 

@@ -1,7 +1,7 @@
-use Rattle.std.proofs.Common.{◌≡◌, ap, sym, ◌∙◌, ◌+◌, ◌++◌, ◌∷◌, [], ◌≤◌, ◌<◌, length, subst, arith}
-use Rattle.names_flat.specs.Flat.{name_in, spelled, SpellsName, IsFlat}
+use Rattle.std.proofs.Common.{ap, sym, ◌∙◌, ◌++◌, [], length, subst, arith}
+use Rattle.names_flat.specs.Flat.{name_in, spelled, IsFlat}
 use Rattle.names_flat.specs.Building.{building, closed, all_labels}
-use Rattle.names_flat.proofs.Builds.{origin_at, read_name, longer_labels}
+use Rattle.names_flat.proofs.Builds.{origin_at, read_name}
 use Rattle.names_flat.proofs.Checks.{spells_flat}
 use Rattle.names_flat.proofs.Runs.{length-spelled_push}
 use Rattle.names_flat.proofs.builder.NameBuilder.append_origin.Goals as goal

@@ -1,6 +1,5 @@
-use Rattle.std.proofs.Common.{ap, ◌∙◌, ◌+◌, ◌<◌, ◌≤◌, ◌≡◌, length, Some, arith}
-use Rattle.std.specs.Prelude.{OnOk}
-use Rattle.names_flat.specs.Building.{Building, building, Holds, with_octets}
+use Rattle.std.proofs.Common.{◌≤◌, Some, arith}
+use Rattle.names_flat.specs.Building.{building, with_octets}
 use Rattle.names_flat.proofs.Builds.{opens_at, builds, holds_building}
 use Rattle.names_flat.proofs.Checks.{test_some}
 use Rattle.names_flat.proofs.builder.NameBuilder.append_slice.Goals as goal

@@ -1,5 +1,5 @@
 use Rattle.std.proofs.Common.{ap, ◌∙◌, ◌-◌, length, set, None}
-use Rattle.names_flat.specs.Building.{Building, building, Holds, ended}
+use Rattle.names_flat.specs.Building.{building, ended}
 use Rattle.names_flat.proofs.Builds.{ends_at, builds, holds_building}
 use Rattle.names_flat.proofs.builder.NameBuilder.end_label.Goals as goal
 

@@ -1,6 +1,6 @@
-use Rattle.std.proofs.Common.{◌≡◌, ap, sym, ◌∙◌, length, subst}
-use Rattle.names_flat.specs.Flat.{labels_in, SpellsRelative, IsFlatRelative}
-use Rattle.names_flat.specs.Building.{Building, building, Holds, closed, all_labels}
+use Rattle.std.proofs.Common.{ap, sym, ◌∙◌, subst}
+use Rattle.names_flat.specs.Flat.{labels_in, IsFlatRelative}
+use Rattle.names_flat.specs.Building.{building, closed, all_labels}
 use Rattle.names_flat.proofs.Builds.{finished_at, read_finished}
 use Rattle.names_flat.proofs.Relatives.{spells_relative}
 use Rattle.names_flat.proofs.builder.NameBuilder.finish.Goals as goal

@@ -1,4 +1,4 @@
-use Rattle.std.proofs.Common.{None, ap, arith, length, ◌≤◌}
+use Rattle.std.proofs.Common.{None, ap, arith, length}
 use Rattle.names_flat.specs.Flat.{labels_in, SpellsRelative}
 use Rattle.names_flat.proofs.Builds.{holds_labels, holds_building}
 use Rattle.names_flat.proofs.Relatives.{relative_short}

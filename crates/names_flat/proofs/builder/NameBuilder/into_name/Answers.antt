@@ -1,5 +1,5 @@
-use Rattle.std.proofs.Common.{◌≡◌, ap, sym, ◌∙◌, ◌++◌, ◌∷◌, [], length, subst}
-use Rattle.names_flat.specs.Flat.{name_in, SpellsName, IsFlat}
+use Rattle.std.proofs.Common.{ap, sym, ◌∙◌, subst}
+use Rattle.names_flat.specs.Flat.{name_in, IsFlat}
 use Rattle.names_flat.specs.Building.{building, closed, all_labels}
 use Rattle.names_flat.proofs.Builds.{finished_at, under_root, read_name}
 use Rattle.names_flat.proofs.Checks.{spells_flat}

@@ -1,4 +1,4 @@
-use Rattle.std.proofs.Common.{◌≡◌, ◌∷◌, [], ◌+◌, ◌<◌, refl, length, take, arith}
+use Rattle.std.proofs.Common.{◌∷◌, [], refl, take, arith}
 use Rattle.std.proofs.lemmas.Grind.{put_two}
 use Rattle.definitions.specs.Text.{text_of_label, text_of_relative}
 use Rattle.names_wire.specs.Label.{octets_of}

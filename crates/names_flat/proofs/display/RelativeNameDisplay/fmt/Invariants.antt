@@ -1,4 +1,4 @@
-use Rattle.std.proofs.Common.{take, length, ◌≡◌, ◌≤◌}
+use Rattle.std.proofs.Common.{take}
 use Rattle.std.specs.Fmt.{HasWritten, IsPlainFormatter}
 use Rattle.definitions.specs.Text.{text_of_relative}
 use Rattle.names_flat.proofs.display.RelativeNameDisplay.fmt.Given as goal
