@@ -140,6 +140,22 @@ impl<'a> Name<&'a [u8]> {
     }
 }
 
+impl Name<&'static [u8]> {
+    /// The root.
+    pub fn root_ref() -> Self
+        ensures { result ≡ [] }
+    {
+        Name { octets: b"\x00" }
+    }
+
+    /// As `root_ref`.
+    pub fn root_slice() -> Self
+        ensures { result ≡ [] }
+    {
+        Name::root_ref()
+    }
+}
+
 impl<Octs: Octets> Labels for Name<Octs> {
     ghost use Rattle.std.specs.Prelude.{◌++◌, ◌∷◌, []};
 

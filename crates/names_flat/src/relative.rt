@@ -148,6 +148,22 @@ impl<'a> RelativeName<&'a [u8]> {
     }
 }
 
+impl RelativeName<&'static [u8]> {
+    /// The name with no labels.
+    pub fn empty_ref() -> Self
+        ensures { result ≡ [] }
+    {
+        RelativeName { octets: b"" }
+    }
+
+    /// As `empty_ref`.
+    pub fn empty_slice() -> Self
+        ensures { result ≡ [] }
+    {
+        RelativeName::empty_ref()
+    }
+}
+
 impl<Octs: Octets> Labels for RelativeName<Octs> {
     ghost labels = { λ n. n };
 

@@ -124,6 +124,11 @@ fn names_are_joined(rt: HostRuntime) {
     );
     let joined = builder.append_origin(&com).expect(&rt, "room");
     assert!(rt; joined.as_slice() == b"\x03www\x01x\x03com\x00".as_slice());
+    let copied = joined.to_vec(rt.alloc()).expect(&rt, "memory");
+    assert!(rt; copied == joined && copied.ends_with(&com) && copied.ends_with(&Name::root_ref()));
+    assert!(rt;
+        Name::root_slice().is_root() && RelativeName::empty_ref() == RelativeName::empty_slice()
+    );
     let fourth = NameBuilder::from_builder(ArrayVec::<u8, 4>::new()).expect(&rt, "no labels");
     assert!(rt; fourth.append_origin(&com).err() == Some(PushNameError::ShortBuf));
 }

@@ -1,12 +1,16 @@
 //! What any two absolute names have in common, however they are kept.
 
-ghost use Rattle.std.specs.Prelude.{◌≡◌, ◌++◌, ◌∷◌, []};
+ghost use Rattle.std.specs.Prelude.{◌≡◌, ◌++◌, ◌∷◌, [], IfOk};
 ghost use Rattle.std.specs.Ordering.{nat_cmp};
 ghost use Rattle.std.specs.Cmp.Lexicographic.{slice_cmp};
 ghost use Rattle.definitions.specs.Name.{low, wire, same, name_cmp};
 
+use crate::builder::NameBuilder;
+use crate::name::Name;
 use crate::order::{Case, labels_cmp, labels_composed_cmp};
 use crate::traits::{ToLabelIter, labels_eq};
+use names_wire::builder::ShortBuf;
+use std::alloc::Global;
 use std::cmp::Ordering;
 
 /// Labels that end with the root's.
@@ -42,5 +46,15 @@ pub trait ToName: Absolute {
         ensures { result ≡ slice_cmp nat_cmp (wire (low (Self.name self.now))) (wire (low (N.name other.now))) }
     {
         labels_composed_cmp(self, other, Case::Lowered)
+    }
+
+    /// The name copied to octets of its own. It is refused for want of memory alone.
+    fn to_vec(&self, alloc: Global) -> Result<Name<Vec<u8>>, ShortBuf>
+        ensures { IfOk result (λ n. n ≡ Self.name self.now) }
+    {
+        match NameBuilder::new(alloc).append_origin(self) {
+            Ok(name) => Ok(name),
+            Err(_) => Err(ShortBuf),
+        }
     }
 }
