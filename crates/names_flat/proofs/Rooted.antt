@@ -1,0 +1,62 @@
+-- A name, and its labels with the root's behind them.
+use Rattle.std.proofs.Common.{◌≡◌, ℕ, ◌≤◌, Bool, false, ◌&&◌, List, [], ◌∷◌, ◌++◌, length, map, refl, sym, ap, ◌∙◌, length-append, eqb, arith}
+use Rattle.std.specs.Prelude.{◌↔◌, IsTrue}
+use Rattle.std.specs.List.{AllByRecursion}
+use Rattle.std.specs.Str.{bytes_eq, str_to_ascii_lowercase}
+use Rattle.std.proofs.lemmas.List.{map-append, map-id}
+use Rattle.std.proofs.lemmas.Bool.{and_right, eqb-true}
+use Rattle.definitions.specs.Name.{Name, Label, IsLabel, IsName, wire, low, same, name_cmp}
+use Rattle.names_flat.specs.Flat.{spelled, labels_in, name_in, IsRun, IsFlat}
+use Rattle.names_flat.specs.Order.{in_case}
+use Rattle.names_flat.specs.declared.order.Case.TheVariants.{Kept, Lowered}
+use Rattle.names_flat.proofs.Runs.{labels_in-wire, wire-spelled}
+use Rattle.names_flat.proofs.Checks.{length-wire}
+use Rattle.names_flat.proofs.Orders.{name_cmp-push}
+
+pub flat_labels : (bs : List ℕ) → IsFlat bs → labels_in bs ≡ name_in bs ++ [] ∷ []
+flat_labels bs f = ap labels_in (sym f.octets) ∙ labels_in-wire (name_in bs)
+
+all_short : (n : Name) → AllByRecursion IsLabel n → AllByRecursion (λ l. length l ≤ 63) (n ++ [] ∷ [])
+all_short [] a = (omega arith, tt)
+all_short (l ∷ n) a = (a.0.short, all_short n a.1)
+
+pub flat_run : (bs : List ℕ) → IsFlat bs → IsRun bs
+flat_run bs f = record {
+  whole = sym f.octets ∙ wire-spelled (name_in bs) ∙ ap spelled (sym (flat_labels bs f));
+  short = rw (flat_labels bs f) (all_short (name_in bs) f.name.labels);
+}
+
+pub rooted_short : (n : Name) → IsName n → length (spelled (n ++ [] ∷ [])) ≤ 255
+rooted_short n h = omega (arith, h.short, length-wire n, ap length (wire-spelled n))
+
+same_none : (l : Label) (n : Name) → same [] (n ++ l ∷ []) ≡ false
+same_none l [] = refl
+same_none l (k ∷ n) = refl
+
+same_no_more : (l : Label) (n : Name) → same (n ++ l ∷ []) [] ≡ false
+same_no_more l [] = refl
+same_no_more l (k ∷ n) = refl
+
+pub same-rooted : (m n : Name) → same (m ++ [] ∷ []) (n ++ [] ∷ []) ≡ same m n
+same-rooted [] [] = refl
+same-rooted [] (l ∷ n) = and_right (bytes_eq [] (str_to_ascii_lowercase l)) (same [] (n ++ [] ∷ [])) (same_none [] n)
+same-rooted (k ∷ m) [] = and_right (bytes_eq (str_to_ascii_lowercase k) []) (same (m ++ [] ∷ []) []) (same_no_more [] m)
+same-rooted (k ∷ m) (l ∷ n) = ap (λ t. bytes_eq (str_to_ascii_lowercase k) (str_to_ascii_lowercase l) && t) (same-rooted m n)
+
+pub name_cmp-rooted : (m n : Name) → name_cmp (m ++ [] ∷ []) (n ++ [] ∷ []) ≡ name_cmp m n
+name_cmp-rooted m n = name_cmp-push m n [] []
+
+pub spelled-kept : (n : Name) → spelled (map (in_case Kept) (n ++ [] ∷ [])) ≡ wire n
+spelled-kept n = ap spelled (map-id (n ++ [] ∷ [])) ∙ sym (wire-spelled n)
+
+pub spelled-lowered : (n : Name) → spelled (map (in_case Lowered) (n ++ [] ∷ [])) ≡ wire (low n)
+spelled-lowered n = ap spelled (map-append str_to_ascii_lowercase n ([] ∷ [])) ∙ sym (wire-spelled (low n))
+
+-- a wire form of one octet is the root's
+pub only_root : (n : Name) (bs : List ℕ) (t : Bool) → bs ≡ wire n → t ≡ eqb (length bs) 1 → IsTrue t ↔ (n ≡ [])
+only_root [] bs t e h = (λ _. refl, λ _. h ∙ ap (λ xs. eqb (length xs) 1) e)
+only_root (l ∷ n) bs t e h = (
+  λ s. let k : length bs ≡ 1 = eqb-true (length bs) 1 (sym h ∙ s) in
+      absurd (omega (arith, ap length e, length-append (spelled (l ∷ n)) (0 ∷ []))),
+  λ z. cc,
+)

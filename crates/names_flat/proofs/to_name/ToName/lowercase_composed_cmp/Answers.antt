@@ -1,0 +1,14 @@
+use Rattle.std.proofs.Common.{◌∙◌, map}
+use Rattle.std.specs.Ordering.{nat_cmp}
+use Rattle.std.specs.Cmp.Lexicographic.{slice_cmp}
+use Rattle.names_flat.specs.Flat.{spelled}
+use Rattle.names_flat.specs.Order.{in_case}
+use Rattle.names_flat.specs.declared.order.Case.TheVariants.{Lowered}
+use Rattle.names_flat.proofs.Rooted.{spelled-lowered}
+use Rattle.names_flat.proofs.to_name.ToName.lowercase_composed_cmp.Goals as goal
+
+pub returns : goal.returns
+returns g c =
+    c.labels_composed_cmp.ensures
+    ∙ (λ t. slice_cmp nat_cmp (spelled (map (in_case Lowered) (g.met.Self.Absolute.rooted c.args.self.now t))) (spelled (map (in_case Lowered) (g.met.N.Absolute.rooted c.args.other.now t))))
+    ∙ (λ t. slice_cmp nat_cmp (spelled-lowered (g.Self.Labels.name c.args.self.now) t) (spelled-lowered (g.N.Labels.name c.args.other.now) t))

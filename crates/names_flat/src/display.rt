@@ -1,0 +1,45 @@
+//! Names as text (RFC 1035, 5.1). The last dot is left out; the root is a dot.
+
+ghost use Rattle.std.specs.Prelude.{Some};
+ghost use Rattle.definitions.specs.Text.{text_of_name, text_of_relative};
+
+use crate::name::Name;
+use crate::relative::RelativeName;
+use crate::traits::Labels;
+use names_wire::octets::Octets;
+use std::fmt;
+
+impl<Octs: Octets> fmt::Display for Name<Octs> {
+    ghost output = { λ n. Some (text_of_name n) };
+
+    fn fmt<W: fmt::Write>(&self, f: &mut fmt::Formatter<W>) -> fmt::Result {
+        if self.is_root() {
+            return write!(f, ".");
+        }
+        let first = self.first();
+        write!(f, "{first}")?;
+        for index in 1..self.label_count() - 1 {
+            if let Some(label) = self.label_at(index) {
+                write!(f, ".{label}")?;
+            }
+        }
+        Ok(())
+    }
+}
+
+impl<Octs: Octets> fmt::Display for RelativeName<Octs> {
+    ghost output = { λ n. Some (text_of_relative n) };
+
+    fn fmt<W: fmt::Write>(&self, f: &mut fmt::Formatter<W>) -> fmt::Result {
+        let Some(first) = self.first() else {
+            return Ok(());
+        };
+        write!(f, "{first}")?;
+        for index in 1..self.label_count() {
+            if let Some(label) = self.label_at(index) {
+                write!(f, ".{label}")?;
+            }
+        }
+        Ok(())
+    }
+}

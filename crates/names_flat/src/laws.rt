@@ -1,0 +1,19 @@
+//! Laws of comparing names.
+
+ghost use Rattle.std.specs.Prelude.{◌≡◌, IsTrue, false};
+ghost use Rattle.std.specs.Ordering.{eq_by_cmp, is_gt};
+ghost use Rattle.std.specs.Cmp.{IsEquivalence, IsTotalOrder};
+ghost use Rattle.definitions.specs.Name.{Name, same, name_cmp, at_or_above};
+
+/// Canonical order is total up to ASCII case, and two names are equal in it exactly where they are the same.
+pub fn canonical_order_is_total()
+    ensures total { IsTotalOrder name_cmp }
+    ensures same { IsEquivalence same }
+    ensures equal { (m n : Name) → same m n ≡ eq_by_cmp name_cmp m n }
+{}
+
+/// The names at or below an apex are an interval of canonical order, which begins with the apex.
+pub fn names_below_an_apex_are_an_interval()
+    ensures first { (apex n : Name) → IsTrue (at_or_above apex n) → is_gt (name_cmp apex n) ≡ false }
+    ensures between { (apex a n b : Name) → IsTrue (at_or_above apex a) → IsTrue (at_or_above apex b) → is_gt (name_cmp a n) ≡ false → is_gt (name_cmp n b) ≡ false → IsTrue (at_or_above apex n) }
+{}

@@ -1,0 +1,183 @@
+//! Absolute names over flat octets.
+
+ghost use Rattle.std.specs.Prelude.{◌≡◌, ◌↔◌, ◌+◌, ◌++◌, ◌∷◌, [], ℕ, List, length, slice_index_or, IfOk, IfErr, IsOk, IsTrue};
+ghost use Rattle.definitions.specs.Name.{IsName, wire};
+ghost use Rattle.names_flat.specs.Flat.{IsRun, IsFlat, labels_in, name_in, SpellsName};
+ghost use Rattle.names_flat.specs.Refused.{RefusedName};
+ghost use Rattle.names_wire.specs.Label.{octets_of};
+
+use crate::check::check_absolute;
+use crate::flat;
+use crate::name_error::NameError;
+use crate::to_name::{Absolute, ToName};
+use crate::traits::{Labels, ToLabelIter};
+use names_wire::label::Label;
+use names_wire::octets::Octets;
+use std::marker::Model;
+
+/// An absolute domain name: labels in a row of octets, each behind its length, and the root's octet
+/// (RFC 1035, 3.1). A contract sees its labels, the leftmost first, without the root's.
+#[derive(Drop)]
+pub struct Name<Octs: Octets> {
+    octets: Octs,
+}
+
+impl<Octs: Octets> Model for Name<Octs> {
+    ghost use Rattle.std.specs.Prelude.{List, ℕ};
+    ghost use Rattle.names_flat.specs.Flat.{name_in, IsFlat};
+
+    ghost Value = { List (List ℕ) };
+
+    ghost view = { λ n. name_in (Octs.bytes n.octets) };
+
+    ghost invariant = { λ n. IsFlat (Octs.bytes n.octets) };
+}
+
+impl<Octs: Octets> Name<Octs> {
+    /// The most octets that a name has, the root's included (RFC 1035, 2.3.4).
+    pub const MAX_LEN: usize = 255;
+
+    /// The name that the octets spell. Octets that spell none are dropped.
+    pub fn from_octets(octets: Octs) -> Result<Self, NameError>
+    where
+        Octs: Drop,
+        ensures ok { IfOk result (SpellsName (Octs.bytes octets)) }
+        ensures refused { IfErr result (RefusedName (Octs.bytes octets)) }
+        ensures accepts { IsOk result ↔ ((n : List (List ℕ)) × SpellsName (Octs.bytes octets) n) }
+    {
+        match check_absolute(octets.as_slice()) {
+            Ok(()) => Ok(Name { octets }),
+            Err(error) => Err(error),
+        }
+    }
+
+    /// The name over octets that were found to spell one.
+    pub(crate) fn of_octets(octets: Octs) -> Self
+        requires { IsFlat (Octs.bytes octets) }
+        ensures { result ≡ name_in (Octs.bytes octets) }
+    {
+        Name { octets }
+    }
+
+    /// The wire form.
+    pub fn as_slice(&self) -> &[u8]
+        ensures value { result.now ≡ wire self.now }
+        ensures name { IsName self.now }
+    {
+        self.octets.as_slice()
+    }
+
+    /// The labels in a row, the root's last.
+    pub(crate) fn run(&self) -> &[u8]
+        ensures run { IsRun result.now }
+        ensures labels { labels_in result.now ≡ self.now ++ [] ∷ [] }
+        ensures value { result.now ≡ wire self.now }
+        ensures name { IsName self.now }
+    {
+        self.octets.as_slice()
+    }
+
+    pub fn as_octets(&self) -> &Octs
+        ensures { Octs.bytes result.now ≡ wire self.now }
+    {
+        &self.octets
+    }
+
+    pub fn into_octets(self) -> Octs
+        ensures { Octs.bytes result ≡ wire self }
+    {
+        self.octets
+    }
+
+    /// The same name over a slice of its octets.
+    pub fn for_ref(&self) -> Name<&[u8]>
+        ensures { result ≡ self.now }
+    {
+        Name {
+            octets: self.octets.as_slice(),
+        }
+    }
+
+    /// The number of labels, the root's included.
+    pub fn label_count(&self) -> usize
+        ensures { result ≡ length self.now + 1 }
+    {
+        flat::label_count(self.run())
+    }
+
+    /// The leftmost label, which is the root's for the root.
+    pub fn first(&self) -> Label<'_>
+        ensures { octets_of result ≡ slice_index_or self.now 0 [] }
+    {
+        match flat::label_at(self.run(), 0) {
+            Some(label) => label,
+            None => Label::root(),
+        }
+    }
+
+    /// The root's label.
+    pub fn last(&self) -> Label<'_>
+        ensures { octets_of result ≡ [] }
+    {
+        Label::root()
+    }
+
+    pub fn is_root(&self) -> bool
+        ensures { IsTrue result ↔ (self.now ≡ []) }
+    {
+        self.as_slice().len() == 1
+    }
+}
+
+impl<'a> Name<&'a [u8]> {
+    /// The name that the octets spell.
+    pub fn from_slice(slice: &'a [u8]) -> Result<Self, NameError>
+        ensures ok { IfOk result (SpellsName slice.now) }
+        ensures refused { IfErr result (RefusedName slice.now) }
+        ensures accepts { IsOk result ↔ ((n : List (List ℕ)) × SpellsName slice.now n) }
+    {
+        Name::from_octets(slice)
+    }
+}
+
+impl Name<&'static [u8]> {
+    /// The root.
+    pub fn root_ref() -> Self
+        ensures { result ≡ [] }
+    {
+        Name { octets: b"\x00" }
+    }
+
+    /// As `root_ref`.
+    pub fn root_slice() -> Self
+        ensures { result ≡ [] }
+    {
+        Name::root_ref()
+    }
+}
+
+impl<Octs: Octets> Labels for Name<Octs> {
+    ghost use Rattle.std.specs.Prelude.{◌++◌, ◌∷◌, []};
+
+    ghost labels = { λ n. n ++ [] ∷ [] };
+
+    ghost name = { λ n. n };
+
+    fn label_count(&self) -> usize {
+        flat::label_count(self.run())
+    }
+
+    fn label_at(&self, index: usize) -> Option<Label<'_>> {
+        flat::label_at(self.run(), index)
+    }
+}
+
+impl<Octs: Octets> ToLabelIter for Name<Octs> {}
+
+impl<Octs: Octets> Absolute for Name<Octs> {
+    ghost use Rattle.std.specs.Prelude.{refl};
+
+    ghost rooted = { λ n. refl };
+}
+
+impl<Octs: Octets> ToName for Name<Octs> {}

@@ -1,0 +1,75 @@
+//! Names of one type compare and hash with ASCII letters lowered.
+
+ghost use Rattle.std.specs.Prelude.{◌≡◌, refl, Some};
+ghost use Rattle.std.specs.List.{fold};
+ghost use Rattle.std.specs.Cmp.{partial_equiv_from_equiv};
+ghost use Rattle.definitions.specs.Name.{same, name_cmp};
+ghost use Rattle.names_flat.specs.Laws.{same_equivalence, name_cmp_total, name_cmp_partial, name_cmp_ties};
+ghost use Rattle.names_flat.specs.Feed.{labels_feed, name_feed, name_feed-same};
+
+use crate::name::Name;
+use crate::to_name::ToName;
+use crate::traits::Labels;
+use names_wire::octets::Octets;
+use std::cmp::Ordering;
+use std::hash::{Hash, Hasher};
+
+impl<Octs: Octets> PartialEq for Name<Octs> {
+    ghost eq = { same };
+
+    ghost laws = { partial_equiv_from_equiv same_equivalence };
+
+    fn eq(&self, other: &Self) -> bool {
+        self.name_eq(other)
+    }
+}
+
+impl<Octs: Octets> Eq for Name<Octs> {
+    ghost laws = { same_equivalence };
+}
+
+impl<Octs: Octets> PartialOrd for Name<Octs> {
+    ghost partial_cmp = { λ a b. Some (name_cmp a b) };
+
+    ghost laws = { name_cmp_partial };
+
+    fn partial_cmp(&self, other: &Self) -> Option<Ordering> {
+        Some(self.name_cmp(other))
+    }
+}
+
+impl<Octs: Octets> Ord for Name<Octs> {
+    ghost cmp = { name_cmp };
+
+    ghost total = { name_cmp_total };
+
+    ghost matches_partial_cmp = { λ a b. refl };
+
+    ghost matches_eq = { name_cmp_ties };
+
+    fn cmp(&self, other: &Self) -> Ordering {
+        self.name_cmp(other)
+    }
+}
+
+/// Each label's length and lowered octets, the root's last.
+impl<Octs: Octets> Hash for Name<Octs> {
+    ghost hash_input = { name_feed };
+
+    ghost respects_eq = { name_feed-same };
+
+    fn hash<H: Hasher>(&self, state: &mut H) {
+        feed_labels(self, state);
+    }
+}
+
+/// Feeds each label's length and lowered octets.
+pub(crate) fn feed_labels<N: Labels, H: Hasher>(name: &N, state: &mut H)
+    ensures { state.new ≡ fold H.write state.old (labels_feed (N.labels name.now)) }
+{
+    for index in 0..name.label_count() {
+        if let Some(label) = name.label_at(index) {
+            label.hash(state);
+        }
+    }
+}

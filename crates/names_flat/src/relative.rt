@@ -1,0 +1,189 @@
+//! Relative names over flat octets.
+
+ghost use Rattle.std.specs.Prelude.{◌≡◌, ◌↔◌, ◌-◌, ◌==◌, [], ℕ, List, length, slice_get, option_map, IfOk, IfErr, IsOk};
+ghost use Rattle.definitions.specs.Name.{IsName};
+ghost use Rattle.names_flat.specs.Flat.{IsRun, IsFlatRelative, labels_in, spelled, SpellsRelative};
+ghost use Rattle.names_flat.specs.RefusedRelative.{RefusedRelative};
+ghost use Rattle.names_wire.specs.Label.{octets_of};
+
+use crate::check::check_relative;
+use crate::flat;
+use crate::relative_error::RelativeNameError;
+use crate::to_relative::{Relative, ToRelativeName};
+use crate::traits::{Labels, ToLabelIter};
+use names_wire::label::Label;
+use names_wire::octets::Octets;
+use std::marker::Model;
+
+/// A relative domain name: labels in a row of octets, each behind its length, and no root's octet.
+/// A contract sees its labels, the leftmost first.
+#[derive(Drop)]
+pub struct RelativeName<Octs: Octets> {
+    octets: Octs,
+}
+
+impl<Octs: Octets> Model for RelativeName<Octs> {
+    ghost use Rattle.std.specs.Prelude.{List, ℕ};
+    ghost use Rattle.names_flat.specs.Flat.{labels_in, IsFlatRelative};
+
+    ghost Value = { List (List ℕ) };
+
+    ghost view = { λ n. labels_in (Octs.bytes n.octets) };
+
+    ghost invariant = { λ n. IsFlatRelative (Octs.bytes n.octets) };
+}
+
+impl<Octs: Octets> RelativeName<Octs> {
+    /// The name that the octets spell. Octets that spell none are dropped.
+    pub fn from_octets(octets: Octs) -> Result<Self, RelativeNameError>
+    where
+        Octs: Drop,
+        ensures ok { IfOk result (SpellsRelative (Octs.bytes octets)) }
+        ensures refused { IfErr result (RefusedRelative (Octs.bytes octets)) }
+        ensures accepts { IsOk result ↔ ((n : List (List ℕ)) × SpellsRelative (Octs.bytes octets) n) }
+    {
+        match check_relative(octets.as_slice()) {
+            Ok(()) => Ok(RelativeName { octets }),
+            Err(error) => Err(error),
+        }
+    }
+
+    /// The name over octets that were found to spell one.
+    pub(crate) fn of_octets(octets: Octs) -> Self
+        requires { IsFlatRelative (Octs.bytes octets) }
+        ensures { result ≡ labels_in (Octs.bytes octets) }
+    {
+        RelativeName { octets }
+    }
+
+    /// The labels, each behind its length.
+    pub fn as_slice(&self) -> &[u8]
+        ensures value { result.now ≡ spelled self.now }
+        ensures name { IsName self.now }
+    {
+        self.octets.as_slice()
+    }
+
+    pub(crate) fn run(&self) -> &[u8]
+        ensures run { IsRun result.now }
+        ensures labels { labels_in result.now ≡ self.now }
+        ensures value { result.now ≡ spelled self.now }
+        ensures name { IsName self.now }
+    {
+        self.octets.as_slice()
+    }
+
+    pub fn as_octets(&self) -> &Octs
+        ensures { Octs.bytes result.now ≡ spelled self.now }
+    {
+        &self.octets
+    }
+
+    pub fn into_octets(self) -> Octs
+        ensures { Octs.bytes result ≡ spelled self }
+    {
+        self.octets
+    }
+
+    /// The same name over a slice of its octets.
+    pub fn for_ref(&self) -> RelativeName<&[u8]>
+        ensures { result ≡ self.now }
+    {
+        RelativeName {
+            octets: self.octets.as_slice(),
+        }
+    }
+
+    /// The number of octets.
+    pub fn len(&self) -> usize
+        ensures { result ≡ length (spelled self.now) }
+    {
+        self.as_slice().len()
+    }
+
+    pub fn is_empty(&self) -> bool
+        ensures { result ≡ (length self.now == 0) }
+    {
+        self.label_count() == 0
+    }
+
+    /// The number of labels.
+    pub fn label_count(&self) -> usize
+        ensures { result ≡ length self.now }
+    {
+        flat::label_count(self.run())
+    }
+
+    /// One less than the number of labels; 0 for the empty name.
+    pub fn ndots(&self) -> usize
+        ensures { result ≡ length self.now - 1 }
+    {
+        self.label_count().saturating_sub(1)
+    }
+
+    /// The leftmost label.
+    pub fn first(&self) -> Option<Label<'_>>
+        ensures { option_map octets_of result ≡ slice_get self.now 0 }
+    {
+        flat::label_at(self.run(), 0)
+    }
+
+    /// The rightmost label.
+    pub fn last(&self) -> Option<Label<'_>>
+        ensures { option_map octets_of result ≡ slice_get self.now (length self.now - 1) }
+    {
+        let run = self.run();
+        flat::label_at(run, flat::label_count(run).saturating_sub(1))
+    }
+}
+
+impl<'a> RelativeName<&'a [u8]> {
+    /// The name that the octets spell.
+    pub fn from_slice(slice: &'a [u8]) -> Result<Self, RelativeNameError>
+        ensures ok { IfOk result (SpellsRelative slice.now) }
+        ensures refused { IfErr result (RefusedRelative slice.now) }
+        ensures accepts { IsOk result ↔ ((n : List (List ℕ)) × SpellsRelative slice.now n) }
+    {
+        RelativeName::from_octets(slice)
+    }
+}
+
+impl RelativeName<&'static [u8]> {
+    /// The name with no labels.
+    pub fn empty_ref() -> Self
+        ensures { result ≡ [] }
+    {
+        RelativeName { octets: b"" }
+    }
+
+    /// As `empty_ref`.
+    pub fn empty_slice() -> Self
+        ensures { result ≡ [] }
+    {
+        RelativeName::empty_ref()
+    }
+}
+
+impl<Octs: Octets> Labels for RelativeName<Octs> {
+    ghost labels = { λ n. n };
+
+    ghost name = { λ n. n };
+
+    fn label_count(&self) -> usize {
+        flat::label_count(self.run())
+    }
+
+    fn label_at(&self, index: usize) -> Option<Label<'_>> {
+        flat::label_at(self.run(), index)
+    }
+}
+
+impl<Octs: Octets> ToLabelIter for RelativeName<Octs> {}
+
+impl<Octs: Octets> Relative for RelativeName<Octs> {
+    ghost use Rattle.std.specs.Prelude.{refl};
+
+    ghost unrooted = { λ n. refl };
+}
+
+impl<Octs: Octets> ToRelativeName for RelativeName<Octs> {}

@@ -1,0 +1,60 @@
+//! What any two absolute names have in common, however they are kept.
+
+ghost use Rattle.std.specs.Prelude.{◌≡◌, ◌++◌, ◌∷◌, [], IfOk};
+ghost use Rattle.std.specs.Ordering.{nat_cmp};
+ghost use Rattle.std.specs.Cmp.Lexicographic.{slice_cmp};
+ghost use Rattle.definitions.specs.Name.{low, wire, same, name_cmp};
+
+use crate::builder::NameBuilder;
+use crate::name::Name;
+use crate::order::{Case, labels_cmp, labels_composed_cmp};
+use crate::traits::{ToLabelIter, labels_eq};
+use names_wire::builder::ShortBuf;
+use std::alloc::Global;
+use std::cmp::Ordering;
+
+/// Labels that end with the root's.
+pub trait Absolute: ToLabelIter {
+    ghost rooted: { (n : Self) → Self.labels n ≡ Self.name n ++ [] ∷ [] };
+}
+
+/// An absolute name, however it is kept.
+pub trait ToName: Absolute {
+    /// Whether the names are the same up to ASCII case (RFC 4343, 3).
+    fn name_eq<N: Absolute>(&self, other: &N) -> bool
+        ensures { result ≡ same (Self.name self.now) (N.name other.now) }
+    {
+        labels_eq(self, other)
+    }
+
+    /// Canonical order: labels from the root on, in lower case; an absent label comes first (RFC 4034, 6.1).
+    fn name_cmp<N: Absolute>(&self, other: &N) -> Ordering
+        ensures { result ≡ name_cmp (Self.name self.now) (N.name other.now) }
+    {
+        labels_cmp(self, other)
+    }
+
+    /// The order of the octets in wire form.
+    fn composed_cmp<N: Absolute>(&self, other: &N) -> Ordering
+        ensures { result ≡ slice_cmp nat_cmp (wire (Self.name self.now)) (wire (N.name other.now)) }
+    {
+        labels_composed_cmp(self, other, Case::Kept)
+    }
+
+    /// The order of the octets in wire form, with ASCII letters lowered.
+    fn lowercase_composed_cmp<N: Absolute>(&self, other: &N) -> Ordering
+        ensures { result ≡ slice_cmp nat_cmp (wire (low (Self.name self.now))) (wire (low (N.name other.now))) }
+    {
+        labels_composed_cmp(self, other, Case::Lowered)
+    }
+
+    /// The name copied to octets of its own. It is refused for want of memory alone.
+    fn to_vec(&self, alloc: Global) -> Result<Name<Vec<u8>>, ShortBuf>
+        ensures { IfOk result (λ n. n ≡ Self.name self.now) }
+    {
+        match NameBuilder::new(alloc).append_origin(self) {
+            Ok(name) => Ok(name),
+            Err(_) => Err(ShortBuf),
+        }
+    }
+}
