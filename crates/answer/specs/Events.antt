@@ -8,8 +8,8 @@ use Rattle.answer.specs.declared.event.KeyCall.TheVariants.{AddKeyKsk, AddKeyZsk
 
 -- the octets of the key that a call adds, 0 for other calls
 abbrev pub added_by_call : KeyCall → ℕ
-added_by_call (AddKeyKsk pubref privref algorithm key available) = length key.items
-added_by_call (AddKeyZsk pubref privref algorithm key available) = length key.items
+added_by_call (AddKeyKsk pubref privref algorithm key at_hand) = length key.items
+added_by_call (AddKeyZsk pubref privref algorithm key at_hand) = length key.items
 added_by_call _ = 0
 
 abbrev pub added_by_act : Act → ℕ
