@@ -25,4 +25,8 @@ pub mod ZoneServed
 pub mod ZoneFaults
 pub mod KeyWhole
 pub mod SignAnswer
+pub mod ZoneBitmap
+pub mod ZoneAnswers
 pub mod ZoneChains
+pub mod ZoneData
+pub mod ZoneLinks

@@ -8,6 +8,7 @@ use Rattle.answer.specs.Message.{Asked}
 use Rattle.answer.specs.GroupView.{GroupView, Presents}
 use Rattle.answer.specs.Composed.{IsAnswer}
 use Rattle.answer.specs.Served.{Served, answer_groups, key_group}
+use Rattle.answer.specs.declared.publisher.zone.answers.ZoneAnswer.{ZoneAnswer}
 
 -- an authoritative answer, one that no such name exists, or a referral (RFC 1035, 4.1.1)
 abbrev pub flags_for : Verdict → ℕ
@@ -20,6 +21,12 @@ abbrev pub answered : Verdict → ℕ
 answered (Records ds) = 1
 answered (StarRecords ds) = 1
 answered _ = 0
+
+-- what a zone answers, before it is signed: the RRsets of the answer, those asked for apart, and the flags
+pub record AnswersAs (s : Served) (name : Name) (t : ℕ) (a : ZoneAnswer) : Type 0 where
+  pub groups_are : AllZip Presents (a.answer.items ++ a.authority.items) (answer_groups s name t)
+  pub split : length a.answer.items ≡ answered (verdict s.zone false name t)
+  pub flags_are : a.flags ≡ flags_for (verdict s.zone false name t)
 
 -- the message that answers a question: the RRsets of the answer in order, those asked for in the answer section
 pub record AnswersZone (sign : Dnskey → List ℕ → Option (List ℕ)) (verifies : Dnskey → List ℕ → List ℕ → Bool) (s : Served) (apex : Name) (at life : ℕ) (keys : List Dnskey) (asked : Asked) (m : List ℕ) : Type 0 where

@@ -1,5 +1,5 @@
 -- Answers as they are written: RRsets, each with its signatures behind it.
-use Rattle.std.specs.Prelude.{◌≡◌, ℕ, ◌+◌, ◌≤◌, Bool, List, [], ◌++◌, map, length, Option, if◌then◌else◌}
+use Rattle.std.specs.Prelude.{◌≡◌, ℕ, ◌≤◌, Bool, List, [], ◌++◌, map, length, Option, if◌then◌else◌}
 use Rattle.std.specs.List.{AllZip, flat_map}
 use Rattle.definitions.specs.Name.{Name}
 use Rattle.definitions.specs.Dnskey.{Dnskey}

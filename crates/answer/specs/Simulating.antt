@@ -1,7 +1,7 @@
 -- What a simulation of a zone's life answers, event by event.
-use Rattle.std.specs.Prelude.{◌≡◌, ℕ, ◌+◌, ◌/◌, ◌%◌, ◌≤◌, Bool, true, false, List, [], ◌∷◌, ◌++◌, map, length, Option, Some, None, Result, Ok, Err, slice_get, string_bytes}
+use Rattle.std.specs.Prelude.{◌≡◌, ℕ, ◌/◌, ◌%◌, Bool, true, false, List, [], ◌∷◌, ◌++◌, map, length, Option, Some, slice_get, string_bytes}
 use Rattle.definitions.specs.Name.{Name}
-use Rattle.definitions.specs.Dnskey.{Dnskey, Ds}
+use Rattle.definitions.specs.Dnskey.{Ds}
 use Rattle.answer.specs.declared.event.Event.{Event}
 use Rattle.answer.specs.declared.event.Act.{Act}
 use Rattle.answer.specs.declared.event.Act.TheVariants as act

@@ -1,4 +1,4 @@
-use Rattle.std.proofs.Common.{[], map, ap, subst, sym}
+use Rattle.std.proofs.Common.{[], map, subst, sym}
 use Rattle.std.specs.Prelude.{if◌then◌else◌}
 use Rattle.std.specs.List.{AllZip}
 use Rattle.answer.specs.GroupView.{IsRrsigData}
