@@ -207,7 +207,7 @@ fn a_bitmap_of_two_windows(rt: HostRuntime) -> Result<(), Fail> {
     let mut octets = Vec::new(alloc);
     write_bitmap(&mut octets, &[1234, 15, 47, 1, 46])?;
     assert_eq!(rt; octets.len(), 37);
-    assert_eq!(rt; &octets[..10], &[0, 6, 64, 1, 0, 0, 0, 3, 4, 27]);
+    assert!(rt; octets.starts_with(&[0, 6, 64, 1, 0, 0, 0, 3, 4, 27]));
     assert_eq!(rt; octets[36], 32);
     Ok(())
 }
