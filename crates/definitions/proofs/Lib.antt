@@ -7,3 +7,4 @@ pub mod KeyRows
 pub mod NameLaws
 pub mod ChainLaws
 pub mod LawProofs
+pub mod SignedLaws

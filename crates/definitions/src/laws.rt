@@ -1,6 +1,6 @@
 //! Laws over the definitions. Each is the contract of a function that does nothing.
 ghost use Rattle.definitions.specs.Name.{Name};
-ghost use Rattle.definitions.specs.Laws.{OrdersNames, IsInterval, OneLinkSpeaks};
+ghost use Rattle.definitions.specs.Laws.{OrdersNames, IsInterval, OneLinkSpeaks, WireSpells, SignedOctetsSpell};
 
 /// Names have one canonical order up to ASCII case, and are equal in it exactly where they are the same up to
 /// case (RFC 4034, 6.1).
@@ -17,4 +17,15 @@ pub fn names_below_apex()
 /// (RFC 4034, 4).
 pub fn one_link_speaks()
     ensures { OneLinkSpeaks }
+{}
+
+/// The wire form of a name tells where it ends: no name's octets begin with those of another (RFC 1035, 3.1).
+pub fn wire_form_spells_one_name()
+    ensures { WireSpells }
+{}
+
+/// What a signature is made over tells its fields and its RRset: equal octets have equal type, class, TTL and data,
+/// and up to ASCII case one signer and one signed owner (RFC 4034, 3.1.8.1; RFC 4035, 5.3.2).
+pub fn signed_octets_spell_one_rrset()
+    ensures { SignedOctetsSpell }
 {}
