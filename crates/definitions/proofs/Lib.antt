@@ -8,3 +8,4 @@ pub mod NameLaws
 pub mod ChainLaws
 pub mod LawProofs
 pub mod SignedLaws
+pub mod PlainNames
