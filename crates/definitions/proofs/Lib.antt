@@ -9,3 +9,5 @@ pub mod ChainLaws
 pub mod LawProofs
 pub mod SignedLaws
 pub mod PlainNames
+pub mod PlainZones
+pub mod VerdictCases

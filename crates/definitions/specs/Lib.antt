@@ -11,3 +11,5 @@ pub mod Dnskey
 pub mod Signing
 pub mod Laws
 pub mod Text
+pub mod ReferenceViews
+pub mod Reference

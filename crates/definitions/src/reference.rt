@@ -6,6 +6,8 @@ use std::alloc::{AllocError, Global};
 use std::marker::Model;
 
 pub mod names;
+pub mod verdict;
+pub mod zone;
 
 /// The octets of a label, or of a record's data. A contract sees them as a list.
 #[derive(Debug, Drop)]
