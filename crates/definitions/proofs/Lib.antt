@@ -11,3 +11,5 @@ pub mod SignedLaws
 pub mod PlainNames
 pub mod PlainZones
 pub mod VerdictCases
+pub mod PlainBitmaps
+pub mod PlainReading

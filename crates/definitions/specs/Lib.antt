@@ -13,3 +13,4 @@ pub mod Laws
 pub mod Text
 pub mod ReferenceViews
 pub mod Reference
+pub mod Windows

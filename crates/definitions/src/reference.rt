@@ -5,7 +5,9 @@ ghost use Rattle.std.specs.Prelude.{◌≡◌, IfOk};
 use std::alloc::{AllocError, Global};
 use std::marker::Model;
 
+pub mod bitmap;
 pub mod names;
+pub mod reading;
 pub mod verdict;
 pub mod zone;
 
