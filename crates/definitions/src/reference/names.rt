@@ -11,7 +11,7 @@ use std::alloc::{AllocError, Global};
 use std::cmp::Ordering;
 
 /// The same octets in each label.
-pub fn labels_eq(a: &[Octets], b: &[Octets]) -> bool
+pub(super) fn labels_eq(a: &[Octets], b: &[Octets]) -> bool
     ensures { result ≡ labels_eq a.now b.now }
 {
     match (a.split_first(), b.split_first()) {
@@ -22,7 +22,7 @@ pub fn labels_eq(a: &[Octets], b: &[Octets]) -> bool
 }
 
 /// The name with its ASCII letters lowered (RFC 4034, 6.2).
-pub fn lowered(alloc: Global, name: &[Octets]) -> Result<Vec<Octets>, AllocError>
+pub(super) fn lowered(alloc: Global, name: &[Octets]) -> Result<Vec<Octets>, AllocError>
     ensures { IfOk result (λ n. n.items ≡ low name.now) }
 {
     let mut labels = Vec::new(alloc);
@@ -63,7 +63,7 @@ pub fn at_or_above(name: &[Octets], other: &[Octets]) -> bool
 }
 
 /// Whether a name is at or above what another stands under.
-pub fn strictly_above(name: &[Octets], other: &[Octets]) -> bool
+pub(super) fn strictly_above(name: &[Octets], other: &[Octets]) -> bool
     ensures { result ≡ strictly_above name.now other.now }
 {
     match other.split_first() {
@@ -107,7 +107,7 @@ fn label_cmp(a: &[u8], b: &[u8]) -> Ordering
 }
 
 /// Whether one name is before another in canonical order.
-pub fn before(a: &[Octets], b: &[Octets]) -> bool
+fn before(a: &[Octets], b: &[Octets]) -> bool
     ensures { result ≡ before a.now b.now }
 {
     name_cmp(a, b).is_lt()
@@ -121,7 +121,7 @@ pub fn covers(apex: &[Octets], owner: &[Octets], next: &[Octets], name: &[Octets
 }
 
 /// Whether octets come before others.
-pub fn octets_before(a: &[u8], b: &[u8]) -> bool
+fn octets_before(a: &[u8], b: &[u8]) -> bool
     ensures { result ≡ octets_before a.now b.now }
 {
     a.cmp(b).is_lt()

@@ -40,28 +40,28 @@ impl PlainRecord {
     }
 
     /// The owner.
-    pub fn owner(&self) -> &[Octets]
+    pub(super) fn owner(&self) -> &[Octets]
         ensures { result.now ≡ self.now.owner }
     {
         &self.owner
     }
 
     /// The number of the type.
-    pub fn rtype(&self) -> u16
+    pub(super) fn rtype(&self) -> u16
         ensures { result ≡ self.now.rtype }
     {
         self.rtype
     }
 
     /// The data.
-    pub fn data(&self) -> &[u8]
+    pub(super) fn data(&self) -> &[u8]
         ensures { result.now ≡ self.now.bytes }
     {
         self.bytes.as_slice()
     }
 
     /// Whether the record has an owner and a type.
-    pub fn is_of(&self, name: &[Octets], rtype: u16) -> bool
+    pub(super) fn is_of(&self, name: &[Octets], rtype: u16) -> bool
         ensures { result ≡ labels_eq self.now.owner name.now && (self.now.rtype == rtype) }
     {
         labels_eq(&self.owner, name) && self.rtype == rtype
@@ -92,35 +92,35 @@ impl PlainZone {
     }
 
     /// The name of the zone.
-    pub fn apex(&self) -> &[Octets]
+    pub(super) fn apex(&self) -> &[Octets]
         ensures { result.now ≡ self.now.apex }
     {
         &self.apex
     }
 
     /// The records.
-    pub fn records(&self) -> &[PlainRecord]
+    pub(super) fn records(&self) -> &[PlainRecord]
         ensures { result.now ≡ self.now.records }
     {
         &self.records
     }
 
     /// Whether the zone has a record of a name and a type.
-    pub fn has(&self, name: &[Octets], rtype: u16) -> bool
+    pub(super) fn has(&self, name: &[Octets], rtype: u16) -> bool
         ensures { result ≡ has self.now name.now rtype }
     {
         any_of(&self.records, name, rtype)
     }
 
     /// Whether a name is delegated: NS strictly below the apex (RFC 1034, 4.2).
-    pub fn is_delegation(&self, name: &[Octets]) -> bool
+    pub(super) fn is_delegation(&self, name: &[Octets]) -> bool
         ensures { result ≡ is_delegation self.now name.now }
     {
         self.has(name, 2) && strictly_above(self.apex(), name)
     }
 
     /// The topmost delegation at or above a name.
-    pub fn cut<'a>(&self, name: &'a [Octets]) -> Option<&'a [Octets]>
+    pub(super) fn cut<'a>(&self, name: &'a [Octets]) -> Option<&'a [Octets]>
         ensures { option_map (λ c. c.now) result ≡ cut self.now name.now }
     {
         let (_, parent) = name.split_first()?;
@@ -137,7 +137,7 @@ impl PlainZone {
     }
 
     /// The topmost delegation strictly above a name.
-    pub fn cut_above<'a>(&self, name: &'a [Octets]) -> Option<&'a [Octets]>
+    fn cut_above<'a>(&self, name: &'a [Octets]) -> Option<&'a [Octets]>
         ensures { option_map (λ c. c.now) result ≡ cut_above self.now name.now }
     {
         let (_, parent) = name.split_first()?;
@@ -145,14 +145,14 @@ impl PlainZone {
     }
 
     /// Whether a name is at or below the apex, and not strictly below a delegation.
-    pub fn is_live(&self, name: &[Octets]) -> bool
+    fn is_live(&self, name: &[Octets]) -> bool
         ensures { result ≡ is_live self.now name.now }
     {
         at_or_above(self.apex(), name) && self.cut_above(name).is_none()
     }
 
     /// Whether a name is live; under opt-out a delegation without DS is left out (RFC 5155, 6).
-    pub fn is_kept(&self, opt_out: bool, name: &[Octets]) -> bool
+    fn is_kept(&self, opt_out: bool, name: &[Octets]) -> bool
         ensures { result ≡ is_kept self.now opt_out name.now }
     {
         let left_out = opt_out && self.is_delegation(name) && !self.has(name, 43);
@@ -160,7 +160,7 @@ impl PlainZone {
     }
 
     /// Whether a name is at or below the apex, and at or above a kept owner.
-    pub fn kept(&self, opt_out: bool, name: &[Octets]) -> bool
+    pub(super) fn kept(&self, opt_out: bool, name: &[Octets]) -> bool
         ensures { result ≡ kept self.now opt_out name.now }
     {
         at_or_above(self.apex(), name) && self.has_kept_owner_below(opt_out, name)
@@ -186,7 +186,7 @@ impl PlainZone {
     }
 
     /// The longest ancestor of a name that exists (RFC 4592, 3.3.1).
-    pub fn closest_encloser<'a>(&self, name: &'a [Octets]) -> Option<&'a [Octets]>
+    pub(super) fn closest_encloser<'a>(&self, name: &'a [Octets]) -> Option<&'a [Octets]>
         ensures { option_map (λ e. e.now) result ≡ ce self.now name.now }
     {
         let (_, parent) = name.split_first()?;
@@ -198,7 +198,7 @@ impl PlainZone {
     }
 
     /// Whether a kept delegation stands strictly above a name.
-    pub fn kept_cut_above(&self, opt_out: bool, name: &[Octets]) -> bool
+    pub(super) fn kept_cut_above(&self, opt_out: bool, name: &[Octets]) -> bool
         ensures { result ≡ kept_cut_above self.now opt_out name.now }
     {
         match name.split_first() {
