@@ -13,3 +13,5 @@ pub mod PlainZones
 pub mod VerdictCases
 pub mod PlainBitmaps
 pub mod PlainReading
+pub mod Members
+pub mod SameZones

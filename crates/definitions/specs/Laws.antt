@@ -1,12 +1,13 @@
 -- Laws of the definitions, which the module `laws` proves.
 use Rattle.std.specs.Prelude.{◌≡◌, ◌↔◌, ℕ, ◌^◌, ◌<◌, Bool, true, ◌&&◌, ◌||◌, List, [], ◌∷◌, ◌++◌, filter, length, IsTrue}
-use Rattle.std.specs.List.{AllByRecursion}
+use Rattle.std.specs.List.{AllByRecursion, Contains}
 use Rattle.std.specs.declared.cmp.Ordering.TheVariants.{Equal, Greater}
 use Rattle.std.specs.Cmp.{IsTotalOrder}
 use Rattle.definitions.specs.Name.{Name, IsName, wire, same, name_cmp, at_or_above}
 use Rattle.definitions.specs.Covering.{before, covers}
 use Rattle.definitions.specs.ZoneChain.{links}
 use Rattle.definitions.specs.Signing.{Fields, signed_owner, signed_octets}
+use Rattle.definitions.specs.Zone.{Rr, Zone, verdict}
 
 -- names are in one order, up to ASCII case
 pub record OrdersNames : Type 0 where
@@ -69,3 +70,14 @@ pub record SignsSame (f g : Fields) (owner other : Name) (class kind : ℕ) (ds 
 -- signed octets spell one signed RRset
 abbrev pub SignedOctetsSpell : Type 0
 SignedOctetsSpell = (f g : Fields) (owner other : Name) (class kind : ℕ) (ds es : List (List ℕ)) → IsSignable f owner class ds → IsSignable g other kind es → signed_octets f owner class ds ≡ signed_octets g other kind es → SignsSame f g owner other class kind ds es
+
+-- ---- zones
+
+-- the same apex, and the same records, in any order and however often each
+pub record SameZone (z w : Zone) : Type 0 where
+  pub apex : z.apex ≡ w.apex
+  pub records : (r : Rr) → Contains z.records r ↔ Contains w.records r
+
+-- the order and repetition of a zone's records mean nothing
+abbrev pub OrderMeansNothing : Type 0
+OrderMeansNothing = (z w : Zone) → SameZone z w → (optout : Bool) (name : Name) (t : ℕ) → verdict z optout name t ≡ verdict w optout name t

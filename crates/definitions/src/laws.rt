@@ -1,6 +1,6 @@
 //! Laws over the definitions. Each is the contract of a function that does nothing.
 ghost use Rattle.definitions.specs.Name.{Name};
-ghost use Rattle.definitions.specs.Laws.{OrdersNames, IsInterval, OneLinkSpeaks, WireSpells, SignedOctetsSpell};
+ghost use Rattle.definitions.specs.Laws.{OrdersNames, IsInterval, OneLinkSpeaks, WireSpells, SignedOctetsSpell, OrderMeansNothing};
 
 /// Names have one canonical order up to ASCII case, and are equal in it exactly where they are the same up to
 /// case (RFC 4034, 6.1).
@@ -28,4 +28,9 @@ pub fn wire_form_spells_one_name()
 /// and up to ASCII case one signer and one signed owner (RFC 4034, 3.1.8.1; RFC 4035, 5.3.2).
 pub fn signed_octets_spell_one_rrset()
     ensures { SignedOctetsSpell }
+{}
+
+/// What a zone says of a name and a type depends on neither the order nor the repetition of its records.
+pub fn order_of_records_means_nothing()
+    ensures { OrderMeansNothing }
 {}
