@@ -15,3 +15,5 @@ pub mod PlainBitmaps
 pub mod PlainReading
 pub mod Members
 pub mod SameZones
+pub mod BitmapLaws
+pub mod SigningRows

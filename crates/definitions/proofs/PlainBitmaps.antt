@@ -5,13 +5,13 @@ use Rattle.std.proofs.lemmas.Bool.{ne_eqb}
 use Rattle.definitions.specs.Bitmap.{windows_upto, windows, is_bitmap, bitmap_has, in_windows, bit_in}
 use Rattle.definitions.specs.Windows.{Split, split, first_window}
 
-abbrev Windows : Type 0
+abbrev pub Windows : Type 0
 Windows = List (ℕ × List ℕ)
 
 abbrev tests : ℕ → List ℕ → Bool
 tests len bs = leb 1 len && leb len 32 && leb len (length bs)
 
-abbrev behind_first : Split → Option Windows → Option Windows
+abbrev pub behind_first : Split → Option Windows → Option Windows
 behind_first s o = elim o [ None ↦ None | Some ws ↦ Some ((s.number, s.octets) ∷ ws) ]
 
 abbrev onto : Bool → Split → Option Windows → Option Windows

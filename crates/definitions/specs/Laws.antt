@@ -1,10 +1,11 @@
 -- Laws of the definitions, which the module `laws` proves.
-use Rattle.std.specs.Prelude.{◌≡◌, ◌↔◌, ℕ, ◌^◌, ◌<◌, Bool, true, ◌&&◌, ◌||◌, List, [], ◌∷◌, ◌++◌, filter, length, IsTrue}
-use Rattle.std.specs.List.{AllByRecursion, Contains}
+use Rattle.std.specs.Prelude.{◌≡◌, ◌↔◌, ℕ, ◌^◌, ◌<◌, Bool, true, ◌&&◌, ◌||◌, List, [], ◌∷◌, ◌++◌, filter, length, nat_eq, IsTrue}
+use Rattle.std.specs.List.{AllByRecursion, Contains, list_any}
 use Rattle.std.specs.declared.cmp.Ordering.TheVariants.{Equal, Greater}
 use Rattle.std.specs.Cmp.{IsTotalOrder}
 use Rattle.definitions.specs.Name.{Name, IsName, wire, same, name_cmp, at_or_above}
 use Rattle.definitions.specs.Covering.{before, covers}
+use Rattle.definitions.specs.Bitmap.{bitmap, is_bitmap, bitmap_has}
 use Rattle.definitions.specs.ZoneChain.{links}
 use Rattle.definitions.specs.Signing.{Fields, signed_owner, signed_octets}
 use Rattle.definitions.specs.Zone.{Rr, Zone, verdict}
@@ -81,3 +82,14 @@ pub record SameZone (z w : Zone) : Type 0 where
 -- the order and repetition of a zone's records mean nothing
 abbrev pub OrderMeansNothing : Type 0
 OrderMeansNothing = (z w : Zone) → SameZone z w → (optout : Bool) (name : Name) (t : ℕ) → verdict z optout name t ≡ verdict w optout name t
+
+-- ---- sets of types
+
+-- the spelling of a set is a bitmap, and has the types of the set and no other
+pub record SpellsSet (ts : List ℕ) : Type 0 where
+  pub spelled : IsTrue (is_bitmap (bitmap ts))
+  pub members : (t : ℕ) → t < 2 ^ 16 → bitmap_has (bitmap ts) t ≡ list_any (nat_eq t) ts
+
+-- lists of types are spelled alike exactly where they have the same types
+abbrev pub OneSpelling : Type 0
+OneSpelling = (ts us : List ℕ) → (bitmap ts ≡ bitmap us) ↔ ((t : ℕ) → t < 2 ^ 16 → list_any (nat_eq t) ts ≡ list_any (nat_eq t) us)

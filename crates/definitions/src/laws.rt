@@ -1,6 +1,7 @@
 //! Laws over the definitions. Each is the contract of a function that does nothing.
+ghost use Rattle.std.specs.Prelude.{ℕ, List};
 ghost use Rattle.definitions.specs.Name.{Name};
-ghost use Rattle.definitions.specs.Laws.{OrdersNames, IsInterval, OneLinkSpeaks, WireSpells, SignedOctetsSpell, OrderMeansNothing};
+ghost use Rattle.definitions.specs.Laws.{OrdersNames, IsInterval, OneLinkSpeaks, WireSpells, SignedOctetsSpell, OrderMeansNothing, SpellsSet, OneSpelling};
 
 /// Names have one canonical order up to ASCII case, and are equal in it exactly where they are the same up to
 /// case (RFC 4034, 6.1).
@@ -33,4 +34,14 @@ pub fn signed_octets_spell_one_rrset()
 /// What a zone says of a name and a type depends on neither the order nor the repetition of its records.
 pub fn order_of_records_means_nothing()
     ensures { OrderMeansNothing }
+{}
+
+/// The spelling of a set of types is a bitmap that has the types of the set and no other (RFC 4034, 4.1.2).
+pub fn bitmap_spells_its_set()
+    ensures { (ts : List ℕ) → SpellsSet ts }
+{}
+
+/// Lists of types have one bitmap exactly where they have the same types.
+pub fn equal_bitmaps_are_equal_sets()
+    ensures { OneSpelling }
 {}
