@@ -1,0 +1,125 @@
+//! Sets of types: those of a chain's records, and reading a type bitmap (RFC 4034, 4.1.2).
+ghost use Rattle.std.specs.Prelude.{◌≡◌, ◌<◌, length, map, filter, IfOk, IfSome};
+ghost use Rattle.std.specs.Option.{option_map};
+ghost use Rattle.definitions.specs.Name.{labels_eq};
+ghost use Rattle.definitions.specs.Bitmap.{is_bitmap, bitmap_has, bit_in};
+ghost use Rattle.definitions.specs.Windows.{split, first_window};
+ghost use Rattle.definitions.specs.ZoneChain.{types_at, nsec_types, nsec3_types};
+
+use crate::reference::Octets;
+use crate::reference::names::labels_eq;
+use crate::reference::zone::{PlainRecord, PlainZone};
+use std::alloc::{AllocError, Global};
+
+/// The window at the front, its number and its octets, and what is behind it; None where there is none of 1 to 32
+/// octets.
+fn split_window(octets: &[u8]) -> Option<(u8, &[u8], &[u8])>
+    ensures value { option_map (λ w. split w.0 w.1.now w.2.now) result ≡ first_window octets.now }
+    ensures shorter { IfSome result (λ w. length w.2.now < length octets.now) }
+{
+    let (number, rest) = octets.split_first()?;
+    let (len, rest) = rest.split_first()?;
+    let len = *len as usize;
+    if len < 1 || len > 32 || len > rest.len() {
+        return None;
+    }
+    let (window, behind) = rest.split_at(len);
+    Some((*number, window, behind))
+}
+
+/// Whether octets spell windows: each a number, a length of 1 to 32, and that many octets.
+pub fn is_bitmap(octets: &[u8]) -> bool
+    ensures { result ≡ is_bitmap octets.now }
+{
+    match split_window(octets) {
+        None => octets.is_empty(),
+        Some((_, _, behind)) => is_bitmap(behind),
+    }
+}
+
+/// Whether a bitmap has a type: the first window of the type's number has its bit.
+pub fn bitmap_has(octets: &[u8], rtype: u16) -> bool
+    ensures { result ≡ bitmap_has octets.now rtype }
+{
+    let Some((number, window, behind)) = split_window(octets) else {
+        return false;
+    };
+    if !is_bitmap(behind) {
+        return false;
+    }
+    if u16::from(number) == rtype / 256 {
+        return bit_in(window, rtype);
+    }
+    bitmap_has(behind, rtype)
+}
+
+/// The bit of a type in the octets of its window, the first of eight the highest.
+fn bit_in(window: &[u8], rtype: u16) -> bool
+    ensures { result ≡ bit_in window.now rtype }
+{
+    match window.get((rtype % 256 / 8) as usize) {
+        None => false,
+        Some(octet) => *octet >> (7 - rtype % 8) & 1 == 1,
+    }
+}
+
+impl PlainZone {
+    /// The types of an owner's NSEC record (RFC 4034, 4.1.2; RFC 4035, 2.3).
+    pub fn nsec_types(&self, alloc: Global, owner: &[Octets]) -> Result<Vec<u16>, AllocError>
+        ensures { IfOk result (λ v. v.items ≡ nsec_types self.now owner.now) }
+    {
+        if self.is_delegation(owner) {
+            let mut types = Vec::from_slice(alloc, &[2u16])?;
+            if self.has(owner, 43) {
+                types.push(43)?;
+            }
+            types.extend_from_slice(&[46, 47])?;
+            return Ok(types);
+        }
+        let mut types = types_among(alloc, self.records(), owner)?;
+        types.extend_from_slice(&[46, 47])?;
+        if labels_eq(owner, self.apex()) {
+            types.push(48)?;
+        }
+        Ok(types)
+    }
+
+    /// The types of a name's NSEC3 record; none at an empty non-terminal (RFC 5155, 7.1).
+    pub fn nsec3_types(&self, alloc: Global, name: &[Octets]) -> Result<Vec<u16>, AllocError>
+        ensures { IfOk result (λ v. v.items ≡ nsec3_types self.now name.now) }
+    {
+        if self.is_delegation(name) {
+            let mut types = Vec::from_slice(alloc, &[2u16])?;
+            if self.has(name, 43) {
+                types.extend_from_slice(&[43, 46])?;
+            }
+            return Ok(types);
+        }
+        let mut types = types_among(alloc, self.records(), name)?;
+        if types.is_empty() {
+            return Ok(types);
+        }
+        types.push(46)?;
+        if labels_eq(name, self.apex()) {
+            types.extend_from_slice(&[48, 51])?;
+        }
+        Ok(types)
+    }
+}
+
+/// The types of a name among some records.
+fn types_among(
+    alloc: Global,
+    records: &[PlainRecord],
+    name: &[Octets],
+) -> Result<Vec<u16>, AllocError>
+    ensures { IfOk result (λ v. v.items ≡ map (λ r. r.rtype) (filter (λ r. labels_eq r.owner name.now) records.now)) }
+{
+    let mut types = Vec::new(alloc);
+    for record in records {
+        if labels_eq(record.owner(), name) {
+            types.push(record.rtype())?;
+        }
+    }
+    Ok(types)
+}
