@@ -10,7 +10,7 @@ use Rattle.std.proofs.Math.ListN.{get_or-append}
 use Rattle.std.proofs.Math.Seq.{get_or-append_seam}
 use Rattle.std.proofs.lemmas.List.Concat.{flat_map-append}
 use Rattle.std.proofs.lemmas.List.Folds.{list_any-append}
-use Rattle.definitions.specs.Bitmap.{below, octet_of, trimmed, window_octets, window, windows, bit_in, in_windows, bitmap_has}
+use Rattle.definitions.specs.Bitmap.{window_size, window_count, below, octet_of, trimmed, window_octets, window, windows, bit_in, in_windows, bitmap_has}
 use Rattle.definitions.specs.Windows.{Split, split, first_window}
 use Rattle.definitions.specs.Laws.{SpellsSet, OneSpelling}
 use Rattle.definitions.proofs.PlainBitmaps.{behind_first, windows-first}
@@ -101,6 +101,7 @@ abbrev in_set : List ℕ → ℕ → Bool
 in_set ts t = list_any (nat_eq t) ts
 
 octet_of-octet : (ts : List ℕ) (w i : ℕ) → octet_of ts w i ≡ octet (λ k. in_set ts (w * 256 + i * 8 + k))
+unfolding octet_of
 octet_of-octet ts w i = refl
 
 -- ---- the octets of a window
@@ -141,6 +142,7 @@ length-trimmed [] = omega arith
 length-trimmed (b ∷ os) = omega (arith, length-kept b (trimmed os), length-trimmed os)
 
 length-window : (ts : List ℕ) (w : ℕ) → length (window_octets ts w) ≤ 32
+unfolding window_size
 length-window ts w = let n : length (map (octet_of ts w) (below 32)) ≡ 32 = length-map (below 32) (octet_of ts w) in omega (arith, n, length-trimmed (map (octet_of ts w) (below 32)))
 
 length-below : (n : ℕ) → length (below n) ≡ n
@@ -162,6 +164,7 @@ index_map_below f (suc n) i h =
 
 -- a window's bit is set where the type is in the set
 bit-window : (ts : List ℕ) (t : ℕ) → bit_in (window_octets ts (t / 256)) t ≡ in_set ts t
+unfolding window_size
 bit-window ts t =
     let w : ℕ = t / 256 in
     let i : ℕ = t % 256 / 8 in
@@ -277,6 +280,7 @@ spelled_below : (ts : List ℕ) (n : ℕ) → is_some (windows (flat_map (window
 spelled_below ts n = ap is_some (windows-all (window_octets ts) (length-window ts) (below n))
 
 pub spells_set : (ts : List ℕ) → SpellsSet ts
+unfolding window_count
 spells_set ts = record { spelled = spelled_below ts 256; members = λ t h. members_below ts 256 t (omega arith) }
 
 -- ---- equal sets
@@ -295,6 +299,7 @@ abbrev Alike : List ℕ → List ℕ → Type 0
 Alike ts us = (t : ℕ) → t < 2 ^ 16 → in_set ts t ≡ in_set us t
 
 octet-alike : (ts us : List ℕ) (w i : ℕ) → Alike ts us → w < 256 → i < 32 → octet_of ts w i ≡ octet_of us w i
+unfolding octet_of
 octet-alike ts us w i h lw li =
     let at : (k : ℕ) → k < 8 → in_set ts (w * 256 + i * 8 + k) ≡ in_set us (w * 256 + i * 8 + k) = λ k l. h (w * 256 + i * 8 + k) (omega (arith, l)) in
     let a0 = at 0 (omega arith) in
@@ -308,12 +313,14 @@ octet-alike ts us w i h lw li =
     λ t. 0 + (if a0 t then 128 else 0) + (if a1 t then 64 else 0) + (if a2 t then 32 else 0) + (if a3 t then 16 else 0) + (if a4 t then 8 else 0) + (if a5 t then 4 else 0) + (if a6 t then 2 else 0) + (if a7 t then 1 else 0)
 
 window-alike : (ts us : List ℕ) (w : ℕ) → Alike ts us → w < 256 → window ts w ≡ window us w
+unfolding window_size
 window-alike ts us w h lw = ap (λ os. spelled w (trimmed os)) (map_below (octet_of ts w) (octet_of us w) 32 (λ i l. octet-alike ts us w i h lw l))
 
 bitmap_upto : (ts us : List ℕ) (n : ℕ) → n ≤ 256 → Alike ts us → flat_map (window ts) (below n) ≡ flat_map (window us) (below n)
 bitmap_upto ts us n top h = flat_map_below (window ts) (window us) n (λ w l. window-alike ts us w h (omega (arith, l)))
 
 pub one_spelling : OneSpelling
+unfolding window_count
 one_spelling ts us = (
   (λ e t l. sym ((spells_set ts).members t l) ∙ ap (λ bs. bitmap_has bs t) e ∙ (spells_set us).members t l),
   (λ h. bitmap_upto ts us 256 (omega arith) h),
