@@ -2,18 +2,18 @@
 
 ghost use Rattle.std.specs.Prelude.{◌≡◌, ◌≢◌, ◌↔◌, ◌+◌, ◌<◌, ◌≤◌, ◌++◌, ◌∷◌, ◌==◌, [], ℕ, length, slice_set, refl, MatchOption, IfOk, IfErr, IsOk, IsTrue, IsErrOf, OnOk, OnErr};
 ghost use Rattle.definitions.specs.Name.{IsName};
-ghost use Rattle.names_flat.specs.Flat.{SpellsRelative, spelled};
-ghost use Rattle.names_flat.specs.RefusedRelative.{RefusedRelative};
+ghost use Rattle.names_labels.specs.Flat.{SpellsRelative, spelled};
+ghost use Rattle.names_labels.specs.RefusedRelative.{RefusedRelative};
 ghost use Rattle.names_flat.specs.Building.{Building, octets_of_building, with_octets, closed, ended, labels_with, with_labels, all_labels};
 
-use crate::check::check_relative;
+use names_labels::check::check_relative;
 use crate::name::Name;
 use crate::push_error::{PushError, PushNameError};
 use crate::relative::RelativeName;
-use crate::relative_error::RelativeNameError;
+use names_labels::relative_error::RelativeNameError;
 use crate::to_name::Absolute;
 use crate::to_relative::Relative;
-use crate::traits::{Labels, ToLabelIter};
+use names_labels::traits::{Labels, ToLabelIter};
 use arrayvec::ArrayVec;
 use names_wire::builder::{OctetsBuilder, ShortBuf};
 use names_wire::octets::Octets;

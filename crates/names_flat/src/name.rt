@@ -2,15 +2,15 @@
 
 ghost use Rattle.std.specs.Prelude.{◌≡◌, ◌↔◌, ◌+◌, ◌++◌, ◌∷◌, [], ℕ, List, length, slice_index_or, IfOk, IfErr, IsOk, IsTrue};
 ghost use Rattle.definitions.specs.Name.{IsName, wire};
-ghost use Rattle.names_flat.specs.Flat.{IsRun, IsFlat, labels_in, name_in, SpellsName};
-ghost use Rattle.names_flat.specs.Refused.{RefusedName};
+ghost use Rattle.names_labels.specs.Flat.{IsRun, IsFlat, labels_in, name_in, SpellsName};
+ghost use Rattle.names_labels.specs.Refused.{RefusedName};
 ghost use Rattle.names_wire.specs.Label.{octets_of};
 
-use crate::check::check_absolute;
-use crate::flat;
-use crate::name_error::NameError;
+use names_labels::check::check_absolute;
+use names_labels::flat;
+use names_labels::name_error::NameError;
 use crate::to_name::{Absolute, ToName};
-use crate::traits::{Labels, ToLabelIter};
+use names_labels::traits::{Labels, ToLabelIter};
 use names_wire::label::Label;
 use names_wire::octets::Octets;
 use std::marker::Model;
@@ -24,7 +24,7 @@ pub struct Name<Octs: Octets> {
 
 impl<Octs: Octets> Model for Name<Octs> {
     ghost use Rattle.std.specs.Prelude.{List, ℕ};
-    ghost use Rattle.names_flat.specs.Flat.{name_in, IsFlat};
+    ghost use Rattle.names_labels.specs.Flat.{name_in, IsFlat};
 
     ghost Value = { List (List ℕ) };
 

@@ -1,0 +1,7 @@
+pub mod Checks
+pub mod Compares
+pub mod Orders
+pub mod ReadBack
+pub mod Relatives
+pub mod Runs
+pub mod Taken
