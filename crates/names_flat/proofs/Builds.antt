@@ -201,7 +201,7 @@ pub place_within : (bs more : List ℕ) (head : Option ℕ) (b : Building) → H
 place_within bs more None b h = tt
 place_within bs more (Some head) b h = omega (arith, (some_open bs head b h).2, length-append bs more)
 
-open_length : (n : Name) (l : Label) → length (spelled (labels_with n l)) ≡ length (spelled n) + length (open_octets l)
+pub open_length : (n : Name) (l : Label) → length (spelled (labels_with n l)) ≡ length (spelled n) + length (open_octets l)
 open_length n [] = omega arith
 open_length n (o ∷ os) = omega (arith, ap length (spelled-push n (o ∷ os)), length-append (spelled n) (length (o ∷ os) ∷ o ∷ os))
 

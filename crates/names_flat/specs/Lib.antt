@@ -1,3 +1,4 @@
 pub mod Building
 pub mod Feed
+pub mod FromText
 pub mod Laws

@@ -12,6 +12,8 @@ pub mod relative;
 mod relative_order;
 #[cfg(test)]
 mod tests;
+mod text;
+pub mod text_error;
 pub mod to_name;
 pub mod to_relative;
 

@@ -60,15 +60,20 @@ impl From<PresentationError> for FromStrError {
 }
 
 impl From<SymbolCharsError> for FromStrError {
+    ghost use Rattle.std.specs.Prelude.{true};
+    ghost use Rattle.names_flat.specs.FromText.{is_text};
+
+    ghost from_gives = { λ _ e. is_text e ≡ true };
+
     fn from(error: SymbolCharsError) -> FromStrError {
         FromStrError::Presentation(PresentationError(Fault::Symbol(error)))
     }
 }
 
 impl From<PushError> for FromStrError {
-    ghost use Rattle.names_flat.specs.FromText.{of_push};
+    ghost use Rattle.names_flat.specs.FromText.{is_text, is_pushed_text};
 
-    ghost from_gives = { of_push };
+    ghost from_gives = { λ p e. is_text e ≡ is_pushed_text p };
 
     fn from(error: PushError) -> FromStrError {
         match error {
@@ -80,9 +85,9 @@ impl From<PushError> for FromStrError {
 }
 
 impl From<PushNameError> for FromStrError {
-    ghost use Rattle.names_flat.specs.FromText.{of_push_name};
+    ghost use Rattle.names_flat.specs.FromText.{is_text, is_long_name};
 
-    ghost from_gives = { of_push_name };
+    ghost from_gives = { λ p e. is_text e ≡ is_long_name p };
 
     fn from(error: PushNameError) -> FromStrError {
         match error {

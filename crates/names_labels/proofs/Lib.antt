@@ -5,3 +5,4 @@ pub mod ReadBack
 pub mod Relatives
 pub mod Runs
 pub mod Taken
+pub mod Wholes

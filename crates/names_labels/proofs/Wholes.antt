@@ -1,5 +1,5 @@
 -- What is read behind labels, and the name of a whole text.
-use Rattle.std.proofs.Common.{◌≡◌, ℕ, suc, ◌+◌, ◌<◌, ◌≤◌, ◌≢◌, Bool, true, false, cond, ◌&&◌, not, List, [], ◌∷◌, ◌++◌, map, length, refl, sym, ap, ◌∙◌, append_assoc, arith, nat_eq, nat_le, length-append, subst, Option, Some, None}
+use Rattle.std.proofs.Common.{◌≡◌, ℕ, suc, ◌+◌, ◌-◌, ◌*◌, ◌<◌, ◌≤◌, ◌≢◌, Bool, true, false, cond, ◌&&◌, not, List, [], ◌∷◌, ◌++◌, map, length, refl, sym, ap, ◌∙◌, append_assoc, arith, nat_eq, nat_le, length-append, subst, Option, Some, None}
 use Rattle.std.specs.Prelude.{sum_by}
 use Rattle.std.specs.Option.{option_map, option_and_then}
 use Rattle.std.proofs.lemmas.List.Sums.{sum_by-cons}
@@ -87,11 +87,139 @@ closed_same : (ls ms : Name) → if_closed ls ≡ Some ms → (ms ≡ ls) × (wi
 closed_same [] ms h = (cc, refl)
 closed_same ([] ∷ []) ms h = cc
 closed_same ((o ∷ os) ∷ []) ms h = (cc, refl)
-closed_same (l ∷ k ∷ ls) ms h = go (if_closed (k ∷ ls)) refl h
+closed_same (l ∷ k ∷ ls) ms h = go (if_closed (k ∷ ls)) (closed_same (k ∷ ls)) h
   where
-    rest : Unit {0}
-    rest = tt
+    go : (r : Option Name) → ((xs : Name) → r ≡ Some xs → (xs ≡ k ∷ ls) × (without_empty (k ∷ ls) ≡ k ∷ ls)) → option_map (λ xs. l ∷ xs) r ≡ Some ms → (ms ≡ l ∷ k ∷ ls) × (without_empty (l ∷ k ∷ ls) ≡ l ∷ k ∷ ls)
+    go None more f = cc
+    go (Some xs) more f =
+        let m = more xs refl in
+        let e : l ∷ xs ≡ ms = cc in
+        (sym e ∙ ap (λ ys. l ∷ ys) m.0, ap (λ ys. l ∷ ys) m.1)
 
-    go : (r : Option Name) → if_closed (k ∷ ls) ≡ r → option_map (λ xs. l ∷ xs) r ≡ Some ms → (ms ≡ l ∷ k ∷ ls) × (without_empty (l ∷ k ∷ ls) ≡ l ∷ k ∷ ls)
-    go None e f = cc
-    go (Some xs) e f = ?
+if_short_closed : (r : Option Name) → if_short (option_and_then if_closed r) ≡ option_and_then if_closed (if_open_short r)
+if_short_closed None = refl
+if_short_closed (Some ls) = go (if_closed ls) (nat_le (wire_len (without_empty ls)) 255) refl refl
+  where
+    chosen : (b : Bool) (q : Option Name) → if_closed ls ≡ q → cond b q None ≡ option_and_then if_closed (cond b (Some ls) None)
+    chosen true q e = sym e
+    chosen false q e = refl
+
+    none : (b : Bool) (o : Option Name) → o ≡ cond b o o
+    none true o = refl
+    none false o = refl
+
+    go : (q : Option Name) (b : Bool) → if_closed ls ≡ q → nat_le (wire_len (without_empty ls)) 255 ≡ b → if_short (if_closed ls) ≡ option_and_then if_closed (if_open_short (Some ls))
+    go None b e f = ap if_short e ∙ none b None ∙ chosen b None e ∙ sym (ap (λ t. option_and_then if_closed (cond t (Some ls) None)) f)
+    go (Some ms) b e f =
+        let c = closed_same ls ms e in
+        let l : nat_le (wire_len ms) 255 ≡ b = ap (λ n. nat_le (wire_len n) 255) (c.0 ∙ sym c.1) ∙ f in
+        ap if_short e ∙ ap (λ t. cond t (Some ms) None) l ∙ chosen b (Some ms) e ∙ sym (ap (λ t. option_and_then if_closed (cond t (Some ls) None)) f)
+
+pub relative_read : (ss : List Symbol) → 0 < length ss → relative_of_symbols ss ≡ option_and_then if_closed (read_behind [] [] ss)
+relative_read [] h = absurd (omega arith)
+relative_read (s ∷ ss) h = ap if_short (relative_labels (s ∷ ss)) ∙ if_short_closed (taken [] (s ∷ ss)) ∙ ap (option_and_then if_closed) (sym (read_first (s ∷ ss)))
+
+-- ---- the first character
+
+dot_at : (c : ℕ) (text : List ℕ) (s : Symbol) → symbol_at c text ≡ Some s → nat_eq c 46 ≡ false → is_dot s ≡ false
+dot_at c text (Quoted x) h n = refl
+dot_at c text (Decimal x) h n = refl
+dot_at c text (Plain x) h n = go (nat_eq c 92) (is_printable c) refl h
+  where
+    octets : (d e f x : ℕ) → octet_at d e f ≡ Some (Plain x) → ⊥
+    octets d e f x k = pick (is_digit e && is_digit f && nat_le ((d - 48) * 100 + (e - 48) * 10 + (f - 48)) 255) k
+      where
+        pick : (b : Bool) → cond b (Some (Decimal ((d - 48) * 100 + (e - 48) * 10 + (f - 48)))) None ≡ Some (Plain x) → ⊥
+        pick true k = cc
+        pick false k = cc
+
+    quoted : (a b : Bool) (d : ℕ) → cond a None (cond b (Some (Quoted d)) None) ≡ Some (Plain x) → ⊥
+    quoted true b d k = cc
+    quoted false true d k = cc
+    quoted false false d k = cc
+
+    longer : (a b : Bool) (d e f : ℕ) → cond a (octet_at d e f) (cond b (Some (Quoted d)) None) ≡ Some (Plain x) → ⊥
+    longer true b d e f k = octets d e f x k
+    longer false true d e f k = cc
+    longer false false d e f k = cc
+
+    escaped : (t : List ℕ) → escape_at t ≡ Some (Plain x) → ⊥
+    escaped [] k = cc
+    escaped (d ∷ []) k = quoted (is_digit d) (is_printable d) d k
+    escaped (d ∷ e ∷ []) k = quoted (is_digit d) (is_printable d) d k
+    escaped (d ∷ e ∷ f ∷ t) k = longer (is_digit d) (is_printable d) d e f k
+
+    go : (a b : Bool) → nat_eq c 92 ≡ a → cond a (escape_at text) (cond b (Some (Plain c)) None) ≡ Some (Plain x) → nat_eq x 46 ≡ false
+    go true b e k = absurd (escaped text k)
+    go false true e k = let f : c ≡ x = cc in subst (λ m. nat_eq m 46 ≡ false) f n
+    go false false e k = cc
+
+-- a text that begins with no dot begins with a symbol that is none
+record BeginsPlain (ss : List Symbol) : Type 0 where
+  some : 0 < length ss
+  several : is_lone_dot ss ≡ false
+
+begins_plain : (c : ℕ) (text : List ℕ) (ss : List Symbol) → nat_eq c 46 ≡ false → symbols_of (c ∷ text) ≡ Some ss → BeginsPlain ss
+begins_plain c text ss n h = go (symbol_at c text) refl h
+  where
+    lone : (s : Symbol) (us : List Symbol) → is_dot s ≡ false → is_lone_dot (s ∷ us) ≡ false
+    lone s [] e = e
+    lone s (u ∷ us) e = refl
+
+    made : (s : Symbol) (o : Option (List Symbol)) → is_dot s ≡ false → option_map (λ us. s ∷ us) o ≡ Some ss → BeginsPlain ss
+    made s None e k = cc
+    made s (Some us) e k = let f : s ∷ us ≡ ss = cc in subst BeginsPlain f (record { some = omega arith; several = lone s us e })
+
+    go : (o : Option Symbol) → symbol_at c text ≡ o → (elim o as (λ _. Option (List Symbol)) [ None ↦ None | Some s ↦ option_map (λ us. s ∷ us) (symbols_behind (tail_len s) text) ]) ≡ Some ss → BeginsPlain ss
+    go None e k = cc
+    go (Some s) e k = made s (symbols_behind (tail_len s) text) (dot_at c text s e n) k
+
+-- what a text makes of labels and an open one behind them
+abbrev read_then : Name → Label → Option (List Symbol) → Option Name
+read_then done open_label o = elim o [ None ↦ None | Some ss ↦ read_behind done open_label ss ]
+
+abbrev name_then : Option (List Symbol) → Option Name
+name_then o = elim o [ None ↦ None | Some ss ↦ name_of_symbols ss ]
+
+abbrev relative_then : Option (List Symbol) → Option Name
+relative_then o = elim o [ None ↦ None | Some ss ↦ relative_of_symbols ss ]
+
+-- the name of a text that begins with no dot
+pub name_of_plain : (c : ℕ) (text : List ℕ) → nat_eq c 46 ≡ false → name_of_text (c ∷ text) ≡ option_map without_empty (read_then [] [] (symbols_of (c ∷ text)))
+name_of_plain c text n = go (symbols_of (c ∷ text)) refl
+  where
+    go : (o : Option (List Symbol)) → symbols_of (c ∷ text) ≡ o → name_then (symbols_of (c ∷ text)) ≡ option_map without_empty (read_then [] [] (symbols_of (c ∷ text)))
+    go None e = ap name_then e ∙ sym (ap (λ o. option_map without_empty (read_then [] [] o)) e)
+    go (Some ss) e =
+        let b = begins_plain c text ss n e in
+        ap name_then e ∙ name_read ss b.some b.several ∙ sym (ap (λ o. option_map without_empty (read_then [] [] o)) e)
+
+some_behind : (c : ℕ) (text : List ℕ) (us : List Symbol) → symbols_of (c ∷ text) ≡ Some us → 0 < length us
+some_behind c text us h = go (symbol_at c text) h
+  where
+    made : (s : Symbol) (o : Option (List Symbol)) → option_map (λ vs. s ∷ vs) o ≡ Some us → 0 < length us
+    made s None k = cc
+    made s (Some vs) k = let f : s ∷ vs ≡ us = cc in subst (λ xs. 0 < length xs) f (omega arith)
+
+    go : (o : Option Symbol) → (elim o as (λ _. Option (List Symbol)) [ None ↦ None | Some s ↦ option_map (λ vs. s ∷ vs) (symbols_behind (tail_len s) text) ]) ≡ Some us → 0 < length us
+    go None k = cc
+    go (Some s) k = made s (symbols_behind (tail_len s) text) k
+
+pub no_name_behind_dot : (c : ℕ) (text : List ℕ) → name_of_text (46 ∷ c ∷ text) ≡ None
+no_name_behind_dot c text = go (symbols_of (c ∷ text)) refl
+  where
+    more : (us : List Symbol) → 0 < length us → name_of_symbols (Plain 46 ∷ us) ≡ None
+    more [] h = absurd (omega arith)
+    more (s ∷ ss) h = refl
+
+    go : (o : Option (List Symbol)) → symbols_of (c ∷ text) ≡ o → name_then (option_map (λ us. Plain 46 ∷ us) (symbols_of (c ∷ text))) ≡ None
+    go None e = ap (λ o. name_then (option_map (λ us. Plain 46 ∷ us) o)) e
+    go (Some us) e = ap (λ o. name_then (option_map (λ us. Plain 46 ∷ us) o)) e ∙ more us (some_behind c text us e)
+
+-- the relative name of a text
+pub relative_of_some : (c : ℕ) (text : List ℕ) → relative_of_text (c ∷ text) ≡ option_and_then if_closed (read_then [] [] (symbols_of (c ∷ text)))
+relative_of_some c text = go (symbols_of (c ∷ text)) refl
+  where
+    go : (o : Option (List Symbol)) → symbols_of (c ∷ text) ≡ o → relative_then (symbols_of (c ∷ text)) ≡ option_and_then if_closed (read_then [] [] (symbols_of (c ∷ text)))
+    go None e = ap relative_then e ∙ sym (ap (λ o. option_and_then if_closed (read_then [] [] o)) e)
+    go (Some us) e = ap relative_then e ∙ relative_read us (some_behind c text us e) ∙ sym (ap (λ o. option_and_then if_closed (read_then [] [] o)) e)
