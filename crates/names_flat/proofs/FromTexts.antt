@@ -107,7 +107,7 @@ full_label b s open_label v g h k ss =
     went b (s ∷ ss) h ∙ went_by b s ss false false g.plain f
 
 -- the labels are those that stand, the open one ended
-without_last : (done : Name) (l : Label) → without_empty (done ++ l ∷ []) ≡ labels_with done l
+pub without_last : (done : Name) (l : Label) → without_empty (done ++ l ∷ []) ≡ labels_with done l
 without_last done [] = without_empty-append done ([] ∷ []) (omega arith) ∙ append-nil done
 without_last done (o ∷ os) = without_empty-append done ((o ∷ os) ∷ []) (omega arith)
 

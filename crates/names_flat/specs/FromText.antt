@@ -87,3 +87,15 @@ pub record StopsInText {S : Type 0} (steps : S → Option ℕ → S → Type 0) 
   pub yields : Yields steps s text after
   pub begins : IsUnfinished unfinished
   pub stands : (rest : List ℕ) → text_behind old (before ++ (text ++ rest)) ≡ text_behind new (unfinished ++ rest)
+
+-- ---- symbols that an iterator gives
+
+-- they are read as this
+abbrev pub SymbolsSpell : {S A : Type 0} → (S → Option WireSymbol → S → Type 0) → S → (List Symbol → Option A) → A → Type 0
+SymbolsSpell {S} steps s read a = (symbols : List WireSymbol) × Drains steps s symbols × (read (map symbol_of symbols) ≡ Some a)
+
+-- nothing is read from those it gave: whatever may come behind them, or there are no more
+abbrev pub SymbolsSpellNothing : {S A : Type 0} → (S → Option WireSymbol → S → Type 0) → S → (List Symbol → Option A) → Type 0
+SymbolsSpellNothing {S} steps s read =
+    ((symbols : List WireSymbol) × (t : S) × Yields steps s symbols t × ((rest : List Symbol) → read (map symbol_of symbols ++ rest) ≡ None))
+    ⊎ ((symbols : List WireSymbol) × Drains steps s symbols × (read (map symbol_of symbols) ≡ None))

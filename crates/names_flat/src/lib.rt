@@ -4,6 +4,7 @@
 
 pub mod builder;
 mod display;
+mod from_text;
 pub mod laws;
 pub mod name;
 mod name_order;

@@ -9,10 +9,13 @@ ghost use Rattle.names_wire.specs.Label.{octets_of};
 use names_labels::check::check_absolute;
 use names_labels::flat;
 use names_labels::name_error::NameError;
+use crate::builder::NameBuilder;
 use crate::to_name::{Absolute, ToName};
 use names_labels::traits::{Labels, ToLabelIter};
+use names_wire::builder::ShortBuf;
 use names_wire::label::Label;
 use names_wire::octets::Octets;
+use std::alloc::Global;
 use std::marker::Model;
 
 /// An absolute domain name: labels in a row of octets, each behind its length, and the root's octet
@@ -153,6 +156,18 @@ impl Name<&'static [u8]> {
         ensures { result ≡ [] }
     {
         Name::root_ref()
+    }
+}
+
+impl Name<Vec<u8>> {
+    /// The root with octets of its own. It is refused for want of memory alone.
+    pub fn root_vec(alloc: Global) -> Result<Self, ShortBuf>
+        ensures { IfOk result (λ n. n ≡ []) }
+    {
+        match NameBuilder::new(alloc).into_name() {
+            Ok(name) => Ok(name),
+            Err(_) => Err(ShortBuf),
+        }
     }
 }
 

@@ -23,3 +23,10 @@ pub(crate) fn octet_of(symbol: Symbol, in_label: bool) -> Result<Option<u8>, Fro
         _ => Ok(Some(symbol.into_octet()?)),
     }
 }
+
+/// Whether a symbol is a dot that separates labels.
+pub(crate) fn separates(symbol: Symbol) -> bool
+    ensures { result ≡ is_dot (symbol_of symbol) }
+{
+    matches!(symbol, Symbol::Char('.'))
+}

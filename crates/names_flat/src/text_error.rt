@@ -3,6 +3,7 @@
 ghost use Rattle.std.specs.Prelude.{◌≡◌};
 
 use crate::push_error::{PushError, PushNameError};
+use names_wire::builder::ShortBuf;
 use names_wire::symbol::SymbolCharsError;
 use thiserror::Error;
 
@@ -67,6 +68,16 @@ impl From<SymbolCharsError> for FromStrError {
 
     fn from(error: SymbolCharsError) -> FromStrError {
         FromStrError::Presentation(PresentationError(Fault::Symbol(error)))
+    }
+}
+
+impl From<ShortBuf> for FromStrError {
+    ghost use Rattle.names_flat.specs.declared.text_error.FromStrError.TheVariants.{ShortBuf};
+
+    ghost from_gives = { λ _ e. e ≡ ShortBuf };
+
+    fn from(_: ShortBuf) -> FromStrError {
+        FromStrError::ShortBuf
     }
 }
 

@@ -194,7 +194,7 @@ name_of_plain c text n = go (symbols_of (c ∷ text)) refl
         let b = begins_plain c text ss n e in
         ap name_then e ∙ name_read ss b.some b.several ∙ sym (ap (λ o. option_map without_empty (read_then [] [] o)) e)
 
-some_behind : (c : ℕ) (text : List ℕ) (us : List Symbol) → symbols_of (c ∷ text) ≡ Some us → 0 < length us
+pub some_behind : (c : ℕ) (text : List ℕ) (us : List Symbol) → symbols_of (c ∷ text) ≡ Some us → 0 < length us
 some_behind c text us h = go (symbol_at c text) h
   where
     made : (s : Symbol) (o : Option (List Symbol)) → option_map (λ vs. s ∷ vs) o ≡ Some us → 0 < length us
@@ -223,3 +223,38 @@ relative_of_some c text = go (symbols_of (c ∷ text)) refl
     go : (o : Option (List Symbol)) → symbols_of (c ∷ text) ≡ o → relative_then (symbols_of (c ∷ text)) ≡ option_and_then if_closed (read_then [] [] (symbols_of (c ∷ text)))
     go None e = ap relative_then e ∙ sym (ap (λ o. option_and_then if_closed (read_then [] [] o)) e)
     go (Some us) e = ap relative_then e ∙ relative_read us (some_behind c text us e) ∙ sym (ap (λ o. option_and_then if_closed (read_then [] [] o)) e)
+
+-- something is read from some symbols
+pub not_empty_read : (ss : List Symbol) → 0 < length ss → read_behind [] [] ss ≡ Some ([] ∷ []) → ⊥
+not_empty_read [] h e = absurd (omega arith)
+not_empty_read (s ∷ ss) h e = go (is_dot s) (fits [] s) (taken [] ss) refl (sym (read_first (s ∷ ss)) ∙ e)
+  where
+    long : (r : Option Name) → taken (octet s ∷ []) ss ≡ r → if_open_short r ≡ Some ([] ∷ []) → ⊥
+    long None t k = cc
+    long (Some ls) t k = pick (nat_le (wire_len (without_empty ls)) 255) k
+      where
+        pick : (b : Bool) → cond b (Some ls) None ≡ Some ([] ∷ []) → ⊥
+        pick true k =
+            let f : ls ≡ [] ∷ [] = cc in
+            let w = open_within (octet s ∷ []) ss ls (omega arith) t in
+            let v : 3 ≤ wire_len (without_empty ([] ∷ [])) = subst (λ xs. 3 ≤ wire_len (without_empty xs)) f w in
+            absurd (omega (arith, v))
+        pick false k = cc
+
+    go : (d t : Bool) (r : Option Name) → taken [] ss ≡ r → if_open_short (cond d (some_before [] r) (cond t (taken (octet s ∷ []) ss) None)) ≡ Some ([] ∷ []) → ⊥
+    go true t r x k = cc
+    go false true r x k = long (taken (octet s ∷ []) ss) refl k
+    go false false r x k = cc
+
+-- a relative name ends with a label
+pub closed_end : (done : Name) (l : Label) → (l ≡ [] → ⊥) → if_closed (done ++ l ∷ []) ≡ Some (done ++ l ∷ [])
+closed_end [] [] h = absurd (h refl)
+closed_end [] (o ∷ os) h = refl
+closed_end (k ∷ []) [] h = absurd (h refl)
+closed_end (k ∷ []) (o ∷ os) h = refl
+closed_end (k ∷ j ∷ done) l h = ap (option_map (λ ms. k ∷ ms)) (closed_end (j ∷ done) l h)
+
+pub empty_end : (done : Name) → if_closed (done ++ [] ∷ []) ≡ None
+empty_end [] = refl
+empty_end (k ∷ []) = refl
+empty_end (k ∷ j ∷ done) = ap (option_map (λ ms. k ∷ ms)) (empty_end (j ∷ done))

@@ -1,4 +1,4 @@
-use Rattle.std.proofs.Common.{rules, [], ◌∷◌, ◌≡◌, ◌++◌, map, List, None, Some, ap, sym, refl, subst, ◌∙◌}
+use Rattle.std.proofs.Common.{rules, [], ◌∷◌, map, Some, ap, sym, refl, subst, ◌∙◌}
 use Rattle.std.proofs.lemmas.List.{append-nil}
 use Rattle.std.proofs.lemmas.Result.{err_from_is_err_and}
 use Rattle.std.specs.Iterator.{Yields}

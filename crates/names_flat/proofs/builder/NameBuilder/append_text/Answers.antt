@@ -1,4 +1,4 @@
-use Rattle.std.proofs.Common.{rules, [], ◌∷◌, ◌≡◌, ◌++◌, List, ℕ, None, ap, sym, refl, subst, ◌∙◌, append_assoc, inl, inr}
+use Rattle.std.proofs.Common.{rules, [], ◌∷◌, ◌++◌, ap, sym, refl, subst, ◌∙◌, append_assoc, inl, inr}
 use Rattle.std.proofs.lemmas.List.{append-nil}
 use Rattle.std.proofs.lemmas.Result.{err_from_is_err_and}
 use Rattle.std.specs.Iterator.{Yields}

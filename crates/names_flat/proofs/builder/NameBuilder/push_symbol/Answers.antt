@@ -1,9 +1,9 @@
-use Rattle.std.proofs.Common.{[], ◌∷◌, ◌≡◌, ◌≤◌, ◌<◌, ◌+◌, length, List, None, Err, ap, sym, subst, ◌∙◌, arith}
+use Rattle.std.proofs.Common.{◌∷◌, ◌≡◌, ◌<◌, ◌+◌, length, List, None, Err, ap, sym, subst, ◌∙◌, arith}
 use Rattle.std.proofs.lemmas.Result.{err_from_is_err_and}
 use Rattle.definitions.specs.Text.{Symbol}
 use Rattle.names_wire.specs.Symbols.{symbol_of}
 use Rattle.names_labels.specs.Open.{if_open_short}
-use Rattle.names_flat.specs.Building.{IsShort, with_octets}
+use Rattle.names_flat.specs.Building.{IsShort}
 use Rattle.names_flat.specs.FromText.{continued}
 use Rattle.names_flat.proofs.FromTexts.{shut, shut_back, cannot, not_pushed, at_octet, at_dot, whatever}
 use Rattle.names_flat.proofs.builder.NameBuilder.push_symbol.Goals as goal
