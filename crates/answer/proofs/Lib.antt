@@ -26,3 +26,5 @@ pub mod ZoneFaults
 pub mod KeyWhole
 pub mod SignAnswer
 pub mod ZoneChains
+pub mod SimulateLoop
+pub mod RunShown
