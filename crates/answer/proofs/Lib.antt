@@ -28,3 +28,5 @@ pub mod SignAnswer
 pub mod ZoneChains
 pub mod SimulateLoop
 pub mod RunShown
+pub mod MessageWritten
+pub mod MessageWhole
