@@ -4,10 +4,10 @@ use Rattle.std.specs.Prelude.{Option, Some, None, MatchOption}
 use Rattle.std.specs.List.{AllByRecursion}
 use Rattle.std.proofs.lemmas.List.{append-nil, take_at, drop_at, set_at, set-append_left, length-set}
 use Rattle.definitions.specs.Name.{Name, Label, IsLabel}
-use Rattle.names_flat.specs.Flat.{spelled, labels_in, SpellsRelative, SpellsName, name_in}
+use Rattle.names_labels.specs.Flat.{spelled, labels_in, SpellsRelative, SpellsName, name_in}
 use Rattle.names_flat.specs.Building.{Building, open_octets, octets_of_building, labels_with, all_labels, ended, closed, with_octets, with_labels, head_of, building, Holds}
-use Rattle.names_flat.proofs.Runs.{labels_in-spelled, spelled-append, name_in-wire}
-use Rattle.names_flat.proofs.Checks.{plain_push, spelled-push, length-spelled_sum}
+use Rattle.names_labels.proofs.Runs.{labels_in-spelled, spelled-append, name_in-wire}
+use Rattle.names_labels.proofs.Checks.{plain_push, spelled-push, length-spelled_sum}
 
 -- what a buffer holds is what is read back from it
 pub builds : (bs : List ℕ) (head : Option ℕ) (b : Building) → Holds bs head b → building bs head ≡ b
@@ -201,7 +201,7 @@ pub place_within : (bs more : List ℕ) (head : Option ℕ) (b : Building) → H
 place_within bs more None b h = tt
 place_within bs more (Some head) b h = omega (arith, (some_open bs head b h).2, length-append bs more)
 
-open_length : (n : Name) (l : Label) → length (spelled (labels_with n l)) ≡ length (spelled n) + length (open_octets l)
+pub open_length : (n : Name) (l : Label) → length (spelled (labels_with n l)) ≡ length (spelled n) + length (open_octets l)
 open_length n [] = omega arith
 open_length n (o ∷ os) = omega (arith, ap length (spelled-push n (o ∷ os)), length-append (spelled n) (length (o ∷ os) ∷ o ∷ os))
 

@@ -6,12 +6,12 @@ use Rattle.std.specs.Str.{bytes_eq, str_to_ascii_lowercase}
 use Rattle.std.proofs.lemmas.List.{map-append, map-id}
 use Rattle.std.proofs.lemmas.Bool.{and_right, eqb-true}
 use Rattle.definitions.specs.Name.{Name, Label, IsLabel, IsName, wire, low, same, name_cmp}
-use Rattle.names_flat.specs.Flat.{spelled, labels_in, name_in, IsRun, IsFlat}
-use Rattle.names_flat.specs.Order.{in_case}
-use Rattle.names_flat.specs.declared.order.Case.TheVariants.{Kept, Lowered}
-use Rattle.names_flat.proofs.Runs.{labels_in-wire, wire-spelled}
-use Rattle.names_flat.proofs.Checks.{length-wire}
-use Rattle.names_flat.proofs.Orders.{name_cmp-push}
+use Rattle.names_labels.specs.Flat.{spelled, labels_in, name_in, IsRun, IsFlat}
+use Rattle.names_labels.specs.Order.{in_case}
+use Rattle.names_labels.specs.declared.order.Case.TheVariants.{Kept, Lowered}
+use Rattle.names_labels.proofs.Runs.{labels_in-wire, wire-spelled}
+use Rattle.names_labels.proofs.Checks.{length-wire}
+use Rattle.names_labels.proofs.Orders.{name_cmp-push}
 
 pub flat_labels : (bs : List ℕ) → IsFlat bs → labels_in bs ≡ name_in bs ++ [] ∷ []
 flat_labels bs f = ap labels_in (sym f.octets) ∙ labels_in-wire (name_in bs)

@@ -4,7 +4,7 @@ use Rattle.std.specs.Prelude.{Some, None, slice_get}
 use Rattle.std.specs.List.{join_with_byte}
 use Rattle.definitions.specs.Name.{Name, Label}
 use Rattle.definitions.specs.Text.{text_of_label, text_of_relative}
-use Rattle.names_flat.proofs.Runs.{take_one, some_within}
+use Rattle.names_labels.proofs.Runs.{take_one, some_within}
 use Rattle.std.proofs.lemmas.List.{map-append, length-take-le}
 
 join-push : (x : List ℕ) (xs : List (List ℕ)) (y : List ℕ) → join_with_byte 46 ((x ∷ xs) ++ y ∷ []) ≡ join_with_byte 46 (x ∷ xs) ++ 46 ∷ y

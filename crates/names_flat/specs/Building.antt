@@ -2,7 +2,7 @@
 use Rattle.std.specs.Prelude.{◌≡◌, ℕ, suc, ◌≤◌, List, [], ◌∷◌, ◌++◌, length, take, drop, slice_set, Option, Some, None}
 use Rattle.std.specs.List.{AllByRecursion}
 use Rattle.definitions.specs.Name.{Name, Label, IsLabel}
-use Rattle.names_flat.specs.Flat.{spelled, labels_in}
+use Rattle.names_labels.specs.Flat.{spelled, labels_in}
 
 -- The finished labels, and the open one, which is empty where none is open.
 pub record Building : Type 0 where

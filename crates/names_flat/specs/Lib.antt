@@ -1,8 +1,4 @@
 pub mod Building
-pub mod Compare
 pub mod Feed
-pub mod Flat
+pub mod FromText
 pub mod Laws
-pub mod Order
-pub mod Refused
-pub mod RefusedRelative

@@ -1,22 +1,31 @@
 //! Building names label by label or octet by octet.
 
-ghost use Rattle.std.specs.Prelude.{◌≡◌, ◌≢◌, ◌↔◌, ◌+◌, ◌<◌, ◌≤◌, ◌++◌, ◌∷◌, ◌==◌, [], ℕ, length, slice_set, refl, MatchOption, IfOk, IfErr, IsOk, IsTrue, IsErrOf, OnOk, OnErr};
+ghost use Rattle.std.specs.Prelude.{List, true, Some, None, ◌≡◌, ◌≢◌, ◌↔◌, ◌+◌, ◌<◌, ◌≤◌, ◌++◌, ◌∷◌, ◌==◌, [], ℕ, length, slice_set, refl, MatchOption, IfOk, IfErr, IsOk, IsTrue, IsErrOf, OnOk, OnErr};
 ghost use Rattle.definitions.specs.Name.{IsName};
-ghost use Rattle.names_flat.specs.Flat.{SpellsRelative, spelled};
-ghost use Rattle.names_flat.specs.RefusedRelative.{RefusedRelative};
-ghost use Rattle.names_flat.specs.Building.{Building, octets_of_building, with_octets, closed, ended, labels_with, with_labels, all_labels};
+ghost use Rattle.names_labels.specs.Flat.{SpellsRelative, spelled};
+ghost use Rattle.names_labels.specs.RefusedRelative.{RefusedRelative};
+ghost use Rattle.std.specs.Iterator.{IsFinite, Drains};
+ghost use Rattle.definitions.specs.Text.{Symbol as TextSymbol};
+ghost use Rattle.names_wire.specs.Symbols.{symbol_of, IsUnfinished};
+ghost use Rattle.names_wire.specs.Spelled.{SpellsNothing};
+ghost use Rattle.names_labels.specs.Open.{if_open_short};
+ghost use Rattle.names_flat.specs.FromText.{is_text, continued, standing, text_behind, ReadsSymbols, StopsAtSymbol, StopsInText};
+ghost use Rattle.names_flat.specs.Building.{Building, IsShort, octets_of_building, with_octets, closed, ended, labels_with, with_labels, all_labels};
 
-use crate::check::check_relative;
+use names_labels::check::check_relative;
 use crate::name::Name;
 use crate::push_error::{PushError, PushNameError};
 use crate::relative::RelativeName;
-use crate::relative_error::RelativeNameError;
+use crate::text::octet_of;
+use crate::text_error::FromStrError;
+use names_labels::relative_error::RelativeNameError;
 use crate::to_name::Absolute;
 use crate::to_relative::Relative;
-use crate::traits::{Labels, ToLabelIter};
+use names_labels::traits::{Labels, ToLabelIter};
 use arrayvec::ArrayVec;
 use names_wire::builder::{OctetsBuilder, ShortBuf};
 use names_wire::octets::Octets;
+use names_wire::symbol::{Symbol, SymbolReader};
 use std::alloc::Global;
 use std::marker::Model;
 
@@ -245,6 +254,101 @@ impl<B: OctetsBuilder> NameBuilder<B> {
         append_labels(&mut self.builder, name)?;
         close(&mut self.builder, self.head, open);
         self.head = None;
+        Ok(())
+    }
+}
+
+/// Reading text (RFC 1035, 5.1). A dot ends the open label; no text changes nothing.
+impl<B: OctetsBuilder> NameBuilder<B> {
+    /// Adds a symbol: its octet to the open label, or a label's end.
+    pub(crate) fn push_symbol(&mut self, symbol: Symbol) -> Result<(), FromStrError>
+        ensures ok { OnOk result ((ss : List TextSymbol) → continued self.old (symbol_of symbol ∷ ss) ≡ continued self.new ss) }
+        ensures refused { IfErr result (λ e. is_text e ≡ true → (ss : List TextSymbol) → if_open_short (continued self.old (symbol_of symbol ∷ ss)) ≡ None) }
+        ensures err { OnErr result (self.new ≡ self.old) }
+        ensures limits { IsShort self.new }
+    {
+        let _ = &self.builder;
+        match octet_of(symbol, self.in_label())? {
+            Some(octet) => self.push(octet)?,
+            None => self.end_label(),
+        }
+        let _ = &self.builder;
+        Ok(())
+    }
+
+    /// Adds symbols: octets to the open label, and at each dot a label's end.
+    ///
+    /// At a symbol that is refused it stops; what those before it made stands.
+    pub fn append_symbols<S: Iterator<Item = Symbol> + Drop>(
+        &mut self,
+        symbols: S,
+    ) -> Result<(), FromStrError>
+        requires can { S.can_next symbols }
+        requires ends { IsFinite (S.remaining symbols) }
+        ensures ok { OnOk result (ReadsSymbols S.next_gives symbols self.old self.new) }
+        ensures refused { IfErr result (StopsAtSymbol S.next_gives symbols self.old self.new) }
+    {
+        let _ = &self.builder;
+        for symbol in symbols {
+            self.push_symbol(symbol)?;
+        }
+        Ok(())
+    }
+
+    /// Adds a character behind those that a reader has of a symbol.
+    pub(crate) fn push_char(
+        &mut self,
+        reader: &mut SymbolReader,
+        ch: char,
+    ) -> Result<(), FromStrError>
+        ensures ok { OnOk result ((rest : List ℕ) → text_behind self.old (reader.old ++ ch ∷ rest) ≡ text_behind self.new (reader.new ++ rest)) }
+        ensures refused { IfErr result (λ e. is_text e ≡ true → (rest : List ℕ) → text_behind self.old (reader.old ++ ch ∷ rest) ≡ None) }
+        ensures err { OnErr result (self.new ≡ self.old) }
+        ensures limits { IsShort self.new }
+        ensures unfinished { IsUnfinished reader.new }
+    {
+        let _ = &self.builder;
+        if let Some(symbol) = reader.push(ch)? {
+            self.push_symbol(symbol)?;
+        }
+        Ok(())
+    }
+
+    /// Adds the symbols that characters spell: octets to the open label, and at each dot a label's end.
+    ///
+    /// At a character behind which no name can come it stops; what the whole symbols before it made stands.
+    pub fn append_chars<C: Iterator<Item = char> + Drop>(
+        &mut self,
+        chars: C,
+    ) -> Result<(), FromStrError>
+        requires can { C.can_next chars }
+        requires ends { IsFinite (C.remaining chars) }
+        ensures ok { OnOk result ((text : List ℕ) × Drains C.next_gives chars text × (text_behind self.old text ≡ Some (standing self.new))) }
+        ensures refused { IfErr result (λ e. is_text e ≡ true → SpellsNothing C.next_gives chars (text_behind self.old)) }
+        ensures stands { OnErr result (StopsInText C.next_gives chars [] self.old self.new) }
+    {
+        self.append_text(SymbolReader::new(), chars)
+    }
+
+    /// Adds the symbols that characters spell behind those that a reader has of one.
+    pub(crate) fn append_text<C: Iterator<Item = char> + Drop>(
+        &mut self,
+        reader: SymbolReader,
+        chars: C,
+    ) -> Result<(), FromStrError>
+        requires can { C.can_next chars }
+        requires ends { IsFinite (C.remaining chars) }
+        requires begins { IsUnfinished reader }
+        ensures ok { OnOk result ((text : List ℕ) × Drains C.next_gives chars text × (text_behind self.old (reader ++ text) ≡ Some (standing self.new))) }
+        ensures refused { IfErr result (λ e. is_text e ≡ true → SpellsNothing C.next_gives chars (λ text. text_behind self.old (reader ++ text))) }
+        ensures stands { OnErr result (StopsInText C.next_gives chars reader self.old self.new) }
+    {
+        let mut reader = reader;
+        let _ = &self.builder;
+        for ch in chars {
+            self.push_char(&mut reader, ch)?;
+        }
+        reader.finish()?;
         Ok(())
     }
 }

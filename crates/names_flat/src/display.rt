@@ -5,7 +5,7 @@ ghost use Rattle.definitions.specs.Text.{text_of_name, text_of_relative};
 
 use crate::name::Name;
 use crate::relative::RelativeName;
-use crate::traits::Labels;
+use names_labels::traits::Labels;
 use names_wire::octets::Octets;
 use std::fmt;
 

@@ -3,20 +3,21 @@
 #![tactic(auto)]
 
 pub mod builder;
-mod check;
 mod display;
-mod flat;
+mod from_text;
 pub mod laws;
 pub mod name;
-pub mod name_error;
 mod name_order;
-mod order;
 pub mod push_error;
 pub mod relative;
-pub mod relative_error;
 mod relative_order;
 #[cfg(test)]
 mod tests;
+mod text;
+pub mod text_error;
 pub mod to_name;
 pub mod to_relative;
-pub mod traits;
+
+pub use names_labels::name_error;
+pub use names_labels::relative_error;
+pub use names_labels::traits;

@@ -2,17 +2,20 @@
 
 ghost use Rattle.std.specs.Prelude.{◌≡◌, ◌↔◌, ◌+◌, ◌++◌, ◌∷◌, [], ℕ, List, length, slice_index_or, IfOk, IfErr, IsOk, IsTrue};
 ghost use Rattle.definitions.specs.Name.{IsName, wire};
-ghost use Rattle.names_flat.specs.Flat.{IsRun, IsFlat, labels_in, name_in, SpellsName};
-ghost use Rattle.names_flat.specs.Refused.{RefusedName};
+ghost use Rattle.names_labels.specs.Flat.{IsRun, IsFlat, labels_in, name_in, SpellsName};
+ghost use Rattle.names_labels.specs.Refused.{RefusedName};
 ghost use Rattle.names_wire.specs.Label.{octets_of};
 
-use crate::check::check_absolute;
-use crate::flat;
-use crate::name_error::NameError;
+use names_labels::check::check_absolute;
+use names_labels::flat;
+use names_labels::name_error::NameError;
+use crate::builder::NameBuilder;
 use crate::to_name::{Absolute, ToName};
-use crate::traits::{Labels, ToLabelIter};
+use names_labels::traits::{Labels, ToLabelIter};
+use names_wire::builder::ShortBuf;
 use names_wire::label::Label;
 use names_wire::octets::Octets;
+use std::alloc::Global;
 use std::marker::Model;
 
 /// An absolute domain name: labels in a row of octets, each behind its length, and the root's octet
@@ -24,7 +27,7 @@ pub struct Name<Octs: Octets> {
 
 impl<Octs: Octets> Model for Name<Octs> {
     ghost use Rattle.std.specs.Prelude.{List, ℕ};
-    ghost use Rattle.names_flat.specs.Flat.{name_in, IsFlat};
+    ghost use Rattle.names_labels.specs.Flat.{name_in, IsFlat};
 
     ghost Value = { List (List ℕ) };
 
@@ -153,6 +156,18 @@ impl Name<&'static [u8]> {
         ensures { result ≡ [] }
     {
         Name::root_ref()
+    }
+}
+
+impl Name<Vec<u8>> {
+    /// The root with octets of its own. It is refused for want of memory alone.
+    pub fn root_vec(alloc: Global) -> Result<Self, ShortBuf>
+        ensures { IfOk result (λ n. n ≡ []) }
+    {
+        match NameBuilder::new(alloc).into_name() {
+            Ok(name) => Ok(name),
+            Err(_) => Err(ShortBuf),
+        }
     }
 }
 

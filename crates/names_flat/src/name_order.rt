@@ -9,7 +9,7 @@ ghost use Rattle.names_flat.specs.Feed.{labels_feed, name_feed, name_feed-same};
 
 use crate::name::Name;
 use crate::to_name::ToName;
-use crate::traits::Labels;
+use names_labels::traits::Labels;
 use names_wire::octets::Octets;
 use std::cmp::Ordering;
 use std::hash::{Hash, Hasher};

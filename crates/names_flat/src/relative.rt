@@ -2,15 +2,15 @@
 
 ghost use Rattle.std.specs.Prelude.{◌≡◌, ◌↔◌, ◌-◌, ◌==◌, [], ℕ, List, length, slice_get, option_map, IfOk, IfErr, IsOk};
 ghost use Rattle.definitions.specs.Name.{IsName};
-ghost use Rattle.names_flat.specs.Flat.{IsRun, IsFlatRelative, labels_in, spelled, SpellsRelative};
-ghost use Rattle.names_flat.specs.RefusedRelative.{RefusedRelative};
+ghost use Rattle.names_labels.specs.Flat.{IsRun, IsFlatRelative, labels_in, spelled, SpellsRelative};
+ghost use Rattle.names_labels.specs.RefusedRelative.{RefusedRelative};
 ghost use Rattle.names_wire.specs.Label.{octets_of};
 
-use crate::check::check_relative;
-use crate::flat;
-use crate::relative_error::RelativeNameError;
+use names_labels::check::check_relative;
+use names_labels::flat;
+use names_labels::relative_error::RelativeNameError;
 use crate::to_relative::{Relative, ToRelativeName};
-use crate::traits::{Labels, ToLabelIter};
+use names_labels::traits::{Labels, ToLabelIter};
 use names_wire::label::Label;
 use names_wire::octets::Octets;
 use std::marker::Model;
@@ -24,7 +24,7 @@ pub struct RelativeName<Octs: Octets> {
 
 impl<Octs: Octets> Model for RelativeName<Octs> {
     ghost use Rattle.std.specs.Prelude.{List, ℕ};
-    ghost use Rattle.names_flat.specs.Flat.{labels_in, IsFlatRelative};
+    ghost use Rattle.names_labels.specs.Flat.{labels_in, IsFlatRelative};
 
     ghost Value = { List (List ℕ) };
 

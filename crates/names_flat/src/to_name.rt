@@ -7,8 +7,8 @@ ghost use Rattle.definitions.specs.Name.{low, wire, same, name_cmp};
 
 use crate::builder::NameBuilder;
 use crate::name::Name;
-use crate::order::{Case, labels_cmp, labels_composed_cmp};
-use crate::traits::{ToLabelIter, labels_eq};
+use names_labels::order::{Case, labels_cmp, labels_composed_cmp};
+use names_labels::traits::{ToLabelIter, labels_eq};
 use names_wire::builder::ShortBuf;
 use std::alloc::Global;
 use std::cmp::Ordering;

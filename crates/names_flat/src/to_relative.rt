@@ -3,8 +3,8 @@
 ghost use Rattle.std.specs.Prelude.{◌≡◌, ◌==◌, length};
 ghost use Rattle.definitions.specs.Name.{same, name_cmp};
 
-use crate::order::labels_cmp;
-use crate::traits::{ToLabelIter, labels_eq};
+use names_labels::order::labels_cmp;
+use names_labels::traits::{ToLabelIter, labels_eq};
 use std::cmp::Ordering;
 
 /// Labels that do not end with the root's: at most 254 octets in wire form.

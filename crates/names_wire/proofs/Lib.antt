@@ -3,3 +3,4 @@ pub mod Lowercase
 pub mod OnError
 pub mod PartLabel
 pub mod Printed
+pub mod Unfinished

@@ -48,11 +48,11 @@ symbol_again (Quoted c) rest h =
 symbol_again (Decimal b) rest h = then 92 (three_digits b ++ rest) (Decimal b) (decimal_at b rest (leb-true b 255 h))
 
 -- how an octet is printed
-record Prints (b : ℕ) (s : Symbol) : Type 0 where
-  valid : is_symbol s ≡ true
-  same : octet s ≡ b
-  undivided : is_dot s ≡ false
-  plain : is_bracket s ≡ false
+pub record Prints (b : ℕ) (s : Symbol) : Type 0 where
+  pub valid : is_symbol s ≡ true
+  pub same : octet s ≡ b
+  pub undivided : is_dot s ≡ false
+  pub plain : is_bracket s ≡ false
 
 either : (a b : Bool) → (a || b) ≡ true → (a ≡ true) ⊎ (b ≡ true)
 either true b h = inl refl
@@ -71,7 +71,7 @@ quoted b h = elim (either (nat_eq b 32 || nat_eq b 46) (nat_eq b 92) h) [
   | inr e ↦ subst (λ n. Prints n (Quoted n)) (sym (eqb-true b 92 e)) (record { valid = refl; same = refl; undivided = refl; plain = refl })
 ]
 
-prints : (b : ℕ) → b < 256 → Prints b (symbol_of_octet b)
+pub prints : (b : ℕ) → b < 256 → Prints b (symbol_of_octet b)
 prints b h = go (is_quoted b) (is_printable b) refl refl
   where
     go : (q p : Bool) → is_quoted b ≡ q → is_printable b ≡ p → Prints b (cond q (Quoted b) (cond p (Plain b) (Decimal b)))
@@ -90,7 +90,7 @@ valid_all : (l : List ℕ) → AllByRecursion (λ b. b < 256) l → list_all is_
 valid_all [] h = refl
 valid_all (b ∷ l) h = λ i. (prints b h.0).valid i && valid_all l h.1 i
 
-no_dot : (l : List ℕ) → AllByRecursion (λ b. b < 256) l → list_any is_dot (map symbol_of_octet l) ≡ false
+pub no_dot : (l : List ℕ) → AllByRecursion (λ b. b < 256) l → list_any is_dot (map symbol_of_octet l) ≡ false
 no_dot [] h = refl
 no_dot (b ∷ l) h = λ i. (prints b h.0).undivided i || no_dot l h.1 i
 
@@ -102,7 +102,7 @@ same_octets : (l : List ℕ) → AllByRecursion (λ b. b < 256) l → map octet 
 same_octets [] h = refl
 same_octets (b ∷ l) h = λ i. (prints b h.0).same i ∷ same_octets l h.1 i
 
-as_label : (l : List ℕ) → IsLabel l → AllByRecursion (λ b. b < 256) l → label_of_symbols (map symbol_of_octet l) ≡ Some l
+pub as_label : (l : List ℕ) → IsLabel l → AllByRecursion (λ b. b < 256) l → label_of_symbols (map symbol_of_octet l) ≡ Some l
 as_label l is h = (λ i. cond ((((some i && short i) && valid_all l h i) && not (no_bracket l h i)) && not (no_dot l h i)) (Some (same_octets l h i)) None)
   where
     some : nat_lt 0 (length (map symbol_of_octet l)) ≡ true

@@ -4,7 +4,7 @@ ghost use Rattle.std.specs.Prelude.{◌≡◌, ◌≢◌, false, ◌↔◌, ◌+
 ghost use Rattle.definitions.specs.Text.{is_symbol, is_digit, octet, spelling, symbol_of_octet, symbols_of, octet_at, Plain, Quoted};
 ghost use Rattle.std.specs.Option.{option_map};
 ghost use Rattle.std.specs.Result.{result_ok};
-ghost use Rattle.names_wire.specs.Symbols.{symbol_of, followed_by, written, ReadsAs};
+ghost use Rattle.names_wire.specs.Symbols.{symbol_of, followed_by, written, ReadsAs, IsUnfinished};
 
 use std::fmt;
 use std::marker::Model;
@@ -124,6 +124,7 @@ impl SymbolReader {
         ensures valid { IfOk result (λ symbol. IfSome symbol (λ s. is_symbol (symbol_of s) ≡ true)) }
         ensures err { OnErr result ((rest : List ℕ) → symbols_of (self.old ++ ch ∷ rest) ≡ None) }
         ensures unchanged { OnErr result (self.new ≡ self.old) }
+        ensures unfinished { IsUnfinished self.new }
     {
         match self.pending {
             Pending::Nothing if ch == '\\' => {

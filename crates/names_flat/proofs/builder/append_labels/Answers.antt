@@ -1,8 +1,8 @@
 use Rattle.std.proofs.Common.{◌≡◌, ap, sym, ◌∙◌, ◌++◌, ◌∷◌, length, take, append_assoc, arith}
 use Rattle.names_wire.specs.Label.{octets_of}
-use Rattle.names_flat.specs.Flat.{spelled}
-use Rattle.names_flat.proofs.Runs.{take_one, none_past}
-use Rattle.names_flat.proofs.Checks.{spelled-push}
+use Rattle.names_labels.specs.Flat.{spelled}
+use Rattle.names_labels.proofs.Runs.{take_one, none_past}
+use Rattle.names_labels.proofs.Checks.{spelled-push}
 use Rattle.std.proofs.lemmas.List.{take_all}
 use Rattle.names_flat.proofs.builder.append_labels.Goals as goal
 use Rattle.names_flat.proofs.builder.append_labels.Goals.{else-loop-index-test, then-loop-index-test+in_default}

@@ -1,5 +1,5 @@
 use Rattle.std.proofs.Common.{◌≡◌, ◌++◌, length, take}
-use Rattle.names_flat.specs.Flat.{spelled}
+use Rattle.names_labels.specs.Flat.{spelled}
 use Rattle.names_flat.proofs.builder.append_labels.Given as goal
 
 abbrev pub invariant-loop-index : goal.invariant-loop-index

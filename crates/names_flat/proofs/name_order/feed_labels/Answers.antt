@@ -1,7 +1,7 @@
 use Rattle.std.proofs.Common.{arith, ◌∙◌}
 use Rattle.names_wire.specs.Label.{octets_of}
 use Rattle.names_flat.proofs.Feeds.{fed_more, fed_all}
-use Rattle.names_flat.proofs.Runs.{none_past}
+use Rattle.names_labels.proofs.Runs.{none_past}
 use Rattle.names_flat.proofs.name_order.feed_labels.Goals as goal
 use Rattle.names_flat.proofs.name_order.feed_labels.Goals.{in-Some, in_default}
 

@@ -1,7 +1,7 @@
 use Rattle.std.proofs.Common.{ap, sym, ◌∙◌, ◌++◌, [], length, None, arith}
 use Rattle.names_flat.specs.Building.{building, closed, with_labels, labels_with}
 use Rattle.names_flat.proofs.Builds.{behind_at, builds, holds_building, label_spelled, one_label, longer_labels}
-use Rattle.names_flat.proofs.Checks.{test_some}
+use Rattle.names_labels.proofs.Checks.{test_some}
 use Rattle.names_flat.proofs.builder.NameBuilder.append_label.Goals as goal
 
 pub invariant_of-self-2 : goal.invariant_of-self-2

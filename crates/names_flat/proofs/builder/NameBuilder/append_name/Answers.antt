@@ -1,5 +1,5 @@
 use Rattle.std.proofs.Common.{ap, ◌∙◌, ◌++◌, length, None, arith}
-use Rattle.names_flat.specs.Flat.{spelled}
+use Rattle.names_labels.specs.Flat.{spelled}
 use Rattle.names_flat.specs.Building.{building, closed, with_labels}
 use Rattle.names_flat.proofs.Builds.{behind_at, builds, holds_building, longer_labels}
 use Rattle.names_flat.proofs.builder.NameBuilder.append_name.Goals as goal

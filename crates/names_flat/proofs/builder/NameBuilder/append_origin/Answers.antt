@@ -1,9 +1,9 @@
 use Rattle.std.proofs.Common.{ap, sym, ◌∙◌, ◌++◌, [], length, subst, arith}
-use Rattle.names_flat.specs.Flat.{name_in, spelled, IsFlat}
+use Rattle.names_labels.specs.Flat.{name_in, spelled, IsFlat}
 use Rattle.names_flat.specs.Building.{building, closed, all_labels}
 use Rattle.names_flat.proofs.Builds.{origin_at, read_name}
-use Rattle.names_flat.proofs.Checks.{spells_flat}
-use Rattle.names_flat.proofs.Runs.{length-spelled_push}
+use Rattle.names_labels.proofs.Checks.{spells_flat}
+use Rattle.names_labels.proofs.Runs.{length-spelled_push}
 use Rattle.names_flat.proofs.builder.NameBuilder.append_origin.Goals as goal
 
 pub of_octets-requires : goal.of_octets-requires

@@ -1,7 +1,7 @@
 use Rattle.std.proofs.Common.{◌≤◌, Some, arith}
 use Rattle.names_flat.specs.Building.{building, with_octets}
 use Rattle.names_flat.proofs.Builds.{opens_at, builds, holds_building}
-use Rattle.names_flat.proofs.Checks.{test_some}
+use Rattle.names_labels.proofs.Checks.{test_some}
 use Rattle.names_flat.proofs.builder.NameBuilder.append_slice.Goals as goal
 use Rattle.names_flat.proofs.builder.NameBuilder.append_slice.Goals.{then-open-eq0, else-open-eq0}
 

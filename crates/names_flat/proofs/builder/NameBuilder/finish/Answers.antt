@@ -1,8 +1,8 @@
 use Rattle.std.proofs.Common.{ap, sym, ◌∙◌, subst}
-use Rattle.names_flat.specs.Flat.{labels_in, IsFlatRelative}
+use Rattle.names_labels.specs.Flat.{labels_in, IsFlatRelative}
 use Rattle.names_flat.specs.Building.{building, closed, all_labels}
 use Rattle.names_flat.proofs.Builds.{finished_at, read_finished}
-use Rattle.names_flat.proofs.Relatives.{spells_relative}
+use Rattle.names_labels.proofs.Relatives.{spells_relative}
 use Rattle.names_flat.proofs.builder.NameBuilder.finish.Goals as goal
 
 pub of_octets-requires : goal.of_octets-requires

@@ -1,7 +1,7 @@
 use Rattle.std.proofs.Common.{None, ap, arith, length}
-use Rattle.names_flat.specs.Flat.{labels_in, SpellsRelative}
+use Rattle.names_labels.specs.Flat.{labels_in, SpellsRelative}
 use Rattle.names_flat.proofs.Builds.{holds_labels, holds_building}
-use Rattle.names_flat.proofs.Relatives.{relative_short}
+use Rattle.names_labels.proofs.Relatives.{relative_short}
 use Rattle.names_flat.proofs.builder.NameBuilder.from_builder.Goals as goal
 
 pub invariant_of-result : goal.invariant_of-result

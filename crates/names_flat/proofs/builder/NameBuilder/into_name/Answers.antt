@@ -1,8 +1,8 @@
 use Rattle.std.proofs.Common.{ap, sym, ◌∙◌, subst}
-use Rattle.names_flat.specs.Flat.{name_in, IsFlat}
+use Rattle.names_labels.specs.Flat.{name_in, IsFlat}
 use Rattle.names_flat.specs.Building.{building, closed, all_labels}
 use Rattle.names_flat.proofs.Builds.{finished_at, under_root, read_name}
-use Rattle.names_flat.proofs.Checks.{spells_flat}
+use Rattle.names_labels.proofs.Checks.{spells_flat}
 use Rattle.names_flat.proofs.builder.NameBuilder.into_name.Goals as goal
 
 pub of_octets-requires : goal.of_octets-requires

@@ -2,7 +2,7 @@ use Rattle.std.proofs.Common.{◌∷◌, ◌++◌, [], length-append, refl, take
 use Rattle.std.proofs.lemmas.Grind.{put_two}
 use Rattle.definitions.specs.Text.{text_of_label, text_of_relative}
 use Rattle.names_wire.specs.Label.{octets_of}
-use Rattle.names_flat.proofs.Runs.{none_past}
+use Rattle.names_labels.proofs.Runs.{none_past}
 use Rattle.names_flat.proofs.Texts.{text_more, before_root}
 use Rattle.names_flat.proofs.display.NameDisplay.fmt.Goals as goal
 use Rattle.names_flat.proofs.display.NameDisplay.fmt.Goals.{in-Some+in_ok-write-2, in_default}

@@ -2,7 +2,7 @@ use Rattle.std.proofs.Common.{◌∷◌, [], refl, take, arith}
 use Rattle.std.proofs.lemmas.Grind.{put_two}
 use Rattle.definitions.specs.Text.{text_of_label, text_of_relative}
 use Rattle.names_wire.specs.Label.{octets_of}
-use Rattle.names_flat.proofs.Runs.{none_past}
+use Rattle.names_labels.proofs.Runs.{none_past}
 use Rattle.names_flat.proofs.Texts.{text_more, no_first}
 use Rattle.names_flat.proofs.display.RelativeNameDisplay.fmt.Goals as goal
 use Rattle.names_flat.proofs.display.RelativeNameDisplay.fmt.Goals.{in-Some-label_at+in_ok-write-2, in_default-label_at}

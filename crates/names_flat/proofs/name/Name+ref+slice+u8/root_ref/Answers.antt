@@ -1,6 +1,6 @@
 use Rattle.std.proofs.Common.{[], ◌∷◌, refl, arith}
-use Rattle.names_flat.proofs.Checks.{spells_flat}
-use Rattle.names_flat.proofs.Runs.{name_in-wire}
+use Rattle.names_labels.proofs.Checks.{spells_flat}
+use Rattle.names_labels.proofs.Runs.{name_in-wire}
 use Rattle.names_flat.proofs.name.Name+ref+slice+u8.root_ref.Goals as goal
 
 pub invariant_of-result : goal.invariant_of-result

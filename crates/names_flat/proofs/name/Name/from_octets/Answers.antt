@@ -1,5 +1,5 @@
-use Rattle.names_flat.specs.Refused.{RefusedName}
-use Rattle.names_flat.proofs.Checks.{refused_spells_none}
+use Rattle.names_labels.specs.Refused.{RefusedName}
+use Rattle.names_labels.proofs.Checks.{refused_spells_none}
 use Rattle.names_flat.proofs.name.Name.from_octets.Goals as goal
 
 pub returns-in-Err-clause-accepts : goal.returns-in-Err-clause-accepts

@@ -1,6 +1,6 @@
 use Rattle.std.proofs.Common.{[], refl, arith}
-use Rattle.names_flat.proofs.Relatives.{spells_relative}
-use Rattle.names_flat.proofs.Runs.{labels_in-spelled}
+use Rattle.names_labels.proofs.Relatives.{spells_relative}
+use Rattle.names_labels.proofs.Runs.{labels_in-spelled}
 use Rattle.names_flat.proofs.relative.RelativeName+ref+slice+u8.empty_ref.Goals as goal
 
 pub invariant_of-result : goal.invariant_of-result

@@ -1,5 +1,5 @@
-use Rattle.names_flat.specs.RefusedRelative.{RefusedRelative}
-use Rattle.names_flat.proofs.Relatives.{refused_relative}
+use Rattle.names_labels.specs.RefusedRelative.{RefusedRelative}
+use Rattle.names_labels.proofs.Relatives.{refused_relative}
 use Rattle.names_flat.proofs.relative.RelativeName.from_octets.Goals as goal
 
 pub returns-in-Err-clause-accepts : goal.returns-in-Err-clause-accepts

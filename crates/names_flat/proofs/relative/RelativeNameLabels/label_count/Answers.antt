@@ -1,5 +1,5 @@
 use Rattle.std.proofs.Common.{arith}
-use Rattle.names_flat.proofs.Relatives.{relative_short}
+use Rattle.names_labels.proofs.Relatives.{relative_short}
 use Rattle.names_flat.proofs.relative.RelativeNameLabels.label_count.Goals as goal
 
 pub returns-clause-short : goal.returns-clause-short

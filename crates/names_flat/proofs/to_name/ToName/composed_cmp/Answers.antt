@@ -1,9 +1,9 @@
 use Rattle.std.proofs.Common.{◌∙◌, map}
 use Rattle.std.specs.Ordering.{nat_cmp}
 use Rattle.std.specs.Cmp.Lexicographic.{slice_cmp}
-use Rattle.names_flat.specs.Flat.{spelled}
-use Rattle.names_flat.specs.Order.{in_case}
-use Rattle.names_flat.specs.declared.order.Case.TheVariants.{Kept}
+use Rattle.names_labels.specs.Flat.{spelled}
+use Rattle.names_labels.specs.Order.{in_case}
+use Rattle.names_labels.specs.declared.order.Case.TheVariants.{Kept}
 use Rattle.names_flat.proofs.Rooted.{spelled-kept}
 use Rattle.names_flat.proofs.to_name.ToName.composed_cmp.Goals as goal
 

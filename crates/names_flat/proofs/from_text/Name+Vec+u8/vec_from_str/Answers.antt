@@ -1,0 +1,17 @@
+use Rattle.std.proofs.Common.{◌∙◌, ap, true, ◌≡◌, Some, None}
+use Rattle.std.specs.Str.{chars}
+use Rattle.std.proofs.lemmas.Result.{IfOk-weaker, IfErr-weaker}
+use Rattle.definitions.specs.Text.{name_of_text, relative_of_text}
+use Rattle.names_flat.specs.FromText.{is_text, is_relative_text}
+use Rattle.names_flat.proofs.WholeTexts.{chars_are, nothing_in_text}
+use Rattle.names_flat.proofs.from_text.Name+Vec+u8.vec_from_str.Goals as goal
+
+pub returns-clause-ok : goal.returns-clause-ok
+returns-clause-ok c =
+    IfOk-weaker c.from_chars.result _ (λ n. name_of_text (chars c.args.text.now) ≡ Some n)
+    (λ n r. ap name_of_text (chars_are c.chars.result c.args.text.now r.0 c.utf8.text c.chars.ensures.rest r.1) ∙ r.2) c.from_chars.ensures.ok
+
+pub returns-clause-refused : goal.returns-clause-refused
+returns-clause-refused c =
+    IfErr-weaker c.from_chars.result _ (λ e. is_text e ≡ true → name_of_text (chars c.args.text.now) ≡ None)
+    (λ e r h. nothing_in_text c.chars.result c.args.text.now name_of_text c.utf8.text c.chars.ensures.rest (r h)) c.from_chars.ensures.refused

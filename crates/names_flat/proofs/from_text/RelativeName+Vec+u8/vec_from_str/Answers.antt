@@ -1,0 +1,20 @@
+use Rattle.std.proofs.Common.{◌∙◌, ap, true, ◌≡◌, Some, None}
+use Rattle.std.specs.Str.{chars}
+use Rattle.std.proofs.lemmas.Result.{IfOk-weaker, IfErr-weaker}
+use Rattle.definitions.specs.Text.{name_of_text, relative_of_text}
+use Rattle.names_flat.specs.FromText.{is_text, is_relative_text}
+use Rattle.names_flat.proofs.WholeTexts.{chars_are, nothing_in_text}
+use Rattle.names_flat.proofs.from_text.RelativeName+Vec+u8.vec_from_str.Goals as goal
+
+pub returns-clause-ok : goal.returns-clause-ok
+returns-clause-ok c =
+    IfOk-weaker c.from_chars.result _ (λ n. relative_of_text (chars c.args.text.now) ≡ Some n)
+    (λ n r. ap relative_of_text (chars_are c.chars.result c.args.text.now r.0 c.utf8.text c.chars.ensures.rest r.1) ∙ r.2) c.from_chars.ensures.ok
+
+pub returns-clause-refused : goal.returns-clause-refused
+returns-clause-refused c =
+    IfErr-weaker c.from_chars.result _ (λ e. is_relative_text e ≡ true → relative_of_text (chars c.args.text.now) ≡ None)
+    (λ e r h. nothing_in_text c.chars.result c.args.text.now relative_of_text c.utf8.text c.chars.ensures.rest (r h)) c.from_chars.ensures.refused
+
+pub returns-clause-absolute : goal.returns-clause-absolute
+returns-clause-absolute c = λ h. let r = c.from_chars.ensures.absolute h in (r.1, ap name_of_text (chars_are c.chars.result c.args.text.now r.0 c.utf8.text c.chars.ensures.rest r.2) ∙ r.3)

@@ -1,0 +1,6 @@
+pub mod Compare
+pub mod Flat
+pub mod Open
+pub mod Order
+pub mod Refused
+pub mod RefusedRelative

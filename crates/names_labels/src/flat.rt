@@ -1,0 +1,43 @@
+ghost use Rattle.std.specs.Prelude.{◌≡◌, ℕ, List, length, [], MatchOption, option_map, slice_get};
+ghost use Rattle.names_labels.specs.Flat.{labels_in, IsRun, SplitsLabel};
+ghost use Rattle.names_wire.specs.Label.{octets_of};
+
+use names_wire::label::Label;
+
+/// The first label of labels in a row, and the row behind it.
+pub fn split_label(run: &[u8]) -> Option<(Label<'_>, &[u8])>
+    requires { IsRun run.now }
+    ensures { MatchOption result (labels_in run.now ≡ []) (λ p. SplitsLabel run.now (octets_of p.0) p.1.now) }
+{
+    let (&len, rest) = run.split_first()?;
+    let (octets, behind) = rest.split_at(usize::from(len));
+    let label = Label::from_slice(octets).unwrap();
+    Some((label, behind))
+}
+
+/// How many labels stand in a row.
+pub fn label_count(run: &[u8]) -> usize
+    requires { IsRun run.now }
+    ensures { result ≡ length (labels_in run.now) }
+{
+    let mut rest = run;
+    let mut count = 0;
+    while let Some((_, behind)) = split_label(rest) {
+        rest = behind;
+        count += 1;
+    }
+    count
+}
+
+/// The label at a place of labels in a row.
+pub fn label_at(run: &[u8], index: usize) -> Option<Label<'_>>
+    requires { IsRun run.now }
+    ensures { option_map octets_of result ≡ slice_get (labels_in run.now) index }
+{
+    let mut rest = run;
+    for _ in 0..index {
+        (_, rest) = split_label(rest)?;
+    }
+    let (label, _) = split_label(rest)?;
+    Some(label)
+}
