@@ -30,3 +30,7 @@ pub mod ZoneAnswers
 pub mod ZoneChains
 pub mod ZoneData
 pub mod ZoneLinks
+pub mod SimulateLoop
+pub mod RunShown
+pub mod MessageWritten
+pub mod MessageWhole

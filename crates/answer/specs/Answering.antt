@@ -41,10 +41,3 @@ pub record AnswersKeys (sign : Dnskey → List ℕ → Option (List ℕ)) (verif
   pub group : GroupView
   pub presents : Presents group (key_group apex (s.ttl_of s.zone.apex 6) present)
   pub written : IsAnswer sign verifies apex at life keys 33792 (record { name = apex; rtype = 48; class = 1 }) (group ∷ []) [] m
-
--- the message that answers a question with some RRsets, each with its signatures
-pub record SignsAnswer (sign : Dnskey → List ℕ → Option (List ℕ)) (verifies : Dnskey → List ℕ → List ℕ → Bool) (apex : Name) (at life : ℕ) (keys : List Dnskey) (asked : Asked) (m : List ℕ) : Type 0 where
-  pub flags : ℕ
-  pub answer : List GroupView
-  pub authority : List GroupView
-  pub written : IsAnswer sign verifies apex at life keys flags asked answer authority m

@@ -27,6 +27,7 @@ pub mod Rrsig
 pub mod Star
 pub mod Publishing
 pub mod Simulating
+pub mod Running
 pub mod KeyRows
 pub mod WrittenLaws
 pub mod Composed

@@ -1,7 +1,7 @@
 -- What a simulation of a zone's life answers, event by event.
-use Rattle.std.specs.Prelude.{◌≡◌, ℕ, ◌/◌, ◌%◌, Bool, true, false, List, [], ◌∷◌, ◌++◌, map, length, Option, Some, slice_get, string_bytes}
+use Rattle.std.specs.Prelude.{◌≡◌, ℕ, Bool, true, false, List, [], ◌∷◌, ◌++◌, map, length, Option, Some, slice_get, string_bytes}
 use Rattle.definitions.specs.Name.{Name}
-use Rattle.definitions.specs.Dnskey.{Ds}
+use Rattle.definitions.specs.Dnskey.{Dnskey, Ds}
 use Rattle.answer.specs.declared.event.Event.{Event}
 use Rattle.answer.specs.declared.event.Act.{Act}
 use Rattle.answer.specs.declared.event.Act.TheVariants as act
@@ -9,26 +9,30 @@ use Rattle.answer.specs.declared.event.KeyCall.{KeyCall}
 use Rattle.answer.specs.declared.event.KeyCall.TheVariants as call
 use Rattle.answer.specs.declared.event.Outcome.{Outcome}
 use Rattle.answer.specs.declared.event.Outcome.TheVariants as outcome
-use Rattle.answer.specs.declared.question.Question.{Question}
 use Rattle.answer.specs.declared.publisher.fault.AnswerFault.{AnswerFault}
 use Rattle.answer.specs.declared.publisher.fault.AnswerFault.TheVariants as refusal
 use Rattle.answer.specs.declared.publisher.keys.KeyKind.TheVariants.{Ksk, Zsk}
 use Rattle.answer.specs.declared.publisher.keys.Publication.TheVariants as publication
 use Rattle.answer.specs.Answers.{Answers}
 use Rattle.answer.specs.Message.{Asked}
+use Rattle.answer.specs.Questions.{asked_of}
 use Rattle.answer.specs.KeyState.{text_of, is_available}
-use Rattle.answer.specs.Bindings.{ZoneKeys, Call, Add, Start, Report1, Wait1, Report2, Wait2, Finish, apply, no_keys, ds_set, published, dnskeys}
+use Rattle.answer.specs.Bindings.{ZoneKeys, Call, Add, Start, Report1, Wait1, Report2, Wait2, Finish, apply, no_keys, ds_set, published, dnskeys, keys_by_tag}
 use Rattle.answer.specs.KeyCalls.{GivesKeys}
 use Rattle.answer.specs.ZoneView.{AcceptedZone}
-use Rattle.answer.specs.Publishing.{digest_at, served}
-use Rattle.answer.specs.Given as given
+use Rattle.answer.specs.Publishing.{digest_at, served, second_of}
+use Rattle.answer.specs.Answering.{AnswersKeys, AnswersZone}
 use Rattle.answer.specs.Judging.{Handing, Judges, answer_of, verifications_of, hashes_of, is_allowed}
 
--- an accepted zone, how long its signatures hold, and what its scheme and hasher answer
+-- an accepted zone, how long its signatures hold, what its scheme signs, and what scheme and hasher answer a judge
 pub record World : Type 0 where
   pub zone : AcceptedZone
   pub life : ℕ
+  pub sign : Dnskey → List ℕ → Option (List ℕ)
   pub answers : Answers
+
+abbrev pub world : AcceptedZone → ℕ → (Dnskey → List ℕ → Option (List ℕ)) → (Dnskey → List ℕ → List ℕ → Bool) → (ℕ → List ℕ → Option (List ℕ)) → (List ℕ → ℕ → ℕ → List ℕ → Option (List ℕ)) → World
+world zone life sign verifies digest hash = record { zone = zone; life = life; sign = sign; answers = record { verifies = verifies; digest = digest; hash = hash } }
 
 -- what was shown
 pub data Shown : Type 0 where
@@ -43,13 +47,6 @@ pub record Sofar : Type 0 where
 
 abbrev pub begin : Name → Sofar
 begin apex = record { keys = no_keys apex; shown = [] }
-
--- whole seconds, as signatures carry them (RFC 4034, 3.1.5)
-abbrev pub seconds : ℕ → ℕ
-seconds at = at / 1000000000
-
-abbrev pub asked_of : Question Name → Asked
-asked_of q = record { name = q.name; rtype = q.rtype; class = q.class }
 
 -- a key call by its arguments
 abbrev pub call_of : KeyCall → Call
@@ -70,7 +67,7 @@ handing w ds keys answer asked at = record {
   dnskey_bytes = keys;
   answer_bytes = answer;
   asked = asked;
-  now = seconds at % 4294967296;
+  now = second_of at;
   limit = w.zone.limit;
 }
 
@@ -85,28 +82,33 @@ JudgesBytes w at (Some (OfParent ds)) keys answer asked (outcome.Judged j) = Jud
 JudgesBytes w at (Some (OfParent ds)) keys answer asked _ = ⊥
 JudgesBytes w at _ keys answer asked o = o ≡ outcome.BadPlace
 
+-- the DNSKEY answer of these keys at a moment
+abbrev pub ShowsKeys : World → ZoneKeys → ℕ → List ℕ → Type 0
+ShowsKeys w keys at bytes = AnswersKeys w.sign w.answers.verifies (served w.answers.hash w.zone) w.zone.apex (second_of at) w.life (dnskeys (published keys publication.Present)) (keys_by_tag keys publication.SignsKeys) bytes
+
+-- the zone's answer to a question at a moment, signed by these keys
+abbrev pub ShowsAnswer : World → ZoneKeys → ℕ → Asked → List ℕ → Type 0
+ShowsAnswer w keys at asked bytes = AnswersZone w.sign w.answers.verifies (served w.answers.hash w.zone) w.zone.apex (second_of at) w.life (keys_by_tag keys publication.SignsZone) asked bytes
+
 -- a question that isn't allowed is refused so, and no other
 abbrev pub RefusesAsked : Bool → AnswerFault → Type 0
 RefusesAsked allowed refusal.QuestionNotAllowed = allowed ≡ false
 RefusesAsked allowed _ = allowed ≡ true
 
 -- One event, its outcome, and what there is after it: a key call gives what the table says; a thing that is shown
--- takes the next place; a judgement is of what stands at its places.
+-- takes the next place; a judgement is of what stands at its places. What is refused takes no place.
 abbrev pub StepOf : World → Sofar → ℕ → Act → Outcome → Sofar → Type 0
 StepOf w s at (act.Key c) (outcome.Key r) t =
     GivesKeys (λ v. v.items) s.keys t.keys r (apply (digest_at w.answers.digest w.zone.apex) (call_of c) at s.keys) × (t.shown ≡ s.shown)
 StepOf w s at act.ShowDs (outcome.Ds place set) t =
     (place ≡ length s.shown) × (set.items ≡ ds_set s.keys) × (t ≡ record s { shown = s.shown ++ OfParent set.items ∷ [] })
 StepOf w s at act.ShowDnskey (outcome.Message place octets) t =
-    (place ≡ length s.shown)
-    × given.GivesKeys w.answers.verifies 0 (served w.answers.hash w.zone) w.zone.apex (dnskeys (published s.keys publication.Present)) (dnskeys (published s.keys publication.SignsKeys)) (seconds at) w.life octets.items
-    × (t ≡ record s { shown = s.shown ++ OfKeys octets.items ∷ [] })
-StepOf w s at act.ShowDnskey (outcome.Refused refusal.QuestionNotAllowed) t = ⊥
+    (place ≡ length s.shown) × ShowsKeys w s.keys at octets.items × (t ≡ record s { shown = s.shown ++ OfKeys octets.items ∷ [] })
 StepOf w s at act.ShowDnskey (outcome.Refused e) t = t ≡ s
 StepOf w s at (act.Ask q) (outcome.Message place octets) t =
     (place ≡ length s.shown)
     × (is_allowed w.zone.apex (asked_of q) ≡ true)
-    × given.GivesAnswer w.answers.verifies 0 (served w.answers.hash w.zone) w.zone.apex (dnskeys (published s.keys publication.SignsZone)) (seconds at) w.life (asked_of q) octets.items
+    × ShowsAnswer w s.keys at (asked_of q) octets.items
     × (t ≡ record s { shown = s.shown ++ OfZone (asked_of q) octets.items ∷ [] })
 StepOf w s at (act.Ask q) (outcome.Refused e) t = RefusesAsked (is_allowed w.zone.apex (asked_of q)) e × (t ≡ s)
 StepOf w s at (act.Judge ds keys answer) o t = JudgesThings w at (slice_get s.shown ds) (slice_get s.shown keys) (slice_get s.shown answer) o × (t ≡ s)

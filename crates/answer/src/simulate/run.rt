@@ -1,6 +1,14 @@
 //! A run of events, one at a time.
-ghost use Rattle.std.specs.Prelude.{◌≡◌, ◌≤◌, ◌<◌, ℕ, IfOk, length, map};
+ghost use Rattle.std.specs.Prelude.{◌≡◌, ◌≤◌, ◌<◌, [], ℕ, IfOk, length, map, slice_get, string_bytes};
+ghost use Rattle.answer.specs.Bindings.{apply};
 ghost use Rattle.answer.specs.Events.{added_octets, added_by_call};
+ghost use Rattle.answer.specs.Judging.{Judges, answer_of, verifications_of, hashes_of};
+ghost use Rattle.answer.specs.KeyCalls.{GivesKeys};
+ghost use Rattle.answer.specs.KeyState as key_state;
+ghost use Rattle.answer.specs.Publishing.{digest_at};
+ghost use Rattle.answer.specs.Questions.{asked_of};
+ghost use Rattle.answer.specs.Running.{shown_of, sofar};
+ghost use Rattle.answer.specs.Simulating.{world, handing, call_of, JudgesThings, JudgesBytes, StepOf};
 
 use crate::denial::ds::Ds;
 use crate::denial::hasher::Nsec3Hasher;
@@ -36,7 +44,12 @@ pub(super) struct Run<'a, S: Scheme, H: Nsec3Hasher> {
 }
 
 impl<'a, S: Scheme, H: Nsec3Hasher> Run<'a, S, H> {
-    pub(super) fn new(alloc: Global, publisher: Publisher<'a, S, H>, limit: u16) -> Self {
+    /// A run at its beginning; the limit is the zone's.
+    pub(super) fn new(alloc: Global, publisher: Publisher<'a, S, H>, limit: u16) -> Self
+        ensures publisher { result.publisher ≡ publisher.entry }
+        ensures limit { result.limit ≡ limit }
+        ensures shown { result.shown.items ≡ [] }
+    {
         Run {
             alloc,
             publisher,
@@ -47,7 +60,10 @@ impl<'a, S: Scheme, H: Nsec3Hasher> Run<'a, S, H> {
 
     /// What comes of one event.
     pub(super) fn serve(&mut self, event: &Event) -> Result<Outcome, AllocError>
-        requires { added_octets event.now ≤ 65531 }
+        requires key { added_octets event.now ≤ 65531 }
+        requires limit { self.old.limit ≡ self.old.publisher.zone.limit }
+        ensures step { IfOk result (λ o. StepOf (world self.old.publisher.zone self.old.publisher.life (S.signature_of self.old.publisher.scheme.now) (S.verifies self.old.publisher.scheme.now) (S.digest_of self.old.publisher.scheme.now) (H.hash_of self.old.publisher.hasher.now)) (sofar self.old.publisher.keys self.old.shown.items) event.now.at event.now.act o (sofar self.new.publisher.keys self.new.shown.items)) }
+        ensures rest { self.new ≡ record self.old { publisher = record self.old.publisher { keys = self.new.publisher.keys }; shown = self.new.shown } }
     {
         match &event.act {
             Act::Key(call) => Ok(Outcome::Key(self.key_call(call, &event.at))),
@@ -68,6 +84,8 @@ impl<'a, S: Scheme, H: Nsec3Hasher> Run<'a, S, H> {
 
     fn key_call(&mut self, call: &KeyCall, at: &UnixTime) -> Result<Vec<Action>, KeyFault>
         requires { added_by_call call.now ≤ 65531 }
+        ensures keys { GivesKeys (λ v. v.items) self.old.publisher.keys self.new.publisher.keys result (apply (digest_at (S.digest_of self.old.publisher.scheme.now) self.old.publisher.zone.apex) (call_of call.now) at.now self.old.publisher.keys) }
+        ensures rest { self.new ≡ record self.old { publisher = record self.old.publisher { keys = self.new.publisher.keys } } }
     {
         match call {
             KeyCall::AddKeyKsk {
@@ -123,7 +141,11 @@ impl<'a, S: Scheme, H: Nsec3Hasher> Run<'a, S, H> {
         }
     }
 
-    fn show_ds(&mut self) -> Result<Outcome, AllocError> {
+    /// Shows the DS set at the next place.
+    fn show_ds(&mut self) -> Result<Outcome, AllocError>
+        ensures step { IfOk result (λ o. (at : ℕ) → StepOf (world self.old.publisher.zone self.old.publisher.life (S.signature_of self.old.publisher.scheme.now) (S.verifies self.old.publisher.scheme.now) (S.digest_of self.old.publisher.scheme.now) (H.hash_of self.old.publisher.hasher.now)) (sofar self.old.publisher.keys self.old.shown.items) at Act.ShowDs o (sofar self.new.publisher.keys self.new.shown.items)) }
+        ensures rest { self.new ≡ record self.old { shown = self.new.shown } }
+    {
         let place = self.shown.len();
         let set = self.publisher.ds_set()?;
         let copy = copied(self.alloc, &set)?;
@@ -131,7 +153,11 @@ impl<'a, S: Scheme, H: Nsec3Hasher> Run<'a, S, H> {
         Ok(Outcome::Ds { place, set })
     }
 
-    fn show_dnskey(&mut self, at: &UnixTime) -> Result<Outcome, AllocError> {
+    /// Shows the DNSKEY answer at the next place.
+    fn show_dnskey(&mut self, at: &UnixTime) -> Result<Outcome, AllocError>
+        ensures step { IfOk result (λ o. StepOf (world self.old.publisher.zone self.old.publisher.life (S.signature_of self.old.publisher.scheme.now) (S.verifies self.old.publisher.scheme.now) (S.digest_of self.old.publisher.scheme.now) (H.hash_of self.old.publisher.hasher.now)) (sofar self.old.publisher.keys self.old.shown.items) at.now Act.ShowDnskey o (sofar self.new.publisher.keys self.new.shown.items)) }
+        ensures rest { self.new ≡ record self.old { shown = self.new.shown } }
+    {
         let place = self.shown.len();
         match self.publisher.dnskey_answer(at) {
             Err(fault) => Ok(Outcome::Refused(fault)),
@@ -142,7 +168,11 @@ impl<'a, S: Scheme, H: Nsec3Hasher> Run<'a, S, H> {
         }
     }
 
-    fn ask(&mut self, question: &Question, at: &UnixTime) -> Result<Outcome, AllocError> {
+    /// Shows the zone's answer to a question at the next place.
+    fn ask(&mut self, question: &Question, at: &UnixTime) -> Result<Outcome, AllocError>
+        ensures step { IfOk result (λ o. StepOf (world self.old.publisher.zone self.old.publisher.life (S.signature_of self.old.publisher.scheme.now) (S.verifies self.old.publisher.scheme.now) (S.digest_of self.old.publisher.scheme.now) (H.hash_of self.old.publisher.hasher.now)) (sofar self.old.publisher.keys self.old.shown.items) at.now (Act.Ask question.now) o (sofar self.new.publisher.keys self.new.shown.items)) }
+        ensures rest { self.new ≡ record self.old { shown = self.new.shown } }
+    {
         let place = self.shown.len();
         match self.publisher.answer(question, at) {
             Err(fault) => Ok(Outcome::Refused(fault)),
@@ -159,7 +189,10 @@ impl<'a, S: Scheme, H: Nsec3Hasher> Run<'a, S, H> {
     }
 
     /// Judges three things that were shown, for the question of the zone answer.
-    fn judge_shown(&self, ds: usize, dnskey: usize, answer: usize, at: &UnixTime) -> Outcome {
+    fn judge_shown(&self, ds: usize, dnskey: usize, answer: usize, at: &UnixTime) -> Outcome
+        requires { self.now.limit ≡ self.now.publisher.zone.limit }
+        ensures { JudgesThings (world self.now.publisher.zone self.now.publisher.life (S.signature_of self.now.publisher.scheme.now) (S.verifies self.now.publisher.scheme.now) (S.digest_of self.now.publisher.scheme.now) (H.hash_of self.now.publisher.hasher.now)) at.now (slice_get (map shown_of self.now.shown.items) ds) (slice_get (map shown_of self.now.shown.items) dnskey) (slice_get (map shown_of self.now.shown.items) answer) result }
+    {
         match (
             self.shown.get(ds),
             self.shown.get(dnskey),
@@ -182,7 +215,10 @@ impl<'a, S: Scheme, H: Nsec3Hasher> Run<'a, S, H> {
         answer_bytes: &[u8],
         question: &Question,
         at: &UnixTime,
-    ) -> Outcome {
+    ) -> Outcome
+        requires { self.now.limit ≡ self.now.publisher.zone.limit }
+        ensures { JudgesBytes (world self.now.publisher.zone self.now.publisher.life (S.signature_of self.now.publisher.scheme.now) (S.verifies self.now.publisher.scheme.now) (S.digest_of self.now.publisher.scheme.now) (H.hash_of self.now.publisher.hasher.now)) at.now (slice_get (map shown_of self.now.shown.items) ds) dnskey_bytes.now answer_bytes.now (asked_of question.now) result }
+    {
         match self.shown.get(ds) {
             Some(Shown::OfParent(ds)) => {
                 Outcome::Judged(self.judged(ds, dnskey_bytes, answer_bytes, question, at))
@@ -191,6 +227,7 @@ impl<'a, S: Scheme, H: Nsec3Hasher> Run<'a, S, H> {
         }
     }
 
+    /// What the judge says of things at a moment.
     fn judged(
         &self,
         ds: &[Ds<Vec<u8>>],
@@ -198,7 +235,10 @@ impl<'a, S: Scheme, H: Nsec3Hasher> Run<'a, S, H> {
         answer_bytes: &[u8],
         question: &Question,
         at: &UnixTime,
-    ) -> Result<Judgement, Refused> {
+    ) -> Result<Judgement, Refused>
+        requires { self.now.limit ≡ self.now.publisher.zone.limit }
+        ensures { Judges 0 (handing (world self.now.publisher.zone self.now.publisher.life (S.signature_of self.now.publisher.scheme.now) (S.verifies self.now.publisher.scheme.now) (S.digest_of self.now.publisher.scheme.now) (H.hash_of self.now.publisher.hasher.now)) ds.now dnskey_bytes.now answer_bytes.now (asked_of question.now) at.now) (answer_of result) (verifications_of result) (hashes_of result) }
+    {
         counted::<S, H, Brand, Brand>(
             self.alloc,
             self.publisher.scheme,
@@ -237,6 +277,7 @@ fn counted<S: Scheme, H: Nsec3Hasher, L: Ledger, M: Ledger>(
     requires second_name { second.name ≡ M.name }
     requires second_parts { second.parts ≡ M.parts }
     requires second_some { 0 < M.parts }
+    ensures { Judges 0 (record { apex = apex.now; ds = ds.now; dnskey_bytes = dnskey_bytes.now; answer_bytes = answer_bytes.now; asked = asked_of question.now; now = now; limit = limit }) (answer_of result) (verifications_of result) (hashes_of result) }
 {
     let mut checks = SchemeChecks::<S, H, L, M>::new(scheme, hasher, first, second);
     judge(
@@ -253,7 +294,9 @@ fn counted<S: Scheme, H: Nsec3Hasher, L: Ledger, M: Ledger>(
 }
 
 /// A text where there is one.
-fn cloned(text: &Option<String>) -> Result<Option<String>, AllocError> {
+fn cloned(text: &Option<String>) -> Result<Option<String>, AllocError>
+    ensures { IfOk result (λ t. key_state.text_of t ≡ key_state.text_of text.now) }
+{
     match text {
         None => Ok(None),
         Some(text) => Ok(Some(text.clone()?)),
@@ -261,7 +304,9 @@ fn cloned(text: &Option<String>) -> Result<Option<String>, AllocError> {
 }
 
 /// Texts by reference.
-fn texts(alloc: Global, references: &[String]) -> Result<Vec<&str>, AllocError> {
+fn texts(alloc: Global, references: &[String]) -> Result<Vec<&str>, AllocError>
+    ensures { IfOk result (λ v. key_state.texts v.items ≡ map string_bytes references.now) }
+{
     let mut texts = Vec::with_capacity(alloc, references.len())?;
     for reference in references {
         texts.push(reference.as_str())?;
@@ -270,7 +315,9 @@ fn texts(alloc: Global, references: &[String]) -> Result<Vec<&str>, AllocError> 
 }
 
 /// A DS set once more.
-fn copied(alloc: Global, set: &[Ds<Vec<u8>>]) -> Result<Vec<Ds<Vec<u8>>>, AllocError> {
+fn copied(alloc: Global, set: &[Ds<Vec<u8>>]) -> Result<Vec<Ds<Vec<u8>>>, AllocError>
+    ensures { IfOk result (λ v. v.items ≡ set.now) }
+{
     let mut copies = Vec::with_capacity(alloc, set.len())?;
     for ds in set {
         let digest = ds.digest().to_vec(alloc)?;

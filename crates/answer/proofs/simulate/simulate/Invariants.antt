@@ -1,5 +1,19 @@
-use Rattle.std.proofs.Common.{◌≡◌, length}
+use Rattle.std.proofs.Common.{◌≡◌, length, map}
+use Rattle.answer.specs.Accepting.{sorted_records}
+use Rattle.answer.specs.ZoneView.{mode_of, handed_of}
+use Rattle.answer.specs.Running.{sofar}
+use Rattle.answer.specs.Simulating.{World, begin, world}
+use Rattle.answer.proofs.SimulateLoop.{GoesOn}
 use Rattle.answer.proofs.simulate.simulate.Given as goal
 
+-- one outcome an event so far; the zone, scheme and hasher stay; and what follows ends the whole
 abbrev pub invariant-loop-event : goal.invariant-loop-event
-invariant-loop-event g l = length l.outcomes.items ≡ l.event-index
+invariant-loop-event g l =
+    let run = l.run in
+    let there : World = world (record { apex = l.fn.apex; mode = mode_of l.fn.mode; limit = l.fn.limit; records = sorted_records (map handed_of l.fn.records.items) }) l.fn.life (g.S.Scheme.signature_of l.scheme) (g.S.Scheme.verifies l.scheme) (g.S.Scheme.digest_of l.scheme) (g.H.Nsec3Hasher.hash_of l.hasher) in
+    record {
+      each : length l.outcomes.items ≡ l.event-index;
+      limit : run.limit ≡ run.publisher.zone.limit;
+      same : world run.publisher.zone run.publisher.life (g.S.Scheme.signature_of run.publisher.scheme.now) (g.S.Scheme.verifies run.publisher.scheme.now) (g.S.Scheme.digest_of run.publisher.scheme.now) (g.H.Nsec3Hasher.hash_of run.publisher.hasher.now) ≡ there;
+      follows : GoesOn there (begin l.fn.apex) l.events l.outcomes.items l.event-index (sofar run.publisher.keys run.shown.items);
+    }

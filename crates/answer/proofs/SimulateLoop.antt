@@ -1,0 +1,29 @@
+-- A simulation in progress: whatever follows the events so far ends the whole.
+use Rattle.std.proofs.Common.{◌≡◌, ℕ, ◌+◌, ◌<◌, ◌≤◌, length, drop, List, [], ◌∷◌, ◌++◌, get_or, subst, sym, append_assoc, ap, ◌∙◌}
+use Rattle.std.proofs.lemmas.List.{drop_more, drop_all, append-nil}
+use Rattle.answer.specs.declared.event.Event.{Event}
+use Rattle.answer.specs.declared.event.Outcome.{Outcome}
+use Rattle.answer.specs.Simulating.{World, Sofar, StepOf, Simulates}
+
+-- the outcomes so far begin every simulation that goes on from here
+abbrev pub GoesOn : World → Sofar → List Event → List Outcome → ℕ → Sofar → Type 0
+GoesOn w first es outs i s = (rest : List Outcome) (last : Sofar) → Simulates w s (drop i es) rest last → Simulates w first es (outs ++ rest) last
+
+pub step_on : (w : World) (first : Sofar) (es : List Event) (outs new : List Outcome) (i : ℕ) (s t : Sofar) (d : Event) (o : Outcome) → i < length es → StepOf w s (get_or es i d).at (get_or es i d).act o t → new ≡ outs ++ o ∷ [] → GoesOn w first es outs i s → GoesOn w first es new (i + 1) t
+step_on w first es outs new i s t d o lt h e on rest last run =
+    let P : List Event → Type 0 = λ xs. Simulates w s xs (o ∷ rest) last in
+    let Q : List Outcome → Type 0 = λ os. Simulates w first es os last in
+    subst Q (sym (ap (λ os. os ++ rest) e ∙ append_assoc outs (o ∷ []) rest)) (on (o ∷ rest) last (subst P (sym (drop_more es i d lt)) (t, h, run)))
+
+pub at_end : (w : World) (first : Sofar) (es : List Event) (outs : List Outcome) (i : ℕ) (s : Sofar) → length es ≤ i → GoesOn w first es outs i s → (last : Sofar) × Simulates w first es outs last
+at_end w first es outs i s h on =
+    let P : List Event → Type 0 = λ xs. Simulates w s xs [] s in
+    let Q : List Outcome → Type 0 = λ os. Simulates w first es os s in
+    (s, subst Q (append-nil outs) (on [] s (subst P (sym (drop_all i es h)) (λ _. s))))
+
+-- a step of the event at a place, in the same world
+pub step_at : (v w : World) (s t : Sofar) (es : List Event) (i : ℕ) (d : Event) (o : Outcome) → v ≡ w → d ≡ get_or es i d → StepOf v s d.at d.act o t → StepOf w s (get_or es i d).at (get_or es i d).act o t
+step_at v w s t es i d o e f h =
+    let P : Event → Type 0 = λ x. StepOf v s x.at x.act o t in
+    let Q : World → Type 0 = λ x. StepOf x s (get_or es i d).at (get_or es i d).act o t in
+    subst Q e (subst P f h)

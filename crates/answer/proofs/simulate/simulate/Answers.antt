@@ -1,0 +1,33 @@
+use Rattle.std.proofs.Common.{rules, ◌≡◌, ◌++◌, ◌∷◌, [], map}
+use Rattle.answer.specs.Accepting.{sorted_records}
+use Rattle.answer.specs.ZoneView.{mode_of, handed_of}
+use Rattle.answer.specs.Running.{sofar}
+use Rattle.answer.specs.Simulating.{World, begin, world}
+use Rattle.answer.proofs.SimulateLoop.{step_on, step_at, at_end}
+use Rattle.answer.proofs.simulate.simulate.Goals as goal
+
+pub loop-event-preserved : goal.loop-event-preserved
+loop-event-preserved g c =
+    let run = c.loop-event.run in
+    let there : World = world (record { apex = c.args.apex; mode = mode_of c.args.mode; limit = c.args.limit; records = sorted_records (map handed_of c.args.records.items) }) c.args.life (g.S.Scheme.signature_of c.args.scheme.now) (g.S.Scheme.verifies c.args.scheme.now) (g.S.Scheme.digest_of c.args.scheme.now) (g.H.Nsec3Hasher.hash_of c.args.hasher.now) in
+    let next = c.serve.new.self in
+    let before = sofar run.publisher.keys run.shown.items in
+    let after = sofar next.publisher.keys next.shown.items in
+    let events = c.args.events.now in
+    let index = c.loop-event.event-index in
+    let event = c.event-item.result in
+    let outcome = c.in-Ok.outcome in
+    let outcomes : c.push.new.self.items ≡ c.loop-event.outcomes.items ++ outcome ∷ [] = search rules in
+    let step = step_at _ there before after events index event outcome c.loop-event.invariant.same c.event-item.is c.in-Ok.ensures.step in
+    record {
+      each = search rules;
+      limit = search rules;
+      same = search rules;
+      follows = step_on there (begin c.args.apex) events c.loop-event.outcomes.items c.push.new.self.items index before after event outcome c.loop-event-test.true step outcomes c.loop-event.invariant.follows;
+    }
+
+pub returns-clause-simulates : goal.returns-clause-simulates
+returns-clause-simulates g c =
+    let run = c.loop-event.run in
+    let there : World = world (record { apex = c.args.apex; mode = mode_of c.args.mode; limit = c.args.limit; records = sorted_records (map handed_of c.args.records.items) }) c.args.life (g.S.Scheme.signature_of c.args.scheme.now) (g.S.Scheme.verifies c.args.scheme.now) (g.S.Scheme.digest_of c.args.scheme.now) (g.H.Nsec3Hasher.hash_of c.args.hasher.now) in
+    at_end there (begin c.args.apex) c.args.events.now c.loop-event.outcomes.items c.loop-event.event-index (sofar run.publisher.keys run.shown.items) c.loop-event-test.false c.loop-event.invariant.follows
