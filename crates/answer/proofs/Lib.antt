@@ -26,6 +26,7 @@ pub mod ZoneFaults
 pub mod KeyWhole
 pub mod SignAnswer
 pub mod ZoneBitmap
+pub mod Refusals
 pub mod ZoneAnswers
 pub mod ZoneChains
 pub mod ZoneData

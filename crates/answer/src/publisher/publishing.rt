@@ -5,7 +5,7 @@ ghost use Rattle.answer.specs.Judging.{is_allowed};
 ghost use Rattle.answer.specs.Questions.{asked_of};
 ghost use Rattle.answer.specs.Served.{key_group, ttl_among};
 ghost use Rattle.answer.specs.GroupView.{Presents};
-ghost use Rattle.answer.specs.Answering.{AnswersKeys, AnswersZone};
+ghost use Rattle.answer.specs.Answering.{AnswersKeys, AnswersZone, RefusesAnswer, RefusesKeys};
 ghost use Rattle.answer.specs.Accepting.{IsAccepted, IsFault, sorted_records};
 ghost use Rattle.answer.specs.ZoneView.{mode_of, handed_of};
 ghost use Rattle.answer.specs.KeyState.{text_of, is_available, texts};
@@ -87,7 +87,8 @@ impl<'a, S: Scheme, H: Nsec3Hasher> Publisher<'a, S, H> {
 
     /// The answer for the DNSKEY RRset: the keys that are present, signed by each key that signs keys, at a moment.
     pub fn dnskey_answer(&self, now: &UnixTime) -> Result<Vec<u8>, AnswerFault>
-        ensures { IfOk result (λ m. AnswersKeys (S.signature_of self.now.scheme.now) (S.verifies self.now.scheme.now) (served (H.hash_of self.now.hasher.now) self.now.zone) self.now.zone.apex (second_of now.now) self.now.life (dnskeys (published self.now.keys Publication.Present)) (keys_by_tag self.now.keys Publication.SignsKeys) m.items) }
+        ensures refused { IfErr result (RefusesKeys (S.signature_of self.now.scheme.now) (S.verifies self.now.scheme.now) (served (H.hash_of self.now.hasher.now) self.now.zone) self.now.zone.apex (second_of now.now) self.now.life (dnskeys (published self.now.keys Publication.Present)) (keys_by_tag self.now.keys Publication.SignsKeys)) }
+        ensures answer { IfOk result (λ m. AnswersKeys (S.signature_of self.now.scheme.now) (S.verifies self.now.scheme.now) (served (H.hash_of self.now.hasher.now) self.now.zone) self.now.zone.apex (second_of now.now) self.now.life (dnskeys (published self.now.keys Publication.Present)) (keys_by_tag self.now.keys Publication.SignsKeys) m.items) }
     {
         let keys = self.keys.keys_by_tag(Publication::SignsKeys)?;
         let group = self.dnskey_group()?;
@@ -141,6 +142,7 @@ impl<'a, S: Scheme, H: Nsec3Hasher> Publisher<'a, S, H> {
     /// The zone's answer to a question at a moment, signed by each key that signs the zone.
     pub fn answer(&self, question: &Question, now: &UnixTime) -> Result<Vec<u8>, AnswerFault>
         ensures allowed { IsErrOf result AnswerFault.QuestionNotAllowed ↔ (is_allowed self.now.zone.apex (asked_of question.now) ≡ false) }
+        ensures refused { IfErr result (RefusesAnswer (S.signature_of self.now.scheme.now) (S.verifies self.now.scheme.now) (served (H.hash_of self.now.hasher.now) self.now.zone) self.now.zone.apex (second_of now.now) self.now.life (keys_by_tag self.now.keys Publication.SignsZone) (asked_of question.now)) }
         ensures answer { IfOk result (λ m. AnswersZone (S.signature_of self.now.scheme.now) (S.verifies self.now.scheme.now) (served (H.hash_of self.now.hasher.now) self.now.zone) self.now.zone.apex (second_of now.now) self.now.life (keys_by_tag self.now.keys Publication.SignsZone) (asked_of question.now) m.items) }
     {
         if !is_allowed(self.zone.apex(), question) {

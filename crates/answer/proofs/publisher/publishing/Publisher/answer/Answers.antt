@@ -1,12 +1,13 @@
-use Rattle.std.proofs.Common.{subst, rules}
-use Rattle.std.specs.Prelude.{IfOk}
-use Rattle.answer.specs.Answering.{AnswersZone}
+use Rattle.std.proofs.Common.{◌++◌, subst, rules}
+use Rattle.std.specs.Prelude.{IfErr, IfOk}
+use Rattle.answer.specs.Answering.{AnswersZone, RefusesAnswer, ahead_of_records}
 use Rattle.answer.specs.Bindings.{keys_by_tag}
-use Rattle.answer.specs.Composed.{IsAnswer}
+use Rattle.answer.specs.Composed.{IsAnswer, RefusesGroups}
 use Rattle.answer.specs.Publishing.{hash_in, second_of, served}
 use Rattle.answer.specs.Questions.{asked_of}
 use Rattle.answer.specs.declared.publisher.keys.Publication.TheVariants.{SignsZone}
 use Rattle.answer.proofs.ZoneAnswers.{allowed_plain}
+use Rattle.answer.proofs.Refusals.{answer_refused, if_err_map}
 use Rattle.answer.proofs.ZoneData.{if_ok_map}
 use Rattle.answer.proofs.publisher.publishing.Publisher.answer.Goals as goal
 
@@ -35,3 +36,23 @@ returns-clause-answer g c =
       written = subst (λ f. IsAnswer sign verifies z.apex (second_of c.args.now.now) c.args.self.now.life keys f (asked_of c.args.question.now) found.answer.items found.authority.items m.items) made.flags_are w;
     })
     written
+
+pub returns-clause-refused : goal.returns-clause-refused
+returns-clause-refused g c =
+    let z = c.args.self.now.zone in
+    let sign = g.S.Scheme.signature_of c.args.self.now.scheme.now in
+    let verifies = g.S.Scheme.verifies c.args.self.now.scheme.now in
+    let made = c.in_ok-found.ensures (hash_in (g.H.Nsec3Hasher.hash_of c.args.self.now.hasher.now) z.mode) in
+    let found = c.in_ok-found.found in
+    let keys = keys_by_tag c.args.self.now.keys SignsZone in
+    let asked = asked_of c.args.question.now in
+    let at = second_of c.args.now.now in
+    let life = c.args.self.now.life in
+    let groups = found.answer.items ++ found.authority.items in
+    let refused : IfErr c.compose_answer.result (RefusesGroups sign verifies z.apex at life keys (ahead_of_records asked) groups) = search rules in
+    if_err_map
+    (RefusesGroups sign verifies z.apex at life keys (ahead_of_records asked) groups)
+    (RefusesAnswer sign verifies (served (g.H.Nsec3Hasher.hash_of c.args.self.now.hasher.now) z) z.apex at life keys asked)
+    c.compose_answer.result
+    (λ f h. answer_refused sign verifies (served (g.H.Nsec3Hasher.hash_of c.args.self.now.hasher.now) z) z.apex at life keys asked groups f made.groups_are h)
+    refused
