@@ -1,13 +1,14 @@
 -- Laws of the definitions, which the module `laws` proves.
 use Rattle.std.specs.Prelude.{◌≡◌, ◌↔◌, ℕ, ◌^◌, ◌<◌, Bool, true, ◌&&◌, ◌||◌, List, [], ◌∷◌, ◌++◌, filter, length, nat_eq, IsTrue}
 use Rattle.std.specs.List.{AllByRecursion, Contains, list_any}
+use Rattle.std.specs.Str.{bytes_eq}
 use Rattle.std.specs.declared.cmp.Ordering.TheVariants.{Equal, Greater}
 use Rattle.std.specs.Cmp.{IsTotalOrder}
 use Rattle.definitions.specs.Name.{Name, IsName, wire, same, name_cmp, at_or_above}
-use Rattle.definitions.specs.Covering.{before, covers}
+use Rattle.definitions.specs.Covering.{before, covers, hash_covers}
 use Rattle.definitions.specs.Bitmap.{bitmap, is_bitmap, bitmap_has}
 use Rattle.definitions.specs.ZoneChain.{links}
-use Rattle.definitions.specs.Signing.{Fields, signed_owner, signed_octets}
+use Rattle.definitions.specs.Signing.{Fields, signed_owner, signed_octets, ascending}
 use Rattle.definitions.specs.Zone.{Rr, Zone, verdict}
 
 -- names are in one order, up to ASCII case
@@ -33,6 +34,14 @@ link_speaks apex q l = same l.0 q || covers apex l.0 l.1 q
 -- of the links of rising names that begin with the apex, exactly one speaks for each name at or below the apex
 abbrev pub OneLinkSpeaks : Type 0
 OneLinkSpeaks = (apex q : Name) (names : List Name) → IsTrue (rising (apex ∷ names)) → IsTrue (at_or_above apex q) → (l : Name × Name) × (filter (link_speaks apex q) (links apex (apex ∷ names)) ≡ l ∷ [])
+
+-- a link of hashes matches a hash, or covers it
+abbrev pub hash_link_speaks : List ℕ → List ℕ × List ℕ → Bool
+hash_link_speaks h l = bytes_eq l.0 h || hash_covers l.0 l.1 h
+
+-- of the links of ascending hashes, round a circle, exactly one speaks for each hash
+abbrev pub OneHashLinkSpeaks : Type 0
+OneHashLinkSpeaks = (first : List ℕ) (hashes : List (List ℕ)) (h : List ℕ) → IsTrue (ascending (first ∷ hashes)) → (l : List ℕ × List ℕ) × (filter (hash_link_speaks h) (links first (first ∷ hashes)) ≡ l ∷ [])
 
 -- ---- octets
 

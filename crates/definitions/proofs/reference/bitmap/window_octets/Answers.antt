@@ -1,0 +1,6 @@
+use Rattle.std.proofs.Common.{ap, ◌∙◌}
+use Rattle.definitions.specs.Bitmap.{trimmed}
+use Rattle.definitions.proofs.reference.bitmap.window_octets.Goals as goal
+
+pub returns : goal.returns
+returns c = c.trim.ensures ∙ ap trimmed c.in_ok-octets.ensures
