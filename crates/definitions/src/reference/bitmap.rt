@@ -7,9 +7,9 @@ ghost use Rattle.definitions.specs.Bitmap.{is_bitmap, bitmap_has, bit_in, below,
 ghost use Rattle.definitions.specs.Windows.{split, first_window, numbered};
 ghost use Rattle.definitions.specs.ZoneChain.{types_at, nsec_types, nsec3_types};
 
-use crate::reference::Octets;
 use crate::reference::names::labels_eq;
 use crate::reference::zone::{PlainRecord, PlainZone};
+use crate::reference::{DNSKEY, DS, NS, NSEC, NSEC3PARAM, Octets, RRSIG};
 use std::alloc::{AllocError, Global};
 
 /// The window at the front, its number and its octets, and what is behind it; None where there is none of 1 to 32
@@ -70,17 +70,17 @@ impl PlainZone {
         ensures { IfOk result (λ v. v.items ≡ nsec_types self.now owner.now) }
     {
         if self.is_delegation(owner) {
-            let mut types = Vec::from_slice(alloc, &[2u16])?;
-            if self.has(owner, 43) {
-                types.push(43)?;
+            let mut types = Vec::from_slice(alloc, &[NS])?;
+            if self.has(owner, DS) {
+                types.push(DS)?;
             }
-            types.extend_from_slice(&[46, 47])?;
+            types.extend_from_slice(&[RRSIG, NSEC])?;
             return Ok(types);
         }
         let mut types = types_among(alloc, self.records(), owner)?;
-        types.extend_from_slice(&[46, 47])?;
+        types.extend_from_slice(&[RRSIG, NSEC])?;
         if labels_eq(owner, self.apex()) {
-            types.push(48)?;
+            types.push(DNSKEY)?;
         }
         Ok(types)
     }
@@ -90,9 +90,9 @@ impl PlainZone {
         ensures { IfOk result (λ v. v.items ≡ nsec3_types self.now name.now) }
     {
         if self.is_delegation(name) {
-            let mut types = Vec::from_slice(alloc, &[2u16])?;
-            if self.has(name, 43) {
-                types.extend_from_slice(&[43, 46])?;
+            let mut types = Vec::from_slice(alloc, &[NS])?;
+            if self.has(name, DS) {
+                types.extend_from_slice(&[DS, RRSIG])?;
             }
             return Ok(types);
         }
@@ -100,9 +100,9 @@ impl PlainZone {
         if types.is_empty() {
             return Ok(types);
         }
-        types.push(46)?;
+        types.push(RRSIG)?;
         if labels_eq(name, self.apex()) {
-            types.extend_from_slice(&[48, 51])?;
+            types.extend_from_slice(&[DNSKEY, NSEC3PARAM])?;
         }
         Ok(types)
     }
