@@ -19,3 +19,4 @@ pub mod BitmapLaws
 pub mod SigningRows
 pub mod PlainSpelling
 pub mod CircleLaws
+pub mod ReadingLaws

@@ -1,10 +1,11 @@
 -- Laws of the definitions, which the module `laws` proves.
-use Rattle.std.specs.Prelude.{◌≡◌, ◌↔◌, ℕ, ◌^◌, ◌<◌, Bool, true, ◌&&◌, ◌||◌, List, [], ◌∷◌, ◌++◌, filter, length, nat_eq, IsTrue}
+use Rattle.std.specs.Prelude.{◌≡◌, ◌↔◌, ℕ, ◌^◌, ◌<◌, ◌≤◌, Ok, Bool, true, ◌&&◌, ◌||◌, List, [], ◌∷◌, ◌++◌, filter, length, nat_eq, IsTrue}
 use Rattle.std.specs.List.{AllByRecursion, Contains, list_any}
 use Rattle.std.specs.Str.{bytes_eq}
 use Rattle.std.specs.declared.cmp.Ordering.TheVariants.{Equal, Greater}
 use Rattle.std.specs.Cmp.{IsTotalOrder}
-use Rattle.definitions.specs.Name.{Name, IsName, wire, same, name_cmp, at_or_above}
+use Rattle.definitions.specs.Name.{Name, IsName, wire, wire_len, same, name_cmp, at_or_above}
+use Rattle.definitions.specs.Reading.{Reads, heads_of, pointers_of, name_at}
 use Rattle.definitions.specs.Covering.{before, covers, hash_covers}
 use Rattle.definitions.specs.Bitmap.{bitmap, is_bitmap, bitmap_has}
 use Rattle.definitions.specs.ZoneChain.{links}
@@ -102,3 +103,17 @@ pub record SpellsSet (ts : List ℕ) : Type 0 where
 -- lists of types are spelled alike exactly where they have the same types
 abbrev pub OneSpelling : Type 0
 OneSpelling = (ts us : List ℕ) → (bitmap ts ≡ bitmap us) ↔ ((t : ℕ) → t < 2 ^ 16 → list_any (nat_eq t) ts ≡ list_any (nat_eq t) us)
+
+-- ---- reading
+
+-- looking at one head after another finds a name exactly where a name of at most 255 octets stands
+abbrev pub ReadsExactly : Type 0
+ReadsExactly = (m : List ℕ) (p k : ℕ) (n : Name) → ((e : ℕ) × (name_at k m p ≡ Ok (n, e))) ↔ (Reads m p k n × (wire_len n ≤ 255))
+
+-- how many heads are looked at, and how many of them are pointers
+pub record IsShortReading {m : List ℕ} {p : ℕ} {n : Name} (r : Reads m p 255 n) : Type 0 where
+  pub pointers : pointers_of r ≤ 255
+  pub heads : heads_of r ≤ 383
+
+abbrev pub ReadingIsShort : Type 0
+ReadingIsShort = (m : List ℕ) (p : ℕ) (n : Name) (r : Reads m p 255 n) → wire_len n ≤ 255 → IsShortReading r

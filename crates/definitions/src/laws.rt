@@ -1,7 +1,7 @@
 //! Laws over the definitions. Each is the contract of a function that does nothing.
 ghost use Rattle.std.specs.Prelude.{ℕ, List};
 ghost use Rattle.definitions.specs.Name.{Name};
-ghost use Rattle.definitions.specs.Laws.{OrdersNames, IsInterval, OneLinkSpeaks, OneHashLinkSpeaks, WireSpells, SignedOctetsSpell, OrderMeansNothing, SpellsSet, OneSpelling};
+ghost use Rattle.definitions.specs.Laws.{OrdersNames, IsInterval, OneLinkSpeaks, OneHashLinkSpeaks, WireSpells, SignedOctetsSpell, OrderMeansNothing, SpellsSet, OneSpelling, ReadsExactly, ReadingIsShort};
 
 /// Names have one canonical order up to ASCII case, and are equal in it exactly where they are the same up to
 /// case (RFC 4034, 6.1).
@@ -50,4 +50,15 @@ pub fn bitmap_spells_its_set()
 /// Lists of types have one bitmap exactly where they have the same types.
 pub fn equal_bitmaps_are_equal_sets()
     ensures { OneSpelling }
+{}
+
+/// A name is read, with at most so many pointers, exactly where a name of at most 255 octets stands
+/// (RFC 1035, 4.1.4).
+pub fn names_are_read_where_they_stand()
+    ensures { ReadsExactly }
+{}
+
+/// Reading a name of at most 255 octets through at most 255 pointers looks at no more than 383 heads.
+pub fn reading_a_name_is_short()
+    ensures { ReadingIsShort }
 {}
