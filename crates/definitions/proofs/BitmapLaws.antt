@@ -141,7 +141,7 @@ length-trimmed : (os : List ℕ) → length (trimmed os) ≤ length os
 length-trimmed [] = omega arith
 length-trimmed (b ∷ os) = omega (arith, length-kept b (trimmed os), length-trimmed os)
 
-length-window : (ts : List ℕ) (w : ℕ) → length (window_octets ts w) ≤ 32
+pub length-window : (ts : List ℕ) (w : ℕ) → length (window_octets ts w) ≤ 32
 unfolding window_size
 length-window ts w = let n : length (map (octet_of ts w) (below 32)) ≡ 32 = length-map (below 32) (octet_of ts w) in omega (arith, n, length-trimmed (map (octet_of ts w) (below 32)))
 

@@ -17,3 +17,6 @@ pub mod Members
 pub mod SameZones
 pub mod BitmapLaws
 pub mod SigningRows
+pub mod PlainSpelling
+pub mod CircleLaws
+pub mod ReadingLaws

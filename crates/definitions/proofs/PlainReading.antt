@@ -9,7 +9,7 @@ use Rattle.definitions.specs.declared.reference.reading.ReadError.TheVariants as
 use Rattle.definitions.specs.Reference.{IsReading, run_of}
 
 -- a head that is a length
-abbrev at_head : ℕ → ℕ → ℕ → List ℕ → ℕ → ℕ → Bool → Bool → Bool → Bool → Result Run ReadFault
+abbrev pub at_head : ℕ → ℕ → ℕ → List ℕ → ℕ → ℕ → Bool → Bool → Bool → Bool → Result Run ReadFault
 at_head heads k room m p n empty label fits roomy = elim empty [
   | true ↦ Ok (record { labels = []; end = AtRoot; behind = p + 1; room = room })
   | false ↦ elim label [
@@ -24,7 +24,7 @@ at_head heads k room m p n empty label fits roomy = elim empty [
   ]
 ]
 
-abbrev at_place : ℕ → ℕ → ℕ → List ℕ → ℕ → Option ℕ → Result Run ReadFault
+abbrev pub at_place : ℕ → ℕ → ℕ → List ℕ → ℕ → Option ℕ → Result Run ReadFault
 at_place heads k room m p o = elim o [ None ↦ Err Short | Some n ↦ at_head heads k room m p n (eqb n 0) (leb n 63) (leb (p + 1 + n) (length m)) (leb (n + 2) room) ]
 
 -- a label that fits is put before the labels behind it

@@ -1,13 +1,15 @@
 -- Laws of the definitions, which the module `laws` proves.
-use Rattle.std.specs.Prelude.{◌≡◌, ◌↔◌, ℕ, ◌^◌, ◌<◌, Bool, true, ◌&&◌, ◌||◌, List, [], ◌∷◌, ◌++◌, filter, length, nat_eq, IsTrue}
+use Rattle.std.specs.Prelude.{◌≡◌, ◌↔◌, ℕ, ◌^◌, ◌<◌, ◌≤◌, Ok, Bool, true, ◌&&◌, ◌||◌, List, [], ◌∷◌, ◌++◌, filter, length, nat_eq, IsTrue}
 use Rattle.std.specs.List.{AllByRecursion, Contains, list_any}
+use Rattle.std.specs.Str.{bytes_eq}
 use Rattle.std.specs.declared.cmp.Ordering.TheVariants.{Equal, Greater}
 use Rattle.std.specs.Cmp.{IsTotalOrder}
-use Rattle.definitions.specs.Name.{Name, IsName, wire, same, name_cmp, at_or_above}
-use Rattle.definitions.specs.Covering.{before, covers}
+use Rattle.definitions.specs.Name.{Name, IsName, wire, wire_len, same, name_cmp, at_or_above}
+use Rattle.definitions.specs.Reading.{Reads, heads_of, pointers_of, name_at}
+use Rattle.definitions.specs.Covering.{before, covers, hash_covers}
 use Rattle.definitions.specs.Bitmap.{bitmap, is_bitmap, bitmap_has}
 use Rattle.definitions.specs.ZoneChain.{links}
-use Rattle.definitions.specs.Signing.{Fields, signed_owner, signed_octets}
+use Rattle.definitions.specs.Signing.{Fields, signed_owner, signed_octets, ascending}
 use Rattle.definitions.specs.Zone.{Rr, Zone, verdict}
 
 -- names are in one order, up to ASCII case
@@ -33,6 +35,14 @@ link_speaks apex q l = same l.0 q || covers apex l.0 l.1 q
 -- of the links of rising names that begin with the apex, exactly one speaks for each name at or below the apex
 abbrev pub OneLinkSpeaks : Type 0
 OneLinkSpeaks = (apex q : Name) (names : List Name) → IsTrue (rising (apex ∷ names)) → IsTrue (at_or_above apex q) → (l : Name × Name) × (filter (link_speaks apex q) (links apex (apex ∷ names)) ≡ l ∷ [])
+
+-- a link of hashes matches a hash, or covers it
+abbrev pub hash_link_speaks : List ℕ → List ℕ × List ℕ → Bool
+hash_link_speaks h l = bytes_eq l.0 h || hash_covers l.0 l.1 h
+
+-- of the links of ascending hashes, round a circle, exactly one speaks for each hash
+abbrev pub OneHashLinkSpeaks : Type 0
+OneHashLinkSpeaks = (first : List ℕ) (hashes : List (List ℕ)) (h : List ℕ) → IsTrue (ascending (first ∷ hashes)) → (l : List ℕ × List ℕ) × (filter (hash_link_speaks h) (links first (first ∷ hashes)) ≡ l ∷ [])
 
 -- ---- octets
 
@@ -93,3 +103,17 @@ pub record SpellsSet (ts : List ℕ) : Type 0 where
 -- lists of types are spelled alike exactly where they have the same types
 abbrev pub OneSpelling : Type 0
 OneSpelling = (ts us : List ℕ) → (bitmap ts ≡ bitmap us) ↔ ((t : ℕ) → t < 2 ^ 16 → list_any (nat_eq t) ts ≡ list_any (nat_eq t) us)
+
+-- ---- reading
+
+-- looking at one head after another finds a name exactly where a name of at most 255 octets stands
+abbrev pub ReadsExactly : Type 0
+ReadsExactly = (m : List ℕ) (p k : ℕ) (n : Name) → ((e : ℕ) × (name_at k m p ≡ Ok (n, e))) ↔ (Reads m p k n × (wire_len n ≤ 255))
+
+-- how many heads are looked at, and how many of them are pointers
+pub record IsShortReading {m : List ℕ} {p : ℕ} {n : Name} (r : Reads m p 255 n) : Type 0 where
+  pub pointers : pointers_of r ≤ 255
+  pub heads : heads_of r ≤ 383
+
+abbrev pub ReadingIsShort : Type 0
+ReadingIsShort = (m : List ℕ) (p : ℕ) (n : Name) (r : Reads m p 255 n) → wire_len n ≤ 255 → IsShortReading r

@@ -1,7 +1,7 @@
 //! Laws over the definitions. Each is the contract of a function that does nothing.
 ghost use Rattle.std.specs.Prelude.{ℕ, List};
 ghost use Rattle.definitions.specs.Name.{Name};
-ghost use Rattle.definitions.specs.Laws.{OrdersNames, IsInterval, OneLinkSpeaks, WireSpells, SignedOctetsSpell, OrderMeansNothing, SpellsSet, OneSpelling};
+ghost use Rattle.definitions.specs.Laws.{OrdersNames, IsInterval, OneLinkSpeaks, OneHashLinkSpeaks, WireSpells, SignedOctetsSpell, OrderMeansNothing, SpellsSet, OneSpelling, ReadsExactly, ReadingIsShort};
 
 /// Names have one canonical order up to ASCII case, and are equal in it exactly where they are the same up to
 /// case (RFC 4034, 6.1).
@@ -18,6 +18,12 @@ pub fn names_below_apex()
 /// (RFC 4034, 4).
 pub fn one_link_speaks()
     ensures { OneLinkSpeaks }
+{}
+
+/// Of a chain of hashes that ascends, exactly one link matches or covers each hash; the last leads back to the
+/// first (RFC 5155, 3.1.7).
+pub fn one_hash_link_speaks()
+    ensures { OneHashLinkSpeaks }
 {}
 
 /// The wire form of a name tells where it ends: no name's octets begin with those of another (RFC 1035, 3.1).
@@ -44,4 +50,15 @@ pub fn bitmap_spells_its_set()
 /// Lists of types have one bitmap exactly where they have the same types.
 pub fn equal_bitmaps_are_equal_sets()
     ensures { OneSpelling }
+{}
+
+/// A name is read, with at most so many pointers, exactly where a name of at most 255 octets stands
+/// (RFC 1035, 4.1.4).
+pub fn names_are_read_where_they_stand()
+    ensures { ReadsExactly }
+{}
+
+/// Reading a name of at most 255 octets through at most 255 pointers looks at no more than 383 heads.
+pub fn reading_a_name_is_short()
+    ensures { ReadingIsShort }
 {}

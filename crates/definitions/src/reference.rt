@@ -13,6 +13,19 @@ mod tests;
 pub mod verdict;
 pub mod zone;
 
+/// Numbers of types (RFC 1035, 3.2.2; RFC 4034; RFC 5155, 4).
+const NS: u16 = 2;
+
+const DS: u16 = 43;
+
+const RRSIG: u16 = 46;
+
+const NSEC: u16 = 47;
+
+const DNSKEY: u16 = 48;
+
+const NSEC3PARAM: u16 = 51;
+
 /// The octets of a label, or of a record's data. A contract sees them as a list.
 #[derive(Debug, Drop)]
 pub struct Octets {

@@ -1,6 +1,6 @@
 //! Small zones, messages and records that were worked by hand.
 use crate::reference::Octets;
-use crate::reference::bitmap::{bitmap_has, is_bitmap};
+use crate::reference::bitmap::{bitmap, bitmap_has, is_bitmap};
 use crate::reference::names::{at_or_above, covers, hash_covers, name_cmp, same};
 use crate::reference::reading::{ReadError, name_at};
 use crate::reference::verdict::PlainVerdict;
@@ -230,4 +230,12 @@ fn lists_the_types_of_chain_records(rt: HostRuntime) {
         let types = zone.nsec3_types(alloc, &owner).expect(&rt, "memory");
         assert_eq!(rt; types.as_slice(), nsec3, "{text}");
     }
+}
+
+#[test]
+fn spells_bitmaps(rt: HostRuntime) {
+    let spelled = bitmap(rt.alloc(), &[47, 15, 1234, 46, 1, 15]).expect(&rt, "memory");
+    assert_eq!(rt; spelled.as_slice(), BITMAP);
+    let spelled = bitmap(rt.alloc(), &[]).expect(&rt, "memory");
+    assert!(rt; spelled.is_empty());
 }

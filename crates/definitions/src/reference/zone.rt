@@ -7,8 +7,8 @@ ghost use Rattle.std.specs.Cmp.Lexicographic.{slice_cmp};
 ghost use Rattle.definitions.specs.Name.{labels_eq, at_or_above};
 ghost use Rattle.definitions.specs.Zone.{has, is_delegation, cut, cut_above, is_live, is_kept, kept_owners, kept, exists, ce, kept_cut_above};
 
-use crate::reference::Octets;
 use crate::reference::names::{at_or_above, labels_eq, strictly_above};
+use crate::reference::{DS, NS, Octets};
 use std::marker::Model;
 
 /// A record of a zone. A contract sees owner, type and data.
@@ -116,7 +116,7 @@ impl PlainZone {
     pub(super) fn is_delegation(&self, name: &[Octets]) -> bool
         ensures { result ≡ is_delegation self.now name.now }
     {
-        self.has(name, 2) && strictly_above(self.apex(), name)
+        self.has(name, NS) && strictly_above(self.apex(), name)
     }
 
     /// The topmost delegation at or above a name.
@@ -155,7 +155,7 @@ impl PlainZone {
     fn is_kept(&self, opt_out: bool, name: &[Octets]) -> bool
         ensures { result ≡ is_kept self.now opt_out name.now }
     {
-        let left_out = opt_out && self.is_delegation(name) && !self.has(name, 43);
+        let left_out = opt_out && self.is_delegation(name) && !self.has(name, DS);
         self.is_live(name) && !left_out
     }
 
