@@ -8,6 +8,7 @@ mod from_text;
 pub mod laws;
 pub mod name;
 mod name_order;
+mod parts;
 pub mod push_error;
 pub mod relative;
 mod relative_order;

@@ -2,7 +2,7 @@
 
 ghost use Rattle.std.specs.Prelude.{◌≡◌, ◌↔◌, ◌+◌, ◌++◌, ◌∷◌, [], ℕ, List, length, slice_index_or, IfOk, IfErr, IsOk, IsTrue};
 ghost use Rattle.definitions.specs.Name.{IsName, wire};
-ghost use Rattle.names_labels.specs.Flat.{IsRun, IsFlat, labels_in, name_in, SpellsName};
+ghost use Rattle.names_labels.specs.Flat.{spelled, IsRun, IsFlat, labels_in, name_in, SpellsName};
 ghost use Rattle.names_labels.specs.Refused.{RefusedName};
 ghost use Rattle.names_wire.specs.Label.{octets_of};
 
@@ -78,6 +78,17 @@ impl<Octs: Octets> Name<Octs> {
         ensures name { IsName self.now }
     {
         self.octets.as_slice()
+    }
+
+    /// The labels in a row without the root's.
+    pub(crate) fn relative_run(&self) -> &[u8]
+        ensures run { IsRun result.now }
+        ensures labels { labels_in result.now ≡ self.now }
+        ensures value { result.now ≡ spelled self.now }
+        ensures name { IsName self.now }
+    {
+        let octets = self.as_slice();
+        &octets[..octets.len() - 1]
     }
 
     pub fn as_octets(&self) -> &Octs
