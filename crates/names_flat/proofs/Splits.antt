@@ -1,15 +1,17 @@
 -- Parts of names.
 use Rattle.std.specs.Prelude.{slice_range}
-use Rattle.std.proofs.Common.{◌≡◌, ℕ, zero, suc, ◌+◌, ◌-◌, ◌<◌, ◌≤◌, Bool, true, false, List, [], ◌∷◌, ◌++◌, length, take, drop, refl, sym, ap, subst, ◌∙◌, append_assoc, length-append, arith, leb}
+use Rattle.std.proofs.Common.{◌≡◌, ℕ, zero, suc, ◌+◌, ◌-◌, ◌<◌, ◌≤◌, Bool, true, false, List, [], ◌∷◌, ◌++◌, length, take, drop, refl, sym, ap, subst, ◌∙◌, append_assoc, length-append, arith, leb, cond, nat_lt}
 use Rattle.std.specs.List.{AllByRecursion}
-use Rattle.std.proofs.lemmas.List.{take_at, drop_at, take-append-drop, take-append-le, drop-append-le, length-take-le, drop-drop, drop-take, append-nil}
-use Rattle.std.proofs.lemmas.Bool.{leb-true, leb-false}
-use Rattle.definitions.specs.Name.{Name, Label, wire, wire_len, IsLabel, IsName}
+use Rattle.std.proofs.lemmas.List.{take_at, drop_at, take-append-drop, take-append-le, drop-append-le, length-take-le, drop-drop, drop-take, append-nil, map-append, length-map}
+use Rattle.std.proofs.lemmas.Bool.{leb-true, leb-false, lt-ltb}
+use Rattle.std.specs.Str.{str_to_ascii_lowercase}
+use Rattle.std.specs.Char.{to_ascii_lowercase}
+use Rattle.definitions.specs.Name.{Name, Label, low, wire, wire_len, IsLabel, IsName}
 use Rattle.names_labels.specs.Flat.{spelled, labels_in, name_in, IsRun, IsFlat, IsFlatRelative, SplitsLabel, SpellsName, SpellsRelative, StartsLabel}
 use Rattle.names_labels.proofs.Runs.{spelled-append, labels_in-spelled, name_in-wire, wire-spelled}
 use Rattle.names_labels.proofs.Checks.{spells_flat, length-spelled_sum}
 use Rattle.names_labels.proofs.Relatives.{spells_relative, all_short}
-use Rattle.names_labels.proofs.Wholes.{wire_len-append}
+use Rattle.names_labels.proofs.Wholes.{wire_len-append, wire_len-cons}
 use Rattle.names_labels.proofs.Cuts.{starts_rise}
 
 -- the labels of a name in a row
@@ -173,3 +175,35 @@ only_root_label n run rest l e h s none = go n h (sym e ∙ s.first)
     go : (n : Name) → IsName n → n ++ [] ∷ [] ≡ l ∷ labels_in rest → n ≡ []
     go [] i x = refl
     go (k ∷ m) i x = let y : k ≡ l = cc in absurd (omega (arith, i.labels.0.some, ap length (y ∙ none)))
+
+-- ---- lower case
+
+one_lower : (k : ℕ) → k ≤ 63 → to_ascii_lowercase k ≡ k
+one_lower k h = ap (λ b. cond b k (cond (nat_lt k 91) (k + 32) k)) (lt-ltb k 65 (omega (arith, h)))
+
+-- a length octet is no letter
+pub lower-spelled : (n : Name) → AllByRecursion IsLabel n → str_to_ascii_lowercase (spelled n) ≡ spelled (low n)
+lower-spelled [] a = refl
+lower-spelled (l ∷ n) a =
+    (λ i. one_lower (length l) a.0.short i ∷ map-append to_ascii_lowercase l (spelled n) i)
+    ∙ (λ i. sym (length-map l to_ascii_lowercase) i ∷ (str_to_ascii_lowercase l ++ lower-spelled n a.1 i))
+
+lower_labels : (n : Name) → AllByRecursion IsLabel n → AllByRecursion IsLabel (low n)
+lower_labels [] a = tt
+lower_labels (l ∷ n) a = (record { some = omega (arith, a.0.some, length-map l to_ascii_lowercase); short = omega (arith, a.0.short, length-map l to_ascii_lowercase) }, lower_labels n a.1)
+
+lower_len : (n : Name) → wire_len (low n) ≡ wire_len n
+lower_len [] = refl
+lower_len (l ∷ n) = omega (arith, wire_len-cons l n, wire_len-cons (str_to_ascii_lowercase l) (low n), lower_len n, length-map l to_ascii_lowercase)
+
+lower_name : (n : Name) → IsName n → IsName (low n)
+lower_name n h = record { labels = lower_labels n h.labels; short = omega (arith, h.short, lower_len n) }
+
+pub lower_spells_relative : (bs : List ℕ) (n : Name) → SpellsRelative bs n → SpellsRelative (str_to_ascii_lowercase bs) (low n)
+lower_spells_relative bs n s = record { octets = sym (lower-spelled n s.name.labels) ∙ ap str_to_ascii_lowercase s.octets; name = lower_name n s.name }
+
+pub lower_spells : (bs : List ℕ) (n : Name) → SpellsName bs n → SpellsName (str_to_ascii_lowercase bs) (low n)
+lower_spells bs n s = record {
+  octets = ap (λ xs. xs ++ 0 ∷ []) (sym (lower-spelled n s.name.labels)) ∙ sym (map-append to_ascii_lowercase (spelled n) (0 ∷ [])) ∙ ap str_to_ascii_lowercase s.octets;
+  name = lower_name n s.name;
+}

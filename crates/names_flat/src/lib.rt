@@ -12,6 +12,8 @@ mod parts;
 pub mod push_error;
 pub mod relative;
 mod relative_order;
+mod reverse;
+pub mod suffixes;
 #[cfg(test)]
 mod tests;
 mod text;

@@ -1,15 +1,16 @@
 //! Absolute names over flat octets.
 
 ghost use Rattle.std.specs.Prelude.{◌≡◌, ◌↔◌, ◌+◌, ◌++◌, ◌∷◌, [], ℕ, List, length, slice_index_or, IfOk, IfErr, IsOk, IsTrue};
-ghost use Rattle.definitions.specs.Name.{IsName, wire};
-ghost use Rattle.names_labels.specs.Flat.{spelled, IsRun, IsFlat, labels_in, name_in, SpellsName};
+ghost use Rattle.definitions.specs.Name.{IsName, low, wire};
+ghost use Rattle.names_labels.specs.Flat.{StartsLabel, spelled, IsRun, IsFlat, labels_in, name_in, SpellsName};
 ghost use Rattle.names_labels.specs.Refused.{RefusedName};
 ghost use Rattle.names_wire.specs.Label.{octets_of};
 
 use names_labels::check::check_absolute;
 use names_labels::flat;
 use names_labels::name_error::NameError;
-use crate::builder::NameBuilder;
+use crate::builder::{BuiltOctets, NameBuilder};
+use crate::relative::RelativeName;
 use crate::to_name::{Absolute, ToName};
 use names_labels::traits::{Labels, ToLabelIter};
 use names_wire::builder::ShortBuf;
@@ -98,7 +99,8 @@ impl<Octs: Octets> Name<Octs> {
     }
 
     pub fn into_octets(self) -> Octs
-        ensures { Octs.bytes result ≡ wire self }
+        ensures octets { Octs.bytes result ≡ wire self }
+        ensures name { IsName self }
     {
         self.octets
     }
@@ -140,6 +142,26 @@ impl<Octs: Octets> Name<Octs> {
         ensures { IsTrue result ↔ (self.now ≡ []) }
     {
         self.as_slice().len() == 1
+    }
+}
+
+impl<Octs: BuiltOctets> Name<Octs> {
+    /// Lowers ASCII letters, as the canonical form has them (RFC 4034, 6.2).
+    pub fn make_canonical(&mut self)
+        ensures { self.new ≡ low self.old }
+    {
+        self.octets.as_mut_slice().make_ascii_lowercase();
+    }
+
+    /// The labels in front of a place at which a label begins (`is_label_start`).
+    pub fn truncate(self, len: usize) -> RelativeName<Octs>
+        requires { StartsLabel self len }
+        ensures parts { (rest : List (List ℕ)) × (result ++ rest ≡ self) }
+        ensures place { length (spelled result) ≡ len }
+    {
+        let mut octets = self.into_octets();
+        octets.truncate(len);
+        RelativeName::of_octets(octets)
     }
 }
 

@@ -1,4 +1,3 @@
-use Rattle.std.proofs.Common.{◌∙◌, length, take, ap}
 use Rattle.names_flat.proofs.Splits.{name_run, name_labels, without_root}
 use Rattle.names_flat.proofs.name.Name.relative_run.Goals as goal
 

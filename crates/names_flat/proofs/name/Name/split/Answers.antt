@@ -1,9 +1,8 @@
 use Rattle.std.proofs.Common.{◌≡◌, ◌∙◌, ◌++◌, ◌∷◌, [], ap, sym, subst, take, drop, length, arith}
-use Rattle.std.proofs.lemmas.List.{append-nil}
 use Rattle.names_labels.specs.Flat.{spelled, SpellsName, SpellsRelative}
 use Rattle.names_labels.proofs.Checks.{spells_flat}
 use Rattle.names_labels.proofs.Relatives.{spells_relative}
-use Rattle.names_flat.proofs.Splits.{place_in_wire, place_within, front_spells, back_spells, split_there, read_name, read_relative}
+use Rattle.names_flat.proofs.Splits.{place_in_wire, front_spells, back_spells, split_there, read_name, read_relative}
 use Rattle.names_flat.proofs.name.Name.split.Goals as goal
 
 pub split_at-requires : goal.split_at-requires

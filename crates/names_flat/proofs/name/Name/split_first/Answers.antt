@@ -1,4 +1,4 @@
-use Rattle.std.proofs.Common.{◌≡◌, ◌∙◌, ◌∷◌, ap, sym, [], true}
+use Rattle.std.proofs.Common.{◌∙◌, ◌∷◌, ap, sym}
 use Rattle.names_wire.specs.Label.{octets_of}
 use Rattle.names_labels.proofs.Checks.{spells_flat}
 use Rattle.names_wire.proofs.PartLabel.{not_both}

@@ -1,10 +1,9 @@
-use Rattle.std.proofs.Common.{◌≤◌, ◌≡◌, ◌∙◌, ◌++◌, ◌∷◌, [], sym, ap, subst, length, length-append, arith, take}
+use Rattle.std.proofs.Common.{◌≡◌, ◌∙◌, [], sym, ap, subst, length, arith}
 use Rattle.std.specs.Prelude.{slice_range}
 use Rattle.std.proofs.lemmas.List.{append-nil, length-take-le}
-use Rattle.definitions.specs.Name.{wire}
 use Rattle.names_labels.specs.Flat.{spelled, SpellsRelative}
 use Rattle.names_labels.proofs.Relatives.{spells_relative}
-use Rattle.names_flat.proofs.Splits.{part_spells, place_in_wire, place_within, read_relative}
+use Rattle.names_flat.proofs.Splits.{part_spells, place_within, read_relative}
 use Rattle.names_flat.proofs.relative.RelativeName.range.Goals as goal
 
 pub split_at-requires : goal.split_at-requires
