@@ -3,7 +3,7 @@
 #![tactic(auto)]
 
 pub mod builder;
-mod display;
+pub mod display;
 mod from_text;
 pub mod laws;
 pub mod name;

@@ -17,6 +17,7 @@ use names_wire::builder::ShortBuf;
 use names_wire::label::Label;
 use names_wire::octets::Octets;
 use std::alloc::Global;
+use std::borrow::CowSlice;
 use std::marker::Model;
 
 /// An absolute domain name: labels in a row of octets, each behind its length, and the root's octet
@@ -193,6 +194,15 @@ impl Name<&'static [u8]> {
 }
 
 impl Name<Vec<u8>> {
+    /// The same name over octets that may be borrowed or owned.
+    pub(crate) fn into_cow(self) -> Name<CowSlice<'static, u8>>
+        ensures { result ≡ self }
+    {
+        Name {
+            octets: CowSlice::Owned(self.octets),
+        }
+    }
+
     /// The root with octets of its own. It is refused for want of memory alone.
     pub fn root_vec(alloc: Global) -> Result<Self, ShortBuf>
         ensures { IfOk result (λ n. n ≡ []) }

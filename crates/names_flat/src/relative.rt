@@ -18,6 +18,7 @@ use names_wire::builder::ShortBuf;
 use names_wire::label::Label;
 use names_wire::octets::Octets;
 use std::alloc::Global;
+use std::borrow::CowSlice;
 use std::marker::Model;
 
 /// A relative domain name: labels in a row of octets, each behind its length, and no root's octet.
@@ -179,6 +180,15 @@ impl<Octs: BuiltOctets> RelativeName<Octs> {
 }
 
 impl RelativeName<Vec<u8>> {
+    /// The same name over octets that may be borrowed or owned.
+    pub(crate) fn into_cow(self) -> RelativeName<CowSlice<'static, u8>>
+        ensures { result ≡ self }
+    {
+        RelativeName {
+            octets: CowSlice::Owned(self.octets),
+        }
+    }
+
     /// The name with no labels, with octets of its own. It takes no memory yet.
     pub fn empty_vec(alloc: Global) -> Self
         ensures { result ≡ [] }

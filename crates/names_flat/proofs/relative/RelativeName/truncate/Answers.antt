@@ -1,6 +1,6 @@
-use Rattle.std.proofs.Common.{◌≡◌, ◌∙◌, ◌++◌, [], List, ℕ, length, take, ap, sym, subst}
+use Rattle.std.proofs.Common.{◌∙◌, ◌++◌, [], List, ℕ, length, take, ap, sym, subst}
 use Rattle.std.proofs.lemmas.List.{append-nil}
-use Rattle.names_labels.specs.Flat.{spelled, labels_in, IsFlatRelative, SpellsRelative, StartsLabel}
+use Rattle.names_labels.specs.Flat.{spelled, labels_in, SpellsRelative, StartsLabel}
 use Rattle.names_labels.proofs.Relatives.{spells_relative}
 use Rattle.names_flat.proofs.Splits.{front_spells, split_there, read_relative}
 use Rattle.names_flat.proofs.relative.RelativeName.truncate.Goals as goal

@@ -1,4 +1,4 @@
-use Rattle.std.proofs.Common.{◌<◌, ◌∙◌, ◌∷◌, length, ap, sym}
+use Rattle.std.proofs.Common.{◌∙◌, ◌∷◌, ap, sym}
 use Rattle.names_wire.specs.Label.{octets_of}
 use Rattle.names_labels.proofs.Checks.{test_some}
 use Rattle.names_flat.specs.Suffixes.{names_left}
