@@ -83,14 +83,14 @@ take_past (x ∷ xs) (suc j) (suc k) e h = ap (λ ys. x ∷ ys) (take_past xs j 
 -- ---- where labels begin
 
 -- a later label begins at a later place
-starts_rise : (ls : Name) (j k : ℕ) → j < k → j < length ls → length (spelled (take j ls)) < length (spelled (take k ls))
+pub starts_rise : (ls : Name) (j k : ℕ) → j < k → j < length ls → length (spelled (take j ls)) < length (spelled (take k ls))
 starts_rise [] j k h a = absurd (omega arith)
 starts_rise (l ∷ ls) j zero h a = absurd (omega arith)
 starts_rise (l ∷ ls) zero (suc k) h a = omega arith
 starts_rise (l ∷ ls) (suc j) (suc k) h a =
     omega (arith, length-append l (spelled (take j ls)), length-append l (spelled (take k ls)), starts_rise ls j k (omega arith) (omega arith))
 
-starts_grow : (ls : Name) (j k : ℕ) → j ≤ k → length (spelled (take j ls)) ≤ length (spelled (take k ls))
+pub starts_grow : (ls : Name) (j k : ℕ) → j ≤ k → length (spelled (take j ls)) ≤ length (spelled (take k ls))
 starts_grow [] zero k h = omega arith
 starts_grow [] (suc j) k h = omega arith
 starts_grow (l ∷ ls) zero k h = omega arith
