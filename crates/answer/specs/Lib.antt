@@ -15,6 +15,7 @@ pub mod GroupView
 pub mod Record
 pub mod View
 pub mod Walk
+pub mod NameOctets
 pub mod Windows
 pub mod Written
 pub mod BoundView
