@@ -16,6 +16,7 @@ pub mod GroupView
 pub mod Record
 pub mod View
 pub mod Walk
+pub mod NameOctets
 pub mod Windows
 pub mod Written
 pub mod BoundView

@@ -2,3 +2,7 @@ pub mod InputLemmas
 pub mod LineLemmas
 pub mod NumberLemmas
 pub mod PrintLemmas
+pub mod FieldLemmas
+pub mod RecordLemmas
+pub mod NameLemmas
+pub mod SessionLemmas

@@ -1,27 +1,64 @@
 -- What a run writes.
-use Rattle.std.specs.Prelude.{◌≡◌, ℕ, ◌+◌, ◌≤◌, List, [], ◌∷◌, ◌++◌, length, codes, decimal}
-use Rattle.denialbench.specs.Lines.{lines_of}
+use Rattle.std.specs.Prelude.{◌≡◌, ◌⊎◌, ℕ, List, [], ◌∷◌, ◌++◌, map, codes, decimal, nat_eq, if◌then◌else◌, Some, None, Ok, Err}
+use Rattle.std.specs.List.{flat_map}
+use Rattle.std.specs.Str.{bytes_eq}
+use Rattle.sha2.specs.Sha256.{sha256}
+use Rattle.definitions.specs.Dnskey.{Dnskey, dnskey_data}
+use Rattle.definitions.specs.ZoneChain.{Nsec}
+use Rattle.answer.specs.Accepting.{HandedRr, IsAccepted, IsFault, sorted_records}
+use Rattle.answer.specs.Simulating.{World, Sofar, world, begin, Simulates}
+use Rattle.answer.specs.declared.event.Event.{Event}
+use Rattle.answer.specs.declared.event.Outcome.{Outcome}
+use Rattle.answer.specs.declared.publisher.fault.ZoneFault.{ZoneFault}
+use Rattle.denialbench.specs.Grammar.{ZoneLine, EventLine}
+use Rattle.denialbench.specs.Names.{zone_fault_name}
+use Rattle.denialbench.specs.Printed.{outcome_text}
+use Rattle.denialbench.specs.Readings.{event_view}
+use Rattle.denialbench.specs.Sessions.{Session, session_of}
 use Rattle.denialbench.specs.declared.session.SessionError.{SessionError}
 use Rattle.denialbench.specs.declared.session.SessionError.TheVariants.{Line, Memory}
 use Rattle.denialbench.specs.declared.status.Status.{Status}
 use Rattle.denialbench.specs.declared.status.Status.TheVariants.{Done, BadLine, Fault}
 
--- a line of the input, or the one behind its last
-pub record IsLineNumber (input : List ℕ) (n : ℕ) : Type 0 where
-  pub first : 1 ≤ n
-  pub behind_last : n ≤ length (lines_of input) + 1
-
--- a line that cannot be read is one of the input's, or the one behind them
+-- the first line that can't be read, counted from 1 on, or want of memory
 abbrev pub IsSessionError : List ℕ → SessionError → Type 0
-IsSessionError input (Line n) = IsLineNumber input n
+IsSessionError input (Line n) = session_of input ≡ Err n
 IsSessionError input Memory = Unit {0}
 
 -- what is written about such a line
 abbrev pub refused_line : ℕ → List ℕ
 refused_line n = codes "line " ++ decimal n ++ (codes ": cannot be read" ++ 10 ∷ [])
 
--- where a line cannot be read, that line alone is written
+-- a stand-in for a signature: SHA-256 of the key's data and the octets
+abbrev pub stand_in : Dnskey → List ℕ → List ℕ
+stand_in k octets = sha256 (dnskey_data k ++ octets)
+
+-- a zone as the bench serves it: it signs with stand-ins, digests by type 2 alone, and hashes no name
+abbrev pub bench : ZoneLine → List HandedRr → World
+bench zone records = world (record { apex = zone.apex; mode = Nsec; limit = zone.limit; records = sorted_records records }) zone.life
+    (λ k octets. Some (stand_in k octets)) (λ k octets s. bytes_eq (stand_in k octets) s) (λ t octets. if nat_eq t 2 then Some (sha256 octets) else None) (λ _ _ _ _. None)
+
+-- the zone is accepted, and of each event the outcome is printed in a line
+pub record PrintsOutcomes (zone : ZoneLine) (records : List HandedRr) (events : List EventLine) (text : List ℕ) : Type 0 where
+  pub acted : List Event
+  pub acts_are : map event_view acted ≡ events
+  pub accepted : IsAccepted zone.apex Nsec zone.limit records
+  pub outcomes : List Outcome
+  pub last : Sofar
+  pub simulates : Simulates (bench zone records) (begin zone.apex) acted outcomes last
+  pub printed : text ≡ flat_map (λ o. outcome_text o ++ 10 ∷ []) outcomes
+
+-- the zone is refused, which is all that is printed
+pub record PrintsFault (zone : ZoneLine) (records : List HandedRr) (text : List ℕ) : Type 0 where
+  pub fault : ZoneFault
+  pub is_fault : IsFault zone.apex Nsec zone.limit records fault
+  pub printed : text ≡ codes "refused " ++ zone_fault_name fault ++ 10 ∷ []
+
+abbrev pub PrintsSession : ZoneLine → List HandedRr → List EventLine → List ℕ → Type 0
+PrintsSession zone records events text = PrintsOutcomes zone records events text ⊎ PrintsFault zone records text
+
+-- Where each line can be read, what comes of the session is written; otherwise the number of the first that can't.
 abbrev pub Responds : List ℕ → Status → List ℕ → Type 0
-Responds input Done text = Unit {0}
-Responds input BadLine text = (n : ℕ) × IsLineNumber input n × (text ≡ refused_line n)
+Responds input Done text = (s : Session) × (session_of input ≡ Ok s) × PrintsSession s.zone s.records s.events text
+Responds input BadLine text = (n : ℕ) × (session_of input ≡ Err n) × (text ≡ refused_line n)
 Responds input Fault text = ⊥

@@ -1,28 +1,40 @@
 //! Names, references and octets as fields of a line. The field `-` stands for nothing.
-ghost use Rattle.std.specs.Prelude.{◌≡◌, ◌≤◌, ◌↔◌, length, IfOk, IsErrOf, Some, None, true, false, string_bytes};
+ghost use Rattle.std.specs.Prelude.{◌≡◌, ◌≤◌, ◌↔◌, length, map, IfOk, IsErrOf, Some, None, true, false, string_bytes, if◌then◌else◌};
+ghost use Rattle.std.specs.List.{list_all};
+ghost use Rattle.answer.specs.NameOctets.{name_of_octets};
 ghost use Rattle.denialbench.specs.Fields.{base64_field, hex_field, key_field, is_reference};
+ghost use Rattle.denialbench.specs.Grammar.{name_field, references_field};
+ghost use Rattle.denialbench.specs.Readings.{Reads, texts};
 
 use crate::line_error::LineError;
-use answer::names::{FromStrError, Name, NameError};
+use answer::message::laws::names_read_back;
+use answer::names::{Name, NameError};
 use base64::DecodeAllocError;
 use base64::engine::general_purpose::STANDARD;
 use hex::FromHexError;
+use names_flat::name::Name as FlatName;
+use names_flat::text_error::FromStrError;
 use std::alloc::Global;
 
 /// The most octets of a DNSKEY record's key: its data are at most 65,535 (RFC 4034, 2.1).
 const MAX_KEY: usize = 65_531;
 
-/// A name as text.
-pub fn name(alloc: Global, field: &str) -> Result<Name, LineError> {
-    match Name::vec_from_str(alloc, field) {
-        Ok(name) => Ok(name),
+/// A name as text (RFC 1035, 5.1).
+pub fn name(alloc: Global, field: &str) -> Result<Name, LineError>
+    ensures { Reads (λ n. n) result (name_field field.now) }
+{
+    names_read_back();
+    match FlatName::vec_from_str(alloc, field) {
+        Ok(name) => wire_name(alloc, name.as_slice()),
         Err(FromStrError::ShortBuf) => Err(LineError::Memory),
-        Err(_) => Err(LineError::Unreadable),
+        Err(FromStrError::Presentation(_)) => Err(LineError::Unreadable),
     }
 }
 
 /// A name as wire octets, uncompressed.
-pub fn wire_name(alloc: Global, octets: &[u8]) -> Result<Name, LineError> {
+pub fn wire_name(alloc: Global, octets: &[u8]) -> Result<Name, LineError>
+    ensures { Reads (λ n. n) result (name_of_octets octets.now) }
+{
     match Name::from_octets(alloc, octets) {
         Ok(name) => Ok(name),
         Err(NameError::Memory) => Err(LineError::Memory),
@@ -42,12 +54,22 @@ pub fn reference(alloc: Global, field: &str) -> Result<String, LineError>
 }
 
 /// References joined by commas; `-` for none.
-pub fn references(alloc: Global, field: &str) -> Result<Vec<String>, LineError> {
-    let mut references = Vec::new(alloc);
+pub fn references(alloc: Global, field: &str) -> Result<Vec<String>, LineError>
+    ensures { Reads (λ v. map string_bytes v.items) result (references_field field.now) }
+{
     if field == "-" {
-        return Ok(references);
+        return Ok(Vec::new(alloc));
     }
-    for part in field.split(',') {
+    let parts: Vec<&str> = field.split(',').collect(alloc)?;
+    each_reference(alloc, &parts)
+}
+
+/// References one by one.
+fn each_reference(alloc: Global, parts: &[&str]) -> Result<Vec<String>, LineError>
+    ensures { Reads (λ v. map string_bytes v.items) result (if list_all is_reference (texts parts.now) then Some (texts parts.now) else None) }
+{
+    let mut references = Vec::new(alloc);
+    for part in parts {
         references.push(reference(alloc, part)?)?;
     }
     Ok(references)

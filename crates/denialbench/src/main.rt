@@ -16,6 +16,7 @@ mod run;
 mod scheme;
 mod session;
 mod status;
+mod zone;
 mod zone_lines;
 
 use std::io;

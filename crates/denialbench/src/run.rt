@@ -1,7 +1,12 @@
 //! A run of the bench: from what a reader gives to what a writer takes.
-ghost use Rattle.std.specs.Prelude.{◌≡◌, ◌≢◌, ℕ, List, OnOk, IfOk, IfSome, string_bytes};
+ghost use Rattle.std.specs.Prelude.{◌≡◌, ◌≢◌, ℕ, List, [], ◌∷◌, ◌++◌, map, codes, OnOk, IfOk, IfSome, string_bytes};
+ghost use Rattle.std.specs.List.{flat_map};
 ghost use Rattle.std.specs.Io.KnownBytes.{Appends};
-ghost use Rattle.denialbench.specs.Responses.{Responds, refused_line};
+ghost use Rattle.answer.specs.ZoneView.{handed_of};
+ghost use Rattle.denialbench.specs.Names.{zone_fault_name};
+ghost use Rattle.denialbench.specs.Printed.{outcome_text};
+ghost use Rattle.denialbench.specs.Readings.{zone_view, event_view};
+ghost use Rattle.denialbench.specs.Responses.{Responds, PrintsSession, refused_line};
 
 use crate::input::read_all;
 use crate::named::Named;
@@ -9,6 +14,7 @@ use crate::print::push_outcomes;
 use crate::scheme::{BenchHasher, BenchScheme};
 use crate::session::{Session, SessionError, read_session};
 use crate::status::Status;
+use answer::event::Outcome;
 use answer::publisher::fault::ZoneFault;
 use answer::simulate::simulate;
 use std::alloc::{AllocError, Global};
@@ -72,13 +78,14 @@ fn refusal(alloc: Global, number: usize) -> Result<String, AllocError>
 }
 
 /// Lets a session happen, and prints a line for each event, or one for a zone that is refused.
-fn replay(alloc: Global, session: Session) -> Result<String, AllocError> {
+fn replay(alloc: Global, session: Session) -> Result<String, AllocError>
+    ensures { IfOk result (λ t. PrintsSession (zone_view session.zone) (map handed_of session.records.items) (map event_view session.events.items) (string_bytes t)) }
+{
     let Session {
         zone,
         records,
         events,
     } = session;
-    let mut text = String::new(alloc);
     match simulate(
         alloc,
         zone.apex,
@@ -90,14 +97,25 @@ fn replay(alloc: Global, session: Session) -> Result<String, AllocError> {
         zone.life,
         &events,
     ) {
-        Ok(outcomes) => push_outcomes(&mut text, &outcomes)?,
-        Err(ZoneFault::Memory) => return Err(AllocError),
-        Err(fault) => {
-            let name = fault.name();
-            write!(text, "refused {name}\n")?;
-        }
+        Ok(outcomes) => outcomes_text(alloc, &outcomes),
+        Err(ZoneFault::Memory) => Err(AllocError),
+        Err(fault) => fault_text(alloc, &fault),
     }
+}
+
+fn outcomes_text(alloc: Global, outcomes: &[Outcome]) -> Result<String, AllocError>
+    ensures { IfOk result (λ t. string_bytes t ≡ flat_map (λ o. outcome_text o ++ 10 ∷ []) outcomes.now) }
+{
+    let mut text = String::new(alloc);
+    push_outcomes(&mut text, outcomes)?;
     Ok(text)
+}
+
+fn fault_text(alloc: Global, fault: &ZoneFault) -> Result<String, AllocError>
+    ensures { IfOk result (λ t. string_bytes t ≡ codes "refused " ++ zone_fault_name fault.now ++ 10 ∷ []) }
+{
+    let name = fault.name();
+    format!(in alloc; "refused {name}\n")
 }
 
 #[cfg(test)]

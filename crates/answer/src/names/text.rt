@@ -1,5 +1,6 @@
 //! Names as text (RFC 1035, 5.1) and as octets (RFC 1035, 3.1).
-ghost use Rattle.std.specs.Prelude.{◌≡◌, ◌<◌, ◌≤◌, ◌+◌, IfOk, length};
+ghost use Rattle.std.specs.Prelude.{◌≡◌, ◌<◌, ◌≤◌, ◌+◌, IfOk, IfErr, Some, length};
+ghost use Rattle.answer.specs.NameOctets.{name_of_octets, RefusesOctets};
 
 use crate::message::MessageError;
 use crate::names::{Name, ParsedName};
@@ -47,7 +48,10 @@ impl<T: Drop> From<AllocFailed<T>> for FromStrError {
 
 impl Name {
     /// The name that octets spell, all of them, without pointers (RFC 1035, 3.1).
-    pub fn from_octets(alloc: Global, octets: &[u8]) -> Result<Name, NameError> {
+    pub fn from_octets(alloc: Global, octets: &[u8]) -> Result<Name, NameError>
+        ensures ok { IfOk result (λ n. name_of_octets octets.now ≡ Some n) }
+        ensures err { IfErr result (RefusesOctets octets.now) }
+    {
         match ParsedName::parse(octets, 0) {
             Err(MessageError::ShortInput) => Err(NameError::ShortInput),
             Err(_) => Err(NameError::Malformed),

@@ -1,4 +1,6 @@
 //! Readers and writers over memory, which may fail.
+ghost use Rattle.std.specs.Prelude.{◌≡◌};
+
 use std::io;
 use std::io::{ErrorKind, Read, Write};
 
@@ -13,7 +15,12 @@ pub struct Source<'a> {
 
 impl<'a> Source<'a> {
     /// Calls are counted from 1 on: none fails.
-    pub fn new(rest: &'a [u8], step: usize) -> Self {
+    pub fn new(rest: &'a [u8], step: usize) -> Self
+        ensures rest { result.rest.now ≡ rest.now }
+        ensures step { result.step ≡ step }
+        ensures calls { result.calls ≡ 0 }
+        ensures failing_call { result.failing_call ≡ 0 }
+    {
         Source {
             rest,
             step,

@@ -1,0 +1,17 @@
+//! What a session's zone is published with.
+ghost use Rattle.std.specs.Prelude.{◌≤◌};
+
+use answer::names::Name;
+use answer::publisher::fault::Mode;
+
+/// What a zone is published with.
+#[derive(Debug, Drop)]
+pub struct Zone {
+    pub apex: Name,
+    pub mode: Mode,
+    /// How many iterations of a name's hash a publisher and a judge allow (RFC 5155, 10.3).
+    pub limit: u16,
+    /// How many seconds a signature lives.
+    pub life: u32,
+    ghost comparable: { life ≤ 2147483647 },
+}
