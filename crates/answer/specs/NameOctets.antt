@@ -1,8 +1,8 @@
 -- Names as octets of their own.
-use Rattle.std.specs.Prelude.{◌≡◌, ◌⊎◌, ℕ, List, length, Option, Some, None, Ok, Err, nat_eq}
+use Rattle.std.specs.Prelude.{◌≡◌, ◌⊎◌, ℕ, List, length, Option, None, Ok, Err, nat_eq}
 use Rattle.definitions.specs.Name.{Name}
-use Rattle.answer.specs.declared.names.text.NameError.{NameError}
-use Rattle.answer.specs.declared.names.text.NameError.TheVariants.{Memory}
+use Rattle.answer.specs.declared.names.wire.NameError.{NameError}
+use Rattle.answer.specs.declared.names.wire.NameError.TheVariants.{Memory}
 use Rattle.answer.specs.Message.{owner_at, if_true}
 
 -- the name that octets spell, all of them, without pointers (RFC 1035, 3.1)

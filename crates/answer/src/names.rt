@@ -16,10 +16,10 @@ use std::marker::Model;
 pub mod parsed;
 mod shared;
 mod stars;
-mod text;
+mod wire;
 
 pub use parsed::ParsedName;
-pub use text::{FromStrError, NameError};
+pub use wire::NameError;
 
 /// Octets that are read as one slice.
 pub trait Octets {
