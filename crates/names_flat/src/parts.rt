@@ -139,7 +139,7 @@ impl<Octs: Octets> RelativeName<Octs> {
         ensures value { IfSome result (λ p. p ≡ drop 1 self.now) }
         ensures empty { IsNone result ↔ (self.now ≡ []) }
     {
-        let (_, parent) = self.split_first()?;
-        Some(parent)
+        let (_, behind) = self.split_first()?;
+        Some(behind)
     }
 }
