@@ -4,6 +4,7 @@
 
 pub mod builder;
 pub mod display;
+pub mod flatten;
 mod from_text;
 pub mod laws;
 pub mod name;
@@ -15,6 +16,7 @@ pub mod push_error;
 pub mod relative;
 mod relative_order;
 mod reverse;
+pub mod strip;
 pub mod suffixes;
 #[cfg(test)]
 mod tests;
