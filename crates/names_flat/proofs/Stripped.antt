@@ -1,10 +1,10 @@
 -- A name without a suffix.
-use Rattle.std.proofs.Common.{◌≡◌, ℕ, zero, suc, ◌+◌, ◌-◌, ◌<◌, ◌≤◌, Bool, true, false, ◌&&◌, ◌||◌, List, [], ◌∷◌, ◌++◌, length, take, refl, sym, ap, subst, ◌∙◌, length-append, arith}
+use Rattle.std.proofs.Common.{◌≡◌, ℕ, ◌-◌, ◌≤◌, Bool, true, false, ◌&&◌, ◌||◌, [], ◌∷◌, ◌++◌, length, take, refl, sym, ap, ◌∙◌, length-append, arith}
 use Rattle.std.specs.Str.{bytes_eq, str_to_ascii_lowercase}
 use Rattle.std.specs.Char.{to_ascii_lowercase}
 use Rattle.std.proofs.lemmas.Slice.Eq.{bytes_eq-Decides}
 use Rattle.std.proofs.lemmas.List.{take_at, length-map}
-use Rattle.definitions.specs.Name.{Name, Label, same, at_or_above, wire}
+use Rattle.definitions.specs.Name.{Name, same, at_or_above, wire}
 use Rattle.names_labels.specs.Flat.{spelled, StartsLabel}
 use Rattle.names_labels.proofs.Runs.{spelled-append, wire-spelled}
 use Rattle.names_flat.proofs.Rooted.{same-rooted}

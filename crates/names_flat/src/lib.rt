@@ -27,7 +27,4 @@ mod text_tests;
 pub mod to_name;
 pub mod to_relative;
 
-pub use names_labels::iter;
-pub use names_labels::name_error;
-pub use names_labels::relative_error;
-pub use names_labels::traits;
+pub use names_labels::{iter, name_error, relative_error, traits};

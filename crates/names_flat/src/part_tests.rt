@@ -111,7 +111,16 @@ fn suffixes_are_stripped(rt: HostRuntime) {
     let example = RelativeName::from_slice(b"\x07example").expect(&rt, "a name");
     assert!(rt; part.strip_suffix(&www).is_err() && part.as_slice().len() == 12);
     assert!(rt; part.strip_suffix(&example).is_ok() && part.as_slice() == www.as_slice());
-    let flat = part.for_ref().flatten_into(rt.alloc()).expect(&rt, "memory");
+    let flat = part
+        .for_ref()
+        .flatten_into(rt.alloc())
+        .expect(&rt, "memory");
     assert!(rt; flat.as_slice() == part.as_slice());
-    assert!(rt; base.flatten_into(rt.alloc()).expect(&rt, "memory").as_slice().len() == 13);
+    assert!(rt;
+        base.flatten_into(rt.alloc())
+            .expect(&rt, "memory")
+            .as_slice()
+            .len()
+            == 13
+    );
 }

@@ -123,7 +123,10 @@ impl<Octs: Octets> RelativeName<Octs> {
         ensures place { length (spelled result.0) ≡ mid }
     {
         let (front, back) = self.as_slice().split_at(mid);
-        (RelativeName::of_octets(front), RelativeName::of_octets(back))
+        (
+            RelativeName::of_octets(front),
+            RelativeName::of_octets(back),
+        )
     }
 
     /// The first label and the name behind it; nothing for the empty name.

@@ -18,10 +18,7 @@ pub struct StripSuffixError;
 
 impl<Octs: BuiltOctets> Name<Octs> {
     /// The labels in front of a suffix, which is compared up to ASCII case.
-    pub fn strip_suffix<N: Absolute>(
-        self,
-        base: &N,
-    ) -> Result<RelativeName<Octs>, StripSuffixError>
+    pub fn strip_suffix<N: Absolute>(self, base: &N) -> Result<RelativeName<Octs>, StripSuffixError>
     where
         Octs: Drop,
         ensures ok { IfOk result (λ n. (suffix : Labels) × (n ++ suffix ≡ self) × (same (N.name base.now) suffix ≡ true)) }

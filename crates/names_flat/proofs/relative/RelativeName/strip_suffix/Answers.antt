@@ -1,4 +1,4 @@
-use Rattle.std.proofs.Common.{◌≡◌, ◌≤◌, ◌-◌, length, ap, sym, ◌∙◌, true, arith}
+use Rattle.std.proofs.Common.{◌≡◌, ◌-◌, length, ap, sym, ◌∙◌, true, arith}
 use Rattle.definitions.specs.Name.{at_or_above}
 use Rattle.names_labels.specs.Flat.{spelled}
 use Rattle.names_flat.proofs.Stripped.{strips, suffix_starts, suffix_within, stripped}
@@ -24,6 +24,9 @@ returns-clause-ok g c =
     let b = g.N.Labels.name c.args.base.now in
     let same = g.met.N.Relative.unrooted c.args.base.now in
     let above : at_or_above b c.args.self.now ≡ true = sym (c.ends_with.ensures ∙ ap (λ m. at_or_above m c.args.self.now) same) ∙ c.if-not-ends_with.false in
-    let p = c.truncate.ensures.parts in
-    (p.0, p.1, stripped b c.args.self.now (c.len.result - c.from.result) c.truncate.new.self p.0 (strips b c.args.self.now above)
-    (omega (arith, c.len.ensures, c.from.ensures, c.compose_len.ensures, ap (λ m. length (spelled m)) same)) p.1 c.truncate.ensures.place)
+    let p = c.truncate.ensures.parts in (
+      p.0,
+      p.1,
+      stripped b c.args.self.now (c.len.result - c.from.result) c.truncate.new.self p.0 (strips b c.args.self.now above)
+          (omega (arith, c.len.ensures, c.from.ensures, c.compose_len.ensures, ap (λ m. length (spelled m)) same)) p.1 c.truncate.ensures.place,
+    )
