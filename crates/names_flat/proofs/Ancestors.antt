@@ -1,8 +1,7 @@
 -- One name after another up to the root.
 use Rattle.std.proofs.Common.{◌≡◌, ℕ, ◌<◌, List, [], ◌∷◌, ◌++◌, length, refl, sym, ap, ◌∙◌, length-append, arith}
 use Rattle.definitions.specs.Name.{Name, Label, wire, IsName}
-use Rattle.names_labels.specs.Flat.{labels_in, name_in, spelled, IsFlat, IsRun, SplitsLabel, SpellsName}
-use Rattle.names_labels.proofs.Runs.{wire-spelled}
+use Rattle.names_labels.specs.Flat.{labels_in, name_in, spelled, SplitsLabel}
 use Rattle.names_labels.proofs.Checks.{spells_flat}
 use Rattle.names_flat.specs.Suffixes.{suffixes, names_left, IsLeft}
 use Rattle.names_flat.proofs.Rooted.{flat_labels}

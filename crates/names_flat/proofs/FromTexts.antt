@@ -1,14 +1,14 @@
 -- A builder that reads symbols.
-use Rattle.std.proofs.Common.{◌≡◌, ◌⊎◌, inl, inr, ℕ, suc, ◌+◌, ◌<◌, ◌≤◌, Bool, true, false, cond, not, ◌&&◌, List, [], ◌∷◌, ◌++◌, map, length, refl, sym, ap, ◌∙◌, append_assoc, arith, nat_lt, nat_le, length-append, subst, Option, Some, None}
+use Rattle.std.proofs.Common.{◌≡◌, inl, inr, ℕ, suc, ◌+◌, ◌<◌, ◌≤◌, Bool, true, false, cond, not, ◌&&◌, List, [], ◌∷◌, ◌++◌, map, length, refl, sym, ap, ◌∙◌, append_assoc, arith, nat_lt, nat_le, length-append, subst, Option, Some, None}
 use Rattle.std.specs.Option.{option_map}
-use Rattle.std.specs.Prelude.{sum_by, ◌↔◌, ◌≢◌, IsTrue, IfErr, Result, Ok, Err}
+use Rattle.std.specs.Prelude.{◌↔◌, ◌≢◌, IsTrue, IfErr, Result, Ok, Err}
 use Rattle.std.specs.Iterator.{Yields}
 use Rattle.std.proofs.lemmas.List.{append-nil}
 use Rattle.std.proofs.lemmas.Bool.{lt-leb, le-leb, lt-ltb, eqb-true}
 use Rattle.definitions.specs.Name.{Name, Label, wire_len}
-use Rattle.definitions.specs.Text.{Symbol, Plain, Quoted, Decimal, is_dot, is_bracket, is_symbol, octet, pieces, symbols_of}
+use Rattle.definitions.specs.Text.{Symbol, Plain, Quoted, Decimal, is_dot, is_bracket, is_symbol, octet, symbols_of}
 use Rattle.names_labels.specs.Flat.{spelled}
-use Rattle.names_labels.specs.Open.{binary_behind, some_before, open_labels, without_empty, if_open_short, read_behind}
+use Rattle.names_labels.specs.Open.{binary_behind, some_before, without_empty, if_open_short, read_behind}
 use Rattle.names_labels.proofs.Checks.{length-spelled_sum}
 use Rattle.names_labels.proofs.Taken.{taken, fits, taken_pieces}
 use Rattle.names_labels.proofs.Wholes.{some_taken, open_within, without_empty-append, wire_len-append}

@@ -2,9 +2,9 @@
 use Rattle.std.specs.Prelude.{slice_index_or}
 use Rattle.std.proofs.Common.{◌≡◌, ℕ, zero, suc, ◌+◌, ◌/◌, ◌%◌, ◌<◌, List, [], ◌∷◌, ◌++◌, length, take, map, refl, sym, ap, ◌∙◌, append_assoc, arith, add-one}
 use Rattle.std.specs.List.{flat_map}
-use Rattle.std.proofs.lemmas.List.{append-nil, take_all}
+use Rattle.std.proofs.lemmas.List.{append-nil}
 use Rattle.definitions.specs.Name.{Name, Label}
-use Rattle.names_flat.specs.Building.{Building, with_labels, labels_with}
+use Rattle.names_flat.specs.Building.{Building, with_labels}
 
 -- a builder in which no label is open
 abbrev pub ended_with : Name → Building

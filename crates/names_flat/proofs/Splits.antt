@@ -2,15 +2,14 @@
 use Rattle.std.specs.Prelude.{slice_range}
 use Rattle.std.proofs.Common.{◌≡◌, ℕ, zero, suc, ◌+◌, ◌-◌, ◌<◌, ◌≤◌, Bool, true, false, List, [], ◌∷◌, ◌++◌, length, take, drop, refl, sym, ap, subst, ◌∙◌, append_assoc, length-append, arith, leb, cond, nat_lt}
 use Rattle.std.specs.List.{AllByRecursion}
-use Rattle.std.proofs.lemmas.List.{take_at, drop_at, take-append-drop, take-append-le, drop-append-le, length-take-le, drop-drop, drop-take, append-nil, map-append, length-map}
+use Rattle.std.proofs.lemmas.List.{take_at, drop_at, take-append-drop, drop-take, map-append, length-map}
 use Rattle.std.proofs.lemmas.Bool.{leb-true, leb-false, lt-ltb}
 use Rattle.std.specs.Str.{str_to_ascii_lowercase}
 use Rattle.std.specs.Char.{to_ascii_lowercase}
 use Rattle.definitions.specs.Name.{Name, Label, low, wire, wire_len, IsLabel, IsName}
-use Rattle.names_labels.specs.Flat.{spelled, labels_in, name_in, IsRun, IsFlat, IsFlatRelative, SplitsLabel, SpellsName, SpellsRelative, StartsLabel}
+use Rattle.names_labels.specs.Flat.{spelled, labels_in, name_in, IsRun, SplitsLabel, SpellsName, SpellsRelative, StartsLabel}
 use Rattle.names_labels.proofs.Runs.{spelled-append, labels_in-spelled, name_in-wire, wire-spelled}
-use Rattle.names_labels.proofs.Checks.{spells_flat, length-spelled_sum}
-use Rattle.names_labels.proofs.Relatives.{spells_relative, all_short}
+use Rattle.names_labels.proofs.Relatives.{all_short}
 use Rattle.names_labels.proofs.Wholes.{wire_len-append, wire_len-cons}
 use Rattle.names_labels.proofs.Cuts.{starts_rise}
 

@@ -1,5 +1,5 @@
 -- Names of whole texts, as a builder reads them.
-use Rattle.std.proofs.Common.{◌≡◌, ◌≢◌, ◌⊎◌, inl, inr, ℕ, ◌<◌, Bool, true, false, cond, List, [], ◌∷◌, ◌++◌, map, length, refl, sym, ap, ◌∙◌, arith, nat_eq, subst, Option, Some, None}
+use Rattle.std.proofs.Common.{◌≡◌, ◌≢◌, inl, inr, ℕ, Bool, true, false, cond, List, [], ◌∷◌, ◌++◌, length, refl, sym, ap, ◌∙◌, arith, nat_eq, subst, Option, Some, None}
 use Rattle.std.specs.Option.{option_map, option_and_then}
 use Rattle.std.specs.Iterator.{Yields, Drains}
 use Rattle.std.proofs.lemmas.Bool.{eqb-true}
@@ -11,12 +11,11 @@ use Rattle.std.specs.Str.Iter.{chars_rest, chars_steps}
 use Rattle.std.specs.declared.str.Chars.{Chars}
 use Rattle.definitions.specs.Name.{Name, Label}
 use Rattle.definitions.specs.Text.{Symbol, Plain, is_dot, is_lone_dot, symbols_of, pieces, onto_first, labels_of_pieces, without_last_dot, if_short, name_of_symbols, name_of_text, relative_of_text}
-use Rattle.names_wire.specs.Symbols.{symbol_of}
 use Rattle.names_wire.specs.Spelled.{SpellsNothing}
 use Rattle.names_labels.specs.Open.{without_empty, if_open_short, read_behind}
 use Rattle.names_labels.proofs.Taken.{if_closed}
 use Rattle.names_labels.proofs.Wholes.{name_read, name_of_plain, relative_of_some, not_empty_read, closed_end, empty_end, some_behind, read_first}
-use Rattle.names_flat.specs.Building.{Building, all_labels, octets_of_building, open_octets}
+use Rattle.names_flat.specs.Building.{Building, all_labels, octets_of_building}
 use Rattle.names_flat.specs.FromText.{standing, continued, symbols_behind, text_behind}
 use Rattle.names_flat.proofs.FromTexts.{without_last}
 

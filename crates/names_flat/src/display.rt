@@ -5,9 +5,9 @@ ghost use Rattle.definitions.specs.Text.{text_of_name, text_of_relative, dotted_
 
 use crate::name::Name;
 use crate::relative::RelativeName;
+use crate::to_name::Absolute;
 use names_labels::traits::Labels;
 use names_wire::octets::Octets;
-use crate::to_name::Absolute;
 use std::fmt;
 use std::marker::Model;
 

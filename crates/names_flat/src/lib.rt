@@ -4,6 +4,7 @@
 
 pub mod builder;
 pub mod display;
+pub mod flatten;
 mod from_text;
 pub mod laws;
 pub mod name;
@@ -15,6 +16,7 @@ pub mod push_error;
 pub mod relative;
 mod relative_order;
 mod reverse;
+pub mod strip;
 pub mod suffixes;
 #[cfg(test)]
 mod tests;
@@ -25,7 +27,4 @@ mod text_tests;
 pub mod to_name;
 pub mod to_relative;
 
-pub use names_labels::iter;
-pub use names_labels::name_error;
-pub use names_labels::relative_error;
-pub use names_labels::traits;
+pub use names_labels::{iter, name_error, relative_error, traits};

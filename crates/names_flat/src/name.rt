@@ -6,12 +6,12 @@ ghost use Rattle.names_labels.specs.Flat.{StartsLabel, spelled, IsRun, IsFlat, l
 ghost use Rattle.names_labels.specs.Refused.{RefusedName};
 ghost use Rattle.names_wire.specs.Label.{octets_of};
 
-use names_labels::check::check_absolute;
-use names_labels::flat;
-use names_labels::name_error::NameError;
 use crate::builder::{BuiltOctets, NameBuilder};
 use crate::relative::RelativeName;
 use crate::to_name::{Absolute, ToName};
+use names_labels::check::check_absolute;
+use names_labels::flat;
+use names_labels::name_error::NameError;
 use names_labels::traits::{Labels, ToLabelIter};
 use names_wire::builder::ShortBuf;
 use names_wire::label::Label;

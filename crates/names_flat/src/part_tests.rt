@@ -1,7 +1,9 @@
 //! Rows of the parts of names.
 
+use crate::flatten::FlattenInto;
 use crate::name::Name;
 use crate::relative::RelativeName;
+use crate::strip::StripSuffixError;
 use names_labels::traits::ToLabelIter;
 
 #[test]
@@ -95,4 +97,30 @@ fn names_are_changed(rt: HostRuntime) {
     assert!(rt; star.as_slice() == RelativeName::wildcard_slice().as_slice());
     assert!(rt; RelativeName::empty_vec(rt.alloc()).as_slice().is_empty());
     assert!(rt; Name::root_vec(rt.alloc()).expect(&rt, "memory").is_root());
+}
+
+#[test]
+fn suffixes_are_stripped(rt: HostRuntime) {
+    let name = Name::vec_from_str(rt.alloc(), "www.Example.com").expect(&rt, "a name");
+    let base = Name::from_slice(b"\x07example\x03COM\x00").expect(&rt, "a name");
+    let www = name.strip_suffix(&base).expect(&rt, "a suffix");
+    assert!(rt; www.as_slice() == b"\x03www".as_slice());
+    let other = Name::vec_from_str(rt.alloc(), "www.org").expect(&rt, "a name");
+    assert!(rt; other.strip_suffix(&base).err() == Some(StripSuffixError));
+    let mut part = RelativeName::vec_from_str(rt.alloc(), "www.Example").expect(&rt, "a name");
+    let example = RelativeName::from_slice(b"\x07example").expect(&rt, "a name");
+    assert!(rt; part.strip_suffix(&www).is_err() && part.as_slice().len() == 12);
+    assert!(rt; part.strip_suffix(&example).is_ok() && part.as_slice() == www.as_slice());
+    let flat = part
+        .for_ref()
+        .flatten_into(rt.alloc())
+        .expect(&rt, "memory");
+    assert!(rt; flat.as_slice() == part.as_slice());
+    assert!(rt;
+        base.flatten_into(rt.alloc())
+            .expect(&rt, "memory")
+            .as_slice()
+            .len()
+            == 13
+    );
 }

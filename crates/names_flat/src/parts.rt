@@ -123,7 +123,10 @@ impl<Octs: Octets> RelativeName<Octs> {
         ensures place { length (spelled result.0) ≡ mid }
     {
         let (front, back) = self.as_slice().split_at(mid);
-        (RelativeName::of_octets(front), RelativeName::of_octets(back))
+        (
+            RelativeName::of_octets(front),
+            RelativeName::of_octets(back),
+        )
     }
 
     /// The first label and the name behind it; nothing for the empty name.
@@ -139,7 +142,7 @@ impl<Octs: Octets> RelativeName<Octs> {
         ensures value { IfSome result (λ p. p ≡ drop 1 self.now) }
         ensures empty { IsNone result ↔ (self.now ≡ []) }
     {
-        let (_, parent) = self.split_first()?;
-        Some(parent)
+        let (_, behind) = self.split_first()?;
+        Some(behind)
     }
 }

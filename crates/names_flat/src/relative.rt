@@ -6,13 +6,13 @@ ghost use Rattle.names_labels.specs.Flat.{StartsLabel, IsRun, IsFlatRelative, la
 ghost use Rattle.names_labels.specs.RefusedRelative.{RefusedRelative};
 ghost use Rattle.names_wire.specs.Label.{octets_of};
 
-use names_labels::check::check_relative;
-use names_labels::flat;
-use names_labels::relative_error::RelativeNameError;
 use crate::builder::{BuiltOctets, NameBuilder};
 use crate::name::Name;
 use crate::push_error::PushNameError;
 use crate::to_relative::{Relative, ToRelativeName};
+use names_labels::check::check_relative;
+use names_labels::flat;
+use names_labels::relative_error::RelativeNameError;
 use names_labels::traits::{Labels, ToLabelIter};
 use names_wire::builder::ShortBuf;
 use names_wire::label::Label;

@@ -17,7 +17,11 @@ impl<B: OctetsBuilder> NameBuilder<B> {
         ensures ok { OnOk result (self.new ≡ with_labels self.old (decimal_label value ∷ [])) }
         ensures err { OnErr result (self.new ≡ self.old) }
     {
-        let (hundreds, tens, units) = (b'0' + value / 100, b'0' + value / 10 % 10, b'0' + value % 10);
+        let (hundreds, tens, units) = (
+            b'0' + value / 100,
+            b'0' + value / 10 % 10,
+            b'0' + value % 10,
+        );
         match value {
             0..=9 => self.append_label(&[units]),
             10..=99 => self.append_label(&[tens, units]),

@@ -3,14 +3,14 @@
 use crate::builder::NameBuilder;
 use crate::laws;
 use crate::name::Name;
-use names_labels::name_error::NameError;
 use crate::push_error::{PushError, PushNameError};
 use crate::relative::RelativeName;
-use names_labels::relative_error::RelativeNameError;
 use crate::to_name::ToName;
 use crate::to_relative::ToRelativeName;
-use names_labels::traits::ToLabelIter;
 use arrayvec::ArrayVec;
+use names_labels::name_error::NameError;
+use names_labels::relative_error::RelativeNameError;
+use names_labels::traits::ToLabelIter;
 use names_wire::label::LabelTypeError;
 use std::cmp::Ordering;
 

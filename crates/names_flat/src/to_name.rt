@@ -64,12 +64,12 @@ pub trait ToName: Absolute {
     fn to_canonical_name(&self, alloc: Global) -> Result<Name<Vec<u8>>, ShortBuf>
         ensures { IfOk result (λ n. n ≡ low (Self.name self.now)) }
     {
-        match NameBuilder::new(alloc).append_origin(self) {
+        match self.to_vec(alloc) {
             Ok(mut name) => {
                 name.make_canonical();
                 Ok(name)
             }
-            Err(_) => Err(ShortBuf),
+            Err(error) => Err(error),
         }
     }
 

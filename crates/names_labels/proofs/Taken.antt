@@ -1,13 +1,11 @@
 -- Symbols taken one by one.
-use Rattle.std.proofs.Common.{◌≡◌, ◌⊎◌, inl, inr, ℕ, zero, suc, ◌+◌, ◌<◌, ◌≤◌, Bool, true, false, cond, ◌&&◌, ◌||◌, not, List, [], ◌∷◌, ◌++◌, map, length, refl, sym, ap, ◌∙◌, append_assoc, arith, nat_le, nat_lt, length-append, subst, Option, Some, None}
-use Rattle.std.specs.Prelude.{sum_by}
+use Rattle.std.proofs.Common.{◌≡◌, ◌⊎◌, inl, inr, ℕ, suc, ◌+◌, ◌<◌, ◌≤◌, Bool, true, false, cond, ◌&&◌, ◌||◌, not, List, [], ◌∷◌, ◌++◌, map, length, refl, sym, ap, ◌∙◌, append_assoc, arith, nat_le, nat_lt, length-append, Option, Some, None}
 use Rattle.std.specs.Option.{option_map, option_and_then}
 use Rattle.std.specs.List.{list_all, list_any}
 use Rattle.std.proofs.lemmas.List.{append-nil, length-map}
-use Rattle.std.proofs.lemmas.List.Sums.{sum_by-cons}
 use Rattle.std.proofs.lemmas.Bool.{leb-true, leb-false, lt-leb, le-leb, lt-ltb}
-use Rattle.definitions.specs.Text.{Symbol, is_symbol, is_dot, is_bracket, octet, begins_binary, is_label_text, label_of_symbols, labels_of_pieces, pieces, onto_first, without_last_dot}
-use Rattle.definitions.specs.Name.{Name, Label, wire_len}
+use Rattle.definitions.specs.Text.{Symbol, is_symbol, is_dot, octet, begins_binary, is_label_text, label_of_symbols, labels_of_pieces, pieces, onto_first, without_last_dot}
+use Rattle.definitions.specs.Name.{Name, Label}
 use Rattle.names_labels.specs.Open.{binary_behind, piece_behind, some_before, open_labels, without_empty}
 
 -- a symbol goes on behind an open label
@@ -250,7 +248,6 @@ no_labels pre s (p ∷ ps) h = ap (labels_then ps) (no_label pre s p h)
 -- a dot behind symbols of a label: the labels are that one and those behind
 at_dot : (a : Symbol) (pre : List Symbol) (ps : List (List Symbol)) → IsPart (a ∷ pre) → labels_of_pieces (onto_all (a ∷ pre) ([] ∷ ps)) ≡ option_map (λ ls. map octet (a ∷ pre) ∷ ls) (labels_of_pieces ps)
 at_dot a pre ps p = ap (labels_then ps) (ap label_of_symbols (append-nil (a ∷ pre)) ∙ part_label a pre p)
-
 
 abbrev pub if_closed : Name → Option Name
 if_closed [] = Some []

@@ -1,9 +1,7 @@
 -- What is read behind labels, and the name of a whole text.
-use Rattle.std.proofs.Common.{◌≡◌, ℕ, suc, ◌+◌, ◌-◌, ◌*◌, ◌<◌, ◌≤◌, ◌≢◌, Bool, true, false, cond, ◌&&◌, not, List, [], ◌∷◌, ◌++◌, map, length, refl, sym, ap, ◌∙◌, append_assoc, arith, nat_eq, nat_le, length-append, subst, Option, Some, None}
-use Rattle.std.specs.Prelude.{sum_by}
+use Rattle.std.proofs.Common.{◌≡◌, ℕ, ◌+◌, ◌-◌, ◌*◌, ◌<◌, ◌≤◌, Bool, true, false, cond, ◌&&◌, List, [], ◌∷◌, ◌++◌, length, refl, sym, ap, ◌∙◌, arith, nat_eq, nat_le, length-append, subst, Option, Some, None}
 use Rattle.std.specs.Option.{option_map, option_and_then}
 use Rattle.std.proofs.lemmas.List.Sums.{sum_by-cons}
-use Rattle.std.proofs.lemmas.Bool.{lt-leb, le-leb, eqb-true}
 use Rattle.definitions.specs.Name.{Name, Label, wire_len}
 use Rattle.definitions.specs.Text.{Symbol, Plain, Quoted, Decimal, is_dot, is_digit, is_printable, octet, octet_at, escape_at, symbol_at, symbols_behind, symbols_of, tail_len, pieces, labels_of_pieces, if_short, without_last_dot, is_lone_dot, name_of_symbols, name_of_text, relative_of_symbols, relative_of_text}
 use Rattle.names_labels.specs.Open.{some_before, open_labels, without_empty, if_open_short, read_behind}

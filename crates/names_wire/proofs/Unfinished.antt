@@ -1,5 +1,5 @@
 -- A symbol that isn't whole.
-use Rattle.std.proofs.Common.{◌≡◌, ℕ, zero, suc, ◌<◌, ◌≤◌, true, cond, [], ◌∷◌, length, take, refl, ap, arith, Option, List, Some, None}
+use Rattle.std.proofs.Common.{◌≡◌, ℕ, zero, suc, true, cond, [], ◌∷◌, refl, ap, arith, Option, List, Some, None}
 use Rattle.std.specs.Option.{option_map}
 use Rattle.definitions.specs.Text.{Symbol, Quoted, is_digit, is_printable, symbols_behind, tail_len, symbols_of}
 use Rattle.names_wire.specs.Symbols.{IsUnfinished}

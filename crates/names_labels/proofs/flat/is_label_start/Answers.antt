@@ -1,6 +1,5 @@
-use Rattle.std.proofs.Common.{◌≡◌, ◌+◌, ◌<◌, ◌≤◌, length, ap, false, refl, arith}
+use Rattle.std.proofs.Common.{◌+◌, length, ap, refl, arith}
 use Rattle.names_wire.specs.Label.{octets_of}
-use Rattle.names_labels.specs.Flat.{labels_in}
 use Rattle.names_labels.proofs.Cuts.{begun, seeks_more, not_reached, reached}
 use Rattle.names_labels.proofs.flat.is_label_start.Goals as goal
 

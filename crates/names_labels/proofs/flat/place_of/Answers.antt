@@ -1,4 +1,4 @@
-use Rattle.std.proofs.Common.{◌≡◌, ◌≤◌, length, inl, inr, arith}
+use Rattle.std.proofs.Common.{inl, inr, arith}
 use Rattle.names_wire.specs.Label.{octets_of}
 use Rattle.names_labels.proofs.Cuts.{begun, one_behind, place_end}
 use Rattle.names_labels.proofs.flat.place_of.Goals as goal

@@ -1,4 +1,4 @@
-use Rattle.std.proofs.Common.{◌≡◌, ◌+◌, length, take}
+use Rattle.std.proofs.Common.{take}
 use Rattle.std.specs.Fmt.{HasWritten, IsPlainFormatter}
 use Rattle.names_flat.proofs.Texts.{dotted}
 use Rattle.names_flat.proofs.display.DisplayWithDotDisplay.fmt.Given as goal

@@ -38,9 +38,9 @@ pub returns-in_err-append_text-clause-refused : goal.returns-in_err-append_text-
 returns-in_err-append_text-clause-refused g c =
     let p = err_from_is_err_and c.from_residual-in_err-append_text.result c.from_residual-in_err-append_text.ensures.1 in
     rw (p.1, p.2) (λ h.
-        nothing_more g.C.Iterator.next_gives c.args.chars c.next.new.self c.in-Some.first (λ t. text_behind c.push_char.new.self (c.push_char.new.reader ++ t)) c.in-Some.ensures.steps
-        (λ t. of_text c.new-builder.result c.push_char.new.self c.in-Some.first c.new-reader.result c.push_char.new.reader t c.if-first-eq46.false c.new-builder.ensures c.new-reader.ensures c.in_ok-push_char.ensures.ok)
-        (c.in_err-append_text.ensures.refused h))
+    nothing_more g.C.Iterator.next_gives c.args.chars c.next.new.self c.in-Some.first (λ t. text_behind c.push_char.new.self (c.push_char.new.reader ++ t)) c.in-Some.ensures.steps
+    (λ t. of_text c.new-builder.result c.push_char.new.self c.in-Some.first c.new-reader.result c.push_char.new.reader t c.if-first-eq46.false c.new-builder.ensures c.new-reader.ensures c.in_ok-push_char.ensures.ok)
+    (c.in_err-append_text.ensures.refused h))
 
 pub returns-clause-ok : goal.returns-clause-ok
 returns-clause-ok g c =

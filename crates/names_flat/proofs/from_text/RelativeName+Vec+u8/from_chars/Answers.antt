@@ -27,16 +27,24 @@ pub returns-else-is_empty-clause-refused : goal.returns-else-is_empty-clause-ref
 returns-else-is_empty-clause-refused g c = λ h.
     let r = c.in_ok-append_chars.ensures.ok in
     let now = c.append_chars.new.self in
-    inr (r.0, r.1, elim c.if-in_label.branch [
-      | then-in_label w ↦ let x : true ≡ false = sym w.if-in_label.true ∙ sym w.value-is ∙ c.if-is_empty.false in absurd (cc)
-      | else-in_label w ↦ no_relative c.new-builder.result now r.0 c.new-builder.ensures r.2 (shut_back _ _ c.in_label.ensures w.if-in_label.false) (same_end (length (octets_of_building now)) _ w.is_empty.ensures (sym w.value-is ∙ c.if-is_empty.false))
-    ])
+    inr (
+      r.0,
+      r.1,
+      elim c.if-in_label.branch [
+        | then-in_label w ↦ let x : true ≡ false = sym w.if-in_label.true ∙ sym w.value-is ∙ c.if-is_empty.false in absurd (cc)
+        | else-in_label w ↦ no_relative c.new-builder.result now r.0 c.new-builder.ensures r.2 (shut_back _ _ c.in_label.ensures w.if-in_label.false) (same_end (length (octets_of_building now)) _ w.is_empty.ensures (sym w.value-is ∙ c.if-is_empty.false))
+      ],
+    )
 
 pub returns-else-is_empty-clause-absolute : goal.returns-else-is_empty-clause-absolute
 returns-else-is_empty-clause-absolute g c = λ h.
     let r = c.in_ok-append_chars.ensures.ok in
-    let now = c.append_chars.new.self in
-    (r.0, all_labels now, r.1, elim c.if-in_label.branch [
-      | then-in_label w ↦ let x : true ≡ false = sym w.if-in_label.true ∙ sym w.value-is ∙ c.if-is_empty.false in absurd (cc)
-      | else-in_label w ↦ absolute_text c.new-builder.result now r.0 c.new-builder.ensures r.2 (shut_back _ _ c.in_label.ensures w.if-in_label.false) (same_end (length (octets_of_building now)) _ w.is_empty.ensures (sym w.value-is ∙ c.if-is_empty.false))
-    ])
+    let now = c.append_chars.new.self in (
+      r.0,
+      all_labels now,
+      r.1,
+      elim c.if-in_label.branch [
+        | then-in_label w ↦ let x : true ≡ false = sym w.if-in_label.true ∙ sym w.value-is ∙ c.if-is_empty.false in absurd (cc)
+        | else-in_label w ↦ absolute_text c.new-builder.result now r.0 c.new-builder.ensures r.2 (shut_back _ _ c.in_label.ensures w.if-in_label.false) (same_end (length (octets_of_building now)) _ w.is_empty.ensures (sym w.value-is ∙ c.if-is_empty.false))
+      ],
+    )

@@ -1,4 +1,4 @@
-use Rattle.std.proofs.Common.{rules, ◌≡◌, ◌≤◌, ◌-◌, ◌∙◌, ◌++◌, ◌∷◌, [], length, length-append, sym, ap, arith}
+use Rattle.std.proofs.Common.{rules, ◌-◌, ◌∙◌, ◌∷◌, [], length, length-append, sym, ap, arith}
 use Rattle.names_wire.specs.Label.{octets_of}
 use Rattle.names_labels.specs.Flat.{labels_in}
 use Rattle.names_labels.proofs.Cuts.{cuts, last_label, no_last}

@@ -1,0 +1,44 @@
+//! Names brought into octets of their own.
+
+ghost use Rattle.std.specs.Prelude.{◌≡◌, IfOk};
+
+use crate::name::Name;
+use crate::relative::RelativeName;
+use crate::to_name::ToName;
+use crate::to_relative::ToRelativeName;
+use names_wire::builder::ShortBuf;
+use names_wire::octets::Octets;
+use std::alloc::Global;
+
+/// A name that can be brought into flat octets of its own.
+pub trait FlattenInto<Target>: Sized {
+    /// The target is the same name.
+    ghost is_flat: { Self → Target → Type 0 };
+
+    /// It is refused for want of memory alone.
+    fn try_flatten_into(self, alloc: Global) -> Result<Target, ShortBuf>
+        ensures { IfOk result (is_flat self) };
+
+    /// As `try_flatten_into`.
+    fn flatten_into(self, alloc: Global) -> Result<Target, ShortBuf>
+        ensures { IfOk result (is_flat self) }
+    {
+        self.try_flatten_into(alloc)
+    }
+}
+
+impl<Octs: Octets + Drop> FlattenInto<Name<Vec<u8>>> for Name<Octs> {
+    ghost is_flat = { λ n m. m ≡ n };
+
+    fn try_flatten_into(self, alloc: Global) -> Result<Name<Vec<u8>>, ShortBuf> {
+        self.to_vec(alloc)
+    }
+}
+
+impl<Octs: Octets + Drop> FlattenInto<RelativeName<Vec<u8>>> for RelativeName<Octs> {
+    ghost is_flat = { λ n m. m ≡ n };
+
+    fn try_flatten_into(self, alloc: Global) -> Result<RelativeName<Vec<u8>>, ShortBuf> {
+        self.to_relative_name(alloc)
+    }
+}
