@@ -1,6 +1,6 @@
 -- Going up the ancestors of a name, each once.
-use Rattle.std.proofs.Common.{arith, ◌≡◌, ℕ, ◌+◌, ◌-◌, ◌<◌, ◌≤◌, Bool, true, false, ◌||◌, length, drop, List, [], ◌∷◌, get_or, refl, sym, ap, ◌∙◌}
-use Rattle.std.specs.Prelude.{Option, Some, None}
+use Rattle.std.proofs.Common.{arith, ◌≡◌, ℕ, ◌+◌, ◌-◌, ◌<◌, ◌≤◌, Bool, true, false, ◌||◌, length, drop, [], ◌∷◌, get_or, sym, ap, ◌∙◌}
+use Rattle.std.specs.Prelude.{Some}
 use Rattle.std.proofs.lemmas.List.{drop_more}
 use Rattle.definitions.specs.Name.{Name, at_or_above}
 use Rattle.answer.specs.Facts.{Link, closest}

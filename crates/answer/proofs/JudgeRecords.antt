@@ -1,6 +1,6 @@
 -- A message has no more records than its header counts.
-use Rattle.std.proofs.Common.{arith, Fits, w8, ◌≡◌, ℕ, zero, suc, ◌+◌, ◌*◌, ◌<◌, ◌≤◌, length, List, [], ◌∷◌, get_or, refl, sym, map, ap, ◌∙◌, subst, ◌⊎◌, inl, inr}
-use Rattle.std.specs.Prelude.{IfOk, Option, Some, None, Result, Ok, Err, slice_get}
+use Rattle.std.proofs.Common.{arith, Fits, w8, ◌≡◌, ℕ, zero, suc, ◌+◌, ◌*◌, ◌<◌, ◌≤◌, length, List, [], ◌∷◌, get_or, refl, sym, map, ap, ◌∙◌, inl, inr}
+use Rattle.std.specs.Prelude.{IfOk, Option, Some, None, Result, Ok, Err}
 use Rattle.std.proofs.lemmas.List.{length-map}
 use Rattle.answer.specs.Record.{spelled}
 use Rattle.answer.specs.declared.message.view.ViewRecord.{ViewRecord}

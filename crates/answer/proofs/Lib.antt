@@ -25,7 +25,12 @@ pub mod ZoneServed
 pub mod ZoneFaults
 pub mod KeyWhole
 pub mod SignAnswer
+pub mod ZoneBitmap
+pub mod Refusals
+pub mod ZoneAnswers
 pub mod ZoneChains
+pub mod ZoneData
+pub mod ZoneLinks
 pub mod SimulateLoop
 pub mod RunShown
 pub mod MessageWritten

@@ -1,12 +1,12 @@
 -- A whole message that is written reads back.
-use Rattle.std.proofs.Common.{◌≡◌, ℕ, ◌+◌, ◌<◌, List, [], ◌∷◌, ◌++◌, length, Result, Ok, refl, sym, subst, ap, ◌∙◌, append_assoc, length-append, lit<, arith}
-use Rattle.std.specs.List.{AllByRecursion, AllZip, flat_map}
+use Rattle.std.proofs.Common.{◌≡◌, ℕ, ◌+◌, List, [], ◌∷◌, ◌++◌, length, Result, Ok, refl, sym, ap, ◌∙◌, append_assoc, length-append, lit<, arith}
+use Rattle.std.specs.List.{AllByRecursion, flat_map}
 use Rattle.std.specs.Int.{w16, to_be_bytes}
 use Rattle.std.proofs.lemmas.List.{append-nil}
 use Rattle.std.proofs.lemmas.List.Concat.{flat_map-append}
 use Rattle.definitions.specs.Name.{wire, wire_len}
 use Rattle.answer.specs.declared.message.MessageError.{MessageError}
-use Rattle.answer.specs.Message.{Asked, Message, ◌>>=◌, message, u16_at, owner_at, asked_at, one_question, records_at, data_of}
+use Rattle.answer.specs.Message.{Asked, Message, ◌>>=◌, u16_at, owner_at, asked_at, records_at}
 use Rattle.answer.specs.Written.{Written, header_octets, question_octets, record_octets, message_octets}
 use Rattle.answer.specs.WrittenLaws.{IsQuestion, IsRecord, AreSections, ReadsBack, first_place, spelled_from}
 use Rattle.answer.proofs.MessageWritten.{StandsAt, past, bind_ok, u16_here, owner_here, wire-length, records_here, data_here}
@@ -57,7 +57,7 @@ parts m flags q answers authority e =
       name = name;
       rtype = rtype;
       class = class;
-      records = past m (12 + wire_len q.name + 2) (first_place q) (to_be_bytes w16 q.class) _ class (omega arith)
+      records = past m (12 + wire_len q.name + 2) (first_place q) (to_be_bytes w16 q.class) _ class (omega arith);
     }
 
 asked_here : (m : List ℕ) (flags : ℕ) (q : Asked) (answers authority : List Written) → IsQuestion q → Parts m flags q answers authority → asked_at 0 m 12 ≡ Ok (q, first_place q)
@@ -89,11 +89,11 @@ message_here m flags q answers authority e is are =
     let records = ap (λ n. records_at n 0 m (first_place q)) count ∙ records_here rs m (first_place q) [] each p.records in
     record {
       reads =
-        bind_ok (u16_at m 4) 1 _ _ (u16_here m 4 1 _ (lit< tt) p.questions)
-        (bind_ok (u16_at m 6) (length answers) _ _ (u16_here m 6 (length answers) _ are.answers_fit p.answers_at)
-        (bind_ok (u16_at m 8) (length authority) _ _ (u16_here m 8 (length authority) _ are.authority_fit p.authority_at)
-        (bind_ok (u16_at m 10) 0 (λ k. body m (length answers + length authority + k)) _ (u16_here m 10 0 _ (lit< tt) p.additional)
-        (bind_ok (asked_at 0 m 12) (q, first_place q) (behind_question m total) _ (asked_here m flags q answers authority is p)
-        (bind_ok (records_at total 0 m (first_place q)) (spelled_from (first_place q) rs) (λ found. Ok (record { asked = q; records = found })) _ records refl)))));
-      octets = data_here rs m (first_place q) [] p.records
+          bind_ok (u16_at m 4) 1 _ _ (u16_here m 4 1 _ (lit< tt) p.questions)
+          (bind_ok (u16_at m 6) (length answers) _ _ (u16_here m 6 (length answers) _ are.answers_fit p.answers_at)
+          (bind_ok (u16_at m 8) (length authority) _ _ (u16_here m 8 (length authority) _ are.authority_fit p.authority_at)
+          (bind_ok (u16_at m 10) 0 (λ k. body m (length answers + length authority + k)) _ (u16_here m 10 0 _ (lit< tt) p.additional)
+          (bind_ok (asked_at 0 m 12) (q, first_place q) (behind_question m total) _ (asked_here m flags q answers authority is p)
+          (bind_ok (records_at total 0 m (first_place q)) (spelled_from (first_place q) rs) (λ found. Ok (record { asked = q; records = found })) _ records refl)))));
+      octets = data_here rs m (first_place q) [] p.records;
     }

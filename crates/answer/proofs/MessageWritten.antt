@@ -1,6 +1,5 @@
 -- Octets that are written in a message read back: numbers, records, and the whole.
-use Rattle.std.proofs.Common.{◌≡◌, ℕ, ◌+◌, ◌*◌, ◌<◌, ◌≤◌, Bool, true, false, List, [], ◌∷◌, ◌++◌, length, Option, Some, None, Result, Ok, Err, refl, sym, subst, ap, ◌∙◌, append_assoc, length-append, arith, leb}
-use Rattle.std.specs.Prelude.{slice_get, slice_range}
+use Rattle.std.proofs.Common.{◌≡◌, ℕ, ◌+◌, ◌*◌, ◌<◌, ◌≤◌, Bool, true, false, List, [], ◌∷◌, ◌++◌, length, Option, Some, None, Result, Ok, Err, refl, sym, subst, ap, ◌∙◌, append_assoc, length-append, arith}
 use Rattle.std.specs.List.{AllByRecursion, AllZip, flat_map}
 use Rattle.std.specs.Int.{w16, w32, to_be_bytes, byte_at}
 use Rattle.std.proofs.lemmas.Bool.{le-leb}
@@ -8,7 +7,7 @@ use Rattle.std.proofs.lemmas.Nat.{from_be_bytes-to_be_bytes_2, from_be_bytes-to_
 use Rattle.definitions.specs.Name.{Name, IsName, wire, wire_len}
 use Rattle.answer.specs.declared.message.MessageError.{MessageError}
 use Rattle.answer.specs.declared.message.MessageError.TheVariants.{ShortInput}
-use Rattle.answer.specs.Message.{Asked, Spelled, Message, ◌>>=◌, octet_at, u16_at, u32_at, owner_at, within, record_at, records_at, data_of}
+use Rattle.answer.specs.Message.{◌>>=◌, octet_at, u16_at, u32_at, owner_at, within, record_at, records_at, data_of}
 use Rattle.answer.specs.Written.{Written, record_octets}
 use Rattle.answer.specs.WrittenLaws.{IsRecord, spelled_at, spelled_from}
 use Rattle.answer.proofs.NameLaws.{wire_len-cons}

@@ -122,3 +122,9 @@ label_drop f xs i x n h e v =
 
 pub wire_len-some : (n : Name) → 1 ≤ wire_len n
 wire_len-some n = omega arith
+
+-- an ancestor leaves room for a star
+pub star_room : (k : ℕ) (n : Name) → IsName n → 0 < k → k ≤ length n → wire_len ((42 ∷ []) ∷ drop k n) ≤ 255
+star_room zero n h a b = absurd (omega arith)
+star_room (suc k) [] h a b = absurd (omega arith)
+star_room (suc k) (l ∷ n) h a b = omega (arith, wire_len-star (drop k n), wire_len-cons l n, wire_len-drop-le k n, h.short, h.labels.0.some)

@@ -1,5 +1,5 @@
 -- Answers that are written RRset by RRset.
-use Rattle.std.proofs.Common.{◌≡◌, ℕ, ◌+◌, ◌<◌, ◌≤◌, Bool, List, [], ◌∷◌, ◌++◌, Option, length, take, map, get_or, refl, ap, ◌∙◌, sym, subst, append_assoc, length-append, arith}
+use Rattle.std.proofs.Common.{◌≡◌, ℕ, ◌+◌, ◌<◌, ◌≤◌, Bool, List, [], ◌∷◌, ◌++◌, Option, length, take, map, get_or, refl, ap, ◌∙◌, sym, append_assoc, length-append, arith}
 use Rattle.std.specs.Prelude.{if◌then◌else◌}
 use Rattle.std.specs.List.{AllZip, flat_map}
 use Rattle.std.proofs.lemmas.List.{append-nil, length-map}
@@ -7,7 +7,7 @@ use Rattle.std.proofs.lemmas.Grind.{flat_map-append}
 use Rattle.definitions.specs.Name.{Name}
 use Rattle.definitions.specs.Dnskey.{Dnskey}
 use Rattle.answer.specs.Message.{Asked}
-use Rattle.answer.specs.Written.{Written, header_octets, question_octets, record_octets, message_octets}
+use Rattle.answer.specs.Written.{Written, header_octets, question_octets, record_octets}
 use Rattle.answer.specs.GroupView.{GroupView, IsRrsigData}
 use Rattle.answer.specs.Composed.{IsAnswer, IsSection, IsWritten, joined, record_of}
 use Rattle.answer.proofs.SignMade.{AllZip-next}

@@ -1,11 +1,11 @@
 -- Signatures that keys made, one after another.
-use Rattle.std.proofs.Common.{◌≡◌, ℕ, ◌+◌, ◌<◌, Bool, true, List, [], ◌∷◌, ◌++◌, Option, Some, length, take, map, get_or, refl, ap, ◌∙◌, sym, subst}
+use Rattle.std.proofs.Common.{◌≡◌, ℕ, ◌+◌, ◌<◌, Bool, true, List, [], ◌∷◌, ◌++◌, Option, Some, length, take, map, get_or, ap, ◌∙◌, sym, subst}
 use Rattle.std.specs.List.{AllZip}
 use Rattle.std.proofs.lemmas.List.{take_more, map-append}
 use Rattle.definitions.specs.Name.{Name}
 use Rattle.definitions.specs.Dnskey.{Dnskey}
 use Rattle.definitions.specs.Signing.{Fields, signed_octets}
-use Rattle.answer.specs.Rrsig.{spelled_fields, rrsig_data}
+use Rattle.answer.specs.Rrsig.{spelled_fields}
 use Rattle.answer.specs.GroupView.{GroupView, IsRrsigData, fields_of, octets_of}
 
 -- what was signed and written is the data of an RRSIG record

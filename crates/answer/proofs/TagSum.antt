@@ -1,5 +1,5 @@
 -- Sums of 16-bit numbers, octet by octet, and the tag that a sum makes.
-use Rattle.std.proofs.Common.{◌≡◌, ℕ, ◌+◌, ◌*◌, ◌/◌, ◌%◌, ◌<◌, List, [], ◌∷◌, ◌++◌, length, take, get_or, refl, ap, ◌∙◌, sym, arith, zero-add, add_assoc, if◌then◌else◌, nat_eq}
+use Rattle.std.proofs.Common.{◌≡◌, ℕ, ◌+◌, ◌*◌, ◌%◌, ◌<◌, List, [], ◌∷◌, ◌++◌, length, take, get_or, ap, ◌∙◌, sym, arith, zero-add, add_assoc}
 use Rattle.std.proofs.lemmas.List.{take_more, length-take-le}
 use Rattle.definitions.specs.Dnskey.{sum16, tag_of_sum}
 

@@ -1,7 +1,7 @@
 -- The links of a zone whose records are in order.
-use Rattle.std.proofs.Common.{◌≡◌, ℕ, Bool, true, false, ◌&&◌, ◌||◌, List, [], ◌∷◌, ◌++◌, map, ◌⊎◌, inl, inr, refl, sym, ap, subst, ◌∙◌, ⊎_elim, cond, eqb, Ordering, append_assoc}
+use Rattle.std.proofs.Common.{◌≡◌, ℕ, Bool, true, false, List, [], ◌∷◌, ◌++◌, map, ◌⊎◌, inl, inr, refl, sym, ap, subst, ◌∙◌, ⊎_elim, cond, Ordering, append_assoc}
 use Rattle.std.specs.declared.cmp.Ordering.TheVariants.{Less, Equal, Greater}
-use Rattle.std.specs.List.{list_any, AllByRecursion, filter}
+use Rattle.std.specs.List.{AllByRecursion, filter}
 use Rattle.std.specs.List.Sorted.{IsStrictlySortedBy}
 use Rattle.std.specs.Ordering.{ordering_reverse, ordering_then, nat_cmp}
 use Rattle.std.specs.Cmp.Lexicographic.{slice_cmp}
@@ -11,17 +11,16 @@ use Rattle.std.proofs.lemmas.Cmp.{tied_itself}
 use Rattle.std.proofs.lemmas.Bool.{false_from_ne_true}
 use Rattle.definitions.specs.Sorting.{put_by, put_all_by, sort_by}
 use Rattle.definitions.specs.Name.{Name, low, labels_eq, name_cmp, wire}
-use Rattle.definitions.specs.Zone.{Zone, is_delegation}
 use Rattle.definitions.specs.ZoneChain.{Nsec, links, behind, nsec_names, nsec_next, nsec_types, types_at, at_apex}
-use Rattle.definitions.specs.Covering.{covers}
 use Rattle.definitions.specs.Bitmap.{bitmap}
 use Rattle.answer.specs.Accepting.{HandedRr, record_cmp, zone_with}
-use Rattle.answer.specs.Served.{Served, Group, served_of, proofs_of, chain_record, speaks_for, spelled_as, chain_ttl}
+use Rattle.answer.specs.Served.{served_of, proofs_of, chain_record, spelled_as}
+use Rattle.answer.specs.Links.{pairs, record_links, link_group, link_speaks, proofs_among}
 use Rattle.answer.specs.ZoneView.{IsPublished, name_cmp_total}
 use Rattle.answer.proofs.ZoneNames.{same_labels, labels_eq-same, low_from_Equal, name_cmp-low}
 use Rattle.answer.proofs.ZoneServed.{no_delegation, owners_kept}
 
-less_back : {A : Type 0} (cmp : A → A → Ordering) → IsTotalOrder cmp → (a b : A) → cmp a b ≡ Less → cmp b a ≡ Greater
+pub less_back : {A : Type 0} (cmp : A → A → Ordering) → IsTotalOrder cmp → (a b : A) → cmp a b ≡ Less → cmp b a ≡ Greater
 less_back cmp o a b e = o.antisymm b a ∙ ap ordering_reverse e
 
 greater_back : {A : Type 0} (cmp : A → A → Ordering) → IsTotalOrder cmp → (a b : A) → cmp a b ≡ Greater → cmp b a ≡ Less
@@ -38,12 +37,12 @@ put_past cmp a (x ∷ front) back h =
     ∙ ap (λ ys. x ∷ ys) (put_past cmp a front back h.1)
 
 -- each item is the one before it or greater
-abbrev Climbs : {A : Type 0} → (A → A → Ordering) → A → List A → Type 0
+abbrev pub Climbs : {A : Type 0} → (A → A → Ordering) → A → List A → Type 0
 Climbs cmp x [] = Unit {0}
 Climbs cmp x (y ∷ ys) = ((y ≡ x) ⊎ (cmp y x ≡ Greater)) × Climbs cmp y ys
 
 -- without repetition
-abbrev tidy : {A : Type 0} → (A → A → Ordering) → A → List A → List A
+abbrev pub tidy : {A : Type 0} → (A → A → Ordering) → A → List A → List A
 tidy cmp x [] = x ∷ []
 tidy cmp x (y ∷ ys) = elim (cmp y x) [ Less ↦ tidy cmp x ys | Equal ↦ tidy cmp x ys | Greater ↦ x ∷ tidy cmp y ys ]
 
@@ -77,13 +76,8 @@ put_all_climbing cmp o front x (y ∷ ys) h k = ⊎_elim
     ∙ sym (ap (λ (p : Ordering). front ++ elim p [ Less ↦ tidy cmp x ys | Equal ↦ tidy cmp x ys | Greater ↦ x ∷ tidy cmp y ys ]) e))
     k.0
 
-sort_by_climbing : {A : Type 0} (cmp : A → A → Ordering) → IsTotalOrder cmp → (x : A) (ys : List A) → Climbs cmp x ys → sort_by cmp (x ∷ ys) ≡ tidy cmp x ys
+pub sort_by_climbing : {A : Type 0} (cmp : A → A → Ordering) → IsTotalOrder cmp → (x : A) (ys : List A) → Climbs cmp x ys → sort_by cmp (x ∷ ys) ≡ tidy cmp x ys
 sort_by_climbing cmp o x ys k = put_all_climbing cmp o [] x ys tt k
-
--- each with the next greater, the last with the first
-abbrev pub pairs : {A : Type 0} → (A → A → Ordering) → A → A → List A → List (A × A)
-pairs cmp first x [] = (x, first) ∷ []
-pairs cmp first x (y ∷ ys) = elim (cmp y x) [ Less ↦ pairs cmp first x ys | Equal ↦ pairs cmp first x ys | Greater ↦ (x, y) ∷ pairs cmp first y ys ]
 
 link_ahead : {A : Type 0} (cmp : A → A → Ordering) (first x y : A) (ys : List A) → links first (x ∷ tidy cmp y ys) ≡ (x, y) ∷ links first (tidy cmp y ys)
 link_ahead cmp first x y [] = refl
@@ -166,11 +160,6 @@ tabled {B} F G next (l ∷ ls) h =
       | false ↦ rest
     ]
 
--- the links of records in order
-abbrev pub record_links : Name → List HandedRr → List (Name × Name)
-record_links first [] = []
-record_links first (r ∷ rs) = pairs name_cmp first (low r.owner) (map (λ s. low s.owner) rs)
-
 below_cases : (r s : HandedRr) (o : Ordering) → name_cmp r.owner s.owner ≡ o → ordering_then o (ordering_then (nat_cmp r.rtype s.rtype) (slice_cmp nat_cmp r.bytes s.bytes)) ≡ Less → (low s.owner ≡ low r.owner) ⊎ (name_cmp (low s.owner) (low r.owner) ≡ Greater)
 below_cases r s Less e h = inr (name_cmp-low s.owner r.owner ∙ less_back name_cmp name_cmp_total r.owner s.owner e)
 below_cases r s Equal e h = inl (sym (low_from_Equal r.owner s.owner e))
@@ -218,21 +207,6 @@ next_is apex rs p =
 types_are : (apex : Name) (rs : List HandedRr) → IsPublished apex rs → (o : Name) → nsec_types (zone_with apex rs) o ≡ types_at (zone_with apex rs) o ++ 46 ∷ 47 ∷ at_apex (zone_with apex rs) o (48 ∷ [])
 types_are apex rs p o = rw (no_delegation apex rs p.plain o)
 
--- a record of the chain, of its owner and next name
-abbrev pub link_group : Name → List HandedRr → Name → Name → Group
-link_group apex rs o next = record {
-  owner = o;
-  source = o;
-  rtype = 47;
-  ttl = chain_ttl apex rs;
-  datas = (wire (spelled_as apex rs next) ++ bitmap (types_at (zone_with apex rs) o ++ 46 ∷ 47 ∷ at_apex (zone_with apex rs) o (48 ∷ []))) ∷ [];
-  signed = true;
-}
-
--- a link matches or covers one of some names
-abbrev pub link_speaks : Name → List Name → Name → Name → Bool
-link_speaks apex qs o next = list_any (λ q. labels_eq o q || covers (low apex) o next q) qs
-
 record_is : (apex : Name) (hash : Name → List ℕ) (rs : List HandedRr) → IsPublished apex rs → (o : Name) → chain_record (served_of apex Nsec hash rs) o ≡ link_group apex rs o (nsec_next (zone_with apex rs) o)
 record_is apex hash rs p o =
     ap (λ ts. record (link_group apex rs o (nsec_next (zone_with apex rs) o)) { datas = (wire (spelled_as apex rs (nsec_next (zone_with apex rs) o)) ++ bitmap ts) ∷ [] }) (types_are apex rs p o)
@@ -242,8 +216,7 @@ map_agree f g h [] = refl
 map_agree f g h (x ∷ xs) = λ i. h x i ∷ map_agree f g h xs i
 
 -- the records that prove what is said of some names, by one pass over the links
-pub proofs_are : (apex : Name) (hash : Name → List ℕ) (rs : List HandedRr) → IsPublished apex rs → (qs : List Name) →
-    proofs_of (served_of apex Nsec hash rs) qs ≡ map (λ (m : Name × Name). link_group apex rs m.0 m.1) (filter (λ (m : Name × Name). link_speaks apex qs m.0 m.1) (record_links (low apex) rs))
+pub proofs_are : (apex : Name) (hash : Name → List ℕ) (rs : List HandedRr) → IsPublished apex rs → (qs : List Name) → proofs_of (served_of apex Nsec hash rs) qs ≡ proofs_among apex rs qs (record_links (low apex) rs)
 proofs_are apex hash rs p qs =
     let z = zone_with apex rs in
     let chosen : List Name = filter (λ o. link_speaks apex qs o (nsec_next z o)) (nsec_names z) in

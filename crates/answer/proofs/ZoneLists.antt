@@ -1,10 +1,14 @@
 -- Lists, their items, and tests of them.
-use Rattle.std.proofs.Common.{◌≡◌, ℕ, suc, ◌+◌, ◌-◌, ◌<◌, ◌≤◌, length, drop, get_or, arith, drop-cons, length-drop, Bool, true, false, ◌&&◌, ◌||◌, not, List, [], ◌∷◌, ◌++◌, map, ◌⊎◌, inl, inr, refl, sym, ap, subst, ◌∙◌, ⊎_elim, cond, Ordering}
+use Rattle.std.proofs.Common.{◌≡◌, ℕ, suc, ◌+◌, ◌-◌, ◌<◌, ◌≤◌, length, drop, get_or, arith, add-one, drop-cons, length-drop, Bool, true, false, ◌||◌, not, List, [], ◌∷◌, map, ◌⊎◌, inl, inr, refl, sym, ap, subst, ◌∙◌, ⊎_elim, cond, Ordering}
 use Rattle.std.specs.declared.cmp.Ordering.TheVariants.{Less, Equal, Greater}
 use Rattle.std.specs.List.{list_any, AllByRecursion, filter}
 use Rattle.std.proofs.lemmas.Bool.{or_cases, or_parts, or_left, or_right, false≢true, not-false}
 use Rattle.answer.specs.ZoneView.{neighbours}
 use Rattle.definitions.specs.Sorting.{put_by, put_all_by, sort_by}
+
+-- what stands from a place on
+pub items_from : {A : Type 0} (rs : List A) (i : ℕ) (r : A) → i < length rs → r ≡ get_or rs i r → drop i rs ≡ r ∷ drop (i + 1) rs
+items_from rs i r h e = drop-cons rs i r h ∙ (λ j. sym e j ∷ drop (sym (add-one i) j) rs)
 
 -- a list has an item
 abbrev pub Has : {A : Type 0} → List A → A → Type 0
@@ -82,3 +86,10 @@ one_or_none p (x ∷ y ∷ xs) h = absurd (omega arith)
 -- at the end nothing is side by side
 pub neighbours_short : {A : Type 0} (p : A → A → Bool) (xs : List A) (i : ℕ) → length xs ≤ i → neighbours p (drop (i - 1) xs) ≡ false
 neighbours_short p xs i h = one_or_none p (drop (i - 1) xs) (rw length-drop (omega arith))
+
+-- a test of what stands from a place on
+pub any_past : {X Y : Type 0} (f : X → Y) (p : Y → Bool) (xs : List X) (i : ℕ) (x : X) → i < length xs → x ≡ get_or xs i x → p (f x) ≡ false → list_any p (map f (drop (i + 1) xs)) ≡ list_any p (map f (drop i xs))
+any_past f p xs i x h e n = sym (ap (λ ys. list_any p (map f ys)) (items_from xs i x h e) ∙ ap (λ b. b || list_any p (map f (drop (i + 1) xs))) n)
+
+pub any_found : {X Y : Type 0} (f : X → Y) (p : Y → Bool) (xs : List X) (i : ℕ) (x : X) → i < length xs → x ≡ get_or xs i x → p (f x) ≡ true → list_any p (map f (drop i xs)) ≡ true
+any_found f p xs i x h e n = ap (λ ys. list_any p (map f ys)) (items_from xs i x h e) ∙ ap (λ b. b || list_any p (map f (drop (i + 1) xs))) n

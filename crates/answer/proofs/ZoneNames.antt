@@ -1,17 +1,15 @@
 -- Names up to case.
-use Rattle.std.proofs.Common.{◌≡◌, ℕ, ◌+◌, ◌<◌, Bool, true, false, cond, ◌&&◌, ◌||◌, List, [], ◌∷◌, map, reverse, refl, sym, ap, ◌∙◌, subst, Ordering, arith, eqb, ltb}
-use Rattle.std.specs.declared.cmp.Ordering.TheVariants.{Less, Equal, Greater}
+use Rattle.std.proofs.Common.{◌≡◌, ℕ, true, ◌||◌, List, [], ◌∷◌, reverse, refl, sym, ap, ◌∙◌, arith}
+use Rattle.std.specs.declared.cmp.Ordering.TheVariants.{Equal}
 use Rattle.std.specs.Char.{to_ascii_lowercase}
-use Rattle.std.specs.Str.{bytes_eq, str_to_ascii_lowercase}
-use Rattle.std.specs.FinMap.{IsAntisymmetric, nat_cmp-IsAntisymmetric, slice_cmp-IsAntisymmetric}
+use Rattle.std.specs.Str.{str_to_ascii_lowercase}
+use Rattle.std.specs.FinMap.{nat_cmp-IsAntisymmetric, slice_cmp-IsAntisymmetric}
 use Rattle.std.specs.Cmp.Lexicographic.{slice_cmp}
 use Rattle.std.specs.Ordering.{nat_cmp}
-use Rattle.std.specs.Cmp.{IsTotalOrder}
 use Rattle.std.proofs.lemmas.Cmp.{tied_itself, lists_total, nat_list_cmp_total}
 use Rattle.std.proofs.lemmas.List.{reverse-reverse}
-use lib.Pointwise.{pointwise, pointwise_decides, bytes_decides}
+use lib.Pointwise.{pointwise_decides, bytes_decides}
 use Rattle.definitions.specs.Name.{Name, low, labels_eq, same, at_or_above, strictly_above, from_root, name_cmp}
-use Rattle.answer.specs.ZoneView.{name_cmp_total}
 
 labels_decides : (a b : Name) → (labels_eq a b ≡ true → a ≡ b) × (a ≡ b → labels_eq a b ≡ true)
 labels_decides a b = pointwise_decides bytes_decides a b

@@ -1,17 +1,17 @@
 -- What an accepted zone says of names.
-use Rattle.std.proofs.Common.{◌≡◌, ℕ, Bool, true, false, ◌&&◌, ◌||◌, not, List, [], ◌∷◌, ◌++◌, map, Option, Some, None, inl, inr, refl, sym, ap, subst, ◌∙◌, ⊎_elim, cond, eqb, arith, ◌+◌, ◌<◌, length, drop, get_or, drop-cons, add-one}
+use Rattle.std.proofs.Common.{◌≡◌, ℕ, Bool, true, false, ◌&&◌, ◌||◌, not, List, [], ◌∷◌, map, Option, Some, None, refl, sym, ap, ◌∙◌, ⊎_elim, cond, eqb, arith, ◌+◌, ◌<◌, length, drop, get_or, drop-cons, add-one}
 use Rattle.std.specs.List.{list_any, AllByRecursion, filter}
-use Rattle.std.specs.Prelude.{if◌then◌else◌}
+use Rattle.std.specs.Prelude.{if◌then◌else◌, min}
 use Rattle.std.specs.Char.{to_ascii_lowercase}
 use Rattle.std.specs.Str.{bytes_eq, str_to_ascii_lowercase}
 use Rattle.std.proofs.lemmas.Bool.{and_parts, and_from, or_cases, or_parts, or_left, or_right, false≢true, false_from_ne_true}
 use Rattle.definitions.specs.Name.{Name, low, labels_eq, same, at_or_above, strictly_above}
-use Rattle.definitions.specs.Zone.{Zone, Rr, Verdict, Records, NoType, NoName, owners, has, is_delegation, cut, cut_above, is_live, is_kept, kept_owners, kept, exists, ce, star_under, at_existing, at_star, verdict, data_at, Delegated, StarRecords, StarNoType}
-use Rattle.answer.specs.Accepting.{HandedRr, rr_of, zone_with, has_star, has_unlike_ttls, unlike_ttls}
-use Rattle.answer.specs.Served.{ttl_among, spelled_among}
-use Rattle.answer.specs.ZoneView.{IsPublished, neighbours, is_of}
-use Rattle.answer.proofs.ZoneLists.{Has, found, any_from, all_at, all_more, filter_all, list_any-map}
-use Rattle.answer.proofs.ZoneNames.{same_labels, labels_eq-same, low-low, at_or_above-low, strictly_above-low}
+use Rattle.definitions.specs.Zone.{Zone, Rr, Verdict, NoName, has, is_delegation, cut, cut_above, is_kept, kept_owners, kept, exists, ce, star_under, at_existing, at_star, verdict, data_at, Delegated, StarRecords, StarNoType}
+use Rattle.answer.specs.Accepting.{HandedRr, soas, rr_of, zone_with, has_star, has_unlike_ttls, unlike_ttls}
+use Rattle.answer.specs.Served.{chain_ttl, chain_ttl_of, minimum_of, owner_among, ttl_among, spelled_among}
+use Rattle.answer.specs.ZoneView.{is_of}
+use Rattle.answer.proofs.ZoneLists.{found, all_at, all_more, filter_all, list_any-map}
+use Rattle.answer.proofs.ZoneNames.{same_labels, at_or_above-low, strictly_above-low}
 
 abbrev Plain : Name → List HandedRr → Type 0
 Plain apex rs = AllByRecursion (λ r. (((eqb r.rtype 2) && strictly_above apex r.owner) || has_star r.owner) ≡ false) rs
@@ -122,7 +122,7 @@ pub has_is : (apex : Name) (rs : List HandedRr) (q : Name) (t : ℕ) → has (zo
 has_is apex rs q t = list_any-map (λ (r : Rr). labels_eq r.owner (low q) && eqb r.rtype t) rr_of rs
 
 -- what stands at the front of what is left
-ahead_is : (rs : List HandedRr) (i : ℕ) (r : HandedRr) → i < length rs → r ≡ get_or rs i r → drop i rs ≡ r ∷ drop (i + 1) rs
+pub ahead_is : (rs : List HandedRr) (i : ℕ) (r : HandedRr) → i < length rs → r ≡ get_or rs i r → drop i rs ≡ r ∷ drop (i + 1) rs
 ahead_is rs i r h e = drop-cons rs i r h ∙ (λ j. sym e j ∷ drop (sym (add-one i) j) rs)
 
 pub ttl_later : (rs : List HandedRr) (q : Name) (t i : ℕ) (r : HandedRr) → i < length rs → r ≡ get_or rs i r → is_of q t r ≡ false → ttl_among (drop (i + 1) rs) (low q) t ≡ ttl_among (drop i rs) (low q) t
@@ -139,3 +139,15 @@ spelled_here rs q i r h e n = ap (λ xs. spelled_among xs (low q)) (ahead_is rs 
 
 pub any_later : (p : HandedRr → Bool) (rs : List HandedRr) (i : ℕ) (r : HandedRr) → i < length rs → r ≡ get_or rs i r → p r ≡ false → list_any p (drop (i + 1) rs) ≡ list_any p (drop i rs)
 any_later p rs i r h e n = sym (ap (list_any p) (ahead_is rs i r h e) ∙ ap (λ b. b || list_any p (drop (i + 1) rs)) n)
+
+pub owner_later : (rs : List HandedRr) (q : Name) (t i : ℕ) (r : HandedRr) → i < length rs → r ≡ get_or rs i r → is_of q t r ≡ false → owner_among (drop (i + 1) rs) (low q) t ≡ owner_among (drop i rs) (low q) t
+owner_later rs q t i r h e n = sym (ap (λ xs. owner_among xs (low q) t) (ahead_is rs i r h e) ∙ ap (λ b. if b then r.owner else owner_among (drop (i + 1) rs) (low q) t) n)
+
+pub owner_here : (rs : List HandedRr) (q : Name) (t i : ℕ) (r : HandedRr) → i < length rs → r ≡ get_or rs i r → is_of q t r ≡ true → owner_among (drop i rs) (low q) t ≡ r.owner
+owner_here rs q t i r h e n = ap (λ xs. owner_among xs (low q) t) (ahead_is rs i r h e) ∙ ap (λ b. if b then r.owner else owner_among (drop (i + 1) rs) (low q) t) n
+
+pub chain_ttl_later : (apex : Name) (rs : List HandedRr) (i : ℕ) (r : HandedRr) → i < length rs → r ≡ get_or rs i r → (same r.owner apex && eqb r.rtype 6) ≡ false → chain_ttl apex (drop (i + 1) rs) ≡ chain_ttl apex (drop i rs)
+chain_ttl_later apex rs i r h e n = sym (ap (chain_ttl apex) (ahead_is rs i r h e) ∙ ap (λ b. chain_ttl_of (cond b (r ∷ soas apex (drop (i + 1) rs)) (soas apex (drop (i + 1) rs)))) n)
+
+pub chain_ttl_here : (apex : Name) (rs : List HandedRr) (i : ℕ) (r : HandedRr) → i < length rs → r ≡ get_or rs i r → (same r.owner apex && eqb r.rtype 6) ≡ true → chain_ttl apex (drop i rs) ≡ min r.ttl (minimum_of r.bytes)
+chain_ttl_here apex rs i r h e n = ap (chain_ttl apex) (ahead_is rs i r h e) ∙ ap (λ b. chain_ttl_of (cond b (r ∷ soas apex (drop (i + 1) rs)) (soas apex (drop (i + 1) rs)))) n

@@ -1,5 +1,5 @@
 -- Unequal TTLs stand side by side in a sorted zone.
-use Rattle.std.proofs.Common.{◌≡◌, ℕ, Bool, true, false, ◌&&◌, ◌||◌, not, List, [], ◌∷◌, ◌⊎◌, inl, inr, refl, sym, ap, subst, ◌∙◌, Ordering, arith, eqb, ⊎_elim}
+use Rattle.std.proofs.Common.{◌≡◌, Bool, true, false, ◌&&◌, ◌||◌, not, List, [], ◌∷◌, ◌⊎◌, inl, inr, refl, sym, ap, ◌∙◌, Ordering, eqb, ⊎_elim}
 use Rattle.std.specs.declared.cmp.Ordering.TheVariants.{Less, Equal, Greater}
 use Rattle.std.specs.List.{list_any, AllByRecursion}
 use Rattle.std.specs.List.Sorted.{IsStrictlySortedBy}
@@ -8,7 +8,7 @@ use Rattle.std.specs.Cmp.{IsTotalOrder, then_total, on_total, both_ways}
 use Rattle.std.proofs.lemmas.Cmp.{nat_cmp_total, tied_itself, tied_back, alike_right}
 use Rattle.std.proofs.lemmas.Bool.{and_parts, and_from, or_cases, or_left, or_right, eqb-true, eq-eqb, eqb-false, false≢true, false_from_ne_true, cases_Bool, not-true, not_from_false}
 use Rattle.std.specs.FinMap.{nat_cmp-IsAntisymmetric}
-use Rattle.definitions.specs.Name.{Name, low, same, labels_eq, name_cmp}
+use Rattle.definitions.specs.Name.{low, same, name_cmp}
 use Rattle.answer.specs.Accepting.{HandedRr, record_cmp, unlike_ttls}
 use Rattle.answer.specs.ZoneView.{name_cmp_total, neighbours}
 use Rattle.answer.proofs.ZoneLists.{Has, found, any_from, all_at}

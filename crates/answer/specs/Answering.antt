@@ -1,13 +1,18 @@
 -- What a publisher's messages are.
-use Rattle.std.specs.Prelude.{◌≡◌, ℕ, Bool, false, List, [], ◌∷◌, ◌++◌, length, Option}
+use Rattle.std.specs.Prelude.{◌≡◌, ℕ, ◌+◌, Bool, false, List, [], ◌∷◌, ◌++◌, length, Option}
 use Rattle.std.specs.List.{AllZip}
 use Rattle.definitions.specs.Name.{Name}
 use Rattle.definitions.specs.Dnskey.{Dnskey}
 use Rattle.definitions.specs.Zone.{Verdict, verdict, Records, NoName, StarRecords, Delegated}
 use Rattle.answer.specs.Message.{Asked}
 use Rattle.answer.specs.GroupView.{GroupView, Presents}
-use Rattle.answer.specs.Composed.{IsAnswer}
+use Rattle.answer.specs.Composed.{IsAnswer, RefusesGroups}
+use Rattle.answer.specs.Judging.{is_allowed}
+use Rattle.answer.specs.Written.{question_octets}
+use Rattle.answer.specs.declared.publisher.fault.AnswerFault.{AnswerFault}
+use Rattle.answer.specs.declared.publisher.fault.AnswerFault.TheVariants as fault
 use Rattle.answer.specs.Served.{Served, answer_groups, key_group}
+use Rattle.answer.specs.declared.publisher.zone.answers.ZoneAnswer.{ZoneAnswer}
 
 -- an authoritative answer, one that no such name exists, or a referral (RFC 1035, 4.1.1)
 abbrev pub flags_for : Verdict → ℕ
@@ -20,6 +25,12 @@ abbrev pub answered : Verdict → ℕ
 answered (Records ds) = 1
 answered (StarRecords ds) = 1
 answered _ = 0
+
+-- what a zone answers, before it is signed: the RRsets of the answer, those asked for apart, and the flags
+pub record AnswersAs (s : Served) (name : Name) (t : ℕ) (a : ZoneAnswer) : Type 0 where
+  pub groups_are : AllZip Presents (a.answer.items ++ a.authority.items) (answer_groups s name t)
+  pub split : length a.answer.items ≡ answered (verdict s.zone false name t)
+  pub flags_are : a.flags ≡ flags_for (verdict s.zone false name t)
 
 -- the message that answers a question: the RRsets of the answer in order, those asked for in the answer section
 pub record AnswersZone (sign : Dnskey → List ℕ → Option (List ℕ)) (verifies : Dnskey → List ℕ → List ℕ → Bool) (s : Served) (apex : Name) (at life : ℕ) (keys : List Dnskey) (asked : Asked) (m : List ℕ) : Type 0 where
@@ -35,9 +46,22 @@ pub record AnswersKeys (sign : Dnskey → List ℕ → Option (List ℕ)) (verif
   pub presents : Presents group (key_group apex (s.ttl_of s.zone.apex 6) present)
   pub written : IsAnswer sign verifies apex at life keys 33792 (record { name = apex; rtype = 48; class = 1 }) (group ∷ []) [] m
 
--- the message that answers a question with some RRsets, each with its signatures
-pub record SignsAnswer (sign : Dnskey → List ℕ → Option (List ℕ)) (verifies : Dnskey → List ℕ → List ℕ → Bool) (apex : Name) (at life : ℕ) (keys : List Dnskey) (asked : Asked) (m : List ℕ) : Type 0 where
-  pub flags : ℕ
-  pub answer : List GroupView
-  pub authority : List GroupView
-  pub written : IsAnswer sign verifies apex at life keys flags asked answer authority m
+-- octets of a message ahead of its records: the header and the question (RFC 1035, 4.1.1 and 4.1.2)
+abbrev pub ahead_of_records : Asked → ℕ
+ahead_of_records asked = 12 + length (question_octets asked.name asked.rtype asked.class)
+
+-- Why a question is not answered: it is not allowed, the scheme made no signature of an RRset of the answer, the RRsets
+-- are too long for a message, or memory ran out.
+abbrev pub RefusesAnswer : (Dnskey → List ℕ → Option (List ℕ)) → (Dnskey → List ℕ → List ℕ → Bool) → Served → Name → ℕ → ℕ → List Dnskey → Asked → AnswerFault → Type 0
+RefusesAnswer sign verifies s apex at life keys asked fault.QuestionNotAllowed = is_allowed apex asked ≡ false
+RefusesAnswer sign verifies s apex at life keys asked fault.Memory = Unit {0}
+RefusesAnswer sign verifies s apex at life keys asked f =
+    (groups : List GroupView) × AllZip Presents groups (answer_groups s asked.name asked.rtype)
+    × RefusesGroups sign verifies apex at life keys (ahead_of_records asked) groups f
+
+-- why the DNSKEY answer is not given
+abbrev pub RefusesKeys : (Dnskey → List ℕ → Option (List ℕ)) → (Dnskey → List ℕ → List ℕ → Bool) → Served → Name → ℕ → ℕ → List Dnskey → List Dnskey → AnswerFault → Type 0
+RefusesKeys sign verifies s apex at life present keys fault.Memory = Unit {0}
+RefusesKeys sign verifies s apex at life present keys f =
+    (group : GroupView) × Presents group (key_group apex (s.ttl_of s.zone.apex 6) present)
+    × RefusesGroups sign verifies apex at life keys (ahead_of_records (record { name = apex; rtype = 48; class = 1 })) (group ∷ []) f

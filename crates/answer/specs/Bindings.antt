@@ -1,5 +1,5 @@
 -- Keys together with the DNSKEYs that their references are bound to, call by call.
-use Rattle.std.specs.Prelude.{ℕ, Bool, false, not, List, [], ◌∷◌, map, filter, Option, Some, None, Result, Ok, Err, if◌then◌else◌}
+use Rattle.std.specs.Prelude.{ℕ, Bool, false, not, List, [], map, filter, Option, Some, None, Result, Ok, Err, if◌then◌else◌}
 use Rattle.std.specs.declared.cmp.Ordering.{Ordering}
 use Rattle.std.specs.Ordering.{nat_cmp}
 use Rattle.std.specs.Cmp.Lexicographic.{slice_cmp}
@@ -15,7 +15,7 @@ use Rattle.answer.specs.declared.publisher.keys.KeyKind.{KeyKind}
 use Rattle.answer.specs.declared.publisher.keys.KeyKind.TheVariants.{Ksk as KskKey, Zsk as ZskKey}
 use Rattle.answer.specs.declared.keyset.rolls.RollType.{RollType}
 use Rattle.answer.specs.declared.keyset.rolls.Action.{Action}
-use Rattle.answer.specs.KeyState.{KeySetState, Reference, reference_cmp, clear, new_key, Refusal, Answer, add, start, report1, report2, wait1, wait2, done, ds, present, keysigners, zonesigners, key_of, ksk_is, zsk_is, main_is, is_at_parent, is_present, signs}
+use Rattle.answer.specs.KeyState.{KeySetState, Reference, reference_cmp, clear, new_key, Refusal, Answer, add, start, report1, report2, wait1, wait2, done, key_of, ksk_is, zsk_is, main_is, is_at_parent, is_present, signs}
 
 -- a call on the keys; an add names the key's private reference, algorithm and octets, and whether it is available
 pub data Call : Type 0 where

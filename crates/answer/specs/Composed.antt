@@ -1,11 +1,13 @@
 -- Answers as they are written: RRsets, each with its signatures behind it.
-use Rattle.std.specs.Prelude.{◌≡◌, ℕ, ◌+◌, ◌≤◌, Bool, List, [], ◌++◌, map, length, Option, if◌then◌else◌}
+use Rattle.std.specs.Prelude.{◌≡◌, ℕ, ◌+◌, ◌*◌, ◌<◌, ◌≤◌, Bool, true, List, [], ◌++◌, map, length, Contains, Option, if◌then◌else◌}
 use Rattle.std.specs.List.{AllZip, flat_map}
 use Rattle.definitions.specs.Name.{Name}
 use Rattle.definitions.specs.Dnskey.{Dnskey}
 use Rattle.answer.specs.Message.{Asked}
 use Rattle.answer.specs.Written.{Written, record_octets, message_octets}
-use Rattle.answer.specs.GroupView.{GroupView, IsRrsigData}
+use Rattle.answer.specs.GroupView.{FailsFor, GroupView, IsRrsigData}
+use Rattle.answer.specs.declared.publisher.fault.AnswerFault.{AnswerFault}
+use Rattle.answer.specs.declared.publisher.fault.AnswerFault.TheVariants as fault
 
 -- a record of an RRset, or a signature of it
 abbrev pub record_of : GroupView → ℕ → List ℕ → Written
@@ -37,3 +39,31 @@ pub record IsAnswer (sign : Dnskey → List ℕ → Option (List ℕ)) (verifies
   pub authorities_are : AllZip (IsWritten sign verifies apex at life keys) authority authorities
   pub octets_are : m ≡ message_octets flags asked (joined answers) (joined authorities)
   pub short : length m ≤ 65535
+
+-- each record has at least 11 octets: a root owner, type, class, TTL and length (RFC 1035, 4.1.3)
+abbrev pub HasRoom : List ℕ → ℕ → Type 0
+HasRoom octets count = count * 11 ≤ length octets
+
+-- some RRsets from the first on have so many octets, with their signatures, that no message holds them and so many more
+abbrev pub IsTooLong : (Dnskey → List ℕ → Option (List ℕ)) → (Dnskey → List ℕ → List ℕ → Bool) → Name → ℕ → ℕ → List Dnskey → ℕ → List GroupView → Type 0
+IsTooLong sign verifies apex at life keys more gs =
+    (front rest : List GroupView) × (octets : List ℕ) × (count : ℕ)
+    × (gs ≡ front ++ rest) × IsSection sign verifies apex at life keys front octets count × (65535 < more + length octets)
+
+-- no signature of one of some RRsets by one of the keys is made
+abbrev pub FailsToSign : (Dnskey → List ℕ → Option (List ℕ)) → Name → ℕ → ℕ → List Dnskey → List GroupView → Type 0
+FailsToSign sign apex at life keys gs = (g : GroupView) × Contains gs g × (g.signed ≡ true) × FailsFor sign apex at life g keys
+
+-- why RRsets are not written as an answer, behind so many octets
+abbrev pub RefusesGroups : (Dnskey → List ℕ → Option (List ℕ)) → (Dnskey → List ℕ → List ℕ → Bool) → Name → ℕ → ℕ → List Dnskey → ℕ → List GroupView → AnswerFault → Type 0
+RefusesGroups sign verifies apex at life keys more gs fault.QuestionNotAllowed = ⊥
+RefusesGroups sign verifies apex at life keys more gs fault.HashFailed = ⊥
+RefusesGroups sign verifies apex at life keys more gs fault.SignFailed = FailsToSign sign apex at life keys gs
+RefusesGroups sign verifies apex at life keys more gs fault.TooLong = IsTooLong sign verifies apex at life keys more gs
+RefusesGroups sign verifies apex at life keys more gs fault.Memory = Unit {0}
+
+-- why records are not written behind some octets
+abbrev pub RefusesRecords : List ℕ → ℕ → List Written → AnswerFault → Type 0
+RefusesRecords old count ws fault.TooLong = HasRoom old count → 65535 < length (old ++ flat_map record_octets ws)
+RefusesRecords old count ws fault.Memory = Unit {0}
+RefusesRecords old count ws _ = ⊥

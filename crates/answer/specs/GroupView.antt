@@ -1,5 +1,6 @@
 -- An RRset on its way into an answer, as contracts see it.
-use Rattle.std.specs.Prelude.{◌≡◌, ℕ, ◌+◌, ◌%◌, Bool, true, List, Option, Some, None, Contains}
+use Rattle.std.specs.Prelude.{◌≡◌, ℕ, ◌+◌, ◌%◌, Bool, true, List, ◌++◌, Option, Some, None, Contains}
+use Rattle.std.specs.List.{AllZip}
 use Rattle.definitions.specs.Name.{Name}
 use Rattle.definitions.specs.Dnskey.{Dnskey, key_tag}
 use Rattle.definitions.specs.Signing.{Fields, label_count, signed_octets}
@@ -24,6 +25,10 @@ pub record Presents (g : GroupView) (of : Group) : Type 0 where
   pub ttl_is : g.ttl ≡ of.ttl
   pub canonical_is : g.canonical ≡ of.datas
   pub signed_is : g.signed ≡ of.signed
+
+-- some RRsets are added at the end, and they are these
+abbrev pub Adds : List GroupView → List GroupView → List Group → Type 0
+Adds old new gs = (more : List GroupView) × AllZip Presents more gs × (new ≡ old ++ more)
 
 -- what a signature of one key says of an RRset, the signer as spelled (RFC 4034, 3.1)
 abbrev pub fields_of : Name → ℕ → ℕ → GroupView → Dnskey → Fields

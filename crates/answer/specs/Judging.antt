@@ -1,16 +1,11 @@
 -- What a judge is handed, what it answers, and what it promises.
-use Rattle.std.specs.Prelude.{◌≡◌, ◌⊎◌, MatchBool, ℕ, ◌+◌, ◌≤◌, Bool, true, false, not, ◌&&◌, ◌||◌, ◌==◌, List, [], ◌∷◌, ◌++◌, map, filter, length, Option, Some, None, Result, Ok, Err, IsTrue, Contains, nat_le, nat_eq, if◌then◌else◌}
-use Rattle.std.specs.List.{All, list_any, filter_map}
-use Rattle.definitions.specs.Name.{Name, low, same, at_or_above}
-use Rattle.definitions.specs.Dnskey.{Dnskey, Ds, key_tag, same_key, dnskey_of_data, digested}
-use Rattle.definitions.specs.Signing.{Fields, in_time}
-use Rattle.definitions.specs.Zone.{Verdict, Records, NoType, NoName, StarRecords, StarNoType, Delegated, Open, Unsigned, verdict}
-use Rattle.definitions.specs.ZoneChain.{Mode, Nsec, Nsec3, optout_of}
-use Rattle.answer.specs.Answers.{Answers}
-use Rattle.answer.specs.Accepting.{among, HandedRr, IsAccepted, sorted_records}
-use Rattle.answer.specs.Served.{Served, served_of}
-use Rattle.answer.specs.Given.{GivesKeys, GivesAnswer}
-use Rattle.answer.specs.Message.{Message, Spelled, Asked, message, data_of, rrsig_at}
+use Rattle.std.specs.Prelude.{◌≡◌, MatchBool, ℕ, ◌+◌, ◌≤◌, Bool, true, false, not, ◌&&◌, ◌==◌, List, [], ◌∷◌, filter, length, Option, Some, None, Result, Ok, Err, IsTrue, nat_le, nat_eq, if◌then◌else◌}
+use Rattle.std.specs.List.{list_any, filter_map}
+use Rattle.definitions.specs.Name.{Name, same, at_or_above}
+use Rattle.definitions.specs.Dnskey.{Dnskey, Ds, key_tag, same_key, dnskey_of_data}
+use Rattle.definitions.specs.Zone.{Verdict, Records, NoType, NoName, StarRecords, StarNoType, Delegated, Open, Unsigned}
+use Rattle.answer.specs.Accepting.{among}
+use Rattle.answer.specs.Message.{Spelled, Asked, message, data_of}
 use Rattle.answer.specs.declared.judge.verdict.Verdict.{Verdict as CodeVerdict}
 use Rattle.answer.specs.declared.judge.verdict.Verdict.TheVariants as v
 use Rattle.answer.specs.declared.judge.verdict.Refusal.{Refusal}

@@ -1,5 +1,5 @@
 -- What the publisher's key calls return, beside the definitions.
-use Rattle.std.specs.Prelude.{◌≡◌, ℕ, List, Option, Some, None, Result, Ok, Err}
+use Rattle.std.specs.Prelude.{◌≡◌, List, Option, Some, None, Result, Ok, Err}
 use Rattle.answer.specs.declared.publisher.fault.KeyFault.{KeyFault}
 use Rattle.answer.specs.declared.publisher.fault.KeyFault.TheVariants as fault
 use Rattle.answer.specs.declared.keyset.rolls.Action.{Action}

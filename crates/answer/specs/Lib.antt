@@ -3,6 +3,7 @@ pub mod Message
 pub mod Accepting
 pub mod Served
 pub mod Given
+pub mod Links
 pub mod Judging
 pub mod KeyState
 pub mod KeyAnswers

@@ -1,5 +1,5 @@
 -- What an add of the code hands in, as a call of the definitions.
-use Rattle.std.specs.Prelude.{◌≡◌, ℕ, [], Option, Result, Ok, Err, string_bytes}
+use Rattle.std.specs.Prelude.{ℕ, [], Result, string_bytes}
 use Rattle.definitions.specs.Dnskey.{key_tag}
 use Rattle.answer.specs.declared.publisher.keys.NewKey.{NewKey}
 use Rattle.answer.specs.declared.publisher.fault.KeyFault.{KeyFault}

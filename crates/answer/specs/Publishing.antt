@@ -3,7 +3,6 @@ use Rattle.std.specs.Prelude.{ℕ, ◌/◌, ◌%◌, List, [], Option, Some, Non
 use Rattle.definitions.specs.Name.{Name, wire, low}
 use Rattle.definitions.specs.Dnskey.{Dnskey, digested}
 use Rattle.definitions.specs.ZoneChain.{Mode, Nsec, Nsec3}
-use Rattle.answer.specs.Answers.{Answers}
 use Rattle.answer.specs.Served.{Served, served_of}
 use Rattle.answer.specs.ZoneView.{AcceptedZone}
 use Rattle.answer.specs.Bindings.{ZoneKeys}

@@ -1,5 +1,5 @@
 -- What a zone is served with, and what an answer holds (RFC 4035, 3.1; RFC 5155, 7.2).
-use Rattle.std.specs.Prelude.{ℕ, ◌-◌, Bool, true, false, ◌&&◌, ◌||◌, ◌==◌, List, [], ◌∷◌, ◌++◌, map, filter, length, drop, Option, Some, None, if◌then◌else◌, min}
+use Rattle.std.specs.Prelude.{ℕ, ◌-◌, Bool, true, false, ◌&&◌, ◌||◌, ◌==◌, List, [], ◌∷◌, ◌++◌, map, filter, length, drop, Some, None, if◌then◌else◌, min}
 use Rattle.std.specs.List.{list_any}
 use Rattle.std.specs.Int.{w32, from_be_bytes}
 use Rattle.std.specs.Ordering.{nat_cmp}
@@ -14,12 +14,14 @@ use Rattle.definitions.specs.Dnskey.{Dnskey, dnskey_data, key_tag}
 use Rattle.definitions.specs.ZoneChain.{Mode, Nsec, Nsec3, optout_of, nsec_names, nsec3_names, nsec_next, nsec_data, nsec3_data, nsec3_next, hash_cmp}
 use Rattle.answer.specs.Accepting.{HandedRr, zone_with, soas}
 
--- a zone, its chain's mode and hash, the TTL of an owner and a type, and how names of the zone are spelled
+-- a zone, its chain's mode and hash, the TTL of an owner and a type, how its records of a type spell an owner, and
+-- how next names are spelled
 pub record Served : Type 0 where
   pub zone : Zone
   pub mode : Mode
   pub hash : Name → List ℕ
   pub ttl_of : Name → ℕ → ℕ
+  pub owner_of : Name → ℕ → Name
   pub spelled : Name → Name
 
 -- the TTL of the first record of an owner and a type
@@ -47,6 +49,15 @@ abbrev pub spelled_among : List HandedRr → Name → Name
 spelled_among [] o = o
 spelled_among (r ∷ rs) o = if labels_eq (low r.owner) o then r.owner else spelled_among rs o
 
+-- the owner of the first record of an owner and a type
+abbrev pub owner_among : List HandedRr → Name → ℕ → Name
+owner_among [] o t = o
+owner_among (r ∷ rs) o t = if labels_eq (low r.owner) o && (r.rtype == t) then r.owner else owner_among rs o t
+
+-- a record of the chain has the owner of the first record of its name
+abbrev pub served_owner : List HandedRr → Name → ℕ → Name
+served_owner sorted o t = if (t == 47) || (t == 50) then spelled_among sorted o else owner_among sorted o t
+
 -- as the first record of the name in canonical order; the apex as it was handed in
 abbrev pub spelled_as : Name → List HandedRr → Name → Name
 spelled_as apex sorted o = if labels_eq (low apex) o then apex else spelled_among sorted o
@@ -58,6 +69,7 @@ served_of apex mode hash sorted = record {
   mode = mode;
   hash = hash;
   ttl_of = served_ttl apex sorted;
+  owner_of = served_owner sorted;
   spelled = spelled_as apex sorted;
 }
 
@@ -72,7 +84,7 @@ pub record Group : Type 0 where
   pub signed : Bool
 
 abbrev pub rrset : Served → Name → ℕ → Group
-rrset s o t = record { owner = o; source = o; rtype = t; ttl = s.ttl_of o t; datas = data_at s.zone o t; signed = true }
+rrset s o t = record { owner = s.owner_of o t; source = o; rtype = t; ttl = s.ttl_of o t; datas = data_at s.zone o t; signed = true }
 
 abbrev pub soa : Served → Group
 soa s = rrset s s.zone.apex 6
@@ -80,9 +92,9 @@ soa s = rrset s s.zone.apex 6
 -- the record of a name of the chain
 abbrev pub chain_record : Served → Name → Group
 chain_record s o = elim s.mode [
-  | Nsec ↦ record { owner = o; source = o; rtype = 47; ttl = s.ttl_of o 47; datas = nsec_data s.zone s.spelled o ∷ []; signed = true }
+  | Nsec ↦ record { owner = s.owner_of o 47; source = o; rtype = 47; ttl = s.ttl_of o 47; datas = nsec_data s.zone s.spelled o ∷ []; signed = true }
   | Nsec3 iterations salt optout ↦
-      let h = base32hex (s.hash o) ∷ s.zone.apex in
+      let h = base32hex (s.hash o) ∷ s.spelled s.zone.apex in
       record { owner = h; source = h; rtype = 50; ttl = s.ttl_of o 50; datas = nsec3_data s.hash s.zone iterations salt optout o ∷ []; signed = true }
 ]
 

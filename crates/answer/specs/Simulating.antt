@@ -21,7 +21,7 @@ use Rattle.answer.specs.Bindings.{ZoneKeys, Call, Add, Start, Report1, Wait1, Re
 use Rattle.answer.specs.KeyCalls.{GivesKeys}
 use Rattle.answer.specs.ZoneView.{AcceptedZone}
 use Rattle.answer.specs.Publishing.{digest_at, served, second_of}
-use Rattle.answer.specs.Answering.{AnswersKeys, SignsAnswer}
+use Rattle.answer.specs.Answering.{AnswersKeys, AnswersZone, RefusesAnswer, RefusesKeys}
 use Rattle.answer.specs.Judging.{Handing, Judges, answer_of, verifications_of, hashes_of, is_allowed}
 
 -- an accepted zone, how long its signatures hold, what its scheme signs, and what scheme and hasher answer a judge
@@ -88,7 +88,7 @@ ShowsKeys w keys at bytes = AnswersKeys w.sign w.answers.verifies (served w.answ
 
 -- the zone's answer to a question at a moment, signed by these keys
 abbrev pub ShowsAnswer : World → ZoneKeys → ℕ → Asked → List ℕ → Type 0
-ShowsAnswer w keys at asked bytes = SignsAnswer w.sign w.answers.verifies w.zone.apex (second_of at) w.life (keys_by_tag keys publication.SignsZone) asked bytes
+ShowsAnswer w keys at asked bytes = AnswersZone w.sign w.answers.verifies (served w.answers.hash w.zone) w.zone.apex (second_of at) w.life (keys_by_tag keys publication.SignsZone) asked bytes
 
 -- a question that isn't allowed is refused so, and no other
 abbrev pub RefusesAsked : Bool → AnswerFault → Type 0
@@ -104,13 +104,16 @@ StepOf w s at act.ShowDs (outcome.Ds place set) t =
     (place ≡ length s.shown) × (set.items ≡ ds_set s.keys) × (t ≡ record s { shown = s.shown ++ OfParent set.items ∷ [] })
 StepOf w s at act.ShowDnskey (outcome.Message place octets) t =
     (place ≡ length s.shown) × ShowsKeys w s.keys at octets.items × (t ≡ record s { shown = s.shown ++ OfKeys octets.items ∷ [] })
-StepOf w s at act.ShowDnskey (outcome.Refused e) t = t ≡ s
+StepOf w s at act.ShowDnskey (outcome.Refused e) t = RefusesKeys w.sign w.answers.verifies (served w.answers.hash w.zone) w.zone.apex (second_of at) w.life (dnskeys (published s.keys publication.Present)) (keys_by_tag s.keys publication.SignsKeys) e × (t ≡ s)
 StepOf w s at (act.Ask q) (outcome.Message place octets) t =
     (place ≡ length s.shown)
     × (is_allowed w.zone.apex (asked_of q) ≡ true)
     × ShowsAnswer w s.keys at (asked_of q) octets.items
     × (t ≡ record s { shown = s.shown ++ OfZone (asked_of q) octets.items ∷ [] })
-StepOf w s at (act.Ask q) (outcome.Refused e) t = RefusesAsked (is_allowed w.zone.apex (asked_of q)) e × (t ≡ s)
+StepOf w s at (act.Ask q) (outcome.Refused e) t =
+    RefusesAsked (is_allowed w.zone.apex (asked_of q)) e
+    × RefusesAnswer w.sign w.answers.verifies (served w.answers.hash w.zone) w.zone.apex (second_of at) w.life (keys_by_tag s.keys publication.SignsZone) (asked_of q) e
+    × (t ≡ s)
 StepOf w s at (act.Judge ds keys answer) o t = JudgesThings w at (slice_get s.shown ds) (slice_get s.shown keys) (slice_get s.shown answer) o × (t ≡ s)
 StepOf w s at (act.JudgeBytes ds keys answer q) o t = JudgesBytes w at (slice_get s.shown ds) keys.items answer.items (asked_of q) o × (t ≡ s)
 StepOf w s at _ _ t = ⊥

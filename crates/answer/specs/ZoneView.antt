@@ -1,12 +1,10 @@
 -- How a zone's records and its mode are seen, and the laws of the records' order.
-use Rattle.std.specs.Prelude.{ℕ, List, [], ◌∷◌, Bool, true, false, ◌&&◌, ◌||◌, ◌==◌, ◌≡◌, length, map, filter}
+use Rattle.std.specs.Prelude.{ℕ, List, [], ◌∷◌, Bool, true, false, ◌&&◌, ◌||◌, ◌==◌, ◌≡◌, length}
 use Rattle.std.specs.List.{AllByRecursion}
 use Rattle.std.specs.List.Sorted.{IsStrictlySortedBy}
 use Rattle.std.specs.Cmp.{IsTotalOrder, then_total, on_total}
-use Rattle.std.specs.Cmp.Lexicographic.{slice_cmp}
-use Rattle.std.specs.Ordering.{nat_cmp}
 use Rattle.std.proofs.lemmas.Cmp.{lists_total, nat_cmp_total, nat_list_cmp_total}
-use Rattle.definitions.specs.Name.{Name, from_root, name_cmp, low, at_or_above, strictly_above, same}
+use Rattle.definitions.specs.Name.{Name, from_root, name_cmp, at_or_above, strictly_above, same}
 use Rattle.definitions.specs.ZoneChain.{Mode}
 use Rattle.answer.specs.Accepting.{HandedRr, record_cmp, has_star, soas}
 use Rattle.definitions.specs.ZoneChain as chain
@@ -55,14 +53,6 @@ pub record AcceptedZone : Type 0 where
   pub mode : Mode
   pub limit : ℕ
   pub records : List HandedRr
-
--- the data of a record: as spelled, and in canonical form
-pub record Datum : Type 0 where
-  pub written : List ℕ
-  pub bytes : List ℕ
-
-abbrev pub data_of : HandedRr → Datum
-data_of r = record { written = r.written; bytes = r.bytes }
 
 -- a record is of a name, up to case, and a type
 abbrev pub is_of : Name → ℕ → HandedRr → Bool

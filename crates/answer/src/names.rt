@@ -88,10 +88,11 @@ impl Name {
         self.suffix(alloc, self.labels.len())
     }
 
-    /// The name of the last labels, so many of them.
+    /// The name of the last labels, so many of them. Under an ancestor there is room for a wildcard.
     pub fn suffix(&self, alloc: Global, count: usize) -> Result<Name, AllocError>
         requires { count ≤ length self.now }
-        ensures { IfOk result (λ n. n ≡ drop (length self.now - count) self.now) }
+        ensures labels { IfOk result (λ n. n ≡ drop (length self.now - count) self.now) }
+        ensures room { count < length self.now → IfOk result (λ n. wire_len (star_under n) ≤ 255) }
     {
         let mut labels = Vec::with_capacity(alloc, count)?;
         push_labels(

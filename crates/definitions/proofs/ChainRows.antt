@@ -5,6 +5,7 @@ use Rattle.definitions.specs.Name.{wire}
 use Rattle.definitions.specs.Zone.{Zone}
 use Rattle.definitions.specs.Covering.{covers, hash_covers}
 use Rattle.definitions.specs.Base32hex.{base32hex}
+use Rattle.definitions.specs.Bitmap.{octet_of, window_size, window_count}
 use Rattle.definitions.specs.ZoneChain.{nsec_names, nsec3_names, nsec_next, nsec_types, nsec3_types, nsec_data}
 use Rattle.definitions.proofs.NameRows.{example}
 use Rattle.definitions.proofs.ZoneRows.{small, rr}
@@ -47,6 +48,7 @@ hashed_bits : nsec3_types small (codes "d" ∷ example) ++ nsec3_types small (co
 hashed_bits = refl
 
 nsec_record : nsec_data small (λ n. n) (codes "a" ∷ example) ≡ wire (codes "b" ∷ codes "c" ∷ example) ++ 0 ∷ 6 ∷ 64 ∷ 0 ∷ 0 ∷ 0 ∷ 0 ∷ 3 ∷ []
+unfolding octet_of window_size window_count
 nsec_record = refl
 
 -- what one record covers

@@ -7,3 +7,16 @@ pub mod KeyRows
 pub mod NameLaws
 pub mod ChainLaws
 pub mod LawProofs
+pub mod SignedLaws
+pub mod PlainNames
+pub mod PlainZones
+pub mod VerdictCases
+pub mod PlainBitmaps
+pub mod PlainReading
+pub mod Members
+pub mod SameZones
+pub mod BitmapLaws
+pub mod SigningRows
+pub mod PlainSpelling
+pub mod CircleLaws
+pub mod ReadingLaws

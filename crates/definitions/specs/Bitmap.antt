@@ -7,8 +7,15 @@ abbrev pub below : ℕ → List ℕ
 below zero = []
 below (suc n) = below n ++ n ∷ []
 
+-- Octets of a whole window, and how many windows there are: words, since a numeral unfolds in every goal.
+unfoldable pub window_size : ℕ
+window_size = 32
+
+unfoldable pub window_count : ℕ
+window_count = 256
+
 -- an octet: the first of eight bits is the highest
-abbrev pub octet_of : List ℕ → ℕ → ℕ → ℕ
+unfoldable pub octet_of : List ℕ → ℕ → ℕ → ℕ
 octet_of ts window i = sum_by (λ k. if list_any (nat_eq (window * 256 + i * 8 + k)) ts then 2 ^ (7 - k) else 0) (below 8)
 
 -- without the zeros at the end
@@ -18,7 +25,7 @@ trimmed (b ∷ bs) = let r = trimmed bs in if (b == 0) && (length r == 0) then [
 
 -- the octets of a window, up to the last that is not zero
 abbrev pub window_octets : List ℕ → ℕ → List ℕ
-window_octets ts w = trimmed (map (octet_of ts w) (below 32))
+window_octets ts w = trimmed (map (octet_of ts w) (below window_size))
 
 -- a window: its number, how many octets, and the octets; none where it is empty
 abbrev pub window : List ℕ → ℕ → List ℕ
@@ -26,7 +33,7 @@ window ts w = let bs = window_octets ts w in if length bs == 0 then [] else w �
 
 -- the one spelling of a set
 abbrev pub bitmap : List ℕ → List ℕ
-bitmap ts = flat_map (window ts) (below 256)
+bitmap ts = flat_map (window ts) (below window_count)
 
 -- Windows as they are spelled, in any order: a number, a length of 1 to 32, and that many octets.
 abbrev pub windows_upto : ℕ → List ℕ → Option (List (ℕ × List ℕ))

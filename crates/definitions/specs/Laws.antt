@@ -1,10 +1,16 @@
 -- Laws of the definitions, which the module `laws` proves.
-use Rattle.std.specs.Prelude.{◌≡◌, ◌↔◌, Bool, true, ◌&&◌, ◌||◌, List, [], ◌∷◌, filter, IsTrue}
+use Rattle.std.specs.Prelude.{◌≡◌, ◌↔◌, ℕ, ◌^◌, ◌<◌, ◌≤◌, Ok, Bool, true, ◌&&◌, ◌||◌, List, [], ◌∷◌, ◌++◌, filter, length, nat_eq, IsTrue}
+use Rattle.std.specs.List.{AllByRecursion, Contains, list_any}
+use Rattle.std.specs.Str.{bytes_eq}
 use Rattle.std.specs.declared.cmp.Ordering.TheVariants.{Equal, Greater}
 use Rattle.std.specs.Cmp.{IsTotalOrder}
-use Rattle.definitions.specs.Name.{Name, same, name_cmp, at_or_above}
-use Rattle.definitions.specs.Covering.{before, covers}
+use Rattle.definitions.specs.Name.{Name, IsName, wire, wire_len, same, name_cmp, at_or_above}
+use Rattle.definitions.specs.Reading.{Reads, heads_of, pointers_of, name_at}
+use Rattle.definitions.specs.Covering.{before, covers, hash_covers}
+use Rattle.definitions.specs.Bitmap.{bitmap, is_bitmap, bitmap_has}
 use Rattle.definitions.specs.ZoneChain.{links}
+use Rattle.definitions.specs.Signing.{Fields, signed_owner, signed_octets, ascending}
+use Rattle.definitions.specs.Zone.{Rr, Zone, verdict}
 
 -- names are in one order, up to ASCII case
 pub record OrdersNames : Type 0 where
@@ -29,3 +35,85 @@ link_speaks apex q l = same l.0 q || covers apex l.0 l.1 q
 -- of the links of rising names that begin with the apex, exactly one speaks for each name at or below the apex
 abbrev pub OneLinkSpeaks : Type 0
 OneLinkSpeaks = (apex q : Name) (names : List Name) → IsTrue (rising (apex ∷ names)) → IsTrue (at_or_above apex q) → (l : Name × Name) × (filter (link_speaks apex q) (links apex (apex ∷ names)) ≡ l ∷ [])
+
+-- a link of hashes matches a hash, or covers it
+abbrev pub hash_link_speaks : List ℕ → List ℕ × List ℕ → Bool
+hash_link_speaks h l = bytes_eq l.0 h || hash_covers l.0 l.1 h
+
+-- of the links of ascending hashes, round a circle, exactly one speaks for each hash
+abbrev pub OneHashLinkSpeaks : Type 0
+OneHashLinkSpeaks = (first : List ℕ) (hashes : List (List ℕ)) (h : List ℕ) → IsTrue (ascending (first ∷ hashes)) → (l : List ℕ × List ℕ) × (filter (hash_link_speaks h) (links first (first ∷ hashes)) ≡ l ∷ [])
+
+-- ---- octets
+
+-- octets that begin with a name in wire form begin with one name only
+abbrev pub WireSpells : Type 0
+WireSpells = (n m : Name) (rest other : List ℕ) → IsName n → IsName m → wire n ++ rest ≡ wire m ++ other → (n ≡ m) × (rest ≡ other)
+
+-- What every signature over an RRset has: fields, a class and data that fit their places, names, and a record.
+pub record IsSignable (f : Fields) (owner : Name) (class : ℕ) (ds : List (List ℕ)) : Type 0 where
+  pub covered : f.covered < 2 ^ 16
+  pub ttl : f.ttl < 2 ^ 32
+  pub expiration : f.expiration < 2 ^ 32
+  pub inception : f.inception < 2 ^ 32
+  pub tag : f.tag < 2 ^ 16
+  pub signer : IsName f.signer
+  pub named : IsName owner
+  pub classed : class < 2 ^ 16
+  pub some : 0 < length ds
+  pub short : AllByRecursion (λ d. length d < 2 ^ 16) ds
+
+-- The same fields, the signer up to ASCII case, and the same records. Owners that were expanded from one star are
+-- signed as that star.
+pub record SignsSame (f g : Fields) (owner other : Name) (class kind : ℕ) (ds es : List (List ℕ)) : Type 0 where
+  pub covered : f.covered ≡ g.covered
+  pub algorithm : f.algorithm ≡ g.algorithm
+  pub labels : f.labels ≡ g.labels
+  pub ttl : f.ttl ≡ g.ttl
+  pub expiration : f.expiration ≡ g.expiration
+  pub inception : f.inception ≡ g.inception
+  pub tag : f.tag ≡ g.tag
+  pub signer : IsTrue (same f.signer g.signer)
+  pub owners : signed_owner f.labels owner ≡ signed_owner g.labels other
+  pub classes : class ≡ kind
+  pub contents : ds ≡ es
+
+-- signed octets spell one signed RRset
+abbrev pub SignedOctetsSpell : Type 0
+SignedOctetsSpell = (f g : Fields) (owner other : Name) (class kind : ℕ) (ds es : List (List ℕ)) → IsSignable f owner class ds → IsSignable g other kind es → signed_octets f owner class ds ≡ signed_octets g other kind es → SignsSame f g owner other class kind ds es
+
+-- ---- zones
+
+-- the same apex, and the same records, in any order and however often each
+pub record SameZone (z w : Zone) : Type 0 where
+  pub apex : z.apex ≡ w.apex
+  pub records : (r : Rr) → Contains z.records r ↔ Contains w.records r
+
+-- the order and repetition of a zone's records mean nothing
+abbrev pub OrderMeansNothing : Type 0
+OrderMeansNothing = (z w : Zone) → SameZone z w → (optout : Bool) (name : Name) (t : ℕ) → verdict z optout name t ≡ verdict w optout name t
+
+-- ---- sets of types
+
+-- the spelling of a set is a bitmap, and has the types of the set and no other
+pub record SpellsSet (ts : List ℕ) : Type 0 where
+  pub spelled : IsTrue (is_bitmap (bitmap ts))
+  pub members : (t : ℕ) → t < 2 ^ 16 → bitmap_has (bitmap ts) t ≡ list_any (nat_eq t) ts
+
+-- lists of types are spelled alike exactly where they have the same types
+abbrev pub OneSpelling : Type 0
+OneSpelling = (ts us : List ℕ) → (bitmap ts ≡ bitmap us) ↔ ((t : ℕ) → t < 2 ^ 16 → list_any (nat_eq t) ts ≡ list_any (nat_eq t) us)
+
+-- ---- reading
+
+-- looking at one head after another finds a name exactly where a name of at most 255 octets stands
+abbrev pub ReadsExactly : Type 0
+ReadsExactly = (m : List ℕ) (p k : ℕ) (n : Name) → ((e : ℕ) × (name_at k m p ≡ Ok (n, e))) ↔ (Reads m p k n × (wire_len n ≤ 255))
+
+-- how many heads are looked at, and how many of them are pointers
+pub record IsShortReading {m : List ℕ} {p : ℕ} {n : Name} (r : Reads m p 255 n) : Type 0 where
+  pub pointers : pointers_of r ≤ 255
+  pub heads : heads_of r ≤ 383
+
+abbrev pub ReadingIsShort : Type 0
+ReadingIsShort = (m : List ℕ) (p : ℕ) (n : Name) (r : Reads m p 255 n) → wire_len n ≤ 255 → IsShortReading r

@@ -11,3 +11,6 @@ pub mod Dnskey
 pub mod Signing
 pub mod Laws
 pub mod Text
+pub mod ReferenceViews
+pub mod Reference
+pub mod Windows

@@ -1,6 +1,7 @@
 //! Laws over the definitions. Each is the contract of a function that does nothing.
+ghost use Rattle.std.specs.Prelude.{ℕ, List};
 ghost use Rattle.definitions.specs.Name.{Name};
-ghost use Rattle.definitions.specs.Laws.{OrdersNames, IsInterval, OneLinkSpeaks};
+ghost use Rattle.definitions.specs.Laws.{OrdersNames, IsInterval, OneLinkSpeaks, OneHashLinkSpeaks, WireSpells, SignedOctetsSpell, OrderMeansNothing, SpellsSet, OneSpelling, ReadsExactly, ReadingIsShort};
 
 /// Names have one canonical order up to ASCII case, and are equal in it exactly where they are the same up to
 /// case (RFC 4034, 6.1).
@@ -17,4 +18,47 @@ pub fn names_below_apex()
 /// (RFC 4034, 4).
 pub fn one_link_speaks()
     ensures { OneLinkSpeaks }
+{}
+
+/// Of a chain of hashes that ascends, exactly one link matches or covers each hash; the last leads back to the
+/// first (RFC 5155, 3.1.7).
+pub fn one_hash_link_speaks()
+    ensures { OneHashLinkSpeaks }
+{}
+
+/// The wire form of a name tells where it ends: no name's octets begin with those of another (RFC 1035, 3.1).
+pub fn wire_form_spells_one_name()
+    ensures { WireSpells }
+{}
+
+/// What a signature is made over tells its fields and its RRset: equal octets have equal type, class, TTL and data,
+/// and up to ASCII case one signer and one signed owner (RFC 4034, 3.1.8.1; RFC 4035, 5.3.2).
+pub fn signed_octets_spell_one_rrset()
+    ensures { SignedOctetsSpell }
+{}
+
+/// What a zone says of a name and a type depends on neither the order nor the repetition of its records.
+pub fn order_of_records_means_nothing()
+    ensures { OrderMeansNothing }
+{}
+
+/// The spelling of a set of types is a bitmap that has the types of the set and no other (RFC 4034, 4.1.2).
+pub fn bitmap_spells_its_set()
+    ensures { (ts : List ℕ) → SpellsSet ts }
+{}
+
+/// Lists of types have one bitmap exactly where they have the same types.
+pub fn equal_bitmaps_are_equal_sets()
+    ensures { OneSpelling }
+{}
+
+/// A name is read, with at most so many pointers, exactly where a name of at most 255 octets stands
+/// (RFC 1035, 4.1.4).
+pub fn names_are_read_where_they_stand()
+    ensures { ReadsExactly }
+{}
+
+/// Reading a name of at most 255 octets through at most 255 pointers looks at no more than 383 heads.
+pub fn reading_a_name_is_short()
+    ensures { ReadingIsShort }
 {}

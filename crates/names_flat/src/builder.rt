@@ -2,7 +2,7 @@
 
 ghost use Rattle.std.specs.Prelude.{List, true, Some, None, ◌≡◌, ◌≢◌, ◌↔◌, ◌+◌, ◌<◌, ◌≤◌, ◌++◌, ◌∷◌, ◌==◌, [], ℕ, length, slice_set, refl, MatchOption, IfOk, IfErr, IsOk, IsTrue, IsErrOf, OnOk, OnErr};
 ghost use Rattle.definitions.specs.Name.{IsName};
-ghost use Rattle.names_labels.specs.Flat.{SpellsRelative, spelled};
+ghost use Rattle.names_labels.specs.Flat.{SpellsRelative, labels_in, spelled};
 ghost use Rattle.names_labels.specs.RefusedRelative.{RefusedRelative};
 ghost use Rattle.std.specs.Iterator.{IsFinite, Drains};
 ghost use Rattle.definitions.specs.Text.{Symbol as TextSymbol};
@@ -127,6 +127,17 @@ impl<B: OctetsBuilder> NameBuilder<B> {
                 head: None,
             }),
             Err(error) => Err(error),
+        }
+    }
+
+    /// Goes on behind the labels that a buffer was found to hold.
+    pub(crate) fn behind(builder: B) -> Self
+        requires { SpellsRelative (B.bytes builder) (labels_in (B.bytes builder)) }
+        ensures { result ≡ record { done = labels_in (B.bytes builder); open_label = [] } }
+    {
+        NameBuilder {
+            builder,
+            head: None,
         }
     }
 

@@ -1,4 +1,4 @@
-//! Laws of comparing names.
+//! Laws of names. Each is a function without a parameter, whose contract is the law.
 
 ghost use Rattle.std.specs.Prelude.{◌≡◌, IsTrue, false};
 ghost use Rattle.std.specs.Ordering.{eq_by_cmp, is_gt};
@@ -17,3 +17,5 @@ pub fn names_below_an_apex_are_an_interval()
     ensures first { (apex n : Name) → IsTrue (at_or_above apex n) → is_gt (name_cmp apex n) ≡ false }
     ensures between { (apex a n b : Name) → IsTrue (at_or_above apex a) → IsTrue (at_or_above apex b) → is_gt (name_cmp a n) ≡ false → is_gt (name_cmp n b) ≡ false → IsTrue (at_or_above apex n) }
 {}
+
+pub use names_labels::laws::printed_name_is_read_back;

@@ -1,21 +1,23 @@
 //! Absolute names over flat octets.
 
 ghost use Rattle.std.specs.Prelude.{◌≡◌, ◌↔◌, ◌+◌, ◌++◌, ◌∷◌, [], ℕ, List, length, slice_index_or, IfOk, IfErr, IsOk, IsTrue};
-ghost use Rattle.definitions.specs.Name.{IsName, wire};
-ghost use Rattle.names_labels.specs.Flat.{IsRun, IsFlat, labels_in, name_in, SpellsName};
+ghost use Rattle.definitions.specs.Name.{IsName, low, wire};
+ghost use Rattle.names_labels.specs.Flat.{StartsLabel, spelled, IsRun, IsFlat, labels_in, name_in, SpellsName};
 ghost use Rattle.names_labels.specs.Refused.{RefusedName};
 ghost use Rattle.names_wire.specs.Label.{octets_of};
 
 use names_labels::check::check_absolute;
 use names_labels::flat;
 use names_labels::name_error::NameError;
-use crate::builder::NameBuilder;
+use crate::builder::{BuiltOctets, NameBuilder};
+use crate::relative::RelativeName;
 use crate::to_name::{Absolute, ToName};
 use names_labels::traits::{Labels, ToLabelIter};
 use names_wire::builder::ShortBuf;
 use names_wire::label::Label;
 use names_wire::octets::Octets;
 use std::alloc::Global;
+use std::borrow::CowSlice;
 use std::marker::Model;
 
 /// An absolute domain name: labels in a row of octets, each behind its length, and the root's octet
@@ -80,6 +82,17 @@ impl<Octs: Octets> Name<Octs> {
         self.octets.as_slice()
     }
 
+    /// The labels in a row without the root's.
+    pub(crate) fn relative_run(&self) -> &[u8]
+        ensures run { IsRun result.now }
+        ensures labels { labels_in result.now ≡ self.now }
+        ensures value { result.now ≡ spelled self.now }
+        ensures name { IsName self.now }
+    {
+        let octets = self.as_slice();
+        &octets[..octets.len() - 1]
+    }
+
     pub fn as_octets(&self) -> &Octs
         ensures { Octs.bytes result.now ≡ wire self.now }
     {
@@ -87,7 +100,8 @@ impl<Octs: Octets> Name<Octs> {
     }
 
     pub fn into_octets(self) -> Octs
-        ensures { Octs.bytes result ≡ wire self }
+        ensures octets { Octs.bytes result ≡ wire self }
+        ensures name { IsName self }
     {
         self.octets
     }
@@ -132,6 +146,26 @@ impl<Octs: Octets> Name<Octs> {
     }
 }
 
+impl<Octs: BuiltOctets> Name<Octs> {
+    /// Lowers ASCII letters, as the canonical form has them (RFC 4034, 6.2).
+    pub fn make_canonical(&mut self)
+        ensures { self.new ≡ low self.old }
+    {
+        self.octets.as_mut_slice().make_ascii_lowercase();
+    }
+
+    /// The labels in front of a place at which a label begins (`is_label_start`).
+    pub fn truncate(self, len: usize) -> RelativeName<Octs>
+        requires { StartsLabel self len }
+        ensures parts { (rest : List (List ℕ)) × (result ++ rest ≡ self) }
+        ensures place { length (spelled result) ≡ len }
+    {
+        let mut octets = self.into_octets();
+        octets.truncate(len);
+        RelativeName::of_octets(octets)
+    }
+}
+
 impl<'a> Name<&'a [u8]> {
     /// The name that the octets spell.
     pub fn from_slice(slice: &'a [u8]) -> Result<Self, NameError>
@@ -160,6 +194,15 @@ impl Name<&'static [u8]> {
 }
 
 impl Name<Vec<u8>> {
+    /// The same name over octets that may be borrowed or owned.
+    pub(crate) fn into_cow(self) -> Name<CowSlice<'static, u8>>
+        ensures { result ≡ self }
+    {
+        Name {
+            octets: CowSlice::Owned(self.octets),
+        }
+    }
+
     /// The root with octets of its own. It is refused for want of memory alone.
     pub fn root_vec(alloc: Global) -> Result<Self, ShortBuf>
         ensures { IfOk result (λ n. n ≡ []) }

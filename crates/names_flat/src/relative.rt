@@ -1,18 +1,24 @@
 //! Relative names over flat octets.
 
-ghost use Rattle.std.specs.Prelude.{◌≡◌, ◌↔◌, ◌-◌, ◌==◌, [], ℕ, List, length, slice_get, option_map, IfOk, IfErr, IsOk};
-ghost use Rattle.definitions.specs.Name.{IsName};
-ghost use Rattle.names_labels.specs.Flat.{IsRun, IsFlatRelative, labels_in, spelled, SpellsRelative};
+ghost use Rattle.std.specs.Prelude.{◌∷◌, ◌++◌, ◌≡◌, ◌↔◌, ◌-◌, ◌==◌, [], ℕ, List, length, slice_get, option_map, IfOk, IfErr, IsOk};
+ghost use Rattle.definitions.specs.Name.{IsName, low};
+ghost use Rattle.names_labels.specs.Flat.{StartsLabel, IsRun, IsFlatRelative, labels_in, spelled, SpellsRelative};
 ghost use Rattle.names_labels.specs.RefusedRelative.{RefusedRelative};
 ghost use Rattle.names_wire.specs.Label.{octets_of};
 
 use names_labels::check::check_relative;
 use names_labels::flat;
 use names_labels::relative_error::RelativeNameError;
+use crate::builder::{BuiltOctets, NameBuilder};
+use crate::name::Name;
+use crate::push_error::PushNameError;
 use crate::to_relative::{Relative, ToRelativeName};
 use names_labels::traits::{Labels, ToLabelIter};
+use names_wire::builder::ShortBuf;
 use names_wire::label::Label;
 use names_wire::octets::Octets;
+use std::alloc::Global;
+use std::borrow::CowSlice;
 use std::marker::Model;
 
 /// A relative domain name: labels in a row of octets, each behind its length, and no root's octet.
@@ -80,7 +86,8 @@ impl<Octs: Octets> RelativeName<Octs> {
     }
 
     pub fn into_octets(self) -> Octs
-        ensures { Octs.bytes result ≡ spelled self }
+        ensures octets { Octs.bytes result ≡ spelled self }
+        ensures name { IsName self }
     {
         self.octets
     }
@@ -137,6 +144,70 @@ impl<Octs: Octets> RelativeName<Octs> {
     }
 }
 
+impl<Octs: BuiltOctets> RelativeName<Octs> {
+    /// Lowers ASCII letters, as the canonical form has them (RFC 4034, 6.2).
+    pub fn make_canonical(&mut self)
+        ensures { self.new ≡ low self.old }
+    {
+        self.octets.as_mut_slice().make_ascii_lowercase();
+    }
+
+    /// Keeps the labels in front of a place. A label begins there or the last one ends (`is_label_start`).
+    pub fn truncate(&mut self, len: usize)
+        requires { StartsLabel self.old len }
+        ensures parts { (rest : List (List ℕ)) × (self.new ++ rest ≡ self.old) }
+        ensures place { length (spelled self.new) ≡ len }
+    {
+        self.octets.truncate(len);
+    }
+
+    /// The name under the root. It is refused for want of room alone.
+    pub fn into_absolute(self) -> Result<Name<Octs>, PushNameError>
+    where
+        Octs: Drop,
+        ensures ok { IfOk result (λ n. n ≡ self) }
+        ensures err { IfErr result (λ e. e ≡ PushNameError.ShortBuf) }
+    {
+        self.into_builder().into_name()
+    }
+
+    /// A builder that goes on behind the labels.
+    pub fn into_builder(self) -> NameBuilder<Octs>
+        ensures { result ≡ record { done = self; open_label = [] } }
+    {
+        NameBuilder::behind(self.into_octets())
+    }
+}
+
+impl RelativeName<Vec<u8>> {
+    /// The same name over octets that may be borrowed or owned.
+    pub(crate) fn into_cow(self) -> RelativeName<CowSlice<'static, u8>>
+        ensures { result ≡ self }
+    {
+        RelativeName {
+            octets: CowSlice::Owned(self.octets),
+        }
+    }
+
+    /// The name with no labels, with octets of its own. It takes no memory yet.
+    pub fn empty_vec(alloc: Global) -> Self
+        ensures { result ≡ [] }
+    {
+        NameBuilder::new(alloc).finish()
+    }
+
+    /// The name of the label `*`, with octets of its own. It is refused for want of memory alone.
+    pub fn wildcard_vec(alloc: Global) -> Result<Self, ShortBuf>
+        ensures { IfOk result (λ n. n ≡ (42 ∷ []) ∷ []) }
+    {
+        let mut builder = NameBuilder::new(alloc);
+        match builder.append_label(b"*") {
+            Ok(()) => Ok(builder.finish()),
+            Err(_) => Err(ShortBuf),
+        }
+    }
+}
+
 impl<'a> RelativeName<&'a [u8]> {
     /// The name that the octets spell.
     pub fn from_slice(slice: &'a [u8]) -> Result<Self, RelativeNameError>
@@ -154,6 +225,20 @@ impl RelativeName<&'static [u8]> {
         ensures { result ≡ [] }
     {
         RelativeName { octets: b"" }
+    }
+
+    /// The name of the label `*`.
+    pub fn wildcard_ref() -> Self
+        ensures { result ≡ (42 ∷ []) ∷ [] }
+    {
+        RelativeName { octets: b"\x01*" }
+    }
+
+    /// As `wildcard_ref`.
+    pub fn wildcard_slice() -> Self
+        ensures { result ≡ (42 ∷ []) ∷ [] }
+    {
+        RelativeName::wildcard_ref()
     }
 
     /// As `empty_ref`.

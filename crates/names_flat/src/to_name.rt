@@ -6,11 +6,13 @@ ghost use Rattle.std.specs.Cmp.Lexicographic.{slice_cmp};
 ghost use Rattle.definitions.specs.Name.{low, wire, same, name_cmp};
 
 use crate::builder::NameBuilder;
+use crate::display::DisplayWithDot;
 use crate::name::Name;
 use names_labels::order::{Case, labels_cmp, labels_composed_cmp};
 use names_labels::traits::{ToLabelIter, labels_eq};
 use names_wire::builder::ShortBuf;
 use std::alloc::Global;
+use std::borrow::CowSlice;
 use std::cmp::Ordering;
 
 /// Labels that end with the root's.
@@ -46,6 +48,60 @@ pub trait ToName: Absolute {
         ensures { result ≡ slice_cmp nat_cmp (wire (low (Self.name self.now))) (wire (low (N.name other.now))) }
     {
         labels_composed_cmp(self, other, Case::Lowered)
+    }
+
+    /// The name to be printed with its last dot.
+    fn fmt_with_dot(&self) -> DisplayWithDot<'_, Self>
+    where
+        Self: Sized,
+        ensures { result ≡ Self.name self.now }
+    {
+        DisplayWithDot::new(self)
+    }
+
+    /// The name copied to octets of its own, ASCII letters lowered (RFC 4034, 6.2). It is refused for want of
+    /// memory alone.
+    fn to_canonical_name(&self, alloc: Global) -> Result<Name<Vec<u8>>, ShortBuf>
+        ensures { IfOk result (λ n. n ≡ low (Self.name self.now)) }
+    {
+        match NameBuilder::new(alloc).append_origin(self) {
+            Ok(mut name) => {
+                name.make_canonical();
+                Ok(name)
+            }
+            Err(_) => Err(ShortBuf),
+        }
+    }
+
+    /// As `to_canonical_name`.
+    fn try_to_canonical_name(&self, alloc: Global) -> Result<Name<Vec<u8>>, ShortBuf>
+        ensures { IfOk result (λ n. n ≡ low (Self.name self.now)) }
+    {
+        self.to_canonical_name(alloc)
+    }
+
+    /// As `to_vec`.
+    fn to_name(&self, alloc: Global) -> Result<Name<Vec<u8>>, ShortBuf>
+        ensures { IfOk result (λ n. n ≡ Self.name self.now) }
+    {
+        self.to_vec(alloc)
+    }
+
+    /// As `to_vec`.
+    fn try_to_name(&self, alloc: Global) -> Result<Name<Vec<u8>>, ShortBuf>
+        ensures { IfOk result (λ n. n ≡ Self.name self.now) }
+    {
+        self.to_vec(alloc)
+    }
+
+    /// The name over octets that may be borrowed or owned: here a copy.
+    fn to_cow(&self, alloc: Global) -> Result<Name<CowSlice<'static, u8>>, ShortBuf>
+        ensures { IfOk result (λ n. n ≡ Self.name self.now) }
+    {
+        match self.to_vec(alloc) {
+            Ok(name) => Ok(name.into_cow()),
+            Err(error) => Err(error),
+        }
     }
 
     /// The name copied to octets of its own. It is refused for want of memory alone.

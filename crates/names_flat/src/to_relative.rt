@@ -1,10 +1,15 @@
 //! What any two relative names have in common, however they are kept.
 
-ghost use Rattle.std.specs.Prelude.{◌≡◌, ◌==◌, length};
-ghost use Rattle.definitions.specs.Name.{same, name_cmp};
+ghost use Rattle.std.specs.Prelude.{◌≡◌, ◌==◌, length, IfOk};
+ghost use Rattle.definitions.specs.Name.{low, same, name_cmp};
 
+use crate::builder::NameBuilder;
+use crate::relative::RelativeName;
 use names_labels::order::labels_cmp;
 use names_labels::traits::{ToLabelIter, labels_eq};
+use names_wire::builder::ShortBuf;
+use std::alloc::Global;
+use std::borrow::CowSlice;
 use std::cmp::Ordering;
 
 /// Labels that do not end with the root's: at most 254 octets in wire form.
@@ -33,5 +38,63 @@ pub trait ToRelativeName: Relative {
         ensures { result ≡ (length (Self.labels self.now) == 0) }
     {
         self.label_count() == 0
+    }
+
+    /// The name copied to octets of its own. It is refused for want of memory alone.
+    fn to_vec(&self, alloc: Global) -> Result<RelativeName<Vec<u8>>, ShortBuf>
+        ensures { IfOk result (λ n. n ≡ Self.labels self.now) }
+    {
+        let mut builder = NameBuilder::new(alloc);
+        match builder.append_name(self) {
+            Ok(()) => Ok(builder.finish()),
+            Err(_) => Err(ShortBuf),
+        }
+    }
+
+    /// As `to_vec`.
+    fn to_relative_name(&self, alloc: Global) -> Result<RelativeName<Vec<u8>>, ShortBuf>
+        ensures { IfOk result (λ n. n ≡ Self.labels self.now) }
+    {
+        self.to_vec(alloc)
+    }
+
+    /// As `to_vec`.
+    fn try_to_relative_name(&self, alloc: Global) -> Result<RelativeName<Vec<u8>>, ShortBuf>
+        ensures { IfOk result (λ n. n ≡ Self.labels self.now) }
+    {
+        self.to_vec(alloc)
+    }
+
+    /// As `to_vec`, with ASCII letters lowered (RFC 4034, 6.2).
+    fn to_canonical_relative_name(&self, alloc: Global) -> Result<RelativeName<Vec<u8>>, ShortBuf>
+        ensures { IfOk result (λ n. n ≡ low (Self.labels self.now)) }
+    {
+        match self.to_vec(alloc) {
+            Ok(mut name) => {
+                name.make_canonical();
+                Ok(name)
+            }
+            Err(error) => Err(error),
+        }
+    }
+
+    /// As `to_canonical_relative_name`.
+    fn try_to_canonical_relative_name(
+        &self,
+        alloc: Global,
+    ) -> Result<RelativeName<Vec<u8>>, ShortBuf>
+        ensures { IfOk result (λ n. n ≡ low (Self.labels self.now)) }
+    {
+        self.to_canonical_relative_name(alloc)
+    }
+
+    /// The name over octets that may be borrowed or owned: here a copy.
+    fn to_cow(&self, alloc: Global) -> Result<RelativeName<CowSlice<'static, u8>>, ShortBuf>
+        ensures { IfOk result (λ n. n ≡ Self.labels self.now) }
+    {
+        match self.to_vec(alloc) {
+            Ok(name) => Ok(name.into_cow()),
+            Err(error) => Err(error),
+        }
     }
 }

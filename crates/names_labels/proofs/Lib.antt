@@ -1,3 +1,4 @@
+pub mod Cuts
 pub mod Checks
 pub mod Compares
 pub mod Orders
@@ -6,3 +7,4 @@ pub mod Relatives
 pub mod Runs
 pub mod Taken
 pub mod Wholes
+pub mod Spans

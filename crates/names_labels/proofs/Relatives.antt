@@ -94,7 +94,7 @@ pub refused_relative : (bs : List ℕ) (e : RelativeNameError) (n : Name) → Re
 refused_relative bs e n (inl long) s = absurd (omega (arith, long.0, s.name.short, length-spelled_sum n, ap length s.octets))
 refused_relative bs e n (inr stop) s = no_labels_left stop.labels n stop.rest e stop.plain s.name.labels (sym stop.octets ∙ sym s.octets) stop.fault
 
-all_short : (n : Name) → AllByRecursion IsLabel n → AllByRecursion (λ l. length l ≤ 63) n
+pub all_short : (n : Name) → AllByRecursion IsLabel n → AllByRecursion (λ l. length l ≤ 63) n
 all_short [] a = tt
 all_short (l ∷ n) a = (a.0.short, all_short n a.1)
 

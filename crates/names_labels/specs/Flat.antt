@@ -48,3 +48,7 @@ pub record SpellsRelative (bs : List ℕ) (n : Name) : Type 0 where
 -- the octets are the labels of a relative name
 abbrev pub IsFlatRelative : List ℕ → Type 0
 IsFlatRelative bs = SpellsRelative bs (labels_in bs)
+
+-- a label of the name begins at the place, or its last one ends there
+abbrev pub StartsLabel : Name → ℕ → Type 0
+StartsLabel n place = (k : ℕ) × (k ≤ length n) × (place ≡ length (spelled (take k n)))

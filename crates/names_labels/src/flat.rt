@@ -1,5 +1,5 @@
-ghost use Rattle.std.specs.Prelude.{◌≡◌, ℕ, List, length, [], MatchOption, option_map, slice_get};
-ghost use Rattle.names_labels.specs.Flat.{labels_in, IsRun, SplitsLabel};
+ghost use Rattle.std.specs.Prelude.{◌≡◌, ◌↔◌, ℕ, List, length, [], take, IsTrue, MatchOption, option_map, slice_get};
+ghost use Rattle.names_labels.specs.Flat.{labels_in, spelled, IsRun, SplitsLabel, StartsLabel};
 ghost use Rattle.names_wire.specs.Label.{octets_of};
 
 use names_wire::label::Label;
@@ -40,4 +40,34 @@ pub fn label_at(run: &[u8], index: usize) -> Option<Label<'_>>
     }
     let (label, _) = split_label(rest)?;
     Some(label)
+}
+
+/// The place at which a label begins, the labels counted from the left; past the last one the end.
+pub fn place_of(run: &[u8], index: usize) -> usize
+    requires { IsRun run.now }
+    ensures { result ≡ length (spelled (take index (labels_in run.now))) }
+{
+    let mut rest = run;
+    for _ in 0..index {
+        let Some((_, behind)) = split_label(rest) else {
+            break;
+        };
+        rest = behind;
+    }
+    run.len() - rest.len()
+}
+
+/// Whether a label begins at a place, or the last one ends there.
+pub fn is_label_start(run: &[u8], place: usize) -> bool
+    requires { IsRun run.now }
+    ensures { IsTrue result ↔ StartsLabel (labels_in run.now) place }
+{
+    let mut rest = run;
+    while run.len() - rest.len() < place {
+        let Some((_, behind)) = split_label(rest) else {
+            return false;
+        };
+        rest = behind;
+    }
+    run.len() - rest.len() == place
 }

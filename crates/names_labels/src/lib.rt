@@ -4,6 +4,7 @@
 
 pub mod check;
 pub mod flat;
+pub mod iter;
 pub mod laws;
 pub mod name_error;
 pub mod order;

@@ -3,10 +3,12 @@
 ghost use Rattle.std.specs.Prelude.{◌≡◌, ◌≤◌, ◌+◌, ◌-◌, length, option_map, slice_get, drop};
 ghost use Rattle.definitions.specs.Name.{Name, IsName, at_or_above, same};
 ghost use Rattle.names_labels.specs.Flat.{spelled};
+ghost use Rattle.std.specs.Iterator.{YieldsFirstBy, YieldsLastBy, item_count};
 ghost use Rattle.names_wire.specs.Label.{octets_of};
 ghost use Rattle.names_labels.specs.Compare.{begins_with};
 
 use names_wire::label::Label;
+use std::marker::Model;
 
 /// Labels that are reached by place, the leftmost first. An absolute name has the root's empty label last.
 pub trait Labels {
@@ -56,9 +58,7 @@ pub trait ToLabelIter: Labels {
     fn iter_labels(&self) -> LabelIter<'_, Self>
     where
         Self: Sized,
-        ensures front { result.front ≡ 0 }
-        ensures back { result.back ≡ length (Self.labels self.now) }
-        ensures name { Self.labels result.name.now ≡ Self.labels self.now }
+        ensures { result ≡ Self.labels self.now }
     {
         LabelIter {
             name: self,
@@ -96,10 +96,53 @@ pub trait ToLabelIter: Labels {
     }
 }
 
-/// The labels of a name, from both ends.
+/// The labels of a name, from both ends. It takes no memory.
 #[derive(Drop)]
 pub struct LabelIter<'a, N: Labels> {
     name: &'a N,
     front: usize,
     back: usize,
+}
+
+/// The labels that are left.
+impl<'a, N: Labels> Model for LabelIter<'a, N> {
+    ghost use Rattle.std.specs.Prelude.{List, ℕ, ◌-◌, ◌≤◌, take, drop, length};
+
+    ghost Value = { List (List ℕ) };
+
+    ghost view = { λ it. take (it.back - it.front) (drop it.front (N.labels it.name.now)) };
+
+    ghost invariant = { λ it. it.back ≤ length (N.labels it.name.now) };
+}
+
+impl<'a, N: Labels> Iterator for LabelIter<'a, N> {
+    type Item = Label<'a>;
+
+    ghost can_next = { λ _. Unit {0} };
+
+    ghost next_gives = { YieldsFirstBy octets_of (λ labels. labels) };
+
+    ghost remaining = { item_count (λ labels. labels) };
+
+    fn next(&mut self) -> Option<Label<'a>> {
+        if self.front >= self.back {
+            return None;
+        }
+        let label = self.name.label_at(self.front)?;
+        self.front += 1;
+        Some(label)
+    }
+}
+
+impl<'a, N: Labels> DoubleEndedIterator for LabelIter<'a, N> {
+    ghost next_back_gives = { YieldsLastBy octets_of (λ labels. labels) };
+
+    fn next_back(&mut self) -> Option<Label<'a>> {
+        if self.front >= self.back {
+            return None;
+        }
+        let label = self.name.label_at(self.back - 1)?;
+        self.back -= 1;
+        Some(label)
+    }
 }

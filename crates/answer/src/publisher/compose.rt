@@ -1,9 +1,12 @@
 //! Writing answers (RFC 1035, 4.1; RFC 4035, 3.1.1).
-ghost use Rattle.std.specs.Prelude.{◌≡◌, ◌+◌, ◌++◌, [], map, length, Err, IfOk, OnOk, if◌then◌else◌};
+ghost use Rattle.std.specs.Prelude.{◌≡◌, ◌+◌, ◌++◌, [], ◌∷◌, true, map, length, Err, IfOk, IfErr, OnOk, if◌then◌else◌};
 ghost use Rattle.std.specs.List.{AllZip, flat_map};
-ghost use Rattle.answer.specs.GroupView.{IsRrsigData};
+ghost use Rattle.answer.specs.GroupView.{FailsFor, IsRrsigData};
+ghost use Rattle.answer.specs.Answering.{ahead_of_records};
+ghost use Rattle.answer.specs.Questions.{asked_of};
+ghost use Rattle.answer.specs.declared.scheme.SchemeError.TheVariants as error;
 ghost use Rattle.answer.specs.Written.{record_octets};
-ghost use Rattle.answer.specs.Composed.{IsAnswer, IsSection, record_of};
+ghost use Rattle.answer.specs.Composed.{HasRoom, IsAnswer, IsSection, RefusesGroups, RefusesRecords, record_of};
 
 use crate::denial::dnskey::Dnskey;
 use crate::message::write::{push_header, push_question, push_record};
@@ -31,8 +34,8 @@ pub fn compose_answer<S: Scheme, Octs: Octets>(
     answer: &[RrGroup],
     authority: &[RrGroup],
 ) -> Result<Vec<u8>, AnswerFault>
-    ensures allowed { result ≡ Err AnswerFault.QuestionNotAllowed → ⊥ }
-    ensures written { IfOk result (λ m. IsAnswer (S.signature_of scheme.now) (S.verifies scheme.now) terms.now.apex.now terms.now.at terms.now.life keys.now flags (record { name = question.now.name; rtype = question.now.rtype; class = question.now.class }) answer.now authority.now m.items) }
+    ensures refused { IfErr result (RefusesGroups (S.signature_of scheme.now) (S.verifies scheme.now) terms.now.apex.now terms.now.at terms.now.life keys.now (ahead_of_records (asked_of question.now)) (answer.now ++ authority.now)) }
+    ensures written { IfOk result (λ m. IsAnswer (S.signature_of scheme.now) (S.verifies scheme.now) terms.now.apex.now terms.now.at terms.now.life keys.now flags (asked_of question.now) answer.now authority.now m.items) }
 {
     let answers = write_section(alloc, scheme, terms, keys, answer)?;
     let authorities = write_section(alloc, scheme, terms, keys, authority)?;
@@ -62,7 +65,7 @@ fn write_section<S: Scheme, Octs: Octets>(
     keys: &[Dnskey<Octs>],
     groups: &[RrGroup],
 ) -> Result<Section, AnswerFault>
-    ensures allowed { result ≡ Err AnswerFault.QuestionNotAllowed → ⊥ }
+    ensures refused { IfErr result (RefusesGroups (S.signature_of scheme.now) (S.verifies scheme.now) terms.now.apex.now terms.now.at terms.now.life keys.now 0 groups.now) }
     ensures written { IfOk result (λ s. IsSection (S.signature_of scheme.now) (S.verifies scheme.now) terms.now.apex.now terms.now.at terms.now.life keys.now groups.now s.octets.items s.count) }
 {
     let mut section = Section {
@@ -85,7 +88,8 @@ fn signatures_of<S: Scheme, Octs: Octets>(
     group: &RrGroup,
     keys: &[Dnskey<Octs>],
 ) -> Result<Vec<Vec<u8>>, SchemeError>
-    ensures { IfOk result (λ ds. AllZip (IsRrsigData (S.signature_of scheme.now) (S.verifies scheme.now) terms.now.apex.now terms.now.at terms.now.life group.now) (if group.now.signed then keys.now else []) (map (λ d. d.items) ds.items)) }
+    ensures made { IfOk result (λ ds. AllZip (IsRrsigData (S.signature_of scheme.now) (S.verifies scheme.now) terms.now.apex.now terms.now.at terms.now.life group.now) (if group.now.signed then keys.now else []) (map (λ d. d.items) ds.items)) }
+    ensures failed { result ≡ Err error.Failed → (group.now.signed ≡ true) × FailsFor (S.signature_of scheme.now) terms.now.apex.now terms.now.at terms.now.life group.now keys.now }
 {
     if !group.is_signed() {
         return Ok(Vec::new(alloc));
@@ -101,7 +105,8 @@ impl Section {
         rtype: Rtype,
         datas: &[Vec<u8>],
     ) -> Result<(), AnswerFault>
-        ensures allowed { result ≡ Err AnswerFault.QuestionNotAllowed → ⊥ }
+        ensures refused { IfErr result (RefusesRecords self.old.octets.items self.old.count (map (record_of group.now rtype) (map (λ d. d.items) datas.now))) }
+        ensures room { OnOk result (HasRoom self.old.octets.items self.old.count → HasRoom self.new.octets.items self.new.count) }
         ensures octets { OnOk result (self.new.octets.items ≡ self.old.octets.items ++ flat_map record_octets (map (record_of group.now rtype) (map (λ d. d.items) datas.now))) }
         ensures count { OnOk result (self.new.count ≡ self.old.count + length datas.now) }
     {
@@ -113,7 +118,8 @@ impl Section {
 
     /// Writes a record at the owner of an RRset.
     fn push(&mut self, group: &RrGroup, rtype: Rtype, data: &[u8]) -> Result<(), AnswerFault>
-        ensures allowed { result ≡ Err AnswerFault.QuestionNotAllowed → ⊥ }
+        ensures refused { IfErr result (RefusesRecords self.old.octets.items self.old.count (record_of group.now rtype data.now ∷ [])) }
+        ensures room { OnOk result (HasRoom self.old.octets.items self.old.count → HasRoom self.new.octets.items self.new.count) }
         ensures octets { OnOk result (self.new.octets.items ≡ self.old.octets.items ++ record_octets (record_of group.now rtype data.now)) }
         ensures count { OnOk result (self.new.count ≡ self.old.count + 1) }
     {

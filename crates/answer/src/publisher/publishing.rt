@@ -5,7 +5,7 @@ ghost use Rattle.answer.specs.Judging.{is_allowed};
 ghost use Rattle.answer.specs.Questions.{asked_of};
 ghost use Rattle.answer.specs.Served.{key_group, ttl_among};
 ghost use Rattle.answer.specs.GroupView.{Presents};
-ghost use Rattle.answer.specs.Answering.{AnswersKeys, SignsAnswer};
+ghost use Rattle.answer.specs.Answering.{AnswersKeys, AnswersZone, RefusesAnswer, RefusesKeys};
 ghost use Rattle.answer.specs.Accepting.{IsAccepted, IsFault, sorted_records};
 ghost use Rattle.answer.specs.ZoneView.{mode_of, handed_of};
 ghost use Rattle.answer.specs.KeyState.{text_of, is_available, texts};
@@ -29,16 +29,11 @@ use crate::publisher::group::RrGroup;
 use crate::publisher::keys::{KeyKind, NewKey, Publication, ZoneKeys};
 use crate::publisher::signing::SignatureTerms;
 use crate::publisher::zone::ZoneRecords;
+use crate::publisher::zone::answers::AUTHORITATIVE;
 use crate::question::Question;
 use crate::scheme::{Scheme, SchemeError};
 use std::alloc::{AllocError, Global};
 use std::slice;
-
-/// The flags of a response, authoritative (RFC 1035, 4.1.1).
-const AUTHORITATIVE: u16 = 0x8400;
-
-/// The flags of one that says that no such name exists.
-const NO_SUCH_NAME: u16 = 0x8403;
 
 /// Publishes one signed zone while its keys roll (RFC 4035, 2 and 3; RFC 6781, 4.1).
 ///
@@ -92,7 +87,8 @@ impl<'a, S: Scheme, H: Nsec3Hasher> Publisher<'a, S, H> {
 
     /// The answer for the DNSKEY RRset: the keys that are present, signed by each key that signs keys, at a moment.
     pub fn dnskey_answer(&self, now: &UnixTime) -> Result<Vec<u8>, AnswerFault>
-        ensures { IfOk result (λ m. AnswersKeys (S.signature_of self.now.scheme.now) (S.verifies self.now.scheme.now) (served (H.hash_of self.now.hasher.now) self.now.zone) self.now.zone.apex (second_of now.now) self.now.life (dnskeys (published self.now.keys Publication.Present)) (keys_by_tag self.now.keys Publication.SignsKeys) m.items) }
+        ensures refused { IfErr result (RefusesKeys (S.signature_of self.now.scheme.now) (S.verifies self.now.scheme.now) (served (H.hash_of self.now.hasher.now) self.now.zone) self.now.zone.apex (second_of now.now) self.now.life (dnskeys (published self.now.keys Publication.Present)) (keys_by_tag self.now.keys Publication.SignsKeys)) }
+        ensures answer { IfOk result (λ m. AnswersKeys (S.signature_of self.now.scheme.now) (S.verifies self.now.scheme.now) (served (H.hash_of self.now.hasher.now) self.now.zone) self.now.zone.apex (second_of now.now) self.now.life (dnskeys (published self.now.keys Publication.Present)) (keys_by_tag self.now.keys Publication.SignsKeys) m.items) }
     {
         let keys = self.keys.keys_by_tag(Publication::SignsKeys)?;
         let group = self.dnskey_group()?;
@@ -146,40 +142,26 @@ impl<'a, S: Scheme, H: Nsec3Hasher> Publisher<'a, S, H> {
     /// The zone's answer to a question at a moment, signed by each key that signs the zone.
     pub fn answer(&self, question: &Question, now: &UnixTime) -> Result<Vec<u8>, AnswerFault>
         ensures allowed { IsErrOf result AnswerFault.QuestionNotAllowed ↔ (is_allowed self.now.zone.apex (asked_of question.now) ≡ false) }
-        ensures signed { IfOk result (λ m. SignsAnswer (S.signature_of self.now.scheme.now) (S.verifies self.now.scheme.now) self.now.zone.apex (second_of now.now) self.now.life (keys_by_tag self.now.keys Publication.SignsZone) (asked_of question.now) m.items) }
+        ensures refused { IfErr result (RefusesAnswer (S.signature_of self.now.scheme.now) (S.verifies self.now.scheme.now) (served (H.hash_of self.now.hasher.now) self.now.zone) self.now.zone.apex (second_of now.now) self.now.life (keys_by_tag self.now.keys Publication.SignsZone) (asked_of question.now)) }
+        ensures answer { IfOk result (λ m. AnswersZone (S.signature_of self.now.scheme.now) (S.verifies self.now.scheme.now) (served (H.hash_of self.now.hasher.now) self.now.zone) self.now.zone.apex (second_of now.now) self.now.life (keys_by_tag self.now.keys Publication.SignsZone) (asked_of question.now) m.items) }
     {
         if !is_allowed(self.zone.apex(), question) {
             return Err(AnswerFault::QuestionNotAllowed);
         }
         let keys = self.keys.keys_by_tag(Publication::SignsZone)?;
-        let groups = self
+        let found = self
             .zone
-            .groups(self.alloc, &question.name, question.rtype)?;
-        let (flags, answered) = self.sections(question, groups.len());
-        let (answer, authority) = groups.split_at(answered);
+            .answer_to(self.alloc, &question.name, question.rtype)?;
         compose_answer(
             self.alloc,
             self.scheme,
             &self.terms(now),
             &keys,
-            flags,
+            found.flags,
             question,
-            answer,
-            authority,
+            &found.answer,
+            &found.authority,
         )
-    }
-
-    /// The flags of an answer, and how many of its RRsets stand in the answer section.
-    fn sections(&self, question: &Question, groups: usize) -> (u16, usize)
-        ensures { result.1 ≤ groups }
-    {
-        if self.zone.has(&question.name, question.rtype) {
-            (AUTHORITATIVE, groups.min(1))
-        } else if self.zone.exists(&question.name) {
-            (AUTHORITATIVE, 0)
-        } else {
-            (NO_SUCH_NAME, 0)
-        }
     }
 
     /// The name of the zone.

@@ -14,10 +14,11 @@ use crate::publisher::zone::sorting::{has_unlike_neighbours, sorted};
 use std::alloc::{AllocError, Global};
 use std::marker::Model;
 
-mod answers;
+pub(crate) mod answers;
 mod bitmap;
 mod faults;
 mod handed;
+mod links;
 mod lookups;
 mod sorting;
 #[cfg(test)]

@@ -1,6 +1,7 @@
 //! Records with their data composed.
 ghost use Rattle.std.specs.Prelude.{◌≡◌, ◌==◌, not, ◌&&◌, [], IfOk};
-ghost use Rattle.std.specs.Prelude.{◌∷◌, ◌||◌};
+ghost use Rattle.std.specs.Prelude.{◌∷◌, ◌||◌, min, slice_index};
+ghost use Rattle.answer.specs.Served.{minimum_of};
 ghost use Rattle.definitions.specs.Name.{at_or_above, strictly_above, same};
 ghost use Rattle.answer.specs.Accepting.{among, is_meta, is_star, has_star, unlike_ttls};
 
@@ -32,30 +33,8 @@ impl Model for HandedRecord {
     ghost view = { λ r. record { owner = r.owner; class = r.class; ttl = r.ttl; rtype = r.rtype; is_unknown = r.is_unknown; written = r.written.items; bytes = r.canonical.items } };
 }
 
-/// The data of one record: as spelled, and in canonical form.
-#[derive(Debug, Drop)]
-pub(crate) struct RecordData {
-    pub written: Vec<u8>,
-    pub canonical: Vec<u8>,
-}
-
-impl Model for RecordData {
-    ghost use Rattle.answer.specs.ZoneView.{Datum};
-
-    ghost Value = { Datum };
-
-    ghost view = { λ d. record { written = d.written.items; bytes = d.canonical.items } };
-}
-
-impl RecordData {
-    /// The data as spelled, and in canonical form.
-    pub fn into_parts(self) -> (Vec<u8>, Vec<u8>) {
-        (self.written, self.canonical)
-    }
-}
-
 impl HandedRecord {
-    ghost use Rattle.answer.specs.ZoneView.{handed_of, data_of, is_of};
+    ghost use Rattle.answer.specs.ZoneView.{handed_of, is_of};
 
     /// A record with its data composed.
     pub fn new(alloc: Global, given: Record) -> Result<HandedRecord, AllocError>
@@ -113,25 +92,25 @@ impl HandedRecord {
     }
 
     /// The lesser of the TTL and the last four octets of the data, which in an SOA record are its minimum
-    /// (RFC 1035, 3.3.13).
-    pub fn chain_ttl(&self) -> Ttl {
-        match self.canonical.as_slice() {
-            [.., a, b, c, d] => {
-                let minimum = u32::from_be_bytes([*a, *b, *c, *d]);
-                Ttl::from_secs(self.ttl.as_secs().min(minimum))
-            }
-            _ => self.ttl,
-        }
+    /// (RFC 1035, 3.3.13; RFC 9077, 3).
+    pub fn chain_ttl(&self) -> Ttl
+        ensures { result ≡ min self.now.ttl (minimum_of self.now.bytes) }
+    {
+        Ttl::from_secs(self.ttl.as_secs().min(last_number(&self.canonical)))
     }
 
-    /// The data, as spelled and in canonical form.
-    pub fn data(&self) -> Result<RecordData, AllocError>
-        ensures { IfOk result (λ d. d ≡ data_of self.now) }
+    /// The data as spelled.
+    pub fn written(&self) -> &[u8]
+        ensures { result.now ≡ self.now.written }
     {
-        Ok(RecordData {
-            written: self.written.clone()?,
-            canonical: self.canonical.clone()?,
-        })
+        &self.written
+    }
+
+    /// The data in canonical form (RFC 4034, 6.2).
+    pub fn canonical(&self) -> &[u8]
+        ensures { result.now ≡ self.now.bytes }
+    {
+        &self.canonical
     }
 
     /// Whether the class is another than IN (RFC 1035, 3.2.4).
@@ -203,6 +182,30 @@ impl HandedRecord {
             && self.rtype == other.rtype
             && self.ttl != other.ttl
             && self.rtype != Rtype::RRSIG
+    }
+}
+
+/// The number that the last four octets spell; of fewer octets zeros stand behind them.
+fn last_number(octets: &[u8]) -> u32
+    ensures { result ≡ minimum_of octets.now }
+{
+    let last = &octets[octets.len().saturating_sub(4)..];
+    u32::from_be_bytes([
+        octet_at(last, 0),
+        octet_at(last, 1),
+        octet_at(last, 2),
+        octet_at(last, 3),
+    ])
+}
+
+/// The octet at a place, 0 where there is none.
+fn octet_at(octets: &[u8], place: usize) -> u8
+    ensures { result ≡ slice_index octets.now place }
+{
+    if place < octets.len() {
+        octets[place]
+    } else {
+        0
     }
 }
 

@@ -5,13 +5,13 @@ ghost use Rattle.definitions.specs.Name.{low, same, at_or_above};
 ghost use Rattle.definitions.specs.Zone.{has, exists};
 ghost use Rattle.definitions.specs.ZoneChain.{types_at};
 ghost use Rattle.answer.specs.Accepting.{zone_with};
-ghost use Rattle.answer.specs.Served.{ttl_among, spelled_as, spelled_among};
-ghost use Rattle.answer.specs.ZoneView.{data_of, is_of};
+ghost use Rattle.answer.specs.Served.{chain_ttl, owner_among, ttl_among, spelled_as, spelled_among};
+ghost use Rattle.answer.specs.ZoneView.{is_of};
 
 use crate::names::Name;
 use crate::plain::{Rtype, Ttl};
 use crate::publisher::zone::ZoneRecords;
-use crate::publisher::zone::handed::{HandedRecord, RecordData};
+use crate::publisher::zone::handed::HandedRecord;
 use std::alloc::{AllocError, Global};
 
 impl ZoneRecords {
@@ -29,18 +29,6 @@ impl ZoneRecords {
         name.ends_with(&self.apex) && any_at_or_below(&self.records, name)
     }
 
-    /// The data of an owner and a type, in canonical order (RFC 4034, 6.3).
-    pub fn data_at(
-        &self,
-        alloc: Global,
-        name: &Name,
-        rtype: Rtype,
-    ) -> Result<Vec<RecordData>, AllocError>
-        ensures { IfOk result (λ v. v.items ≡ map data_of (filter (is_of name.now rtype) self.now.records)) }
-    {
-        data_among(alloc, &self.records, name, rtype)
-    }
-
     /// The TTL of an owner and a type, 0 where the zone has none.
     pub fn ttl_at(&self, name: &Name, rtype: Rtype) -> Ttl
         ensures { result ≡ ttl_among self.now.records (low name.now) rtype }
@@ -55,8 +43,8 @@ impl ZoneRecords {
         self.ttl_at(&self.apex, Rtype::SOA)
     }
 
-    /// A name as the zone spells it: the apex as handed in, an owner as its first record. Of another name nothing is
-    /// promised.
+    /// A next name as the zone spells it: the apex as handed in, an owner as its first record. Of another name
+    /// nothing is promised.
     pub fn spelled<'a>(&'a self, name: &'a Name) -> &'a Name
         ensures apex { IsTrue (same self.now.apex name.now) → result.now ≡ self.now.apex }
         ensures owner { IsTrue (list_any (λ r. same r.owner name.now) self.now.records) → result.now ≡ spelled_as self.now.apex self.now.records (low name.now) }
@@ -69,24 +57,44 @@ impl ZoneRecords {
             None => name,
         }
     }
+
+    /// An owner as its first record spells it. Of another name nothing is promised.
+    pub fn first_spelled<'a>(&'a self, owner: &'a Name) -> &'a Name
+        ensures { IsTrue (list_any (λ r. same r.owner owner.now) self.now.records) → result.now ≡ spelled_among self.now.records (low owner.now) }
+    {
+        match spelled_among(&self.records, owner) {
+            Some(first) => first,
+            None => owner,
+        }
+    }
 }
 
-/// The data of an owner and a type among some records.
-fn data_among(
+/// The data of an RRset: as they are written, and in canonical form.
+#[derive(Drop)]
+pub(super) struct RrsetData {
+    pub written: Vec<Vec<u8>>,
+    pub canonical: Vec<Vec<u8>>,
+}
+
+/// The data of an owner and a type among some records, in their order.
+pub(super) fn data_among(
     alloc: Global,
     records: &[HandedRecord],
     name: &Name,
     rtype: Rtype,
-) -> Result<Vec<RecordData>, AllocError>
-    ensures { IfOk result (λ v. v.items ≡ map data_of (filter (is_of name.now rtype) records.now)) }
+) -> Result<RrsetData, AllocError>
+    ensures written { IfOk result (λ d. map (λ v. v.items) d.written.items ≡ map (λ r. r.written) (filter (is_of name.now rtype) records.now)) }
+    ensures canonical { IfOk result (λ d. map (λ v. v.items) d.canonical.items ≡ map (λ r. r.bytes) (filter (is_of name.now rtype) records.now)) }
 {
-    let mut data = Vec::new(alloc);
+    let mut written = Vec::new(alloc);
+    let mut canonical = Vec::new(alloc);
     for record in records {
         if record.is_of(name, rtype) {
-            data.push(record.data()?)?;
+            written.push(record.written().to_vec(alloc)?)?;
+            canonical.push(record.canonical().to_vec(alloc)?)?;
         }
     }
-    Ok(data)
+    Ok(RrsetData { written, canonical })
 }
 
 /// The types at an owner among some records.
@@ -130,8 +138,37 @@ fn ttl_among(records: &[HandedRecord], name: &Name, rtype: Rtype) -> Ttl
     Ttl::from_secs(0)
 }
 
+/// The owner of the first record of an owner and a type.
+pub(super) fn owner_among<'a>(
+    records: &'a [HandedRecord],
+    name: &Name,
+    rtype: Rtype,
+) -> Option<&'a Name>
+    ensures some { IfSome result (λ n. n.now ≡ owner_among records.now (low name.now) rtype) }
+    ensures none { IsNone result → list_any (is_of name.now rtype) records.now ≡ false }
+{
+    for record in records {
+        if record.is_of(name, rtype) {
+            return Some(record.owner());
+        }
+    }
+    None
+}
+
+/// The TTL of the chain: the lesser of the SOA record's own and its minimum (RFC 9077, 3).
+pub(super) fn chain_ttl_among(apex: &Name, records: &[HandedRecord]) -> Ttl
+    ensures { result ≡ chain_ttl apex.now records.now }
+{
+    for record in records {
+        if record.is_soa_of(apex) {
+            return record.chain_ttl();
+        }
+    }
+    Ttl::from_secs(0)
+}
+
 /// The owner of the first record of a name.
-fn spelled_among<'a>(records: &'a [HandedRecord], name: &Name) -> Option<&'a Name>
+pub(super) fn spelled_among<'a>(records: &'a [HandedRecord], name: &Name) -> Option<&'a Name>
     ensures some { IfSome result (λ n. n.now ≡ spelled_among records.now (low name.now)) }
     ensures none { IsNone result → list_any (λ r. same r.owner name.now) records.now ≡ false }
 {

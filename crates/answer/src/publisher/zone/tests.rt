@@ -5,6 +5,7 @@ use crate::plain::record::{Record, Soa, UnknownRecordData, ZoneRecordData};
 use crate::plain::{Class, Rtype, Ttl};
 use crate::publisher::fault::{Mode, ZoneFault};
 use crate::publisher::zone::ZoneRecords;
+use crate::publisher::zone::bitmap::write_bitmap;
 use std::alloc::Global;
 use std::test::Fail;
 
@@ -148,7 +149,65 @@ fn what_a_zone_has(rt: HostRuntime) -> Result<(), Fail> {
     assert!(rt; !zone.exists(&name(alloc, A_EXAMPLE)?));
     assert_eq!(rt; zone.soa_ttl().as_secs(), 3600);
     assert_eq!(rt; zone.ttl_at(&b, Rtype::A).as_secs(), 60);
-    assert_eq!(rt; zone.data_at(alloc, &b, Rtype::A)?.len(), 1);
     assert_eq!(rt; zone.apex().len(), 1);
+    let found = zone.answer_to(alloc, &b, Rtype::A)?;
+    assert_eq!(rt; found.flags, 0x8400);
+    assert_eq!(rt; found.answer.len(), 1);
+    assert_eq!(rt; found.answer[0].owner().label_at(0), Some(b"B".as_slice()));
+    assert_eq!(rt; found.authority.len(), 0);
+    Ok(())
+}
+
+/// Of a zone of two owners one link covers what lies between them (RFC 4034, 4; RFC 4035, 3.1.3).
+#[test]
+fn what_a_zone_denies(rt: HostRuntime) -> Result<(), Fail> {
+    let alloc = rt.alloc();
+    let mut records = Vec::new(alloc);
+    let owner = b"\x01b\x01C\x07example\x00";
+    records.push(record(alloc, owner, 1, 60, 1, b"\x01\x02\x03\x04")?)?;
+    records.push(soa(alloc, 1)?)?;
+    let zone = ZoneRecords::new(alloc, name(alloc, EXAMPLE)?, records, Mode::Nsec, 0)?;
+    // the next name as spelled, then A, RRSIG and NSEC in window 0; at the apex SOA, RRSIG, NSEC and DNSKEY
+    let from_apex = b"\x01b\x01C\x07example\x00\x00\x07\x02\x00\x00\x00\x00\x03\x80";
+    let from_owner = b"\x07example\x00\x00\x06\x40\x00\x00\x00\x00\x03";
+    let empty_non_terminal = zone.answer_to(
+        alloc,
+        &name(alloc, b"\x01c\x07example\x00")?,
+        Rtype::A,
+    )?;
+    assert_eq!(rt; empty_non_terminal.flags, 0x8400);
+    assert_eq!(rt; empty_non_terminal.authority.len(), 2);
+    assert_eq!(rt;
+        empty_non_terminal.authority[1].written()[0].as_slice(),
+        from_apex.as_slice()
+    );
+    let missing = zone.answer_to(alloc, &name(alloc, b"\x01z\x07example\x00")?, Rtype::A)?;
+    assert_eq!(rt; missing.flags, 0x8403);
+    assert_eq!(rt; missing.answer.len(), 0);
+    assert_eq!(rt; missing.authority.len(), 3);
+    assert_eq!(rt;
+        missing.authority[1].written()[0].as_slice(),
+        from_apex.as_slice()
+    );
+    assert_eq!(rt;
+        missing.authority[2].owner().label_at(1),
+        Some(b"C".as_slice())
+    );
+    assert_eq!(rt;
+        missing.authority[2].written()[0].as_slice(),
+        from_owner.as_slice()
+    );
+    Ok(())
+}
+
+/// The types of the example of RFC 4034, 4.3, out of order.
+#[test]
+fn a_bitmap_of_two_windows(rt: HostRuntime) -> Result<(), Fail> {
+    let alloc = rt.alloc();
+    let mut octets = Vec::new(alloc);
+    write_bitmap(&mut octets, &[1234, 15, 47, 1, 46])?;
+    assert_eq!(rt; octets.len(), 37);
+    assert!(rt; octets.starts_with(&[0, 6, 64, 1, 0, 0, 0, 3, 4, 27]));
+    assert_eq!(rt; octets[36], 32);
     Ok(())
 }

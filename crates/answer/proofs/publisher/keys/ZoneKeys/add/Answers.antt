@@ -1,4 +1,4 @@
-use Rattle.std.proofs.Common.{◌≡◌, [], sym, ap, ◌∙◌, subst}
+use Rattle.std.proofs.Common.{[], sym, subst}
 use Rattle.std.specs.Prelude.{string_bytes}
 use Rattle.answer.specs.KeyState.{text_of, is_available}
 use Rattle.answer.specs.Bindings.{Outcome}

@@ -1,11 +1,9 @@
 use Rattle.std.proofs.Common.{◌≡◌, map}
 use Rattle.std.specs.Prelude.{filter}
-use Rattle.std.specs.Ordering.{nat_cmp}
-use Rattle.definitions.specs.Dnskey.{key_tag}
 use Rattle.definitions.specs.Sorting.{put_all_by}
 use Rattle.answer.specs.KeyState.{Reference}
 use Rattle.answer.specs.declared.publisher.keys.Publication.TheVariants.{AtParent}
-use Rattle.answer.specs.Bindings.{BoundKey, is_published, dnskeys, keys_by_tag, ds_cmp, ds_of, ds_set}
+use Rattle.answer.specs.Bindings.{BoundKey, is_published, ds_cmp, ds_of, ds_set}
 use Rattle.answer.specs.BoundView.{by_text}
 use Rattle.answer.proofs.publisher.keys.ZoneKeys.ds_set.Given as goal
 

@@ -1,7 +1,6 @@
 use Rattle.std.proofs.Common.{sym, ◌∙◌, ap, ◌≡◌, true, false, ◌&&◌}
 use Rattle.std.specs.List.{list_any}
 use Rattle.definitions.specs.Name.{at_or_above}
-use Rattle.answer.specs.ZoneView.{IsPublished}
 use Rattle.answer.proofs.ZoneServed.{exists_is}
 use Rattle.answer.proofs.publisher.zone.ZoneRecords.exists.Goals as goal
 

@@ -1,6 +1,4 @@
 use Rattle.std.proofs.Common.{sym, ◌∙◌, ap, ◌≡◌}
-use Rattle.answer.specs.Accepting.{HandedRr}
-use Rattle.std.proofs.Common.{List}
 use Rattle.std.specs.List.{list_any}
 use Rattle.answer.specs.ZoneView.{is_of}
 use Rattle.answer.proofs.ZoneServed.{has_is}

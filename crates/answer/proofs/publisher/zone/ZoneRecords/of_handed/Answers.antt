@@ -1,9 +1,8 @@
-use Rattle.std.proofs.Common.{◌≡◌, None, false, true, sym, ◌∙◌, refl, inr, inl, ap, length}
-use Rattle.std.specs.List.Sorted.{IsStrictlySortedBy}
-use Rattle.answer.specs.Accepting.{first_fault, record_cmp, sorted_records, unlike_ttls, soas, has_unlike_ttls, zone_of}
+use Rattle.std.proofs.Common.{◌≡◌, None, sym, ◌∙◌, inr, ap, length}
+use Rattle.answer.specs.Accepting.{first_fault, unlike_ttls, soas}
 use Rattle.answer.specs.ZoneView.{mode_of, neighbours}
 use Rattle.definitions.specs.ZoneChain.{optout_of}
-use Rattle.answer.proofs.ZoneFaults.{plain_from_none, unlike_ttls_are, IsPlain}
+use Rattle.answer.proofs.ZoneFaults.{plain_from_none, unlike_ttls_are}
 use Rattle.answer.proofs.publisher.zone.ZoneRecords.of_handed.Goals as goal
 
 pub returns-then-has_unlike_neighbours-clause-fault : goal.returns-then-has_unlike_neighbours-clause-fault

@@ -1,8 +1,7 @@
 use Rattle.std.proofs.Common.{◌≡◌, true, false, sym, ap, ◌∙◌, arith}
 use Rattle.std.proofs.lemmas.List.{drop_all}
 use Rattle.std.specs.List.{list_any}
-use Rattle.definitions.specs.Name.{low, same}
-use Rattle.answer.specs.Served.{spelled_among}
+use Rattle.definitions.specs.Name.{same}
 use Rattle.answer.proofs.ZoneServed.{spelled_later, spelled_here, any_later}
 use Rattle.answer.proofs.publisher.zone.lookups.spelled_among.Goals as goal
 

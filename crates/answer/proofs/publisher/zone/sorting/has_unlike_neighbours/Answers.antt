@@ -1,4 +1,4 @@
-use Rattle.std.proofs.Common.{◌≡◌, ◌-◌, ◌+◌, ◌≤◌, ◌<◌, false, drop, length, sym, ap, ◌∙◌, arith}
+use Rattle.std.proofs.Common.{◌≡◌, ◌-◌, ◌+◌, false, drop, sym, ap, ◌∙◌, arith}
 use Rattle.answer.specs.Accepting.{unlike_ttls}
 use Rattle.answer.specs.ZoneView.{neighbours}
 use Rattle.answer.proofs.ZoneLists.{neighbours_at, neighbours_short}

@@ -1,0 +1,58 @@
+use Rattle.std.proofs.Common.{◌++◌, subst, rules}
+use Rattle.std.specs.Prelude.{IfErr, IfOk}
+use Rattle.answer.specs.Answering.{AnswersZone, RefusesAnswer, ahead_of_records}
+use Rattle.answer.specs.Bindings.{keys_by_tag}
+use Rattle.answer.specs.Composed.{IsAnswer, RefusesGroups}
+use Rattle.answer.specs.Publishing.{hash_in, second_of, served}
+use Rattle.answer.specs.Questions.{asked_of}
+use Rattle.answer.specs.declared.publisher.keys.Publication.TheVariants.{SignsZone}
+use Rattle.answer.proofs.ZoneAnswers.{allowed_plain}
+use Rattle.answer.proofs.Refusals.{answer_refused, if_err_map}
+use Rattle.answer.proofs.ZoneData.{if_ok_map}
+use Rattle.answer.proofs.publisher.publishing.Publisher.answer.Goals as goal
+
+pub answer_to-requires : goal.answer_to-requires
+answer_to-requires g c = allowed_plain c.args.self.now.zone.apex (asked_of c.args.question.now) (search rules)
+
+pub returns-clause-answer : goal.returns-clause-answer
+returns-clause-answer g c =
+    let z = c.args.self.now.zone in
+    let sign = g.S.Scheme.signature_of c.args.self.now.scheme.now in
+    let verifies = g.S.Scheme.verifies c.args.self.now.scheme.now in
+    let made = c.in_ok-found.ensures (hash_in (g.H.Nsec3Hasher.hash_of c.args.self.now.hasher.now) z.mode) in
+    let found = c.in_ok-found.found in
+    let keys = keys_by_tag c.args.self.now.keys SignsZone in
+    let written : IfOk c.compose_answer.result (λ m. IsAnswer sign verifies z.apex (second_of c.args.now.now) c.args.self.now.life keys found.flags (asked_of c.args.question.now) found.answer.items found.authority.items m.items) = search rules in
+    let served_as = served (g.H.Nsec3Hasher.hash_of c.args.self.now.hasher.now) z in
+    if_ok_map
+    (λ m. IsAnswer sign verifies z.apex (second_of c.args.now.now) c.args.self.now.life keys found.flags (asked_of c.args.question.now) found.answer.items found.authority.items m.items)
+    (λ m. AnswersZone sign verifies served_as z.apex (second_of c.args.now.now) c.args.self.now.life keys (asked_of c.args.question.now) m.items)
+    c.compose_answer.result
+    (λ m w. record {
+      answer = found.answer.items;
+      authority = found.authority.items;
+      groups_are = made.groups_are;
+      split = made.split;
+      written = subst (λ f. IsAnswer sign verifies z.apex (second_of c.args.now.now) c.args.self.now.life keys f (asked_of c.args.question.now) found.answer.items found.authority.items m.items) made.flags_are w;
+    })
+    written
+
+pub returns-clause-refused : goal.returns-clause-refused
+returns-clause-refused g c =
+    let z = c.args.self.now.zone in
+    let sign = g.S.Scheme.signature_of c.args.self.now.scheme.now in
+    let verifies = g.S.Scheme.verifies c.args.self.now.scheme.now in
+    let made = c.in_ok-found.ensures (hash_in (g.H.Nsec3Hasher.hash_of c.args.self.now.hasher.now) z.mode) in
+    let found = c.in_ok-found.found in
+    let keys = keys_by_tag c.args.self.now.keys SignsZone in
+    let asked = asked_of c.args.question.now in
+    let at = second_of c.args.now.now in
+    let life = c.args.self.now.life in
+    let groups = found.answer.items ++ found.authority.items in
+    let refused : IfErr c.compose_answer.result (RefusesGroups sign verifies z.apex at life keys (ahead_of_records asked) groups) = search rules in
+    if_err_map
+    (RefusesGroups sign verifies z.apex at life keys (ahead_of_records asked) groups)
+    (RefusesAnswer sign verifies (served (g.H.Nsec3Hasher.hash_of c.args.self.now.hasher.now) z) z.apex at life keys asked)
+    c.compose_answer.result
+    (λ f h. answer_refused sign verifies (served (g.H.Nsec3Hasher.hash_of c.args.self.now.hasher.now) z) z.apex at life keys asked groups f made.groups_are h)
+    refused

@@ -1,0 +1,28 @@
+use Rattle.std.proofs.Common.{[], ◌∷◌, rules}
+use Rattle.std.specs.Prelude.{IfErr}
+use Rattle.answer.specs.Answering.{RefusesKeys, ahead_of_records}
+use Rattle.answer.specs.Bindings.{dnskeys, keys_by_tag, published}
+use Rattle.answer.specs.Composed.{RefusesGroups}
+use Rattle.answer.specs.Publishing.{second_of, served}
+use Rattle.answer.specs.declared.publisher.keys.Publication.TheVariants.{Present, SignsKeys}
+use Rattle.answer.proofs.Refusals.{if_err_map, keys_refused}
+use Rattle.answer.proofs.publisher.publishing.Publisher.dnskey_answer.Goals as goal
+
+pub returns-clause-refused : goal.returns-clause-refused
+returns-clause-refused g c =
+    let z = c.args.self.now.zone in
+    let sign = g.S.Scheme.signature_of c.args.self.now.scheme.now in
+    let verifies = g.S.Scheme.verifies c.args.self.now.scheme.now in
+    let keys = keys_by_tag c.args.self.now.keys SignsKeys in
+    let present = dnskeys (published c.args.self.now.keys Present) in
+    let at = second_of c.args.now.now in
+    let life = c.args.self.now.life in
+    let group = c.in_ok-group.group in
+    let s = served (g.H.Nsec3Hasher.hash_of c.args.self.now.hasher.now) z in
+    let refused : IfErr c.compose_answer.result (RefusesGroups sign verifies z.apex at life keys (ahead_of_records (record { name = z.apex; rtype = 48; class = 1 })) (group ∷ [])) = search rules in
+    if_err_map
+    (RefusesGroups sign verifies z.apex at life keys (ahead_of_records (record { name = z.apex; rtype = 48; class = 1 })) (group ∷ []))
+    (RefusesKeys sign verifies s z.apex at life present keys)
+    c.compose_answer.result
+    (λ f h. keys_refused sign verifies s z.apex at life present keys group f c.in_ok-group.ensures h)
+    refused

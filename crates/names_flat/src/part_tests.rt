@@ -1,0 +1,98 @@
+//! Rows of the parts of names.
+
+use crate::name::Name;
+use crate::relative::RelativeName;
+use names_labels::traits::ToLabelIter;
+
+#[test]
+fn labels_come_from_both_ends(rt: HostRuntime) {
+    let name = Name::from_slice(b"\x01a\x02bb\x03ccc\x00").expect(&rt, "a name");
+    let mut labels = name.iter();
+    assert!(rt; labels.next().expect(&rt, "a").as_slice() == b"a".as_slice());
+    assert!(rt; labels.next_back().expect(&rt, "the root").is_root());
+    assert!(rt; labels.next_back().expect(&rt, "ccc").as_slice() == b"ccc".as_slice());
+    assert!(rt; labels.next().expect(&rt, "bb").as_slice() == b"bb".as_slice());
+    assert!(rt; labels.next().is_none() && labels.next_back().is_none());
+    let mut labels = name.iter_labels();
+    assert!(rt; labels.next_back().expect(&rt, "the root").is_root());
+    assert!(rt; labels.next().expect(&rt, "a").as_slice() == b"a".as_slice());
+    assert!(rt; labels.next().expect(&rt, "bb").as_slice() == b"bb".as_slice());
+    assert!(rt; labels.next_back().expect(&rt, "ccc").as_slice() == b"ccc".as_slice());
+    assert!(rt; labels.next().is_none() && labels.next_back().is_none());
+    let part = RelativeName::from_slice(b"\x01a").expect(&rt, "a name");
+    assert!(rt; part.iter().next_back().expect(&rt, "a").as_slice() == b"a".as_slice());
+}
+
+#[test]
+fn names_have_suffixes(rt: HostRuntime) {
+    let name = Name::from_slice(b"\x01a\x02bb\x00").expect(&rt, "a name");
+    let mut suffixes = name.iter_suffixes();
+    assert!(rt; suffixes.next().expect(&rt, "the name") == name);
+    assert!(rt; suffixes.next().expect(&rt, "bb").as_slice() == b"\x02bb\x00".as_slice());
+    assert!(rt; suffixes.next().expect(&rt, "the root").is_root() && suffixes.next().is_none());
+}
+
+#[test]
+fn absolute_names_are_cut(rt: HostRuntime) {
+    let name = Name::from_slice(b"\x01a\x02bb\x00").expect(&rt, "a name");
+    let starts = [true, false, true, false, false, true, false];
+    for (place, starts) in starts.into_iter().enumerate() {
+        assert!(rt; name.is_label_start(place) == starts);
+    }
+    if name.is_label_start(2) && name.is_label_start(5) {
+        assert!(rt; name.range(2, 5).as_slice() == b"\x02bb".as_slice());
+        assert!(rt; name.range_from(2).as_slice() == b"\x02bb\x00".as_slice());
+        assert!(rt; name.slice_from(5).is_root());
+        let (front, back) = name.split(2);
+        assert!(rt; front.as_slice() == b"\x01a".as_slice());
+        assert!(rt; back.as_slice() == b"\x02bb\x00".as_slice());
+    }
+    let (label, rest) = name.split_first().expect(&rt, "a label");
+    assert!(rt; label.as_slice() == b"a".as_slice() && rest.as_slice() == b"\x02bb\x00".as_slice());
+    assert!(rt; name.parent().expect(&rt, "a parent") == rest);
+    assert!(rt; Name::root_ref().split_first().is_none() && Name::root_ref().parent().is_none());
+}
+
+#[test]
+fn relative_names_are_cut(rt: HostRuntime) {
+    let name = RelativeName::from_slice(b"\x01a\x02bb").expect(&rt, "a name");
+    let starts = [true, false, true, false, false, true, false];
+    for (place, starts) in starts.into_iter().enumerate() {
+        assert!(rt; name.is_label_start(place) == starts);
+    }
+    if name.is_label_start(2) && name.is_label_start(5) {
+        assert!(rt; name.range(2, 5).as_slice() == b"\x02bb".as_slice());
+        let (front, back) = name.split(2);
+        assert!(rt; front.as_slice() == b"\x01a".as_slice());
+        assert!(rt; back.as_slice() == b"\x02bb".as_slice());
+    }
+    let (label, rest) = name.split_first().expect(&rt, "a label");
+    assert!(rt; label.as_slice() == b"a".as_slice() && rest.as_slice() == b"\x02bb".as_slice());
+    assert!(rt; name.parent().expect(&rt, "a parent") == rest);
+    assert!(rt; RelativeName::empty_ref().split_first().is_none());
+}
+
+#[test]
+fn names_are_changed(rt: HostRuntime) {
+    let mut name = Name::vec_from_str(rt.alloc(), "A.bb").expect(&rt, "a name");
+    name.make_canonical();
+    assert!(rt; name.as_slice() == b"\x01a\x02bb\x00".as_slice());
+    if name.is_label_start(2) {
+        let mut front = name.truncate(2);
+        front.make_canonical();
+        assert!(rt; front.as_slice() == b"\x01a".as_slice());
+        if front.is_label_start(0) {
+            front.truncate(0);
+        }
+        assert!(rt; front.is_empty());
+        let mut builder = front.into_builder();
+        assert!(rt; builder.push(b'x').is_ok());
+        let name = builder.finish().into_absolute().expect(&rt, "memory");
+        assert!(rt; name.as_slice() == b"\x01x\x00".as_slice());
+    }
+    let star = RelativeName::wildcard_vec(rt.alloc()).expect(&rt, "memory");
+    assert!(rt; star.as_slice() == RelativeName::wildcard_ref().as_slice());
+    assert!(rt; star.as_slice() == RelativeName::wildcard_slice().as_slice());
+    assert!(rt; RelativeName::empty_vec(rt.alloc()).as_slice().is_empty());
+    assert!(rt; Name::root_vec(rt.alloc()).expect(&rt, "memory").is_root());
+}

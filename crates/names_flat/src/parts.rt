@@ -1,0 +1,145 @@
+//! Parts of names: views over their octets, cut where labels begin.
+
+ghost use Rattle.std.specs.Prelude.{◌≡◌, ◌≤◌, ◌↔◌, ◌++◌, ◌∷◌, [], length, drop, slice_range, IsTrue, IfSome, IsNone, MatchOption};
+ghost use Rattle.definitions.specs.Name.{wire};
+ghost use Rattle.names_wire.specs.Label.{octets_of};
+ghost use Rattle.names_labels.specs.Flat.{spelled, StartsLabel, SpellsName, SpellsRelative};
+
+use crate::name::Name;
+use crate::relative::RelativeName;
+use names_labels::flat;
+use names_labels::iter::NameIter;
+use names_wire::label::Label;
+use names_wire::octets::Octets;
+
+impl<Octs: Octets> Name<Octs> {
+    /// The labels, the root's last, from both ends.
+    pub fn iter(&self) -> NameIter<'_>
+        ensures { result ≡ self.now ++ [] ∷ [] }
+    {
+        NameIter::over(self.run())
+    }
+
+    /// Whether a label begins at a place of the octets, the root's included.
+    pub fn is_label_start(&self, place: usize) -> bool
+        ensures { IsTrue result ↔ StartsLabel self.now place }
+    {
+        flat::is_label_start(self.relative_run(), place)
+    }
+
+    /// The labels from one place to another, at each of which a label begins (`is_label_start`).
+    pub fn range(&self, begin: usize, end: usize) -> RelativeName<&[u8]>
+        requires begins { StartsLabel self.now begin }
+        requires ends { StartsLabel self.now end }
+        requires ordered { begin ≤ end }
+        ensures { SpellsRelative (slice_range (wire self.now) begin end) result }
+    {
+        let (front, _) = self.as_slice().split_at(end);
+        let (_, part) = front.split_at(begin);
+        RelativeName::of_octets(part)
+    }
+
+    /// The name from a place on, at which a label begins (`is_label_start`).
+    pub fn range_from(&self, begin: usize) -> Name<&[u8]>
+        requires { StartsLabel self.now begin }
+        ensures { SpellsName (drop begin (wire self.now)) result }
+    {
+        let (_, name) = self.as_slice().split_at(begin);
+        Name::of_octets(name)
+    }
+
+    /// As `range_from`.
+    pub fn slice_from(&self, begin: usize) -> Name<&[u8]>
+        requires { StartsLabel self.now begin }
+        ensures { SpellsName (drop begin (wire self.now)) result }
+    {
+        self.range_from(begin)
+    }
+
+    /// The labels in front of a place at which a label begins (`is_label_start`), and the name from there on.
+    pub fn split(&self, mid: usize) -> (RelativeName<&[u8]>, Name<&[u8]>)
+        requires { StartsLabel self.now mid }
+        ensures parts { result.0 ++ result.1 ≡ self.now }
+        ensures place { length (spelled result.0) ≡ mid }
+    {
+        let (front, back) = self.as_slice().split_at(mid);
+        (RelativeName::of_octets(front), Name::of_octets(back))
+    }
+
+    /// The first label and the name behind it; nothing for the root.
+    pub fn split_first(&self) -> Option<(Label<'_>, Name<&[u8]>)>
+        ensures { MatchOption result (self.now ≡ []) (λ p. self.now ≡ octets_of p.0 ∷ p.1) }
+    {
+        let (label, rest) = flat::split_label(self.run())?;
+        if label.is_root() {
+            return None;
+        }
+        Some((label, Name::of_octets(rest)))
+    }
+
+    /// The name without its first label; nothing for the root.
+    pub fn parent(&self) -> Option<Name<&[u8]>>
+        ensures value { IfSome result (λ p. p ≡ drop 1 self.now) }
+        ensures root { IsNone result ↔ (self.now ≡ []) }
+    {
+        let (_, parent) = self.split_first()?;
+        Some(parent)
+    }
+}
+
+impl<Octs: Octets> RelativeName<Octs> {
+    /// The labels, from both ends.
+    pub fn iter(&self) -> NameIter<'_>
+        ensures { result ≡ self.now }
+    {
+        NameIter::over(self.run())
+    }
+
+    /// Whether a label begins at a place of the octets, or the last one ends there.
+    pub fn is_label_start(&self, place: usize) -> bool
+        ensures { IsTrue result ↔ StartsLabel self.now place }
+    {
+        flat::is_label_start(self.run(), place)
+    }
+
+    /// The labels from one place to another, at each of which a label begins or the last one ends
+    /// (`is_label_start`).
+    pub fn range(&self, begin: usize, end: usize) -> RelativeName<&[u8]>
+        requires begins { StartsLabel self.now begin }
+        requires ends { StartsLabel self.now end }
+        requires ordered { begin ≤ end }
+        ensures { SpellsRelative (slice_range (spelled self.now) begin end) result }
+    {
+        let (front, _) = self.as_slice().split_at(end);
+        let (_, part) = front.split_at(begin);
+        RelativeName::of_octets(part)
+    }
+
+    /// The labels in front of a place and those from there on. A label begins there or the last one ends
+    /// (`is_label_start`).
+    pub fn split(&self, mid: usize) -> (RelativeName<&[u8]>, RelativeName<&[u8]>)
+        requires { StartsLabel self.now mid }
+        ensures parts { result.0 ++ result.1 ≡ self.now }
+        ensures place { length (spelled result.0) ≡ mid }
+    {
+        let (front, back) = self.as_slice().split_at(mid);
+        (RelativeName::of_octets(front), RelativeName::of_octets(back))
+    }
+
+    /// The first label and the name behind it; nothing for the empty name.
+    pub fn split_first(&self) -> Option<(Label<'_>, RelativeName<&[u8]>)>
+        ensures { MatchOption result (self.now ≡ []) (λ p. self.now ≡ octets_of p.0 ∷ p.1) }
+    {
+        let (label, rest) = flat::split_label(self.run())?;
+        Some((label, RelativeName::of_octets(rest)))
+    }
+
+    /// The name without its first label; nothing for the empty name.
+    pub fn parent(&self) -> Option<RelativeName<&[u8]>>
+        ensures value { IfSome result (λ p. p ≡ drop 1 self.now) }
+        ensures empty { IsNone result ↔ (self.now ≡ []) }
+    {
+        let (_, parent) = self.split_first()?;
+        Some(parent)
+    }
+}

@@ -1,0 +1,170 @@
+-- A row of labels cut where one begins.
+use Rattle.std.specs.Prelude.{◌↔◌, IsTrue}
+use Rattle.std.proofs.Common.{◌≡◌, ℕ, zero, suc, ◌+◌, ◌-◌, ◌<◌, ◌≤◌, Bool, true, false, List, [], ◌∷◌, ◌++◌, length, take, drop, refl, sym, ap, subst, ◌∙◌, append_assoc, length-append, add-one, arith, eqb, leb, eq-eqb, ◌⊎◌, inl, inr, length-drop}
+use Rattle.std.specs.List.{AllByRecursion}
+use Rattle.std.proofs.lemmas.List.{take_at, drop_at, take-append-drop, length-take-le}
+use Rattle.std.proofs.lemmas.Bool.{eqb-true, leb-true, leb-false}
+use Rattle.definitions.specs.Name.{Name, Label}
+use Rattle.names_labels.specs.Flat.{spelled, labels_in, IsRun, SplitsLabel, StartsLabel}
+use Rattle.names_labels.proofs.Runs.{spelled-append, labels_in-spelled, drop-one}
+
+short_take : (k : ℕ) (ls : Name) → AllByRecursion (λ l. length l ≤ 63) ls → AllByRecursion (λ l. length l ≤ 63) (take k ls)
+short_take zero ls a = tt
+short_take (suc k) [] a = tt
+short_take (suc k) (l ∷ ls) a = (a.0, short_take k ls a.1)
+
+short_drop : (k : ℕ) (ls : Name) → AllByRecursion (λ l. length l ≤ 63) ls → AllByRecursion (λ l. length l ≤ 63) (drop k ls)
+short_drop zero ls a = a
+short_drop (suc k) [] a = tt
+short_drop (suc k) (l ∷ ls) a = short_drop k ls a.1
+
+-- labels in front and behind
+pub record CutsRun (run : List ℕ) (place k : ℕ) : Type 0 where
+  pub within : place ≤ length run
+  pub front : labels_in (take place run) ≡ take k (labels_in run)
+  pub front_octets : take place run ≡ spelled (take k (labels_in run))
+  pub front_run : IsRun (take place run)
+  pub back : labels_in (drop place run) ≡ drop k (labels_in run)
+  pub back_octets : drop place run ≡ spelled (drop k (labels_in run))
+  pub back_run : IsRun (drop place run)
+
+pub parts : (run : List ℕ) (k : ℕ) → IsRun run → run ≡ spelled (take k (labels_in run)) ++ spelled (drop k (labels_in run))
+parts run k r = r.whole ∙ ap spelled (sym (take-append-drop k (labels_in run))) ∙ spelled-append (take k (labels_in run)) (drop k (labels_in run))
+
+of_spelled : (bs : List ℕ) (ls : Name) → bs ≡ spelled ls → AllByRecursion (λ l. length l ≤ 63) ls → IsRun bs
+of_spelled bs ls e a =
+    let n : labels_in bs ≡ ls = ap labels_in e ∙ labels_in-spelled ls in
+    record { whole = e ∙ ap spelled (sym n); short = rw n a }
+
+pub cuts : (run : List ℕ) (place k : ℕ) → IsRun run → place ≡ length (spelled (take k (labels_in run))) → CutsRun run place k
+cuts run place k r e =
+    let ls = labels_in run in
+    let p = parts run k r in
+    let f : take place run ≡ spelled (take k ls) = ap (take place) p ∙ take_at (spelled (take k ls)) (spelled (drop k ls)) place (sym e) in
+    let b : drop place run ≡ spelled (drop k ls) = ap (drop place) p ∙ drop_at (spelled (take k ls)) (spelled (drop k ls)) place (sym e) in
+    record {
+      within = omega (arith, e, ap length p, length-append (spelled (take k ls)) (spelled (drop k ls)));
+      front = ap labels_in f ∙ labels_in-spelled (take k ls);
+      front_octets = f;
+      front_run = of_spelled (take place run) (take k ls) f (short_take k ls r.short);
+      back = ap labels_in b ∙ labels_in-spelled (drop k ls);
+      back_octets = b;
+      back_run = of_spelled (drop place run) (drop k ls) b (short_drop k ls r.short);
+    }
+
+-- what is left of a row behind so many labels
+pub record Behind (run rest : List ℕ) (k : ℕ) : Type 0 where
+  pub left : IsRun rest
+  pub labels : labels_in rest ≡ drop k (labels_in run)
+  pub octets : length run ≡ length (spelled (take k (labels_in run))) + length rest
+
+pub begun : (run : List ℕ) → IsRun run → Behind run run 0
+begun run r = record { left = r; labels = refl; octets = omega arith }
+
+octets_left : (run rest : List ℕ) (k : ℕ) → IsRun run → IsRun rest → labels_in rest ≡ drop k (labels_in run) → length run ≡ length (spelled (take k (labels_in run))) + length rest
+octets_left run rest k r l e =
+    omega (arith, ap length (parts run k r), length-append (spelled (take k (labels_in run))) (spelled (drop k (labels_in run))), ap length (l.whole ∙ ap spelled e))
+
+pub one_behind : (run rest behind : List ℕ) (k : ℕ) (l : Label) → IsRun run → Behind run rest k → SplitsLabel rest l behind → Behind run behind (k + 1)
+one_behind run rest behind k l r b s =
+    let e : labels_in behind ≡ drop (k + 1) (labels_in run) = sym (drop-one (labels_in run) k l (labels_in behind) (sym b.labels ∙ s.first)) in
+    record { left = s.behind; labels = e; octets = octets_left run behind (k + 1) r s.behind e }
+
+-- no label is left
+pub take_past : {X : Type 0} (xs : List X) (j k : ℕ) → drop j xs ≡ [] → j ≤ k → take k xs ≡ take j xs
+take_past [] zero zero e h = refl
+take_past [] zero (suc k) e h = refl
+take_past [] (suc j) zero e h = refl
+take_past [] (suc j) (suc k) e h = refl
+take_past (x ∷ xs) zero k e h = cc
+take_past (x ∷ xs) (suc j) zero e h = absurd (omega arith)
+take_past (x ∷ xs) (suc j) (suc k) e h = ap (λ ys. x ∷ ys) (take_past xs j k e (omega arith))
+
+-- ---- where labels begin
+
+-- a later label begins at a later place
+pub starts_rise : (ls : Name) (j k : ℕ) → j < k → j < length ls → length (spelled (take j ls)) < length (spelled (take k ls))
+starts_rise [] j k h a = absurd (omega arith)
+starts_rise (l ∷ ls) j zero h a = absurd (omega arith)
+starts_rise (l ∷ ls) zero (suc k) h a = omega arith
+starts_rise (l ∷ ls) (suc j) (suc k) h a =
+    omega (arith, length-append l (spelled (take j ls)), length-append l (spelled (take k ls)), starts_rise ls j k (omega arith) (omega arith))
+
+pub starts_grow : (ls : Name) (j k : ℕ) → j ≤ k → length (spelled (take j ls)) ≤ length (spelled (take k ls))
+starts_grow [] zero k h = omega arith
+starts_grow [] (suc j) k h = omega arith
+starts_grow (l ∷ ls) zero k h = omega arith
+starts_grow (l ∷ ls) (suc j) zero h = absurd (omega arith)
+starts_grow (l ∷ ls) (suc j) (suc k) h = omega (arith, length-append l (spelled (take j ls)), length-append l (spelled (take k ls)), starts_grow ls j k (omega arith))
+
+-- Behind k labels, each of which begins before the place.
+pub record Seeks (run rest : List ℕ) (place k : ℕ) : Type 0 where
+  pub behind : Behind run rest k
+  pub within : k ≤ length (labels_in run)
+  pub before : (j : ℕ) → j < k → length (spelled (take j (labels_in run))) < place
+
+pub seeks_more : (run rest behind : List ℕ) (place k : ℕ) (l : Label) → IsRun run → Seeks run rest place k → SplitsLabel rest l behind → length run - length rest < place → Seeks run behind place (k + 1)
+seeks_more run rest behind place k l r s p h = record {
+  behind = one_behind run rest behind k l r s.behind p;
+  within = more (labels_in run) k (sym s.behind.labels ∙ p.first);
+  before = λ j a. cases j a;
+}
+  where
+    more : (ls : Name) (k : ℕ) → drop k ls ≡ l ∷ labels_in behind → k + 1 ≤ length ls
+    more [] zero e = cc
+    more [] (suc k) e = cc
+    more (x ∷ ls) zero e = omega arith
+    more (x ∷ ls) (suc k) e = omega (arith, more ls k e)
+
+    cases : (j : ℕ) → j < k + 1 → length (spelled (take j (labels_in run))) < place
+    cases j a = omega (arith, starts_grow (labels_in run) j k (omega arith), s.behind.octets, h)
+
+pub not_reached : (run rest : List ℕ) (place k : ℕ) → Seeks run rest place k → labels_in rest ≡ [] → length run - length rest < place → StartsLabel (labels_in run) place → ⊥
+not_reached run rest place k s e h w =
+    omega (arith, w.2, starts_grow (labels_in run) w.0 k (past (labels_in run) k w.0 (sym s.behind.labels ∙ e) w.1), s.behind.octets, h)
+  where
+    past : (ls : Name) (k j : ℕ) → drop k ls ≡ [] → j ≤ length ls → j ≤ k
+    past [] k j d a = omega arith
+    past (x ∷ ls) zero j d a = cc
+    past (x ∷ ls) (suc k) zero d a = omega arith
+    past (x ∷ ls) (suc k) (suc j) d a = omega (arith, past ls k j d (omega arith))
+
+pub reached : (run rest : List ℕ) (place k : ℕ) (t : Bool) → Seeks run rest place k → (length run - length rest < place → ⊥) → t ≡ eqb (length run - length rest) place → IsTrue t ↔ StartsLabel (labels_in run) place
+reached run rest place k t s h e = (
+  λ a. (k, s.within, omega (arith, eqb-true (length run - length rest) place (sym e ∙ a), s.behind.octets)),
+  λ w. e ∙ ap (λ n. eqb n place) (same w) ∙ eqb-refl place,
+)
+  where
+    eqb-refl : (n : ℕ) → eqb n n ≡ true
+    eqb-refl n = eq-eqb n n refl
+
+    same : StartsLabel (labels_in run) place → length run - length rest ≡ place
+    same w = go (leb k w.0) refl
+      where
+        go : (b : Bool) → leb k w.0 ≡ b → length run - length rest ≡ place
+        go true a = omega (arith, w.2, h, s.behind.octets, starts_grow (labels_in run) k w.0 (leb-true k w.0 a))
+        go false a = let x = s.before w.0 (leb-false k w.0 a) in absurd (omega (arith, w.2, x))
+
+pub place_end : (run rest : List ℕ) (k index : ℕ) → Behind run rest k → (k ≡ index) ⊎ ((labels_in rest ≡ []) × (k ≤ index)) → length run - length rest ≡ length (spelled (take index (labels_in run)))
+place_end run rest k index b (inl e) = omega (arith, b.octets, ap (λ n. length (spelled (take n (labels_in run)))) e)
+place_end run rest k index b (inr p) =
+    omega (arith, b.octets, ap (λ ls. length (spelled ls)) (take_past (labels_in run) k index (sym b.labels ∙ p.0) p.1))
+
+one_left : {X : Type 0} (x : X) (xs : List X) → length (x ∷ xs) ≡ 1 → xs ≡ []
+one_left x [] h = refl
+one_left x (y ∷ xs) h = absurd (omega (arith, h))
+
+-- the last label, and the row in front of it
+pub last_label : (run front back behind : List ℕ) (place n : ℕ) (l : Label) → IsRun run → 1 ≤ length (labels_in run) → n ≡ length (labels_in run) - 1 → place ≡ length (spelled (take n (labels_in run))) → front ≡ take place run → back ≡ drop place run → SplitsLabel back l behind → labels_in run ≡ labels_in front ++ l ∷ []
+last_label run front back behind place n l r some e p f b s =
+    let ls = labels_in run in
+    let c = cuts run place n r p in
+    let d : drop n ls ≡ l ∷ labels_in behind = sym c.back ∙ ap labels_in (sym b) ∙ s.first in
+    let z : labels_in behind ≡ [] = one_left l (labels_in behind) (sym (ap length d) ∙ length-drop n ls ∙ omega (arith, e, some)) in
+    sym (take-append-drop n ls) ∙ (λ i. (sym c.front ∙ ap labels_in (sym f)) i ++ (d ∙ ap (λ x. l ∷ x) z) i)
+
+pub no_last : (run back : List ℕ) (place n : ℕ) → IsRun run → 1 ≤ length (labels_in run) → n ≡ length (labels_in run) - 1 → place ≡ length (spelled (take n (labels_in run))) → back ≡ drop place run → labels_in back ≡ [] → ⊥
+no_last run back place n r some e p b z =
+    let c = cuts run place n r p in
+    let d : length (drop n (labels_in run)) ≡ 0 = ap length (sym c.back ∙ ap labels_in (sym b) ∙ z) in
+    absurd (omega (arith, length-drop n (labels_in run), d, e, some))
