@@ -35,3 +35,5 @@ pub mod SimulateLoop
 pub mod RunShown
 pub mod MessageWritten
 pub mod MessageWhole
+pub mod MessageSignatures
+pub mod MessageData

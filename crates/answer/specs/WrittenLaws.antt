@@ -1,8 +1,11 @@
 -- What is written reads back, whatever stands before and behind it.
-use Rattle.std.specs.Prelude.{◌≡◌, ℕ, ◌+◌, ◌<◌, List, [], ◌∷◌, ◌++◌, length, Ok}
+use Rattle.std.specs.Prelude.{◌≡◌, ℕ, ◌+◌, ◌<◌, List, [], ◌∷◌, ◌++◌, length, true, Ok, Some}
 use Rattle.std.specs.List.{AllByRecursion, AllZip}
-use Rattle.definitions.specs.Name.{Name, IsName, wire, wire_len}
-use Rattle.answer.specs.Message.{Asked, Spelled, owner_at, message, data_of}
+use Rattle.definitions.specs.Name.{Name, IsName, wire, wire_len, low}
+use Rattle.definitions.specs.Bitmap.{is_bitmap}
+use Rattle.definitions.specs.Signing.{Fields}
+use Rattle.answer.specs.Message.{Asked, Spelled, owner_at, message, data_of, rrsig_at, ns_data, soa_data, nsec_data}
+use Rattle.answer.specs.Rrsig.{rrsig_data}
 use Rattle.answer.specs.Written.{Written, message_octets}
 
 abbrev pub NamesReadBack : Type 0
@@ -49,3 +52,27 @@ pub record ReadsBack (m : List ℕ) (asked : Asked) (records : List Written) : T
 
 abbrev pub MessagesReadBack : Type 0
 MessagesReadBack = (flags : ℕ) (asked : Asked) (answers authority : List Written) → IsQuestion asked → AreSections answers authority → ReadsBack (message_octets flags asked answers authority) asked (answers ++ authority)
+
+-- fields that a signature's record holds as they are (RFC 4034, 3.1)
+pub record AreFields (f : Fields) : Type 0 where
+  pub covered : f.covered < 65536
+  pub ttl : f.ttl < 4294967296
+  pub expiration : f.expiration < 4294967296
+  pub inception : f.inception < 4294967296
+  pub tag : f.tag < 65536
+  pub signer : IsName f.signer
+
+-- a signature's data read as its fields, the signer in canonical form, and its octets
+abbrev pub SignaturesReadBack : Type 0
+SignaturesReadBack = (f : Fields) (signature before behind : List ℕ) (r : Spelled) → AreFields f → r.start ≡ length before → r.length ≡ length (rrsig_data f signature)
+    → rrsig_at 0 (before ++ (rrsig_data f signature ++ behind)) r ≡ Some (record f { signer = low f.signer }, signature)
+
+-- The data of NS, SOA and NSEC records, written with their names uncompressed, read as their canonical form: the names
+-- of the first two lowered (RFC 4034, 6.2; RFC 6840, 5.1).
+pub record DataReadBack : Type 0 where
+  pub ns : (n : Name) (before behind : List ℕ) (r : Spelled) → IsName n → r.start ≡ length before → r.length ≡ length (wire n)
+    → ns_data 0 (before ++ (wire n ++ behind)) r ≡ Some (wire (low n))
+  pub soa : (mname rname : Name) (numbers before behind : List ℕ) (r : Spelled) → IsName mname → IsName rname → length numbers ≡ 20 → r.start ≡ length before → r.length ≡ length (wire mname ++ wire rname ++ numbers)
+    → soa_data 0 (before ++ (wire mname ++ wire rname ++ numbers ++ behind)) r ≡ Some (wire (low mname) ++ wire (low rname) ++ numbers)
+  pub nsec : (next : Name) (bits before behind : List ℕ) (r : Spelled) → IsName next → is_bitmap bits ≡ true → r.start ≡ length before → r.length ≡ length (wire next ++ bits)
+    → nsec_data 0 (before ++ (wire next ++ bits ++ behind)) r ≡ Some (wire next ++ bits)

@@ -24,5 +24,5 @@ returns-clause-refused g c =
     (RefusesGroups sign verifies z.apex at life keys (ahead_of_records (record { name = z.apex; rtype = 48; class = 1 })) (group ∷ []))
     (RefusesKeys sign verifies s z.apex at life present keys)
     c.compose_answer.result
-    (λ f h. keys_refused sign verifies s z.apex at life present keys group f c.in_ok-group.ensures h)
+    (λ f h. keys_refused sign verifies s z.apex at life present keys group f c.in_ok-group.ensures.presents h)
     refused
