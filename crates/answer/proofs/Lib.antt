@@ -13,6 +13,7 @@ pub mod NameEnds
 pub mod NameLabels
 pub mod NameLaws
 pub mod JudgeRecords
+pub mod JudgeGroups
 pub mod JudgeClosest
 pub mod NameWalk
 pub mod NameWritten

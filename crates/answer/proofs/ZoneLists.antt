@@ -1,5 +1,6 @@
 -- Lists, their items, and tests of them.
-use Rattle.std.proofs.Common.{◌≡◌, ℕ, suc, ◌+◌, ◌-◌, ◌<◌, ◌≤◌, length, drop, get_or, arith, add-one, drop-cons, length-drop, Bool, true, false, ◌||◌, not, List, [], ◌∷◌, map, ◌⊎◌, inl, inr, refl, sym, ap, subst, ◌∙◌, ⊎_elim, cond, Ordering}
+use Rattle.std.proofs.lemmas.List.{take_more}
+use Rattle.std.proofs.Common.{◌++◌, take, ◌≡◌, ℕ, suc, ◌+◌, ◌-◌, ◌<◌, ◌≤◌, length, drop, get_or, arith, add-one, drop-cons, length-drop, Bool, true, false, ◌||◌, not, List, [], ◌∷◌, map, ◌⊎◌, inl, inr, refl, sym, ap, subst, ◌∙◌, ⊎_elim, cond, Ordering}
 use Rattle.std.specs.declared.cmp.Ordering.TheVariants.{Less, Equal, Greater}
 use Rattle.std.specs.List.{list_any, AllByRecursion, filter}
 use Rattle.std.proofs.lemmas.Bool.{or_cases, or_parts, or_left, or_right, false≢true, not-false}
@@ -93,3 +94,7 @@ any_past f p xs i x h e n = sym (ap (λ ys. list_any p (map f ys)) (items_from x
 
 pub any_found : {X Y : Type 0} (f : X → Y) (p : Y → Bool) (xs : List X) (i : ℕ) (x : X) → i < length xs → x ≡ get_or xs i x → p (f x) ≡ true → list_any p (map f (drop i xs)) ≡ true
 any_found f p xs i x h e n = ap (λ ys. list_any p (map f ys)) (items_from xs i x h e) ∙ ap (λ b. b || list_any p (map f (drop (i + 1) xs))) n
+
+-- one item more from the front
+pub take_next : {X : Type 0} (xs : List X) (i : ℕ) (x : X) → i < length xs → x ≡ get_or xs i x → take (i + 1) xs ≡ take i xs ++ x ∷ []
+take_next xs i x h e = take_more xs i x h ∙ ap (λ v. take i xs ++ v ∷ []) (sym e)

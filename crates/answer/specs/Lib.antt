@@ -24,6 +24,7 @@ pub mod NewKeys
 pub mod KeyTexts
 pub mod KeyLaws
 pub mod Facts
+pub mod Verified
 pub mod Rrsig
 pub mod Star
 pub mod Publishing

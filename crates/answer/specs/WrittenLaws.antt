@@ -71,8 +71,8 @@ SignaturesReadBack = (f : Fields) (signature before behind : List ℕ) (r : Spel
 -- of the first two lowered (RFC 4034, 6.2; RFC 6840, 5.1).
 pub record DataReadBack : Type 0 where
   pub ns : (n : Name) (before behind : List ℕ) (r : Spelled) → IsName n → r.start ≡ length before → r.length ≡ length (wire n)
-    → ns_data 0 (before ++ (wire n ++ behind)) r ≡ Some (wire (low n))
+      → ns_data 0 (before ++ (wire n ++ behind)) r ≡ Some (wire (low n))
   pub soa : (mname rname : Name) (numbers before behind : List ℕ) (r : Spelled) → IsName mname → IsName rname → length numbers ≡ 20 → r.start ≡ length before → r.length ≡ length (wire mname ++ wire rname ++ numbers)
-    → soa_data 0 (before ++ (wire mname ++ wire rname ++ numbers ++ behind)) r ≡ Some (wire (low mname) ++ wire (low rname) ++ numbers)
+      → soa_data 0 (before ++ (wire mname ++ wire rname ++ numbers ++ behind)) r ≡ Some (wire (low mname) ++ wire (low rname) ++ numbers)
   pub nsec : (next : Name) (bits before behind : List ℕ) (r : Spelled) → IsName next → is_bitmap bits ≡ true → r.start ≡ length before → r.length ≡ length (wire next ++ bits)
-    → nsec_data 0 (before ++ (wire next ++ bits ++ behind)) r ≡ Some (wire next ++ bits)
+      → nsec_data 0 (before ++ (wire next ++ bits ++ behind)) r ≡ Some (wire next ++ bits)

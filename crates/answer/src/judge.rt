@@ -24,6 +24,7 @@ use crate::message::{MessageError, MessageView, ViewRecord, read_message};
 use crate::names::{Name, ParsedName};
 use crate::plain::{Class, Rtype};
 use crate::question::Question;
+use crate::ranked::put_data;
 use crate::scheme::Checks;
 use std::alloc::{AllocError, Global};
 
@@ -252,7 +253,7 @@ fn are_verified<C: Checks>(
     for key in keys {
         let mut item = Vec::new(alloc);
         key.dnskey().compose(&mut item)?;
-        group.put(item)?;
+        put_data(&mut group.items, item)?;
     }
     let mut groups = [group];
     verify_groups(alloc, message, records, trust, &mut groups, checks, count)?;

@@ -11,5 +11,6 @@ pub mod names;
 pub mod plain;
 pub mod publisher;
 pub mod question;
+mod ranked;
 pub mod scheme;
 pub mod simulate;

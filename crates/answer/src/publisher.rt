@@ -4,6 +4,5 @@ pub mod fault;
 pub mod group;
 pub mod keys;
 pub mod publishing;
-mod ranked;
 pub mod signing;
 mod zone;

@@ -1,7 +1,8 @@
 //! RRsets of a message and the signatures that verify them (RFC 4035, 5.3).
-ghost use Rattle.std.specs.Prelude.{◌≡◌, ◌==◌, ◌&&◌, ◌+◌, ◌<◌, ◌≤◌, ◌^◌, [], IfOk, MatchOption, length, map, filter};
+ghost use Rattle.std.specs.Prelude.{◌≡◌, ◌==◌, ◌&&◌, ◌+◌, ◌<◌, ◌≤◌, ◌^◌, [], false, IfOk, MatchOption, length, map, filter};
 ghost use Rattle.answer.specs.Record.{spelled};
 ghost use Rattle.answer.specs.Facts.{is_signature, is_due, fits_key, fields_read, signs};
+ghost use Rattle.answer.specs.Verified.{datum_of, rrset_in};
 ghost use Rattle.std.specs.Option.{option_map};
 ghost use Rattle.std.specs.List.{find};
 ghost use Rattle.definitions.specs.Name.{same};
@@ -15,9 +16,9 @@ use crate::message::rdata::RrsigView;
 use crate::names::{Name, ParsedName};
 use crate::plain::{Class, Rtype};
 use crate::publisher::signing::signed_octets;
+use crate::ranked::put_data;
 use crate::scheme::Checks;
 use std::alloc::{AllocError, Global};
-use std::cmp::Ordering;
 
 /// An RRset of a message: its canonical data ascending, each once, and whether a signature verified it.
 #[derive(Debug, Drop)]
@@ -42,6 +43,7 @@ impl Group {
         ensures owner { result.owner ≡ owner }
         ensures rtype { result.rtype ≡ rtype }
         ensures items { result.items.items ≡ [] }
+        ensures unverified { result.verified ≡ false }
     {
         Group {
             owner,
@@ -49,14 +51,6 @@ impl Group {
             items: Vec::new(alloc),
             verified: false,
         }
-    }
-
-    /// Puts data in their place, unless they are there.
-    pub(crate) fn put(&mut self, item: Vec<u8>) -> Result<(), AllocError> {
-        if let Some(place) = place_of(&self.items, &item) {
-            self.items.insert(place, item)?;
-        }
-        Ok(())
     }
 
     /// Whether the group has a type and an owner, up to case.
@@ -67,20 +61,6 @@ impl Group {
     }
 }
 
-/// Where an item belongs in an ascending list; None where it is there.
-fn place_of(items: &[Vec<u8>], item: &[u8]) -> Option<usize>
-    ensures { MatchOption result (Unit {0}) (λ i. i ≤ length items.now) }
-{
-    for (i, other) in items.iter().enumerate() {
-        match item.cmp(other.as_slice()) {
-            Ordering::Less => return Some(i),
-            Ordering::Equal => return None,
-            Ordering::Greater => {},
-        }
-    }
-    Some(items.len())
-}
-
 /// The RRset of an owner and a type: what reads of the records of class IN.
 pub(crate) fn read_group(
     alloc: Global,
@@ -88,16 +68,40 @@ pub(crate) fn read_group(
     records: &[ViewRecord],
     owner: &Name,
     rtype: Rtype,
-) -> Result<Group, AllocError> {
-    let mut group = Group::new(alloc, owner.try_clone(alloc)?, rtype);
+) -> Result<Group, AllocError>
+    ensures owner { IfOk result (λ g. g.owner ≡ owner.now) }
+    ensures rtype { IfOk result (λ g. g.rtype ≡ rtype) }
+    ensures items { IfOk result (λ g. map (λ d. d.items) g.items.items ≡ rrset_in 0 message.now (map spelled records.now) owner.now rtype) }
+    ensures unverified { IfOk result (λ g. g.verified ≡ false) }
+{
+    let mut items = Vec::new(alloc);
     for record in records {
-        if record.class == Class::IN && group.is_of(&record.owner, record.rtype) {
-            if let Some(item) = record.canonical_data(alloc, message)? {
-                group.put(item)?;
-            }
+        if let Some(item) = datum_of(alloc, message, record, owner, rtype)? {
+            put_data(&mut items, item)?;
         }
     }
-    Ok(group)
+    Ok(Group {
+        owner: owner.try_clone(alloc)?,
+        rtype,
+        items,
+        verified: false,
+    })
+}
+
+/// The canonical data of a record of an owner, up to case, and a type, class IN; None where they do not read.
+fn datum_of(
+    alloc: Global,
+    message: &[u8],
+    record: &ViewRecord,
+    owner: &Name,
+    rtype: Rtype,
+) -> Result<Option<Vec<u8>>, AllocError>
+    ensures { IfOk result (λ o. option_map (λ v. v.items) o ≡ datum_of 0 message.now owner.now rtype (spelled record.now)) }
+{
+    if record.class == Class::IN && record.rtype == rtype && record.owner.name_eq(owner) {
+        return record.canonical_data(alloc, message);
+    }
+    Ok(None)
 }
 
 /// Tries the signatures of a message in order, each on its group until one verifies it. The count rises by one

@@ -20,7 +20,7 @@ use crate::keyset::{Action, Available, Error, KeyType, RollType, UnixTime};
 use crate::names::Name;
 use crate::plain::{DigestAlgorithm, SecurityAlgorithm};
 use crate::publisher::fault::KeyFault;
-use crate::publisher::ranked::{put_data, put_ranked};
+use crate::ranked::{put_data, put_ranked};
 use std::alloc::{AllocError, Global};
 use std::collections::BTreeMap;
 use std::marker::Model;
