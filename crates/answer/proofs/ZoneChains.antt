@@ -14,7 +14,7 @@ use Rattle.definitions.specs.Name.{Name, low, labels_eq, name_cmp, wire}
 use Rattle.definitions.specs.ZoneChain.{Nsec, links, behind, nsec_names, nsec_next, nsec_types, types_at, at_apex}
 use Rattle.definitions.specs.Bitmap.{bitmap}
 use Rattle.answer.specs.Accepting.{HandedRr, record_cmp, zone_with}
-use Rattle.answer.specs.Served.{served_of, proofs_of, chain_record, spelled_as}
+use Rattle.answer.specs.Served.{Group, served_of, proofs_of, chain_record, spelled_as}
 use Rattle.answer.specs.Links.{pairs, record_links, link_group, link_speaks, proofs_among}
 use Rattle.answer.specs.ZoneView.{IsPublished, name_cmp_total}
 use Rattle.answer.proofs.ZoneNames.{same_labels, labels_eq-same, low_from_Equal, name_cmp-low}
@@ -209,7 +209,11 @@ types_are apex rs p o = rw (no_delegation apex rs p.plain o)
 
 record_is : (apex : Name) (hash : Name → List ℕ) (rs : List HandedRr) → IsPublished apex rs → (o : Name) → chain_record (served_of apex Nsec hash rs) o ≡ link_group apex rs o (nsec_next (zone_with apex rs) o)
 record_is apex hash rs p o =
-    ap (λ ts. record (link_group apex rs o (nsec_next (zone_with apex rs) o)) { datas = (wire (spelled_as apex rs (nsec_next (zone_with apex rs) o)) ++ bitmap ts) ∷ [] }) (types_are apex rs p o)
+    let of : List ℕ → Group = λ ts. record (link_group apex rs o (nsec_next (zone_with apex rs) o)) {
+      written = (wire (spelled_as apex rs (nsec_next (zone_with apex rs) o)) ++ bitmap ts) ∷ [];
+      datas = (wire (spelled_as apex rs (nsec_next (zone_with apex rs) o)) ++ bitmap ts) ∷ [];
+    } in
+    ap of (types_are apex rs p o)
 
 map_agree : {A B : Type 0} (f g : A → B) → ((a : A) → f a ≡ g a) → (xs : List A) → map f xs ≡ map g xs
 map_agree f g h [] = refl

@@ -44,7 +44,6 @@ pub record AnswersZone (sign : Dnskey → List ℕ → Option (List ℕ)) (verif
 pub record AnswersKeys (sign : Dnskey → List ℕ → Option (List ℕ)) (verifies : Dnskey → List ℕ → List ℕ → Bool) (s : Served) (apex : Name) (at life : ℕ) (present keys : List Dnskey) (m : List ℕ) : Type 0 where
   pub group : GroupView
   pub presents : Presents group (key_group apex (s.ttl_of s.zone.apex 6) present)
-  pub spelled : group.written ≡ group.canonical
   pub written : IsAnswer sign verifies apex at life keys 33792 (record { name = apex; rtype = 48; class = 1 }) (group ∷ []) [] m
 
 -- octets of a message ahead of its records: the header and the question (RFC 1035, 4.1.1 and 4.1.2)

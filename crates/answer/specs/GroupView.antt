@@ -23,6 +23,7 @@ pub record Presents (g : GroupView) (of : Group) : Type 0 where
   pub labels_are : g.labels ≡ label_count of.source
   pub rtype_is : g.rtype ≡ of.rtype
   pub ttl_is : g.ttl ≡ of.ttl
+  pub written_is : g.written ≡ of.written
   pub canonical_is : g.canonical ≡ of.datas
   pub signed_is : g.signed ≡ of.signed
 

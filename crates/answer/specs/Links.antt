@@ -1,5 +1,5 @@
 -- The links of a zone whose records are in order: each name that owns records, with the next.
-use Rattle.std.specs.Prelude.{◌≡◌, ◌⊎◌, Bool, true, false, ◌||◌, List, [], ◌∷◌, ◌++◌, map, filter}
+use Rattle.std.specs.Prelude.{◌≡◌, ◌⊎◌, ℕ, Bool, true, false, ◌||◌, List, [], ◌∷◌, ◌++◌, map, filter}
 use Rattle.std.specs.List.{list_any}
 use Rattle.std.specs.declared.cmp.Ordering.{Ordering}
 use Rattle.std.specs.declared.cmp.Ordering.TheVariants.{Less, Equal, Greater}
@@ -20,6 +20,10 @@ abbrev pub record_links : Name → List HandedRr → List (Name × Name)
 record_links first [] = []
 record_links first (r ∷ rs) = pairs name_cmp first (low r.owner) (map (λ s. low s.owner) rs)
 
+-- the data of a link: the next name as spelled, and the bits of the owner (RFC 4034, 4.1)
+abbrev pub link_data : Name → List HandedRr → Name → Name → List ℕ
+link_data apex rs o next = wire (spelled_as apex rs next) ++ bitmap (types_at (zone_with apex rs) o ++ 46 ∷ 47 ∷ at_apex (zone_with apex rs) o (48 ∷ []))
+
 -- a record of the chain, of its owner and next name (RFC 4034, 4)
 abbrev pub link_group : Name → List HandedRr → Name → Name → Group
 link_group apex rs o next = record {
@@ -27,7 +31,8 @@ link_group apex rs o next = record {
   source = o;
   rtype = 47;
   ttl = chain_ttl apex rs;
-  datas = (wire (spelled_as apex rs next) ++ bitmap (types_at (zone_with apex rs) o ++ 46 ∷ 47 ∷ at_apex (zone_with apex rs) o (48 ∷ []))) ∷ [];
+  written = link_data apex rs o next ∷ [];
+  datas = link_data apex rs o next ∷ [];
   signed = true;
 }
 

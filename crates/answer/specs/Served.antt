@@ -14,14 +14,15 @@ use Rattle.definitions.specs.Dnskey.{Dnskey, dnskey_data, key_tag}
 use Rattle.definitions.specs.ZoneChain.{Mode, Nsec, Nsec3, optout_of, nsec_names, nsec3_names, nsec_next, nsec_data, nsec3_data, nsec3_next, hash_cmp}
 use Rattle.answer.specs.Accepting.{HandedRr, zone_with, soas}
 
--- a zone, its chain's mode and hash, the TTL of an owner and a type, how its records of a type spell an owner, and
--- how next names are spelled
+-- a zone, its chain's mode and hash, the TTL of an owner and a type, how its records of a type spell an owner and
+-- their data, and how next names are spelled
 pub record Served : Type 0 where
   pub zone : Zone
   pub mode : Mode
   pub hash : Name → List ℕ
   pub ttl_of : Name → ℕ → ℕ
   pub owner_of : Name → ℕ → Name
+  pub written_of : Name → ℕ → List (List ℕ)
   pub spelled : Name → Name
 
 -- the TTL of the first record of an owner and a type
@@ -58,6 +59,10 @@ owner_among (r ∷ rs) o t = if labels_eq (low r.owner) o && (r.rtype == t) then
 abbrev pub served_owner : List HandedRr → Name → ℕ → Name
 served_owner sorted o t = if (t == 47) || (t == 50) then spelled_among sorted o else owner_among sorted o t
 
+-- the data of an owner and a type as spelled, in canonical order
+abbrev pub written_among : List HandedRr → Name → ℕ → List (List ℕ)
+written_among sorted o t = map (λ r. r.written) (filter (λ r. labels_eq (low r.owner) o && (r.rtype == t)) sorted)
+
 -- as the first record of the name in canonical order; the apex as it was handed in
 abbrev pub spelled_as : Name → List HandedRr → Name → Name
 spelled_as apex sorted o = if labels_eq (low apex) o then apex else spelled_among sorted o
@@ -70,21 +75,23 @@ served_of apex mode hash sorted = record {
   hash = hash;
   ttl_of = served_ttl apex sorted;
   owner_of = served_owner sorted;
+  written_of = written_among sorted;
   spelled = spelled_as apex sorted;
 }
 
--- An RRset of an answer: the owner as written, the owner that its label count is of, its canonical data in
--- order, and whether it is signed.
+-- An RRset of an answer: the owner as written, the owner that its label count is of, its data in canonical order,
+-- as written and in canonical form, and whether it is signed.
 pub record Group : Type 0 where
   pub owner : Name
   pub source : Name
   pub rtype : ℕ
   pub ttl : ℕ
+  pub written : List (List ℕ)
   pub datas : List (List ℕ)
   pub signed : Bool
 
 abbrev pub rrset : Served → Name → ℕ → Group
-rrset s o t = record { owner = s.owner_of o t; source = o; rtype = t; ttl = s.ttl_of o t; datas = data_at s.zone o t; signed = true }
+rrset s o t = record { owner = s.owner_of o t; source = o; rtype = t; ttl = s.ttl_of o t; written = s.written_of o t; datas = data_at s.zone o t; signed = true }
 
 abbrev pub soa : Served → Group
 soa s = rrset s s.zone.apex 6
@@ -92,10 +99,11 @@ soa s = rrset s s.zone.apex 6
 -- the record of a name of the chain
 abbrev pub chain_record : Served → Name → Group
 chain_record s o = elim s.mode [
-  | Nsec ↦ record { owner = s.owner_of o 47; source = o; rtype = 47; ttl = s.ttl_of o 47; datas = nsec_data s.zone s.spelled o ∷ []; signed = true }
+  | Nsec ↦ let d = nsec_data s.zone s.spelled o in record { owner = s.owner_of o 47; source = o; rtype = 47; ttl = s.ttl_of o 47; written = d ∷ []; datas = d ∷ []; signed = true }
   | Nsec3 iterations salt optout ↦
       let h = base32hex (s.hash o) ∷ s.spelled s.zone.apex in
-      record { owner = h; source = h; rtype = 50; ttl = s.ttl_of o 50; datas = nsec3_data s.hash s.zone iterations salt optout o ∷ []; signed = true }
+      let d = nsec3_data s.hash s.zone iterations salt optout o in
+      record { owner = h; source = h; rtype = 50; ttl = s.ttl_of o 50; written = d ∷ []; datas = d ∷ []; signed = true }
 ]
 
 -- the names of the chain in canonical order of their records' owners
@@ -173,7 +181,7 @@ answer_groups s q t =
 
 -- the DNSKEY RRset of some keys at the apex
 abbrev pub key_group : Name → ℕ → List Dnskey → Group
-key_group apex ttl ks = record { owner = apex; source = apex; rtype = 48; ttl = ttl; datas = sort_by (slice_cmp nat_cmp) (map dnskey_data ks); signed = true }
+key_group apex ttl ks = let ds = sort_by (slice_cmp nat_cmp) (map dnskey_data ks) in record { owner = apex; source = apex; rtype = 48; ttl = ttl; written = ds; datas = ds; signed = true }
 
 -- keys in order of tag
 abbrev pub by_tag : List Dnskey → List Dnskey

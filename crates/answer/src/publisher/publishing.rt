@@ -112,7 +112,6 @@ impl<'a, S: Scheme, H: Nsec3Hasher> Publisher<'a, S, H> {
     /// The DNSKEY RRset.
     fn dnskey_group(&self) -> Result<RrGroup, AllocError>
         ensures presents { IfOk result (λ g. Presents g (key_group self.now.zone.apex (ttl_among self.now.zone.records (low self.now.zone.apex) 6) (dnskeys (published self.now.keys Publication.Present)))) }
-        ensures spelled { IfOk result (λ g. g.written ≡ g.canonical) }
     {
         let owner = self.zone.apex().try_clone(self.alloc)?;
         let count = owner.rrsig_label_count();

@@ -8,7 +8,7 @@ ghost use Rattle.answer.specs.Accepting.{zone_with};
 ghost use Rattle.answer.specs.Answering.{AnswersAs};
 ghost use Rattle.answer.specs.GroupView.{Presents};
 ghost use Rattle.answer.specs.ZoneView.{IsPublished};
-ghost use Rattle.answer.specs.Served.{kept_ancestor, proofs_of, served_of, soa, ttl_among};
+ghost use Rattle.answer.specs.Served.{kept_ancestor, proofs_of, served_of, soa, ttl_among, written_among};
 
 use crate::names::Name;
 use crate::plain::Rtype;
@@ -110,7 +110,7 @@ impl ZoneRecords {
 
     /// The RRset of an owner and a type, written under a name that is the owner up to case.
     fn rrset(&self, alloc: Global, owner: Name, rtype: Rtype) -> Result<RrGroup, AllocError>
-        ensures { IfOk result (λ g. Presents g (record { owner = owner; source = low owner; rtype = rtype; ttl = ttl_among self.now.records (low owner) rtype; datas = data_at (zone_with self.now.apex self.now.records) (low owner) rtype; signed = true })) }
+        ensures { IfOk result (λ g. Presents g (record { owner = owner; source = low owner; rtype = rtype; ttl = ttl_among self.now.records (low owner) rtype; written = written_among self.now.records (low owner) rtype; datas = data_at (zone_with self.now.apex self.now.records) (low owner) rtype; signed = true })) }
     {
         let data = data_among(alloc, &self.records, &owner, rtype)?;
         let ttl = self.ttl_at(&owner, rtype);

@@ -5,7 +5,7 @@ ghost use Rattle.definitions.specs.Covering.{covers};
 ghost use Rattle.definitions.specs.ZoneChain.{Nsec};
 ghost use Rattle.answer.specs.GroupView.{Adds, Presents};
 ghost use Rattle.answer.specs.Served.{proofs_of, served_of};
-ghost use Rattle.answer.specs.Links.{Joins, chosen, link_group, link_speaks};
+ghost use Rattle.answer.specs.Links.{Joins, chosen, link_data, link_group, link_speaks};
 
 use crate::names::Name;
 use crate::plain::Rtype;
@@ -100,7 +100,7 @@ impl ZoneRecords {
     /// The data of a link's NSEC record: the next name as spelled, and the bits of the owner (RFC 4034, 4.1).
     fn nsec_data(&self, alloc: Global, owner: &Name, next: &Name) -> Result<Vec<u8>, AllocError>
         requires { Joins self.now.apex self.now.records owner.now next.now }
-        ensures { IfOk result (λ v. v.items ∷ [] ≡ (link_group self.now.apex self.now.records (low owner.now) (low next.now)).datas) }
+        ensures { IfOk result (λ v. v.items ≡ link_data self.now.apex self.now.records (low owner.now) (low next.now)) }
     {
         let mut types = types_among(alloc, &self.records, owner)?;
         types.push(Rtype::RRSIG.to_int())?;

@@ -6,7 +6,7 @@ use Rattle.definitions.specs.ZoneChain.{Nsec}
 use Rattle.answer.specs.Accepting.{zone_with}
 use Rattle.answer.specs.Answering.{answered, flags_for}
 use Rattle.answer.specs.GroupView.{Presents}
-use Rattle.answer.specs.Served.{answer_groups, kept_ancestor, proofs_of, served_of, soa, ttl_among}
+use Rattle.answer.specs.Served.{answer_groups, kept_ancestor, proofs_of, served_of, soa, ttl_among, written_among}
 use Rattle.answer.proofs.ZoneAnswers.{groups_found, groups_without_name, groups_without_type, verdict_found, verdict_without_name, verdict_without_type}
 use Rattle.answer.proofs.publisher.zone.ZoneRecords.nsec_answer.Goals as goal
 
@@ -20,7 +20,7 @@ returns-then-has c = λ hash.
     let there : has (zone_with apex rs) (low q) t ≡ true = sym c.has.ensures ∙ c.if-has.true in
     let said = verdict_found apex rs c.requires.published q t there in
     let one : c.push.new.self.items ≡ g ∷ [] = c.in_ok-push.ensures.items ∙ ap (λ x. x ++ g ∷ []) c.new-answer.ensures.items in
-    let P : Name → Type 0 = λ o. Presents g (record { owner = o; source = low o; rtype = t; ttl = ttl_among rs (low o) t; datas = data_at (zone_with apex rs) (low o) t; signed = true }) in
+    let P : Name → Type 0 = λ o. Presents g (record { owner = o; source = low o; rtype = t; ttl = ttl_among rs (low o) t; written = written_among rs (low o) t; datas = data_at (zone_with apex rs) (low o) t; signed = true }) in
     let is : P q = subst P c.in_ok-try_clone.ensures c.in_ok-rrset.ensures in
     let zip = subst (AllZip Presents (g ∷ [])) (groups_found apex hash rs c.requires.published q t c.requires.plain there) (is, tt) in
     record {

@@ -40,5 +40,5 @@ returns c =
     ] in
     let head : c.compose.new.out.items ≡ wire (spelled_as apex rs (low n)) =
     c.in_ok-compose.ensures.ok ∙ ap (λ x. x ++ wire c.spelled.result.now) c.new-octets.ensures.items ∙ ap wire next in
-    ap (λ x. x ∷ []) (c.in_ok-write_bitmap.ensures ∙ ap (λ x. x ++ bitmap c.deref-2.result.now) head
+    (c.in_ok-write_bitmap.ensures ∙ ap (λ x. x ++ bitmap c.deref-2.result.now) head
     ∙ ap (λ ts. wire (spelled_as apex rs (low n)) ++ bitmap ts) (c.deref-2.ensures.value ∙ all))
