@@ -9,8 +9,6 @@ mod from_text;
 pub mod laws;
 pub mod name;
 mod name_order;
-#[cfg(test)]
-mod part_tests;
 mod parts;
 pub mod push_error;
 pub mod relative;
@@ -18,12 +16,8 @@ mod relative_order;
 mod reverse;
 pub mod strip;
 pub mod suffixes;
-#[cfg(test)]
-mod tests;
 mod text;
 pub mod text_error;
-#[cfg(test)]
-mod text_tests;
 pub mod to_name;
 pub mod to_relative;
 

@@ -1,12 +1,12 @@
 //! Rows of reading and printing text.
 
-use crate::builder::NameBuilder;
-use crate::name::Name;
-use crate::push_error::PushError;
-use crate::relative::RelativeName;
-use crate::text_error::{FromStrError, RelativeFromStrError};
-use crate::to_name::ToName;
-use crate::to_relative::ToRelativeName;
+use names_flat::builder::NameBuilder;
+use names_flat::name::Name;
+use names_flat::push_error::PushError;
+use names_flat::relative::RelativeName;
+use names_flat::text_error::{FromStrError, RelativeFromStrError};
+use names_flat::to_name::ToName;
+use names_flat::to_relative::ToRelativeName;
 use names_wire::symbol::Symbol;
 use std::alloc::Global;
 use std::net::{IpAddr, Ipv4Addr, Ipv6Addr};

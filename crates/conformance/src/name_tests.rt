@@ -1,13 +1,13 @@
 //! Rows that the standards and the public crate give.
 
-use crate::builder::NameBuilder;
-use crate::laws;
-use crate::name::Name;
-use crate::push_error::{PushError, PushNameError};
-use crate::relative::RelativeName;
-use crate::to_name::ToName;
-use crate::to_relative::ToRelativeName;
 use arrayvec::ArrayVec;
+use names_flat::builder::NameBuilder;
+use names_flat::laws;
+use names_flat::name::Name;
+use names_flat::push_error::{PushError, PushNameError};
+use names_flat::relative::RelativeName;
+use names_flat::to_name::ToName;
+use names_flat::to_relative::ToRelativeName;
 use names_labels::name_error::NameError;
 use names_labels::relative_error::RelativeNameError;
 use names_labels::traits::ToLabelIter;

@@ -1,9 +1,9 @@
 //! Rows of the parts of names.
 
-use crate::flatten::FlattenInto;
-use crate::name::Name;
-use crate::relative::RelativeName;
-use crate::strip::StripSuffixError;
+use names_flat::flatten::FlattenInto;
+use names_flat::name::Name;
+use names_flat::relative::RelativeName;
+use names_flat::strip::StripSuffixError;
 use names_labels::traits::ToLabelIter;
 
 #[test]
