@@ -119,6 +119,8 @@ fn fault_text(alloc: Global, fault: &ZoneFault) -> Result<String, AllocError>
 }
 
 #[cfg(test)]
+mod agreement;
+#[cfg(test)]
 mod fakes;
 #[cfg(test)]
 mod tests;

@@ -9,7 +9,11 @@ use std::test::Fail;
 const ZONE: &str = "zone example nsec 0 86400\n";
 
 /// Runs an input, given and taken so many octets a call.
-fn run_in_steps(alloc: Global, input: &[u8], step: usize) -> Result<(Status, Vec<u8>), Fail> {
+pub(super) fn run_in_steps(
+    alloc: Global,
+    input: &[u8],
+    step: usize,
+) -> Result<(Status, Vec<u8>), Fail> {
     let mut source = Source::new(input, step);
     let mut sink = Sink {
         taken: Vec::new(alloc),
