@@ -25,6 +25,9 @@ pub mod KeyTexts
 pub mod KeyLaws
 pub mod Facts
 pub mod Verified
+pub mod Judged
+pub mod Handed
+pub mod Meeting
 pub mod Rrsig
 pub mod Star
 pub mod Publishing
