@@ -38,3 +38,4 @@ pub mod MessageWritten
 pub mod MessageWhole
 pub mod MessageSignatures
 pub mod MessageData
+pub mod OneLink

@@ -23,10 +23,10 @@ use Rattle.answer.proofs.ZoneServed.{no_delegation, owners_kept}
 pub less_back : {A : Type 0} (cmp : A → A → Ordering) → IsTotalOrder cmp → (a b : A) → cmp a b ≡ Less → cmp b a ≡ Greater
 less_back cmp o a b e = o.antisymm b a ∙ ap ordering_reverse e
 
-greater_back : {A : Type 0} (cmp : A → A → Ordering) → IsTotalOrder cmp → (a b : A) → cmp a b ≡ Greater → cmp b a ≡ Less
+pub greater_back : {A : Type 0} (cmp : A → A → Ordering) → IsTotalOrder cmp → (a b : A) → cmp a b ≡ Greater → cmp b a ≡ Less
 greater_back cmp o a b e = o.antisymm b a ∙ ap ordering_reverse e
 
-greater_trans : {A : Type 0} (cmp : A → A → Ordering) → IsTotalOrder cmp → (a b d : A) → cmp a b ≡ Greater → cmp b d ≡ Greater → cmp a d ≡ Greater
+pub greater_trans : {A : Type 0} (cmp : A → A → Ordering) → IsTotalOrder cmp → (a b d : A) → cmp a b ≡ Greater → cmp b d ≡ Greater → cmp a d ≡ Greater
 greater_trans cmp o a b d e f = less_back cmp o d a (o.trans d b a (greater_back cmp o b d f) (greater_back cmp o a b e))
 
 -- past lesser items
