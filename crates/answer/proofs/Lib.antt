@@ -39,3 +39,7 @@ pub mod MessageWhole
 pub mod MessageSignatures
 pub mod MessageData
 pub mod OneLink
+pub mod ZoneRising
+pub mod DenialLink
+pub mod DenialTypes
+pub mod DenialDecided

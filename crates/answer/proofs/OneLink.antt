@@ -79,14 +79,15 @@ none_above apex q x (y ∷ ys) g k = ⊎_elim
     ∙ none_above apex q y ys (greater_trans name_cmp name_cmp_total y x q h g) k.1)
     k.0
 
--- the link that speaks for a name: it stands at the name, or before it with the nearest name behind it
+-- The link that speaks for a name: it stands at the name, or before it and leads to a name behind it, and no name that
+-- isn't before the name in question is before that one.
 pub record One (apex q x : Name) (ys : List Name) : Type 0 where
   pub owner : Name
   pub next : Name
   pub only : filter (λ (m : Name × Name). link_speaks apex (q ∷ []) m.0 m.1) (pairs name_cmp (low apex) x ys) ≡ (owner, next) ∷ []
   pub owns : Has (x ∷ ys) owner
   pub leads : (next ≡ low apex) ⊎ Has (x ∷ ys) next
-  pub near : (owner ≡ q) ⊎ ((name_cmp owner q ≡ Less) × ((r : Name) → Has (x ∷ ys) r → name_cmp r q ≡ Greater → (name_cmp q next ≡ Less) × (name_cmp next r ≡ Greater → ⊥)))
+  pub near : (owner ≡ q) ⊎ ((name_cmp owner q ≡ Less) × ((r : Name) → Has (x ∷ ys) r → (name_cmp r q ≡ Less → ⊥) → (name_cmp q next ≡ Less) × (name_cmp next r ≡ Greater → ⊥)))
 
 only_end : (apex q x : Name) → speaks apex q (x, low apex) ≡ true → filter (speaks apex q) (pairs name_cmp (low apex) x []) ≡ (x, low apex) ∷ []
 only_end apex q x s = ap (λ b. cond b ((x, low apex) ∷ []) []) s
@@ -102,11 +103,11 @@ one_end apex q x lx lq Less e n = record {
   only = only_end apex q x (at_end apex q x (low apex) e (labels_eq-same (low (low apex)) (low (low apex)) refl));
   owns = inl refl;
   leads = inl refl;
-  near = inr (e, λ r h g. ⊎_elim (λ i. let same : name_cmp x q ≡ Greater = ap (λ z. name_cmp z q) (sym i) ∙ g in absurd (let c : Less ≡ Greater = sym e ∙ same in cc)) (λ b. absurd b) h);
+  near = inr (e, λ r h g. ⊎_elim (λ i. absurd (g (ap (λ z. name_cmp z q) i ∙ e))) (λ b. absurd b) h);
 }
 
 -- names that climb are at or above the first
-climbed : (x : Name) (ys : List Name) → Climbs name_cmp x ys → (r : Name) → Has (x ∷ ys) r → (r ≡ x) ⊎ (name_cmp r x ≡ Greater)
+pub climbed : (x : Name) (ys : List Name) → Climbs name_cmp x ys → (r : Name) → Has (x ∷ ys) r → (r ≡ x) ⊎ (name_cmp r x ≡ Greater)
 climbed x [] k r h = ⊎_elim (λ e. inl e) (λ b. absurd b) h
 climbed x (y ∷ ys) k r h = ⊎_elim
     (λ e. inl e)
@@ -135,7 +136,7 @@ one_here apex q x y ys h k m s near =
       owns = inl refl;
       leads = inr (inr (inl refl));
       near = ⊎_elim (λ e. inl e) (λ l. inr (l, λ r there g. ⊎_elim
-          (λ e. let same : name_cmp x q ≡ Greater = ap (λ z. name_cmp z q) (sym e) ∙ g in absurd (let c : Less ≡ Greater = sym l ∙ same in cc))
+          (λ e. absurd (g (ap (λ z. name_cmp z q) e ∙ l)))
           (λ later. (m, not_back r y (climbed y ys k r later)))
           there)) near;
     }
@@ -151,7 +152,7 @@ one_later apex q x y ys h m s l o = record {
   owns = inr o.owns;
   leads = ⊎_elim (λ e. inl e) (λ t. inr (inr t)) o.leads;
   near = ⊎_elim (λ e. inl e) (λ n. inr (n.0, λ r there g. ⊎_elim
-      (λ e. let same : name_cmp x q ≡ Greater = ap (λ z. name_cmp z q) (sym e) ∙ g in absurd (let c : Less ≡ Greater = sym l ∙ same in cc))
+      (λ e. absurd (g (ap (λ z. name_cmp z q) e ∙ l)))
       (λ later. n.1 r later g)
       there)) o.near;
 }

@@ -19,7 +19,7 @@ use Rattle.answer.proofs.ZoneLists.{all_at, any_from, found}
 use Rattle.answer.proofs.ZoneNames.{at_or_above-low, labels_eq-same, same_labels}
 use Rattle.answer.proofs.ZoneServed.{exists_is, has_is, verdict_at, verdict_none}
 
-at_itself : (n : Name) → at_or_above n n ≡ true
+pub at_itself : (n : Name) → at_or_above n n ≡ true
 at_itself [] = refl
 at_itself (l ∷ n) = or_left (same (l ∷ n) (l ∷ n)) (at_or_above (l ∷ n) n) (labels_eq-same (low (l ∷ n)) (low (l ∷ n)) refl)
 

@@ -172,7 +172,7 @@ rising_parts : (x : HandedRr) (xs : List HandedRr) → IsStrictlySortedBy record
 unfolding IsStrictlySortedBy
 rising_parts x xs s = s
 
-owners_climb : (r : HandedRr) (rs : List HandedRr) → IsStrictlySortedBy record_cmp (r ∷ rs) → Climbs name_cmp (low r.owner) (map (λ s. low s.owner) rs)
+pub owners_climb : (r : HandedRr) (rs : List HandedRr) → IsStrictlySortedBy record_cmp (r ∷ rs) → Climbs name_cmp (low r.owner) (map (λ s. low s.owner) rs)
 owners_climb r [] h = tt
 owners_climb r (s ∷ rs) h = let p = rising_parts r (s ∷ rs) h in (name_below r s p.0.0, owners_climb s rs p.1)
 

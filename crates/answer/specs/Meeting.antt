@@ -15,6 +15,7 @@ use Rattle.answer.specs.Judging.{Answer, Says, Handing, is_allowed, has_equal_ta
 use Rattle.answer.specs.Judged.{AnswersAs}
 use Rattle.answer.specs.Publishing.{served}
 use Rattle.answer.specs.Served.{Served}
+use Rattle.answer.specs.WrittenLaws.{IsQuestion}
 use Rattle.answer.specs.ZoneView.{AcceptedZone}
 
 -- a DS record of type 2 names the key (RFC 4034, 5.1; RFC 4509)
@@ -65,6 +66,7 @@ pub record WasGiven (a : Answers) (k : ℕ) (h : Handing) (rs : List HandedRr) :
   pub apex_is : IsName h.apex
   pub records_are : AllByRecursion IsHanded rs
   pub accepted : IsAccepted h.apex Nsec h.limit rs
+  pub asked_is : IsQuestion h.asked
   pub allowed : is_allowed h.apex h.asked ≡ true
   pub keys_are : AllByRecursion IsZoneKey present
   pub ds_is : AllByRecursion (HasDs a h.apex h.ds) parents
