@@ -43,3 +43,4 @@ pub mod ZoneRising
 pub mod DenialLink
 pub mod DenialTypes
 pub mod DenialDecided
+pub mod AnswerRrsets

@@ -53,7 +53,7 @@ later_data q t r s a b e =
     ∙ ap (λ x. ordering_then x (slice_cmp nat_cmp r.bytes s.bytes)) types) ∙ e
 
 -- each datum is above those before it
-Rises : List (List ℕ) → Type 0
+pub Rises : List (List ℕ) → Type 0
 Rises [] = Unit {0}
 Rises (d ∷ ds) = AllByRecursion (λ e. slice_cmp nat_cmp d e ≡ Less) ds × Rises ds
 
@@ -73,7 +73,7 @@ sorted_parts : (x : HandedRr) (xs : List HandedRr) → IsStrictlySortedBy record
 unfolding IsStrictlySortedBy
 sorted_parts x xs s = s
 
-data_rise : (q : Name) (t : ℕ) (xs : List HandedRr) → IsStrictlySortedBy record_cmp xs → Rises (map (λ s. s.bytes) (filter (is_of q t) xs))
+pub data_rise : (q : Name) (t : ℕ) (xs : List HandedRr) → IsStrictlySortedBy record_cmp xs → Rises (map (λ s. s.bytes) (filter (is_of q t) xs))
 unfolding Rises
 data_rise q t [] h = tt
 data_rise q t (x ∷ xs) h =
@@ -97,7 +97,7 @@ rises_tidy d (e ∷ ds) h =
       ap (λ (o : Ordering). elim o [ Less ↦ tidy (slice_cmp nat_cmp) d ds | Equal ↦ tidy (slice_cmp nat_cmp) d ds | Greater ↦ d ∷ tidy (slice_cmp nat_cmp) e ds ]) above ∙ ap (λ ys. d ∷ ys) more.1,
     )
 
-already_sorted : (ds : List (List ℕ)) → Rises ds → sorted_data ds ≡ ds
+pub already_sorted : (ds : List (List ℕ)) → Rises ds → sorted_data ds ≡ ds
 already_sorted [] h = refl
 already_sorted (d ∷ ds) h = let p = rises_tidy d ds h in sort_by_climbing (slice_cmp nat_cmp) nat_list_cmp_total d ds p.0 ∙ p.1
 
