@@ -38,3 +38,6 @@ pub mod MessageWritten
 pub mod MessageWhole
 pub mod MessageSignatures
 pub mod MessageData
+pub mod GivenOwners
+pub mod GivenLists
+pub mod GivenRecords
