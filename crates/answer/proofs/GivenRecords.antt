@@ -69,9 +69,12 @@ data_in : (v : Dnskey → List ℕ → List ℕ → Bool) (k : ℕ) (m : List �
 data_in v k m rs apex at life keys [] o t other h = ap (filter_map (datum_of k m o t)) h
 data_in v k m rs apex at life keys (g ∷ gs) o t other (own, signatures, rest, are, records, signs, more) =
     let f = datum_of k m o t in
-    ap (filter_map f) are ∙ filter_map-append f own (signatures ++ rest)
-    ∙ (λ i. records_there k m o t g own g.datas records i ++ filter_map-append f signatures rest i)
-    ∙ (λ i. taken (is_rrset o t g) g.datas ++ (no_data v k m signatures apex at life g (if g.signed then keys else []) o t other signs i ++ data_in v k m rest apex at life keys gs o t other more i))
+    let first : filter_map f (own ++ signatures) ≡ taken (is_rrset o t g) g.datas =
+    filter_map-append f own signatures
+    ∙ (λ i. records_there k m o t g own g.datas records i ++ no_data v k m signatures apex at life g (if g.signed then keys else []) o t other signs i)
+    ∙ append-nil (taken (is_rrset o t g) g.datas) in
+    ap (filter_map f) are ∙ filter_map-append f (own ++ signatures) rest
+    ∙ (λ i. first i ++ data_in v k m rest apex at life keys gs o t other more i)
 
 none_taken : (o : Name) (t : ℕ) (gs : List Group) → list_any (is_rrset o t) gs ≡ false → flat_map (λ g. taken (is_rrset o t g) g.datas) gs ≡ []
 none_taken o t [] e = refl

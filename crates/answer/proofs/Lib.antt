@@ -41,3 +41,6 @@ pub mod MessageData
 pub mod GivenOwners
 pub mod GivenLists
 pub mod GivenRecords
+pub mod GivenSignatures
+pub mod GivenNext
+pub mod GivenLinks
