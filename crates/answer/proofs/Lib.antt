@@ -44,3 +44,9 @@ pub mod DenialLink
 pub mod DenialTypes
 pub mod DenialDecided
 pub mod AnswerRrsets
+pub mod GivenOwners
+pub mod GivenLists
+pub mod GivenRecords
+pub mod GivenSignatures
+pub mod GivenNext
+pub mod GivenLinks

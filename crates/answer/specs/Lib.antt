@@ -40,3 +40,4 @@ pub mod AnswerFaults
 pub mod Events
 pub mod Answering
 pub mod Questions
+pub mod GivenGroups
