@@ -47,6 +47,7 @@ pub record Speaks (apex : Name) (rs : List HandedRr) (q : Name) : Type 0 where
   pub owns : Owns rs owner
   pub leads : (next ≡ low apex) ⊎ Owns rs next
   pub near : (owner ≡ low q) ⊎ ((name_cmp owner (low q) ≡ Less) × ((r : HandedRr) → Has rs r → (name_cmp (low r.owner) (low q) ≡ Less → ⊥) → (name_cmp (low q) next ≡ Less) × (name_cmp next (low r.owner) ≡ Greater → ⊥)))
+  pub last : (r : HandedRr) → Has rs r → name_cmp (low r.owner) (low q) ≡ Less → name_cmp (low r.owner) owner ≡ Greater → ⊥
 
 not_above : (a x q : Name) → ((a ≡ x) ⊎ (name_cmp a x ≡ Greater)) → (name_cmp a q ≡ Greater → ⊥) → name_cmp x q ≡ Greater → ⊥
 not_above a x q h n g = ⊎_elim (λ e. n (ap (λ z. name_cmp z q) e ∙ g)) (λ k. n (greater_trans name_cmp name_cmp_total a x q k g)) h
@@ -73,6 +74,7 @@ speaks_in apex r rs p q inside =
       owns = owns_from (r ∷ rs) o.owner o.owns;
       leads = ⊎_elim (λ e. inl e) (λ h. inr (owns_from (r ∷ rs) o.next h)) o.leads;
       near = ⊎_elim (λ e. inl e) (λ n. inr (n.0, λ s h g. n.1 (low s.owner) (owner_has (r ∷ rs) s h) g)) o.near;
+      last = λ s h l g. o.last (low s.owner) (owner_has (r ∷ rs) s h) l g;
     }
 
 pub speaks_for_name : (apex : Name) (rs : List HandedRr) → IsPublished apex rs → (q : Name) → at_or_above apex q ≡ true → Speaks apex rs q

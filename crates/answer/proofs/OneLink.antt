@@ -80,7 +80,7 @@ none_above apex q x (y ∷ ys) g k = ⊎_elim
     k.0
 
 -- The link that speaks for a name: it stands at the name, or before it and leads to a name behind it, and no name that
--- isn't before the name in question is before that one.
+-- isn't before the name in question is before that one. Names before the name in question are not behind where it stands.
 pub record One (apex q x : Name) (ys : List Name) : Type 0 where
   pub owner : Name
   pub next : Name
@@ -88,15 +88,19 @@ pub record One (apex q x : Name) (ys : List Name) : Type 0 where
   pub owns : Has (x ∷ ys) owner
   pub leads : (next ≡ low apex) ⊎ Has (x ∷ ys) next
   pub near : (owner ≡ q) ⊎ ((name_cmp owner q ≡ Less) × ((r : Name) → Has (x ∷ ys) r → (name_cmp r q ≡ Less → ⊥) → (name_cmp q next ≡ Less) × (name_cmp next r ≡ Greater → ⊥)))
+  pub last : (r : Name) → Has (x ∷ ys) r → name_cmp r q ≡ Less → name_cmp r owner ≡ Greater → ⊥
 
 only_end : (apex q x : Name) → speaks apex q (x, low apex) ≡ true → filter (speaks apex q) (pairs name_cmp (low apex) x []) ≡ (x, low apex) ∷ []
 only_end apex q x s = ap (λ b. cond b ((x, low apex) ∷ []) []) s
+
+not_itself : (x r : Name) → Has (x ∷ []) r → name_cmp r x ≡ Greater → ⊥
+not_itself x r h g = ⊎_elim (λ (i : r ≡ x). let same : name_cmp r x ≡ Equal = ap (λ z. name_cmp z x) i ∙ tied_itself name_cmp_total x in cc) (λ b. absurd b) h
 
 one_end : (apex q x : Name) → Lowered x → Lowered q → (p : Ordering) → name_cmp x q ≡ p → (p ≡ Greater → ⊥) → One apex q x []
 one_end apex q x lx lq Greater e n = absurd (n refl)
 one_end apex q x lx lq Equal e n =
     let is : x ≡ q = equal_names x q lx lq e in
-    record { owner = x; next = low apex; only = only_end apex q x (at_name apex q x (low apex) is); owns = inl refl; leads = inl refl; near = inl is }
+    record { owner = x; next = low apex; only = only_end apex q x (at_name apex q x (low apex) is); owns = inl refl; leads = inl refl; near = inl is; last = λ r h l. not_itself x r h }
 one_end apex q x lx lq Less e n = record {
   owner = x;
   next = low apex;
@@ -104,6 +108,7 @@ one_end apex q x lx lq Less e n = record {
   owns = inl refl;
   leads = inl refl;
   near = inr (e, λ r h g. ⊎_elim (λ i. absurd (g (ap (λ z. name_cmp z q) i ∙ e))) (λ b. absurd b) h);
+  last = λ r h l. not_itself x r h;
 }
 
 -- names that climb are at or above the first
@@ -139,11 +144,19 @@ one_here apex q x y ys h k m s near =
           (λ e. absurd (g (ap (λ z. name_cmp z q) e ∙ l)))
           (λ later. (m, not_back r y (climbed y ys k r later)))
           there)) near;
+      last = λ r there l g. ⊎_elim
+          (λ i. not_itself x r (inl i) g)
+          (λ later. let above : (r ≡ y) ⊎ (name_cmp r y ≡ Greater) = climbed y ys k r later in
+              ⊎_elim
+              (λ i. let up : name_cmp r q ≡ Greater = ap (λ z. name_cmp z q) i ∙ less_back name_cmp name_cmp_total q y m in cc)
+              (λ u. let up : name_cmp r q ≡ Greater = greater_trans name_cmp name_cmp_total r y q u (less_back name_cmp name_cmp_total q y m) in cc)
+              above)
+          there;
     }
 
 -- a link more in front, which does not speak
-one_later : (apex q x y : Name) (ys : List Name) → name_cmp y x ≡ Greater → (name_cmp q y ≡ Less → ⊥) → speaks apex q (x, y) ≡ false → name_cmp x q ≡ Less → One apex q y ys → One apex q x (y ∷ ys)
-one_later apex q x y ys h m s l o = record {
+one_later : (apex q x y : Name) (ys : List Name) → name_cmp y x ≡ Greater → Climbs name_cmp y ys → (name_cmp q y ≡ Less → ⊥) → speaks apex q (x, y) ≡ false → name_cmp x q ≡ Less → One apex q y ys → One apex q x (y ∷ ys)
+one_later apex q x y ys h k m s l o = record {
   owner = o.owner;
   next = o.next;
   only = ap (λ (p : Ordering). filter (speaks apex q) (elim p [ Less ↦ pairs name_cmp (low apex) x ys | Equal ↦ pairs name_cmp (low apex) x ys | Greater ↦ (x, y) ∷ pairs name_cmp (low apex) y ys ])) h
@@ -155,6 +168,14 @@ one_later apex q x y ys h m s l o = record {
       (λ e. absurd (g (ap (λ z. name_cmp z q) e ∙ l)))
       (λ later. n.1 r later g)
       there)) o.near;
+  last = λ r there b g. ⊎_elim
+      (λ i. let up : (o.owner ≡ y) ⊎ (name_cmp o.owner y ≡ Greater) = climbed y ys k o.owner o.owns in
+          let below : name_cmp x o.owner ≡ Greater = ap (λ z. name_cmp z o.owner) (sym i) ∙ g in
+          let above : name_cmp o.owner x ≡ Greater = ⊎_elim (λ (e : o.owner ≡ y). ap (λ z. name_cmp z x) e ∙ h) (λ (u : name_cmp o.owner y ≡ Greater). greater_trans name_cmp name_cmp_total o.owner y x u h) up in
+          let back : name_cmp x o.owner ≡ Less = greater_back name_cmp name_cmp_total o.owner x above in
+          cc)
+      (λ later. o.last r later b g)
+      there;
 }
 
 -- the same name once more
@@ -167,6 +188,7 @@ one_again apex q x y ys e o = record {
   owns = ⊎_elim (λ i. inl i) (λ t. inr (inr t)) o.owns;
   leads = ⊎_elim (λ i. inl i) (λ t. inr (⊎_elim (λ i. inl i) (λ s. inr (inr s)) t)) o.leads;
   near = ⊎_elim (λ i. inl i) (λ n. inr (n.0, λ r there g. n.1 r (⊎_elim (λ i. inl i) (λ t. ⊎_elim (λ j. inl (j ∙ e)) (λ s. inr s) t) there) g)) o.near;
+  last = λ r there b g. o.last r (⊎_elim (λ i. inl i) (λ t. ⊎_elim (λ j. inl (j ∙ e)) (λ s. inr s) t) there) b g;
 }
 
 -- where the second name is above the first
@@ -179,10 +201,10 @@ one_above apex q x y ys lx lq h k f later Equal e n d m =
     one_here apex q x y ys h k up (at_name apex q x y is) (inl is)
 one_above apex q x y ys lx lq h k f later Less e n Less m = one_here apex q x y ys h k m (between apex q x y e m) (inr e)
 one_above apex q x y ys lx lq h k f later Less e n Equal m =
-    one_later apex q x y ys h (λ c. cc) (behind_next apex q x y e f (λ c. cc)) e
+    one_later apex q x y ys h k (λ c. cc) (behind_next apex q x y e f (λ c. cc)) e
     (later (λ g. let back : name_cmp q y ≡ Less = greater_back name_cmp name_cmp_total y q g in cc))
 one_above apex q x y ys lx lq h k f later Less e n Greater m =
-    one_later apex q x y ys h (λ c. cc) (behind_next apex q x y e f (λ c. cc)) e
+    one_later apex q x y ys h k (λ c. cc) (behind_next apex q x y e f (λ c. cc)) e
     (later (λ g. let back : name_cmp q y ≡ Less = greater_back name_cmp name_cmp_total y q g in cc))
 
 -- from an apex that isn't above the first name
