@@ -13,7 +13,7 @@ use Rattle.answer.specs.Handed.{IsHanded}
 use Rattle.answer.specs.Links.{link_group}
 use Rattle.answer.specs.Served.{owner_among, served_of, soa, spelled_among, spelled_as}
 use Rattle.answer.specs.ZoneView.{IsPublished, is_of}
-use Rattle.answer.proofs.DenialLink.{Owns, Speaks}
+use Rattle.answer.proofs.DenialLink.{Linked, Owns}
 use Rattle.answer.proofs.DenialTypes.{link_types}
 use Rattle.answer.proofs.ZoneData.{already_sorted, data_are, data_rise, label_count-low, low-owner_among, low-spelled_among, soa_there}
 use Rattle.answer.proofs.ZoneLists.{Has, all_at, found}
@@ -95,37 +95,37 @@ low-spelled : (rs : List HandedRr) (n : Name) → Owns rs n → low (spelled_amo
 low-spelled rs n o = ap (λ m. low (spelled_among rs m)) (sym o.owner_is) ∙ low-spelled_among rs o.by.owner ∙ o.owner_is
 
 -- where a link leads, as spelled
-pub next_spelled : (apex : Name) (rs : List HandedRr) → AllByRecursion IsLabel apex → AreNamed rs → (q : Name) (s : Speaks apex rs q) → AllByRecursion IsLabel (spelled_as apex rs s.next)
-next_spelled apex rs named are q s =
-    let go : (b : Bool) → labels_eq (low apex) s.next ≡ b → AllByRecursion IsLabel (cond b apex (spelled_among rs s.next)) =
-    λ b. elim b as (λ b. labels_eq (low apex) s.next ≡ b → AllByRecursion IsLabel (cond b apex (spelled_among rs s.next))) [
+pub next_spelled : (apex : Name) (rs : List HandedRr) → AllByRecursion IsLabel apex → AreNamed rs → (o n : Name) → Linked apex rs o n → AllByRecursion IsLabel (spelled_as apex rs n)
+next_spelled apex rs named are o n l =
+    let go : (b : Bool) → labels_eq (low apex) n ≡ b → AllByRecursion IsLabel (cond b apex (spelled_among rs n)) =
+    λ b. elim b as (λ b. labels_eq (low apex) n ≡ b → AllByRecursion IsLabel (cond b apex (spelled_among rs n))) [
       | true ↦ λ e. named
       | false ↦ λ e. ⊎_elim
-          (λ (i : s.next ≡ low apex). let same : labels_eq (low apex) s.next ≡ true = labels_eq-same (low apex) s.next (sym i) in cc)
-          (λ o. spelled_labels rs are s.next (any_owner rs s.next o.by o.there o.owner_is))
-          s.leads
+          (λ (i : n ≡ low apex). let same : labels_eq (low apex) n ≡ true = labels_eq-same (low apex) n (sym i) in cc)
+          (λ by. spelled_labels rs are n (any_owner rs n by.by by.there by.owner_is))
+          l.leads
     ] in
-    go (labels_eq (low apex) s.next) refl
+    go (labels_eq (low apex) n) refl
 
-pub low-next_spelled : (apex : Name) (rs : List HandedRr) (q : Name) (s : Speaks apex rs q) → low (spelled_as apex rs s.next) ≡ s.next
-low-next_spelled apex rs q s =
-    let go : (b : Bool) → labels_eq (low apex) s.next ≡ b → low (cond b apex (spelled_among rs s.next)) ≡ s.next =
-    λ b. elim b as (λ b. labels_eq (low apex) s.next ≡ b → low (cond b apex (spelled_among rs s.next)) ≡ s.next) [
-      | true ↦ λ e. same_labels (low apex) s.next e
+pub low-next_spelled : (apex : Name) (rs : List HandedRr) (o n : Name) → Linked apex rs o n → low (spelled_as apex rs n) ≡ n
+low-next_spelled apex rs o n l =
+    let go : (b : Bool) → labels_eq (low apex) n ≡ b → low (cond b apex (spelled_among rs n)) ≡ n =
+    λ b. elim b as (λ b. labels_eq (low apex) n ≡ b → low (cond b apex (spelled_among rs n)) ≡ n) [
+      | true ↦ λ e. same_labels (low apex) n e
       | false ↦ λ e. ⊎_elim
-          (λ (i : s.next ≡ low apex). let same : labels_eq (low apex) s.next ≡ true = labels_eq-same (low apex) s.next (sym i) in cc)
-          (λ o. low-spelled rs s.next o)
-          s.leads
+          (λ (i : n ≡ low apex). let same : labels_eq (low apex) n ≡ true = labels_eq-same (low apex) n (sym i) in cc)
+          (λ by. low-spelled rs n by)
+          l.leads
     ] in
-    go (labels_eq (low apex) s.next) refl
+    go (labels_eq (low apex) n) refl
 
-pub low-link_owner : (apex : Name) (rs : List HandedRr) (q : Name) (s : Speaks apex rs q) → low (link_group apex rs s.owner s.next).owner ≡ s.owner
-low-link_owner apex rs q s = low-spelled rs s.owner s.owns
+pub low-link_owner : (apex : Name) (rs : List HandedRr) (o n : Name) → Linked apex rs o n → low (link_group apex rs o n).owner ≡ o
+low-link_owner apex rs o n l = low-spelled rs o l.owns
 
-pub link_labels : (apex : Name) (rs : List HandedRr) (q : Name) (s : Speaks apex rs q) → label_count (link_group apex rs s.owner s.next).source ≡ label_count (link_group apex rs s.owner s.next).owner
-link_labels apex rs q s = ap label_count (sym (low-link_owner apex rs q s)) ∙ label_count-low (spelled_among rs s.owner)
+pub link_labels : (apex : Name) (rs : List HandedRr) (o n : Name) → Linked apex rs o n → label_count (link_group apex rs o n).source ≡ label_count (link_group apex rs o n).owner
+link_labels apex rs o n l = ap label_count (sym (low-link_owner apex rs o n l)) ∙ label_count-low (spelled_among rs o)
 
-pub link_inside : (apex : Name) (rs : List HandedRr) → IsPublished apex rs → (q : Name) (s : Speaks apex rs q) → at_or_above apex (link_group apex rs s.owner s.next).owner ≡ true
-link_inside apex rs p q s =
-    sym (at_or_above-low apex (spelled_among rs s.owner)) ∙ ap (at_or_above (low apex)) (low-link_owner apex rs q s ∙ sym s.owns.owner_is)
-    ∙ at_or_above-low apex s.owns.by.owner ∙ all_at (λ (r : HandedRr). at_or_above apex r.owner ≡ true) rs s.owns.by p.inside s.owns.there
+pub link_inside : (apex : Name) (rs : List HandedRr) → IsPublished apex rs → (o n : Name) → Linked apex rs o n → at_or_above apex (link_group apex rs o n).owner ≡ true
+link_inside apex rs p o n l =
+    sym (at_or_above-low apex (spelled_among rs o)) ∙ ap (at_or_above (low apex)) (low-link_owner apex rs o n l ∙ sym l.owns.owner_is)
+    ∙ at_or_above-low apex l.owns.by.owner ∙ all_at (λ (r : HandedRr). at_or_above apex r.owner ≡ true) rs l.owns.by p.inside l.owns.there

@@ -29,12 +29,12 @@ pub record IsLinkOf (apex : Name) (rs : List HandedRr) (owner next : Name) (f : 
   pub next_is : low f.next ≡ next
   pub bits_are : f.bits ≡ bitmap (link_types apex rs owner)
 
-strictly : (a n : Name) → at_or_above a n ≡ true → same a n ≡ false → strictly_above a n ≡ true
+pub strictly : (a n : Name) → at_or_above a n ≡ true → same a n ≡ false → strictly_above a n ≡ true
 strictly a [] h e = sym e ∙ h
 strictly a (l ∷ n) h e = ⊎_elim (λ s. let c : true ≡ false = sym s ∙ e in cc) (λ k. k) (or_cases (same a (l ∷ n)) (at_or_above a n) h)
 
 -- the link isn't one of a delegation
-no_cut_link : (apex : Name) (rs : List HandedRr) → IsPublished apex rs → (owner next : Name) (f : Link) → IsLinkOf apex rs owner next f → Owns rs owner → is_cut_link apex f ≡ false
+pub no_cut_link : (apex : Name) (rs : List HandedRr) → IsPublished apex rs → (owner next : Name) (f : Link) → IsLinkOf apex rs owner next f → Owns rs owner → is_cut_link apex f ≡ false
 no_cut_link apex rs p owner next f is o =
     let inside : at_or_above (low apex) owner ≡ true = ap (at_or_above (low apex)) (sym o.owner_is) ∙ at_or_above-low apex o.by.owner ∙ all_at (λ (r : HandedRr). at_or_above apex r.owner ≡ true) rs o.by p.inside o.there in
     let go : (b : Bool) → same f.owner apex ≡ b → (bitmap_has f.bits 2 && not b) ≡ false =
@@ -56,10 +56,10 @@ owner_says apex q t f a b d =
     ∙ ap (λ x. elim (x && not (t == 43)) [ true ↦ Some Delegated | false ↦ elim (bitmap_has f.bits t) [ true ↦ None | false ↦ Some NoType ] ]) b
     ∙ ap (λ x. elim x [ true ↦ None | false ↦ Some NoType ]) d
 
-owner_silent : (apex q : Name) (t : ℕ) (f : Link) → same f.owner q ≡ false → at_owner apex q t f ≡ None
+pub owner_silent : (apex q : Name) (t : ℕ) (f : Link) → same f.owner q ≡ false → at_owner apex q t f ≡ None
 owner_silent apex q t f a = ap (λ x. elim x [ false ↦ None | true ↦ elim (is_cut_link apex f && not (t == 43)) [ true ↦ Some Delegated | false ↦ elim (bitmap_has f.bits t) [ true ↦ None | false ↦ Some NoType ] ] ]) a
 
-cut_silent : (apex q : Name) (f : Link) → is_cut_link apex f ≡ false → below_cut apex q f ≡ None
+pub cut_silent : (apex q : Name) (f : Link) → is_cut_link apex f ≡ false → below_cut apex q f ≡ None
 cut_silent apex q f b = ap (λ x. elim (x && strictly_above f.owner q) [ true ↦ Some Delegated | false ↦ None ]) b
 
 covers_says : (apex q : Name) (t : ℕ) (fs : List Link) (f : Link) → link_covers apex f q ≡ true → strictly_above q f.next ≡ true → covered apex q t fs f ≡ Some NoType
@@ -75,7 +75,7 @@ first_is (Some v) = refl
 one_of : (g : Link → Option Verdict) (f : Link) → first_some g (f ∷ []) ≡ g f
 one_of g f = first_is (g f)
 
-at_owner_decides : (apex q : Name) (t : ℕ) (f : Link) → at_owner apex q t f ≡ Some NoType → decided apex None (f ∷ []) q t ≡ Some NoType
+pub at_owner_decides : (apex q : Name) (t : ℕ) (f : Link) → at_owner apex q t f ≡ Some NoType → decided apex None (f ∷ []) q t ≡ Some NoType
 at_owner_decides apex q t f e =
     ap (λ o. or_else o (or_else (first_some (below_cut apex q) (f ∷ [])) (first_some (covered apex q t (f ∷ [])) (f ∷ [])))) (one_of (at_owner apex q t) f ∙ e)
 
@@ -138,6 +138,6 @@ decided_below apex rs p a there owner next o l near f is =
 pub decided_no_type : (apex : Name) (rs : List HandedRr) → IsPublished apex rs → (a : Asked) → is_allowed apex a ≡ true → a.rtype < 2 ^ 16 → has (zone_with apex rs) (low a.name) a.rtype ≡ false → exists (zone_with apex rs) (low a.name) ≡ true
     → (s : Speaks apex rs a.name) (f : Link) → IsLinkOf apex rs s.owner s.next f → decided apex None (f ∷ []) a.name a.rtype ≡ Some NoType
 decided_no_type apex rs p a allowed small none there s f is = ⊎_elim
-    (λ e. decided_at apex rs p a allowed small none s.owner s.next s.owns e f is)
-    (λ n. decided_below apex rs p a there s.owner s.next s.owns n.0 n.1 f is)
+    (λ e. decided_at apex rs p a allowed small none s.owner s.next s.linked.owns e f is)
+    (λ n. decided_below apex rs p a there s.owner s.next s.linked.owns n.0 n.1 f is)
     s.near

@@ -9,11 +9,11 @@ use Rattle.definitions.specs.Name.{Name, low, same, name_cmp, at_or_above}
 use Rattle.definitions.specs.ZoneChain.{Nsec}
 use Rattle.definitions.proofs.NameLaws.{apex_first}
 use Rattle.answer.specs.Accepting.{HandedRr, record_cmp}
-use Rattle.answer.specs.Links.{link_group, proofs_among, record_links}
+use Rattle.answer.specs.Links.{link_speaks, record_links}
 use Rattle.answer.specs.Served.{proofs_of, served_of}
 use Rattle.answer.specs.ZoneView.{IsPublished, is_of, name_cmp_total}
 use Rattle.answer.proofs.OneLink.{Lowered, One, climbed, one_link}
-use Rattle.answer.proofs.ZoneChains.{Climbs, greater_trans, owners_climb, proofs_are}
+use Rattle.answer.proofs.ZoneChains.{Climbs, greater_trans, owners_climb}
 use Rattle.answer.proofs.ZoneData.{soa_there}
 use Rattle.answer.proofs.ZoneLists.{Has, all_at, found}
 use Rattle.answer.proofs.ZoneNames.{at_or_above-low, low-low, same_labels}
@@ -39,13 +39,17 @@ lowered_all : (rs : List HandedRr) → AllByRecursion Lowered (map (λ r. low r.
 lowered_all [] = tt
 lowered_all (r ∷ rs) = (low-low r.owner, lowered_all rs)
 
--- the one record of the chain that speaks for a name
+-- names that a link of the zone joins: an owner, and another or the apex
+pub record Linked (apex : Name) (rs : List HandedRr) (owner next : Name) : Type 0 where
+  pub owns : Owns rs owner
+  pub leads : (next ≡ low apex) ⊎ Owns rs next
+
+-- the one link of the chain that speaks for a name
 pub record Speaks (apex : Name) (rs : List HandedRr) (q : Name) : Type 0 where
   pub owner : Name
   pub next : Name
-  pub only : proofs_among apex rs (low q ∷ []) (record_links (low apex) rs) ≡ link_group apex rs owner next ∷ []
-  pub owns : Owns rs owner
-  pub leads : (next ≡ low apex) ⊎ Owns rs next
+  pub chosen : filter (λ (m : Name × Name). link_speaks apex (low q ∷ []) m.0 m.1) (record_links (low apex) rs) ≡ (owner, next) ∷ []
+  pub linked : Linked apex rs owner next
   pub near : (owner ≡ low q) ⊎ ((name_cmp owner (low q) ≡ Less) × ((r : HandedRr) → Has rs r → (name_cmp (low r.owner) (low q) ≡ Less → ⊥) → (name_cmp (low q) next ≡ Less) × (name_cmp next (low r.owner) ≡ Greater → ⊥)))
   pub last : (r : HandedRr) → Has rs r → name_cmp (low r.owner) (low q) ≡ Less → name_cmp (low r.owner) owner ≡ Greater → ⊥
 
@@ -70,9 +74,8 @@ speaks_in apex r rs p q inside =
     record {
       owner = o.owner;
       next = o.next;
-      only = ap (map (λ (m : Name × Name). link_group apex (r ∷ rs) m.0 m.1)) o.only;
-      owns = owns_from (r ∷ rs) o.owner o.owns;
-      leads = ⊎_elim (λ e. inl e) (λ h. inr (owns_from (r ∷ rs) o.next h)) o.leads;
+      chosen = o.only;
+      linked = record { owns = owns_from (r ∷ rs) o.owner o.owns; leads = ⊎_elim (λ e. inl e) (λ h. inr (owns_from (r ∷ rs) o.next h)) o.leads };
       near = ⊎_elim (λ e. inl e) (λ n. inr (n.0, λ s h g. n.1 (low s.owner) (owner_has (r ∷ rs) s h) g)) o.near;
       last = λ s h l g. o.last (low s.owner) (owner_has (r ∷ rs) s h) l g;
     }

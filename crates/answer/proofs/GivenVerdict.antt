@@ -1,5 +1,5 @@
 -- What a judge finds in an answer that was given is the zone's verdict.
-use Rattle.std.proofs.Common.{◌≡◌, ◌⊎◌, ℕ, ◌<◌, Bool, true, false, ◌&&◌, ◌||◌, List, [], ◌∷◌, ◌++◌, inl, inr, refl, sym, ap, subst, ◌∙◌, ⊎_elim, eqb, arith}
+use Rattle.std.proofs.Common.{◌≡◌, ◌⊎◌, ℕ, ◌<◌, Bool, true, false, ◌&&◌, ◌||◌, List, [], ◌∷◌, ◌++◌, map, inl, inr, refl, sym, ap, subst, ◌∙◌, ⊎_elim, eqb, arith}
 use Rattle.std.specs.Prelude.{◌^◌, Option, Some, None}
 use Rattle.std.specs.List.{AllByRecursion, AllZip, filter, find, list_any}
 use Rattle.definitions.specs.Bitmap.{bitmap}
@@ -87,7 +87,7 @@ denial_groups : (apex : Name) (hash : Name → List ℕ) (rs : List HandedRr) �
     → answer_groups (served_of apex Nsec hash rs) q t ≡ soa (served_of apex Nsec hash rs) ∷ link_group apex rs s.owner s.next ∷ []
 denial_groups apex hash rs p q t s none there =
     sym (groups_without_type apex hash rs p q t none there)
-    ∙ ap (λ gs. soa (served_of apex Nsec hash rs) ∷ gs) (proofs_are apex hash rs p (low q ∷ []) ∙ s.only)
+    ∙ ap (λ gs. soa (served_of apex Nsec hash rs) ∷ gs) (proofs_are apex hash rs p (low q ∷ []) ∙ ap (map (λ (m : Name × Name). link_group apex rs m.0 m.1)) s.chosen)
 
 not_among : (g l : Group) (q : Name) (t : ℕ) → (eqb g.rtype t && same g.owner q) ≡ false → l.rtype ≡ 47 → eqb t 47 ≡ false → list_any (is_rrset q t) (g ∷ l ∷ []) ≡ false
 not_among g l q t a e n =
@@ -98,8 +98,8 @@ not_among g l q t a e n =
 read_of : (apex : Name) (rs : List HandedRr) (q : Name) (s : Speaks apex rs q) (f : Link)
     → SameLink f (record { owner = (link_group apex rs s.owner s.next).owner; next = spelled_as apex rs s.next; bits = bitmap (link_types apex rs s.owner) }) → IsLinkOf apex rs s.owner s.next f
 read_of apex rs q s f same = record {
-  owner_is = same.owner_is ∙ low-link_owner apex rs q s;
-  next_is = ap low same.next_is ∙ low-next_spelled apex rs q s;
+  owner_is = same.owner_is ∙ low-link_owner apex rs s.owner s.next s.linked;
+  next_is = ap low same.next_is ∙ low-next_spelled apex rs s.owner s.next s.linked;
   bits_are = same.bits_are;
 }
 
@@ -121,18 +121,18 @@ absent_verdict a k h usable answer hash rs is none there =
         group = inr (inl refl);
         signed = refl;
         some = omega arith;
-        labels = link_labels h.apex rs q s;
+        labels = link_labels h.apex rs s.owner s.next s.linked;
         signer = is.signer;
         found = is.found g;
         hold = is.hold;
     } in
-    let proof : IsProof w h.apex is.at is.life is.keys (head ∷ g ∷ []) g is.key = record { by = by; below = link_inside h.apex rs p q s } in
+    let proof : IsProof w h.apex is.at is.life is.keys (head ∷ g ∷ []) g is.key = record { by = by; below = link_inside h.apex rs p s.owner s.next s.linked } in
     let each : (x : Group) → Has (head ∷ g ∷ []) x → x.rtype ≡ 47 → IsProof w h.apex is.at is.life is.keys (head ∷ g ∷ []) x is.key =
     λ x there nsec. ⊎_elim
         (λ (e : x ≡ head). absurd (let six : 6 ≡ 47 = ap (λ (y : Group). y.rtype) (sym e) ∙ nsec in omega (arith, six)))
         (λ later. ⊎_elim (λ (e : x ≡ g). subst (λ y. IsProof w h.apex is.at is.life is.keys (head ∷ g ∷ []) y is.key) (sym e) proof) (λ b. absurd b) later)
         there in
-    let says : SaysLink g l = record { owner_is = refl; labels = next_spelled h.apex rs is.apex_is is.named q s; data_are = refl } in
+    let says : SaysLink g l = record { owner_is = refl; labels = next_spelled h.apex rs is.apex_is is.named s.owner s.next s.linked; data_are = refl } in
     let links = one_zip SameLink (verified_links w k h.answer_bytes answer.records) l
     (verified_links_given w k h.answer_bytes answer.records h.apex is.at is.life is.keys (head ∷ g ∷ []) is.key (l ∷ []) are refl each (says, tt)) in
     let rrset : verified_rrset w k h.answer_bytes answer.records q t ≡ None =

@@ -42,8 +42,10 @@ pub mod OneLink
 pub mod ZoneRising
 pub mod DenialLink
 pub mod DenialTypes
+pub mod DenialPairs
 pub mod DenialDecided
 pub mod AnswerRrsets
+pub mod DenialNames
 pub mod GivenOwners
 pub mod GivenLists
 pub mod GivenRecords

@@ -198,7 +198,7 @@ links_rise : (first : Name) (rs : List HandedRr) → IsStrictlySortedBy record_c
 links_rise first [] h = tt
 links_rise first (r ∷ rs) h = pairs_rising name_cmp name_cmp_total first (low r.owner) (map (λ s. low s.owner) rs) (owners_climb r rs h)
 
-next_is : (apex : Name) (rs : List HandedRr) → IsPublished apex rs → AllByRecursion (λ (m : Name × Name). nsec_next (zone_with apex rs) m.0 ≡ m.1) (record_links (low apex) rs)
+pub next_is : (apex : Name) (rs : List HandedRr) → IsPublished apex rs → AllByRecursion (λ (m : Name × Name). nsec_next (zone_with apex rs) m.0 ≡ m.1) (record_links (low apex) rs)
 next_is apex rs p =
     subst (λ ls. AllByRecursion (λ (m : Name × Name). behind labels_eq (low apex) m.0 ls ≡ m.1) (record_links (low apex) rs)) (sym (links_are apex rs p))
     (behind_each (low apex) (record_links (low apex) rs) (links_rise (low apex) rs p.rising))
