@@ -99,6 +99,10 @@ canonical_nsec k m r e =
     let nsec : eqb r.rtype 47 ≡ true = eq-eqb r.rtype 47 e in
     λ i. canonical_by k m r (two i) (six i) (nsec i)
 
+-- data of a type without names are their octets
+pub canonical_octets : (k : ℕ) (m : List ℕ) (r : Spelled) → eqb r.rtype 2 ≡ false → eqb r.rtype 6 ≡ false → eqb r.rtype 47 ≡ false → canonical_data k m r ≡ Some (data_of m r)
+canonical_octets k m r two six nsec = λ i. canonical_by k m r (two i) (six i) (nsec i)
+
 abbrev nsec_joined : Option (Name × List ℕ) → Option (List ℕ)
 nsec_joined o = elim o [ None ↦ None | Some n ↦ Some (wire n.0 ++ n.1) ]
 

@@ -44,3 +44,4 @@ pub mod GivenRecords
 pub mod GivenSignatures
 pub mod GivenNext
 pub mod GivenLinks
+pub mod GivenSorted

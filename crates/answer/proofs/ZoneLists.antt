@@ -48,7 +48,7 @@ pub all_more : {A : Type 0} (P Q : A → Type 0) (xs : List A) → ((x : A) → 
 all_more P Q [] f h = tt
 all_more P Q (x ∷ xs) f h = (f x h.0, all_more P Q xs f h.1)
 
-all_put : {A : Type 0} (P : A → Type 0) (cmp : A → A → Ordering) (a : A) (xs : List A) → P a → AllByRecursion P xs → AllByRecursion P (put_by cmp a xs)
+pub all_put : {A : Type 0} (P : A → Type 0) (cmp : A → A → Ordering) (a : A) (xs : List A) → P a → AllByRecursion P xs → AllByRecursion P (put_by cmp a xs)
 all_put P cmp a [] p h = (p, tt)
 all_put P cmp a (x ∷ xs) p h =
     elim (cmp a x) as (λ o. AllByRecursion P (elim o [ Less ↦ a ∷ x ∷ xs | Equal ↦ x ∷ xs | Greater ↦ x ∷ put_by cmp a xs ])) [
