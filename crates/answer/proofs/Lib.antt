@@ -45,3 +45,4 @@ pub mod GivenSignatures
 pub mod GivenNext
 pub mod GivenLinks
 pub mod GivenSorted
+pub mod GivenKeys
