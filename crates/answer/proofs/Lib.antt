@@ -46,3 +46,4 @@ pub mod GivenNext
 pub mod GivenLinks
 pub mod GivenSorted
 pub mod GivenKeys
+pub mod GivenChained
