@@ -1,15 +1,14 @@
 -- The keys of a given DNSKEY answer, and that one at the parent signs them.
-use Rattle.std.proofs.Common.{◌≡◌, ℕ, ◌+◌, ◌<◌, Bool, true, false, ◌&&◌, List, [], ◌∷◌, ◌++◌, Option, Some, None, eqb, length, map, refl, sym, ap, subst, ◌∙◌, inl, inr, ⊎_elim, arith}
+use Rattle.std.proofs.Common.{◌≡◌, ℕ, ◌<◌, Bool, true, false, ◌&&◌, List, [], ◌∷◌, ◌++◌, Option, Some, None, eqb, length, map, refl, sym, ap, subst, ◌∙◌, inl, arith}
 use Rattle.std.specs.Prelude.{if◌then◌else◌}
-use Rattle.std.specs.List.{AllByRecursion, Contains, cons_option, filter, filter_map, find, list_any}
+use Rattle.std.specs.List.{AllByRecursion, cons_option, filter, filter_map, list_any}
 use Rattle.std.specs.Str.{bytes_eq}
-use Rattle.std.proofs.lemmas.Bool.{and_from, and_left, and_parts, and_right, eq-eqb, ne_eqb}
+use Rattle.std.proofs.lemmas.Bool.{and_from, and_left, and_right, eq-eqb}
 use Rattle.std.proofs.lemmas.List.{append-nil}
 use Rattle.std.proofs.lemmas.List.Elements.{filter_map-append}
 use lib.Pointwise.{bytes_decides}
 use Rattle.definitions.specs.Name.{Name, low, same}
-use Rattle.definitions.specs.Dnskey.{Dnskey, Ds, digested, dnskey_data, dnskey_of_data, key_tag}
-use Rattle.definitions.specs.Signing.{label_count}
+use Rattle.definitions.specs.Dnskey.{Dnskey, Ds, dnskey_data, dnskey_of_data, key_tag}
 use Rattle.definitions.specs.Zone.{sorted_data}
 use Rattle.answer.specs.Accepting.{HandedRr}
 use Rattle.answer.specs.Answers.{Answers}

@@ -1,7 +1,7 @@
 -- Keys of different tags: each is the one that its tag names, in lists that have the same keys.
-use Rattle.std.proofs.Common.{◌≡◌, ℕ, ◌+◌, ◌*◌, ◌<◌, Bool, true, false, not, ◌&&◌, List, [], ◌∷◌, Option, Some, None, Ordering, eqb, map, refl, sym, ap, subst, ◌∙◌, inl, inr, ⊎_elim, arith}
+use Rattle.std.proofs.Common.{◌≡◌, ℕ, ◌+◌, ◌*◌, ◌<◌, Bool, true, false, not, ◌&&◌, List, [], ◌∷◌, Some, Ordering, eqb, map, refl, sym, ap, subst, ◌∙◌, inl, inr, ⊎_elim, arith}
 use Rattle.std.specs.declared.cmp.Ordering.TheVariants.{Equal}
-use Rattle.std.specs.Int.{w16, byte_at}
+use Rattle.std.specs.Int.{byte_at}
 use Rattle.std.specs.List.{AllByRecursion, Contains, cons_option, filter, filter_map, find, list_any}
 use Rattle.std.specs.Ordering.{nat_cmp}
 use Rattle.std.specs.FinMap.{nat_cmp-IsAntisymmetric}
@@ -11,7 +11,7 @@ use Rattle.std.proofs.lemmas.Nat.{from_be_bytes-to_be_bytes_2}
 use lib.Pointwise.{bytes_decides}
 use Rattle.definitions.specs.Dnskey.{Dnskey, dnskey_data, dnskey_of_data, key_tag, same_key}
 use Rattle.definitions.specs.Signing.{Fields}
-use Rattle.answer.specs.Facts.{fits_key, is_usable}
+use Rattle.answer.specs.Facts.{fits_key}
 use Rattle.answer.specs.Judging.{clashes, has_equal_tags}
 use Rattle.answer.specs.Served.{by_tag}
 use Rattle.answer.proofs.GivenLists.{contained_has, has_contained}
@@ -128,8 +128,8 @@ read_has ks (d ∷ ds) k h small i =
     subst (λ o. Has (cons_option o rest) k) (sym is.reads)
     (⊎_elim
     (λ (e : dnskey_data k ≡ d).
-      let same : Some k ≡ Some is.key = sym (key_read_back k small) ∙ ap dnskey_of_data e ∙ is.reads in
-      inl (some_key k is.key same))
+    let same : Some k ≡ Some is.key = sym (key_read_back k small) ∙ ap dnskey_of_data e ∙ is.reads in
+    inl (some_key k is.key same))
     (λ (later : Has ds (dnskey_data k)). inr (read_has ks ds k h.1 small later))
     i)
   where

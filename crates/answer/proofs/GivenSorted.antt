@@ -1,15 +1,14 @@
 -- Lists in order have the items that were put in.
-use Rattle.std.proofs.Common.{◌≡◌, ℕ, Bool, true, false, List, [], ◌∷◌, Option, Some, None, map, cond, refl, sym, ap, subst, ◌∙◌, ◌⊎◌, inl, inr, ⊎_elim, Ordering}
+use Rattle.std.proofs.Common.{◌≡◌, ℕ, Bool, true, false, List, [], ◌∷◌, Some, cond, refl, sym, ap, subst, ◌∙◌, inl, inr, ⊎_elim, Ordering}
 use Rattle.std.specs.declared.cmp.Ordering.TheVariants.{Less, Equal, Greater}
-use Rattle.std.specs.List.{AllByRecursion, cons_option, filter, filter_map, find}
-use Rattle.std.specs.Cmp.{IsTotalOrder}
+use Rattle.std.specs.List.{AllByRecursion, filter, find}
 use Rattle.std.specs.Cmp.Lexicographic.{slice_cmp}
 use Rattle.std.specs.FinMap.{nat_cmp-IsAntisymmetric, slice_cmp-IsAntisymmetric}
 use Rattle.std.specs.Ordering.{nat_cmp}
 use Rattle.std.specs.Prelude.{⊤}
 use Rattle.std.proofs.lemmas.Bool.{cases_Bool, cond-true, cond-false, true≢false}
 use Rattle.std.proofs.lemmas.Cmp.{nat_list_cmp_total}
-use Rattle.definitions.proofs.Members.{In, Within, sort_same}
+use Rattle.definitions.proofs.Members.{In, sort_same}
 use Rattle.definitions.specs.Sorting.{put_by, put_all_by, sort_by}
 use Rattle.definitions.specs.Zone.{sorted_data}
 use Rattle.answer.proofs.ZoneLists.{Has, all_at, all_more, all_put, all_sorted}
@@ -91,10 +90,10 @@ filter_has p [] x h e = absurd h
 filter_has p (y ∷ ys) x h e = ⊎_elim
     (λ (q : x ≡ y). subst (λ zs. Has zs x) (sym (cond-true (p y) (y ∷ filter p ys) (filter p ys) (ap p (sym q) ∙ e))) (inl q))
     (λ (later : Has ys x).
-      elim (p y) as (λ b. Has (cond b (y ∷ filter p ys) (filter p ys)) x) [
-        | true ↦ inr (filter_has p ys x later e)
-        | false ↦ filter_has p ys x later e
-      ])
+    elim (p y) as (λ b. Has (cond b (y ∷ filter p ys) (filter p ys)) x) [
+      | true ↦ inr (filter_has p ys x later e)
+      | false ↦ filter_has p ys x later e
+    ])
     h
 
 filter_first : {A : Type 0} (b : Bool) (y : A) (ys zs : List A) (x : A) → (Has zs x → Has ys x) → Has (cond b (y ∷ zs) zs) x → Has (y ∷ ys) x
