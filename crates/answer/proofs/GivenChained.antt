@@ -120,7 +120,7 @@ trusted_given a apex ds k usable has =
     let named : names_key a apex k d ≡ true = and_from _ _ (and_from _ _ (eq-eqb (key_tag k) (key_tag k) refl) (eq-eqb k.algorithm k.algorithm refl)) digests in
     and_from (is_usable k) (list_any (names_key a apex k) ds) usable (any_from (names_key a apex k) ds d (has_contained ds d has.held) named)
 
-some_length : (xs : List (List ℕ)) (x : List ℕ) → Has xs x → 0 < length xs
+pub some_length : (xs : List (List ℕ)) (x : List ℕ) → Has xs x → 0 < length xs
 some_length [] x h = absurd h
 some_length (y ∷ ys) x h = omega arith
 

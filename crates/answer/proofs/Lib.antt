@@ -47,3 +47,4 @@ pub mod GivenLinks
 pub mod GivenSorted
 pub mod GivenKeys
 pub mod GivenChained
+pub mod GivenJudged
