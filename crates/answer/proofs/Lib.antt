@@ -48,3 +48,4 @@ pub mod GivenSorted
 pub mod GivenKeys
 pub mod GivenChained
 pub mod GivenJudged
+pub mod GivenZone
