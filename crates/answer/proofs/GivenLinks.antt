@@ -1,9 +1,9 @@
 -- The links that a given message proves are those of its NSEC records.
-use Rattle.std.proofs.Common.{◌≡◌, ℕ, ◌+◌, ◌<◌, Bool, true, false, ◌&&◌, List, [], ◌∷◌, ◌++◌, Option, Some, None, cond, eqb, length, refl, sym, ap, subst, ◌∙◌, inl, inr, arith}
+use Rattle.std.proofs.Common.{◌≡◌, ℕ, Bool, true, false, ◌&&◌, List, [], ◌∷◌, ◌++◌, Option, Some, None, cond, eqb, length, refl, sym, ap, subst, ◌∙◌, inl, inr}
 use Rattle.std.specs.Prelude.{if◌then◌else◌}
 use Rattle.std.specs.List.{AllZip, cons_option, filter, filter_map}
 use Rattle.std.specs.Option.{option_map}
-use Rattle.std.proofs.lemmas.Bool.{and_from, eq-eqb, eqb-true, ne_eqb}
+use Rattle.std.proofs.lemmas.Bool.{and_from, eq-eqb, eqb-true}
 use Rattle.std.proofs.lemmas.List.Elements.{filter_map-append}
 use Rattle.definitions.specs.Name.{Name, at_or_above, low, wire}
 use Rattle.definitions.specs.Dnskey.{Dnskey}
@@ -121,8 +121,7 @@ linked_same w k m rs own signatures rest ls first none h =
     subst (λ ys. AllZip SameLink ys ls) (sym whole) h
 
 module _ (w : Trusting) (k : ℕ) (m : List ℕ) (rs : List Spelled) (apex : Name) (at life : ℕ) (keys : List Dnskey) (all : List Group) (key : Dnskey)
-  (are : AreGroups w.answers.verifies k m rs apex at life keys all) (alone : has_twins all ≡ false) where
-
+    (are : AreGroups w.answers.verifies k m rs apex at life keys all) (alone : has_twins all ≡ false) where
   linked_in : (xs : List Spelled) (gs : List Group) (ls : List Link) → ((g : Group) → Has gs g → g.rtype ≡ 47 → IsProof w apex at life keys all g key) → AreGroups w.answers.verifies k m xs apex at life keys gs → AllZip SaysLink (filter is_nsec gs) ls → Linked w k m rs xs ls
   linked_in xs [] [] each h z = subst (λ ys. Linked w k m rs ys []) (sym h) tt
   linked_in xs [] (l ∷ ls) each h z = absurd z

@@ -1,11 +1,11 @@
 -- An NSEC record whose canonical data are known says one next name and one bitmap.
-use Rattle.std.proofs.Common.{◌≡◌, ℕ, ◌+◌, ◌-◌, ◌<◌, ◌≤◌, Bool, true, false, List, [], ◌∷◌, ◌++◌, length, Option, Some, None, Result, Ok, Err, eqb, leb, refl, sym, ap, subst, ◌∙◌, arith}
+use Rattle.std.proofs.Common.{◌≡◌, ℕ, ◌+◌, ◌-◌, ◌<◌, ◌≤◌, Bool, true, false, List, ◌++◌, length, Option, Some, None, Result, Ok, Err, eqb, leb, refl, sym, ap, subst, ◌∙◌, arith}
 use Rattle.std.specs.Prelude.{slice_range}
 use Rattle.std.specs.List.{AllByRecursion}
 use Rattle.std.proofs.lemmas.Bool.{eq-eqb, ne_eqb}
 use Rattle.std.proofs.lemmas.List.{length-take-le, length-drop}
 use Rattle.definitions.specs.Bitmap.{is_bitmap}
-use Rattle.definitions.specs.Name.{Name, Label, IsLabel, low, wire}
+use Rattle.definitions.specs.Name.{Name, IsLabel, wire}
 use Rattle.definitions.specs.Reading.{Reads, root, label, pointer, ReadFault, name_at}
 use Rattle.definitions.proofs.ReadingLaws.{reads_exactly}
 use Rattle.definitions.proofs.SignedLaws.{Labelled, wire_of}
@@ -98,6 +98,10 @@ canonical_nsec k m r e =
     let six : eqb r.rtype 6 ≡ false = ne_eqb r.rtype 6 (λ h. omega (arith, e, h)) in
     let nsec : eqb r.rtype 47 ≡ true = eq-eqb r.rtype 47 e in
     λ i. canonical_by k m r (two i) (six i) (nsec i)
+
+-- data of a type without names are their octets
+pub canonical_octets : (k : ℕ) (m : List ℕ) (r : Spelled) → eqb r.rtype 2 ≡ false → eqb r.rtype 6 ≡ false → eqb r.rtype 47 ≡ false → canonical_data k m r ≡ Some (data_of m r)
+canonical_octets k m r two six nsec = λ i. canonical_by k m r (two i) (six i) (nsec i)
 
 abbrev nsec_joined : Option (Name × List ℕ) → Option (List ℕ)
 nsec_joined o = elim o [ None ↦ None | Some n ↦ Some (wire n.0 ++ n.1) ]

@@ -1,5 +1,5 @@
 -- The data that a given message holds of an owner and a type are those of its RRset.
-use Rattle.std.proofs.Common.{◌≡◌, ℕ, Bool, true, false, ◌&&◌, ◌||◌, List, [], ◌∷◌, ◌++◌, Option, Some, None, cond, eqb, refl, sym, ap, ◌∙◌, ⊎_elim}
+use Rattle.std.proofs.Common.{◌≡◌, ℕ, Bool, true, false, ◌&&◌, List, [], ◌∷◌, ◌++◌, Option, Some, None, eqb, refl, sym, ap, ◌∙◌, ⊎_elim}
 use Rattle.std.specs.Prelude.{if◌then◌else◌}
 use Rattle.std.specs.List.{cons_option, filter_map, flat_map, list_any}
 use Rattle.answer.proofs.ZoneNames.{labels_eq-same, same_labels}
@@ -95,18 +95,18 @@ one_taken o t (x ∷ gs) g alone h f e =
     let apart = or_parts (list_any (is_rrset x.owner x.rtype) gs) (has_twins gs) alone in
     ⊎_elim
     (λ (q : g ≡ x).
-      let here : is_rrset o t x ≡ true = ap (is_rrset o t) (sym q) ∙ rrset_here o t g f e in
-      let others : list_any (is_rrset o t) gs ≡ false = rrset_as o x.owner t x.rtype gs (sym e ∙ ap (λ (y : Group). low y.owner) q) (sym f ∙ ap (λ (y : Group). y.rtype) q) ∙ apart.0 in
-      (λ i. taken (here i) x.datas ++ none_taken o t gs others i) ∙ append-nil x.datas ∙ ap (λ (y : Group). y.datas) (sym q))
+    let here : is_rrset o t x ≡ true = ap (is_rrset o t) (sym q) ∙ rrset_here o t g f e in
+    let others : list_any (is_rrset o t) gs ≡ false = rrset_as o x.owner t x.rtype gs (sym e ∙ ap (λ (y : Group). low y.owner) q) (sym f ∙ ap (λ (y : Group). y.rtype) q) ∙ apart.0 in
+    (λ i. taken (here i) x.datas ++ none_taken o t gs others i) ∙ append-nil x.datas ∙ ap (λ (y : Group). y.datas) (sym q))
     (λ (later : Has gs g).
-      ⊎_elim
-      (λ (same_one : is_rrset o t x ≡ true).
-        let p = and_parts (eqb x.rtype t) (same x.owner o) same_one in
-        let twin : is_rrset x.owner x.rtype g ≡ true = rrset_here x.owner x.rtype g (f ∙ sym (eqb-true x.rtype t p.0)) (e ∙ sym (same_labels (low x.owner) (low o) p.1)) in
-        absurd (false≢true (sym apart.0 ∙ any_from (is_rrset x.owner x.rtype) gs g later twin)))
-      (λ (other : is_rrset o t x ≡ false).
-        λ i. taken (other i) x.datas ++ one_taken o t gs g apart.1 later f e i)
-      (cases_Bool (is_rrset o t x)))
+    ⊎_elim
+    (λ (same_one : is_rrset o t x ≡ true).
+    let p = and_parts (eqb x.rtype t) (same x.owner o) same_one in
+    let twin : is_rrset x.owner x.rtype g ≡ true = rrset_here x.owner x.rtype g (f ∙ sym (eqb-true x.rtype t p.0)) (e ∙ sym (same_labels (low x.owner) (low o) p.1)) in
+    absurd (false≢true (sym apart.0 ∙ any_from (is_rrset x.owner x.rtype) gs g later twin)))
+    (λ (other : is_rrset o t x ≡ false).
+    λ i. taken (other i) x.datas ++ one_taken o t gs g apart.1 later f e i)
+    (cases_Bool (is_rrset o t x)))
     h
 
 -- the RRset of a message

@@ -1,11 +1,11 @@
 -- The signatures of a given message verify its RRsets.
-use Rattle.std.proofs.Common.{◌≡◌, ℕ, ◌+◌, ◌<◌, Bool, true, false, not, ◌&&◌, ◌||◌, List, [], ◌∷◌, ◌++◌, Option, Some, None, length, eqb, refl, sym, ap, subst, ◌∙◌, ⊎_elim, inl, inr, arith}
+use Rattle.std.proofs.Common.{◌≡◌, ℕ, ◌<◌, Bool, true, false, not, ◌&&◌, ◌||◌, List, [], ◌∷◌, ◌++◌, Option, Some, None, length, eqb, refl, sym, ap, subst, ◌∙◌, ⊎_elim, inl, inr, arith}
 use Rattle.std.specs.Prelude.{if◌then◌else◌}
 use Rattle.std.specs.List.{find, list_any}
 use Rattle.std.proofs.lemmas.Bool.{and_from, eq-eqb, ne_eqb}
 use Rattle.definitions.specs.Name.{Name, low, same}
-use Rattle.definitions.specs.Dnskey.{Dnskey, key_tag}
-use Rattle.definitions.specs.Signing.{Fields, in_time, label_count, signed_octets}
+use Rattle.definitions.specs.Dnskey.{Dnskey}
+use Rattle.definitions.specs.Signing.{Fields, label_count}
 use Rattle.definitions.specs.Zone.{sorted_data}
 use Rattle.answer.specs.Facts.{fits_key, is_due, signs}
 use Rattle.answer.specs.Given.{AreGroups, AreSignatures, IsSignature, fields_for, octets_for}
@@ -35,21 +35,21 @@ signed_among v k m (r ∷ rs) apex at life g [] key h i = absurd i
 signed_among v k m (r ∷ rs) apex at life g (x ∷ keys) key h i = ⊎_elim
     (λ (e : key ≡ x). record { spelled = r; inside = inl refl; is = subst (IsSignature v k m r apex at life g) (sym e) h.0 })
     (λ (later : Has keys key).
-      let s : Signed v k m rs apex at life g key = signed_among v k m rs apex at life g keys key h.1 later in
-      record { spelled = s.spelled; inside = inr s.inside; is = s.is })
+    let s : Signed v k m rs apex at life g key = signed_among v k m rs apex at life g keys key h.1 later in
+    record { spelled = s.spelled; inside = inr s.inside; is = s.is })
     i
 
 signed_in : (v : Dnskey → List ℕ → List ℕ → Bool) (k : ℕ) (m : List ℕ) (rs : List Spelled) (apex : Name) (at life : ℕ) (keys : List Dnskey) (gs : List Group) (g : Group) (key : Dnskey) → AreGroups v k m rs apex at life keys gs → Has gs g → g.signed ≡ true → Has keys key → Signed v k m rs apex at life g key
 signed_in v k m rs apex at life keys [] g key h i s j = absurd i
 signed_in v k m rs apex at life keys (x ∷ gs) g key (own, signatures, rest, are, records, signs, more) i s j = ⊎_elim
     (λ (e : g ≡ x).
-      let by : AreSignatures v k m signatures apex at life g (if g.signed then keys else []) = subst (λ (y : Group). AreSignatures v k m signatures apex at life y (if y.signed then keys else [])) (sym e) signs in
-      let all : AreSignatures v k m signatures apex at life g keys = subst (λ b. AreSignatures v k m signatures apex at life g (if b then keys else [])) s by in
-      let one : Signed v k m signatures apex at life g key = signed_among v k m signatures apex at life g keys key all j in
-      record { spelled = one.spelled; inside = subst (λ xs. Has xs one.spelled) (sym are) (has_left (own ++ signatures) rest one.spelled (has_right own signatures one.spelled one.inside)); is = one.is })
+    let by : AreSignatures v k m signatures apex at life g (if g.signed then keys else []) = subst (λ (y : Group). AreSignatures v k m signatures apex at life y (if y.signed then keys else [])) (sym e) signs in
+    let all : AreSignatures v k m signatures apex at life g keys = subst (λ b. AreSignatures v k m signatures apex at life g (if b then keys else [])) s by in
+    let one : Signed v k m signatures apex at life g key = signed_among v k m signatures apex at life g keys key all j in
+    record { spelled = one.spelled; inside = subst (λ xs. Has xs one.spelled) (sym are) (has_left (own ++ signatures) rest one.spelled (has_right own signatures one.spelled one.inside)); is = one.is })
     (λ (later : Has gs g).
-      let one : Signed v k m rest apex at life g key = signed_in v k m rest apex at life keys gs g key more later s j in
-      record { spelled = one.spelled; inside = subst (λ xs. Has xs one.spelled) (sym are) (has_right (own ++ signatures) rest one.spelled one.inside); is = one.is })
+    let one : Signed v k m rest apex at life g key = signed_in v k m rest apex at life keys gs g key more later s j in
+    record { spelled = one.spelled; inside = subst (λ xs. Has xs one.spelled) (sym are) (has_right (own ++ signatures) rest one.spelled one.inside); is = one.is })
     i
 
 -- ---- it verifies

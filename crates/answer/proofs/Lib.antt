@@ -53,3 +53,8 @@ pub mod GivenSignatures
 pub mod GivenNext
 pub mod GivenLinks
 pub mod GivenVerdict
+pub mod GivenAnswers
+pub mod GivenSorted
+pub mod GivenKeys
+pub mod GivenChained
+pub mod GivenJudged

@@ -1,0 +1,44 @@
+-- A judge of what one zone gave under keys that meet says the zone's verdict.
+use Rattle.std.proofs.Common.{◌≡◌, ℕ, ◌<◌, true, false, List, [], ◌∷◌, ◌∙◌, arith}
+use Rattle.std.specs.Prelude.{◌^◌}
+use Rattle.std.specs.List.{AllByRecursion}
+use Rattle.definitions.specs.Name.{IsLabel, low}
+use Rattle.definitions.specs.Zone.{exists, verdict}
+use Rattle.definitions.specs.ZoneChain.{Nsec}
+use Rattle.answer.specs.Accepting.{HandedRr, record_cmp, sorted_records, zone_of}
+use Rattle.answer.specs.Answers.{Answers}
+use Rattle.answer.specs.Handed.{IsHanded}
+use Rattle.answer.specs.Judged.{judged}
+use Rattle.answer.specs.Judging.{Handing, Says}
+use Rattle.answer.specs.Meeting.{WasGiven}
+use Rattle.answer.specs.Publishing.{hash_in}
+use Rattle.answer.specs.Served.{by_tag}
+use Rattle.answer.proofs.AnswerRrsets.{AreNamed}
+use Rattle.answer.proofs.GivenJudged.{judged_given, signer_found, signer_signs, usable_keys}
+use Rattle.answer.proofs.GivenVerdict.{IsAnswered, given_verdict}
+use Rattle.answer.proofs.ZoneLists.{all_more, all_sorted}
+use Rattle.answer.proofs.ZoneRising.{published_from}
+
+named : (rs : List HandedRr) → AllByRecursion IsHanded rs → AreNamed (sorted_records rs)
+named rs h = all_sorted (λ r. AllByRecursion IsLabel r.owner) record_cmp rs (all_more IsHanded (λ r. AllByRecursion IsLabel r.owner) rs (λ r is. is.owner.labels) h)
+
+is_answered : (a : Answers) (k : ℕ) (h : Handing) (rs : List HandedRr) (given : WasGiven a k h rs) → IsAnswered a k h (usable_keys a k h rs given) given.answer_given.read (hash_in a.hash Nsec) (sorted_records rs)
+is_answered a k h rs given = record {
+  at = given.answer_at;
+  life = given.life;
+  keys = by_tag given.zonesigners;
+  key = given.meet.signer;
+  published = published_from h.apex Nsec h.limit rs given.accepted;
+  apex_is = given.apex_is.labels;
+  named = named rs given.records_are;
+  allowed = given.allowed;
+  small = let small = given.asked_is.rtype in omega (arith, small);
+  groups_are = given.answer_given.groups_are;
+  signer = signer_signs a k h rs given;
+  found = signer_found a k h rs given;
+  hold = given.answer_holds;
+}
+
+pub answers_given : (a : Answers) (k : ℕ) (h : Handing) (rs : List HandedRr) → WasGiven a k h rs → exists (zone_of h.apex rs) (low h.asked.name) ≡ true → judged a k h ≡ Says (verdict (zone_of h.apex rs) false h.asked.name h.asked.rtype)
+answers_given a k h rs given there =
+    judged_given a k h rs given ∙ given_verdict a k h (usable_keys a k h rs given) given.answer_given.read (hash_in a.hash Nsec) (sorted_records rs) (is_answered a k h rs given) there
