@@ -38,3 +38,6 @@ pub mod MessageWritten
 pub mod MessageWhole
 pub mod MessageSignatures
 pub mod MessageData
+pub mod WritesRecords
+pub mod WritesGroups
+pub mod WritesAnswer
