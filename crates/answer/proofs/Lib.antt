@@ -41,3 +41,6 @@ pub mod MessageData
 pub mod WritesRecords
 pub mod WritesGroups
 pub mod WritesAnswer
+pub mod WritesData
+pub mod WritesNames
+pub mod WritesZone
