@@ -44,3 +44,4 @@ pub mod WritesAnswer
 pub mod WritesData
 pub mod WritesNames
 pub mod WritesZone
+pub mod WritesHanded
