@@ -45,3 +45,4 @@ pub mod WritesData
 pub mod WritesNames
 pub mod WritesZone
 pub mod WritesHanded
+pub mod WritesGiven

@@ -5,6 +5,8 @@ ghost use Rattle.answer.specs.Judging.{is_allowed};
 ghost use Rattle.answer.specs.Questions.{asked_of};
 ghost use Rattle.answer.specs.Served.{key_group, ttl_among};
 ghost use Rattle.answer.specs.GroupView.{Presents};
+ghost use Rattle.answer.specs.Given.{GivesAnswer};
+ghost use Rattle.answer.specs.Given as spelled;
 ghost use Rattle.answer.specs.Answering.{AnswersKeys, AnswersZone, RefusesAnswer, RefusesKeys};
 ghost use Rattle.answer.specs.Accepting.{IsAccepted, IsFault, sorted_records};
 ghost use Rattle.answer.specs.ZoneView.{mode_of, handed_of};
@@ -89,7 +91,9 @@ impl<'a, S: Scheme, H: Nsec3Hasher> Publisher<'a, S, H> {
     pub fn dnskey_answer(&self, now: &UnixTime) -> Result<Vec<u8>, AnswerFault>
         ensures refused { IfErr result (RefusesKeys (S.signature_of self.now.scheme.now) (S.verifies self.now.scheme.now) (served (H.hash_of self.now.hasher.now) self.now.zone) self.now.zone.apex (second_of now.now) self.now.life (dnskeys (published self.now.keys Publication.Present)) (keys_by_tag self.now.keys Publication.SignsKeys)) }
         ensures answer { IfOk result (λ m. AnswersKeys (S.signature_of self.now.scheme.now) (S.verifies self.now.scheme.now) (served (H.hash_of self.now.hasher.now) self.now.zone) self.now.zone.apex (second_of now.now) self.now.life (dnskeys (published self.now.keys Publication.Present)) (keys_by_tag self.now.keys Publication.SignsKeys) m.items) }
+        ensures given { IfOk result (λ m. spelled.GivesKeys (S.verifies self.now.scheme.now) 0 (served (H.hash_of self.now.hasher.now) self.now.zone) self.now.zone.apex (dnskeys (published self.now.keys Publication.Present)) (dnskeys (published self.now.keys Publication.SignsKeys)) (second_of now.now) self.now.life m.items) }
     {
+        self.zone.keeps();
         let keys = self.keys.keys_by_tag(Publication::SignsKeys)?;
         let group = self.dnskey_group()?;
         let question = Question {
@@ -144,7 +148,10 @@ impl<'a, S: Scheme, H: Nsec3Hasher> Publisher<'a, S, H> {
         ensures allowed { IsErrOf result AnswerFault.QuestionNotAllowed ↔ (is_allowed self.now.zone.apex (asked_of question.now) ≡ false) }
         ensures refused { IfErr result (RefusesAnswer (S.signature_of self.now.scheme.now) (S.verifies self.now.scheme.now) (served (H.hash_of self.now.hasher.now) self.now.zone) self.now.zone.apex (second_of now.now) self.now.life (keys_by_tag self.now.keys Publication.SignsZone) (asked_of question.now)) }
         ensures answer { IfOk result (λ m. AnswersZone (S.signature_of self.now.scheme.now) (S.verifies self.now.scheme.now) (served (H.hash_of self.now.hasher.now) self.now.zone) self.now.zone.apex (second_of now.now) self.now.life (keys_by_tag self.now.keys Publication.SignsZone) (asked_of question.now) m.items) }
+        ensures given { IfOk result (λ m. GivesAnswer (S.verifies self.now.scheme.now) 0 (served (H.hash_of self.now.hasher.now) self.now.zone) self.now.zone.apex (dnskeys (published self.now.keys Publication.SignsZone)) (second_of now.now) self.now.life (asked_of question.now) m.items) }
     {
+        self.zone.keeps();
+        question.keeps();
         if !is_allowed(self.zone.apex(), question) {
             return Err(AnswerFault::QuestionNotAllowed);
         }
