@@ -1,6 +1,8 @@
 //! The publisher.
 ghost use Rattle.std.specs.Prelude.{◌≡◌, ◌⊎◌, ◌<◌, ◌≤◌, ◌^◌, ◌↔◌, [], map, length, string_bytes, IfOk, IfErr, IsErrOf, OnOk, Some, None, false};
-ghost use Rattle.definitions.specs.Name.{low};
+ghost use Rattle.std.specs.List.{AllByRecursion};
+ghost use Rattle.definitions.specs.Name.{IsName, low};
+ghost use Rattle.answer.specs.Handed.{IsHanded};
 ghost use Rattle.answer.specs.Judging.{is_allowed};
 ghost use Rattle.answer.specs.Questions.{asked_of};
 ghost use Rattle.answer.specs.Served.{key_group, ttl_among};
@@ -71,6 +73,7 @@ impl<'a, S: Scheme, H: Nsec3Hasher> Publisher<'a, S, H> {
         ensures hasher { IfOk result (λ p. p.hasher.now ≡ hasher.now) }
         ensures life { IfOk result (λ p. p.life ≡ life) }
         ensures accepted { IfOk result (λ p. IsAccepted apex (mode_of mode) limit (map handed_of records.items)) }
+        ensures handed { IfOk result (λ p. IsName apex × AllByRecursion IsHanded (map handed_of records.items)) }
         ensures fault { IfErr result (λ f. (f ≡ ZoneFault.Memory) ⊎ IsFault apex (mode_of mode) limit (map handed_of records.items) f) }
     {
         let Ok(name) = apex.try_clone(alloc) else {
