@@ -1,5 +1,5 @@
 -- An answer that is written gives its RRsets.
-use Rattle.std.proofs.Common.{◌≡◌, ℕ, ◌+◌, ◌<◌, ◌≤◌, Bool, List, [], ◌∷◌, ◌++◌, length, map, Option, refl, sym, subst, ap, ◌∙◌, length-append, arith}
+use Rattle.std.proofs.Common.{◌≡◌, ℕ, ◌≤◌, Bool, List, [], ◌∷◌, ◌++◌, length, map, Option, refl, sym, subst, ap, length-append, arith}
 use Rattle.std.specs.List.{AllByRecursion, AllZip, flat_map}
 use Rattle.std.proofs.lemmas.List.Concat.{flat_map-append}
 use Rattle.definitions.specs.Name.{Name, IsName}
@@ -10,7 +10,7 @@ use Rattle.answer.specs.Given.{AreGroups, Gives}
 use Rattle.answer.specs.GroupView.{GroupView, Presents}
 use Rattle.answer.specs.Composed.{IsAnswer, IsWritten, joined}
 use Rattle.answer.specs.Written.{Written, record_octets}
-use Rattle.answer.specs.WrittenLaws.{AreSections, IsQuestion, IsRecord, first_place, spelled_from}
+use Rattle.answer.specs.WrittenLaws.{IsQuestion, IsRecord, first_place, spelled_from}
 use Rattle.answer.proofs.MessageWhole.{message_here, records_stand}
 use Rattle.answer.proofs.MessageWritten.{StandsAt}
 use Rattle.answer.proofs.Refusals.{zip_append}

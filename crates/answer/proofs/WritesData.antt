@@ -1,13 +1,13 @@
 -- Data that are written read as their canonical form, type by type.
 use Rattle.std.proofs.Common.{◌≡◌, ℕ, ◌+◌, Bool, true, false, ◌&&◌, ◌||◌, List, [], ◌∷◌, ◌++◌, length, Option, Some, refl, sym, subst, ap, ◌∙◌, append_assoc, eqb, ⊎_elim, ◌⊎◌}
 use Rattle.std.specs.Prelude.{MatchBool}
-use Rattle.std.specs.List.{AllByRecursion, AllZip}
-use Rattle.std.proofs.lemmas.Bool.{or_parts, false≢true}
-use Rattle.definitions.specs.Name.{Name, IsName, wire, low}
+use Rattle.std.specs.List.{AllZip}
+use Rattle.std.proofs.lemmas.Bool.{or_parts}
+use Rattle.definitions.specs.Name.{Name, IsName, wire}
 use Rattle.definitions.specs.Bitmap.{is_bitmap}
 use Rattle.answer.specs.Accepting.{HandedRr, is_meta}
-use Rattle.answer.specs.Handed.{IsHanded, SpellsNs, SpellsSoa, SpellsData}
-use Rattle.answer.specs.Message.{Spelled, behind, canonical_data, data_of, ns_data, soa_data, nsec_data}
+use Rattle.answer.specs.Handed.{IsHanded, SpellsNs, SpellsSoa}
+use Rattle.answer.specs.Message.{Spelled, behind, data_of, ns_data, soa_data, nsec_data}
 use Rattle.answer.proofs.MessageData.{ns_here, soa_here, nsec_here}
 use Rattle.answer.proofs.MessageWritten.{StandsAt}
 use Rattle.answer.proofs.NameWritten.{range_there}

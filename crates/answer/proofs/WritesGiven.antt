@@ -1,10 +1,9 @@
 -- What a publisher writes gives the RRsets of its zone and keys.
-use Rattle.std.proofs.Common.{◌≡◌, ℕ, Bool, false, ◌||◌, List, [], ◌∷◌, ◌++◌, Option, sym, subst, eqb, lit<}
+use Rattle.std.proofs.Common.{◌≡◌, ℕ, Bool, false, ◌||◌, List, [], ◌∷◌, Option, sym, subst, eqb, lit<}
 use Rattle.std.specs.List.{AllByRecursion}
-use Rattle.definitions.specs.Name.{Name, IsName}
 use Rattle.definitions.specs.Dnskey.{Dnskey}
 use Rattle.definitions.specs.ZoneChain.{Mode, Nsec}
-use Rattle.answer.specs.Answering.{AnswersKeys, AnswersZone, flags_for}
+use Rattle.answer.specs.Answering.{AnswersKeys, AnswersZone}
 use Rattle.answer.specs.Given.{GivesAnswer, GivesKeys}
 use Rattle.answer.specs.Handed.{AreHanded}
 use Rattle.answer.specs.Message.{Asked}

@@ -1,9 +1,8 @@
 -- Records as they are handed in hold what they say.
-use Rattle.std.proofs.Common.{◌≡◌, ℕ, ◌<◌, List, [], ◌∷◌, ◌++◌, length, inl, inr, ◌⊎◌, refl, subst, sym}
+use Rattle.std.proofs.Common.{◌≡◌, ◌<◌, List, [], ◌∷◌, ◌++◌, length, inl, inr, ◌⊎◌, refl, subst, sym}
 use Rattle.std.specs.Prelude.{MatchBool}
 use Rattle.std.specs.List.{AllByRecursion}
 use Rattle.definitions.specs.Name.{IsName}
-use Rattle.answer.specs.Accepting.{HandedRr}
 use Rattle.answer.specs.Handed.{IsHanded, SpellsNs, SpellsSoa}
 use Rattle.answer.specs.Rdata.{HasNames, canonical_of, rtype_of, soa_numbers, written_of}
 use Rattle.answer.specs.ZoneView.{handed_of, is_unknown}

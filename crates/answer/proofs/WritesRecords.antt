@@ -1,5 +1,5 @@
 -- An RRset that is written in a message, with its signatures behind it, reads back.
-use Rattle.std.proofs.Common.{◌≡◌, ℕ, zero, ◌+◌, ◌<◌, ◌%◌, Bool, true, List, [], ◌∷◌, ◌++◌, length, map, Option, Some, refl, sym, subst, ap, ◌∙◌, append_assoc, lit<}
+use Rattle.std.proofs.Common.{◌≡◌, ℕ, ◌+◌, ◌<◌, Bool, List, [], ◌∷◌, ◌++◌, length, map, Option, Some, refl, subst, ap, ◌∙◌, append_assoc, lit<}
 use Rattle.std.specs.List.{AllZip, flat_map}
 use Rattle.std.specs.Int.{w16, w32, to_be_bytes}
 use Rattle.std.proofs.Math.Nat.{mod-lt}
@@ -8,10 +8,9 @@ use Rattle.definitions.specs.Dnskey.{Dnskey, key_tag}
 use Rattle.definitions.specs.Signing.{Fields, canonical_record, label_count, signed_octets, signed_owner}
 use Rattle.answer.specs.Message.{Spelled, canonical_data}
 use Rattle.answer.specs.Served.{Group}
-use Rattle.answer.specs.Given.{AreRecords, AreSignatures, IsSignature, octets_for}
-use Rattle.answer.specs.GroupView.{GroupView, IsRrsigData, fields_of, octets_of}
+use Rattle.answer.specs.Given.{AreRecords, AreSignatures, IsSignature}
+use Rattle.answer.specs.GroupView.{GroupView, IsRrsigData, fields_of}
 use Rattle.answer.specs.Composed.{record_of}
-use Rattle.answer.specs.Rrsig.{rrsig_data}
 use Rattle.answer.specs.Written.{Written, record_octets}
 use Rattle.answer.specs.WrittenLaws.{AreFields, spelled_at, spelled_from}
 use Rattle.answer.proofs.MessageSignatures.{signature_here}

@@ -1,16 +1,16 @@
 -- The RRsets that an accepted zone answers with read back.
-use Rattle.std.proofs.Common.{◌≡◌, ℕ, ◌<◌, Bool, true, false, ◌&&◌, ◌||◌, List, [], ◌∷◌, ◌++◌, map, refl, sym, subst, ap, ◌∙◌, cond, eqb, lit<, ⊎_elim}
+use Rattle.std.proofs.Common.{◌≡◌, ℕ, ◌<◌, Bool, true, false, ◌||◌, List, [], ◌∷◌, map, refl, sym, subst, cond, eqb, lit<, ⊎_elim}
 use Rattle.std.specs.List.{AllByRecursion, AllZip, filter, list_any}
 use Rattle.std.proofs.lemmas.Bool.{and_parts, cases_Bool, eqb-true, or_parts}
 use Rattle.definitions.specs.Name.{Name, IsName, low, name_cmp, same}
 use Rattle.definitions.specs.Bitmap.{bitmap}
 use Rattle.definitions.specs.Dnskey.{Dnskey}
 use Rattle.definitions.specs.Zone.{data_at, exists, has, kept_owners, star_under}
-use Rattle.definitions.specs.ZoneChain.{Nsec, nsec_data, nsec_names, nsec_next, nsec_types}
+use Rattle.definitions.specs.ZoneChain.{Nsec, nsec_names, nsec_next, nsec_types}
 use Rattle.definitions.proofs.BitmapLaws.{spells_set}
 use Rattle.answer.specs.Accepting.{HandedRr, is_meta, zone_with}
 use Rattle.answer.specs.Handed.{AreHanded, IsHanded}
-use Rattle.answer.specs.Served.{Group, answer_groups, chain_names, chain_record, chain_ttl, kept_ancestor, key_group, proofs_of, served_of, soa, speaks_for, ttl_among, written_among}
+use Rattle.answer.specs.Served.{answer_groups, chain_names, chain_record, kept_ancestor, key_group, proofs_of, served_of, soa, speaks_for, ttl_among, written_among}
 use Rattle.answer.specs.ZoneView.{IsPublished, is_of}
 use Rattle.answer.proofs.WritesData.{all_plain, reads_handed, reads_nsec}
 use Rattle.answer.proofs.WritesGroups.{IsFormed}

@@ -1,5 +1,4 @@
-use Rattle.std.proofs.Common.{◌≡◌, ◌<◌, rules, sym, subst, ◌∙◌, ap}
-use Rattle.answer.specs.Rdata.{rtype_of}
+use Rattle.std.proofs.Common.{◌<◌, rules, subst, ◌∙◌}
 use Rattle.answer.proofs.WritesHanded.{handed_from}
 use Rattle.answer.proofs.plain.record.Record.keeps.Goals as goal
 
