@@ -58,3 +58,11 @@ pub mod GivenSorted
 pub mod GivenKeys
 pub mod GivenChained
 pub mod GivenJudged
+pub mod WritesRecords
+pub mod WritesGroups
+pub mod WritesAnswer
+pub mod WritesData
+pub mod WritesNames
+pub mod WritesZone
+pub mod WritesHanded
+pub mod WritesGiven

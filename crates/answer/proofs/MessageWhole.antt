@@ -60,6 +60,10 @@ parts m flags q answers authority e =
       records = past m (12 + wire_len q.name + 2) (first_place q) (to_be_bytes w16 q.class) _ class (omega arith);
     }
 
+-- the records stand behind the question, to the end
+pub records_stand : (m : List ℕ) (flags : ℕ) (q : Asked) (answers authority : List Written) → m ≡ message_octets flags q answers authority → StandsAt m (first_place q) (flat_map record_octets (answers ++ authority) ++ [])
+records_stand m flags q answers authority e = (parts m flags q answers authority e).records
+
 asked_here : (m : List ℕ) (flags : ℕ) (q : Asked) (answers authority : List Written) → IsQuestion q → Parts m flags q answers authority → asked_at 0 m 12 ≡ Ok (q, first_place q)
 asked_here m flags q answers authority is p =
     let n = 12 + wire_len q.name in

@@ -77,7 +77,7 @@ pub record_parts : (r : Written) (rest : List ℕ) → record_octets r ++ rest �
 unfolding record_octets
 record_parts r rest = parted (wire r.owner) (to_be_bytes w16 r.rtype) (to_be_bytes w16 r.class) (to_be_bytes w32 r.ttl) (to_be_bytes w16 (length r.octets)) r.octets rest
 
-moved : (m : List ℕ) (p : ℕ) (xs ys : List ℕ) → xs ≡ ys → StandsAt m p xs → StandsAt m p ys
+pub moved : (m : List ℕ) (p : ℕ) (xs ys : List ℕ) → xs ≡ ys → StandsAt m p xs → StandsAt m p ys
 moved m p xs ys e s = subst (StandsAt m p) e s
 
 -- the type of a record that is written at a place, and what stands behind it
@@ -93,7 +93,7 @@ ttl_behind m p r rest s = past m (p + wire_len r.owner + 2) (p + wire_len r.owne
 size_behind : (m : List ℕ) (p : ℕ) (r : Written) (rest : List ℕ) → StandsAt m p (record_octets r ++ rest) → StandsAt m (p + wire_len r.owner + 8) (to_be_bytes w16 (length r.octets) ++ (r.octets ++ rest))
 size_behind m p r rest s = past m (p + wire_len r.owner + 4) (p + wire_len r.owner + 8) (to_be_bytes w32 r.ttl) _ (ttl_behind m p r rest s) (omega arith)
 
-data_behind : (m : List ℕ) (p : ℕ) (r : Written) (rest : List ℕ) → StandsAt m p (record_octets r ++ rest) → StandsAt m (p + wire_len r.owner + 10) (r.octets ++ rest)
+pub data_behind : (m : List ℕ) (p : ℕ) (r : Written) (rest : List ℕ) → StandsAt m p (record_octets r ++ rest) → StandsAt m (p + wire_len r.owner + 10) (r.octets ++ rest)
 data_behind m p r rest s = past m (p + wire_len r.owner + 8) (p + wire_len r.owner + 10) (to_be_bytes w16 (length r.octets)) _ (size_behind m p r rest s) (omega arith)
 
 -- the place behind a record

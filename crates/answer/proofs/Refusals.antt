@@ -24,7 +24,7 @@ use Rattle.answer.proofs.MessageWritten.{record_parts, wire-length}
 use Rattle.answer.proofs.NameLaws.{wire_len-some}
 use Rattle.answer.proofs.SignAnswer.{section_more}
 
-length_record : (r : Written) → length (record_octets r) ≡ wire_len r.owner + 10 + length r.octets
+pub length_record : (r : Written) → length (record_octets r) ≡ wire_len r.owner + 10 + length r.octets
 length_record r =
     let tail = to_be_bytes w16 (length r.octets) ++ (r.octets ++ []) in
     let rest = to_be_bytes w16 r.rtype ++ (to_be_bytes w16 r.class ++ (to_be_bytes w32 r.ttl ++ tail)) in
@@ -138,7 +138,7 @@ first_refused sign verifies apex at life keys more gs hs fault.SignFailed r = (r
 first_refused sign verifies apex at life keys more gs hs fault.TooLong r =
     (r.0, r.1 ++ hs, r.2, r.3, ap (λ x. x ++ hs) r.4 ∙ append_assoc r.0 r.1 hs, r.5, omega (arith, r.6))
 
-zip_append : {A B : Type 0} (R : A → B → Type 0) (xs : List A) (ys : List B) (zs : List A) (ws : List B) → AllZip R xs ys → AllZip R zs ws → AllZip R (xs ++ zs) (ys ++ ws)
+pub zip_append : {A B : Type 0} (R : A → B → Type 0) (xs : List A) (ys : List B) (zs : List A) (ws : List B) → AllZip R xs ys → AllZip R zs ws → AllZip R (xs ++ zs) (ys ++ ws)
 zip_append R [] [] zs ws h k = k
 zip_append R (x ∷ xs) (y ∷ ys) zs ws h k = (h.0, zip_append R xs ys zs ws h.1 k)
 zip_append R [] (y ∷ ys) zs ws h k = absurd h

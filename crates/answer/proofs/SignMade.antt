@@ -3,7 +3,7 @@ use Rattle.std.proofs.Common.{◌≡◌, ℕ, ◌+◌, ◌<◌, Bool, true, List
 use Rattle.std.specs.List.{AllZip}
 use Rattle.std.proofs.lemmas.List.{take_more, map-append}
 use Rattle.definitions.specs.Name.{Name}
-use Rattle.definitions.specs.Dnskey.{Dnskey}
+use Rattle.definitions.specs.Dnskey.{Dnskey, key_tag}
 use Rattle.definitions.specs.Signing.{Fields, signed_octets}
 use Rattle.answer.specs.Rrsig.{spelled_fields}
 use Rattle.answer.specs.GroupView.{GroupView, IsRrsigData, fields_of, octets_of}
@@ -11,8 +11,8 @@ use Rattle.answer.specs.GroupView.{GroupView, IsRrsigData, fields_of, octets_of}
 -- what was signed and written is the data of an RRSIG record
 pub rrsig_made : (sign : Dnskey → List ℕ → Option (List ℕ)) (verifies : Dnskey → List ℕ → List ℕ → Bool) (apex : Name) (at life : ℕ) (g : GroupView) (key k : Dnskey) (f : Fields) (owner : Name) (ds : List (List ℕ)) (made o s start mid d : List ℕ)
     → f ≡ fields_of apex at life g key → owner ≡ g.owner → ds ≡ g.canonical → made ≡ signed_octets f owner 1 ds → o ≡ made → k ≡ key
-    → sign k o ≡ Some s → verifies k o s ≡ true → start ≡ [] → mid ≡ start ++ spelled_fields f → d ≡ mid ++ s → IsRrsigData sign verifies apex at life g key d
-rrsig_made sign verifies apex at life g key k f owner ds made o s start mid d f_is owner_is ds_is made_is o_is k_is answers passes empty written all =
+    → sign k o ≡ Some s → verifies k o s ≡ true → start ≡ [] → mid ≡ start ++ spelled_fields f → d ≡ mid ++ s → key_tag key < 65536 → IsRrsigData sign verifies apex at life g key d
+rrsig_made sign verifies apex at life g key k f owner ds made o s start mid d f_is owner_is ds_is made_is o_is k_is answers passes empty written all fits =
     let fs = fields_of apex at life g key in
     let octets : o ≡ octets_of apex at life g key =
     o_is ∙ made_is ∙ ap (λ x. signed_octets x owner 1 ds) f_is ∙ ap (λ n. signed_octets fs n 1 ds) owner_is ∙ ap (λ c. signed_octets fs g.owner 1 c) ds_is in
@@ -21,6 +21,7 @@ rrsig_made sign verifies apex at life g key k f owner ds made o s start mid d f_
       made = sym (ap (λ x. sign x o) k_is ∙ ap (λ x. sign key x) octets) ∙ answers;
       passes = sym (ap (λ x. verifies x o s) k_is ∙ ap (λ x. verifies key x s) octets) ∙ passes;
       data_is = all ∙ ap (λ x. x ++ s) (written ∙ ap (λ x. x ++ spelled_fields f) empty ∙ ap spelled_fields f_is);
+      tag_fits = fits;
     }
 
 -- one more pair

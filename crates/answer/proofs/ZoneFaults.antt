@@ -16,14 +16,15 @@ unless : (b : Bool) (x : ZoneFault) (o : Option ZoneFault) → cond b (Some x) o
 unless true x o e = cc
 unless false x o e = (refl, e)
 
--- every record is at or below the apex, and none is a delegation or has a star
+-- every record is at or below the apex, and none is a delegation or has a star, or is of a type that no zone holds
 pub record IsPlain (apex : Name) (rs : List HandedRr) : Type 0 where
   pub inside : AllByRecursion (λ r. at_or_above apex r.owner ≡ true) rs
   pub plain : AllByRecursion (λ r. (((eqb r.rtype 2) && strictly_above apex r.owner) || has_star r.owner) ≡ false) rs
+  pub known : AllByRecursion (λ r. is_meta r ≡ false) rs
 
-second_and_seventh : (a b d f g h i : Bool) (p q r s t u v : ZoneFault) (o : Option ZoneFault)
-    → cond a (Some p) (cond b (Some q) (cond d (Some r) (cond f (Some s) (cond g (Some t) (cond h (Some u) (cond i (Some v) o)))))) ≡ None → (b ≡ false) × (i ≡ false)
-second_and_seventh a b d f g h i p q r s t u v o e =
+three_of_seven : (a b d f g h i : Bool) (p q r s t u v : ZoneFault) (o : Option ZoneFault)
+    → cond a (Some p) (cond b (Some q) (cond d (Some r) (cond f (Some s) (cond g (Some t) (cond h (Some u) (cond i (Some v) o)))))) ≡ None → (b ≡ false) × (g ≡ false) × (i ≡ false)
+three_of_seven a b d f g h i p q r s t u v o e =
     let o6 : Option ZoneFault = cond i (Some v) o in
     let o5 : Option ZoneFault = cond h (Some u) o6 in
     let o4 : Option ZoneFault = cond g (Some t) o5 in
@@ -36,11 +37,11 @@ second_and_seventh a b d f g h i p q r s t u v o e =
     let e5 = unless g t o5 e4.1 in
     let e6 = unless h u o6 e5.1 in
     let e7 = unless i v o e6.1 in
-    (e2.0, e7.0)
+    (e2.0, e5.0, e7.0)
 
 pub plain_from_none : (apex : Name) (mode : Mode) (limit : ℕ) (rs : List HandedRr) → first_fault apex mode limit rs ≡ None → IsPlain apex (sorted_records rs)
 plain_from_none apex mode limit rs e =
-    let k = second_and_seventh
+    let k = three_of_seven
     (list_any (λ (r : HandedRr). not (eqb r.class 1)) rs)
     (list_any (λ (r : HandedRr). not (at_or_above apex r.owner)) rs)
     (list_any (λ (r : HandedRr). among (46 ∷ 47 ∷ 48 ∷ 50 ∷ 51 ∷ []) r.rtype) rs)
@@ -52,7 +53,8 @@ plain_from_none apex mode limit rs e =
     (cond (over_limit mode limit) (Some fault.IterationsOverLimit) None) e in
     record {
       inside = all_sorted (λ r. at_or_above apex r.owner ≡ true) record_cmp rs (all_pass (λ (r : HandedRr). at_or_above apex r.owner) rs k.0);
-      plain = all_sorted (λ r. (((eqb r.rtype 2) && strictly_above apex r.owner) || has_star r.owner) ≡ false) record_cmp rs (all_fail (λ (r : HandedRr). ((eqb r.rtype 2) && strictly_above apex r.owner) || has_star r.owner) rs k.1);
+      plain = all_sorted (λ r. (((eqb r.rtype 2) && strictly_above apex r.owner) || has_star r.owner) ≡ false) record_cmp rs (all_fail (λ (r : HandedRr). ((eqb r.rtype 2) && strictly_above apex r.owner) || has_star r.owner) rs k.2);
+      known = all_sorted (λ r. is_meta r ≡ false) record_cmp rs (all_fail is_meta rs k.1);
     }
 
 pub unlike_ttls_are : (apex : Name) (optout : Bool) (rs : List HandedRr) → IsPlain apex (sorted_records rs) → IsStrictlySortedBy record_cmp (sorted_records rs) → has_unlike_ttls (zone_of apex rs) optout (sorted_records rs) ≡ neighbours unlike_ttls (sorted_records rs)

@@ -1,5 +1,5 @@
 -- An RRset on its way into an answer, as contracts see it.
-use Rattle.std.specs.Prelude.{◌≡◌, ℕ, ◌+◌, ◌%◌, Bool, true, List, ◌++◌, Option, Some, None, Contains}
+use Rattle.std.specs.Prelude.{◌≡◌, ℕ, ◌+◌, ◌%◌, ◌<◌, Bool, true, List, ◌++◌, Option, Some, None, Contains}
 use Rattle.std.specs.List.{AllZip}
 use Rattle.definitions.specs.Name.{Name}
 use Rattle.definitions.specs.Dnskey.{Dnskey, key_tag}
@@ -54,6 +54,7 @@ pub record IsRrsigData (sign : Dnskey → List ℕ → Option (List ℕ)) (verif
   pub made : sign key (octets_of apex at life g key) ≡ Some signature
   pub passes : verifies key (octets_of apex at life g key) signature ≡ true
   pub data_is : d ≡ rrsig_data (fields_of apex at life g key) signature
+  pub tag_fits : key_tag key < 65536
 
 -- the scheme fails for one of some keys
 abbrev pub FailsFor : (Dnskey → List ℕ → Option (List ℕ)) → Name → ℕ → ℕ → GroupView → List Dnskey → Type 0

@@ -1,7 +1,8 @@
 -- Records that a zone may hold, as they are handed in.
-use Rattle.std.specs.Prelude.{◌≡◌, ◌⊎◌, MatchBool, ℕ, ◌<◌, List, ◌++◌, length}
+use Rattle.std.specs.Prelude.{◌≡◌, ◌⊎◌, MatchBool, ℕ, ◌<◌, false, List, ◌++◌, length}
+use Rattle.std.specs.List.{AllByRecursion}
 use Rattle.definitions.specs.Name.{Name, IsName, wire, low}
-use Rattle.answer.specs.Accepting.{HandedRr}
+use Rattle.answer.specs.Accepting.{HandedRr, is_meta}
 
 -- the data of an NS record, as spelled and in canonical form (RFC 1035, 3.3.11; RFC 4034, 6.2)
 pub record SpellsNs (written canonical : List ℕ) : Type 0 where
@@ -31,3 +32,9 @@ pub record IsHanded (r : HandedRr) : Type 0 where
   pub rtype : r.rtype < 65536
   pub ttl : r.ttl < 4294967296
   pub spells : SpellsData r
+
+-- names and records of an accepted zone, which messages can spell
+pub record AreHanded (apex : Name) (rs : List HandedRr) : Type 0 where
+  pub apex_is : IsName apex
+  pub records_are : AllByRecursion IsHanded rs
+  pub known : AllByRecursion (λ r. is_meta r ≡ false) rs

@@ -1,7 +1,7 @@
 -- The data of a zone's records in wire form (RFC 1035, 3.3).
 use Rattle.std.specs.Prelude.{ℕ, List, ◌++◌}
 use Rattle.std.specs.Int.{w32, to_be_bytes}
-use Rattle.definitions.specs.Name.{wire, low}
+use Rattle.definitions.specs.Name.{IsName, wire, low}
 use Rattle.answer.specs.declared.plain.record.Soa.{Soa}
 use Rattle.answer.specs.declared.plain.record.ZoneRecordData.{ZoneRecordData}
 use Rattle.answer.specs.declared.plain.record.ZoneRecordData.TheVariants.{Soa as SoaData, Ns as NsData, Unknown}
@@ -15,6 +15,12 @@ rtype_of (Unknown d) = d.rtype
 unfoldable pub soa_numbers : Soa → List ℕ
 soa_numbers s =
     to_be_bytes w32 s.serial ++ to_be_bytes w32 s.refresh ++ to_be_bytes w32 s.retry ++ to_be_bytes w32 s.expire ++ to_be_bytes w32 s.minimum
+
+-- the names in data are names
+abbrev pub HasNames : ZoneRecordData → Type 0
+HasNames (SoaData s) = IsName s.mname × IsName s.rname
+HasNames (NsData s) = IsName s.nsdname
+HasNames (Unknown d) = Unit {0}
 
 -- as spelled
 abbrev pub written_of : ZoneRecordData → List ℕ

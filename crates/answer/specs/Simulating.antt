@@ -21,6 +21,7 @@ use Rattle.answer.specs.Bindings.{ZoneKeys, Call, Add, Start, Report1, Wait1, Re
 use Rattle.answer.specs.KeyCalls.{GivesKeys}
 use Rattle.answer.specs.ZoneView.{AcceptedZone}
 use Rattle.answer.specs.Publishing.{digest_at, served, second_of}
+use Rattle.answer.specs.Given as spelled
 use Rattle.answer.specs.Answering.{AnswersKeys, AnswersZone, RefusesAnswer, RefusesKeys}
 use Rattle.answer.specs.Judging.{Handing, Judges, answer_of, verifications_of, hashes_of, is_allowed}
 
@@ -82,13 +83,17 @@ JudgesBytes w at (Some (OfParent ds)) keys answer asked (outcome.Judged j) = Jud
 JudgesBytes w at (Some (OfParent ds)) keys answer asked _ = ⊥
 JudgesBytes w at _ keys answer asked o = o ≡ outcome.BadPlace
 
--- the DNSKEY answer of these keys at a moment
+-- the DNSKEY answer of these keys at a moment, whose bytes spell the keys and their signatures
 abbrev pub ShowsKeys : World → ZoneKeys → ℕ → List ℕ → Type 0
-ShowsKeys w keys at bytes = AnswersKeys w.sign w.answers.verifies (served w.answers.hash w.zone) w.zone.apex (second_of at) w.life (dnskeys (published keys publication.Present)) (keys_by_tag keys publication.SignsKeys) bytes
+ShowsKeys w keys at bytes =
+    AnswersKeys w.sign w.answers.verifies (served w.answers.hash w.zone) w.zone.apex (second_of at) w.life (dnskeys (published keys publication.Present)) (keys_by_tag keys publication.SignsKeys) bytes
+    × spelled.GivesKeys w.answers.verifies 0 (served w.answers.hash w.zone) w.zone.apex (dnskeys (published keys publication.Present)) (dnskeys (published keys publication.SignsKeys)) (second_of at) w.life bytes
 
--- the zone's answer to a question at a moment, signed by these keys
+-- the zone's answer to a question at a moment, signed by these keys, whose bytes spell its RRsets and their signatures
 abbrev pub ShowsAnswer : World → ZoneKeys → ℕ → Asked → List ℕ → Type 0
-ShowsAnswer w keys at asked bytes = AnswersZone w.sign w.answers.verifies (served w.answers.hash w.zone) w.zone.apex (second_of at) w.life (keys_by_tag keys publication.SignsZone) asked bytes
+ShowsAnswer w keys at asked bytes =
+    AnswersZone w.sign w.answers.verifies (served w.answers.hash w.zone) w.zone.apex (second_of at) w.life (keys_by_tag keys publication.SignsZone) asked bytes
+    × spelled.GivesAnswer w.answers.verifies 0 (served w.answers.hash w.zone) w.zone.apex (dnskeys (published keys publication.SignsZone)) (second_of at) w.life asked bytes
 
 -- a question that isn't allowed is refused so, and no other
 abbrev pub RefusesAsked : Bool → AnswerFault → Type 0

@@ -117,6 +117,13 @@ impl Name {
         Ok(Some(Name { labels }))
     }
 
+    /// What every name keeps (RFC 1035, 2.3.4), for callers whose proofs need it. It does nothing.
+    pub(crate) fn keeps(&self)
+        ensures { IsName self.now }
+    {
+        let _ = &self.labels;
+    }
+
     /// How many labels the name has, the root's not counted.
     pub fn len(&self) -> usize
         ensures { result ≡ length self.now }

@@ -1,4 +1,6 @@
 //! Questions (RFC 1035, 4.1.2).
+ghost use Rattle.answer.specs.WrittenLaws.{IsQuestion};
+
 use crate::names::Name;
 use crate::plain::{Class, Rtype};
 
@@ -8,4 +10,17 @@ pub struct Question<N = Name> {
     pub name: N,
     pub rtype: Rtype,
     pub class: Class,
+}
+
+impl Question {
+    ghost use Rattle.answer.specs.Questions.{asked_of};
+
+    /// What every question keeps: a name, and numbers that fit their places. It does nothing.
+    pub(crate) fn keeps(&self)
+        ensures { IsQuestion (asked_of self.now) }
+    {
+        self.name.keeps();
+        let _ = self.rtype.to_int();
+        let _ = self.class.to_int();
+    }
 }

@@ -1,6 +1,9 @@
 //! A simulation of a zone's key life: key calls, things shown, and judgements of them.
 ghost use Rattle.std.specs.Prelude.{◌≡◌, ◌⊎◌, ◌<◌, ◌≤◌, ◌^◌, ℕ, All, map, IfOk, IfErr, length};
 ghost use Rattle.answer.specs.Accepting.{IsAccepted, IsFault, sorted_records};
+ghost use Rattle.std.specs.List.{AllByRecursion};
+ghost use Rattle.definitions.specs.Name.{IsName};
+ghost use Rattle.answer.specs.Handed.{IsHanded};
 ghost use Rattle.answer.specs.ZoneView.{mode_of, handed_of};
 ghost use Rattle.answer.specs.Events.{added_octets};
 ghost use Rattle.answer.specs.Simulating.{Sofar, Simulates, begin, world};
@@ -38,6 +41,7 @@ pub fn simulate<S: Scheme, H: Nsec3Hasher>(
     ensures each { IfOk result (λ outcomes. length outcomes.items ≡ length events.now) }
     ensures simulates { IfOk result (λ outcomes. (end : Sofar) × Simulates (world (record { apex = apex; mode = mode_of mode; limit = limit; records = sorted_records (map handed_of records.items) }) life (S.signature_of scheme.now) (S.verifies scheme.now) (S.digest_of scheme.now) (H.hash_of hasher.now)) (begin apex) events.now outcomes.items end) }
     ensures accepted { IfOk result (λ outcomes. IsAccepted apex (mode_of mode) limit (map handed_of records.items)) }
+    ensures handed { IfOk result (λ outcomes. IsName apex × AllByRecursion IsHanded (map handed_of records.items)) }
     ensures fault { IfErr result (λ f. (f ≡ ZoneFault.Memory) ⊎ IsFault apex (mode_of mode) limit (map handed_of records.items) f) }
 {
     let publisher = Publisher::new(alloc, apex, records, mode, scheme, hasher, limit, life)?;

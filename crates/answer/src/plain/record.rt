@@ -105,7 +105,21 @@ pub enum ZoneRecordData {
 }
 
 impl ZoneRecordData {
-    ghost use Rattle.answer.specs.Rdata.{rtype_of, written_of, canonical_of};
+    ghost use Rattle.answer.specs.Rdata.{HasNames, rtype_of, written_of, canonical_of};
+
+    /// What the names in the data keep. It does nothing.
+    pub(crate) fn keeps(&self)
+        ensures { HasNames self.now }
+    {
+        match self {
+            ZoneRecordData::Soa(soa) => {
+                soa.mname.keeps();
+                soa.rname.keeps();
+            },
+            ZoneRecordData::Ns(ns) => ns.nsdname.keeps(),
+            ZoneRecordData::Unknown(_) => {},
+        }
+    }
 
     /// The type of the data.
     pub fn rtype(&self) -> Rtype
@@ -160,6 +174,18 @@ pub struct Record {
 
 impl Record {
     ghost use Rattle.answer.specs.Rdata.{rtype_of};
+    ghost use Rattle.answer.specs.Handed.{IsHanded};
+    ghost use Rattle.answer.specs.ZoneView.{handed_of};
+
+    /// What every record keeps: a name, numbers that fit their places, and data of their type. It does nothing.
+    pub(crate) fn keeps(&self)
+        ensures { IsHanded (handed_of self.now) }
+    {
+        self.owner.keeps();
+        self.rdata.keeps();
+        let _ = self.rdata.rtype().to_int();
+        let _ = self.ttl.as_secs();
+    }
 
     /// Of its parts.
     pub fn new(owner: Name, class: Class, ttl: Ttl, rdata: ZoneRecordData) -> Record

@@ -1,10 +1,14 @@
 //! The publisher.
 ghost use Rattle.std.specs.Prelude.{◌≡◌, ◌⊎◌, ◌<◌, ◌≤◌, ◌^◌, ◌↔◌, [], map, length, string_bytes, IfOk, IfErr, IsErrOf, OnOk, Some, None, false};
-ghost use Rattle.definitions.specs.Name.{low};
+ghost use Rattle.std.specs.List.{AllByRecursion};
+ghost use Rattle.definitions.specs.Name.{IsName, low};
+ghost use Rattle.answer.specs.Handed.{IsHanded};
 ghost use Rattle.answer.specs.Judging.{is_allowed};
 ghost use Rattle.answer.specs.Questions.{asked_of};
 ghost use Rattle.answer.specs.Served.{key_group, ttl_among};
 ghost use Rattle.answer.specs.GroupView.{Presents};
+ghost use Rattle.answer.specs.Given.{GivesAnswer};
+ghost use Rattle.answer.specs.Given as spelled;
 ghost use Rattle.answer.specs.Answering.{AnswersKeys, AnswersZone, RefusesAnswer, RefusesKeys};
 ghost use Rattle.answer.specs.Accepting.{IsAccepted, IsFault, sorted_records};
 ghost use Rattle.answer.specs.ZoneView.{mode_of, handed_of};
@@ -69,6 +73,7 @@ impl<'a, S: Scheme, H: Nsec3Hasher> Publisher<'a, S, H> {
         ensures hasher { IfOk result (λ p. p.hasher.now ≡ hasher.now) }
         ensures life { IfOk result (λ p. p.life ≡ life) }
         ensures accepted { IfOk result (λ p. IsAccepted apex (mode_of mode) limit (map handed_of records.items)) }
+        ensures handed { IfOk result (λ p. IsName apex × AllByRecursion IsHanded (map handed_of records.items)) }
         ensures fault { IfErr result (λ f. (f ≡ ZoneFault.Memory) ⊎ IsFault apex (mode_of mode) limit (map handed_of records.items) f) }
     {
         let Ok(name) = apex.try_clone(alloc) else {
@@ -89,7 +94,9 @@ impl<'a, S: Scheme, H: Nsec3Hasher> Publisher<'a, S, H> {
     pub fn dnskey_answer(&self, now: &UnixTime) -> Result<Vec<u8>, AnswerFault>
         ensures refused { IfErr result (RefusesKeys (S.signature_of self.now.scheme.now) (S.verifies self.now.scheme.now) (served (H.hash_of self.now.hasher.now) self.now.zone) self.now.zone.apex (second_of now.now) self.now.life (dnskeys (published self.now.keys Publication.Present)) (keys_by_tag self.now.keys Publication.SignsKeys)) }
         ensures answer { IfOk result (λ m. AnswersKeys (S.signature_of self.now.scheme.now) (S.verifies self.now.scheme.now) (served (H.hash_of self.now.hasher.now) self.now.zone) self.now.zone.apex (second_of now.now) self.now.life (dnskeys (published self.now.keys Publication.Present)) (keys_by_tag self.now.keys Publication.SignsKeys) m.items) }
+        ensures given { IfOk result (λ m. spelled.GivesKeys (S.verifies self.now.scheme.now) 0 (served (H.hash_of self.now.hasher.now) self.now.zone) self.now.zone.apex (dnskeys (published self.now.keys Publication.Present)) (dnskeys (published self.now.keys Publication.SignsKeys)) (second_of now.now) self.now.life m.items) }
     {
+        self.zone.keeps();
         let keys = self.keys.keys_by_tag(Publication::SignsKeys)?;
         let group = self.dnskey_group()?;
         let question = Question {
@@ -144,7 +151,10 @@ impl<'a, S: Scheme, H: Nsec3Hasher> Publisher<'a, S, H> {
         ensures allowed { IsErrOf result AnswerFault.QuestionNotAllowed ↔ (is_allowed self.now.zone.apex (asked_of question.now) ≡ false) }
         ensures refused { IfErr result (RefusesAnswer (S.signature_of self.now.scheme.now) (S.verifies self.now.scheme.now) (served (H.hash_of self.now.hasher.now) self.now.zone) self.now.zone.apex (second_of now.now) self.now.life (keys_by_tag self.now.keys Publication.SignsZone) (asked_of question.now)) }
         ensures answer { IfOk result (λ m. AnswersZone (S.signature_of self.now.scheme.now) (S.verifies self.now.scheme.now) (served (H.hash_of self.now.hasher.now) self.now.zone) self.now.zone.apex (second_of now.now) self.now.life (keys_by_tag self.now.keys Publication.SignsZone) (asked_of question.now) m.items) }
+        ensures given { IfOk result (λ m. GivesAnswer (S.verifies self.now.scheme.now) 0 (served (H.hash_of self.now.hasher.now) self.now.zone) self.now.zone.apex (dnskeys (published self.now.keys Publication.SignsZone)) (second_of now.now) self.now.life (asked_of question.now) m.items) }
     {
+        self.zone.keeps();
+        question.keeps();
         if !is_allowed(self.zone.apex(), question) {
             return Err(AnswerFault::QuestionNotAllowed);
         }

@@ -1,7 +1,8 @@
 //! Signing RRsets (RFC 4034, 3.1.8.1).
-ghost use Rattle.std.specs.Prelude.{◌≡◌, ◌+◌, ◌%◌, ◌++◌, map, IfOk, OnOk, Err, None};
+ghost use Rattle.std.specs.Prelude.{◌≡◌, ◌+◌, ◌%◌, ◌<◌, ◌++◌, map, IfOk, OnOk, Err, None};
 ghost use Rattle.std.specs.List.{AllZip};
 ghost use Rattle.definitions.specs.Name.{wire};
+ghost use Rattle.definitions.specs.Dnskey.{key_tag};
 ghost use Rattle.definitions.specs.Signing.{signed_octets, signed_owner};
 ghost use Rattle.answer.specs.GroupView.{FailsFor, IsRrsigData, fields_of, octets_of};
 ghost use Rattle.answer.specs.Rrsig.{record_head, with_length};
@@ -136,7 +137,8 @@ fn fields_for<Octs: Octets>(
     group: &RrGroup,
     key: &Dnskey<Octs>,
 ) -> Result<ProtoRrsig, AllocError>
-    ensures { IfOk result (λ f. f ≡ fields_of terms.now.apex.now terms.now.at terms.now.life group.now key.now) }
+    ensures fields { IfOk result (λ f. f ≡ fields_of terms.now.apex.now terms.now.at terms.now.life group.now key.now) }
+    ensures tag { IfOk result (λ _. key_tag key.now < 65536) }
 {
     let signer = terms.apex.try_clone(alloc)?;
     Ok(ProtoRrsig::new(

@@ -1,7 +1,11 @@
 //! A zone's records in canonical order, and the RRsets of its answers. Keys are not known here.
 ghost use Rattle.std.specs.Prelude.{◌≡◌, ◌⊎◌, IfOk, IfErr};
 ghost use Rattle.answer.specs.Accepting.{IsAccepted, IsFault, sorted_records, soas};
-ghost use Rattle.answer.specs.ZoneView.{mode_of, handed_of};
+ghost use Rattle.answer.specs.ZoneView.{IsPublished, mode_of, handed_of};
+ghost use Rattle.answer.specs.Handed.{AreHanded, IsHanded};
+ghost use Rattle.definitions.specs.Name.{IsName};
+ghost use Rattle.definitions.specs.ZoneChain.{Nsec};
+ghost use Rattle.std.specs.List.{AllByRecursion};
 ghost use Rattle.std.specs.Prelude.{length, map, ◌==◌};
 
 use crate::denial::generate::SigningError;
@@ -34,13 +38,14 @@ pub(crate) struct ZoneRecords {
 }
 
 impl Model for ZoneRecords {
+    ghost use Rattle.answer.specs.Handed.{AreHanded};
     ghost use Rattle.answer.specs.ZoneView.{AcceptedZone, IsPublished, mode_of};
 
     ghost Value = { AcceptedZone };
 
     ghost view = { λ z. record { apex = z.apex; mode = mode_of z.mode; limit = z.limit; records = z.records.items } };
 
-    ghost invariant = { λ z. IsPublished z.apex z.records.items };
+    ghost invariant = { λ z. IsPublished z.apex z.records.items × AreHanded z.apex z.records.items };
 }
 
 impl ZoneRecords {
@@ -55,8 +60,10 @@ impl ZoneRecords {
     ) -> Result<ZoneRecords, ZoneFault>
         ensures zone { IfOk result (λ z. z ≡ record { apex = apex; mode = mode_of mode; limit = limit; records = sorted_records (map handed_of records.items) }) }
         ensures accepted { IfOk result (λ z. IsAccepted apex (mode_of mode) limit (map handed_of records.items)) }
+        ensures handed { IfOk result (λ z. IsName apex × AllByRecursion IsHanded (map handed_of records.items)) }
         ensures fault { IfErr result (λ f. (f ≡ ZoneFault.Memory) ⊎ IsFault apex (mode_of mode) limit (map handed_of records.items) f) }
     {
+        apex.keeps();
         match composed(alloc, records) {
             Ok(records) => ZoneRecords::of_handed(alloc, apex, records, mode, limit),
             Err(_) => Err(ZoneFault::Memory),
@@ -71,6 +78,8 @@ impl ZoneRecords {
         mode: Mode,
         limit: u16,
     ) -> Result<ZoneRecords, ZoneFault>
+        requires name { IsName apex }
+        requires handed { AllByRecursion IsHanded records.items }
         ensures zone { IfOk result (λ z. z ≡ record { apex = apex; mode = mode_of mode; limit = limit; records = sorted_records records.items }) }
         ensures accepted { IfOk result (λ z. IsAccepted apex (mode_of mode) limit records.items) }
         ensures fault { IfErr result (λ f. (f ≡ ZoneFault.Memory) ⊎ IsFault apex (mode_of mode) limit records.items f) }
@@ -101,11 +110,21 @@ impl ZoneRecords {
     {
         &self.apex
     }
+
+    /// What every accepted zone keeps. It does nothing.
+    pub fn keeps(&self)
+        ensures published { IsPublished self.now.apex self.now.records }
+        ensures handed { AreHanded self.now.apex self.now.records }
+        ensures mode { self.now.mode ≡ Nsec }
+    {
+        let _ = &self.apex;
+    }
 }
 
 /// The records with their data composed.
 fn composed(alloc: Global, records: Vec<Record>) -> Result<Vec<HandedRecord>, AllocError>
-    ensures { IfOk result (λ v. v.items ≡ map handed_of records.items) }
+    ensures views { IfOk result (λ v. v.items ≡ map handed_of records.items) }
+    ensures handed { IfOk result (λ v. AllByRecursion IsHanded v.items) }
 {
     let mut composed = Vec::with_capacity(alloc, records.len())?;
     for record in records {

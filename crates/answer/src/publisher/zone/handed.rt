@@ -34,12 +34,15 @@ impl Model for HandedRecord {
 }
 
 impl HandedRecord {
+    ghost use Rattle.answer.specs.Handed.{IsHanded};
     ghost use Rattle.answer.specs.ZoneView.{handed_of, is_of};
 
     /// A record with its data composed.
     pub fn new(alloc: Global, given: Record) -> Result<HandedRecord, AllocError>
-        ensures { IfOk result (λ r. r ≡ handed_of given) }
+        ensures view { IfOk result (λ r. r ≡ handed_of given) }
+        ensures handed { IsHanded (handed_of given) }
     {
+        given.keeps();
         let Record {
             owner,
             class,

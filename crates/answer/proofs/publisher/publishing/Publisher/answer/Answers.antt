@@ -1,7 +1,10 @@
 use Rattle.std.proofs.Common.{◌++◌, subst, rules}
 use Rattle.std.specs.Prelude.{IfErr, IfOk}
 use Rattle.answer.specs.Answering.{AnswersZone, RefusesAnswer, ahead_of_records}
-use Rattle.answer.specs.Bindings.{keys_by_tag}
+use Rattle.answer.specs.Bindings.{dnskeys, keys_by_tag, published}
+use Rattle.answer.specs.Given.{GivesAnswer}
+use Rattle.answer.specs.Served.{by_tag}
+use Rattle.answer.proofs.WritesGiven.{answer_given}
 use Rattle.answer.specs.Composed.{IsAnswer, RefusesGroups}
 use Rattle.answer.specs.Publishing.{hash_in, second_of, served}
 use Rattle.answer.specs.Questions.{asked_of}
@@ -36,6 +39,24 @@ returns-clause-answer g c =
       written = subst (λ f. IsAnswer sign verifies z.apex (second_of c.args.now.now) c.args.self.now.life keys f (asked_of c.args.question.now) found.answer.items found.authority.items m.items) made.flags_are w;
     })
     written
+
+pub returns-clause-given : goal.returns-clause-given
+returns-clause-given g c =
+    let z = c.args.self.now.zone in
+    let sign = g.S.Scheme.signature_of c.args.self.now.scheme.now in
+    let verifies = g.S.Scheme.verifies c.args.self.now.scheme.now in
+    let hash = g.H.Nsec3Hasher.hash_of c.args.self.now.hasher.now in
+    let signers = dnskeys (published c.args.self.now.keys SignsZone) in
+    let asked = asked_of c.args.question.now in
+    let at = second_of c.args.now.now in
+    let life = c.args.self.now.life in
+    let plain = allowed_plain z.apex asked (search rules) in
+    if_ok_map
+    (λ m. AnswersZone sign verifies (served hash z) z.apex at life (by_tag signers) asked m.items)
+    (λ m. GivesAnswer verifies 0 (served hash z) z.apex signers at life asked m.items)
+    c.compose_answer.result
+    (λ m w. answer_given sign verifies hash z at life signers asked m.items c.keeps.ensures.published c.keeps.ensures.handed c.keeps.ensures.mode c.keeps-2.ensures plain w)
+    (returns-clause-answer g c)
 
 pub returns-clause-refused : goal.returns-clause-refused
 returns-clause-refused g c =

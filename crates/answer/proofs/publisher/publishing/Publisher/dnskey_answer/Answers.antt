@@ -1,12 +1,35 @@
 use Rattle.std.proofs.Common.{[], ◌∷◌, rules}
-use Rattle.std.specs.Prelude.{IfErr}
+use Rattle.std.specs.Prelude.{IfErr, IfOk}
 use Rattle.answer.specs.Answering.{RefusesKeys, ahead_of_records}
 use Rattle.answer.specs.Bindings.{dnskeys, keys_by_tag, published}
-use Rattle.answer.specs.Composed.{RefusesGroups}
+use Rattle.answer.specs.Composed.{IsAnswer, RefusesGroups}
+use Rattle.answer.specs.Given.{GivesKeys}
+use Rattle.answer.specs.Served.{by_tag}
+use Rattle.answer.proofs.WritesGiven.{keys_given}
+use Rattle.answer.proofs.ZoneData.{if_ok_map}
 use Rattle.answer.specs.Publishing.{second_of, served}
 use Rattle.answer.specs.declared.publisher.keys.Publication.TheVariants.{Present, SignsKeys}
 use Rattle.answer.proofs.Refusals.{if_err_map, keys_refused}
 use Rattle.answer.proofs.publisher.publishing.Publisher.dnskey_answer.Goals as goal
+
+pub returns-clause-given : goal.returns-clause-given
+returns-clause-given g c =
+    let z = c.args.self.now.zone in
+    let sign = g.S.Scheme.signature_of c.args.self.now.scheme.now in
+    let verifies = g.S.Scheme.verifies c.args.self.now.scheme.now in
+    let hash = g.H.Nsec3Hasher.hash_of c.args.self.now.hasher.now in
+    let present = dnskeys (published c.args.self.now.keys Present) in
+    let signers = dnskeys (published c.args.self.now.keys SignsKeys) in
+    let at = second_of c.args.now.now in
+    let life = c.args.self.now.life in
+    let group = c.in_ok-group.group in
+    let written : IfOk c.compose_answer.result (λ m. IsAnswer sign verifies z.apex at life (by_tag signers) 33792 (record { name = z.apex; rtype = 48; class = 1 }) (group ∷ []) [] m.items) = search rules in
+    if_ok_map
+    (λ m. IsAnswer sign verifies z.apex at life (by_tag signers) 33792 (record { name = z.apex; rtype = 48; class = 1 }) (group ∷ []) [] m.items)
+    (λ m. GivesKeys verifies 0 (served hash z) z.apex present signers at life m.items)
+    c.compose_answer.result
+    (λ m w. keys_given sign verifies hash z at life present signers m.items c.keeps.ensures.handed (record { group = group; presents = c.in_ok-group.ensures.presents; written = w }))
+    written
 
 pub returns-clause-refused : goal.returns-clause-refused
 returns-clause-refused g c =

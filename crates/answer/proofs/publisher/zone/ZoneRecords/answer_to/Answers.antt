@@ -8,7 +8,7 @@ use Rattle.answer.proofs.ZoneData.{if_ok_map}
 use Rattle.answer.proofs.publisher.zone.ZoneRecords.answer_to.Goals as goal
 
 pub nsec_answer-requires-clause-published : goal.nsec_answer-requires-clause-published
-nsec_answer-requires-clause-published c = rw (← c.self.view_is) c.self.invariant
+nsec_answer-requires-clause-published c = rw (← c.self.view_is) c.self.invariant.0
 
 pub returns : goal.returns
 returns c =

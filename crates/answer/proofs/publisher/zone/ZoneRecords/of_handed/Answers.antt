@@ -1,7 +1,9 @@
 use Rattle.std.proofs.Common.{◌≡◌, None, sym, ◌∙◌, inr, ap, length}
-use Rattle.answer.specs.Accepting.{first_fault, unlike_ttls, soas}
+use Rattle.answer.specs.Accepting.{first_fault, record_cmp, unlike_ttls, soas}
+use Rattle.answer.specs.Handed.{IsHanded}
 use Rattle.answer.specs.ZoneView.{mode_of, neighbours}
 use Rattle.definitions.specs.ZoneChain.{optout_of}
+use Rattle.answer.proofs.ZoneLists.{all_sorted}
 use Rattle.answer.proofs.ZoneFaults.{plain_from_none, unlike_ttls_are}
 use Rattle.answer.proofs.publisher.zone.ZoneRecords.of_handed.Goals as goal
 
@@ -17,7 +19,8 @@ pub invariant_of-result : goal.invariant_of-result
 invariant_of-result c =
     let none : first_fault c.args.apex (mode_of c.args.mode) c.args.limit c.args.records.items ≡ None = cc in
     let plain = rw (← c.in-Ok.ensures.items) at (plain_from_none c.args.apex (mode_of c.args.mode) c.args.limit c.args.records.items none) in
-    record { rising = c.in-Ok.ensures.rising; inside = plain.inside; plain = plain.plain; soa = cc }
+    let all = rw (← c.in-Ok.ensures.items) at (all_sorted IsHanded record_cmp c.args.records.items c.requires.handed) in
+    (record { rising = c.in-Ok.ensures.rising; inside = plain.inside; plain = plain.plain; soa = cc }, record { apex_is = c.requires.name; records_are = all; known = plain.known })
 
 pub returns-clause-accepted : goal.returns-clause-accepted
 returns-clause-accepted c =

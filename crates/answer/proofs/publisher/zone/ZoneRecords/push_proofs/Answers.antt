@@ -77,7 +77,7 @@ returns c =
     let items : c.deref-record-items.result.now ≡ rs = c.deref-record-items.ensures.value ∙ ap (λ z. z.records) c.self.view_is in
     let all : length rs ≤ i = subst (λ xs. length xs ≤ i) items c.loop-record-test.false in
     let new = c.push_link-2.new.groups.items in
-    let published : IsPublished apex rs = rw (← c.self.view_is) c.self.invariant in
+    let published : IsPublished apex rs = rw (← c.self.view_is) c.self.invariant.0 in
     on_ok_weaker c.push_link-2.result
     (λ a hash. subst (Adds old new) (sym (proofs_are apex hash rs published qs)) (passed_all apex rs qs old mid new o i all c.loop-record.invariant.passed
     (subst (λ m. Adds mid new (chosen apex rs qs (low o) (low m))) (ap (λ z. z.apex) c.self.view_is) a)))

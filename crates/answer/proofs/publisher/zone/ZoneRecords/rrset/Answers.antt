@@ -10,7 +10,7 @@ returns c =
     let o = c.args.owner in
     let t = c.args.rtype in
     let items : c.deref.result.now ≡ rs = c.deref.ensures.value ∙ ap (λ z. z.records) c.self.view_is in
-    let published : IsPublished apex rs = rw (← c.self.view_is) c.self.invariant in
+    let published : IsPublished apex rs = rw (← c.self.view_is) c.self.invariant.0 in
     record {
       owner_is = c.new.ensures.owner;
       labels_are = c.new.ensures.label_count ∙ c.rrsig_label_count-count.ensures ∙ sym (label_count-low o);

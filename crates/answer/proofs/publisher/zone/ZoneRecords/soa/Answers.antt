@@ -17,7 +17,7 @@ returns c =
     let rs = c.args.self.now.records in
     let items : c.deref.result.now ≡ rs = c.deref.ensures.value ∙ ap (λ z. z.records) c.self.view_is in
     let name : c.self.inside.apex ≡ apex = ap (λ z. z.apex) c.self.view_is in
-    let published : IsPublished apex rs = rw (← c.self.view_is) c.self.invariant in
+    let published : IsPublished apex rs = rw (← c.self.view_is) c.self.invariant.0 in
     let there : c.match-owner_among.owner.now ≡ owner_among rs (low apex) 6 = elim c.match-owner_among.branch [
       | in-Some w ↦ ap (λ o. o.now) w.owner-is ∙ w.in-Some.ensures.some ∙ ap (λ xs. owner_among xs (low c.self.inside.apex) 6) items ∙ ap (λ n. owner_among rs (low n) 6) name
       | in-None w ↦ absurd (soa_there apex rs published.soa (sym (ap (λ xs. list_any (is_of c.self.inside.apex 6) xs) items ∙ ap (λ n. list_any (is_of n 6) rs) name) ∙ w.in-None.ensures.none refl))

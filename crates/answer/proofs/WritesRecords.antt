@@ -1,0 +1,103 @@
+-- An RRset that is written in a message, with its signatures behind it, reads back.
+use Rattle.std.proofs.Common.{◌≡◌, ℕ, ◌+◌, ◌<◌, Bool, List, [], ◌∷◌, ◌++◌, length, map, Option, Some, refl, subst, ap, ◌∙◌, append_assoc, lit<}
+use Rattle.std.specs.List.{AllZip, flat_map}
+use Rattle.std.specs.Int.{w16, w32, to_be_bytes}
+use Rattle.std.proofs.Math.Nat.{mod-lt}
+use Rattle.definitions.specs.Name.{Name, IsName, wire, low}
+use Rattle.definitions.specs.Dnskey.{Dnskey, key_tag}
+use Rattle.definitions.specs.Signing.{Fields, canonical_record, label_count, signed_octets, signed_owner}
+use Rattle.answer.specs.Message.{Spelled, canonical_data}
+use Rattle.answer.specs.Served.{Group}
+use Rattle.answer.specs.Given.{AreRecords, AreSignatures, IsSignature}
+use Rattle.answer.specs.GroupView.{GroupView, IsRrsigData, fields_of}
+use Rattle.answer.specs.Composed.{record_of}
+use Rattle.answer.specs.Written.{Written, record_octets}
+use Rattle.answer.specs.WrittenLaws.{AreFields, spelled_at, spelled_from}
+use Rattle.answer.proofs.MessageSignatures.{signature_here}
+use Rattle.answer.proofs.MessageWritten.{StandsAt, moved, data_behind, end_of, next_behind}
+use Rattle.answer.proofs.ZoneNames.{low-low}
+
+-- data of a type, as written, read as canonical data wherever they stand
+abbrev pub ReadsAs : ℕ → List ℕ → List ℕ → Type 0
+ReadsAs t written d = (m rest : List ℕ) (r : Spelled) → r.rtype ≡ t → StandsAt m r.start (written ++ rest) → r.length ≡ length written → canonical_data 0 m r ≡ Some d
+
+-- an RRset as it is written
+abbrev pub view_of : Group → GroupView
+view_of g = record { owner = g.owner; labels = label_count g.source; rtype = g.rtype; ttl = g.ttl; written = g.written; canonical = g.datas; signed = g.signed }
+
+pub first_stands : (m : List ℕ) (p : ℕ) (r : Written) (rs : List Written) (rest : List ℕ) → StandsAt m p (flat_map record_octets (r ∷ rs) ++ rest) → StandsAt m p (record_octets r ++ (flat_map record_octets rs ++ rest))
+first_stands m p r rs rest s = moved m p _ _ (append_assoc (record_octets r) (flat_map record_octets rs) rest) s
+
+pub rest_stands : (m : List ℕ) (p : ℕ) (r : Written) (rs : List Written) (rest : List ℕ) → StandsAt m p (flat_map record_octets (r ∷ rs) ++ rest) → StandsAt m (end_of p r) (flat_map record_octets rs ++ rest)
+rest_stands m p r rs rest s = next_behind m p r (flat_map record_octets rs ++ rest) (first_stands m p r rs rest s)
+
+-- the records of an RRset
+pub own_records : (m : List ℕ) (p : ℕ) (g : Group) (ws ds : List (List ℕ)) (rest : List ℕ) → AllZip (ReadsAs g.rtype) ws ds → StandsAt m p (flat_map record_octets (map (record_of (view_of g) g.rtype) ws) ++ rest)
+    → AreRecords 0 m (spelled_from p (map (record_of (view_of g) g.rtype) ws)) g ds
+own_records m p g [] [] rest h s = tt
+own_records m p g [] (d ∷ ds) rest h s = absurd h
+own_records m p g (w ∷ ws) [] rest h s = absurd h
+own_records m p g (w ∷ ws) (d ∷ ds) rest h s =
+    let r : Written = record_of (view_of g) g.rtype w in
+    let rs : List Written = map (record_of (view_of g) g.rtype) ws in
+    let others = flat_map record_octets rs ++ rest in
+    let t = first_stands m p r rs rest s in (
+      record {
+        owner_is = refl;
+        type_is = refl;
+        class_is = refl;
+        ttl_is = refl;
+        data_is = h.0 m others (spelled_at p r) refl (data_behind m p r others t) refl;
+      },
+      own_records m (end_of p r) g ws ds rest h.1 (rest_stands m p r rs rest s),
+    )
+
+-- fields that fit their places
+are_fields : (apex : Name) (at life : ℕ) (g : GroupView) (key : Dnskey) → IsName apex → g.rtype < 65536 → g.ttl < 4294967296 → key_tag key < 65536 → AreFields (fields_of apex at life g key)
+are_fields apex at life g key name t ttl tag = record {
+  covered = t;
+  ttl = ttl;
+  expiration = mod-lt (at + life) (lit< tt);
+  inception = mod-lt at (lit< tt);
+  tag = tag;
+  signer = name;
+}
+
+-- signed octets have the signer lowered
+lowered_signer : (f : Fields) (owner : Name) (ds : List (List ℕ)) → signed_octets (record f { signer = low f.signer }) owner 1 ds ≡ signed_octets f owner 1 ds
+lowered_signer f owner ds =
+    ap
+    (λ n. (to_be_bytes w16 f.covered ++ f.algorithm ∷ f.labels ∷ to_be_bytes w32 f.ttl ++ to_be_bytes w32 f.expiration ++ to_be_bytes w32 f.inception ++ to_be_bytes w16 f.tag ++ wire n) ++ flat_map (canonical_record (signed_owner f.labels owner) f.covered 1 f.ttl) ds)
+    (low-low f.signer)
+
+pub its_signature : (sign : Dnskey → List ℕ → Option (List ℕ)) (verifies : Dnskey → List ℕ → List ℕ → Bool) (m : List ℕ) (p : ℕ) (apex : Name) (at life : ℕ) (g : Group) (key : Dnskey) (d rest : List ℕ)
+    → IsName apex → g.rtype < 65536 → g.ttl < 4294967296 → IsRrsigData sign verifies apex at life (view_of g) key d → StandsAt m p (record_octets (record_of (view_of g) 46 d) ++ rest)
+    → IsSignature verifies 0 m (spelled_at p (record_of (view_of g) 46 d)) apex at life g key
+its_signature sign verifies m p apex at life g key d rest name t ttl made s =
+    let f : Fields = fields_of apex at life (view_of g) key in
+    let r : Written = record_of (view_of g) 46 d in
+    let stands = subst (λ x. StandsAt m (spelled_at p r).start (x ++ rest)) made.data_is (data_behind m p r rest s) in
+    record {
+      signature = made.signature;
+      owner_is = refl;
+      type_is = refl;
+      class_is = refl;
+      ttl_is = refl;
+      fields_are = signature_here m f made.signature rest (spelled_at p r) (are_fields apex at life (view_of g) key name t ttl made.tag_fits) stands (ap length made.data_is);
+      passes = ap (λ x. verifies key x made.signature) (lowered_signer f g.owner g.datas) ∙ made.passes;
+    }
+
+-- the signatures of an RRset
+pub its_signatures : (sign : Dnskey → List ℕ → Option (List ℕ)) (verifies : Dnskey → List ℕ → List ℕ → Bool) (m : List ℕ) (p : ℕ) (apex : Name) (at life : ℕ) (g : Group) (keys : List Dnskey) (ds : List (List ℕ)) (rest : List ℕ)
+    → IsName apex → g.rtype < 65536 → g.ttl < 4294967296 → AllZip (IsRrsigData sign verifies apex at life (view_of g)) keys ds → StandsAt m p (flat_map record_octets (map (record_of (view_of g) 46) ds) ++ rest)
+    → AreSignatures verifies 0 m (spelled_from p (map (record_of (view_of g) 46) ds)) apex at life g keys
+its_signatures sign verifies m p apex at life g [] [] rest name t ttl made s = tt
+its_signatures sign verifies m p apex at life g [] (d ∷ ds) rest name t ttl made s = absurd made
+its_signatures sign verifies m p apex at life g (key ∷ keys) [] rest name t ttl made s = absurd made
+its_signatures sign verifies m p apex at life g (key ∷ keys) (d ∷ ds) rest name t ttl made s =
+    let r : Written = record_of (view_of g) 46 d in
+    let rs : List Written = map (record_of (view_of g) 46) ds in
+    let others = flat_map record_octets rs ++ rest in (
+      its_signature sign verifies m p apex at life g key d others name t ttl made.0 (first_stands m p r rs rest s),
+      its_signatures sign verifies m (end_of p r) apex at life g keys ds rest name t ttl made.1 (rest_stands m p r rs rest s),
+    )
