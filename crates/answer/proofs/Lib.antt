@@ -46,6 +46,7 @@ pub mod DenialPairs
 pub mod DenialDecided
 pub mod AnswerRrsets
 pub mod DenialNames
+pub mod DenialNoName
 pub mod GivenOwners
 pub mod GivenLists
 pub mod GivenRecords
