@@ -14,6 +14,7 @@ pub mod NameLabels
 pub mod NameLaws
 pub mod JudgeRecords
 pub mod JudgeGroups
+pub mod JudgeCase
 pub mod JudgeClosest
 pub mod NameWalk
 pub mod NameWritten
