@@ -15,6 +15,8 @@ pub mod NameLaws
 pub mod JudgeRecords
 pub mod JudgeGroups
 pub mod JudgeCase
+pub mod JudgeMarks
+pub mod JudgeTried
 pub mod JudgeClosest
 pub mod NameWalk
 pub mod NameWritten
