@@ -17,7 +17,7 @@ item_one [] i x y h e d = absurd (omega arith)
 item_one (a ∷ xs) zero x y h e d = e ∙ sym d
 item_one (a ∷ xs) (suc i) x y h e d = item_one xs i x y (omega arith) e d
 
-or_true : (a b : Bool) → b ≡ true → (a || b) ≡ true
+pub or_true : (a b : Bool) → b ≡ true → (a || b) ≡ true
 or_true true b h = refl
 or_true false b h = h
 
@@ -46,7 +46,7 @@ unmarked p b f (g ∷ gs) h =
     let rest = unmarked p b f gs o.1 in
     (λ i. one i ∷ rest i)
 
-none_like : (p q : Group → Bool) → ((g : Group) → p g ≡ true → q g ≡ true) → (gs : List Group) → list_any q gs ≡ false → list_any p gs ≡ false
+pub none_like : (p q : Group → Bool) → ((g : Group) → p g ≡ true → q g ≡ true) → (gs : List Group) → list_any q gs ≡ false → list_any p gs ≡ false
 none_like p q f [] h = refl
 none_like p q f (g ∷ gs) h =
     let o = or_parts (q g) (list_any q gs) h in

@@ -33,7 +33,7 @@ gate_shut : (b : Bool) → elim b as (λ _. Bool) [ false ↦ false | true ↦ f
 gate_shut true = refl
 gate_shut false = refl
 
-eq_swap : (a b : ℕ) → (a == b) ≡ (b == a)
+pub eq_swap : (a b : ℕ) → (a == b) ≡ (b == a)
 eq_swap a b = both_ways (a == b) (b == a) (λ h. eq-eqb b a (sym (eqb-true a b h))) (λ h. eq-eqb a b (sym (eqb-true b a h)))
 
 -- what a record says of data

@@ -17,6 +17,8 @@ pub mod JudgeGroups
 pub mod JudgeCase
 pub mod JudgeMarks
 pub mod JudgeTried
+pub mod JudgeGathered
+pub mod JudgeFacts
 pub mod JudgeClosest
 pub mod NameWalk
 pub mod NameWritten
