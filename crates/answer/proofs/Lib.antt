@@ -19,6 +19,7 @@ pub mod JudgeMarks
 pub mod JudgeTried
 pub mod JudgeGathered
 pub mod JudgeFacts
+pub mod JudgeWhole
 pub mod JudgeClosest
 pub mod NameWalk
 pub mod NameWritten

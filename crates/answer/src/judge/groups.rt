@@ -40,21 +40,6 @@ pub(crate) struct Trust<'a> {
 }
 
 impl Group {
-    /// An RRset with no data yet.
-    pub(crate) fn new(alloc: Global, owner: Name, rtype: Rtype) -> Self
-        ensures owner { result.owner ≡ owner }
-        ensures rtype { result.rtype ≡ rtype }
-        ensures items { result.items.items ≡ [] }
-        ensures unverified { result.verified ≡ false }
-    {
-        Group {
-            owner,
-            rtype,
-            items: Vec::new(alloc),
-            verified: false,
-        }
-    }
-
     /// Whether the group has a type and an owner, up to case.
     pub(crate) fn is_of(&self, owner: &ParsedName, rtype: Rtype) -> bool
         ensures { result ≡ ((self.now.rtype == rtype) && same owner.now self.now.owner) }

@@ -9,7 +9,10 @@ use Rattle.answer.proofs.judge.facts.read_facts.Goals as goal
 pub verify_groups-requires-clause-apart : goal.verify_groups-requires-clause-apart
 verify_groups-requires-clause-apart g c =
     let rs = map spelled c.args.records.now in
-    asked_apart c.args.message.now c.args.trust.now.apex.now rs rs c.in_ok-groups.groups.items c.in_ok-read_group.field-0 c.deref_mut.result.now c.in_ok-groups.ensures (ap (λ t. t == 47) c.in_ok-read_group.ensures.rtype ∙ c.requires.other) (c.deref_mut.ensures.value ∙ c.in_ok-push.ensures.items)
+    let pushed : c.push.new.self.items ≡ c.in_ok-groups.groups.items ++ c.in_ok-read_group.field-0 ∷ [] = c.in_ok-push.ensures.items in
+    let new : c.deref_mut.result.now ≡ c.in_ok-groups.groups.items ++ c.in_ok-read_group.field-0 ∷ [] = c.deref_mut.ensures.value ∙ pushed in
+    let other : (c.in_ok-read_group.field-0.rtype == 47) ≡ false = ap (λ t. t == 47) c.in_ok-read_group.ensures.rtype ∙ c.requires.other in
+    asked_apart c.args.message.now c.args.trust.now.apex.now rs rs c.in_ok-groups.groups.items c.in_ok-read_group.field-0 c.deref_mut.result.now c.in_ok-groups.ensures other new
 
 pub returns-clause-answer : goal.returns-clause-answer
 returns-clause-answer g c =
