@@ -1,6 +1,6 @@
 -- What signatures verify of an RRset does not depend on the case of its owner, nor of the signer.
-use Rattle.std.proofs.Common.{◌≡◌, ℕ, ◌-◌, Bool, true, false, ◌&&◌, not, ◌==◌, List, ◌∷◌, [], ◌++◌, length, drop, map, refl, sym, ap, ◌∙◌}
-use Rattle.std.specs.Prelude.{Option, Some, None, nat_lt, if◌then◌else◌}
+use Rattle.std.proofs.Common.{◌≡◌, ℕ, ◌-◌, Bool, true, false, ◌&&◌, not, ◌==◌, List, ◌∷◌, [], ◌++◌, length, drop, sym, ap, ◌∙◌}
+use Rattle.std.specs.Prelude.{Some, None, nat_lt, if◌then◌else◌}
 use Rattle.std.specs.List.{find, filter_map, list_any, flat_map}
 use Rattle.std.specs.Int.{w16, w32, to_be_bytes}
 use Rattle.std.specs.Str.{str_to_ascii_lowercase}
@@ -15,7 +15,7 @@ use Rattle.answer.specs.Message.{Spelled, canonical_data, rrsig_at}
 use Rattle.answer.specs.Record.{fields_of}
 use Rattle.answer.specs.Verified.{Trusting, datum_of, rrset_in, verifies_with, is_verified}
 use Rattle.answer.specs.declared.message.rdata.RrsigView.{RrsigView}
-use Rattle.answer.proofs.ZoneNames.{same_labels, low-low, at_or_above-low}
+use Rattle.answer.proofs.ZoneNames.{low-low, at_or_above-low}
 use Rattle.answer.proofs.ZoneData.{label_count-low}
 
 pub same-owner : (r a b : Name) → low a ≡ low b → same r a ≡ same r b
@@ -69,5 +69,5 @@ pub signs-signer : (v : Answers) (apex : Name) (keys : List Dnskey) (now : ℕ) 
 signs-signer v apex keys now owner items s sig =
     let d : is_due apex now owner (fields_of s) ≡ is_due apex now owner (fields_read s) = ap (λ n. (s.labels == label_count owner) && in_time (fields_read s) now && labels_eq n (low apex)) (low-low s.signer) in
     let o : signed_octets (fields_of s) owner 1 items ≡ signed_octets (fields_read s) owner 1 items =
-      ap (λ (n : Name). (to_be_bytes w16 s.type_covered ++ s.algorithm ∷ s.labels ∷ to_be_bytes w32 s.original_ttl ++ to_be_bytes w32 s.expiration ++ to_be_bytes w32 s.inception ++ to_be_bytes w16 s.key_tag ++ wire n) ++ flat_map (canonical_record (signed_owner s.labels owner) s.type_covered 1 s.original_ttl) items) (low-low s.signer) in
+    ap (λ (n : Name). (to_be_bytes w16 s.type_covered ++ s.algorithm ∷ s.labels ∷ to_be_bytes w32 s.original_ttl ++ to_be_bytes w32 s.expiration ++ to_be_bytes w32 s.inception ++ to_be_bytes w16 s.key_tag ++ wire n) ++ flat_map (canonical_record (signed_owner s.labels owner) s.type_covered 1 s.original_ttl) items) (low-low s.signer) in
     (λ i. elim (not (length items == 0) && d i) [ false ↦ false | true ↦ elim (find (fits_key (fields_read s)) keys) [ None ↦ false | Some k ↦ v.verifies k (o i) sig ] ])

@@ -1,20 +1,19 @@
 -- What signatures verify of an answer.
-use Rattle.std.proofs.Common.{◌≡◌, ℕ, zero, suc, ◌+◌, ◌-◌, ◌<◌, Bool, true, false, ◌&&◌, ◌||◌, ◌==◌, List, [], ◌∷◌, ◌++◌, map, take, drop, get_or, length, refl, sym, ap, ◌∙◌, arith}
+use Rattle.std.proofs.Common.{◌≡◌, ℕ, suc, ◌-◌, Bool, true, false, ◌&&◌, ◌||◌, ◌==◌, List, [], ◌∷◌, ◌++◌, map, take, drop, get_or, length, refl, sym, ap, ◌∙◌, arith}
 use Rattle.std.specs.Prelude.{Option, Some, None}
 use Rattle.std.specs.List.{list_any, filter_map, cons_option, AllByRecursion}
-use Rattle.std.proofs.lemmas.Bool.{and_parts, false≢true}
-use Rattle.std.proofs.lemmas.List.{map-append}
+use Rattle.std.proofs.lemmas.Bool.{and_parts}
 use Rattle.definitions.proofs.Members.{both_ways}
 use Rattle.definitions.specs.Name.{Name, low, same, at_or_above}
 use Rattle.answer.specs.declared.judge.groups.Group.{Group}
 use Rattle.answer.specs.Facts.{Link}
 use Rattle.answer.specs.Message.{Spelled, if_true}
-use Rattle.answer.specs.Verified.{Trusting, rrset_in, is_verified, verified_rrset, is_link, link_of, link_at, verified_links}
+use Rattle.answer.specs.Verified.{Trusting, rrset_in, is_verified, verified_rrset, link_of, link_at, verified_links}
 use Rattle.answer.specs.Marked.{data_in, has_owner, is_proved, is_like, are_apart, is_nsec, stands_alone, marked, IsAlone, IsGathered, AreGathered, link_by, data_verified}
 use Rattle.answer.proofs.ZoneNames.{same_labels}
-use Rattle.answer.proofs.ZoneLists.{Has, found, any_from, all_at, list_any-map}
+use Rattle.answer.proofs.ZoneLists.{found, any_from, all_at, list_any-map}
 use Rattle.answer.proofs.JudgeCase.{above-owner, rrset_in-owner, is_verified-owner}
-use Rattle.answer.proofs.JudgeGathered.{apart_push, same_swap}
+use Rattle.answer.proofs.JudgeGathered.{apart_push}
 use Rattle.answer.proofs.JudgeTried.{eq_swap}
 
 -- ---- the groups
@@ -91,8 +90,8 @@ under_test false x y f = refl
 link_same : (w : Trusting) (m : List ℕ) (rs : List Spelled) (gs : List Group) (r : Spelled) → AllByRecursion (IsAlone m w.apex rs) gs → IsGathered m w.apex rs gs r → link_by m (map (marked w m rs) gs) r ≡ link_at w 0 m rs r
 link_same w m rs gs r each has =
     let any : is_nsec r ≡ true → list_any (is_proved r.owner) (map (marked w m rs) gs) ≡ (stands_alone m w.apex rs r.owner && is_verified w 0 m rs r.owner 47 (rrset_in 0 m rs r.owner 47)) =
-      λ n. list_any-map (is_proved r.owner) (marked w m rs) gs
-      ∙ both_ways _ _ (proved_of w m rs w.apex gs r.owner each) (proved_by w m rs w.apex gs r.owner each (has n)) in
+    λ n. list_any-map (is_proved r.owner) (marked w m rs) gs
+    ∙ both_ways _ _ (proved_of w m rs w.apex gs r.owner each) (proved_by w m rs w.apex gs r.owner each (has n)) in
     let test = under_test (is_nsec r) _ _ any ∙ and_regroup (r.rtype == 47) (r.class == 1) (at_or_above w.apex r.owner) (length (rrset_in 0 m rs r.owner 47) == 1) (is_verified w 0 m rs r.owner 47 (rrset_in 0 m rs r.owner 47)) in
     ap (λ (b : Bool). elim b as (λ _. Option Link) [ true ↦ link_of 0 m r | false ↦ None ]) test
 

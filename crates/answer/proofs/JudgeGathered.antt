@@ -1,5 +1,5 @@
 -- NSEC RRsets that are gathered record by record.
-use Rattle.std.proofs.Common.{◌≡◌, ℕ, zero, suc, ◌+◌, ◌<◌, Bool, true, false, ◌&&◌, ◌||◌, ◌==◌, not, List, [], ◌∷◌, ◌++◌, map, take, length, get_or, refl, sym, ap, subst, ◌∙◌}
+use Rattle.std.proofs.Common.{◌≡◌, ℕ, ◌+◌, ◌<◌, Bool, true, false, ◌&&◌, ◌||◌, ◌==◌, not, List, [], ◌∷◌, ◌++◌, map, take, length, get_or, refl, sym, ap, subst, ◌∙◌}
 use Rattle.std.specs.List.{list_any, AllByRecursion}
 use Rattle.std.proofs.lemmas.Bool.{or_parts, and_parts, not-true, false≢true}
 use Rattle.std.proofs.lemmas.List.{map-append}
@@ -8,7 +8,7 @@ use Rattle.answer.specs.declared.judge.groups.Group.{Group}
 use Rattle.answer.specs.declared.message.view.ViewRecord.{ViewRecord}
 use Rattle.answer.specs.Message.{Spelled}
 use Rattle.answer.specs.Record.{spelled}
-use Rattle.answer.specs.Marked.{has_owner, is_like, are_apart, is_nsec, stands_alone, IsAlone, IsGathered, AreGathered}
+use Rattle.answer.specs.Marked.{has_owner, is_like, are_apart, IsAlone, IsGathered, AreGathered}
 use Rattle.answer.proofs.ZoneNames.{same_labels, labels_eq-same}
 use Rattle.answer.proofs.ZoneLists.{all_more, take_next}
 use Rattle.answer.proofs.JudgeMarks.{or_true, none_like}

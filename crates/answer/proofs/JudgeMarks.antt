@@ -1,14 +1,11 @@
 -- RRsets that records verify, one record after another.
-use Rattle.std.proofs.Common.{◌≡◌, ℕ, zero, suc, ◌+◌, ◌<◌, Bool, true, false, ◌&&◌, ◌||◌, ◌==◌, not, List, [], ◌∷◌, map, length, get_or, set, refl, sym, ap, ◌∙◌, arith, drop}
-use Rattle.std.specs.Prelude.{Option, Some, None}
+use Rattle.std.proofs.Common.{◌≡◌, ℕ, zero, suc, ◌<◌, Bool, true, false, ◌&&◌, ◌||◌, not, List, [], ◌∷◌, map, length, get_or, set, refl, sym, ap, ◌∙◌, arith}
 use Rattle.std.specs.List.{list_any}
 use Rattle.std.proofs.lemmas.Bool.{or_parts, and_parts, not-true, false≢true}
-use Rattle.std.proofs.lemmas.Option.{slice_get_read}
-use Rattle.definitions.specs.Name.{Name, same}
 use Rattle.answer.specs.declared.judge.groups.Group.{Group}
 use Rattle.answer.specs.Message.{Spelled}
 use Rattle.answer.specs.Verified.{Trusting, is_verified, verifies_with}
-use Rattle.answer.specs.Marked.{data_in, is_of, is_like, are_apart, marked_if, marked}
+use Rattle.answer.specs.Marked.{data_in, is_like, are_apart, marked_if, marked}
 use Rattle.answer.proofs.ZoneLists.{list_any-map}
 
 -- the item at a place

@@ -1,8 +1,8 @@
 -- One signature record and the RRsets that it may verify.
-use Rattle.std.proofs.Common.{◌≡◌, ℕ, zero, suc, Bool, true, false, ◌&&◌, ◌||◌, ◌==◌, List, [], ◌∷◌, map, length, get_or, set, ◌+◌, ◌<◌, ◌≤◌, drop, cond, refl, sym, ap, ◌∙◌}
+use Rattle.std.proofs.Common.{◌≡◌, ℕ, suc, Bool, true, false, ◌&&◌, ◌||◌, ◌==◌, List, [], ◌∷◌, map, length, get_or, set, ◌+◌, ◌<◌, ◌≤◌, drop, cond, refl, sym, ap, ◌∙◌}
 use Rattle.std.specs.Prelude.{Option, Some, None}
 use Rattle.std.specs.List.{list_any, filter}
-use Rattle.std.proofs.lemmas.Bool.{and_parts, eq-eqb, eqb-true, false≢true}
+use Rattle.std.proofs.lemmas.Bool.{and_parts, eq-eqb, eqb-true}
 use Rattle.definitions.proofs.Members.{both_ways}
 use Rattle.definitions.specs.Name.{Name, low, same}
 use Rattle.definitions.specs.Signing.{Fields}
@@ -15,7 +15,7 @@ use Rattle.answer.proofs.ZoneLists.{items_from}
 use Rattle.answer.specs.declared.message.rdata.RrsigView.{RrsigView}
 use Rattle.answer.proofs.JudgeCase.{signs-signer}
 use Rattle.answer.specs.Message.{Spelled, rrsig_at}
-use Rattle.answer.specs.Verified.{Trusting, is_verified, verifies_with}
+use Rattle.answer.specs.Verified.{Trusting, is_verified}
 use Rattle.answer.specs.Marked.{data_in, is_of, is_like, are_apart, marked_if, marked}
 use Rattle.answer.proofs.ZoneNames.{same_labels, labels_eq-same}
 use Rattle.answer.proofs.JudgeMarks.{or_no, unmarked, unmarked_by, marked_at, marked_next, marked_done, marked_apart}

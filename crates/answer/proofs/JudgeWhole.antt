@@ -1,9 +1,7 @@
 -- What a judge says, from what it read and verified.
-use Rattle.std.proofs.Common.{◌≡◌, ℕ, Bool, true, false, not, ◌&&◌, ◌==◌, List, map, filter, length, inl, inr, refl, sym, ap, subst, ◌∙◌}
+use Rattle.std.proofs.Common.{◌≡◌, ℕ, Bool, true, false, not, ◌&&◌, List, map, filter, length, inr, sym, ap, subst, ◌∙◌}
 use Rattle.std.specs.Prelude.{Option, Some, None, Result, Ok, Err, nat_eq, if◌then◌else◌}
 use Rattle.std.specs.Option.{option_map, ok_or}
-use Rattle.std.proofs.lemmas.Bool.{false≢true}
-use Rattle.definitions.specs.Name.{Name}
 use Rattle.definitions.specs.Dnskey.{Dnskey, dnskey_data}
 use Rattle.definitions.specs.Zone.{Verdict, sorted_data}
 use Rattle.answer.specs.Answers.{Answers}
@@ -11,10 +9,10 @@ use Rattle.answer.specs.Facts.{Link, is_usable, is_trusted, decided, RefusesFirs
 use Rattle.answer.specs.declared.judge.verdict.Verdict.{Verdict as CodeVerdict}
 use Rattle.answer.specs.declared.judge.verdict.Refusal.{Refusal}
 use Rattle.answer.specs.declared.judge.verdict.Refusal.TheVariants as r
-use Rattle.answer.specs.Judging.{Answer, Says, Refuses, Handing, is_allowed, same_question, has_equal_tags, first_refusal, message_refusal, keys_in, verdict_of, AnswersFirst}
+use Rattle.answer.specs.Judging.{Answer, Refuses, Handing, is_allowed, same_question, has_equal_tags, first_refusal, message_refusal, keys_in, verdict_of, AnswersFirst}
 use Rattle.answer.specs.declared.message.MessageError.{MessageError}
 use Rattle.answer.specs.Message.{Message, Spelled, message}
-use Rattle.answer.specs.Verified.{Trusting, is_verified, verified_rrset, verified_links}
+use Rattle.answer.specs.Verified.{is_verified, verified_rrset, verified_links}
 use Rattle.answer.specs.Judged.{trusting, keys_of, is_chained, by_facts, judged_answer, judged_messages, judged_bytes, judged_beyond, said, AnswersAs}
 
 -- both messages were read, and they bring no refusal

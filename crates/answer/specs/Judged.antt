@@ -1,5 +1,5 @@
 -- What a judge says of two messages (RFC 4035, 5).
-use Rattle.std.specs.Prelude.{◌≡◌, ◌⊎◌, ℕ, Bool, true, false, not, List, map, filter, length, Option, Some, None, Ok, Err, nat_eq, if◌then◌else◌, Result}
+use Rattle.std.specs.Prelude.{◌≡◌, ◌⊎◌, ℕ, Bool, true, false, List, map, filter, length, Option, Some, None, Ok, Err, nat_eq, if◌then◌else◌, Result}
 use Rattle.definitions.specs.Dnskey.{Dnskey, dnskey_data}
 use Rattle.definitions.specs.Zone.{Verdict, Unsigned, sorted_data}
 use Rattle.answer.specs.Answers.{Answers}

@@ -1,7 +1,6 @@
-use Rattle.std.proofs.Common.{rules, ◌≡◌, ℕ, Bool, true, false, length, sym, ap, ◌∙◌}
+use Rattle.std.proofs.Common.{rules, ◌≡◌, true, false, length}
 use Rattle.std.specs.Prelude.{nat_eq}
-use Rattle.answer.specs.Facts.{handed}
-use Rattle.answer.specs.Judging.{Handing, is_allowed, EmptyIsUnsigned}
+use Rattle.answer.specs.Judging.{Handing, is_allowed}
 use Rattle.answer.proofs.JudgeWhole.{refuses_first}
 use Rattle.answer.proofs.judge.judge.Goals as goal
 

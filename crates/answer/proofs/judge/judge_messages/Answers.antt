@@ -1,5 +1,5 @@
-use Rattle.std.proofs.Common.{rules, arith, ◌≡◌, ℕ, Bool, true, false, List, map, filter, sym, ap, subst, ◌∙◌}
-use Rattle.std.specs.Prelude.{Option, Some, None}
+use Rattle.std.proofs.Common.{rules, arith, ◌≡◌, map, filter, sym, ap, subst, ◌∙◌}
+use Rattle.std.specs.Prelude.{None}
 use Rattle.std.specs.Option.{option_map}
 use Rattle.definitions.specs.Dnskey.{dnskey_data}
 use Rattle.definitions.specs.Zone.{sorted_data}
@@ -37,9 +37,9 @@ returns-then-not-branch-clause-exact g c =
     let trusted : c.in_ok-trusted.trusted.items ≡ filter (is_trusted a h.apex h.ds) c.in_ok-keys.keys.items = c.in_ok-trusted.ensures.trusted ∙ ap (filter (is_trusted a h.apex h.ds)) c.deref-3.ensures.value in
     let same = c.in_ok-trusted.ensures.same in
     let chained : c.in_ok-are_verified.field-0 ≡ is_verified (trusting a h c.in_ok-trusted.trusted.items) 0 h.dnskey_bytes rs h.apex 48 (sorted_data (map dnskey_data c.in_ok-keys.keys.items)) =
-      c.in_ok-are_verified.ensures.exact ∙ (λ i. is_verified (trusting (same i) h (c.deref-4.ensures.value i)) 0 h.dnskey_bytes (map spelled (c.deref-5.ensures.value i)) h.apex 48 (sorted_data (map dnskey_data (c.deref-6.ensures.value i)))) in
+    c.in_ok-are_verified.ensures.exact ∙ (λ i. is_verified (trusting (same i) h (c.deref-4.ensures.value i)) 0 h.dnskey_bytes (map spelled (c.deref-5.ensures.value i)) h.apex 48 (sorted_data (map dnskey_data (c.deref-6.ensures.value i)))) in
     untrusted a h keys answer (beyond a 0 h keys answer c.in_ok-keys_view.ensures.keys c.in_ok-keys_view.ensures.answer none)
-      (sym c.if-not-branch.true ∙ chained_as a h keys rs c.in_ok-keys.keys.items c.in_ok-trusted.trusted.items c.in_ok-are_verified.field-0 c.in_ok-key_records.ensures ks trusted chained)
+    (sym c.if-not-branch.true ∙ chained_as a h keys rs c.in_ok-keys.keys.items c.in_ok-trusted.trusted.items c.in_ok-are_verified.field-0 c.in_ok-key_records.ensures ks trusted chained)
 
 pub returns-clause-exact : goal.returns-clause-exact
 returns-clause-exact g c =
@@ -53,16 +53,16 @@ returns-clause-exact g c =
     let trusted : c.in_ok-trusted.trusted.items ≡ filter (is_trusted a h.apex h.ds) c.in_ok-keys.keys.items = c.in_ok-trusted.ensures.trusted ∙ ap (filter (is_trusted a h.apex h.ds)) c.deref-3.ensures.value in
     let same = c.in_ok-trusted.ensures.same in
     let chained : c.in_ok-are_verified.field-0 ≡ is_verified (trusting a h c.in_ok-trusted.trusted.items) 0 h.dnskey_bytes rs h.apex 48 (sorted_data (map dnskey_data c.in_ok-keys.keys.items)) =
-      c.in_ok-are_verified.ensures.exact ∙ (λ i. is_verified (trusting (same i) h (c.deref-4.ensures.value i)) 0 h.dnskey_bytes (map spelled (c.deref-5.ensures.value i)) h.apex 48 (sorted_data (map dnskey_data (c.deref-6.ensures.value i)))) in
+    c.in_ok-are_verified.ensures.exact ∙ (λ i. is_verified (trusting (same i) h (c.deref-4.ensures.value i)) 0 h.dnskey_bytes (map spelled (c.deref-5.ensures.value i)) h.apex 48 (sorted_data (map dnskey_data (c.deref-6.ensures.value i)))) in
     let usable : c.in_ok-usable.usable.items ≡ filter is_usable (keys_of h keys) = usable_as h keys rs c.in_ok-keys.keys.items c.in_ok-usable.usable.items c.in_ok-key_records.ensures ks (c.in_ok-usable.ensures ∙ ap (filter is_usable) c.deref-7.ensures.value) in
     let later = c.in_ok-are_verified.ensures.same ∙ same in
     let found : c.in_ok-facts.facts.answer ≡ verified_rrset (trusting a h c.in_ok-usable.usable.items) 0 h.answer_bytes (map spelled c.in_ok-records.records.items) h.asked.name h.asked.rtype =
-      c.in_ok-facts.ensures.answer ∙ (λ i. verified_rrset (trusting (later i) h (c.deref-8.ensures.value i)) 0 h.answer_bytes (map spelled (c.deref-9.ensures.value i)) h.asked.name h.asked.rtype) in
+    c.in_ok-facts.ensures.answer ∙ (λ i. verified_rrset (trusting (later i) h (c.deref-8.ensures.value i)) 0 h.answer_bytes (map spelled (c.deref-9.ensures.value i)) h.asked.name h.asked.rtype) in
     let links : c.in_ok-facts.facts.links.items ≡ verified_links (trusting a h c.in_ok-usable.usable.items) 0 h.answer_bytes (map spelled c.in_ok-records.records.items) =
-      c.in_ok-facts.ensures.links ∙ (λ i. verified_links (trusting (later i) h (c.deref-8.ensures.value i)) 0 h.answer_bytes (map spelled (c.deref-9.ensures.value i))) in
+    c.in_ok-facts.ensures.links ∙ (λ i. verified_links (trusting (later i) h (c.deref-8.ensures.value i)) 0 h.answer_bytes (map spelled (c.deref-9.ensures.value i))) in
     let decides : option_map verdict_of c.in_ok-verdict.verdict ≡ decided h.apex c.in_ok-facts.facts.answer c.in_ok-facts.facts.links.items h.asked.name h.asked.rtype =
-      c.in_ok-verdict.ensures ∙ ap (λ v. decided h.apex c.in_ok-facts.facts.answer v h.asked.name h.asked.rtype) c.deref-10.ensures.value in
+    c.in_ok-verdict.ensures ∙ ap (λ v. decided h.apex c.in_ok-facts.facts.answer v h.asked.name h.asked.rtype) c.deref-10.ensures.value in
     let chain = sym c.if-not-branch.false ∙ chained_as a h keys rs c.in_ok-keys.keys.items c.in_ok-trusted.trusted.items c.in_ok-are_verified.field-0 c.in_ok-key_records.ensures ks trusted chained in
     let all = decided_as a h keys answer c.in_ok-usable.usable.items (map spelled c.in_ok-records.records.items) c.in_ok-facts.facts.answer c.in_ok-facts.facts.links.items (option_map verdict_of c.in_ok-verdict.verdict)
-      (beyond a 0 h keys answer c.in_ok-keys_view.ensures.keys c.in_ok-keys_view.ensures.answer none) chain usable c.in_ok-records.ensures found links decides in
+    (beyond a 0 h keys answer c.in_ok-keys_view.ensures.keys c.in_ok-keys_view.ensures.answer none) chain usable c.in_ok-records.ensures found links decides in
     subst (λ o. AnswersAs (said o) (judged_beyond a 0 h)) (sym c.ok_or.ensures.value) (answered c.in_ok-verdict.verdict (judged_beyond a 0 h) all)

@@ -1,9 +1,9 @@
-use Rattle.std.proofs.Common.{◌≡◌, ℕ, List, Bool, true, false, not, map, length, sym, ap, subst, ◌∙◌}
-use Rattle.std.specs.Prelude.{Some, None, MatchOption}
+use Rattle.std.proofs.Common.{◌≡◌, true, false, map, sym, ap, subst, ◌∙◌}
+use Rattle.std.specs.Prelude.{MatchOption}
 use Rattle.std.specs.List.{list_any}
-use Rattle.std.proofs.lemmas.Bool.{not-true, not-false, false≢true}
+use Rattle.std.proofs.lemmas.Bool.{false≢true}
 use Rattle.answer.specs.Record.{spelled}
-use Rattle.answer.specs.Marked.{has_owner, is_nsec, stands_alone, IsAlone}
+use Rattle.answer.specs.Marked.{has_owner, stands_alone, IsAlone}
 use Rattle.answer.proofs.JudgeGathered.{gathered_more, gathered_same}
 use Rattle.answer.proofs.judge.facts.read_nsec_groups.Goals as goal
 use Rattle.answer.proofs.judge.facts.read_nsec_groups.Goals.{then-is_nsec+then-not-is_among+in_ok-group+in-Some+in_ok-push, then-is_nsec+then-not-is_among+in_ok-group+in_default, else-is_nsec, else-is_nsec-via-then-is_nsec+else-not-is_among, else-is_nsec-via-else-is_nsec}

@@ -1,4 +1,4 @@
-use Rattle.std.proofs.Common.{◌≡◌, true, sym, ap, ◌∙◌}
+use Rattle.std.proofs.Common.{sym, ap, ◌∙◌}
 use Rattle.answer.specs.Marked.{is_of}
 use Rattle.answer.proofs.JudgeMarks.{item_one}
 use Rattle.answer.proofs.judge.groups.place_of.Goals as goal

@@ -1,8 +1,7 @@
-use Rattle.std.proofs.Common.{rules, ◌≡◌, ◌+◌, ◌≤◌, [], ◌∷◌, drop, map, length, Bool, true, false, sym, ap, ◌∙◌, arith}
-use Rattle.std.specs.List.{filter}
+use Rattle.std.proofs.Common.{rules, ◌≡◌, [], ◌∷◌, map, true, false, sym, ap, ◌∙◌, arith}
 use Rattle.answer.specs.Record.{spelled}
 use Rattle.answer.specs.Facts.{is_signature}
-use Rattle.answer.specs.Marked.{held_by, are_apart, marked}
+use Rattle.answer.specs.Marked.{held_by, marked}
 use Rattle.answer.proofs.JudgeTried.{untried, unsigned, after_next, after_last, apart_next, signatures_next, signatures_same}
 use Rattle.answer.proofs.judge.groups.verify_groups.Goals as goal
 use Rattle.answer.proofs.judge.groups.verify_groups.Goals.{then-eq+in_ok-verify_record, else-eq}

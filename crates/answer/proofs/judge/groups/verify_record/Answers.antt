@@ -1,10 +1,10 @@
-use Rattle.std.proofs.Common.{◌≡◌, ℕ, ◌==◌, Bool, true, false, not, sym, ap, ◌∙◌}
+use Rattle.std.proofs.Common.{◌≡◌, ◌==◌, true, false, sym, ap, ◌∙◌}
 use Rattle.std.specs.Prelude.{Some}
 use Rattle.std.specs.Option.{option_map}
 use Rattle.std.proofs.lemmas.Bool.{not-true, not-false}
 use Rattle.answer.specs.Record.{spelled, signature_of}
 use Rattle.answer.specs.Message.{rrsig_at}
-use Rattle.answer.specs.Marked.{held_by, is_of, marked}
+use Rattle.answer.specs.Marked.{held_by}
 use Rattle.answer.proofs.JudgeTried.{untried, tried_none, tried_now, tried_again, class_other, no_signature}
 use Rattle.answer.proofs.judge.groups.verify_record.Goals as goal
 use Rattle.answer.proofs.judge.groups.verify_record.Goals.{in-Some-place_of+then-not-group+in_ok-group, in-Some-place_of+else-not-group, in_default-place_of}
@@ -33,7 +33,7 @@ returns-clause-marked g c =
     let class : (r.class == 1) ≡ true = not-false _ (sym c.ne.ensures ∙ c.if-ne.false) in
     let read : rrsig_at 0 m r ≡ Some (signature_of s) = sym c.in_ok-signature.ensures ∙ ap (option_map signature_of) c.in-Some.is in
     elim c.match-place_of.branch [
-      | in-Some-place_of+then-not-group+in_ok-group w ↦ 
+      | in-Some-place_of+then-not-group+in_ok-group w ↦
           let i = w.in-Some-place_of.place in
           let x = w.index-groups-place.result in
           w.groups-is ∙ tried_now (held_by (g.C.Checks.answers c.args.checks.now) c.args.trust.now) m r s gs i x w.in_ok-group.field-0 read c.requires.signature class c.requires.apart w.in-Some-place_of.ensures.within w.index-groups-place.is (w.in-Some-place_of.ensures.found x w.index-groups-place.is) (ap (λ y. y.verified) w.index-groups-place.is ∙ w.if-not-group.true) w.in_ok-group.ensures.signs
