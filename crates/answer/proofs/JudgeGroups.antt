@@ -31,3 +31,10 @@ data_same h f vs i v inside is e =
     let xs = filter_map f (map h (take i vs)) in
     sym (ap sorted_data (ap (λ ws. filter_map f (map h ws)) (take_next vs i v inside is) ∙ ap (filter_map f) (map-append h (take i vs) (v ∷ []))
     ∙ filter_map-append f (map h (take i vs)) (h v ∷ []) ∙ ap (λ ys. xs ++ ys) (cons_none f (h v) e) ∙ append-nil xs))
+
+-- data of a list's items, one more
+pub put_next : {X : Type 0} (h : X → List ℕ) (xs : List X) (i : ℕ) (x : X) → i < length xs → x ≡ get_or xs i x
+    → put_by (slice_cmp nat_cmp) (h x) (sorted_data (map h (take i xs))) ≡ sorted_data (map h (take (i + 1) xs))
+put_next h xs i x inside is =
+    sym (insert_key-put (slice_cmp nat_cmp) (sorted_data (map h (take i xs))) (h x)) ∙ sort_by-push (slice_cmp nat_cmp) (map h (take i xs)) (h x)
+    ∙ sym (ap sorted_data (ap (map h) (take_next xs i x inside is) ∙ map-append h (take i xs) (x ∷ [])))

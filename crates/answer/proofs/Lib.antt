@@ -14,6 +14,12 @@ pub mod NameLabels
 pub mod NameLaws
 pub mod JudgeRecords
 pub mod JudgeGroups
+pub mod JudgeCase
+pub mod JudgeMarks
+pub mod JudgeTried
+pub mod JudgeGathered
+pub mod JudgeFacts
+pub mod JudgeWhole
 pub mod JudgeClosest
 pub mod NameWalk
 pub mod NameWritten

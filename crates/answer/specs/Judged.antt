@@ -1,11 +1,13 @@
 -- What a judge says of two messages (RFC 4035, 5).
-use Rattle.std.specs.Prelude.{◌≡◌, ◌⊎◌, ℕ, Bool, true, false, not, List, map, filter, length, Option, Some, None, Ok, Err, nat_eq, if◌then◌else◌}
+use Rattle.std.specs.Prelude.{◌≡◌, ◌⊎◌, ℕ, Bool, true, false, List, map, filter, length, Option, Some, None, Ok, Err, nat_eq, if◌then◌else◌, Result}
 use Rattle.definitions.specs.Dnskey.{Dnskey, dnskey_data}
 use Rattle.definitions.specs.Zone.{Verdict, Unsigned, sorted_data}
 use Rattle.answer.specs.Answers.{Answers}
 use Rattle.answer.specs.Facts.{is_usable, is_trusted, decided}
+use Rattle.answer.specs.declared.judge.verdict.Verdict.{Verdict as CodeVerdict}
+use Rattle.answer.specs.declared.judge.verdict.Refusal.{Refusal}
 use Rattle.answer.specs.declared.judge.verdict.Refusal.TheVariants as r
-use Rattle.answer.specs.Judging.{Answer, Says, Refuses, Handing, first_refusal, keys_in}
+use Rattle.answer.specs.Judging.{Answer, Says, Refuses, Handing, first_refusal, message_refusal, keys_in, verdict_of}
 use Rattle.answer.specs.Message.{Message, message}
 use Rattle.answer.specs.Verified.{Trusting, is_verified, verified_rrset, verified_links}
 
@@ -40,12 +42,21 @@ judged_bytes a k h = elim (message k h.dnskey_bytes) [
   | Ok keys ↦ elim (message k h.answer_bytes) [ Err e ↦ Refuses r.BadAnswerMessage | Ok answer ↦ judged_messages a k h keys answer ]
 ]
 
+-- beside a DS set that isn't empty
+abbrev pub judged_beyond : Answers → ℕ → Handing → Answer
+judged_beyond a k h = elim (message_refusal k h) [ Some e ↦ Refuses e | None ↦ judged_bytes a k h ]
+
 -- memory aside
 abbrev pub judged : Answers → ℕ → Handing → Answer
 judged a k h = elim (first_refusal k h) [
   | Some e ↦ Refuses e
   | None ↦ if nat_eq (length h.ds) 0 then Says Unsigned else judged_bytes a k h
 ]
+
+-- a verdict or a refusal, as an answer
+abbrev pub said : Result CodeVerdict Refusal → Answer
+said (Ok v) = Says (verdict_of v)
+said (Err e) = Refuses e
 
 -- this is the answer, or memory ran out
 abbrev pub AnswersAs : Answer → Answer → Type 0

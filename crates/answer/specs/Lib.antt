@@ -25,6 +25,7 @@ pub mod KeyTexts
 pub mod KeyLaws
 pub mod Facts
 pub mod Verified
+pub mod Marked
 pub mod Judged
 pub mod Handed
 pub mod Meeting

@@ -1,10 +1,15 @@
 //! Judging a zone answer from bytes alone (RFC 4035, 5).
-ghost use Rattle.std.specs.Prelude.{◌≡◌, ℕ, ◌+◌, ◌<◌, ◌≤◌, ◌^◌, List, [], Option, IfOk, IfErr, OnOk, length, map, filter, true};
+ghost use Rattle.std.specs.Prelude.{◌≡◌, ◌==◌, ℕ, ◌+◌, ◌<◌, ◌≤◌, ◌^◌, List, [], Option, IfOk, IfErr, OnOk, length, map, filter, true, false};
+ghost use Rattle.definitions.specs.Dnskey.{dnskey_data};
+ghost use Rattle.definitions.specs.Zone.{sorted_data};
 ghost use Rattle.answer.specs.Record.{spelled};
+ghost use Rattle.answer.specs.Verified.{is_verified};
+ghost use Rattle.answer.specs.Marked.{held_by};
 ghost use Rattle.answer.specs.Message.{message};
 ghost use Rattle.answer.specs.View.{Gives};
 ghost use Rattle.answer.specs.Facts.{Link, is_signature, decided, RefusesFirst, handed};
-ghost use Rattle.answer.specs.Judging.{Judges, verdict_of, answer_of, verifications_of, hashes_of, is_allowed, message_refusal, same_question, verification_bound};
+ghost use Rattle.answer.specs.Judged.{judged, judged_beyond, said, AnswersAs};
+ghost use Rattle.answer.specs.Judging.{Judges, verdict_of, answer_of, verifications_of, hashes_of, is_allowed, is_first, message_refusal, same_question, verification_bound};
 
 mod decide;
 mod facts;
@@ -52,6 +57,16 @@ pub fn judge<C: Checks>(
           limit = limit;
         })
         (answer_of result) (verifications_of result) (hashes_of result) }
+    ensures exact { AnswersAs (answer_of result) (judged (C.answers checks.old) 0
+        (record {
+          apex = apex.now;
+          ds = ds.now;
+          dnskey_bytes = dnskey_bytes.now;
+          answer_bytes = answer_bytes.now;
+          asked = record { name = question.now.name; rtype = question.now.rtype; class = question.now.class };
+          now = now;
+          limit = limit;
+        })) }
     ensures verified { C.verified checks.new ≡ C.verified checks.old + verifications_of result }
     ensures hashed { C.hashed checks.new ≡ C.hashed checks.old + hashes_of result }
     ensures same { C.answers checks.new ≡ C.answers checks.old }
@@ -121,7 +136,9 @@ fn judge_messages<C: Checks>(
     checks: &mut C,
     count: &mut u32,
 ) -> Result<Verdict, Refusal>
-    requires { count.old ≡ 0 }
+    requires counts { count.old ≡ 0 }
+    requires other { (question.now.rtype == 47) ≡ false }
+    ensures exact { AnswersAs (said result) (judged_beyond (C.answers checks.old) 0 (handed apex.now ds.now dnskey_bytes.now answer_bytes.now (record { name = question.now.name; rtype = question.now.rtype; class = question.now.class }) now 0)) }
     ensures verdict { OnOk result (message_refusal 0 (handed apex.now ds.now dnskey_bytes.now answer_bytes.now (record { name = question.now.name; rtype = question.now.rtype; class = question.now.class }) now 0) ≡ None) }
     ensures refusal { IfErr result (λ e. RefusesFirst e (message_refusal 0 (handed apex.now ds.now dnskey_bytes.now answer_bytes.now (record { name = question.now.name; rtype = question.now.rtype; class = question.now.class }) now 0))) }
     ensures decided { IfOk result (λ v. (answer : Option (List (List ℕ))) × (links : List Link) × (decided apex.now answer links question.now.name question.now.rtype ≡ Some (verdict_of v))) }
@@ -192,6 +209,7 @@ fn read_messages<'a>(
     ensures answer { IfOk result (λ v. message 0 answer_bytes.now ≡ Ok v.1) }
     ensures asks_keys { IfOk result (λ v. same_question v.0.asked (record { name = apex.now; rtype = 48; class = 1 }) ≡ true) }
     ensures asks_answer { IfOk result (λ v. same_question v.1.asked (record { name = question.now.name; rtype = question.now.rtype; class = question.now.class }) ≡ true) }
+    ensures first { IfErr result (λ e. is_first e ≡ true) }
     ensures few { IfOk result (λ v. length v.0.records + length v.1.records ≤ 393210) }
     ensures refusal { IfErr result (λ e. RefusesFirst e (message_refusal 0 (handed apex.now [] dnskey_bytes.now answer_bytes.now (record { name = question.now.name; rtype = question.now.rtype; class = question.now.class }) 0 0))) }
 {
@@ -232,6 +250,27 @@ fn records_of<'a>(alloc: Global, view: &MessageView<'a>) -> Result<Vec<ViewRecor
     Ok(records)
 }
 
+/// The RRset of the keys at the apex.
+fn key_group(alloc: Global, apex: &Name, keys: &[TaggedKey]) -> Result<Group, AllocError>
+    ensures owner { IfOk result (λ g. g.owner ≡ apex.now) }
+    ensures rtype { IfOk result (λ g. g.rtype ≡ 48) }
+    ensures items { IfOk result (λ g. map (λ d. d.items) g.items.items ≡ sorted_data (map dnskey_data keys.now)) }
+    ensures unverified { IfOk result (λ g. g.verified ≡ false) }
+{
+    let mut items = Vec::new(alloc);
+    for key in keys {
+        let mut item = Vec::new(alloc);
+        key.dnskey().compose(&mut item)?;
+        put_data(&mut items, item)?;
+    }
+    Ok(Group {
+        owner: apex.try_clone(alloc)?,
+        rtype: Rtype::DNSKEY,
+        items,
+        verified: false,
+    })
+}
+
 /// Whether a trusted key signs the keys.
 fn are_verified<C: Checks>(
     alloc: Global,
@@ -243,18 +282,14 @@ fn are_verified<C: Checks>(
     count: &mut u32,
 ) -> Result<bool, AllocError>
     requires { count.old + length records.now < 2 ^ 32 }
+    ensures exact { IfOk result (λ b. b ≡ is_verified (held_by (C.answers checks.old) trust.now) 0 message.now (map spelled records.now) trust.now.apex.now 48 (sorted_data (map dnskey_data keys.now))) }
     ensures counted { C.verified checks.new + count.old ≡ C.verified checks.old + count.new }
     ensures bound { count.new ≤ count.old + length (filter is_signature (map spelled records.now)) }
     ensures few { count.new ≤ count.old + length records.now }
     ensures hashed { C.hashed checks.new ≡ C.hashed checks.old }
     ensures same { C.answers checks.new ≡ C.answers checks.old }
 {
-    let mut group = Group::new(alloc, trust.apex.try_clone(alloc)?, Rtype::DNSKEY);
-    for key in keys {
-        let mut item = Vec::new(alloc);
-        key.dnskey().compose(&mut item)?;
-        put_data(&mut group.items, item)?;
-    }
+    let group = key_group(alloc, trust.apex, keys)?;
     let mut groups = [group];
     verify_groups(alloc, message, records, trust, &mut groups, checks, count)?;
     Ok(groups[0].verified)

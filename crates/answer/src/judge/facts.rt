@@ -1,7 +1,10 @@
 //! From bytes to verified facts (RFC 4035, 5.3).
-ghost use Rattle.std.specs.Prelude.{◌≡◌, ◌+◌, ◌<◌, ◌≤◌, ◌^◌, length, map, filter};
+ghost use Rattle.std.specs.Prelude.{◌≡◌, ◌==◌, ◌+◌, ◌<◌, ◌≤◌, ◌^◌, false, IfOk, MatchOption, length, map, filter};
+ghost use Rattle.std.specs.List.{list_any, filter_map};
 ghost use Rattle.answer.specs.Record.{spelled};
 ghost use Rattle.answer.specs.Facts.{is_signature};
+ghost use Rattle.answer.specs.Verified.{verified_rrset, verified_links};
+ghost use Rattle.answer.specs.Marked.{held_by, has_owner, is_proved, is_nsec, stands_alone, IsAlone, AreGathered, link_by, data_verified};
 
 use crate::judge::decide::Link;
 use crate::judge::groups::{Group, Trust, read_group, verify_groups};
@@ -31,7 +34,10 @@ pub(crate) fn read_facts<'a, C: Checks>(
     checks: &mut C,
     count: &mut u32,
 ) -> Result<Facts<'a>, AllocError>
-    requires { count.old + length records.now < 2 ^ 32 }
+    requires room { count.old + length records.now < 2 ^ 32 }
+    requires other { (rtype == 47) ≡ false }
+    ensures answer { IfOk result (λ f. f.answer ≡ verified_rrset (held_by (C.answers checks.old) trust.now) 0 message.now (map spelled records.now) name.now rtype) }
+    ensures links { IfOk result (λ f. f.links.items ≡ verified_links (held_by (C.answers checks.old) trust.now) 0 message.now (map spelled records.now)) }
     ensures counted { C.verified checks.new + count.old ≡ C.verified checks.old + count.new }
     ensures bound { count.new ≤ count.old + length (filter is_signature (map spelled records.now)) }
     ensures hashed { C.hashed checks.new ≡ C.hashed checks.old }
@@ -46,7 +52,9 @@ pub(crate) fn read_facts<'a, C: Checks>(
 }
 
 /// The data of the group that was asked for, if a signature verified it.
-fn asked_of(group: Option<Group>) -> Option<DataList> {
+fn asked_of(group: Option<Group>) -> Option<DataList>
+    ensures { result ≡ data_verified group }
+{
     let group = group?;
     if group.verified {
         return Some(DataList::new(group.items));
@@ -60,7 +68,9 @@ fn read_nsec_groups(
     apex: &Name,
     message: &[u8],
     records: &[ViewRecord],
-) -> Result<Vec<Group>, AllocError> {
+) -> Result<Vec<Group>, AllocError>
+    ensures { IfOk result (λ gs. AreGathered message.now apex.now (map spelled records.now) (map spelled records.now) gs.items) }
+{
     let mut groups: Vec<Group> = Vec::new(alloc);
     for record in records {
         if is_nsec(record) && !is_among(&groups, &record.owner) {
@@ -79,7 +89,9 @@ fn read_nsec_group(
     message: &[u8],
     records: &[ViewRecord],
     owner: &ParsedName,
-) -> Result<Option<Group>, AllocError> {
+) -> Result<Option<Group>, AllocError>
+    ensures { IfOk result (λ o. MatchOption o (stands_alone message.now apex.now (map spelled records.now) owner.now ≡ false) (λ g. (g.owner ≡ owner.now) × IsAlone message.now apex.now (map spelled records.now) g)) }
+{
     let owner = owner.to_name(alloc)?;
     if !owner.ends_with(apex) {
         return Ok(None);
@@ -93,12 +105,16 @@ fn read_nsec_group(
 }
 
 /// Whether a record is an NSEC record of class IN.
-fn is_nsec(record: &ViewRecord) -> bool {
+fn is_nsec(record: &ViewRecord) -> bool
+    ensures { result ≡ is_nsec (spelled record.now) }
+{
     record.rtype == Rtype::NSEC && record.class == Class::IN
 }
 
 /// Whether an owner has one of the groups.
-fn is_among(groups: &[Group], owner: &ParsedName) -> bool {
+fn is_among(groups: &[Group], owner: &ParsedName) -> bool
+    ensures { result ≡ list_any (has_owner owner.now) groups.now }
+{
     for group in groups {
         if owner.name_eq(&group.owner) {
             return true;
@@ -108,7 +124,9 @@ fn is_among(groups: &[Group], owner: &ParsedName) -> bool {
 }
 
 /// Whether an owner has one of the groups, and that is verified.
-fn is_verified(groups: &[Group], owner: &ParsedName) -> bool {
+fn is_verified(groups: &[Group], owner: &ParsedName) -> bool
+    ensures { result ≡ list_any (is_proved owner.now) groups.now }
+{
     for group in groups {
         if group.verified && owner.name_eq(&group.owner) {
             return true;
@@ -123,7 +141,9 @@ fn read_links<'a>(
     message: &'a [u8],
     records: &[ViewRecord],
     groups: &[Group],
-) -> Result<Vec<Link<'a>>, AllocError> {
+) -> Result<Vec<Link<'a>>, AllocError>
+    ensures { IfOk result (λ ls. ls.items ≡ filter_map (link_by message.now groups.now) (map spelled records.now)) }
+{
     let mut links = Vec::new(alloc);
     for record in records {
         if is_nsec(record) && is_verified(groups, &record.owner) {

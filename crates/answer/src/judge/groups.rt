@@ -1,10 +1,12 @@
 //! RRsets of a message and the signatures that verify them (RFC 4035, 5.3).
-ghost use Rattle.std.specs.Prelude.{◌≡◌, ◌==◌, ◌&&◌, ◌+◌, ◌<◌, ◌≤◌, ◌^◌, [], false, IfOk, MatchOption, length, map, filter};
+ghost use Rattle.std.specs.Prelude.{◌≡◌, ◌==◌, ◌&&◌, ◌+◌, ◌<◌, ◌≤◌, ◌^◌, [], ◌∷◌, true, false, IfOk, IfSome, MatchOption, length, map, filter, get_or};
 ghost use Rattle.answer.specs.Record.{spelled};
 ghost use Rattle.answer.specs.Facts.{is_signature, is_due, fits_key, fields_read, signs};
 ghost use Rattle.answer.specs.Verified.{datum_of, rrset_in};
+ghost use Rattle.answer.specs.declared.judge.groups.Group.{Group};
+ghost use Rattle.answer.specs.Marked.{held_by, is_of, are_apart, marked};
 ghost use Rattle.std.specs.Option.{option_map};
-ghost use Rattle.std.specs.List.{find};
+ghost use Rattle.std.specs.List.{find, list_any};
 ghost use Rattle.definitions.specs.Name.{same};
 ghost use Rattle.definitions.specs.Signing.{in_time, signed_octets};
 ghost use Rattle.definitions.specs.Serial.{serial_le};
@@ -38,21 +40,6 @@ pub(crate) struct Trust<'a> {
 }
 
 impl Group {
-    /// An RRset with no data yet.
-    pub(crate) fn new(alloc: Global, owner: Name, rtype: Rtype) -> Self
-        ensures owner { result.owner ≡ owner }
-        ensures rtype { result.rtype ≡ rtype }
-        ensures items { result.items.items ≡ [] }
-        ensures unverified { result.verified ≡ false }
-    {
-        Group {
-            owner,
-            rtype,
-            items: Vec::new(alloc),
-            verified: false,
-        }
-    }
-
     /// Whether the group has a type and an owner, up to case.
     pub(crate) fn is_of(&self, owner: &ParsedName, rtype: Rtype) -> bool
         ensures { result ≡ ((self.now.rtype == rtype) && same owner.now self.now.owner) }
@@ -115,7 +102,9 @@ pub(crate) fn verify_groups<C: Checks>(
     checks: &mut C,
     count: &mut u32,
 ) -> Result<(), AllocError>
-    requires { count.old + length records.now < 2 ^ 32 }
+    requires room { count.old + length records.now < 2 ^ 32 }
+    requires apart { are_apart groups.old ≡ true }
+    ensures marked { IfOk result (λ _. groups.new ≡ map (marked (held_by (C.answers checks.old) trust.now) message.now (map spelled records.now)) groups.old) }
     ensures counted { C.verified checks.new + count.old ≡ C.verified checks.old + count.new }
     ensures bound { count.new ≤ count.old + length (filter is_signature (map spelled records.now)) }
     ensures few { count.new ≤ count.old + length records.now }
@@ -130,7 +119,7 @@ pub(crate) fn verify_groups<C: Checks>(
     Ok(())
 }
 
-/// Tries one signature on its group, unless one verified that before.
+/// Tries a signature on its group, unless one verified that before.
 fn verify_record<C: Checks>(
     alloc: Global,
     message: &[u8],
@@ -140,7 +129,10 @@ fn verify_record<C: Checks>(
     checks: &mut C,
     count: &mut u32,
 ) -> Result<(), AllocError>
-    requires { count.old + 1 < 2 ^ 32 }
+    requires room { count.old + 1 < 2 ^ 32 }
+    requires signature { is_signature (spelled record.now) ≡ true }
+    requires apart { are_apart groups.old ≡ true }
+    ensures marked { IfOk result (λ _. groups.new ≡ map (marked (held_by (C.answers checks.old) trust.now) message.now (spelled record.now ∷ [])) groups.old) }
     ensures counted { C.verified checks.new + count.old ≡ C.verified checks.old + count.new }
     ensures bound { count.new ≤ count.old + 1 }
     ensures hashed { C.hashed checks.new ≡ C.hashed checks.old }
@@ -152,19 +144,22 @@ fn verify_record<C: Checks>(
     let Some(signature) = RrsigView::read(alloc, message, record)? else {
         return Ok(());
     };
-    if let Some(place) = unverified(groups, &record.owner, signature.type_covered) {
+    if let Some(place) = place_of(groups, &record.owner, signature.type_covered) {
         let group = &mut groups[place];
-        group.verified = verifies(alloc, &signature, trust, group, checks, count)?;
+        if !group.verified {
+            group.verified = verifies(alloc, &signature, trust, group, checks, count)?;
+        }
     }
     Ok(())
 }
 
-/// The place of the group of an owner and a type, if no signature verified it yet.
-fn unverified(groups: &[Group], owner: &ParsedName, rtype: Rtype) -> Option<usize>
-    ensures { MatchOption result (Unit {0}) (λ i. i < length groups.now) }
+/// The place of a group of an owner and a type.
+fn place_of(groups: &[Group], owner: &ParsedName, rtype: Rtype) -> Option<usize>
+    ensures within { IfSome result (λ i. i < length groups.now) }
+    ensures found { MatchOption result (list_any (is_of owner.now rtype) groups.now ≡ false) (λ i. (g : Group) → g ≡ get_or groups.now i g → is_of owner.now rtype g ≡ true) }
 {
     for (i, group) in groups.iter().enumerate() {
-        if !group.verified && group.is_of(owner, rtype) {
+        if group.is_of(owner, rtype) {
             return Some(i);
         }
     }

@@ -1,0 +1,17 @@
+use Rattle.std.proofs.Common.{rules, ◌≡◌, true, false, length}
+use Rattle.std.specs.Prelude.{nat_eq}
+use Rattle.answer.specs.Judging.{Handing, is_allowed}
+use Rattle.answer.proofs.JudgeWhole.{refuses_first}
+use Rattle.answer.proofs.judge.judge.Goals as goal
+
+pub returns-in-Err-clause-judges : goal.returns-in-Err-clause-judges
+returns-in-Err-clause-judges g c =
+    let h : Handing = record { apex = c.args.apex.now; ds = c.args.ds.now; dnskey_bytes = c.args.dnskey_bytes.now; answer_bytes = c.args.answer_bytes.now; asked = record { name = c.args.question.now.name; rtype = c.args.question.now.rtype; class = c.args.question.now.class }; now = c.args.now; limit = c.args.limit } in
+    let allowed : is_allowed h.apex h.asked ≡ true = search rules in
+    let some : nat_eq (length h.ds) 0 ≡ false = search rules in
+    record {
+      first = refuses_first 0 h c.in-Err.refusal allowed some c.in-Err.ensures.refusal;
+      empty = search rules;
+      verifications_bound = search rules;
+      hashes_bound = search rules;
+    }
