@@ -1,21 +1,22 @@
 -- A judge of what one zone gave under keys that meet says the zone's verdict.
-use Rattle.std.proofs.Common.{◌≡◌, ℕ, ◌<◌, true, false, List, [], ◌∷◌, ◌∙◌, arith}
+use Rattle.std.proofs.Common.{◌≡◌, ℕ, ◌<◌, true, false, List, [], ◌∷◌, inl, inr, ◌∙◌, ⊎_elim, arith}
 use Rattle.std.specs.Prelude.{◌^◌}
 use Rattle.std.specs.List.{AllByRecursion}
-use Rattle.definitions.specs.Name.{IsLabel, low}
-use Rattle.definitions.specs.Zone.{exists, verdict}
+use Rattle.definitions.specs.Name.{IsLabel}
+use Rattle.definitions.specs.Zone.{verdict}
 use Rattle.definitions.specs.ZoneChain.{Nsec}
 use Rattle.answer.specs.Accepting.{HandedRr, record_cmp, sorted_records, zone_of}
 use Rattle.answer.specs.Answers.{Answers}
 use Rattle.answer.specs.Handed.{IsHanded}
-use Rattle.answer.specs.Judged.{judged}
-use Rattle.answer.specs.Judging.{Handing, Says}
-use Rattle.answer.specs.Meeting.{WasGiven}
+use Rattle.answer.specs.Judged.{AnswersAs, judged}
+use Rattle.answer.specs.Judging.{Answer, Handing, Says}
+use Rattle.answer.specs.Meeting.{AnswersGiven, WasGiven}
 use Rattle.answer.specs.Publishing.{hash_in}
 use Rattle.answer.specs.Served.{by_tag}
 use Rattle.answer.proofs.AnswerRrsets.{AreNamed}
 use Rattle.answer.proofs.GivenJudged.{judged_given, signer_found, signer_signs, usable_keys}
-use Rattle.answer.proofs.GivenVerdict.{IsAnswered, given_verdict}
+use Rattle.answer.proofs.GivenMissing.{every_verdict}
+use Rattle.answer.proofs.GivenVerdict.{IsAnswered}
 use Rattle.answer.proofs.ZoneLists.{all_more, all_sorted}
 use Rattle.answer.proofs.ZoneRising.{published_from}
 
@@ -39,6 +40,11 @@ is_answered a k h rs given = record {
   hold = given.answer_holds;
 }
 
-pub answers_given : (a : Answers) (k : ℕ) (h : Handing) (rs : List HandedRr) → WasGiven a k h rs → exists (zone_of h.apex rs) (low h.asked.name) ≡ true → judged a k h ≡ Says (verdict (zone_of h.apex rs) false h.asked.name h.asked.rtype)
-answers_given a k h rs given there =
-    judged_given a k h rs given ∙ given_verdict a k h (usable_keys a k h rs given) given.answer_given.read (hash_in a.hash Nsec) (sorted_records rs) (is_answered a k h rs given) there
+judged_as_zone : (a : Answers) (k : ℕ) (h : Handing) (rs : List HandedRr) → WasGiven a k h rs → judged a k h ≡ Says (verdict (zone_of h.apex rs) false h.asked.name h.asked.rtype)
+judged_as_zone a k h rs given =
+    judged_given a k h rs given
+    ∙ every_verdict a k h (usable_keys a k h rs given) given.answer_given.read (hash_in a.hash Nsec) (sorted_records rs) (is_answered a k h rs given) given.asked_is.name.labels given.asked_is.name.short
+
+-- an answer that is exact says the zone's verdict
+pub answers_given : (a : Answers) (k : ℕ) (h : Handing) (answer : Answer) → AnswersAs answer (judged a k h) → AnswersGiven a k h answer
+answers_given a k h answer exact rs given = ⊎_elim (λ memory. inl memory) (λ said. inr (said ∙ judged_as_zone a k h rs given)) exact

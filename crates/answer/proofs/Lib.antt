@@ -60,6 +60,7 @@ pub mod GivenSignatures
 pub mod GivenNext
 pub mod GivenLinks
 pub mod GivenVerdict
+pub mod GivenMissing
 pub mod GivenAnswers
 pub mod GivenSorted
 pub mod GivenKeys

@@ -1,18 +1,18 @@
 -- Keys that meet, and what is handed to a judge from one zone under such keys.
 use Rattle.std.specs.Prelude.{◌≡◌, ℕ, ◌+◌, ◌%◌, ◌<◌, Bool, true, false, ◌&&◌, List, Contains, Some}
 use Rattle.std.specs.List.{AllByRecursion}
-use Rattle.definitions.specs.Name.{Name, IsName, low}
+use Rattle.definitions.specs.Name.{Name, IsName}
 use Rattle.definitions.specs.Dnskey.{Dnskey, Ds, key_tag, digested}
 use Rattle.definitions.specs.Serial.{serial_le}
-use Rattle.definitions.specs.Zone.{exists, verdict}
+use Rattle.definitions.specs.Zone.{verdict}
 use Rattle.definitions.specs.ZoneChain.{Nsec}
 use Rattle.answer.specs.Accepting.{HandedRr, IsAccepted, sorted_records, zone_of}
 use Rattle.answer.specs.Answers.{Answers}
 use Rattle.answer.specs.Facts.{is_usable}
 use Rattle.answer.specs.Given.{GivesKeys, GivesAnswer}
 use Rattle.answer.specs.Handed.{IsHanded}
-use Rattle.answer.specs.Judging.{Answer, Says, Handing, is_allowed, has_equal_tags}
-use Rattle.answer.specs.Judged.{AnswersAs}
+use Rattle.answer.specs.Judging.{Answer, Says, Handing, Judges, is_allowed, has_equal_tags}
+use Rattle.answer.specs.Judged.{AnswersAs, judged}
 use Rattle.answer.specs.Publishing.{served}
 use Rattle.answer.specs.Served.{Served}
 use Rattle.answer.specs.WrittenLaws.{IsQuestion}
@@ -78,6 +78,13 @@ pub record WasGiven (a : Answers) (k : ℕ) (h : Handing) (rs : List HandedRr) :
   pub keys_hold : holds keys_at life h.now ≡ true
   pub answer_holds : holds answer_at life h.now ≡ true
 
--- at a name that exists the answer is the zone's verdict
+-- the answer is the zone's verdict
 abbrev pub AnswersGiven : Answers → ℕ → Handing → Answer → Type 0
-AnswersGiven a k h answer = (rs : List HandedRr) → WasGiven a k h rs → exists (zone_of h.apex rs) (low h.asked.name) ≡ true → AnswersAs answer (Says (verdict (zone_of h.apex rs) false h.asked.name h.asked.rtype))
+AnswersGiven a k h answer = (rs : List HandedRr) → WasGiven a k h rs → AnswersAs answer (Says (verdict (zone_of h.apex rs) false h.asked.name h.asked.rtype))
+
+-- A judgement: what it keeps whatever is handed in, what it says of the two messages, and the verdict of a zone that gave
+-- them. The first argument is how many pointers may be followed in a name.
+pub record IsJudgement (k : ℕ) (a : Answers) (h : Handing) (answer : Answer) (verifications hashes : ℕ) : Type 0 where
+  pub keeps : Judges k h answer verifications hashes
+  pub exact : AnswersAs answer (judged a k h)
+  pub given : AnswersGiven a k h answer

@@ -23,7 +23,8 @@ use Rattle.answer.specs.ZoneView.{AcceptedZone}
 use Rattle.answer.specs.Publishing.{digest_at, served, second_of}
 use Rattle.answer.specs.Given as spelled
 use Rattle.answer.specs.Answering.{AnswersKeys, AnswersZone, RefusesAnswer, RefusesKeys}
-use Rattle.answer.specs.Judging.{Handing, Judges, answer_of, verifications_of, hashes_of, is_allowed}
+use Rattle.answer.specs.Meeting.{IsJudgement}
+use Rattle.answer.specs.Judging.{Handing, answer_of, verifications_of, hashes_of, is_allowed}
 
 -- an accepted zone, how long its signatures hold, what its scheme signs, and what scheme and hasher answer a judge
 pub record World : Type 0 where
@@ -74,12 +75,12 @@ handing w ds keys answer asked at = record {
 
 -- a judgement of these things, or no such things
 abbrev pub JudgesThings : World → ℕ → Option Shown → Option Shown → Option Shown → Outcome → Type 0
-JudgesThings w at (Some (OfParent ds)) (Some (OfKeys keys)) (Some (OfZone asked answer)) (outcome.Judged j) = Judges 0 (handing w ds keys answer asked at) (answer_of j) (verifications_of j) (hashes_of j)
+JudgesThings w at (Some (OfParent ds)) (Some (OfKeys keys)) (Some (OfZone asked answer)) (outcome.Judged j) = IsJudgement 0 w.answers (handing w ds keys answer asked at) (answer_of j) (verifications_of j) (hashes_of j)
 JudgesThings w at (Some (OfParent ds)) (Some (OfKeys keys)) (Some (OfZone asked answer)) _ = ⊥
 JudgesThings w at _ _ _ o = o ≡ outcome.BadPlace
 
 abbrev pub JudgesBytes : World → ℕ → Option Shown → List ℕ → List ℕ → Asked → Outcome → Type 0
-JudgesBytes w at (Some (OfParent ds)) keys answer asked (outcome.Judged j) = Judges 0 (handing w ds keys answer asked at) (answer_of j) (verifications_of j) (hashes_of j)
+JudgesBytes w at (Some (OfParent ds)) keys answer asked (outcome.Judged j) = IsJudgement 0 w.answers (handing w ds keys answer asked at) (answer_of j) (verifications_of j) (hashes_of j)
 JudgesBytes w at (Some (OfParent ds)) keys answer asked _ = ⊥
 JudgesBytes w at _ keys answer asked o = o ≡ outcome.BadPlace
 

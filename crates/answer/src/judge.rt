@@ -9,6 +9,7 @@ ghost use Rattle.answer.specs.Message.{message};
 ghost use Rattle.answer.specs.View.{Gives};
 ghost use Rattle.answer.specs.Facts.{Link, is_signature, decided, RefusesFirst, handed};
 ghost use Rattle.answer.specs.Judged.{judged, judged_beyond, said, AnswersAs};
+ghost use Rattle.answer.specs.Meeting.{AnswersGiven};
 ghost use Rattle.answer.specs.Judging.{Judges, verdict_of, answer_of, verifications_of, hashes_of, is_allowed, is_first, message_refusal, same_question, verification_bound};
 
 mod decide;
@@ -35,6 +36,8 @@ use std::alloc::{AllocError, Global};
 
 /// Judges what a zone says of a question, from a DS set, a DNSKEY answer and a zone answer (RFC 4035, 5). The
 /// moment is in whole seconds modulo 2^32; the limit is on the iterations of NSEC3 records.
+///
+/// Whatever one zone gives under keys that meet, within the times of its signatures, gets the zone's verdict.
 pub fn judge<C: Checks>(
     alloc: Global,
     apex: &Name,
@@ -67,6 +70,17 @@ pub fn judge<C: Checks>(
           now = now;
           limit = limit;
         })) }
+    ensures given { AnswersGiven (C.answers checks.old) 0
+        (record {
+          apex = apex.now;
+          ds = ds.now;
+          dnskey_bytes = dnskey_bytes.now;
+          answer_bytes = answer_bytes.now;
+          asked = record { name = question.now.name; rtype = question.now.rtype; class = question.now.class };
+          now = now;
+          limit = limit;
+        })
+        (answer_of result) }
     ensures verified { C.verified checks.new ≡ C.verified checks.old + verifications_of result }
     ensures hashed { C.hashed checks.new ≡ C.hashed checks.old + hashes_of result }
     ensures same { C.answers checks.new ≡ C.answers checks.old }
