@@ -46,3 +46,4 @@ pub mod WritesNames
 pub mod WritesZone
 pub mod WritesHanded
 pub mod WritesGiven
+pub mod KeyLife
