@@ -1,5 +1,5 @@
 -- Keys that calls bind may sign a zone, and have the digest that their DS records say.
-use Rattle.std.proofs.Common.{◌≡◌, ℕ, ◌<◌, Bool, true, false, cond, List, [], ◌∷◌, map, Option, Some, None, Result, Ok, Err, refl, sym, subst, ap, ◌∙◌, Ordering, lit<}
+use Rattle.std.proofs.Common.{◌≡◌, ℕ, Bool, true, false, cond, List, [], ◌∷◌, map, Option, Some, None, Ok, Err, refl, sym, subst, ap, lit<}
 use Rattle.std.specs.declared.cmp.Ordering.TheVariants.{Less, Equal, Greater}
 use Rattle.std.specs.List.{AllByRecursion, filter}
 use Rattle.std.specs.FinMap.Entries.{put, by_order}
@@ -12,7 +12,6 @@ use Rattle.answer.specs.declared.keyset.rolls.Action.{Action}
 use Rattle.answer.specs.declared.publisher.keys.KeyKind.{KeyKind}
 use Rattle.answer.specs.declared.publisher.keys.KeyKind.TheVariants.{Ksk, Zsk}
 use Rattle.answer.specs.declared.publisher.keys.Publication.{Publication}
-use Rattle.answer.proofs.WritesNames.{either}
 
 -- a zone's key beside its digest
 pub record IsBound (digest : Dnskey → Option (List ℕ)) (b : BoundKey) : Type 0 where
