@@ -74,3 +74,4 @@ pub mod WritesNames
 pub mod WritesZone
 pub mod WritesHanded
 pub mod WritesGiven
+pub mod KeyLife
