@@ -1,23 +1,20 @@
 -- The RRsets that an accepted zone answers with at a name that exists.
-use Rattle.std.proofs.Common.{◌≡◌, ℕ, ◌<◌, Bool, true, false, ◌&&◌, ◌||◌, cond, List, [], ◌∷◌, ◌++◌, map, length, refl, sym, ap, subst, ◌∙◌, ⊎_elim, eqb, arith}
+use Rattle.std.proofs.Common.{◌≡◌, ℕ, ◌<◌, Bool, true, false, ◌&&◌, ◌||◌, cond, List, [], ◌∷◌, map, length, refl, sym, ap, ◌∙◌, ⊎_elim, eqb, arith}
 use Rattle.std.specs.List.{AllByRecursion, filter, list_any}
-use Rattle.std.proofs.lemmas.Bool.{and_parts, false_from_ne_true, or_parts}
+use Rattle.std.proofs.lemmas.Bool.{and_parts, false_from_ne_true}
 use Rattle.std.proofs.lemmas.List.{length-map}
-use Rattle.definitions.specs.Bitmap.{bitmap}
-use Rattle.definitions.specs.Name.{Name, IsLabel, IsName, low, labels_eq, same, at_or_above}
+use Rattle.definitions.specs.Name.{Name, IsLabel, low, labels_eq, same, at_or_above}
 use Rattle.definitions.specs.Signing.{label_count}
 use Rattle.definitions.specs.Zone.{data_at, has, sorted_data}
 use Rattle.definitions.specs.ZoneChain.{Nsec}
 use Rattle.answer.specs.Accepting.{HandedRr, zone_with}
-use Rattle.answer.specs.Handed.{IsHanded}
 use Rattle.answer.specs.Links.{link_group}
 use Rattle.answer.specs.Served.{owner_among, served_of, soa, spelled_among, spelled_as}
 use Rattle.answer.specs.ZoneView.{IsPublished, is_of}
 use Rattle.answer.proofs.DenialLink.{Linked, Owns}
-use Rattle.answer.proofs.DenialTypes.{link_types}
 use Rattle.answer.proofs.ZoneData.{already_sorted, data_are, data_rise, label_count-low, low-owner_among, low-spelled_among, soa_there}
-use Rattle.answer.proofs.ZoneLists.{Has, all_at, found}
-use Rattle.answer.proofs.ZoneNames.{at_or_above-low, labels_eq-same, low-low, same_labels}
+use Rattle.answer.proofs.ZoneLists.{Has, all_at}
+use Rattle.answer.proofs.ZoneNames.{at_or_above-low, labels_eq-same, same_labels}
 use Rattle.answer.proofs.ZoneServed.{has_is}
 
 -- ---- the RRset that was asked for

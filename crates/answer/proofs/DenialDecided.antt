@@ -1,13 +1,12 @@
 -- A link of an accepted zone decides that a name that exists has no such type.
-use Rattle.std.proofs.Common.{◌≡◌, ◌⊎◌, ℕ, ◌<◌, Bool, true, false, ◌&&◌, ◌||◌, not, List, [], ◌∷◌, inl, inr, refl, sym, ap, subst, ◌∙◌, ⊎_elim, arith, Ordering}
+use Rattle.std.proofs.Common.{◌≡◌, ℕ, ◌<◌, Bool, true, false, ◌&&◌, ◌||◌, not, List, [], ◌∷◌, refl, sym, ap, ◌∙◌, ⊎_elim}
 use Rattle.std.specs.declared.cmp.Ordering.TheVariants.{Less, Equal, Greater}
 use Rattle.std.specs.List.{list_any}
 use Rattle.std.specs.Ordering.{is_lt}
 use Rattle.std.specs.Prelude.{Option, Some, None, ◌==◌, ◌^◌}
 use Rattle.std.proofs.lemmas.Bool.{and_parts, false_from_ne_true, or_cases}
 use Rattle.definitions.specs.Bitmap.{bitmap, bitmap_has}
-use Rattle.definitions.specs.Covering.{before, covers}
-use Rattle.definitions.specs.Name.{Name, low, labels_eq, same, name_cmp, at_or_above, strictly_above}
+use Rattle.definitions.specs.Name.{Name, low, same, name_cmp, at_or_above, strictly_above}
 use Rattle.definitions.specs.Zone.{Verdict, NoType, Delegated, exists, has, star_under}
 use Rattle.definitions.proofs.NameLaws.{apex_first, interval}
 use Rattle.answer.specs.Accepting.{HandedRr, zone_with}
@@ -16,7 +15,7 @@ use Rattle.answer.specs.Judging.{is_allowed}
 use Rattle.answer.specs.Message.{Asked}
 use Rattle.answer.specs.ZoneView.{IsPublished, name_cmp_total}
 use Rattle.answer.proofs.DenialLink.{Owns, Speaks}
-use Rattle.answer.proofs.DenialTypes.{inside_apex, link_lacks_ns, link_lacks_type, link_types}
+use Rattle.answer.proofs.DenialTypes.{link_lacks_ns, link_lacks_type, link_types}
 use Rattle.answer.proofs.ZoneAnswers.{at_itself}
 use Rattle.answer.proofs.ZoneChains.{less_back}
 use Rattle.answer.proofs.ZoneLists.{Has, all_at, found}
@@ -42,9 +41,9 @@ no_cut_link apex rs p owner next f is o =
       | true ↦ λ e. elim (bitmap_has f.bits 2) as (λ x. (x && false) ≡ false) [ true ↦ refl | false ↦ refl ]
       | false ↦ λ e.
           let apart : same (low apex) owner ≡ false = false_from_ne_true _ (λ h.
-              let named : low apex ≡ low f.owner = sym (low-low apex) ∙ same_labels (low (low apex)) (low owner) h ∙ ap low (sym is.owner_is) ∙ low-low f.owner in
-              let there : same f.owner apex ≡ true = labels_eq-same (low f.owner) (low apex) (sym named) in
-              cc) in
+          let named : low apex ≡ low f.owner = sym (low-low apex) ∙ same_labels (low (low apex)) (low owner) h ∙ ap low (sym is.owner_is) ∙ low-low f.owner in
+          let there : same f.owner apex ≡ true = labels_eq-same (low f.owner) (low apex) (sym named) in
+          cc) in
           ap (λ x. x && true) (ap (λ bs. bitmap_has bs 2) is.bits_are ∙ link_lacks_ns apex rs p owner (strictly (low apex) owner inside apart))
     ] in
     go (same f.owner apex) refl
@@ -96,8 +95,8 @@ leads_below : (q next owner : Name) → at_or_above (low q) owner ≡ true → n
 leads_below q next owner above up down =
     let inside : at_or_above (low q) next ≡ true = interval (low q) (low q) next owner (at_itself (low q)) above (λ g. cc) down in
     let apart : same (low q) next ≡ false = false_from_ne_true _ (λ s.
-        let equal : name_cmp (low q) next ≡ Equal = name_cmp-same (low q) next (same_labels (low (low q)) (low next) s) in
-        cc) in
+    let equal : name_cmp (low q) next ≡ Equal = name_cmp-same (low q) next (same_labels (low (low q)) (low next) s) in
+    cc) in
     strictly (low q) next inside apart
 
 either : (a : Bool) → (a || true) ≡ true
@@ -128,8 +127,8 @@ decided_below apex rs p a there owner next o l near f is =
     let lower : name_cmp (low f.owner) (low q) ≡ Less = ap (λ n. name_cmp n (low q)) is.owner_is ∙ l in
     let upper : name_cmp (low q) (low f.next) ≡ Less = ap (name_cmp (low q)) is.next_is ∙ up.0 in
     let apart : same f.owner q ≡ false = false_from_ne_true _ (λ s.
-        let equal : name_cmp (low f.owner) (low q) ≡ Equal = ap (λ n. name_cmp n (low q)) (same_labels (low f.owner) (low q) s) ∙ name_cmp-same (low q) (low q) refl in
-        cc) in
+    let equal : name_cmp (low f.owner) (low q) ≡ Equal = ap (λ n. name_cmp n (low q)) (same_labels (low f.owner) (low q) s) ∙ name_cmp-same (low q) (low q) refl in
+    cc) in
     let below : strictly_above q f.next ≡ true = sym (strictly_above-low q f.next) ∙ ap (strictly_above (low q)) is.next_is ∙ leads_below q next (low r.0.owner) above up.0 up.1 in
     covered_decides apex q a.rtype f (owner_silent apex q a.rtype f apart) (cut_silent apex q f (no_cut_link apex rs p owner next f is o))
     (covers_says apex q a.rtype (f ∷ []) f (link_between apex q f lower upper) below)

@@ -1,21 +1,17 @@
 -- The link of an accepted zone that speaks for a name.
-use Rattle.std.proofs.Common.{◌≡◌, ◌⊎◌, ℕ, Bool, true, false, ◌&&◌, List, [], ◌∷◌, map, length, inl, inr, refl, sym, ap, subst, ◌∙◌, ⊎_elim, arith, eqb, Ordering}
-use Rattle.std.specs.declared.cmp.Ordering.TheVariants.{Less, Equal, Greater}
+use Rattle.std.proofs.Common.{◌≡◌, ◌⊎◌, true, false, List, [], ◌∷◌, map, inl, inr, refl, sym, ap, subst, ◌∙◌, ⊎_elim, arith, eqb}
+use Rattle.std.specs.declared.cmp.Ordering.TheVariants.{Less, Greater}
 use Rattle.std.specs.List.{AllByRecursion, filter, list_any}
-use Rattle.std.specs.List.Sorted.{IsStrictlySortedBy}
-use Rattle.std.proofs.lemmas.Bool.{and_parts, false_from_ne_true}
-use Rattle.std.proofs.lemmas.Cmp.{tied_itself}
+use Rattle.std.proofs.lemmas.Bool.{and_parts}
 use Rattle.definitions.specs.Name.{Name, low, same, name_cmp, at_or_above}
-use Rattle.definitions.specs.ZoneChain.{Nsec}
 use Rattle.definitions.proofs.NameLaws.{apex_first}
-use Rattle.answer.specs.Accepting.{HandedRr, record_cmp}
+use Rattle.answer.specs.Accepting.{HandedRr}
 use Rattle.answer.specs.Links.{link_speaks, record_links}
-use Rattle.answer.specs.Served.{proofs_of, served_of}
 use Rattle.answer.specs.ZoneView.{IsPublished, is_of, name_cmp_total}
 use Rattle.answer.proofs.OneLink.{Lowered, One, climbed, one_link}
 use Rattle.answer.proofs.ZoneChains.{Climbs, greater_trans, owners_climb}
 use Rattle.answer.proofs.ZoneData.{soa_there}
-use Rattle.answer.proofs.ZoneLists.{Has, all_at, found}
+use Rattle.answer.proofs.ZoneLists.{Has, found}
 use Rattle.answer.proofs.ZoneNames.{at_or_above-low, low-low, same_labels}
 
 -- a record among some has this owner in lower case

@@ -1,27 +1,23 @@
 -- Links of an accepted zone decide that a name does not exist.
-use Rattle.std.proofs.Common.{◌≡◌, ◌⊎◌, ℕ, ◌+◌, ◌<◌, ◌≤◌, Bool, true, false, ◌&&◌, ◌||◌, List, [], ◌∷◌, length, inl, inr, refl, sym, ap, subst, ◌∙◌, ⊎_elim, arith, Ordering}
+use Rattle.std.proofs.Common.{◌≡◌, ◌+◌, ◌<◌, ◌≤◌, Bool, true, false, ◌||◌, List, [], ◌∷◌, length, refl, sym, ap, subst, ◌∙◌, ⊎_elim, arith, Ordering}
 use Rattle.std.specs.declared.cmp.Ordering.TheVariants.{Less, Equal, Greater}
 use Rattle.std.specs.List.{AllByRecursion, list_any}
-use Rattle.std.specs.Ordering.{is_lt}
 use Rattle.std.specs.Prelude.{if◌then◌else◌, Some}
-use Rattle.std.specs.Str.{bytes_eq}
 use Rattle.std.proofs.lemmas.Bool.{and_from, and_parts, false_from_ne_true, or_cases, or_left, or_right}
-use Rattle.definitions.specs.Covering.{before, covers}
-use Rattle.definitions.specs.Name.{Name, IsLabel, low, labels_eq, same, name_cmp, at_or_above, strictly_above, wire_len}
-use Rattle.definitions.specs.Zone.{exists, star_under}
+use Rattle.definitions.specs.Name.{Name, IsLabel, low, same, name_cmp, at_or_above, strictly_above, wire_len}
+use Rattle.definitions.specs.Zone.{exists}
 use Rattle.definitions.proofs.NameLaws.{interval}
 use Rattle.answer.specs.Accepting.{HandedRr, zone_with}
-use Rattle.answer.specs.Facts.{Link, closest, link_covers}
-
+use Rattle.answer.specs.Facts.{Link, closest}
 use Rattle.answer.specs.Served.{kept_ancestor}
-use Rattle.answer.specs.ZoneView.{IsPublished, is_of, name_cmp_total}
+use Rattle.answer.specs.ZoneView.{IsPublished, is_of}
 use Rattle.answer.proofs.AnswerRrsets.{soa_is}
 use Rattle.answer.proofs.DenialDecided.{IsLinkOf}
 use Rattle.answer.proofs.DenialLink.{Linked, Owns, Speaks}
 use Rattle.answer.proofs.NameLaws.{wire_len-cons}
 use Rattle.answer.proofs.ZoneAnswers.{at_itself}
-use Rattle.answer.proofs.ZoneLists.{Has, all_at, any_from, found}
-use Rattle.answer.proofs.ZoneNames.{at_or_above-low, labels_eq-same, low-low, name_cmp-low, same-low, same_labels}
+use Rattle.answer.proofs.ZoneLists.{any_from, found}
+use Rattle.answer.proofs.ZoneNames.{at_or_above-low, same_labels}
 use Rattle.answer.proofs.ZoneServed.{exists_is, has_is}
 
 -- ---- what exists
@@ -74,31 +70,31 @@ pub shows_exist : (apex : Name) (rs : List HandedRr) → IsPublished apex rs →
 shows_exist apex rs p q inside none s f is m below above =
     both_ways (shows f m) (exists (zone_with apex rs) (low m))
     (λ e. ⊎_elim
-        (λ (h : at_or_above m f.owner ≡ true). exists_above apex rs p m s.owner below s.linked.owns (ap (at_or_above (low m)) (sym is.owner_is) ∙ at_or_above-low m f.owner ∙ h))
-        (λ (h : at_or_above m f.next ≡ true). exists_above apex rs p m s.next below (leads_owns apex rs p s.owner s.next s.linked) (ap (at_or_above (low m)) (sym is.next_is) ∙ at_or_above-low m f.next ∙ h))
-        (or_cases (at_or_above m f.owner) (at_or_above m f.next) e))
+    (λ (h : at_or_above m f.owner ≡ true). exists_above apex rs p m s.owner below s.linked.owns (ap (at_or_above (low m)) (sym is.owner_is) ∙ at_or_above-low m f.owner ∙ h))
+    (λ (h : at_or_above m f.next ≡ true). exists_above apex rs p m s.next below (leads_owns apex rs p s.owner s.next s.linked) (ap (at_or_above (low m)) (sym is.next_is) ∙ at_or_above-low m f.next ∙ h))
+    (or_cases (at_or_above m f.owner) (at_or_above m f.next) e))
     (λ e.
-        let r = found (λ (r : HandedRr). at_or_above m r.owner) rs (and_parts (at_or_above apex m) (list_any (λ r. at_or_above m r.owner) rs) (sym (exists_is apex rs p.plain p.inside false m) ∙ e)).1 in
-        let here : at_or_above (low m) (low r.0.owner) ≡ true = at_or_above-low m r.0.owner ∙ r.2 in
-        let there : at_or_above (low m) (low q) ≡ true = at_or_above-low m q ∙ above in
-        ⊎_elim
-        (λ (x : s.owner ≡ low q). absurd (none_at apex rs p q s.owner s.next inside none s.linked x))
-        (λ near.
-            let up : (name_cmp (low r.0.owner) (low q) ≡ Less → ⊥) → shows f m ≡ true = λ late.
-                let between = near.1 r.0 r.1 late in
-                let at : at_or_above (low m) s.next ≡ true = interval (low m) (low q) s.next (low r.0.owner) there here (λ g. let l = between.0 in cc) between.1 in
-                or_right (at_or_above m f.owner) (at_or_above m f.next) (sym (at_or_above-low m f.next) ∙ ap (at_or_above (low m)) is.next_is ∙ at) in
-            let down : name_cmp (low r.0.owner) (low q) ≡ Less → shows f m ≡ true = λ early.
-                let at : at_or_above (low m) s.owner ≡ true = interval (low m) (low r.0.owner) s.owner (low q) here there (s.last r.0 r.1 early) (λ g. let l = near.0 in cc) in
-                or_left (at_or_above m f.owner) (at_or_above m f.next) (sym (at_or_above-low m f.owner) ∙ ap (at_or_above (low m)) is.owner_is ∙ at) in
-            let go : (o : Ordering) → name_cmp (low r.0.owner) (low q) ≡ o → shows f m ≡ true =
-            λ o. elim o as (λ o. name_cmp (low r.0.owner) (low q) ≡ o → shows f m ≡ true) [
-              | Less ↦ λ l. down l
-              | Equal ↦ λ l. up (λ c. cc)
-              | Greater ↦ λ l. up (λ c. cc)
-            ] in
-            go (name_cmp (low r.0.owner) (low q)) refl)
-        s.near)
+    let r = found (λ (r : HandedRr). at_or_above m r.owner) rs (and_parts (at_or_above apex m) (list_any (λ r. at_or_above m r.owner) rs) (sym (exists_is apex rs p.plain p.inside false m) ∙ e)).1 in
+    let here : at_or_above (low m) (low r.0.owner) ≡ true = at_or_above-low m r.0.owner ∙ r.2 in
+    let there : at_or_above (low m) (low q) ≡ true = at_or_above-low m q ∙ above in
+    ⊎_elim
+    (λ (x : s.owner ≡ low q). absurd (none_at apex rs p q s.owner s.next inside none s.linked x))
+    (λ near.
+    let up : (name_cmp (low r.0.owner) (low q) ≡ Less → ⊥) → shows f m ≡ true = λ late.
+    let between = near.1 r.0 r.1 late in
+    let at : at_or_above (low m) s.next ≡ true = interval (low m) (low q) s.next (low r.0.owner) there here (λ g. let l = between.0 in cc) between.1 in
+    or_right (at_or_above m f.owner) (at_or_above m f.next) (sym (at_or_above-low m f.next) ∙ ap (at_or_above (low m)) is.next_is ∙ at) in
+    let down : name_cmp (low r.0.owner) (low q) ≡ Less → shows f m ≡ true = λ early.
+    let at : at_or_above (low m) s.owner ≡ true = interval (low m) (low r.0.owner) s.owner (low q) here there (s.last r.0 r.1 early) (λ g. let l = near.0 in cc) in
+    or_left (at_or_above m f.owner) (at_or_above m f.next) (sym (at_or_above-low m f.owner) ∙ ap (at_or_above (low m)) is.owner_is ∙ at) in
+    let go : (o : Ordering) → name_cmp (low r.0.owner) (low q) ≡ o → shows f m ≡ true =
+    λ o. elim o as (λ o. name_cmp (low r.0.owner) (low q) ≡ o → shows f m ≡ true) [
+      | Less ↦ λ l. down l
+      | Equal ↦ λ l. up (λ c. cc)
+      | Greater ↦ λ l. up (λ c. cc)
+    ] in
+    go (name_cmp (low r.0.owner) (low q)) refl)
+    s.near)
 
 -- the closest encloser of a name, as its ancestor is spelled
 pub record Encloser (apex : Name) (rs : List HandedRr) (q : Name) : Type 0 where
@@ -123,11 +119,11 @@ encloser_of apex rs p (l ∷ m) h inside none =
     let go : (b : Bool) → exists z (low m) ≡ b → Encloser apex rs (l ∷ m) =
     λ b. elim b as (λ b. exists z (low m) ≡ b → Encloser apex rs (l ∷ m)) [
       | true ↦ λ e. record {
-          name = m;
-          low_is = sym (ap (λ b. if b then low m else kept_ancestor z false (low m)) e);
-          inside = below;
-          short = omega (arith, longer, label);
-          found_by = λ f k. ap (λ b. elim b [ true ↦ Some m | false ↦ closest f m ]) (k m below (or_right (same m (l ∷ m)) (at_or_above m m) (at_itself m)) ∙ e);
+        name = m;
+        low_is = sym (ap (λ b. if b then low m else kept_ancestor z false (low m)) e);
+        inside = below;
+        short = omega (arith, longer, label);
+        found_by = λ f k. ap (λ b. elim b [ true ↦ Some m | false ↦ closest f m ]) (k m below (or_right (same m (l ∷ m)) (at_or_above m m) (at_itself m)) ∙ e);
       }
       | false ↦ λ e.
           let up = encloser_of apex rs p m h.1 below e in

@@ -1,12 +1,12 @@
 -- The links that speak for a name and for the wildcard under its closest encloser decide that it does not exist.
-use Rattle.std.proofs.Common.{◌≡◌, ◌⊎◌, ℕ, ◌+◌, ◌≤◌, Bool, true, false, ◌&&◌, ◌||◌, List, [], ◌∷◌, inl, inr, refl, sym, ap, subst, ◌∙◌, ⊎_elim, arith, eqb}
+use Rattle.std.proofs.Common.{◌≡◌, ◌⊎◌, ℕ, ◌+◌, ◌≤◌, Bool, true, false, ◌&&◌, ◌||◌, List, [], ◌∷◌, inl, inr, refl, sym, ap, subst, ◌∙◌, ⊎_elim, arith}
 use Rattle.std.specs.List.{AllByRecursion}
 use Rattle.std.specs.Ordering.{is_lt}
-use Rattle.std.specs.Prelude.{Option, Some, None, nat_lt, not, ◌==◌}
-use Rattle.std.proofs.lemmas.Bool.{and_parts, false_from_ne_true, or_parts, or_right}
+use Rattle.std.specs.Prelude.{Option, Some, None, nat_lt}
+use Rattle.std.proofs.lemmas.Bool.{false_from_ne_true, or_right}
 use Rattle.definitions.specs.Bitmap.{bitmap_has}
-use Rattle.definitions.specs.Covering.{before, covers}
-use Rattle.definitions.specs.Name.{Name, low, labels_eq, same, name_cmp, at_or_above, strictly_above, wire_len}
+use Rattle.definitions.specs.Covering.{covers}
+use Rattle.definitions.specs.Name.{Name, low, labels_eq, same, at_or_above, strictly_above, wire_len}
 use Rattle.definitions.specs.Zone.{Verdict, NoName, NoType, StarNoType, exists, star_under}
 use Rattle.answer.specs.Accepting.{HandedRr, zone_with}
 use Rattle.answer.specs.Facts.{Link, at_owner, at_star, below_cut, by_star, closest, covered, decided, first_some, link_covers, or_else}
@@ -16,7 +16,7 @@ use Rattle.answer.proofs.DenialDecided.{IsLinkOf, cut_silent, no_cut_link, owner
 use Rattle.answer.proofs.DenialLink.{Linked, Speaks}
 use Rattle.answer.proofs.DenialNames.{Encloser, none_at, none_below, shows_exist}
 use Rattle.answer.proofs.NameLaws.{wire_len-star}
-use Rattle.answer.proofs.ZoneLists.{Has, all_at}
+use Rattle.answer.proofs.ZoneLists.{Has}
 use Rattle.answer.proofs.ZoneNames.{name_cmp-low, same-low, same_labels, strictly_above-low}
 use Rattle.answer.proofs.ZoneServed.{no_star}
 
@@ -80,7 +80,7 @@ first_told : (g : Link → Option Verdict) (v : Verdict) (fs : List Link) → Al
 first_told g v [] h f there e = absurd there
 first_told g v (x ∷ xs) h f there e = ⊎_elim
     (λ (silent : g x ≡ None). ap (λ o. elim o [ None ↦ first_some g xs | Some y ↦ Some y ]) silent
-        ∙ first_told g v xs h.1 f (⊎_elim (λ i. absurd (let c : None ≡ Some v = sym silent ∙ ap g (sym i) ∙ e in cc)) (λ k. k) there) e)
+    ∙ first_told g v xs h.1 f (⊎_elim (λ i. absurd (let c : None ≡ Some v = sym silent ∙ ap g (sym i) ∙ e in cc)) (λ k. k) there) e)
     (λ (told : g x ≡ Some v). ap (λ o. elim o [ None ↦ first_some g xs | Some y ↦ Some y ]) told)
     h.0
 
@@ -124,19 +124,19 @@ decided_no_name apex rs p q t inside short none e s r fs each f f_there f_is g g
     let silent_at : (x : Link) → Has fs x → at_owner apex q t x ≡ None = λ x h. let o = each x h in owner_silent apex q t x (not_at apex rs p q o.owner o.next inside none o.linked x o.is) in
     let silent_cut : (x : Link) → Has fs x → below_cut apex q x ≡ None = λ x h. let o = each x h in cut_silent apex q x (no_cut_link apex rs p o.owner o.next x o.is o.linked.owns) in
     let star_at : (x : Link) → Has fs x → at_star apex star t x ≡ when_covers (link_covers apex x star) = λ x h. let o = each x h in
-        star_says apex star t x (not_at apex rs p star o.owner o.next star_inside star_none o.linked x o.is) (not_below apex rs p star o.owner o.next star_inside star_none o.linked x o.is) in
+    star_says apex star t x (not_at apex rs p star o.owner o.next star_inside star_none o.linked x o.is) (not_below apex rs p star o.owner o.next star_inside star_none o.linked x o.is) in
     let g_covers : link_covers apex g star ≡ true = covers_as_spoken apex rs p star r.owner r.next star_inside star_none r.linked g g_is ∙ g_speaks in
     let starred : first_some (at_star apex star t) fs ≡ Some NoName =
     first_told (at_star apex star t) NoName fs (all_have (Tells (at_star apex star t) NoName) fs (λ x h. told_when (at_star apex star t) x (link_covers apex x star) (star_at x h))) g g_there (star_at g g_there ∙ ap when_covers g_covers) in
     let by : by_star apex star t fs ≡ Some NoName = ap (λ b. elim b [ true ↦ None | false ↦ first_some (at_star apex star t) fs ]) (short_star e.name q e.short short) ∙ starred in
     let says : (x : Link) → IsLinkOf apex rs s.owner s.next x → covered apex q t fs x ≡ Some NoName = λ x is.
-        covered_by_star apex q e.name t fs x (covers_as_spoken apex rs p q s.owner s.next inside none s.linked x is ∙ f_speaks)
-        (not_below apex rs p q s.owner s.next inside none s.linked x is) (e.found_by x (shows_exist apex rs p q inside none s x is)) ∙ by in
+    covered_by_star apex q e.name t fs x (covers_as_spoken apex rs p q s.owner s.next inside none s.linked x is ∙ f_speaks)
+    (not_below apex rs p q s.owner s.next inside none s.linked x is) (e.found_by x (shows_exist apex rs p q inside none s x is)) ∙ by in
     let tells : (x : Link) → Has fs x → Tells (covered apex q t fs) NoName x = λ x h. let o = each x h in
-        ⊎_elim
-        (λ i. inr (says x (subst (λ n. IsLinkOf apex rs s.owner n x) i.1 (subst (λ n. IsLinkOf apex rs n o.next x) i.0 o.is))))
-        (λ (apart : link_speaks apex (low q ∷ []) o.owner o.next ≡ false). inl (covered_none apex q t fs x (covers_as_spoken apex rs p q o.owner o.next inside none o.linked x o.is ∙ apart)))
-        o.which in
+    ⊎_elim
+    (λ i. inr (says x (subst (λ n. IsLinkOf apex rs s.owner n x) i.1 (subst (λ n. IsLinkOf apex rs n o.next x) i.0 o.is))))
+    (λ (apart : link_speaks apex (low q ∷ []) o.owner o.next ≡ false). inl (covered_none apex q t fs x (covers_as_spoken apex rs p q o.owner o.next inside none o.linked x o.is ∙ apart)))
+    o.which in
     ap (λ o. or_else o (or_else (first_some (below_cut apex q) fs) (first_some (covered apex q t fs) fs))) (none_told (at_owner apex q t) fs (all_have (λ x. at_owner apex q t x ≡ None) fs silent_at))
     ∙ ap (λ o. or_else o (first_some (covered apex q t fs) fs)) (none_told (below_cut apex q) fs (all_have (λ x. below_cut apex q x ≡ None) fs silent_cut))
     ∙ first_told (covered apex q t fs) NoName fs (all_have (Tells (covered apex q t fs) NoName) fs tells) f f_there (says f f_is)

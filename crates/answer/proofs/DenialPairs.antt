@@ -99,12 +99,12 @@ chosen_by_two {A} p r (x ∷ xs) a b e f =
                 inr (inl (passed (either p r) x xs true (λ i. h i || k i) ∙ (λ i. one.0 i ∷ later.0 i), (later.1, ap r (sym one.0) ∙ k)))
           ]
       | false ↦ λ h. elim c as (λ c. r x ≡ c → Chosen p r (x ∷ xs) a b) [
-          | true ↦ λ k.
-              let two = some_first x b (filter r xs) [] (sym (passed r x xs true k) ∙ f) in
-              let later = first_alone p r xs a (sym (passed p x xs false h) ∙ e) two.1 in
-              inr (inr (passed (either p r) x xs true (λ i. h i || k i) ∙ (λ i. two.0 i ∷ later.0 i), (ap p (sym two.0) ∙ h, later.1)))
-          | false ↦ λ k. more p r x xs a b (λ i. h i || k i) (chosen_by_two p r xs a b (sym (passed p x xs false h) ∙ e) (sym (passed r x xs false k) ∙ f))
-        ]
+        | true ↦ λ k.
+            let two = some_first x b (filter r xs) [] (sym (passed r x xs true k) ∙ f) in
+            let later = first_alone p r xs a (sym (passed p x xs false h) ∙ e) two.1 in
+            inr (inr (passed (either p r) x xs true (λ i. h i || k i) ∙ (λ i. two.0 i ∷ later.0 i), (ap p (sym two.0) ∙ h, later.1)))
+        | false ↦ λ k. more p r x xs a b (λ i. h i || k i) (chosen_by_two p r xs a b (sym (passed p x xs false h) ∙ e) (sym (passed r x xs false k) ∙ f))
+      ]
     ] in
     go (p x) (r x) refl refl
 

@@ -1,11 +1,11 @@
 -- The types of a name of an accepted zone's chain.
-use Rattle.std.proofs.Common.{◌≡◌, ℕ, ◌<◌, Bool, true, false, ◌&&◌, ◌||◌, not, cond, List, [], ◌∷◌, ◌++◌, map, refl, sym, ap, ◌∙◌, eqb, arith}
+use Rattle.std.proofs.Common.{◌≡◌, ℕ, ◌<◌, Bool, true, false, ◌&&◌, ◌||◌, not, cond, List, [], ◌∷◌, ◌++◌, map, refl, ap, ◌∙◌, eqb, arith}
 use Rattle.std.specs.Prelude.{if◌then◌else◌, nat_eq, nat_le, ◌==◌, ◌^◌}
 use Rattle.std.specs.List.{filter, list_any}
 use Rattle.std.proofs.lemmas.Bool.{and_parts, false_from_ne_true, or_parts}
 use Rattle.std.proofs.lemmas.List.Folds.{list_any-append}
 use Rattle.definitions.specs.Bitmap.{bitmap, bitmap_has}
-use Rattle.definitions.specs.Name.{Name, low, labels_eq, same, at_or_above, strictly_above}
+use Rattle.definitions.specs.Name.{Name, low, labels_eq, at_or_above, strictly_above}
 use Rattle.definitions.specs.Zone.{Rr, Zone, has, is_delegation}
 use Rattle.definitions.specs.ZoneChain.{types_at, at_apex}
 use Rattle.definitions.proofs.BitmapLaws.{spells_set}
@@ -94,7 +94,7 @@ link_lacks_type apex rs o q a h e = link_lacks apex rs o q.rtype h (unsigned_fro
 pub link_lacks_ns : (apex : Name) (rs : List HandedRr) → IsPublished apex rs → (o : Name) → strictly_above (low apex) o ≡ true → bitmap_has (bitmap (link_types apex rs o)) 2 ≡ false
 link_lacks_ns apex rs p o e =
     let none : has (zone_with apex rs) o 2 ≡ false = false_from_ne_true _ (λ h.
-        let both : is_delegation (zone_with apex rs) o ≡ true = (λ i. h i && e i) in
-        let no = no_delegation apex rs p.plain o in
-        cc) in
+    let both : is_delegation (zone_with apex rs) o ≡ true = (λ i. h i && e i) in
+    let no = no_delegation apex rs p.plain o in
+    cc) in
     link_lacks apex rs o 2 (omega arith) (record { rrsig = refl; nsec = refl; dnskey = refl }) none

@@ -1,6 +1,5 @@
 -- A judge of what one zone gave under keys that meet says the zone's verdict.
-use Rattle.std.proofs.Common.{◌≡◌, ℕ, ◌<◌, true, false, List, [], ◌∷◌, inl, inr, ◌∙◌, ⊎_elim, arith}
-use Rattle.std.specs.Prelude.{◌^◌}
+use Rattle.std.proofs.Common.{◌≡◌, ℕ, false, List, inl, inr, ◌∙◌, ⊎_elim, arith}
 use Rattle.std.specs.List.{AllByRecursion}
 use Rattle.definitions.specs.Name.{IsLabel}
 use Rattle.definitions.specs.Zone.{verdict}

@@ -1,10 +1,9 @@
 -- What a zone under keys that meet has given is judged by what its answer verifies.
-use Rattle.std.proofs.Common.{◌≡◌, ℕ, ◌<◌, Bool, true, false, not, ◌&&◌, List, [], ◌∷◌, Option, Some, None, Result, Ok, Err, eqb, length, filter, refl, sym, ap, ◌∙◌, arith}
+use Rattle.std.proofs.Common.{◌≡◌, ℕ, ◌<◌, Bool, true, false, not, ◌&&◌, List, [], ◌∷◌, Option, Some, None, Result, Ok, Err, length, filter, refl, ap, ◌∙◌, arith}
 use Rattle.std.specs.Prelude.{find, nat_eq, if◌then◌else◌}
 use Rattle.std.proofs.lemmas.Bool.{and_from, eq-eqb, ne_eqb}
 use Rattle.definitions.specs.Name.{Name, low}
 use Rattle.definitions.specs.Dnskey.{Dnskey, Ds, key_tag}
-use Rattle.definitions.specs.Signing.{label_count}
 use Rattle.definitions.specs.Zone.{Unsigned}
 use Rattle.answer.specs.Accepting.{HandedRr}
 use Rattle.answer.specs.Answers.{Answers}
@@ -13,16 +12,15 @@ use Rattle.answer.specs.Given.{fields_for}
 use Rattle.answer.specs.declared.judge.verdict.Refusal.{Refusal}
 use Rattle.answer.specs.declared.judge.verdict.Refusal.TheVariants as r
 use Rattle.answer.specs.declared.message.MessageError.{MessageError}
-use Rattle.answer.specs.Judged.{is_chained, judged, judged_answer, judged_messages, keys_of, trusting}
-use Rattle.answer.specs.Judging.{Answer, Handing, Refuses, Says, first_refusal, has_equal_tags, is_allowed, message_refusal, same_question}
+use Rattle.answer.specs.Judged.{judged, judged_answer, judged_messages, keys_of, trusting}
+use Rattle.answer.specs.Judging.{Answer, Handing, Refuses, Says, first_refusal, has_equal_tags, message_refusal, same_question}
 use Rattle.answer.specs.Meeting.{HasDs, IsZoneKey, WasGiven, served_from}
-use Rattle.answer.specs.Message.{Asked, Message, message}
-use Rattle.answer.specs.Served.{Group, Served, answer_groups, by_tag}
+use Rattle.answer.specs.Message.{Asked, Message}
+use Rattle.answer.specs.Served.{Group, answer_groups, by_tag}
 use Rattle.answer.specs.Verified.{Trusting}
-use Rattle.answer.proofs.GivenChained.{chained_given, keys_apart, keys_has, small_flags, some_length}
+use Rattle.answer.proofs.GivenChained.{chained_given, keys_apart, keys_has, small_flags}
 use Rattle.answer.proofs.GivenKeys.{by_tag-has, find_kept}
 use Rattle.answer.proofs.GivenLists.{has_contained}
-use Rattle.answer.proofs.GivenSignatures.{IsSignedBy}
 use Rattle.answer.proofs.ZoneLists.{Has, all_at}
 use Rattle.answer.proofs.ZoneNames.{labels_eq-same}
 

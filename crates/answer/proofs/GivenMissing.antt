@@ -1,13 +1,13 @@
 -- What a judge finds in an answer that was given for a name that does not exist.
-use Rattle.std.proofs.Common.{◌≡◌, ◌⊎◌, ℕ, ◌<◌, ◌≤◌, Bool, true, false, ◌&&◌, ◌||◌, List, [], ◌∷◌, ◌++◌, map, inl, inr, refl, sym, ap, subst, ◌∙◌, ⊎_elim, eqb, arith}
-use Rattle.std.specs.Prelude.{◌^◌, Option, Some, None}
+use Rattle.std.proofs.Common.{◌≡◌, ◌⊎◌, ℕ, ◌≤◌, Bool, true, false, ◌&&◌, ◌||◌, List, [], ◌∷◌, map, inl, inr, refl, sym, ap, subst, ◌∙◌, ⊎_elim, eqb, arith}
+use Rattle.std.specs.Prelude.{None}
 use Rattle.std.specs.List.{AllByRecursion, AllZip, filter, list_any}
 use Rattle.std.proofs.lemmas.Bool.{false_from_ne_true, or_right}
 use Rattle.definitions.specs.Bitmap.{bitmap}
 use Rattle.definitions.specs.Dnskey.{Dnskey}
 use Rattle.definitions.specs.Covering.{covers}
 use Rattle.definitions.specs.Name.{Name, IsLabel, at_or_above, labels_eq, low, same, wire_len}
-use Rattle.definitions.specs.Zone.{NoName, exists, has, star_under, verdict}
+use Rattle.definitions.specs.Zone.{exists, has, star_under, verdict}
 use Rattle.definitions.specs.ZoneChain.{Nsec, nsec_next}
 use Rattle.answer.specs.Accepting.{HandedRr, zone_with}
 use Rattle.answer.specs.Answers.{Answers}
@@ -15,7 +15,7 @@ use Rattle.answer.specs.Facts.{Link, decided}
 use Rattle.answer.specs.Given.{AreGroups}
 use Rattle.answer.specs.GivenGroups.{SameLink, SaysLink, has_twins, is_nsec, is_rrset}
 use Rattle.answer.specs.Judged.{by_facts, judged_answer, trusting}
-use Rattle.answer.specs.Judging.{Handing, Says, is_allowed}
+use Rattle.answer.specs.Judging.{Handing, Says}
 use Rattle.answer.specs.Links.{link_group, link_speaks, record_links}
 use Rattle.answer.specs.Message.{Message}
 use Rattle.answer.specs.Served.{Group, answer_groups, kept_ancestor, proofs_of, served_of, soa, spelled_as}
@@ -29,7 +29,7 @@ use Rattle.answer.proofs.DenialNoName.{IsOneOf, decided_no_name}
 use Rattle.answer.proofs.DenialPairs.{Chosen, chosen_by_two, chosen_there, filter_agree}
 use Rattle.answer.proofs.DenialTypes.{inside_apex, link_types, not_nsec, not_rrsig}
 use Rattle.answer.proofs.GivenLinks.{IsProof, verified_links_given}
-use Rattle.answer.proofs.GivenSignatures.{IsSignedBy, verified_rrset_missing}
+use Rattle.answer.proofs.GivenSignatures.{verified_rrset_missing}
 use Rattle.answer.proofs.GivenVerdict.{IsAnswered, given_verdict}
 use Rattle.answer.proofs.ZoneAnswers.{exists_from_has, groups_without_name, verdict_without_name}
 use Rattle.answer.proofs.ZoneChains.{next_is, proofs_are}
@@ -131,16 +131,15 @@ denial_read a k h usable answer hash rs is ls d none =
     let are = subst (AreGroups a.verifies k h.answer_bytes answer.records h.apex is.at is.life is.keys) d.groups_are is.groups_are in
     let each : (x : Group) → Has gs x → x.rtype ≡ 47 → IsProof w h.apex is.at is.life is.keys gs x is.key =
     λ x there nsec. ⊎_elim
-        (λ (e : x ≡ head). absurd (let six : 6 ≡ 47 = ap (λ (y : Group). y.rtype) (sym e) ∙ nsec in omega (arith, six)))
-        (λ later. let i = imaged (record_of h.apex rs) ls x later in
-            subst (λ y. IsProof w h.apex is.at is.life is.keys gs y is.key) (sym i.is) (is_proof a k h usable answer hash rs is ls d.linked i.from i.there))
-        there in
+    (λ (e : x ≡ head). absurd (let six : 6 ≡ 47 = ap (λ (y : Group). y.rtype) (sym e) ∙ nsec in omega (arith, six)))
+    (λ later. let i = imaged (record_of h.apex rs) ls x later in
+    subst (λ y. IsProof w h.apex is.at is.life is.keys gs y is.key) (sym i.is) (is_proof a k h usable answer hash rs is ls d.linked i.from i.there))
+    there in
     let says : AllZip SaysLink (filter is_nsec gs) (map (read_of h.apex rs) ls) =
     subst (λ xs. AllZip SaysLink xs (map (read_of h.apex rs) ls)) (sym (all_nsec h.apex rs ls)) (says_all h.apex rs is.apex_is is.named ls d.linked) in
     let other : list_any (is_rrset q t) gs ≡ false = λ i. soa_not_asked h.apex hash rs is.published q t none i || no_rrset h.apex rs q t (eqb-back 47 t ∙ not_nsec h.apex h.asked is.allowed) ls i in
     let rrset : verified_rrset w k h.answer_bytes answer.records q t ≡ None =
-    verified_rrset_missing w k h.answer_bytes answer.records h.apex is.at is.life is.keys gs q t are (eqb-back 46 t ∙ not_rrsig h.apex h.asked is.allowed) other in
-    (
+    verified_rrset_missing w k h.answer_bytes answer.records h.apex is.at is.life is.keys gs q t are (eqb-back 46 t ∙ not_rrsig h.apex h.asked is.allowed) other in (
       verified_links_given w k h.answer_bytes answer.records h.apex is.at is.life is.keys gs is.key (map (read_of h.apex rs) ls) are d.alone each says,
       ap (λ o. by_facts (decided h.apex o (verified_links w k h.answer_bytes answer.records) q t)) rrset,
     )
@@ -232,32 +231,32 @@ denied_by apex hash rs p q t none e s r =
     let head = soa (served_of apex Nsec hash rs) in
     ⊎_elim
     (λ one. record {
-        links = a ∷ [];
-        denying = record { groups_are = named_groups apex hash rs p q t none e (a ∷ []) one.1; linked = (s.linked, tt); alone = refl };
-        first = inl refl;
-        second = inl one.0;
-        each = λ m h. ⊎_elim (λ (i : m ≡ a). inl (ap (λ (x : Pair). x.0) i, ap (λ (x : Pair). x.1) i)) (λ x. absurd x) h;
+      links = a ∷ [];
+      denying = record { groups_are = named_groups apex hash rs p q t none e (a ∷ []) one.1; linked = (s.linked, tt); alone = refl };
+      first = inl refl;
+      second = inl one.0;
+      each = λ m h. ⊎_elim (λ (i : m ≡ a). inl (ap (λ (x : Pair). x.0) i, ap (λ (x : Pair). x.1) i)) (λ x. absurd x) h;
     })
     (λ two. ⊎_elim
-        (λ front.
-            let differ = owners_differ apex rs p q star s r front.1.0 in
-            record {
-              links = a ∷ b ∷ [];
-              denying = record { groups_are = named_groups apex hash rs p q t none e (a ∷ b ∷ []) front.0; linked = (s.linked, (r.linked, tt)); alone = two_alone head (record_of apex rs a) (record_of apex rs b) refl refl refl (apart_owners apex rs b a r.linked s.linked differ) };
-              first = inl refl;
-              second = inr (inl refl);
-              each = λ m h. ⊎_elim (λ (i : m ≡ a). inl (ap (λ (x : Pair). x.0) i, ap (λ (x : Pair). x.1) i)) (λ k. ⊎_elim (λ (i : m ≡ b). inr (ap (tests apex q) i ∙ front.1.0)) (λ x. absurd x) k) h;
-            })
-        (λ back.
-            let differ = owners_differ apex rs p q star s r back.1.0 in
-            record {
-              links = b ∷ a ∷ [];
-              denying = record { groups_are = named_groups apex hash rs p q t none e (b ∷ a ∷ []) back.0; linked = (r.linked, (s.linked, tt)); alone = two_alone head (record_of apex rs b) (record_of apex rs a) refl refl refl (apart_owners apex rs a b s.linked r.linked (λ i. differ (sym i))) };
-              first = inr (inl refl);
-              second = inl refl;
-              each = λ m h. ⊎_elim (λ (i : m ≡ b). inr (ap (tests apex q) i ∙ back.1.0)) (λ k. ⊎_elim (λ (i : m ≡ a). inl (ap (λ (x : Pair). x.0) i, ap (λ (x : Pair). x.1) i)) (λ x. absurd x) k) h;
-            })
-        two)
+    (λ front.
+    let differ = owners_differ apex rs p q star s r front.1.0 in
+    record {
+      links = a ∷ b ∷ [];
+      denying = record { groups_are = named_groups apex hash rs p q t none e (a ∷ b ∷ []) front.0; linked = (s.linked, (r.linked, tt)); alone = two_alone head (record_of apex rs a) (record_of apex rs b) refl refl refl (apart_owners apex rs b a r.linked s.linked differ) };
+      first = inl refl;
+      second = inr (inl refl);
+      each = λ m h. ⊎_elim (λ (i : m ≡ a). inl (ap (λ (x : Pair). x.0) i, ap (λ (x : Pair). x.1) i)) (λ k. ⊎_elim (λ (i : m ≡ b). inr (ap (tests apex q) i ∙ front.1.0)) (λ x. absurd x) k) h;
+    })
+    (λ back.
+    let differ = owners_differ apex rs p q star s r back.1.0 in
+    record {
+      links = b ∷ a ∷ [];
+      denying = record { groups_are = named_groups apex hash rs p q t none e (b ∷ a ∷ []) back.0; linked = (r.linked, (s.linked, tt)); alone = two_alone head (record_of apex rs b) (record_of apex rs a) refl refl refl (apart_owners apex rs a b s.linked r.linked (λ i. differ (sym i))) };
+      first = inr (inl refl);
+      second = inl refl;
+      each = λ m h. ⊎_elim (λ (i : m ≡ b). inr (ap (tests apex q) i ∙ back.1.0)) (λ k. ⊎_elim (λ (i : m ≡ a). inl (ap (λ (x : Pair). x.0) i, ap (λ (x : Pair). x.1) i)) (λ x. absurd x) k) h;
+    })
+    two)
     either
 
 -- ---- the verdict
@@ -280,8 +279,8 @@ missing_verdict a k h usable answer hash rs is labels short none =
     let f = was_read h.apex rs d.links fs d.denying.linked read.0 (s.owner, s.next) d.first in
     let g = was_read h.apex rs d.links fs d.denying.linked read.0 (r.owner, r.next) d.second in
     let each : (x : Link) → Has fs x → IsOneOf h.apex rs q s x = λ x there.
-        let c = was_chosen h.apex rs d.links fs d.denying.linked read.0 x there in
-        record { owner = c.from.0; next = c.from.1; linked = all_at (λ (m : Pair). Linked h.apex rs m.0 m.1) d.links c.from d.denying.linked c.there; is = c.is; which = d.each c.from c.there } in
+    let c = was_chosen h.apex rs d.links fs d.denying.linked read.0 x there in
+    record { owner = c.from.0; next = c.from.1; linked = all_at (λ (m : Pair). Linked h.apex rs m.0 m.1) d.links c.from d.denying.linked c.there; is = c.is; which = d.each c.from c.there } in
     let speaks_name = (chosen_there (tests h.apex q) (record_links (low h.apex) rs) (s.owner, s.next) s.chosen).1 in
     let speaks_star = (chosen_there (tests h.apex star) (record_links (low h.apex) rs) (r.owner, r.next) r.chosen).1 in
     read.1

@@ -1,24 +1,24 @@
 -- What a judge finds in an answer that was given is the zone's verdict.
-use Rattle.std.proofs.Common.{◌≡◌, ◌⊎◌, ℕ, ◌<◌, Bool, true, false, ◌&&◌, ◌||◌, List, [], ◌∷◌, ◌++◌, map, inl, inr, refl, sym, ap, subst, ◌∙◌, ⊎_elim, eqb, arith}
-use Rattle.std.specs.Prelude.{◌^◌, Option, Some, None}
-use Rattle.std.specs.List.{AllByRecursion, AllZip, filter, find, list_any}
+use Rattle.std.proofs.Common.{◌≡◌, ℕ, ◌<◌, Bool, true, false, ◌&&◌, ◌||◌, List, [], ◌∷◌, map, inl, inr, refl, sym, ap, subst, ◌∙◌, ⊎_elim, eqb, arith}
+use Rattle.std.specs.Prelude.{◌^◌, Some, None}
+use Rattle.std.specs.List.{AllByRecursion, AllZip, find, list_any}
 use Rattle.definitions.specs.Bitmap.{bitmap}
 use Rattle.definitions.specs.Dnskey.{Dnskey}
 use Rattle.definitions.specs.Name.{Name, IsLabel, low, same}
-use Rattle.definitions.specs.Zone.{NoType, Records, data_at, exists, has, verdict}
+use Rattle.definitions.specs.Zone.{data_at, exists, has, verdict}
 use Rattle.definitions.specs.ZoneChain.{Nsec}
 use Rattle.answer.specs.Accepting.{HandedRr, zone_with}
 use Rattle.answer.specs.Answers.{Answers}
 use Rattle.answer.specs.Facts.{Link, decided, fits_key}
 use Rattle.answer.specs.Given.{AreGroups, fields_for}
-use Rattle.answer.specs.GivenGroups.{SameLink, SaysLink, has_twins, is_nsec, is_rrset}
+use Rattle.answer.specs.GivenGroups.{SameLink, SaysLink, is_rrset}
 use Rattle.answer.specs.Judged.{by_facts, judged_answer, trusting}
 use Rattle.answer.specs.Judging.{Handing, Says, is_allowed}
 use Rattle.answer.specs.Links.{link_group}
 use Rattle.answer.specs.Meeting.{holds}
 use Rattle.answer.specs.Message.{Message}
 use Rattle.answer.specs.Served.{Group, answer_groups, served_of, soa, spelled_as, ttl_among, written_among}
-use Rattle.answer.specs.Verified.{Trusting, verified_links, verified_rrset}
+use Rattle.answer.specs.Verified.{verified_links, verified_rrset}
 use Rattle.answer.specs.ZoneView.{IsPublished}
 use Rattle.answer.proofs.AnswerRrsets.{AreNamed, link_inside, link_labels, low-link_owner, low-next_spelled, next_spelled, soa_not_asked, some_data, sorted_already}
 use Rattle.answer.proofs.DenialDecided.{IsLinkOf, decided_no_type}
@@ -60,14 +60,14 @@ found_verdict a k h usable answer hash rs is there =
     let g : Group = record { owner = q; source = low q; rtype = t; ttl = ttl_among rs (low q) t; written = written_among rs (low q) t; datas = data_at (zone_with h.apex rs) (low q) t; signed = true } in
     let are = subst (AreGroups a.verifies k h.answer_bytes answer.records h.apex is.at is.life is.keys) (sym (groups_found h.apex hash rs is.published q t (allowed_plain h.apex h.asked is.allowed) there)) is.groups_are in
     let by : IsSignedBy w h.apex is.at is.life is.keys (g ∷ []) g is.key = record {
-        apex_is = refl;
-        group = inl refl;
-        signed = refl;
-        some = some_data h.apex rs is.published q t there;
-        labels = label_count-low q;
-        signer = is.signer;
-        found = is.found g;
-        hold = is.hold;
+      apex_is = refl;
+      group = inl refl;
+      signed = refl;
+      some = some_data h.apex rs is.published q t there;
+      labels = label_count-low q;
+      signer = is.signer;
+      found = is.found g;
+      hold = is.hold;
     } in
     let rrset : verified_rrset w k h.answer_bytes answer.records q t ≡ Some (data_at (zone_with h.apex rs) (low q) t) =
     verified_rrset_given w k h.answer_bytes answer.records h.apex is.at is.life is.keys (g ∷ []) q t g is.key are by
@@ -117,21 +117,21 @@ absent_verdict a k h usable answer hash rs is none there =
     let l : Link = record { owner = g.owner; next = spelled_as h.apex rs s.next; bits = bitmap (link_types h.apex rs s.owner) } in
     let are = subst (AreGroups a.verifies k h.answer_bytes answer.records h.apex is.at is.life is.keys) (denial_groups h.apex hash rs p q t s none there) is.groups_are in
     let by : IsSignedBy w h.apex is.at is.life is.keys (head ∷ g ∷ []) g is.key = record {
-        apex_is = refl;
-        group = inr (inl refl);
-        signed = refl;
-        some = omega arith;
-        labels = link_labels h.apex rs s.owner s.next s.linked;
-        signer = is.signer;
-        found = is.found g;
-        hold = is.hold;
+      apex_is = refl;
+      group = inr (inl refl);
+      signed = refl;
+      some = omega arith;
+      labels = link_labels h.apex rs s.owner s.next s.linked;
+      signer = is.signer;
+      found = is.found g;
+      hold = is.hold;
     } in
     let proof : IsProof w h.apex is.at is.life is.keys (head ∷ g ∷ []) g is.key = record { by = by; below = link_inside h.apex rs p s.owner s.next s.linked } in
     let each : (x : Group) → Has (head ∷ g ∷ []) x → x.rtype ≡ 47 → IsProof w h.apex is.at is.life is.keys (head ∷ g ∷ []) x is.key =
     λ x there nsec. ⊎_elim
-        (λ (e : x ≡ head). absurd (let six : 6 ≡ 47 = ap (λ (y : Group). y.rtype) (sym e) ∙ nsec in omega (arith, six)))
-        (λ later. ⊎_elim (λ (e : x ≡ g). subst (λ y. IsProof w h.apex is.at is.life is.keys (head ∷ g ∷ []) y is.key) (sym e) proof) (λ b. absurd b) later)
-        there in
+    (λ (e : x ≡ head). absurd (let six : 6 ≡ 47 = ap (λ (y : Group). y.rtype) (sym e) ∙ nsec in omega (arith, six)))
+    (λ later. ⊎_elim (λ (e : x ≡ g). subst (λ y. IsProof w h.apex is.at is.life is.keys (head ∷ g ∷ []) y is.key) (sym e) proof) (λ b. absurd b) later)
+    there in
     let says : SaysLink g l = record { owner_is = refl; labels = next_spelled h.apex rs is.apex_is is.named s.owner s.next s.linked; data_are = refl } in
     let links = one_zip SameLink (verified_links w k h.answer_bytes answer.records) l
     (verified_links_given w k h.answer_bytes answer.records h.apex is.at is.life is.keys (head ∷ g ∷ []) is.key (l ∷ []) are refl each (says, tt)) in

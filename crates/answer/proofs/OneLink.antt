@@ -61,9 +61,9 @@ behind_next : (apex q o n : Name) → name_cmp o q ≡ Less → (name_cmp (low a
 behind_next apex q o n l f m =
     let u : labels_eq o q ≡ false = unlike o q (λ e. cc) in
     let w : same n (low apex) ≡ false = false_from_ne_true _ (λ e.
-        let back : name_cmp n (low apex) ≡ Equal = name_cmp-same n (low apex) (same_labels (low n) (low (low apex)) e) in
-        let there : name_cmp n (low apex) ≡ Greater = less_back name_cmp name_cmp_total (low apex) n f in
-        cc) in
+    let back : name_cmp n (low apex) ≡ Equal = name_cmp-same n (low apex) (same_labels (low n) (low (low apex)) e) in
+    let there : name_cmp n (low apex) ≡ Greater = less_back name_cmp name_cmp_total (low apex) n f in
+    cc) in
     let d : is_lt (name_cmp q n) ≡ false = not_less (name_cmp q n) m in
     λ i. (u i || (is_lt (l i) && (w i || d i))) || false
 
@@ -117,9 +117,9 @@ climbed x [] k r h = ⊎_elim (λ e. inl e) (λ b. absurd b) h
 climbed x (y ∷ ys) k r h = ⊎_elim
     (λ e. inl e)
     (λ l. ⊎_elim
-        (λ (s : r ≡ y). ⊎_elim (λ (e : y ≡ x). inl (s ∙ e)) (λ (g : name_cmp y x ≡ Greater). inr (ap (λ z. name_cmp z x) s ∙ g)) k.0)
-        (λ (g : name_cmp r y ≡ Greater). ⊎_elim (λ (e : y ≡ x). inr (ap (name_cmp r) (sym e) ∙ g)) (λ (f : name_cmp y x ≡ Greater). inr (greater_trans name_cmp name_cmp_total r y x g f)) k.0)
-        (climbed y ys k.1 r l))
+    (λ (s : r ≡ y). ⊎_elim (λ (e : y ≡ x). inl (s ∙ e)) (λ (g : name_cmp y x ≡ Greater). inr (ap (λ z. name_cmp z x) s ∙ g)) k.0)
+    (λ (g : name_cmp r y ≡ Greater). ⊎_elim (λ (e : y ≡ x). inr (ap (name_cmp r) (sym e) ∙ g)) (λ (f : name_cmp y x ≡ Greater). inr (greater_trans name_cmp name_cmp_total r y x g f)) k.0)
+    (climbed y ys k.1 r l))
     h
 
 pub not_back : (a b : Name) → ((a ≡ b) ⊎ (name_cmp a b ≡ Greater)) → name_cmp b a ≡ Greater → ⊥
@@ -140,17 +140,20 @@ one_here apex q x y ys h k m s near =
           ∙ (λ i. cond (s i) ((x, y) ∷ rest i) (rest i));
       owns = inl refl;
       leads = inr (inr (inl refl));
-      near = ⊎_elim (λ e. inl e) (λ l. inr (l, λ r there g. ⊎_elim
-          (λ e. absurd (g (ap (λ z. name_cmp z q) e ∙ l)))
-          (λ later. (m, not_back r y (climbed y ys k r later)))
-          there)) near;
+      near = ⊎_elim (λ e. inl e) (λ l. inr (
+        l,
+        λ r there g. ⊎_elim
+            (λ e. absurd (g (ap (λ z. name_cmp z q) e ∙ l)))
+            (λ later. (m, not_back r y (climbed y ys k r later)))
+            there,
+      )) near;
       last = λ r there l g. ⊎_elim
           (λ i. not_itself x r (inl i) g)
           (λ later. let above : (r ≡ y) ⊎ (name_cmp r y ≡ Greater) = climbed y ys k r later in
-              ⊎_elim
-              (λ i. let up : name_cmp r q ≡ Greater = ap (λ z. name_cmp z q) i ∙ less_back name_cmp name_cmp_total q y m in cc)
-              (λ u. let up : name_cmp r q ≡ Greater = greater_trans name_cmp name_cmp_total r y q u (less_back name_cmp name_cmp_total q y m) in cc)
-              above)
+          ⊎_elim
+          (λ i. let up : name_cmp r q ≡ Greater = ap (λ z. name_cmp z q) i ∙ less_back name_cmp name_cmp_total q y m in cc)
+          (λ u. let up : name_cmp r q ≡ Greater = greater_trans name_cmp name_cmp_total r y q u (less_back name_cmp name_cmp_total q y m) in cc)
+          above)
           there;
     }
 
@@ -164,16 +167,19 @@ one_later apex q x y ys h k m s l o = record {
       ∙ o.only;
   owns = inr o.owns;
   leads = ⊎_elim (λ e. inl e) (λ t. inr (inr t)) o.leads;
-  near = ⊎_elim (λ e. inl e) (λ n. inr (n.0, λ r there g. ⊎_elim
-      (λ e. absurd (g (ap (λ z. name_cmp z q) e ∙ l)))
-      (λ later. n.1 r later g)
-      there)) o.near;
+  near = ⊎_elim (λ e. inl e) (λ n. inr (
+    n.0,
+    λ r there g. ⊎_elim
+        (λ e. absurd (g (ap (λ z. name_cmp z q) e ∙ l)))
+        (λ later. n.1 r later g)
+        there,
+  )) o.near;
   last = λ r there b g. ⊎_elim
       (λ i. let up : (o.owner ≡ y) ⊎ (name_cmp o.owner y ≡ Greater) = climbed y ys k o.owner o.owns in
-          let below : name_cmp x o.owner ≡ Greater = ap (λ z. name_cmp z o.owner) (sym i) ∙ g in
-          let above : name_cmp o.owner x ≡ Greater = ⊎_elim (λ (e : o.owner ≡ y). ap (λ z. name_cmp z x) e ∙ h) (λ (u : name_cmp o.owner y ≡ Greater). greater_trans name_cmp name_cmp_total o.owner y x u h) up in
-          let back : name_cmp x o.owner ≡ Less = greater_back name_cmp name_cmp_total o.owner x above in
-          cc)
+      let below : name_cmp x o.owner ≡ Greater = ap (λ z. name_cmp z o.owner) (sym i) ∙ g in
+      let above : name_cmp o.owner x ≡ Greater = ⊎_elim (λ (e : o.owner ≡ y). ap (λ z. name_cmp z x) e ∙ h) (λ (u : name_cmp o.owner y ≡ Greater). greater_trans name_cmp name_cmp_total o.owner y x u h) up in
+      let back : name_cmp x o.owner ≡ Less = greater_back name_cmp name_cmp_total o.owner x above in
+      cc)
       (λ later. o.last r later b g)
       there;
 }
