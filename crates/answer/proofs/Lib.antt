@@ -75,3 +75,6 @@ pub mod WritesZone
 pub mod WritesHanded
 pub mod WritesGiven
 pub mod KeyLife
+pub mod KeyTagsCalls
+pub mod KeyTags
+pub mod KeyTagsPublished

@@ -29,6 +29,7 @@ pub mod Marked
 pub mod Judged
 pub mod Handed
 pub mod Meeting
+pub mod KeyTags
 pub mod Rrsig
 pub mod Star
 pub mod Publishing

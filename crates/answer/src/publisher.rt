@@ -3,6 +3,7 @@ pub mod compose;
 pub mod fault;
 pub mod group;
 pub mod keys;
+pub mod laws;
 pub mod publishing;
 pub mod signing;
 mod zone;

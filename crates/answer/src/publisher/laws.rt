@@ -1,0 +1,8 @@
+//! Laws of a zone's keys.
+ghost use Rattle.answer.specs.KeyTags.{PublishedTagsDiffer, PublishedTagsPass};
+
+/// The keys of a published set have different tags, whatever calls are behind them: a judge never finds two of one.
+pub fn published_tags_differ()
+    ensures differ { PublishedTagsDiffer }
+    ensures pass { PublishedTagsPass }
+{}
