@@ -78,3 +78,5 @@ pub mod KeyLife
 pub mod KeyTagsCalls
 pub mod KeyTags
 pub mod KeyTagsPublished
+pub mod OneStateGiven
+pub mod OneState

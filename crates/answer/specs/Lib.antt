@@ -35,6 +35,7 @@ pub mod Star
 pub mod Publishing
 pub mod Simulating
 pub mod Running
+pub mod OneState
 pub mod KeyRows
 pub mod WrittenLaws
 pub mod Composed

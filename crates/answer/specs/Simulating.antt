@@ -24,6 +24,7 @@ use Rattle.answer.specs.Publishing.{digest_at, served, second_of}
 use Rattle.answer.specs.Given as spelled
 use Rattle.answer.specs.Answering.{AnswersKeys, AnswersZone, RefusesAnswer, RefusesKeys}
 use Rattle.answer.specs.Meeting.{IsJudgement}
+use Rattle.answer.specs.WrittenLaws.{IsQuestion}
 use Rattle.answer.specs.Judging.{Handing, answer_of, verifications_of, hashes_of, is_allowed}
 
 -- an accepted zone, how long its signatures hold, what its scheme signs, and what scheme and hasher answer a judge
@@ -114,6 +115,7 @@ StepOf w s at act.ShowDnskey (outcome.Refused e) t = RefusesKeys w.sign w.answer
 StepOf w s at (act.Ask q) (outcome.Message place octets) t =
     (place ≡ length s.shown)
     × (is_allowed w.zone.apex (asked_of q) ≡ true)
+    × IsQuestion (asked_of q)
     × ShowsAnswer w s.keys at (asked_of q) octets.items
     × (t ≡ record s { shown = s.shown ++ OfZone (asked_of q) octets.items ∷ [] })
 StepOf w s at (act.Ask q) (outcome.Refused e) t =

@@ -6,6 +6,7 @@ ghost use Rattle.definitions.specs.Name.{IsName};
 ghost use Rattle.answer.specs.Handed.{IsHanded};
 ghost use Rattle.answer.specs.ZoneView.{mode_of, handed_of};
 ghost use Rattle.answer.specs.Events.{added_octets};
+ghost use Rattle.answer.specs.OneState.{SaysVerdicts};
 ghost use Rattle.answer.specs.Simulating.{Sofar, Simulates, begin, world};
 
 use crate::denial::hasher::Nsec3Hasher;
@@ -40,6 +41,8 @@ pub fn simulate<S: Scheme, H: Nsec3Hasher>(
     requires keys { All (λ e. added_octets e ≤ 65531) events.now }
     ensures each { IfOk result (λ outcomes. length outcomes.items ≡ length events.now) }
     ensures simulates { IfOk result (λ outcomes. (end : Sofar) × Simulates (world (record { apex = apex; mode = mode_of mode; limit = limit; records = sorted_records (map handed_of records.items) }) life (S.signature_of scheme.now) (S.verifies scheme.now) (S.digest_of scheme.now) (H.hash_of hasher.now)) (begin apex) events.now outcomes.items end) }
+    // A judgement of things of one state of the keys, which meet, says the zone's verdict while the signatures hold.
+    ensures one_state { IfOk result (λ outcomes. SaysVerdicts (world (record { apex = apex; mode = mode_of mode; limit = limit; records = sorted_records (map handed_of records.items) }) life (S.signature_of scheme.now) (S.verifies scheme.now) (S.digest_of scheme.now) (H.hash_of hasher.now)) (map handed_of records.items) events.now outcomes.items) }
     ensures accepted { IfOk result (λ outcomes. IsAccepted apex (mode_of mode) limit (map handed_of records.items)) }
     ensures handed { IfOk result (λ outcomes. IsName apex × AllByRecursion IsHanded (map handed_of records.items)) }
     ensures fault { IfErr result (λ f. (f ≡ ZoneFault.Memory) ⊎ IsFault apex (mode_of mode) limit (map handed_of records.items) f) }

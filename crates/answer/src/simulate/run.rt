@@ -175,6 +175,7 @@ impl<'a, S: Scheme, H: Nsec3Hasher> Run<'a, S, H> {
         ensures rest { self.new ≡ record self.old { shown = self.new.shown } }
     {
         let place = self.shown.len();
+        question.keeps();
         match self.publisher.answer(question, at) {
             Err(fault) => Ok(Outcome::Refused(fault)),
             Ok(octets) => {

@@ -4,6 +4,7 @@ use Rattle.answer.specs.ZoneView.{mode_of, handed_of}
 use Rattle.answer.specs.Running.{sofar}
 use Rattle.answer.specs.Simulating.{World, begin, world}
 use Rattle.answer.proofs.SimulateLoop.{step_on, step_at, at_end}
+use Rattle.answer.proofs.OneState.{along_all, zone_known}
 use Rattle.answer.proofs.simulate.simulate.Goals as goal
 
 pub loop-event-preserved : goal.loop-event-preserved
@@ -31,3 +32,12 @@ returns-clause-simulates g c =
     let run = c.loop-event.run in
     let there : World = world (record { apex = c.args.apex; mode = mode_of c.args.mode; limit = c.args.limit; records = sorted_records (map handed_of c.args.records.items) }) c.args.life (g.S.Scheme.signature_of c.args.scheme.now) (g.S.Scheme.verifies c.args.scheme.now) (g.S.Scheme.digest_of c.args.scheme.now) (g.H.Nsec3Hasher.hash_of c.args.hasher.now) in
     at_end there (begin c.args.apex) c.args.events.now c.loop-event.outcomes.items c.loop-event.event-index (sofar run.publisher.keys run.shown.items) c.loop-event-test.false c.loop-event.invariant.follows
+
+pub returns-clause-one_state : goal.returns-clause-one_state
+returns-clause-one_state g c =
+    let rs = map handed_of c.args.records.items in
+    let there : World = world (record { apex = c.args.apex; mode = mode_of c.args.mode; limit = c.args.limit; records = sorted_records (map handed_of c.args.records.items) }) c.args.life (g.S.Scheme.signature_of c.args.scheme.now) (g.S.Scheme.verifies c.args.scheme.now) (g.S.Scheme.digest_of c.args.scheme.now) (g.H.Nsec3Hasher.hash_of c.args.hasher.now) in
+    let run = c.loop-event.run in
+    let end = at_end there (begin c.args.apex) c.args.events.now c.loop-event.outcomes.items c.loop-event.event-index (sofar run.publisher.keys run.shown.items) c.loop-event-test.false c.loop-event.invariant.follows in
+    let zone = zone_known c.args.apex c.args.mode c.args.limit rs c.args.life there.sign there.answers c.in_ok-publisher.ensures.accepted c.in_ok-publisher.ensures.handed.0 c.in_ok-publisher.ensures.handed.1 in
+    (end.0, end.1, along_all there rs c.args.events.now c.loop-event.outcomes.items end.0 end.1 zone)
