@@ -3,12 +3,12 @@ use Rattle.std.proofs.Common.{◌≡◌, ℕ, Bool, false, cond, List, [], sym, 
 use Rattle.std.specs.Prelude.{Option, Some, None, Ok, Err}
 use Rattle.definitions.specs.Dnskey.{Dnskey, key_tag}
 use Rattle.answer.specs.declared.publisher.keys.KeyKind.{KeyKind}
-use Rattle.answer.specs.declared.keyset.errors.Error.{Error}
-use Rattle.answer.specs.declared.keyset.errors.Error.TheVariants as error
-use Rattle.answer.specs.KeyAnswers as answers
-use Rattle.answer.specs.KeyAnswers.{refusal_of}
+use Rattle.keyset.specs.declared.errors.Error.{Error}
+use Rattle.keyset.specs.declared.errors.Error.TheVariants as error
+use Rattle.keyset.specs.KeyAnswers as answers
+use Rattle.keyset.specs.KeyAnswers.{refusal_of}
 use Rattle.answer.specs.KeyCalls.{Fails, IsNamed, fault_of, fault_from}
-use Rattle.answer.specs.KeyState.{KeySetState, Reference, Answer, add, new_key}
+use Rattle.keyset.specs.KeyState.{KeySetState, Reference, Answer, add, new_key}
 use Rattle.answer.specs.Bindings.{ZoneKeys, BoundKey, ReferenceBound, DigestFailed, Add, apply, lifted, bind, roles_of, dnskey_for, is_bound_away}
 
 pub lifted_ok : (b d : List (Reference × BoundKey)) (a : Answer) (k : KeySetState) → a ≡ Ok (k, []) → b ≡ d → lifted b a ≡ Ok (record { keys = k; bound = d }, [])

@@ -10,7 +10,7 @@ use Rattle.std.specs.declared.cmp.Ordering.TheVariants.{Less, Equal, Greater}
 use Rattle.std.specs.Ordering.{nat_cmp, is_eq, match_ordering}
 use Rattle.std.specs.Cmp.Lexicographic.{slice_cmp}
 use Rattle.std.specs.FinMap.Entries.{put, find, by_order}
-use Rattle.answer.specs.KeyState.{reference_cmp}
+use Rattle.keyset.specs.KeyState.{reference_cmp}
 use Rattle.answer.specs.BoundView.{by_text}
 
 pub find-by_text : {A X : Type 0} (es : List (String A × X)) (q : List ℕ) → find reference_cmp q (by_text es) ≡ lookup (λ k. is_eq (slice_cmp nat_cmp q (string_bytes k))) es

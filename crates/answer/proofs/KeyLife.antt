@@ -6,9 +6,9 @@ use Rattle.std.specs.FinMap.Entries.{put, by_order}
 use Rattle.definitions.specs.Dnskey.{Dnskey}
 use Rattle.answer.specs.Bindings.{Add, BoundKey, Call, Finish, Outcome, Report1, Report2, Start, Wait1, Wait2, ZoneKeys, apply, dnskey_for, dnskeys, is_bound_away, is_published, lifted, on_state, published}
 use Rattle.answer.specs.Bindings as bindings
-use Rattle.answer.specs.KeyState.{Answer, Reference, reference_cmp}
-use Rattle.answer.specs.Meeting.{IsZoneKey}
-use Rattle.answer.specs.declared.keyset.rolls.Action.{Action}
+use Rattle.keyset.specs.KeyState.{Answer, Reference, reference_cmp}
+use Rattle.answer_judge.specs.Meeting.{IsZoneKey}
+use Rattle.keyset.specs.declared.rolls.Action.{Action}
 use Rattle.answer.specs.declared.publisher.keys.KeyKind.{KeyKind}
 use Rattle.answer.specs.declared.publisher.keys.KeyKind.TheVariants.{Ksk, Zsk}
 use Rattle.answer.specs.declared.publisher.keys.Publication.{Publication}

@@ -10,11 +10,11 @@ use Rattle.std.specs.FinMap.Entries.{put, find, find-put, is_sorted, is_sorted-p
 use Rattle.std.proofs.lemmas.Bool.{eq-eqb, or_parts, false≢true}
 use Rattle.std.proofs.lemmas.Cmp.{tied_itself}
 use Rattle.definitions.specs.Dnskey.{Dnskey, key_tag}
-use Rattle.answer.specs.declared.keyset.rolls.Action.{Action}
+use Rattle.keyset.specs.declared.rolls.Action.{Action}
 use Rattle.answer.specs.Bindings.{Add, BoundKey, Call, Finish, Outcome, Report1, Report2, Start, Wait1, Wait2, ZoneKeys, apply, bound_at, dnskey_for, dnskeys, has_role, is_bound_away, is_published, lifted, on_state, published, roles_of}
 use Rattle.answer.specs.Bindings as bindings
-use Rattle.answer.specs.KeyState.{Answer, DuplicateKeyTag, Key, KeyExists, KeySetState, Reference, add, added, has_tag, key_of, new_key, reference_cmp}
-use Rattle.answer.proofs.KeyTagsCalls.{LeavesTags, TagsFrom, done_tags, report1_tags, report2_tags, start_tags, wait1_tags, wait2_tags}
+use Rattle.keyset.specs.KeyState.{Answer, DuplicateKeyTag, Key, KeyExists, KeySetState, Reference, add, added, has_tag, key_of, new_key, reference_cmp}
+use Rattle.keyset.proofs.KeyTagsCalls.{LeavesTags, TagsFrom, done_tags, report1_tags, report2_tags, start_tags, wait1_tags, wait2_tags}
 
 -- references rise; no two keys have one tag; each key's reference is bound to a DNSKEY of its tag
 pub record HasOwnTags (s : ZoneKeys) : Type 0 where

@@ -14,11 +14,11 @@ use Rattle.std.proofs.lemmas.Cmp.{tied_itself}
 use Rattle.definitions.specs.Dnskey.{Dnskey, key_tag, same_key}
 use Rattle.answer.specs.declared.publisher.keys.Publication.{Publication}
 use Rattle.answer.specs.Bindings.{BoundKey, Call, Outcome, ZoneKeys, apply, dnskeys, has_role, is_published, no_keys, published}
-use Rattle.answer.specs.Judging.{clashes, has_equal_tags}
-use Rattle.answer.specs.KeyState.{Key, Reference, key_of, reference_cmp}
+use Rattle.answer_judge.specs.Judging.{clashes, has_equal_tags}
+use Rattle.keyset.specs.KeyState.{Key, Reference, key_of, reference_cmp}
 use Rattle.answer.specs.KeyTags.{PublishedTagsDiffer, PublishedTagsPass, behind, left}
 use Rattle.answer.proofs.KeyTags.{HasOwnTags, LeavesOwn, apply_own, none_own}
-use Rattle.answer.proofs.ZoneLists.{Has, found}
+use Rattle.records.proofs.ZoneLists.{Has, found}
 
 -- ---- entries in order
 

@@ -8,28 +8,29 @@ use Rattle.answer.specs.declared.event.Act.{Act}
 use Rattle.answer.specs.declared.event.Act.TheVariants as act
 use Rattle.answer.specs.declared.event.Outcome.{Outcome}
 use Rattle.answer.specs.declared.event.Outcome.TheVariants as outcome
-use Rattle.answer.specs.declared.judge.verdict.Judgement.{Judgement}
-use Rattle.answer.specs.declared.judge.verdict.Refused.{Refused}
-use Rattle.answer.specs.declared.keyset.rolls.Action.{Action}
+use Rattle.answer_judge.specs.declared.judge.verdict.Judgement.{Judgement}
+use Rattle.answer_judge.specs.declared.judge.verdict.Refused.{Refused}
+use Rattle.keyset.specs.declared.rolls.Action.{Action}
 use Rattle.answer.specs.declared.publisher.fault.KeyFault.{KeyFault}
-use Rattle.answer.specs.declared.publisher.fault.Mode.{Mode as CodeMode}
-use Rattle.answer.specs.declared.publisher.fault.Mode.TheVariants.{Nsec}
+use Rattle.answer_zone.specs.declared.fault.Mode.{Mode as CodeMode}
+use Rattle.answer_zone.specs.declared.fault.Mode.TheVariants.{Nsec}
 use Rattle.std.specs.List.{AllByRecursion}
 use Rattle.definitions.specs.Name.{IsName, Name}
-use Rattle.answer.specs.Answers.{Answers}
-use Rattle.answer.specs.Handed.{IsHanded}
-use Rattle.answer.specs.ZoneView.{mode_of}
-use Rattle.answer.specs.Accepting.{HandedRr, IsAccepted, sorted_records}
+use Rattle.answer_judge.specs.Answers.{Answers}
+use Rattle.records.specs.Handed.{IsHanded}
+use Rattle.answer_zone.specs.ZoneView.{mode_of}
+use Rattle.records.specs.HandedRr.{HandedRr}
+use Rattle.answer_zone.specs.Accepting.{IsAccepted, sorted_records}
 use Rattle.answer.specs.Bindings.{Call, ZoneKeys, apply, ds_set}
-use Rattle.answer.specs.Judging.{answer_of, hashes_of, is_allowed, verifications_of}
+use Rattle.answer_judge.specs.Judging.{answer_of, hashes_of, is_allowed, verifications_of}
 use Rattle.answer.specs.KeyCalls.{GivesKeys}
-use Rattle.answer.specs.Meeting.{IsJudgement}
-use Rattle.answer.specs.Message.{Asked}
+use Rattle.answer_judge.specs.Meeting.{IsJudgement}
+use Rattle.records.specs.Message.{Asked}
 use Rattle.answer.specs.OneState.{Moment, VerdictAt, VerdictsAlong, moment, moments_with}
 use Rattle.answer.specs.Publishing.{digest_at}
-use Rattle.answer.specs.Questions.{asked_of}
+use Rattle.messages.specs.Questions.{asked_of}
 use Rattle.answer.specs.Simulating.{JudgesThings, OfKeys, OfParent, OfZone, Shown, ShowsAnswer, ShowsKeys, Simulates, Sofar, StepOf, World, begin, call_of, handing}
-use Rattle.answer.specs.WrittenLaws.{IsQuestion}
+use Rattle.messages.specs.WrittenLaws.{IsQuestion}
 use Rattle.answer.proofs.KeyLife.{apply_binds}
 use Rattle.answer.proofs.KeyTags.{apply_own, none_own, own_of}
 use Rattle.answer.proofs.OneStateGiven.{AreLeft, IsZoneOf, given}

@@ -8,25 +8,27 @@ use Rattle.definitions.specs.Dnskey.{Dnskey, Ds, key_tag}
 use Rattle.definitions.specs.Name.{IsName}
 use Rattle.definitions.specs.ZoneChain.{Nsec}
 use Rattle.answer.specs.declared.publisher.keys.Publication.TheVariants as publication
-use Rattle.answer.specs.Accepting.{HandedRr, IsAccepted}
+use Rattle.records.specs.HandedRr.{HandedRr}
+use Rattle.answer_zone.specs.Accepting.{IsAccepted}
 use Rattle.answer.specs.Bindings.{BoundKey, ZoneKeys, dnskeys, ds_cmp, ds_of, ds_set, published}
-use Rattle.answer.specs.Given as spelled
-use Rattle.answer.specs.Handed.{IsHanded}
-use Rattle.answer.specs.Judging.{has_equal_tags, is_allowed}
-use Rattle.answer.specs.Meeting.{HasDs, WasGiven, holds, zone_from}
-use Rattle.answer.specs.Message.{Asked}
+use Rattle.answer_judge.specs.Given as spelled
+use Rattle.records.specs.Handed.{IsHanded}
+use Rattle.answer_judge.specs.Judging.{has_equal_tags, is_allowed}
+use Rattle.answer_judge.specs.Meeting.{HasDs, WasGiven, holds, zone_from}
+use Rattle.records.specs.Message.{Asked}
 use Rattle.answer.specs.OneState.{MeetsItself}
-use Rattle.answer.specs.Publishing.{digest_at, second_of, served}
+use Rattle.answer.specs.Publishing.{digest_at, second_of}
+use Rattle.answer_zone.specs.Hashing.{served}
 use Rattle.answer.specs.Simulating.{ShowsAnswer, ShowsKeys, World, handing}
-use Rattle.answer.specs.WrittenLaws.{IsQuestion}
-use Rattle.answer.specs.ZoneView.{AcceptedZone}
-use Rattle.answer.proofs.GivenKeys.{one_of_tag}
-use Rattle.answer.proofs.GivenLists.{contained_has}
-use Rattle.answer.proofs.GivenSorted.{all_has, sorted_has}
+use Rattle.messages.specs.WrittenLaws.{IsQuestion}
+use Rattle.answer_zone.specs.ZoneView.{AcceptedZone}
+use Rattle.answer_judge.proofs.GivenKeys.{one_of_tag}
+use Rattle.answer_judge.proofs.GivenLists.{contained_has}
+use Rattle.answer_judge.proofs.GivenSorted.{all_has, sorted_has}
 use Rattle.answer.proofs.KeyLife.{AreBound, IsBound, all_published, published_sign}
 use Rattle.answer.proofs.KeyTags.{HasOwnTags}
 use Rattle.answer.proofs.KeyTagsPublished.{equal_tags}
-use Rattle.answer.proofs.ZoneLists.{Has, all_at}
+use Rattle.records.proofs.ZoneLists.{Has, all_at}
 
 -- keys that calls have left
 pub record AreLeft (w : World) (keys : ZoneKeys) : Type 0 where

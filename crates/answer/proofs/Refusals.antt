@@ -11,17 +11,17 @@ use Rattle.definitions.specs.Name.{Name, wire, wire_len}
 use Rattle.definitions.specs.Dnskey.{Dnskey}
 use Rattle.answer.specs.declared.publisher.fault.AnswerFault.{AnswerFault}
 use Rattle.answer.specs.declared.publisher.fault.AnswerFault.TheVariants as fault
-use Rattle.answer.specs.declared.scheme.SchemeError.{SchemeError}
-use Rattle.answer.specs.declared.scheme.SchemeError.TheVariants as error
+use Rattle.answer_judge.specs.declared.scheme.SchemeError.{SchemeError}
+use Rattle.answer_judge.specs.declared.scheme.SchemeError.TheVariants as error
 use Rattle.answer.specs.AnswerFaults.{fault_of}
 use Rattle.answer.specs.Answering.{RefusesAnswer, RefusesKeys, ahead_of_records}
 use Rattle.answer.specs.Composed.{HasRoom, IsSection, IsTooLong, IsWritten, RefusesGroups, RefusesRecords, joined, record_of}
-use Rattle.answer.specs.GroupView.{FailsFor, GroupView, IsRrsigData, Presents}
-use Rattle.answer.specs.Message.{Asked}
-use Rattle.answer.specs.Served.{Served, answer_groups, key_group}
-use Rattle.answer.specs.Written.{Written, header_octets, question_octets, record_octets}
-use Rattle.answer.proofs.MessageWritten.{record_parts, wire-length}
-use Rattle.answer.proofs.NameLaws.{wire_len-some}
+use Rattle.answer_zone.specs.GroupView.{FailsFor, GroupView, IsRrsigData, Presents}
+use Rattle.records.specs.Message.{Asked}
+use Rattle.answer_zone.specs.Served.{Served, answer_groups, key_group}
+use Rattle.records.specs.Written.{Written, header_octets, question_octets, record_octets}
+use Rattle.messages.proofs.MessageWritten.{record_parts, wire-length}
+use Rattle.records.proofs.NameLaws.{wire_len-some}
 use Rattle.answer.proofs.SignAnswer.{section_more}
 
 pub length_record : (r : Written) → length (record_octets r) ≡ wire_len r.owner + 10 + length r.octets

@@ -6,11 +6,11 @@ use Rattle.std.proofs.lemmas.List.{append-nil, length-map}
 use Rattle.std.proofs.lemmas.Grind.{flat_map-append}
 use Rattle.definitions.specs.Name.{Name}
 use Rattle.definitions.specs.Dnskey.{Dnskey}
-use Rattle.answer.specs.Message.{Asked}
-use Rattle.answer.specs.Written.{Written, header_octets, question_octets, record_octets}
-use Rattle.answer.specs.GroupView.{GroupView, IsRrsigData}
+use Rattle.records.specs.Message.{Asked}
+use Rattle.records.specs.Written.{Written, header_octets, question_octets, record_octets}
+use Rattle.answer_zone.specs.GroupView.{GroupView, IsRrsigData}
 use Rattle.answer.specs.Composed.{IsAnswer, IsSection, IsWritten, joined, record_of}
-use Rattle.answer.proofs.SignMade.{AllZip-next}
+use Rattle.answer_zone.proofs.SignMade.{AllZip-next}
 
 -- one RRset more
 pub joined-snoc : (ps : List (List Written)) (p : List Written) → joined (ps ++ p ∷ []) ≡ joined ps ++ p

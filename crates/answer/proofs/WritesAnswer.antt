@@ -4,15 +4,15 @@ use Rattle.std.specs.List.{AllByRecursion, AllZip, flat_map}
 use Rattle.std.proofs.lemmas.List.Concat.{flat_map-append}
 use Rattle.definitions.specs.Name.{Name, IsName}
 use Rattle.definitions.specs.Dnskey.{Dnskey}
-use Rattle.answer.specs.Message.{Asked}
-use Rattle.answer.specs.Served.{Group}
-use Rattle.answer.specs.Given.{AreGroups, Gives}
-use Rattle.answer.specs.GroupView.{GroupView, Presents}
+use Rattle.records.specs.Message.{Asked}
+use Rattle.answer_zone.specs.Served.{Group}
+use Rattle.answer_judge.specs.Given.{AreGroups, Gives}
+use Rattle.answer_zone.specs.GroupView.{GroupView, Presents}
 use Rattle.answer.specs.Composed.{IsAnswer, IsWritten, joined}
-use Rattle.answer.specs.Written.{Written, record_octets}
-use Rattle.answer.specs.WrittenLaws.{IsQuestion, IsRecord, first_place, spelled_from}
-use Rattle.answer.proofs.MessageWhole.{message_here, records_stand}
-use Rattle.answer.proofs.MessageWritten.{StandsAt}
+use Rattle.records.specs.Written.{Written, record_octets}
+use Rattle.messages.specs.WrittenLaws.{IsQuestion, IsRecord, first_place, spelled_from}
+use Rattle.messages.proofs.MessageWhole.{message_here, records_stand}
+use Rattle.messages.proofs.MessageWritten.{StandsAt}
 use Rattle.answer.proofs.Refusals.{zip_append}
 use Rattle.answer.proofs.WritesGroups.{IsFormed, all_hold, all_records, are_groups, count_of}
 use Rattle.answer.proofs.WritesRecords.{view_of}

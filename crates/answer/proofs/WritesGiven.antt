@@ -4,13 +4,13 @@ use Rattle.std.specs.List.{AllByRecursion}
 use Rattle.definitions.specs.Dnskey.{Dnskey}
 use Rattle.definitions.specs.ZoneChain.{Mode, Nsec}
 use Rattle.answer.specs.Answering.{AnswersKeys, AnswersZone}
-use Rattle.answer.specs.Given.{GivesAnswer, GivesKeys}
-use Rattle.answer.specs.Handed.{AreHanded}
-use Rattle.answer.specs.Message.{Asked}
-use Rattle.answer.specs.Publishing.{hash_in, served}
-use Rattle.answer.specs.Served.{answer_groups, by_tag, key_group, served_of}
-use Rattle.answer.specs.WrittenLaws.{IsQuestion}
-use Rattle.answer.specs.ZoneView.{AcceptedZone, IsPublished}
+use Rattle.answer_judge.specs.Given.{GivesAnswer, GivesKeys}
+use Rattle.records.specs.Handed.{AreHanded}
+use Rattle.records.specs.Message.{Asked}
+use Rattle.answer_zone.specs.Hashing.{hash_in, served}
+use Rattle.answer_zone.specs.Served.{answer_groups, by_tag, key_group, served_of}
+use Rattle.messages.specs.WrittenLaws.{IsQuestion}
+use Rattle.answer_zone.specs.ZoneView.{AcceptedZone, IsPublished}
 use Rattle.answer.proofs.WritesAnswer.{answer_gives}
 use Rattle.answer.proofs.WritesGroups.{IsFormed}
 use Rattle.answer.proofs.WritesZone.{answer_formed, keys_formed}

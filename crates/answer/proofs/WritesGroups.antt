@@ -5,12 +5,12 @@ use Rattle.std.specs.List.{AllByRecursion, AllZip, flat_map}
 use Rattle.std.proofs.lemmas.List.Concat.{flat_map-append}
 use Rattle.definitions.specs.Name.{Name, IsName}
 use Rattle.definitions.specs.Dnskey.{Dnskey}
-use Rattle.answer.specs.Served.{Group}
-use Rattle.answer.specs.Given.{AreGroups}
+use Rattle.answer_zone.specs.Served.{Group}
+use Rattle.answer_judge.specs.Given.{AreGroups}
 use Rattle.answer.specs.Composed.{IsWritten, joined, record_of}
-use Rattle.answer.specs.Written.{Written, record_octets}
-use Rattle.answer.specs.WrittenLaws.{IsRecord, spelled_at, spelled_from}
-use Rattle.answer.proofs.MessageWritten.{StandsAt, end_of}
+use Rattle.records.specs.Written.{Written, record_octets}
+use Rattle.messages.specs.WrittenLaws.{IsRecord, spelled_at, spelled_from}
+use Rattle.messages.proofs.MessageWritten.{StandsAt, end_of}
 use Rattle.answer.proofs.Refusals.{length_record}
 use Rattle.answer.proofs.WritesRecords.{ReadsAs, view_of, own_records, its_signatures, rest_stands}
 

@@ -6,16 +6,16 @@ use Rattle.std.proofs.Math.Nat.{mod-lt}
 use Rattle.definitions.specs.Name.{Name, IsName, wire, low}
 use Rattle.definitions.specs.Dnskey.{Dnskey, key_tag}
 use Rattle.definitions.specs.Signing.{Fields, canonical_record, label_count, signed_octets, signed_owner}
-use Rattle.answer.specs.Message.{Spelled, canonical_data}
-use Rattle.answer.specs.Served.{Group}
-use Rattle.answer.specs.Given.{AreRecords, AreSignatures, IsSignature}
-use Rattle.answer.specs.GroupView.{GroupView, IsRrsigData, fields_of}
+use Rattle.records.specs.Message.{Spelled, canonical_data}
+use Rattle.answer_zone.specs.Served.{Group}
+use Rattle.answer_judge.specs.Given.{AreRecords, AreSignatures, IsSignature}
+use Rattle.answer_zone.specs.GroupView.{GroupView, IsRrsigData, fields_of}
 use Rattle.answer.specs.Composed.{record_of}
-use Rattle.answer.specs.Written.{Written, record_octets}
-use Rattle.answer.specs.WrittenLaws.{AreFields, spelled_at, spelled_from}
-use Rattle.answer.proofs.MessageSignatures.{signature_here}
-use Rattle.answer.proofs.MessageWritten.{StandsAt, moved, data_behind, end_of, next_behind}
-use Rattle.answer.proofs.ZoneNames.{low-low}
+use Rattle.records.specs.Written.{Written, record_octets}
+use Rattle.messages.specs.WrittenLaws.{AreFields, spelled_at, spelled_from}
+use Rattle.messages.proofs.MessageSignatures.{signature_here}
+use Rattle.messages.proofs.MessageWritten.{StandsAt, moved, data_behind, end_of, next_behind}
+use Rattle.records.proofs.ZoneNames.{low-low}
 
 -- data of a type, as written, read as canonical data wherever they stand
 abbrev pub ReadsAs : ℕ → List ℕ → List ℕ → Type 0

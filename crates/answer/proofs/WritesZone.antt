@@ -8,18 +8,19 @@ use Rattle.definitions.specs.Dnskey.{Dnskey}
 use Rattle.definitions.specs.Zone.{data_at, exists, has, kept_owners, star_under}
 use Rattle.definitions.specs.ZoneChain.{Nsec, nsec_names, nsec_next, nsec_types}
 use Rattle.definitions.proofs.BitmapLaws.{spells_set}
-use Rattle.answer.specs.Accepting.{HandedRr, is_meta, zone_with}
-use Rattle.answer.specs.Handed.{AreHanded, IsHanded}
-use Rattle.answer.specs.Served.{answer_groups, chain_names, chain_record, kept_ancestor, key_group, proofs_of, served_of, soa, speaks_for, ttl_among, written_among}
-use Rattle.answer.specs.ZoneView.{IsPublished, is_of}
+use Rattle.records.specs.HandedRr.{HandedRr, is_meta}
+use Rattle.answer_zone.specs.Accepting.{zone_with}
+use Rattle.records.specs.Handed.{AreHanded, IsHanded}
+use Rattle.answer_zone.specs.Served.{answer_groups, chain_names, chain_record, kept_ancestor, key_group, proofs_of, served_of, soa, speaks_for, ttl_among, written_among}
+use Rattle.answer_zone.specs.ZoneView.{IsPublished, is_of}
 use Rattle.answer.proofs.WritesData.{all_plain, reads_handed, reads_nsec}
 use Rattle.answer.proofs.WritesGroups.{IsFormed}
-use Rattle.answer.proofs.WritesNames.{all_filter, chain_small, first_name, lower_name, next_name, owner_name, owner_names, spelled_name, ttl_small}
+use Rattle.answer_zone.proofs.WritesNames.{all_filter, chain_small, first_name, lower_name, next_name, owner_name, owner_names, spelled_name, ttl_small}
 use Rattle.answer.proofs.WritesRecords.{ReadsAs}
-use Rattle.answer.proofs.ZoneAnswers.{groups_found, groups_without_name, groups_without_type}
-use Rattle.answer.proofs.ZoneData.{data_are}
-use Rattle.answer.proofs.ZoneLists.{all_more, all_sorted}
-use Rattle.answer.proofs.ZoneServed.{owners_kept}
+use Rattle.answer_zone.proofs.ZoneAnswers.{groups_found, groups_without_name, groups_without_type}
+use Rattle.answer_zone.proofs.ZoneData.{data_are}
+use Rattle.records.proofs.ZoneLists.{all_more, all_sorted}
+use Rattle.answer_zone.proofs.ZoneServed.{owners_kept}
 
 -- the data of an owner and a type, record by record
 data_read : (rs : List HandedRr) (q : Name) (t : ℕ) → AllByRecursion IsHanded rs → AllByRecursion (λ r. is_meta r ≡ false) rs → eqb t 47 ≡ false → AllZip (ReadsAs t) (map (λ r. r.written) (filter (is_of q t) rs)) (map (λ r. r.bytes) (filter (is_of q t) rs))

@@ -3,34 +3,16 @@ use Rattle.std.specs.Prelude.{◌≡◌, ℕ, ◌+◌, Bool, false, List, [], �
 use Rattle.std.specs.List.{AllZip}
 use Rattle.definitions.specs.Name.{Name}
 use Rattle.definitions.specs.Dnskey.{Dnskey}
-use Rattle.definitions.specs.Zone.{Verdict, verdict, Records, NoName, StarRecords, Delegated}
-use Rattle.answer.specs.Message.{Asked}
-use Rattle.answer.specs.GroupView.{GroupView, Presents}
+use Rattle.definitions.specs.Zone.{verdict}
+use Rattle.records.specs.Message.{Asked}
+use Rattle.answer_zone.specs.GroupView.{GroupView, Presents}
 use Rattle.answer.specs.Composed.{IsAnswer, RefusesGroups}
-use Rattle.answer.specs.Judging.{is_allowed}
-use Rattle.answer.specs.Written.{question_octets}
+use Rattle.answer_judge.specs.Judging.{is_allowed}
+use Rattle.records.specs.Written.{question_octets}
 use Rattle.answer.specs.declared.publisher.fault.AnswerFault.{AnswerFault}
 use Rattle.answer.specs.declared.publisher.fault.AnswerFault.TheVariants as fault
-use Rattle.answer.specs.Served.{Served, answer_groups, key_group}
-use Rattle.answer.specs.declared.publisher.zone.answers.ZoneAnswer.{ZoneAnswer}
-
--- an authoritative answer, one that no such name exists, or a referral (RFC 1035, 4.1.1)
-abbrev pub flags_for : Verdict → ℕ
-flags_for NoName = 33795
-flags_for Delegated = 32768
-flags_for _ = 33792
-
--- how many RRsets stand in the answer section: the one asked for, where it is there
-abbrev pub answered : Verdict → ℕ
-answered (Records ds) = 1
-answered (StarRecords ds) = 1
-answered _ = 0
-
--- what a zone answers, before it is signed: the RRsets of the answer, those asked for apart, and the flags
-pub record AnswersAs (s : Served) (name : Name) (t : ℕ) (a : ZoneAnswer) : Type 0 where
-  pub groups_are : AllZip Presents (a.answer.items ++ a.authority.items) (answer_groups s name t)
-  pub split : length a.answer.items ≡ answered (verdict s.zone false name t)
-  pub flags_are : a.flags ≡ flags_for (verdict s.zone false name t)
+use Rattle.answer_zone.specs.Served.{Served, answer_groups, key_group}
+use Rattle.answer_zone.specs.ZoneAnswers.{flags_for, answered}
 
 -- the message that answers a question: the RRsets of the answer in order, those asked for in the answer section
 pub record AnswersZone (sign : Dnskey → List ℕ → Option (List ℕ)) (verifies : Dnskey → List ℕ → List ℕ → Bool) (s : Served) (apex : Name) (at life : ℕ) (keys : List Dnskey) (asked : Asked) (m : List ℕ) : Type 0 where

@@ -4,18 +4,18 @@ use Rattle.std.specs.declared.cmp.Ordering.{Ordering}
 use Rattle.std.specs.Ordering.{nat_cmp}
 use Rattle.std.specs.Cmp.Lexicographic.{slice_cmp}
 use Rattle.definitions.specs.Sorting.{sort_by}
-use Rattle.answer.specs.Served.{by_tag}
+use Rattle.answer_zone.specs.Served.{by_tag}
 use Rattle.answer.specs.declared.publisher.keys.Publication.{Publication}
 use Rattle.answer.specs.declared.publisher.keys.Publication.TheVariants as publication
 use Rattle.std.specs.FinMap.Entries as entries
 use Rattle.definitions.specs.Dnskey.{Dnskey, Ds, dnskey_data, key_tag, same_key}
-use Rattle.answer.specs.declared.keyset.keys.KeyType.{KeyType}
-use Rattle.answer.specs.declared.keyset.keys.KeyType.TheVariants.{Ksk, Zsk}
+use Rattle.keyset.specs.declared.keys.KeyType.{KeyType}
+use Rattle.keyset.specs.declared.keys.KeyType.TheVariants.{Ksk, Zsk}
 use Rattle.answer.specs.declared.publisher.keys.KeyKind.{KeyKind}
 use Rattle.answer.specs.declared.publisher.keys.KeyKind.TheVariants.{Ksk as KskKey, Zsk as ZskKey}
-use Rattle.answer.specs.declared.keyset.rolls.RollType.{RollType}
-use Rattle.answer.specs.declared.keyset.rolls.Action.{Action}
-use Rattle.answer.specs.KeyState.{KeySetState, Reference, reference_cmp, clear, new_key, Refusal, Answer, add, start, report1, report2, wait1, wait2, done, key_of, ksk_is, zsk_is, main_is, is_at_parent, is_present, signs}
+use Rattle.keyset.specs.declared.rolls.RollType.{RollType}
+use Rattle.keyset.specs.declared.rolls.Action.{Action}
+use Rattle.keyset.specs.KeyState.{KeySetState, Reference, reference_cmp, clear, new_key, Refusal, Answer, add, start, report1, report2, wait1, wait2, done, key_of, ksk_is, zsk_is, main_is, is_at_parent, is_present, signs}
 
 -- a call on the keys; an add names the key's private reference, algorithm and octets, and whether it is available
 pub data Call : Type 0 where

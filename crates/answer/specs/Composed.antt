@@ -3,9 +3,9 @@ use Rattle.std.specs.Prelude.{◌≡◌, ℕ, ◌+◌, ◌*◌, ◌<◌, ◌≤�
 use Rattle.std.specs.List.{AllZip, flat_map}
 use Rattle.definitions.specs.Name.{Name}
 use Rattle.definitions.specs.Dnskey.{Dnskey}
-use Rattle.answer.specs.Message.{Asked}
-use Rattle.answer.specs.Written.{Written, record_octets, message_octets}
-use Rattle.answer.specs.GroupView.{FailsFor, GroupView, IsRrsigData}
+use Rattle.records.specs.Message.{Asked}
+use Rattle.records.specs.Written.{Written, record_octets, message_octets}
+use Rattle.answer_zone.specs.GroupView.{FailsFor, GroupView, IsRrsigData}
 use Rattle.answer.specs.declared.publisher.fault.AnswerFault.{AnswerFault}
 use Rattle.answer.specs.declared.publisher.fault.AnswerFault.TheVariants as fault
 

@@ -2,11 +2,11 @@
 use Rattle.std.specs.Prelude.{◌≡◌, List, Option, Some, None, Result, Ok, Err}
 use Rattle.answer.specs.declared.publisher.fault.KeyFault.{KeyFault}
 use Rattle.answer.specs.declared.publisher.fault.KeyFault.TheVariants as fault
-use Rattle.answer.specs.declared.keyset.rolls.Action.{Action}
-use Rattle.answer.specs.declared.keyset.errors.Error.{Error}
-use Rattle.answer.specs.declared.keyset.errors.Error.TheVariants as error
-use Rattle.answer.specs.KeyState.{Refusal}
-use Rattle.answer.specs.KeyAnswers.{refusal_of}
+use Rattle.keyset.specs.declared.rolls.Action.{Action}
+use Rattle.keyset.specs.declared.errors.Error.{Error}
+use Rattle.keyset.specs.declared.errors.Error.TheVariants as error
+use Rattle.keyset.specs.KeyState.{Refusal}
+use Rattle.keyset.specs.KeyAnswers.{refusal_of}
 use Rattle.answer.specs.Bindings as bindings
 use Rattle.answer.specs.Bindings.{ZoneKeys, Fault, Outcome}
 

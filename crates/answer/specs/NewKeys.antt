@@ -3,7 +3,7 @@ use Rattle.std.specs.Prelude.{ℕ, [], Result, string_bytes}
 use Rattle.definitions.specs.Dnskey.{key_tag}
 use Rattle.answer.specs.declared.publisher.keys.NewKey.{NewKey}
 use Rattle.answer.specs.declared.publisher.fault.KeyFault.{KeyFault}
-use Rattle.answer.specs.KeyState.{KeySetState, Answer, add, new_key, text_of, is_available}
+use Rattle.keyset.specs.KeyState.{KeySetState, Answer, add, new_key, text_of, is_available}
 use Rattle.answer.specs.Bindings.{Call, Add, ZoneKeys, BoundKey, roles_of, bind, lifted}
 use Rattle.answer.specs.KeyCalls.{GivesKeys}
 

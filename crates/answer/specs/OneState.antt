@@ -8,12 +8,13 @@ use Rattle.answer.specs.declared.event.Act.TheVariants as act
 use Rattle.answer.specs.declared.event.Outcome.{Outcome}
 use Rattle.answer.specs.declared.event.Outcome.TheVariants as outcome
 use Rattle.answer.specs.declared.publisher.keys.Publication.TheVariants as publication
-use Rattle.answer.specs.Accepting.{HandedRr, zone_of}
+use Rattle.records.specs.HandedRr.{HandedRr}
+use Rattle.answer_zone.specs.Accepting.{zone_of}
 use Rattle.answer.specs.Bindings.{ZoneKeys, dnskeys, published}
-use Rattle.answer.specs.Judged.{AnswersAs}
-use Rattle.answer.specs.Judging.{Says, answer_of}
-use Rattle.answer.specs.Meeting.{holds}
-use Rattle.answer.specs.Message.{Asked}
+use Rattle.answer_judge.specs.Judged.{AnswersAs}
+use Rattle.answer_judge.specs.Judging.{Says, answer_of}
+use Rattle.answer_judge.specs.Meeting.{holds}
+use Rattle.records.specs.Message.{Asked}
 use Rattle.answer.specs.Publishing.{second_of}
 use Rattle.answer.specs.Simulating.{OfZone, Simulates, Sofar, World, begin}
 

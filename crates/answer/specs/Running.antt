@@ -4,7 +4,7 @@ use Rattle.answer.specs.declared.simulate.run.Shown.{Shown as CodeShown}
 use Rattle.answer.specs.declared.simulate.run.Shown.TheVariants as code
 use Rattle.answer.specs.Bindings.{ZoneKeys}
 use Rattle.answer.specs.Simulating.{Shown, OfParent, OfKeys, OfZone, Sofar}
-use Rattle.answer.specs.Questions.{asked_of}
+use Rattle.messages.specs.Questions.{asked_of}
 
 abbrev pub shown_of : CodeShown → Shown
 shown_of (code.OfParent set) = OfParent set.items

@@ -13,19 +13,20 @@ use Rattle.answer.specs.declared.publisher.fault.AnswerFault.{AnswerFault}
 use Rattle.answer.specs.declared.publisher.fault.AnswerFault.TheVariants as refusal
 use Rattle.answer.specs.declared.publisher.keys.KeyKind.TheVariants.{Ksk, Zsk}
 use Rattle.answer.specs.declared.publisher.keys.Publication.TheVariants as publication
-use Rattle.answer.specs.Answers.{Answers}
-use Rattle.answer.specs.Message.{Asked}
-use Rattle.answer.specs.Questions.{asked_of}
-use Rattle.answer.specs.KeyState.{text_of, is_available}
+use Rattle.answer_judge.specs.Answers.{Answers}
+use Rattle.records.specs.Message.{Asked}
+use Rattle.messages.specs.Questions.{asked_of}
+use Rattle.keyset.specs.KeyState.{text_of, is_available}
 use Rattle.answer.specs.Bindings.{ZoneKeys, Call, Add, Start, Report1, Wait1, Report2, Wait2, Finish, apply, no_keys, ds_set, published, dnskeys, keys_by_tag}
 use Rattle.answer.specs.KeyCalls.{GivesKeys}
-use Rattle.answer.specs.ZoneView.{AcceptedZone}
-use Rattle.answer.specs.Publishing.{digest_at, served, second_of}
-use Rattle.answer.specs.Given as spelled
+use Rattle.answer_zone.specs.ZoneView.{AcceptedZone}
+use Rattle.answer.specs.Publishing.{digest_at, second_of}
+use Rattle.answer_zone.specs.Hashing.{served}
+use Rattle.answer_judge.specs.Given as spelled
 use Rattle.answer.specs.Answering.{AnswersKeys, AnswersZone, RefusesAnswer, RefusesKeys}
-use Rattle.answer.specs.Meeting.{IsJudgement}
-use Rattle.answer.specs.WrittenLaws.{IsQuestion}
-use Rattle.answer.specs.Judging.{Handing, answer_of, verifications_of, hashes_of, is_allowed}
+use Rattle.answer_judge.specs.Meeting.{IsJudgement}
+use Rattle.messages.specs.WrittenLaws.{IsQuestion}
+use Rattle.answer_judge.specs.Judging.{Handing, answer_of, verifications_of, hashes_of, is_allowed}
 
 -- an accepted zone, how long its signatures hold, what its scheme signs, and what scheme and hasher answer a judge
 pub record World : Type 0 where

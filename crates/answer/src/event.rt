@@ -1,10 +1,10 @@
 //! What happens to a signed zone over time, and what comes of it.
-use crate::denial::ds::Ds;
-use crate::judge::verdict::{Judgement, Refused};
-use crate::keyset::{Action, Available, RollType, UnixTime};
-use crate::plain::SecurityAlgorithm;
 use crate::publisher::fault::{AnswerFault, KeyFault};
-use crate::question::Question;
+use answer_judge::judge::verdict::{Judgement, Refused};
+use denial_data::ds::Ds;
+use keyset::{Action, Available, RollType, UnixTime};
+use messages::question::Question;
+use records::plain::SecurityAlgorithm;
 
 /// An act at a moment. A key call takes the moment as its present, and an added key as its creation.
 #[derive(Debug, Drop)]

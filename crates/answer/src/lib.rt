@@ -2,15 +2,13 @@
 //! answer as bytes alone, and a simulation of a zone's key life that joins the two.
 #![tactic(auto)]
 
-pub mod denial;
 pub mod event;
-pub mod judge;
-pub mod keyset;
-pub mod message;
-pub mod names;
-pub mod plain;
 pub mod publisher;
-pub mod question;
-mod ranked;
-pub mod scheme;
 pub mod simulate;
+
+pub use answer_judge::{judge, scheme};
+pub use denial_data as denial;
+pub use keyset;
+pub use messages as message;
+pub use messages::question;
+pub use records::{names, plain};

@@ -1,9 +1,7 @@
 //! A publisher of one signed zone whose keys roll.
 pub mod compose;
 pub mod fault;
-pub mod group;
 pub mod keys;
 pub mod laws;
 pub mod publishing;
 pub mod signing;
-mod zone;

@@ -1,22 +1,23 @@
 //! A simulation of a zone's key life: key calls, things shown, and judgements of them.
 ghost use Rattle.std.specs.Prelude.{◌≡◌, ◌⊎◌, ◌<◌, ◌≤◌, ◌^◌, ℕ, All, map, IfOk, IfErr, length};
-ghost use Rattle.answer.specs.Accepting.{IsAccepted, IsFault, sorted_records};
+ghost use Rattle.answer_zone.specs.Accepting.{IsAccepted, IsFault, sorted_records};
 ghost use Rattle.std.specs.List.{AllByRecursion};
 ghost use Rattle.definitions.specs.Name.{IsName};
-ghost use Rattle.answer.specs.Handed.{IsHanded};
-ghost use Rattle.answer.specs.ZoneView.{mode_of, handed_of};
+ghost use Rattle.records.specs.Handed.{IsHanded};
+ghost use Rattle.answer_zone.specs.ZoneView.{mode_of};
+ghost use Rattle.records.specs.HandedRr.{handed_of};
 ghost use Rattle.answer.specs.Events.{added_octets};
 ghost use Rattle.answer.specs.OneState.{SaysVerdicts};
 ghost use Rattle.answer.specs.Simulating.{Sofar, Simulates, begin, world};
 
-use crate::denial::hasher::Nsec3Hasher;
 use crate::event::{Event, Outcome};
-use crate::names::Name;
-use crate::plain::record::Record;
 use crate::publisher::fault::{Mode, ZoneFault};
 use crate::publisher::publishing::Publisher;
-use crate::scheme::Scheme;
 use crate::simulate::run::Run;
+use answer_judge::scheme::Scheme;
+use denial_data::hasher::Nsec3Hasher;
+use records::names::Name;
+use records::plain::record::Record;
 use std::alloc::Global;
 
 mod run;

@@ -5,10 +5,10 @@ use Rattle.std.proofs.lemmas.Bool.{eq-eqb}
 use Rattle.std.proofs.lemmas.List.{append-nil}
 use Rattle.std.proofs.lemmas.List.Sums.{sum_by-cons}
 use Rattle.definitions.specs.Name.{Name, IsName, wire, wire_len}
-use Rattle.answer.specs.Message.{owner_at, if_true}
-use Rattle.answer.specs.NameOctets.{name_of_octets}
-use Rattle.answer.specs.WrittenLaws.{NamesReadBack}
-use Rattle.answer.specs.declared.message.MessageError.{MessageError}
+use Rattle.records.specs.Message.{owner_at, if_true}
+use Rattle.records.specs.NameOctets.{name_of_octets}
+use Rattle.messages.specs.WrittenLaws.{NamesReadBack}
+use Rattle.records.specs.declared.message.MessageError.{MessageError}
 
 wire-length : (n : Name) → length (wire n) ≡ wire_len n
 wire-length [] = refl

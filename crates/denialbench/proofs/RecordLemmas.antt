@@ -7,10 +7,10 @@ use Rattle.std.specs.Str.{bytes_eq}
 use Rattle.std.proofs.lemmas.Bool.{eq-eqb}
 use Rattle.std.proofs.lemmas.List.{drop-drop, take-append-drop}
 use Rattle.definitions.specs.Name.{Name, wire, low}
-use Rattle.answer.specs.Message.{owner_at}
-use Rattle.answer.specs.Rdata.{soa_numbers}
-use Rattle.answer.specs.declared.plain.record.Soa.{Soa}
-use Rattle.answer.specs.declared.plain.record.ZoneRecordData.TheVariants.{Soa as SoaData}
+use Rattle.records.specs.Message.{owner_at}
+use Rattle.records.specs.Rdata.{soa_numbers}
+use Rattle.records.specs.declared.plain.record.Soa.{Soa}
+use Rattle.records.specs.declared.plain.record.ZoneRecordData.TheVariants.{Soa as SoaData}
 use Rattle.denialbench.specs.Fields.{hex_field}
 use Rattle.denialbench.specs.Grammar.{◌>>=◌, DataField, name_field, number_field, data_octets, soa_octets, soa_field, record_fields}
 use Rattle.denialbench.specs.Numbers.{number_of}

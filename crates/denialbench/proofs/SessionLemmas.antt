@@ -4,11 +4,12 @@ use Rattle.std.specs.Prelude.{cond, map, codes, ◌++◌, nat_eq, if◌then◌el
 use Rattle.std.specs.List.{flat_map}
 use Rattle.sha2.specs.Sha256.{sha256}
 use Rattle.std.specs.Str.{bytes_eq}
-use Rattle.answer.specs.Accepting.{HandedRr, IsAccepted, IsFault, sorted_records}
+use Rattle.records.specs.HandedRr.{HandedRr}
+use Rattle.answer_zone.specs.Accepting.{IsAccepted, IsFault, sorted_records}
 use Rattle.answer.specs.Simulating.{World, Sofar, world, begin, Simulates}
 use Rattle.answer.specs.declared.event.Event.{Event}
 use Rattle.answer.specs.declared.event.Outcome.{Outcome}
-use Rattle.answer.specs.declared.publisher.fault.ZoneFault.{ZoneFault}
+use Rattle.answer_zone.specs.declared.fault.ZoneFault.{ZoneFault}
 use Rattle.denialbench.specs.Grammar.{ZoneLine}
 use Rattle.denialbench.specs.Names.{zone_fault_name}
 use Rattle.denialbench.specs.Printed.{outcome_text}
@@ -18,9 +19,9 @@ use Rattle.definitions.specs.ZoneChain as chain
 use Rattle.std.specs.Str.{IsUtf8, is_utf8}
 use Rattle.std.proofs.Common.{inl, inr, subst}
 use Rattle.std.proofs.lemmas.Str.{IsUtf8-from_is_utf8, is_utf8-from_IsUtf8}
-use Rattle.answer.specs.declared.publisher.fault.Mode.{Mode}
-use Rattle.answer.specs.declared.publisher.fault.Mode.TheVariants as declared
-use Rattle.answer.specs.ZoneView.{mode_of}
+use Rattle.answer_zone.specs.declared.fault.Mode.{Mode}
+use Rattle.answer_zone.specs.declared.fault.Mode.TheVariants as declared
+use Rattle.answer_zone.specs.ZoneView.{mode_of}
 use Rattle.definitions.specs.ZoneChain.{Nsec}
 use Rattle.denialbench.specs.Sessions.{Lines, is_passed_over, fields_of, with_fields, with_line}
 

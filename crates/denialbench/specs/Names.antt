@@ -1,21 +1,21 @@
 -- The names that are printed: those of the variants, of a fault within faults the innermost.
 use Rattle.std.specs.Prelude.{ℕ, List, codes}
-use Rattle.answer.specs.declared.keyset.rolls.Action.{Action}
-use Rattle.answer.specs.declared.keyset.rolls.Action.TheVariants as ActionCase
-use Rattle.answer.specs.declared.denial.generate.SigningError.{SigningError}
-use Rattle.answer.specs.declared.denial.generate.SigningError.TheVariants as SigningErrorCase
-use Rattle.answer.specs.declared.publisher.fault.ZoneFault.{ZoneFault}
-use Rattle.answer.specs.declared.publisher.fault.ZoneFault.TheVariants as ZoneFaultCase
+use Rattle.keyset.specs.declared.rolls.Action.{Action}
+use Rattle.keyset.specs.declared.rolls.Action.TheVariants as ActionCase
+use Rattle.denial_data.specs.declared.generate.SigningError.{SigningError}
+use Rattle.denial_data.specs.declared.generate.SigningError.TheVariants as SigningErrorCase
+use Rattle.answer_zone.specs.declared.fault.ZoneFault.{ZoneFault}
+use Rattle.answer_zone.specs.declared.fault.ZoneFault.TheVariants as ZoneFaultCase
 use Rattle.answer.specs.declared.publisher.fault.AnswerFault.{AnswerFault}
 use Rattle.answer.specs.declared.publisher.fault.AnswerFault.TheVariants as AnswerFaultCase
-use Rattle.answer.specs.declared.keyset.errors.Error.{Error as KeyError}
-use Rattle.answer.specs.declared.keyset.errors.Error.TheVariants as KeyErrorCase
+use Rattle.keyset.specs.declared.errors.Error.{Error as KeyError}
+use Rattle.keyset.specs.declared.errors.Error.TheVariants as KeyErrorCase
 use Rattle.answer.specs.declared.publisher.fault.KeyFault.{KeyFault}
 use Rattle.answer.specs.declared.publisher.fault.KeyFault.TheVariants as KeyFaultCase
-use Rattle.answer.specs.declared.judge.verdict.Refusal.{Refusal}
-use Rattle.answer.specs.declared.judge.verdict.Refusal.TheVariants as RefusalCase
-use Rattle.answer.specs.declared.judge.verdict.Verdict.{Verdict}
-use Rattle.answer.specs.declared.judge.verdict.Verdict.TheVariants as VerdictCase
+use Rattle.answer_judge.specs.declared.judge.verdict.Refusal.{Refusal}
+use Rattle.answer_judge.specs.declared.judge.verdict.Refusal.TheVariants as RefusalCase
+use Rattle.answer_judge.specs.declared.judge.verdict.Verdict.{Verdict}
+use Rattle.answer_judge.specs.declared.judge.verdict.Verdict.TheVariants as VerdictCase
 
 abbrev pub action_name : Action → List ℕ
 action_name ActionCase.CreateCdsRrset = codes "CreateCdsRrset"

@@ -5,13 +5,13 @@ use Rattle.std.specs.Duration.{as_nanos}
 use Rattle.hex.specs.Hex.{encode_lower}
 use Rattle.answer.specs.declared.event.Outcome.{Outcome}
 use Rattle.answer.specs.declared.event.Outcome.TheVariants.{Key, Ds, Message, Refused, Judged, BadPlace}
-use Rattle.answer.specs.declared.judge.verdict.Judgement.{Judgement}
-use Rattle.answer.specs.declared.judge.verdict.Refused.{Refused as JudgeRefused}
-use Rattle.answer.specs.declared.judge.verdict.Verdict.{Verdict}
-use Rattle.answer.specs.declared.judge.verdict.Verdict.TheVariants.{Records, StarRecords}
-use Rattle.answer.specs.declared.keyset.rolls.Action.{Action}
-use Rattle.answer.specs.declared.keyset.errors.Error.{Error as KeyError}
-use Rattle.answer.specs.declared.keyset.errors.Error.TheVariants.{Wait}
+use Rattle.answer_judge.specs.declared.judge.verdict.Judgement.{Judgement}
+use Rattle.answer_judge.specs.declared.judge.verdict.Refused.{Refused as JudgeRefused}
+use Rattle.answer_judge.specs.declared.judge.verdict.Verdict.{Verdict}
+use Rattle.answer_judge.specs.declared.judge.verdict.Verdict.TheVariants.{Records, StarRecords}
+use Rattle.keyset.specs.declared.rolls.Action.{Action}
+use Rattle.keyset.specs.declared.errors.Error.{Error as KeyError}
+use Rattle.keyset.specs.declared.errors.Error.TheVariants.{Wait}
 use Rattle.answer.specs.declared.publisher.fault.KeyFault.{KeyFault}
 use Rattle.answer.specs.declared.publisher.fault.KeyFault.TheVariants as KeyFaultCase
 use Rattle.denialbench.specs.Names.{action_name, answer_fault_name, key_error_name, key_fault_name, refusal_name, verdict_name}

@@ -2,7 +2,7 @@
 use Rattle.std.specs.Prelude.{◌≡◌, ℕ, List, map, Option, Some, None, Result, Ok, Err}
 use Rattle.std.specs.Borrow.{Bor}
 use Rattle.std.specs.Option.{option_map}
-use Rattle.answer.specs.Questions.{asked_of}
+use Rattle.messages.specs.Questions.{asked_of}
 use Rattle.answer.specs.Simulating.{call_of}
 use Rattle.answer.specs.declared.event.Event.{Event}
 use Rattle.answer.specs.declared.event.Act.{Act}
@@ -10,10 +10,10 @@ use Rattle.answer.specs.declared.event.Act.TheVariants as act
 use Rattle.denialbench.specs.declared.line_error.LineError.{LineError}
 use Rattle.denialbench.specs.declared.line_error.LineError.TheVariants.{Unreadable, Memory}
 use Rattle.denialbench.specs.declared.zone.Zone.{Zone}
-use Rattle.answer.specs.Rdata.{written_of, canonical_of}
-use Rattle.answer.specs.ZoneView.{handed_of, is_unknown}
-use Rattle.answer.specs.declared.plain.record.Record.{Record}
-use Rattle.answer.specs.declared.plain.record.ZoneRecordData.{ZoneRecordData}
+use Rattle.records.specs.Rdata.{written_of, canonical_of}
+use Rattle.records.specs.HandedRr.{handed_of, is_unknown}
+use Rattle.records.specs.declared.plain.record.Record.{Record}
+use Rattle.records.specs.declared.plain.record.ZoneRecordData.{ZoneRecordData}
 use Rattle.denialbench.specs.Grammar.{ZoneLine, ActLine, EventLine, DataField, KeyCall, ShowDs, ShowDnskey, Ask, Judge, JudgeBytes}
 use Rattle.denialbench.specs.Sessions.{Lines}
 

@@ -5,11 +5,12 @@ use Rattle.std.specs.Str.{bytes_eq}
 use Rattle.sha2.specs.Sha256.{sha256}
 use Rattle.definitions.specs.Dnskey.{Dnskey, dnskey_data}
 use Rattle.definitions.specs.ZoneChain.{Nsec}
-use Rattle.answer.specs.Accepting.{HandedRr, IsAccepted, IsFault, sorted_records}
+use Rattle.records.specs.HandedRr.{HandedRr}
+use Rattle.answer_zone.specs.Accepting.{IsAccepted, IsFault, sorted_records}
 use Rattle.answer.specs.Simulating.{World, Sofar, world, begin, Simulates}
 use Rattle.answer.specs.declared.event.Event.{Event}
 use Rattle.answer.specs.declared.event.Outcome.{Outcome}
-use Rattle.answer.specs.declared.publisher.fault.ZoneFault.{ZoneFault}
+use Rattle.answer_zone.specs.declared.fault.ZoneFault.{ZoneFault}
 use Rattle.denialbench.specs.Grammar.{ZoneLine, EventLine}
 use Rattle.denialbench.specs.Names.{zone_fault_name}
 use Rattle.denialbench.specs.Printed.{outcome_text}

@@ -1,7 +1,7 @@
 //! Names, references and octets as fields of a line. The field `-` stands for nothing.
 ghost use Rattle.std.specs.Prelude.{◌≡◌, ◌≤◌, ◌↔◌, length, map, IfOk, IsErrOf, Some, None, true, false, string_bytes, if◌then◌else◌};
 ghost use Rattle.std.specs.List.{list_all};
-ghost use Rattle.answer.specs.NameOctets.{name_of_octets};
+ghost use Rattle.records.specs.NameOctets.{name_of_octets};
 ghost use Rattle.denialbench.specs.Fields.{base64_field, hex_field, key_field, is_reference};
 ghost use Rattle.denialbench.specs.Grammar.{name_field, references_field};
 ghost use Rattle.denialbench.specs.Readings.{Reads, texts};

@@ -1,8 +1,8 @@
 //! The lines of a zone: the zone itself, and its records.
 ghost use Rattle.std.specs.Prelude.{◌≡◌, ◌+◌, ◌≤◌, IfOk, length, take, drop};
 ghost use Rattle.std.specs.Int.{w32, to_be_bytes};
-ghost use Rattle.answer.specs.Rdata.{rtype_of};
-ghost use Rattle.answer.specs.ZoneView.{handed_of};
+ghost use Rattle.records.specs.Rdata.{rtype_of};
+ghost use Rattle.records.specs.HandedRr.{handed_of};
 ghost use Rattle.denialbench.specs.Grammar.{zone_line, zone_fields, life_field, record_line, record_fields, data_octets, soa_octets};
 ghost use Rattle.denialbench.specs.Readings.{Reads, texts, zone_view, data_view};
 

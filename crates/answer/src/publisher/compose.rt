@@ -1,22 +1,22 @@
 //! Writing answers (RFC 1035, 4.1; RFC 4035, 3.1.1).
 ghost use Rattle.std.specs.Prelude.{◌≡◌, ◌+◌, ◌++◌, [], ◌∷◌, true, map, length, Err, IfOk, IfErr, OnOk, if◌then◌else◌};
 ghost use Rattle.std.specs.List.{AllZip, flat_map};
-ghost use Rattle.answer.specs.GroupView.{FailsFor, IsRrsigData};
+ghost use Rattle.answer_zone.specs.GroupView.{FailsFor, IsRrsigData};
 ghost use Rattle.answer.specs.Answering.{ahead_of_records};
-ghost use Rattle.answer.specs.Questions.{asked_of};
-ghost use Rattle.answer.specs.declared.scheme.SchemeError.TheVariants as error;
-ghost use Rattle.answer.specs.Written.{record_octets};
+ghost use Rattle.messages.specs.Questions.{asked_of};
+ghost use Rattle.answer_judge.specs.declared.scheme.SchemeError.TheVariants as error;
+ghost use Rattle.records.specs.Written.{record_octets};
 ghost use Rattle.answer.specs.Composed.{HasRoom, IsAnswer, IsSection, RefusesGroups, RefusesRecords, record_of};
 
-use crate::denial::dnskey::Dnskey;
-use crate::message::write::{push_header, push_question, push_record};
-use crate::names::Octets;
-use crate::plain::{Class, Rtype};
 use crate::publisher::fault::AnswerFault;
-use crate::publisher::group::RrGroup;
 use crate::publisher::signing::{SignatureTerms, sign_group};
-use crate::question::Question;
-use crate::scheme::{Scheme, SchemeError};
+use answer_judge::scheme::{Scheme, SchemeError};
+use answer_zone::group::RrGroup;
+use denial_data::dnskey::Dnskey;
+use messages::question::Question;
+use records::message::write::{push_header, push_question, push_record};
+use records::names::Octets;
+use records::plain::{Class, Rtype};
 use std::alloc::{AllocError, Global};
 
 /// The octets of a longest message (RFC 1035, 4.2.2).
@@ -170,8 +170,8 @@ impl From<SchemeError> for AnswerFault {
 #[cfg(test)]
 mod tests {
     use super::*;
-    use crate::names::Name;
-    use crate::plain::{DigestAlgorithm, SecurityAlgorithm, Ttl};
+    use records::names::Name;
+    use records::plain::{DigestAlgorithm, SecurityAlgorithm, Ttl};
     use std::test::Fail;
 
     /// Signs by a copy of the octets.

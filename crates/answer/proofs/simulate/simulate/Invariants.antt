@@ -1,6 +1,7 @@
 use Rattle.std.proofs.Common.{◌≡◌, length, map}
-use Rattle.answer.specs.Accepting.{sorted_records}
-use Rattle.answer.specs.ZoneView.{mode_of, handed_of}
+use Rattle.answer_zone.specs.Accepting.{sorted_records}
+use Rattle.answer_zone.specs.ZoneView.{mode_of}
+use Rattle.records.specs.HandedRr.{handed_of}
 use Rattle.answer.specs.Running.{sofar}
 use Rattle.answer.specs.Simulating.{World, begin, world}
 use Rattle.answer.proofs.SimulateLoop.{GoesOn}

@@ -1,7 +1,8 @@
 use Rattle.std.proofs.Common.{List, ap, map, subst, string_bytes, ◌∙◌, ◌++◌, ◌∷◌, []}
 use Rattle.std.specs.List.{flat_map}
 use Rattle.std.proofs.lemmas.Result.{IfOk-weaker}
-use Rattle.answer.specs.ZoneView.{handed_of, mode_of}
+use Rattle.records.specs.HandedRr.{handed_of}
+use Rattle.answer_zone.specs.ZoneView.{mode_of}
 use Rattle.answer.specs.Simulating.{Sofar, begin, Simulates}
 use Rattle.answer.specs.declared.event.Event.{Event}
 use Rattle.answer.specs.declared.event.Outcome.{Outcome}

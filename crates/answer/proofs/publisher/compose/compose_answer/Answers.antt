@@ -1,7 +1,7 @@
 use Rattle.std.proofs.Common.{◌<◌, ◌++◌, ap, ◌∙◌, subst}
 use Rattle.std.proofs.lemmas.Result.{err_from_is_err_and}
 use Rattle.answer.specs.Answering.{ahead_of_records}
-use Rattle.answer.specs.Questions.{asked_of}
+use Rattle.messages.specs.Questions.{asked_of}
 use Rattle.answer.proofs.Refusals.{first_refused, message_refused, second_refused}
 use Rattle.answer.proofs.publisher.compose.compose_answer.Goals as goal
 

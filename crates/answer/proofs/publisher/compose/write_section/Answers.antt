@@ -1,7 +1,7 @@
 use Rattle.std.proofs.Common.{[], Err, ap, map, subst, sym}
 use Rattle.std.specs.Prelude.{if◌then◌else◌}
 use Rattle.std.specs.List.{AllZip}
-use Rattle.answer.specs.GroupView.{IsRrsigData}
+use Rattle.answer_zone.specs.GroupView.{IsRrsigData}
 use Rattle.std.proofs.lemmas.Result.{err_from_is_err_and}
 use Rattle.answer.proofs.Refusals.{section_refused, signatures_refused, signing_refused}
 use Rattle.answer.proofs.SignAnswer.{section_more}

@@ -1,5 +1,5 @@
-use Rattle.answer.specs.GroupView.{IsRrsigData}
-use Rattle.answer.proofs.SignMade.{AllZip-pushed}
+use Rattle.answer_zone.specs.GroupView.{IsRrsigData}
+use Rattle.answer_zone.proofs.SignMade.{AllZip-pushed}
 use Rattle.answer.proofs.publisher.signing.sign_group.Goals as goal
 
 pub loop-key-preserved : goal.loop-key-preserved

@@ -1,6 +1,6 @@
 use Rattle.std.proofs.Common.{take, map}
 use Rattle.std.specs.List.{AllZip}
-use Rattle.answer.specs.GroupView.{IsRrsigData}
+use Rattle.answer_zone.specs.GroupView.{IsRrsigData}
 use Rattle.answer.proofs.publisher.signing.sign_group.Given as goal
 
 abbrev pub invariant-loop-key : goal.invariant-loop-key

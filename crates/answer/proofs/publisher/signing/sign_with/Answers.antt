@@ -1,5 +1,5 @@
 use Rattle.std.proofs.Common.{◌++◌, ◌∙◌, ap}
-use Rattle.answer.proofs.SignMade.{rrsig_made}
+use Rattle.answer_zone.proofs.SignMade.{rrsig_made}
 use Rattle.answer.proofs.publisher.signing.sign_with.Goals as goal
 
 pub returns-clause-made : goal.returns-clause-made

@@ -1,5 +1,5 @@
 use Rattle.std.proofs.Common.{◌≡◌, map, take, string_bytes}
-use Rattle.answer.specs.KeyState as key_state
+use Rattle.keyset.specs.KeyState as key_state
 use Rattle.answer.proofs.simulate.run.texts.Given as goal
 
 abbrev pub invariant-loop-reference : goal.invariant-loop-reference

@@ -2,7 +2,7 @@ use Rattle.std.proofs.Common.{◌≡◌, [], ◌∷◌, length, subst, arith}
 use Rattle.answer.specs.Composed.{RefusesRecords, record_of}
 use Rattle.std.proofs.lemmas.Result.{err_from_is_err_and}
 use Rattle.answer.proofs.Refusals.{records_refused}
-use Rattle.answer.proofs.SignOctets.{records_written}
+use Rattle.answer.proofs.SignRecords.{records_written}
 use Rattle.answer.proofs.publisher.compose.Section.push_records.Goals as goal
 
 pub returns-clause-octets : goal.returns-clause-octets

@@ -1,6 +1,6 @@
 use Rattle.std.proofs.Common.{◌≡◌, ◌+◌, ◌++◌, take}
 use Rattle.std.specs.List.{flat_map}
-use Rattle.answer.specs.Written.{record_octets}
+use Rattle.records.specs.Written.{record_octets}
 use Rattle.answer.specs.Composed.{HasRoom, record_of}
 use Rattle.answer.proofs.publisher.compose.Section.push_records.Given as goal
 

@@ -1,6 +1,6 @@
 use Rattle.std.proofs.Common.{[], sym, subst}
 use Rattle.std.specs.Prelude.{string_bytes}
-use Rattle.answer.specs.KeyState.{text_of, is_available}
+use Rattle.keyset.specs.KeyState.{text_of, is_available}
 use Rattle.answer.specs.Bindings.{Outcome}
 use Rattle.answer.specs.KeyCalls.{GivesKeys}
 use Rattle.answer.proofs.AddProofs.{applied}

@@ -5,7 +5,7 @@ use Rattle.std.specs.Ordering.{nat_cmp, is_eq}
 use Rattle.std.specs.Cmp.Lexicographic.{slice_cmp}
 use Rattle.std.specs.FinMap.Entries.{put}
 use Rattle.definitions.specs.Dnskey.{key_tag}
-use Rattle.answer.specs.KeyState.{reference_cmp}
+use Rattle.keyset.specs.KeyState.{reference_cmp}
 use Rattle.answer.specs.Bindings.{ZoneKeys, BoundKey, bind, lifted, bound_at}
 use Rattle.answer.specs.BoundView.{by_text}
 use Rattle.answer.specs.NewKeys.{added_to, added_tag}

@@ -5,13 +5,13 @@ use Rattle.std.specs.Ordering.{nat_cmp, is_eq}
 use Rattle.std.specs.Cmp.Lexicographic.{slice_cmp}
 use Rattle.std.specs.FinMap.Entries.{put, find}
 use Rattle.definitions.specs.Dnskey.{key_tag}
-use Rattle.answer.specs.KeyState.{reference_cmp}
+use Rattle.keyset.specs.KeyState.{reference_cmp}
 use Rattle.answer.specs.Bindings.{ZoneKeys, BoundKey, bind, lifted, bound_at}
 use Rattle.answer.specs.BoundView.{by_text}
 use Rattle.answer.specs.NewKeys.{added_to, added_tag}
 use Rattle.answer.specs.declared.publisher.fault.KeyFault.{KeyFault}
-use Rattle.answer.specs.KeyAnswers as answers
-use Rattle.answer.specs.KeyAnswers.{refusal_of}
+use Rattle.keyset.specs.KeyAnswers as answers
+use Rattle.keyset.specs.KeyAnswers.{refusal_of}
 use Rattle.answer.specs.KeyCalls.{Fails, IsNamed, fault_of}
 use Rattle.answer.proofs.BoundKeys.{put-by_text, removed-put}
 use Rattle.answer.proofs.AddProofs.{lifted_ok, refused_named}

@@ -4,7 +4,7 @@ use Rattle.std.specs.Ordering.{nat_cmp}
 use Rattle.std.specs.Cmp.Lexicographic.{slice_cmp}
 use Rattle.definitions.specs.Dnskey.{dnskey_data}
 use Rattle.definitions.specs.Sorting.{put_all_by}
-use Rattle.answer.specs.KeyState.{Reference}
+use Rattle.keyset.specs.KeyState.{Reference}
 use Rattle.answer.specs.declared.publisher.keys.Publication.TheVariants.{Present}
 use Rattle.answer.specs.Bindings.{BoundKey, is_published, dnskeys, dnskey_rdata}
 use Rattle.answer.specs.BoundView.{by_text}

@@ -1,7 +1,7 @@
 use Rattle.std.proofs.Common.{◌≡◌, map}
 use Rattle.std.specs.Prelude.{filter}
 use Rattle.definitions.specs.Sorting.{put_all_by}
-use Rattle.answer.specs.KeyState.{Reference}
+use Rattle.keyset.specs.KeyState.{Reference}
 use Rattle.answer.specs.declared.publisher.keys.Publication.TheVariants.{AtParent}
 use Rattle.answer.specs.Bindings.{BoundKey, is_published, ds_cmp, ds_of, ds_set}
 use Rattle.answer.specs.BoundView.{by_text}

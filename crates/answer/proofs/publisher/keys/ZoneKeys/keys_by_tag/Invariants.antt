@@ -3,7 +3,7 @@ use Rattle.std.specs.Prelude.{filter}
 use Rattle.std.specs.Ordering.{nat_cmp}
 use Rattle.definitions.specs.Dnskey.{key_tag}
 use Rattle.definitions.specs.Sorting.{put_all_by}
-use Rattle.answer.specs.KeyState.{Reference}
+use Rattle.keyset.specs.KeyState.{Reference}
 use Rattle.answer.specs.Bindings.{BoundKey, is_published, dnskeys, keys_by_tag}
 use Rattle.answer.specs.BoundView.{by_text}
 use Rattle.answer.proofs.publisher.keys.ZoneKeys.keys_by_tag.Given as goal

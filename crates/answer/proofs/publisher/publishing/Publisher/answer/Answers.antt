@@ -2,16 +2,17 @@ use Rattle.std.proofs.Common.{◌++◌, subst, rules}
 use Rattle.std.specs.Prelude.{IfErr, IfOk}
 use Rattle.answer.specs.Answering.{AnswersZone, RefusesAnswer, ahead_of_records}
 use Rattle.answer.specs.Bindings.{dnskeys, keys_by_tag, published}
-use Rattle.answer.specs.Given.{GivesAnswer}
-use Rattle.answer.specs.Served.{by_tag}
+use Rattle.answer_judge.specs.Given.{GivesAnswer}
+use Rattle.answer_zone.specs.Served.{by_tag}
 use Rattle.answer.proofs.WritesGiven.{answer_given}
 use Rattle.answer.specs.Composed.{IsAnswer, RefusesGroups}
-use Rattle.answer.specs.Publishing.{hash_in, second_of, served}
-use Rattle.answer.specs.Questions.{asked_of}
+use Rattle.answer_zone.specs.Hashing.{hash_in, served}
+use Rattle.answer.specs.Publishing.{second_of}
+use Rattle.messages.specs.Questions.{asked_of}
 use Rattle.answer.specs.declared.publisher.keys.Publication.TheVariants.{SignsZone}
-use Rattle.answer.proofs.ZoneAnswers.{allowed_plain}
+use Rattle.answer_judge.proofs.DenialTypes.{allowed_plain}
 use Rattle.answer.proofs.Refusals.{answer_refused, if_err_map}
-use Rattle.answer.proofs.ZoneData.{if_ok_map}
+use Rattle.answer_zone.proofs.ZoneData.{if_ok_map}
 use Rattle.answer.proofs.publisher.publishing.Publisher.answer.Goals as goal
 
 pub answer_to-requires : goal.answer_to-requires

@@ -3,11 +3,12 @@ use Rattle.std.specs.Prelude.{IfErr, IfOk}
 use Rattle.answer.specs.Answering.{RefusesKeys, ahead_of_records}
 use Rattle.answer.specs.Bindings.{dnskeys, keys_by_tag, published}
 use Rattle.answer.specs.Composed.{IsAnswer, RefusesGroups}
-use Rattle.answer.specs.Given.{GivesKeys}
-use Rattle.answer.specs.Served.{by_tag}
+use Rattle.answer_judge.specs.Given.{GivesKeys}
+use Rattle.answer_zone.specs.Served.{by_tag}
 use Rattle.answer.proofs.WritesGiven.{keys_given}
-use Rattle.answer.proofs.ZoneData.{if_ok_map}
-use Rattle.answer.specs.Publishing.{second_of, served}
+use Rattle.answer_zone.proofs.ZoneData.{if_ok_map}
+use Rattle.answer.specs.Publishing.{second_of}
+use Rattle.answer_zone.specs.Hashing.{served}
 use Rattle.answer.specs.declared.publisher.keys.Publication.TheVariants.{Present, SignsKeys}
 use Rattle.answer.proofs.Refusals.{if_err_map, keys_refused}
 use Rattle.answer.proofs.publisher.publishing.Publisher.dnskey_answer.Goals as goal

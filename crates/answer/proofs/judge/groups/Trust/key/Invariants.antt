@@ -1,7 +1,0 @@
-use Rattle.std.proofs.Common.{◌≡◌, drop}
-use Rattle.std.specs.List.{find}
-use Rattle.answer.specs.Facts.{fits_key, fields_read}
-use Rattle.answer.proofs.judge.groups.Trust.key.Given as goal
-
-abbrev pub invariant-loop-key : goal.invariant-loop-key
-invariant-loop-key l = find (fits_key (fields_read l.signature)) (drop l.key-index l.self.keys.now) ≡ find (fits_key (fields_read l.signature)) l.self.keys.now

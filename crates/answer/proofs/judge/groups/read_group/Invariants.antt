@@ -1,7 +1,0 @@
-use Rattle.std.proofs.Common.{◌≡◌, map, take}
-use Rattle.answer.specs.Record.{spelled}
-use Rattle.answer.specs.Verified.{rrset_in}
-use Rattle.answer.proofs.judge.groups.read_group.Given as goal
-
-abbrev pub invariant-loop-record : goal.invariant-loop-record
-invariant-loop-record l = map (λ d. d.items) l.items.items ≡ rrset_in 0 l.message (map spelled (take l.record-index l.records)) l.owner l.rtype

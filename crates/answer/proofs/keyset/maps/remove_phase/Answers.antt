@@ -1,6 +1,0 @@
-use Rattle.std.proofs.Common.{true}
-use Rattle.answer.proofs.KeyMaps.{by_kind-removed, kind_tied}
-use Rattle.answer.proofs.keyset.maps.remove_phase.Goals as goal
-
-pub returns : goal.returns
-returns c = by_kind-removed (λ _ _. true) kind_tied c.args.rollstates.now.entries c.remove.new.self.entries c.args.rolltype c.remove.ensures.updates.0

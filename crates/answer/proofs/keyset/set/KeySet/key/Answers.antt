@@ -1,9 +1,0 @@
-use Rattle.std.proofs.Common.{sym, ap, ◌∙◌}
-use Rattle.answer.specs.KeyState.{key_of}
-use Rattle.answer.proofs.KeyMaps.{find-by_reference}
-use Rattle.answer.proofs.keyset.set.KeySet.key.Goals as goal
-
-pub returns : goal.returns
-returns c =
-    c.get.ensures.value ∙ sym (find-by_reference c.args.reference.now c.self.inside.keys.entries)
-    ∙ ap (λ s. key_of s c.args.reference.now) c.self.view_is

@@ -1,6 +1,0 @@
-use Rattle.std.proofs.Common.{refl}
-use Rattle.answer.proofs.MessageWhole.{message_here}
-use Rattle.answer.proofs.message.laws.messages_read_back.Goals as goal
-
-pub returns : goal.returns
-returns c = λ flags asked answers authority is are. message_here _ flags asked answers authority refl is are

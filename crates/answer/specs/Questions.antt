@@ -1,7 +1,0 @@
--- How a question of the code is seen.
-use Rattle.definitions.specs.Name.{Name}
-use Rattle.answer.specs.declared.question.Question.{Question}
-use Rattle.answer.specs.Message.{Asked}
-
-abbrev pub asked_of : Question Name → Asked
-asked_of q = record { name = q.name; rtype = q.rtype; class = q.class }

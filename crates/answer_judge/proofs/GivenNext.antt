@@ -1,0 +1,120 @@
+-- An NSEC record whose canonical data are known says one next name and one bitmap.
+use Rattle.std.proofs.Common.{◌≡◌, ℕ, ◌+◌, ◌-◌, ◌<◌, ◌≤◌, Bool, true, false, List, ◌++◌, length, Option, Some, None, Result, Ok, Err, eqb, leb, refl, sym, ap, subst, ◌∙◌, arith}
+use Rattle.std.specs.Prelude.{slice_range}
+use Rattle.std.specs.List.{AllByRecursion}
+use Rattle.std.proofs.lemmas.Bool.{eq-eqb, ne_eqb}
+use Rattle.std.proofs.lemmas.List.{length-take-le, length-drop}
+use Rattle.definitions.specs.Bitmap.{is_bitmap}
+use Rattle.definitions.specs.Name.{Name, IsLabel, wire}
+use Rattle.definitions.specs.Reading.{Reads, root, label, pointer, ReadFault, name_at}
+use Rattle.definitions.proofs.ReadingLaws.{reads_exactly}
+use Rattle.definitions.proofs.SignedLaws.{Labelled, wire_of}
+use Rattle.records.specs.declared.message.MessageError.{MessageError}
+use Rattle.records.specs.Message.{Spelled, canonical_data, data_of, fault_of, if_true, name_in, ns_data, nsec_at, nsec_data, owner_at, soa_data}
+use Rattle.records.specs.Message as message
+use Rattle.records.proofs.ZoneLists.{all_more}
+
+-- ---- names that are read have no empty label
+
+length-range : (m : List ℕ) (p n : ℕ) → p + n ≤ length m → length (slice_range m p (p + n)) ≡ n
+length-range m p n h = let e : p + n - p ≡ n = omega arith in rw e (length-take-le n _ (omega (arith, length-drop p m)))
+
+reads_labelled : {m : List ℕ} {p k : ℕ} {ls : Name} → Reads m p k ls → Labelled ls
+reads_labelled (root h) = tt
+reads_labelled {m} {p} (label {n = n} {e = e} {l = l} h a b c d f r) =
+    let inside : p + 1 + n ≤ length m = omega (arith, c, d) in
+    let len : length l ≡ n = ap length f ∙ ap (λ x. length (slice_range m (p + 1) x)) c ∙ length-range m (p + 1) n inside in
+    (omega (arith, len, a), reads_labelled r)
+reads_labelled (pointer h a b c d r) = reads_labelled r
+
+abbrev read_ok : Name × ℕ → Result (Name × ℕ) MessageError
+read_ok n = Ok n
+
+ok_back : (a b : Name × ℕ) → read_ok a ≡ read_ok b → a ≡ b
+ok_back a b e = cc
+
+some_back : {A : Type 0} (a b : A) → Some a ≡ Some b → a ≡ b
+some_back a b e = cc
+
+abbrev owner_from : Result (Name × ℕ) ReadFault → Result (Name × ℕ) MessageError
+owner_from o = elim o [ Ok r ↦ Ok r | Err f ↦ Err (fault_of f) ]
+
+owner_from_ok : (o : Result (Name × ℕ) ReadFault) (n : Name × ℕ) → owner_from o ≡ Ok n → o ≡ Ok n
+owner_from_ok (Ok r) n h = ap Ok (ok_back r n h)
+owner_from_ok (Err f) n h = cc
+
+owner_reads : (k : ℕ) (m : List ℕ) (p : ℕ) (n : Name × ℕ) → owner_at k m p ≡ Ok n → name_at k m p ≡ Ok n
+unfolding owner_at
+owner_reads k m p n h = owner_from_ok (name_at k m p) n h
+
+abbrev name_upto_from : ℕ → Result (Name × ℕ) MessageError → Option (Name × ℕ)
+name_upto_from limit o = elim o [ Err e ↦ None | Ok n ↦ if_true (leb n.1 limit) n ]
+
+if_true_some : {A : Type 0} (b : Bool) (x y : A) → if_true b x ≡ Some y → x ≡ y
+if_true_some true x y h = some_back x y h
+if_true_some false x y h = cc
+
+upto_ok : (limit : ℕ) (o : Result (Name × ℕ) MessageError) (n : Name × ℕ) → name_upto_from limit o ≡ Some n → o ≡ Ok n
+upto_ok limit (Ok r) n h = ap Ok (if_true_some (leb r.1 limit) r n h)
+upto_ok limit (Err e) n h = cc
+
+name_in_labelled : (k : ℕ) (m : List ℕ) (r : Spelled) (p : ℕ) (n : Name × ℕ) → name_in k m r p ≡ Some n → Labelled n.0
+name_in_labelled k m r p n h =
+    let there : name_at k m p ≡ Ok n = owner_reads k m p n (upto_ok (message.behind r) (owner_at k m p) n h) in
+    let reads = (reads_exactly m p k n.0).0 (n.1, there) in
+    reads_labelled reads.0
+
+-- ---- the data of an NSEC record
+
+abbrev nsec_from : List ℕ → Spelled → Option (Name × ℕ) → Option (Name × List ℕ)
+nsec_from m r o = elim o [
+  | None ↦ None
+  | Some n ↦ let bits = slice_range m n.1 (message.behind r) in if_true (is_bitmap bits) (n.0, bits)
+]
+
+next_labelled : (k : ℕ) (m : List ℕ) (r : Spelled) (o : Option (Name × ℕ)) (n : Name × List ℕ) → name_in k m r r.start ≡ o → nsec_from m r o ≡ Some n → Labelled n.0
+next_labelled k m r None n e h = cc
+next_labelled k m r (Some s) n e h =
+    let bits : List ℕ = slice_range m s.1 (message.behind r) in
+    let same : (s.0, bits) ≡ n = if_true_some (is_bitmap bits) (s.0, bits) n h in
+    subst Labelled (ap (λ (x : Name × List ℕ). x.0) same) (name_in_labelled k m r r.start s e)
+
+nsec_at_labelled : (k : ℕ) (m : List ℕ) (r : Spelled) (n : Name × List ℕ) → nsec_at k m r ≡ Some n → Labelled n.0
+nsec_at_labelled k m r n h = next_labelled k m r (name_in k m r r.start) n refl h
+
+abbrev canonical_by : ℕ → List ℕ → Spelled → Bool → Bool → Bool → Option (List ℕ)
+canonical_by k m r two six nsec =
+    elim two [
+      | true ↦ ns_data k m r
+      | false ↦ elim six [
+        | true ↦ soa_data k m r
+        | false ↦ elim nsec [ true ↦ nsec_data k m r | false ↦ Some (data_of m r) ]
+      ]
+    ]
+
+canonical_nsec : (k : ℕ) (m : List ℕ) (r : Spelled) → r.rtype ≡ 47 → canonical_data k m r ≡ nsec_data k m r
+canonical_nsec k m r e =
+    let two : eqb r.rtype 2 ≡ false = ne_eqb r.rtype 2 (λ h. omega (arith, e, h)) in
+    let six : eqb r.rtype 6 ≡ false = ne_eqb r.rtype 6 (λ h. omega (arith, e, h)) in
+    let nsec : eqb r.rtype 47 ≡ true = eq-eqb r.rtype 47 e in
+    λ i. canonical_by k m r (two i) (six i) (nsec i)
+
+-- data of a type without names are their octets
+pub canonical_octets : (k : ℕ) (m : List ℕ) (r : Spelled) → eqb r.rtype 2 ≡ false → eqb r.rtype 6 ≡ false → eqb r.rtype 47 ≡ false → canonical_data k m r ≡ Some (data_of m r)
+canonical_octets k m r two six nsec = λ i. canonical_by k m r (two i) (six i) (nsec i)
+
+abbrev nsec_joined : Option (Name × List ℕ) → Option (List ℕ)
+nsec_joined o = elim o [ None ↦ None | Some n ↦ Some (wire n.0 ++ n.1) ]
+
+labels_some : (n : Name) → AllByRecursion IsLabel n → Labelled n
+labels_some n h = all_more IsLabel (λ l. 0 < length l) n (λ l is. is.some) h
+
+read_back : (k : ℕ) (m : List ℕ) (r : Spelled) (o : Option (Name × List ℕ)) (next : Name) (bits : List ℕ) → Labelled next → nsec_at k m r ≡ o → nsec_joined o ≡ Some (wire next ++ bits) → nsec_at k m r ≡ Some (next, bits)
+read_back k m r None next bits l e h = cc
+read_back k m r (Some n) next bits l e h =
+    let octets : wire n.0 ++ n.1 ≡ wire next ++ bits = some_back (wire n.0 ++ n.1) (wire next ++ bits) h in
+    let one = wire_of n.0 next n.1 bits (nsec_at_labelled k m r n e) l octets in
+    e ∙ (λ i. Some (one.0 i, one.1 i))
+
+pub nsec_given : (k : ℕ) (m : List ℕ) (r : Spelled) (next : Name) (bits : List ℕ) → AllByRecursion IsLabel next → r.rtype ≡ 47 → canonical_data k m r ≡ Some (wire next ++ bits) → nsec_at k m r ≡ Some (next, bits)
+nsec_given k m r next bits l t h = read_back k m r (nsec_at k m r) next bits (labels_some next l) refl (sym (canonical_nsec k m r t) ∙ h)

@@ -1,0 +1,146 @@
+-- One signature record and the RRsets that it may verify.
+use Rattle.std.proofs.Common.{◌≡◌, ℕ, suc, Bool, true, false, ◌&&◌, ◌||◌, ◌==◌, List, [], ◌∷◌, map, length, get_or, set, ◌+◌, ◌<◌, ◌≤◌, drop, cond, refl, sym, ap, ◌∙◌}
+use Rattle.std.specs.Prelude.{Option, Some, None}
+use Rattle.std.specs.List.{list_any, filter}
+use Rattle.std.proofs.lemmas.Bool.{and_parts, eq-eqb, eqb-true}
+use Rattle.definitions.proofs.Members.{both_ways}
+use Rattle.definitions.specs.Name.{Name, low, same}
+use Rattle.definitions.specs.Signing.{Fields}
+use Rattle.answer_judge.specs.declared.judge.groups.Group.{Group}
+use Rattle.answer_judge.specs.Facts.{is_signature, signs, fields_read}
+use Rattle.messages.specs.Record.{signature_of, spelled}
+use Rattle.messages.specs.declared.view.ViewRecord.{ViewRecord}
+use Rattle.std.proofs.lemmas.List.{drop_all}
+use Rattle.records.proofs.ZoneLists.{items_from}
+use Rattle.messages.specs.declared.rdata.RrsigView.{RrsigView}
+use Rattle.answer_judge.proofs.JudgeCase.{signs-signer}
+use Rattle.records.specs.Message.{Spelled, rrsig_at}
+use Rattle.answer_judge.specs.Verified.{Trusting, is_verified}
+use Rattle.answer_judge.specs.Marked.{data_in, is_of, is_like, are_apart, marked_if, marked}
+use Rattle.records.proofs.ZoneNames.{same_labels, labels_eq-same}
+use Rattle.answer_judge.proofs.JudgeMarks.{or_no, unmarked, unmarked_by, marked_at, marked_next, marked_done, marked_apart}
+
+gate_class : (a s x : Bool) → elim (a && false && s) as (λ _. Bool) [ false ↦ false | true ↦ x ] ≡ false
+gate_class true s x = refl
+gate_class false s x = refl
+
+gate_owner : (a c x : Bool) → elim (a && c && false) as (λ _. Bool) [ false ↦ false | true ↦ x ] ≡ false
+gate_owner true true x = refl
+gate_owner true false x = refl
+gate_owner false c x = refl
+
+gate_shut : (b : Bool) → elim b as (λ _. Bool) [ false ↦ false | true ↦ false ] ≡ false
+gate_shut true = refl
+gate_shut false = refl
+
+pub eq_swap : (a b : ℕ) → (a == b) ≡ (b == a)
+eq_swap a b = both_ways (a == b) (b == a) (λ h. eq-eqb b a (sym (eqb-true a b h))) (λ h. eq-eqb a b (sym (eqb-true b a h)))
+
+-- what a record says of data
+abbrev says_of : Trusting → Name → ℕ → List (List ℕ) → Option (Fields × List ℕ) → Bool
+says_of w owner t items o = elim o [ None ↦ false | Some f ↦ (f.0.covered == t) && signs w.answers w.apex w.keys w.now owner items f.0 f.1 ]
+
+-- whether one record verifies a group
+abbrev pub tried : Trusting → List ℕ → Spelled → Group → Bool
+tried w m r g = is_verified w 0 m (r ∷ []) g.owner g.rtype (data_in g)
+
+pub class_other : (w : Trusting) (m : List ℕ) (r : Spelled) (g : Group) → (r.class == 1) ≡ false → tried w m r g ≡ false
+class_other w m r g h =
+    (λ i. elim (is_signature r && h i && same r.owner g.owner) as (λ _. Bool) [ false ↦ false | true ↦ says_of w g.owner g.rtype (data_in g) (rrsig_at 0 m r) ] || false)
+    ∙ ap (λ b. b || false) (gate_class (is_signature r) (same r.owner g.owner) (says_of w g.owner g.rtype (data_in g) (rrsig_at 0 m r)))
+
+pub no_signature : (w : Trusting) (m : List ℕ) (r : Spelled) (g : Group) → rrsig_at 0 m r ≡ None → tried w m r g ≡ false
+no_signature w m r g h =
+    (λ i. elim (is_signature r && (r.class == 1) && same r.owner g.owner) as (λ _. Bool) [ false ↦ false | true ↦ says_of w g.owner g.rtype (data_in g) (h i) ] || false)
+    ∙ ap (λ b. b || false) (gate_shut (is_signature r && (r.class == 1) && same r.owner g.owner))
+
+-- no signature record
+pub unsigned : (w : Trusting) (m : List ℕ) (r : Spelled) (g : Group) → is_signature r ≡ false → tried w m r g ≡ false
+unsigned w m r g h = (λ i. elim (h i && (r.class == 1) && same r.owner g.owner) as (λ _. Bool) [ false ↦ false | true ↦ says_of w g.owner g.rtype (data_in g) (rrsig_at 0 m r) ] || false)
+
+-- a group of another owner or type than a signature has
+pub tried_other : (w : Trusting) (m : List ℕ) (r : Spelled) (f : Fields × List ℕ) → rrsig_at 0 m r ≡ Some f → (g : Group) → is_of r.owner f.0.covered g ≡ false → tried w m r g ≡ false
+tried_other w m r f e g h =
+    let k = λ (s : Bool). is_signature r && (r.class == 1) && s in
+    let go : (a s : Bool) → (g.rtype == f.0.covered) ≡ a → same r.owner g.owner ≡ s → (a && s) ≡ false → tried w m r g ≡ false = λ a s ea es t. elim a as (λ a. (g.rtype == f.0.covered) ≡ a → (a && s) ≡ false → tried w m r g ≡ false) [
+      | false ↦ (λ ea t.
+          (λ i. elim (k (same r.owner g.owner)) as (λ _. Bool) [ false ↦ false | true ↦ says_of w g.owner g.rtype (data_in g) (e i) ] || false)
+          ∙ (λ i. elim (k (same r.owner g.owner)) as (λ _. Bool) [ false ↦ false | true ↦ (eq_swap f.0.covered g.rtype ∙ ea) i && signs w.answers w.apex w.keys w.now g.owner (data_in g) f.0 f.1 ] || false)
+          ∙ ap (λ b. b || false) (gate_shut (k (same r.owner g.owner))))
+      | true ↦ (λ ea t.
+          (λ i. elim (k ((es ∙ t) i)) as (λ _. Bool) [ false ↦ false | true ↦ says_of w g.owner g.rtype (data_in g) (rrsig_at 0 m r) ] || false)
+          ∙ ap (λ b. b || false) (gate_owner (is_signature r) (r.class == 1) (says_of w g.owner g.rtype (data_in g) (rrsig_at 0 m r))))
+    ] ea t in
+    go (g.rtype == f.0.covered) (same r.owner g.owner) refl refl h
+
+-- groups of one owner and type
+pub both_of : (o : Name) (t : ℕ) (g h : Group) → is_of o t g ≡ true → is_of o t h ≡ true → is_like g h ≡ true
+both_of o t g h a b =
+    let p = and_parts (g.rtype == t) (same o g.owner) a in
+    let q = and_parts (h.rtype == t) (same o h.owner) b in
+    let types = eq-eqb g.rtype h.rtype (eqb-true g.rtype t p.0 ∙ sym (eqb-true h.rtype t q.0)) in
+    let owners = labels_eq-same (low g.owner) (low h.owner) (sym (same_labels (low o) (low g.owner) p.1) ∙ same_labels (low o) (low h.owner) q.1) in
+    (λ i. types i && owners i)
+
+-- a group of the owner and type that a signature has
+pub tried_own : (w : Trusting) (m : List ℕ) (r : Spelled) (f : Fields × List ℕ) → rrsig_at 0 m r ≡ Some f → is_signature r ≡ true → (r.class == 1) ≡ true → (g : Group) → is_of r.owner f.0.covered g ≡ true
+    → tried w m r g ≡ signs w.answers w.apex w.keys w.now g.owner (data_in g) f.0 f.1
+tried_own w m r f e s c g h =
+    let p = and_parts (g.rtype == f.0.covered) (same r.owner g.owner) h in
+    let t = eq_swap f.0.covered g.rtype ∙ p.0 in
+    let own = p.1 in
+    (λ i. elim (s i && c i && own i) as (λ _. Bool) [ false ↦ false | true ↦ says_of w g.owner g.rtype (data_in g) (e i) ] || false)
+    ∙ (λ i. (t i && signs w.answers w.apex w.keys w.now g.owner (data_in g) f.0 f.1) || false)
+    ∙ or_no (signs w.answers w.apex w.keys w.now g.owner (data_in g) f.0 f.1)
+
+-- nothing is marked by a record that verifies no group
+pub untried : (w : Trusting) (m : List ℕ) (r : Spelled) (gs : List Group) → ((g : Group) → tried w m r g ≡ false) → gs ≡ map (marked w m (r ∷ [])) gs
+untried w m r gs h = sym (unmarked_by (tried w m r) h gs)
+
+-- no group has the owner and type of the signature
+pub tried_none : (w : Trusting) (m : List ℕ) (r : Spelled) (f : Fields × List ℕ) (gs : List Group) → rrsig_at 0 m r ≡ Some f → list_any (is_of r.owner f.0.covered) gs ≡ false → gs ≡ map (marked w m (r ∷ [])) gs
+tried_none w m r f gs e h = sym (unmarked (is_of r.owner f.0.covered) (tried w m r) (tried_other w m r f e) gs h)
+
+-- the group of the signature's owner and type is verified or not
+pub tried_at : (w : Trusting) (m : List ℕ) (r : Spelled) (f : Fields × List ℕ) (gs : List Group) (i : ℕ) (g : Group) → rrsig_at 0 m r ≡ Some f → are_apart gs ≡ true → i < length gs → g ≡ get_or gs i g → is_of r.owner f.0.covered g ≡ true
+    → set gs i (marked_if (tried w m r g) g) ≡ map (marked w m (r ∷ [])) gs
+tried_at w m r f gs i g e a h at own = sym (marked_at (is_of r.owner f.0.covered) (tried w m r) (tried_other w m r f e) (both_of r.owner f.0.covered) gs i g a h at own)
+
+-- it was verified before
+pub tried_again : (w : Trusting) (m : List ℕ) (r : Spelled) (f : Fields × List ℕ) (gs : List Group) (i : ℕ) (g : Group) → rrsig_at 0 m r ≡ Some f → are_apart gs ≡ true → i < length gs → g ≡ get_or gs i g → is_of r.owner f.0.covered g ≡ true → g.verified ≡ true
+    → set gs i (get_or gs i g) ≡ map (marked w m (r ∷ [])) gs
+tried_again w m r f gs i g e a h at own v =
+    let same : g ≡ marked_if (tried w m r g) g = (λ j. record { owner = g.owner; rtype = g.rtype; items = g.items; verified = (v ∙ sym (ap (λ b. b || tried w m r g) v)) j }) in
+    ap (set gs i) (sym at ∙ same) ∙ tried_at w m r f gs i g e a h at own
+
+-- it was not, and what the signature says of its data was found out
+pub tried_now : (w : Trusting) (m : List ℕ) (r : Spelled) (s : RrsigView) (gs : List Group) (i : ℕ) (g : Group) (v : Bool) → rrsig_at 0 m r ≡ Some (signature_of s) → is_signature r ≡ true → (r.class == 1) ≡ true
+    → are_apart gs ≡ true → i < length gs → g ≡ get_or gs i g → is_of r.owner s.type_covered g ≡ true → g.verified ≡ false → v ≡ signs w.answers w.apex w.keys w.now (get_or gs i g).owner (data_in (get_or gs i g)) (fields_read s) s.signature.now
+    → set gs i (record { owner = (get_or gs i g).owner; rtype = (get_or gs i g).rtype; items = (get_or gs i g).items; verified = v }) ≡ map (marked w m (r ∷ [])) gs
+tried_now w m r s gs i g v e sig class a h at own not_yet is =
+    let f = signature_of s in
+    let t : v ≡ tried w m r g = is ∙ ap (λ (y : Group). signs w.answers w.apex w.keys w.now y.owner (data_in y) (fields_read s) s.signature.now) (sym at) ∙ sym (signs-signer w.answers w.apex w.keys w.now g.owner (data_in g) s s.signature.now) ∙ sym (tried_own w m r f e sig class g own) in
+    let b : v ≡ (g.verified || tried w m r g) = t ∙ ap (λ x. x || tried w m r g) (sym not_yet) in
+    (λ j. set gs i (record { owner = (sym at j).owner; rtype = (sym at j).rtype; items = (sym at j).items; verified = b j })) ∙ tried_at w m r f gs i g e a h at own
+
+-- the groups after one record more
+pub after_next : (w : Trusting) (m : List ℕ) (rs : List ViewRecord) (i : ℕ) (r : ViewRecord) (old now new : List Group) → i < length rs → r ≡ get_or rs i r → new ≡ map (marked w m (spelled r ∷ [])) now
+    → map (marked w m (map spelled (drop i rs))) now ≡ map (marked w m (map spelled rs)) old → map (marked w m (map spelled (drop (i + 1) rs))) new ≡ map (marked w m (map spelled rs)) old
+after_next w m rs i r old now new h e n inv =
+    let rest = map spelled (drop (i + 1) rs) in
+    ap (map (marked w m rest)) n ∙ marked_next w m (spelled r) rest now
+    ∙ sym (ap (λ ys. map (marked w m (map spelled ys)) now) (items_from rs i r h e)) ∙ inv
+
+-- and after the last
+pub after_last : (w : Trusting) (m : List ℕ) (rs : List ViewRecord) (i : ℕ) (old now : List Group) → length rs ≤ i → map (marked w m (map spelled (drop i rs))) now ≡ map (marked w m (map spelled rs)) old → now ≡ map (marked w m (map spelled rs)) old
+after_last w m rs i old now h inv = sym (ap (λ ys. map (marked w m (map spelled ys)) now) (drop_all i rs h) ∙ marked_done w m now) ∙ inv
+
+pub apart_next : (w : Trusting) (m : List ℕ) (r : Spelled) (now new : List Group) → new ≡ map (marked w m (r ∷ [])) now → are_apart now ≡ true → are_apart new ≡ true
+apart_next w m r now new n h = ap are_apart n ∙ marked_apart (tried w m r) now ∙ h
+
+-- signature records from a place on
+pub signatures_next : (rs : List ViewRecord) (i : ℕ) (r : ViewRecord) → i < length rs → r ≡ get_or rs i r → is_signature (spelled r) ≡ true → length (filter is_signature (map spelled (drop i rs))) ≡ suc (length (filter is_signature (map spelled (drop (i + 1) rs))))
+signatures_next rs i r h e s = ap (λ ys. length (filter is_signature (map spelled ys))) (items_from rs i r h e) ∙ ap (λ b. length (cond b (spelled r ∷ filter is_signature (map spelled (drop (i + 1) rs))) (filter is_signature (map spelled (drop (i + 1) rs))))) s
+
+pub signatures_same : (rs : List ViewRecord) (i : ℕ) (r : ViewRecord) → i < length rs → r ≡ get_or rs i r → is_signature (spelled r) ≡ false → length (filter is_signature (map spelled (drop i rs))) ≡ length (filter is_signature (map spelled (drop (i + 1) rs)))
+signatures_same rs i r h e s = ap (λ ys. length (filter is_signature (map spelled ys))) (items_from rs i r h e) ∙ ap (λ b. length (cond b (spelled r ∷ filter is_signature (map spelled (drop (i + 1) rs))) (filter is_signature (map spelled (drop (i + 1) rs))))) s

@@ -1,0 +1,104 @@
+-- What a judge says, from what it read and verified.
+use Rattle.std.proofs.Common.{◌≡◌, ℕ, Bool, true, false, not, ◌&&◌, List, map, filter, length, inr, sym, ap, subst, ◌∙◌}
+use Rattle.std.specs.Prelude.{Option, Some, None, Result, Ok, Err, nat_eq, if◌then◌else◌}
+use Rattle.std.specs.Option.{option_map, ok_or}
+use Rattle.definitions.specs.Dnskey.{Dnskey, dnskey_data}
+use Rattle.definitions.specs.Zone.{Verdict, sorted_data}
+use Rattle.answer_judge.specs.Answers.{Answers}
+use Rattle.answer_judge.specs.Facts.{Link, is_usable, is_trusted, decided, RefusesFirst}
+use Rattle.answer_judge.specs.declared.judge.verdict.Verdict.{Verdict as CodeVerdict}
+use Rattle.answer_judge.specs.declared.judge.verdict.Refusal.{Refusal}
+use Rattle.answer_judge.specs.declared.judge.verdict.Refusal.TheVariants as r
+use Rattle.answer_judge.specs.Judging.{Answer, Refuses, Handing, is_allowed, same_question, has_equal_tags, first_refusal, message_refusal, keys_in, verdict_of, AnswersFirst}
+use Rattle.records.specs.declared.message.MessageError.{MessageError}
+use Rattle.records.specs.Message.{Message, Spelled, message}
+use Rattle.answer_judge.specs.Verified.{is_verified, verified_rrset, verified_links}
+use Rattle.answer_judge.specs.Judged.{trusting, keys_of, is_chained, by_facts, judged_answer, judged_messages, judged_bytes, judged_beyond, said, AnswersAs}
+
+-- both messages were read, and they bring no refusal
+pub beyond : (a : Answers) (k : ℕ) (h : Handing) (keys answer : Message) → message k h.dnskey_bytes ≡ Ok keys → message k h.answer_bytes ≡ Ok answer → message_refusal k h ≡ None → judged_beyond a k h ≡ judged_messages a k h keys answer
+beyond a k h keys answer d z none =
+    (λ i. elim (none i) as (λ _. Answer) [ Some e ↦ Refuses e | None ↦ judged_bytes a k h ])
+    ∙ (λ i. elim (d i) as (λ _. Answer) [
+      | Err e ↦ Refuses r.BadDnskeyMessage
+      | Ok keys ↦ elim (z i) as (λ _. Answer) [ Err e ↦ Refuses r.BadAnswerMessage | Ok answer ↦ judged_messages a k h keys answer ]
+    ])
+
+-- a first refusal
+pub refused_first : (a : Answers) (k : ℕ) (h : Handing) (e : Refusal) → message_refusal k h ≡ Some e → AnswersAs (Refuses e) (judged_beyond a k h)
+refused_first a k h e first = inr (sym (ap (λ o. elim o as (λ _. Answer) [ Some e ↦ Refuses e | None ↦ judged_bytes a k h ]) first))
+
+-- the keys are signed, or not, as was found out
+pub chained_as : (a : Answers) (h : Handing) (keys : Message) (rs : List Spelled) (ks trusted : List Dnskey) (b : Bool) → rs ≡ keys.records → ks ≡ keys_in h.dnskey_bytes h.apex rs → trusted ≡ filter (is_trusted a h.apex h.ds) ks
+    → b ≡ is_verified (trusting a h trusted) 0 h.dnskey_bytes rs h.apex 48 (sorted_data (map dnskey_data ks)) → b ≡ is_chained a 0 h keys
+chained_as a h keys rs ks trusted b e f g is =
+    is ∙ ap (λ t. is_verified (trusting a h t) 0 h.dnskey_bytes rs h.apex 48 (sorted_data (map dnskey_data ks))) g
+    ∙ ap (λ q. is_verified (trusting a h (filter (is_trusted a h.apex h.ds) q)) 0 h.dnskey_bytes rs h.apex 48 (sorted_data (map dnskey_data q))) f
+    ∙ ap (λ ss. is_verified (trusting a h (filter (is_trusted a h.apex h.ds) (keys_in h.dnskey_bytes h.apex ss))) 0 h.dnskey_bytes ss h.apex 48 (sorted_data (map dnskey_data (keys_in h.dnskey_bytes h.apex ss)))) e
+
+-- the keys that may sign the zone
+pub usable_as : (h : Handing) (keys : Message) (rs : List Spelled) (ks usable : List Dnskey) → rs ≡ keys.records → ks ≡ keys_in h.dnskey_bytes h.apex rs → usable ≡ filter is_usable ks → usable ≡ filter is_usable (keys_of h keys)
+usable_as h keys rs ks usable e f g = g ∙ ap (filter is_usable) f ∙ ap (λ ss. filter is_usable (keys_in h.dnskey_bytes h.apex ss)) e
+
+-- the keys aren't signed
+pub untrusted : (a : Answers) (h : Handing) (keys answer : Message) → judged_beyond a 0 h ≡ judged_messages a 0 h keys answer → false ≡ is_chained a 0 h keys → AnswersAs (Refuses r.NoTrustedKey) (judged_beyond a 0 h)
+untrusted a h keys answer e chained =
+    inr (sym (e ∙ ap (λ b. elim b as (λ _. Answer) [ true ↦ judged_answer a 0 h (filter is_usable (keys_of h keys)) answer | false ↦ Refuses r.NoTrustedKey ]) (sym chained)))
+
+-- they are, and what was verified of the answer decides
+pub decided_as : (a : Answers) (h : Handing) (keys answer : Message) (usable : List Dnskey) (rs : List Spelled) (found : Option (List (List ℕ))) (links : List Link) (v : Option Verdict) → judged_beyond a 0 h ≡ judged_messages a 0 h keys answer → true ≡ is_chained a 0 h keys
+    → usable ≡ filter is_usable (keys_of h keys) → rs ≡ answer.records → found ≡ verified_rrset (trusting a h usable) 0 h.answer_bytes rs h.asked.name h.asked.rtype → links ≡ verified_links (trusting a h usable) 0 h.answer_bytes rs
+    → v ≡ decided h.apex found links h.asked.name h.asked.rtype → by_facts v ≡ judged_beyond a 0 h
+decided_as a h keys answer usable rs found links v e chained u s f l d =
+    ap by_facts (d ∙ (λ i. decided h.apex (f i) (l i) h.asked.name h.asked.rtype))
+    ∙ (λ i. by_facts (decided h.apex (verified_rrset (trusting a h (u i)) 0 h.answer_bytes (s i) h.asked.name h.asked.rtype) (verified_links (trusting a h (u i)) 0 h.answer_bytes (s i)) h.asked.name h.asked.rtype))
+    ∙ ap (λ b. elim b as (λ _. Answer) [ true ↦ judged_answer a 0 h (filter is_usable (keys_of h keys)) answer | false ↦ Refuses r.NoTrustedKey ]) chained
+    ∙ sym e
+
+-- a verdict, or none
+pub answered : (o : Option CodeVerdict) (e : Answer) → by_facts (option_map verdict_of o) ≡ e → AnswersAs (said (ok_or o r.NotProven)) e
+answered None e h = inr h
+answered (Some v) e h = inr h
+
+-- ---- first refusals
+
+neither : (a b : Bool) → (if a then Some r.QuestionMismatch else if b then Some r.EqualTags else None) ≡ Some r.QuestionNotAllowed → ⊥
+neither true b t = cc
+neither false true t = cc
+neither false false t = cc
+
+not_of : (h : Handing) (x z : Result Message MessageError) → elim x as (λ _. Option Refusal) [
+  | Err e ↦ Some r.BadDnskeyMessage
+  | Ok keys ↦ elim z as (λ _. Option Refusal) [
+    | Err e ↦ Some r.BadAnswerMessage
+    | Ok answer ↦
+        if not (same_question keys.asked (record { name = h.apex; rtype = 48; class = 1 }) && same_question answer.asked h.asked) then Some r.QuestionMismatch
+        else if has_equal_tags (keys_in h.dnskey_bytes h.apex keys.records) then Some r.EqualTags
+        else None
+  ]
+] ≡ Some r.QuestionNotAllowed → ⊥
+not_of h (Err e) z t = cc
+not_of h (Ok keys) (Err e) t = cc
+not_of h (Ok keys) (Ok answer) t = neither (not (same_question keys.asked (record { name = h.apex; rtype = 48; class = 1 }) && same_question answer.asked h.asked)) (has_equal_tags (keys_in h.dnskey_bytes h.apex keys.records)) t
+
+not_question : (k : ℕ) (h : Handing) → message_refusal k h ≡ Some r.QuestionNotAllowed → ⊥
+not_question k h q = not_of h (message k h.dnskey_bytes) (message k h.answer_bytes) q
+
+-- beside a question that is allowed and a DS set that isn't empty
+first_kept : (e : Refusal) (m : Option Refusal) → (m ≡ Some r.QuestionNotAllowed → ⊥) → RefusesFirst e m → AnswersFirst (Refuses e) m
+first_kept r.QuestionNotAllowed m never h = h
+first_kept r.BadDnskeyMessage m never h = h
+first_kept r.BadAnswerMessage m never h = h
+first_kept r.QuestionMismatch m never h = h
+first_kept r.EqualTags m never h = h
+first_kept r.NoTrustedKey m never h = h
+first_kept r.MixedNsec3Parameters m never h = h
+first_kept r.IterationsOverLimit m never h = h
+first_kept r.HashFailed m never h = h
+first_kept r.NotProven m never h = h
+first_kept r.Memory m never h = never
+
+pub refuses_first : (k : ℕ) (h : Handing) (e : Refusal) → is_allowed h.apex h.asked ≡ true → nat_eq (length h.ds) 0 ≡ false → RefusesFirst e (message_refusal k h) → AnswersFirst (Refuses e) (first_refusal k h)
+refuses_first k h e allowed some first =
+    let is : first_refusal k h ≡ message_refusal k h = (λ i. if not (allowed i) then Some r.QuestionNotAllowed else if some i then None else message_refusal k h) in
+    subst (AnswersFirst (Refuses e)) (sym is) (first_kept e (message_refusal k h) (not_question k h) first)

@@ -1,0 +1,45 @@
+use Rattle.std.proofs.Common.{◌≡◌, ◌==◌, true, false, sym, ap, ◌∙◌}
+use Rattle.std.specs.Prelude.{Some}
+use Rattle.std.specs.Option.{option_map}
+use Rattle.std.proofs.lemmas.Bool.{not-true, not-false}
+use Rattle.messages.specs.Record.{spelled, signature_of}
+use Rattle.records.specs.Message.{rrsig_at}
+use Rattle.answer_judge.specs.Marked.{held_by}
+use Rattle.answer_judge.proofs.JudgeTried.{untried, tried_none, tried_now, tried_again, class_other, no_signature}
+use Rattle.answer_judge.proofs.judge.groups.verify_record.Goals as goal
+use Rattle.answer_judge.proofs.judge.groups.verify_record.Goals.{in-Some-place_of+then-not-group+in_ok-group, in-Some-place_of+else-not-group, in_default-place_of}
+
+pub returns-then-ne-clause-marked : goal.returns-then-ne-clause-marked
+returns-then-ne-clause-marked g c =
+    let w = held_by (g.C.Checks.answers c.args.checks.now) c.args.trust.now in
+    let r = spelled c.args.record.now in
+    let h : (r.class == 1) ≡ false = not-true _ (sym c.ne.ensures ∙ c.if-ne.true) in
+    untried w c.args.message.now r c.args.groups.now (λ g. class_other w c.args.message.now r g h)
+
+pub returns-in_default-clause-marked : goal.returns-in_default-clause-marked
+returns-in_default-clause-marked g c =
+    let w = held_by (g.C.Checks.answers c.args.checks.now) c.args.trust.now in
+    let r = spelled c.args.record.now in
+    let h = sym c.in_ok-signature.ensures ∙ ap (option_map signature_of) c.in_default.is in
+    untried w c.args.message.now r c.args.groups.now (λ g. no_signature w c.args.message.now r g h)
+
+pub returns-clause-marked : goal.returns-clause-marked
+returns-clause-marked g c =
+    let w = held_by (g.C.Checks.answers c.args.checks.now) c.args.trust.now in
+    let r = spelled c.args.record.now in
+    let m = c.args.message.now in
+    let gs = c.args.groups.now in
+    let s = c.in-Some.signature in
+    let class : (r.class == 1) ≡ true = not-false _ (sym c.ne.ensures ∙ c.if-ne.false) in
+    let read : rrsig_at 0 m r ≡ Some (signature_of s) = sym c.in_ok-signature.ensures ∙ ap (option_map signature_of) c.in-Some.is in
+    elim c.match-place_of.branch [
+      | in-Some-place_of+then-not-group+in_ok-group w ↦
+          let i = w.in-Some-place_of.place in
+          let x = w.index-groups-place.result in
+          w.groups-is ∙ tried_now (held_by (g.C.Checks.answers c.args.checks.now) c.args.trust.now) m r s gs i x w.in_ok-group.field-0 read c.requires.signature class c.requires.apart w.in-Some-place_of.ensures.within w.index-groups-place.is (w.in-Some-place_of.ensures.found x w.index-groups-place.is) (ap (λ y. y.verified) w.index-groups-place.is ∙ w.if-not-group.true) w.in_ok-group.ensures.signs
+      | in-Some-place_of+else-not-group w ↦
+          let i = w.in-Some-place_of.place in
+          let x = w.index-groups-place.result in
+          w.groups-is ∙ tried_again (held_by (g.C.Checks.answers c.args.checks.now) c.args.trust.now) m r (signature_of s) gs i x read c.requires.apart w.in-Some-place_of.ensures.within w.index-groups-place.is (w.in-Some-place_of.ensures.found x w.index-groups-place.is) (ap (λ y. y.verified) w.index-groups-place.is ∙ w.if-not-group.false)
+      | in_default-place_of w ↦ w.groups-is ∙ tried_none (held_by (g.C.Checks.answers c.args.checks.now) c.args.trust.now) m r (signature_of s) gs read w.in_default-place_of.ensures.found
+    ]

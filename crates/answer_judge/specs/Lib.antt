@@ -1,0 +1,9 @@
+pub mod Answers
+pub mod Given
+pub mod Judging
+pub mod Facts
+pub mod Verified
+pub mod Marked
+pub mod Judged
+pub mod Meeting
+pub mod GivenGroups

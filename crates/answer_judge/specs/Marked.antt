@@ -1,0 +1,81 @@
+-- RRsets of a message, and which of them are verified, as contracts see them.
+use Rattle.std.specs.Prelude.{◌≡◌, Bool, true, false, not, ◌&&◌, ◌||◌, ◌==◌, ℕ, List, [], ◌∷◌, map, length, Option, Some, None}
+use Rattle.std.specs.List.{list_any, AllByRecursion}
+use Rattle.definitions.specs.Name.{Name, same, at_or_above}
+use Rattle.answer_judge.specs.Answers.{Answers}
+use Rattle.answer_judge.specs.Facts.{Link}
+use Rattle.records.specs.Message.{Spelled, if_true}
+use Rattle.answer_judge.specs.Verified.{Trusting, is_verified, rrset_in, link_of}
+use Rattle.answer_judge.specs.declared.judge.groups.Group.{Group}
+use Rattle.answer_judge.specs.declared.judge.groups.Trust.{Trust}
+
+-- what is verified with, under a scheme's answers
+abbrev pub held_by : Answers → Trust → Trusting
+held_by a t = record { answers = a; apex = t.apex.now; keys = t.keys.now; now = t.moment }
+
+-- the canonical data of a group
+abbrev pub data_in : Group → List (List ℕ)
+data_in g = map (λ d. d.items) g.items.items
+
+-- the group is of a type and an owner, up to case
+abbrev pub is_of : Name → ℕ → Group → Bool
+is_of owner t g = (g.rtype == t) && same owner g.owner
+
+-- two groups of one type and one owner
+abbrev pub is_like : Group → Group → Bool
+is_like a b = (a.rtype == b.rtype) && same a.owner b.owner
+
+-- no two are
+abbrev pub are_apart : List Group → Bool
+are_apart [] = true
+are_apart (g ∷ gs) = not (list_any (is_like g) gs) && are_apart gs
+
+abbrev pub marked_if : Bool → Group → Group
+marked_if b g = record { owner = g.owner; rtype = g.rtype; items = g.items; verified = g.verified || b }
+
+-- verified where it was, or where one of the records verifies it
+abbrev pub marked : Trusting → List ℕ → List Spelled → Group → Group
+marked w m rs g = marked_if (is_verified w 0 m rs g.owner g.rtype (data_in g)) g
+
+-- ---- NSEC records
+
+-- a group has an owner, up to case
+abbrev pub has_owner : Name → Group → Bool
+has_owner owner g = same owner g.owner
+
+-- and is verified
+abbrev pub is_proved : Name → Group → Bool
+is_proved owner g = g.verified && same owner g.owner
+
+abbrev pub is_nsec : Spelled → Bool
+is_nsec r = (r.rtype == 47) && (r.class == 1)
+
+-- an owner at or below the apex, whose NSEC RRset is one record
+abbrev pub stands_alone : List ℕ → Name → List Spelled → Name → Bool
+stands_alone m apex rs owner = at_or_above apex owner && (length (rrset_in 0 m rs owner 47) == 1)
+
+-- the NSEC RRset of such an owner, not yet verified
+pub record IsAlone (m : List ℕ) (apex : Name) (rs : List Spelled) (g : Group) : Type 0 where
+  pub rtype_is : g.rtype ≡ 47
+  pub data_are : data_in g ≡ rrset_in 0 m rs g.owner 47
+  pub alone : stands_alone m apex rs g.owner ≡ true
+  pub unverified : g.verified ≡ false
+
+-- the owner of an NSEC record has a group, where it stands alone
+abbrev pub IsGathered : List ℕ → Name → List Spelled → List Group → Spelled → Type 0
+IsGathered m apex rs gs r = is_nsec r ≡ true → stands_alone m apex rs r.owner ≡ true → list_any (has_owner r.owner) gs ≡ true
+
+-- groups of the owners of some of a message's records
+pub record AreGathered (m : List ℕ) (apex : Name) (rs some : List Spelled) (gs : List Group) : Type 0 where
+  pub apart : are_apart gs ≡ true
+  pub each : AllByRecursion (IsAlone m apex rs) gs
+  pub all : AllByRecursion (IsGathered m apex rs gs) some
+
+-- the link of a record whose owner has a verified group
+abbrev pub link_by : List ℕ → List Group → Spelled → Option Link
+link_by m gs r = elim (is_nsec r && list_any (is_proved r.owner) gs) [ true ↦ link_of 0 m r | false ↦ None ]
+
+-- the data of a group that is verified
+abbrev pub data_verified : Option Group → Option (List (List ℕ))
+data_verified None = None
+data_verified (Some g) = if_true g.verified (data_in g)

@@ -1,0 +1,91 @@
+-- Keys that meet, and what is handed to a judge from one zone under such keys.
+use Rattle.std.specs.Prelude.{◌≡◌, ℕ, ◌+◌, ◌%◌, ◌<◌, Bool, true, false, ◌&&◌, List, Contains, Some}
+use Rattle.std.specs.List.{AllByRecursion}
+use Rattle.definitions.specs.Name.{Name, IsName}
+use Rattle.definitions.specs.Dnskey.{Dnskey, Ds, key_tag, digested}
+use Rattle.definitions.specs.Serial.{serial_le}
+use Rattle.definitions.specs.Zone.{verdict}
+use Rattle.definitions.specs.ZoneChain.{Nsec}
+use Rattle.records.specs.HandedRr.{HandedRr}
+use Rattle.answer_zone.specs.Accepting.{IsAccepted, sorted_records, zone_of}
+use Rattle.answer_judge.specs.Answers.{Answers}
+use Rattle.answer_judge.specs.Facts.{is_usable}
+use Rattle.answer_judge.specs.Given.{GivesKeys, GivesAnswer}
+use Rattle.records.specs.Handed.{IsHanded}
+use Rattle.answer_judge.specs.Judging.{Answer, Says, Handing, Judges, is_allowed, has_equal_tags}
+use Rattle.answer_judge.specs.Judged.{AnswersAs, judged}
+use Rattle.answer_zone.specs.Hashing.{served}
+use Rattle.answer_zone.specs.Served.{Served}
+use Rattle.messages.specs.WrittenLaws.{IsQuestion}
+use Rattle.answer_zone.specs.ZoneView.{AcceptedZone}
+
+-- a DS record of type 2 names the key (RFC 4034, 5.1; RFC 4509)
+pub record HasDs (a : Answers) (apex : Name) (ds : List Ds) (k : Dnskey) : Type 0 where
+  pub digest : List ℕ
+  pub made : a.digest 2 (digested apex k) ≡ Some digest
+  pub held : Contains ds (record { tag = key_tag k; algorithm = k.algorithm; digest_type = 2; digest = digest })
+
+-- a key that may sign for a zone, whose flags are a number of 16 bits (RFC 4034, 2.1)
+pub record IsZoneKey (k : Dnskey) : Type 0 where
+  pub flags : k.flags < 65536
+  pub usable : is_usable k ≡ true
+
+-- One key is at the parent, present, and signs the keys; one is present and signs the zone; the tags of the keys that
+-- are present differ.
+pub record Meet (parents present keysigners zonesigners : List Dnskey) : Type 0 where
+  pub anchor : Dnskey
+  pub at_parent : Contains parents anchor
+  pub anchor_present : Contains present anchor
+  pub signs_keys : Contains keysigners anchor
+  pub signer : Dnskey
+  pub signer_present : Contains present signer
+  pub signs_zone : Contains zonesigners signer
+  pub tags : has_equal_tags present ≡ false
+
+-- signatures of a moment hold at another (RFC 4034, 3.1.5)
+abbrev pub holds : ℕ → ℕ → ℕ → Bool
+holds at life now = serial_le (at % 4294967296) now && serial_le now ((at + life) % 4294967296)
+
+-- the zone that records spell, as it is published
+abbrev pub zone_from : Name → ℕ → List HandedRr → AcceptedZone
+zone_from apex limit rs = record { apex = apex; mode = Nsec; limit = limit; records = sorted_records rs }
+
+-- how it is served
+abbrev pub served_from : Answers → Handing → List HandedRr → Served
+served_from a h rs = served a.hash (zone_from h.apex h.limit rs)
+
+-- What is handed in was given by the zone of these records: the DS set of the keys at the parent, a DNSKEY answer and
+-- a zone answer of keys that meet, whose signatures hold.
+pub record WasGiven (a : Answers) (k : ℕ) (h : Handing) (rs : List HandedRr) : Type 0 where
+  pub parents : List Dnskey
+  pub present : List Dnskey
+  pub keysigners : List Dnskey
+  pub zonesigners : List Dnskey
+  pub life : ℕ
+  pub keys_at : ℕ
+  pub answer_at : ℕ
+  pub apex_is : IsName h.apex
+  pub records_are : AllByRecursion IsHanded rs
+  pub accepted : IsAccepted h.apex Nsec h.limit rs
+  pub asked_is : IsQuestion h.asked
+  pub allowed : is_allowed h.apex h.asked ≡ true
+  pub keys_are : AllByRecursion IsZoneKey present
+  pub ds_is : AllByRecursion (HasDs a h.apex h.ds) parents
+  pub meet : Meet parents present keysigners zonesigners
+  pub keysigner_tags : has_equal_tags keysigners ≡ false
+  pub zonesigner_tags : has_equal_tags zonesigners ≡ false
+  pub keys_given : GivesKeys a.verifies k (served_from a h rs) h.apex present keysigners keys_at life h.dnskey_bytes
+  pub answer_given : GivesAnswer a.verifies k (served_from a h rs) h.apex zonesigners answer_at life h.asked h.answer_bytes
+  pub keys_hold : holds keys_at life h.now ≡ true
+  pub answer_holds : holds answer_at life h.now ≡ true
+
+-- the answer is the zone's verdict
+abbrev pub AnswersGiven : Answers → ℕ → Handing → Answer → Type 0
+AnswersGiven a k h answer = (rs : List HandedRr) → WasGiven a k h rs → AnswersAs answer (Says (verdict (zone_of h.apex rs) false h.asked.name h.asked.rtype))
+
+-- A judgement: what it keeps whatever is handed in, what it says of the two messages, and the verdict of a zone that gave
+-- them. The first argument is how many pointers may be followed in a name.
+pub record IsJudgement (k : ℕ) (a : Answers) (h : Handing) (answer : Answer) (verifications hashes : ℕ) : Type 0 where
+  pub keeps : Judges k h answer verifications hashes
+  pub exact : AnswersAs answer (judged a k h)
+  pub given : AnswersGiven a k h answer

@@ -1,0 +1,57 @@
+-- What signatures of a message verify (RFC 4035, 5.3).
+use Rattle.std.specs.Prelude.{ℕ, Bool, true, false, ◌&&◌, ◌==◌, List, length, Option, Some, None}
+use Rattle.std.specs.List.{filter_map, list_any}
+use Rattle.std.specs.Option.{option_map}
+use Rattle.definitions.specs.Name.{Name, same, at_or_above}
+use Rattle.definitions.specs.Dnskey.{Dnskey}
+use Rattle.definitions.specs.Zone.{sorted_data}
+use Rattle.answer_judge.specs.Answers.{Answers}
+use Rattle.answer_judge.specs.Facts.{Link, is_signature, signs}
+use Rattle.records.specs.Message.{Spelled, canonical_data, rrsig_at, nsec_at}
+
+-- the canonical data of a record of an owner, up to case, and a type, class IN
+abbrev pub datum_of : ℕ → List ℕ → Name → ℕ → Spelled → Option (List ℕ)
+datum_of k m owner t r = elim ((r.class == 1) && (r.rtype == t) && same r.owner owner) [ true ↦ canonical_data k m r | false ↦ None ]
+
+-- the RRset of an owner and a type: what reads, ascending, each once
+abbrev pub rrset_in : ℕ → List ℕ → List Spelled → Name → ℕ → List (List ℕ)
+rrset_in k m rs owner t = sorted_data (filter_map (datum_of k m owner t) rs)
+
+-- what is verified with: a scheme's answers, the apex, the keys that may sign, and the moment
+pub record Trusting : Type 0 where
+  pub answers : Answers
+  pub apex : Name
+  pub keys : List Dnskey
+  pub now : ℕ
+
+-- a record is a signature of the owner and the type, and verifies these data
+abbrev pub verifies_with : Trusting → ℕ → List ℕ → Name → ℕ → List (List ℕ) → Spelled → Bool
+verifies_with w k m owner t items r = elim (is_signature r && (r.class == 1) && same r.owner owner) [
+  | false ↦ false
+  | true ↦ elim (rrsig_at k m r) [ None ↦ false | Some f ↦ (f.0.covered == t) && signs w.answers w.apex w.keys w.now owner items f.0 f.1 ]
+]
+
+-- one of the records verifies them
+abbrev pub is_verified : Trusting → ℕ → List ℕ → List Spelled → Name → ℕ → List (List ℕ) → Bool
+is_verified w k m rs owner t items = list_any (verifies_with w k m owner t items) rs
+
+-- the RRset that was asked for, where it is verified
+abbrev pub verified_rrset : Trusting → ℕ → List ℕ → List Spelled → Name → ℕ → Option (List (List ℕ))
+verified_rrset w k m rs owner t = elim (is_verified w k m rs owner t (rrset_in k m rs owner t)) [ true ↦ Some (rrset_in k m rs owner t) | false ↦ None ]
+
+-- an NSEC record of class IN at or below the apex, the only one of its RRset, which is verified
+abbrev pub is_link : Trusting → ℕ → List ℕ → List Spelled → Spelled → Bool
+is_link w k m rs r =
+    (r.rtype == 47) && (r.class == 1) && at_or_above w.apex r.owner && (length (rrset_in k m rs r.owner 47) == 1)
+    && is_verified w k m rs r.owner 47 (rrset_in k m rs r.owner 47)
+
+-- its owner and what its data say (RFC 4034, 4.1)
+abbrev pub link_of : ℕ → List ℕ → Spelled → Option Link
+link_of k m r = option_map (λ n. record { owner = r.owner; next = n.0; bits = n.1 }) (nsec_at k m r)
+
+abbrev pub link_at : Trusting → ℕ → List ℕ → List Spelled → Spelled → Option Link
+link_at w k m rs r = elim (is_link w k m rs r) [ true ↦ link_of k m r | false ↦ None ]
+
+-- the links that a message proves, in order
+abbrev pub verified_links : Trusting → ℕ → List ℕ → List Spelled → List Link
+verified_links w k m rs = filter_map (link_at w k m rs) rs

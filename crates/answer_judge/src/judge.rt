@@ -1,0 +1,311 @@
+//! Judging a zone answer from bytes alone (RFC 4035, 5).
+ghost use Rattle.std.specs.Prelude.{◌≡◌, ◌==◌, ℕ, ◌+◌, ◌<◌, ◌≤◌, ◌^◌, List, [], Option, IfOk, IfErr, OnOk, length, map, filter, true, false};
+ghost use Rattle.definitions.specs.Dnskey.{dnskey_data};
+ghost use Rattle.definitions.specs.Zone.{sorted_data};
+ghost use Rattle.messages.specs.Record.{spelled};
+ghost use Rattle.answer_judge.specs.Verified.{is_verified};
+ghost use Rattle.answer_judge.specs.Marked.{held_by};
+ghost use Rattle.records.specs.Message.{message};
+ghost use Rattle.records.specs.View.{Gives};
+ghost use Rattle.answer_judge.specs.Facts.{Link, is_signature, decided, RefusesFirst, handed};
+ghost use Rattle.answer_judge.specs.Judged.{judged, judged_beyond, said, AnswersAs};
+ghost use Rattle.answer_judge.specs.Meeting.{AnswersGiven};
+ghost use Rattle.answer_judge.specs.Judging.{Judges, verdict_of, answer_of, verifications_of, hashes_of, is_allowed, is_first, message_refusal, same_question, verification_bound};
+
+mod decide;
+mod facts;
+mod groups;
+mod keys;
+#[cfg(test)]
+mod tests;
+pub mod verdict;
+
+use crate::judge::decide::decide;
+use crate::judge::facts::read_facts;
+use crate::judge::groups::{Group, Trust, verify_groups};
+use crate::judge::keys::{TaggedKey, has_equal_tags, read_keys, trusted_keys, usable_keys};
+use crate::judge::verdict::{Judgement, Refusal, Refused, Verdict};
+use crate::scheme::Checks;
+use denial_data::ds::Ds;
+use denial_data::ranked::put_data;
+use messages::question::Question;
+use messages::{MessageView, ViewRecord, read_message};
+use records::message::MessageError;
+use records::names::{Name, ParsedName};
+use records::plain::{Class, Rtype};
+use std::alloc::{AllocError, Global};
+
+/// Judges what a zone says of a question, from a DS set, a DNSKEY answer and a zone answer (RFC 4035, 5). The
+/// moment is in whole seconds modulo 2^32; the limit is on the iterations of NSEC3 records.
+///
+/// Whatever one zone gives under keys that meet, within the times of its signatures, gets the zone's verdict.
+pub fn judge<C: Checks>(
+    alloc: Global,
+    apex: &Name,
+    ds: &[Ds<Vec<u8>>],
+    dnskey_bytes: &[u8],
+    answer_bytes: &[u8],
+    question: &Question,
+    now: u32,
+    checks: &mut C,
+    limit: u16,
+) -> Result<Judgement, Refused>
+    ensures judges { Judges 0
+        (record {
+          apex = apex.now;
+          ds = ds.now;
+          dnskey_bytes = dnskey_bytes.now;
+          answer_bytes = answer_bytes.now;
+          asked = record { name = question.now.name; rtype = question.now.rtype; class = question.now.class };
+          now = now;
+          limit = limit;
+        })
+        (answer_of result) (verifications_of result) (hashes_of result) }
+    ensures exact { AnswersAs (answer_of result) (judged (C.answers checks.old) 0
+        (record {
+          apex = apex.now;
+          ds = ds.now;
+          dnskey_bytes = dnskey_bytes.now;
+          answer_bytes = answer_bytes.now;
+          asked = record { name = question.now.name; rtype = question.now.rtype; class = question.now.class };
+          now = now;
+          limit = limit;
+        })) }
+    ensures given { AnswersGiven (C.answers checks.old) 0
+        (record {
+          apex = apex.now;
+          ds = ds.now;
+          dnskey_bytes = dnskey_bytes.now;
+          answer_bytes = answer_bytes.now;
+          asked = record { name = question.now.name; rtype = question.now.rtype; class = question.now.class };
+          now = now;
+          limit = limit;
+        })
+        (answer_of result) }
+    ensures verified { C.verified checks.new ≡ C.verified checks.old + verifications_of result }
+    ensures hashed { C.hashed checks.new ≡ C.hashed checks.old + hashes_of result }
+    ensures same { C.answers checks.new ≡ C.answers checks.old }
+{
+    if !is_allowed(apex, question) {
+        return Err(Refused {
+            refusal: Refusal::QuestionNotAllowed,
+            verifications: 0,
+            hashes: 0,
+        });
+    }
+    if ds.is_empty() {
+        return Ok(Judgement {
+            verdict: Verdict::Unsigned,
+            verifications: 0,
+            hashes: 0,
+        });
+    }
+    let mut verifications = 0;
+    match judge_messages(
+        alloc,
+        apex,
+        ds,
+        dnskey_bytes,
+        answer_bytes,
+        question,
+        now,
+        checks,
+        &mut verifications,
+    ) {
+        Ok(verdict) => Ok(Judgement {
+            verdict,
+            verifications,
+            hashes: 0,
+        }),
+        Err(refusal) => Err(Refused {
+            refusal,
+            verifications,
+            hashes: 0,
+        }),
+    }
+}
+
+/// Whether a question is answered and judged: class IN, at or below the apex, and none of the types that signing
+/// adds, of aliases, or that no zone holds (RFC 6895, 3.1).
+pub fn is_allowed(apex: &Name, question: &Question) -> bool
+    ensures { result ≡ is_allowed apex.now (record { name = question.now.name; rtype = question.now.rtype; class = question.now.class }) }
+{
+    question.class == Class::IN
+        && question.name.ends_with(apex)
+        && !matches!(
+            question.rtype.to_int(),
+            46 | 47 | 48 | 50 | 51 | 5 | 39 | 0 | 41 | 128..=255
+        )
+}
+
+/// The verdict of two messages beside a DS set that isn't empty. The count rises by one with each signature that
+/// is verified against a key.
+fn judge_messages<C: Checks>(
+    alloc: Global,
+    apex: &Name,
+    ds: &[Ds<Vec<u8>>],
+    dnskey_bytes: &[u8],
+    answer_bytes: &[u8],
+    question: &Question,
+    now: u32,
+    checks: &mut C,
+    count: &mut u32,
+) -> Result<Verdict, Refusal>
+    requires counts { count.old ≡ 0 }
+    requires other { (question.now.rtype == 47) ≡ false }
+    ensures exact { AnswersAs (said result) (judged_beyond (C.answers checks.old) 0 (handed apex.now ds.now dnskey_bytes.now answer_bytes.now (record { name = question.now.name; rtype = question.now.rtype; class = question.now.class }) now 0)) }
+    ensures verdict { OnOk result (message_refusal 0 (handed apex.now ds.now dnskey_bytes.now answer_bytes.now (record { name = question.now.name; rtype = question.now.rtype; class = question.now.class }) now 0) ≡ None) }
+    ensures refusal { IfErr result (λ e. RefusesFirst e (message_refusal 0 (handed apex.now ds.now dnskey_bytes.now answer_bytes.now (record { name = question.now.name; rtype = question.now.rtype; class = question.now.class }) now 0))) }
+    ensures decided { IfOk result (λ v. (answer : Option (List (List ℕ))) × (links : List Link) × (decided apex.now answer links question.now.name question.now.rtype ≡ Some (verdict_of v))) }
+    ensures counted { C.verified checks.new ≡ C.verified checks.old + count.new }
+    ensures bound { count.new ≤ verification_bound 0 (handed apex.now ds.now dnskey_bytes.now answer_bytes.now (record { name = question.now.name; rtype = question.now.rtype; class = question.now.class }) now 0) }
+    ensures hashed { C.hashed checks.new ≡ C.hashed checks.old }
+    ensures same { C.answers checks.new ≡ C.answers checks.old }
+{
+    let (keys_view, answer_view) = read_messages(apex, dnskey_bytes, answer_bytes, question)?;
+    let key_records = records_of(alloc, &keys_view)?;
+    let keys = read_keys(alloc, apex, dnskey_bytes, &key_records)?;
+    if has_equal_tags(&keys) {
+        return Err(Refusal::EqualTags);
+    }
+    let trusted = trusted_keys(alloc, apex, ds, &keys, checks)?;
+    let trust = Trust {
+        apex,
+        keys: &trusted,
+        moment: now,
+    };
+    if !are_verified(
+        alloc,
+        dnskey_bytes,
+        &key_records,
+        &keys,
+        &trust,
+        checks,
+        count,
+    )? {
+        return Err(Refusal::NoTrustedKey);
+    }
+    let usable = usable_keys(alloc, &keys)?;
+    let trust = Trust {
+        apex,
+        keys: &usable,
+        moment: now,
+    };
+    let records = records_of(alloc, &answer_view)?;
+    let facts = read_facts(
+        alloc,
+        answer_bytes,
+        &records,
+        &trust,
+        &question.name,
+        question.rtype,
+        checks,
+        count,
+    )?;
+    let verdict = decide(
+        alloc,
+        apex,
+        facts.answer,
+        &facts.links,
+        &question.name,
+        question.rtype,
+    )?;
+    verdict.ok_or(Refusal::NotProven)
+}
+
+/// Reads both messages, which answer the keys' question and the one that is asked.
+fn read_messages<'a>(
+    apex: &Name,
+    dnskey_bytes: &'a [u8],
+    answer_bytes: &'a [u8],
+    question: &Question,
+) -> Result<(MessageView<'a>, MessageView<'a>), Refusal>
+    ensures keys { IfOk result (λ v. message 0 dnskey_bytes.now ≡ Ok v.0) }
+    ensures answer { IfOk result (λ v. message 0 answer_bytes.now ≡ Ok v.1) }
+    ensures asks_keys { IfOk result (λ v. same_question v.0.asked (record { name = apex.now; rtype = 48; class = 1 }) ≡ true) }
+    ensures asks_answer { IfOk result (λ v. same_question v.1.asked (record { name = question.now.name; rtype = question.now.rtype; class = question.now.class }) ≡ true) }
+    ensures first { IfErr result (λ e. is_first e ≡ true) }
+    ensures few { IfOk result (λ v. length v.0.records + length v.1.records ≤ 393210) }
+    ensures refusal { IfErr result (λ e. RefusesFirst e (message_refusal 0 (handed apex.now [] dnskey_bytes.now answer_bytes.now (record { name = question.now.name; rtype = question.now.rtype; class = question.now.class }) 0 0))) }
+{
+    let keys = read_counted(dnskey_bytes).map_err(|_| Refusal::BadDnskeyMessage)?;
+    let answer = read_counted(answer_bytes).map_err(|_| Refusal::BadAnswerMessage)?;
+    if !asks(&keys, apex, Rtype::DNSKEY, Class::IN)
+        || !asks(&answer, &question.name, question.rtype, question.class)
+    {
+        return Err(Refusal::QuestionMismatch);
+    }
+    Ok((keys, answer))
+}
+
+/// Reads a message, which has no more records than three counts of 16 bits.
+fn read_counted(bytes: &[u8]) -> Result<MessageView<'_>, MessageError>
+    ensures exact { Gives (λ v. v) result (message 0 bytes.now) }
+    ensures few { IfOk result (λ v. length v.records ≤ 196605) }
+{
+    read_message(bytes)
+}
+
+/// Whether a message asks for a name, up to case, a type and a class.
+fn asks(view: &MessageView, name: &Name, rtype: Rtype, class: Class) -> bool
+    ensures { result ≡ same_question view.now.asked (record { name = name.now; rtype = rtype; class = class }) }
+{
+    let asked = view.question();
+    asked.name.name_eq(name) && asked.rtype == rtype && asked.class == class
+}
+
+/// The records of a message.
+fn records_of<'a>(alloc: Global, view: &MessageView<'a>) -> Result<Vec<ViewRecord<'a>>, AllocError>
+    ensures { IfOk result (λ rs. map spelled rs.items ≡ view.now.records) }
+{
+    let mut records = Vec::new(alloc);
+    for record in view.records() {
+        records.push(record)?;
+    }
+    Ok(records)
+}
+
+/// The RRset of the keys at the apex.
+fn key_group(alloc: Global, apex: &Name, keys: &[TaggedKey]) -> Result<Group, AllocError>
+    ensures owner { IfOk result (λ g. g.owner ≡ apex.now) }
+    ensures rtype { IfOk result (λ g. g.rtype ≡ 48) }
+    ensures items { IfOk result (λ g. map (λ d. d.items) g.items.items ≡ sorted_data (map dnskey_data keys.now)) }
+    ensures unverified { IfOk result (λ g. g.verified ≡ false) }
+{
+    let mut items = Vec::new(alloc);
+    for key in keys {
+        let mut item = Vec::new(alloc);
+        key.dnskey().compose(&mut item)?;
+        put_data(&mut items, item)?;
+    }
+    Ok(Group {
+        owner: apex.try_clone(alloc)?,
+        rtype: Rtype::DNSKEY,
+        items,
+        verified: false,
+    })
+}
+
+/// Whether a trusted key signs the keys.
+fn are_verified<C: Checks>(
+    alloc: Global,
+    message: &[u8],
+    records: &[ViewRecord],
+    keys: &[TaggedKey],
+    trust: &Trust,
+    checks: &mut C,
+    count: &mut u32,
+) -> Result<bool, AllocError>
+    requires { count.old + length records.now < 2 ^ 32 }
+    ensures exact { IfOk result (λ b. b ≡ is_verified (held_by (C.answers checks.old) trust.now) 0 message.now (map spelled records.now) trust.now.apex.now 48 (sorted_data (map dnskey_data keys.now))) }
+    ensures counted { C.verified checks.new + count.old ≡ C.verified checks.old + count.new }
+    ensures bound { count.new ≤ count.old + length (filter is_signature (map spelled records.now)) }
+    ensures few { count.new ≤ count.old + length records.now }
+    ensures hashed { C.hashed checks.new ≡ C.hashed checks.old }
+    ensures same { C.answers checks.new ≡ C.answers checks.old }
+{
+    let group = key_group(alloc, trust.apex, keys)?;
+    let mut groups = [group];
+    verify_groups(alloc, message, records, trust, &mut groups, checks, count)?;
+    Ok(groups[0].verified)
+}

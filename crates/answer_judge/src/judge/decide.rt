@@ -1,0 +1,250 @@
+//! What follows from verified links of the chain of names (RFC 4035, 5.4; RFC 4592).
+ghost use Rattle.std.specs.Prelude.{◌≡◌, ◌||◌, IfOk};
+ghost use Rattle.std.specs.Option.{option_map};
+ghost use Rattle.definitions.specs.Bitmap.{bitmap_has};
+ghost use Rattle.answer_judge.specs.Facts.{decided, first_some, at_owner, below_cut, closest, at_star, by_star, covered, is_cut_link, link_covers};
+ghost use Rattle.answer_judge.specs.Judging.{verdict_of};
+ghost use Rattle.definitions.specs.Zone.{star_under};
+ghost use Rattle.definitions.specs.Name.{at_or_above};
+
+use crate::judge::verdict::{DataList, Verdict};
+use messages::bitmap::bitmap_has;
+use records::names::Name;
+use records::plain::Rtype;
+use std::alloc::{AllocError, Global};
+use std::marker::Model;
+
+/// A verified NSEC record (RFC 4034, 4). A contract sees owner, next name and the octets of its bitmap.
+#[derive(Debug, Drop)]
+pub(crate) struct Link<'a> {
+    owner: Name,
+    next: Name,
+    types: &'a [u8],
+}
+
+impl<'a> Model for Link<'a> {
+    ghost use Rattle.answer_judge.specs.Facts.{Link};
+
+    ghost Value = { Link };
+
+    ghost view = { λ l. record { owner = l.owner; next = l.next; bits = l.types.now } };
+}
+
+impl<'a> Link<'a> {
+    /// A link of its fields.
+    pub(crate) fn new(owner: Name, next: Name, types: &'a [u8]) -> Self
+        ensures owner { result.owner ≡ owner }
+        ensures next { result.next ≡ next }
+        ensures types { result.bits ≡ types.now }
+    {
+        Link { owner, next, types }
+    }
+
+    /// Whether the owner has records of a type.
+    fn has(&self, rtype: Rtype) -> bool
+        ensures { result ≡ bitmap_has self.now.bits rtype }
+    {
+        bitmap_has(self.types, rtype)
+    }
+
+    /// Whether the owner is a delegation.
+    fn is_cut(&self, apex: &Name) -> bool
+        ensures { result ≡ is_cut_link apex.now self.now }
+    {
+        self.has(Rtype::NS) && !self.owner.name_eq(apex)
+    }
+
+    /// Whether a name lies strictly between owner and next name; the apex as next name ends the order.
+    fn covers(&self, apex: &Name, name: &Name) -> bool
+        ensures { result ≡ link_covers apex.now self.now name.now }
+    {
+        self.owner.name_cmp(name).is_lt()
+            && (self.next.name_eq(apex) || name.name_cmp(&self.next).is_lt())
+    }
+
+    /// What the link says of its own name.
+    fn at_owner(&self, apex: &Name, name: &Name, rtype: Rtype) -> Option<Verdict>
+        ensures { option_map verdict_of result ≡ at_owner apex.now name.now rtype self.now }
+    {
+        if !self.owner.name_eq(name) {
+            return None;
+        }
+        if self.is_cut(apex) && rtype != Rtype::DS {
+            return Some(Verdict::Delegated);
+        }
+        if self.has(rtype) {
+            None
+        } else {
+            Some(Verdict::NoType)
+        }
+    }
+
+    /// Whether the owner is a delegation above a name.
+    fn is_cut_above(&self, apex: &Name, name: &Name) -> Option<Verdict>
+        ensures { option_map verdict_of result ≡ below_cut apex.now name.now self.now }
+    {
+        if self.is_cut(apex) && name.is_below(&self.owner) {
+            return Some(Verdict::Delegated);
+        }
+        None
+    }
+
+    /// Whether owner or next name shows that an ancestor exists.
+    fn shows(&self, ancestor: &Name) -> bool
+        ensures { result ≡ (at_or_above ancestor.now self.now.owner || at_or_above ancestor.now self.now.next) }
+    {
+        self.owner.ends_with(ancestor) || self.next.ends_with(ancestor)
+    }
+
+    /// The closest encloser of a name that the link covers (RFC 4592, 3.3.1).
+    fn closest(&self, alloc: Global, name: &Name) -> Result<Option<Name>, AllocError>
+        ensures { IfOk result (λ e. e ≡ closest self.now name.now) }
+    {
+        let mut count = name.len();
+        while count > 0 {
+            count -= 1;
+            let ancestor = name.suffix(alloc, count)?;
+            if self.shows(&ancestor) {
+                return Ok(Some(ancestor));
+            }
+        }
+        Ok(None)
+    }
+
+    /// What the link says of a wildcard.
+    fn at_star(&self, apex: &Name, star: &Name, rtype: Rtype) -> Option<Verdict>
+        ensures { option_map verdict_of result ≡ at_star apex.now star.now rtype self.now }
+    {
+        if self.owner.name_eq(star) {
+            return if self.has(rtype) {
+                None
+            } else {
+                Some(Verdict::StarNoType)
+            };
+        }
+        if !self.covers(apex, star) {
+            return None;
+        }
+        Some(if self.next.is_below(star) {
+            Verdict::StarNoType
+        } else {
+            Verdict::NoName
+        })
+    }
+
+    /// What the link, with the others, says of a name that it covers.
+    fn covered(
+        &self,
+        alloc: Global,
+        apex: &Name,
+        links: &[Link],
+        name: &Name,
+        rtype: Rtype,
+    ) -> Result<Option<Verdict>, AllocError>
+        ensures { IfOk result (λ v. option_map verdict_of v ≡ covered apex.now name.now rtype links.now self.now) }
+    {
+        if !self.covers(apex, name) {
+            return Ok(None);
+        }
+        if self.next.is_below(name) {
+            return Ok(Some(Verdict::NoType));
+        }
+        match self.closest(alloc, name)? {
+            None => Ok(None),
+            Some(encloser) => by_star(alloc, apex, links, &encloser, rtype),
+        }
+    }
+}
+
+/// What the links say of the wildcard under a closest encloser.
+fn by_star(
+    alloc: Global,
+    apex: &Name,
+    links: &[Link],
+    encloser: &Name,
+    rtype: Rtype,
+) -> Result<Option<Verdict>, AllocError>
+    ensures { IfOk result (λ v. option_map verdict_of v ≡ by_star apex.now (star_under encloser.now) rtype links.now) }
+{
+    match encloser.wildcard_child(alloc)? {
+        None => Ok(None),
+        Some(star) => Ok(first_at_star(apex, links, &star, rtype)),
+    }
+}
+
+/// What the first link that tells of a wildcard says.
+fn first_at_star(apex: &Name, links: &[Link], star: &Name, rtype: Rtype) -> Option<Verdict>
+    ensures { option_map verdict_of result ≡ first_some (at_star apex.now star.now rtype) links.now }
+{
+    for link in links {
+        if let Some(verdict) = link.at_star(apex, star, rtype) {
+            return Some(verdict);
+        }
+    }
+    None
+}
+
+/// What the first link that stands at a name says.
+fn first_at_owner(apex: &Name, links: &[Link], name: &Name, rtype: Rtype) -> Option<Verdict>
+    ensures { option_map verdict_of result ≡ first_some (at_owner apex.now name.now rtype) links.now }
+{
+    for link in links {
+        if let Some(verdict) = link.at_owner(apex, name, rtype) {
+            return Some(verdict);
+        }
+    }
+    None
+}
+
+/// Whether a link stands at a delegation above a name.
+fn first_cut_above(apex: &Name, links: &[Link], name: &Name) -> Option<Verdict>
+    ensures { option_map verdict_of result ≡ first_some (below_cut apex.now name.now) links.now }
+{
+    for link in links {
+        if let Some(verdict) = link.is_cut_above(apex, name) {
+            return Some(verdict);
+        }
+    }
+    None
+}
+
+/// What the first link that covers a name and tells of it says.
+fn first_covered(
+    alloc: Global,
+    apex: &Name,
+    links: &[Link],
+    name: &Name,
+    rtype: Rtype,
+) -> Result<Option<Verdict>, AllocError>
+    ensures { IfOk result (λ v. option_map verdict_of v ≡ first_some (covered apex.now name.now rtype links.now) links.now) }
+{
+    for link in links {
+        if let Some(verdict) = link.covered(alloc, apex, links, name, rtype)? {
+            return Ok(Some(verdict));
+        }
+    }
+    Ok(None)
+}
+
+/// The verdict on a name and a type from its verified RRset, if any, and verified links; None where they prove none.
+pub(crate) fn decide(
+    alloc: Global,
+    apex: &Name,
+    answer: Option<DataList>,
+    links: &[Link],
+    name: &Name,
+    rtype: Rtype,
+) -> Result<Option<Verdict>, AllocError>
+    ensures { IfOk result (λ v. option_map verdict_of v ≡ decided apex.now answer links.now name.now rtype) }
+{
+    if let Some(data) = answer {
+        return Ok(Some(Verdict::Records(data)));
+    }
+    if let Some(verdict) = first_at_owner(apex, links, name, rtype) {
+        return Ok(Some(verdict));
+    }
+    if let Some(verdict) = first_cut_above(apex, links, name) {
+        return Ok(Some(verdict));
+    }
+    first_covered(alloc, apex, links, name, rtype)
+}

@@ -1,0 +1,156 @@
+//! From bytes to verified facts (RFC 4035, 5.3).
+ghost use Rattle.std.specs.Prelude.{◌≡◌, ◌==◌, ◌+◌, ◌<◌, ◌≤◌, ◌^◌, false, IfOk, MatchOption, length, map, filter};
+ghost use Rattle.std.specs.List.{list_any, filter_map};
+ghost use Rattle.messages.specs.Record.{spelled};
+ghost use Rattle.answer_judge.specs.Facts.{is_signature};
+ghost use Rattle.answer_judge.specs.Verified.{verified_rrset, verified_links};
+ghost use Rattle.answer_judge.specs.Marked.{held_by, has_owner, is_proved, is_nsec, stands_alone, IsAlone, AreGathered, link_by, data_verified};
+
+use crate::judge::decide::Link;
+use crate::judge::groups::{Group, Trust, read_group, verify_groups};
+use crate::judge::verdict::DataList;
+use crate::scheme::Checks;
+use messages::ViewRecord;
+use messages::rdata::NsecView;
+use records::names::{Name, ParsedName};
+use records::plain::{Class, Rtype};
+use std::alloc::{AllocError, Global};
+
+/// What signatures of an answer verify: the RRset that was asked for, and NSEC records.
+#[derive(Debug, Drop)]
+pub(crate) struct Facts<'a> {
+    pub(crate) answer: Option<DataList>,
+    pub(crate) links: Vec<Link<'a>>,
+}
+
+/// The facts of an answer. The count rises by one with each signature that is verified against a key.
+pub(crate) fn read_facts<'a, C: Checks>(
+    alloc: Global,
+    message: &'a [u8],
+    records: &[ViewRecord],
+    trust: &Trust,
+    name: &Name,
+    rtype: Rtype,
+    checks: &mut C,
+    count: &mut u32,
+) -> Result<Facts<'a>, AllocError>
+    requires room { count.old + length records.now < 2 ^ 32 }
+    requires other { (rtype == 47) ≡ false }
+    ensures answer { IfOk result (λ f. f.answer ≡ verified_rrset (held_by (C.answers checks.old) trust.now) 0 message.now (map spelled records.now) name.now rtype) }
+    ensures links { IfOk result (λ f. f.links.items ≡ verified_links (held_by (C.answers checks.old) trust.now) 0 message.now (map spelled records.now)) }
+    ensures counted { C.verified checks.new + count.old ≡ C.verified checks.old + count.new }
+    ensures bound { count.new ≤ count.old + length (filter is_signature (map spelled records.now)) }
+    ensures hashed { C.hashed checks.new ≡ C.hashed checks.old }
+    ensures same { C.answers checks.new ≡ C.answers checks.old }
+{
+    let mut groups = read_nsec_groups(alloc, trust.apex, message, records)?;
+    groups.push(read_group(alloc, message, records, name, rtype)?)?;
+    verify_groups(alloc, message, records, trust, &mut groups, checks, count)?;
+    let answer = asked_of(groups.pop());
+    let links = read_links(alloc, message, records, &groups)?;
+    Ok(Facts { answer, links })
+}
+
+/// The data of the group that was asked for, if a signature verified it.
+fn asked_of(group: Option<Group>) -> Option<DataList>
+    ensures { result ≡ data_verified group }
+{
+    let group = group?;
+    if group.verified {
+        return Some(DataList::new(group.items));
+    }
+    None
+}
+
+/// The NSEC RRsets of one record at or below the apex, in order of first record.
+fn read_nsec_groups(
+    alloc: Global,
+    apex: &Name,
+    message: &[u8],
+    records: &[ViewRecord],
+) -> Result<Vec<Group>, AllocError>
+    ensures { IfOk result (λ gs. AreGathered message.now apex.now (map spelled records.now) (map spelled records.now) gs.items) }
+{
+    let mut groups: Vec<Group> = Vec::new(alloc);
+    for record in records {
+        if is_nsec(record) && !is_among(&groups, &record.owner) {
+            if let Some(group) = read_nsec_group(alloc, apex, message, records, &record.owner)? {
+                groups.push(group)?;
+            }
+        }
+    }
+    Ok(groups)
+}
+
+/// The NSEC RRset of an owner, if that is at or below the apex and the RRset is one record.
+fn read_nsec_group(
+    alloc: Global,
+    apex: &Name,
+    message: &[u8],
+    records: &[ViewRecord],
+    owner: &ParsedName,
+) -> Result<Option<Group>, AllocError>
+    ensures { IfOk result (λ o. MatchOption o (stands_alone message.now apex.now (map spelled records.now) owner.now ≡ false) (λ g. (g.owner ≡ owner.now) × IsAlone message.now apex.now (map spelled records.now) g)) }
+{
+    let owner = owner.to_name(alloc)?;
+    if !owner.ends_with(apex) {
+        return Ok(None);
+    }
+    let group = read_group(alloc, message, records, &owner, Rtype::NSEC)?;
+    Ok(if group.items.len() == 1 {
+        Some(group)
+    } else {
+        None
+    })
+}
+
+/// Whether a record is an NSEC record of class IN.
+fn is_nsec(record: &ViewRecord) -> bool
+    ensures { result ≡ is_nsec (spelled record.now) }
+{
+    record.rtype == Rtype::NSEC && record.class == Class::IN
+}
+
+/// Whether an owner has one of the groups.
+fn is_among(groups: &[Group], owner: &ParsedName) -> bool
+    ensures { result ≡ list_any (has_owner owner.now) groups.now }
+{
+    for group in groups {
+        if owner.name_eq(&group.owner) {
+            return true;
+        }
+    }
+    false
+}
+
+/// Whether an owner has one of the groups, and that is verified.
+fn is_verified(groups: &[Group], owner: &ParsedName) -> bool
+    ensures { result ≡ list_any (is_proved owner.now) groups.now }
+{
+    for group in groups {
+        if group.verified && owner.name_eq(&group.owner) {
+            return true;
+        }
+    }
+    false
+}
+
+/// The NSEC records of verified groups.
+fn read_links<'a>(
+    alloc: Global,
+    message: &'a [u8],
+    records: &[ViewRecord],
+    groups: &[Group],
+) -> Result<Vec<Link<'a>>, AllocError>
+    ensures { IfOk result (λ ls. ls.items ≡ filter_map (link_by message.now groups.now) (map spelled records.now)) }
+{
+    let mut links = Vec::new(alloc);
+    for record in records {
+        if is_nsec(record) && is_verified(groups, &record.owner) {
+            if let Some(link) = NsecView::read(alloc, message, record)? {
+                links.push(Link::new(record.owner.to_name(alloc)?, link.next, link.types))?;
+            }
+        }
+    }
+    Ok(links)
+}

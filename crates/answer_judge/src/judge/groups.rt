@@ -1,0 +1,248 @@
+//! RRsets of a message and the signatures that verify them (RFC 4035, 5.3).
+ghost use Rattle.std.specs.Prelude.{◌≡◌, ◌==◌, ◌&&◌, ◌+◌, ◌<◌, ◌≤◌, ◌^◌, [], ◌∷◌, true, false, IfOk, IfSome, MatchOption, length, map, filter, get_or};
+ghost use Rattle.messages.specs.Record.{spelled};
+ghost use Rattle.answer_judge.specs.Facts.{is_signature, is_due, fits_key, fields_read, signs};
+ghost use Rattle.answer_judge.specs.Verified.{datum_of, rrset_in};
+ghost use Rattle.answer_judge.specs.declared.judge.groups.Group.{Group};
+ghost use Rattle.answer_judge.specs.Marked.{held_by, is_of, are_apart, marked};
+ghost use Rattle.std.specs.Option.{option_map};
+ghost use Rattle.std.specs.List.{find, list_any};
+ghost use Rattle.definitions.specs.Name.{same};
+ghost use Rattle.definitions.specs.Signing.{in_time, signed_octets};
+ghost use Rattle.definitions.specs.Serial.{serial_le};
+
+use crate::judge::keys::TaggedKey;
+use crate::scheme::Checks;
+use denial_data::ranked::put_data;
+use denial_data::rrsig::ProtoRrsig;
+use denial_data::signed::signed_octets;
+use messages::ViewRecord;
+use messages::rdata::RrsigView;
+use records::names::{Name, ParsedName};
+use records::plain::{Class, Rtype};
+use std::alloc::{AllocError, Global};
+
+/// An RRset of a message: its canonical data ascending, each once, and whether a signature verified it.
+#[derive(Debug, Drop)]
+pub(crate) struct Group {
+    pub(crate) owner: Name,
+    pub(crate) rtype: Rtype,
+    pub(crate) items: Vec<Vec<u8>>,
+    pub(crate) verified: bool,
+}
+
+/// What signatures are held against: the apex, the keys that may sign, and the moment.
+#[derive(Drop)]
+pub(crate) struct Trust<'a> {
+    pub(crate) apex: &'a Name,
+    pub(crate) keys: &'a [TaggedKey<'a>],
+    pub(crate) moment: u32,
+}
+
+impl Group {
+    /// Whether the group has a type and an owner, up to case.
+    pub(crate) fn is_of(&self, owner: &ParsedName, rtype: Rtype) -> bool
+        ensures { result ≡ ((self.now.rtype == rtype) && same owner.now self.now.owner) }
+    {
+        self.rtype == rtype && owner.name_eq(&self.owner)
+    }
+}
+
+/// The RRset of an owner and a type: what reads of the records of class IN.
+pub(crate) fn read_group(
+    alloc: Global,
+    message: &[u8],
+    records: &[ViewRecord],
+    owner: &Name,
+    rtype: Rtype,
+) -> Result<Group, AllocError>
+    ensures owner { IfOk result (λ g. g.owner ≡ owner.now) }
+    ensures rtype { IfOk result (λ g. g.rtype ≡ rtype) }
+    ensures items { IfOk result (λ g. map (λ d. d.items) g.items.items ≡ rrset_in 0 message.now (map spelled records.now) owner.now rtype) }
+    ensures unverified { IfOk result (λ g. g.verified ≡ false) }
+{
+    let mut items = Vec::new(alloc);
+    for record in records {
+        if let Some(item) = datum_of(alloc, message, record, owner, rtype)? {
+            put_data(&mut items, item)?;
+        }
+    }
+    Ok(Group {
+        owner: owner.try_clone(alloc)?,
+        rtype,
+        items,
+        verified: false,
+    })
+}
+
+/// The canonical data of a record of an owner, up to case, and a type, class IN; None where they do not read.
+fn datum_of(
+    alloc: Global,
+    message: &[u8],
+    record: &ViewRecord,
+    owner: &Name,
+    rtype: Rtype,
+) -> Result<Option<Vec<u8>>, AllocError>
+    ensures { IfOk result (λ o. option_map (λ v. v.items) o ≡ datum_of 0 message.now owner.now rtype (spelled record.now)) }
+{
+    if record.class == Class::IN && record.rtype == rtype && record.owner.name_eq(owner) {
+        return record.canonical_data(alloc, message);
+    }
+    Ok(None)
+}
+
+/// Tries the signatures of a message in order, each on its group until one verifies it. The count rises by one
+/// with each that is verified against a key.
+pub(crate) fn verify_groups<C: Checks>(
+    alloc: Global,
+    message: &[u8],
+    records: &[ViewRecord],
+    trust: &Trust,
+    groups: &mut [Group],
+    checks: &mut C,
+    count: &mut u32,
+) -> Result<(), AllocError>
+    requires room { count.old + length records.now < 2 ^ 32 }
+    requires apart { are_apart groups.old ≡ true }
+    ensures marked { IfOk result (λ _. groups.new ≡ map (marked (held_by (C.answers checks.old) trust.now) message.now (map spelled records.now)) groups.old) }
+    ensures counted { C.verified checks.new + count.old ≡ C.verified checks.old + count.new }
+    ensures bound { count.new ≤ count.old + length (filter is_signature (map spelled records.now)) }
+    ensures few { count.new ≤ count.old + length records.now }
+    ensures hashed { C.hashed checks.new ≡ C.hashed checks.old }
+    ensures same { C.answers checks.new ≡ C.answers checks.old }
+{
+    for record in records {
+        if record.rtype == Rtype::RRSIG {
+            verify_record(alloc, message, record, trust, groups, checks, count)?;
+        }
+    }
+    Ok(())
+}
+
+/// Tries a signature on its group, unless one verified that before.
+fn verify_record<C: Checks>(
+    alloc: Global,
+    message: &[u8],
+    record: &ViewRecord,
+    trust: &Trust,
+    groups: &mut [Group],
+    checks: &mut C,
+    count: &mut u32,
+) -> Result<(), AllocError>
+    requires room { count.old + 1 < 2 ^ 32 }
+    requires signature { is_signature (spelled record.now) ≡ true }
+    requires apart { are_apart groups.old ≡ true }
+    ensures marked { IfOk result (λ _. groups.new ≡ map (marked (held_by (C.answers checks.old) trust.now) message.now (spelled record.now ∷ [])) groups.old) }
+    ensures counted { C.verified checks.new + count.old ≡ C.verified checks.old + count.new }
+    ensures bound { count.new ≤ count.old + 1 }
+    ensures hashed { C.hashed checks.new ≡ C.hashed checks.old }
+    ensures same { C.answers checks.new ≡ C.answers checks.old }
+{
+    if record.class != Class::IN {
+        return Ok(());
+    }
+    let Some(signature) = RrsigView::read(alloc, message, record)? else {
+        return Ok(());
+    };
+    if let Some(place) = place_of(groups, &record.owner, signature.type_covered) {
+        let group = &mut groups[place];
+        if !group.verified {
+            group.verified = verifies(alloc, &signature, trust, group, checks, count)?;
+        }
+    }
+    Ok(())
+}
+
+/// The place of a group of an owner and a type.
+fn place_of(groups: &[Group], owner: &ParsedName, rtype: Rtype) -> Option<usize>
+    ensures within { IfSome result (λ i. i < length groups.now) }
+    ensures found { MatchOption result (list_any (is_of owner.now rtype) groups.now ≡ false) (λ i. (g : Group) → g ≡ get_or groups.now i g → is_of owner.now rtype g ≡ true) }
+{
+    for (i, group) in groups.iter().enumerate() {
+        if group.is_of(owner, rtype) {
+            return Some(i);
+        }
+    }
+    None
+}
+
+/// Whether a signature verifies its group (RFC 4035, 5.3.1 and 5.3.3).
+fn verifies<C: Checks>(
+    alloc: Global,
+    signature: &RrsigView,
+    trust: &Trust,
+    group: &Group,
+    checks: &mut C,
+    count: &mut u32,
+) -> Result<bool, AllocError>
+    requires { count.old + 1 < 2 ^ 32 }
+    ensures signs { IfOk result (λ b. b ≡ signs (C.answers checks.old) trust.now.apex.now trust.now.keys.now trust.now.moment group.now.owner (map (λ d. d.items) group.now.items.items) (fields_read signature.now) signature.now.signature.now) }
+    ensures counted { C.verified checks.new + count.old ≡ C.verified checks.old + count.new }
+    ensures bound { count.new ≤ count.old + 1 }
+    ensures hashed { C.hashed checks.new ≡ C.hashed checks.old }
+    ensures same { C.answers checks.new ≡ C.answers checks.old }
+{
+    if group.items.is_empty() || !trust.is_due(signature, &group.owner) {
+        return Ok(false);
+    }
+    let Some(key) = trust.key(signature) else {
+        return Ok(false);
+    };
+    let octets = octets_of(alloc, signature, group)?;
+    *count += 1;
+    Ok(checks.verify(key.dnskey(), &octets, signature.signature))
+}
+
+/// What a signature of a group is made over (RFC 4034, 3.1.8.1).
+fn octets_of(alloc: Global, signature: &RrsigView, group: &Group) -> Result<Vec<u8>, AllocError>
+    ensures { IfOk result (λ v. v.items ≡ signed_octets (fields_read signature.now) group.now.owner 1 (map (λ d. d.items) group.now.items.items)) }
+{
+    let fields = ProtoRrsig::new(
+        signature.type_covered,
+        signature.algorithm,
+        signature.labels,
+        signature.original_ttl,
+        signature.expiration,
+        signature.inception,
+        signature.key_tag,
+        signature.signer.try_clone(alloc)?,
+    );
+    signed_octets(alloc, &fields, &group.owner, Class::IN, &group.items)
+}
+
+impl<'a> Trust<'a> {
+    /// Whether a signature is the apex's, holds at the moment, and counts the labels of an owner (RFC 4035, 5.3.1).
+    fn is_due(&self, signature: &RrsigView, owner: &Name) -> bool
+        ensures { result ≡ is_due self.now.apex.now self.now.moment owner.now (fields_read signature.now) }
+    {
+        signature.labels == owner.rrsig_label_count()
+            && in_time(signature, self.moment)
+            && signature.signer.name_eq(self.apex)
+    }
+
+    /// The key of a signature's tag and algorithm.
+    fn key(&self, signature: &RrsigView) -> Option<&TaggedKey<'a>>
+        ensures { option_map (λ k. k.now) result ≡ find (fits_key (fields_read signature.now)) self.now.keys.now }
+    {
+        for key in self.keys {
+            if key.tag() == signature.key_tag && key.dnskey().algorithm() == signature.algorithm {
+                return Some(key);
+            }
+        }
+        None
+    }
+}
+
+/// Whether a signature holds at a moment (RFC 4034, 3.1.5).
+fn in_time(signature: &RrsigView, now: u32) -> bool
+    ensures { result ≡ in_time (fields_read signature.now) now }
+{
+    serial_le(signature.inception, now) && serial_le(now, signature.expiration)
+}
+
+/// Whether a serial number is another, or less than half the circle before it (RFC 1982, 3.2).
+fn serial_le(a: u32, b: u32) -> bool
+    ensures { result ≡ serial_le a b }
+{
+    b.wrapping_sub(a) < 0x8000_0000
+}

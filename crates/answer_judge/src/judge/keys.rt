@@ -1,0 +1,241 @@
+//! The keys of a DNSKEY answer, and which of them are trusted (RFC 4035, 5.2).
+ghost use Rattle.std.specs.Prelude.{◌≡◌, IfOk, filter, map};
+ghost use Rattle.std.specs.List.{list_any};
+ghost use Rattle.definitions.specs.Dnskey.{key_tag, digested};
+ghost use Rattle.answer_judge.specs.Facts.{is_usable, is_trusted, names_key};
+ghost use Rattle.answer_judge.specs.Judging.{clashes, has_equal_tags, key_at, keys_in};
+ghost use Rattle.records.specs.Message.{data_of};
+ghost use Rattle.messages.specs.Record.{spelled};
+
+use crate::scheme::{Checks, SchemeError};
+use denial_data::dnskey::Dnskey;
+use denial_data::ds::Ds;
+use messages::ViewRecord;
+use records::names::Name;
+use records::plain::{Class, Rtype, SecurityAlgorithm};
+use std::alloc::{AllocError, Global};
+use std::marker::Model;
+
+/// A key with its tag, which is summed once. A contract sees the key.
+#[derive(Debug, Drop)]
+pub(crate) struct TaggedKey<'a> {
+    dnskey: Dnskey<&'a [u8]>,
+    tag: u16,
+}
+
+impl<'a> Model for TaggedKey<'a> {
+    ghost use Rattle.std.specs.Prelude.{◌≡◌};
+    ghost use Rattle.definitions.specs.Dnskey.{Dnskey, key_tag};
+
+    ghost Value = { Dnskey };
+
+    ghost view = { λ k. k.dnskey };
+
+    ghost invariant = { λ k. k.tag ≡ key_tag k.dnskey };
+}
+
+impl<'a> TaggedKey<'a> {
+    /// A key and its tag.
+    pub(crate) fn new(dnskey: Dnskey<&'a [u8]>) -> Self
+        ensures { result ≡ dnskey.entry }
+    {
+        let tag = dnskey.key_tag();
+        TaggedKey { dnskey, tag }
+    }
+
+    /// The key.
+    pub(crate) fn dnskey(&self) -> &Dnskey<&'a [u8]>
+        ensures { result.now ≡ self.now }
+    {
+        &self.dnskey
+    }
+
+    /// The tag.
+    pub(crate) fn tag(&self) -> u16
+        ensures { result ≡ key_tag self.now }
+    {
+        self.tag
+    }
+
+    /// The same key over the same octets.
+    fn copied(&self) -> TaggedKey<'_>
+        ensures { result ≡ self.now }
+    {
+        TaggedKey {
+            dnskey: self.dnskey.for_ref(),
+            tag: self.tag,
+        }
+    }
+
+    /// Whether the key is a zone's key for DNSSEC (RFC 4034, 2.1.1 and 2.1.2).
+    fn is_usable(&self) -> bool
+        ensures { result ≡ is_usable self.now }
+    {
+        self.dnskey.flags() / 256 % 2 == 1 && self.dnskey.protocol() == 3
+    }
+
+    /// Whether another key is unlike this one and has its tag.
+    fn clashes(&self, other: &TaggedKey) -> bool
+        ensures { result ≡ clashes self.now other.now }
+    {
+        self.tag == other.tag && !self.dnskey.same_key(&other.dnskey)
+    }
+}
+
+/// The keys that a DNSKEY answer's records spell at the apex, in order.
+pub(crate) fn read_keys<'a>(
+    alloc: Global,
+    apex: &Name,
+    message: &'a [u8],
+    records: &[ViewRecord],
+) -> Result<Vec<TaggedKey<'a>>, AllocError>
+    ensures { IfOk result (λ ks. ks.items ≡ keys_in message.now apex.now (map spelled records.now)) }
+{
+    let mut keys = Vec::new(alloc);
+    for record in records {
+        if let Some(key) = read_key(apex, message, record) {
+            keys.push(key)?;
+        }
+    }
+    Ok(keys)
+}
+
+/// The key that a record spells, if it stands at the apex and its data read.
+fn read_key<'a>(apex: &Name, message: &'a [u8], record: &ViewRecord) -> Option<TaggedKey<'a>>
+    ensures { result ≡ key_at message.now apex.now (spelled record.now) }
+{
+    if record.rtype != Rtype::DNSKEY || record.class != Class::IN || !record.owner.name_eq(apex) {
+        return None;
+    }
+    let dnskey = Dnskey::from_rdata(data_of(message, record))?;
+    Some(TaggedKey::new(dnskey))
+}
+
+/// The octets of a record's data.
+fn data_of<'a>(message: &'a [u8], record: &ViewRecord) -> &'a [u8]
+    ensures { result.now ≡ data_of message.now (spelled record.now) }
+{
+    let end = message.len().min(record.start + record.length);
+    if record.start < end {
+        &message[record.start..end]
+    } else {
+        &[]
+    }
+}
+
+/// Whether two unlike keys have one tag.
+pub(crate) fn has_equal_tags(keys: &[TaggedKey]) -> bool
+    ensures { result ≡ has_equal_tags keys.now }
+{
+    for key in keys {
+        if clashes_with_any(key, keys) {
+            return true;
+        }
+    }
+    false
+}
+
+/// Whether a key clashes with one of a list.
+fn clashes_with_any(key: &TaggedKey, keys: &[TaggedKey]) -> bool
+    ensures { result ≡ list_any (clashes key.now) keys.now }
+{
+    for other in keys {
+        if key.clashes(other) {
+            return true;
+        }
+    }
+    false
+}
+
+/// The keys that may sign what is in the zone.
+pub(crate) fn usable_keys<'a>(
+    alloc: Global,
+    keys: &'a [TaggedKey],
+) -> Result<Vec<TaggedKey<'a>>, AllocError>
+    ensures { IfOk result (λ ks. ks.items ≡ filter is_usable keys.now) }
+{
+    let mut usable = Vec::new(alloc);
+    for key in keys {
+        if key.is_usable() {
+            usable.push(key.copied())?;
+        }
+    }
+    Ok(usable)
+}
+
+/// The keys that may sign the keys: the usable ones that a DS record names.
+pub(crate) fn trusted_keys<'a, C: Checks>(
+    alloc: Global,
+    apex: &Name,
+    ds: &[Ds<Vec<u8>>],
+    keys: &'a [TaggedKey],
+    checks: &mut C,
+) -> Result<Vec<TaggedKey<'a>>, AllocError>
+    ensures trusted { IfOk result (λ ks. ks.items ≡ filter (is_trusted (C.answers checks.old) apex.now ds.now) keys.now) }
+    ensures verified { C.verified checks.new ≡ C.verified checks.old }
+    ensures hashed { C.hashed checks.new ≡ C.hashed checks.old }
+    ensures same { C.answers checks.new ≡ C.answers checks.old }
+{
+    let mut trusted = Vec::new(alloc);
+    for key in keys {
+        if key.is_usable() && is_named(alloc, apex, ds, key, checks)? {
+            trusted.push(key.copied())?;
+        }
+    }
+    Ok(trusted)
+}
+
+/// Whether a DS record names a key.
+fn is_named<C: Checks>(
+    alloc: Global,
+    apex: &Name,
+    ds: &[Ds<Vec<u8>>],
+    key: &TaggedKey,
+    checks: &mut C,
+) -> Result<bool, AllocError>
+    ensures named { IfOk result (λ b. b ≡ list_any (names_key (C.answers checks.old) apex.now key.now) ds.now) }
+    ensures verified { C.verified checks.new ≡ C.verified checks.old }
+    ensures hashed { C.hashed checks.new ≡ C.hashed checks.old }
+    ensures same { C.answers checks.new ≡ C.answers checks.old }
+{
+    for record in ds {
+        if names_key(alloc, apex, record, key, checks)? {
+            return Ok(true);
+        }
+    }
+    Ok(false)
+}
+
+/// Whether one DS record names a key (RFC 4034, 5.1.4).
+fn names_key<C: Checks>(
+    alloc: Global,
+    apex: &Name,
+    ds: &Ds<Vec<u8>>,
+    key: &TaggedKey,
+    checks: &mut C,
+) -> Result<bool, AllocError>
+    ensures named { IfOk result (λ b. b ≡ names_key (C.answers checks.old) apex.now key.now ds.now) }
+    ensures verified { C.verified checks.new ≡ C.verified checks.old }
+    ensures hashed { C.hashed checks.new ≡ C.hashed checks.old }
+    ensures same { C.answers checks.new ≡ C.answers checks.old }
+{
+    if ds.key_tag() != key.tag() || ds.algorithm() != key.dnskey().algorithm() {
+        return Ok(false);
+    }
+    let octets = digested(alloc, apex, key.dnskey())?;
+    match checks.digest(alloc, ds.digest_type(), &octets) {
+        Ok(digest) => Ok(digest.as_slice() == ds.digest()),
+        Err(SchemeError::Failed) => Ok(false),
+        Err(SchemeError::Memory) => Err(AllocError),
+    }
+}
+
+/// What a DS record's digest is made of: the owner in canonical form and the DNSKEY's data (RFC 4034, 5.1.4).
+fn digested(alloc: Global, apex: &Name, key: &Dnskey<&[u8]>) -> Result<Vec<u8>, AllocError>
+    ensures { IfOk result (λ v. v.items ≡ digested apex.now key.now) }
+{
+    let mut octets = Vec::new(alloc);
+    apex.compose_canonical(&mut octets)?;
+    key.compose(&mut octets)?;
+    Ok(octets)
+}

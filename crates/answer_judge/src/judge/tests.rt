@@ -1,0 +1,311 @@
+//! Judgements of small messages of the zone `example`, with chains of its two names.
+ghost use Rattle.std.specs.Prelude.{◌≡◌, ◌<◌};
+
+use crate::judge::judge;
+use crate::judge::verdict::{DataList, Judgement, Refusal, Refused, Verdict};
+use crate::scheme::counting::SchemeChecks;
+use crate::scheme::{Scheme, SchemeError};
+use denial_data::dnskey::Dnskey;
+use denial_data::ds::Ds;
+use denial_data::hasher::{HashError, Nsec3Hasher};
+use messages::question::Question;
+use records::names::{Name, ParsedName};
+use records::plain::{Class, DigestAlgorithm, Rtype, SecurityAlgorithm};
+use std::alloc::{AllocError, Global};
+use std::marker::Brand;
+use std::sync::ledger::{Blank, Ledger};
+
+const KEYS: &[u8] =
+    b"\x00\x00\x84\x00\x00\x01\x00\x03\x00\x00\x00\x00\x07example\x00\x000\x00\x01\x07example\x00\x000\x00\x01\x00\x00\x01\x2c\x00\x08\x01\x00\x03\x0d\x00\x01\x00\x00\x07example\x00\x000\x00\x01\x00\x00\x01\x2c\x00\x06\x01\x01\x03\x0d\x00\x10\x07example\x00\x00.\x00\x01\x00\x00\x01\x2c\x00j\x000\x0d\x01\x00\x00\x01\x2c\x00\x00\x07\xd0\x00\x00\x03\xe8\x04\x1e\x07example\x00\x000\x0d\x01\x00\x00\x01\x2c\x00\x00\x07\xd0\x00\x00\x03\xe8\x04\x1e\x07example\x00\x07example\x00\x000\x00\x01\x00\x00\x01\x2c\x00\x08\x01\x00\x03\x0d\x00\x01\x00\x00\x07example\x00\x000\x00\x01\x00\x00\x01\x2c\x00\x06\x01\x01\x03\x0d\x00\x10";
+
+const TWIN_KEYS: &[u8] =
+    b"\x00\x00\x84\x00\x00\x01\x00\x04\x00\x00\x00\x00\x07example\x00\x000\x00\x01\x07example\x00\x000\x00\x01\x00\x00\x01\x2c\x00\x08\x01\x00\x03\x0d\x00\x00\x00\x01\x07example\x00\x000\x00\x01\x00\x00\x01\x2c\x00\x08\x01\x00\x03\x0d\x00\x01\x00\x00\x07example\x00\x000\x00\x01\x00\x00\x01\x2c\x00\x06\x01\x01\x03\x0d\x00\x10\x07example\x00\x00.\x00\x01\x00\x00\x01\x2c\x00\x85\x000\x0d\x01\x00\x00\x01\x2c\x00\x00\x07\xd0\x00\x00\x03\xe8\x04\x1e\x07example\x00\x000\x0d\x01\x00\x00\x01\x2c\x00\x00\x07\xd0\x00\x00\x03\xe8\x04\x1e\x07example\x00\x07example\x00\x000\x00\x01\x00\x00\x01\x2c\x00\x08\x01\x00\x03\x0d\x00\x00\x00\x01\x07example\x00\x000\x00\x01\x00\x00\x01\x2c\x00\x08\x01\x00\x03\x0d\x00\x01\x00\x00\x07example\x00\x000\x00\x01\x00\x00\x01\x2c\x00\x06\x01\x01\x03\x0d\x00\x10";
+
+const ADDRESS: &[u8] =
+    b"\x00\x00\x84\x00\x00\x01\x00\x02\x00\x00\x00\x00\x01a\x07example\x00\x00\x01\x00\x01\x01a\x07example\x00\x00\x01\x00\x01\x00\x00\x01\x2c\x00\x04\xc0\x00\x02\x01\x01a\x07example\x00\x00.\x00\x01\x00\x00\x01\x2c\x00O\x00\x01\x0d\x02\x00\x00\x01\x2c\x00\x00\x07\xd0\x00\x00\x03\xe8\x04\x0e\x07example\x00\x00\x01\x0d\x02\x00\x00\x01\x2c\x00\x00\x07\xd0\x00\x00\x03\xe8\x04\x0e\x07example\x00\x01a\x07example\x00\x00\x01\x00\x01\x00\x00\x01\x2c\x00\x04\xc0\x00\x02\x01";
+
+const LATE_ADDRESS: &[u8] =
+    b"\x00\x00\x84\x00\x00\x01\x00\x02\x00\x00\x00\x00\x01a\x07example\x00\x00\x01\x00\x01\x01a\x07example\x00\x00\x01\x00\x01\x00\x00\x01\x2c\x00\x04\xc0\x00\x02\x01\x01a\x07example\x00\x00.\x00\x01\x00\x00\x01\x2c\x00O\x00\x01\x0d\x02\x00\x00\x01\x2c\x00\x00\x07\xd0\x00\x00\x05\xdc\x04\x0e\x07example\x00\x00\x01\x0d\x02\x00\x00\x01\x2c\x00\x00\x07\xd0\x00\x00\x05\xdc\x04\x0e\x07example\x00\x01a\x07example\x00\x00\x01\x00\x01\x00\x00\x01\x2c\x00\x04\xc0\x00\x02\x01";
+
+const NO_TYPE: &[u8] =
+    b"\x00\x00\x84\x00\x00\x01\x00\x02\x00\x00\x00\x00\x07example\x00\x00\x10\x00\x01\x07example\x00\x00\x2f\x00\x01\x00\x00\x01\x2c\x00\x14\x01a\x07example\x00\x00\x07\x22\x00\x00\x00\x00\x03\x80\x07example\x00\x00.\x00\x01\x00\x00\x01\x2c\x00\x5d\x00\x2f\x0d\x01\x00\x00\x01\x2c\x00\x00\x07\xd0\x00\x00\x03\xe8\x04\x0e\x07example\x00\x00\x2f\x0d\x01\x00\x00\x01\x2c\x00\x00\x07\xd0\x00\x00\x03\xe8\x04\x0e\x07example\x00\x07example\x00\x00\x2f\x00\x01\x00\x00\x01\x2c\x00\x14\x01a\x07example\x00\x00\x07\x22\x00\x00\x00\x00\x03\x80";
+
+const NO_NAME: &[u8] =
+    b"\x00\x00\x84\x00\x00\x01\x00\x04\x00\x00\x00\x00\x01b\x07example\x00\x00\x01\x00\x01\x01a\x07example\x00\x00\x2f\x00\x01\x00\x00\x01\x2c\x00\x11\x07example\x00\x00\x06\x40\x00\x00\x00\x00\x03\x01a\x07example\x00\x00.\x00\x01\x00\x00\x01\x2c\x00\x5c\x00\x2f\x0d\x02\x00\x00\x01\x2c\x00\x00\x07\xd0\x00\x00\x03\xe8\x04\x0e\x07example\x00\x00\x2f\x0d\x02\x00\x00\x01\x2c\x00\x00\x07\xd0\x00\x00\x03\xe8\x04\x0e\x07example\x00\x01a\x07example\x00\x00\x2f\x00\x01\x00\x00\x01\x2c\x00\x11\x07example\x00\x00\x06\x40\x00\x00\x00\x00\x03\x07example\x00\x00\x2f\x00\x01\x00\x00\x01\x2c\x00\x14\x01a\x07example\x00\x00\x07\x22\x00\x00\x00\x00\x03\x80\x07example\x00\x00.\x00\x01\x00\x00\x01\x2c\x00\x5d\x00\x2f\x0d\x01\x00\x00\x01\x2c\x00\x00\x07\xd0\x00\x00\x03\xe8\x04\x0e\x07example\x00\x00\x2f\x0d\x01\x00\x00\x01\x2c\x00\x00\x07\xd0\x00\x00\x03\xe8\x04\x0e\x07example\x00\x07example\x00\x00\x2f\x00\x01\x00\x00\x01\x2c\x00\x14\x01a\x07example\x00\x00\x07\x22\x00\x00\x00\x00\x03\x80";
+
+/// A signature is the octets that it is made over, and every digest is the octet 7.
+#[derive(Drop)]
+struct Plain;
+
+impl Scheme for Plain {
+    ghost use Rattle.std.specs.Prelude.{[], ◌∷◌, Some, None};
+    ghost use Rattle.std.specs.Str.{bytes_eq};
+
+    ghost verifies = { λ _ _ octets signature. bytes_eq signature octets };
+
+    ghost signature_of = { λ _ _ _. None };
+
+    ghost digest_of = { λ _ _ _. Some (7 ∷ []) };
+
+    fn sign(
+        &self,
+        _alloc: Global,
+        _key: &Dnskey<&[u8]>,
+        _octets: &[u8],
+    ) -> Result<Vec<u8>, SchemeError> {
+        Err(SchemeError::Failed)
+    }
+
+    fn verify(&self, _key: &Dnskey<&[u8]>, octets: &[u8], signature: &[u8]) -> bool {
+        signature == octets
+    }
+
+    fn digest(
+        &self,
+        alloc: Global,
+        _algorithm: DigestAlgorithm,
+        _octets: &[u8],
+    ) -> Result<Vec<u8>, SchemeError> {
+        match b"\x07".to_vec(alloc) {
+            Ok(digest) => Ok(digest),
+            Err(_) => Err(SchemeError::Memory),
+        }
+    }
+}
+
+impl Nsec3Hasher for Plain {
+    ghost use Rattle.std.specs.Prelude.{None};
+
+    ghost hash_of = { λ _ _ _ _ _. None };
+
+    fn hash(
+        &self,
+        _alloc: Global,
+        _name: &[u8],
+        _algorithm: u8,
+        _iterations: u16,
+        _salt: &[u8],
+    ) -> Result<Vec<u8>, HashError> {
+        Err(HashError::Failed)
+    }
+}
+
+/// What is handed in beside the apex, and the moment 1500 unless another is said.
+#[derive(Clone, Copy)]
+struct Case<'a> {
+    tag: u16,
+    keys: &'a [u8],
+    answer: &'a [u8],
+    name: &'a [u8],
+    rtype: Rtype,
+}
+
+fn name(alloc: Global, wire: &[u8]) -> Result<Name, AllocError> {
+    match ParsedName::parse(wire, 0) {
+        Ok((parsed, _)) => parsed.to_name(alloc),
+        Err(_) => Ok(Name::root(alloc)),
+    }
+}
+
+fn judge_by<L: Ledger, M: Ledger>(
+    alloc: Global,
+    case: &Case,
+    ds: &[Ds<Vec<u8>>],
+    now: u32,
+    first: Blank,
+    second: Blank,
+) -> Result<Result<Judgement, Refused>, AllocError>
+    requires name { first.name ≡ L.name }
+    requires parts { first.parts ≡ L.parts }
+    requires some { 0 < L.parts }
+    requires second_name { second.name ≡ M.name }
+    requires second_parts { second.parts ≡ M.parts }
+    requires second_some { 0 < M.parts }
+{
+    let apex = name(alloc, b"\x07example\x00")?;
+    let question = Question {
+        name: name(alloc, case.name)?,
+        rtype: case.rtype,
+        class: Class::IN,
+    };
+    let mut checks = SchemeChecks::<Plain, Plain, L, M>::new(&Plain, &Plain, first, second);
+    Ok(judge(
+        alloc,
+        &apex,
+        ds,
+        case.keys,
+        case.answer,
+        &question,
+        now,
+        &mut checks,
+        0,
+    ))
+}
+
+fn judged_at(alloc: Global, case: &Case, now: u32) -> Result<(&'static str, u32), AllocError> {
+    let ds = Ds::new(
+        case.tag,
+        SecurityAlgorithm::ECDSAP256SHA256,
+        DigestAlgorithm::SHA256,
+        b"\x07".to_vec(alloc)?,
+    );
+    let judgement = judge_by::<Brand, Brand>(
+        alloc,
+        case,
+        &[ds],
+        now,
+        Blank::new(1),
+        Blank::new(1),
+    )?;
+    Ok(outcome(&judgement))
+}
+
+fn judged(alloc: Global, case: &Case) -> Result<(&'static str, u32), AllocError> {
+    judged_at(alloc, case, 1500)
+}
+
+fn unsigned(alloc: Global, case: &Case) -> Result<(&'static str, u32), AllocError> {
+    let judgement = judge_by::<Brand, Brand>(alloc, case, &[], 1500, Blank::new(1), Blank::new(1))?;
+    Ok(outcome(&judgement))
+}
+
+/// The name of what was answered, and the verifications.
+fn outcome(judgement: &Result<Judgement, Refused>) -> (&'static str, u32) {
+    match judgement {
+        Ok(judgement) => (verdict_name(&judgement.verdict), judgement.verifications),
+        Err(refused) => (refusal_name(refused.refusal), refused.verifications),
+    }
+}
+
+fn verdict_name(verdict: &Verdict) -> &'static str {
+    match verdict {
+        Verdict::Records(list) if is_address(list) => "Records",
+        Verdict::NoType => "NoType",
+        Verdict::NoName => "NoName",
+        Verdict::Unsigned => "Unsigned",
+        _ => "another verdict",
+    }
+}
+
+fn is_address(list: &DataList) -> bool {
+    match list.as_slice() {
+        [item] => item.as_slice() == b"\xc0\x00\x02\x01".as_slice(),
+        _ => false,
+    }
+}
+
+fn refusal_name(refusal: Refusal) -> &'static str {
+    match refusal {
+        Refusal::QuestionNotAllowed => "QuestionNotAllowed",
+        Refusal::BadDnskeyMessage => "BadDnskeyMessage",
+        Refusal::BadAnswerMessage => "BadAnswerMessage",
+        Refusal::QuestionMismatch => "QuestionMismatch",
+        Refusal::EqualTags => "EqualTags",
+        Refusal::NoTrustedKey => "NoTrustedKey",
+        Refusal::NotProven => "NotProven",
+        _ => "another refusal",
+    }
+}
+
+/// The address of `a.example`, asked for and answered.
+const ADDRESS_CASE: Case<'static> = Case {
+    tag: 1054,
+    keys: KEYS,
+    answer: ADDRESS,
+    name: b"\x01a\x07example\x00",
+    rtype: Rtype::A,
+};
+
+#[test]
+fn records_that_are_signed(rt: HostRuntime) -> Result<(), AllocError> {
+    let alloc = rt.alloc();
+    assert_eq!(rt; judged(alloc, &ADDRESS_CASE)?, ("Records", 2));
+    let upper = Case {
+        name: b"\x01A\x07EXAMPLE\x00",
+        ..ADDRESS_CASE
+    };
+    assert_eq!(rt; judged(alloc, &upper)?, ("Records", 2));
+    Ok(())
+}
+
+#[test]
+fn denials(rt: HostRuntime) -> Result<(), AllocError> {
+    let alloc = rt.alloc();
+    let no_type = Case {
+        answer: NO_TYPE,
+        name: b"\x07example\x00",
+        rtype: Rtype::TXT,
+        ..ADDRESS_CASE
+    };
+    assert_eq!(rt; judged(alloc, &no_type)?, ("NoType", 2));
+    let no_name = Case {
+        answer: NO_NAME,
+        name: b"\x01b\x07example\x00",
+        ..ADDRESS_CASE
+    };
+    assert_eq!(rt; judged(alloc, &no_name)?, ("NoName", 3));
+    Ok(())
+}
+
+#[test]
+fn first_refusals(rt: HostRuntime) -> Result<(), AllocError> {
+    let alloc = rt.alloc();
+    let not_allowed = Case {
+        rtype: Rtype::NSEC,
+        keys: b"",
+        ..ADDRESS_CASE
+    };
+    assert_eq!(rt; judged(alloc, &not_allowed)?, ("QuestionNotAllowed", 0));
+    let short = Case {
+        answer: b"\x00\x00\x84\x00\x00\x01\x00\x01\x00\x00\x00",
+        ..ADDRESS_CASE
+    };
+    assert_eq!(rt; judged(alloc, &short)?, ("BadAnswerMessage", 0));
+    let both = Case {
+        keys: b"",
+        answer: b"",
+        ..ADDRESS_CASE
+    };
+    assert_eq!(rt; judged(alloc, &both)?, ("BadDnskeyMessage", 0));
+    let other = Case {
+        answer: NO_TYPE,
+        ..ADDRESS_CASE
+    };
+    assert_eq!(rt; judged(alloc, &other)?, ("QuestionMismatch", 0));
+    let twins = Case {
+        keys: TWIN_KEYS,
+        ..ADDRESS_CASE
+    };
+    assert_eq!(rt; judged(alloc, &twins)?, ("EqualTags", 0));
+    Ok(())
+}
+
+#[test]
+fn trust_and_times(rt: HostRuntime) -> Result<(), AllocError> {
+    let alloc = rt.alloc();
+    let stranger = Case {
+        tag: 1055,
+        ..ADDRESS_CASE
+    };
+    assert_eq!(rt; judged(alloc, &stranger)?, ("NoTrustedKey", 0));
+    assert_eq!(rt; judged_at(alloc, &ADDRESS_CASE, 2001)?, ("NoTrustedKey", 0));
+    let late = Case {
+        answer: LATE_ADDRESS,
+        ..ADDRESS_CASE
+    };
+    assert_eq!(rt; judged_at(alloc, &late, 1499)?, ("NotProven", 1));
+    assert_eq!(rt; judged_at(alloc, &late, 1500)?, ("Records", 2));
+    Ok(())
+}
+
+#[test]
+fn unsigned_whatever_the_bytes(rt: HostRuntime) -> Result<(), AllocError> {
+    let alloc = rt.alloc();
+    let empty = Case {
+        keys: b"",
+        answer: b"",
+        ..ADDRESS_CASE
+    };
+    assert_eq!(rt; unsigned(alloc, &empty)?, ("Unsigned", 0));
+    Ok(())
+}

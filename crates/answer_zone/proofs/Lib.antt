@@ -1,0 +1,13 @@
+pub mod SignMade
+pub mod ZoneSorting
+pub mod ZoneTtls
+pub mod ZoneServed
+pub mod ZoneFaults
+pub mod ZoneBitmap
+pub mod ZoneChains
+pub mod ZoneData
+pub mod ZoneLinks
+pub mod OneLink
+pub mod ZoneRising
+pub mod WritesNames
+pub mod ZoneAnswers

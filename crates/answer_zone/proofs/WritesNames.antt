@@ -1,0 +1,84 @@
+-- Names and TTLs of a zone's records that are written.
+use Rattle.std.proofs.Common.{◌≡◌, ℕ, ◌<◌, Bool, true, false, ◌&&◌, List, [], ◌∷◌, map, refl, arith, cond, eqb}
+use Rattle.std.specs.List.{AllByRecursion, filter}
+use Rattle.std.specs.Char.{to_ascii_lowercase}
+use Rattle.std.specs.Str.{str_to_ascii_lowercase}
+use Rattle.std.proofs.Math.Nat.{min-le_left}
+use Rattle.std.proofs.lemmas.List.{length-map}
+use Rattle.definitions.specs.Name.{Name, IsLabel, IsName, labels_eq, low, same, wire_len}
+use Rattle.definitions.specs.ZoneChain.{behind, links}
+use Rattle.records.specs.HandedRr.{HandedRr}
+use Rattle.answer_zone.specs.Accepting.{soas}
+use Rattle.records.specs.Handed.{IsHanded}
+use Rattle.answer_zone.specs.Served.{chain_ttl, chain_ttl_of, minimum_of, owner_among, spelled_among, spelled_as, ttl_among}
+use Rattle.records.proofs.NameLaws.{wire_len-cons}
+
+lower_labels : (n : Name) → AllByRecursion IsLabel n → AllByRecursion IsLabel (low n)
+lower_labels [] h = tt
+lower_labels (l ∷ n) h = (record { some = omega (arith, h.0.some, length-map l to_ascii_lowercase); short = omega (arith, h.0.short, length-map l to_ascii_lowercase) }, lower_labels n h.1)
+
+lower_len : (n : Name) → wire_len (low n) ≡ wire_len n
+lower_len [] = refl
+lower_len (l ∷ n) = omega (arith, wire_len-cons l n, wire_len-cons (str_to_ascii_lowercase l) (low n), lower_len n, length-map l to_ascii_lowercase)
+
+pub lower_name : (n : Name) → IsName n → IsName (low n)
+lower_name n h = record { labels = lower_labels n h.labels; short = omega (arith, h.short, lower_len n) }
+
+-- of two things that hold either holds
+pub either : {A : Type 0} (P : A → Type 0) (b : Bool) (x y : A) → P x → P y → P (cond b x y)
+either P true x y h k = h
+either P false x y h k = k
+
+pub owner_name : (rs : List HandedRr) (o : Name) (t : ℕ) → AllByRecursion IsHanded rs → IsName o → IsName (owner_among rs o t)
+owner_name [] o t h is = is
+owner_name (r ∷ rs) o t h is = either IsName (labels_eq (low r.owner) o && eqb r.rtype t) r.owner (owner_among rs o t) h.0.owner (owner_name rs o t h.1 is)
+
+pub first_name : (rs : List HandedRr) (o : Name) → AllByRecursion IsHanded rs → IsName o → IsName (spelled_among rs o)
+first_name [] o h is = is
+first_name (r ∷ rs) o h is = either IsName (labels_eq (low r.owner) o) r.owner (spelled_among rs o) h.0.owner (first_name rs o h.1 is)
+
+pub spelled_name : (apex : Name) (rs : List HandedRr) (o : Name) → IsName apex → AllByRecursion IsHanded rs → IsName o → IsName (spelled_as apex rs o)
+spelled_name apex rs o a h is = either IsName (labels_eq (low apex) o) apex (spelled_among rs o) a (first_name rs o h is)
+
+-- the owners, lowered
+pub owner_names : (rs : List HandedRr) → AllByRecursion IsHanded rs → AllByRecursion IsName (map (λ r. low r.owner) rs)
+owner_names [] h = tt
+owner_names (r ∷ rs) h = (lower_name r.owner h.0.owner, owner_names rs h.1)
+
+-- ---- next names
+
+abbrev Leads : Name × Name → Type 0
+Leads l = IsName l.1
+
+all_lead : (first : Name) (ns : List Name) → IsName first → AllByRecursion IsName ns → AllByRecursion Leads (links first ns)
+all_lead first [] f h = tt
+all_lead first (n ∷ []) f h = (f, tt)
+all_lead first (n ∷ o ∷ ns) f h = (h.1.0, all_lead first (o ∷ ns) f h.1)
+
+name_behind : (d o : Name) (ls : List (Name × Name)) → IsName d → AllByRecursion Leads ls → IsName (behind labels_eq d o ls)
+name_behind d o [] is h = is
+name_behind d o (l ∷ ls) is h = either IsName (labels_eq o l.0) l.1 (behind labels_eq d o ls) h.0 (name_behind d o ls is h.1)
+
+-- what follows a name round a circle
+pub next_name : (first o : Name) (ns : List Name) → IsName first → AllByRecursion IsName ns → IsName (behind labels_eq first o (links first ns))
+next_name first o ns f h = name_behind first o (links first ns) f (all_lead first ns f h)
+
+-- ---- TTLs
+
+pub all_filter : {A : Type 0} (P : A → Type 0) (p : A → Bool) (xs : List A) → AllByRecursion P xs → AllByRecursion P (filter p xs)
+all_filter P p [] h = tt
+all_filter P p (x ∷ xs) h = either (AllByRecursion P) (p x) (x ∷ filter p xs) (filter p xs) (h.0, all_filter P p xs h.1) (all_filter P p xs h.1)
+
+abbrev Below : ℕ → HandedRr → Type 0
+Below most r = r.ttl < most
+
+pub ttl_small : (most : ℕ) → 0 < most → (rs : List HandedRr) (o : Name) (t : ℕ) → AllByRecursion (Below most) rs → ttl_among rs o t < most
+ttl_small most some [] o t h = some
+ttl_small most some (r ∷ rs) o t h = either (λ n. n < most) (labels_eq (low r.owner) o && eqb r.rtype t) r.ttl (ttl_among rs o t) h.0 (ttl_small most some rs o t h.1)
+
+first_small : (most : ℕ) → 0 < most → (rs : List HandedRr) → AllByRecursion (Below most) rs → chain_ttl_of rs < most
+first_small most some [] h = some
+first_small most some (r ∷ rs) h = omega (arith, h.0, min-le_left r.ttl (minimum_of r.bytes))
+
+pub chain_small : (most : ℕ) → 0 < most → (apex : Name) (rs : List HandedRr) → AllByRecursion (Below most) rs → chain_ttl apex rs < most
+chain_small most some apex rs h = first_small most some (soas apex rs) (all_filter (Below most) (λ (r : HandedRr). same r.owner apex && eqb r.rtype 6) rs h)

@@ -1,0 +1,14 @@
+use Rattle.std.proofs.Common.{◌≡◌, ◌-◌, ◌≤◌, false, drop, length}
+use Rattle.definitions.specs.Name.{low}
+use Rattle.answer_zone.specs.Accepting.{zone_with}
+use Rattle.answer_zone.specs.Served.{kept_ancestor}
+use Rattle.answer_zone.proofs.zone.ZoneRecords.closest_encloser.Given as goal
+
+abbrev pub invariant-loop-count : goal.invariant-loop-count
+invariant-loop-count l = record {
+  within : l.count ≤ length l.name;
+  ancestor : kept_ancestor (zone_with l.self.apex l.self.records) false (low l.name) ≡ kept_ancestor (zone_with l.self.apex l.self.records) false (drop (length l.name - l.count) (low l.name));
+}
+
+abbrev pub decreases-loop-count : goal.decreases-loop-count
+decreases-loop-count l = l.count

@@ -1,0 +1,11 @@
+use Rattle.std.proofs.Common.{◌≡◌, map}
+use Rattle.std.specs.List.{AllByRecursion}
+use Rattle.records.specs.Handed.{IsHanded}
+use Rattle.records.specs.HandedRr.{handed_of}
+use Rattle.answer_zone.proofs.zone.composed.Given as goal
+
+abbrev pub invariant-loop-record : goal.invariant-loop-record
+invariant-loop-record l = record {
+  views : l.composed.items ≡ map handed_of l.yielded;
+  handed : AllByRecursion IsHanded l.composed.items;
+}

@@ -1,0 +1,189 @@
+-- What a zone is served with, and what an answer holds (RFC 4035, 3.1; RFC 5155, 7.2).
+use Rattle.std.specs.Prelude.{ℕ, ◌-◌, Bool, true, false, ◌&&◌, ◌||◌, ◌==◌, List, [], ◌∷◌, ◌++◌, map, filter, length, drop, Some, None, if◌then◌else◌, min}
+use Rattle.std.specs.List.{list_any}
+use Rattle.std.specs.Int.{w32, from_be_bytes}
+use Rattle.std.specs.Ordering.{nat_cmp}
+use Rattle.std.specs.Cmp.Lexicographic.{slice_cmp}
+use Rattle.std.specs.Str.{bytes_eq}
+use Rattle.definitions.specs.Sorting.{sort_by}
+use Rattle.definitions.specs.Name.{Name, low, labels_eq}
+use Rattle.definitions.specs.Zone.{Zone, Verdict, verdict, Records, NoType, NoName, StarRecords, StarNoType, Delegated, Open, Unsigned, cut, kept, ce, star_under, has, data_at}
+use Rattle.definitions.specs.Covering.{covers, hash_covers}
+use Rattle.definitions.specs.Base32hex.{base32hex}
+use Rattle.definitions.specs.Dnskey.{Dnskey, dnskey_data, key_tag}
+use Rattle.definitions.specs.ZoneChain.{Mode, Nsec, Nsec3, optout_of, nsec_names, nsec3_names, nsec_next, nsec_data, nsec3_data, nsec3_next, hash_cmp}
+use Rattle.records.specs.HandedRr.{HandedRr}
+use Rattle.answer_zone.specs.Accepting.{zone_with, soas}
+
+-- a zone, its chain's mode and hash, the TTL of an owner and a type, how its records of a type spell an owner and
+-- their data, and how next names are spelled
+pub record Served : Type 0 where
+  pub zone : Zone
+  pub mode : Mode
+  pub hash : Name → List ℕ
+  pub ttl_of : Name → ℕ → ℕ
+  pub owner_of : Name → ℕ → Name
+  pub written_of : Name → ℕ → List (List ℕ)
+  pub spelled : Name → Name
+
+-- the TTL of the first record of an owner and a type
+abbrev pub ttl_among : List HandedRr → Name → ℕ → ℕ
+ttl_among [] o t = 0
+ttl_among (r ∷ rs) o t = if labels_eq (low r.owner) o && (r.rtype == t) then r.ttl else ttl_among rs o t
+
+-- the minimum of an SOA record, its last four octets (RFC 1035, 3.3.13)
+abbrev pub minimum_of : List ℕ → ℕ
+minimum_of bytes = from_be_bytes w32 (drop (length bytes - 4) bytes)
+
+-- the TTL of the chain: the lesser of the SOA record's own and its minimum (RFC 9077, 3)
+abbrev pub chain_ttl_of : List HandedRr → ℕ
+chain_ttl_of [] = 0
+chain_ttl_of (r ∷ rs) = min r.ttl (minimum_of r.bytes)
+
+abbrev pub chain_ttl : Name → List HandedRr → ℕ
+chain_ttl apex sorted = chain_ttl_of (soas apex sorted)
+
+abbrev pub served_ttl : Name → List HandedRr → Name → ℕ → ℕ
+served_ttl apex sorted o t = if (t == 47) || (t == 50) then chain_ttl apex sorted else ttl_among sorted o t
+
+-- the owner of the first record of a name
+abbrev pub spelled_among : List HandedRr → Name → Name
+spelled_among [] o = o
+spelled_among (r ∷ rs) o = if labels_eq (low r.owner) o then r.owner else spelled_among rs o
+
+-- the owner of the first record of an owner and a type
+abbrev pub owner_among : List HandedRr → Name → ℕ → Name
+owner_among [] o t = o
+owner_among (r ∷ rs) o t = if labels_eq (low r.owner) o && (r.rtype == t) then r.owner else owner_among rs o t
+
+-- a record of the chain has the owner of the first record of its name
+abbrev pub served_owner : List HandedRr → Name → ℕ → Name
+served_owner sorted o t = if (t == 47) || (t == 50) then spelled_among sorted o else owner_among sorted o t
+
+-- the data of an owner and a type as spelled, in canonical order
+abbrev pub written_among : List HandedRr → Name → ℕ → List (List ℕ)
+written_among sorted o t = map (λ r. r.written) (filter (λ r. labels_eq (low r.owner) o && (r.rtype == t)) sorted)
+
+-- as the first record of the name in canonical order; the apex as it was handed in
+abbrev pub spelled_as : Name → List HandedRr → Name → Name
+spelled_as apex sorted o = if labels_eq (low apex) o then apex else spelled_among sorted o
+
+-- how records in canonical order are served
+abbrev pub served_of : Name → Mode → (Name → List ℕ) → List HandedRr → Served
+served_of apex mode hash sorted = record {
+  zone = zone_with apex sorted;
+  mode = mode;
+  hash = hash;
+  ttl_of = served_ttl apex sorted;
+  owner_of = served_owner sorted;
+  written_of = written_among sorted;
+  spelled = spelled_as apex sorted;
+}
+
+-- An RRset of an answer: the owner as written, the owner that its label count is of, its data in canonical order,
+-- as written and in canonical form, and whether it is signed.
+pub record Group : Type 0 where
+  pub owner : Name
+  pub source : Name
+  pub rtype : ℕ
+  pub ttl : ℕ
+  pub written : List (List ℕ)
+  pub datas : List (List ℕ)
+  pub signed : Bool
+
+abbrev pub rrset : Served → Name → ℕ → Group
+rrset s o t = record { owner = s.owner_of o t; source = o; rtype = t; ttl = s.ttl_of o t; written = s.written_of o t; datas = data_at s.zone o t; signed = true }
+
+abbrev pub soa : Served → Group
+soa s = rrset s s.zone.apex 6
+
+-- the record of a name of the chain
+abbrev pub chain_record : Served → Name → Group
+chain_record s o = elim s.mode [
+  | Nsec ↦ let d = nsec_data s.zone s.spelled o in record { owner = s.owner_of o 47; source = o; rtype = 47; ttl = s.ttl_of o 47; written = d ∷ []; datas = d ∷ []; signed = true }
+  | Nsec3 iterations salt optout ↦
+      let h = base32hex (s.hash o) ∷ s.spelled s.zone.apex in
+      let d = nsec3_data s.hash s.zone iterations salt optout o in
+      record { owner = h; source = h; rtype = 50; ttl = s.ttl_of o 50; written = d ∷ []; datas = d ∷ []; signed = true }
+]
+
+-- the names of the chain in canonical order of their records' owners
+abbrev pub chain_names : Served → List Name
+chain_names s = elim s.mode [
+  | Nsec ↦ nsec_names s.zone
+  | Nsec3 iterations salt optout ↦ sort_by (λ a b. hash_cmp (s.hash a) (s.hash b)) (nsec3_names s.zone optout)
+]
+
+-- the record of one name of the chain matches or covers another name
+abbrev pub speaks_for : Served → Name → Name → Bool
+speaks_for s o q = elim s.mode [
+  | Nsec ↦ labels_eq o q || covers s.zone.apex o (nsec_next s.zone o) q
+  | Nsec3 iterations salt optout ↦ bytes_eq (s.hash o) (s.hash q) || hash_covers (s.hash o) (nsec3_next s.hash s.zone optout o) (s.hash q)
+]
+
+-- the chain's records that speak for one of some names, each once
+abbrev pub proofs_of : Served → List Name → List Group
+proofs_of s qs = map (chain_record s) (filter (λ o. list_any (speaks_for s o) qs) (chain_names s))
+
+-- one label longer than an ancestor, on the way to a name (RFC 5155, 1.3)
+abbrev pub next_closer : Name → Name → Name
+next_closer e [] = []
+next_closer e (l ∷ q) = let r = next_closer e q in if labels_eq e q then l ∷ q else r
+
+-- the longest proper ancestor that is kept
+abbrev pub kept_ancestor : Zone → Bool → Name → Name
+kept_ancestor z optout [] = []
+kept_ancestor z optout (l ∷ q) = let r = kept_ancestor z optout q in if kept z optout q then q else r
+
+-- the names that the proof of a verdict speaks of (RFC 4035, 3.1.3; RFC 5155, 7.2)
+abbrev pub spoken : Served → Name → Verdict → List Name
+spoken s q (Records ds) = []
+spoken s q NoType = q ∷ []
+spoken s q NoName = let e = kept_ancestor s.zone (optout_of s.mode) q in elim s.mode [ Nsec ↦ q ∷ star_under e ∷ [] | Nsec3 iterations salt optout ↦ e ∷ next_closer e q ∷ star_under e ∷ [] ]
+spoken s q (StarRecords ds) = let e = kept_ancestor s.zone (optout_of s.mode) q in elim s.mode [ Nsec ↦ q ∷ [] | Nsec3 iterations salt optout ↦ next_closer e q ∷ [] ]
+spoken s q StarNoType = let e = kept_ancestor s.zone (optout_of s.mode) q in elim s.mode [ Nsec ↦ q ∷ star_under e ∷ [] | Nsec3 iterations salt optout ↦ e ∷ next_closer e q ∷ star_under e ∷ [] ]
+spoken s q Delegated = elim (cut s.zone q) [ None ↦ [] | Some c ↦ c ∷ [] ]
+spoken s q Open = let e = kept_ancestor s.zone (optout_of s.mode) q in e ∷ next_closer e q ∷ []
+spoken s q Unsigned = []
+
+abbrev pub unsigned_ns : Served → Name → List Group
+unsigned_ns s c = record (rrset s c 2) { signed = false } ∷ []
+
+abbrev pub if_any : Served → Name → ℕ → List Group
+if_any s c t = if has s.zone c t then rrset s c t ∷ [] else []
+
+-- the RRset of a wildcard, as it stands under a name (RFC 4592, 3.3.3)
+abbrev pub expanded : Served → Name → Name → ℕ → List Group
+expanded s star q t = record (rrset s star t) { owner = q } ∷ []
+
+-- what stands before the chain's records
+abbrev pub ahead_open : Served → Name → ℕ → Verdict → List Group
+ahead_open s q t (StarRecords ds) = elim (ce s.zone (low q)) [ None ↦ [] | Some e ↦ expanded s (star_under e) q t ]
+ahead_open s q t _ = elim (cut s.zone (low q)) [
+  | None ↦ soa s ∷ []
+  | Some c ↦ if labels_eq c (low q) && (t == 43) then soa s ∷ [] else unsigned_ns s c
+]
+
+abbrev pub ahead : Served → Name → ℕ → Verdict → List Group
+ahead s q t (Records ds) = record (rrset s (low q) t) { owner = q } ∷ []
+ahead s q t NoType = soa s ∷ []
+ahead s q t NoName = soa s ∷ []
+ahead s q t (StarRecords ds) = elim (ce s.zone (low q)) [ None ↦ [] | Some e ↦ expanded s (star_under e) q t ]
+ahead s q t StarNoType = soa s ∷ []
+ahead s q t Delegated = elim (cut s.zone (low q)) [ None ↦ [] | Some c ↦ unsigned_ns s c ++ if_any s c 43 ]
+ahead s q t Open = ahead_open s q t (verdict s.zone false q t)
+ahead s q t Unsigned = []
+
+-- the RRsets of the answer to a question, in order
+abbrev pub answer_groups : Served → Name → ℕ → List Group
+answer_groups s q t =
+    let v = verdict s.zone (optout_of s.mode) q t in
+    ahead s q t v ++ proofs_of s (spoken s (low q) v)
+
+-- the DNSKEY RRset of some keys at the apex
+abbrev pub key_group : Name → ℕ → List Dnskey → Group
+key_group apex ttl ks = let ds = sort_by (slice_cmp nat_cmp) (map dnskey_data ks) in record { owner = apex; source = apex; rtype = 48; ttl = ttl; written = ds; datas = ds; signed = true }
+
+-- keys in order of tag
+abbrev pub by_tag : List Dnskey → List Dnskey
+by_tag ks = sort_by (λ a b. nat_cmp (key_tag a) (key_tag b)) ks

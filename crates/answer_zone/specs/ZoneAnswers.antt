@@ -1,0 +1,26 @@
+-- What a zone answers, before it is signed.
+use Rattle.std.specs.Prelude.{◌≡◌, ℕ, false, ◌++◌, length}
+use Rattle.std.specs.List.{AllZip}
+use Rattle.definitions.specs.Name.{Name}
+use Rattle.definitions.specs.Zone.{Verdict, verdict, Records, NoName, StarRecords, Delegated}
+use Rattle.answer_zone.specs.GroupView.{Presents}
+use Rattle.answer_zone.specs.Served.{Served, answer_groups}
+use Rattle.answer_zone.specs.declared.zone.answers.ZoneAnswer.{ZoneAnswer}
+
+-- an authoritative answer, one that no such name exists, or a referral (RFC 1035, 4.1.1)
+abbrev pub flags_for : Verdict → ℕ
+flags_for NoName = 33795
+flags_for Delegated = 32768
+flags_for _ = 33792
+
+-- how many RRsets stand in the answer section: the one asked for, where it is there
+abbrev pub answered : Verdict → ℕ
+answered (Records ds) = 1
+answered (StarRecords ds) = 1
+answered _ = 0
+
+-- what a zone answers, before it is signed: the RRsets of the answer, those asked for apart, and the flags
+pub record AnswersAs (s : Served) (name : Name) (t : ℕ) (a : ZoneAnswer) : Type 0 where
+  pub groups_are : AllZip Presents (a.answer.items ++ a.authority.items) (answer_groups s name t)
+  pub split : length a.answer.items ≡ answered (verdict s.zone false name t)
+  pub flags_are : a.flags ≡ flags_for (verdict s.zone false name t)

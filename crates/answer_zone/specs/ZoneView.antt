@@ -1,0 +1,46 @@
+-- How a zone's records and its mode are seen, and the laws of the records' order.
+use Rattle.std.specs.Prelude.{ℕ, List, [], ◌∷◌, Bool, true, false, ◌&&◌, ◌||◌, ◌==◌, ◌≡◌, length}
+use Rattle.std.specs.List.{AllByRecursion}
+use Rattle.std.specs.List.Sorted.{IsStrictlySortedBy}
+use Rattle.std.specs.Cmp.{IsTotalOrder, then_total, on_total}
+use Rattle.std.proofs.lemmas.Cmp.{lists_total, nat_cmp_total, nat_list_cmp_total}
+use Rattle.definitions.specs.Name.{Name, from_root, name_cmp, at_or_above, strictly_above, same}
+use Rattle.definitions.specs.ZoneChain.{Mode}
+use Rattle.records.specs.HandedRr.{HandedRr, has_star}
+use Rattle.answer_zone.specs.Accepting.{record_cmp, soas}
+use Rattle.definitions.specs.ZoneChain as chain
+use Rattle.answer_zone.specs.declared.fault.Mode as declared
+use Rattle.answer_zone.specs.declared.fault.Mode.TheVariants.{Nsec}
+use Rattle.records.specs.declared.plain.record.Record.{Record}
+use Rattle.records.specs.declared.plain.record.ZoneRecordData.{ZoneRecordData}
+use Rattle.records.specs.declared.plain.record.ZoneRecordData.TheVariants.{Unknown}
+use Rattle.records.specs.Rdata.{rtype_of, written_of, canonical_of}
+
+abbrev pub mode_of : declared.Mode → Mode
+mode_of Nsec = chain.Nsec
+
+pub name_cmp_total : IsTotalOrder name_cmp
+name_cmp_total = on_total from_root (lists_total nat_list_cmp_total)
+
+pub record_cmp_total : IsTotalOrder record_cmp
+record_cmp_total =
+    then_total (on_total (λ (r : HandedRr). r.owner) name_cmp_total)
+    (then_total (on_total (λ (r : HandedRr). r.rtype) nat_cmp_total) (on_total (λ (r : HandedRr). r.bytes) nat_list_cmp_total))
+
+-- what is known of the records of an accepted zone, in order
+pub record IsPublished (apex : Name) (rs : List HandedRr) : Type 0 where
+  pub rising : IsStrictlySortedBy record_cmp rs
+  pub inside : AllByRecursion (λ r. at_or_above apex r.owner ≡ true) rs
+  pub plain : AllByRecursion (λ r. (((r.rtype == 2) && strictly_above apex r.owner) || has_star r.owner) ≡ false) rs
+  pub soa : length (soas apex rs) ≡ 1
+
+-- an accepted zone
+pub record AcceptedZone : Type 0 where
+  pub apex : Name
+  pub mode : Mode
+  pub limit : ℕ
+  pub records : List HandedRr
+
+-- a record is of a name, up to case, and a type
+abbrev pub is_of : Name → ℕ → HandedRr → Bool
+is_of name t r = same r.owner name && (r.rtype == t)

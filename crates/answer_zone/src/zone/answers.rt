@@ -1,0 +1,146 @@
+//! The RRsets of an answer.
+ghost use Rattle.std.specs.Prelude.{◌≡◌, ℕ, ◌∷◌, ◌||◌, ◌==◌, ◌≤◌, List, true, false, map, IfOk};
+ghost use Rattle.std.specs.List.{AllZip};
+ghost use Rattle.definitions.specs.Name.{Name, low, wire_len};
+ghost use Rattle.definitions.specs.Zone.{data_at, star_under};
+ghost use Rattle.definitions.specs.ZoneChain.{Nsec};
+ghost use Rattle.answer_zone.specs.Accepting.{zone_with};
+ghost use Rattle.answer_zone.specs.ZoneAnswers.{AnswersAs};
+ghost use Rattle.answer_zone.specs.GroupView.{Presents};
+ghost use Rattle.answer_zone.specs.ZoneView.{IsPublished};
+ghost use Rattle.answer_zone.specs.Served.{kept_ancestor, proofs_of, served_of, soa, ttl_among, written_among};
+
+use crate::fault::Mode;
+use crate::group::RrGroup;
+use crate::zone::ZoneRecords;
+use crate::zone::lookups::{data_among, owner_among};
+use records::names::Name;
+use records::plain::Rtype;
+use std::alloc::{AllocError, Global};
+
+/// The flags of a response, authoritative (RFC 1035, 4.1.1).
+pub const AUTHORITATIVE: u16 = 0x8400;
+
+/// The flags of one that says that no such name exists.
+const NO_SUCH_NAME: u16 = 0x8403;
+
+/// What a zone answers: the flags of the message, and the RRsets of its two sections in order.
+#[derive(Drop)]
+pub struct ZoneAnswer {
+    pub flags: u16,
+    pub answer: Vec<RrGroup>,
+    pub authority: Vec<RrGroup>,
+}
+
+impl ZoneRecords {
+    /// The answer to a question: the RRset asked for, or else the SOA record and the records of the chain that
+    /// prove what is missing (RFC 4035, 3.1). The type is none of those that the chain has.
+    pub fn answer_to(
+        &self,
+        alloc: Global,
+        name: &Name,
+        rtype: Rtype,
+    ) -> Result<ZoneAnswer, AllocError>
+        requires { ((rtype == 47) || (rtype == 50)) ≡ false }
+        ensures { IfOk result (λ a. (hash : Name → List ℕ) → AnswersAs (served_of self.now.apex self.now.mode hash self.now.records) name.now rtype a) }
+    {
+        match &self.mode {
+            Mode::Nsec => self.nsec_answer(alloc, name, rtype),
+        }
+    }
+
+    /// The answer with a chain of names: a name without the type has the link that matches or covers it, one that
+    /// does not exist the links for it and for the wildcard (RFC 4035, 3.1.3).
+    fn nsec_answer(
+        &self,
+        alloc: Global,
+        name: &Name,
+        rtype: Rtype,
+    ) -> Result<ZoneAnswer, AllocError>
+        requires plain { ((rtype == 47) || (rtype == 50)) ≡ false }
+        requires published { IsPublished self.now.apex self.now.records }
+        ensures { IfOk result (λ a. (hash : Name → List ℕ) → AnswersAs (served_of self.now.apex Nsec hash self.now.records) name.now rtype a) }
+    {
+        let mut answer = Vec::new(alloc);
+        if self.has(name, rtype) {
+            answer.push(self.rrset(alloc, name.try_clone(alloc)?, rtype)?)?;
+            return Ok(ZoneAnswer {
+                flags: AUTHORITATIVE,
+                answer,
+                authority: Vec::new(alloc),
+            });
+        }
+        if self.exists(name) {
+            let authority = self.denial(alloc, &[name])?;
+            return Ok(ZoneAnswer {
+                flags: AUTHORITATIVE,
+                answer,
+                authority,
+            });
+        }
+        let star = self.closest_wildcard(alloc, name)?;
+        let authority = self.denial(alloc, &[name, &star])?;
+        Ok(ZoneAnswer {
+            flags: NO_SUCH_NAME,
+            answer,
+            authority,
+        })
+    }
+
+    /// The SOA record, and the records of the chain that match or cover one of some names.
+    fn denial(&self, alloc: Global, names: &[&Name]) -> Result<Vec<RrGroup>, AllocError>
+        ensures { IfOk result (λ gs. (hash : Name → List ℕ) → AllZip Presents gs.items (soa (served_of self.now.apex Nsec hash self.now.records) ∷ proofs_of (served_of self.now.apex Nsec hash self.now.records) (map (λ n. low n.now) names.now))) }
+    {
+        let mut groups = Vec::new(alloc);
+        groups.push(self.soa(alloc)?)?;
+        self.push_proofs(alloc, &mut groups, names)?;
+        Ok(groups)
+    }
+
+    /// The SOA record of the zone, its owner as spelled there.
+    fn soa(&self, alloc: Global) -> Result<RrGroup, AllocError>
+        ensures { IfOk result (λ g. (hash : Name → List ℕ) → Presents g (soa (served_of self.now.apex Nsec hash self.now.records))) }
+    {
+        let owner = match owner_among(&self.records, &self.apex, Rtype::SOA) {
+            Some(owner) => owner,
+            None => &self.apex,
+        };
+        self.rrset(alloc, owner.try_clone(alloc)?, Rtype::SOA)
+    }
+
+    /// The RRset of an owner and a type, written under a name that is the owner up to case.
+    fn rrset(&self, alloc: Global, owner: Name, rtype: Rtype) -> Result<RrGroup, AllocError>
+        ensures { IfOk result (λ g. Presents g (record { owner = owner; source = low owner; rtype = rtype; ttl = ttl_among self.now.records (low owner) rtype; written = written_among self.now.records (low owner) rtype; datas = data_at (zone_with self.now.apex self.now.records) (low owner) rtype; signed = true })) }
+    {
+        let data = data_among(alloc, &self.records, &owner, rtype)?;
+        let ttl = self.ttl_at(&owner, rtype);
+        let count = owner.rrsig_label_count();
+        Ok(RrGroup::new(owner, count, rtype, ttl, data.written, data.canonical, true))
+    }
+
+    /// The wildcard name under the closest encloser of a name that does not exist (RFC 4592, 3.3.1).
+    fn closest_wildcard(&self, alloc: Global, name: &Name) -> Result<Name, AllocError>
+        ensures { IfOk result (λ s. low s ≡ star_under (kept_ancestor (zone_with self.now.apex self.now.records) false (low name.now))) }
+    {
+        match self.closest_encloser(alloc, name)?.wildcard_child(alloc)? {
+            Some(star) => Ok(star),
+            None => unreachable!(),
+        }
+    }
+
+    /// The longest proper ancestor of a name that exists, the root where none does.
+    fn closest_encloser(&self, alloc: Global, name: &Name) -> Result<Name, AllocError>
+        ensures ancestor { IfOk result (λ e. low e ≡ kept_ancestor (zone_with self.now.apex self.now.records) false (low name.now)) }
+        ensures room { IfOk result (λ e. wire_len (star_under e) ≤ 255) }
+    {
+        let mut count = name.len();
+        while count > 0 {
+            count -= 1;
+            let ancestor = name.suffix(alloc, count)?;
+            if self.exists(&ancestor) {
+                return Ok(ancestor);
+            }
+        }
+        Ok(Name::root(alloc))
+    }
+}

@@ -1,0 +1,92 @@
+//! What makes a list of records no zone that is published.
+ghost use Rattle.std.specs.Prelude.{◌≡◌, ◌==◌, not, ◌&&◌, ◌||◌, [], ◌∷◌};
+ghost use Rattle.std.specs.List.{list_any};
+ghost use Rattle.definitions.specs.Name.{at_or_above, strictly_above};
+ghost use Rattle.records.specs.HandedRr.{among, is_meta, is_star, has_star};
+ghost use Rattle.answer_zone.specs.Accepting.{first_fault, over_limit};
+ghost use Rattle.answer_zone.specs.ZoneView.{mode_of};
+
+use crate::fault::{Mode, ZoneFault};
+use crate::zone::handed::HandedRecord;
+use records::names::Name;
+
+/// The first fault of a list, each sought in the whole list before the next.
+pub(super) fn first_fault(
+    apex: &Name,
+    mode: &Mode,
+    limit: u16,
+    records: &[HandedRecord],
+) -> Option<ZoneFault>
+    ensures { result ≡ first_fault apex.now (mode_of mode.now) limit records.now }
+{
+    if any_of_other_class(records) {
+        Some(ZoneFault::WrongClass)
+    } else if any_outside(apex, records) {
+        Some(ZoneFault::OutsideApex)
+    } else if any_added_by_signing(records) {
+        Some(ZoneFault::SignedType)
+    } else if any_alias(records) {
+        Some(ZoneFault::Alias)
+    } else if any_meta(records) {
+        Some(ZoneFault::MetaType)
+    } else if any_star_delegation(records) {
+        Some(ZoneFault::StarNs)
+    } else if any_cut_or_star(apex, records) {
+        Some(ZoneFault::NotYet)
+    } else if is_over_limit(mode, limit) {
+        Some(ZoneFault::IterationsOverLimit)
+    } else {
+        None
+    }
+}
+
+fn any_of_other_class(records: &[HandedRecord]) -> bool
+    ensures { result ≡ list_any (λ r. not (r.class == 1)) records.now }
+{
+    records.iter().any(|r| r.is_of_other_class())
+}
+
+fn any_outside(apex: &Name, records: &[HandedRecord]) -> bool
+    ensures { result ≡ list_any (λ r. not (at_or_above apex.now r.owner)) records.now }
+{
+    records.iter().any(|r| r.is_outside(apex))
+}
+
+fn any_added_by_signing(records: &[HandedRecord]) -> bool
+    ensures { result ≡ list_any (λ r. among (46 ∷ 47 ∷ 48 ∷ 50 ∷ 51 ∷ []) r.rtype) records.now }
+{
+    records.iter().any(|r| r.is_added_by_signing())
+}
+
+fn any_alias(records: &[HandedRecord]) -> bool
+    ensures { result ≡ list_any (λ r. among (5 ∷ 39 ∷ []) r.rtype) records.now }
+{
+    records.iter().any(|r| r.is_alias())
+}
+
+fn any_meta(records: &[HandedRecord]) -> bool
+    ensures { result ≡ list_any is_meta records.now }
+{
+    records.iter().any(|r| r.is_meta())
+}
+
+fn any_star_delegation(records: &[HandedRecord]) -> bool
+    ensures { result ≡ list_any (λ r. (r.rtype == 2) && is_star r.owner) records.now }
+{
+    records.iter().any(|r| r.delegates_star())
+}
+
+fn any_cut_or_star(apex: &Name, records: &[HandedRecord]) -> bool
+    ensures { result ≡ list_any (λ r. ((r.rtype == 2) && strictly_above apex.now r.owner) || has_star r.owner) records.now }
+{
+    records.iter().any(|r| r.is_cut_or_star(apex))
+}
+
+/// Whether a chain's iterations are over the limit (RFC 5155, 10.3). A chain of names has none.
+fn is_over_limit(mode: &Mode, limit: u16) -> bool
+    ensures { result ≡ over_limit (mode_of mode.now) limit }
+{
+    match mode {
+        Mode::Nsec => false,
+    }
+}

@@ -1,0 +1,3 @@
+pub mod TagSum
+pub mod TagPlaces
+pub mod SignOctets

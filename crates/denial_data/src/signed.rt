@@ -1,0 +1,75 @@
+//! The octets that a signature is made over (RFC 4034, 3.1.8.1).
+ghost use Rattle.std.specs.Prelude.{◌≡◌, ◌++◌, map, IfOk, OnOk};
+ghost use Rattle.definitions.specs.Name.{wire};
+ghost use Rattle.definitions.specs.Signing.{signed_octets, signed_owner};
+ghost use Rattle.denial_data.specs.Rrsig.{record_head, with_length};
+
+use crate::rrsig::ProtoRrsig;
+use records::names::Name;
+use records::plain::Class;
+use std::alloc::{AllocError, Global};
+
+/// The octets that a signature of an RRset is made over: the fields, then the records in the order given
+/// (RFC 4034, 3.1.8.1). An owner with more labels than the fields count is signed as the wildcard that it
+/// stems from (RFC 4035, 5.3.2). The data are canonical and at most 65,535 octets, as a record's are; the
+/// length that is written is taken modulo 65,536.
+pub fn signed_octets(
+    alloc: Global,
+    fields: &ProtoRrsig,
+    owner: &Name,
+    class: Class,
+    canonical: &[Vec<u8>],
+) -> Result<Vec<u8>, AllocError>
+    ensures { IfOk result (λ v. v.items ≡ signed_octets fields.now owner.now class (map (λ d. d.items) canonical.now)) }
+{
+    let head = signed_head(alloc, fields, owner, class)?;
+    let mut out = Vec::new(alloc);
+    fields.compose_canonical(&mut out)?;
+    for data in canonical {
+        compose_signed_record(&head, data, &mut out)?;
+    }
+    Ok(out)
+}
+
+/// What each record of a signed RRset begins with.
+fn signed_head(
+    alloc: Global,
+    fields: &ProtoRrsig,
+    owner: &Name,
+    class: Class,
+) -> Result<Vec<u8>, AllocError>
+    ensures { IfOk result (λ v. v.items ≡ record_head (signed_owner fields.now.labels owner.now) fields.now.covered class fields.now.ttl) }
+{
+    let mut head = Vec::new(alloc);
+    compose_signed_owner(alloc, fields.labels(), owner, &mut head)?;
+    head.extend_from_slice(&fields.type_covered().to_int().to_be_bytes())?;
+    head.extend_from_slice(&class.to_int().to_be_bytes())?;
+    head.extend_from_slice(&fields.original_ttl().as_secs().to_be_bytes())?;
+    Ok(head)
+}
+
+/// Writes the owner in canonical form, or the wildcard that it stems from (RFC 4035, 5.3.2).
+fn compose_signed_owner(
+    alloc: Global,
+    labels: u8,
+    owner: &Name,
+    out: &mut Vec<u8>,
+) -> Result<(), AllocError>
+    ensures ok { OnOk result (out.new.items ≡ out.old.items ++ wire (signed_owner labels owner.now)) }
+{
+    if labels >= owner.rrsig_label_count() {
+        return owner.compose_canonical(out);
+    }
+    let source = owner.suffix(alloc, usize::from(labels))?;
+    out.extend_from_slice(b"\x01*")?;
+    source.compose_canonical(out)
+}
+
+/// Writes one record: what all begin with, and its data behind their length.
+fn compose_signed_record(head: &[u8], data: &[u8], out: &mut Vec<u8>) -> Result<(), AllocError>
+    ensures ok { OnOk result (out.new.items ≡ out.old.items ++ (head.now ++ with_length data.now)) }
+{
+    out.extend_from_slice(head)?;
+    out.extend_from_slice(&((data.len() % 65536) as u16).to_be_bytes())?;
+    out.extend_from_slice(data)
+}

@@ -1,0 +1,12 @@
+use Rattle.std.proofs.Common.{◌∙◌, sym, rules, tests, Bor, List, ℕ}
+use Rattle.std.specs.Str.{bytes_eq}
+use Rattle.std.proofs.lemmas.Iterator.{YieldsList-from_slice}
+use Rattle.std.proofs.lemmas.Iterator.Search.{any_from_yields_List}
+use Rattle.keyset.proofs.KeyMaps.{list_any-map}
+use Rattle.keyset.proofs.maps.is_listed.Goals as goal
+
+pub returns : goal.returns
+returns c =
+    let test = λ (r : Bor (List ℕ)). bytes_eq r.now c.args.reference.now in
+    any_from_yields_List test _ _ _ c.any.ensures.ran (YieldsList-from_slice c.args.references.now cc) (λ x b q k. search (rules, tests))
+    ∙ sym (list_any-map (λ p. bytes_eq p c.args.reference.now) (λ (r : Bor (List ℕ)). r.now) c.args.references.now)

@@ -1,0 +1,41 @@
+-- What the calls of a key set return, beside the definitions.
+use Rattle.std.specs.Prelude.{◌≡◌, List, Option, Some, None, Result, Ok, Err, IsSome}
+use Rattle.std.specs.Duration.{as_nanos}
+use Rattle.keyset.specs.declared.errors.Error.{Error}
+use Rattle.keyset.specs.declared.errors.Error.TheVariants as error
+use Rattle.keyset.specs.KeyState as keys
+use Rattle.keyset.specs.declared.rolls.Action.{Action}
+use Rattle.keyset.specs.KeyState.{KeySetState, Answer, Refusal}
+
+-- the refusal that an error says; none where memory ran out
+abbrev pub refusal_of : Error → Option Refusal
+refusal_of error.KeyExists = Some keys.KeyExists
+refusal_of error.KeyNotFound = Some keys.KeyNotFound
+refusal_of error.KeyNotOld = Some keys.KeyNotOld
+refusal_of error.DuplicateKeyTag = Some keys.DuplicateKeyTag
+refusal_of error.WrongKeyType = Some keys.WrongKeyType
+refusal_of error.WrongKeyState = Some keys.WrongKeyState
+refusal_of error.NoSuitableKeyPresent = Some keys.NoSuitableKeyPresent
+refusal_of error.WrongStateForRollOperation = Some keys.WrongStateForRollOperation
+refusal_of error.ConflictingRollInProgress = Some keys.ConflictingRollInProgress
+refusal_of error.AlgorithmSetsMismatch = Some keys.AlgorithmSetsMismatch
+refusal_of (error.Wait rest) = Some (keys.Wait (as_nanos rest))
+refusal_of error.UnknownRollType = Some keys.UnknownRollType
+refusal_of error.MissingTimestamp = Some keys.MissingTimestamp
+refusal_of error.Memory = None
+
+-- the error says why the answer is a refusal, or that memory ran out
+abbrev pub Fails : Option Refusal → Answer → Type 0
+Fails None answer = Unit {0}
+Fails (Some refusal) answer = answer ≡ Err refusal
+
+-- What a call returned, seen by view, and what it left, are what the definition gives, unless memory ran out. Then,
+-- and where the call is refused, nothing changed.
+abbrev pub Gives : {X : Type 0} → (X → List Action) → KeySetState → KeySetState → Result X Error → Answer → Type 0
+Gives view old new (Ok x) answer = answer ≡ Ok (new, view x)
+Gives view old new (Err e) answer = (new ≡ old) × Fails (refusal_of e) answer
+
+-- a check found this fault, or none
+abbrev pub Finds : {X : Type 0} → Result X Error → Option Refusal → Type 0
+Finds (Ok x) fault = fault ≡ None
+Finds (Err e) fault = (fault ≡ refusal_of e) × IsSome fault

@@ -1,0 +1,4 @@
+pub mod Record
+pub mod Windows
+pub mod WrittenLaws
+pub mod Questions

@@ -1,0 +1,178 @@
+//! Messages read in place (RFC 1035, 4.1): one question, and the records of all sections in order.
+ghost use Rattle.std.specs.Prelude.{◌≡◌, ℕ, ◌+◌, ◌<◌, ◌≤◌, ◌^◌, length, IsOk, MatchResult};
+ghost use Rattle.std.specs.Iterator.{YieldsFirstBy, item_count};
+ghost use Rattle.records.specs.Message.{message, record_at, records_at};
+ghost use Rattle.records.specs.View.{Gives, placed};
+
+use crate::octets::{u16_at, u32_at};
+use crate::question::Question;
+use records::message::MessageError;
+use records::names::ParsedName;
+use records::plain::{Class, Rtype, Ttl};
+use std::marker::Model;
+
+/// A record of a message. Its data are the `length` octets of the message from `start` on.
+#[derive(Debug, Drop)]
+pub struct ViewRecord<'a> {
+    pub owner: ParsedName<'a>,
+    pub rtype: Rtype,
+    pub class: Class,
+    pub ttl: Ttl,
+    pub start: usize,
+    pub length: usize,
+    ghost fits: { start + length < 2 ^ 64 },
+}
+
+impl<'a> ViewRecord<'a> {
+    ghost use Rattle.messages.specs.Record.{spelled};
+
+    /// The record at a place and the place behind it.
+    fn read(bytes: &'a [u8], at: usize) -> Result<(ViewRecord<'a>, usize), MessageError>
+        ensures { Gives (λ r. placed (spelled r.0) r.1) result (record_at 0 bytes.now at) }
+    {
+        let (owner, end) = ParsedName::parse(bytes, at)?;
+        let rtype = u16_at(bytes, end)?;
+        let class = u16_at(bytes, end + 2)?;
+        let ttl = u32_at(bytes, end + 4)?;
+        let length = u16_at(bytes, end + 8)? as usize;
+        let start = end + 10;
+        if bytes.len() - start < length {
+            return Err(MessageError::ShortInput);
+        }
+        let record = ViewRecord {
+            owner,
+            rtype: Rtype::from_int(rtype),
+            class: Class::from_int(class),
+            ttl: Ttl::from_secs(ttl),
+            start,
+            length,
+        };
+        Ok((record, start + length))
+    }
+}
+
+/// A message that has been read. A contract sees what is asked and the records.
+#[derive(Debug, Drop)]
+pub struct MessageView<'a> {
+    bytes: &'a [u8],
+    rtype: Rtype,
+    class: Class,
+    first: usize,
+    count: usize,
+}
+
+impl<'a> Model for MessageView<'a> {
+    ghost use Rattle.std.specs.Prelude.{IsOk};
+    ghost use Rattle.records.specs.Message.{Message, records_at};
+    ghost use Rattle.records.specs.View.{name_read, records_read, NameReads};
+
+    ghost Value = { Message };
+
+    ghost view = { λ v. record { asked = record { name = name_read v.bytes.now 12; rtype = v.rtype; class = v.class }; records = records_read v.count v.bytes.now v.first } };
+
+    ghost invariant = { λ v. NameReads v.bytes.now 12 × IsOk (records_at v.count 0 v.bytes.now v.first) };
+}
+
+impl<'a> MessageView<'a> {
+    /// What is asked.
+    pub fn question(&self) -> Question<ParsedName<'a>>
+        ensures name { result.name ≡ self.now.asked.name }
+        ensures rtype { result.rtype ≡ self.now.asked.rtype }
+        ensures class { result.class ≡ self.now.asked.class }
+    {
+        Question {
+            name: ParsedName::at(self.bytes, 12),
+            rtype: self.rtype,
+            class: self.class,
+        }
+    }
+
+    /// The records of all sections in order.
+    pub fn records(&self) -> Records<'a>
+        ensures { result ≡ self.now.records }
+    {
+        Records {
+            bytes: self.bytes,
+            at: self.first,
+            left: self.count,
+        }
+    }
+}
+
+/// The records of a message that are left, in order. A contract sees their list.
+#[derive(Debug, Drop)]
+pub struct Records<'a> {
+    bytes: &'a [u8],
+    at: usize,
+    left: usize,
+}
+
+impl<'a> Model for Records<'a> {
+    ghost use Rattle.std.specs.Prelude.{IsOk, List};
+    ghost use Rattle.records.specs.Message.{Spelled, records_at};
+    ghost use Rattle.records.specs.View.{records_read};
+
+    ghost Value = { List Spelled };
+
+    ghost view = { λ r. records_read r.left r.bytes.now r.at };
+
+    ghost invariant = { λ r. IsOk (records_at r.left 0 r.bytes.now r.at) };
+}
+
+impl<'a> Iterator for Records<'a> {
+    ghost use Rattle.messages.specs.Record.{spelled};
+
+    type Item = ViewRecord<'a>;
+
+    ghost next_gives = { YieldsFirstBy spelled (λ rs. rs) };
+
+    ghost remaining = { item_count (λ rs. rs) };
+
+    fn next(&mut self) -> Option<ViewRecord<'a>> {
+        if self.left == 0 {
+            return None;
+        }
+        let (record, end) = ViewRecord::read(self.bytes, self.at).ok()?;
+        self.left -= 1;
+        self.at = end;
+        Some(record)
+    }
+}
+
+/// Reads a message in place; it takes no memory. The header's flags and octets behind the last counted
+/// record are passed over.
+pub fn read_message(bytes: &[u8]) -> Result<MessageView<'_>, MessageError>
+    ensures { Gives (λ v. v) result (message 0 bytes.now) }
+{
+    let questions = u16_at(bytes, 4)?;
+    let answers = u16_at(bytes, 6)?;
+    let authority = u16_at(bytes, 8)?;
+    let additional = u16_at(bytes, 10)?;
+    if questions != 1 {
+        return Err(MessageError::NotOneQuestion);
+    }
+    let (_, end) = ParsedName::parse(bytes, 12)?;
+    let rtype = u16_at(bytes, end)?;
+    let class = u16_at(bytes, end + 2)?;
+    let count = answers as usize + authority as usize + additional as usize;
+    read_records(bytes, end + 4, count)?;
+    Ok(MessageView {
+        bytes,
+        rtype: Rtype::from_int(rtype),
+        class: Class::from_int(class),
+        first: end + 4,
+        count,
+    })
+}
+
+/// Reads so many records from a place on.
+fn read_records(bytes: &[u8], first: usize, count: usize) -> Result<(), MessageError>
+    ensures { MatchResult result (λ _. IsOk (records_at count 0 bytes.now first)) (λ e. records_at count 0 bytes.now first ≡ Err e) }
+{
+    let mut at = first;
+    for _ in 0..count {
+        let (_, end) = ViewRecord::read(bytes, at)?;
+        at = end;
+    }
+    Ok(())
+}

@@ -1,0 +1,9 @@
+pub mod NameOrders
+pub mod NameEnds
+pub mod NameLabels
+pub mod NameLaws
+pub mod NameWalk
+pub mod NameWritten
+pub mod ZoneNames
+pub mod ZoneLists
+pub mod WritesHanded

@@ -1,0 +1,32 @@
+-- Records as they are handed in hold what they say.
+use Rattle.std.proofs.Common.{◌≡◌, ◌<◌, List, [], ◌∷◌, ◌++◌, length, inl, inr, ◌⊎◌, refl, subst, sym}
+use Rattle.std.specs.Prelude.{MatchBool}
+use Rattle.std.specs.List.{AllByRecursion}
+use Rattle.definitions.specs.Name.{IsName}
+use Rattle.records.specs.Handed.{IsHanded, SpellsNs, SpellsSoa}
+use Rattle.records.specs.Rdata.{HasNames, canonical_of, rtype_of, soa_numbers, written_of}
+use Rattle.records.specs.HandedRr.{handed_of, is_unknown}
+use Rattle.records.specs.declared.plain.record.Record.{Record}
+use Rattle.records.specs.declared.plain.record.Soa.{Soa}
+use Rattle.records.specs.declared.plain.record.ZoneRecordData.{ZoneRecordData}
+use Rattle.records.specs.declared.plain.record.ZoneRecordData.TheVariants.{Soa as SoaData, Ns as NsData, Unknown}
+
+five_numbers : (s : Soa) → length (soa_numbers s) ≡ 20
+unfolding soa_numbers
+five_numbers s = refl
+
+spells_data : (d : ZoneRecordData) → HasNames d → MatchBool (is_unknown d) (canonical_of d ≡ written_of d) (((rtype_of d ≡ 2) × SpellsNs (written_of d) (canonical_of d)) ⊎ ((rtype_of d ≡ 6) × SpellsSoa (written_of d) (canonical_of d)))
+spells_data (SoaData s) h = inr (refl, record { mname = s.mname; rname = s.rname; numbers = soa_numbers s; mname_is = h.0; rname_is = h.1; five = five_numbers s; written_is = refl; canonical_is = refl })
+spells_data (NsData s) h = inl (refl, record { name = s.nsdname; is = h; written_is = refl; canonical_is = refl })
+spells_data (Unknown d) h = refl
+
+pub handed_from : (r : Record) → IsName r.owner → rtype_of r.rdata < 65536 → r.ttl < 4294967296 → HasNames r.rdata → IsHanded (handed_of r)
+handed_from r name t ttl names = record { owner = name; rtype = t; ttl = ttl; spells = spells_data r.rdata names }
+
+all_snoc : {A : Type 0} (P : A → Type 0) (xs : List A) (x : A) → AllByRecursion P xs → P x → AllByRecursion P (xs ++ x ∷ [])
+all_snoc P [] x h p = (p, tt)
+all_snoc P (y ∷ xs) x h p = (h.0, all_snoc P xs x h.1 p)
+
+-- one item more
+pub all_pushed : {A : Type 0} (P : A → Type 0) (xs ys : List A) (x : A) → ys ≡ xs ++ x ∷ [] → AllByRecursion P xs → P x → AllByRecursion P ys
+all_pushed P xs ys x e h p = subst (AllByRecursion P) (sym e) (all_snoc P xs x h p)

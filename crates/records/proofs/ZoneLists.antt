@@ -1,0 +1,105 @@
+-- Lists, their items, and tests of them.
+use Rattle.std.proofs.lemmas.List.{map-id, take_more}
+use Rattle.std.proofs.Common.{◌++◌, take, ◌≡◌, ℕ, suc, ◌+◌, ◌-◌, ◌<◌, ◌≤◌, length, drop, get_or, arith, add-one, drop-cons, length-drop, Bool, true, false, ◌||◌, not, List, [], ◌∷◌, map, ◌⊎◌, inl, inr, refl, sym, ap, subst, ◌∙◌, ⊎_elim, cond, Ordering}
+use Rattle.std.specs.declared.cmp.Ordering.TheVariants.{Less, Equal, Greater}
+use Rattle.std.specs.List.{list_any, AllByRecursion, AllZip, filter}
+use Rattle.std.proofs.lemmas.Slice.Zip.{AllZip-map}
+use Rattle.std.proofs.lemmas.Bool.{or_cases, or_parts, or_left, or_right, false≢true, not-false}
+use Rattle.records.specs.Neighbours.{neighbours}
+use Rattle.definitions.specs.Sorting.{put_by, put_all_by, sort_by}
+
+-- what stands from a place on
+pub items_from : {A : Type 0} (rs : List A) (i : ℕ) (r : A) → i < length rs → r ≡ get_or rs i r → drop i rs ≡ r ∷ drop (i + 1) rs
+items_from rs i r h e = drop-cons rs i r h ∙ (λ j. sym e j ∷ drop (sym (add-one i) j) rs)
+
+-- a list has an item
+abbrev pub Has : {A : Type 0} → List A → A → Type 0
+Has [] a = ⊥
+Has (x ∷ xs) a = (a ≡ x) ⊎ Has xs a
+
+pub found : {A : Type 0} (p : A → Bool) (xs : List A) → list_any p xs ≡ true → (a : A) × Has xs a × (p a ≡ true)
+found p [] e = absurd (false≢true e)
+found p (x ∷ xs) e = ⊎_elim (λ h. (x, inl refl, h)) (λ h. let f = found p xs h in (f.0, inr f.1, f.2)) (or_cases (p x) (list_any p xs) e)
+
+pub any_from : {A : Type 0} (p : A → Bool) (xs : List A) (a : A) → Has xs a → p a ≡ true → list_any p xs ≡ true
+any_from p [] a h e = absurd h
+any_from p (x ∷ xs) a h e = ⊎_elim (λ q. or_left (p x) _ (ap p (sym q) ∙ e)) (λ k. or_right (p x) _ (any_from p xs a k e)) h
+
+pub all_at : {A : Type 0} (P : A → Type 0) (xs : List A) (a : A) → AllByRecursion P xs → Has xs a → P a
+all_at P [] a p h = absurd h
+all_at P (x ∷ xs) a p h = ⊎_elim (λ e. subst P (sym e) p.0) (λ k. all_at P xs a p.1 k) h
+
+pub list_any-map : {A B : Type 0} (p : B → Bool) (f : A → B) (xs : List A) → list_any p (map f xs) ≡ list_any (λ x. p (f x)) xs
+list_any-map p f [] = refl
+list_any-map p f (x ∷ xs) = ap (λ b. p (f x) || b) (list_any-map p f xs)
+
+pub all_fail : {A : Type 0} (p : A → Bool) (xs : List A) → list_any p xs ≡ false → AllByRecursion (λ x. p x ≡ false) xs
+all_fail p [] e = tt
+all_fail p (x ∷ xs) e = let h = or_parts (p x) (list_any p xs) e in (h.0, all_fail p xs h.1)
+
+pub all_pass : {A : Type 0} (p : A → Bool) (xs : List A) → list_any (λ x. not (p x)) xs ≡ false → AllByRecursion (λ x. p x ≡ true) xs
+all_pass p [] e = tt
+all_pass p (x ∷ xs) e = let h = or_parts (not (p x)) (list_any (λ x. not (p x)) xs) e in (not-false (p x) h.0, all_pass p xs h.1)
+
+pub filter_all : {A : Type 0} (p : A → Bool) (xs : List A) → AllByRecursion (λ x. p x ≡ true) xs → filter p xs ≡ xs
+filter_all p [] h = refl
+filter_all p (x ∷ xs) h = ap (λ b. cond b (x ∷ filter p xs) (filter p xs)) h.0 ∙ ap (λ ys. x ∷ ys) (filter_all p xs h.1)
+
+pub all_more : {A : Type 0} (P Q : A → Type 0) (xs : List A) → ((x : A) → P x → Q x) → AllByRecursion P xs → AllByRecursion Q xs
+all_more P Q [] f h = tt
+all_more P Q (x ∷ xs) f h = (f x h.0, all_more P Q xs f h.1)
+
+pub all_put : {A : Type 0} (P : A → Type 0) (cmp : A → A → Ordering) (a : A) (xs : List A) → P a → AllByRecursion P xs → AllByRecursion P (put_by cmp a xs)
+all_put P cmp a [] p h = (p, tt)
+all_put P cmp a (x ∷ xs) p h =
+    elim (cmp a x) as (λ o. AllByRecursion P (elim o [ Less ↦ a ∷ x ∷ xs | Equal ↦ x ∷ xs | Greater ↦ x ∷ put_by cmp a xs ])) [
+      | Less ↦ (p, h)
+      | Equal ↦ h
+      | Greater ↦ (h.0, all_put P cmp a xs p h.1)
+    ]
+
+all_put_all : {A : Type 0} (P : A → Type 0) (cmp : A → A → Ordering) (into xs : List A) → AllByRecursion P into → AllByRecursion P xs → AllByRecursion P (put_all_by cmp into xs)
+all_put_all P cmp into [] h k = h
+all_put_all P cmp into (x ∷ xs) h k = all_put_all P cmp (put_by cmp x into) xs (all_put P cmp x into k.0 h) k.1
+
+-- what holds of each item holds of each of those in order
+pub all_sorted : {A : Type 0} (P : A → Type 0) (cmp : A → A → Ordering) (xs : List A) → AllByRecursion P xs → AllByRecursion P (sort_by cmp xs)
+all_sorted P cmp xs h = all_put_all P cmp [] xs tt h
+
+neighbours_two : {A : Type 0} (p : A → A → Bool) (xs : List A) (i : ℕ) (a b : A) → suc i < length xs → a ≡ get_or xs i a → b ≡ get_or xs (suc i) b → neighbours p (drop i xs) ≡ (p a b || neighbours p (drop (suc i) xs))
+neighbours_two p xs i a b h ea eb =
+    let l : i < length xs = omega arith in
+    let u = drop-cons xs i a l ∙ ap (λ x. x ∷ drop (suc i) xs) (sym ea) in
+    let v = drop-cons xs (suc i) b h ∙ ap (λ x. x ∷ drop (suc (suc i)) xs) (sym eb) in
+    ap (neighbours p) u ∙ ap (λ ys. neighbours p (a ∷ ys)) v ∙ ap (λ ys. p a b || neighbours p ys) (sym v)
+
+-- two items side by side
+pub neighbours_at : {A : Type 0} (p : A → A → Bool) (xs : List A) (i : ℕ) (a b : A) → 0 < i → i < length xs → a ≡ get_or xs (i - 1) a → b ≡ get_or xs i b → neighbours p (drop (i - 1) xs) ≡ (p a b || neighbours p (drop i xs))
+neighbours_at p xs i a b k h ea eb =
+    let e : suc (i - 1) ≡ i = omega arith in
+    let l : suc (i - 1) < length xs = omega arith in
+    neighbours_two p xs (i - 1) a b l ea (eb ∙ ap (λ n. get_or xs n b) (sym e)) ∙ ap (λ n. p a b || neighbours p (drop n xs)) e
+
+one_or_none : {A : Type 0} (p : A → A → Bool) (xs : List A) → length xs ≤ 1 → neighbours p xs ≡ false
+one_or_none p [] h = refl
+one_or_none p (x ∷ []) h = refl
+one_or_none p (x ∷ y ∷ xs) h = absurd (omega arith)
+
+-- at the end nothing is side by side
+pub neighbours_short : {A : Type 0} (p : A → A → Bool) (xs : List A) (i : ℕ) → length xs ≤ i → neighbours p (drop (i - 1) xs) ≡ false
+neighbours_short p xs i h = one_or_none p (drop (i - 1) xs) (rw length-drop (omega arith))
+
+-- a test of what stands from a place on
+pub any_past : {X Y : Type 0} (f : X → Y) (p : Y → Bool) (xs : List X) (i : ℕ) (x : X) → i < length xs → x ≡ get_or xs i x → p (f x) ≡ false → list_any p (map f (drop (i + 1) xs)) ≡ list_any p (map f (drop i xs))
+any_past f p xs i x h e n = sym (ap (λ ys. list_any p (map f ys)) (items_from xs i x h e) ∙ ap (λ b. b || list_any p (map f (drop (i + 1) xs))) n)
+
+pub any_found : {X Y : Type 0} (f : X → Y) (p : Y → Bool) (xs : List X) (i : ℕ) (x : X) → i < length xs → x ≡ get_or xs i x → p (f x) ≡ true → list_any p (map f (drop i xs)) ≡ true
+any_found f p xs i x h e n = ap (λ ys. list_any p (map f ys)) (items_from xs i x h e) ∙ ap (λ b. b || list_any p (map f (drop (i + 1) xs))) n
+
+-- one item more from the front
+pub take_next : {X : Type 0} (xs : List X) (i : ℕ) (x : X) → i < length xs → x ≡ get_or xs i x → take (i + 1) xs ≡ take i xs ++ x ∷ []
+take_next xs i x h e = take_more xs i x h ∙ ap (λ v. take i xs ++ v ∷ []) (sym e)
+
+-- a copy of octets is the same octets
+pub same_octets : (xs ys : List ℕ) → AllZip (λ x y. y ≡ x) xs ys → ys ≡ xs
+same_octets xs ys each = AllZip-map (λ x. x) xs ys each ∙ map-id xs

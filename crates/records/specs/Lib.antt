@@ -1,0 +1,11 @@
+pub mod Message
+pub mod Opaque
+pub mod Rdata
+pub mod View
+pub mod Walk
+pub mod NameOctets
+pub mod Written
+pub mod Handed
+pub mod Star
+pub mod HandedRr
+pub mod Neighbours

@@ -1,0 +1,63 @@
+//! Names as wire octets (RFC 1035, 3.1).
+ghost use Rattle.std.specs.Prelude.{◌≡◌, ◌<◌, ◌≤◌, ◌+◌, IfOk, IfErr, Some, length};
+ghost use Rattle.records.specs.NameOctets.{name_of_octets, RefusesOctets};
+
+use crate::message::MessageError;
+use crate::names::{Name, ParsedName};
+use std::alloc::Global;
+use thiserror::Error;
+
+/// Why octets are not the wire form of one name.
+#[derive(Clone, Copy, Debug, PartialEq, Eq, Drop, Error)]
+pub enum NameError {
+    /// The octets end before the name does.
+    #[error("octets end before the name")]
+    ShortInput,
+    /// A label is of another type, or the name is too long.
+    #[error("malformed name")]
+    Malformed,
+    /// Octets follow the name.
+    #[error("octets follow the name")]
+    TrailingData,
+    #[error("out of memory")]
+    Memory,
+}
+
+impl Name {
+    /// The name that octets spell, all of them, without pointers (RFC 1035, 3.1).
+    pub fn from_octets(alloc: Global, octets: &[u8]) -> Result<Name, NameError>
+        ensures ok { IfOk result (λ n. name_of_octets octets.now ≡ Some n) }
+        ensures err { IfErr result (RefusesOctets octets.now) }
+    {
+        match ParsedName::parse(octets, 0) {
+            Err(MessageError::ShortInput) => Err(NameError::ShortInput),
+            Err(_) => Err(NameError::Malformed),
+            Ok((name, end)) if end == octets.len() => name
+                .to_name(alloc)
+                .map_err(|_| NameError::Memory),
+            Ok(_) => Err(NameError::TrailingData),
+        }
+    }
+}
+
+#[cfg(test)]
+mod tests {
+    use super::*;
+    use std::test::Fail;
+
+    #[test]
+    fn reads_one_name_and_nothing_else(rt: HostRuntime) -> Result<(), Fail> {
+        let alloc = rt.alloc();
+        let name = Name::from_octets(alloc, b"\x01a\x07Example\x00")?;
+        assert_eq!(rt; name.len(), 2);
+        assert_eq!(rt; name.label_at(1), Some(b"Example".as_slice()));
+        for (octets, error) in [
+            (b"\x01a".as_slice(), NameError::ShortInput),
+            (b"\xc0\x00".as_slice(), NameError::Malformed),
+            (b"\x00\x00".as_slice(), NameError::TrailingData),
+        ] {
+            assert_eq!(rt; Name::from_octets(alloc, octets).err(), Some(error));
+        }
+        Ok(())
+    }
+}
