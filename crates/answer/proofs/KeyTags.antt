@@ -15,6 +15,7 @@ use Rattle.answer.specs.Bindings.{Add, BoundKey, Call, Finish, Outcome, Report1,
 use Rattle.answer.specs.Bindings as bindings
 use Rattle.keyset.specs.KeyState.{Answer, DuplicateKeyTag, Key, KeyExists, KeySetState, Reference, add, added, has_tag, key_of, new_key, reference_cmp}
 use Rattle.keyset.proofs.KeyTagsCalls.{LeavesTags, TagsFrom, done_tags, report1_tags, report2_tags, start_tags, wait1_tags, wait2_tags}
+use Rattle.records.proofs.Lists.{some_is}
 
 -- references rise; no two keys have one tag; each key's reference is bound to a DNSKEY of its tag
 pub record HasOwnTags (s : ZoneKeys) : Type 0 where
@@ -67,9 +68,6 @@ untagged tag q k (x ∷ es) none f e =
     at : (b : Bool) → eqb x.1.tag tag ≡ false → (find reference_cmp q es ≡ Some k → k.tag ≡ tag → ⊥) → cond b (Some x.1) (find reference_cmp q es) ≡ Some k → ⊥
     at true unlike later f = false≢true (sym unlike ∙ eq-eqb x.1.tag tag (ap (λ (l : Key). l.tag) (some_key x.1 k f) ∙ e))
     at false unlike later f = later f e
-
-some_is : {A : Type 0} (a b : A) → Some a ≡ Some b → a ≡ b
-some_is a b e = cc
 
 -- what stands at a reference behind a put
 put_at : {X : Type 0} (q p : Reference) (v x : X) (es : List (Reference × X)) → find reference_cmp p (put reference_cmp q v es) ≡ Some x → cond (eq_by_cmp reference_cmp p q) (Some v) (find reference_cmp p es) ≡ Some x

@@ -18,7 +18,7 @@ use Rattle.answer_judge.specs.Judging.{clashes, has_equal_tags}
 use Rattle.keyset.specs.KeyState.{Key, Reference, key_of, reference_cmp}
 use Rattle.answer.specs.KeyTags.{PublishedTagsDiffer, PublishedTagsPass, behind, left}
 use Rattle.answer.proofs.KeyTags.{HasOwnTags, LeavesOwn, apply_own, none_own}
-use Rattle.records.proofs.ZoneLists.{Has, found}
+use Rattle.records.proofs.Lists.{Has, found, some_is}
 
 -- ---- entries in order
 
@@ -56,9 +56,6 @@ found_at (x ∷ es) e s h = ⊎_elim
     h
 
 -- ---- tags of entries
-
-some_is : {A : Type 0} (a b : A) → Some a ≡ Some b → a ≡ b
-some_is a b e = cc
 
 role_of : (p : Publication) (o : Option Key) → elim o [ None ↦ false | Some k ↦ has_role p k.roles ] ≡ true → (k : Key) × (o ≡ Some k)
 role_of p None h = absurd (false≢true h)

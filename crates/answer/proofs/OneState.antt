@@ -34,6 +34,7 @@ use Rattle.messages.specs.WrittenLaws.{IsQuestion}
 use Rattle.answer.proofs.KeyLife.{apply_binds}
 use Rattle.answer.proofs.KeyTags.{apply_own, none_own, own_of}
 use Rattle.answer.proofs.OneStateGiven.{AreLeft, IsZoneOf, given}
+use Rattle.records.proofs.Lists.{some_is}
 
 -- what is known of a thing that was shown
 abbrev ThingIs : World → Moment → Shown → Type 0
@@ -56,9 +57,6 @@ one_more w [] [] m x h is = (is, tt)
 one_more w (n ∷ ms) (y ∷ xs) m x h is = (h.0, one_more w ms xs m x h.1 is)
 one_more w [] (y ∷ xs) m x h is = absurd h
 one_more w (n ∷ ms) [] m x h is = absurd h
-
-some_is : {A : Type 0} (a b : A) → Some a ≡ Some b → a ≡ b
-some_is a b e = cc
 
 stands_at : (w : World) (ms : List Moment) (xs : List Shown) (i : ℕ) (m : Moment) (x : Shown) → Stand w ms xs → slice_get ms i ≡ Some m → slice_get xs i ≡ Some x → IsShown w m x
 stands_at w [] xs i m x h e f = cc

@@ -28,7 +28,7 @@ use Rattle.answer_judge.proofs.GivenSorted.{all_has, sorted_has}
 use Rattle.answer.proofs.KeyLife.{AreBound, IsBound, all_published, published_sign}
 use Rattle.answer.proofs.KeyTags.{HasOwnTags}
 use Rattle.answer.proofs.KeyTagsPublished.{equal_tags}
-use Rattle.records.proofs.ZoneLists.{Has, all_at}
+use Rattle.records.proofs.Lists.{Has, all_at, some_is}
 
 -- keys that calls have left
 pub record AreLeft (w : World) (keys : ZoneKeys) : Type 0 where
@@ -64,9 +64,6 @@ from_bound (c ∷ bs) d h = ⊎_elim
     (λ (e : d ≡ ds_of c). record { of = c; inside = inl refl; is = e })
     (λ (later : Has (map ds_of bs) d). let f = from_bound bs d later in record { of = f.of; inside = inr f.inside; is = f.is })
     h
-
-some_is : {A : Type 0} (a b : A) → Some a ≡ Some b → a ≡ b
-some_is a b e = cc
 
 same_ds : (digest : Dnskey → Option (List ℕ)) (a b : BoundKey) → IsBound digest a → IsBound digest b → a.key ≡ b.key → ds_of a ≡ ds_of b
 same_ds digest a b ha hb e =
@@ -120,16 +117,8 @@ given w rs keys keys_at answer_at at key_bytes bytes asked zone left shows is al
   allowed = allowed;
   keys_are = published_sign (digest_at w.answers.digest w.zone.apex) keys publication.Present left.bound;
   ds_is = parents_have_ds w keys left;
-  meet = record {
-    anchor = meets.anchor;
-    at_parent = meets.at_parent;
-    anchor_present = meets.anchor_present;
-    signs_keys = meets.signs_keys;
-    signer = meets.signer;
-    signer_present = meets.signer_present;
-    signs_zone = meets.signs_zone;
-    tags = equal_tags keys publication.Present left.own;
-  };
+  meet = meets;
+  present_tags = equal_tags keys publication.Present left.own;
   keysigner_tags = equal_tags keys publication.SignsKeys left.own;
   zonesigner_tags = equal_tags keys publication.SignsZone left.own;
   keys_given = subst (λ (z : AcceptedZone). spelled.GivesKeys w.answers.verifies 0 (served w.answers.hash z) w.zone.apex (dnskeys (published keys publication.Present)) (dnskeys (published keys publication.SignsKeys)) (second_of keys_at) w.life key_bytes) zone.zone_is shows.1;

@@ -23,6 +23,7 @@ use Rattle.records.specs.Written.{Written, header_octets, question_octets, recor
 use Rattle.messages.proofs.MessageWritten.{record_parts, wire-length}
 use Rattle.records.proofs.NameLaws.{wire_len-some}
 use Rattle.answer.proofs.SignAnswer.{section_more}
+use Rattle.records.proofs.Lists.{zip_append}
 
 pub length_record : (r : Written) → length (record_octets r) ≡ wire_len r.owner + 10 + length r.octets
 length_record r =
@@ -137,12 +138,6 @@ first_refused sign verifies apex at life keys more gs hs fault.HashFailed r = r
 first_refused sign verifies apex at life keys more gs hs fault.SignFailed r = (r.0, Contains-append_left gs hs r.0 r.1, r.2, r.3)
 first_refused sign verifies apex at life keys more gs hs fault.TooLong r =
     (r.0, r.1 ++ hs, r.2, r.3, ap (λ x. x ++ hs) r.4 ∙ append_assoc r.0 r.1 hs, r.5, omega (arith, r.6))
-
-pub zip_append : {A B : Type 0} (R : A → B → Type 0) (xs : List A) (ys : List B) (zs : List A) (ws : List B) → AllZip R xs ys → AllZip R zs ws → AllZip R (xs ++ zs) (ys ++ ws)
-zip_append R [] [] zs ws h k = k
-zip_append R (x ∷ xs) (y ∷ ys) zs ws h k = (h.0, zip_append R xs ys zs ws h.1 k)
-zip_append R [] (y ∷ ys) zs ws h k = absurd h
-zip_append R (x ∷ xs) [] zs ws h k = absurd h
 
 -- one section behind another
 pub sections_joined : (sign : Dnskey → List ℕ → Option (List ℕ)) (verifies : Dnskey → List ℕ → List ℕ → Bool) (apex : Name) (at life : ℕ) (keys : List Dnskey) (gs hs : List GroupView) (o p : List ℕ) (c d : ℕ)

@@ -13,9 +13,9 @@ use Rattle.records.specs.Written.{Written, record_octets}
 use Rattle.messages.specs.WrittenLaws.{IsQuestion, IsRecord, first_place, spelled_from}
 use Rattle.messages.proofs.MessageWhole.{message_here, records_stand}
 use Rattle.messages.proofs.MessageWritten.{StandsAt}
-use Rattle.answer.proofs.Refusals.{zip_append}
 use Rattle.answer.proofs.WritesGroups.{IsFormed, all_hold, all_records, are_groups, count_of}
 use Rattle.answer.proofs.WritesRecords.{view_of}
+use Rattle.records.proofs.Lists.{zip_append}
 
 presented : (v : GroupView) (g : Group) → Presents v g → v ≡ view_of g
 presented v g p = λ i. record { owner = p.owner_is i; labels = p.labels_are i; rtype = p.rtype_is i; ttl = p.ttl_is i; written = p.written_is i; canonical = p.canonical_is i; signed = p.signed_is i }

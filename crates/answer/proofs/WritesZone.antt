@@ -19,7 +19,7 @@ use Rattle.answer_zone.proofs.WritesNames.{all_filter, chain_small, first_name, 
 use Rattle.answer.proofs.WritesRecords.{ReadsAs}
 use Rattle.answer_zone.proofs.ZoneAnswers.{groups_found, groups_without_name, groups_without_type}
 use Rattle.answer_zone.proofs.ZoneData.{data_are}
-use Rattle.records.proofs.ZoneLists.{all_more, all_sorted}
+use Rattle.records.proofs.Lists.{all_more, all_sorted}
 use Rattle.answer_zone.proofs.ZoneServed.{owners_kept}
 
 -- the data of an owner and a type, record by record

@@ -1,6 +1,5 @@
 -- What a judgement says of things that were shown in one state of the keys.
-use Rattle.std.specs.Prelude.{◌≡◌, ℕ, true, false, Contains, List, [], ◌∷◌, ◌++◌, Some, slice_get}
-use Rattle.definitions.specs.Dnskey.{Dnskey}
+use Rattle.std.specs.Prelude.{◌≡◌, ℕ, true, false, List, [], ◌∷◌, ◌++◌, Some, slice_get}
 use Rattle.definitions.specs.Zone.{verdict}
 use Rattle.answer.specs.declared.event.Event.{Event}
 use Rattle.answer.specs.declared.event.Act.{Act}
@@ -13,7 +12,7 @@ use Rattle.answer_zone.specs.Accepting.{zone_of}
 use Rattle.answer.specs.Bindings.{ZoneKeys, dnskeys, published}
 use Rattle.answer_judge.specs.Judged.{AnswersAs}
 use Rattle.answer_judge.specs.Judging.{Says, answer_of}
-use Rattle.answer_judge.specs.Meeting.{holds}
+use Rattle.answer_judge.specs.Meeting.{Meet, holds}
 use Rattle.records.specs.Message.{Asked}
 use Rattle.answer.specs.Publishing.{second_of}
 use Rattle.answer.specs.Simulating.{OfZone, Simulates, Sofar, World, begin}
@@ -26,15 +25,9 @@ pub record Moment : Type 0 where
 abbrev pub moment : ZoneKeys → ℕ → Moment
 moment keys at = record { keys = keys; at = at }
 
--- the keys of one state meet: one is at the parent, present, and signs the keys; one is present and signs the zone
-pub record MeetsItself (keys : ZoneKeys) : Type 0 where
-  pub anchor : Dnskey
-  pub at_parent : Contains (dnskeys (published keys publication.AtParent)) anchor
-  pub anchor_present : Contains (dnskeys (published keys publication.Present)) anchor
-  pub signs_keys : Contains (dnskeys (published keys publication.SignsKeys)) anchor
-  pub signer : Dnskey
-  pub signer_present : Contains (dnskeys (published keys publication.Present)) signer
-  pub signs_zone : Contains (dnskeys (published keys publication.SignsZone)) signer
+-- the keys of one state meet
+abbrev pub MeetsItself : ZoneKeys → Type 0
+MeetsItself keys = Meet (dnskeys (published keys publication.AtParent)) (dnskeys (published keys publication.Present)) (dnskeys (published keys publication.SignsKeys)) (dnskeys (published keys publication.SignsZone))
 
 -- a thing that is shown has the present moment, at its place
 abbrev pub moments_with : List Moment → ZoneKeys → ℕ → Act → Outcome → List Moment
@@ -64,6 +57,6 @@ VerdictsAlong w rs ms s (e ∷ es) (o ∷ os) u run = VerdictAt w rs ms s e.at e
 VerdictsAlong w rs ms s [] (o ∷ os) u run = Unit {0}
 VerdictsAlong w rs ms s (e ∷ es) [] u run = Unit {0}
 
--- a simulation from the beginning, whose judgements say the verdicts of the zone that records spell
+-- in every run from the beginning with these outcomes judgements say the verdicts of the zone that records spell
 abbrev pub SaysVerdicts : World → List HandedRr → List Event → List Outcome → Type 0
-SaysVerdicts w rs es os = (end : Sofar) × (run : Simulates w (begin w.zone.apex) es os end) × VerdictsAlong w rs [] (begin w.zone.apex) es os end run
+SaysVerdicts w rs es os = (end : Sofar) (run : Simulates w (begin w.zone.apex) es os end) → VerdictsAlong w rs [] (begin w.zone.apex) es os end run

@@ -1,7 +1,7 @@
 -- The RRsets that an accepted zone answers with at a name that exists.
 use Rattle.std.proofs.Common.{◌≡◌, ℕ, ◌<◌, Bool, true, false, ◌&&◌, ◌||◌, cond, List, [], ◌∷◌, map, length, refl, sym, ap, ◌∙◌, ⊎_elim, eqb, arith}
 use Rattle.std.specs.List.{AllByRecursion, filter, list_any}
-use Rattle.std.proofs.lemmas.Bool.{and_parts, false_from_ne_true}
+use Rattle.std.proofs.lemmas.Bool.{and_parts, false_from_ne_true, or_right}
 use Rattle.std.proofs.lemmas.List.{length-map}
 use Rattle.definitions.specs.Name.{Name, IsLabel, low, labels_eq, same, at_or_above}
 use Rattle.definitions.specs.Signing.{label_count}
@@ -14,7 +14,7 @@ use Rattle.answer_zone.specs.Served.{owner_among, served_of, soa, spelled_among,
 use Rattle.answer_zone.specs.ZoneView.{IsPublished, is_of}
 use Rattle.answer_judge.proofs.DenialLink.{Linked, Owns}
 use Rattle.answer_zone.proofs.ZoneData.{already_sorted, data_are, data_rise, label_count-low, low-owner_among, low-spelled_among, soa_there}
-use Rattle.records.proofs.ZoneLists.{Has, all_at}
+use Rattle.records.proofs.Lists.{Has, all_at}
 use Rattle.records.proofs.ZoneNames.{at_or_above-low, labels_eq-same, same_labels}
 use Rattle.answer_zone.proofs.ZoneServed.{has_is}
 
@@ -78,15 +78,11 @@ spelled_labels (r ∷ rs) h n e =
     ] in
     go (labels_eq (low r.owner) n) refl
 
-either : (a : Bool) → (a || true) ≡ true
-either true = refl
-either false = refl
-
 any_owner : (rs : List HandedRr) (n : Name) (r : HandedRr) → Has rs r → low r.owner ≡ n → list_any (λ r. labels_eq (low r.owner) n) rs ≡ true
 any_owner [] n r h e = absurd h
 any_owner (x ∷ rs) n r h e = ⊎_elim
     (λ i. ap (λ b. b || list_any (λ r. labels_eq (low r.owner) n) rs) (labels_eq-same (low x.owner) n (ap (λ y. low y.owner) (sym i) ∙ e)))
-    (λ k. ap (λ b. labels_eq (low x.owner) n || b) (any_owner rs n r k e) ∙ either (labels_eq (low x.owner) n))
+    (λ k. or_right (labels_eq (low x.owner) n) _ (any_owner rs n r k e))
     h
 
 low-spelled : (rs : List HandedRr) (n : Name) → Owns rs n → low (spelled_among rs n) ≡ n

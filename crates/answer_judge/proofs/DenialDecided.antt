@@ -4,7 +4,7 @@ use Rattle.std.specs.declared.cmp.Ordering.TheVariants.{Less, Equal, Greater}
 use Rattle.std.specs.List.{list_any}
 use Rattle.std.specs.Ordering.{is_lt}
 use Rattle.std.specs.Prelude.{Option, Some, None, ◌==◌, ◌^◌}
-use Rattle.std.proofs.lemmas.Bool.{and_parts, false_from_ne_true, or_cases}
+use Rattle.std.proofs.lemmas.Bool.{and_parts, false_from_ne_true, or_cases, or_right}
 use Rattle.definitions.specs.Bitmap.{bitmap, bitmap_has}
 use Rattle.definitions.specs.Name.{Name, low, same, name_cmp, at_or_above, strictly_above}
 use Rattle.definitions.specs.Zone.{Verdict, NoType, Delegated, exists, has, star_under}
@@ -19,7 +19,7 @@ use Rattle.answer_judge.proofs.DenialLink.{Owns, Speaks}
 use Rattle.answer_judge.proofs.DenialTypes.{link_lacks_ns, link_lacks_type, link_types}
 use Rattle.answer_zone.proofs.ZoneAnswers.{at_itself}
 use Rattle.answer_zone.proofs.ZoneChains.{less_back}
-use Rattle.records.proofs.ZoneLists.{Has, all_at, found}
+use Rattle.records.proofs.Lists.{Has, all_at, found}
 use Rattle.records.proofs.ZoneNames.{at_or_above-low, labels_eq-same, low-low, name_cmp-low, name_cmp-same, same_labels, strictly_above-low}
 use Rattle.answer_zone.proofs.ZoneServed.{exists_is}
 
@@ -100,15 +100,11 @@ leads_below q next owner above up down =
     cc) in
     strictly (low q) next inside apart
 
-either : (a : Bool) → (a || true) ≡ true
-either true = refl
-either false = refl
-
 link_between : (apex q : Name) (f : Link) → name_cmp (low f.owner) (low q) ≡ Less → name_cmp (low q) (low f.next) ≡ Less → link_covers apex f q ≡ true
 link_between apex q f l m =
     let a : name_cmp f.owner q ≡ Less = sym (name_cmp-low f.owner q) ∙ l in
     let b : name_cmp q f.next ≡ Less = sym (name_cmp-low q f.next) ∙ m in
-    (λ i. is_lt (a i) && (same f.next apex || is_lt (b i))) ∙ either (same f.next apex)
+    (λ i. is_lt (a i) && (same f.next apex || is_lt (b i))) ∙ or_right (same f.next apex) true refl
 
 decided_at : (apex : Name) (rs : List HandedRr) → IsPublished apex rs → (a : Asked) → is_allowed apex a ≡ true → a.rtype < 2 ^ 16 → has (zone_with apex rs) (low a.name) a.rtype ≡ false
     → (owner next : Name) → Owns rs owner → owner ≡ low a.name → (f : Link) → IsLinkOf apex rs owner next f → decided apex None (f ∷ []) a.name a.rtype ≡ Some NoType

@@ -11,7 +11,7 @@ use Rattle.answer_zone.specs.ZoneView.{IsPublished, is_of, name_cmp_total}
 use Rattle.answer_zone.proofs.OneLink.{Lowered, One, climbed, one_link}
 use Rattle.answer_zone.proofs.ZoneChains.{Climbs, greater_trans, owners_climb}
 use Rattle.answer_zone.proofs.ZoneData.{soa_there}
-use Rattle.records.proofs.ZoneLists.{Has, found}
+use Rattle.records.proofs.Lists.{Has, found}
 use Rattle.records.proofs.ZoneNames.{at_or_above-low, low-low, same_labels}
 
 -- a record among some has this owner in lower case

@@ -17,7 +17,7 @@ use Rattle.answer_judge.proofs.DenialDecided.{IsLinkOf}
 use Rattle.answer_judge.proofs.DenialLink.{Linked, Owns, Speaks}
 use Rattle.records.proofs.NameLaws.{wire_len-cons}
 use Rattle.answer_zone.proofs.ZoneAnswers.{at_itself}
-use Rattle.records.proofs.ZoneLists.{any_from, found}
+use Rattle.records.proofs.Lists.{any_from, both_ways, found}
 use Rattle.records.proofs.ZoneNames.{at_or_above-low, same_labels}
 use Rattle.answer_zone.proofs.ZoneServed.{exists_is, has_is}
 
@@ -59,11 +59,6 @@ none_at apex rs p m o n inside none l e =
 -- a link's owner or next name is at or below a name
 abbrev pub shows : Link → Name → Bool
 shows f m = at_or_above m f.owner || at_or_above m f.next
-
-pub both_ways : (a b : Bool) → (a ≡ true → b ≡ true) → (b ≡ true → a ≡ true) → a ≡ b
-both_ways true b f g = sym (f refl)
-both_ways false true f g = g refl
-both_ways false false f g = refl
 
 -- where a name does not exist, its link shows exactly which ancestors do
 pub shows_exist : (apex : Name) (rs : List HandedRr) → IsPublished apex rs → (q : Name) → at_or_above apex q ≡ true → exists (zone_with apex rs) (low q) ≡ false → (s : Speaks apex rs q) (f : Link) → IsLinkOf apex rs s.owner s.next f

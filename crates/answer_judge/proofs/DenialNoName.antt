@@ -17,7 +17,7 @@ use Rattle.answer_judge.proofs.DenialDecided.{IsLinkOf, cut_silent, no_cut_link,
 use Rattle.answer_judge.proofs.DenialLink.{Linked, Speaks}
 use Rattle.answer_judge.proofs.DenialNames.{Encloser, none_at, none_below, shows_exist}
 use Rattle.records.proofs.NameLaws.{wire_len-star}
-use Rattle.records.proofs.ZoneLists.{Has}
+use Rattle.records.proofs.Lists.{Has}
 use Rattle.records.proofs.ZoneNames.{name_cmp-low, same-low, same_labels, strictly_above-low}
 use Rattle.answer_zone.proofs.ZoneServed.{no_star}
 

@@ -15,9 +15,7 @@ use Rattle.answer_judge.specs.Judging.{is_allowed}
 use Rattle.records.specs.Message.{Asked}
 use Rattle.answer_zone.specs.ZoneView.{IsPublished}
 use Rattle.answer_zone.proofs.ZoneServed.{no_delegation}
-
-eqb-back : (a b : ℕ) → eqb a b ≡ eqb b a
-eqb-back a b = grind arith
+use Rattle.records.proofs.Lists.{eqb-back}
 
 any_at : (t : ℕ) (o : Name) (rs : List Rr) → list_any (nat_eq t) (map (λ r. r.rtype) (filter (λ r. labels_eq r.owner o) rs)) ≡ list_any (λ r. labels_eq r.owner o && eqb r.rtype t) rs
 any_at t o [] = refl

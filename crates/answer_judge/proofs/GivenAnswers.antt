@@ -17,7 +17,7 @@ use Rattle.answer_judge.proofs.AnswerRrsets.{AreNamed}
 use Rattle.answer_judge.proofs.GivenJudged.{judged_given, signer_found, signer_signs, usable_keys}
 use Rattle.answer_judge.proofs.GivenMissing.{every_verdict}
 use Rattle.answer_judge.proofs.GivenVerdict.{IsAnswered}
-use Rattle.records.proofs.ZoneLists.{all_more, all_sorted}
+use Rattle.records.proofs.Lists.{all_more, all_sorted}
 use Rattle.answer_zone.proofs.ZoneRising.{published_from}
 
 named : (rs : List HandedRr) → AllByRecursion IsHanded rs → AreNamed (sorted_records rs)

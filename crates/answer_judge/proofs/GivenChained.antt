@@ -25,7 +25,7 @@ use Rattle.answer_judge.proofs.GivenLists.{has_contained}
 use Rattle.answer_judge.proofs.GivenNext.{canonical_octets}
 use Rattle.answer_judge.proofs.GivenSignatures.{IsSignedBy, verified_given}
 use Rattle.answer_judge.proofs.GivenSorted.{all_has, data_has, sorted_from, sorted_twice}
-use Rattle.records.proofs.ZoneLists.{Has, all_at, all_more, any_from}
+use Rattle.records.proofs.Lists.{Has, all_at, all_more, any_from}
 use Rattle.records.proofs.ZoneNames.{labels_eq-same}
 
 -- ---- the keys of a message
@@ -140,7 +140,7 @@ chained_given a k h rs given =
     let usable : is_usable anchor ≡ true = (all_at IsZoneKey present anchor given.keys_are there).usable in
     let ds : HasDs a h.apex h.ds anchor = all_at (HasDs a h.apex h.ds) given.parents anchor given.ds_is (has_contained given.parents anchor given.meet.at_parent) in
     let trusted : is_trusted a h.apex h.ds anchor ≡ true = trusted_given a h.apex h.ds anchor usable ds in
-    let apart : has_equal_tags keys ≡ false = keys_apart a.verifies k s h.apex present given.keysigners given.keys_at given.life h.dnskey_bytes gives small given.meet.tags in
+    let apart : has_equal_tags keys ≡ false = keys_apart a.verifies k s h.apex present given.keysigners given.keys_at given.life h.dnskey_bytes gives small given.present_tags in
     let kept : Has keys anchor = keys_has a.verifies k s h.apex present given.keysigners given.keys_at given.life h.dnskey_bytes gives small anchor there in
     let datas : map dnskey_data keys ≡ present_data present = keys_data a.verifies k s h.apex present given.keysigners given.keys_at given.life h.dnskey_bytes gives small in
     let w : Trusting = trusting a h (filter (is_trusted a h.apex h.ds) keys) in

@@ -21,7 +21,7 @@ use Rattle.answer_judge.specs.Verified.{Trusting}
 use Rattle.answer_judge.proofs.GivenChained.{chained_given, keys_apart, keys_has, small_flags}
 use Rattle.answer_judge.proofs.GivenKeys.{by_tag-has, find_kept}
 use Rattle.answer_judge.proofs.GivenLists.{has_contained}
-use Rattle.records.proofs.ZoneLists.{Has, all_at}
+use Rattle.records.proofs.Lists.{Has, all_at}
 use Rattle.records.proofs.ZoneNames.{labels_eq-same}
 
 -- ---- no first refusal
@@ -67,7 +67,7 @@ module _ (a : Answers) (k : ℕ) (h : Handing) (rs : List HandedRr) (given : Was
   usable_keys = filter is_usable read_keys
 
   apart : has_equal_tags read_keys ≡ false
-  apart = keys_apart a.verifies k (served_from a h rs) h.apex given.present given.keysigners given.keys_at given.life h.dnskey_bytes given.keys_given (small_flags given.present given.keys_are) given.meet.tags
+  apart = keys_apart a.verifies k (served_from a h rs) h.apex given.present given.keysigners given.keys_at given.life h.dnskey_bytes given.keys_given (small_flags given.present given.keys_are) given.present_tags
 
   asked : (same_question given.keys_given.read.asked (question_of h.apex) && same_question given.answer_given.read.asked h.asked) ≡ true
   asked = and_from _ _ (same_asked given.keys_given.read.asked (question_of h.apex) given.keys_given.name_is given.keys_given.rtype_is given.keys_given.class_is) (same_asked given.answer_given.read.asked h.asked given.answer_given.name_is given.answer_given.rtype_is given.answer_given.class_is)

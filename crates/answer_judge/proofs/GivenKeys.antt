@@ -16,7 +16,7 @@ use Rattle.answer_judge.specs.Judging.{clashes, has_equal_tags}
 use Rattle.answer_zone.specs.Served.{by_tag}
 use Rattle.answer_judge.proofs.GivenLists.{contained_has, has_contained}
 use Rattle.answer_judge.proofs.GivenSorted.{all_has, filter_from, filter_has, find_only, sorted_from, sorted_has}
-use Rattle.records.proofs.ZoneLists.{Has, all_at, all_fail, any_from, found}
+use Rattle.records.proofs.Lists.{Has, all_at, all_fail, any_from, found}
 
 -- ---- the same key
 

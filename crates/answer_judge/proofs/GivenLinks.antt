@@ -16,8 +16,9 @@ use Rattle.answer_zone.specs.Served.{Group}
 use Rattle.answer_judge.specs.Verified.{Trusting, is_link, is_verified, link_at, link_of, rrset_in, verified_links}
 use Rattle.answer_judge.proofs.GivenNext.{nsec_given}
 use Rattle.answer_judge.proofs.GivenRecords.{rrset_given}
+use Rattle.answer_judge.proofs.JudgeCase.{above-owner}
 use Rattle.answer_judge.proofs.GivenSignatures.{IsSignedBy, verified_given}
-use Rattle.records.proofs.ZoneLists.{Has}
+use Rattle.records.proofs.Lists.{Has}
 use Rattle.records.proofs.ZoneNames.{at_or_above-low}
 
 -- ---- one record
@@ -37,9 +38,6 @@ pub record Proves (w : Trusting) (k : ℕ) (m : List ℕ) (rs : List Spelled) (r
   pub proven : link_at w k m rs r ≡ Some link
   pub is : SameLink link l
 
-above_owner : (apex o p : Name) → low o ≡ low p → at_or_above apex p ≡ true → at_or_above apex o ≡ true
-above_owner apex o p e h = sym (at_or_above-low apex o) ∙ ap (at_or_above (low apex)) e ∙ at_or_above-low apex p ∙ h
-
 sorted_one : (d : List ℕ) (ds : List (List ℕ)) → ds ≡ d ∷ [] → sorted_data ds ≡ d ∷ []
 sorted_one d ds e = ap sorted_data e
 
@@ -57,7 +55,7 @@ proves w k m rs apex at life keys gs g key r l d are alone p t says one is =
     let type_is : r.rtype ≡ 47 = is.type_is ∙ t in
     let there : rrset_in k m rs r.owner 47 ≡ d ∷ [] = rrset_given w.answers.verifies k m rs apex at life keys gs r.owner 47 g refl are alone p.by.group t (sym is.owner_is) ∙ sorted_one d g.datas one in
     let verified : is_verified w k m rs r.owner 47 (d ∷ []) ≡ true = ap (is_verified w k m rs r.owner 47) (sym one) ∙ verified_given w k m rs apex at life keys gs r.owner 47 g key are p.by t (sym is.owner_is) in
-    let inside : at_or_above w.apex r.owner ≡ true = ap (λ n. at_or_above n r.owner) p.by.apex_is ∙ above_owner apex r.owner g.owner is.owner_is p.below in
+    let inside : at_or_above w.apex r.owner ≡ true = ap (λ n. at_or_above n r.owner) p.by.apex_is ∙ above-owner apex r.owner g.owner is.owner_is ∙ p.below in
     let linked : is_link w k m rs r ≡ true = and_from _ _ (and_from _ _ (and_from _ _ (and_from _ _ (eq-eqb r.rtype 47 type_is) (eq-eqb r.class 1 is.class_is)) inside) (ap (λ (ds : List (List ℕ)). eqb (length ds) 1) there)) (ap (is_verified w k m rs r.owner 47) there ∙ verified) in
     let datum : d ≡ wire l.next ++ l.bits = head_is d (wire l.next ++ l.bits) (sym one ∙ says.data_are) in
     let reads : nsec_at k m r ≡ Some (l.next, l.bits) = nsec_given k m r l.next l.bits says.labels type_is (is.data_is ∙ ap Some datum) in

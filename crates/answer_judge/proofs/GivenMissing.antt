@@ -34,7 +34,7 @@ use Rattle.answer_judge.proofs.GivenSignatures.{verified_rrset_missing}
 use Rattle.answer_judge.proofs.GivenVerdict.{IsAnswered, given_verdict}
 use Rattle.answer_zone.proofs.ZoneAnswers.{exists_from_has, groups_without_name, verdict_without_name}
 use Rattle.answer_zone.proofs.ZoneChains.{next_is, proofs_are}
-use Rattle.records.proofs.ZoneLists.{Has, all_at}
+use Rattle.records.proofs.Lists.{Has, all_at, eqb-back}
 use Rattle.records.proofs.ZoneNames.{same_labels}
 
 abbrev Pair : Type 0
@@ -90,9 +90,6 @@ imaged f (x ∷ xs) y h = ⊎_elim
 no_rrset : (apex : Name) (rs : List HandedRr) (q : Name) (t : ℕ) → eqb 47 t ≡ false → (ls : List Pair) → list_any (is_rrset q t) (map (record_of apex rs) ls) ≡ false
 no_rrset apex rs q t e [] = refl
 no_rrset apex rs q t e (m ∷ ls) = λ i. (e i && same (record_of apex rs m).owner q) || no_rrset apex rs q t e ls i
-
-eqb-back : (a b : ℕ) → eqb a b ≡ eqb b a
-eqb-back a b = grind arith
 
 -- ---- what a judge reads of them
 

@@ -12,12 +12,10 @@ use Rattle.definitions.proofs.SignedLaws.{Labelled, wire_of}
 use Rattle.records.specs.declared.message.MessageError.{MessageError}
 use Rattle.records.specs.Message.{Spelled, canonical_data, data_of, fault_of, if_true, name_in, ns_data, nsec_at, nsec_data, owner_at, soa_data}
 use Rattle.records.specs.Message as message
-use Rattle.records.proofs.ZoneLists.{all_more}
+use Rattle.records.proofs.Lists.{all_more, some_is}
+use Rattle.records.proofs.NameLabels.{length-range}
 
 -- ---- names that are read have no empty label
-
-length-range : (m : List ℕ) (p n : ℕ) → p + n ≤ length m → length (slice_range m p (p + n)) ≡ n
-length-range m p n h = let e : p + n - p ≡ n = omega arith in rw e (length-take-le n _ (omega (arith, length-drop p m)))
 
 reads_labelled : {m : List ℕ} {p k : ℕ} {ls : Name} → Reads m p k ls → Labelled ls
 reads_labelled (root h) = tt
@@ -32,9 +30,6 @@ read_ok n = Ok n
 
 ok_back : (a b : Name × ℕ) → read_ok a ≡ read_ok b → a ≡ b
 ok_back a b e = cc
-
-some_back : {A : Type 0} (a b : A) → Some a ≡ Some b → a ≡ b
-some_back a b e = cc
 
 abbrev owner_from : Result (Name × ℕ) ReadFault → Result (Name × ℕ) MessageError
 owner_from o = elim o [ Ok r ↦ Ok r | Err f ↦ Err (fault_of f) ]
@@ -51,7 +46,7 @@ abbrev name_upto_from : ℕ → Result (Name × ℕ) MessageError → Option (Na
 name_upto_from limit o = elim o [ Err e ↦ None | Ok n ↦ if_true (leb n.1 limit) n ]
 
 if_true_some : {A : Type 0} (b : Bool) (x y : A) → if_true b x ≡ Some y → x ≡ y
-if_true_some true x y h = some_back x y h
+if_true_some true x y h = some_is x y h
 if_true_some false x y h = cc
 
 upto_ok : (limit : ℕ) (o : Result (Name × ℕ) MessageError) (n : Name × ℕ) → name_upto_from limit o ≡ Some n → o ≡ Ok n
@@ -112,7 +107,7 @@ labels_some n h = all_more IsLabel (λ l. 0 < length l) n (λ l is. is.some) h
 read_back : (k : ℕ) (m : List ℕ) (r : Spelled) (o : Option (Name × List ℕ)) (next : Name) (bits : List ℕ) → Labelled next → nsec_at k m r ≡ o → nsec_joined o ≡ Some (wire next ++ bits) → nsec_at k m r ≡ Some (next, bits)
 read_back k m r None next bits l e h = cc
 read_back k m r (Some n) next bits l e h =
-    let octets : wire n.0 ++ n.1 ≡ wire next ++ bits = some_back (wire n.0 ++ n.1) (wire next ++ bits) h in
+    let octets : wire n.0 ++ n.1 ≡ wire next ++ bits = some_is (wire n.0 ++ n.1) (wire next ++ bits) h in
     let one = wire_of n.0 next n.1 bits (nsec_at_labelled k m r n e) l octets in
     e ∙ (λ i. Some (one.0 i, one.1 i))
 

@@ -14,7 +14,7 @@ use Rattle.answer_judge.specs.GivenGroups.{has_twins, is_rrset}
 use Rattle.records.specs.Message.{Spelled, canonical_data}
 use Rattle.answer_zone.specs.Served.{Group}
 use Rattle.answer_judge.specs.Verified.{datum_of, rrset_in}
-use Rattle.records.proofs.ZoneLists.{Has, any_from}
+use Rattle.records.proofs.Lists.{Has, any_from}
 
 -- ---- one RRset
 

@@ -15,9 +15,9 @@ use Rattle.records.specs.Message.{Spelled, rrsig_at}
 use Rattle.answer_zone.specs.Served.{Group}
 use Rattle.answer_judge.specs.Verified.{Trusting, is_verified, rrset_in, verified_rrset, verifies_with}
 use Rattle.answer_judge.proofs.GivenLists.{has_left, has_right}
-use Rattle.answer_judge.proofs.GivenOwners.{is_verified-low}
+use Rattle.answer_judge.proofs.JudgeCase.{is_verified-owner}
 use Rattle.answer_judge.proofs.GivenRecords.{rrset_given, rrset_missing}
-use Rattle.records.proofs.ZoneLists.{Has, any_from}
+use Rattle.records.proofs.Lists.{Has, any_from}
 use Rattle.records.proofs.ZoneNames.{labels_eq-same, low-low}
 
 -- ---- a signature of each key
@@ -95,7 +95,7 @@ pub verified_given : (w : Trusting) (k : ℕ) (m : List ℕ) (rs : List Spelled)
     → g.rtype ≡ t → low g.owner ≡ low o → is_verified w k m rs o t g.datas ≡ true
 verified_given w k m rs apex at life keys gs o t g key are by f e =
     let s : Signed w.answers.verifies k m rs apex at life g key = signed_in w.answers.verifies k m rs apex at life keys gs g key are by.group by.signed by.signer in
-    is_verified-low w k m rs o g.owner t g.datas (sym e) ∙ ap (λ n. is_verified w k m rs g.owner n g.datas) (sym f)
+    is_verified-owner w k m rs o g.owner t g.datas (sym e) ∙ ap (λ n. is_verified w k m rs g.owner n g.datas) (sym f)
     ∙ any_from (verifies_with w k m g.owner g.rtype g.datas) rs s.spelled s.inside (verifies_by_key w k m s.spelled apex at life g key by.apex_is by.some by.labels by.hold by.found s.is)
 
 -- ---- no data are verified by nothing

@@ -31,7 +31,7 @@ use Rattle.answer_judge.proofs.DenialTypes.{allowed_plain}
 use Rattle.answer_zone.proofs.ZoneAnswers.{groups_found, groups_without_type, verdict_found, verdict_without_type}
 use Rattle.answer_zone.proofs.ZoneChains.{proofs_are}
 use Rattle.answer_zone.proofs.ZoneData.{label_count-low}
-use Rattle.records.proofs.ZoneLists.{Has}
+use Rattle.records.proofs.Lists.{Has, eqb-back}
 
 -- an answer of a zone in order, signed by a key that is trusted, whose signatures hold
 pub record IsAnswered (a : Answers) (k : ℕ) (h : Handing) (usable : List Dnskey) (answer : Message) (hash : Name → List ℕ) (rs : List HandedRr) : Type 0 where
@@ -48,9 +48,6 @@ pub record IsAnswered (a : Answers) (k : ℕ) (h : Handing) (usable : List Dnske
   pub signer : Has keys key
   pub found : (g : Group) → find (fits_key (fields_for h.apex at life g key)) usable ≡ Some key
   pub hold : holds at life h.now ≡ true
-
-eqb-back : (a b : ℕ) → eqb a b ≡ eqb b a
-eqb-back a b = grind arith
 
 -- the RRset that was asked for is there
 pub found_verdict : (a : Answers) (k : ℕ) (h : Handing) (usable : List Dnskey) (answer : Message) (hash : Name → List ℕ) (rs : List HandedRr) → IsAnswered a k h usable answer hash rs → has (zone_with h.apex rs) (low h.asked.name) h.asked.rtype ≡ true

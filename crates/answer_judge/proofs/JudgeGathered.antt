@@ -10,7 +10,7 @@ use Rattle.records.specs.Message.{Spelled}
 use Rattle.messages.specs.Record.{spelled}
 use Rattle.answer_judge.specs.Marked.{has_owner, is_like, are_apart, IsAlone, IsGathered, AreGathered}
 use Rattle.records.proofs.ZoneNames.{same_labels, labels_eq-same}
-use Rattle.records.proofs.ZoneLists.{all_more, take_next}
+use Rattle.records.proofs.Lists.{all_more, take_next}
 use Rattle.answer_judge.proofs.JudgeMarks.{or_true, none_like}
 
 any_push : {X : Type 0} (p : X → Bool) (xs : List X) (x : X) → p x ≡ true → list_any p (xs ++ x ∷ []) ≡ true

@@ -6,7 +6,7 @@ use Rattle.answer_judge.specs.declared.judge.groups.Group.{Group}
 use Rattle.records.specs.Message.{Spelled}
 use Rattle.answer_judge.specs.Verified.{Trusting, is_verified, verifies_with}
 use Rattle.answer_judge.specs.Marked.{data_in, is_like, are_apart, marked_if, marked}
-use Rattle.records.proofs.ZoneLists.{list_any-map}
+use Rattle.records.proofs.Lists.{list_any-map}
 
 -- the item at a place
 pub item_one : {X : Type 0} (xs : List X) (i : ℕ) (x y : X) → i < length xs → x ≡ get_or xs i x → y ≡ get_or xs i y → x ≡ y

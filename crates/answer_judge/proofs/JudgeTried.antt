@@ -11,7 +11,7 @@ use Rattle.answer_judge.specs.Facts.{is_signature, signs, fields_read}
 use Rattle.messages.specs.Record.{signature_of, spelled}
 use Rattle.messages.specs.declared.view.ViewRecord.{ViewRecord}
 use Rattle.std.proofs.lemmas.List.{drop_all}
-use Rattle.records.proofs.ZoneLists.{items_from}
+use Rattle.records.proofs.Lists.{items_from}
 use Rattle.messages.specs.declared.rdata.RrsigView.{RrsigView}
 use Rattle.answer_judge.proofs.JudgeCase.{signs-signer}
 use Rattle.records.specs.Message.{Spelled, rrsig_at}

@@ -13,7 +13,6 @@ pub mod DenialDecided
 pub mod AnswerRrsets
 pub mod DenialNames
 pub mod DenialNoName
-pub mod GivenOwners
 pub mod GivenLists
 pub mod GivenRecords
 pub mod GivenSignatures

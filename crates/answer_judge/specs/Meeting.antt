@@ -30,8 +30,7 @@ pub record IsZoneKey (k : Dnskey) : Type 0 where
   pub flags : k.flags < 65536
   pub usable : is_usable k ≡ true
 
--- One key is at the parent, present, and signs the keys; one is present and signs the zone; the tags of the keys that
--- are present differ.
+-- one key is at the parent, present, and signs the keys; one is present and signs the zone
 pub record Meet (parents present keysigners zonesigners : List Dnskey) : Type 0 where
   pub anchor : Dnskey
   pub at_parent : Contains parents anchor
@@ -40,7 +39,6 @@ pub record Meet (parents present keysigners zonesigners : List Dnskey) : Type 0 
   pub signer : Dnskey
   pub signer_present : Contains present signer
   pub signs_zone : Contains zonesigners signer
-  pub tags : has_equal_tags present ≡ false
 
 -- signatures of a moment hold at another (RFC 4034, 3.1.5)
 abbrev pub holds : ℕ → ℕ → ℕ → Bool
@@ -72,6 +70,7 @@ pub record WasGiven (a : Answers) (k : ℕ) (h : Handing) (rs : List HandedRr) :
   pub keys_are : AllByRecursion IsZoneKey present
   pub ds_is : AllByRecursion (HasDs a h.apex h.ds) parents
   pub meet : Meet parents present keysigners zonesigners
+  pub present_tags : has_equal_tags present ≡ false
   pub keysigner_tags : has_equal_tags keysigners ≡ false
   pub zonesigner_tags : has_equal_tags zonesigners ≡ false
   pub keys_given : GivesKeys a.verifies k (served_from a h rs) h.apex present keysigners keys_at life h.dnskey_bytes

@@ -1,16 +1,17 @@
 //! Judging a zone answer from bytes alone (RFC 4035, 5).
-ghost use Rattle.std.specs.Prelude.{◌≡◌, ◌==◌, ℕ, ◌+◌, ◌<◌, ◌≤◌, ◌^◌, List, [], Option, IfOk, IfErr, OnOk, length, map, filter, true, false};
+ghost use Rattle.std.specs.Prelude.{◌≡◌, ◌==◌, ◌+◌, ◌<◌, ◌≤◌, ◌^◌, [], IfOk, IfErr, OnOk, length, map, filter, true, false};
 ghost use Rattle.definitions.specs.Dnskey.{dnskey_data};
 ghost use Rattle.definitions.specs.Zone.{sorted_data};
+ghost use Rattle.messages.specs.Questions.{asked_of};
 ghost use Rattle.messages.specs.Record.{spelled};
 ghost use Rattle.answer_judge.specs.Verified.{is_verified};
 ghost use Rattle.answer_judge.specs.Marked.{held_by};
 ghost use Rattle.records.specs.Message.{message};
 ghost use Rattle.records.specs.View.{Gives};
-ghost use Rattle.answer_judge.specs.Facts.{Link, is_signature, decided, RefusesFirst, handed};
+ghost use Rattle.answer_judge.specs.Facts.{is_signature, RefusesFirst, handed};
 ghost use Rattle.answer_judge.specs.Judged.{judged, judged_beyond, said, AnswersAs};
 ghost use Rattle.answer_judge.specs.Meeting.{AnswersGiven};
-ghost use Rattle.answer_judge.specs.Judging.{Judges, verdict_of, answer_of, verifications_of, hashes_of, is_allowed, is_first, message_refusal, same_question, verification_bound};
+ghost use Rattle.answer_judge.specs.Judging.{Judges, answer_of, verifications_of, hashes_of, is_allowed, is_first, message_refusal, same_question, verification_bound};
 
 mod decide;
 mod facts;
@@ -51,36 +52,12 @@ pub fn judge<C: Checks>(
     limit: u16,
 ) -> Result<Judgement, Refused>
     ensures judges { Judges 0
-        (record {
-          apex = apex.now;
-          ds = ds.now;
-          dnskey_bytes = dnskey_bytes.now;
-          answer_bytes = answer_bytes.now;
-          asked = record { name = question.now.name; rtype = question.now.rtype; class = question.now.class };
-          now = now;
-          limit = limit;
-        })
+        (handed apex.now ds.now dnskey_bytes.now answer_bytes.now (asked_of question.now) now limit)
         (answer_of result) (verifications_of result) (hashes_of result) }
     ensures exact { AnswersAs (answer_of result) (judged (C.answers checks.old) 0
-        (record {
-          apex = apex.now;
-          ds = ds.now;
-          dnskey_bytes = dnskey_bytes.now;
-          answer_bytes = answer_bytes.now;
-          asked = record { name = question.now.name; rtype = question.now.rtype; class = question.now.class };
-          now = now;
-          limit = limit;
-        })) }
+        (handed apex.now ds.now dnskey_bytes.now answer_bytes.now (asked_of question.now) now limit)) }
     ensures given { AnswersGiven (C.answers checks.old) 0
-        (record {
-          apex = apex.now;
-          ds = ds.now;
-          dnskey_bytes = dnskey_bytes.now;
-          answer_bytes = answer_bytes.now;
-          asked = record { name = question.now.name; rtype = question.now.rtype; class = question.now.class };
-          now = now;
-          limit = limit;
-        })
+        (handed apex.now ds.now dnskey_bytes.now answer_bytes.now (asked_of question.now) now limit)
         (answer_of result) }
     ensures verified { C.verified checks.new ≡ C.verified checks.old + verifications_of result }
     ensures hashed { C.hashed checks.new ≡ C.hashed checks.old + hashes_of result }
@@ -128,7 +105,7 @@ pub fn judge<C: Checks>(
 /// Whether a question is answered and judged: class IN, at or below the apex, and none of the types that signing
 /// adds, of aliases, or that no zone holds (RFC 6895, 3.1).
 pub fn is_allowed(apex: &Name, question: &Question) -> bool
-    ensures { result ≡ is_allowed apex.now (record { name = question.now.name; rtype = question.now.rtype; class = question.now.class }) }
+    ensures { result ≡ is_allowed apex.now (asked_of question.now) }
 {
     question.class == Class::IN
         && question.name.ends_with(apex)
@@ -153,12 +130,11 @@ fn judge_messages<C: Checks>(
 ) -> Result<Verdict, Refusal>
     requires counts { count.old ≡ 0 }
     requires other { (question.now.rtype == 47) ≡ false }
-    ensures exact { AnswersAs (said result) (judged_beyond (C.answers checks.old) 0 (handed apex.now ds.now dnskey_bytes.now answer_bytes.now (record { name = question.now.name; rtype = question.now.rtype; class = question.now.class }) now 0)) }
-    ensures verdict { OnOk result (message_refusal 0 (handed apex.now ds.now dnskey_bytes.now answer_bytes.now (record { name = question.now.name; rtype = question.now.rtype; class = question.now.class }) now 0) ≡ None) }
-    ensures refusal { IfErr result (λ e. RefusesFirst e (message_refusal 0 (handed apex.now ds.now dnskey_bytes.now answer_bytes.now (record { name = question.now.name; rtype = question.now.rtype; class = question.now.class }) now 0))) }
-    ensures decided { IfOk result (λ v. (answer : Option (List (List ℕ))) × (links : List Link) × (decided apex.now answer links question.now.name question.now.rtype ≡ Some (verdict_of v))) }
+    ensures exact { AnswersAs (said result) (judged_beyond (C.answers checks.old) 0 (handed apex.now ds.now dnskey_bytes.now answer_bytes.now (asked_of question.now) now 0)) }
+    ensures verdict { OnOk result (message_refusal 0 (handed apex.now ds.now dnskey_bytes.now answer_bytes.now (asked_of question.now) now 0) ≡ None) }
+    ensures refusal { IfErr result (λ e. RefusesFirst e (message_refusal 0 (handed apex.now ds.now dnskey_bytes.now answer_bytes.now (asked_of question.now) now 0))) }
     ensures counted { C.verified checks.new ≡ C.verified checks.old + count.new }
-    ensures bound { count.new ≤ verification_bound 0 (handed apex.now ds.now dnskey_bytes.now answer_bytes.now (record { name = question.now.name; rtype = question.now.rtype; class = question.now.class }) now 0) }
+    ensures bound { count.new ≤ verification_bound 0 (handed apex.now ds.now dnskey_bytes.now answer_bytes.now (asked_of question.now) now 0) }
     ensures hashed { C.hashed checks.new ≡ C.hashed checks.old }
     ensures same { C.answers checks.new ≡ C.answers checks.old }
 {
@@ -223,10 +199,10 @@ fn read_messages<'a>(
     ensures keys { IfOk result (λ v. message 0 dnskey_bytes.now ≡ Ok v.0) }
     ensures answer { IfOk result (λ v. message 0 answer_bytes.now ≡ Ok v.1) }
     ensures asks_keys { IfOk result (λ v. same_question v.0.asked (record { name = apex.now; rtype = 48; class = 1 }) ≡ true) }
-    ensures asks_answer { IfOk result (λ v. same_question v.1.asked (record { name = question.now.name; rtype = question.now.rtype; class = question.now.class }) ≡ true) }
+    ensures asks_answer { IfOk result (λ v. same_question v.1.asked (asked_of question.now) ≡ true) }
     ensures first { IfErr result (λ e. is_first e ≡ true) }
     ensures few { IfOk result (λ v. length v.0.records + length v.1.records ≤ 393210) }
-    ensures refusal { IfErr result (λ e. RefusesFirst e (message_refusal 0 (handed apex.now [] dnskey_bytes.now answer_bytes.now (record { name = question.now.name; rtype = question.now.rtype; class = question.now.class }) 0 0))) }
+    ensures refusal { IfErr result (λ e. RefusesFirst e (message_refusal 0 (handed apex.now [] dnskey_bytes.now answer_bytes.now (asked_of question.now) 0 0))) }
 {
     let keys = read_counted(dnskey_bytes).map_err(|_| Refusal::BadDnskeyMessage)?;
     let answer = read_counted(answer_bytes).map_err(|_| Refusal::BadAnswerMessage)?;

@@ -3,14 +3,14 @@ use Rattle.std.proofs.Common.{◌≡◌, ◌⊎◌, Bool, true, false, ◌&&◌,
 use Rattle.std.specs.declared.cmp.Ordering.TheVariants.{Less, Equal, Greater}
 use Rattle.std.specs.List.{AllByRecursion, filter}
 use Rattle.std.specs.Ordering.{is_lt}
-use Rattle.std.proofs.lemmas.Bool.{false_from_ne_true}
+use Rattle.std.proofs.lemmas.Bool.{false_from_ne_true, or_right}
 use Rattle.std.proofs.lemmas.Cmp.{tied_itself}
 use Rattle.definitions.specs.Name.{Name, low, labels_eq, same, name_cmp}
 use Rattle.definitions.specs.Covering.{before, covers}
 use Rattle.answer_zone.specs.Links.{link_speaks, pairs}
 use Rattle.answer_zone.specs.ZoneView.{name_cmp_total}
 use Rattle.answer_zone.proofs.ZoneChains.{Climbs, greater_back, greater_trans, less_back}
-use Rattle.records.proofs.ZoneLists.{Has}
+use Rattle.records.proofs.Lists.{Has}
 use Rattle.records.proofs.ZoneNames.{labels_eq-same, low_from_Equal, name_cmp-same, same_labels}
 
 -- a name in lower case
@@ -40,17 +40,10 @@ at_end apex q o n l s =
     let u : labels_eq o q ≡ false = unlike o q (λ e. cc) in
     λ i. (u i || (is_lt (l i) && (s i || before q n))) || false
 
-either : (a : Bool) → (a || true) ≡ true
-either true = refl
-either false = refl
-
-neither : (a : Bool) → a ≡ false → ((a || false) || false) ≡ false
-neither a e = ap (λ x. (x || false) || false) e
-
 between : (apex q o n : Name) → name_cmp o q ≡ Less → name_cmp q n ≡ Less → speaks apex q (o, n) ≡ true
 between apex q o n l m =
     let u : labels_eq o q ≡ false = unlike o q (λ e. cc) in
-    (λ i. (u i || (is_lt (l i) && (same n (low apex) || is_lt (m i)))) || false) ∙ ap (λ b. b || false) (either (same n (low apex)))
+    (λ i. (u i || (is_lt (l i) && (same n (low apex) || is_lt (m i)))) || false) ∙ ap (λ b. b || false) (or_right (same n (low apex)) true refl)
 
 not_less : (p : Ordering) → (p ≡ Less → ⊥) → is_lt p ≡ false
 not_less Less n = absurd (n refl)

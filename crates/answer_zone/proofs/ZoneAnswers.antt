@@ -14,7 +14,7 @@ use Rattle.answer_zone.specs.Served.{Group, Served, ahead, answer_groups, chain_
 use Rattle.answer_zone.specs.declared.fault.Mode as declared
 use Rattle.answer_zone.specs.declared.fault.Mode.TheVariants as variant
 use Rattle.answer_zone.specs.ZoneView.{IsPublished, is_of, mode_of}
-use Rattle.records.proofs.ZoneLists.{all_at, any_from, found}
+use Rattle.records.proofs.Lists.{all_at, any_from, found}
 use Rattle.records.proofs.ZoneNames.{at_or_above-low, labels_eq-same, same_labels}
 use Rattle.answer_zone.proofs.ZoneServed.{exists_is, has_is, verdict_at, verdict_none}
 

@@ -6,7 +6,7 @@ use Rattle.std.proofs.lemmas.Bool.{false_from_ne_true, false≢true}
 use Rattle.std.proofs.lemmas.Grind.{flat_map-append}
 use Rattle.std.proofs.lemmas.List.{map-append, append-nil, length-map}
 use Rattle.definitions.specs.Bitmap.{below, bitmap, octet_of, trimmed, window, window_octets, window_size, window_count}
-use Rattle.records.proofs.ZoneLists.{found, any_from}
+use Rattle.records.proofs.Lists.{found, any_from}
 
 add_up : (b0 b1 b2 b3 b4 b5 b6 b7 c0 c1 c2 c3 c4 c5 c6 c7 : ℕ) → b0 ≡ c0 → b1 ≡ c1 → b2 ≡ c2 → b3 ≡ c3 → b4 ≡ c4 → b5 ≡ c5 → b6 ≡ c6 → b7 ≡ c7
     → b0 + b1 + b2 + b3 + b4 + b5 + b6 + b7 ≡ 0 + c0 + c1 + c2 + c3 + c4 + c5 + c6 + c7

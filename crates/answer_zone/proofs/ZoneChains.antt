@@ -169,13 +169,13 @@ below_cases r s Greater e h = cc
 name_below : (r s : HandedRr) → record_cmp r s ≡ Less → (low s.owner ≡ low r.owner) ⊎ (name_cmp (low s.owner) (low r.owner) ≡ Greater)
 name_below r s e = below_cases r s (name_cmp r.owner s.owner) refl e
 
-rising_parts : (x : HandedRr) (xs : List HandedRr) → IsStrictlySortedBy record_cmp (x ∷ xs) → AllByRecursion (λ y. record_cmp x y ≡ Less) xs × IsStrictlySortedBy record_cmp xs
+pub rising_parts : {A : Type 0} (cmp : A → A → Ordering) (x : A) (xs : List A) → IsStrictlySortedBy cmp (x ∷ xs) → AllByRecursion (λ y. cmp x y ≡ Less) xs × IsStrictlySortedBy cmp xs
 unfolding IsStrictlySortedBy
-rising_parts x xs s = s
+rising_parts cmp x xs s = s
 
 pub owners_climb : (r : HandedRr) (rs : List HandedRr) → IsStrictlySortedBy record_cmp (r ∷ rs) → Climbs name_cmp (low r.owner) (map (λ s. low s.owner) rs)
 owners_climb r [] h = tt
-owners_climb r (s ∷ rs) h = let p = rising_parts r (s ∷ rs) h in (name_below r s p.0.0, owners_climb s rs p.1)
+owners_climb r (s ∷ rs) h = let p = rising_parts record_cmp r (s ∷ rs) h in (name_below r s p.0.0, owners_climb s rs p.1)
 
 in_order : (apex : Name) (rs : List HandedRr) → IsStrictlySortedBy record_cmp rs → sort_by name_cmp (map (λ r. low r.owner) rs) ≡ map (λ (m : Name × Name). m.0) (record_links (low apex) rs)
 in_order apex [] h = refl

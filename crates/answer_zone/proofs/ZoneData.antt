@@ -22,6 +22,7 @@ use Rattle.answer_zone.specs.Served.{owner_among, spelled_among}
 use Rattle.answer_zone.specs.ZoneView.{is_of}
 use Rattle.answer_zone.proofs.ZoneChains.{Climbs, less_back, sort_by_climbing, tidy}
 use Rattle.records.proofs.ZoneNames.{low-low, name_cmp-same, same_labels}
+use Rattle.records.proofs.Lists.{both_ways, map-map}
 
 eq_from : (a b : ℕ) → eqb a b ≡ true → a ≡ b
 eq_from a b e = grind arith
@@ -32,10 +33,6 @@ filter-map {A} {B} p f (x ∷ xs) =
     let rest : List A = filter (λ y. p (f y)) xs in
     ap (λ ys. cond (p (f x)) (f x ∷ ys) ys) (filter-map p f xs)
     ∙ elim (p (f x)) as (λ b. cond b (f x ∷ map f rest) (map f rest) ≡ map f (cond b (x ∷ rest) rest)) [ true ↦ refl | false ↦ refl ]
-
-map-map : {A B C : Type 0} (g : B → C) (f : A → B) (xs : List A) → map g (map f xs) ≡ map (λ x. g (f x)) xs
-map-map g f [] = refl
-map-map g f (x ∷ xs) = ap (λ ys. g (f x) ∷ ys) (map-map g f xs)
 
 -- the types at an owner
 pub types_are_of : (apex : Name) (rs : List HandedRr) (q : Name) → map (λ r. r.rtype) (filter (λ r. same r.owner q) rs) ≡ types_at (zone_with apex rs) (low q)
@@ -137,11 +134,6 @@ star_from : (l : List ℕ) → str_to_ascii_lowercase l ≡ 42 ∷ [] → l ≡ 
 star_from [] e = cc
 star_from (c ∷ []) e = let h : to_ascii_lowercase c ≡ 42 = cc in ap (λ x. x ∷ []) (lower_star c h)
 star_from (c ∷ d ∷ l) e = cc
-
-both_ways : (a b : Bool) → (a ≡ true → b ≡ true) → (b ≡ true → a ≡ true) → a ≡ b
-both_ways true b f g = sym (f refl)
-both_ways false true f g = g refl
-both_ways false false f g = refl
 
 star_low : (l : List ℕ) → bytes_eq (str_to_ascii_lowercase l) (42 ∷ []) ≡ bytes_eq l (42 ∷ [])
 star_low l =

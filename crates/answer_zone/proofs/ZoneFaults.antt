@@ -9,7 +9,7 @@ use Rattle.answer_zone.specs.declared.fault.ZoneFault.TheVariants as fault
 use Rattle.records.specs.HandedRr.{HandedRr, has_star, is_star, is_meta, among}
 use Rattle.answer_zone.specs.Accepting.{record_cmp, sorted_records, zone_of, first_fault, has_unlike_ttls, unlike_ttls, over_limit}
 use Rattle.records.specs.Neighbours.{neighbours}
-use Rattle.records.proofs.ZoneLists.{all_pass, all_fail, all_sorted}
+use Rattle.records.proofs.Lists.{all_pass, all_fail, all_sorted}
 use Rattle.answer_zone.proofs.ZoneTtls.{unlike_anywhere}
 use Rattle.answer_zone.proofs.ZoneServed.{unlike_kept}
 

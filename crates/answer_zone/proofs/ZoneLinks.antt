@@ -16,6 +16,7 @@ use Rattle.answer_zone.specs.Links.{Joins, chosen, link_group, link_speaks, pair
 use Rattle.answer_zone.specs.ZoneView.{name_cmp_total}
 use Rattle.records.proofs.ZoneNames.{labels_eq-same, same_labels, low_from_Equal, name_cmp-low, name_cmp-same, same-low}
 use Rattle.answer_zone.proofs.ZoneServed.{ahead_is}
+use Rattle.records.proofs.Lists.{zip_append}
 
 pub speaks_equal : (apex owner next q : Name) → name_cmp owner q ≡ Equal → true ≡ (same owner q || covers (low apex) (low owner) (low next) (low q))
 speaks_equal apex owner next q e = sym (ap (λ b. b || covers (low apex) (low owner) (low next) (low q)) (labels_eq-same (low owner) (low q) (low_from_Equal owner q e)))
@@ -44,12 +45,6 @@ speaks_less apex owner next q e s = sym (speaks_parts apex owner next q Less (λ
 -- nothing more, one part more
 pub adds_none : (old : List GroupView) → Adds old old []
 adds_none old = ([], tt, sym (append-nil old))
-
-zip_append : {A B : Type 0} (R : A → B → Type 0) (xs : List A) (ys : List B) (zs : List A) (ws : List B) → AllZip R xs ys → AllZip R zs ws → AllZip R (xs ++ zs) (ys ++ ws)
-zip_append R [] [] zs ws h k = k
-zip_append R (x ∷ xs) (y ∷ ys) zs ws h k = (h.0, zip_append R xs ys zs ws h.1 k)
-zip_append R [] (y ∷ ys) zs ws h k = absurd h
-zip_append R (x ∷ xs) [] zs ws h k = absurd h
 
 pub adds_then : (a b c : List GroupView) (gs hs : List Group) → Adds a b gs → Adds b c hs → Adds a c (gs ++ hs)
 adds_then a b c gs hs h k =

@@ -11,7 +11,7 @@ use Rattle.records.specs.HandedRr.{HandedRr, has_star}
 use Rattle.answer_zone.specs.Accepting.{soas, rr_of, zone_with, has_unlike_ttls, unlike_ttls}
 use Rattle.answer_zone.specs.Served.{chain_ttl, chain_ttl_of, minimum_of, owner_among, ttl_among, spelled_among}
 use Rattle.answer_zone.specs.ZoneView.{is_of}
-use Rattle.records.proofs.ZoneLists.{found, all_at, all_more, filter_all, list_any-map}
+use Rattle.records.proofs.Lists.{found, all_at, all_more, filter_all, list_any-map}
 use Rattle.records.proofs.ZoneNames.{same_labels, at_or_above-low, strictly_above-low}
 
 abbrev Plain : Name → List HandedRr → Type 0

@@ -13,7 +13,7 @@ use Rattle.records.specs.HandedRr.{HandedRr}
 use Rattle.answer_zone.specs.Accepting.{record_cmp, unlike_ttls}
 use Rattle.answer_zone.specs.ZoneView.{name_cmp_total}
 use Rattle.records.specs.Neighbours.{neighbours}
-use Rattle.records.proofs.ZoneLists.{Has, found, any_from, all_at}
+use Rattle.records.proofs.Lists.{Has, found, any_from, all_at}
 use Rattle.records.proofs.ZoneNames.{same_labels, labels_eq-same, low_from_Equal, name_cmp-same}
 
 -- by owner and type

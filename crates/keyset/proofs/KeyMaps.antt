@@ -17,6 +17,7 @@ use Rattle.keyset.specs.declared.rolls.RollType.{RollType}
 use Rattle.keyset.specs.declared.rolls.RollType.TheVariants.{AlgorithmRoll}
 use Rattle.keyset.specs.KeyState.{Reference, by_reference, by_kind, reference_cmp, kind_cmp, index_of, greatest, without}
 use Rattle.keyset.proofs.KeyOrder.{find-in_order, in_order-put, in_order-where_key, in_order-map, in_order-permutes, greatest-IsPermutation}
+use Rattle.records.proofs.Lists.{list_any-map, map-map}
 
 reference_same : IsAntisymmetric reference_cmp
 reference_same = slice_cmp-IsAntisymmetric nat_cmp-IsAntisymmetric
@@ -37,14 +38,6 @@ by_reference-map g es = in_order-map reference_cmp string_bytes nat_list_cmp_tot
 -- the list has the entries of the map, where no two keys are equal
 pub by_reference-permutes : {A X : Type 0} (es : List (String A × X)) → IsDistinct string_eq (keys_of es) → IsPermutation (map (λ e. (string_bytes e.0, e.1)) es) (by_reference es)
 by_reference-permutes es h = in_order-permutes reference_cmp string_bytes nat_list_cmp_total string_eq (λ x y. texts_ties (string_bytes x) (string_bytes y)) es h
-
-pub list_any-map : {X Y : Type 0} (p : Y → Bool) (f : X → Y) (xs : List X) → list_any p (map f xs) ≡ list_any (λ x. p (f x)) xs
-list_any-map p f [] = refl
-list_any-map p f (x ∷ xs) = ap (λ b. p (f x) || b) (list_any-map p f xs)
-
-map-map : {X Y Z : Type 0} (g : Y → Z) (f : X → Y) (xs : List X) → map g (map f xs) ≡ map (λ x. g (f x)) xs
-map-map g f [] = refl
-map-map g f (x ∷ xs) = ap (λ ys. g (f x) ∷ ys) (map-map g f xs)
 
 list_any-values_of : {K X : Type 0} (p : X → Bool) (es : List (K × X)) → list_any p (values_of es) ≡ list_any (λ e. p e.1) es
 list_any-values_of p [] = refl

@@ -1,6 +1,6 @@
 pub mod MessageBitmap
 pub mod MessageRecords
-pub mod JudgeRecords
+pub mod CountedRecords
 pub mod MessageWritten
 pub mod MessageWhole
 pub mod MessageSignatures

@@ -5,5 +5,5 @@ pub mod NameLaws
 pub mod NameWalk
 pub mod NameWritten
 pub mod ZoneNames
-pub mod ZoneLists
-pub mod WritesHanded
+pub mod Lists
+pub mod HandedData

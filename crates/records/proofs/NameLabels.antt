@@ -34,7 +34,7 @@ taken : {A : Type 0} (b : Bool) (x y : A) → if_true b x ≡ Some y → (b ≡ 
 taken true x y h = (refl, cc)
 taken false x y h = cc
 
-length-range : (m : List ℕ) (p n : ℕ) → p + n ≤ length m → length (slice_range m p (p + n)) ≡ n
+pub length-range : (m : List ℕ) (p n : ℕ) → p + n ≤ length m → length (slice_range m p (p + n)) ≡ n
 length-range m p n h = let e : p + n - p ≡ n = omega arith in rw e (length-take-le n _ (omega (arith, length-drop p m)))
 
 abbrev tests : List ℕ → ℕ → ℕ → Bool

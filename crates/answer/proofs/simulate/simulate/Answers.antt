@@ -35,10 +35,8 @@ returns-clause-simulates g c =
     at_end there (begin c.args.apex) c.args.events.now c.loop-event.outcomes.items c.loop-event.event-index (sofar run.publisher.keys run.shown.items) c.loop-event-test.false c.loop-event.invariant.follows
 
 pub returns-clause-one_state : goal.returns-clause-one_state
-returns-clause-one_state g c =
+returns-clause-one_state g c = λ end run.
     let rs = map handed_of c.args.records.items in
     let there : World = world (record { apex = c.args.apex; mode = mode_of c.args.mode; limit = c.args.limit; records = sorted_records (map handed_of c.args.records.items) }) c.args.life (g.S.Scheme.signature_of c.args.scheme.now) (g.S.Scheme.verifies c.args.scheme.now) (g.S.Scheme.digest_of c.args.scheme.now) (g.H.Nsec3Hasher.hash_of c.args.hasher.now) in
-    let run = c.loop-event.run in
-    let end = at_end there (begin c.args.apex) c.args.events.now c.loop-event.outcomes.items c.loop-event.event-index (sofar run.publisher.keys run.shown.items) c.loop-event-test.false c.loop-event.invariant.follows in
     let zone = zone_known c.args.apex c.args.mode c.args.limit rs c.args.life there.sign there.answers c.in_ok-publisher.ensures.accepted c.in_ok-publisher.ensures.handed.0 c.in_ok-publisher.ensures.handed.1 in
-    (end.0, end.1, along_all there rs c.args.events.now c.loop-event.outcomes.items end.0 end.1 zone)
+    along_all there rs c.args.events.now c.loop-event.outcomes.items end run zone

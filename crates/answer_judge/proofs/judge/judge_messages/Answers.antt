@@ -8,7 +8,7 @@ use Rattle.answer_judge.specs.Judging.{message_refusal, keys_in, verdict_of}
 use Rattle.answer_judge.specs.Judged.{trusting, keys_of, judged_beyond, said, AnswersAs}
 use Rattle.messages.specs.Record.{spelled}
 use Rattle.answer_judge.specs.Verified.{is_verified, verified_rrset, verified_links}
-use Rattle.messages.proofs.JudgeRecords.{same_count}
+use Rattle.messages.proofs.CountedRecords.{same_count}
 use Rattle.answer_judge.proofs.JudgeWhole.{beyond, chained_as, usable_as, untrusted, decided_as, answered}
 use Rattle.answer_judge.proofs.judge.judge_messages.Goals as goal
 

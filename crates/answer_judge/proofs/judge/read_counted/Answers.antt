@@ -1,4 +1,4 @@
-use Rattle.messages.proofs.JudgeRecords.{few_read}
+use Rattle.messages.proofs.CountedRecords.{few_read}
 use Rattle.answer_judge.proofs.judge.read_counted.Goals as goal
 
 pub returns-clause-few : goal.returns-clause-few

@@ -3,8 +3,9 @@ use Rattle.std.specs.Prelude.{string_bytes}
 use Rattle.std.proofs.lemmas.Iterator.Search.{any_from_yields_List}
 use Rattle.std.proofs.lemmas.Iterator.Consumers.{YieldsList-from_rest}
 use Rattle.keyset.specs.KeyState.{Reference, Key, by_reference, listed, texts, started_key, zsk_is, current, is_present}
-use Rattle.keyset.proofs.KeyMaps.{any-by_reference, list_any-map}
+use Rattle.keyset.proofs.KeyMaps.{any-by_reference}
 use Rattle.keyset.proofs.maps.has_zsk_after_start.Goals as goal
+use Rattle.records.proofs.Lists.{list_any-map}
 
 pub returns : goal.returns
 returns c now =

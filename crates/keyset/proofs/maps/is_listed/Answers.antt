@@ -2,8 +2,8 @@ use Rattle.std.proofs.Common.{◌∙◌, sym, rules, tests, Bor, List, ℕ}
 use Rattle.std.specs.Str.{bytes_eq}
 use Rattle.std.proofs.lemmas.Iterator.{YieldsList-from_slice}
 use Rattle.std.proofs.lemmas.Iterator.Search.{any_from_yields_List}
-use Rattle.keyset.proofs.KeyMaps.{list_any-map}
 use Rattle.keyset.proofs.maps.is_listed.Goals as goal
+use Rattle.records.proofs.Lists.{list_any-map}
 
 pub returns : goal.returns
 returns c =

@@ -2,7 +2,7 @@ use Rattle.std.proofs.Common.{◌≡◌, [], ◌∷◌, ◌++◌, map, sym, ap, 
 use Rattle.definitions.specs.Signing.{label_count}
 use Rattle.answer_zone.specs.Served.{chain_ttl, spelled_among}
 use Rattle.definitions.specs.Name.{low}
-use Rattle.records.proofs.ZoneLists.{same_octets}
+use Rattle.records.proofs.Lists.{same_octets}
 use Rattle.answer_zone.proofs.ZoneData.{label_count-low, low-spelled_among}
 use Rattle.answer_zone.proofs.zone.ZoneRecords.nsec.Goals as goal
 

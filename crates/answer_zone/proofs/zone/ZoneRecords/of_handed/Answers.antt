@@ -4,7 +4,7 @@ use Rattle.records.specs.Handed.{IsHanded}
 use Rattle.answer_zone.specs.ZoneView.{mode_of}
 use Rattle.records.specs.Neighbours.{neighbours}
 use Rattle.definitions.specs.ZoneChain.{optout_of}
-use Rattle.records.proofs.ZoneLists.{all_sorted}
+use Rattle.records.proofs.Lists.{all_sorted}
 use Rattle.answer_zone.proofs.ZoneFaults.{plain_from_none, unlike_ttls_are}
 use Rattle.answer_zone.proofs.zone.ZoneRecords.of_handed.Goals as goal
 

@@ -1,7 +1,7 @@
 use Rattle.std.proofs.Common.{◌≡◌, ◌-◌, ◌+◌, false, drop, sym, ap, ◌∙◌, arith}
 use Rattle.answer_zone.specs.Accepting.{unlike_ttls}
 use Rattle.records.specs.Neighbours.{neighbours}
-use Rattle.records.proofs.ZoneLists.{neighbours_at, neighbours_short}
+use Rattle.records.proofs.Lists.{neighbours_at, neighbours_short}
 use Rattle.answer_zone.proofs.zone.sorting.has_unlike_neighbours.Goals as goal
 
 pub loop-i-preserved : goal.loop-i-preserved

@@ -2,7 +2,7 @@ use Rattle.std.proofs.Common.{[], ◌∷◌, sym, ◌∙◌, rules, tests}
 use Rattle.std.specs.Str.{bytes_eq}
 use Rattle.std.proofs.lemmas.Iterator.{YieldsList-from_slice}
 use Rattle.std.proofs.lemmas.Iterator.Search.{any_from_yields_List}
-use Rattle.records.proofs.ZoneLists.{list_any-map}
+use Rattle.records.proofs.Lists.{list_any-map}
 use Rattle.records.proofs.names.Name.has_star.Goals as goal
 
 pub returns : goal.returns

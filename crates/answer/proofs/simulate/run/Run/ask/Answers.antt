@@ -3,7 +3,7 @@ use Rattle.std.proofs.lemmas.Bool.{true_from_ne_false}
 use Rattle.std.proofs.lemmas.List.{length-map}
 use Rattle.messages.specs.Questions.{asked_of}
 use Rattle.answer.proofs.RunShown.{shown_more, same_question}
-use Rattle.records.proofs.ZoneLists.{same_octets}
+use Rattle.records.proofs.Lists.{same_octets}
 use Rattle.answer.proofs.simulate.run.Run.ask.Goals as goal
 
 pub returns-in_ok-push-in-Ok-clause-step : goal.returns-in_ok-push-in-Ok-clause-step

@@ -2,7 +2,7 @@ use Rattle.std.proofs.Common.{rules, ap}
 use Rattle.std.proofs.lemmas.List.{length-map}
 use Rattle.answer.specs.Simulating.{OfKeys}
 use Rattle.answer.proofs.RunShown.{shown_more}
-use Rattle.records.proofs.ZoneLists.{same_octets}
+use Rattle.records.proofs.Lists.{same_octets}
 use Rattle.answer.proofs.simulate.run.Run.show_dnskey.Goals as goal
 
 pub returns-in_ok-push-in-Ok-clause-step : goal.returns-in_ok-push-in-Ok-clause-step

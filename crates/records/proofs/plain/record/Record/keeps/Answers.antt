@@ -1,5 +1,5 @@
 use Rattle.std.proofs.Common.{◌<◌, rules, subst, ◌∙◌}
-use Rattle.records.proofs.WritesHanded.{handed_from}
+use Rattle.records.proofs.HandedData.{handed_from}
 use Rattle.records.proofs.plain.record.Record.keeps.Goals as goal
 
 pub returns : goal.returns

@@ -1,6 +1,6 @@
 -- Lists, their items, and tests of them.
 use Rattle.std.proofs.lemmas.List.{map-id, take_more}
-use Rattle.std.proofs.Common.{◌++◌, take, ◌≡◌, ℕ, suc, ◌+◌, ◌-◌, ◌<◌, ◌≤◌, length, drop, get_or, arith, add-one, drop-cons, length-drop, Bool, true, false, ◌||◌, not, List, [], ◌∷◌, map, ◌⊎◌, inl, inr, refl, sym, ap, subst, ◌∙◌, ⊎_elim, cond, Ordering}
+use Rattle.std.proofs.Common.{◌++◌, take, ◌≡◌, ℕ, suc, ◌+◌, ◌-◌, ◌<◌, ◌≤◌, length, drop, get_or, arith, add-one, drop-cons, length-drop, Bool, true, false, ◌||◌, not, eqb, Some, List, [], ◌∷◌, map, ◌⊎◌, inl, inr, refl, sym, ap, subst, ◌∙◌, ⊎_elim, cond, Ordering}
 use Rattle.std.specs.declared.cmp.Ordering.TheVariants.{Less, Equal, Greater}
 use Rattle.std.specs.List.{list_any, AllByRecursion, AllZip, filter}
 use Rattle.std.proofs.lemmas.Slice.Zip.{AllZip-map}
@@ -103,3 +103,26 @@ take_next xs i x h e = take_more xs i x h ∙ ap (λ v. take i xs ++ v ∷ []) (
 -- a copy of octets is the same octets
 pub same_octets : (xs ys : List ℕ) → AllZip (λ x y. y ≡ x) xs ys → ys ≡ xs
 same_octets xs ys each = AllZip-map (λ x. x) xs ys each ∙ map-id xs
+
+pub zip_append : {A B : Type 0} (R : A → B → Type 0) (xs : List A) (ys : List B) (zs : List A) (ws : List B) → AllZip R xs ys → AllZip R zs ws → AllZip R (xs ++ zs) (ys ++ ws)
+zip_append R [] [] zs ws h k = k
+zip_append R (x ∷ xs) (y ∷ ys) zs ws h k = (h.0, zip_append R xs ys zs ws h.1 k)
+zip_append R [] (y ∷ ys) zs ws h k = absurd h
+zip_append R (x ∷ xs) [] zs ws h k = absurd h
+
+pub map-map : {A B C : Type 0} (g : B → C) (f : A → B) (xs : List A) → map g (map f xs) ≡ map (λ x. g (f x)) xs
+map-map g f [] = refl
+map-map g f (x ∷ xs) = ap (λ ys. g (f x) ∷ ys) (map-map g f xs)
+
+-- ---- tests and options
+
+pub both_ways : (a b : Bool) → (a ≡ true → b ≡ true) → (b ≡ true → a ≡ true) → a ≡ b
+both_ways true b f g = sym (f refl)
+both_ways false true f g = g refl
+both_ways false false f g = refl
+
+pub eqb-back : (a b : ℕ) → eqb a b ≡ eqb b a
+eqb-back a b = grind arith
+
+pub some_is : {A : Type 0} (a b : A) → Some a ≡ Some b → a ≡ b
+some_is a b e = cc
