@@ -14,7 +14,6 @@ use std::cmp::Ordering;
 use std::marker::Model;
 
 pub mod parsed;
-mod shared;
 mod stars;
 mod wire;
 
