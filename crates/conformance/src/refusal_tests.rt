@@ -13,6 +13,7 @@ use names_flat::to_name::ToName;
 use names_flat::to_relative::ToRelativeName;
 use names_wire::builder::{OctetsBuilder, ShortBuf};
 use names_wire::label::Label;
+use names_wire::owned::OwnedLabel;
 use names_wire::symbol::Symbol;
 use std::alloc::{AllocError, Global};
 use std::fmt::{Debug, Display};
@@ -503,6 +504,9 @@ fn names_are_printed_whole_or_not(rt: HostRuntime) {
     assert!(rt; printed(&rt, rt.alloc(), &name).as_str() == "example.a\\.b");
     assert!(rt; printed(&rt, rt.alloc(), &name.fmt_with_dot()).as_str() == "example.a\\.b.");
     assert!(rt; printed(&rt, rt.alloc(), &part).as_str() == "example.a\\.b");
+    let label = Label::from_slice(b"a.b").expect(&rt, "a label");
+    assert!(rt; printed(&rt, rt.alloc(), &label).as_str() == "a\\.b");
+    assert!(rt; printed(&rt, rt.alloc(), &OwnedLabel::from_label(label)).as_str() == "a\\.b");
 }
 
 /// Labels into a buffer of so many octets: each is taken exactly where it fits.
