@@ -12,6 +12,8 @@ mod octet_text;
 #[cfg(test)]
 mod part_tests;
 #[cfg(test)]
+mod refusal_tests;
+#[cfg(test)]
 mod tests;
 #[cfg(test)]
 mod text_tests;

@@ -1,0 +1,88 @@
+#!/usr/bin/env python3
+"""Counts the instructions of calls on names, with callgrind, and the blocks of memory that comparing takes.
+
+A task is done once and once more on the same names, and the difference is divided by the calls of one time, so that
+reading the input and starting the program fall away. Run it from anywhere; it builds crates/names_bench first.
+"""
+import os
+import random
+import re
+import subprocess
+import sys
+
+ROOT = os.path.dirname(os.path.dirname(os.path.abspath(__file__)))
+BENCH = f"{ROOT}/crates/names_bench"
+PLAIN = "abcdefghijklmnopqrstuvwxyz0123456789"
+
+
+def text(wire):
+    """The text of a name in wire form, each octet that is no letter, digit or hyphen as three digits."""
+    labels = []
+    while wire[0]:
+        label, wire = wire[1 : 1 + wire[0]], wire[1 + wire[0] :]
+        labels.append("".join(chr(it) if chr(it).isalnum() and it < 128 or it == 45 else f"\\{it:03}" for it in label))
+    return ".".join(labels) + "."
+
+
+def order_names():
+    """The names of the table of canonical order."""
+    with open(f"{ROOT}/crates/conformance/src/name_order.rt", encoding="utf-8") as file:
+        return [text(bytes.fromhex(it)) for it in re.findall(r'^([0-9a-f]+)(?:\\n\\|";)$', file.read(), re.MULTILINE)]
+
+
+def zone_names(count):
+    """Names of two to four labels under one apex, in no order; the same at each run."""
+    chance = random.Random(1)
+    names = set()
+    while len(names) < count:
+        labels = ("".join(chance.choices(PLAIN, k=chance.randint(3, 12))) for _ in range(chance.randint(1, 3)))
+        names.add(".".join(labels) + ".example.")
+    names = sorted(names)
+    chance.shuffle(names)
+    return names
+
+
+def run(tool, pattern, task, rounds, names):
+    words = ["valgrind", f"--tool={tool}", *tool_flags(tool), f"{BENCH}/out/names_bench"]
+    ran = subprocess.run(words, input="\n".join([f"{task} {rounds}", *names, ""]), capture_output=True, text=True)
+    found = re.search(pattern, ran.stderr)
+    if ran.returncode or not found:
+        sys.exit(f"{' '.join(words)} ended with {ran.returncode}\n{ran.stderr}")
+    return int(found[1].replace(",", ""))
+
+
+def tool_flags(tool):
+    return ["--callgrind-out-file=/dev/null"] if tool == "callgrind" else []
+
+
+def instructions(task, names, before=1):
+    counts = [run("callgrind", r"Collected : (\d+)", task, rounds, names) for rounds in (before, before + 1)]
+    return counts[1] - counts[0]
+
+
+def blocks(task, names, before=1):
+    counts = [run("memcheck", r"total heap usage: ([\d,]+) allocs", task, rounds, names) for rounds in (before, before + 1)]
+    return counts[1] - counts[0]
+
+
+def row(what, count, calls, taken):
+    print(f"| {what} | {count / calls:,.0f} | {round(taken / calls, 1):g} |", flush=True)
+
+
+def main():
+    subprocess.run(["rt", "run"], cwd=BENCH, stdin=subprocess.DEVNULL, capture_output=True, check=True)
+    order, zone = order_names(), zone_names(10_000)
+    print("| call | instructions | blocks of memory |\n|---|---|---|")
+    for task, what in (("compare", "`name_cmp`"), ("equal", "`name_eq`")):
+        pairs = len(order) ** 2
+        row(f"{what} of two of the {len(order)} names of the table of canonical order", instructions(task, order), pairs, blocks(task, order))
+        some = zone[:100]
+        row(f"{what} of two of 100 names of a zone", instructions(task, some), len(some) ** 2, blocks(task, some))
+    sort = instructions("sort", zone, before=0), blocks("sort", zone, before=0)
+    row(f"sorting {len(zone):,} names of a zone, a name", sort[0], len(zone), sort[1])
+    for task, what in (("read", "`Name::vec_from_str`"), ("print", "`to_string`")):
+        row(f"{what} of a name of the table", instructions(task, order), len(order), blocks(task, order))
+        row(f"{what} of a name of a zone", instructions(task, zone), len(zone), blocks(task, zone))
+
+
+main()
