@@ -22,7 +22,7 @@ use crate::to_relative::Relative;
 use arrayvec::ArrayVec;
 use names_labels::check::check_relative;
 use names_labels::relative_error::RelativeNameError;
-use names_labels::traits::{Labels, ToLabelIter};
+use names_labels::traits::ToLabelIter;
 use names_wire::builder::{OctetsBuilder, ShortBuf};
 use names_wire::octets::Octets;
 use names_wire::symbol::{Symbol, SymbolReader};
@@ -63,16 +63,17 @@ fn close<B: OctetsBuilder>(builder: &mut B, head: Option<usize>, len: usize)
 }
 
 /// Appends the labels of a name, each behind its length, or nothing.
-fn append_labels<B: OctetsBuilder, N: Labels>(builder: &mut B, name: &N) -> Result<(), ShortBuf>
+fn append_labels<B: OctetsBuilder, N: ToLabelIter>(
+    builder: &mut B,
+    name: &N,
+) -> Result<(), ShortBuf>
     ensures ok { OnOk result (B.bytes builder.new ≡ B.bytes builder.old ++ spelled (N.labels name.now)) }
     ensures name { IsName (N.name name.now) }
     ensures err { OnErr result (B.bytes builder.new ≡ B.bytes builder.old) }
 {
-    let len = builder.as_slice().len();
-    for index in 0..name.label_count() {
-        let Some(label) = name.label_at(index) else {
-            break;
-        };
+    let _count = name.label_count();
+    let (len, mut labels) = (builder.as_slice().len(), name.iter_labels());
+    while let Some(label) = labels.next() {
         if let Err(error) = append_behind(builder, label.len() as u8, label.as_slice()) {
             builder.truncate(len);
             return Err(error);

@@ -261,6 +261,10 @@ impl<Octs: Octets> Labels for RelativeName<Octs> {
     fn label_at(&self, index: usize) -> Option<Label<'_>> {
         flat::label_at(self.run(), index)
     }
+
+    fn label_row(&self) -> Option<&[u8]> {
+        Some(self.run())
+    }
 }
 
 impl<Octs: Octets> ToLabelIter for RelativeName<Octs> {}
