@@ -203,6 +203,13 @@ impl Name<Vec<u8>> {
         }
     }
 
+    /// As `root_vec`. `root_ref` takes no memory.
+    pub fn root(alloc: Global) -> Result<Self, ShortBuf>
+        ensures { IfOk result (λ n. n ≡ []) }
+    {
+        Name::root_vec(alloc)
+    }
+
     /// The root with octets of its own. It is refused for want of memory alone.
     pub fn root_vec(alloc: Global) -> Result<Self, ShortBuf>
         ensures { IfOk result (λ n. n ≡ []) }

@@ -189,6 +189,20 @@ impl RelativeName<Vec<u8>> {
         }
     }
 
+    /// As `empty_vec`.
+    pub fn empty(alloc: Global) -> Self
+        ensures { result ≡ [] }
+    {
+        RelativeName::empty_vec(alloc)
+    }
+
+    /// As `wildcard_vec`. `wildcard_ref` takes no memory.
+    pub fn wildcard(alloc: Global) -> Result<Self, ShortBuf>
+        ensures { IfOk result (λ n. n ≡ (42 ∷ []) ∷ []) }
+    {
+        RelativeName::wildcard_vec(alloc)
+    }
+
     /// The name with no labels, with octets of its own. It takes no memory yet.
     pub fn empty_vec(alloc: Global) -> Self
         ensures { result ≡ [] }

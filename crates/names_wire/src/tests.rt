@@ -84,6 +84,11 @@ fn reads_and_prints_text(rt: HostRuntime) -> Result<(), AllocError> {
             "{text} is accepted"
         );
     }
+    let Ok(label) = "a\\.b".parse::<OwnedLabel>() else {
+        panic!(rt; "a label is refused");
+    };
+    assert_eq!(rt; label.as_label().as_slice(), b"a.b".as_slice());
+    assert!(rt; "a.b".parse::<OwnedLabel>().is_err());
     let longest = "a\\098ccccccccccccccccccccccccccccccccccccccccccccccccccccccccccccc";
     assert!(rt; OwnedLabel::from_chars(longest.chars()).is_ok());
     assert!(rt; OwnedLabel::from_chars(longest.chars().chain("d".chars())).is_err());
