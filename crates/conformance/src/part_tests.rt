@@ -1,5 +1,6 @@
 //! Rows of the parts of names.
 
+use names_flat::builder::Finish;
 use names_flat::flatten::FlattenInto;
 use names_flat::name::Name;
 use names_flat::relative::RelativeName;

@@ -14,10 +14,6 @@ pub text-push : (n : Name) (l : Label) → 0 < length n → text_of_relative (n 
 text-push [] l h = absurd (omega arith)
 text-push (k ∷ n) l h = ap (join_with_byte 46) (map-append text_of_label (k ∷ n) (l ∷ [])) ∙ join-push (text_of_label k) (map text_of_label n) (text_of_label l)
 
--- a label moved from behind to the front
-pub moved : (done labels rest n : Name) (l : Label) → done ++ labels ≡ n → labels ≡ l ∷ rest → (done ++ l ∷ []) ++ rest ≡ n
-moved done labels rest n l h e = append_assoc done (l ∷ []) rest ∙ ap (λ ls. done ++ ls) (sym e) ∙ h
-
 -- all labels before the root's
 pub all_moved : (done labels n : Name) → done ++ labels ≡ n ++ [] ∷ [] → length done ≡ length n → done ≡ n
 all_moved done labels n h e = sym (take_at done labels (length n) e) ∙ ap (take (length n)) h ∙ take_at n ([] ∷ []) (length n) refl

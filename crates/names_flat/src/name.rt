@@ -6,7 +6,7 @@ ghost use Rattle.names_labels.specs.Flat.{StartsLabel, spelled, IsRun, IsFlat, l
 ghost use Rattle.names_labels.specs.Refused.{RefusedName};
 ghost use Rattle.names_wire.specs.Label.{octets_of};
 
-use crate::builder::{BuiltOctets, NameBuilder};
+use crate::builder::{BuiltOctets, Finish, NameBuilder};
 use crate::relative::RelativeName;
 use crate::to_name::{Absolute, ToName};
 use names_labels::check::check_absolute;

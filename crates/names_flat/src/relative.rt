@@ -6,7 +6,7 @@ ghost use Rattle.names_labels.specs.Flat.{StartsLabel, IsRun, IsFlatRelative, la
 ghost use Rattle.names_labels.specs.RefusedRelative.{RefusedRelative};
 ghost use Rattle.names_wire.specs.Label.{octets_of};
 
-use crate::builder::{BuiltOctets, NameBuilder};
+use crate::builder::{BuiltOctets, Finish, NameBuilder};
 use crate::name::Name;
 use crate::push_error::PushNameError;
 use crate::to_relative::{Relative, ToRelativeName};

@@ -1,6 +1,6 @@
 //! What names have in common, however they are kept: labels by place.
 
-ghost use Rattle.std.specs.Prelude.{◌≡◌, ◌≤◌, ◌+◌, ◌-◌, length, option_map, slice_get, drop, IfSome, MatchOption, Some, None};
+ghost use Rattle.std.specs.Prelude.{◌≡◌, ◌++◌, ◌∷◌, [], ◌≤◌, ◌+◌, ◌-◌, length, option_map, slice_get, drop, IfSome, MatchOption, Some, None};
 ghost use Rattle.definitions.specs.Name.{Name, IsName, at_or_above, same};
 ghost use Rattle.names_labels.specs.Flat.{spelled, IsRunOf};
 ghost use Rattle.std.specs.Iterator.{YieldsFirstBy, YieldsLastBy, item_count};
@@ -121,6 +121,16 @@ pub trait ToLabelIter: Labels {
         let (count, tail) = (self.label_count(), base.label_count());
         tail <= count && agrees_from(self, count - tail, base)
     }
+}
+
+/// Labels that end with the root's.
+pub trait Absolute: ToLabelIter {
+    ghost rooted: { (n : Self) → Self.labels n ≡ Self.name n ++ [] ∷ [] };
+}
+
+/// Labels that do not end with the root's: at most 254 octets in wire form.
+pub trait Relative: ToLabelIter {
+    ghost unrooted: { (n : Self) → Self.labels n ≡ Self.name n };
 }
 
 /// The labels of a name, from both ends. It takes no memory.

@@ -2,7 +2,8 @@ use Rattle.std.proofs.Common.{◌∷◌, ◌++◌, ◌∙◌, [], length-append,
 use Rattle.std.proofs.lemmas.Grind.{put_two}
 use Rattle.definitions.specs.Text.{text_of_label, text_of_relative}
 use Rattle.names_wire.specs.Label.{octets_of}
-use Rattle.names_flat.proofs.Texts.{moved, text-push}
+use Rattle.names_labels.proofs.Runs.{moved}
+use Rattle.names_flat.proofs.Texts.{text-push}
 use Rattle.names_flat.proofs.display.RelativeNameDisplay.fmt.Goals as goal
 
 pub loop-label-init : goal.loop-label-init
