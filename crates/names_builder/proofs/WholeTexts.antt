@@ -1,7 +1,7 @@
 -- Names of whole texts, as a builder reads them.
-use Rattle.std.proofs.Common.{◌≡◌, ◌≢◌, inl, inr, ℕ, Bool, true, false, cond, List, [], ◌∷◌, ◌++◌, length, refl, sym, ap, ◌∙◌, arith, nat_eq, subst, Option, Some, None}
+use Rattle.std.proofs.Common.{◌≡◌, ◌≢◌, inl, inr, ℕ, Bool, true, false, cond, List, [], ◌∷◌, ◌++◌, length, refl, sym, ap, ◌∙◌, arith, nat_eq, Option, Some, None}
 use Rattle.std.specs.Option.{option_map, option_and_then}
-use Rattle.std.specs.Iterator.{Yields, Drains}
+use Rattle.std.specs.Iterator.{Drains}
 use Rattle.std.proofs.lemmas.Bool.{eqb-true}
 use Rattle.definitions.specs.Name.{Name, Label}
 use Rattle.definitions.specs.Text.{Symbol, Plain, is_dot, is_lone_dot, symbols_of, pieces, onto_first, labels_of_pieces, without_last_dot, if_short, name_of_symbols, name_of_text, relative_of_text}

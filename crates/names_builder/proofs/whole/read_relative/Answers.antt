@@ -1,4 +1,4 @@
-use Rattle.std.proofs.Common.{◌≡◌, ◌∙◌, ap, sym, inr, length, Some, true, false}
+use Rattle.std.proofs.Common.{◌≡◌, ◌∙◌, sym, inr, length, Some, true, false}
 use Rattle.std.proofs.lemmas.Bool.{eqb-true}
 use Rattle.std.proofs.lemmas.Result.{err_from_is_err_and}
 use Rattle.definitions.specs.Text.{relative_of_text}
