@@ -1,7 +1,7 @@
 //! Rows that the standards and the public crate give.
 
 use arrayvec::ArrayVec;
-use names_flat::builder::NameBuilder;
+use names_flat::builder::{Finish, NameBuilder};
 use names_flat::laws;
 use names_flat::name::Name;
 use names_flat::push_error::{PushError, PushNameError};

@@ -1,5 +1,6 @@
 //! Rows of the parts of names.
 
+use names_flat::builder::Finish;
 use names_flat::flatten::FlattenInto;
 use names_flat::name::Name;
 use names_flat::relative::RelativeName;
@@ -95,8 +96,11 @@ fn names_are_changed(rt: HostRuntime) {
     let star = RelativeName::wildcard_vec(rt.alloc()).expect(&rt, "memory");
     assert!(rt; star.as_slice() == RelativeName::wildcard_ref().as_slice());
     assert!(rt; star.as_slice() == RelativeName::wildcard_slice().as_slice());
+    assert!(rt; RelativeName::wildcard(rt.alloc()).expect(&rt, "memory") == star);
     assert!(rt; RelativeName::empty_vec(rt.alloc()).as_slice().is_empty());
+    assert!(rt; RelativeName::empty(rt.alloc()).is_empty());
     assert!(rt; Name::root_vec(rt.alloc()).expect(&rt, "memory").is_root());
+    assert!(rt; Name::root(rt.alloc()).expect(&rt, "memory").as_slice() == b"\x00".as_slice());
 }
 
 #[test]

@@ -1,6 +1,6 @@
 //! Rows of reading and printing text.
 
-use names_flat::builder::NameBuilder;
+use names_flat::builder::{Finish, NameBuilder};
 use names_flat::name::Name;
 use names_flat::push_error::PushError;
 use names_flat::relative::RelativeName;

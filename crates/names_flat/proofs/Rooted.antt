@@ -1,17 +1,18 @@
 -- A name, and its labels with the root's behind them.
 use Rattle.std.proofs.Common.{◌≡◌, ℕ, ◌≤◌, Bool, false, ◌&&◌, List, [], ◌∷◌, ◌++◌, length, map, refl, sym, ap, ◌∙◌, length-append, eqb, arith}
-use Rattle.std.specs.Prelude.{◌↔◌, IsTrue}
+use Rattle.std.specs.Prelude.{◌↔◌, IsTrue, reverse}
 use Rattle.std.specs.List.{AllByRecursion}
+use Rattle.std.specs.Ordering.{nat_cmp}
+use Rattle.std.specs.Cmp.Lexicographic.{slice_cmp}
 use Rattle.std.specs.Str.{bytes_eq, str_to_ascii_lowercase}
-use Rattle.std.proofs.lemmas.List.{map-append, map-id}
+use Rattle.std.proofs.lemmas.List.{map-append, map-id, reverse-append}
 use Rattle.std.proofs.lemmas.Bool.{and_right, eqb-true}
-use Rattle.definitions.specs.Name.{Name, Label, IsLabel, IsName, wire, low, same, name_cmp}
+use Rattle.definitions.specs.Name.{Name, Label, IsLabel, IsName, wire, low, from_root, same, name_cmp}
 use Rattle.names_labels.specs.Flat.{spelled, labels_in, name_in, IsRun, IsFlat}
 use Rattle.names_labels.specs.Order.{in_case}
 use Rattle.names_labels.specs.declared.order.Case.TheVariants.{Kept, Lowered}
 use Rattle.names_labels.proofs.Runs.{labels_in-wire, wire-spelled}
 use Rattle.names_labels.proofs.Checks.{length-wire}
-use Rattle.names_labels.proofs.Orders.{name_cmp-push}
 
 pub flat_labels : (bs : List ℕ) → IsFlat bs → labels_in bs ≡ name_in bs ++ [] ∷ []
 flat_labels bs f = ap labels_in (sym f.octets) ∙ labels_in-wire (name_in bs)
@@ -43,8 +44,11 @@ same-rooted [] (l ∷ n) = and_right (bytes_eq [] (str_to_ascii_lowercase l)) (s
 same-rooted (k ∷ m) [] = and_right (bytes_eq (str_to_ascii_lowercase k) []) (same (m ++ [] ∷ []) []) (same_no_more [] m)
 same-rooted (k ∷ m) (l ∷ n) = ap (λ t. bytes_eq (str_to_ascii_lowercase k) (str_to_ascii_lowercase l) && t) (same-rooted m n)
 
+from_root-rooted : (n : Name) → from_root (n ++ [] ∷ []) ≡ [] ∷ from_root n
+from_root-rooted n = ap reverse (map-append str_to_ascii_lowercase n ([] ∷ [])) ∙ reverse-append (low n) ([] ∷ [])
+
 pub name_cmp-rooted : (m n : Name) → name_cmp (m ++ [] ∷ []) (n ++ [] ∷ []) ≡ name_cmp m n
-name_cmp-rooted m n = name_cmp-push m n [] []
+name_cmp-rooted m n = λ t. slice_cmp (slice_cmp nat_cmp) (from_root-rooted m t) (from_root-rooted n t)
 
 pub spelled-kept : (n : Name) → spelled (map (in_case Kept) (n ++ [] ∷ [])) ≡ wire n
 spelled-kept n = ap spelled (map-id (n ++ [] ∷ [])) ∙ sym (wire-spelled n)

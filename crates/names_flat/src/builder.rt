@@ -1,85 +1,16 @@
-//! Building names label by label or octet by octet.
+//! Builders brought to their end, as names over the octets that they made.
 
-ghost use Rattle.std.specs.Prelude.{List, true, Some, None, ◌≡◌, ◌≢◌, ◌↔◌, ◌+◌, ◌<◌, ◌≤◌, ◌++◌, ◌∷◌, ◌==◌, [], ℕ, length, slice_set, refl, MatchOption, IfOk, IfErr, IsOk, IsTrue, IsErrOf, OnOk, OnErr};
-ghost use Rattle.definitions.specs.Name.{IsName};
-ghost use Rattle.names_labels.specs.Flat.{SpellsRelative, labels_in, spelled};
-ghost use Rattle.names_labels.specs.RefusedRelative.{RefusedRelative};
-ghost use Rattle.std.specs.Iterator.{IsFinite, Drains};
-ghost use Rattle.definitions.specs.Text.{Symbol as TextSymbol};
-ghost use Rattle.names_wire.specs.Symbols.{symbol_of, IsUnfinished};
-ghost use Rattle.names_wire.specs.Spelled.{SpellsNothing};
-ghost use Rattle.names_labels.specs.Open.{if_open_short};
-ghost use Rattle.names_flat.specs.FromText.{is_text, continued, standing, text_behind, ReadsSymbols, StopsAtSymbol, StopsInText};
-ghost use Rattle.names_flat.specs.Building.{Building, IsShort, octets_of_building, with_octets, closed, ended, labels_with, with_labels, all_labels};
+ghost use Rattle.std.specs.Prelude.{◌≡◌, ◌↔◌, ◌<◌, ◌++◌, length, refl, IfOk, IfErr, IsErrOf};
+ghost use Rattle.names_builder.specs.Building.{Building, all_labels, octets_of_building, with_labels};
 
 use crate::name::Name;
-use crate::push_error::{PushError, PushNameError};
 use crate::relative::RelativeName;
-use crate::text::octet_of;
-use crate::text_error::FromStrError;
 use crate::to_name::Absolute;
-use crate::to_relative::Relative;
 use arrayvec::ArrayVec;
-use names_labels::check::check_relative;
-use names_labels::relative_error::RelativeNameError;
-use names_labels::traits::{Labels, ToLabelIter};
-use names_wire::builder::{OctetsBuilder, ShortBuf};
+pub use names_builder::builder::NameBuilder;
+use names_builder::push_error::PushNameError;
+use names_wire::builder::OctetsBuilder;
 use names_wire::octets::Octets;
-use names_wire::symbol::{Symbol, SymbolReader};
-use std::alloc::Global;
-use std::marker::Model;
-
-/// Writes one octet over another.
-fn set_octet<B: OctetsBuilder>(builder: &mut B, place: usize, octet: u8)
-    requires { place < length (B.bytes builder.old) }
-    ensures { B.bytes builder.new ≡ slice_set (B.bytes builder.old) place octet }
-{
-    builder.as_mut_slice()[place] = octet;
-}
-
-/// Appends an octet and others behind it, or nothing.
-fn append_behind<B: OctetsBuilder>(builder: &mut B, head: u8, octets: &[u8]) -> Result<(), ShortBuf>
-    ensures ok { OnOk result (B.bytes builder.new ≡ B.bytes builder.old ++ head ∷ octets.now) }
-    ensures err { OnErr result (B.bytes builder.new ≡ B.bytes builder.old) }
-{
-    let len = builder.as_slice().len();
-    builder.append_slice(&[head])?;
-    if let Err(error) = builder.append_slice(octets) {
-        builder.truncate(len);
-        return Err(error);
-    }
-    Ok(())
-}
-
-/// Writes the length of a label that is open at a place.
-fn close<B: OctetsBuilder>(builder: &mut B, head: Option<usize>, len: usize)
-    requires open { MatchOption head (Unit {0}) (λ place. place < length (B.bytes builder.old)) }
-    requires short { len ≤ 63 }
-    ensures { B.bytes builder.new ≡ closed (B.bytes builder.old) head len }
-{
-    if let Some(place) = head {
-        set_octet(builder, place, len as u8);
-    }
-}
-
-/// Appends the labels of a name, each behind its length, or nothing.
-fn append_labels<B: OctetsBuilder, N: Labels>(builder: &mut B, name: &N) -> Result<(), ShortBuf>
-    ensures ok { OnOk result (B.bytes builder.new ≡ B.bytes builder.old ++ spelled (N.labels name.now)) }
-    ensures name { IsName (N.name name.now) }
-    ensures err { OnErr result (B.bytes builder.new ≡ B.bytes builder.old) }
-{
-    let len = builder.as_slice().len();
-    for index in 0..name.label_count() {
-        let Some(label) = name.label_at(index) else {
-            break;
-        };
-        if let Err(error) = append_behind(builder, label.len() as u8, label.as_slice()) {
-            builder.truncate(len);
-            return Err(error);
-        }
-    }
-    Ok(())
-}
 
 /// Octets that are a builder's own: what it grew is what is read.
 pub trait BuiltOctets: Octets + OctetsBuilder {
@@ -94,360 +25,53 @@ impl<const N: usize> BuiltOctets for ArrayVec<u8, N> {
     ghost kept = { λ b. refl };
 }
 
-/// A relative name under construction: finished labels, and one that may be open.
-///
-/// A refused call changes nothing. Contracts see the finished labels and the octets of the open one.
-#[derive(Drop)]
-pub struct NameBuilder<B: OctetsBuilder> {
-    builder: B,
-    head: Option<usize>,
-}
+/// What a builder has made, as a name.
+pub trait Finish<B: BuiltOctets>: Sized {
+    ghost building: { Self → Building };
 
-impl<B: OctetsBuilder> Model for NameBuilder<B> {
-    ghost use Rattle.names_flat.specs.Building.{Building, building, Holds};
-
-    ghost Value = { Building };
-
-    ghost view = { λ b. building (B.bytes b.builder) b.head };
-
-    ghost invariant = { λ b. Holds (B.bytes b.builder) b.head (building (B.bytes b.builder) b.head) };
-}
-
-impl<B: OctetsBuilder> NameBuilder<B> {
-    /// Goes on behind the labels that a buffer holds. A buffer that holds something else is dropped.
-    pub fn from_builder(builder: B) -> Result<Self, RelativeNameError>
-    where
-        B: Drop,
-        ensures ok { IfOk result (λ b. (b.open_label ≡ []) × SpellsRelative (B.bytes builder) b.done) }
-        ensures refused { IfErr result (RefusedRelative (B.bytes builder)) }
-    {
-        match check_relative(builder.as_slice()) {
-            Ok(()) => Ok(NameBuilder {
-                builder,
-                head: None,
-            }),
-            Err(error) => Err(error),
-        }
-    }
-
-    /// Goes on behind the labels that a buffer was found to hold.
-    pub(crate) fn behind(builder: B) -> Self
-        requires { SpellsRelative (B.bytes builder) (labels_in (B.bytes builder)) }
-        ensures { result ≡ record { done = labels_in (B.bytes builder); open_label = [] } }
-    {
-        NameBuilder {
-            builder,
-            head: None,
-        }
-    }
-
-    /// The finished labels, each behind its length, and the open one behind a zero octet.
-    pub fn as_slice(&self) -> &[u8]
-        ensures value { result.now ≡ octets_of_building self.now }
-        ensures short { length result.now ≤ 254 }
-    {
-        self.builder.as_slice()
-    }
-
-    pub fn len(&self) -> usize
-        ensures value { result ≡ length (octets_of_building self.now) }
-        ensures short { result ≤ 254 }
-    {
-        self.as_slice().len()
-    }
-
-    pub fn is_empty(&self) -> bool
-        ensures { result ≡ (length (octets_of_building self.now) == 0) }
-    {
-        self.len() == 0
-    }
-
-    /// Whether a label is open.
-    pub fn in_label(&self) -> bool
-        ensures { IsTrue result ↔ (self.now.open_label ≢ []) }
-    {
-        self.head.is_some()
-    }
-
-    /// How many octets the open label has.
-    fn open_len(&self) -> usize
-        ensures value { result ≡ length self.now.open_label }
-        ensures short { result ≤ 63 }
-    {
-        match self.head {
-            Some(head) => self.builder.as_slice().len() - head - 1,
-            None => 0,
-        }
-    }
-
-    /// Adds octets to the open label; where none is open they open one. No octets open none.
-    pub fn append_slice(&mut self, octets: &[u8]) -> Result<(), PushError>
-        ensures ok { OnOk result (self.new ≡ with_octets self.old octets.now) }
-        ensures long_label { IsErrOf result PushError.LongLabel ↔ (63 < length self.old.open_label + length octets.now) }
-        ensures long_name { IsErrOf result PushError.LongName ↔ ((length self.old.open_label + length octets.now ≤ 63) × (254 < length (octets_of_building (with_octets self.old octets.now)))) }
-        ensures err { OnErr result (self.new ≡ self.old) }
-    {
-        let (open, len) = (self.open_len(), self.len());
-        if octets.is_empty() {
-            return Ok(());
-        }
-        if octets.len() > 63 - open {
-            return Err(PushError::LongLabel);
-        }
-        let heads = if open == 0 { 1 } else { 0 };
-        if len + heads + octets.len() > 254 {
-            return Err(PushError::LongName);
-        }
-        if open > 0 {
-            self.builder.append_slice(octets)?;
-        } else {
-            append_behind(&mut self.builder, 0, octets)?;
-            self.head = Some(len);
-        }
-        Ok(())
-    }
-
-    /// Adds an octet to the open label, or opens one with it.
-    pub fn push(&mut self, octet: u8) -> Result<(), PushError>
-        ensures ok { OnOk result (self.new ≡ with_octets self.old (octet ∷ [])) }
-        ensures long_label { IsErrOf result PushError.LongLabel ↔ (63 < length self.old.open_label + 1) }
-        ensures long_name { IsErrOf result PushError.LongName ↔ ((length self.old.open_label + 1 ≤ 63) × (254 < length (octets_of_building (with_octets self.old (octet ∷ []))))) }
-        ensures err { OnErr result (self.new ≡ self.old) }
-    {
-        self.append_slice(&[octet])
-    }
-
-    /// Ends the open label, if there is one.
-    pub fn end_label(&mut self)
-        ensures { self.new ≡ ended self.old }
-    {
-        if let Some(head) = self.head {
-            let len = self.builder.as_slice().len() - head - 1;
-            set_octet(&mut self.builder, head, len as u8);
-            self.head = None;
-        }
-    }
-
-    /// Ends the open label, and adds a label behind it; no octets add none.
-    pub fn append_label(&mut self, label: &[u8]) -> Result<(), PushError>
-        ensures ok { OnOk result (self.new ≡ with_labels self.old (labels_with [] label.now)) }
-        ensures long_label { IsErrOf result PushError.LongLabel ↔ (63 < length label.now) }
-        ensures long_name { IsErrOf result PushError.LongName ↔ ((length label.now ≤ 63) × (254 < length (octets_of_building (with_labels self.old (labels_with [] label.now))))) }
-        ensures err { OnErr result (self.new ≡ self.old) }
-    {
-        let (open, len) = (self.open_len(), self.len());
-        if label.is_empty() {
-            self.end_label();
-            return Ok(());
-        }
-        if label.len() > 63 {
-            return Err(PushError::LongLabel);
-        }
-        if len + 1 + label.len() > 254 {
-            return Err(PushError::LongName);
-        }
-        append_behind(&mut self.builder, label.len() as u8, label)?;
-        close(&mut self.builder, self.head, open);
-        self.head = None;
-        Ok(())
-    }
-
-    /// Ends the open label, and adds the labels of a name behind it.
-    pub fn append_name<N: Relative>(&mut self, name: &N) -> Result<(), PushNameError>
-        ensures ok { OnOk result (self.new ≡ with_labels self.old (N.name name.now)) }
-        ensures long_name { IsErrOf result PushNameError.LongName ↔ (254 < length (octets_of_building (with_labels self.old (N.name name.now)))) }
-        ensures err { OnErr result (self.new ≡ self.old) }
-    {
-        let (open, len) = (self.open_len(), self.len());
-        if len + usize::from(name.compose_len()) > 254 {
-            return Err(PushNameError::LongName);
-        }
-        append_labels(&mut self.builder, name)?;
-        close(&mut self.builder, self.head, open);
-        self.head = None;
-        Ok(())
-    }
-}
-
-/// Reading text (RFC 1035, 5.1). A dot ends the open label; no text changes nothing.
-impl<B: OctetsBuilder> NameBuilder<B> {
-    /// Adds a symbol: its octet to the open label, or a label's end.
-    pub(crate) fn push_symbol(&mut self, symbol: Symbol) -> Result<(), FromStrError>
-        ensures ok { OnOk result ((ss : List TextSymbol) → continued self.old (symbol_of symbol ∷ ss) ≡ continued self.new ss) }
-        ensures refused { IfErr result (λ e. is_text e ≡ true → (ss : List TextSymbol) → if_open_short (continued self.old (symbol_of symbol ∷ ss)) ≡ None) }
-        ensures err { OnErr result (self.new ≡ self.old) }
-        ensures limits { IsShort self.new }
-    {
-        let _ = &self.builder;
-        match octet_of(symbol, self.in_label())? {
-            Some(octet) => self.push(octet)?,
-            None => self.end_label(),
-        }
-        let _ = &self.builder;
-        Ok(())
-    }
-
-    /// Adds symbols: octets to the open label, and at each dot a label's end.
-    ///
-    /// At a symbol that is refused it stops; what those before it made stands.
-    pub fn append_symbols<S: Iterator<Item = Symbol> + Drop>(
-        &mut self,
-        symbols: S,
-    ) -> Result<(), FromStrError>
-        requires can { S.can_next symbols }
-        requires ends { IsFinite (S.remaining symbols) }
-        ensures ok { OnOk result (ReadsSymbols S.next_gives symbols self.old self.new) }
-        ensures refused { IfErr result (StopsAtSymbol S.next_gives symbols self.old self.new) }
-    {
-        let _ = &self.builder;
-        for symbol in symbols {
-            self.push_symbol(symbol)?;
-        }
-        Ok(())
-    }
-
-    /// Adds a character behind those that a reader has of a symbol.
-    pub(crate) fn push_char(
-        &mut self,
-        reader: &mut SymbolReader,
-        ch: char,
-    ) -> Result<(), FromStrError>
-        ensures ok { OnOk result ((rest : List ℕ) → text_behind self.old (reader.old ++ ch ∷ rest) ≡ text_behind self.new (reader.new ++ rest)) }
-        ensures refused { IfErr result (λ e. is_text e ≡ true → (rest : List ℕ) → text_behind self.old (reader.old ++ ch ∷ rest) ≡ None) }
-        ensures err { OnErr result (self.new ≡ self.old) }
-        ensures limits { IsShort self.new }
-        ensures unfinished { IsUnfinished reader.new }
-    {
-        let _ = &self.builder;
-        if let Some(symbol) = reader.push(ch)? {
-            self.push_symbol(symbol)?;
-        }
-        Ok(())
-    }
-
-    /// Adds the symbols that characters spell: octets to the open label, and at each dot a label's end.
-    ///
-    /// At a character behind which no name can come it stops; what the whole symbols before it made stands.
-    pub fn append_chars<C: Iterator<Item = char> + Drop>(
-        &mut self,
-        chars: C,
-    ) -> Result<(), FromStrError>
-        requires can { C.can_next chars }
-        requires ends { IsFinite (C.remaining chars) }
-        ensures ok { OnOk result ((text : List ℕ) × Drains C.next_gives chars text × (text_behind self.old text ≡ Some (standing self.new))) }
-        ensures refused { IfErr result (λ e. is_text e ≡ true → SpellsNothing C.next_gives chars (text_behind self.old)) }
-        ensures stands { OnErr result (StopsInText C.next_gives chars [] self.old self.new) }
-    {
-        self.append_text(SymbolReader::new(), chars)
-    }
-
-    /// Adds the symbols that characters spell behind those that a reader has of one.
-    pub(crate) fn append_text<C: Iterator<Item = char> + Drop>(
-        &mut self,
-        reader: SymbolReader,
-        chars: C,
-    ) -> Result<(), FromStrError>
-        requires can { C.can_next chars }
-        requires ends { IsFinite (C.remaining chars) }
-        requires begins { IsUnfinished reader }
-        ensures ok { OnOk result ((text : List ℕ) × Drains C.next_gives chars text × (text_behind self.old (reader ++ text) ≡ Some (standing self.new))) }
-        ensures refused { IfErr result (λ e. is_text e ≡ true → SpellsNothing C.next_gives chars (λ text. text_behind self.old (reader ++ text))) }
-        ensures stands { OnErr result (StopsInText C.next_gives chars reader self.old self.new) }
-    {
-        let mut reader = reader;
-        let _ = &self.builder;
-        for ch in chars {
-            self.push_char(&mut reader, ch)?;
-        }
-        reader.finish()?;
-        Ok(())
-    }
-}
-
-impl<B: BuiltOctets> NameBuilder<B> {
     /// Ends the open label, and gives the relative name.
-    pub fn finish(self) -> RelativeName<B>
-        ensures { result ≡ all_labels self }
-    {
-        let open = self.open_len();
-        let NameBuilder { mut builder, head } = self;
-        close(&mut builder, head, open);
-        RelativeName::of_octets(builder)
-    }
+    fn finish(self) -> RelativeName<B>
+        ensures { result ≡ all_labels (building self) };
 
     /// Ends the open label, and gives the name under the root. It is refused for want of room alone.
-    pub fn into_name(self) -> Result<Name<B>, PushNameError>
+    fn into_name(self) -> Result<Name<B>, PushNameError>
     where
         B: Drop,
-        ensures ok { IfOk result (λ n. n ≡ all_labels self) }
-        ensures err { IfErr result (λ e. e ≡ PushNameError.ShortBuf) }
-    {
-        let open = self.open_len();
-        let NameBuilder { mut builder, head } = self;
-        close(&mut builder, head, open);
-        match builder.append_slice(&[0]) {
-            Ok(()) => Ok(Name::of_octets(builder)),
-            Err(_) => Err(PushNameError::ShortBuf),
-        }
-    }
+        ensures ok { IfOk result (λ n. n ≡ all_labels (building self)) }
+        ensures err { IfErr result (λ e. e ≡ PushNameError.ShortBuf) };
 
     /// Ends the open label, and gives the name under an origin.
-    pub fn append_origin<N: Absolute>(self, origin: &N) -> Result<Name<B>, PushNameError>
+    fn append_origin<N: Absolute>(self, origin: &N) -> Result<Name<B>, PushNameError>
     where
         B: Drop,
-        ensures ok { IfOk result (λ n. n ≡ all_labels self ++ N.name origin.now) }
-        ensures long_name { IsErrOf result PushNameError.LongName ↔ (254 < length (octets_of_building (with_labels self (N.name origin.now)))) }
+        ensures ok { IfOk result (λ n. n ≡ all_labels (building self) ++ N.name origin.now) }
+        ensures long_name { IsErrOf result PushNameError.LongName ↔ (254 < length (octets_of_building (with_labels (building self) (N.name origin.now)))) };
+}
+
+impl<B: BuiltOctets> Finish<B> for NameBuilder<B> {
+    ghost building = { λ b. b };
+
+    fn finish(self) -> RelativeName<B> {
+        RelativeName::of_octets(self.into_octets())
+    }
+
+    fn into_name(self) -> Result<Name<B>, PushNameError>
+    where
+        B: Drop,
     {
-        let (open, len) = (self.open_len(), self.len());
-        if len + usize::from(origin.compose_len()) > 255 {
-            return Err(PushNameError::LongName);
-        }
-        let NameBuilder { mut builder, head } = self;
-        match append_labels(&mut builder, origin) {
-            Ok(()) => {
-                close(&mut builder, head, open);
-                Ok(Name::of_octets(builder))
-            }
+        match self.into_name_octets() {
+            Ok(octets) => Ok(Name::of_octets(octets)),
             Err(_) => Err(PushNameError::ShortBuf),
         }
     }
-}
 
-impl NameBuilder<Vec<u8>> {
-    /// An empty builder, which makes its octets as it grows.
-    pub fn new(alloc: Global) -> Self
-        ensures { result ≡ record { done = []; open_label = [] } }
+    fn append_origin<N: Absolute>(self, origin: &N) -> Result<Name<B>, PushNameError>
+    where
+        B: Drop,
     {
-        NameBuilder {
-            builder: Vec::new(alloc),
-            head: None,
+        match self.append_origin_octets(origin) {
+            Ok(octets) => Ok(Name::of_octets(octets)),
+            Err(error) => Err(error),
         }
-    }
-
-    /// As `new`.
-    pub fn new_vec(alloc: Global) -> Self
-        ensures { result ≡ record { done = []; open_label = [] } }
-    {
-        NameBuilder::new(alloc)
-    }
-
-    /// An empty builder with room for so many octets.
-    pub fn with_capacity(alloc: Global, capacity: usize) -> Result<Self, ShortBuf>
-        ensures { IfOk result (λ b. b ≡ record { done = []; open_label = [] }) }
-    {
-        match Vec::with_capacity(alloc, capacity) {
-            Ok(builder) => Ok(NameBuilder {
-                builder,
-                head: None,
-            }),
-            Err(_) => Err(ShortBuf),
-        }
-    }
-
-    /// As `with_capacity`.
-    pub fn vec_with_capacity(alloc: Global, capacity: usize) -> Result<Self, ShortBuf>
-        ensures { IfOk result (λ b. b ≡ record { done = []; open_label = [] }) }
-    {
-        NameBuilder::with_capacity(alloc, capacity)
     }
 }

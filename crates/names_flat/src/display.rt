@@ -6,7 +6,8 @@ ghost use Rattle.definitions.specs.Text.{text_of_name, text_of_relative, dotted_
 use crate::name::Name;
 use crate::relative::RelativeName;
 use crate::to_name::Absolute;
-use names_labels::traits::Labels;
+use names_labels::iter::NameIter;
+use names_labels::traits::{Labels, ToLabelIter};
 use names_wire::octets::Octets;
 use std::fmt;
 use std::marker::Model;
@@ -15,15 +16,13 @@ impl<Octs: Octets> fmt::Display for Name<Octs> {
     ghost output = { λ n. Some (text_of_name n) };
 
     fn fmt<W: fmt::Write>(&self, f: &mut fmt::Formatter<W>) -> fmt::Result {
-        if self.is_root() {
+        let mut labels = NameIter::over(self.relative_run());
+        let Some(first) = labels.next() else {
             return write!(f, ".");
-        }
-        let first = self.first();
+        };
         write!(f, "{first}")?;
-        for index in 1..self.label_count() - 1 {
-            if let Some(label) = self.label_at(index) {
-                write!(f, ".{label}")?;
-            }
+        while let Some(label) = labels.next() {
+            write!(f, ".{label}")?;
         }
         Ok(())
     }
@@ -33,14 +32,13 @@ impl<Octs: Octets> fmt::Display for RelativeName<Octs> {
     ghost output = { λ n. Some (text_of_relative n) };
 
     fn fmt<W: fmt::Write>(&self, f: &mut fmt::Formatter<W>) -> fmt::Result {
-        let Some(first) = self.first() else {
+        let mut labels = self.iter();
+        let Some(first) = labels.next() else {
             return Ok(());
         };
         write!(f, "{first}")?;
-        for index in 1..self.label_count() {
-            if let Some(label) = self.label_at(index) {
-                write!(f, ".{label}")?;
-            }
+        while let Some(label) = labels.next() {
+            write!(f, ".{label}")?;
         }
         Ok(())
     }
@@ -72,12 +70,12 @@ impl<'a, N: Absolute> fmt::Display for DisplayWithDot<'a, N> {
     ghost output = { λ n. Some (dotted_text_of_name n) };
 
     fn fmt<W: fmt::Write>(&self, f: &mut fmt::Formatter<W>) -> fmt::Result {
-        let count = self.name.label_count();
+        let (count, mut labels) = (self.name.label_count(), self.name.iter_labels());
         if count == 1 {
             return write!(f, ".");
         }
-        for index in 0..count - 1 {
-            if let Some(label) = self.name.label_at(index) {
+        for _ in 1..count {
+            if let Some(label) = labels.next() {
                 write!(f, "{label}.")?;
             }
         }

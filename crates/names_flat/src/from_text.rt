@@ -6,14 +6,14 @@ ghost use Rattle.std.specs.Str.{chars as chars_of};
 ghost use Rattle.definitions.specs.Name.{Name as Labels};
 ghost use Rattle.definitions.specs.Text.{name_of_text, name_of_symbols, relative_of_text};
 ghost use Rattle.names_wire.specs.Spelled.{SpellsNothing};
-ghost use Rattle.names_flat.specs.FromText.{is_text, is_relative_text, SymbolsSpell, SymbolsSpellNothing};
+ghost use Rattle.names_builder.specs.FromText.{is_text, is_relative_text, SymbolsSpell, SymbolsSpellNothing};
 
-use crate::builder::NameBuilder;
+use crate::builder::Finish;
 use crate::name::Name;
 use crate::relative::RelativeName;
-use crate::text::separates;
-use crate::text_error::{FromStrError, PresentationError, RelativeFromStrError};
-use names_wire::symbol::{Symbol, SymbolReader};
+use names_builder::text_error::{FromStrError, RelativeFromStrError};
+use names_builder::whole::{read_chars, read_relative, read_symbols};
+use names_wire::symbol::Symbol;
 use std::alloc::Global;
 
 impl Name<Vec<u8>> {
@@ -27,22 +27,7 @@ impl Name<Vec<u8>> {
         ensures ok { IfOk result (λ n. SymbolsSpell S.next_gives symbols name_of_symbols n) }
         ensures refused { IfErr result (λ e. is_text e ≡ true → SymbolsSpellNothing S.next_gives symbols name_of_symbols) }
     {
-        let mut symbols = symbols;
-        let Some(first) = symbols.next() else {
-            return Err(FromStrError::Presentation(PresentationError::empty_label()));
-        };
-        if separates(first) {
-            match symbols.next() {
-                Some(_) => {
-                    return Err(FromStrError::Presentation(PresentationError::empty_label()));
-                }
-                None => return Ok(Name::root_vec(alloc)?),
-            }
-        }
-        let mut builder = NameBuilder::new(alloc);
-        builder.push_symbol(first)?;
-        builder.append_symbols(symbols)?;
-        Ok(builder.into_name()?)
+        Ok(read_symbols(alloc, symbols)?.into_name()?)
     }
 
     /// The name that the characters spell. A dot alone is the root, and else a last dot may be left out.
@@ -57,22 +42,7 @@ impl Name<Vec<u8>> {
         ensures ok { IfOk result (λ n. (text : List ℕ) × Drains C.next_gives chars text × (name_of_text text ≡ Some n)) }
         ensures refused { IfErr result (λ e. is_text e ≡ true → SpellsNothing C.next_gives chars name_of_text) }
     {
-        let mut chars = chars;
-        let Some(first) = chars.next() else {
-            return Err(FromStrError::Presentation(PresentationError::empty_label()));
-        };
-        if first == '.' {
-            match chars.next() {
-                Some(_) => {
-                    return Err(FromStrError::Presentation(PresentationError::empty_label()));
-                }
-                None => return Ok(Name::root_vec(alloc)?),
-            }
-        }
-        let (mut builder, mut reader) = (NameBuilder::new(alloc), SymbolReader::new());
-        builder.push_char(&mut reader, first)?;
-        builder.append_text(reader, chars)?;
-        Ok(builder.into_name()?)
+        Ok(read_chars(alloc, chars)?.into_name()?)
     }
 
     /// The name that the text spells, as `from_chars` reads it.
@@ -96,13 +66,7 @@ impl RelativeName<Vec<u8>> {
         ensures refused { IfErr result (λ e. is_relative_text e ≡ true → SpellsNothing C.next_gives chars relative_of_text) }
         ensures absolute { IsErrOf result RelativeFromStrError.AbsoluteName → (text : List ℕ) × (n : Labels) × Drains C.next_gives chars text × (name_of_text text ≡ Some n) }
     {
-        let mut builder = NameBuilder::new(alloc);
-        builder.append_chars(chars)?;
-        if builder.in_label() || builder.is_empty() {
-            Ok(builder.finish())
-        } else {
-            Err(RelativeFromStrError::AbsoluteName)
-        }
+        Ok(read_relative(alloc, chars)?.finish())
     }
 
     /// The relative name that the text spells, as `from_chars` reads it.

@@ -1,5 +1,5 @@
-//! Names over flat octets: absolute and relative ones, their builder, their text, and what any two names
-//! have in common, however they are kept.
+//! Names over flat octets: absolute and relative ones, their parts, their text, and what any two names have in
+//! common, however they are kept. Their builder stands below, in `names_builder`.
 #![tactic(auto)]
 
 pub mod builder;
@@ -10,15 +10,13 @@ pub mod laws;
 pub mod name;
 mod name_order;
 mod parts;
-pub mod push_error;
 pub mod relative;
 mod relative_order;
 mod reverse;
 pub mod strip;
 pub mod suffixes;
-mod text;
-pub mod text_error;
 pub mod to_name;
 pub mod to_relative;
 
+pub use names_builder::{push_error, text_error};
 pub use names_labels::{iter, name_error, relative_error, traits};

@@ -6,7 +6,7 @@ ghost use Rattle.names_labels.specs.Flat.{StartsLabel, spelled, IsRun, IsFlat, l
 ghost use Rattle.names_labels.specs.Refused.{RefusedName};
 ghost use Rattle.names_wire.specs.Label.{octets_of};
 
-use crate::builder::{BuiltOctets, NameBuilder};
+use crate::builder::{BuiltOctets, Finish, NameBuilder};
 use crate::relative::RelativeName;
 use crate::to_name::{Absolute, ToName};
 use names_labels::check::check_absolute;
@@ -203,6 +203,13 @@ impl Name<Vec<u8>> {
         }
     }
 
+    /// As `root_vec`. `root_ref` takes no memory.
+    pub fn root(alloc: Global) -> Result<Self, ShortBuf>
+        ensures { IfOk result (λ n. n ≡ []) }
+    {
+        Name::root_vec(alloc)
+    }
+
     /// The root with octets of its own. It is refused for want of memory alone.
     pub fn root_vec(alloc: Global) -> Result<Self, ShortBuf>
         ensures { IfOk result (λ n. n ≡ []) }
@@ -227,6 +234,10 @@ impl<Octs: Octets> Labels for Name<Octs> {
 
     fn label_at(&self, index: usize) -> Option<Label<'_>> {
         flat::label_at(self.run(), index)
+    }
+
+    fn label_row(&self) -> Option<&[u8]> {
+        Some(self.run())
     }
 }
 

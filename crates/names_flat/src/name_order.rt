@@ -9,7 +9,7 @@ ghost use Rattle.names_flat.specs.Feed.{labels_feed, name_feed, name_feed-same};
 
 use crate::name::Name;
 use crate::to_name::ToName;
-use names_labels::traits::Labels;
+use names_labels::traits::ToLabelIter;
 use names_wire::octets::Octets;
 use std::cmp::Ordering;
 use std::hash::{Hash, Hasher};
@@ -64,12 +64,11 @@ impl<Octs: Octets> Hash for Name<Octs> {
 }
 
 /// Feeds each label's length and lowered octets.
-pub(crate) fn feed_labels<N: Labels, H: Hasher>(name: &N, state: &mut H)
+pub(crate) fn feed_labels<N: ToLabelIter, H: Hasher>(name: &N, state: &mut H)
     ensures { state.new ≡ fold H.write state.old (labels_feed (N.labels name.now)) }
 {
-    for index in 0..name.label_count() {
-        if let Some(label) = name.label_at(index) {
-            label.hash(state);
-        }
+    let mut labels = name.iter_labels();
+    while let Some(label) = labels.next() {
+        label.hash(state);
     }
 }

@@ -6,7 +6,7 @@ ghost use Rattle.names_labels.specs.Flat.{StartsLabel, IsRun, IsFlatRelative, la
 ghost use Rattle.names_labels.specs.RefusedRelative.{RefusedRelative};
 ghost use Rattle.names_wire.specs.Label.{octets_of};
 
-use crate::builder::{BuiltOctets, NameBuilder};
+use crate::builder::{BuiltOctets, Finish, NameBuilder};
 use crate::name::Name;
 use crate::push_error::PushNameError;
 use crate::to_relative::{Relative, ToRelativeName};
@@ -189,6 +189,20 @@ impl RelativeName<Vec<u8>> {
         }
     }
 
+    /// As `empty_vec`.
+    pub fn empty(alloc: Global) -> Self
+        ensures { result ≡ [] }
+    {
+        RelativeName::empty_vec(alloc)
+    }
+
+    /// As `wildcard_vec`. `wildcard_ref` takes no memory.
+    pub fn wildcard(alloc: Global) -> Result<Self, ShortBuf>
+        ensures { IfOk result (λ n. n ≡ (42 ∷ []) ∷ []) }
+    {
+        RelativeName::wildcard_vec(alloc)
+    }
+
     /// The name with no labels, with octets of its own. It takes no memory yet.
     pub fn empty_vec(alloc: Global) -> Self
         ensures { result ≡ [] }
@@ -260,6 +274,10 @@ impl<Octs: Octets> Labels for RelativeName<Octs> {
 
     fn label_at(&self, index: usize) -> Option<Label<'_>> {
         flat::label_at(self.run(), index)
+    }
+
+    fn label_row(&self) -> Option<&[u8]> {
+        Some(self.run())
     }
 }
 

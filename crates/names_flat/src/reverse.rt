@@ -1,47 +1,14 @@
 //! The names of addresses (RFC 1035, 3.5; RFC 3596, 2.5).
 
-ghost use Rattle.std.specs.Prelude.{◌≡◌, ◌%◌, ◌++◌, [], ◌∷◌, IfOk, OnOk, OnErr};
-ghost use Rattle.names_flat.specs.Addresses.{decimal_label, hex_digit, decimal_labels, hex_labels, reverse_name};
-ghost use Rattle.names_flat.specs.Building.{with_labels};
+ghost use Rattle.std.specs.Prelude.{◌≡◌, IfOk};
+ghost use Rattle.names_builder.specs.Addresses.{reverse_name};
 
-use crate::builder::NameBuilder;
+use crate::builder::Finish;
 use crate::name::Name;
-use crate::push_error::{PushError, PushNameError};
-use names_wire::builder::{OctetsBuilder, ShortBuf};
+use names_builder::push_error::{PushError, PushNameError};
+use names_builder::reverse::reverse_labels;
 use std::alloc::Global;
 use std::net::IpAddr;
-
-impl<B: OctetsBuilder> NameBuilder<B> {
-    /// Ends the open label, and adds one of the number in decimal digits.
-    pub fn append_dec_u8_label(&mut self, value: u8) -> Result<(), PushError>
-        ensures ok { OnOk result (self.new ≡ with_labels self.old (decimal_label value ∷ [])) }
-        ensures err { OnErr result (self.new ≡ self.old) }
-    {
-        let (hundreds, tens, units) = (
-            b'0' + value / 100,
-            b'0' + value / 10 % 10,
-            b'0' + value % 10,
-        );
-        match value {
-            0..=9 => self.append_label(&[units]),
-            10..=99 => self.append_label(&[tens, units]),
-            _ => self.append_label(&[hundreds, tens, units]),
-        }
-    }
-
-    /// Ends the open label, and adds one of the lower four bits as a hexadecimal digit.
-    pub fn append_hex_digit_label(&mut self, nibble: u8) -> Result<(), PushError>
-        ensures ok { OnOk result (self.new ≡ with_labels self.old ((hex_digit (nibble % 16) ∷ []) ∷ [])) }
-        ensures err { OnErr result (self.new ≡ self.old) }
-    {
-        let digit = nibble % 16;
-        if digit < 10 {
-            self.append_label(&[b'0' + digit])
-        } else {
-            self.append_label(&[b'a' + digit - 10])
-        }
-    }
-}
 
 impl Name<Vec<u8>> {
     /// The name under which an address is looked up: its octets backwards, in decimal under `in-addr.arpa` or
@@ -49,49 +16,10 @@ impl Name<Vec<u8>> {
     pub fn reverse_from_addr(alloc: Global, addr: IpAddr) -> Result<Self, PushError>
         ensures { IfOk result (λ n. n ≡ reverse_name addr) }
     {
-        let mut builder = NameBuilder::new(alloc);
-        match addr {
-            IpAddr::V4(addr) => {
-                let mut octets = addr.octets();
-                octets.reverse();
-                append_octets(&mut builder, &octets)?;
-                builder.append_label(b"in-addr")?;
-            }
-            IpAddr::V6(addr) => {
-                let mut octets = addr.octets();
-                octets.reverse();
-                append_nibbles(&mut builder, &octets)?;
-                builder.append_label(b"ip6")?;
-            }
-        }
-        builder.append_label(b"arpa")?;
-        match builder.into_name() {
+        match reverse_labels(alloc, addr)?.into_name() {
             Ok(name) => Ok(name),
             Err(PushNameError::LongName) => Err(PushError::LongName),
             Err(PushNameError::ShortBuf) => Err(PushError::ShortBuf),
         }
     }
-}
-
-/// Appends a label for each octet.
-fn append_octets(builder: &mut NameBuilder<Vec<u8>>, octets: &[u8]) -> Result<(), PushError>
-    requires { builder.old.open_label ≡ [] }
-    ensures { OnOk result (builder.new ≡ record { done = builder.old.done ++ decimal_labels octets.now; open_label = [] }) }
-{
-    for octet in octets {
-        builder.append_dec_u8_label(*octet)?;
-    }
-    Ok(())
-}
-
-/// Appends a label for each four bits, of an octet the lower ones first.
-fn append_nibbles(builder: &mut NameBuilder<Vec<u8>>, octets: &[u8]) -> Result<(), PushError>
-    requires { builder.old.open_label ≡ [] }
-    ensures { OnOk result (builder.new ≡ record { done = builder.old.done ++ hex_labels octets.now; open_label = [] }) }
-{
-    for octet in octets {
-        builder.append_hex_digit_label(*octet)?;
-        builder.append_hex_digit_label(*octet / 16)?;
-    }
-    Ok(())
 }

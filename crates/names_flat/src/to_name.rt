@@ -5,20 +5,16 @@ ghost use Rattle.std.specs.Ordering.{nat_cmp};
 ghost use Rattle.std.specs.Cmp.Lexicographic.{slice_cmp};
 ghost use Rattle.definitions.specs.Name.{low, wire, same, name_cmp};
 
-use crate::builder::NameBuilder;
+use crate::builder::{Finish, NameBuilder};
 use crate::display::DisplayWithDot;
 use crate::name::Name;
 use names_labels::order::{Case, labels_cmp, labels_composed_cmp};
-use names_labels::traits::{ToLabelIter, labels_eq};
+pub use names_labels::traits::Absolute;
+use names_labels::traits::labels_eq;
 use names_wire::builder::ShortBuf;
 use std::alloc::Global;
 use std::borrow::CowSlice;
 use std::cmp::Ordering;
-
-/// Labels that end with the root's.
-pub trait Absolute: ToLabelIter {
-    ghost rooted: { (n : Self) → Self.labels n ≡ Self.name n ++ [] ∷ [] };
-}
 
 /// An absolute name, however it is kept.
 pub trait ToName: Absolute {

@@ -3,19 +3,15 @@
 ghost use Rattle.std.specs.Prelude.{◌≡◌, ◌==◌, length, IfOk};
 ghost use Rattle.definitions.specs.Name.{low, same, name_cmp};
 
-use crate::builder::NameBuilder;
+use crate::builder::{Finish, NameBuilder};
 use crate::relative::RelativeName;
 use names_labels::order::labels_cmp;
-use names_labels::traits::{ToLabelIter, labels_eq};
+pub use names_labels::traits::Relative;
+use names_labels::traits::labels_eq;
 use names_wire::builder::ShortBuf;
 use std::alloc::Global;
 use std::borrow::CowSlice;
 use std::cmp::Ordering;
-
-/// Labels that do not end with the root's: at most 254 octets in wire form.
-pub trait Relative: ToLabelIter {
-    ghost unrooted: { (n : Self) → Self.labels n ≡ Self.name n };
-}
 
 /// A relative name, however it is kept.
 pub trait ToRelativeName: Relative {

@@ -61,7 +61,7 @@ pub record Behind (run rest : List ℕ) (k : ℕ) : Type 0 where
 pub begun : (run : List ℕ) → IsRun run → Behind run run 0
 begun run r = record { left = r; labels = refl; octets = omega arith }
 
-octets_left : (run rest : List ℕ) (k : ℕ) → IsRun run → IsRun rest → labels_in rest ≡ drop k (labels_in run) → length run ≡ length (spelled (take k (labels_in run))) + length rest
+pub octets_left : (run rest : List ℕ) (k : ℕ) → IsRun run → IsRun rest → labels_in rest ≡ drop k (labels_in run) → length run ≡ length (spelled (take k (labels_in run))) + length rest
 octets_left run rest k r l e =
     omega (arith, ap length (parts run k r), length-append (spelled (take k (labels_in run))) (spelled (drop k (labels_in run))), ap length (l.whole ∙ ap spelled e))
 
@@ -69,16 +69,6 @@ pub one_behind : (run rest behind : List ℕ) (k : ℕ) (l : Label) → IsRun ru
 one_behind run rest behind k l r b s =
     let e : labels_in behind ≡ drop (k + 1) (labels_in run) = sym (drop-one (labels_in run) k l (labels_in behind) (sym b.labels ∙ s.first)) in
     record { left = s.behind; labels = e; octets = octets_left run behind (k + 1) r s.behind e }
-
--- no label is left
-pub take_past : {X : Type 0} (xs : List X) (j k : ℕ) → drop j xs ≡ [] → j ≤ k → take k xs ≡ take j xs
-take_past [] zero zero e h = refl
-take_past [] zero (suc k) e h = refl
-take_past [] (suc j) zero e h = refl
-take_past [] (suc j) (suc k) e h = refl
-take_past (x ∷ xs) zero k e h = cc
-take_past (x ∷ xs) (suc j) zero e h = absurd (omega arith)
-take_past (x ∷ xs) (suc j) (suc k) e h = ap (λ ys. x ∷ ys) (take_past xs j k e (omega arith))
 
 -- ---- where labels begin
 
@@ -145,10 +135,16 @@ reached run rest place k t s h e = (
         go true a = omega (arith, w.2, h, s.behind.octets, starts_grow (labels_in run) k w.0 (leb-true k w.0 a))
         go false a = let x = s.before w.0 (leb-false k w.0 a) in absurd (omega (arith, w.2, x))
 
-pub place_end : (run rest : List ℕ) (k index : ℕ) → Behind run rest k → (k ≡ index) ⊎ ((labels_in rest ≡ []) × (k ≤ index)) → length run - length rest ≡ length (spelled (take index (labels_in run)))
-place_end run rest k index b (inl e) = omega (arith, b.octets, ap (λ n. length (spelled (take n (labels_in run)))) e)
-place_end run rest k index b (inr p) =
-    omega (arith, b.octets, ap (λ ls. length (spelled ls)) (take_past (labels_in run) k index (sym b.labels ∙ p.0) p.1))
+drop_past : {X : Type 0} (xs : List X) (j k : ℕ) → drop j xs ≡ [] → j ≤ k → drop k xs ≡ []
+drop_past [] j zero e h = refl
+drop_past [] j (suc k) e h = refl
+drop_past (x ∷ xs) zero k e h = cc
+drop_past (x ∷ xs) (suc j) zero e h = absurd (omega arith)
+drop_past (x ∷ xs) (suc j) (suc k) e h = drop_past xs j k e (omega arith)
+
+pub labels_behind : (run rest : List ℕ) (k count : ℕ) → Behind run rest k → (k ≡ count) ⊎ ((labels_in rest ≡ []) × (k ≤ count)) → labels_in rest ≡ drop count (labels_in run)
+labels_behind run rest k count b (inl e) = b.labels ∙ ap (λ n. drop n (labels_in run)) e
+labels_behind run rest k count b (inr p) = p.0 ∙ sym (drop_past (labels_in run) k count (sym b.labels ∙ p.0) p.1)
 
 one_left : {X : Type 0} (x : X) (xs : List X) → length (x ∷ xs) ≡ 1 → xs ≡ []
 one_left x [] h = refl

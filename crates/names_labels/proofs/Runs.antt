@@ -130,3 +130,7 @@ spelled_more ls i l h = ap (λ m. length (spelled m)) (take_one ls i l h) ∙ le
 pub length-spelled-take : (i : ℕ) (ls : Name) → length (spelled (take i ls)) ≤ length (spelled ls)
 length-spelled-take i ls =
     omega (arith, ap (λ m. length (spelled m)) (take-append-drop i ls), ap length (spelled-append (take i ls) (drop i ls)), length-append (spelled (take i ls)) (spelled (drop i ls)))
+
+-- a label moved from behind to the front
+pub moved : (done labels rest n : Name) (l : Label) → done ++ labels ≡ n → labels ≡ l ∷ rest → (done ++ l ∷ []) ++ rest ≡ n
+moved done labels rest n l h e = append_assoc done (l ∷ []) rest ∙ ap (λ ls. done ++ ls) (sym e) ∙ h

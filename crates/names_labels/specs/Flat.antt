@@ -22,6 +22,11 @@ pub record IsRun (bs : List ℕ) : Type 0 where
   pub whole : bs ≡ spelled (labels_in bs)
   pub short : AllByRecursion (λ l. length l ≤ 63) (labels_in bs)
 
+-- the octets are these labels in a row
+pub record IsRunOf (bs : List ℕ) (ls : Name) : Type 0 where
+  pub run : IsRun bs
+  pub labels : labels_in bs ≡ ls
+
 -- a run is a label and the run behind it
 pub record SplitsLabel (run : List ℕ) (label : Label) (rest : List ℕ) : Type 0 where
   pub first : labels_in run ≡ label ∷ labels_in rest

@@ -1,4 +1,4 @@
-ghost use Rattle.std.specs.Prelude.{◌≡◌, ◌↔◌, ℕ, List, length, [], take, IsTrue, MatchOption, option_map, slice_get};
+ghost use Rattle.std.specs.Prelude.{◌≡◌, ◌↔◌, ℕ, List, length, [], take, drop, IsTrue, MatchOption, option_map, slice_get};
 ghost use Rattle.names_labels.specs.Flat.{labels_in, spelled, IsRun, SplitsLabel, StartsLabel};
 ghost use Rattle.names_wire.specs.Label.{octets_of};
 
@@ -29,16 +29,28 @@ pub fn label_count(run: &[u8]) -> usize
     count
 }
 
+/// What is left of a row behind so many labels; the empty row behind the last one.
+pub fn behind(run: &[u8], count: usize) -> &[u8]
+    requires { IsRun run.now }
+    ensures run { IsRun result.now }
+    ensures labels { labels_in result.now ≡ drop count (labels_in run.now) }
+{
+    let mut rest = run;
+    for _ in 0..count {
+        let Some((_, behind)) = split_label(rest) else {
+            break;
+        };
+        rest = behind;
+    }
+    rest
+}
+
 /// The label at a place of labels in a row.
 pub fn label_at(run: &[u8], index: usize) -> Option<Label<'_>>
     requires { IsRun run.now }
     ensures { option_map octets_of result ≡ slice_get (labels_in run.now) index }
 {
-    let mut rest = run;
-    for _ in 0..index {
-        (_, rest) = split_label(rest)?;
-    }
-    let (label, _) = split_label(rest)?;
+    let (label, _) = split_label(behind(run, index))?;
     Some(label)
 }
 
@@ -47,14 +59,7 @@ pub fn place_of(run: &[u8], index: usize) -> usize
     requires { IsRun run.now }
     ensures { result ≡ length (spelled (take index (labels_in run.now))) }
 {
-    let mut rest = run;
-    for _ in 0..index {
-        let Some((_, behind)) = split_label(rest) else {
-            break;
-        };
-        rest = behind;
-    }
-    run.len() - rest.len()
+    run.len() - behind(run, index).len()
 }
 
 /// Whether a label begins at a place, or the last one ends there.

@@ -8,7 +8,7 @@ ghost use Rattle.definitions.specs.Name.{name_cmp};
 ghost use Rattle.names_labels.specs.Flat.{spelled};
 ghost use Rattle.names_labels.specs.Order.{in_case};
 
-use crate::traits::Labels;
+use crate::traits::{Labels, labels_from};
 use names_wire::label::Label;
 use std::cmp::Ordering;
 
@@ -29,41 +29,36 @@ fn label_cmp(a: Label<'_>, b: Label<'_>, case: Case) -> Ordering
 }
 
 /// Canonical order of two names, from the root's side, labels in lower case (RFC 4034, 6.1).
+///
+/// What a longer name has in front is passed over. Then both are walked once, and the last difference decides.
 pub fn labels_cmp<A: Labels, B: Labels>(name: &A, other: &B) -> Ordering
     ensures { result ≡ name_cmp (A.labels name.now) (B.labels other.now) }
 {
-    let mut left = name.label_count();
-    let mut right = other.label_count();
-    while left > 0 && right > 0 {
-        left -= 1;
-        right -= 1;
-        let (Some(a), Some(b)) = (name.label_at(left), other.label_at(right)) else {
-            return Ordering::Equal;
-        };
-        let order = a.cmp(&b);
-        if order.is_ne() {
-            return order;
-        }
+    let (count, other_count) = (name.label_count(), other.label_count());
+    let mut left = labels_from(name, count.saturating_sub(other_count));
+    let mut right = labels_from(other, other_count.saturating_sub(count));
+    let mut order = Ordering::Equal;
+    while let (Some(a), Some(b)) = (left.next(), right.next()) {
+        order = a.cmp(&b).then(order);
     }
-    left.cmp(&right)
+    order.then(count.cmp(&other_count))
 }
 
 /// Order of the octets of two names in wire form, label by label from the left.
 pub fn labels_composed_cmp<A: Labels, B: Labels>(name: &A, other: &B, case: Case) -> Ordering
     ensures { result ≡ slice_cmp nat_cmp (spelled (map (in_case case) (A.labels name.now))) (spelled (map (in_case case) (B.labels other.now))) }
 {
-    let count = name.label_count();
-    for index in 0..count {
-        let Some(a) = name.label_at(index) else {
-            return Ordering::Less;
-        };
-        let Some(b) = other.label_at(index) else {
-            return Ordering::Greater;
+    let (mut left, mut right) = (labels_from(name, 0), labels_from(other, 0));
+    loop {
+        let (a, b) = match (left.next(), right.next()) {
+            (Some(a), Some(b)) => (a, b),
+            (Some(_), None) => return Ordering::Greater,
+            (None, Some(_)) => return Ordering::Less,
+            (None, None) => return Ordering::Equal,
         };
         let order = label_cmp(a, b, case);
         if order.is_ne() {
             return order;
         }
     }
-    count.cmp(&other.label_count())
 }

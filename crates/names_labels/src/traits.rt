@@ -1,12 +1,13 @@
 //! What names have in common, however they are kept: labels by place.
 
-ghost use Rattle.std.specs.Prelude.{◌≡◌, ◌≤◌, ◌+◌, ◌-◌, length, option_map, slice_get, drop};
+ghost use Rattle.std.specs.Prelude.{◌≡◌, ◌++◌, ◌∷◌, [], ◌≤◌, ◌+◌, ◌-◌, length, option_map, slice_get, drop, IfSome, MatchOption, Some, None};
 ghost use Rattle.definitions.specs.Name.{Name, IsName, at_or_above, same};
-ghost use Rattle.names_labels.specs.Flat.{spelled};
+ghost use Rattle.names_labels.specs.Flat.{spelled, IsRunOf};
 ghost use Rattle.std.specs.Iterator.{YieldsFirstBy, YieldsLastBy, item_count};
 ghost use Rattle.names_wire.specs.Label.{octets_of};
 ghost use Rattle.names_labels.specs.Compare.{begins_with};
 
+use crate::flat::{behind, split_label};
 use names_wire::label::Label;
 use std::marker::Model;
 
@@ -27,15 +28,39 @@ pub trait Labels {
     /// The label at a place, counted from the left, or `None` past the last one.
     fn label_at(&self, index: usize) -> Option<Label<'_>>
         ensures { option_map octets_of result ≡ slice_get (labels self.now) index };
+
+    /// The labels in a row, of a name that keeps them so. Walking over these labels goes from one to the next;
+    /// over those of other names it asks for the label at each place.
+    fn label_row(&self) -> Option<&[u8]>
+        ensures { IfSome result (λ run. IsRunOf run.now (labels self.now)) }
+    {
+        None
+    }
+}
+
+/// The labels of a name from a place on.
+pub(crate) fn labels_from<N: Labels>(name: &N, start: usize) -> LabelIter<'_, N>
+    ensures { result ≡ drop start (N.labels name.now) }
+{
+    let row = match name.label_row() {
+        Some(run) => Some(behind(run, start)),
+        None => None,
+    };
+    LabelIter {
+        name,
+        row,
+        front: start,
+        back: name.label_count(),
+    }
 }
 
 /// Whether the labels of one name from a place on begin with all labels of another, up to ASCII case.
 pub fn agrees_from<A: Labels, B: Labels>(name: &A, start: usize, other: &B) -> bool
-    requires { start ≤ 255 }
     ensures { result ≡ begins_with (drop start (A.labels name.now)) (B.labels other.now) }
 {
-    for index in 0..other.label_count() {
-        let (Some(a), Some(b)) = (name.label_at(start + index), other.label_at(index)) else {
+    let (mut labels, mut wanted) = (labels_from(name, start), labels_from(other, 0));
+    while let Some(b) = wanted.next() {
+        let Some(a) = labels.next() else {
             return false;
         };
         if a != b {
@@ -52,6 +77,18 @@ pub fn labels_eq<A: Labels, B: Labels>(name: &A, other: &B) -> bool
     name.label_count() == other.label_count() && agrees_from(name, 0, other)
 }
 
+/// How many octets the labels of a name take in wire form.
+fn labels_len<N: Labels>(name: &N) -> u16
+    ensures { result ≡ length (spelled (N.labels name.now)) }
+{
+    let _count = name.label_count();
+    let (mut labels, mut len) = (labels_from(name, 0), 0);
+    while let Some(label) = labels.next() {
+        len += label.len() as u16 + 1;
+    }
+    len
+}
+
 /// Labels in their order, with what follows from them.
 pub trait ToLabelIter: Labels {
     /// The labels from both ends.
@@ -60,24 +97,14 @@ pub trait ToLabelIter: Labels {
         Self: Sized,
         ensures { result ≡ Self.labels self.now }
     {
-        LabelIter {
-            name: self,
-            front: 0,
-            back: self.label_count(),
-        }
+        labels_from(self, 0)
     }
 
     /// How many octets the labels take in wire form.
     fn compose_len(&self) -> u16
         ensures { result ≡ length (spelled (Self.labels self.now)) }
     {
-        let mut len = 0;
-        for index in 0..self.label_count() {
-            if let Some(label) = self.label_at(index) {
-                len += label.len() as u16 + 1;
-            }
-        }
-        len
+        labels_len(self)
     }
 
     /// Whether the labels begin with those of another name, up to ASCII case.
@@ -96,23 +123,53 @@ pub trait ToLabelIter: Labels {
     }
 }
 
+/// Labels that end with the root's.
+pub trait Absolute: ToLabelIter {
+    ghost rooted: { (n : Self) → Self.labels n ≡ Self.name n ++ [] ∷ [] };
+}
+
+/// Labels that do not end with the root's: at most 254 octets in wire form.
+pub trait Relative: ToLabelIter {
+    ghost unrooted: { (n : Self) → Self.labels n ≡ Self.name n };
+}
+
 /// The labels of a name, from both ends. It takes no memory.
 #[derive(Drop)]
 pub struct LabelIter<'a, N: Labels> {
     name: &'a N,
+    /// The labels from `front` on, of a name that keeps them in a row.
+    row: Option<&'a [u8]>,
     front: usize,
     back: usize,
 }
 
 /// The labels that are left.
 impl<'a, N: Labels> Model for LabelIter<'a, N> {
-    ghost use Rattle.std.specs.Prelude.{List, ℕ, ◌-◌, ◌≤◌, take, drop, length};
+    ghost use Rattle.std.specs.Prelude.{List, ℕ, ◌-◌, ◌≤◌, take, drop, length, IfSome};
+    ghost use Rattle.names_labels.specs.Flat.{IsRunOf};
 
     ghost Value = { List (List ℕ) };
 
     ghost view = { λ it. take (it.back - it.front) (drop it.front (N.labels it.name.now)) };
 
-    ghost invariant = { λ it. it.back ≤ length (N.labels it.name.now) };
+    ghost invariant = { λ it. (it.back ≤ length (N.labels it.name.now)) × IfSome it.row (λ run. IsRunOf run.now (drop it.front (N.labels it.name.now))) };
+}
+
+/// The label at a place, and the row behind it.
+fn label_then<'a, N: Labels>(
+    name: &'a N,
+    row: Option<&'a [u8]>,
+    place: usize,
+) -> Option<(Label<'a>, Option<&'a [u8]>)>
+    requires { IfSome row (λ run. IsRunOf run.now (drop place (N.labels name.now))) }
+    ensures { MatchOption result (slice_get (N.labels name.now) place ≡ None) (λ p. (Some (octets_of p.0) ≡ slice_get (N.labels name.now) place) × IfSome p.1 (λ run. IsRunOf run.now (drop (place + 1) (N.labels name.now)))) }
+{
+    let Some(run) = row else {
+        let label = name.label_at(place)?;
+        return Some((label, None));
+    };
+    let (label, behind) = split_label(run)?;
+    Some((label, Some(behind)))
 }
 
 impl<'a, N: Labels> Iterator for LabelIter<'a, N> {
@@ -128,7 +185,8 @@ impl<'a, N: Labels> Iterator for LabelIter<'a, N> {
         if self.front >= self.back {
             return None;
         }
-        let label = self.name.label_at(self.front)?;
+        let (label, row) = label_then(self.name, self.row, self.front)?;
+        self.row = row;
         self.front += 1;
         Some(label)
     }

@@ -4,3 +4,4 @@ pub mod OnError
 pub mod PartLabel
 pub mod Printed
 pub mod Unfinished
+pub mod Characters

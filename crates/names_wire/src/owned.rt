@@ -1,7 +1,7 @@
 //! Labels that own their octets.
 
-ghost use Rattle.std.specs.Prelude.{◌≡◌, ◌≤◌, slice_index, ◌++◌, [], ◌∷◌, true, ℕ, List, Some, IfOk, OnOk, OnErr};
-ghost use Rattle.std.specs.Str.{str_to_ascii_lowercase};
+ghost use Rattle.std.specs.Prelude.{◌≡◌, ◌≤◌, slice_index, ◌++◌, [], ◌∷◌, true, ℕ, List, Some, None, IfOk, OnOk, OnErr};
+ghost use Rattle.std.specs.Str.{str_to_ascii_lowercase, chars};
 ghost use Rattle.std.specs.Iterator.{IsFinite, Drains};
 ghost use Rattle.definitions.specs.Text.{is_symbol, octet, label_of_text};
 ghost use Rattle.names_wire.specs.Label.{octets_of, wire_label};
@@ -10,6 +10,7 @@ ghost use Rattle.names_wire.specs.Spelled.{CannotFollow, SpellsNothing};
 
 use crate::label::Label;
 use crate::symbol::{Symbol, SymbolCharsError, SymbolReader};
+use std::str::FromStr;
 use thiserror::Error;
 
 /// Characters spell no label.
@@ -126,5 +127,18 @@ impl OwnedLabel {
     {
         let len = self.wire[0] as usize;
         &self.wire[..=len]
+    }
+}
+
+/// The label that the text spells, as `from_chars` reads it.
+impl FromStr for OwnedLabel {
+    ghost use Rattle.names_wire.specs.Owned.{owned_octets};
+
+    type Err = LabelFromStrError;
+
+    ghost from_str_gives = { λ text result. IfOk result (λ label. label_of_text (chars text) ≡ Some (owned_octets label)) × OnErr result (label_of_text (chars text) ≡ None) };
+
+    fn from_str(text: &str) -> Result<OwnedLabel, LabelFromStrError> {
+        OwnedLabel::from_chars(text.chars())
     }
 }

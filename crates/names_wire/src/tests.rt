@@ -1,3 +1,7 @@
+ghost use Rattle.std.specs.Prelude.{◌≡◌, ◌≤◌, ◌<◌, ◌++◌, ◌-◌, take, drop, length};
+ghost use Rattle.std.specs.Str.{str_to_ascii_lowercase};
+ghost use Rattle.names_wire.specs.Owned.{owned_octets};
+
 use crate::builder::{OctetsBuilder, ShortBuf};
 use crate::label::{Label, LabelTypeError, SplitLabelError};
 use crate::label_mut::LabelMut;
@@ -39,6 +43,25 @@ fn splits_labels(rt: HostRuntime) {
     assert!(rt; Label::from_slice(&[b'a'; 63]).is_ok() && Label::from_slice(&[b'a'; 64]).is_err());
 }
 
+/// Writes through a part of a slice, behind a length octet.
+fn lowers_behind(octets: &mut [u8], len: usize)
+    requires short { len ≤ 63 }
+    requires within { len < length octets.old }
+    ensures { octets.new ≡ take 1 octets.old ++ (str_to_ascii_lowercase (take len (drop 1 octets.old)) ++ drop len (drop 1 octets.old)) }
+{
+    let (_, behind) = octets.split_at_mut(1);
+    let (front, _) = behind.split_at_mut(len);
+    let mut label = LabelMut::new(front);
+    label.make_canonical();
+}
+
+/// Writes through a borrow of a label.
+fn lowers_owned(label: &mut OwnedLabel)
+    ensures { owned_octets label.new ≡ str_to_ascii_lowercase (owned_octets label.old) }
+{
+    label.as_label_mut().make_canonical();
+}
+
 #[test]
 fn writes_in_place(rt: HostRuntime) {
     let mut octets = *b"\x03WwW\0";
@@ -54,6 +77,16 @@ fn writes_in_place(rt: HostRuntime) {
         label.make_canonical();
     }
     assert_eq!(rt; octets.as_slice(), b"abc".as_slice());
+    let mut octets = *b"\x03AbCD";
+    lowers_behind(&mut octets, 3);
+    assert_eq!(rt; octets.as_slice(), b"\x03abcD".as_slice());
+    let mut owned = OwnedLabel::from_label(Label::wildcard());
+    assert!(rt; owned.as_label_mut().as_label().is_wildcard());
+    if let Ok(label) = Label::from_slice(b"AbC") {
+        owned = OwnedLabel::from_label(label);
+    }
+    lowers_owned(&mut owned);
+    assert_eq!(rt; owned.as_wire_slice(), b"\x03abc".as_slice());
 }
 
 #[test]
@@ -84,6 +117,11 @@ fn reads_and_prints_text(rt: HostRuntime) -> Result<(), AllocError> {
             "{text} is accepted"
         );
     }
+    let Ok(label) = "a\\.b".parse::<OwnedLabel>() else {
+        panic!(rt; "a label is refused");
+    };
+    assert_eq!(rt; label.as_label().as_slice(), b"a.b".as_slice());
+    assert!(rt; "a.b".parse::<OwnedLabel>().is_err());
     let longest = "a\\098ccccccccccccccccccccccccccccccccccccccccccccccccccccccccccccc";
     assert!(rt; OwnedLabel::from_chars(longest.chars()).is_ok());
     assert!(rt; OwnedLabel::from_chars(longest.chars().chain("d".chars())).is_err());

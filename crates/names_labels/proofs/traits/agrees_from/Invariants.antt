@@ -1,14 +1,6 @@
-use Rattle.std.proofs.Common.{◌≡◌, ◌+◌, ◌≤◌, drop, length}
+use Rattle.std.proofs.Common.{◌≡◌, drop}
 use Rattle.names_labels.specs.Compare.{begins_with}
 use Rattle.names_labels.proofs.traits.agrees_from.Given as goal
 
-abbrev pub invariant-loop-index : goal.invariant-loop-index
-invariant-loop-index g l =
-    let a = g.A.Labels.labels l.name in
-    let b = g.B.Labels.labels l.other in
-    record {
-      from : begins_with (drop l.start a) b ≡ begins_with (drop (l.start + l.index) a) (drop l.index b);
-      start : l.start ≤ 255;
-      many : length b ≤ 255;
-      last : l.index-end ≡ length b;
-    }
+abbrev pub invariant-loop-b : goal.invariant-loop-b
+invariant-loop-b g l = begins_with (drop l.start (g.A.Labels.labels l.name)) (g.B.Labels.labels l.other) ≡ begins_with l.labels l.wanted

@@ -1,34 +1,50 @@
-use Rattle.std.proofs.Common.{◌≡◌, ◌+◌, ◌∷◌, ◌++◌, [], length, length-append, ap, sym, subst, ◌∙◌, refl, take, arith}
-use Rattle.std.specs.Prelude.{slice_get}
+use Rattle.std.proofs.Common.{◌≡◌, ◌∷◌, ◌++◌, [], length, length-append, ap, sym, subst, ◌∙◌, refl, arith}
 use Rattle.std.specs.Fmt.{HasWritten}
 use Rattle.std.proofs.lemmas.Grind.{put_two}
-use Rattle.std.proofs.lemmas.List.{take_all}
+use Rattle.std.proofs.lemmas.List.{append-nil}
 use Rattle.definitions.specs.Text.{text_of_label}
 use Rattle.names_wire.specs.Label.{octets_of}
-use Rattle.names_labels.proofs.Runs.{none_past}
-use Rattle.names_flat.proofs.Texts.{dotted, dotted_more, dotted_text, before_root}
+use Rattle.names_labels.proofs.Runs.{moved}
+use Rattle.names_flat.proofs.Texts.{dotted, dotted-push, dotted_text, all_moved}
 use Rattle.names_flat.proofs.display.DisplayWithDotDisplay.fmt.Goals as goal
 use Rattle.names_flat.proofs.display.DisplayWithDotDisplay.fmt.Goals.{in-Some+in_ok-write, in_default}
 
-pub loop-index-preserved : goal.loop-index-preserved
-loop-index-preserved g c = λ p.
+pub loop-init : goal.loop-init
+loop-init g c = (
+  [],
+  record {
+    labels = c.iter_labels-labels.ensures ∙ g.met.N.Absolute.rooted c.self.inside.name.now ∙ ap (λ m. m ++ [] ∷ []) c.self.view_is;
+    counted = refl;
+    wrote = λ p. record { wrote = record { parts = []; calls = refl; whole = refl }; plain = p };
+  },
+)
+
+pub loop-preserved : goal.loop-preserved
+loop-preserved g c =
     let n = c.args.self.now in
-    let labels = g.met.N.Absolute.rooted c.self.inside.name.now ∙ ap (λ m. m ++ [] ∷ []) c.self.view_is in
-    let before = c.loop-index.invariant p in
-    elim c.match-label_at.branch [
+    let done = c.loop.invariant.0 in
+    let before = c.loop.invariant.1 in
+    let count = ap length (g.met.N.Absolute.rooted c.self.inside.name.now ∙ ap (λ m. m ++ [] ∷ []) c.self.view_is) in
+    elim c.match-next.branch [
       | in-Some+in_ok-write w ↦
-          let l = octets_of w.in-Some.label in
-          let e = before_root n c.loop-index.index l (omega (arith, c.label_count-count.ensures.count, ap length labels, length-append n ([] ∷ []))) (w.in-Some.ensures ∙ ap (λ m. slice_get m c.loop-index.index) labels) in
-          let wrote = w.in_ok-write.ensures.writes before.plain refl in
-          rw w.f-is (put_two g.W.Write.write_str_gives _ _ _ (dotted (take c.loop-index.index n)) (text_of_label l ++ 46 ∷ []) _ before wrote (dotted_more n c.loop-index.index l e))
-      | in_default w ↦ absurd (omega (arith, none_past (n ++ [] ∷ []) c.loop-index.index (w.in_default.ensures ∙ ap (λ m. slice_get m c.loop-index.index) labels), length-append n ([] ∷ []), c.label_count-count.ensures.count, ap length labels))
+          let l = octets_of w.in-Some.label in (
+            done ++ l ∷ [],
+            record {
+              labels = moved done c.loop.labels c.next.new.self _ l before.labels w.in-Some.ensures.steps;
+              counted = omega (arith, length-append done (l ∷ []), before.counted);
+              wrote = λ p.
+                  let wrote = before.wrote p in
+                  rw w.f-is (put_two g.W.Write.write_str_gives _ _ _ (dotted done) (text_of_label l ++ 46 ∷ []) _ wrote (w.in_ok-write.ensures.writes wrote.plain refl) (sym (dotted-push done l)));
+            },
+          )
+      | in_default w ↦ absurd (omega (arith, ap length (sym (append-nil done) ∙ ap (λ ls. done ++ ls) (sym w.in_default.ensures.steps.0) ∙ before.labels), length-append n ([] ∷ []), before.counted, c.label_count-count.ensures.count, count, c.loop-test.true))
     ]
 
 pub returns-clause-writes : goal.returns-clause-writes
 returns-clause-writes g c = λ p h.
     let n = c.args.self.now in
-    let labels = g.met.N.Absolute.rooted c.self.inside.name.now ∙ ap (λ m. m ++ [] ∷ []) c.self.view_is in
-    let count : length n + 1 ≡ c.label_count-count.result = omega (arith, c.label_count-count.ensures.count, ap length labels, length-append n ([] ∷ [])) in
-    let all : dotted (take c.loop-index.index n) ≡ dotted n = ap dotted (take_all c.loop-index.index n (omega (arith, count))) in
-    let text = dotted_text n (omega (arith, count)) in
-    subst (λ t. HasWritten g.W.Write.write_str_gives c.args.f.now t c.loop-index.f) (all ∙ sym text) (c.loop-index.invariant p)
+    let done = c.loop.invariant.0 in
+    let count = ap length (g.met.N.Absolute.rooted c.self.inside.name.now ∙ ap (λ m. m ++ [] ∷ []) c.self.view_is) in
+    let all : length done ≡ length n = omega (arith, c.loop.invariant.1.counted, c.label_count-count.ensures.count, count, length-append n ([] ∷ []), c.loop-test.false, c.loop.auto) in
+    let text = dotted_text n (omega (arith, c.if-count-eq1.false, c.label_count-count.ensures.count, count, length-append n ([] ∷ []))) in
+    subst (λ t. HasWritten g.W.Write.write_str_gives c.args.f.now t c.loop.f) (ap dotted (all_moved done c.loop.labels n c.loop.invariant.1.labels all) ∙ sym text) (c.loop.invariant.1.wrote p)

@@ -1,8 +1,13 @@
-use Rattle.std.proofs.Common.{take}
+use Rattle.std.proofs.Common.{◌≡◌, ◌++◌, ◌<◌, length}
 use Rattle.std.specs.Fmt.{HasWritten, IsPlainFormatter}
+use Rattle.definitions.specs.Name.{Name}
 use Rattle.definitions.specs.Text.{text_of_relative}
 use Rattle.names_flat.proofs.display.RelativeNameDisplay.fmt.Given as goal
 
-abbrev pub invariant-loop-index : goal.invariant-loop-index
-invariant-loop-index g l =
-    IsPlainFormatter l.fn.f → HasWritten g.W.Write.write_str_gives l.fn.f (text_of_relative (take l.index l.self)) l.f
+abbrev pub invariant-loop-label : goal.invariant-loop-label
+invariant-loop-label g l =
+    (done : Name) × record {
+      some : 0 < length done;
+      labels : done ++ l.labels ≡ l.self;
+      wrote : IsPlainFormatter l.fn.f → HasWritten g.W.Write.write_str_gives l.fn.f (text_of_relative done) l.f;
+    }

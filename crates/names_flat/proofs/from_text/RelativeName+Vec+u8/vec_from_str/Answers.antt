@@ -2,8 +2,8 @@ use Rattle.std.proofs.Common.{◌∙◌, ap, true, ◌≡◌, Some, None}
 use Rattle.std.specs.Str.{chars}
 use Rattle.std.proofs.lemmas.Result.{IfOk-weaker, IfErr-weaker}
 use Rattle.definitions.specs.Text.{name_of_text, relative_of_text}
-use Rattle.names_flat.specs.FromText.{is_relative_text}
-use Rattle.names_flat.proofs.WholeTexts.{chars_are, nothing_in_text}
+use Rattle.names_builder.specs.FromText.{is_relative_text}
+use Rattle.names_wire.proofs.Characters.{chars_are, nothing_in_text}
 use Rattle.names_flat.proofs.from_text.RelativeName+Vec+u8.vec_from_str.Goals as goal
 
 pub returns-clause-ok : goal.returns-clause-ok

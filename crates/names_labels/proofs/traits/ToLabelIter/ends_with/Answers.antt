@@ -2,12 +2,7 @@ use Rattle.std.proofs.Common.{sym, ◌∙◌, arith}
 use Rattle.std.proofs.Common.{◌<◌, length}
 use Rattle.std.proofs.lemmas.Bool.{lt-leb}
 use Rattle.names_labels.proofs.Compares.{ends-begins, ends_short}
-use Rattle.names_labels.proofs.Runs.{few_labels}
 use Rattle.names_labels.proofs.traits.ToLabelIter.ends_with.Goals as goal
-
-pub agrees_from-requires : goal.agrees_from-requires
-agrees_from-requires g c =
-    omega (arith, few_labels (g.Self.Labels.labels c.args.self.now) c.label_count-count.ensures.short, c.label_count-count.ensures.count)
 
 pub returns-then-tail-count : goal.returns-then-tail-count
 returns-then-tail-count g c =

@@ -1,0 +1,4 @@
+pub mod Builds
+pub mod FromTexts
+pub mod Numbers
+pub mod WholeTexts

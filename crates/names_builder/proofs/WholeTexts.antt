@@ -1,0 +1,163 @@
+-- Names of whole texts, as a builder reads them.
+use Rattle.std.proofs.Common.{◌≡◌, ◌≢◌, inl, inr, ℕ, Bool, true, false, cond, List, [], ◌∷◌, ◌++◌, length, refl, sym, ap, ◌∙◌, arith, nat_eq, Option, Some, None}
+use Rattle.std.specs.Option.{option_map, option_and_then}
+use Rattle.std.specs.Iterator.{Drains}
+use Rattle.std.proofs.lemmas.Bool.{eqb-true}
+use Rattle.definitions.specs.Name.{Name, Label}
+use Rattle.definitions.specs.Text.{Symbol, Plain, is_dot, is_lone_dot, symbols_of, pieces, onto_first, labels_of_pieces, without_last_dot, if_short, name_of_symbols, name_of_text, relative_of_text}
+use Rattle.names_wire.specs.Spelled.{SpellsNothing}
+use Rattle.names_labels.specs.Open.{without_empty, if_open_short, read_behind}
+use Rattle.names_labels.proofs.Taken.{if_closed}
+use Rattle.names_labels.proofs.Wholes.{name_read, name_of_plain, relative_of_some, not_empty_read, closed_end, empty_end, some_behind, read_first}
+use Rattle.names_builder.specs.Building.{Building, all_labels, octets_of_building}
+use Rattle.names_builder.specs.FromText.{standing, continued, symbols_behind, text_behind}
+use Rattle.names_builder.proofs.FromTexts.{without_last}
+
+abbrev nothing : Building
+nothing = record { done = []; open_label = [] }
+
+pub all_standing : (b : Building) → without_empty (standing b) ≡ all_labels b
+all_standing b = without_last b.done b.open_label
+
+-- ---- items of an iterator
+
+pub drains_first : {S X : Type 0} (steps : S → Option X → S → Type 0) (s t : S) (x : X) (xs : List X) → steps s (Some x) t → Drains steps t xs → Drains steps s (x ∷ xs)
+drains_first {S} {X} steps s t x xs h d = (d.0, (d.1.0, (t, h, d.1.1), d.1.2))
+
+-- ---- symbols
+
+not_lone : (s : Symbol) (ss : List Symbol) → is_dot s ≡ false → is_lone_dot (s ∷ ss) ≡ false
+not_lone s [] h = h
+not_lone s (t ∷ ss) h = refl
+
+pub of_symbols : (b now : Building) (s : Symbol) (ss : List Symbol) → is_dot s ≡ false → b ≡ nothing → ((us : List Symbol) → continued b (s ∷ us) ≡ continued now us) → name_of_symbols (s ∷ ss) ≡ option_map without_empty (symbols_behind now ss)
+of_symbols b now s ss d e h =
+    name_read (s ∷ ss) (omega arith) (not_lone s ss d)
+    ∙ ap (option_map without_empty) (ap (λ x. symbols_behind x (s ∷ ss)) (sym e) ∙ ap if_open_short (h ss))
+
+pub no_symbols : (b : Building) (s : Symbol) → is_dot s ≡ false → b ≡ nothing → ((us : List Symbol) → if_open_short (continued b (s ∷ us)) ≡ None) → (ss : List Symbol) → name_of_symbols (s ∷ ss) ≡ None
+no_symbols b s d e h ss =
+    name_read (s ∷ ss) (omega arith) (not_lone s ss d)
+    ∙ ap (option_map without_empty) (ap (λ x. symbols_behind x (s ∷ ss)) (sym e) ∙ h ss)
+
+pub lone : (s : Symbol) → is_dot s ≡ true → name_of_symbols (s ∷ []) ≡ Some []
+lone s h = ap (λ d. cond d (Some []) (if_short (labels_of_pieces (pieces (without_last_dot (s ∷ [])))))) h
+
+pub behind_dot : (s t : Symbol) (ss : List Symbol) → is_dot s ≡ true → name_of_symbols (s ∷ t ∷ ss) ≡ None
+behind_dot s t ss h = ap (λ d. if_short (labels_of_pieces (cond d ([] ∷ pieces (without_last_dot (t ∷ ss))) (onto_first s (pieces (without_last_dot (t ∷ ss))))))) h
+
+-- ---- text
+
+pub no_dot : (c : ℕ) → c ≢ 46 → nat_eq c 46 ≡ false
+no_dot c h = go (nat_eq c 46) refl
+  where
+    go : (b : Bool) → nat_eq c 46 ≡ b → nat_eq c 46 ≡ false
+    go false e = e
+    go true e = absurd (h (eqb-true c 46 e))
+
+pub of_text : (b now : Building) (c : ℕ) (reader later text : List ℕ) → c ≢ 46 → b ≡ nothing → reader ≡ [] → ((rest : List ℕ) → text_behind b (reader ++ c ∷ rest) ≡ text_behind now (later ++ rest)) → name_of_text (c ∷ text) ≡ option_map without_empty (text_behind now (later ++ text))
+of_text b now c reader later text n e r h =
+    name_of_plain c text (no_dot c n)
+    ∙ ap (option_map without_empty) ((λ i. text_behind (sym e i) (sym r i ++ c ∷ text)) ∙ h text)
+
+pub no_text_first : (b : Building) (c : ℕ) (reader : List ℕ) → c ≢ 46 → b ≡ nothing → reader ≡ [] → ((rest : List ℕ) → text_behind b (reader ++ c ∷ rest) ≡ None) → (text : List ℕ) → name_of_text (c ∷ text) ≡ None
+no_text_first b c reader n e r h text =
+    name_of_plain c text (no_dot c n)
+    ∙ ap (option_map without_empty) ((λ i. text_behind (sym e i) (sym r i ++ c ∷ text)) ∙ h text)
+
+-- nothing is read behind a first character
+pub nothing_more : {S : Type 0} (steps : S → Option ℕ → S → Type 0) (s t : S) (c : ℕ) (read : List ℕ → Option Name) → steps s (Some c) t → ((text : List ℕ) → name_of_text (c ∷ text) ≡ option_map without_empty (read text)) → SpellsNothing steps t read → SpellsNothing steps s name_of_text
+nothing_more {S} steps s t c read h e (inl p) = inl (c ∷ p.0, p.1, (t, h, p.2), λ rest. e (p.0 ++ rest) ∙ ap (option_map without_empty) (p.3 rest))
+nothing_more {S} steps s t c read h e (inr p) = inr (c ∷ p.0, drains_first steps s t c p.0 h p.1, e p.0 ∙ ap (option_map without_empty) p.2)
+
+-- ---- relative names
+
+ends_open : (b : Building) → (b.open_label ≡ [] → ⊥) → if_closed (standing b) ≡ Some (all_labels b)
+ends_open b h = closed_end b.done b.open_label h ∙ ap Some (go b.open_label h ∙ all_standing b)
+  where
+    go : (l : Label) → (l ≡ [] → ⊥) → b.done ++ b.open_label ∷ [] ≡ without_empty (standing b)
+    go l k = sym (all_standing b ∙ sym (labelled b.open_label h))
+      where
+        labelled : (m : Label) → (m ≡ [] → ⊥) → b.done ++ m ∷ [] ≡ all_labels (record { done = b.done; open_label = m })
+        labelled [] j = absurd (j refl)
+        labelled (o ∷ os) j = refl
+
+pub relative_open : (b now : Building) (text : List ℕ) → b ≡ nothing → text_behind b text ≡ Some (standing now) → (now.open_label ≢ []) → relative_of_text text ≡ Some (all_labels now)
+relative_open b now [] e h n = absurd (n (go now.open_label now.done (ap (λ x. text_behind x []) (sym e) ∙ h)))
+  where
+    go : (l : Label) (done : Name) → Some ([] ∷ []) ≡ Some (done ++ l ∷ []) → l ≡ []
+    go l [] k = cc
+    go l (m ∷ []) k = cc
+    go l (m ∷ o ∷ done) k = cc
+relative_open b now (c ∷ text) e h n =
+    relative_of_some c text ∙ ap (option_and_then if_closed) (ap (λ x. text_behind x (c ∷ text)) (sym e) ∙ h) ∙ ends_open now n
+
+-- what stands is empty where there are no octets
+none_stands : (b : Building) → length (octets_of_building b) ≡ 0 → standing b ≡ [] ∷ []
+none_stands b h = go b.done b.open_label h
+  where
+    go : (done : Name) (l : Label) → length (octets_of_building (record { done = done; open_label = l })) ≡ 0 → done ++ l ∷ [] ≡ [] ∷ []
+    go [] [] k = refl
+    go [] (o ∷ os) k = absurd (omega (arith, k))
+    go (m ∷ done) l k = absurd (omega (arith, k))
+
+abbrev read_first_of : Option (List Symbol) → Option Name
+read_first_of o = elim o [ None ↦ None | Some ss ↦ read_behind [] [] ss ]
+
+-- some characters leave more than nothing
+not_nothing : (c : ℕ) (text : List ℕ) → text_behind nothing (c ∷ text) ≡ Some ([] ∷ []) → ⊥
+not_nothing c text h = go (symbols_of (c ∷ text)) refl h
+  where
+    go : (o : Option (List Symbol)) → symbols_of (c ∷ text) ≡ o → read_first_of o ≡ Some ([] ∷ []) → ⊥
+    go None e k = cc
+    go (Some ss) e k = not_empty_read ss (some_behind c text ss e) k
+
+pub relative_none : (b now : Building) (text : List ℕ) → b ≡ nothing → text_behind b text ≡ Some (standing now) → length (octets_of_building now) ≡ 0 → relative_of_text text ≡ Some (all_labels now)
+relative_none b now [] e h n = ap Some (sym (sym (all_standing now) ∙ ap without_empty (none_stands now n)))
+relative_none b now (c ∷ text) e h n = absurd (not_nothing c text (ap (λ x. text_behind x (c ∷ text)) (sym e) ∙ h ∙ ap Some (none_stands now n)))
+
+-- where no label is open, and some are ended
+some_ended : (now : Building) → now.open_label ≡ [] → (length (octets_of_building now) ≡ 0 → ⊥) → Some ([] ∷ []) ≡ Some (standing now) → ⊥
+some_ended now e n h = n (go now.done now.open_label e h)
+  where
+    go : (done : Name) (l : Label) → l ≡ [] → Some ([] ∷ []) ≡ Some (done ++ l ∷ []) → length (octets_of_building (record { done = done; open_label = l })) ≡ 0
+    go [] [] x k = refl
+    go [] (o ∷ os) x k = cc
+    go (m ∷ []) l x k = cc
+    go (m ∷ o ∷ done) l x k = cc
+
+pub no_relative : (b now : Building) (text : List ℕ) → b ≡ nothing → text_behind b text ≡ Some (standing now) → now.open_label ≡ [] → (length (octets_of_building now) ≡ 0 → ⊥) → relative_of_text text ≡ None
+no_relative b now [] e h o n = absurd (some_ended now o n (ap (λ x. text_behind x []) (sym e) ∙ h))
+no_relative b now (c ∷ text) e h o n =
+    relative_of_some c text ∙ ap (option_and_then if_closed) (ap (λ x. text_behind x (c ∷ text)) (sym e) ∙ h)
+    ∙ ap (λ l. if_closed (now.done ++ l ∷ [])) o ∙ empty_end now.done
+
+dot_reads_nothing : (text : List ℕ) → text_behind nothing (46 ∷ text) ≡ None
+dot_reads_nothing text = go (symbols_of text)
+  where
+    go : (o : Option (List Symbol)) → read_first_of (option_map (λ us. Plain 46 ∷ us) o) ≡ None
+    go None = refl
+    go (Some us) = read_first (Plain 46 ∷ us)
+
+pub absolute_text : (b now : Building) (text : List ℕ) → b ≡ nothing → text_behind b text ≡ Some (standing now) → now.open_label ≡ [] → (length (octets_of_building now) ≡ 0 → ⊥) → name_of_text text ≡ Some (all_labels now)
+absolute_text b now [] e h o n = absurd (some_ended now o n (ap (λ x. text_behind x []) (sym e) ∙ h))
+absolute_text b now (c ∷ text) e h o n = go (nat_eq c 46) refl
+  where
+    go : (t : Bool) → nat_eq c 46 ≡ t → name_of_text (c ∷ text) ≡ Some (all_labels now)
+    go false k =
+        name_of_plain c text k ∙ ap (option_map without_empty) (ap (λ x. text_behind x (c ∷ text)) (sym e) ∙ h) ∙ ap Some (all_standing now)
+    go true k =
+        let d : None ≡ Some (standing now) = sym (dot_reads_nothing text) ∙ ap (λ x. text_behind nothing (x ∷ text)) (sym (eqb-true c 46 k)) ∙ ap (λ x. text_behind x (c ∷ text)) (sym e) ∙ h in
+        cc
+
+-- a text that spells nothing behind nothing is no relative name
+not_relative : (b : Building) (text : List ℕ) → b ≡ nothing → text_behind b text ≡ None → relative_of_text text ≡ None
+not_relative b [] e h = let x : Some ([] ∷ []) ≡ None = ap (λ y. text_behind y []) (sym e) ∙ h in cc
+not_relative b (c ∷ text) e h = relative_of_some c text ∙ ap (option_and_then if_closed) (ap (λ y. text_behind y (c ∷ text)) (sym e) ∙ h)
+
+pub nothing_relative : {S : Type 0} (steps : S → Option ℕ → S → Type 0) (s : S) (b : Building) → b ≡ nothing → SpellsNothing steps s (text_behind b) → SpellsNothing steps s relative_of_text
+nothing_relative {S} steps s b e (inl p) = inl (p.0, p.1, p.2, λ rest. not_relative b (p.0 ++ rest) e (p.3 rest))
+nothing_relative {S} steps s b e (inr p) = inr (p.0, p.1, not_relative b p.0 e p.2)
+
+pub same_end : (n : ℕ) (t : Bool) → t ≡ nat_eq n 0 → t ≡ false → n ≡ 0 → ⊥
+same_end n t e f h = let x : true ≡ false = sym (e ∙ ap (λ m. nat_eq m 0) h) ∙ f in cc

@@ -1,0 +1,101 @@
+-- Names read from text (RFC 1035, 5.1).
+use Rattle.std.specs.Prelude.{◌≡◌, ◌⊎◌, ℕ, Bool, true, false, List, [], ◌∷◌, ◌++◌, map, Option, Some, None}
+use Rattle.std.specs.Option.{option_map}
+use Rattle.std.specs.Iterator.{Yields, Drains}
+use Rattle.definitions.specs.Name.{Name}
+use Rattle.definitions.specs.Text.{Symbol, symbols_of, pieces, is_dot, is_bracket, is_symbol, octet}
+use Rattle.names_wire.specs.Symbols.{symbol_of, IsUnfinished}
+use Rattle.names_wire.specs.declared.symbol.Symbol.{Symbol as WireSymbol}
+use Rattle.names_labels.specs.Open.{open_labels, read_behind}
+use Rattle.names_builder.specs.Building.{Building}
+use Rattle.names_builder.specs.declared.push_error.PushError.{PushError}
+use Rattle.names_builder.specs.declared.push_error.PushError.TheVariants.{LongLabel, LongName, ShortBuf as Full}
+use Rattle.names_builder.specs.declared.push_error.PushNameError.{PushNameError}
+use Rattle.names_builder.specs.declared.push_error.PushNameError.TheVariants.{LongName as TooLong, ShortBuf as NoRoom}
+use Rattle.names_builder.specs.declared.text_error.FromStrError.{FromStrError}
+use Rattle.names_builder.specs.declared.text_error.FromStrError.TheVariants.{Presentation, ShortBuf}
+use Rattle.names_builder.specs.declared.text_error.RelativeFromStrError.{RelativeFromStrError}
+use Rattle.names_builder.specs.declared.text_error.RelativeFromStrError.TheVariants.{FromStr, AbsoluteName}
+
+-- the text is to blame, and not the room
+abbrev pub is_text : FromStrError → Bool
+is_text (Presentation p) = true
+is_text ShortBuf = false
+
+abbrev pub is_relative_text : RelativeFromStrError → Bool
+is_relative_text (FromStr e) = is_text e
+is_relative_text AbsoluteName = true
+
+abbrev pub is_pushed_text : PushError → Bool
+is_pushed_text LongLabel = true
+is_pushed_text LongName = true
+is_pushed_text Full = false
+
+abbrev pub is_long_name : PushNameError → Bool
+is_long_name TooLong = true
+is_long_name NoRoom = false
+
+-- ---- one symbol
+
+-- an octet that goes on with a label, which is open or begins with it
+pub record GoesOn (s : Symbol) (open_label : Bool) (v : ℕ) : Type 0 where
+  pub plain : is_dot s ≡ false
+  pub valid : is_symbol s ≡ true
+  pub begins : open_label ≡ false → is_bracket s ≡ false
+  pub value : v ≡ octet s
+
+-- an empty label, a binary one, or no symbol
+abbrev pub CannotGoOn : Symbol → Bool → Type 0
+CannotGoOn s open_label = ((is_dot s ≡ true) × (open_label ≡ false)) ⊎ (((is_bracket s ≡ true) × (open_label ≡ false)) ⊎ (is_symbol s ≡ false))
+
+-- ---- what a builder reads
+
+-- its labels, and the open one last: empty where none is open
+abbrev pub standing : Building → Name
+standing b = b.done ++ b.open_label ∷ []
+
+-- the labels where these symbols follow, however long they get
+abbrev pub continued : Building → List Symbol → Option Name
+continued b ss = option_map (λ ls. b.done ++ ls) (open_labels b.open_label (pieces ss))
+
+-- the labels where these symbols follow
+abbrev pub symbols_behind : Building → List Symbol → Option Name
+symbols_behind b ss = read_behind b.done b.open_label ss
+
+-- the labels where this text follows
+abbrev pub text_behind : Building → List ℕ → Option Name
+text_behind b text = elim (symbols_of text) [ None ↦ None | Some ss ↦ read_behind b.done b.open_label ss ]
+
+-- the iterator gave these symbols, and the builder has read them
+abbrev pub ReadsSymbols : {S : Type 0} → (S → Option WireSymbol → S → Type 0) → S → Building → Building → Type 0
+ReadsSymbols {S} steps s old new = (read : List WireSymbol) × Drains steps s read × (symbols_behind old (map symbol_of read) ≡ Some (standing new))
+
+-- The iterator gave a symbol that was refused; the builder has read those before it, and nothing else.
+pub record StopsAtSymbol {S : Type 0} (steps : S → Option WireSymbol → S → Type 0) (s : S) (old new : Building) (e : FromStrError) : Type 0 where
+  pub read : List WireSymbol
+  pub refused : WireSymbol
+  pub after : S
+  pub yields : Yields steps s (read ++ refused ∷ []) after
+  pub stands : symbols_behind old (map symbol_of read) ≡ Some (standing new)
+  pub text : is_text e ≡ true → (rest : List Symbol) → symbols_behind old (map symbol_of (read ++ refused ∷ []) ++ rest) ≡ None
+
+-- The builder has read the whole symbols of some characters that the iterator gave behind others, and nothing else.
+pub record StopsInText {S : Type 0} (steps : S → Option ℕ → S → Type 0) (s : S) (before : List ℕ) (old new : Building) : Type 0 where
+  pub text : List ℕ
+  pub unfinished : List ℕ
+  pub after : S
+  pub yields : Yields steps s text after
+  pub begins : IsUnfinished unfinished
+  pub stands : (rest : List ℕ) → text_behind old (before ++ (text ++ rest)) ≡ text_behind new (unfinished ++ rest)
+
+-- ---- symbols that an iterator gives
+
+-- they are read as this
+abbrev pub SymbolsSpell : {S A : Type 0} → (S → Option WireSymbol → S → Type 0) → S → (List Symbol → Option A) → A → Type 0
+SymbolsSpell {S} steps s read a = (symbols : List WireSymbol) × Drains steps s symbols × (read (map symbol_of symbols) ≡ Some a)
+
+-- nothing is read from those it gave: whatever may come behind them, or there are no more
+abbrev pub SymbolsSpellNothing : {S A : Type 0} → (S → Option WireSymbol → S → Type 0) → S → (List Symbol → Option A) → Type 0
+SymbolsSpellNothing {S} steps s read =
+    ((symbols : List WireSymbol) × (t : S) × Yields steps s symbols t × ((rest : List Symbol) → read (map symbol_of symbols ++ rest) ≡ None))
+    ⊎ ((symbols : List WireSymbol) × Drains steps s symbols × (read (map symbol_of symbols) ≡ None))

@@ -1,0 +1,96 @@
+//! Whole texts of names, read into builders (RFC 1035, 5.1).
+
+ghost use Rattle.std.specs.Prelude.{◌≡◌, true, None, Some, ℕ, List, IfOk, IfErr, IsErrOf};
+ghost use Rattle.std.specs.Iterator.{IsFinite, Drains};
+ghost use Rattle.definitions.specs.Name.{Name as Labels};
+ghost use Rattle.definitions.specs.Text.{name_of_text, name_of_symbols, relative_of_text};
+ghost use Rattle.names_wire.specs.Spelled.{SpellsNothing};
+ghost use Rattle.names_builder.specs.FromText.{is_text, is_relative_text, SymbolsSpell, SymbolsSpellNothing};
+ghost use Rattle.names_builder.specs.Building.{all_labels};
+
+use crate::builder::NameBuilder;
+use crate::text::separates;
+use crate::text_error::{FromStrError, PresentationError, RelativeFromStrError};
+use names_wire::symbol::{Symbol, SymbolReader};
+use std::alloc::Global;
+
+/// A builder with the labels of the name that the symbols spell. A dot alone is the root, and else a last dot may
+/// be left out.
+pub fn read_symbols<S: Iterator<Item = Symbol> + Drop>(
+    alloc: Global,
+    symbols: S,
+) -> Result<NameBuilder<Vec<u8>>, FromStrError>
+    requires can { S.can_next symbols }
+    requires ends { IsFinite (S.remaining symbols) }
+    ensures ok { IfOk result (λ n. SymbolsSpell S.next_gives symbols name_of_symbols (all_labels n)) }
+    ensures refused { IfErr result (λ e. is_text e ≡ true → SymbolsSpellNothing S.next_gives symbols name_of_symbols) }
+{
+    let mut symbols = symbols;
+    let Some(first) = symbols.next() else {
+        return Err(FromStrError::Presentation(PresentationError::empty_label()));
+    };
+    if separates(first) {
+        match symbols.next() {
+            Some(_) => {
+                return Err(FromStrError::Presentation(PresentationError::empty_label()));
+            }
+            None => return Ok(NameBuilder::new(alloc)),
+        }
+    }
+    let mut builder = NameBuilder::new(alloc);
+    builder.push_symbol(first)?;
+    builder.append_symbols(symbols)?;
+    Ok(builder)
+}
+
+/// A builder with the labels of the name that the characters spell. A dot alone is the root, and else a last dot
+/// may be left out.
+///
+/// It stops at the first character behind which no name can come.
+pub fn read_chars<C: Iterator<Item = char> + Drop>(
+    alloc: Global,
+    chars: C,
+) -> Result<NameBuilder<Vec<u8>>, FromStrError>
+    requires can { C.can_next chars }
+    requires ends { IsFinite (C.remaining chars) }
+    ensures ok { IfOk result (λ n. (text : List ℕ) × Drains C.next_gives chars text × (name_of_text text ≡ Some (all_labels n))) }
+    ensures refused { IfErr result (λ e. is_text e ≡ true → SpellsNothing C.next_gives chars name_of_text) }
+{
+    let mut chars = chars;
+    let Some(first) = chars.next() else {
+        return Err(FromStrError::Presentation(PresentationError::empty_label()));
+    };
+    if first == '.' {
+        match chars.next() {
+            Some(_) => {
+                return Err(FromStrError::Presentation(PresentationError::empty_label()));
+            }
+            None => return Ok(NameBuilder::new(alloc)),
+        }
+    }
+    let (mut builder, mut reader) = (NameBuilder::new(alloc), SymbolReader::new());
+    builder.push_char(&mut reader, first)?;
+    builder.append_text(reader, chars)?;
+    Ok(builder)
+}
+
+/// A builder with the labels of the relative name that the characters spell: none where there are none. A last dot
+/// is refused.
+pub fn read_relative<C: Iterator<Item = char> + Drop>(
+    alloc: Global,
+    chars: C,
+) -> Result<NameBuilder<Vec<u8>>, RelativeFromStrError>
+    requires can { C.can_next chars }
+    requires ends { IsFinite (C.remaining chars) }
+    ensures ok { IfOk result (λ n. (text : List ℕ) × Drains C.next_gives chars text × (relative_of_text text ≡ Some (all_labels n))) }
+    ensures refused { IfErr result (λ e. is_relative_text e ≡ true → SpellsNothing C.next_gives chars relative_of_text) }
+    ensures absolute { IsErrOf result RelativeFromStrError.AbsoluteName → (text : List ℕ) × (n : Labels) × Drains C.next_gives chars text × (name_of_text text ≡ Some n) }
+{
+    let mut builder = NameBuilder::new(alloc);
+    builder.append_chars(chars)?;
+    if builder.in_label() || builder.is_empty() {
+        Ok(builder)
+    } else {
+        Err(RelativeFromStrError::AbsoluteName)
+    }
+}

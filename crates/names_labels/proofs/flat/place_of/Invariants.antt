@@ -1,5 +1,0 @@
-use Rattle.names_labels.proofs.Cuts.{Behind}
-use Rattle.names_labels.proofs.flat.place_of.Given as goal
-
-abbrev pub invariant-loop : goal.invariant-loop
-invariant-loop l = Behind l.run l.rest l.counter
