@@ -3,7 +3,7 @@
 //! With memory each call succeeds at once. `rt try --test --fail-alloc N` refuses the Nth growth of each test.
 
 use arrayvec::ArrayVec;
-use names_flat::builder::NameBuilder;
+use names_flat::builder::{Finish, NameBuilder};
 use names_flat::flatten::FlattenInto;
 use names_flat::name::Name;
 use names_flat::push_error::{PushError, PushNameError};
