@@ -52,6 +52,27 @@ fn texts_that_spell_no_name_are_refused(rt: HostRuntime) {
 }
 
 #[test]
+fn the_first_fault_is_named(rt: HostRuntime) {
+    let faults = [
+        ("", "empty label"),
+        ("a..\\256", "empty label"),
+        ("a.\\256..", "bad escape"),
+        ("a\u{e9}\\[", "bad symbol"),
+        ("\\[\u{e9}", "a binary label was encountered"),
+        ("a\\", "unexpected end of input"),
+    ];
+    for (text, fault) in faults {
+        match Name::vec_from_str(rt.alloc(), text) {
+            Ok(_) => panic!(rt; "{text} is read"),
+            Err(error) => {
+                let named = error.to_string(rt.alloc()).expect(&rt, "memory");
+                assert!(rt; named.as_str() == fault);
+            }
+        }
+    }
+}
+
+#[test]
 fn relative_names_are_read_from_text(rt: HostRuntime) {
     let www = RelativeName::vec_from_str(rt.alloc(), "www.example").expect(&rt, "a name");
     assert!(rt; www.as_slice() == b"\x03www\x07example".as_slice());

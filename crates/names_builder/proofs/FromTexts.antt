@@ -1,7 +1,7 @@
 -- A builder that reads symbols.
 use Rattle.std.proofs.Common.{◌≡◌, inl, inr, ℕ, suc, ◌+◌, ◌<◌, ◌≤◌, Bool, true, false, cond, not, ◌&&◌, List, [], ◌∷◌, ◌++◌, map, length, refl, sym, ap, ◌∙◌, append_assoc, arith, nat_lt, nat_le, length-append, subst, Option, Some, None}
 use Rattle.std.specs.Option.{option_map}
-use Rattle.std.specs.Prelude.{◌↔◌, ◌≢◌, IsTrue, IfErr, Result, Ok, Err}
+use Rattle.std.specs.Prelude.{◌↔◌, ◌≢◌, IsTrue, IfErr, Result, Ok, Err, IfSome}
 use Rattle.std.specs.Iterator.{Yields}
 use Rattle.std.proofs.lemmas.List.{append-nil}
 use Rattle.std.proofs.lemmas.Bool.{lt-leb, le-leb, lt-ltb, eqb-true}
@@ -13,11 +13,15 @@ use Rattle.names_labels.proofs.Checks.{length-spelled_sum}
 use Rattle.names_labels.proofs.Taken.{taken, fits, taken_pieces}
 use Rattle.names_labels.proofs.Wholes.{some_taken, open_within, without_empty-append, wire_len-append}
 use Rattle.names_builder.specs.Building.{Building, IsShort, with_octets, ended, all_labels, labels_with, octets_of_building, open_octets}
-use Rattle.names_builder.specs.FromText.{GoesOn, CannotGoOn, standing, continued, symbols_behind, text_behind}
+use Rattle.names_builder.specs.FromText.{GoesOn, CannotGoOn, standing, continued, symbols_behind, text_behind, StopsInText, FirstFault}
 use Rattle.names_builder.specs.FromText.{is_text, is_pushed_text}
 use Rattle.names_builder.specs.declared.push_error.PushError.{PushError}
 use Rattle.names_builder.specs.declared.push_error.PushError.TheVariants.{LongLabel, LongName, ShortBuf as Full}
+use Rattle.names_builder.specs.Fault.{OctetFault, FaultAt, CharFault, fault_of, named, pushed_fault}
+use Rattle.names_builder.specs.declared.text_error.Fault.{Fault}
+use Rattle.names_builder.specs.declared.text_error.Fault.TheVariants.{Symbol as BadText, BinaryLabel, EmptyLabel, LongLabel as TextLabel, LongName as TextName}
 use Rattle.names_builder.specs.declared.text_error.FromStrError.{FromStrError}
+use Rattle.names_builder.specs.declared.text_error.FromStrError.TheVariants.{Presentation, ShortBuf}
 use Rattle.names_builder.proofs.Builds.{open_length}
 
 -- the labels symbol by symbol
@@ -166,6 +170,36 @@ not_pushed b s in_label v LongName g n h long name t ss =
     let k = name refl in
     ap if_open_short (at_octet b s in_label v g n (omega (arith, k.0)) ss) ∙ too_long b v (omega (arith, k.0)) k.1 ss
 not_pushed b s in_label v Full g n h long name t ss = cc
+
+octet_fault : (b : Building) (s : Symbol) (in_label : Bool) (f : Fault) → (in_label ≡ false → b.open_label ≡ []) → OctetFault s in_label f → FaultAt b s f
+octet_fault b s in_label (BadText e) h o = o
+octet_fault b s in_label EmptyLabel h o = (o.0, h o.1)
+octet_fault b s in_label BinaryLabel h o = (o.0, h o.1)
+octet_fault b s in_label TextLabel h o = absurd o
+octet_fault b s in_label TextName h o = absurd o
+
+-- the fault of a symbol that adds no octet
+pub kept_fault : (b : Building) (s : Symbol) (in_label : Bool) (e : FromStrError) → (in_label ≡ false → b.open_label ≡ []) → IfSome (fault_of e) (OctetFault s in_label) → IfSome (fault_of e) (FaultAt b s)
+kept_fault b s in_label (Presentation p) h o = octet_fault b s in_label (named p) h o
+kept_fault b s in_label ShortBuf h o = tt
+
+-- the fault of a symbol that a character makes whole
+pub whole_fault : (b : Building) (s : Symbol) (unfinished later : List ℕ) (ch : ℕ) (e : FromStrError) → ((rest : List ℕ) → symbols_of (unfinished ++ ch ∷ rest) ≡ option_map (λ ss. s ∷ ss) (symbols_of (later ++ rest))) → IfSome (fault_of e) (FaultAt b s) → IfSome (fault_of e) (CharFault b unfinished ch)
+whole_fault b s unfinished later ch (Presentation p) h o = inr (s, later, h, o)
+whole_fault b s unfinished later ch ShortBuf h o = tt
+
+-- the same at the next character that an iterator gives
+pub first_fault : {S : Type 0} (steps : S → Option ℕ → S → Type 0) (s t : S) (before : List ℕ) (old new : Building) (stop : StopsInText steps s before old new) (ch : ℕ) (e : FromStrError) → steps stop.after (Some ch) t → IfSome (fault_of e) (CharFault new stop.unfinished ch) → IfSome (fault_of e) (FirstFault steps s before old new)
+first_fault steps s t before old new stop ch (Presentation p) h o = record { stop = stop; fault = inl (ch, t, h, o) }
+first_fault steps s t before old new stop ch ShortBuf h o = tt
+
+-- the fault of a symbol whose octet does not fit
+pub pushed_at : (b : Building) (s : Symbol) (in_label : Bool) (v : ℕ) (e : PushError) → GoesOn s in_label v → (b.open_label ≡ [] → in_label ≡ false) → length b.open_label ≤ 63 → (e ≡ LongLabel → 63 < length b.open_label + 1) → (e ≡ LongName → (length b.open_label + 1 ≤ 63) × (254 < length (octets_of_building (with_octets b (v ∷ []))))) → IfSome (pushed_fault e) (FaultAt b s)
+pushed_at b s in_label v LongLabel g n h long name = (record { plain = g.plain; valid = g.valid; begins = λ k. g.begins (n k) }, omega (arith, long refl))
+pushed_at b s in_label v LongName g n h long name =
+    let k = name refl in
+    (record { plain = g.plain; valid = g.valid; begins = λ j. g.begins (n j) }, omega (arith, k.0), subst (λ o. 254 < length (octets_of_building (with_octets b (o ∷ [])))) g.value k.1)
+pushed_at b s in_label v Full g n h long name = tt
 
 abbrev read_then : Building → Option (List Symbol) → Option Name
 read_then b o = elim o [ None ↦ None | Some ss ↦ read_behind b.done b.open_label ss ]

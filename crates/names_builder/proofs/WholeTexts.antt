@@ -1,7 +1,7 @@
 -- Names of whole texts, as a builder reads them.
-use Rattle.std.proofs.Common.{◌≡◌, ◌≢◌, inl, inr, ℕ, Bool, true, false, cond, List, [], ◌∷◌, ◌++◌, length, refl, sym, ap, ◌∙◌, arith, nat_eq, Option, Some, None}
+use Rattle.std.proofs.Common.{map, subst, ◌≡◌, ◌≢◌, inl, inr, ℕ, Bool, true, false, cond, List, [], ◌∷◌, ◌++◌, length, refl, sym, ap, ◌∙◌, arith, nat_eq, Option, Some, None, IfSome}
 use Rattle.std.specs.Option.{option_map, option_and_then}
-use Rattle.std.specs.Iterator.{Drains}
+use Rattle.std.specs.Iterator.{Yields, Drains}
 use Rattle.std.proofs.lemmas.Bool.{eqb-true}
 use Rattle.definitions.specs.Name.{Name, Label}
 use Rattle.definitions.specs.Text.{Symbol, Plain, is_dot, is_lone_dot, symbols_of, pieces, onto_first, labels_of_pieces, without_last_dot, if_short, name_of_symbols, name_of_text, relative_of_text}
@@ -10,7 +10,20 @@ use Rattle.names_labels.specs.Open.{without_empty, if_open_short, read_behind}
 use Rattle.names_labels.proofs.Taken.{if_closed}
 use Rattle.names_labels.proofs.Wholes.{name_read, name_of_plain, relative_of_some, not_empty_read, closed_end, empty_end, some_behind, read_first}
 use Rattle.names_builder.specs.Building.{Building, all_labels, octets_of_building}
-use Rattle.names_builder.specs.FromText.{standing, continued, symbols_behind, text_behind}
+use Rattle.names_wire.specs.Symbols.{IsUnfinished, symbol_of}
+use Rattle.names_wire.specs.declared.symbol.Symbol.{Symbol as WireSymbol}
+use Rattle.names_wire.proofs.Characters.{characters, no_octets}
+use Rattle.std.specs.Str.{chars, IsUtf8}
+use Rattle.std.specs.Str.Iter.{chars_rest, chars_steps}
+use Rattle.std.specs.declared.str.Chars.{Chars}
+use Rattle.names_builder.specs.Fault.{FaultAt, CharFault, fault_of, relative_fault_of, named}
+use Rattle.names_builder.specs.declared.text_error.RelativeFromStrError.{RelativeFromStrError}
+use Rattle.names_builder.specs.declared.text_error.RelativeFromStrError.TheVariants.{FromStr, AbsoluteName}
+use Rattle.names_builder.specs.declared.text_error.Fault.{Fault}
+use Rattle.names_builder.specs.declared.text_error.Fault.TheVariants.{EmptyLabel}
+use Rattle.names_builder.specs.declared.text_error.FromStrError.{FromStrError}
+use Rattle.names_builder.specs.declared.text_error.FromStrError.TheVariants.{Presentation, ShortBuf}
+use Rattle.names_builder.specs.FromText.{standing, continued, symbols_behind, text_behind, FirstFault, NameFault, RelativeFault, StopsAtSymbol, FirstSymbolFault, SymbolsFault, in_turn}
 use Rattle.names_builder.proofs.FromTexts.{without_last}
 
 abbrev nothing : Building
@@ -161,3 +174,111 @@ nothing_relative {S} steps s b e (inr p) = inr (p.0, p.1, not_relative b p.0 e p
 
 pub same_end : (n : ℕ) (t : Bool) → t ≡ nat_eq n 0 → t ≡ false → n ≡ 0 → ⊥
 same_end n t e f h = let x : true ≡ false = sym (e ∙ ap (λ m. nat_eq m 0) h) ∙ f in cc
+
+-- ---- faults
+
+-- no characters are of a symbol that isn't whole
+none_unfinished : IsUnfinished []
+none_unfinished k h e = absurd (omega arith)
+
+-- a dot in front of all
+pub dot_first : {S : Type 0} (steps : S → Option ℕ → S → Type 0) (s t : S) (c : ℕ) (f : Fault) → steps s (Some c) t → c ≡ 46 → f ≡ EmptyLabel → FirstFault steps s [] nothing nothing f
+dot_first steps s t c f h e k = record {
+  stop = record { text = []; unfinished = []; after = s; yields = refl; begins = none_unfinished; stands = λ rest. refl };
+  fault = inl (c, t, h, inr (Plain 46, [], λ rest. ap (λ x. symbols_of (x ∷ rest)) e, subst (FaultAt nothing (Plain 46)) (sym k) (refl, refl)));
+}
+
+-- a first character that is refused
+pub char_first : {S : Type 0} (steps : S → Option ℕ → S → Type 0) (s t : S) (c : ℕ) (b : Building) (reader : List ℕ) (e : FromStrError) → steps s (Some c) t → b ≡ nothing → reader ≡ [] → IfSome (fault_of e) (CharFault b reader c) → IfSome (fault_of e) (NameFault steps s)
+char_first steps s t c b reader ShortBuf h i r o = tt
+char_first steps s t c b reader (Presentation p) h i r o = inr (
+  nothing,
+  record {
+    stop = record { text = []; unfinished = []; after = s; yields = refl; begins = none_unfinished; stands = λ rest. refl };
+    fault = inl (c, t, h, subst (λ x. CharFault x [] c (named p)) i (subst (λ x. CharFault b x c (named p)) r o));
+  },
+)
+
+-- a fault behind the first character
+pub fault_behind : {S : Type 0} (steps : S → Option ℕ → S → Type 0) (s t : S) (c : ℕ) (b now new : Building) (reader later : List ℕ) (e : FromStrError) → steps s (Some c) t → b ≡ nothing → reader ≡ [] → ((rest : List ℕ) → text_behind b (reader ++ c ∷ rest) ≡ text_behind now (later ++ rest)) → IfSome (fault_of e) (FirstFault steps t later now new) → IfSome (fault_of e) (NameFault steps s)
+fault_behind steps s t c b now new reader later ShortBuf h i r on o = tt
+fault_behind steps s t c b now new reader later (Presentation p) h i r on o = inr (
+  new,
+  record {
+    stop = record {
+      text = c ∷ o.stop.text;
+      unfinished = o.stop.unfinished;
+      after = o.stop.after;
+      yields = (t, h, o.stop.yields);
+      begins = o.stop.begins;
+      stands = λ rest. (λ j. text_behind (sym i j) (sym r j ++ c ∷ (o.stop.text ++ rest))) ∙ on (o.stop.text ++ rest) ∙ o.stop.stands rest;
+    };
+    fault = o.fault;
+  },
+)
+
+pub relative_fault : {S : Type 0} (steps : S → Option ℕ → S → Type 0) (s : S) (b new : Building) (e : FromStrError) → b ≡ nothing → IfSome (fault_of e) (FirstFault steps s [] b new) → IfSome (fault_of e) (RelativeFault steps s)
+relative_fault steps s b new ShortBuf i o = tt
+relative_fault steps s b new (Presentation p) i o = (new, subst (λ x. FirstFault steps s [] x new (named p)) i o)
+
+-- a dot in front of all symbols
+pub dot_symbol : {S : Type 0} (steps : S → Option WireSymbol → S → Type 0) (s t : S) (c : WireSymbol) (f : Fault) → steps s (Some c) t → is_dot (symbol_of c) ≡ true → f ≡ EmptyLabel → FirstSymbolFault steps s nothing nothing f
+dot_symbol steps s t c f h e k = record { read = []; refused = c; after = t; yields = (t, h, refl); stands = refl; fault = subst (FaultAt nothing (symbol_of c)) (sym k) (e, refl) }
+
+pub symbol_first : {S : Type 0} (steps : S → Option WireSymbol → S → Type 0) (s t : S) (c : WireSymbol) (b : Building) (e : FromStrError) → steps s (Some c) t → b ≡ nothing → IfSome (fault_of e) (FaultAt b (symbol_of c)) → IfSome (fault_of e) (SymbolsFault steps s)
+symbol_first steps s t c b ShortBuf h i o = tt
+symbol_first steps s t c b (Presentation p) h i o =
+    inr (nothing, record { read = []; refused = c; after = t; yields = (t, h, refl); stands = refl; fault = subst (λ x. FaultAt x (symbol_of c) (named p)) i o })
+
+pub symbol_behind : {S : Type 0} (steps : S → Option WireSymbol → S → Type 0) (s t : S) (c : WireSymbol) (b now new : Building) (e : FromStrError) → steps s (Some c) t → b ≡ nothing → ((ss : List Symbol) → continued b (symbol_of c ∷ ss) ≡ continued now ss) → StopsAtSymbol steps t now new e → IfSome (fault_of e) (SymbolsFault steps s)
+symbol_behind steps s t c b now new ShortBuf h i on o = tt
+symbol_behind steps s t c b now new (Presentation p) h i on o = inr (
+  new,
+  record {
+    read = c ∷ o.read;
+    refused = o.refused;
+    after = o.after;
+    yields = (t, h, o.yields);
+    stands = ap (λ x. symbols_behind x (map symbol_of (c ∷ o.read))) (sym i) ∙ ap if_open_short (on (map symbol_of o.read)) ∙ o.stands;
+    fault = o.fault;
+  },
+)
+
+-- ---- faults of a text
+
+in_turn-yields : (text rest : List ℕ) → Yields in_turn (text ++ rest) text rest
+in_turn-yields [] rest = refl
+in_turn-yields (c ∷ text) rest = (text ++ rest, refl, in_turn-yields text rest)
+
+pub first_in_text : (s : Chars) (before : List ℕ) (old new : Building) (f : Fault) → IsUtf8 (chars_rest s) → FirstFault chars_steps s before old new f → FirstFault in_turn (chars (chars_rest s)) before old new f
+first_in_text s before old new f u o =
+    let after = o.stop.after in
+    let read = characters s after o.stop.text u o.stop.yields in
+    record {
+      stop = record {
+        text = o.stop.text;
+        unfinished = o.stop.unfinished;
+        after = chars (chars_rest after);
+        yields = subst (λ x. Yields in_turn x o.stop.text (chars (chars_rest after))) (sym read.0) (in_turn-yields o.stop.text (chars (chars_rest after)));
+        begins = o.stop.begins;
+        stands = o.stop.stands;
+      };
+      fault = elim o.fault [
+        | inl p ↦ inl (p.0, chars (chars_rest p.1), (characters after p.1 (p.0 ∷ []) read.1 (p.1, p.2, refl)).0, p.3)
+        | inr p ↦ inr ([], no_octets (chars_rest after) p.1.0.0, p.2, p.3)
+      ];
+    }
+
+pub fault_in_text : (s : Chars) (bs : List ℕ) (e : FromStrError) → IsUtf8 bs → chars_rest s ≡ bs → IfSome (fault_of e) (NameFault chars_steps s) → IfSome (fault_of e) (NameFault in_turn (chars bs))
+fault_in_text s bs ShortBuf u e o = tt
+fault_in_text s bs (Presentation p) u e o = subst (λ x. NameFault in_turn (chars x) (named p)) e (go o)
+  where
+    go : NameFault chars_steps s (named p) → NameFault in_turn (chars (chars_rest s)) (named p)
+    go (inl q) = inl ([], no_octets (chars_rest s) q.1.0.0, q.2)
+    go (inr q) = inr (q.0, first_in_text s [] nothing q.0 (named p) (subst IsUtf8 (sym e) u) q.1)
+
+pub relative_fault_in_text : (s : Chars) (bs : List ℕ) (e : RelativeFromStrError) → IsUtf8 bs → chars_rest s ≡ bs → IfSome (relative_fault_of e) (RelativeFault chars_steps s) → IfSome (relative_fault_of e) (RelativeFault in_turn (chars bs))
+relative_fault_in_text s bs AbsoluteName u e o = tt
+relative_fault_in_text s bs (FromStr ShortBuf) u e o = tt
+relative_fault_in_text s bs (FromStr (Presentation p)) u e o =
+    subst (λ x. RelativeFault in_turn (chars x) (named p)) e (o.0, first_in_text s [] nothing o.0 (named p) (subst IsUtf8 (sym e) u) o.1)

@@ -1,5 +1,5 @@
 -- Names read from text (RFC 1035, 5.1).
-use Rattle.std.specs.Prelude.{◌≡◌, ◌⊎◌, ℕ, Bool, true, false, List, [], ◌∷◌, ◌++◌, map, Option, Some, None}
+use Rattle.std.specs.Prelude.{◌≡◌, ◌⊎◌, ℕ, Bool, true, false, List, [], ◌∷◌, ◌++◌, map, Option, Some, None, IfSome}
 use Rattle.std.specs.Option.{option_map}
 use Rattle.std.specs.Iterator.{Yields, Drains}
 use Rattle.definitions.specs.Name.{Name}
@@ -8,6 +8,10 @@ use Rattle.names_wire.specs.Symbols.{symbol_of, IsUnfinished}
 use Rattle.names_wire.specs.declared.symbol.Symbol.{Symbol as WireSymbol}
 use Rattle.names_labels.specs.Open.{open_labels, read_behind}
 use Rattle.names_builder.specs.Building.{Building}
+use Rattle.names_builder.specs.Fault.{FaultAt, CharFault, fault_of}
+use Rattle.names_builder.specs.declared.text_error.Fault.{Fault}
+use Rattle.names_builder.specs.declared.text_error.Fault.TheVariants.{Symbol as BadText, EmptyLabel}
+use Rattle.names_wire.specs.declared.symbol.SymbolCharsError.TheVariants.{ShortInput}
 use Rattle.names_builder.specs.declared.push_error.PushError.{PushError}
 use Rattle.names_builder.specs.declared.push_error.PushError.TheVariants.{LongLabel, LongName, ShortBuf as Full}
 use Rattle.names_builder.specs.declared.push_error.PushNameError.{PushNameError}
@@ -77,6 +81,7 @@ pub record StopsAtSymbol {S : Type 0} (steps : S → Option WireSymbol → S →
   pub after : S
   pub yields : Yields steps s (read ++ refused ∷ []) after
   pub stands : symbols_behind old (map symbol_of read) ≡ Some (standing new)
+  pub fault : IfSome (fault_of e) (FaultAt new (symbol_of refused))
   pub text : is_text e ≡ true → (rest : List Symbol) → symbols_behind old (map symbol_of (read ++ refused ∷ []) ++ rest) ≡ None
 
 -- The builder has read the whole symbols of some characters that the iterator gave behind others, and nothing else.
@@ -87,6 +92,19 @@ pub record StopsInText {S : Type 0} (steps : S → Option ℕ → S → Type 0) 
   pub yields : Yields steps s text after
   pub begins : IsUnfinished unfinished
   pub stands : (rest : List ℕ) → text_behind old (before ++ (text ++ rest)) ≡ text_behind new (unfinished ++ rest)
+
+-- The first fault of the characters that an iterator gives behind others: what was before it is read, and it is that
+-- of the next character, or of the end within a symbol.
+pub record FirstFault {S : Type 0} (steps : S → Option ℕ → S → Type 0) (s : S) (before : List ℕ) (old new : Building) (f : Fault) : Type 0 where
+  pub stop : StopsInText steps s before old new
+  pub fault :
+      ((ch : ℕ) × (t : S) × steps stop.after (Some ch) t × CharFault new stop.unfinished ch f)
+      ⊎ ((t : S) × steps stop.after None t × (symbols_of stop.unfinished ≡ None) × (f ≡ BadText ShortInput))
+
+-- The first fault of the characters that an iterator gives as a name: there are none, or that of the first refused one.
+abbrev pub NameFault : {S : Type 0} → (S → Option ℕ → S → Type 0) → S → Fault → Type 0
+NameFault {S} steps s f =
+    ((t : S) × steps s None t × (f ≡ EmptyLabel)) ⊎ ((new : Building) × FirstFault steps s [] (record { done = []; open_label = [] }) new f)
 
 -- ---- symbols that an iterator gives
 
@@ -99,3 +117,26 @@ abbrev pub SymbolsSpellNothing : {S A : Type 0} → (S → Option WireSymbol →
 SymbolsSpellNothing {S} steps s read =
     ((symbols : List WireSymbol) × (t : S) × Yields steps s symbols t × ((rest : List Symbol) → read (map symbol_of symbols ++ rest) ≡ None))
     ⊎ ((symbols : List WireSymbol) × Drains steps s symbols × (read (map symbol_of symbols) ≡ None))
+
+-- The first fault of the symbols that an iterator gives behind what a builder has: that of the next one.
+pub record FirstSymbolFault {S : Type 0} (steps : S → Option WireSymbol → S → Type 0) (s : S) (old new : Building) (f : Fault) : Type 0 where
+  pub read : List WireSymbol
+  pub refused : WireSymbol
+  pub after : S
+  pub yields : Yields steps s (read ++ refused ∷ []) after
+  pub stands : symbols_behind old (map symbol_of read) ≡ Some (standing new)
+  pub fault : FaultAt new (symbol_of refused) f
+
+-- the first fault of the symbols that an iterator gives as a name: there are none, or that of the first refused one
+abbrev pub SymbolsFault : {S : Type 0} → (S → Option WireSymbol → S → Type 0) → S → Fault → Type 0
+SymbolsFault {S} steps s f =
+    ((t : S) × steps s None t × (f ≡ EmptyLabel)) ⊎ ((new : Building) × FirstSymbolFault steps s (record { done = []; open_label = [] }) new f)
+
+-- the first fault of the characters that an iterator gives as a relative name
+abbrev pub RelativeFault : {S : Type 0} → (S → Option ℕ → S → Type 0) → S → Fault → Type 0
+RelativeFault {S} steps s f = (new : Building) × FirstFault steps s [] (record { done = []; open_label = [] }) new f
+
+-- the characters of a text, one by one
+abbrev pub in_turn : List ℕ → Option ℕ → List ℕ → Type 0
+in_turn text None rest = text ≡ []
+in_turn text (Some c) rest = text ≡ c ∷ rest

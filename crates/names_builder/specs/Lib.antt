@@ -1,3 +1,4 @@
 pub mod Addresses
 pub mod Building
+pub mod Fault
 pub mod FromText

@@ -1,6 +1,6 @@
 //! Building names label by label or octet by octet.
 
-ghost use Rattle.std.specs.Prelude.{List, true, Some, None, ◌≡◌, ◌≢◌, ◌↔◌, ◌+◌, ◌<◌, ◌≤◌, ◌++◌, ◌∷◌, ◌==◌, [], ℕ, length, slice_set, MatchOption, IfOk, IfErr, IsOk, IsTrue, IsErrOf, OnOk, OnErr};
+ghost use Rattle.std.specs.Prelude.{List, true, Some, None, ◌≡◌, ◌≢◌, ◌↔◌, ◌+◌, ◌<◌, ◌≤◌, ◌++◌, ◌∷◌, ◌==◌, [], ℕ, length, slice_set, MatchOption, IfOk, IfErr, IfSome, IsOk, IsTrue, IsErrOf, OnOk, OnErr};
 ghost use Rattle.definitions.specs.Name.{IsName};
 ghost use Rattle.names_labels.specs.Flat.{SpellsRelative, SpellsName, labels_in, spelled};
 ghost use Rattle.names_labels.specs.RefusedRelative.{RefusedRelative};
@@ -9,7 +9,8 @@ ghost use Rattle.definitions.specs.Text.{Symbol as TextSymbol};
 ghost use Rattle.names_wire.specs.Symbols.{symbol_of, IsUnfinished};
 ghost use Rattle.names_wire.specs.Spelled.{SpellsNothing};
 ghost use Rattle.names_labels.specs.Open.{if_open_short};
-ghost use Rattle.names_builder.specs.FromText.{is_text, continued, standing, text_behind, ReadsSymbols, StopsAtSymbol, StopsInText};
+ghost use Rattle.names_builder.specs.FromText.{is_text, continued, standing, text_behind, ReadsSymbols, StopsAtSymbol, StopsInText, FirstFault};
+ghost use Rattle.names_builder.specs.Fault.{CharFault, FaultAt, fault_of};
 ghost use Rattle.names_builder.specs.Building.{Building, IsShort, octets_of_building, with_octets, closed, ended, labels_with, with_labels, all_labels};
 
 use crate::push_error::{PushError, PushNameError};
@@ -258,6 +259,7 @@ impl<B: OctetsBuilder> NameBuilder<B> {
         ensures ok { OnOk result ((ss : List TextSymbol) → continued self.old (symbol_of symbol ∷ ss) ≡ continued self.new ss) }
         ensures refused { IfErr result (λ e. is_text e ≡ true → (ss : List TextSymbol) → if_open_short (continued self.old (symbol_of symbol ∷ ss)) ≡ None) }
         ensures err { OnErr result (self.new ≡ self.old) }
+        ensures fault { IfErr result (λ e. IfSome (fault_of e) (FaultAt self.old (symbol_of symbol))) }
         ensures limits { IsShort self.new }
     {
         let _ = &self.builder;
@@ -271,7 +273,7 @@ impl<B: OctetsBuilder> NameBuilder<B> {
 
     /// Adds symbols: octets to the open label, and at each dot a label's end.
     ///
-    /// At a symbol that is refused it stops; what those before it made stands.
+    /// At a symbol that is refused it stops, with the fault of that symbol; what those before it made stands.
     pub fn append_symbols<S: Iterator<Item = Symbol> + Drop>(
         &mut self,
         symbols: S,
@@ -297,6 +299,7 @@ impl<B: OctetsBuilder> NameBuilder<B> {
         ensures ok { OnOk result ((rest : List ℕ) → text_behind self.old (reader.old ++ ch ∷ rest) ≡ text_behind self.new (reader.new ++ rest)) }
         ensures refused { IfErr result (λ e. is_text e ≡ true → (rest : List ℕ) → text_behind self.old (reader.old ++ ch ∷ rest) ≡ None) }
         ensures err { OnErr result (self.new ≡ self.old) }
+        ensures fault { IfErr result (λ e. IfSome (fault_of e) (CharFault self.old reader.old ch)) }
         ensures limits { IsShort self.new }
         ensures unfinished { IsUnfinished reader.new }
     {
@@ -309,7 +312,8 @@ impl<B: OctetsBuilder> NameBuilder<B> {
 
     /// Adds the symbols that characters spell: octets to the open label, and at each dot a label's end.
     ///
-    /// At a character behind which no name can come it stops; what the whole symbols before it made stands.
+    /// At a character behind which no name can come it stops, with the fault of that character; what the whole symbols
+    /// before it made stands.
     pub fn append_chars<C: Iterator<Item = char> + Drop>(
         &mut self,
         chars: C,
@@ -319,6 +323,7 @@ impl<B: OctetsBuilder> NameBuilder<B> {
         ensures ok { OnOk result ((text : List ℕ) × Drains C.next_gives chars text × (text_behind self.old text ≡ Some (standing self.new))) }
         ensures refused { IfErr result (λ e. is_text e ≡ true → SpellsNothing C.next_gives chars (text_behind self.old)) }
         ensures stands { OnErr result (StopsInText C.next_gives chars [] self.old self.new) }
+        ensures fault { IfErr result (λ e. IfSome (fault_of e) (FirstFault C.next_gives chars [] self.old self.new)) }
     {
         self.append_text(SymbolReader::new(), chars)
     }
@@ -335,6 +340,7 @@ impl<B: OctetsBuilder> NameBuilder<B> {
         ensures ok { OnOk result ((text : List ℕ) × Drains C.next_gives chars text × (text_behind self.old (reader ++ text) ≡ Some (standing self.new))) }
         ensures refused { IfErr result (λ e. is_text e ≡ true → SpellsNothing C.next_gives chars (λ text. text_behind self.old (reader ++ text))) }
         ensures stands { OnErr result (StopsInText C.next_gives chars reader self.old self.new) }
+        ensures fault { IfErr result (λ e. IfSome (fault_of e) (FirstFault C.next_gives chars reader self.old self.new)) }
     {
         let mut reader = reader;
         let _ = &self.builder;

@@ -1,9 +1,10 @@
 //! What a symbol of text adds to a name under construction.
 
-ghost use Rattle.std.specs.Prelude.{◌≡◌, true, IfOk, IfErr, IsTrue, OnErr, MatchOption};
+ghost use Rattle.std.specs.Prelude.{◌≡◌, true, IfOk, IfErr, IfSome, IsTrue, OnErr, MatchOption};
 ghost use Rattle.definitions.specs.Text.{is_dot};
 ghost use Rattle.names_wire.specs.Symbols.{symbol_of};
 ghost use Rattle.names_builder.specs.FromText.{GoesOn, CannotGoOn, is_text};
+ghost use Rattle.names_builder.specs.Fault.{OctetFault, fault_of};
 
 use crate::text_error::{FromStrError, PresentationError};
 use names_wire::symbol::Symbol;
@@ -13,6 +14,7 @@ pub(crate) fn octet_of(symbol: Symbol, in_label: bool) -> Result<Option<u8>, Fro
     ensures ok { IfOk result (λ octet. MatchOption octet ((is_dot (symbol_of symbol) ≡ true) × IsTrue in_label) (GoesOn (symbol_of symbol) in_label)) }
     ensures err { OnErr result (CannotGoOn (symbol_of symbol) in_label) }
     ensures text { IfErr result (λ e. is_text e ≡ true) }
+    ensures fault { IfErr result (λ e. IfSome (fault_of e) (OctetFault (symbol_of symbol) in_label)) }
 {
     match symbol {
         Symbol::Char('.') if in_label => Ok(None),

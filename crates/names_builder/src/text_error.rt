@@ -28,13 +28,20 @@ enum Fault {
 pub struct PresentationError(Fault);
 
 impl PresentationError {
+    ghost use Rattle.names_builder.specs.Fault.{named};
+    ghost use Rattle.names_builder.specs.declared.text_error.Fault.TheVariants.{BinaryLabel, EmptyLabel};
+
     /// A label that begins as a binary one.
-    pub(crate) fn binary_label() -> PresentationError {
+    pub(crate) fn binary_label() -> PresentationError
+        ensures { named result ≡ BinaryLabel }
+    {
         PresentationError(Fault::BinaryLabel)
     }
 
     /// A label without octets.
-    pub(crate) fn empty_label() -> PresentationError {
+    pub(crate) fn empty_label() -> PresentationError
+        ensures { named result ≡ EmptyLabel }
+    {
         PresentationError(Fault::EmptyLabel)
     }
 }
@@ -61,10 +68,12 @@ impl From<PresentationError> for FromStrError {
 }
 
 impl From<SymbolCharsError> for FromStrError {
-    ghost use Rattle.std.specs.Prelude.{true};
+    ghost use Rattle.std.specs.Prelude.{true, Some};
     ghost use Rattle.names_builder.specs.FromText.{is_text};
+    ghost use Rattle.names_builder.specs.Fault.{fault_of};
+    ghost use Rattle.names_builder.specs.declared.text_error.Fault.TheVariants.{Symbol as BadText};
 
-    ghost from_gives = { λ _ e. is_text e ≡ true };
+    ghost from_gives = { λ p e. (is_text e ≡ true) × (fault_of e ≡ Some (BadText p)) };
 
     fn from(error: SymbolCharsError) -> FromStrError {
         FromStrError::Presentation(PresentationError(Fault::Symbol(error)))
@@ -83,8 +92,9 @@ impl From<ShortBuf> for FromStrError {
 
 impl From<PushError> for FromStrError {
     ghost use Rattle.names_builder.specs.FromText.{is_text, is_pushed_text};
+    ghost use Rattle.names_builder.specs.Fault.{fault_of, pushed_fault};
 
-    ghost from_gives = { λ p e. is_text e ≡ is_pushed_text p };
+    ghost from_gives = { λ p e. (is_text e ≡ is_pushed_text p) × (fault_of e ≡ pushed_fault p) };
 
     fn from(error: PushError) -> FromStrError {
         match error {

@@ -1,11 +1,12 @@
 //! Whole texts of names, read into builders (RFC 1035, 5.1).
 
-ghost use Rattle.std.specs.Prelude.{◌≡◌, true, None, Some, ℕ, List, IfOk, IfErr, IsErrOf};
+ghost use Rattle.std.specs.Prelude.{◌≡◌, true, None, Some, ℕ, List, IfOk, IfErr, IfSome, IsErrOf};
 ghost use Rattle.std.specs.Iterator.{IsFinite, Drains};
 ghost use Rattle.definitions.specs.Name.{Name as Labels};
 ghost use Rattle.definitions.specs.Text.{name_of_text, name_of_symbols, relative_of_text};
 ghost use Rattle.names_wire.specs.Spelled.{SpellsNothing};
-ghost use Rattle.names_builder.specs.FromText.{is_text, is_relative_text, SymbolsSpell, SymbolsSpellNothing};
+ghost use Rattle.names_builder.specs.Fault.{fault_of, relative_fault_of};
+ghost use Rattle.names_builder.specs.FromText.{NameFault, RelativeFault, SymbolsFault, is_text, is_relative_text, SymbolsSpell, SymbolsSpellNothing};
 ghost use Rattle.names_builder.specs.Building.{all_labels};
 
 use crate::builder::NameBuilder;
@@ -24,6 +25,7 @@ pub fn read_symbols<S: Iterator<Item = Symbol> + Drop>(
     requires ends { IsFinite (S.remaining symbols) }
     ensures ok { IfOk result (λ n. SymbolsSpell S.next_gives symbols name_of_symbols (all_labels n)) }
     ensures refused { IfErr result (λ e. is_text e ≡ true → SymbolsSpellNothing S.next_gives symbols name_of_symbols) }
+    ensures fault { IfErr result (λ e. IfSome (fault_of e) (SymbolsFault S.next_gives symbols)) }
 {
     let mut symbols = symbols;
     let Some(first) = symbols.next() else {
@@ -55,6 +57,7 @@ pub fn read_chars<C: Iterator<Item = char> + Drop>(
     requires ends { IsFinite (C.remaining chars) }
     ensures ok { IfOk result (λ n. (text : List ℕ) × Drains C.next_gives chars text × (name_of_text text ≡ Some (all_labels n))) }
     ensures refused { IfErr result (λ e. is_text e ≡ true → SpellsNothing C.next_gives chars name_of_text) }
+    ensures fault { IfErr result (λ e. IfSome (fault_of e) (NameFault C.next_gives chars)) }
 {
     let mut chars = chars;
     let Some(first) = chars.next() else {
@@ -84,6 +87,7 @@ pub fn read_relative<C: Iterator<Item = char> + Drop>(
     requires ends { IsFinite (C.remaining chars) }
     ensures ok { IfOk result (λ n. (text : List ℕ) × Drains C.next_gives chars text × (relative_of_text text ≡ Some (all_labels n))) }
     ensures refused { IfErr result (λ e. is_relative_text e ≡ true → SpellsNothing C.next_gives chars relative_of_text) }
+    ensures fault { IfErr result (λ e. IfSome (relative_fault_of e) (RelativeFault C.next_gives chars)) }
     ensures absolute { IsErrOf result RelativeFromStrError.AbsoluteName → (text : List ℕ) × (n : Labels) × Drains C.next_gives chars text × (name_of_text text ≡ Some n) }
 {
     let mut builder = NameBuilder::new(alloc);

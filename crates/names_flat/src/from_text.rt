@@ -1,12 +1,13 @@
 //! Names read from text (RFC 1035, 5.1).
 
-ghost use Rattle.std.specs.Prelude.{◌≡◌, true, None, Some, ℕ, List, IfOk, IfErr, IsErrOf};
+ghost use Rattle.std.specs.Prelude.{◌≡◌, true, None, Some, ℕ, List, IfOk, IfErr, IfSome, IsErrOf};
 ghost use Rattle.std.specs.Iterator.{IsFinite, Drains};
 ghost use Rattle.std.specs.Str.{chars as chars_of};
 ghost use Rattle.definitions.specs.Name.{Name as Labels};
 ghost use Rattle.definitions.specs.Text.{name_of_text, name_of_symbols, relative_of_text};
 ghost use Rattle.names_wire.specs.Spelled.{SpellsNothing};
-ghost use Rattle.names_builder.specs.FromText.{is_text, is_relative_text, SymbolsSpell, SymbolsSpellNothing};
+ghost use Rattle.names_builder.specs.Fault.{fault_of, relative_fault_of};
+ghost use Rattle.names_builder.specs.FromText.{is_text, is_relative_text, in_turn, NameFault, RelativeFault, SymbolsFault, SymbolsSpell, SymbolsSpellNothing};
 
 use crate::builder::Finish;
 use crate::name::Name;
@@ -26,6 +27,7 @@ impl Name<Vec<u8>> {
         requires ends { IsFinite (S.remaining symbols) }
         ensures ok { IfOk result (λ n. SymbolsSpell S.next_gives symbols name_of_symbols n) }
         ensures refused { IfErr result (λ e. is_text e ≡ true → SymbolsSpellNothing S.next_gives symbols name_of_symbols) }
+        ensures fault { IfErr result (λ e. IfSome (fault_of e) (SymbolsFault S.next_gives symbols)) }
     {
         Ok(read_symbols(alloc, symbols)?.into_name()?)
     }
@@ -41,6 +43,7 @@ impl Name<Vec<u8>> {
         requires ends { IsFinite (C.remaining chars) }
         ensures ok { IfOk result (λ n. (text : List ℕ) × Drains C.next_gives chars text × (name_of_text text ≡ Some n)) }
         ensures refused { IfErr result (λ e. is_text e ≡ true → SpellsNothing C.next_gives chars name_of_text) }
+        ensures fault { IfErr result (λ e. IfSome (fault_of e) (NameFault C.next_gives chars)) }
     {
         Ok(read_chars(alloc, chars)?.into_name()?)
     }
@@ -49,6 +52,7 @@ impl Name<Vec<u8>> {
     pub fn vec_from_str(alloc: Global, text: &str) -> Result<Self, FromStrError>
         ensures ok { IfOk result (λ n. name_of_text (chars_of text.now) ≡ Some n) }
         ensures refused { IfErr result (λ e. is_text e ≡ true → name_of_text (chars_of text.now) ≡ None) }
+        ensures fault { IfErr result (λ e. IfSome (fault_of e) (NameFault in_turn (chars_of text.now))) }
     {
         Name::from_chars(alloc, text.chars())
     }
@@ -64,6 +68,7 @@ impl RelativeName<Vec<u8>> {
         requires ends { IsFinite (C.remaining chars) }
         ensures ok { IfOk result (λ n. (text : List ℕ) × Drains C.next_gives chars text × (relative_of_text text ≡ Some n)) }
         ensures refused { IfErr result (λ e. is_relative_text e ≡ true → SpellsNothing C.next_gives chars relative_of_text) }
+        ensures fault { IfErr result (λ e. IfSome (relative_fault_of e) (RelativeFault C.next_gives chars)) }
         ensures absolute { IsErrOf result RelativeFromStrError.AbsoluteName → (text : List ℕ) × (n : Labels) × Drains C.next_gives chars text × (name_of_text text ≡ Some n) }
     {
         Ok(read_relative(alloc, chars)?.finish())
@@ -73,6 +78,7 @@ impl RelativeName<Vec<u8>> {
     pub fn vec_from_str(alloc: Global, text: &str) -> Result<Self, RelativeFromStrError>
         ensures ok { IfOk result (λ n. relative_of_text (chars_of text.now) ≡ Some n) }
         ensures refused { IfErr result (λ e. is_relative_text e ≡ true → relative_of_text (chars_of text.now) ≡ None) }
+        ensures fault { IfErr result (λ e. IfSome (relative_fault_of e) (RelativeFault in_turn (chars_of text.now))) }
         ensures absolute { IsErrOf result RelativeFromStrError.AbsoluteName → (n : Labels) × (name_of_text (chars_of text.now) ≡ Some n) }
     {
         RelativeName::from_chars(alloc, text.chars())

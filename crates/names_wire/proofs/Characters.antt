@@ -16,7 +16,7 @@ characters s t (c ∷ text) u y =
     let more = characters y.0 t text (IsUtf8-past_char (chars_rest s) (chars_rest y.0) c u past) y.2 in
     (chars_past_char (chars_rest s) (chars_rest y.0) c u past ∙ ap (λ cs. c ∷ cs) more.0, more.1)
 
-no_octets : (bs : List ℕ) → length bs ≡ 0 → chars bs ≡ []
+pub no_octets : (bs : List ℕ) → length bs ≡ 0 → chars bs ≡ []
 no_octets [] h = chars-nil
 no_octets (b ∷ bs) h = absurd (omega (arith, h))
 

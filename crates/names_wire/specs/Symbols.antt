@@ -1,9 +1,11 @@
 -- Symbols of text as the code has them, and a reader that takes characters one by one (RFC 1035, 5.1).
-use Rattle.std.specs.Prelude.{◌≡◌, ℕ, ◌<◌, ◌≤◌, List, ◌∷◌, ◌++◌, length, take, if◌then◌else◌, Option, Some, None}
+use Rattle.std.specs.Prelude.{◌≡◌, ℕ, ◌<◌, ◌≤◌, List, [], ◌∷◌, ◌++◌, length, take, if◌then◌else◌, Option, Some, None}
 use Rattle.std.specs.Option.{option_map}
 use Rattle.definitions.specs.Text.{Plain, Quoted, Decimal, is_digit, symbols_of, is_symbol, spelling}
 use Rattle.definitions.specs.Text as text
 use Rattle.names_wire.specs.declared.symbol.Symbol.{Symbol}
+use Rattle.names_wire.specs.declared.symbol.SymbolCharsError.{SymbolCharsError}
+use Rattle.names_wire.specs.declared.symbol.SymbolCharsError.TheVariants.{BadSymbol, BadEscape}
 use Rattle.names_wire.specs.declared.symbol.Symbol.TheVariants.{Char, SimpleEscape, DecimalEscape}
 
 abbrev pub symbol_of : Symbol → text.Symbol
@@ -27,3 +29,8 @@ written s = if is_symbol s then Some (spelling s) else None
 -- a symbol that isn't whole: no beginning of these characters is made of symbols
 abbrev pub IsUnfinished : List ℕ → Type 0
 IsUnfinished chars = (k : ℕ) → 0 < k → k ≤ length chars → symbols_of (take k chars) ≡ None
+
+-- why a character makes no symbol behind others: it is none itself, or makes no escape
+abbrev pub char_fault : List ℕ → SymbolCharsError
+char_fault [] = BadSymbol
+char_fault (c ∷ cs) = BadEscape

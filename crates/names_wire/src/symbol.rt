@@ -1,10 +1,10 @@
 //! Symbols, of which the text of names is made (RFC 1035, 5.1).
 
-ghost use Rattle.std.specs.Prelude.{◌≡◌, ◌≢◌, false, ◌↔◌, ◌++◌, ℕ, List, [], ◌∷◌, true, IfOk, IfSome, IsOk, IsTrue, OnErr, OnOk, None, Some};
+ghost use Rattle.std.specs.Prelude.{◌≡◌, ◌≢◌, false, ◌↔◌, ◌++◌, ℕ, List, [], ◌∷◌, true, IfOk, IfErr, IfSome, IsOk, IsTrue, OnErr, OnOk, None, Some};
 ghost use Rattle.definitions.specs.Text.{is_symbol, is_digit, octet, spelling, symbol_of_octet, symbols_of, octet_at, Plain, Quoted};
 ghost use Rattle.std.specs.Option.{option_map};
 ghost use Rattle.std.specs.Result.{result_ok};
-ghost use Rattle.names_wire.specs.Symbols.{symbol_of, followed_by, written, ReadsAs, IsUnfinished};
+ghost use Rattle.names_wire.specs.Symbols.{symbol_of, followed_by, written, ReadsAs, IsUnfinished, char_fault};
 
 use std::fmt;
 use std::marker::Model;
@@ -51,6 +51,7 @@ impl Symbol {
     pub fn into_octet(self) -> Result<u8, SymbolCharsError>
         ensures ok { IfOk result (λ value. value ≡ octet (symbol_of self)) }
         ensures err { IsOk result ↔ (is_symbol (symbol_of self) ≡ true) }
+        ensures kind { IfErr result (λ e. e ≡ SymbolCharsError.BadSymbol) }
     {
         match self {
             Symbol::Char(ch) if ch >= ' ' && ch <= '~' && ch != '\\' => Ok(ch as u8),
@@ -123,6 +124,7 @@ impl SymbolReader {
         ensures read { IfOk result (λ symbol. (rest : List ℕ) → symbols_of (self.old ++ ch ∷ rest) ≡ followed_by symbol (symbols_of (self.new ++ rest))) }
         ensures valid { IfOk result (λ symbol. IfSome symbol (λ s. is_symbol (symbol_of s) ≡ true)) }
         ensures err { OnErr result ((rest : List ℕ) → symbols_of (self.old ++ ch ∷ rest) ≡ None) }
+        ensures kind { IfErr result (λ e. e ≡ char_fault self.old) }
         ensures unchanged { OnErr result (self.new ≡ self.old) }
         ensures unfinished { IsUnfinished self.new }
     {
@@ -157,6 +159,7 @@ impl SymbolReader {
     pub fn finish(self) -> Result<(), SymbolCharsError>
         ensures ok { OnOk result (self ≡ []) }
         ensures err { OnErr result (symbols_of self ≡ None) }
+        ensures kind { IfErr result (λ e. e ≡ SymbolCharsError.ShortInput) }
     {
         match self.pending {
             Pending::Nothing => Ok(()),
@@ -171,6 +174,7 @@ fn plain(ch: char) -> Result<Symbol, SymbolCharsError>
     ensures read { IfOk result (λ s. ReadsAs (ch ∷ []) s) }
     ensures valid { IfOk result (λ s. is_symbol (symbol_of s) ≡ true) }
     ensures err { OnErr result ((rest : List ℕ) → symbols_of (ch ∷ rest) ≡ None) }
+    ensures kind { IfErr result (λ e. e ≡ SymbolCharsError.BadSymbol) }
 {
     if ch < ' ' || ch > '~' {
         return Err(SymbolCharsError::BadSymbol);
@@ -184,6 +188,7 @@ fn quoted(ch: char) -> Result<Symbol, SymbolCharsError>
     ensures read { IfOk result (λ s. ReadsAs (92 ∷ ch ∷ []) s) }
     ensures valid { IfOk result (λ s. is_symbol (symbol_of s) ≡ true) }
     ensures err { OnErr result ((rest : List ℕ) → symbols_of (92 ∷ ch ∷ rest) ≡ None) }
+    ensures kind { IfErr result (λ e. e ≡ SymbolCharsError.BadEscape) }
 {
     if ch < ' ' || ch > '~' {
         return Err(SymbolCharsError::BadEscape);
@@ -195,6 +200,7 @@ fn quoted(ch: char) -> Result<Symbol, SymbolCharsError>
 fn digit(ch: char) -> Result<u8, SymbolCharsError>
     ensures ok { IfOk result (λ d. d ≡ ch) }
     ensures err { IsOk result ↔ (is_digit ch ≡ true) }
+    ensures kind { IfErr result (λ e. e ≡ SymbolCharsError.BadEscape) }
 {
     if !ch.is_ascii_digit() {
         return Err(SymbolCharsError::BadEscape);
@@ -210,6 +216,7 @@ fn decimal(first: u8, second: u8, third: u8) -> Result<Symbol, SymbolCharsError>
     ensures read { IfOk result (λ s. ReadsAs (92 ∷ first ∷ second ∷ third ∷ []) s) }
     ensures valid { IfOk result (λ s. is_symbol (symbol_of s) ≡ true) }
     ensures err { OnErr result ((rest : List ℕ) → symbols_of (92 ∷ first ∷ second ∷ third ∷ rest) ≡ None) }
+    ensures kind { IfErr result (λ e. e ≡ SymbolCharsError.BadEscape) }
 {
     let value = (first - b'0') as u16 * 100 + (second - b'0') as u16 * 10 + (third - b'0') as u16;
     if value > 255 {

@@ -1,4 +1,4 @@
-use Rattle.std.proofs.Common.{[], ◌∷◌, ◌++◌, ◌∙◌, ap, refl, sym, inl, Some}
+use Rattle.std.proofs.Common.{[], ◌∷◌, ◌++◌, ◌∙◌, ap, refl, sym, inl, inr, Some}
 use Rattle.std.specs.Option.{option_map}
 use Rattle.std.proofs.lemmas.Result.{err_from_is_err_and}
 use Rattle.definitions.specs.Text.{name_of_text}
@@ -6,7 +6,8 @@ use Rattle.names_labels.specs.Open.{without_empty}
 use Rattle.names_labels.proofs.Wholes.{no_name_behind_dot}
 use Rattle.names_builder.specs.FromText.{text_behind}
 use Rattle.names_builder.specs.Building.{all_labels}
-use Rattle.names_builder.proofs.WholeTexts.{drains_first, no_text_first, of_text, nothing_more, all_standing}
+use Rattle.names_builder.specs.Fault.{named}
+use Rattle.names_builder.proofs.WholeTexts.{dot_first, char_first, fault_behind, drains_first, no_text_first, of_text, nothing_more, all_standing}
 use Rattle.names_builder.proofs.whole.read_chars.Goals as goal
 
 pub returns-in-Some-next-clause-refused : goal.returns-in-Some-next-clause-refused
@@ -51,3 +52,17 @@ returns-clause-ok g c =
       of_text c.new-builder.result c.push_char.new.self c.in-Some.first c.new-reader.result c.push_char.new.reader r.0 c.if-first-eq46.false c.new-builder.ensures c.new-reader.ensures c.in_ok-push_char.ensures.ok
           ∙ ap (option_map without_empty) r.2 ∙ ap Some (all_standing c.append_text.new.self),
     )
+
+pub returns-in-Some-next-clause-fault : goal.returns-in-Some-next-clause-fault
+returns-in-Some-next-clause-fault g c =
+    inr (_, dot_first g.C.Iterator.next_gives c.args.chars c.next.new.self c.in-Some.first (named c.empty_label-in-Some-next.result) c.in-Some.ensures.steps c.if-first-eq46.true c.empty_label-in-Some-next.ensures)
+
+pub returns-in_err-push_char-clause-fault : goal.returns-in_err-push_char-clause-fault
+returns-in_err-push_char-clause-fault g c =
+    let p = err_from_is_err_and c.from_residual.result c.from_residual.ensures.1 in
+    rw (p.1, p.2) (char_first g.C.Iterator.next_gives c.args.chars c.next.new.self c.in-Some.first c.new-builder.result c.new-reader.result c.in_err-push_char.field-0.0 c.in-Some.ensures.steps c.new-builder.ensures c.new-reader.ensures c.in_err-push_char.ensures.fault)
+
+pub returns-in_err-append_text-clause-fault : goal.returns-in_err-append_text-clause-fault
+returns-in_err-append_text-clause-fault g c =
+    let p = err_from_is_err_and c.from_residual-in_err-append_text.result c.from_residual-in_err-append_text.ensures.1 in
+    rw (p.1, p.2) (fault_behind g.C.Iterator.next_gives c.args.chars c.next.new.self c.in-Some.first c.new-builder.result c.push_char.new.self c.append_text.new.self c.new-reader.result c.push_char.new.reader c.in_err-append_text.field-0.0 c.in-Some.ensures.steps c.new-builder.ensures c.new-reader.ensures c.in_ok-push_char.ensures.ok c.in_err-append_text.ensures.fault)

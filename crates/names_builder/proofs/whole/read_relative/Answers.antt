@@ -4,7 +4,7 @@ use Rattle.std.proofs.lemmas.Result.{err_from_is_err_and}
 use Rattle.definitions.specs.Text.{relative_of_text}
 use Rattle.names_builder.specs.Building.{octets_of_building, all_labels}
 use Rattle.names_builder.proofs.FromTexts.{shut_back}
-use Rattle.names_builder.proofs.WholeTexts.{nothing_relative, relative_open, relative_none, no_relative, absolute_text, same_end}
+use Rattle.names_builder.proofs.WholeTexts.{relative_fault, nothing_relative, relative_open, relative_none, no_relative, absolute_text, same_end}
 use Rattle.names_builder.proofs.whole.read_relative.Goals as goal
 use Rattle.names_builder.proofs.whole.read_relative.Goals.{then-in_label, else-in_label}
 
@@ -48,3 +48,8 @@ returns-else-is_empty-clause-absolute g c = λ h.
         | else-in_label w ↦ absolute_text c.new-builder.result now r.0 c.new-builder.ensures r.2 (shut_back _ _ c.in_label.ensures w.if-in_label.false) (same_end (length (octets_of_building now)) _ w.is_empty.ensures (sym w.value-is ∙ c.if-is_empty.false))
       ],
     )
+
+pub returns-in_err-append_chars-clause-fault : goal.returns-in_err-append_chars-clause-fault
+returns-in_err-append_chars-clause-fault g c =
+    let p = err_from_is_err_and c.from_residual.result c.from_residual.ensures.1 in
+    rw (p.1, p.2) (relative_fault g.C.Iterator.next_gives c.args.chars c.new-builder.result c.append_chars.new.self c.in_err-append_chars.field-0.0 c.new-builder.ensures c.in_err-append_chars.ensures.fault)

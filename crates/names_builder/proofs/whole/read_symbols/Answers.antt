@@ -1,10 +1,11 @@
-use Rattle.std.proofs.Common.{[], ◌∷◌, ◌++◌, ◌∙◌, ap, refl, sym, inl, Some, map}
+use Rattle.std.proofs.Common.{[], ◌∷◌, ◌++◌, ◌∙◌, ap, refl, sym, inl, inr, Some, map}
 use Rattle.std.specs.Option.{option_map}
 use Rattle.std.proofs.lemmas.Result.{err_from_is_err_and}
 use Rattle.names_wire.specs.Symbols.{symbol_of}
 use Rattle.names_labels.specs.Open.{without_empty}
 use Rattle.names_builder.specs.Building.{all_labels}
-use Rattle.names_builder.proofs.WholeTexts.{drains_first, lone, behind_dot, no_symbols, of_symbols, all_standing}
+use Rattle.names_builder.specs.Fault.{named}
+use Rattle.names_builder.proofs.WholeTexts.{dot_symbol, symbol_first, symbol_behind, drains_first, lone, behind_dot, no_symbols, of_symbols, all_standing}
 use Rattle.names_builder.proofs.whole.read_symbols.Goals as goal
 
 pub returns-in-Some-next-clause-refused : goal.returns-in-Some-next-clause-refused
@@ -54,3 +55,17 @@ returns-clause-ok g c =
       of_symbols c.new-builder.result c.push_symbol.new.self (symbol_of c.in-Some.first) (map symbol_of r.0) (sym c.separates.ensures ∙ c.if-separates.false) c.new-builder.ensures c.in_ok-push_symbol.ensures.ok
           ∙ ap (option_map without_empty) r.2 ∙ ap Some (all_standing c.append_symbols.new.self),
     )
+
+pub returns-in-Some-next-clause-fault : goal.returns-in-Some-next-clause-fault
+returns-in-Some-next-clause-fault g c =
+    inr (_, dot_symbol g.S.Iterator.next_gives c.args.symbols c.next.new.self c.in-Some.first (named c.empty_label-in-Some-next.result) c.in-Some.ensures.steps (sym c.separates.ensures ∙ c.if-separates.true) c.empty_label-in-Some-next.ensures)
+
+pub returns-in_err-push_symbol-clause-fault : goal.returns-in_err-push_symbol-clause-fault
+returns-in_err-push_symbol-clause-fault g c =
+    let p = err_from_is_err_and c.from_residual.result c.from_residual.ensures.1 in
+    rw (p.1, p.2) (symbol_first g.S.Iterator.next_gives c.args.symbols c.next.new.self c.in-Some.first c.new-builder.result c.in_err-push_symbol.field-0.0 c.in-Some.ensures.steps c.new-builder.ensures c.in_err-push_symbol.ensures.fault)
+
+pub returns-in_err-append_symbols-clause-fault : goal.returns-in_err-append_symbols-clause-fault
+returns-in_err-append_symbols-clause-fault g c =
+    let p = err_from_is_err_and c.from_residual-in_err-append_symbols.result c.from_residual-in_err-append_symbols.ensures.1 in
+    rw (p.1, p.2) (symbol_behind g.S.Iterator.next_gives c.args.symbols c.next.new.self c.in-Some.first c.new-builder.result c.push_symbol.new.self c.append_symbols.new.self c.in_err-append_symbols.field-0.0 c.in-Some.ensures.steps c.new-builder.ensures c.in_ok-push_symbol.ensures.ok c.in_err-append_symbols.ensures.refused)

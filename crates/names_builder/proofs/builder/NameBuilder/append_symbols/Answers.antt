@@ -1,10 +1,11 @@
-use Rattle.std.proofs.Common.{rules, [], ◌∷◌, map, Some, ap, sym, refl, subst, ◌∙◌}
+use Rattle.std.proofs.Common.{rules, [], ◌∷◌, map, Some, IfSome, ap, sym, refl, subst, ◌∙◌}
 use Rattle.std.proofs.lemmas.List.{append-nil}
 use Rattle.std.proofs.lemmas.Result.{err_from_is_err_and}
 use Rattle.std.specs.Iterator.{Yields}
 use Rattle.names_wire.specs.Symbols.{symbol_of}
 use Rattle.names_labels.specs.Open.{if_open_short}
 use Rattle.names_builder.specs.Building.{IsShort}
+use Rattle.names_builder.specs.Fault.{FaultAt, fault_of}
 use Rattle.names_builder.specs.FromText.{continued, standing, symbols_behind}
 use Rattle.names_builder.proofs.FromTexts.{map_more, yields_more, nothing_follows}
 use Rattle.names_builder.proofs.builder.NameBuilder.append_symbols.Goals as goal
@@ -36,6 +37,7 @@ returns-in_err-push_symbol-clause-refused g c =
       stands = ap (symbols_behind old) (sym (append-nil (map symbol_of c.loop-symbol.yielded)))
           ∙ ap if_open_short (c.loop-symbol.invariant.onward []) ∙ nothing_follows c.loop-symbol.self c.loop-symbol.invariant.short
           ∙ ap (λ b. Some (standing b)) (sym c.in_err-push_symbol.ensures.err);
+      fault = subst (λ b. IfSome (fault_of c.in_err-push_symbol.field-0.0) (FaultAt b (symbol_of c.in-Some.symbol))) (sym c.in_err-push_symbol.ensures.err) c.in_err-push_symbol.ensures.fault;
       text = λ h rest.
           ap (symbols_behind old) (map_more symbol_of c.loop-symbol.yielded c.in-Some.symbol rest)
           ∙ ap if_open_short (c.loop-symbol.invariant.onward (symbol_of c.in-Some.symbol ∷ rest)) ∙ c.in_err-push_symbol.ensures.refused h rest;

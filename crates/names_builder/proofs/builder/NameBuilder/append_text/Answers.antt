@@ -1,12 +1,14 @@
-use Rattle.std.proofs.Common.{rules, [], ◌∷◌, ◌++◌, ap, sym, refl, subst, ◌∙◌, append_assoc, inl, inr}
+use Rattle.std.proofs.Common.{rules, [], ◌∷◌, ◌++◌, ap, sym, refl, subst, ◌∙◌, append_assoc, inl, inr, IfSome}
 use Rattle.std.proofs.lemmas.List.{append-nil}
 use Rattle.std.proofs.lemmas.Result.{err_from_is_err_and}
 use Rattle.std.specs.Iterator.{Yields}
 use Rattle.names_wire.specs.Spelled.{SpellsNothing}
 use Rattle.names_wire.proofs.OnError.{on_err}
 use Rattle.names_builder.specs.Building.{IsShort}
+use Rattle.names_builder.specs.Fault.{CharFault, fault_of}
+use Rattle.names_builder.specs.declared.text_error.Fault.TheVariants.{Symbol as BadText}
 use Rattle.names_builder.specs.FromText.{text_behind, StopsInText}
-use Rattle.names_builder.proofs.FromTexts.{yields_more, nothing_follows, no_text, whatever}
+use Rattle.names_builder.proofs.FromTexts.{yields_more, nothing_follows, no_text, whatever, first_fault}
 use Rattle.names_builder.proofs.builder.NameBuilder.append_text.Goals as goal
 
 pub loop-ch-init : goal.loop-ch-init
@@ -84,3 +86,33 @@ returns-clause-ok g c = (
   ap (λ t. text_behind c.args.self.now (c.args.reader ++ t)) (sym (append-nil c.loop-ch.yielded)) ∙ c.loop-ch.invariant.onward []
       ∙ ap (λ r. text_behind c.loop-ch.self (r ++ [])) c.in_ok-finish.ensures.ok ∙ nothing_follows c.loop-ch.self c.loop-ch.invariant.short,
 )
+
+pub returns-in_err-push_char-clause-fault : goal.returns-in_err-push_char-clause-fault
+returns-in_err-push_char-clause-fault g c =
+    let p = err_from_is_err_and c.from_residual.result c.from_residual.ensures.1 in
+    rw (p.1, p.2) (first_fault g.C.Iterator.next_gives c.args.chars c.next.new.self c.args.reader c.args.self.now c.push_char.new.self
+    (record {
+      text = c.loop-ch.yielded;
+      unfinished = c.loop-ch.reader;
+      after = c.loop-ch.ch-iterator;
+      yields = subst (λ s. Yields g.C.Iterator.next_gives s c.loop-ch.yielded c.loop-ch.ch-iterator) c.into_iter-ch-iterator.ensures.into_iter_gives c.loop-ch.yielded_by;
+      begins = c.loop-ch.invariant.begins;
+      stands = λ rest. c.loop-ch.invariant.onward rest ∙ ap (λ b. text_behind b (c.loop-ch.reader ++ rest)) (sym c.in_err-push_char.ensures.err);
+    })
+    c.in-Some.ch c.in_err-push_char.field-0.0 c.in-Some.ensures.steps
+    (subst (λ b. IfSome (fault_of c.in_err-push_char.field-0.0) (CharFault b c.loop-ch.reader c.in-Some.ch)) (sym c.in_err-push_char.ensures.err) c.in_err-push_char.ensures.fault))
+
+pub returns-in_err-finish-clause-fault : goal.returns-in_err-finish-clause-fault
+returns-in_err-finish-clause-fault g c =
+    let p = err_from_is_err_and c.from_residual-in_err-finish.result c.from_residual-in_err-finish.ensures.1 in
+    rw (p.1, p.2.1) (record {
+      stop = record {
+        text = c.loop-ch.yielded;
+        unfinished = c.loop-ch.reader;
+        after = c.loop-ch.ch-iterator;
+        yields = subst (λ s. Yields g.C.Iterator.next_gives s c.loop-ch.yielded c.loop-ch.ch-iterator) c.into_iter-ch-iterator.ensures.into_iter_gives c.loop-ch.yielded_by;
+        begins = c.loop-ch.invariant.begins;
+        stands = c.loop-ch.invariant.onward;
+      };
+      fault = inr (c.next.new.self, c.in-None.ensures.steps, c.in_err-finish.ensures.err, ap BadText c.in_err-finish.ensures.kind);
+    })

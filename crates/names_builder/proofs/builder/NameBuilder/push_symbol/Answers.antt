@@ -5,7 +5,7 @@ use Rattle.names_wire.specs.Symbols.{symbol_of}
 use Rattle.names_labels.specs.Open.{if_open_short}
 use Rattle.names_builder.specs.Building.{IsShort}
 use Rattle.names_builder.specs.FromText.{continued}
-use Rattle.names_builder.proofs.FromTexts.{shut, shut_back, cannot, not_pushed, at_octet, at_dot, whatever}
+use Rattle.names_builder.proofs.FromTexts.{kept_fault, pushed_at, shut, shut_back, cannot, not_pushed, at_octet, at_dot, whatever}
 use Rattle.names_builder.proofs.builder.NameBuilder.push_symbol.Goals as goal
 use Rattle.names_builder.proofs.builder.NameBuilder.push_symbol.Goals.{in-Some+in_ok-push-in-Some, in-None}
 
@@ -24,7 +24,21 @@ returns-in_err-push-in-Some-clause-refused g c =
     let p = err_from_is_err_and c.from_residual-in_err-push-in-Some.result c.from_residual-in_err-push-in-Some.ensures.1 in
     rw p.1
     (λ t ss. not_pushed b (symbol_of c.args.symbol) c.in_label.result c.in-Some.octet c.in_err-push-in-Some.field-0.0 on (shut _ _ c.in_label.ensures) short.open_label
-    (λ e. c.in_err-push-in-Some.ensures.long_label.0 (ap Err e)) (λ e. c.in_err-push-in-Some.ensures.long_name.0 (ap Err e)) (sym p.2 ∙ t) ss)
+    (λ e. c.in_err-push-in-Some.ensures.long_label.0 (ap Err e)) (λ e. c.in_err-push-in-Some.ensures.long_name.0 (ap Err e)) (sym p.2.0 ∙ t) ss)
+
+pub returns-in_err-octet-clause-fault : goal.returns-in_err-octet-clause-fault
+returns-in_err-octet-clause-fault g c =
+    let p = err_from_is_err_and c.from_residual.result c.from_residual.ensures.1 in
+    rw (p.1, p.2) (kept_fault c.args.self.now (symbol_of c.args.symbol) c.in_label.result c.in_err-octet.field-0.0 (shut_back _ _ c.in_label.ensures) c.in_err-octet.ensures.fault)
+
+pub returns-in_err-push-in-Some-clause-fault : goal.returns-in_err-push-in-Some-clause-fault
+returns-in_err-push-in-Some-clause-fault g c =
+    let b = c.args.self.now in
+    let short : IsShort b = subst IsShort c.self.view_is c.self.invariant.short in
+    let on = rw c.in-Some.is at c.in_ok-octet.ensures.ok in
+    let p = err_from_is_err_and c.from_residual-in_err-push-in-Some.result c.from_residual-in_err-push-in-Some.ensures.1 in
+    rw (p.1, p.2.1) (pushed_at b (symbol_of c.args.symbol) c.in_label.result c.in-Some.octet c.in_err-push-in-Some.field-0.0 on (shut _ _ c.in_label.ensures) short.open_label
+    (λ e. c.in_err-push-in-Some.ensures.long_label.0 (ap Err e)) (λ e. c.in_err-push-in-Some.ensures.long_name.0 (ap Err e)))
 
 pub returns-clause-ok : goal.returns-clause-ok
 returns-clause-ok g c = λ ss.

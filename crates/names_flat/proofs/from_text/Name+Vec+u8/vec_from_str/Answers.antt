@@ -1,8 +1,10 @@
-use Rattle.std.proofs.Common.{◌∙◌, ap, true, ◌≡◌, Some, None}
+use Rattle.std.proofs.Common.{◌∙◌, ap, true, ◌≡◌, Some, None, IfSome}
 use Rattle.std.specs.Str.{chars}
 use Rattle.std.proofs.lemmas.Result.{IfOk-weaker, IfErr-weaker}
 use Rattle.definitions.specs.Text.{name_of_text}
-use Rattle.names_builder.specs.FromText.{is_text}
+use Rattle.names_builder.specs.Fault.{fault_of}
+use Rattle.names_builder.specs.FromText.{is_text, in_turn, NameFault}
+use Rattle.names_builder.proofs.WholeTexts.{fault_in_text}
 use Rattle.names_wire.proofs.Characters.{chars_are, nothing_in_text}
 use Rattle.names_flat.proofs.from_text.Name+Vec+u8.vec_from_str.Goals as goal
 
@@ -15,3 +17,8 @@ pub returns-clause-refused : goal.returns-clause-refused
 returns-clause-refused c =
     IfErr-weaker c.from_chars.result _ (λ e. is_text e ≡ true → name_of_text (chars c.args.text.now) ≡ None)
     (λ e r h. nothing_in_text c.chars.result c.args.text.now name_of_text c.utf8.text c.chars.ensures.rest (r h)) c.from_chars.ensures.refused
+
+pub returns-clause-fault : goal.returns-clause-fault
+returns-clause-fault c =
+    IfErr-weaker c.from_chars.result _ (λ e. IfSome (fault_of e) (NameFault in_turn (chars c.args.text.now)))
+    (λ e r. fault_in_text c.chars.result c.args.text.now e c.utf8.text c.chars.ensures.rest r) c.from_chars.ensures.fault

@@ -1,8 +1,10 @@
-use Rattle.std.proofs.Common.{◌∙◌, ap, true, ◌≡◌, Some, None}
+use Rattle.std.proofs.Common.{◌∙◌, ap, true, ◌≡◌, Some, None, IfSome}
 use Rattle.std.specs.Str.{chars}
 use Rattle.std.proofs.lemmas.Result.{IfOk-weaker, IfErr-weaker}
 use Rattle.definitions.specs.Text.{name_of_text, relative_of_text}
-use Rattle.names_builder.specs.FromText.{is_relative_text}
+use Rattle.names_builder.specs.Fault.{relative_fault_of}
+use Rattle.names_builder.specs.FromText.{is_relative_text, in_turn, RelativeFault}
+use Rattle.names_builder.proofs.WholeTexts.{relative_fault_in_text}
 use Rattle.names_wire.proofs.Characters.{chars_are, nothing_in_text}
 use Rattle.names_flat.proofs.from_text.RelativeName+Vec+u8.vec_from_str.Goals as goal
 
@@ -18,3 +20,8 @@ returns-clause-refused c =
 
 pub returns-clause-absolute : goal.returns-clause-absolute
 returns-clause-absolute c = λ h. let r = c.from_chars.ensures.absolute h in (r.1, ap name_of_text (chars_are c.chars.result c.args.text.now r.0 c.utf8.text c.chars.ensures.rest r.2) ∙ r.3)
+
+pub returns-clause-fault : goal.returns-clause-fault
+returns-clause-fault c =
+    IfErr-weaker c.from_chars.result _ (λ e. IfSome (relative_fault_of e) (RelativeFault in_turn (chars c.args.text.now)))
+    (λ e r. relative_fault_in_text c.chars.result c.args.text.now e c.utf8.text c.chars.ensures.rest r) c.from_chars.ensures.fault
