@@ -8,3 +8,5 @@ pub mod hasher;
 pub mod ranked;
 pub mod rrsig;
 pub mod signed;
+#[cfg(test)]
+mod tests;

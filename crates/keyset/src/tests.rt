@@ -380,3 +380,25 @@ fn moments_are_told_apart(rt: HostRuntime) -> Result<(), Fail> {
     assert!(rt; at(3) < at(4));
     Ok(())
 }
+
+/// The DS records follow once all servers have the keys and the signatures (RFC 6781, 4.1.4).
+#[test]
+fn first_keys_have_flags_and_stamps(rt: HostRuntime) -> Result<(), Fail> {
+    let set = roll_first(rt.alloc())?;
+    assert_eq!(rt; set.name().len(), 0);
+    let ksk = set.key("K1").ok_or(Error::KeyNotFound)?;
+    let (KeyType::Ksk(state) | KeyType::Zsk(state)) = ksk.keytype();
+    assert!(rt; !state.old() && state.signer() && state.present());
+    assert!(rt; state.at_parent() && !state.stale());
+    assert_eq!(rt; ksk.key_tag(), 0);
+    assert_eq!(rt; ksk.algorithm().to_int(), 13);
+    assert!(rt; ksk.privref().is_none() && !ksk.decoupled());
+    assert_eq!(rt; ksk.timestamps().creation(), Some(at(0)));
+    assert_eq!(rt; ksk.timestamps().published(), Some(at(0)));
+    assert_eq!(rt; ksk.timestamps().visible(), Some(at(0)));
+    assert_eq!(rt; ksk.timestamps().ds_visible(), Some(at(3600)));
+    let zsk = key(&set, "Z1")?;
+    assert_eq!(rt; zsk.timestamps().rrsig_visible(), Some(at(0)));
+    assert_eq!(rt; zsk.timestamps().ds_visible(), None);
+    Ok(())
+}

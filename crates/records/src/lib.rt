@@ -4,3 +4,5 @@
 pub mod message;
 pub mod names;
 pub mod plain;
+#[cfg(test)]
+mod tests;

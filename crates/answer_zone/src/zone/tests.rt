@@ -214,3 +214,34 @@ fn a_bitmap_of_two_windows(rt: HostRuntime) -> Result<(), Fail> {
     assert_eq!(rt; octets[36], 32);
     Ok(())
 }
+
+/// Names keep the spelling of their first record; the labels that a signature counts are those of RFC 4034, 3.1.3.
+#[test]
+fn what_a_group_has(rt: HostRuntime) -> Result<(), Fail> {
+    let alloc = rt.alloc();
+    let mut records = Vec::new(alloc);
+    let owner = b"\x01b\x01C\x07example\x00";
+    records.push(record(alloc, owner, 1, 60, 1, b"\xc0\x00\x02\x01")?)?;
+    records.push(soa(alloc, 1)?)?;
+    let zone = ZoneRecords::new(alloc, name(alloc, EXAMPLE)?, records, Mode::Nsec, 0)?;
+    let asked = name(alloc, b"\x01B\x01c\x07EXAMPLE\x00")?;
+    let found = zone.answer_to(alloc, &asked, Rtype::A)?;
+    let group = found.answer.first().expect(&rt, "an RRset");
+    assert_eq!(rt; group.label_count(), 3);
+    assert_eq!(rt; group.rtype(), Rtype::A);
+    assert_eq!(rt; group.ttl().as_secs(), 60);
+    assert!(rt; group.is_signed());
+    assert_eq!(rt; group.canonical().len(), 1);
+    assert_eq!(rt; first_datum(group), b"\xc0\x00\x02\x01".as_slice());
+    assert_eq!(rt;
+        zone.first_spelled(&asked).label_at(1),
+        Some(b"C".as_slice())
+    );
+    assert_eq!(rt; zone.spelled(&asked).label_at(0), Some(b"b".as_slice()));
+    let apex = name(alloc, b"\x07EXAMPLE\x00")?;
+    assert_eq!(rt;
+        zone.spelled(&apex).label_at(0),
+        Some(b"example".as_slice())
+    );
+    Ok(())
+}

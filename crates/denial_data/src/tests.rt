@@ -1,0 +1,129 @@
+//! Record data and signed octets, with values of the standards.
+use crate::dnskey::Dnskey;
+use crate::ds::Ds;
+use crate::ranked::{Ranked, put_data, put_ranked};
+use crate::rrsig::ProtoRrsig;
+use crate::signed::signed_octets;
+use records::names::Name;
+use records::plain::{Class, DigestAlgorithm, Rtype, SecurityAlgorithm, Ttl};
+use std::alloc::Global;
+use std::cmp::Ordering;
+use std::test::Fail;
+
+/// The fields of the example of RFC 4034, 5.4, with a short digest.
+fn digest(alloc: Global, tag: u16) -> Result<Ds<Vec<u8>>, Fail> {
+    Ok(Ds::new(
+        tag,
+        SecurityAlgorithm::from_int(5),
+        DigestAlgorithm::from_int(1),
+        b"\x2b\xb1".to_vec(alloc)?,
+    ))
+}
+
+#[test]
+fn fields_of_keys_and_digests(rt: HostRuntime) -> Result<(), Fail> {
+    let alloc = rt.alloc();
+    let octets: &[u8] = b"\x00\x10";
+    let algorithm = SecurityAlgorithm::ECDSAP256SHA256;
+    let key = Dnskey::<&[u8]>::new(257, 3, algorithm, octets);
+    assert_eq!(rt; key.flags(), 257);
+    assert_eq!(rt; key.protocol(), 3);
+    assert_eq!(rt; key.algorithm(), algorithm);
+    assert_eq!(rt; key.public_key(), octets);
+    assert!(rt; key.for_ref().same_key(&key) && key.is_zone_key());
+    let ds = digest(alloc, 60485)?;
+    assert_eq!(rt; ds.key_tag(), 60485);
+    assert_eq!(rt; ds.algorithm().to_int(), 5);
+    assert_eq!(rt; ds.digest_type().to_int(), 1);
+    assert_eq!(rt; ds.digest(), b"\x2b\xb1".as_slice());
+    Ok(())
+}
+
+/// Octets are compared from the left, and what ends first is less (RFC 4034, 6.3).
+#[test]
+fn lists_in_order(rt: HostRuntime) -> Result<(), Fail> {
+    let alloc = rt.alloc();
+    let mut list = Vec::new(alloc);
+    for data in [b"\x02".as_slice(), b"\x01\x00", b"\x01", b"\x02"] {
+        put_data(&mut list, data.to_vec(alloc)?)?;
+    }
+    assert_eq!(rt; list.len(), 3);
+    assert_eq!(rt; list.first().map(|data| data.len()), Some(1));
+    assert_eq!(rt;
+        list.last().map(|data| data.as_slice()),
+        Some(b"\x02".as_slice())
+    );
+    let mut set = Vec::new(alloc);
+    for tag in [9, 7, 9] {
+        put_ranked(&mut set, digest(alloc, tag)?)?;
+    }
+    assert_eq!(rt; set.len(), 2);
+    assert_eq!(rt; set.first().map(|ds| ds.key_tag()), Some(7));
+    assert_eq!(rt;
+        digest(alloc, 7)?.rank_with(&digest(alloc, 9)?),
+        Ordering::Less
+    );
+    Ok(())
+}
+
+/// The fields of the example of RFC 4034, 3.3.
+fn fields(alloc: Global, labels: u8) -> Result<ProtoRrsig, Fail> {
+    Ok(ProtoRrsig::new(
+        Rtype::A,
+        SecurityAlgorithm::from_int(5),
+        labels,
+        Ttl::from_secs(86400),
+        1048354263,
+        1045762263,
+        2642,
+        Name::from_octets(alloc, b"\x07Example\x03com\x00")?,
+    ))
+}
+
+#[test]
+fn fields_of_signatures(rt: HostRuntime) -> Result<(), Fail> {
+    let alloc = rt.alloc();
+    let fields = fields(alloc, 3)?;
+    assert_eq!(rt; fields.type_covered(), Rtype::A);
+    assert_eq!(rt; fields.algorithm().to_int(), 5);
+    assert_eq!(rt; fields.labels(), 3);
+    assert_eq!(rt; fields.original_ttl(), Ttl::from_secs(86400));
+    assert_eq!(rt; fields.expiration(), 1048354263);
+    assert_eq!(rt; fields.inception(), 1045762263);
+    assert_eq!(rt; fields.key_tag(), 2642);
+    assert_eq!(rt; fields.signer_name().len(), 2);
+    let numbers = b"\x00\x01\x05\x03\x00\x01\x51\x80\x3e\x7c\x9d\xd7\x3e\x55\x10\xd7\x0a\x52";
+    let mut octets = Vec::new(alloc);
+    fields.compose(&mut octets)?;
+    assert!(rt; octets.starts_with(numbers));
+    assert!(rt; octets.ends_with(b"\x07Example\x03com\x00"));
+    assert_eq!(rt; octets.len(), 31);
+    let mut octets = Vec::new(alloc);
+    fields.compose_canonical(&mut octets)?;
+    assert!(rt; octets.starts_with(numbers));
+    assert!(rt; octets.ends_with(b"\x07example\x03com\x00"));
+    Ok(())
+}
+
+/// Under two labels an owner of three is signed as the wildcard (RFC 4034, 3.1.8.1; RFC 4035, 5.3.2).
+#[test]
+fn octets_of_signatures(rt: HostRuntime) -> Result<(), Fail> {
+    let alloc = rt.alloc();
+    let owner = Name::from_octets(alloc, b"\x04Host\x07example\x03com\x00")?;
+    let mut canonical = Vec::new(alloc);
+    canonical.push(b"\xc0\x00\x02\x01".to_vec(alloc)?)?;
+    let data = b"\x00\x01\x00\x01\x00\x01\x51\x80\x00\x04\xc0\x00\x02\x01";
+    for (labels, name) in [
+        (3, b"\x04host\x07example\x03com\x00".as_slice()),
+        (2, b"\x01*\x07example\x03com\x00"),
+    ] {
+        let fields = fields(alloc, labels)?;
+        let mut want = Vec::new(alloc);
+        fields.compose_canonical(&mut want)?;
+        want.extend_from_slice(name)?;
+        want.extend_from_slice(data)?;
+        let octets = signed_octets(alloc, &fields, &owner, Class::IN, &canonical)?;
+        assert_eq!(rt; octets.as_slice(), want.as_slice());
+    }
+    Ok(())
+}
