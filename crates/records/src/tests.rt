@@ -42,7 +42,6 @@ fn parts_of_names(rt: HostRuntime) -> Result<(), Fail> {
     assert_eq!(rt; www.wire_len(), 17);
     assert!(rt; www.ends_with(&com) && www.is_below(&com) && !com.is_below(&com));
     assert!(rt; com.ends_with(&Name::root(alloc)) && !com.ends_with(&www));
-    assert_eq!(rt; www.common_suffix(&com), 1);
     let last = www.suffix(alloc, www.len().min(1))?;
     assert!(rt; last.name_eq(&com) && !last.name_eq(&www));
     assert_eq!(rt; last.label_at(0), Some(b"com".as_slice()));
