@@ -12,3 +12,6 @@ pub use keyset;
 pub use messages as message;
 pub use messages::question;
 pub use records::{names, plain};
+
+#[cfg(test)]
+mod tests;

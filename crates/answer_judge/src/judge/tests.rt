@@ -1,8 +1,8 @@
 //! Judgements of small messages of the zone `example`, with chains of its two names.
 ghost use Rattle.std.specs.Prelude.{◌≡◌, ◌<◌};
 
-use crate::judge::judge;
 use crate::judge::verdict::{DataList, Judgement, Refusal, Refused, Verdict};
+use crate::judge::{is_allowed, judge};
 use crate::scheme::counting::SchemeChecks;
 use crate::scheme::{Scheme, SchemeError};
 use denial_data::dnskey::Dnskey;
@@ -307,5 +307,30 @@ fn unsigned_whatever_the_bytes(rt: HostRuntime) -> Result<(), AllocError> {
         ..ADDRESS_CASE
     };
     assert_eq!(rt; unsigned(alloc, &empty)?, ("Unsigned", 0));
+    Ok(())
+}
+
+/// Questions of class IN below the apex, but for types that signing adds, aliases, and meta types (RFC 6895, 3.1).
+#[test]
+fn questions_that_are_allowed(rt: HostRuntime) -> Result<(), AllocError> {
+    let alloc = rt.alloc();
+    let apex = name(alloc, b"\x07example\x00")?;
+    for (wire, rtype, class, want) in [
+        (b"\x01a\x07EXAMPLE\x00".as_slice(), 1, 1, true),
+        (b"\x07example\x00", 43, 1, true),
+        (b"\x01a\x07example\x00", 1, 3, false),
+        (b"\x01a\x07example\x00", 46, 1, false),
+        (b"\x01a\x07example\x00", 5, 1, false),
+        (b"\x01a\x07example\x00", 0, 1, false),
+        (b"\x01a\x07example\x00", 255, 1, false),
+        (b"\x03org\x00", 1, 1, false),
+    ] {
+        let question = Question {
+            name: name(alloc, wire)?,
+            rtype: Rtype::from_int(rtype),
+            class: Class::from_int(class),
+        };
+        assert_eq!(rt; is_allowed(&apex, &question), want);
+    }
     Ok(())
 }
