@@ -6,7 +6,8 @@ use Rattle.definitions.specs.Name.{Name, at_or_above, strictly_above}
 use Rattle.definitions.specs.ZoneChain.{Mode}
 use Rattle.answer_zone.specs.declared.fault.ZoneFault.{ZoneFault}
 use Rattle.answer_zone.specs.declared.fault.ZoneFault.TheVariants as fault
-use Rattle.records.specs.HandedRr.{HandedRr, has_star, is_star, is_meta, among}
+use Rattle.records.specs.HandedRr.{HandedRr, has_star, is_meta, among}
+use Rattle.records.specs.Star.{begins_with_star}
 use Rattle.answer_zone.specs.Accepting.{record_cmp, sorted_records, zone_of, first_fault, has_unlike_ttls, unlike_ttls, over_limit}
 use Rattle.records.specs.Neighbours.{neighbours}
 use Rattle.records.proofs.Lists.{all_pass, all_fail, all_sorted}
@@ -48,7 +49,7 @@ plain_from_none apex mode limit rs e =
     (list_any (λ (r : HandedRr). among (46 ∷ 47 ∷ 48 ∷ 50 ∷ 51 ∷ []) r.rtype) rs)
     (list_any (λ (r : HandedRr). among (5 ∷ 39 ∷ []) r.rtype) rs)
     (list_any is_meta rs)
-    (list_any (λ (r : HandedRr). eqb r.rtype 2 && is_star r.owner) rs)
+    (list_any (λ (r : HandedRr). eqb r.rtype 2 && begins_with_star r.owner) rs)
     (list_any (λ (r : HandedRr). (eqb r.rtype 2 && strictly_above apex r.owner) || has_star r.owner) rs)
     fault.WrongClass fault.OutsideApex fault.SignedType fault.Alias fault.MetaType fault.StarNs fault.NotYet
     (cond (over_limit mode limit) (Some fault.IterationsOverLimit) None) e in

@@ -9,7 +9,8 @@ use Rattle.definitions.specs.Sorting.{sort_by}
 use Rattle.definitions.specs.Name.{Name, low, at_or_above, strictly_above, same, name_cmp}
 use Rattle.definitions.specs.Zone.{Zone, Rr, is_kept}
 use Rattle.definitions.specs.ZoneChain.{Mode, Nsec, Nsec3, optout_of}
-use Rattle.records.specs.HandedRr.{HandedRr, among, is_meta, is_star, has_star}
+use Rattle.records.specs.HandedRr.{HandedRr, among, is_meta, has_star}
+use Rattle.records.specs.Star.{begins_with_star}
 use Rattle.answer_zone.specs.declared.fault.ZoneFault.{ZoneFault}
 use Rattle.answer_zone.specs.declared.fault.ZoneFault.TheVariants as fault
 use Rattle.denial_data.specs.declared.generate.SigningError.{SigningError}
@@ -27,7 +28,7 @@ first_fault apex mode limit rs =
     else if list_any (λ r. among (46 ∷ 47 ∷ 48 ∷ 50 ∷ 51 ∷ []) r.rtype) rs then Some fault.SignedType
     else if list_any (λ r. among (5 ∷ 39 ∷ []) r.rtype) rs then Some fault.Alias
     else if list_any is_meta rs then Some fault.MetaType
-    else if list_any (λ r. (r.rtype == 2) && is_star r.owner) rs then Some fault.StarNs
+    else if list_any (λ r. (r.rtype == 2) && begins_with_star r.owner) rs then Some fault.StarNs
     else if list_any (λ r. ((r.rtype == 2) && strictly_above apex r.owner) || has_star r.owner) rs then Some fault.NotYet
     else if over_limit mode limit then Some fault.IterationsOverLimit
     else None

@@ -26,6 +26,11 @@ pub enum InputError {
 }
 
 impl From<AllocError> for InputError {
+    ghost use Rattle.std.specs.Prelude.{◌≡◌};
+    ghost use Rattle.denialbench.specs.declared.input.InputError.TheVariants.{Memory};
+
+    ghost from_gives = { λ _ e. e ≡ Memory };
+
     fn from(_error: AllocError) -> InputError {
         InputError::Memory
     }

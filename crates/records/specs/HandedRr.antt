@@ -25,11 +25,6 @@ among ts t = list_any (nat_eq t) ts
 abbrev pub is_meta : HandedRr → Bool
 is_meta r = (r.rtype == 0) || (r.rtype == 41) || (nat_le 128 r.rtype && nat_le r.rtype 255) || (r.is_unknown && among (2 ∷ 6 ∷ []) r.rtype)
 
--- the first label is a star
-abbrev pub is_star : Name → Bool
-is_star [] = false
-is_star (l ∷ n) = bytes_eq l (42 ∷ [])
-
 -- a label is a star
 abbrev pub has_star : Name → Bool
 has_star n = list_any (bytes_eq (42 ∷ [])) n

@@ -2,7 +2,8 @@
 ghost use Rattle.std.specs.Prelude.{◌≡◌, ◌==◌, not, ◌&&◌, ◌||◌, [], ◌∷◌};
 ghost use Rattle.std.specs.List.{list_any};
 ghost use Rattle.definitions.specs.Name.{at_or_above, strictly_above};
-ghost use Rattle.records.specs.HandedRr.{among, is_meta, is_star, has_star};
+ghost use Rattle.records.specs.HandedRr.{among, is_meta, has_star};
+ghost use Rattle.records.specs.Star.{begins_with_star};
 ghost use Rattle.answer_zone.specs.Accepting.{first_fault, over_limit};
 ghost use Rattle.answer_zone.specs.ZoneView.{mode_of};
 
@@ -71,7 +72,7 @@ fn any_meta(records: &[HandedRecord]) -> bool
 }
 
 fn any_star_delegation(records: &[HandedRecord]) -> bool
-    ensures { result ≡ list_any (λ r. (r.rtype == 2) && is_star r.owner) records.now }
+    ensures { result ≡ list_any (λ r. (r.rtype == 2) && begins_with_star r.owner) records.now }
 {
     records.iter().any(|r| r.delegates_star())
 }

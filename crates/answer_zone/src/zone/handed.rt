@@ -3,7 +3,8 @@ ghost use Rattle.std.specs.Prelude.{◌≡◌, ◌==◌, not, ◌&&◌, [], IfOk
 ghost use Rattle.std.specs.Prelude.{◌∷◌, ◌||◌, min, slice_index};
 ghost use Rattle.answer_zone.specs.Served.{minimum_of};
 ghost use Rattle.definitions.specs.Name.{at_or_above, strictly_above, same};
-ghost use Rattle.records.specs.HandedRr.{among, is_meta, is_star, has_star};
+ghost use Rattle.records.specs.HandedRr.{among, is_meta, has_star};
+ghost use Rattle.records.specs.Star.{begins_with_star};
 ghost use Rattle.answer_zone.specs.Accepting.{unlike_ttls};
 
 use records::names::Name;
@@ -160,9 +161,9 @@ impl HandedRecord {
 
     /// Whether this is a name server of a wildcard name (RFC 4592, 4.2).
     pub fn delegates_star(&self) -> bool
-        ensures { result ≡ ((self.now.rtype == 2) && is_star self.now.owner) }
+        ensures { result ≡ ((self.now.rtype == 2) && begins_with_star self.now.owner) }
     {
-        self.rtype == Rtype::NS && self.owner.starts_with_star()
+        self.rtype == Rtype::NS && self.owner.is_wildcard()
     }
 
     /// Whether this is a delegation, or the owner has a wildcard label.
