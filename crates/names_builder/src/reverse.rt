@@ -1,8 +1,8 @@
 //! The names of addresses (RFC 1035, 3.5; RFC 3596, 2.5).
 
-ghost use Rattle.std.specs.Prelude.{◌≡◌, ◌%◌, ◌++◌, [], ◌∷◌, IfOk, OnOk, OnErr};
+ghost use Rattle.std.specs.Prelude.{◌≡◌, ◌↔◌, ◌<◌, ◌%◌, ◌++◌, [], ◌∷◌, length, IfOk, IsErrOf, OnOk, OnErr};
 ghost use Rattle.names_builder.specs.Addresses.{decimal_label, hex_digit, decimal_labels, hex_labels, reverse_name};
-ghost use Rattle.names_builder.specs.Building.{all_labels, with_labels};
+ghost use Rattle.names_builder.specs.Building.{all_labels, octets_of_building, with_labels};
 
 use crate::builder::NameBuilder;
 use crate::push_error::PushError;
@@ -14,6 +14,8 @@ impl<B: OctetsBuilder> NameBuilder<B> {
     /// Ends the open label, and adds one of the number in decimal digits.
     pub fn append_dec_u8_label(&mut self, value: u8) -> Result<(), PushError>
         ensures ok { OnOk result (self.new ≡ with_labels self.old (decimal_label value ∷ [])) }
+        ensures long_label { IsErrOf result PushError.LongLabel → ⊥ }
+        ensures long_name { IsErrOf result PushError.LongName ↔ (254 < length (octets_of_building (with_labels self.old (decimal_label value ∷ [])))) }
         ensures err { OnErr result (self.new ≡ self.old) }
     {
         let (hundreds, tens, units) = (
@@ -31,6 +33,8 @@ impl<B: OctetsBuilder> NameBuilder<B> {
     /// Ends the open label, and adds one of the lower four bits as a hexadecimal digit.
     pub fn append_hex_digit_label(&mut self, nibble: u8) -> Result<(), PushError>
         ensures ok { OnOk result (self.new ≡ with_labels self.old ((hex_digit (nibble % 16) ∷ []) ∷ [])) }
+        ensures long_label { IsErrOf result PushError.LongLabel → ⊥ }
+        ensures long_name { IsErrOf result PushError.LongName ↔ (254 < length (octets_of_building (with_labels self.old ((hex_digit (nibble % 16) ∷ []) ∷ [])))) }
         ensures err { OnErr result (self.new ≡ self.old) }
     {
         let digit = nibble % 16;
