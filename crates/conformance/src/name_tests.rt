@@ -6,11 +6,11 @@ use names_flat::laws;
 use names_flat::name::Name;
 use names_flat::push_error::{PushError, PushNameError};
 use names_flat::relative::RelativeName;
-use names_flat::to_name::ToName;
-use names_flat::to_relative::ToRelativeName;
 use names_labels::name_error::NameError;
 use names_labels::relative_error::RelativeNameError;
 use names_labels::traits::ToLabelIter;
+use names_traits::to_name::ToName;
+use names_traits::to_relative::ToRelativeName;
 use names_wire::label::LabelTypeError;
 use std::cmp::Ordering;
 

@@ -1,11 +1,11 @@
 //! Rows of the parts of names.
 
 use names_flat::builder::Finish;
-use names_flat::flatten::FlattenInto;
 use names_flat::name::Name;
 use names_flat::relative::RelativeName;
 use names_flat::strip::StripSuffixError;
 use names_labels::traits::ToLabelIter;
+use names_traits::flatten::FlattenInto;
 
 #[test]
 fn labels_come_from_both_ends(rt: HostRuntime) {

@@ -4,13 +4,13 @@
 
 use arrayvec::ArrayVec;
 use names_flat::builder::{Finish, NameBuilder};
-use names_flat::flatten::FlattenInto;
 use names_flat::name::Name;
 use names_flat::push_error::{PushError, PushNameError};
 use names_flat::relative::RelativeName;
 use names_flat::text_error::{FromStrError, RelativeFromStrError};
-use names_flat::to_name::ToName;
-use names_flat::to_relative::ToRelativeName;
+use names_traits::flatten::FlattenInto;
+use names_traits::to_name::ToName;
+use names_traits::to_relative::ToRelativeName;
 use names_wire::builder::{OctetsBuilder, ShortBuf};
 use names_wire::label::Label;
 use names_wire::owned::OwnedLabel;

@@ -4,7 +4,7 @@ use crate::name_order::NAME_ORDER;
 use crate::name_text::NAME_TEXT;
 use crate::octet_text::OCTET_TEXT;
 use names_flat::name::Name;
-use names_flat::to_name::ToName;
+use names_traits::to_name::ToName;
 use std::alloc::Global;
 use std::cmp::Ordering;
 use std::process::Abort;

@@ -5,7 +5,7 @@
 #![tactic(auto)]
 
 use names_flat::name::Name;
-use names_flat::to_name::ToName;
+use names_traits::to_name::ToName;
 use std::alloc::Global;
 use std::io;
 

@@ -1,16 +1,14 @@
 -- A name, and its labels with the root's behind them.
-use Rattle.std.proofs.Common.{◌≡◌, ℕ, ◌≤◌, Bool, false, ◌&&◌, List, [], ◌∷◌, ◌++◌, length, map, refl, sym, ap, ◌∙◌, length-append, eqb, arith}
+use Rattle.std.proofs.Common.{◌≡◌, ℕ, ◌≤◌, Bool, false, ◌&&◌, List, [], ◌∷◌, ◌++◌, length, refl, sym, ap, ◌∙◌, length-append, eqb, arith}
 use Rattle.std.specs.Prelude.{◌↔◌, IsTrue, reverse}
 use Rattle.std.specs.List.{AllByRecursion}
 use Rattle.std.specs.Ordering.{nat_cmp}
 use Rattle.std.specs.Cmp.Lexicographic.{slice_cmp}
 use Rattle.std.specs.Str.{bytes_eq, str_to_ascii_lowercase}
-use Rattle.std.proofs.lemmas.List.{map-append, map-id, reverse-append}
+use Rattle.std.proofs.lemmas.List.{map-append, reverse-append}
 use Rattle.std.proofs.lemmas.Bool.{and_right, eqb-true}
 use Rattle.definitions.specs.Name.{Name, Label, IsLabel, IsName, wire, low, from_root, same, name_cmp}
 use Rattle.names_labels.specs.Flat.{spelled, labels_in, name_in, IsRun, IsFlat}
-use Rattle.names_labels.specs.Order.{in_case}
-use Rattle.names_labels.specs.declared.order.Case.TheVariants.{Kept, Lowered}
 use Rattle.names_labels.proofs.Runs.{labels_in-wire, wire-spelled}
 use Rattle.names_labels.proofs.Checks.{length-wire}
 
@@ -49,12 +47,6 @@ from_root-rooted n = ap reverse (map-append str_to_ascii_lowercase n ([] ∷ [])
 
 pub name_cmp-rooted : (m n : Name) → name_cmp (m ++ [] ∷ []) (n ++ [] ∷ []) ≡ name_cmp m n
 name_cmp-rooted m n = λ t. slice_cmp (slice_cmp nat_cmp) (from_root-rooted m t) (from_root-rooted n t)
-
-pub spelled-kept : (n : Name) → spelled (map (in_case Kept) (n ++ [] ∷ [])) ≡ wire n
-spelled-kept n = ap spelled (map-id (n ++ [] ∷ [])) ∙ sym (wire-spelled n)
-
-pub spelled-lowered : (n : Name) → spelled (map (in_case Lowered) (n ++ [] ∷ [])) ≡ wire (low n)
-spelled-lowered n = ap spelled (map-append str_to_ascii_lowercase n ([] ∷ [])) ∙ sym (wire-spelled (low n))
 
 -- a wire form of one octet is the root's
 pub only_root : (n : Name) (bs : List ℕ) (t : Bool) → bs ≡ wire n → t ≡ eqb (length bs) 1 → IsTrue t ↔ (n ≡ [])

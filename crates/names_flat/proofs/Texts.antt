@@ -1,9 +1,9 @@
 -- The text of names, label by label.
-use Rattle.std.proofs.Common.{◌≡◌, ℕ, ◌<◌, List, [], ◌∷◌, ◌++◌, length, take, map, refl, sym, ap, ◌∙◌, append_assoc, arith}
-use Rattle.std.specs.List.{join_with_byte, flat_map}
+use Rattle.std.proofs.Common.{◌≡◌, ℕ, ◌<◌, List, [], ◌∷◌, ◌++◌, length, map, refl, sym, ap, ◌∙◌, append_assoc, arith}
+use Rattle.std.specs.List.{join_with_byte}
 use Rattle.definitions.specs.Name.{Name, Label}
-use Rattle.definitions.specs.Text.{text_of_label, text_of_relative, dotted_text_of_name}
-use Rattle.std.proofs.lemmas.List.{append-nil, map-append, take_at}
+use Rattle.definitions.specs.Text.{text_of_label, text_of_relative}
+use Rattle.std.proofs.lemmas.List.{map-append}
 
 join-push : (x : List ℕ) (xs : List (List ℕ)) (y : List ℕ) → join_with_byte 46 ((x ∷ xs) ++ y ∷ []) ≡ join_with_byte 46 (x ∷ xs) ++ 46 ∷ y
 join-push x [] y = refl
@@ -13,26 +13,3 @@ join-push x (z ∷ xs) y =
 pub text-push : (n : Name) (l : Label) → 0 < length n → text_of_relative (n ++ l ∷ []) ≡ text_of_relative n ++ 46 ∷ text_of_label l
 text-push [] l h = absurd (omega arith)
 text-push (k ∷ n) l h = ap (join_with_byte 46) (map-append text_of_label (k ∷ n) (l ∷ [])) ∙ join-push (text_of_label k) (map text_of_label n) (text_of_label l)
-
--- all labels before the root's
-pub all_moved : (done labels n : Name) → done ++ labels ≡ n ++ [] ∷ [] → length done ≡ length n → done ≡ n
-all_moved done labels n h e = sym (take_at done labels (length n) e) ∙ ap (take (length n)) h ∙ take_at n ([] ∷ []) (length n) refl
-
--- labels with a dot behind each
-abbrev pub dotted : Name → List ℕ
-dotted n = flat_map (λ l. text_of_label l ++ 46 ∷ []) n
-
-dotted_relative : (l : Label) (n : Name) → text_of_relative (l ∷ n) ++ 46 ∷ [] ≡ dotted (l ∷ n)
-dotted_relative l [] = sym (append-nil (text_of_label l ++ 46 ∷ []))
-dotted_relative l (k ∷ n) =
-    append_assoc (text_of_label l) (46 ∷ text_of_relative (k ∷ n)) (46 ∷ [])
-    ∙ ap (λ t. text_of_label l ++ 46 ∷ t) (dotted_relative k n)
-    ∙ sym (append_assoc (text_of_label l) (46 ∷ []) (dotted (k ∷ n)))
-
-pub dotted_text : (n : Name) → 0 < length n → dotted_text_of_name n ≡ dotted n
-dotted_text [] h = absurd (omega arith)
-dotted_text (l ∷ n) h = dotted_relative l n
-
-pub dotted-push : (n : Name) (l : Label) → dotted (n ++ l ∷ []) ≡ dotted n ++ (text_of_label l ++ 46 ∷ [])
-dotted-push [] l = append-nil (text_of_label l ++ 46 ∷ [])
-dotted-push (k ∷ n) l = ap (λ t. (text_of_label k ++ 46 ∷ []) ++ t) (dotted-push n l) ∙ sym (append_assoc (text_of_label k ++ 46 ∷ []) (dotted n) (text_of_label l ++ 46 ∷ []))

@@ -5,10 +5,10 @@ ghost use Rattle.names_builder.specs.Building.{Building, all_labels, octets_of_b
 
 use crate::name::Name;
 use crate::relative::RelativeName;
-use crate::to_name::Absolute;
 use arrayvec::ArrayVec;
 pub use names_builder::builder::NameBuilder;
 use names_builder::push_error::PushNameError;
+use names_labels::traits::Absolute;
 use names_wire::builder::OctetsBuilder;
 use names_wire::octets::Octets;
 

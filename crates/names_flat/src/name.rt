@@ -8,11 +8,10 @@ ghost use Rattle.names_wire.specs.Label.{octets_of};
 
 use crate::builder::{BuiltOctets, Finish, NameBuilder};
 use crate::relative::RelativeName;
-use crate::to_name::{Absolute, ToName};
 use names_labels::check::check_absolute;
 use names_labels::flat;
 use names_labels::name_error::NameError;
-use names_labels::traits::{Labels, ToLabelIter};
+use names_labels::traits::{Absolute, Labels, ToLabelIter};
 use names_wire::builder::ShortBuf;
 use names_wire::label::Label;
 use names_wire::octets::Octets;
@@ -195,7 +194,7 @@ impl Name<&'static [u8]> {
 
 impl Name<Vec<u8>> {
     /// The same name over octets that may be borrowed or owned.
-    pub(crate) fn into_cow(self) -> Name<CowSlice<'static, u8>>
+    pub fn into_cow(self) -> Name<CowSlice<'static, u8>>
         ensures { result ≡ self }
     {
         Name {
@@ -248,5 +247,3 @@ impl<Octs: Octets> Absolute for Name<Octs> {
 
     ghost rooted = { λ n. refl };
 }
-
-impl<Octs: Octets> ToName for Name<Octs> {}

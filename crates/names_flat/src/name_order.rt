@@ -8,8 +8,8 @@ ghost use Rattle.names_flat.specs.Laws.{same_equivalence, name_cmp_total, name_c
 ghost use Rattle.names_flat.specs.Feed.{labels_feed, name_feed, name_feed-same};
 
 use crate::name::Name;
-use crate::to_name::ToName;
-use names_labels::traits::ToLabelIter;
+use names_labels::order::labels_cmp;
+use names_labels::traits::{ToLabelIter, labels_eq};
 use names_wire::octets::Octets;
 use std::cmp::Ordering;
 use std::hash::{Hash, Hasher};
@@ -20,7 +20,7 @@ impl<Octs: Octets> PartialEq for Name<Octs> {
     ghost laws = { partial_equiv_from_equiv same_equivalence };
 
     fn eq(&self, other: &Self) -> bool {
-        self.name_eq(other)
+        labels_eq(self, other)
     }
 }
 
@@ -34,7 +34,7 @@ impl<Octs: Octets> PartialOrd for Name<Octs> {
     ghost laws = { name_cmp_partial };
 
     fn partial_cmp(&self, other: &Self) -> Option<Ordering> {
-        Some(self.name_cmp(other))
+        Some(self.cmp(other))
     }
 }
 
@@ -48,7 +48,7 @@ impl<Octs: Octets> Ord for Name<Octs> {
     ghost matches_eq = { name_cmp_ties };
 
     fn cmp(&self, other: &Self) -> Ordering {
-        self.name_cmp(other)
+        labels_cmp(self, other)
     }
 }
 

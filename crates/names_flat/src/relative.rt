@@ -9,11 +9,10 @@ ghost use Rattle.names_wire.specs.Label.{octets_of};
 use crate::builder::{BuiltOctets, Finish, NameBuilder};
 use crate::name::Name;
 use crate::push_error::PushNameError;
-use crate::to_relative::{Relative, ToRelativeName};
 use names_labels::check::check_relative;
 use names_labels::flat;
 use names_labels::relative_error::RelativeNameError;
-use names_labels::traits::{Labels, ToLabelIter};
+use names_labels::traits::{Labels, Relative, ToLabelIter};
 use names_wire::builder::ShortBuf;
 use names_wire::label::Label;
 use names_wire::octets::Octets;
@@ -181,7 +180,7 @@ impl<Octs: BuiltOctets> RelativeName<Octs> {
 
 impl RelativeName<Vec<u8>> {
     /// The same name over octets that may be borrowed or owned.
-    pub(crate) fn into_cow(self) -> RelativeName<CowSlice<'static, u8>>
+    pub fn into_cow(self) -> RelativeName<CowSlice<'static, u8>>
         ensures { result ≡ self }
     {
         RelativeName {
@@ -288,5 +287,3 @@ impl<Octs: Octets> Relative for RelativeName<Octs> {
 
     ghost unrooted = { λ n. refl };
 }
-
-impl<Octs: Octets> ToRelativeName for RelativeName<Octs> {}

@@ -8,7 +8,8 @@ ghost use Rattle.names_flat.specs.Feed.{labels_feed, labels_feed-same};
 
 use crate::name_order::feed_labels;
 use crate::relative::RelativeName;
-use crate::to_relative::ToRelativeName;
+use names_labels::order::labels_cmp;
+use names_labels::traits::labels_eq;
 use names_wire::octets::Octets;
 use std::cmp::Ordering;
 use std::hash::{Hash, Hasher};
@@ -19,7 +20,7 @@ impl<Octs: Octets> PartialEq for RelativeName<Octs> {
     ghost laws = { partial_equiv_from_equiv same_equivalence };
 
     fn eq(&self, other: &Self) -> bool {
-        self.name_eq(other)
+        labels_eq(self, other)
     }
 }
 
@@ -33,7 +34,7 @@ impl<Octs: Octets> PartialOrd for RelativeName<Octs> {
     ghost laws = { name_cmp_partial };
 
     fn partial_cmp(&self, other: &Self) -> Option<Ordering> {
-        Some(self.name_cmp(other))
+        Some(self.cmp(other))
     }
 }
 
@@ -47,7 +48,7 @@ impl<Octs: Octets> Ord for RelativeName<Octs> {
     ghost matches_eq = { name_cmp_ties };
 
     fn cmp(&self, other: &Self) -> Ordering {
-        self.name_cmp(other)
+        labels_cmp(self, other)
     }
 }
 

@@ -6,9 +6,7 @@ ghost use Rattle.definitions.specs.Name.{Name as Labels, at_or_above, same};
 use crate::builder::BuiltOctets;
 use crate::name::Name;
 use crate::relative::RelativeName;
-use crate::to_name::Absolute;
-use crate::to_relative::Relative;
-use names_labels::traits::ToLabelIter;
+use names_labels::traits::{Absolute, Relative, ToLabelIter};
 use thiserror::Error;
 
 /// A name does not end with the suffix.

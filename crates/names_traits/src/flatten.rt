@@ -2,10 +2,10 @@
 
 ghost use Rattle.std.specs.Prelude.{◌≡◌, IfOk};
 
-use crate::name::Name;
-use crate::relative::RelativeName;
 use crate::to_name::ToName;
 use crate::to_relative::ToRelativeName;
+use names_flat::name::Name;
+use names_flat::relative::RelativeName;
 use names_wire::builder::ShortBuf;
 use names_wire::octets::Octets;
 use std::alloc::Global;

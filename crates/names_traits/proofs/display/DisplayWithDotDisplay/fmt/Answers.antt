@@ -5,9 +5,9 @@ use Rattle.std.proofs.lemmas.List.{append-nil}
 use Rattle.definitions.specs.Text.{text_of_label}
 use Rattle.names_wire.specs.Label.{octets_of}
 use Rattle.names_labels.proofs.Runs.{moved}
-use Rattle.names_flat.proofs.Texts.{dotted, dotted-push, dotted_text, all_moved}
-use Rattle.names_flat.proofs.display.DisplayWithDotDisplay.fmt.Goals as goal
-use Rattle.names_flat.proofs.display.DisplayWithDotDisplay.fmt.Goals.{in-Some+in_ok-write, in_default}
+use Rattle.names_traits.proofs.DottedTexts.{dotted, dotted-push, dotted_text, all_moved}
+use Rattle.names_traits.proofs.display.DisplayWithDotDisplay.fmt.Goals as goal
+use Rattle.names_traits.proofs.display.DisplayWithDotDisplay.fmt.Goals.{in-Some+in_ok-write, in_default}
 
 pub loop-init : goal.loop-init
 loop-init g c = (

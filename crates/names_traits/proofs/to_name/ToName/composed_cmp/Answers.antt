@@ -4,8 +4,8 @@ use Rattle.std.specs.Cmp.Lexicographic.{slice_cmp}
 use Rattle.names_labels.specs.Flat.{spelled}
 use Rattle.names_labels.specs.Order.{in_case}
 use Rattle.names_labels.specs.declared.order.Case.TheVariants.{Kept}
-use Rattle.names_flat.proofs.Rooted.{spelled-kept}
-use Rattle.names_flat.proofs.to_name.ToName.composed_cmp.Goals as goal
+use Rattle.names_traits.proofs.Composed.{spelled-kept}
+use Rattle.names_traits.proofs.to_name.ToName.composed_cmp.Goals as goal
 
 pub returns : goal.returns
 returns g c =

@@ -1,8 +1,8 @@
 use Rattle.std.proofs.Common.{◌≡◌, ◌+◌, ◌++◌, ◌∷◌, [], length}
 use Rattle.std.specs.Fmt.{HasWritten, IsPlainFormatter}
 use Rattle.definitions.specs.Name.{Name}
-use Rattle.names_flat.proofs.Texts.{dotted}
-use Rattle.names_flat.proofs.display.DisplayWithDotDisplay.fmt.Given as goal
+use Rattle.names_traits.proofs.DottedTexts.{dotted}
+use Rattle.names_traits.proofs.display.DisplayWithDotDisplay.fmt.Given as goal
 
 abbrev pub invariant-loop : goal.invariant-loop
 invariant-loop g l =

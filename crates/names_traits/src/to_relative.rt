@@ -3,12 +3,13 @@
 ghost use Rattle.std.specs.Prelude.{◌≡◌, ◌==◌, length, IfOk};
 ghost use Rattle.definitions.specs.Name.{low, same, name_cmp};
 
-use crate::builder::{Finish, NameBuilder};
-use crate::relative::RelativeName;
+use names_flat::builder::{Finish, NameBuilder};
+use names_flat::relative::RelativeName;
 use names_labels::order::labels_cmp;
 pub use names_labels::traits::Relative;
 use names_labels::traits::labels_eq;
 use names_wire::builder::ShortBuf;
+use names_wire::octets::Octets;
 use std::alloc::Global;
 use std::borrow::CowSlice;
 use std::cmp::Ordering;
@@ -94,3 +95,5 @@ pub trait ToRelativeName: Relative {
         }
     }
 }
+
+impl<Octs: Octets> ToRelativeName for RelativeName<Octs> {}

@@ -5,13 +5,14 @@ ghost use Rattle.std.specs.Ordering.{nat_cmp};
 ghost use Rattle.std.specs.Cmp.Lexicographic.{slice_cmp};
 ghost use Rattle.definitions.specs.Name.{low, wire, same, name_cmp};
 
-use crate::builder::{Finish, NameBuilder};
 use crate::display::DisplayWithDot;
-use crate::name::Name;
+use names_flat::builder::{Finish, NameBuilder};
+use names_flat::name::Name;
 use names_labels::order::{Case, labels_cmp, labels_composed_cmp};
 pub use names_labels::traits::Absolute;
 use names_labels::traits::labels_eq;
 use names_wire::builder::ShortBuf;
+use names_wire::octets::Octets;
 use std::alloc::Global;
 use std::borrow::CowSlice;
 use std::cmp::Ordering;
@@ -110,3 +111,5 @@ pub trait ToName: Absolute {
         }
     }
 }
+
+impl<Octs: Octets> ToName for Name<Octs> {}

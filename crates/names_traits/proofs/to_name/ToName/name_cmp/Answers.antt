@@ -1,7 +1,7 @@
 use Rattle.std.proofs.Common.{◌∙◌}
 use Rattle.definitions.specs.Name.{name_cmp}
 use Rattle.names_flat.proofs.Rooted.{name_cmp-rooted}
-use Rattle.names_flat.proofs.to_name.ToName.name_cmp.Goals as goal
+use Rattle.names_traits.proofs.to_name.ToName.name_cmp.Goals as goal
 
 pub returns : goal.returns
 returns g c =

@@ -1,0 +1,7 @@
+//! What any two names have in common, however they are kept: comparing, copying, printing with the last dot.
+#![tactic(auto)]
+
+pub mod display;
+pub mod flatten;
+pub mod to_name;
+pub mod to_relative;
