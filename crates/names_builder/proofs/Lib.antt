@@ -1,4 +1,5 @@
 pub mod Builds
 pub mod FromTexts
 pub mod Numbers
+pub mod Room
 pub mod WholeTexts

@@ -1,6 +1,7 @@
 //! The names of addresses (RFC 1035, 3.5; RFC 3596, 2.5).
 
-ghost use Rattle.std.specs.Prelude.{◌≡◌, ◌↔◌, ◌<◌, ◌%◌, ◌++◌, [], ◌∷◌, length, IfOk, IsErrOf, OnOk, OnErr};
+ghost use Rattle.std.specs.Prelude.{◌≡◌, ◌↔◌, ◌<◌, ◌≤◌, ◌+◌, ◌*◌, ◌%◌, ◌++◌, [], ◌∷◌, length, IfOk, IfErr, IsErrOf, OnOk, OnErr};
+ghost use Rattle.names_labels.specs.Flat.{spelled};
 ghost use Rattle.names_builder.specs.Addresses.{decimal_label, hex_digit, decimal_labels, hex_labels, reverse_name};
 ghost use Rattle.names_builder.specs.Building.{all_labels, octets_of_building, with_labels};
 
@@ -49,7 +50,8 @@ impl<B: OctetsBuilder> NameBuilder<B> {
 /// A builder with the labels of the name under which an address is looked up. It is refused for want of memory
 /// alone.
 pub fn reverse_labels(alloc: Global, addr: IpAddr) -> Result<NameBuilder<Vec<u8>>, PushError>
-    ensures { IfOk result (λ b. all_labels b ≡ reverse_name addr) }
+    ensures labels { IfOk result (λ b. all_labels b ≡ reverse_name addr) }
+    ensures memory { IfErr result (λ e. e ≡ PushError.ShortBuf) }
 {
     let mut builder = NameBuilder::new(alloc);
     match addr {
@@ -72,8 +74,10 @@ pub fn reverse_labels(alloc: Global, addr: IpAddr) -> Result<NameBuilder<Vec<u8>
 
 /// Appends a label for each octet.
 fn append_octets(builder: &mut NameBuilder<Vec<u8>>, octets: &[u8]) -> Result<(), PushError>
-    requires { builder.old.open_label ≡ [] }
-    ensures { OnOk result (builder.new ≡ record { done = builder.old.done ++ decimal_labels octets.now; open_label = [] }) }
+    requires closed { builder.old.open_label ≡ [] }
+    requires room { length (spelled builder.old.done) + 4 * length octets.now ≤ 254 }
+    ensures labels { OnOk result (builder.new ≡ record { done = builder.old.done ++ decimal_labels octets.now; open_label = [] }) }
+    ensures memory { IfErr result (λ e. e ≡ PushError.ShortBuf) }
 {
     for octet in octets {
         builder.append_dec_u8_label(*octet)?;
@@ -83,8 +87,10 @@ fn append_octets(builder: &mut NameBuilder<Vec<u8>>, octets: &[u8]) -> Result<()
 
 /// Appends a label for each four bits, of an octet the lower ones first.
 fn append_nibbles(builder: &mut NameBuilder<Vec<u8>>, octets: &[u8]) -> Result<(), PushError>
-    requires { builder.old.open_label ≡ [] }
-    ensures { OnOk result (builder.new ≡ record { done = builder.old.done ++ hex_labels octets.now; open_label = [] }) }
+    requires closed { builder.old.open_label ≡ [] }
+    requires room { length (spelled builder.old.done) + 4 * length octets.now ≤ 254 }
+    ensures labels { OnOk result (builder.new ≡ record { done = builder.old.done ++ hex_labels octets.now; open_label = [] }) }
+    ensures memory { IfErr result (λ e. e ≡ PushError.ShortBuf) }
 {
     for octet in octets {
         builder.append_hex_digit_label(*octet)?;
