@@ -12,7 +12,7 @@ use Rattle.std.specs.Str.Iter.{chars_rest, chars_steps}
 use Rattle.std.specs.declared.str.Chars.{Chars}
 use Rattle.names_wire.specs.Spelled.{in_turn}
 use Rattle.names_wire.proofs.Characters.{characters, no_octets}
-use Rattle.names_wire.specs.Symbols.{IsUnfinished, char_fault}
+use Rattle.names_wire.specs.Symbols.{is_begun, char_fault}
 use Rattle.names_wire.specs.LabelFault.{FaultBehind, CharFault, FirstFault}
 use Rattle.names_wire.specs.declared.symbol.SymbolCharsError.{SymbolCharsError}
 use Rattle.names_wire.specs.declared.symbol.SymbolCharsError.TheVariants.{ShortInput}
@@ -20,8 +20,8 @@ use Rattle.names_wire.specs.declared.owned.LabelFault.{LabelFault}
 use Rattle.names_wire.specs.declared.owned.LabelFault.TheVariants.{Symbol as BadText, EmptyLabel}
 use Rattle.names_wire.proofs.PartLabel.{PartRead}
 
-pub none_unfinished : (pending : List ℕ) → pending ≡ [] → IsUnfinished pending
-none_unfinished pending e = subst IsUnfinished (sym e) (λ k h l. absurd (omega (arith, h, l)))
+pub none_begun : (pending : List ℕ) → pending ≡ [] → is_begun pending ≡ true
+none_begun pending e = ap is_begun e
 
 -- some symbols that were read begin a label
 begins_label : (ss : List Symbol) → length ss ≤ 63 → list_all is_symbol ss ≡ true → list_any is_dot ss ≡ false → begins_binary ss ≡ false → (ss ≡ []) ⊎ (label_of_symbols ss ≡ Some (map octet ss))
@@ -36,37 +36,37 @@ read_begins text pending octets p =
     begins_label p.symbols (omega (arith, p.short, ap length p.spelled, length-map p.symbols octet)) p.each p.undivided p.first
 
 -- the next character is refused
-at_next : {S : Type 0} (steps : S → Option ℕ → S → Type 0) (s t u : S) (text pending octets : List ℕ) (ch : ℕ) (f : LabelFault) → PartRead text pending octets → IsUnfinished pending → Yields steps s text t → steps t (Some ch) u → CharFault octets pending ch f → FirstFault steps s f
+at_next : {S : Type 0} (steps : S → Option ℕ → S → Type 0) (s t u : S) (text pending octets : List ℕ) (ch : ℕ) (f : LabelFault) → PartRead text pending octets → is_begun pending ≡ true → Yields steps s text t → steps t (Some ch) u → CharFault octets pending ch f → FirstFault steps s f
 at_next steps s t u text pending octets ch f p b y h o = record {
-  text = text;
+  whole = p.whole;
   symbols = p.symbols;
   unfinished = pending;
   after = t;
-  yields = y;
+  yields = subst (λ x. Yields steps s x t) p.divided y;
   begins = b;
-  reads = p.read;
+  reads = p.reads;
   stands = read_begins text pending octets p;
   fault = inl (ch, u, h, subst (λ os. CharFault os pending ch f) p.spelled o);
 }
 
 -- it makes no symbol
-pub no_symbol : {S : Type 0} (steps : S → Option ℕ → S → Type 0) (s t u : S) (text pending octets : List ℕ) (ch : ℕ) (e : SymbolCharsError) (f : LabelFault) → PartRead text pending octets → IsUnfinished pending → Yields steps s text t → steps t (Some ch) u → ((rest : List ℕ) → symbols_of (pending ++ ch ∷ rest) ≡ None) → e ≡ char_fault pending → f ≡ BadText e → FirstFault steps s f
-no_symbol steps s t u text pending octets ch e f p b y h n k i = at_next steps s t u text pending octets ch f p b y h (inl (n, i ∙ ap BadText k))
+pub no_symbol : {S : Type 0} (steps : S → Option ℕ → S → Type 0) (s t u : S) (text pending octets : List ℕ) (ch : ℕ) (e : SymbolCharsError) (f : LabelFault) → PartRead text pending octets → is_begun pending ≡ true → Yields steps s text t → steps t (Some ch) u → is_begun (pending ++ ch ∷ []) ≡ false → ((rest : List ℕ) → symbols_of (pending ++ ch ∷ rest) ≡ None) → e ≡ char_fault pending → f ≡ BadText e → FirstFault steps s f
+no_symbol steps s t u text pending octets ch e f p b y h m n k i = at_next steps s t u text pending octets ch f p b y h (inl (m, n, i ∙ ap BadText k))
 
 -- it makes a symbol whole that is refused
-pub bad_symbol : {S : Type 0} (steps : S → Option ℕ → S → Type 0) (s t u : S) (text pending later octets : List ℕ) (ch : ℕ) (c : Symbol) (f : LabelFault) → PartRead text pending octets → IsUnfinished pending → Yields steps s text t → steps t (Some ch) u → ((rest : List ℕ) → symbols_of (pending ++ ch ∷ rest) ≡ option_map (λ ss. c ∷ ss) (symbols_of (later ++ rest))) → FaultBehind octets c f → FirstFault steps s f
-bad_symbol steps s t u text pending later octets ch c f p b y h r o = at_next steps s t u text pending octets ch f p b y h (inr (c, later, r, o))
+pub bad_symbol : {S : Type 0} (steps : S → Option ℕ → S → Type 0) (s t u : S) (text pending later octets : List ℕ) (ch : ℕ) (c : Symbol) (f : LabelFault) → PartRead text pending octets → is_begun pending ≡ true → Yields steps s text t → steps t (Some ch) u → ((rest : List ℕ) → symbols_of (pending ++ ch ∷ rest) ≡ option_map (λ ss. c ∷ ss) (symbols_of (later ++ rest))) → later ≡ [] → FaultBehind octets c f → FirstFault steps s f
+bad_symbol steps s t u text pending later octets ch c f p b y h r e o = at_next steps s t u text pending octets ch f p b y h (inr (c, λ rest. r rest ∙ ap (λ x. option_map (λ ss. c ∷ ss) (symbols_of (x ++ rest))) e, o))
 
 -- there are no more within a symbol
-pub ends_within : {S : Type 0} (steps : S → Option ℕ → S → Type 0) (s t u : S) (text pending octets : List ℕ) (e : SymbolCharsError) (f : LabelFault) → PartRead text pending octets → IsUnfinished pending → Yields steps s text t → steps t None u → symbols_of pending ≡ None → e ≡ ShortInput → f ≡ BadText e → FirstFault steps s f
+pub ends_within : {S : Type 0} (steps : S → Option ℕ → S → Type 0) (s t u : S) (text pending octets : List ℕ) (e : SymbolCharsError) (f : LabelFault) → PartRead text pending octets → is_begun pending ≡ true → Yields steps s text t → steps t None u → symbols_of pending ≡ None → e ≡ ShortInput → f ≡ BadText e → FirstFault steps s f
 ends_within steps s t u text pending octets e f p b y h n k i = record {
-  text = text;
+  whole = p.whole;
   symbols = p.symbols;
   unfinished = pending;
   after = t;
-  yields = y;
+  yields = subst (λ x. Yields steps s x t) p.divided y;
   begins = b;
-  reads = p.read;
+  reads = p.reads;
   stands = read_begins text pending octets p;
   fault = inr (inl (u, h, n, i ∙ ap BadText k));
 }
@@ -76,15 +76,15 @@ no_symbols [] h = refl
 no_symbols (s ∷ ss) h = cc
 
 -- there are none
-pub ends_empty : {S : Type 0} (steps : S → Option ℕ → S → Type 0) (s t u : S) (text pending octets : List ℕ) → PartRead text pending octets → IsUnfinished pending → Yields steps s text t → steps t None u → pending ≡ [] → octets ≡ [] → FirstFault steps s EmptyLabel
+pub ends_empty : {S : Type 0} (steps : S → Option ℕ → S → Type 0) (s t u : S) (text pending octets : List ℕ) → PartRead text pending octets → is_begun pending ≡ true → Yields steps s text t → steps t None u → pending ≡ [] → octets ≡ [] → FirstFault steps s EmptyLabel
 ends_empty steps s t u text pending octets p b y h n e = record {
-  text = text;
+  whole = p.whole;
   symbols = p.symbols;
   unfinished = pending;
   after = t;
-  yields = y;
+  yields = subst (λ x. Yields steps s x t) p.divided y;
   begins = b;
-  reads = p.read;
+  reads = p.reads;
   stands = read_begins text pending octets p;
   fault = inr (inr (u, h, no_symbols p.symbols (sym p.spelled ∙ e), n, refl));
 }
@@ -98,13 +98,13 @@ in_turn-yields (c ∷ text) rest = (text ++ rest, refl, in_turn-yields text rest
 in_text : (s : Chars) (f : LabelFault) → IsUtf8 (chars_rest s) → FirstFault chars_steps s f → FirstFault in_turn (chars (chars_rest s)) f
 in_text s f u o =
     let after = o.after in
-    let read = characters s after o.text u o.yields in
+    let read = characters s after (o.whole ++ o.unfinished) u o.yields in
     record {
-      text = o.text;
+      whole = o.whole;
       symbols = o.symbols;
       unfinished = o.unfinished;
       after = chars (chars_rest after);
-      yields = subst (λ x. Yields in_turn x o.text (chars (chars_rest after))) (sym read.0) (in_turn-yields o.text (chars (chars_rest after)));
+      yields = subst (λ x. Yields in_turn x (o.whole ++ o.unfinished) (chars (chars_rest after))) (sym read.0) (in_turn-yields (o.whole ++ o.unfinished) (chars (chars_rest after)));
       begins = o.begins;
       reads = o.reads;
       stands = o.stands;

@@ -3,7 +3,7 @@ use Rattle.std.specs.Prelude.{◌≡◌, ◌⊎◌, ◌≤◌, true, false, ℕ,
 use Rattle.std.specs.Option.{option_map}
 use Rattle.std.specs.Iterator.{Yields}
 use Rattle.definitions.specs.Text.{Symbol, is_dot, is_bracket, octet, symbols_of, label_of_symbols}
-use Rattle.names_wire.specs.Symbols.{IsUnfinished, char_fault}
+use Rattle.names_wire.specs.Symbols.{is_begun, char_fault}
 use Rattle.names_wire.specs.declared.symbol.SymbolCharsError.TheVariants.{ShortInput}
 use Rattle.names_wire.specs.declared.owned.LabelFault.{LabelFault}
 use Rattle.names_wire.specs.declared.owned.LabelFault.TheVariants.{Symbol as BadText, BinaryLabel, Dot, EmptyLabel, LongLabel}
@@ -21,22 +21,23 @@ FaultBehind octets s Dot = is_dot s ≡ true
 FaultBehind octets s EmptyLabel = ⊥
 FaultBehind octets s LongLabel = (is_dot s ≡ false) × (63 ≤ length octets)
 
--- Why a character is refused behind those of a symbol that isn't whole: they make no symbol, or one that is refused.
+-- Why a character is refused behind those of an escape that isn't whole: they begin no symbol, or the one that it makes
+-- whole is refused.
 abbrev pub CharFault : List ℕ → List ℕ → ℕ → LabelFault → Type 0
 CharFault octets unfinished ch f =
-    (((rest : List ℕ) → symbols_of (unfinished ++ ch ∷ rest) ≡ None) × (f ≡ BadText (char_fault unfinished)))
-    ⊎ ((s : Symbol) × (later : List ℕ) × ((rest : List ℕ) → symbols_of (unfinished ++ ch ∷ rest) ≡ option_map (λ ss. s ∷ ss) (symbols_of (later ++ rest))) × FaultBehind octets s f)
+    ((is_begun (unfinished ++ ch ∷ []) ≡ false) × ((rest : List ℕ) → symbols_of (unfinished ++ ch ∷ rest) ≡ None) × (f ≡ BadText (char_fault unfinished)))
+    ⊎ ((s : Symbol) × ((rest : List ℕ) → symbols_of (unfinished ++ ch ∷ rest) ≡ option_map (λ ss. s ∷ ss) (symbols_of rest)) × FaultBehind octets s f)
 
 -- The first fault of the characters that an iterator gives as a label: the symbols before it begin one, and it is that of
--- the next character, or of the end within a symbol or before the first.
+-- the next character, or of the end within an escape or before the first symbol.
 pub record FirstFault {S : Type 0} (steps : S → Option ℕ → S → Type 0) (s : S) (f : LabelFault) : Type 0 where
-  pub text : List ℕ
+  pub whole : List ℕ
   pub symbols : List Symbol
   pub unfinished : List ℕ
   pub after : S
-  pub yields : Yields steps s text after
-  pub begins : IsUnfinished unfinished
-  pub reads : (rest : List ℕ) → symbols_of (text ++ rest) ≡ option_map (λ ss. symbols ++ ss) (symbols_of (unfinished ++ rest))
+  pub yields : Yields steps s (whole ++ unfinished) after
+  pub reads : (rest : List ℕ) → symbols_of (whole ++ rest) ≡ option_map (λ ss. symbols ++ ss) (symbols_of rest)
+  pub begins : is_begun unfinished ≡ true
   pub stands : (symbols ≡ []) ⊎ (label_of_symbols symbols ≡ Some (map octet symbols))
   pub fault :
       ((ch : ℕ) × (t : S) × steps after (Some ch) t × CharFault (map octet symbols) unfinished ch f)
