@@ -67,7 +67,7 @@ impl OwnedLabel {
 
     /// The label that the characters spell: 1 to 63 symbols without a dot that separates (RFC 1035, 5.1).
     ///
-    /// It stops at the first character behind which no label can come.
+    /// It stops at the first character behind which no label can come; the digits of an escape are judged by the last.
     pub fn from_chars<C: Iterator<Item = char> + Drop>(
         chars: C,
     ) -> Result<OwnedLabel, LabelFromStrError>
