@@ -5,7 +5,7 @@ use Rattle.std.specs.Iterator.{Yields, Drains}
 use Rattle.std.proofs.lemmas.Bool.{eqb-true}
 use Rattle.definitions.specs.Name.{Name, Label}
 use Rattle.definitions.specs.Text.{Symbol, Plain, is_dot, is_lone_dot, symbols_of, pieces, onto_first, labels_of_pieces, without_last_dot, if_short, name_of_symbols, name_of_text, relative_of_text}
-use Rattle.names_wire.specs.Spelled.{SpellsNothing}
+use Rattle.names_wire.specs.Spelled.{SpellsNothing, in_turn}
 use Rattle.names_labels.specs.Open.{without_empty, if_open_short, read_behind}
 use Rattle.names_labels.proofs.Taken.{if_closed}
 use Rattle.names_labels.proofs.Wholes.{name_read, name_of_plain, relative_of_some, not_empty_read, closed_end, empty_end, some_behind, read_first}
@@ -23,7 +23,7 @@ use Rattle.names_builder.specs.declared.text_error.Fault.{Fault}
 use Rattle.names_builder.specs.declared.text_error.Fault.TheVariants.{EmptyLabel}
 use Rattle.names_builder.specs.declared.text_error.FromStrError.{FromStrError}
 use Rattle.names_builder.specs.declared.text_error.FromStrError.TheVariants.{Presentation, ShortBuf}
-use Rattle.names_builder.specs.FromText.{standing, continued, symbols_behind, text_behind, FirstFault, NameFault, RelativeFault, StopsAtSymbol, FirstSymbolFault, SymbolsFault, in_turn}
+use Rattle.names_builder.specs.FromText.{standing, continued, symbols_behind, text_behind, FirstFault, NameFault, RelativeFault, StopsAtSymbol, FirstSymbolFault, SymbolsFault}
 use Rattle.names_builder.proofs.FromTexts.{without_last}
 
 abbrev nothing : Building

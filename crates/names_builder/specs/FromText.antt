@@ -135,8 +135,3 @@ SymbolsFault {S} steps s f =
 -- the first fault of the characters that an iterator gives as a relative name
 abbrev pub RelativeFault : {S : Type 0} → (S → Option ℕ → S → Type 0) → S → Fault → Type 0
 RelativeFault {S} steps s f = (new : Building) × FirstFault steps s [] (record { done = []; open_label = [] }) new f
-
--- the characters of a text, one by one
-abbrev pub in_turn : List ℕ → Option ℕ → List ℕ → Type 0
-in_turn text None rest = text ≡ []
-in_turn text (Some c) rest = text ≡ c ∷ rest

@@ -5,9 +5,9 @@ ghost use Rattle.std.specs.Iterator.{IsFinite, Drains};
 ghost use Rattle.std.specs.Str.{chars as chars_of};
 ghost use Rattle.definitions.specs.Name.{Name as Labels};
 ghost use Rattle.definitions.specs.Text.{name_of_text, name_of_symbols, relative_of_text};
-ghost use Rattle.names_wire.specs.Spelled.{SpellsNothing};
+ghost use Rattle.names_wire.specs.Spelled.{SpellsNothing, in_turn};
 ghost use Rattle.names_builder.specs.Fault.{fault_of, relative_fault_of};
-ghost use Rattle.names_builder.specs.FromText.{is_text, is_relative_text, in_turn, NameFault, RelativeFault, SymbolsFault, SymbolsSpell, SymbolsSpellNothing};
+ghost use Rattle.names_builder.specs.FromText.{is_text, is_relative_text, NameFault, RelativeFault, SymbolsFault, SymbolsSpell, SymbolsSpellNothing};
 
 use crate::builder::Finish;
 use crate::name::Name;

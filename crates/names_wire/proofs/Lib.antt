@@ -5,3 +5,4 @@ pub mod PartLabel
 pub mod Printed
 pub mod Unfinished
 pub mod Characters
+pub mod LabelFaults

@@ -9,10 +9,13 @@ use Rattle.definitions.specs.Text.{Symbol, is_symbol, is_dot, is_bracket, octet,
 use Rattle.definitions.specs.Name.{Label}
 use Rattle.names_wire.specs.Spelled.{CannotFollow}
 
--- the text so far is some symbols and pending characters, and the octets are those of the symbols
+-- The text so far is some whole symbols and pending characters, and the octets are those of the symbols.
 pub record PartRead (text pending octets : List ℕ) : Type 0 where
   pub symbols : List Symbol
   pub read : (rest : List ℕ) → symbols_of (text ++ rest) ≡ option_map (λ us. symbols ++ us) (symbols_of (pending ++ rest))
+  pub whole : List ℕ
+  pub divided : text ≡ whole ++ pending
+  pub reads : (rest : List ℕ) → symbols_of (whole ++ rest) ≡ option_map (λ us. symbols ++ us) (symbols_of rest)
   pub spelled : octets ≡ map octet symbols
   pub each : list_all is_symbol symbols ≡ true
   pub undivided : list_any is_dot symbols ≡ false
@@ -25,13 +28,16 @@ same_option (Some us) = refl
 
 -- before the first character
 pub begun : (pending octets : List ℕ) → pending ≡ [] → octets ≡ [] → PartRead [] pending octets
-begun pending octets p e = record { symbols = []; read = λ rest. sym (same_option (symbols_of (pending ++ rest)) ∙ ap (λ t. symbols_of (t ++ rest)) p); spelled = e; each = refl; undivided = refl; first = refl; short = omega (arith, ap length e) }
+begun pending octets p e = record { symbols = []; read = λ rest. sym (same_option (symbols_of (pending ++ rest)) ∙ ap (λ t. symbols_of (t ++ rest)) p); whole = []; divided = sym p; reads = λ rest. sym (same_option (symbols_of rest)); spelled = e; each = refl; undivided = refl; first = refl; short = omega (arith, ap length e) }
 
 -- a character that makes no symbol whole
-pub waited : (text pending onward octets : List ℕ) (c : ℕ) → PartRead text pending octets → ((rest : List ℕ) → symbols_of (pending ++ c ∷ rest) ≡ symbols_of (onward ++ rest)) → PartRead (text ++ c ∷ []) onward octets
-waited text pending onward octets c p h = record {
+pub waited : (text pending onward octets : List ℕ) (c : ℕ) → PartRead text pending octets → ((rest : List ℕ) → symbols_of (pending ++ c ∷ rest) ≡ symbols_of (onward ++ rest)) → onward ≡ pending ++ c ∷ [] → PartRead (text ++ c ∷ []) onward octets
+waited text pending onward octets c p h e = record {
   symbols = p.symbols;
   read = λ rest. ap symbols_of (append_assoc text (c ∷ []) rest) ∙ p.read (c ∷ rest) ∙ ap (option_map (λ us. p.symbols ++ us)) (h rest);
+  whole = p.whole;
+  divided = ap (λ t. t ++ c ∷ []) p.divided ∙ append_assoc p.whole pending (c ∷ []) ∙ ap (λ t. p.whole ++ t) (sym e);
+  reads = p.reads;
   spelled = p.spelled;
   each = p.each;
   undivided = p.undivided;
@@ -76,10 +82,13 @@ first_end [] s h k = k refl
 first_end (t ∷ ss) s h k = h
 
 -- a character that makes a symbol whole, which goes behind the octets
-pub took : (text pending onward octets longer : List ℕ) (c : ℕ) (s : Symbol) → PartRead text pending octets → ((rest : List ℕ) → symbols_of (pending ++ c ∷ rest) ≡ option_map (λ us. s ∷ us) (symbols_of (onward ++ rest))) → is_symbol s ≡ true → (CannotFollow octets s → ⊥) → longer ≡ octets ++ octet s ∷ [] → PartRead (text ++ c ∷ []) onward longer
-took text pending onward octets longer c s p h v n e = record {
+pub took : (text pending onward octets longer : List ℕ) (c : ℕ) (s : Symbol) → PartRead text pending octets → ((rest : List ℕ) → symbols_of (pending ++ c ∷ rest) ≡ option_map (λ us. s ∷ us) (symbols_of (onward ++ rest))) → is_symbol s ≡ true → (CannotFollow octets s → ⊥) → longer ≡ octets ++ octet s ∷ [] → onward ≡ [] → PartRead (text ++ c ∷ []) onward longer
+took text pending onward octets longer c s p h v n e k = record {
   symbols = p.symbols ++ s ∷ [];
   read = reads_on text pending onward octets c s p h;
+  whole = text ++ c ∷ [];
+  divided = sym (append-nil (text ++ c ∷ [])) ∙ ap (λ t. (text ++ c ∷ []) ++ t) (sym k);
+  reads = λ rest. reads_on text pending onward octets c s p h rest ∙ ap (λ t. option_map (λ us. (p.symbols ++ s ∷ []) ++ us) (symbols_of (t ++ rest))) k;
   spelled = e ∙ ap (λ os. os ++ octet s ∷ []) p.spelled ∙ sym (map_end p.symbols s);
   each = all_end p.symbols s p.each v;
   undivided = none_end p.symbols s p.undivided (opposite (is_dot s) (λ d. n (inl d)));

@@ -1,4 +1,5 @@
 pub mod Label
+pub mod LabelFault
 pub mod Owned
 pub mod Pending
 pub mod Refill

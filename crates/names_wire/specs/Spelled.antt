@@ -1,5 +1,5 @@
 -- A label that is read from characters, one by one.
-use Rattle.std.specs.Prelude.{◌≡◌, ◌⊎◌, ℕ, ◌≤◌, true, List, [], ◌++◌, length, Option, None}
+use Rattle.std.specs.Prelude.{◌≡◌, ◌⊎◌, ℕ, ◌≤◌, true, List, [], ◌∷◌, ◌++◌, length, Option, Some, None}
 use Rattle.std.specs.Iterator.{Yields, Drains}
 use Rattle.definitions.specs.Text.{Symbol, is_dot, is_bracket}
 
@@ -12,3 +12,8 @@ abbrev pub SpellsNothing : {S A : Type 0} → (S → Option ℕ → S → Type 0
 SpellsNothing {S} steps s read =
     ((text : List ℕ) × (t : S) × Yields steps s text t × ((rest : List ℕ) → read (text ++ rest) ≡ None))
     ⊎ ((text : List ℕ) × Drains steps s text × (read text ≡ None))
+
+-- the characters of a text, one by one
+abbrev pub in_turn : List ℕ → Option ℕ → List ℕ → Type 0
+in_turn text None rest = text ≡ []
+in_turn text (Some c) rest = text ≡ c ∷ rest

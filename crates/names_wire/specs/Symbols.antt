@@ -1,5 +1,6 @@
 -- Symbols of text as the code has them, and a reader that takes characters one by one (RFC 1035, 5.1).
-use Rattle.std.specs.Prelude.{◌≡◌, ℕ, ◌<◌, ◌≤◌, List, [], ◌∷◌, ◌++◌, length, take, if◌then◌else◌, Option, Some, None}
+use Rattle.std.specs.Prelude.{◌≡◌, ℕ, ◌<◌, ◌≤◌, Bool, true, ◌&&◌, nat_eq, nat_le, List, [], ◌∷◌, ◌++◌, length, take, if◌then◌else◌, Option, Some, None}
+use Rattle.std.specs.List.{list_all}
 use Rattle.std.specs.Option.{option_map}
 use Rattle.definitions.specs.Text.{Plain, Quoted, Decimal, is_digit, symbols_of, is_symbol, spelling}
 use Rattle.definitions.specs.Text as text
@@ -29,6 +30,16 @@ written s = if is_symbol s then Some (spelling s) else None
 -- a symbol that isn't whole: no beginning of these characters is made of symbols
 abbrev pub IsUnfinished : List ℕ → Type 0
 IsUnfinished chars = (k : ℕ) → 0 < k → k ≤ length chars → symbols_of (take k chars) ≡ None
+
+-- no characters, or those that the digits of an escape begin with: a backslash and at most two digits
+abbrev pub is_begun : List ℕ → Bool
+is_begun [] = true
+is_begun (c ∷ ds) = nat_eq c 92 && nat_le (length ds) 2 && list_all is_digit ds
+
+-- what is left of some characters where the last made a symbol whole, if it did
+abbrev pub left_of : Option Symbol → List ℕ → List ℕ
+left_of None chars = chars
+left_of (Some s) chars = []
 
 -- why a character makes no symbol behind others: it is none itself, or makes no escape
 abbrev pub char_fault : List ℕ → SymbolCharsError

@@ -1,12 +1,13 @@
 //! Labels that own their octets.
 
-ghost use Rattle.std.specs.Prelude.{◌≡◌, ◌≤◌, slice_index, ◌++◌, [], ◌∷◌, true, ℕ, List, Some, None, IfOk, OnOk, OnErr};
+ghost use Rattle.std.specs.Prelude.{◌≡◌, ◌≤◌, slice_index, ◌++◌, [], ◌∷◌, true, ℕ, List, Some, None, IfOk, IfErr, OnOk, OnErr};
 ghost use Rattle.std.specs.Str.{str_to_ascii_lowercase, chars};
 ghost use Rattle.std.specs.Iterator.{IsFinite, Drains};
 ghost use Rattle.definitions.specs.Text.{is_symbol, octet, label_of_text};
 ghost use Rattle.names_wire.specs.Label.{octets_of, wire_label};
 ghost use Rattle.names_wire.specs.Symbols.{symbol_of};
-ghost use Rattle.names_wire.specs.Spelled.{CannotFollow, SpellsNothing};
+ghost use Rattle.names_wire.specs.Spelled.{CannotFollow, SpellsNothing, in_turn};
+ghost use Rattle.names_wire.specs.LabelFault.{named, FaultBehind, FirstFault};
 
 use crate::label::Label;
 use crate::symbol::{Symbol, SymbolCharsError, SymbolReader};
@@ -33,6 +34,10 @@ enum LabelFault {
 }
 
 impl From<SymbolCharsError> for LabelFromStrError {
+    ghost use Rattle.names_wire.specs.declared.owned.LabelFault.TheVariants.{Symbol as BadText};
+
+    ghost from_gives = { λ p e. named e ≡ BadText p };
+
     fn from(error: SymbolCharsError) -> LabelFromStrError {
         LabelFromStrError(LabelFault::Symbol(error))
     }
@@ -62,7 +67,7 @@ impl OwnedLabel {
 
     /// The label that the characters spell: 1 to 63 symbols without a dot that separates (RFC 1035, 5.1).
     ///
-    /// It stops at the first character behind which no label can come.
+    /// It stops at the first character behind which no label can come; the digits of an escape are judged by the last.
     pub fn from_chars<C: Iterator<Item = char> + Drop>(
         chars: C,
     ) -> Result<OwnedLabel, LabelFromStrError>
@@ -70,6 +75,7 @@ impl OwnedLabel {
         requires ends { IsFinite (C.remaining chars) }
         ensures ok { IfOk result (λ label. (text : List ℕ) × Drains C.next_gives chars text × (label_of_text text ≡ Some (owned_octets label))) }
         ensures err { OnErr result (SpellsNothing C.next_gives chars label_of_text) }
+        ensures fault { IfErr result (λ e. FirstFault C.next_gives chars (named e)) }
     {
         let mut reader = SymbolReader::new();
         let mut label = OwnedLabel::from_label(Label::root());
@@ -91,6 +97,8 @@ impl OwnedLabel {
         ensures ok { OnOk result (owned_octets self.new ≡ owned_octets self.old ++ octet (symbol_of symbol) ∷ []) }
         ensures fits { OnOk result (CannotFollow (owned_octets self.old) (symbol_of symbol) → ⊥) }
         ensures err { OnErr result (CannotFollow (owned_octets self.old) (symbol_of symbol)) }
+        ensures fault { IfErr result (λ e. FaultBehind (owned_octets self.old) (symbol_of symbol) (named e)) }
+        ensures unchanged { OnErr result (self.new ≡ self.old) }
     {
         let len = self.wire[0] as usize;
         match symbol {
@@ -136,7 +144,7 @@ impl FromStr for OwnedLabel {
 
     type Err = LabelFromStrError;
 
-    ghost from_str_gives = { λ text result. IfOk result (λ label. label_of_text (chars text) ≡ Some (owned_octets label)) × OnErr result (label_of_text (chars text) ≡ None) };
+    ghost from_str_gives = { λ text result. IfOk result (λ label. label_of_text (chars text) ≡ Some (owned_octets label)) × OnErr result (label_of_text (chars text) ≡ None) × IfErr result (λ e. FirstFault in_turn (chars text) (named e)) };
 
     fn from_str(text: &str) -> Result<OwnedLabel, LabelFromStrError> {
         OwnedLabel::from_chars(text.chars())

@@ -133,6 +133,33 @@ fn reads_and_prints_text(rt: HostRuntime) -> Result<(), AllocError> {
     Ok(())
 }
 
+#[test]
+fn says_why_text_is_no_label(rt: HostRuntime) -> Result<(), AllocError> {
+    let alloc = rt.alloc();
+    let long = "llllllllllllllllllllllllllllllllllllllllllllllllllllllllllllllll";
+    let refused = [
+        ("", "an empty label"),
+        ("a.b", "a dot within a label"),
+        ("\\[x", "a binary label"),
+        (long, "long label"),
+        ("a\\", "unexpected end of input"),
+        ("a\\25", "unexpected end of input"),
+        ("a\\256", "bad escape"),
+        ("a\u{1}", "bad symbol"),
+    ];
+    for (text, reason) in refused {
+        let Err(error) = OwnedLabel::from_chars(text.chars()) else {
+            panic!(rt; "{text} is accepted");
+        };
+        assert_eq!(rt; error.to_string(alloc)?.as_str(), reason);
+    }
+    let Err(error) = "a..".parse::<OwnedLabel>() else {
+        panic!(rt; "a dot is accepted");
+    };
+    assert_eq!(rt; error.to_string(alloc)?.as_str(), "a dot within a label");
+    Ok(())
+}
+
 fn hash_of(label: Label<'_>) -> u64 {
     let mut hasher = DefaultHasher::new();
     label.hash(&mut hasher);

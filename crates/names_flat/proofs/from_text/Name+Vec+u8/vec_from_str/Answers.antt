@@ -3,7 +3,8 @@ use Rattle.std.specs.Str.{chars}
 use Rattle.std.proofs.lemmas.Result.{IfOk-weaker, IfErr-weaker}
 use Rattle.definitions.specs.Text.{name_of_text}
 use Rattle.names_builder.specs.Fault.{fault_of}
-use Rattle.names_builder.specs.FromText.{is_text, in_turn, NameFault}
+use Rattle.names_wire.specs.Spelled.{in_turn}
+use Rattle.names_builder.specs.FromText.{is_text, NameFault}
 use Rattle.names_builder.proofs.WholeTexts.{fault_in_text}
 use Rattle.names_wire.proofs.Characters.{chars_are, nothing_in_text}
 use Rattle.names_flat.proofs.from_text.Name+Vec+u8.vec_from_str.Goals as goal

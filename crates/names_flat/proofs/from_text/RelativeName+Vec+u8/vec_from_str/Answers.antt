@@ -3,7 +3,8 @@ use Rattle.std.specs.Str.{chars}
 use Rattle.std.proofs.lemmas.Result.{IfOk-weaker, IfErr-weaker}
 use Rattle.definitions.specs.Text.{name_of_text, relative_of_text}
 use Rattle.names_builder.specs.Fault.{relative_fault_of}
-use Rattle.names_builder.specs.FromText.{is_relative_text, in_turn, RelativeFault}
+use Rattle.names_wire.specs.Spelled.{in_turn}
+use Rattle.names_builder.specs.FromText.{is_relative_text, RelativeFault}
 use Rattle.names_builder.proofs.WholeTexts.{relative_fault_in_text}
 use Rattle.names_wire.proofs.Characters.{chars_are, nothing_in_text}
 use Rattle.names_flat.proofs.from_text.RelativeName+Vec+u8.vec_from_str.Goals as goal
