@@ -5,7 +5,7 @@ ghost use Rattle.names_builder.specs.Addresses.{reverse_name};
 
 use crate::builder::Finish;
 use crate::name::Name;
-use names_builder::push_error::{PushError, PushNameError};
+use names_builder::push_error::PushError;
 use names_builder::reverse::reverse_labels;
 use std::alloc::Global;
 use std::net::IpAddr;
@@ -19,8 +19,7 @@ impl Name<Vec<u8>> {
     {
         match reverse_labels(alloc, addr)?.into_name() {
             Ok(name) => Ok(name),
-            Err(PushNameError::LongName) => Err(PushError::LongName),
-            Err(PushNameError::ShortBuf) => Err(PushError::ShortBuf),
+            Err(_) => Err(PushError::ShortBuf),
         }
     }
 }
