@@ -1,8 +1,3 @@
 pub mod InputLemmas
-pub mod LineLemmas
-pub mod NumberLemmas
 pub mod PrintLemmas
-pub mod FieldLemmas
-pub mod RecordLemmas
-pub mod NameLemmas
-pub mod SessionLemmas
+pub mod RunLemmas

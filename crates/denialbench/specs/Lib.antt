@@ -1,11 +1,5 @@
-pub mod Fields
-pub mod Grammar
 pub mod Input
-pub mod Lines
 pub mod Names
-pub mod Numbers
 pub mod Printed
-pub mod Readings
 pub mod Responses
-pub mod Sessions
 pub mod Status

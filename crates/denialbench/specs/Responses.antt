@@ -11,20 +11,13 @@ use Rattle.answer.specs.Simulating.{World, Sofar, world, begin, Simulates}
 use Rattle.answer.specs.declared.event.Event.{Event}
 use Rattle.answer.specs.declared.event.Outcome.{Outcome}
 use Rattle.answer_zone.specs.declared.fault.ZoneFault.{ZoneFault}
-use Rattle.denialbench.specs.Grammar.{ZoneLine, EventLine}
+use Rattle.session_lines.specs.Grammar.{ZoneLine, EventLine}
+use Rattle.session_lines.specs.Readings.{event_view}
+use Rattle.session_lines.specs.Sessions.{Session, session_of}
 use Rattle.denialbench.specs.Names.{zone_fault_name}
 use Rattle.denialbench.specs.Printed.{outcome_text}
-use Rattle.denialbench.specs.Readings.{event_view}
-use Rattle.denialbench.specs.Sessions.{Session, session_of}
-use Rattle.denialbench.specs.declared.session.SessionError.{SessionError}
-use Rattle.denialbench.specs.declared.session.SessionError.TheVariants.{Line, Memory}
 use Rattle.denialbench.specs.declared.status.Status.{Status}
 use Rattle.denialbench.specs.declared.status.Status.TheVariants.{Done, BadLine, Fault}
-
--- the first line that can't be read, counted from 1 on, or want of memory
-abbrev pub IsSessionError : List ℕ → SessionError → Type 0
-IsSessionError input (Line n) = session_of input ≡ Err n
-IsSessionError input Memory = Unit {0}
 
 -- what is written about such a line
 abbrev pub refused_line : ℕ → List ℕ

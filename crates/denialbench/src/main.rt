@@ -4,20 +4,12 @@
 //! The exit status is 0, or 1 where a line cannot be read, or 2 where input, output or memory failed.
 #![tactic(auto)]
 
-mod event_lines;
-mod fields;
 mod input;
-mod line_error;
-mod lines;
 mod named;
-mod numbers;
 mod print;
 mod run;
 mod scheme;
-mod session;
 mod status;
-mod zone;
-mod zone_lines;
 
 use std::io;
 use std::process::ExitCode;

@@ -3,20 +3,20 @@ ghost use Rattle.std.specs.Prelude.{◌≡◌, ◌≢◌, ℕ, List, [], ◌∷�
 ghost use Rattle.std.specs.List.{flat_map};
 ghost use Rattle.std.specs.Io.KnownBytes.{Appends};
 ghost use Rattle.records.specs.HandedRr.{handed_of};
+ghost use Rattle.session_lines.specs.Readings.{zone_view, event_view};
 ghost use Rattle.denialbench.specs.Names.{zone_fault_name};
 ghost use Rattle.denialbench.specs.Printed.{outcome_text};
-ghost use Rattle.denialbench.specs.Readings.{zone_view, event_view};
 ghost use Rattle.denialbench.specs.Responses.{Responds, PrintsSession, refused_line};
 
 use crate::input::read_all;
 use crate::named::Named;
 use crate::print::push_outcomes;
 use crate::scheme::{BenchHasher, BenchScheme};
-use crate::session::{Session, SessionError, read_session};
 use crate::status::Status;
 use answer::event::Outcome;
 use answer::publisher::fault::ZoneFault;
 use answer::simulate::simulate;
+use session_lines::session::{Session, SessionError, read_session};
 use std::alloc::{AllocError, Global};
 use std::io;
 use std::io::{Read, Write};

@@ -6,9 +6,9 @@ use Rattle.answer_zone.specs.ZoneView.{mode_of}
 use Rattle.answer.specs.Simulating.{Sofar, begin, Simulates}
 use Rattle.answer.specs.declared.event.Event.{Event}
 use Rattle.answer.specs.declared.event.Outcome.{Outcome}
+use Rattle.session_lines.specs.Readings.{zone_view}
 use Rattle.denialbench.specs.Printed.{outcome_text}
-use Rattle.denialbench.specs.Readings.{zone_view}
-use Rattle.denialbench.proofs.SessionLemmas.{outcomes_printed, served_in}
+use Rattle.denialbench.proofs.RunLemmas.{outcomes_printed, served_in}
 use Rattle.denialbench.proofs.run.replay.Goals as goal
 
 pub returns-in-Ok : goal.returns-in-Ok

@@ -1,0 +1,56 @@
+-- What the code's readings of lines give, beside the grammar.
+use Rattle.std.specs.Prelude.{◌≡◌, ℕ, List, map, Option, Some, None, Result, Ok, Err}
+use Rattle.std.specs.Borrow.{Bor}
+use Rattle.std.specs.Option.{option_map}
+use Rattle.messages.specs.Questions.{asked_of}
+use Rattle.answer.specs.Simulating.{call_of}
+use Rattle.answer.specs.declared.event.Event.{Event}
+use Rattle.answer.specs.declared.event.Act.{Act}
+use Rattle.answer.specs.declared.event.Act.TheVariants as act
+use Rattle.session_lines.specs.declared.line_error.LineError.{LineError}
+use Rattle.session_lines.specs.declared.line_error.LineError.TheVariants.{Unreadable, Memory}
+use Rattle.session_lines.specs.declared.session.SessionError.{SessionError}
+use Rattle.session_lines.specs.declared.session.SessionError.TheVariants as session_error
+use Rattle.session_lines.specs.declared.zone.Zone.{Zone}
+use Rattle.records.specs.Rdata.{written_of, canonical_of}
+use Rattle.records.specs.HandedRr.{handed_of, is_unknown}
+use Rattle.records.specs.declared.plain.record.Record.{Record}
+use Rattle.records.specs.declared.plain.record.ZoneRecordData.{ZoneRecordData}
+use Rattle.session_lines.specs.Grammar.{ZoneLine, ActLine, EventLine, DataField, KeyCall, ShowDs, ShowDnskey, Ask, Judge, JudgeBytes}
+use Rattle.session_lines.specs.Sessions.{Lines, session_of}
+
+-- What a reading returned, seen by view, is what the grammar reads; it is refused where the grammar reads nothing.
+abbrev pub Reads : {X Y : Type 0} → (X → Y) → Result X LineError → Option Y → Type 0
+Reads view (Ok x) read = read ≡ Some (view x)
+Reads view (Err Unreadable) read = read ≡ None
+Reads view (Err Memory) read = Unit {0}
+
+-- fields, as their octets
+abbrev pub texts : List (Bor (List ℕ)) → List (List ℕ)
+texts fields = map (λ f. f.now) fields
+
+abbrev pub zone_view : Zone → ZoneLine
+zone_view z = record { apex = z.apex; limit = z.limit; life = z.life }
+
+abbrev pub act_view : Act → ActLine
+act_view (act.Key c) = KeyCall (call_of c)
+act_view act.ShowDs = ShowDs
+act_view act.ShowDnskey = ShowDnskey
+act_view (act.Ask q) = Ask (asked_of q)
+act_view (act.Judge ds dnskey answer) = Judge ds dnskey answer
+act_view (act.JudgeBytes ds dnskey answer q) = JudgeBytes ds dnskey.items answer.items (asked_of q)
+
+abbrev pub event_view : Event → EventLine
+event_view e = record { at = e.at; act = act_view e.act }
+
+abbrev pub data_view : ZoneRecordData → DataField
+data_view d = record { is_unknown = is_unknown d; written = written_of d; bytes = canonical_of d }
+
+-- a session that was read
+abbrev pub session_view : Option Zone → List Record → List Event → Lines
+session_view zone records events = record { zone = option_map zone_view zone; records = map handed_of records; events = map event_view events }
+
+-- the first line that can't be read, counted from 1 on, or want of memory
+abbrev pub IsSessionError : List ℕ → SessionError → Type 0
+IsSessionError input (session_error.Line n) = session_of input ≡ Err n
+IsSessionError input session_error.Memory = Unit {0}

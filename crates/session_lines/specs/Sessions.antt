@@ -1,0 +1,58 @@
+-- Sessions: the zone's line first, then those of its records, then events.
+use Rattle.std.specs.Prelude.{ℕ, ◌+◌, ◌==◌, ◌&&◌, Bool, true, false, List, [], ◌∷◌, ◌++◌, length, codes, if◌then◌else◌, Option, Some, None, Result, Ok, Err}
+use Rattle.std.specs.List.{slice_split}
+use Rattle.std.specs.Str.{bytes_eq, is_utf8}
+use Rattle.records.specs.HandedRr.{HandedRr}
+use Rattle.session_lines.specs.Grammar.{◌>>=◌, ZoneLine, EventLine, zone_line, record_line, event_line}
+use Rattle.session_lines.specs.Lines.{lines_of}
+
+-- what lines say
+pub record Lines : Type 0 where
+  pub zone : Option ZoneLine
+  pub records : List HandedRr
+  pub events : List EventLine
+
+abbrev pub no_lines : Lines
+no_lines = record { zone = None; records = []; events = [] }
+
+-- an empty line or a comment
+abbrev pub is_passed_over : List ℕ → Bool
+is_passed_over [] = true
+is_passed_over (c ∷ cs) = c == 35
+
+-- the fields of a line, separated by one blank
+abbrev pub fields_of : List ℕ → List (List ℕ)
+fields_of line = slice_split (λ c. c == 32) line
+
+abbrev pub is_record_line : List (List ℕ) → Bool
+is_record_line [] = false
+is_record_line (word ∷ fields) = bytes_eq word (codes "rr")
+
+-- a line that counts, behind others
+abbrev pub with_fields : Lines → List (List ℕ) → Option Lines
+with_fields s fields = elim s.zone [
+  | None ↦ zone_line fields >>= λ z. Some (record { zone = Some z; records = s.records; events = s.events })
+  | Some z ↦
+      if is_record_line fields && length s.events == 0 then (record_line fields >>= λ r. Some (record { zone = s.zone; records = s.records ++ r ∷ []; events = s.events }))
+      else (event_line fields >>= λ e. Some (record { zone = s.zone; records = s.records; events = s.events ++ e ∷ [] }))
+]
+
+-- a line behind others, if it can be read there
+abbrev pub with_line : Lines → List ℕ → Option Lines
+with_line s line = if is_passed_over line then Some s else if is_utf8 line then with_fields s (fields_of line) else None
+
+-- a whole session
+pub record Session : Type 0 where
+  pub zone : ZoneLine
+  pub records : List HandedRr
+  pub events : List EventLine
+
+-- So many lines were read, which say this; the session of these and the rest, or the number of the first line that
+-- can't be read. Without a zone that is the line behind the last.
+abbrev pub session_behind : ℕ → Lines → List (List ℕ) → Result Session ℕ
+session_behind n s [] = elim s.zone [ None ↦ Err (n + 1) | Some z ↦ Ok (record { zone = z; records = s.records; events = s.events }) ]
+session_behind n s (l ∷ ls) = elim (with_line s l) [ None ↦ Err (n + 1) | Some t ↦ session_behind (n + 1) t ls ]
+
+-- the session that an input spells
+abbrev pub session_of : List ℕ → Result Session ℕ
+session_of input = session_behind 0 no_lines (lines_of input)

@@ -1,0 +1,12 @@
+//! The lines of a session of the bench: octets cut into lines and fields, and read as a zone, its records and the
+//! events that follow.
+#![tactic(auto)]
+
+mod event_lines;
+mod fields;
+mod line_error;
+mod lines;
+mod numbers;
+pub mod session;
+pub mod zone;
+mod zone_lines;

@@ -1,0 +1,101 @@
+//! Numbers as fields of a line: decimal digits, leading zeros allowed.
+ghost use Rattle.std.specs.Prelude.{◌≡◌};
+ghost use Rattle.std.specs.List.{list_all};
+ghost use Rattle.std.specs.Char.{is_ascii_digit};
+ghost use Rattle.session_lines.specs.Numbers.{number_of};
+
+use crate::line_error::LineError;
+
+fn is_digits(field: &str) -> bool
+    ensures { result ≡ list_all is_ascii_digit field.now }
+{
+    field.as_bytes().iter().all(|octet| octet.is_ascii_digit())
+}
+
+/// A number of 64 bits.
+pub fn number_u64(field: &str) -> Result<u64, LineError>
+    ensures { result ≡ number_of 64 field.now }
+{
+    if !is_digits(field) {
+        return Err(LineError::Unreadable);
+    }
+    match field.parse::<u64>() {
+        Ok(number) => Ok(number),
+        Err(_) => Err(LineError::Unreadable),
+    }
+}
+
+/// A number of 32 bits.
+pub fn number_u32(field: &str) -> Result<u32, LineError>
+    ensures { result ≡ number_of 32 field.now }
+{
+    match u32::try_from(number_u64(field)?) {
+        Ok(number) => Ok(number),
+        Err(_) => Err(LineError::Unreadable),
+    }
+}
+
+/// A number of 16 bits.
+pub fn number_u16(field: &str) -> Result<u16, LineError>
+    ensures { result ≡ number_of 16 field.now }
+{
+    match u16::try_from(number_u64(field)?) {
+        Ok(number) => Ok(number),
+        Err(_) => Err(LineError::Unreadable),
+    }
+}
+
+/// A number of 8 bits.
+pub fn number_u8(field: &str) -> Result<u8, LineError>
+    ensures { result ≡ number_of 8 field.now }
+{
+    match u8::try_from(number_u64(field)?) {
+        Ok(number) => Ok(number),
+        Err(_) => Err(LineError::Unreadable),
+    }
+}
+
+/// A place of something shown.
+pub fn place(field: &str) -> Result<usize, LineError>
+    ensures { result ≡ number_of 64 field.now }
+{
+    let number = number_u64(field)?;
+    Ok(number as usize)
+}
+
+#[cfg(test)]
+mod tests {
+    use super::*;
+
+    #[test]
+    fn reads_digits_alone(rt: HostRuntime) {
+        for (field, want) in [
+            ("0", Ok(0)),
+            ("007", Ok(7)),
+            ("00000000000000000000000000000000001", Ok(1)),
+            ("18446744073709551615", Ok(18_446_744_073_709_551_615)),
+            ("18446744073709551616", Err(LineError::Unreadable)),
+            ("", Err(LineError::Unreadable)),
+            ("+1", Err(LineError::Unreadable)),
+            ("-1", Err(LineError::Unreadable)),
+            ("1\r", Err(LineError::Unreadable)),
+            ("1a", Err(LineError::Unreadable)),
+        ] {
+            assert_eq!(rt; number_u64(field), want, "{field}");
+        }
+    }
+
+    #[test]
+    fn numbers_fit_their_type(rt: HostRuntime) {
+        assert_eq!(rt; number_u32("4294967295"), Ok(4_294_967_295));
+        assert_eq!(rt; number_u32("4294967296"), Err(LineError::Unreadable));
+        assert_eq!(rt; number_u16("65535"), Ok(65_535));
+        assert_eq!(rt; number_u16("65536"), Err(LineError::Unreadable));
+        assert_eq!(rt; number_u8("255"), Ok(255));
+        assert_eq!(rt; number_u8("256"), Err(LineError::Unreadable));
+        assert_eq!(rt;
+            place("18446744073709551615"),
+            Ok(18_446_744_073_709_551_615)
+        );
+    }
+}

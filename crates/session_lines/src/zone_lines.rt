@@ -1,0 +1,155 @@
+//! The lines of a zone: the zone itself, and its records.
+ghost use Rattle.std.specs.Prelude.{◌≡◌, ◌+◌, ◌≤◌, IfOk, length, take, drop};
+ghost use Rattle.std.specs.Int.{w32, to_be_bytes};
+ghost use Rattle.records.specs.Rdata.{rtype_of};
+ghost use Rattle.records.specs.HandedRr.{handed_of};
+ghost use Rattle.session_lines.specs.Grammar.{zone_line, zone_fields, life_field, record_line, record_fields, data_octets, soa_octets};
+ghost use Rattle.session_lines.specs.Readings.{Reads, texts, zone_view, data_view};
+
+use crate::fields::{hex_octets, name, wire_name};
+use crate::line_error::LineError;
+use crate::numbers::{number_u16, number_u32};
+use crate::zone::Zone;
+use answer::names::ParsedName;
+use answer::plain::record::{Ns, Record, Soa, UnknownRecordData, ZoneRecordData};
+use answer::plain::{Class, Rtype, Ttl};
+use answer::publisher::fault::Mode;
+use std::alloc::Global;
+
+/// The longest life of a signature, in seconds: serial numbers compare up to here (RFC 4034, 3.1.5).
+const MAX_LIFE: u32 = 2_147_483_647;
+
+/// The most octets of a record's data (RFC 1035, 3.2.1).
+const MAX_DATA: usize = 65_535;
+
+/// Reads `zone APEX nsec LIMIT LIFE`.
+pub fn read_zone(alloc: Global, fields: &[&str]) -> Result<Zone, LineError>
+    ensures { Reads zone_view result (zone_line (texts fields.now)) }
+{
+    match *fields {
+        [word, apex, mode, limit, life] => zone_of(alloc, word, apex, mode, limit, life),
+        _ => Err(LineError::Unreadable),
+    }
+}
+
+fn zone_of(
+    alloc: Global,
+    word: &str,
+    apex: &str,
+    mode: &str,
+    limit: &str,
+    life: &str,
+) -> Result<Zone, LineError>
+    ensures { Reads zone_view result (zone_fields word.now apex.now mode.now limit.now life.now) }
+{
+    if word != "zone" || mode != "nsec" {
+        return Err(LineError::Unreadable);
+    }
+    Ok(Zone {
+        apex: name(alloc, apex)?,
+        mode: Mode::Nsec,
+        limit: number_u16(limit)?,
+        life: read_life(life)?,
+    })
+}
+
+fn read_life(field: &str) -> Result<u32, LineError>
+    ensures small { IfOk result (λ life. life ≤ 2147483647) }
+    ensures read { Reads (λ life. life) result (life_field field.now) }
+{
+    let life = number_u32(field)?;
+    if life > MAX_LIFE {
+        return Err(LineError::Unreadable);
+    }
+    Ok(life)
+}
+
+/// Reads `rr OWNER TTL CLASS TYPE HEX`.
+pub fn read_record(alloc: Global, fields: &[&str]) -> Result<Record, LineError>
+    ensures { Reads handed_of result (record_line (texts fields.now)) }
+{
+    match *fields {
+        [word, owner, ttl, class, rtype, octets] => {
+            record_of(alloc, word, owner, ttl, class, rtype, octets)
+        }
+        _ => Err(LineError::Unreadable),
+    }
+}
+
+fn record_of(
+    alloc: Global,
+    word: &str,
+    owner: &str,
+    ttl: &str,
+    class: &str,
+    rtype: &str,
+    octets: &str,
+) -> Result<Record, LineError>
+    ensures { Reads handed_of result (record_fields word.now owner.now ttl.now class.now rtype.now octets.now) }
+{
+    if word != "rr" {
+        return Err(LineError::Unreadable);
+    }
+    let owner = name(alloc, owner)?;
+    let ttl = Ttl::from_secs(number_u32(ttl)?);
+    let class = Class::from_int(number_u16(class)?);
+    let rtype = Rtype::from_int(number_u16(rtype)?);
+    let octets = hex_octets(alloc, octets, MAX_DATA)?;
+    Ok(Record {
+        owner,
+        class,
+        ttl,
+        rdata: read_rdata(alloc, rtype, octets)?,
+    })
+}
+
+fn read_rdata(alloc: Global, rtype: Rtype, octets: Vec<u8>) -> Result<ZoneRecordData, LineError>
+    ensures rtype { IfOk result (λ d. rtype_of d ≡ rtype) }
+    ensures read { Reads data_view result (data_octets rtype octets.items) }
+{
+    if rtype == Rtype::SOA {
+        return Ok(ZoneRecordData::Soa(read_soa(alloc, &octets)?));
+    }
+    if rtype == Rtype::NS {
+        return Ok(ZoneRecordData::Ns(Ns {
+            nsdname: wire_name(alloc, &octets)?,
+        }));
+    }
+    match UnknownRecordData::from_octets(rtype, octets) {
+        Ok(rdata) => Ok(ZoneRecordData::Unknown(rdata)),
+        Err(_) => Err(LineError::Unreadable),
+    }
+}
+
+/// Two names and five numbers of 32 bits (RFC 1035, 3.3.13).
+fn read_soa(alloc: Global, octets: &[u8]) -> Result<Soa, LineError>
+    ensures { Reads (λ s. data_view (ZoneRecordData.Soa s)) result (soa_octets octets.now) }
+{
+    let Ok((mname, behind)) = ParsedName::parse(octets, 0) else {
+        return Err(LineError::Unreadable);
+    };
+    let Ok((rname, front)) = ParsedName::parse(octets, behind) else {
+        return Err(LineError::Unreadable);
+    };
+    let numbers = &octets[front..];
+    if numbers.len() != 20 {
+        return Err(LineError::Unreadable);
+    }
+    Ok(Soa {
+        mname: mname.to_name(alloc)?,
+        rname: rname.to_name(alloc)?,
+        serial: number_at(numbers, 0),
+        refresh: number_at(numbers, 4),
+        retry: number_at(numbers, 8),
+        expire: number_at(numbers, 12),
+        minimum: number_at(numbers, 16),
+    })
+}
+
+/// A number of 32 bits, the highest octet first (RFC 1035, 2.3.2).
+fn number_at(octets: &[u8], at: usize) -> u32
+    requires { at + 4 ≤ length octets.now }
+    ensures { to_be_bytes w32 result ≡ take 4 (drop at octets.now) }
+{
+    u32::from_be_bytes([octets[at], octets[at + 1], octets[at + 2], octets[at + 3]])
+}
