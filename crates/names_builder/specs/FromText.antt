@@ -105,7 +105,7 @@ pub record StopsInText {S : Type 0} (steps : S → Option ℕ → S → Type 0) 
   pub stands : symbols_behind old symbols ≡ Some (standing new)
 
 -- The first fault of the characters that an iterator gives behind others: what was before it is read, and it is that
--- of the next character, or of the end within a symbol.
+-- of the next character, or of the end within an escape.
 pub record FirstFault {S : Type 0} (steps : S → Option ℕ → S → Type 0) (s : S) (before : List ℕ) (old new : Building) (f : Fault) : Type 0 where
   pub stop : StopsInText steps s before old new
   pub fault :
