@@ -13,7 +13,7 @@ use Rattle.names_labels.proofs.Checks.{length-spelled_sum}
 use Rattle.names_labels.proofs.Taken.{taken, fits, taken_pieces}
 use Rattle.names_labels.proofs.Wholes.{some_taken, open_within, without_empty-append, wire_len-append}
 use Rattle.names_builder.specs.Building.{Building, IsShort, with_octets, ended, all_labels, labels_with, octets_of_building, open_octets}
-use Rattle.names_builder.specs.FromText.{GoesOn, CannotGoOn, standing, continued, symbols_behind, text_behind, StopsInText, FirstFault}
+use Rattle.names_builder.specs.FromText.{GoesOn, CannotGoOn, standing, continued, symbols_behind, text_behind}
 use Rattle.names_builder.specs.FromText.{is_text, is_pushed_text}
 use Rattle.names_builder.specs.declared.push_error.PushError.{PushError}
 use Rattle.names_builder.specs.declared.push_error.PushError.TheVariants.{LongLabel, LongName, ShortBuf as Full}
@@ -183,15 +183,14 @@ pub kept_fault : (b : Building) (s : Symbol) (in_label : Bool) (e : FromStrError
 kept_fault b s in_label (Presentation p) h o = octet_fault b s in_label (named p) h o
 kept_fault b s in_label ShortBuf h o = tt
 
--- the fault of a symbol that a character makes whole
-pub whole_fault : (b : Building) (s : Symbol) (unfinished later : List ℕ) (ch : ℕ) (e : FromStrError) → ((rest : List ℕ) → symbols_of (unfinished ++ ch ∷ rest) ≡ option_map (λ ss. s ∷ ss) (symbols_of (later ++ rest))) → IfSome (fault_of e) (FaultAt b s) → IfSome (fault_of e) (CharFault b unfinished ch)
-whole_fault b s unfinished later ch (Presentation p) h o = inr (s, later, h, o)
-whole_fault b s unfinished later ch ShortBuf h o = tt
+-- a character that makes a symbol whole, and leaves nothing
+pub made_whole : (s : Symbol) (unfinished later : List ℕ) (ch : ℕ) → ((rest : List ℕ) → symbols_of (unfinished ++ ch ∷ rest) ≡ option_map (λ ss. s ∷ ss) (symbols_of (later ++ rest))) → later ≡ [] → (rest : List ℕ) → symbols_of (unfinished ++ ch ∷ rest) ≡ option_map (λ ss. s ∷ ss) (symbols_of rest)
+made_whole s unfinished later ch h e rest = h rest ∙ ap (λ t. option_map (λ ss. s ∷ ss) (symbols_of (t ++ rest))) e
 
--- the same at the next character that an iterator gives
-pub first_fault : {S : Type 0} (steps : S → Option ℕ → S → Type 0) (s t : S) (before : List ℕ) (old new : Building) (stop : StopsInText steps s before old new) (ch : ℕ) (e : FromStrError) → steps stop.after (Some ch) t → IfSome (fault_of e) (CharFault new stop.unfinished ch) → IfSome (fault_of e) (FirstFault steps s before old new)
-first_fault steps s t before old new stop ch (Presentation p) h o = record { stop = stop; fault = inl (ch, t, h, o) }
-first_fault steps s t before old new stop ch ShortBuf h o = tt
+-- the fault of a symbol that a character makes whole
+pub whole_fault : (b : Building) (s : Symbol) (unfinished : List ℕ) (ch : ℕ) (e : FromStrError) → ((rest : List ℕ) → symbols_of (unfinished ++ ch ∷ rest) ≡ option_map (λ ss. s ∷ ss) (symbols_of rest)) → IfSome (fault_of e) (FaultAt b s) → IfSome (fault_of e) (CharFault b unfinished ch)
+whole_fault b s unfinished ch (Presentation p) h o = inr (s, h, o)
+whole_fault b s unfinished ch ShortBuf h o = tt
 
 -- the fault of a symbol whose octet does not fit
 pub pushed_at : (b : Building) (s : Symbol) (in_label : Bool) (v : ℕ) (e : PushError) → GoesOn s in_label v → (b.open_label ≡ [] → in_label ≡ false) → length b.open_label ≤ 63 → (e ≡ LongLabel → 63 < length b.open_label + 1) → (e ≡ LongName → (length b.open_label + 1 ≤ 63) × (254 < length (octets_of_building (with_octets b (v ∷ []))))) → IfSome (pushed_fault e) (FaultAt b s)

@@ -1,5 +1,6 @@
 pub mod Builds
 pub mod FromTexts
 pub mod Numbers
+pub mod PartText
 pub mod Room
 pub mod WholeTexts

@@ -10,9 +10,11 @@ use Rattle.names_labels.specs.Open.{without_empty, if_open_short, read_behind}
 use Rattle.names_labels.proofs.Taken.{if_closed}
 use Rattle.names_labels.proofs.Wholes.{name_read, name_of_plain, relative_of_some, not_empty_read, closed_end, empty_end, some_behind, read_first}
 use Rattle.names_builder.specs.Building.{Building, all_labels, octets_of_building}
-use Rattle.names_wire.specs.Symbols.{IsUnfinished, symbol_of}
+use Rattle.names_wire.specs.Symbols.{symbol_of}
 use Rattle.names_wire.specs.declared.symbol.Symbol.{Symbol as WireSymbol}
 use Rattle.names_wire.proofs.Characters.{characters, no_octets}
+use Rattle.names_wire.proofs.LabelFaults.{in_turn-yields}
+use Rattle.names_wire.proofs.PartLabel.{same_option}
 use Rattle.std.specs.Str.{chars, IsUtf8}
 use Rattle.std.specs.Str.Iter.{chars_rest, chars_steps}
 use Rattle.std.specs.declared.str.Chars.{Chars}
@@ -23,7 +25,7 @@ use Rattle.names_builder.specs.declared.text_error.Fault.{Fault}
 use Rattle.names_builder.specs.declared.text_error.Fault.TheVariants.{EmptyLabel}
 use Rattle.names_builder.specs.declared.text_error.FromStrError.{FromStrError}
 use Rattle.names_builder.specs.declared.text_error.FromStrError.TheVariants.{Presentation, ShortBuf}
-use Rattle.names_builder.specs.FromText.{standing, continued, symbols_behind, text_behind, FirstFault, NameFault, RelativeFault, StopsAtSymbol, FirstSymbolFault, SymbolsFault}
+use Rattle.names_builder.specs.FromText.{standing, continued, symbols_behind, text_behind, AddsChar, StopsInText, FirstFault, NameFault, RelativeFault, StopsAtSymbol, FirstSymbolFault, SymbolsFault}
 use Rattle.names_builder.proofs.FromTexts.{without_last}
 
 abbrev nothing : Building
@@ -177,15 +179,15 @@ same_end n t e f h = let x : true ≡ false = sym (e ∙ ap (λ m. nat_eq m 0) h
 
 -- ---- faults
 
--- no characters are of a symbol that isn't whole
-none_unfinished : IsUnfinished []
-none_unfinished k h e = absurd (omega arith)
+-- nothing is read yet
+abbrev at_start : {S : Type 0} (steps : S → Option ℕ → S → Type 0) (s : S) → StopsInText steps s [] nothing nothing
+at_start steps s = record { text = []; whole = []; symbols = []; unfinished = []; after = s; yields = refl; divided = refl; reads = λ rest. sym (same_option (symbols_of rest)); begins = refl; stands = refl }
 
 -- a dot in front of all
 pub dot_first : {S : Type 0} (steps : S → Option ℕ → S → Type 0) (s t : S) (c : ℕ) (f : Fault) → steps s (Some c) t → c ≡ 46 → f ≡ EmptyLabel → FirstFault steps s [] nothing nothing f
 dot_first steps s t c f h e k = record {
-  stop = record { text = []; unfinished = []; after = s; yields = refl; begins = none_unfinished; stands = λ rest. refl };
-  fault = inl (c, t, h, inr (Plain 46, [], λ rest. ap (λ x. symbols_of (x ∷ rest)) e, subst (FaultAt nothing (Plain 46)) (sym k) (refl, refl)));
+  stop = at_start steps s;
+  fault = inl (c, t, h, inr (Plain 46, λ rest. ap (λ x. symbols_of (x ∷ rest)) e, subst (FaultAt nothing (Plain 46)) (sym k) (refl, refl)));
 }
 
 -- a first character that is refused
@@ -194,28 +196,52 @@ char_first steps s t c b reader ShortBuf h i r o = tt
 char_first steps s t c b reader (Presentation p) h i r o = inr (
   nothing,
   record {
-    stop = record { text = []; unfinished = []; after = s; yields = refl; begins = none_unfinished; stands = λ rest. refl };
+    stop = at_start steps s;
     fault = inl (c, t, h, subst (λ x. CharFault x [] c (named p)) i (subst (λ x. CharFault b x c (named p)) r o));
   },
 )
 
+then_more : (s : Symbol) (ss : List Symbol) (o : Option (List Symbol)) → option_map (λ us. s ∷ us) (option_map (λ us. ss ++ us) o) ≡ option_map (λ us. (s ∷ ss) ++ us) o
+then_more s ss None = refl
+then_more s ss (Some us) = refl
+
+behind_first : {S : Type 0} (steps : S → Option ℕ → S → Type 0) (s t : S) (c : ℕ) (now new : Building) (later : List ℕ) (f : Fault) → steps s (Some c) t → AddsChar nothing [] c now later → FirstFault steps t later now new f → FirstFault steps s [] nothing new f
+behind_first steps s t c now new later f h (inl a) o = record {
+  stop = record {
+    text = c ∷ o.stop.text;
+    whole = o.stop.whole;
+    symbols = o.stop.symbols;
+    unfinished = o.stop.unfinished;
+    after = o.stop.after;
+    yields = (t, h, o.stop.yields);
+    divided = ap (λ l. l ++ o.stop.text) (sym a.1) ∙ o.stop.divided;
+    reads = o.stop.reads;
+    begins = o.stop.begins;
+    stands = ap (λ x. symbols_behind x o.stop.symbols) (sym a.0) ∙ o.stop.stands;
+  };
+  fault = o.fault;
+}
+behind_first steps s t c now new later f h (inr a) o = record {
+  stop = record {
+    text = c ∷ o.stop.text;
+    whole = c ∷ o.stop.whole;
+    symbols = a.0 ∷ o.stop.symbols;
+    unfinished = o.stop.unfinished;
+    after = o.stop.after;
+    yields = (t, h, o.stop.yields);
+    divided = ap (λ l. c ∷ (l ++ o.stop.text)) (sym a.3) ∙ ap (λ l. c ∷ l) o.stop.divided;
+    reads = λ rest. a.1 (o.stop.whole ++ rest) ∙ ap (option_map (λ ss. a.0 ∷ ss)) (o.stop.reads rest) ∙ then_more a.0 o.stop.symbols (symbols_of rest);
+    begins = o.stop.begins;
+    stands = ap if_open_short (a.2 o.stop.symbols) ∙ o.stop.stands;
+  };
+  fault = o.fault;
+}
+
 -- a fault behind the first character
-pub fault_behind : {S : Type 0} (steps : S → Option ℕ → S → Type 0) (s t : S) (c : ℕ) (b now new : Building) (reader later : List ℕ) (e : FromStrError) → steps s (Some c) t → b ≡ nothing → reader ≡ [] → ((rest : List ℕ) → text_behind b (reader ++ c ∷ rest) ≡ text_behind now (later ++ rest)) → IfSome (fault_of e) (FirstFault steps t later now new) → IfSome (fault_of e) (NameFault steps s)
-fault_behind steps s t c b now new reader later ShortBuf h i r on o = tt
-fault_behind steps s t c b now new reader later (Presentation p) h i r on o = inr (
-  new,
-  record {
-    stop = record {
-      text = c ∷ o.stop.text;
-      unfinished = o.stop.unfinished;
-      after = o.stop.after;
-      yields = (t, h, o.stop.yields);
-      begins = o.stop.begins;
-      stands = λ rest. (λ j. text_behind (sym i j) (sym r j ++ c ∷ (o.stop.text ++ rest))) ∙ on (o.stop.text ++ rest) ∙ o.stop.stands rest;
-    };
-    fault = o.fault;
-  },
-)
+pub fault_behind : {S : Type 0} (steps : S → Option ℕ → S → Type 0) (s t : S) (c : ℕ) (b now new : Building) (reader later : List ℕ) (e : FromStrError) → steps s (Some c) t → b ≡ nothing → reader ≡ [] → AddsChar b reader c now later → IfSome (fault_of e) (FirstFault steps t later now new) → IfSome (fault_of e) (NameFault steps s)
+fault_behind steps s t c b now new reader later ShortBuf h i r a o = tt
+fault_behind steps s t c b now new reader later (Presentation p) h i r a o =
+    inr (new, behind_first steps s t c now new later (named p) h (subst (λ x. AddsChar x [] c now later) i (subst (λ x. AddsChar b x c now later) r a)) o)
 
 pub relative_fault : {S : Type 0} (steps : S → Option ℕ → S → Type 0) (s : S) (b new : Building) (e : FromStrError) → b ≡ nothing → IfSome (fault_of e) (FirstFault steps s [] b new) → IfSome (fault_of e) (RelativeFault steps s)
 relative_fault steps s b new ShortBuf i o = tt
@@ -246,10 +272,6 @@ symbol_behind steps s t c b now new (Presentation p) h i on o = inr (
 
 -- ---- faults of a text
 
-in_turn-yields : (text rest : List ℕ) → Yields in_turn (text ++ rest) text rest
-in_turn-yields [] rest = refl
-in_turn-yields (c ∷ text) rest = (text ++ rest, refl, in_turn-yields text rest)
-
 pub first_in_text : (s : Chars) (before : List ℕ) (old new : Building) (f : Fault) → IsUtf8 (chars_rest s) → FirstFault chars_steps s before old new f → FirstFault in_turn (chars (chars_rest s)) before old new f
 first_in_text s before old new f u o =
     let after = o.stop.after in
@@ -257,9 +279,13 @@ first_in_text s before old new f u o =
     record {
       stop = record {
         text = o.stop.text;
+        whole = o.stop.whole;
+        symbols = o.stop.symbols;
         unfinished = o.stop.unfinished;
         after = chars (chars_rest after);
         yields = subst (λ x. Yields in_turn x o.stop.text (chars (chars_rest after))) (sym read.0) (in_turn-yields o.stop.text (chars (chars_rest after)));
+        divided = o.stop.divided;
+        reads = o.stop.reads;
         begins = o.stop.begins;
         stands = o.stop.stands;
       };

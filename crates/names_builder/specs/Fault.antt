@@ -2,7 +2,7 @@
 use Rattle.std.specs.Prelude.{◌≡◌, ◌<◌, ◌≤◌, Bool, true, false, ℕ, ◌⊎◌, List, [], ◌∷◌, ◌++◌, length, Option, Some, None}
 use Rattle.std.specs.Option.{option_map}
 use Rattle.definitions.specs.Text.{Symbol, is_symbol, is_dot, is_bracket, octet, symbols_of}
-use Rattle.names_wire.specs.Symbols.{char_fault}
+use Rattle.names_wire.specs.Symbols.{is_begun, char_fault}
 use Rattle.names_wire.specs.declared.symbol.SymbolCharsError.TheVariants.{BadSymbol}
 use Rattle.names_builder.specs.Building.{Building, octets_of_building, with_octets}
 use Rattle.names_builder.specs.declared.push_error.PushError.{PushError}
@@ -55,8 +55,9 @@ FaultAt b s BinaryLabel = (is_bracket s ≡ true) × (b.open_label ≡ [])
 FaultAt b s LongLabel = AddsOctet b s × (63 ≤ length b.open_label)
 FaultAt b s LongName = AddsOctet b s × (length b.open_label < 63) × (254 < length (octets_of_building (with_octets b (octet s ∷ []))))
 
--- Why a character is refused behind those of a symbol that isn't whole: they make no symbol, or one that is refused.
+-- Why a character is refused behind those of an escape that isn't whole: they begin no symbol, or the one that it makes
+-- whole is refused.
 abbrev pub CharFault : Building → List ℕ → ℕ → Fault → Type 0
 CharFault b unfinished ch f =
-    (((rest : List ℕ) → symbols_of (unfinished ++ ch ∷ rest) ≡ None) × (f ≡ BadText (char_fault unfinished)))
-    ⊎ ((s : Symbol) × (later : List ℕ) × ((rest : List ℕ) → symbols_of (unfinished ++ ch ∷ rest) ≡ option_map (λ ss. s ∷ ss) (symbols_of (later ++ rest))) × FaultAt b s f)
+    ((is_begun (unfinished ++ ch ∷ []) ≡ false) × ((rest : List ℕ) → symbols_of (unfinished ++ ch ∷ rest) ≡ None) × (f ≡ BadText (char_fault unfinished)))
+    ⊎ ((s : Symbol) × ((rest : List ℕ) → symbols_of (unfinished ++ ch ∷ rest) ≡ option_map (λ ss. s ∷ ss) (symbols_of rest)) × FaultAt b s f)

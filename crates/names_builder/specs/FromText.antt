@@ -4,7 +4,7 @@ use Rattle.std.specs.Option.{option_map}
 use Rattle.std.specs.Iterator.{Yields, Drains}
 use Rattle.definitions.specs.Name.{Name}
 use Rattle.definitions.specs.Text.{Symbol, symbols_of, pieces, is_dot, is_bracket, is_symbol, octet}
-use Rattle.names_wire.specs.Symbols.{symbol_of, IsUnfinished}
+use Rattle.names_wire.specs.Symbols.{symbol_of, is_begun}
 use Rattle.names_wire.specs.declared.symbol.Symbol.{Symbol as WireSymbol}
 use Rattle.names_labels.specs.Open.{open_labels, read_behind}
 use Rattle.names_builder.specs.Building.{Building}
@@ -84,17 +84,28 @@ pub record StopsAtSymbol {S : Type 0} (steps : S → Option WireSymbol → S →
   pub fault : IfSome (fault_of e) (FaultAt new (symbol_of refused))
   pub text : is_text e ≡ true → (rest : List Symbol) → symbols_behind old (map symbol_of (read ++ refused ∷ []) ++ rest) ≡ None
 
--- The builder has read the whole symbols of some characters that the iterator gave behind others, and nothing else.
+-- a character is added behind those of a symbol: it makes the symbol whole, which the builder reads, or is left with them
+abbrev pub AddsChar : Building → List ℕ → ℕ → Building → List ℕ → Type 0
+AddsChar old before ch new left =
+    ((new ≡ old) × (left ≡ before ++ ch ∷ []))
+    ⊎ ((s : Symbol) × ((rest : List ℕ) → symbols_of (before ++ ch ∷ rest) ≡ option_map (λ ss. s ∷ ss) (symbols_of rest)) × ((ss : List Symbol) → continued old (s ∷ ss) ≡ continued new ss) × (left ≡ []))
+
+-- The iterator gave some characters behind others: whole symbols, which the builder has read, and at most the beginning of
+-- an escape.
 pub record StopsInText {S : Type 0} (steps : S → Option ℕ → S → Type 0) (s : S) (before : List ℕ) (old new : Building) : Type 0 where
   pub text : List ℕ
+  pub whole : List ℕ
+  pub symbols : List Symbol
   pub unfinished : List ℕ
   pub after : S
   pub yields : Yields steps s text after
-  pub begins : IsUnfinished unfinished
-  pub stands : (rest : List ℕ) → text_behind old (before ++ (text ++ rest)) ≡ text_behind new (unfinished ++ rest)
+  pub divided : before ++ text ≡ whole ++ unfinished
+  pub reads : (rest : List ℕ) → symbols_of (whole ++ rest) ≡ option_map (λ ss. symbols ++ ss) (symbols_of rest)
+  pub begins : is_begun unfinished ≡ true
+  pub stands : symbols_behind old symbols ≡ Some (standing new)
 
 -- The first fault of the characters that an iterator gives behind others: what was before it is read, and it is that
--- of the next character, or of the end within a symbol.
+-- of the next character, or of the end within an escape.
 pub record FirstFault {S : Type 0} (steps : S → Option ℕ → S → Type 0) (s : S) (before : List ℕ) (old new : Building) (f : Fault) : Type 0 where
   pub stop : StopsInText steps s before old new
   pub fault :

@@ -6,10 +6,10 @@ ghost use Rattle.names_labels.specs.Flat.{SpellsRelative, SpellsName, labels_in,
 ghost use Rattle.names_labels.specs.RefusedRelative.{RefusedRelative};
 ghost use Rattle.std.specs.Iterator.{IsFinite, Drains};
 ghost use Rattle.definitions.specs.Text.{Symbol as TextSymbol};
-ghost use Rattle.names_wire.specs.Symbols.{symbol_of, IsUnfinished};
+ghost use Rattle.names_wire.specs.Symbols.{symbol_of, is_begun};
 ghost use Rattle.names_wire.specs.Spelled.{SpellsNothing};
 ghost use Rattle.names_labels.specs.Open.{if_open_short};
-ghost use Rattle.names_builder.specs.FromText.{is_text, continued, standing, text_behind, ReadsSymbols, StopsAtSymbol, StopsInText, FirstFault};
+ghost use Rattle.names_builder.specs.FromText.{is_text, continued, standing, text_behind, AddsChar, ReadsSymbols, StopsAtSymbol, StopsInText, FirstFault};
 ghost use Rattle.names_builder.specs.Fault.{CharFault, FaultAt, fault_of};
 ghost use Rattle.names_builder.specs.Building.{Building, IsShort, octets_of_building, with_octets, closed, ended, labels_with, with_labels, all_labels};
 
@@ -301,7 +301,8 @@ impl<B: OctetsBuilder> NameBuilder<B> {
         ensures err { OnErr result (self.new ≡ self.old) }
         ensures fault { IfErr result (λ e. IfSome (fault_of e) (CharFault self.old reader.old ch)) }
         ensures limits { IsShort self.new }
-        ensures unfinished { IsUnfinished reader.new }
+        ensures begun { is_begun reader.new ≡ true }
+        ensures adds { OnOk result (AddsChar self.old reader.old ch self.new reader.new) }
     {
         let _ = &self.builder;
         if let Some(symbol) = reader.push(ch)? {
@@ -336,7 +337,7 @@ impl<B: OctetsBuilder> NameBuilder<B> {
     ) -> Result<(), FromStrError>
         requires can { C.can_next chars }
         requires ends { IsFinite (C.remaining chars) }
-        requires begins { IsUnfinished reader }
+        requires begins { is_begun reader ≡ true }
         ensures ok { OnOk result ((text : List ℕ) × Drains C.next_gives chars text × (text_behind self.old (reader ++ text) ≡ Some (standing self.new))) }
         ensures refused { IfErr result (λ e. is_text e ≡ true → SpellsNothing C.next_gives chars (λ text. text_behind self.old (reader ++ text))) }
         ensures stands { OnErr result (StopsInText C.next_gives chars reader self.old self.new) }

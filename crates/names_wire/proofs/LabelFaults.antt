@@ -91,7 +91,7 @@ ends_empty steps s t u text pending octets p b y h n e = record {
 
 -- ---- the characters of a text
 
-in_turn-yields : (text rest : List ℕ) → Yields in_turn (text ++ rest) text rest
+pub in_turn-yields : (text rest : List ℕ) → Yields in_turn (text ++ rest) text rest
 in_turn-yields [] rest = refl
 in_turn-yields (c ∷ text) rest = (text ++ rest, refl, in_turn-yields text rest)
 

@@ -3,6 +3,5 @@ pub mod Lowercase
 pub mod OnError
 pub mod PartLabel
 pub mod Printed
-pub mod Unfinished
 pub mod Characters
 pub mod LabelFaults

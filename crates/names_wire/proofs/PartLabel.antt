@@ -22,7 +22,7 @@ pub record PartRead (text pending octets : List ℕ) : Type 0 where
   pub first : begins_binary symbols ≡ false
   pub short : length octets ≤ 63
 
-same_option : (o : Option (List Symbol)) → option_map (λ us. [] ++ us) o ≡ o
+pub same_option : (o : Option (List Symbol)) → option_map (λ us. [] ++ us) o ≡ o
 same_option None = refl
 same_option (Some us) = refl
 
@@ -45,7 +45,7 @@ waited text pending onward octets c p h e = record {
   short = p.short;
 }
 
-joined : (ss : List Symbol) (s : Symbol) (o : Option (List Symbol)) → option_map (λ us. ss ++ us) (option_map (λ us. s ∷ us) o) ≡ option_map (λ us. (ss ++ s ∷ []) ++ us) o
+pub joined : (ss : List Symbol) (s : Symbol) (o : Option (List Symbol)) → option_map (λ us. ss ++ us) (option_map (λ us. s ∷ us) o) ≡ option_map (λ us. (ss ++ s ∷ []) ++ us) o
 joined ss s None = refl
 joined ss s (Some us) = ap Some (sym (append_assoc ss (s ∷ []) us))
 

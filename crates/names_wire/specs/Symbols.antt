@@ -1,5 +1,5 @@
 -- Symbols of text as the code has them, and a reader that takes characters one by one (RFC 1035, 5.1).
-use Rattle.std.specs.Prelude.{◌≡◌, ℕ, ◌<◌, ◌≤◌, Bool, true, ◌&&◌, nat_eq, nat_le, List, [], ◌∷◌, ◌++◌, length, take, if◌then◌else◌, Option, Some, None}
+use Rattle.std.specs.Prelude.{◌≡◌, ℕ, Bool, true, ◌&&◌, nat_eq, nat_le, List, [], ◌∷◌, ◌++◌, length, if◌then◌else◌, Option, Some, None}
 use Rattle.std.specs.List.{list_all}
 use Rattle.std.specs.Option.{option_map}
 use Rattle.definitions.specs.Text.{Plain, Quoted, Decimal, is_digit, symbols_of, is_symbol, spelling}
@@ -26,10 +26,6 @@ ReadsAs chars s = (rest : List ℕ) → symbols_of (chars ++ rest) ≡ option_ma
 -- how a symbol is written, if it is one
 abbrev pub written : text.Symbol → Option (List ℕ)
 written s = if is_symbol s then Some (spelling s) else None
-
--- a symbol that isn't whole: no beginning of these characters is made of symbols
-abbrev pub IsUnfinished : List ℕ → Type 0
-IsUnfinished chars = (k : ℕ) → 0 < k → k ≤ length chars → symbols_of (take k chars) ≡ None
 
 -- no characters, or those that the digits of an escape begin with: a backslash and at most two digits
 abbrev pub is_begun : List ℕ → Bool

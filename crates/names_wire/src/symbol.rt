@@ -4,7 +4,7 @@ ghost use Rattle.std.specs.Prelude.{◌≡◌, ◌≢◌, false, ◌↔◌, ◌+
 ghost use Rattle.definitions.specs.Text.{is_symbol, is_digit, octet, spelling, symbol_of_octet, symbols_of, octet_at, Plain, Quoted};
 ghost use Rattle.std.specs.Option.{option_map};
 ghost use Rattle.std.specs.Result.{result_ok};
-ghost use Rattle.names_wire.specs.Symbols.{symbol_of, followed_by, written, ReadsAs, IsUnfinished, char_fault, is_begun, left_of};
+ghost use Rattle.names_wire.specs.Symbols.{symbol_of, followed_by, written, ReadsAs, char_fault, is_begun, left_of};
 
 use std::fmt;
 use std::marker::Model;
@@ -126,7 +126,6 @@ impl SymbolReader {
         ensures err { OnErr result ((rest : List ℕ) → symbols_of (self.old ++ ch ∷ rest) ≡ None) }
         ensures kind { IfErr result (λ e. e ≡ char_fault self.old) }
         ensures unchanged { OnErr result (self.new ≡ self.old) }
-        ensures unfinished { IsUnfinished self.new }
         ensures begun { is_begun self.new ≡ true }
         ensures left { IfOk result (λ symbol. self.new ≡ left_of symbol (self.old ++ ch ∷ [])) }
         ensures stops { OnErr result (is_begun (self.old ++ ch ∷ []) ≡ false) }

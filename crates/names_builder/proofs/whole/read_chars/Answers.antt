@@ -65,4 +65,4 @@ returns-in_err-push_char-clause-fault g c =
 pub returns-in_err-append_text-clause-fault : goal.returns-in_err-append_text-clause-fault
 returns-in_err-append_text-clause-fault g c =
     let p = err_from_is_err_and c.from_residual-in_err-append_text.result c.from_residual-in_err-append_text.ensures.1 in
-    rw (p.1, p.2) (fault_behind g.C.Iterator.next_gives c.args.chars c.next.new.self c.in-Some.first c.new-builder.result c.push_char.new.self c.append_text.new.self c.new-reader.result c.push_char.new.reader c.in_err-append_text.field-0.0 c.in-Some.ensures.steps c.new-builder.ensures c.new-reader.ensures c.in_ok-push_char.ensures.ok c.in_err-append_text.ensures.fault)
+    rw (p.1, p.2) (fault_behind g.C.Iterator.next_gives c.args.chars c.next.new.self c.in-Some.first c.new-builder.result c.push_char.new.self c.append_text.new.self c.new-reader.result c.push_char.new.reader c.in_err-append_text.field-0.0 c.in-Some.ensures.steps c.new-builder.ensures c.new-reader.ensures c.in_ok-push_char.ensures.adds c.in_err-append_text.ensures.fault)
