@@ -1,6 +1,7 @@
 pub mod Along
 pub mod Lowercase
 pub mod OnError
+pub mod OneFault
 pub mod PartLabel
 pub mod Printed
 pub mod Characters

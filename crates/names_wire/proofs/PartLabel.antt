@@ -134,18 +134,19 @@ too_long x h =
 longer : (ss : List Symbol) (s : Symbol) (us : List Symbol) → 63 ≤ length ss → 63 < length ((ss ++ s ∷ []) ++ us)
 longer ss s us h = omega (arith, length-append (ss ++ s ∷ []) us, length-append ss (s ∷ []))
 
--- no text of a label goes on so
+-- no label goes on so
+pub cannot_follow : (ss : List Symbol) (s : Symbol) (us : List Symbol) → CannotFollow (map octet ss) s → label_of_symbols ((ss ++ s ∷ []) ++ us) ≡ None
+cannot_follow ss s us (inl d) = unlabelled ((ss ++ s ∷ []) ++ us) (inr (any_middle ss s us d))
+cannot_follow ss s us (inr (inl b)) = unlabelled ((ss ++ s ∷ []) ++ us) (inl (bracketed ss s us b.0 b.1))
+cannot_follow ss s us (inr (inr l)) = unlabelled ((ss ++ s ∷ []) ++ us) (inl (too_long ((ss ++ s ∷ []) ++ us) (longer ss s us (subst (λ k. 63 ≤ k) (length-map ss octet) l))))
+
+-- nor the text of one
 pub spoilt : (text pending onward octets : List ℕ) (c : ℕ) (s : Symbol) → PartRead text pending octets → ((rest : List ℕ) → symbols_of (pending ++ c ∷ rest) ≡ option_map (λ us. s ∷ us) (symbols_of (onward ++ rest))) → CannotFollow octets s → (rest : List ℕ) → label_of_text ((text ++ c ∷ []) ++ rest) ≡ None
 spoilt text pending onward octets c s p h n rest = ap label_of (reads_on text pending onward octets c s p h rest) ∙ fails (symbols_of (onward ++ rest))
   where
-    bad : (us : List Symbol) → CannotFollow octets s → label_of_symbols ((p.symbols ++ s ∷ []) ++ us) ≡ None
-    bad us (inl d) = unlabelled ((p.symbols ++ s ∷ []) ++ us) (inr (any_middle p.symbols s us d))
-    bad us (inr (inl b)) = unlabelled ((p.symbols ++ s ∷ []) ++ us) (inl (bracketed p.symbols s us (sym p.spelled ∙ b.0) b.1))
-    bad us (inr (inr l)) = unlabelled ((p.symbols ++ s ∷ []) ++ us) (inl (too_long ((p.symbols ++ s ∷ []) ++ us) (longer p.symbols s us (subst (λ k. 63 ≤ k) (ap length p.spelled ∙ length-map p.symbols octet) l))))
-
     fails : (o : Option (List Symbol)) → label_of (option_map (λ us. (p.symbols ++ s ∷ []) ++ us) o) ≡ None
     fails None = refl
-    fails (Some us) = bad us n
+    fails (Some us) = cannot_follow p.symbols s us (subst (λ os. CannotFollow os s) p.spelled n)
 
 -- a character that no symbol has there
 pub stopped : (text pending octets : List ℕ) (c : ℕ) → PartRead text pending octets → ((rest : List ℕ) → symbols_of (pending ++ c ∷ rest) ≡ None) → (rest : List ℕ) → label_of_text ((text ++ c ∷ []) ++ rest) ≡ None

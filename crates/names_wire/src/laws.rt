@@ -4,6 +4,9 @@ ghost use Rattle.std.specs.Prelude.{◌≡◌, ◌<◌, ℕ, List, Some};
 ghost use Rattle.std.specs.List.{AllByRecursion};
 ghost use Rattle.definitions.specs.Name.{IsLabel};
 ghost use Rattle.definitions.specs.Text.{Symbol, Spells, label_of_text, symbols_of, text_of_label};
+ghost use Rattle.names_wire.specs.Spelled.{in_turn};
+ghost use Rattle.names_wire.specs.LabelFault.{FirstFault};
+ghost use Rattle.names_wire.specs.declared.owned.LabelFault.{LabelFault};
 
 /// What is printed of a label is read as the same octets (RFC 1035, 5.1).
 pub fn printed_label_is_read_back()
@@ -13,4 +16,9 @@ pub fn printed_label_is_read_back()
 /// A text that is made of symbols is read as these, and so as no others (RFC 1035, 5.1).
 pub fn spelled_symbols_are_read()
     ensures { (text : List ℕ) (symbols : List Symbol) → Spells text symbols → symbols_of text ≡ Some symbols }
+{}
+
+/// A text that is refused as a label has one fault.
+pub fn refused_label_text_has_one_fault()
+    ensures { (text : List ℕ) (f g : LabelFault) → FirstFault in_turn text f → FirstFault in_turn text g → f ≡ g }
 {}
