@@ -70,7 +70,7 @@ and_false : (a : Bool) → (a && false) ≡ false
 and_false true = refl
 and_false false = refl
 
-no_dot_first : (s : Symbol) → is_symbol s ≡ false → is_dot s ≡ false
+pub no_dot_first : (s : Symbol) → is_symbol s ≡ false → is_dot s ≡ false
 no_dot_first (Quoted c) h = refl
 no_dot_first (Decimal c) h = refl
 no_dot_first (Plain c) h = go (is_dot (Plain c)) refl
@@ -82,7 +82,7 @@ no_dot_first (Plain c) h = go (is_dot (Plain c)) refl
     go false e = e
     go true e = let f = dot (eqb-true c 46 e) in absurd (cc)
 
-no_bracket_dot : (s : Symbol) → is_bracket s ≡ true → is_dot s ≡ false
+pub no_bracket_dot : (s : Symbol) → is_bracket s ≡ true → is_dot s ≡ false
 no_bracket_dot (Plain c) h = cc
 no_bracket_dot (Quoted c) h = refl
 no_bracket_dot (Decimal c) h = cc

@@ -3,6 +3,7 @@
 #![tactic(auto)]
 
 pub mod builder;
+pub mod laws;
 pub mod push_error;
 pub mod reverse;
 mod text;

@@ -18,4 +18,5 @@ pub fn names_below_an_apex_are_an_interval()
     ensures between { (apex a n b : Name) → IsTrue (at_or_above apex a) → IsTrue (at_or_above apex b) → is_gt (name_cmp a n) ≡ false → is_gt (name_cmp n b) ≡ false → IsTrue (at_or_above apex n) }
 {}
 
+pub use names_builder::laws::refused_text_has_one_fault;
 pub use names_labels::laws::printed_name_is_read_back;
