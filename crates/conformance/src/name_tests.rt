@@ -71,6 +71,7 @@ fn canonical_order_is_not_that_of_octets(rt: HostRuntime) {
     laws::canonical_order_is_total();
     laws::names_below_an_apex_are_an_interval();
     laws::printed_name_is_read_back();
+    laws::refused_text_has_one_fault();
 }
 
 #[test]

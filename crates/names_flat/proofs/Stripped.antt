@@ -1,17 +1,14 @@
 -- A name without a suffix.
-use Rattle.std.proofs.Common.{◌≡◌, ℕ, ◌-◌, ◌≤◌, Bool, true, false, ◌&&◌, ◌||◌, [], ◌∷◌, ◌++◌, length, take, refl, sym, ap, ◌∙◌, length-append, arith}
+use Rattle.std.proofs.Common.{◌≡◌, ℕ, ◌-◌, ◌≤◌, Bool, true, false, ◌||◌, [], ◌∷◌, ◌++◌, length, take, refl, sym, ap, ◌∙◌, length-append, arith}
 use Rattle.std.specs.Str.{bytes_eq, str_to_ascii_lowercase}
 use Rattle.std.specs.Char.{to_ascii_lowercase}
 use Rattle.std.proofs.lemmas.Slice.Eq.{bytes_eq-Decides}
 use Rattle.std.proofs.lemmas.List.{take_at, length-map}
+use Rattle.std.proofs.lemmas.Bool.{and_parts}
 use Rattle.definitions.specs.Name.{Name, same, at_or_above, wire}
 use Rattle.names_labels.specs.Flat.{spelled, StartsLabel}
 use Rattle.names_labels.proofs.Runs.{spelled-append, wire-spelled}
 use Rattle.names_flat.proofs.Rooted.{same-rooted}
-
-both : (s t : Bool) → (s && t) ≡ true → (s ≡ true) × (t ≡ true)
-both true t h = (refl, h)
-both false t h = cc
 
 or_false : (b : Bool) → (b || false) ≡ b
 or_false true = refl
@@ -49,7 +46,7 @@ same_octets [] [] h = refl
 same_octets [] (l ∷ n) h = cc
 same_octets (k ∷ m) [] h = cc
 same_octets (k ∷ m) (l ∷ n) h =
-    let p = both (bytes_eq (str_to_ascii_lowercase k) (str_to_ascii_lowercase l)) (same m n) h in
+    let p = and_parts (bytes_eq (str_to_ascii_lowercase k) (str_to_ascii_lowercase l)) (same m n) h in
     let e = (bytes_eq-Decides (str_to_ascii_lowercase k) (str_to_ascii_lowercase l)).0 p.0 in
     let d : length k ≡ length l = sym (length-map k to_ascii_lowercase) ∙ ap length e ∙ length-map l to_ascii_lowercase in
     omega (arith, d, length-append k (spelled m), length-append l (spelled n), same_octets m n p.1)

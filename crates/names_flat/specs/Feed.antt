@@ -1,9 +1,10 @@
 -- What a name feeds a hasher.
-use Rattle.std.proofs.Common.{◌≡◌, ℕ, Bool, true, false, ◌&&◌, List, [], ◌∷◌, ◌++◌, refl, sym, ap, ◌∙◌, append_assoc}
+use Rattle.std.proofs.Common.{◌≡◌, ℕ, List, [], ◌∷◌, ◌++◌, refl, sym, ap, ◌∙◌, append_assoc}
 use Rattle.std.specs.Prelude.{IsTrue}
 use Rattle.std.specs.List.{flat_map}
 use Rattle.std.specs.Str.{bytes_eq, str_to_ascii_lowercase}
 use Rattle.std.proofs.lemmas.Slice.Eq.{bytes_eq-Decides}
+use Rattle.std.proofs.lemmas.Bool.{and_parts}
 use Rattle.definitions.specs.Name.{Name, same}
 use Rattle.names_wire.specs.Label.{label_hash}
 
@@ -15,18 +16,13 @@ labels_feed n = flat_map (λ l. label_hash (str_to_ascii_lowercase l)) n
 abbrev pub name_feed : Name → List (List ℕ)
 name_feed n = labels_feed (n ++ [] ∷ [])
 
-both : (s t : Bool) → (s && t) ≡ true → (s ≡ true) × (t ≡ true)
-both true true h = (refl, refl)
-both true false h = cc
-both false t h = cc
-
 -- names that are the same feed the same
 pub labels_feed-same : (m n : Name) → IsTrue (same m n) → labels_feed m ≡ labels_feed n
 labels_feed-same [] [] h = refl
 labels_feed-same [] (l ∷ n) h = cc
 labels_feed-same (k ∷ m) [] h = cc
 labels_feed-same (k ∷ m) (l ∷ n) h =
-    let b = both (bytes_eq (str_to_ascii_lowercase k) (str_to_ascii_lowercase l)) (same m n) h in
+    let b = and_parts (bytes_eq (str_to_ascii_lowercase k) (str_to_ascii_lowercase l)) (same m n) h in
     let e = (bytes_eq-Decides (str_to_ascii_lowercase k) (str_to_ascii_lowercase l)).0 b.0 in
     λ t. label_hash (e t) ++ labels_feed-same m n b.1 t
 

@@ -3,7 +3,7 @@ use Rattle.std.proofs.Common.{◌≡◌, ◌⊎◌, inl, inr, ℕ, suc, ◌+◌,
 use Rattle.std.specs.Option.{option_map, option_and_then}
 use Rattle.std.specs.List.{list_all, list_any}
 use Rattle.std.proofs.lemmas.List.{append-nil, length-map}
-use Rattle.std.proofs.lemmas.Bool.{leb-true, leb-false, lt-leb, le-leb, lt-ltb}
+use Rattle.std.proofs.lemmas.Bool.{and_parts, leb-true, leb-false, lt-leb, le-leb, lt-ltb}
 use Rattle.definitions.specs.Text.{Symbol, is_symbol, is_dot, octet, begins_binary, is_label_text, label_of_symbols, labels_of_pieces, pieces, onto_first, without_last_dot}
 use Rattle.definitions.specs.Name.{Name, Label}
 use Rattle.names_labels.specs.Open.{binary_behind, piece_behind, some_before, open_labels, without_empty}
@@ -16,10 +16,6 @@ fits open_label s = nat_lt (length open_label) 63 && is_symbol s && not (binary_
 abbrev pub taken : Label → List Symbol → Option Name
 taken open_label [] = Some (open_label ∷ [])
 taken open_label (s ∷ ss) = cond (is_dot s) (some_before open_label (taken [] ss)) (cond (fits open_label s) (taken (open_label ++ octet s ∷ []) ss) None)
-
-both : (a b : Bool) → (a && b) ≡ true → (a ≡ true) × (b ≡ true)
-both true b h = (refl, h)
-both false b h = cc
 
 and_false : (a : Bool) → (a && false) ≡ false
 and_false true = refl
@@ -62,8 +58,8 @@ lt_true a b h = omega (arith, leb-true (suc a) b h)
 
 pub fitting : (open_label : Label) (s : Symbol) → fits open_label s ≡ true → (length open_label < 63) × (is_symbol s ≡ true) × (binary_behind open_label (s ∷ []) ≡ false)
 fitting open_label s h =
-    let a = both (nat_lt (length open_label) 63 && is_symbol s) (not (binary_behind open_label (s ∷ []))) h in
-    let b = both (nat_lt (length open_label) 63) (is_symbol s) a.0 in
+    let a = and_parts (nat_lt (length open_label) 63 && is_symbol s) (not (binary_behind open_label (s ∷ []))) h in
+    let b = and_parts (nat_lt (length open_label) 63) (is_symbol s) a.0 in
     (lt_true (length open_label) 63 b.0, b.1, unnot (binary_behind open_label (s ∷ [])) a.1)
 
 -- a piece behind a symbol that fits
@@ -158,7 +154,7 @@ pub record IsPart (pre : List Symbol) : Type 0 where
 all_end : (ss : List Symbol) (s : Symbol) → list_all is_symbol ss ≡ true → is_symbol s ≡ true → list_all is_symbol (ss ++ s ∷ []) ≡ true
 all_end [] s h k = ap (λ b. b && true) k
 all_end (t ∷ ss) s h k =
-    let b = both (is_symbol t) (list_all is_symbol ss) h in
+    let b = and_parts (is_symbol t) (list_all is_symbol ss) h in
     λ i. b.0 i && all_end ss s b.1 k i
 
 neither : (a b : Bool) → (a || b) ≡ false → (a ≡ false) × (b ≡ false)

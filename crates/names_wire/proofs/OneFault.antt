@@ -4,7 +4,7 @@ use Rattle.std.specs.Option.{option_map}
 use Rattle.std.specs.List.{list_all}
 use Rattle.std.specs.Iterator.{Yields}
 use Rattle.std.proofs.lemmas.List.{append-nil, append_cancel_left}
-use Rattle.std.proofs.lemmas.Bool.{leb-true, leb-false, le-leb}
+use Rattle.std.proofs.lemmas.Bool.{and_parts, leb-true, leb-false, le-leb}
 use Rattle.definitions.specs.Text.{Symbol, Plain, Quoted, Decimal, is_digit, is_printable, is_dot, is_bracket, octet, escape_at, symbol_at, symbols_of, symbols_behind, tail_len, label_of_symbols}
 use Rattle.names_wire.specs.Symbols.{is_begun}
 use Rattle.names_wire.specs.Spelled.{in_turn, CannotFollow}
@@ -13,10 +13,6 @@ use Rattle.names_wire.specs.declared.symbol.SymbolCharsError.TheVariants.{ShortI
 use Rattle.names_wire.specs.declared.owned.LabelFault.{LabelFault}
 use Rattle.names_wire.specs.declared.owned.LabelFault.TheVariants.{Symbol as BadText, BinaryLabel, Dot, EmptyLabel, LongLabel}
 use Rattle.names_wire.proofs.PartLabel.{not_both, cannot_follow}
-
-both : (a b : Bool) → (a && b) ≡ true → (a ≡ true) × (b ≡ true)
-both true b h = (refl, h)
-both false b h = cc
 
 -- ---- two beginnings of a text
 
@@ -44,29 +40,29 @@ given (c ∷ read) text after y = y.1 ∙ ap (λ t. c ∷ t) (given read y.0 aft
 
 all_front : (a b : List ℕ) → list_all is_digit (a ++ b) ≡ true → list_all is_digit a ≡ true
 all_front [] b h = refl
-all_front (c ∷ a) b h = let p = both (is_digit c) (list_all is_digit (a ++ b)) h in λ i. p.0 i && all_front a b p.1 i
+all_front (c ∷ a) b h = let p = and_parts (is_digit c) (list_all is_digit (a ++ b)) h in λ i. p.0 i && all_front a b p.1 i
 
 -- a beginning of one is one
 begun_front : (a b : List ℕ) → is_begun (a ++ b) ≡ true → is_begun a ≡ true
 begun_front [] b h = refl
 begun_front (c ∷ ds) b h =
-    let p = both (nat_eq c 92 && nat_le (length (ds ++ b)) 2) (list_all is_digit (ds ++ b)) h in
-    let q = both (nat_eq c 92) (nat_le (length (ds ++ b)) 2) p.0 in
+    let p = and_parts (nat_eq c 92 && nat_le (length (ds ++ b)) 2) (list_all is_digit (ds ++ b)) h in
+    let q = and_parts (nat_eq c 92) (nat_le (length (ds ++ b)) 2) p.0 in
     let l : nat_le (length ds) 2 ≡ true = le-leb (length ds) 2 (omega (arith, leb-true (length (ds ++ b)) 2 q.1, length-append ds b)) in
     λ i. (q.0 i && l i) && all_front ds b p.1 i
 
 no_escape : (ds : List ℕ) → length ds ≤ 2 → list_all is_digit ds ≡ true → escape_at ds ≡ None
 no_escape [] l h = refl
-no_escape (d ∷ []) l h = ap (λ b. cond b None (cond (is_printable d) (Some (Quoted d)) None)) (both (is_digit d) true h).0
-no_escape (d ∷ e ∷ []) l h = ap (λ b. cond b None (cond (is_printable d) (Some (Quoted d)) None)) (both (is_digit d) (list_all is_digit (e ∷ [])) h).0
+no_escape (d ∷ []) l h = ap (λ b. cond b None (cond (is_printable d) (Some (Quoted d)) None)) (and_parts (is_digit d) true h).0
+no_escape (d ∷ e ∷ []) l h = ap (λ b. cond b None (cond (is_printable d) (Some (Quoted d)) None)) (and_parts (is_digit d) (list_all is_digit (e ∷ [])) h).0
 no_escape (d ∷ e ∷ f ∷ ds) l h = absurd (omega (arith, l))
 
 -- it isn't a whole symbol
 begun_alone : (u : List ℕ) → 0 < length u → is_begun u ≡ true → symbols_of u ≡ None
 begun_alone [] some h = absurd (omega (arith, some))
 begun_alone (c ∷ ds) some h =
-    let p = both (nat_eq c 92 && nat_le (length ds) 2) (list_all is_digit ds) h in
-    let q = both (nat_eq c 92) (nat_le (length ds) 2) p.0 in
+    let p = and_parts (nat_eq c 92 && nat_le (length ds) 2) (list_all is_digit ds) h in
+    let q = and_parts (nat_eq c 92) (nat_le (length ds) 2) p.0 in
     let n : symbol_at c ds ≡ None = (λ i. cond (q.0 i) (escape_at ds) (cond (is_printable c) (Some (Plain c)) None)) ∙ no_escape ds (leb-true (length ds) 2 q.1) p.1 in
     ap (λ (o : Option Symbol). elim o as (λ _. Option (List Symbol)) [ None ↦ None | Some s ↦ option_map (λ ss. s ∷ ss) (symbols_behind (tail_len s) ds) ]) n
 

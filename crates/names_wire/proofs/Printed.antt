@@ -3,13 +3,9 @@ use Rattle.std.proofs.Common.{◌≡◌, ℕ, ◌+◌, ◌-◌, ◌*◌, ◌/◌
 use Rattle.std.specs.Option.{option_map}
 use Rattle.std.specs.List.{flat_map, list_all, list_any, AllByRecursion}
 use Rattle.std.proofs.lemmas.List.{length-map}
-use Rattle.std.proofs.lemmas.Bool.{eqb-true, leb-true, le-leb, lt-ltb}
+use Rattle.std.proofs.lemmas.Bool.{and_parts, eqb-true, leb-true, le-leb, lt-ltb}
 use Rattle.definitions.specs.Name.{IsLabel}
 use Rattle.definitions.specs.Text.{Symbol, Plain, Quoted, Decimal, is_symbol, is_printable, is_digit, is_dot, is_bracket, is_quoted, octet, octet_at, spelling, three_digits, escape_at, symbol_at, symbol_of_octet, symbols_of, symbols_behind, tail_len, text_of_label, begins_binary, label_of_symbols, label_of_text}
-
-both : (a b : Bool) → (a && b) ≡ true → (a ≡ true) × (b ≡ true)
-both true b h = (refl, h)
-both false b h = cc
 
 unnot : (a : Bool) → not a ≡ true → a ≡ false
 unnot true h = cc
@@ -40,10 +36,10 @@ decimal_at b rest h =
 
 pub symbol_again : (s : Symbol) (rest : List ℕ) → is_symbol s ≡ true → symbols_of (spelling s ++ rest) ≡ option_map (λ ss. s ∷ ss) (symbols_of rest)
 symbol_again (Plain c) rest h =
-    let p : (is_printable c ≡ true) × (not (nat_eq c 92) ≡ true) = both (is_printable c) (not (nat_eq c 92)) h in
+    let p : (is_printable c ≡ true) × (not (nat_eq c 92) ≡ true) = and_parts (is_printable c) (not (nat_eq c 92)) h in
     then c rest (Plain c) (λ i. cond (unnot (nat_eq c 92) p.1 i) (escape_at rest) (cond (p.0 i) (Some (Plain c)) None))
 symbol_again (Quoted c) rest h =
-    let p : (is_printable c ≡ true) × (not (is_digit c) ≡ true) = both (is_printable c) (not (is_digit c)) h in
+    let p : (is_printable c ≡ true) × (not (is_digit c) ≡ true) = and_parts (is_printable c) (not (is_digit c)) h in
     then 92 (c ∷ rest) (Quoted c) (quoted_at c rest (unnot (is_digit c) p.1) p.0)
 symbol_again (Decimal b) rest h = then 92 (three_digits b ++ rest) (Decimal b) (decimal_at b rest (leb-true b 255 h))
 
@@ -117,5 +113,5 @@ read_back l is h = ap (λ (o : Option (List Symbol)). elim o as (λ _. Option (L
 pub spelled_is_read : (ss : List Symbol) → list_all is_symbol ss ≡ true → symbols_of (flat_map spelling ss) ≡ Some ss
 spelled_is_read [] h = refl
 spelled_is_read (s ∷ ss) h =
-    let p : (is_symbol s ≡ true) × (list_all is_symbol ss ≡ true) = both (is_symbol s) (list_all is_symbol ss) h in
+    let p : (is_symbol s ≡ true) × (list_all is_symbol ss ≡ true) = and_parts (is_symbol s) (list_all is_symbol ss) h in
     symbol_again s (flat_map spelling ss) p.0 ∙ ap (option_map (λ us. s ∷ us)) (spelled_is_read ss p.1)

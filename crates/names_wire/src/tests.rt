@@ -5,6 +5,7 @@ ghost use Rattle.names_wire.specs.Owned.{owned_octets};
 use crate::builder::{OctetsBuilder, ShortBuf};
 use crate::label::{Label, LabelTypeError, SplitLabelError};
 use crate::label_mut::LabelMut;
+use crate::laws;
 use crate::octets::Octets;
 use crate::owned::OwnedLabel;
 use crate::symbol::{Symbol, SymbolCharsError};
@@ -157,6 +158,9 @@ fn says_why_text_is_no_label(rt: HostRuntime) -> Result<(), AllocError> {
         panic!(rt; "a dot is accepted");
     };
     assert_eq!(rt; error.to_string(alloc)?.as_str(), "a dot within a label");
+    laws::refused_label_text_has_one_fault();
+    laws::printed_label_is_read_back();
+    laws::spelled_symbols_are_read();
     Ok(())
 }
 
