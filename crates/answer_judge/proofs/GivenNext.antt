@@ -17,13 +17,13 @@ use Rattle.records.proofs.NameLabels.{length-range}
 
 -- ---- names that are read have no empty label
 
-reads_labelled : {m : List ℕ} {p k : ℕ} {ls : Name} → Reads m p k ls → Labelled ls
-reads_labelled (root h) = tt
+reads_labelled : {m : List ℕ} {p k b : ℕ} {ls : Name} → Reads m p k ls b → Labelled ls
+reads_labelled (root h e) = tt
 reads_labelled {m} {p} (label {n = n} {e = e} {l = l} h a b c d f r) =
     let inside : p + 1 + n ≤ length m = omega (arith, c, d) in
     let len : length l ≡ n = ap length f ∙ ap (λ x. length (slice_range m (p + 1) x)) c ∙ length-range m (p + 1) n inside in
     (omega (arith, len, a), reads_labelled r)
-reads_labelled (pointer h a b c d r) = reads_labelled r
+reads_labelled (pointer h a b c d e r) = reads_labelled r
 
 abbrev read_ok : Name × ℕ → Result (Name × ℕ) MessageError
 read_ok n = Ok n
@@ -56,7 +56,7 @@ upto_ok limit (Err e) n h = cc
 name_in_labelled : (k : ℕ) (m : List ℕ) (r : Spelled) (p : ℕ) (n : Name × ℕ) → name_in k m r p ≡ Some n → Labelled n.0
 name_in_labelled k m r p n h =
     let there : name_at k m p ≡ Ok n = owner_reads k m p n (upto_ok (message.behind r) (owner_at k m p) n h) in
-    let reads = (reads_exactly m p k n.0).0 (n.1, there) in
+    let reads = (reads_exactly m p k n.0 n.1).0 there in
     reads_labelled reads.0
 
 -- ---- the data of an NSEC record

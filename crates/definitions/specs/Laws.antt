@@ -106,14 +106,20 @@ OneSpelling = (ts us : List ℕ) → (bitmap ts ≡ bitmap us) ↔ ((t : ℕ) �
 
 -- ---- reading
 
--- looking at one head after another finds a name exactly where a name of at most 255 octets stands
+-- looking at one head after another finds a name and the place behind it exactly where a name of at most 255 octets
+-- stands and ends there
 abbrev pub ReadsExactly : Type 0
-ReadsExactly = (m : List ℕ) (p k : ℕ) (n : Name) → ((e : ℕ) × (name_at k m p ≡ Ok (n, e))) ↔ (Reads m p k n × (wire_len n ≤ 255))
+ReadsExactly = (m : List ℕ) (p k : ℕ) (n : Name) (e : ℕ) → (name_at k m p ≡ Ok (n, e)) ↔ (Reads m p k n e × (wire_len n ≤ 255))
+
+-- the place behind a name that stands somewhere is one, and lies within the octets
+pub record EndsOnce (m : List ℕ) : Type 0 where
+  pub one : (p k j : ℕ) (n o : Name) (e f : ℕ) → Reads m p k n e → Reads m p j o f → (n ≡ o) × (e ≡ f)
+  pub within : (p k : ℕ) (n : Name) (e : ℕ) → Reads m p k n e → (p < e) × (e ≤ length m)
 
 -- how many heads are looked at, and how many of them are pointers
-pub record IsShortReading {m : List ℕ} {p : ℕ} {n : Name} (r : Reads m p 255 n) : Type 0 where
+pub record IsShortReading {m : List ℕ} {p : ℕ} {n : Name} {e : ℕ} (r : Reads m p 255 n e) : Type 0 where
   pub pointers : pointers_of r ≤ 255
   pub heads : heads_of r ≤ 383
 
 abbrev pub ReadingIsShort : Type 0
-ReadingIsShort = (m : List ℕ) (p : ℕ) (n : Name) (r : Reads m p 255 n) → wire_len n ≤ 255 → IsShortReading r
+ReadingIsShort = (m : List ℕ) (p : ℕ) (n : Name) (e : ℕ) (r : Reads m p 255 n e) → wire_len n ≤ 255 → IsShortReading r

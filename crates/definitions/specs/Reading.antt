@@ -2,24 +2,25 @@
 use Rattle.std.specs.Prelude.{◌≡◌, ℕ, zero, suc, ◌+◌, ◌-◌, ◌*◌, ◌<◌, ◌≤◌, true, false, List, [], ◌∷◌, ◌++◌, length, Some, None, Result, Ok, Err, slice_get, slice_range, nat_le, nat_lt, nat_eq}
 use Rattle.definitions.specs.Name.{Name, Label}
 
--- What stands at a place, with so many pointers left: a root octet, a label of 1 to 63 octets and what
--- follows it, or a pointer to a place before its own.
-pub data Reads (m : List ℕ) : ℕ → ℕ → Name → Type 0 where
-  root : {p k : ℕ} → slice_get m p ≡ Some 0 → Reads m p k []
-  label : {p k n e : ℕ} {l : Label} {ls : Name} → slice_get m p ≡ Some n → 0 < n → n ≤ 63 → e ≡ p + 1 + n → e ≤ length m → l ≡ slice_range m (p + 1) e → Reads m e k ls → Reads m p k (l ∷ ls)
-  pointer : {p k high low to : ℕ} {ls : Name} → slice_get m p ≡ Some high → 192 ≤ high → slice_get m (p + 1) ≡ Some low → to ≡ (high - 192) * 256 + low → to < p → Reads m to k ls → Reads m p (suc k) ls
+-- What stands at a place, with so many pointers left, and the place behind it: a root octet, a label of 1 to 63
+-- octets and what follows it, or a pointer to a place before its own. A name ends behind its first pointer or its
+-- root octet.
+pub data Reads (m : List ℕ) : ℕ → ℕ → Name → ℕ → Type 0 where
+  root : {p k b : ℕ} → slice_get m p ≡ Some 0 → b ≡ p + 1 → Reads m p k [] b
+  label : {p k n e b : ℕ} {l : Label} {ls : Name} → slice_get m p ≡ Some n → 0 < n → n ≤ 63 → e ≡ p + 1 + n → e ≤ length m → l ≡ slice_range m (p + 1) e → Reads m e k ls b → Reads m p k (l ∷ ls) b
+  pointer : {p k high low to b far : ℕ} {ls : Name} → slice_get m p ≡ Some high → 192 ≤ high → slice_get m (p + 1) ≡ Some low → to ≡ (high - 192) * 256 + low → to < p → b ≡ p + 2 → Reads m to k ls far → Reads m p (suc k) ls b
 
 -- the heads that a reading looks at: length octets, the root's too, and pointers
-abbrev pub heads_of : {m : List ℕ} {p k : ℕ} {ls : Name} → Reads m p k ls → ℕ
-heads_of (root h) = 1
+abbrev pub heads_of : {m : List ℕ} {p k b : ℕ} {ls : Name} → Reads m p k ls b → ℕ
+heads_of (root h e) = 1
 heads_of (label h a b c d e r) = 1 + heads_of r
-heads_of (pointer h a b c d r) = 1 + heads_of r
+heads_of (pointer h a b c d e r) = 1 + heads_of r
 
 -- the pointers among them
-abbrev pub pointers_of : {m : List ℕ} {p k : ℕ} {ls : Name} → Reads m p k ls → ℕ
-pointers_of (root h) = 0
+abbrev pub pointers_of : {m : List ℕ} {p k b : ℕ} {ls : Name} → Reads m p k ls b → ℕ
+pointers_of (root h e) = 0
 pointers_of (label h a b c d e r) = pointers_of r
-pointers_of (pointer h a b c d r) = 1 + pointers_of r
+pointers_of (pointer h a b c d e r) = 1 + pointers_of r
 
 -- Where reading stops: the octets end, or what stands there begins no name that has room.
 pub data ReadFault : Type 0 where

@@ -1,7 +1,7 @@
 //! Laws over the definitions. Each is the contract of a function that does nothing.
 ghost use Rattle.std.specs.Prelude.{ℕ, List};
 ghost use Rattle.definitions.specs.Name.{Name};
-ghost use Rattle.definitions.specs.Laws.{OrdersNames, IsInterval, OneLinkSpeaks, OneHashLinkSpeaks, WireSpells, SignedOctetsSpell, OrderMeansNothing, SpellsSet, OneSpelling, ReadsExactly, ReadingIsShort};
+ghost use Rattle.definitions.specs.Laws.{OrdersNames, IsInterval, OneLinkSpeaks, OneHashLinkSpeaks, WireSpells, SignedOctetsSpell, OrderMeansNothing, SpellsSet, OneSpelling, ReadsExactly, EndsOnce, ReadingIsShort};
 
 /// Names have one canonical order up to ASCII case, and are equal in it exactly where they are the same up to
 /// case (RFC 4034, 6.1).
@@ -52,10 +52,15 @@ pub fn equal_bitmaps_are_equal_sets()
     ensures { OneSpelling }
 {}
 
-/// A name is read, with at most so many pointers, exactly where a name of at most 255 octets stands
-/// (RFC 1035, 4.1.4).
+/// A name is read, with at most so many pointers, exactly where a name of at most 255 octets stands, and ends where
+/// that ends: behind its first pointer or its root octet (RFC 1035, 4.1.4).
 pub fn names_are_read_where_they_stand()
     ensures { ReadsExactly }
+{}
+
+/// At one place stands one name at most, and it ends at one place, within the octets.
+pub fn a_name_ends_once()
+    ensures { (m : List ℕ) → EndsOnce m }
 {}
 
 /// Reading a name of at most 255 octets through at most 255 pointers looks at no more than 383 heads.

@@ -203,13 +203,17 @@ pushed_at b s in_label v Full g n h long name = tt
 abbrev read_then : Building → Option (List Symbol) → Option Name
 read_then b o = elim o [ None ↦ None | Some ss ↦ read_behind b.done b.open_label ss ]
 
--- a symbol at the front of a text
-pub text_step : (b now : Building) (text later : List ℕ) (s : Symbol) → symbols_of text ≡ option_map (λ us. s ∷ us) (symbols_of later) → ((ss : List Symbol) → continued b (s ∷ ss) ≡ continued now ss) → text_behind b text ≡ text_behind now later
-text_step b now text later s e h = ap (read_then b) e ∙ go (symbols_of later)
+-- symbols at the front of a text
+pub text_steps : (b now : Building) (text later : List ℕ) (ss : List Symbol) → symbols_of text ≡ option_map (λ us. ss ++ us) (symbols_of later) → ((us : List Symbol) → continued b (ss ++ us) ≡ continued now us) → text_behind b text ≡ text_behind now later
+text_steps b now text later ss e h = ap (read_then b) e ∙ go (symbols_of later)
   where
-    go : (o : Option (List Symbol)) → read_then b (option_map (λ us. s ∷ us) o) ≡ read_then now o
+    go : (o : Option (List Symbol)) → read_then b (option_map (λ us. ss ++ us) o) ≡ read_then now o
     go None = refl
     go (Some us) = ap if_open_short (h us)
+
+-- one of them
+pub text_step : (b now : Building) (text later : List ℕ) (s : Symbol) → symbols_of text ≡ option_map (λ us. s ∷ us) (symbols_of later) → ((ss : List Symbol) → continued b (s ∷ ss) ≡ continued now ss) → text_behind b text ≡ text_behind now later
+text_step b now text later s e h = text_steps b now text later (s ∷ []) e h
 
 -- a text that stops
 pub text_stops : (b : Building) (text later : List ℕ) (s : Symbol) → symbols_of text ≡ option_map (λ us. s ∷ us) (symbols_of later) → ((ss : List Symbol) → if_open_short (continued b (s ∷ ss)) ≡ None) → text_behind b text ≡ None

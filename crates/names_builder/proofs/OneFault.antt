@@ -2,7 +2,7 @@
 use Rattle.std.proofs.Common.{◌≡◌, ◌⊎◌, inl, inr, ℕ, ◌+◌, ◌≤◌, Bool, true, false, cond, List, [], ◌∷◌, ◌++◌, length, refl, sym, ap, ◌∙◌, arith, nat_le, length-append, subst, Option, Some, None}
 use Rattle.std.specs.Option.{option_map}
 use Rattle.std.proofs.lemmas.Bool.{eqb-true}
-use Rattle.std.proofs.lemmas.List.{same_from_push, nil_from_length}
+use Rattle.std.proofs.lemmas.List.{same_from_push, nil_from_length, append-nil}
 use Rattle.definitions.specs.Name.{Name, Label, wire_len}
 use Rattle.definitions.specs.Text.{Symbol, Plain, Quoted, Decimal, is_symbol, is_dot, is_bracket, octet, symbols_of}
 use Rattle.names_wire.specs.Spelled.{in_turn}
@@ -15,10 +15,11 @@ use Rattle.names_labels.proofs.Taken.{taken, fits, fitting, taken_pieces}
 use Rattle.names_labels.proofs.Wholes.{some_taken, read_first}
 use Rattle.names_builder.specs.Building.{Building}
 use Rattle.names_builder.specs.Fault.{AddsOctet, FaultAt, CharFault}
-use Rattle.names_builder.specs.FromText.{GoesOn, standing, continued, symbols_behind, FirstFault, NameFault, RelativeFault}
+use Rattle.names_builder.specs.FromText.{GoesOn, standing, continued, symbols_behind, text_behind, FirstFault, NameFault, RelativeFault, IsAbsolute}
 use Rattle.names_builder.specs.declared.text_error.Fault.{Fault}
 use Rattle.names_builder.specs.declared.text_error.Fault.TheVariants.{Symbol as BadText, BinaryLabel, LongLabel, EmptyLabel, LongName}
-use Rattle.names_builder.proofs.FromTexts.{at_octet, cannot, full_label, too_long, no_dot_first, no_bracket_dot}
+use Rattle.names_builder.proofs.FromTexts.{at_octet, cannot, full_label, too_long, no_dot_first, no_bracket_dot, text_stops}
+use Rattle.names_builder.proofs.WholeTexts.{not_absolute}
 
 abbrev nothing : Building
 nothing = record { done = []; open_label = [] }
@@ -246,3 +247,26 @@ one_fault text f g (inr p) (inr q) = one_first text f g p.0 q.0 p.1 q.1
 
 pub one_relative_fault : (text : List ℕ) (f g : Fault) → RelativeFault in_turn text f → RelativeFault in_turn text g → f ≡ g
 one_relative_fault text f g p q = one_first text f g p.0 q.0 p.1 q.1
+
+-- ---- a fault, or an absolute name
+
+-- nothing is read of a text that has a fault
+nothing_read : (text : List ℕ) (f : Fault) (b : Building) → FirstFault in_turn text [] nothing b f → text_behind nothing text ≡ None
+nothing_read text f b o =
+    ap (text_behind nothing) (given o.stop.text text o.stop.after o.stop.yields) ∙ o.stop.onward o.stop.after ∙ go o.fault
+  where
+    short : length b.open_label ≤ 63
+    short = (read_behind_symbols b o.stop.symbols o.stop.stands).0
+
+    at_char : (ch : ℕ) (t : List ℕ) → CharFault b o.stop.unfinished ch f → text_behind b (o.stop.unfinished ++ ch ∷ t) ≡ None
+    at_char ch t (inl p) = ap (λ r. elim r as (λ _. Option Name) [ None ↦ None | Some ss ↦ symbols_behind b ss ]) (p.1 t)
+    at_char ch t (inr p) = text_stops b (o.stop.unfinished ++ ch ∷ t) t p.0 (p.1 t) (refused_there b p.0 f short p.2)
+
+    go : FaultThere f b o.stop.unfinished o.stop.after → text_behind b (o.stop.unfinished ++ o.stop.after) ≡ None
+    go (inl p) = ap (λ x. text_behind b (o.stop.unfinished ++ x)) p.2 ∙ at_char p.0 p.1 p.3
+    go (inr p) =
+        ap (λ x. text_behind b (o.stop.unfinished ++ x)) p.1 ∙ ap (text_behind b) (append-nil o.stop.unfinished)
+        ∙ ap (λ r. elim r as (λ _. Option Name) [ None ↦ None | Some ss ↦ symbols_behind b ss ]) p.2
+
+pub not_both_refused : (text : List ℕ) (f : Fault) → RelativeFault in_turn text f → IsAbsolute text → ⊥
+not_both_refused text f p = not_absolute text (nothing_read text f p.0 p.1)

@@ -8,14 +8,14 @@ use Rattle.names_wire.specs.Symbols.{is_begun}
 use Rattle.names_wire.proofs.PartLabel.{same_option, joined}
 use Rattle.names_labels.specs.Open.{if_open_short}
 use Rattle.names_builder.specs.Building.{Building, IsShort}
-use Rattle.names_builder.specs.FromText.{standing, continued, symbols_behind, AddsChar, StopsInText, FirstFault}
+use Rattle.names_builder.specs.FromText.{standing, continued, symbols_behind, text_behind, AddsChar, StopsInText, FirstFault}
 use Rattle.names_builder.specs.Fault.{CharFault, fault_of, named}
 use Rattle.names_builder.specs.declared.text_error.Fault.TheVariants.{Symbol as BadText}
 use Rattle.names_builder.specs.declared.text_error.FromStrError.{FromStrError}
 use Rattle.names_builder.specs.declared.text_error.FromStrError.TheVariants.{Presentation, ShortBuf}
 use Rattle.names_wire.specs.declared.symbol.SymbolCharsError.{SymbolCharsError}
 use Rattle.names_wire.specs.declared.symbol.SymbolCharsError.TheVariants.{ShortInput}
-use Rattle.names_builder.proofs.FromTexts.{nothing_follows}
+use Rattle.names_builder.proofs.FromTexts.{nothing_follows, text_steps}
 
 -- The text is some whole symbols, which the builder has read, and characters that are left.
 pub record PartText (text left : List ℕ) (old now : Building) : Type 0 where
@@ -64,6 +64,10 @@ stops steps s t before text left old now new p h e b y = record {
   reads = p.reads;
   begins = b;
   stands = ap (symbols_behind old) (sym (append-nil p.symbols)) ∙ ap if_open_short (p.onward []) ∙ nothing_follows now h ∙ ap (λ x. Some (standing x)) (sym e);
+  onward = λ rest.
+      ap (text_behind old) (sym (append_assoc before text rest) ∙ ap (λ t. t ++ rest) p.divided ∙ append_assoc p.whole left rest)
+      ∙ text_steps old now (p.whole ++ (left ++ rest)) (left ++ rest) p.symbols (p.reads (left ++ rest)) p.onward
+      ∙ ap (λ x. text_behind x (left ++ rest)) (sym e);
 }
 
 -- the next character is refused

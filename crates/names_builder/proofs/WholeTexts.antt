@@ -25,8 +25,8 @@ use Rattle.names_builder.specs.declared.text_error.Fault.{Fault}
 use Rattle.names_builder.specs.declared.text_error.Fault.TheVariants.{EmptyLabel}
 use Rattle.names_builder.specs.declared.text_error.FromStrError.{FromStrError}
 use Rattle.names_builder.specs.declared.text_error.FromStrError.TheVariants.{Presentation, ShortBuf}
-use Rattle.names_builder.specs.FromText.{standing, continued, symbols_behind, text_behind, AddsChar, StopsInText, FirstFault, NameFault, RelativeFault, StopsAtSymbol, FirstSymbolFault, SymbolsFault}
-use Rattle.names_builder.proofs.FromTexts.{without_last}
+use Rattle.names_builder.specs.FromText.{standing, continued, symbols_behind, text_behind, AddsChar, StopsInText, FirstFault, NameFault, RelativeFault, StopsAtSymbol, FirstSymbolFault, SymbolsFault, IsAbsolute}
+use Rattle.names_builder.proofs.FromTexts.{text_step, without_last}
 
 abbrev nothing : Building
 nothing = record { done = []; open_label = [] }
@@ -165,6 +165,32 @@ absolute_text b now (c ∷ text) e h o n = go (nat_eq c 46) refl
         let d : None ≡ Some (standing now) = sym (dot_reads_nothing text) ∙ ap (λ x. text_behind nothing (x ∷ text)) (sym (eqb-true c 46 k)) ∙ ap (λ x. text_behind x (c ∷ text)) (sym e) ∙ h in
         cc
 
+-- where labels are ended, one is the first
+pub first_ended : (now : Building) → now.open_label ≡ [] → (length (octets_of_building now) ≡ 0 → ⊥) → (l : Label) × (n : Name) × (all_labels now ≡ l ∷ n)
+first_ended now e n = go now.done now.open_label e n
+  where
+    go : (done : Name) (l : Label) → l ≡ [] → (length (octets_of_building (record { done = done; open_label = l })) ≡ 0 → ⊥) → (m : Label) × (rest : Name) × (all_labels (record { done = done; open_label = l }) ≡ m ∷ rest)
+    go [] [] x k = absurd (k refl)
+    go [] (o ∷ os) x k = cc
+    go (m ∷ done) [] x k = (m, done, refl)
+    go (m ∷ done) (o ∷ os) x k = cc
+
+-- a text behind which nothing is read spells no absolute name but the root
+pub not_absolute : (text : List ℕ) → text_behind nothing text ≡ None → IsAbsolute text → ⊥
+not_absolute [] e a = cc
+not_absolute (c ∷ text) e a = go (nat_eq c 46) refl
+  where
+    behind : (o : Option (List Symbol)) → elim (option_map (λ ss. Plain 46 ∷ ss) o) as (λ _. Option Name) [ None ↦ None | Some ss ↦ name_of_symbols ss ] ≡ Some (a.0 ∷ a.1) → ⊥
+    behind None h = cc
+    behind (Some []) h = cc
+    behind (Some (s ∷ ss)) h = let x : None ≡ Some (a.0 ∷ a.1) = sym (behind_dot (Plain 46) s ss refl) ∙ h in cc
+
+    go : (t : Bool) → nat_eq c 46 ≡ t → ⊥
+    go false k =
+        let x : None ≡ Some (a.0 ∷ a.1) = sym (name_of_plain c text k ∙ ap (option_map without_empty) e) ∙ a.2 in
+        cc
+    go true k = behind (symbols_of text) (ap (λ x. name_of_text (x ∷ text)) (sym (eqb-true c 46 k)) ∙ a.2)
+
 -- a text that spells nothing behind nothing is no relative name
 not_relative : (b : Building) (text : List ℕ) → b ≡ nothing → text_behind b text ≡ None → relative_of_text text ≡ None
 not_relative b [] e h = let x : Some ([] ∷ []) ≡ None = ap (λ y. text_behind y []) (sym e) ∙ h in cc
@@ -181,7 +207,7 @@ same_end n t e f h = let x : true ≡ false = sym (e ∙ ap (λ m. nat_eq m 0) h
 
 -- nothing is read yet
 abbrev at_start : {S : Type 0} (steps : S → Option ℕ → S → Type 0) (s : S) → StopsInText steps s [] nothing nothing
-at_start steps s = record { text = []; whole = []; symbols = []; unfinished = []; after = s; yields = refl; divided = refl; reads = λ rest. sym (same_option (symbols_of rest)); begins = refl; stands = refl }
+at_start steps s = record { text = []; whole = []; symbols = []; unfinished = []; after = s; yields = refl; divided = refl; reads = λ rest. sym (same_option (symbols_of rest)); begins = refl; stands = refl; onward = λ rest. refl }
 
 -- a dot in front of all
 pub dot_first : {S : Type 0} (steps : S → Option ℕ → S → Type 0) (s t : S) (c : ℕ) (f : Fault) → steps s (Some c) t → c ≡ 46 → f ≡ EmptyLabel → FirstFault steps s [] nothing nothing f
@@ -218,6 +244,7 @@ behind_first steps s t c now new later f h (inl a) o = record {
     reads = o.stop.reads;
     begins = o.stop.begins;
     stands = ap (λ x. symbols_behind x o.stop.symbols) (sym a.0) ∙ o.stop.stands;
+    onward = λ rest. (λ j. text_behind (sym a.0 j) (sym a.1 j ++ (o.stop.text ++ rest))) ∙ o.stop.onward rest;
   };
   fault = o.fault;
 }
@@ -233,6 +260,9 @@ behind_first steps s t c now new later f h (inr a) o = record {
     reads = λ rest. a.1 (o.stop.whole ++ rest) ∙ ap (option_map (λ ss. a.0 ∷ ss)) (o.stop.reads rest) ∙ then_more a.0 o.stop.symbols (symbols_of rest);
     begins = o.stop.begins;
     stands = ap if_open_short (a.2 o.stop.symbols) ∙ o.stop.stands;
+    onward = λ rest.
+        text_step nothing now (c ∷ (o.stop.text ++ rest)) (o.stop.text ++ rest) a.0 (a.1 (o.stop.text ++ rest)) a.2
+        ∙ ap (λ l. text_behind now (l ++ (o.stop.text ++ rest))) (sym a.3) ∙ o.stop.onward rest;
   };
   fault = o.fault;
 }
@@ -288,6 +318,7 @@ first_in_text s before old new f u o =
         reads = o.stop.reads;
         begins = o.stop.begins;
         stands = o.stop.stands;
+        onward = o.stop.onward;
       };
       fault = elim o.fault [
         | inl p ↦ inl (p.0, chars (chars_rest p.1), (characters after p.1 (p.0 ∷ []) read.1 (p.1, p.2, refl)).0, p.3)

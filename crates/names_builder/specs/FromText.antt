@@ -2,8 +2,8 @@
 use Rattle.std.specs.Prelude.{◌≡◌, ◌⊎◌, ℕ, Bool, true, false, List, [], ◌∷◌, ◌++◌, map, Option, Some, None, IfSome}
 use Rattle.std.specs.Option.{option_map}
 use Rattle.std.specs.Iterator.{Yields, Drains}
-use Rattle.definitions.specs.Name.{Name}
-use Rattle.definitions.specs.Text.{Symbol, symbols_of, pieces, is_dot, is_bracket, is_symbol, octet}
+use Rattle.definitions.specs.Name.{Name, Label}
+use Rattle.definitions.specs.Text.{Symbol, symbols_of, pieces, is_dot, is_bracket, is_symbol, octet, name_of_text}
 use Rattle.names_wire.specs.Symbols.{symbol_of, is_begun}
 use Rattle.names_wire.specs.declared.symbol.Symbol.{Symbol as WireSymbol}
 use Rattle.names_labels.specs.Open.{open_labels, read_behind}
@@ -103,6 +103,7 @@ pub record StopsInText {S : Type 0} (steps : S → Option ℕ → S → Type 0) 
   pub reads : (rest : List ℕ) → symbols_of (whole ++ rest) ≡ option_map (λ ss. symbols ++ ss) (symbols_of rest)
   pub begins : is_begun unfinished ≡ true
   pub stands : symbols_behind old symbols ≡ Some (standing new)
+  pub onward : (rest : List ℕ) → text_behind old (before ++ (text ++ rest)) ≡ text_behind new (unfinished ++ rest)
 
 -- The first fault of the characters that an iterator gives behind others: what was before it is read, and it is that
 -- of the next character, or of the end within an escape.
@@ -146,3 +147,11 @@ SymbolsFault {S} steps s f =
 -- the first fault of the characters that an iterator gives as a relative name
 abbrev pub RelativeFault : {S : Type 0} → (S → Option ℕ → S → Type 0) → S → Fault → Type 0
 RelativeFault {S} steps s f = (new : Building) × FirstFault steps s [] (record { done = []; open_label = [] }) new f
+
+-- The text spells an absolute name that has a label. The text of the root alone is refused as one with an empty label.
+abbrev pub IsAbsolute : List ℕ → Type 0
+IsAbsolute text = (l : Label) × (n : Name) × (name_of_text text ≡ Some (l ∷ n))
+
+-- the iterator gave such a text
+abbrev pub SpellsAbsolute : {S : Type 0} → (S → Option ℕ → S → Type 0) → S → Type 0
+SpellsAbsolute {S} steps s = (text : List ℕ) × Drains steps s text × IsAbsolute text

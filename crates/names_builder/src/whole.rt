@@ -2,11 +2,10 @@
 
 ghost use Rattle.std.specs.Prelude.{◌≡◌, true, None, Some, ℕ, List, IfOk, IfErr, IfSome, IsErrOf};
 ghost use Rattle.std.specs.Iterator.{IsFinite, Drains};
-ghost use Rattle.definitions.specs.Name.{Name as Labels};
 ghost use Rattle.definitions.specs.Text.{name_of_text, name_of_symbols, relative_of_text};
 ghost use Rattle.names_wire.specs.Spelled.{SpellsNothing};
 ghost use Rattle.names_builder.specs.Fault.{fault_of, relative_fault_of};
-ghost use Rattle.names_builder.specs.FromText.{NameFault, RelativeFault, SymbolsFault, is_text, is_relative_text, SymbolsSpell, SymbolsSpellNothing};
+ghost use Rattle.names_builder.specs.FromText.{NameFault, RelativeFault, SymbolsFault, is_text, is_relative_text, SymbolsSpell, SymbolsSpellNothing, SpellsAbsolute};
 ghost use Rattle.names_builder.specs.Building.{all_labels};
 
 use crate::builder::NameBuilder;
@@ -78,7 +77,7 @@ pub fn read_chars<C: Iterator<Item = char> + Drop>(
 }
 
 /// A builder with the labels of the relative name that the characters spell: none where there are none. A last dot
-/// is refused.
+/// is refused; a dot alone as an empty label.
 pub fn read_relative<C: Iterator<Item = char> + Drop>(
     alloc: Global,
     chars: C,
@@ -88,7 +87,7 @@ pub fn read_relative<C: Iterator<Item = char> + Drop>(
     ensures ok { IfOk result (λ n. (text : List ℕ) × Drains C.next_gives chars text × (relative_of_text text ≡ Some (all_labels n))) }
     ensures refused { IfErr result (λ e. is_relative_text e ≡ true → SpellsNothing C.next_gives chars relative_of_text) }
     ensures fault { IfErr result (λ e. IfSome (relative_fault_of e) (RelativeFault C.next_gives chars)) }
-    ensures absolute { IsErrOf result RelativeFromStrError.AbsoluteName → (text : List ℕ) × (n : Labels) × Drains C.next_gives chars text × (name_of_text text ≡ Some n) }
+    ensures absolute { IsErrOf result RelativeFromStrError.AbsoluteName → SpellsAbsolute C.next_gives chars }
 {
     let mut builder = NameBuilder::new(alloc);
     builder.append_chars(chars)?;

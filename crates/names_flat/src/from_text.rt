@@ -3,11 +3,10 @@
 ghost use Rattle.std.specs.Prelude.{◌≡◌, true, None, Some, ℕ, List, IfOk, IfErr, IfSome, IsErrOf};
 ghost use Rattle.std.specs.Iterator.{IsFinite, Drains};
 ghost use Rattle.std.specs.Str.{chars as chars_of};
-ghost use Rattle.definitions.specs.Name.{Name as Labels};
 ghost use Rattle.definitions.specs.Text.{name_of_text, name_of_symbols, relative_of_text};
 ghost use Rattle.names_wire.specs.Spelled.{SpellsNothing, in_turn};
 ghost use Rattle.names_builder.specs.Fault.{fault_of, relative_fault_of};
-ghost use Rattle.names_builder.specs.FromText.{is_text, is_relative_text, NameFault, RelativeFault, SymbolsFault, SymbolsSpell, SymbolsSpellNothing};
+ghost use Rattle.names_builder.specs.FromText.{is_text, is_relative_text, NameFault, RelativeFault, SymbolsFault, SymbolsSpell, SymbolsSpellNothing, IsAbsolute, SpellsAbsolute};
 
 use crate::builder::Finish;
 use crate::name::Name;
@@ -59,7 +58,8 @@ impl Name<Vec<u8>> {
 }
 
 impl RelativeName<Vec<u8>> {
-    /// The relative name that the characters spell: the empty one where there are none. A last dot is refused.
+    /// The relative name that the characters spell: the empty one where there are none. A last dot is refused; a
+    /// dot alone as an empty label.
     pub fn from_chars<C: Iterator<Item = char> + Drop>(
         alloc: Global,
         chars: C,
@@ -69,7 +69,7 @@ impl RelativeName<Vec<u8>> {
         ensures ok { IfOk result (λ n. (text : List ℕ) × Drains C.next_gives chars text × (relative_of_text text ≡ Some n)) }
         ensures refused { IfErr result (λ e. is_relative_text e ≡ true → SpellsNothing C.next_gives chars relative_of_text) }
         ensures fault { IfErr result (λ e. IfSome (relative_fault_of e) (RelativeFault C.next_gives chars)) }
-        ensures absolute { IsErrOf result RelativeFromStrError.AbsoluteName → (text : List ℕ) × (n : Labels) × Drains C.next_gives chars text × (name_of_text text ≡ Some n) }
+        ensures absolute { IsErrOf result RelativeFromStrError.AbsoluteName → SpellsAbsolute C.next_gives chars }
     {
         Ok(read_relative(alloc, chars)?.finish())
     }
@@ -79,7 +79,7 @@ impl RelativeName<Vec<u8>> {
         ensures ok { IfOk result (λ n. relative_of_text (chars_of text.now) ≡ Some n) }
         ensures refused { IfErr result (λ e. is_relative_text e ≡ true → relative_of_text (chars_of text.now) ≡ None) }
         ensures fault { IfErr result (λ e. IfSome (relative_fault_of e) (RelativeFault in_turn (chars_of text.now))) }
-        ensures absolute { IsErrOf result RelativeFromStrError.AbsoluteName → (n : Labels) × (name_of_text (chars_of text.now) ≡ Some n) }
+        ensures absolute { IsErrOf result RelativeFromStrError.AbsoluteName → IsAbsolute (chars_of text.now) }
     {
         RelativeName::from_chars(alloc, text.chars())
     }

@@ -16,7 +16,7 @@ step all here rest found = elim found [
 ]
 
 -- where no label is split off
-row_err : (all : ℕ) (xs : List ℕ) (e : SplitLabelError) → split xs ≡ Err e → row_behind all 0 xs ≡ record { labels = []; onward = leads_to all (length xs) e }
+pub row_err : (all : ℕ) (xs : List ℕ) (e : SplitLabelError) → split xs ≡ Err e → row_behind all 0 xs ≡ record { labels = []; onward = leads_to all (length xs) e }
 row_err all [] e h = ap (λ (r : Result (List ℕ × List ℕ) SplitLabelError). elim r as (λ _. Row) [ Ok x ↦ stop | Err e ↦ record { labels = []; onward = leads_to all 0 e } ]) h
 row_err all (b ∷ rest) e h = ap (step all (length (b ∷ rest)) rest) h
 
@@ -58,7 +58,7 @@ row_label all [] l ls rest h = cc
 row_label all (b ∷ bs) l ls rest h = ap (step all (length (b ∷ bs)) bs) h ∙ ap (with_label (l ∷ ls)) (skipped all (length (l ∷ ls)) bs ∙ ap (row_behind all 0) (behind b bs (l ∷ ls) rest h))
 
 -- the labels of a row, and of what it leads to
-abbrev onto : ℕ → List ℕ → Row → List (List ℕ)
+abbrev pub onto : ℕ → List ℕ → Row → List (List ℕ)
 onto k m r = r.labels ++ (elim r.onward [ None ↦ [] | Some q ↦ labels_along k m q ])
 
 pub along_end : (k : ℕ) (m : List ℕ) → labels_along k m (length m) ≡ []

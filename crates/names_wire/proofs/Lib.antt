@@ -6,3 +6,4 @@ pub mod PartLabel
 pub mod Printed
 pub mod Characters
 pub mod LabelFaults
+pub mod AlongNames

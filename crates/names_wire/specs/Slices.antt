@@ -1,5 +1,7 @@
 -- The labels at a place of some octets, from one to the next and through pointers (RFC 1035, 4.1.4).
-use Rattle.std.specs.Prelude.{ℕ, zero, suc, ◌+◌, List, [], ◌∷◌, ◌++◌, length, drop, Option, Some, None, Ok, Err, nat_lt, if◌then◌else◌}
+use Rattle.std.specs.Prelude.{◌≡◌, ◌↔◌, ℕ, zero, suc, ◌+◌, List, [], ◌∷◌, ◌++◌, length, drop, Option, Some, None, Ok, Err, nat_lt, if◌then◌else◌}
+use Rattle.definitions.specs.Name.{Name}
+use Rattle.definitions.specs.Reading.{Reads}
 use Rattle.names_wire.specs.Label.{split}
 use Rattle.names_wire.specs.declared.label.SplitLabelError.{SplitLabelError}
 use Rattle.names_wire.specs.declared.label.SplitLabelError.TheVariants.{Pointer, BadType, ShortInput}
@@ -42,3 +44,7 @@ row_at m p = row_behind (length m) 0 (drop p m)
 abbrev pub labels_along : ℕ → List ℕ → ℕ → List (List ℕ)
 labels_along zero m p = (row_at m p).labels
 labels_along (suc k) m p = (row_at m p).labels ++ (elim (row_at m p).onward [ None ↦ [] | Some q ↦ labels_along k m q ])
+
+-- From a place on there are the labels of a name, the root's last, exactly where the name stands there.
+abbrev pub AlongNames : Type 0
+AlongNames = (m : List ℕ) (p k : ℕ) (n : Name) → (labels_along k m p ≡ n ++ [] ∷ []) ↔ ((e : ℕ) × Reads m p k n e)

@@ -6,6 +6,7 @@ ghost use Rattle.definitions.specs.Name.{IsLabel};
 ghost use Rattle.definitions.specs.Text.{Symbol, Spells, label_of_text, symbols_of, text_of_label};
 ghost use Rattle.names_wire.specs.Spelled.{in_turn};
 ghost use Rattle.names_wire.specs.LabelFault.{FirstFault};
+ghost use Rattle.names_wire.specs.Slices.{AlongNames};
 ghost use Rattle.names_wire.specs.declared.owned.LabelFault.{LabelFault};
 
 /// What is printed of a label is read as the same octets (RFC 1035, 5.1).
@@ -16,6 +17,12 @@ pub fn printed_label_is_read_back()
 /// A text that is made of symbols is read as these, and so as no others (RFC 1035, 5.1).
 pub fn spelled_symbols_are_read()
     ensures { (text : List ℕ) (symbols : List Symbol) → Spells text symbols → symbols_of text ≡ Some symbols }
+{}
+
+/// The labels of octets from a place on, through pointers, end with the root's label exactly where a name stands there,
+/// and are its labels (RFC 1035, 4.1.4).
+pub fn labels_along_are_names()
+    ensures { AlongNames }
 {}
 
 /// A text that is refused as a label has one fault.

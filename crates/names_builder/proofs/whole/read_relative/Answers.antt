@@ -1,10 +1,10 @@
-use Rattle.std.proofs.Common.{◌≡◌, ◌∙◌, sym, inr, length, Some, true, false}
+use Rattle.std.proofs.Common.{◌≡◌, ◌∙◌, sym, ap, inr, length, Some, true, false}
 use Rattle.std.proofs.lemmas.Bool.{eqb-true}
 use Rattle.std.proofs.lemmas.Result.{err_from_is_err_and}
 use Rattle.definitions.specs.Text.{relative_of_text}
 use Rattle.names_builder.specs.Building.{octets_of_building, all_labels}
 use Rattle.names_builder.proofs.FromTexts.{shut_back}
-use Rattle.names_builder.proofs.WholeTexts.{relative_fault, nothing_relative, relative_open, relative_none, no_relative, absolute_text, same_end}
+use Rattle.names_builder.proofs.WholeTexts.{relative_fault, nothing_relative, relative_open, relative_none, no_relative, absolute_text, first_ended, same_end}
 use Rattle.names_builder.proofs.whole.read_relative.Goals as goal
 use Rattle.names_builder.proofs.whole.read_relative.Goals.{then-in_label, else-in_label}
 
@@ -39,15 +39,15 @@ returns-else-is_empty-clause-refused g c = λ h.
 pub returns-else-is_empty-clause-absolute : goal.returns-else-is_empty-clause-absolute
 returns-else-is_empty-clause-absolute g c = λ h.
     let r = c.in_ok-append_chars.ensures.ok in
-    let now = c.append_chars.new.self in (
-      r.0,
-      all_labels now,
-      r.1,
-      elim c.if-in_label.branch [
-        | then-in_label w ↦ let x : true ≡ false = sym w.if-in_label.true ∙ sym w.value-is ∙ c.if-is_empty.false in absurd (cc)
-        | else-in_label w ↦ absolute_text c.new-builder.result now r.0 c.new-builder.ensures r.2 (shut_back _ _ c.in_label.ensures w.if-in_label.false) (same_end (length (octets_of_building now)) _ w.is_empty.ensures (sym w.value-is ∙ c.if-is_empty.false))
-      ],
-    )
+    let now = c.append_chars.new.self in
+    elim c.if-in_label.branch [
+      | then-in_label w ↦ let x : true ≡ false = sym w.if-in_label.true ∙ sym w.value-is ∙ c.if-is_empty.false in absurd (cc)
+      | else-in_label w ↦
+          let ended = shut_back _ _ c.in_label.ensures w.if-in_label.false in
+          let some = same_end (length (octets_of_building now)) _ w.is_empty.ensures (sym w.value-is ∙ c.if-is_empty.false) in
+          let first = first_ended now ended some in
+          (r.0, r.1, (first.0, first.1, absolute_text c.new-builder.result now r.0 c.new-builder.ensures r.2 ended some ∙ ap Some first.2))
+    ]
 
 pub returns-in_err-append_chars-clause-fault : goal.returns-in_err-append_chars-clause-fault
 returns-in_err-append_chars-clause-fault g c =

@@ -20,7 +20,9 @@ returns-clause-refused c =
     (λ e r h. nothing_in_text c.chars.result c.args.text.now relative_of_text c.utf8.text c.chars.ensures.rest (r h)) c.from_chars.ensures.refused
 
 pub returns-clause-absolute : goal.returns-clause-absolute
-returns-clause-absolute c = λ h. let r = c.from_chars.ensures.absolute h in (r.1, ap name_of_text (chars_are c.chars.result c.args.text.now r.0 c.utf8.text c.chars.ensures.rest r.2) ∙ r.3)
+returns-clause-absolute c = λ h.
+    let r = c.from_chars.ensures.absolute h in
+    (r.2.0, r.2.1, ap name_of_text (chars_are c.chars.result c.args.text.now r.0 c.utf8.text c.chars.ensures.rest r.1) ∙ r.2.2)
 
 pub returns-clause-fault : goal.returns-clause-fault
 returns-clause-fault c =

@@ -1,0 +1,4 @@
+pub mod Errors
+pub mod Reader
+pub mod Serials
+pub mod SerialText
