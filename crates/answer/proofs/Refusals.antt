@@ -9,6 +9,7 @@ use Rattle.std.proofs.lemmas.List.{append-nil, take-append-drop}
 use Rattle.std.specs.Int.{w16, w32, to_be_bytes}
 use Rattle.definitions.specs.Name.{Name, wire, wire_len}
 use Rattle.definitions.specs.Dnskey.{Dnskey}
+use Rattle.definitions.specs.Zone.{apex_of}
 use Rattle.answer.specs.declared.publisher.fault.AnswerFault.{AnswerFault}
 use Rattle.answer.specs.declared.publisher.fault.AnswerFault.TheVariants as fault
 use Rattle.answer_judge.specs.declared.scheme.SchemeError.{SchemeError}
@@ -189,7 +190,7 @@ answer_refused sign verifies s apex at life keys asked gs fault.SignFailed z r =
 answer_refused sign verifies s apex at life keys asked gs fault.TooLong z r = (gs, z, r)
 
 pub keys_refused : (sign : Dnskey → List ℕ → Option (List ℕ)) (verifies : Dnskey → List ℕ → List ℕ → Bool) (s : Served) (apex : Name) (at life : ℕ) (present keys : List Dnskey) (g : GroupView) (f : AnswerFault)
-    → Presents g (key_group apex (s.ttl_of s.zone.apex 6) present) → RefusesGroups sign verifies apex at life keys (ahead_of_records (record { name = apex; rtype = 48; class = 1 })) (g ∷ []) f → RefusesKeys sign verifies s apex at life present keys f
+    → Presents g (key_group apex (s.ttl_of (apex_of s.zone) 6) present) → RefusesGroups sign verifies apex at life keys (ahead_of_records (record { name = apex; rtype = 48; class = 1 })) (g ∷ []) f → RefusesKeys sign verifies s apex at life present keys f
 keys_refused sign verifies s apex at life present keys g fault.Memory z r = tt
 keys_refused sign verifies s apex at life present keys g fault.QuestionNotAllowed z r = (g, z, r)
 keys_refused sign verifies s apex at life present keys g fault.HashFailed z r = (g, z, r)

@@ -3,6 +3,7 @@ use Rattle.std.proofs.Common.{◌≡◌, ℕ, Bool, false, ◌||◌, List, [], �
 use Rattle.std.specs.List.{AllByRecursion}
 use Rattle.definitions.specs.Dnskey.{Dnskey}
 use Rattle.definitions.specs.ZoneChain.{Mode, Nsec}
+use Rattle.definitions.specs.Zone.{apex_of}
 use Rattle.answer.specs.Answering.{AnswersKeys, AnswersZone}
 use Rattle.answer_judge.specs.Given.{GivesAnswer, GivesKeys}
 use Rattle.records.specs.Handed.{AreHanded}
@@ -31,5 +32,5 @@ pub keys_given : (sign : Dnskey → List ℕ → Option (List ℕ)) (verifies : 
 keys_given sign verifies hash z at life present signers m handed w =
     let asked : Asked = record { name = z.apex; rtype = 48; class = 1 } in
     let s = served hash z in
-    answer_gives sign verifies z.apex at life (by_tag signers) 33792 asked (w.group ∷ []) [] (key_group z.apex (s.ttl_of s.zone.apex 6) present ∷ []) m
+    answer_gives sign verifies z.apex at life (by_tag signers) 33792 asked (w.group ∷ []) [] (key_group z.apex (s.ttl_of (apex_of s.zone) 6) present ∷ []) m
     handed.apex_is (record { name = handed.apex_is; rtype = lit< tt; class = lit< tt }) (keys_formed z.apex z.records handed present, tt) (w.presents, tt) w.written

@@ -67,7 +67,7 @@ link_formed apex hash rs p h o name =
       owner = first_name rs o h.records_are name;
       rtype = lit< tt;
       ttl = chain_small 4294967296 (lit< tt) apex rs (ttls rs h.records_are);
-      datas = (reads_nsec _ (bitmap (nsec_types z o)) (spelled_name apex rs (nsec_next z o) h.apex_is h.records_are next) (spells_set (nsec_types z o)).spelled, tt);
+      datas = (reads_nsec _ (bitmap (nsec_types z true o)) (spelled_name apex rs (nsec_next z o) h.apex_is h.records_are next) (spells_set (nsec_types z true o)).spelled, tt);
     }
 
 links_formed : (apex : Name) (hash : Name → List ℕ) (rs : List HandedRr) → IsPublished apex rs → AreHanded apex rs → (ns : List Name) → AllByRecursion IsName ns → AllByRecursion IsFormed (map (chain_record (served_of apex Nsec hash rs)) ns)

@@ -6,7 +6,7 @@ use Rattle.std.proofs.lemmas.Bool.{and_parts, false_from_ne_true, or_parts}
 use Rattle.std.proofs.lemmas.List.Folds.{list_any-append}
 use Rattle.definitions.specs.Bitmap.{bitmap, bitmap_has}
 use Rattle.definitions.specs.Name.{Name, low, labels_eq, at_or_above, strictly_above}
-use Rattle.definitions.specs.Zone.{Rr, Zone, has, is_delegation}
+use Rattle.definitions.specs.Zone.{Rr, Zone, owner_of, has, is_delegation}
 use Rattle.definitions.specs.ZoneChain.{types_at, at_apex}
 use Rattle.definitions.proofs.BitmapLaws.{spells_set}
 use Rattle.records.specs.HandedRr.{HandedRr, among}
@@ -17,11 +17,11 @@ use Rattle.answer_zone.specs.ZoneView.{IsPublished}
 use Rattle.answer_zone.proofs.ZoneServed.{no_delegation}
 use Rattle.records.proofs.Lists.{eqb-back}
 
-any_at : (t : ℕ) (o : Name) (rs : List Rr) → list_any (nat_eq t) (map (λ r. r.rtype) (filter (λ r. labels_eq r.owner o) rs)) ≡ list_any (λ r. labels_eq r.owner o && eqb r.rtype t) rs
+any_at : (t : ℕ) (o : Name) (rs : List Rr) → list_any (nat_eq t) (map (λ r. r.rtype) (filter (λ r. labels_eq (owner_of r) o) rs)) ≡ list_any (λ r. labels_eq (owner_of r) o && eqb r.rtype t) rs
 any_at t o [] = refl
 any_at t o (r ∷ rs) =
-    let rest : List Rr = filter (λ r. labels_eq r.owner o) rs in
-    elim (labels_eq r.owner o) as (λ b. list_any (nat_eq t) (map (λ r. r.rtype) (cond b (r ∷ rest) rest)) ≡ ((b && eqb r.rtype t) || list_any (λ r. labels_eq r.owner o && eqb r.rtype t) rs)) [
+    let rest : List Rr = filter (λ r. labels_eq (owner_of r) o) rs in
+    elim (labels_eq (owner_of r) o) as (λ b. list_any (nat_eq t) (map (λ r. r.rtype) (cond b (r ∷ rest) rest)) ≡ ((b && eqb r.rtype t) || list_any (λ r. labels_eq (owner_of r) o && eqb r.rtype t) rs)) [
       | true ↦ λ i. eqb-back t r.rtype i || any_at t o rs i
       | false ↦ any_at t o rs
     ]

@@ -9,7 +9,7 @@ use Rattle.std.proofs.lemmas.List.Elements.{filter_map-append}
 use lib.Pointwise.{bytes_decides}
 use Rattle.definitions.specs.Name.{Name, low, same}
 use Rattle.definitions.specs.Dnskey.{Dnskey, Ds, dnskey_data, dnskey_of_data, key_tag}
-use Rattle.definitions.specs.Zone.{sorted_data}
+use Rattle.definitions.specs.Zone.{apex_of, sorted_data}
 use Rattle.records.specs.HandedRr.{HandedRr}
 use Rattle.answer_judge.specs.Answers.{Answers}
 use Rattle.answer_judge.specs.Facts.{digests_to, is_trusted, is_usable, names_key}
@@ -84,7 +84,7 @@ are_data ks small = all_has (IsKeyData ks) (present_data ks) (λ d h. key_data k
 -- the keys of the answer are those that are present, in order of their data
 pub keys_given : (v : Dnskey → List ℕ → List ℕ → Bool) (k : ℕ) (s : Served) (apex : Name) (present signers : List Dnskey) (at life : ℕ) (bytes : List ℕ) → (g : GivesKeys v k s apex present signers at life bytes) → keys_in bytes apex g.read.records ≡ filter_map dnskey_of_data (present_data present)
 keys_given v k s apex present signers at life bytes g =
-    keys_among v k bytes g.read.records apex at life (by_tag signers) (key_group apex (s.ttl_of s.zone.apex 6) present) refl refl g.groups_are
+    keys_among v k bytes g.read.records apex at life (by_tag signers) (key_group apex (s.ttl_of (apex_of s.zone) 6) present) refl refl g.groups_are
 
 module _ (v : Dnskey → List ℕ → List ℕ → Bool) (k : ℕ) (s : Served) (apex : Name) (present signers : List Dnskey) (at life : ℕ) (bytes : List ℕ) (g : GivesKeys v k s apex present signers at life bytes) (small : Small present) where
   abbrev read_keys : List Dnskey
@@ -144,7 +144,7 @@ chained_given a k h rs given =
     let kept : Has keys anchor = keys_has a.verifies k s h.apex present given.keysigners given.keys_at given.life h.dnskey_bytes gives small anchor there in
     let datas : map dnskey_data keys ≡ present_data present = keys_data a.verifies k s h.apex present given.keysigners given.keys_at given.life h.dnskey_bytes gives small in
     let w : Trusting = trusting a h (filter (is_trusted a h.apex h.ds) keys) in
-    let g : Group = key_group h.apex (s.ttl_of s.zone.apex 6) present in
+    let g : Group = key_group h.apex (s.ttl_of (apex_of s.zone) 6) present in
     let by : IsSignedBy w h.apex given.keys_at given.life (by_tag given.keysigners) (g ∷ []) g anchor = record {
       apex_is = refl;
       group = inl refl;

@@ -3,6 +3,7 @@ use Rattle.std.specs.Prelude.{◌≡◌, ℕ, ◌+◌, ◌%◌, Bool, true, List
 use Rattle.definitions.specs.Name.{Name, low}
 use Rattle.definitions.specs.Dnskey.{Dnskey, key_tag}
 use Rattle.definitions.specs.Signing.{Fields, label_count, signed_octets}
+use Rattle.definitions.specs.Zone.{apex_of}
 use Rattle.records.specs.Message.{Message, Asked, Spelled, message, canonical_data, rrsig_at}
 use Rattle.answer_zone.specs.Served.{Served, Group, answer_groups, key_group, by_tag}
 
@@ -74,7 +75,7 @@ pub record Gives (verifies : Dnskey → List ℕ → List ℕ → Bool) (k : ℕ
 -- the DNSKEY answer of the keys that are present, signed by the KSK roles that sign
 abbrev pub GivesKeys : (Dnskey → List ℕ → List ℕ → Bool) → ℕ → Served → Name → List Dnskey → List Dnskey → ℕ → ℕ → List ℕ → Type 0
 GivesKeys v k s apex present signers at life bytes =
-    Gives v k apex at life (by_tag signers) (record { name = apex; rtype = 48; class = 1 }) (key_group apex (s.ttl_of s.zone.apex 6) present ∷ []) bytes
+    Gives v k apex at life (by_tag signers) (record { name = apex; rtype = 48; class = 1 }) (key_group apex (s.ttl_of (apex_of s.zone) 6) present ∷ []) bytes
 
 -- a zone answer, signed by the ZSK roles that sign
 abbrev pub GivesAnswer : (Dnskey → List ℕ → List ℕ → Bool) → ℕ → Served → Name → List Dnskey → ℕ → ℕ → Asked → List ℕ → Type 0

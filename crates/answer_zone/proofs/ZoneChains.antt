@@ -205,7 +205,7 @@ next_is apex rs p =
     (behind_each (low apex) (record_links (low apex) rs) (links_rise (low apex) rs p.rising))
 
 -- the bits of a name of the chain
-types_are : (apex : Name) (rs : List HandedRr) → IsPublished apex rs → (o : Name) → nsec_types (zone_with apex rs) o ≡ types_at (zone_with apex rs) o ++ 46 ∷ 47 ∷ at_apex (zone_with apex rs) o (48 ∷ [])
+types_are : (apex : Name) (rs : List HandedRr) → IsPublished apex rs → (o : Name) → nsec_types (zone_with apex rs) true o ≡ types_at (zone_with apex rs) o ++ 46 ∷ 47 ∷ at_apex (zone_with apex rs) o (48 ∷ [])
 types_are apex rs p o = rw (no_delegation apex rs p.plain o)
 
 record_is : (apex : Name) (hash : Name → List ℕ) (rs : List HandedRr) → IsPublished apex rs → (o : Name) → chain_record (served_of apex Nsec hash rs) o ≡ link_group apex rs o (nsec_next (zone_with apex rs) o)

@@ -14,7 +14,7 @@ use Rattle.std.proofs.lemmas.Cmp.{tied_itself, nat_cmp_total, nat_list_cmp_total
 use Rattle.std.proofs.lemmas.Bool.{and_parts, or_parts}
 use Rattle.definitions.specs.Name.{Name, low, labels_eq, same, name_cmp}
 use Rattle.definitions.specs.Signing.{label_count}
-use Rattle.definitions.specs.Zone.{Rr, data_at, sorted_data}
+use Rattle.definitions.specs.Zone.{Rr, owner_of, data_at, sorted_data}
 use Rattle.definitions.specs.ZoneChain.{types_at}
 use Rattle.records.specs.HandedRr.{HandedRr}
 use Rattle.answer_zone.specs.Accepting.{record_cmp, rr_of, soas, zone_with}
@@ -37,7 +37,7 @@ filter-map {A} {B} p f (x ∷ xs) =
 -- the types at an owner
 pub types_are_of : (apex : Name) (rs : List HandedRr) (q : Name) → map (λ r. r.rtype) (filter (λ r. same r.owner q) rs) ≡ types_at (zone_with apex rs) (low q)
 types_are_of apex rs q =
-    sym (ap (map (λ (r : Rr). r.rtype)) (filter-map (λ (r : Rr). labels_eq r.owner (low q)) rr_of rs)
+    sym (ap (map (λ (r : Rr). r.rtype)) (filter-map (λ (r : Rr). labels_eq (owner_of r) (low q)) rr_of rs)
     ∙ map-map (λ (r : Rr). r.rtype) rr_of (filter (λ r. same r.owner q) rs))
 
 -- two records of one RRset differ in their data
@@ -103,7 +103,7 @@ already_sorted (d ∷ ds) h = let p = rises_tidy d ds h in sort_by_climbing (sli
 pub data_are : (apex : Name) (rs : List HandedRr) → IsStrictlySortedBy record_cmp rs → (q : Name) (t : ℕ) → map (λ r. r.bytes) (filter (is_of q t) rs) ≡ data_at (zone_with apex rs) (low q) t
 data_are apex rs h q t =
     sym (already_sorted (map (λ r. r.bytes) (filter (is_of q t) rs)) (data_rise q t rs h))
-    ∙ sym (ap sorted_data (ap (map (λ (r : Rr). r.bytes)) (filter-map (λ (r : Rr). labels_eq r.owner (low q) && eqb r.rtype t) rr_of rs)
+    ∙ sym (ap sorted_data (ap (map (λ (r : Rr). r.bytes)) (filter-map (λ (r : Rr). labels_eq (owner_of r) (low q) && eqb r.rtype t) rr_of rs)
     ∙ map-map (λ (r : Rr). r.bytes) rr_of (filter (is_of q t) rs)))
 
 -- owners up to case

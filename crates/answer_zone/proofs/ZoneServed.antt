@@ -6,7 +6,7 @@ use Rattle.std.specs.Char.{to_ascii_lowercase}
 use Rattle.std.specs.Str.{bytes_eq, str_to_ascii_lowercase}
 use Rattle.std.proofs.lemmas.Bool.{and_parts, and_from, or_cases, or_parts, or_left, or_right, false≢true, false_from_ne_true}
 use Rattle.definitions.specs.Name.{Name, low, labels_eq, same, at_or_above, strictly_above}
-use Rattle.definitions.specs.Zone.{Zone, Rr, Verdict, NoName, has, is_delegation, cut, cut_above, is_kept, kept_owners, kept, exists, ce, star_under, at_existing, at_star, verdict, data_at, Delegated, StarRecords, StarNoType}
+use Rattle.definitions.specs.Zone.{Zone, Rr, owner_of, Verdict, NoName, has, is_delegation, cut, cut_above, is_kept, kept_owners, kept, exists, ce, star_under, at_existing, at_star, verdict, data_at, Delegated, StarRecords, StarNoType}
 use Rattle.records.specs.HandedRr.{HandedRr, has_star}
 use Rattle.answer_zone.specs.Accepting.{soas, rr_of, zone_with, has_unlike_ttls, unlike_ttls}
 use Rattle.answer_zone.specs.Served.{chain_ttl, chain_ttl_of, minimum_of, owner_among, ttl_among, spelled_among}
@@ -23,7 +23,7 @@ Inside apex rs = AllByRecursion (λ r. at_or_above apex r.owner ≡ true) rs
 pub no_delegation : (apex : Name) (rs : List HandedRr) → Plain apex rs → (q : Name) → is_delegation (zone_with apex rs) q ≡ false
 no_delegation apex rs h q = false_from_ne_true _ (λ e.
     let a = and_parts (has (zone_with apex rs) q 2) (strictly_above (low apex) q) e in
-    let f = found (λ (r : HandedRr). labels_eq (low r.owner) q && eqb r.rtype 2) rs (sym (list_any-map (λ (r : Rr). labels_eq r.owner q && eqb r.rtype 2) rr_of rs) ∙ a.0) in
+    let f = found (λ (r : HandedRr). labels_eq (low r.owner) q && eqb r.rtype 2) rs (sym (list_any-map (λ (r : Rr). labels_eq (owner_of r) q && eqb r.rtype 2) rr_of rs) ∙ a.0) in
     let b = and_parts (labels_eq (low (f.0).owner) q) (eqb (f.0).rtype 2) f.2 in
     let k = or_parts _ _ (all_at (λ (r : HandedRr). (((eqb r.rtype 2) && strictly_above apex r.owner) || has_star r.owner) ≡ false) rs f.0 h f.1) in
     let s : strictly_above apex (f.0).owner ≡ true = sym (strictly_above-low apex (f.0).owner) ∙ ap (strictly_above (low apex)) (same_labels (low (f.0).owner) q b.0) ∙ a.1 in
@@ -63,10 +63,10 @@ unlike_kept apex rs h k optout =
 lowered : List HandedRr → List Name
 lowered rs = map (λ r. low r.owner) rs
 
-filter_owners : (p : Name → Bool) (rs : List HandedRr) → AllByRecursion (λ r. p (low r.owner) ≡ true) rs → filter p (map (λ (r : Rr). r.owner) (map rr_of rs)) ≡ map (λ r. low r.owner) rs
+filter_owners : (p : Name → Bool) (rs : List HandedRr) → AllByRecursion (λ r. p (low r.owner) ≡ true) rs → filter p (map owner_of (map rr_of rs)) ≡ map (λ r. low r.owner) rs
 filter_owners p [] h = refl
 filter_owners p (r ∷ rs) h =
-    ap (λ b. cond b (low r.owner ∷ filter p (map (λ (r : Rr). r.owner) (map rr_of rs))) (filter p (map (λ (r : Rr). r.owner) (map rr_of rs)))) h.0
+    ap (λ b. cond b (low r.owner ∷ filter p (map owner_of (map rr_of rs))) (filter p (map owner_of (map rr_of rs)))) h.0
     ∙ ap (λ ns. low r.owner ∷ ns) (filter_owners p rs h.1)
 
 pub owners_kept : (apex : Name) (rs : List HandedRr) → Plain apex rs → Inside apex rs → (optout : Bool) → kept_owners (zone_with apex rs) optout ≡ map (λ r. low r.owner) rs
@@ -120,7 +120,7 @@ verdict_none apex rs h k name t x =
     ∙ elim (ce z (low name)) as (λ (o : Option Name). (elim o [ None ↦ NoName | Some e ↦ at_star z (star_under e) t ]) ≡ NoName) [ None ↦ refl | Some e ↦ ap (λ b. if b then (if has z (star_under e) t then StarRecords (data_at z (star_under e) t) else StarNoType) else NoName) (no_star apex rs h k e) ]
 
 pub has_is : (apex : Name) (rs : List HandedRr) (q : Name) (t : ℕ) → has (zone_with apex rs) (low q) t ≡ list_any (is_of q t) rs
-has_is apex rs q t = list_any-map (λ (r : Rr). labels_eq r.owner (low q) && eqb r.rtype t) rr_of rs
+has_is apex rs q t = list_any-map (λ (r : Rr). labels_eq (owner_of r) (low q) && eqb r.rtype t) rr_of rs
 
 -- what stands at the front of what is left
 pub ahead_is : (rs : List HandedRr) (i : ℕ) (r : HandedRr) → i < length rs → r ≡ get_or rs i r → drop i rs ≡ r ∷ drop (i + 1) rs

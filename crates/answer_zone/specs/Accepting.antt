@@ -42,11 +42,11 @@ abbrev pub sorted_records : List HandedRr → List HandedRr
 sorted_records rs = sort_by record_cmp rs
 
 abbrev pub rr_of : HandedRr → Rr
-rr_of r = record { owner = low r.owner; rtype = r.rtype; bytes = r.bytes }
+rr_of r = record { spelled = r.owner; rtype = r.rtype; bytes = r.bytes }
 
 -- the zone of records in order
 abbrev pub zone_with : Name → List HandedRr → Zone
-zone_with apex sorted = record { apex = low apex; records = map rr_of sorted }
+zone_with apex sorted = record { name = apex; records = map rr_of sorted }
 
 -- the zone that a list spells
 abbrev pub zone_of : Name → List HandedRr → Zone

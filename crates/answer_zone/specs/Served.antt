@@ -7,11 +7,11 @@ use Rattle.std.specs.Cmp.Lexicographic.{slice_cmp}
 use Rattle.std.specs.Str.{bytes_eq}
 use Rattle.definitions.specs.Sorting.{sort_by}
 use Rattle.definitions.specs.Name.{Name, low, labels_eq}
-use Rattle.definitions.specs.Zone.{Zone, Verdict, verdict, Records, NoType, NoName, StarRecords, StarNoType, Delegated, Open, Unsigned, cut, kept, ce, star_under, has, data_at}
+use Rattle.definitions.specs.Zone.{Zone, apex_of, Verdict, verdict, Records, NoType, NoName, StarRecords, StarNoType, Delegated, Open, Unsigned, cut, kept, ce, star_under, has, data_at}
 use Rattle.definitions.specs.Covering.{covers, hash_covers}
 use Rattle.definitions.specs.Base32hex.{base32hex}
 use Rattle.definitions.specs.Dnskey.{Dnskey, dnskey_data, key_tag}
-use Rattle.definitions.specs.ZoneChain.{Mode, Nsec, Nsec3, optout_of, nsec_names, nsec3_names, nsec_next, nsec_data, nsec3_data, nsec3_next, hash_cmp}
+use Rattle.definitions.specs.ZoneChain.{Mode, Nsec, Nsec3, parameters_of, optout_of, nsec_names, hashed_names, nsec_next, nsec_data, nsec3_data, nsec3_next}
 use Rattle.records.specs.HandedRr.{HandedRr}
 use Rattle.answer_zone.specs.Accepting.{zone_with, soas}
 
@@ -95,15 +95,15 @@ abbrev pub rrset : Served → Name → ℕ → Group
 rrset s o t = record { owner = s.owner_of o t; source = o; rtype = t; ttl = s.ttl_of o t; written = s.written_of o t; datas = data_at s.zone o t; signed = true }
 
 abbrev pub soa : Served → Group
-soa s = rrset s s.zone.apex 6
+soa s = rrset s (apex_of s.zone) 6
 
 -- the record of a name of the chain
 abbrev pub chain_record : Served → Name → Group
 chain_record s o = elim s.mode [
-  | Nsec ↦ let d = nsec_data s.zone s.spelled o in record { owner = s.owner_of o 47; source = o; rtype = 47; ttl = s.ttl_of o 47; written = d ∷ []; datas = d ∷ []; signed = true }
+  | Nsec ↦ let d = nsec_data s.zone (parameters_of Nsec) s.spelled o in record { owner = s.owner_of o 47; source = o; rtype = 47; ttl = s.ttl_of o 47; written = d ∷ []; datas = d ∷ []; signed = true }
   | Nsec3 iterations salt optout ↦
-      let h = base32hex (s.hash o) ∷ s.spelled s.zone.apex in
-      let d = nsec3_data s.hash s.zone iterations salt optout o in
+      let h = base32hex (s.hash o) ∷ s.spelled (apex_of s.zone) in
+      let d = nsec3_data s.hash s.zone (parameters_of s.mode) o in
       record { owner = h; source = h; rtype = 50; ttl = s.ttl_of o 50; written = d ∷ []; datas = d ∷ []; signed = true }
 ]
 
@@ -111,13 +111,13 @@ chain_record s o = elim s.mode [
 abbrev pub chain_names : Served → List Name
 chain_names s = elim s.mode [
   | Nsec ↦ nsec_names s.zone
-  | Nsec3 iterations salt optout ↦ sort_by (λ a b. hash_cmp (s.hash a) (s.hash b)) (nsec3_names s.zone optout)
+  | Nsec3 iterations salt optout ↦ hashed_names s.hash s.zone optout
 ]
 
 -- the record of one name of the chain matches or covers another name
 abbrev pub speaks_for : Served → Name → Name → Bool
 speaks_for s o q = elim s.mode [
-  | Nsec ↦ labels_eq o q || covers s.zone.apex o (nsec_next s.zone o) q
+  | Nsec ↦ labels_eq o q || covers (apex_of s.zone) o (nsec_next s.zone o) q
   | Nsec3 iterations salt optout ↦ bytes_eq (s.hash o) (s.hash q) || hash_covers (s.hash o) (nsec3_next s.hash s.zone optout o) (s.hash q)
 ]
 

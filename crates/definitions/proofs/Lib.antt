@@ -20,3 +20,6 @@ pub mod SigningRows
 pub mod PlainSpelling
 pub mod CircleLaws
 pub mod ReadingLaws
+pub mod ChainSpeaks
+pub mod ZoneNames
+pub mod OwnChains

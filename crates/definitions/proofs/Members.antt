@@ -1,7 +1,7 @@
 -- What lists with the same items have in common.
-use Rattle.std.proofs.Common.{◌≡◌, ℕ, zero, suc, ◌<◌, Bool, true, false, ◌&&◌, ◌||◌, cond, List, [], ◌∷◌, length, map, get_or, refl, sym, ap, subst, ◌∙◌, ◌⊎◌, inl, inr, arith}
+use Rattle.std.proofs.Common.{◌≡◌, ℕ, zero, suc, ◌<◌, Bool, true, false, ◌&&◌, ◌||◌, cond, List, [], ◌∷◌, length, ◌++◌, map, get_or, refl, sym, ap, subst, ◌∙◌, ◌⊎◌, inl, inr, arith}
 use Rattle.std.specs.Prelude.{filter}
-use Rattle.std.specs.List.{list_any, Contains}
+use Rattle.std.specs.List.{list_any, flat_map, Contains}
 use Rattle.std.specs.declared.cmp.Ordering.{Ordering}
 use Rattle.std.specs.declared.cmp.Ordering.TheVariants.{Less, Equal, Greater}
 use Rattle.std.specs.Ordering.{ordering_reverse}
@@ -19,12 +19,12 @@ In x (y ∷ ys) = (x ≡ y) ⊎ In x ys
 abbrev pub Within : {X : Type 0} → List X → List X → Type 0
 Within {X} xs ys = (x : X) → In x xs → In x ys
 
-in_contained : {X : Type 0} (xs : List X) (x : X) (k : ℕ) → k < length xs → get_or xs k x ≡ x → In x xs
+pub in_contained : {X : Type 0} (xs : List X) (x : X) (k : ℕ) → k < length xs → get_or xs k x ≡ x → In x xs
 in_contained [] x k h e = absurd (omega arith)
 in_contained (y ∷ ys) x zero h e = inl (sym e)
 in_contained (y ∷ ys) x (suc k) h e = inr (in_contained ys x k (omega arith) e)
 
-contained : {X : Type 0} (xs : List X) (x : X) → In x xs → Contains xs x
+pub contained : {X : Type 0} (xs : List X) (x : X) → In x xs → Contains xs x
 contained [] x h = absurd h
 contained (y ∷ ys) x h = elim h [
   | inl e ↦ (0, omega arith, sym e)
@@ -49,7 +49,7 @@ both_ways true t f g = sym (f refl)
 both_ways false true f g = g refl
 both_ways false false f g = refl
 
-any_in : {X : Type 0} (p : X → Bool) (xs : List X) (x : X) → In x xs → p x ≡ true → list_any p xs ≡ true
+pub any_in : {X : Type 0} (p : X → Bool) (xs : List X) (x : X) → In x xs → p x ≡ true → list_any p xs ≡ true
 any_in p [] x h e = absurd h
 any_in p (y ∷ ys) x h e = elim h [
   | inl same ↦ ap (λ b. b || list_any p ys) (ap p (sym same) ∙ e)
@@ -121,10 +121,96 @@ kept_within {X} {Y} p g xs ys f y h =
     let P : Y → Type 0 = λ w. In w (map g (filter p ys)) in
     subst P (sym k.mapped) (to_kept p g ys k.item (f k.item k.inside) k.passes)
 
+-- ---- items of filtered, mapped and joined lists
+
+pub in_map : {X Y : Type 0} (f : X → Y) (xs : List X) (x : X) → In x xs → In (f x) (map f xs)
+in_map f [] x h = absurd h
+in_map f (y ∷ xs) x h = elim h [ inl e ↦ inl (ap f e) | inr i ↦ inr (in_map f xs x i) ]
+
+-- an item of a list that is made of another
+pub record Of {X Y : Type 0} (P : X → Y → Type 0) (xs : List X) (y : Y) : Type 0 where
+  pub item : X
+  pub inside : In item xs
+  pub makes : P item y
+
+later_of : {X Y : Type 0} (P : X → Y → Type 0) (x : X) (xs : List X) (y : Y) → Of P xs y → Of P (x ∷ xs) y
+later_of P x xs y f = record { item = f.item; inside = inr f.inside; makes = f.makes }
+
+pub map_in : {X Y : Type 0} (f : X → Y) (xs : List X) (y : Y) → In y (map f xs) → Of (λ x y. y ≡ f x) xs y
+map_in f [] y h = absurd h
+map_in f (x ∷ xs) y h = elim h [
+  | inl e ↦ record { item = x; inside = inl refl; makes = e }
+  | inr i ↦ later_of (λ x y. y ≡ f x) x xs y (map_in f xs y i)
+]
+
+pub in_append_left : {X : Type 0} (xs ys : List X) (x : X) → In x xs → In x (xs ++ ys)
+in_append_left [] ys x h = absurd h
+in_append_left (y ∷ xs) ys x h = elim h [ inl e ↦ inl e | inr i ↦ inr (in_append_left xs ys x i) ]
+
+pub in_append_right : {X : Type 0} (xs ys : List X) (x : X) → In x ys → In x (xs ++ ys)
+in_append_right [] ys x h = h
+in_append_right (y ∷ xs) ys x h = inr (in_append_right xs ys x h)
+
+append_in : {X : Type 0} (xs ys : List X) (x : X) → In x (xs ++ ys) → In x xs ⊎ In x ys
+append_in [] ys x h = inr h
+append_in (y ∷ xs) ys x h = elim h [
+  | inl e ↦ inl (inl e)
+  | inr i ↦ elim (append_in xs ys x i) [ inl j ↦ inl (inr j) | inr j ↦ inr j ]
+]
+
+pub in_flat : {X Y : Type 0} (f : X → List Y) (xs : List X) (x : X) (y : Y) → In x xs → In y (f x) → In y (flat_map f xs)
+in_flat f [] x y h i = absurd h
+in_flat {X} {Y} f (z ∷ xs) x y h i = elim h [
+  | inl e ↦ in_append_left (f z) (flat_map f xs) y (let P : X → Type 0 = λ w. In y (f w) in subst P e i)
+  | inr j ↦ in_append_right (f z) (flat_map f xs) y (in_flat f xs x y j i)
+]
+
+pub flat_in : {X Y : Type 0} (f : X → List Y) (xs : List X) (y : Y) → In y (flat_map f xs) → Of (λ x y. In y (f x)) xs y
+flat_in f [] y h = absurd h
+flat_in f (x ∷ xs) y h = elim (append_in (f x) (flat_map f xs) y h) [
+  | inl i ↦ record { item = x; inside = inl refl; makes = i }
+  | inr i ↦ later_of (λ x y. In y (f x)) x xs y (flat_in f xs y i)
+]
+
+first_in : {X : Type 0} (b : Bool) (x : X) (xs : List X) → b ≡ true → In x (cond b (x ∷ xs) xs)
+first_in true x xs h = inl refl
+first_in false x xs h = absurd cc
+
+rest_in : {X : Type 0} (b : Bool) (y x : X) (xs : List X) → In x xs → In x (cond b (y ∷ xs) xs)
+rest_in true y x xs h = inr h
+rest_in false y x xs h = h
+
+pub in_filter : {X : Type 0} (p : X → Bool) (xs : List X) (x : X) → In x xs → p x ≡ true → In x (filter p xs)
+in_filter p [] x h e = absurd h
+in_filter {X} p (y ∷ xs) x h e = elim h [
+  | inl s ↦ let P : X → Type 0 = λ w. In w (cond (p y) (y ∷ filter p xs) (filter p xs)) in subst P (sym s) (first_in (p y) y (filter p xs) (ap p (sym s) ∙ e))
+  | inr i ↦ rest_in (p y) y x (filter p xs) (in_filter p xs x i e)
+]
+
+cond_in : {X : Type 0} (b : Bool) (y x : X) (xs : List X) → In x (cond b (y ∷ xs) xs) → ((b ≡ true) × (x ≡ y)) ⊎ In x xs
+cond_in true y x xs h = elim h [ inl e ↦ inl (refl, e) | inr i ↦ inr i ]
+cond_in false y x xs h = inr h
+
+pub filter_in : {X : Type 0} (p : X → Bool) (xs : List X) (x : X) → In x (filter p xs) → In x xs × (p x ≡ true)
+filter_in p [] x h = absurd h
+filter_in p (y ∷ xs) x h = elim (cond_in (p y) y x (filter p xs) h) [
+  | inl e ↦ (inl e.1, ap p e.1 ∙ e.0)
+  | inr i ↦ let r : In x xs × (p x ≡ true) = filter_in p xs x i in (inr r.0, r.1)
+]
+
+-- what passes a test that some item passes
+pub any_of : {X : Type 0} (p : X → Bool) (xs : List X) → list_any p xs ≡ true → (x : X) × (In x xs × (p x ≡ true))
+any_of p [] h = absurd cc
+any_of p (x ∷ xs) h = elim (either (p x) (list_any p xs) h) [
+  | inl e ↦ (x, (inl refl, e))
+  | inr l ↦ let r = any_of p xs l in (r.0, (inr r.1.0, r.1.1))
+]
+
 -- ---- sorted, the same items are one list
 
-module _ {A : Type 0} (R : A → A → Ordering) (o : IsTotalOrder R) (exact : IsAntisymmetric R) where
-  abbrev Rises : List A → Type 0
+module _ {A : Type 0} (R : A → A → Ordering) (o : IsTotalOrder R) where
+  -- each item before the later ones
+  abbrev pub Rises : List A → Type 0
   Rises [] = Unit {0}
   Rises (a ∷ xs) = ((x : A) → In x xs → R a x ≡ Less) × Rises xs
 
@@ -141,13 +227,13 @@ module _ {A : Type 0} (R : A → A → Ordering) (o : IsTotalOrder R) (exact : I
         | inr i ↦ elim (f i) [ inl e ↦ inl e | inr j ↦ inr (inr j) ]
       ]
 
-  put_new : (a : A) (xs : List A) → In a (put_by R a xs)
-  put_new a [] = inl refl
-  put_new a (b ∷ bs) = go (R a b) refl (put_new a bs)
+  put_new : (a : A) (xs : List A) → ((b : A) → In b xs → R a b ≡ Equal → a ≡ b) → In a (put_by R a xs)
+  put_new a [] f = inl refl
+  put_new a (b ∷ bs) f = go (R a b) refl (put_new a bs (λ c i. f c (inr i)))
     where
       go : (r : Ordering) → R a b ≡ r → In a (put_by R a bs) → In a (elim r as (λ _. List A) [ Less ↦ a ∷ b ∷ bs | Equal ↦ b ∷ bs | Greater ↦ b ∷ put_by R a bs ])
       go Less e i = inl refl
-      go Equal e i = inl (exact a b e)
+      go Equal e i = inl (f b (inl refl) e)
       go Greater e i = inr i
 
   put_old : (a : A) (xs : List A) (x : A) → In x xs → In x (put_by R a xs)
@@ -198,12 +284,37 @@ module _ {A : Type 0} (R : A → A → Ordering) (o : IsTotalOrder R) (exact : I
   all_old into [] x h = h
   all_old into (y ∷ xs) x h = all_old (put_by R y into) xs x (put_old y into x h)
 
-  all_new : (into xs : List A) (x : A) → In x xs → In x (put_all_by R into xs)
-  all_new into [] x h = absurd h
-  all_new into (y ∷ xs) x h = elim h [
-    | inl e ↦ all_old (put_by R y into) xs x (let P : A → Type 0 = λ w. In w (put_by R y into) in subst P (sym e) (put_new y into))
-    | inr i ↦ all_new (put_by R y into) xs x i
+  -- items that compare equal are one
+  abbrev pub ExactAmong : List A → Type 0
+  ExactAmong xs = (a b : A) → In a xs → In b xs → R a b ≡ Equal → a ≡ b
+
+  abbrev ExactIn : List A → List A → Type 0
+  ExactIn into xs = (a b : A) → (In a into ⊎ In a xs) → (In b into ⊎ In b xs) → R a b ≡ Equal → a ≡ b
+
+  put_among : (y : A) (into xs : List A) (a : A) → (In a (put_by R y into) ⊎ In a xs) → (In a into ⊎ In a (y ∷ xs))
+  put_among y into xs a h = elim h [
+    | inl i ↦ elim (put_has y into a i) [ inl e ↦ inr (inl e) | inr j ↦ inl j ]
+    | inr i ↦ inr (inr i)
   ]
+
+  all_new : (into xs : List A) (x : A) → ExactIn into xs → In x xs → In x (put_all_by R into xs)
+  all_new into [] x f h = absurd h
+  all_new into (y ∷ xs) x f h = elim h [
+    | inl e ↦ all_old (put_by R y into) xs x (let P : A → Type 0 = λ w. In w (put_by R y into) in subst P (sym e) (put_new y into (λ b i q. f y b (inr (inl refl)) (inl i) q)))
+    | inr i ↦ all_new (put_by R y into) xs x (λ a b s t q. f a b (put_among y into xs a s) (put_among y into xs b t) q) i
+  ]
+
+  among : (xs : List A) (a : A) → (In a [] ⊎ In a xs) → In a xs
+  among xs a h = elim h [ inl i ↦ absurd i | inr i ↦ i ]
+
+  pub sort_has : (xs : List A) (x : A) → In x (sort_by R xs) → In x xs
+  sort_has xs x h = among xs x (all_has [] xs x h)
+
+  pub sort_keeps : (xs : List A) (x : A) → ExactAmong xs → In x xs → In x (sort_by R xs)
+  sort_keeps xs x f h = all_new [] xs x (λ a b s t q. f a b (among xs a s) (among xs b t) q) h
+
+  pub sort_rises : (xs : List A) → Rises (sort_by R xs)
+  sort_rises xs = all_rises [] xs tt
 
   not_less : (x : A) → R x x ≡ Less → ⊥
   not_less x e = let n : Equal ≡ Less = sym (tied_itself o x) ∙ e in cc
@@ -232,11 +343,10 @@ module _ {A : Type 0} (R : A → A → Ordering) (o : IsTotalOrder R) (exact : I
       let rest : xs ≡ ys = rising_same xs ys h.1 k.1 (tails_within x y xs ys h e f) (tails_within y x ys xs k (sym e) g) in
       λ i. e i ∷ rest i
 
-  sort_within : (xs ys : List A) → Within xs ys → Within (sort_by R xs) (sort_by R ys)
-  sort_within xs ys f x h = elim (all_has [] xs x h) [
-    | inl i ↦ absurd i
-    | inr i ↦ all_new [] ys x (f x i)
-  ]
+  sort_within : IsAntisymmetric R → (xs ys : List A) → Within xs ys → Within (sort_by R xs) (sort_by R ys)
+  sort_within exact xs ys f x h = sort_keeps ys x (λ a b _ _ q. exact a b q) (f x (sort_has xs x h))
 
-  pub sort_same : (xs ys : List A) → Within xs ys → Within ys xs → sort_by R xs ≡ sort_by R ys
-  sort_same xs ys f g = rising_same (sort_by R xs) (sort_by R ys) (all_rises [] xs tt) (all_rises [] ys tt) (sort_within xs ys f) (sort_within ys xs g)
+  pub sort_same : IsAntisymmetric R → (xs ys : List A) → Within xs ys → Within ys xs → sort_by R xs ≡ sort_by R ys
+  sort_same exact xs ys f g =
+      rising_same (sort_by R xs) (sort_by R ys) (sort_rises xs) (sort_rises ys) (sort_within exact xs ys f)
+      (sort_within exact ys xs g)

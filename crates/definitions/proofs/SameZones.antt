@@ -1,6 +1,6 @@
 -- Zones with the same records say the same.
-use Rattle.std.proofs.Common.{◌≡◌, ℕ, Bool, true, false, ◌&&◌, ◌||◌, [], ◌∷◌, Option, Some, None, refl, sym, ◌∙◌}
-use Rattle.std.specs.Prelude.{not, ◌==◌, if◌then◌else◌}
+use Rattle.std.proofs.Common.{◌≡◌, ℕ, Bool, true, false, ◌&&◌, ◌||◌, List, [], ◌∷◌, map, ap, Option, Some, None, refl, sym, ◌∙◌}
+use Rattle.std.specs.Prelude.{filter, not, ◌==◌, if◌then◌else◌}
 use Rattle.std.specs.List.{list_any}
 use Rattle.std.specs.Option.{is_none}
 use Rattle.std.specs.Ordering.{nat_cmp}
@@ -8,19 +8,46 @@ use Rattle.std.specs.Cmp.Lexicographic.{slice_cmp}
 use Rattle.std.specs.FinMap.{nat_cmp-IsAntisymmetric, slice_cmp-IsAntisymmetric}
 use Rattle.std.proofs.lemmas.Cmp.{nat_list_cmp_total}
 use Rattle.definitions.specs.Name.{Name, labels_eq, at_or_above, strictly_above, low}
-use Rattle.definitions.specs.Zone.{Zone, Records, NoType, NoName, StarRecords, StarNoType, Delegated, Open, has, is_delegation, cut, cut_above, is_live, is_kept, kept_owners, kept, ce, kept_cut_above, data_at, star_under, at_existing, at_star, verdict}
-use Rattle.definitions.specs.Laws.{SameZone, OrderMeansNothing}
+use Rattle.definitions.specs.Zone.{Rr, Zone, owner_of, is_of, sorted_data, Records, NoType, NoName, StarRecords, StarNoType, Delegated, Open, has, is_delegation, cut, cut_above, is_live, is_kept, kept_owners, kept, ce, kept_cut_above, data_at, star_under, at_existing, at_star, verdict}
+use Rattle.definitions.specs.Laws.{lowered, SameZone, OrderMeansNothing}
+use Rattle.definitions.proofs.ChainSpeaks.{filter_map}
 use Rattle.definitions.proofs.Members.{Within, within_contained, any_same, any_kept, kept_within, sort_same}
 
-module _ (z w : Zone) (s : SameZone z w) where
-  there : Within z.records w.records
-  there = within_contained z.records w.records (λ r h. (s.records r).0 h)
+any_map : {X Y : Type 0} (p : Y → Bool) (f : X → Y) (xs : List X) → list_any p (map f xs) ≡ list_any (λ x. p (f x)) xs
+any_map p f [] = refl
+any_map p f (x ∷ xs) = ap (λ b. p (f x) || b) (any_map p f xs)
 
-  back : Within w.records z.records
-  back = within_contained w.records z.records (λ r h. (s.records r).1 h)
+bytes-lowered : (rs : List Rr) → map (λ r. r.bytes) (map lowered rs) ≡ map (λ r. r.bytes) rs
+bytes-lowered [] = refl
+bytes-lowered (r ∷ rs) = ap (λ ds. r.bytes ∷ ds) (bytes-lowered rs)
+
+-- a record whose owner is in lower case has this owner and type
+abbrev stands : Name → ℕ → Rr → Bool
+stands q t r = labels_eq r.spelled q && (r.rtype == t)
+
+-- the data of records as they are and with lowered owners
+data-lowered : (rs : List Rr) (q : Name) (t : ℕ) → map (λ r. r.bytes) (filter (stands q t) (map lowered rs)) ≡ map (λ r. r.bytes) (filter (is_of q t) rs)
+data-lowered rs q t = ap (map (λ r. r.bytes)) (filter_map (stands q t) lowered rs) ∙ bytes-lowered (filter (is_of q t) rs)
+
+module _ (z w : Zone) (s : SameZone z w) where
+  abbrev of_z : List Rr
+  of_z = map lowered z.records
+
+  abbrev of_w : List Rr
+  of_w = map lowered w.records
+
+  there : Within of_z of_w
+  there = within_contained of_z of_w (λ r h. (s.records r).0 h)
+
+  back : Within of_w of_z
+  back = within_contained of_w of_z (λ r h. (s.records r).1 h)
+
+  -- a test of records with lowered owners
+  test-same : (p : Rr → Bool) → list_any (λ r. p (lowered r)) z.records ≡ list_any (λ r. p (lowered r)) w.records
+  test-same p = sym (any_map p lowered z.records) ∙ any_same p of_z of_w there back ∙ any_map p lowered w.records
 
   has-same : (q : Name) (t : ℕ) → has z q t ≡ has w q t
-  has-same q t = any_same (λ r. labels_eq r.owner q && (r.rtype == t)) z.records w.records there back
+  has-same q t = test-same (stands q t)
 
   delegation-same : (q : Name) → is_delegation z q ≡ is_delegation w q
   delegation-same q i = has-same q 2 i && strictly_above (s.apex i) q
@@ -44,10 +71,10 @@ module _ (z w : Zone) (s : SameZone z w) where
 
   below-same : (optout : Bool) (q : Name) → list_any (at_or_above q) (kept_owners z optout) ≡ list_any (at_or_above q) (kept_owners w optout)
   below-same optout q =
-      any_kept (is_kept z optout) (at_or_above q) (λ r. r.owner) z.records
-      ∙ (λ i. list_any (λ r. is_kept-same optout r.owner i && at_or_above q r.owner) z.records)
-      ∙ any_same (λ r. is_kept w optout r.owner && at_or_above q r.owner) z.records w.records there back
-      ∙ sym (any_kept (is_kept w optout) (at_or_above q) (λ r. r.owner) w.records)
+      any_kept (is_kept z optout) (at_or_above q) owner_of z.records
+      ∙ (λ i. list_any (λ r. is_kept-same optout (owner_of r) i && at_or_above q (owner_of r)) z.records)
+      ∙ test-same (λ r. is_kept w optout r.spelled && at_or_above q r.spelled)
+      ∙ sym (any_kept (is_kept w optout) (at_or_above q) owner_of w.records)
 
   kept-same : (optout : Bool) (q : Name) → kept z optout q ≡ kept w optout q
   kept-same optout q i = at_or_above (s.apex i) q && below-same optout q i
@@ -62,9 +89,11 @@ module _ (z w : Zone) (s : SameZone z w) where
 
   data_at-same : (q : Name) (t : ℕ) → data_at z q t ≡ data_at w q t
   data_at-same q t =
-      sort_same (slice_cmp nat_cmp) nat_list_cmp_total (slice_cmp-IsAntisymmetric nat_cmp-IsAntisymmetric) _ _
-      (kept_within (λ r. labels_eq r.owner q && (r.rtype == t)) (λ r. r.bytes) z.records w.records there)
-      (kept_within (λ r. labels_eq r.owner q && (r.rtype == t)) (λ r. r.bytes) w.records z.records back)
+      ap sorted_data (sym (data-lowered z.records q t))
+      ∙ sort_same (slice_cmp nat_cmp) nat_list_cmp_total (slice_cmp-IsAntisymmetric nat_cmp-IsAntisymmetric) _ _
+      (kept_within (stands q t) (λ r. r.bytes) of_z of_w there)
+      (kept_within (stands q t) (λ r. r.bytes) of_w of_z back)
+      ∙ ap sorted_data (data-lowered w.records q t)
 
   at_existing-same : (q : Name) (t : ℕ) → at_existing z q t ≡ at_existing w q t
   at_existing-same q t i = if has-same q t i then Records (data_at-same q t i) else NoType

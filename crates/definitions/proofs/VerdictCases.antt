@@ -3,12 +3,9 @@ use Rattle.std.proofs.Common.{◌≡◌, ℕ, Bool, true, false, ◌&&◌, sym, 
 use Rattle.std.specs.Prelude.{not, ◌==◌, if◌then◌else◌, IfOk}
 use Rattle.std.specs.declared.alloc.AllocError.{AllocError}
 use Rattle.definitions.specs.Name.{Name, labels_eq, low}
-use Rattle.definitions.specs.Zone.{Zone, Verdict, Open, Delegated, NoName, kept, kept_cut_above, cut, exists, ce, star_under, at_existing, at_star, verdict}
+use Rattle.definitions.specs.Zone.{Zone, Verdict, Open, Delegated, NoName, is_open, cut, exists, ce, star_under, at_existing, at_star, verdict}
 use Rattle.definitions.specs.declared.reference.verdict.PlainVerdict.{PlainVerdict}
 use Rattle.definitions.specs.Reference.{verdict_of}
-
-abbrev pub is_open : Zone → Bool → Name → Bool
-is_open z optout q = optout && not (kept z optout q) && not (kept_cut_above z optout q)
 
 -- the verdict, from whether the name is left open, its delegation, whether it exists, and its closest encloser
 abbrev pub said : Zone → Name → ℕ → Bool → Option Name → Bool → Option Name → Verdict

@@ -6,18 +6,18 @@ use Rattle.definitions.specs.Zone.{Zone, Rr, verdict, Records, NoType, NoName, S
 use Rattle.definitions.proofs.NameRows.{example}
 
 abbrev pub rr : Name → ℕ → List ℕ → Rr
-rr o t d = record { owner = o; rtype = t; bytes = d }
+rr o t d = record { spelled = o; rtype = t; bytes = d }
 
 -- an address, an empty non-terminal, a wildcard and a delegation
 abbrev pub small : Zone
 small = record {
-  apex = example;
+  name = example;
   records =
       rr example 6 (1 ∷ [])
       ∷ rr (codes "a" ∷ example) 1 (192 ∷ 0 ∷ 2 ∷ 1 ∷ [])
       ∷ rr (codes "b" ∷ codes "c" ∷ example) 1 (192 ∷ 0 ∷ 2 ∷ 2 ∷ [])
       ∷ rr (codes "*" ∷ codes "w" ∷ example) 16 (1 ∷ 120 ∷ [])
-      ∷ rr (codes "d" ∷ example) 2 (0 ∷ [])
+      ∷ rr (codes "D" ∷ codes "Example" ∷ []) 2 (0 ∷ [])
       ∷ [];
 }
 
@@ -53,7 +53,7 @@ below_delegation = refl
 
 -- a wildcard that is an empty non-terminal
 abbrev pub below_wildcard : Zone
-below_wildcard = record { apex = example; records = rr example 6 (1 ∷ []) ∷ rr (codes "a" ∷ codes "*" ∷ codes "w" ∷ example) 1 (1 ∷ []) ∷ [] }
+below_wildcard = record { name = example; records = rr example 6 (1 ∷ []) ∷ rr (codes "a" ∷ codes "*" ∷ codes "w" ∷ example) 1 (1 ∷ []) ∷ [] }
 
 empty_wildcard : verdict below_wildcard false (codes "x" ∷ codes "w" ∷ example) 1 ≡ StarNoType
 empty_wildcard = refl
@@ -75,21 +75,21 @@ opt_out_other_type = refl
 
 -- the apex alone
 abbrev pub apex_alone : Zone
-apex_alone = record { apex = example; records = rr example 6 (1 ∷ []) ∷ [] }
+apex_alone = record { name = example; records = rr example 6 (1 ∷ []) ∷ [] }
 
 nothing_below : verdict apex_alone false (codes "a" ∷ example) 1 ≡ NoName
 nothing_below = refl
 
 -- order and repetition of the records mean nothing
 abbrev twice : Zone
-twice = record { apex = example; records = rr (codes "a" ∷ example) 1 (2 ∷ []) ∷ rr (codes "a" ∷ example) 1 (1 ∷ []) ∷ rr example 6 (1 ∷ []) ∷ rr (codes "a" ∷ example) 1 (2 ∷ []) ∷ [] }
+twice = record { name = example; records = rr (codes "a" ∷ example) 1 (2 ∷ []) ∷ rr (codes "a" ∷ example) 1 (1 ∷ []) ∷ rr example 6 (1 ∷ []) ∷ rr (codes "a" ∷ example) 1 (2 ∷ []) ∷ [] }
 
 data_in_order : verdict twice false (codes "a" ∷ example) 1 ≡ Records ((1 ∷ []) ∷ (2 ∷ []) ∷ [])
 data_in_order = refl
 
 -- a wildcard beside a closer ancestor that exists does not speak (RFC 4592, 3.3.1)
 abbrev closer : Zone
-closer = record { apex = example; records = rr example 6 (1 ∷ []) ∷ rr (codes "*" ∷ example) 16 (1 ∷ []) ∷ rr (codes "a" ∷ example) 1 (1 ∷ []) ∷ [] }
+closer = record { name = example; records = rr example 6 (1 ∷ []) ∷ rr (codes "*" ∷ example) 16 (1 ∷ []) ∷ rr (codes "a" ∷ example) 1 (1 ∷ []) ∷ [] }
 
 closer_encloser : verdict closer false (codes "x" ∷ codes "a" ∷ example) 16 ≡ NoName
 closer_encloser = refl

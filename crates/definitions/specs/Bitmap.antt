@@ -18,6 +18,10 @@ window_count = 256
 unfoldable pub octet_of : List ℕ → ℕ → ℕ → ℕ
 octet_of ts window i = sum_by (λ k. if list_any (nat_eq (window * 256 + i * 8 + k)) ts then 2 ^ (7 - k) else 0) (below 8)
 
+-- all but the last
+abbrev pub before_last : List ℕ → List ℕ
+before_last bs = take (length bs - 1) bs
+
 -- without the zeros at the end
 abbrev pub trimmed : List ℕ → List ℕ
 trimmed [] = []

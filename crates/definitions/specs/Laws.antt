@@ -1,16 +1,16 @@
 -- Laws of the definitions, which the module `laws` proves.
-use Rattle.std.specs.Prelude.{◌≡◌, ◌↔◌, ℕ, ◌^◌, ◌<◌, ◌≤◌, Ok, Bool, true, ◌&&◌, ◌||◌, List, [], ◌∷◌, ◌++◌, filter, length, nat_eq, IsTrue}
+use Rattle.std.specs.Prelude.{◌≡◌, ◌↔◌, ℕ, ◌^◌, ◌<◌, ◌≤◌, Ok, Bool, true, ◌&&◌, ◌||◌, List, [], ◌∷◌, ◌++◌, map, filter, length, nat_eq, IsTrue}
 use Rattle.std.specs.List.{AllByRecursion, Contains, list_any}
 use Rattle.std.specs.Str.{bytes_eq}
 use Rattle.std.specs.declared.cmp.Ordering.TheVariants.{Equal, Greater}
 use Rattle.std.specs.Cmp.{IsTotalOrder}
-use Rattle.definitions.specs.Name.{Name, IsName, wire, wire_len, same, name_cmp, at_or_above}
+use Rattle.definitions.specs.Name.{Name, IsName, wire, wire_len, low, same, name_cmp, at_or_above}
 use Rattle.definitions.specs.Reading.{Reads, heads_of, pointers_of, name_at}
 use Rattle.definitions.specs.Covering.{before, covers, hash_covers}
 use Rattle.definitions.specs.Bitmap.{bitmap, is_bitmap, bitmap_has}
-use Rattle.definitions.specs.ZoneChain.{links}
+use Rattle.definitions.specs.ZoneChain.{links, nsec_names, nsec_next, nsec3_names, hashed_names, hashes, nsec3_next}
 use Rattle.definitions.specs.Signing.{Fields, signed_owner, signed_octets, ascending}
-use Rattle.definitions.specs.Zone.{Rr, Zone, verdict}
+use Rattle.definitions.specs.Zone.{Rr, Zone, owner_of, apex_of, owners, is_live, kept, verdict}
 
 -- names are in one order, up to ASCII case
 pub record OrdersNames : Type 0 where
@@ -84,14 +84,63 @@ SignedOctetsSpell = (f g : Fields) (owner other : Name) (class kind : ℕ) (ds e
 
 -- ---- zones
 
--- the same apex, and the same records, in any order and however often each
-pub record SameZone (z w : Zone) : Type 0 where
-  pub apex : z.apex ≡ w.apex
-  pub records : (r : Rr) → Contains z.records r ↔ Contains w.records r
+-- a record with its owner in lower case
+abbrev pub lowered : Rr → Rr
+lowered r = record r { spelled = owner_of r }
 
--- the order and repetition of a zone's records mean nothing
+-- the same apex, and the same records, in any order, however often each, and up to the case of names
+pub record SameZone (z w : Zone) : Type 0 where
+  pub apex : apex_of z ≡ apex_of w
+  pub records : (r : Rr) → Contains (map lowered z.records) r ↔ Contains (map lowered w.records) r
+
+-- the order and repetition of a zone's records mean nothing, nor does the case of its names
 abbrev pub OrderMeansNothing : Type 0
-OrderMeansNothing = (z w : Zone) → SameZone z w → (optout : Bool) (name : Name) (t : ℕ) → verdict z optout name t ≡ verdict w optout name t
+OrderMeansNothing =
+    (z w : Zone) → SameZone z w → (optout : Bool) (name : Name) (t : ℕ) → verdict z optout name t ≡ verdict w optout name t
+
+-- ---- the chain of a zone
+
+-- the record of a name of the chain matches a name or covers it (RFC 4034, 4)
+abbrev pub nsec_speaks : Zone → Name → Name → Bool
+nsec_speaks z q o = link_speaks (apex_of z) q (o, nsec_next z o)
+
+-- The NSEC chain of a zone: the live owners, each once and in canonical order, and exactly one record matches or covers
+-- each name at or below the apex.
+pub record IsNsecChain (z : Zone) : Type 0 where
+  pub live : (o : Name) → Contains (nsec_names z) o ↔ (Contains (owners z) o × IsTrue (is_live z o))
+  pub rises : IsTrue (rising (nsec_names z))
+  pub one : (q : Name) → IsTrue (at_or_above (apex_of z) q) → (o : Name) × (filter (nsec_speaks z q) (nsec_names z) ≡ o ∷ [])
+
+-- of every zone that has records at its apex
+abbrev pub NsecChainSpeaks : Type 0
+NsecChainSpeaks = (z : Zone) → Contains (owners z) (apex_of z) → IsNsecChain z
+
+-- no two of some names have one hash
+abbrev pub NoneShare : (Name → List ℕ) → List Name → Type 0
+NoneShare hash ns = (a b : Name) → Contains ns a → Contains ns b → hash a ≡ hash b → a ≡ b
+
+-- a name has the hash of no other name of some (the names of a chain)
+abbrev pub SharesNone : (Name → List ℕ) → List Name → Name → Type 0
+SharesNone hash ns q = (n : Name) → Contains ns n → hash n ≡ hash q → n ≡ q
+
+-- the record of a name of the chain matches a hash or covers it (RFC 5155, 8.3)
+abbrev pub nsec3_speaks : (Name → List ℕ) → Zone → Bool → List ℕ → Name → Bool
+nsec3_speaks hash z excluding h o = hash_link_speaks h (hash o, nsec3_next hash z excluding o)
+
+-- The NSEC3 chain of a zone, of whose names no two share a hash: a record for each kept name, in order of hash. A
+-- name's hash, where no other name of the chain has it, is one of the chain exactly where the name is kept. Exactly one
+-- record matches or covers each hash.
+pub record IsNsec3Chain (hash : Name → List ℕ) (z : Zone) (excluding : Bool) : Type 0 where
+  pub each : (q : Name) → Contains (hashed_names hash z excluding) (low q) ↔ IsTrue (kept z excluding q)
+  pub ascends : IsTrue (ascending (hashes hash z excluding))
+  pub matches : (q : Name) → SharesNone hash (nsec3_names z excluding) (low q)
+      → Contains (hashes hash z excluding) (hash (low q)) ↔ IsTrue (kept z excluding q)
+  pub one : (h : List ℕ) → (o : Name) × (filter (nsec3_speaks hash z excluding h) (hashed_names hash z excluding) ≡ o ∷ [])
+
+abbrev pub Nsec3ChainSpeaks : Type 0
+Nsec3ChainSpeaks =
+    (hash : Name → List ℕ) (z : Zone) (excluding : Bool) → Contains (owners z) (apex_of z)
+    → NoneShare hash (nsec3_names z excluding) → IsNsec3Chain hash z excluding
 
 -- ---- sets of types
 

@@ -57,6 +57,10 @@ strictly_above n (l ∷ m) = at_or_above n m
 abbrev pub from_root : Name → Name
 from_root n = reverse (low n)
 
+-- two labels octet by octet, letters lowered
+abbrev pub label_cmp : Label → Label → Ordering
+label_cmp a b = slice_cmp nat_cmp (str_to_ascii_lowercase a) (str_to_ascii_lowercase b)
+
 -- canonical order: labels from the right, lowered, octet by octet; an absent label first (RFC 4034, 6.1)
 abbrev pub name_cmp : Name → Name → Ordering
 name_cmp a b = slice_cmp (slice_cmp nat_cmp) (from_root a) (from_root b)

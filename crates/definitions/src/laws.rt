@@ -1,7 +1,7 @@
 //! Laws over the definitions. Each is the contract of a function that does nothing.
 ghost use Rattle.std.specs.Prelude.{ℕ, List};
 ghost use Rattle.definitions.specs.Name.{Name};
-ghost use Rattle.definitions.specs.Laws.{OrdersNames, IsInterval, OneLinkSpeaks, OneHashLinkSpeaks, WireSpells, SignedOctetsSpell, OrderMeansNothing, SpellsSet, OneSpelling, ReadsExactly, EndsOnce, ReadingIsShort};
+ghost use Rattle.definitions.specs.Laws.{OrdersNames, IsInterval, OneLinkSpeaks, OneHashLinkSpeaks, NsecChainSpeaks, Nsec3ChainSpeaks, WireSpells, SignedOctetsSpell, OrderMeansNothing, SpellsSet, OneSpelling, ReadsExactly, EndsOnce, ReadingIsShort};
 
 /// Names have one canonical order up to ASCII case, and are equal in it exactly where they are the same up to
 /// case (RFC 4034, 6.1).
@@ -26,6 +26,19 @@ pub fn one_hash_link_speaks()
     ensures { OneHashLinkSpeaks }
 {}
 
+/// The NSEC chain of a zone with records at its apex has the live owners, each once and in canonical order, and exactly
+/// one of its records matches or covers each name at or below the apex (RFC 4034, 4).
+pub fn one_nsec_record_speaks()
+    ensures { NsecChainSpeaks }
+{}
+
+/// The NSEC3 chain of a zone with records at its apex, of whose names no two share a hash, has a record for each kept
+/// name, in order of hash. It matches no other name whose hash isn't shared, and exactly one record matches or covers
+/// each hash (RFC 5155, 7.1 and 8.3).
+pub fn one_nsec3_record_speaks()
+    ensures { Nsec3ChainSpeaks }
+{}
+
 /// The wire form of a name tells where it ends: no name's octets begin with those of another (RFC 1035, 3.1).
 pub fn wire_form_spells_one_name()
     ensures { WireSpells }
@@ -37,7 +50,8 @@ pub fn signed_octets_spell_one_rrset()
     ensures { SignedOctetsSpell }
 {}
 
-/// What a zone says of a name and a type depends on neither the order nor the repetition of its records.
+/// What a zone says of a name and a type depends on neither the order nor the repetition of its records, nor on the
+/// case of their owners.
 pub fn order_of_records_means_nothing()
     ensures { OrderMeansNothing }
 {}

@@ -1,11 +1,10 @@
 //! Sets of types: those of a chain's records, and reading a type bitmap (RFC 4034, 4.1.2).
-ghost use Rattle.std.specs.Prelude.{◌≡◌, ◌-◌, ◌<◌, ◌≤◌, true, false, length, take, vec_len, map, filter, nat_eq, IfOk, IfSome, if◌then◌else◌};
+ghost use Rattle.std.specs.Prelude.{◌≡◌, ◌<◌, ◌≤◌, true, false, length, vec_len, map, nat_eq, IfOk, IfSome, if◌then◌else◌};
 ghost use Rattle.std.specs.List.{list_any, flat_map};
 ghost use Rattle.std.specs.Option.{option_map};
-ghost use Rattle.definitions.specs.Name.{labels_eq};
-ghost use Rattle.definitions.specs.Bitmap.{is_bitmap, bitmap_has, bit_in, below, octet_of, trimmed, window_octets, window, bitmap};
+ghost use Rattle.definitions.specs.Bitmap.{is_bitmap, bitmap_has, bit_in, below, octet_of, before_last, trimmed, window_octets, window, bitmap};
 ghost use Rattle.definitions.specs.Windows.{split, first_window, numbered};
-ghost use Rattle.definitions.specs.ZoneChain.{types_at, nsec_types, nsec3_types};
+ghost use Rattle.definitions.specs.ZoneChain.{types_among, nsec_types, nsec3_types};
 
 use crate::reference::names::labels_eq;
 use crate::reference::zone::{PlainRecord, PlainZone};
@@ -65,9 +64,14 @@ fn bit_in(window: &[u8], rtype: u16) -> bool
 }
 
 impl PlainZone {
-    /// The types of an owner's NSEC record (RFC 4034, 4.1.2; RFC 4035, 2.3).
-    pub fn nsec_types(&self, alloc: Global, owner: &[Octets]) -> Result<Vec<u16>, AllocError>
-        ensures { IfOk result (λ v. v.items ≡ nsec_types self.now owner.now) }
+    /// The types of an owner's NSEC record, with or without DNSKEY at the apex (RFC 4034, 4.1.2; RFC 4035, 2.3).
+    pub fn nsec_types(
+        &self,
+        alloc: Global,
+        dnskey: bool,
+        owner: &[Octets],
+    ) -> Result<Vec<u16>, AllocError>
+        ensures { IfOk result (λ v. v.items ≡ nsec_types self.now dnskey owner.now) }
     {
         if self.is_delegation(owner) {
             let mut types = Vec::from_slice(alloc, &[NS])?;
@@ -79,15 +83,20 @@ impl PlainZone {
         }
         let mut types = types_among(alloc, self.records(), owner)?;
         types.extend_from_slice(&[RRSIG, NSEC])?;
-        if labels_eq(owner, self.apex()) {
+        if dnskey && labels_eq(owner, self.apex()) {
             types.push(DNSKEY)?;
         }
         Ok(types)
     }
 
-    /// The types of a name's NSEC3 record; none at an empty non-terminal (RFC 5155, 7.1).
-    pub fn nsec3_types(&self, alloc: Global, name: &[Octets]) -> Result<Vec<u16>, AllocError>
-        ensures { IfOk result (λ v. v.items ≡ nsec3_types self.now name.now) }
+    /// The types of a name's NSEC3 record, likewise; none at an empty non-terminal (RFC 5155, 7.1).
+    pub fn nsec3_types(
+        &self,
+        alloc: Global,
+        dnskey: bool,
+        name: &[Octets],
+    ) -> Result<Vec<u16>, AllocError>
+        ensures { IfOk result (λ v. v.items ≡ nsec3_types self.now dnskey name.now) }
     {
         if self.is_delegation(name) {
             let mut types = Vec::from_slice(alloc, &[NS])?;
@@ -102,7 +111,10 @@ impl PlainZone {
         }
         types.push(RRSIG)?;
         if labels_eq(name, self.apex()) {
-            types.extend_from_slice(&[DNSKEY, NSEC3PARAM])?;
+            if dnskey {
+                types.push(DNSKEY)?;
+            }
+            types.push(NSEC3PARAM)?;
         }
         Ok(types)
     }
@@ -114,7 +126,7 @@ fn types_among(
     records: &[PlainRecord],
     name: &[Octets],
 ) -> Result<Vec<u16>, AllocError>
-    ensures { IfOk result (λ v. v.items ≡ map (λ r. r.rtype) (filter (λ r. labels_eq r.owner name.now) records.now)) }
+    ensures { IfOk result (λ v. v.items ≡ types_among records.now name.now) }
 {
     let mut types = Vec::new(alloc);
     for record in records {
@@ -243,7 +255,7 @@ fn trim(octets: &mut Vec<u8>)
 
 /// Whether the last octet is zero.
 fn ends_in_zero(octets: &[u8]) -> bool
-    ensures zero { result ≡ true → trimmed (take (length octets.now - 1) octets.now) ≡ trimmed octets.now }
+    ensures zero { result ≡ true → trimmed (before_last octets.now) ≡ trimmed octets.now }
     ensures other { result ≡ false → trimmed octets.now ≡ octets.now }
     ensures some { result ≡ true → 0 < length octets.now }
 {

@@ -1,9 +1,7 @@
 //! Names: their equality, their order, and which stand above which.
 ghost use Rattle.std.specs.Prelude.{◌≡◌, IfOk};
-ghost use Rattle.std.specs.Ordering.{nat_cmp};
-ghost use Rattle.std.specs.Cmp.Lexicographic.{slice_cmp};
-ghost use Rattle.std.specs.Str.{bytes_eq, str_to_ascii_lowercase};
-ghost use Rattle.definitions.specs.Name.{low, labels_eq, same, at_or_above, strictly_above, name_cmp};
+ghost use Rattle.std.specs.Str.{str_to_ascii_lowercase};
+ghost use Rattle.definitions.specs.Name.{low, labels_eq, same, at_or_above, strictly_above, label_cmp, name_cmp};
 ghost use Rattle.definitions.specs.Covering.{before, covers, octets_before, hash_covers};
 
 use crate::reference::Octets;
@@ -89,7 +87,7 @@ pub fn name_cmp(a: &[Octets], b: &[Octets]) -> Ordering
 
 /// Two labels octet by octet, letters lowered.
 fn label_cmp(a: &[u8], b: &[u8]) -> Ordering
-    ensures { result ≡ slice_cmp nat_cmp (str_to_ascii_lowercase a.now) (str_to_ascii_lowercase b.now) }
+    ensures { result ≡ label_cmp a.now b.now }
 {
     match (a.split_first(), b.split_first()) {
         (None, None) => Ordering::Equal,

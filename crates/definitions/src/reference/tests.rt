@@ -32,8 +32,15 @@ fn put(
     rtype: u16,
     bytes: &[u8],
 ) {
-    let record = PlainRecord::new(name(rt, alloc, owner), rtype, octets(rt, alloc, bytes));
-    records.push(record).expect(rt, "memory");
+    let record = PlainRecord::new(
+        alloc,
+        &name(rt, alloc, owner),
+        rtype,
+        octets(rt, alloc, bytes),
+    );
+    records
+        .push(record.expect(rt, "memory"))
+        .expect(rt, "memory");
 }
 
 /// An address, an empty non-terminal, a wildcard and a delegation.
@@ -50,8 +57,8 @@ fn zone(rt: &impl Abort, alloc: Global) -> PlainZone {
         b"\xc0\x00\x02\x02",
     );
     put(rt, alloc, &mut records, "*.w.example", 16, b"\x01x");
-    put(rt, alloc, &mut records, "d.example", 2, b"\x00");
-    PlainZone::new(name(rt, alloc, "example"), records)
+    put(rt, alloc, &mut records, "D.Example", 2, b"\x00");
+    PlainZone::new(alloc, &name(rt, alloc, "Example"), records).expect(rt, "memory")
 }
 
 /// The verdict in a word, and how many data it has.
@@ -120,9 +127,8 @@ fn gives_data_in_order_and_once(rt: HostRuntime) {
         put(&rt, alloc, &mut records, "example", 16, bytes);
     }
     let apex = name(&rt, alloc, "example");
-    let verdict = PlainZone::new(name(&rt, alloc, "example"), records).verdict(
-        alloc, false, &apex, 16,
-    );
+    let zone = PlainZone::new(alloc, &apex, records).expect(&rt, "memory");
+    let verdict = zone.verdict(alloc, false, &apex, 16);
     let Ok(PlainVerdict::Records(found)) = verdict else {
         panic!(rt; "no records");
     };
@@ -225,11 +231,16 @@ fn lists_the_types_of_chain_records(rt: HostRuntime) {
     ];
     for (text, nsec, nsec3) in rows {
         let owner = name(&rt, alloc, text);
-        let types = zone.nsec_types(alloc, &owner).expect(&rt, "memory");
+        let types = zone.nsec_types(alloc, true, &owner).expect(&rt, "memory");
         assert_eq!(rt; types.as_slice(), nsec, "{text}");
-        let types = zone.nsec3_types(alloc, &owner).expect(&rt, "memory");
+        let types = zone.nsec3_types(alloc, true, &owner).expect(&rt, "memory");
         assert_eq!(rt; types.as_slice(), nsec3, "{text}");
     }
+    let apex = name(&rt, alloc, "example");
+    let types = zone.nsec_types(alloc, false, &apex).expect(&rt, "memory");
+    assert_eq!(rt; types.as_slice(), [6, 46, 47].as_slice());
+    let types = zone.nsec3_types(alloc, false, &apex).expect(&rt, "memory");
+    assert_eq!(rt; types.as_slice(), [6, 46, 51].as_slice());
 }
 
 #[test]

@@ -1,17 +1,18 @@
 //! A zone, and which of its names exist.
-ghost use Rattle.std.specs.Prelude.{◌≡◌, ◌&&◌, ◌==◌, map, filter, IfOk, OnOk};
+ghost use Rattle.std.specs.Prelude.{◌≡◌, IfOk};
 ghost use Rattle.std.specs.List.{list_any};
 ghost use Rattle.std.specs.Option.{option_map};
 ghost use Rattle.std.specs.Ordering.{nat_cmp};
 ghost use Rattle.std.specs.Cmp.Lexicographic.{slice_cmp};
-ghost use Rattle.definitions.specs.Name.{labels_eq, at_or_above};
-ghost use Rattle.definitions.specs.Zone.{has, is_delegation, cut, cut_above, is_live, is_kept, kept_owners, kept, exists, ce, kept_cut_above};
+ghost use Rattle.definitions.specs.Name.{low, at_or_above};
+ghost use Rattle.definitions.specs.Zone.{owner_of, apex_of, is_of, has, is_delegation, cut, cut_above, is_live, is_kept, kept_owners, kept, exists, ce, kept_cut_above};
 
-use crate::reference::names::{at_or_above, labels_eq, strictly_above};
+use crate::reference::names::{at_or_above, labels_eq, lowered, strictly_above};
 use crate::reference::{DS, NS, Octets};
+use std::alloc::{AllocError, Global};
 use std::marker::Model;
 
-/// A record of a zone. A contract sees owner, type and data.
+/// A record of a zone, its owner in lower case. A contract sees owner, type and data.
 #[derive(Debug, Drop)]
 pub struct PlainRecord {
     owner: Vec<Octets>,
@@ -20,28 +21,38 @@ pub struct PlainRecord {
 }
 
 impl Model for PlainRecord {
+    ghost use Rattle.std.specs.Prelude.{◌≡◌};
+    ghost use Rattle.definitions.specs.Name.{low};
     ghost use Rattle.definitions.specs.ReferenceViews.{RecordView};
 
     ghost Value = { RecordView };
 
-    ghost view = { λ r. record { owner = r.owner.items; rtype = r.rtype; bytes = r.bytes } };
+    ghost view = { λ r. record { spelled = r.owner.items; rtype = r.rtype; bytes = r.bytes } };
+
+    ghost invariant = { λ r. low r.owner.items ≡ r.owner.items };
 }
 
 impl PlainRecord {
-    /// A record; the owner is to be in lower case, and the data in canonical form.
-    pub fn new(owner: Vec<Octets>, rtype: u16, bytes: Octets) -> PlainRecord
-        ensures { result ≡ record { owner = owner.items; rtype = rtype; bytes = bytes } }
+    /// A record; the owner may be in any case, the data are to be in canonical form.
+    pub fn new(
+        alloc: Global,
+        owner: &[Octets],
+        rtype: u16,
+        bytes: Octets,
+    ) -> Result<PlainRecord, AllocError>
+        ensures { IfOk result (λ r. r ≡ record { spelled = low owner.now; rtype = rtype; bytes = bytes }) }
     {
-        PlainRecord {
+        let owner = lowered(alloc, owner)?;
+        Ok(PlainRecord {
             owner,
             rtype,
             bytes,
-        }
+        })
     }
 
-    /// The owner.
+    /// The owner, in lower case.
     pub(super) fn owner(&self) -> &[Octets]
-        ensures { result.now ≡ self.now.owner }
+        ensures { result.now ≡ owner_of self.now }
     {
         &self.owner
     }
@@ -62,9 +73,9 @@ impl PlainRecord {
 
     /// Whether the record has an owner and a type.
     pub(super) fn is_of(&self, name: &[Octets], rtype: u16) -> bool
-        ensures { result ≡ labels_eq self.now.owner name.now && (self.now.rtype == rtype) }
+        ensures { result ≡ is_of name.now rtype self.now }
     {
-        labels_eq(&self.owner, name) && self.rtype == rtype
+        labels_eq(self.owner(), name) && self.rtype == rtype
     }
 }
 
@@ -76,24 +87,33 @@ pub struct PlainZone {
 }
 
 impl Model for PlainZone {
+    ghost use Rattle.std.specs.Prelude.{◌≡◌};
+    ghost use Rattle.definitions.specs.Name.{low};
     ghost use Rattle.definitions.specs.ReferenceViews.{ZoneView};
 
     ghost Value = { ZoneView };
 
-    ghost view = { λ z. record { apex = z.apex.items; records = z.records.items } };
+    ghost view = { λ z. record { name = z.apex.items; records = z.records.items } };
+
+    ghost invariant = { λ z. low z.apex.items ≡ z.apex.items };
 }
 
 impl PlainZone {
     /// A zone of records.
-    pub fn new(apex: Vec<Octets>, records: Vec<PlainRecord>) -> PlainZone
-        ensures { result ≡ record { apex = apex.items; records = records.items } }
+    pub fn new(
+        alloc: Global,
+        name: &[Octets],
+        records: Vec<PlainRecord>,
+    ) -> Result<PlainZone, AllocError>
+        ensures { IfOk result (λ z. z ≡ record { name = low name.now; records = records.items }) }
     {
-        PlainZone { apex, records }
+        let apex = lowered(alloc, name)?;
+        Ok(PlainZone { apex, records })
     }
 
-    /// The name of the zone.
+    /// The name of the zone, in lower case.
     pub(super) fn apex(&self) -> &[Octets]
-        ensures { result.now ≡ self.now.apex }
+        ensures { result.now ≡ apex_of self.now }
     {
         &self.apex
     }
@@ -151,27 +171,27 @@ impl PlainZone {
         at_or_above(self.apex(), name) && self.cut_above(name).is_none()
     }
 
-    /// Whether a name is live; under opt-out a delegation without DS is left out (RFC 5155, 6).
-    fn is_kept(&self, opt_out: bool, name: &[Octets]) -> bool
-        ensures { result ≡ is_kept self.now opt_out name.now }
+    /// Whether a name is live; where they are excluded, a delegation without DS is left out (RFC 5155, 6).
+    fn is_kept(&self, excluding: bool, name: &[Octets]) -> bool
+        ensures { result ≡ is_kept self.now excluding name.now }
     {
-        let left_out = opt_out && self.is_delegation(name) && !self.has(name, DS);
+        let left_out = excluding && self.is_delegation(name) && !self.has(name, DS);
         self.is_live(name) && !left_out
     }
 
     /// Whether a name is at or below the apex, and at or above a kept owner.
-    pub(super) fn kept(&self, opt_out: bool, name: &[Octets]) -> bool
-        ensures { result ≡ kept self.now opt_out name.now }
+    pub(super) fn kept(&self, excluding: bool, name: &[Octets]) -> bool
+        ensures { result ≡ kept self.now excluding name.now }
     {
-        at_or_above(self.apex(), name) && self.has_kept_owner_below(opt_out, name)
+        at_or_above(self.apex(), name) && self.has_kept_owner_below(excluding, name)
     }
 
     /// Whether a name is at or above a kept owner.
-    fn has_kept_owner_below(&self, opt_out: bool, name: &[Octets]) -> bool
-        ensures { result ≡ list_any (at_or_above name.now) (kept_owners self.now opt_out) }
+    fn has_kept_owner_below(&self, excluding: bool, name: &[Octets]) -> bool
+        ensures { result ≡ list_any (at_or_above name.now) (kept_owners self.now excluding) }
     {
         for record in self.records() {
-            if self.is_kept(opt_out, record.owner()) && at_or_above(name, record.owner()) {
+            if self.is_kept(excluding, record.owner()) && at_or_above(name, record.owner()) {
                 return true;
             }
         }
@@ -198,21 +218,21 @@ impl PlainZone {
     }
 
     /// Whether a kept delegation stands strictly above a name.
-    pub(super) fn kept_cut_above(&self, opt_out: bool, name: &[Octets]) -> bool
-        ensures { result ≡ kept_cut_above self.now opt_out name.now }
+    pub(super) fn kept_cut_above(&self, excluding: bool, name: &[Octets]) -> bool
+        ensures { result ≡ kept_cut_above self.now excluding name.now }
     {
         match name.split_first() {
             None => false,
             Some((_, parent)) => {
-                (self.is_delegation(parent) && self.is_kept(opt_out, parent))
-                    || self.kept_cut_above(opt_out, parent)
+                (self.is_delegation(parent) && self.is_kept(excluding, parent))
+                    || self.kept_cut_above(excluding, parent)
             },
         }
     }
 }
 
 fn any_of(records: &[PlainRecord], name: &[Octets], rtype: u16) -> bool
-    ensures { result ≡ list_any (λ r. labels_eq r.owner name.now && (r.rtype == rtype)) records.now }
+    ensures { result ≡ list_any (is_of name.now rtype) records.now }
 {
     records.iter().any(|r| r.is_of(name, rtype))
 }

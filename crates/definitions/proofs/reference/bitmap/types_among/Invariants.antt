@@ -1,6 +1,6 @@
-use Rattle.std.proofs.Common.{◌≡◌, map, filter, take}
-use Rattle.definitions.specs.Name.{labels_eq}
+use Rattle.std.proofs.Common.{◌≡◌, take}
+use Rattle.definitions.specs.ZoneChain.{types_among}
 use Rattle.definitions.proofs.reference.bitmap.types_among.Given as goal
 
 abbrev pub invariant-loop-record : goal.invariant-loop-record
-invariant-loop-record l = l.types.items ≡ map (λ r. r.rtype) (filter (λ r. labels_eq r.owner l.name) (take l.record-index l.records))
+invariant-loop-record l = l.types.items ≡ types_among (take l.record-index l.records) l.name

@@ -5,4 +5,4 @@ use Rattle.definitions.proofs.PlainZones.{any_kept}
 use Rattle.definitions.proofs.reference.zone.PlainZone.has_kept_owner_below.Given as goal
 
 abbrev pub invariant-loop-record : goal.invariant-loop-record
-invariant-loop-record l = any_kept (is_kept l.self l.opt_out) (at_or_above l.name) l.self.records ≡ any_kept (is_kept l.self l.opt_out) (at_or_above l.name) (drop l.record-index l.record-items)
+invariant-loop-record l = any_kept (is_kept l.self l.excluding) (at_or_above l.name) l.self.records ≡ any_kept (is_kept l.self l.excluding) (at_or_above l.name) (drop l.record-index l.record-items)

@@ -1,0 +1,5 @@
+use Rattle.definitions.proofs.OwnChains.{one_nsec3_record_speaks}
+use Rattle.definitions.proofs.laws.one_nsec3_record_speaks.Goals as goal
+
+pub returns : goal.returns
+returns c = one_nsec3_record_speaks

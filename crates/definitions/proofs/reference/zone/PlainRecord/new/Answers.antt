@@ -1,0 +1,7 @@
+use Rattle.std.proofs.Common.{sym, ap, ◌∙◌}
+use Rattle.definitions.specs.Name.{low}
+use Rattle.definitions.proofs.ZoneNames.{low-low}
+use Rattle.definitions.proofs.reference.zone.PlainRecord.new.Goals as goal
+
+pub invariant_of-result : goal.invariant_of-result
+invariant_of-result c = ap low c.in_ok-owner.ensures ∙ low-low c.args.owner.now ∙ sym c.in_ok-owner.ensures
