@@ -24,13 +24,19 @@ refusal_of error.UnknownRollType = Some keys.UnknownRollType
 refusal_of error.MissingTimestamp = Some keys.MissingTimestamp
 refusal_of error.Memory = None
 
--- the error says why the answer is a refusal, or that memory ran out
+-- an accepted call
+abbrev pub IsAccepted : Answer → Type 0
+IsAccepted (Ok a) = Unit {0}
+IsAccepted (Err e) = ⊥
+
+-- The error says why the answer is a refusal, or that memory ran out. Memory comes last: it can be what is missing only
+-- where the call would have been accepted.
 abbrev pub Fails : Option Refusal → Answer → Type 0
-Fails None answer = Unit {0}
+Fails None answer = IsAccepted answer
 Fails (Some refusal) answer = answer ≡ Err refusal
 
--- What a call returned, seen by view, and what it left, are what the definition gives, unless memory ran out. Then,
--- and where the call is refused, nothing changed.
+-- What a call returned, seen by view, and what it left, are what the definition gives, unless memory ran out for what an
+-- accepted call needs. Then, and where the call is refused, nothing changed.
 abbrev pub Gives : {X : Type 0} → (X → List Action) → KeySetState → KeySetState → Result X Error → Answer → Type 0
 Gives view old new (Ok x) answer = answer ≡ Ok (new, view x)
 Gives view old new (Err e) answer = (new ≡ old) × Fails (refusal_of e) answer
