@@ -1,10 +1,10 @@
 #!/usr/bin/env python3
-"""Runs the gate and measures what it costs, crate by crate: processor time of proofs, tests and edits.
+"""Runs `rt ci` and measures what it costs, crate by crate: processor time of proofs, tests and edits.
 
-usage: benches/gate.py [JOBS]
+usage: benches/gate.py
 
-Runs ./test, with RT_JOBS=JOBS where JOBS is given, passes on what it prints and looks at the prover's processes twice a
-second. At the end it prints the table of docs/GATE.md, below the line that such a table begins with.
+It passes on what `rt ci` prints and looks at the prover's processes twice a second. Before the last line, which stays the
+last, it prints the table of docs/GATE.md. RT_JOBS says on how many processors the gate runs.
 """
 
 import collections
@@ -20,52 +20,59 @@ PHASES = ("proof", "tests", "edits")
 TICKS = os.sysconf("SC_CLK_TCK")
 
 
-def processes():
-    """Yields each process of the prover: its number, crate, phase and processor seconds so far."""
+def prover_processes():
+    """Yields each process of the prover: what tells it from others, its crate and phase, its processor seconds so far."""
     for entry in filter(str.isdigit, os.listdir("/proc")):
         try:
-            words = pathlib.Path(f"/proc/{entry}/cmdline").read_text().split("\0")
+            words = pathlib.Path(f"/proc/{entry}/cmdline").read_text(errors="replace").split("\0")
             if not words[0].endswith("/rattle") or "--crate-name" not in words:
                 continue
-            times = pathlib.Path(f"/proc/{entry}/stat").read_text().rpartition(")")[2].split()
             folder = os.readlink(f"/proc/{entry}/cwd")
+            times = pathlib.Path(f"/proc/{entry}/stat").read_text(errors="replace").rpartition(")")[2].split()
         except OSError:
             continue
         crate = words[words.index("--crate-name") + 1]
         phase = "edits" if "rt-edit-" in folder else "tests" if "--test" in words else "proof"
-        yield (entry, times[19]), crate, phase, (int(times[11]) + int(times[12])) / TICKS
+        yield (entry, times[19]), (crate, phase), (int(times[11]) + int(times[12])) / TICKS
 
 
 def watch(seconds, is_over):
     """Notes the processor seconds of each crate and phase until the run is over."""
     while not is_over.wait(0.5):
-        for process, crate, phase, used in processes():
-            seconds[crate, phase][process] = used
+        for process, part, used in prover_processes():
+            seconds[part][process] = used
 
 
 def row(name, cells):
     return f"| {name} | " + " | ".join(f"{it / 60:.1f}" for it in cells) + " |"
 
 
-def main(jobs=None):
-    seconds, is_over = collections.defaultdict(dict), threading.Event()
-    watcher = threading.Thread(target=watch, args=(seconds, is_over))
-    watcher.start()
-    began = time.monotonic()
-    status = subprocess.run(["./test"], cwd=TOP, env={**os.environ, **({"RT_JOBS": jobs} if jobs else {})}).returncode
-    is_over.set()
-    watcher.join()
-    spent = {key: sum(it.values()) for key, it in seconds.items()}
-    crates = dict.fromkeys(crate for crate, _ in spent)
-    print(f"\nThe gate took {(time.monotonic() - began) / 60:.0f} minutes; minutes of one processor:\n")
+def print_table(seconds, minutes):
+    spent = {part: sum(used.values()) for part, used in seconds.items()}
+    print(f"\nThe gate took {minutes:.0f} minutes on {os.cpu_count()} processors. Minutes of one processor:\n")
     print("| crate | proof | tests | edits | all |\n|---|---|---|---|---|")
-    for crate in crates:
+    for crate in dict.fromkeys(crate for crate, _ in spent):
         cells = [spent.get((crate, phase), 0) for phase in PHASES]
         print(row(f"`{crate}`", [*cells, sum(cells)]))
     totals = [sum(used for (_, phase), used in spent.items() if phase == it) for it in PHASES]
-    print(row("all", [*totals, sum(totals)]))
-    return status
+    print(row("all", [*totals, sum(totals)]) + "\n")
+
+
+def main():
+    seconds, is_over = collections.defaultdict(dict), threading.Event()
+    watcher = threading.Thread(target=watch, args=(seconds, is_over), daemon=True)
+    watcher.start()
+    began, last = time.monotonic(), ""
+    with subprocess.Popen(["rt", "ci"], cwd=TOP, stdout=subprocess.PIPE, text=True, errors="replace") as gate:
+        for line in gate.stdout:
+            print(last, end="", flush=True)
+            last = line
+    is_over.set()
+    watcher.join()
+    print_table(seconds, (time.monotonic() - began) / 60)
+    print(last, end="", flush=True)
+    return gate.returncode
 
 
 if __name__ == "__main__":
-    sys.exit(main(*sys.argv[1:]))
+    sys.exit(main())
