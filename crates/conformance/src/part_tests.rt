@@ -16,6 +16,11 @@ fn labels_come_from_both_ends(rt: HostRuntime) {
     assert!(rt; labels.next_back().expect(&rt, "ccc").as_slice() == b"ccc".as_slice());
     assert!(rt; labels.next().expect(&rt, "bb").as_slice() == b"bb".as_slice());
     assert!(rt; labels.next().is_none() && labels.next_back().is_none());
+}
+
+#[test]
+fn labels_of_any_name_come_from_both_ends(rt: HostRuntime) {
+    let name = Name::from_slice(b"\x01a\x02bb\x03ccc\x00").expect(&rt, "a name");
     let mut labels = name.iter_labels();
     assert!(rt; labels.next_back().expect(&rt, "the root").is_root());
     assert!(rt; labels.next().expect(&rt, "a").as_slice() == b"a".as_slice());
@@ -42,6 +47,11 @@ fn absolute_names_are_cut(rt: HostRuntime) {
     for (place, starts) in starts.into_iter().enumerate() {
         assert!(rt; name.is_label_start(place) == starts);
     }
+}
+
+#[test]
+fn absolute_names_have_parts(rt: HostRuntime) {
+    let name = Name::from_slice(b"\x01a\x02bb\x00").expect(&rt, "a name");
     if name.is_label_start(2) && name.is_label_start(5) {
         assert!(rt; name.range(2, 5).as_slice() == b"\x02bb".as_slice());
         assert!(rt; name.range_from(2).as_slice() == b"\x02bb\x00".as_slice());
@@ -50,6 +60,11 @@ fn absolute_names_are_cut(rt: HostRuntime) {
         assert!(rt; front.as_slice() == b"\x01a".as_slice());
         assert!(rt; back.as_slice() == b"\x02bb\x00".as_slice());
     }
+}
+
+#[test]
+fn absolute_names_have_a_first_label(rt: HostRuntime) {
+    let name = Name::from_slice(b"\x01a\x02bb\x00").expect(&rt, "a name");
     let (label, rest) = name.split_first().expect(&rt, "a label");
     assert!(rt; label.as_slice() == b"a".as_slice() && rest.as_slice() == b"\x02bb\x00".as_slice());
     assert!(rt; name.parent().expect(&rt, "a parent") == rest);
@@ -80,9 +95,16 @@ fn names_are_changed(rt: HostRuntime) {
     let mut name = Name::vec_from_str(rt.alloc(), "A.bb").expect(&rt, "a name");
     name.make_canonical();
     assert!(rt; name.as_slice() == b"\x01a\x02bb\x00".as_slice());
+    let mut part = RelativeName::vec_from_str(rt.alloc(), "A").expect(&rt, "a name");
+    part.make_canonical();
+    assert!(rt; part.as_slice() == b"\x01a".as_slice());
+}
+
+#[test]
+fn names_are_shortened_and_built_on(rt: HostRuntime) {
+    let name = Name::vec_from_str(rt.alloc(), "a.bb").expect(&rt, "a name");
     if name.is_label_start(2) {
         let mut front = name.truncate(2);
-        front.make_canonical();
         assert!(rt; front.as_slice() == b"\x01a".as_slice());
         if front.is_label_start(0) {
             front.truncate(0);
@@ -93,6 +115,10 @@ fn names_are_changed(rt: HostRuntime) {
         let name = builder.finish().into_absolute().expect(&rt, "memory");
         assert!(rt; name.as_slice() == b"\x01x\x00".as_slice());
     }
+}
+
+#[test]
+fn fixed_names_are_made(rt: HostRuntime) {
     let star = RelativeName::wildcard_vec(rt.alloc()).expect(&rt, "memory");
     assert!(rt; star.as_slice() == RelativeName::wildcard_ref().as_slice());
     assert!(rt; star.as_slice() == RelativeName::wildcard_slice().as_slice());

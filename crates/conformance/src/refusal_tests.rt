@@ -528,11 +528,10 @@ fn fill<const N: usize>(rt: &impl Abort, room: ArrayVec<u8, N>) {
             0 => builder.push(b'a'),
             1 => builder.append_slice(b"bc"),
             2 => builder.append_label(b"d"),
-            _ => match builder.append_name(&name) {
-                Ok(()) => Ok(()),
-                Err(PushNameError::LongName) => Err(PushError::LongName),
-                Err(PushNameError::ShortBuf) => Err(PushError::ShortBuf),
-            },
+            _ => builder.append_name(&name).map_err(|error| match error {
+                PushNameError::LongName => PushError::LongName,
+                PushNameError::ShortBuf => PushError::ShortBuf,
+            }),
         };
         if after.len() > N {
             assert!(rt; result == refused && builder.as_slice() == before);

@@ -155,6 +155,10 @@ fn names_are_copied(rt: HostRuntime) {
     assert!(rt; lower.as_slice() == b"\x01a\x01b\x00".as_slice());
     let lower = name.try_to_canonical_name(rt.alloc()).expect(&rt, "memory");
     assert!(rt; lower.as_slice() == b"\x01a\x01b\x00".as_slice());
+}
+
+#[test]
+fn relative_names_are_copied(rt: HostRuntime) {
     let part = RelativeName::from_slice(b"\x01A\x01b").expect(&rt, "a name");
     assert!(rt; part.to_vec(rt.alloc()).expect(&rt, "memory").as_slice() == part.as_slice());
     assert!(rt;
@@ -170,6 +174,11 @@ fn names_are_copied(rt: HostRuntime) {
             == part.as_slice()
     );
     assert!(rt; part.to_cow(rt.alloc()).expect(&rt, "memory").as_slice() == part.as_slice());
+}
+
+#[test]
+fn relative_names_are_copied_in_lower_case(rt: HostRuntime) {
+    let part = RelativeName::from_slice(b"\x01A\x01b").expect(&rt, "a name");
     let lower = part
         .to_canonical_relative_name(rt.alloc())
         .expect(&rt, "memory");

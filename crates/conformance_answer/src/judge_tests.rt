@@ -23,11 +23,20 @@ fn ds(alloc: Global, digest_type: u8) -> Result<Ds<Vec<u8>>, Fail> {
     ))
 }
 
-/// What a judge of this scheme says of the zone's answer for its one address at the moment of its signatures.
-fn judged<L: Ledger, M: Ledger>(
+/// The DNSKEY answer of two keys, and the zone's answer for its one address.
+fn answers(alloc: Global) -> Result<(Vec<u8>, Vec<u8>), Fail> {
+    let mut records = Vec::new(alloc);
+    records.push(record(alloc, OWNER, Rtype::A, b"\xc0\x00\x02\x01".to_vec(alloc)?)?)?;
+    let mut publisher = publisher(alloc, records, WELL)?;
+    sign_with_two_keys(alloc, &mut publisher)?;
+    let keys = publisher.dnskey_answer(&at(0))?;
+    let answer = publisher.answer(&question(alloc, OWNER, Rtype::A)?, &at(0))?;
+    Ok((keys, answer))
+}
+
+fn judge_by<L: Ledger, M: Ledger>(
     alloc: Global,
     set: &[Ds<Vec<u8>>],
-    scheme: &TestScheme,
     first: Blank,
     second: Blank,
 ) -> Result<Result<Judgement, Refused>, Fail>
@@ -38,54 +47,34 @@ fn judged<L: Ledger, M: Ledger>(
     requires second_parts { second.parts ≡ M.parts }
     requires second_some { 0 < M.parts }
 {
-    let mut records = Vec::new(alloc);
-    records.push(record(alloc, OWNER, Rtype::A, b"\xc0\x00\x02\x01".to_vec(alloc)?)?)?;
-    let mut publisher = publisher(alloc, records, WELL)?;
-    sign_with_two_keys(alloc, &mut publisher)?;
+    let (keys, answer) = answers(alloc)?;
+    let apex = name(alloc, APEX)?;
     let asked = question(alloc, OWNER, Rtype::A)?;
-    let mut checks = SchemeChecks::<TestScheme, TestScheme, L, M>::new(
-        scheme, scheme, first, second,
-    );
-    Ok(judge(
-        alloc,
-        &name(alloc, APEX)?,
-        set,
-        &publisher.dnskey_answer(&at(0))?,
-        &publisher.answer(&asked, &at(0))?,
-        &asked,
-        0,
-        &mut checks,
-        0,
-    ))
+    let mut checks = SchemeChecks::<TestScheme, TestScheme, L, M>::new(WELL, WELL, first, second);
+    Ok(judge(alloc, &apex, set, &keys, &answer, &asked, 0, &mut checks, 0))
+}
+
+/// What is said of these answers beside a DS set: the name of the verdict or refusal, and the verifications.
+fn judged(alloc: Global, set: &[Ds<Vec<u8>>]) -> Result<(&'static str, u32), Fail> {
+    let judgement = judge_by::<Brand, Brand>(alloc, set, Blank::new(1), Blank::new(1))?;
+    Ok(match judgement {
+        Ok(judgement) if matches!(judgement.verdict, Verdict::Records(_)) => {
+            ("Records", judgement.verifications)
+        }
+        Err(refused) if refused.refusal == Refusal::NoTrustedKey => {
+            ("NoTrustedKey", refused.verifications)
+        }
+        _ => ("another answer", 0),
+    })
 }
 
 /// A digest that fails is no match: another DS record of the key still names it, and where none does no key is trusted.
 #[test]
 fn digests_that_fail(rt: HostRuntime) -> Result<(), Fail> {
     let alloc = rt.alloc();
-    let set = [ds(alloc, 1)?, ds(alloc, 2)?];
-    let judgement = judged::<Brand, Brand>(alloc, &set, WELL, Blank::new(1), Blank::new(1))?;
-    assert!(rt;
-        matches!(
-            judgement,
-            Ok(Judgement {
-                verdict: Verdict::Records(_),
-                verifications: 2,
-                hashes: 0
-            })
-        )
-    );
-    let set = [ds(alloc, 1)?];
-    let judgement = judged::<Brand, Brand>(alloc, &set, WELL, Blank::new(1), Blank::new(1))?;
-    assert!(rt;
-        matches!(
-            judgement,
-            Err(Refused {
-                refusal: Refusal::NoTrustedKey,
-                verifications: 0,
-                hashes: 0
-            })
-        )
-    );
+    let both = [ds(alloc, 1)?, ds(alloc, 2)?];
+    assert_eq!(rt; judged(alloc, &both)?, ("Records", 2));
+    let unknown = [ds(alloc, 1)?];
+    assert_eq!(rt; judged(alloc, &unknown)?, ("NoTrustedKey", 0));
     Ok(())
 }
