@@ -57,15 +57,24 @@ fn judge_by<L: Ledger, M: Ledger>(
 /// What is said of these answers beside a DS set: the name of the verdict or refusal, and the verifications.
 fn judged(alloc: Global, set: &[Ds<Vec<u8>>]) -> Result<(&'static str, u32), Fail> {
     let judgement = judge_by::<Brand, Brand>(alloc, set, Blank::new(1), Blank::new(1))?;
-    Ok(match judgement {
-        Ok(judgement) if matches!(judgement.verdict, Verdict::Records(_)) => {
-            ("Records", judgement.verifications)
-        }
+    Ok(outcome(&judgement))
+}
+
+fn outcome(judgement: &Result<Judgement, Refused>) -> (&'static str, u32) {
+    match judgement {
+        Ok(judgement) => (verdict_name(&judgement.verdict), judgement.verifications),
         Err(refused) if refused.refusal == Refusal::NoTrustedKey => {
             ("NoTrustedKey", refused.verifications)
         }
-        _ => ("another answer", 0),
-    })
+        Err(_) => ("another refusal", 0),
+    }
+}
+
+fn verdict_name(verdict: &Verdict) -> &'static str {
+    match verdict {
+        Verdict::Records(_) => "Records",
+        _ => "another verdict",
+    }
 }
 
 /// A digest that fails is no match: another DS record of the key still names it, and where none does no key is trusted.
