@@ -13,6 +13,7 @@ ghost use Rattle.answer_judge.specs.Judged.{judged, judged_beyond, said, Answers
 ghost use Rattle.answer_judge.specs.Meeting.{AnswersGiven};
 ghost use Rattle.answer_judge.specs.Judging.{Judges, answer_of, verifications_of, hashes_of, is_allowed, is_first, message_refusal, same_question, verification_bound};
 
+pub mod by_scheme;
 mod decide;
 mod facts;
 mod groups;

@@ -5,8 +5,9 @@ use answer::judge::verdict::Refusal;
 use answer::message::MessageError;
 use answer::names::NameError;
 use answer::plain::record::LongRecordData;
-use answer::publisher::fault::{AnswerFault, ZoneFault};
+use answer::publisher::fault::{AnswerFault, KeyFault, ZoneFault};
 use answer::scheme::SchemeError;
+use keyset::Error;
 use session_lines::session::SessionError;
 use std::test::Fail;
 
@@ -53,13 +54,17 @@ fn faults_of_chains_and_schemes(rt: HostRuntime) -> Result<(), Fail> {
 }
 
 #[test]
-fn faults_of_answers(rt: HostRuntime) -> Result<(), Fail> {
+fn faults_of_answers_and_keys(rt: HostRuntime) -> Result<(), Fail> {
     prints!(rt;
         AnswerFault::QuestionNotAllowed => "question is not allowed",
         AnswerFault::HashFailed => "a name was not hashed",
         AnswerFault::SignFailed => "nothing was signed",
         AnswerFault::TooLong => "message is too long",
         AnswerFault::Memory => "out of memory",
+        KeyFault::ReferenceBound => "reference is bound to another key",
+        KeyFault::DigestFailed => "key was not digested",
+        KeyFault::Key(Error::KeyNotFound) => "key not found",
+        KeyFault::Memory => "out of memory",
     );
     Ok(())
 }

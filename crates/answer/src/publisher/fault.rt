@@ -5,15 +5,19 @@ use std::alloc::{AllocError, AllocFailed};
 use thiserror::Error;
 
 /// Why a call on the keys of a zone is refused. A refused call changes nothing.
-#[derive(Debug, Drop)]
+#[derive(Debug, Drop, Error)]
 pub enum KeyFault {
     /// The reference was bound to another key by an earlier add.
+    #[error("reference is bound to another key")]
     ReferenceBound,
     /// The scheme made no digest of the key.
+    #[error("key was not digested")]
     DigestFailed,
     /// The key set refuses.
+    #[error("{0}")]
     Key(keyset::Error),
     /// Memory ran out.
+    #[error("out of memory")]
     Memory,
 }
 

@@ -1,0 +1,100 @@
+//! Judging with a scheme and a hasher alone.
+ghost use Rattle.std.specs.Prelude.{◌≡◌, ◌<◌};
+ghost use Rattle.messages.specs.Questions.{asked_of};
+ghost use Rattle.answer_judge.specs.Facts.{handed};
+ghost use Rattle.answer_judge.specs.Judging.{answer_of, verifications_of, hashes_of};
+ghost use Rattle.answer_judge.specs.Meeting.{IsJudgement};
+
+use crate::judge::judge;
+use crate::judge::verdict::{Judgement, Refused};
+use crate::scheme::Scheme;
+use crate::scheme::counting::SchemeChecks;
+use denial_data::ds::Ds;
+use denial_data::hasher::Nsec3Hasher;
+use messages::question::Question;
+use records::names::Name;
+use std::alloc::Global;
+use std::marker::Brand;
+use std::sync::ledger::{Blank, Ledger};
+
+/// Judges as [`judge`] does, for callers who have a scheme and a hasher and need no counts but those of the answer.
+pub fn judge_with<S: Scheme, H: Nsec3Hasher>(
+    alloc: Global,
+    scheme: &S,
+    hasher: &H,
+    apex: &Name,
+    ds: &[Ds<Vec<u8>>],
+    dnskey_bytes: &[u8],
+    answer_bytes: &[u8],
+    question: &Question,
+    now: u32,
+    limit: u16,
+) -> Result<Judgement, Refused>
+    ensures { IsJudgement 0
+        (record {
+            verifies = S.verifies scheme.now;
+            hash = H.hash_of hasher.now;
+            digest = S.digest_of scheme.now;
+        })
+        (handed apex.now ds.now dnskey_bytes.now answer_bytes.now (asked_of question.now) now limit)
+        (answer_of result) (verifications_of result) (hashes_of result) }
+{
+    counted::<S, H, Brand, Brand>(
+        alloc,
+        scheme,
+        hasher,
+        Blank::new(1),
+        Blank::new(1),
+        apex,
+        ds,
+        dnskey_bytes,
+        answer_bytes,
+        question,
+        now,
+        limit,
+    )
+}
+
+/// A judgement whose calls are counted from 0 on.
+fn counted<S: Scheme, H: Nsec3Hasher, L: Ledger, M: Ledger>(
+    alloc: Global,
+    scheme: &S,
+    hasher: &H,
+    first: Blank,
+    second: Blank,
+    apex: &Name,
+    ds: &[Ds<Vec<u8>>],
+    dnskey_bytes: &[u8],
+    answer_bytes: &[u8],
+    question: &Question,
+    now: u32,
+    limit: u16,
+) -> Result<Judgement, Refused>
+    requires name { first.name ≡ L.name }
+    requires parts { first.parts ≡ L.parts }
+    requires some { 0 < L.parts }
+    requires second_name { second.name ≡ M.name }
+    requires second_parts { second.parts ≡ M.parts }
+    requires second_some { 0 < M.parts }
+    ensures { IsJudgement 0
+        (record {
+            verifies = S.verifies scheme.now;
+            hash = H.hash_of hasher.now;
+            digest = S.digest_of scheme.now;
+        })
+        (handed apex.now ds.now dnskey_bytes.now answer_bytes.now (asked_of question.now) now limit)
+        (answer_of result) (verifications_of result) (hashes_of result) }
+{
+    let mut checks = SchemeChecks::<S, H, L, M>::new(scheme, hasher, first, second);
+    judge(
+        alloc,
+        apex,
+        ds,
+        dnskey_bytes,
+        answer_bytes,
+        question,
+        now,
+        &mut checks,
+        limit,
+    )
+}

@@ -1,0 +1,71 @@
+//! The zone that is asked: its records, and keys that have rolled in.
+use crate::copying::Copying;
+use answer::names::Name;
+use answer::plain::record::{Record, Soa, UnknownRecordData, ZoneRecordData};
+use answer::plain::{Class, Rtype, SecurityAlgorithm, Ttl};
+use answer::publisher::fault::Mode;
+use answer::publisher::publishing::Publisher;
+use keyset::{Available, RollType, UnixTime};
+use std::alloc::Global;
+use std::time::Duration;
+
+const ROLL: RollType = RollType::AlgorithmRoll;
+
+/// The name of a text, as the publisher and the judge take it.
+pub fn name(alloc: Global, text: &str) -> anyhow::Result<Name> {
+    let flat = names_flat::name::Name::vec_from_str(alloc, text)?;
+    Ok(Name::from_octets(alloc, flat.as_slice())?)
+}
+
+/// A publisher whose first two keys sign since moment 0, and whose parent has their DS record since 3600.
+pub fn published(alloc: Global) -> anyhow::Result<Publisher<'static, Copying, Copying>> {
+    let (apex, records) = (name(alloc, "example")?, records(alloc)?);
+    let mut publisher = Publisher::new(
+        alloc,
+        apex,
+        records,
+        Mode::Nsec,
+        &Copying,
+        &Copying,
+        0,
+        86400,
+    )?;
+    let ecdsa = SecurityAlgorithm::ECDSAP256SHA256;
+    let (began, later) = (moment(0), moment(3600));
+    let ksk = b"\x00\x10".to_vec(alloc)?;
+    let reference = String::from_str(alloc, "ksk")?;
+    publisher.add_key_ksk(reference, None, ecdsa, ksk, began, Available::Available)?;
+    let zsk = b"\x00\x01\x00\x00".to_vec(alloc)?;
+    let reference = String::from_str(alloc, "zsk")?;
+    publisher.add_key_zsk(reference, None, ecdsa, zsk, began, Available::Available)?;
+    publisher.start_roll(ROLL, &[], &["ksk", "zsk"], &began)?;
+    publisher.propagation1_complete(ROLL, 3600, &began)?;
+    publisher.cache_expired1(ROLL, &later)?;
+    Ok(publisher)
+}
+
+/// A moment in seconds.
+pub fn moment(seconds: u64) -> UnixTime {
+    UnixTime::new(Duration::from_secs(seconds))
+}
+
+fn records(alloc: Global) -> anyhow::Result<Vec<Record>> {
+    let soa = Soa {
+        mname: name(alloc, "example")?,
+        rname: name(alloc, "example")?,
+        serial: 1,
+        refresh: 3600,
+        retry: 600,
+        expire: 86400,
+        minimum: 300,
+    };
+    let address = UnknownRecordData::from_octets(Rtype::A, b"\xc0\x00\x02\x50".to_vec(alloc)?)?;
+    let mut records = Vec::new(alloc);
+    records.push(record(alloc, "example", ZoneRecordData::Soa(soa))?)?;
+    records.push(record(alloc, "www.example", ZoneRecordData::Unknown(address))?)?;
+    Ok(records)
+}
+
+fn record(alloc: Global, owner: &str, data: ZoneRecordData) -> anyhow::Result<Record> {
+    Ok(Record::new(name(alloc, owner)?, Class::IN, Ttl::from_secs(3600), data))
+}
