@@ -30,18 +30,27 @@ pub fn published(alloc: Global) -> anyhow::Result<Publisher<'static, Copying, Co
         0,
         86400,
     )?;
-    let ecdsa = SecurityAlgorithm::ECDSAP256SHA256;
-    let (began, later) = (moment(0), moment(3600));
-    let ksk = b"\x00\x10".to_vec(alloc)?;
-    let reference = String::from_str(alloc, "ksk")?;
-    publisher.add_key_ksk(reference, None, ecdsa, ksk, began, Available::Available)?;
-    let zsk = b"\x00\x01\x00\x00".to_vec(alloc)?;
-    let reference = String::from_str(alloc, "zsk")?;
-    publisher.add_key_zsk(reference, None, ecdsa, zsk, began, Available::Available)?;
-    publisher.start_roll(ROLL, &[], &["ksk", "zsk"], &began)?;
-    publisher.propagation1_complete(ROLL, 3600, &began)?;
-    publisher.cache_expired1(ROLL, &later)?;
+    add_keys(alloc, &mut publisher)?;
+    roll_in(&mut publisher)?;
     Ok(publisher)
+}
+
+/// Adds a key that is to sign keys, and one for the other records.
+fn add_keys(alloc: Global, publisher: &mut Publisher<Copying, Copying>) -> anyhow::Result<()> {
+    let ecdsa = SecurityAlgorithm::ECDSAP256SHA256;
+    let (reference, key) = (String::from_str(alloc, "ksk")?, b"\x00\x10".to_vec(alloc)?);
+    publisher.add_key_ksk(reference, None, ecdsa, key, moment(0), Available::Available)?;
+    let (reference, key) = (String::from_str(alloc, "zsk")?, b"\x00\x01".to_vec(alloc)?);
+    publisher.add_key_zsk(reference, None, ecdsa, key, moment(0), Available::Available)?;
+    Ok(())
+}
+
+/// Rolls both keys in, up to the DS record.
+fn roll_in(publisher: &mut Publisher<Copying, Copying>) -> anyhow::Result<()> {
+    publisher.start_roll(ROLL, &[], &["ksk", "zsk"], &moment(0))?;
+    publisher.propagation1_complete(ROLL, 3600, &moment(0))?;
+    publisher.cache_expired1(ROLL, &moment(3600))?;
+    Ok(())
 }
 
 /// A moment in seconds.
