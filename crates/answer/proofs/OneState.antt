@@ -10,7 +10,7 @@ use Rattle.answer.specs.declared.event.Outcome.{Outcome}
 use Rattle.answer.specs.declared.event.Outcome.TheVariants as outcome
 use Rattle.answer_judge.specs.declared.judge.verdict.Judgement.{Judgement}
 use Rattle.answer_judge.specs.declared.judge.verdict.Refused.{Refused}
-use Rattle.keyset.specs.declared.rolls.Action.{Action}
+use Rattle.keyset_rolls.specs.declared.rolls.Action.{Action}
 use Rattle.answer.specs.declared.publisher.fault.KeyFault.{KeyFault}
 use Rattle.answer_zone.specs.declared.fault.Mode.{Mode as CodeMode}
 use Rattle.answer_zone.specs.declared.fault.Mode.TheVariants.{Nsec}
