@@ -187,7 +187,7 @@ soa_field octets mname rname front =
     then Some (record { is_unknown = false; written = wire mname ++ wire rname ++ drop front octets; bytes = wire (low mname) ++ wire (low rname) ++ drop front octets })
     else None
 
--- two names and five numbers of 32 bits (RFC 1035, 3.3.13)
+-- two names without pointers, and five numbers of 32 bits (RFC 1035, 3.3.13)
 abbrev pub soa_octets : List ℕ → Option DataField
 soa_octets octets = do
   m ← result_ok (owner_at 0 octets 0)
