@@ -3,8 +3,8 @@ use Rattle.std.proofs.Common.{◌≡◌, ℕ, Bool, false, cond, List, [], sym, 
 use Rattle.std.specs.Prelude.{Option, Some, None, Ok, Err}
 use Rattle.definitions.specs.Dnskey.{Dnskey, key_tag}
 use Rattle.answer.specs.declared.publisher.keys.KeyKind.{KeyKind}
-use Rattle.keyset.specs.declared.errors.Error.{Error}
-use Rattle.keyset.specs.declared.errors.Error.TheVariants as error
+use Rattle.keyset_keys.specs.declared.errors.Error.{Error}
+use Rattle.keyset_keys.specs.declared.errors.Error.TheVariants as error
 use Rattle.keyset.specs.KeyAnswers as answers
 use Rattle.keyset.specs.KeyAnswers.{refusal_of}
 use Rattle.answer.specs.KeyCalls.{Fails, IsNamed, fault_of, fault_from}

@@ -8,7 +8,7 @@ use Rattle.answer.specs.Bindings.{Add, BoundKey, Call, Finish, Outcome, Report1,
 use Rattle.answer.specs.Bindings as bindings
 use Rattle.keyset.specs.KeyState.{Answer, Reference, reference_cmp}
 use Rattle.answer_judge.specs.Meeting.{IsZoneKey}
-use Rattle.keyset.specs.declared.rolls.Action.{Action}
+use Rattle.keyset_rolls.specs.declared.rolls.Action.{Action}
 use Rattle.answer.specs.declared.publisher.keys.KeyKind.{KeyKind}
 use Rattle.answer.specs.declared.publisher.keys.KeyKind.TheVariants.{Ksk, Zsk}
 use Rattle.answer.specs.declared.publisher.keys.Publication.{Publication}

@@ -10,7 +10,7 @@ use Rattle.std.specs.FinMap.Entries.{put, find, find-put, is_sorted, is_sorted-p
 use Rattle.std.proofs.lemmas.Bool.{eq-eqb, or_parts, false≢true}
 use Rattle.std.proofs.lemmas.Cmp.{tied_itself}
 use Rattle.definitions.specs.Dnskey.{Dnskey, key_tag}
-use Rattle.keyset.specs.declared.rolls.Action.{Action}
+use Rattle.keyset_rolls.specs.declared.rolls.Action.{Action}
 use Rattle.answer.specs.Bindings.{Add, BoundKey, Call, Finish, Outcome, Report1, Report2, Start, Wait1, Wait2, ZoneKeys, apply, bound_at, dnskey_for, dnskeys, has_role, is_bound_away, is_published, lifted, on_state, published, roles_of}
 use Rattle.answer.specs.Bindings as bindings
 use Rattle.keyset.specs.KeyState.{Answer, DuplicateKeyTag, Key, KeyExists, KeySetState, Reference, add, added, has_tag, key_of, new_key, reference_cmp}

@@ -10,12 +10,13 @@ use Rattle.answer.specs.declared.event.Outcome.{Outcome}
 use Rattle.answer.specs.declared.event.Outcome.TheVariants as outcome
 use Rattle.answer_judge.specs.declared.judge.verdict.Judgement.{Judgement}
 use Rattle.answer_judge.specs.declared.judge.verdict.Refused.{Refused}
-use Rattle.keyset.specs.declared.rolls.Action.{Action}
+use Rattle.keyset_rolls.specs.declared.rolls.Action.{Action}
 use Rattle.answer.specs.declared.publisher.fault.KeyFault.{KeyFault}
 use Rattle.answer_zone.specs.declared.fault.Mode.{Mode as CodeMode}
 use Rattle.answer_zone.specs.declared.fault.Mode.TheVariants.{Nsec}
 use Rattle.std.specs.List.{AllByRecursion}
 use Rattle.definitions.specs.Name.{IsName, Name}
+use Rattle.definitions.specs.Limits.{pointer_limit}
 use Rattle.answer_judge.specs.Answers.{Answers}
 use Rattle.records.specs.Handed.{IsHanded}
 use Rattle.answer_zone.specs.ZoneView.{mode_of}
@@ -67,7 +68,7 @@ stands_at w (n ∷ ms) (y ∷ xs) (suc i) m x h e f = stands_at w ms xs i m x h.
 -- ---- a judgement
 
 abbrev IsOf : World → ℕ → List Ds → List ℕ → List ℕ → Asked → Result Judgement Refused → Type 0
-IsOf w at ds keys bytes asked j = IsJudgement 0 w.answers (handing w ds keys bytes asked at) (answer_of j) (verifications_of j) (hashes_of j)
+IsOf w at ds keys bytes asked j = IsJudgement pointer_limit w.answers (handing w ds keys bytes asked at) (answer_of j) (verifications_of j) (hashes_of j)
 
 things : (w : World) (at : ℕ) (p q : Option Shown) (asked : Asked) (bytes : List ℕ) (j : Result Judgement Refused) → JudgesThings w at p q (Some (OfZone asked bytes)) (outcome.Judged j)
     → (ds : List Ds) × (keys : List ℕ) × (p ≡ Some (OfParent ds)) × (q ≡ Some (OfKeys keys)) × IsOf w at ds keys bytes asked j

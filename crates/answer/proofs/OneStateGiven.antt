@@ -7,6 +7,7 @@ use Rattle.std.specs.FinMap.{nat_cmp-IsAntisymmetric}
 use Rattle.definitions.specs.Dnskey.{Dnskey, Ds, key_tag}
 use Rattle.definitions.specs.Name.{IsName}
 use Rattle.definitions.specs.ZoneChain.{Nsec}
+use Rattle.definitions.specs.Limits.{pointer_limit}
 use Rattle.answer.specs.declared.publisher.keys.Publication.TheVariants as publication
 use Rattle.records.specs.HandedRr.{HandedRr}
 use Rattle.answer_zone.specs.Accepting.{IsAccepted}
@@ -101,7 +102,7 @@ parents_have_ds w keys left =
 pub given : (w : World) (rs : List HandedRr) (keys : ZoneKeys) (keys_at answer_at at : ℕ) (key_bytes bytes : List ℕ) (asked : Asked)
     → IsZoneOf w rs → AreLeft w keys → ShowsKeys w keys keys_at key_bytes → IsQuestion asked → is_allowed w.zone.apex asked ≡ true → ShowsAnswer w keys answer_at asked bytes
     → MeetsItself keys → holds (second_of keys_at) w.life (second_of at) ≡ true → holds (second_of answer_at) w.life (second_of at) ≡ true
-    → WasGiven w.answers 0 (handing w (ds_set keys) key_bytes bytes asked at) rs
+    → WasGiven w.answers pointer_limit (handing w (ds_set keys) key_bytes bytes asked at) rs
 given w rs keys keys_at answer_at at key_bytes bytes asked zone left shows is allowed answers meets keys_hold answer_holds = record {
   parents = dnskeys (published keys publication.AtParent);
   present = dnskeys (published keys publication.Present);
@@ -121,8 +122,8 @@ given w rs keys keys_at answer_at at key_bytes bytes asked zone left shows is al
   present_tags = equal_tags keys publication.Present left.own;
   keysigner_tags = equal_tags keys publication.SignsKeys left.own;
   zonesigner_tags = equal_tags keys publication.SignsZone left.own;
-  keys_given = subst (λ (z : AcceptedZone). spelled.GivesKeys w.answers.verifies 0 (served w.answers.hash z) w.zone.apex (dnskeys (published keys publication.Present)) (dnskeys (published keys publication.SignsKeys)) (second_of keys_at) w.life key_bytes) zone.zone_is shows.1;
-  answer_given = subst (λ (z : AcceptedZone). spelled.GivesAnswer w.answers.verifies 0 (served w.answers.hash z) w.zone.apex (dnskeys (published keys publication.SignsZone)) (second_of answer_at) w.life asked bytes) zone.zone_is answers.1;
+  keys_given = subst (λ (z : AcceptedZone). spelled.GivesKeys w.answers.verifies pointer_limit (served w.answers.hash z) w.zone.apex (dnskeys (published keys publication.Present)) (dnskeys (published keys publication.SignsKeys)) (second_of keys_at) w.life key_bytes) zone.zone_is shows.1;
+  answer_given = subst (λ (z : AcceptedZone). spelled.GivesAnswer w.answers.verifies pointer_limit (served w.answers.hash z) w.zone.apex (dnskeys (published keys publication.SignsZone)) (second_of answer_at) w.life asked bytes) zone.zone_is answers.1;
   keys_hold = keys_hold;
   answer_holds = answer_holds;
 }

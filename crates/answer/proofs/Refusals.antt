@@ -16,7 +16,7 @@ use Rattle.answer_judge.specs.declared.scheme.SchemeError.{SchemeError}
 use Rattle.answer_judge.specs.declared.scheme.SchemeError.TheVariants as error
 use Rattle.answer.specs.AnswerFaults.{fault_of}
 use Rattle.answer.specs.Answering.{RefusesAnswer, RefusesKeys, ahead_of_records}
-use Rattle.answer.specs.Composed.{HasRoom, IsSection, IsTooLong, IsWritten, RefusesGroups, RefusesRecords, joined, record_of}
+use Rattle.answer.specs.Composed.{HasRoom, IsSection, IsTooLong, IsWritten, RefusesGroups, RefusesRecords, joined, rrsig_of}
 use Rattle.answer_zone.specs.GroupView.{FailsFor, GroupView, IsRrsigData, Presents}
 use Rattle.records.specs.Message.{Asked}
 use Rattle.answer_zone.specs.Served.{Served, answer_groups, key_group}
@@ -63,22 +63,22 @@ part_length f [] i v h e = absurd (omega arith)
 part_length f (x ∷ vs) zero v h e = omega (arith, length-append (f x) (flat_map f vs), ap (λ y. length (f y)) e)
 part_length f (x ∷ vs) (suc i) v h e = omega (arith, length-append (f x) (flat_map f vs), length-append (f x) (flat_map f (take i vs)), part_length f vs i v (omega arith) e)
 
-mapped : {V : Type 0} (h : V → List ℕ) (g : GroupView) (t : ℕ) (vs : List V) → length (flat_map record_octets (map (record_of g t) (map h vs))) ≡ length (flat_map (λ x. record_octets (record_of g t (h x))) vs)
-mapped h g t [] = refl
-mapped h g t (v ∷ vs) = omega (arith, length-append (record_octets (record_of g t (h v))) (flat_map record_octets (map (record_of g t) (map h vs))), length-append (record_octets (record_of g t (h v))) (flat_map (λ x. record_octets (record_of g t (h x))) vs), mapped h g t vs)
+mapped : {V : Type 0} (f : V → Written) (vs : List V) → length (flat_map record_octets (map f vs)) ≡ length (flat_map (λ x. record_octets (f x)) vs)
+mapped f [] = refl
+mapped f (v ∷ vs) = omega (arith, length-append (record_octets (f v)) (flat_map record_octets (map f vs)), length-append (record_octets (f v)) (flat_map (λ x. record_octets (f x)) vs), mapped f vs)
 
 -- a record of some that is too long makes them all too long
-pub records_refused : {V : Type 0} (h : V → List ℕ) (g : GroupView) (t : ℕ) (old mid : List ℕ) (c d : ℕ) (vs : List V) (i : ℕ) (v : V) (f : AnswerFault)
-    → i < length vs → v ≡ get_or vs i v → mid ≡ old ++ flat_map (λ x. record_octets (record_of g t (h x))) (take i vs) → (HasRoom old c → HasRoom mid d)
-    → RefusesRecords mid d (record_of g t (h v) ∷ []) f → RefusesRecords old c (map (record_of g t) (map h vs)) f
-records_refused h g t old mid c d vs i v fault.Memory inside is made room r = tt
-records_refused h g t old mid c d vs i v fault.QuestionNotAllowed inside is made room r = r
-records_refused h g t old mid c d vs i v fault.HashFailed inside is made room r = r
-records_refused h g t old mid c d vs i v fault.SignFailed inside is made room r = r
-records_refused {V} h g t old mid c d vs i v fault.TooLong inside is made room r = λ k.
-    let o : V → List ℕ = λ x. record_octets (record_of g t (h x)) in
+pub records_refused : {V : Type 0} (g : V → Written) (old mid : List ℕ) (c d : ℕ) (vs : List V) (i : ℕ) (v : V) (f : AnswerFault)
+    → i < length vs → v ≡ get_or vs i v → mid ≡ old ++ flat_map (λ x. record_octets (g x)) (take i vs) → (HasRoom old c → HasRoom mid d)
+    → RefusesRecords mid d (g v ∷ []) f → RefusesRecords old c (map g vs) f
+records_refused g old mid c d vs i v fault.Memory inside is made room r = tt
+records_refused g old mid c d vs i v fault.QuestionNotAllowed inside is made room r = r
+records_refused g old mid c d vs i v fault.HashFailed inside is made room r = r
+records_refused g old mid c d vs i v fault.SignFailed inside is made room r = r
+records_refused {V} g old mid c d vs i v fault.TooLong inside is made room r = λ k.
+    let o : V → List ℕ = λ x. record_octets (g x) in
     let long = r (room k) in
-    omega (arith, long, one_record mid (record_of g t (h v)), ap length made, length-append old (flat_map o (take i vs)), part_length o vs i v inside is, length-append old (flat_map record_octets (map (record_of g t) (map h vs))), mapped h g t vs)
+    omega (arith, long, one_record mid (g v), ap length made, length-append old (flat_map o (take i vs)), part_length o vs i v inside is, length-append old (flat_map record_octets (map g vs)), mapped g vs)
 
 contains_at : (gs : List GroupView) (i : ℕ) (g : GroupView) → i < length gs → g ≡ get_or gs i g → Contains gs g
 contains_at gs i g h e = subst (Contains gs) (sym e) (Contains-get_or gs i g h)
@@ -98,37 +98,36 @@ if_err_map P Q (Ok x) f h = tt
 if_err_map P Q (Err e) f h = f e h
 
 -- the RRsets up to one, with that one's signatures, are too long
-pub section_refused : {V : Type 0} (h : V → List ℕ) (sign : Dnskey → List ℕ → Option (List ℕ)) (verifies : Dnskey → List ℕ → List ℕ → Bool) (apex : Name) (at life : ℕ) (keys : List Dnskey) (gs : List GroupView) (i : ℕ) (g : GroupView) (t : ℕ) (xs ys : List V) (o : List ℕ) (c : ℕ) (f : AnswerFault)
+pub section_refused : (sign : Dnskey → List ℕ → Option (List ℕ)) (verifies : Dnskey → List ℕ → List ℕ → Bool) (apex : Name) (at life : ℕ) (keys : List Dnskey) (gs : List GroupView) (i : ℕ) (g : GroupView) (own : List Written) (datas : List (List ℕ)) (o : List ℕ) (c : ℕ) (f : AnswerFault)
     → i < length gs → g ≡ get_or gs i g → IsSection sign verifies apex at life keys (take i gs) o c → HasRoom o c
-    → AllZip (IsRrsigData sign verifies apex at life g) (if g.signed then keys else []) (map h ys)
-    → t ≡ g.rtype → map h xs ≡ g.written
-    → RefusesRecords o c (map (record_of g t) (map h xs)) f → RefusesGroups sign verifies apex at life keys 0 gs f
-section_refused h sign verifies apex at life keys gs i g t xs ys o c fault.Memory inside is before room made type_is written r = tt
-section_refused h sign verifies apex at life keys gs i g t xs ys o c fault.QuestionNotAllowed inside is before room made type_is written r = r
-section_refused h sign verifies apex at life keys gs i g t xs ys o c fault.HashFailed inside is before room made type_is written r = r
-section_refused h sign verifies apex at life keys gs i g t xs ys o c fault.SignFailed inside is before room made type_is written r = absurd r
-section_refused h sign verifies apex at life keys gs i g t xs ys o c fault.TooLong inside is before room made type_is written r =
-    let own = flat_map record_octets (map (record_of g t) (map h xs)) in
-    let signatures = flat_map record_octets (map (record_of g 46) (map h ys)) in
-    let mid = o ++ own in
+    → AllZip (IsRrsigData sign verifies apex at life g) (if g.signed then keys else []) datas
+    → own ≡ g.written
+    → RefusesRecords o c own f → RefusesGroups sign verifies apex at life keys 0 gs f
+section_refused sign verifies apex at life keys gs i g own datas o c fault.Memory inside is before room made written r = tt
+section_refused sign verifies apex at life keys gs i g own datas o c fault.QuestionNotAllowed inside is before room made written r = r
+section_refused sign verifies apex at life keys gs i g own datas o c fault.HashFailed inside is before room made written r = r
+section_refused sign verifies apex at life keys gs i g own datas o c fault.SignFailed inside is before room made written r = absurd r
+section_refused sign verifies apex at life keys gs i g own datas o c fault.TooLong inside is before room made written r =
+    let signatures = flat_map record_octets (map (rrsig_of g) datas) in
+    let mid = o ++ flat_map record_octets own in
     let new = mid ++ signatures in
-    let whole = section_more h sign verifies apex at life keys gs i g t xs ys o mid new c (c + length xs) (c + length xs + length ys) inside is before made type_is written refl refl refl refl in
-    (take (i + 1) gs, drop (i + 1) gs, new, c + length xs + length ys, sym (take-append-drop (i + 1) gs), whole, omega (arith, r room, length-append mid signatures))
+    let whole = section_more sign verifies apex at life keys gs i g own datas o mid new c (c + length own) (c + length own + length datas) inside is before made written refl refl refl refl in
+    (take (i + 1) gs, drop (i + 1) gs, new, c + length own + length datas, sym (take-append-drop (i + 1) gs), whole, omega (arith, r room, length-append mid signatures))
 
-pub signatures_refused : {V : Type 0} (h : V → List ℕ) (sign : Dnskey → List ℕ → Option (List ℕ)) (verifies : Dnskey → List ℕ → List ℕ → Bool) (apex : Name) (at life : ℕ) (keys : List Dnskey) (gs : List GroupView) (i : ℕ) (g : GroupView) (t : ℕ) (xs ys : List V) (o mid : List ℕ) (c d : ℕ) (f : AnswerFault)
+pub signatures_refused : (sign : Dnskey → List ℕ → Option (List ℕ)) (verifies : Dnskey → List ℕ → List ℕ → Bool) (apex : Name) (at life : ℕ) (keys : List Dnskey) (gs : List GroupView) (i : ℕ) (g : GroupView) (own : List Written) (datas : List (List ℕ)) (o mid : List ℕ) (c d : ℕ) (f : AnswerFault)
     → i < length gs → g ≡ get_or gs i g → IsSection sign verifies apex at life keys (take i gs) o c → HasRoom mid d
-    → AllZip (IsRrsigData sign verifies apex at life g) (if g.signed then keys else []) (map h ys)
-    → t ≡ g.rtype → map h xs ≡ g.written
-    → mid ≡ o ++ flat_map record_octets (map (record_of g t) (map h xs)) → d ≡ c + length xs
-    → RefusesRecords mid d (map (record_of g 46) (map h ys)) f → RefusesGroups sign verifies apex at life keys 0 gs f
-signatures_refused h sign verifies apex at life keys gs i g t xs ys o mid c d fault.Memory inside is before room made type_is written m n r = tt
-signatures_refused h sign verifies apex at life keys gs i g t xs ys o mid c d fault.QuestionNotAllowed inside is before room made type_is written m n r = r
-signatures_refused h sign verifies apex at life keys gs i g t xs ys o mid c d fault.HashFailed inside is before room made type_is written m n r = r
-signatures_refused h sign verifies apex at life keys gs i g t xs ys o mid c d fault.SignFailed inside is before room made type_is written m n r = absurd r
-signatures_refused h sign verifies apex at life keys gs i g t xs ys o mid c d fault.TooLong inside is before room made type_is written m n r =
-    let new = mid ++ flat_map record_octets (map (record_of g 46) (map h ys)) in
-    let whole = section_more h sign verifies apex at life keys gs i g t xs ys o mid new c d (d + length ys) inside is before made type_is written m n refl refl in
-    (take (i + 1) gs, drop (i + 1) gs, new, d + length ys, sym (take-append-drop (i + 1) gs), whole, omega (arith, r room))
+    → AllZip (IsRrsigData sign verifies apex at life g) (if g.signed then keys else []) datas
+    → own ≡ g.written
+    → mid ≡ o ++ flat_map record_octets own → d ≡ c + length own
+    → RefusesRecords mid d (map (rrsig_of g) datas) f → RefusesGroups sign verifies apex at life keys 0 gs f
+signatures_refused sign verifies apex at life keys gs i g own datas o mid c d fault.Memory inside is before room made written m n r = tt
+signatures_refused sign verifies apex at life keys gs i g own datas o mid c d fault.QuestionNotAllowed inside is before room made written m n r = r
+signatures_refused sign verifies apex at life keys gs i g own datas o mid c d fault.HashFailed inside is before room made written m n r = r
+signatures_refused sign verifies apex at life keys gs i g own datas o mid c d fault.SignFailed inside is before room made written m n r = absurd r
+signatures_refused sign verifies apex at life keys gs i g own datas o mid c d fault.TooLong inside is before room made written m n r =
+    let new = mid ++ flat_map record_octets (map (rrsig_of g) datas) in
+    let whole = section_more sign verifies apex at life keys gs i g own datas o mid new c d (d + length datas) inside is before made written m n refl refl in
+    (take (i + 1) gs, drop (i + 1) gs, new, d + length datas, sym (take-append-drop (i + 1) gs), whole, omega (arith, r room))
 
 -- what refuses the first section, or the second, refuses the whole
 pub first_refused : (sign : Dnskey → List ℕ → Option (List ℕ)) (verifies : Dnskey → List ℕ → List ℕ → Bool) (apex : Name) (at life : ℕ) (keys : List Dnskey) (more : ℕ) (gs hs : List GroupView) (f : AnswerFault)

@@ -9,7 +9,7 @@ use Rattle.definitions.specs.Dnskey.{Dnskey}
 use Rattle.records.specs.Message.{Asked}
 use Rattle.records.specs.Written.{Written, header_octets, question_octets, record_octets}
 use Rattle.answer_zone.specs.GroupView.{GroupView, IsRrsigData}
-use Rattle.answer.specs.Composed.{IsAnswer, IsSection, IsWritten, joined, record_of}
+use Rattle.answer.specs.Composed.{IsAnswer, IsSection, IsWritten, joined, rrsig_of}
 use Rattle.answer_zone.proofs.SignMade.{AllZip-next}
 
 -- one RRset more
@@ -29,24 +29,23 @@ count_more ps a b old mid new la lb o m n ea eb =
     ap length (joined-snoc ps (a ++ b)) ∙ length-append (joined ps) (a ++ b) ∙ ap (λ k. length (joined ps) + k) (length-append a b) in
     omega arith
 
-pub section_more : {V : Type 0} (h : V → List ℕ) (sign : Dnskey → List ℕ → Option (List ℕ)) (verifies : Dnskey → List ℕ → List ℕ → Bool) (apex : Name) (at life : ℕ) (keys : List Dnskey) (gs : List GroupView) (i : ℕ) (g : GroupView) (t : ℕ) (xs ys : List V) (o o' o'' : List ℕ) (c c' c'' : ℕ)
+pub section_more : (sign : Dnskey → List ℕ → Option (List ℕ)) (verifies : Dnskey → List ℕ → List ℕ → Bool) (apex : Name) (at life : ℕ) (keys : List Dnskey) (gs : List GroupView) (i : ℕ) (g : GroupView) (own : List Written) (datas : List (List ℕ)) (o o' o'' : List ℕ) (c c' c'' : ℕ)
     → i < length gs → g ≡ get_or gs i g → IsSection sign verifies apex at life keys (take i gs) o c
-    → AllZip (IsRrsigData sign verifies apex at life g) (if g.signed then keys else []) (map h ys)
-    → t ≡ g.rtype → map h xs ≡ g.written
-    → o' ≡ o ++ flat_map record_octets (map (record_of g t) (map h xs)) → c' ≡ c + length xs
-    → o'' ≡ o' ++ flat_map record_octets (map (record_of g 46) (map h ys)) → c'' ≡ c' + length ys
+    → AllZip (IsRrsigData sign verifies apex at life g) (if g.signed then keys else []) datas
+    → own ≡ g.written
+    → o' ≡ o ++ flat_map record_octets own → c' ≡ c + length own
+    → o'' ≡ o' ++ flat_map record_octets (map (rrsig_of g) datas) → c'' ≡ c' + length datas
     → IsSection sign verifies apex at life keys (take (i + 1) gs) o'' c''
-section_more h sign verifies apex at life keys gs i g t xs ys o o' o'' c c' c'' below is before signed t_is xs_are first counted second counted_too =
-    let a : List Written = map (record_of g g.rtype) g.written in
-    let b : List Written = map (record_of g 46) (map h ys) in
-    let same : map (record_of g t) (map h xs) ≡ a = ap (λ n. map (record_of g n) (map h xs)) t_is ∙ ap (map (record_of g g.rtype)) xs_are in
-    let la : length a ≡ length xs = sym (ap length same) ∙ length-map (map h xs) (record_of g t) ∙ length-map xs h in
-    let lb : length b ≡ length ys = length-map (map h ys) (record_of g 46) ∙ length-map ys h in (
+section_more sign verifies apex at life keys gs i g own datas o o' o'' c c' c'' below is before signed own_are first counted second counted_too =
+    let a : List Written = g.written in
+    let b : List Written = map (rrsig_of g) datas in
+    let la : length a ≡ length own = sym (ap length own_are) in
+    let lb : length b ≡ length datas = length-map datas (rrsig_of g) in (
       before.0 ++ (a ++ b) ∷ [],
       (
-        AllZip-next (IsWritten sign verifies apex at life keys) gs i before.0 g (a ++ b) below is before.1.0 (map h ys, (signed, refl)),
-        octets_more before.0 a b o o' o'' before.1.1 (first ∙ ap (λ x. o ++ flat_map record_octets x) same) second,
-        count_more before.0 a b c c' c'' (length xs) (length ys) before.1.2 counted counted_too la lb,
+        AllZip-next (IsWritten sign verifies apex at life keys) gs i before.0 g (a ++ b) below is before.1.0 (datas, (signed, refl)),
+        octets_more before.0 a b o o' o'' before.1.1 (first ∙ ap (λ x. o ++ flat_map record_octets x) own_are) second,
+        count_more before.0 a b c c' c'' (length own) (length datas) before.1.2 counted counted_too la lb,
       ),
     )
 

@@ -2,6 +2,7 @@
 use Rattle.std.proofs.Common.{◌≡◌, ℕ, ◌≤◌, Bool, List, [], ◌∷◌, ◌++◌, length, map, Option, refl, sym, subst, ap, length-append, arith}
 use Rattle.std.specs.List.{AllByRecursion, AllZip, flat_map}
 use Rattle.std.proofs.lemmas.List.Concat.{flat_map-append}
+use Rattle.definitions.specs.Limits.{pointer_limit}
 use Rattle.definitions.specs.Name.{Name, IsName}
 use Rattle.definitions.specs.Dnskey.{Dnskey}
 use Rattle.records.specs.Message.{Asked}
@@ -37,7 +38,7 @@ all_behind P (x ∷ xs) ys h = all_behind P xs ys h.1
 -- the message of an answer reads as its RRsets, each with its signatures behind it
 pub answer_gives : (sign : Dnskey → List ℕ → Option (List ℕ)) (verifies : Dnskey → List ℕ → List ℕ → Bool) (apex : Name) (at life : ℕ) (keys : List Dnskey) (flags : ℕ) (asked : Asked) (answer authority : List GroupView) (groups : List Group) (m : List ℕ)
     → IsName apex → IsQuestion asked → AllByRecursion IsFormed groups → AllZip Presents (answer ++ authority) groups → IsAnswer sign verifies apex at life keys flags asked answer authority m
-    → Gives verifies 0 apex at life keys asked groups m
+    → Gives verifies pointer_limit apex at life keys asked groups m
 answer_gives sign verifies apex at life keys flags asked answer authority groups m name is formed presents w =
     let Whole = IsWritten sign verifies apex at life keys in
     let first : List Written = joined w.answers in
@@ -65,7 +66,7 @@ answer_gives sign verifies apex at life keys flags asked answer authority groups
       name_is = refl;
       rtype_is = refl;
       class_is = refl;
-      groups_are = subst (λ rs. AreGroups verifies 0 m (spelled_from (first_place asked) rs) apex at life keys groups) both
+      groups_are = subst (λ rs. AreGroups verifies pointer_limit m (spelled_from (first_place asked) rs) apex at life keys groups) both
           (are_groups sign verifies m (first_place asked) apex at life keys groups pieces [] name formed written
           (subst (λ rs. StandsAt m (first_place asked) (flat_map record_octets rs ++ [])) (sym both) stands));
     }

@@ -5,6 +5,7 @@ use Rattle.std.specs.List.{AllZip}
 use Rattle.std.proofs.lemmas.Bool.{or_parts}
 use Rattle.definitions.specs.Name.{Name, IsName, wire}
 use Rattle.definitions.specs.Bitmap.{is_bitmap}
+use Rattle.definitions.specs.Limits.{pointer_limit}
 use Rattle.records.specs.HandedRr.{HandedRr, is_meta}
 use Rattle.records.specs.Handed.{IsHanded, SpellsNs, SpellsSoa}
 use Rattle.records.specs.Message.{Spelled, behind, data_of, ns_data, soa_data, nsec_data}
@@ -17,10 +18,10 @@ use Rattle.answer.proofs.WritesRecords.{ReadsAs}
 abbrev chosen : List ℕ → Spelled → Bool → Bool → Bool → Option (List ℕ)
 chosen m r is_ns is_soa is_nsec =
     elim is_ns [
-      | true ↦ ns_data 0 m r
+      | true ↦ ns_data pointer_limit m r
       | false ↦ elim is_soa [
-        | true ↦ soa_data 0 m r
-        | false ↦ elim is_nsec [ true ↦ nsec_data 0 m r | false ↦ Some (data_of m r) ]
+        | true ↦ soa_data pointer_limit m r
+        | false ↦ elim is_nsec [ true ↦ nsec_data pointer_limit m r | false ↦ Some (data_of m r) ]
       ]
     ]
 

@@ -4,6 +4,7 @@ use Rattle.std.specs.List.{AllByRecursion}
 use Rattle.definitions.specs.Dnskey.{Dnskey}
 use Rattle.definitions.specs.ZoneChain.{Mode, Nsec}
 use Rattle.definitions.specs.Zone.{apex_of}
+use Rattle.definitions.specs.Limits.{pointer_limit}
 use Rattle.answer.specs.Answering.{AnswersKeys, AnswersZone}
 use Rattle.answer_judge.specs.Given.{GivesAnswer, GivesKeys}
 use Rattle.records.specs.Handed.{AreHanded}
@@ -19,7 +20,7 @@ use Rattle.answer.proofs.WritesZone.{answer_formed, keys_formed}
 -- the zone's answer to a question
 pub answer_given : (sign : Dnskey → List ℕ → Option (List ℕ)) (verifies : Dnskey → List ℕ → List ℕ → Bool) (hash : List ℕ → ℕ → ℕ → List ℕ → Option (List ℕ)) (z : AcceptedZone) (at life : ℕ) (signers : List Dnskey) (asked : Asked) (m : List ℕ)
     → IsPublished z.apex z.records → AreHanded z.apex z.records → z.mode ≡ Nsec → IsQuestion asked → (eqb asked.rtype 47 || eqb asked.rtype 50) ≡ false
-    → AnswersZone sign verifies (served hash z) z.apex at life (by_tag signers) asked m → GivesAnswer verifies 0 (served hash z) z.apex signers at life asked m
+    → AnswersZone sign verifies (served hash z) z.apex at life (by_tag signers) asked m → GivesAnswer verifies pointer_limit (served hash z) z.apex signers at life asked m
 answer_given sign verifies hash z at life signers asked m published handed mode is plain w =
     let formed : AllByRecursion IsFormed (answer_groups (served hash z) asked.name asked.rtype) =
     subst (λ (k : Mode). AllByRecursion IsFormed (answer_groups (served_of z.apex k (hash_in hash k) z.records) asked.name asked.rtype)) (sym mode)
@@ -28,7 +29,7 @@ answer_given sign verifies hash z at life signers asked m published handed mode 
 
 -- the DNSKEY answer
 pub keys_given : (sign : Dnskey → List ℕ → Option (List ℕ)) (verifies : Dnskey → List ℕ → List ℕ → Bool) (hash : List ℕ → ℕ → ℕ → List ℕ → Option (List ℕ)) (z : AcceptedZone) (at life : ℕ) (present signers : List Dnskey) (m : List ℕ)
-    → AreHanded z.apex z.records → AnswersKeys sign verifies (served hash z) z.apex at life present (by_tag signers) m → GivesKeys verifies 0 (served hash z) z.apex present signers at life m
+    → AreHanded z.apex z.records → AnswersKeys sign verifies (served hash z) z.apex at life present (by_tag signers) m → GivesKeys verifies pointer_limit (served hash z) z.apex present signers at life m
 keys_given sign verifies hash z at life present signers m handed w =
     let asked : Asked = record { name = z.apex; rtype = 48; class = 1 } in
     let s = served hash z in

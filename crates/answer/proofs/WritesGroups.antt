@@ -3,23 +3,24 @@ use Rattle.std.proofs.Common.{◌≡◌, ℕ, ◌<◌, ◌≤◌, Bool, List, []
 use Rattle.std.specs.Prelude.{if◌then◌else◌}
 use Rattle.std.specs.List.{AllByRecursion, AllZip, flat_map}
 use Rattle.std.proofs.lemmas.List.Concat.{flat_map-append}
+use Rattle.definitions.specs.Limits.{pointer_limit}
 use Rattle.definitions.specs.Name.{Name, IsName}
 use Rattle.definitions.specs.Dnskey.{Dnskey}
 use Rattle.answer_zone.specs.Served.{Group}
 use Rattle.answer_judge.specs.Given.{AreGroups}
-use Rattle.answer.specs.Composed.{IsWritten, joined, record_of}
+use Rattle.answer.specs.Composed.{IsWritten, joined, rrsig_of}
 use Rattle.records.specs.Written.{Written, record_octets}
 use Rattle.messages.specs.WrittenLaws.{IsRecord, spelled_at, spelled_from}
 use Rattle.messages.proofs.MessageWritten.{StandsAt, end_of}
 use Rattle.answer.proofs.Refusals.{length_record}
-use Rattle.answer.proofs.WritesRecords.{ReadsAs, view_of, own_records, its_signatures, rest_stands}
+use Rattle.answer.proofs.WritesRecords.{ReadsRecord, view_of, own_kept, own_records, its_signatures, rest_stands}
 
 -- an RRset whose fields hold what they say, and whose data read as their canonical form
 pub record IsFormed (g : Group) : Type 0 where
   pub owner : IsName g.owner
   pub rtype : g.rtype < 65536
   pub ttl : g.ttl < 4294967296
-  pub datas : AllZip (ReadsAs g.rtype) g.written g.datas
+  pub datas : AllZip (ReadsRecord g) g.written g.datas
 
 -- the place behind some records
 place_behind : ℕ → List Written → ℕ
@@ -43,15 +44,15 @@ parted rs ss rest = ap (λ x. x ++ rest) (flat_map-append record_octets rs ss) �
 -- the RRsets, each with its signatures
 pub are_groups : (sign : Dnskey → List ℕ → Option (List ℕ)) (verifies : Dnskey → List ℕ → List ℕ → Bool) (m : List ℕ) (p : ℕ) (apex : Name) (at life : ℕ) (keys : List Dnskey) (gs : List Group) (pieces : List (List Written)) (rest : List ℕ)
     → IsName apex → AllByRecursion IsFormed gs → AllZip (IsWritten sign verifies apex at life keys) (map view_of gs) pieces → StandsAt m p (flat_map record_octets (joined pieces) ++ rest)
-    → AreGroups verifies 0 m (spelled_from p (joined pieces)) apex at life keys gs
+    → AreGroups verifies pointer_limit m (spelled_from p (joined pieces)) apex at life keys gs
 are_groups sign verifies m p apex at life keys [] [] rest name formed written s = refl
 are_groups sign verifies m p apex at life keys [] (x ∷ pieces) rest name formed written s = absurd written
 are_groups sign verifies m p apex at life keys (g ∷ gs) [] rest name formed written s = absurd written
 are_groups sign verifies m p apex at life keys (g ∷ gs) (x ∷ pieces) rest name formed written s =
     let f = formed.0 in
     let w = written.0 in
-    let own : List Written = map (record_of (view_of g) g.rtype) g.written in
-    let signatures : List Written = map (record_of (view_of g) 46) w.0 in
+    let own : List Written = g.written in
+    let signatures : List Written = map (rrsig_of (view_of g)) w.0 in
     let others : List Written = joined pieces in
     let parts : x ++ others ≡ own ++ (signatures ++ others) = ap (λ y. y ++ others) w.1.1 ∙ append_assoc own signatures others in
     let q = place_behind p own in
@@ -68,6 +69,7 @@ are_groups sign verifies m p apex at life keys (g ∷ gs) (x ∷ pieces) rest na
       own_records m p g g.written g.datas _ f.datas first,
       its_signatures sign verifies m q apex at life g (if g.signed then keys else []) w.0 _ name f.rtype f.ttl w.1.0 second,
       are_groups sign verifies m e apex at life keys gs pieces rest name formed.1 written.1 third,
+      own_kept p g.written,
     )
 
 -- ---- sizes
@@ -79,9 +81,18 @@ pub record Holds (r : Written) : Type 0 where
   pub class : r.class < 65536
   pub ttl : r.ttl < 4294967296
 
-hold_of : (g : Group) (t : ℕ) (ds : List (List ℕ)) → IsFormed g → t < 65536 → AllByRecursion Holds (map (record_of (view_of g) t) ds)
-hold_of g t [] f small = tt
-hold_of g t (d ∷ ds) f small = (record { owner = f.owner; rtype = small; class = lit< tt; ttl = f.ttl }, hold_of g t ds f small)
+own_hold : (g : Group) (ws : List Written) (ds : List (List ℕ)) → g.rtype < 65536 → AllZip (ReadsRecord g) ws ds → AllByRecursion Holds ws
+own_hold g [] [] small h = tt
+own_hold g [] (d ∷ ds) small h = tt
+own_hold g (w ∷ ws) [] small h = absurd h
+own_hold g (w ∷ ws) (d ∷ ds) small h =
+    let one : w.class < 65536 = omega (arith, h.0.class) in
+    let kind : w.rtype < 65536 = omega (arith, h.0.rtype, small) in
+    (record { owner = h.0.owner; rtype = kind; class = one; ttl = h.0.ttl }, own_hold g ws ds small h.1)
+
+signatures_hold : (g : Group) (ds : List (List ℕ)) → IsFormed g → AllByRecursion Holds (map (rrsig_of (view_of g)) ds)
+signatures_hold g [] f = tt
+signatures_hold g (d ∷ ds) f = (record { owner = f.owner; rtype = lit< tt; class = lit< tt; ttl = f.ttl }, signatures_hold g ds f)
 
 hold_append : (rs ss : List Written) → AllByRecursion Holds rs → AllByRecursion Holds ss → AllByRecursion Holds (rs ++ ss)
 hold_append [] ss h k = k
@@ -94,10 +105,10 @@ all_hold sign verifies apex at life keys [] (x ∷ pieces) formed written = absu
 all_hold sign verifies apex at life keys (g ∷ gs) [] formed written = absurd written
 all_hold sign verifies apex at life keys (g ∷ gs) (x ∷ pieces) formed written =
     let w = written.0 in
-    let own : List Written = map (record_of (view_of g) g.rtype) g.written in
-    let signatures : List Written = map (record_of (view_of g) 46) w.0 in
+    let own : List Written = g.written in
+    let signatures : List Written = map (rrsig_of (view_of g)) w.0 in
     hold_append x (joined pieces)
-    (subst (AllByRecursion Holds) (sym w.1.1) (hold_append own signatures (hold_of g g.rtype g.written formed.0 formed.0.rtype) (hold_of g 46 w.0 formed.0 (lit< tt))))
+    (subst (AllByRecursion Holds) (sym w.1.1) (hold_append own signatures (own_hold g g.written g.datas formed.0.rtype formed.0.datas) (signatures_hold g w.0 formed.0)))
     (all_hold sign verifies apex at life keys gs pieces formed.1 written.1)
 
 -- records of a short message

@@ -9,12 +9,12 @@ use Rattle.answer.specs.declared.publisher.keys.Publication.{Publication}
 use Rattle.answer.specs.declared.publisher.keys.Publication.TheVariants as publication
 use Rattle.std.specs.FinMap.Entries as entries
 use Rattle.definitions.specs.Dnskey.{Dnskey, Ds, dnskey_data, key_tag, same_key}
-use Rattle.keyset.specs.declared.keys.KeyType.{KeyType}
-use Rattle.keyset.specs.declared.keys.KeyType.TheVariants.{Ksk, Zsk}
+use Rattle.keyset_keys.specs.declared.keys.KeyType.{KeyType}
+use Rattle.keyset_keys.specs.declared.keys.KeyType.TheVariants.{Ksk, Zsk}
 use Rattle.answer.specs.declared.publisher.keys.KeyKind.{KeyKind}
 use Rattle.answer.specs.declared.publisher.keys.KeyKind.TheVariants.{Ksk as KskKey, Zsk as ZskKey}
-use Rattle.keyset.specs.declared.rolls.RollType.{RollType}
-use Rattle.keyset.specs.declared.rolls.Action.{Action}
+use Rattle.keyset_rolls.specs.declared.rolls.RollType.{RollType}
+use Rattle.keyset_rolls.specs.declared.rolls.Action.{Action}
 use Rattle.keyset.specs.KeyState.{KeySetState, Reference, reference_cmp, clear, new_key, Refusal, Answer, add, start, report1, report2, wait1, wait2, done, key_of, ksk_is, zsk_is, main_is, is_at_parent, is_present, signs}
 
 -- a call on the keys; an add names the key's private reference, algorithm and octets, and whether it is available

@@ -5,20 +5,21 @@ use Rattle.definitions.specs.Name.{Name}
 use Rattle.definitions.specs.Dnskey.{Dnskey}
 use Rattle.records.specs.Message.{Asked}
 use Rattle.records.specs.Written.{Written, record_octets, message_octets}
+use Rattle.answer_zone.specs.Served.{written_rr}
 use Rattle.answer_zone.specs.GroupView.{FailsFor, GroupView, IsRrsigData}
 use Rattle.answer.specs.declared.publisher.fault.AnswerFault.{AnswerFault}
 use Rattle.answer.specs.declared.publisher.fault.AnswerFault.TheVariants as fault
 
--- a record of an RRset, or a signature of it
-abbrev pub record_of : GroupView → ℕ → List ℕ → Written
-record_of g t d = record { owner = g.owner; rtype = t; class = 1; ttl = g.ttl; octets = d }
+-- the record of a signature of an RRset (RFC 4034, 3)
+abbrev pub rrsig_of : GroupView → List ℕ → Written
+rrsig_of g d = written_rr g.owner 46 g.ttl d
 
 -- the records of an RRset, then its signatures, where it is signed
 abbrev pub IsWritten : (Dnskey → List ℕ → Option (List ℕ)) → (Dnskey → List ℕ → List ℕ → Bool) → Name → ℕ → ℕ → List Dnskey → GroupView → List Written → Type 0
 IsWritten sign verifies apex at life keys g ws =
     (signatures : List (List ℕ))
     × (AllZip (IsRrsigData sign verifies apex at life g) (if g.signed then keys else []) signatures
-    × (ws ≡ map (record_of g g.rtype) g.written ++ map (record_of g 46) signatures))
+    × (ws ≡ g.written ++ map (rrsig_of g) signatures))
 
 -- the records of RRsets one after another
 abbrev pub joined : List (List Written) → List Written

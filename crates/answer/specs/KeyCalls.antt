@@ -2,9 +2,9 @@
 use Rattle.std.specs.Prelude.{◌≡◌, List, Option, Some, None, Result, Ok, Err}
 use Rattle.answer.specs.declared.publisher.fault.KeyFault.{KeyFault}
 use Rattle.answer.specs.declared.publisher.fault.KeyFault.TheVariants as fault
-use Rattle.keyset.specs.declared.rolls.Action.{Action}
-use Rattle.keyset.specs.declared.errors.Error.{Error}
-use Rattle.keyset.specs.declared.errors.Error.TheVariants as error
+use Rattle.keyset_rolls.specs.declared.rolls.Action.{Action}
+use Rattle.keyset_keys.specs.declared.errors.Error.{Error}
+use Rattle.keyset_keys.specs.declared.errors.Error.TheVariants as error
 use Rattle.keyset.specs.KeyState.{Refusal}
 use Rattle.keyset.specs.KeyAnswers.{refusal_of}
 use Rattle.answer.specs.Bindings as bindings

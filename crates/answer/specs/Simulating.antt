@@ -2,6 +2,7 @@
 use Rattle.std.specs.Prelude.{◌≡◌, ℕ, Bool, true, false, List, [], ◌∷◌, ◌++◌, map, length, Option, Some, slice_get, string_bytes}
 use Rattle.definitions.specs.Name.{Name}
 use Rattle.definitions.specs.Dnskey.{Dnskey, Ds}
+use Rattle.definitions.specs.Limits.{pointer_limit}
 use Rattle.answer.specs.declared.event.Event.{Event}
 use Rattle.answer.specs.declared.event.Act.{Act}
 use Rattle.answer.specs.declared.event.Act.TheVariants as act
@@ -77,12 +78,12 @@ handing w ds keys answer asked at = record {
 
 -- a judgement of these things, or no such things
 abbrev pub JudgesThings : World → ℕ → Option Shown → Option Shown → Option Shown → Outcome → Type 0
-JudgesThings w at (Some (OfParent ds)) (Some (OfKeys keys)) (Some (OfZone asked answer)) (outcome.Judged j) = IsJudgement 0 w.answers (handing w ds keys answer asked at) (answer_of j) (verifications_of j) (hashes_of j)
+JudgesThings w at (Some (OfParent ds)) (Some (OfKeys keys)) (Some (OfZone asked answer)) (outcome.Judged j) = IsJudgement pointer_limit w.answers (handing w ds keys answer asked at) (answer_of j) (verifications_of j) (hashes_of j)
 JudgesThings w at (Some (OfParent ds)) (Some (OfKeys keys)) (Some (OfZone asked answer)) _ = ⊥
 JudgesThings w at _ _ _ o = o ≡ outcome.BadPlace
 
 abbrev pub JudgesBytes : World → ℕ → Option Shown → List ℕ → List ℕ → Asked → Outcome → Type 0
-JudgesBytes w at (Some (OfParent ds)) keys answer asked (outcome.Judged j) = IsJudgement 0 w.answers (handing w ds keys answer asked at) (answer_of j) (verifications_of j) (hashes_of j)
+JudgesBytes w at (Some (OfParent ds)) keys answer asked (outcome.Judged j) = IsJudgement pointer_limit w.answers (handing w ds keys answer asked at) (answer_of j) (verifications_of j) (hashes_of j)
 JudgesBytes w at (Some (OfParent ds)) keys answer asked _ = ⊥
 JudgesBytes w at _ keys answer asked o = o ≡ outcome.BadPlace
 
@@ -90,13 +91,13 @@ JudgesBytes w at _ keys answer asked o = o ≡ outcome.BadPlace
 abbrev pub ShowsKeys : World → ZoneKeys → ℕ → List ℕ → Type 0
 ShowsKeys w keys at bytes =
     AnswersKeys w.sign w.answers.verifies (served w.answers.hash w.zone) w.zone.apex (second_of at) w.life (dnskeys (published keys publication.Present)) (keys_by_tag keys publication.SignsKeys) bytes
-    × spelled.GivesKeys w.answers.verifies 0 (served w.answers.hash w.zone) w.zone.apex (dnskeys (published keys publication.Present)) (dnskeys (published keys publication.SignsKeys)) (second_of at) w.life bytes
+    × spelled.GivesKeys w.answers.verifies pointer_limit (served w.answers.hash w.zone) w.zone.apex (dnskeys (published keys publication.Present)) (dnskeys (published keys publication.SignsKeys)) (second_of at) w.life bytes
 
 -- the zone's answer to a question at a moment, signed by these keys, whose bytes spell its RRsets and their signatures
 abbrev pub ShowsAnswer : World → ZoneKeys → ℕ → Asked → List ℕ → Type 0
 ShowsAnswer w keys at asked bytes =
     AnswersZone w.sign w.answers.verifies (served w.answers.hash w.zone) w.zone.apex (second_of at) w.life (keys_by_tag keys publication.SignsZone) asked bytes
-    × spelled.GivesAnswer w.answers.verifies 0 (served w.answers.hash w.zone) w.zone.apex (dnskeys (published keys publication.SignsZone)) (second_of at) w.life asked bytes
+    × spelled.GivesAnswer w.answers.verifies pointer_limit (served w.answers.hash w.zone) w.zone.apex (dnskeys (published keys publication.SignsZone)) (second_of at) w.life asked bytes
 
 -- a question that isn't allowed is refused so, and no other
 abbrev pub RefusesAsked : Bool → AnswerFault → Type 0

@@ -3,7 +3,7 @@ use Rattle.std.proofs.Common.{◌≡◌, ℕ, ◌<◌, Bool, true, false, ◌&&�
 use Rattle.std.specs.Prelude.{if◌then◌else◌}
 use Rattle.std.specs.List.{AllByRecursion, cons_option, filter, filter_map, list_any}
 use Rattle.std.specs.Str.{bytes_eq}
-use Rattle.std.proofs.lemmas.Bool.{and_from, and_left, and_right, eq-eqb}
+use Rattle.std.proofs.lemmas.Bool.{and_from, and_left, and_right, eq-eqb, lt-ltb}
 use Rattle.std.proofs.lemmas.List.{append-nil}
 use Rattle.std.proofs.lemmas.List.Elements.{filter_map-append}
 use lib.Pointwise.{bytes_decides}
@@ -36,8 +36,8 @@ key_when b d = if b then dnskey_of_data d else None
 some_octets : (a b : List ℕ) → Some a ≡ Some b → a ≡ b
 some_octets a b e = cc
 
-key_there : (k : ℕ) (m : List ℕ) (apex : Name) (ttl : ℕ) (d : List ℕ) (r : Spelled) → IsRecord k m r apex 48 ttl d → key_at m apex r ≡ dnskey_of_data d
-key_there k m apex ttl d r is =
+key_there : (k : ℕ) (m : List ℕ) (apex : Name) (d : List ℕ) (r : Spelled) → IsRecord k m r apex 48 d → key_at m apex r ≡ dnskey_of_data d
+key_there k m apex d r is =
     let here = and_from _ _ (and_from _ _ (labels_eq-same (low r.owner) (low apex) is.owner_is) (eq-eqb r.rtype 48 is.type_is)) (eq-eqb r.class 1 is.class_is) in
     let octets : data_of m r ≡ d = some_octets (data_of m r) d (sym (canonical_octets k m r (ap (λ n. eqb n 2) is.type_is) (ap (λ n. eqb n 6) is.type_is) (ap (λ n. eqb n 47) is.type_is)) ∙ is.data_is) in
     (λ i. key_when (here i) (octets i))
@@ -47,9 +47,9 @@ keys_there k m apex g [] [] o t h = refl
 keys_there k m apex g [] (d ∷ ds) o t h = absurd h
 keys_there k m apex g (r ∷ rs) [] o t h = absurd h
 keys_there k m apex g (r ∷ rs) (d ∷ ds) o t h =
-    let first : IsRecord k m r g.owner g.rtype g.ttl d = h.0 in
-    let is : IsRecord k m r apex 48 g.ttl d = record { owner_is = first.owner_is ∙ ap low o; type_is = first.type_is ∙ t; class_is = first.class_is; ttl_is = first.ttl_is; data_is = first.data_is } in
-    λ i. cons_option (key_there k m apex g.ttl d r is i) (keys_there k m apex g rs ds o t h.1 i)
+    let first : IsRecord k m r g.owner g.rtype d = h.0 in
+    let is : IsRecord k m r apex 48 d = record { owner_is = first.owner_is ∙ ap low o; type_is = first.type_is ∙ t; class_is = first.class_is; data_is = first.data_is } in
+    λ i. cons_option (key_there k m apex d r is i) (keys_there k m apex g rs ds o t h.1 i)
 
 no_keys : (v : Dnskey → List ℕ → List ℕ → Bool) (k : ℕ) (m : List ℕ) (rs : List Spelled) (apex : Name) (at life : ℕ) (g : Group) (keys : List Dnskey) → AreSignatures v k m rs apex at life g keys → keys_in m apex rs ≡ []
 no_keys v k m [] apex at life g [] h = refl
@@ -62,7 +62,7 @@ no_keys v k m (r ∷ rs) apex at life g (key ∷ keys) h =
 
 -- a message of one RRset of keys
 keys_among : (v : Dnskey → List ℕ → List ℕ → Bool) (k : ℕ) (m : List ℕ) (rs : List Spelled) (apex : Name) (at life : ℕ) (keys : List Dnskey) (g : Group) → g.owner ≡ apex → g.rtype ≡ 48 → AreGroups v k m rs apex at life keys (g ∷ []) → keys_in m apex rs ≡ filter_map dnskey_of_data g.datas
-keys_among v k m rs apex at life keys g o t (own, signatures, rest, are, records, signs, more) =
+keys_among v k m rs apex at life keys g o t (own, signatures, rest, are, records, signs, more, kept) =
     let f = key_at m apex in
     ap (filter_map f) are ∙ filter_map-append f (own ++ signatures) rest
     ∙ (λ i. filter_map-append f own signatures i ++ filter_map f (more i))
@@ -145,11 +145,12 @@ chained_given a k h rs given =
     let datas : map dnskey_data keys ≡ present_data present = keys_data a.verifies k s h.apex present given.keysigners given.keys_at given.life h.dnskey_bytes gives small in
     let w : Trusting = trusting a h (filter (is_trusted a h.apex h.ds) keys) in
     let g : Group = key_group h.apex (s.ttl_of (apex_of s.zone) 6) present in
+    let some : 0 < length (present_data present) = some_length (present_data present) (dnskey_data anchor) (data_has (map dnskey_data present) (dnskey_data anchor) (data_of_key present anchor there)) in
     let by : IsSignedBy w h.apex given.keys_at given.life (by_tag given.keysigners) (g ∷ []) g anchor = record {
       apex_is = refl;
       group = inl refl;
-      signed = refl;
-      some = some_length (present_data present) (dnskey_data anchor) (data_has (map dnskey_data present) (dnskey_data anchor) (data_of_key present anchor there));
+      signed = lt-ltb 0 (length (present_data present)) some;
+      some = some;
       labels = refl;
       signer = by_tag-has given.keysigners anchor given.keysigner_tags (has_contained given.keysigners anchor given.meet.signs_keys);
       found = find_kept (is_trusted a h.apex h.ds) keys anchor (fields_for h.apex given.keys_at given.life g anchor) apart kept trusted refl refl;

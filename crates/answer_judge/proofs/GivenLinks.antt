@@ -50,7 +50,7 @@ pub record IsProof (w : Trusting) (apex : Name) (at life : ℕ) (keys : List Dns
   pub below : at_or_above apex g.owner ≡ true
 
 proves : (w : Trusting) (k : ℕ) (m : List ℕ) (rs : List Spelled) (apex : Name) (at life : ℕ) (keys : List Dnskey) (gs : List Group) (g : Group) (key : Dnskey) (r : Spelled) (l : Link) (d : List ℕ) → AreGroups w.answers.verifies k m rs apex at life keys gs → has_twins gs ≡ false
-    → IsProof w apex at life keys gs g key → g.rtype ≡ 47 → SaysLink g l → g.datas ≡ d ∷ [] → IsRecord k m r g.owner g.rtype g.ttl d → Proves w k m rs r l
+    → IsProof w apex at life keys gs g key → g.rtype ≡ 47 → SaysLink g l → g.datas ≡ d ∷ [] → IsRecord k m r g.owner g.rtype d → Proves w k m rs r l
 proves w k m rs apex at life keys gs g key r l d are alone p t says one is =
     let type_is : r.rtype ≡ 47 = is.type_is ∙ t in
     let there : rrset_in k m rs r.owner 47 ≡ d ∷ [] = rrset_given w.answers.verifies k m rs apex at life keys gs r.owner 47 g refl are alone p.by.group t (sym is.owner_is) ∙ sorted_one d g.datas one in
@@ -84,7 +84,7 @@ none_other w k m rs [] g [] e h = refl
 none_other w k m rs [] g (d ∷ ds) e h = absurd h
 none_other w k m rs (r ∷ xs) g [] e h = absurd h
 none_other w k m rs (r ∷ xs) g (d ∷ ds) e h =
-    let is : IsRecord k m r g.owner g.rtype g.ttl d = h.0 in
+    let is : IsRecord k m r g.owner g.rtype d = h.0 in
     let other : eqb r.rtype 47 ≡ false = ap (λ n. eqb n 47) is.type_is ∙ e in
     λ i. cons_option (other_type w k m rs r other i) (none_other w k m rs xs g ds e h.1 i)
 
@@ -92,7 +92,7 @@ none_other w k m rs (r ∷ xs) g (d ∷ ds) e h =
 pub record OneRecord (k : ℕ) (m : List ℕ) (xs : List Spelled) (g : Group) (d : List ℕ) : Type 0 where
   pub spelled : Spelled
   pub are : xs ≡ spelled ∷ []
-  pub is : IsRecord k m spelled g.owner g.rtype g.ttl d
+  pub is : IsRecord k m spelled g.owner g.rtype d
 
 one_record : (k : ℕ) (m : List ℕ) (xs : List Spelled) (g : Group) (d : List ℕ) → AreRecords k m xs g (d ∷ []) → OneRecord k m xs g d
 one_record k m [] g d h = absurd h
@@ -123,7 +123,7 @@ module _ (w : Trusting) (k : ℕ) (m : List ℕ) (rs : List Spelled) (apex : Nam
   linked_in : (xs : List Spelled) (gs : List Group) (ls : List Link) → ((g : Group) → Has gs g → g.rtype ≡ 47 → IsProof w apex at life keys all g key) → AreGroups w.answers.verifies k m xs apex at life keys gs → AllZip SaysLink (filter is_nsec gs) ls → Linked w k m rs xs ls
   linked_in xs [] [] each h z = subst (λ ys. Linked w k m rs ys []) (sym h) tt
   linked_in xs [] (l ∷ ls) each h z = absurd z
-  linked_in xs (g ∷ gs) ls each (own, signatures, rest, parts, records, signs, more) z =
+  linked_in xs (g ∷ gs) ls each (own, signatures, rest, parts, records, signs, more, kept) z =
       subst (λ ys. Linked w k m rs ys ls) (sym parts) (go (is_nsec g) refl ls z (λ ks y. linked_in rest gs ks (λ x i. each x (inr i)) more y))
     where
       none : filter_map (link_at w k m rs) signatures ≡ []

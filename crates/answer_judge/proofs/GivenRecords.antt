@@ -21,9 +21,9 @@ use Rattle.records.proofs.Lists.{Has, any_from}
 abbrev datum_by : ℕ → List ℕ → Spelled → Bool → Bool → Bool → Option (List ℕ)
 datum_by k m r c t o = elim ((c && t) && o) [ true ↦ canonical_data k m r | false ↦ None ]
 
-datum_there : (k : ℕ) (m : List ℕ) (o : Name) (t ttl : ℕ) (owner : Name) (rtype : ℕ) (d : List ℕ) (r : Spelled) → IsRecord k m r owner rtype ttl d
+datum_there : (k : ℕ) (m : List ℕ) (o : Name) (t : ℕ) (owner : Name) (rtype : ℕ) (d : List ℕ) (r : Spelled) → IsRecord k m r owner rtype d
     → datum_of k m o t r ≡ (if eqb rtype t && same owner o then Some d else None)
-datum_there k m o t ttl owner rtype d r is =
+datum_there k m o t owner rtype d r is =
     (λ i. datum_by k m r (eqb (is.class_is i) 1) (eqb (is.type_is i) t) (labels_eq (is.owner_is i) (low o)))
     ∙ elim (eqb rtype t && same owner o) as (λ b. (elim b [ true ↦ canonical_data k m r | false ↦ None ]) ≡ (if b then Some d else None)) [
       | true ↦ is.data_is
@@ -46,7 +46,7 @@ records_there k m o t g [] [] h = sym (taken_none (is_rrset o t g))
 records_there k m o t g [] (d ∷ ds) h = absurd h
 records_there k m o t g (r ∷ rs) [] h = absurd h
 records_there k m o t g (r ∷ rs) (d ∷ ds) h =
-    (λ i. cons_option (datum_there k m o t g.ttl g.owner g.rtype d r h.0 i) (records_there k m o t g rs ds h.1 i))
+    (λ i. cons_option (datum_there k m o t g.owner g.rtype d r h.0 i) (records_there k m o t g rs ds h.1 i))
     ∙ taken_more (is_rrset o t g) d ds
 
 -- a signature is no datum of another type
@@ -67,7 +67,7 @@ no_data v k m (r ∷ rs) apex at life g (key ∷ keys) o t other h =
 data_in : (v : Dnskey → List ℕ → List ℕ → Bool) (k : ℕ) (m : List ℕ) (rs : List Spelled) (apex : Name) (at life : ℕ) (keys : List Dnskey) (gs : List Group) (o : Name) (t : ℕ) → eqb 46 t ≡ false → AreGroups v k m rs apex at life keys gs
     → filter_map (datum_of k m o t) rs ≡ flat_map (λ g. taken (is_rrset o t g) g.datas) gs
 data_in v k m rs apex at life keys [] o t other h = ap (filter_map (datum_of k m o t)) h
-data_in v k m rs apex at life keys (g ∷ gs) o t other (own, signatures, rest, are, records, signs, more) =
+data_in v k m rs apex at life keys (g ∷ gs) o t other (own, signatures, rest, are, records, signs, more, kept) =
     let f = datum_of k m o t in
     let first : filter_map f (own ++ signatures) ≡ taken (is_rrset o t g) g.datas =
     filter_map-append f own signatures

@@ -41,7 +41,7 @@ signed_among v k m (r ∷ rs) apex at life g (x ∷ keys) key h i = ⊎_elim
 
 signed_in : (v : Dnskey → List ℕ → List ℕ → Bool) (k : ℕ) (m : List ℕ) (rs : List Spelled) (apex : Name) (at life : ℕ) (keys : List Dnskey) (gs : List Group) (g : Group) (key : Dnskey) → AreGroups v k m rs apex at life keys gs → Has gs g → g.signed ≡ true → Has keys key → Signed v k m rs apex at life g key
 signed_in v k m rs apex at life keys [] g key h i s j = absurd i
-signed_in v k m rs apex at life keys (x ∷ gs) g key (own, signatures, rest, are, records, signs, more) i s j = ⊎_elim
+signed_in v k m rs apex at life keys (x ∷ gs) g key (own, signatures, rest, are, records, signs, more, kept) i s j = ⊎_elim
     (λ (e : g ≡ x).
     let by : AreSignatures v k m signatures apex at life g (if g.signed then keys else []) = subst (λ (y : Group). AreSignatures v k m signatures apex at life y (if y.signed then keys else [])) (sym e) signs in
     let all : AreSignatures v k m signatures apex at life g keys = subst (λ b. AreSignatures v k m signatures apex at life g (if b then keys else [])) s by in

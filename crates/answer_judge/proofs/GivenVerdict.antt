@@ -18,8 +18,9 @@ use Rattle.answer_judge.specs.Judging.{Handing, Says, is_allowed}
 use Rattle.answer_zone.specs.Links.{link_group}
 use Rattle.answer_judge.specs.Meeting.{holds}
 use Rattle.records.specs.Message.{Message}
-use Rattle.answer_zone.specs.Served.{Group, answer_groups, served_of, soa, spelled_as, ttl_among, written_among}
+use Rattle.answer_zone.specs.Served.{Group, answer_groups, served_of, soa, spelled_as}
 use Rattle.answer_judge.specs.Verified.{verified_links, verified_rrset}
+use Rattle.answer_zone.specs.GroupView.{rrset_of}
 use Rattle.answer_zone.specs.ZoneView.{IsPublished}
 use Rattle.answer_judge.proofs.AnswerRrsets.{AreNamed, link_inside, link_labels, low-link_owner, low-next_spelled, next_spelled, soa_not_asked, some_data, sorted_already}
 use Rattle.answer_judge.proofs.DenialDecided.{IsLinkOf, decided_no_type}
@@ -56,7 +57,7 @@ found_verdict a k h usable answer hash rs is there =
     let q = h.asked.name in
     let t = h.asked.rtype in
     let w = trusting a h usable in
-    let g : Group = record { owner = q; source = low q; rtype = t; ttl = ttl_among rs (low q) t; written = written_among rs (low q) t; datas = data_at (zone_with h.apex rs) (low q) t; signed = true } in
+    let g : Group = rrset_of false h.apex rs q t in
     let are = subst (AreGroups a.verifies k h.answer_bytes answer.records h.apex is.at is.life is.keys) (sym (groups_found h.apex hash rs is.published q t (allowed_plain h.apex h.asked is.allowed) there)) is.groups_are in
     let by : IsSignedBy w h.apex is.at is.life is.keys (g ∷ []) g is.key = record {
       apex_is = refl;

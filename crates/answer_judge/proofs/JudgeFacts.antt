@@ -5,6 +5,7 @@ use Rattle.std.specs.List.{list_any, filter_map, cons_option, AllByRecursion}
 use Rattle.std.proofs.lemmas.Bool.{and_parts}
 use Rattle.definitions.proofs.Members.{both_ways}
 use Rattle.definitions.specs.Name.{Name, low, same, at_or_above}
+use Rattle.definitions.specs.Limits.{pointer_limit}
 use Rattle.answer_judge.specs.declared.judge.groups.Group.{Group}
 use Rattle.answer_judge.specs.Facts.{Link}
 use Rattle.records.specs.Message.{Spelled, if_true}
@@ -31,45 +32,45 @@ if_true-elim true x = refl
 if_true-elim false x = refl
 
 -- the RRset that was asked for
-pub asked_data : (w : Trusting) (m : List ℕ) (rs : List Spelled) (g : Group) (owner : Name) (t : ℕ) → g.owner ≡ owner → g.rtype ≡ t → data_in g ≡ rrset_in 0 m rs owner t → g.verified ≡ false → data_verified (Some (marked w m rs g)) ≡ verified_rrset w 0 m rs owner t
+pub asked_data : (w : Trusting) (m : List ℕ) (rs : List Spelled) (g : Group) (owner : Name) (t : ℕ) → g.owner ≡ owner → g.rtype ≡ t → data_in g ≡ rrset_in pointer_limit m rs owner t → g.verified ≡ false → data_verified (Some (marked w m rs g)) ≡ verified_rrset w pointer_limit m rs owner t
 asked_data w m rs g owner t o r d v =
-    (λ i. if_true (v i || is_verified w 0 m rs (o i) (r i) (d i)) (d i))
-    ∙ if_true-elim (is_verified w 0 m rs owner t (rrset_in 0 m rs owner t)) (rrset_in 0 m rs owner t)
+    (λ i. if_true (v i || is_verified w pointer_limit m rs (o i) (r i) (d i)) (d i))
+    ∙ if_true-elim (is_verified w pointer_limit m rs owner t (rrset_in pointer_limit m rs owner t)) (rrset_in pointer_limit m rs owner t)
 
 -- ---- links
 
 -- a group of the owner is verified where the owner's RRset is
-marked_owner : (w : Trusting) (m : List ℕ) (rs : List Spelled) (apex : Name) (o : Name) (g : Group) → IsAlone m apex rs g → same o g.owner ≡ true → (g.verified || is_verified w 0 m rs g.owner g.rtype (data_in g)) ≡ is_verified w 0 m rs o 47 (rrset_in 0 m rs o 47)
+marked_owner : (w : Trusting) (m : List ℕ) (rs : List Spelled) (apex : Name) (o : Name) (g : Group) → IsAlone m apex rs g → same o g.owner ≡ true → (g.verified || is_verified w pointer_limit m rs g.owner g.rtype (data_in g)) ≡ is_verified w pointer_limit m rs o 47 (rrset_in pointer_limit m rs o 47)
 marked_owner w m rs apex o g a s =
     let e : low g.owner ≡ low o = sym (same_labels (low o) (low g.owner) s) in
     let r = a.rtype_is in
     let d = a.data_are in
     let v = a.unverified in
-    (λ i. v i || is_verified w 0 m rs g.owner (r i) (d i))
-    ∙ ap (is_verified w 0 m rs g.owner 47) (rrset_in-owner 0 m rs g.owner o 47 e)
-    ∙ is_verified-owner w 0 m rs g.owner o 47 (rrset_in 0 m rs o 47) e
+    (λ i. v i || is_verified w pointer_limit m rs g.owner (r i) (d i))
+    ∙ ap (is_verified w pointer_limit m rs g.owner 47) (rrset_in-owner pointer_limit m rs g.owner o 47 e)
+    ∙ is_verified-owner w pointer_limit m rs g.owner o 47 (rrset_in pointer_limit m rs o 47) e
 
 -- it stands alone where the owner does
 alone_owner : (m : List ℕ) (rs : List Spelled) (apex a b : Name) → same a b ≡ true → stands_alone m apex rs b ≡ stands_alone m apex rs a
 alone_owner m rs apex a b s =
     let e : low b ≡ low a = sym (same_labels (low a) (low b) s) in
-    (λ i. above-owner apex b a e i && (length (rrset_in-owner 0 m rs b a 47 e i) == 1))
+    (λ i. above-owner apex b a e i && (length (rrset_in-owner pointer_limit m rs b a 47 e i) == 1))
 
 proved_of : (w : Trusting) (m : List ℕ) (rs : List Spelled) (apex : Name) (gs : List Group) (o : Name) → AllByRecursion (IsAlone m apex rs) gs → list_any (λ g. is_proved o (marked w m rs g)) gs ≡ true
-    → (stands_alone m apex rs o && is_verified w 0 m rs o 47 (rrset_in 0 m rs o 47)) ≡ true
+    → (stands_alone m apex rs o && is_verified w pointer_limit m rs o 47 (rrset_in pointer_limit m rs o 47)) ≡ true
 proved_of w m rs apex gs o each h =
     let f = found (λ g. is_proved o (marked w m rs g)) gs h in
     let g = f.0 in
     let alone = all_at (IsAlone m apex rs) gs g each f.1 in
-    let p = and_parts (g.verified || is_verified w 0 m rs g.owner g.rtype (data_in g)) (same o g.owner) f.2 in
+    let p = and_parts (g.verified || is_verified w pointer_limit m rs g.owner g.rtype (data_in g)) (same o g.owner) f.2 in
     let a = sym (alone_owner m rs apex o g.owner p.1) ∙ alone.alone in
     let v = sym (marked_owner w m rs apex o g alone p.1) ∙ p.0 in
     (λ i. a i && v i)
 
 proved_by : (w : Trusting) (m : List ℕ) (rs : List Spelled) (apex : Name) (gs : List Group) (o : Name) → AllByRecursion (IsAlone m apex rs) gs → (stands_alone m apex rs o ≡ true → list_any (has_owner o) gs ≡ true)
-    → (stands_alone m apex rs o && is_verified w 0 m rs o 47 (rrset_in 0 m rs o 47)) ≡ true → list_any (λ g. is_proved o (marked w m rs g)) gs ≡ true
+    → (stands_alone m apex rs o && is_verified w pointer_limit m rs o 47 (rrset_in pointer_limit m rs o 47)) ≡ true → list_any (λ g. is_proved o (marked w m rs g)) gs ≡ true
 proved_by w m rs apex gs o each has h =
-    let p = and_parts (stands_alone m apex rs o) (is_verified w 0 m rs o 47 (rrset_in 0 m rs o 47)) h in
+    let p = and_parts (stands_alone m apex rs o) (is_verified w pointer_limit m rs o 47 (rrset_in pointer_limit m rs o 47)) h in
     let f = found (has_owner o) gs (has p.0) in
     let g = f.0 in
     let alone = all_at (IsAlone m apex rs) gs g each f.1 in
@@ -87,20 +88,20 @@ under_test true x y f = f refl
 under_test false x y f = refl
 
 -- a record's link by the groups is its link by what is verified
-link_same : (w : Trusting) (m : List ℕ) (rs : List Spelled) (gs : List Group) (r : Spelled) → AllByRecursion (IsAlone m w.apex rs) gs → IsGathered m w.apex rs gs r → link_by m (map (marked w m rs) gs) r ≡ link_at w 0 m rs r
+link_same : (w : Trusting) (m : List ℕ) (rs : List Spelled) (gs : List Group) (r : Spelled) → AllByRecursion (IsAlone m w.apex rs) gs → IsGathered m w.apex rs gs r → link_by m (map (marked w m rs) gs) r ≡ link_at w pointer_limit m rs r
 link_same w m rs gs r each has =
-    let any : is_nsec r ≡ true → list_any (is_proved r.owner) (map (marked w m rs) gs) ≡ (stands_alone m w.apex rs r.owner && is_verified w 0 m rs r.owner 47 (rrset_in 0 m rs r.owner 47)) =
+    let any : is_nsec r ≡ true → list_any (is_proved r.owner) (map (marked w m rs) gs) ≡ (stands_alone m w.apex rs r.owner && is_verified w pointer_limit m rs r.owner 47 (rrset_in pointer_limit m rs r.owner 47)) =
     λ n. list_any-map (is_proved r.owner) (marked w m rs) gs
     ∙ both_ways _ _ (proved_of w m rs w.apex gs r.owner each) (proved_by w m rs w.apex gs r.owner each (has n)) in
-    let test = under_test (is_nsec r) _ _ any ∙ and_regroup (r.rtype == 47) (r.class == 1) (at_or_above w.apex r.owner) (length (rrset_in 0 m rs r.owner 47) == 1) (is_verified w 0 m rs r.owner 47 (rrset_in 0 m rs r.owner 47)) in
-    ap (λ (b : Bool). elim b as (λ _. Option Link) [ true ↦ link_of 0 m r | false ↦ None ]) test
+    let test = under_test (is_nsec r) _ _ any ∙ and_regroup (r.rtype == 47) (r.class == 1) (at_or_above w.apex r.owner) (length (rrset_in pointer_limit m rs r.owner 47) == 1) (is_verified w pointer_limit m rs r.owner 47 (rrset_in pointer_limit m rs r.owner 47)) in
+    ap (λ (b : Bool). elim b as (λ _. Option Link) [ true ↦ link_of pointer_limit m r | false ↦ None ]) test
 
-links_same : (w : Trusting) (m : List ℕ) (rs some : List Spelled) (gs : List Group) → AllByRecursion (IsAlone m w.apex rs) gs → AllByRecursion (IsGathered m w.apex rs gs) some → filter_map (link_by m (map (marked w m rs) gs)) some ≡ filter_map (link_at w 0 m rs) some
+links_same : (w : Trusting) (m : List ℕ) (rs some : List Spelled) (gs : List Group) → AllByRecursion (IsAlone m w.apex rs) gs → AllByRecursion (IsGathered m w.apex rs gs) some → filter_map (link_by m (map (marked w m rs) gs)) some ≡ filter_map (link_at w pointer_limit m rs) some
 links_same w m rs [] gs each has = refl
 links_same w m rs (r ∷ some) gs each has = (λ i. cons_option (link_same w m rs gs r each has.0 i) (links_same w m rs some gs each has.1 i))
 
 -- the links by the groups are those of the message
-pub links_verified : (w : Trusting) (m : List ℕ) (rs : List Spelled) (gs new : List Group) → AreGathered m w.apex rs rs gs → new ≡ map (marked w m rs) gs → filter_map (link_by m new) rs ≡ verified_links w 0 m rs
+pub links_verified : (w : Trusting) (m : List ℕ) (rs : List Spelled) (gs new : List Group) → AreGathered m w.apex rs rs gs → new ≡ map (marked w m rs) gs → filter_map (link_by m new) rs ≡ verified_links w pointer_limit m rs
 links_verified w m rs gs new a n = ap (λ ys. filter_map (link_by m ys) rs) n ∙ links_same w m rs rs gs a.each a.all
 
 -- ---- the last group is taken off

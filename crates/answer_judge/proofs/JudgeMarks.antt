@@ -7,6 +7,7 @@ use Rattle.records.specs.Message.{Spelled}
 use Rattle.answer_judge.specs.Verified.{Trusting, is_verified, verifies_with}
 use Rattle.answer_judge.specs.Marked.{data_in, is_like, are_apart, marked_if, marked}
 use Rattle.records.proofs.Lists.{list_any-map}
+use Rattle.definitions.specs.Limits.{pointer_limit}
 
 -- the item at a place
 pub item_one : {X : Type 0} (xs : List X) (i : ℕ) (x y : X) → i < length xs → x ≡ get_or xs i x → y ≡ get_or xs i y → x ≡ y
@@ -84,7 +85,7 @@ or_next false false y = refl
 pub marked_next : (w : Trusting) (m : List ℕ) (r : Spelled) (rs : List Spelled) (gs : List Group) → map (marked w m rs) (map (marked w m (r ∷ [])) gs) ≡ map (marked w m (r ∷ rs)) gs
 marked_next w m r rs [] = refl
 marked_next w m r rs (g ∷ gs) =
-    let v = or_next g.verified (verifies_with w 0 m g.owner g.rtype (data_in g) r) (is_verified w 0 m rs g.owner g.rtype (data_in g)) in
+    let v = or_next g.verified (verifies_with w pointer_limit m g.owner g.rtype (data_in g) r) (is_verified w pointer_limit m rs g.owner g.rtype (data_in g)) in
     let rest = marked_next w m r rs gs in
     (λ i. record { owner = g.owner; rtype = g.rtype; items = g.items; verified = v i } ∷ rest i)
 

@@ -6,6 +6,7 @@ use Rattle.std.proofs.lemmas.Bool.{and_parts, eq-eqb, eqb-true}
 use Rattle.definitions.proofs.Members.{both_ways}
 use Rattle.definitions.specs.Name.{Name, low, same}
 use Rattle.definitions.specs.Signing.{Fields}
+use Rattle.definitions.specs.Limits.{pointer_limit}
 use Rattle.answer_judge.specs.declared.judge.groups.Group.{Group}
 use Rattle.answer_judge.specs.Facts.{is_signature, signs, fields_read}
 use Rattle.messages.specs.Record.{signature_of, spelled}
@@ -42,24 +43,24 @@ says_of w owner t items o = elim o [ None ↦ false | Some f ↦ (f.0.covered ==
 
 -- whether one record verifies a group
 abbrev pub tried : Trusting → List ℕ → Spelled → Group → Bool
-tried w m r g = is_verified w 0 m (r ∷ []) g.owner g.rtype (data_in g)
+tried w m r g = is_verified w pointer_limit m (r ∷ []) g.owner g.rtype (data_in g)
 
 pub class_other : (w : Trusting) (m : List ℕ) (r : Spelled) (g : Group) → (r.class == 1) ≡ false → tried w m r g ≡ false
 class_other w m r g h =
-    (λ i. elim (is_signature r && h i && same r.owner g.owner) as (λ _. Bool) [ false ↦ false | true ↦ says_of w g.owner g.rtype (data_in g) (rrsig_at 0 m r) ] || false)
-    ∙ ap (λ b. b || false) (gate_class (is_signature r) (same r.owner g.owner) (says_of w g.owner g.rtype (data_in g) (rrsig_at 0 m r)))
+    (λ i. elim (is_signature r && h i && same r.owner g.owner) as (λ _. Bool) [ false ↦ false | true ↦ says_of w g.owner g.rtype (data_in g) (rrsig_at pointer_limit m r) ] || false)
+    ∙ ap (λ b. b || false) (gate_class (is_signature r) (same r.owner g.owner) (says_of w g.owner g.rtype (data_in g) (rrsig_at pointer_limit m r)))
 
-pub no_signature : (w : Trusting) (m : List ℕ) (r : Spelled) (g : Group) → rrsig_at 0 m r ≡ None → tried w m r g ≡ false
+pub no_signature : (w : Trusting) (m : List ℕ) (r : Spelled) (g : Group) → rrsig_at pointer_limit m r ≡ None → tried w m r g ≡ false
 no_signature w m r g h =
     (λ i. elim (is_signature r && (r.class == 1) && same r.owner g.owner) as (λ _. Bool) [ false ↦ false | true ↦ says_of w g.owner g.rtype (data_in g) (h i) ] || false)
     ∙ ap (λ b. b || false) (gate_shut (is_signature r && (r.class == 1) && same r.owner g.owner))
 
 -- no signature record
 pub unsigned : (w : Trusting) (m : List ℕ) (r : Spelled) (g : Group) → is_signature r ≡ false → tried w m r g ≡ false
-unsigned w m r g h = (λ i. elim (h i && (r.class == 1) && same r.owner g.owner) as (λ _. Bool) [ false ↦ false | true ↦ says_of w g.owner g.rtype (data_in g) (rrsig_at 0 m r) ] || false)
+unsigned w m r g h = (λ i. elim (h i && (r.class == 1) && same r.owner g.owner) as (λ _. Bool) [ false ↦ false | true ↦ says_of w g.owner g.rtype (data_in g) (rrsig_at pointer_limit m r) ] || false)
 
 -- a group of another owner or type than a signature has
-pub tried_other : (w : Trusting) (m : List ℕ) (r : Spelled) (f : Fields × List ℕ) → rrsig_at 0 m r ≡ Some f → (g : Group) → is_of r.owner f.0.covered g ≡ false → tried w m r g ≡ false
+pub tried_other : (w : Trusting) (m : List ℕ) (r : Spelled) (f : Fields × List ℕ) → rrsig_at pointer_limit m r ≡ Some f → (g : Group) → is_of r.owner f.0.covered g ≡ false → tried w m r g ≡ false
 tried_other w m r f e g h =
     let k = λ (s : Bool). is_signature r && (r.class == 1) && s in
     let go : (a s : Bool) → (g.rtype == f.0.covered) ≡ a → same r.owner g.owner ≡ s → (a && s) ≡ false → tried w m r g ≡ false = λ a s ea es t. elim a as (λ a. (g.rtype == f.0.covered) ≡ a → (a && s) ≡ false → tried w m r g ≡ false) [
@@ -68,8 +69,8 @@ tried_other w m r f e g h =
           ∙ (λ i. elim (k (same r.owner g.owner)) as (λ _. Bool) [ false ↦ false | true ↦ (eq_swap f.0.covered g.rtype ∙ ea) i && signs w.answers w.apex w.keys w.now g.owner (data_in g) f.0 f.1 ] || false)
           ∙ ap (λ b. b || false) (gate_shut (k (same r.owner g.owner))))
       | true ↦ (λ ea t.
-          (λ i. elim (k ((es ∙ t) i)) as (λ _. Bool) [ false ↦ false | true ↦ says_of w g.owner g.rtype (data_in g) (rrsig_at 0 m r) ] || false)
-          ∙ ap (λ b. b || false) (gate_owner (is_signature r) (r.class == 1) (says_of w g.owner g.rtype (data_in g) (rrsig_at 0 m r))))
+          (λ i. elim (k ((es ∙ t) i)) as (λ _. Bool) [ false ↦ false | true ↦ says_of w g.owner g.rtype (data_in g) (rrsig_at pointer_limit m r) ] || false)
+          ∙ ap (λ b. b || false) (gate_owner (is_signature r) (r.class == 1) (says_of w g.owner g.rtype (data_in g) (rrsig_at pointer_limit m r))))
     ] ea t in
     go (g.rtype == f.0.covered) (same r.owner g.owner) refl refl h
 
@@ -83,7 +84,7 @@ both_of o t g h a b =
     (λ i. types i && owners i)
 
 -- a group of the owner and type that a signature has
-pub tried_own : (w : Trusting) (m : List ℕ) (r : Spelled) (f : Fields × List ℕ) → rrsig_at 0 m r ≡ Some f → is_signature r ≡ true → (r.class == 1) ≡ true → (g : Group) → is_of r.owner f.0.covered g ≡ true
+pub tried_own : (w : Trusting) (m : List ℕ) (r : Spelled) (f : Fields × List ℕ) → rrsig_at pointer_limit m r ≡ Some f → is_signature r ≡ true → (r.class == 1) ≡ true → (g : Group) → is_of r.owner f.0.covered g ≡ true
     → tried w m r g ≡ signs w.answers w.apex w.keys w.now g.owner (data_in g) f.0 f.1
 tried_own w m r f e s c g h =
     let p = and_parts (g.rtype == f.0.covered) (same r.owner g.owner) h in
@@ -98,23 +99,23 @@ pub untried : (w : Trusting) (m : List ℕ) (r : Spelled) (gs : List Group) → 
 untried w m r gs h = sym (unmarked_by (tried w m r) h gs)
 
 -- no group has the owner and type of the signature
-pub tried_none : (w : Trusting) (m : List ℕ) (r : Spelled) (f : Fields × List ℕ) (gs : List Group) → rrsig_at 0 m r ≡ Some f → list_any (is_of r.owner f.0.covered) gs ≡ false → gs ≡ map (marked w m (r ∷ [])) gs
+pub tried_none : (w : Trusting) (m : List ℕ) (r : Spelled) (f : Fields × List ℕ) (gs : List Group) → rrsig_at pointer_limit m r ≡ Some f → list_any (is_of r.owner f.0.covered) gs ≡ false → gs ≡ map (marked w m (r ∷ [])) gs
 tried_none w m r f gs e h = sym (unmarked (is_of r.owner f.0.covered) (tried w m r) (tried_other w m r f e) gs h)
 
 -- the group of the signature's owner and type is verified or not
-pub tried_at : (w : Trusting) (m : List ℕ) (r : Spelled) (f : Fields × List ℕ) (gs : List Group) (i : ℕ) (g : Group) → rrsig_at 0 m r ≡ Some f → are_apart gs ≡ true → i < length gs → g ≡ get_or gs i g → is_of r.owner f.0.covered g ≡ true
+pub tried_at : (w : Trusting) (m : List ℕ) (r : Spelled) (f : Fields × List ℕ) (gs : List Group) (i : ℕ) (g : Group) → rrsig_at pointer_limit m r ≡ Some f → are_apart gs ≡ true → i < length gs → g ≡ get_or gs i g → is_of r.owner f.0.covered g ≡ true
     → set gs i (marked_if (tried w m r g) g) ≡ map (marked w m (r ∷ [])) gs
 tried_at w m r f gs i g e a h at own = sym (marked_at (is_of r.owner f.0.covered) (tried w m r) (tried_other w m r f e) (both_of r.owner f.0.covered) gs i g a h at own)
 
 -- it was verified before
-pub tried_again : (w : Trusting) (m : List ℕ) (r : Spelled) (f : Fields × List ℕ) (gs : List Group) (i : ℕ) (g : Group) → rrsig_at 0 m r ≡ Some f → are_apart gs ≡ true → i < length gs → g ≡ get_or gs i g → is_of r.owner f.0.covered g ≡ true → g.verified ≡ true
+pub tried_again : (w : Trusting) (m : List ℕ) (r : Spelled) (f : Fields × List ℕ) (gs : List Group) (i : ℕ) (g : Group) → rrsig_at pointer_limit m r ≡ Some f → are_apart gs ≡ true → i < length gs → g ≡ get_or gs i g → is_of r.owner f.0.covered g ≡ true → g.verified ≡ true
     → set gs i (get_or gs i g) ≡ map (marked w m (r ∷ [])) gs
 tried_again w m r f gs i g e a h at own v =
     let same : g ≡ marked_if (tried w m r g) g = (λ j. record { owner = g.owner; rtype = g.rtype; items = g.items; verified = (v ∙ sym (ap (λ b. b || tried w m r g) v)) j }) in
     ap (set gs i) (sym at ∙ same) ∙ tried_at w m r f gs i g e a h at own
 
 -- it was not, and what the signature says of its data was found out
-pub tried_now : (w : Trusting) (m : List ℕ) (r : Spelled) (s : RrsigView) (gs : List Group) (i : ℕ) (g : Group) (v : Bool) → rrsig_at 0 m r ≡ Some (signature_of s) → is_signature r ≡ true → (r.class == 1) ≡ true
+pub tried_now : (w : Trusting) (m : List ℕ) (r : Spelled) (s : RrsigView) (gs : List Group) (i : ℕ) (g : Group) (v : Bool) → rrsig_at pointer_limit m r ≡ Some (signature_of s) → is_signature r ≡ true → (r.class == 1) ≡ true
     → are_apart gs ≡ true → i < length gs → g ≡ get_or gs i g → is_of r.owner s.type_covered g ≡ true → g.verified ≡ false → v ≡ signs w.answers w.apex w.keys w.now (get_or gs i g).owner (data_in (get_or gs i g)) (fields_read s) s.signature.now
     → set gs i (record { owner = (get_or gs i g).owner; rtype = (get_or gs i g).rtype; items = (get_or gs i g).items; verified = v }) ≡ map (marked w m (r ∷ [])) gs
 tried_now w m r s gs i g v e sig class a h at own not_yet is =

@@ -4,6 +4,7 @@ use Rattle.std.specs.Prelude.{Option, Some, None, Result, Ok, Err, nat_eq, if◌
 use Rattle.std.specs.Option.{option_map, ok_or}
 use Rattle.definitions.specs.Dnskey.{Dnskey, dnskey_data}
 use Rattle.definitions.specs.Zone.{Verdict, sorted_data}
+use Rattle.definitions.specs.Limits.{pointer_limit}
 use Rattle.answer_judge.specs.Answers.{Answers}
 use Rattle.answer_judge.specs.Facts.{Link, is_usable, is_trusted, decided, RefusesFirst}
 use Rattle.answer_judge.specs.declared.judge.verdict.Verdict.{Verdict as CodeVerdict}
@@ -30,29 +31,29 @@ refused_first a k h e first = inr (sym (ap (λ o. elim o as (λ _. Answer) [ Som
 
 -- the keys are signed, or not, as was found out
 pub chained_as : (a : Answers) (h : Handing) (keys : Message) (rs : List Spelled) (ks trusted : List Dnskey) (b : Bool) → rs ≡ keys.records → ks ≡ keys_in h.dnskey_bytes h.apex rs → trusted ≡ filter (is_trusted a h.apex h.ds) ks
-    → b ≡ is_verified (trusting a h trusted) 0 h.dnskey_bytes rs h.apex 48 (sorted_data (map dnskey_data ks)) → b ≡ is_chained a 0 h keys
+    → b ≡ is_verified (trusting a h trusted) pointer_limit h.dnskey_bytes rs h.apex 48 (sorted_data (map dnskey_data ks)) → b ≡ is_chained a pointer_limit h keys
 chained_as a h keys rs ks trusted b e f g is =
-    is ∙ ap (λ t. is_verified (trusting a h t) 0 h.dnskey_bytes rs h.apex 48 (sorted_data (map dnskey_data ks))) g
-    ∙ ap (λ q. is_verified (trusting a h (filter (is_trusted a h.apex h.ds) q)) 0 h.dnskey_bytes rs h.apex 48 (sorted_data (map dnskey_data q))) f
-    ∙ ap (λ ss. is_verified (trusting a h (filter (is_trusted a h.apex h.ds) (keys_in h.dnskey_bytes h.apex ss))) 0 h.dnskey_bytes ss h.apex 48 (sorted_data (map dnskey_data (keys_in h.dnskey_bytes h.apex ss)))) e
+    is ∙ ap (λ t. is_verified (trusting a h t) pointer_limit h.dnskey_bytes rs h.apex 48 (sorted_data (map dnskey_data ks))) g
+    ∙ ap (λ q. is_verified (trusting a h (filter (is_trusted a h.apex h.ds) q)) pointer_limit h.dnskey_bytes rs h.apex 48 (sorted_data (map dnskey_data q))) f
+    ∙ ap (λ ss. is_verified (trusting a h (filter (is_trusted a h.apex h.ds) (keys_in h.dnskey_bytes h.apex ss))) pointer_limit h.dnskey_bytes ss h.apex 48 (sorted_data (map dnskey_data (keys_in h.dnskey_bytes h.apex ss)))) e
 
 -- the keys that may sign the zone
 pub usable_as : (h : Handing) (keys : Message) (rs : List Spelled) (ks usable : List Dnskey) → rs ≡ keys.records → ks ≡ keys_in h.dnskey_bytes h.apex rs → usable ≡ filter is_usable ks → usable ≡ filter is_usable (keys_of h keys)
 usable_as h keys rs ks usable e f g = g ∙ ap (filter is_usable) f ∙ ap (λ ss. filter is_usable (keys_in h.dnskey_bytes h.apex ss)) e
 
 -- the keys aren't signed
-pub untrusted : (a : Answers) (h : Handing) (keys answer : Message) → judged_beyond a 0 h ≡ judged_messages a 0 h keys answer → false ≡ is_chained a 0 h keys → AnswersAs (Refuses r.NoTrustedKey) (judged_beyond a 0 h)
+pub untrusted : (a : Answers) (h : Handing) (keys answer : Message) → judged_beyond a pointer_limit h ≡ judged_messages a pointer_limit h keys answer → false ≡ is_chained a pointer_limit h keys → AnswersAs (Refuses r.NoTrustedKey) (judged_beyond a pointer_limit h)
 untrusted a h keys answer e chained =
-    inr (sym (e ∙ ap (λ b. elim b as (λ _. Answer) [ true ↦ judged_answer a 0 h (filter is_usable (keys_of h keys)) answer | false ↦ Refuses r.NoTrustedKey ]) (sym chained)))
+    inr (sym (e ∙ ap (λ b. elim b as (λ _. Answer) [ true ↦ judged_answer a pointer_limit h (filter is_usable (keys_of h keys)) answer | false ↦ Refuses r.NoTrustedKey ]) (sym chained)))
 
 -- they are, and what was verified of the answer decides
-pub decided_as : (a : Answers) (h : Handing) (keys answer : Message) (usable : List Dnskey) (rs : List Spelled) (found : Option (List (List ℕ))) (links : List Link) (v : Option Verdict) → judged_beyond a 0 h ≡ judged_messages a 0 h keys answer → true ≡ is_chained a 0 h keys
-    → usable ≡ filter is_usable (keys_of h keys) → rs ≡ answer.records → found ≡ verified_rrset (trusting a h usable) 0 h.answer_bytes rs h.asked.name h.asked.rtype → links ≡ verified_links (trusting a h usable) 0 h.answer_bytes rs
-    → v ≡ decided h.apex found links h.asked.name h.asked.rtype → by_facts v ≡ judged_beyond a 0 h
+pub decided_as : (a : Answers) (h : Handing) (keys answer : Message) (usable : List Dnskey) (rs : List Spelled) (found : Option (List (List ℕ))) (links : List Link) (v : Option Verdict) → judged_beyond a pointer_limit h ≡ judged_messages a pointer_limit h keys answer → true ≡ is_chained a pointer_limit h keys
+    → usable ≡ filter is_usable (keys_of h keys) → rs ≡ answer.records → found ≡ verified_rrset (trusting a h usable) pointer_limit h.answer_bytes rs h.asked.name h.asked.rtype → links ≡ verified_links (trusting a h usable) pointer_limit h.answer_bytes rs
+    → v ≡ decided h.apex found links h.asked.name h.asked.rtype → by_facts v ≡ judged_beyond a pointer_limit h
 decided_as a h keys answer usable rs found links v e chained u s f l d =
     ap by_facts (d ∙ (λ i. decided h.apex (f i) (l i) h.asked.name h.asked.rtype))
-    ∙ (λ i. by_facts (decided h.apex (verified_rrset (trusting a h (u i)) 0 h.answer_bytes (s i) h.asked.name h.asked.rtype) (verified_links (trusting a h (u i)) 0 h.answer_bytes (s i)) h.asked.name h.asked.rtype))
-    ∙ ap (λ b. elim b as (λ _. Answer) [ true ↦ judged_answer a 0 h (filter is_usable (keys_of h keys)) answer | false ↦ Refuses r.NoTrustedKey ]) chained
+    ∙ (λ i. by_facts (decided h.apex (verified_rrset (trusting a h (u i)) pointer_limit h.answer_bytes (s i) h.asked.name h.asked.rtype) (verified_links (trusting a h (u i)) pointer_limit h.answer_bytes (s i)) h.asked.name h.asked.rtype))
+    ∙ ap (λ b. elim b as (λ _. Answer) [ true ↦ judged_answer a pointer_limit h (filter is_usable (keys_of h keys)) answer | false ↦ Refuses r.NoTrustedKey ]) chained
     ∙ sym e
 
 -- a verdict, or none

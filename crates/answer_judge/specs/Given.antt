@@ -1,25 +1,31 @@
 -- Bytes that were given: they spell the RRsets of an answer, each with its signatures behind it.
 use Rattle.std.specs.Prelude.{◌≡◌, ℕ, ◌+◌, ◌%◌, Bool, true, List, [], ◌∷◌, ◌++◌, Some, Ok, if◌then◌else◌}
+use Rattle.std.specs.List.{AllZip}
 use Rattle.definitions.specs.Name.{Name, low}
 use Rattle.definitions.specs.Dnskey.{Dnskey, key_tag}
 use Rattle.definitions.specs.Signing.{Fields, label_count, signed_octets}
 use Rattle.definitions.specs.Zone.{apex_of}
+use Rattle.records.specs.Written.{Written}
 use Rattle.records.specs.Message.{Message, Asked, Spelled, message, canonical_data, rrsig_at}
 use Rattle.answer_zone.specs.Served.{Served, Group, answer_groups, key_group, by_tag}
 
--- a record as spelled: owner up to case, class IN, and canonical data
-pub record IsRecord (k : ℕ) (m : List ℕ) (r : Spelled) (owner : Name) (t ttl : ℕ) (d : List ℕ) : Type 0 where
+-- a record of an RRset: owner up to case, class IN, and canonical data
+pub record IsRecord (k : ℕ) (m : List ℕ) (r : Spelled) (owner : Name) (t : ℕ) (d : List ℕ) : Type 0 where
   pub owner_is : low r.owner ≡ low owner
   pub type_is : r.rtype ≡ t
   pub class_is : r.class ≡ 1
-  pub ttl_is : r.ttl ≡ ttl
   pub data_is : canonical_data k m r ≡ Some d
 
 abbrev pub AreRecords : ℕ → List ℕ → List Spelled → Group → List (List ℕ) → Type 0
 AreRecords k m [] g [] = Unit {0}
-AreRecords k m (r ∷ rs) g (d ∷ ds) = IsRecord k m r g.owner g.rtype g.ttl d × AreRecords k m rs g ds
+AreRecords k m (r ∷ rs) g (d ∷ ds) = IsRecord k m r g.owner g.rtype d × AreRecords k m rs g ds
 AreRecords k m [] g (d ∷ ds) = ⊥
 AreRecords k m (r ∷ rs) g [] = ⊥
+
+-- a record keeps its own spelling of the owner, and its own TTL
+pub record KeepsOwn (r : Spelled) (w : Written) : Type 0 where
+  pub owner_is : r.owner ≡ w.owner
+  pub ttl_is : r.ttl ≡ w.ttl
 
 -- what a signature of one key says of a group: all of it but the octets (RFC 4034, 3.1)
 abbrev pub fields_for : Name → ℕ → ℕ → Group → Dnskey → Fields
@@ -62,6 +68,7 @@ AreGroups v k m rs apex at life keys (g ∷ gs) =
     × AreRecords k m own g g.datas
     × AreSignatures v k m signatures apex at life g (if g.signed then keys else [])
     × AreGroups v k m rest apex at life keys gs
+    × AllZip KeepsOwn own g.written
 
 -- the bytes spell the groups in answer to a question, with signatures of these keys, made at a moment
 pub record Gives (verifies : Dnskey → List ℕ → List ℕ → Bool) (k : ℕ) (apex : Name) (at life : ℕ) (keys : List Dnskey) (asked : Asked) (groups : List Group) (bytes : List ℕ) : Type 0 where

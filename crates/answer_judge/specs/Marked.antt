@@ -2,6 +2,7 @@
 use Rattle.std.specs.Prelude.{◌≡◌, Bool, true, false, not, ◌&&◌, ◌||◌, ◌==◌, ℕ, List, [], ◌∷◌, map, length, Option, Some, None}
 use Rattle.std.specs.List.{list_any, AllByRecursion}
 use Rattle.definitions.specs.Name.{Name, same, at_or_above}
+use Rattle.definitions.specs.Limits.{pointer_limit}
 use Rattle.answer_judge.specs.Answers.{Answers}
 use Rattle.answer_judge.specs.Facts.{Link}
 use Rattle.records.specs.Message.{Spelled, if_true}
@@ -35,7 +36,7 @@ marked_if b g = record { owner = g.owner; rtype = g.rtype; items = g.items; veri
 
 -- verified where it was, or where one of the records verifies it
 abbrev pub marked : Trusting → List ℕ → List Spelled → Group → Group
-marked w m rs g = marked_if (is_verified w 0 m rs g.owner g.rtype (data_in g)) g
+marked w m rs g = marked_if (is_verified w pointer_limit m rs g.owner g.rtype (data_in g)) g
 
 -- ---- NSEC records
 
@@ -52,12 +53,12 @@ is_nsec r = (r.rtype == 47) && (r.class == 1)
 
 -- an owner at or below the apex, whose NSEC RRset is one record
 abbrev pub stands_alone : List ℕ → Name → List Spelled → Name → Bool
-stands_alone m apex rs owner = at_or_above apex owner && (length (rrset_in 0 m rs owner 47) == 1)
+stands_alone m apex rs owner = at_or_above apex owner && (length (rrset_in pointer_limit m rs owner 47) == 1)
 
 -- the NSEC RRset of such an owner, not yet verified
 pub record IsAlone (m : List ℕ) (apex : Name) (rs : List Spelled) (g : Group) : Type 0 where
   pub rtype_is : g.rtype ≡ 47
-  pub data_are : data_in g ≡ rrset_in 0 m rs g.owner 47
+  pub data_are : data_in g ≡ rrset_in pointer_limit m rs g.owner 47
   pub alone : stands_alone m apex rs g.owner ≡ true
   pub unverified : g.verified ≡ false
 
@@ -73,7 +74,7 @@ pub record AreGathered (m : List ℕ) (apex : Name) (rs some : List Spelled) (gs
 
 -- the link of a record whose owner has a verified group
 abbrev pub link_by : List ℕ → List Group → Spelled → Option Link
-link_by m gs r = elim (is_nsec r && list_any (is_proved r.owner) gs) [ true ↦ link_of 0 m r | false ↦ None ]
+link_by m gs r = elim (is_nsec r && list_any (is_proved r.owner) gs) [ true ↦ link_of pointer_limit m r | false ↦ None ]
 
 -- the data of a group that is verified
 abbrev pub data_verified : Option Group → Option (List (List ℕ))

@@ -1,5 +1,6 @@
 //! Judging a zone answer from bytes alone (RFC 4035, 5).
 ghost use Rattle.std.specs.Prelude.{◌≡◌, ◌==◌, ◌+◌, ◌<◌, ◌≤◌, ◌^◌, [], IfOk, IfErr, OnOk, length, map, filter, true, false};
+ghost use Rattle.definitions.specs.Limits.{pointer_limit};
 ghost use Rattle.definitions.specs.Dnskey.{dnskey_data};
 ghost use Rattle.definitions.specs.Zone.{sorted_data};
 ghost use Rattle.messages.specs.Questions.{asked_of};
@@ -52,12 +53,12 @@ pub fn judge<C: Checks>(
     checks: &mut C,
     limit: u16,
 ) -> Result<Judgement, Refused>
-    ensures judges { Judges 0
+    ensures judges { Judges pointer_limit
         (handed apex.now ds.now dnskey_bytes.now answer_bytes.now (asked_of question.now) now limit)
         (answer_of result) (verifications_of result) (hashes_of result) }
-    ensures exact { AnswersAs (answer_of result) (judged (C.answers checks.old) 0
+    ensures exact { AnswersAs (answer_of result) (judged (C.answers checks.old) pointer_limit
         (handed apex.now ds.now dnskey_bytes.now answer_bytes.now (asked_of question.now) now limit)) }
-    ensures given { AnswersGiven (C.answers checks.old) 0
+    ensures given { AnswersGiven (C.answers checks.old) pointer_limit
         (handed apex.now ds.now dnskey_bytes.now answer_bytes.now (asked_of question.now) now limit)
         (answer_of result) }
     ensures verified { C.verified checks.new ≡ C.verified checks.old + verifications_of result }
@@ -131,11 +132,11 @@ fn judge_messages<C: Checks>(
 ) -> Result<Verdict, Refusal>
     requires counts { count.old ≡ 0 }
     requires other { (question.now.rtype == 47) ≡ false }
-    ensures exact { AnswersAs (said result) (judged_beyond (C.answers checks.old) 0 (handed apex.now ds.now dnskey_bytes.now answer_bytes.now (asked_of question.now) now 0)) }
-    ensures verdict { OnOk result (message_refusal 0 (handed apex.now ds.now dnskey_bytes.now answer_bytes.now (asked_of question.now) now 0) ≡ None) }
-    ensures refusal { IfErr result (λ e. RefusesFirst e (message_refusal 0 (handed apex.now ds.now dnskey_bytes.now answer_bytes.now (asked_of question.now) now 0))) }
+    ensures exact { AnswersAs (said result) (judged_beyond (C.answers checks.old) pointer_limit (handed apex.now ds.now dnskey_bytes.now answer_bytes.now (asked_of question.now) now 0)) }
+    ensures verdict { OnOk result (message_refusal pointer_limit (handed apex.now ds.now dnskey_bytes.now answer_bytes.now (asked_of question.now) now 0) ≡ None) }
+    ensures refusal { IfErr result (λ e. RefusesFirst e (message_refusal pointer_limit (handed apex.now ds.now dnskey_bytes.now answer_bytes.now (asked_of question.now) now 0))) }
     ensures counted { C.verified checks.new ≡ C.verified checks.old + count.new }
-    ensures bound { count.new ≤ verification_bound 0 (handed apex.now ds.now dnskey_bytes.now answer_bytes.now (asked_of question.now) now 0) }
+    ensures bound { count.new ≤ verification_bound pointer_limit (handed apex.now ds.now dnskey_bytes.now answer_bytes.now (asked_of question.now) now 0) }
     ensures hashed { C.hashed checks.new ≡ C.hashed checks.old }
     ensures same { C.answers checks.new ≡ C.answers checks.old }
 {
@@ -197,13 +198,13 @@ fn read_messages<'a>(
     answer_bytes: &'a [u8],
     question: &Question,
 ) -> Result<(MessageView<'a>, MessageView<'a>), Refusal>
-    ensures keys { IfOk result (λ v. message 0 dnskey_bytes.now ≡ Ok v.0) }
-    ensures answer { IfOk result (λ v. message 0 answer_bytes.now ≡ Ok v.1) }
+    ensures keys { IfOk result (λ v. message pointer_limit dnskey_bytes.now ≡ Ok v.0) }
+    ensures answer { IfOk result (λ v. message pointer_limit answer_bytes.now ≡ Ok v.1) }
     ensures asks_keys { IfOk result (λ v. same_question v.0.asked (record { name = apex.now; rtype = 48; class = 1 }) ≡ true) }
     ensures asks_answer { IfOk result (λ v. same_question v.1.asked (asked_of question.now) ≡ true) }
     ensures first { IfErr result (λ e. is_first e ≡ true) }
     ensures few { IfOk result (λ v. length v.0.records + length v.1.records ≤ 393210) }
-    ensures refusal { IfErr result (λ e. RefusesFirst e (message_refusal 0 (handed apex.now [] dnskey_bytes.now answer_bytes.now (asked_of question.now) 0 0))) }
+    ensures refusal { IfErr result (λ e. RefusesFirst e (message_refusal pointer_limit (handed apex.now [] dnskey_bytes.now answer_bytes.now (asked_of question.now) 0 0))) }
 {
     let keys = read_counted(dnskey_bytes).map_err(|_| Refusal::BadDnskeyMessage)?;
     let answer = read_counted(answer_bytes).map_err(|_| Refusal::BadAnswerMessage)?;
@@ -217,7 +218,7 @@ fn read_messages<'a>(
 
 /// Reads a message, which has no more records than three counts of 16 bits.
 fn read_counted(bytes: &[u8]) -> Result<MessageView<'_>, MessageError>
-    ensures exact { Gives (λ v. v) result (message 0 bytes.now) }
+    ensures exact { Gives (λ v. v) result (message pointer_limit bytes.now) }
     ensures few { IfOk result (λ v. length v.records ≤ 196605) }
 {
     read_message(bytes)
@@ -274,7 +275,7 @@ fn are_verified<C: Checks>(
     count: &mut u32,
 ) -> Result<bool, AllocError>
     requires { count.old + length records.now < 2 ^ 32 }
-    ensures exact { IfOk result (λ b. b ≡ is_verified (held_by (C.answers checks.old) trust.now) 0 message.now (map spelled records.now) trust.now.apex.now 48 (sorted_data (map dnskey_data keys.now))) }
+    ensures exact { IfOk result (λ b. b ≡ is_verified (held_by (C.answers checks.old) trust.now) pointer_limit message.now (map spelled records.now) trust.now.apex.now 48 (sorted_data (map dnskey_data keys.now))) }
     ensures counted { C.verified checks.new + count.old ≡ C.verified checks.old + count.new }
     ensures bound { count.new ≤ count.old + length (filter is_signature (map spelled records.now)) }
     ensures few { count.new ≤ count.old + length records.now }

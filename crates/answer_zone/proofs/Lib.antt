@@ -11,3 +11,4 @@ pub mod OneLink
 pub mod ZoneRising
 pub mod WritesNames
 pub mod ZoneAnswers
+pub mod ZoneGroups

@@ -10,6 +10,7 @@ use Rattle.definitions.specs.Zone.{Zone, Verdict, Records, NoType, NoName, data_
 use Rattle.definitions.specs.ZoneChain.{Nsec}
 use Rattle.records.specs.HandedRr.{HandedRr}
 use Rattle.answer_zone.specs.Accepting.{zone_with}
+use Rattle.answer_zone.specs.GroupView.{rrset_of}
 use Rattle.answer_zone.specs.Served.{Group, Served, ahead, answer_groups, chain_names, chain_record, chain_ttl, kept_ancestor, proofs_of, served_of, soa, spoken, ttl_among, written_among}
 use Rattle.answer_zone.specs.declared.fault.Mode as declared
 use Rattle.answer_zone.specs.declared.fault.Mode.TheVariants as variant
@@ -50,11 +51,11 @@ abbrev groups_for : Served → Name → ℕ → Verdict → List Group
 groups_for s q t v = ahead s q t v ++ proofs_of s (spoken s (low q) v)
 
 pub groups_found : (apex : Name) (hash : Name → List ℕ) (rs : List HandedRr) → IsPublished apex rs → (q : Name) (t : ℕ) → (eqb t 47 || eqb t 50) ≡ false → has (zone_with apex rs) (low q) t ≡ true
-    → record { owner = q; source = low q; rtype = t; ttl = ttl_among rs (low q) t; written = written_among rs (low q) t; datas = data_at (zone_with apex rs) (low q) t; signed = true } ∷ [] ≡ answer_groups (served_of apex Nsec hash rs) q t
+    → rrset_of false apex rs q t ∷ [] ≡ answer_groups (served_of apex Nsec hash rs) q t
 groups_found apex hash rs p q t plain e =
     let s = served_of apex Nsec hash rs in
     let z = zone_with apex rs in
-    let one : ℕ → Group = λ n. record { owner = q; source = low q; rtype = t; ttl = n; written = written_among rs (low q) t; datas = data_at z (low q) t; signed = true } in
+    let one : ℕ → Group = λ n. record (rrset_of false apex rs q t) { ttl = n } in
     sym (ap (groups_for s q t) (verdict_found apex rs p q t e)
     ∙ ap (λ gs. ahead s q t (Records (data_at z (low q) t)) ++ gs) (no_proofs s)
     ∙ ap (λ b. one (if b then chain_ttl apex rs else ttl_among rs (low q) t) ∷ []) plain)

@@ -15,7 +15,7 @@ use Rattle.definitions.specs.ZoneChain.{Nsec, links, behind, nsec_names, nsec_ne
 use Rattle.definitions.specs.Bitmap.{bitmap}
 use Rattle.records.specs.HandedRr.{HandedRr}
 use Rattle.answer_zone.specs.Accepting.{record_cmp, zone_with}
-use Rattle.answer_zone.specs.Served.{Group, served_of, proofs_of, chain_record, spelled_as}
+use Rattle.answer_zone.specs.Served.{Group, canonical_group, chain_record, chain_ttl, proofs_of, served_of, spelled_among, spelled_as}
 use Rattle.answer_zone.specs.Links.{pairs, record_links, link_group, link_speaks, proofs_among}
 use Rattle.answer_zone.specs.ZoneView.{IsPublished, name_cmp_total}
 use Rattle.records.proofs.ZoneNames.{same_labels, labels_eq-same, low_from_Equal, name_cmp-low}
@@ -210,10 +210,7 @@ types_are apex rs p o = rw (no_delegation apex rs p.plain o)
 
 record_is : (apex : Name) (hash : Name → List ℕ) (rs : List HandedRr) → IsPublished apex rs → (o : Name) → chain_record (served_of apex Nsec hash rs) o ≡ link_group apex rs o (nsec_next (zone_with apex rs) o)
 record_is apex hash rs p o =
-    let of : List ℕ → Group = λ ts. record (link_group apex rs o (nsec_next (zone_with apex rs) o)) {
-      written = (wire (spelled_as apex rs (nsec_next (zone_with apex rs) o)) ++ bitmap ts) ∷ [];
-      datas = (wire (spelled_as apex rs (nsec_next (zone_with apex rs) o)) ++ bitmap ts) ∷ [];
-    } in
+    let of : List ℕ → Group = λ ts. canonical_group (spelled_among rs o) o 47 (chain_ttl apex rs) ((wire (spelled_as apex rs (nsec_next (zone_with apex rs) o)) ++ bitmap ts) ∷ []) in
     ap of (types_are apex rs p o)
 
 map_agree : {A B : Type 0} (f g : A → B) → ((a : A) → f a ≡ g a) → (xs : List A) → map f xs ≡ map g xs

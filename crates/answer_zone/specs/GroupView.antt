@@ -1,21 +1,69 @@
 -- An RRset on its way into an answer, as contracts see it.
-use Rattle.std.specs.Prelude.{◌≡◌, ℕ, ◌+◌, ◌%◌, ◌<◌, Bool, true, List, ◌++◌, Option, Some, None, Contains}
+use Rattle.std.specs.Prelude.{◌≡◌, ℕ, ◌+◌, ◌%◌, ◌<◌, Bool, true, List, [], ◌∷◌, ◌++◌, Option, Some, None, Contains, unwrap_or, map, filter, if◌then◌else◌, Vec, length, nat_lt}
 use Rattle.std.specs.List.{AllZip}
-use Rattle.definitions.specs.Name.{Name}
+use Rattle.std.specs.declared.alloc.Global.{Global}
+use Rattle.definitions.specs.Name.{Name, low}
 use Rattle.definitions.specs.Dnskey.{Dnskey, key_tag}
 use Rattle.definitions.specs.Signing.{Fields, label_count, signed_octets}
 use Rattle.denial_data.specs.Rrsig.{rrsig_data}
-use Rattle.answer_zone.specs.Served.{Group}
+use Rattle.records.specs.Written.{Written}
+use Rattle.records.specs.HandedRr.{HandedRr}
+use Rattle.definitions.specs.Zone.{data_at}
+use Rattle.answer_zone.specs.Accepting.{zone_with}
+use Rattle.answer_zone.specs.ZoneView.{is_of}
+use Rattle.answer_zone.specs.Served.{Group, owned_by, ttl_among, written_among, written_of_handed, written_rr}
+use Rattle.answer_zone.specs.declared.group.GroupRecord.{GroupRecord}
 
--- the owner as written, the label count of its source, the data as spelled and the canonical data in order
+-- the owner and the TTL of its signatures, the label count of its source, its records as they are written, and the
+-- canonical data in order
 pub record GroupView : Type 0 where
   pub owner : Name
   pub labels : ℕ
   pub rtype : ℕ
   pub ttl : ℕ
-  pub written : List (List ℕ)
+  pub written : List Written
   pub canonical : List (List ℕ)
   pub signed : Bool
+
+-- a record, under the owner of the RRset unless it has its own
+abbrev pub record_under : Name → ℕ → GroupRecord → Written
+record_under owner t r = written_rr (unwrap_or r.owner owner) t r.ttl r.octets.items
+
+-- an RRset that is written in canonical form
+abbrev pub canonical_view : Name → ℕ → ℕ → ℕ → List (List ℕ) → GroupView
+canonical_view owner labels t ttl ds = record {
+  owner = owner;
+  labels = labels;
+  rtype = t;
+  ttl = ttl;
+  written = map (written_rr owner t ttl) ds;
+  canonical = ds;
+  signed = nat_lt 0 (length ds);
+}
+
+-- a record as it was handed in, under another owner unless it keeps its own
+abbrev pub spelled_by : Bool → Name → HandedRr → Written
+spelled_by own owner r = if own then written_of_handed r else owned_by owner (written_of_handed r)
+
+abbrev pub all_spelled_by : Bool → Name → List Written → List Written
+all_spelled_by own owner ws = if own then ws else map (owned_by owner) ws
+
+-- the RRset of an owner and a type among some records, whatever owner the records get that don't keep their own
+pub record HoldsRrset (own : Bool) (q : Name) (t : ℕ) (rs : List HandedRr) (gs : List GroupRecord) (ds : List (Vec ℕ Global)) : Type 0 where
+  pub written : (owner : Name) → map (record_under owner t) gs ≡ all_spelled_by own owner (map written_of_handed (filter (is_of q t) rs))
+  pub canonical : map (λ d. d.items) ds ≡ map (λ r. r.bytes) (filter (is_of q t) rs)
+
+-- the RRset of an owner and a type of a zone, written under that owner or as its records spell it
+abbrev pub rrset_of : Bool → Name → List HandedRr → Name → ℕ → Group
+rrset_of own apex rs owner t = record {
+  owner = owner;
+  source = low owner;
+  rtype = t;
+  ttl = ttl_among rs (low owner) t;
+  written = all_spelled_by own owner (written_among rs (low owner) t);
+  datas = data_at (zone_with apex rs) (low owner) t;
+  signed = true;
+}
 
 -- it is this RRset of an answer
 pub record Presents (g : GroupView) (of : Group) : Type 0 where

@@ -9,7 +9,7 @@ use Rattle.definitions.specs.Covering.{covers}
 use Rattle.definitions.specs.ZoneChain.{types_at, at_apex}
 use Rattle.records.specs.HandedRr.{HandedRr}
 use Rattle.answer_zone.specs.Accepting.{zone_with}
-use Rattle.answer_zone.specs.Served.{Group, chain_ttl, spelled_among, spelled_as}
+use Rattle.answer_zone.specs.Served.{Group, canonical_group, chain_ttl, spelled_among, spelled_as}
 
 -- each with the next greater, the last with the first
 abbrev pub pairs : {A : Type 0} → (A → A → Ordering) → A → A → List A → List (A × A)
@@ -27,15 +27,7 @@ link_data apex rs o next = wire (spelled_as apex rs next) ++ bitmap (types_at (z
 
 -- a record of the chain, of its owner and next name (RFC 4034, 4)
 abbrev pub link_group : Name → List HandedRr → Name → Name → Group
-link_group apex rs o next = record {
-  owner = spelled_among rs o;
-  source = o;
-  rtype = 47;
-  ttl = chain_ttl apex rs;
-  written = link_data apex rs o next ∷ [];
-  datas = link_data apex rs o next ∷ [];
-  signed = true;
-}
+link_group apex rs o next = canonical_group (spelled_among rs o) o 47 (chain_ttl apex rs) (link_data apex rs o next ∷ [])
 
 -- a link matches or covers one of some names
 abbrev pub link_speaks : Name → List Name → Name → Name → Bool

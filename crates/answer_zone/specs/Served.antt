@@ -1,5 +1,5 @@
 -- What a zone is served with, and what an answer holds (RFC 4035, 3.1; RFC 5155, 7.2).
-use Rattle.std.specs.Prelude.{ℕ, ◌-◌, Bool, true, false, ◌&&◌, ◌||◌, ◌==◌, List, [], ◌∷◌, ◌++◌, map, filter, length, drop, Some, None, if◌then◌else◌, min}
+use Rattle.std.specs.Prelude.{ℕ, ◌-◌, Bool, true, false, ◌&&◌, ◌||◌, ◌==◌, List, [], ◌∷◌, ◌++◌, map, filter, length, drop, Some, None, if◌then◌else◌, min, nat_lt}
 use Rattle.std.specs.List.{list_any}
 use Rattle.std.specs.Int.{w32, from_be_bytes}
 use Rattle.std.specs.Ordering.{nat_cmp}
@@ -13,17 +13,18 @@ use Rattle.definitions.specs.Base32hex.{base32hex}
 use Rattle.definitions.specs.Dnskey.{Dnskey, dnskey_data, key_tag}
 use Rattle.definitions.specs.ZoneChain.{Mode, Nsec, Nsec3, parameters_of, optout_of, nsec_names, hashed_names, nsec_next, nsec_data, nsec3_data, nsec3_next}
 use Rattle.records.specs.HandedRr.{HandedRr}
+use Rattle.records.specs.Written.{Written}
 use Rattle.answer_zone.specs.Accepting.{zone_with, soas}
 
--- a zone, its chain's mode and hash, the TTL of an owner and a type, how its records of a type spell an owner and
--- their data, and how next names are spelled
+-- A zone, its chain's mode and hash, the TTL and the spelling of an owner and a type, which their signatures have, the
+-- records of an owner and a type as they are written, and how next names are spelled.
 pub record Served : Type 0 where
   pub zone : Zone
   pub mode : Mode
   pub hash : Name → List ℕ
   pub ttl_of : Name → ℕ → ℕ
   pub owner_of : Name → ℕ → Name
-  pub written_of : Name → ℕ → List (List ℕ)
+  pub written_of : Name → ℕ → List Written
   pub spelled : Name → Name
 
 -- the TTL of the first record of an owner and a type
@@ -60,9 +61,21 @@ owner_among (r ∷ rs) o t = if labels_eq (low r.owner) o && (r.rtype == t) then
 abbrev pub served_owner : List HandedRr → Name → ℕ → Name
 served_owner sorted o t = if (t == 47) || (t == 50) then spelled_among sorted o else owner_among sorted o t
 
--- the data of an owner and a type as spelled, in canonical order
-abbrev pub written_among : List HandedRr → Name → ℕ → List (List ℕ)
-written_among sorted o t = map (λ r. r.written) (filter (λ r. labels_eq (low r.owner) o && (r.rtype == t)) sorted)
+-- a record of class IN
+abbrev pub written_rr : Name → ℕ → ℕ → List ℕ → Written
+written_rr owner t ttl octets = record { owner = owner; rtype = t; class = 1; ttl = ttl; octets = octets }
+
+-- a record as it was handed in: owner and data as spelled, its own TTL
+abbrev pub written_of_handed : HandedRr → Written
+written_of_handed r = written_rr r.owner r.rtype r.ttl r.written
+
+-- the records of an owner and a type, in canonical order
+abbrev pub written_among : List HandedRr → Name → ℕ → List Written
+written_among sorted o t = map written_of_handed (filter (λ r. labels_eq (low r.owner) o && (r.rtype == t)) sorted)
+
+-- the same records under another owner
+abbrev pub owned_by : Name → Written → Written
+owned_by owner w = record w { owner = owner }
 
 -- as the first record of the name in canonical order; the apex as it was handed in
 abbrev pub spelled_as : Name → List HandedRr → Name → Name
@@ -80,19 +93,36 @@ served_of apex mode hash sorted = record {
   spelled = spelled_as apex sorted;
 }
 
--- An RRset of an answer: the owner as written, the owner that its label count is of, its data in canonical order,
--- as written and in canonical form, and whether it is signed.
+-- An RRset of an answer: the owner and the TTL of its signatures, the owner that its label count is of, its records as
+-- they are written, each with an owner and a TTL of its own, in canonical order, its canonical data in order, and whether
+-- it is signed.
 pub record Group : Type 0 where
   pub owner : Name
   pub source : Name
   pub rtype : ℕ
   pub ttl : ℕ
-  pub written : List (List ℕ)
+  pub written : List Written
   pub datas : List (List ℕ)
   pub signed : Bool
 
 abbrev pub rrset : Served → Name → ℕ → Group
 rrset s o t = record { owner = s.owner_of o t; source = o; rtype = t; ttl = s.ttl_of o t; written = s.written_of o t; datas = data_at s.zone o t; signed = true }
+
+-- an RRset whose records stand under one owner, as it is asked for (RFC 4592, 3.3.3)
+abbrev pub under : Name → Group → Group
+under owner g = record g { owner = owner; written = map (owned_by owner) g.written }
+
+-- an RRset that is written in canonical form; without a record there is nothing to sign
+abbrev pub canonical_group : Name → Name → ℕ → ℕ → List (List ℕ) → Group
+canonical_group owner source t ttl ds = record {
+  owner = owner;
+  source = source;
+  rtype = t;
+  ttl = ttl;
+  written = map (written_rr owner t ttl) ds;
+  datas = ds;
+  signed = nat_lt 0 (length ds);
+}
 
 abbrev pub soa : Served → Group
 soa s = rrset s (apex_of s.zone) 6
@@ -100,11 +130,10 @@ soa s = rrset s (apex_of s.zone) 6
 -- the record of a name of the chain
 abbrev pub chain_record : Served → Name → Group
 chain_record s o = elim s.mode [
-  | Nsec ↦ let d = nsec_data s.zone (parameters_of Nsec) s.spelled o in record { owner = s.owner_of o 47; source = o; rtype = 47; ttl = s.ttl_of o 47; written = d ∷ []; datas = d ∷ []; signed = true }
+  | Nsec ↦ canonical_group (s.owner_of o 47) o 47 (s.ttl_of o 47) (nsec_data s.zone (parameters_of Nsec) s.spelled o ∷ [])
   | Nsec3 iterations salt optout ↦
       let h = base32hex (s.hash o) ∷ s.spelled (apex_of s.zone) in
-      let d = nsec3_data s.hash s.zone (parameters_of s.mode) o in
-      record { owner = h; source = h; rtype = 50; ttl = s.ttl_of o 50; written = d ∷ []; datas = d ∷ []; signed = true }
+      canonical_group h h 50 (s.ttl_of o 50) (nsec3_data s.hash s.zone (parameters_of s.mode) o ∷ [])
 ]
 
 -- the names of the chain in canonical order of their records' owners
@@ -154,7 +183,7 @@ if_any s c t = if has s.zone c t then rrset s c t ∷ [] else []
 
 -- the RRset of a wildcard, as it stands under a name (RFC 4592, 3.3.3)
 abbrev pub expanded : Served → Name → Name → ℕ → List Group
-expanded s star q t = record (rrset s star t) { owner = q } ∷ []
+expanded s star q t = under q (rrset s star t) ∷ []
 
 -- what stands before the chain's records
 abbrev pub ahead_open : Served → Name → ℕ → Verdict → List Group
@@ -165,7 +194,7 @@ ahead_open s q t _ = elim (cut s.zone (low q)) [
 ]
 
 abbrev pub ahead : Served → Name → ℕ → Verdict → List Group
-ahead s q t (Records ds) = record (rrset s (low q) t) { owner = q } ∷ []
+ahead s q t (Records ds) = under q (rrset s (low q) t) ∷ []
 ahead s q t NoType = soa s ∷ []
 ahead s q t NoName = soa s ∷ []
 ahead s q t (StarRecords ds) = elim (ce s.zone (low q)) [ None ↦ [] | Some e ↦ expanded s (star_under e) q t ]
@@ -180,9 +209,13 @@ answer_groups s q t =
     let v = verdict s.zone (optout_of s.mode) q t in
     ahead s q t v ++ proofs_of s (spoken s (low q) v)
 
--- the DNSKEY RRset of some keys at the apex
+-- the data of some keys, in canonical order
+abbrev pub key_data : List Dnskey → List (List ℕ)
+key_data ks = sort_by (slice_cmp nat_cmp) (map dnskey_data ks)
+
+-- the DNSKEY RRset of some keys at the apex: without a key no record and no signature
 abbrev pub key_group : Name → ℕ → List Dnskey → Group
-key_group apex ttl ks = let ds = sort_by (slice_cmp nat_cmp) (map dnskey_data ks) in record { owner = apex; source = apex; rtype = 48; ttl = ttl; written = ds; datas = ds; signed = true }
+key_group apex ttl ks = canonical_group apex apex 48 ttl (key_data ks)
 
 -- keys in order of tag
 abbrev pub by_tag : List Dnskey → List Dnskey

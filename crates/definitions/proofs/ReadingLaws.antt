@@ -12,17 +12,17 @@ use Rattle.definitions.proofs.PlainReading.{at_head, at_place, run_at-label}
 
 -- ---- sizes
 
-wire_len-cons : (l : Label) (n : Name) → wire_len (l ∷ n) ≡ length l + 1 + wire_len n
+pub wire_len-cons : (l : Label) (n : Name) → wire_len (l ∷ n) ≡ length l + 1 + wire_len n
 wire_len-cons l n = omega (arith, sum_by-cons (λ k. length k + 1) l n)
 
-wire_len_some : (n : Name) → 1 ≤ wire_len n
+pub wire_len_some : (n : Name) → 1 ≤ wire_len n
 wire_len_some n = omega arith
 
-length-range : (m : List ℕ) (p n : ℕ) → p + n ≤ length m → length (slice_range m p (p + n)) ≡ n
+pub length-range : (m : List ℕ) (p n : ℕ) → p + n ≤ length m → length (slice_range m p (p + n)) ≡ n
 length-range m p n h = let e : p + n - p ≡ n = omega arith in rw e (length-take-le n _ (omega (arith, length-drop p m)))
 
 -- each label takes two octets at least
-labels_short : {m : List ℕ} {p k b : ℕ} {ls : Name} → Reads m p k ls b → 2 * length ls + 1 ≤ wire_len ls
+pub labels_short : {m : List ℕ} {p k b : ℕ} {ls : Name} → Reads m p k ls b → 2 * length ls + 1 ≤ wire_len ls
 labels_short (root h e) = omega arith
 labels_short {m} {p} (label {n = n} {e = e} {l = l} {ls = ls} h a b c d f r) =
     let inside : p + 1 + n ≤ length m = omega (arith, c, d) in
@@ -49,27 +49,27 @@ reading_is_short m p n e r short = record {
 -- ---- a run and what a pointer leads to
 
 -- with the place behind it
-abbrev beyond : ℕ → Result Name ReadFault → Result (Name × ℕ) ReadFault
+abbrev pub beyond : ℕ → Result Name ReadFault → Result (Name × ℕ) ReadFault
 beyond b (Ok n) = Ok (n, b)
 beyond b (Err f) = Err f
 
-abbrev finish_at : ℕ → List ℕ → Name → End → ℕ → ℕ → Result (Name × ℕ) ReadFault
+abbrev pub finish_at : ℕ → List ℕ → Name → End → ℕ → ℕ → Result (Name × ℕ) ReadFault
 finish_at zero m ls e b room = elim e [ AtRoot ↦ Ok (ls, b) | To to ↦ Err Malformed ]
 finish_at (suc k) m ls e b room = elim e [ AtRoot ↦ Ok (ls, b) | To to ↦ beyond b (behind_labels ls (labels_at k room m to)) ]
 
-abbrev finish : ℕ → List ℕ → Result Run ReadFault → Result (Name × ℕ) ReadFault
+abbrev pub finish : ℕ → List ℕ → Result Run ReadFault → Result (Name × ℕ) ReadFault
 finish k m (Err f) = Err f
 finish k m (Ok r) = finish_at k m r.labels r.end r.behind r.room
 
-abbrev labels_of : Result (Name × ℕ) ReadFault → Result Name ReadFault
+abbrev pub labels_of : Result (Name × ℕ) ReadFault → Result Name ReadFault
 labels_of (Ok r) = Ok r.0
 labels_of (Err f) = Err f
 
-labels_beyond : (b : ℕ) (r : Result Name ReadFault) → labels_of (beyond b r) ≡ r
+pub labels_beyond : (b : ℕ) (r : Result Name ReadFault) → labels_of (beyond b r) ≡ r
 labels_beyond b (Ok n) = refl
 labels_beyond b (Err f) = refl
 
-labels_at-finish : (k room : ℕ) (m : List ℕ) (p : ℕ) → labels_at k room m p ≡ labels_of (finish k m (run_at most_heads k room m p))
+pub labels_at-finish : (k room : ℕ) (m : List ℕ) (p : ℕ) → labels_at k room m p ≡ labels_of (finish k m (run_at most_heads k room m p))
 labels_at-finish zero room m p = go (run_at most_heads 0 room m p)
   where
     at_end : (ls : Name) (e : End) (b room : ℕ) → elim e as (λ _. Result Name ReadFault) [ AtRoot ↦ Ok ls | To to ↦ Err Malformed ] ≡ labels_of (finish_at 0 m ls e b room)
@@ -89,7 +89,7 @@ labels_at-finish (suc k) room m p = go (run_at most_heads (suc k) room m p)
     go (Ok r) = at_end r.labels r.end r.behind r.room
     go (Err f) = refl
 
-abbrev in_front : Label → Result (Name × ℕ) ReadFault → Result (Name × ℕ) ReadFault
+abbrev pub in_front : Label → Result (Name × ℕ) ReadFault → Result (Name × ℕ) ReadFault
 in_front l (Ok n) = Ok (l ∷ n.0, n.1)
 in_front l (Err f) = Err f
 
@@ -103,23 +103,23 @@ finish_front zero m l ls (To to) b room = refl
 finish_front (suc k) m l ls AtRoot b room = refl
 finish_front (suc k) m l ls (To to) b room = behind_front l ls b (labels_at k room m to)
 
-finish-with_label : (k : ℕ) (m : List ℕ) (l : Label) (o : Result Run ReadFault) → finish k m (with_label l o) ≡ in_front l (finish k m o)
+pub finish-with_label : (k : ℕ) (m : List ℕ) (l : Label) (o : Result Run ReadFault) → finish k m (with_label l o) ≡ in_front l (finish k m o)
 finish-with_label k m l (Ok r) = finish_front k m l r.labels r.end r.behind r.room
 finish-with_label k m l (Err f) = refl
 
 -- ---- what stands there is read
 
-run_at-root : (heads k room : ℕ) (m : List ℕ) (p : ℕ) → slice_get m p ≡ Some 0 → run_at (suc heads) k room m p ≡ Ok (record { labels = []; end = AtRoot; behind = p + 1; room = room })
+pub run_at-root : (heads k room : ℕ) (m : List ℕ) (p : ℕ) → slice_get m p ≡ Some 0 → run_at (suc heads) k room m p ≡ Ok (record { labels = []; end = AtRoot; behind = p + 1; room = room })
 run_at-root heads k room m p g = ap (at_place heads k room m p) g
 
-run_at-pointer : (heads k room : ℕ) (m : List ℕ) (p high : ℕ) → slice_get m p ≡ Some high → 192 ≤ high → run_at (suc heads) k room m p ≡ pointer_at k room m p high
+pub run_at-pointer : (heads k room : ℕ) (m : List ℕ) (p high : ℕ) → slice_get m p ≡ Some high → 192 ≤ high → run_at (suc heads) k room m p ≡ pointer_at k room m p high
 run_at-pointer heads k room m p high g h =
     let near : leb high 63 ≡ false = lt-leb high 63 (omega (arith, h)) in
     ap (at_place heads k room m p) g
     ∙ (λ i. at_head heads k room m p high (ne_eqb high 0 (λ e. omega (arith, e, h)) i) (near i) (leb (p + 1 + high) (length m)) (leb (high + 2) room))
     ∙ ap (λ b. elim b as (λ _. Result Run ReadFault) [ true ↦ pointer_at k room m p high | false ↦ Err Malformed ]) (le-leb 192 high h)
 
-abbrev pointed : ℕ → List ℕ → ℕ → ℕ → Option ℕ → Result Run ReadFault
+abbrev pub pointed : ℕ → List ℕ → ℕ → ℕ → Option ℕ → Result Run ReadFault
 pointed room m p high o = elim o [
   | None ↦ Err Short
   | Some b ↦ elim (ltb ((high - 192) * 256 + b) p) [
@@ -128,21 +128,21 @@ pointed room m p high o = elim o [
   ]
 ]
 
-pointer_at-back : (k room : ℕ) (m : List ℕ) (p high low to : ℕ) → slice_get m (p + 1) ≡ Some low → to ≡ (high - 192) * 256 + low → to < p → pointer_at (suc k) room m p high ≡ Ok (record { labels = []; end = To to; behind = p + 2; room = room })
+pub pointer_at-back : (k room : ℕ) (m : List ℕ) (p high low to : ℕ) → slice_get m (p + 1) ≡ Some low → to ≡ (high - 192) * 256 + low → to < p → pointer_at (suc k) room m p high ≡ Ok (record { labels = []; end = To to; behind = p + 2; room = room })
 pointer_at-back k room m p high low to g e lt =
     ap (pointed room m p high) g
     ∙ (λ i. elim (ltb (sym e i) p) as (λ _. Result Run ReadFault) [ true ↦ Ok (record { labels = []; end = To (sym e i); behind = p + 2; room = room }) | false ↦ Err Malformed ])
     ∙ ap (λ b. elim b as (λ _. Result Run ReadFault) [ true ↦ Ok (record { labels = []; end = To to; behind = p + 2; room = room }) | false ↦ Err Malformed ]) (lt-ltb to p lt)
 
-finish_root : (k : ℕ) (m : List ℕ) (b room : ℕ) → finish_at k m [] AtRoot b room ≡ Ok ([], b)
+pub finish_root : (k : ℕ) (m : List ℕ) (b room : ℕ) → finish_at k m [] AtRoot b room ≡ Ok ([], b)
 finish_root zero m b room = refl
 finish_root (suc k) m b room = refl
 
-behind_nothing : (r : Result Name ReadFault) → behind_labels [] r ≡ r
+pub behind_nothing : (r : Result Name ReadFault) → behind_labels [] r ≡ r
 behind_nothing (Ok n) = refl
 behind_nothing (Err f) = refl
 
-heads_there : most_heads ≡ 128
+pub heads_there : most_heads ≡ 128
 unfolding most_heads
 heads_there = refl
 
@@ -334,7 +334,7 @@ both_run : (k : ℕ) (m : List ℕ) (o : Result Run ReadFault) → both (labels_
 both_run k m (Ok r) = both_at k m r.labels r.end r.behind r.room
 both_run k m (Err f) = refl
 
-name_at-finish : (k : ℕ) (m : List ℕ) (p : ℕ) → name_at k m p ≡ finish k m (run_at most_heads k 255 m p)
+pub name_at-finish : (k : ℕ) (m : List ℕ) (p : ℕ) → name_at k m p ≡ finish k m (run_at most_heads k 255 m p)
 name_at-finish k m p =
     name_at-both k m p ∙ ap (λ l. both l (end_at k m p)) (labels_at-finish k 255 m p) ∙ both_run k m (run_at most_heads k 255 m p)
 
@@ -351,11 +351,11 @@ some_back : (a b : ℕ) → Some a ≡ Some b → a ≡ b
 some_back a b e = cc
 
 -- one octet stands at one place
-one_head : (m : List ℕ) (p q a b : ℕ) → q ≡ p → slice_get m p ≡ Some a → slice_get m q ≡ Some b → a ≡ b
+pub one_head : (m : List ℕ) (p q a b : ℕ) → q ≡ p → slice_get m p ≡ Some a → slice_get m q ≡ Some b → a ≡ b
 one_head m p q a b e h g = some_back a b (sym h ∙ ap (slice_get m) (sym e) ∙ g)
 
 -- what stands at one place is one name, which ends at one place
-one_name : {m : List ℕ} {p k j e f : ℕ} {n o : Name} → Reads m p k n e → (q : ℕ) → q ≡ p → Reads m q j o f → (n ≡ o) × (e ≡ f)
+pub one_name : {m : List ℕ} {p k j e f : ℕ} {n o : Name} → Reads m p k n e → (q : ℕ) → q ≡ p → Reads m q j o f → (n ≡ o) × (e ≡ f)
 one_name {m} {p} (root h e) q at (root g f) = (refl, omega arith)
 one_name {m} {p} (root h e) q at (label {n = x} g y z c d f r) = absurd (omega (arith, one_head m p q 0 x at h g))
 one_name {m} {p} (root h e) q at (pointer {high = x} g y z c d f r) = absurd (omega (arith, one_head m p q 0 x at h g))
@@ -375,8 +375,26 @@ one_name {m} {p} (pointer {high = x} {low = y} {to = to} h a b c d e r) q at (po
     let alike : other ≡ to = v ∙ (λ i. (sym same i - 192) * 256 + sym after i) ∙ sym c in
     ((one_name r other alike s).0, omega arith)
 
+-- and through as many pointers
+one_count : {m : List ℕ} {p k j e f : ℕ} {n o : Name} → (r : Reads m p k n e) → (q : ℕ) → q ≡ p → (s : Reads m q j o f) → pointers_of r ≡ pointers_of s
+one_count {m} {p} (root h e) q at (root g f) = refl
+one_count {m} {p} (root h e) q at (label {n = x} g y z c d f r) = absurd (omega (arith, one_head m p q 0 x at h g))
+one_count {m} {p} (root h e) q at (pointer {high = x} g y z c d f r) = absurd (omega (arith, one_head m p q 0 x at h g))
+one_count {m} {p} (label {n = n} h a b c d e r) q at (root g f) = absurd (omega (arith, one_head m p q n 0 at h g))
+one_count {m} {p} (label {n = n} {e = e} h a b c d f r) q at (label {n = x} {e = y} g t u v w z s) =
+    let same : n ≡ x = one_head m p q n x at h g in
+    one_count r y (omega arith) s
+one_count {m} {p} (label {n = n} h a b c d e r) q at (pointer {high = x} g t u v w z s) = absurd (omega (arith, one_head m p q n x at h g))
+one_count {m} {p} (pointer {high = x} h a b c d e r) q at (root g f) = absurd (omega (arith, one_head m p q x 0 at h g))
+one_count {m} {p} (pointer {high = x} h a b c d e r) q at (label {n = n} g t u v w z s) = absurd (omega (arith, one_head m p q x n at h g))
+one_count {m} {p} (pointer {high = x} {low = y} {to = to} h a b c d e r) q at (pointer {high = n} {low = o} {to = other} g t u v w z s) =
+    let same : x ≡ n = one_head m p q x n at h g in
+    let after : y ≡ o = one_head m (p + 1) (q + 1) y o (omega arith) b u in
+    let alike : other ≡ to = v ∙ (λ i. (sym same i - 192) * 256 + sym after i) ∙ sym c in
+    omega (arith, one_count r other alike s)
+
 -- a name ends behind its place, and within the octets
-ends_within : {m : List ℕ} {p k e : ℕ} {n : Name} → Reads m p k n e → (p < e) × (e ≤ length m)
+pub ends_within : {m : List ℕ} {p k e : ℕ} {n : Name} → Reads m p k n e → (p < e) × (e ≤ length m)
 ends_within {m} {p} (root h e) = (omega arith, omega (arith, slice_get_within m p 0 h))
 ends_within {m} {p} (label h a b c d f r) = (omega (arith, (ends_within r).0), (ends_within r).1)
 ends_within {m} {p} (pointer {low = low} h a b c d e r) = (omega arith, omega (arith, slice_get_within m (p + 1) low b))
@@ -384,5 +402,6 @@ ends_within {m} {p} (pointer {low = low} h a b c d e r) = (omega arith, omega (a
 pub ends_once : (m : List ℕ) → EndsOnce m
 ends_once m = record {
   one = λ p k j n o e f r s. one_name r p refl s;
+  pointers = λ p k j n o e f r s. one_count r p refl s;
   within = λ p k n e r. ends_within r;
 }

@@ -29,13 +29,14 @@ sum16 (a ∷ b ∷ bs) = a * 256 + b + sum16 bs
 abbrev pub tag_of_sum : ℕ → ℕ
 tag_of_sum s = (s + s / 65536) % 65536
 
--- algorithm 1 has its own rule (RFC 4034, appendix B.1)
+-- of a key of algorithm 1: the upper two of its last three octets (RFC 4034, appendix B.1)
+abbrev pub rsamd5_tag : List ℕ → ℕ
+rsamd5_tag octets =
+    let n = length octets in
+    if nat_lt n 3 then 0 else slice_index octets (n - 3) * 256 + slice_index octets (n - 2)
+
 abbrev pub key_tag : Dnskey → ℕ
-key_tag k =
-    let n = length k.octets in
-    if nat_eq k.algorithm 1
-    then (if nat_lt n 3 then 0 else slice_index k.octets (n - 3) * 256 + slice_index k.octets (n - 2))
-    else tag_of_sum (sum16 (dnskey_data k))
+key_tag k = if nat_eq k.algorithm 1 then rsamd5_tag k.octets else tag_of_sum (sum16 (dnskey_data k))
 
 -- the same key
 abbrev pub same_key : Dnskey → Dnskey → Bool

@@ -160,9 +160,10 @@ OneSpelling = (ts us : List ℕ) → (bitmap ts ≡ bitmap us) ↔ ((t : ℕ) �
 abbrev pub ReadsExactly : Type 0
 ReadsExactly = (m : List ℕ) (p k : ℕ) (n : Name) (e : ℕ) → (name_at k m p ≡ Ok (n, e)) ↔ (Reads m p k n e × (wire_len n ≤ 255))
 
--- the place behind a name that stands somewhere is one, and lies within the octets
+-- At one place stands one name at most, which ends at one place, within the octets, and has so many pointers.
 pub record EndsOnce (m : List ℕ) : Type 0 where
   pub one : (p k j : ℕ) (n o : Name) (e f : ℕ) → Reads m p k n e → Reads m p j o f → (n ≡ o) × (e ≡ f)
+  pub pointers : (p k j : ℕ) (n o : Name) (e f : ℕ) (r : Reads m p k n e) (s : Reads m p j o f) → pointers_of r ≡ pointers_of s
   pub within : (p k : ℕ) (n : Name) (e : ℕ) → Reads m p k n e → (p < e) × (e ≤ length m)
 
 -- how many heads are looked at, and how many of them are pointers

@@ -1,5 +1,6 @@
 pub mod Name
 pub mod Reading
+pub mod Limits
 pub mod Sorting
 pub mod Zone
 pub mod Covering

@@ -3,7 +3,7 @@ use Rattle.std.specs.Prelude.{ℕ, Bool, true, false, not, ◌&&◌, ◌||◌, �
 use Rattle.std.specs.List.{list_any}
 use Rattle.std.specs.Ordering.{nat_cmp}
 use Rattle.std.specs.Cmp.Lexicographic.{slice_cmp}
-use Rattle.definitions.specs.Sorting.{sort_by}
+use Rattle.definitions.specs.Sorting.{put_by, sort_by}
 use Rattle.definitions.specs.Name.{Name, labels_eq, at_or_above, strictly_above, low}
 
 -- a record: its owner as it is spelled, type, canonical data
@@ -85,6 +85,10 @@ star_under e = (42 ∷ []) ∷ e
 abbrev pub kept_cut_above : Zone → Bool → Name → Bool
 kept_cut_above z excluding [] = false
 kept_cut_above z excluding (l ∷ q) = (is_delegation z q && is_kept z excluding q) || kept_cut_above z excluding q
+
+-- octets in their place among ascending ones, unless they are there
+abbrev pub put_datum : List ℕ → List (List ℕ) → List (List ℕ)
+put_datum d ds = put_by (slice_cmp nat_cmp) d ds
 
 -- octets in ascending order, each once
 abbrev pub sorted_data : List (List ℕ) → List (List ℕ)

@@ -1,6 +1,6 @@
 //! Keys of a zone (RFC 4034, 2).
 ghost use Rattle.std.specs.Prelude.{◌≡◌, ◌+◌, ◌-◌, ◌*◌, ◌%◌, ◌++◌, ◌↔◌, IfOk, OnOk, IsTrue, bit_and, if◌then◌else◌, length, nat_lt, slice_index};
-ghost use Rattle.definitions.specs.Dnskey.{dnskey_data, dnskey_of_data, key_tag, same_key, sum16, tag_of_sum};
+ghost use Rattle.definitions.specs.Dnskey.{rsamd5_tag, dnskey_data, dnskey_of_data, key_tag, same_key, sum16, tag_of_sum};
 
 use records::names::Octets;
 use records::plain::SecurityAlgorithm;
@@ -24,7 +24,12 @@ impl<Octs: Octets> Model for Dnskey<Octs> {
 
     ghost Value = { Dnskey };
 
-    ghost view = { λ k. record { flags = k.flags; protocol = k.protocol; algorithm = k.algorithm; octets = Octs.bytes k.public_key } };
+    ghost view = { λ k. record {
+      flags = k.flags;
+      protocol = k.protocol;
+      algorithm = k.algorithm;
+      octets = Octs.bytes k.public_key;
+    } };
 }
 
 impl<Octs: Octets> Dnskey<Octs> {
@@ -158,7 +163,7 @@ impl<'a> Dnskey<&'a [u8]> {
 
 /// The tag of a key of algorithm 1: the upper two of the last three octets (RFC 4034, appendix B.1).
 fn rsamd5_tag(octets: &[u8]) -> u16
-    ensures { result ≡ (if nat_lt (length octets.now) 3 then 0 else slice_index octets.now (length octets.now - 3) * 256 + slice_index octets.now (length octets.now - 2)) }
+    ensures { result ≡ rsamd5_tag octets.now }
 {
     let len = octets.len();
     if len < 3 {

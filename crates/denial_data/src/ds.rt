@@ -19,7 +19,12 @@ impl<Octs: Octets> Model for Ds<Octs> {
 
     ghost Value = { Ds };
 
-    ghost view = { λ d. record { tag = d.key_tag; algorithm = d.algorithm; digest_type = d.digest_type; digest = Octs.bytes d.digest } };
+    ghost view = { λ d. record {
+      tag = d.key_tag;
+      algorithm = d.algorithm;
+      digest_type = d.digest_type;
+      digest = Octs.bytes d.digest;
+    } };
 }
 
 impl<Octs: Octets> Ds<Octs> {

@@ -27,6 +27,8 @@ pub trait Nsec3Hasher {
         iterations: u16,
         salt: &[u8],
     ) -> Result<Vec<u8>, HashError>
-        ensures answer { IfOk result (λ h. hash_of self.now name.now algorithm iterations salt.now ≡ Some h.items) }
-        ensures failed { IsErrOf result HashError.Failed → hash_of self.now name.now algorithm iterations salt.now ≡ None };
+        ensures answer { IfOk result (λ h.
+            hash_of self.now name.now algorithm iterations salt.now ≡ Some h.items) }
+        ensures failed { IsErrOf result HashError.Failed →
+            hash_of self.now name.now algorithm iterations salt.now ≡ None };
 }

@@ -26,7 +26,16 @@ impl Model for ProtoRrsig {
 
     ghost Value = { Fields };
 
-    ghost view = { λ f. record { covered = f.type_covered; algorithm = f.algorithm; labels = f.labels; ttl = f.original_ttl; expiration = f.expiration; inception = f.inception; tag = f.key_tag; signer = f.signer_name } };
+    ghost view = { λ f. record {
+      covered = f.type_covered;
+      algorithm = f.algorithm;
+      labels = f.labels;
+      ttl = f.original_ttl;
+      expiration = f.expiration;
+      inception = f.inception;
+      tag = f.key_tag;
+      signer = f.signer_name;
+    } };
 }
 
 impl ProtoRrsig {

@@ -1,6 +1,7 @@
 //! The octets that a signature is made over (RFC 4034, 3.1.8.1).
 ghost use Rattle.std.specs.Prelude.{◌≡◌, ◌++◌, map, IfOk, OnOk};
 ghost use Rattle.definitions.specs.Name.{wire};
+ghost use Rattle.records.specs.Items.{items_of};
 ghost use Rattle.definitions.specs.Signing.{signed_octets, signed_owner};
 ghost use Rattle.denial_data.specs.Rrsig.{record_head, with_length};
 
@@ -20,7 +21,8 @@ pub fn signed_octets(
     class: Class,
     canonical: &[Vec<u8>],
 ) -> Result<Vec<u8>, AllocError>
-    ensures { IfOk result (λ v. v.items ≡ signed_octets fields.now owner.now class (map (λ d. d.items) canonical.now)) }
+    ensures { IfOk result (λ v.
+        v.items ≡ signed_octets fields.now owner.now class (items_of canonical.now)) }
 {
     let head = signed_head(alloc, fields, owner, class)?;
     let mut out = Vec::new(alloc);
@@ -38,7 +40,8 @@ fn signed_head(
     owner: &Name,
     class: Class,
 ) -> Result<Vec<u8>, AllocError>
-    ensures { IfOk result (λ v. v.items ≡ record_head (signed_owner fields.now.labels owner.now) fields.now.covered class fields.now.ttl) }
+    ensures { IfOk result (λ v. v.items
+        ≡ record_head (signed_owner fields.now.labels owner.now) fields.now.covered class fields.now.ttl) }
 {
     let mut head = Vec::new(alloc);
     compose_signed_owner(alloc, fields.labels(), owner, &mut head)?;
@@ -55,7 +58,8 @@ fn compose_signed_owner(
     owner: &Name,
     out: &mut Vec<u8>,
 ) -> Result<(), AllocError>
-    ensures ok { OnOk result (out.new.items ≡ out.old.items ++ wire (signed_owner labels owner.now)) }
+    ensures ok { OnOk result (out.new.items
+        ≡ out.old.items ++ wire (signed_owner labels owner.now)) }
 {
     if labels >= owner.rrsig_label_count() {
         return owner.compose_canonical(out);

@@ -1,15 +1,15 @@
 -- The names that are printed: those of the variants, of a fault within faults the innermost.
 use Rattle.std.specs.Prelude.{ℕ, List, codes}
-use Rattle.keyset.specs.declared.rolls.Action.{Action}
-use Rattle.keyset.specs.declared.rolls.Action.TheVariants as ActionCase
+use Rattle.keyset_rolls.specs.declared.rolls.Action.{Action}
+use Rattle.keyset_rolls.specs.declared.rolls.Action.TheVariants as ActionCase
 use Rattle.denial_data.specs.declared.generate.SigningError.{SigningError}
 use Rattle.denial_data.specs.declared.generate.SigningError.TheVariants as SigningErrorCase
 use Rattle.answer_zone.specs.declared.fault.ZoneFault.{ZoneFault}
 use Rattle.answer_zone.specs.declared.fault.ZoneFault.TheVariants as ZoneFaultCase
 use Rattle.answer.specs.declared.publisher.fault.AnswerFault.{AnswerFault}
 use Rattle.answer.specs.declared.publisher.fault.AnswerFault.TheVariants as AnswerFaultCase
-use Rattle.keyset.specs.declared.errors.Error.{Error as KeyError}
-use Rattle.keyset.specs.declared.errors.Error.TheVariants as KeyErrorCase
+use Rattle.keyset_keys.specs.declared.errors.Error.{Error as KeyError}
+use Rattle.keyset_keys.specs.declared.errors.Error.TheVariants as KeyErrorCase
 use Rattle.answer.specs.declared.publisher.fault.KeyFault.{KeyFault}
 use Rattle.answer.specs.declared.publisher.fault.KeyFault.TheVariants as KeyFaultCase
 use Rattle.answer_judge.specs.declared.judge.verdict.Refusal.{Refusal}

@@ -1,6 +1,6 @@
 -- The maps of a key set, seen in order.
 use Rattle.std.proofs.Common.{◌≡◌, ℕ, Bool, true, false, cond, not, List, [], ◌∷◌, map, refl, sym, ap, ◌∙◌, ◌||◌, eqb}
-use Rattle.std.specs.Prelude.{Option, Some, None, String, string_bytes}
+use Rattle.std.specs.Prelude.{Option, Some, None, String, string_bytes, if◌then◌else◌}
 use Rattle.std.specs.List.{list_any, IsDistinct}
 use Rattle.std.specs.List.Sorted.{IsPermutation}
 use Rattle.std.proofs.lemmas.List.Sorted.{IsPermutation-map, list_any-IsPermutation}
@@ -13,11 +13,18 @@ use Rattle.std.specs.Cmp.{unsigned_ties}
 use Rattle.std.specs.Cmp.Lexicographic.{nat_list_cmp_total, texts_ties}
 use Rattle.std.specs.FinMap.{IsAntisymmetric, nat_cmp-IsAntisymmetric, slice_cmp-IsAntisymmetric}
 use Rattle.std.specs.FinMap.Entries.{put, find}
-use Rattle.keyset.specs.declared.rolls.RollType.{RollType}
-use Rattle.keyset.specs.declared.rolls.RollType.TheVariants.{AlgorithmRoll}
-use Rattle.keyset.specs.KeyState.{Reference, by_reference, by_kind, reference_cmp, kind_cmp, index_of, greatest, without}
+use Rattle.keyset_rolls.specs.declared.rolls.RollType.{RollType}
+use Rattle.keyset_rolls.specs.declared.rolls.RollType.TheVariants.{KskRoll, KskDoubleDsRoll, ZskRoll, ZskDoubleSignatureRoll, CskRoll, AlgorithmRoll}
+use Rattle.keyset.specs.KeyState.{Reference, by_reference, by_kind, reference_cmp, kind_cmp, index_of, greatest, removed, without}
 use Rattle.keyset.proofs.KeyOrder.{find-in_order, in_order-put, in_order-where_key, in_order-map, in_order-permutes, greatest-IsPermutation}
 use Rattle.records.proofs.Lists.{list_any-map, map-map}
+
+turned : {X : Type 0} (a b : Bool) (x : Option X) → b ≡ a → cond b None x ≡ cond (not a) x None
+turned true b x h = ap (λ t. cond t None x) h
+turned false b x h = ap (λ t. cond t None x) h
+
+bytes_eq-sym : (p q : Reference) → bytes_eq p q ≡ bytes_eq q p
+bytes_eq-sym p q = texts_ties p q ∙ (eq_by_cmp_equiv nat_list_cmp_total).symm p q ∙ sym (texts_ties q p)
 
 reference_same : IsAntisymmetric reference_cmp
 reference_same = slice_cmp-IsAntisymmetric nat_cmp-IsAntisymmetric
@@ -31,6 +38,14 @@ by_reference-put es fs q v h =
     (λ p. (λ i. lookup (λ k. sym (texts_ties p (string_bytes k)) i) fs)
     ∙ h p
     ∙ (λ i. cond ((texts_ties q p ∙ (eq_by_cmp_equiv nat_list_cmp_total).symm q p) i) (Some v) (lookup (λ k. texts_ties p (string_bytes k) i) es)))
+
+pub by_reference-removed : {A X : Type 0} (es fs : List (String A × X)) (q : Reference) → ((p : Reference) → lookup (λ k. bytes_eq p (string_bytes k)) fs ≡ cond (bytes_eq q p) None (lookup (λ k. bytes_eq p (string_bytes k)) es)) → by_reference fs ≡ removed q (by_reference es)
+by_reference-removed es fs q h =
+    in_order-where_key reference_cmp string_bytes nat_list_cmp_total reference_same es fs (λ p. not (bytes_eq p q))
+    (λ p. (λ i. lookup (λ k. sym (texts_ties p (string_bytes k)) i) fs)
+    ∙ h p
+    ∙ turned (bytes_eq p q) (bytes_eq q p) (lookup (λ k. bytes_eq p (string_bytes k)) es) (bytes_eq-sym q p)
+    ∙ (λ i. cond (not (bytes_eq p q)) (lookup (λ k. texts_ties p (string_bytes k) i) es) None))
 
 pub by_reference-map : {A X : Type 0} (g : Reference → X → X) (es : List (String A × X)) → by_reference (map (λ e. (e.0, g (string_bytes e.0) e.1)) es) ≡ map (λ e. (e.0, g e.0 e.1)) (by_reference es)
 by_reference-map g es = in_order-map reference_cmp string_bytes nat_list_cmp_total reference_same g es
@@ -70,23 +85,41 @@ kind_total = record {
   congr = λ x y z. nat_cmp_total.congr (index_of x) (index_of y) (index_of z);
 }
 
--- two kinds of one index are one
-index_same : (a b : RollType) → index_of a ≡ index_of b → a ≡ b
-index_same AlgorithmRoll AlgorithmRoll h = refl
+of_index : ℕ → RollType
+of_index n = if eqb n 0 then KskRoll else if eqb n 1 then KskDoubleDsRoll else if eqb n 2 then ZskRoll else if eqb n 3 then ZskDoubleSignatureRoll else if eqb n 4 then CskRoll else AlgorithmRoll
 
-kind_same : IsAntisymmetric kind_cmp
+of_index-index_of : (r : RollType) → of_index (index_of r) ≡ r
+unfolding of_index
+of_index-index_of KskRoll = refl
+of_index-index_of KskDoubleDsRoll = refl
+of_index-index_of ZskRoll = refl
+of_index-index_of ZskDoubleSignatureRoll = refl
+of_index-index_of CskRoll = refl
+of_index-index_of AlgorithmRoll = refl
+
+-- two kinds of one index are one
+pub index_same : (a b : RollType) → index_of a ≡ index_of b → a ≡ b
+index_same a b h = sym (of_index-index_of a) ∙ ap of_index h ∙ of_index-index_of b
+
+pub kind_same : IsAntisymmetric kind_cmp
 kind_same a b h = index_same a b (nat_cmp-IsAntisymmetric (index_of a) (index_of b) h)
 
 pub find-by_kind : {X : Type 0} (q : RollType) (es : List (RollType × X)) → find kind_cmp q (by_kind es) ≡ lookup (eq_by_cmp kind_cmp q) es
 find-by_kind q es = find-in_order kind_cmp (λ r. r) kind_total q es
 
--- one kind is equal to itself
-pub kind_tied : (a b : RollType) → true ≡ eq_by_cmp kind_cmp a b
-kind_tied AlgorithmRoll AlgorithmRoll = refl
+-- the code's comparison of kinds
+abbrev pub kind_eq : RollType → RollType → Bool
+kind_eq = (Rattle.keyset_rolls.specs.contracts.rolls.RollTypePartialEq.TheImpl.eq-value).it
 
-turned : {X : Type 0} (a b : Bool) (x : Option X) → b ≡ a → cond b None x ≡ cond (not a) x None
-turned true b x h = ap (λ t. cond t None x) h
-turned false b x h = ap (λ t. cond t None x) h
+-- it finds the same as the order of kinds
+pub kind_tied : (a b : RollType) → kind_eq a b ≡ eq_by_cmp kind_cmp a b
+kind_tied KskRoll KskRoll = refl
+kind_tied KskDoubleDsRoll KskDoubleDsRoll = refl
+kind_tied ZskRoll ZskRoll = refl
+kind_tied ZskDoubleSignatureRoll ZskDoubleSignatureRoll = refl
+kind_tied CskRoll CskRoll = refl
+kind_tied AlgorithmRoll AlgorithmRoll = refl
+kind_tied _ _ = refl
 
 module _ {X : Type 0} (eq : RollType → RollType → Bool) (tied : (a b : RollType) → eq a b ≡ eq_by_cmp kind_cmp a b) where
   -- a look-up of a kind

@@ -3,12 +3,12 @@ use Rattle.std.proofs.Common.{◌≡◌, ℕ, Bool, true, false, cond, List, [],
 use Rattle.std.specs.Prelude.{Option, Some, None, Ok, Err}
 use Rattle.std.specs.FinMap.Entries.{find}
 use Rattle.std.specs.Ordering.{eq_by_cmp}
-use Rattle.keyset.specs.declared.rolls.RollState.{RollState}
-use Rattle.keyset.specs.declared.rolls.RollState.TheVariants.{Propagation1, CacheExpire1, Propagation2, CacheExpire2, Done}
-use Rattle.keyset.specs.declared.rolls.RollType.{RollType}
-use Rattle.keyset.specs.declared.rolls.RollType.TheVariants.{AlgorithmRoll}
-use Rattle.keyset.specs.declared.rolls.Turn.TheVariants.{First, Second}
-use Rattle.keyset.specs.KeyState.{Reference, Key, KeySetState, Answer, Refusal, reference_cmp, phase_of, listed, enter, unless_fault, when, touches, on_keys, on_each, retire, with_roles, current, outgoing, is_present, main_is, ksk_is, zsk_is, see, see_ds, see_rrsig, withdraw, started, started_key, reported1, reported2, waited1, waited2, start, start_fault, report1, report2, wait1, wait2, wait_fault, done}
+use Rattle.keyset_rolls.specs.declared.rolls.RollState.{RollState}
+use Rattle.keyset_rolls.specs.declared.rolls.RollState.TheVariants.{Propagation1, CacheExpire1, Propagation2, CacheExpire2, Done}
+use Rattle.keyset_rolls.specs.declared.rolls.RollType.{RollType}
+use Rattle.keyset_rolls.specs.declared.rolls.Turn.TheVariants.{First, Second}
+use Rattle.keyset.specs.KeyState.{Answer, Key, KeySetState, Reference, Refusal, done, enter, listed, on_keys, phase_of, reference_cmp, report1, report2, start, start_fault, started, unless_fault, wait1, wait2, wait_fault, when}
+use Rattle.keyset_rolls.specs.Rolls.{reported1, reported2, started_key, touches, waited1, waited2}
 
 -- each key was there before, with its tag
 abbrev pub TagsFrom : List (Reference × Key) → List (Reference × Key) → Type 0
@@ -32,24 +32,6 @@ when_tag : (b : Bool) (h : Key → Key) (k : Key) → (h k).tag ≡ k.tag → (w
 when_tag true h k e = e
 when_tag false h k e = refl
 
-start_tag : (r : RollType) (now : ℕ) (is_old is_new : Bool) (k : Key) → (started_key r now is_old is_new k).tag ≡ k.tag
-start_tag AlgorithmRoll now is_old true k = refl
-start_tag r now true false k = refl
-start_tag r now false false k = refl
-
-report1_tag : (r : RollType) (now : ℕ) (k : Key) → (reported1 r now k).tag ≡ k.tag
-report1_tag AlgorithmRoll now k =
-    when_tag (main_is (current is_present) k.roles) (λ (k : Key). when (zsk_is (λ _. true) k.roles) (see_rrsig now) (see now k)) k (when_tag (zsk_is (λ _. true) k.roles) (see_rrsig now) (see now k) refl)
-
-report2_tag : (r : RollType) (now : ℕ) (k : Key) → (reported2 r now k).tag ≡ k.tag
-report2_tag AlgorithmRoll now k = when_tag (ksk_is (current is_present) k.roles) (see_ds now) k refl
-
-wait1_tag : (r : RollType) (now : ℕ) (k : Key) → (waited1 r now k).tag ≡ k.tag
-wait1_tag AlgorithmRoll now k = refl
-
-wait2_tag : (r : RollType) (now : ℕ) (k : Key) → (waited2 r now k).tag ≡ k.tag
-wait2_tag AlgorithmRoll now k = when_tag (main_is (outgoing is_present) k.roles) (λ (k : Key). withdraw now (with_roles (on_each retire) k)) k refl
-
 on_keys_tags : (r : RollType) (h : Key → Key) → ((k : Key) → (h k).tag ≡ k.tag) → (es : List (Reference × Key)) → TagsFrom es (on_keys r h es)
 on_keys_tags r h step es = mapped (λ _ k. when (touches r k.roles) h k) (λ _ k. when_tag (touches r k.roles) h k (step k)) es
 
@@ -66,12 +48,12 @@ unless_tags (Some e) r p ks s w = tt
 
 pub start_tags : (r : RollType) (olds news : List Reference) (now : ℕ) (s : KeySetState) → LeavesTags s.keys (start r olds news now s)
 start_tags r olds news now s =
-    unless_tags (start_fault r olds news now s) r Propagation1 (started r now olds news s.keys) s (mapped (λ q k. started_key r now (listed olds q) (listed news q) k) (λ q k. start_tag r now (listed olds q) (listed news q) k) s.keys)
+    unless_tags (start_fault r olds news s) r Propagation1 (started r now olds news s.keys) s (mapped (λ q k. started_key r now (listed olds q) (listed news q) k) (λ q k. refl) s.keys)
 
 module _ (r : RollType) (ttl now : ℕ) (s : KeySetState) where
   at_report1 : (o : Option RollState) → phase_of s r ≡ o → LeavesTags s.keys (report1 r ttl now s)
   at_report1 None h = rw (h, report1) tt
-  at_report1 (Some Propagation1) h = rw (h, report1) (on_keys_tags r (reported1 r now) (report1_tag r now) s.keys)
+  at_report1 (Some Propagation1) h = rw (h, report1) (on_keys_tags r (reported1 r now) (λ _. refl) s.keys)
   at_report1 (Some (CacheExpire1 t)) h = rw (h, report1) tt
   at_report1 (Some Propagation2) h = rw (h, report1) tt
   at_report1 (Some (CacheExpire2 t)) h = rw (h, report1) tt
@@ -80,7 +62,7 @@ module _ (r : RollType) (ttl now : ℕ) (s : KeySetState) where
   at_wait1 : (o : Option RollState) → phase_of s r ≡ o → LeavesTags s.keys (wait1 r now s)
   at_wait1 None h = rw (h, wait1) tt
   at_wait1 (Some Propagation1) h = rw (h, wait1) tt
-  at_wait1 (Some (CacheExpire1 t)) h = rw (h, wait1) (unless_tags (wait_fault r First t now s.keys) r Propagation2 (on_keys r (waited1 r now) s.keys) s (on_keys_tags r (waited1 r now) (wait1_tag r now) s.keys))
+  at_wait1 (Some (CacheExpire1 t)) h = rw (h, wait1) (unless_tags (wait_fault r First t now s.keys) r Propagation2 (on_keys r (waited1 r now) s.keys) s (on_keys_tags r (waited1 r now) (λ _. refl) s.keys))
   at_wait1 (Some Propagation2) h = rw (h, wait1) tt
   at_wait1 (Some (CacheExpire2 t)) h = rw (h, wait1) tt
   at_wait1 (Some Done) h = rw (h, wait1) tt
@@ -89,7 +71,7 @@ module _ (r : RollType) (ttl now : ℕ) (s : KeySetState) where
   at_report2 None h = rw (h, report2) tt
   at_report2 (Some Propagation1) h = rw (h, report2) tt
   at_report2 (Some (CacheExpire1 t)) h = rw (h, report2) tt
-  at_report2 (Some Propagation2) h = rw (h, report2) (on_keys_tags r (reported2 r now) (report2_tag r now) s.keys)
+  at_report2 (Some Propagation2) h = rw (h, report2) (on_keys_tags r (reported2 r now) (λ _. refl) s.keys)
   at_report2 (Some (CacheExpire2 t)) h = rw (h, report2) tt
   at_report2 (Some Done) h = rw (h, report2) tt
 
@@ -98,7 +80,7 @@ module _ (r : RollType) (ttl now : ℕ) (s : KeySetState) where
   at_wait2 (Some Propagation1) h = rw (h, wait2) tt
   at_wait2 (Some (CacheExpire1 t)) h = rw (h, wait2) tt
   at_wait2 (Some Propagation2) h = rw (h, wait2) tt
-  at_wait2 (Some (CacheExpire2 t)) h = rw (h, wait2) (unless_tags (wait_fault r Second t now s.keys) r Done (on_keys r (waited2 r now) s.keys) s (on_keys_tags r (waited2 r now) (wait2_tag r now) s.keys))
+  at_wait2 (Some (CacheExpire2 t)) h = rw (h, wait2) (unless_tags (wait_fault r Second t now s.keys) r Done (on_keys r (waited2 r now) s.keys) s (on_keys_tags r (waited2 r now) (λ _. refl) s.keys))
   at_wait2 (Some Done) h = rw (h, wait2) tt
 
   at_done : (o : Option RollState) → phase_of s r ≡ o → LeavesTags s.keys (done r s)

@@ -1,5 +1,9 @@
 pub mod KeyOrder
 pub mod KeyMaps
-pub mod KeyWaits
-pub mod KeyWhole
+pub mod KeySettings
 pub mod KeyTagsCalls
+pub mod KeyWaits
+pub mod KeyFinds
+pub mod KeyKinds
+pub mod KeyTables
+pub mod KeyRunSteps

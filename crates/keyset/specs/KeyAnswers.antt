@@ -1,11 +1,11 @@
 -- What the calls of a key set return, beside the definitions.
 use Rattle.std.specs.Prelude.{◌≡◌, List, Option, Some, None, Result, Ok, Err, IsSome}
 use Rattle.std.specs.Duration.{as_nanos}
-use Rattle.keyset.specs.declared.errors.Error.{Error}
-use Rattle.keyset.specs.declared.errors.Error.TheVariants as error
+use Rattle.keyset_keys.specs.declared.errors.Error.{Error}
+use Rattle.keyset_keys.specs.declared.errors.Error.TheVariants as error
 use Rattle.keyset.specs.KeyState as keys
-use Rattle.keyset.specs.declared.rolls.Action.{Action}
-use Rattle.keyset.specs.KeyState.{KeySetState, Answer, Refusal}
+use Rattle.keyset_rolls.specs.declared.rolls.Action.{Action}
+use Rattle.keyset.specs.KeyState.{Key, KeySetState, Answer, Refusal}
 
 -- the refusal that an error says; none where memory ran out
 abbrev pub refusal_of : Error → Option Refusal
@@ -24,6 +24,11 @@ refusal_of error.UnknownRollType = Some keys.UnknownRollType
 refusal_of error.MissingTimestamp = Some keys.MissingTimestamp
 refusal_of error.Memory = None
 
+-- a setting of a key is refused so
+abbrev pub IsRefusedAs : Option Refusal → Result Key Refusal → Type 0
+IsRefusedAs None set = ⊥
+IsRefusedAs (Some refusal) set = set ≡ Err refusal
+
 -- an accepted call
 abbrev pub IsAccepted : Answer → Type 0
 IsAccepted (Ok a) = Unit {0}
@@ -40,6 +45,20 @@ Fails (Some refusal) answer = answer ≡ Err refusal
 abbrev pub Gives : {X : Type 0} → (X → List Action) → KeySetState → KeySetState → Result X Error → Answer → Type 0
 Gives view old new (Ok x) answer = answer ≡ Ok (new, view x)
 Gives view old new (Err e) answer = (new ≡ old) × Fails (refusal_of e) answer
+
+-- the same of a call that takes no memory
+abbrev pub Refuses : Option Refusal → Answer → Type 0
+Refuses None answer = ⊥
+Refuses (Some refusal) answer = answer ≡ Err refusal
+
+abbrev pub GivesAtOnce : {X : Type 0} → (X → List Action) → KeySetState → KeySetState → Result X Error → Answer → Type 0
+GivesAtOnce view old new (Ok x) answer = answer ≡ Ok (new, view x)
+GivesAtOnce view old new (Err e) answer = (new ≡ old) × Refuses (refusal_of e) answer
+
+-- a setting changed a key as it says, or was refused and changed nothing
+abbrev pub Sets : {X : Type 0} → Key → Key → Result X Error → Result Key Refusal → Type 0
+Sets old new (Ok x) set = set ≡ Ok new
+Sets old new (Err e) set = (new ≡ old) × IsRefusedAs (refusal_of e) set
 
 -- a check found this fault, or none
 abbrev pub Finds : {X : Type 0} → Result X Error → Option Refusal → Type 0

@@ -1,51 +1,26 @@
--- The keys of a zone, their flags and stamps, and the rolls that replace them (RFC 6781, section 4.1). Moments are
--- numbers of nanoseconds. What a roll does is a table of functions on one key, and a call maps them over the keys.
-use Rattle.std.specs.Prelude.{ℕ, ◌-◌, ◌*◌, Bool, true, false, not, ◌&&◌, ◌==◌, List, [], ◌∷◌, ◌++◌, map, Option, Some, None, Result, Ok, Err, is_some, if◌then◌else◌, max, String, string_bytes}
+-- The keys of a zone and the rolls that are running, and what each call on them does (RFC 6781, section 4.1). Moments are
+-- numbers of nanoseconds. What a roll does to one key is the table of `keyset_rolls`; a call maps it over the keys.
+use Rattle.std.specs.Prelude.{ℕ, Bool, true, false, not, ◌&&◌, ◌||◌, ◌==◌, List, [], ◌∷◌, ◌++◌, map, Option, Some, None, Result, Ok, Err, is_some, if◌then◌else◌, max, String, string_bytes, nat_eq}
 use Rattle.std.specs.Borrow.{Bor}
-use Rattle.std.specs.List.{filter, list_any}
+use Rattle.std.specs.List.{filter, list_all, list_any}
 use Rattle.std.specs.Str.{bytes_eq}
 use Rattle.std.specs.declared.cmp.Ordering.{Ordering}
 use Rattle.std.specs.Ordering.{nat_cmp}
 use Rattle.std.specs.Cmp.Lexicographic.{slice_cmp}
 use Rattle.std.specs.FinMap.Entries as entries
-use Rattle.keyset.specs.declared.keys.Available.{Available}
-use Rattle.keyset.specs.declared.keys.Available.TheVariants as available
-use Rattle.keyset.specs.declared.keys.KeyState as flags
-use Rattle.keyset.specs.declared.keys.KeyType.{KeyType}
-use Rattle.keyset.specs.declared.keys.KeyType.TheVariants.{Ksk, Zsk}
-use Rattle.keyset.specs.declared.keys.KeyTimestamps.{KeyTimestamps}
-use Rattle.keyset.specs.declared.rolls.Action.{Action}
-use Rattle.keyset.specs.declared.rolls.Action.TheVariants as act
-use Rattle.keyset.specs.declared.rolls.RollState.{RollState}
-use Rattle.keyset.specs.declared.rolls.RollState.TheVariants as state
-use Rattle.keyset.specs.declared.rolls.RollType.{RollType}
-use Rattle.keyset.specs.declared.rolls.RollType.TheVariants as roll
-use Rattle.keyset.specs.declared.rolls.Turn.{Turn}
-use Rattle.keyset.specs.declared.rolls.Turn.TheVariants as turn
-
-abbrev pub Reference : Type 0
-Reference = List ℕ
-
--- the bytes of a text, where there is one
-abbrev pub text_of : {A : Type 0} → Option (String A) → Option Reference
-text_of None = None
-text_of (Some t) = Some (string_bytes t)
-
-abbrev pub is_available : Available → Bool
-is_available available.Available = true
-is_available available.NotAvailable = false
-
--- the flags of a role
-abbrev pub Flags : Type 0
-Flags = flags.KeyState
-
-pub record Key : Type 0 where
-  pub private : Option Reference
-  pub decoupled : Bool
-  pub roles : KeyType
-  pub algorithm : ℕ
-  pub tag : ℕ
-  pub stamps : KeyTimestamps
+use Rattle.keyset_keys.specs.declared.keys.KeyType.{KeyType}
+use Rattle.keyset_keys.specs.declared.keys.KeyType.TheVariants.{Ksk, Csk, Include}
+use Rattle.keyset_rolls.specs.declared.rolls.Action.{Action}
+use Rattle.keyset_rolls.specs.declared.rolls.RollState.{RollState}
+use Rattle.keyset_rolls.specs.declared.rolls.RollState.TheVariants as state
+use Rattle.keyset_rolls.specs.declared.rolls.RollType.{RollType}
+use Rattle.keyset_rolls.specs.declared.rolls.RollType.TheVariants as roll
+use Rattle.keyset_rolls.specs.declared.rolls.Turn.{Turn}
+use Rattle.keyset_rolls.specs.declared.rolls.Turn.TheVariants as turn
+use Rattle.keyset_rolls.specs.declared.table.Need.{Need}
+use Rattle.keyset_rolls.specs.Actions.{actions_in}
+use Rattle.keyset_rolls.specs.Rolls.{touches, conflicts, meets_need, needs, started_key, started_roles, reported1, reported2, waited1, waited2, awaited, is_missing, rest_of}
+pub use Rattle.keyset_keys.specs.Keys.{Reference, text_of, is_available, Flags, Key, main_role, ksk_is, zsk_is, main_is, each_is, is_old, is_present, signs, is_at_parent, current, outgoing, is_stale, is_fresh, clear, new_key, on_ksk, on_zsk, on_each, set_old, set_signer, set_present, set_at_parent, publish, see, see_ds, see_rrsig, withdraw, with_roles, with_stamps}
 
 -- the entries of a hashed map, in the order of what f makes of a key
 abbrev pub in_order : {K Q X : Type 0} → (Q → Q → Ordering) → (K → Q) → List (K × X) → List (Q × X)
@@ -85,6 +60,11 @@ abbrev pub key_of : KeySetState → Reference → Option Key
 key_of s q = entries.find reference_cmp q s.keys
 
 abbrev pub index_of : RollType → ℕ
+index_of roll.KskRoll = 0
+index_of roll.KskDoubleDsRoll = 1
+index_of roll.ZskRoll = 2
+index_of roll.ZskDoubleSignatureRoll = 3
+index_of roll.CskRoll = 4
 index_of roll.AlgorithmRoll = 5
 
 abbrev pub kind_cmp : RollType → RollType → Ordering
@@ -96,172 +76,24 @@ by_kind es = in_order kind_cmp (λ r. r) es
 abbrev pub phase_of : KeySetState → RollType → Option RollState
 phase_of s r = entries.find kind_cmp r s.rolls
 
--- the role that stands for the key: its only one, or of a combined key that of the KSK
-abbrev pub main_role : KeyType → Flags
-main_role (Ksk f) = f
-main_role (Zsk f) = f
-
--- a test of the KSK role, and of the ZSK role; false where there is none
-abbrev pub ksk_is : (Flags → Bool) → KeyType → Bool
-ksk_is p (Ksk f) = p f
-ksk_is p (Zsk f) = false
-
-abbrev pub zsk_is : (Flags → Bool) → KeyType → Bool
-zsk_is p (Ksk f) = false
-zsk_is p (Zsk f) = p f
-
-abbrev pub main_is : (Flags → Bool) → KeyType → Bool
-main_is p r = p (main_role r)
-
-abbrev pub each_is : (Flags → Bool) → KeyType → Bool
-each_is p (Ksk f) = p f
-each_is p (Zsk f) = p f
-
-abbrev pub on_ksk : (Flags → Flags) → KeyType → KeyType
-on_ksk h (Ksk f) = Ksk (h f)
-on_ksk h (Zsk f) = Zsk f
-
-abbrev pub on_each : (Flags → Flags) → KeyType → KeyType
-on_each h (Ksk f) = Ksk (h f)
-on_each h (Zsk f) = Zsk (h f)
-
--- the kinds of key that a roll touches
-abbrev pub touches : RollType → KeyType → Bool
-touches roll.AlgorithmRoll (Ksk f) = true
-touches roll.AlgorithmRoll (Zsk f) = true
-
--- ---- flags
-
-abbrev pub set_old : Flags → Flags
-set_old f = record f { old = true }
-
-abbrev pub serve : Flags → Flags
-serve f = record f { present = true; signer = true }
-
-abbrev pub retire : Flags → Flags
-retire f = record f { present = false; signer = false }
-
--- a key that is served is at the parent from now on, and one that leaves no longer
-abbrev pub hand_over : Flags → Flags
-hand_over f = if f.present then record f { at_parent = not f.old } else f
-
-abbrev pub is_stale : Flags → Bool
-is_stale f = f.old && not f.signer && not f.present && not f.at_parent
-
-abbrev pub is_fresh : Flags → Bool
-is_fresh f = f.available && not f.old && not f.signer && not f.present && not f.at_parent
-
-abbrev pub is_present : Flags → Bool
-is_present f = f.present
-
-abbrev pub signs : Flags → Bool
-signs f = f.signer
-
-abbrev pub is_at_parent : Flags → Bool
-is_at_parent f = f.at_parent
-
-abbrev pub current : (Flags → Bool) → Flags → Bool
-current p f = not f.old && p f
-
-abbrev pub outgoing : (Flags → Bool) → Flags → Bool
-outgoing p f = f.old && p f
-
--- the flags of a key that was added
-abbrev pub clear : Bool → Flags
-clear available = record { available = available; old = false; signer = false; present = false; at_parent = false }
-
--- ---- stamps and changes of a key
-
-abbrev pub publish : ℕ → Key → Key
-publish now k = record k { stamps = record k.stamps { published = Some now } }
-
-abbrev pub withdraw : ℕ → Key → Key
-withdraw now k = record k { stamps = record k.stamps { withdrawn = Some now } }
-
-abbrev pub see : ℕ → Key → Key
-see now k = record k { stamps = record k.stamps { visible = Some now } }
-
-abbrev pub see_ds : ℕ → Key → Key
-see_ds now k = record k { stamps = record k.stamps { ds_visible = Some now } }
-
-abbrev pub see_rrsig : ℕ → Key → Key
-see_rrsig now k = record k { stamps = record k.stamps { rrsig_visible = Some now } }
-
-abbrev pub with_roles : (KeyType → KeyType) → Key → Key
-with_roles h k = record k { roles = h k.roles }
-
-abbrev pub when : Bool → (Key → Key) → Key → Key
-when b h k = if b then h k else k
-
--- ---- the table: starts
-
-abbrev pub started_new : RollType → ℕ → Key → Key
-started_new roll.AlgorithmRoll now k = publish now (with_roles (on_each serve) k)
-
-abbrev pub started_old : Key → Key
-started_old k = with_roles (on_each set_old) k
-
--- ---- the table: reports
-
-abbrev pub reported1 : RollType → ℕ → Key → Key
-reported1 roll.AlgorithmRoll now k =
-    when (main_is (current is_present) k.roles) (λ k. when (zsk_is (λ _. true) k.roles) (see_rrsig now) (see now k)) k
-
-abbrev pub reported2 : RollType → ℕ → Key → Key
-reported2 roll.AlgorithmRoll now k = when (ksk_is (current is_present) k.roles) (see_ds now) k
-
--- ---- the table: waits
-
-abbrev pub waited1 : RollType → ℕ → Key → Key
-waited1 roll.AlgorithmRoll now k = with_roles (on_ksk hand_over) k
-
-abbrev pub waited2 : RollType → ℕ → Key → Key
-waited2 roll.AlgorithmRoll now k =
-    when (main_is (outgoing is_present) k.roles) (λ k. withdraw now (with_roles (on_each retire) k)) k
-
--- the stamp that a wait reads of a key, where the wait looks at it
-abbrev pub looks_if : Bool → Option ℕ → Option (Option ℕ)
-looks_if true stamp = Some stamp
-looks_if false stamp = None
-
-abbrev pub looked1 : RollType → Key → Option (Option ℕ)
-looked1 roll.AlgorithmRoll k = looks_if (main_is (current is_present) k.roles) k.stamps.visible
-
-abbrev pub looked2 : RollType → Key → Option (Option ℕ)
-looked2 roll.AlgorithmRoll k = looks_if (ksk_is (current signs) k.roles) k.stamps.ds_visible
-
--- the first wait, or the second
-abbrev pub looked : Turn → RollType → Key → Option (Option ℕ)
-looked turn.First r k = looked1 r k
-looked turn.Second r k = looked2 r k
-
--- whether the stamp that a wait reads is missing
-abbrev pub is_missing : Option (Option ℕ) → Bool
-is_missing None = false
-is_missing (Some None) = true
-is_missing (Some (Some since)) = false
-
--- how long a key still has to wait
-abbrev pub rest_of : ℕ → ℕ → Option (Option ℕ) → ℕ
-rest_of ttl now None = 0
-rest_of ttl now (Some None) = 0
-rest_of ttl now (Some (Some since)) = ttl * 1000000000 - (now - since)
-
-abbrev pub looked_at : RollType → Turn → Key → Option (Option ℕ)
-looked_at r t k = if touches r k.roles then looked t r k else None
+-- ---- waits of all keys
 
 abbrev pub misses : RollType → Turn → List (Reference × Key) → Bool
-misses r t es = list_any (λ e. is_missing (looked_at r t e.1)) es
+misses r t es = list_any (λ e. is_missing (awaited t r e.1)) es
 
 abbrev pub greatest : List ℕ → ℕ
 greatest [] = 0
 greatest (n ∷ ns) = max n (greatest ns)
 
 abbrev pub greatest_rest : RollType → Turn → ℕ → ℕ → List (Reference × Key) → ℕ
-greatest_rest r t ttl now es = greatest (map (λ e. rest_of ttl now (looked_at r t e.1)) es)
+greatest_rest r t ttl now es = greatest (map (λ e. rest_of ttl now (awaited t r e.1)) es)
 
 -- ---- changes of all keys
 
+abbrev pub when : Bool → (Key → Key) → Key → Key
+when b h k = if b then h k else k
+
+-- a change of the keys that a roll touches
 abbrev pub on_keys : RollType → (Key → Key) → List (Reference × Key) → List (Reference × Key)
 on_keys r h es = map (λ e. (e.0, when (touches r e.1.roles) h e.1)) es
 
@@ -271,32 +103,10 @@ texts rs = map (λ r. r.now) rs
 abbrev pub listed : List Reference → Reference → Bool
 listed qs q = list_any (λ p. bytes_eq p q) qs
 
-abbrev pub started_key : RollType → ℕ → Bool → Bool → Key → Key
-started_key r now is_old is_new k = if is_new then started_new r now k else if is_old then started_old k else k
-
 abbrev pub started : RollType → ℕ → List Reference → List Reference → List (Reference × Key) → List (Reference × Key)
 started r now olds news es = map (λ e. (e.0, started_key r now (listed olds e.0) (listed news e.0) e.1)) es
 
--- ---- actions
-
-abbrev pub actions1 : RollType → List Action
-actions1 roll.AlgorithmRoll = act.UpdateDnskeyRrset ∷ act.UpdateRrsig ∷ act.ReportDnskeyPropagated ∷ act.ReportRrsigPropagated ∷ []
-
-abbrev pub actions2 : RollType → List Action
-actions2 roll.AlgorithmRoll = act.CreateCdsRrset ∷ act.UpdateDsRrset ∷ act.ReportDsPropagated ∷ []
-
-abbrev pub actions3 : RollType → List Action
-actions3 roll.AlgorithmRoll = act.RemoveCdsRrset ∷ act.UpdateDnskeyRrset ∷ act.UpdateRrsig ∷ act.WaitDnskeyPropagated ∷ act.WaitRrsigPropagated ∷ []
-
-abbrev pub actions_in : RollType → Option RollState → List Action
-actions_in r None = []
-actions_in r (Some state.Propagation1) = actions1 r
-actions_in r (Some (state.CacheExpire1 ttl)) = []
-actions_in r (Some state.Propagation2) = actions2 r
-actions_in r (Some (state.CacheExpire2 ttl)) = []
-actions_in r (Some state.Done) = actions3 r
-
--- ---- calls
+-- ---- rolls
 
 abbrev pub Answer : Type 0
 Answer = Result (KeySetState × List Action) Refusal
@@ -308,10 +118,6 @@ entered r p ks s = record s { keys = ks; rolls = entries.put kind_cmp r p s.roll
 abbrev pub enter : RollType → RollState → List (Reference × Key) → KeySetState → Answer
 enter r p ks s = Ok (entered r p ks s, actions_in r (Some p))
 
--- whether a roll may not start while the other runs
-abbrev pub conflicts : RollType → RollType → Bool
-conflicts roll.AlgorithmRoll running = true
-
 abbrev pub old_fault : RollType → KeySetState → Reference → Option Refusal
 old_fault r s q = elim (key_of s q) [ None ↦ Some KeyNotFound | Some k ↦ if touches r k.roles then None else Some WrongKeyType ]
 
@@ -319,7 +125,7 @@ abbrev pub first_fault : (Reference → Option Refusal) → List Reference → O
 first_fault f [] = None
 first_fault f (q ∷ qs) = elim (f q) [ Some e ↦ Some e | None ↦ first_fault f qs ]
 
--- a new key must be fresh, and neither be old nor stand in the list before
+-- a new key must be fresh in all its roles, and neither be old nor stand in the list before
 abbrev pub new_fault : RollType → KeySetState → List Reference → List Reference → Reference → Option Refusal
 new_fault r s olds before q = elim (key_of s q) [
   | None ↦ Some KeyNotFound
@@ -331,22 +137,56 @@ abbrev pub first_new_fault : RollType → KeySetState → List Reference → Lis
 first_new_fault r s olds before [] = None
 first_new_fault r s olds before (q ∷ qs) = elim (new_fault r s olds before q) [ Some e ↦ Some e | None ↦ first_new_fault r s olds (before ++ q ∷ []) qs ]
 
-abbrev pub some_key : (KeyType → Bool) → List (Reference × Key) → Bool
-some_key p es = list_any (λ e. p e.1.roles) es
+-- whether the key of a reference signs by an algorithm, and whether one of these does
+abbrev pub algorithm_is : KeySetState → ℕ → Reference → Bool
+algorithm_is s algorithm q = elim (key_of s q) [ None ↦ false | Some k ↦ nat_eq k.algorithm algorithm ]
 
-abbrev pub suitable : RollType → List (Reference × Key) → Bool
-suitable roll.AlgorithmRoll es = some_key (ksk_is (current is_present)) es && some_key (zsk_is (current is_present)) es
+abbrev pub has_algorithm : KeySetState → List Reference → ℕ → Bool
+has_algorithm s qs algorithm = list_any (algorithm_is s algorithm) qs
+
+-- whether the algorithms of the first keys are among those of the second
+abbrev pub algorithm_is_within : KeySetState → List Reference → Reference → Bool
+algorithm_is_within s qs p = elim (key_of s p) [ None ↦ true | Some k ↦ has_algorithm s qs k.algorithm ]
+
+abbrev pub algorithms_within : KeySetState → List Reference → List Reference → Bool
+algorithms_within s ps qs = list_all (algorithm_is_within s qs) ps
+
+abbrev pub same_algorithms : KeySetState → List Reference → List Reference → Bool
+same_algorithms s olds news = algorithms_within s olds news && algorithms_within s news olds
+
+-- only a roll of the algorithm may change it
+abbrev pub is_of_algorithms : RollType → Bool
+is_of_algorithms roll.AlgorithmRoll = true
+is_of_algorithms _ = false
+
+abbrev pub algorithms_fault : RollType → List Reference → List Reference → KeySetState → Option Refusal
+algorithms_fault r olds news s = if is_of_algorithms r || same_algorithms s olds news then None else Some AlgorithmSetsMismatch
+
+-- the roles of the keys behind a start
+abbrev pub roles_after : RollType → List Reference → List Reference → List (Reference × Key) → List KeyType
+roles_after r olds news es = map (λ e. started_roles r (listed olds e.0) (listed news e.0) e.1.roles) es
+
+-- some key that the roll touches is such a one
+abbrev pub has_needed : RollType → Need → List KeyType → Bool
+has_needed r n ts = list_any (λ t. touches r t && meets_need n t) ts
+
+-- whether keys of these roles serve in all that the roll needs
+abbrev pub suitable : RollType → List KeyType → Bool
+suitable r ts = list_all (λ n. has_needed r n ts) (needs r)
 
 -- why a start is refused
-abbrev pub start_fault : RollType → List Reference → List Reference → ℕ → KeySetState → Option Refusal
-start_fault r olds news now s =
+abbrev pub start_fault : RollType → List Reference → List Reference → KeySetState → Option Refusal
+start_fault r olds news s =
     if is_some (phase_of s r) then Some WrongStateForRollOperation
     else if list_any (λ e. conflicts r e.0) s.rolls then Some ConflictingRollInProgress
     else elim (first_fault (old_fault r s) olds) [
       | Some e ↦ Some e
       | None ↦ elim (first_new_fault r s olds [] news) [
         | Some e ↦ Some e
-        | None ↦ if suitable r (started r now olds news s.keys) then None else Some NoSuitableKeyPresent
+        | None ↦ elim (algorithms_fault r olds news s) [
+          | Some e ↦ Some e
+          | None ↦ if suitable r (roles_after r olds news s.keys) then None else Some NoSuitableKeyPresent
+        ]
       ]
     ]
 
@@ -355,7 +195,7 @@ unless_fault None a = a
 unless_fault (Some e) a = Err e
 
 abbrev pub start : RollType → List Reference → List Reference → ℕ → KeySetState → Answer
-start r olds news now s = unless_fault (start_fault r olds news now s) (enter r state.Propagation1 (started r now olds news s.keys) s)
+start r olds news now s = unless_fault (start_fault r olds news s) (enter r state.Propagation1 (started r now olds news s.keys) s)
 
 abbrev pub report1 : RollType → ℕ → ℕ → KeySetState → Answer
 report1 r ttl now s = elim (phase_of s r) [
@@ -399,18 +239,10 @@ done r s = elim (phase_of s r) [
   | _ ↦ Err WrongStateForRollOperation
 ]
 
+-- ---- adds
+
 abbrev pub has_tag : ℕ → List (Reference × Key) → Bool
 has_tag tag es = list_any (λ e. e.1.tag == tag) es
-
-abbrev pub new_key : Option Reference → KeyType → ℕ → ℕ → ℕ → Key
-new_key private roles algorithm tag created = record {
-  private = private;
-  decoupled = false;
-  roles = roles;
-  algorithm = algorithm;
-  tag = tag;
-  stamps = record { creation = Some created; published = None; visible = None; ds_visible = None; rrsig_visible = None; withdrawn = None };
-}
 
 abbrev pub added : Reference → Key → KeySetState → KeySetState
 added q k s = record s { keys = entries.put reference_cmp q k s.keys }
@@ -420,6 +252,74 @@ add q k s =
     if has_tag k.tag s.keys then Err DuplicateKeyTag
     else if is_some (key_of s q) then Err KeyExists
     else Ok (added q k s, [])
+
+-- ---- setters
+
+-- a key of this reference becomes what the call makes of it
+abbrev pub write : (Key → Result Key Refusal) → Reference → KeySetState → Answer
+write h q s = elim (key_of s q) [
+  | None ↦ Err KeyNotFound
+  | Some k ↦ elim (h k) [ Err e ↦ Err e | Ok l ↦ Ok (added q l s, []) ]
+]
+
+-- the first moment at which a key was put into the DNSKEY RRset stays
+abbrev pub published_once : ℕ → Bool → Key → Key
+published_once now is_put k = if is_put && not (is_some k.stamps.published) then with_stamps (publish now) k else k
+
+-- whether a key has a role that may sign, and one that the parent may name
+abbrev pub may_sign : KeyType → Bool
+may_sign (Include f) = false
+may_sign _ = true
+
+abbrev pub may_be_at_parent : KeyType → Bool
+may_be_at_parent (Ksk f) = true
+may_be_at_parent (Csk f g) = true
+may_be_at_parent _ = false
+
+abbrev pub if_kind : Bool → Key → Result Key Refusal
+if_kind true k = Ok k
+if_kind false k = Err WrongKeyType
+
+abbrev pub decoupled_to : Bool → Key → Result Key Refusal
+decoupled_to b k = Ok (record k { decoupled = b })
+
+abbrev pub present_to : Bool → ℕ → Key → Result Key Refusal
+present_to b now k = Ok (published_once now b (with_roles (on_each (set_present b)) k))
+
+abbrev pub signer_to : Bool → Key → Result Key Refusal
+signer_to b k = if_kind (may_sign k.roles) (with_roles (on_each (set_signer b)) k)
+
+abbrev pub at_parent_to : Bool → Key → Result Key Refusal
+at_parent_to b k = if_kind (may_be_at_parent k.roles) (with_roles (on_ksk (set_at_parent b)) k)
+
+abbrev pub seen_at : ℕ → Key → Result Key Refusal
+seen_at time k = Ok (with_stamps (see time) k)
+
+abbrev pub ds_seen_at : ℕ → Key → Result Key Refusal
+ds_seen_at time k = Ok (with_stamps (see_ds time) k)
+
+abbrev pub rrsig_seen_at : ℕ → Key → Result Key Refusal
+rrsig_seen_at time k = Ok (with_stamps (see_rrsig time) k)
+
+-- old, and no longer used
+abbrev pub set_stale : Flags → Flags
+set_stale f = record f { old = true; signer = false; present = false; at_parent = false }
+
+abbrev pub stale_now : Key → Result Key Refusal
+stale_now k = Ok (with_roles (on_each set_stale) k)
+
+abbrev pub removed : {X : Type 0} → Reference → List (Reference × X) → List (Reference × X)
+removed q es = entries.where_key reference_cmp (λ p. not (bytes_eq p q)) es
+
+abbrev pub deleted : Reference → KeySetState → KeySetState
+deleted q s = record s { keys = removed q s.keys }
+
+-- only a key that is stale in all its roles may go
+abbrev pub delete : Reference → KeySetState → Answer
+delete q s = elim (key_of s q) [
+  | None ↦ Err KeyNotFound
+  | Some k ↦ if each_is is_stale k.roles then Ok (deleted q s, []) else Err KeyNotOld
+]
 
 -- ---- what is published
 

@@ -1,5 +1,11 @@
+pub use Rattle.keyset_keys.specs.Keys
+pub use Rattle.keyset_keys.specs.KeyTexts
+pub use Rattle.keyset_rolls.specs.Rolls
+pub use Rattle.keyset_rolls.specs.Actions
 pub mod KeyState
 pub mod KeyAnswers
-pub mod KeyTexts
+pub mod KeySteps
 pub mod KeyLaws
+pub mod KeyRuns
 pub mod KeyRows
+pub mod KeyRunLaws

@@ -2,19 +2,13 @@
 //! validation fails (RFC 6781, section 4.1).
 #![tactic(auto)]
 
-pub mod errors;
-pub mod keys;
 pub mod laws;
 mod maps;
-pub mod rolls;
 pub mod set;
-pub mod time;
+mod settings;
 
-pub use errors::Error;
-pub use keys::{Available, Key, KeyState, KeyTimestamps, KeyType};
-pub use rolls::{Action, RollState, RollType};
+pub use keyset_keys::{
+    Available, Error, Key, KeyState, KeyTimestamps, KeyType, UnixTime, errors, keys, time,
+};
+pub use keyset_rolls::{Action, RollState, RollType, rolls};
 pub use set::KeySet;
-pub use time::UnixTime;
-
-#[cfg(test)]
-mod tests;

@@ -1,12 +1,14 @@
 //! What is looked up and changed in a set's two maps, seen in order of reference and of kind.
-ghost use Rattle.std.specs.Prelude.{◌≡◌, ℕ, ◌*◌, ◌≤◌, map, string_bytes, OnOk, OnErr};
+ghost use Rattle.std.specs.Prelude.{◌≡◌, ℕ, ◌*◌, ◌≤◌, string_bytes, OnOk, OnErr};
 ghost use Rattle.std.specs.List.{list_any};
 ghost use Rattle.std.specs.FinMap.Entries.{put};
-ghost use Rattle.keyset.specs.KeyState.{by_reference, by_kind, reference_cmp, kind_cmp, has_tag, on_keys, started, reported1, reported2, waited1, waited2, misses, greatest_rest, texts, listed, without, conflicts, suitable, some_key, ksk_is, zsk_is, current, is_present};
+ghost use Rattle.keyset.specs.KeyState.{by_reference, by_kind, reference_cmp, kind_cmp, has_tag, has_needed, roles_after, on_keys, started, misses, greatest_rest, texts, listed, without, removed, suitable};
+ghost use Rattle.keyset.specs.KeySteps.{stepped};
+ghost use Rattle.keyset_rolls.specs.Rolls.{conflicts};
 
-use crate::keys::Key;
-use crate::rolls::{RollState, RollType, Turn};
-use crate::time::UnixTime;
+use keyset_keys::{Key, UnixTime};
+use keyset_rolls::table::Need;
+use keyset_rolls::{RollState, RollType, Turn};
 use std::alloc::AllocError;
 use std::collections::HashMap;
 
@@ -21,7 +23,7 @@ pub(crate) fn has_tag(keys: &HashMap<String, Key>, key_tag: u16) -> bool
 pub(crate) fn misses_stamp(keys: &HashMap<String, Key>, rolltype: RollType, turn: Turn) -> bool
     ensures { result ≡ misses rolltype turn (by_reference keys.now.entries) }
 {
-    keys.values().any(|key| key.misses_stamp(rolltype, turn))
+    keys.values().any(|key| rolltype.misses_stamp(turn, key))
 }
 
 /// How many nanoseconds a wait still takes.
@@ -37,7 +39,7 @@ pub(crate) fn greatest_rest(
 {
     let mut greatest = 0;
     for key in keys.values() {
-        greatest = key.rest(rolltype, turn, ttl, now).max(greatest);
+        greatest = rolltype.rest(turn, key, ttl, now).max(greatest);
     }
     greatest
 }
@@ -58,52 +60,32 @@ pub(crate) fn is_blocked(rollstates: &HashMap<RollType, RollState>, rolltype: Ro
         .any(|running| rolltype.conflicts_with(*running))
 }
 
-/// Whether keys would serve in all roles after the start of a roll.
+/// Whether keys would serve in all that a roll is of, behind its start.
 pub(crate) fn serves_after_start(
     keys: &HashMap<String, Key>,
     rolltype: RollType,
     old: &[&str],
     new: &[&str],
 ) -> bool
-    ensures { (now : ℕ) → result ≡ suitable rolltype (started rolltype now (texts old.now) (texts new.now) (by_reference keys.now.entries)) }
+    ensures { result ≡ suitable rolltype (roles_after rolltype (texts old.now) (texts new.now) (by_reference keys.now.entries)) }
 {
-    match rolltype {
-        RollType::AlgorithmRoll => {
-            has_ksk_after_start(keys, rolltype, old, new)
-                && has_zsk_after_start(keys, rolltype, old, new)
-        }
-    }
+    rolltype.needs().iter().all(|need| has_needed_after_start(keys, rolltype, *need, old, new))
 }
 
-fn has_ksk_after_start(
+fn has_needed_after_start(
     keys: &HashMap<String, Key>,
     rolltype: RollType,
+    need: Need,
     old: &[&str],
     new: &[&str],
 ) -> bool
-    ensures { (now : ℕ) → result ≡ some_key (ksk_is (current is_present)) (started rolltype now (texts old.now) (texts new.now) (by_reference keys.now.entries)) }
+    ensures { result ≡ has_needed rolltype need (roles_after rolltype (texts old.now) (texts new.now) (by_reference keys.now.entries)) }
 {
     keys.iter().any(|(reference, key)| {
         let is_old = is_listed(old, reference.as_str());
         let is_new = is_listed(new, reference.as_str());
-        key.roles_after_start(rolltype, is_old, is_new)
-            .has_current_ksk()
-    })
-}
-
-fn has_zsk_after_start(
-    keys: &HashMap<String, Key>,
-    rolltype: RollType,
-    old: &[&str],
-    new: &[&str],
-) -> bool
-    ensures { (now : ℕ) → result ≡ some_key (zsk_is (current is_present)) (started rolltype now (texts old.now) (texts new.now) (by_reference keys.now.entries)) }
-{
-    keys.iter().any(|(reference, key)| {
-        let is_old = is_listed(old, reference.as_str());
-        let is_new = is_listed(new, reference.as_str());
-        key.roles_after_start(rolltype, is_old, is_new)
-            .has_current_zsk()
+        let keytype = rolltype.roles_after_start(key.keytype(), is_old, is_new);
+        rolltype.touches(keytype) && need.is_met_by(keytype)
     })
 }
 
@@ -153,55 +135,54 @@ pub(crate) fn start_keys(
     keys.retain(|reference, key| {
         let is_old = is_listed(old, reference.as_str());
         let is_new = is_listed(new, reference.as_str());
-        key.start(rolltype, is_old, is_new, now);
+        rolltype.start(key, is_old, is_new, now);
         true
     });
 }
 
-/// Stamps the keys of a roll's first report.
-pub(crate) fn report_keys1(keys: &mut HashMap<String, Key>, rolltype: RollType, now: &UnixTime)
-    ensures { by_reference keys.new.entries ≡ on_keys rolltype (reported1 rolltype now.now) (by_reference keys.old.entries) }
+/// A report of a roll, or the wait behind it.
+#[derive(Clone, Copy, Debug, PartialEq, Eq)]
+pub(crate) enum Step {
+    Report1,
+    Wait1,
+    Report2,
+    Wait2,
+}
+
+impl Step {
+    /// Changes a key that the roll touches.
+    fn apply(self, rolltype: RollType, key: &mut Key, now: &UnixTime)
+        ensures { key.new ≡ stepped self rolltype now.now key.old }
+    {
+        match self {
+            Step::Report1 => rolltype.report1(key, now),
+            Step::Wait1 => rolltype.wait1(key, now),
+            Step::Report2 => rolltype.report2(key, now),
+            Step::Wait2 => rolltype.wait2(key, now),
+        }
+    }
+}
+
+/// Changes the keys that a roll touches as one of its reports or waits does.
+pub(crate) fn step_keys(
+    keys: &mut HashMap<String, Key>,
+    rolltype: RollType,
+    step: Step,
+    now: &UnixTime,
+)
+    ensures { by_reference keys.new.entries ≡ on_keys rolltype (stepped step rolltype now.now) (by_reference keys.old.entries) }
 {
     keys.retain(|_, key| {
-        if key.is_touched_by(rolltype) {
-            key.report1(rolltype, now);
+        if rolltype.touches(key.keytype()) {
+            step.apply(rolltype, key, now);
         }
         true
     });
 }
 
-/// Stamps the keys of a roll's second report.
-pub(crate) fn report_keys2(keys: &mut HashMap<String, Key>, rolltype: RollType, now: &UnixTime)
-    ensures { by_reference keys.new.entries ≡ on_keys rolltype (reported2 rolltype now.now) (by_reference keys.old.entries) }
+/// Takes a key out.
+pub(crate) fn remove_key(keys: &mut HashMap<String, Key>, reference: &str)
+    ensures { by_reference keys.new.entries ≡ removed reference.now (by_reference keys.old.entries) }
 {
-    keys.retain(|_, key| {
-        if key.is_touched_by(rolltype) {
-            key.report2(rolltype, now);
-        }
-        true
-    });
-}
-
-/// Changes the keys as a roll's first wait does.
-pub(crate) fn wait_keys1(keys: &mut HashMap<String, Key>, rolltype: RollType, now: &UnixTime)
-    ensures { by_reference keys.new.entries ≡ on_keys rolltype (waited1 rolltype now.now) (by_reference keys.old.entries) }
-{
-    keys.retain(|_, key| {
-        if key.is_touched_by(rolltype) {
-            key.wait1(rolltype, now);
-        }
-        true
-    });
-}
-
-/// Changes the keys as a roll's second wait does.
-pub(crate) fn wait_keys2(keys: &mut HashMap<String, Key>, rolltype: RollType, now: &UnixTime)
-    ensures { by_reference keys.new.entries ≡ on_keys rolltype (waited2 rolltype now.now) (by_reference keys.old.entries) }
-{
-    keys.retain(|_, key| {
-        if key.is_touched_by(rolltype) {
-            key.wait2(rolltype, now);
-        }
-        true
-    });
+    keys.remove(reference);
 }

@@ -1,18 +1,19 @@
 //! The key set.
-ghost use Rattle.std.specs.Prelude.{◌≡◌, ℕ, [], map, string_bytes, option_copied, MatchResult, IfOk, OnOk, OnErr};
-ghost use Rattle.keyset.specs.declared.keys.KeyType.TheVariants.{Ksk, Zsk};
-ghost use Rattle.keyset.specs.KeyState.{KeySetState, by_reference, by_kind, key_of, phase_of, add, actions_in, done, entered, first_fault, first_new_fault, new_fault, old_fault, report1, report2, start, start_fault, texts, wait1, wait2, wait_fault, new_key, text_of, clear, is_available};
-ghost use Rattle.keyset.specs.declared.errors.Error.TheVariants.{Memory};
-ghost use Rattle.keyset.specs.KeyAnswers.{Gives, Finds};
+ghost use Rattle.std.specs.Prelude.{◌≡◌, ℕ, Bool, [], string_bytes, option_copied, MatchResult, IfOk, OnOk, OnErr};
+ghost use Rattle.keyset_keys.specs.declared.keys.KeyType.TheVariants.{Ksk, Zsk, Csk, Include};
+ghost use Rattle.keyset_keys.specs.declared.errors.Error.TheVariants.{Memory};
+ghost use Rattle.keyset_rolls.specs.Actions.{actions_in};
+ghost use Rattle.keyset.specs.KeyState.{KeySetState, by_reference, by_kind, key_of, phase_of, add, done, entered, first_fault, first_new_fault, new_fault, old_fault, report1, report2, start, start_fault, algorithms_fault, texts, wait1, wait2, wait_fault, new_key, text_of, clear, is_available, write, decoupled_to, present_to, signer_to, at_parent_to, seen_at, ds_seen_at, rrsig_seen_at, stale_now, delete, has_algorithm, algorithms_within, same_algorithms, algorithm_is, algorithm_is_within};
+ghost use Rattle.keyset.specs.KeyAnswers.{Gives, GivesAtOnce, Finds};
+ghost use Rattle.keyset.specs.KeySteps.{set_to};
 
-use crate::errors::Error;
-use crate::keys::{Available, Key, KeyState, KeyType};
 use crate::maps::{
-    greatest_rest, has_tag, is_blocked, is_listed, misses_stamp, put_key, put_phase, remove_phase,
-    report_keys1, report_keys2, serves_after_start, start_keys, wait_keys1, wait_keys2,
+    Step, greatest_rest, has_tag, is_blocked, is_listed, misses_stamp, put_key, put_phase,
+    remove_key, remove_phase, serves_after_start, start_keys, step_keys,
 };
-use crate::rolls::{Action, RollState, RollType, Turn};
-use crate::time::UnixTime;
+use crate::settings::Setting;
+use keyset_keys::{Available, Error, Key, KeyState, KeyType, UnixTime};
+use keyset_rolls::{Action, RollState, RollType, Turn};
 use records::names::Name;
 use records::plain::SecurityAlgorithm;
 use std::alloc::{AllocError, Global};
@@ -118,6 +119,45 @@ impl KeySet {
         self.add_key(pubref, key)
     }
 
+    /// Adds a key that signs both the DNSKEY RRset and the other RRsets.
+    pub fn add_key_csk(
+        &mut self,
+        pubref: String,
+        privref: Option<String>,
+        algorithm: SecurityAlgorithm,
+        key_tag: u16,
+        creation_ts: UnixTime,
+        available: Available,
+    ) -> Result<(), Error>
+        ensures { Gives (λ _. []) self.old self.new result (add (string_bytes pubref) (new_key (text_of privref) (Csk (clear (is_available available)) (clear (is_available available))) algorithm key_tag creation_ts) self.old) }
+    {
+        let state = KeyState::new(available);
+        let keytype = KeyType::Csk(state, state);
+        let key = Key::new(privref, keytype, algorithm, key_tag, creation_ts);
+        self.add_key(pubref, key)
+    }
+
+    /// Adds a key of another owner, which is to be in the DNSKEY RRset and signs nothing here.
+    pub fn add_public_key(
+        &mut self,
+        pubref: String,
+        algorithm: SecurityAlgorithm,
+        key_tag: u16,
+        creation_ts: UnixTime,
+        available: bool,
+    ) -> Result<(), Error>
+        ensures { Gives (λ _. []) self.old self.new result (add (string_bytes pubref) (new_key None (Include (clear available)) algorithm key_tag creation_ts) self.old) }
+    {
+        let available = if available {
+            Available::Available
+        } else {
+            Available::NotAvailable
+        };
+        let keytype = KeyType::Include(KeyState::new(available));
+        let key = Key::new(None, keytype, algorithm, key_tag, creation_ts);
+        self.add_key(pubref, key)
+    }
+
     fn add_key(&mut self, pubref: String, key: Key) -> Result<(), Error>
         ensures { Gives (λ _. []) self.old self.new result (add (string_bytes pubref) key self.old) }
     {
@@ -131,11 +171,92 @@ impl KeySet {
         Ok(())
     }
 
+    /// Sets whether a key is no longer managed by its references.
+    pub fn set_decoupled(&mut self, pubref: &str, value: bool) -> Result<(), Error>
+        ensures { GivesAtOnce (λ _. []) self.old self.new result (write (decoupled_to value) pubref.now self.old) }
+    {
+        self.set(pubref, Setting::Decoupled(value))
+    }
+
+    /// Puts a key into the DNSKEY RRset, or takes it out, outside a roll. The first moment at which it was put in is
+    /// kept.
+    pub fn set_present(&mut self, pubref: &str, value: bool, now: &UnixTime) -> Result<(), Error>
+        ensures { GivesAtOnce (λ _. []) self.old self.new result (write (present_to value now.now) pubref.now self.old) }
+    {
+        self.set(pubref, Setting::Present(value, *now))
+    }
+
+    /// Sets whether a key signs, outside a roll: a combined key in both its roles. An included key never does.
+    pub fn set_signer(&mut self, pubref: &str, value: bool) -> Result<(), Error>
+        ensures { GivesAtOnce (λ _. []) self.old self.new result (write (signer_to value) pubref.now self.old) }
+    {
+        self.set(pubref, Setting::Signer(value))
+    }
+
+    /// Sets whether the parent's DS RRset has a key, outside a roll. Zone signing and included keys are never there.
+    pub fn set_at_parent(&mut self, pubref: &str, value: bool) -> Result<(), Error>
+        ensures { GivesAtOnce (λ _. []) self.old self.new result (write (at_parent_to value) pubref.now self.old) }
+    {
+        self.set(pubref, Setting::AtParent(value))
+    }
+
+    /// Sets since when all servers have a key in the DNSKEY RRset.
+    pub fn set_visible(&mut self, pubref: &str, time: UnixTime) -> Result<(), Error>
+        ensures { GivesAtOnce (λ _. []) self.old self.new result (write (seen_at time) pubref.now self.old) }
+    {
+        self.set(pubref, Setting::Visible(time))
+    }
+
+    /// Sets since when all servers of the parent have a key's DS record.
+    pub fn set_ds_visible(&mut self, pubref: &str, time: UnixTime) -> Result<(), Error>
+        ensures { GivesAtOnce (λ _. []) self.old self.new result (write (ds_seen_at time) pubref.now self.old) }
+    {
+        self.set(pubref, Setting::DsVisible(time))
+    }
+
+    /// Sets since when all servers have a key's signatures.
+    pub fn set_rrsig_visible(&mut self, pubref: &str, time: UnixTime) -> Result<(), Error>
+        ensures { GivesAtOnce (λ _. []) self.old self.new result (write (rrsig_seen_at time) pubref.now self.old) }
+    {
+        self.set(pubref, Setting::RrsigVisible(time))
+    }
+
+    /// Takes a key out of use at once, outside a roll, so that it may be deleted.
+    pub fn set_stale(&mut self, pubref: &str) -> Result<(), Error>
+        ensures { GivesAtOnce (λ _. []) self.old self.new result (write stale_now pubref.now self.old) }
+    {
+        self.set(pubref, Setting::Stale)
+    }
+
+    fn set(&mut self, pubref: &str, setting: Setting) -> Result<(), Error>
+        ensures { GivesAtOnce (λ _. []) self.old self.new result (write (set_to setting) pubref.now self.old) }
+    {
+        match self.keys.get_mut(pubref) {
+            Some(key) => setting.apply(key),
+            None => Err(Error::KeyNotFound),
+        }
+    }
+
+    /// Deletes a key that is stale in all its roles.
+    pub fn delete_key(&mut self, pubref: &str) -> Result<(), Error>
+        ensures { GivesAtOnce (λ _. []) self.old self.new result (delete pubref.now self.old) }
+    {
+        let Some(key) = self.key(pubref) else {
+            return Err(Error::KeyNotFound);
+        };
+        if !key.keytype().stale() {
+            return Err(Error::KeyNotOld);
+        }
+        remove_key(&mut self.keys, pubref);
+        Ok(())
+    }
+
     /// Starts a roll from the old keys to the new ones.
     ///
     /// Refuses, in this order: where the roll runs already, where another is in its way, at the first old key
     /// that isn't there or isn't of a kind that the roll touches, at the first such new key or one that isn't
-    /// fresh or is listed before, and where after the start no key would serve in one of the roles.
+    /// fresh or is listed before, where old and new keys have other algorithms though the roll isn't one of
+    /// algorithms, and where after the start no key would serve in one of the roles.
     pub fn start_roll(
         &mut self,
         rolltype: RollType,
@@ -164,7 +285,7 @@ impl KeySet {
             return Err(Error::WrongStateForRollOperation);
         };
         let actions = self.enter(rolltype, RollState::CacheExpire1(ttl))?;
-        report_keys1(&mut self.keys, rolltype, now);
+        step_keys(&mut self.keys, rolltype, Step::Report1, now);
         Ok(actions)
     }
 
@@ -181,7 +302,7 @@ impl KeySet {
         };
         self.check_wait(rolltype, Turn::First, ttl, now)?;
         let actions = self.enter(rolltype, RollState::Propagation2)?;
-        wait_keys1(&mut self.keys, rolltype, now);
+        step_keys(&mut self.keys, rolltype, Step::Wait1, now);
         Ok(actions)
     }
 
@@ -198,7 +319,7 @@ impl KeySet {
             return Err(Error::WrongStateForRollOperation);
         };
         let actions = self.enter(rolltype, RollState::CacheExpire2(ttl))?;
-        report_keys2(&mut self.keys, rolltype, now);
+        step_keys(&mut self.keys, rolltype, Step::Report2, now);
         Ok(actions)
     }
 
@@ -215,7 +336,7 @@ impl KeySet {
         };
         self.check_wait(rolltype, Turn::Second, ttl, now)?;
         let actions = self.enter(rolltype, RollState::Done)?;
-        wait_keys2(&mut self.keys, rolltype, now);
+        step_keys(&mut self.keys, rolltype, Step::Wait2, now);
         Ok(actions)
     }
 
@@ -268,7 +389,7 @@ impl KeySet {
     }
 
     fn check_start(&self, rolltype: RollType, old: &[&str], new: &[&str]) -> Result<(), Error>
-        ensures { (now : ℕ) → Finds result (start_fault rolltype (texts old.now) (texts new.now) now self.now) }
+        ensures { Finds result (start_fault rolltype (texts old.now) (texts new.now) self.now) }
     {
         if self.phase(rolltype).is_some() {
             return Err(Error::WrongStateForRollOperation);
@@ -278,10 +399,59 @@ impl KeySet {
         }
         self.check_old_keys(rolltype, old)?;
         self.check_new_keys(rolltype, old, new)?;
+        self.check_algorithms(rolltype, old, new)?;
         if !serves_after_start(&self.keys, rolltype, old, new) {
             return Err(Error::NoSuitableKeyPresent);
         }
         Ok(())
+    }
+
+    fn check_algorithms(&self, rolltype: RollType, old: &[&str], new: &[&str]) -> Result<(), Error>
+        ensures { Finds result (algorithms_fault rolltype (texts old.now) (texts new.now) self.now) }
+    {
+        if matches!(rolltype, RollType::AlgorithmRoll) {
+            return Ok(());
+        }
+        if !self.algorithms_are_within(old, new) || !self.algorithms_are_within(new, old) {
+            return Err(Error::AlgorithmSetsMismatch);
+        }
+        Ok(())
+    }
+
+    /// Whether the algorithms of the first keys are among those of the second.
+    fn algorithms_are_within(&self, first: &[&str], second: &[&str]) -> bool
+        ensures { result ≡ algorithms_within self.now (texts first.now) (texts second.now) }
+    {
+        first
+            .iter()
+            .all(|reference| self.algorithm_is_within(reference, second))
+    }
+
+    fn algorithm_is_within(&self, reference: &str, second: &[&str]) -> bool
+        ensures { result ≡ algorithm_is_within self.now (texts second.now) reference.now }
+    {
+        match self.key(reference) {
+            Some(key) => self.has_algorithm(second, key.algorithm()),
+            None => true,
+        }
+    }
+
+    /// Whether one of these keys signs by this algorithm.
+    fn has_algorithm(&self, references: &[&str], algorithm: SecurityAlgorithm) -> bool
+        ensures { result ≡ has_algorithm self.now (texts references.now) algorithm }
+    {
+        references
+            .iter()
+            .any(|reference| self.algorithm_is(reference, algorithm))
+    }
+
+    fn algorithm_is(&self, reference: &str, algorithm: SecurityAlgorithm) -> bool
+        ensures { result ≡ algorithm_is self.now algorithm reference.now }
+    {
+        match self.key(reference) {
+            Some(key) => key.algorithm() == algorithm,
+            None => false,
+        }
     }
 
     fn check_old_keys(&self, rolltype: RollType, old: &[&str]) -> Result<(), Error>
@@ -299,7 +469,7 @@ impl KeySet {
         let Some(key) = self.key(reference) else {
             return Err(Error::KeyNotFound);
         };
-        if !key.is_touched_by(rolltype) {
+        if !rolltype.touches(key.keytype()) {
             return Err(Error::WrongKeyType);
         }
         Ok(())
@@ -326,7 +496,7 @@ impl KeySet {
         let Some(key) = self.key(reference) else {
             return Err(Error::KeyNotFound);
         };
-        if !key.is_touched_by(rolltype) {
+        if !rolltype.touches(key.keytype()) {
             return Err(Error::WrongKeyType);
         }
         let is_listed_before = is_listed(old, reference) || is_listed(before, reference);

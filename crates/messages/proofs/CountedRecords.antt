@@ -9,6 +9,7 @@ use Rattle.records.specs.View.{Gives}
 use Rattle.records.specs.declared.message.MessageError.{MessageError}
 use Rattle.records.specs.declared.message.MessageError.TheVariants.{ShortInput}
 use Rattle.records.specs.Message.{◌>>=◌, Asked, Message, Spelled, octet_at, u16_at, asked_at, record_at, records_at, one_question, message}
+use Rattle.definitions.specs.Limits.{pointer_limit}
 
 pub bound : {A B : Type 0} (x : Result A MessageError) (f : A → Result B MessageError) (y : B) → x >>= f ≡ Ok y → (a : A) × (x ≡ Ok a) × (f a ≡ Ok y)
 bound (Ok a) f y h = (a, refl, h)
@@ -62,8 +63,8 @@ few_records k m r small h =
     omega (arith, u16-small m 6 a.0 small a.1, u16-small m 8 b.0 small b.1, u16-small m 10 d.0 small d.1)
 
 -- what was read of octets
-pub few_read : (m : List ℕ) (result : Result Message MessageError) → ((i : ℕ) → Fits w8 (get_or m i 0)) → Gives (λ v. v) result (message 0 m) → IfOk result (λ v. length v.records ≤ 196605)
-few_read m (Ok v) small gives = few_records 0 m v (λ i h. let s = small i in omega arith) gives
+pub few_read : (m : List ℕ) (result : Result Message MessageError) → ((i : ℕ) → Fits w8 (get_or m i 0)) → Gives (λ v. v) result (message pointer_limit m) → IfOk result (λ v. length v.records ≤ 196605)
+few_read m (Ok v) small gives = few_records pointer_limit m v (λ i h. let s = small i in omega arith) gives
 few_read m (Err e) small gives = tt
 
 pub same_count : (rs : List ViewRecord) (ss : List Spelled) → map spelled rs ≡ ss → length rs ≡ length ss

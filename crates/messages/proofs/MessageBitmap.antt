@@ -2,12 +2,19 @@
 use Rattle.std.proofs.Common.{◌≡◌, ℕ, zero, suc, ◌/◌, ◌<◌, Bool, true, false, ◌&&◌, List, [], ◌∷◌, length, take, drop, Some, None, Option, refl, sym, ap, ◌∙◌, eqb, leb, cond, arith}
 use Rattle.std.specs.Option.{is_some, IsSome}
 use Rattle.std.proofs.lemmas.Bool.{ne_eqb}
-use Rattle.definitions.specs.Bitmap.{windows_upto, bit_in}
-use Rattle.records.specs.Message.{if_true}
-use Rattle.messages.specs.Windows.{Split, split, first_window, found}
+use Rattle.definitions.specs.Bitmap.{windows_upto, bit_in, in_windows}
+use Rattle.definitions.specs.Windows.{Split, split, first_window}
 
-abbrev Windows : Type 0
+abbrev pub Windows : Type 0
 Windows = List (ℕ × List ℕ)
+
+-- whether windows that were read have a type
+abbrev pub found : Option Windows → ℕ → Bool
+found o t = elim o [ None ↦ false | Some ws ↦ in_windows ws t ]
+
+-- the window at the front, where there is one
+abbrev front : Bool → Split → Option Split
+front b s = elim b [ true ↦ Some s | false ↦ None ]
 
 abbrev behind_first : Split → Option Windows → Option Windows
 behind_first s o = elim o [ None ↦ None | Some ws ↦ Some ((s.number, s.octets) ∷ ws) ]
@@ -18,7 +25,7 @@ none_upto n [] h some = absurd (omega arith)
 none_upto n (w ∷ []) h some = refl
 none_upto n (w ∷ len ∷ bs) h some = go (leb 1 len && leb len 32 && leb len (length bs)) h
   where
-    go : (b : Bool) → if_true b (split w (take len bs) (drop len bs)) ≡ None → elim b as (λ _. Option Windows) [ true ↦ elim (windows_upto n (drop len bs)) [ None ↦ None | Some ws ↦ Some ((w, take len bs) ∷ ws) ] | false ↦ None ] ≡ None
+    go : (b : Bool) → front b (split w (take len bs) (drop len bs)) ≡ None → elim b as (λ _. Option Windows) [ true ↦ elim (windows_upto n (drop len bs)) [ None ↦ None | Some ws ↦ Some ((w, take len bs) ∷ ws) ] | false ↦ None ] ≡ None
     go true h = cc
     go false h = refl
 
@@ -27,7 +34,7 @@ some_upto n [] s h = cc
 some_upto n (w ∷ []) s h = cc
 some_upto n (w ∷ len ∷ bs) s h = go (leb 1 len && leb len 32 && leb len (length bs)) h
   where
-    go : (b : Bool) → if_true b (split w (take len bs) (drop len bs)) ≡ Some s → elim b as (λ _. Option Windows) [ true ↦ elim (windows_upto n (drop len bs)) [ None ↦ None | Some ws ↦ Some ((w, take len bs) ∷ ws) ] | false ↦ None ] ≡ behind_first s (windows_upto n s.rest)
+    go : (b : Bool) → front b (split w (take len bs) (drop len bs)) ≡ Some s → elim b as (λ _. Option Windows) [ true ↦ elim (windows_upto n (drop len bs)) [ None ↦ None | Some ws ↦ Some ((w, take len bs) ∷ ws) ] | false ↦ None ] ≡ behind_first s (windows_upto n s.rest)
     go true h = let e : split w (take len bs) (drop len bs) ≡ s = cc in λ t. behind_first (e t) (windows_upto n ((e t).rest))
     go false h = cc
 

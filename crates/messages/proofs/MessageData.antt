@@ -4,6 +4,7 @@ use Rattle.std.specs.Prelude.{slice_range}
 use Rattle.std.proofs.lemmas.Bool.{eq-eqb}
 use Rattle.definitions.specs.Bitmap.{is_bitmap}
 use Rattle.definitions.specs.Name.{Name, IsName, wire, wire_len, low}
+use Rattle.definitions.specs.Limits.{pointer_limit}
 use Rattle.records.specs.Message.{Spelled, if_true, name_in, ns_data, soa_data, nsec_at, nsec_data}
 use Rattle.records.specs.Message as message
 use Rattle.messages.proofs.MessageSignatures.{name_here}
@@ -14,7 +15,7 @@ abbrev from_ns : Spelled → Option (Name × ℕ) → Option (List ℕ)
 from_ns r None = None
 from_ns r (Some n) = if_true (eqb n.1 (message.behind r)) (wire (low n.0))
 
-pub ns_here : (m : List ℕ) (r : Spelled) (n : Name) (rest : List ℕ) → IsName n → StandsAt m r.start (wire n ++ rest) → r.length ≡ length (wire n) → ns_data 0 m r ≡ Some (wire (low n))
+pub ns_here : (m : List ℕ) (r : Spelled) (n : Name) (rest : List ℕ) → IsName n → StandsAt m r.start (wire n ++ rest) → r.length ≡ length (wire n) → ns_data pointer_limit m r ≡ Some (wire (low n))
 ns_here m r n rest name s size =
     let q = r.start + wire_len n in
     let whole : q ≡ message.behind r = omega (arith, size, wire-length n) in
@@ -26,10 +27,10 @@ from_rname m r n (Some o) = if_true (eqb (o.1 + 20) (message.behind r)) (wire (l
 
 abbrev from_mname : List ℕ → Spelled → Option (Name × ℕ) → Option (List ℕ)
 from_mname m r None = None
-from_mname m r (Some n) = from_rname m r n.0 (name_in 0 m r n.1)
+from_mname m r (Some n) = from_rname m r n.0 (name_in pointer_limit m r n.1)
 
 pub soa_here : (m : List ℕ) (r : Spelled) (mname rname : Name) (numbers rest : List ℕ) → IsName mname → IsName rname → length numbers ≡ 20 → StandsAt m r.start (wire mname ++ (wire rname ++ (numbers ++ rest))) → r.length ≡ length (wire mname ++ wire rname ++ numbers)
-    → soa_data 0 m r ≡ Some (wire (low mname) ++ wire (low rname) ++ numbers)
+    → soa_data pointer_limit m r ≡ Some (wire (low mname) ++ wire (low rname) ++ numbers)
 soa_here m r mname rname numbers rest first second twenty s size =
     let p = r.start + wire_len mname in
     let q = p + wire_len rname in
@@ -50,7 +51,7 @@ abbrev joined : Option (Name × List ℕ) → Option (List ℕ)
 joined None = None
 joined (Some n) = Some (wire n.0 ++ n.1)
 
-pub nsec_here : (m : List ℕ) (r : Spelled) (next : Name) (bits rest : List ℕ) → IsName next → is_bitmap bits ≡ true → StandsAt m r.start (wire next ++ (bits ++ rest)) → r.length ≡ length (wire next ++ bits) → nsec_data 0 m r ≡ Some (wire next ++ bits)
+pub nsec_here : (m : List ℕ) (r : Spelled) (next : Name) (bits rest : List ℕ) → IsName next → is_bitmap bits ≡ true → StandsAt m r.start (wire next ++ (bits ++ rest)) → r.length ≡ length (wire next ++ bits) → nsec_data pointer_limit m r ≡ Some (wire next ++ bits)
 nsec_here m r next bits rest name valid s size =
     let q = r.start + wire_len next in
     let whole : message.behind r ≡ q + length bits = omega (arith, size, length-append (wire next) bits, wire-length next) in

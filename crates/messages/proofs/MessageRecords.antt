@@ -4,6 +4,7 @@ use Rattle.std.specs.Result.{IsOk, is_ok}
 use Rattle.records.specs.declared.message.MessageError.{MessageError}
 use Rattle.records.specs.Message.{Spelled, record_at, records_at, ◌>>=◌}
 use Rattle.records.specs.View.{records_read}
+use Rattle.definitions.specs.Limits.{pointer_limit}
 
 -- why reading stops
 abbrev pub fault_in : {A : Type 0} → Result A MessageError → Option MessageError
@@ -19,16 +20,16 @@ err_of (Ok x) e h = cc
 err_of (Err d) e h = let k : d ≡ e = cc in ap Err k
 
 abbrev behind : ℕ → List ℕ → Spelled × ℕ → Result (List Spelled) MessageError
-behind n m r = records_at n 0 m r.1 >>= λ rs. Ok (r.0 ∷ rs)
+behind n m r = records_at n pointer_limit m r.1 >>= λ rs. Ok (r.0 ∷ rs)
 
 fault_behind : (s : Spelled) (r : Result (List Spelled) MessageError) → fault_in (r >>= λ rs. Ok (s ∷ rs)) ≡ fault_in r
 fault_behind s (Ok x) = refl
 fault_behind s (Err e) = refl
 
-pub more_records : (n : ℕ) (m : List ℕ) (p : ℕ) (r : Spelled × ℕ) → record_at 0 m p ≡ Ok r → fault_in (records_at (suc n) 0 m p) ≡ fault_in (records_at n 0 m r.1)
-more_records n m p r h = ap (λ o. fault_in (o >>= behind n m)) h ∙ fault_behind r.0 (records_at n 0 m r.1)
+pub more_records : (n : ℕ) (m : List ℕ) (p : ℕ) (r : Spelled × ℕ) → record_at pointer_limit m p ≡ Ok r → fault_in (records_at (suc n) pointer_limit m p) ≡ fault_in (records_at n pointer_limit m r.1)
+more_records n m p r h = ap (λ o. fault_in (o >>= behind n m)) h ∙ fault_behind r.0 (records_at n pointer_limit m r.1)
 
-pub bad_record : (n : ℕ) (m : List ℕ) (p : ℕ) (e : MessageError) → record_at 0 m p ≡ Err e → fault_in (records_at (suc n) 0 m p) ≡ Some e
+pub bad_record : (n : ℕ) (m : List ℕ) (p : ℕ) (e : MessageError) → record_at pointer_limit m p ≡ Err e → fault_in (records_at (suc n) pointer_limit m p) ≡ Some e
 bad_record n m p e h = ap (λ o. fault_in (o >>= behind n m)) h
 
 ok_behind : (s : Spelled) (r : Result (List Spelled) MessageError) → IsOk (r >>= λ rs. Ok (s ∷ rs)) → IsOk r
@@ -42,11 +43,11 @@ list_behind : (s : Spelled) (r : Result (List Spelled) MessageError) → IsOk r 
 list_behind s (Ok x) h = refl
 list_behind s (Err e) h = cc
 
-pub rest_reads : (n : ℕ) (m : List ℕ) (p : ℕ) (r : Spelled × ℕ) → record_at 0 m p ≡ Ok r → IsOk (records_at (suc n) 0 m p) → IsOk (records_at n 0 m r.1)
-rest_reads n m p r h ok = ok_behind r.0 (records_at n 0 m r.1) (ap (λ o. is_ok (o >>= behind n m)) (sym h) ∙ ok)
+pub rest_reads : (n : ℕ) (m : List ℕ) (p : ℕ) (r : Spelled × ℕ) → record_at pointer_limit m p ≡ Ok r → IsOk (records_at (suc n) pointer_limit m p) → IsOk (records_at n pointer_limit m r.1)
+rest_reads n m p r h ok = ok_behind r.0 (records_at n pointer_limit m r.1) (ap (λ o. is_ok (o >>= behind n m)) (sym h) ∙ ok)
 
-pub first_record : (n : ℕ) (m : List ℕ) (p : ℕ) (r : Spelled × ℕ) → record_at 0 m p ≡ Ok r → IsOk (records_at (suc n) 0 m p) → records_read (suc n) m p ≡ r.0 ∷ records_read n m r.1
-first_record n m p r h ok = ap (λ o. list_of (o >>= behind n m)) h ∙ list_behind r.0 (records_at n 0 m r.1) (rest_reads n m p r h ok)
+pub first_record : (n : ℕ) (m : List ℕ) (p : ℕ) (r : Spelled × ℕ) → record_at pointer_limit m p ≡ Ok r → IsOk (records_at (suc n) pointer_limit m p) → records_read (suc n) m p ≡ r.0 ∷ records_read n m r.1
+first_record n m p r h ok = ap (λ o. list_of (o >>= behind n m)) h ∙ list_behind r.0 (records_at n pointer_limit m r.1) (rest_reads n m p r h ok)
 
-pub no_error : (n : ℕ) (m : List ℕ) (p : ℕ) (e : MessageError) → record_at 0 m p ≡ Err e → IsOk (records_at (suc n) 0 m p) → ⊥
-no_error n m p e h ok = let x : is_ok (records_at (suc n) 0 m p) ≡ false = ap (λ o. is_ok (o >>= behind n m)) h in cc
+pub no_error : (n : ℕ) (m : List ℕ) (p : ℕ) (e : MessageError) → record_at pointer_limit m p ≡ Err e → IsOk (records_at (suc n) pointer_limit m p) → ⊥
+no_error n m p e h ok = let x : is_ok (records_at (suc n) pointer_limit m p) ≡ false = ap (λ o. is_ok (o >>= behind n m)) h in cc

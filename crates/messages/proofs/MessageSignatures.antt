@@ -7,6 +7,7 @@ use Rattle.std.proofs.lemmas.Nat.{from_be_bytes-to_be_bytes_2, from_be_bytes-to_
 use Rattle.std.proofs.lemmas.Option.{get_or_from_slice_get}
 use Rattle.definitions.specs.Name.{Name, IsName, wire, wire_len, low}
 use Rattle.definitions.specs.Signing.{Fields}
+use Rattle.definitions.specs.Limits.{pointer_limit}
 use Rattle.records.specs.declared.message.MessageError.{MessageError}
 use Rattle.records.specs.Message.{Spelled, owner_at, if_true, pair, quad, name_upto, name_in, rrsig_at, rrsig_fields}
 use Rattle.records.specs.Message as message
@@ -80,7 +81,7 @@ from_signer m r None = None
 from_signer m r (Some s) = Some (rrsig_fields m r.start (low s.0), slice_range m s.1 (message.behind r))
 
 abbrev when : List ℕ → Spelled → Bool → Option (Fields × List ℕ)
-when m r true = from_signer m r (name_in 0 m r (r.start + 18))
+when m r true = from_signer m r (name_in pointer_limit m r (r.start + 18))
 when m r false = None
 
 abbrev upto : ℕ → Result (Name × ℕ) MessageError → Option (Name × ℕ)
@@ -88,12 +89,12 @@ upto limit (Err e) = None
 upto limit (Ok n) = if_true (leb n.1 limit) n
 
 -- a name within a record's data
-pub name_here : (m : List ℕ) (r : Spelled) (p q : ℕ) (n : Name) (rest : List ℕ) → IsName n → StandsAt m p (wire n ++ rest) → q ≡ p + wire_len n → q ≤ message.behind r → name_in 0 m r p ≡ Some (n, q)
+pub name_here : (m : List ℕ) (r : Spelled) (p q : ℕ) (n : Name) (rest : List ℕ) → IsName n → StandsAt m p (wire n ++ rest) → q ≡ p + wire_len n → q ≤ message.behind r → name_in pointer_limit m r p ≡ Some (n, q)
 name_here m r p q n rest name s e near =
     let limit = message.behind r in
     ap (upto limit) (owner_here m p n rest name s) ∙ ap (λ k. upto limit (Ok (n, k))) (sym e) ∙ ap (λ b. if_true b (n, q)) (le-leb q limit near)
 
-pub signature_here : (m : List ℕ) (f : Fields) (signature behind : List ℕ) (r : Spelled) → AreFields f → StandsAt m r.start (rrsig_data f signature ++ behind) → r.length ≡ length (rrsig_data f signature) → rrsig_at 0 m r ≡ Some (record f { signer = low f.signer }, signature)
+pub signature_here : (m : List ℕ) (f : Fields) (signature behind : List ℕ) (r : Spelled) → AreFields f → StandsAt m r.start (rrsig_data f signature ++ behind) → r.length ≡ length (rrsig_data f signature) → rrsig_at pointer_limit m r ≡ Some (record f { signer = low f.signer }, signature)
 signature_here m f signature behind r are stands size =
     let start = r.start in
     let n = f.signer in
@@ -104,7 +105,7 @@ signature_here m f signature behind r are stands size =
     let whole : r.length ≡ 18 + wire_len n + length signature = omega (arith, size, length-append (fields_numbers f ++ wire n) signature, length-append (fields_numbers f) (wire n), wire-length n) in
     let long : 18 ≤ r.length = omega (arith, whole) in
     let near : q ≤ message.behind r = omega (arith, whole) in
-    let signer : name_in 0 m r (start + 18) ≡ Some (n, q) = name_here m r (start + 18) q n _ are.signer at_signer refl near in
+    let signer : name_in pointer_limit m r (start + 18) ≡ Some (n, q) = name_here m r (start + 18) q n _ are.signer at_signer refl near in
     let fields = numbers_here m start f (signer_then f signature behind) (low n) are s in
     let octets = range_there m at_signature.front signature behind q (message.behind r) at_signature.whole at_signature.place (omega (arith, whole)) in
     ap (when m r) (le-leb 18 r.length long) ∙ ap (from_signer m r) signer ∙ (λ i. Some (fields i, octets i))

@@ -5,6 +5,7 @@ use Rattle.std.specs.Int.{w16, to_be_bytes}
 use Rattle.std.proofs.lemmas.List.{append-nil}
 use Rattle.std.proofs.lemmas.List.Concat.{flat_map-append}
 use Rattle.definitions.specs.Name.{wire, wire_len}
+use Rattle.definitions.specs.Limits.{pointer_limit}
 use Rattle.records.specs.declared.message.MessageError.{MessageError}
 use Rattle.records.specs.Message.{Asked, Message, ◌>>=◌, u16_at, owner_at, asked_at, records_at}
 use Rattle.records.specs.Written.{Written, header_octets, question_octets, record_octets, message_octets}
@@ -64,10 +65,10 @@ parts m flags q answers authority e =
 pub records_stand : (m : List ℕ) (flags : ℕ) (q : Asked) (answers authority : List Written) → m ≡ message_octets flags q answers authority → StandsAt m (first_place q) (flat_map record_octets (answers ++ authority) ++ [])
 records_stand m flags q answers authority e = (parts m flags q answers authority e).records
 
-asked_here : (m : List ℕ) (flags : ℕ) (q : Asked) (answers authority : List Written) → IsQuestion q → Parts m flags q answers authority → asked_at 0 m 12 ≡ Ok (q, first_place q)
+asked_here : (m : List ℕ) (flags : ℕ) (q : Asked) (answers authority : List Written) → IsQuestion q → Parts m flags q answers authority → asked_at pointer_limit m 12 ≡ Ok (q, first_place q)
 asked_here m flags q answers authority is p =
     let n = 12 + wire_len q.name in
-    bind_ok (owner_at 0 m 12) (q.name, n) _ _ (owner_here m 12 q.name _ is.name p.name)
+    bind_ok (owner_at pointer_limit m 12) (q.name, n) _ _ (owner_here m 12 q.name _ is.name p.name)
     (bind_ok (u16_at m n) q.rtype _ _ (u16_here m n q.rtype _ is.rtype p.rtype)
     (bind_ok (u16_at m (n + 2)) q.class _ _ (u16_here m (n + 2) q.class _ is.class p.class) refl))
 
@@ -77,11 +78,11 @@ all_append (r ∷ rs) ss h k = (h.0, all_append rs ss h.1 k)
 
 -- what follows the question
 abbrev behind_question : List ℕ → ℕ → Asked × ℕ → Result Message MessageError
-behind_question m count q = records_at count 0 m q.1 >>= λ rs. Ok (record { asked = q.0; records = rs })
+behind_question m count q = records_at count pointer_limit m q.1 >>= λ rs. Ok (record { asked = q.0; records = rs })
 
 -- what follows the counts
 abbrev body : List ℕ → ℕ → Result Message MessageError
-body m count = asked_at 0 m 12 >>= λ q. behind_question m count q
+body m count = asked_at pointer_limit m 12 >>= λ q. behind_question m count q
 
 pub message_here : (m : List ℕ) (flags : ℕ) (q : Asked) (answers authority : List Written) → m ≡ message_octets flags q answers authority → IsQuestion q → AreSections answers authority → ReadsBack m q (answers ++ authority)
 message_here m flags q answers authority e is are =
@@ -90,14 +91,14 @@ message_here m flags q answers authority e is are =
     let each = all_append answers authority are.answers_are are.authority_are in
     let total = length answers + length authority + 0 in
     let count : total ≡ length rs = omega (arith, length-append answers authority) in
-    let records = ap (λ n. records_at n 0 m (first_place q)) count ∙ records_here rs m (first_place q) [] each p.records in
+    let records = ap (λ n. records_at n pointer_limit m (first_place q)) count ∙ records_here rs m (first_place q) [] each p.records in
     record {
       reads =
           bind_ok (u16_at m 4) 1 _ _ (u16_here m 4 1 _ (lit< tt) p.questions)
           (bind_ok (u16_at m 6) (length answers) _ _ (u16_here m 6 (length answers) _ are.answers_fit p.answers_at)
           (bind_ok (u16_at m 8) (length authority) _ _ (u16_here m 8 (length authority) _ are.authority_fit p.authority_at)
           (bind_ok (u16_at m 10) 0 (λ k. body m (length answers + length authority + k)) _ (u16_here m 10 0 _ (lit< tt) p.additional)
-          (bind_ok (asked_at 0 m 12) (q, first_place q) (behind_question m total) _ (asked_here m flags q answers authority is p)
-          (bind_ok (records_at total 0 m (first_place q)) (spelled_from (first_place q) rs) (λ found. Ok (record { asked = q; records = found })) _ records refl)))));
+          (bind_ok (asked_at pointer_limit m 12) (q, first_place q) (behind_question m total) _ (asked_here m flags q answers authority is p)
+          (bind_ok (records_at total pointer_limit m (first_place q)) (spelled_from (first_place q) rs) (λ found. Ok (record { asked = q; records = found })) _ records refl)))));
       octets = data_here rs m (first_place q) [] p.records;
     }

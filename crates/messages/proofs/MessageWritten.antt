@@ -5,6 +5,7 @@ use Rattle.std.specs.Int.{w16, w32, to_be_bytes, byte_at}
 use Rattle.std.proofs.lemmas.Bool.{le-leb}
 use Rattle.std.proofs.lemmas.Nat.{from_be_bytes-to_be_bytes_2, from_be_bytes-to_be_bytes_4}
 use Rattle.definitions.specs.Name.{Name, IsName, wire, wire_len}
+use Rattle.definitions.specs.Limits.{pointer_limit}
 use Rattle.records.specs.declared.message.MessageError.{MessageError}
 use Rattle.records.specs.declared.message.MessageError.TheVariants.{ShortInput}
 use Rattle.records.specs.Message.{◌>>=◌, octet_at, u16_at, u32_at, owner_at, within, record_at, records_at, data_of}
@@ -109,27 +110,27 @@ inside m p r rest s =
     let t = next_behind m p r rest s in
     omega (arith, t.place, ap length t.whole, length-append t.front rest)
 
-pub owner_here : (m : List ℕ) (p : ℕ) (n : Name) (rest : List ℕ) → IsName n → StandsAt m p (wire n ++ rest) → owner_at 0 m p ≡ Ok (n, p + wire_len n)
+pub owner_here : (m : List ℕ) (p : ℕ) (n : Name) (rest : List ℕ) → IsName n → StandsAt m p (wire n ++ rest) → owner_at pointer_limit m p ≡ Ok (n, p + wire_len n)
 owner_here m p n rest name s = owner_wire n s.front rest m p name s.whole s.place
 
-pub record_here : (m : List ℕ) (p : ℕ) (r : Written) (rest : List ℕ) → IsRecord r → StandsAt m p (record_octets r ++ rest) → record_at 0 m p ≡ Ok (spelled_at p r, end_of p r)
+pub record_here : (m : List ℕ) (p : ℕ) (r : Written) (rest : List ℕ) → IsRecord r → StandsAt m p (record_octets r ++ rest) → record_at pointer_limit m p ≡ Ok (spelled_at p r, end_of p r)
 record_here m p r rest is s =
     let q = p + wire_len r.owner in
     let size = length r.octets in
-    bind_ok (owner_at 0 m p) (r.owner, q) _ _ (owner_here m p r.owner _ is.owner (moved m p _ _ (record_parts r rest) s))
+    bind_ok (owner_at pointer_limit m p) (r.owner, q) _ _ (owner_here m p r.owner _ is.owner (moved m p _ _ (record_parts r rest) s))
     (bind_ok (u16_at m q) r.rtype _ _ (u16_here m q r.rtype _ is.rtype (type_behind m p r rest s))
     (bind_ok (u16_at m (q + 2)) r.class _ _ (u16_here m (q + 2) r.class _ is.class (class_behind m p r rest s))
     (bind_ok (u32_at m (q + 4)) r.ttl _ _ (u32_here m (q + 4) r.ttl _ is.ttl (ttl_behind m p r rest s))
     (bind_ok (u16_at m (q + 8)) size _ _ (u16_here m (q + 8) size _ is.octets (size_behind m p r rest s))
     (bind_ok (within m (q + 10) size) (q + 10 + size) _ _ (within_here m (q + 10) size (inside m p r rest s)) refl)))))
 
-pub records_here : (rs : List Written) (m : List ℕ) (p : ℕ) (rest : List ℕ) → AllByRecursion IsRecord rs → StandsAt m p (flat_map record_octets rs ++ rest) → records_at (length rs) 0 m p ≡ Ok (spelled_from p rs)
+pub records_here : (rs : List Written) (m : List ℕ) (p : ℕ) (rest : List ℕ) → AllByRecursion IsRecord rs → StandsAt m p (flat_map record_octets rs ++ rest) → records_at (length rs) pointer_limit m p ≡ Ok (spelled_from p rs)
 records_here [] m p rest is s = refl
 records_here (r ∷ rs) m p rest is s =
     let others = flat_map record_octets rs ++ rest in
     let t : StandsAt m p (record_octets r ++ others) = moved m p _ _ (append_assoc (record_octets r) (flat_map record_octets rs) rest) s in
-    bind_ok (record_at 0 m p) (spelled_at p r, end_of p r) _ _ (record_here m p r others is.0 t)
-    (bind_ok (records_at (length rs) 0 m (end_of p r)) (spelled_from (end_of p r) rs) _ _ (records_here rs m (end_of p r) rest is.1 (next_behind m p r others t)) refl)
+    bind_ok (record_at pointer_limit m p) (spelled_at p r, end_of p r) _ _ (record_here m p r others is.0 t)
+    (bind_ok (records_at (length rs) pointer_limit m (end_of p r)) (spelled_from (end_of p r) rs) _ _ (records_here rs m (end_of p r) rest is.1 (next_behind m p r others t)) refl)
 
 pub data_here : (rs : List Written) (m : List ℕ) (p : ℕ) (rest : List ℕ) → StandsAt m p (flat_map record_octets rs ++ rest) → AllZip (λ s r. data_of m s ≡ r.octets) (spelled_from p rs) rs
 data_here [] m p rest s = tt

@@ -1,4 +1,3 @@
 pub mod Record
-pub mod Windows
 pub mod WrittenLaws
 pub mod Questions

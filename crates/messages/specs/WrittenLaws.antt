@@ -4,12 +4,13 @@ use Rattle.std.specs.List.{AllByRecursion, AllZip}
 use Rattle.definitions.specs.Name.{Name, IsName, wire, wire_len, low}
 use Rattle.definitions.specs.Bitmap.{is_bitmap}
 use Rattle.definitions.specs.Signing.{Fields}
+use Rattle.definitions.specs.Limits.{pointer_limit}
 use Rattle.records.specs.Message.{Asked, Spelled, owner_at, message, data_of, rrsig_at, ns_data, soa_data, nsec_data}
 use Rattle.denial_data.specs.Rrsig.{rrsig_data}
 use Rattle.records.specs.Written.{Written, message_octets}
 
 abbrev pub NamesReadBack : Type 0
-NamesReadBack = (n : Name) (before behind : List ℕ) → IsName n → owner_at 0 (before ++ (wire n ++ behind)) (length before) ≡ Ok (n, length before + wire_len n)
+NamesReadBack = (n : Name) (before behind : List ℕ) → IsName n → owner_at pointer_limit (before ++ (wire n ++ behind)) (length before) ≡ Ok (n, length before + wire_len n)
 
 -- a question whose fields hold what it says (RFC 1035, 4.1.2)
 pub record IsQuestion (q : Asked) : Type 0 where
@@ -47,7 +48,7 @@ pub record AreSections (answers authority : List Written) : Type 0 where
 
 -- a reading gives the records, and their data as they were written
 pub record ReadsBack (m : List ℕ) (asked : Asked) (records : List Written) : Type 0 where
-  pub reads : message 0 m ≡ Ok (record { asked = asked; records = spelled_from (first_place asked) records })
+  pub reads : message pointer_limit m ≡ Ok (record { asked = asked; records = spelled_from (first_place asked) records })
   pub octets : AllZip (λ s r. data_of m s ≡ r.octets) (spelled_from (first_place asked) records) records
 
 abbrev pub MessagesReadBack : Type 0
@@ -65,14 +66,14 @@ pub record AreFields (f : Fields) : Type 0 where
 -- a signature's data read as its fields, the signer in canonical form, and its octets
 abbrev pub SignaturesReadBack : Type 0
 SignaturesReadBack = (f : Fields) (signature before behind : List ℕ) (r : Spelled) → AreFields f → r.start ≡ length before → r.length ≡ length (rrsig_data f signature)
-    → rrsig_at 0 (before ++ (rrsig_data f signature ++ behind)) r ≡ Some (record f { signer = low f.signer }, signature)
+    → rrsig_at pointer_limit (before ++ (rrsig_data f signature ++ behind)) r ≡ Some (record f { signer = low f.signer }, signature)
 
 -- The data of NS, SOA and NSEC records, written with their names uncompressed, read as their canonical form: the names
 -- of the first two lowered (RFC 4034, 6.2; RFC 6840, 5.1).
 pub record DataReadBack : Type 0 where
   pub ns : (n : Name) (before behind : List ℕ) (r : Spelled) → IsName n → r.start ≡ length before → r.length ≡ length (wire n)
-      → ns_data 0 (before ++ (wire n ++ behind)) r ≡ Some (wire (low n))
+      → ns_data pointer_limit (before ++ (wire n ++ behind)) r ≡ Some (wire (low n))
   pub soa : (mname rname : Name) (numbers before behind : List ℕ) (r : Spelled) → IsName mname → IsName rname → length numbers ≡ 20 → r.start ≡ length before → r.length ≡ length (wire mname ++ wire rname ++ numbers)
-      → soa_data 0 (before ++ (wire mname ++ wire rname ++ numbers ++ behind)) r ≡ Some (wire (low mname) ++ wire (low rname) ++ numbers)
+      → soa_data pointer_limit (before ++ (wire mname ++ wire rname ++ numbers ++ behind)) r ≡ Some (wire (low mname) ++ wire (low rname) ++ numbers)
   pub nsec : (next : Name) (bits before behind : List ℕ) (r : Spelled) → IsName next → is_bitmap bits ≡ true → r.start ≡ length before → r.length ≡ length (wire next ++ bits)
-      → nsec_data 0 (before ++ (wire next ++ bits ++ behind)) r ≡ Some (wire next ++ bits)
+      → nsec_data pointer_limit (before ++ (wire next ++ bits ++ behind)) r ≡ Some (wire next ++ bits)

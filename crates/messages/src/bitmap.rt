@@ -2,7 +2,7 @@
 ghost use Rattle.std.specs.Prelude.{◌≡◌};
 ghost use Rattle.std.specs.Option.{option_map};
 ghost use Rattle.definitions.specs.Bitmap.{is_bitmap, bitmap_has, bit_in};
-ghost use Rattle.messages.specs.Windows.{split, first_window};
+ghost use Rattle.definitions.specs.Windows.{split, first_window};
 
 use records::plain::Rtype;
 

@@ -1,7 +1,9 @@
 //! The data of records within a message (RFC 1035, 3.3; RFC 4034, 3.1 and 4.1), read out of it.
 ghost use Rattle.std.specs.Prelude.{◌≡◌, ◌+◌, ◌<◌, ◌≤◌, length, IfOk, IfSome};
+ghost use Rattle.definitions.specs.Limits.{pointer_limit};
 ghost use Rattle.std.specs.Option.{option_map};
 ghost use Rattle.records.specs.Message.{rrsig_at, nsec_at, canonical_data, ns_data, soa_data, nsec_data, name_upto, pair, quad};
+ghost use Rattle.records.specs.Items.{octets_in};
 ghost use Rattle.records.specs.View.{named};
 
 use crate::bitmap::is_bitmap;
@@ -41,7 +43,8 @@ impl<'a> RrsigView<'a> {
         message: &'a [u8],
         entry: &ViewRecord,
     ) -> Result<Option<RrsigView<'a>>, AllocError>
-        ensures { IfOk result (λ o. option_map signature_of o ≡ rrsig_at 0 message.now (spelled entry.now)) }
+        ensures { IfOk result (λ o.
+            option_map signature_of o ≡ rrsig_at pointer_limit message.now (spelled entry.now)) }
     {
         if entry.length < 18 {
             return Ok(None);
@@ -74,7 +77,8 @@ impl<'a> NsecView<'a> {
         message: &'a [u8],
         entry: &ViewRecord,
     ) -> Result<Option<NsecView<'a>>, AllocError>
-        ensures { IfOk result (λ o. option_map link_of o ≡ nsec_at 0 message.now (spelled entry.now)) }
+        ensures { IfOk result (λ o.
+            option_map link_of o ≡ nsec_at pointer_limit message.now (spelled entry.now)) }
     {
         let end = entry.start + entry.length;
         let Some((next, behind)) = name_in(message, entry.start, end) else {
@@ -98,7 +102,8 @@ impl<'a> ViewRecord<'a> {
         alloc: Global,
         message: &[u8],
     ) -> Result<Option<Vec<u8>>, AllocError>
-        ensures { IfOk result (λ o. option_map (λ v. v.items) o ≡ canonical_data 0 message.now (spelled self.now)) }
+        ensures { IfOk result (λ o.
+            octets_in o ≡ canonical_data pointer_limit message.now (spelled self.now)) }
     {
         match self.rtype.to_int() {
             2 => self.ns_data(alloc, message),
@@ -110,7 +115,8 @@ impl<'a> ViewRecord<'a> {
 
     /// The canonical data of an NS record (RFC 1035, 3.3.11).
     fn ns_data(&self, alloc: Global, message: &[u8]) -> Result<Option<Vec<u8>>, AllocError>
-        ensures { IfOk result (λ o. option_map (λ v. v.items) o ≡ ns_data 0 message.now (spelled self.now)) }
+        ensures { IfOk result (λ o.
+            octets_in o ≡ ns_data pointer_limit message.now (spelled self.now)) }
     {
         let end = self.start + self.length;
         let Some((name, behind)) = name_in(message, self.start, end) else {
@@ -126,7 +132,8 @@ impl<'a> ViewRecord<'a> {
 
     /// The canonical data of an SOA record (RFC 1035, 3.3.13).
     fn soa_data(&self, alloc: Global, message: &[u8]) -> Result<Option<Vec<u8>>, AllocError>
-        ensures { IfOk result (λ o. option_map (λ v. v.items) o ≡ soa_data 0 message.now (spelled self.now)) }
+        ensures { IfOk result (λ o.
+            octets_in o ≡ soa_data pointer_limit message.now (spelled self.now)) }
     {
         let end = self.start + self.length;
         let Some((mname, middle)) = name_in(message, self.start, end) else {
@@ -147,7 +154,8 @@ impl<'a> ViewRecord<'a> {
 
     /// The canonical data of an NSEC record, whose next name isn't lowered (RFC 6840, 5.1).
     fn nsec_data(&self, alloc: Global, message: &[u8]) -> Result<Option<Vec<u8>>, AllocError>
-        ensures { IfOk result (λ o. option_map (λ v. v.items) o ≡ nsec_data 0 message.now (spelled self.now)) }
+        ensures { IfOk result (λ o.
+            octets_in o ≡ nsec_data pointer_limit message.now (spelled self.now)) }
     {
         let Some(link) = NsecView::read(alloc, message, self)? else {
             return Ok(None);
@@ -161,8 +169,9 @@ impl<'a> ViewRecord<'a> {
 
 /// The name at a place of a message and the place behind it, where that is no further than a limit.
 fn name_in(message: &[u8], start: usize, limit: usize) -> Option<(ParsedName<'_>, usize)>
-    ensures value { option_map (λ r. named r.0 r.1) result ≡ name_upto 0 message.now start limit }
-    ensures inside { IfSome result (λ r. (start < r.1) × (r.1 ≤ limit) × (r.1 ≤ length message.now)) }
+    ensures value { option_map (λ r. named r.0 r.1) result ≡ name_upto pointer_limit message.now start limit }
+    ensures inside { IfSome result (λ r.
+        (start < r.1) × (r.1 ≤ limit) × (r.1 ≤ length message.now)) }
 {
     let (name, end) = ParsedName::parse(message, start).ok()?;
     (end <= limit).then_some((name, end))

@@ -1,5 +1,6 @@
 //! Messages read in place (RFC 1035, 4.1): one question, and the records of all sections in order.
 ghost use Rattle.std.specs.Prelude.{◌≡◌, ℕ, ◌+◌, ◌<◌, ◌≤◌, ◌^◌, length, IsOk, MatchResult};
+ghost use Rattle.definitions.specs.Limits.{pointer_limit};
 ghost use Rattle.std.specs.Iterator.{YieldsFirstBy, item_count};
 ghost use Rattle.records.specs.Message.{message, record_at, records_at};
 ghost use Rattle.records.specs.View.{Gives, placed};
@@ -28,7 +29,7 @@ impl<'a> ViewRecord<'a> {
 
     /// The record at a place and the place behind it.
     fn read(bytes: &'a [u8], at: usize) -> Result<(ViewRecord<'a>, usize), MessageError>
-        ensures { Gives (λ r. placed (spelled r.0) r.1) result (record_at 0 bytes.now at) }
+        ensures { Gives (λ r. placed (spelled r.0) r.1) result (record_at pointer_limit bytes.now at) }
     {
         let (owner, end) = ParsedName::parse(bytes, at)?;
         let rtype = u16_at(bytes, end)?;
@@ -63,14 +64,19 @@ pub struct MessageView<'a> {
 
 impl<'a> Model for MessageView<'a> {
     ghost use Rattle.std.specs.Prelude.{IsOk};
+    ghost use Rattle.definitions.specs.Limits.{pointer_limit};
     ghost use Rattle.records.specs.Message.{Message, records_at};
     ghost use Rattle.records.specs.View.{name_read, records_read, NameReads};
 
     ghost Value = { Message };
 
-    ghost view = { λ v. record { asked = record { name = name_read v.bytes.now 12; rtype = v.rtype; class = v.class }; records = records_read v.count v.bytes.now v.first } };
+    ghost view = { λ v. record {
+      asked = record { name = name_read v.bytes.now 12; rtype = v.rtype; class = v.class };
+      records = records_read v.count v.bytes.now v.first;
+    } };
 
-    ghost invariant = { λ v. NameReads v.bytes.now 12 × IsOk (records_at v.count 0 v.bytes.now v.first) };
+    ghost invariant = { λ v. NameReads v.bytes.now 12
+        × IsOk (records_at v.count pointer_limit v.bytes.now v.first) };
 }
 
 impl<'a> MessageView<'a> {
@@ -109,6 +115,7 @@ pub struct Records<'a> {
 
 impl<'a> Model for Records<'a> {
     ghost use Rattle.std.specs.Prelude.{IsOk, List};
+    ghost use Rattle.definitions.specs.Limits.{pointer_limit};
     ghost use Rattle.records.specs.Message.{Spelled, records_at};
     ghost use Rattle.records.specs.View.{records_read};
 
@@ -116,7 +123,7 @@ impl<'a> Model for Records<'a> {
 
     ghost view = { λ r. records_read r.left r.bytes.now r.at };
 
-    ghost invariant = { λ r. IsOk (records_at r.left 0 r.bytes.now r.at) };
+    ghost invariant = { λ r. IsOk (records_at r.left pointer_limit r.bytes.now r.at) };
 }
 
 impl<'a> Iterator for Records<'a> {
@@ -142,7 +149,7 @@ impl<'a> Iterator for Records<'a> {
 /// Reads a message in place; it takes no memory. The header's flags and octets behind the last counted
 /// record are passed over.
 pub fn read_message(bytes: &[u8]) -> Result<MessageView<'_>, MessageError>
-    ensures { Gives (λ v. v) result (message 0 bytes.now) }
+    ensures { Gives (λ v. v) result (message pointer_limit bytes.now) }
 {
     let questions = u16_at(bytes, 4)?;
     let answers = u16_at(bytes, 6)?;
@@ -167,7 +174,8 @@ pub fn read_message(bytes: &[u8]) -> Result<MessageView<'_>, MessageError>
 
 /// Reads so many records from a place on.
 fn read_records(bytes: &[u8], first: usize, count: usize) -> Result<(), MessageError>
-    ensures { MatchResult result (λ _. IsOk (records_at count 0 bytes.now first)) (λ e. records_at count 0 bytes.now first ≡ Err e) }
+    ensures { let read = records_at count pointer_limit bytes.now first in
+        MatchResult result (λ _. IsOk read) (λ e. read ≡ Err e) }
 {
     let mut at = first;
     for _ in 0..count {

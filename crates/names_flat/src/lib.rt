@@ -7,7 +7,7 @@ pub mod display;
 mod from_text;
 pub mod laws;
 pub mod name;
-mod name_order;
+pub mod name_order;
 mod parts;
 pub mod relative;
 mod relative_order;

@@ -64,7 +64,7 @@ impl<Octs: Octets> Hash for Name<Octs> {
 }
 
 /// Feeds each label's length and lowered octets.
-pub(crate) fn feed_labels<N: ToLabelIter, H: Hasher>(name: &N, state: &mut H)
+pub fn feed_labels<N: ToLabelIter, H: Hasher>(name: &N, state: &mut H)
     ensures { state.new ≡ fold H.write state.old (labels_feed (N.labels name.now)) }
 {
     let mut labels = name.iter_labels();

@@ -1,7 +1,8 @@
 //! Parts of names: views over their octets, cut where labels begin.
 
 ghost use Rattle.std.specs.Prelude.{◌≡◌, ◌≤◌, ◌↔◌, ◌++◌, ◌∷◌, [], length, drop, slice_range, IsTrue, IfSome, IsNone, MatchOption};
-ghost use Rattle.definitions.specs.Name.{wire};
+ghost use Rattle.definitions.specs.Name.{at_or_above, wire};
+ghost use Rattle.names_labels.specs.Compare.{begins_with};
 ghost use Rattle.names_wire.specs.Label.{octets_of};
 ghost use Rattle.names_labels.specs.Flat.{spelled, StartsLabel, SpellsName, SpellsRelative};
 
@@ -9,6 +10,7 @@ use crate::name::Name;
 use crate::relative::RelativeName;
 use names_labels::flat;
 use names_labels::iter::NameIter;
+use names_labels::traits::{Labels, ToLabelIter};
 use names_wire::label::Label;
 use names_wire::octets::Octets;
 
@@ -18,6 +20,20 @@ impl<Octs: Octets> Name<Octs> {
         ensures { result ≡ self.now ++ [] ∷ [] }
     {
         NameIter::over(self.run())
+    }
+
+    /// Whether the labels begin with those of another name, up to ASCII case.
+    pub fn starts_with<N: Labels>(&self, base: &N) -> bool
+        ensures { result ≡ begins_with (self.now ++ [] ∷ []) (N.labels base.now) }
+    {
+        ToLabelIter::starts_with(self, base)
+    }
+
+    /// Whether the labels end with those of another name, up to ASCII case.
+    pub fn ends_with<N: Labels>(&self, base: &N) -> bool
+        ensures { result ≡ at_or_above (N.labels base.now) (self.now ++ [] ∷ []) }
+    {
+        ToLabelIter::ends_with(self, base)
     }
 
     /// Whether a label begins at a place of the octets, the root's included.
@@ -93,6 +109,20 @@ impl<Octs: Octets> RelativeName<Octs> {
         ensures { result ≡ self.now }
     {
         NameIter::over(self.run())
+    }
+
+    /// Whether the labels begin with those of another name, up to ASCII case.
+    pub fn starts_with<N: Labels>(&self, base: &N) -> bool
+        ensures { result ≡ begins_with self.now (N.labels base.now) }
+    {
+        ToLabelIter::starts_with(self, base)
+    }
+
+    /// Whether the labels end with those of another name, up to ASCII case.
+    pub fn ends_with<N: Labels>(&self, base: &N) -> bool
+        ensures { result ≡ at_or_above (N.labels base.now) self.now }
+    {
+        ToLabelIter::ends_with(self, base)
     }
 
     /// Whether a label begins at a place of the octets, or the last one ends there.

@@ -1,2 +1,3 @@
 pub mod Composed
 pub mod DottedTexts
+pub mod Chained

@@ -1,8 +1,10 @@
 //! What any two relative names have in common, however they are kept.
 
-ghost use Rattle.std.specs.Prelude.{◌≡◌, ◌==◌, length, IfOk};
+ghost use Rattle.std.specs.Prelude.{◌≡◌, ◌↔◌, ◌+◌, ◌<◌, ◌==◌, length, IfOk, IsErr};
+ghost use Rattle.names_labels.specs.Flat.{spelled};
 ghost use Rattle.definitions.specs.Name.{low, same, name_cmp};
 
+use crate::chain::{Chain, ChainEnd, LongChainError};
 use names_flat::builder::{Finish, NameBuilder};
 use names_flat::relative::RelativeName;
 use names_labels::order::labels_cmp;
@@ -83,6 +85,17 @@ pub trait ToRelativeName: Relative {
         ensures { IfOk result (λ n. n ≡ low (Self.labels self.now)) }
     {
         self.to_canonical_relative_name(alloc)
+    }
+
+    /// The name in front of another: at most 254 octets before the root's.
+    fn chain<N: ChainEnd>(self, suffix: N) -> Result<Chain<Self, N>, LongChainError>
+    where
+        Self: Sized + Drop,
+        N: Drop,
+        ensures ok { IfOk result (λ c. c ≡ record { left = Self.labels self; right = suffix }) }
+        ensures long { IsErr result ↔ (254 < length (spelled (Self.labels self)) + length (spelled (N.name suffix))) }
+    {
+        Chain::new(self, suffix)
     }
 
     /// The name over octets that may be borrowed or owned: here a copy.

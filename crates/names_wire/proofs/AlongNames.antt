@@ -16,13 +16,13 @@ use Rattle.names_wire.proofs.Along.{along_root, along_label, row_err, onto}
 -- ---- octets from a place on
 
 -- where an octet stands, the octets from there on begin with it
-drop_at : (m : List ℕ) (p b : ℕ) → slice_get m p ≡ Some b → drop p m ≡ b ∷ drop (p + 1) m
+pub drop_at : (m : List ℕ) (p b : ℕ) → slice_get m p ≡ Some b → drop p m ≡ b ∷ drop (p + 1) m
 drop_at [] p b h = cc
 drop_at (x ∷ m) zero b h = let e : x ≡ b = cc in ap (λ y. y ∷ m) e
 drop_at (x ∷ m) (suc p) b h = let e : suc (p + 1) ≡ suc p + 1 = omega arith in drop_at m p b h ∙ ap (λ q. b ∷ drop q (x ∷ m)) e
 
 -- and the other way round
-at_drop : (m : List ℕ) (p b : ℕ) (rest : List ℕ) → drop p m ≡ b ∷ rest → (slice_get m p ≡ Some b) × (rest ≡ drop (p + 1) m)
+pub at_drop : (m : List ℕ) (p b : ℕ) (rest : List ℕ) → drop p m ≡ b ∷ rest → (slice_get m p ≡ Some b) × (rest ≡ drop (p + 1) m)
 at_drop [] zero b rest h = cc
 at_drop [] (suc p) b rest h = cc
 at_drop (x ∷ m) zero b rest h = let e : x ≡ b = cc in let f : m ≡ rest = cc in (ap Some e, sym f)
@@ -43,7 +43,7 @@ Found = Result (List ℕ × List ℕ) SplitLabelError
 abbrev found : ℕ → List ℕ → Bool → Bool → Found
 found n bs short fits = cond short (cond fits (Ok (take n bs, drop n bs)) (Err ShortInput)) (Err (no_length n bs))
 
-split_label : (m : List ℕ) (p n : ℕ) → slice_get m p ≡ Some n → n ≤ 63 → p + 1 + n ≤ length m → split (drop p m) ≡ Ok (slice_range m (p + 1) (p + 1 + n), drop (p + 1 + n) m)
+pub split_label : (m : List ℕ) (p n : ℕ) → slice_get m p ≡ Some n → n ≤ 63 → p + 1 + n ≤ length m → split (drop p m) ≡ Ok (slice_range m (p + 1) (p + 1 + n), drop (p + 1 + n) m)
 split_label m p n h short inside =
     let bs : List ℕ = drop (p + 1) m in
     let room : n ≤ length bs = omega (arith, length-drop (p + 1) m) in
@@ -51,7 +51,7 @@ split_label m p n h short inside =
     ∙ (λ i. found n bs (le-leb n 63 short i) (le-leb n (length bs) room i))
     ∙ (λ i. Ok (sym (range_drop m p n) i, drop-drop n (p + 1) m i))
 
-split_root : (m : List ℕ) (p : ℕ) → slice_get m p ≡ Some 0 → split (drop p m) ≡ Ok ([], drop (p + 1) m)
+pub split_root : (m : List ℕ) (p : ℕ) → slice_get m p ≡ Some 0 → split (drop p m) ≡ Ok ([], drop (p + 1) m)
 split_root m p h =
     let bs : List ℕ = drop (p + 1) m in
     ap split (drop_at m p 0 h) ∙ (λ i. found 0 bs (le-leb 0 63 (omega arith) i) (le-leb 0 (length bs) (omega arith) i))
@@ -60,7 +60,7 @@ split_root m p h =
 abbrev unlike : ℕ → List ℕ → Bool → Bool → SplitLabelError
 unlike n bs extended undefined = cond extended (BadType (Extended n)) (cond undefined (BadType Undefined) (pointer_to n bs))
 
-split_pointer : (m : List ℕ) (p high low : ℕ) → slice_get m p ≡ Some high → 192 ≤ high → slice_get m (p + 1) ≡ Some low → split (drop p m) ≡ Err (Pointer ((high - 192) * 256 + low))
+pub split_pointer : (m : List ℕ) (p high low : ℕ) → slice_get m p ≡ Some high → 192 ≤ high → slice_get m (p + 1) ≡ Some low → split (drop p m) ≡ Err (Pointer ((high - 192) * 256 + low))
 split_pointer m p high low h some g =
     let bs : List ℕ = drop (p + 1) m in
     ap split (drop_at m p high h)
@@ -103,12 +103,12 @@ along_reads {m} {p} (pointer {k = k} {high = high} {low = low} {to = to} h a b c
 -- ---- what is along the row stands there
 
 -- a label that was split off there
-record Cut (m : List ℕ) (p : ℕ) (l rest : List ℕ) : Type 0 where
-  head : slice_get m p ≡ Some (length l)
-  short : length l ≤ 63
-  inside : p + 1 + length l ≤ length m
-  octets : l ≡ slice_range m (p + 1) (p + 1 + length l)
-  behind : rest ≡ drop (p + 1 + length l) m
+pub record Cut (m : List ℕ) (p : ℕ) (l rest : List ℕ) : Type 0 where
+  pub head : slice_get m p ≡ Some (length l)
+  pub short : length l ≤ 63
+  pub inside : p + 1 + length l ≤ length m
+  pub octets : l ≡ slice_range m (p + 1) (p + 1 + length l)
+  pub behind : rest ≡ drop (p + 1 + length l) m
 
 cut_here : (m : List ℕ) (p n : ℕ) (bs l rest : List ℕ) → drop p m ≡ n ∷ bs → n ≤ 63 → n ≤ length bs → l ≡ take n bs → rest ≡ drop n bs → Cut m p l rest
 cut_here m p n bs l rest e short room is after =
@@ -130,7 +130,7 @@ first_part r s d h i = elim (h i) as (λ _. List ℕ) [ Ok x ↦ x.0 | Err e ↦
 last_part : (r s : Found) (d : List ℕ × List ℕ) → r ≡ s → elim r as (λ _. List ℕ) [ Ok x ↦ x.1 | Err e ↦ d.1 ] ≡ elim s as (λ _. List ℕ) [ Ok x ↦ x.1 | Err e ↦ d.1 ]
 last_part r s d h i = elim (h i) as (λ _. List ℕ) [ Ok x ↦ x.1 | Err e ↦ d.1 ]
 
-cut_of : (m : List ℕ) (p : ℕ) (l rest : List ℕ) → split (drop p m) ≡ Ok (l, rest) → Cut m p l rest
+pub cut_of : (m : List ℕ) (p : ℕ) (l rest : List ℕ) → split (drop p m) ≡ Ok (l, rest) → Cut m p l rest
 cut_of m p l rest h = go (drop p m) refl h
   where
     known : (n : ℕ) (bs : List ℕ) (s t : Bool) → drop p m ≡ n ∷ bs → nat_le n 63 ≡ s → nat_le n (length bs) ≡ t → found n bs s t ≡ Ok (l, rest) → Cut m p l rest
@@ -145,15 +145,15 @@ cut_of m p l rest h = go (drop p m) refl h
     go (n ∷ bs) e k = known n bs (nat_le n 63) (nat_le n (length bs)) e refl refl k
 
 -- a pointer that stands there
-record Points (m : List ℕ) (p to : ℕ) : Type 0 where
-  high : ℕ
-  low : ℕ
-  first : slice_get m p ≡ Some high
-  large : 192 ≤ high
-  second : slice_get m (p + 1) ≡ Some low
-  leads : to ≡ (high - 192) * 256 + low
+pub record Points (m : List ℕ) (p to : ℕ) : Type 0 where
+  pub high : ℕ
+  pub low : ℕ
+  pub first : slice_get m p ≡ Some high
+  pub large : 192 ≤ high
+  pub second : slice_get m (p + 1) ≡ Some low
+  pub leads : to ≡ (high - 192) * 256 + low
 
-points_of : (m : List ℕ) (p to : ℕ) → split (drop p m) ≡ Err (Pointer to) → Points m p to
+pub points_of : (m : List ℕ) (p to : ℕ) → split (drop p m) ≡ Err (Pointer to) → Points m p to
 points_of m p to h = go (drop p m) refl h
   where
     pointed : (n : ℕ) (bs xs : List ℕ) → drop p m ≡ n ∷ bs → 192 ≤ n → bs ≡ xs → (let e : Found = Err (pointer_to n xs) in e) ≡ Err (Pointer to) → Points m p to

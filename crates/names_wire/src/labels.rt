@@ -107,7 +107,7 @@ fn pointer_at(octets: &[u8], place: usize) -> Option<usize>
 }
 
 /// The label at a place, and what stands behind it.
-fn label_at(octets: &[u8], place: usize) -> Result<(Label<'_>, &[u8]), SplitLabelError>
+pub fn label_at(octets: &[u8], place: usize) -> Result<(Label<'_>, &[u8]), SplitLabelError>
     requires { place ≤ length octets.now }
     ensures { MatchResult result (λ found. split (drop place octets.now) ≡ Ok (octets_of found.0, found.1.now)) (λ e. split (drop place octets.now) ≡ Err e) }
 {

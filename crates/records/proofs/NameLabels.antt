@@ -9,6 +9,7 @@ use Rattle.std.proofs.lemmas.Slice.Eq.{bytes_eq-Decides}
 use Rattle.std.proofs.lemmas.Bool.{le-leb, lt-ltb, ltb-true, leb-true, cases_eq, cases_lt}
 use Rattle.std.proofs.lemmas.List.{length-take-le, append-nil, drop_all}
 use Rattle.definitions.specs.Name.{Name, Label, IsLabel, IsName, wire_len, same}
+use Rattle.definitions.specs.Limits.{pointer_limit}
 use Rattle.records.specs.declared.message.MessageError.{MessageError}
 use Rattle.records.specs.Message.{owner_at, if_true}
 use Rattle.records.specs.View.{name_read, NameReads}
@@ -137,7 +138,7 @@ reads_at (Err f) h = cc
 
 -- a place where a name reads
 pub name_walk : (m : List ℕ) (p : ℕ) → NameReads m p → (e : ℕ) × (walk 128 255 m p ≡ Ok (name_read m p, e))
-name_walk m p h = let r = reads_at (owner_at 0 m p) h in (r.0, sym (owner-walk m p) ∙ r.1)
+name_walk m p h = let r = reads_at (owner_at pointer_limit m p) h in (r.0, sym (owner-walk m p) ∙ r.1)
 
 pub name_is : (m : List ℕ) (p : ℕ) → NameReads m p → IsName (name_read m p)
 name_is m p h = let w = name_walk m p h in let n = walk_name 128 255 m p (name_read m p) w.0 w.1 (omega arith) in record { labels = n.0; short = n.1 }

@@ -4,6 +4,7 @@ use Rattle.std.specs.Prelude.{slice_get, slice_range}
 use Rattle.std.proofs.lemmas.Bool.{le-leb, lt-leb, ne_eqb}
 use Rattle.definitions.specs.Name.{Name, Label}
 use Rattle.definitions.specs.Reading.{ReadFault, Short, Malformed, Run, AtRoot, To, most_heads, run_at, with_label}
+use Rattle.definitions.specs.Limits.{pointer_limit}
 use Rattle.records.specs.declared.message.MessageError.{MessageError}
 use Rattle.records.specs.declared.message.MessageError.TheVariants.{ShortInput, Form}
 use Rattle.records.specs.Message.{owner_at, fault_of}
@@ -125,8 +126,8 @@ joined (Ok r) h = λ t. faulted (both (elim (h t) as (λ _. Result Name ReadFaul
 joined (Err f) h = refl
 
 -- a name is read by a walk
-owner-flat : (m : List ℕ) (p : ℕ) → owner_at 0 m p ≡ flat_run (run_at most_heads 0 255 m p)
-unfolding owner_at
+owner-flat : (m : List ℕ) (p : ℕ) → owner_at pointer_limit m p ≡ flat_run (run_at most_heads 0 255 m p)
+unfolding owner_at pointer_limit
 owner-flat m p = joined (run_at most_heads 0 255 m p) (ends_at_root most_heads 255 m p)
 
 heads_are : most_heads ≡ 128
@@ -137,7 +138,7 @@ flat-walk : (h room : ℕ) (m : List ℕ) (p : ℕ) → flat_run (run_at h 0 roo
 unfolding walk
 flat-walk h room m p = refl
 
-pub owner-walk : (m : List ℕ) (p : ℕ) → owner_at 0 m p ≡ walk 128 255 m p
+pub owner-walk : (m : List ℕ) (p : ℕ) → owner_at pointer_limit m p ≡ walk 128 255 m p
 owner-walk m p = owner-flat m p ∙ flat-walk most_heads 255 m p ∙ ap (λ h. walk h 255 m p) heads_are
 
 pub behind_label : (h room : ℕ) (m : List ℕ) (p n q : ℕ) → slice_get m p ≡ Some n → 0 < n → n ≤ 63 → p + 1 + n ≤ length m → n + 2 ≤ room → p + 1 + n ≡ q → behind_walk (walk (suc h) room m p) ≡ behind_walk (walk h (room - (n + 1)) m q)
@@ -155,11 +156,11 @@ behind_err (Ok r) e h = cc
 behind_err (Err f) e h = let k : f ≡ e = cc in λ t. Err (k t)
 
 -- the name at a place and the place behind it, from the place alone
-pub owner_ok : (m : List ℕ) (p e : ℕ) → behind_walk (walk 128 255 m p) ≡ Ok e → owner_at 0 m p ≡ Ok (name_read m p, e)
-owner_ok m p e h = behind_ok (owner_at 0 m p) e (ap behind_walk (owner-walk m p) ∙ h)
+pub owner_ok : (m : List ℕ) (p e : ℕ) → behind_walk (walk 128 255 m p) ≡ Ok e → owner_at pointer_limit m p ≡ Ok (name_read m p, e)
+owner_ok m p e h = behind_ok (owner_at pointer_limit m p) e (ap behind_walk (owner-walk m p) ∙ h)
 
-pub owner_err : (m : List ℕ) (p : ℕ) (e : MessageError) → behind_walk (walk 128 255 m p) ≡ Err e → owner_at 0 m p ≡ Err e
-owner_err m p e h = behind_err (owner_at 0 m p) e (ap behind_walk (owner-walk m p) ∙ h)
+pub owner_err : (m : List ℕ) (p : ℕ) (e : MessageError) → behind_walk (walk 128 255 m p) ≡ Err e → owner_at pointer_limit m p ≡ Err e
+owner_err m p e h = behind_err (owner_at pointer_limit m p) e (ap behind_walk (owner-walk m p) ∙ h)
 
-pub reads_ok : (m : List ℕ) (p : ℕ) (r : Name × ℕ) → owner_at 0 m p ≡ Ok r → NameReads m p
+pub reads_ok : (m : List ℕ) (p : ℕ) (r : Name × ℕ) → owner_at pointer_limit m p ≡ Ok r → NameReads m p
 reads_ok m p r h = ap is_ok h

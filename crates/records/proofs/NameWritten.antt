@@ -4,6 +4,7 @@ use Rattle.std.specs.Prelude.{slice_get, slice_range}
 use Rattle.std.specs.List.{AllByRecursion, flat_map}
 use Rattle.std.proofs.lemmas.List.{drop_at, take_at}
 use Rattle.definitions.specs.Name.{Name, Label, IsLabel, IsName, wire, wire_len}
+use Rattle.definitions.specs.Limits.{pointer_limit}
 use Rattle.records.specs.Message.{owner_at}
 use Rattle.records.specs.Walk.{walk}
 use Rattle.records.proofs.NameLaws.{wire_len-cons, wire_len-some, few_labels}
@@ -44,6 +45,6 @@ walk_wire (l ∷ n) (suc h) room pre post m p all fits few e s =
     ∙ ap (λ b. Ok (l ∷ n, b)) (omega (arith, w))
 
 -- a name at a place, whatever stands before and behind it
-pub owner_wire : (n : Name) (pre post m : List ℕ) (p : ℕ) → IsName n → m ≡ pre ++ (wire n ++ post) → p ≡ length pre → owner_at 0 m p ≡ Ok (n, p + wire_len n)
+pub owner_wire : (n : Name) (pre post m : List ℕ) (p : ℕ) → IsName n → m ≡ pre ++ (wire n ++ post) → p ≡ length pre → owner_at pointer_limit m p ≡ Ok (n, p + wire_len n)
 owner_wire n pre post m p name e s =
     owner-walk m p ∙ walk_wire n 128 255 pre post m p name.labels name.short (omega (arith, few_labels n name)) e s

@@ -9,3 +9,4 @@ pub mod Handed
 pub mod Star
 pub mod HandedRr
 pub mod Neighbours
+pub mod Items

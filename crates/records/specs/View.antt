@@ -1,6 +1,7 @@
 -- What readings of a message give, as contracts see it.
 use Rattle.std.specs.Prelude.{◌≡◌, ℕ, List, [], Result, Ok, Err, IsOk}
 use Rattle.definitions.specs.Name.{Name}
+use Rattle.definitions.specs.Limits.{pointer_limit}
 use Rattle.records.specs.declared.message.MessageError.{MessageError}
 use Rattle.records.specs.Message.{Spelled, owner_at, records_at}
 
@@ -19,12 +20,12 @@ placed r p = (r, p)
 
 -- the labels that stand at a place
 abbrev pub name_read : List ℕ → ℕ → Name
-name_read m p = elim (owner_at 0 m p) [ Ok r ↦ r.0 | Err e ↦ [] ]
+name_read m p = elim (owner_at pointer_limit m p) [ Ok r ↦ r.0 | Err e ↦ [] ]
 
 -- so many records from a place on
 abbrev pub records_read : ℕ → List ℕ → ℕ → List Spelled
-records_read n m p = elim (records_at n 0 m p) [ Ok rs ↦ rs | Err e ↦ [] ]
+records_read n m p = elim (records_at n pointer_limit m p) [ Ok rs ↦ rs | Err e ↦ [] ]
 
 -- a name reads at a place
 abbrev pub NameReads : List ℕ → ℕ → Type 0
-NameReads m p = IsOk (owner_at 0 m p)
+NameReads m p = IsOk (owner_at pointer_limit m p)

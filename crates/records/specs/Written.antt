@@ -14,6 +14,9 @@ pub record Written : Type 0 where
   pub ttl : ℕ
   pub octets : List ℕ
 
+abbrev pub written : Name → ℕ → ℕ → ℕ → List ℕ → Written
+written owner t class ttl octets = record { owner = owner; rtype = t; class = class; ttl = ttl; octets = octets }
+
 -- id 0, the flags, one question, and the records of the answer and authority sections; no additional ones (RFC 1035, 4.1.1)
 unfoldable pub header_octets : ℕ → ℕ → ℕ → List ℕ
 header_octets flags answers authority =

@@ -4,7 +4,8 @@ ghost use Rattle.std.specs.Option.{option_map};
 ghost use Rattle.std.specs.Ordering.{nat_cmp};
 ghost use Rattle.std.specs.Cmp.Lexicographic.{slice_cmp};
 ghost use Rattle.std.specs.Str.{str_to_ascii_lowercase};
-ghost use Rattle.definitions.specs.Name.{wire, wire_len, low, same, at_or_above, strictly_above, name_cmp, IsName};
+ghost use Rattle.records.specs.Items.{items_of};
+ghost use Rattle.definitions.specs.Name.{label_cmp, wire, wire_len, low, same, at_or_above, strictly_above, name_cmp, IsName};
 ghost use Rattle.definitions.specs.Signing.{label_count};
 ghost use Rattle.definitions.specs.Zone.{star_under};
 ghost use Rattle.records.specs.Star.{begins_with_star};
@@ -261,7 +262,7 @@ fn push_lowered(out: &mut Vec<u8>, octets: &[u8]) -> Result<(), AllocError>
 
 /// Adds copies of labels at the end.
 fn push_labels(alloc: Global, labels: &mut Vec<Vec<u8>>, from: &[Vec<u8>]) -> Result<(), AllocError>
-    ensures { OnOk result (map (λ v. v.items) labels.new.items ≡ map (λ v. v.items) labels.old.items ++ map (λ v. v.items) from.now) }
+    ensures { OnOk result (items_of labels.new.items ≡ items_of labels.old.items ++ items_of from.now) }
 {
     for label in from {
         labels.push(Vec::from_slice(alloc, label)?)?;
@@ -271,7 +272,7 @@ fn push_labels(alloc: Global, labels: &mut Vec<Vec<u8>>, from: &[Vec<u8>]) -> Re
 
 /// Two labels octet by octet, letters lowered.
 fn lowered_cmp(a: &[u8], b: &[u8]) -> Ordering
-    ensures { result ≡ slice_cmp nat_cmp (str_to_ascii_lowercase a.now) (str_to_ascii_lowercase b.now) }
+    ensures { result ≡ label_cmp a.now b.now }
 {
     for index in 0..a.len().min(b.len()) {
         let order = a[index]

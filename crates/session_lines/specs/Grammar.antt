@@ -7,10 +7,10 @@ use Rattle.definitions.specs.Name.{Name, wire, low}
 use Rattle.definitions.specs.Text.{name_of_text}
 use Rattle.records.specs.HandedRr.{HandedRr}
 use Rattle.answer.specs.Bindings.{Call, Add, Start, Report1, Wait1, Report2, Wait2, Finish}
-use Rattle.keyset.specs.KeyTexts.{read_roll}
+use Rattle.keyset.specs.Actions.{read_roll}
 use Rattle.records.specs.Message.{Asked, owner_at}
 use Rattle.records.specs.NameOctets.{name_of_octets}
-use Rattle.keyset.specs.declared.rolls.RollType.{RollType}
+use Rattle.keyset_rolls.specs.declared.rolls.RollType.{RollType}
 use Rattle.answer.specs.declared.publisher.keys.KeyKind.{KeyKind}
 use Rattle.answer.specs.declared.publisher.keys.KeyKind.TheVariants.{Ksk, Zsk}
 use Rattle.session_lines.specs.Fields.{is_nothing, hex_field, key_field, is_reference}
@@ -187,7 +187,7 @@ soa_field octets mname rname front =
     then Some (record { is_unknown = false; written = wire mname ++ wire rname ++ drop front octets; bytes = wire (low mname) ++ wire (low rname) ++ drop front octets })
     else None
 
--- two names and five numbers of 32 bits (RFC 1035, 3.3.13)
+-- two names without pointers, and five numbers of 32 bits (RFC 1035, 3.3.13)
 abbrev pub soa_octets : List ℕ → Option DataField
 soa_octets octets = do
   m ← result_ok (owner_at 0 octets 0)

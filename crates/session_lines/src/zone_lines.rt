@@ -122,6 +122,7 @@ fn read_rdata(alloc: Global, rtype: Rtype, octets: Vec<u8>) -> Result<ZoneRecord
 }
 
 /// Two names and five numbers of 32 bits (RFC 1035, 3.3.13).
+#[tactic(auto, unfolding(definitions::specs::Limits::pointer_limit))]
 fn read_soa(alloc: Global, octets: &[u8]) -> Result<Soa, LineError>
     ensures { Reads (λ s. data_view (ZoneRecordData.Soa s)) result (soa_octets octets.now) }
 {

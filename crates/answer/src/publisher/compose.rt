@@ -6,7 +6,8 @@ ghost use Rattle.answer.specs.Answering.{ahead_of_records};
 ghost use Rattle.messages.specs.Questions.{asked_of};
 ghost use Rattle.answer_judge.specs.declared.scheme.SchemeError.TheVariants as error;
 ghost use Rattle.records.specs.Written.{record_octets};
-ghost use Rattle.answer.specs.Composed.{HasRoom, IsAnswer, IsSection, RefusesGroups, RefusesRecords, record_of};
+ghost use Rattle.answer.specs.Composed.{HasRoom, IsAnswer, IsSection, RefusesGroups, RefusesRecords, rrsig_of};
+ghost use Rattle.answer_zone.specs.Served.{written_rr};
 
 use crate::publisher::fault::AnswerFault;
 use crate::publisher::signing::{SignatureTerms, sign_group};
@@ -15,8 +16,8 @@ use answer_zone::group::RrGroup;
 use denial_data::dnskey::Dnskey;
 use messages::question::Question;
 use records::message::write::{push_header, push_question, push_record};
-use records::names::Octets;
-use records::plain::{Class, Rtype};
+use records::names::{Name, Octets};
+use records::plain::{Class, Rtype, Ttl};
 use std::alloc::{AllocError, Global};
 
 /// The octets of a longest message (RFC 1035, 4.2.2).
@@ -74,8 +75,8 @@ fn write_section<S: Scheme, Octs: Octets>(
     };
     for group in groups {
         let signatures = signatures_of(alloc, scheme, terms, group, keys)?;
-        section.push_records(group, group.rtype(), group.written())?;
-        section.push_records(group, Rtype::RRSIG, &signatures)?;
+        section.push_records(group)?;
+        section.push_signatures(group, &signatures)?;
     }
     Ok(section)
 }
@@ -98,29 +99,38 @@ fn signatures_of<S: Scheme, Octs: Octets>(
 }
 
 impl Section {
-    /// Writes records of one type at the owner of an RRset.
-    fn push_records(
-        &mut self,
-        group: &RrGroup,
-        rtype: Rtype,
-        datas: &[Vec<u8>],
-    ) -> Result<(), AnswerFault>
-        ensures refused { IfErr result (RefusesRecords self.old.octets.items self.old.count (map (record_of group.now rtype) (map (λ d. d.items) datas.now))) }
+    /// Writes the records of an RRset, each with its own owner and TTL.
+    fn push_records(&mut self, group: &RrGroup) -> Result<(), AnswerFault>
+        ensures refused { IfErr result (RefusesRecords self.old.octets.items self.old.count group.now.written) }
         ensures room { OnOk result (HasRoom self.old.octets.items self.old.count → HasRoom self.new.octets.items self.new.count) }
-        ensures octets { OnOk result (self.new.octets.items ≡ self.old.octets.items ++ flat_map record_octets (map (record_of group.now rtype) (map (λ d. d.items) datas.now))) }
-        ensures count { OnOk result (self.new.count ≡ self.old.count + length datas.now) }
+        ensures octets { OnOk result (self.new.octets.items ≡ self.old.octets.items ++ flat_map record_octets group.now.written) }
+        ensures count { OnOk result (self.new.count ≡ self.old.count + length group.now.written) }
     {
-        for data in datas {
-            self.push(group, rtype, data)?;
+        for record in group.records() {
+            let owner = record.owner_in(group.owner());
+            self.push(owner, group.rtype(), record.ttl, &record.octets)?;
         }
         Ok(())
     }
 
-    /// Writes a record at the owner of an RRset.
-    fn push(&mut self, group: &RrGroup, rtype: Rtype, data: &[u8]) -> Result<(), AnswerFault>
-        ensures refused { IfErr result (RefusesRecords self.old.octets.items self.old.count (record_of group.now rtype data.now ∷ [])) }
+    /// Writes the signatures of an RRset.
+    fn push_signatures(&mut self, group: &RrGroup, datas: &[Vec<u8>]) -> Result<(), AnswerFault>
+        ensures refused { IfErr result (RefusesRecords self.old.octets.items self.old.count (map (rrsig_of group.now) (map (λ d. d.items) datas.now))) }
         ensures room { OnOk result (HasRoom self.old.octets.items self.old.count → HasRoom self.new.octets.items self.new.count) }
-        ensures octets { OnOk result (self.new.octets.items ≡ self.old.octets.items ++ record_octets (record_of group.now rtype data.now)) }
+        ensures octets { OnOk result (self.new.octets.items ≡ self.old.octets.items ++ flat_map record_octets (map (rrsig_of group.now) (map (λ d. d.items) datas.now))) }
+        ensures count { OnOk result (self.new.count ≡ self.old.count + length datas.now) }
+    {
+        for data in datas {
+            self.push(group.owner(), Rtype::RRSIG, group.ttl(), data)?;
+        }
+        Ok(())
+    }
+
+    /// Writes a record of class IN.
+    fn push(&mut self, owner: &Name, rtype: Rtype, ttl: Ttl, data: &[u8]) -> Result<(), AnswerFault>
+        ensures refused { IfErr result (RefusesRecords self.old.octets.items self.old.count (written_rr owner.now rtype ttl data.now ∷ [])) }
+        ensures room { OnOk result (HasRoom self.old.octets.items self.old.count → HasRoom self.new.octets.items self.new.count) }
+        ensures octets { OnOk result (self.new.octets.items ≡ self.old.octets.items ++ record_octets (written_rr owner.now rtype ttl data.now)) }
         ensures count { OnOk result (self.new.count ≡ self.old.count + 1) }
     {
         let Some(count) = self.count.checked_add(1) else {
@@ -129,14 +139,7 @@ impl Section {
         if data.len() > LONGEST {
             return Err(AnswerFault::TooLong);
         }
-        push_record(
-            &mut self.octets,
-            group.owner(),
-            rtype,
-            Class::IN,
-            group.ttl(),
-            data,
-        )?;
+        push_record(&mut self.octets, owner, rtype, Class::IN, ttl, data)?;
         self.count = count;
         Ok(())
     }
@@ -170,8 +173,7 @@ impl From<SchemeError> for AnswerFault {
 #[cfg(test)]
 mod tests {
     use super::*;
-    use records::names::Name;
-    use records::plain::{DigestAlgorithm, SecurityAlgorithm, Ttl};
+    use records::plain::{DigestAlgorithm, SecurityAlgorithm};
     use std::test::Fail;
 
     /// Signs by a copy of the octets.
@@ -222,19 +224,16 @@ mod tests {
         let octets: &[u8] = &[0, 1, 0, 0];
         let keys = [Dnskey::<&[u8]>::new(256, 3, SecurityAlgorithm::ECDSAP256SHA256, octets)];
         let address: &[u8] = &[192, 0, 2, 1];
-        let mut written = Vec::new(alloc);
-        written.push(address.to_vec(alloc)?)?;
         let mut canonical = Vec::new(alloc);
         canonical.push(address.to_vec(alloc)?)?;
-        let group = RrGroup::new(
+        let group = RrGroup::canonical_form(
+            alloc,
             Name::root(alloc),
             0,
             Rtype::A,
             Ttl::from_secs(3600),
-            written,
             canonical,
-            true,
-        );
+        )?;
         let question = Question {
             name: Name::root(alloc),
             rtype: Rtype::A,

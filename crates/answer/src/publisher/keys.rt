@@ -43,15 +43,20 @@ impl Publication {
     fn is_of(self, keytype: KeyType) -> bool
         ensures { result ≡ has_role self keytype }
     {
-        match (self, keytype) {
-            (Publication::AtParent, KeyType::Ksk(state)) => state.at_parent(),
-            (Publication::AtParent, KeyType::Zsk(_)) => false,
-            (Publication::Present, KeyType::Ksk(state)) => state.present(),
-            (Publication::Present, KeyType::Zsk(state)) => state.present(),
-            (Publication::SignsKeys, KeyType::Ksk(state)) => state.signer(),
-            (Publication::SignsKeys, KeyType::Zsk(_)) => false,
-            (Publication::SignsZone, KeyType::Ksk(_)) => false,
-            (Publication::SignsZone, KeyType::Zsk(state)) => state.signer(),
+        match self {
+            Publication::AtParent => match keytype {
+                KeyType::Ksk(state) | KeyType::Csk(state, _) => state.at_parent(),
+                KeyType::Zsk(_) | KeyType::Include(_) => false,
+            },
+            Publication::Present => keytype.main_role().present(),
+            Publication::SignsKeys => match keytype {
+                KeyType::Ksk(state) | KeyType::Csk(state, _) => state.signer(),
+                KeyType::Zsk(_) | KeyType::Include(_) => false,
+            },
+            Publication::SignsZone => match keytype {
+                KeyType::Zsk(state) | KeyType::Csk(_, state) => state.signer(),
+                KeyType::Ksk(_) | KeyType::Include(_) => false,
+            },
         }
     }
 }

@@ -1,5 +1,6 @@
 //! The publisher.
 ghost use Rattle.std.specs.Prelude.{◌≡◌, ◌⊎◌, ◌<◌, ◌≤◌, ◌^◌, ◌↔◌, [], map, length, string_bytes, IfOk, IfErr, IsErrOf, OnOk, Some, None, false};
+ghost use Rattle.definitions.specs.Limits.{pointer_limit};
 ghost use Rattle.std.specs.List.{AllByRecursion};
 ghost use Rattle.definitions.specs.Name.{IsName, low};
 ghost use Rattle.records.specs.Handed.{IsHanded};
@@ -96,7 +97,7 @@ impl<'a, S: Scheme, H: Nsec3Hasher> Publisher<'a, S, H> {
     pub fn dnskey_answer(&self, now: &UnixTime) -> Result<Vec<u8>, AnswerFault>
         ensures refused { IfErr result (RefusesKeys (S.signature_of self.now.scheme.now) (S.verifies self.now.scheme.now) (served (H.hash_of self.now.hasher.now) self.now.zone) self.now.zone.apex (second_of now.now) self.now.life (dnskeys (published self.now.keys Publication.Present)) (keys_by_tag self.now.keys Publication.SignsKeys)) }
         ensures answer { IfOk result (λ m. AnswersKeys (S.signature_of self.now.scheme.now) (S.verifies self.now.scheme.now) (served (H.hash_of self.now.hasher.now) self.now.zone) self.now.zone.apex (second_of now.now) self.now.life (dnskeys (published self.now.keys Publication.Present)) (keys_by_tag self.now.keys Publication.SignsKeys) m.items) }
-        ensures given { IfOk result (λ m. spelled.GivesKeys (S.verifies self.now.scheme.now) 0 (served (H.hash_of self.now.hasher.now) self.now.zone) self.now.zone.apex (dnskeys (published self.now.keys Publication.Present)) (dnskeys (published self.now.keys Publication.SignsKeys)) (second_of now.now) self.now.life m.items) }
+        ensures given { IfOk result (λ m. spelled.GivesKeys (S.verifies self.now.scheme.now) pointer_limit (served (H.hash_of self.now.hasher.now) self.now.zone) self.now.zone.apex (dnskeys (published self.now.keys Publication.Present)) (dnskeys (published self.now.keys Publication.SignsKeys)) (second_of now.now) self.now.life m.items) }
     {
         self.zone.keeps();
         let keys = self.keys.keys_by_tag(Publication::SignsKeys)?;
@@ -118,21 +119,20 @@ impl<'a, S: Scheme, H: Nsec3Hasher> Publisher<'a, S, H> {
         )
     }
 
-    /// The DNSKEY RRset.
+    /// The DNSKEY RRset; without a key it is empty, and then there is nothing to sign.
     fn dnskey_group(&self) -> Result<RrGroup, AllocError>
         ensures presents { IfOk result (λ g. Presents g (key_group self.now.zone.apex (ttl_among self.now.zone.records (low self.now.zone.apex) 6) (dnskeys (published self.now.keys Publication.Present)))) }
     {
         let owner = self.zone.apex().try_clone(self.alloc)?;
         let count = owner.rrsig_label_count();
-        Ok(RrGroup::new(
+        RrGroup::canonical_form(
+            self.alloc,
             owner,
             count,
             Rtype::DNSKEY,
             self.zone.soa_ttl(),
             self.keys.dnskey_data()?,
-            self.keys.dnskey_data()?,
-            true,
-        ))
+        )
     }
 
     /// What this publisher's signatures of a moment are made with.
@@ -153,7 +153,7 @@ impl<'a, S: Scheme, H: Nsec3Hasher> Publisher<'a, S, H> {
         ensures allowed { IsErrOf result AnswerFault.QuestionNotAllowed ↔ (is_allowed self.now.zone.apex (asked_of question.now) ≡ false) }
         ensures refused { IfErr result (RefusesAnswer (S.signature_of self.now.scheme.now) (S.verifies self.now.scheme.now) (served (H.hash_of self.now.hasher.now) self.now.zone) self.now.zone.apex (second_of now.now) self.now.life (keys_by_tag self.now.keys Publication.SignsZone) (asked_of question.now)) }
         ensures answer { IfOk result (λ m. AnswersZone (S.signature_of self.now.scheme.now) (S.verifies self.now.scheme.now) (served (H.hash_of self.now.hasher.now) self.now.zone) self.now.zone.apex (second_of now.now) self.now.life (keys_by_tag self.now.keys Publication.SignsZone) (asked_of question.now) m.items) }
-        ensures given { IfOk result (λ m. GivesAnswer (S.verifies self.now.scheme.now) 0 (served (H.hash_of self.now.hasher.now) self.now.zone) self.now.zone.apex (dnskeys (published self.now.keys Publication.SignsZone)) (second_of now.now) self.now.life (asked_of question.now) m.items) }
+        ensures given { IfOk result (λ m. GivesAnswer (S.verifies self.now.scheme.now) pointer_limit (served (H.hash_of self.now.hasher.now) self.now.zone) self.now.zone.apex (dnskeys (published self.now.keys Publication.SignsZone)) (second_of now.now) self.now.life (asked_of question.now) m.items) }
     {
         self.zone.keeps();
         question.keeps();

@@ -1,5 +1,6 @@
 //! A run of events, one at a time.
 ghost use Rattle.std.specs.Prelude.{◌≡◌, ◌≤◌, ◌<◌, [], ℕ, IfOk, length, map, slice_get, string_bytes};
+ghost use Rattle.definitions.specs.Limits.{pointer_limit};
 ghost use Rattle.answer.specs.Bindings.{apply};
 ghost use Rattle.answer.specs.Events.{added_octets, added_by_call};
 ghost use Rattle.answer_judge.specs.Meeting.{IsJudgement};
@@ -239,7 +240,7 @@ impl<'a, S: Scheme, H: Nsec3Hasher> Run<'a, S, H> {
         at: &UnixTime,
     ) -> Result<Judgement, Refused>
         requires { self.now.limit ≡ self.now.publisher.zone.limit }
-        ensures { IsJudgement 0 (record { verifies = S.verifies self.now.publisher.scheme.now; hash = H.hash_of self.now.publisher.hasher.now; digest = S.digest_of self.now.publisher.scheme.now }) (handing (world self.now.publisher.zone self.now.publisher.life (S.signature_of self.now.publisher.scheme.now) (S.verifies self.now.publisher.scheme.now) (S.digest_of self.now.publisher.scheme.now) (H.hash_of self.now.publisher.hasher.now)) ds.now dnskey_bytes.now answer_bytes.now (asked_of question.now) at.now) (answer_of result) (verifications_of result) (hashes_of result) }
+        ensures { IsJudgement pointer_limit (record { verifies = S.verifies self.now.publisher.scheme.now; hash = H.hash_of self.now.publisher.hasher.now; digest = S.digest_of self.now.publisher.scheme.now }) (handing (world self.now.publisher.zone self.now.publisher.life (S.signature_of self.now.publisher.scheme.now) (S.verifies self.now.publisher.scheme.now) (S.digest_of self.now.publisher.scheme.now) (H.hash_of self.now.publisher.hasher.now)) ds.now dnskey_bytes.now answer_bytes.now (asked_of question.now) at.now) (answer_of result) (verifications_of result) (hashes_of result) }
     {
         counted::<S, H, Brand, Brand>(
             self.alloc,
@@ -279,7 +280,7 @@ fn counted<S: Scheme, H: Nsec3Hasher, L: Ledger, M: Ledger>(
     requires second_name { second.name ≡ M.name }
     requires second_parts { second.parts ≡ M.parts }
     requires second_some { 0 < M.parts }
-    ensures { IsJudgement 0 (record { verifies = S.verifies scheme.now; hash = H.hash_of hasher.now; digest = S.digest_of scheme.now }) (record { apex = apex.now; ds = ds.now; dnskey_bytes = dnskey_bytes.now; answer_bytes = answer_bytes.now; asked = asked_of question.now; now = now; limit = limit }) (answer_of result) (verifications_of result) (hashes_of result) }
+    ensures { IsJudgement pointer_limit (record { verifies = S.verifies scheme.now; hash = H.hash_of hasher.now; digest = S.digest_of scheme.now }) (record { apex = apex.now; ds = ds.now; dnskey_bytes = dnskey_bytes.now; answer_bytes = answer_bytes.now; asked = asked_of question.now; now = now; limit = limit }) (answer_of result) (verifications_of result) (hashes_of result) }
 {
     let mut checks = SchemeChecks::<S, H, L, M>::new(scheme, hasher, first, second);
     judge(

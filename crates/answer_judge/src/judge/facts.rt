@@ -1,5 +1,6 @@
 //! From bytes to verified facts (RFC 4035, 5.3).
 ghost use Rattle.std.specs.Prelude.{◌≡◌, ◌==◌, ◌+◌, ◌<◌, ◌≤◌, ◌^◌, false, IfOk, MatchOption, length, map, filter};
+ghost use Rattle.definitions.specs.Limits.{pointer_limit};
 ghost use Rattle.std.specs.List.{list_any, filter_map};
 ghost use Rattle.messages.specs.Record.{spelled};
 ghost use Rattle.answer_judge.specs.Facts.{is_signature};
@@ -36,8 +37,8 @@ pub(crate) fn read_facts<'a, C: Checks>(
 ) -> Result<Facts<'a>, AllocError>
     requires room { count.old + length records.now < 2 ^ 32 }
     requires other { (rtype == 47) ≡ false }
-    ensures answer { IfOk result (λ f. f.answer ≡ verified_rrset (held_by (C.answers checks.old) trust.now) 0 message.now (map spelled records.now) name.now rtype) }
-    ensures links { IfOk result (λ f. f.links.items ≡ verified_links (held_by (C.answers checks.old) trust.now) 0 message.now (map spelled records.now)) }
+    ensures answer { IfOk result (λ f. f.answer ≡ verified_rrset (held_by (C.answers checks.old) trust.now) pointer_limit message.now (map spelled records.now) name.now rtype) }
+    ensures links { IfOk result (λ f. f.links.items ≡ verified_links (held_by (C.answers checks.old) trust.now) pointer_limit message.now (map spelled records.now)) }
     ensures counted { C.verified checks.new + count.old ≡ C.verified checks.old + count.new }
     ensures bound { count.new ≤ count.old + length (filter is_signature (map spelled records.now)) }
     ensures hashed { C.hashed checks.new ≡ C.hashed checks.old }

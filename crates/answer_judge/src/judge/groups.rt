@@ -1,5 +1,6 @@
 //! RRsets of a message and the signatures that verify them (RFC 4035, 5.3).
 ghost use Rattle.std.specs.Prelude.{◌≡◌, ◌==◌, ◌&&◌, ◌+◌, ◌<◌, ◌≤◌, ◌^◌, [], ◌∷◌, true, false, IfOk, IfSome, MatchOption, length, map, filter, get_or};
+ghost use Rattle.definitions.specs.Limits.{pointer_limit};
 ghost use Rattle.messages.specs.Record.{spelled};
 ghost use Rattle.answer_judge.specs.Facts.{is_signature, is_due, fits_key, fields_read, signs};
 ghost use Rattle.answer_judge.specs.Verified.{datum_of, rrset_in};
@@ -58,7 +59,7 @@ pub(crate) fn read_group(
 ) -> Result<Group, AllocError>
     ensures owner { IfOk result (λ g. g.owner ≡ owner.now) }
     ensures rtype { IfOk result (λ g. g.rtype ≡ rtype) }
-    ensures items { IfOk result (λ g. map (λ d. d.items) g.items.items ≡ rrset_in 0 message.now (map spelled records.now) owner.now rtype) }
+    ensures items { IfOk result (λ g. map (λ d. d.items) g.items.items ≡ rrset_in pointer_limit message.now (map spelled records.now) owner.now rtype) }
     ensures unverified { IfOk result (λ g. g.verified ≡ false) }
 {
     let mut items = Vec::new(alloc);
@@ -83,7 +84,7 @@ fn datum_of(
     owner: &Name,
     rtype: Rtype,
 ) -> Result<Option<Vec<u8>>, AllocError>
-    ensures { IfOk result (λ o. option_map (λ v. v.items) o ≡ datum_of 0 message.now owner.now rtype (spelled record.now)) }
+    ensures { IfOk result (λ o. option_map (λ v. v.items) o ≡ datum_of pointer_limit message.now owner.now rtype (spelled record.now)) }
 {
     if record.class == Class::IN && record.rtype == rtype && record.owner.name_eq(owner) {
         return record.canonical_data(alloc, message);

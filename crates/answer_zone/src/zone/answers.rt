@@ -2,13 +2,13 @@
 ghost use Rattle.std.specs.Prelude.{◌≡◌, ℕ, ◌∷◌, ◌||◌, ◌==◌, ◌≤◌, List, true, false, map, IfOk};
 ghost use Rattle.std.specs.List.{AllZip};
 ghost use Rattle.definitions.specs.Name.{Name, low, wire_len};
-ghost use Rattle.definitions.specs.Zone.{data_at, star_under};
+ghost use Rattle.definitions.specs.Zone.{star_under};
 ghost use Rattle.definitions.specs.ZoneChain.{Nsec};
 ghost use Rattle.answer_zone.specs.Accepting.{zone_with};
 ghost use Rattle.answer_zone.specs.ZoneAnswers.{AnswersAs};
-ghost use Rattle.answer_zone.specs.GroupView.{Presents};
+ghost use Rattle.answer_zone.specs.GroupView.{Presents, rrset_of};
 ghost use Rattle.answer_zone.specs.ZoneView.{IsPublished};
-ghost use Rattle.answer_zone.specs.Served.{kept_ancestor, proofs_of, served_of, soa, ttl_among, written_among};
+ghost use Rattle.answer_zone.specs.Served.{kept_ancestor, proofs_of, served_of, soa};
 
 use crate::fault::Mode;
 use crate::group::RrGroup;
@@ -63,7 +63,7 @@ impl ZoneRecords {
     {
         let mut answer = Vec::new(alloc);
         if self.has(name, rtype) {
-            answer.push(self.rrset(alloc, name.try_clone(alloc)?, rtype)?)?;
+            answer.push(self.rrset(alloc, name.try_clone(alloc)?, rtype, false)?)?;
             return Ok(ZoneAnswer {
                 flags: AUTHORITATIVE,
                 answer,
@@ -105,17 +105,24 @@ impl ZoneRecords {
             Some(owner) => owner,
             None => &self.apex,
         };
-        self.rrset(alloc, owner.try_clone(alloc)?, Rtype::SOA)
+        self.rrset(alloc, owner.try_clone(alloc)?, Rtype::SOA, true)
     }
 
-    /// The RRset of an owner and a type, written under a name that is the owner up to case.
-    fn rrset(&self, alloc: Global, owner: Name, rtype: Rtype) -> Result<RrGroup, AllocError>
-        ensures { IfOk result (λ g. Presents g (record { owner = owner; source = low owner; rtype = rtype; ttl = ttl_among self.now.records (low owner) rtype; written = written_among self.now.records (low owner) rtype; datas = data_at (zone_with self.now.apex self.now.records) (low owner) rtype; signed = true })) }
+    /// The RRset of an owner and a type, written under a name that is the owner up to case, or each record as it spells
+    /// the owner itself.
+    fn rrset(
+        &self,
+        alloc: Global,
+        owner: Name,
+        rtype: Rtype,
+        own: bool,
+    ) -> Result<RrGroup, AllocError>
+        ensures { IfOk result (λ g. Presents g (rrset_of own self.now.apex self.now.records owner rtype)) }
     {
-        let data = data_among(alloc, &self.records, &owner, rtype)?;
+        let data = data_among(alloc, &self.records, &owner, rtype, own)?;
         let ttl = self.ttl_at(&owner, rtype);
         let count = owner.rrsig_label_count();
-        Ok(RrGroup::new(owner, count, rtype, ttl, data.written, data.canonical, true))
+        Ok(RrGroup::new(owner, count, rtype, ttl, data.records, data.canonical, true))
     }
 
     /// The wildcard name under the closest encloser of a name that does not exist (RFC 4592, 3.3.1).

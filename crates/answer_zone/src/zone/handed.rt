@@ -7,6 +7,7 @@ ghost use Rattle.records.specs.HandedRr.{among, is_meta, has_star};
 ghost use Rattle.records.specs.Star.{begins_with_star};
 ghost use Rattle.answer_zone.specs.Accepting.{unlike_ttls};
 
+use crate::group::GroupRecord;
 use records::names::Name;
 use records::plain::record::{Record, ZoneRecordData};
 use records::plain::{Class, Rtype, Ttl};
@@ -39,6 +40,8 @@ impl HandedRecord {
     ghost use Rattle.records.specs.Handed.{IsHanded};
     ghost use Rattle.records.specs.HandedRr.{handed_of};
     ghost use Rattle.answer_zone.specs.ZoneView.{is_of};
+    ghost use Rattle.definitions.specs.Name.{Name};
+    ghost use Rattle.answer_zone.specs.GroupView.{record_under, spelled_by};
 
     /// A record with its data composed.
     pub fn new(alloc: Global, given: Record) -> Result<HandedRecord, AllocError>
@@ -103,6 +106,22 @@ impl HandedRecord {
         ensures { result ≡ min self.now.ttl (minimum_of self.now.bytes) }
     {
         Ttl::from_secs(self.ttl.as_secs().min(last_number(&self.canonical)))
+    }
+
+    /// The record for an answer, with its owner as spelled or without.
+    pub fn grouped(&self, alloc: Global, own: bool) -> Result<GroupRecord, AllocError>
+        ensures { IfOk result (λ g. (owner : Name) → record_under owner self.now.rtype g ≡ spelled_by own owner self.now) }
+    {
+        let owner = if own {
+            Some(self.owner.try_clone(alloc)?)
+        } else {
+            None
+        };
+        Ok(GroupRecord {
+            owner,
+            ttl: self.ttl,
+            octets: self.written.to_vec(alloc)?,
+        })
     }
 
     /// The data as spelled.

@@ -89,12 +89,10 @@ impl ZoneRecords {
         let octets = self.nsec_data(alloc, owner, next)?;
         let owner = self.first_spelled(owner).try_clone(alloc)?;
         let count = owner.rrsig_label_count();
-        let mut written = Vec::new(alloc);
-        written.push(octets.clone()?)?;
+        let ttl = chain_ttl_among(&self.apex, &self.records);
         let mut canonical = Vec::new(alloc);
         canonical.push(octets)?;
-        let ttl = chain_ttl_among(&self.apex, &self.records);
-        Ok(RrGroup::new(owner, count, Rtype::NSEC, ttl, written, canonical, true))
+        RrGroup::canonical_form(alloc, owner, count, Rtype::NSEC, ttl, canonical)
     }
 
     /// The data of a link's NSEC record: the next name as spelled, and the bits of the owner (RFC 4034, 4.1).

@@ -6,8 +6,10 @@ ghost use Rattle.definitions.specs.Zone.{has, exists};
 ghost use Rattle.definitions.specs.ZoneChain.{types_at};
 ghost use Rattle.answer_zone.specs.Accepting.{zone_with};
 ghost use Rattle.answer_zone.specs.Served.{chain_ttl, owner_among, ttl_among, spelled_as, spelled_among};
+ghost use Rattle.answer_zone.specs.GroupView.{HoldsRrset};
 ghost use Rattle.answer_zone.specs.ZoneView.{is_of};
 
+use crate::group::GroupRecord;
 use crate::zone::ZoneRecords;
 use crate::zone::handed::HandedRecord;
 use records::names::Name;
@@ -69,32 +71,36 @@ impl ZoneRecords {
     }
 }
 
-/// The data of an RRset: as they are written, and in canonical form.
+/// An RRset: its records as they are written, under an owner that is still to be named, and its canonical data.
 #[derive(Drop)]
 pub(super) struct RrsetData {
-    pub written: Vec<Vec<u8>>,
+    pub records: Vec<GroupRecord>,
     pub canonical: Vec<Vec<u8>>,
 }
 
-/// The data of an owner and a type among some records, in their order.
+/// The RRset of an owner and a type among some records, in their order; each keeps the spelling of its owner or goes
+/// without.
 pub(super) fn data_among(
     alloc: Global,
     records: &[HandedRecord],
     name: &Name,
     rtype: Rtype,
+    own: bool,
 ) -> Result<RrsetData, AllocError>
-    ensures written { IfOk result (λ d. map (λ v. v.items) d.written.items ≡ map (λ r. r.written) (filter (is_of name.now rtype) records.now)) }
-    ensures canonical { IfOk result (λ d. map (λ v. v.items) d.canonical.items ≡ map (λ r. r.bytes) (filter (is_of name.now rtype) records.now)) }
+    ensures { IfOk result (λ d. HoldsRrset own name.now rtype records.now d.records.items d.canonical.items) }
 {
-    let mut written = Vec::new(alloc);
+    let mut found = Vec::new(alloc);
     let mut canonical = Vec::new(alloc);
     for record in records {
         if record.is_of(name, rtype) {
-            written.push(record.written().to_vec(alloc)?)?;
+            found.push(record.grouped(alloc, own)?)?;
             canonical.push(record.canonical().to_vec(alloc)?)?;
         }
     }
-    Ok(RrsetData { written, canonical })
+    Ok(RrsetData {
+        records: found,
+        canonical,
+    })
 }
 
 /// The types at an owner among some records.

@@ -161,8 +161,8 @@ fn what_a_zone_has(rt: HostRuntime) -> Result<(), Fail> {
 
 /// The first datum of an RRset as written.
 fn first_datum(group: &RrGroup) -> &[u8] {
-    match group.written().first() {
-        Some(datum) => datum.as_slice(),
+    match group.records().first() {
+        Some(record) => record.octets.as_slice(),
         None => &[],
     }
 }

@@ -1,7 +1,7 @@
 //! Messages as they are written (RFC 1035, 4.1), without compression.
 ghost use Rattle.std.specs.Prelude.{◌≡◌, ◌<◌, ◌^◌, ◌++◌, length, OnOk};
 ghost use Rattle.std.specs.Int.{w16, w32, to_be_bytes};
-ghost use Rattle.records.specs.Written.{header_octets, question_octets, record_octets};
+ghost use Rattle.records.specs.Written.{written, header_octets, question_octets, record_octets};
 
 use crate::names::Name;
 use crate::plain::{Class, Rtype, Ttl};
@@ -52,7 +52,8 @@ pub fn push_record(
     data: &[u8],
 ) -> Result<(), AllocError>
     requires { length data.now < 2 ^ 16 }
-    ensures { OnOk result (out.new.items ≡ out.old.items ++ record_octets (record { owner = owner.now; rtype = rtype; class = class; ttl = ttl; octets = data.now })) }
+    ensures { OnOk result (out.new.items ≡ out.old.items
+        ++ record_octets (written owner.now rtype class ttl data.now)) }
 {
     owner.compose(out)?;
     push_u16(out, rtype.to_int())?;

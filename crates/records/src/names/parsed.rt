@@ -1,5 +1,6 @@
 //! Names as they stand in a message (RFC 1035, 4.1.4), read in place.
 ghost use Rattle.std.specs.Prelude.{◌≡◌, ℕ, ◌+◌, ◌<◌, ◌≤◌, length, IfOk, IfSome};
+ghost use Rattle.definitions.specs.Limits.{pointer_limit};
 ghost use Rattle.std.specs.Option.{option_map};
 ghost use Rattle.definitions.specs.Name.{same};
 ghost use Rattle.records.specs.Message.{owner_at};
@@ -32,7 +33,7 @@ impl<'a> Model for ParsedName<'a> {
 impl<'a> ParsedName<'a> {
     /// The name at a place of a message, and the place behind it.
     pub fn parse(message: &'a [u8], start: usize) -> Result<(ParsedName<'a>, usize), MessageError>
-        ensures exact { Gives (λ r. named r.0 r.1) result (owner_at 0 message.now start) }
+        ensures exact { Gives (λ r. named r.0 r.1) result (owner_at pointer_limit message.now start) }
         ensures inside { IfOk result (λ r. r.1 ≤ length message.now) }
         ensures before { IfOk result (λ r. start < r.1) }
     {

@@ -25,6 +25,7 @@ pub enum NameError {
 
 impl Name {
     /// The name that octets spell, all of them, without pointers (RFC 1035, 3.1).
+    #[tactic(auto, unfolding(definitions::specs::Limits::pointer_limit))]
     pub fn from_octets(alloc: Global, octets: &[u8]) -> Result<Name, NameError>
         ensures ok { IfOk result (λ n. name_of_octets octets.now ≡ Some n) }
         ensures err { IfErr result (RefusesOctets octets.now) }

@@ -1,6 +1,7 @@
 use Rattle.std.proofs.Common.{◌≡◌, ℕ, List, [], ◌∙◌, ap, arith, map, max}
 use Rattle.std.specs.Map.{values_of}
-use Rattle.keyset.specs.KeyState.{greatest, rest_of, looked_at, Key}
+use Rattle.keyset.specs.KeyState.{greatest, Key}
+use Rattle.keyset_rolls.specs.Rolls.{awaited, rest_of}
 use Rattle.keyset.proofs.KeyMaps.{greatest-by_reference}
 use Rattle.keyset.proofs.maps.greatest_rest.Goals as goal
 
@@ -11,7 +12,7 @@ ended f n left all h e =
 
 pub returns-clause-exact : goal.returns-clause-exact
 returns-clause-exact c =
-    let f = λ (k : Key). rest_of c.args.ttl c.args.now.now (looked_at c.args.rolltype c.args.turn k) in
+    let f = λ (k : Key). rest_of c.args.ttl c.args.now.now (awaited c.args.turn c.args.rolltype k) in
     let start : c.into_iter-key-iterator.result ≡ values_of c.args.keys.now.entries = cc in
     ended f c.loop-key.greatest c.loop-key.key-iterator c.into_iter-key-iterator.result c.loop-key.invariant.0 c.in-None.ensures.steps.0
     ∙ ap (λ l. greatest (map f l)) start

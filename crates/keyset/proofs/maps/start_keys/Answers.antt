@@ -1,6 +1,7 @@
 use Rattle.std.proofs.Common.{ap, ◌∙◌, rules, tests}
 use Rattle.std.specs.Prelude.{string_bytes}
-use Rattle.keyset.specs.KeyState.{Reference, Key, by_reference, listed, texts, started_key}
+use Rattle.keyset.specs.KeyState.{Reference, Key, by_reference, listed, texts}
+use Rattle.keyset_rolls.specs.Rolls.{started_key}
 use Rattle.keyset.proofs.KeyOrder.{map_pairs}
 use Rattle.keyset.proofs.KeyMaps.{by_reference-map}
 use Rattle.keyset.proofs.maps.start_keys.Goals as goal

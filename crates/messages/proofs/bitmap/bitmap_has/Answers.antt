@@ -2,8 +2,8 @@ use Rattle.std.proofs.Common.{◌≡◌, ℕ, suc, ◌+◌, ◌-◌, ◌/◌, �
 use Rattle.std.specs.Option.{is_some, IsSome}
 use Rattle.std.proofs.lemmas.Bool.{ne_eqb}
 use Rattle.definitions.specs.Bitmap.{windows_upto, bit_in}
-use Rattle.messages.specs.Windows.{found, split}
-use Rattle.messages.proofs.MessageBitmap.{is_some_upto, found_none, found_last, found_some}
+use Rattle.definitions.specs.Windows.{split}
+use Rattle.messages.proofs.MessageBitmap.{found, is_some_upto, found_none, found_last, found_some}
 use Rattle.messages.proofs.bitmap.bitmap_has.Goals as goal
 
 one_less : (n i : ℕ) → i < n → n - i ≡ suc (n - (i + 1))

@@ -1,7 +1,7 @@
 use Rattle.std.proofs.Common.{◌≡◌, ◌-◌, length}
 use Rattle.std.specs.Option.{IsSome}
 use Rattle.definitions.specs.Bitmap.{windows_upto}
-use Rattle.messages.specs.Windows.{found}
+use Rattle.messages.proofs.MessageBitmap.{found}
 use Rattle.messages.proofs.bitmap.bitmap_has.Given as goal
 
 abbrev pub invariant-loop : goal.invariant-loop

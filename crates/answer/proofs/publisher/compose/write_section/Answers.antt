@@ -1,7 +1,8 @@
-use Rattle.std.proofs.Common.{[], Err, ap, map, subst, sym}
+use Rattle.std.proofs.Common.{[], Err, ap, refl, map, subst, sym, ◌+◌, ◌∙◌}
 use Rattle.std.specs.Prelude.{if◌then◌else◌}
 use Rattle.std.specs.List.{AllZip}
 use Rattle.answer_zone.specs.GroupView.{IsRrsigData}
+use Rattle.std.proofs.lemmas.List.{length-map}
 use Rattle.std.proofs.lemmas.Result.{err_from_is_err_and}
 use Rattle.answer.proofs.Refusals.{section_refused, signatures_refused, signing_refused}
 use Rattle.answer.proofs.SignAnswer.{section_more}
@@ -17,15 +18,15 @@ loop-group-preserved g c =
     let keys = c.args.keys.now in
     let group = c.group-item.result in
     record {
-      written = section_more (λ d. d.items) sign verifies apex at life keys c.args.groups.now c.loop-group.group-index group c.rtype.result c.written.result.now c.deref.result.now
-          c.loop-group.section.octets.items c.push_records.new.self.octets.items c.push_records-in-loop-group.new.self.octets.items
-          c.loop-group.section.count c.push_records.new.self.count c.push_records-in-loop-group.new.self.count
+      written = section_more sign verifies apex at life keys c.args.groups.now c.loop-group.group-index group group.written (map (λ d. d.items) c.deref.result.now)
+          c.loop-group.section.octets.items c.push_records.new.self.octets.items c.push_signatures.new.self.octets.items
+          c.loop-group.section.count c.push_records.new.self.count c.push_signatures.new.self.count
           c.loop-group-test.true c.group-item.is c.loop-group.invariant.written
           (subst (λ ys. AllZip (IsRrsigData sign verifies apex at life group) (if group.signed then keys else []) (map (λ d. d.items) ys)) (sym c.deref.ensures.value) c.in_ok-signatures.ensures.made)
-          c.rtype.ensures c.written.ensures
+          refl
           c.in_ok-push_records.ensures.octets c.in_ok-push_records.ensures.count
-          c.in_ok-push_records-2.ensures.octets c.in_ok-push_records-2.ensures.count;
-      room = c.in_ok-push_records-2.ensures.room (c.in_ok-push_records.ensures.room c.loop-group.invariant.room);
+          c.in_ok-push_signatures.ensures.octets (c.in_ok-push_signatures.ensures.count ∙ ap (λ n. c.push_records.new.self.count + n) (sym (length-map c.deref.result.now (λ d. d.items))));
+      room = c.in_ok-push_signatures.ensures.room (c.in_ok-push_records.ensures.room c.loop-group.invariant.room);
     }
 
 pub returns-in_err-signatures-clause-refused : goal.returns-in_err-signatures-clause-refused
@@ -46,12 +47,12 @@ returns-in_err-push_records-clause-refused g c =
     let keys = c.args.keys.now in
     let group = c.group-item.result in
     let from = err_from_is_err_and c.from_residual-in_err-push_records.result c.from_residual-in_err-push_records.ensures.1 in
-    rw (from.1, from.2) (section_refused (λ d. d.items) sign verifies apex at life keys c.args.groups.now c.loop-group.group-index group c.rtype.result c.written.result.now c.in_ok-signatures.signatures.items
+    rw (from.1, from.2) (section_refused sign verifies apex at life keys c.args.groups.now c.loop-group.group-index group group.written (map (λ d. d.items) c.in_ok-signatures.signatures.items)
     c.loop-group.section.octets.items c.loop-group.section.count c.in_err-push_records.field-0.0
-    c.loop-group-test.true c.group-item.is c.loop-group.invariant.written c.loop-group.invariant.room c.in_ok-signatures.ensures.made c.rtype.ensures c.written.ensures c.in_err-push_records.ensures.refused)
+    c.loop-group-test.true c.group-item.is c.loop-group.invariant.written c.loop-group.invariant.room c.in_ok-signatures.ensures.made refl c.in_err-push_records.ensures.refused)
 
-pub returns-in_err-push_records-2-clause-refused : goal.returns-in_err-push_records-2-clause-refused
-returns-in_err-push_records-2-clause-refused g c =
+pub returns-in_err-push_signatures-clause-refused : goal.returns-in_err-push_signatures-clause-refused
+returns-in_err-push_signatures-clause-refused g c =
     let sign = g.S.Scheme.signature_of c.args.scheme.now in
     let verifies = g.S.Scheme.verifies c.args.scheme.now in
     let apex = c.args.terms.now.apex.now in
@@ -59,9 +60,9 @@ returns-in_err-push_records-2-clause-refused g c =
     let life = c.args.terms.now.life in
     let keys = c.args.keys.now in
     let group = c.group-item.result in
-    let from = err_from_is_err_and c.from_residual-in_err-push_records-2.result c.from_residual-in_err-push_records-2.ensures.1 in
+    let from = err_from_is_err_and c.from_residual-in_err-push_signatures.result c.from_residual-in_err-push_signatures.ensures.1 in
     let made = subst (λ ys. AllZip (IsRrsigData sign verifies apex at life group) (if group.signed then keys else []) (map (λ d. d.items) ys)) (sym c.deref.ensures.value) c.in_ok-signatures.ensures.made in
-    rw (from.1, from.2) (signatures_refused (λ d. d.items) sign verifies apex at life keys c.args.groups.now c.loop-group.group-index group c.rtype.result c.written.result.now c.deref.result.now
-    c.loop-group.section.octets.items c.push_records.new.self.octets.items c.loop-group.section.count c.push_records.new.self.count c.in_err-push_records-2.field-0.0
-    c.loop-group-test.true c.group-item.is c.loop-group.invariant.written (c.in_ok-push_records.ensures.room c.loop-group.invariant.room) made c.rtype.ensures c.written.ensures
-    c.in_ok-push_records.ensures.octets c.in_ok-push_records.ensures.count c.in_err-push_records-2.ensures.refused)
+    rw (from.1, from.2) (signatures_refused sign verifies apex at life keys c.args.groups.now c.loop-group.group-index group group.written (map (λ d. d.items) c.deref.result.now)
+    c.loop-group.section.octets.items c.push_records.new.self.octets.items c.loop-group.section.count c.push_records.new.self.count c.in_err-push_signatures.field-0.0
+    c.loop-group-test.true c.group-item.is c.loop-group.invariant.written (c.in_ok-push_records.ensures.room c.loop-group.invariant.room) made refl
+    c.in_ok-push_records.ensures.octets c.in_ok-push_records.ensures.count c.in_err-push_signatures.ensures.refused)

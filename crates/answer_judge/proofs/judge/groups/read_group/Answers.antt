@@ -3,6 +3,7 @@ use Rattle.std.specs.Option.{option_map}
 use Rattle.std.specs.Ordering.{nat_cmp}
 use Rattle.std.specs.Cmp.Lexicographic.{slice_cmp}
 use Rattle.definitions.specs.Sorting.{put_by}
+use Rattle.definitions.specs.Limits.{pointer_limit}
 use Rattle.messages.specs.Record.{spelled}
 use Rattle.answer_judge.specs.Verified.{datum_of}
 use Rattle.answer_judge.proofs.JudgeGroups.{data_more, data_same}
@@ -11,7 +12,7 @@ use Rattle.answer_judge.proofs.judge.groups.read_group.Goals.{in-Some+in_ok-put_
 
 pub loop-record-preserved : goal.loop-record-preserved
 loop-record-preserved c =
-    let f = datum_of 0 c.args.message.now c.args.owner.now c.args.rtype in
+    let f = datum_of pointer_limit c.args.message.now c.args.owner.now c.args.rtype in
     let i = c.loop-record.record-index in
     let r = c.record-item.result in
     elim c.match-branch-2.branch [

@@ -2,6 +2,7 @@ use Rattle.std.proofs.Common.{◌≡◌, map, take}
 use Rattle.messages.specs.Record.{spelled}
 use Rattle.answer_judge.specs.Verified.{rrset_in}
 use Rattle.answer_judge.proofs.judge.groups.read_group.Given as goal
+use Rattle.definitions.specs.Limits.{pointer_limit}
 
 abbrev pub invariant-loop-record : goal.invariant-loop-record
-invariant-loop-record l = map (λ d. d.items) l.items.items ≡ rrset_in 0 l.message (map spelled (take l.record-index l.records)) l.owner l.rtype
+invariant-loop-record l = map (λ d. d.items) l.items.items ≡ rrset_in pointer_limit l.message (map spelled (take l.record-index l.records)) l.owner l.rtype

@@ -8,6 +8,7 @@ use Rattle.answer_judge.specs.Marked.{held_by}
 use Rattle.answer_judge.proofs.JudgeTried.{untried, tried_none, tried_now, tried_again, class_other, no_signature}
 use Rattle.answer_judge.proofs.judge.groups.verify_record.Goals as goal
 use Rattle.answer_judge.proofs.judge.groups.verify_record.Goals.{in-Some-place_of+then-not-group+in_ok-group, in-Some-place_of+else-not-group, in_default-place_of}
+use Rattle.definitions.specs.Limits.{pointer_limit}
 
 pub returns-then-ne-clause-marked : goal.returns-then-ne-clause-marked
 returns-then-ne-clause-marked g c =
@@ -31,7 +32,7 @@ returns-clause-marked g c =
     let gs = c.args.groups.now in
     let s = c.in-Some.signature in
     let class : (r.class == 1) ≡ true = not-false _ (sym c.ne.ensures ∙ c.if-ne.false) in
-    let read : rrsig_at 0 m r ≡ Some (signature_of s) = sym c.in_ok-signature.ensures ∙ ap (option_map signature_of) c.in-Some.is in
+    let read : rrsig_at pointer_limit m r ≡ Some (signature_of s) = sym c.in_ok-signature.ensures ∙ ap (option_map signature_of) c.in-Some.is in
     elim c.match-place_of.branch [
       | in-Some-place_of+then-not-group+in_ok-group w ↦
           let i = w.in-Some-place_of.place in

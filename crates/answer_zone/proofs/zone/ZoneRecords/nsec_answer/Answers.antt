@@ -1,12 +1,12 @@
 use Rattle.std.proofs.Common.{◌≡◌, [], ◌∷◌, ◌++◌, true, false, sym, ap, subst, ◌∙◌, length}
 use Rattle.std.specs.List.{AllZip}
 use Rattle.definitions.specs.Name.{Name, low}
-use Rattle.definitions.specs.Zone.{data_at, exists, has, star_under}
+use Rattle.definitions.specs.Zone.{exists, has, star_under}
 use Rattle.definitions.specs.ZoneChain.{Nsec}
 use Rattle.answer_zone.specs.Accepting.{zone_with}
 use Rattle.answer_zone.specs.ZoneAnswers.{answered, flags_for}
-use Rattle.answer_zone.specs.GroupView.{Presents}
-use Rattle.answer_zone.specs.Served.{answer_groups, kept_ancestor, proofs_of, served_of, soa, ttl_among, written_among}
+use Rattle.answer_zone.specs.GroupView.{Presents, rrset_of}
+use Rattle.answer_zone.specs.Served.{answer_groups, kept_ancestor, proofs_of, served_of, soa}
 use Rattle.answer_zone.proofs.ZoneAnswers.{groups_found, groups_without_name, groups_without_type, verdict_found, verdict_without_name, verdict_without_type}
 use Rattle.answer_zone.proofs.zone.ZoneRecords.nsec_answer.Goals as goal
 
@@ -20,7 +20,7 @@ returns-then-has c = λ hash.
     let there : has (zone_with apex rs) (low q) t ≡ true = sym c.has.ensures ∙ c.if-has.true in
     let said = verdict_found apex rs c.requires.published q t there in
     let one : c.push.new.self.items ≡ g ∷ [] = c.in_ok-push.ensures.items ∙ ap (λ x. x ++ g ∷ []) c.new-answer.ensures.items in
-    let P : Name → Type 0 = λ o. Presents g (record { owner = o; source = low o; rtype = t; ttl = ttl_among rs (low o) t; written = written_among rs (low o) t; datas = data_at (zone_with apex rs) (low o) t; signed = true }) in
+    let P : Name → Type 0 = λ o. Presents g (rrset_of false apex rs o t) in
     let is : P q = subst P c.in_ok-try_clone.ensures c.in_ok-rrset.ensures in
     let zip = subst (AllZip Presents (g ∷ [])) (groups_found apex hash rs c.requires.published q t c.requires.plain there) (is, tt) in
     record {

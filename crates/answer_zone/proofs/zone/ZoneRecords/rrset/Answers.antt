@@ -1,4 +1,6 @@
 use Rattle.std.proofs.Common.{◌≡◌, map, filter, sym, ap, ◌∙◌}
+use Rattle.answer_zone.specs.GroupView.{all_spelled_by}
+use Rattle.answer_zone.specs.Served.{written_of_handed}
 use Rattle.answer_zone.specs.ZoneView.{IsPublished, is_of}
 use Rattle.answer_zone.proofs.ZoneData.{data_are, label_count-low}
 use Rattle.answer_zone.proofs.zone.ZoneRecords.rrset.Goals as goal
@@ -16,7 +18,7 @@ returns c =
       labels_are = c.new.ensures.label_count ∙ c.rrsig_label_count-count.ensures ∙ sym (label_count-low o);
       rtype_is = c.new.ensures.rtype;
       ttl_is = c.new.ensures.ttl ∙ c.ttl_at-ttl.ensures;
-      written_is = c.new.ensures.written ∙ c.in_ok-data.ensures.written ∙ ap (λ xs. map (λ r. r.written) (filter (is_of o t) xs)) items;
+      written_is = c.new.ensures.written ∙ c.in_ok-data.ensures.written o ∙ ap (λ xs. all_spelled_by c.args.own o (map written_of_handed (filter (is_of o t) xs))) items;
       canonical_is = c.new.ensures.canonical ∙ c.in_ok-data.ensures.canonical ∙ ap (λ xs. map (λ r. r.bytes) (filter (is_of o t) xs)) items ∙ data_are apex rs published.rising o t;
       signed_is = c.new.ensures.signed;
     }

@@ -1,12 +1,13 @@
 use Rattle.std.proofs.Common.{◌≡◌, ◌+◌, ◌++◌, take}
 use Rattle.std.specs.List.{flat_map}
 use Rattle.records.specs.Written.{record_octets}
-use Rattle.answer.specs.Composed.{HasRoom, record_of}
+use Rattle.answer_zone.specs.GroupView.{record_under}
+use Rattle.answer.specs.Composed.{HasRoom}
 use Rattle.answer.proofs.publisher.compose.Section.push_records.Given as goal
 
-abbrev pub invariant-loop-data : goal.invariant-loop-data
-invariant-loop-data l = record {
-  octets : l.self.octets.items ≡ l.initial.self.octets.items ++ flat_map (λ v. record_octets (record_of l.group l.rtype v.items)) (take l.data-index l.datas);
+abbrev pub invariant-loop-record : goal.invariant-loop-record
+invariant-loop-record l = record {
+  octets : l.self.octets.items ≡ l.initial.self.octets.items ++ flat_map (λ r. record_octets (record_under l.group.owner l.group.rtype r)) (take l.record-index l.record-items);
   room : HasRoom l.initial.self.octets.items l.initial.self.count → HasRoom l.self.octets.items l.self.count;
-  count : l.self.count ≡ l.initial.self.count + l.data-index;
+  count : l.self.count ≡ l.initial.self.count + l.record-index;
 }

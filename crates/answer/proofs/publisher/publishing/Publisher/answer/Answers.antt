@@ -14,6 +14,7 @@ use Rattle.answer_judge.proofs.DenialTypes.{allowed_plain}
 use Rattle.answer.proofs.Refusals.{answer_refused, if_err_map}
 use Rattle.answer_zone.proofs.ZoneData.{if_ok_map}
 use Rattle.answer.proofs.publisher.publishing.Publisher.answer.Goals as goal
+use Rattle.definitions.specs.Limits.{pointer_limit}
 
 pub answer_to-requires : goal.answer_to-requires
 answer_to-requires g c = allowed_plain c.args.self.now.zone.apex (asked_of c.args.question.now) (search rules)
@@ -54,7 +55,7 @@ returns-clause-given g c =
     let plain = allowed_plain z.apex asked (search rules) in
     if_ok_map
     (λ m. AnswersZone sign verifies (served hash z) z.apex at life (by_tag signers) asked m.items)
-    (λ m. GivesAnswer verifies 0 (served hash z) z.apex signers at life asked m.items)
+    (λ m. GivesAnswer verifies pointer_limit (served hash z) z.apex signers at life asked m.items)
     c.compose_answer.result
     (λ m w. answer_given sign verifies hash z at life signers asked m.items c.keeps.ensures.published c.keeps.ensures.handed c.keeps.ensures.mode c.keeps-2.ensures plain w)
     (returns-clause-answer g c)

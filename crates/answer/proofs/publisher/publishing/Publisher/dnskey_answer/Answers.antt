@@ -12,6 +12,7 @@ use Rattle.answer_zone.specs.Hashing.{served}
 use Rattle.answer.specs.declared.publisher.keys.Publication.TheVariants.{Present, SignsKeys}
 use Rattle.answer.proofs.Refusals.{if_err_map, keys_refused}
 use Rattle.answer.proofs.publisher.publishing.Publisher.dnskey_answer.Goals as goal
+use Rattle.definitions.specs.Limits.{pointer_limit}
 
 pub returns-clause-given : goal.returns-clause-given
 returns-clause-given g c =
@@ -27,7 +28,7 @@ returns-clause-given g c =
     let written : IfOk c.compose_answer.result (λ m. IsAnswer sign verifies z.apex at life (by_tag signers) 33792 (record { name = z.apex; rtype = 48; class = 1 }) (group ∷ []) [] m.items) = search rules in
     if_ok_map
     (λ m. IsAnswer sign verifies z.apex at life (by_tag signers) 33792 (record { name = z.apex; rtype = 48; class = 1 }) (group ∷ []) [] m.items)
-    (λ m. GivesKeys verifies 0 (served hash z) z.apex present signers at life m.items)
+    (λ m. GivesKeys verifies pointer_limit (served hash z) z.apex present signers at life m.items)
     c.compose_answer.result
     (λ m w. keys_given sign verifies hash z at life present signers m.items c.keeps.ensures.handed (record { group = group; presents = c.in_ok-group.ensures.presents; written = w }))
     written

@@ -1,0 +1,5 @@
+pub mod HeadSteps
+pub mod Inversion
+pub mod Parsing
+pub mod Steps
+pub mod SuffixSteps

@@ -1,0 +1,52 @@
+use Rattle.std.proofs.Common.{◌≡◌, ◌∙◌, ◌≤◌, length, refl, sym, ap, Err, arith}
+use Rattle.std.proofs.lemmas.Result.{err_from_is_err_and}
+use Rattle.std.proofs.lemmas.Bool.{false≢true}
+use Rattle.definitions.proofs.ReadingLaws.{ends_within}
+use Rattle.definitions.specs.Reading.{name_at}
+use Rattle.names_parsed.specs.Heads.{fault_of}
+use Rattle.names_parsed.proofs.Inversion.{standing}
+use Rattle.names_parsed.proofs.Parsing.{read_name, no_name, reads_name}
+use Rattle.names_parsed.proofs.parsed.ParsedName.parse.Goals as goal
+
+pub returns-in_err-walked-clause-refused : goal.returns-in_err-walked-clause-refused
+returns-in_err-walked-clause-refused c =
+    let p = err_from_is_err_and c.from_residual.result c.from_residual.ensures.1 in
+    let e = c.in_err-walked.field-0.0 in
+    let r = c.args.parser.now in
+    let read : name_at 255 r.octets r.place ≡ Err (fault_of e) = (λ i. name_at 255 (sym c.as_slice-message.ensures.octets i) (sym c.pos-start.ensures i)) ∙ c.in_err-walked.ensures in
+    rw p.1 (no_name r.octets r.place (fault_of e) read)
+
+pub returns-in_err-walked-clause-fault : goal.returns-in_err-walked-clause-fault
+returns-in_err-walked-clause-fault c =
+    let p = err_from_is_err_and c.from_residual.result c.from_residual.ensures.1 in
+    let e = c.in_err-walked.field-0.0 in
+    let r = c.args.parser.now in
+    let read : name_at 255 r.octets r.place ≡ Err (fault_of e) = (λ i. name_at 255 (sym c.as_slice-message.ensures.octets i) (sym c.pos-start.ensures i)) ∙ c.in_err-walked.ensures in
+    rw (p.1, p.2) read
+
+pub returns-in_err-seek-clause-refused : goal.returns-in_err-seek-clause-refused
+returns-in_err-seek-clause-refused c =
+    let w = c.in_ok-walked.ensures in
+    let m = c.as_slice-message.result.now in
+    let inside : c.in_ok-walked.walked.behind ≤ length m = (ends_within (read_name m c.pos-start.result w.0 c.in_ok-walked.walked.behind w.1).reads).1 in
+    absurd (false≢true (c.in_err-seek.ensures.inside.1 (omega (arith, inside, ap length c.as_slice-message.ensures.octets))))
+
+pub returns-in_err-seek-clause-fault : goal.returns-in_err-seek-clause-fault
+returns-in_err-seek-clause-fault c =
+    let w = c.in_ok-walked.ensures in
+    let m = c.as_slice-message.result.now in
+    let inside : c.in_ok-walked.walked.behind ≤ length m = (ends_within (read_name m c.pos-start.result w.0 c.in_ok-walked.walked.behind w.1).reads).1 in
+    absurd (false≢true (c.in_err-seek.ensures.inside.1 (omega (arith, inside, ap length c.as_slice-message.ensures.octets))))
+
+pub invariant_of-result : goal.invariant_of-result
+invariant_of-result c =
+    let w = c.in_ok-walked.ensures in
+    let m = c.as_slice-message.result.now in
+    let s = standing m c.pos-start.result w.0 c.in_ok-walked.walked.behind (read_name m c.pos-start.result w.0 c.in_ok-walked.walked.behind w.1) in
+    record { there = s.0; counted = omega (arith, w.2, ap length s.1) }
+
+pub returns-clause-ok : goal.returns-clause-ok
+returns-clause-ok c =
+    let w = c.in_ok-walked.ensures in
+    let m = c.as_slice-message.result.now in
+    reads_name c.args.parser.now c.seek.new.self m c.pos-start.result c.in_ok-walked.walked.behind w.0 _ c.as_slice-message.ensures.octets c.pos-start.ensures w.1 c.in_ok-seek.ensures.ok refl refl

@@ -1,0 +1,52 @@
+-- Reading a name head by head.
+use Rattle.std.specs.Prelude.{◌≡◌, ℕ, ◌+◌, ◌-◌, ◌<◌, ◌≤◌, List, [], ◌++◌, length, Option, Some, None, Result, Ok, Err, slice_range}
+use Rattle.definitions.specs.Name.{Name}
+use Rattle.definitions.specs.Reading.{ReadFault, Short, Malformed, most_heads, run_at, name_at}
+use Rattle.definitions.proofs.ReadingLaws.{finish, in_front, beyond, labels_of}
+use Rattle.names_parser.specs.declared.error.ParseError.{ParseError}
+use Rattle.names_parser.specs.declared.error.ParseError.TheVariants.{ShortInput, Form}
+use Rattle.names_parsed.specs.declared.head.Head.{Head}
+use Rattle.names_parsed.specs.declared.head.Head.TheVariants.{Root, Label, Pointer}
+use Rattle.names_parsed.specs.declared.head.Walked.{Walked}
+
+-- why a name can't be read
+abbrev pub fault_of : ParseError → ReadFault
+fault_of ShortInput = Short
+fault_of (Form f) = Malformed
+
+-- the labels from a place on, and the place behind them, with so many pointers left and in so many octets
+unfoldable pub rest_at : ℕ → ℕ → List ℕ → ℕ → Result (Name × ℕ) ReadFault
+rest_at k room m p = finish k m (run_at most_heads k room m p)
+
+-- a label that fits, and what is read behind it
+pub record LabelHead (k room : ℕ) (m : List ℕ) (p n : ℕ) : Type 0 where
+  pub some : 0 < n
+  pub fits : n + 2 ≤ room
+  pub inside : p + 1 + n ≤ length m
+  pub onward : rest_at k room m p ≡ in_front (slice_range m (p + 1) (p + 1 + n)) (rest_at k (room - (n + 1)) m (p + 1 + n))
+
+-- a pointer to a place before it, and what is read there
+pub record PointerHead (k room : ℕ) (m : List ℕ) (p to : ℕ) : Type 0 where
+  pub some : 0 < k
+  pub before : to < p
+  pub inside : p + 2 ≤ length m
+  pub onward : rest_at k room m p ≡ beyond (p + 2) (labels_of (rest_at (k - 1) room m to))
+
+-- what stands at a place, and what is read from there on
+abbrev pub Begins : ℕ → ℕ → List ℕ → ℕ → Result Head ParseError → Type 0
+Begins k room m p (Ok Root) = (p < length m) × (rest_at k room m p ≡ Ok ([], p + 1))
+Begins k room m p (Ok (Label n)) = LabelHead k room m p n
+Begins k room m p (Ok (Pointer to)) = PointerHead k room m p to
+Begins k room m p (Err e) = rest_at k room m p ≡ Err (fault_of e)
+
+-- how many labels the name at a place has, the root's included, and where it ends; or why there is none
+abbrev pub Walks : List ℕ → ℕ → Result Walked ParseError → Type 0
+Walks m p (Ok w) = (n : Name) × (name_at 255 m p ≡ Ok (n, w.behind)) × (w.labels ≡ length n + 1)
+Walks m p (Err e) = name_at 255 m p ≡ Err (fault_of e)
+
+-- labels that were read, and the end of a name that is known where a pointer was followed
+abbrev pub onto : Name → Option ℕ → Result (Name × ℕ) ReadFault → Result (Name × ℕ) ReadFault
+onto done None (Ok r) = Ok (done ++ r.0, r.1)
+onto done (Some b) (Ok r) = Ok (done ++ r.0, b)
+onto done None (Err f) = Err f
+onto done (Some b) (Err f) = Err f

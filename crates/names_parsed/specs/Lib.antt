@@ -1,0 +1,5 @@
+pub mod Heads
+pub mod Orders
+pub mod Parsed
+pub mod Standing
+pub mod Walking

@@ -1,0 +1,44 @@
+-- Names over a message, and reading them.
+use Rattle.std.specs.Prelude.{◌≡◌, ◌<◌, ℕ, List, Err}
+use Rattle.definitions.specs.Name.{Name}
+use Rattle.definitions.specs.Reading.{Reads, pointers_of, name_at}
+use Rattle.names_parser.specs.Reader.{Reader}
+use Rattle.names_parser.specs.declared.error.ParseError.{ParseError}
+use Rattle.names_parsed.specs.Standing.{Stands, name_from}
+use Rattle.names_parsed.specs.Heads.{fault_of}
+use Rattle.names_parsed.specs.declared.parsed.ParsedName.{ParsedName}
+
+-- the labels of the name, without the root's
+abbrev pub parsed_name : ParsedName → Name
+parsed_name n = name_from n.message.now n.start
+
+-- the message that it stands in
+abbrev pub message_of : ParsedName → List ℕ
+message_of n = n.message.now
+
+-- and where
+abbrev pub place_of : ParsedName → ℕ
+place_of n = n.start
+
+-- The name stands where the reader was, which goes behind it.
+pub record ReadsName (old new : Reader) (n : ParsedName) : Type 0 where
+  pub stands : Stands old.octets old.place (parsed_name n) new.place
+  pub octets : new.octets ≡ old.octets
+  pub message : message_of n ≡ old.octets
+  pub place : place_of n ≡ old.place
+
+-- no name stands where the reader is
+abbrev pub NoName : Reader → Type 0
+NoName r = (n : Name) (e : ℕ) → Stands r.octets r.place n e → ⊥
+
+-- reading a name there stops at this fault
+abbrev pub StopsAt : Reader → ParseError → Type 0
+StopsAt r e = name_at 255 r.octets r.place ≡ Err (fault_of e)
+
+-- a name stands there through pointers
+abbrev pub HasPointers : List ℕ → ℕ → Type 0
+HasPointers m p = (n : Name) × (e : ℕ) × (r : Reads m p 255 n e) × (0 < pointers_of r)
+
+-- or through none
+abbrev pub HasNoPointers : List ℕ → ℕ → Type 0
+HasNoPointers m p = (n : Name) × (e : ℕ) × (r : Reads m p 255 n e) × (pointers_of r ≡ 0)

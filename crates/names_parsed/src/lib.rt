@@ -1,0 +1,10 @@
+//! Names that stand in a message, read in place and through pointers.
+#![tactic(auto)]
+
+pub(crate) mod head;
+pub mod iter;
+pub mod order;
+pub mod parsed;
+pub mod suffixes;
+pub mod text;
+pub(crate) mod walk;

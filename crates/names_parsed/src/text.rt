@@ -1,0 +1,40 @@
+//! Names in messages as text (RFC 1035, 5.1), and brought into octets of their own.
+
+ghost use Rattle.std.specs.Prelude.{◌≡◌, Some};
+ghost use Rattle.definitions.specs.Text.{text_of_name};
+ghost use Rattle.names_parsed.specs.Parsed.{parsed_name};
+
+use crate::parsed::ParsedName;
+use names_flat::name::Name;
+use names_traits::flatten::FlattenInto;
+use names_traits::to_name::ToName;
+use names_wire::builder::ShortBuf;
+use std::alloc::Global;
+use std::fmt;
+
+/// The last dot is left out; the root is a dot.
+impl<'a> fmt::Display for ParsedName<'a> {
+    ghost output = { λ n. Some (text_of_name (parsed_name n)) };
+
+    fn fmt<W: fmt::Write>(&self, f: &mut fmt::Formatter<W>) -> fmt::Result {
+        let mut labels = self.relative_labels();
+        let Some(first) = labels.next() else {
+            return write!(f, ".");
+        };
+        write!(f, "{first}")?;
+        while let Some(label) = labels.next() {
+            write!(f, ".{label}")?;
+        }
+        Ok(())
+    }
+}
+
+impl<'a> ToName for ParsedName<'a> {}
+
+impl<'a> FlattenInto<Name<Vec<u8>>> for ParsedName<'a> {
+    ghost is_flat = { λ n m. m ≡ parsed_name n };
+
+    fn try_flatten_into(self, alloc: Global) -> Result<Name<Vec<u8>>, ShortBuf> {
+        self.to_vec(alloc)
+    }
+}
