@@ -1,5 +1,6 @@
 //! Judging with a scheme and a hasher alone.
 ghost use Rattle.std.specs.Prelude.{◌≡◌, ◌<◌};
+ghost use Rattle.definitions.specs.Limits.{pointer_limit};
 ghost use Rattle.messages.specs.Questions.{asked_of};
 ghost use Rattle.answer_judge.specs.Facts.{handed};
 ghost use Rattle.answer_judge.specs.Judging.{answer_of, verifications_of, hashes_of};
@@ -30,7 +31,7 @@ pub fn judge_with<S: Scheme, H: Nsec3Hasher>(
     now: u32,
     limit: u16,
 ) -> Result<Judgement, Refused>
-    ensures { IsJudgement 0
+    ensures { IsJudgement pointer_limit
         (record {
             verifies = S.verifies scheme.now;
             hash = H.hash_of hasher.now;
@@ -76,7 +77,7 @@ fn counted<S: Scheme, H: Nsec3Hasher, L: Ledger, M: Ledger>(
     requires second_name { second.name ≡ M.name }
     requires second_parts { second.parts ≡ M.parts }
     requires second_some { 0 < M.parts }
-    ensures { IsJudgement 0
+    ensures { IsJudgement pointer_limit
         (record {
             verifies = S.verifies scheme.now;
             hash = H.hash_of hasher.now;
