@@ -51,7 +51,7 @@ marked_owner w m rs apex o g a s =
     ∙ is_verified-owner w pointer_limit m rs g.owner o 47 (rrset_in pointer_limit m rs o 47) e
 
 -- it stands alone where the owner does
-alone_owner : (m : List ℕ) (rs : List Spelled) (apex a b : Name) → same a b ≡ true → stands_alone m apex rs b ≡ stands_alone m apex rs a
+pub alone_owner : (m : List ℕ) (rs : List Spelled) (apex a b : Name) → same a b ≡ true → stands_alone m apex rs b ≡ stands_alone m apex rs a
 alone_owner m rs apex a b s =
     let e : low b ≡ low a = sym (same_labels (low a) (low b) s) in
     (λ i. above-owner apex b a e i && (length (rrset_in-owner pointer_limit m rs b a 47 e i) == 1))

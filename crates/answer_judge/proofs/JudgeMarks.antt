@@ -19,7 +19,7 @@ pub or_true : (a b : Bool) → b ≡ true → (a || b) ≡ true
 or_true true b h = refl
 or_true false b h = h
 
-any_at : {X : Type 0} (p : X → Bool) (xs : List X) (i : ℕ) (x : X) → i < length xs → x ≡ get_or xs i x → p x ≡ true → list_any p xs ≡ true
+pub any_at : {X : Type 0} (p : X → Bool) (xs : List X) (i : ℕ) (x : X) → i < length xs → x ≡ get_or xs i x → p x ≡ true → list_any p xs ≡ true
 any_at p [] i x h e k = absurd (omega arith)
 any_at p (y ∷ xs) zero x h e k = ap (λ b. b || list_any p xs) (ap p (sym e) ∙ k)
 any_at p (y ∷ xs) (suc i) x h e k = or_true (p y) (list_any p xs) (any_at p xs i x (omega arith) e k)

@@ -25,3 +25,6 @@ pub mod GivenSorted
 pub mod GivenKeys
 pub mod GivenChained
 pub mod GivenJudged
+pub mod JudgeCounted
+pub mod JudgeSought
+pub mod JudgeTotals

@@ -1,11 +1,13 @@
 -- RRsets of a message, and which of them are verified, as contracts see them.
-use Rattle.std.specs.Prelude.{◌≡◌, Bool, true, false, not, ◌&&◌, ◌||◌, ◌==◌, ℕ, List, [], ◌∷◌, map, length, Option, Some, None}
+use Rattle.std.specs.Prelude.{◌≡◌, Bool, true, false, not, ◌&&◌, ◌||◌, ◌==◌, ℕ, ◌+◌, List, [], ◌∷◌, map, length, Option, Some, None}
 use Rattle.std.specs.List.{list_any, AllByRecursion}
 use Rattle.definitions.specs.Name.{Name, same, at_or_above}
 use Rattle.definitions.specs.Limits.{pointer_limit}
 use Rattle.answer_judge.specs.Answers.{Answers}
-use Rattle.answer_judge.specs.Facts.{Link}
-use Rattle.records.specs.Message.{Spelled, if_true}
+use Rattle.answer_judge.specs.Counted.{can_try, one_if}
+use Rattle.definitions.specs.Signing.{Fields}
+use Rattle.answer_judge.specs.Facts.{Link, is_signature}
+use Rattle.records.specs.Message.{Spelled, if_true, rrsig_at}
 use Rattle.answer_judge.specs.Verified.{Trusting, is_verified, rrset_in, link_of}
 use Rattle.answer_judge.specs.declared.judge.groups.Group.{Group}
 use Rattle.answer_judge.specs.declared.judge.groups.Trust.{Trust}
@@ -37,6 +39,24 @@ marked_if b g = record { owner = g.owner; rtype = g.rtype; items = g.items; veri
 -- verified where it was, or where one of the records verifies it
 abbrev pub marked : Trusting → List ℕ → List Spelled → Group → Group
 marked w m rs g = marked_if (is_verified w pointer_limit m rs g.owner g.rtype (data_in g)) g
+
+-- ---- signatures that are tried
+
+-- a signature of a group that is not verified yet
+abbrev pub tries_group : Trusting → Name → Fields → Group → Bool
+tries_group w owner f g = is_of owner f.covered g && (not g.verified && can_try w g.owner (data_in g) f)
+
+-- a record is one
+abbrev pub is_tried_in : Trusting → List ℕ → List Group → Spelled → Bool
+is_tried_in w m gs r = elim (is_signature r && (r.class == 1)) [
+  | false ↦ false
+  | true ↦ elim (rrsig_at pointer_limit m r) [ None ↦ false | Some f ↦ list_any (tries_group w r.owner f.0) gs ]
+]
+
+-- of some records in turn, each of which may verify a group
+abbrev pub tries_in : Trusting → List ℕ → List Group → List Spelled → ℕ
+tries_in w m gs [] = 0
+tries_in w m gs (r ∷ rs) = one_if (is_tried_in w m gs r) + tries_in w m (map (marked w m (r ∷ [])) gs) rs
 
 -- ---- NSEC records
 

@@ -14,6 +14,7 @@ use Rattle.answer_judge.specs.Given.{GivesKeys, GivesAnswer}
 use Rattle.records.specs.Handed.{IsHanded}
 use Rattle.answer_judge.specs.Judging.{Answer, Says, Handing, Judges, is_allowed, has_equal_tags}
 use Rattle.answer_judge.specs.Judged.{AnswersAs, judged}
+use Rattle.answer_judge.specs.Counted.{Counts, verifications_due}
 use Rattle.answer_zone.specs.Hashing.{served}
 use Rattle.answer_zone.specs.Served.{Served}
 use Rattle.messages.specs.WrittenLaws.{IsQuestion}
@@ -87,4 +88,6 @@ AnswersGiven a k h answer = (rs : List HandedRr) → WasGiven a k h rs → Answe
 pub record IsJudgement (k : ℕ) (a : Answers) (h : Handing) (answer : Answer) (verifications hashes : ℕ) : Type 0 where
   pub keeps : Judges k h answer verifications hashes
   pub exact : AnswersAs answer (judged a k h)
+  pub counts : Counts answer verifications (verifications_due a k h)
+  pub no_hashes : hashes ≡ 0
   pub given : AnswersGiven a k h answer

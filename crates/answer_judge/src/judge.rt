@@ -5,6 +5,7 @@ ghost use Rattle.definitions.specs.Dnskey.{dnskey_data};
 ghost use Rattle.definitions.specs.Zone.{sorted_data};
 ghost use Rattle.messages.specs.Questions.{asked_of};
 ghost use Rattle.messages.specs.Record.{spelled};
+ghost use Rattle.answer_judge.specs.Counted.{Counts, keys_sought, tries, tries_beyond, verifications_due};
 ghost use Rattle.answer_judge.specs.Verified.{is_verified};
 ghost use Rattle.answer_judge.specs.Marked.{held_by};
 ghost use Rattle.records.specs.Message.{message};
@@ -61,6 +62,10 @@ pub fn judge<C: Checks>(
     ensures given { AnswersGiven (C.answers checks.old) pointer_limit
         (handed apex.now ds.now dnskey_bytes.now answer_bytes.now (asked_of question.now) now limit)
         (answer_of result) }
+    ensures counts { Counts (answer_of result) (verifications_of result)
+        (verifications_due (C.answers checks.old) pointer_limit
+        (handed apex.now ds.now dnskey_bytes.now answer_bytes.now (asked_of question.now) now limit)) }
+    ensures no_hashes { hashes_of result ≡ 0 }
     ensures verified { C.verified checks.new ≡ C.verified checks.old + verifications_of result }
     ensures hashed { C.hashed checks.new ≡ C.hashed checks.old + hashes_of result }
     ensures same { C.answers checks.new ≡ C.answers checks.old }
@@ -133,6 +138,8 @@ fn judge_messages<C: Checks>(
     requires counts { count.old ≡ 0 }
     requires other { (question.now.rtype == 47) ≡ false }
     ensures exact { AnswersAs (said result) (judged_beyond (C.answers checks.old) pointer_limit (handed apex.now ds.now dnskey_bytes.now answer_bytes.now (asked_of question.now) now 0)) }
+    ensures counts { Counts (said result) count.new (tries_beyond (C.answers checks.old) pointer_limit
+        (handed apex.now ds.now dnskey_bytes.now answer_bytes.now (asked_of question.now) now 0)) }
     ensures verdict { OnOk result (message_refusal pointer_limit (handed apex.now ds.now dnskey_bytes.now answer_bytes.now (asked_of question.now) now 0) ≡ None) }
     ensures refusal { IfErr result (λ e. RefusesFirst e (message_refusal pointer_limit (handed apex.now ds.now dnskey_bytes.now answer_bytes.now (asked_of question.now) now 0))) }
     ensures counted { C.verified checks.new ≡ C.verified checks.old + count.new }
@@ -276,6 +283,9 @@ fn are_verified<C: Checks>(
 ) -> Result<bool, AllocError>
     requires { count.old + length records.now < 2 ^ 32 }
     ensures exact { IfOk result (λ b. b ≡ is_verified (held_by (C.answers checks.old) trust.now) pointer_limit message.now (map spelled records.now) trust.now.apex.now 48 (sorted_data (map dnskey_data keys.now))) }
+    ensures tried { IfOk result (λ _. count.new ≡ count.old
+        + tries (held_by (C.answers checks.old) trust.now) pointer_limit message.now
+        (keys_sought trust.now.apex.now keys.now) [] (map spelled records.now)) }
     ensures counted { C.verified checks.new + count.old ≡ C.verified checks.old + count.new }
     ensures bound { count.new ≤ count.old + length (filter is_signature (map spelled records.now)) }
     ensures few { count.new ≤ count.old + length records.now }

@@ -1,9 +1,10 @@
 //! From bytes to verified facts (RFC 4035, 5.3).
-ghost use Rattle.std.specs.Prelude.{◌≡◌, ◌==◌, ◌+◌, ◌<◌, ◌≤◌, ◌^◌, false, IfOk, MatchOption, length, map, filter};
+ghost use Rattle.std.specs.Prelude.{◌≡◌, ◌==◌, ◌+◌, ◌<◌, ◌≤◌, ◌^◌, [], false, IfOk, MatchOption, length, map, filter};
 ghost use Rattle.definitions.specs.Limits.{pointer_limit};
 ghost use Rattle.std.specs.List.{list_any, filter_map};
 ghost use Rattle.messages.specs.Record.{spelled};
 ghost use Rattle.answer_judge.specs.Facts.{is_signature};
+ghost use Rattle.answer_judge.specs.Counted.{answer_sought, tries};
 ghost use Rattle.answer_judge.specs.Verified.{verified_rrset, verified_links};
 ghost use Rattle.answer_judge.specs.Marked.{held_by, has_owner, is_proved, is_nsec, stands_alone, IsAlone, AreGathered, link_by, data_verified};
 
@@ -39,6 +40,10 @@ pub(crate) fn read_facts<'a, C: Checks>(
     requires other { (rtype == 47) ≡ false }
     ensures answer { IfOk result (λ f. f.answer ≡ verified_rrset (held_by (C.answers checks.old) trust.now) pointer_limit message.now (map spelled records.now) name.now rtype) }
     ensures links { IfOk result (λ f. f.links.items ≡ verified_links (held_by (C.answers checks.old) trust.now) pointer_limit message.now (map spelled records.now)) }
+    ensures tried { IfOk result (λ _. count.new ≡ count.old
+        + tries (held_by (C.answers checks.old) trust.now) pointer_limit message.now
+        (answer_sought pointer_limit message.now trust.now.apex.now (map spelled records.now) name.now rtype)
+        [] (map spelled records.now)) }
     ensures counted { C.verified checks.new + count.old ≡ C.verified checks.old + count.new }
     ensures bound { count.new ≤ count.old + length (filter is_signature (map spelled records.now)) }
     ensures hashed { C.hashed checks.new ≡ C.hashed checks.old }

@@ -5,7 +5,8 @@ ghost use Rattle.messages.specs.Record.{spelled};
 ghost use Rattle.answer_judge.specs.Facts.{is_signature, is_due, fits_key, fields_read, signs};
 ghost use Rattle.answer_judge.specs.Verified.{datum_of, rrset_in};
 ghost use Rattle.answer_judge.specs.declared.judge.groups.Group.{Group};
-ghost use Rattle.answer_judge.specs.Marked.{held_by, is_of, are_apart, marked};
+ghost use Rattle.answer_judge.specs.Marked.{held_by, is_of, are_apart, data_in, marked, is_tried_in, tries_in};
+ghost use Rattle.answer_judge.specs.Counted.{can_try, one_if};
 ghost use Rattle.std.specs.Option.{option_map};
 ghost use Rattle.std.specs.List.{find, list_any};
 ghost use Rattle.definitions.specs.Name.{same};
@@ -106,6 +107,8 @@ pub(crate) fn verify_groups<C: Checks>(
     requires room { count.old + length records.now < 2 ^ 32 }
     requires apart { are_apart groups.old ≡ true }
     ensures marked { IfOk result (λ _. groups.new ≡ map (marked (held_by (C.answers checks.old) trust.now) message.now (map spelled records.now)) groups.old) }
+    ensures tried { IfOk result (λ _. count.new ≡ count.old
+        + tries_in (held_by (C.answers checks.old) trust.now) message.now groups.old (map spelled records.now)) }
     ensures counted { C.verified checks.new + count.old ≡ C.verified checks.old + count.new }
     ensures bound { count.new ≤ count.old + length (filter is_signature (map spelled records.now)) }
     ensures few { count.new ≤ count.old + length records.now }
@@ -134,6 +137,8 @@ fn verify_record<C: Checks>(
     requires signature { is_signature (spelled record.now) ≡ true }
     requires apart { are_apart groups.old ≡ true }
     ensures marked { IfOk result (λ _. groups.new ≡ map (marked (held_by (C.answers checks.old) trust.now) message.now (spelled record.now ∷ [])) groups.old) }
+    ensures tried { IfOk result (λ _. count.new ≡ count.old + one_if
+        (is_tried_in (held_by (C.answers checks.old) trust.now) message.now groups.old (spelled record.now))) }
     ensures counted { C.verified checks.new + count.old ≡ C.verified checks.old + count.new }
     ensures bound { count.new ≤ count.old + 1 }
     ensures hashed { C.hashed checks.new ≡ C.hashed checks.old }
@@ -178,6 +183,8 @@ fn verifies<C: Checks>(
 ) -> Result<bool, AllocError>
     requires { count.old + 1 < 2 ^ 32 }
     ensures signs { IfOk result (λ b. b ≡ signs (C.answers checks.old) trust.now.apex.now trust.now.keys.now trust.now.moment group.now.owner (map (λ d. d.items) group.now.items.items) (fields_read signature.now) signature.now.signature.now) }
+    ensures tried { IfOk result (λ _. count.new ≡ count.old + one_if
+        (can_try (held_by (C.answers checks.old) trust.now) group.now.owner (data_in group.now) (fields_read signature.now))) }
     ensures counted { C.verified checks.new + count.old ≡ C.verified checks.old + count.new }
     ensures bound { count.new ≤ count.old + 1 }
     ensures hashed { C.hashed checks.new ≡ C.hashed checks.old }

@@ -1,4 +1,4 @@
-use Rattle.std.proofs.Common.{rules, arith, ◌≡◌, map, filter, sym, ap, subst, ◌∙◌}
+use Rattle.std.proofs.Common.{rules, arith, ◌≡◌, map, filter, [], ◌+◌, inr, sym, ap, subst, ◌∙◌}
 use Rattle.std.specs.Prelude.{None}
 use Rattle.std.specs.Option.{option_map}
 use Rattle.definitions.specs.Dnskey.{dnskey_data}
@@ -10,6 +10,8 @@ use Rattle.answer_judge.specs.Judged.{trusting, keys_of, judged_beyond, said, An
 use Rattle.messages.specs.Record.{spelled}
 use Rattle.answer_judge.specs.Verified.{is_verified, verified_rrset, verified_links}
 use Rattle.messages.proofs.CountedRecords.{same_count}
+use Rattle.answer_judge.specs.Counted.{answer_sought, keys_sought, tries}
+use Rattle.answer_judge.proofs.JudgeTotals.{key_tries_as, keys_alone, keys_and_answer}
 use Rattle.answer_judge.proofs.JudgeWhole.{beyond, chained_as, usable_as, untrusted, decided_as, answered}
 use Rattle.answer_judge.proofs.judge.judge_messages.Goals as goal
 
@@ -67,3 +69,45 @@ returns-clause-exact g c =
     let all = decided_as a h keys answer c.in_ok-usable.usable.items (map spelled c.in_ok-records.records.items) c.in_ok-facts.facts.answer c.in_ok-facts.facts.links.items (option_map verdict_of c.in_ok-verdict.verdict)
     (beyond a pointer_limit h keys answer c.in_ok-keys_view.ensures.keys c.in_ok-keys_view.ensures.answer none) chain usable c.in_ok-records.ensures found links decides in
     subst (λ o. AnswersAs (said o) (judged_beyond a pointer_limit h)) (sym c.ok_or.ensures.value) (answered c.in_ok-verdict.verdict (judged_beyond a pointer_limit h) all)
+
+-- the signatures that were tried on the keys
+pub returns-then-not-branch-clause-counts : goal.returns-then-not-branch-clause-counts
+returns-then-not-branch-clause-counts g c =
+    let a = g.C.Checks.answers c.args.checks.now in
+    let h = handed c.args.apex.now c.args.ds.now c.args.dnskey_bytes.now c.args.answer_bytes.now (record { name = c.args.question.now.name; rtype = c.args.question.now.rtype; class = c.args.question.now.class }) c.args.now 0 in
+    let keys = c.in_ok-keys_view.keys_view in
+    let answer = c.in_ok-keys_view.answer_view in
+    let none : message_refusal pointer_limit h ≡ None = search rules in
+    let rs = map spelled c.in_ok-key_records.key_records.items in
+    let ks : c.in_ok-keys.keys.items ≡ keys_in h.dnskey_bytes h.apex rs = c.in_ok-keys.ensures ∙ ap (λ v. keys_in h.dnskey_bytes h.apex (map spelled v)) c.deref.ensures.value in
+    let trusted : c.in_ok-trusted.trusted.items ≡ filter (is_trusted a h.apex h.ds) c.in_ok-keys.keys.items = c.in_ok-trusted.ensures.trusted ∙ ap (filter (is_trusted a h.apex h.ds)) c.deref-3.ensures.value in
+    let same = c.in_ok-trusted.ensures.same in
+    let chained : c.in_ok-are_verified.field-0 ≡ is_verified (trusting a h c.in_ok-trusted.trusted.items) pointer_limit h.dnskey_bytes rs h.apex 48 (sorted_data (map dnskey_data c.in_ok-keys.keys.items)) =
+    c.in_ok-are_verified.ensures.exact ∙ (λ i. is_verified (trusting (same i) h (c.deref-4.ensures.value i)) pointer_limit h.dnskey_bytes (map spelled (c.deref-5.ensures.value i)) h.apex 48 (sorted_data (map dnskey_data (c.deref-6.ensures.value i)))) in
+    let tried = c.in_ok-are_verified.ensures.tried ∙ (λ i. c.requires.counts i + tries (trusting (same i) h (c.deref-4.ensures.value i)) pointer_limit h.dnskey_bytes (keys_sought h.apex (c.deref-6.ensures.value i)) [] (map spelled (c.deref-5.ensures.value i))) in
+    inr (keys_alone a h keys answer c.are_verified.new.count none c.in_ok-keys_view.ensures.keys c.in_ok-keys_view.ensures.answer
+    (sym c.if-not-branch.true ∙ chained_as a h keys rs c.in_ok-keys.keys.items c.in_ok-trusted.trusted.items c.in_ok-are_verified.field-0 c.in_ok-key_records.ensures ks trusted chained)
+    (key_tries_as a h keys rs c.in_ok-keys.keys.items c.in_ok-trusted.trusted.items c.are_verified.new.count c.in_ok-key_records.ensures ks trusted tried))
+
+-- and on the answer
+pub returns-clause-counts : goal.returns-clause-counts
+returns-clause-counts g c =
+    let a = g.C.Checks.answers c.args.checks.now in
+    let h = handed c.args.apex.now c.args.ds.now c.args.dnskey_bytes.now c.args.answer_bytes.now (record { name = c.args.question.now.name; rtype = c.args.question.now.rtype; class = c.args.question.now.class }) c.args.now 0 in
+    let keys = c.in_ok-keys_view.keys_view in
+    let answer = c.in_ok-keys_view.answer_view in
+    let none : message_refusal pointer_limit h ≡ None = search rules in
+    let rs = map spelled c.in_ok-key_records.key_records.items in
+    let ks : c.in_ok-keys.keys.items ≡ keys_in h.dnskey_bytes h.apex rs = c.in_ok-keys.ensures ∙ ap (λ v. keys_in h.dnskey_bytes h.apex (map spelled v)) c.deref.ensures.value in
+    let trusted : c.in_ok-trusted.trusted.items ≡ filter (is_trusted a h.apex h.ds) c.in_ok-keys.keys.items = c.in_ok-trusted.ensures.trusted ∙ ap (filter (is_trusted a h.apex h.ds)) c.deref-3.ensures.value in
+    let same = c.in_ok-trusted.ensures.same in
+    let chained : c.in_ok-are_verified.field-0 ≡ is_verified (trusting a h c.in_ok-trusted.trusted.items) pointer_limit h.dnskey_bytes rs h.apex 48 (sorted_data (map dnskey_data c.in_ok-keys.keys.items)) =
+    c.in_ok-are_verified.ensures.exact ∙ (λ i. is_verified (trusting (same i) h (c.deref-4.ensures.value i)) pointer_limit h.dnskey_bytes (map spelled (c.deref-5.ensures.value i)) h.apex 48 (sorted_data (map dnskey_data (c.deref-6.ensures.value i)))) in
+    let tried = c.in_ok-are_verified.ensures.tried ∙ (λ i. c.requires.counts i + tries (trusting (same i) h (c.deref-4.ensures.value i)) pointer_limit h.dnskey_bytes (keys_sought h.apex (c.deref-6.ensures.value i)) [] (map spelled (c.deref-5.ensures.value i))) in
+    let usable : c.in_ok-usable.usable.items ≡ filter is_usable (keys_of h keys) = usable_as h keys rs c.in_ok-keys.keys.items c.in_ok-usable.usable.items c.in_ok-key_records.ensures ks (c.in_ok-usable.ensures ∙ ap (filter is_usable) c.deref-7.ensures.value) in
+    let later = c.in_ok-are_verified.ensures.same ∙ same in
+    let more = c.in_ok-facts.ensures.tried ∙ (λ i. c.are_verified.new.count + tries (trusting (later i) h (c.deref-8.ensures.value i)) pointer_limit h.answer_bytes (answer_sought pointer_limit h.answer_bytes h.apex (map spelled (c.deref-9.ensures.value i)) h.asked.name h.asked.rtype) [] (map spelled (c.deref-9.ensures.value i))) in
+    inr (keys_and_answer a h keys answer c.in_ok-usable.usable.items (map spelled c.in_ok-records.records.items) c.are_verified.new.count c.read_facts.new.count none c.in_ok-keys_view.ensures.keys c.in_ok-keys_view.ensures.answer
+    (sym c.if-not-branch.false ∙ chained_as a h keys rs c.in_ok-keys.keys.items c.in_ok-trusted.trusted.items c.in_ok-are_verified.field-0 c.in_ok-key_records.ensures ks trusted chained)
+    (key_tries_as a h keys rs c.in_ok-keys.keys.items c.in_ok-trusted.trusted.items c.are_verified.new.count c.in_ok-key_records.ensures ks trusted tried)
+    usable c.in_ok-records.ensures more)

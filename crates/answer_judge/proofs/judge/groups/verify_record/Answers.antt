@@ -1,10 +1,11 @@
-use Rattle.std.proofs.Common.{◌≡◌, ◌==◌, true, false, sym, ap, ◌∙◌}
+use Rattle.std.proofs.Common.{◌≡◌, ◌==◌, true, false, refl, sym, ap, ◌∙◌}
 use Rattle.std.specs.Prelude.{Some}
 use Rattle.std.specs.Option.{option_map}
 use Rattle.std.proofs.lemmas.Bool.{not-true, not-false}
 use Rattle.messages.specs.Record.{spelled, signature_of}
 use Rattle.records.specs.Message.{rrsig_at}
 use Rattle.answer_judge.specs.Marked.{held_by}
+use Rattle.answer_judge.proofs.JudgeCounted.{count_again, count_class, count_none, count_now, count_unread}
 use Rattle.answer_judge.proofs.JudgeTried.{untried, tried_none, tried_now, tried_again, class_other, no_signature}
 use Rattle.answer_judge.proofs.judge.groups.verify_record.Goals as goal
 use Rattle.answer_judge.proofs.judge.groups.verify_record.Goals.{in-Some-place_of+then-not-group+in_ok-group, in-Some-place_of+else-not-group, in_default-place_of}
@@ -23,6 +24,37 @@ returns-in_default-clause-marked g c =
     let r = spelled c.args.record.now in
     let h = sym c.in_ok-signature.ensures ∙ ap (option_map signature_of) c.in_default.is in
     untried w c.args.message.now r c.args.groups.now (λ g. no_signature w c.args.message.now r g h)
+
+pub returns-then-ne-clause-tried : goal.returns-then-ne-clause-tried
+returns-then-ne-clause-tried g c =
+    let w = held_by (g.C.Checks.answers c.args.checks.now) c.args.trust.now in
+    count_class w c.args.message.now (spelled c.args.record.now) c.args.groups.now c.args.count.now c.args.count.now (not-true _ (sym c.ne.ensures ∙ c.if-ne.true)) refl
+
+pub returns-in_default-clause-tried : goal.returns-in_default-clause-tried
+returns-in_default-clause-tried g c =
+    let w = held_by (g.C.Checks.answers c.args.checks.now) c.args.trust.now in
+    count_unread w c.args.message.now (spelled c.args.record.now) c.args.groups.now c.args.count.now c.args.count.now (sym c.in_ok-signature.ensures ∙ ap (option_map signature_of) c.in_default.is) refl
+
+pub returns-clause-tried : goal.returns-clause-tried
+returns-clause-tried g c =
+    let w = held_by (g.C.Checks.answers c.args.checks.now) c.args.trust.now in
+    let r = spelled c.args.record.now in
+    let m = c.args.message.now in
+    let gs = c.args.groups.now in
+    let s = c.in-Some.signature in
+    let class : (r.class == 1) ≡ true = not-false _ (sym c.ne.ensures ∙ c.if-ne.false) in
+    let read : rrsig_at pointer_limit m r ≡ Some (signature_of s) = sym c.in_ok-signature.ensures ∙ ap (option_map signature_of) c.in-Some.is in
+    elim c.match-place_of.branch [
+      | in-Some-place_of+then-not-group+in_ok-group b ↦
+          let i = b.in-Some-place_of.place in
+          let x = b.index-groups-place.result in
+          b.count-is ∙ count_now w m r s gs i x c.args.count.now _ read c.requires.signature class c.requires.apart b.in-Some-place_of.ensures.within b.index-groups-place.is (b.in-Some-place_of.ensures.found x b.index-groups-place.is) (ap (λ y. y.verified) b.index-groups-place.is ∙ b.if-not-group.true) b.in_ok-group.ensures.tried
+      | in-Some-place_of+else-not-group b ↦
+          let i = b.in-Some-place_of.place in
+          let x = b.index-groups-place.result in
+          b.count-is ∙ count_again w m r (signature_of s) gs i x c.args.count.now c.args.count.now read c.requires.signature class c.requires.apart b.in-Some-place_of.ensures.within b.index-groups-place.is (b.in-Some-place_of.ensures.found x b.index-groups-place.is) (ap (λ y. y.verified) b.index-groups-place.is ∙ b.if-not-group.false) refl
+      | in_default-place_of b ↦ b.count-is ∙ count_none w m r (signature_of s) gs c.args.count.now c.args.count.now read c.requires.signature class b.in_default-place_of.ensures.found refl
+    ]
 
 pub returns-clause-marked : goal.returns-clause-marked
 returns-clause-marked g c =

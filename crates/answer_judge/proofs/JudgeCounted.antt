@@ -1,0 +1,219 @@
+-- How many signatures are tried, by groups as the code has them, is how many are due.
+use Rattle.std.proofs.Common.{◌≡◌, ℕ, zero, suc, ◌+◌, ◌<◌, ◌≤◌, Bool, true, false, not, ◌&&◌, ◌||◌, ◌==◌, List, [], ◌∷◌, ◌++◌, map, length, drop, get_or, refl, sym, ap, subst, ◌∙◌, arith, inl, inr, ◌⊎◌, ⊎_elim}
+use Rattle.std.specs.Prelude.{Option, Some, None}
+use Rattle.std.specs.Option.{is_some}
+use Rattle.std.specs.List.{AllByRecursion, find, list_any}
+use Rattle.std.proofs.lemmas.Bool.{and_parts, eqb-true, or_parts, not-true, false≢true}
+use Rattle.std.proofs.lemmas.List.{drop_all}
+use Rattle.definitions.specs.Limits.{pointer_limit}
+use Rattle.definitions.specs.Name.{Name, labels_eq, low, same}
+use Rattle.definitions.specs.Signing.{Fields, in_time, label_count}
+use Rattle.messages.specs.Record.{fields_of, signature_of, spelled}
+use Rattle.messages.specs.declared.rdata.RrsigView.{RrsigView}
+use Rattle.messages.specs.declared.view.ViewRecord.{ViewRecord}
+use Rattle.records.specs.Message.{Spelled, rrsig_at}
+use Rattle.records.proofs.Lists.{items_from, list_any-map}
+use Rattle.records.proofs.ZoneNames.{low-low, same_labels}
+use Rattle.answer_judge.specs.Counted.{Sought, can_try, is_tried, one_if, tries, tries_fields}
+use Rattle.answer_judge.specs.Facts.{fields_read, fits_key, is_due, is_signature}
+use Rattle.answer_judge.specs.Marked.{are_apart, data_in, is_like, is_of, is_tried_in, marked, tries_group, tries_in}
+use Rattle.answer_judge.specs.Verified.{Trusting, is_verified, verifies_with}
+use Rattle.answer_judge.specs.declared.judge.groups.Group.{Group}
+use Rattle.answer_judge.proofs.JudgeCase.{is_due-owner, is_verified-owner}
+use Rattle.answer_judge.proofs.JudgeMarks.{any_at, marked_done, none_like, or_no}
+use Rattle.answer_judge.proofs.JudgeTried.{both_of}
+
+-- ---- tests of two parts
+
+both_shut : (a b : Bool) → b ≡ false → (a && b) ≡ false
+both_shut true b h = h
+both_shut false b h = refl
+
+none_of : (p c : Group → Bool) (gs : List Group) → list_any p gs ≡ false → list_any (λ g. p g && c g) gs ≡ false
+none_of p c [] h = refl
+none_of p c (g ∷ gs) h =
+    let o = or_parts (p g) (list_any p gs) h in
+    λ i. (o.0 i && c g) || none_of p c gs o.1 i
+
+-- where the second part is the same for all that pass the first
+any_alike : (p c : Group → Bool) (b : Bool) (gs : List Group) → AllByRecursion (λ g. p g ≡ true → c g ≡ b) gs → list_any (λ g. p g && c g) gs ≡ (list_any p gs && b)
+any_alike p c b [] h = refl
+any_alike p c b (g ∷ gs) h =
+    let rest = any_alike p c b gs h.1 in
+    let go : (t : Bool) → p g ≡ t → ((t && c g) || list_any (λ g. p g && c g) gs) ≡ ((t || list_any p gs) && b) =
+    λ t. elim t as (λ t. p g ≡ t → ((t && c g) || list_any (λ g. p g && c g) gs) ≡ ((t || list_any p gs) && b)) [
+      | true ↦ λ e. (λ i. h.0 e i || rest i) ∙ absorbed b (list_any p gs)
+      | false ↦ λ e. rest
+    ] in
+    go (p g) refl
+  where
+    absorbed : (b x : Bool) → (b || (x && b)) ≡ b
+    absorbed true x = refl
+    absorbed false true = refl
+    absorbed false false = refl
+
+-- of groups that are apart, one at a place passes the first part alone
+any_one : (o : Name) (t : ℕ) (c : Group → Bool) (gs : List Group) (i : ℕ) (g : Group) → are_apart gs ≡ true → i < length gs → g ≡ get_or gs i g → is_of o t g ≡ true → list_any (λ g. is_of o t g && c g) gs ≡ c g
+any_one o t c [] i g a h e k = absurd (omega arith)
+any_one o t c (x ∷ gs) zero g a h e k =
+    let p = and_parts (not (list_any (is_like x) gs)) (are_apart gs) a in
+    let is : is_of o t x ≡ true = ap (is_of o t) (sym e) ∙ k in
+    let none = none_of (is_of o t) c gs (none_like (is_of o t) (is_like x) (λ y s. both_of o t x y is s) gs (not-true _ p.0)) in
+    (λ j. (is j && c x) || none j) ∙ or_no (c x) ∙ ap c (sym e)
+any_one o t c (x ∷ gs) (suc i) g a h e k =
+    let p = and_parts (not (list_any (is_like x) gs)) (are_apart gs) a in
+    let inside : i < length gs = omega arith in
+    let first : (v : Bool) → is_of o t x ≡ v → is_of o t x ≡ false = λ v s. elim v as (λ v. is_of o t x ≡ v → is_of o t x ≡ false) [
+      | true ↦ (λ s. absurd (false≢true (sym (not-true _ p.0) ∙ any_at (is_like x) gs i g inside e (both_of o t x g s k))))
+      | false ↦ (λ s. s)
+    ] s in
+    (λ j. (first (is_of o t x) refl j && c x) || list_any (λ g. is_of o t g && c g) gs) ∙ any_one o t c gs i g p.1 inside e k
+
+-- ---- one record
+
+gate_class : (a x : Bool) → elim (a && false) as (λ _. Bool) [ false ↦ false | true ↦ x ] ≡ false
+gate_class true x = refl
+gate_class false x = refl
+
+gate_shut : (b : Bool) → elim b as (λ _. Bool) [ false ↦ false | true ↦ false ] ≡ false
+gate_shut true = refl
+gate_shut false = refl
+
+abbrev tried_of : Trusting → List Group → Name → Option (Fields × List ℕ) → Bool
+tried_of w gs owner o = elim o [ None ↦ false | Some f ↦ list_any (tries_group w owner f.0) gs ]
+
+same_count : (n m : ℕ) (b : Bool) → m ≡ n → b ≡ false → m ≡ n + one_if b
+same_count n m b e f = omega (arith, e, ap one_if f)
+
+pub count_class : (w : Trusting) (m : List ℕ) (r : Spelled) (gs : List Group) (n k : ℕ) → (r.class == 1) ≡ false → k ≡ n → k ≡ n + one_if (is_tried_in w m gs r)
+count_class w m r gs n k h e =
+    same_count n k (is_tried_in w m gs r) e
+    ((λ i. elim (is_signature r && h i) as (λ _. Bool) [ false ↦ false | true ↦ tried_of w gs r.owner (rrsig_at pointer_limit m r) ])
+    ∙ gate_class (is_signature r) (tried_of w gs r.owner (rrsig_at pointer_limit m r)))
+
+pub count_unread : (w : Trusting) (m : List ℕ) (r : Spelled) (gs : List Group) (n k : ℕ) → rrsig_at pointer_limit m r ≡ None → k ≡ n → k ≡ n + one_if (is_tried_in w m gs r)
+count_unread w m r gs n k h e =
+    same_count n k (is_tried_in w m gs r) e
+    ((λ i. elim (is_signature r && (r.class == 1)) as (λ _. Bool) [ false ↦ false | true ↦ tried_of w gs r.owner (h i) ])
+    ∙ gate_shut (is_signature r && (r.class == 1)))
+
+-- a signature record of class IN
+read_as : (w : Trusting) (m : List ℕ) (r : Spelled) (f : Fields × List ℕ) (gs : List Group) → rrsig_at pointer_limit m r ≡ Some f → is_signature r ≡ true → (r.class == 1) ≡ true → is_tried_in w m gs r ≡ list_any (tries_group w r.owner f.0) gs
+read_as w m r f gs e s c = λ i. elim (s i && c i) as (λ _. Bool) [ false ↦ false | true ↦ tried_of w gs r.owner (e i) ]
+
+pub count_none : (w : Trusting) (m : List ℕ) (r : Spelled) (f : Fields × List ℕ) (gs : List Group) (n k : ℕ) → rrsig_at pointer_limit m r ≡ Some f → is_signature r ≡ true → (r.class == 1) ≡ true
+    → list_any (is_of r.owner f.0.covered) gs ≡ false → k ≡ n → k ≡ n + one_if (is_tried_in w m gs r)
+count_none w m r f gs n k e s c none same =
+    same_count n k (is_tried_in w m gs r) same (read_as w m r f gs e s c ∙ none_of (is_of r.owner f.0.covered) (λ g. not g.verified && can_try w g.owner (data_in g) f.0) gs none)
+
+at_place : (w : Trusting) (m : List ℕ) (r : Spelled) (f : Fields × List ℕ) (gs : List Group) (i : ℕ) (g : Group) → rrsig_at pointer_limit m r ≡ Some f → is_signature r ≡ true → (r.class == 1) ≡ true
+    → are_apart gs ≡ true → i < length gs → g ≡ get_or gs i g → is_of r.owner f.0.covered g ≡ true → is_tried_in w m gs r ≡ (not g.verified && can_try w g.owner (data_in g) f.0)
+at_place w m r f gs i g e s c a h at own =
+    read_as w m r f gs e s c ∙ any_one r.owner f.0.covered (λ g. not g.verified && can_try w g.owner (data_in g) f.0) gs i g a h at own
+
+pub count_again : (w : Trusting) (m : List ℕ) (r : Spelled) (f : Fields × List ℕ) (gs : List Group) (i : ℕ) (g : Group) (n k : ℕ) → rrsig_at pointer_limit m r ≡ Some f → is_signature r ≡ true → (r.class == 1) ≡ true
+    → are_apart gs ≡ true → i < length gs → g ≡ get_or gs i g → is_of r.owner f.0.covered g ≡ true → g.verified ≡ true → k ≡ n → k ≡ n + one_if (is_tried_in w m gs r)
+count_again w m r f gs i g n k e s c a h at own v same =
+    same_count n k (is_tried_in w m gs r) same (at_place w m r f gs i g e s c a h at own ∙ ap (λ b. not b && can_try w g.owner (data_in g) f.0) v)
+
+-- whether the signer is lowered makes no difference
+try-signer : (w : Trusting) (owner : Name) (items : List (List ℕ)) (s : RrsigView) → can_try w owner items (fields_of s) ≡ can_try w owner items (fields_read s)
+try-signer w owner items s =
+    let d : is_due w.apex w.now owner (fields_of s) ≡ is_due w.apex w.now owner (fields_read s) = ap (λ n. (s.labels == label_count owner) && in_time (fields_read s) w.now && labels_eq n (low w.apex)) (low-low s.signer) in
+    λ i. elim (not (length items == 0) && d i) as (λ _. Bool) [ false ↦ false | true ↦ is_some (find (fits_key (fields_read s)) w.keys) ]
+
+pub count_now : (w : Trusting) (m : List ℕ) (r : Spelled) (s : RrsigView) (gs : List Group) (i : ℕ) (g : Group) (n k : ℕ) → rrsig_at pointer_limit m r ≡ Some (signature_of s) → is_signature r ≡ true → (r.class == 1) ≡ true
+    → are_apart gs ≡ true → i < length gs → g ≡ get_or gs i g → is_of r.owner s.type_covered g ≡ true → g.verified ≡ false
+    → k ≡ n + one_if (can_try w (get_or gs i g).owner (data_in (get_or gs i g)) (fields_read s)) → k ≡ n + one_if (is_tried_in w m gs r)
+count_now w m r s gs i g n k e sig c a h at own not_yet counted =
+    let f = signature_of s in
+    let is : is_tried_in w m gs r ≡ can_try w (get_or gs i g).owner (data_in (get_or gs i g)) (fields_read s) =
+    at_place w m r f gs i g e sig c a h at own ∙ ap (λ b. not b && can_try w g.owner (data_in g) f.0) not_yet
+    ∙ try-signer w g.owner (data_in g) s ∙ ap (λ (y : Group). can_try w y.owner (data_in y) (fields_read s)) at in
+    counted ∙ ap (λ b. n + one_if b) (sym is)
+
+-- ---- records in turn
+
+pub tries_unsigned : (w : Trusting) (m : List ℕ) (r : Spelled) (gs : List Group) → is_signature r ≡ false → is_tried_in w m gs r ≡ false
+tries_unsigned w m r gs h = λ i. elim (h i && (r.class == 1)) as (λ _. Bool) [ false ↦ false | true ↦ tried_of w gs r.owner (rrsig_at pointer_limit m r) ]
+
+pub tries_next : (w : Trusting) (m : List ℕ) (rs : List ViewRecord) (i : ℕ) (r : ViewRecord) (now new : List Group) → i < length rs → r ≡ get_or rs i r → new ≡ map (marked w m (spelled r ∷ [])) now
+    → tries_in w m now (map spelled (drop i rs)) ≡ one_if (is_tried_in w m now (spelled r)) + tries_in w m new (map spelled (drop (i + 1) rs))
+tries_next w m rs i r now new h e n =
+    ap (λ ys. tries_in w m now (map spelled ys)) (items_from rs i r h e)
+    ∙ ap (λ gs. one_if (is_tried_in w m now (spelled r)) + tries_in w m gs (map spelled (drop (i + 1) rs))) (sym n)
+
+pub tries_last : (w : Trusting) (m : List ℕ) (rs : List ViewRecord) (i : ℕ) (gs : List Group) → length rs ≤ i → tries_in w m gs (map spelled (drop i rs)) ≡ 0
+tries_last w m rs i gs h = ap (λ ys. tries_in w m gs (map spelled ys)) (drop_all i rs h)
+
+-- ---- the groups are what is sought
+
+pub record AreSought (s : Sought) (gs : List Group) : Type 0 where
+  pub found : (o : Name) (t : ℕ) → s.is o t ≡ list_any (is_of o t) gs
+  pub datas : (o : Name) (t : ℕ) → AllByRecursion (λ g. is_of o t g ≡ true → data_in g ≡ s.datas o t) gs
+  pub fresh : AllByRecursion (λ g. g.verified ≡ false) gs
+
+try-owner : (w : Trusting) (a b : Name) (items : List (List ℕ)) (f : Fields) → low a ≡ low b → can_try w a items f ≡ can_try w b items f
+try-owner w a b items f h =
+    let d = is_due-owner w.apex w.now a b f h in
+    λ i. elim (not (length items == 0) && d i) as (λ _. Bool) [ false ↦ false | true ↦ is_some (find (fits_key f) w.keys) ]
+
+each_alike : (w : Trusting) (m : List ℕ) (s : Sought) (earlier : List Spelled) (o : Name) (f : Fields) (gs : List Group) → AllByRecursion (λ g. is_of o f.covered g ≡ true → data_in g ≡ s.datas o f.covered) gs → AllByRecursion (λ g. g.verified ≡ false) gs
+    → AllByRecursion (λ g. is_of o f.covered g ≡ true → (not (g.verified || is_verified w pointer_limit m earlier g.owner g.rtype (data_in g)) && can_try w g.owner (data_in g) f)
+    ≡ (not (is_verified w pointer_limit m earlier o f.covered (s.datas o f.covered)) && can_try w o (s.datas o f.covered) f)) gs
+each_alike w m s earlier o f [] d v = tt
+each_alike w m s earlier o f (g ∷ gs) d v = (
+  (λ is.
+      let p = and_parts (g.rtype == f.covered) (same o g.owner) is in
+      let owner : low g.owner ≡ low o = sym (same_labels (low o) (low g.owner) p.1) in
+      let kind : g.rtype ≡ f.covered = eqb-true g.rtype f.covered p.0 in
+      let items = d.0 is in
+      (λ i. not (v.0 i || is_verified w pointer_limit m earlier g.owner (kind i) (items i)) && can_try w g.owner (items i) f)
+      ∙ (λ i. not (is_verified-owner w pointer_limit m earlier g.owner o f.covered (s.datas o f.covered) owner i) && try-owner w g.owner o (s.datas o f.covered) f owner i)),
+  each_alike w m s earlier o f gs d.1 v.1,
+)
+
+tried_fields : (w : Trusting) (m : List ℕ) (s : Sought) (gs : List Group) (earlier : List Spelled) (o : Name) (f : Fields) → AreSought s gs → list_any (tries_group w o f) (map (marked w m earlier) gs) ≡ tries_fields w pointer_limit m s earlier o f
+tried_fields w m s gs earlier o f a =
+    list_any-map (tries_group w o f) (marked w m earlier) gs
+    ∙ any_alike (is_of o f.covered) (λ g. not (g.verified || is_verified w pointer_limit m earlier g.owner g.rtype (data_in g)) && can_try w g.owner (data_in g) f)
+    (not (is_verified w pointer_limit m earlier o f.covered (s.datas o f.covered)) && can_try w o (s.datas o f.covered) f) gs
+    (each_alike w m s earlier o f gs (a.datas o f.covered) a.fresh)
+    ∙ ap (λ b. b && (not (is_verified w pointer_limit m earlier o f.covered (s.datas o f.covered)) && can_try w o (s.datas o f.covered) f)) (sym (a.found o f.covered))
+
+tried_alike : (w : Trusting) (m : List ℕ) (s : Sought) (gs : List Group) (earlier : List Spelled) (r : Spelled) → AreSought s gs → is_tried_in w m (map (marked w m earlier) gs) r ≡ is_tried w pointer_limit m s earlier r
+tried_alike w m s gs earlier r a = λ i. elim (is_signature r && (r.class == 1)) as (λ _. Bool) [
+  | false ↦ false
+  | true ↦ elim (rrsig_at pointer_limit m r) as (λ _. Bool) [ None ↦ false | Some f ↦ tried_fields w m s gs earlier r.owner f.0 a i ]
+]
+
+or_behind : (v x y : Bool) → ((v || x) || (y || false)) ≡ (v || (x || y))
+or_behind true x y = refl
+or_behind false true y = refl
+or_behind false false true = refl
+or_behind false false false = refl
+
+any_more : {X : Type 0} (p : X → Bool) (xs : List X) (x : X) → list_any p (xs ++ x ∷ []) ≡ (list_any p xs || p x)
+any_more p [] x = or_no (p x)
+any_more p (y ∷ xs) x = ap (λ b. p y || b) (any_more p xs x) ∙ or_assoc (p y) (list_any p xs) (p x)
+  where
+    or_assoc : (a b c : Bool) → (a || (b || c)) ≡ ((a || b) || c)
+    or_assoc true b c = refl
+    or_assoc false b c = refl
+
+marked_more : (w : Trusting) (m : List ℕ) (earlier : List Spelled) (r : Spelled) (gs : List Group) → map (marked w m (r ∷ [])) (map (marked w m earlier) gs) ≡ map (marked w m (earlier ++ r ∷ [])) gs
+marked_more w m earlier r [] = refl
+marked_more w m earlier r (g ∷ gs) =
+    let p = verifies_with w pointer_limit m g.owner g.rtype (data_in g) in
+    let v = or_behind g.verified (list_any p earlier) (p r) ∙ ap (λ b. g.verified || b) (sym (any_more p earlier r)) in
+    let rest = marked_more w m earlier r gs in
+    (λ i. record { owner = g.owner; rtype = g.rtype; items = g.items; verified = v i } ∷ rest i)
+
+from_earlier : (w : Trusting) (m : List ℕ) (s : Sought) (gs : List Group) (earlier rs : List Spelled) → AreSought s gs → tries_in w m (map (marked w m earlier) gs) rs ≡ tries w pointer_limit m s earlier rs
+from_earlier w m s gs earlier [] a = refl
+from_earlier w m s gs earlier (r ∷ rs) a =
+    (λ i. one_if (tried_alike w m s gs earlier r a i) + tries_in w m (marked_more w m earlier r gs i) rs)
+    ∙ ap (λ n. one_if (is_tried w pointer_limit m s earlier r) + n) (from_earlier w m s gs (earlier ++ r ∷ []) rs a)
+
+pub tries_are : (w : Trusting) (m : List ℕ) (s : Sought) (gs : List Group) (rs : List Spelled) → AreSought s gs → tries_in w m gs rs ≡ tries w pointer_limit m s [] rs
+tries_are w m s gs rs a = ap (λ x. tries_in w m x rs) (sym (marked_done w m gs)) ∙ from_earlier w m s gs [] rs a
