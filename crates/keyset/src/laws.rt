@@ -1,5 +1,6 @@
 //! Laws of key sets.
 ghost use Rattle.keyset.specs.KeyLaws.{PhasesFollow, StartsEnter, WaitsAreExact};
+ghost use Rattle.keyset.specs.KeyRunLaws.{RolesKeep, RollsRunTogether, WaitsCountFromReports};
 ghost use Rattle.keyset.specs.KeyRows.{RefusesOnTheWay, RollsSevenTimes};
 
 /// What holds of every key set, for every roll and at every moment.
@@ -10,6 +11,16 @@ pub fn keyset_laws()
     // An accepted call leads to the next phase, and answers its actions.
     ensures starts_enter { StartsEnter }
     ensures phases_follow { PhasesFollow }
+{}
+
+/// What holds behind all calls, accepted and refused, from an empty set on, where no flag and no stamp is set by hand.
+pub fn run_laws()
+    // A wait counts from the report before it, whatever calls stand between.
+    ensures waits_count_from_reports { WaitsCountFromReports }
+
+    // The flags of a role keep what they are to keep, and rolls run together only where they may.
+    ensures roles_keep { RolesKeep }
+    ensures rolls_run_together { RollsRunTogether }
 {}
 
 /// Seven rolls, one after another, worked through on the definitions, and calls that are refused on the way.
