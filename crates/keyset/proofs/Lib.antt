@@ -10,3 +10,4 @@ pub mod KeyRunSteps
 pub mod KeyRunCalls
 pub mod KeyRunStarts
 pub mod KeyRunEnds
+pub mod KeyRunTags

@@ -93,3 +93,8 @@ RolesKeep = (name : List (List ℕ)) (cs : List (ℕ × Call)) → by_rolls_alon
 abbrev pub RollsRunTogether : Type 0
 RollsRunTogether = (name : List (List ℕ)) (cs : List (ℕ × Call)) → by_rolls_alone cs ≡ true → (a b : RollType) →
     let s = behind (no_keys name) cs in is_some (phase_of s a) ≡ true → is_some (phase_of s b) ≡ true → conflicts a b ≡ true → a ≡ b
+
+-- no two keys have one tag, also where flags and stamps are set by hand
+abbrev pub TagsDiffer : Type 0
+TagsDiffer = (name : List (List ℕ)) (cs : List (ℕ × Call)) (p q : Reference) (k l : Key) →
+    let s = behind (no_keys name) cs in key_of s p ≡ Some k → key_of s q ≡ Some l → k.tag ≡ l.tag → p ≡ q

@@ -1,6 +1,7 @@
 //! Laws of key sets.
 ghost use Rattle.keyset.specs.KeyLaws.{PhasesFollow, StartsEnter, WaitsAreExact};
-ghost use Rattle.keyset.specs.KeyRunLaws.{RolesKeep, RollsRunTogether, WaitsCountFromReports};
+ghost use Rattle.keyset.specs.KeyRunLaws.{RolesKeep, RollsRunTogether, TagsDiffer, WaitsCountFromReports};
+ghost use Rattle.keyset.specs.KeyLifeRows.{RetiresAndMeets};
 ghost use Rattle.keyset.specs.KeyRows.{RefusesOnTheWay, RollsSevenTimes};
 
 /// What holds of every key set, for every roll and at every moment.
@@ -23,8 +24,18 @@ pub fn run_laws()
     ensures rolls_run_together { RollsRunTogether }
 {}
 
+/// The keys of a set have different tags, whatever calls it has behind it.
+pub fn tags_differ()
+    ensures { TagsDiffer }
+{}
+
 /// Seven rolls, one after another, worked through on the definitions, and calls that are refused on the way.
 pub fn rolls_by_hand()
     ensures published { RollsSevenTimes }
     ensures refused { RefusesOnTheWay }
+{}
+
+/// Things that a zone handed out in three moments, worked through on the definitions: which are retired, and which meet.
+pub fn things_by_hand()
+    ensures { RetiresAndMeets }
 {}
