@@ -1,11 +1,8 @@
 -- What runs of calls keep: what the stamps of a roll's keys say of its reports.
-use Rattle.std.proofs.Common.{◌≡◌, ℕ, Bool, true, false, cond, List, [], ◌∷◌, refl, sym, ap, subst, ◌∙◌, T, ◌&&◌, ◌||◌, not, eqb}
-use Rattle.std.specs.Prelude.{Option, Some, None, is_some, is_none}
-use Rattle.std.specs.List.{list_any}
-use Rattle.std.specs.Str.{bytes_eq}
+use Rattle.std.proofs.Common.{◌≡◌, ℕ, Bool, true, false, cond, List, refl, sym, ap, subst, ◌∙◌, T}
+use Rattle.std.specs.Prelude.{Option, Some, None, is_some}
 use Rattle.std.specs.Ordering.{eq_by_cmp}
-use Rattle.std.specs.Cmp.Lexicographic.{nat_list_cmp_total}
-use Rattle.std.specs.FinMap.Entries.{put, find, where_key, find-put, find-where_key, is_sorted, is_sorted-put, is_sorted-where_key}
+use Rattle.std.specs.FinMap.Entries.{find, find-put, is_sorted}
 use Rattle.std.proofs.lemmas.Bool.{false≢true, eqb-true, eq-eqb}
 use Rattle.keyset_rolls.specs.declared.rolls.RollState.{RollState}
 use Rattle.keyset_rolls.specs.declared.rolls.RollState.TheVariants.{Propagation1, CacheExpire1, Propagation2, CacheExpire2, Done}
@@ -14,8 +11,8 @@ use Rattle.keyset_rolls.specs.declared.rolls.RollType.TheVariants.{KskRoll, KskD
 use Rattle.keyset_rolls.specs.declared.rolls.Turn.TheVariants.{First, Second}
 use Rattle.keyset_keys.specs.declared.keys.KeyType.{KeyType}
 use Rattle.keyset_keys.specs.declared.keys.KeyTimestamps.{KeyTimestamps}
-use Rattle.keyset_rolls.specs.Rolls.{touches, conflicts, watched, stamp_read, report1_stamps, report2_stamps, wait1_stamps, reported1, reported2, waited1, waited2}
-use Rattle.keyset.specs.KeyState.{Key, KeySetState, Reference, current, entered, index_of, is_at_parent, is_old, is_present, kind_cmp, ksk_is, main_is, phase_of, reference_cmp, see, see_ds, see_rrsig, signs, when, withdraw, publish, zsk_is}
+use Rattle.keyset_rolls.specs.Rolls.{touches, conflicts, watched, stamp_read, report1_stamps, reported1, reported2, waited1}
+use Rattle.keyset.specs.KeyState.{Key, KeySetState, Reference, current, entered, index_of, is_old, is_present, kind_cmp, ksk_is, phase_of, reference_cmp, see, see_ds, see_rrsig, withdraw, zsk_is}
 use Rattle.keyset.specs.KeyRunLaws.{Reports, counted_from, keeps_roles, moment_of, same_roll, ttl_of}
 use Rattle.keyset.proofs.KeyFinds.{changed, from_before, is_equal, sorted_changed}
 use Rattle.keyset.proofs.KeyKinds.{apart, conflicts_both, kind_of, touches_alike}

@@ -7,3 +7,7 @@ pub mod KeyFinds
 pub mod KeyKinds
 pub mod KeyTables
 pub mod KeyRunSteps
+pub mod KeyRunCalls
+pub mod KeyRunStarts
+pub mod KeyRunEnds
+pub mod KeyRunTags

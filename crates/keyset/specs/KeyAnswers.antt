@@ -1,11 +1,12 @@
 -- What the calls of a key set return, beside the definitions.
-use Rattle.std.specs.Prelude.{◌≡◌, List, Option, Some, None, Result, Ok, Err, IsSome}
+use Rattle.std.specs.Prelude.{◌≡◌, List, [], Option, Some, None, Result, Ok, Err, IsSome, String, string_bytes}
+use Rattle.std.specs.Global.{Vec}
 use Rattle.std.specs.Duration.{as_nanos}
 use Rattle.keyset_keys.specs.declared.errors.Error.{Error}
 use Rattle.keyset_keys.specs.declared.errors.Error.TheVariants as error
 use Rattle.keyset.specs.KeyState as keys
 use Rattle.keyset_rolls.specs.declared.rolls.Action.{Action}
-use Rattle.keyset.specs.KeyState.{Key, KeySetState, Answer, Refusal}
+use Rattle.keyset.specs.KeyState.{Key, KeySetState, Answer, Reference, Refusal, add, write}
 
 -- the refusal that an error says; none where memory ran out
 abbrev pub refusal_of : Error → Option Refusal
@@ -54,6 +55,26 @@ Refuses (Some refusal) answer = answer ≡ Err refusal
 abbrev pub GivesAtOnce : {X : Type 0} → (X → List Action) → KeySetState → KeySetState → Result X Error → Answer → Type 0
 GivesAtOnce view old new (Ok x) answer = answer ≡ Ok (new, view x)
 GivesAtOnce view old new (Err e) answer = (new ≡ old) × Refuses (refusal_of e) answer
+
+-- the same of calls that answer actions, and of those that answer nothing
+abbrev pub Acts : KeySetState → KeySetState → Result (Vec Action) Error → Answer → Type 0
+Acts old new result answer = Gives (λ (v : Vec Action). v.items) old new result answer
+
+abbrev pub Changes : KeySetState → KeySetState → Result (Unit {0}) Error → Answer → Type 0
+Changes old new result answer = Gives (λ _. []) old new result answer
+
+-- the call added this key
+abbrev pub Adds : {A : Type 0} → KeySetState → KeySetState → Result (Unit {0}) Error → String A → Key → Type 0
+Adds old new result reference key = Changes old new result (add (string_bytes reference) key old)
+
+-- the call set something of a key
+abbrev pub Writes : KeySetState → KeySetState → Result (Unit {0}) Error → (Key → Result Key Refusal) → Reference → Type 0
+Writes old new result set reference = GivesAtOnce (λ _. []) old new result (write set reference old)
+
+-- the call listed these actions, unless memory ran out
+abbrev pub Lists : List Action → Result (Vec Action) Error → Type 0
+Lists actions (Ok v) = v.items ≡ actions
+Lists actions (Err e) = e ≡ error.Memory
 
 -- a setting changed a key as it says, or was refused and changed nothing
 abbrev pub Sets : {X : Type 0} → Key → Key → Result X Error → Result Key Refusal → Type 0

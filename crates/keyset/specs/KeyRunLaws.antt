@@ -1,13 +1,15 @@
 -- What the laws of runs say: whatever calls a key set has behind it, accepted and refused, but for those that set a flag or
 -- a stamp by hand.
-use Rattle.std.specs.Prelude.{◌≡◌, ℕ, ◌-◌, ◌*◌, ◌≤◌, ◌↔◌, ◌==◌, Bool, true, false, not, ◌&&◌, ◌||◌, List, [], ◌∷◌, Option, Some, None, is_some, if◌then◌else◌}
+use Rattle.std.specs.Prelude.{◌≡◌, ℕ, ◌-◌, ◌*◌, ◌≤◌, ◌↔◌, ◌==◌, Bool, true, not, ◌&&◌, ◌||◌, List, [], ◌∷◌, Option, Some, None, is_some, if◌then◌else◌}
 use Rattle.std.specs.List.{list_any}
 use Rattle.keyset_keys.specs.declared.keys.KeyType.{KeyType}
 use Rattle.keyset_keys.specs.declared.keys.KeyType.TheVariants.{Ksk, Zsk, Csk, Include}
 use Rattle.keyset_rolls.specs.declared.rolls.RollState.TheVariants as state
 use Rattle.keyset_rolls.specs.declared.rolls.RollType.{RollType}
 use Rattle.keyset_rolls.specs.declared.rolls.RollType.TheVariants as roll
-use Rattle.keyset_rolls.specs.Rolls.{conflicts}
+use Rattle.keyset_rolls.specs.declared.rolls.Turn.{Turn}
+use Rattle.keyset_rolls.specs.declared.rolls.Turn.TheVariants as turn
+use Rattle.keyset_rolls.specs.Rolls.{conflicts, touches, watched}
 use Rattle.keyset.specs.KeyState.{Flags, Key, KeySetState, Reference, index_of, key_of, phase_of, wait1, wait2}
 use Rattle.keyset.specs.KeyRuns.{Call, Report1, Report2, behind, is_accepted, left, no_keys, on_state, sets_by_hand}
 
@@ -51,14 +53,21 @@ abbrev pub ttl_of : Option (ℕ × ℕ) → Option ℕ
 ttl_of None = None
 ttl_of (Some p) = Some p.1
 
--- A wait in its phase is accepted exactly where the report's TTL has passed since its moment, whatever calls stand between
+-- whether a wait looks at a key, and at some key
+abbrev pub is_awaited : Turn → RollType → Key → Bool
+is_awaited t r k = touches r k.roles && watched t r k.roles
+
+abbrev pub some_awaited : Turn → RollType → KeySetState → Bool
+some_awaited t r s = list_any (λ e. is_awaited t r e.1) s.keys
+
+-- A wait in its phase, where it looks at some key, is accepted exactly where the report's TTL has passed since its moment, whatever calls stand between
 -- the report and the wait.
 abbrev pub WaitsCountFromReports : Type 0
 WaitsCountFromReports = (name : List (List ℕ)) (cs : List (ℕ × Call)) (r : RollType) (ttl now : ℕ) → by_rolls_alone cs ≡ true →
     let s = behind (no_keys name) cs in
     let p = reports_behind r (no_keys name) cs no_reports in
-    (phase_of s r ≡ Some (state.CacheExpire1 ttl) → (ttl_of p.first ≡ Some ttl) × (since : ℕ) × (moment_of p.first ≡ Some since) × ((is_accepted (wait1 r now s) ≡ true) ↔ (ttl * 1000000000 ≤ now - since)))
-    × (phase_of s r ≡ Some (state.CacheExpire2 ttl) → (ttl_of p.second ≡ Some ttl) × (since : ℕ) × (moment_of (counted_from r p) ≡ Some since) × ((is_accepted (wait2 r now s) ≡ true) ↔ (ttl * 1000000000 ≤ now - since)))
+    (phase_of s r ≡ Some (state.CacheExpire1 ttl) → (ttl_of p.first ≡ Some ttl) × (since : ℕ) × (moment_of p.first ≡ Some since) × ((is_accepted (wait1 r now s) ≡ true) ↔ (some_awaited turn.First r s ≡ true → ttl * 1000000000 ≤ now - since)))
+    × (phase_of s r ≡ Some (state.CacheExpire2 ttl) → (ttl_of p.second ≡ Some ttl) × (since : ℕ) × (moment_of (counted_from r p) ≡ Some since) × ((is_accepted (wait2 r now s) ≡ true) ↔ (some_awaited turn.Second r s ≡ true → ttl * 1000000000 ≤ now - since)))
 
 -- what the flags of each role keep: a KSK role signs exactly where it is present; a ZSK role that signs is present, and isn't
 -- at the parent; a key of another owner is never used
@@ -80,12 +89,12 @@ keeps_roles (Include f) = other_keeps f
 abbrev pub RolesKeep : Type 0
 RolesKeep = (name : List (List ℕ)) (cs : List (ℕ × Call)) → by_rolls_alone cs ≡ true → (q : Reference) (k : Key) → key_of (behind (no_keys name) cs) q ≡ Some k → keeps_roles k.roles ≡ true
 
--- two rolls that run together may do so, also where keys are set by hand
+-- two rolls that run together may do so
 abbrev pub RollsRunTogether : Type 0
-RollsRunTogether = (name : List (List ℕ)) (cs : List (ℕ × Call)) (a b : RollType) →
+RollsRunTogether = (name : List (List ℕ)) (cs : List (ℕ × Call)) → by_rolls_alone cs ≡ true → (a b : RollType) →
     let s = behind (no_keys name) cs in is_some (phase_of s a) ≡ true → is_some (phase_of s b) ≡ true → conflicts a b ≡ true → a ≡ b
 
--- no two keys have one tag, also where keys are set by hand
+-- no two keys have one tag, also where flags and stamps are set by hand
 abbrev pub TagsDiffer : Type 0
 TagsDiffer = (name : List (List ℕ)) (cs : List (ℕ × Call)) (p q : Reference) (k l : Key) →
     let s = behind (no_keys name) cs in key_of s p ≡ Some k → key_of s q ≡ Some l → k.tag ≡ l.tag → p ≡ q

@@ -9,3 +9,5 @@ pub mod KeyLaws
 pub mod KeyRuns
 pub mod KeyRows
 pub mod KeyRunLaws
+pub mod KeyLife
+pub mod KeyLifeRows

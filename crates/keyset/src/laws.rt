@@ -1,5 +1,7 @@
 //! Laws of key sets.
 ghost use Rattle.keyset.specs.KeyLaws.{PhasesFollow, StartsEnter, WaitsAreExact};
+ghost use Rattle.keyset.specs.KeyRunLaws.{RolesKeep, RollsRunTogether, TagsDiffer, WaitsCountFromReports};
+ghost use Rattle.keyset.specs.KeyLifeRows.{RetiresAndMeets};
 ghost use Rattle.keyset.specs.KeyRows.{RefusesOnTheWay, RollsSevenTimes};
 
 /// What holds of every key set, for every roll and at every moment.
@@ -12,8 +14,28 @@ pub fn keyset_laws()
     ensures phases_follow { PhasesFollow }
 {}
 
+/// What holds behind all calls, accepted and refused, from an empty set on, where no flag and no stamp is set by hand.
+pub fn run_laws()
+    // A wait counts from the report before it, whatever calls stand between.
+    ensures waits_count_from_reports { WaitsCountFromReports }
+
+    // The flags of a role keep what they are to keep, and rolls run together only where they may.
+    ensures roles_keep { RolesKeep }
+    ensures rolls_run_together { RollsRunTogether }
+{}
+
+/// The keys of a set have different tags, whatever calls it has behind it.
+pub fn tags_differ()
+    ensures { TagsDiffer }
+{}
+
 /// Seven rolls, one after another, worked through on the definitions, and calls that are refused on the way.
 pub fn rolls_by_hand()
     ensures published { RollsSevenTimes }
     ensures refused { RefusesOnTheWay }
+{}
+
+/// Things that a zone handed out in three moments, worked through on the definitions: which are retired, and which meet.
+pub fn things_by_hand()
+    ensures { RetiresAndMeets }
 {}

@@ -34,7 +34,8 @@ pub(crate) fn greatest_rest(
     ttl: u32,
     now: &UnixTime,
 ) -> u128
-    ensures exact { result ≡ greatest_rest rolltype turn ttl now.now (by_reference keys.now.entries) }
+    ensures exact { let es = by_reference keys.now.entries in
+        result ≡ greatest_rest rolltype turn ttl now.now es }
     ensures bound { result ≤ ttl * 1_000_000_000 }
 {
     let mut greatest = 0;
@@ -67,7 +68,8 @@ pub(crate) fn serves_after_start(
     old: &[&str],
     new: &[&str],
 ) -> bool
-    ensures { result ≡ suitable rolltype (roles_after rolltype (texts old.now) (texts new.now) (by_reference keys.now.entries)) }
+    ensures { let es = by_reference keys.now.entries in
+        result ≡ suitable rolltype (roles_after rolltype (texts old.now) (texts new.now) es) }
 {
     rolltype.needs().iter().all(|need| has_needed_after_start(keys, rolltype, *need, old, new))
 }
@@ -79,7 +81,9 @@ fn has_needed_after_start(
     old: &[&str],
     new: &[&str],
 ) -> bool
-    ensures { result ≡ has_needed rolltype need (roles_after rolltype (texts old.now) (texts new.now) (by_reference keys.now.entries)) }
+    ensures { let es = by_reference keys.now.entries in
+        let after = roles_after rolltype (texts old.now) (texts new.now) es in
+        result ≡ has_needed rolltype need after }
 {
     keys.iter().any(|(reference, key)| {
         let is_old = is_listed(old, reference.as_str());
@@ -95,7 +99,9 @@ pub(crate) fn put_key(
     reference: String,
     key: Key,
 ) -> Result<(), AllocError>
-    ensures ok { OnOk result (by_reference keys.new.entries ≡ put reference_cmp (string_bytes reference) key (by_reference keys.old.entries)) }
+    ensures ok { let es = by_reference keys.old.entries in
+        let after = put reference_cmp (string_bytes reference) key es in
+        OnOk result (by_reference keys.new.entries ≡ after) }
     ensures err { OnErr result (by_reference keys.new.entries ≡ by_reference keys.old.entries) }
 {
     keys.insert(reference, key)?;
@@ -108,7 +114,8 @@ pub(crate) fn put_phase(
     rolltype: RollType,
     state: RollState,
 ) -> Result<(), AllocError>
-    ensures ok { OnOk result (by_kind rollstates.new.entries ≡ put kind_cmp rolltype state (by_kind rollstates.old.entries)) }
+    ensures ok { let after = put kind_cmp rolltype state (by_kind rollstates.old.entries) in
+        OnOk result (by_kind rollstates.new.entries ≡ after) }
     ensures err { OnErr result (by_kind rollstates.new.entries ≡ by_kind rollstates.old.entries) }
 {
     rollstates.insert(rolltype, state)?;
@@ -130,7 +137,9 @@ pub(crate) fn start_keys(
     new: &[&str],
     now: &UnixTime,
 )
-    ensures { by_reference keys.new.entries ≡ started rolltype now.now (texts old.now) (texts new.now) (by_reference keys.old.entries) }
+    ensures { let es = by_reference keys.old.entries in
+        let after = started rolltype now.now (texts old.now) (texts new.now) es in
+        by_reference keys.new.entries ≡ after }
 {
     keys.retain(|reference, key| {
         let is_old = is_listed(old, reference.as_str());
@@ -170,7 +179,8 @@ pub(crate) fn step_keys(
     step: Step,
     now: &UnixTime,
 )
-    ensures { by_reference keys.new.entries ≡ on_keys rolltype (stepped step rolltype now.now) (by_reference keys.old.entries) }
+    ensures { let change = stepped step rolltype now.now in
+        by_reference keys.new.entries ≡ on_keys rolltype change (by_reference keys.old.entries) }
 {
     keys.retain(|_, key| {
         if rolltype.touches(key.keytype()) {
@@ -182,7 +192,8 @@ pub(crate) fn step_keys(
 
 /// Takes a key out.
 pub(crate) fn remove_key(keys: &mut HashMap<String, Key>, reference: &str)
-    ensures { by_reference keys.new.entries ≡ removed reference.now (by_reference keys.old.entries) }
+    ensures { let es = by_reference keys.old.entries in
+        by_reference keys.new.entries ≡ removed reference.now es }
 {
     keys.remove(reference);
 }

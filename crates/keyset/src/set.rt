@@ -4,8 +4,8 @@ ghost use Rattle.keyset_keys.specs.declared.keys.KeyType.TheVariants.{Ksk, Zsk, 
 ghost use Rattle.keyset_keys.specs.declared.errors.Error.TheVariants.{Memory};
 ghost use Rattle.keyset_rolls.specs.Actions.{actions_in};
 ghost use Rattle.keyset.specs.KeyState.{KeySetState, by_reference, by_kind, key_of, phase_of, add, done, entered, first_fault, first_new_fault, new_fault, old_fault, report1, report2, start, start_fault, algorithms_fault, texts, wait1, wait2, wait_fault, new_key, text_of, clear, is_available, write, decoupled_to, present_to, signer_to, at_parent_to, seen_at, ds_seen_at, rrsig_seen_at, stale_now, delete, has_algorithm, algorithms_within, same_algorithms, algorithm_is, algorithm_is_within};
-ghost use Rattle.keyset.specs.KeyAnswers.{Gives, GivesAtOnce, Finds};
-ghost use Rattle.keyset.specs.KeySteps.{set_to};
+ghost use Rattle.keyset.specs.KeyAnswers.{Acts, Adds, Finds, GivesAtOnce, Lists, Writes};
+ghost use Rattle.keyset.specs.KeySteps.{new_csk, new_ksk, new_other, new_zsk, set_to};
 
 use crate::maps::{
     Step, greatest_rest, has_tag, is_blocked, is_listed, misses_stamp, put_key, put_phase,
@@ -95,7 +95,8 @@ impl KeySet {
         creation_ts: UnixTime,
         available: Available,
     ) -> Result<(), Error>
-        ensures { Gives (λ _. []) self.old self.new result (add (string_bytes pubref) (new_key (text_of privref) (Ksk (clear (is_available available))) algorithm key_tag creation_ts) self.old) }
+        ensures { let key = new_ksk privref available algorithm key_tag creation_ts in
+            Adds self.old self.new result pubref key }
     {
         let keytype = KeyType::Ksk(KeyState::new(available));
         let key = Key::new(privref, keytype, algorithm, key_tag, creation_ts);
@@ -112,7 +113,8 @@ impl KeySet {
         creation_ts: UnixTime,
         available: Available,
     ) -> Result<(), Error>
-        ensures { Gives (λ _. []) self.old self.new result (add (string_bytes pubref) (new_key (text_of privref) (Zsk (clear (is_available available))) algorithm key_tag creation_ts) self.old) }
+        ensures { let key = new_zsk privref available algorithm key_tag creation_ts in
+            Adds self.old self.new result pubref key }
     {
         let keytype = KeyType::Zsk(KeyState::new(available));
         let key = Key::new(privref, keytype, algorithm, key_tag, creation_ts);
@@ -129,7 +131,8 @@ impl KeySet {
         creation_ts: UnixTime,
         available: Available,
     ) -> Result<(), Error>
-        ensures { Gives (λ _. []) self.old self.new result (add (string_bytes pubref) (new_key (text_of privref) (Csk (clear (is_available available)) (clear (is_available available))) algorithm key_tag creation_ts) self.old) }
+        ensures { let key = new_csk privref available algorithm key_tag creation_ts in
+            Adds self.old self.new result pubref key }
     {
         let state = KeyState::new(available);
         let keytype = KeyType::Csk(state, state);
@@ -146,7 +149,8 @@ impl KeySet {
         creation_ts: UnixTime,
         available: bool,
     ) -> Result<(), Error>
-        ensures { Gives (λ _. []) self.old self.new result (add (string_bytes pubref) (new_key None (Include (clear available)) algorithm key_tag creation_ts) self.old) }
+        ensures { let key = new_other available algorithm key_tag creation_ts in
+            Adds self.old self.new result pubref key }
     {
         let available = if available {
             Available::Available
@@ -159,7 +163,7 @@ impl KeySet {
     }
 
     fn add_key(&mut self, pubref: String, key: Key) -> Result<(), Error>
-        ensures { Gives (λ _. []) self.old self.new result (add (string_bytes pubref) key self.old) }
+        ensures { Adds self.old self.new result pubref key }
     {
         if has_tag(&self.keys, key.key_tag()) {
             return Err(Error::DuplicateKeyTag);
@@ -173,7 +177,7 @@ impl KeySet {
 
     /// Sets whether a key is no longer managed by its references.
     pub fn set_decoupled(&mut self, pubref: &str, value: bool) -> Result<(), Error>
-        ensures { GivesAtOnce (λ _. []) self.old self.new result (write (decoupled_to value) pubref.now self.old) }
+        ensures { Writes self.old self.new result (decoupled_to value) pubref.now }
     {
         self.set(pubref, Setting::Decoupled(value))
     }
@@ -181,55 +185,55 @@ impl KeySet {
     /// Puts a key into the DNSKEY RRset, or takes it out, outside a roll. The first moment at which it was put in is
     /// kept.
     pub fn set_present(&mut self, pubref: &str, value: bool, now: &UnixTime) -> Result<(), Error>
-        ensures { GivesAtOnce (λ _. []) self.old self.new result (write (present_to value now.now) pubref.now self.old) }
+        ensures { Writes self.old self.new result (present_to value now.now) pubref.now }
     {
         self.set(pubref, Setting::Present(value, *now))
     }
 
     /// Sets whether a key signs, outside a roll: a combined key in both its roles. An included key never does.
     pub fn set_signer(&mut self, pubref: &str, value: bool) -> Result<(), Error>
-        ensures { GivesAtOnce (λ _. []) self.old self.new result (write (signer_to value) pubref.now self.old) }
+        ensures { Writes self.old self.new result (signer_to value) pubref.now }
     {
         self.set(pubref, Setting::Signer(value))
     }
 
     /// Sets whether the parent's DS RRset has a key, outside a roll. Zone signing and included keys are never there.
     pub fn set_at_parent(&mut self, pubref: &str, value: bool) -> Result<(), Error>
-        ensures { GivesAtOnce (λ _. []) self.old self.new result (write (at_parent_to value) pubref.now self.old) }
+        ensures { Writes self.old self.new result (at_parent_to value) pubref.now }
     {
         self.set(pubref, Setting::AtParent(value))
     }
 
     /// Sets since when all servers have a key in the DNSKEY RRset.
     pub fn set_visible(&mut self, pubref: &str, time: UnixTime) -> Result<(), Error>
-        ensures { GivesAtOnce (λ _. []) self.old self.new result (write (seen_at time) pubref.now self.old) }
+        ensures { Writes self.old self.new result (seen_at time) pubref.now }
     {
         self.set(pubref, Setting::Visible(time))
     }
 
     /// Sets since when all servers of the parent have a key's DS record.
     pub fn set_ds_visible(&mut self, pubref: &str, time: UnixTime) -> Result<(), Error>
-        ensures { GivesAtOnce (λ _. []) self.old self.new result (write (ds_seen_at time) pubref.now self.old) }
+        ensures { Writes self.old self.new result (ds_seen_at time) pubref.now }
     {
         self.set(pubref, Setting::DsVisible(time))
     }
 
     /// Sets since when all servers have a key's signatures.
     pub fn set_rrsig_visible(&mut self, pubref: &str, time: UnixTime) -> Result<(), Error>
-        ensures { GivesAtOnce (λ _. []) self.old self.new result (write (rrsig_seen_at time) pubref.now self.old) }
+        ensures { Writes self.old self.new result (rrsig_seen_at time) pubref.now }
     {
         self.set(pubref, Setting::RrsigVisible(time))
     }
 
     /// Takes a key out of use at once, outside a roll, so that it may be deleted.
     pub fn set_stale(&mut self, pubref: &str) -> Result<(), Error>
-        ensures { GivesAtOnce (λ _. []) self.old self.new result (write stale_now pubref.now self.old) }
+        ensures { Writes self.old self.new result stale_now pubref.now }
     {
         self.set(pubref, Setting::Stale)
     }
 
     fn set(&mut self, pubref: &str, setting: Setting) -> Result<(), Error>
-        ensures { GivesAtOnce (λ _. []) self.old self.new result (write (set_to setting) pubref.now self.old) }
+        ensures { Writes self.old self.new result (set_to setting) pubref.now }
     {
         match self.keys.get_mut(pubref) {
             Some(key) => setting.apply(key),
@@ -264,7 +268,8 @@ impl KeySet {
         new: &[&str],
         now: &UnixTime,
     ) -> Result<Vec<Action>, Error>
-        ensures { Gives (λ v. v.items) self.old self.new result (start rolltype (texts old.now) (texts new.now) now.now self.old) }
+        ensures { let olds = texts old.now in let news = texts new.now in
+            Acts self.old self.new result (start rolltype olds news now.now self.old) }
     {
         self.check_start(rolltype, old, new)?;
         let actions = self.enter(rolltype, RollState::Propagation1)?;
@@ -279,7 +284,7 @@ impl KeySet {
         ttl: u32,
         now: &UnixTime,
     ) -> Result<Vec<Action>, Error>
-        ensures { Gives (λ v. v.items) self.old self.new result (report1 rolltype ttl now.now self.old) }
+        ensures { Acts self.old self.new result (report1 rolltype ttl now.now self.old) }
     {
         let Some(RollState::Propagation1) = self.phase(rolltype) else {
             return Err(Error::WrongStateForRollOperation);
@@ -295,7 +300,7 @@ impl KeySet {
         rolltype: RollType,
         now: &UnixTime,
     ) -> Result<Vec<Action>, Error>
-        ensures { Gives (λ v. v.items) self.old self.new result (wait1 rolltype now.now self.old) }
+        ensures { Acts self.old self.new result (wait1 rolltype now.now self.old) }
     {
         let Some(RollState::CacheExpire1(ttl)) = self.phase(rolltype) else {
             return Err(Error::WrongStateForRollOperation);
@@ -313,7 +318,7 @@ impl KeySet {
         ttl: u32,
         now: &UnixTime,
     ) -> Result<Vec<Action>, Error>
-        ensures { Gives (λ v. v.items) self.old self.new result (report2 rolltype ttl now.now self.old) }
+        ensures { Acts self.old self.new result (report2 rolltype ttl now.now self.old) }
     {
         let Some(RollState::Propagation2) = self.phase(rolltype) else {
             return Err(Error::WrongStateForRollOperation);
@@ -329,7 +334,7 @@ impl KeySet {
         rolltype: RollType,
         now: &UnixTime,
     ) -> Result<Vec<Action>, Error>
-        ensures { Gives (λ v. v.items) self.old self.new result (wait2 rolltype now.now self.old) }
+        ensures { Acts self.old self.new result (wait2 rolltype now.now self.old) }
     {
         let Some(RollState::CacheExpire2(ttl)) = self.phase(rolltype) else {
             return Err(Error::WrongStateForRollOperation);
@@ -342,7 +347,7 @@ impl KeySet {
 
     /// Ends a roll whose last actions are done.
     pub fn roll_done(&mut self, rolltype: RollType) -> Result<Vec<Action>, Error>
-        ensures { Gives (λ v. v.items) self.old self.new result (done rolltype self.old) }
+        ensures { Acts self.old self.new result (done rolltype self.old) }
     {
         let Some(RollState::Done) = self.phase(rolltype) else {
             return Err(Error::WrongStateForRollOperation);
@@ -353,7 +358,7 @@ impl KeySet {
 
     /// What a roll asks for in its phase, nothing where it doesn't run.
     pub fn actions(&self, rolltype: RollType) -> Result<Vec<Action>, Error>
-        ensures { MatchResult result (λ v. v.items ≡ actions_in rolltype (phase_of self.now rolltype)) (λ e. e ≡ Memory) }
+        ensures { Lists (actions_in rolltype (phase_of self.now rolltype)) result }
     {
         let actions = rolltype.actions_in(self.alloc, self.phase(rolltype))?;
         Ok(actions)
@@ -407,7 +412,8 @@ impl KeySet {
     }
 
     fn check_algorithms(&self, rolltype: RollType, old: &[&str], new: &[&str]) -> Result<(), Error>
-        ensures { Finds result (algorithms_fault rolltype (texts old.now) (texts new.now) self.now) }
+        ensures { let olds = texts old.now in let news = texts new.now in
+            Finds result (algorithms_fault rolltype olds news self.now) }
     {
         if matches!(rolltype, RollType::AlgorithmRoll) {
             return Ok(());
@@ -476,7 +482,8 @@ impl KeySet {
     }
 
     fn check_new_keys(&self, rolltype: RollType, old: &[&str], new: &[&str]) -> Result<(), Error>
-        ensures { Finds result (first_new_fault rolltype self.now (texts old.now) [] (texts new.now)) }
+        ensures { let olds = texts old.now in
+            Finds result (first_new_fault rolltype self.now olds [] (texts new.now)) }
     {
         for i in 0..new.len() {
             self.check_new_key(rolltype, old, &new[..i], new[i])?;
@@ -491,7 +498,8 @@ impl KeySet {
         before: &[&str],
         reference: &str,
     ) -> Result<(), Error>
-        ensures { Finds result (new_fault rolltype self.now (texts old.now) (texts before.now) reference.now) }
+        ensures { let olds = texts old.now in
+            Finds result (new_fault rolltype self.now olds (texts before.now) reference.now) }
     {
         let Some(key) = self.key(reference) else {
             return Err(Error::KeyNotFound);
