@@ -152,19 +152,37 @@ passes_over {n = n} (pointer h a b c d e r) = ([], at_pointer h a b e, omega (ar
 pub passes_names : (m : List ℕ) (p k e : ℕ) (n : Name) → Reads m p k n e → wire_len n ≤ 255 → CanPass m p e
 passes_names m p k e n r short = let x = passes_over r in record { labels = x.0; passes = x.1; short = omega (arith, x.2, short) }
 
+-- ---- what is passed over ends once
+
+some_back : (a b : ℕ) → Some a ≡ Some b → a ≡ b
+some_back a b e = cc
+
+one_head : (m : List ℕ) (p q a b : ℕ) → q ≡ p → slice_get m p ≡ Some a → slice_get m q ≡ Some b → a ≡ b
+one_head m p q a b e h g = some_back a b (sym h ∙ ap (slice_get m) (sym e) ∙ g)
+
+pub one_end : {m : List ℕ} {p b c : ℕ} {n k : Name} → Passes m p n b → (q : ℕ) → q ≡ p → Passes m q k c → b ≡ c
+one_end {m} {p} (at_root h e) q at (at_root g f) = omega arith
+one_end {m} {p} (at_root h e) q at (at_pointer {high = x} g y z f) = absurd (omega (arith, one_head m p q 0 x at h g))
+one_end {m} {p} (at_root h e) q at (at_label {n = x} g y z d f i r) = absurd (omega (arith, one_head m p q 0 x at h g))
+one_end {m} {p} (at_pointer {high = x} h a b e) q at (at_root g f) = absurd (omega (arith, one_head m p q x 0 at h g))
+one_end {m} {p} (at_pointer h a b e) q at (at_pointer g y z f) = omega arith
+one_end {m} {p} (at_pointer {high = x} h a b e) q at (at_label {n = n} g y z d f i r) = absurd (omega (arith, one_head m p q x n at h g))
+one_end {m} {p} (at_label {n = n} h a b d e f r) q at (at_root g i) = absurd (omega (arith, one_head m p q n 0 at h g))
+one_end {m} {p} (at_label {n = n} h a b d e f r) q at (at_pointer {high = x} g y z i) = absurd (omega (arith, one_head m p q n x at h g))
+one_end {m} {p} (at_label {n = n} {e = e} h a b d u f r) q at (at_label {n = x} {e = y} g t v w z i s) =
+    let same : n ≡ x = one_head m p q n x at h g in
+    one_end r y (omega arith) s
+
 -- ---- the reader
 
-passes_inside : {m : List ℕ} {p b : ℕ} {n : Name} → Passes m p n b → b ≤ length m
-passes_inside {m} {p} (at_root h e) = omega (arith, slice_get_within m p 0 h)
-passes_inside {m} {p} (at_pointer {low = low} h a g e) = omega (arith, slice_get_within m (p + 1) low g)
-passes_inside (at_label h a s c d f r) = passes_inside r
-
-pub can_pass_inside : (m : List ℕ) (p b : ℕ) → CanPass m p b → b ≤ length m
-can_pass_inside m p b c = passes_inside c.passes
-
 pub nothing_at : (r : Reader) (m : List ℕ) (p : ℕ) → m ≡ r.octets → p ≡ r.place → ((b : ℕ) → CanPass m p b → ⊥) → NothingToSkip r
-nothing_at r m p e f h b c = h b (subst (λ q. CanPass m q b) (sym f) (subst (λ o. CanPass o r.place b) (sym e) c))
+nothing_at r m p e f h b c le = h b (subst (λ q. CanPass m q b) (sym f) (subst (λ o. CanPass o r.place b) (sym e) c))
 
-pub not_refused : {A E : Type 0} (r : Result A E) (P : Type 0) → IsOk r → OnErr r P
-not_refused (Ok x) P h = tt
-not_refused (Err e) P h = absurd (false≢true h)
+pub past_the_end : (r : Reader) (m : List ℕ) (p b : ℕ) → m ≡ r.octets → p ≡ r.place → CanPass m p b → (b ≤ r.end → ⊥) → NothingToSkip r
+past_the_end r m p b e f c far b' d le =
+    let there : CanPass m p b' = subst (λ q. CanPass m q b') (sym f) (subst (λ o. CanPass o r.place b') (sym e) d) in
+    far (omega (arith, one_end c.passes p refl there.passes, le))
+
+pub refused_or : {A E : Type 0} (r : Result A E) (P : Type 0) → ((IsOk r → ⊥) → P) → OnErr r P
+refused_or (Ok x) P h = tt
+refused_or (Err e) P h = h (λ k. false≢true k)

@@ -18,8 +18,9 @@ pub record CanPass (m : List ℕ) (p b : ℕ) : Type 0 where
 -- the reader goes behind what is passed over
 pub record Skips (old new : Reader) : Type 0 where
   pub passes : CanPass old.octets old.place new.place
-  pub octets : new.octets ≡ old.octets
+  pub fits : new.place ≤ old.end
+  pub reader : new ≡ record old { place = new.place }
 
--- there is nothing to pass over
+-- there is nothing to pass over that ends by the reader's end
 abbrev pub NothingToSkip : Reader → Type 0
-NothingToSkip r = (b : ℕ) → CanPass r.octets r.place b → ⊥
+NothingToSkip r = (b : ℕ) → CanPass r.octets r.place b → b ≤ r.end → ⊥

@@ -49,7 +49,7 @@ impl<'a> ParsedName<'a> {
     /// Reads the name that stands where the parser is, and goes behind it: behind its first pointer or its root octet.
     ///
     /// A name has at most 255 octets, its root's included. At most 255 pointers are followed, each to a place before its
-    /// own. A refused call leaves the parser where it was.
+    /// own. It ends by the parser's end. A refused call leaves the parser where it was.
     pub fn parse(parser: &mut Parser<'a>) -> Result<Self, ParseError>
         ensures ok { IfOk result (ReadsName parser.old parser.new) }
         ensures refused { OnErr result (NoName parser.old) }

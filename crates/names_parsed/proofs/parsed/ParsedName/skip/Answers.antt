@@ -1,7 +1,6 @@
-use Rattle.std.proofs.Common.{◌≤◌, length, ap, arith}
 use Rattle.std.proofs.lemmas.Result.{err_from_is_err_and}
 use Rattle.names_parsed.specs.Passing.{NothingToSkip}
-use Rattle.names_parsed.proofs.PassSteps.{can_pass_inside, nothing_at, not_refused}
+use Rattle.names_parsed.proofs.PassSteps.{nothing_at, past_the_end, refused_or}
 use Rattle.names_parsed.proofs.parsed.ParsedName.skip.Goals as goal
 
 pub returns-in_err-behind-clause-refused : goal.returns-in_err-behind-clause-refused
@@ -11,6 +10,5 @@ returns-in_err-behind-clause-refused c =
 
 pub returns-clause-refused : goal.returns-clause-refused
 returns-clause-refused c =
-    let m = c.as_slice.result.now in
-    let inside : c.in_ok-behind.behind ≤ length m = can_pass_inside m c.pos.result c.in_ok-behind.behind c.in_ok-behind.ensures in
-    not_refused c.seek.result (NothingToSkip c.args.parser.now) (c.seek.ensures.inside.1 (omega (arith, inside, ap length c.as_slice.ensures.octets)))
+    refused_or c.seek.result (NothingToSkip c.args.parser.now)
+    (λ far. past_the_end c.args.parser.now c.as_slice.result.now c.pos.result c.in_ok-behind.behind c.as_slice.ensures.octets c.pos.ensures c.in_ok-behind.ensures (λ h. far (c.seek.ensures.inside.1 h)))
