@@ -3,3 +3,4 @@ pub mod Inversion
 pub mod Parsing
 pub mod Steps
 pub mod SuffixSteps
+pub mod PassSteps

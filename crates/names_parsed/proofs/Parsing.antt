@@ -4,7 +4,7 @@ use Rattle.std.specs.Prelude.{slice_get, slice_range}
 use Rattle.std.specs.List.{AllByRecursion}
 use Rattle.definitions.specs.Name.{Name, Label, IsLabel, IsName}
 use Rattle.definitions.specs.Reading.{Reads, root, label, pointer, pointers_of, ReadFault, name_at}
-use Rattle.definitions.proofs.ReadingLaws.{reads_exactly, length-range}
+use Rattle.definitions.proofs.ReadingLaws.{reads_exactly, length-range, one_name}
 use Rattle.names_wire.specs.Label.{split}
 use Rattle.names_wire.specs.declared.label.SplitLabelError.{SplitLabelError}
 use Rattle.names_parsed.specs.Standing.{Stands, stands_at, name_from, labels_from}
@@ -27,20 +27,26 @@ pub no_name : (m : List ℕ) (p : ℕ) (f : ReadFault) → name_at 255 m p ≡ E
 no_name m p f h n e s = two_results (name_at 255 m p) (n, e) f ((reads_exactly m p 255 n e).1 (s.reads, s.short)) h
 
 -- what is handed out, by what was read of a message
-pub reads_name : (old new : Reader) (m : List ℕ) (start behind : ℕ) (n : Name) (x : ParsedName) → m ≡ old.octets → start ≡ old.place → name_at 255 m start ≡ Ok (n, behind) → new ≡ record old { place = behind } → message_of x ≡ m → place_of x ≡ start → ReadsName old new x
-reads_name old new m start behind n x em es h en xm xs =
+pub reads_name : (old new : Reader) (m : List ℕ) (start behind : ℕ) (n : Name) (x : ParsedName) → m ≡ old.octets → start ≡ old.place → name_at 255 m start ≡ Ok (n, behind) → behind ≤ old.end → new ≡ record old { place = behind } → message_of x ≡ m → place_of x ≡ start → ReadsName old new x
+reads_name old new m start behind n x em es h fits en xm xs =
     let s : Stands m start n behind = read_name m start n behind h in
     let named : name_from (message_of x) (place_of x) ≡ n = (λ i. name_from (xm i) (xs i)) ∙ (standing m start n behind s).1 in
     let P : List ℕ → Type 0 = λ o. Stands o start n behind in
     let Q : ℕ → Type 0 = λ p. Stands old.octets p n behind in
     let R : Name → Type 0 = λ k. Stands old.octets old.place k behind in
     let S : ℕ → Type 0 = λ e. Stands old.octets old.place (parsed_name x) e in
+    let place : new.place ≡ behind = λ i. (en i).place in
     record {
-      stands = subst S (sym (λ i. (en i).place)) (subst R (sym named) (subst Q es (subst P em s)));
-      octets = λ i. (en i).octets;
+      stands = subst S (sym place) (subst R (sym named) (subst Q es (subst P em s)));
+      fits = omega (arith, place, fits);
+      reader = en ∙ ap (λ e. record old { place = e }) (sym place);
       message = xm ∙ em;
       place = xs ∙ es;
     }
+
+-- a name that ends past the end of reading is none that ends before
+pub past_end : (m : List ℕ) (p : ℕ) (n k : Name) (b e end : ℕ) → name_at 255 m p ≡ Ok (n, b) → end < b → Stands m p k e → e ≤ end → ⊥
+past_end m p n k b e end h lt s le = omega (arith, (one_name (read_name m p n b h).reads p refl s.reads).1, lt, le)
 
 all_labels : {m : List ℕ} {p k e : ℕ} {n : Name} → Reads m p k n e → AllByRecursion IsLabel n
 all_labels (root h e) = tt
@@ -126,3 +132,6 @@ along_label m start p l rest a x some = by_form (invert a.reads)
           inside = r.inside;
         })
     by_form (inr (inr r)) = absurd (not_both (split (drop p m)) _ _ x r.splits)
+
+pub below_not : {a b : ℕ} → (a ≤ b → ⊥) → b < a
+below_not h = omega (arith, h)

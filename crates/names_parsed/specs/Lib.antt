@@ -3,3 +3,4 @@ pub mod Orders
 pub mod Parsed
 pub mod Standing
 pub mod Walking
+pub mod Passing

@@ -1,9 +1,10 @@
 -- Names over a message, and reading them.
-use Rattle.std.specs.Prelude.{◌≡◌, ◌<◌, ℕ, List, Err}
+use Rattle.std.specs.Prelude.{◌≡◌, ◌⊎◌, ◌<◌, ◌≤◌, ℕ, List, Ok, Err}
 use Rattle.definitions.specs.Name.{Name}
 use Rattle.definitions.specs.Reading.{Reads, pointers_of, name_at}
 use Rattle.names_parser.specs.Reader.{Reader}
 use Rattle.names_parser.specs.declared.error.ParseError.{ParseError}
+use Rattle.names_parser.specs.declared.error.ParseError.TheVariants.{ShortInput}
 use Rattle.names_parsed.specs.Standing.{Stands, name_from}
 use Rattle.names_parsed.specs.Heads.{fault_of}
 use Rattle.names_parsed.specs.declared.parsed.ParsedName.{ParsedName}
@@ -20,20 +21,23 @@ message_of n = n.message.now
 abbrev pub place_of : ParsedName → ℕ
 place_of n = n.start
 
--- The name stands where the reader was, which goes behind it.
+-- The name stands where the reader was, which goes behind it. What a pointer leads to may run past the reader's end.
 pub record ReadsName (old new : Reader) (n : ParsedName) : Type 0 where
   pub stands : Stands old.octets old.place (parsed_name n) new.place
-  pub octets : new.octets ≡ old.octets
+  pub fits : new.place ≤ old.end
+  pub reader : new ≡ record old { place = new.place }
   pub message : message_of n ≡ old.octets
   pub place : place_of n ≡ old.place
 
--- no name stands where the reader is
+-- no name stands where the reader is that ends by the reader's end
 abbrev pub NoName : Reader → Type 0
-NoName r = (n : Name) (e : ℕ) → Stands r.octets r.place n e → ⊥
+NoName r = (n : Name) (e : ℕ) → Stands r.octets r.place n e → e ≤ r.end → ⊥
 
--- reading a name there stops at this fault
+-- reading a name there stops at this fault, or the name ends past the reader's end
 abbrev pub StopsAt : Reader → ParseError → Type 0
-StopsAt r e = name_at 255 r.octets r.place ≡ Err (fault_of e)
+StopsAt r e =
+    (name_at 255 r.octets r.place ≡ Err (fault_of e))
+    ⊎ ((n : Name) × (b : ℕ) × (name_at 255 r.octets r.place ≡ Ok (n, b)) × (r.end < b) × (e ≡ ShortInput))
 
 -- a name stands there through pointers
 abbrev pub HasPointers : List ℕ → ℕ → Type 0

@@ -3,8 +3,10 @@
 
 pub(crate) mod head;
 pub mod iter;
+pub mod laws;
 pub mod order;
 pub mod parsed;
+pub(crate) mod skip;
 pub mod suffixes;
 pub mod text;
 pub(crate) mod walk;

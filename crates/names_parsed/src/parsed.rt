@@ -1,14 +1,16 @@
 //! Names that stand in a message (RFC 1035, 4.1.4).
 
-ghost use Rattle.std.specs.Prelude.{◌≡◌, ◌↔◌, ◌+◌, ◌++◌, ◌∷◌, ◌<◌, ◌≤◌, [], true, false, length, drop, slice_index_or, IfOk, IfErr, IfSome, IsNone, IsTrue, OnErr, MatchOption};
+ghost use Rattle.std.specs.Prelude.{◌≡◌, ◌↔◌, ◌+◌, ◌++◌, ◌∷◌, ◌<◌, ◌≤◌, [], true, false, length, drop, slice_index_or, IfOk, IfErr, IfSome, IsNone, IsTrue, OnOk, OnErr, MatchOption};
 ghost use Rattle.definitions.specs.Name.{IsName, at_or_above};
 ghost use Rattle.names_wire.specs.Label.{octets_of};
 ghost use Rattle.names_labels.specs.Compare.{begins_with};
 ghost use Rattle.names_flat.specs.Suffixes.{suffixes};
+ghost use Rattle.names_parsed.specs.Passing.{Skips, NothingToSkip};
 ghost use Rattle.names_parsed.specs.Standing.{stands_at, name_from};
 
 use crate::head::walk;
 use crate::iter::ParsedNameIter;
+use crate::skip::skip_from;
 use crate::suffixes::ParsedSuffixIter;
 use crate::walk::{label_from, label_within};
 use names_labels::traits::{Absolute, Labels, ToLabelIter};
@@ -47,7 +49,7 @@ impl<'a> ParsedName<'a> {
     /// Reads the name that stands where the parser is, and goes behind it: behind its first pointer or its root octet.
     ///
     /// A name has at most 255 octets, its root's included. At most 255 pointers are followed, each to a place before its
-    /// own. A refused call leaves the parser where it was.
+    /// own. It ends by the parser's end. A refused call leaves the parser where it was.
     pub fn parse(parser: &mut Parser<'a>) -> Result<Self, ParseError>
         ensures ok { IfOk result (ReadsName parser.old parser.new) }
         ensures refused { OnErr result (NoName parser.old) }
@@ -72,6 +74,17 @@ impl<'a> ParsedName<'a> {
         ensures unchanged { OnErr result (parser.new ≡ parser.old) }
     {
         ParsedName::parse(parser)
+    }
+
+    /// Passes over a name: up to its root octet or its first pointer, which is not followed, so what it leads to is not
+    /// looked at. Labels past 255 octets are refused, and a refused call leaves the parser where it was.
+    pub fn skip(parser: &mut Parser<'_>) -> Result<(), ParseError>
+        ensures ok { OnOk result (Skips parser.old parser.new) }
+        ensures refused { OnErr result (NothingToSkip parser.old) }
+        ensures unchanged { OnErr result (parser.new ≡ parser.old) }
+    {
+        let behind = skip_from(parser.as_slice(), parser.pos())?;
+        parser.seek(behind)
     }
 
     /// The number of labels, the root's included.

@@ -2,10 +2,13 @@
 
 ghost use Rattle.std.specs.Prelude.{◌≡◌, Some};
 ghost use Rattle.definitions.specs.Text.{text_of_name};
+ghost use Rattle.names_traits.specs.Chains.{absolute_end};
 ghost use Rattle.names_parsed.specs.Parsed.{parsed_name};
 
 use crate::parsed::ParsedName;
 use names_flat::name::Name;
+use names_labels::traits::ToLabelIter;
+use names_traits::chain::ChainEnd;
 use names_traits::flatten::FlattenInto;
 use names_traits::to_name::ToName;
 use names_wire::builder::ShortBuf;
@@ -30,6 +33,14 @@ impl<'a> fmt::Display for ParsedName<'a> {
 }
 
 impl<'a> ToName for ParsedName<'a> {}
+
+impl<'a> ChainEnd for ParsedName<'a> {
+    ghost ends = { λ n. absolute_end (parsed_name n) };
+
+    fn len_before_root(&self) -> u16 {
+        self.compose_len() - 1
+    }
+}
 
 impl<'a> FlattenInto<Name<Vec<u8>>> for ParsedName<'a> {
     ghost is_flat = { λ n m. m ≡ parsed_name n };

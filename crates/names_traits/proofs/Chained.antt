@@ -15,3 +15,6 @@ joined a b h g short = record {
   labels = all_joined a b h.labels g.labels;
   short = omega (arith, length-spelled_sum (a ++ b), ap length (spelled-append a b), length-append (spelled a) (spelled b), short);
 }
+
+pub under_root : (a r n : Name) → IsName n → a ≡ n → r ≡ [] → length (spelled a) + length (spelled r) ≤ 254
+under_root a r n h e z = omega (arith, h.short, length-spelled_sum n, ap (λ x. length (spelled x)) e, ap (λ x. length (spelled x)) z)

@@ -81,6 +81,19 @@ impl<L: Relative, R: ChainEnd> Chain<L, R> {
     }
 }
 
+impl<L: Relative> Chain<L, Name<&'static [u8]>> {
+    /// The name under the root.
+    pub(crate) fn rooted(left: L) -> Self
+        ensures { result ≡ record { left = L.labels left; right = [] } }
+    {
+        let _count = left.label_count();
+        Chain {
+            left,
+            right: Name::root_ref(),
+        }
+    }
+}
+
 impl<L: Relative, R: ChainEnd> Labels for Chain<L, R> {
     ghost use Rattle.std.specs.Prelude.{◌++◌};
 

@@ -1,11 +1,12 @@
 //! What any two relative names have in common, however they are kept.
 
-ghost use Rattle.std.specs.Prelude.{◌≡◌, ◌↔◌, ◌+◌, ◌<◌, ◌==◌, length, IfOk, IsErr};
+ghost use Rattle.std.specs.Prelude.{◌≡◌, ◌↔◌, ◌+◌, ◌<◌, ◌==◌, [], length, IfOk, IsErr};
 ghost use Rattle.names_labels.specs.Flat.{spelled};
 ghost use Rattle.definitions.specs.Name.{low, same, name_cmp};
 
 use crate::chain::{Chain, ChainEnd, LongChainError};
 use names_flat::builder::{Finish, NameBuilder};
+use names_flat::name::Name;
 use names_flat::relative::RelativeName;
 use names_labels::order::labels_cmp;
 pub use names_labels::traits::Relative;
@@ -96,6 +97,15 @@ pub trait ToRelativeName: Relative {
         ensures long { IsErr result ↔ (254 < length (spelled (Self.labels self)) + length (spelled (N.name suffix))) }
     {
         Chain::new(self, suffix)
+    }
+
+    /// The name under the root. It takes no memory.
+    fn chain_root(self) -> Chain<Self, Name<&'static [u8]>>
+    where
+        Self: Sized,
+        ensures { result ≡ record { left = Self.labels self; right = [] } }
+    {
+        Chain::rooted(self)
     }
 
     /// The name over octets that may be borrowed or owned: here a copy.
