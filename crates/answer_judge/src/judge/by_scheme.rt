@@ -33,9 +33,9 @@ pub fn judge_with<S: Scheme, H: Nsec3Hasher>(
 ) -> Result<Judgement, Refused>
     ensures { IsJudgement pointer_limit
         (record {
-            verifies = S.verifies scheme.now;
-            hash = H.hash_of hasher.now;
-            digest = S.digest_of scheme.now;
+          verifies = S.verifies scheme.now;
+          hash = H.hash_of hasher.now;
+          digest = S.digest_of scheme.now;
         })
         (handed apex.now ds.now dnskey_bytes.now answer_bytes.now (asked_of question.now) now limit)
         (answer_of result) (verifications_of result) (hashes_of result) }
@@ -79,9 +79,9 @@ fn counted<S: Scheme, H: Nsec3Hasher, L: Ledger, M: Ledger>(
     requires second_some { 0 < M.parts }
     ensures { IsJudgement pointer_limit
         (record {
-            verifies = S.verifies scheme.now;
-            hash = H.hash_of hasher.now;
-            digest = S.digest_of scheme.now;
+          verifies = S.verifies scheme.now;
+          hash = H.hash_of hasher.now;
+          digest = S.digest_of scheme.now;
         })
         (handed apex.now ds.now dnskey_bytes.now answer_bytes.now (asked_of question.now) now limit)
         (answer_of result) (verifications_of result) (hashes_of result) }
