@@ -1,2 +1,4 @@
 pub mod Blocks
 pub mod Classes
+pub mod Decoding
+pub mod Refusing
