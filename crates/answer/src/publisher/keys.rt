@@ -254,7 +254,9 @@ impl ZoneKeys {
         new: &[&str],
         now: &UnixTime,
     ) -> Result<Vec<Action>, KeyFault>
-        ensures { (digests : dnskey.Dnskey → Option (List ℕ)) → GivesKeys (λ v. v.items) self.old self.new result (apply digests (Start rolltype (texts old.now) (texts new.now)) now.now self.old) }
+        ensures { (digests : dnskey.Dnskey → Option (List ℕ))
+            → GivesKeys (λ v. v.items) self.old self.new result
+            (apply digests (Start rolltype (texts old.now) (texts new.now)) now.now self.old) }
     {
         match self.keys.start_roll(rolltype, old, new, now) {
             Ok(actions) => Ok(actions),
@@ -269,7 +271,9 @@ impl ZoneKeys {
         ttl: u32,
         now: &UnixTime,
     ) -> Result<Vec<Action>, KeyFault>
-        ensures { (digests : dnskey.Dnskey → Option (List ℕ)) → GivesKeys (λ v. v.items) self.old self.new result (apply digests (Report1 rolltype ttl) now.now self.old) }
+        ensures { (digests : dnskey.Dnskey → Option (List ℕ))
+            → GivesKeys (λ v. v.items) self.old self.new result
+            (apply digests (Report1 rolltype ttl) now.now self.old) }
     {
         match self.keys.propagation1_complete(rolltype, ttl, now) {
             Ok(actions) => Ok(actions),
@@ -283,7 +287,9 @@ impl ZoneKeys {
         rolltype: RollType,
         now: &UnixTime,
     ) -> Result<Vec<Action>, KeyFault>
-        ensures { (digests : dnskey.Dnskey → Option (List ℕ)) → GivesKeys (λ v. v.items) self.old self.new result (apply digests (Wait1 rolltype) now.now self.old) }
+        ensures { (digests : dnskey.Dnskey → Option (List ℕ))
+            → GivesKeys (λ v. v.items) self.old self.new result
+            (apply digests (Wait1 rolltype) now.now self.old) }
     {
         match self.keys.cache_expired1(rolltype, now) {
             Ok(actions) => Ok(actions),
@@ -298,7 +304,9 @@ impl ZoneKeys {
         ttl: u32,
         now: &UnixTime,
     ) -> Result<Vec<Action>, KeyFault>
-        ensures { (digests : dnskey.Dnskey → Option (List ℕ)) → GivesKeys (λ v. v.items) self.old self.new result (apply digests (Report2 rolltype ttl) now.now self.old) }
+        ensures { (digests : dnskey.Dnskey → Option (List ℕ))
+            → GivesKeys (λ v. v.items) self.old self.new result
+            (apply digests (Report2 rolltype ttl) now.now self.old) }
     {
         match self.keys.propagation2_complete(rolltype, ttl, now) {
             Ok(actions) => Ok(actions),
@@ -312,7 +320,9 @@ impl ZoneKeys {
         rolltype: RollType,
         now: &UnixTime,
     ) -> Result<Vec<Action>, KeyFault>
-        ensures { (digests : dnskey.Dnskey → Option (List ℕ)) → GivesKeys (λ v. v.items) self.old self.new result (apply digests (Wait2 rolltype) now.now self.old) }
+        ensures { (digests : dnskey.Dnskey → Option (List ℕ))
+            → GivesKeys (λ v. v.items) self.old self.new result
+            (apply digests (Wait2 rolltype) now.now self.old) }
     {
         match self.keys.cache_expired2(rolltype, now) {
             Ok(actions) => Ok(actions),
@@ -322,7 +332,8 @@ impl ZoneKeys {
 
     /// Ends a roll whose last actions are done.
     pub(crate) fn roll_done(&mut self, rolltype: RollType) -> Result<Vec<Action>, KeyFault>
-        ensures { (digests : dnskey.Dnskey → Option (List ℕ)) → GivesKeys (λ v. v.items) self.old self.new result (apply digests (Finish rolltype) 0 self.old) }
+        ensures { (digests : dnskey.Dnskey → Option (List ℕ)) → GivesKeys
+            (λ v. v.items) self.old self.new result (apply digests (Finish rolltype) 0 self.old) }
     {
         match self.keys.roll_done(rolltype) {
             Ok(actions) => Ok(actions),

@@ -60,7 +60,8 @@ pub(crate) fn read_group(
 ) -> Result<Group, AllocError>
     ensures owner { IfOk result (λ g. g.owner ≡ owner.now) }
     ensures rtype { IfOk result (λ g. g.rtype ≡ rtype) }
-    ensures items { IfOk result (λ g. map (λ d. d.items) g.items.items ≡ rrset_in pointer_limit message.now (map spelled records.now) owner.now rtype) }
+    ensures items { IfOk result (λ g. map (λ d. d.items) g.items.items
+        ≡ rrset_in pointer_limit message.now (map spelled records.now) owner.now rtype) }
     ensures unverified { IfOk result (λ g. g.verified ≡ false) }
 {
     let mut items = Vec::new(alloc);
@@ -85,7 +86,8 @@ fn datum_of(
     owner: &Name,
     rtype: Rtype,
 ) -> Result<Option<Vec<u8>>, AllocError>
-    ensures { IfOk result (λ o. option_map (λ v. v.items) o ≡ datum_of pointer_limit message.now owner.now rtype (spelled record.now)) }
+    ensures { IfOk result (λ o. option_map (λ v. v.items) o
+        ≡ datum_of pointer_limit message.now owner.now rtype (spelled record.now)) }
 {
     if record.class == Class::IN && record.rtype == rtype && record.owner.name_eq(owner) {
         return record.canonical_data(alloc, message);
@@ -106,7 +108,9 @@ pub(crate) fn verify_groups<C: Checks>(
 ) -> Result<(), AllocError>
     requires room { count.old + length records.now < 2 ^ 32 }
     requires apart { are_apart groups.old ≡ true }
-    ensures marked { IfOk result (λ _. groups.new ≡ map (marked (held_by (C.answers checks.old) trust.now) message.now (map spelled records.now)) groups.old) }
+    ensures marked { IfOk result
+        (λ _. groups.new ≡ map (marked (held_by (C.answers checks.old) trust.now) message.now
+        (map spelled records.now)) groups.old) }
     ensures tried { IfOk result (λ _. count.new ≡ count.old
         + tries_in (held_by (C.answers checks.old) trust.now) message.now groups.old (map spelled records.now)) }
     ensures counted { C.verified checks.new + count.old ≡ C.verified checks.old + count.new }
@@ -136,7 +140,9 @@ fn verify_record<C: Checks>(
     requires room { count.old + 1 < 2 ^ 32 }
     requires signature { is_signature (spelled record.now) ≡ true }
     requires apart { are_apart groups.old ≡ true }
-    ensures marked { IfOk result (λ _. groups.new ≡ map (marked (held_by (C.answers checks.old) trust.now) message.now (spelled record.now ∷ [])) groups.old) }
+    ensures marked { IfOk result
+        (λ _. groups.new ≡ map (marked (held_by (C.answers checks.old) trust.now) message.now
+        (spelled record.now ∷ [])) groups.old) }
     ensures tried { IfOk result (λ _. count.new ≡ count.old + one_if
         (is_tried_in (held_by (C.answers checks.old) trust.now) message.now groups.old (spelled record.now))) }
     ensures counted { C.verified checks.new + count.old ≡ C.verified checks.old + count.new }
@@ -162,7 +168,8 @@ fn verify_record<C: Checks>(
 /// The place of a group of an owner and a type.
 fn place_of(groups: &[Group], owner: &ParsedName, rtype: Rtype) -> Option<usize>
     ensures within { IfSome result (λ i. i < length groups.now) }
-    ensures found { MatchOption result (list_any (is_of owner.now rtype) groups.now ≡ false) (λ i. (g : Group) → g ≡ get_or groups.now i g → is_of owner.now rtype g ≡ true) }
+    ensures found { MatchOption result (list_any (is_of owner.now rtype) groups.now ≡ false)
+        (λ i. (g : Group) → g ≡ get_or groups.now i g → is_of owner.now rtype g ≡ true) }
 {
     for (i, group) in groups.iter().enumerate() {
         if group.is_of(owner, rtype) {
@@ -182,7 +189,10 @@ fn verifies<C: Checks>(
     count: &mut u32,
 ) -> Result<bool, AllocError>
     requires { count.old + 1 < 2 ^ 32 }
-    ensures signs { IfOk result (λ b. b ≡ signs (C.answers checks.old) trust.now.apex.now trust.now.keys.now trust.now.moment group.now.owner (map (λ d. d.items) group.now.items.items) (fields_read signature.now) signature.now.signature.now) }
+    ensures signs { IfOk result
+        (λ b. b ≡ signs (C.answers checks.old) trust.now.apex.now trust.now.keys.now
+        trust.now.moment group.now.owner (map (λ d. d.items) group.now.items.items)
+        (fields_read signature.now) signature.now.signature.now) }
     ensures tried { IfOk result (λ _. count.new ≡ count.old + one_if
         (can_try (held_by (C.answers checks.old) trust.now) group.now.owner (data_in group.now) (fields_read signature.now))) }
     ensures counted { C.verified checks.new + count.old ≡ C.verified checks.old + count.new }
@@ -203,7 +213,8 @@ fn verifies<C: Checks>(
 
 /// What a signature of a group is made over (RFC 4034, 3.1.8.1).
 fn octets_of(alloc: Global, signature: &RrsigView, group: &Group) -> Result<Vec<u8>, AllocError>
-    ensures { IfOk result (λ v. v.items ≡ signed_octets (fields_read signature.now) group.now.owner 1 (map (λ d. d.items) group.now.items.items)) }
+    ensures { IfOk result (λ v. v.items ≡ signed_octets
+        (fields_read signature.now) group.now.owner 1 (map (λ d. d.items) group.now.items.items)) }
 {
     let fields = ProtoRrsig::new(
         signature.type_covered,
@@ -221,7 +232,8 @@ fn octets_of(alloc: Global, signature: &RrsigView, group: &Group) -> Result<Vec<
 impl<'a> Trust<'a> {
     /// Whether a signature is the apex's, holds at the moment, and counts the labels of an owner (RFC 4035, 5.3.1).
     fn is_due(&self, signature: &RrsigView, owner: &Name) -> bool
-        ensures { result ≡ is_due self.now.apex.now self.now.moment owner.now (fields_read signature.now) }
+        ensures { result
+            ≡ is_due self.now.apex.now self.now.moment owner.now (fields_read signature.now) }
     {
         signature.labels == owner.rrsig_label_count()
             && in_time(signature, self.moment)
@@ -230,7 +242,8 @@ impl<'a> Trust<'a> {
 
     /// The key of a signature's tag and algorithm.
     fn key(&self, signature: &RrsigView) -> Option<&TaggedKey<'a>>
-        ensures { option_map (λ k. k.now) result ≡ find (fits_key (fields_read signature.now)) self.now.keys.now }
+        ensures { option_map
+            (λ k. k.now) result ≡ find (fits_key (fields_read signature.now)) self.now.keys.now }
     {
         for key in self.keys {
             if key.tag() == signature.key_tag && key.dnskey().algorithm() == signature.algorithm {
