@@ -5,7 +5,7 @@ use Rattle.std.specs.List.{AllZip, cons_option, filter, filter_map}
 use Rattle.std.specs.Option.{option_map}
 use Rattle.std.proofs.lemmas.Bool.{and_from, eq-eqb, eqb-true}
 use Rattle.std.proofs.lemmas.List.Elements.{filter_map-append}
-use Rattle.definitions.specs.Name.{Name, at_or_above, low, wire}
+use Rattle.definitions.specs.Name.{Name, at_or_above, wire}
 use Rattle.definitions.specs.Dnskey.{Dnskey}
 use Rattle.definitions.specs.Zone.{sorted_data}
 use Rattle.answer_judge.specs.Facts.{Link}
@@ -19,7 +19,6 @@ use Rattle.answer_judge.proofs.GivenRecords.{rrset_given}
 use Rattle.answer_judge.proofs.JudgeCase.{above-owner}
 use Rattle.answer_judge.proofs.GivenSignatures.{IsSignedBy, verified_given}
 use Rattle.records.proofs.Lists.{Has}
-use Rattle.records.proofs.ZoneNames.{at_or_above-low}
 
 -- ---- one record
 

@@ -264,7 +264,7 @@ fn key_group(alloc: Global, apex: &Name, keys: &[TaggedKey]) -> Result<Group, Al
     ensures rtype { IfOk result (λ g. g.rtype ≡ 48) }
     ensures items { IfOk result
         (λ g. map (λ d. d.items) g.items.items ≡ sorted_data (map dnskey_data keys.now)) }
-    ensures unverified { IfOk result (λ g. g.verified ≡ false) }
+    ensures unverified { IfOk result (λ g. g.verified ≡ None) }
 {
     let mut items = Vec::new(alloc);
     for key in keys {
@@ -276,7 +276,7 @@ fn key_group(alloc: Global, apex: &Name, keys: &[TaggedKey]) -> Result<Group, Al
         owner: apex.try_clone(alloc)?,
         rtype: Rtype::DNSKEY,
         items,
-        verified: false,
+        verified: None,
     })
 }
 
@@ -306,5 +306,5 @@ fn are_verified<C: Checks>(
     let group = key_group(alloc, trust.apex, keys)?;
     let mut groups = [group];
     verify_groups(alloc, message, records, trust, &mut groups, checks, count)?;
-    Ok(groups[0].verified)
+    Ok(groups[0].verified.is_some())
 }

@@ -64,7 +64,7 @@ fn asked_of(group: Option<Group>) -> Option<DataList>
     ensures { result ≡ data_verified group }
 {
     let group = group?;
-    if group.verified {
+    if group.verified.is_some() {
         return Some(DataList::new(group.items));
     }
     None
@@ -139,7 +139,7 @@ fn is_verified(groups: &[Group], owner: &ParsedName) -> bool
     ensures { result ≡ list_any (is_proved owner.now) groups.now }
 {
     for group in groups {
-        if group.verified && owner.name_eq(&group.owner) {
+        if group.verified.is_some() && owner.name_eq(&group.owner) {
             return true;
         }
     }
