@@ -8,14 +8,13 @@ use Rattle.definitions.specs.Dnskey.{Dnskey}
 use Rattle.records.specs.Message.{Asked}
 use Rattle.answer_zone.specs.Served.{Group}
 use Rattle.answer_judge.specs.Given.{AreGroups, Gives}
-use Rattle.answer_zone.specs.GroupView.{GroupView, Presents}
+use Rattle.answer_zone.specs.GroupView.{GroupView, Presents, view_of}
 use Rattle.answer.specs.Composed.{IsAnswer, IsWritten, joined}
 use Rattle.records.specs.Written.{Written, record_octets}
 use Rattle.messages.specs.WrittenLaws.{IsQuestion, IsRecord, first_place, spelled_from}
 use Rattle.messages.proofs.MessageWhole.{message_here, records_stand}
 use Rattle.messages.proofs.MessageWritten.{StandsAt}
 use Rattle.answer.proofs.WritesGroups.{IsFormed, all_hold, all_records, are_groups, count_of}
-use Rattle.answer.proofs.WritesRecords.{view_of}
 use Rattle.records.proofs.Lists.{zip_append}
 
 presented : (v : GroupView) (g : Group) → Presents v g → v ≡ view_of g

@@ -6,6 +6,7 @@ use Rattle.std.proofs.lemmas.List.Concat.{flat_map-append}
 use Rattle.definitions.specs.Limits.{pointer_limit}
 use Rattle.definitions.specs.Name.{Name, IsName}
 use Rattle.definitions.specs.Dnskey.{Dnskey}
+use Rattle.answer_zone.specs.GroupView.{view_of}
 use Rattle.answer_zone.specs.Served.{Group}
 use Rattle.answer_judge.specs.Given.{AreGroups}
 use Rattle.answer.specs.Composed.{IsWritten, joined, rrsig_of}
@@ -13,7 +14,7 @@ use Rattle.records.specs.Written.{Written, record_octets}
 use Rattle.messages.specs.WrittenLaws.{IsRecord, spelled_at, spelled_from}
 use Rattle.messages.proofs.MessageWritten.{StandsAt, end_of}
 use Rattle.answer.proofs.Refusals.{length_record}
-use Rattle.answer.proofs.WritesRecords.{ReadsRecord, view_of, own_kept, own_records, its_signatures, rest_stands}
+use Rattle.answer.proofs.WritesRecords.{ReadsRecord, own_kept, own_records, its_signatures, rest_stands}
 
 -- an RRset whose fields hold what they say, and whose data read as their canonical form
 pub record IsFormed (g : Group) : Type 0 where

@@ -10,7 +10,7 @@ use Rattle.definitions.specs.Limits.{pointer_limit}
 use Rattle.records.specs.Message.{Spelled, canonical_data}
 use Rattle.answer_zone.specs.Served.{Group}
 use Rattle.answer_judge.specs.Given.{AreRecords, AreSignatures, IsSignature, KeepsOwn}
-use Rattle.answer_zone.specs.GroupView.{GroupView, IsRrsigData, fields_of}
+use Rattle.answer_zone.specs.GroupView.{GroupView, IsRrsigData, fields_of, view_of}
 use Rattle.answer.specs.Composed.{rrsig_of}
 use Rattle.records.specs.Written.{Written, record_octets}
 use Rattle.messages.specs.WrittenLaws.{AreFields, spelled_at, spelled_from}
@@ -21,10 +21,6 @@ use Rattle.records.proofs.ZoneNames.{low-low}
 -- data of a type, as written, read as canonical data wherever they stand
 abbrev pub ReadsAs : ℕ → List ℕ → List ℕ → Type 0
 ReadsAs t written d = (m rest : List ℕ) (r : Spelled) → r.rtype ≡ t → StandsAt m r.start (written ++ rest) → r.length ≡ length written → canonical_data pointer_limit m r ≡ Some d
-
--- an RRset as it is written
-abbrev pub view_of : Group → GroupView
-view_of g = record { owner = g.owner; labels = label_count g.source; rtype = g.rtype; ttl = g.ttl; written = g.written; canonical = g.datas; signed = g.signed }
 
 pub first_stands : (m : List ℕ) (p : ℕ) (r : Written) (rs : List Written) (rest : List ℕ) → StandsAt m p (flat_map record_octets (r ∷ rs) ++ rest) → StandsAt m p (record_octets r ++ (flat_map record_octets rs ++ rest))
 first_stands m p r rs rest s = moved m p _ _ (append_assoc (record_octets r) (flat_map record_octets rs) rest) s

@@ -57,10 +57,6 @@ dnskey_for kind algorithm octets = record { flags = flags_of kind; protocol = 3;
 abbrev pub bound_at : List (Reference × BoundKey) → Reference → Option BoundKey
 bound_at bound q = entries.find reference_cmp q bound
 
--- the DNSKEY that a reference is bound to, for good
-abbrev pub dnskey_of : ZoneKeys → Reference → Option Dnskey
-dnskey_of s q = elim (bound_at s.bound q) [ None ↦ None | Some b ↦ Some b.key ]
-
 -- bound to another key
 abbrev pub is_bound_away : List (Reference × BoundKey) → Reference → Dnskey → Bool
 is_bound_away bound q k = elim (bound_at bound q) [ None ↦ false | Some b ↦ not (same_key b.key k) ]

@@ -1,15 +1,7 @@
--- What a publisher holds, and the digests and hashes of its scheme and hasher.
+-- A publisher's digests and moments.
 use Rattle.std.specs.Prelude.{ℕ, ◌/◌, ◌%◌, List, Option}
 use Rattle.definitions.specs.Name.{Name}
 use Rattle.definitions.specs.Dnskey.{Dnskey, digested}
-use Rattle.answer_zone.specs.ZoneView.{AcceptedZone}
-use Rattle.answer.specs.Bindings.{ZoneKeys}
-
--- an accepted zone, its keys, and how long a signature holds in seconds
-pub record Published : Type 0 where
-  pub zone : AcceptedZone
-  pub keys : ZoneKeys
-  pub life : ℕ
 
 -- the digest of type 2 of a key at the apex
 abbrev pub digest_at : (ℕ → List ℕ → Option (List ℕ)) → Name → Dnskey → Option (List ℕ)

@@ -41,12 +41,31 @@ pub fn simulate<S: Scheme, H: Nsec3Hasher>(
     requires life { life < 2 ^ 31 }
     requires keys { All (λ e. added_octets e ≤ 65531) events.now }
     ensures each { IfOk result (λ outcomes. length outcomes.items ≡ length events.now) }
-    ensures simulates { IfOk result (λ outcomes. (end : Sofar) × Simulates (world (record { apex = apex; mode = mode_of mode; limit = limit; records = sorted_records (map handed_of records.items) }) life (S.signature_of scheme.now) (S.verifies scheme.now) (S.digest_of scheme.now) (H.hash_of hasher.now)) (begin apex) events.now outcomes.items end) }
+    ensures simulates { IfOk result (λ outcomes. (end : Sofar)
+        × Simulates (world (record {
+          apex = apex;
+          mode = mode_of mode;
+          limit = limit;
+          records = sorted_records (map handed_of records.items);
+        }) life (S.signature_of scheme.now)
+        (S.verifies scheme.now) (S.digest_of scheme.now) (H.hash_of hasher.now))
+        (begin apex) events.now outcomes.items end) }
     // A judgement of things of one state of the keys, which meet, says the zone's verdict while the signatures hold.
-    ensures one_state { IfOk result (λ outcomes. SaysVerdicts (world (record { apex = apex; mode = mode_of mode; limit = limit; records = sorted_records (map handed_of records.items) }) life (S.signature_of scheme.now) (S.verifies scheme.now) (S.digest_of scheme.now) (H.hash_of hasher.now)) (map handed_of records.items) events.now outcomes.items) }
-    ensures accepted { IfOk result (λ outcomes. IsAccepted apex (mode_of mode) limit (map handed_of records.items)) }
-    ensures handed { IfOk result (λ outcomes. IsName apex × AllByRecursion IsHanded (map handed_of records.items)) }
-    ensures fault { IfErr result (λ f. (f ≡ ZoneFault.Memory) ⊎ IsFault apex (mode_of mode) limit (map handed_of records.items) f) }
+    ensures one_state { IfOk result
+        (λ outcomes. SaysVerdicts (world (record {
+          apex = apex;
+          mode = mode_of mode;
+          limit = limit;
+          records = sorted_records (map handed_of records.items);
+        }) life (S.signature_of scheme.now)
+        (S.verifies scheme.now) (S.digest_of scheme.now) (H.hash_of hasher.now))
+        (map handed_of records.items) events.now outcomes.items) }
+    ensures accepted { IfOk result
+        (λ outcomes. IsAccepted apex (mode_of mode) limit (map handed_of records.items)) }
+    ensures handed { IfOk result
+        (λ outcomes. IsName apex × AllByRecursion IsHanded (map handed_of records.items)) }
+    ensures fault { IfErr result (λ f. (f ≡ ZoneFault.Memory)
+        ⊎ IsFault apex (mode_of mode) limit (map handed_of records.items) f) }
 {
     let publisher = Publisher::new(alloc, apex, records, mode, scheme, hasher, limit, life)?;
     let mut run = Run::new(alloc, publisher, limit);

@@ -5,12 +5,12 @@ use Rattle.std.specs.List.{AllZip, cons_option, filter, filter_map}
 use Rattle.std.specs.Option.{option_map}
 use Rattle.std.proofs.lemmas.Bool.{and_from, eq-eqb, eqb-true}
 use Rattle.std.proofs.lemmas.List.Elements.{filter_map-append}
-use Rattle.definitions.specs.Name.{Name, at_or_above, low, wire}
+use Rattle.definitions.specs.Name.{Name, at_or_above, wire}
 use Rattle.definitions.specs.Dnskey.{Dnskey}
 use Rattle.definitions.specs.Zone.{sorted_data}
 use Rattle.answer_judge.specs.Facts.{Link}
 use Rattle.answer_judge.specs.Given.{AreGroups, AreRecords, AreSignatures, IsRecord, IsSignature}
-use Rattle.answer_judge.specs.GivenGroups.{SameLink, SaysLink, has_twins, is_nsec}
+use Rattle.answer_judge.proofs.GivenGroups.{SameLink, SaysLink, has_twins, is_nsec}
 use Rattle.records.specs.Message.{Spelled, nsec_at}
 use Rattle.answer_zone.specs.Served.{Group}
 use Rattle.answer_judge.specs.Verified.{Trusting, is_link, is_verified, link_at, link_of, rrset_in, verified_links}
@@ -19,7 +19,6 @@ use Rattle.answer_judge.proofs.GivenRecords.{rrset_given}
 use Rattle.answer_judge.proofs.JudgeCase.{above-owner}
 use Rattle.answer_judge.proofs.GivenSignatures.{IsSignedBy, verified_given}
 use Rattle.records.proofs.Lists.{Has}
-use Rattle.records.proofs.ZoneNames.{at_or_above-low}
 
 -- ---- one record
 

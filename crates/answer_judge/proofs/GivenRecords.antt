@@ -10,7 +10,7 @@ use Rattle.definitions.specs.Name.{Name, labels_eq, low, same}
 use Rattle.definitions.specs.Dnskey.{Dnskey}
 use Rattle.definitions.specs.Zone.{sorted_data}
 use Rattle.answer_judge.specs.Given.{AreGroups, AreRecords, AreSignatures, IsRecord, IsSignature}
-use Rattle.answer_judge.specs.GivenGroups.{has_twins, is_rrset}
+use Rattle.answer_judge.proofs.GivenGroups.{has_twins, is_rrset}
 use Rattle.records.specs.Message.{Spelled, canonical_data}
 use Rattle.answer_zone.specs.Served.{Group}
 use Rattle.answer_judge.specs.Verified.{datum_of, rrset_in}

@@ -12,7 +12,7 @@ use Rattle.answer_zone.specs.Accepting.{zone_with}
 use Rattle.answer_judge.specs.Answers.{Answers}
 use Rattle.answer_judge.specs.Facts.{Link, decided, fits_key}
 use Rattle.answer_judge.specs.Given.{AreGroups, fields_for}
-use Rattle.answer_judge.specs.GivenGroups.{SameLink, SaysLink, is_rrset}
+use Rattle.answer_judge.proofs.GivenGroups.{SameLink, SaysLink, is_rrset}
 use Rattle.answer_judge.specs.Judged.{by_facts, judged_answer, trusting}
 use Rattle.answer_judge.specs.Judging.{Handing, Says, is_allowed}
 use Rattle.answer_zone.specs.Links.{link_group}

@@ -1,7 +1,8 @@
 -- How many signatures are tried, by groups as the code has them, is how many are due.
-use Rattle.std.proofs.Common.{◌≡◌, ℕ, zero, suc, ◌+◌, ◌<◌, ◌≤◌, Bool, true, false, not, ◌&&◌, ◌||◌, ◌==◌, List, [], ◌∷◌, ◌++◌, map, length, drop, get_or, refl, sym, ap, subst, ◌∙◌, arith, inl, inr, ◌⊎◌, ⊎_elim}
+use Rattle.std.proofs.Common.{◌≡◌, ℕ, zero, suc, ◌+◌, ◌<◌, ◌≤◌, Bool, true, false, not, ◌&&◌, ◌||◌, ◌==◌, List, [], ◌∷◌, ◌++◌, map, length, drop, get_or, refl, sym, ap, ◌∙◌, arith}
 use Rattle.std.specs.Prelude.{Option, Some, None}
-use Rattle.std.specs.Option.{is_some}
+use Rattle.std.specs.Option.{is_some, option_map}
+use Rattle.answer_judge.specs.declared.judge.groups.Signed.{Signed}
 use Rattle.std.specs.List.{AllByRecursion, find, list_any}
 use Rattle.std.proofs.lemmas.Bool.{and_parts, eqb-true, or_parts, not-true, false≢true}
 use Rattle.std.proofs.lemmas.List.{drop_all}
@@ -15,12 +16,12 @@ use Rattle.records.specs.Message.{Spelled, rrsig_at}
 use Rattle.records.proofs.Lists.{items_from, list_any-map}
 use Rattle.records.proofs.ZoneNames.{low-low, same_labels}
 use Rattle.answer_judge.specs.Counted.{Sought, can_try, is_tried, one_if, tries, tries_fields}
-use Rattle.answer_judge.specs.Facts.{fields_read, fits_key, is_due, is_signature}
-use Rattle.answer_judge.specs.Marked.{are_apart, data_in, is_like, is_of, is_tried_in, marked, tries_group, tries_in}
-use Rattle.answer_judge.specs.Verified.{Trusting, is_verified, verifies_with}
+use Rattle.answer_judge.specs.Facts.{fields_read, first_some, fits_key, is_due, is_signature}
+use Rattle.answer_judge.specs.Marked.{are_apart, data_in, is_like, is_of, is_tried_in, marked, or_first, signed_of, tries_group, tries_in}
+use Rattle.answer_judge.specs.Verified.{Trusting, is_verified, verified_with}
 use Rattle.answer_judge.specs.declared.judge.groups.Group.{Group}
 use Rattle.answer_judge.proofs.JudgeCase.{is_due-owner, is_verified-owner}
-use Rattle.answer_judge.proofs.JudgeMarks.{any_at, marked_done, none_like, or_no}
+use Rattle.answer_judge.proofs.JudgeMarks.{any_at, marked_done, marked_is, none_like, or_no, or_rest}
 use Rattle.answer_judge.proofs.JudgeTried.{both_of}
 
 -- ---- tests of two parts
@@ -104,15 +105,15 @@ read_as w m r f gs e s c = λ i. elim (s i && c i) as (λ _. Bool) [ false ↦ f
 pub count_none : (w : Trusting) (m : List ℕ) (r : Spelled) (f : Fields × List ℕ) (gs : List Group) (n k : ℕ) → rrsig_at pointer_limit m r ≡ Some f → is_signature r ≡ true → (r.class == 1) ≡ true
     → list_any (is_of r.owner f.0.covered) gs ≡ false → k ≡ n → k ≡ n + one_if (is_tried_in w m gs r)
 count_none w m r f gs n k e s c none same =
-    same_count n k (is_tried_in w m gs r) same (read_as w m r f gs e s c ∙ none_of (is_of r.owner f.0.covered) (λ g. not g.verified && can_try w g.owner (data_in g) f.0) gs none)
+    same_count n k (is_tried_in w m gs r) same (read_as w m r f gs e s c ∙ none_of (is_of r.owner f.0.covered) (λ g. not (is_some g.verified) && can_try w g.owner (data_in g) f.0) gs none)
 
 at_place : (w : Trusting) (m : List ℕ) (r : Spelled) (f : Fields × List ℕ) (gs : List Group) (i : ℕ) (g : Group) → rrsig_at pointer_limit m r ≡ Some f → is_signature r ≡ true → (r.class == 1) ≡ true
-    → are_apart gs ≡ true → i < length gs → g ≡ get_or gs i g → is_of r.owner f.0.covered g ≡ true → is_tried_in w m gs r ≡ (not g.verified && can_try w g.owner (data_in g) f.0)
+    → are_apart gs ≡ true → i < length gs → g ≡ get_or gs i g → is_of r.owner f.0.covered g ≡ true → is_tried_in w m gs r ≡ (not (is_some g.verified) && can_try w g.owner (data_in g) f.0)
 at_place w m r f gs i g e s c a h at own =
-    read_as w m r f gs e s c ∙ any_one r.owner f.0.covered (λ g. not g.verified && can_try w g.owner (data_in g) f.0) gs i g a h at own
+    read_as w m r f gs e s c ∙ any_one r.owner f.0.covered (λ g. not (is_some g.verified) && can_try w g.owner (data_in g) f.0) gs i g a h at own
 
 pub count_again : (w : Trusting) (m : List ℕ) (r : Spelled) (f : Fields × List ℕ) (gs : List Group) (i : ℕ) (g : Group) (n k : ℕ) → rrsig_at pointer_limit m r ≡ Some f → is_signature r ≡ true → (r.class == 1) ≡ true
-    → are_apart gs ≡ true → i < length gs → g ≡ get_or gs i g → is_of r.owner f.0.covered g ≡ true → g.verified ≡ true → k ≡ n → k ≡ n + one_if (is_tried_in w m gs r)
+    → are_apart gs ≡ true → i < length gs → g ≡ get_or gs i g → is_of r.owner f.0.covered g ≡ true → is_some g.verified ≡ true → k ≡ n → k ≡ n + one_if (is_tried_in w m gs r)
 count_again w m r f gs i g n k e s c a h at own v same =
     same_count n k (is_tried_in w m gs r) same (at_place w m r f gs i g e s c a h at own ∙ ap (λ b. not b && can_try w g.owner (data_in g) f.0) v)
 
@@ -123,7 +124,7 @@ try-signer w owner items s =
     λ i. elim (not (length items == 0) && d i) as (λ _. Bool) [ false ↦ false | true ↦ is_some (find (fits_key (fields_read s)) w.keys) ]
 
 pub count_now : (w : Trusting) (m : List ℕ) (r : Spelled) (s : RrsigView) (gs : List Group) (i : ℕ) (g : Group) (n k : ℕ) → rrsig_at pointer_limit m r ≡ Some (signature_of s) → is_signature r ≡ true → (r.class == 1) ≡ true
-    → are_apart gs ≡ true → i < length gs → g ≡ get_or gs i g → is_of r.owner s.type_covered g ≡ true → g.verified ≡ false
+    → are_apart gs ≡ true → i < length gs → g ≡ get_or gs i g → is_of r.owner s.type_covered g ≡ true → is_some g.verified ≡ false
     → k ≡ n + one_if (can_try w (get_or gs i g).owner (data_in (get_or gs i g)) (fields_read s)) → k ≡ n + one_if (is_tried_in w m gs r)
 count_now w m r s gs i g n k e sig c a h at own not_yet counted =
     let f = signature_of s in
@@ -151,15 +152,15 @@ tries_last w m rs i gs h = ap (λ ys. tries_in w m gs (map spelled ys)) (drop_al
 pub record AreSought (s : Sought) (gs : List Group) : Type 0 where
   pub found : (o : Name) (t : ℕ) → s.is o t ≡ list_any (is_of o t) gs
   pub datas : (o : Name) (t : ℕ) → AllByRecursion (λ g. is_of o t g ≡ true → data_in g ≡ s.datas o t) gs
-  pub fresh : AllByRecursion (λ g. g.verified ≡ false) gs
+  pub fresh : AllByRecursion (λ g. g.verified ≡ None) gs
 
 try-owner : (w : Trusting) (a b : Name) (items : List (List ℕ)) (f : Fields) → low a ≡ low b → can_try w a items f ≡ can_try w b items f
 try-owner w a b items f h =
     let d = is_due-owner w.apex w.now a b f h in
     λ i. elim (not (length items == 0) && d i) as (λ _. Bool) [ false ↦ false | true ↦ is_some (find (fits_key f) w.keys) ]
 
-each_alike : (w : Trusting) (m : List ℕ) (s : Sought) (earlier : List Spelled) (o : Name) (f : Fields) (gs : List Group) → AllByRecursion (λ g. is_of o f.covered g ≡ true → data_in g ≡ s.datas o f.covered) gs → AllByRecursion (λ g. g.verified ≡ false) gs
-    → AllByRecursion (λ g. is_of o f.covered g ≡ true → (not (g.verified || is_verified w pointer_limit m earlier g.owner g.rtype (data_in g)) && can_try w g.owner (data_in g) f)
+each_alike : (w : Trusting) (m : List ℕ) (s : Sought) (earlier : List Spelled) (o : Name) (f : Fields) (gs : List Group) → AllByRecursion (λ g. is_of o f.covered g ≡ true → data_in g ≡ s.datas o f.covered) gs → AllByRecursion (λ g. g.verified ≡ None) gs
+    → AllByRecursion (λ g. is_of o f.covered g ≡ true → (not (is_some (marked w m earlier g).verified) && can_try w g.owner (data_in g) f)
     ≡ (not (is_verified w pointer_limit m earlier o f.covered (s.datas o f.covered)) && can_try w o (s.datas o f.covered) f)) gs
 each_alike w m s earlier o f [] d v = tt
 each_alike w m s earlier o f (g ∷ gs) d v = (
@@ -168,7 +169,8 @@ each_alike w m s earlier o f (g ∷ gs) d v = (
       let owner : low g.owner ≡ low o = sym (same_labels (low o) (low g.owner) p.1) in
       let kind : g.rtype ≡ f.covered = eqb-true g.rtype f.covered p.0 in
       let items = d.0 is in
-      (λ i. not (v.0 i || is_verified w pointer_limit m earlier g.owner (kind i) (items i)) && can_try w g.owner (items i) f)
+      ap (λ b. not b && can_try w g.owner (data_in g) f) (marked_is w m earlier g)
+      ∙ (λ i. not (is_some (v.0 i) || is_verified w pointer_limit m earlier g.owner (kind i) (items i)) && can_try w g.owner (items i) f)
       ∙ (λ i. not (is_verified-owner w pointer_limit m earlier g.owner o f.covered (s.datas o f.covered) owner i) && try-owner w g.owner o (s.datas o f.covered) f owner i)),
   each_alike w m s earlier o f gs d.1 v.1,
 )
@@ -176,7 +178,7 @@ each_alike w m s earlier o f (g ∷ gs) d v = (
 tried_fields : (w : Trusting) (m : List ℕ) (s : Sought) (gs : List Group) (earlier : List Spelled) (o : Name) (f : Fields) → AreSought s gs → list_any (tries_group w o f) (map (marked w m earlier) gs) ≡ tries_fields w pointer_limit m s earlier o f
 tried_fields w m s gs earlier o f a =
     list_any-map (tries_group w o f) (marked w m earlier) gs
-    ∙ any_alike (is_of o f.covered) (λ g. not (g.verified || is_verified w pointer_limit m earlier g.owner g.rtype (data_in g)) && can_try w g.owner (data_in g) f)
+    ∙ any_alike (is_of o f.covered) (λ g. not (is_some (marked w m earlier g).verified) && can_try w g.owner (data_in g) f)
     (not (is_verified w pointer_limit m earlier o f.covered (s.datas o f.covered)) && can_try w o (s.datas o f.covered) f) gs
     (each_alike w m s earlier o f gs (a.datas o f.covered) a.fresh)
     ∙ ap (λ b. b && (not (is_verified w pointer_limit m earlier o f.covered (s.datas o f.covered)) && can_try w o (s.datas o f.covered) f)) (sym (a.found o f.covered))
@@ -187,25 +189,29 @@ tried_alike w m s gs earlier r a = λ i. elim (is_signature r && (r.class == 1))
   | true ↦ elim (rrsig_at pointer_limit m r) as (λ _. Bool) [ None ↦ false | Some f ↦ tried_fields w m s gs earlier r.owner f.0 a i ]
 ]
 
-or_behind : (v x y : Bool) → ((v || x) || (y || false)) ≡ (v || (x || y))
-or_behind true x y = refl
-or_behind false true y = refl
-or_behind false false true = refl
-or_behind false false false = refl
+first_behind : (v : Option Signed) (x y : Option Fields) → or_first (or_first v (option_map signed_of x)) (option_map signed_of (or_rest y None)) ≡ or_first v (option_map signed_of (or_rest x y))
+first_behind (Some s) x y = refl
+first_behind None (Some f) y = refl
+first_behind None None None = refl
+first_behind None None (Some f) = refl
 
-any_more : {X : Type 0} (p : X → Bool) (xs : List X) (x : X) → list_any p (xs ++ x ∷ []) ≡ (list_any p xs || p x)
-any_more p [] x = or_no (p x)
-any_more p (y ∷ xs) x = ap (λ b. p y || b) (any_more p xs x) ∙ or_assoc (p y) (list_any p xs) (p x)
+rest_none : (x : Option Fields) → or_rest x None ≡ x
+rest_none None = refl
+rest_none (Some f) = refl
+
+first_more : {X : Type 0} (p : X → Option Fields) (xs : List X) (x : X) → first_some p (xs ++ x ∷ []) ≡ or_rest (first_some p xs) (p x)
+first_more p [] x = rest_none (p x)
+first_more p (y ∷ xs) x = ap (or_rest (p y)) (first_more p xs x) ∙ rest_assoc (p y) (first_some p xs) (p x)
   where
-    or_assoc : (a b c : Bool) → (a || (b || c)) ≡ ((a || b) || c)
-    or_assoc true b c = refl
-    or_assoc false b c = refl
+    rest_assoc : (a b c : Option Fields) → or_rest a (or_rest b c) ≡ or_rest (or_rest a b) c
+    rest_assoc (Some f) b c = refl
+    rest_assoc None b c = refl
 
 marked_more : (w : Trusting) (m : List ℕ) (earlier : List Spelled) (r : Spelled) (gs : List Group) → map (marked w m (r ∷ [])) (map (marked w m earlier) gs) ≡ map (marked w m (earlier ++ r ∷ [])) gs
 marked_more w m earlier r [] = refl
 marked_more w m earlier r (g ∷ gs) =
-    let p = verifies_with w pointer_limit m g.owner g.rtype (data_in g) in
-    let v = or_behind g.verified (list_any p earlier) (p r) ∙ ap (λ b. g.verified || b) (sym (any_more p earlier r)) in
+    let p = verified_with w pointer_limit m g.owner g.rtype (data_in g) in
+    let v = first_behind g.verified (first_some p earlier) (p r) ∙ ap (λ x. or_first g.verified (option_map signed_of x)) (sym (first_more p earlier r)) in
     let rest = marked_more w m earlier r gs in
     (λ i. record { owner = g.owner; rtype = g.rtype; items = g.items; verified = v i } ∷ rest i)
 

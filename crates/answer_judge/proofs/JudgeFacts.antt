@@ -1,6 +1,6 @@
 -- What signatures verify of an answer.
 use Rattle.std.proofs.Common.{◌≡◌, ℕ, suc, ◌-◌, Bool, true, false, ◌&&◌, ◌||◌, ◌==◌, List, [], ◌∷◌, ◌++◌, map, take, drop, get_or, length, refl, sym, ap, ◌∙◌, arith}
-use Rattle.std.specs.Prelude.{Option, Some, None}
+use Rattle.std.specs.Prelude.{Option, Some, None, is_some}
 use Rattle.std.specs.List.{list_any, filter_map, cons_option, AllByRecursion}
 use Rattle.std.proofs.lemmas.Bool.{and_parts}
 use Rattle.definitions.proofs.Members.{both_ways}
@@ -15,6 +15,7 @@ use Rattle.records.proofs.ZoneNames.{same_labels}
 use Rattle.records.proofs.Lists.{found, any_from, all_at, list_any-map}
 use Rattle.answer_judge.proofs.JudgeCase.{above-owner, rrset_in-owner, is_verified-owner}
 use Rattle.answer_judge.proofs.JudgeGathered.{apart_push}
+use Rattle.answer_judge.proofs.JudgeMarks.{marked_is}
 use Rattle.answer_judge.proofs.JudgeTried.{eq_swap}
 
 -- ---- the groups
@@ -32,21 +33,23 @@ if_true-elim true x = refl
 if_true-elim false x = refl
 
 -- the RRset that was asked for
-pub asked_data : (w : Trusting) (m : List ℕ) (rs : List Spelled) (g : Group) (owner : Name) (t : ℕ) → g.owner ≡ owner → g.rtype ≡ t → data_in g ≡ rrset_in pointer_limit m rs owner t → g.verified ≡ false → data_verified (Some (marked w m rs g)) ≡ verified_rrset w pointer_limit m rs owner t
+pub asked_data : (w : Trusting) (m : List ℕ) (rs : List Spelled) (g : Group) (owner : Name) (t : ℕ) → g.owner ≡ owner → g.rtype ≡ t → data_in g ≡ rrset_in pointer_limit m rs owner t → g.verified ≡ None → data_verified (Some (marked w m rs g)) ≡ verified_rrset w pointer_limit m rs owner t
 asked_data w m rs g owner t o r d v =
-    (λ i. if_true (v i || is_verified w pointer_limit m rs (o i) (r i) (d i)) (d i))
+    ap (λ b. if_true b (data_in g)) (marked_is w m rs g)
+    ∙ (λ i. if_true (is_some (v i) || is_verified w pointer_limit m rs (o i) (r i) (d i)) (d i))
     ∙ if_true-elim (is_verified w pointer_limit m rs owner t (rrset_in pointer_limit m rs owner t)) (rrset_in pointer_limit m rs owner t)
 
 -- ---- links
 
 -- a group of the owner is verified where the owner's RRset is
-marked_owner : (w : Trusting) (m : List ℕ) (rs : List Spelled) (apex : Name) (o : Name) (g : Group) → IsAlone m apex rs g → same o g.owner ≡ true → (g.verified || is_verified w pointer_limit m rs g.owner g.rtype (data_in g)) ≡ is_verified w pointer_limit m rs o 47 (rrset_in pointer_limit m rs o 47)
+marked_owner : (w : Trusting) (m : List ℕ) (rs : List Spelled) (apex : Name) (o : Name) (g : Group) → IsAlone m apex rs g → same o g.owner ≡ true → is_some (marked w m rs g).verified ≡ is_verified w pointer_limit m rs o 47 (rrset_in pointer_limit m rs o 47)
 marked_owner w m rs apex o g a s =
     let e : low g.owner ≡ low o = sym (same_labels (low o) (low g.owner) s) in
     let r = a.rtype_is in
     let d = a.data_are in
     let v = a.unverified in
-    (λ i. v i || is_verified w pointer_limit m rs g.owner (r i) (d i))
+    marked_is w m rs g
+    ∙ (λ i. is_some (v i) || is_verified w pointer_limit m rs g.owner (r i) (d i))
     ∙ ap (is_verified w pointer_limit m rs g.owner 47) (rrset_in-owner pointer_limit m rs g.owner o 47 e)
     ∙ is_verified-owner w pointer_limit m rs g.owner o 47 (rrset_in pointer_limit m rs o 47) e
 
@@ -62,7 +65,7 @@ proved_of w m rs apex gs o each h =
     let f = found (λ g. is_proved o (marked w m rs g)) gs h in
     let g = f.0 in
     let alone = all_at (IsAlone m apex rs) gs g each f.1 in
-    let p = and_parts (g.verified || is_verified w pointer_limit m rs g.owner g.rtype (data_in g)) (same o g.owner) f.2 in
+    let p = and_parts (is_some (marked w m rs g).verified) (same o g.owner) f.2 in
     let a = sym (alone_owner m rs apex o g.owner p.1) ∙ alone.alone in
     let v = sym (marked_owner w m rs apex o g alone p.1) ∙ p.0 in
     (λ i. a i && v i)

@@ -2,7 +2,7 @@
 use Rattle.std.proofs.Common.{◌≡◌, ℕ, Bool, true, false, ◌&&◌, ◌||◌, ◌==◌, List, [], ◌∷◌, ◌++◌, length, map, refl, sym, ap, ◌∙◌, inl, inr, ◌⊎◌, ⊎_elim}
 use Rattle.std.specs.Prelude.{Option, Some, None}
 use Rattle.std.specs.List.{AllByRecursion, cons_option, filter_map, list_any}
-use Rattle.std.proofs.lemmas.Bool.{and_parts, and_from, eq-eqb, eqb-true, false≢true}
+use Rattle.std.proofs.lemmas.Bool.{and_parts, and_from, eqb-true, false≢true}
 use Rattle.definitions.proofs.Members.{both_ways}
 use Rattle.definitions.specs.Limits.{pointer_limit}
 use Rattle.definitions.specs.Dnskey.{Dnskey, dnskey_data}
@@ -22,7 +22,7 @@ use Rattle.answer_judge.proofs.JudgeMarks.{or_no}
 
 -- ---- the keys
 
-pub keys_are : (apex : Name) (ks : List Dnskey) (g : Group) → g.owner ≡ apex → g.rtype ≡ 48 → data_in g ≡ sorted_data (map dnskey_data ks) → g.verified ≡ false → AreSought (keys_sought apex ks) (g ∷ [])
+pub keys_are : (apex : Name) (ks : List Dnskey) (g : Group) → g.owner ≡ apex → g.rtype ≡ 48 → data_in g ≡ sorted_data (map dnskey_data ks) → g.verified ≡ None → AreSought (keys_sought apex ks) (g ∷ [])
 keys_are apex ks g o t d v = record {
   found = λ p u. sym ((λ i. ((t i == u) && same p (o i)) || false) ∙ or_no ((48 == u) && same p apex));
   datas = λ p u. ((λ is. d), tt);
@@ -85,7 +85,7 @@ nsec_data m apex rs (g ∷ gs) o t each = (
   nsec_data m apex rs gs o t each.1,
 )
 
-nsec_fresh : (m : List ℕ) (apex : Name) (rs : List Spelled) (gs : List Group) → AllByRecursion (IsAlone m apex rs) gs → AllByRecursion (λ g. g.verified ≡ false) gs
+nsec_fresh : (m : List ℕ) (apex : Name) (rs : List Spelled) (gs : List Group) → AllByRecursion (IsAlone m apex rs) gs → AllByRecursion (λ g. g.verified ≡ None) gs
 nsec_fresh m apex rs [] each = tt
 nsec_fresh m apex rs (g ∷ gs) each = ((each.0).unverified, nsec_fresh m apex rs gs each.1)
 
@@ -101,7 +101,7 @@ all_last : (P : Group → Type 0) (gs : List Group) (x : Group) → AllByRecursi
 all_last P [] x h k = (k, tt)
 all_last P (g ∷ gs) x h k = (h.0, all_last P gs x h.1 k)
 
-pub answer_is : (m : List ℕ) (apex : Name) (rs : List Spelled) (name : Name) (rtype : ℕ) (gs : List Group) (x : Group) → AreGathered m apex rs rs gs → x.owner ≡ name → x.rtype ≡ rtype → data_in x ≡ rrset_in pointer_limit m rs name rtype → x.verified ≡ false
+pub answer_is : (m : List ℕ) (apex : Name) (rs : List Spelled) (name : Name) (rtype : ℕ) (gs : List Group) (x : Group) → AreGathered m apex rs rs gs → x.owner ≡ name → x.rtype ≡ rtype → data_in x ≡ rrset_in pointer_limit m rs name rtype → x.verified ≡ None
     → AreSought (answer_sought pointer_limit m apex rs name rtype) (gs ++ x ∷ [])
 answer_is m apex rs name rtype gs x a o k d v = record {
   found = λ p t.
@@ -111,5 +111,5 @@ answer_is m apex rs name rtype gs x a o k d v = record {
       let q = and_parts (x.rtype == t) (same p x.owner) is in
       let owner : low name ≡ low p = ap low (sym o) ∙ sym (same_labels (low p) (low x.owner) q.1) in
       d ∙ rrset_in-owner pointer_limit m rs name p rtype owner ∙ ap (rrset_in pointer_limit m rs p) (sym k ∙ eqb-true x.rtype t q.0));
-  fresh = all_last (λ g. g.verified ≡ false) gs x (nsec_fresh m apex rs gs a.each) v;
+  fresh = all_last (λ g. g.verified ≡ None) gs x (nsec_fresh m apex rs gs a.each) v;
 }

@@ -1,5 +1,5 @@
 -- How many signatures a judge tries, of both messages.
-use Rattle.std.proofs.Common.{◌≡◌, ℕ, ◌+◌, Bool, true, false, List, [], filter, refl, sym, ap, ◌∙◌, arith}
+use Rattle.std.proofs.Common.{◌≡◌, ℕ, ◌+◌, true, false, List, [], filter, sym, ap, ◌∙◌, arith}
 use Rattle.std.specs.Prelude.{Some, None, Ok, Err}
 use Rattle.definitions.specs.Dnskey.{Dnskey}
 use Rattle.definitions.specs.Limits.{pointer_limit}

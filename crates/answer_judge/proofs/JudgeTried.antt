@@ -1,8 +1,10 @@
 -- One signature record and the RRsets that it may verify.
 use Rattle.std.proofs.Common.{◌≡◌, ℕ, suc, Bool, true, false, ◌&&◌, ◌||◌, ◌==◌, List, [], ◌∷◌, map, length, get_or, set, ◌+◌, ◌<◌, ◌≤◌, drop, cond, refl, sym, ap, ◌∙◌}
-use Rattle.std.specs.Prelude.{Option, Some, None}
+use Rattle.std.specs.Prelude.{Option, Some, None, is_some}
+use Rattle.std.specs.Option.{option_map}
+use Rattle.answer_judge.specs.declared.judge.groups.Signed.{Signed}
 use Rattle.std.specs.List.{list_any, filter}
-use Rattle.std.proofs.lemmas.Bool.{and_parts, eq-eqb, eqb-true}
+use Rattle.std.proofs.lemmas.Bool.{and_parts, eq-eqb, eqb-true, false≢true}
 use Rattle.definitions.proofs.Members.{both_ways}
 use Rattle.definitions.specs.Name.{Name, low, same}
 use Rattle.definitions.specs.Signing.{Fields}
@@ -15,11 +17,11 @@ use Rattle.std.proofs.lemmas.List.{drop_all}
 use Rattle.records.proofs.Lists.{items_from}
 use Rattle.messages.specs.declared.rdata.RrsigView.{RrsigView}
 use Rattle.answer_judge.proofs.JudgeCase.{signs-signer}
-use Rattle.records.specs.Message.{Spelled, rrsig_at}
-use Rattle.answer_judge.specs.Verified.{Trusting, is_verified}
-use Rattle.answer_judge.specs.Marked.{data_in, is_of, is_like, are_apart, marked_if, marked}
+use Rattle.records.specs.Message.{Spelled, if_true, rrsig_at}
+use Rattle.answer_judge.specs.Verified.{Trusting, is_verified, verified_by, verifies_with}
+use Rattle.answer_judge.specs.Marked.{data_in, is_of, is_like, are_apart, marked_if, marked, or_first, signed_of}
 use Rattle.records.proofs.ZoneNames.{same_labels, labels_eq-same}
-use Rattle.answer_judge.proofs.JudgeMarks.{or_no, unmarked, unmarked_by, marked_at, marked_next, marked_done, marked_apart}
+use Rattle.answer_judge.proofs.JudgeMarks.{or_no, or_rest, unmarked, unmarked_by, marked_at, marked_next, marked_done, marked_apart}
 
 gate_class : (a s x : Bool) → elim (a && false && s) as (λ _. Bool) [ false ↦ false | true ↦ x ] ≡ false
 gate_class true s x = refl
@@ -44,6 +46,33 @@ says_of w owner t items o = elim o [ None ↦ false | Some f ↦ (f.0.covered ==
 -- whether one record verifies a group
 abbrev pub tried : Trusting → List ℕ → Spelled → Group → Bool
 tried w m r g = is_verified w pointer_limit m (r ∷ []) g.owner g.rtype (data_in g)
+
+-- what it says then
+abbrev pub gives : Trusting → List ℕ → Spelled → Group → Option Signed
+gives w m r g = option_map signed_of (verified_by w pointer_limit m (r ∷ []) g.owner g.rtype (data_in g))
+
+abbrev given_by : (b : Bool) (o : Option (Fields × List ℕ)) → Option Signed
+given_by b o = option_map signed_of (or_rest (elim b as (λ _. Option Fields) [ true ↦ option_map (λ f. f.0) o | false ↦ None ]) None)
+
+gives_none : (w : Trusting) (m : List ℕ) (r : Spelled) (g : Group) → tried w m r g ≡ false → gives w m r g ≡ None
+gives_none w m r g h = ap (λ b. given_by b (rrsig_at pointer_limit m r)) (sym (or_no (verifies_with w pointer_limit m g.owner g.rtype (data_in g) r)) ∙ h)
+
+given_own : (b : Bool) (f : Fields × List ℕ) → given_by b (Some f) ≡ if_true b (signed_of f.0)
+given_own true f = refl
+given_own false f = refl
+
+gives_own : (w : Trusting) (m : List ℕ) (r : Spelled) (f : Fields × List ℕ) (g : Group) → rrsig_at pointer_limit m r ≡ Some f → gives w m r g ≡ if_true (tried w m r g) (signed_of f.0)
+gives_own w m r f g e =
+    let p = verifies_with w pointer_limit m g.owner g.rtype (data_in g) r in
+    ap (given_by p) e ∙ given_own p f ∙ ap (λ b. if_true b (signed_of f.0)) (sym (or_no p))
+
+first_kept : (v x : Option Signed) → is_some v ≡ true → v ≡ or_first v x
+first_kept (Some s) x h = refl
+first_kept None x h = absurd (false≢true h)
+
+first_new : (v x : Option Signed) → is_some v ≡ false → x ≡ or_first v x
+first_new None x h = refl
+first_new (Some s) x h = absurd (false≢true (sym h))
 
 pub class_other : (w : Trusting) (m : List ℕ) (r : Spelled) (g : Group) → (r.class == 1) ≡ false → tried w m r g ≡ false
 class_other w m r g h =
@@ -96,32 +125,32 @@ tried_own w m r f e s c g h =
 
 -- nothing is marked by a record that verifies no group
 pub untried : (w : Trusting) (m : List ℕ) (r : Spelled) (gs : List Group) → ((g : Group) → tried w m r g ≡ false) → gs ≡ map (marked w m (r ∷ [])) gs
-untried w m r gs h = sym (unmarked_by (tried w m r) h gs)
+untried w m r gs h = sym (unmarked_by (gives w m r) (λ g. gives_none w m r g (h g)) gs)
 
 -- no group has the owner and type of the signature
 pub tried_none : (w : Trusting) (m : List ℕ) (r : Spelled) (f : Fields × List ℕ) (gs : List Group) → rrsig_at pointer_limit m r ≡ Some f → list_any (is_of r.owner f.0.covered) gs ≡ false → gs ≡ map (marked w m (r ∷ [])) gs
-tried_none w m r f gs e h = sym (unmarked (is_of r.owner f.0.covered) (tried w m r) (tried_other w m r f e) gs h)
+tried_none w m r f gs e h = sym (unmarked (is_of r.owner f.0.covered) (gives w m r) (λ g n. gives_none w m r g (tried_other w m r f e g n)) gs h)
 
 -- the group of the signature's owner and type is verified or not
 pub tried_at : (w : Trusting) (m : List ℕ) (r : Spelled) (f : Fields × List ℕ) (gs : List Group) (i : ℕ) (g : Group) → rrsig_at pointer_limit m r ≡ Some f → are_apart gs ≡ true → i < length gs → g ≡ get_or gs i g → is_of r.owner f.0.covered g ≡ true
-    → set gs i (marked_if (tried w m r g) g) ≡ map (marked w m (r ∷ [])) gs
-tried_at w m r f gs i g e a h at own = sym (marked_at (is_of r.owner f.0.covered) (tried w m r) (tried_other w m r f e) (both_of r.owner f.0.covered) gs i g a h at own)
+    → set gs i (marked_if (gives w m r g) g) ≡ map (marked w m (r ∷ [])) gs
+tried_at w m r f gs i g e a h at own = sym (marked_at (is_of r.owner f.0.covered) (gives w m r) (λ g n. gives_none w m r g (tried_other w m r f e g n)) (both_of r.owner f.0.covered) gs i g a h at own)
 
 -- it was verified before
-pub tried_again : (w : Trusting) (m : List ℕ) (r : Spelled) (f : Fields × List ℕ) (gs : List Group) (i : ℕ) (g : Group) → rrsig_at pointer_limit m r ≡ Some f → are_apart gs ≡ true → i < length gs → g ≡ get_or gs i g → is_of r.owner f.0.covered g ≡ true → g.verified ≡ true
+pub tried_again : (w : Trusting) (m : List ℕ) (r : Spelled) (f : Fields × List ℕ) (gs : List Group) (i : ℕ) (g : Group) → rrsig_at pointer_limit m r ≡ Some f → are_apart gs ≡ true → i < length gs → g ≡ get_or gs i g → is_of r.owner f.0.covered g ≡ true → is_some g.verified ≡ true
     → set gs i (get_or gs i g) ≡ map (marked w m (r ∷ [])) gs
 tried_again w m r f gs i g e a h at own v =
-    let same : g ≡ marked_if (tried w m r g) g = (λ j. record { owner = g.owner; rtype = g.rtype; items = g.items; verified = (v ∙ sym (ap (λ b. b || tried w m r g) v)) j }) in
+    let same : g ≡ marked_if (gives w m r g) g = (λ j. record { owner = g.owner; rtype = g.rtype; items = g.items; verified = first_kept g.verified (gives w m r g) v j }) in
     ap (set gs i) (sym at ∙ same) ∙ tried_at w m r f gs i g e a h at own
 
 -- it was not, and what the signature says of its data was found out
-pub tried_now : (w : Trusting) (m : List ℕ) (r : Spelled) (s : RrsigView) (gs : List Group) (i : ℕ) (g : Group) (v : Bool) → rrsig_at pointer_limit m r ≡ Some (signature_of s) → is_signature r ≡ true → (r.class == 1) ≡ true
-    → are_apart gs ≡ true → i < length gs → g ≡ get_or gs i g → is_of r.owner s.type_covered g ≡ true → g.verified ≡ false → v ≡ signs w.answers w.apex w.keys w.now (get_or gs i g).owner (data_in (get_or gs i g)) (fields_read s) s.signature.now
+pub tried_now : (w : Trusting) (m : List ℕ) (r : Spelled) (s : RrsigView) (gs : List Group) (i : ℕ) (g : Group) (v : Option Signed) → rrsig_at pointer_limit m r ≡ Some (signature_of s) → is_signature r ≡ true → (r.class == 1) ≡ true
+    → are_apart gs ≡ true → i < length gs → g ≡ get_or gs i g → is_of r.owner s.type_covered g ≡ true → is_some g.verified ≡ false → v ≡ if_true (signs w.answers w.apex w.keys w.now (get_or gs i g).owner (data_in (get_or gs i g)) (fields_read s) s.signature.now) (signed_of (fields_read s))
     → set gs i (record { owner = (get_or gs i g).owner; rtype = (get_or gs i g).rtype; items = (get_or gs i g).items; verified = v }) ≡ map (marked w m (r ∷ [])) gs
 tried_now w m r s gs i g v e sig class a h at own not_yet is =
     let f = signature_of s in
-    let t : v ≡ tried w m r g = is ∙ ap (λ (y : Group). signs w.answers w.apex w.keys w.now y.owner (data_in y) (fields_read s) s.signature.now) (sym at) ∙ sym (signs-signer w.answers w.apex w.keys w.now g.owner (data_in g) s s.signature.now) ∙ sym (tried_own w m r f e sig class g own) in
-    let b : v ≡ (g.verified || tried w m r g) = t ∙ ap (λ x. x || tried w m r g) (sym not_yet) in
+    let t : signs w.answers w.apex w.keys w.now (get_or gs i g).owner (data_in (get_or gs i g)) (fields_read s) s.signature.now ≡ tried w m r g = ap (λ (y : Group). signs w.answers w.apex w.keys w.now y.owner (data_in y) (fields_read s) s.signature.now) (sym at) ∙ sym (signs-signer w.answers w.apex w.keys w.now g.owner (data_in g) s s.signature.now) ∙ sym (tried_own w m r f e sig class g own) in
+    let b : v ≡ or_first g.verified (gives w m r g) = is ∙ ap (λ x. if_true x (signed_of (fields_read s))) t ∙ sym (gives_own w m r f g e) ∙ first_new g.verified (gives w m r g) not_yet in
     (λ j. set gs i (record { owner = (sym at j).owner; rtype = (sym at j).rtype; items = (sym at j).items; verified = b j })) ∙ tried_at w m r f gs i g e a h at own
 
 -- the groups after one record more
@@ -137,7 +166,7 @@ pub after_last : (w : Trusting) (m : List ℕ) (rs : List ViewRecord) (i : ℕ) 
 after_last w m rs i old now h inv = sym (ap (λ ys. map (marked w m (map spelled ys)) now) (drop_all i rs h) ∙ marked_done w m now) ∙ inv
 
 pub apart_next : (w : Trusting) (m : List ℕ) (r : Spelled) (now new : List Group) → new ≡ map (marked w m (r ∷ [])) now → are_apart now ≡ true → are_apart new ≡ true
-apart_next w m r now new n h = ap are_apart n ∙ marked_apart (tried w m r) now ∙ h
+apart_next w m r now new n h = ap are_apart n ∙ marked_apart (gives w m r) now ∙ h
 
 -- signature records from a place on
 pub signatures_next : (rs : List ViewRecord) (i : ℕ) (r : ViewRecord) → i < length rs → r ≡ get_or rs i r → is_signature (spelled r) ≡ true → length (filter is_signature (map spelled (drop i rs))) ≡ suc (length (filter is_signature (map spelled (drop (i + 1) rs))))

@@ -28,3 +28,4 @@ pub mod GivenJudged
 pub mod JudgeCounted
 pub mod JudgeSought
 pub mod JudgeTotals
+pub mod GivenGroups

@@ -1,6 +1,6 @@
 -- How many signatures a judge verifies (RFC 4035, 5.3): those that are due and have a key, each on an RRset that no
 -- earlier one verified.
-use Rattle.std.specs.Prelude.{◌≡◌, ◌⊎◌, ℕ, ◌+◌, Bool, true, false, not, ◌&&◌, ◌||◌, ◌==◌, List, [], ◌∷◌, ◌++◌, map, filter, length, Option, Some, None, Ok, Err, is_some, nat_eq, if◌then◌else◌}
+use Rattle.std.specs.Prelude.{◌≡◌, ◌⊎◌, ℕ, ◌+◌, Bool, true, false, not, ◌&&◌, ◌||◌, ◌==◌, List, [], ◌∷◌, ◌++◌, map, filter, length, Some, None, Ok, Err, is_some, nat_eq, if◌then◌else◌}
 use Rattle.std.specs.List.{find}
 use Rattle.definitions.specs.Name.{Name, same, at_or_above}
 use Rattle.definitions.specs.Dnskey.{Dnskey, dnskey_data}

@@ -1,12 +1,13 @@
 -- Bytes that were given: they spell the RRsets of an answer, each with its signatures behind it.
-use Rattle.std.specs.Prelude.{◌≡◌, ℕ, ◌+◌, ◌%◌, Bool, true, List, [], ◌∷◌, ◌++◌, Some, Ok, if◌then◌else◌}
+use Rattle.std.specs.Prelude.{◌≡◌, ℕ, Bool, true, List, [], ◌∷◌, ◌++◌, Some, Ok, if◌then◌else◌}
 use Rattle.std.specs.List.{AllZip}
 use Rattle.definitions.specs.Name.{Name, low}
-use Rattle.definitions.specs.Dnskey.{Dnskey, key_tag}
-use Rattle.definitions.specs.Signing.{Fields, label_count, signed_octets}
+use Rattle.definitions.specs.Dnskey.{Dnskey}
+use Rattle.definitions.specs.Signing.{Fields, lowered_signer, signed_octets}
 use Rattle.definitions.specs.Zone.{apex_of}
 use Rattle.records.specs.Written.{Written}
 use Rattle.records.specs.Message.{Message, Asked, Spelled, message, canonical_data, rrsig_at}
+use Rattle.answer_zone.specs.GroupView.{fields_of, view_of}
 use Rattle.answer_zone.specs.Served.{Served, Group, answer_groups, key_group, by_tag}
 
 -- a record of an RRset: owner up to case, class IN, and canonical data
@@ -27,18 +28,9 @@ pub record KeepsOwn (r : Spelled) (w : Written) : Type 0 where
   pub owner_is : r.owner ≡ w.owner
   pub ttl_is : r.ttl ≡ w.ttl
 
--- what a signature of one key says of a group: all of it but the octets (RFC 4034, 3.1)
+-- what a signature of one key says of a group, as it reads: all of it but the octets (RFC 4034, 3.1)
 abbrev pub fields_for : Name → ℕ → ℕ → Group → Dnskey → Fields
-fields_for apex at life g k = record {
-  covered = g.rtype;
-  algorithm = k.algorithm;
-  labels = label_count g.source;
-  ttl = g.ttl;
-  expiration = (at + life) % 4294967296;
-  inception = at % 4294967296;
-  tag = key_tag k;
-  signer = low apex;
-}
+fields_for apex at life g k = lowered_signer (fields_of apex at life (view_of g) k)
 
 -- what it is made over
 abbrev pub octets_for : Name → ℕ → ℕ → Group → Dnskey → List ℕ

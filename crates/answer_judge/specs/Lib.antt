@@ -6,5 +6,4 @@ pub mod Verified
 pub mod Marked
 pub mod Judged
 pub mod Meeting
-pub mod GivenGroups
 pub mod Counted

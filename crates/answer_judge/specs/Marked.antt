@@ -1,5 +1,5 @@
 -- RRsets of a message, and which of them are verified, as contracts see them.
-use Rattle.std.specs.Prelude.{◌≡◌, Bool, true, false, not, ◌&&◌, ◌||◌, ◌==◌, ℕ, ◌+◌, List, [], ◌∷◌, map, length, Option, Some, None}
+use Rattle.std.specs.Prelude.{◌≡◌, Bool, true, false, not, ◌&&◌, ◌==◌, ℕ, ◌+◌, List, [], ◌∷◌, map, length, Option, Some, None, is_some}
 use Rattle.std.specs.List.{list_any, AllByRecursion}
 use Rattle.definitions.specs.Name.{Name, same, at_or_above}
 use Rattle.definitions.specs.Limits.{pointer_limit}
@@ -8,7 +8,9 @@ use Rattle.answer_judge.specs.Counted.{can_try, one_if}
 use Rattle.definitions.specs.Signing.{Fields}
 use Rattle.answer_judge.specs.Facts.{Link, is_signature}
 use Rattle.records.specs.Message.{Spelled, if_true, rrsig_at}
-use Rattle.answer_judge.specs.Verified.{Trusting, is_verified, rrset_in, link_of}
+use Rattle.answer_judge.specs.Verified.{Trusting, verified_by, rrset_in, link_of}
+use Rattle.answer_judge.specs.declared.judge.groups.Signed.{Signed}
+use Rattle.std.specs.Option.{option_map}
 use Rattle.answer_judge.specs.declared.judge.groups.Group.{Group}
 use Rattle.answer_judge.specs.declared.judge.groups.Trust.{Trust}
 
@@ -33,18 +35,33 @@ abbrev pub are_apart : List Group → Bool
 are_apart [] = true
 are_apart (g ∷ gs) = not (list_any (is_like g) gs) && are_apart gs
 
-abbrev pub marked_if : Bool → Group → Group
-marked_if b g = record { owner = g.owner; rtype = g.rtype; items = g.items; verified = g.verified || b }
+-- what a signature says beside the RRset and the name
+abbrev pub signed_of : Fields → Signed
+signed_of f = record {
+  algorithm = f.algorithm;
+  labels = f.labels;
+  ttl = f.ttl;
+  expiration = f.expiration;
+  inception = f.inception;
+  tag = f.tag;
+}
 
--- verified where it was, or where one of the records verifies it
+abbrev pub or_first : Option Signed → Option Signed → Option Signed
+or_first (Some s) t = Some s
+or_first None t = t
+
+abbrev pub marked_if : Option Signed → Group → Group
+marked_if s g = record { owner = g.owner; rtype = g.rtype; items = g.items; verified = or_first g.verified s }
+
+-- verified as it was, or as the first of the records says that verifies it
 abbrev pub marked : Trusting → List ℕ → List Spelled → Group → Group
-marked w m rs g = marked_if (is_verified w pointer_limit m rs g.owner g.rtype (data_in g)) g
+marked w m rs g = marked_if (option_map signed_of (verified_by w pointer_limit m rs g.owner g.rtype (data_in g))) g
 
 -- ---- signatures that are tried
 
 -- a signature of a group that is not verified yet
 abbrev pub tries_group : Trusting → Name → Fields → Group → Bool
-tries_group w owner f g = is_of owner f.covered g && (not g.verified && can_try w g.owner (data_in g) f)
+tries_group w owner f g = is_of owner f.covered g && (not (is_some g.verified) && can_try w g.owner (data_in g) f)
 
 -- a record is one
 abbrev pub is_tried_in : Trusting → List ℕ → List Group → Spelled → Bool
@@ -66,7 +83,7 @@ has_owner owner g = same owner g.owner
 
 -- and is verified
 abbrev pub is_proved : Name → Group → Bool
-is_proved owner g = g.verified && same owner g.owner
+is_proved owner g = is_some g.verified && same owner g.owner
 
 abbrev pub is_nsec : Spelled → Bool
 is_nsec r = (r.rtype == 47) && (r.class == 1)
@@ -80,7 +97,7 @@ pub record IsAlone (m : List ℕ) (apex : Name) (rs : List Spelled) (g : Group) 
   pub rtype_is : g.rtype ≡ 47
   pub data_are : data_in g ≡ rrset_in pointer_limit m rs g.owner 47
   pub alone : stands_alone m apex rs g.owner ≡ true
-  pub unverified : g.verified ≡ false
+  pub unverified : g.verified ≡ None
 
 -- the owner of an NSEC record has a group, where it stands alone
 abbrev pub IsGathered : List ℕ → Name → List Spelled → List Group → Spelled → Type 0
@@ -99,4 +116,4 @@ link_by m gs r = elim (is_nsec r && list_any (is_proved r.owner) gs) [ true ↦ 
 -- the data of a group that is verified
 abbrev pub data_verified : Option Group → Option (List (List ℕ))
 data_verified None = None
-data_verified (Some g) = if_true g.verified (data_in g)
+data_verified (Some g) = if_true (is_some g.verified) (data_in g)

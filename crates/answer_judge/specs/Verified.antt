@@ -6,7 +6,8 @@ use Rattle.definitions.specs.Name.{Name, same, at_or_above}
 use Rattle.definitions.specs.Dnskey.{Dnskey}
 use Rattle.definitions.specs.Zone.{sorted_data}
 use Rattle.answer_judge.specs.Answers.{Answers}
-use Rattle.answer_judge.specs.Facts.{Link, is_signature, signs}
+use Rattle.answer_judge.specs.Facts.{Link, first_some, is_signature, signs}
+use Rattle.definitions.specs.Signing.{Fields}
 use Rattle.records.specs.Message.{Spelled, canonical_data, rrsig_at, nsec_at}
 
 -- the canonical data of a record of an owner, up to case, and a type, class IN
@@ -34,6 +35,17 @@ verifies_with w k m owner t items r = elim (is_signature r && (r.class == 1) && 
 -- one of the records verifies them
 abbrev pub is_verified : Trusting → ℕ → List ℕ → List Spelled → Name → ℕ → List (List ℕ) → Bool
 is_verified w k m rs owner t items = list_any (verifies_with w k m owner t items) rs
+
+-- the fields that a record's signature gives of these data, where it verifies them
+abbrev pub verified_with : Trusting → ℕ → List ℕ → Name → ℕ → List (List ℕ) → Spelled → Option Fields
+verified_with w k m owner t items r = elim (verifies_with w k m owner t items r) [
+  | true ↦ option_map (λ f. f.0) (rrsig_at k m r)
+  | false ↦ None
+]
+
+-- those of the first record that verifies them, in the order of the message
+abbrev pub verified_by : Trusting → ℕ → List ℕ → List Spelled → Name → ℕ → List (List ℕ) → Option Fields
+verified_by w k m rs owner t items = first_some (verified_with w k m owner t items) rs
 
 -- the RRset that was asked for, where it is verified
 abbrev pub verified_rrset : Trusting → ℕ → List ℕ → List Spelled → Name → ℕ → Option (List (List ℕ))

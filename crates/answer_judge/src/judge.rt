@@ -137,13 +137,18 @@ fn judge_messages<C: Checks>(
 ) -> Result<Verdict, Refusal>
     requires counts { count.old ≡ 0 }
     requires other { (question.now.rtype == 47) ≡ false }
-    ensures exact { AnswersAs (said result) (judged_beyond (C.answers checks.old) pointer_limit (handed apex.now ds.now dnskey_bytes.now answer_bytes.now (asked_of question.now) now 0)) }
-    ensures counts { Counts (said result) count.new (tries_beyond (C.answers checks.old) pointer_limit
+    ensures exact { AnswersAs (said result) (judged_beyond (C.answers checks.old) pointer_limit
         (handed apex.now ds.now dnskey_bytes.now answer_bytes.now (asked_of question.now) now 0)) }
-    ensures verdict { OnOk result (message_refusal pointer_limit (handed apex.now ds.now dnskey_bytes.now answer_bytes.now (asked_of question.now) now 0) ≡ None) }
-    ensures refusal { IfErr result (λ e. RefusesFirst e (message_refusal pointer_limit (handed apex.now ds.now dnskey_bytes.now answer_bytes.now (asked_of question.now) now 0))) }
+    ensures counts { Counts (said result) count.new
+        (tries_beyond (C.answers checks.old) pointer_limit
+        (handed apex.now ds.now dnskey_bytes.now answer_bytes.now (asked_of question.now) now 0)) }
+    ensures verdict { OnOk result (message_refusal pointer_limit (handed apex.now
+        ds.now dnskey_bytes.now answer_bytes.now (asked_of question.now) now 0) ≡ None) }
+    ensures refusal { IfErr result (λ e. RefusesFirst e (message_refusal pointer_limit
+        (handed apex.now ds.now dnskey_bytes.now answer_bytes.now (asked_of question.now) now 0))) }
     ensures counted { C.verified checks.new ≡ C.verified checks.old + count.new }
-    ensures bound { count.new ≤ verification_bound pointer_limit (handed apex.now ds.now dnskey_bytes.now answer_bytes.now (asked_of question.now) now 0) }
+    ensures bound { count.new ≤ verification_bound pointer_limit
+        (handed apex.now ds.now dnskey_bytes.now answer_bytes.now (asked_of question.now) now 0) }
     ensures hashed { C.hashed checks.new ≡ C.hashed checks.old }
     ensures same { C.answers checks.new ≡ C.answers checks.old }
 {
@@ -207,11 +212,14 @@ fn read_messages<'a>(
 ) -> Result<(MessageView<'a>, MessageView<'a>), Refusal>
     ensures keys { IfOk result (λ v. message pointer_limit dnskey_bytes.now ≡ Ok v.0) }
     ensures answer { IfOk result (λ v. message pointer_limit answer_bytes.now ≡ Ok v.1) }
-    ensures asks_keys { IfOk result (λ v. same_question v.0.asked (record { name = apex.now; rtype = 48; class = 1 }) ≡ true) }
-    ensures asks_answer { IfOk result (λ v. same_question v.1.asked (asked_of question.now) ≡ true) }
+    ensures asks_keys { IfOk result
+        (λ v. same_question v.0.asked (record { name = apex.now; rtype = 48; class = 1 }) ≡ true) }
+    ensures asks_answer { IfOk result
+        (λ v. same_question v.1.asked (asked_of question.now) ≡ true) }
     ensures first { IfErr result (λ e. is_first e ≡ true) }
     ensures few { IfOk result (λ v. length v.0.records + length v.1.records ≤ 393210) }
-    ensures refusal { IfErr result (λ e. RefusesFirst e (message_refusal pointer_limit (handed apex.now [] dnskey_bytes.now answer_bytes.now (asked_of question.now) 0 0))) }
+    ensures refusal { IfErr result (λ e. RefusesFirst e (message_refusal pointer_limit
+        (handed apex.now [] dnskey_bytes.now answer_bytes.now (asked_of question.now) 0 0))) }
 {
     let keys = read_counted(dnskey_bytes).map_err(|_| Refusal::BadDnskeyMessage)?;
     let answer = read_counted(answer_bytes).map_err(|_| Refusal::BadAnswerMessage)?;
@@ -233,7 +241,8 @@ fn read_counted(bytes: &[u8]) -> Result<MessageView<'_>, MessageError>
 
 /// Whether a message asks for a name, up to case, a type and a class.
 fn asks(view: &MessageView, name: &Name, rtype: Rtype, class: Class) -> bool
-    ensures { result ≡ same_question view.now.asked (record { name = name.now; rtype = rtype; class = class }) }
+    ensures { result
+        ≡ same_question view.now.asked (record { name = name.now; rtype = rtype; class = class }) }
 {
     let asked = view.question();
     asked.name.name_eq(name) && asked.rtype == rtype && asked.class == class
@@ -254,8 +263,9 @@ fn records_of<'a>(alloc: Global, view: &MessageView<'a>) -> Result<Vec<ViewRecor
 fn key_group(alloc: Global, apex: &Name, keys: &[TaggedKey]) -> Result<Group, AllocError>
     ensures owner { IfOk result (λ g. g.owner ≡ apex.now) }
     ensures rtype { IfOk result (λ g. g.rtype ≡ 48) }
-    ensures items { IfOk result (λ g. map (λ d. d.items) g.items.items ≡ sorted_data (map dnskey_data keys.now)) }
-    ensures unverified { IfOk result (λ g. g.verified ≡ false) }
+    ensures items { IfOk result
+        (λ g. map (λ d. d.items) g.items.items ≡ sorted_data (map dnskey_data keys.now)) }
+    ensures unverified { IfOk result (λ g. g.verified ≡ None) }
 {
     let mut items = Vec::new(alloc);
     for key in keys {
@@ -267,7 +277,7 @@ fn key_group(alloc: Global, apex: &Name, keys: &[TaggedKey]) -> Result<Group, Al
         owner: apex.try_clone(alloc)?,
         rtype: Rtype::DNSKEY,
         items,
-        verified: false,
+        verified: None,
     })
 }
 
@@ -282,7 +292,9 @@ fn are_verified<C: Checks>(
     count: &mut u32,
 ) -> Result<bool, AllocError>
     requires { count.old + length records.now < 2 ^ 32 }
-    ensures exact { IfOk result (λ b. b ≡ is_verified (held_by (C.answers checks.old) trust.now) pointer_limit message.now (map spelled records.now) trust.now.apex.now 48 (sorted_data (map dnskey_data keys.now))) }
+    ensures exact { IfOk result
+        (λ b. b ≡ is_verified (held_by (C.answers checks.old) trust.now) pointer_limit message.now
+        (map spelled records.now) trust.now.apex.now 48 (sorted_data (map dnskey_data keys.now))) }
     ensures tried { IfOk result (λ _. count.new ≡ count.old
         + tries (held_by (C.answers checks.old) trust.now) pointer_limit message.now
         (keys_sought trust.now.apex.now keys.now) [] (map spelled records.now)) }
@@ -295,5 +307,5 @@ fn are_verified<C: Checks>(
     let group = key_group(alloc, trust.apex, keys)?;
     let mut groups = [group];
     verify_groups(alloc, message, records, trust, &mut groups, checks, count)?;
-    Ok(groups[0].verified)
+    Ok(groups[0].verified.is_some())
 }

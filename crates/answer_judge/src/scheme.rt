@@ -39,9 +39,11 @@ pub trait Scheme {
         key: &Dnskey<&[u8]>,
         octets: &[u8],
     ) -> Result<Vec<u8>, SchemeError>
-        ensures answer { IfOk result (λ s. signature_of self.now key.now octets.now ≡ Some s.items) }
+        ensures answer { IfOk result
+            (λ s. signature_of self.now key.now octets.now ≡ Some s.items) }
         ensures passes { IfOk result (λ s. verifies self.now key.now octets.now s.items ≡ true) }
-        ensures failed { IsErrOf result SchemeError.Failed → signature_of self.now key.now octets.now ≡ None };
+        ensures failed { IsErrOf result SchemeError.Failed
+            → signature_of self.now key.now octets.now ≡ None };
 
     fn verify(&self, key: &Dnskey<&[u8]>, octets: &[u8], signature: &[u8]) -> bool
         ensures { result ≡ verifies self.now key.now octets.now signature.now };
@@ -54,7 +56,8 @@ pub trait Scheme {
     ) -> Result<Vec<u8>, SchemeError>
         ensures answer { IfOk result (λ d. digest_of self.now algorithm octets.now ≡ Some d.items) }
         ensures fits { IfOk result (λ d. length d.items ≤ 65531) }
-        ensures failed { IsErrOf result SchemeError.Failed → digest_of self.now algorithm octets.now ≡ None };
+        ensures failed { IsErrOf result SchemeError.Failed
+            → digest_of self.now algorithm octets.now ≡ None };
 }
 
 /// What a judge asks of a scheme and a hasher. A contract sees how often `verify` and `hash` were called.
@@ -79,8 +82,10 @@ pub trait Checks {
         algorithm: DigestAlgorithm,
         octets: &[u8],
     ) -> Result<Vec<u8>, SchemeError>
-        ensures answer { IfOk result (λ d. (answers self.old).digest algorithm octets.now ≡ Some d.items) }
-        ensures failed { IsErrOf result SchemeError.Failed → (answers self.old).digest algorithm octets.now ≡ None }
+        ensures answer { IfOk result
+            (λ d. (answers self.old).digest algorithm octets.now ≡ Some d.items) }
+        ensures failed { IsErrOf result SchemeError.Failed
+            → (answers self.old).digest algorithm octets.now ≡ None }
         ensures verifications { verified self.new ≡ verified self.old }
         ensures hashes { hashed self.new ≡ hashed self.old }
         ensures same { answers self.new ≡ answers self.old };
@@ -93,8 +98,10 @@ pub trait Checks {
         iterations: u16,
         salt: &[u8],
     ) -> Result<Vec<u8>, HashError>
-        ensures answer { IfOk result (λ h. (answers self.old).hash name.now algorithm iterations salt.now ≡ Some h.items) }
-        ensures failed { IsErrOf result HashError.Failed → (answers self.old).hash name.now algorithm iterations salt.now ≡ None }
+        ensures answer { IfOk result
+            (λ h. (answers self.old).hash name.now algorithm iterations salt.now ≡ Some h.items) }
+        ensures failed { IsErrOf result HashError.Failed
+            → (answers self.old).hash name.now algorithm iterations salt.now ≡ None }
         ensures counted { hashed self.new ≡ hashed self.old + 1 }
         ensures others { verified self.new ≡ verified self.old }
         ensures same { answers self.new ≡ answers self.old };

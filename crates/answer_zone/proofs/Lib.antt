@@ -12,3 +12,4 @@ pub mod ZoneRising
 pub mod WritesNames
 pub mod ZoneAnswers
 pub mod ZoneGroups
+pub mod LinkLists

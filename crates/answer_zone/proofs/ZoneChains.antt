@@ -16,7 +16,8 @@ use Rattle.definitions.specs.Bitmap.{bitmap}
 use Rattle.records.specs.HandedRr.{HandedRr}
 use Rattle.answer_zone.specs.Accepting.{record_cmp, zone_with}
 use Rattle.answer_zone.specs.Served.{Group, canonical_group, chain_record, chain_ttl, proofs_of, served_of, spelled_among, spelled_as}
-use Rattle.answer_zone.specs.Links.{pairs, record_links, link_group, link_speaks, proofs_among}
+use Rattle.answer_zone.specs.Links.{link_group, link_speaks}
+use Rattle.answer_zone.proofs.LinkLists.{pairs, record_links, proofs_among}
 use Rattle.answer_zone.specs.ZoneView.{IsPublished, name_cmp_total}
 use Rattle.records.proofs.ZoneNames.{same_labels, labels_eq-same, low_from_Equal, name_cmp-low}
 use Rattle.answer_zone.proofs.ZoneServed.{no_delegation, owners_kept}

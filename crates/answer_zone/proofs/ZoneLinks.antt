@@ -12,7 +12,8 @@ use Rattle.definitions.specs.Covering.{before, covers}
 use Rattle.records.specs.HandedRr.{HandedRr}
 use Rattle.answer_zone.specs.Served.{Group}
 use Rattle.answer_zone.specs.GroupView.{Adds, GroupView, Presents}
-use Rattle.answer_zone.specs.Links.{Joins, chosen, link_group, link_speaks, pairs, proofs_among, record_links}
+use Rattle.answer_zone.specs.Links.{Joins, chosen, link_group, link_speaks}
+use Rattle.answer_zone.proofs.LinkLists.{pairs, proofs_among, record_links}
 use Rattle.answer_zone.specs.ZoneView.{name_cmp_total}
 use Rattle.records.proofs.ZoneNames.{labels_eq-same, same_labels, low_from_Equal, name_cmp-low, name_cmp-same, same-low}
 use Rattle.answer_zone.proofs.ZoneServed.{ahead_is}

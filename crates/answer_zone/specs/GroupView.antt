@@ -65,6 +65,18 @@ rrset_of own apex rs owner t = record {
   signed = true;
 }
 
+-- an RRset of an answer, as it is seen
+abbrev pub view_of : Group → GroupView
+view_of g = record {
+  owner = g.owner;
+  labels = label_count g.source;
+  rtype = g.rtype;
+  ttl = g.ttl;
+  written = g.written;
+  canonical = g.datas;
+  signed = g.signed;
+}
+
 -- it is this RRset of an answer
 pub record Presents (g : GroupView) (of : Group) : Type 0 where
   pub owner_is : g.owner ≡ of.owner

@@ -11,16 +11,6 @@ use Rattle.records.specs.HandedRr.{HandedRr}
 use Rattle.answer_zone.specs.Accepting.{zone_with}
 use Rattle.answer_zone.specs.Served.{Group, canonical_group, chain_ttl, spelled_among, spelled_as}
 
--- each with the next greater, the last with the first
-abbrev pub pairs : {A : Type 0} → (A → A → Ordering) → A → A → List A → List (A × A)
-pairs cmp first x [] = (x, first) ∷ []
-pairs cmp first x (y ∷ ys) = elim (cmp y x) [ Less ↦ pairs cmp first x ys | Equal ↦ pairs cmp first x ys | Greater ↦ (x, y) ∷ pairs cmp first y ys ]
-
--- the links of records in order
-abbrev pub record_links : Name → List HandedRr → List (Name × Name)
-record_links first [] = []
-record_links first (r ∷ rs) = pairs name_cmp first (low r.owner) (map (λ s. low s.owner) rs)
-
 -- the data of a link: the next name as spelled, and the bits of the owner (RFC 4034, 4.1)
 abbrev pub link_data : Name → List HandedRr → Name → Name → List ℕ
 link_data apex rs o next = wire (spelled_as apex rs next) ++ bitmap (types_at (zone_with apex rs) o ++ 46 ∷ 47 ∷ at_apex (zone_with apex rs) o (48 ∷ []))
@@ -36,10 +26,6 @@ link_speaks apex qs o next = list_any (λ q. labels_eq o q || covers (low apex) 
 -- the record of a link, where it speaks for one of some names
 abbrev pub chosen : Name → List HandedRr → List Name → Name → Name → List Group
 chosen apex rs qs o next = elim (link_speaks apex qs o next) [ true ↦ link_group apex rs o next ∷ [] | false ↦ [] ]
-
--- the records of some links that speak for one of some names
-abbrev pub proofs_among : Name → List HandedRr → List Name → List (Name × Name) → List Group
-proofs_among apex rs qs ls = map (λ (m : Name × Name). link_group apex rs m.0 m.1) (filter (λ (m : Name × Name). link_speaks apex qs m.0 m.1) ls)
 
 -- names that a link joins: an owner, and another or the apex
 pub record Joins (apex : Name) (rs : List HandedRr) (o next : Name) : Type 0 where

@@ -101,7 +101,8 @@ impl RrGroup {
         ttl: Ttl,
         canonical: Vec<Vec<u8>>,
     ) -> Result<Self, AllocError>
-        ensures { IfOk result (λ g. g ≡ canonical_view owner label_count rtype ttl (map (λ d. d.items) canonical.items)) }
+        ensures { IfOk result (λ g. g
+            ≡ canonical_view owner label_count rtype ttl (map (λ d. d.items) canonical.items)) }
     {
         let mut records = Vec::with_capacity(alloc, canonical.len())?;
         for octets in &canonical {

@@ -44,9 +44,15 @@ impl Model for ZoneRecords {
 
     ghost Value = { AcceptedZone };
 
-    ghost view = { λ z. record { apex = z.apex; mode = mode_of z.mode; limit = z.limit; records = z.records.items } };
+    ghost view = { λ z. record {
+      apex = z.apex;
+      mode = mode_of z.mode;
+      limit = z.limit;
+      records = z.records.items;
+    } };
 
-    ghost invariant = { λ z. IsPublished z.apex z.records.items × AreHanded z.apex z.records.items };
+    ghost invariant = { λ z. IsPublished z.apex z.records.items
+        × AreHanded z.apex z.records.items };
 }
 
 impl ZoneRecords {
@@ -59,10 +65,18 @@ impl ZoneRecords {
         mode: Mode,
         limit: u16,
     ) -> Result<ZoneRecords, ZoneFault>
-        ensures zone { IfOk result (λ z. z ≡ record { apex = apex; mode = mode_of mode; limit = limit; records = sorted_records (map handed_of records.items) }) }
-        ensures accepted { IfOk result (λ z. IsAccepted apex (mode_of mode) limit (map handed_of records.items)) }
-        ensures handed { IfOk result (λ z. IsName apex × AllByRecursion IsHanded (map handed_of records.items)) }
-        ensures fault { IfErr result (λ f. (f ≡ ZoneFault.Memory) ⊎ IsFault apex (mode_of mode) limit (map handed_of records.items) f) }
+        ensures zone { IfOk result (λ z. z ≡ record {
+          apex = apex;
+          mode = mode_of mode;
+          limit = limit;
+          records = sorted_records (map handed_of records.items);
+        }) }
+        ensures accepted { IfOk result
+            (λ z. IsAccepted apex (mode_of mode) limit (map handed_of records.items)) }
+        ensures handed { IfOk result
+            (λ z. IsName apex × AllByRecursion IsHanded (map handed_of records.items)) }
+        ensures fault { IfErr result (λ f. (f ≡ ZoneFault.Memory)
+            ⊎ IsFault apex (mode_of mode) limit (map handed_of records.items) f) }
     {
         apex.keeps();
         match composed(alloc, records) {
@@ -81,9 +95,15 @@ impl ZoneRecords {
     ) -> Result<ZoneRecords, ZoneFault>
         requires name { IsName apex }
         requires handed { AllByRecursion IsHanded records.items }
-        ensures zone { IfOk result (λ z. z ≡ record { apex = apex; mode = mode_of mode; limit = limit; records = sorted_records records.items }) }
+        ensures zone { IfOk result (λ z. z ≡ record {
+          apex = apex;
+          mode = mode_of mode;
+          limit = limit;
+          records = sorted_records records.items;
+        }) }
         ensures accepted { IfOk result (λ z. IsAccepted apex (mode_of mode) limit records.items) }
-        ensures fault { IfErr result (λ f. (f ≡ ZoneFault.Memory) ⊎ IsFault apex (mode_of mode) limit records.items f) }
+        ensures fault { IfErr result
+            (λ f. (f ≡ ZoneFault.Memory) ⊎ IsFault apex (mode_of mode) limit records.items f) }
     {
         if let Some(fault) = first_fault(&apex, &mode, limit, &records) {
             return Err(fault);

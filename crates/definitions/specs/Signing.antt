@@ -18,6 +18,10 @@ pub record Fields : Type 0 where
   pub tag : ℕ
   pub signer : Name
 
+-- with the signer in lower case, as it is signed and read (RFC 4034, 6.2)
+abbrev pub lowered_signer : Fields → Fields
+lowered_signer f = record f { signer = low f.signer }
+
 -- an RRSIG record's data without the signature, the signer in canonical form (RFC 4034, 3.1)
 abbrev pub fields_data : Fields → List ℕ
 fields_data f =

@@ -1,8 +1,8 @@
 //! Keys of a zone (RFC 4034, 2).
 ghost use Rattle.std.specs.Prelude.{◌≡◌, ◌+◌, ◌-◌, ◌*◌, ◌%◌, ◌++◌, ◌↔◌, IfOk, OnOk, IsTrue, bit_and, if◌then◌else◌, length, nat_lt, slice_index};
-ghost use Rattle.definitions.specs.Dnskey.{rsamd5_tag, dnskey_data, dnskey_of_data, key_tag, same_key, sum16, tag_of_sum};
+ghost use Rattle.definitions.specs.Dnskey.{digested, rsamd5_tag, dnskey_data, dnskey_of_data, key_tag, same_key, sum16, tag_of_sum};
 
-use records::names::Octets;
+use records::names::{Name, Octets};
 use records::plain::SecurityAlgorithm;
 use std::alloc::{AllocError, Global};
 use std::marker::Model;
@@ -126,6 +126,16 @@ impl<Octs: Octets> Dnskey<Octs> {
         out.push(self.protocol)?;
         out.push(self.algorithm.to_int())?;
         out.extend_from_slice(self.public_key.as_slice())
+    }
+
+    /// What a DS record's digest is made of: the owner in canonical form and the record's data (RFC 4034, 5.1.4).
+    pub fn digested(&self, alloc: Global, owner: &Name) -> Result<Vec<u8>, AllocError>
+        ensures { IfOk result (λ v. v.items ≡ digested owner.now self.now) }
+    {
+        let mut octets = Vec::new(alloc);
+        owner.compose_canonical(&mut octets)?;
+        self.compose(&mut octets)?;
+        Ok(octets)
     }
 
     /// The key tag (RFC 4034, appendix B).

@@ -56,7 +56,8 @@ fn read_some<R: Read>(
     chunk: &mut [u8; CHUNK],
     input: &mut Vec<u8>,
 ) -> Result<usize, InputError>
-    ensures { IfOk result (ReadsOn (R.remaining reader.old) (R.remaining reader.new) input.old.items input.new.items) }
+    ensures { IfOk result (ReadsOn (R.remaining reader.old)
+        (R.remaining reader.new) input.old.items input.new.items) }
 {
     let Ok(count) = reader.read(chunk) else {
         return Err(InputError::Reader);

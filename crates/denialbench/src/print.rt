@@ -55,7 +55,8 @@ impl Item for Vec<u8> {
 
 /// Prints each item behind a separator.
 fn push_each<T: Item>(out: &mut String, separator: &str, items: &[T]) -> Result<(), AllocError>
-    ensures { OnOk result (string_bytes out.new ≡ string_bytes out.old ++ flat_map (λ x. separator.now ++ T.text_of x) items.now) }
+    ensures { OnOk result (string_bytes out.new ≡ string_bytes out.old
+        ++ flat_map (λ x. separator.now ++ T.text_of x) items.now) }
 {
     for item in items {
         out.push_str(separator)?;
@@ -66,7 +67,8 @@ fn push_each<T: Item>(out: &mut String, separator: &str, items: &[T]) -> Result<
 
 /// Prints items joined by commas; `-` for none.
 fn push_list<T: Item>(out: &mut String, items: &[T]) -> Result<(), AllocError>
-    ensures { OnOk result (string_bytes out.new ≡ string_bytes out.old ++ list_text T.text_of items.now) }
+    ensures { OnOk result (string_bytes out.new ≡ string_bytes out.old
+        ++ list_text T.text_of items.now) }
 {
     match items.split_first() {
         None => out.push_str("-"),
@@ -78,14 +80,16 @@ fn push_list<T: Item>(out: &mut String, items: &[T]) -> Result<(), AllocError>
 }
 
 fn push_actions(out: &mut String, actions: &[Action]) -> Result<(), AllocError>
-    ensures { OnOk result (string_bytes out.new ≡ string_bytes out.old ++ actions_text actions.now) }
+    ensures { OnOk result (string_bytes out.new ≡ string_bytes out.old
+        ++ actions_text actions.now) }
 {
     out.push_str("ok")?;
     push_each(out, " ", actions)
 }
 
 fn push_key_error(out: &mut String, error: &keyset::Error) -> Result<(), AllocError>
-    ensures { OnOk result (string_bytes out.new ≡ string_bytes out.old ++ key_error_text error.now) }
+    ensures { OnOk result (string_bytes out.new ≡ string_bytes out.old
+        ++ key_error_text error.now) }
 {
     let name = error.name();
     match error {
@@ -108,7 +112,8 @@ fn push_key_fault(out: &mut String, fault: &KeyFault) -> Result<(), AllocError>
 }
 
 fn push_counts(out: &mut String, verifications: u32, hashes: u32) -> Result<(), AllocError>
-    ensures { OnOk result (string_bytes out.new ≡ string_bytes out.old ++ counts_text verifications hashes) }
+    ensures { OnOk result (string_bytes out.new ≡ string_bytes out.old
+        ++ counts_text verifications hashes) }
 {
     write!(out, " verifications {verifications} hashes {hashes}")
 }
@@ -121,7 +126,8 @@ fn push_data(out: &mut String, data: &DataList) -> Result<(), AllocError>
 }
 
 fn push_judgement(out: &mut String, judgement: &Judgement) -> Result<(), AllocError>
-    ensures { OnOk result (string_bytes out.new ≡ string_bytes out.old ++ judgement_text judgement.now) }
+    ensures { OnOk result (string_bytes out.new ≡ string_bytes out.old
+        ++ judgement_text judgement.now) }
 {
     out.push_str(judgement.verdict.name())?;
     match &judgement.verdict {
@@ -137,7 +143,8 @@ fn push_judgement(out: &mut String, judgement: &Judgement) -> Result<(), AllocEr
 }
 
 fn push_refused(out: &mut String, refused: &Refused) -> Result<(), AllocError>
-    ensures { OnOk result (string_bytes out.new ≡ string_bytes out.old ++ judge_refusal refused.now) }
+    ensures { OnOk result (string_bytes out.new ≡ string_bytes out.old
+        ++ judge_refusal refused.now) }
 {
     let name = refused.refusal.name();
     write!(out, "refused {name}")?;
@@ -146,7 +153,8 @@ fn push_refused(out: &mut String, refused: &Refused) -> Result<(), AllocError>
 
 /// Prints an outcome, without a line feed.
 pub fn push_outcome(out: &mut String, outcome: &Outcome) -> Result<(), AllocError>
-    ensures { OnOk result (string_bytes out.new ≡ string_bytes out.old ++ outcome_text outcome.now) }
+    ensures { OnOk result (string_bytes out.new ≡ string_bytes out.old
+        ++ outcome_text outcome.now) }
 {
     match outcome {
         Outcome::Key(Ok(actions)) => push_actions(out, actions),
@@ -168,7 +176,8 @@ pub fn push_outcome(out: &mut String, outcome: &Outcome) -> Result<(), AllocErro
 
 /// Prints outcomes, each in a line of its own.
 pub fn push_outcomes(out: &mut String, outcomes: &[Outcome]) -> Result<(), AllocError>
-    ensures { OnOk result (string_bytes out.new ≡ string_bytes out.old ++ flat_map (λ o. outcome_text o ++ 10 ∷ []) outcomes.now) }
+    ensures { OnOk result (string_bytes out.new ≡ string_bytes out.old
+        ++ flat_map (λ o. outcome_text o ++ 10 ∷ []) outcomes.now) }
 {
     for outcome in outcomes {
         push_outcome(out, outcome)?;

@@ -33,7 +33,9 @@ pub struct Response {
 /// Where a line cannot be read, one line with its number is all that is written. Nothing is written before the
 /// whole input is read and answered.
 pub fn run<R: Read, W: Write>(alloc: Global, reader: &mut R, writer: &mut W) -> Status
-    ensures { result ≢ Status.Fault → IfSome (R.remaining reader.old) (λ input. (text : List ℕ) × Responds input result text × Appends (W.contents writer.old) (W.contents writer.new) text) }
+    ensures { result ≢ Status.Fault
+        → IfSome (R.remaining reader.old) (λ input. (text : List ℕ) × Responds input result text
+        × Appends (W.contents writer.old) (W.contents writer.new) text) }
 {
     let Ok(input) = read_all(alloc, reader) else {
         return Status::Fault;
@@ -79,7 +81,9 @@ fn refusal(alloc: Global, number: usize) -> Result<String, AllocError>
 
 /// Lets a session happen, and prints a line for each event, or one for a zone that is refused.
 fn replay(alloc: Global, session: Session) -> Result<String, AllocError>
-    ensures { IfOk result (λ t. PrintsSession (zone_view session.zone) (map handed_of session.records.items) (map event_view session.events.items) (string_bytes t)) }
+    ensures { IfOk result
+        (λ t. PrintsSession (zone_view session.zone) (map handed_of session.records.items)
+        (map event_view session.events.items) (string_bytes t)) }
 {
     let Session {
         zone,
@@ -104,7 +108,8 @@ fn replay(alloc: Global, session: Session) -> Result<String, AllocError>
 }
 
 fn outcomes_text(alloc: Global, outcomes: &[Outcome]) -> Result<String, AllocError>
-    ensures { IfOk result (λ t. string_bytes t ≡ flat_map (λ o. outcome_text o ++ 10 ∷ []) outcomes.now) }
+    ensures { IfOk result
+        (λ t. string_bytes t ≡ flat_map (λ o. outcome_text o ++ 10 ∷ []) outcomes.now) }
 {
     let mut text = String::new(alloc);
     push_outcomes(&mut text, outcomes)?;
@@ -112,7 +117,8 @@ fn outcomes_text(alloc: Global, outcomes: &[Outcome]) -> Result<String, AllocErr
 }
 
 fn fault_text(alloc: Global, fault: &ZoneFault) -> Result<String, AllocError>
-    ensures { IfOk result (λ t. string_bytes t ≡ codes "refused " ++ zone_fault_name fault.now ++ 10 ∷ []) }
+    ensures { IfOk result
+        (λ t. string_bytes t ≡ codes "refused " ++ zone_fault_name fault.now ++ 10 ∷ []) }
 {
     let name = fault.name();
     format!(in alloc; "refused {name}\n")

@@ -151,7 +151,8 @@ fn read_add(
     octets: &str,
 ) -> Result<Act, LineError>
     ensures small { IfOk result (λ a. added_by_act a ≤ 65531) }
-    ensures read { Reads act_view result (act_line5 word.now kind.now pubref.now algorithm.now octets.now) }
+    ensures read { Reads act_view result
+        (act_line5 word.now kind.now pubref.now algorithm.now octets.now) }
 {
     if word != "key" {
         return Err(LineError::Unreadable);

@@ -66,7 +66,8 @@ pub fn references(alloc: Global, field: &str) -> Result<Vec<String>, LineError>
 
 /// References one by one.
 fn each_reference(alloc: Global, parts: &[&str]) -> Result<Vec<String>, LineError>
-    ensures { Reads (λ v. map string_bytes v.items) result (if list_all is_reference (texts parts.now) then Some (texts parts.now) else None) }
+    ensures { Reads (λ v. map string_bytes v.items) result
+        (if list_all is_reference (texts parts.now) then Some (texts parts.now) else None) }
 {
     let mut references = Vec::new(alloc);
     for part in parts {

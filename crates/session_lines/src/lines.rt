@@ -51,7 +51,8 @@ impl<'a> Lines<'a> {
 
     /// The next line, without its line feed.
     pub fn next_line(&mut self) -> Option<&'a [u8]>
-        ensures next { MatchOption result (self.old.rest.now ≡ []) (λ l. lines_of self.old.rest.now ≡ l.now ∷ lines_of self.new.rest.now) }
+        ensures next { MatchOption result (self.old.rest.now ≡ [])
+            (λ l. lines_of self.old.rest.now ≡ l.now ∷ lines_of self.new.rest.now) }
         ensures counted { self.new.number ≡ self.old.number + (if is_some result then 1 else 0) }
         ensures shorter { OnSome result (length self.new.rest.now < length self.old.rest.now) }
     {

@@ -36,7 +36,11 @@ pub enum SessionError {
 
 /// Reads a whole input. Where no line of it counts, the line behind its last is the one that cannot be read.
 pub fn read_session(alloc: Global, input: &[u8]) -> Result<Session, SessionError>
-    ensures ok { IfOk result (λ s. session_of input.now ≡ Ok (record { zone = zone_view s.zone; records = map handed_of s.records.items; events = map event_view s.events.items })) }
+    ensures ok { IfOk result (λ s. session_of input.now ≡ Ok (record {
+      zone = zone_view s.zone;
+      records = map handed_of s.records.items;
+      events = map event_view s.events.items;
+    })) }
     ensures err { IfErr result (IsSessionError input.now) }
 {
     let mut lines = Lines::new(input);
@@ -86,7 +90,10 @@ impl Reading {
 
     /// Reads a line without its line feed. Empty lines and comments are passed over.
     fn read_line(&mut self, alloc: Global, line: &[u8]) -> Result<(), LineError>
-        ensures { Reads (λ _. session_view self.new.zone self.new.records.items self.new.events.items) result (with_line (session_view self.old.zone self.old.records.items self.old.events.items) line.now) }
+        ensures { Reads
+            (λ _. session_view self.new.zone self.new.records.items self.new.events.items) result
+            (with_line (session_view self.old.zone self.old.records.items self.old.events.items)
+            line.now) }
     {
         if is_passed_over(line) {
             return Ok(());
@@ -102,7 +109,10 @@ impl Reading {
 
     /// The zone's line comes first, then those of its records, then events.
     fn read_fields(&mut self, alloc: Global, fields: &[&str]) -> Result<(), LineError>
-        ensures { Reads (λ _. session_view self.new.zone self.new.records.items self.new.events.items) result (with_fields (session_view self.old.zone self.old.records.items self.old.events.items) (texts fields.now)) }
+        ensures { Reads
+            (λ _. session_view self.new.zone self.new.records.items self.new.events.items) result
+            (with_fields (session_view self.old.zone self.old.records.items self.old.events.items)
+            (texts fields.now)) }
     {
         if self.zone.is_none() {
             self.zone = Some(read_zone(alloc, fields)?);

@@ -85,7 +85,8 @@ fn record_of(
     rtype: &str,
     octets: &str,
 ) -> Result<Record, LineError>
-    ensures { Reads handed_of result (record_fields word.now owner.now ttl.now class.now rtype.now octets.now) }
+    ensures { Reads handed_of result
+        (record_fields word.now owner.now ttl.now class.now rtype.now octets.now) }
 {
     if word != "rr" {
         return Err(LineError::Unreadable);

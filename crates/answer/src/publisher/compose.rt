@@ -35,8 +35,12 @@ pub fn compose_answer<S: Scheme, Octs: Octets>(
     answer: &[RrGroup],
     authority: &[RrGroup],
 ) -> Result<Vec<u8>, AnswerFault>
-    ensures refused { IfErr result (RefusesGroups (S.signature_of scheme.now) (S.verifies scheme.now) terms.now.apex.now terms.now.at terms.now.life keys.now (ahead_of_records (asked_of question.now)) (answer.now ++ authority.now)) }
-    ensures written { IfOk result (λ m. IsAnswer (S.signature_of scheme.now) (S.verifies scheme.now) terms.now.apex.now terms.now.at terms.now.life keys.now flags (asked_of question.now) answer.now authority.now m.items) }
+    ensures refused { IfErr result (RefusesGroups (S.signature_of scheme.now)
+        (S.verifies scheme.now) terms.now.apex.now terms.now.at terms.now.life keys.now
+        (ahead_of_records (asked_of question.now)) (answer.now ++ authority.now)) }
+    ensures written { IfOk result (λ m. IsAnswer (S.signature_of scheme.now)
+        (S.verifies scheme.now) terms.now.apex.now terms.now.at terms.now.life keys.now flags
+        (asked_of question.now) answer.now authority.now m.items) }
 {
     let answers = write_section(alloc, scheme, terms, keys, answer)?;
     let authorities = write_section(alloc, scheme, terms, keys, authority)?;
@@ -66,8 +70,12 @@ fn write_section<S: Scheme, Octs: Octets>(
     keys: &[Dnskey<Octs>],
     groups: &[RrGroup],
 ) -> Result<Section, AnswerFault>
-    ensures refused { IfErr result (RefusesGroups (S.signature_of scheme.now) (S.verifies scheme.now) terms.now.apex.now terms.now.at terms.now.life keys.now 0 groups.now) }
-    ensures written { IfOk result (λ s. IsSection (S.signature_of scheme.now) (S.verifies scheme.now) terms.now.apex.now terms.now.at terms.now.life keys.now groups.now s.octets.items s.count) }
+    ensures refused { IfErr result
+        (RefusesGroups (S.signature_of scheme.now) (S.verifies scheme.now)
+        terms.now.apex.now terms.now.at terms.now.life keys.now 0 groups.now) }
+    ensures written { IfOk result
+        (λ s. IsSection (S.signature_of scheme.now) (S.verifies scheme.now)
+        terms.now.apex.now terms.now.at terms.now.life keys.now groups.now s.octets.items s.count) }
 {
     let mut section = Section {
         octets: Vec::new(alloc),
@@ -89,8 +97,12 @@ fn signatures_of<S: Scheme, Octs: Octets>(
     group: &RrGroup,
     keys: &[Dnskey<Octs>],
 ) -> Result<Vec<Vec<u8>>, SchemeError>
-    ensures made { IfOk result (λ ds. AllZip (IsRrsigData (S.signature_of scheme.now) (S.verifies scheme.now) terms.now.apex.now terms.now.at terms.now.life group.now) (if group.now.signed then keys.now else []) (map (λ d. d.items) ds.items)) }
-    ensures failed { result ≡ Err error.Failed → (group.now.signed ≡ true) × FailsFor (S.signature_of scheme.now) terms.now.apex.now terms.now.at terms.now.life group.now keys.now }
+    ensures made { IfOk result (λ ds. AllZip (IsRrsigData (S.signature_of scheme.now)
+        (S.verifies scheme.now) terms.now.apex.now terms.now.at terms.now.life group.now)
+        (if group.now.signed then keys.now else []) (map (λ d. d.items) ds.items)) }
+    ensures failed { result ≡ Err error.Failed
+        → (group.now.signed ≡ true) × FailsFor (S.signature_of scheme.now)
+        terms.now.apex.now terms.now.at terms.now.life group.now keys.now }
 {
     if !group.is_signed() {
         return Ok(Vec::new(alloc));
@@ -101,9 +113,12 @@ fn signatures_of<S: Scheme, Octs: Octets>(
 impl Section {
     /// Writes the records of an RRset, each with its own owner and TTL.
     fn push_records(&mut self, group: &RrGroup) -> Result<(), AnswerFault>
-        ensures refused { IfErr result (RefusesRecords self.old.octets.items self.old.count group.now.written) }
-        ensures room { OnOk result (HasRoom self.old.octets.items self.old.count → HasRoom self.new.octets.items self.new.count) }
-        ensures octets { OnOk result (self.new.octets.items ≡ self.old.octets.items ++ flat_map record_octets group.now.written) }
+        ensures refused { IfErr result
+            (RefusesRecords self.old.octets.items self.old.count group.now.written) }
+        ensures room { OnOk result (HasRoom self.old.octets.items self.old.count
+            → HasRoom self.new.octets.items self.new.count) }
+        ensures octets { OnOk result (self.new.octets.items ≡ self.old.octets.items
+            ++ flat_map record_octets group.now.written) }
         ensures count { OnOk result (self.new.count ≡ self.old.count + length group.now.written) }
     {
         for record in group.records() {
@@ -115,9 +130,12 @@ impl Section {
 
     /// Writes the signatures of an RRset.
     fn push_signatures(&mut self, group: &RrGroup, datas: &[Vec<u8>]) -> Result<(), AnswerFault>
-        ensures refused { IfErr result (RefusesRecords self.old.octets.items self.old.count (map (rrsig_of group.now) (map (λ d. d.items) datas.now))) }
-        ensures room { OnOk result (HasRoom self.old.octets.items self.old.count → HasRoom self.new.octets.items self.new.count) }
-        ensures octets { OnOk result (self.new.octets.items ≡ self.old.octets.items ++ flat_map record_octets (map (rrsig_of group.now) (map (λ d. d.items) datas.now))) }
+        ensures refused { IfErr result (RefusesRecords self.old.octets.items self.old.count
+            (map (rrsig_of group.now) (map (λ d. d.items) datas.now))) }
+        ensures room { OnOk result (HasRoom self.old.octets.items self.old.count
+            → HasRoom self.new.octets.items self.new.count) }
+        ensures octets { OnOk result (self.new.octets.items ≡ self.old.octets.items
+            ++ flat_map record_octets (map (rrsig_of group.now) (map (λ d. d.items) datas.now))) }
         ensures count { OnOk result (self.new.count ≡ self.old.count + length datas.now) }
     {
         for data in datas {
@@ -128,9 +146,12 @@ impl Section {
 
     /// Writes a record of class IN.
     fn push(&mut self, owner: &Name, rtype: Rtype, ttl: Ttl, data: &[u8]) -> Result<(), AnswerFault>
-        ensures refused { IfErr result (RefusesRecords self.old.octets.items self.old.count (written_rr owner.now rtype ttl data.now ∷ [])) }
-        ensures room { OnOk result (HasRoom self.old.octets.items self.old.count → HasRoom self.new.octets.items self.new.count) }
-        ensures octets { OnOk result (self.new.octets.items ≡ self.old.octets.items ++ record_octets (written_rr owner.now rtype ttl data.now)) }
+        ensures refused { IfErr result (RefusesRecords self.old.octets.items self.old.count
+            (written_rr owner.now rtype ttl data.now ∷ [])) }
+        ensures room { OnOk result (HasRoom self.old.octets.items self.old.count
+            → HasRoom self.new.octets.items self.new.count) }
+        ensures octets { OnOk result (self.new.octets.items ≡ self.old.octets.items
+            ++ record_octets (written_rr owner.now rtype ttl data.now)) }
         ensures count { OnOk result (self.new.count ≡ self.old.count + 1) }
     {
         let Some(count) = self.count.checked_add(1) else {

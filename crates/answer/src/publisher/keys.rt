@@ -259,7 +259,9 @@ impl ZoneKeys {
         new: &[&str],
         now: &UnixTime,
     ) -> Result<Vec<Action>, KeyFault>
-        ensures { (digests : dnskey.Dnskey → Option (List ℕ)) → GivesKeys (λ v. v.items) self.old self.new result (apply digests (Start rolltype (texts old.now) (texts new.now)) now.now self.old) }
+        ensures { (digests : dnskey.Dnskey → Option (List ℕ))
+            → GivesKeys (λ v. v.items) self.old self.new result
+            (apply digests (Start rolltype (texts old.now) (texts new.now)) now.now self.old) }
     {
         match self.keys.start_roll(rolltype, old, new, now) {
             Ok(actions) => Ok(actions),
@@ -274,7 +276,9 @@ impl ZoneKeys {
         ttl: u32,
         now: &UnixTime,
     ) -> Result<Vec<Action>, KeyFault>
-        ensures { (digests : dnskey.Dnskey → Option (List ℕ)) → GivesKeys (λ v. v.items) self.old self.new result (apply digests (Report1 rolltype ttl) now.now self.old) }
+        ensures { (digests : dnskey.Dnskey → Option (List ℕ))
+            → GivesKeys (λ v. v.items) self.old self.new result
+            (apply digests (Report1 rolltype ttl) now.now self.old) }
     {
         match self.keys.propagation1_complete(rolltype, ttl, now) {
             Ok(actions) => Ok(actions),
@@ -288,7 +292,9 @@ impl ZoneKeys {
         rolltype: RollType,
         now: &UnixTime,
     ) -> Result<Vec<Action>, KeyFault>
-        ensures { (digests : dnskey.Dnskey → Option (List ℕ)) → GivesKeys (λ v. v.items) self.old self.new result (apply digests (Wait1 rolltype) now.now self.old) }
+        ensures { (digests : dnskey.Dnskey → Option (List ℕ))
+            → GivesKeys (λ v. v.items) self.old self.new result
+            (apply digests (Wait1 rolltype) now.now self.old) }
     {
         match self.keys.cache_expired1(rolltype, now) {
             Ok(actions) => Ok(actions),
@@ -303,7 +309,9 @@ impl ZoneKeys {
         ttl: u32,
         now: &UnixTime,
     ) -> Result<Vec<Action>, KeyFault>
-        ensures { (digests : dnskey.Dnskey → Option (List ℕ)) → GivesKeys (λ v. v.items) self.old self.new result (apply digests (Report2 rolltype ttl) now.now self.old) }
+        ensures { (digests : dnskey.Dnskey → Option (List ℕ))
+            → GivesKeys (λ v. v.items) self.old self.new result
+            (apply digests (Report2 rolltype ttl) now.now self.old) }
     {
         match self.keys.propagation2_complete(rolltype, ttl, now) {
             Ok(actions) => Ok(actions),
@@ -317,7 +325,9 @@ impl ZoneKeys {
         rolltype: RollType,
         now: &UnixTime,
     ) -> Result<Vec<Action>, KeyFault>
-        ensures { (digests : dnskey.Dnskey → Option (List ℕ)) → GivesKeys (λ v. v.items) self.old self.new result (apply digests (Wait2 rolltype) now.now self.old) }
+        ensures { (digests : dnskey.Dnskey → Option (List ℕ))
+            → GivesKeys (λ v. v.items) self.old self.new result
+            (apply digests (Wait2 rolltype) now.now self.old) }
     {
         match self.keys.cache_expired2(rolltype, now) {
             Ok(actions) => Ok(actions),
@@ -327,7 +337,8 @@ impl ZoneKeys {
 
     /// Ends a roll whose last actions are done.
     pub(crate) fn roll_done(&mut self, rolltype: RollType) -> Result<Vec<Action>, KeyFault>
-        ensures { (digests : dnskey.Dnskey → Option (List ℕ)) → GivesKeys (λ v. v.items) self.old self.new result (apply digests (Finish rolltype) 0 self.old) }
+        ensures { (digests : dnskey.Dnskey → Option (List ℕ)) → GivesKeys
+            (λ v. v.items) self.old self.new result (apply digests (Finish rolltype) 0 self.old) }
     {
         match self.keys.roll_done(rolltype) {
             Ok(actions) => Ok(actions),

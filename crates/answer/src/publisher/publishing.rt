@@ -70,14 +70,22 @@ impl<'a, S: Scheme, H: Nsec3Hasher> Publisher<'a, S, H> {
         life: u32,
     ) -> Result<Self, ZoneFault>
         requires { life < 2 ^ 31 }
-        ensures zone { IfOk result (λ p. p.zone ≡ record { apex = apex; mode = mode_of mode; limit = limit; records = sorted_records (map handed_of records.items) }) }
+        ensures zone { IfOk result (λ p. p.zone ≡ record {
+          apex = apex;
+          mode = mode_of mode;
+          limit = limit;
+          records = sorted_records (map handed_of records.items);
+        }) }
         ensures keys { IfOk result (λ p. p.keys ≡ no_keys apex) }
         ensures scheme { IfOk result (λ p. p.scheme.now ≡ scheme.now) }
         ensures hasher { IfOk result (λ p. p.hasher.now ≡ hasher.now) }
         ensures life { IfOk result (λ p. p.life ≡ life) }
-        ensures accepted { IfOk result (λ p. IsAccepted apex (mode_of mode) limit (map handed_of records.items)) }
-        ensures handed { IfOk result (λ p. IsName apex × AllByRecursion IsHanded (map handed_of records.items)) }
-        ensures fault { IfErr result (λ f. (f ≡ ZoneFault.Memory) ⊎ IsFault apex (mode_of mode) limit (map handed_of records.items) f) }
+        ensures accepted { IfOk result
+            (λ p. IsAccepted apex (mode_of mode) limit (map handed_of records.items)) }
+        ensures handed { IfOk result
+            (λ p. IsName apex × AllByRecursion IsHanded (map handed_of records.items)) }
+        ensures fault { IfErr result (λ f. (f ≡ ZoneFault.Memory)
+            ⊎ IsFault apex (mode_of mode) limit (map handed_of records.items) f) }
     {
         let Ok(name) = apex.try_clone(alloc) else {
             return Err(ZoneFault::Memory);
@@ -95,9 +103,19 @@ impl<'a, S: Scheme, H: Nsec3Hasher> Publisher<'a, S, H> {
 
     /// The answer for the DNSKEY RRset: the keys that are present, signed by each key that signs keys, at a moment.
     pub fn dnskey_answer(&self, now: &UnixTime) -> Result<Vec<u8>, AnswerFault>
-        ensures refused { IfErr result (RefusesKeys (S.signature_of self.now.scheme.now) (S.verifies self.now.scheme.now) (served (H.hash_of self.now.hasher.now) self.now.zone) self.now.zone.apex (second_of now.now) self.now.life (dnskeys (published self.now.keys Publication.Present)) (keys_by_tag self.now.keys Publication.SignsKeys)) }
-        ensures answer { IfOk result (λ m. AnswersKeys (S.signature_of self.now.scheme.now) (S.verifies self.now.scheme.now) (served (H.hash_of self.now.hasher.now) self.now.zone) self.now.zone.apex (second_of now.now) self.now.life (dnskeys (published self.now.keys Publication.Present)) (keys_by_tag self.now.keys Publication.SignsKeys) m.items) }
-        ensures given { IfOk result (λ m. spelled.GivesKeys (S.verifies self.now.scheme.now) pointer_limit (served (H.hash_of self.now.hasher.now) self.now.zone) self.now.zone.apex (dnskeys (published self.now.keys Publication.Present)) (dnskeys (published self.now.keys Publication.SignsKeys)) (second_of now.now) self.now.life m.items) }
+        ensures refused { IfErr result (RefusesKeys (S.signature_of self.now.scheme.now)
+            (S.verifies self.now.scheme.now) (served (H.hash_of self.now.hasher.now) self.now.zone)
+            self.now.zone.apex (second_of now.now) self.now.life (dnskeys (published self.now.keys
+            Publication.Present)) (keys_by_tag self.now.keys Publication.SignsKeys)) }
+        ensures answer { IfOk result (λ m. AnswersKeys (S.signature_of self.now.scheme.now)
+            (S.verifies self.now.scheme.now) (served (H.hash_of self.now.hasher.now) self.now.zone)
+            self.now.zone.apex (second_of now.now) self.now.life (dnskeys (published self.now.keys
+            Publication.Present)) (keys_by_tag self.now.keys Publication.SignsKeys) m.items) }
+        ensures given { IfOk result (λ m. spelled.GivesKeys (S.verifies self.now.scheme.now)
+            pointer_limit (served (H.hash_of self.now.hasher.now) self.now.zone) self.now.zone.apex
+            (dnskeys (published self.now.keys Publication.Present))
+            (dnskeys (published self.now.keys Publication.SignsKeys))
+            (second_of now.now) self.now.life m.items) }
     {
         self.zone.keeps();
         let keys = self.keys.keys_by_tag(Publication::SignsKeys)?;
@@ -121,7 +139,9 @@ impl<'a, S: Scheme, H: Nsec3Hasher> Publisher<'a, S, H> {
 
     /// The DNSKEY RRset; without a key it is empty, and then there is nothing to sign.
     fn dnskey_group(&self) -> Result<RrGroup, AllocError>
-        ensures presents { IfOk result (λ g. Presents g (key_group self.now.zone.apex (ttl_among self.now.zone.records (low self.now.zone.apex) 6) (dnskeys (published self.now.keys Publication.Present)))) }
+        ensures presents { IfOk result
+            (λ g. Presents g (key_group self.now.zone.apex (ttl_among self.now.zone.records
+            (low self.now.zone.apex) 6) (dnskeys (published self.now.keys Publication.Present)))) }
     {
         let owner = self.zone.apex().try_clone(self.alloc)?;
         let count = owner.rrsig_label_count();
@@ -150,10 +170,20 @@ impl<'a, S: Scheme, H: Nsec3Hasher> Publisher<'a, S, H> {
 
     /// The zone's answer to a question at a moment, signed by each key that signs the zone.
     pub fn answer(&self, question: &Question, now: &UnixTime) -> Result<Vec<u8>, AnswerFault>
-        ensures allowed { IsErrOf result AnswerFault.QuestionNotAllowed ↔ (is_allowed self.now.zone.apex (asked_of question.now) ≡ false) }
-        ensures refused { IfErr result (RefusesAnswer (S.signature_of self.now.scheme.now) (S.verifies self.now.scheme.now) (served (H.hash_of self.now.hasher.now) self.now.zone) self.now.zone.apex (second_of now.now) self.now.life (keys_by_tag self.now.keys Publication.SignsZone) (asked_of question.now)) }
-        ensures answer { IfOk result (λ m. AnswersZone (S.signature_of self.now.scheme.now) (S.verifies self.now.scheme.now) (served (H.hash_of self.now.hasher.now) self.now.zone) self.now.zone.apex (second_of now.now) self.now.life (keys_by_tag self.now.keys Publication.SignsZone) (asked_of question.now) m.items) }
-        ensures given { IfOk result (λ m. GivesAnswer (S.verifies self.now.scheme.now) pointer_limit (served (H.hash_of self.now.hasher.now) self.now.zone) self.now.zone.apex (dnskeys (published self.now.keys Publication.SignsZone)) (second_of now.now) self.now.life (asked_of question.now) m.items) }
+        ensures allowed { IsErrOf result AnswerFault.QuestionNotAllowed ↔
+            (is_allowed self.now.zone.apex (asked_of question.now) ≡ false) }
+        ensures refused { IfErr result (RefusesAnswer (S.signature_of self.now.scheme.now)
+            (S.verifies self.now.scheme.now) (served (H.hash_of self.now.hasher.now) self.now.zone)
+            self.now.zone.apex (second_of now.now) self.now.life
+            (keys_by_tag self.now.keys Publication.SignsZone) (asked_of question.now)) }
+        ensures answer { IfOk result (λ m. AnswersZone (S.signature_of self.now.scheme.now)
+            (S.verifies self.now.scheme.now) (served (H.hash_of self.now.hasher.now) self.now.zone)
+            self.now.zone.apex (second_of now.now) self.now.life
+            (keys_by_tag self.now.keys Publication.SignsZone) (asked_of question.now) m.items) }
+        ensures given { IfOk result (λ m. GivesAnswer (S.verifies self.now.scheme.now) pointer_limit
+            (served (H.hash_of self.now.hasher.now) self.now.zone) self.now.zone.apex
+            (dnskeys (published self.now.keys Publication.SignsZone))
+            (second_of now.now) self.now.life (asked_of question.now) m.items) }
     {
         self.zone.keeps();
         question.keeps();
@@ -208,7 +238,10 @@ impl<'a, S: Scheme, H: Nsec3Hasher> Publisher<'a, S, H> {
         available: Available,
     ) -> Result<(), KeyFault>
         requires { length public_key.items ≤ 65531 }
-        ensures keys { GivesKeys (λ _. []) self.old.keys self.new.keys result (apply (digest_at (S.digest_of self.old.scheme.now) self.old.zone.apex) (Add KeyKind.Ksk (string_bytes pubref) (text_of privref) algorithm public_key.items (is_available available)) creation_ts self.old.keys) }
+        ensures keys { GivesKeys (λ _. []) self.old.keys self.new.keys result
+            (apply (digest_at (S.digest_of self.old.scheme.now) self.old.zone.apex)
+            (Add KeyKind.Ksk (string_bytes pubref) (text_of privref) algorithm public_key.items
+            (is_available available)) creation_ts self.old.keys) }
         ensures rest { self.new ≡ record self.old { keys = self.new.keys } }
     {
         self.add_key(NewKey {
@@ -233,7 +266,10 @@ impl<'a, S: Scheme, H: Nsec3Hasher> Publisher<'a, S, H> {
         available: Available,
     ) -> Result<(), KeyFault>
         requires { length public_key.items ≤ 65531 }
-        ensures keys { GivesKeys (λ _. []) self.old.keys self.new.keys result (apply (digest_at (S.digest_of self.old.scheme.now) self.old.zone.apex) (Add KeyKind.Zsk (string_bytes pubref) (text_of privref) algorithm public_key.items (is_available available)) creation_ts self.old.keys) }
+        ensures keys { GivesKeys (λ _. []) self.old.keys self.new.keys result
+            (apply (digest_at (S.digest_of self.old.scheme.now) self.old.zone.apex)
+            (Add KeyKind.Zsk (string_bytes pubref) (text_of privref) algorithm public_key.items
+            (is_available available)) creation_ts self.old.keys) }
         ensures rest { self.new ≡ record self.old { keys = self.new.keys } }
     {
         self.add_key(NewKey {
@@ -248,7 +284,9 @@ impl<'a, S: Scheme, H: Nsec3Hasher> Publisher<'a, S, H> {
     }
 
     fn add_key(&mut self, new: NewKey) -> Result<(), KeyFault>
-        ensures keys { GivesKeys (λ _. []) self.old.keys self.new.keys result (apply (digest_at (S.digest_of self.old.scheme.now) self.old.zone.apex) (add_of new) new.created self.old.keys) }
+        ensures keys { GivesKeys (λ _. []) self.old.keys self.new.keys result
+            (apply (digest_at (S.digest_of self.old.scheme.now) self.old.zone.apex)
+            (add_of new) new.created self.old.keys) }
         ensures rest { self.new ≡ record self.old { keys = self.new.keys } }
     {
         let public_key = new.public_key.clone()?;
@@ -268,7 +306,9 @@ impl<'a, S: Scheme, H: Nsec3Hasher> Publisher<'a, S, H> {
         new: &[&str],
         now: &UnixTime,
     ) -> Result<Vec<Action>, KeyFault>
-        ensures keys { GivesKeys (λ v. v.items) self.old.keys self.new.keys result (apply (digest_at (S.digest_of self.old.scheme.now) self.old.zone.apex) (Start rolltype (texts old.now) (texts new.now)) now.now self.old.keys) }
+        ensures keys { GivesKeys (λ v. v.items) self.old.keys self.new.keys result
+            (apply (digest_at (S.digest_of self.old.scheme.now) self.old.zone.apex)
+            (Start rolltype (texts old.now) (texts new.now)) now.now self.old.keys) }
         ensures rest { self.new ≡ record self.old { keys = self.new.keys } }
     {
         self.keys.start_roll(rolltype, old, new, now)
@@ -281,7 +321,9 @@ impl<'a, S: Scheme, H: Nsec3Hasher> Publisher<'a, S, H> {
         ttl: u32,
         now: &UnixTime,
     ) -> Result<Vec<Action>, KeyFault>
-        ensures keys { GivesKeys (λ v. v.items) self.old.keys self.new.keys result (apply (digest_at (S.digest_of self.old.scheme.now) self.old.zone.apex) (Report1 rolltype ttl) now.now self.old.keys) }
+        ensures keys { GivesKeys (λ v. v.items) self.old.keys self.new.keys result
+            (apply (digest_at (S.digest_of self.old.scheme.now) self.old.zone.apex)
+            (Report1 rolltype ttl) now.now self.old.keys) }
         ensures rest { self.new ≡ record self.old { keys = self.new.keys } }
     {
         self.keys.propagation1_complete(rolltype, ttl, now)
@@ -293,7 +335,9 @@ impl<'a, S: Scheme, H: Nsec3Hasher> Publisher<'a, S, H> {
         rolltype: RollType,
         now: &UnixTime,
     ) -> Result<Vec<Action>, KeyFault>
-        ensures keys { GivesKeys (λ v. v.items) self.old.keys self.new.keys result (apply (digest_at (S.digest_of self.old.scheme.now) self.old.zone.apex) (Wait1 rolltype) now.now self.old.keys) }
+        ensures keys { GivesKeys (λ v. v.items) self.old.keys self.new.keys result
+            (apply (digest_at (S.digest_of self.old.scheme.now) self.old.zone.apex)
+            (Wait1 rolltype) now.now self.old.keys) }
         ensures rest { self.new ≡ record self.old { keys = self.new.keys } }
     {
         self.keys.cache_expired1(rolltype, now)
@@ -306,7 +350,9 @@ impl<'a, S: Scheme, H: Nsec3Hasher> Publisher<'a, S, H> {
         ttl: u32,
         now: &UnixTime,
     ) -> Result<Vec<Action>, KeyFault>
-        ensures keys { GivesKeys (λ v. v.items) self.old.keys self.new.keys result (apply (digest_at (S.digest_of self.old.scheme.now) self.old.zone.apex) (Report2 rolltype ttl) now.now self.old.keys) }
+        ensures keys { GivesKeys (λ v. v.items) self.old.keys self.new.keys result
+            (apply (digest_at (S.digest_of self.old.scheme.now) self.old.zone.apex)
+            (Report2 rolltype ttl) now.now self.old.keys) }
         ensures rest { self.new ≡ record self.old { keys = self.new.keys } }
     {
         self.keys.propagation2_complete(rolltype, ttl, now)
@@ -318,7 +364,9 @@ impl<'a, S: Scheme, H: Nsec3Hasher> Publisher<'a, S, H> {
         rolltype: RollType,
         now: &UnixTime,
     ) -> Result<Vec<Action>, KeyFault>
-        ensures keys { GivesKeys (λ v. v.items) self.old.keys self.new.keys result (apply (digest_at (S.digest_of self.old.scheme.now) self.old.zone.apex) (Wait2 rolltype) now.now self.old.keys) }
+        ensures keys { GivesKeys (λ v. v.items) self.old.keys self.new.keys result
+            (apply (digest_at (S.digest_of self.old.scheme.now) self.old.zone.apex)
+            (Wait2 rolltype) now.now self.old.keys) }
         ensures rest { self.new ≡ record self.old { keys = self.new.keys } }
     {
         self.keys.cache_expired2(rolltype, now)
@@ -326,7 +374,9 @@ impl<'a, S: Scheme, H: Nsec3Hasher> Publisher<'a, S, H> {
 
     /// Ends a roll whose last actions are done.
     pub fn roll_done(&mut self, rolltype: RollType) -> Result<Vec<Action>, KeyFault>
-        ensures keys { GivesKeys (λ v. v.items) self.old.keys self.new.keys result (apply (digest_at (S.digest_of self.old.scheme.now) self.old.zone.apex) (Finish rolltype) 0 self.old.keys) }
+        ensures keys { GivesKeys (λ v. v.items) self.old.keys self.new.keys result
+            (apply (digest_at (S.digest_of self.old.scheme.now) self.old.zone.apex)
+            (Finish rolltype) 0 self.old.keys) }
         ensures rest { self.new ≡ record self.old { keys = self.new.keys } }
     {
         self.keys.roll_done(rolltype)
@@ -340,12 +390,12 @@ fn key_digest<S: Scheme>(
     apex: &Name,
     key: &Dnskey<Vec<u8>>,
 ) -> Result<Vec<u8>, KeyFault>
-    ensures ok { IfOk result (λ d. digest_at (S.digest_of scheme.now) apex.now key.now ≡ Some d.items) }
-    ensures err { IfErr result (λ f. (f ≡ KeyFault.Memory) ⊎ ((f ≡ KeyFault.DigestFailed) × (digest_at (S.digest_of scheme.now) apex.now key.now ≡ None))) }
+    ensures ok { IfOk result
+        (λ d. digest_at (S.digest_of scheme.now) apex.now key.now ≡ Some d.items) }
+    ensures err { IfErr result (λ f. (f ≡ KeyFault.Memory) ⊎ ((f ≡ KeyFault.DigestFailed)
+        × (digest_at (S.digest_of scheme.now) apex.now key.now ≡ None))) }
 {
-    let mut octets = Vec::new(alloc);
-    apex.compose_canonical(&mut octets)?;
-    key.compose(&mut octets)?;
+    let octets = key.digested(alloc, apex)?;
     match scheme.digest(alloc, DigestAlgorithm::SHA256, &octets) {
         Ok(digest) => Ok(digest),
         Err(SchemeError::Failed) => Err(KeyFault::DigestFailed),

@@ -64,8 +64,18 @@ impl<'a, S: Scheme, H: Nsec3Hasher> Run<'a, S, H> {
     pub(super) fn serve(&mut self, event: &Event) -> Result<Outcome, AllocError>
         requires key { added_octets event.now ≤ 65531 }
         requires limit { self.old.limit ≡ self.old.publisher.zone.limit }
-        ensures step { IfOk result (λ o. StepOf (world self.old.publisher.zone self.old.publisher.life (S.signature_of self.old.publisher.scheme.now) (S.verifies self.old.publisher.scheme.now) (S.digest_of self.old.publisher.scheme.now) (H.hash_of self.old.publisher.hasher.now)) (sofar self.old.publisher.keys self.old.shown.items) event.now.at event.now.act o (sofar self.new.publisher.keys self.new.shown.items)) }
-        ensures rest { self.new ≡ record self.old { publisher = record self.old.publisher { keys = self.new.publisher.keys }; shown = self.new.shown } }
+        ensures step { IfOk result (λ o. StepOf (world self.old.publisher.zone
+            self.old.publisher.life (S.signature_of self.old.publisher.scheme.now)
+            (S.verifies self.old.publisher.scheme.now)
+            (S.digest_of self.old.publisher.scheme.now) (H.hash_of self.old.publisher.hasher.now))
+            (sofar self.old.publisher.keys self.old.shown.items) event.now.at event.now.act o
+            (sofar self.new.publisher.keys self.new.shown.items)) }
+        ensures rest { self.new ≡ record self.old {
+          publisher = record self.old.publisher {
+            keys = self.new.publisher.keys;
+          };
+          shown = self.new.shown;
+        } }
     {
         match &event.act {
             Act::Key(call) => Ok(Outcome::Key(self.key_call(call, &event.at))),
@@ -86,8 +96,13 @@ impl<'a, S: Scheme, H: Nsec3Hasher> Run<'a, S, H> {
 
     fn key_call(&mut self, call: &KeyCall, at: &UnixTime) -> Result<Vec<Action>, KeyFault>
         requires { added_by_call call.now ≤ 65531 }
-        ensures keys { GivesKeys (λ v. v.items) self.old.publisher.keys self.new.publisher.keys result (apply (digest_at (S.digest_of self.old.publisher.scheme.now) self.old.publisher.zone.apex) (call_of call.now) at.now self.old.publisher.keys) }
-        ensures rest { self.new ≡ record self.old { publisher = record self.old.publisher { keys = self.new.publisher.keys } } }
+        ensures keys { GivesKeys
+            (λ v. v.items) self.old.publisher.keys self.new.publisher.keys result
+            (apply (digest_at (S.digest_of self.old.publisher.scheme.now)
+            self.old.publisher.zone.apex) (call_of call.now) at.now self.old.publisher.keys) }
+        ensures rest { self.new ≡ record self.old {
+          publisher = record self.old.publisher { keys = self.new.publisher.keys };
+        } }
     {
         match call {
             KeyCall::AddKeyKsk {
@@ -145,7 +160,12 @@ impl<'a, S: Scheme, H: Nsec3Hasher> Run<'a, S, H> {
 
     /// Shows the DS set at the next place.
     fn show_ds(&mut self) -> Result<Outcome, AllocError>
-        ensures step { IfOk result (λ o. (at : ℕ) → StepOf (world self.old.publisher.zone self.old.publisher.life (S.signature_of self.old.publisher.scheme.now) (S.verifies self.old.publisher.scheme.now) (S.digest_of self.old.publisher.scheme.now) (H.hash_of self.old.publisher.hasher.now)) (sofar self.old.publisher.keys self.old.shown.items) at Act.ShowDs o (sofar self.new.publisher.keys self.new.shown.items)) }
+        ensures step { IfOk result (λ o. (at : ℕ) → StepOf (world self.old.publisher.zone
+            self.old.publisher.life (S.signature_of self.old.publisher.scheme.now)
+            (S.verifies self.old.publisher.scheme.now)
+            (S.digest_of self.old.publisher.scheme.now) (H.hash_of self.old.publisher.hasher.now))
+            (sofar self.old.publisher.keys self.old.shown.items) at Act.ShowDs o
+            (sofar self.new.publisher.keys self.new.shown.items)) }
         ensures rest { self.new ≡ record self.old { shown = self.new.shown } }
     {
         let place = self.shown.len();
@@ -157,7 +177,12 @@ impl<'a, S: Scheme, H: Nsec3Hasher> Run<'a, S, H> {
 
     /// Shows the DNSKEY answer at the next place.
     fn show_dnskey(&mut self, at: &UnixTime) -> Result<Outcome, AllocError>
-        ensures step { IfOk result (λ o. StepOf (world self.old.publisher.zone self.old.publisher.life (S.signature_of self.old.publisher.scheme.now) (S.verifies self.old.publisher.scheme.now) (S.digest_of self.old.publisher.scheme.now) (H.hash_of self.old.publisher.hasher.now)) (sofar self.old.publisher.keys self.old.shown.items) at.now Act.ShowDnskey o (sofar self.new.publisher.keys self.new.shown.items)) }
+        ensures step { IfOk result (λ o. StepOf (world self.old.publisher.zone
+            self.old.publisher.life (S.signature_of self.old.publisher.scheme.now)
+            (S.verifies self.old.publisher.scheme.now)
+            (S.digest_of self.old.publisher.scheme.now) (H.hash_of self.old.publisher.hasher.now))
+            (sofar self.old.publisher.keys self.old.shown.items) at.now Act.ShowDnskey o
+            (sofar self.new.publisher.keys self.new.shown.items)) }
         ensures rest { self.new ≡ record self.old { shown = self.new.shown } }
     {
         let place = self.shown.len();
@@ -172,7 +197,12 @@ impl<'a, S: Scheme, H: Nsec3Hasher> Run<'a, S, H> {
 
     /// Shows the zone's answer to a question at the next place.
     fn ask(&mut self, question: &Question, at: &UnixTime) -> Result<Outcome, AllocError>
-        ensures step { IfOk result (λ o. StepOf (world self.old.publisher.zone self.old.publisher.life (S.signature_of self.old.publisher.scheme.now) (S.verifies self.old.publisher.scheme.now) (S.digest_of self.old.publisher.scheme.now) (H.hash_of self.old.publisher.hasher.now)) (sofar self.old.publisher.keys self.old.shown.items) at.now (Act.Ask question.now) o (sofar self.new.publisher.keys self.new.shown.items)) }
+        ensures step { IfOk result (λ o. StepOf (world self.old.publisher.zone
+            self.old.publisher.life (S.signature_of self.old.publisher.scheme.now)
+            (S.verifies self.old.publisher.scheme.now)
+            (S.digest_of self.old.publisher.scheme.now) (H.hash_of self.old.publisher.hasher.now))
+            (sofar self.old.publisher.keys self.old.shown.items) at.now
+            (Act.Ask question.now) o (sofar self.new.publisher.keys self.new.shown.items)) }
         ensures rest { self.new ≡ record self.old { shown = self.new.shown } }
     {
         let place = self.shown.len();
@@ -194,7 +224,13 @@ impl<'a, S: Scheme, H: Nsec3Hasher> Run<'a, S, H> {
     /// Judges three things that were shown, for the question of the zone answer.
     fn judge_shown(&self, ds: usize, dnskey: usize, answer: usize, at: &UnixTime) -> Outcome
         requires { self.now.limit ≡ self.now.publisher.zone.limit }
-        ensures { JudgesThings (world self.now.publisher.zone self.now.publisher.life (S.signature_of self.now.publisher.scheme.now) (S.verifies self.now.publisher.scheme.now) (S.digest_of self.now.publisher.scheme.now) (H.hash_of self.now.publisher.hasher.now)) at.now (slice_get (map shown_of self.now.shown.items) ds) (slice_get (map shown_of self.now.shown.items) dnskey) (slice_get (map shown_of self.now.shown.items) answer) result }
+        ensures { JudgesThings (world self.now.publisher.zone self.now.publisher.life
+            (S.signature_of self.now.publisher.scheme.now)
+            (S.verifies self.now.publisher.scheme.now) (S.digest_of self.now.publisher.scheme.now)
+            (H.hash_of self.now.publisher.hasher.now)) at.now
+            (slice_get (map shown_of self.now.shown.items) ds)
+            (slice_get (map shown_of self.now.shown.items) dnskey)
+            (slice_get (map shown_of self.now.shown.items) answer) result }
     {
         match (
             self.shown.get(ds),
@@ -220,7 +256,12 @@ impl<'a, S: Scheme, H: Nsec3Hasher> Run<'a, S, H> {
         at: &UnixTime,
     ) -> Outcome
         requires { self.now.limit ≡ self.now.publisher.zone.limit }
-        ensures { JudgesBytes (world self.now.publisher.zone self.now.publisher.life (S.signature_of self.now.publisher.scheme.now) (S.verifies self.now.publisher.scheme.now) (S.digest_of self.now.publisher.scheme.now) (H.hash_of self.now.publisher.hasher.now)) at.now (slice_get (map shown_of self.now.shown.items) ds) dnskey_bytes.now answer_bytes.now (asked_of question.now) result }
+        ensures { JudgesBytes (world self.now.publisher.zone self.now.publisher.life
+            (S.signature_of self.now.publisher.scheme.now)
+            (S.verifies self.now.publisher.scheme.now) (S.digest_of self.now.publisher.scheme.now)
+            (H.hash_of self.now.publisher.hasher.now)) at.now
+            (slice_get (map shown_of self.now.shown.items) ds) dnskey_bytes.now answer_bytes.now
+            (asked_of question.now) result }
     {
         match self.shown.get(ds) {
             Some(Shown::OfParent(ds)) => {
@@ -240,7 +281,19 @@ impl<'a, S: Scheme, H: Nsec3Hasher> Run<'a, S, H> {
         at: &UnixTime,
     ) -> Result<Judgement, Refused>
         requires { self.now.limit ≡ self.now.publisher.zone.limit }
-        ensures { IsJudgement pointer_limit (record { verifies = S.verifies self.now.publisher.scheme.now; hash = H.hash_of self.now.publisher.hasher.now; digest = S.digest_of self.now.publisher.scheme.now }) (handing (world self.now.publisher.zone self.now.publisher.life (S.signature_of self.now.publisher.scheme.now) (S.verifies self.now.publisher.scheme.now) (S.digest_of self.now.publisher.scheme.now) (H.hash_of self.now.publisher.hasher.now)) ds.now dnskey_bytes.now answer_bytes.now (asked_of question.now) at.now) (answer_of result) (verifications_of result) (hashes_of result) }
+        ensures { IsJudgement pointer_limit
+            (record {
+              verifies = S.verifies self.now.publisher.scheme.now;
+              hash = H.hash_of
+                  self.now.publisher.hasher.now;
+              digest = S.digest_of self.now.publisher.scheme.now;
+            })
+            (handing (world self.now.publisher.zone self.now.publisher.life
+            (S.signature_of self.now.publisher.scheme.now)
+            (S.verifies self.now.publisher.scheme.now) (S.digest_of self.now.publisher.scheme.now)
+            (H.hash_of self.now.publisher.hasher.now)) ds.now dnskey_bytes.now answer_bytes.now
+            (asked_of question.now) at.now)
+            (answer_of result) (verifications_of result) (hashes_of result) }
     {
         counted::<S, H, Brand, Brand>(
             self.alloc,
@@ -280,7 +333,21 @@ fn counted<S: Scheme, H: Nsec3Hasher, L: Ledger, M: Ledger>(
     requires second_name { second.name ≡ M.name }
     requires second_parts { second.parts ≡ M.parts }
     requires second_some { 0 < M.parts }
-    ensures { IsJudgement pointer_limit (record { verifies = S.verifies scheme.now; hash = H.hash_of hasher.now; digest = S.digest_of scheme.now }) (record { apex = apex.now; ds = ds.now; dnskey_bytes = dnskey_bytes.now; answer_bytes = answer_bytes.now; asked = asked_of question.now; now = now; limit = limit }) (answer_of result) (verifications_of result) (hashes_of result) }
+    ensures { IsJudgement pointer_limit (record {
+      verifies = S.verifies scheme.now;
+      hash = H.hash_of hasher.now;
+      digest = S.digest_of scheme.now;
+    })
+        (record {
+          apex = apex.now;
+          ds = ds.now;
+          dnskey_bytes = dnskey_bytes.now;
+          answer_bytes = answer_bytes.now;
+          asked = asked_of question.now;
+          now = now;
+          limit = limit;
+        })
+        (answer_of result) (verifications_of result) (hashes_of result) }
 {
     let mut checks = SchemeChecks::<S, H, L, M>::new(scheme, hasher, first, second);
     judge(

@@ -91,7 +91,8 @@ impl<'a> Link<'a> {
 
     /// Whether owner or next name shows that an ancestor exists.
     fn shows(&self, ancestor: &Name) -> bool
-        ensures { result ≡ (at_or_above ancestor.now self.now.owner || at_or_above ancestor.now self.now.next) }
+        ensures { result
+            ≡ (at_or_above ancestor.now self.now.owner || at_or_above ancestor.now self.now.next) }
     {
         self.owner.ends_with(ancestor) || self.next.ends_with(ancestor)
     }
@@ -141,7 +142,8 @@ impl<'a> Link<'a> {
         name: &Name,
         rtype: Rtype,
     ) -> Result<Option<Verdict>, AllocError>
-        ensures { IfOk result (λ v. option_map verdict_of v ≡ covered apex.now name.now rtype links.now self.now) }
+        ensures { IfOk result
+            (λ v. option_map verdict_of v ≡ covered apex.now name.now rtype links.now self.now) }
     {
         if !self.covers(apex, name) {
             return Ok(None);
@@ -164,7 +166,8 @@ fn by_star(
     encloser: &Name,
     rtype: Rtype,
 ) -> Result<Option<Verdict>, AllocError>
-    ensures { IfOk result (λ v. option_map verdict_of v ≡ by_star apex.now (star_under encloser.now) rtype links.now) }
+    ensures { IfOk result (λ v. option_map verdict_of v
+        ≡ by_star apex.now (star_under encloser.now) rtype links.now) }
 {
     match encloser.wildcard_child(alloc)? {
         None => Ok(None),
@@ -174,7 +177,8 @@ fn by_star(
 
 /// What the first link that tells of a wildcard says.
 fn first_at_star(apex: &Name, links: &[Link], star: &Name, rtype: Rtype) -> Option<Verdict>
-    ensures { option_map verdict_of result ≡ first_some (at_star apex.now star.now rtype) links.now }
+    ensures { option_map verdict_of result
+        ≡ first_some (at_star apex.now star.now rtype) links.now }
 {
     for link in links {
         if let Some(verdict) = link.at_star(apex, star, rtype) {
@@ -186,7 +190,8 @@ fn first_at_star(apex: &Name, links: &[Link], star: &Name, rtype: Rtype) -> Opti
 
 /// What the first link that stands at a name says.
 fn first_at_owner(apex: &Name, links: &[Link], name: &Name, rtype: Rtype) -> Option<Verdict>
-    ensures { option_map verdict_of result ≡ first_some (at_owner apex.now name.now rtype) links.now }
+    ensures { option_map verdict_of result
+        ≡ first_some (at_owner apex.now name.now rtype) links.now }
 {
     for link in links {
         if let Some(verdict) = link.at_owner(apex, name, rtype) {
@@ -216,7 +221,8 @@ fn first_covered(
     name: &Name,
     rtype: Rtype,
 ) -> Result<Option<Verdict>, AllocError>
-    ensures { IfOk result (λ v. option_map verdict_of v ≡ first_some (covered apex.now name.now rtype links.now) links.now) }
+    ensures { IfOk result (λ v. option_map verdict_of v
+        ≡ first_some (covered apex.now name.now rtype links.now) links.now) }
 {
     for link in links {
         if let Some(verdict) = link.covered(alloc, apex, links, name, rtype)? {
@@ -235,7 +241,8 @@ pub(crate) fn decide(
     name: &Name,
     rtype: Rtype,
 ) -> Result<Option<Verdict>, AllocError>
-    ensures { IfOk result (λ v. option_map verdict_of v ≡ decided apex.now answer links.now name.now rtype) }
+    ensures { IfOk result
+        (λ v. option_map verdict_of v ≡ decided apex.now answer links.now name.now rtype) }
 {
     if let Some(data) = answer {
         return Ok(Some(Verdict::Records(data)));

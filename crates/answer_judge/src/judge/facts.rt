@@ -38,8 +38,10 @@ pub(crate) fn read_facts<'a, C: Checks>(
 ) -> Result<Facts<'a>, AllocError>
     requires room { count.old + length records.now < 2 ^ 32 }
     requires other { (rtype == 47) ≡ false }
-    ensures answer { IfOk result (λ f. f.answer ≡ verified_rrset (held_by (C.answers checks.old) trust.now) pointer_limit message.now (map spelled records.now) name.now rtype) }
-    ensures links { IfOk result (λ f. f.links.items ≡ verified_links (held_by (C.answers checks.old) trust.now) pointer_limit message.now (map spelled records.now)) }
+    ensures answer { IfOk result (λ f. f.answer ≡ verified_rrset (held_by (C.answers checks.old)
+        trust.now) pointer_limit message.now (map spelled records.now) name.now rtype) }
+    ensures links { IfOk result (λ f. f.links.items ≡ verified_links (held_by (C.answers checks.old)
+        trust.now) pointer_limit message.now (map spelled records.now)) }
     ensures tried { IfOk result (λ _. count.new ≡ count.old
         + tries (held_by (C.answers checks.old) trust.now) pointer_limit message.now
         (answer_sought pointer_limit message.now trust.now.apex.now (map spelled records.now) name.now rtype)
@@ -62,7 +64,7 @@ fn asked_of(group: Option<Group>) -> Option<DataList>
     ensures { result ≡ data_verified group }
 {
     let group = group?;
-    if group.verified {
+    if group.verified.is_some() {
         return Some(DataList::new(group.items));
     }
     None
@@ -75,7 +77,8 @@ fn read_nsec_groups(
     message: &[u8],
     records: &[ViewRecord],
 ) -> Result<Vec<Group>, AllocError>
-    ensures { IfOk result (λ gs. AreGathered message.now apex.now (map spelled records.now) (map spelled records.now) gs.items) }
+    ensures { IfOk result (λ gs. AreGathered message.now apex.now
+        (map spelled records.now) (map spelled records.now) gs.items) }
 {
     let mut groups: Vec<Group> = Vec::new(alloc);
     for record in records {
@@ -96,7 +99,9 @@ fn read_nsec_group(
     records: &[ViewRecord],
     owner: &ParsedName,
 ) -> Result<Option<Group>, AllocError>
-    ensures { IfOk result (λ o. MatchOption o (stands_alone message.now apex.now (map spelled records.now) owner.now ≡ false) (λ g. (g.owner ≡ owner.now) × IsAlone message.now apex.now (map spelled records.now) g)) }
+    ensures { IfOk result (λ o. MatchOption o
+        (stands_alone message.now apex.now (map spelled records.now) owner.now ≡ false)
+        (λ g. (g.owner ≡ owner.now) × IsAlone message.now apex.now (map spelled records.now) g)) }
 {
     let owner = owner.to_name(alloc)?;
     if !owner.ends_with(apex) {
@@ -134,7 +139,7 @@ fn is_verified(groups: &[Group], owner: &ParsedName) -> bool
     ensures { result ≡ list_any (is_proved owner.now) groups.now }
 {
     for group in groups {
-        if group.verified && owner.name_eq(&group.owner) {
+        if group.verified.is_some() && owner.name_eq(&group.owner) {
             return true;
         }
     }
@@ -148,7 +153,8 @@ fn read_links<'a>(
     records: &[ViewRecord],
     groups: &[Group],
 ) -> Result<Vec<Link<'a>>, AllocError>
-    ensures { IfOk result (λ ls. ls.items ≡ filter_map (link_by message.now groups.now) (map spelled records.now)) }
+    ensures { IfOk result
+        (λ ls. ls.items ≡ filter_map (link_by message.now groups.now) (map spelled records.now)) }
 {
     let mut links = Vec::new(alloc);
     for record in records {

@@ -1,11 +1,12 @@
 //! RRsets of a message and the signatures that verify them (RFC 4035, 5.3).
-ghost use Rattle.std.specs.Prelude.{◌≡◌, ◌==◌, ◌&&◌, ◌+◌, ◌<◌, ◌≤◌, ◌^◌, [], ◌∷◌, true, false, IfOk, IfSome, MatchOption, length, map, filter, get_or};
+ghost use Rattle.std.specs.Prelude.{◌≡◌, ◌==◌, ◌&&◌, ◌+◌, ◌<◌, ◌≤◌, ◌^◌, [], ◌∷◌, true, false, None, IfOk, IfSome, MatchOption, length, map, filter, get_or};
 ghost use Rattle.definitions.specs.Limits.{pointer_limit};
 ghost use Rattle.messages.specs.Record.{spelled};
 ghost use Rattle.answer_judge.specs.Facts.{is_signature, is_due, fits_key, fields_read, signs};
 ghost use Rattle.answer_judge.specs.Verified.{datum_of, rrset_in};
 ghost use Rattle.answer_judge.specs.declared.judge.groups.Group.{Group};
-ghost use Rattle.answer_judge.specs.Marked.{held_by, is_of, are_apart, data_in, marked, is_tried_in, tries_in};
+ghost use Rattle.answer_judge.specs.Marked.{held_by, is_of, are_apart, data_in, marked, signed_of, is_tried_in, tries_in};
+ghost use Rattle.records.specs.Message.{if_true};
 ghost use Rattle.answer_judge.specs.Counted.{can_try, one_if};
 ghost use Rattle.std.specs.Option.{option_map};
 ghost use Rattle.std.specs.List.{find, list_any};
@@ -21,16 +22,27 @@ use denial_data::signed::signed_octets;
 use messages::ViewRecord;
 use messages::rdata::RrsigView;
 use records::names::{Name, ParsedName};
-use records::plain::{Class, Rtype};
+use records::plain::{Class, Rtype, SecurityAlgorithm, Ttl};
 use std::alloc::{AllocError, Global};
 
-/// An RRset of a message: its canonical data ascending, each once, and whether a signature verified it.
+/// What a signature says beside the RRset that it covers and the name that signs it (RFC 4034, 3.1).
+#[derive(Clone, Copy, Debug)]
+pub(crate) struct Signed {
+    pub(crate) algorithm: SecurityAlgorithm,
+    pub(crate) labels: u8,
+    pub(crate) ttl: Ttl,
+    pub(crate) expiration: u32,
+    pub(crate) inception: u32,
+    pub(crate) tag: u16,
+}
+
+/// An RRset of a message: its canonical data ascending, each once, and what the first signature says that verified it.
 #[derive(Debug, Drop)]
 pub(crate) struct Group {
     pub(crate) owner: Name,
     pub(crate) rtype: Rtype,
     pub(crate) items: Vec<Vec<u8>>,
-    pub(crate) verified: bool,
+    pub(crate) verified: Option<Signed>,
 }
 
 /// What signatures are held against: the apex, the keys that may sign, and the moment.
@@ -60,8 +72,9 @@ pub(crate) fn read_group(
 ) -> Result<Group, AllocError>
     ensures owner { IfOk result (λ g. g.owner ≡ owner.now) }
     ensures rtype { IfOk result (λ g. g.rtype ≡ rtype) }
-    ensures items { IfOk result (λ g. map (λ d. d.items) g.items.items ≡ rrset_in pointer_limit message.now (map spelled records.now) owner.now rtype) }
-    ensures unverified { IfOk result (λ g. g.verified ≡ false) }
+    ensures items { IfOk result (λ g. map (λ d. d.items) g.items.items
+        ≡ rrset_in pointer_limit message.now (map spelled records.now) owner.now rtype) }
+    ensures unverified { IfOk result (λ g. g.verified ≡ None) }
 {
     let mut items = Vec::new(alloc);
     for record in records {
@@ -73,7 +86,7 @@ pub(crate) fn read_group(
         owner: owner.try_clone(alloc)?,
         rtype,
         items,
-        verified: false,
+        verified: None,
     })
 }
 
@@ -85,7 +98,8 @@ fn datum_of(
     owner: &Name,
     rtype: Rtype,
 ) -> Result<Option<Vec<u8>>, AllocError>
-    ensures { IfOk result (λ o. option_map (λ v. v.items) o ≡ datum_of pointer_limit message.now owner.now rtype (spelled record.now)) }
+    ensures { IfOk result (λ o. option_map (λ v. v.items) o
+        ≡ datum_of pointer_limit message.now owner.now rtype (spelled record.now)) }
 {
     if record.class == Class::IN && record.rtype == rtype && record.owner.name_eq(owner) {
         return record.canonical_data(alloc, message);
@@ -106,7 +120,9 @@ pub(crate) fn verify_groups<C: Checks>(
 ) -> Result<(), AllocError>
     requires room { count.old + length records.now < 2 ^ 32 }
     requires apart { are_apart groups.old ≡ true }
-    ensures marked { IfOk result (λ _. groups.new ≡ map (marked (held_by (C.answers checks.old) trust.now) message.now (map spelled records.now)) groups.old) }
+    ensures marked { IfOk result
+        (λ _. groups.new ≡ map (marked (held_by (C.answers checks.old) trust.now) message.now
+        (map spelled records.now)) groups.old) }
     ensures tried { IfOk result (λ _. count.new ≡ count.old
         + tries_in (held_by (C.answers checks.old) trust.now) message.now groups.old (map spelled records.now)) }
     ensures counted { C.verified checks.new + count.old ≡ C.verified checks.old + count.new }
@@ -136,7 +152,9 @@ fn verify_record<C: Checks>(
     requires room { count.old + 1 < 2 ^ 32 }
     requires signature { is_signature (spelled record.now) ≡ true }
     requires apart { are_apart groups.old ≡ true }
-    ensures marked { IfOk result (λ _. groups.new ≡ map (marked (held_by (C.answers checks.old) trust.now) message.now (spelled record.now ∷ [])) groups.old) }
+    ensures marked { IfOk result
+        (λ _. groups.new ≡ map (marked (held_by (C.answers checks.old) trust.now) message.now
+        (spelled record.now ∷ [])) groups.old) }
     ensures tried { IfOk result (λ _. count.new ≡ count.old + one_if
         (is_tried_in (held_by (C.answers checks.old) trust.now) message.now groups.old (spelled record.now))) }
     ensures counted { C.verified checks.new + count.old ≡ C.verified checks.old + count.new }
@@ -152,7 +170,7 @@ fn verify_record<C: Checks>(
     };
     if let Some(place) = place_of(groups, &record.owner, signature.type_covered) {
         let group = &mut groups[place];
-        if !group.verified {
+        if group.verified.is_none() {
             group.verified = verifies(alloc, &signature, trust, group, checks, count)?;
         }
     }
@@ -162,7 +180,8 @@ fn verify_record<C: Checks>(
 /// The place of a group of an owner and a type.
 fn place_of(groups: &[Group], owner: &ParsedName, rtype: Rtype) -> Option<usize>
     ensures within { IfSome result (λ i. i < length groups.now) }
-    ensures found { MatchOption result (list_any (is_of owner.now rtype) groups.now ≡ false) (λ i. (g : Group) → g ≡ get_or groups.now i g → is_of owner.now rtype g ≡ true) }
+    ensures found { MatchOption result (list_any (is_of owner.now rtype) groups.now ≡ false)
+        (λ i. (g : Group) → g ≡ get_or groups.now i g → is_of owner.now rtype g ≡ true) }
 {
     for (i, group) in groups.iter().enumerate() {
         if group.is_of(owner, rtype) {
@@ -172,7 +191,7 @@ fn place_of(groups: &[Group], owner: &ParsedName, rtype: Rtype) -> Option<usize>
     None
 }
 
-/// Whether a signature verifies its group (RFC 4035, 5.3.1 and 5.3.3).
+/// What a signature says, if it verifies its group (RFC 4035, 5.3.1 and 5.3.3).
 fn verifies<C: Checks>(
     alloc: Global,
     signature: &RrsigView,
@@ -180,9 +199,13 @@ fn verifies<C: Checks>(
     group: &Group,
     checks: &mut C,
     count: &mut u32,
-) -> Result<bool, AllocError>
+) -> Result<Option<Signed>, AllocError>
     requires { count.old + 1 < 2 ^ 32 }
-    ensures signs { IfOk result (λ b. b ≡ signs (C.answers checks.old) trust.now.apex.now trust.now.keys.now trust.now.moment group.now.owner (map (λ d. d.items) group.now.items.items) (fields_read signature.now) signature.now.signature.now) }
+    ensures signs { IfOk result
+        (λ o. o ≡ if_true (signs (C.answers checks.old) trust.now.apex.now trust.now.keys.now
+        trust.now.moment group.now.owner (map (λ d. d.items) group.now.items.items)
+        (fields_read signature.now) signature.now.signature.now)
+        (signed_of (fields_read signature.now))) }
     ensures tried { IfOk result (λ _. count.new ≡ count.old + one_if
         (can_try (held_by (C.answers checks.old) trust.now) group.now.owner (data_in group.now) (fields_read signature.now))) }
     ensures counted { C.verified checks.new + count.old ≡ C.verified checks.old + count.new }
@@ -191,19 +214,37 @@ fn verifies<C: Checks>(
     ensures same { C.answers checks.new ≡ C.answers checks.old }
 {
     if group.items.is_empty() || !trust.is_due(signature, &group.owner) {
-        return Ok(false);
+        return Ok(None);
     }
     let Some(key) = trust.key(signature) else {
-        return Ok(false);
+        return Ok(None);
     };
     let octets = octets_of(alloc, signature, group)?;
     *count += 1;
-    Ok(checks.verify(key.dnskey(), &octets, signature.signature))
+    if checks.verify(key.dnskey(), &octets, signature.signature) {
+        return Ok(Some(signed_of(signature)));
+    }
+    Ok(None)
+}
+
+/// What a signature says beside the RRset and the name.
+fn signed_of(signature: &RrsigView) -> Signed
+    ensures { result ≡ signed_of (fields_read signature.now) }
+{
+    Signed {
+        algorithm: signature.algorithm,
+        labels: signature.labels,
+        ttl: signature.original_ttl,
+        expiration: signature.expiration,
+        inception: signature.inception,
+        tag: signature.key_tag,
+    }
 }
 
 /// What a signature of a group is made over (RFC 4034, 3.1.8.1).
 fn octets_of(alloc: Global, signature: &RrsigView, group: &Group) -> Result<Vec<u8>, AllocError>
-    ensures { IfOk result (λ v. v.items ≡ signed_octets (fields_read signature.now) group.now.owner 1 (map (λ d. d.items) group.now.items.items)) }
+    ensures { IfOk result (λ v. v.items ≡ signed_octets
+        (fields_read signature.now) group.now.owner 1 (map (λ d. d.items) group.now.items.items)) }
 {
     let fields = ProtoRrsig::new(
         signature.type_covered,
@@ -221,7 +262,8 @@ fn octets_of(alloc: Global, signature: &RrsigView, group: &Group) -> Result<Vec<
 impl<'a> Trust<'a> {
     /// Whether a signature is the apex's, holds at the moment, and counts the labels of an owner (RFC 4035, 5.3.1).
     fn is_due(&self, signature: &RrsigView, owner: &Name) -> bool
-        ensures { result ≡ is_due self.now.apex.now self.now.moment owner.now (fields_read signature.now) }
+        ensures { result
+            ≡ is_due self.now.apex.now self.now.moment owner.now (fields_read signature.now) }
     {
         signature.labels == owner.rrsig_label_count()
             && in_time(signature, self.moment)
@@ -230,7 +272,8 @@ impl<'a> Trust<'a> {
 
     /// The key of a signature's tag and algorithm.
     fn key(&self, signature: &RrsigView) -> Option<&TaggedKey<'a>>
-        ensures { option_map (λ k. k.now) result ≡ find (fits_key (fields_read signature.now)) self.now.keys.now }
+        ensures { option_map
+            (λ k. k.now) result ≡ find (fits_key (fields_read signature.now)) self.now.keys.now }
     {
         for key in self.keys {
             if key.tag() == signature.key_tag && key.dnskey().algorithm() == signature.algorithm {

@@ -1,7 +1,7 @@
 //! The keys of a DNSKEY answer, and which of them are trusted (RFC 4035, 5.2).
 ghost use Rattle.std.specs.Prelude.{◌≡◌, IfOk, filter, map};
 ghost use Rattle.std.specs.List.{list_any};
-ghost use Rattle.definitions.specs.Dnskey.{key_tag, digested};
+ghost use Rattle.definitions.specs.Dnskey.{key_tag};
 ghost use Rattle.answer_judge.specs.Facts.{is_usable, is_trusted, names_key};
 ghost use Rattle.answer_judge.specs.Judging.{clashes, has_equal_tags, key_at, keys_in};
 ghost use Rattle.records.specs.Message.{data_of};
@@ -89,7 +89,8 @@ pub(crate) fn read_keys<'a>(
     message: &'a [u8],
     records: &[ViewRecord],
 ) -> Result<Vec<TaggedKey<'a>>, AllocError>
-    ensures { IfOk result (λ ks. ks.items ≡ keys_in message.now apex.now (map spelled records.now)) }
+    ensures { IfOk result
+        (λ ks. ks.items ≡ keys_in message.now apex.now (map spelled records.now)) }
 {
     let mut keys = Vec::new(alloc);
     for record in records {
@@ -171,7 +172,8 @@ pub(crate) fn trusted_keys<'a, C: Checks>(
     keys: &'a [TaggedKey],
     checks: &mut C,
 ) -> Result<Vec<TaggedKey<'a>>, AllocError>
-    ensures trusted { IfOk result (λ ks. ks.items ≡ filter (is_trusted (C.answers checks.old) apex.now ds.now) keys.now) }
+    ensures trusted { IfOk result
+        (λ ks. ks.items ≡ filter (is_trusted (C.answers checks.old) apex.now ds.now) keys.now) }
     ensures verified { C.verified checks.new ≡ C.verified checks.old }
     ensures hashed { C.hashed checks.new ≡ C.hashed checks.old }
     ensures same { C.answers checks.new ≡ C.answers checks.old }
@@ -193,7 +195,8 @@ fn is_named<C: Checks>(
     key: &TaggedKey,
     checks: &mut C,
 ) -> Result<bool, AllocError>
-    ensures named { IfOk result (λ b. b ≡ list_any (names_key (C.answers checks.old) apex.now key.now) ds.now) }
+    ensures named { IfOk result
+        (λ b. b ≡ list_any (names_key (C.answers checks.old) apex.now key.now) ds.now) }
     ensures verified { C.verified checks.new ≡ C.verified checks.old }
     ensures hashed { C.hashed checks.new ≡ C.hashed checks.old }
     ensures same { C.answers checks.new ≡ C.answers checks.old }
@@ -214,7 +217,8 @@ fn names_key<C: Checks>(
     key: &TaggedKey,
     checks: &mut C,
 ) -> Result<bool, AllocError>
-    ensures named { IfOk result (λ b. b ≡ names_key (C.answers checks.old) apex.now key.now ds.now) }
+    ensures named { IfOk result
+        (λ b. b ≡ names_key (C.answers checks.old) apex.now key.now ds.now) }
     ensures verified { C.verified checks.new ≡ C.verified checks.old }
     ensures hashed { C.hashed checks.new ≡ C.hashed checks.old }
     ensures same { C.answers checks.new ≡ C.answers checks.old }
@@ -222,20 +226,10 @@ fn names_key<C: Checks>(
     if ds.key_tag() != key.tag() || ds.algorithm() != key.dnskey().algorithm() {
         return Ok(false);
     }
-    let octets = digested(alloc, apex, key.dnskey())?;
+    let octets = key.dnskey().digested(alloc, apex)?;
     match checks.digest(alloc, ds.digest_type(), &octets) {
         Ok(digest) => Ok(digest.as_slice() == ds.digest()),
         Err(SchemeError::Failed) => Ok(false),
         Err(SchemeError::Memory) => Err(AllocError),
     }
-}
-
-/// What a DS record's digest is made of: the owner in canonical form and the DNSKEY's data (RFC 4034, 5.1.4).
-fn digested(alloc: Global, apex: &Name, key: &Dnskey<&[u8]>) -> Result<Vec<u8>, AllocError>
-    ensures { IfOk result (λ v. v.items ≡ digested apex.now key.now) }
-{
-    let mut octets = Vec::new(alloc);
-    apex.compose_canonical(&mut octets)?;
-    key.compose(&mut octets)?;
-    Ok(octets)
 }

@@ -42,7 +42,11 @@ impl<'a, S: Scheme, H: Nsec3Hasher, L: Ledger, M: Ledger> SchemeChecks<'a, S, H,
 }
 
 impl<'a, S: Scheme, H: Nsec3Hasher, L: Ledger, M: Ledger> Checks for SchemeChecks<'a, S, H, L, M> {
-    ghost answers = { λ c. record { verifies = S.verifies c.scheme.now; hash = H.hash_of c.hasher.now; digest = S.digest_of c.scheme.now } };
+    ghost answers = { λ c. record {
+      verifies = S.verifies c.scheme.now;
+      hash = H.hash_of c.hasher.now;
+      digest = S.digest_of c.scheme.now;
+    } };
 
     ghost verified = { λ c. c.verified };
 

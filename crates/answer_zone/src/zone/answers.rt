@@ -42,7 +42,8 @@ impl ZoneRecords {
         rtype: Rtype,
     ) -> Result<ZoneAnswer, AllocError>
         requires { ((rtype == 47) || (rtype == 50)) ≡ false }
-        ensures { IfOk result (λ a. (hash : Name → List ℕ) → AnswersAs (served_of self.now.apex self.now.mode hash self.now.records) name.now rtype a) }
+        ensures { IfOk result (λ a. (hash : Name → List ℕ) → AnswersAs
+            (served_of self.now.apex self.now.mode hash self.now.records) name.now rtype a) }
     {
         match &self.mode {
             Mode::Nsec => self.nsec_answer(alloc, name, rtype),
@@ -59,7 +60,8 @@ impl ZoneRecords {
     ) -> Result<ZoneAnswer, AllocError>
         requires plain { ((rtype == 47) || (rtype == 50)) ≡ false }
         requires published { IsPublished self.now.apex self.now.records }
-        ensures { IfOk result (λ a. (hash : Name → List ℕ) → AnswersAs (served_of self.now.apex Nsec hash self.now.records) name.now rtype a) }
+        ensures { IfOk result (λ a. (hash : Name → List ℕ)
+            → AnswersAs (served_of self.now.apex Nsec hash self.now.records) name.now rtype a) }
     {
         let mut answer = Vec::new(alloc);
         if self.has(name, rtype) {
@@ -89,7 +91,10 @@ impl ZoneRecords {
 
     /// The SOA record, and the records of the chain that match or cover one of some names.
     fn denial(&self, alloc: Global, names: &[&Name]) -> Result<Vec<RrGroup>, AllocError>
-        ensures { IfOk result (λ gs. (hash : Name → List ℕ) → AllZip Presents gs.items (soa (served_of self.now.apex Nsec hash self.now.records) ∷ proofs_of (served_of self.now.apex Nsec hash self.now.records) (map (λ n. low n.now) names.now))) }
+        ensures { IfOk result (λ gs. (hash : Name → List ℕ)
+            → AllZip Presents gs.items (soa (served_of self.now.apex Nsec hash self.now.records)
+            ∷ proofs_of (served_of self.now.apex Nsec hash self.now.records)
+            (map (λ n. low n.now) names.now))) }
     {
         let mut groups = Vec::new(alloc);
         groups.push(self.soa(alloc)?)?;
@@ -99,7 +104,8 @@ impl ZoneRecords {
 
     /// The SOA record of the zone, its owner as spelled there.
     fn soa(&self, alloc: Global) -> Result<RrGroup, AllocError>
-        ensures { IfOk result (λ g. (hash : Name → List ℕ) → Presents g (soa (served_of self.now.apex Nsec hash self.now.records))) }
+        ensures { IfOk result (λ g. (hash : Name → List ℕ)
+            → Presents g (soa (served_of self.now.apex Nsec hash self.now.records))) }
     {
         let owner = match owner_among(&self.records, &self.apex, Rtype::SOA) {
             Some(owner) => owner,
@@ -117,7 +123,8 @@ impl ZoneRecords {
         rtype: Rtype,
         own: bool,
     ) -> Result<RrGroup, AllocError>
-        ensures { IfOk result (λ g. Presents g (rrset_of own self.now.apex self.now.records owner rtype)) }
+        ensures { IfOk result
+            (λ g. Presents g (rrset_of own self.now.apex self.now.records owner rtype)) }
     {
         let data = data_among(alloc, &self.records, &owner, rtype, own)?;
         let ttl = self.ttl_at(&owner, rtype);
@@ -127,7 +134,8 @@ impl ZoneRecords {
 
     /// The wildcard name under the closest encloser of a name that does not exist (RFC 4592, 3.3.1).
     fn closest_wildcard(&self, alloc: Global, name: &Name) -> Result<Name, AllocError>
-        ensures { IfOk result (λ s. low s ≡ star_under (kept_ancestor (zone_with self.now.apex self.now.records) false (low name.now))) }
+        ensures { IfOk result (λ s. low s ≡ star_under
+            (kept_ancestor (zone_with self.now.apex self.now.records) false (low name.now))) }
     {
         match self.closest_encloser(alloc, name)?.wildcard_child(alloc)? {
             Some(star) => Ok(star),
@@ -137,7 +145,8 @@ impl ZoneRecords {
 
     /// The longest proper ancestor of a name that exists, the root where none does.
     fn closest_encloser(&self, alloc: Global, name: &Name) -> Result<Name, AllocError>
-        ensures ancestor { IfOk result (λ e. low e ≡ kept_ancestor (zone_with self.now.apex self.now.records) false (low name.now)) }
+        ensures ancestor { IfOk result (λ e. low e
+            ≡ kept_ancestor (zone_with self.now.apex self.now.records) false (low name.now)) }
         ensures room { IfOk result (λ e. wire_len (star_under e) ≤ 255) }
     {
         let mut count = name.len();

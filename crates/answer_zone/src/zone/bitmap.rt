@@ -35,7 +35,8 @@ fn write_window(out: &mut Vec<u8>, types: &[u16], number: u8) -> Result<(), Allo
 /// How many octets a window has, up to the last that is not zero.
 fn window_len(types: &[u16], number: u8) -> u8
     ensures short { result ≤ 32 }
-    ensures octets { map (octet_of types.now number) (below result) ≡ window_octets types.now number }
+    ensures octets { map (octet_of types.now number) (below result)
+        ≡ window_octets types.now number }
 {
     if !has_window(types, number) {
         return 0;

@@ -78,7 +78,8 @@ fn any_star_delegation(records: &[HandedRecord]) -> bool
 }
 
 fn any_cut_or_star(apex: &Name, records: &[HandedRecord]) -> bool
-    ensures { result ≡ list_any (λ r. ((r.rtype == 2) && strictly_above apex.now r.owner) || has_star r.owner) records.now }
+    ensures { result ≡ list_any
+        (λ r. ((r.rtype == 2) && strictly_above apex.now r.owner) || has_star r.owner) records.now }
 {
     records.iter().any(|r| r.is_cut_or_star(apex))
 }

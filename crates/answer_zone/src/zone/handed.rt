@@ -33,7 +33,15 @@ impl Model for HandedRecord {
 
     ghost Value = { HandedRr };
 
-    ghost view = { λ r. record { owner = r.owner; class = r.class; ttl = r.ttl; rtype = r.rtype; is_unknown = r.is_unknown; written = r.written.items; bytes = r.canonical.items } };
+    ghost view = { λ r. record {
+      owner = r.owner;
+      class = r.class;
+      ttl = r.ttl;
+      rtype = r.rtype;
+      is_unknown = r.is_unknown;
+      written = r.written.items;
+      bytes = r.canonical.items;
+    } };
 }
 
 impl HandedRecord {
@@ -110,7 +118,8 @@ impl HandedRecord {
 
     /// The record for an answer, with its owner as spelled or without.
     pub fn grouped(&self, alloc: Global, own: bool) -> Result<GroupRecord, AllocError>
-        ensures { IfOk result (λ g. (owner : Name) → record_under owner self.now.rtype g ≡ spelled_by own owner self.now) }
+        ensures { IfOk result (λ g. (owner : Name)
+            → record_under owner self.now.rtype g ≡ spelled_by own owner self.now) }
     {
         let owner = if own {
             Some(self.owner.try_clone(alloc)?)
@@ -187,7 +196,8 @@ impl HandedRecord {
 
     /// Whether this is a delegation, or the owner has a wildcard label.
     pub fn is_cut_or_star(&self, apex: &Name) -> bool
-        ensures { result ≡ (((self.now.rtype == 2) && strictly_above apex.now self.now.owner) || has_star self.now.owner) }
+        ensures { result ≡ (((self.now.rtype == 2) && strictly_above apex.now self.now.owner)
+            || has_star self.now.owner) }
     {
         (self.rtype == Rtype::NS && self.owner.is_below(apex)) || self.owner.has_star()
     }

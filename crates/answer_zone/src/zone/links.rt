@@ -24,7 +24,9 @@ impl ZoneRecords {
         groups: &mut Vec<RrGroup>,
         names: &[&Name],
     ) -> Result<(), AllocError>
-        ensures { OnOk result ((hash : Name → List ℕ) → Adds groups.old.items groups.new.items (proofs_of (served_of self.now.apex Nsec hash self.now.records) (map (λ n. low n.now) names.now))) }
+        ensures { OnOk result ((hash : Name → List ℕ) → Adds groups.old.items groups.new.items
+            (proofs_of (served_of self.now.apex Nsec hash self.now.records)
+            (map (λ n. low n.now) names.now))) }
     {
         let Some(first) = self.records.first() else {
             return Ok(());
@@ -50,7 +52,8 @@ impl ZoneRecords {
         names: &[&Name],
     ) -> Result<(), AllocError>
         requires { Joins self.now.apex self.now.records owner.now next.now }
-        ensures { OnOk result (Adds groups.old.items groups.new.items (chosen self.now.apex self.now.records (map (λ n. low n.now) names.now) (low owner.now) (low next.now))) }
+        ensures { OnOk result (Adds groups.old.items groups.new.items (chosen self.now.apex
+            self.now.records (map (λ n. low n.now) names.now) (low owner.now) (low next.now))) }
     {
         if self.speaks_for_any(owner, next, names) {
             groups.push(self.nsec(alloc, owner, next)?)?;
@@ -60,7 +63,8 @@ impl ZoneRecords {
 
     /// Whether a link matches or covers one of some names.
     fn speaks_for_any(&self, owner: &Name, next: &Name, names: &[&Name]) -> bool
-        ensures { result ≡ link_speaks self.now.apex (map (λ n. low n.now) names.now) (low owner.now) (low next.now) }
+        ensures { result ≡ link_speaks self.now.apex
+            (map (λ n. low n.now) names.now) (low owner.now) (low next.now) }
     {
         for name in names {
             if self.speaks(owner, next, name) {
@@ -72,7 +76,8 @@ impl ZoneRecords {
 
     /// Whether a link matches or covers a name.
     fn speaks(&self, owner: &Name, next: &Name, name: &Name) -> bool
-        ensures { result ≡ (same owner.now name.now || covers (low self.now.apex) (low owner.now) (low next.now) (low name.now)) }
+        ensures { result ≡ (same owner.now name.now
+            || covers (low self.now.apex) (low owner.now) (low next.now) (low name.now)) }
     {
         match owner.name_cmp(name) {
             Ordering::Equal => true,
@@ -84,7 +89,8 @@ impl ZoneRecords {
     /// The NSEC record of a link.
     fn nsec(&self, alloc: Global, owner: &Name, next: &Name) -> Result<RrGroup, AllocError>
         requires { Joins self.now.apex self.now.records owner.now next.now }
-        ensures { IfOk result (λ g. Presents g (link_group self.now.apex self.now.records (low owner.now) (low next.now))) }
+        ensures { IfOk result (λ g. Presents g
+            (link_group self.now.apex self.now.records (low owner.now) (low next.now))) }
     {
         let octets = self.nsec_data(alloc, owner, next)?;
         let owner = self.first_spelled(owner).try_clone(alloc)?;
@@ -98,7 +104,8 @@ impl ZoneRecords {
     /// The data of a link's NSEC record: the next name as spelled, and the bits of the owner (RFC 4034, 4.1).
     fn nsec_data(&self, alloc: Global, owner: &Name, next: &Name) -> Result<Vec<u8>, AllocError>
         requires { Joins self.now.apex self.now.records owner.now next.now }
-        ensures { IfOk result (λ v. v.items ≡ link_data self.now.apex self.now.records (low owner.now) (low next.now)) }
+        ensures { IfOk result (λ v. v.items
+            ≡ link_data self.now.apex self.now.records (low owner.now) (low next.now)) }
     {
         let mut types = types_among(alloc, &self.records, owner)?;
         types.push(Rtype::RRSIG.to_int())?;

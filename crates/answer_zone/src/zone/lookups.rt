@@ -49,7 +49,8 @@ impl ZoneRecords {
     /// nothing is promised.
     pub fn spelled<'a>(&'a self, name: &'a Name) -> &'a Name
         ensures apex { IsTrue (same self.now.apex name.now) → result.now ≡ self.now.apex }
-        ensures owner { IsTrue (list_any (λ r. same r.owner name.now) self.now.records) → result.now ≡ spelled_as self.now.apex self.now.records (low name.now) }
+        ensures owner { IsTrue (list_any (λ r. same r.owner name.now) self.now.records)
+            → result.now ≡ spelled_as self.now.apex self.now.records (low name.now) }
     {
         if self.apex.name_eq(name) {
             return &self.apex;
@@ -62,7 +63,8 @@ impl ZoneRecords {
 
     /// An owner as its first record spells it. Of another name nothing is promised.
     pub fn first_spelled<'a>(&'a self, owner: &'a Name) -> &'a Name
-        ensures { IsTrue (list_any (λ r. same r.owner owner.now) self.now.records) → result.now ≡ spelled_among self.now.records (low owner.now) }
+        ensures { IsTrue (list_any (λ r. same r.owner owner.now) self.now.records)
+            → result.now ≡ spelled_among self.now.records (low owner.now) }
     {
         match spelled_among(&self.records, owner) {
             Some(first) => first,
@@ -87,7 +89,8 @@ pub(super) fn data_among(
     rtype: Rtype,
     own: bool,
 ) -> Result<RrsetData, AllocError>
-    ensures { IfOk result (λ d. HoldsRrset own name.now rtype records.now d.records.items d.canonical.items) }
+    ensures { IfOk result
+        (λ d. HoldsRrset own name.now rtype records.now d.records.items d.canonical.items) }
 {
     let mut found = Vec::new(alloc);
     let mut canonical = Vec::new(alloc);
@@ -109,7 +112,8 @@ pub(super) fn types_among(
     records: &[HandedRecord],
     name: &Name,
 ) -> Result<Vec<u16>, AllocError>
-    ensures { IfOk result (λ v. v.items ≡ map (λ r. r.rtype) (filter (λ r. same r.owner name.now) records.now)) }
+    ensures { IfOk result
+        (λ v. v.items ≡ map (λ r. r.rtype) (filter (λ r. same r.owner name.now) records.now)) }
 {
     let mut types = Vec::new(alloc);
     for record in records {

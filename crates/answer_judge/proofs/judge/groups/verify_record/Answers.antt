@@ -1,5 +1,6 @@
 use Rattle.std.proofs.Common.{◌≡◌, ◌==◌, true, false, refl, sym, ap, ◌∙◌}
-use Rattle.std.specs.Prelude.{Some}
+use Rattle.std.specs.Prelude.{Some, is_some, not}
+use Rattle.answer_judge.specs.declared.judge.groups.Group.{Group}
 use Rattle.std.specs.Option.{option_map}
 use Rattle.std.proofs.lemmas.Bool.{not-true, not-false}
 use Rattle.messages.specs.Record.{spelled, signature_of}
@@ -8,7 +9,7 @@ use Rattle.answer_judge.specs.Marked.{held_by}
 use Rattle.answer_judge.proofs.JudgeCounted.{count_again, count_class, count_none, count_now, count_unread}
 use Rattle.answer_judge.proofs.JudgeTried.{untried, tried_none, tried_now, tried_again, class_other, no_signature}
 use Rattle.answer_judge.proofs.judge.groups.verify_record.Goals as goal
-use Rattle.answer_judge.proofs.judge.groups.verify_record.Goals.{in-Some-place_of+then-not-group+in_ok-group, in-Some-place_of+else-not-group, in_default-place_of}
+use Rattle.answer_judge.proofs.judge.groups.verify_record.Goals.{in-Some-place_of+then-is_none+in_ok-group, in-Some-place_of+else-is_none, in_default-place_of}
 use Rattle.definitions.specs.Limits.{pointer_limit}
 
 pub returns-then-ne-clause-marked : goal.returns-then-ne-clause-marked
@@ -45,14 +46,14 @@ returns-clause-tried g c =
     let class : (r.class == 1) ≡ true = not-false _ (sym c.ne.ensures ∙ c.if-ne.false) in
     let read : rrsig_at pointer_limit m r ≡ Some (signature_of s) = sym c.in_ok-signature.ensures ∙ ap (option_map signature_of) c.in-Some.is in
     elim c.match-place_of.branch [
-      | in-Some-place_of+then-not-group+in_ok-group b ↦
+      | in-Some-place_of+then-is_none+in_ok-group b ↦
           let i = b.in-Some-place_of.place in
           let x = b.index-groups-place.result in
-          b.count-is ∙ count_now w m r s gs i x c.args.count.now _ read c.requires.signature class c.requires.apart b.in-Some-place_of.ensures.within b.index-groups-place.is (b.in-Some-place_of.ensures.found x b.index-groups-place.is) (ap (λ y. y.verified) b.index-groups-place.is ∙ b.if-not-group.true) b.in_ok-group.ensures.tried
-      | in-Some-place_of+else-not-group b ↦
+          b.count-is ∙ count_now w m r s gs i x c.args.count.now _ read c.requires.signature class c.requires.apart b.in-Some-place_of.ensures.within b.index-groups-place.is (b.in-Some-place_of.ensures.found x b.index-groups-place.is) (ap (λ (y : Group). is_some y.verified) b.index-groups-place.is ∙ b.is_none.ensures ∙ ap not b.if-is_none.true) b.in_ok-group.ensures.tried
+      | in-Some-place_of+else-is_none b ↦
           let i = b.in-Some-place_of.place in
           let x = b.index-groups-place.result in
-          b.count-is ∙ count_again w m r (signature_of s) gs i x c.args.count.now c.args.count.now read c.requires.signature class c.requires.apart b.in-Some-place_of.ensures.within b.index-groups-place.is (b.in-Some-place_of.ensures.found x b.index-groups-place.is) (ap (λ y. y.verified) b.index-groups-place.is ∙ b.if-not-group.false) refl
+          b.count-is ∙ count_again w m r (signature_of s) gs i x c.args.count.now c.args.count.now read c.requires.signature class c.requires.apart b.in-Some-place_of.ensures.within b.index-groups-place.is (b.in-Some-place_of.ensures.found x b.index-groups-place.is) (ap (λ (y : Group). is_some y.verified) b.index-groups-place.is ∙ b.is_none.ensures ∙ ap not b.if-is_none.false) refl
       | in_default-place_of b ↦ b.count-is ∙ count_none w m r (signature_of s) gs c.args.count.now c.args.count.now read c.requires.signature class b.in_default-place_of.ensures.found refl
     ]
 
@@ -66,13 +67,13 @@ returns-clause-marked g c =
     let class : (r.class == 1) ≡ true = not-false _ (sym c.ne.ensures ∙ c.if-ne.false) in
     let read : rrsig_at pointer_limit m r ≡ Some (signature_of s) = sym c.in_ok-signature.ensures ∙ ap (option_map signature_of) c.in-Some.is in
     elim c.match-place_of.branch [
-      | in-Some-place_of+then-not-group+in_ok-group w ↦
+      | in-Some-place_of+then-is_none+in_ok-group w ↦
           let i = w.in-Some-place_of.place in
           let x = w.index-groups-place.result in
-          w.groups-is ∙ tried_now (held_by (g.C.Checks.answers c.args.checks.now) c.args.trust.now) m r s gs i x w.in_ok-group.field-0 read c.requires.signature class c.requires.apart w.in-Some-place_of.ensures.within w.index-groups-place.is (w.in-Some-place_of.ensures.found x w.index-groups-place.is) (ap (λ y. y.verified) w.index-groups-place.is ∙ w.if-not-group.true) w.in_ok-group.ensures.signs
-      | in-Some-place_of+else-not-group w ↦
+          w.groups-is ∙ tried_now (held_by (g.C.Checks.answers c.args.checks.now) c.args.trust.now) m r s gs i x w.in_ok-group.field-0 read c.requires.signature class c.requires.apart w.in-Some-place_of.ensures.within w.index-groups-place.is (w.in-Some-place_of.ensures.found x w.index-groups-place.is) (ap (λ (y : Group). is_some y.verified) w.index-groups-place.is ∙ w.is_none.ensures ∙ ap not w.if-is_none.true) w.in_ok-group.ensures.signs
+      | in-Some-place_of+else-is_none w ↦
           let i = w.in-Some-place_of.place in
           let x = w.index-groups-place.result in
-          w.groups-is ∙ tried_again (held_by (g.C.Checks.answers c.args.checks.now) c.args.trust.now) m r (signature_of s) gs i x read c.requires.apart w.in-Some-place_of.ensures.within w.index-groups-place.is (w.in-Some-place_of.ensures.found x w.index-groups-place.is) (ap (λ y. y.verified) w.index-groups-place.is ∙ w.if-not-group.false)
+          w.groups-is ∙ tried_again (held_by (g.C.Checks.answers c.args.checks.now) c.args.trust.now) m r (signature_of s) gs i x read c.requires.apart w.in-Some-place_of.ensures.within w.index-groups-place.is (w.in-Some-place_of.ensures.found x w.index-groups-place.is) (ap (λ (y : Group). is_some y.verified) w.index-groups-place.is ∙ w.is_none.ensures ∙ ap not w.if-is_none.false)
       | in_default-place_of w ↦ w.groups-is ∙ tried_none (held_by (g.C.Checks.answers c.args.checks.now) c.args.trust.now) m r (signature_of s) gs read w.in_default-place_of.ensures.found
     ]

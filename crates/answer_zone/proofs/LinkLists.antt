@@ -1,0 +1,22 @@
+-- The links of records in order, one by one.
+use Rattle.std.specs.Prelude.{List, [], ◌∷◌, map, filter}
+use Rattle.std.specs.declared.cmp.Ordering.{Ordering}
+use Rattle.std.specs.declared.cmp.Ordering.TheVariants.{Less, Equal, Greater}
+use Rattle.definitions.specs.Name.{Name, low, name_cmp}
+use Rattle.records.specs.HandedRr.{HandedRr}
+use Rattle.answer_zone.specs.Links.{link_group, link_speaks}
+use Rattle.answer_zone.specs.Served.{Group}
+
+-- each with the next greater, the last with the first
+abbrev pub pairs : {A : Type 0} → (A → A → Ordering) → A → A → List A → List (A × A)
+pairs cmp first x [] = (x, first) ∷ []
+pairs cmp first x (y ∷ ys) = elim (cmp y x) [ Less ↦ pairs cmp first x ys | Equal ↦ pairs cmp first x ys | Greater ↦ (x, y) ∷ pairs cmp first y ys ]
+
+-- the links of records in order
+abbrev pub record_links : Name → List HandedRr → List (Name × Name)
+record_links first [] = []
+record_links first (r ∷ rs) = pairs name_cmp first (low r.owner) (map (λ s. low s.owner) rs)
+
+-- the records of some links that speak for one of some names
+abbrev pub proofs_among : Name → List HandedRr → List Name → List (Name × Name) → List Group
+proofs_among apex rs qs ls = map (λ (m : Name × Name). link_group apex rs m.0 m.1) (filter (λ (m : Name × Name). link_speaks apex qs m.0 m.1) ls)
