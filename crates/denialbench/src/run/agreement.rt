@@ -56,12 +56,14 @@ fn labels(alloc: Global, name: &str) -> Result<Vec<Octets>, Fail> {
 fn plain_zone(alloc: Global) -> Result<PlainZone, Fail> {
     let mut records = Vec::new(alloc);
     let soa = Octets::from_slice(alloc, SOA.as_bytes())?;
-    records.push(PlainRecord::new(labels(alloc, "example")?, 6, soa))?;
+    let apex = labels(alloc, "example")?;
+    records.push(PlainRecord::new(alloc, &apex, 6, soa)?)?;
     for (owner, rtype, data) in RECORDS {
         let bytes = Octets::from_slice(alloc, data.as_bytes())?;
-        records.push(PlainRecord::new(labels(alloc, owner)?, rtype, bytes))?;
+        let owner = labels(alloc, owner)?;
+        records.push(PlainRecord::new(alloc, &owner, rtype, bytes)?)?;
     }
-    Ok(PlainZone::new(labels(alloc, "example")?, records))
+    Ok(PlainZone::new(alloc, &apex, records)?)
 }
 
 fn session(alloc: Global) -> Result<String, Fail> {
