@@ -24,13 +24,14 @@ use Rattle.records.specs.HandedRr.{HandedRr}
 use Rattle.answer_zone.specs.Accepting.{IsAccepted, sorted_records}
 use Rattle.answer.specs.Bindings.{Call, ZoneKeys, apply, ds_set}
 use Rattle.answer_judge.specs.Judging.{answer_of, hashes_of, is_allowed, verifications_of}
-use Rattle.answer.specs.KeyCalls.{GivesKeys}
+use Rattle.answer.specs.KeyCalls.{Copied, Gives}
 use Rattle.answer_judge.specs.Meeting.{IsJudgement}
 use Rattle.records.specs.Message.{Asked}
 use Rattle.answer.specs.OneState.{Moment, VerdictAt, VerdictsAlong, moment, moments_with}
 use Rattle.answer.specs.Publishing.{digest_at}
 use Rattle.messages.specs.Questions.{asked_of}
-use Rattle.answer.specs.Simulating.{JudgesThings, OfKeys, OfParent, OfZone, Shown, ShowsAnswer, ShowsKeys, Simulates, Sofar, StepOf, World, begin, call_of, handing}
+use Rattle.answer.specs.Simulating.{JudgesThings, OfKeys, OfParent, OfZone, Shown, ShowsAnswer, ShowsKeys, Simulates, Sofar, StepOf, begin, call_of, handing}
+use Rattle.answer.specs.World.{World}
 use Rattle.messages.specs.WrittenLaws.{IsQuestion}
 use Rattle.answer.proofs.KeyLife.{apply_binds}
 use Rattle.answer.proofs.KeyTags.{apply_own, none_own, own_of}
@@ -92,7 +93,7 @@ judged_at w rs ms s at ds dnskey answer j zone stand h keys parent_at keys_at an
 
 -- ---- a step
 
-called : {X : Type 0} (view : X → List Action) (w : World) (s t : ZoneKeys) (c : Call) (at : ℕ) (r : Result X KeyFault) → AreLeft w s → GivesKeys view s t r (apply (digest_at w.answers.digest w.zone.apex) c at s) → AreLeft w t
+called : {X : Type 0} (view : X → List Action) (w : World) (s t : ZoneKeys) (c : Call) (at : ℕ) (r : Result X KeyFault) → AreLeft w s → Gives Copied view s t r (apply (digest_at w.answers.digest w.zone.apex) c at s) → AreLeft w t
 called view w s t c at (Ok x) left h = record {
   bound = apply_binds (digest_at w.answers.digest w.zone.apex) c at s t (view x) left.bound h;
   own = own_of (apply (digest_at w.answers.digest w.zone.apex) c at s) t (view x) (apply_own (digest_at w.answers.digest w.zone.apex) c at s left.own) h;

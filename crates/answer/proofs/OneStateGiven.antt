@@ -20,7 +20,8 @@ use Rattle.records.specs.Message.{Asked}
 use Rattle.answer.specs.OneState.{MeetsItself}
 use Rattle.answer.specs.Publishing.{digest_at, second_of}
 use Rattle.answer_zone.specs.Hashing.{served}
-use Rattle.answer.specs.Simulating.{ShowsAnswer, ShowsKeys, World, handing}
+use Rattle.answer.specs.Simulating.{ShowsAnswer, ShowsKeys, handing}
+use Rattle.answer.specs.World.{World}
 use Rattle.messages.specs.WrittenLaws.{IsQuestion}
 use Rattle.answer_zone.specs.ZoneView.{AcceptedZone}
 use Rattle.answer_judge.proofs.GivenKeys.{one_of_tag}

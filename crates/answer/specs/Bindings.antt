@@ -1,5 +1,5 @@
 -- Keys together with the DNSKEYs that their references are bound to, call by call.
-use Rattle.std.specs.Prelude.{ℕ, Bool, false, not, List, [], map, filter, Option, Some, None, Result, Ok, Err, if◌then◌else◌}
+use Rattle.std.specs.Prelude.{◌≡◌, ℕ, Bool, false, not, List, [], map, filter, Option, Some, None, Result, Ok, Err, if◌then◌else◌}
 use Rattle.std.specs.declared.cmp.Ordering.{Ordering}
 use Rattle.std.specs.Ordering.{nat_cmp}
 use Rattle.std.specs.Cmp.Lexicographic.{slice_cmp}
@@ -15,6 +15,7 @@ use Rattle.answer.specs.declared.publisher.keys.KeyKind.{KeyKind}
 use Rattle.answer.specs.declared.publisher.keys.KeyKind.TheVariants.{Ksk as KskKey, Zsk as ZskKey}
 use Rattle.keyset_rolls.specs.declared.rolls.RollType.{RollType}
 use Rattle.keyset_rolls.specs.declared.rolls.Action.{Action}
+use Rattle.keyset.specs.KeyState as key_set
 use Rattle.keyset.specs.KeyState.{KeySetState, Reference, reference_cmp, clear, new_key, Refusal, Answer, add, start, report1, report2, wait1, wait2, done, key_of, ksk_is, zsk_is, main_is, is_at_parent, is_present, signs}
 
 -- a call on the keys; an add names the key's private reference, algorithm and octets, and whether it is available
@@ -105,6 +106,17 @@ has_role publication.AtParent r = ksk_is is_at_parent r
 has_role publication.Present r = main_is is_present r
 has_role publication.SignsKeys r = ksk_is signs r
 has_role publication.SignsZone r = zsk_is signs r
+
+-- the references of such keys, as the key set lists them
+abbrev pub references_in : Publication → KeySetState → List Reference
+references_in publication.AtParent s = key_set.ds s
+references_in publication.Present s = key_set.present s
+references_in publication.SignsKeys s = key_set.keysigners s
+references_in publication.SignsZone s = key_set.zonesigners s
+
+-- they are those whose keys have the role
+abbrev pub ListsRoles : Type 0
+ListsRoles = (p : Publication) (s : KeySetState) → references_in p s ≡ key_set.references_where (has_role p) s
 
 -- a reference has a key with this role
 abbrev pub is_published : KeySetState → Publication → Reference → Bool

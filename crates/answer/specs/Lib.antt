@@ -11,3 +11,4 @@ pub mod Composed
 pub mod AnswerFaults
 pub mod Events
 pub mod Answering
+pub mod World

@@ -15,7 +15,8 @@ use Rattle.answer_judge.specs.Judging.{Says, answer_of}
 use Rattle.answer_judge.specs.Meeting.{Meet, holds}
 use Rattle.records.specs.Message.{Asked}
 use Rattle.answer.specs.Publishing.{second_of}
-use Rattle.answer.specs.Simulating.{OfZone, Simulates, Sofar, World, begin}
+use Rattle.answer.specs.Simulating.{OfZone, Simulates, Sofar, begin}
+use Rattle.answer.specs.World.{World}
 
 -- the keys and the time at which a thing was shown
 pub record Moment : Type 0 where

@@ -1,7 +1,7 @@
 -- What a simulation of a zone's life answers, event by event.
 use Rattle.std.specs.Prelude.{◌≡◌, ℕ, Bool, true, false, List, [], ◌∷◌, ◌++◌, map, length, Option, Some, slice_get, string_bytes}
 use Rattle.definitions.specs.Name.{Name}
-use Rattle.definitions.specs.Dnskey.{Dnskey, Ds}
+use Rattle.definitions.specs.Dnskey.{Ds}
 use Rattle.definitions.specs.Limits.{pointer_limit}
 use Rattle.answer.specs.declared.event.Event.{Event}
 use Rattle.answer.specs.declared.event.Act.{Act}
@@ -13,31 +13,16 @@ use Rattle.answer.specs.declared.event.Outcome.TheVariants as outcome
 use Rattle.answer.specs.declared.publisher.fault.AnswerFault.{AnswerFault}
 use Rattle.answer.specs.declared.publisher.fault.AnswerFault.TheVariants as refusal
 use Rattle.answer.specs.declared.publisher.keys.KeyKind.TheVariants.{Ksk, Zsk}
-use Rattle.answer.specs.declared.publisher.keys.Publication.TheVariants as publication
-use Rattle.answer_judge.specs.Answers.{Answers}
 use Rattle.records.specs.Message.{Asked}
 use Rattle.messages.specs.Questions.{asked_of}
 use Rattle.keyset.specs.KeyState.{text_of, is_available}
-use Rattle.answer.specs.Bindings.{ZoneKeys, Call, Add, Start, Report1, Wait1, Report2, Wait2, Finish, apply, no_keys, ds_set, published, dnskeys, keys_by_tag}
-use Rattle.answer.specs.KeyCalls.{GivesKeys}
-use Rattle.answer_zone.specs.ZoneView.{AcceptedZone}
+use Rattle.answer.specs.Bindings.{ZoneKeys, Call, Add, Start, Report1, Wait1, Report2, Wait2, Finish, apply, no_keys, ds_set}
+use Rattle.answer.specs.KeyCalls.{Copied, Gives}
 use Rattle.answer.specs.Publishing.{digest_at, second_of}
-use Rattle.answer_zone.specs.Hashing.{served}
-use Rattle.answer_judge.specs.Given as spelled
-use Rattle.answer.specs.Answering.{AnswersKeys, AnswersZone, RefusesAnswer, RefusesKeys}
+use Rattle.answer.specs.World.{World, AnswersKeysQuestion, AnswersQuestion, RefusesKeysQuestion, RefusesQuestion, SpellsAnswer, SpellsKeys}
 use Rattle.answer_judge.specs.Meeting.{IsJudgement}
 use Rattle.messages.specs.WrittenLaws.{IsQuestion}
 use Rattle.answer_judge.specs.Judging.{Handing, answer_of, verifications_of, hashes_of, is_allowed}
-
--- an accepted zone, how long its signatures hold, what its scheme signs, and what scheme and hasher answer a judge
-pub record World : Type 0 where
-  pub zone : AcceptedZone
-  pub life : ℕ
-  pub sign : Dnskey → List ℕ → Option (List ℕ)
-  pub answers : Answers
-
-abbrev pub world : AcceptedZone → ℕ → (Dnskey → List ℕ → Option (List ℕ)) → (Dnskey → List ℕ → List ℕ → Bool) → (ℕ → List ℕ → Option (List ℕ)) → (List ℕ → ℕ → ℕ → List ℕ → Option (List ℕ)) → World
-world zone life sign verifies digest hash = record { zone = zone; life = life; sign = sign; answers = record { verifies = verifies; digest = digest; hash = hash } }
 
 -- what was shown
 pub data Shown : Type 0 where
@@ -89,15 +74,11 @@ JudgesBytes w at _ keys answer asked o = o ≡ outcome.BadPlace
 
 -- the DNSKEY answer of these keys at a moment, whose bytes spell the keys and their signatures
 abbrev pub ShowsKeys : World → ZoneKeys → ℕ → List ℕ → Type 0
-ShowsKeys w keys at bytes =
-    AnswersKeys w.sign w.answers.verifies (served w.answers.hash w.zone) w.zone.apex (second_of at) w.life (dnskeys (published keys publication.Present)) (keys_by_tag keys publication.SignsKeys) bytes
-    × spelled.GivesKeys w.answers.verifies pointer_limit (served w.answers.hash w.zone) w.zone.apex (dnskeys (published keys publication.Present)) (dnskeys (published keys publication.SignsKeys)) (second_of at) w.life bytes
+ShowsKeys w keys at bytes = AnswersKeysQuestion w keys at bytes × SpellsKeys w keys at bytes
 
 -- the zone's answer to a question at a moment, signed by these keys, whose bytes spell its RRsets and their signatures
 abbrev pub ShowsAnswer : World → ZoneKeys → ℕ → Asked → List ℕ → Type 0
-ShowsAnswer w keys at asked bytes =
-    AnswersZone w.sign w.answers.verifies (served w.answers.hash w.zone) w.zone.apex (second_of at) w.life (keys_by_tag keys publication.SignsZone) asked bytes
-    × spelled.GivesAnswer w.answers.verifies pointer_limit (served w.answers.hash w.zone) w.zone.apex (dnskeys (published keys publication.SignsZone)) (second_of at) w.life asked bytes
+ShowsAnswer w keys at asked bytes = AnswersQuestion w keys at asked bytes × SpellsAnswer w keys at asked bytes
 
 -- a question that isn't allowed is refused so, and no other
 abbrev pub RefusesAsked : Bool → AnswerFault → Type 0
@@ -108,12 +89,12 @@ RefusesAsked allowed _ = allowed ≡ true
 -- takes the next place; a judgement is of what stands at its places. What is refused takes no place.
 abbrev pub StepOf : World → Sofar → ℕ → Act → Outcome → Sofar → Type 0
 StepOf w s at (act.Key c) (outcome.Key r) t =
-    GivesKeys (λ v. v.items) s.keys t.keys r (apply (digest_at w.answers.digest w.zone.apex) (call_of c) at s.keys) × (t.shown ≡ s.shown)
+    Gives Copied (λ v. v.items) s.keys t.keys r (apply (digest_at w.answers.digest w.zone.apex) (call_of c) at s.keys) × (t.shown ≡ s.shown)
 StepOf w s at act.ShowDs (outcome.Ds place set) t =
     (place ≡ length s.shown) × (set.items ≡ ds_set s.keys) × (t ≡ record s { shown = s.shown ++ OfParent set.items ∷ [] })
 StepOf w s at act.ShowDnskey (outcome.Message place octets) t =
     (place ≡ length s.shown) × ShowsKeys w s.keys at octets.items × (t ≡ record s { shown = s.shown ++ OfKeys octets.items ∷ [] })
-StepOf w s at act.ShowDnskey (outcome.Refused e) t = RefusesKeys w.sign w.answers.verifies (served w.answers.hash w.zone) w.zone.apex (second_of at) w.life (dnskeys (published s.keys publication.Present)) (keys_by_tag s.keys publication.SignsKeys) e × (t ≡ s)
+StepOf w s at act.ShowDnskey (outcome.Refused e) t = RefusesKeysQuestion w s.keys at e × (t ≡ s)
 StepOf w s at (act.Ask q) (outcome.Message place octets) t =
     (place ≡ length s.shown)
     × (is_allowed w.zone.apex (asked_of q) ≡ true)
@@ -122,7 +103,7 @@ StepOf w s at (act.Ask q) (outcome.Message place octets) t =
     × (t ≡ record s { shown = s.shown ++ OfZone (asked_of q) octets.items ∷ [] })
 StepOf w s at (act.Ask q) (outcome.Refused e) t =
     RefusesAsked (is_allowed w.zone.apex (asked_of q)) e
-    × RefusesAnswer w.sign w.answers.verifies (served w.answers.hash w.zone) w.zone.apex (second_of at) w.life (keys_by_tag s.keys publication.SignsZone) (asked_of q) e
+    × RefusesQuestion w s.keys at (asked_of q) e
     × (t ≡ s)
 StepOf w s at (act.Judge ds keys answer) o t = JudgesThings w at (slice_get s.shown ds) (slice_get s.shown keys) (slice_get s.shown answer) o × (t ≡ s)
 StepOf w s at (act.JudgeBytes ds keys answer q) o t = JudgesBytes w at (slice_get s.shown ds) keys.items answer.items (asked_of q) o × (t ≡ s)

@@ -12,6 +12,3 @@ pub use keyset;
 pub use messages as message;
 pub use messages::question;
 pub use records::{names, plain};
-
-#[cfg(test)]
-mod tests;

@@ -8,7 +8,8 @@ ghost use Rattle.answer_zone.specs.ZoneView.{mode_of};
 ghost use Rattle.records.specs.HandedRr.{handed_of};
 ghost use Rattle.answer.specs.Events.{added_octets};
 ghost use Rattle.answer.specs.OneState.{SaysVerdicts};
-ghost use Rattle.answer.specs.Simulating.{Sofar, Simulates, begin, world};
+ghost use Rattle.answer.specs.Simulating.{Sofar, Simulates, begin};
+ghost use Rattle.answer.specs.World.{world_by, zone_by};
 
 use crate::event::{Event, Outcome};
 use crate::publisher::fault::{Mode, ZoneFault};
@@ -41,31 +42,22 @@ pub fn simulate<S: Scheme, H: Nsec3Hasher>(
     requires life { life < 2 ^ 31 }
     requires keys { All (λ e. added_octets e ≤ 65531) events.now }
     ensures each { IfOk result (λ outcomes. length outcomes.items ≡ length events.now) }
-    ensures simulates { IfOk result (λ outcomes. (end : Sofar)
-        × Simulates (world (record {
-          apex = apex;
-          mode = mode_of mode;
-          limit = limit;
-          records = sorted_records (map handed_of records.items);
-        }) life (S.signature_of scheme.now)
-        (S.verifies scheme.now) (S.digest_of scheme.now) (H.hash_of hasher.now))
-        (begin apex) events.now outcomes.items end) }
+    ensures simulates { let rs = map handed_of records.items in
+        let by = world_by S.signature_of S.verifies S.digest_of H.hash_of scheme.now hasher.now in
+        let w = by (zone_by apex (mode_of mode) limit rs) life in
+        IfOk result (λ outcomes. (end : Sofar)
+        × Simulates w (begin apex) events.now outcomes.items end) }
     // A judgement of things of one state of the keys, which meet, says the zone's verdict while the signatures hold.
-    ensures one_state { IfOk result
-        (λ outcomes. SaysVerdicts (world (record {
-          apex = apex;
-          mode = mode_of mode;
-          limit = limit;
-          records = sorted_records (map handed_of records.items);
-        }) life (S.signature_of scheme.now)
-        (S.verifies scheme.now) (S.digest_of scheme.now) (H.hash_of hasher.now))
-        (map handed_of records.items) events.now outcomes.items) }
-    ensures accepted { IfOk result
-        (λ outcomes. IsAccepted apex (mode_of mode) limit (map handed_of records.items)) }
+    ensures one_state { let rs = map handed_of records.items in
+        let by = world_by S.signature_of S.verifies S.digest_of H.hash_of scheme.now hasher.now in
+        let w = by (zone_by apex (mode_of mode) limit rs) life in
+        IfOk result (λ outcomes. SaysVerdicts w rs events.now outcomes.items) }
+    ensures accepted { let rs = map handed_of records.items in
+        IfOk result (λ outcomes. IsAccepted apex (mode_of mode) limit rs) }
     ensures handed { IfOk result
         (λ outcomes. IsName apex × AllByRecursion IsHanded (map handed_of records.items)) }
-    ensures fault { IfErr result (λ f. (f ≡ ZoneFault.Memory)
-        ⊎ IsFault apex (mode_of mode) limit (map handed_of records.items) f) }
+    ensures fault { let rs = map handed_of records.items in
+        IfErr result (λ f. (f ≡ ZoneFault.Memory) ⊎ IsFault apex (mode_of mode) limit rs f) }
 {
     let publisher = Publisher::new(alloc, apex, records, mode, scheme, hasher, limit, life)?;
     let mut run = Run::new(alloc, publisher, limit);

@@ -107,7 +107,7 @@ gives_is false o h = refl
 gives_is true None h = h refl
 gives_is true (Some f) h = refl
 
-gate_none : (b : Bool) → elim b as (λ _. Bool) [ false ↦ false | true ↦ false ] ≡ false
+pub gate_none : (b : Bool) → elim b as (λ _. Bool) [ false ↦ false | true ↦ false ] ≡ false
 gate_none true = refl
 gate_none false = refl
 
@@ -122,7 +122,7 @@ with_read w m o t items r h =
     ] in
     go (rrsig_at pointer_limit m r) refl
 
-with_is : (w : Trusting) (m : List ℕ) (o : Name) (t : ℕ) (items : List (List ℕ)) (r : Spelled) → is_some (verified_with w pointer_limit m o t items r) ≡ verifies_with w pointer_limit m o t items r
+pub with_is : (w : Trusting) (m : List ℕ) (o : Name) (t : ℕ) (items : List (List ℕ)) (r : Spelled) → is_some (verified_with w pointer_limit m o t items r) ≡ verifies_with w pointer_limit m o t items r
 with_is w m o t items r = gives_is (verifies_with w pointer_limit m o t items r) (rrsig_at pointer_limit m r) (with_read w m o t items r)
 
 rest_is : (x y : Option Fields) → is_some (or_rest x y) ≡ (is_some x || is_some y)

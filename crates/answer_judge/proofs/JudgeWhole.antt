@@ -1,5 +1,6 @@
 -- What a judge says, from what it read and verified.
 use Rattle.std.proofs.Common.{◌≡◌, ℕ, Bool, true, false, not, ◌&&◌, List, map, filter, length, inr, sym, ap, subst, ◌∙◌}
+use Rattle.std.proofs.lemmas.Bool.{false≢true}
 use Rattle.std.specs.Prelude.{Option, Some, None, Result, Ok, Err, nat_eq, if◌then◌else◌}
 use Rattle.std.specs.Option.{option_map, ok_or}
 use Rattle.definitions.specs.Dnskey.{Dnskey, dnskey_data}
@@ -10,7 +11,7 @@ use Rattle.answer_judge.specs.Facts.{Link, is_usable, is_trusted, decided, Refus
 use Rattle.answer_judge.specs.declared.judge.verdict.Verdict.{Verdict as CodeVerdict}
 use Rattle.answer_judge.specs.declared.judge.verdict.Refusal.{Refusal}
 use Rattle.answer_judge.specs.declared.judge.verdict.Refusal.TheVariants as r
-use Rattle.answer_judge.specs.Judging.{Answer, Refuses, Handing, is_allowed, same_question, has_equal_tags, first_refusal, message_refusal, keys_in, verdict_of, AnswersFirst}
+use Rattle.answer_judge.specs.Judging.{Answer, Refuses, Handing, is_allowed, same_question, has_equal_tags, first_refusal, message_refusal, keys_in, verdict_of, AnswersFirst, IsRead}
 use Rattle.records.specs.declared.message.MessageError.{MessageError}
 use Rattle.records.specs.Message.{Message, Spelled, message}
 use Rattle.answer_judge.specs.Verified.{is_verified, verified_rrset, verified_links}
@@ -63,43 +64,43 @@ answered (Some v) e h = inr h
 
 -- ---- first refusals
 
-neither : (a b : Bool) → (if a then Some r.QuestionMismatch else if b then Some r.EqualTags else None) ≡ Some r.QuestionNotAllowed → ⊥
-neither true b t = cc
-neither false true t = cc
-neither false false t = cc
+-- both messages were read and ask what they should
+tags_alone : (a b : Bool) → a ≡ false → IsRead (if a then Some r.QuestionMismatch else if b then Some r.EqualTags else None)
+tags_alone true b h = absurd (false≢true (sym h))
+tags_alone false true h = tt
+tags_alone false false h = tt
 
-not_of : (h : Handing) (x z : Result Message MessageError) → elim x as (λ _. Option Refusal) [
-  | Err e ↦ Some r.BadDnskeyMessage
-  | Ok keys ↦ elim z as (λ _. Option Refusal) [
-    | Err e ↦ Some r.BadAnswerMessage
-    | Ok answer ↦
-        if not (same_question keys.asked (record { name = h.apex; rtype = 48; class = 1 }) && same_question answer.asked h.asked) then Some r.QuestionMismatch
-        else if has_equal_tags (keys_in h.dnskey_bytes h.apex keys.records) then Some r.EqualTags
-        else None
-  ]
-] ≡ Some r.QuestionNotAllowed → ⊥
-not_of h (Err e) z t = cc
-not_of h (Ok keys) (Err e) t = cc
-not_of h (Ok keys) (Ok answer) t = neither (not (same_question keys.asked (record { name = h.apex; rtype = 48; class = 1 }) && same_question answer.asked h.asked)) (has_equal_tags (keys_in h.dnskey_bytes h.apex keys.records)) t
+asked_both : (a b : Bool) → a ≡ true → b ≡ true → not (a && b) ≡ false
+asked_both a b h k = λ i. not (h i && k i)
 
-not_question : (k : ℕ) (h : Handing) → message_refusal k h ≡ Some r.QuestionNotAllowed → ⊥
-not_question k h q = not_of h (message k h.dnskey_bytes) (message k h.answer_bytes) q
+pub read_both : (k : ℕ) (h : Handing) (keys answer : Message) → message k h.dnskey_bytes ≡ Ok keys → message k h.answer_bytes ≡ Ok answer
+    → same_question keys.asked (record { name = h.apex; rtype = 48; class = 1 }) ≡ true → same_question answer.asked h.asked ≡ true → IsRead (message_refusal k h)
+read_both k h keys answer d z asks_keys asks_answer =
+    let asked : Message → Message → Option Refusal = λ keys answer.
+    if not (same_question keys.asked (record { name = h.apex; rtype = 48; class = 1 }) && same_question answer.asked h.asked) then Some r.QuestionMismatch
+    else if has_equal_tags (keys_in h.dnskey_bytes h.apex keys.records) then Some r.EqualTags
+    else None in
+    let is : message_refusal k h ≡ asked keys answer = λ i. elim (d i) as (λ _. Option Refusal) [
+      | Err e ↦ Some r.BadDnskeyMessage
+      | Ok keys ↦ elim (z i) as (λ _. Option Refusal) [ Err e ↦ Some r.BadAnswerMessage | Ok answer ↦ asked keys answer ]
+    ] in
+    subst IsRead (sym is) (tags_alone _ (has_equal_tags (keys_in h.dnskey_bytes h.apex keys.records)) (asked_both _ _ asks_keys asks_answer))
 
 -- beside a question that is allowed and a DS set that isn't empty
-first_kept : (e : Refusal) (m : Option Refusal) → (m ≡ Some r.QuestionNotAllowed → ⊥) → RefusesFirst e m → AnswersFirst (Refuses e) m
-first_kept r.QuestionNotAllowed m never h = h
-first_kept r.BadDnskeyMessage m never h = h
-first_kept r.BadAnswerMessage m never h = h
-first_kept r.QuestionMismatch m never h = h
-first_kept r.EqualTags m never h = h
-first_kept r.NoTrustedKey m never h = h
-first_kept r.MixedNsec3Parameters m never h = h
-first_kept r.IterationsOverLimit m never h = h
-first_kept r.HashFailed m never h = h
-first_kept r.NotProven m never h = h
-first_kept r.Memory m never h = never
+first_kept : (e : Refusal) (m : Option Refusal) → RefusesFirst e m → AnswersFirst (Refuses e) m
+first_kept r.QuestionNotAllowed m h = h
+first_kept r.BadDnskeyMessage m h = h
+first_kept r.BadAnswerMessage m h = h
+first_kept r.QuestionMismatch m h = h
+first_kept r.EqualTags m h = h
+first_kept r.NoTrustedKey m h = h
+first_kept r.MixedNsec3Parameters m h = h
+first_kept r.IterationsOverLimit m h = h
+first_kept r.HashFailed m h = h
+first_kept r.NotProven m h = h
+first_kept r.Memory m h = h
 
 pub refuses_first : (k : ℕ) (h : Handing) (e : Refusal) → is_allowed h.apex h.asked ≡ true → nat_eq (length h.ds) 0 ≡ false → RefusesFirst e (message_refusal k h) → AnswersFirst (Refuses e) (first_refusal k h)
 refuses_first k h e allowed some first =
     let is : first_refusal k h ≡ message_refusal k h = (λ i. if not (allowed i) then Some r.QuestionNotAllowed else if some i then None else message_refusal k h) in
-    subst (AnswersFirst (Refuses e)) (sym is) (first_kept e (message_refusal k h) (not_question k h) first)
+    subst (AnswersFirst (Refuses e)) (sym is) (first_kept e (message_refusal k h) first)

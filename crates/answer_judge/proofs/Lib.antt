@@ -29,3 +29,4 @@ pub mod JudgeCounted
 pub mod JudgeSought
 pub mod JudgeTotals
 pub mod GivenGroups
+pub mod FirstSigns

@@ -11,7 +11,7 @@ use Rattle.definitions.specs.Zone.{Verdict, Records, NoType, NoName, StarNoType,
 use Rattle.answer_judge.specs.Answers.{Answers}
 use Rattle.answer_judge.specs.declared.judge.verdict.Refusal.{Refusal}
 use Rattle.answer_judge.specs.declared.judge.verdict.Refusal.TheVariants as r
-use Rattle.answer_judge.specs.Judging.{Handing, is_first}
+use Rattle.answer_judge.specs.Judging.{Handing, IsRead, is_first}
 use Rattle.records.specs.Message.{Spelled, Asked}
 use Rattle.messages.specs.declared.rdata.RrsigView.{RrsigView}
 
@@ -141,9 +141,9 @@ decided apex None fs q t = denied apex q t fs
 -- ---- first refusals
 
 -- Beside a DS set that isn't empty a refusal is the first that the messages bring, or comes where they bring none;
--- memory may run out anywhere.
+-- memory may run out once they are read.
 abbrev pub RefusesFirst : Refusal → Option Refusal → Type 0
-RefusesFirst r.Memory first = Unit {0}
+RefusesFirst r.Memory first = IsRead first
 RefusesFirst e first = MatchBool (is_first e) (first ≡ Some e) (first ≡ None)
 
 abbrev pub handed : Name → List Ds → List ℕ → List ℕ → Asked → ℕ → ℕ → Handing

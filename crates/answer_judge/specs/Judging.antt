@@ -106,10 +106,17 @@ is_first r.QuestionMismatch = true
 is_first r.EqualTags = true
 is_first _ = false
 
--- An answer is such a refusal exactly where it is the first, but that memory may run out after the question was allowed.
+-- Both messages are read, and their questions compared, without memory: where it ran out, the messages bring no other
+-- refusal than that of equal tags.
+abbrev pub IsRead : Option Refusal → Type 0
+IsRead None = Unit {0}
+IsRead (Some r.EqualTags) = Unit {0}
+IsRead (Some e) = ⊥
+
+-- An answer is such a refusal exactly where it is the first, but that memory may run out after the messages were read.
 abbrev pub AnswersFirst : Answer → Option Refusal → Type 0
 AnswersFirst (Says w) first = first ≡ None
-AnswersFirst (Refuses r.Memory) first = first ≡ Some r.QuestionNotAllowed → ⊥
+AnswersFirst (Refuses r.Memory) first = IsRead first
 AnswersFirst (Refuses e) first = MatchBool (is_first e) (first ≡ Some e) (first ≡ None)
 
 -- with no DS there is nothing to check, whatever the bytes

@@ -7,3 +7,4 @@ pub mod Marked
 pub mod Judged
 pub mod Meeting
 pub mod Counted
+pub mod FirstSignature

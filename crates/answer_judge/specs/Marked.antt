@@ -6,7 +6,7 @@ use Rattle.definitions.specs.Limits.{pointer_limit}
 use Rattle.answer_judge.specs.Answers.{Answers}
 use Rattle.answer_judge.specs.Counted.{can_try, one_if}
 use Rattle.definitions.specs.Signing.{Fields}
-use Rattle.answer_judge.specs.Facts.{Link, is_signature}
+use Rattle.answer_judge.specs.Facts.{Link, is_signature, signs}
 use Rattle.records.specs.Message.{Spelled, if_true, rrsig_at}
 use Rattle.answer_judge.specs.Verified.{Trusting, verified_by, rrset_in, link_of}
 use Rattle.answer_judge.specs.declared.judge.groups.Signed.{Signed}
@@ -56,6 +56,10 @@ marked_if s g = record { owner = g.owner; rtype = g.rtype; items = g.items; veri
 -- verified as it was, or as the first of the records says that verifies it
 abbrev pub marked : Trusting → List ℕ → List Spelled → Group → Group
 marked w m rs g = marked_if (option_map signed_of (verified_by w pointer_limit m rs g.owner g.rtype (data_in g))) g
+
+-- a signature verifies a group's data
+abbrev pub signs_group : Trusting → Group → Fields → List ℕ → Bool
+signs_group w g f signature = signs w.answers w.apex w.keys w.now g.owner (data_in g) f signature
 
 -- ---- signatures that are tried
 

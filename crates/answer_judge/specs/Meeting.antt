@@ -1,5 +1,5 @@
 -- Keys that meet, and what is handed to a judge from one zone under such keys.
-use Rattle.std.specs.Prelude.{◌≡◌, ℕ, ◌+◌, ◌%◌, ◌<◌, Bool, true, false, ◌&&◌, List, Contains, Some}
+use Rattle.std.specs.Prelude.{◌≡◌, ℕ, ◌+◌, ◌%◌, ◌<◌, Bool, true, false, ◌&&◌, List, Contains, Some, Result}
 use Rattle.std.specs.List.{AllByRecursion}
 use Rattle.definitions.specs.Name.{Name, IsName}
 use Rattle.definitions.specs.Dnskey.{Dnskey, Ds, key_tag, digested}
@@ -12,7 +12,9 @@ use Rattle.answer_judge.specs.Answers.{Answers}
 use Rattle.answer_judge.specs.Facts.{is_usable}
 use Rattle.answer_judge.specs.Given.{GivesKeys, GivesAnswer}
 use Rattle.records.specs.Handed.{IsHanded}
-use Rattle.answer_judge.specs.Judging.{Answer, Says, Handing, Judges, is_allowed, has_equal_tags}
+use Rattle.answer_judge.specs.Judging.{Answer, Says, Handing, Judges, answer_of, verifications_of, hashes_of, is_allowed, has_equal_tags}
+use Rattle.answer_judge.specs.declared.judge.verdict.Judgement.{Judgement}
+use Rattle.answer_judge.specs.declared.judge.verdict.Refused.{Refused}
 use Rattle.answer_judge.specs.Judged.{AnswersAs, judged}
 use Rattle.answer_judge.specs.Counted.{Counts, verifications_due}
 use Rattle.answer_zone.specs.Hashing.{served}
@@ -91,3 +93,7 @@ pub record IsJudgement (k : ℕ) (a : Answers) (h : Handing) (answer : Answer) (
   pub counts : Counts answer verifications (verifications_due a k h)
   pub no_hashes : hashes ≡ 0
   pub given : AnswersGiven a k h answer
+
+-- the code's answer is one
+abbrev pub JudgesSo : ℕ → Answers → Handing → Result Judgement Refused → Type 0
+JudgesSo k a h result = IsJudgement k a h (answer_of result) (verifications_of result) (hashes_of result)

@@ -8,7 +8,7 @@ ghost use Rattle.messages.specs.Record.{spelled};
 ghost use Rattle.answer_judge.specs.Counted.{Counts, keys_sought, tries, tries_beyond, verifications_due};
 ghost use Rattle.answer_judge.specs.Verified.{is_verified};
 ghost use Rattle.answer_judge.specs.Marked.{held_by};
-ghost use Rattle.records.specs.Message.{message};
+ghost use Rattle.records.specs.Message.{Asked, message};
 ghost use Rattle.records.specs.View.{Gives};
 ghost use Rattle.answer_judge.specs.Facts.{is_signature, RefusesFirst, handed};
 ghost use Rattle.answer_judge.specs.Judged.{judged, judged_beyond, said, AnswersAs};
@@ -20,8 +20,6 @@ mod decide;
 mod facts;
 mod groups;
 mod keys;
-#[cfg(test)]
-mod tests;
 pub mod verdict;
 
 use crate::judge::decide::decide;
@@ -54,17 +52,19 @@ pub fn judge<C: Checks>(
     checks: &mut C,
     limit: u16,
 ) -> Result<Judgement, Refused>
-    ensures judges { Judges pointer_limit
-        (handed apex.now ds.now dnskey_bytes.now answer_bytes.now (asked_of question.now) now limit)
-        (answer_of result) (verifications_of result) (hashes_of result) }
-    ensures exact { AnswersAs (answer_of result) (judged (C.answers checks.old) pointer_limit
-        (handed apex.now ds.now dnskey_bytes.now answer_bytes.now (asked_of question.now) now limit)) }
-    ensures given { AnswersGiven (C.answers checks.old) pointer_limit
-        (handed apex.now ds.now dnskey_bytes.now answer_bytes.now (asked_of question.now) now limit)
-        (answer_of result) }
-    ensures counts { Counts (answer_of result) (verifications_of result)
-        (verifications_due (C.answers checks.old) pointer_limit
-        (handed apex.now ds.now dnskey_bytes.now answer_bytes.now (asked_of question.now) now limit)) }
+    ensures judges { let asked = asked_of question.now in
+        let h = handed apex.now ds.now dnskey_bytes.now answer_bytes.now asked now limit in
+        Judges pointer_limit h (answer_of result) (verifications_of result) (hashes_of result) }
+    ensures exact { let asked = asked_of question.now in
+        let h = handed apex.now ds.now dnskey_bytes.now answer_bytes.now asked now limit in
+        AnswersAs (answer_of result) (judged (C.answers checks.old) pointer_limit h) }
+    ensures given { let asked = asked_of question.now in
+        let h = handed apex.now ds.now dnskey_bytes.now answer_bytes.now asked now limit in
+        AnswersGiven (C.answers checks.old) pointer_limit h (answer_of result) }
+    ensures counts { let asked = asked_of question.now in
+        let h = handed apex.now ds.now dnskey_bytes.now answer_bytes.now asked now limit in
+        let due = verifications_due (C.answers checks.old) pointer_limit h in
+        Counts (answer_of result) (verifications_of result) due }
     ensures no_hashes { hashes_of result ≡ 0 }
     ensures verified { C.verified checks.new ≡ C.verified checks.old + verifications_of result }
     ensures hashed { C.hashed checks.new ≡ C.hashed checks.old + hashes_of result }
@@ -137,18 +137,22 @@ fn judge_messages<C: Checks>(
 ) -> Result<Verdict, Refusal>
     requires counts { count.old ≡ 0 }
     requires other { (question.now.rtype == 47) ≡ false }
-    ensures exact { AnswersAs (said result) (judged_beyond (C.answers checks.old) pointer_limit
-        (handed apex.now ds.now dnskey_bytes.now answer_bytes.now (asked_of question.now) now 0)) }
-    ensures counts { Counts (said result) count.new
-        (tries_beyond (C.answers checks.old) pointer_limit
-        (handed apex.now ds.now dnskey_bytes.now answer_bytes.now (asked_of question.now) now 0)) }
-    ensures verdict { OnOk result (message_refusal pointer_limit (handed apex.now
-        ds.now dnskey_bytes.now answer_bytes.now (asked_of question.now) now 0) ≡ None) }
-    ensures refusal { IfErr result (λ e. RefusesFirst e (message_refusal pointer_limit
-        (handed apex.now ds.now dnskey_bytes.now answer_bytes.now (asked_of question.now) now 0))) }
+    ensures exact { let asked = asked_of question.now in
+        let h = handed apex.now ds.now dnskey_bytes.now answer_bytes.now asked now 0 in
+        AnswersAs (said result) (judged_beyond (C.answers checks.old) pointer_limit h) }
+    ensures counts { let asked = asked_of question.now in
+        let h = handed apex.now ds.now dnskey_bytes.now answer_bytes.now asked now 0 in
+        Counts (said result) count.new (tries_beyond (C.answers checks.old) pointer_limit h) }
+    ensures verdict { let asked = asked_of question.now in
+        let h = handed apex.now ds.now dnskey_bytes.now answer_bytes.now asked now 0 in
+        OnOk result (message_refusal pointer_limit h ≡ None) }
+    ensures refusal { let asked = asked_of question.now in
+        let h = handed apex.now ds.now dnskey_bytes.now answer_bytes.now asked now 0 in
+        IfErr result (λ e. RefusesFirst e (message_refusal pointer_limit h)) }
     ensures counted { C.verified checks.new ≡ C.verified checks.old + count.new }
-    ensures bound { count.new ≤ verification_bound pointer_limit
-        (handed apex.now ds.now dnskey_bytes.now answer_bytes.now (asked_of question.now) now 0) }
+    ensures bound { let asked = asked_of question.now in
+        let h = handed apex.now ds.now dnskey_bytes.now answer_bytes.now asked now 0 in
+        count.new ≤ verification_bound pointer_limit h }
     ensures hashed { C.hashed checks.new ≡ C.hashed checks.old }
     ensures same { C.answers checks.new ≡ C.answers checks.old }
 {
@@ -212,14 +216,15 @@ fn read_messages<'a>(
 ) -> Result<(MessageView<'a>, MessageView<'a>), Refusal>
     ensures keys { IfOk result (λ v. message pointer_limit dnskey_bytes.now ≡ Ok v.0) }
     ensures answer { IfOk result (λ v. message pointer_limit answer_bytes.now ≡ Ok v.1) }
-    ensures asks_keys { IfOk result
-        (λ v. same_question v.0.asked (record { name = apex.now; rtype = 48; class = 1 }) ≡ true) }
+    ensures asks_keys { let keys : Asked = record { name = apex.now; rtype = 48; class = 1 } in
+        IfOk result (λ v. same_question v.0.asked keys ≡ true) }
     ensures asks_answer { IfOk result
         (λ v. same_question v.1.asked (asked_of question.now) ≡ true) }
     ensures first { IfErr result (λ e. is_first e ≡ true) }
     ensures few { IfOk result (λ v. length v.0.records + length v.1.records ≤ 393210) }
-    ensures refusal { IfErr result (λ e. RefusesFirst e (message_refusal pointer_limit
-        (handed apex.now [] dnskey_bytes.now answer_bytes.now (asked_of question.now) 0 0))) }
+    ensures refusal { let asked = asked_of question.now in
+        let h = handed apex.now [] dnskey_bytes.now answer_bytes.now asked 0 0 in
+        IfErr result (λ e. RefusesFirst e (message_refusal pointer_limit h)) }
 {
     let keys = read_counted(dnskey_bytes).map_err(|_| Refusal::BadDnskeyMessage)?;
     let answer = read_counted(answer_bytes).map_err(|_| Refusal::BadAnswerMessage)?;
@@ -241,8 +246,8 @@ fn read_counted(bytes: &[u8]) -> Result<MessageView<'_>, MessageError>
 
 /// Whether a message asks for a name, up to case, a type and a class.
 fn asks(view: &MessageView, name: &Name, rtype: Rtype, class: Class) -> bool
-    ensures { result
-        ≡ same_question view.now.asked (record { name = name.now; rtype = rtype; class = class }) }
+    ensures { let asked : Asked = record { name = name.now; rtype = rtype; class = class } in
+        result ≡ same_question view.now.asked asked }
 {
     let asked = view.question();
     asked.name.name_eq(name) && asked.rtype == rtype && asked.class == class
@@ -292,12 +297,12 @@ fn are_verified<C: Checks>(
     count: &mut u32,
 ) -> Result<bool, AllocError>
     requires { count.old + length records.now < 2 ^ 32 }
-    ensures exact { IfOk result
-        (λ b. b ≡ is_verified (held_by (C.answers checks.old) trust.now) pointer_limit message.now
-        (map spelled records.now) trust.now.apex.now 48 (sorted_data (map dnskey_data keys.now))) }
-    ensures tried { IfOk result (λ _. count.new ≡ count.old
-        + tries (held_by (C.answers checks.old) trust.now) pointer_limit message.now
-        (keys_sought trust.now.apex.now keys.now) [] (map spelled records.now)) }
+    ensures exact { let w = held_by (C.answers checks.old) trust.now in
+        let items = sorted_data (map dnskey_data keys.now) in let rs = map spelled records.now in
+        IfOk result (λ b. b ≡ is_verified w pointer_limit message.now rs w.apex 48 items) }
+    ensures tried { let w = held_by (C.answers checks.old) trust.now in
+        let sought = keys_sought w.apex keys.now in let rs = map spelled records.now in
+        IfOk result (λ _. count.new ≡ count.old + tries w pointer_limit message.now sought [] rs) }
     ensures counted { C.verified checks.new + count.old ≡ C.verified checks.old + count.new }
     ensures bound { count.new ≤ count.old + length (filter is_signature (map spelled records.now)) }
     ensures few { count.new ≤ count.old + length records.now }

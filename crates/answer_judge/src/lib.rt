@@ -3,4 +3,5 @@
 #![tactic(auto)]
 
 pub mod judge;
+pub mod laws;
 pub mod scheme;

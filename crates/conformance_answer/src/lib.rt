@@ -1,5 +1,5 @@
 //! Tests of the publisher, the judge and the simulation that no contract can stand for: exact answers at the limits of
-//! size and under a scheme that fails, with memory in plenty, and the texts of faults.
+//! size and under a scheme that fails, with memory in plenty, the texts of faults, and each public call on its happy path.
 #![tactic(auto)]
 
 #[cfg(test)]
@@ -8,6 +8,10 @@ mod fault_tests;
 mod judge_tests;
 #[cfg(test)]
 mod limit_tests;
+#[cfg(test)]
+mod message_tests;
+#[cfg(test)]
+mod roll_tests;
 #[cfg(test)]
 mod scheme;
 #[cfg(test)]

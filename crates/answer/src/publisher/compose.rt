@@ -35,12 +35,15 @@ pub fn compose_answer<S: Scheme, Octs: Octets>(
     answer: &[RrGroup],
     authority: &[RrGroup],
 ) -> Result<Vec<u8>, AnswerFault>
-    ensures refused { IfErr result (RefusesGroups (S.signature_of scheme.now)
-        (S.verifies scheme.now) terms.now.apex.now terms.now.at terms.now.life keys.now
-        (ahead_of_records (asked_of question.now)) (answer.now ++ authority.now)) }
-    ensures written { IfOk result (λ m. IsAnswer (S.signature_of scheme.now)
-        (S.verifies scheme.now) terms.now.apex.now terms.now.at terms.now.life keys.now flags
-        (asked_of question.now) answer.now authority.now m.items) }
+    ensures refused { let sign = S.signature_of scheme.now in
+        let verifies = S.verifies scheme.now in let t = terms.now in
+        let more = ahead_of_records (asked_of question.now) in
+        let groups = answer.now ++ authority.now in
+        IfErr result (RefusesGroups sign verifies t.apex.now t.at t.life keys.now more groups) }
+    ensures written { let sign = S.signature_of scheme.now in
+        let verifies = S.verifies scheme.now in let t = terms.now in
+        let is = IsAnswer sign verifies t.apex.now t.at t.life keys.now flags in
+        IfOk result (λ m. is (asked_of question.now) answer.now authority.now m.items) }
 {
     let answers = write_section(alloc, scheme, terms, keys, answer)?;
     let authorities = write_section(alloc, scheme, terms, keys, authority)?;
@@ -70,12 +73,13 @@ fn write_section<S: Scheme, Octs: Octets>(
     keys: &[Dnskey<Octs>],
     groups: &[RrGroup],
 ) -> Result<Section, AnswerFault>
-    ensures refused { IfErr result
-        (RefusesGroups (S.signature_of scheme.now) (S.verifies scheme.now)
-        terms.now.apex.now terms.now.at terms.now.life keys.now 0 groups.now) }
-    ensures written { IfOk result
-        (λ s. IsSection (S.signature_of scheme.now) (S.verifies scheme.now)
-        terms.now.apex.now terms.now.at terms.now.life keys.now groups.now s.octets.items s.count) }
+    ensures refused { let sign = S.signature_of scheme.now in
+        let verifies = S.verifies scheme.now in let t = terms.now in
+        IfErr result (RefusesGroups sign verifies t.apex.now t.at t.life keys.now 0 groups.now) }
+    ensures written { let sign = S.signature_of scheme.now in
+        let verifies = S.verifies scheme.now in let t = terms.now in
+        let is = IsSection sign verifies t.apex.now t.at t.life keys.now groups.now in
+        IfOk result (λ s. is s.octets.items s.count) }
 {
     let mut section = Section {
         octets: Vec::new(alloc),
@@ -97,12 +101,14 @@ fn signatures_of<S: Scheme, Octs: Octets>(
     group: &RrGroup,
     keys: &[Dnskey<Octs>],
 ) -> Result<Vec<Vec<u8>>, SchemeError>
-    ensures made { IfOk result (λ ds. AllZip (IsRrsigData (S.signature_of scheme.now)
-        (S.verifies scheme.now) terms.now.apex.now terms.now.at terms.now.life group.now)
-        (if group.now.signed then keys.now else []) (map (λ d. d.items) ds.items)) }
-    ensures failed { result ≡ Err error.Failed
-        → (group.now.signed ≡ true) × FailsFor (S.signature_of scheme.now)
-        terms.now.apex.now terms.now.at terms.now.life group.now keys.now }
+    ensures made { let sign = S.signature_of scheme.now in
+        let verifies = S.verifies scheme.now in let t = terms.now in
+        let is = IsRrsigData sign verifies t.apex.now t.at t.life group.now in
+        let signers = (if group.now.signed then keys.now else []) in
+        IfOk result (λ ds. AllZip is signers (map (λ d. d.items) ds.items)) }
+    ensures failed { let sign = S.signature_of scheme.now in let t = terms.now in
+        let fails = FailsFor sign t.apex.now t.at t.life group.now keys.now in
+        result ≡ Err error.Failed → (group.now.signed ≡ true) × fails }
 {
     if !group.is_signed() {
         return Ok(Vec::new(alloc));
@@ -130,12 +136,13 @@ impl Section {
 
     /// Writes the signatures of an RRset.
     fn push_signatures(&mut self, group: &RrGroup, datas: &[Vec<u8>]) -> Result<(), AnswerFault>
-        ensures refused { IfErr result (RefusesRecords self.old.octets.items self.old.count
-            (map (rrsig_of group.now) (map (λ d. d.items) datas.now))) }
+        ensures refused { let rrsigs = map (rrsig_of group.now) (map (λ d. d.items) datas.now) in
+            IfErr result (RefusesRecords self.old.octets.items self.old.count rrsigs) }
         ensures room { OnOk result (HasRoom self.old.octets.items self.old.count
             → HasRoom self.new.octets.items self.new.count) }
-        ensures octets { OnOk result (self.new.octets.items ≡ self.old.octets.items
-            ++ flat_map record_octets (map (rrsig_of group.now) (map (λ d. d.items) datas.now))) }
+        ensures octets { let rrsigs = map (rrsig_of group.now) (map (λ d. d.items) datas.now) in
+            let more = flat_map record_octets rrsigs in
+            OnOk result (self.new.octets.items ≡ self.old.octets.items ++ more) }
         ensures count { OnOk result (self.new.count ≡ self.old.count + length datas.now) }
     {
         for data in datas {

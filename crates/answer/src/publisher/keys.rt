@@ -6,12 +6,13 @@ ghost use Rattle.definitions.specs.Dnskey as dnskey;
 ghost use Rattle.definitions.specs.Dnskey.{dnskey_data};
 ghost use Rattle.definitions.specs.Sorting.{put_by, sort_by};
 ghost use Rattle.std.specs.Ordering.{nat_cmp};
-ghost use Rattle.keyset.specs.KeyState.{text_of, is_available, texts, reference_cmp, Reference, add, new_key};
-ghost use Rattle.answer.specs.Bindings.{ZoneKeys, BoundKey, no_keys, apply, Add, Start, Report1, Wait1, Report2, Wait2, Finish, bound_at, is_bound_away, has_role, is_published, published, keys_by_tag, flags_of, roles_of, dnskey_for, ds_of, ds_set, dnskey_rdata};
+ghost use Rattle.keyset.specs.KeyState.{Key, add, has_tag, texts};
+ghost use Rattle.answer.specs.Bindings.{ZoneKeys, BoundKey, no_keys, Start, Report1, Wait1, Report2, Wait2, Finish, bound_at, is_bound_away, has_role, is_published, keys_by_tag, flags_of, ds_of, ds_set, dnskey_rdata};
+ghost use Rattle.answer.specs.Bindings as bindings;
 ghost use Rattle.answer.specs.BoundView.{by_text};
-ghost use Rattle.keyset.specs.KeyAnswers.{Gives};
-ghost use Rattle.answer.specs.KeyCalls.{GivesKeys};
-ghost use Rattle.answer.specs.NewKeys.{add_of, added_tag, AddsBound};
+ghost use Rattle.keyset.specs.KeyAnswers.{Changes, IsAccepted};
+ghost use Rattle.answer.specs.KeyCalls.{ActsOnKeys};
+ghost use Rattle.answer.specs.NewKeys.{added_tag, added_to, AddsBound, Foretells};
 
 use crate::publisher::fault::KeyFault;
 use denial_data::dnskey::Dnskey;
@@ -133,14 +134,13 @@ impl BoundKey {
     }
 }
 
-/// What an add is handed.
+/// What an add is handed beside the key's octets.
 #[derive(Drop)]
 pub(crate) struct NewKey {
     pub kind: KeyKind,
     pub pubref: String,
     pub privref: Option<String>,
     pub algorithm: SecurityAlgorithm,
-    pub public_key: Vec<u8>,
     pub created: UnixTime,
     pub available: Available,
 }
@@ -198,19 +198,18 @@ impl ZoneKeys {
         }
     }
 
-    /// Adds a key whose digest succeeded, of a reference that isn't bound to another. A refused add changes nothing.
+    /// Adds a key beside its digest. A refused add changes nothing.
     pub(crate) fn add(
         &mut self,
         new: NewKey,
         key: Dnskey<Vec<u8>>,
         digest: Vec<u8>,
     ) -> Result<(), KeyFault>
-        requires same { key ≡ dnskey_for new.kind new.algorithm new.public_key.items }
-        requires free { is_bound_away self.old.bound (string_bytes new.pubref) key ≡ false }
-        ensures { (digests : dnskey.Dnskey → Option (List ℕ)) → digests key ≡ Some digest.items
-            → GivesKeys (λ _. []) self.old self.new result (apply digests (add_of new) new.created self.old) }
+        ensures { let bound : bindings.BoundKey = record { key = key; digest = digest.items } in
+            AddsBound self.old self.new result new bound }
     {
         let bound = BoundKey { key, digest };
+        check_add(&self.keys, new.pubref.as_str(), bound.key.key_tag())?;
         if self.bound(new.pubref.as_str()).is_some() {
             self.add_again(new, bound)
         } else {
@@ -220,7 +219,8 @@ impl ZoneKeys {
 
     /// Adds a key whose reference is bound to it already.
     fn add_again(&mut self, new: NewKey, bound: BoundKey) -> Result<(), KeyFault>
-        requires { bound_at self.old.bound (string_bytes new.pubref) ≡ None → ⊥ }
+        requires bound { bound_at self.old.bound (string_bytes new.pubref) ≡ None → ⊥ }
+        requires accepted { IsAccepted (added_to self.old new bound) }
         ensures { AddsBound self.old self.new result new bound }
     {
         let reference = new.pubref.clone()?;
@@ -236,7 +236,8 @@ impl ZoneKeys {
 
     /// Adds a key whose reference is not bound yet.
     fn add_first(&mut self, new: NewKey, bound: BoundKey) -> Result<(), KeyFault>
-        requires { bound_at self.old.bound (string_bytes new.pubref) ≡ None }
+        requires unbound { bound_at self.old.bound (string_bytes new.pubref) ≡ None }
+        requires accepted { IsAccepted (added_to self.old new bound) }
         ensures { AddsBound self.old self.new result new bound }
     {
         let reference = new.pubref.clone()?;
@@ -259,9 +260,8 @@ impl ZoneKeys {
         new: &[&str],
         now: &UnixTime,
     ) -> Result<Vec<Action>, KeyFault>
-        ensures { (digests : dnskey.Dnskey → Option (List ℕ))
-            → GivesKeys (λ v. v.items) self.old self.new result
-            (apply digests (Start rolltype (texts old.now) (texts new.now)) now.now self.old) }
+        ensures { let call = Start rolltype (texts old.now) (texts new.now) in
+            ActsOnKeys call now.now self.old self.new result }
     {
         match self.keys.start_roll(rolltype, old, new, now) {
             Ok(actions) => Ok(actions),
@@ -276,9 +276,7 @@ impl ZoneKeys {
         ttl: u32,
         now: &UnixTime,
     ) -> Result<Vec<Action>, KeyFault>
-        ensures { (digests : dnskey.Dnskey → Option (List ℕ))
-            → GivesKeys (λ v. v.items) self.old self.new result
-            (apply digests (Report1 rolltype ttl) now.now self.old) }
+        ensures { ActsOnKeys (Report1 rolltype ttl) now.now self.old self.new result }
     {
         match self.keys.propagation1_complete(rolltype, ttl, now) {
             Ok(actions) => Ok(actions),
@@ -292,9 +290,7 @@ impl ZoneKeys {
         rolltype: RollType,
         now: &UnixTime,
     ) -> Result<Vec<Action>, KeyFault>
-        ensures { (digests : dnskey.Dnskey → Option (List ℕ))
-            → GivesKeys (λ v. v.items) self.old self.new result
-            (apply digests (Wait1 rolltype) now.now self.old) }
+        ensures { ActsOnKeys (Wait1 rolltype) now.now self.old self.new result }
     {
         match self.keys.cache_expired1(rolltype, now) {
             Ok(actions) => Ok(actions),
@@ -309,9 +305,7 @@ impl ZoneKeys {
         ttl: u32,
         now: &UnixTime,
     ) -> Result<Vec<Action>, KeyFault>
-        ensures { (digests : dnskey.Dnskey → Option (List ℕ))
-            → GivesKeys (λ v. v.items) self.old self.new result
-            (apply digests (Report2 rolltype ttl) now.now self.old) }
+        ensures { ActsOnKeys (Report2 rolltype ttl) now.now self.old self.new result }
     {
         match self.keys.propagation2_complete(rolltype, ttl, now) {
             Ok(actions) => Ok(actions),
@@ -325,9 +319,7 @@ impl ZoneKeys {
         rolltype: RollType,
         now: &UnixTime,
     ) -> Result<Vec<Action>, KeyFault>
-        ensures { (digests : dnskey.Dnskey → Option (List ℕ))
-            → GivesKeys (λ v. v.items) self.old self.new result
-            (apply digests (Wait2 rolltype) now.now self.old) }
+        ensures { ActsOnKeys (Wait2 rolltype) now.now self.old self.new result }
     {
         match self.keys.cache_expired2(rolltype, now) {
             Ok(actions) => Ok(actions),
@@ -337,8 +329,7 @@ impl ZoneKeys {
 
     /// Ends a roll whose last actions are done.
     pub(crate) fn roll_done(&mut self, rolltype: RollType) -> Result<Vec<Action>, KeyFault>
-        ensures { (digests : dnskey.Dnskey → Option (List ℕ)) → GivesKeys
-            (λ v. v.items) self.old self.new result (apply digests (Finish rolltype) 0 self.old) }
+        ensures { ActsOnKeys (Finish rolltype) 0 self.old self.new result }
     {
         match self.keys.roll_done(rolltype) {
             Ok(actions) => Ok(actions),
@@ -396,9 +387,29 @@ impl ZoneKeys {
     }
 }
 
+/// Says why the key set would not take a key of this tag under this reference. It takes no memory.
+fn check_add(keys: &KeySet, reference: &str, key_tag: u16) -> Result<(), Error>
+    ensures { (k : Key) → k.tag ≡ key_tag → Foretells result (add reference.now k keys.now) }
+{
+    if has_tag(keys, key_tag) {
+        return Err(Error::DuplicateKeyTag);
+    }
+    if keys.key(reference).is_some() {
+        return Err(Error::KeyExists);
+    }
+    Ok(())
+}
+
+/// Whether a key of the set has this tag.
+fn has_tag(keys: &KeySet, key_tag: u16) -> bool
+    ensures { result ≡ has_tag key_tag keys.now.keys }
+{
+    keys.keys().values().any(|key| key.key_tag() == key_tag)
+}
+
 /// Adds a key of a tag to the key set alone.
 fn add_key(keys: &mut KeySet, new: NewKey, tag: u16) -> Result<(), Error>
-    ensures { Gives (λ _. []) keys.old keys.new result (added_tag keys.old new tag) }
+    ensures { Changes keys.old keys.new result (added_tag keys.old new tag) }
 {
     match new.kind {
         KeyKind::Ksk => keys.add_key_ksk(

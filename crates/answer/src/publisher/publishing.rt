@@ -1,6 +1,5 @@
 //! The publisher.
 ghost use Rattle.std.specs.Prelude.{◌≡◌, ◌⊎◌, ◌<◌, ◌≤◌, ◌^◌, ◌↔◌, [], map, length, string_bytes, IfOk, IfErr, IsErrOf, OnOk, Some, None, false};
-ghost use Rattle.definitions.specs.Limits.{pointer_limit};
 ghost use Rattle.std.specs.List.{AllByRecursion};
 ghost use Rattle.definitions.specs.Name.{IsName, low};
 ghost use Rattle.records.specs.Handed.{IsHanded};
@@ -8,18 +7,15 @@ ghost use Rattle.answer_judge.specs.Judging.{is_allowed};
 ghost use Rattle.messages.specs.Questions.{asked_of};
 ghost use Rattle.answer_zone.specs.Served.{key_group, ttl_among};
 ghost use Rattle.answer_zone.specs.GroupView.{Presents};
-ghost use Rattle.answer_judge.specs.Given.{GivesAnswer};
-ghost use Rattle.answer_judge.specs.Given as spelled;
-ghost use Rattle.answer.specs.Answering.{AnswersKeys, AnswersZone, RefusesAnswer, RefusesKeys};
-ghost use Rattle.answer_zone.specs.Accepting.{IsAccepted, IsFault, sorted_records};
+ghost use Rattle.answer_zone.specs.Accepting.{IsAccepted, IsFault};
 ghost use Rattle.answer_zone.specs.ZoneView.{mode_of};
 ghost use Rattle.records.specs.HandedRr.{handed_of};
 ghost use Rattle.keyset.specs.KeyState.{text_of, is_available, texts};
-ghost use Rattle.answer.specs.Bindings.{no_keys, apply, dnskey_for, ds_set, published, dnskeys, keys_by_tag, Add, Start, Report1, Wait1, Report2, Wait2, Finish};
-ghost use Rattle.answer.specs.KeyCalls.{GivesKeys};
+ghost use Rattle.answer.specs.Bindings.{no_keys, ds_set, published, dnskeys, keys_by_tag, Add, Start, Report1, Wait1, Report2, Wait2, Finish};
+ghost use Rattle.answer.specs.KeyCalls.{Acts, Adds};
 ghost use Rattle.answer.specs.NewKeys.{add_of};
 ghost use Rattle.answer.specs.Publishing.{digest_at, second_of};
-ghost use Rattle.answer_zone.specs.Hashing.{served};
+ghost use Rattle.answer.specs.World.{AnswersKeysQuestion, AnswersQuestion, RefusesKeysQuestion, RefusesQuestion, SpellsAnswer, SpellsKeys, digests, present_keys, world_of, zone_by};
 
 use crate::publisher::compose::compose_answer;
 use crate::publisher::fault::{AnswerFault, KeyFault, Mode, ZoneFault};
@@ -70,27 +66,23 @@ impl<'a, S: Scheme, H: Nsec3Hasher> Publisher<'a, S, H> {
         life: u32,
     ) -> Result<Self, ZoneFault>
         requires { life < 2 ^ 31 }
-        ensures zone { IfOk result (λ p. p.zone ≡ record {
-          apex = apex;
-          mode = mode_of mode;
-          limit = limit;
-          records = sorted_records (map handed_of records.items);
-        }) }
+        ensures zone { let rs = map handed_of records.items in
+            IfOk result (λ p. p.zone ≡ zone_by apex (mode_of mode) limit rs) }
         ensures keys { IfOk result (λ p. p.keys ≡ no_keys apex) }
         ensures scheme { IfOk result (λ p. p.scheme.now ≡ scheme.now) }
         ensures hasher { IfOk result (λ p. p.hasher.now ≡ hasher.now) }
         ensures life { IfOk result (λ p. p.life ≡ life) }
-        ensures accepted { IfOk result
-            (λ p. IsAccepted apex (mode_of mode) limit (map handed_of records.items)) }
+        ensures accepted { let rs = map handed_of records.items in
+            IfOk result (λ p. IsAccepted apex (mode_of mode) limit rs) }
         ensures handed { IfOk result
             (λ p. IsName apex × AllByRecursion IsHanded (map handed_of records.items)) }
-        ensures fault { IfErr result (λ f. (f ≡ ZoneFault.Memory)
-            ⊎ IsFault apex (mode_of mode) limit (map handed_of records.items) f) }
+        ensures fault { let rs = map handed_of records.items in
+            IfErr result (λ f. (f ≡ ZoneFault.Memory) ⊎ IsFault apex (mode_of mode) limit rs f) }
     {
-        let Ok(name) = apex.try_clone(alloc) else {
+        let zone = ZoneRecords::new(alloc, apex, records, mode, limit)?;
+        let Ok(name) = zone.apex().try_clone(alloc) else {
             return Err(ZoneFault::Memory);
         };
-        let zone = ZoneRecords::new(alloc, apex, records, mode, limit)?;
         Ok(Publisher {
             alloc,
             zone,
@@ -103,19 +95,12 @@ impl<'a, S: Scheme, H: Nsec3Hasher> Publisher<'a, S, H> {
 
     /// The answer for the DNSKEY RRset: the keys that are present, signed by each key that signs keys, at a moment.
     pub fn dnskey_answer(&self, now: &UnixTime) -> Result<Vec<u8>, AnswerFault>
-        ensures refused { IfErr result (RefusesKeys (S.signature_of self.now.scheme.now)
-            (S.verifies self.now.scheme.now) (served (H.hash_of self.now.hasher.now) self.now.zone)
-            self.now.zone.apex (second_of now.now) self.now.life (dnskeys (published self.now.keys
-            Publication.Present)) (keys_by_tag self.now.keys Publication.SignsKeys)) }
-        ensures answer { IfOk result (λ m. AnswersKeys (S.signature_of self.now.scheme.now)
-            (S.verifies self.now.scheme.now) (served (H.hash_of self.now.hasher.now) self.now.zone)
-            self.now.zone.apex (second_of now.now) self.now.life (dnskeys (published self.now.keys
-            Publication.Present)) (keys_by_tag self.now.keys Publication.SignsKeys) m.items) }
-        ensures given { IfOk result (λ m. spelled.GivesKeys (S.verifies self.now.scheme.now)
-            pointer_limit (served (H.hash_of self.now.hasher.now) self.now.zone) self.now.zone.apex
-            (dnskeys (published self.now.keys Publication.Present))
-            (dnskeys (published self.now.keys Publication.SignsKeys))
-            (second_of now.now) self.now.life m.items) }
+        ensures refused { let w = world_of S.signature_of S.verifies S.digest_of H.hash_of self.now in
+            IfErr result (RefusesKeysQuestion w self.now.keys now.now) }
+        ensures answer { let w = world_of S.signature_of S.verifies S.digest_of H.hash_of self.now in
+            IfOk result (λ m. AnswersKeysQuestion w self.now.keys now.now m.items) }
+        ensures given { let w = world_of S.signature_of S.verifies S.digest_of H.hash_of self.now in
+            IfOk result (λ m. SpellsKeys w self.now.keys now.now m.items) }
     {
         self.zone.keeps();
         let keys = self.keys.keys_by_tag(Publication::SignsKeys)?;
@@ -139,9 +124,10 @@ impl<'a, S: Scheme, H: Nsec3Hasher> Publisher<'a, S, H> {
 
     /// The DNSKEY RRset; without a key it is empty, and then there is nothing to sign.
     fn dnskey_group(&self) -> Result<RrGroup, AllocError>
-        ensures presents { IfOk result
-            (λ g. Presents g (key_group self.now.zone.apex (ttl_among self.now.zone.records
-            (low self.now.zone.apex) 6) (dnskeys (published self.now.keys Publication.Present)))) }
+        ensures presents { let zone = self.now.zone in
+            let ttl = ttl_among zone.records (low zone.apex) 6 in
+            let group = key_group zone.apex ttl (present_keys self.now.keys) in
+            IfOk result (λ g. Presents g group) }
     {
         let owner = self.zone.apex().try_clone(self.alloc)?;
         let count = owner.rrsig_label_count();
@@ -170,20 +156,18 @@ impl<'a, S: Scheme, H: Nsec3Hasher> Publisher<'a, S, H> {
 
     /// The zone's answer to a question at a moment, signed by each key that signs the zone.
     pub fn answer(&self, question: &Question, now: &UnixTime) -> Result<Vec<u8>, AnswerFault>
-        ensures allowed { IsErrOf result AnswerFault.QuestionNotAllowed ↔
-            (is_allowed self.now.zone.apex (asked_of question.now) ≡ false) }
-        ensures refused { IfErr result (RefusesAnswer (S.signature_of self.now.scheme.now)
-            (S.verifies self.now.scheme.now) (served (H.hash_of self.now.hasher.now) self.now.zone)
-            self.now.zone.apex (second_of now.now) self.now.life
-            (keys_by_tag self.now.keys Publication.SignsZone) (asked_of question.now)) }
-        ensures answer { IfOk result (λ m. AnswersZone (S.signature_of self.now.scheme.now)
-            (S.verifies self.now.scheme.now) (served (H.hash_of self.now.hasher.now) self.now.zone)
-            self.now.zone.apex (second_of now.now) self.now.life
-            (keys_by_tag self.now.keys Publication.SignsZone) (asked_of question.now) m.items) }
-        ensures given { IfOk result (λ m. GivesAnswer (S.verifies self.now.scheme.now) pointer_limit
-            (served (H.hash_of self.now.hasher.now) self.now.zone) self.now.zone.apex
-            (dnskeys (published self.now.keys Publication.SignsZone))
-            (second_of now.now) self.now.life (asked_of question.now) m.items) }
+        ensures allowed { let asked = asked_of question.now in
+            let allowed = is_allowed self.now.zone.apex asked in
+            IsErrOf result AnswerFault.QuestionNotAllowed ↔ (allowed ≡ false) }
+        ensures refused { let w = world_of S.signature_of S.verifies S.digest_of H.hash_of self.now in
+            let asked = asked_of question.now in
+            IfErr result (RefusesQuestion w self.now.keys now.now asked) }
+        ensures answer { let w = world_of S.signature_of S.verifies S.digest_of H.hash_of self.now in
+            let asked = asked_of question.now in
+            IfOk result (λ m. AnswersQuestion w self.now.keys now.now asked m.items) }
+        ensures given { let w = world_of S.signature_of S.verifies S.digest_of H.hash_of self.now in
+            let asked = asked_of question.now in
+            IfOk result (λ m. SpellsAnswer w self.now.keys now.now asked m.items) }
     {
         self.zone.keeps();
         question.keeps();
@@ -238,21 +222,22 @@ impl<'a, S: Scheme, H: Nsec3Hasher> Publisher<'a, S, H> {
         available: Available,
     ) -> Result<(), KeyFault>
         requires { length public_key.items ≤ 65531 }
-        ensures keys { GivesKeys (λ _. []) self.old.keys self.new.keys result
-            (apply (digest_at (S.digest_of self.old.scheme.now) self.old.zone.apex)
-            (Add KeyKind.Ksk (string_bytes pubref) (text_of privref) algorithm public_key.items
-            (is_available available)) creation_ts self.old.keys) }
+        ensures keys { let at_hand = is_available available in
+            let private = text_of privref in let octets = public_key.items in
+            let call = Add KeyKind.Ksk (string_bytes pubref) private algorithm octets at_hand in
+            let digests = digests S.digest_of self.old in
+            Adds digests call creation_ts self.old.keys self.new.keys result }
         ensures rest { self.new ≡ record self.old { keys = self.new.keys } }
     {
-        self.add_key(NewKey {
+        let new = NewKey {
             kind: KeyKind::Ksk,
             pubref,
             privref,
             algorithm,
-            public_key,
             created: creation_ts,
             available,
-        })
+        };
+        self.add_key(new, public_key)
     }
 
     /// Adds a zone signing key of these octets, at most 65,531 of them.
@@ -266,30 +251,31 @@ impl<'a, S: Scheme, H: Nsec3Hasher> Publisher<'a, S, H> {
         available: Available,
     ) -> Result<(), KeyFault>
         requires { length public_key.items ≤ 65531 }
-        ensures keys { GivesKeys (λ _. []) self.old.keys self.new.keys result
-            (apply (digest_at (S.digest_of self.old.scheme.now) self.old.zone.apex)
-            (Add KeyKind.Zsk (string_bytes pubref) (text_of privref) algorithm public_key.items
-            (is_available available)) creation_ts self.old.keys) }
+        ensures keys { let at_hand = is_available available in
+            let private = text_of privref in let octets = public_key.items in
+            let call = Add KeyKind.Zsk (string_bytes pubref) private algorithm octets at_hand in
+            let digests = digests S.digest_of self.old in
+            Adds digests call creation_ts self.old.keys self.new.keys result }
         ensures rest { self.new ≡ record self.old { keys = self.new.keys } }
     {
-        self.add_key(NewKey {
+        let new = NewKey {
             kind: KeyKind::Zsk,
             pubref,
             privref,
             algorithm,
-            public_key,
             created: creation_ts,
             available,
-        })
+        };
+        self.add_key(new, public_key)
     }
 
-    fn add_key(&mut self, new: NewKey) -> Result<(), KeyFault>
-        ensures keys { GivesKeys (λ _. []) self.old.keys self.new.keys result
-            (apply (digest_at (S.digest_of self.old.scheme.now) self.old.zone.apex)
-            (add_of new) new.created self.old.keys) }
+    /// Adds a key. Whether its reference is bound to another key is known before any memory is taken.
+    fn add_key(&mut self, new: NewKey, public_key: Vec<u8>) -> Result<(), KeyFault>
+        ensures keys { let call = add_of new public_key.items in
+            let digests = digests S.digest_of self.old in
+            Adds digests call new.created self.old.keys self.new.keys result }
         ensures rest { self.new ≡ record self.old { keys = self.new.keys } }
     {
-        let public_key = new.public_key.clone()?;
         let key = Dnskey::new(new.kind.flags(), 3, new.algorithm, public_key);
         if self.keys.is_bound_away(new.pubref.as_str(), &key) {
             return Err(KeyFault::ReferenceBound);
@@ -306,9 +292,8 @@ impl<'a, S: Scheme, H: Nsec3Hasher> Publisher<'a, S, H> {
         new: &[&str],
         now: &UnixTime,
     ) -> Result<Vec<Action>, KeyFault>
-        ensures keys { GivesKeys (λ v. v.items) self.old.keys self.new.keys result
-            (apply (digest_at (S.digest_of self.old.scheme.now) self.old.zone.apex)
-            (Start rolltype (texts old.now) (texts new.now)) now.now self.old.keys) }
+        ensures keys { let call = Start rolltype (texts old.now) (texts new.now) in
+            Acts (digests S.digest_of self.old) call now.now self.old.keys self.new.keys result }
         ensures rest { self.new ≡ record self.old { keys = self.new.keys } }
     {
         self.keys.start_roll(rolltype, old, new, now)
@@ -321,9 +306,8 @@ impl<'a, S: Scheme, H: Nsec3Hasher> Publisher<'a, S, H> {
         ttl: u32,
         now: &UnixTime,
     ) -> Result<Vec<Action>, KeyFault>
-        ensures keys { GivesKeys (λ v. v.items) self.old.keys self.new.keys result
-            (apply (digest_at (S.digest_of self.old.scheme.now) self.old.zone.apex)
-            (Report1 rolltype ttl) now.now self.old.keys) }
+        ensures keys { let digests = digests S.digest_of self.old in
+            Acts digests (Report1 rolltype ttl) now.now self.old.keys self.new.keys result }
         ensures rest { self.new ≡ record self.old { keys = self.new.keys } }
     {
         self.keys.propagation1_complete(rolltype, ttl, now)
@@ -335,9 +319,8 @@ impl<'a, S: Scheme, H: Nsec3Hasher> Publisher<'a, S, H> {
         rolltype: RollType,
         now: &UnixTime,
     ) -> Result<Vec<Action>, KeyFault>
-        ensures keys { GivesKeys (λ v. v.items) self.old.keys self.new.keys result
-            (apply (digest_at (S.digest_of self.old.scheme.now) self.old.zone.apex)
-            (Wait1 rolltype) now.now self.old.keys) }
+        ensures keys { let digests = digests S.digest_of self.old in
+            Acts digests (Wait1 rolltype) now.now self.old.keys self.new.keys result }
         ensures rest { self.new ≡ record self.old { keys = self.new.keys } }
     {
         self.keys.cache_expired1(rolltype, now)
@@ -350,9 +333,8 @@ impl<'a, S: Scheme, H: Nsec3Hasher> Publisher<'a, S, H> {
         ttl: u32,
         now: &UnixTime,
     ) -> Result<Vec<Action>, KeyFault>
-        ensures keys { GivesKeys (λ v. v.items) self.old.keys self.new.keys result
-            (apply (digest_at (S.digest_of self.old.scheme.now) self.old.zone.apex)
-            (Report2 rolltype ttl) now.now self.old.keys) }
+        ensures keys { let digests = digests S.digest_of self.old in
+            Acts digests (Report2 rolltype ttl) now.now self.old.keys self.new.keys result }
         ensures rest { self.new ≡ record self.old { keys = self.new.keys } }
     {
         self.keys.propagation2_complete(rolltype, ttl, now)
@@ -364,9 +346,8 @@ impl<'a, S: Scheme, H: Nsec3Hasher> Publisher<'a, S, H> {
         rolltype: RollType,
         now: &UnixTime,
     ) -> Result<Vec<Action>, KeyFault>
-        ensures keys { GivesKeys (λ v. v.items) self.old.keys self.new.keys result
-            (apply (digest_at (S.digest_of self.old.scheme.now) self.old.zone.apex)
-            (Wait2 rolltype) now.now self.old.keys) }
+        ensures keys { let digests = digests S.digest_of self.old in
+            Acts digests (Wait2 rolltype) now.now self.old.keys self.new.keys result }
         ensures rest { self.new ≡ record self.old { keys = self.new.keys } }
     {
         self.keys.cache_expired2(rolltype, now)
@@ -374,9 +355,8 @@ impl<'a, S: Scheme, H: Nsec3Hasher> Publisher<'a, S, H> {
 
     /// Ends a roll whose last actions are done.
     pub fn roll_done(&mut self, rolltype: RollType) -> Result<Vec<Action>, KeyFault>
-        ensures keys { GivesKeys (λ v. v.items) self.old.keys self.new.keys result
-            (apply (digest_at (S.digest_of self.old.scheme.now) self.old.zone.apex)
-            (Finish rolltype) 0 self.old.keys) }
+        ensures keys { let digests = digests S.digest_of self.old in
+            Acts digests (Finish rolltype) 0 self.old.keys self.new.keys result }
         ensures rest { self.new ≡ record self.old { keys = self.new.keys } }
     {
         self.keys.roll_done(rolltype)
@@ -392,8 +372,9 @@ fn key_digest<S: Scheme>(
 ) -> Result<Vec<u8>, KeyFault>
     ensures ok { IfOk result
         (λ d. digest_at (S.digest_of scheme.now) apex.now key.now ≡ Some d.items) }
-    ensures err { IfErr result (λ f. (f ≡ KeyFault.Memory) ⊎ ((f ≡ KeyFault.DigestFailed)
-        × (digest_at (S.digest_of scheme.now) apex.now key.now ≡ None))) }
+    ensures err { let digest = digest_at (S.digest_of scheme.now) apex.now key.now in
+        IfErr result (λ f. (f ≡ KeyFault.Memory)
+        ⊎ ((f ≡ KeyFault.DigestFailed) × (digest ≡ None))) }
 {
     let octets = key.digested(alloc, apex)?;
     match scheme.digest(alloc, DigestAlgorithm::SHA256, &octets) {

@@ -36,11 +36,12 @@ pub fn sign_group<S: Scheme, Octs: Octets>(
     group: &RrGroup,
     keys: &[Dnskey<Octs>],
 ) -> Result<Vec<Vec<u8>>, SchemeError>
-    ensures made { IfOk result (λ ds. AllZip (IsRrsigData (S.signature_of scheme.now)
-        (S.verifies scheme.now) terms.now.apex.now terms.now.at terms.now.life group.now) keys.now
-        (map (λ d. d.items) ds.items)) }
-    ensures failed { result ≡ Err error.Failed → FailsFor (S.signature_of scheme.now)
-        terms.now.apex.now terms.now.at terms.now.life group.now keys.now }
+    ensures made { let sign = S.signature_of scheme.now in
+        let verifies = S.verifies scheme.now in let t = terms.now in
+        let is = IsRrsigData sign verifies t.apex.now t.at t.life group.now in
+        IfOk result (λ ds. AllZip is keys.now (map (λ d. d.items) ds.items)) }
+    ensures failed { let sign = S.signature_of scheme.now in let t = terms.now in
+        result ≡ Err error.Failed → FailsFor sign t.apex.now t.at t.life group.now keys.now }
 {
     let mut signatures = Vec::with_capacity(alloc, keys.len())?;
     for key in keys {
@@ -57,10 +58,13 @@ fn sign_with<S: Scheme, Octs: Octets>(
     group: &RrGroup,
     key: &Dnskey<Octs>,
 ) -> Result<Vec<u8>, SchemeError>
-    ensures made { IfOk result (λ d. IsRrsigData (S.signature_of scheme.now) (S.verifies scheme.now)
-        terms.now.apex.now terms.now.at terms.now.life group.now key.now d.items) }
-    ensures failed { result ≡ Err error.Failed → S.signature_of scheme.now key.now
-        (octets_of terms.now.apex.now terms.now.at terms.now.life group.now key.now) ≡ None }
+    ensures made { let sign = S.signature_of scheme.now in
+        let verifies = S.verifies scheme.now in let t = terms.now in
+        let is = IsRrsigData sign verifies t.apex.now t.at t.life group.now in
+        IfOk result (λ d. is key.now d.items) }
+    ensures failed { let sign = S.signature_of scheme.now in let t = terms.now in
+        let octets = octets_of t.apex.now t.at t.life group.now key.now in
+        result ≡ Err error.Failed → sign key.now octets ≡ None }
 {
     let fields = fields_for(alloc, terms, group, key)?;
     let octets = signed_octets(alloc, &fields, group.owner(), Class::IN, group.canonical())?;
@@ -78,8 +82,8 @@ fn fields_for<Octs: Octets>(
     group: &RrGroup,
     key: &Dnskey<Octs>,
 ) -> Result<ProtoRrsig, AllocError>
-    ensures fields { IfOk result
-        (λ f. f ≡ fields_of terms.now.apex.now terms.now.at terms.now.life group.now key.now) }
+    ensures fields { let t = terms.now in
+        IfOk result (λ f. f ≡ fields_of t.apex.now t.at t.life group.now key.now) }
     ensures tag { IfOk result (λ _. key_tag key.now < 65536) }
 {
     let signer = terms.apex.try_clone(alloc)?;

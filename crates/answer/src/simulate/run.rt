@@ -3,30 +3,25 @@ ghost use Rattle.std.specs.Prelude.{◌≡◌, ◌≤◌, ◌<◌, [], ℕ, IfOk
 ghost use Rattle.definitions.specs.Limits.{pointer_limit};
 ghost use Rattle.answer.specs.Bindings.{apply};
 ghost use Rattle.answer.specs.Events.{added_octets, added_by_call};
-ghost use Rattle.answer_judge.specs.Meeting.{IsJudgement};
-ghost use Rattle.answer_judge.specs.Judging.{answer_of, verifications_of, hashes_of};
-ghost use Rattle.answer.specs.KeyCalls.{GivesKeys};
+ghost use Rattle.answer_judge.specs.Meeting.{JudgesSo};
+ghost use Rattle.answer.specs.KeyCalls.{Copied, Gives};
 ghost use Rattle.keyset.specs.KeyState as key_state;
-ghost use Rattle.answer.specs.Publishing.{digest_at};
+ghost use Rattle.answer.specs.World.{digests};
 ghost use Rattle.messages.specs.Questions.{asked_of};
-ghost use Rattle.answer.specs.Running.{shown_of, sofar};
-ghost use Rattle.answer.specs.Simulating.{world, handing, call_of, JudgesThings, JudgesBytes, StepOf};
+ghost use Rattle.answer.specs.Running.{sofar_in, world_in};
+ghost use Rattle.answer.specs.Simulating.{handing, call_of, JudgesThings, JudgesBytes, StepOf};
 
 use crate::event::{Act, Event, KeyCall, Outcome};
 use crate::publisher::fault::{AnswerFault, KeyFault};
 use crate::publisher::publishing::Publisher;
-use answer_judge::judge::judge;
+use answer_judge::judge::by_scheme::judge_with;
 use answer_judge::judge::verdict::{Judgement, Refused};
 use answer_judge::scheme::Scheme;
-use answer_judge::scheme::counting::SchemeChecks;
 use denial_data::ds::Ds;
 use denial_data::hasher::Nsec3Hasher;
 use keyset::{Action, UnixTime};
 use messages::question::Question;
-use records::names::Name;
 use std::alloc::{AllocError, Global};
-use std::marker::Brand;
-use std::sync::ledger::{Blank, Ledger};
 
 /// A thing that was shown.
 #[derive(Drop)]
@@ -64,12 +59,9 @@ impl<'a, S: Scheme, H: Nsec3Hasher> Run<'a, S, H> {
     pub(super) fn serve(&mut self, event: &Event) -> Result<Outcome, AllocError>
         requires key { added_octets event.now ≤ 65531 }
         requires limit { self.old.limit ≡ self.old.publisher.zone.limit }
-        ensures step { IfOk result (λ o. StepOf (world self.old.publisher.zone
-            self.old.publisher.life (S.signature_of self.old.publisher.scheme.now)
-            (S.verifies self.old.publisher.scheme.now)
-            (S.digest_of self.old.publisher.scheme.now) (H.hash_of self.old.publisher.hasher.now))
-            (sofar self.old.publisher.keys self.old.shown.items) event.now.at event.now.act o
-            (sofar self.new.publisher.keys self.new.shown.items)) }
+        ensures step { let w = world_in S.signature_of S.verifies S.digest_of H.hash_of self.old in
+            let e = event.now in
+            IfOk result (λ o. StepOf w (sofar_in self.old) e.at e.act o (sofar_in self.new)) }
         ensures rest { self.new ≡ record self.old {
           publisher = record self.old.publisher {
             keys = self.new.publisher.keys;
@@ -96,10 +88,10 @@ impl<'a, S: Scheme, H: Nsec3Hasher> Run<'a, S, H> {
 
     fn key_call(&mut self, call: &KeyCall, at: &UnixTime) -> Result<Vec<Action>, KeyFault>
         requires { added_by_call call.now ≤ 65531 }
-        ensures keys { GivesKeys
-            (λ v. v.items) self.old.publisher.keys self.new.publisher.keys result
-            (apply (digest_at (S.digest_of self.old.publisher.scheme.now)
-            self.old.publisher.zone.apex) (call_of call.now) at.now self.old.publisher.keys) }
+        ensures keys { let old = self.old.publisher.keys in
+            let digests = digests S.digest_of self.old.publisher in
+            Gives Copied (λ v. v.items) old self.new.publisher.keys result
+            (apply digests (call_of call.now) at.now old) }
         ensures rest { self.new ≡ record self.old {
           publisher = record self.old.publisher { keys = self.new.publisher.keys };
         } }
@@ -160,12 +152,9 @@ impl<'a, S: Scheme, H: Nsec3Hasher> Run<'a, S, H> {
 
     /// Shows the DS set at the next place.
     fn show_ds(&mut self) -> Result<Outcome, AllocError>
-        ensures step { IfOk result (λ o. (at : ℕ) → StepOf (world self.old.publisher.zone
-            self.old.publisher.life (S.signature_of self.old.publisher.scheme.now)
-            (S.verifies self.old.publisher.scheme.now)
-            (S.digest_of self.old.publisher.scheme.now) (H.hash_of self.old.publisher.hasher.now))
-            (sofar self.old.publisher.keys self.old.shown.items) at Act.ShowDs o
-            (sofar self.new.publisher.keys self.new.shown.items)) }
+        ensures step { let w = world_in S.signature_of S.verifies S.digest_of H.hash_of self.old in
+            IfOk result (λ o. (at : ℕ)
+            → StepOf w (sofar_in self.old) at Act.ShowDs o (sofar_in self.new)) }
         ensures rest { self.new ≡ record self.old { shown = self.new.shown } }
     {
         let place = self.shown.len();
@@ -177,12 +166,9 @@ impl<'a, S: Scheme, H: Nsec3Hasher> Run<'a, S, H> {
 
     /// Shows the DNSKEY answer at the next place.
     fn show_dnskey(&mut self, at: &UnixTime) -> Result<Outcome, AllocError>
-        ensures step { IfOk result (λ o. StepOf (world self.old.publisher.zone
-            self.old.publisher.life (S.signature_of self.old.publisher.scheme.now)
-            (S.verifies self.old.publisher.scheme.now)
-            (S.digest_of self.old.publisher.scheme.now) (H.hash_of self.old.publisher.hasher.now))
-            (sofar self.old.publisher.keys self.old.shown.items) at.now Act.ShowDnskey o
-            (sofar self.new.publisher.keys self.new.shown.items)) }
+        ensures step { let w = world_in S.signature_of S.verifies S.digest_of H.hash_of self.old in
+            let act = Act.ShowDnskey in
+            IfOk result (λ o. StepOf w (sofar_in self.old) at.now act o (sofar_in self.new)) }
         ensures rest { self.new ≡ record self.old { shown = self.new.shown } }
     {
         let place = self.shown.len();
@@ -197,12 +183,9 @@ impl<'a, S: Scheme, H: Nsec3Hasher> Run<'a, S, H> {
 
     /// Shows the zone's answer to a question at the next place.
     fn ask(&mut self, question: &Question, at: &UnixTime) -> Result<Outcome, AllocError>
-        ensures step { IfOk result (λ o. StepOf (world self.old.publisher.zone
-            self.old.publisher.life (S.signature_of self.old.publisher.scheme.now)
-            (S.verifies self.old.publisher.scheme.now)
-            (S.digest_of self.old.publisher.scheme.now) (H.hash_of self.old.publisher.hasher.now))
-            (sofar self.old.publisher.keys self.old.shown.items) at.now
-            (Act.Ask question.now) o (sofar self.new.publisher.keys self.new.shown.items)) }
+        ensures step { let w = world_in S.signature_of S.verifies S.digest_of H.hash_of self.old in
+            let act = Act.Ask question.now in
+            IfOk result (λ o. StepOf w (sofar_in self.old) at.now act o (sofar_in self.new)) }
         ensures rest { self.new ≡ record self.old { shown = self.new.shown } }
     {
         let place = self.shown.len();
@@ -224,13 +207,9 @@ impl<'a, S: Scheme, H: Nsec3Hasher> Run<'a, S, H> {
     /// Judges three things that were shown, for the question of the zone answer.
     fn judge_shown(&self, ds: usize, dnskey: usize, answer: usize, at: &UnixTime) -> Outcome
         requires { self.now.limit ≡ self.now.publisher.zone.limit }
-        ensures { JudgesThings (world self.now.publisher.zone self.now.publisher.life
-            (S.signature_of self.now.publisher.scheme.now)
-            (S.verifies self.now.publisher.scheme.now) (S.digest_of self.now.publisher.scheme.now)
-            (H.hash_of self.now.publisher.hasher.now)) at.now
-            (slice_get (map shown_of self.now.shown.items) ds)
-            (slice_get (map shown_of self.now.shown.items) dnskey)
-            (slice_get (map shown_of self.now.shown.items) answer) result }
+        ensures { let w = world_in S.signature_of S.verifies S.digest_of H.hash_of self.now in
+            let thing = slice_get (sofar_in self.now).shown in
+            JudgesThings w at.now (thing ds) (thing dnskey) (thing answer) result }
     {
         match (
             self.shown.get(ds),
@@ -256,12 +235,10 @@ impl<'a, S: Scheme, H: Nsec3Hasher> Run<'a, S, H> {
         at: &UnixTime,
     ) -> Outcome
         requires { self.now.limit ≡ self.now.publisher.zone.limit }
-        ensures { JudgesBytes (world self.now.publisher.zone self.now.publisher.life
-            (S.signature_of self.now.publisher.scheme.now)
-            (S.verifies self.now.publisher.scheme.now) (S.digest_of self.now.publisher.scheme.now)
-            (H.hash_of self.now.publisher.hasher.now)) at.now
-            (slice_get (map shown_of self.now.shown.items) ds) dnskey_bytes.now answer_bytes.now
-            (asked_of question.now) result }
+        ensures { let w = world_in S.signature_of S.verifies S.digest_of H.hash_of self.now in
+            let asked = asked_of question.now in
+            let thing = slice_get (sofar_in self.now).shown ds in
+            JudgesBytes w at.now thing dnskey_bytes.now answer_bytes.now asked result }
     {
         match self.shown.get(ds) {
             Some(Shown::OfParent(ds)) => {
@@ -281,26 +258,15 @@ impl<'a, S: Scheme, H: Nsec3Hasher> Run<'a, S, H> {
         at: &UnixTime,
     ) -> Result<Judgement, Refused>
         requires { self.now.limit ≡ self.now.publisher.zone.limit }
-        ensures { IsJudgement pointer_limit
-            (record {
-              verifies = S.verifies self.now.publisher.scheme.now;
-              hash = H.hash_of
-                  self.now.publisher.hasher.now;
-              digest = S.digest_of self.now.publisher.scheme.now;
-            })
-            (handing (world self.now.publisher.zone self.now.publisher.life
-            (S.signature_of self.now.publisher.scheme.now)
-            (S.verifies self.now.publisher.scheme.now) (S.digest_of self.now.publisher.scheme.now)
-            (H.hash_of self.now.publisher.hasher.now)) ds.now dnskey_bytes.now answer_bytes.now
-            (asked_of question.now) at.now)
-            (answer_of result) (verifications_of result) (hashes_of result) }
+        ensures { let w = world_in S.signature_of S.verifies S.digest_of H.hash_of self.now in
+            let asked = asked_of question.now in
+            let h = handing w ds.now dnskey_bytes.now answer_bytes.now asked at.now in
+            JudgesSo pointer_limit w.answers h result }
     {
-        counted::<S, H, Brand, Brand>(
+        judge_with(
             self.alloc,
             self.publisher.scheme,
             self.publisher.hasher,
-            Blank::new(1),
-            Blank::new(1),
             self.publisher.apex(),
             ds,
             dnskey_bytes,
@@ -310,57 +276,6 @@ impl<'a, S: Scheme, H: Nsec3Hasher> Run<'a, S, H> {
             self.limit,
         )
     }
-}
-
-/// A judgement by a scheme and a hasher, with counts from 0 on.
-fn counted<S: Scheme, H: Nsec3Hasher, L: Ledger, M: Ledger>(
-    alloc: Global,
-    scheme: &S,
-    hasher: &H,
-    first: Blank,
-    second: Blank,
-    apex: &Name,
-    ds: &[Ds<Vec<u8>>],
-    dnskey_bytes: &[u8],
-    answer_bytes: &[u8],
-    question: &Question,
-    now: u32,
-    limit: u16,
-) -> Result<Judgement, Refused>
-    requires name { first.name ≡ L.name }
-    requires parts { first.parts ≡ L.parts }
-    requires some { 0 < L.parts }
-    requires second_name { second.name ≡ M.name }
-    requires second_parts { second.parts ≡ M.parts }
-    requires second_some { 0 < M.parts }
-    ensures { IsJudgement pointer_limit (record {
-      verifies = S.verifies scheme.now;
-      hash = H.hash_of hasher.now;
-      digest = S.digest_of scheme.now;
-    })
-        (record {
-          apex = apex.now;
-          ds = ds.now;
-          dnskey_bytes = dnskey_bytes.now;
-          answer_bytes = answer_bytes.now;
-          asked = asked_of question.now;
-          now = now;
-          limit = limit;
-        })
-        (answer_of result) (verifications_of result) (hashes_of result) }
-{
-    let mut checks = SchemeChecks::<S, H, L, M>::new(scheme, hasher, first, second);
-    judge(
-        alloc,
-        apex,
-        ds,
-        dnskey_bytes,
-        answer_bytes,
-        question,
-        now,
-        &mut checks,
-        limit,
-    )
 }
 
 /// A text where there is one.

@@ -3,8 +3,8 @@ ghost use Rattle.std.specs.Prelude.{◌≡◌, ◌<◌};
 ghost use Rattle.definitions.specs.Limits.{pointer_limit};
 ghost use Rattle.messages.specs.Questions.{asked_of};
 ghost use Rattle.answer_judge.specs.Facts.{handed};
-ghost use Rattle.answer_judge.specs.Judging.{answer_of, verifications_of, hashes_of};
-ghost use Rattle.answer_judge.specs.Meeting.{IsJudgement};
+ghost use Rattle.answer_judge.specs.Answers.{answers_by};
+ghost use Rattle.answer_judge.specs.Meeting.{JudgesSo};
 
 use crate::judge::judge;
 use crate::judge::verdict::{Judgement, Refused};
@@ -31,14 +31,10 @@ pub fn judge_with<S: Scheme, H: Nsec3Hasher>(
     now: u32,
     limit: u16,
 ) -> Result<Judgement, Refused>
-    ensures { IsJudgement pointer_limit
-        (record {
-          verifies = S.verifies scheme.now;
-          hash = H.hash_of hasher.now;
-          digest = S.digest_of scheme.now;
-        })
-        (handed apex.now ds.now dnskey_bytes.now answer_bytes.now (asked_of question.now) now limit)
-        (answer_of result) (verifications_of result) (hashes_of result) }
+    ensures { let asked = asked_of question.now in
+        let h = handed apex.now ds.now dnskey_bytes.now answer_bytes.now asked now limit in
+        let a = answers_by S.verifies S.digest_of H.hash_of scheme.now hasher.now in
+        JudgesSo pointer_limit a h result }
 {
     counted::<S, H, Brand, Brand>(
         alloc,
@@ -77,14 +73,10 @@ fn counted<S: Scheme, H: Nsec3Hasher, L: Ledger, M: Ledger>(
     requires second_name { second.name ≡ M.name }
     requires second_parts { second.parts ≡ M.parts }
     requires second_some { 0 < M.parts }
-    ensures { IsJudgement pointer_limit
-        (record {
-          verifies = S.verifies scheme.now;
-          hash = H.hash_of hasher.now;
-          digest = S.digest_of scheme.now;
-        })
-        (handed apex.now ds.now dnskey_bytes.now answer_bytes.now (asked_of question.now) now limit)
-        (answer_of result) (verifications_of result) (hashes_of result) }
+    ensures { let asked = asked_of question.now in
+        let h = handed apex.now ds.now dnskey_bytes.now answer_bytes.now asked now limit in
+        let a = answers_by S.verifies S.digest_of H.hash_of scheme.now hasher.now in
+        JudgesSo pointer_limit a h result }
 {
     let mut checks = SchemeChecks::<S, H, L, M>::new(scheme, hasher, first, second);
     judge(

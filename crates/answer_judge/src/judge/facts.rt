@@ -38,14 +38,16 @@ pub(crate) fn read_facts<'a, C: Checks>(
 ) -> Result<Facts<'a>, AllocError>
     requires room { count.old + length records.now < 2 ^ 32 }
     requires other { (rtype == 47) ≡ false }
-    ensures answer { IfOk result (λ f. f.answer ≡ verified_rrset (held_by (C.answers checks.old)
-        trust.now) pointer_limit message.now (map spelled records.now) name.now rtype) }
-    ensures links { IfOk result (λ f. f.links.items ≡ verified_links (held_by (C.answers checks.old)
-        trust.now) pointer_limit message.now (map spelled records.now)) }
-    ensures tried { IfOk result (λ _. count.new ≡ count.old
-        + tries (held_by (C.answers checks.old) trust.now) pointer_limit message.now
-        (answer_sought pointer_limit message.now trust.now.apex.now (map spelled records.now) name.now rtype)
-        [] (map spelled records.now)) }
+    ensures answer { let w = held_by (C.answers checks.old) trust.now in
+        let m = message.now in let rs = map spelled records.now in
+        IfOk result (λ f. f.answer ≡ verified_rrset w pointer_limit m rs name.now rtype) }
+    ensures links { let w = held_by (C.answers checks.old) trust.now in
+        let m = message.now in let rs = map spelled records.now in
+        IfOk result (λ f. f.links.items ≡ verified_links w pointer_limit m rs) }
+    ensures tried { let w = held_by (C.answers checks.old) trust.now in
+        let m = message.now in let rs = map spelled records.now in
+        let sought = answer_sought pointer_limit m w.apex rs name.now rtype in
+        IfOk result (λ _. count.new ≡ count.old + tries w pointer_limit m sought [] rs) }
     ensures counted { C.verified checks.new + count.old ≡ C.verified checks.old + count.new }
     ensures bound { count.new ≤ count.old + length (filter is_signature (map spelled records.now)) }
     ensures hashed { C.hashed checks.new ≡ C.hashed checks.old }
@@ -77,8 +79,8 @@ fn read_nsec_groups(
     message: &[u8],
     records: &[ViewRecord],
 ) -> Result<Vec<Group>, AllocError>
-    ensures { IfOk result (λ gs. AreGathered message.now apex.now
-        (map spelled records.now) (map spelled records.now) gs.items) }
+    ensures { let rs = map spelled records.now in
+        IfOk result (λ gs. AreGathered message.now apex.now rs rs gs.items) }
 {
     let mut groups: Vec<Group> = Vec::new(alloc);
     for record in records {
@@ -99,9 +101,9 @@ fn read_nsec_group(
     records: &[ViewRecord],
     owner: &ParsedName,
 ) -> Result<Option<Group>, AllocError>
-    ensures { IfOk result (λ o. MatchOption o
-        (stands_alone message.now apex.now (map spelled records.now) owner.now ≡ false)
-        (λ g. (g.owner ≡ owner.now) × IsAlone message.now apex.now (map spelled records.now) g)) }
+    ensures { let rs = map spelled records.now in
+        IfOk result (λ o. MatchOption o (stands_alone message.now apex.now rs owner.now ≡ false)
+        (λ g. (g.owner ≡ owner.now) × IsAlone message.now apex.now rs g)) }
 {
     let owner = owner.to_name(alloc)?;
     if !owner.ends_with(apex) {

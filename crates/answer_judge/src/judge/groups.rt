@@ -5,7 +5,7 @@ ghost use Rattle.messages.specs.Record.{spelled};
 ghost use Rattle.answer_judge.specs.Facts.{is_signature, is_due, fits_key, fields_read, signs};
 ghost use Rattle.answer_judge.specs.Verified.{datum_of, rrset_in};
 ghost use Rattle.answer_judge.specs.declared.judge.groups.Group.{Group};
-ghost use Rattle.answer_judge.specs.Marked.{held_by, is_of, are_apart, data_in, marked, signed_of, is_tried_in, tries_in};
+ghost use Rattle.answer_judge.specs.Marked.{held_by, is_of, are_apart, data_in, marked, signed_of, signs_group, is_tried_in, tries_in};
 ghost use Rattle.records.specs.Message.{if_true};
 ghost use Rattle.answer_judge.specs.Counted.{can_try, one_if};
 ghost use Rattle.std.specs.Option.{option_map};
@@ -72,8 +72,8 @@ pub(crate) fn read_group(
 ) -> Result<Group, AllocError>
     ensures owner { IfOk result (λ g. g.owner ≡ owner.now) }
     ensures rtype { IfOk result (λ g. g.rtype ≡ rtype) }
-    ensures items { IfOk result (λ g. map (λ d. d.items) g.items.items
-        ≡ rrset_in pointer_limit message.now (map spelled records.now) owner.now rtype) }
+    ensures items { let rs = map spelled records.now in
+        IfOk result (λ g. data_in g ≡ rrset_in pointer_limit message.now rs owner.now rtype) }
     ensures unverified { IfOk result (λ g. g.verified ≡ None) }
 {
     let mut items = Vec::new(alloc);
@@ -120,11 +120,12 @@ pub(crate) fn verify_groups<C: Checks>(
 ) -> Result<(), AllocError>
     requires room { count.old + length records.now < 2 ^ 32 }
     requires apart { are_apart groups.old ≡ true }
-    ensures marked { IfOk result
-        (λ _. groups.new ≡ map (marked (held_by (C.answers checks.old) trust.now) message.now
-        (map spelled records.now)) groups.old) }
-    ensures tried { IfOk result (λ _. count.new ≡ count.old
-        + tries_in (held_by (C.answers checks.old) trust.now) message.now groups.old (map spelled records.now)) }
+    ensures marked { let w = held_by (C.answers checks.old) trust.now in
+        let rs = map spelled records.now in
+        IfOk result (λ _. groups.new ≡ map (marked w message.now rs) groups.old) }
+    ensures tried { let w = held_by (C.answers checks.old) trust.now in
+        let rs = map spelled records.now in
+        IfOk result (λ _. count.new ≡ count.old + tries_in w message.now groups.old rs) }
     ensures counted { C.verified checks.new + count.old ≡ C.verified checks.old + count.new }
     ensures bound { count.new ≤ count.old + length (filter is_signature (map spelled records.now)) }
     ensures few { count.new ≤ count.old + length records.now }
@@ -152,11 +153,12 @@ fn verify_record<C: Checks>(
     requires room { count.old + 1 < 2 ^ 32 }
     requires signature { is_signature (spelled record.now) ≡ true }
     requires apart { are_apart groups.old ≡ true }
-    ensures marked { IfOk result
-        (λ _. groups.new ≡ map (marked (held_by (C.answers checks.old) trust.now) message.now
-        (spelled record.now ∷ [])) groups.old) }
-    ensures tried { IfOk result (λ _. count.new ≡ count.old + one_if
-        (is_tried_in (held_by (C.answers checks.old) trust.now) message.now groups.old (spelled record.now))) }
+    ensures marked { let w = held_by (C.answers checks.old) trust.now in
+        let r = spelled record.now in
+        IfOk result (λ _. groups.new ≡ map (marked w message.now (r ∷ [])) groups.old) }
+    ensures tried { let w = held_by (C.answers checks.old) trust.now in
+        let is_tried = is_tried_in w message.now groups.old (spelled record.now) in
+        IfOk result (λ _. count.new ≡ count.old + one_if is_tried) }
     ensures counted { C.verified checks.new + count.old ≡ C.verified checks.old + count.new }
     ensures bound { count.new ≤ count.old + 1 }
     ensures hashed { C.hashed checks.new ≡ C.hashed checks.old }
@@ -201,13 +203,14 @@ fn verifies<C: Checks>(
     count: &mut u32,
 ) -> Result<Option<Signed>, AllocError>
     requires { count.old + 1 < 2 ^ 32 }
-    ensures signs { IfOk result
-        (λ o. o ≡ if_true (signs (C.answers checks.old) trust.now.apex.now trust.now.keys.now
-        trust.now.moment group.now.owner (map (λ d. d.items) group.now.items.items)
-        (fields_read signature.now) signature.now.signature.now)
-        (signed_of (fields_read signature.now))) }
-    ensures tried { IfOk result (λ _. count.new ≡ count.old + one_if
-        (can_try (held_by (C.answers checks.old) trust.now) group.now.owner (data_in group.now) (fields_read signature.now))) }
+    ensures signs { let w = held_by (C.answers checks.old) trust.now in
+        let f = fields_read signature.now in
+        let is_signed = signs_group w group.now f signature.now.signature.now in
+        IfOk result (λ o. o ≡ if_true is_signed (signed_of f)) }
+    ensures tried { let w = held_by (C.answers checks.old) trust.now in
+        let f = fields_read signature.now in
+        let is_tried = can_try w group.now.owner (data_in group.now) f in
+        IfOk result (λ _. count.new ≡ count.old + one_if is_tried) }
     ensures counted { C.verified checks.new + count.old ≡ C.verified checks.old + count.new }
     ensures bound { count.new ≤ count.old + 1 }
     ensures hashed { C.hashed checks.new ≡ C.hashed checks.old }
@@ -243,8 +246,8 @@ fn signed_of(signature: &RrsigView) -> Signed
 
 /// What a signature of a group is made over (RFC 4034, 3.1.8.1).
 fn octets_of(alloc: Global, signature: &RrsigView, group: &Group) -> Result<Vec<u8>, AllocError>
-    ensures { IfOk result (λ v. v.items ≡ signed_octets
-        (fields_read signature.now) group.now.owner 1 (map (λ d. d.items) group.now.items.items)) }
+    ensures { let f = fields_read signature.now in
+        IfOk result (λ v. v.items ≡ signed_octets f group.now.owner 1 (data_in group.now)) }
 {
     let fields = ProtoRrsig::new(
         signature.type_covered,
@@ -262,8 +265,8 @@ fn octets_of(alloc: Global, signature: &RrsigView, group: &Group) -> Result<Vec<
 impl<'a> Trust<'a> {
     /// Whether a signature is the apex's, holds at the moment, and counts the labels of an owner (RFC 4035, 5.3.1).
     fn is_due(&self, signature: &RrsigView, owner: &Name) -> bool
-        ensures { result
-            ≡ is_due self.now.apex.now self.now.moment owner.now (fields_read signature.now) }
+        ensures { let f = fields_read signature.now in
+            result ≡ is_due self.now.apex.now self.now.moment owner.now f }
     {
         signature.labels == owner.rrsig_label_count()
             && in_time(signature, self.moment)
@@ -272,8 +275,8 @@ impl<'a> Trust<'a> {
 
     /// The key of a signature's tag and algorithm.
     fn key(&self, signature: &RrsigView) -> Option<&TaggedKey<'a>>
-        ensures { option_map
-            (λ k. k.now) result ≡ find (fits_key (fields_read signature.now)) self.now.keys.now }
+        ensures { let fits = fits_key (fields_read signature.now) in
+            option_map (λ k. k.now) result ≡ find fits self.now.keys.now }
     {
         for key in self.keys {
             if key.tag() == signature.key_tag && key.dnskey().algorithm() == signature.algorithm {

@@ -42,11 +42,9 @@ impl<'a, S: Scheme, H: Nsec3Hasher, L: Ledger, M: Ledger> SchemeChecks<'a, S, H,
 }
 
 impl<'a, S: Scheme, H: Nsec3Hasher, L: Ledger, M: Ledger> Checks for SchemeChecks<'a, S, H, L, M> {
-    ghost answers = { λ c. record {
-      verifies = S.verifies c.scheme.now;
-      hash = H.hash_of c.hasher.now;
-      digest = S.digest_of c.scheme.now;
-    } };
+    ghost use Rattle.answer_judge.specs.Answers.{answers_by};
+
+    ghost answers = { λ c. answers_by S.verifies S.digest_of H.hash_of c.scheme.now c.hasher.now };
 
     ghost verified = { λ c. c.verified };
 

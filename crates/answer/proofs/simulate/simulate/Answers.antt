@@ -3,7 +3,8 @@ use Rattle.answer_zone.specs.Accepting.{sorted_records}
 use Rattle.answer_zone.specs.ZoneView.{mode_of}
 use Rattle.records.specs.HandedRr.{handed_of}
 use Rattle.answer.specs.Running.{sofar}
-use Rattle.answer.specs.Simulating.{World, begin, world}
+use Rattle.answer.specs.Simulating.{begin}
+use Rattle.answer.specs.World.{World, world}
 use Rattle.answer.proofs.SimulateLoop.{step_on, step_at, at_end}
 use Rattle.answer.proofs.OneState.{along_all, zone_known}
 use Rattle.answer.proofs.simulate.simulate.Goals as goal

@@ -3,7 +3,8 @@ use Rattle.answer_zone.specs.Accepting.{sorted_records}
 use Rattle.answer_zone.specs.ZoneView.{mode_of}
 use Rattle.records.specs.HandedRr.{handed_of}
 use Rattle.answer.specs.Running.{sofar}
-use Rattle.answer.specs.Simulating.{World, begin, world}
+use Rattle.answer.specs.Simulating.{begin}
+use Rattle.answer.specs.World.{World, world}
 use Rattle.answer.proofs.SimulateLoop.{GoesOn}
 use Rattle.answer.proofs.simulate.simulate.Given as goal
 

@@ -17,7 +17,7 @@ pub returns-in_err-insert-in-Ok : goal.returns-in_err-insert-in-Ok
 returns-in_err-insert-in-Ok c =
     let es = c.self.inside.bound.entries in
     let q = string_bytes c.args.new.pubref in
-    absurd (c.requires (ap (λ (s : ZoneKeys). bound_at s.bound q) (sym c.self.view_is) ∙ find-by_text es q ∙ ap (λ p. lookup (λ k. is_eq (slice_cmp nat_cmp p (string_bytes k))) es) (sym c.in_ok-reference.ensures.cases) ∙ c.in_err-insert-in-Ok.ensures.absent))
+    absurd (c.requires.bound (ap (λ (s : ZoneKeys). bound_at s.bound q) (sym c.self.view_is) ∙ find-by_text es q ∙ ap (λ p. lookup (λ k. is_eq (slice_cmp nat_cmp p (string_bytes k))) es) (sym c.in_ok-reference.ensures.cases) ∙ c.in_err-insert-in-Ok.ensures.absent))
 
 pub returns-in_ok-insert-in-Ok : goal.returns-in_ok-insert-in-Ok
 returns-in_ok-insert-in-Ok c =

@@ -12,7 +12,7 @@ use Rattle.answer.specs.NewKeys.{added_to, added_tag}
 use Rattle.answer.specs.declared.publisher.fault.KeyFault.{KeyFault}
 use Rattle.keyset.specs.KeyAnswers as answers
 use Rattle.keyset.specs.KeyAnswers.{refusal_of}
-use Rattle.answer.specs.KeyCalls.{Fails, IsNamed, fault_of}
+use Rattle.answer.specs.KeyCalls.{Fails, IsAccepted, IsNamed, fault_of}
 use Rattle.answer.proofs.BoundKeys.{put-by_text, removed-put}
 use Rattle.answer.proofs.AddProofs.{lifted_ok, refused_named}
 use Rattle.answer.proofs.publisher.keys.ZoneKeys.add_first.Goals as goal
@@ -32,7 +32,7 @@ returns c =
     let es = c.self.inside.bound.entries in
     let q = c.as_str.result.now in
     let is_pubref : q ≡ string_bytes c.args.new.pubref = c.as_str.ensures.value ∙ c.in_ok-reference.ensures.cases in
-    let absent : find reference_cmp q (by_text es) ≡ None = ap (λ p. find reference_cmp p (by_text es)) is_pubref ∙ ap (λ (s : ZoneKeys). bound_at s.bound (string_bytes c.args.new.pubref)) c.self.view_is ∙ c.requires in
+    let absent : find reference_cmp q (by_text es) ≡ None = ap (λ p. find reference_cmp p (by_text es)) is_pubref ∙ ap (λ (s : ZoneKeys). bound_at s.bound (string_bytes c.args.new.pubref)) c.self.view_is ∙ c.requires.unbound in
     let unbound : by_text c.remove.new.self.entries ≡ by_text es = ap by_text (c.remove.ensures.entries ∙ ap (remove_entry (λ k. is_eq (slice_cmp nat_cmp q (string_bytes k)))) c.in_ok-insert.ensures.entries ∙ removed-put es q c.in_ok-clone.field-0 c.args.bound (is_pubref ∙ sym c.in_ok-clone.ensures.cases) absent) in
     let tag : c.key_tag-tag.result ≡ key_tag c.args.bound.key = c.key_tag-tag.ensures ∙ ap (λ (b : BoundKey). key_tag b.key) c.bound.view_is in
     let refused : (c.add_key.new.keys ≡ c.self.inside.keys) × answers.Fails (refusal_of c.in-Err.error) (added_tag c.self.inside.keys c.args.new c.key_tag-tag.result) = c.in-Err.ensures in
@@ -43,5 +43,5 @@ returns c =
     let answer = added_to c.args.self.now c.args.new c.args.bound in
     let named = refused_named c.in-Err.error bound answer (subst B c.self.view_is (subst A tag refused.1)) in
     let N : KeyFault → Type 0 = λ f. IsNamed f in
-    let F : KeyFault → Type 0 = λ f. Fails (fault_of f) (lifted bound answer) in
+    let F : KeyFault → Type 0 = λ f. Fails IsAccepted (fault_of f) (lifted bound answer) in
     (unchanged, subst N (sym c.from.ensures) named.0, subst F (sym c.from.ensures) named.1)

@@ -2,7 +2,8 @@ use Rattle.std.proofs.Common.{subst, sym, IfOk}
 use Rattle.std.proofs.lemmas.Result.{IfOk-weaker}
 use Rattle.answer.specs.declared.event.Act.{Act}
 use Rattle.answer.specs.Running.{sofar}
-use Rattle.answer.specs.Simulating.{world, StepOf}
+use Rattle.answer.specs.Simulating.{StepOf}
+use Rattle.answer.specs.World.{world}
 use Rattle.answer.proofs.simulate.run.Run.serve.Goals as goal
 
 pub returns-in-ShowDs-clause-step : goal.returns-in-ShowDs-clause-step

@@ -1,79 +1,24 @@
 //! A publisher of a small zone through its first roll.
-use crate::publisher::fault::Mode;
-use crate::publisher::keys::KeyKind;
-use crate::publisher::publishing::Publisher;
-use answer_judge::scheme::{Scheme, SchemeError};
-use denial_data::dnskey::Dnskey;
-use denial_data::hasher::{HashError, Nsec3Hasher};
+use crate::scheme::{TestScheme, WELL};
+use answer::names::Name;
+use answer::plain::record::{Record, Soa, ZoneRecordData};
+use answer::plain::{Class, Rtype, SecurityAlgorithm, Ttl};
+use answer::publisher::fault::Mode;
+use answer::publisher::keys::KeyKind;
+use answer::publisher::publishing::Publisher;
+use answer::question::Question;
 use keyset::{Available, RollType, UnixTime};
-use messages::question::Question;
-use records::names::Name;
-use records::plain::record::{Record, Soa, ZoneRecordData};
-use records::plain::{Class, DigestAlgorithm, Rtype, SecurityAlgorithm, Ttl};
 use std::alloc::Global;
 use std::test::Fail;
 use std::time::Duration;
 
 const ROLL: RollType = RollType::AlgorithmRoll;
 
-/// A signature is a copy of the octets, and every digest is the octet 7.
-struct Plain;
-
-impl Scheme for Plain {
-    ghost use Rattle.std.specs.Prelude.{[], ◌∷◌, Some};
-    ghost use Rattle.std.specs.Str.{bytes_eq};
-
-    ghost verifies = { λ _ _ octets signature. bytes_eq octets signature };
-
-    ghost signature_of = { λ _ _ octets. Some octets };
-
-    ghost digest_of = { λ _ _ _. Some (7 ∷ []) };
-
-    fn sign(
-        &self,
-        alloc: Global,
-        _key: &Dnskey<&[u8]>,
-        octets: &[u8],
-    ) -> Result<Vec<u8>, SchemeError> {
-        Ok(octets.to_vec(alloc)?)
-    }
-
-    fn verify(&self, _key: &Dnskey<&[u8]>, octets: &[u8], signature: &[u8]) -> bool {
-        octets == signature
-    }
-
-    fn digest(
-        &self,
-        alloc: Global,
-        _algorithm: DigestAlgorithm,
-        _octets: &[u8],
-    ) -> Result<Vec<u8>, SchemeError> {
-        Ok(b"\x07".to_vec(alloc)?)
-    }
-}
-
-impl Nsec3Hasher for Plain {
-    ghost use Rattle.std.specs.Prelude.{None};
-
-    ghost hash_of = { λ _ _ _ _ _. None };
-
-    fn hash(
-        &self,
-        _alloc: Global,
-        _name: &[u8],
-        _algorithm: u8,
-        _iterations: u16,
-        _salt: &[u8],
-    ) -> Result<Vec<u8>, HashError> {
-        Err(HashError::Failed)
-    }
-}
-
 fn name(alloc: Global) -> Result<Name, Fail> {
     Ok(Name::from_octets(alloc, b"\x07example\x00")?)
 }
 
-fn publisher(alloc: Global) -> Result<Publisher<'static, Plain, Plain>, Fail> {
+fn publisher(alloc: Global) -> Result<Publisher<'static, TestScheme, TestScheme>, Fail> {
     let soa = Soa {
         mname: name(alloc)?,
         rname: name(alloc)?,
@@ -95,8 +40,8 @@ fn publisher(alloc: Global) -> Result<Publisher<'static, Plain, Plain>, Fail> {
         name(alloc)?,
         records,
         Mode::Nsec,
-        &Plain,
-        &Plain,
+        WELL,
+        WELL,
         0,
         100,
     )?)

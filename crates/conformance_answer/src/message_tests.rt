@@ -1,19 +1,13 @@
 //! Judgements of small messages of the zone `example`, with chains of its two names.
-ghost use Rattle.std.specs.Prelude.{◌≡◌, ◌<◌};
-
-use crate::judge::verdict::{DataList, Judgement, Refusal, Refused, Verdict};
-use crate::judge::{is_allowed, judge};
-use crate::scheme::counting::SchemeChecks;
-use crate::scheme::{Scheme, SchemeError};
-use denial_data::dnskey::Dnskey;
-use denial_data::ds::Ds;
-use denial_data::hasher::{HashError, Nsec3Hasher};
-use messages::question::Question;
-use records::names::{Name, ParsedName};
-use records::plain::{Class, DigestAlgorithm, Rtype, SecurityAlgorithm};
+use crate::scheme::WELL;
+use answer::denial::ds::Ds;
+use answer::judge::by_scheme::judge_with;
+use answer::judge::is_allowed;
+use answer::judge::verdict::{DataList, Judgement, Refusal, Refused, Verdict};
+use answer::names::{Name, ParsedName};
+use answer::plain::{Class, DigestAlgorithm, Rtype, SecurityAlgorithm};
+use answer::question::Question;
 use std::alloc::{AllocError, Global};
-use std::marker::Brand;
-use std::sync::ledger::{Blank, Ledger};
 
 const KEYS: &[u8] =
     b"\x00\x00\x84\x00\x00\x01\x00\x03\x00\x00\x00\x00\x07example\x00\x000\x00\x01\x07example\x00\x000\x00\x01\x00\x00\x01\x2c\x00\x08\x01\x00\x03\x0d\x00\x01\x00\x00\x07example\x00\x000\x00\x01\x00\x00\x01\x2c\x00\x06\x01\x01\x03\x0d\x00\x10\x07example\x00\x00.\x00\x01\x00\x00\x01\x2c\x00j\x000\x0d\x01\x00\x00\x01\x2c\x00\x00\x07\xd0\x00\x00\x03\xe8\x04\x1e\x07example\x00\x000\x0d\x01\x00\x00\x01\x2c\x00\x00\x07\xd0\x00\x00\x03\xe8\x04\x1e\x07example\x00\x07example\x00\x000\x00\x01\x00\x00\x01\x2c\x00\x08\x01\x00\x03\x0d\x00\x01\x00\x00\x07example\x00\x000\x00\x01\x00\x00\x01\x2c\x00\x06\x01\x01\x03\x0d\x00\x10";
@@ -33,63 +27,6 @@ const NO_TYPE: &[u8] =
 const NO_NAME: &[u8] =
     b"\x00\x00\x84\x00\x00\x01\x00\x04\x00\x00\x00\x00\x01b\x07example\x00\x00\x01\x00\x01\x01a\x07example\x00\x00\x2f\x00\x01\x00\x00\x01\x2c\x00\x11\x07example\x00\x00\x06\x40\x00\x00\x00\x00\x03\x01a\x07example\x00\x00.\x00\x01\x00\x00\x01\x2c\x00\x5c\x00\x2f\x0d\x02\x00\x00\x01\x2c\x00\x00\x07\xd0\x00\x00\x03\xe8\x04\x0e\x07example\x00\x00\x2f\x0d\x02\x00\x00\x01\x2c\x00\x00\x07\xd0\x00\x00\x03\xe8\x04\x0e\x07example\x00\x01a\x07example\x00\x00\x2f\x00\x01\x00\x00\x01\x2c\x00\x11\x07example\x00\x00\x06\x40\x00\x00\x00\x00\x03\x07example\x00\x00\x2f\x00\x01\x00\x00\x01\x2c\x00\x14\x01a\x07example\x00\x00\x07\x22\x00\x00\x00\x00\x03\x80\x07example\x00\x00.\x00\x01\x00\x00\x01\x2c\x00\x5d\x00\x2f\x0d\x01\x00\x00\x01\x2c\x00\x00\x07\xd0\x00\x00\x03\xe8\x04\x0e\x07example\x00\x00\x2f\x0d\x01\x00\x00\x01\x2c\x00\x00\x07\xd0\x00\x00\x03\xe8\x04\x0e\x07example\x00\x07example\x00\x00\x2f\x00\x01\x00\x00\x01\x2c\x00\x14\x01a\x07example\x00\x00\x07\x22\x00\x00\x00\x00\x03\x80";
 
-/// A signature is the octets that it is made over, and every digest is the octet 7.
-#[derive(Drop)]
-struct Plain;
-
-impl Scheme for Plain {
-    ghost use Rattle.std.specs.Prelude.{[], ◌∷◌, Some, None};
-    ghost use Rattle.std.specs.Str.{bytes_eq};
-
-    ghost verifies = { λ _ _ octets signature. bytes_eq signature octets };
-
-    ghost signature_of = { λ _ _ _. None };
-
-    ghost digest_of = { λ _ _ _. Some (7 ∷ []) };
-
-    fn sign(
-        &self,
-        _alloc: Global,
-        _key: &Dnskey<&[u8]>,
-        _octets: &[u8],
-    ) -> Result<Vec<u8>, SchemeError> {
-        Err(SchemeError::Failed)
-    }
-
-    fn verify(&self, _key: &Dnskey<&[u8]>, octets: &[u8], signature: &[u8]) -> bool {
-        signature == octets
-    }
-
-    fn digest(
-        &self,
-        alloc: Global,
-        _algorithm: DigestAlgorithm,
-        _octets: &[u8],
-    ) -> Result<Vec<u8>, SchemeError> {
-        match b"\x07".to_vec(alloc) {
-            Ok(digest) => Ok(digest),
-            Err(_) => Err(SchemeError::Memory),
-        }
-    }
-}
-
-impl Nsec3Hasher for Plain {
-    ghost use Rattle.std.specs.Prelude.{None};
-
-    ghost hash_of = { λ _ _ _ _ _. None };
-
-    fn hash(
-        &self,
-        _alloc: Global,
-        _name: &[u8],
-        _algorithm: u8,
-        _iterations: u16,
-        _salt: &[u8],
-    ) -> Result<Vec<u8>, HashError> {
-        Err(HashError::Failed)
-    }
-}
-
 /// What is handed in beside the apex, and the moment 1500 unless another is said.
 #[derive(Clone, Copy)]
 struct Case<'a> {
@@ -107,37 +44,28 @@ fn name(alloc: Global, wire: &[u8]) -> Result<Name, AllocError> {
     }
 }
 
-fn judge_by<L: Ledger, M: Ledger>(
+fn judge_by(
     alloc: Global,
     case: &Case,
     ds: &[Ds<Vec<u8>>],
     now: u32,
-    first: Blank,
-    second: Blank,
-) -> Result<Result<Judgement, Refused>, AllocError>
-    requires name { first.name ≡ L.name }
-    requires parts { first.parts ≡ L.parts }
-    requires some { 0 < L.parts }
-    requires second_name { second.name ≡ M.name }
-    requires second_parts { second.parts ≡ M.parts }
-    requires second_some { 0 < M.parts }
-{
+) -> Result<Result<Judgement, Refused>, AllocError> {
     let apex = name(alloc, b"\x07example\x00")?;
     let question = Question {
         name: name(alloc, case.name)?,
         rtype: case.rtype,
         class: Class::IN,
     };
-    let mut checks = SchemeChecks::<Plain, Plain, L, M>::new(&Plain, &Plain, first, second);
-    Ok(judge(
+    Ok(judge_with(
         alloc,
+        WELL,
+        WELL,
         &apex,
         ds,
         case.keys,
         case.answer,
         &question,
         now,
-        &mut checks,
         0,
     ))
 }
@@ -149,14 +77,7 @@ fn judged_at(alloc: Global, case: &Case, now: u32) -> Result<(&'static str, u32)
         DigestAlgorithm::SHA256,
         b"\x07".to_vec(alloc)?,
     );
-    let judgement = judge_by::<Brand, Brand>(
-        alloc,
-        case,
-        &[ds],
-        now,
-        Blank::new(1),
-        Blank::new(1),
-    )?;
+    let judgement = judge_by(alloc, case, &[ds], now)?;
     Ok(outcome(&judgement))
 }
 
@@ -165,7 +86,7 @@ fn judged(alloc: Global, case: &Case) -> Result<(&'static str, u32), AllocError>
 }
 
 fn unsigned(alloc: Global, case: &Case) -> Result<(&'static str, u32), AllocError> {
-    let judgement = judge_by::<Brand, Brand>(alloc, case, &[], 1500, Blank::new(1), Blank::new(1))?;
+    let judgement = judge_by(alloc, case, &[], 1500)?;
     Ok(outcome(&judgement))
 }
 
