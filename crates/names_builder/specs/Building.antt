@@ -1,5 +1,5 @@
 -- A name under construction: finished labels, and the octets of a label that is open.
-use Rattle.std.specs.Prelude.{◌≡◌, ℕ, suc, ◌≤◌, List, [], ◌∷◌, ◌++◌, length, take, drop, slice_set, Option, Some, None}
+use Rattle.std.specs.Prelude.{◌≡◌, ℕ, suc, ◌+◌, ◌<◌, ◌≤◌, List, [], ◌∷◌, ◌++◌, length, take, drop, slice_set, Option, Some, None}
 use Rattle.std.specs.List.{AllByRecursion}
 use Rattle.definitions.specs.Name.{Name, Label, IsLabel}
 use Rattle.names_labels.specs.Flat.{spelled, labels_in}
@@ -36,6 +36,17 @@ with_octets b os = record { done = b.done; open_label = b.open_label ++ os }
 -- with labels behind the ended one
 abbrev pub with_labels : Building → Name → Building
 with_labels b ls = record { done = all_labels b ++ ls; open_label = [] }
+
+-- longer than any relative name (RFC 1035, 2.3.4)
+abbrev pub IsOver : Building → Type 0
+IsOver b = 254 < length (octets_of_building b)
+
+-- octets that would make the open label too long, and those that would make the name so
+abbrev pub IsLongLabel : Building → List ℕ → Type 0
+IsLongLabel b os = 63 < length b.open_label + length os
+
+abbrev pub IsLongName : Building → List ℕ → Type 0
+IsLongName b os = (length b.open_label + length os ≤ 63) × IsOver (with_octets b os)
 
 -- the place of the open label's length
 abbrev pub head_of : Label → ℕ → Option ℕ

@@ -11,7 +11,7 @@ ghost use Rattle.names_wire.specs.Spelled.{SpellsNothing};
 ghost use Rattle.names_labels.specs.Open.{if_open_short};
 ghost use Rattle.names_builder.specs.FromText.{is_text, continued, standing, text_behind, AddsChar, ReadsSymbols, StopsAtSymbol, StopsInText, FirstFault};
 ghost use Rattle.names_builder.specs.Fault.{CharFault, FaultAt, fault_of};
-ghost use Rattle.names_builder.specs.Building.{Building, IsShort, octets_of_building, with_octets, closed, ended, labels_with, with_labels, all_labels};
+ghost use Rattle.names_builder.specs.Building.{Building, IsShort, octets_of_building, IsLongLabel, IsLongName, IsOver, with_octets, closed, ended, labels_with, with_labels, all_labels};
 
 use crate::push_error::{PushError, PushNameError};
 use crate::text::octet_of;
@@ -62,7 +62,8 @@ fn append_labels<B: OctetsBuilder, N: ToLabelIter>(
     builder: &mut B,
     name: &N,
 ) -> Result<(), ShortBuf>
-    ensures ok { OnOk result (B.bytes builder.new ≡ B.bytes builder.old ++ spelled (N.labels name.now)) }
+    ensures ok { let more = spelled (N.labels name.now) in
+        OnOk result (B.bytes builder.new ≡ B.bytes builder.old ++ more) }
     ensures name { IsName (N.name name.now) }
     ensures err { OnErr result (B.bytes builder.new ≡ B.bytes builder.old) }
 {
@@ -101,7 +102,8 @@ impl<B: OctetsBuilder> NameBuilder<B> {
     pub fn from_builder(builder: B) -> Result<Self, RelativeNameError>
     where
         B: Drop,
-        ensures ok { IfOk result (λ b. (b.open_label ≡ []) × SpellsRelative (B.bytes builder) b.done) }
+        ensures ok { IfOk result (λ b.
+            (b.open_label ≡ []) × SpellsRelative (B.bytes builder) b.done) }
         ensures refused { IfErr result (RefusedRelative (B.bytes builder)) }
     {
         match check_relative(builder.as_slice()) {
@@ -166,8 +168,8 @@ impl<B: OctetsBuilder> NameBuilder<B> {
     /// Adds octets to the open label; where none is open they open one. No octets open none.
     pub fn append_slice(&mut self, octets: &[u8]) -> Result<(), PushError>
         ensures ok { OnOk result (self.new ≡ with_octets self.old octets.now) }
-        ensures long_label { IsErrOf result PushError.LongLabel ↔ (63 < length self.old.open_label + length octets.now) }
-        ensures long_name { IsErrOf result PushError.LongName ↔ ((length self.old.open_label + length octets.now ≤ 63) × (254 < length (octets_of_building (with_octets self.old octets.now)))) }
+        ensures long_label { IsErrOf result PushError.LongLabel ↔ IsLongLabel self.old octets.now }
+        ensures long_name { IsErrOf result PushError.LongName ↔ IsLongName self.old octets.now }
         ensures err { OnErr result (self.new ≡ self.old) }
     {
         let (open, len) = (self.open_len(), self.len());
@@ -193,8 +195,8 @@ impl<B: OctetsBuilder> NameBuilder<B> {
     /// Adds an octet to the open label, or opens one with it.
     pub fn push(&mut self, octet: u8) -> Result<(), PushError>
         ensures ok { OnOk result (self.new ≡ with_octets self.old (octet ∷ [])) }
-        ensures long_label { IsErrOf result PushError.LongLabel ↔ (63 < length self.old.open_label + 1) }
-        ensures long_name { IsErrOf result PushError.LongName ↔ ((length self.old.open_label + 1 ≤ 63) × (254 < length (octets_of_building (with_octets self.old (octet ∷ []))))) }
+        ensures long_label { IsErrOf result PushError.LongLabel ↔ IsLongLabel self.old (octet ∷ []) }
+        ensures long_name { IsErrOf result PushError.LongName ↔ IsLongName self.old (octet ∷ []) }
         ensures err { OnErr result (self.new ≡ self.old) }
     {
         self.append_slice(&[octet])
@@ -215,7 +217,8 @@ impl<B: OctetsBuilder> NameBuilder<B> {
     pub fn append_label(&mut self, label: &[u8]) -> Result<(), PushError>
         ensures ok { OnOk result (self.new ≡ with_labels self.old (labels_with [] label.now)) }
         ensures long_label { IsErrOf result PushError.LongLabel ↔ (63 < length label.now) }
-        ensures long_name { IsErrOf result PushError.LongName ↔ ((length label.now ≤ 63) × (254 < length (octets_of_building (with_labels self.old (labels_with [] label.now))))) }
+        ensures long_name { let after = with_labels self.old (labels_with [] label.now) in
+            IsErrOf result PushError.LongName ↔ ((length label.now ≤ 63) × IsOver after) }
         ensures err { OnErr result (self.new ≡ self.old) }
     {
         let (open, len) = (self.open_len(), self.len());
@@ -238,7 +241,8 @@ impl<B: OctetsBuilder> NameBuilder<B> {
     /// Ends the open label, and adds the labels of a name behind it.
     pub fn append_name<N: Relative>(&mut self, name: &N) -> Result<(), PushNameError>
         ensures ok { OnOk result (self.new ≡ with_labels self.old (N.name name.now)) }
-        ensures long_name { IsErrOf result PushNameError.LongName ↔ (254 < length (octets_of_building (with_labels self.old (N.name name.now)))) }
+        ensures long_name { let after = with_labels self.old (N.name name.now) in
+            IsErrOf result PushNameError.LongName ↔ IsOver after }
         ensures err { OnErr result (self.new ≡ self.old) }
     {
         let (open, len) = (self.open_len(), self.len());
@@ -256,10 +260,13 @@ impl<B: OctetsBuilder> NameBuilder<B> {
 impl<B: OctetsBuilder> NameBuilder<B> {
     /// Adds a symbol: its octet to the open label, or a label's end.
     pub(crate) fn push_symbol(&mut self, symbol: Symbol) -> Result<(), FromStrError>
-        ensures ok { OnOk result ((ss : List TextSymbol) → continued self.old (symbol_of symbol ∷ ss) ≡ continued self.new ss) }
-        ensures refused { IfErr result (λ e. is_text e ≡ true → (ss : List TextSymbol) → if_open_short (continued self.old (symbol_of symbol ∷ ss)) ≡ None) }
+        ensures ok { OnOk result ((ss : List TextSymbol)
+            → continued self.old (symbol_of symbol ∷ ss) ≡ continued self.new ss) }
+        ensures refused { IfErr result (λ e. is_text e ≡ true → (ss : List TextSymbol)
+            → if_open_short (continued self.old (symbol_of symbol ∷ ss)) ≡ None) }
         ensures err { OnErr result (self.new ≡ self.old) }
-        ensures fault { IfErr result (λ e. IfSome (fault_of e) (FaultAt self.old (symbol_of symbol))) }
+        ensures fault { let is = FaultAt self.old (symbol_of symbol) in
+            IfErr result (λ e. IfSome (fault_of e) is) }
         ensures limits { IsShort self.new }
     {
         let _ = &self.builder;
@@ -296,10 +303,13 @@ impl<B: OctetsBuilder> NameBuilder<B> {
         reader: &mut SymbolReader,
         ch: char,
     ) -> Result<(), FromStrError>
-        ensures ok { OnOk result ((rest : List ℕ) → text_behind self.old (reader.old ++ ch ∷ rest) ≡ text_behind self.new (reader.new ++ rest)) }
-        ensures refused { IfErr result (λ e. is_text e ≡ true → (rest : List ℕ) → text_behind self.old (reader.old ++ ch ∷ rest) ≡ None) }
+        ensures ok { OnOk result ((rest : List ℕ) → text_behind self.old (reader.old ++ ch ∷ rest)
+            ≡ text_behind self.new (reader.new ++ rest)) }
+        ensures refused { IfErr result (λ e. is_text e ≡ true → (rest : List ℕ)
+            → text_behind self.old (reader.old ++ ch ∷ rest) ≡ None) }
         ensures err { OnErr result (self.new ≡ self.old) }
-        ensures fault { IfErr result (λ e. IfSome (fault_of e) (CharFault self.old reader.old ch)) }
+        ensures fault { let is = CharFault self.old reader.old ch in
+            IfErr result (λ e. IfSome (fault_of e) is) }
         ensures limits { IsShort self.new }
         ensures begun { is_begun reader.new ≡ true }
         ensures adds { OnOk result (AddsChar self.old reader.old ch self.new reader.new) }
@@ -321,10 +331,13 @@ impl<B: OctetsBuilder> NameBuilder<B> {
     ) -> Result<(), FromStrError>
         requires can { C.can_next chars }
         requires ends { IsFinite (C.remaining chars) }
-        ensures ok { OnOk result ((text : List ℕ) × Drains C.next_gives chars text × (text_behind self.old text ≡ Some (standing self.new))) }
-        ensures refused { IfErr result (λ e. is_text e ≡ true → SpellsNothing C.next_gives chars (text_behind self.old)) }
+        ensures ok { OnOk result ((text : List ℕ) × Drains C.next_gives chars text
+            × (text_behind self.old text ≡ Some (standing self.new))) }
+        ensures refused { IfErr result (λ e. is_text e ≡ true
+            → SpellsNothing C.next_gives chars (text_behind self.old)) }
         ensures stands { OnErr result (StopsInText C.next_gives chars [] self.old self.new) }
-        ensures fault { IfErr result (λ e. IfSome (fault_of e) (FirstFault C.next_gives chars [] self.old self.new)) }
+        ensures fault { let is = FirstFault C.next_gives chars [] self.old self.new in
+            IfErr result (λ e. IfSome (fault_of e) is) }
     {
         self.append_text(SymbolReader::new(), chars)
     }
@@ -338,10 +351,13 @@ impl<B: OctetsBuilder> NameBuilder<B> {
         requires can { C.can_next chars }
         requires ends { IsFinite (C.remaining chars) }
         requires begins { is_begun reader ≡ true }
-        ensures ok { OnOk result ((text : List ℕ) × Drains C.next_gives chars text × (text_behind self.old (reader ++ text) ≡ Some (standing self.new))) }
-        ensures refused { IfErr result (λ e. is_text e ≡ true → SpellsNothing C.next_gives chars (λ text. text_behind self.old (reader ++ text))) }
+        ensures ok { OnOk result ((text : List ℕ) × Drains C.next_gives chars text
+            × (text_behind self.old (reader ++ text) ≡ Some (standing self.new))) }
+        ensures refused { IfErr result (λ e. is_text e ≡ true
+            → SpellsNothing C.next_gives chars (λ text. text_behind self.old (reader ++ text))) }
         ensures stands { OnErr result (StopsInText C.next_gives chars reader self.old self.new) }
-        ensures fault { IfErr result (λ e. IfSome (fault_of e) (FirstFault C.next_gives chars reader self.old self.new)) }
+        ensures fault { let is = FirstFault C.next_gives chars reader self.old self.new in
+            IfErr result (λ e. IfSome (fault_of e) is) }
     {
         let mut reader = reader;
         let _ = &self.builder;
@@ -384,8 +400,10 @@ impl<B: OctetsBuilder> NameBuilder<B> {
     pub fn append_origin_octets<N: Absolute>(self, origin: &N) -> Result<B, PushNameError>
     where
         B: Drop,
-        ensures ok { IfOk result (λ octets. SpellsName (B.bytes octets) (all_labels self ++ N.name origin.now)) }
-        ensures long_name { IsErrOf result PushNameError.LongName ↔ (254 < length (octets_of_building (with_labels self (N.name origin.now)))) }
+        ensures ok { let n = all_labels self ++ N.name origin.now in
+            IfOk result (λ octets. SpellsName (B.bytes octets) n) }
+        ensures long_name { let after = with_labels self (N.name origin.now) in
+            IsErrOf result PushNameError.LongName ↔ IsOver after }
     {
         let (open, len) = (self.open_len(), self.len());
         if len + usize::from(origin.compose_len()) > 255 {

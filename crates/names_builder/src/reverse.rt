@@ -3,7 +3,7 @@
 ghost use Rattle.std.specs.Prelude.{◌≡◌, ◌↔◌, ◌<◌, ◌≤◌, ◌+◌, ◌*◌, ◌%◌, ◌++◌, [], ◌∷◌, length, IfOk, IfErr, IsErrOf, OnOk, OnErr};
 ghost use Rattle.names_labels.specs.Flat.{spelled};
 ghost use Rattle.names_builder.specs.Addresses.{decimal_label, hex_digit, decimal_labels, hex_labels, reverse_name};
-ghost use Rattle.names_builder.specs.Building.{all_labels, octets_of_building, with_labels};
+ghost use Rattle.names_builder.specs.Building.{all_labels, IsOver, with_labels};
 
 use crate::builder::NameBuilder;
 use crate::push_error::PushError;
@@ -16,7 +16,8 @@ impl<B: OctetsBuilder> NameBuilder<B> {
     pub fn append_dec_u8_label(&mut self, value: u8) -> Result<(), PushError>
         ensures ok { OnOk result (self.new ≡ with_labels self.old (decimal_label value ∷ [])) }
         ensures long_label { IsErrOf result PushError.LongLabel → ⊥ }
-        ensures long_name { IsErrOf result PushError.LongName ↔ (254 < length (octets_of_building (with_labels self.old (decimal_label value ∷ [])))) }
+        ensures long_name { let after = with_labels self.old (decimal_label value ∷ []) in
+            IsErrOf result PushError.LongName ↔ IsOver after }
         ensures err { OnErr result (self.new ≡ self.old) }
     {
         let (hundreds, tens, units) = (
@@ -33,9 +34,11 @@ impl<B: OctetsBuilder> NameBuilder<B> {
 
     /// Ends the open label, and adds one of the lower four bits as a hexadecimal digit.
     pub fn append_hex_digit_label(&mut self, nibble: u8) -> Result<(), PushError>
-        ensures ok { OnOk result (self.new ≡ with_labels self.old ((hex_digit (nibble % 16) ∷ []) ∷ [])) }
+        ensures ok { let label = hex_digit (nibble % 16) ∷ [] in
+            OnOk result (self.new ≡ with_labels self.old (label ∷ [])) }
         ensures long_label { IsErrOf result PushError.LongLabel → ⊥ }
-        ensures long_name { IsErrOf result PushError.LongName ↔ (254 < length (octets_of_building (with_labels self.old ((hex_digit (nibble % 16) ∷ []) ∷ [])))) }
+        ensures long_name { let label = hex_digit (nibble % 16) ∷ [] in
+            IsErrOf result PushError.LongName ↔ IsOver (with_labels self.old (label ∷ [])) }
         ensures err { OnErr result (self.new ≡ self.old) }
     {
         let digit = nibble % 16;
@@ -76,7 +79,8 @@ pub fn reverse_labels(alloc: Global, addr: IpAddr) -> Result<NameBuilder<Vec<u8>
 fn append_octets(builder: &mut NameBuilder<Vec<u8>>, octets: &[u8]) -> Result<(), PushError>
     requires closed { builder.old.open_label ≡ [] }
     requires room { length (spelled builder.old.done) + 4 * length octets.now ≤ 254 }
-    ensures labels { OnOk result (builder.new ≡ record { done = builder.old.done ++ decimal_labels octets.now; open_label = [] }) }
+    ensures labels { let done = builder.old.done ++ decimal_labels octets.now in
+        OnOk result (builder.new ≡ record { done = done; open_label = [] }) }
     ensures memory { IfErr result (λ e. e ≡ PushError.ShortBuf) }
 {
     for octet in octets {
@@ -89,7 +93,8 @@ fn append_octets(builder: &mut NameBuilder<Vec<u8>>, octets: &[u8]) -> Result<()
 fn append_nibbles(builder: &mut NameBuilder<Vec<u8>>, octets: &[u8]) -> Result<(), PushError>
     requires closed { builder.old.open_label ≡ [] }
     requires room { length (spelled builder.old.done) + 4 * length octets.now ≤ 254 }
-    ensures labels { OnOk result (builder.new ≡ record { done = builder.old.done ++ hex_labels octets.now; open_label = [] }) }
+    ensures labels { let done = builder.old.done ++ hex_labels octets.now in
+        OnOk result (builder.new ≡ record { done = done; open_label = [] }) }
     ensures memory { IfErr result (λ e. e ≡ PushError.ShortBuf) }
 {
     for octet in octets {

@@ -11,10 +11,12 @@ use names_wire::symbol::Symbol;
 
 /// The octet that a symbol adds to a label, which is open or begins with it; nothing for a dot, which ends one.
 pub(crate) fn octet_of(symbol: Symbol, in_label: bool) -> Result<Option<u8>, FromStrError>
-    ensures ok { IfOk result (λ octet. MatchOption octet ((is_dot (symbol_of symbol) ≡ true) × IsTrue in_label) (GoesOn (symbol_of symbol) in_label)) }
+    ensures ok { let s = symbol_of symbol in let ends = (is_dot s ≡ true) × IsTrue in_label in
+        IfOk result (λ octet. MatchOption octet ends (GoesOn s in_label)) }
     ensures err { OnErr result (CannotGoOn (symbol_of symbol) in_label) }
     ensures text { IfErr result (λ e. is_text e ≡ true) }
-    ensures fault { IfErr result (λ e. IfSome (fault_of e) (OctetFault (symbol_of symbol) in_label)) }
+    ensures fault { let is = OctetFault (symbol_of symbol) in_label in
+        IfErr result (λ e. IfSome (fault_of e) is) }
 {
     match symbol {
         Symbol::Char('.') if in_label => Ok(None),

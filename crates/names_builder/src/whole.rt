@@ -22,8 +22,10 @@ pub fn read_symbols<S: Iterator<Item = Symbol> + Drop>(
 ) -> Result<NameBuilder<Vec<u8>>, FromStrError>
     requires can { S.can_next symbols }
     requires ends { IsFinite (S.remaining symbols) }
-    ensures ok { IfOk result (λ n. SymbolsSpell S.next_gives symbols name_of_symbols (all_labels n)) }
-    ensures refused { IfErr result (λ e. is_text e ≡ true → SymbolsSpellNothing S.next_gives symbols name_of_symbols) }
+    ensures ok { let spell = SymbolsSpell S.next_gives symbols name_of_symbols in
+        IfOk result (λ n. spell (all_labels n)) }
+    ensures refused { IfErr result (λ e. is_text e ≡ true
+        → SymbolsSpellNothing S.next_gives symbols name_of_symbols) }
     ensures fault { IfErr result (λ e. IfSome (fault_of e) (SymbolsFault S.next_gives symbols)) }
 {
     let mut symbols = symbols;
@@ -45,17 +47,20 @@ pub fn read_symbols<S: Iterator<Item = Symbol> + Drop>(
 }
 
 /// A builder with the labels of the name that the characters spell. A dot alone is the root, and else a last dot
-/// may be left out.
+/// may be left out. Room for so many octets is made at once.
 ///
 /// It stops at the first character behind which no name can come.
 pub fn read_chars<C: Iterator<Item = char> + Drop>(
     alloc: Global,
+    room: usize,
     chars: C,
 ) -> Result<NameBuilder<Vec<u8>>, FromStrError>
     requires can { C.can_next chars }
     requires ends { IsFinite (C.remaining chars) }
-    ensures ok { IfOk result (λ n. (text : List ℕ) × Drains C.next_gives chars text × (name_of_text text ≡ Some (all_labels n))) }
-    ensures refused { IfErr result (λ e. is_text e ≡ true → SpellsNothing C.next_gives chars name_of_text) }
+    ensures ok { IfOk result (λ n. (text : List ℕ)
+        × Drains C.next_gives chars text × (name_of_text text ≡ Some (all_labels n))) }
+    ensures refused { IfErr result (λ e. is_text e ≡ true
+        → SpellsNothing C.next_gives chars name_of_text) }
     ensures fault { IfErr result (λ e. IfSome (fault_of e) (NameFault C.next_gives chars)) }
 {
     let mut chars = chars;
@@ -70,26 +75,34 @@ pub fn read_chars<C: Iterator<Item = char> + Drop>(
             None => return Ok(NameBuilder::new(alloc)),
         }
     }
-    let (mut builder, mut reader) = (NameBuilder::new(alloc), SymbolReader::new());
+    let mut builder = NameBuilder::with_capacity(alloc, room)?;
+    let mut reader = SymbolReader::new();
     builder.push_char(&mut reader, first)?;
     builder.append_text(reader, chars)?;
     Ok(builder)
 }
 
 /// A builder with the labels of the relative name that the characters spell: none where there are none. A last dot
-/// is refused; a dot alone as an empty label.
+/// is refused; a dot alone as an empty label. Room for so many octets is made at once.
 pub fn read_relative<C: Iterator<Item = char> + Drop>(
     alloc: Global,
+    room: usize,
     chars: C,
 ) -> Result<NameBuilder<Vec<u8>>, RelativeFromStrError>
     requires can { C.can_next chars }
     requires ends { IsFinite (C.remaining chars) }
-    ensures ok { IfOk result (λ n. (text : List ℕ) × Drains C.next_gives chars text × (relative_of_text text ≡ Some (all_labels n))) }
-    ensures refused { IfErr result (λ e. is_relative_text e ≡ true → SpellsNothing C.next_gives chars relative_of_text) }
-    ensures fault { IfErr result (λ e. IfSome (relative_fault_of e) (RelativeFault C.next_gives chars)) }
-    ensures absolute { IsErrOf result RelativeFromStrError.AbsoluteName → SpellsAbsolute C.next_gives chars }
+    ensures ok { IfOk result (λ n. (text : List ℕ)
+        × Drains C.next_gives chars text × (relative_of_text text ≡ Some (all_labels n))) }
+    ensures refused { IfErr result (λ e. is_relative_text e ≡ true
+        → SpellsNothing C.next_gives chars relative_of_text) }
+    ensures fault { let is = RelativeFault C.next_gives chars in
+        IfErr result (λ e. IfSome (relative_fault_of e) is) }
+    ensures absolute { IsErrOf result RelativeFromStrError.AbsoluteName
+        → SpellsAbsolute C.next_gives chars }
 {
-    let mut builder = NameBuilder::new(alloc);
+    let Ok(mut builder) = NameBuilder::with_capacity(alloc, room) else {
+        return Err(RelativeFromStrError::FromStr(FromStrError::ShortBuf));
+    };
     builder.append_chars(chars)?;
     if builder.in_label() || builder.is_empty() {
         Ok(builder)

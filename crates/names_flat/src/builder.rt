@@ -1,7 +1,7 @@
 //! Builders brought to their end, as names over the octets that they made.
 
 ghost use Rattle.std.specs.Prelude.{◌≡◌, ◌↔◌, ◌<◌, ◌++◌, length, refl, IfOk, IfErr, IsErrOf};
-ghost use Rattle.names_builder.specs.Building.{Building, all_labels, octets_of_building, with_labels};
+ghost use Rattle.names_builder.specs.Building.{Building, all_labels, IsOver, with_labels};
 
 use crate::name::Name;
 use crate::relative::RelativeName;
@@ -45,7 +45,8 @@ pub trait Finish<B: BuiltOctets>: Sized {
     where
         B: Drop,
         ensures ok { IfOk result (λ n. n ≡ all_labels (building self) ++ N.name origin.now) }
-        ensures long_name { IsErrOf result PushNameError.LongName ↔ (254 < length (octets_of_building (with_labels (building self) (N.name origin.now)))) };
+        ensures long_name { let after = with_labels (building self) (N.name origin.now) in
+            IsErrOf result PushNameError.LongName ↔ IsOver after };
 }
 
 impl<B: BuiltOctets> Finish<B> for NameBuilder<B> {

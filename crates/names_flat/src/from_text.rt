@@ -1,6 +1,6 @@
 //! Names read from text (RFC 1035, 5.1).
 
-ghost use Rattle.std.specs.Prelude.{◌≡◌, true, None, Some, ℕ, List, IfOk, IfErr, IfSome, IsErrOf};
+ghost use Rattle.std.specs.Prelude.{◌≡◌, ◌≤◌, true, None, Some, ℕ, List, IfOk, IfErr, IfSome, IsErrOf};
 ghost use Rattle.std.specs.Iterator.{IsFinite, Drains};
 ghost use Rattle.std.specs.Str.{chars as chars_of};
 ghost use Rattle.definitions.specs.Text.{name_of_text, name_of_symbols, relative_of_text};
@@ -25,8 +25,10 @@ impl Name<Vec<u8>> {
         requires can { S.can_next symbols }
         requires ends { IsFinite (S.remaining symbols) }
         ensures ok { IfOk result (λ n. SymbolsSpell S.next_gives symbols name_of_symbols n) }
-        ensures refused { IfErr result (λ e. is_text e ≡ true → SymbolsSpellNothing S.next_gives symbols name_of_symbols) }
-        ensures fault { IfErr result (λ e. IfSome (fault_of e) (SymbolsFault S.next_gives symbols)) }
+        ensures refused { IfErr result (λ e. is_text e ≡ true
+            → SymbolsSpellNothing S.next_gives symbols name_of_symbols) }
+        ensures fault { let is = SymbolsFault S.next_gives symbols in
+            IfErr result (λ e. IfSome (fault_of e) is) }
     {
         Ok(read_symbols(alloc, symbols)?.into_name()?)
     }
@@ -40,20 +42,41 @@ impl Name<Vec<u8>> {
     ) -> Result<Self, FromStrError>
         requires can { C.can_next chars }
         requires ends { IsFinite (C.remaining chars) }
-        ensures ok { IfOk result (λ n. (text : List ℕ) × Drains C.next_gives chars text × (name_of_text text ≡ Some n)) }
-        ensures refused { IfErr result (λ e. is_text e ≡ true → SpellsNothing C.next_gives chars name_of_text) }
+        ensures ok { IfOk result (λ n. (text : List ℕ)
+            × Drains C.next_gives chars text × (name_of_text text ≡ Some n)) }
+        ensures refused { IfErr result (λ e. is_text e ≡ true
+            → SpellsNothing C.next_gives chars name_of_text) }
         ensures fault { IfErr result (λ e. IfSome (fault_of e) (NameFault C.next_gives chars)) }
     {
-        Ok(read_chars(alloc, chars)?.into_name()?)
+        Name::read(alloc, 0, chars)
+    }
+
+    /// As `from_chars`, with room for so many octets at once.
+    fn read<C: Iterator<Item = char> + Drop>(
+        alloc: Global,
+        room: usize,
+        chars: C,
+    ) -> Result<Self, FromStrError>
+        requires can { C.can_next chars }
+        requires ends { IsFinite (C.remaining chars) }
+        ensures ok { IfOk result (λ n. (text : List ℕ)
+            × Drains C.next_gives chars text × (name_of_text text ≡ Some n)) }
+        ensures refused { IfErr result (λ e. is_text e ≡ true
+            → SpellsNothing C.next_gives chars name_of_text) }
+        ensures fault { IfErr result (λ e. IfSome (fault_of e) (NameFault C.next_gives chars)) }
+    {
+        Ok(read_chars(alloc, room, chars)?.into_name()?)
     }
 
     /// The name that the text spells, as `from_chars` reads it.
     pub fn vec_from_str(alloc: Global, text: &str) -> Result<Self, FromStrError>
         ensures ok { IfOk result (λ n. name_of_text (chars_of text.now) ≡ Some n) }
-        ensures refused { IfErr result (λ e. is_text e ≡ true → name_of_text (chars_of text.now) ≡ None) }
-        ensures fault { IfErr result (λ e. IfSome (fault_of e) (NameFault in_turn (chars_of text.now))) }
+        ensures refused { IfErr result (λ e. is_text e ≡ true
+            → name_of_text (chars_of text.now) ≡ None) }
+        ensures fault { let is = NameFault in_turn (chars_of text.now) in
+            IfErr result (λ e. IfSome (fault_of e) is) }
     {
-        Name::from_chars(alloc, text.chars())
+        Name::read(alloc, room_for(text), text.chars())
     }
 }
 
@@ -66,21 +89,55 @@ impl RelativeName<Vec<u8>> {
     ) -> Result<Self, RelativeFromStrError>
         requires can { C.can_next chars }
         requires ends { IsFinite (C.remaining chars) }
-        ensures ok { IfOk result (λ n. (text : List ℕ) × Drains C.next_gives chars text × (relative_of_text text ≡ Some n)) }
-        ensures refused { IfErr result (λ e. is_relative_text e ≡ true → SpellsNothing C.next_gives chars relative_of_text) }
-        ensures fault { IfErr result (λ e. IfSome (relative_fault_of e) (RelativeFault C.next_gives chars)) }
-        ensures absolute { IsErrOf result RelativeFromStrError.AbsoluteName → SpellsAbsolute C.next_gives chars }
+        ensures ok { IfOk result (λ n. (text : List ℕ)
+            × Drains C.next_gives chars text × (relative_of_text text ≡ Some n)) }
+        ensures refused { IfErr result (λ e. is_relative_text e ≡ true
+            → SpellsNothing C.next_gives chars relative_of_text) }
+        ensures fault { let is = RelativeFault C.next_gives chars in
+            IfErr result (λ e. IfSome (relative_fault_of e) is) }
+        ensures absolute { IsErrOf result RelativeFromStrError.AbsoluteName
+            → SpellsAbsolute C.next_gives chars }
     {
-        Ok(read_relative(alloc, chars)?.finish())
+        RelativeName::read(alloc, 0, chars)
+    }
+
+    /// As `from_chars`, with room for so many octets at once.
+    fn read<C: Iterator<Item = char> + Drop>(
+        alloc: Global,
+        room: usize,
+        chars: C,
+    ) -> Result<Self, RelativeFromStrError>
+        requires can { C.can_next chars }
+        requires ends { IsFinite (C.remaining chars) }
+        ensures ok { IfOk result (λ n. (text : List ℕ)
+            × Drains C.next_gives chars text × (relative_of_text text ≡ Some n)) }
+        ensures refused { IfErr result (λ e. is_relative_text e ≡ true
+            → SpellsNothing C.next_gives chars relative_of_text) }
+        ensures fault { let is = RelativeFault C.next_gives chars in
+            IfErr result (λ e. IfSome (relative_fault_of e) is) }
+        ensures absolute { IsErrOf result RelativeFromStrError.AbsoluteName
+            → SpellsAbsolute C.next_gives chars }
+    {
+        Ok(read_relative(alloc, room, chars)?.finish())
     }
 
     /// The relative name that the text spells, as `from_chars` reads it.
     pub fn vec_from_str(alloc: Global, text: &str) -> Result<Self, RelativeFromStrError>
         ensures ok { IfOk result (λ n. relative_of_text (chars_of text.now) ≡ Some n) }
-        ensures refused { IfErr result (λ e. is_relative_text e ≡ true → relative_of_text (chars_of text.now) ≡ None) }
-        ensures fault { IfErr result (λ e. IfSome (relative_fault_of e) (RelativeFault in_turn (chars_of text.now))) }
-        ensures absolute { IsErrOf result RelativeFromStrError.AbsoluteName → IsAbsolute (chars_of text.now) }
+        ensures refused { IfErr result (λ e. is_relative_text e ≡ true
+            → relative_of_text (chars_of text.now) ≡ None) }
+        ensures fault { let is = RelativeFault in_turn (chars_of text.now) in
+            IfErr result (λ e. IfSome (relative_fault_of e) is) }
+        ensures absolute { IsErrOf result RelativeFromStrError.AbsoluteName
+            → IsAbsolute (chars_of text.now) }
     {
-        RelativeName::from_chars(alloc, text.chars())
+        RelativeName::read(alloc, room_for(text), text.chars())
     }
+}
+
+/// The octets that a name takes whose text is this long, at most those of the longest name (RFC 1035, 2.3.4).
+fn room_for(text: &str) -> usize
+    ensures { result ≤ 255 }
+{
+    text.len().min(253) + 2
 }

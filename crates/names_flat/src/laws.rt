@@ -14,8 +14,12 @@ pub fn canonical_order_is_total()
 
 /// The names at or below an apex are an interval of canonical order, which begins with the apex.
 pub fn names_below_an_apex_are_an_interval()
-    ensures first { (apex n : Name) → IsTrue (at_or_above apex n) → is_gt (name_cmp apex n) ≡ false }
-    ensures between { (apex a n b : Name) → IsTrue (at_or_above apex a) → IsTrue (at_or_above apex b) → is_gt (name_cmp a n) ≡ false → is_gt (name_cmp n b) ≡ false → IsTrue (at_or_above apex n) }
+    ensures first { (apex n : Name) → IsTrue (at_or_above apex n)
+        → is_gt (name_cmp apex n) ≡ false }
+    ensures between { (apex a n b : Name)
+        → IsTrue (at_or_above apex a) → IsTrue (at_or_above apex b)
+        → is_gt (name_cmp a n) ≡ false → is_gt (name_cmp n b) ≡ false
+        → IsTrue (at_or_above apex n) }
 {}
 
 pub use names_builder::laws::refused_text_has_one_fault;

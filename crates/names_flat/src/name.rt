@@ -47,7 +47,8 @@ impl<Octs: Octets> Name<Octs> {
         Octs: Drop,
         ensures ok { IfOk result (SpellsName (Octs.bytes octets)) }
         ensures refused { IfErr result (RefusedName (Octs.bytes octets)) }
-        ensures accepts { IsOk result ↔ ((n : List (List ℕ)) × SpellsName (Octs.bytes octets) n) }
+        ensures accepts { let spells = SpellsName (Octs.bytes octets) in
+            IsOk result ↔ ((n : List (List ℕ)) × spells n) }
     {
         match check_absolute(octets.as_slice()) {
             Ok(()) => Ok(Name { octets }),

@@ -45,7 +45,8 @@ impl<Octs: Octets> RelativeName<Octs> {
         Octs: Drop,
         ensures ok { IfOk result (SpellsRelative (Octs.bytes octets)) }
         ensures refused { IfErr result (RefusedRelative (Octs.bytes octets)) }
-        ensures accepts { IsOk result ↔ ((n : List (List ℕ)) × SpellsRelative (Octs.bytes octets) n) }
+        ensures accepts { let spells = SpellsRelative (Octs.bytes octets) in
+            IsOk result ↔ ((n : List (List ℕ)) × spells n) }
     {
         match check_relative(octets.as_slice()) {
             Ok(()) => Ok(RelativeName { octets }),

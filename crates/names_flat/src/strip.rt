@@ -19,7 +19,8 @@ impl<Octs: BuiltOctets> Name<Octs> {
     pub fn strip_suffix<N: Absolute>(self, base: &N) -> Result<RelativeName<Octs>, StripSuffixError>
     where
         Octs: Drop,
-        ensures ok { IfOk result (λ n. (suffix : Labels) × (n ++ suffix ≡ self) × (same (N.name base.now) suffix ≡ true)) }
+        ensures ok { IfOk result (λ n. (suffix : Labels)
+            × (n ++ suffix ≡ self) × (same (N.name base.now) suffix ≡ true)) }
         ensures err { IsErr result ↔ (at_or_above (N.name base.now) self ≡ false) }
     {
         if !self.ends_with(base) {
@@ -33,7 +34,8 @@ impl<Octs: BuiltOctets> Name<Octs> {
 impl<Octs: BuiltOctets> RelativeName<Octs> {
     /// Takes a suffix away, which is compared up to ASCII case. A refused call changes nothing.
     pub fn strip_suffix<N: Relative>(&mut self, base: &N) -> Result<(), StripSuffixError>
-        ensures ok { OnOk result ((suffix : Labels) × (self.new ++ suffix ≡ self.old) × (same (N.name base.now) suffix ≡ true)) }
+        ensures ok { OnOk result ((suffix : Labels)
+            × (self.new ++ suffix ≡ self.old) × (same (N.name base.now) suffix ≡ true)) }
         ensures err { IsErr result ↔ (at_or_above (N.name base.now) self.old ≡ false) }
         ensures unchanged { OnErr result (self.new ≡ self.old) }
     {

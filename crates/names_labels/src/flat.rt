@@ -7,7 +7,8 @@ use names_wire::label::Label;
 /// The first label of labels in a row, and the row behind it.
 pub fn split_label(run: &[u8]) -> Option<(Label<'_>, &[u8])>
     requires { IsRun run.now }
-    ensures { MatchOption result (labels_in run.now ≡ []) (λ p. SplitsLabel run.now (octets_of p.0) p.1.now) }
+    ensures { MatchOption result (labels_in run.now ≡ [])
+        (λ p. SplitsLabel run.now (octets_of p.0) p.1.now) }
 {
     let (&len, rest) = run.split_first()?;
     let (octets, behind) = rest.split_at(usize::from(len));

@@ -8,7 +8,10 @@ ghost use Rattle.definitions.specs.Text.{name_of_text, relative_of_text, text_of
 /// What is printed of a name is read as the same labels, octet for octet (RFC 1035, 5.1): of an absolute name
 /// with or without its last dot, and of a relative one, the empty one included.
 pub fn printed_name_is_read_back()
-    ensures absolute { (n : Name) → IsName n → AllByRecursion (AllByRecursion (λ b. b < 256)) n → name_of_text (text_of_name n) ≡ Some n }
-    ensures dotted { (n : Name) → IsName n → AllByRecursion (AllByRecursion (λ b. b < 256)) n → name_of_text (dotted_text_of_name n) ≡ Some n }
-    ensures relative { (n : Name) → IsName n → AllByRecursion (AllByRecursion (λ b. b < 256)) n → relative_of_text (text_of_relative n) ≡ Some n }
+    ensures absolute { (n : Name) → IsName n → AllByRecursion (AllByRecursion (λ b. b < 256)) n
+        → name_of_text (text_of_name n) ≡ Some n }
+    ensures dotted { (n : Name) → IsName n → AllByRecursion (AllByRecursion (λ b. b < 256)) n
+        → name_of_text (dotted_text_of_name n) ≡ Some n }
+    ensures relative { (n : Name) → IsName n → AllByRecursion (AllByRecursion (λ b. b < 256)) n
+        → relative_of_text (text_of_relative n) ≡ Some n }
 {}

@@ -8,7 +8,7 @@ ghost use Rattle.definitions.specs.Name.{name_cmp};
 ghost use Rattle.names_labels.specs.Flat.{spelled};
 ghost use Rattle.names_labels.specs.Order.{in_case};
 
-use crate::traits::{Labels, labels_from};
+use crate::traits::{Labels, labels_counted, labels_from};
 use names_wire::label::Label;
 use std::cmp::Ordering;
 
@@ -20,7 +20,8 @@ pub enum Case {
 }
 
 fn label_cmp(a: Label<'_>, b: Label<'_>, case: Case) -> Ordering
-    ensures { result ≡ slice_cmp nat_cmp (wire_label (in_case case (octets_of a.entry))) (wire_label (in_case case (octets_of b.entry))) }
+    ensures { let octets = wire_label (in_case case (octets_of a.entry)) in
+        result ≡ slice_cmp nat_cmp octets (wire_label (in_case case (octets_of b.entry))) }
 {
     match case {
         Case::Kept => a.composed_cmp(&b),
@@ -35,8 +36,8 @@ pub fn labels_cmp<A: Labels, B: Labels>(name: &A, other: &B) -> Ordering
     ensures { result ≡ name_cmp (A.labels name.now) (B.labels other.now) }
 {
     let (count, other_count) = (name.label_count(), other.label_count());
-    let mut left = labels_from(name, count.saturating_sub(other_count));
-    let mut right = labels_from(other, other_count.saturating_sub(count));
+    let mut left = labels_counted(name, count.saturating_sub(other_count), count);
+    let mut right = labels_counted(other, other_count.saturating_sub(count), other_count);
     let mut order = Ordering::Equal;
     while let (Some(a), Some(b)) = (left.next(), right.next()) {
         order = a.cmp(&b).then(order);
@@ -46,7 +47,8 @@ pub fn labels_cmp<A: Labels, B: Labels>(name: &A, other: &B) -> Ordering
 
 /// Order of the octets of two names in wire form, label by label from the left.
 pub fn labels_composed_cmp<A: Labels, B: Labels>(name: &A, other: &B, case: Case) -> Ordering
-    ensures { result ≡ slice_cmp nat_cmp (spelled (map (in_case case) (A.labels name.now))) (spelled (map (in_case case) (B.labels other.now))) }
+    ensures { let octets = spelled (map (in_case case) (A.labels name.now)) in
+        result ≡ slice_cmp nat_cmp octets (spelled (map (in_case case) (B.labels other.now))) }
 {
     let (mut left, mut right) = (labels_from(name, 0), labels_from(other, 0));
     loop {

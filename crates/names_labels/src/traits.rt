@@ -42,6 +42,14 @@ pub trait Labels {
 pub(crate) fn labels_from<N: Labels>(name: &N, start: usize) -> LabelIter<'_, N>
     ensures { result ≡ drop start (N.labels name.now) }
 {
+    labels_counted(name, start, name.label_count())
+}
+
+/// The labels from a place on of a name whose labels were counted already.
+pub(crate) fn labels_counted<N: Labels>(name: &N, start: usize, count: usize) -> LabelIter<'_, N>
+    requires { count ≡ length (N.labels name.now) }
+    ensures { result ≡ drop start (N.labels name.now) }
+{
     let row = match name.label_row() {
         Some(run) => Some(behind(run, start)),
         None => None,
@@ -50,15 +58,15 @@ pub(crate) fn labels_from<N: Labels>(name: &N, start: usize) -> LabelIter<'_, N>
         name,
         row,
         front: start,
-        back: name.label_count(),
+        back: count,
     }
 }
 
-/// Whether the labels of one name from a place on begin with all labels of another, up to ASCII case.
-pub fn agrees_from<A: Labels, B: Labels>(name: &A, start: usize, other: &B) -> bool
-    ensures { result ≡ begins_with (drop start (A.labels name.now)) (B.labels other.now) }
+/// Whether labels begin with all of some others, up to ASCII case.
+fn agrees<A: Labels, B: Labels>(labels: LabelIter<'_, A>, wanted: LabelIter<'_, B>) -> bool
+    ensures { result ≡ begins_with labels.entry wanted.entry }
 {
-    let (mut labels, mut wanted) = (labels_from(name, start), labels_from(other, 0));
+    let (mut labels, mut wanted) = (labels, wanted);
     while let Some(b) = wanted.next() {
         let Some(a) = labels.next() else {
             return false;
@@ -74,7 +82,12 @@ pub fn agrees_from<A: Labels, B: Labels>(name: &A, start: usize, other: &B) -> b
 pub fn labels_eq<A: Labels, B: Labels>(name: &A, other: &B) -> bool
     ensures { result ≡ same (A.labels name.now) (B.labels other.now) }
 {
-    name.label_count() == other.label_count() && agrees_from(name, 0, other)
+    let count = name.label_count();
+    count == other.label_count()
+        && agrees(
+            labels_counted(name, 0, count),
+            labels_counted(other, 0, count),
+        )
 }
 
 /// How many octets the labels of a name take in wire form.
@@ -111,7 +124,7 @@ pub trait ToLabelIter: Labels {
     fn starts_with<N: Labels>(&self, base: &N) -> bool
         ensures { result ≡ begins_with (Self.labels self.now) (N.labels base.now) }
     {
-        agrees_from(self, 0, base)
+        agrees(labels_from(self, 0), labels_from(base, 0))
     }
 
     /// Whether the labels end with those of another name, up to ASCII case.
@@ -119,7 +132,11 @@ pub trait ToLabelIter: Labels {
         ensures { result ≡ at_or_above (N.labels base.now) (Self.labels self.now) }
     {
         let (count, tail) = (self.label_count(), base.label_count());
-        tail <= count && agrees_from(self, count - tail, base)
+        tail <= count
+            && agrees(
+                labels_counted(self, count - tail, count),
+                labels_counted(base, 0, tail),
+            )
     }
 }
 
@@ -162,7 +179,9 @@ fn label_then<'a, N: Labels>(
     place: usize,
 ) -> Option<(Label<'a>, Option<&'a [u8]>)>
     requires { IfSome row (λ run. IsRunOf run.now (drop place (N.labels name.now))) }
-    ensures { MatchOption result (slice_get (N.labels name.now) place ≡ None) (λ p. (Some (octets_of p.0) ≡ slice_get (N.labels name.now) place) × IfSome p.1 (λ run. IsRunOf run.now (drop (place + 1) (N.labels name.now)))) }
+    ensures { let ls = N.labels name.now in let rest = drop (place + 1) ls in
+        MatchOption result (slice_get ls place ≡ None)
+        (λ p. (Some (octets_of p.0) ≡ slice_get ls place) × IfSome p.1 (λ run. IsRunOf run.now rest)) }
 {
     let Some(run) = row else {
         let label = name.label_at(place)?;

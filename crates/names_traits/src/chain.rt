@@ -71,7 +71,8 @@ impl<L: Relative, R: ChainEnd> Chain<L, R> {
         L: Drop,
         R: Drop,
         ensures ok { IfOk result (λ c. c ≡ record { left = L.labels left; right = right }) }
-        ensures long { IsErr result ↔ (254 < length (spelled (L.labels left)) + length (spelled (R.name right))) }
+        ensures long { IsErr result
+            ↔ (254 < length (spelled (L.labels left)) + length (spelled (R.name right))) }
     {
         let _short = right.label_count();
         if left.compose_len() > 254 || left.compose_len() + right.len_before_root() > 254 {

@@ -35,14 +35,16 @@ pub trait ToName: Absolute {
 
     /// The order of the octets in wire form.
     fn composed_cmp<N: Absolute>(&self, other: &N) -> Ordering
-        ensures { result ≡ slice_cmp nat_cmp (wire (Self.name self.now)) (wire (N.name other.now)) }
+        ensures { let octets = wire (Self.name self.now) in
+            result ≡ slice_cmp nat_cmp octets (wire (N.name other.now)) }
     {
         labels_composed_cmp(self, other, Case::Kept)
     }
 
     /// The order of the octets in wire form, with ASCII letters lowered.
     fn lowercase_composed_cmp<N: Absolute>(&self, other: &N) -> Ordering
-        ensures { result ≡ slice_cmp nat_cmp (wire (low (Self.name self.now))) (wire (low (N.name other.now))) }
+        ensures { let octets = wire (low (Self.name self.now)) in
+            result ≡ slice_cmp nat_cmp octets (wire (low (N.name other.now))) }
     {
         labels_composed_cmp(self, other, Case::Lowered)
     }

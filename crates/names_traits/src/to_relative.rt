@@ -94,7 +94,8 @@ pub trait ToRelativeName: Relative {
         Self: Sized + Drop,
         N: Drop,
         ensures ok { IfOk result (λ c. c ≡ record { left = Self.labels self; right = suffix }) }
-        ensures long { IsErr result ↔ (254 < length (spelled (Self.labels self)) + length (spelled (N.name suffix))) }
+        ensures long { IsErr result
+            ↔ (254 < length (spelled (Self.labels self)) + length (spelled (N.name suffix))) }
     {
         Chain::new(self, suffix)
     }

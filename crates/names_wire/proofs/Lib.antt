@@ -7,3 +7,4 @@ pub mod Printed
 pub mod Characters
 pub mod LabelFaults
 pub mod AlongNames
+pub mod PlainText

@@ -1,8 +1,8 @@
 -- Symbols of text as the code has them, and a reader that takes characters one by one (RFC 1035, 5.1).
-use Rattle.std.specs.Prelude.{◌≡◌, ℕ, Bool, true, ◌&&◌, nat_eq, nat_le, List, [], ◌∷◌, ◌++◌, length, if◌then◌else◌, Option, Some, None}
+use Rattle.std.specs.Prelude.{◌≡◌, ℕ, Bool, true, not, ◌&&◌, nat_eq, nat_le, List, [], ◌∷◌, ◌++◌, length, if◌then◌else◌, Option, Some, None}
 use Rattle.std.specs.List.{list_all}
 use Rattle.std.specs.Option.{option_map}
-use Rattle.definitions.specs.Text.{Plain, Quoted, Decimal, is_digit, symbols_of, is_symbol, spelling}
+use Rattle.definitions.specs.Text.{Plain, Quoted, Decimal, is_digit, is_printable, is_quoted, symbols_of, is_symbol, spelling}
 use Rattle.definitions.specs.Text as text
 use Rattle.names_wire.specs.declared.symbol.Symbol.{Symbol}
 use Rattle.names_wire.specs.declared.symbol.SymbolCharsError.{SymbolCharsError}
@@ -41,3 +41,7 @@ left_of (Some s) chars = []
 abbrev pub char_fault : List ℕ → SymbolCharsError
 char_fault [] = BadSymbol
 char_fault (c ∷ cs) = BadEscape
+
+-- an octet that is printed as itself
+abbrev pub is_plain : ℕ → Bool
+is_plain b = not (is_quoted b) && is_printable b

@@ -37,7 +37,8 @@ pub trait OctetsBuilder {
         ensures { result.now ≡ bytes self.now };
 
     fn as_mut_slice(&mut self) -> &mut [u8]
-        ensures* writes_back { sem 𝓛 (Lends Self.row (Array byte 0) self.entry result (with_bytes self.entry.now)) }
+        ensures* writes_back { sem 𝓛
+            (Lends Self.row (Array byte 0) self.entry result (with_bytes self.entry.now)) }
         ensures value { result.now ≡ bytes self.old };
 
     ghost shows: { (b : Self) (xs : List ℕ) → length xs ≡ length (bytes b) → bytes (with_bytes b xs) ≡ xs };

@@ -89,7 +89,8 @@ impl<'a> Label<'a> {
     ///
     /// A pointer is refused and not followed.
     pub fn split_from(slice: &'a [u8]) -> Result<(Label<'a>, &'a [u8]), SplitLabelError>
-        ensures { MatchResult result (λ found. split slice.now ≡ Ok (octets_of found.0, found.1.now)) (λ e. split slice.now ≡ Err e) }
+        ensures { let is = split slice.now in
+            MatchResult result (λ found. is ≡ Ok (octets_of found.0, found.1.now)) (λ e. is ≡ Err e) }
     {
         let Some((&head, rest)) = slice.split_first() else {
             return Err(SplitLabelError::ShortInput);
@@ -166,7 +167,8 @@ impl<'a> Label<'a> {
 
     /// Compares the labels as they stand in a message, each behind its length octet.
     pub fn composed_cmp(&self, other: &Label<'_>) -> Ordering
-        ensures { result ≡ slice_cmp nat_cmp (wire_label (octets_of self.now)) (wire_label (octets_of other.now)) }
+        ensures { let octets = wire_label (octets_of self.now) in
+            result ≡ slice_cmp nat_cmp octets (wire_label (octets_of other.now)) }
     {
         match self.len().cmp(&other.len()) {
             Ordering::Equal => self.octets.cmp(other.octets),
@@ -176,7 +178,8 @@ impl<'a> Label<'a> {
 
     /// As `composed_cmp`, with ASCII letters lowered.
     pub fn lowercase_composed_cmp(&self, other: &Label<'_>) -> Ordering
-        ensures { result ≡ slice_cmp nat_cmp (wire_label (lowered self.now)) (wire_label (lowered other.now)) }
+        ensures { let octets = wire_label (lowered self.now) in
+            result ≡ slice_cmp nat_cmp octets (wire_label (lowered other.now)) }
     {
         match self.len().cmp(&other.len()) {
             Ordering::Equal => self.cmp(other),
@@ -186,7 +189,8 @@ impl<'a> Label<'a> {
 
     /// Appends the octets behind their number. A refused call leaves the target as it was.
     pub fn compose<B: OctetsBuilder>(&self, target: &mut B) -> Result<(), ShortBuf>
-        ensures ok { OnOk result (B.bytes target.new ≡ B.bytes target.old ++ wire_label (octets_of self.now)) }
+        ensures ok { let more = wire_label (octets_of self.now) in
+            OnOk result (B.bytes target.new ≡ B.bytes target.old ++ more) }
         ensures err { OnErr result (B.bytes target.new ≡ B.bytes target.old) }
         ensures full { OnErr result (B.lacks_room target.old (length (octets_of self.now) + 1)) }
     {
@@ -195,7 +199,8 @@ impl<'a> Label<'a> {
 
     /// As `compose`, with ASCII letters lowered (RFC 4034, 6.2).
     pub fn compose_canonical<B: OctetsBuilder>(&self, target: &mut B) -> Result<(), ShortBuf>
-        ensures ok { OnOk result (B.bytes target.new ≡ B.bytes target.old ++ wire_label (lowered self.now)) }
+        ensures ok { let more = wire_label (lowered self.now) in
+            OnOk result (B.bytes target.new ≡ B.bytes target.old ++ more) }
         ensures err { OnErr result (B.bytes target.new ≡ B.bytes target.old) }
         ensures full { OnErr result (B.lacks_room target.old (length (octets_of self.now) + 1)) }
     {

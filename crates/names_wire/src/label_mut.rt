@@ -47,7 +47,8 @@ impl<'a> LabelMut<'a> {
     pub fn split_from_mut(
         slice: &'a mut [u8],
     ) -> Result<(LabelMut<'a>, &'a mut [u8]), SplitLabelError>
-        ensures { MatchResult result (λ found. split slice.old ≡ Ok (mut_octets found.0, found.1.now)) (λ e. split slice.old ≡ Err e) }
+        ensures { let is = split slice.old in
+            MatchResult result (λ found. is ≡ Ok (mut_octets found.0, found.1.now)) (λ e. is ≡ Err e) }
     {
         let len = Label::split_from(slice)?.0.len();
         let (front, rest) = slice.split_at_mut(len + 1);
@@ -95,7 +96,8 @@ impl<'a> OwnedLabelMut<'a> {
     /// Lowers ASCII letters (RFC 4034, 6.2).
     pub fn make_canonical(&mut self)
         ensures same_label { owned_mut_name self.new ≡ owned_mut_name self.old }
-        ensures lowered { owned_mut_octets self.new ≡ str_to_ascii_lowercase (owned_mut_octets self.old) }
+        ensures lowered { owned_mut_octets self.new
+            ≡ str_to_ascii_lowercase (owned_mut_octets self.old) }
     {
         self.label.make_canonical();
     }

@@ -80,7 +80,8 @@ impl<'a> Iterator for SliceLabelsIter<'a> {
 fn follow(octets: &[u8], place: usize, pointers: u8) -> (usize, u8)
     requires { place ≤ length octets.now }
     ensures within { result.0 ≤ length octets.now }
-    ensures same { labels_along result.1 octets.now result.0 ≡ labels_along pointers octets.now place }
+    ensures same { labels_along result.1 octets.now result.0
+        ≡ labels_along pointers octets.now place }
     ensures last { (result.1 ≡ 0) ⊎ (pointer_from octets.now result.0 ≡ None) }
 {
     let (mut place, mut left) = (place, pointers);
@@ -109,7 +110,8 @@ fn pointer_at(octets: &[u8], place: usize) -> Option<usize>
 /// The label at a place, and what stands behind it.
 pub fn label_at(octets: &[u8], place: usize) -> Result<(Label<'_>, &[u8]), SplitLabelError>
     requires { place ≤ length octets.now }
-    ensures { MatchResult result (λ found. split (drop place octets.now) ≡ Ok (octets_of found.0, found.1.now)) (λ e. split (drop place octets.now) ≡ Err e) }
+    ensures { let is = split (drop place octets.now) in
+        MatchResult result (λ found. is ≡ Ok (octets_of found.0, found.1.now)) (λ e. is ≡ Err e) }
 {
     Label::split_from(&octets[place..])
 }

@@ -11,12 +11,14 @@ ghost use Rattle.names_wire.specs.declared.owned.LabelFault.{LabelFault};
 
 /// What is printed of a label is read as the same octets (RFC 1035, 5.1).
 pub fn printed_label_is_read_back()
-    ensures { (l : List ℕ) → IsLabel l → AllByRecursion (λ b. b < 256) l → label_of_text (text_of_label l) ≡ Some l }
+    ensures { (l : List ℕ) → IsLabel l → AllByRecursion (λ b. b < 256) l
+        → label_of_text (text_of_label l) ≡ Some l }
 {}
 
 /// A text that is made of symbols is read as these, and so as no others (RFC 1035, 5.1).
 pub fn spelled_symbols_are_read()
-    ensures { (text : List ℕ) (symbols : List Symbol) → Spells text symbols → symbols_of text ≡ Some symbols }
+    ensures { (text : List ℕ) (symbols : List Symbol)
+        → Spells text symbols → symbols_of text ≡ Some symbols }
 {}
 
 /// The labels of octets from a place on, through pointers, end with the root's label exactly where a name stands there,
@@ -27,5 +29,6 @@ pub fn labels_along_are_names()
 
 /// A text that is refused as a label has one fault.
 pub fn refused_label_text_has_one_fault()
-    ensures { (text : List ℕ) (f g : LabelFault) → FirstFault in_turn text f → FirstFault in_turn text g → f ≡ g }
+    ensures { (text : List ℕ) (f g : LabelFault)
+        → FirstFault in_turn text f → FirstFault in_turn text g → f ≡ g }
 {}

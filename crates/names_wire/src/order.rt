@@ -53,11 +53,15 @@ impl<'a> Ord for Label<'a> {
     }
 }
 
-/// Compares octet by octet, with ASCII letters lowered.
+/// Compares octet by octet, with ASCII letters lowered; octets that are equal need no lowering.
 pub(crate) fn lowercase_cmp(left: &[u8], right: &[u8]) -> Ordering
-    ensures { result ≡ slice_cmp nat_cmp (str_to_ascii_lowercase left.now) (str_to_ascii_lowercase right.now) }
+    ensures { let lower = str_to_ascii_lowercase in
+        result ≡ slice_cmp nat_cmp (lower left.now) (lower right.now) }
 {
     for (a, b) in left.iter().zip(right) {
+        if a == b {
+            continue;
+        }
         match a.to_ascii_lowercase().cmp(&b.to_ascii_lowercase()) {
             Ordering::Equal => {}
             order => return order,

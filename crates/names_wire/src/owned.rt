@@ -73,7 +73,8 @@ impl OwnedLabel {
     ) -> Result<OwnedLabel, LabelFromStrError>
         requires can { C.can_next chars }
         requires ends { IsFinite (C.remaining chars) }
-        ensures ok { IfOk result (λ label. (text : List ℕ) × Drains C.next_gives chars text × (label_of_text text ≡ Some (owned_octets label))) }
+        ensures ok { IfOk result (λ label. (text : List ℕ)
+            × Drains C.next_gives chars text × (label_of_text text ≡ Some (owned_octets label))) }
         ensures err { OnErr result (SpellsNothing C.next_gives chars label_of_text) }
         ensures fault { IfErr result (λ e. FirstFault C.next_gives chars (named e)) }
     {
@@ -94,10 +95,13 @@ impl OwnedLabel {
     /// Appends the octet of a symbol.
     fn push(&mut self, symbol: Symbol) -> Result<(), LabelFromStrError>
         requires { is_symbol (symbol_of symbol) ≡ true }
-        ensures ok { OnOk result (owned_octets self.new ≡ owned_octets self.old ++ octet (symbol_of symbol) ∷ []) }
-        ensures fits { OnOk result (CannotFollow (owned_octets self.old) (symbol_of symbol) → ⊥) }
+        ensures ok { let added = octet (symbol_of symbol) in
+            OnOk result (owned_octets self.new ≡ owned_octets self.old ++ added ∷ []) }
+        ensures fits { let cannot = CannotFollow (owned_octets self.old) (symbol_of symbol) in
+            OnOk result (cannot → ⊥) }
         ensures err { OnErr result (CannotFollow (owned_octets self.old) (symbol_of symbol)) }
-        ensures fault { IfErr result (λ e. FaultBehind (owned_octets self.old) (symbol_of symbol) (named e)) }
+        ensures fault { let is = FaultBehind (owned_octets self.old) (symbol_of symbol) in
+            IfErr result (λ e. is (named e)) }
         ensures unchanged { OnErr result (self.new ≡ self.old) }
     {
         let len = self.wire[0] as usize;

@@ -121,13 +121,17 @@ impl SymbolReader {
     ///
     /// After an error the reader is as it was.
     pub fn push(&mut self, ch: char) -> Result<Option<Symbol>, SymbolCharsError>
-        ensures read { IfOk result (λ symbol. (rest : List ℕ) → symbols_of (self.old ++ ch ∷ rest) ≡ followed_by symbol (symbols_of (self.new ++ rest))) }
-        ensures valid { IfOk result (λ symbol. IfSome symbol (λ s. is_symbol (symbol_of s) ≡ true)) }
-        ensures err { OnErr result ((rest : List ℕ) → symbols_of (self.old ++ ch ∷ rest) ≡ None) }
+        ensures read { IfOk result (λ symbol. (rest : List ℕ)
+            → symbols_of (self.old ++ ch ∷ rest) ≡ followed_by symbol (symbols_of (self.new ++ rest))) }
+        ensures valid { IfOk result (λ symbol.
+            IfSome symbol (λ s. is_symbol (symbol_of s) ≡ true)) }
+        ensures err { OnErr result ((rest : List ℕ)
+            → symbols_of (self.old ++ ch ∷ rest) ≡ None) }
         ensures kind { IfErr result (λ e. e ≡ char_fault self.old) }
         ensures unchanged { OnErr result (self.new ≡ self.old) }
         ensures begun { is_begun self.new ≡ true }
-        ensures left { IfOk result (λ symbol. self.new ≡ left_of symbol (self.old ++ ch ∷ [])) }
+        ensures left { let text = self.old ++ ch ∷ [] in
+            IfOk result (λ symbol. self.new ≡ left_of symbol text) }
         ensures stops { OnErr result (is_begun (self.old ++ ch ∷ []) ≡ false) }
     {
         match self.pending {
@@ -217,7 +221,8 @@ fn decimal(first: u8, second: u8, third: u8) -> Result<Symbol, SymbolCharsError>
     requires third { is_digit third ≡ true }
     ensures read { IfOk result (λ s. ReadsAs (92 ∷ first ∷ second ∷ third ∷ []) s) }
     ensures valid { IfOk result (λ s. is_symbol (symbol_of s) ≡ true) }
-    ensures err { OnErr result ((rest : List ℕ) → symbols_of (92 ∷ first ∷ second ∷ third ∷ rest) ≡ None) }
+    ensures err { OnErr result ((rest : List ℕ)
+        → symbols_of (92 ∷ first ∷ second ∷ third ∷ rest) ≡ None) }
     ensures kind { IfErr result (λ e. e ≡ SymbolCharsError.BadEscape) }
 {
     let value = (first - b'0') as u16 * 100 + (second - b'0') as u16 * 10 + (third - b'0') as u16;

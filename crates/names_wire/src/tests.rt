@@ -48,7 +48,8 @@ fn splits_labels(rt: HostRuntime) {
 fn lowers_behind(octets: &mut [u8], len: usize)
     requires short { len ≤ 63 }
     requires within { len < length octets.old }
-    ensures { octets.new ≡ take 1 octets.old ++ (str_to_ascii_lowercase (take len (drop 1 octets.old)) ++ drop len (drop 1 octets.old)) }
+    ensures { let rest = drop 1 octets.old in let lower = str_to_ascii_lowercase (take len rest) in
+        octets.new ≡ take 1 octets.old ++ (lower ++ drop len rest) }
 {
     let (_, behind) = octets.split_at_mut(1);
     let (front, _) = behind.split_at_mut(len);

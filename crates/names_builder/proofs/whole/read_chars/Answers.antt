@@ -28,12 +28,12 @@ returns-in-None-clause-ok g c = (
 
 pub returns-in_err-push_char-clause-refused : goal.returns-in_err-push_char-clause-refused
 returns-in_err-push_char-clause-refused g c =
-    let p = err_from_is_err_and c.from_residual.result c.from_residual.ensures.1 in
+    let p = err_from_is_err_and c.from_residual-in_err-push_char.result c.from_residual-in_err-push_char.ensures.1 in
     rw (p.1, p.2) (λ h. inl (
       c.in-Some.first ∷ [],
       c.next.new.self,
       (c.next.new.self, c.in-Some.ensures.steps, refl),
-      no_text_first c.new-builder.result c.in-Some.first c.new-reader.result c.if-first-eq46.false c.new-builder.ensures c.new-reader.ensures (c.in_err-push_char.ensures.refused h),
+      no_text_first c.in_ok-builder.builder c.in-Some.first c.new-reader.result c.if-first-eq46.false c.in_ok-builder.ensures c.new-reader.ensures (c.in_err-push_char.ensures.refused h),
     ))
 
 pub returns-in_err-append_text-clause-refused : goal.returns-in_err-append_text-clause-refused
@@ -41,7 +41,7 @@ returns-in_err-append_text-clause-refused g c =
     let p = err_from_is_err_and c.from_residual-in_err-append_text.result c.from_residual-in_err-append_text.ensures.1 in
     rw (p.1, p.2) (λ h.
     nothing_more g.C.Iterator.next_gives c.args.chars c.next.new.self c.in-Some.first (λ t. text_behind c.push_char.new.self (c.push_char.new.reader ++ t)) c.in-Some.ensures.steps
-    (λ t. of_text c.new-builder.result c.push_char.new.self c.in-Some.first c.new-reader.result c.push_char.new.reader t c.if-first-eq46.false c.new-builder.ensures c.new-reader.ensures c.in_ok-push_char.ensures.ok)
+    (λ t. of_text c.in_ok-builder.builder c.push_char.new.self c.in-Some.first c.new-reader.result c.push_char.new.reader t c.if-first-eq46.false c.in_ok-builder.ensures c.new-reader.ensures c.in_ok-push_char.ensures.ok)
     (c.in_err-append_text.ensures.refused h))
 
 pub returns-clause-ok : goal.returns-clause-ok
@@ -49,7 +49,7 @@ returns-clause-ok g c =
     let r = c.in_ok-append_text.ensures.ok in (
       c.in-Some.first ∷ r.0,
       drains_first g.C.Iterator.next_gives c.args.chars c.next.new.self c.in-Some.first r.0 c.in-Some.ensures.steps r.1,
-      of_text c.new-builder.result c.push_char.new.self c.in-Some.first c.new-reader.result c.push_char.new.reader r.0 c.if-first-eq46.false c.new-builder.ensures c.new-reader.ensures c.in_ok-push_char.ensures.ok
+      of_text c.in_ok-builder.builder c.push_char.new.self c.in-Some.first c.new-reader.result c.push_char.new.reader r.0 c.if-first-eq46.false c.in_ok-builder.ensures c.new-reader.ensures c.in_ok-push_char.ensures.ok
           ∙ ap (option_map without_empty) r.2 ∙ ap Some (all_standing c.append_text.new.self),
     )
 
@@ -59,10 +59,10 @@ returns-in-Some-next-clause-fault g c =
 
 pub returns-in_err-push_char-clause-fault : goal.returns-in_err-push_char-clause-fault
 returns-in_err-push_char-clause-fault g c =
-    let p = err_from_is_err_and c.from_residual.result c.from_residual.ensures.1 in
-    rw (p.1, p.2) (char_first g.C.Iterator.next_gives c.args.chars c.next.new.self c.in-Some.first c.new-builder.result c.new-reader.result c.in_err-push_char.field-0.0 c.in-Some.ensures.steps c.new-builder.ensures c.new-reader.ensures c.in_err-push_char.ensures.fault)
+    let p = err_from_is_err_and c.from_residual-in_err-push_char.result c.from_residual-in_err-push_char.ensures.1 in
+    rw (p.1, p.2) (char_first g.C.Iterator.next_gives c.args.chars c.next.new.self c.in-Some.first c.in_ok-builder.builder c.new-reader.result c.in_err-push_char.field-0.0 c.in-Some.ensures.steps c.in_ok-builder.ensures c.new-reader.ensures c.in_err-push_char.ensures.fault)
 
 pub returns-in_err-append_text-clause-fault : goal.returns-in_err-append_text-clause-fault
 returns-in_err-append_text-clause-fault g c =
     let p = err_from_is_err_and c.from_residual-in_err-append_text.result c.from_residual-in_err-append_text.ensures.1 in
-    rw (p.1, p.2) (fault_behind g.C.Iterator.next_gives c.args.chars c.next.new.self c.in-Some.first c.new-builder.result c.push_char.new.self c.append_text.new.self c.new-reader.result c.push_char.new.reader c.in_err-append_text.field-0.0 c.in-Some.ensures.steps c.new-builder.ensures c.new-reader.ensures c.in_ok-push_char.ensures.adds c.in_err-append_text.ensures.fault)
+    rw (p.1, p.2) (fault_behind g.C.Iterator.next_gives c.args.chars c.next.new.self c.in-Some.first c.in_ok-builder.builder c.push_char.new.self c.append_text.new.self c.new-reader.result c.push_char.new.reader c.in_err-append_text.field-0.0 c.in-Some.ensures.steps c.in_ok-builder.ensures c.new-reader.ensures c.in_ok-push_char.ensures.adds c.in_err-append_text.ensures.fault)

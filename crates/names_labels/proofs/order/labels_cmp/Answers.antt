@@ -14,8 +14,8 @@ loop-a-init g c =
     let n = c.label_count-other_count.ensures.count in
     let e : c.saturating_sub.result ≡ length a - length b = omega (arith, m, n) in
     let f : c.saturating_sub-2.result ≡ length b - length a = omega (arith, m, n) in
-    let l = c.labels_from-left.ensures in
-    let r = c.labels_from-right.ensures in
+    let l = c.labels_counted-left.ensures in
+    let r = c.labels_counted-right.ensures in
     record {
       tied = tails_then a b _ _ e f ∙ (λ t. ordering_then (ordering_then (name_cmp (sym l t) (sym r t)) Equal) (nat_cmp (length a) (length b)));
       even = ap length l ∙ length-drop c.saturating_sub.result a ∙ omega (arith, length-drop c.saturating_sub-2.result b, e, f, ap length r);
