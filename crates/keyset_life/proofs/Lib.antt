@@ -1,0 +1,4 @@
+pub mod SideTables
+pub mod Contents
+pub mod Retiring
+pub mod Sided
