@@ -6,6 +6,7 @@ use Rattle.keyset_keys.specs.declared.keys.KeyType.{KeyType}
 use Rattle.keyset_rolls.specs.declared.rolls.RollState.{RollState}
 use Rattle.keyset_rolls.specs.declared.rolls.RollState.TheVariants.{Propagation1, CacheExpire1, Propagation2, CacheExpire2, Done}
 use Rattle.keyset_rolls.specs.declared.rolls.RollType.{RollType}
+use Rattle.keyset_rolls.specs.declared.rolls.RollType.TheVariants.{AlgorithmRoll}
 use Rattle.keyset_rolls.specs.Rolls.{touches}
 use Rattle.keyset.specs.KeyState.{Key, KeySetState, Reference, ds, each_is, is_stale, key_of, phase_of}
 use Rattle.keyset.specs.KeyRuns.{Call}
@@ -155,7 +156,7 @@ module _ (side : Side) (life : Life) (steps : List Step) (s : KeySetState) (t : 
         on = h.on;
         new = h.new;
         ready = ready;
-        anchored = ⊎_elim (λ (e : NoDs life steps). inl (no_ds_more side life steps t (none e) e)) (λ (a : (x : Reference) × Anchored side life steps s x). inr (a.0, anchored_still a.0 a.1)) h.anchored;
+        anchored = ⊎_elim (λ (e : (r ≡ AlgorithmRoll) × NoDs life steps). inl (e.0, no_ds_more side life steps t (none e.1) e.1)) (λ (a : (x : Reference) × Anchored side life steps s x). inr (a.0, anchored_still a.0 a.1)) h.anchored;
         early = subst (λ o. Early side r life (steps ++ t ∷ []) (q r) h.new o) (sym (w.phases r h.on))
             (subst (λ o. Early side r life (steps ++ t ∷ []) o h.new (phase_of s r)) (w.noted r h.on)
             (early_more side r life steps t (p r) h.new (phase_of s r) (w.no_start r h.on) (ready_grown side r t.left h.new ready) h.early));

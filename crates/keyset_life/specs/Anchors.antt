@@ -79,7 +79,7 @@ pub record Growing (side : Side) (r : RollType) (life : Life) (steps : List Step
   pub on : is_on side r ≡ true
   pub new : Reference
   pub ready : HasKey s new (is_ready side r)
-  pub anchored : NoDs life steps ⊎ (q : Reference) × Anchored side life steps s q
+  pub anchored : (r ≡ AlgorithmRoll) × NoDs life steps ⊎ (q : Reference) × Anchored side life steps s q
   pub early : Early side r life steps p new (phase_of s r)
 
 -- What a second report is about: each state since the first wait shows the new key where it was handed over.
@@ -96,6 +96,11 @@ pub record Crossing (side : Side) (r : RollType) (life : Life) (steps : List Ste
   pub both : Live life (first_of side r) steps (λ x. shows side (first_of side r) old x && shows side (first_of side r) n x)
   pub either : Live life (second_of side r) steps (λ x. shows side (second_of side r) old x || shows side (second_of side r) n x)
   pub late : Late side r life steps p n (phase_of s r)
+
+abbrev pub is_first : Option RollState → Bool
+is_first (Some state.Propagation1) = true
+is_first (Some (state.CacheExpire1 ttl)) = true
+is_first _ = false
 
 abbrev pub is_second : Option RollState → Bool
 is_second (Some state.Propagation2) = true
