@@ -46,7 +46,7 @@ reversed Equal h = absurd h
 reversed Greater h = absurd h
 
 -- what is found behind a lower reference isn't found at it
-passed : (x q : Reference) (k : Key) (es : List (Reference × Key)) → T (below_all reference_cmp x es) → find reference_cmp q es ≡ Some k → eq_by_cmp reference_cmp q x ≡ false
+pub passed : (x q : Reference) (k : Key) (es : List (Reference × Key)) → T (below_all reference_cmp x es) → find reference_cmp q es ≡ Some k → eq_by_cmp reference_cmp q x ≡ false
 passed x q k [] b f = cc
 passed x q k (e ∷ es) b f = at (eq_by_cmp reference_cmp q e.0) refl f (λ g. passed x q k es (both_second (is_lt (reference_cmp x e.0)) (below_all reference_cmp x es) b) g)
   where

@@ -1,15 +1,14 @@
 -- What things show, and that states of one content show the same keys.
-use Rattle.std.proofs.Common.{◌≡◌, ℕ, Bool, true, false, cond, not, List, [], ◌∷◌, map, refl, sym, ap, subst, ◌∙◌, T, ◌&&◌, ◌||◌}
-use Rattle.std.specs.Prelude.{Option, Some, None}
-use Rattle.std.specs.List.{filter, list_any}
+use Rattle.std.proofs.Common.{◌≡◌, Bool, true, false, cond, List, [], ◌∷◌, map, refl, ap, subst, ◌∙◌, T, ◌&&◌, ◌||◌}
+use Rattle.std.specs.Prelude.{Some}
+use Rattle.std.specs.List.{filter}
 use Rattle.std.specs.Str.{bytes_eq}
 use Rattle.std.specs.Ordering.{eq_by_cmp}
 use Rattle.std.specs.Cmp.Lexicographic.{bytes_decides}
 use Rattle.std.specs.FinMap.Entries.{find, is_sorted}
-use Rattle.std.proofs.lemmas.Bool.{and_from, or_left, or_right}
+use Rattle.std.proofs.lemmas.Bool.{and_from, or_right}
 use Rattle.keyset_keys.specs.declared.keys.KeyType.{KeyType}
-use Rattle.keyset_keys.specs.declared.keys.KeyType.TheVariants.{Ksk, Zsk, Csk, Include}
-use Rattle.keyset.specs.KeyState.{Key, KeySetState, Reference, ds, is_at_parent, is_present, key_of, keysigners, ksk_is, listed, main_is, present, reference_cmp, references_where, signs, zonesigners, zsk_is}
+use Rattle.keyset.specs.KeyState.{Key, KeySetState, Reference, ds, is_at_parent, is_present, key_of, keysigners, ksk_is, listed, main_is, present, reference_cmp, references_where, signs, zsk_is}
 use Rattle.keyset.proofs.KeyFinds.{first_found, later, sorted_rest, is_same}
 use Rattle.keyset.proofs.KeyTables.{and_left as left_of, and_right as right_of}
 use Rattle.keyset_life.specs.KeyLife.{Thing, DsSet, DnskeyAnswer, ZoneAnswer, content, same_content, same_references}

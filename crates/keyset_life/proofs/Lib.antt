@@ -3,3 +3,7 @@ pub mod Contents
 pub mod Retiring
 pub mod Sided
 pub mod Turns
+pub mod Effects
+pub mod Lives
+pub mod LifeSteps
+pub mod Meets

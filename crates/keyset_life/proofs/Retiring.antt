@@ -1,6 +1,6 @@
 -- What a report leaves live: the things that stand since the call that it speaks of.
-use Rattle.std.proofs.Common.{◌≡◌, ℕ, zero, suc, ◌+◌, ◌-◌, ◌*◌, ◌<◌, ◌≤◌, Bool, true, false, cond, not, List, [], ◌∷◌, ◌++◌, map, length, take, drop, refl, sym, ap, subst, ◌∙◌, ◌&&◌, ◌||◌, ◌⊎◌, inl, inr, ⊎_elim, arith, slice_get, nat_eq, nat_lt, nat_le, append_assoc}
-use Rattle.std.specs.Prelude.{Option, Some, None, if◌then◌else◌}
+use Rattle.std.proofs.Common.{◌≡◌, ℕ, zero, suc, ◌+◌, ◌-◌, ◌*◌, ◌<◌, ◌≤◌, Bool, true, false, not, List, [], ◌∷◌, ◌++◌, map, length, take, drop, refl, sym, ap, subst, ◌∙◌, ◌&&◌, ◌||◌, ◌⊎◌, inl, inr, ⊎_elim, arith, slice_get, nat_eq, nat_le, append_assoc}
+use Rattle.std.specs.Prelude.{Some, if◌then◌else◌}
 use Rattle.std.specs.List.{list_all, list_any}
 use Rattle.std.proofs.lemmas.Bool.{and_from, cases_lt, eqb-true, le-leb, lt-ltb, not-false, or_parts}
 use Rattle.std.proofs.lemmas.List.{map-append}
@@ -217,7 +217,7 @@ module _ (life : Life) (steps : List Step) (t : Step) where
 pub live_so : (life : Life) (thing : Thing) (steps : List Step) (p q : KeySetState → Bool) → ((s : KeySetState) → p s ≡ true → q s ≡ true) → Live life thing steps p → Live life thing steps q
 live_so life thing steps p q h l i s g live = h s (l i s g live)
 
-any_last : (b : Call → Bool) (ts : List Step) (t : Step) → list_any (λ (t : Step). b t.call) ts ≡ false → b t.call ≡ false → list_any (λ (t : Step). b t.call) (ts ++ t ∷ []) ≡ false
+pub any_last : (b : Call → Bool) (ts : List Step) (t : Step) → list_any (λ (t : Step). b t.call) ts ≡ false → b t.call ≡ false → list_any (λ (t : Step). b t.call) (ts ++ t ∷ []) ≡ false
 any_last b [] t h k = ap (λ x. x || false) k
 any_last b (x ∷ ts) t h k = let w = or_parts (b x.call) (list_any (λ (t : Step). b t.call) ts) h in ap (λ y. y || list_any (λ (t : Step). b t.call) (ts ++ t ∷ [])) w.0 ∙ any_last b ts t w.1 k
 
@@ -245,3 +245,10 @@ all_so p q (t ∷ ts) h a = and_from (q t.left) (list_all (λ (t : Step). q t.le
 
 pub since_so : (b : Call → Bool) (steps : List Step) (p q : KeySetState → Bool) → ((s : KeySetState) → p s ≡ true → q s ≡ true) → Since b steps p → Since b steps q
 since_so b steps p q h w = record { before = w.before; first = w.first; later = w.later; all = w.all; begun = w.begun; last = w.last; passed = all_so p q (w.first ∷ w.later) h w.passed }
+
+-- the last state is one of the states
+pub get_last_place : (s : KeySetState) (steps : List Step) (t : Step) → (n : ℕ) × (slice_get (states s (steps ++ t ∷ [])) n ≡ Some t.left)
+get_last_place s steps t =
+    let n = length (states s steps) in
+    let e : n ≡ n + 0 = omega arith in
+    (n, ap (λ l. slice_get l n) (lefts_append s steps (t ∷ [])) ∙ ap (slice_get (states s steps ++ t.left ∷ [])) e ∙ get_behind (states s steps) (t.left ∷ []) 0)

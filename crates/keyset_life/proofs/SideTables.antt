@@ -4,13 +4,13 @@ use Rattle.keyset_keys.specs.declared.keys.KeyType.{KeyType}
 use Rattle.keyset_rolls.specs.declared.rolls.RollType.{RollType}
 use Rattle.keyset_rolls.specs.declared.rolls.RollType.TheVariants.{KskRoll, KskDoubleDsRoll, ZskRoll, ZskDoubleSignatureRoll, CskRoll, AlgorithmRoll}
 use Rattle.keyset_rolls.specs.declared.rolls.Turn.TheVariants.{First, Second}
-use Rattle.keyset_rolls.specs.Rolls.{meets_need, new_roles, started_roles, touches, wait1_roles, wait2_roles, watched}
+use Rattle.keyset_rolls.specs.Rolls.{meets_need, new_roles, touches, wait1_roles, wait2_roles, watched}
 use Rattle.keyset.specs.KeyState.{each_is, is_stale, on_each, set_old}
 use Rattle.keyset.specs.KeyRuns.{Kind, OfKsk, OfZsk, OfCsk, OfOther, roles_of}
 use Rattle.keyset.specs.KeyRunLaws.{keeps_roles}
-use Rattle.keyset.proofs.KeyTables.{OfAll, from_implies, implies, join, of_all}
-use Rattle.keyset_life.specs.KeyLife.{Thing, DsSet, DnskeyAnswer, ZoneAnswer}
-use Rattle.keyset_life.specs.Sides.{OfKeys, OfZone, Side, agrees, doubles, first_of, is_lasting, is_of, is_on, is_ready, is_settled, is_shown, need_of, partner, second_of}
+use Rattle.keyset.proofs.KeyTables.{OfAll, from_implies, implies, of_all}
+use Rattle.keyset_life.specs.KeyLife.{Thing, DsSet, DnskeyAnswer}
+use Rattle.keyset_life.specs.Sides.{OfKeys, OfZone, Side, agrees, doubles, first_of, is_lasting, is_of, is_on, is_ready, is_settled, is_shown, need_of, partner}
 
 -- what the roles of every key keep
 abbrev pub keeps_all : KeyType → Bool

@@ -1,7 +1,7 @@
 -- One side of a life at a call that changes nothing of it: a call on keys, or one of a roll of the other side.
-use Rattle.std.proofs.Common.{◌≡◌, ℕ, ◌-◌, ◌*◌, ◌≤◌, Bool, true, false, cond, not, List, [], ◌∷◌, ◌++◌, refl, sym, ap, subst, ◌∙◌, T, ◌&&◌, ◌||◌, ◌⊎◌, inl, inr, ⊎_elim, slice_get}
+use Rattle.std.proofs.Common.{◌≡◌, Bool, true, false, not, List, [], ◌∷◌, ◌++◌, refl, sym, ap, subst, ◌∙◌, ◌&&◌, ◌||◌, inl, inr, ⊎_elim}
 use Rattle.std.specs.Prelude.{Option, Some, None}
-use Rattle.std.proofs.lemmas.Bool.{and_from, not-true, or_left, or_right}
+use Rattle.std.proofs.lemmas.Bool.{and_from, not-true, or_right}
 use Rattle.keyset_keys.specs.declared.keys.KeyType.{KeyType}
 use Rattle.keyset_rolls.specs.declared.rolls.RollState.{RollState}
 use Rattle.keyset_rolls.specs.declared.rolls.RollState.TheVariants.{Propagation1, CacheExpire1, Propagation2, CacheExpire2, Done}
@@ -9,11 +9,10 @@ use Rattle.keyset_rolls.specs.declared.rolls.RollType.{RollType}
 use Rattle.keyset_rolls.specs.declared.rolls.RollType.TheVariants.{AlgorithmRoll}
 use Rattle.keyset_rolls.specs.Rolls.{touches}
 use Rattle.keyset.specs.KeyState.{Key, KeySetState, Reference, ds, each_is, is_stale, key_of, phase_of}
-use Rattle.keyset.specs.KeyRuns.{Call}
 use Rattle.keyset.specs.KeyRunLaws.{Reports}
 use Rattle.keyset_life.specs.KeyLife.{DnskeyAnswer, Step, Thing, is_first_wait, is_start}
-use Rattle.keyset_life.specs.Sides.{Side, doubles, first_of, is_lasting, is_of, is_on, is_ready, is_shown, partner, second_of, shows, stays}
-use Rattle.keyset_life.specs.Anchors.{Anchored, Crossing, Doubled, Early, Growing, Grows, HasKey, HasRun, Kept, Late, Life, Live, NoDs, Resting, Rests, Since, Switched, Switches, grown, is_second, rests}
+use Rattle.keyset_life.specs.Sides.{Side, doubles, first_of, is_empty, is_lasting, is_of, is_on, is_ready, is_shown, partner, second_of, shows, stays}
+use Rattle.keyset_life.specs.Anchors.{Anchored, Crossing, Early, Growing, Grows, HasKey, Kept, Late, Life, NoDs, Rests, Switched, Switches, grown, is_second, rests}
 use Rattle.keyset_life.proofs.Contents.{shown_shows}
 use Rattle.keyset_life.proofs.Retiring.{each_more, live_more, since_more}
 use Rattle.keyset_life.proofs.SideTables.{shown_of, shown_used}
@@ -110,8 +109,8 @@ module _ (side : Side) (life : Life) (steps : List Step) (t : Step) where
     in_ends = b;
   }
 
-  pub no_ds_more : Rattle.keyset_life.specs.Sides.is_empty (ds t.left) ≡ true → NoDs life steps → NoDs life (steps ++ t ∷ [])
-  no_ds_more e h i s g = each_more life steps t (λ s. Rattle.keyset_life.specs.Sides.is_empty (ds s) ≡ true) h e i s g
+  pub no_ds_more : is_empty (ds t.left) ≡ true → NoDs life steps → NoDs life (steps ++ t ∷ [])
+  no_ds_more e h i s g = each_more life steps t (λ s. is_empty (ds s) ≡ true) h e i s g
 
   pub crossing_more : (r : RollType) (s : KeySetState) (p : Reports) (n : Reference) → Crossing side r life steps s p n → is_first_wait r t.call ≡ false → ((q : Reference) → HasKey s q (is_shown side (first_of side r)) → HasKey t.left q (is_shown side (first_of side r)))
       → HasKey t.left n (is_lasting side r) → phase_of t.left r ≡ phase_of s r → Crossing side r life (steps ++ t ∷ []) t.left p n
@@ -149,14 +148,14 @@ module _ (side : Side) (life : Life) (steps : List Step) (s : KeySetState) (t : 
   anchored_still : (x : Reference) → Anchored side life steps s x → Anchored side life (steps ++ t ∷ []) t.left x
   anchored_still x h = anchored_more side life steps t s x h (shown_still x DnskeyAnswer h.in_keys) (shown_still x (partner side) h.in_ends)
 
-  growing_still : (r : RollType) → (NoDs life steps → Rattle.keyset_life.specs.Sides.is_empty (ds t.left) ≡ true) → Growing side r life steps s (p r) → Growing side r life (steps ++ t ∷ []) t.left (q r)
+  growing_still : (r : RollType) → (r ≡ AlgorithmRoll → NoDs life steps → is_empty (ds t.left) ≡ true) → Growing side r life steps s (p r) → Growing side r life (steps ++ t ∷ []) t.left (q r)
   growing_still r none h =
       let ready = ready_still r h.new h.ready in
       record {
         on = h.on;
         new = h.new;
         ready = ready;
-        anchored = ⊎_elim (λ (e : (r ≡ AlgorithmRoll) × NoDs life steps). inl (e.0, no_ds_more side life steps t (none e.1) e.1)) (λ (a : (x : Reference) × Anchored side life steps s x). inr (a.0, anchored_still a.0 a.1)) h.anchored;
+        anchored = ⊎_elim (λ (e : (r ≡ AlgorithmRoll) × NoDs life steps). inl (e.0, no_ds_more side life steps t (none e.0 e.1) e.1)) (λ (a : (x : Reference) × Anchored side life steps s x). inr (a.0, anchored_still a.0 a.1)) h.anchored;
         early = subst (λ o. Early side r life (steps ++ t ∷ []) (q r) h.new o) (sym (w.phases r h.on))
             (subst (λ o. Early side r life (steps ++ t ∷ []) o h.new (phase_of s r)) (w.noted r h.on)
             (early_more side r life steps t (p r) h.new (phase_of s r) (w.no_start r h.on) (ready_grown side r t.left h.new ready) h.early));
@@ -180,7 +179,7 @@ module _ (side : Side) (life : Life) (steps : List Step) (s : KeySetState) (t : 
         });
       }
 
-  pub kept_still : (NoDs life steps → Rattle.keyset_life.specs.Sides.is_empty (ds t.left) ≡ true) → Kept side life steps s p → Kept side life (steps ++ t ∷ []) t.left q
+  pub kept_still : ((r : RollType) → r ≡ AlgorithmRoll → Growing side r life steps s (p r) → NoDs life steps → is_empty (ds t.left) ≡ true) → Kept side life steps s p → Kept side life (steps ++ t ∷ []) t.left q
   kept_still none (Rests h) = Rests (record { anchor = h.anchor; anchored = anchored_still h.anchor h.anchored; none_runs = λ r e. ap rests (w.phases r e) ∙ h.none_runs r e })
-  kept_still none (Grows r h) = Grows r (growing_still r none h)
+  kept_still none (Grows r h) = Grows r (growing_still r (λ e n. none r e h n) h)
   kept_still none (Switches r h) = Switches r (switched_still r h)

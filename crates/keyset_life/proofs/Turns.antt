@@ -1,30 +1,30 @@
 -- One side of a life at a call of a roll that is on it.
-use Rattle.std.proofs.Common.{◌≡◌, ℕ, ◌+◌, ◌-◌, ◌*◌, ◌≤◌, Bool, true, false, cond, not, List, [], ◌∷◌, ◌++◌, refl, sym, ap, subst, ◌∙◌, T, ◌&&◌, ◌||◌, ◌⊎◌, inl, inr, ⊎_elim, slice_get}
+use Rattle.std.proofs.Common.{◌≡◌, ℕ, ◌+◌, ◌*◌, ◌≤◌, Bool, true, false, cond, not, List, [], ◌∷◌, ◌++◌, refl, sym, ap, subst, ◌∙◌, ◌&&◌, ◌||◌, ◌⊎◌, inl, inr, ⊎_elim}
 use Rattle.std.specs.Prelude.{Option, Some, None, is_some}
 use Rattle.std.specs.List.{list_any}
 use Rattle.std.specs.Ordering.{eq_by_cmp}
 use Rattle.std.specs.FinMap.Entries.{find}
-use Rattle.std.proofs.lemmas.Bool.{and_from, false≢true, not-true, or_left, or_right}
+use Rattle.std.proofs.lemmas.Bool.{and_from, false≢true, or_left, or_right}
 use Rattle.keyset_keys.specs.declared.keys.KeyType.{KeyType}
 use Rattle.keyset_rolls.specs.declared.rolls.RollState.{RollState}
 use Rattle.keyset_rolls.specs.declared.rolls.RollState.TheVariants.{Propagation1, CacheExpire1, Propagation2, CacheExpire2, Done}
 use Rattle.keyset_rolls.specs.declared.rolls.RollType.{RollType}
-use Rattle.keyset_rolls.specs.declared.rolls.RollType.TheVariants.{KskRoll, KskDoubleDsRoll, ZskRoll, ZskDoubleSignatureRoll, CskRoll, AlgorithmRoll}
+use Rattle.keyset_rolls.specs.declared.rolls.RollType.TheVariants.{KskRoll, KskDoubleDsRoll, ZskRoll, ZskDoubleSignatureRoll, AlgorithmRoll}
 use Rattle.keyset_rolls.specs.Rolls.{conflicts, is_of_ksks, is_of_zsks, started_roles, touches, wait1_roles, wait2_roles}
 use Rattle.keyset.specs.KeyState.{Key, KeySetState, Reference, ds, entered, key_of, kind_cmp, phase_of, reference_cmp}
-use Rattle.keyset.specs.KeyRuns.{Call, Report1, Report2}
+use Rattle.keyset.specs.KeyRuns.{Report1, Report2}
 use Rattle.keyset.specs.KeyRunLaws.{Reports, moment_of}
 use Rattle.keyset.proofs.KeyFinds.{changed, is_equal, to_after}
 use Rattle.keyset.proofs.KeyMaps.{kind_same}
 use Rattle.keyset.proofs.KeyRunSteps.{Together, phase_put}
 use Rattle.keyset.proofs.KeyTables.{and_left as left_of, and_right as right_of, join}
 use Rattle.keyset.proofs.KeyWaits.{kind_itself}
-use Rattle.keyset_life.specs.KeyLife.{DnskeyAnswer, DsSet, Step, Thing, ZoneAnswer, is_first_wait, is_start, reported_first, reported_second, same_thing}
+use Rattle.keyset_life.specs.KeyLife.{DnskeyAnswer, DsSet, Step, Thing, is_first_wait, is_start, reported_first, reported_second, same_thing}
 use Rattle.keyset_life.specs.Sides.{OfKeys, OfZone, Side, doubles, first_of, is_empty, is_lasting, is_on, is_ready, is_shown, partner, second_of, shows}
-use Rattle.keyset_life.specs.Anchors.{Anchored, Crossing, Doubled, Early, Growing, Grows, HasKey, HasRun, Kept, Late, Life, Live, NoDs, Resting, Rests, Since, Switched, Switches, grown, is_first, is_second, rests}
+use Rattle.keyset_life.specs.Anchors.{Anchored, Crossing, Early, Growing, Grows, HasKey, HasRun, Kept, Late, Life, Live, NoDs, Resting, Rests, Since, Switched, Switches, grown, is_first, is_second, rests}
 use Rattle.keyset_life.proofs.Contents.{shows_same}
 use Rattle.keyset_life.proofs.Retiring.{first_report_leaves, live_more, live_so, run_in_time, second_report_leaves, since_now, since_so, step_of}
-use Rattle.keyset_life.proofs.Sided.{anchored_more, early_more, lasting_first, lasting_second, no_ds_more, of_lasting, of_ready, ready_first, ready_grown, shows_now, wanted}
+use Rattle.keyset_life.proofs.Sided.{anchored_more, lasting_first, lasting_second, no_ds_more, of_lasting, of_ready, ready_first, ready_grown, shows_now, wanted}
 use Rattle.keyset_life.proofs.SideTables.{first_stays, keeps_all, lasts, new_shown, old_shown, stays_shown}
 
 -- ---- what reports speak of
@@ -158,7 +158,7 @@ pub second_runs : (o : Option RollState) → is_second o ≡ true → is_some o 
 second_runs None h = cc
 second_runs (Some x) h = refl
 
-early_first : (side : Side) (r : RollType) (life : Life) (steps : List Step) (p : Reports) (n : Reference) (o : Option RollState) → Early side r life steps p n o → is_first o ≡ true
+pub early_first : (side : Side) (r : RollType) (life : Life) (steps : List Step) (p : Reports) (n : Reference) (o : Option RollState) → Early side r life steps p n o → is_first o ≡ true
 early_first side r life steps p n None h = absurd h
 early_first side r life steps p n (Some Propagation1) h = refl
 early_first side r life steps p n (Some (CacheExpire1 t)) h = refl

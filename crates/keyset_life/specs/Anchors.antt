@@ -1,12 +1,12 @@
 -- What each roll keeps: which keys the things show that are not retired, in each phase of a roll. Each side of a validation has its
 -- own.
-use Rattle.std.specs.Prelude.{◌≡◌, ℕ, ◌*◌, ◌-◌, ◌≤◌, Bool, true, false, not, ◌&&◌, ◌||◌, List, [], ◌∷◌, ◌++◌, Option, Some, None, slice_get, ◌⊎◌}
+use Rattle.std.specs.Prelude.{◌≡◌, ℕ, ◌*◌, ◌-◌, ◌≤◌, Bool, true, false, not, ◌&&◌, ◌||◌, List, ◌∷◌, ◌++◌, Option, Some, None, slice_get, ◌⊎◌}
 use Rattle.std.specs.List.{list_all, list_any}
 use Rattle.keyset_keys.specs.declared.keys.KeyType.{KeyType}
 use Rattle.keyset_rolls.specs.declared.rolls.RollState.{RollState}
 use Rattle.keyset_rolls.specs.declared.rolls.RollState.TheVariants as state
 use Rattle.keyset_rolls.specs.declared.rolls.RollType.{RollType}
-use Rattle.keyset_rolls.specs.declared.rolls.RollType.TheVariants.{KskRoll, KskDoubleDsRoll, CskRoll, AlgorithmRoll}
+use Rattle.keyset_rolls.specs.declared.rolls.RollType.TheVariants.{AlgorithmRoll}
 use Rattle.keyset.specs.KeyState.{Key, KeySetState, Reference, ds, key_of, phase_of}
 use Rattle.keyset.specs.KeyRuns.{Call}
 use Rattle.keyset.specs.KeyRunLaws.{Reports}

@@ -1,7 +1,6 @@
 -- The law of rollovers: what is not retired meets.
-use Rattle.std.specs.Prelude.{◌≡◌, ℕ, Bool, true, false, not, ◌&&◌, ◌||◌, List, [], ◌∷◌, Some, nat_le, slice_get, if◌then◌else◌}
+use Rattle.std.specs.Prelude.{◌≡◌, ℕ, Bool, true, false, not, ◌&&◌, ◌||◌, List, [], ◌∷◌, Some, nat_le, slice_get}
 use Rattle.std.specs.List.{list_all}
-use Rattle.keyset_rolls.specs.declared.rolls.RollType.{RollType}
 use Rattle.keyset_rolls.specs.declared.rolls.RollType.TheVariants.{KskRoll, KskDoubleDsRoll, CskRoll, AlgorithmRoll}
 use Rattle.keyset.specs.KeyState.{KeySetState, ds}
 use Rattle.keyset.specs.KeyRuns.{Call, no_keys}

@@ -1,14 +1,14 @@
 -- The two sides of a validation: from the parent's DS set to the DNSKEY answer, and from there to the answers of the zone; and in
 -- which order a roll changes the two things of a side.
-use Rattle.std.specs.Prelude.{Bool, true, false, not, ◌&&◌, ◌||◌, ◌==◌, List, [], ◌∷◌}
+use Rattle.std.specs.Prelude.{Bool, true, false, not, ◌&&◌, ◌||◌, List, []}
 use Rattle.keyset_keys.specs.declared.keys.KeyType.{KeyType}
-use Rattle.keyset_keys.specs.declared.keys.KeyType.TheVariants.{Ksk, Zsk, Csk, Include}
+use Rattle.keyset_keys.specs.declared.keys.KeyType.TheVariants.{Csk}
 use Rattle.keyset_rolls.specs.declared.rolls.RollType.{RollType}
-use Rattle.keyset_rolls.specs.declared.rolls.RollType.TheVariants.{KskRoll, KskDoubleDsRoll, ZskRoll, ZskDoubleSignatureRoll, CskRoll, AlgorithmRoll}
+use Rattle.keyset_rolls.specs.declared.rolls.RollType.TheVariants.{KskRoll, KskDoubleDsRoll, ZskRoll, ZskDoubleSignatureRoll, AlgorithmRoll}
 use Rattle.keyset_rolls.specs.declared.table.Need.{Need}
 use Rattle.keyset_rolls.specs.declared.table.Need.TheVariants as need
 use Rattle.keyset_rolls.specs.Rolls.{touches}
-use Rattle.keyset.specs.KeyState.{Flags, KeySetState, Reference, current, ds, is_at_parent, is_old, is_present, keysigners, ksk_is, listed, main_is, present, signs, zonesigners, zsk_is}
+use Rattle.keyset.specs.KeyState.{KeySetState, Reference, current, ds, is_at_parent, is_present, keysigners, ksk_is, listed, main_is, present, signs, zonesigners, zsk_is}
 use Rattle.keyset_life.specs.KeyLife.{Thing, DsSet, DnskeyAnswer, ZoneAnswer}
 
 pub data Side : Type 0 where
