@@ -6,4 +6,6 @@ pub mod Turns
 pub mod Effects
 pub mod Lives
 pub mod LifeSteps
+pub mod Lived
+pub mod Publishing
 pub mod Meets

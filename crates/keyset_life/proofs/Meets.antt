@@ -1,34 +1,30 @@
 -- What is not retired meets.
-use Rattle.std.proofs.Common.{◌≡◌, ℕ, zero, suc, ◌≤◌, Bool, true, false, not, List, [], ◌∷◌, ◌++◌, refl, sym, ap, subst, ◌∙◌, T, ◌&&◌, ◌||◌, ◌⊎◌, inl, inr, ⊎_elim, slice_get, nat_le, append_assoc, append-nil}
-use Rattle.std.specs.Prelude.{Some, None, Ok, Err}
+use Rattle.std.proofs.Common.{◌≡◌, ℕ, zero, suc, ◌+◌, take, arith, ◌≤◌, Bool, true, false, not, List, [], ◌∷◌, ◌++◌, refl, sym, ap, subst, ◌∙◌, ◌&&◌, ◌||◌, ◌⊎◌, inl, inr, ⊎_elim, slice_get, nat_le, append_assoc, append-nil}
+use Rattle.std.specs.Prelude.{Option, Some, None, Result, Ok, Err, is_ok}
+use Rattle.std.specs.Global.{Vec}
+use Rattle.keyset_keys.specs.declared.errors.Error.{Error}
+use Rattle.keyset_keys.specs.declared.errors.Error.TheVariants.{Memory}
+use Rattle.keyset.specs.KeyAnswers.{Fails, Gives, GivesAtOnce, Refuses, refusal_of}
 use Rattle.std.specs.List.{list_any}
 use Rattle.std.specs.Str.{bytes_eq}
 use Rattle.std.specs.Cmp.Lexicographic.{bytes_decides}
-use Rattle.std.specs.FinMap.Entries.{is_sorted}
-use Rattle.std.proofs.lemmas.Bool.{false≢true, leb-true, or_left, or_right}
-use Rattle.keyset_keys.specs.declared.keys.KeyType.{KeyType}
+use Rattle.std.proofs.lemmas.Bool.{and_from, false≢true, le-leb, leb-true, or_left, or_right}
 use Rattle.keyset_rolls.specs.declared.rolls.Action.{Action}
-use Rattle.keyset_rolls.specs.declared.rolls.RollState.TheVariants.{Propagation1, CacheExpire1, Propagation2, CacheExpire2, Done}
 use Rattle.keyset_rolls.specs.declared.rolls.RollType.{RollType}
 use Rattle.keyset_rolls.specs.declared.rolls.RollType.TheVariants.{KskRoll, AlgorithmRoll}
-use Rattle.keyset_rolls.specs.Rolls.{reported1, reported2, started_roles, touches, waited1, waited2}
-use Rattle.keyset.specs.KeyState.{Answer, Key, KeySetState, Reference, Refusal, ds, key_of, keysigners, listed, new_key, on_each, present, reference_cmp, set_old, when, zonesigners}
-use Rattle.keyset.specs.KeyRuns.{Add, Call, Delete, Finish, Report1, Report2, SetAtParent, SetDecoupled, SetDsVisible, SetPresent, SetRrsigVisible, SetSigner, SetStale, SetVisible, Start, Wait1, Wait2, is_accepted, left, no_keys, on_state, sets_by_hand}
-use Rattle.keyset.specs.KeyRunLaws.{Reports, by_rolls_alone, keeps_roles, no_reports, noted_if}
-use Rattle.keyset.proofs.KeyRunEnds.{call_next, none_hold}
-use Rattle.keyset.proofs.KeyRunStarts.{start_of}
-use Rattle.keyset.proofs.KeyRunSteps.{Holds}
-use Rattle.keyset.proofs.KeyRunTags.{Apart, call_apart}
-use Rattle.keyset.proofs.KeyTables.{and_left as left_of, and_right as right_of, join}
-use Rattle.keyset_life.specs.KeyLife.{DnskeyAnswer, DsSet, Step, Thing, ZoneAnswer, accepted, differ, is_start, meet, retired, states, tags_of}
-use Rattle.keyset_life.specs.Sides.{OfKeys, OfZone, Side, agrees, doubles, first_of, is_empty, is_settled, partner, second_of, shows}
-use Rattle.keyset_life.specs.Anchors.{Anchored, Crossing, Grows, Kept, Life, Live, NoDs, Rests, Switches, Unborn, is_first}
-use Rattle.keyset_life.specs.Meeting.{UnretiredThingsMeet, algorithm_first, by_then}
-use Rattle.keyset_life.proofs.Effects.{Calm, Finished, Reported1, Reported2, Started, Waited1, Waited2, add_calm, decouple_calm, delete_calm, done_so, report1_so, report2_so, same_key, start_so, touched_by, wait1_so, wait2_so, when_accepted}
-use Rattle.keyset_life.proofs.LifeSteps.{Base, Noted, Sides, calm_sides, finish_sides, report1_sides, report2_sides, start_sides, then, wait1_sides, wait2_sides, when_on, when_roles}
-use Rattle.keyset_life.proofs.Lives.{Roles, calm_roles, present_differ, turn_roles}
-use Rattle.keyset_life.proofs.Retiring.{each_more, get_last_place, step_of}
-use Rattle.keyset_life.proofs.SideTables.{keeps_all, new_agrees, new_settled, old_agrees, old_settled, signs_late, wait1_agrees, wait1_settled, wait2_agrees, wait2_settled}
+use Rattle.keyset.specs.KeyState.{Answer, KeySetState, Reference, Refusal, ds, keysigners, listed, present, zonesigners}
+use Rattle.keyset.specs.KeyRuns.{Call, is_accepted, left, no_keys, on_state, sets_by_hand}
+use Rattle.keyset.specs.KeyRunLaws.{Reports, by_rolls_alone, no_reports}
+use Rattle.keyset.proofs.KeyRunEnds.{none_hold}
+use Rattle.keyset.proofs.KeyTables.{and_left as left_of, and_right as right_of}
+use Rattle.keyset_life.specs.KeyLife.{DnskeyAnswer, DsSet, Step, Thing, ZoneAnswer, accepted, differ, is_first_wait, meet, retired, states, tags_of}
+use Rattle.keyset_life.specs.Sides.{OfKeys, OfZone, Side, doubles, first_of, is_empty, partner, second_of, shows}
+use Rattle.keyset_life.specs.Anchors.{Anchored, Crossing, Grows, Kept, Life, Live, NoDs, Rests, Switches, Unborn}
+use Rattle.keyset_life.specs.Meeting.{CallsMakeLives, GoesOn, EmptyDsSetsComeFirst, UnretiredThingsMeet, algorithm_first, by_then}
+use Rattle.keyset_life.proofs.LifeSteps.{Noted, then}
+use Rattle.keyset_life.proofs.Retiring.{step_of}
+use Rattle.keyset_life.proofs.Lived.{Lived, one_more}
+use Rattle.keyset_life.proofs.Publishing.{Published, published_more}
 
 -- ---- one side meets
 
@@ -106,159 +102,6 @@ sides_meet x y z p q some a b c d e =
     three true false c e f g = cc
     three false b c e f g = cc
 
--- ---- one call more
-
--- a life up to here
-pub record Lived (life : Life) (steps : List Step) (s : KeySetState) (p : Noted) : Type 0 where
-  pub base : Base life steps s p
-  pub sides : Sides life steps s p
-
-module _ (life : Life) (steps : List Step) (s x : KeySetState) (c : Call) (now : ℕ) (p : Noted) (acts : List Action) (b : Base life steps s p) (by_rolls : sets_by_hand c ≡ false) (gives : on_state c now s ≡ Ok (x, acts)) where
-  holds_next : (r : RollType) → Holds r x (then p c now r)
-  holds_next r = subst (λ a. Holds r (left s a) (noted_if (is_accepted a) r c now (p r))) gives (call_next r (p r) s (b.holds r) c now by_rolls)
-
-  tags_next : Apart x.keys
-  tags_next = subst (λ a. Apart (left s a).keys) gives (call_apart s b.tags c now)
-
-  sorted_next : T (is_sorted reference_cmp x.keys)
-  sorted_next = (holds_next KskRoll).sorted
-
-  base_next : Roles x → Base life (steps ++ step_of now c x ∷ []) x (then p c now)
-  base_next roles = record {
-    holds = holds_next;
-    tags = tags_next;
-    roles = roles;
-    differing = each_more life steps (step_of now c x) (λ x. differ (tags_of x (present x)) ≡ true) b.differing (present_differ x sorted_next tags_next);
-    here = get_last_place life.start steps (step_of now c x);
-  }
-
-  keep_next : Roles x → (q : Reference) (k : Key) → key_of x q ≡ Some k → keeps_all k.roles ≡ true
-  keep_next roles q k f = join (keeps_roles k.roles) (agrees k.roles) ((holds_next KskRoll).keeps q k f) (roles.agree q k f)
-
-  keep_now : (q : Reference) (k : Key) → key_of s q ≡ Some k → keeps_all k.roles ≡ true
-  keep_now q k f = join (keeps_roles k.roles) (agrees k.roles) ((b.holds KskRoll).keeps q k f) (b.roles.agree q k f)
-
-  -- ---- roles behind each kind of call
-
-  started_agrees : (a : RollType) (is_old is_new : Bool) (t : KeyType) → touches a t ≡ true → keeps_all t ≡ true → agrees (started_roles a is_old is_new t) ≡ true
-  started_agrees a is_old true t e k = new_agrees a t (join (touches a t) (keeps_all t) e k)
-  started_agrees a true false t e k = old_agrees a t (join (touches a t) (keeps_all t) e k)
-  started_agrees a false false t e k = right_of (keeps_roles t) (agrees t) k
-
-  started_settled : (a : RollType) (is_old is_new : Bool) (t : KeyType) → is_settled t ≡ true → (is_settled (started_roles a is_old is_new t) ≡ true) ⊎ ((signs_late a ≡ true) × (is_first (Some Propagation1) ≡ true))
-  started_settled a is_old true t h = at (signs_late a) refl
-    where
-      at : (b : Bool) → signs_late a ≡ b → (is_settled (started_roles a is_old true t) ≡ true) ⊎ ((signs_late a ≡ true) × (is_first (Some Propagation1) ≡ true))
-      at true e = inr (e, refl)
-      at false e = inl (new_settled a t (join (not (signs_late a)) (is_settled t) (ap not e) h))
-  started_settled a true false t h = inl (old_settled a t h)
-  started_settled a false false t h = inl h
-
-  start_roles : (a : RollType) (olds news : List Reference) → Started a now olds news s x → Roles x
-  start_roles a olds news w =
-      turn_roles a (Rattle.keyset.specs.KeyState.phase_of s a) (Some Propagation1) (start_of a now olds news) s x w.moved b.roles
-      (λ q k f e. started_agrees a (listed olds q) (listed news q) k.roles e (keep_now q k f))
-      (λ q k f e h. started_settled a (listed olds q) (listed news q) k.roles h)
-      (λ q k f e l i. inr refl)
-
-  report1_roles : (a : RollType) (ttl : ℕ) → Reported1 a now s ttl x → Roles x
-  report1_roles a ttl w =
-      turn_roles a (Some Propagation1) (Some (CacheExpire1 ttl)) (touched_by a (reported1 a now)) s x w b.roles
-      (λ q k f e. ap agrees (when_roles (touches a k.roles) (reported1 a now) k refl) ∙ b.roles.agree q k f)
-      (λ q k f e h. inl (ap is_settled (when_roles (touches a k.roles) (reported1 a now) k refl) ∙ h))
-      (λ q k f e l i. inr refl)
-
-  report2_roles : (a : RollType) (ttl : ℕ) → Reported2 a now s ttl x → Roles x
-  report2_roles a ttl w =
-      turn_roles a (Some Propagation2) (Some (CacheExpire2 ttl)) (touched_by a (reported2 a now)) s x w b.roles
-      (λ q k f e. ap agrees (when_roles (touches a k.roles) (reported2 a now) k refl) ∙ b.roles.agree q k f)
-      (λ q k f e h. inl (ap is_settled (when_roles (touches a k.roles) (reported2 a now) k refl) ∙ h))
-      (λ q k f e l i. absurd (false≢true i))
-
-  wait1_settles : (a : RollType) (k : Key) → touches a k.roles ≡ true → (signs_late a || is_settled k.roles) ≡ true → is_settled (touched_by a (waited1 a now) [] k).roles ≡ true
-  wait1_settles a k e h = ap (λ (k : Key). is_settled k.roles) (when_on (touches a k.roles) (waited1 a now) k e) ∙ wait1_settled a k.roles (join (touches a k.roles) (signs_late a || is_settled k.roles) e h)
-
-  waited1_roles : (a : RollType) → Waited1 a now s x → Roles x
-  waited1_roles a w =
-      turn_roles a (Some (CacheExpire1 w.ttl)) (Some Propagation2) (touched_by a (waited1 a now)) s x w.moved b.roles
-      (λ q k f e. ap (λ (k : Key). agrees k.roles) (when_on (touches a k.roles) (waited1 a now) k e) ∙ wait1_agrees a k.roles (join (touches a k.roles) (keeps_all k.roles) e (keep_now q k f)))
-      (λ q k f e h. inl (wait1_settles a k e (or_right (signs_late a) (is_settled k.roles) h)))
-      (λ q k f e l i. inl (wait1_settles a k e (or_left (signs_late a) (is_settled k.roles) l)))
-
-  waited2_roles : (a : RollType) → Waited2 a now s x → Roles x
-  waited2_roles a w =
-      turn_roles a (Some (CacheExpire2 w.ttl)) (Some Done) (touched_by a (waited2 a now)) s x w.moved b.roles
-      (λ q k f e. ap (λ (k : Key). agrees k.roles) (when_on (touches a k.roles) (waited2 a now) k e) ∙ wait2_agrees a k.roles (join (touches a k.roles) (keeps_all k.roles) e (keep_now q k f)))
-      (λ q k f e h. inl (ap (λ (k : Key). is_settled k.roles) (when_on (touches a k.roles) (waited2 a now) k e) ∙ wait2_settled a k.roles h))
-      (λ q k f e l i. absurd (false≢true i))
-
-  finished_roles : (a : RollType) → Finished a s x → Roles x
-  finished_roles a w =
-      turn_roles a (Some Done) None same_key s x w b.roles
-      (λ q k f e. b.roles.agree q k f)
-      (λ q k f e h. inl h)
-      (λ q k f e l i. absurd (false≢true i))
-
-  -- a call on keys
-  calm_lived : Calm s x → ((r : RollType) → is_start r c ≡ false) → ((r : RollType) → Rattle.keyset_life.specs.KeyLife.is_first_wait r c ≡ false) → ((r : RollType) → p r ≡ then p c now r) → Sides life steps s p → Lived life (steps ++ step_of now c x ∷ []) x (then p c now)
-  calm_lived w no_start no_wait same sides = record {
-    base = base_next (calm_roles s x w b.roles);
-    sides = calm_sides life steps s (step_of now c x) p (then p c now) b sorted_next w no_start no_wait same sides;
-  }
-
-module _ (life : Life) (steps after : List Step) (s x : KeySetState) (now : ℕ) (p : Noted) (acts : List Action) (h : Lived life steps s p) (in_time : now ≤ life.moment) (first : algorithm_first life.steps ≡ true) where
-  one_more : (c : Call) → sets_by_hand c ≡ false → on_state c now s ≡ Ok (x, acts) → life.steps ≡ steps ++ step_of now c x ∷ after → Lived life (steps ++ step_of now c x ∷ []) x (then p c now)
-  one_more (Add q n) by_rolls e all =
-      calm_lived life steps s x (Add q n) now p acts h.base by_rolls e (when_accepted (on_state (Add q n) now s) (Ok (x, acts)) (Calm s) (add_calm s q n) e) (λ r. refl) (λ r. refl) (λ r. refl) h.sides
-  one_more (SetDecoupled q v) by_rolls e all =
-      calm_lived life steps s x (SetDecoupled q v) now p acts h.base by_rolls e (when_accepted (on_state (SetDecoupled q v) now s) (Ok (x, acts)) (Calm s) (decouple_calm s q v) e) (λ r. refl) (λ r. refl) (λ r. refl) h.sides
-  one_more (SetPresent q v) by_rolls e all = cc
-  one_more (SetSigner q v) by_rolls e all = cc
-  one_more (SetAtParent q v) by_rolls e all = cc
-  one_more (SetVisible q v) by_rolls e all = cc
-  one_more (SetDsVisible q v) by_rolls e all = cc
-  one_more (SetRrsigVisible q v) by_rolls e all = cc
-  one_more (SetStale q) by_rolls e all = cc
-  one_more (Delete q) by_rolls e all =
-      calm_lived life steps s x (Delete q) now p acts h.base by_rolls e (when_accepted (on_state (Delete q) now s) (Ok (x, acts)) (Calm s) (delete_calm s q) e) (λ r. refl) (λ r. refl) (λ r. refl) h.sides
-  one_more (Start a olds news) by_rolls e all =
-      let w : Started a now olds news s x = when_accepted (on_state (Start a olds news) now s) (Ok (x, acts)) (Started a now olds news s) (start_so a olds news now s) e in
-      let roles = start_roles life steps s x (Start a olds news) now p acts h.base by_rolls e a olds news w in
-      record {
-        base = base_next life steps s x (Start a olds news) now p acts h.base by_rolls e roles;
-        sides = start_sides life steps after s x now p h.base a olds news w (sorted_next life steps s x (Start a olds news) now p acts h.base by_rolls e) (keep_next life steps s x (Start a olds news) now p acts h.base by_rolls e roles) roles all first h.sides;
-      }
-  one_more (Report1 a ttl) by_rolls e all =
-      let w : Reported1 a now s ttl x = when_accepted (on_state (Report1 a ttl) now s) (Ok (x, acts)) (Reported1 a now s ttl) (report1_so a now s ttl) e in
-      record {
-        base = base_next life steps s x (Report1 a ttl) now p acts h.base by_rolls e (report1_roles life steps s x (Report1 a ttl) now p acts h.base by_rolls e a ttl w);
-        sides = report1_sides life steps after s x now ttl p h.base a (sorted_next life steps s x (Report1 a ttl) now p acts h.base by_rolls e) in_time w all h.sides;
-      }
-  one_more (Wait1 a) by_rolls e all =
-      let w : Waited1 a now s x = when_accepted (on_state (Wait1 a) now s) (Ok (x, acts)) (Waited1 a now s) (wait1_so a now s) e in
-      record {
-        base = base_next life steps s x (Wait1 a) now p acts h.base by_rolls e (waited1_roles life steps s x (Wait1 a) now p acts h.base by_rolls e a w);
-        sides = wait1_sides life steps after s x now p h.base a (sorted_next life steps s x (Wait1 a) now p acts h.base by_rolls e) in_time w (ap is_accepted e) h.sides;
-      }
-  one_more (Report2 a ttl) by_rolls e all =
-      let w : Reported2 a now s ttl x = when_accepted (on_state (Report2 a ttl) now s) (Ok (x, acts)) (Reported2 a now s ttl) (report2_so a now s ttl) e in
-      record {
-        base = base_next life steps s x (Report2 a ttl) now p acts h.base by_rolls e (report2_roles life steps s x (Report2 a ttl) now p acts h.base by_rolls e a ttl w);
-        sides = report2_sides life steps after s x now ttl p h.base a (sorted_next life steps s x (Report2 a ttl) now p acts h.base by_rolls e) in_time w all h.sides;
-      }
-  one_more (Wait2 a) by_rolls e all =
-      let w : Waited2 a now s x = when_accepted (on_state (Wait2 a) now s) (Ok (x, acts)) (Waited2 a now s) (wait2_so a now s) e in
-      record {
-        base = base_next life steps s x (Wait2 a) now p acts h.base by_rolls e (waited2_roles life steps s x (Wait2 a) now p acts h.base by_rolls e a w);
-        sides = wait2_sides life steps after s x now p h.base a (sorted_next life steps s x (Wait2 a) now p acts h.base by_rolls e) in_time w (ap is_accepted e) h.sides;
-      }
-  one_more (Finish a) by_rolls e all =
-      let w : Finished a s x = when_accepted (on_state (Finish a) now s) (Ok (x, acts)) (Finished a s) (done_so a s) e in
-      record {
-        base = base_next life steps s x (Finish a) now p acts h.base by_rolls e (finished_roles life steps s x (Finish a) now p acts h.base by_rolls e a w);
-        sides = finish_sides life steps after s x now p h.base a (sorted_next life steps s x (Finish a) now p acts h.base by_rolls e) in_time w h.sides;
-      }
-
 -- ---- all calls
 
 accepted_ok : (s : KeySetState) (c : ℕ × Call) (cs : List (ℕ × Call)) (a : KeySetState × List Action) → on_state c.1 c.0 s ≡ Ok a → accepted s (c ∷ cs) ≡ step_of c.0 c.1 a.0 ∷ accepted a.0 cs
@@ -271,12 +114,23 @@ none_of : (a b : Bool) → not (a || b) ≡ true → (a ≡ false) × (not b ≡
 none_of true b h = cc
 none_of false b h = (refl, h)
 
-module _ (life : Life) (first : algorithm_first life.steps ≡ true) where
-  abbrev Ended : Type 0
-  Ended = (s : KeySetState) × (p : Noted) × Lived life life.steps s p
+-- a life up to here, and where its DS sets are empty
+pub record Told (life : Life) (steps : List Step) (s : KeySetState) (p : Noted) : Type 0 where
+  pub lived : Lived life steps s p
+  pub published : Published life steps s
 
-  all_more : (cs : List (ℕ × Call)) (steps : List Step) (s : KeySetState) (p : Noted) → Lived life steps s p → life.steps ≡ steps ++ accepted s cs → by_rolls_alone cs ≡ true → by_then life.moment cs ≡ true → Ended
-  all_more [] steps s p h e by_rolls in_time = (s, p, subst (λ ts. Lived life ts s p) (sym (append-nil steps) ∙ sym e) h)
+module _ (life : Life) (first : algorithm_first life.steps ≡ true) where
+  told_more : (steps after : List Step) (s x : KeySetState) (now : ℕ) (p : Noted) (acts : List Action) → Told life steps s p → now ≤ life.moment → (c : Call) → sets_by_hand c ≡ false → on_state c now s ≡ Ok (x, acts) → life.steps ≡ steps ++ step_of now c x ∷ after
+      → Told life (steps ++ step_of now c x ∷ []) x (then p c now)
+  told_more steps after s x now p acts h in_time c by_rolls e all =
+      let next = one_more life steps after s x now p acts h.lived in_time first c by_rolls e all in
+      record { lived = next; published = published_more life steps s x c now p (then p c now) acts h.lived next e h.published }
+
+  abbrev pub Ended : Type 0
+  Ended = (s : KeySetState) × (p : Noted) × Told life life.steps s p
+
+  pub all_more : (cs : List (ℕ × Call)) (steps : List Step) (s : KeySetState) (p : Noted) → Told life steps s p → life.steps ≡ steps ++ accepted s cs → by_rolls_alone cs ≡ true → by_then life.moment cs ≡ true → Ended
+  all_more [] steps s p h e by_rolls in_time = (s, p, subst (λ ts. Told life ts s p) (sym (append-nil steps) ∙ sym e) h)
   all_more (c ∷ cs) steps s p h e by_rolls in_time =
       let w = none_of (sets_by_hand c.1) (list_any (λ (c : ℕ × Call). sets_by_hand c.1) cs) by_rolls in
       let now : c.0 ≤ life.moment = leb-true c.0 life.moment (left_of (nat_le c.0 life.moment) (by_then life.moment cs) in_time) in
@@ -284,7 +138,7 @@ module _ (life : Life) (first : algorithm_first life.steps ≡ true) where
       at (on_state c.1 c.0 s) refl
       (λ a i.
       (let all : life.steps ≡ steps ++ step_of c.0 c.1 a.0 ∷ accepted a.0 cs = e ∙ ap (λ ts. steps ++ ts) (accepted_ok s c cs a i) in
-      all_more cs (steps ++ step_of c.0 c.1 a.0 ∷ []) a.0 (then p c.1 c.0) (one_more life steps (accepted a.0 cs) s a.0 c.0 p a.1 h now first c.1 w.0 i all) (all ∙ sym (append_assoc steps (step_of c.0 c.1 a.0 ∷ []) (accepted a.0 cs))) w.1 rest))
+      all_more cs (steps ++ step_of c.0 c.1 a.0 ∷ []) a.0 (then p c.1 c.0) (told_more steps (accepted a.0 cs) s a.0 c.0 p a.1 h now c.1 w.0 i all) (all ∙ sym (append_assoc steps (step_of c.0 c.1 a.0 ∷ []) (accepted a.0 cs))) w.1 rest))
       (λ f i. all_more cs steps s p h (e ∙ ap (λ ts. steps ++ ts) (accepted_err s c cs f i)) w.1 rest)
     where
       at : (a : Answer) → on_state c.1 c.0 s ≡ a → ((a : KeySetState × List Action) → on_state c.1 c.0 s ≡ Ok a → Ended) → ((f : Refusal) → on_state c.1 c.0 s ≡ Err f → Ended) → Ended
@@ -312,6 +166,16 @@ none_lived life name e = record {
   });
 }
 
+none_told : (life : Life) (name : List (List ℕ)) → life.start ≡ no_keys name → Told life [] (no_keys name) (λ _. no_reports)
+none_told life name e = record {
+  lived = none_lived life name e;
+  published = record { now = λ w. cc; each = λ i x f empty. first_place i };
+}
+  where
+    first_place : (i : ℕ) → list_any (λ (t : Step). is_first_wait AlgorithmRoll t.call) (take i []) ≡ false
+    first_place zero = refl
+    first_place (suc i) = refl
+
 module _ (life : Life) (s : KeySetState) (p : Noted) (h : Lived life life.steps s p) where
   side_meets : (side : Side) (i : ℕ) (x : KeySetState) → slice_get (states life.start life.steps) i ≡ Some x → is_empty (ds x) ≡ false → SideMeets side life life.steps
   side_meets side i x f some = ⊎_elim
@@ -333,5 +197,58 @@ module _ (life : Life) (s : KeySetState) (p : Noted) (h : Lived life life.steps 
 pub unretired_things_meet : UnretiredThingsMeet
 unretired_things_meet name cs moment i j k x y z by_rolls in_time first f g e a b c some =
     let life : Life = record { start = no_keys name; steps = accepted (no_keys name) cs; moment = moment } in
-    let end = all_more life first cs [] (no_keys name) (λ _. no_reports) (none_lived life name refl) refl by_rolls in_time in
-    lived_meets life end.0 end.1 end.2 i j k x y z f g e a b c some
+    let end = all_more life first cs [] (no_keys name) (λ _. no_reports) (none_told life name refl) refl by_rolls in_time in
+    lived_meets life end.0 end.1 end.2.lived i j k x y z f g e a b c some
+
+-- a moment by which all calls have come
+latest : List (ℕ × Call) → ℕ
+latest [] = 0
+latest (c ∷ cs) = c.0 + latest cs
+
+come_later : (m n : ℕ) (cs : List (ℕ × Call)) → m ≤ n → by_then m cs ≡ true → by_then n cs ≡ true
+come_later m n [] l h = refl
+come_later m n (c ∷ cs) l h =
+    let a : c.0 ≤ m = leb-true c.0 m (left_of (nat_le c.0 m) (by_then m cs) h) in
+    let b : c.0 ≤ n = omega (arith, a, l) in
+    and_from (nat_le c.0 n) (by_then n cs) (le-leb c.0 n b) (come_later m n cs l (right_of (nat_le c.0 m) (by_then m cs) h))
+
+all_come : (cs : List (ℕ × Call)) → by_then (latest cs) cs ≡ true
+unfolding latest
+all_come [] = refl
+all_come (c ∷ cs) =
+    let a : c.0 ≤ c.0 + latest cs = omega arith in
+    let b : latest cs ≤ c.0 + latest cs = omega arith in
+    and_from (nat_le c.0 (c.0 + latest cs)) (by_then (c.0 + latest cs) cs) (le-leb c.0 (c.0 + latest cs) a) (come_later (latest cs) (c.0 + latest cs) cs b (all_come cs))
+
+pub empty_ds_sets_come_first : EmptyDsSetsComeFirst
+empty_ds_sets_come_first name cs i x by_rolls first f empty =
+    let life : Life = record { start = no_keys name; steps = accepted (no_keys name) cs; moment = latest cs } in
+    let end = all_more life first cs [] (no_keys name) (λ _. no_reports) (none_told life name refl) refl by_rolls (all_come cs) in
+    end.2.published.each i x f empty
+
+calls_go_on : {X : Type 0} (view : X → List Action) (old new : KeySetState) (result : Result X Error) (answer : Answer) → Gives view old new result answer → GoesOn old new result answer
+calls_go_on view old new (Ok y) answer h = inr (ap (left old) (sym h), ap is_accepted (sym h))
+calls_go_on {X = X} view old new (Err e) answer h = at (refusal_of e) refl h.1
+  where
+    memory : (e : Error) → refusal_of e ≡ None → e ≡ Memory
+    memory Memory i = refl
+    memory _ i = cc
+
+    at : (o : Option Refusal) → refusal_of e ≡ o → Fails o answer → GoesOn {X = X} old new (Err e) answer
+    at None i f = inl (ap (λ e. Err e) (memory e i), h.0)
+    at (Some r) i f = inr (h.0 ∙ ap (left old) (sym f), ap is_accepted (sym f))
+
+calls_at_once : {X : Type 0} (view : X → List Action) (old new : KeySetState) (result : Result X Error) (answer : Answer) → GivesAtOnce view old new result answer → (new ≡ left old answer) × (is_ok result ≡ is_accepted answer)
+calls_at_once view old new (Ok y) answer h = (ap (left old) (sym h), ap is_accepted (sym h))
+calls_at_once view old new (Err e) answer h = at (refusal_of e) h.1
+  where
+    at : (o : Option Refusal) → Refuses o answer → (new ≡ left old answer) × (false ≡ is_accepted answer)
+    at None f = absurd f
+    at (Some r) f = (h.0 ∙ ap (left old) (sym f), ap is_accepted (sym f))
+
+pub calls_make_lives : CallsMakeLives
+calls_make_lives = record {
+  acting = λ old new result c now h. calls_go_on (λ (v : Vec Action). v.items) old new result (on_state c now old) h;
+  changing = λ old new result c now h. calls_go_on (λ _. []) old new result (on_state c now old) h;
+  at_once = λ old new result c now h. calls_at_once (λ _. []) old new result (on_state c now old) h;
+}

@@ -252,3 +252,26 @@ get_last_place s steps t =
     let n = length (states s steps) in
     let e : n ≡ n + 0 = omega arith in
     (n, ap (λ l. slice_get l n) (lefts_append s steps (t ∷ [])) ∙ ap (slice_get (states s steps ++ t.left ∷ [])) e ∙ get_behind (states s steps) (t.left ∷ []) 0)
+
+get_inside : {X : Type 0} (xs : List X) (i : ℕ) (x : X) → slice_get xs i ≡ Some x → i < length xs
+get_inside [] i x h = cc
+get_inside {X = X} (a ∷ xs) zero x h = let e : length (a ∷ xs) ≡ suc (length xs) = refl in omega (arith, e)
+get_inside (a ∷ xs) (suc i) x h = let e : length (a ∷ xs) ≡ suc (length xs) = refl in let k = get_inside xs i x h in omega (arith, e, k)
+
+get_end : {X : Type 0} (xs : List X) (y : X) (i : ℕ) (x : X) → slice_get (xs ++ y ∷ []) i ≡ Some x → ((slice_get xs i ≡ Some x) × (i < length xs)) ⊎ ((i ≡ length xs) × (y ≡ x))
+get_end [] y zero x h = inr (refl, cc)
+get_end [] y (suc i) x h = cc
+get_end (a ∷ xs) y zero x h = inl (h, get_inside (a ∷ xs) zero x h)
+get_end {X = X} (a ∷ xs) y (suc i) x h = ⊎_elim
+    (λ (w : (slice_get xs i ≡ Some x) × (i < length xs)). inl (w.0, get_inside (a ∷ xs) (suc i) x w.0))
+    (λ (w : (i ≡ length xs) × (y ≡ x)). inr (ap suc w.0, w.1))
+    (get_end xs y i x h)
+
+-- a state is one of before, or the last
+pub get_place : (s : KeySetState) (steps : List Step) (t : Step) (i : ℕ) (x : KeySetState) → slice_get (states s (steps ++ t ∷ [])) i ≡ Some x → ((slice_get (states s steps) i ≡ Some x) × (i ≤ length steps)) ⊎ ((i ≡ suc (length steps)) × (t.left ≡ x))
+get_place s steps t i x h =
+    let long = states_long s steps in
+    ⊎_elim
+    (λ (w : (slice_get (states s steps) i ≡ Some x) × (i < length (states s steps))). (let a = w.1 in let b : i ≤ length steps = omega (arith, a, long) in inl (w.0, b)))
+    (λ (w : (i ≡ length (states s steps)) × (t.left ≡ x)). inr (w.0 ∙ long, w.1))
+    (get_end (states s steps) t.left i x (sym (ap (λ l. slice_get l i) (lefts_append s steps (t ∷ []))) ∙ h))
