@@ -123,10 +123,10 @@ module _ (life : Life) (steps : List Step) (s : KeySetState) (t : Step) (p q : N
       none_started = Rattle.keyset_life.proofs.Retiring.any_last (is_start AlgorithmRoll) steps t u.none_started (no_start AlgorithmRoll);
     })
     calm_sides (inr h) = inr (λ side.
-      kept_still side life steps s t p q
-      (record { roles = λ x k f used of. c.to x k f used; phases = λ r on. c.rolls r; no_start = λ r on. no_start r; no_wait = λ r on. no_wait r; noted = λ r on. same r })
-      (λ r e g none. still_empty none)
-      (h side))
+        kept_still side life steps s t p q
+        (record { roles = λ x k f used of. c.to x k f used; phases = λ r on. c.rolls r; no_start = λ r on. no_start r; no_wait = λ r on. no_wait r; noted = λ r on. same r })
+        (λ r e g none. still_empty none)
+        (h side))
 
 -- ---- calls of a roll, on the side that it isn't on
 
@@ -289,14 +289,16 @@ module _ (life : Life) (steps after : List Step) (s x : KeySetState) (now : ℕ)
       let n = found.0 in
       let k = found.1 in (
         n,
-        (k,
-        found.2,
-        readied side a k.roles
-        (all_four (touches a k.roles) (keeps_all k.roles) (not (doubles side a) || is_settled k.roles) (meets_need (need_of side a) k.roles)
-        (left_of (touches a k.roles) (meets_need (need_of side a) k.roles) found.3)
-        (keep n k found.2)
-        (wanted_if (doubles side a) (is_settled k.roles) (λ d. settled_new side d n k found.2))
-        (right_of (touches a k.roles) (meets_need (need_of side a) k.roles) found.3))),
+        (
+          k,
+          found.2,
+          readied side a k.roles
+              (all_four (touches a k.roles) (keeps_all k.roles) (not (doubles side a) || is_settled k.roles) (meets_need (need_of side a) k.roles)
+              (left_of (touches a k.roles) (meets_need (need_of side a) k.roles) found.3)
+              (keep n k found.2)
+              (wanted_if (doubles side a) (is_settled k.roles) (λ d. settled_new side d n k found.2))
+              (right_of (touches a k.roles) (meets_need (need_of side a) k.roles) found.3)),
+        ),
       )
 
   start_step : Step
@@ -385,33 +387,33 @@ module _ (life : Life) (steps after : List Step) (s x : KeySetState) (now ttl : 
       inl (off_unborn life steps s (step_of now (Report1 a ttl) x) p (then p (Report1 a ttl) now) b a (Some Propagation1) (Some (CacheExpire1 ttl)) (touched_by a (reported1 a now)) w (λ r e. refl) (λ r e. refl) unnoted1 sorted
       (unborn_off life steps s a u (ap is_some w.turn.was)) u)
   report1_sides w all (inr h) = inr (λ side.
-    by_side side a (Kept side life (steps ++ step_of now (Report1 a ttl) x ∷ []) x (then p (Report1 a ttl) now))
-    (λ on.
-    Grows a
-    (report1_grows side life steps after s x now ttl (p a) (then p (Report1 a ttl) now a) a on (touched_by a (reported1 a now)) (λ y k. when_roles (touches a k.roles) (reported1 a now) k refl) in_time all w.turn noted1
-    (growing_of side life steps s p (together life steps s p b) (h side) a on (ap is_first w.turn.was))
-    (λ none. unshown_empty x sorted (λ q l f.
-    (let v = from_before (touched_by a (reported1 a now)) s.keys q l (ap (find reference_cmp q) (sym w.turn.keys) ∙ f) in
-    ap (λ (k : Key). is_shown OfKeys DsSet k.roles) v.2
-    ∙ ap (is_shown OfKeys DsSet) (when_roles (touches a v.0.roles) (reported1 a now) v.0 refl)
-    ∙ empty_unshown s (none b.here.0 s b.here.1) q v.0 v.1)))))
-    (λ off.
-    off_kept life steps s (step_of now (Report1 a ttl) x) p (then p (Report1 a ttl) now) b a (Some Propagation1) (Some (CacheExpire1 ttl)) (touched_by a (reported1 a now)) w (λ r e. refl) (λ r e. refl) unnoted1 side off
-    (algorithm_alone life steps s p b a (ap is_some w.turn.was)) (h side)))
+      by_side side a (Kept side life (steps ++ step_of now (Report1 a ttl) x ∷ []) x (then p (Report1 a ttl) now))
+      (λ on.
+      Grows a
+      (report1_grows side life steps after s x now ttl (p a) (then p (Report1 a ttl) now a) a on (touched_by a (reported1 a now)) (λ y k. when_roles (touches a k.roles) (reported1 a now) k refl) in_time all w.turn noted1
+      (growing_of side life steps s p (together life steps s p b) (h side) a on (ap is_first w.turn.was))
+      (λ none. unshown_empty x sorted (λ q l f.
+      (let v = from_before (touched_by a (reported1 a now)) s.keys q l (ap (find reference_cmp q) (sym w.turn.keys) ∙ f) in
+      ap (λ (k : Key). is_shown OfKeys DsSet k.roles) v.2
+      ∙ ap (is_shown OfKeys DsSet) (when_roles (touches a v.0.roles) (reported1 a now) v.0 refl)
+      ∙ empty_unshown s (none b.here.0 s b.here.1) q v.0 v.1)))))
+      (λ off.
+      off_kept life steps s (step_of now (Report1 a ttl) x) p (then p (Report1 a ttl) now) b a (Some Propagation1) (Some (CacheExpire1 ttl)) (touched_by a (reported1 a now)) w (λ r e. refl) (λ r e. refl) unnoted1 side off
+      (algorithm_alone life steps s p b a (ap is_some w.turn.was)) (h side)))
 
   pub report2_sides : Reported2 a now s ttl x → life.steps ≡ steps ++ step_of now (Report2 a ttl) x ∷ after → Sides life steps s p → Sides life (steps ++ step_of now (Report2 a ttl) x ∷ []) x (then p (Report2 a ttl) now)
   report2_sides w all (inl u) =
       inl (off_unborn life steps s (step_of now (Report2 a ttl) x) p (then p (Report2 a ttl) now) b a (Some Propagation2) (Some (CacheExpire2 ttl)) (touched_by a (reported2 a now)) w (λ r e. refl) (λ r e. refl) unnoted2 sorted
       (unborn_off life steps s a u (ap is_some w.turn.was)) u)
   report2_sides w all (inr h) = inr (λ side.
-    by_side side a (Kept side life (steps ++ step_of now (Report2 a ttl) x ∷ []) x (then p (Report2 a ttl) now))
-    (λ on.
-    Switches a
-    (report2_switches side life steps after s x now ttl (p a) (then p (Report2 a ttl) now a) a on (touched_by a (reported2 a now)) (λ y k. when_roles (touches a k.roles) (reported2 a now) k refl) in_time all w.turn noted2
-    (switched_of side life steps s p (together life steps s p b) (h side) a on (ap is_second w.turn.was))))
-    (λ off.
-    off_kept life steps s (step_of now (Report2 a ttl) x) p (then p (Report2 a ttl) now) b a (Some Propagation2) (Some (CacheExpire2 ttl)) (touched_by a (reported2 a now)) w (λ r e. refl) (λ r e. refl) unnoted2 side off
-    (algorithm_alone life steps s p b a (ap is_some w.turn.was)) (h side)))
+      by_side side a (Kept side life (steps ++ step_of now (Report2 a ttl) x ∷ []) x (then p (Report2 a ttl) now))
+      (λ on.
+      Switches a
+      (report2_switches side life steps after s x now ttl (p a) (then p (Report2 a ttl) now a) a on (touched_by a (reported2 a now)) (λ y k. when_roles (touches a k.roles) (reported2 a now) k refl) in_time all w.turn noted2
+      (switched_of side life steps s p (together life steps s p b) (h side) a on (ap is_second w.turn.was))))
+      (λ off.
+      off_kept life steps s (step_of now (Report2 a ttl) x) p (then p (Report2 a ttl) now) b a (Some Propagation2) (Some (CacheExpire2 ttl)) (touched_by a (reported2 a now)) w (λ r e. refl) (λ r e. refl) unnoted2 side off
+      (algorithm_alone life steps s p b a (ap is_some w.turn.was)) (h side)))
 
 double_is : (side : Side) (a : RollType) → is_on side a ≡ true → doubles side a ≡ false → is_double a ≡ false
 double_is OfKeys ZskDoubleSignatureRoll on d = cc
@@ -479,6 +481,6 @@ module _ (life : Life) (steps after : List Step) (s x : KeySetState) (now : ℕ)
   finish_sides w (inl u) =
       inl (off_unborn life steps s (step_of now (Finish a) x) p p b a (Some Done) None same_key w (λ r e. refl) (λ r e. refl) (λ r e. refl) sorted (unborn_off life steps s a u (ap is_some w.turn.was)) u)
   finish_sides w (inr h) = inr (λ side.
-    by_side side a (Kept side life (steps ++ step_of now (Finish a) x ∷ []) x p)
-    (λ on. Rests (finished_rests w side (resting_at_done side life steps s p (together life steps s p b) (h side) a on w.turn.was)))
-    (λ off. off_kept life steps s (step_of now (Finish a) x) p p b a (Some Done) None same_key w (λ r e. refl) (λ r e. refl) (λ r e. refl) side off (algorithm_alone life steps s p b a (ap is_some w.turn.was)) (h side)))
+      by_side side a (Kept side life (steps ++ step_of now (Finish a) x ∷ []) x p)
+      (λ on. Rests (finished_rests w side (resting_at_done side life steps s p (together life steps s p b) (h side) a on w.turn.was)))
+      (λ off. off_kept life steps s (step_of now (Finish a) x) p p b a (Some Done) None same_key w (λ r e. refl) (λ r e. refl) (λ r e. refl) side off (algorithm_alone life steps s p b a (ap is_some w.turn.was)) (h side)))

@@ -305,20 +305,23 @@ module _ (side : Side) (life : Life) (steps after : List Step) (s x : KeySetStat
         anchored = ⊎_elim
             (λ (a : (r ≡ AlgorithmRoll) × NoDs life steps). inl (a.0, no_ds_more side life steps t (none a.1) a.1))
             (λ (a : (y : Reference) × Anchored side life steps s y).
-            inr (a.0, anchored_more side life steps t s a.0 a.1
-            (unchanged (Some Propagation1) (Some (CacheExpire1 ttl)) w (is_shown side DnskeyAnswer) a.0 a.1.in_keys)
-            (unchanged (Some Propagation1) (Some (CacheExpire1 ttl)) w (is_shown side (partner side)) a.0 a.1.in_ends)))
+            inr (
+              a.0,
+              anchored_more side life steps t s a.0 a.1
+                  (unchanged (Some Propagation1) (Some (CacheExpire1 ttl)) w (is_shown side DnskeyAnswer) a.0 a.1.in_keys)
+                  (unchanged (Some Propagation1) (Some (CacheExpire1 ttl)) w (is_shown side (partner side)) a.0 a.1.in_ends),
+            ))
             h.anchored;
         early = subst (λ o. Early side r life (steps ++ t ∷ []) q n o) (sym w.becomes)
             (λ m is run.
             (let ran = run_now m (since_is m q.first noted is) run in (
               live_more life steps t (first_of side r) (shows side (first_of side r) n)
-              (first_report_leaves life steps after now ttl r x (first_of side r) (shows side (first_of side r) n) e (in_first side r on) ran (since_so (is_start r) steps (grown side r n) (shows side (first_of side r) n) left since) (λ x y c. shows_same side (first_of side r) n x y c))
-              (left x here),
+                  (first_report_leaves life steps after now ttl r x (first_of side r) (shows side (first_of side r) n) e (in_first side r on) ran (since_so (is_start r) steps (grown side r n) (shows side (first_of side r) n) left since) (λ x y c. shows_same side (first_of side r) n x y c))
+                  (left x here),
               λ d.
-              live_more life steps t (second_of side r) (shows side (second_of side r) n)
-              (first_report_leaves life steps after now ttl r x (second_of side r) (shows side (second_of side r) n) e (in_first_too side r d) ran (since_so (is_start r) steps (grown side r n) (shows side (second_of side r) n) (λ s g. wanted (doubles side r) (shows side (second_of side r) n s) d (right s g)) since) (λ x y c. shows_same side (second_of side r) n x y c))
-              (wanted (doubles side r) (shows side (second_of side r) n x) d (right x here)),
+                  live_more life steps t (second_of side r) (shows side (second_of side r) n)
+                  (first_report_leaves life steps after now ttl r x (second_of side r) (shows side (second_of side r) n) e (in_first_too side r d) ran (since_so (is_start r) steps (grown side r n) (shows side (second_of side r) n) (λ s g. wanted (doubles side r) (shows side (second_of side r) n s) d (right s g)) since) (λ x y c. shows_same side (second_of side r) n x y c))
+                  (wanted (doubles side r) (shows side (second_of side r) n x) d (right x here)),
             )));
       }
 
