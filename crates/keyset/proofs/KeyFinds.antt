@@ -11,15 +11,15 @@ use Rattle.std.specs.FinMap.Entries.{find, below_all, is_sorted}
 use Rattle.std.proofs.lemmas.Cmp.{tied_itself}
 use Rattle.keyset.specs.KeyState.{Key, Reference, reference_cmp}
 
-both_first : (a b : Bool) → T (a && b) → T a
+pub both_first : (a b : Bool) → T (a && b) → T a
 both_first true b p = tt
 both_first false b p = p
 
-both_second : (a b : Bool) → T (a && b) → T b
+pub both_second : (a b : Bool) → T (a && b) → T b
 both_second true b p = p
 both_second false b p = absurd p
 
-both : (a b : Bool) → T a → T b → T (a && b)
+pub both : (a b : Bool) → T a → T b → T (a && b)
 both true b p q = q
 both false b p q = p
 
@@ -46,7 +46,7 @@ reversed Equal h = absurd h
 reversed Greater h = absurd h
 
 -- what is found behind a lower reference isn't found at it
-passed : (x q : Reference) (k : Key) (es : List (Reference × Key)) → T (below_all reference_cmp x es) → find reference_cmp q es ≡ Some k → eq_by_cmp reference_cmp q x ≡ false
+pub passed : (x q : Reference) (k : Key) (es : List (Reference × Key)) → T (below_all reference_cmp x es) → find reference_cmp q es ≡ Some k → eq_by_cmp reference_cmp q x ≡ false
 passed x q k [] b f = cc
 passed x q k (e ∷ es) b f = at (eq_by_cmp reference_cmp q e.0) refl f (λ g. passed x q k es (both_second (is_lt (reference_cmp x e.0)) (below_all reference_cmp x es) b) g)
   where

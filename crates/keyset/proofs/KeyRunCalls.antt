@@ -23,7 +23,7 @@ when_kind true h k e = e
 when_kind false h k e = refl
 
 -- a change of the keys that a roll touches
-moves_when : (a : RollType) (h : Key → Key) (es : List (Reference × Key)) → ((k : Key) → kind_of (h k).roles ≡ kind_of k.roles) → ((k : Key) → touches a k.roles ≡ true → keeps_roles k.roles ≡ true → keeps_roles (h k).roles ≡ true)
+pub moves_when : (a : RollType) (h : Key → Key) (es : List (Reference × Key)) → ((k : Key) → kind_of (h k).roles ≡ kind_of k.roles) → ((k : Key) → touches a k.roles ≡ true → keeps_roles k.roles ≡ true → keeps_roles (h k).roles ≡ true)
     → Moves a (λ _ k. when (touches a k.roles) h k) es
 moves_when a h es kind keeps = record {
   still = λ q k f t. ap (λ b. when b h k) t;

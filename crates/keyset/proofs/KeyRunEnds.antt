@@ -18,7 +18,7 @@ use Rattle.keyset.proofs.KeyRunStarts.{add_next, decouple_next, delete_next, don
 use Rattle.keyset.proofs.KeyRunSteps.{Holds, Kept}
 use Rattle.keyset.proofs.KeyWaits.{waits_exact}
 
-call_next : (r : RollType) (p : Reports) (s : KeySetState) → Holds r s p → (c : Call) (now : ℕ) → sets_by_hand c ≡ false → Next r p c now s (on_state c now s)
+pub call_next : (r : RollType) (p : Reports) (s : KeySetState) → Holds r s p → (c : Call) (now : ℕ) → sets_by_hand c ≡ false → Next r p c now s (on_state c now s)
 call_next r p s h (Add q n) now e = add_next r p s h q n now
 call_next r p s h (SetDecoupled q b) now e = decouple_next r p s h q b now
 call_next r p s h (SetPresent q b) now e = cc
@@ -46,7 +46,7 @@ runs_hold r p s h (c ∷ cs) e =
     let w = none_of (sets_by_hand c.1) (list_any (λ (c : ℕ × Call). sets_by_hand c.1) cs) e in
     runs_hold r (noted_if (is_accepted (on_state c.1 c.0 s)) r c.1 c.0 p) (left s (on_state c.1 c.0 s)) (call_next r p s h c.1 c.0 w.0) cs w.1
 
-none_hold : (r : RollType) (name : List (List ℕ)) → Holds r (no_keys name) no_reports
+pub none_hold : (r : RollType) (name : List (List ℕ)) → Holds r (no_keys name) no_reports
 none_hold r name = record { sorted = tt; keeps = λ q k f. cc; together = λ a b h k c. cc; kept = tt }
 
 pub run_holds : (r : RollType) (name : List (List ℕ)) (cs : List (ℕ × Call)) → by_rolls_alone cs ≡ true → Holds r (behind (no_keys name) cs) (reports_behind r (no_keys name) cs no_reports)
@@ -94,7 +94,7 @@ accepted_none None r x ks s = (λ _. refl, λ _. refl)
 accepted_none (Some e) r x ks s = (λ h. cc, λ h. cc)
 
 -- a wait is accepted exactly where the TTL has passed since that stamp
-exact : (t : Turn) (r : RollType) (x : RollState) (ttl now since : ℕ) (ks : List (Reference × Key)) (s : KeySetState) → T (Rattle.std.specs.FinMap.Entries.is_sorted Rattle.keyset.specs.KeyState.reference_cmp s.keys)
+pub exact : (t : Turn) (r : RollType) (x : RollState) (ttl now since : ℕ) (ks : List (Reference × Key)) (s : KeySetState) → T (Rattle.std.specs.FinMap.Entries.is_sorted Rattle.keyset.specs.KeyState.reference_cmp s.keys)
     → ((q : Reference) (k : Key) → key_of s q ≡ Some k → touches r k.roles ≡ true → watched t r k.roles ≡ true → stamp_read t r k.stamps ≡ Some since)
     → (is_accepted (unless_fault (wait_fault r t ttl now s.keys) (enter r x ks s)) ≡ true) ↔ (some_awaited t r s ≡ true → ttl * 1000000000 ≤ now - since)
 exact t r x ttl now since ks s sorted h =
@@ -105,10 +105,10 @@ exact t r x ttl now since ks s sorted h =
       λ w. a.1 (e.1 (pass ttl now since t r s.keys one w)),
     )
 
-wait1_in : (r : RollType) (ttl now : ℕ) (s : KeySetState) → phase_of s r ≡ Some (CacheExpire1 ttl) → wait1 r now s ≡ unless_fault (wait_fault r First ttl now s.keys) (enter r Propagation2 (on_keys r (waited1 r now) s.keys) s)
+pub wait1_in : (r : RollType) (ttl now : ℕ) (s : KeySetState) → phase_of s r ≡ Some (CacheExpire1 ttl) → wait1 r now s ≡ unless_fault (wait_fault r First ttl now s.keys) (enter r Propagation2 (on_keys r (waited1 r now) s.keys) s)
 wait1_in r ttl now s e = rw (e, wait1) refl
 
-wait2_in : (r : RollType) (ttl now : ℕ) (s : KeySetState) → phase_of s r ≡ Some (CacheExpire2 ttl) → wait2 r now s ≡ unless_fault (wait_fault r Second ttl now s.keys) (enter r Done (on_keys r (waited2 r now) s.keys) s)
+pub wait2_in : (r : RollType) (ttl now : ℕ) (s : KeySetState) → phase_of s r ≡ Some (CacheExpire2 ttl) → wait2 r now s ≡ unless_fault (wait_fault r Second ttl now s.keys) (enter r Done (on_keys r (waited2 r now) s.keys) s)
 wait2_in r ttl now s e = rw (e, wait2) refl
 
 pub waits_count : WaitsCountFromReports

@@ -33,19 +33,22 @@ pub record Starts (r : RollType) (olds news : List Reference) (s : KeySetState) 
   pub alone : list_any (λ e. conflicts r e.0) s.rolls ≡ false
   pub olds_pass : first_fault (old_fault r s) olds ≡ None
   pub news_pass : first_new_fault r s olds [] news ≡ None
+  pub serves : suitable r (roles_after r olds news s.keys) ≡ true
 
-parts : (a b c : Bool) (x y z : Option Refusal) (e f g : Refusal) → (if a then Some e else if b then Some f else after x (after y (after z (if c then None else Some g)))) ≡ None → (a ≡ false) × (b ≡ false) × (x ≡ None) × (y ≡ None)
+parts : (a b c : Bool) (x y z : Option Refusal) (e f g : Refusal) → (if a then Some e else if b then Some f else after x (after y (after z (if c then None else Some g)))) ≡ None → (a ≡ false) × (b ≡ false) × (x ≡ None) × (y ≡ None) × (c ≡ true)
 parts true b c x y z e f g h = cc
 parts false true c x y z e f g h = cc
 parts false false c (Some x) y z e f g h = cc
 parts false false c None (Some y) z e f g h = cc
-parts false false c None None z e f g h = (refl, refl, refl, refl)
+parts false false c None None (Some z) e f g h = cc
+parts false false false None None None e f g h = cc
+parts false false true None None None e f g h = (refl, refl, refl, refl, refl)
 
 pub starts_so : (r : RollType) (olds news : List Reference) (s : KeySetState) → start_fault r olds news s ≡ None → Starts r olds news s
 starts_so r olds news s h =
     let w = parts (is_some (phase_of s r)) (list_any (λ e. conflicts r e.0) s.rolls) (suitable r (roles_after r olds news s.keys)) (first_fault (old_fault r s) olds) (first_new_fault r s olds [] news) (algorithms_fault r olds news s)
     WrongStateForRollOperation ConflictingRollInProgress NoSuitableKeyPresent h in
-    record { free = w.0; alone = w.1; olds_pass = w.2; news_pass = w.3 }
+    record { free = w.0; alone = w.1; olds_pass = w.2; news_pass = w.3; serves = w.4 }
 
 after_none : (x y : Option Refusal) → after x y ≡ None → (x ≡ None) × (y ≡ None)
 after_none None y h = (refl, h)
@@ -143,7 +146,7 @@ moves_start a now olds news s w = record {
 }
 
 -- a roll that runs is no other's that conflicts
-runs_alone : (r b : RollType) (rs : List (RollType × RollState)) → list_any {X = RollType × RollState} (λ e. conflicts r e.0) rs ≡ false → is_some (find kind_cmp b rs) ≡ true → conflicts r b ≡ false
+pub runs_alone : (r b : RollType) (rs : List (RollType × RollState)) → list_any {X = RollType × RollState} (λ e. conflicts r e.0) rs ≡ false → is_some (find kind_cmp b rs) ≡ true → conflicts r b ≡ false
 runs_alone r b [] n h = cc
 runs_alone r b (e ∷ es) n h = at (eq_by_cmp kind_cmp b e.0) (conflicts r e.0) refl refl n h (λ m k. runs_alone r b es m k)
   where
@@ -182,7 +185,7 @@ start_next r p s h a olds news now =
 -- ---- ends
 
 module _ (r : RollType) (p : Reports) (s : KeySetState) (h : Holds r s p) (a : RollType) where
-  phase_ended : (b : RollType) → phase_of (ended a s) b ≡ cond (not (eqb (index_of b) (index_of a))) (phase_of s b) None
+  pub phase_ended : (b : RollType) → phase_of (ended a s) b ≡ cond (not (eqb (index_of b) (index_of a))) (phase_of s b) None
   phase_ended b = find-where_key kind_cmp (λ q. not (eqb (index_of q) (index_of a))) b (λ x e. ap (λ q. not (eqb (index_of q) (index_of a))) (sym (kind_same b x e))) s.rolls
 
   ended_ran : (b : RollType) (t : Bool) → is_some (cond t (phase_of s b) None) ≡ true → is_some (phase_of s b) ≡ true
@@ -215,7 +218,7 @@ done_next r p s h a now = at_done r p s h a now (phase_of s a) refl
 -- ---- one key put in
 
 module _ (r : RollType) (p : Reports) (s : KeySetState) (h : Holds r s p) (q : Reference) (n : Key) where
-  put_all : (P : Key → Type 0) → P n → ((x : Reference) (k : Key) → At s.keys x k → P k) → (x : Reference) (k : Key) → At (put reference_cmp q n s.keys) x k → P k
+  pub put_all : (P : Key → Type 0) → P n → ((x : Reference) (k : Key) → At s.keys x k → P k) → (x : Reference) (k : Key) → At (put reference_cmp q n s.keys) x k → P k
   put_all P one all x k f = at (eq_by_cmp reference_cmp x q) (sym (find-put reference_cmp nat_list_cmp_total x q n s.keys) ∙ f)
     where
       at : (t : Bool) → cond t (Some n) (find reference_cmp x s.keys) ≡ Some k → P k
@@ -272,7 +275,7 @@ decouple_next r p s h q b now = at (key_of s q) refl
 -- ---- one key taken out
 
 module _ (r : RollType) (p : Reports) (s : KeySetState) (h : Holds r s p) (q : Reference) where
-  there_before : (x : Reference) (k : Key) → At (removed q s.keys) x k → At s.keys x k
+  pub there_before : (x : Reference) (k : Key) → At (removed q s.keys) x k → At s.keys x k
   there_before x k f = at (not (bytes_eq x q)) (sym (find-where_key reference_cmp (λ y. not (bytes_eq y q)) x (λ y e. ap (λ y. not (bytes_eq y q)) (sym (tied x y e))) s.keys) ∙ f)
     where
       tied : (x y : Reference) → reference_cmp x y ≡ Equal → x ≡ y

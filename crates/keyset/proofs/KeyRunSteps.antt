@@ -168,7 +168,7 @@ other_roll a r h = at (same_roll a r) refl
 kind_equal : (a b : RollType) → eq_by_cmp kind_cmp a b ≡ true → a ≡ b
 kind_equal a b e = kind_same a b (is_equal (kind_cmp a b) e)
 
-phase_put : (s : KeySetState) (ks : List (Reference × Key)) (a b : RollType) (ph : RollState) → phase_of (entered a ph ks s) b ≡ cond (eq_by_cmp kind_cmp b a) (Some ph) (phase_of s b)
+pub phase_put : (s : KeySetState) (ks : List (Reference × Key)) (a b : RollType) (ph : RollState) → phase_of (entered a ph ks s) b ≡ cond (eq_by_cmp kind_cmp b a) (Some ph) (phase_of s b)
 phase_put s ks a b ph = find-put kind_cmp kind_total b a ph s.rolls
 
 -- a roll that runs behind a step of a running roll ran before it

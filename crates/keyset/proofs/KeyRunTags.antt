@@ -13,7 +13,7 @@ use Rattle.keyset.proofs.KeyFinds.{is_same}
 use Rattle.keyset.proofs.KeyTagsCalls.{LeavesTags, TagsFrom, done_tags, report1_tags, report2_tags, start_tags, wait1_tags, wait2_tags}
 
 -- no two references have keys of one tag
-abbrev Apart : List (Reference × Key) → Type 0
+abbrev pub Apart : List (Reference × Key) → Type 0
 Apart es = (p q : Reference) (k l : Key) → find reference_cmp p es ≡ Some k → find reference_cmp q es ≡ Some l → k.tag ≡ l.tag → p ≡ q
 
 from_apart : (es fs : List (Reference × Key)) → Apart es → TagsFrom es fs → Apart fs
@@ -117,7 +117,7 @@ delete_tags q s = at (key_of s q)
 
 -- ---- all calls
 
-call_apart : (s : KeySetState) → Apart s.keys → (c : Call) (now : ℕ) → Apart (left s (on_state c now s)).keys
+pub call_apart : (s : KeySetState) → Apart s.keys → (c : Call) (now : ℕ) → Apart (left s (on_state c now s)).keys
 call_apart s h (Add q n) now = add_apart s q (new_key n.private (roles_of n.kind n.available) n.algorithm n.tag n.created) h
 call_apart s h (SetDecoupled q b) now = left_apart s (write (decoupled_to b) q s) h (write_tags (decoupled_to b) q s (λ k n e. tag_of k (record k { decoupled = b }) n refl e))
 call_apart s h (SetPresent q b) now = left_apart s (write (present_to b now) q s) h (write_tags (present_to b now) q s (present_tag b now))

@@ -18,10 +18,10 @@ pub and_right : (a b : Bool) → (a && b) ≡ true → b ≡ true
 and_right true b h = h
 and_right false b h = cc
 
-abbrev implies : Bool → Bool → Bool
+abbrev pub implies : Bool → Bool → Bool
 implies a b = not a || b
 
-from_implies : (a b : Bool) → implies a b ≡ true → a ≡ true → b ≡ true
+pub from_implies : (a b : Bool) → implies a b ≡ true → a ≡ true → b ≡ true
 from_implies true b h k = h
 from_implies false b h k = cc
 
@@ -109,7 +109,7 @@ wait2_all ZskDoubleSignatureRoll = record { ksk = λ _. refl; zsk = λ _. refl; 
 wait2_all CskRoll = record { ksk = λ _. refl; zsk = λ _. refl; csk = λ _ _. refl; other = λ _. refl }
 wait2_all AlgorithmRoll = record { ksk = λ _. refl; zsk = λ _. refl; csk = λ _ _. refl; other = λ _. refl }
 
-join : (a b : Bool) → a ≡ true → b ≡ true → (a && b) ≡ true
+pub join : (a b : Bool) → a ≡ true → b ≡ true → (a && b) ≡ true
 join true b h k = k
 join false b h k = cc
 

@@ -9,5 +9,3 @@ pub mod KeyLaws
 pub mod KeyRuns
 pub mod KeyRows
 pub mod KeyRunLaws
-pub mod KeyLife
-pub mod KeyLifeRows

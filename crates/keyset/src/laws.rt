@@ -1,7 +1,6 @@
 //! Laws of key sets.
 ghost use Rattle.keyset.specs.KeyLaws.{PhasesFollow, StartsEnter, WaitsAreExact};
 ghost use Rattle.keyset.specs.KeyRunLaws.{RolesKeep, RollsRunTogether, TagsDiffer, WaitsCountFromReports};
-ghost use Rattle.keyset.specs.KeyLifeRows.{RetiresAndMeets};
 ghost use Rattle.keyset.specs.KeyRows.{RefusesOnTheWay, RollsSevenTimes};
 
 /// What holds of every key set, for every roll and at every moment.
@@ -33,9 +32,4 @@ pub fn tags_differ()
 pub fn rolls_by_hand()
     ensures published { RollsSevenTimes }
     ensures refused { RefusesOnTheWay }
-{}
-
-/// Things that a zone handed out in three moments, worked through on the definitions: which are retired, and which meet.
-pub fn things_by_hand()
-    ensures { RetiresAndMeets }
 {}

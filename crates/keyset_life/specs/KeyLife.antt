@@ -46,18 +46,18 @@ content DsSet s = ds s ∷ []
 content DnskeyAnswer s = present s ∷ keysigners s ∷ []
 content ZoneAnswer s = zonesigners s ∷ []
 
-abbrev same_references : List Reference → List Reference → Bool
+abbrev pub same_references : List Reference → List Reference → Bool
 same_references [] [] = true
 same_references (p ∷ ps) (q ∷ qs) = bytes_eq p q && same_references ps qs
 same_references _ _ = false
 
-abbrev same_content : List (List Reference) → List (List Reference) → Bool
+abbrev pub same_content : List (List Reference) → List (List Reference) → Bool
 same_content [] [] = true
 same_content (p ∷ ps) (q ∷ qs) = same_references p q && same_content ps qs
 same_content _ _ = false
 
 -- whether it changes at some call of these states, each but the first behind one call
-abbrev changes_along : Thing → List KeySetState → Bool
+abbrev pub changes_along : Thing → List KeySetState → Bool
 changes_along thing [] = false
 changes_along thing (s ∷ []) = false
 changes_along thing (s ∷ t ∷ ss) = not (same_content (content thing s) (content thing t)) || changes_along thing (t ∷ ss)
@@ -84,29 +84,29 @@ reported_second roll.CskRoll = DsSet ∷ ZoneAnswer ∷ []
 reported_second roll.AlgorithmRoll = DsSet ∷ []
 
 -- the call that began what a report speaks of: the last start of the roll before it, or its last first wait
-abbrev is_start : RollType → Call → Bool
+abbrev pub is_start : RollType → Call → Bool
 is_start r (Start a olds news) = same_roll r a
 is_start r _ = false
 
-abbrev is_first_wait : RollType → Call → Bool
+abbrev pub is_first_wait : RollType → Call → Bool
 is_first_wait r (Wait1 a) = same_roll r a
 is_first_wait r _ = false
 
 -- how many calls there are up to and with the last that passes; 0 where none does
-abbrev last_place : (Call → Bool) → List Step → ℕ
+abbrev pub last_place : (Call → Bool) → List Step → ℕ
 last_place p [] = 0
 last_place p (s ∷ ss) = let later = last_place p ss in if nat_eq later 0 then (if p s.call then 1 else 0) else later + 1
 
 -- a report at a place of the steps retires, at moment m, what was handed out in state i: its TTL has passed, and the thing was
 -- replaced by the start or the first wait that it speaks of
-abbrev retires : Thing → KeySetState → List Step → ℕ → ℕ → ℕ → Step → Bool
+abbrev pub retires : Thing → KeySetState → List Step → ℕ → ℕ → ℕ → Step → Bool
 retires thing s ss i m place step = elim step.call [
   | Report1 r ttl ↦ list_any (same_thing thing) (reported_first r) && nat_le (step.at + ttl * 1000000000) m && replaced thing (states s ss) i (last_place (is_start r) (take place ss))
   | Report2 r ttl ↦ list_any (same_thing thing) (reported_second r) && nat_le (step.at + ttl * 1000000000) m && replaced thing (states s ss) i (last_place (is_first_wait r) (take place ss))
   | _ ↦ false
 ]
 
-abbrev retired_from : Thing → KeySetState → List Step → ℕ → ℕ → ℕ → List Step → Bool
+abbrev pub retired_from : Thing → KeySetState → List Step → ℕ → ℕ → ℕ → List Step → Bool
 retired_from thing s all i m place [] = false
 retired_from thing s all i m place (t ∷ ts) = retires thing s all i m place t || retired_from thing s all i m (place + 1) ts
 
@@ -116,11 +116,11 @@ retired thing s ss i m = retired_from thing s ss i m 0 ss
 
 -- ---- what meets
 
-abbrev tags_of : KeySetState → List Reference → List ℕ
+abbrev pub tags_of : KeySetState → List Reference → List ℕ
 tags_of s [] = []
 tags_of s (q ∷ qs) = elim (key_of s q) [ None ↦ tags_of s qs | Some k ↦ k.tag ∷ tags_of s qs ]
 
-abbrev differ : List ℕ → Bool
+abbrev pub differ : List ℕ → Bool
 differ [] = true
 differ (t ∷ ts) = not (list_any (nat_eq t) ts) && differ ts
 

@@ -4,7 +4,7 @@ use Rattle.keyset_rolls.specs.declared.rolls.RollType.TheVariants.{KskDoubleDsRo
 use Rattle.keyset.specs.KeyState.{KeySetState, Reference}
 use Rattle.keyset.specs.KeyRuns.{Call, Delete, Finish, OfKsk, OfZsk, Report1, Report2, Start, Wait1, Wait2, no_keys}
 use Rattle.keyset.specs.KeyRows.{fresh, second}
-use Rattle.keyset.specs.KeyLife.{DnskeyAnswer, DsSet, Step, Thing, ZoneAnswer, accepted, meet, retired, states}
+use Rattle.keyset_life.specs.KeyLife.{DnskeyAnswer, DsSet, Step, Thing, ZoneAnswer, accepted, meet, retired, states}
 
 abbrev K : Reference
 K = codes "K"

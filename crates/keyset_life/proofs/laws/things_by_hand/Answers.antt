@@ -1,5 +1,5 @@
 use Rattle.std.proofs.Common.{refl}
-use Rattle.keyset.proofs.laws.things_by_hand.Goals as goal
+use Rattle.keyset_life.proofs.laws.things_by_hand.Goals as goal
 
 pub returns : goal.returns
 returns c = record {

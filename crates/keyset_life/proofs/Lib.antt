@@ -1,0 +1,11 @@
+pub mod SideTables
+pub mod Contents
+pub mod Retiring
+pub mod Sided
+pub mod Turns
+pub mod Effects
+pub mod Lives
+pub mod LifeSteps
+pub mod Lived
+pub mod Publishing
+pub mod Meets

@@ -1,0 +1,5 @@
+pub mod KeyLife
+pub mod KeyLifeRows
+pub mod Sides
+pub mod Anchors
+pub mod Meeting

@@ -1,0 +1,24 @@
+//! Laws of the life of keys.
+ghost use Rattle.keyset_life.specs.KeyLifeRows.{RetiresAndMeets};
+ghost use Rattle.keyset_life.specs.Meeting.{CallsMakeLives, EmptyDsSetsComeFirst, UnretiredThingsMeet};
+
+/// Whatever calls a key set has behind it, accepted and refused, where no flag and no stamp was set by hand and the first
+/// DS set came by a roll of the algorithm: what was handed out and isn't retired fits together.
+pub fn unretired_things_meet()
+    ensures { UnretiredThingsMeet }
+{}
+
+/// An empty DS set is that of a state before the first wait of the first roll of the algorithm.
+pub fn empty_ds_sets_come_first()
+    ensures { EmptyDsSetsComeFirst }
+{}
+
+/// The calls of a key set make such lives: what each leaves is what the list of calls goes on from.
+pub fn calls_make_lives()
+    ensures { CallsMakeLives }
+{}
+
+/// Things that a zone handed out in three moments, worked through on the definitions: which are retired, and which meet.
+pub fn things_by_hand()
+    ensures { RetiresAndMeets }
+{}
