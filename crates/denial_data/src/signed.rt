@@ -71,7 +71,8 @@ fn compose_signed_owner(
 
 /// Writes one record: what all begin with, and its data behind their length.
 fn compose_signed_record(head: &[u8], data: &[u8], out: &mut Vec<u8>) -> Result<(), AllocError>
-    ensures ok { OnOk result (out.new.items ≡ out.old.items ++ (head.now ++ with_length data.now)) }
+    ensures ok { let more = head.now ++ with_length data.now in
+        OnOk result (out.new.items ≡ out.old.items ++ more) }
 {
     out.extend_from_slice(head)?;
     out.extend_from_slice(&((data.len() % 65536) as u16).to_be_bytes())?;

@@ -1,3 +1,4 @@
 pub mod Record
 pub mod WrittenLaws
 pub mod Questions
+pub mod Numbers

@@ -1,5 +1,6 @@
 //! Laws of messages: what is written reads back.
 
+ghost use Rattle.messages.specs.Numbers.{NumbersReadAlike};
 ghost use Rattle.messages.specs.WrittenLaws.{NamesReadBack, MessagesReadBack, SignaturesReadBack, DataReadBack};
 
 /// A name in wire form reads as itself, with its own spelling, wherever it stands in a message (RFC 1035, 3.1
@@ -24,4 +25,10 @@ pub fn signatures_read_back()
 /// (RFC 4034, 6.2).
 pub fn data_read_back()
     ensures { DataReadBack }
+{}
+
+/// Where its octets are there, a number is the same whether it is read step by step, as of a message, or at once, as
+/// of a record's data (RFC 1035, 2.3.2).
+pub fn numbers_read_alike()
+    ensures { NumbersReadAlike }
 {}

@@ -169,7 +169,8 @@ impl<'a> ViewRecord<'a> {
 
 /// The name at a place of a message and the place behind it, where that is no further than a limit.
 fn name_in(message: &[u8], start: usize, limit: usize) -> Option<(ParsedName<'_>, usize)>
-    ensures value { option_map (λ r. named r.0 r.1) result ≡ name_upto pointer_limit message.now start limit }
+    ensures value { option_map (λ r. named r.0 r.1) result
+        ≡ name_upto pointer_limit message.now start limit }
     ensures inside { IfSome result (λ r.
         (start < r.1) × (r.1 ≤ limit) × (r.1 ≤ length message.now)) }
 {

@@ -29,7 +29,8 @@ impl<'a> ViewRecord<'a> {
 
     /// The record at a place and the place behind it.
     fn read(bytes: &'a [u8], at: usize) -> Result<(ViewRecord<'a>, usize), MessageError>
-        ensures { Gives (λ r. placed (spelled r.0) r.1) result (record_at pointer_limit bytes.now at) }
+        ensures { let is = record_at pointer_limit bytes.now at in
+            Gives (λ r. placed (spelled r.0) r.1) result is }
     {
         let (owner, end) = ParsedName::parse(bytes, at)?;
         let rtype = u16_at(bytes, end)?;

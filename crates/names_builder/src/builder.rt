@@ -195,7 +195,8 @@ impl<B: OctetsBuilder> NameBuilder<B> {
     /// Adds an octet to the open label, or opens one with it.
     pub fn push(&mut self, octet: u8) -> Result<(), PushError>
         ensures ok { OnOk result (self.new ≡ with_octets self.old (octet ∷ [])) }
-        ensures long_label { IsErrOf result PushError.LongLabel ↔ IsLongLabel self.old (octet ∷ []) }
+        ensures long_label { let is = IsLongLabel self.old (octet ∷ []) in
+            IsErrOf result PushError.LongLabel ↔ is }
         ensures long_name { IsErrOf result PushError.LongName ↔ IsLongName self.old (octet ∷ []) }
         ensures err { OnErr result (self.new ≡ self.old) }
     {

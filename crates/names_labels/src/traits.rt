@@ -181,7 +181,8 @@ fn label_then<'a, N: Labels>(
     requires { IfSome row (λ run. IsRunOf run.now (drop place (N.labels name.now))) }
     ensures { let ls = N.labels name.now in let rest = drop (place + 1) ls in
         MatchOption result (slice_get ls place ≡ None)
-        (λ p. (Some (octets_of p.0) ≡ slice_get ls place) × IfSome p.1 (λ run. IsRunOf run.now rest)) }
+        (λ p. (Some (octets_of p.0) ≡ slice_get ls place)
+        × IfSome p.1 (λ run. IsRunOf run.now rest)) }
 {
     let Some(run) = row else {
         let label = name.label_at(place)?;

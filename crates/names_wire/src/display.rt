@@ -8,8 +8,7 @@ ghost use Rattle.names_wire.specs.Symbols.{is_plain};
 
 use crate::label::Label;
 use crate::symbol::Symbol;
-use std::fmt;
-use std::str;
+use std::{fmt, str};
 
 /// The octets as text at once, where each is printed as itself.
 #[tactic(auto, using(crate::proofs::PlainText::plain_label))]

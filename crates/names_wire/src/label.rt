@@ -90,7 +90,8 @@ impl<'a> Label<'a> {
     /// A pointer is refused and not followed.
     pub fn split_from(slice: &'a [u8]) -> Result<(Label<'a>, &'a [u8]), SplitLabelError>
         ensures { let is = split slice.now in
-            MatchResult result (λ found. is ≡ Ok (octets_of found.0, found.1.now)) (λ e. is ≡ Err e) }
+            MatchResult result (λ found. is ≡ Ok (octets_of found.0, found.1.now))
+            (λ e. is ≡ Err e) }
     {
         let Some((&head, rest)) = slice.split_first() else {
             return Err(SplitLabelError::ShortInput);

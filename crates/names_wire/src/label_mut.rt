@@ -48,7 +48,8 @@ impl<'a> LabelMut<'a> {
         slice: &'a mut [u8],
     ) -> Result<(LabelMut<'a>, &'a mut [u8]), SplitLabelError>
         ensures { let is = split slice.old in
-            MatchResult result (λ found. is ≡ Ok (mut_octets found.0, found.1.now)) (λ e. is ≡ Err e) }
+            MatchResult result (λ found. is ≡ Ok (mut_octets found.0, found.1.now))
+            (λ e. is ≡ Err e) }
     {
         let len = Label::split_from(slice)?.0.len();
         let (front, rest) = slice.split_at_mut(len + 1);

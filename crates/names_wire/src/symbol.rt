@@ -122,7 +122,8 @@ impl SymbolReader {
     /// After an error the reader is as it was.
     pub fn push(&mut self, ch: char) -> Result<Option<Symbol>, SymbolCharsError>
         ensures read { IfOk result (λ symbol. (rest : List ℕ)
-            → symbols_of (self.old ++ ch ∷ rest) ≡ followed_by symbol (symbols_of (self.new ++ rest))) }
+            → symbols_of (self.old ++ ch ∷ rest)
+            ≡ followed_by symbol (symbols_of (self.new ++ rest))) }
         ensures valid { IfOk result (λ symbol.
             IfSome symbol (λ s. is_symbol (symbol_of s) ≡ true)) }
         ensures err { OnErr result ((rest : List ℕ)

@@ -35,18 +35,25 @@ abbrev pub ◌>>=◌ : {A B : Type 0} → Result A MessageError → (A → Resul
 abbrev pub octet_at : List ℕ → ℕ → Result ℕ MessageError
 octet_at m p = elim (slice_get m p) [ None ↦ Err ShortInput | Some b ↦ Ok b ]
 
--- numbers stand with the highest octet first (RFC 1035, 2.3.2)
+-- numbers stand with the highest octet first (RFC 1035, 2.3.2): 16 bits in two octets, 32 bits in two such numbers
+abbrev pub of_octets : ℕ → ℕ → ℕ
+of_octets a b = a * 256 + b
+
+abbrev pub of_pairs : ℕ → ℕ → ℕ
+of_pairs a b = a * 65536 + b
+
+-- a number that may not be there
 abbrev pub u16_at : List ℕ → ℕ → Result ℕ MessageError
 u16_at m p = do
   a ← octet_at m p
   b ← octet_at m (p + 1)
-  Ok (a * 256 + b)
+  Ok (of_octets a b)
 
 abbrev pub u32_at : List ℕ → ℕ → Result ℕ MessageError
 u32_at m p = do
   a ← u16_at m p
   b ← u16_at m (p + 2)
-  Ok (a * 65536 + b)
+  Ok (of_pairs a b)
 
 abbrev pub fault_of : ReadFault → MessageError
 fault_of Short = ShortInput
@@ -109,10 +116,10 @@ if_true false x = None
 
 -- numbers within octets that are there
 abbrev pub pair : List ℕ → ℕ → ℕ
-pair m p = slice_index m p * 256 + slice_index m (p + 1)
+pair m p = of_octets (slice_index m p) (slice_index m (p + 1))
 
 abbrev pub quad : List ℕ → ℕ → ℕ
-quad m p = pair m p * 65536 + pair m (p + 2)
+quad m p = of_pairs (pair m p) (pair m (p + 2))
 
 abbrev pub rrsig_fields : List ℕ → ℕ → Name → Fields
 rrsig_fields m s signer = record { covered = pair m s; algorithm = slice_index m (s + 2); labels = slice_index m (s + 3); ttl = quad m (s + 4); expiration = quad m (s + 8); inception = quad m (s + 12); tag = pair m (s + 16); signer = signer }

@@ -92,7 +92,8 @@ impl Name {
     pub fn suffix(&self, alloc: Global, count: usize) -> Result<Name, AllocError>
         requires { count ≤ length self.now }
         ensures labels { IfOk result (λ n. n ≡ drop (length self.now - count) self.now) }
-        ensures room { count < length self.now → IfOk result (λ n. wire_len (star_under n) ≤ 255) }
+        ensures room { count < length self.now
+            → IfOk result (λ n. wire_len (star_under n) ≤ 255) }
     {
         let mut labels = Vec::with_capacity(alloc, count)?;
         push_labels(
@@ -262,7 +263,8 @@ fn push_lowered(out: &mut Vec<u8>, octets: &[u8]) -> Result<(), AllocError>
 
 /// Adds copies of labels at the end.
 fn push_labels(alloc: Global, labels: &mut Vec<Vec<u8>>, from: &[Vec<u8>]) -> Result<(), AllocError>
-    ensures { OnOk result (items_of labels.new.items ≡ items_of labels.old.items ++ items_of from.now) }
+    ensures { let more = items_of from.now in
+        OnOk result (items_of labels.new.items ≡ items_of labels.old.items ++ more) }
 {
     for label in from {
         labels.push(Vec::from_slice(alloc, label)?)?;

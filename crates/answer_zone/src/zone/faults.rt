@@ -54,7 +54,8 @@ fn any_outside(apex: &Name, records: &[HandedRecord]) -> bool
 }
 
 fn any_added_by_signing(records: &[HandedRecord]) -> bool
-    ensures { result ≡ list_any (λ r. among (46 ∷ 47 ∷ 48 ∷ 50 ∷ 51 ∷ []) r.rtype) records.now }
+    ensures { let added = 46 ∷ 47 ∷ 48 ∷ 50 ∷ 51 ∷ [] in
+        result ≡ list_any (λ r. among added r.rtype) records.now }
 {
     records.iter().any(|r| r.is_added_by_signing())
 }

@@ -16,7 +16,8 @@ pub fn push_header(
     answers: u16,
     authority: u16,
 ) -> Result<(), AllocError>
-    ensures { OnOk result (out.new.items ≡ out.old.items ++ header_octets flags answers authority) }
+    ensures { let more = header_octets flags answers authority in
+        OnOk result (out.new.items ≡ out.old.items ++ more) }
 {
     push_u16(out, 0)?;
     push_u16(out, flags)?;
@@ -34,7 +35,8 @@ pub fn push_question(
     rtype: Rtype,
     class: Class,
 ) -> Result<(), AllocError>
-    ensures { OnOk result (out.new.items ≡ out.old.items ++ question_octets name.now rtype class) }
+    ensures { let more = question_octets name.now rtype class in
+        OnOk result (out.new.items ≡ out.old.items ++ more) }
 {
     name.compose(out)?;
     push_u16(out, rtype.to_int())?;

@@ -33,7 +33,8 @@ impl<'a> Model for ParsedName<'a> {
 impl<'a> ParsedName<'a> {
     /// The name at a place of a message, and the place behind it.
     pub fn parse(message: &'a [u8], start: usize) -> Result<(ParsedName<'a>, usize), MessageError>
-        ensures exact { Gives (λ r. named r.0 r.1) result (owner_at pointer_limit message.now start) }
+        ensures exact { let is = owner_at pointer_limit message.now start in
+            Gives (λ r. named r.0 r.1) result is }
         ensures inside { IfOk result (λ r. r.1 ≤ length message.now) }
         ensures before { IfOk result (λ r. start < r.1) }
     {
