@@ -9,3 +9,4 @@ pub mod LifeSteps
 pub mod Lived
 pub mod Publishing
 pub mod Meets
+pub mod Waiting

@@ -99,10 +99,10 @@ untouched side a t e h = at (touches a t) refl
     at true i = absurd (true≢false (sym (off_side side a t (join (touches a t) (is_of side t) i h)) ∙ e))
     at false i = refl
 
-together : (life : Life) (steps : List Step) (s : KeySetState) (p : Noted) → Base life steps s p → Together s
+pub together : (life : Life) (steps : List Step) (s : KeySetState) (p : Noted) → Base life steps s p → Together s
 together life steps s p b = (b.holds KskRoll).together
 
-keep_all : (life : Life) (steps : List Step) (s : KeySetState) (p : Noted) → Base life steps s p → (q : Reference) (k : Key) → key_of s q ≡ Some k → keeps_all k.roles ≡ true
+pub keep_all : (life : Life) (steps : List Step) (s : KeySetState) (p : Noted) → Base life steps s p → (q : Reference) (k : Key) → key_of s q ≡ Some k → keeps_all k.roles ≡ true
 keep_all life steps s p b q k f = join (Rattle.keyset.specs.KeyRunLaws.keeps_roles k.roles) (agrees k.roles) ((b.holds KskRoll).keeps q k f) (b.roles.agree q k f)
 
 -- ---- calls on keys
@@ -183,7 +183,7 @@ home_on : (a : RollType) → is_on (home a) a ≡ true
 home_on KskRoll = refl
 home_on _ = refl
 
-witness_on : (a : RollType) → is_on (witness a) a ≡ true
+pub witness_on : (a : RollType) → is_on (witness a) a ≡ true
 witness_on KskRoll = refl
 witness_on _ = refl
 
@@ -280,7 +280,7 @@ module _ (life : Life) (steps after : List Step) (s x : KeySetState) (now : ℕ)
       (roles.settled q k f)
 
   -- a start leaves a key that is new and ready
-  new_ready : (side : Side) → is_on side a ≡ true → (n : Reference) × HasKey x n (is_ready side a)
+  pub new_ready : (side : Side) → is_on side a ≡ true → (n : Reference) × HasKey x n (is_ready side a)
   new_ready side on =
       let test = λ (t : KeyType). touches a t && meets_need (need_of side a) t in
       let some : list_any test (roles_after a olds news s.keys) ≡ true = need_in (λ n. has_needed a n (roles_after a olds news s.keys)) side a on w.starts.serves in

@@ -1,5 +1,5 @@
 -- A life from one accepted call to the next: its keys and both its sides.
-use Rattle.std.proofs.Common.{◌≡◌, ℕ, ◌≤◌, Bool, true, false, not, List, [], ◌∷◌, ◌++◌, refl, ap, subst, ◌∙◌, T, ◌||◌, ◌⊎◌, inl, inr}
+use Rattle.std.proofs.Common.{◌≡◌, ℕ, ◌≤◌, Bool, true, false, not, List, [], ◌∷◌, ◌++◌, refl, ap, subst, ◌∙◌, T, ◌||◌, ◌⊎◌, inl, inr, zero, suc, slice_get, sym}
 use Rattle.std.specs.Prelude.{Some, None, Ok}
 use Rattle.std.specs.FinMap.Entries.{is_sorted}
 use Rattle.std.proofs.lemmas.Bool.{false≢true, or_left, or_right}
@@ -10,9 +10,9 @@ use Rattle.keyset_rolls.specs.declared.rolls.RollType.{RollType}
 use Rattle.keyset_rolls.specs.declared.rolls.RollType.TheVariants.{KskRoll}
 use Rattle.keyset_rolls.specs.Rolls.{reported1, reported2, started_roles, touches, waited1, waited2}
 use Rattle.keyset.specs.KeyState.{Answer, Key, KeySetState, Reference, Refusal, ds, key_of, keysigners, listed, new_key, on_each, present, reference_cmp, set_old, when, zonesigners}
-use Rattle.keyset.specs.KeyRuns.{Add, Call, Delete, Finish, Report1, Report2, SetAtParent, SetDecoupled, SetDsVisible, SetPresent, SetRrsigVisible, SetSigner, SetStale, SetVisible, Start, Wait1, Wait2, is_accepted, left, on_state, sets_by_hand}
-use Rattle.keyset.specs.KeyRunLaws.{keeps_roles, noted_if}
-use Rattle.keyset.proofs.KeyRunEnds.{call_next}
+use Rattle.keyset.specs.KeyRuns.{Add, Call, Delete, Finish, Report1, Report2, SetAtParent, SetDecoupled, SetDsVisible, SetPresent, SetRrsigVisible, SetSigner, SetStale, SetVisible, Start, Wait1, Wait2, is_accepted, left, on_state, sets_by_hand, no_keys}
+use Rattle.keyset.specs.KeyRunLaws.{keeps_roles, no_reports, noted_if}
+use Rattle.keyset.proofs.KeyRunEnds.{call_next, none_hold}
 use Rattle.keyset.proofs.KeyRunStarts.{start_of}
 use Rattle.keyset.proofs.KeyRunSteps.{Holds}
 use Rattle.keyset.proofs.KeyRunTags.{Apart, call_apart}
@@ -41,10 +41,10 @@ module _ (life : Life) (steps : List Step) (s x : KeySetState) (c : Call) (now :
   tags_next : Apart x.keys
   tags_next = subst (λ a. Apart (left s a).keys) gives (call_apart s b.tags c now)
 
-  sorted_next : T (is_sorted reference_cmp x.keys)
+  pub sorted_next : T (is_sorted reference_cmp x.keys)
   sorted_next = (holds_next KskRoll).sorted
 
-  base_next : Roles x → Base life (steps ++ step_of now c x ∷ []) x (then p c now)
+  pub base_next : Roles x → Base life (steps ++ step_of now c x ∷ []) x (then p c now)
   base_next roles = record {
     holds = holds_next;
     tags = tags_next;
@@ -53,7 +53,7 @@ module _ (life : Life) (steps : List Step) (s x : KeySetState) (c : Call) (now :
     here = get_last_place life.start steps (step_of now c x);
   }
 
-  keep_next : Roles x → (q : Reference) (k : Key) → key_of x q ≡ Some k → keeps_all k.roles ≡ true
+  pub keep_next : Roles x → (q : Reference) (k : Key) → key_of x q ≡ Some k → keeps_all k.roles ≡ true
   keep_next roles q k f = join (keeps_roles k.roles) (agrees k.roles) ((holds_next KskRoll).keeps q k f) (roles.agree q k f)
 
   keep_now : (q : Reference) (k : Key) → key_of s q ≡ Some k → keeps_all k.roles ≡ true
@@ -75,21 +75,21 @@ module _ (life : Life) (steps : List Step) (s x : KeySetState) (c : Call) (now :
   started_settled a true false t h = inl (old_settled a t h)
   started_settled a false false t h = inl h
 
-  start_roles : (a : RollType) (olds news : List Reference) → Started a now olds news s x → Roles x
+  pub start_roles : (a : RollType) (olds news : List Reference) → Started a now olds news s x → Roles x
   start_roles a olds news w =
       turn_roles a (Rattle.keyset.specs.KeyState.phase_of s a) (Some Propagation1) (start_of a now olds news) s x w.moved b.roles
       (λ q k f e. started_agrees a (listed olds q) (listed news q) k.roles e (keep_now q k f))
       (λ q k f e h. started_settled a (listed olds q) (listed news q) k.roles h)
       (λ q k f e l i. inr refl)
 
-  report1_roles : (a : RollType) (ttl : ℕ) → Reported1 a now s ttl x → Roles x
+  pub report1_roles : (a : RollType) (ttl : ℕ) → Reported1 a now s ttl x → Roles x
   report1_roles a ttl w =
       turn_roles a (Some Propagation1) (Some (CacheExpire1 ttl)) (touched_by a (reported1 a now)) s x w b.roles
       (λ q k f e. ap agrees (when_roles (touches a k.roles) (reported1 a now) k refl) ∙ b.roles.agree q k f)
       (λ q k f e h. inl (ap is_settled (when_roles (touches a k.roles) (reported1 a now) k refl) ∙ h))
       (λ q k f e l i. inr refl)
 
-  report2_roles : (a : RollType) (ttl : ℕ) → Reported2 a now s ttl x → Roles x
+  pub report2_roles : (a : RollType) (ttl : ℕ) → Reported2 a now s ttl x → Roles x
   report2_roles a ttl w =
       turn_roles a (Some Propagation2) (Some (CacheExpire2 ttl)) (touched_by a (reported2 a now)) s x w b.roles
       (λ q k f e. ap agrees (when_roles (touches a k.roles) (reported2 a now) k refl) ∙ b.roles.agree q k f)
@@ -99,21 +99,21 @@ module _ (life : Life) (steps : List Step) (s x : KeySetState) (c : Call) (now :
   wait1_settles : (a : RollType) (k : Key) → touches a k.roles ≡ true → (signs_late a || is_settled k.roles) ≡ true → is_settled (touched_by a (waited1 a now) [] k).roles ≡ true
   wait1_settles a k e h = ap (λ (k : Key). is_settled k.roles) (when_on (touches a k.roles) (waited1 a now) k e) ∙ wait1_settled a k.roles (join (touches a k.roles) (signs_late a || is_settled k.roles) e h)
 
-  waited1_roles : (a : RollType) → Waited1 a now s x → Roles x
+  pub waited1_roles : (a : RollType) → Waited1 a now s x → Roles x
   waited1_roles a w =
       turn_roles a (Some (CacheExpire1 w.ttl)) (Some Propagation2) (touched_by a (waited1 a now)) s x w.moved b.roles
       (λ q k f e. ap (λ (k : Key). agrees k.roles) (when_on (touches a k.roles) (waited1 a now) k e) ∙ wait1_agrees a k.roles (join (touches a k.roles) (keeps_all k.roles) e (keep_now q k f)))
       (λ q k f e h. inl (wait1_settles a k e (or_right (signs_late a) (is_settled k.roles) h)))
       (λ q k f e l i. inl (wait1_settles a k e (or_left (signs_late a) (is_settled k.roles) l)))
 
-  waited2_roles : (a : RollType) → Waited2 a now s x → Roles x
+  pub waited2_roles : (a : RollType) → Waited2 a now s x → Roles x
   waited2_roles a w =
       turn_roles a (Some (CacheExpire2 w.ttl)) (Some Done) (touched_by a (waited2 a now)) s x w.moved b.roles
       (λ q k f e. ap (λ (k : Key). agrees k.roles) (when_on (touches a k.roles) (waited2 a now) k e) ∙ wait2_agrees a k.roles (join (touches a k.roles) (keeps_all k.roles) e (keep_now q k f)))
       (λ q k f e h. inl (ap (λ (k : Key). is_settled k.roles) (when_on (touches a k.roles) (waited2 a now) k e) ∙ wait2_settled a k.roles h))
       (λ q k f e l i. absurd (false≢true i))
 
-  finished_roles : (a : RollType) → Finished a s x → Roles x
+  pub finished_roles : (a : RollType) → Finished a s x → Roles x
   finished_roles a w =
       turn_roles a (Some Done) None same_key s x w b.roles
       (λ q k f e. b.roles.agree q k f)
@@ -179,3 +179,18 @@ module _ (life : Life) (steps after : List Step) (s x : KeySetState) (now : ℕ)
         base = base_next life steps s x (Finish a) now p acts h.base by_rolls e (finished_roles life steps s x (Finish a) now p acts h.base by_rolls e a w);
         sides = finish_sides life steps after s x now p h.base a (sorted_next life steps s x (Finish a) now p acts h.base by_rolls e) in_time w h.sides;
       }
+
+-- ---- no calls yet
+
+pub first_state : (P : KeySetState → Type 0) (s : KeySetState) → P s → (i : ℕ) (x : KeySetState) → slice_get (s ∷ []) i ≡ Some x → P x
+first_state P s h zero x e = let same : s ≡ x = cc in subst P same h
+first_state P s h (suc i) x e = cc
+
+pub base_of_none : (life : Life) (name : List (List ℕ)) → life.start ≡ no_keys name → Base life [] (no_keys name) (λ _. no_reports)
+base_of_none life name e = record {
+  holds = λ r. none_hold r name;
+  tags = λ p q k l f g e. cc;
+  roles = record { agree = λ q k f. cc; settled = λ q k f. cc };
+  differing = λ i x f. first_state (λ x. differ (tags_of x (present x)) ≡ true) (no_keys name) refl i x (ap (λ s. slice_get (s ∷ []) i) (sym e) ∙ f);
+  here = (0, ap (λ s. Some s) e);
+}

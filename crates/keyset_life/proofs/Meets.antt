@@ -15,7 +15,6 @@ use Rattle.keyset_rolls.specs.declared.rolls.RollType.TheVariants.{KskRoll, Algo
 use Rattle.keyset.specs.KeyState.{Answer, KeySetState, Reference, Refusal, ds, keysigners, listed, present, zonesigners}
 use Rattle.keyset.specs.KeyRuns.{Call, is_accepted, left, no_keys, on_state, sets_by_hand}
 use Rattle.keyset.specs.KeyRunLaws.{Reports, by_rolls_alone, no_reports}
-use Rattle.keyset.proofs.KeyRunEnds.{none_hold}
 use Rattle.keyset.proofs.KeyTables.{and_left as left_of, and_right as right_of}
 use Rattle.keyset_life.specs.KeyLife.{DnskeyAnswer, DsSet, Step, Thing, ZoneAnswer, accepted, differ, is_first_wait, meet, retired, states, tags_of}
 use Rattle.keyset_life.specs.Sides.{OfKeys, OfZone, Side, doubles, first_of, is_empty, partner, second_of, shows}
@@ -23,7 +22,7 @@ use Rattle.keyset_life.specs.Anchors.{Anchored, Crossing, Grows, Kept, Life, Liv
 use Rattle.keyset_life.specs.Meeting.{CallsMakeLives, GoesOn, EmptyDsSetsComeFirst, UnretiredThingsMeet, algorithm_first, by_then}
 use Rattle.keyset_life.proofs.LifeSteps.{Noted, then}
 use Rattle.keyset_life.proofs.Retiring.{step_of}
-use Rattle.keyset_life.proofs.Lived.{Lived, one_more}
+use Rattle.keyset_life.proofs.Lived.{Lived, base_of_none, first_state, one_more}
 use Rattle.keyset_life.proofs.Publishing.{Published, published_more}
 
 -- ---- one side meets
@@ -145,19 +144,9 @@ module _ (life : Life) (first : algorithm_first life.steps ≡ true) where
       at (Ok a) i more less = more a i
       at (Err f) i more less = less f i
 
-first_state : (P : KeySetState → Type 0) (s : KeySetState) → P s → (i : ℕ) (x : KeySetState) → slice_get (s ∷ []) i ≡ Some x → P x
-first_state P s h zero x e = let same : s ≡ x = cc in subst P same h
-first_state P s h (suc i) x e = cc
-
 none_lived : (life : Life) (name : List (List ℕ)) → life.start ≡ no_keys name → Lived life [] (no_keys name) (λ _. no_reports)
 none_lived life name e = record {
-  base = record {
-    holds = λ r. none_hold r name;
-    tags = λ p q k l f g e. cc;
-    roles = record { agree = λ q k f. cc; settled = λ q k f. cc };
-    differing = λ i x f. first_state (λ x. differ (tags_of x (present x)) ≡ true) (no_keys name) refl i x (ap (λ s. slice_get (s ∷ []) i) (sym e) ∙ f);
-    here = (0, ap (λ s. Some s) e);
-  };
+  base = base_of_none life name e;
   sides = inl (record {
     no_ds = λ i x f. first_state (λ x. is_empty (ds x) ≡ true) (no_keys name) refl i x (ap (λ s. slice_get (s ∷ []) i) (sym e) ∙ f);
     at_no_parent = λ q k f. cc;

@@ -3,3 +3,4 @@ pub mod KeyLifeRows
 pub mod Sides
 pub mod Anchors
 pub mod Meeting
+pub mod Waiting

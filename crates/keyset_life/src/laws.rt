@@ -1,6 +1,7 @@
 //! Laws of the life of keys.
 ghost use Rattle.keyset_life.specs.KeyLifeRows.{RetiresAndMeets};
 ghost use Rattle.keyset_life.specs.Meeting.{CallsMakeLives, EmptyDsSetsComeFirst, UnretiredThingsMeet};
+ghost use Rattle.keyset_life.specs.Waiting.{WaitsAreTimed};
 
 /// Whatever calls a key set has behind it, accepted and refused, where no flag and no stamp was set by hand and the first
 /// DS set came by a roll of the algorithm: what was handed out and isn't retired fits together.
@@ -16,6 +17,11 @@ pub fn empty_ds_sets_come_first()
 /// The calls of a key set make such lives: what each leaves is what the list of calls goes on from.
 pub fn calls_make_lives()
     ensures { CallsMakeLives }
+{}
+
+/// Behind all calls that set no flag and no stamp by hand, a wait counts from its report, whatever calls stand between.
+pub fn waits_are_timed()
+    ensures { WaitsAreTimed }
 {}
 
 /// Things that a zone handed out in three moments, worked through on the definitions: which are retired, and which meet.
