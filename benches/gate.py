@@ -20,12 +20,23 @@ PHASES = ("proof", "tests", "edits")
 TICKS = os.sysconf("SC_CLK_TCK")
 
 
+def is_below(entry):
+    """Whether a process was started by this one, or by one that it started."""
+    while entry not in ("0", "1"):
+        if entry == str(os.getpid()):
+            return True
+        entry = pathlib.Path(f"/proc/{entry}/stat").read_text(errors="replace").rpartition(")")[2].split()[1]
+    return False
+
+
 def prover_processes():
     """Yields each process of the prover: what tells it from others, its crate and phase, its processor seconds so far."""
     for entry in filter(str.isdigit, os.listdir("/proc")):
         try:
             words = pathlib.Path(f"/proc/{entry}/cmdline").read_text(errors="replace").split("\0")
             if not words[0].endswith("/rattle") or "--crate-name" not in words:
+                continue
+            if not is_below(entry):
                 continue
             folder = os.readlink(f"/proc/{entry}/cwd")
             times = pathlib.Path(f"/proc/{entry}/stat").read_text(errors="replace").rpartition(")")[2].split()

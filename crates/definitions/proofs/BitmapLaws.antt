@@ -17,7 +17,7 @@ use Rattle.definitions.proofs.PlainBitmaps.{behind_first, windows-first}
 
 -- ---- one octet
 
-abbrev one : Bool → ℕ
+abbrev pub one : Bool → ℕ
 one true = 1
 one false = 0
 
@@ -25,7 +25,7 @@ worth : (b : Bool) (n : ℕ) → (if b then n else 0) ≡ n * one b
 worth true n = omega arith
 worth false n = omega arith
 
-one_le : (b : Bool) → one b ≤ 1
+pub one_le : (b : Bool) → one b ≤ 1
 one_le true = omega arith
 one_le false = omega arith
 
@@ -34,16 +34,16 @@ is_one true n e = ap (λ m. m == 1) e
 is_one false n e = ap (λ m. m == 1) e
 
 -- eight bits, the first the highest
-abbrev octet : (ℕ → Bool) → ℕ
+abbrev pub octet : (ℕ → Bool) → ℕ
 octet b = 0 + (if b 0 then 128 else 0) + (if b 1 then 64 else 0) + (if b 2 then 32 else 0) + (if b 3 then 16 else 0) + (if b 4 then 8 else 0) + (if b 5 then 4 else 0) + (if b 6 then 2 else 0) + (if b 7 then 1 else 0)
 
-abbrev sum8 : ℕ → ℕ → ℕ → ℕ → ℕ → ℕ → ℕ → ℕ → ℕ
+abbrev pub sum8 : ℕ → ℕ → ℕ → ℕ → ℕ → ℕ → ℕ → ℕ → ℕ
 sum8 a b c d e f g h = 0 + 128 * a + 64 * b + 32 * c + 16 * d + 8 * e + 4 * f + 2 * g + 1 * h
 
-octet_sum : (b : ℕ → Bool) → octet b ≡ sum8 (one (b 0)) (one (b 1)) (one (b 2)) (one (b 3)) (one (b 4)) (one (b 5)) (one (b 6)) (one (b 7))
+pub octet_sum : (b : ℕ → Bool) → octet b ≡ sum8 (one (b 0)) (one (b 1)) (one (b 2)) (one (b 3)) (one (b 4)) (one (b 5)) (one (b 6)) (one (b 7))
 octet_sum b i = 0 + worth (b 0) 128 i + worth (b 1) 64 i + worth (b 2) 32 i + worth (b 3) 16 i + worth (b 4) 8 i + worth (b 5) 4 i + worth (b 6) 2 i + worth (b 7) 1 i
 
-abbrev Bits : ℕ → ℕ → ℕ → ℕ → ℕ → ℕ → ℕ → ℕ → Type 0
+abbrev pub Bits : ℕ → ℕ → ℕ → ℕ → ℕ → ℕ → ℕ → ℕ → Type 0
 Bits a b c d e f g h = (a ≤ 1) × (b ≤ 1) × (c ≤ 1) × (d ≤ 1) × (e ≤ 1) × (f ≤ 1) × (g ≤ 1) × (h ≤ 1)
 
 bit0 : (a b c d e f g h : ℕ) → Bits a b c d e f g h → sum8 a b c d e f g h / 128 % 2 ≡ a
@@ -70,7 +70,7 @@ bit6 a b c d e f g h k = omega arith
 bit7 : (a b c d e f g h : ℕ) → Bits a b c d e f g h → sum8 a b c d e f g h / 1 % 2 ≡ h
 bit7 a b c d e f g h k = omega arith
 
-below_eight : (P : ℕ → Type 0) → P 0 → P 1 → P 2 → P 3 → P 4 → P 5 → P 6 → P 7 → (j : ℕ) → j < 8 → P j
+pub below_eight : (P : ℕ → Type 0) → P 0 → P 1 → P 2 → P 3 → P 4 → P 5 → P 6 → P 7 → (j : ℕ) → j < 8 → P j
 below_eight P a b c d e f g h zero l = a
 below_eight P a b c d e f g h (suc zero) l = b
 below_eight P a b c d e f g h (suc (suc zero)) l = c
@@ -82,7 +82,7 @@ below_eight P a b c d e f g h (suc (suc (suc (suc (suc (suc (suc zero))))))) l =
 below_eight P a b c d e f g h (suc (suc (suc (suc (suc (suc (suc (suc j)))))))) l = absurd (omega arith)
 
 -- the bits of an octet are those that it was made of
-bit_at : (b : ℕ → Bool) (j : ℕ) → j < 8 → (octet b / 2 ^ (7 - j) % 2 == 1) ≡ b j
+pub bit_at : (b : ℕ → Bool) (j : ℕ) → j < 8 → (octet b / 2 ^ (7 - j) % 2 == 1) ≡ b j
 bit_at b =
     let k : Bits (one (b 0)) (one (b 1)) (one (b 2)) (one (b 3)) (one (b 4)) (one (b 5)) (one (b 6)) (one (b 7)) =
     (one_le (b 0), one_le (b 1), one_le (b 2), one_le (b 3), one_le (b 4), one_le (b 5), one_le (b 6), one_le (b 7)) in
@@ -97,10 +97,10 @@ bit_at b =
     (is_one (b 6) _ (ap (λ s. s / 2 % 2) (octet_sum b) ∙ bit6 _ _ _ _ _ _ _ _ k))
     (is_one (b 7) _ (ap (λ s. s / 1 % 2) (octet_sum b) ∙ bit7 _ _ _ _ _ _ _ _ k))
 
-abbrev in_set : List ℕ → ℕ → Bool
+abbrev pub in_set : List ℕ → ℕ → Bool
 in_set ts t = list_any (nat_eq t) ts
 
-octet_of-octet : (ts : List ℕ) (w i : ℕ) → octet_of ts w i ≡ octet (λ k. in_set ts (w * 256 + i * 8 + k))
+pub octet_of-octet : (ts : List ℕ) (w i : ℕ) → octet_of ts w i ≡ octet (λ k. in_set ts (w * 256 + i * 8 + k))
 unfolding octet_of
 octet_of-octet ts w i = refl
 
@@ -125,7 +125,7 @@ index-kept b r i = go ((b == 0) && (length r == 0)) refl
     go true e = let h : ((b == 0) ≡ true) × ((length r == 0) ≡ true) = both_true (b == 0) (length r == 0) e in index_nothing b r i (eqb-true b 0 h.0) (eqb-true (length r) 0 h.1)
     go false e = refl
 
-index-trimmed : (os : List ℕ) (i : ℕ) → slice_index (trimmed os) i ≡ slice_index os i
+pub index-trimmed : (os : List ℕ) (i : ℕ) → slice_index (trimmed os) i ≡ slice_index os i
 index-trimmed [] i = refl
 index-trimmed (b ∷ os) zero = index-kept b (trimmed os) zero
 index-trimmed (b ∷ os) (suc i) = index-kept b (trimmed os) (suc i) ∙ index-trimmed os i
@@ -145,12 +145,12 @@ pub length-window : (ts : List ℕ) (w : ℕ) → length (window_octets ts w) �
 unfolding window_size
 length-window ts w = let n : length (map (octet_of ts w) (below 32)) ≡ 32 = length-map (below 32) (octet_of ts w) in omega (arith, n, length-trimmed (map (octet_of ts w) (below 32)))
 
-length-below : (n : ℕ) → length (below n) ≡ n
+pub length-below : (n : ℕ) → length (below n) ≡ n
 length-below zero = refl
 length-below (suc n) = omega (arith, length-append (below n) (n ∷ []), length-below n)
 
 -- the item at a place of what numbers are mapped to
-index_map_below : (f : ℕ → ℕ) (n i : ℕ) → i < n → slice_index (map f (below n)) i ≡ f i
+pub index_map_below : (f : ℕ → ℕ) (n i : ℕ) → i < n → slice_index (map f (below n)) i ≡ f i
 index_map_below f zero i h = absurd (omega arith)
 index_map_below f (suc n) i h =
     let parts : map f (below (suc n)) ≡ map f (below n) ++ f n ∷ [] = map-append f (below n) (n ∷ []) in
@@ -163,7 +163,7 @@ index_map_below f (suc n) i h =
     ]
 
 -- a window's bit is set where the type is in the set
-bit-window : (ts : List ℕ) (t : ℕ) → bit_in (window_octets ts (t / 256)) t ≡ in_set ts t
+pub bit-window : (ts : List ℕ) (t : ℕ) → bit_in (window_octets ts (t / 256)) t ≡ in_set ts t
 unfolding window_size
 bit-window ts t =
     let w : ℕ = t / 256 in
@@ -180,7 +180,7 @@ bit-window ts t =
 abbrev spelled : ℕ → List ℕ → List ℕ
 spelled w os = if length os == 0 then [] else w ∷ length os ∷ os
 
-abbrev listed : ℕ → List ℕ → List (ℕ × List ℕ)
+abbrev pub listed : ℕ → List ℕ → List (ℕ × List ℕ)
 listed w os = if length os == 0 then [] else (w, os) ∷ []
 
 not_empty : (o : ℕ) (os : List ℕ) → (length (o ∷ os) == 0) ≡ false
@@ -202,7 +202,7 @@ windows-spelled w (o ∷ os) rest ws short h =
     ∙ ap (behind_first (split w (o ∷ os) rest)) h
     ∙ ap (λ b. Some ((if b then [] else (w, o ∷ os) ∷ []) ++ ws)) (sym (not_empty o os))
 
-windows-all : (f : ℕ → List ℕ) → ((w : ℕ) → length (f w) ≤ 32) → (ns : List ℕ) → windows (flat_map (λ w. spelled w (f w)) ns) ≡ Some (flat_map (λ w. listed w (f w)) ns)
+pub windows-all : (f : ℕ → List ℕ) → ((w : ℕ) → length (f w) ≤ 32) → (ns : List ℕ) → windows (flat_map (λ w. spelled w (f w)) ns) ≡ Some (flat_map (λ w. listed w (f w)) ns)
 windows-all f short [] = refl
 windows-all f short (n ∷ ns) = windows-spelled n (f n) (flat_map (λ w. spelled w (f w)) ns) (flat_map (λ w. listed w (f w)) ns) (short n) (windows-all f short ns)
 

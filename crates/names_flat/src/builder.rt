@@ -1,29 +1,14 @@
 //! Builders brought to their end, as names over the octets that they made.
 
-ghost use Rattle.std.specs.Prelude.{◌≡◌, ◌↔◌, ◌<◌, ◌++◌, length, refl, IfOk, IfErr, IsErrOf};
+ghost use Rattle.std.specs.Prelude.{◌≡◌, ◌↔◌, ◌<◌, ◌++◌, length, IfOk, IfErr, IsErrOf};
 ghost use Rattle.names_builder.specs.Building.{Building, all_labels, IsOver, with_labels};
 
 use crate::name::Name;
 use crate::relative::RelativeName;
-use arrayvec::ArrayVec;
 pub use names_builder::builder::NameBuilder;
 use names_builder::push_error::PushNameError;
 use names_labels::traits::Absolute;
-use names_wire::builder::OctetsBuilder;
-use names_wire::octets::Octets;
-
-/// Octets that are a builder's own: what it grew is what is read.
-pub trait BuiltOctets: Octets + OctetsBuilder {
-    ghost kept: { (b : Self) → Self.Octets.bytes b ≡ Self.OctetsBuilder.bytes b };
-}
-
-impl BuiltOctets for Vec<u8> {
-    ghost kept = { λ b. refl };
-}
-
-impl<const N: usize> BuiltOctets for ArrayVec<u8, N> {
-    ghost kept = { λ b. refl };
-}
+pub use names_wire::builder::BuiltOctets;
 
 /// What a builder has made, as a name.
 pub trait Finish<B: BuiltOctets>: Sized {

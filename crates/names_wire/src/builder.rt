@@ -6,6 +6,7 @@ ghost use Rattle.std.specs.Vec.{with_items, vec_len, vec_capacity};
 ghost use Rattle.arrayvec.specs.ArrayVec.{with_items as with_array_items};
 ghost use Rattle.names_wire.specs.Refill.{refilled};
 
+use crate::octets::Octets;
 use arrayvec::ArrayVec;
 use thiserror::Error;
 
@@ -126,4 +127,17 @@ impl<B: OctetsBuilder> OctetsBuilder for &mut B {
     fn as_mut_slice(&mut self) -> &mut [u8] {
         (**self).as_mut_slice()
     }
+}
+
+/// Octets that are a builder's own: what it grew is what is read.
+pub trait BuiltOctets: Octets + OctetsBuilder {
+    ghost kept: { (b : Self) → Self.Octets.bytes b ≡ Self.OctetsBuilder.bytes b };
+}
+
+impl BuiltOctets for Vec<u8> {
+    ghost kept = { λ b. refl };
+}
+
+impl<const N: usize> BuiltOctets for ArrayVec<u8, N> {
+    ghost kept = { λ b. refl };
 }

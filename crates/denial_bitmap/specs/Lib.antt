@@ -1,0 +1,6 @@
+pub mod Building
+pub mod Faults
+pub mod Laws
+pub mod Padding
+pub mod Texts
+pub mod Types

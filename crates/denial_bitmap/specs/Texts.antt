@@ -1,0 +1,9 @@
+-- Types as text (RFC 4034, 4.2).
+use Rattle.std.specs.Prelude.{ℕ, List, [], ◌∷◌, ◌++◌}
+use Rattle.names_data.specs.Types.{type_text}
+
+-- with a blank between
+abbrev pub types_text : List ℕ → List ℕ
+types_text [] = []
+types_text (t ∷ []) = type_text t
+types_text (t ∷ u ∷ ts) = type_text t ++ 32 ∷ types_text (u ∷ ts)

@@ -1,0 +1,15 @@
+//! Laws of sets of types. Each is a function without a parameter, whose contract is the law.
+
+ghost use Rattle.denial_bitmap.specs.Laws.{GivesTypesInOrder, NoTypesNoOctets};
+
+pub use definitions::laws::{bitmap_spells_its_set, equal_bitmaps_are_equal_sets};
+
+/// A built bitmap gives the types that were added, each once, ascending.
+pub fn built_bitmap_gives_its_types()
+    ensures { GivesTypesInOrder }
+{}
+
+/// No types are no octets.
+pub fn no_types_are_no_octets()
+    ensures { NoTypesNoOctets }
+{}
