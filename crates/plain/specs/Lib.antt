@@ -7,5 +7,6 @@ pub mod Records
 pub mod Refusing
 pub mod Soa
 pub mod SoaLaws
+pub mod Strips
 pub mod ZoneData
 pub mod ZoneDataLaws

@@ -9,5 +9,6 @@ pub mod numbers;
 pub mod record;
 pub mod soa;
 pub mod zone_data;
+pub mod zone_order;
 
 pub use names_data::rtype::Rtype;

@@ -150,6 +150,15 @@ impl<N> Soa<N> {
     }
 }
 
+impl<N> Soa<N> {
+    /// The octets of the five numbers.
+    pub(crate) fn numbers(&self) -> [u8; 20]
+        ensures { result ≡ times_octets self.now.times }
+    {
+        self.times.octets()
+    }
+}
+
 impl<'a> Soa<ParsedName<'a>> {
     /// Reads the data up to the parser's end. A refused call leaves the parser where it was.
     pub fn parse(parser: &mut Parser<'a>) -> Result<Self, ParseError>
