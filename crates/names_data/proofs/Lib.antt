@@ -1,0 +1,6 @@
+pub mod Lengths
+pub mod Names
+pub mod Parts
+pub mod PartCalls
+pub mod WrittenNames
+pub mod WrittenParts

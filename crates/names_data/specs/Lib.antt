@@ -1,1 +1,5 @@
+pub mod Composing
+pub mod ReadBack
+pub mod Reading
 pub mod Types
+pub mod Unknown

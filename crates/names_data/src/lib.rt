@@ -1,6 +1,13 @@
-//! Record types, the canonical order of record data, and its longest length.
+//! What record data have in common: record types, how data are read and written, their canonical order and longest
+//! length, and data of types that are not known.
 #![tactic(auto)]
 
 pub mod canonical;
+pub mod composer;
+pub mod data;
+pub mod laws;
 pub mod long;
+pub mod reading;
 pub mod rtype;
+pub mod unknown;
+pub mod unknown_order;

@@ -38,6 +38,18 @@ impl LongRecordData {
             None => Err(LongRecordData),
         }
     }
+
+    /// Refuses more than 65,535 octets in so many parts.
+    pub fn check_multi_len<const N: usize>(lens: &[usize; N]) -> Result<(), LongRecordData>
+        ensures { IsOk result ↔ (sum lens.now ≤ 65535) }
+    {
+        let mut sum = 0;
+        for &len in lens {
+            LongRecordData::check_append_len(sum, len)?;
+            sum += len;
+        }
+        Ok(())
+    }
 }
 
 impl From<LongRecordData> for ParseError {

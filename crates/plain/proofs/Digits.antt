@@ -1,8 +1,8 @@
 -- base32hex, block by block.
 use Rattle.std.proofs.lemmas.List.{take-append-drop}
 use Rattle.std.specs.Prelude.{OnOk}
-use Rattle.std.proofs.Common.{◌≡◌, ℕ, ◌+◌, ◌<◌, ◌≤◌, Result, Ok, Err, List, [], ◌∷◌, ◌++◌, length, take, drop, refl, sym, ap, ◌∙◌, arith, get_or, append_assoc, length-take-le}
-use Rattle.definitions.specs.Base32hex.{base32hex, digit}
+use Rattle.std.proofs.Common.{◌≡◌, ℕ, ◌≤◌, Result, Ok, Err, List, [], ◌∷◌, ◌++◌, length, take, drop, refl, sym, ap, ◌∙◌, arith, get_or, append_assoc, length-take-le}
+use Rattle.definitions.specs.Base32hex.{base32hex}
 use Rattle.plain.specs.Blocks.{front_digits, back_digits}
 
 -- five octets

@@ -1,5 +1,5 @@
 -- Octets of base32hex digits (RFC 4648, 7).
-use Rattle.std.specs.Prelude.{◌≡◌, ℕ, ◌+◌, ◌-◌, ◌*◌, ◌/◌, ◌%◌, Bool, ◌&&◌, ◌||◌, not, List, [], ◌∷◌, Option, Some, None, position, if◌then◌else◌, nat_le}
+use Rattle.std.specs.Prelude.{ℕ, ◌+◌, ◌-◌, ◌*◌, ◌/◌, ◌%◌, Bool, ◌&&◌, ◌||◌, not, List, [], ◌∷◌, Option, position, if◌then◌else◌, nat_le}
 
 -- 0 to 9 and a to v
 abbrev pub is_digit : ℕ → Bool

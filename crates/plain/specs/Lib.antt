@@ -1,4 +1,12 @@
 pub mod Blocks
 pub mod Classes
 pub mod Decoding
+pub mod Ns
+pub mod NsLaws
+pub mod Records
 pub mod Refusing
+pub mod Soa
+pub mod SoaLaws
+pub mod Strips
+pub mod ZoneData
+pub mod ZoneDataLaws

@@ -1,0 +1,12 @@
+use Rattle.std.proofs.Common.{◌≡◌, List, ℕ, ◌++◌, subst}
+use Rattle.std.specs.Prelude.{OnOk}
+use Rattle.names_data.proofs.Names.{lowered_is_wire}
+use Rattle.names_data.proofs.composer.compose_canonical_name.Goals as goal
+
+pub returns-clause-ok : goal.returns-clause-ok
+returns-clause-ok g c =
+    let old = g.B.OctetsBuilder.bytes c.args.target.now in
+    let new = g.B.OctetsBuilder.bytes c.compose_labels.new.target in
+    let n = c.args.name.now in
+    let P : List ℕ → Type 0 = λ octets. OnOk c.compose_labels.result (new ≡ old ++ octets) in
+    subst P (lowered_is_wire (g.N.Labels.labels n) (g.N.Labels.name n) (g.met.N.Absolute.rooted n)) c.compose_labels.ensures.ok

@@ -1,0 +1,111 @@
+//! Targets that messages are written to, and names written there (RFC 1035, 3.1).
+
+ghost use Rattle.std.specs.Prelude.{◌≡◌, ◌++◌, false, take, map, OnOk, OnErr};
+ghost use Rattle.definitions.specs.Name.{low, wire};
+ghost use Rattle.names_wire.specs.Label.{octets_of, wire_label};
+ghost use Rattle.names_labels.specs.Flat.{spelled};
+ghost use Rattle.names_labels.specs.Order.{in_case};
+
+use arrayvec::ArrayVec;
+use names_labels::order::Case;
+use names_labels::traits::{Absolute, Labels, ToLabelIter};
+use names_wire::builder::{OctetsBuilder, ShortBuf};
+use names_wire::label::Label;
+
+/// A target that messages are written to. None of them compresses names.
+pub trait Composer: OctetsBuilder {
+    /// Whether names are compressed.
+    fn can_compress(&self) -> bool
+        ensures { result ≡ false }
+    {
+        false
+    }
+
+    /// Appends a name in wire form, in full. A refused call leaves the target as it was.
+    fn append_compressed_name<N: Absolute>(&mut self, name: &N) -> Result<(), ShortBuf>
+        ensures ok { OnOk result (Self.bytes self.new ≡ Self.bytes self.old ++ wire (N.name name.now)) }
+        ensures err { OnErr result (Self.bytes self.new ≡ Self.bytes self.old) }
+    {
+        compose_name(name, self)
+    }
+}
+
+impl Composer for Vec<u8> {}
+
+impl<const N: usize> Composer for ArrayVec<u8, N> {}
+
+impl<B: Composer> Composer for &mut B {}
+
+/// Appends a name in wire form, in full. A refused call leaves the target as it was.
+pub fn compose_name<N: Absolute, B: OctetsBuilder>(name: &N, target: &mut B) -> Result<(), ShortBuf>
+    ensures ok { OnOk result (B.bytes target.new ≡ B.bytes target.old ++ wire (N.name name.now)) }
+    ensures err { OnErr result (B.bytes target.new ≡ B.bytes target.old) }
+{
+    match name.label_row() {
+        Some(row) => target.append_slice(row),
+        None => compose_labels(name, target, Case::Kept),
+    }
+}
+
+/// As `compose_name`, with ASCII letters lowered (RFC 4034, 6.2).
+pub fn compose_canonical_name<N: Absolute, B: OctetsBuilder>(
+    name: &N,
+    target: &mut B,
+) -> Result<(), ShortBuf>
+    ensures ok { let octets = wire (low (N.name name.now)) in
+        OnOk result (B.bytes target.new ≡ B.bytes target.old ++ octets) }
+    ensures err { OnErr result (B.bytes target.new ≡ B.bytes target.old) }
+{
+    compose_labels(name, target, Case::Lowered)
+}
+
+/// Appends the labels in a row, the root's last, or nothing.
+fn compose_labels<N: Absolute, B: OctetsBuilder>(
+    name: &N,
+    target: &mut B,
+    case: Case,
+) -> Result<(), ShortBuf>
+    ensures ok { let octets = spelled (map (in_case case) (N.labels name.now)) in
+        OnOk result (B.bytes target.new ≡ B.bytes target.old ++ octets) }
+    ensures err { OnErr result (B.bytes target.new ≡ B.bytes target.old) }
+{
+    let (len, mut labels) = (target.as_slice().len(), name.iter_labels());
+    while let Some(label) = labels.next() {
+        if let Err(error) = compose_label(label, target, case) {
+            target.truncate(len);
+            return Err(error);
+        }
+    }
+    Ok(())
+}
+
+fn compose_label<B: OctetsBuilder>(
+    label: Label<'_>,
+    target: &mut B,
+    case: Case,
+) -> Result<(), ShortBuf>
+    ensures ok { let octets = wire_label (in_case case (octets_of label.entry)) in
+        OnOk result (B.bytes target.new ≡ B.bytes target.old ++ octets) }
+    ensures err { OnErr result (B.bytes target.new ≡ B.bytes target.old) }
+{
+    match case {
+        Case::Kept => label.compose(target),
+        Case::Lowered => label.compose_canonical(target),
+    }
+}
+
+/// What was appended behind so many octets is taken back where that was refused.
+pub fn or_undone<B: OctetsBuilder>(
+    target: &mut B,
+    len: usize,
+    done: Result<(), ShortBuf>,
+) -> Result<(), ShortBuf>
+    ensures same { result ≡ done }
+    ensures ok { OnOk result (B.bytes target.new ≡ B.bytes target.old) }
+    ensures err { OnErr result (B.bytes target.new ≡ take len (B.bytes target.old)) }
+{
+    if done.is_err() {
+        target.truncate(len);
+    }
+    done
+}
