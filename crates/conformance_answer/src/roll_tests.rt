@@ -35,16 +35,7 @@ fn publisher(alloc: Global) -> Result<Publisher<'static, TestScheme, TestScheme>
         Ttl::from_secs(3600),
         ZoneRecordData::Soa(soa),
     ))?;
-    Ok(Publisher::new(
-        alloc,
-        name(alloc)?,
-        records,
-        Mode::Nsec,
-        WELL,
-        WELL,
-        0,
-        100,
-    )?)
+    Ok(Publisher::new(alloc, name(alloc)?, records, Mode::Nsec, WELL, WELL, 0, 100)?)
 }
 
 #[test]

@@ -1,3 +1,4 @@
 pub mod InputLemmas
 pub mod PrintLemmas
 pub mod RunLemmas
+pub mod RunStatus

@@ -1,5 +1,5 @@
 -- What a read adds to an input.
-use Rattle.std.specs.Prelude.{◌≡◌, ℕ, List, ◌++◌, Option}
+use Rattle.std.specs.Prelude.{◌≡◌, ℕ, List, ◌++◌, length, Option}
 use Rattle.std.specs.Io.KnownBytes.{Consumes, IsAtEnd}
 
 -- what was consumed stands behind what was there; where it was nothing, the reader is at its end
@@ -7,4 +7,5 @@ pub record ReadsOn (before after : Option (List ℕ)) (old new : List ℕ) (coun
   pub octets : List ℕ
   pub consumed : Consumes before after octets
   pub added : new ≡ old ++ octets
+  pub size : length octets ≡ count
   pub at_end : count ≡ 0 → IsAtEnd after

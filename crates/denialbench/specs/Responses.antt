@@ -57,3 +57,7 @@ abbrev pub Responds : List ℕ → Status → List ℕ → Type 0
 Responds input Done text = (s : Session) × (session_of input ≡ Ok s) × PrintsSession s.zone s.records s.events text
 Responds input BadLine text = (n : ℕ) × (session_of input ≡ Err n) × (text ≡ refused_line n)
 Responds input Fault text = ⊥
+
+-- some line can't be read
+abbrev pub IsUnreadable : List ℕ → Type 0
+IsUnreadable input = (n : ℕ) × (session_of input ≡ Err n)

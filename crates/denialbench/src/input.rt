@@ -1,5 +1,5 @@
 //! Reading a whole input.
-ghost use Rattle.std.specs.Prelude.{◌≡◌, ℕ, ◌++◌, List, IfOk, IfSome};
+ghost use Rattle.std.specs.Prelude.{◌≡◌, ◌≢◌, ◌≤◌, ℕ, ◌++◌, List, length, Err, IfErr, IfOk, IfSome};
 ghost use Rattle.std.specs.Io.KnownBytes.{Consumes, IsAtEnd};
 ghost use Rattle.denialbench.specs.Input.{ReadsOn};
 
@@ -36,13 +36,16 @@ impl From<AllocError> for InputError {
     }
 }
 
-/// Reads to the end, by at most 1,048,576 calls of `read`. A read that fails is not made again.
+/// Reads to the end, by at most 1,048,576 calls of `read`, each of which but the last gives some octets. A read that
+/// fails is not made again.
 pub fn read_all<R: Read>(alloc: Global, reader: &mut R) -> Result<Vec<u8>, InputError>
-    ensures { IfOk result (λ v. IfSome (R.remaining reader.old) (λ xs. v.items ≡ xs)) }
+    ensures whole { IfOk result (λ v. IfSome (R.remaining reader.old) (λ xs. v.items ≡ xs)) }
+    ensures endless { result ≡ Err InputError.Endless
+        → IfSome (R.remaining reader.old) (λ xs. 1048576 ≤ length xs) }
 {
     let mut chunk = [0; CHUNK];
     let mut input = Vec::new(alloc);
-    for _ in 0..MAX_READS {
+    for _reads in 0..MAX_READS {
         if read_some(reader, &mut chunk, &mut input)? == 0 {
             return Ok(input);
         }
@@ -56,8 +59,9 @@ fn read_some<R: Read>(
     chunk: &mut [u8; CHUNK],
     input: &mut Vec<u8>,
 ) -> Result<usize, InputError>
-    ensures { IfOk result (ReadsOn (R.remaining reader.old)
+    ensures reads { IfOk result (ReadsOn (R.remaining reader.old)
         (R.remaining reader.new) input.old.items input.new.items) }
+    ensures fault { IfErr result (λ e. e ≢ InputError.Endless) }
 {
     let Ok(count) = reader.read(chunk) else {
         return Err(InputError::Reader);

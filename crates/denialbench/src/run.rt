@@ -1,12 +1,12 @@
 //! A run of the bench: from what a reader gives to what a writer takes.
-ghost use Rattle.std.specs.Prelude.{◌≡◌, ◌≢◌, ℕ, List, [], ◌∷◌, ◌++◌, map, codes, OnOk, IfOk, IfSome, string_bytes};
+ghost use Rattle.std.specs.Prelude.{◌≡◌, ◌≢◌, ◌↔◌, ℕ, List, [], ◌∷◌, ◌++◌, map, codes, OnOk, IfOk, IfSome, string_bytes};
 ghost use Rattle.std.specs.List.{flat_map};
 ghost use Rattle.std.specs.Io.KnownBytes.{Appends};
 ghost use Rattle.records.specs.HandedRr.{handed_of};
 ghost use Rattle.session_lines.specs.Readings.{zone_view, event_view};
 ghost use Rattle.denialbench.specs.Names.{zone_fault_name};
 ghost use Rattle.denialbench.specs.Printed.{outcome_text};
-ghost use Rattle.denialbench.specs.Responses.{Responds, PrintsSession, refused_line};
+ghost use Rattle.denialbench.specs.Responses.{IsUnreadable, Responds, PrintsSession, refused_line};
 
 use crate::input::read_all;
 use crate::named::Named;
@@ -32,10 +32,13 @@ pub struct Response {
 ///
 /// Where a line cannot be read, one line with its number is all that is written. Nothing is written before the
 /// whole input is read and answered.
+#[tactic(auto, using(crate::proofs::RunStatus::told_of))]
 pub fn run<R: Read, W: Write>(alloc: Global, reader: &mut R, writer: &mut W) -> Status
-    ensures { result ≢ Status.Fault
+    ensures writes { result ≢ Status.Fault
         → IfSome (R.remaining reader.old) (λ input. (text : List ℕ) × Responds input result text
         × Appends (W.contents writer.old) (W.contents writer.new) text) }
+    ensures lines { result ≢ Status.Fault → IfSome (R.remaining reader.old)
+        (λ input. (result ≡ Status.BadLine) ↔ IsUnreadable input) }
 {
     let Ok(input) = read_all(alloc, reader) else {
         return Status::Fault;

@@ -45,7 +45,8 @@ pub fn wire_name(alloc: Global, octets: &[u8]) -> Result<Name, LineError>
 /// What a key is called: text without a comma, neither empty nor `-`.
 pub fn reference(alloc: Global, field: &str) -> Result<String, LineError>
     ensures ok { IfOk result (λ s. string_bytes s ≡ field.now) }
-    ensures unreadable { IsErrOf result LineError.Unreadable ↔ (is_reference field.now ≡ false) }
+    ensures unreadable { IsErrOf result LineError.Unreadable
+        ↔ (is_reference field.now ≡ false) }
 {
     if field == "-" || field.is_empty() || field.as_bytes().contains(&b',') {
         return Err(LineError::Unreadable);
