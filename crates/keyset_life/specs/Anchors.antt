@@ -41,7 +41,7 @@ pub record Since (begins : Call → Bool) (steps : List Step) (test : KeySetStat
 abbrev pub HasKey : KeySetState → Reference → (KeyType → Bool) → Type 0
 HasKey s q test = (k : Key) × (key_of s q ≡ Some k) × (test k.roles ≡ true)
 
--- No roll is under way on the side: one key, the anchor, is in all that is live on both ends.
+-- One key, the anchor, is in all that is live of both things of a side, and in both now.
 pub record Anchored (side : Side) (life : Life) (steps : List Step) (s : KeySetState) (q : Reference) : Type 0 where
   pub keys : Live life DnskeyAnswer steps (shows side DnskeyAnswer q)
   pub ends : Live life (partner side) steps (shows side (partner side) q)
@@ -53,6 +53,7 @@ rests None = true
 rests (Some state.Done) = true
 rests _ = false
 
+-- No roll of the side is between its start and its second wait: there is an anchor.
 pub record Resting (side : Side) (life : Life) (steps : List Step) (s : KeySetState) : Type 0 where
   pub anchor : Reference
   pub anchored : Anchored side life steps s anchor
@@ -115,6 +116,7 @@ pub record Doubled (side : Side) (r : RollType) (life : Life) (steps : List Step
   pub in_ends : HasKey s n (is_shown side (partner side))
   pub waits : is_second (phase_of s r) ≡ true
 
+-- behind the first wait of a roll, of either kind
 pub record Switched (side : Side) (r : RollType) (life : Life) (steps : List Step) (s : KeySetState) (p : Reports) : Type 0 where
   pub on : is_on side r ≡ true
   pub new : Reference

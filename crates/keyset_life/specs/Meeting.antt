@@ -26,8 +26,9 @@ algorithm_first (t ∷ ts) = is_start AlgorithmRoll t.call || (not (starts_from_
 abbrev pub by_then : ℕ → List (ℕ × Call) → Bool
 by_then moment cs = list_all (λ c. nat_le c.0 moment) cs
 
--- Whatever calls a key set has behind it, accepted and refused, none of which set a flag or a stamp by hand: a DS set that isn't
--- empty, a DNSKEY answer and an answer of the zone, each of some state, meet where none of the three is retired.
+-- Whatever calls a key set has behind it, accepted and refused, by this moment, none of which set a flag or a stamp by hand or
+-- started a roll of KSKs or CSKs before one of the algorithm: a DS set that isn't empty, a DNSKEY answer and an answer of the zone,
+-- each of some state, meet where none of the three is retired at the moment (RFC 6781, section 4.1; RFC 7583).
 abbrev pub UnretiredThingsMeet : Type 0
 UnretiredThingsMeet = (name : List (List ℕ)) (cs : List (ℕ × Call)) (moment i j k : ℕ) (x y z : KeySetState) → by_rolls_alone cs ≡ true → by_then moment cs ≡ true →
     let s = no_keys name in
@@ -37,7 +38,8 @@ UnretiredThingsMeet = (name : List (List ℕ)) (cs : List (ℕ × Call)) (moment
     → retired DsSet s ts i moment ≡ false → retired DnskeyAnswer s ts j moment ≡ false → retired ZoneAnswer s ts k moment ≡ false
     → is_empty (ds x) ≡ false → meet x y z ≡ true
 
--- An empty DS set is that of a state before the first wait of the first roll of the algorithm.
+-- Behind such calls an empty DS set is that of a state before the first wait of the first roll of the algorithm: that wait is not
+-- among the calls before it.
 abbrev pub EmptyDsSetsComeFirst : Type 0
 EmptyDsSetsComeFirst = (name : List (List ℕ)) (cs : List (ℕ × Call)) (i : ℕ) (x : KeySetState) → by_rolls_alone cs ≡ true →
     let s = no_keys name in

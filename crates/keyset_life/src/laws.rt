@@ -3,8 +3,8 @@ ghost use Rattle.keyset_life.specs.KeyLifeRows.{RetiresAndMeets};
 ghost use Rattle.keyset_life.specs.Meeting.{CallsMakeLives, EmptyDsSetsComeFirst, UnretiredThingsMeet};
 ghost use Rattle.keyset_life.specs.Waiting.{WaitsAreTimed};
 
-/// Whatever calls a key set has behind it, accepted and refused, where no flag and no stamp was set by hand and the first
-/// DS set came by a roll of the algorithm: what was handed out and isn't retired fits together.
+/// Whatever calls a key set has behind it, accepted and refused, where no flag and no stamp was set by hand and the
+/// first DS set came by a roll of the algorithm: what was handed out and isn't retired fits together.
 pub fn unretired_things_meet()
     ensures { UnretiredThingsMeet }
 {}
@@ -24,7 +24,8 @@ pub fn waits_are_timed()
     ensures { WaitsAreTimed }
 {}
 
-/// Things that a zone handed out in three moments, worked through on the definitions: which are retired, and which meet.
+/// Things that a zone handed out in three moments, worked through on the definitions: which are retired, and which
+/// meet.
 pub fn things_by_hand()
     ensures { RetiresAndMeets }
 {}

@@ -6,6 +6,8 @@ mod algorithm;
 #[cfg(test)]
 mod keys;
 #[cfg(test)]
+mod lives;
+#[cfg(test)]
 mod refusal_tests;
 #[cfg(test)]
 mod rolls;
