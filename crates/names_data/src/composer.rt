@@ -23,7 +23,8 @@ pub trait Composer: OctetsBuilder {
 
     /// Appends a name in wire form, in full. A refused call leaves the target as it was.
     fn append_compressed_name<N: Absolute>(&mut self, name: &N) -> Result<(), ShortBuf>
-        ensures ok { OnOk result (Self.bytes self.new ≡ Self.bytes self.old ++ wire (N.name name.now)) }
+        ensures ok { let octets = wire (N.name name.now) in
+            OnOk result (Self.bytes self.new ≡ Self.bytes self.old ++ octets) }
         ensures err { OnErr result (Self.bytes self.new ≡ Self.bytes self.old) }
     {
         compose_name(name, self)

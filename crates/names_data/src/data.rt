@@ -49,12 +49,14 @@ pub trait ComposeRecordData: RecordData {
 
     /// As `compose_rdata`, in canonical form (RFC 4034, 6.2).
     fn compose_canonical_rdata<B: Composer>(&self, target: &mut B) -> Result<(), ShortBuf>
-        ensures ok { OnOk result (B.bytes target.new ≡ B.bytes target.old ++ Self.canonical_rdata self.now) }
+        ensures ok { let octets = Self.canonical_rdata self.now in
+            OnOk result (B.bytes target.new ≡ B.bytes target.old ++ octets) }
         ensures err { OnErr result (B.bytes target.new ≡ B.bytes target.old) };
 
     /// As `compose_rdata`, the octets behind their number in two octets (RFC 1035, 3.2.1).
     fn compose_len_rdata<B: Composer>(&self, target: &mut B) -> Result<(), ShortBuf>
-        ensures ok { OnOk result (B.bytes target.new ≡ B.bytes target.old ++ with_length (Self.rdata self.now)) }
+        ensures ok { let octets = with_length (Self.rdata self.now) in
+            OnOk result (B.bytes target.new ≡ B.bytes target.old ++ octets) }
         ensures err { OnErr result (B.bytes target.new ≡ B.bytes target.old) }
     {
         let Some(len) = self.rdlen(target.can_compress()) else {
@@ -70,7 +72,8 @@ pub trait ComposeRecordData: RecordData {
 
     /// As `compose_len_rdata`, in canonical form.
     fn compose_canonical_len_rdata<B: Composer>(&self, target: &mut B) -> Result<(), ShortBuf>
-        ensures ok { OnOk result (B.bytes target.new ≡ B.bytes target.old ++ with_length (Self.canonical_rdata self.now)) }
+        ensures ok { let octets = with_length (Self.canonical_rdata self.now) in
+            OnOk result (B.bytes target.new ≡ B.bytes target.old ++ octets) }
         ensures err { OnErr result (B.bytes target.new ≡ B.bytes target.old) }
     {
         let Some(len) = self.rdlen(false) else {
@@ -97,7 +100,8 @@ pub trait ParseRecordData<'a>: RecordData + Sized {
     /// Reads the data up to the parser's end, or nothing where they are of another type. A refused call leaves the
     /// parser where it was.
     fn parse_rdata(rtype: Rtype, parser: &mut Parser<'a>) -> Result<Option<Self>, ParseError>
-        ensures read { ReadsType (is_read rtype) (reading rtype parser.old) Self.rdata parser.old parser.new result }
+        ensures read { let found = reading rtype parser.old in
+            ReadsType (is_read rtype) found Self.rdata parser.old parser.new result }
         ensures typed { IfOk result (λ found. IfSome found (λ d. Self.type_of d ≡ rtype)) };
 }
 
@@ -108,7 +112,8 @@ pub trait ParseAnyRecordData<'a>: RecordData + Sized {
 
     /// Reads the data up to the parser's end. A refused call leaves the parser where it was.
     fn parse_any_rdata(rtype: Rtype, parser: &mut Parser<'a>) -> Result<Self, ParseError>
-        ensures read { ReadsData (any_reading rtype parser.old) Self.rdata parser.old parser.new result }
+        ensures read { let found = any_reading rtype parser.old in
+            ReadsData found Self.rdata parser.old parser.new result }
         ensures typed { IfOk result (λ d. Self.type_of d ≡ rtype) };
 }
 

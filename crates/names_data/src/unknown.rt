@@ -77,7 +77,8 @@ impl<'a> UnknownRecordData<&'a [u8]> {
     /// Reads all octets up to the parser's end as data of the type. More than 65,535 are refused, and a refused call
     /// leaves the parser where it was.
     pub fn parse_any_rdata(rtype: Rtype, parser: &mut Parser<'a>) -> Result<Self, ParseError>
-        ensures read { ReadsData (data_at (limited rest_part) parser.old) (λ d. d.octets) parser.old parser.new result }
+        ensures read { let found = data_at (limited rest_part) parser.old in
+            ReadsData found (λ d. d.octets) parser.old parser.new result }
         ensures typed { IfOk result (λ d. d.rtype ≡ rtype) }
     {
         let _message = parser.as_slice();

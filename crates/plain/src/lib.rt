@@ -1,5 +1,5 @@
-//! Records: owner, class, TTL, and data of SOA, NS and other types; the numbers of the domain name system, with names of
-//! their own; and hashes as text.
+//! Records: owner, class, TTL, and data of SOA, NS and other types; the numbers of the domain name system, with names
+//! of their own; and hashes as text.
 #![tactic(auto)]
 
 pub mod base32hex;

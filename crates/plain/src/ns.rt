@@ -43,7 +43,8 @@ impl<N> Ns<N> {
 impl<'a> Ns<ParsedName<'a>> {
     /// Reads the data up to the parser's end. A refused call leaves the parser where it was.
     pub fn parse(parser: &mut Parser<'a>) -> Result<Self, ParseError>
-        ensures { ReadsData (data_at name_part parser.old) (ns_octets parsed_name) parser.old parser.new result }
+        ensures { let found = data_at name_part parser.old in
+            ReadsData found (ns_octets parsed_name) parser.old parser.new result }
     {
         let (_message, start) = (parser.as_slice(), parser.pos());
         let found = parse_fields(parser);

@@ -162,7 +162,8 @@ impl<N> Soa<N> {
 impl<'a> Soa<ParsedName<'a>> {
     /// Reads the data up to the parser's end. A refused call leaves the parser where it was.
     pub fn parse(parser: &mut Parser<'a>) -> Result<Self, ParseError>
-        ensures { ReadsData (data_at soa_part parser.old) (soa_octets parsed_name) parser.old parser.new result }
+        ensures { let found = data_at soa_part parser.old in
+            ReadsData found (soa_octets parsed_name) parser.old parser.new result }
     {
         let (_message, start) = (parser.as_slice(), parser.pos());
         let found = parse_fields(parser);
@@ -225,8 +226,10 @@ impl<N: ToName> ComposeRecordData for Soa<N> {
 
 /// Appends the fields; those that there is room for, where it is refused.
 fn compose_fields<N: ToName, B: Composer>(soa: &Soa<N>, target: &mut B) -> Result<(), ShortBuf>
-    ensures ok { OnOk result (B.bytes target.new ≡ B.bytes target.old ++ soa_octets N.name soa.now) }
-    ensures err { OnErr result (take (length (B.bytes target.old)) (B.bytes target.new) ≡ B.bytes target.old) }
+    ensures ok { let octets = soa_octets N.name soa.now in
+        OnOk result (B.bytes target.new ≡ B.bytes target.old ++ octets) }
+    ensures err { let old = B.bytes target.old in
+        OnErr result (take (length old) (B.bytes target.new) ≡ old) }
 {
     target.append_compressed_name(&soa.mname)?;
     target.append_compressed_name(&soa.rname)?;
@@ -238,8 +241,10 @@ fn compose_canonical_fields<N: ToName, B: Composer>(
     soa: &Soa<N>,
     target: &mut B,
 ) -> Result<(), ShortBuf>
-    ensures ok { OnOk result (B.bytes target.new ≡ B.bytes target.old ++ soa_canonical N.name soa.now) }
-    ensures err { OnErr result (take (length (B.bytes target.old)) (B.bytes target.new) ≡ B.bytes target.old) }
+    ensures ok { let octets = soa_canonical N.name soa.now in
+        OnOk result (B.bytes target.new ≡ B.bytes target.old ++ octets) }
+    ensures err { let old = B.bytes target.old in
+        OnErr result (take (length old) (B.bytes target.new) ≡ old) }
 {
     compose_canonical_name(&soa.mname, target)?;
     compose_canonical_name(&soa.rname, target)?;

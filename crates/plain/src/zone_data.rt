@@ -34,7 +34,8 @@ pub enum ZoneRecordData<Octs: Octets, N> {
 impl<'a> ZoneRecordData<&'a [u8], ParsedName<'a>> {
     /// Reads the data up to the parser's end. A refused call leaves the parser where it was.
     pub fn parse(rtype: Rtype, parser: &mut Parser<'a>) -> Result<Self, ParseError>
-        ensures read { ReadsData (data_at (zone_part rtype) parser.old) (zone_octets parsed_name) parser.old parser.new result }
+        ensures read { let found = data_at (zone_part rtype) parser.old in
+            ReadsData found (zone_octets parsed_name) parser.old parser.new result }
         ensures typed { IfOk result (λ d. zone_type d ≡ rtype) }
     {
         match rtype.to_int() {

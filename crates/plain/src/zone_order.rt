@@ -1,5 +1,5 @@
-//! The canonical order of the data of a zone's records (RFC 4034, 6.3): that of their octets in canonical form, which are
-//! not written for it.
+//! The canonical order of the data of a zone's records (RFC 4034, 6.3): that of their octets in canonical form, which
+//! are not written for it.
 
 ghost use Rattle.std.specs.Prelude.{◌≡◌};
 ghost use Rattle.std.specs.Ordering.{nat_cmp};
@@ -60,7 +60,8 @@ fn ns_with_octets<N: ToName>(ns: &Ns<N>, octets: &[u8]) -> Ordering
 }
 
 fn soa_with_ns<N: ToName>(soa: &Soa<N>, ns: &Ns<N>) -> Ordering
-    ensures { result ≡ slice_cmp nat_cmp (soa_canonical N.name soa.now) (ns_canonical N.name ns.now) }
+    ensures { let name = N.name in
+        result ≡ slice_cmp nat_cmp (soa_canonical name soa.now) (ns_canonical name ns.now) }
 {
     let _counts = (soa.mname().label_count(), ns.nsdname().label_count());
     soa.mname()
