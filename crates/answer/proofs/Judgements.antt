@@ -199,22 +199,22 @@ called w ms h s t c at acts known e same = record {
   led = led_more w h.calls s.keys t.keys c at acts known.led e;
   moments = subst (Stand (IsShown w) ms) (sym same) known.moments;
   places =
-    let P = IsPlaced w h.calls s.keys in
-    let Q = IsPlaced w (h.calls ++ (at, set_call c at) ∷ []) t.keys in
-    subst (Stand Q h.shown) (sym same) (stand_so P Q h.shown s.shown (placed_more w h.calls s.keys t.keys c at acts known.led e) known.places);
+      let P = IsPlaced w h.calls s.keys in
+      let Q = IsPlaced w (h.calls ++ (at, set_call c at) ∷ []) t.keys in
+      subst (Stand Q h.shown) (sym same) (stand_so P Q h.shown s.shown (placed_more w h.calls s.keys t.keys c at acts known.led e) known.places);
 }
 
 shows : (w : World) (ms : List Moment) (h : History) (s t : Sofar) (at : ℕ) (x : Shown) → IsKnown w ms h s → ThingIs w (moment s.keys at) x → t ≡ record s { shown = s.shown ++ x ∷ [] } → IsKnown w (ms ++ moment s.keys at ∷ []) (with_thing h at) t
 shows w ms h s t at x known is e = subst (IsKnown w (ms ++ moment s.keys at ∷ []) (with_thing h at)) (sym e) (record {
-      led = known.led;
-      moments = one_more (IsShown w) ms s.shown (moment s.keys at) x known.moments (known.led.left, is);
-      places = one_more (IsPlaced w h.calls s.keys) h.shown s.shown (record { behind = length h.calls; at = at }) x known.places (record {
-        keys = s.keys;
-        shown = (known.led.left, is);
-        past = record { own = known.led.left.own; held = known.led.held; stays = stay_here s.keys.bound };
-        state = reached_at (no_keys w.zone.apex) s.keys.keys h.calls known.led.reach;
-      });
-    })
+  led = known.led;
+  moments = one_more (IsShown w) ms s.shown (moment s.keys at) x known.moments (known.led.left, is);
+  places = one_more (IsPlaced w h.calls s.keys) h.shown s.shown (record { behind = length h.calls; at = at }) x known.places (record {
+    keys = s.keys;
+    shown = (known.led.left, is);
+    past = record { own = known.led.left.own; held = known.led.held; stays = stay_here s.keys.bound };
+    state = reached_at (no_keys w.zone.apex) s.keys.keys h.calls known.led.reach;
+  });
+})
 
 stays : (w : World) (ms : List Moment) (h : History) (s t : Sofar) → IsKnown w ms h s → t ≡ s → IsKnown w ms h t
 stays w ms h s t known e = subst (IsKnown w ms h) (sym e) known

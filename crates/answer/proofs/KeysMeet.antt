@@ -1,5 +1,5 @@
 -- Keys of three states meet where their references do.
-use Rattle.std.proofs.Common.{◌≡◌, ℕ, Bool, true, false, cond, ◌&&◌, List, [], ◌∷◌, map, refl, sym, ap, subst, ◌∙◌, T, inl, inr, ⊎_elim}
+use Rattle.std.proofs.Common.{◌≡◌, Bool, true, false, cond, ◌&&◌, List, [], ◌∷◌, map, refl, sym, ap, subst, ◌∙◌, T, inl, inr, ⊎_elim}
 use Rattle.std.specs.Prelude.{Option, Some, None}
 use Rattle.std.specs.List.{filter, list_any}
 use Rattle.std.specs.Str.{bytes_eq}
@@ -7,9 +7,9 @@ use Rattle.std.specs.Cmp.Lexicographic.{bytes_decides}
 use Rattle.std.specs.Ordering.{eq_by_cmp}
 use Rattle.std.specs.FinMap.Entries.{find, is_sorted}
 use Rattle.std.proofs.lemmas.Bool.{and_parts, false_from_ne_true, false≢true}
-use Rattle.definitions.specs.Dnskey.{Dnskey, Ds}
+use Rattle.definitions.specs.Dnskey.{Dnskey}
 use Rattle.keyset_keys.specs.declared.keys.KeyType.{KeyType}
-use Rattle.keyset.specs.KeyState.{Key, KeySetState, Reference, ds, key_of, keysigners, listed, present, reference_cmp, references_where, zonesigners}
+use Rattle.keyset.specs.KeyState.{Key, Reference, ds, key_of, keysigners, listed, present, reference_cmp, references_where, zonesigners}
 use Rattle.keyset.proofs.KeyFinds.{first_found, is_same, later, sorted_rest}
 use Rattle.keyset_life.specs.KeyLife.{differ, meet, tags_of}
 use Rattle.keyset_life.specs.Sides.{is_empty}
