@@ -41,11 +41,11 @@ bound_of b (Ok r) = r.0.bound
 bound_of b (Err e) = b
 
 -- what a call on the key set leaves bound
-bound_by : (b : List (Reference × BoundKey)) (a : Answer) (t : ZoneKeys) (acts : List Action) → lifted b a ≡ Ok (t, acts) → t.bound ≡ b
+pub bound_by : (b : List (Reference × BoundKey)) (a : Answer) (t : ZoneKeys) (acts : List Action) → lifted b a ≡ Ok (t, acts) → t.bound ≡ b
 bound_by b (Ok a) t acts e = ap (bound_of b) (sym e)
 bound_by b (Err f) t acts e = ap (bound_of b) (sym e)
 
-abbrev by_digest : ZoneKeys → Reference → Dnskey → Answer → Option (List ℕ) → Outcome
+abbrev pub by_digest : ZoneKeys → Reference → Dnskey → Answer → Option (List ℕ) → Outcome
 by_digest s q k a None = Err bindings.DigestFailed
 by_digest s q k a (Some d) = lifted (bindings.bind q (record { key = k; digest = d }) s.bound) a
 

@@ -13,6 +13,8 @@ pub mod WritesGiven
 pub mod KeyLife
 pub mod KeyTags
 pub mod KeyTagsPublished
-pub mod OneStateGiven
-pub mod OneState
+pub mod KeyHistory
+pub mod KeysMeet
+pub mod GivenThings
+pub mod Judgements
 pub mod SignRecords

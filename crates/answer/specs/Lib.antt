@@ -7,6 +7,7 @@ pub mod Publishing
 pub mod Simulating
 pub mod Running
 pub mod OneState
+pub mod ThroughRolls
 pub mod Composed
 pub mod AnswerFaults
 pub mod Events

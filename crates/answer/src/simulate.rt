@@ -9,6 +9,7 @@ ghost use Rattle.records.specs.HandedRr.{handed_of};
 ghost use Rattle.answer.specs.Events.{added_octets};
 ghost use Rattle.answer.specs.OneState.{SaysVerdicts};
 ghost use Rattle.answer.specs.Simulating.{Sofar, Simulates, begin};
+ghost use Rattle.answer.specs.ThroughRolls.{VerdictsHoldThroughRolls};
 ghost use Rattle.answer.specs.World.{world_by, zone_by};
 
 use crate::event::{Event, Outcome};
@@ -52,6 +53,11 @@ pub fn simulate<S: Scheme, H: Nsec3Hasher>(
         let by = world_by S.signature_of S.verifies S.digest_of H.hash_of scheme.now hasher.now in
         let w = by (zone_by apex (mode_of mode) limit rs) life in
         IfOk result (λ outcomes. SaysVerdicts w rs events.now outcomes.items) }
+    // So does one of things of any three states, none of them retired, beside a DS set that isn't empty.
+    ensures through_rolls { let rs = map handed_of records.items in
+        let by = world_by S.signature_of S.verifies S.digest_of H.hash_of scheme.now hasher.now in
+        let w = by (zone_by apex (mode_of mode) limit rs) life in
+        IfOk result (λ outcomes. VerdictsHoldThroughRolls w rs events.now outcomes.items) }
     ensures accepted { let rs = map handed_of records.items in
         IfOk result (λ outcomes. IsAccepted apex (mode_of mode) limit rs) }
     ensures handed { IfOk result

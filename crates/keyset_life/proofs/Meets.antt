@@ -103,7 +103,7 @@ sides_meet x y z p q some a b c d e =
 
 -- ---- all calls
 
-accepted_ok : (s : KeySetState) (c : ℕ × Call) (cs : List (ℕ × Call)) (a : KeySetState × List Action) → on_state c.1 c.0 s ≡ Ok a → accepted s (c ∷ cs) ≡ step_of c.0 c.1 a.0 ∷ accepted a.0 cs
+pub accepted_ok : (s : KeySetState) (c : ℕ × Call) (cs : List (ℕ × Call)) (a : KeySetState × List Action) → on_state c.1 c.0 s ≡ Ok a → accepted s (c ∷ cs) ≡ step_of c.0 c.1 a.0 ∷ accepted a.0 cs
 accepted_ok s c cs a e = rw (e, accepted) refl
 
 accepted_err : (s : KeySetState) (c : ℕ × Call) (cs : List (ℕ × Call)) (f : Refusal) → on_state c.1 c.0 s ≡ Err f → accepted s (c ∷ cs) ≡ accepted s cs

@@ -6,7 +6,7 @@ use Rattle.answer.specs.Running.{sofar}
 use Rattle.answer.specs.Simulating.{begin}
 use Rattle.answer.specs.World.{World, world}
 use Rattle.answer.proofs.SimulateLoop.{step_on, step_at, at_end}
-use Rattle.answer.proofs.OneState.{along_all, zone_known}
+use Rattle.answer.proofs.Judgements.{along_all, zone_known}
 use Rattle.answer.proofs.simulate.simulate.Goals as goal
 
 pub loop-event-preserved : goal.loop-event-preserved
@@ -40,4 +40,11 @@ returns-clause-one_state g c = λ end run.
     let rs = map handed_of c.args.records.items in
     let there : World = world (record { apex = c.args.apex; mode = mode_of c.args.mode; limit = c.args.limit; records = sorted_records (map handed_of c.args.records.items) }) c.args.life (g.S.Scheme.signature_of c.args.scheme.now) (g.S.Scheme.verifies c.args.scheme.now) (g.S.Scheme.digest_of c.args.scheme.now) (g.H.Nsec3Hasher.hash_of c.args.hasher.now) in
     let zone = zone_known c.args.apex c.args.mode c.args.limit rs c.args.life there.sign there.answers c.in_ok-publisher.ensures.accepted c.in_ok-publisher.ensures.handed.0 c.in_ok-publisher.ensures.handed.1 in
-    along_all there rs c.args.events.now c.loop-event.outcomes.items end run zone
+    (along_all there rs c.args.events.now c.loop-event.outcomes.items end run zone).0
+
+pub returns-clause-through_rolls : goal.returns-clause-through_rolls
+returns-clause-through_rolls g c = λ end run.
+    let rs = map handed_of c.args.records.items in
+    let there : World = world (record { apex = c.args.apex; mode = mode_of c.args.mode; limit = c.args.limit; records = sorted_records (map handed_of c.args.records.items) }) c.args.life (g.S.Scheme.signature_of c.args.scheme.now) (g.S.Scheme.verifies c.args.scheme.now) (g.S.Scheme.digest_of c.args.scheme.now) (g.H.Nsec3Hasher.hash_of c.args.hasher.now) in
+    let zone = zone_known c.args.apex c.args.mode c.args.limit rs c.args.life there.sign there.answers c.in_ok-publisher.ensures.accepted c.in_ok-publisher.ensures.handed.0 c.in_ok-publisher.ensures.handed.1 in
+    (along_all there rs c.args.events.now c.loop-event.outcomes.items end run zone).1

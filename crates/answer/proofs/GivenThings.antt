@@ -1,6 +1,6 @@
--- Things that were shown in one state of the keys were given by the zone.
+-- Things that were shown in states of the keys were given by the zone.
 use Rattle.std.proofs.Common.{◌≡◌, ℕ, true, false, List, [], ◌∷◌, map, refl, sym, ap, subst, ◌∙◌, inl, inr, ⊎_elim}
-use Rattle.std.specs.Prelude.{Option, Some}
+use Rattle.std.specs.Prelude.{Option}
 use Rattle.std.specs.List.{AllByRecursion}
 use Rattle.std.specs.declared.cmp.Ordering.TheVariants.{Equal}
 use Rattle.std.specs.FinMap.{nat_cmp-IsAntisymmetric}
@@ -17,7 +17,6 @@ use Rattle.records.specs.Handed.{IsHanded}
 use Rattle.answer_judge.specs.Judging.{has_equal_tags, is_allowed}
 use Rattle.answer_judge.specs.Meeting.{HasDs, WasGiven, holds, zone_from}
 use Rattle.records.specs.Message.{Asked}
-use Rattle.answer.specs.OneState.{MeetsItself}
 use Rattle.answer.specs.Publishing.{digest_at, second_of}
 use Rattle.answer_zone.specs.Hashing.{served}
 use Rattle.answer.specs.Simulating.{ShowsAnswer, ShowsKeys, handing}
@@ -29,6 +28,7 @@ use Rattle.answer_judge.proofs.GivenLists.{contained_has}
 use Rattle.answer_judge.proofs.GivenSorted.{all_has, sorted_has}
 use Rattle.answer.proofs.KeyLife.{AreBound, IsBound, all_published, published_sign}
 use Rattle.answer.proofs.KeyTags.{HasOwnTags}
+use Rattle.answer.proofs.KeysMeet.{KeysMeet}
 use Rattle.answer.proofs.KeyTagsPublished.{equal_tags}
 use Rattle.records.proofs.Lists.{Has, all_at, some_is}
 
@@ -100,15 +100,16 @@ parents_have_ds w keys left =
 
 -- ---- three things
 
-pub given : (w : World) (rs : List HandedRr) (keys : ZoneKeys) (keys_at answer_at at : ℕ) (key_bytes bytes : List ℕ) (asked : Asked)
-    → IsZoneOf w rs → AreLeft w keys → ShowsKeys w keys keys_at key_bytes → IsQuestion asked → is_allowed w.zone.apex asked ≡ true → ShowsAnswer w keys answer_at asked bytes
-    → MeetsItself keys → holds (second_of keys_at) w.life (second_of at) ≡ true → holds (second_of answer_at) w.life (second_of at) ≡ true
-    → WasGiven w.answers pointer_limit (handing w (ds_set keys) key_bytes bytes asked at) rs
-given w rs keys keys_at answer_at at key_bytes bytes asked zone left shows is allowed answers meets keys_hold answer_holds = record {
-  parents = dnskeys (published keys publication.AtParent);
-  present = dnskeys (published keys publication.Present);
-  keysigners = dnskeys (published keys publication.SignsKeys);
-  zonesigners = dnskeys (published keys publication.SignsZone);
+-- the DS set of some keys, the DNSKEY answer of others, and a zone answer of others again
+pub given : (w : World) (rs : List HandedRr) (x y z : ZoneKeys) (keys_at answer_at at : ℕ) (key_bytes bytes : List ℕ) (asked : Asked)
+    → IsZoneOf w rs → AreLeft w x → AreLeft w y → AreLeft w z → ShowsKeys w y keys_at key_bytes → IsQuestion asked → is_allowed w.zone.apex asked ≡ true → ShowsAnswer w z answer_at asked bytes
+    → KeysMeet x y z → holds (second_of keys_at) w.life (second_of at) ≡ true → holds (second_of answer_at) w.life (second_of at) ≡ true
+    → WasGiven w.answers pointer_limit (handing w (ds_set x) key_bytes bytes asked at) rs
+given w rs x y z keys_at answer_at at key_bytes bytes asked zone left_x left_y left_z shows is allowed answers meets keys_hold answer_holds = record {
+  parents = dnskeys (published x publication.AtParent);
+  present = dnskeys (published y publication.Present);
+  keysigners = dnskeys (published y publication.SignsKeys);
+  zonesigners = dnskeys (published z publication.SignsZone);
   life = w.life;
   keys_at = second_of keys_at;
   answer_at = second_of answer_at;
@@ -117,14 +118,14 @@ given w rs keys keys_at answer_at at key_bytes bytes asked zone left shows is al
   accepted = zone.accepted;
   asked_is = is;
   allowed = allowed;
-  keys_are = published_sign (digest_at w.answers.digest w.zone.apex) keys publication.Present left.bound;
-  ds_is = parents_have_ds w keys left;
+  keys_are = published_sign (digest_at w.answers.digest w.zone.apex) y publication.Present left_y.bound;
+  ds_is = parents_have_ds w x left_x;
   meet = meets;
-  present_tags = equal_tags keys publication.Present left.own;
-  keysigner_tags = equal_tags keys publication.SignsKeys left.own;
-  zonesigner_tags = equal_tags keys publication.SignsZone left.own;
-  keys_given = subst (λ (z : AcceptedZone). spelled.GivesKeys w.answers.verifies pointer_limit (served w.answers.hash z) w.zone.apex (dnskeys (published keys publication.Present)) (dnskeys (published keys publication.SignsKeys)) (second_of keys_at) w.life key_bytes) zone.zone_is shows.1;
-  answer_given = subst (λ (z : AcceptedZone). spelled.GivesAnswer w.answers.verifies pointer_limit (served w.answers.hash z) w.zone.apex (dnskeys (published keys publication.SignsZone)) (second_of answer_at) w.life asked bytes) zone.zone_is answers.1;
+  present_tags = equal_tags y publication.Present left_y.own;
+  keysigner_tags = equal_tags y publication.SignsKeys left_y.own;
+  zonesigner_tags = equal_tags z publication.SignsZone left_z.own;
+  keys_given = subst (λ (v : AcceptedZone). spelled.GivesKeys w.answers.verifies pointer_limit (served w.answers.hash v) w.zone.apex (dnskeys (published y publication.Present)) (dnskeys (published y publication.SignsKeys)) (second_of keys_at) w.life key_bytes) zone.zone_is shows.1;
+  answer_given = subst (λ (v : AcceptedZone). spelled.GivesAnswer w.answers.verifies pointer_limit (served w.answers.hash v) w.zone.apex (dnskeys (published z publication.SignsZone)) (second_of answer_at) w.life asked bytes) zone.zone_is answers.1;
   keys_hold = keys_hold;
   answer_holds = answer_holds;
 }
