@@ -69,9 +69,6 @@ not_alike r a h = other_roll a r (not_same r a h)
 other_side : (side : Side) (r a : RollType) → is_on side r ≡ true → is_on side a ≡ false → r ≡ a → ⊥
 other_side side r a h k e = true≢false (sym h ∙ ap (is_on side) e ∙ k)
 
-other_side' : (side : Side) (r a : RollType) → is_on side r ≡ true → is_on side a ≡ false → a ≡ r → ⊥
-other_side' side r a h k e = other_side side r a h k (sym e)
-
 algorithm_conflicts : (a : RollType) → conflicts a AlgorithmRoll ≡ true
 algorithm_conflicts KskRoll = refl
 algorithm_conflicts KskDoubleDsRoll = refl
@@ -300,9 +297,6 @@ module _ (life : Life) (steps after : List Step) (s x : KeySetState) (now : ℕ)
               (right_of (touches a k.roles) (meets_need (need_of side a) k.roles) found.3)),
         ),
       )
-
-  start_step : Step
-  start_step = step_of now (Start a olds news) x
 
   shown_on : (side : Side) (q : Reference) (thing : Thing) → HasKey s q (is_shown side thing) → HasKey x q (is_shown side thing)
   shown_on side q thing h = taken a (phase_of s a) (Some Propagation1) (start_of a now olds news) s x (is_shown side thing) (is_shown side thing) w.moved.turn (λ q k f h. started_shown side a thing (listed olds q) (listed news q) k.roles h) q h

@@ -13,13 +13,13 @@ use Rattle.keyset_rolls.specs.declared.rolls.Action.{Action}
 use Rattle.keyset_rolls.specs.declared.rolls.RollType.{RollType}
 use Rattle.keyset_rolls.specs.declared.rolls.RollType.TheVariants.{KskRoll, AlgorithmRoll}
 use Rattle.keyset.specs.KeyState.{Answer, KeySetState, Reference, Refusal, ds, keysigners, listed, present, zonesigners}
-use Rattle.keyset.specs.KeyRuns.{Call, is_accepted, left, no_keys, on_state, sets_by_hand}
+use Rattle.keyset.specs.KeyRuns.{Call, is_accepted, left, no_keys, on_state, sets_by_hand, behind}
 use Rattle.keyset.specs.KeyRunLaws.{Reports, by_rolls_alone, no_reports}
 use Rattle.keyset.proofs.KeyTables.{and_left as left_of, and_right as right_of}
 use Rattle.keyset_life.specs.KeyLife.{DnskeyAnswer, DsSet, Step, Thing, ZoneAnswer, accepted, differ, is_first_wait, meet, retired, states, tags_of}
 use Rattle.keyset_life.specs.Sides.{OfKeys, OfZone, Side, doubles, first_of, is_empty, partner, second_of, shows}
 use Rattle.keyset_life.specs.Anchors.{Anchored, Crossing, Grows, Kept, Life, Live, NoDs, Rests, Switches, Unborn}
-use Rattle.keyset_life.specs.Meeting.{CallsMakeLives, GoesOn, EmptyDsSetsComeFirst, UnretiredThingsMeet, algorithm_first, by_then}
+use Rattle.keyset_life.specs.Meeting.{CallsMakeLives, GoesOn, EmptyDsSetsComeFirst, RollsKeepSides, UnretiredThingsMeet, algorithm_first, by_then}
 use Rattle.keyset_life.proofs.LifeSteps.{Noted, then}
 use Rattle.keyset_life.proofs.Retiring.{step_of}
 use Rattle.keyset_life.proofs.Lived.{Lived, base_of_none, first_state, one_more}
@@ -125,11 +125,11 @@ module _ (life : Life) (first : algorithm_first life.steps ≡ true) where
       let next = one_more life steps after s x now p acts h.lived in_time first c by_rolls e all in
       record { lived = next; published = published_more life steps s x c now p (then p c now) acts h.lived next e h.published }
 
-  abbrev pub Ended : Type 0
-  Ended = (s : KeySetState) × (p : Noted) × Told life life.steps s p
+  abbrev pub Ended : KeySetState → Type 0
+  Ended s = (p : Noted) × Told life life.steps s p
 
-  pub all_more : (cs : List (ℕ × Call)) (steps : List Step) (s : KeySetState) (p : Noted) → Told life steps s p → life.steps ≡ steps ++ accepted s cs → by_rolls_alone cs ≡ true → by_then life.moment cs ≡ true → Ended
-  all_more [] steps s p h e by_rolls in_time = (s, p, subst (λ ts. Told life ts s p) (sym (append-nil steps) ∙ sym e) h)
+  pub all_more : (cs : List (ℕ × Call)) (steps : List Step) (s : KeySetState) (p : Noted) → Told life steps s p → life.steps ≡ steps ++ accepted s cs → by_rolls_alone cs ≡ true → by_then life.moment cs ≡ true → Ended (behind s cs)
+  all_more [] steps s p h e by_rolls in_time = (p, subst (λ ts. Told life ts s p) (sym (append-nil steps) ∙ sym e) h)
   all_more (c ∷ cs) steps s p h e by_rolls in_time =
       let w = none_of (sets_by_hand c.1) (list_any (λ (c : ℕ × Call). sets_by_hand c.1) cs) by_rolls in
       let now : c.0 ≤ life.moment = leb-true c.0 life.moment (left_of (nat_le c.0 life.moment) (by_then life.moment cs) in_time) in
@@ -140,9 +140,9 @@ module _ (life : Life) (first : algorithm_first life.steps ≡ true) where
       all_more cs (steps ++ step_of c.0 c.1 a.0 ∷ []) a.0 (then p c.1 c.0) (told_more steps (accepted a.0 cs) s a.0 c.0 p a.1 h now c.1 w.0 i all) (all ∙ sym (append_assoc steps (step_of c.0 c.1 a.0 ∷ []) (accepted a.0 cs))) w.1 rest))
       (λ f i. all_more cs steps s p h (e ∙ ap (λ ts. steps ++ ts) (accepted_err s c cs f i)) w.1 rest)
     where
-      at : (a : Answer) → on_state c.1 c.0 s ≡ a → ((a : KeySetState × List Action) → on_state c.1 c.0 s ≡ Ok a → Ended) → ((f : Refusal) → on_state c.1 c.0 s ≡ Err f → Ended) → Ended
-      at (Ok a) i more less = more a i
-      at (Err f) i more less = less f i
+      at : (a : Answer) → on_state c.1 c.0 s ≡ a → ((a : KeySetState × List Action) → on_state c.1 c.0 s ≡ Ok a → Ended (behind a.0 cs)) → ((f : Refusal) → on_state c.1 c.0 s ≡ Err f → Ended (behind s cs)) → Ended (behind (left s (on_state c.1 c.0 s)) cs)
+      at (Ok a) i more less = subst (λ a. Ended (behind (left s a) cs)) (sym i) (more a i)
+      at (Err f) i more less = subst (λ a. Ended (behind (left s a) cs)) (sym i) (less f i)
 
 none_lived : (life : Life) (name : List (List ℕ)) → life.start ≡ no_keys name → Lived life [] (no_keys name) (λ _. no_reports)
 none_lived life name e = record {
@@ -187,7 +187,13 @@ pub unretired_things_meet : UnretiredThingsMeet
 unretired_things_meet name cs moment i j k x y z by_rolls in_time first f g e a b c some =
     let life : Life = record { start = no_keys name; steps = accepted (no_keys name) cs; moment = moment } in
     let end = all_more life first cs [] (no_keys name) (λ _. no_reports) (none_told life name refl) refl by_rolls in_time in
-    lived_meets life end.0 end.1 end.2.lived i j k x y z f g e a b c some
+    lived_meets life (behind (no_keys name) cs) end.0 end.1.lived i j k x y z f g e a b c some
+
+pub rolls_keep_sides : RollsKeepSides
+rolls_keep_sides name cs moment by_rolls in_time first =
+    let life : Life = record { start = no_keys name; steps = accepted (no_keys name) cs; moment = moment } in
+    let end = all_more life first cs [] (no_keys name) (λ _. no_reports) (none_told life name refl) refl by_rolls in_time in
+    (end.0, end.1.lived.sides)
 
 -- a moment by which all calls have come
 latest : List (ℕ × Call) → ℕ
@@ -213,7 +219,7 @@ pub empty_ds_sets_come_first : EmptyDsSetsComeFirst
 empty_ds_sets_come_first name cs i x by_rolls first f empty =
     let life : Life = record { start = no_keys name; steps = accepted (no_keys name) cs; moment = latest cs } in
     let end = all_more life first cs [] (no_keys name) (λ _. no_reports) (none_told life name refl) refl by_rolls (all_come cs) in
-    end.2.published.each i x f empty
+    end.1.published.each i x f empty
 
 calls_go_on : {X : Type 0} (view : X → List Action) (old new : KeySetState) (result : Result X Error) (answer : Answer) → Gives view old new result answer → GoesOn old new result answer
 calls_go_on view old new (Ok y) answer h = inr (ap (left old) (sym h), ap is_accepted (sym h))

@@ -50,9 +50,6 @@ module _ (side : Side) (r : RollType) (t : KeyType) where
 pub shows_now : (side : Side) (thing : Thing) (s : KeySetState) (q : Reference) → HasKey s q (is_shown side thing) → shows side thing q s ≡ true
 shows_now side thing s q h = shown_shows side thing s q h.0 h.1 h.2
 
-pub key_so : (s : KeySetState) (q : Reference) (p test : KeyType → Bool) → ((t : KeyType) → p t ≡ true → test t ≡ true) → HasKey s q p → HasKey s q test
-key_so s q p test f h = (h.0, h.1, f h.0.roles h.2)
-
 module _ (side : Side) (r : RollType) (s : KeySetState) (n : Reference) where
   pub ready_first : HasKey s n (is_ready side r) → HasKey s n (is_shown side (first_of side r))
   ready_first h = (h.0, h.1, (of_ready side r h.0.roles h.2).2)

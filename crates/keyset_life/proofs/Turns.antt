@@ -393,9 +393,6 @@ module _ (side : Side) (life : Life) (steps : List Step) (s : KeySetState) (t : 
     lasting_then n h = taken r (Some (CacheExpire1 ttl)) (Some Propagation2) g s t.left (is_ready side r) (is_lasting side r) w
         (λ q k f h. ap (is_lasting side r) (moved q k f (of_ready side r k.roles h).0) ∙ lasts side r k.roles (join (keeps_all k.roles) (is_ready side r k.roles) (keep q k f) h)) n h
 
-    old_of : (h : Growing side r life steps s p) → Reference
-    old_of h = ⊎_elim (λ (a : (r ≡ AlgorithmRoll) × NoDs life steps). h.new) (λ (a : (q : Reference) × Anchored side life steps s q). a.0) h.anchored
-
     crossing_then : (h : Growing side r life steps s p) → doubles side r ≡ false → is_first_wait r t.call ≡ true → Live life (first_of side r) steps (shows side (first_of side r) h.new) → Crossing side r life (steps ++ t ∷ []) t.left p h.new
     crossing_then h d begun first = ⊎_elim
         (λ (a : (r ≡ AlgorithmRoll) × NoDs life steps). made h.new (ready_first side r s h.new h.ready) first (no_ds_either life steps h.new side r a.0 d a.1))

@@ -5,13 +5,15 @@ use Rattle.std.specs.List.{list_all, list_any}
 use Rattle.keyset_keys.specs.declared.errors.Error.{Error}
 use Rattle.keyset_keys.specs.declared.errors.Error.TheVariants.{Memory}
 use Rattle.keyset_rolls.specs.declared.rolls.Action.{Action}
+use Rattle.keyset_rolls.specs.declared.rolls.RollType.{RollType}
 use Rattle.keyset_rolls.specs.declared.rolls.RollType.TheVariants.{KskRoll, KskDoubleDsRoll, CskRoll, AlgorithmRoll}
 use Rattle.keyset.specs.KeyState.{Answer, KeySetState, ds}
 use Rattle.keyset.specs.KeyAnswers.{Acts, Changes, GivesAtOnce}
-use Rattle.keyset.specs.KeyRuns.{Call, is_accepted, left, no_keys, on_state}
-use Rattle.keyset.specs.KeyRunLaws.{by_rolls_alone}
+use Rattle.keyset.specs.KeyRuns.{Call, behind, is_accepted, left, no_keys, on_state}
+use Rattle.keyset.specs.KeyRunLaws.{Reports, by_rolls_alone}
 use Rattle.keyset_life.specs.KeyLife.{DnskeyAnswer, DsSet, Step, ZoneAnswer, accepted, is_first_wait, is_start, meet, retired, states}
-use Rattle.keyset_life.specs.Sides.{is_empty}
+use Rattle.keyset_life.specs.Anchors.{Kept, Life, Unborn}
+use Rattle.keyset_life.specs.Sides.{Side, is_empty}
 
 -- the starts of rolls that take a DS set for granted
 abbrev pub starts_from_ds : Call → Bool
@@ -37,6 +39,14 @@ UnretiredThingsMeet = (name : List (List ℕ)) (cs : List (ℕ × Call)) (moment
     → slice_get (states s ts) i ≡ Some x → slice_get (states s ts) j ≡ Some y → slice_get (states s ts) k ≡ Some z
     → retired DsSet s ts i moment ≡ false → retired DnskeyAnswer s ts j moment ≡ false → retired ZoneAnswer s ts k moment ≡ false
     → is_empty (ds x) ≡ false → meet x y z ≡ true
+
+-- What each roll keeps, behind such calls: either no DS set was published yet and no roll that may publish one runs, or each side of a
+-- validation is kept.
+abbrev pub RollsKeepSides : Type 0
+RollsKeepSides = (name : List (List ℕ)) (cs : List (ℕ × Call)) (moment : ℕ) → by_rolls_alone cs ≡ true → by_then moment cs ≡ true →
+    let s = behind (no_keys name) cs in
+    let life : Life = record { start = no_keys name; steps = accepted (no_keys name) cs; moment = moment } in
+    algorithm_first life.steps ≡ true → (p : RollType → Reports) × (Unborn life life.steps s ⊎ ((side : Side) → Kept side life life.steps s p))
 
 -- Behind such calls an empty DS set is that of a state before the first wait of the first roll of the algorithm: that wait is not
 -- among the calls before it.

@@ -1,12 +1,17 @@
 //! Laws of the life of keys.
 ghost use Rattle.keyset_life.specs.KeyLifeRows.{RetiresAndMeets};
-ghost use Rattle.keyset_life.specs.Meeting.{CallsMakeLives, EmptyDsSetsComeFirst, UnretiredThingsMeet};
+ghost use Rattle.keyset_life.specs.Meeting.{CallsMakeLives, EmptyDsSetsComeFirst, RollsKeepSides, UnretiredThingsMeet};
 ghost use Rattle.keyset_life.specs.Waiting.{WaitsAreTimed};
 
 /// Whatever calls a key set has behind it, accepted and refused, where no flag and no stamp was set by hand and the
 /// first DS set came by a roll of the algorithm: what was handed out and isn't retired fits together.
 pub fn unretired_things_meet()
     ensures { UnretiredThingsMeet }
+{}
+
+/// What each roll keeps of the two sides of a validation, in each of its stretches.
+pub fn rolls_keep_sides()
+    ensures { RollsKeepSides }
 {}
 
 /// An empty DS set is that of a state before the first wait of the first roll of the algorithm.
