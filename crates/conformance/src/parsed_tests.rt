@@ -63,6 +63,27 @@ fn names_are_read_in_messages(rt: HostRuntime) {
 }
 
 #[test]
+fn beginnings_of_messages_are_refused_or_read(rt: HostRuntime) {
+    for line in WIRE_NAMES.lines() {
+        let (message, rest) = line.split_once('\t').expect(&rt, "a message");
+        let (place, rest) = rest.split_once('\t').expect(&rt, "a place");
+        let (wire, end) = rest.split_once('\t').expect(&rt, "four columns");
+        let message = hex::decode(rt.alloc(), message).expect(&rt, "hexadecimal digits");
+        let place = usize::from_str(place).expect(&rt, "a number");
+        let end = usize::from_str(end).unwrap_or(usize::MAX);
+        for len in 0..message.len() {
+            let mut parser = Parser::from_ref(&message[..len]);
+            if parser.seek(place).is_ok() {
+                let found = ParsedName::parse(&mut parser);
+                assert!(rt; found.is_ok() == (len >= end));
+                assert!(rt; parser.pos() == if len >= end { end } else { place });
+                assert!(rt; found.is_err() || wire != "error");
+            }
+        }
+    }
+}
+
+#[test]
 fn a_name_through_two_pointers(rt: HostRuntime) {
     let message = b"\x03com\x00\x07example\xc0\x00\x03www\xc0\x05";
     let (name, behind) = read(message, 15).expect(&rt, "a name");

@@ -1,0 +1,9 @@
+//! Tests of record data and records: read in messages, written, compared and printed.
+#![tactic(auto)]
+
+#[cfg(test)]
+mod data_tests;
+#[cfg(test)]
+mod order_tests;
+#[cfg(test)]
+mod refusal_tests;

@@ -1,0 +1,96 @@
+//! Works on names in a message, so that the instructions of a call can be counted.
+//!
+//! The first line of the input is a task and how often it is done, the second a message in hexadecimal; each other one is a
+//! place of the message. What is printed counts what the task found.
+#![tactic(auto)]
+
+use names_parsed::parsed::ParsedName;
+use names_parser::parser::Parser;
+use std::io;
+
+/// How many labels the names at the places have.
+fn read(message: &[u8], places: &[usize]) -> u64 {
+    let mut count = 0u64;
+    for &place in places {
+        let mut parser = Parser::from_ref(message);
+        if parser.seek(place).is_ok() {
+            if let Ok(name) = ParsedName::parse(&mut parser) {
+                count = count.wrapping_add(name.label_count() as u64);
+            }
+        }
+    }
+    count
+}
+
+/// The sum of the places behind the names.
+fn skip(message: &[u8], places: &[usize]) -> u64 {
+    let mut count = 0u64;
+    for &place in places {
+        let mut parser = Parser::from_ref(message);
+        if parser.seek(place).is_ok() && ParsedName::skip(&mut parser).is_ok() {
+            count = count.wrapping_add(parser.pos() as u64);
+        }
+    }
+    count
+}
+
+/// How many octets the names have, each walked from label to label.
+fn walk(message: &[u8], places: &[usize]) -> u64 {
+    let mut count = 0u64;
+    for &place in places {
+        let mut parser = Parser::from_ref(message);
+        if parser.seek(place).is_ok() {
+            if let Ok(name) = ParsedName::parse(&mut parser) {
+                let mut labels = name.iter();
+                while let Some(label) = labels.next() {
+                    count = count.wrapping_add(label.len() as u64 + 1);
+                }
+            }
+        }
+    }
+    count
+}
+
+/// How many names are equal to that at the next place.
+fn equal(message: &[u8], places: &[usize]) -> u64 {
+    let mut count = 0u64;
+    for pair in places.windows(2) {
+        let mut left = Parser::from_ref(message);
+        let mut right = Parser::from_ref(message);
+        if left.seek(pair[0]).is_ok() && right.seek(pair[1]).is_ok() {
+            if let (Ok(a), Ok(b)) = (ParsedName::parse(&mut left), ParsedName::parse(&mut right)) {
+                if a == b {
+                    count = count.wrapping_add(1);
+                }
+            }
+        }
+    }
+    count
+}
+
+fn main(rt: HostRuntime) -> io::Result<()> {
+    let (mut task, mut rounds) = (String::new(rt.alloc()), 0u64);
+    let (mut message, mut places) = (Vec::new(rt.alloc()), Vec::new(rt.alloc()));
+    for line in rt.lines(rt.alloc()) {
+        let line = line?;
+        if let Some((word, number)) = line.split_once(' ') {
+            task = String::from_str(rt.alloc(), word)?;
+            rounds = number.parse().unwrap_or(0);
+        } else if message.is_empty() {
+            message = hex::decode(rt.alloc(), line.as_str()).unwrap_or(Vec::new(rt.alloc()));
+        } else {
+            places.push(line.parse().unwrap_or(0))?;
+        }
+    }
+    let mut count = 0u64;
+    for _ in 0..rounds {
+        let more = match task.as_str() {
+            "read" => read(&message, &places),
+            "skip" => skip(&message, &places),
+            "walk" => walk(&message, &places),
+            _ => equal(&message, &places),
+        };
+        count = count.wrapping_add(more);
+    }
+    println!(rt; "{count}")
+}
