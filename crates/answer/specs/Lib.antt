@@ -8,6 +8,7 @@ pub mod Simulating
 pub mod Running
 pub mod OneState
 pub mod ThroughRolls
+pub mod ThroughRollsRows
 pub mod Composed
 pub mod AnswerFaults
 pub mod Events
