@@ -336,17 +336,29 @@ fn each_roll_alone_meets(rt: HostRuntime) -> Result<(), Fail> {
     Ok(())
 }
 
+fn lives_of_two(
+    rt: &impl Abort,
+    alloc: Global,
+    keys: RollType,
+    zone: RollType,
+) -> Result<usize, Error> {
+    lives(rt, alloc, &[keys, zone], 6)
+}
+
 #[test]
 fn rolls_beside_one_another_meet(rt: HostRuntime) -> Result<(), Fail> {
     let alloc = rt.alloc();
-    assert!(rt; lives(&rt, alloc, &[RollType::KskRoll, RollType::ZskRoll], 6)? > 0);
-    assert!(rt;
-        lives(
-            &rt,
-            alloc,
-            &[RollType::KskDoubleDsRoll, RollType::ZskDoubleSignatureRoll],
-            6
-        )? > 0
-    );
+    assert!(rt; lives_of_two(&rt, alloc, RollType::KskRoll, RollType::ZskRoll)? > 0);
+    let double = RollType::ZskDoubleSignatureRoll;
+    assert!(rt; lives_of_two(&rt, alloc, RollType::KskDoubleDsRoll, double)? > 0);
+    Ok(())
+}
+
+#[test]
+fn other_rolls_beside_one_another_meet(rt: HostRuntime) -> Result<(), Fail> {
+    let alloc = rt.alloc();
+    let double = RollType::ZskDoubleSignatureRoll;
+    assert!(rt; lives_of_two(&rt, alloc, RollType::KskRoll, double)? > 0);
+    assert!(rt; lives_of_two(&rt, alloc, RollType::KskDoubleDsRoll, RollType::ZskRoll)? > 0);
     Ok(())
 }
