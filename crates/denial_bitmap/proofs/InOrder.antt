@@ -17,6 +17,7 @@ from-append a zero n = (λ i. from (left i) (right i))
   where
     left : a ≡ a + 0
     left = omega arith
+
     right : 0 + n ≡ n
     right = omega arith
 from-append a (suc m) n =
@@ -68,12 +69,12 @@ window_types ts w =
     let os = window_octets ts w in
     let short : length os ≤ 32 = length-window ts w in
     let apart : filter (bit_in os) (from 0 256) ≡ bits_from os 0 ++ [] =
-        ap (λ n. filter (bit_in os) (from 0 n)) {x = 256} {y = (8 * length os - 0) + (256 - 8 * length os)} (omega (arith, short))
-        ∙ ap (filter (bit_in os)) (from-append 0 (8 * length os - 0) (256 - 8 * length os))
-        ∙ filter-append (bit_in os) (from 0 (8 * length os - 0)) (from (0 + (8 * length os - 0)) (256 - 8 * length os))
-        ∙ ap (λ xs. bits_from os 0 ++ xs) (none_of (bit_in os) (0 + (8 * length os - 0)) (256 - 8 * length os) (λ k l m. bit_beyond os k (omega (arith, m, short)) (omega (arith, l)))) in
+    ap (λ n. filter (bit_in os) (from 0 n)) {x = 256} {y = (8 * length os - 0) + (256 - 8 * length os)} (omega (arith, short))
+    ∙ ap (filter (bit_in os)) (from-append 0 (8 * length os - 0) (256 - 8 * length os))
+    ∙ filter-append (bit_in os) (from 0 (8 * length os - 0)) (from (0 + (8 * length os - 0)) (256 - 8 * length os))
+    ∙ ap (λ xs. bits_from os 0 ++ xs) (none_of (bit_in os) (0 + (8 * length os - 0)) (256 - 8 * length os) (λ k l m. bit_beyond os k (omega (arith, m, short)) (omega (arith, l)))) in
     let same : (k : ℕ) → 0 ≤ k → k < 0 + 256 → bit_in os k ≡ in_set ts (w * 256 + k) =
-        λ k l m. low_bit os w k (omega (arith, m)) ∙ ap (λ v. bit_in (window_octets ts v) (w * 256 + k)) {x = w} {y = (w * 256 + k) / 256} (omega (arith, m)) ∙ bit-window ts (w * 256 + k) in
+    λ k l m. low_bit os w k (omega (arith, m)) ∙ ap (λ v. bit_in (window_octets ts v) (w * 256 + k)) {x = w} {y = (w * 256 + k) / 256} (omega (arith, m)) ∙ bit-window ts (w * 256 + k) in
     ap (map (λ k. w * 256 + k)) (sym (append-nil (bits_from os 0)) ∙ sym apart) ∙ moved_up (bit_in os) (in_set ts) (w * 256) 0 256 same
     ∙ ap (λ b. filter (in_set ts) (from b 256)) {x = w * 256 + 0} {y = w * 256} (omega arith)
 

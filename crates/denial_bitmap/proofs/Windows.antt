@@ -161,6 +161,7 @@ trimmed_set (x ∷ xs) zero v h some = kept_not_zero v (trimmed xs) some ∙ go 
       where
         padded_enough : (os : List ℕ) → padded os 0 ≡ os
         padded_enough os = ap (λ k. os ++ zeros k) {x = 0 - length os} {y = 0} (omega arith) ∙ append-nil os
+
         both_false : (b : Bool) {c : Bool} → c ≡ false → (b && c) ≡ false
         both_false true e = e
         both_false false e = refl
@@ -208,8 +209,8 @@ window_with ts t =
     let i : ℕ = t % 256 / 8 in
     let v : ℕ = with_bit (octet_of ts w i) (t % 8) in
     let put = put_octets (octet_of ts w) (octet_of (t ∷ ts) w) 32 i v (omega arith)
-        (sym (this_octet ts t w i (t % 8) (omega arith) (omega arith)))
-        (λ j h. other_octet ts t w j (λ k l e. h (omega (arith, l, e)))) in
+    (sym (this_octet ts t w i (t % 8) (omega arith) (omega arith)))
+    (λ j h. other_octet ts t w j (λ k l e. h (omega (arith, l, e)))) in
     ap trimmed put
     ∙ trimmed_set (map (octet_of ts w) (below 32)) i v (omega (arith, length-map (below 32) (octet_of ts w), length-below 32)) (bit_is_some (octet_of ts w i) (t % 8))
     ∙ ap (λ n. set (padded (window_octets ts w) n) i v) {x = suc i} {y = i + 1} (omega arith)

@@ -55,7 +55,8 @@ impl<B: BuiltOctets> RtypeBitmapBuilder<B> {
 
     /// Adds a type, which may be there already. A refused call changes nothing.
     pub fn add(&mut self, rtype: Rtype) -> Result<(), ShortBuf>
-        ensures ok { (ts : List ℕ) → self.old ≡ bitmap ts → OnOk result (self.new ≡ bitmap (rtype ∷ ts)) }
+        ensures ok { (ts : List ℕ) → self.old ≡ bitmap ts
+            → OnOk result (self.new ≡ bitmap (rtype ∷ ts)) }
         ensures err { OnErr result (self.new ≡ self.old) }
     {
         let number = (rtype.to_int() / 256) as u8;
@@ -90,7 +91,8 @@ fn window_len(octets: &[u8], place: usize, number: u8) -> u8
 /// Where the window of a number stands, or is to stand.
 fn place_of(octets: &[u8], number: u8) -> usize
     requires { IsBuilt octets.now }
-    ensures value { (ts : List ℕ) → octets.now ≡ bitmap ts → result ≡ length (windows_before ts number) }
+    ensures value { (ts : List ℕ) → octets.now ≡ bitmap ts
+        → result ≡ length (windows_before ts number) }
     ensures inside { result ≤ length octets.now }
 {
     let mut place = 0;
@@ -104,14 +106,11 @@ fn place_of(octets: &[u8], number: u8) -> usize
 }
 
 /// Puts zeros between octets. A refused call leaves them as they were.
-fn insert_zeros<B: OctetsBuilder>(
-    octets: &mut B,
-    place: usize,
-    count: u8,
-) -> Result<(), ShortBuf>
+fn insert_zeros<B: OctetsBuilder>(octets: &mut B, place: usize, count: u8) -> Result<(), ShortBuf>
     requires inside { place ≤ length (B.bytes octets.old) }
     requires few { count ≤ 34 }
-    ensures ok { OnOk result (B.bytes octets.new ≡ inserted (B.bytes octets.old) place (zeros count)) }
+    ensures ok { OnOk result
+        (B.bytes octets.new ≡ inserted (B.bytes octets.old) place (zeros count)) }
     ensures fits { OnOk result (length (B.bytes octets.new) < 9223372036854775808) }
     ensures err { OnErr result (B.bytes octets.new ≡ B.bytes octets.old) }
 {
@@ -139,7 +138,8 @@ fn make_room<B: OctetsBuilder>(
     requires built { (ts : List ℕ) × IsPlaced ts (B.bytes octets.old) place number }
     requires some { 0 < needed }
     requires few { needed ≤ 32 }
-    ensures ok { (ts : List ℕ) → IsPlaced ts (B.bytes octets.old) place number → OnOk result (B.bytes octets.new ≡ roomy ts number needed) }
+    ensures ok { (ts : List ℕ) → IsPlaced ts (B.bytes octets.old) place number
+        → OnOk result (B.bytes octets.new ≡ roomy ts number needed) }
     ensures err { OnErr result (B.bytes octets.new ≡ B.bytes octets.old) }
 {
     let len = window_len(octets.as_slice(), place, number);
@@ -161,7 +161,8 @@ fn new_window<B: OctetsBuilder>(
 ) -> Result<(), ShortBuf>
     requires inside { place ≤ length (B.bytes octets.old) }
     requires few { len ≤ 32 }
-    ensures ok { OnOk result (B.bytes octets.new ≡ set (set (inserted (B.bytes octets.old) place (zeros (2 + len))) place number) (place + 1) len) }
+    ensures ok { let room = inserted (B.bytes octets.old) place (zeros (2 + len)) in
+        OnOk result (B.bytes octets.new ≡ set (set room place number) (place + 1) len) }
     ensures err { OnErr result (B.bytes octets.new ≡ B.bytes octets.old) }
 {
     insert_zeros(octets, place, 2 + len)?;
@@ -181,7 +182,8 @@ fn longer_window<B: OctetsBuilder>(
     requires fits { length (B.bytes octets.old) < 9223372036854775808 }
     requires longer { len ≤ needed }
     requires few { needed ≤ 32 }
-    ensures ok { OnOk result (B.bytes octets.new ≡ set (inserted (B.bytes octets.old) (place + 2 + len) (zeros (needed - len))) (place + 1) needed) }
+    ensures ok { let room = inserted (B.bytes octets.old) (place + 2 + len) (zeros (needed - len)) in
+        OnOk result (B.bytes octets.new ≡ set room (place + 1) needed) }
     ensures err { OnErr result (B.bytes octets.new ≡ B.bytes octets.old) }
 {
     insert_zeros(octets, place + 2 + usize::from(len), needed - len)?;
@@ -193,7 +195,8 @@ fn longer_window<B: OctetsBuilder>(
 fn set_bit<B: OctetsBuilder>(octets: &mut B, place: usize, bit: u8)
     requires inside { place < length (B.bytes octets.old) }
     requires bit { bit < 8 }
-    ensures { B.bytes octets.new ≡ set (B.bytes octets.old) place (with_bit (slice_index (B.bytes octets.old) place) bit) }
+    ensures { let octet = slice_index (B.bytes octets.old) place in
+        B.bytes octets.new ≡ set (B.bytes octets.old) place (with_bit octet bit) }
 {
     let octet = with_bit(octets.as_slice()[place], bit);
     set_octet(octets, place, octet);

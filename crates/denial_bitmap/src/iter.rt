@@ -78,7 +78,8 @@ impl<'a> Iterator for RtypeBitmapIter<'a> {
 fn first_bit(octets: &[u8], place: u16) -> Option<u16>
     requires { length octets.now ≤ 32 }
     ensures none { IfNone result (bits_from octets.now place ≡ []) }
-    ensures some { IfSome result (λ k. bits_from octets.now place ≡ k ∷ bits_from octets.now (k + 1)) }
+    ensures some { IfSome result
+        (λ k. bits_from octets.now place ≡ k ∷ bits_from octets.now (k + 1)) }
     ensures inside { IfSome result (λ k. k < 8 * length octets.now) }
 {
     for bit in place..8 * octets.len() as u16 {

@@ -8,7 +8,6 @@ pub mod error;
 pub mod iter;
 pub mod laws;
 mod order;
-mod window;
-
 #[cfg(test)]
 mod tests;
+mod window;

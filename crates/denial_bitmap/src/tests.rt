@@ -138,7 +138,10 @@ fn refuses_what_is_no_bitmap(rt: HostRuntime) {
         let accepted = RtypeBitmap::from_octets(&RFC_4034[..len]).is_ok();
         assert_eq!(rt; accepted, len == 8);
     }
-    assert_eq!(rt; ParseError::from(RtypeBitmapError::ShortInput), ParseError::ShortInput);
+    assert_eq!(rt;
+        ParseError::from(RtypeBitmapError::ShortInput),
+        ParseError::ShortInput
+    );
     let form = ParseError::form_error("invalid type bitmap");
     assert_eq!(rt; ParseError::from(RtypeBitmapError::BadRtypeBitmap), form);
 }
@@ -166,7 +169,10 @@ fn a_full_buffer_refuses(rt: HostRuntime) {
     let bitmap = builder.finalize();
     assert_eq!(rt; bitmap.as_slice(), b"\x00\x02\x40\x01".as_slice());
     assert_eq!(rt; bitmap.as_octets().len(), 4);
-    assert_eq!(rt; bitmap.into_octets().as_slice(), b"\x00\x02\x40\x01".as_slice());
+    assert_eq!(rt;
+        bitmap.into_octets().as_slice(),
+        b"\x00\x02\x40\x01".as_slice()
+    );
 }
 
 #[test]

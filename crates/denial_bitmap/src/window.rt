@@ -16,7 +16,8 @@ pub(crate) struct Window<'a> {
 
 /// The window at the front of octets, and what is behind it.
 pub(crate) fn split_window(octets: &[u8]) -> Result<(Window<'_>, &[u8]), RtypeBitmapError>
-    ensures ok { IfOk result (λ w. first_window octets.now ≡ Some (split w.0.number w.0.octets.now w.1.now)) }
+    ensures ok { IfOk result
+        (λ w. first_window octets.now ≡ Some (split w.0.number w.0.octets.now w.1.now)) }
     ensures few { IfOk result (λ w. length w.0.octets.now ≤ 32) }
     ensures shorter { IfOk result (λ w. length w.1.now < length octets.now) }
     ensures none { IfErr result (λ _. first_window octets.now ≡ None) }
@@ -33,7 +34,13 @@ pub(crate) fn split_window(octets: &[u8]) -> Result<(Window<'_>, &[u8]), RtypeBi
         return Err(RtypeBitmapError::ShortInput);
     }
     let (octets, behind) = rest.split_at(len);
-    Ok((Window { number: *number, octets }, behind))
+    Ok((
+        Window {
+            number: *number,
+            octets,
+        },
+        behind,
+    ))
 }
 
 /// Whether the bit of a type is set in the octets of its window, the first of eight the highest.

@@ -14,7 +14,7 @@ window_len-len-requires g c =
 pub returns-then-needed-len-clause-ok : goal.returns-then-needed-len-clause-ok
 returns-then-needed-len-clause-ok g c ts p =
     let len : c.window_len-len.result ≡ length (window_octets ts c.args.number) =
-        c.window_len-len.ensures ∙ (λ i. window_len c.args.number (drop (p.1 i) ((c.as_slice.ensures ∙ p.0) i))) ∙ window_len-around ts c.args.number c.ranges.number.fits in
+    c.window_len-len.ensures ∙ (λ i. window_len c.args.number (drop (p.1 i) ((c.as_slice.ensures ∙ p.0) i))) ∙ window_len-around ts c.args.number c.ranges.number.fits in
     p.0 ∙ room_enough ts c.args.number c.args.needed c.ranges.number.fits c.requires.some (omega (arith, c.if-needed-len.true, len))
 
 pub new_window-requires-clause-inside : goal.new_window-requires-clause-inside
@@ -28,10 +28,10 @@ returns-then-len-eq0-clause-ok g c ts p =
     let n : ℕ = c.args.needed in
     let place : ℕ = c.args.place in
     let len : c.window_len-len.result ≡ length (window_octets ts w) =
-        c.window_len-len.ensures ∙ (λ i. window_len w (drop (p.1 i) ((c.as_slice.ensures ∙ p.0) i))) ∙ window_len-around ts w c.ranges.number.fits in
+    c.window_len-len.ensures ∙ (λ i. window_len w (drop (p.1 i) ((c.as_slice.ensures ∙ p.0) i))) ∙ window_len-around ts w c.ranges.number.fits in
     on_ok_weaker c.new_window.result
     (λ e. e ∙ ap (λ xs. set (set (inserted xs place (zeros (2 + n))) place w) (place + 1) n) p.0
-        ∙ room_new ts w n place c.ranges.number.fits p.1 (omega (arith, len, c.if-len-eq0.true)))
+    ∙ room_new ts w n place c.ranges.number.fits p.1 (omega (arith, len, c.if-len-eq0.true)))
     c.new_window.ensures.ok
 
 pub longer_window-requires-clause-inside : goal.longer_window-requires-clause-inside
@@ -39,7 +39,7 @@ longer_window-requires-clause-inside g c =
     let ts = c.requires.built.0 in
     let p = c.requires.built.1 in
     let len : c.window_len-len.result ≡ length (window_octets ts c.args.number) =
-        c.window_len-len.ensures ∙ (λ i. window_len c.args.number (drop (p.1 i) ((c.as_slice.ensures ∙ p.0) i))) ∙ window_len-around ts c.args.number c.ranges.number.fits in
+    c.window_len-len.ensures ∙ (λ i. window_len c.args.number (drop (p.1 i) ((c.as_slice.ensures ∙ p.0) i))) ∙ window_len-around ts c.args.number c.ranges.number.fits in
     omega (arith, ap length p.0, p.1, len, window_inside ts c.args.number c.ranges.number.fits (omega (arith, len, c.if-len-eq0.false)))
 
 pub returns-clause-ok : goal.returns-clause-ok
@@ -48,8 +48,8 @@ returns-clause-ok g c ts p =
     let n : ℕ = c.args.needed in
     let place : ℕ = c.args.place in
     let len : c.window_len-len.result ≡ length (window_octets ts w) =
-        c.window_len-len.ensures ∙ (λ i. window_len w (drop (p.1 i) ((c.as_slice.ensures ∙ p.0) i))) ∙ window_len-around ts w c.ranges.number.fits in
+    c.window_len-len.ensures ∙ (λ i. window_len w (drop (p.1 i) ((c.as_slice.ensures ∙ p.0) i))) ∙ window_len-around ts w c.ranges.number.fits in
     on_ok_weaker c.longer_window.result
     (λ e. e ∙ (λ i. set (inserted (p.0 i) (place + 2 + len i) (zeros (n - len i))) (place + 1) n)
-        ∙ room_more ts w n place c.ranges.number.fits p.1 (omega (arith, len, c.if-len-eq0.false)) (omega (arith, len, c.if-needed-len.false)))
+    ∙ room_more ts w n place c.ranges.number.fits p.1 (omega (arith, len, c.if-len-eq0.false)) (omega (arith, len, c.if-needed-len.false)))
     c.longer_window.ensures.ok

@@ -15,7 +15,7 @@ loop-lower-preserved c ts e =
     let w : ℕ = c.loop-lower.lower in
     let at = c.loop-lower.invariant ts e in
     let len : c.window_len.result ≡ length (window_octets ts w) =
-        c.window_len.ensures ∙ (λ i. window_len w (drop (at i) (e i))) ∙ window_len-around ts w (omega (arith, c.loop-lower-test.true, c.ranges.number.fits)) in
+    c.window_len.ensures ∙ (λ i. window_len w (drop (at i) (e i))) ∙ window_len-around ts w (omega (arith, c.loop-lower-test.true, c.ranges.number.fits)) in
     let next : length (windows_before ts (suc w)) ≡ length (windows_before ts (w + 1)) = ap (λ k. length (windows_before ts k)) {x = suc w} {y = w + 1} (omega arith) in
     elim c.if-len-gt0.branch [
       | then-len-gt0 s ↦ omega (arith, s.place-is, at, len, c.from-len.ensures, next, next_begins ts w (omega (arith, s.if-len-gt0.true, len, c.from-len.ensures)))

@@ -23,10 +23,11 @@ invariant_of-self-2 g c =
     let room = c.in_ok-make_room.ensures.ok ts (is, at) in
     let place : ℕ = c.place_of-place.result + 2 + c.from.result in
     let bit : c.to_int-2.result % 256 % 8 ≡ t % 8 = omega (arith, c.to_int-2.ensures) in
-    let room_of : roomy ts (c.to_int.result / 256) (c.to_int-2.result % 256 / 8 + 1) ≡ roomy ts (t / 256) (t % 256 / 8 + 1) = λ i. roomy ts (c.to_int.ensures i / 256) (c.to_int-2.ensures i % 256 / 8 + 1) in
-    (t ∷ ts,
-    c.set_bit.ensures ∙ (λ i. set ((room ∙ room_of) i) place (with_bit (slice_index ((room ∙ room_of) i) place) (bit i)))
-    ∙ bit_written ts t place (omega (arith, c.to_int.ensures, c.to_int.type_inv)) (omega (arith, at, c.from.ensures, c.to_int-2.ensures, ap (λ n. length (windows_before ts (n / 256))) c.to_int.ensures)))
+    let room_of : roomy ts (c.to_int.result / 256) (c.to_int-2.result % 256 / 8 + 1) ≡ roomy ts (t / 256) (t % 256 / 8 + 1) = λ i. roomy ts (c.to_int.ensures i / 256) (c.to_int-2.ensures i % 256 / 8 + 1) in (
+      t ∷ ts,
+      c.set_bit.ensures ∙ (λ i. set ((room ∙ room_of) i) place (with_bit (slice_index ((room ∙ room_of) i) place) (bit i)))
+          ∙ bit_written ts t place (omega (arith, c.to_int.ensures, c.to_int.type_inv)) (omega (arith, at, c.from.ensures, c.to_int-2.ensures, ap (λ n. length (windows_before ts (n / 256))) c.to_int.ensures)),
+    )
 
 pub returns-clause-ok : goal.returns-clause-ok
 returns-clause-ok g c ts e =
