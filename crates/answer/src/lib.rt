@@ -7,8 +7,8 @@ pub mod publisher;
 pub mod simulate;
 
 pub use answer_judge::{judge, scheme};
-pub use denial_data as denial;
 pub use keyset;
 pub use messages as message;
 pub use messages::question;
 pub use records::{names, plain};
+pub use signed_data as denial;

@@ -17,9 +17,9 @@ use crate::publisher::fault::{Mode, ZoneFault};
 use crate::publisher::publishing::Publisher;
 use crate::simulate::run::Run;
 use answer_judge::scheme::Scheme;
-use denial_data::hasher::Nsec3Hasher;
 use records::names::Name;
 use records::plain::record::Record;
+use signed_data::hasher::Nsec3Hasher;
 use std::alloc::Global;
 
 mod run;

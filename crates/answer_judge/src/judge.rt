@@ -28,13 +28,13 @@ use crate::judge::groups::{Group, Trust, verify_groups};
 use crate::judge::keys::{TaggedKey, has_equal_tags, read_keys, trusted_keys, usable_keys};
 use crate::judge::verdict::{Judgement, Refusal, Refused, Verdict};
 use crate::scheme::Checks;
-use denial_data::ds::Ds;
-use denial_data::ranked::put_data;
 use messages::question::Question;
 use messages::{MessageView, ViewRecord, read_message};
 use records::message::MessageError;
 use records::names::{Name, ParsedName};
 use records::plain::{Class, Rtype};
+use signed_data::ds::Ds;
+use signed_data::ranked::put_data;
 use std::alloc::{AllocError, Global};
 
 /// Judges what a zone says of a question, from a DS set, a DNSKEY answer and a zone answer (RFC 4035, 5). The

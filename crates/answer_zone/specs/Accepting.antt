@@ -13,8 +13,8 @@ use Rattle.records.specs.HandedRr.{HandedRr, among, is_meta, has_star}
 use Rattle.records.specs.Star.{begins_with_star}
 use Rattle.answer_zone.specs.declared.fault.ZoneFault.{ZoneFault}
 use Rattle.answer_zone.specs.declared.fault.ZoneFault.TheVariants as fault
-use Rattle.denial_data.specs.declared.generate.SigningError.{SigningError}
-use Rattle.denial_data.specs.declared.generate.SigningError.TheVariants as chain
+use Rattle.signed_data.specs.declared.generate.SigningError.{SigningError}
+use Rattle.signed_data.specs.declared.generate.SigningError.TheVariants as chain
 
 abbrev pub over_limit : Mode → ℕ → Bool
 over_limit Nsec limit = false

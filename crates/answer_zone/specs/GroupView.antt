@@ -5,7 +5,7 @@ use Rattle.std.specs.declared.alloc.Global.{Global}
 use Rattle.definitions.specs.Name.{Name, low}
 use Rattle.definitions.specs.Dnskey.{Dnskey, key_tag}
 use Rattle.definitions.specs.Signing.{Fields, label_count, signed_octets}
-use Rattle.denial_data.specs.Rrsig.{rrsig_data}
+use Rattle.signed_data.specs.Rrsig.{rrsig_data}
 use Rattle.records.specs.Written.{Written}
 use Rattle.records.specs.HandedRr.{HandedRr}
 use Rattle.definitions.specs.Zone.{data_at}

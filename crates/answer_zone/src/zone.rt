@@ -13,9 +13,9 @@ use crate::fault::{Mode, ZoneFault};
 use crate::zone::faults::first_fault;
 use crate::zone::handed::HandedRecord;
 use crate::zone::sorting::{has_unlike_neighbours, sorted};
-use denial_data::generate::SigningError;
 use records::names::Name;
 use records::plain::record::Record;
+use signed_data::generate::SigningError;
 use std::alloc::{AllocError, Global};
 use std::marker::Model;
 

@@ -2,8 +2,8 @@
 use Rattle.std.specs.Prelude.{ℕ, List, codes}
 use Rattle.keyset_rolls.specs.declared.rolls.Action.{Action}
 use Rattle.keyset_rolls.specs.declared.rolls.Action.TheVariants as ActionCase
-use Rattle.denial_data.specs.declared.generate.SigningError.{SigningError}
-use Rattle.denial_data.specs.declared.generate.SigningError.TheVariants as SigningErrorCase
+use Rattle.signed_data.specs.declared.generate.SigningError.{SigningError}
+use Rattle.signed_data.specs.declared.generate.SigningError.TheVariants as SigningErrorCase
 use Rattle.answer_zone.specs.declared.fault.ZoneFault.{ZoneFault}
 use Rattle.answer_zone.specs.declared.fault.ZoneFault.TheVariants as ZoneFaultCase
 use Rattle.answer.specs.declared.publisher.fault.AnswerFault.{AnswerFault}

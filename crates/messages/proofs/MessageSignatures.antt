@@ -11,7 +11,7 @@ use Rattle.definitions.specs.Limits.{pointer_limit}
 use Rattle.records.specs.declared.message.MessageError.{MessageError}
 use Rattle.records.specs.Message.{Spelled, owner_at, if_true, pair, quad, name_upto, name_in, rrsig_at, rrsig_fields}
 use Rattle.records.specs.Message as message
-use Rattle.denial_data.specs.Rrsig.{rrsig_data, fields_numbers}
+use Rattle.signed_data.specs.Rrsig.{rrsig_data, fields_numbers}
 use Rattle.messages.specs.WrittenLaws.{AreFields}
 use Rattle.messages.proofs.MessageWritten.{StandsAt, past, owner_here, wire-length}
 use Rattle.records.proofs.NameWritten.{octet_there, range_there}

@@ -6,7 +6,7 @@ use Rattle.definitions.specs.Bitmap.{is_bitmap}
 use Rattle.definitions.specs.Signing.{Fields}
 use Rattle.definitions.specs.Limits.{pointer_limit}
 use Rattle.records.specs.Message.{Asked, Spelled, owner_at, message, data_of, rrsig_at, ns_data, soa_data, nsec_data}
-use Rattle.denial_data.specs.Rrsig.{rrsig_data}
+use Rattle.signed_data.specs.Rrsig.{rrsig_data}
 use Rattle.records.specs.Written.{Written, message_octets}
 
 abbrev pub NamesReadBack : Type 0

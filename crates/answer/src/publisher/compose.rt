@@ -13,11 +13,11 @@ use crate::publisher::fault::AnswerFault;
 use crate::publisher::signing::{SignatureTerms, sign_group};
 use answer_judge::scheme::{Scheme, SchemeError};
 use answer_zone::group::RrGroup;
-use denial_data::dnskey::Dnskey;
 use messages::question::Question;
 use records::message::write::{push_header, push_question, push_record};
 use records::names::{Name, Octets};
 use records::plain::{Class, Rtype, Ttl};
+use signed_data::dnskey::Dnskey;
 use std::alloc::{AllocError, Global};
 
 /// The octets of a longest message (RFC 1035, 4.2.2).

@@ -15,13 +15,13 @@ ghost use Rattle.answer.specs.KeyCalls.{ActsOnKeys};
 ghost use Rattle.answer.specs.NewKeys.{added_tag, added_to, AddsBound, Foretells};
 
 use crate::publisher::fault::KeyFault;
-use denial_data::dnskey::Dnskey;
-use denial_data::ds::Ds;
-use denial_data::ranked::{put_data, put_ranked};
 use keyset::set::KeySet;
 use keyset::{Action, Available, Error, KeyType, RollType, UnixTime};
 use records::names::Name;
 use records::plain::{DigestAlgorithm, SecurityAlgorithm};
+use signed_data::dnskey::Dnskey;
+use signed_data::ds::Ds;
+use signed_data::ranked::{put_data, put_ranked};
 use std::alloc::{AllocError, Global};
 use std::collections::BTreeMap;
 use std::marker::Model;

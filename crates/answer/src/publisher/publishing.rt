@@ -26,15 +26,15 @@ use answer_judge::scheme::{Scheme, SchemeError};
 use answer_zone::group::RrGroup;
 use answer_zone::zone::ZoneRecords;
 use answer_zone::zone::answers::AUTHORITATIVE;
-use denial_data::dnskey::Dnskey;
-use denial_data::ds::Ds;
-use denial_data::hasher::Nsec3Hasher;
 use keyset::set::KeySet;
 use keyset::{Action, Available, Error, RollType, UnixTime};
 use messages::question::Question;
 use records::names::Name;
 use records::plain::record::Record;
 use records::plain::{Class, DigestAlgorithm, Rtype, SecurityAlgorithm};
+use signed_data::dnskey::Dnskey;
+use signed_data::ds::Ds;
+use signed_data::hasher::Nsec3Hasher;
 use std::alloc::{AllocError, Global};
 use std::slice;
 

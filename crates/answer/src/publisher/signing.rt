@@ -5,16 +5,16 @@ ghost use Rattle.definitions.specs.Name.{wire};
 ghost use Rattle.definitions.specs.Dnskey.{key_tag};
 ghost use Rattle.definitions.specs.Signing.{signed_octets, signed_owner};
 ghost use Rattle.answer_zone.specs.GroupView.{FailsFor, IsRrsigData, fields_of, octets_of};
-ghost use Rattle.denial_data.specs.Rrsig.{record_head, with_length};
+ghost use Rattle.signed_data.specs.Rrsig.{record_head, with_length};
 ghost use Rattle.answer_judge.specs.declared.scheme.SchemeError.TheVariants as error;
 
 use answer_judge::scheme::{Scheme, SchemeError};
 use answer_zone::group::RrGroup;
-use denial_data::dnskey::Dnskey;
-use denial_data::rrsig::ProtoRrsig;
-use denial_data::signed::signed_octets;
 use records::names::{Name, Octets};
 use records::plain::Class;
+use signed_data::dnskey::Dnskey;
+use signed_data::rrsig::ProtoRrsig;
+use signed_data::signed::signed_octets;
 use std::alloc::{AllocError, AllocFailed, Global};
 
 /// Whose signatures are made, and for which time.

@@ -17,10 +17,10 @@ use crate::publisher::publishing::Publisher;
 use answer_judge::judge::by_scheme::judge_with;
 use answer_judge::judge::verdict::{Judgement, Refused};
 use answer_judge::scheme::Scheme;
-use denial_data::ds::Ds;
-use denial_data::hasher::Nsec3Hasher;
 use keyset::{Action, UnixTime};
 use messages::question::Question;
+use signed_data::ds::Ds;
+use signed_data::hasher::Nsec3Hasher;
 use std::alloc::{AllocError, Global};
 
 /// A thing that was shown.

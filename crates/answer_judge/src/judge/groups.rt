@@ -16,13 +16,13 @@ ghost use Rattle.definitions.specs.Serial.{serial_le};
 
 use crate::judge::keys::TaggedKey;
 use crate::scheme::Checks;
-use denial_data::ranked::put_data;
-use denial_data::rrsig::ProtoRrsig;
-use denial_data::signed::signed_octets;
 use messages::ViewRecord;
 use messages::rdata::RrsigView;
 use records::names::{Name, ParsedName};
 use records::plain::{Class, Rtype, SecurityAlgorithm, Ttl};
+use signed_data::ranked::put_data;
+use signed_data::rrsig::ProtoRrsig;
+use signed_data::signed::signed_octets;
 use std::alloc::{AllocError, Global};
 
 /// What a signature says beside the RRset that it covers and the name that signs it (RFC 4034, 3.1).

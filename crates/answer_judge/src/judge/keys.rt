@@ -8,11 +8,11 @@ ghost use Rattle.records.specs.Message.{data_of};
 ghost use Rattle.messages.specs.Record.{spelled};
 
 use crate::scheme::{Checks, SchemeError};
-use denial_data::dnskey::Dnskey;
-use denial_data::ds::Ds;
 use messages::ViewRecord;
 use records::names::Name;
 use records::plain::{Class, Rtype, SecurityAlgorithm};
+use signed_data::dnskey::Dnskey;
+use signed_data::ds::Ds;
 use std::alloc::{AllocError, Global};
 use std::marker::Model;
 

@@ -3,9 +3,9 @@ ghost use Rattle.std.specs.Prelude.{◌≡◌, ℕ, ◌<◌};
 
 use crate::scheme::steps::Steps;
 use crate::scheme::{Checks, Scheme, SchemeError};
-use denial_data::dnskey::Dnskey;
-use denial_data::hasher::{HashError, Nsec3Hasher};
 use records::plain::DigestAlgorithm;
+use signed_data::dnskey::Dnskey;
+use signed_data::hasher::{HashError, Nsec3Hasher};
 use std::alloc::Global;
 use std::sync::ledger::{Blank, Ledger};
 

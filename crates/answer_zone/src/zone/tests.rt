@@ -3,10 +3,10 @@ use crate::fault::{Mode, ZoneFault};
 use crate::group::RrGroup;
 use crate::zone::ZoneRecords;
 use crate::zone::bitmap::write_bitmap;
-use denial_data::generate::SigningError;
 use records::names::{Name, ParsedName};
 use records::plain::record::{Record, Soa, UnknownRecordData, ZoneRecordData};
 use records::plain::{Class, Rtype, Ttl};
+use signed_data::generate::SigningError;
 use std::alloc::Global;
 use std::test::Fail;
 

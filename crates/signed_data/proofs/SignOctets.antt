@@ -9,7 +9,7 @@ use Rattle.std.specs.Prelude.{if◌then◌else◌}
 use Rattle.std.specs.Str.{str_to_ascii_lowercase}
 use Rattle.definitions.specs.Name.{Name, wire, low}
 use Rattle.definitions.specs.Signing.{Fields, fields_data, label_count, signed_owner, signed_octets, canonical_record}
-use Rattle.denial_data.specs.Rrsig.{record_head, with_length}
+use Rattle.signed_data.specs.Rrsig.{record_head, with_length}
 
 -- an owner with more labels than are counted is signed as a star and its last labels
 pub signed_owner-star : (count : ℕ) (owner : Name) → count < label_count owner → wire (signed_owner count owner) ≡ 1 ∷ 42 ∷ wire (low (drop (length owner - count) owner))

@@ -1,6 +1,6 @@
 use Rattle.std.proofs.Common.{arith, ◌≡◌, length}
-use Rattle.denial_data.proofs.SignOctets.{signed_octets_written}
-use Rattle.denial_data.proofs.signed.signed_octets.Goals as goal
+use Rattle.signed_data.proofs.SignOctets.{signed_octets_written}
+use Rattle.signed_data.proofs.signed.signed_octets.Goals as goal
 
 pub returns : goal.returns
 returns c =

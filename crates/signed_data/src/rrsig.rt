@@ -1,7 +1,7 @@
 //! Signatures without their octets (RFC 4034, 3.1).
 ghost use Rattle.std.specs.Prelude.{◌≡◌, ◌++◌, OnOk};
 ghost use Rattle.definitions.specs.Signing.{fields_data};
-ghost use Rattle.denial_data.specs.Rrsig.{covered_octets, fields_numbers, spelled_fields, times_octets};
+ghost use Rattle.signed_data.specs.Rrsig.{covered_octets, fields_numbers, spelled_fields, times_octets};
 
 use records::names::Name;
 use records::plain::{Rtype, SecurityAlgorithm, Ttl};

@@ -3,7 +3,7 @@ ghost use Rattle.std.specs.Prelude.{◌≡◌, ◌++◌, map, IfOk, OnOk};
 ghost use Rattle.definitions.specs.Name.{wire};
 ghost use Rattle.records.specs.Items.{items_of};
 ghost use Rattle.definitions.specs.Signing.{signed_octets, signed_owner};
-ghost use Rattle.denial_data.specs.Rrsig.{record_head, with_length};
+ghost use Rattle.signed_data.specs.Rrsig.{record_head, with_length};
 
 use crate::rrsig::ProtoRrsig;
 use records::names::Name;

@@ -1,8 +1,8 @@
 use Rattle.std.proofs.Common.{arith, ◌≡◌, ◌+◌, ◌*◌, get_or, take, ◌%◌, refl}
 use Rattle.definitions.specs.Dnskey.{sum16}
-use Rattle.denial_data.proofs.TagSum.{sum16-more-even, sum16-more-odd, sum_step}
-use Rattle.denial_data.proofs.dnskey.sum_of.Goals as goal
-use Rattle.denial_data.proofs.dnskey.sum_of.Goals.{then-i-eq0, else-i-eq0}
+use Rattle.signed_data.proofs.TagSum.{sum16-more-even, sum16-more-odd, sum_step}
+use Rattle.signed_data.proofs.dnskey.sum_of.Goals as goal
+use Rattle.signed_data.proofs.dnskey.sum_of.Goals.{then-i-eq0, else-i-eq0}
 
 pub loop-i-preserved : goal.loop-i-preserved
 loop-i-preserved c =

@@ -1,8 +1,8 @@
 use Rattle.std.proofs.Common.{arith, ◌<◌}
 use Rattle.std.proofs.lemmas.Result.{on_ok_weaker}
 use Rattle.definitions.specs.Signing.{label_count}
-use Rattle.denial_data.proofs.SignOctets.{star_written}
-use Rattle.denial_data.proofs.signed.compose_signed_owner.Goals as goal
+use Rattle.signed_data.proofs.SignOctets.{star_written}
+use Rattle.signed_data.proofs.signed.compose_signed_owner.Goals as goal
 
 pub returns : goal.returns
 returns c =
