@@ -26,8 +26,6 @@ mod handed;
 mod links;
 mod lookups;
 mod sorting;
-#[cfg(test)]
-mod tests;
 
 /// The records of an accepted zone in canonical order.
 #[derive(Debug, Drop)]

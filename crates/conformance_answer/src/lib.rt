@@ -3,6 +3,8 @@
 #![tactic(auto)]
 
 #[cfg(test)]
+mod compose_tests;
+#[cfg(test)]
 mod fault_tests;
 #[cfg(test)]
 mod judge_tests;

@@ -1,9 +1,11 @@
 //! Sessions whose lines reach the limits of size, or miss the alphabet by one letter.
 use crate::scheme::WELL;
-use answer::event::Outcome;
+use answer::event::{Act, Event, Outcome};
 use answer::simulate::simulate;
 use session_lines::session::{Session, SessionError, read_session};
+use std::alloc::Global;
 use std::test::Fail;
+use std::time::Duration;
 
 const ZONE: &[u8] = b"zone example nsec 0 86400\n";
 
@@ -57,5 +59,68 @@ fn many_events(rt: HostRuntime) -> Result<(), Fail> {
     )?;
     assert_eq!(rt; outcomes.len(), 10_000);
     assert!(rt; matches!(outcomes.last(), Some(Outcome::Ds { place: 9_999, .. })));
+    Ok(())
+}
+
+/// The one event of a session of an empty zone and a line, None where the line can't be read.
+fn event_of(alloc: Global, line: &str) -> Result<Option<Event>, Fail> {
+    let mut input = ZONE.to_vec(alloc)?;
+    input.extend_from_slice(line.as_bytes())?;
+    match read_session(alloc, &input) {
+        Ok(mut session) => Ok(session.events.pop()),
+        Err(SessionError::Line(_)) => Ok(None),
+        Err(fault) => Err(Fail::new(fault)),
+    }
+}
+
+/// Numbers are decimal digits, leading zeros allowed, of at most 64 bits.
+#[test]
+fn moments(rt: HostRuntime) -> Result<(), Fail> {
+    for (line, want) in [
+        ("ds 0", Some(0u64)),
+        ("ds 007", Some(7)),
+        ("ds 00000000000000000000000000000000001", Some(1)),
+        ("ds 18446744073709551615", Some(u64::MAX)),
+        ("ds 18446744073709551616", None),
+        ("ds ", None),
+        ("ds +1", None),
+        ("ds -1", None),
+        ("ds 1\r", None),
+        ("ds 1a", None),
+    ] {
+        let read = event_of(rt.alloc(), line)?;
+        let at = read.map(|event| Duration::from(event.at));
+        assert_eq!(rt; at, want.map(Duration::from_secs), "{line}");
+    }
+    Ok(())
+}
+
+/// A place of 64 bits, a type of 16, an algorithm of 8, a TTL of 32: the greatest is read, and the next isn't.
+#[test]
+fn numbers_fit_their_fields(rt: HostRuntime) -> Result<(), Fail> {
+    for (line, is_read) in [
+        ("judge 18446744073709551615 0 0 0", true),
+        ("judge 18446744073709551616 0 0 0", false),
+        ("ask example 65535 0", true),
+        ("ask example 65536 0", false),
+        ("key ksk K 255 ABA= 0", true),
+        ("key ksk K 256 ABA= 0", false),
+        ("report1 zsk-roll 4294967295 0", true),
+        ("report1 zsk-roll 4294967296 0", false),
+    ] {
+        assert_eq!(rt; event_of(rt.alloc(), line)?.is_some(), is_read, "{line}");
+    }
+    let last = event_of(rt.alloc(), "judge 1 2 18446744073709551615 0")?;
+    let act = last.map(|event| event.act);
+    assert!(rt;
+        matches!(
+            act,
+            Some(Act::Judge {
+                ds: 1,
+                dnskey: 2,
+                answer: 18_446_744_073_709_551_615
+            })
+        )
+    );
     Ok(())
 }

@@ -8,8 +8,6 @@ use std::marker::Model;
 pub mod bitmap;
 pub mod names;
 pub mod reading;
-#[cfg(test)]
-mod tests;
 pub mod verdict;
 pub mod zone;
 

@@ -10,6 +10,3 @@ pub mod view;
 
 pub use records::message::{MessageError, write};
 pub use view::{MessageView, Records, ViewRecord, read_message};
-
-#[cfg(test)]
-mod tests;

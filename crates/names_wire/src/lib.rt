@@ -12,5 +12,3 @@ pub mod order;
 pub mod owned;
 pub mod owned_order;
 pub mod symbol;
-#[cfg(test)]
-mod tests;

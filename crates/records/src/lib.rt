@@ -4,5 +4,3 @@
 pub mod message;
 pub mod names;
 pub mod plain;
-#[cfg(test)]
-mod tests;

@@ -8,5 +8,3 @@ pub mod hasher;
 pub mod ranked;
 pub mod rrsig;
 pub mod signed;
-#[cfg(test)]
-mod tests;

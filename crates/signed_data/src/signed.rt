@@ -40,8 +40,9 @@ fn signed_head(
     owner: &Name,
     class: Class,
 ) -> Result<Vec<u8>, AllocError>
-    ensures { IfOk result (λ v. v.items
-        ≡ record_head (signed_owner fields.now.labels owner.now) fields.now.covered class fields.now.ttl) }
+    ensures { let f = fields.now in
+        let signed = signed_owner f.labels owner.now in
+        IfOk result (λ v. v.items ≡ record_head signed f.covered class f.ttl) }
 {
     let mut head = Vec::new(alloc);
     compose_signed_owner(alloc, fields.labels(), owner, &mut head)?;

@@ -40,7 +40,8 @@ impl PlainRecord {
         rtype: u16,
         bytes: Octets,
     ) -> Result<PlainRecord, AllocError>
-        ensures { IfOk result (λ r. r ≡ record { spelled = low owner.now; rtype = rtype; bytes = bytes }) }
+        ensures { let spelled = low owner.now in
+            IfOk result (λ r. r ≡ record { spelled = spelled; rtype = rtype; bytes = bytes }) }
     {
         let owner = lowered(alloc, owner)?;
         Ok(PlainRecord {

@@ -40,25 +40,3 @@ impl Name {
         }
     }
 }
-
-#[cfg(test)]
-mod tests {
-    use super::*;
-    use std::test::Fail;
-
-    #[test]
-    fn reads_one_name_and_nothing_else(rt: HostRuntime) -> Result<(), Fail> {
-        let alloc = rt.alloc();
-        let name = Name::from_octets(alloc, b"\x01a\x07Example\x00")?;
-        assert_eq!(rt; name.len(), 2);
-        assert_eq!(rt; name.label_at(1), Some(b"Example".as_slice()));
-        for (octets, error) in [
-            (b"\x01a".as_slice(), NameError::ShortInput),
-            (b"\xc0\x00".as_slice(), NameError::Malformed),
-            (b"\x00\x00".as_slice(), NameError::TrailingData),
-        ] {
-            assert_eq!(rt; Name::from_octets(alloc, octets).err(), Some(error));
-        }
-        Ok(())
-    }
-}

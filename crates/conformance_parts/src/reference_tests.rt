@@ -1,10 +1,10 @@
 //! Small zones, messages and records that were worked by hand.
-use crate::reference::Octets;
-use crate::reference::bitmap::{bitmap, bitmap_has, is_bitmap};
-use crate::reference::names::{at_or_above, covers, hash_covers, name_cmp, same};
-use crate::reference::reading::{ReadError, name_at};
-use crate::reference::verdict::PlainVerdict;
-use crate::reference::zone::{PlainRecord, PlainZone};
+use definitions::reference::Octets;
+use definitions::reference::bitmap::{bitmap, bitmap_has, is_bitmap};
+use definitions::reference::names::{at_or_above, covers, hash_covers, name_cmp, same};
+use definitions::reference::reading::{ReadError, name_at};
+use definitions::reference::verdict::PlainVerdict;
+use definitions::reference::zone::{PlainRecord, PlainZone};
 use std::alloc::Global;
 use std::cmp::Ordering;
 use std::process::Abort;

@@ -1,8 +1,8 @@
 //! Names, records and numbers, with values of the standards.
-use crate::message::write::{push_u16, push_u32};
-use crate::names::{Name, Octets};
-use crate::plain::record::{LongRecordData, Ns, Record, Soa, UnknownRecordData, ZoneRecordData};
-use crate::plain::{Class, DigestAlgorithm, Rtype, SecurityAlgorithm, Ttl};
+use records::message::write::{push_u16, push_u32};
+use records::names::{Name, NameError, Octets};
+use records::plain::record::{LongRecordData, Ns, Record, Soa, UnknownRecordData, ZoneRecordData};
+use records::plain::{Class, DigestAlgorithm, Rtype, SecurityAlgorithm, Ttl};
 use std::alloc::Global;
 use std::cmp::Ordering;
 use std::test::Fail;
@@ -140,5 +140,21 @@ fn numbers(rt: HostRuntime) -> Result<(), Fail> {
     push_u16(&mut octets, 0x0102)?;
     push_u32(&mut octets, 0x0304_0506)?;
     assert_eq!(rt; octets.as_slice(), b"\x01\x02\x03\x04\x05\x06".as_slice());
+    Ok(())
+}
+
+#[test]
+fn reads_one_name_and_nothing_else(rt: HostRuntime) -> Result<(), Fail> {
+    let alloc = rt.alloc();
+    let name = Name::from_octets(alloc, b"\x01a\x07Example\x00")?;
+    assert_eq!(rt; name.len(), 2);
+    assert_eq!(rt; name.label_at(1), Some(b"Example".as_slice()));
+    for (octets, error) in [
+        (b"\x01a".as_slice(), NameError::ShortInput),
+        (b"\xc0\x00".as_slice(), NameError::Malformed),
+        (b"\x00\x00".as_slice(), NameError::TrailingData),
+    ] {
+        assert_eq!(rt; Name::from_octets(alloc, octets).err(), Some(error));
+    }
     Ok(())
 }

@@ -1,8 +1,7 @@
 //! Zones that are accepted and refused, with values of the RFCs and of worked examples.
-use crate::fault::{Mode, ZoneFault};
-use crate::group::RrGroup;
-use crate::zone::ZoneRecords;
-use crate::zone::bitmap::write_bitmap;
+use answer_zone::fault::{Mode, ZoneFault};
+use answer_zone::group::RrGroup;
+use answer_zone::zone::ZoneRecords;
 use records::names::{Name, ParsedName};
 use records::plain::record::{Record, Soa, UnknownRecordData, ZoneRecordData};
 use records::plain::{Class, Rtype, Ttl};
@@ -207,11 +206,22 @@ fn what_a_zone_denies(rt: HostRuntime) -> Result<(), Fail> {
 #[test]
 fn a_bitmap_of_two_windows(rt: HostRuntime) -> Result<(), Fail> {
     let alloc = rt.alloc();
-    let mut octets = Vec::new(alloc);
-    write_bitmap(&mut octets, &[1234, 15, 47, 1, 46])?;
-    assert_eq!(rt; octets.len(), 37);
-    assert!(rt; octets.starts_with(&[0, 6, 64, 1, 0, 0, 0, 3, 4, 27]));
-    assert_eq!(rt; octets[36], 32);
+    let mut records = Vec::new(alloc);
+    records.push(record(alloc, A_EXAMPLE, 1, 60, 1234, b"\x00")?)?;
+    records.push(record(alloc, A_EXAMPLE, 1, 60, 15, b"\x00\x0a\x00")?)?;
+    records.push(record(alloc, A_EXAMPLE, 1, 60, 1, b"\xc0\x00\x02\x01")?)?;
+    records.push(soa(alloc, 1)?)?;
+    let zone = ZoneRecords::new(alloc, name(alloc, EXAMPLE)?, records, Mode::Nsec, 0)?;
+    let found = zone.answer_to(alloc, &name(alloc, A_EXAMPLE)?, Rtype::TXT)?;
+    let link = found.authority.last().expect(&rt, "an NSEC record");
+    let octets = first_datum(link);
+    assert_eq!(rt; octets.len(), EXAMPLE.len() + 37);
+    assert!(rt; octets.starts_with(EXAMPLE));
+    assert!(rt;
+        octets.ends_with(
+            b"\x00\x06\x40\x01\x00\x00\x00\x03\x04\x1b\x00\x00\x00\x00\x00\x00\x00\x00\x00\x00\x00\x00\x00\x00\x00\x00\x00\x00\x00\x00\x00\x00\x00\x00\x00\x00\x20"
+        )
+    );
     Ok(())
 }
 

@@ -1,9 +1,9 @@
 //! Octets of messages that were written by hand, and what they read as.
 ghost use Rattle.std.specs.Prelude.{◌<◌, ◌^◌, length};
 
-use crate::bitmap::{bitmap_has, is_bitmap};
-use crate::rdata::{NsecView, RrsigView};
-use crate::read_message;
+use messages::bitmap::{bitmap_has, is_bitmap};
+use messages::rdata::{NsecView, RrsigView};
+use messages::read_message;
 use records::message::MessageError;
 use records::message::write::{push_header, push_question, push_record};
 use records::names::{Name, ParsedName};

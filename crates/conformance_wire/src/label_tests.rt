@@ -2,14 +2,14 @@ ghost use Rattle.std.specs.Prelude.{◌≡◌, ◌≤◌, ◌<◌, ◌++◌, ◌
 ghost use Rattle.std.specs.Str.{str_to_ascii_lowercase};
 ghost use Rattle.names_wire.specs.Owned.{owned_octets};
 
-use crate::builder::{OctetsBuilder, ShortBuf};
-use crate::label::{Label, LabelTypeError, SplitLabelError};
-use crate::label_mut::LabelMut;
-use crate::laws;
-use crate::octets::Octets;
-use crate::owned::OwnedLabel;
-use crate::symbol::{Symbol, SymbolCharsError};
 use arrayvec::ArrayVec;
+use names_wire::builder::{OctetsBuilder, ShortBuf};
+use names_wire::label::{Label, LabelTypeError, SplitLabelError};
+use names_wire::label_mut::LabelMut;
+use names_wire::laws;
+use names_wire::octets::Octets;
+use names_wire::owned::OwnedLabel;
+use names_wire::symbol::{Symbol, SymbolCharsError};
 use std::alloc::AllocError;
 use std::borrow::CowSlice;
 use std::cmp::Ordering;

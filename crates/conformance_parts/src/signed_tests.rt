@@ -1,11 +1,11 @@
 //! Record data and signed octets, with values of the standards.
-use crate::dnskey::Dnskey;
-use crate::ds::Ds;
-use crate::ranked::{Ranked, put_data, put_ranked};
-use crate::rrsig::ProtoRrsig;
-use crate::signed::signed_octets;
 use records::names::Name;
 use records::plain::{Class, DigestAlgorithm, Rtype, SecurityAlgorithm, Ttl};
+use signed_data::dnskey::Dnskey;
+use signed_data::ds::Ds;
+use signed_data::ranked::{Ranked, put_data, put_ranked};
+use signed_data::rrsig::ProtoRrsig;
+use signed_data::signed::signed_octets;
 use std::alloc::Global;
 use std::cmp::Ordering;
 use std::test::Fail;
@@ -125,5 +125,36 @@ fn octets_of_signatures(rt: HostRuntime) -> Result<(), Fail> {
         let octets = signed_octets(alloc, &fields, &owner, Class::IN, &canonical)?;
         assert_eq!(rt; octets.as_slice(), want.as_slice());
     }
+    Ok(())
+}
+
+#[test]
+fn key_tags(rt: HostRuntime) {
+    let rows: [(u16, u8, &[u8], u16); 6] = [
+        (256, 8, &[], 1032),
+        (257, 13, &[0x00, 0x10], 1054),
+        (256, 13, &[0x00, 0x01, 0x00, 0x00], 1038),
+        (256, 13, &[0x00, 0x05, 0x00, 0x00], 1042),
+        (256, 1, &[0xAA, 0x12, 0x34, 0x56], 0x1234),
+        (256, 1, &[0xAA, 0x12], 0),
+    ];
+    for (flags, algorithm, octets, want) in rows {
+        let key = Dnskey::<&[u8]>::new(flags, 3, SecurityAlgorithm::from_int(algorithm), octets);
+        assert_eq!(rt; key.key_tag(), want);
+    }
+}
+
+#[test]
+fn record_data(rt: HostRuntime) -> Result<(), Fail> {
+    let data: &[u8] = &[1, 1, 3, 13, 0, 16];
+    let mut out = Vec::new(rt.alloc());
+    assert!(rt; Dnskey::from_rdata(&data[..3]).is_none());
+    if let Some(key) = Dnskey::from_rdata(data) {
+        assert!(rt; key.is_zone_key());
+        assert!(rt; key.same_key(&key.try_clone(rt.alloc())?));
+        assert_eq!(rt; key.key_tag(), 1054);
+        key.compose(&mut out)?;
+    }
+    assert_eq!(rt; out.as_slice(), data);
     Ok(())
 }
