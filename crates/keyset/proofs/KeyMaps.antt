@@ -1,7 +1,8 @@
 -- The maps of a key set, seen in order.
 use Rattle.std.proofs.Common.{◌≡◌, ℕ, Bool, true, false, cond, not, List, [], ◌∷◌, map, refl, sym, ap, ◌∙◌, ◌||◌, eqb}
 use Rattle.std.specs.Prelude.{Option, Some, None, String, string_bytes, if◌then◌else◌}
-use Rattle.std.specs.List.{list_any, IsDistinct}
+use Rattle.std.specs.List.{AllZip, list_any, IsDistinct}
+use Rattle.std.specs.declared.cmp.Ordering.{Ordering}
 use Rattle.std.specs.List.Sorted.{IsPermutation}
 use Rattle.std.proofs.lemmas.List.Sorted.{IsPermutation-map, list_any-IsPermutation}
 use Rattle.std.specs.Map.{lookup, keys_of, values_of}
@@ -15,7 +16,7 @@ use Rattle.std.specs.FinMap.{IsAntisymmetric, nat_cmp-IsAntisymmetric, slice_cmp
 use Rattle.std.specs.FinMap.Entries.{put, find}
 use Rattle.keyset_rolls.specs.declared.rolls.RollType.{RollType}
 use Rattle.keyset_rolls.specs.declared.rolls.RollType.TheVariants.{KskRoll, KskDoubleDsRoll, ZskRoll, ZskDoubleSignatureRoll, CskRoll, AlgorithmRoll}
-use Rattle.keyset.specs.KeyState.{Reference, by_reference, by_kind, reference_cmp, kind_cmp, index_of, greatest, removed, without}
+use Rattle.keyset.specs.KeyState.{Reference, in_order, by_reference, by_kind, reference_cmp, kind_cmp, index_of, greatest, removed, without}
 use Rattle.keyset.proofs.KeyOrder.{find-in_order, in_order-put, in_order-where_key, in_order-map, in_order-permutes, greatest-IsPermutation}
 use Rattle.records.proofs.Lists.{list_any-map, map-map}
 
@@ -23,7 +24,7 @@ turned : {X : Type 0} (a b : Bool) (x : Option X) → b ≡ a → cond b None x 
 turned true b x h = ap (λ t. cond t None x) h
 turned false b x h = ap (λ t. cond t None x) h
 
-bytes_eq-sym : (p q : Reference) → bytes_eq p q ≡ bytes_eq q p
+pub bytes_eq-sym : (p q : Reference) → bytes_eq p q ≡ bytes_eq q p
 bytes_eq-sym p q = texts_ties p q ∙ (eq_by_cmp_equiv nat_list_cmp_total).symm p q ∙ sym (texts_ties q p)
 
 reference_same : IsAntisymmetric reference_cmp
@@ -150,3 +151,16 @@ pub any_kind-by_kind : {X : Type 0} (eq : RollType → RollType → Bool) (tied 
 any_kind-by_kind eq tied p es h =
     keys_any p es
     ∙ list_any-IsPermutation (λ e. p e.0) (map (λ e. (e.0, e.1)) es) (by_kind es) (in_order-permutes kind_cmp (λ r. r) kind_total eq tied es h)
+
+-- a copy of a map's entries, each like its own, is seen in the same order
+in_order-alike : {K Q X : Type 0} (R : Q → Q → Ordering) (f : K → Q) (C : K → K → Type 0) (D : X → X → Type 0) → ((k l : K) → C k l → f l ≡ f k) → ((x y : X) → D x y → y ≡ x) → (es fs : List (K × X)) → AllZip (λ p q. C p.0 q.0 × D p.1 q.1) es fs → in_order R f fs ≡ in_order R f es
+in_order-alike R f C D g h [] [] a = refl
+in_order-alike R f C D g h (e ∷ es) (o ∷ fs) a = λ t. put R (g e.0 o.0 a.0.0 t) (h e.1 o.1 a.0.1 t) (in_order-alike R f C D g h es fs a.1 t)
+in_order-alike R f C D g h [] (o ∷ fs) a = absurd a
+in_order-alike R f C D g h (e ∷ es) [] a = absurd a
+
+pub by_reference-alike : {A X : Type 0} (es fs : List (String A × X)) → AllZip (λ p q. (string_bytes q.0 ≡ string_bytes p.0) × (q.1 ≡ p.1)) es fs → by_reference fs ≡ by_reference es
+by_reference-alike es fs a = in_order-alike reference_cmp string_bytes (λ k l. string_bytes l ≡ string_bytes k) (λ x y. y ≡ x) (λ k l e. e) (λ x y e. e) es fs a
+
+pub by_kind-alike : {X : Type 0} (es fs : List (RollType × X)) → AllZip (λ p q. (q.0 ≡ p.0) × (q.1 ≡ p.1)) es fs → by_kind fs ≡ by_kind es
+by_kind-alike es fs a = in_order-alike kind_cmp (λ r. r) (λ k l. l ≡ k) (λ x y. y ≡ x) (λ k l e. e) (λ x y e. e) es fs a

@@ -1,5 +1,6 @@
 pub mod KeyOrder
 pub mod KeyMaps
+pub mod Listings
 pub mod KeySettings
 pub mod KeyTagsCalls
 pub mod KeyWaits

@@ -5,6 +5,7 @@ pub use Rattle.keyset_rolls.specs.Actions
 pub mod KeyState
 pub mod KeyAnswers
 pub mod KeySteps
+pub mod Listing
 pub mod KeyLaws
 pub mod KeyRuns
 pub mod KeyRows

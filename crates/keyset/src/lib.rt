@@ -3,6 +3,7 @@
 #![tactic(auto)]
 
 pub mod laws;
+mod listing;
 mod maps;
 pub mod set;
 mod settings;

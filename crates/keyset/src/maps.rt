@@ -2,10 +2,12 @@
 ghost use Rattle.std.specs.Prelude.{◌≡◌, ℕ, ◌*◌, ◌≤◌, string_bytes, OnOk, OnErr};
 ghost use Rattle.std.specs.List.{list_any};
 ghost use Rattle.std.specs.FinMap.Entries.{put};
-ghost use Rattle.keyset.specs.KeyState.{by_reference, by_kind, reference_cmp, kind_cmp, has_tag, has_needed, roles_after, on_keys, started, misses, greatest_rest, texts, listed, without, removed, suitable};
+ghost use Rattle.keyset.specs.KeyState.{by_reference, by_kind, reference_cmp, kind_cmp, has_tag, has_needed, roles_after, on_keys, started, misses, greatest_rest, without, removed, suitable};
 ghost use Rattle.keyset.specs.KeySteps.{stepped};
+ghost use Rattle.keyset.specs.Listing.{listed_by};
 ghost use Rattle.keyset_rolls.specs.Rolls.{conflicts};
 
+use crate::listing::Listing;
 use keyset_keys::{Key, UnixTime};
 use keyset_rolls::table::Need;
 use keyset_rolls::{RollState, RollType, Turn};
@@ -45,13 +47,6 @@ pub(crate) fn greatest_rest(
     greatest
 }
 
-/// Whether the reference is listed.
-pub(crate) fn is_listed(references: &[&str], reference: &str) -> bool
-    ensures { result ≡ listed (texts references.now) reference.now }
-{
-    references.iter().any(|listed| *listed == reference)
-}
-
 /// Whether a roll that is running is in the way of this one.
 pub(crate) fn is_blocked(rollstates: &HashMap<RollType, RollState>, rolltype: RollType) -> bool
     ensures { result ≡ list_any (λ e. conflicts rolltype e.0) (by_kind rollstates.now.entries) }
@@ -65,11 +60,11 @@ pub(crate) fn is_blocked(rollstates: &HashMap<RollType, RollState>, rolltype: Ro
 pub(crate) fn serves_after_start(
     keys: &HashMap<String, Key>,
     rolltype: RollType,
-    old: &[&str],
-    new: &[&str],
+    old: &Listing,
+    new: &Listing,
 ) -> bool
     ensures { let es = by_reference keys.now.entries in
-        result ≡ suitable rolltype (roles_after rolltype (texts old.now) (texts new.now) es) }
+        result ≡ suitable rolltype (roles_after rolltype (listed_by old.now) (listed_by new.now) es) }
 {
     rolltype.needs().iter().all(|need| has_needed_after_start(keys, rolltype, *need, old, new))
 }
@@ -78,16 +73,16 @@ fn has_needed_after_start(
     keys: &HashMap<String, Key>,
     rolltype: RollType,
     need: Need,
-    old: &[&str],
-    new: &[&str],
+    old: &Listing,
+    new: &Listing,
 ) -> bool
     ensures { let es = by_reference keys.now.entries in
-        let after = roles_after rolltype (texts old.now) (texts new.now) es in
+        let after = roles_after rolltype (listed_by old.now) (listed_by new.now) es in
         result ≡ has_needed rolltype need after }
 {
     keys.iter().any(|(reference, key)| {
-        let is_old = is_listed(old, reference.as_str());
-        let is_new = is_listed(new, reference.as_str());
+        let is_old = old.contains(reference.as_str());
+        let is_new = new.contains(reference.as_str());
         let keytype = rolltype.roles_after_start(key.keytype(), is_old, is_new);
         rolltype.touches(keytype) && need.is_met_by(keytype)
     })
@@ -133,17 +128,17 @@ pub(crate) fn remove_phase(rollstates: &mut HashMap<RollType, RollState>, rollty
 pub(crate) fn start_keys(
     keys: &mut HashMap<String, Key>,
     rolltype: RollType,
-    old: &[&str],
-    new: &[&str],
+    old: &Listing,
+    new: &Listing,
     now: &UnixTime,
 )
     ensures { let es = by_reference keys.old.entries in
-        let after = started rolltype now.now (texts old.now) (texts new.now) es in
+        let after = started rolltype now.now (listed_by old.now) (listed_by new.now) es in
         by_reference keys.new.entries ≡ after }
 {
     keys.retain(|reference, key| {
-        let is_old = is_listed(old, reference.as_str());
-        let is_new = is_listed(new, reference.as_str());
+        let is_old = old.contains(reference.as_str());
+        let is_new = new.contains(reference.as_str());
         rolltype.start(key, is_old, is_new, now);
         true
     });

@@ -1,15 +1,17 @@
 //! The key set.
-ghost use Rattle.std.specs.Prelude.{◌≡◌, ℕ, Bool, [], string_bytes, option_copied, MatchResult, IfOk, OnOk, OnErr};
+ghost use Rattle.std.specs.Prelude.{◌≡◌, ◌∷◌, ◌++◌, ℕ, List, Bool, [], Some, string_bytes, option_copied, MatchResult, IfOk, OnOk, OnErr};
 ghost use Rattle.keyset_keys.specs.declared.keys.KeyType.TheVariants.{Ksk, Zsk, Csk, Include};
 ghost use Rattle.keyset_keys.specs.declared.errors.Error.TheVariants.{Memory};
 ghost use Rattle.keyset_rolls.specs.Actions.{actions_in};
-ghost use Rattle.keyset.specs.KeyState.{KeySetState, by_reference, by_kind, key_of, phase_of, add, done, entered, first_fault, first_new_fault, new_fault, old_fault, report1, report2, start, start_fault, algorithms_fault, texts, wait1, wait2, wait_fault, new_key, text_of, clear, is_available, write, decoupled_to, present_to, signer_to, at_parent_to, seen_at, ds_seen_at, rrsig_seen_at, stale_now, delete, has_algorithm, algorithms_within, same_algorithms, algorithm_is, algorithm_is_within};
+ghost use Rattle.keyset.specs.KeyState.{KeySetState, by_reference, by_kind, key_of, phase_of, add, done, entered, first_fault, first_new_fault, new_fault, old_fault, report1, report2, start, start_fault, algorithms_fault, texts, wait1, wait2, wait_fault, new_key, text_of, clear, is_available, write, decoupled_to, present_to, signer_to, at_parent_to, seen_at, ds_seen_at, rrsig_seen_at, stale_now, delete, Reference, algorithms_within, algorithm_is_within, same_algorithms};
 ghost use Rattle.keyset.specs.KeyAnswers.{Acts, Adds, Finds, GivesAtOnce, Lists, Writes};
+ghost use Rattle.keyset.specs.Listing.{AreAlgorithmsOf, listed_by};
 ghost use Rattle.keyset.specs.KeySteps.{new_csk, new_ksk, new_other, new_zsk, set_to};
 
+use crate::listing::Listing;
 use crate::maps::{
-    Step, greatest_rest, has_tag, is_blocked, is_listed, misses_stamp, put_key, put_phase,
-    remove_key, remove_phase, serves_after_start, start_keys, step_keys,
+    Step, greatest_rest, has_tag, is_blocked, misses_stamp, put_key, put_phase, remove_key,
+    remove_phase, serves_after_start, start_keys, step_keys,
 };
 use crate::settings::Setting;
 use keyset_keys::{Available, Error, Key, KeyState, KeyType, UnixTime};
@@ -36,6 +38,22 @@ impl Model for KeySet {
     ghost Value = { KeySetState };
 
     ghost view = { λ s. record { name = s.name; keys = by_reference s.keys.entries; rolls = by_kind s.rollstates.entries } };
+}
+
+/// It answers want of memory.
+impl Clone for KeySet {
+    ghost use Rattle.std.specs.Prelude.{◌≡◌};
+
+    ghost is_clone = { λ s copy. copy ≡ s };
+
+    fn clone(&self) -> Result<KeySet, AllocError> {
+        Ok(KeySet {
+            alloc: self.alloc,
+            name: self.name.try_clone(self.alloc)?,
+            keys: self.keys.clone()?,
+            rollstates: self.rollstates.clone()?,
+        })
+    }
 }
 
 impl KeySet {
@@ -271,9 +289,11 @@ impl KeySet {
         ensures { let olds = texts old.now in let news = texts new.now in
             Acts self.old self.new result (start rolltype olds news now.now self.old) }
     {
-        self.check_start(rolltype, old, new)?;
+        let olds = Listing::all_of(self.alloc, old);
+        let news = Listing::all_of(self.alloc, new);
+        self.check_start(rolltype, &olds, &news)?;
         let actions = self.enter(rolltype, RollState::Propagation1)?;
-        start_keys(&mut self.keys, rolltype, old, new, now);
+        start_keys(&mut self.keys, rolltype, &olds, &news, now);
         Ok(actions)
     }
 
@@ -393,8 +413,9 @@ impl KeySet {
         Ok(())
     }
 
-    fn check_start(&self, rolltype: RollType, old: &[&str], new: &[&str]) -> Result<(), Error>
-        ensures { Finds result (start_fault rolltype (texts old.now) (texts new.now) self.now) }
+    fn check_start(&self, rolltype: RollType, old: &Listing, new: &Listing) -> Result<(), Error>
+        ensures { let olds = listed_by old.now in
+            Finds result (start_fault rolltype olds (listed_by new.now) self.now) }
     {
         if self.phase(rolltype).is_some() {
             return Err(Error::WrongStateForRollOperation);
@@ -402,9 +423,11 @@ impl KeySet {
         if is_blocked(&self.rollstates, rolltype) {
             return Err(Error::ConflictingRollInProgress);
         }
-        self.check_old_keys(rolltype, old)?;
-        self.check_new_keys(rolltype, old, new)?;
-        self.check_algorithms(rolltype, old, new)?;
+        let olds = old.references();
+        let news = new.references();
+        self.check_old_keys(rolltype, olds)?;
+        self.check_new_keys(rolltype, old, news)?;
+        self.check_algorithms(rolltype, olds, news)?;
         if !serves_after_start(&self.keys, rolltype, old, new) {
             return Err(Error::NoSuitableKeyPresent);
         }
@@ -428,35 +451,39 @@ impl KeySet {
     fn algorithms_are_within(&self, first: &[&str], second: &[&str]) -> bool
         ensures { result ≡ algorithms_within self.now (texts first.now) (texts second.now) }
     {
+        let found = self.algorithms_of(second);
         first
             .iter()
-            .all(|reference| self.algorithm_is_within(reference, second))
+            .all(|reference| self.algorithm_is_found(reference, &found))
     }
 
-    fn algorithm_is_within(&self, reference: &str, second: &[&str]) -> bool
-        ensures { result ≡ algorithm_is_within self.now (texts second.now) reference.now }
+    fn algorithm_is_found(&self, reference: &str, found: &[bool; 256]) -> bool
+        ensures { (qs : List Reference) → AreAlgorithmsOf self.now qs found.now
+            → result ≡ algorithm_is_within self.now qs reference.now }
     {
         match self.key(reference) {
-            Some(key) => self.has_algorithm(second, key.algorithm()),
+            Some(key) => found[usize::from(key.algorithm().to_int())],
             None => true,
         }
     }
 
-    /// Whether one of these keys signs by this algorithm.
-    fn has_algorithm(&self, references: &[&str], algorithm: SecurityAlgorithm) -> bool
-        ensures { result ≡ has_algorithm self.now (texts references.now) algorithm }
+    /// For each number whether it is the algorithm of one of these keys.
+    fn algorithms_of(&self, references: &[&str]) -> [bool; 256]
+        ensures { AreAlgorithmsOf self.now (texts references.now) result }
     {
-        references
-            .iter()
-            .any(|reference| self.algorithm_is(reference, algorithm))
+        let mut found = [false; 256];
+        for reference in references {
+            self.note_algorithm(reference, &mut found);
+        }
+        found
     }
 
-    fn algorithm_is(&self, reference: &str, algorithm: SecurityAlgorithm) -> bool
-        ensures { result ≡ algorithm_is self.now algorithm reference.now }
+    fn note_algorithm(&self, reference: &str, found: &mut [bool; 256])
+        ensures { (qs : List Reference) → AreAlgorithmsOf self.now qs found.old
+            → AreAlgorithmsOf self.now (qs ++ reference.now ∷ []) found.new }
     {
-        match self.key(reference) {
-            Some(key) => key.algorithm() == algorithm,
-            None => false,
+        if let Some(key) = self.key(reference) {
+            found[usize::from(key.algorithm().to_int())] = true;
         }
     }
 
@@ -481,12 +508,14 @@ impl KeySet {
         Ok(())
     }
 
-    fn check_new_keys(&self, rolltype: RollType, old: &[&str], new: &[&str]) -> Result<(), Error>
-        ensures { let olds = texts old.now in
+    fn check_new_keys(&self, rolltype: RollType, old: &Listing, new: &[&str]) -> Result<(), Error>
+        ensures { let olds = listed_by old.now in
             Finds result (first_new_fault rolltype self.now olds [] (texts new.now)) }
     {
+        let mut before = Listing::none_of(self.alloc, new);
         for i in 0..new.len() {
-            self.check_new_key(rolltype, old, &new[..i], new[i])?;
+            self.check_new_key(rolltype, old, &before, new[i])?;
+            before.advance();
         }
         Ok(())
     }
@@ -494,12 +523,12 @@ impl KeySet {
     fn check_new_key(
         &self,
         rolltype: RollType,
-        old: &[&str],
-        before: &[&str],
+        old: &Listing,
+        before: &Listing,
         reference: &str,
     ) -> Result<(), Error>
-        ensures { let olds = texts old.now in
-            Finds result (new_fault rolltype self.now olds (texts before.now) reference.now) }
+        ensures { let olds = listed_by old.now in
+            Finds result (new_fault rolltype self.now olds (listed_by before.now) reference.now) }
     {
         let Some(key) = self.key(reference) else {
             return Err(Error::KeyNotFound);
@@ -507,7 +536,7 @@ impl KeySet {
         if !rolltype.touches(key.keytype()) {
             return Err(Error::WrongKeyType);
         }
-        let is_listed_before = is_listed(old, reference) || is_listed(before, reference);
+        let is_listed_before = old.contains(reference) || before.contains(reference);
         if is_listed_before || !key.keytype().is_fresh() {
             return Err(Error::WrongKeyState);
         }

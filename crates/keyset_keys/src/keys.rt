@@ -1,9 +1,11 @@
 //! Keys, their flags and their stamps.
+ghost use Rattle.keyset_keys.specs.Keys.{text_of};
 ghost use Rattle.keyset_keys.specs.KeyTexts.{stage};
-ghost use Rattle.std.specs.Prelude.{[], if◌then◌else◌, ◌≡◌, option_copied, Some};
+ghost use Rattle.std.specs.Prelude.{[], if◌then◌else◌, ◌≡◌, option_copied, IfOk, Some};
 
 use crate::time::UnixTime;
 use records::plain::SecurityAlgorithm;
+use std::alloc::AllocError;
 use std::fmt;
 use std::marker::Model;
 
@@ -405,5 +407,32 @@ impl Key {
         ensures { self.new ≡ with_stamps (withdraw now) self.old }
     {
         self.timestamps.withdrawn = Some(now);
+    }
+}
+
+/// It answers want of memory.
+impl Clone for Key {
+    ghost use Rattle.std.specs.Prelude.{◌≡◌};
+
+    ghost is_clone = { λ k copy. copy ≡ k };
+
+    fn clone(&self) -> Result<Key, AllocError> {
+        Ok(Key {
+            privref: cloned(&self.privref)?,
+            decoupled: self.decoupled,
+            keytype: self.keytype,
+            algorithm: self.algorithm,
+            key_tag: self.key_tag,
+            timestamps: KeyTimestamps { ..self.timestamps },
+        })
+    }
+}
+
+fn cloned(reference: &Option<String>) -> Result<Option<String>, AllocError>
+    ensures { IfOk result (λ r. text_of r ≡ text_of reference.now) }
+{
+    match reference {
+        Some(reference) => Ok(Some(reference.clone()?)),
+        None => Ok(None),
     }
 }

@@ -4,6 +4,7 @@ use Rattle.std.specs.List.{list_any}
 use Rattle.keyset_rolls.specs.declared.rolls.RollType.{RollType}
 use Rattle.keyset.specs.KeyState.{Reference, KeySetState, NoSuitableKeyPresent, phase_of, algorithms_fault, first_fault, old_fault, first_new_fault, suitable, roles_after, start_fault, texts}
 use Rattle.keyset_rolls.specs.Rolls.{conflicts}
+use Rattle.keyset.specs.Listing.{listed_by}
 use Rattle.keyset.proofs.set.KeySet.check_start.Goals as goal
 
 -- where nothing stands in the way of a start, only the keys after it decide
@@ -14,13 +15,13 @@ pub returns-then-not-serves_after_start : goal.returns-then-not-serves_after_sta
 returns-then-not-serves_after_start c =
     let s = c.args.self.now in
     let r = c.args.rolltype in
-    let e = last_fault r (texts c.args.old.now) (texts c.args.new.now) s c.serves_after_start.result
+    let e = last_fault r (listed_by c.args.old.now) (listed_by c.args.new.now) s c.serves_after_start.result
     (ap is_some (sym c.phase.ensures) ∙ sym c.is_some.ensures ∙ c.if-is_some.false)
     (ap (λ (s : KeySetState). list_any (λ e. conflicts r e.0) s.rolls) (sym c.self.view_is) ∙ sym c.is_blocked.ensures ∙ c.if-is_blocked.false)
-    c.in_ok-check_old_keys.ensures
-    c.in_ok-check_new_keys.ensures
-    c.in_ok-check_algorithms.ensures
-    (c.serves_after_start.ensures ∙ ap (λ (s : KeySetState). suitable r (roles_after r (texts c.args.old.now) (texts c.args.new.now) s.keys)) c.self.view_is) in
+    (subst (λ qs. first_fault (old_fault r s) qs ≡ None) c.references-olds.ensures c.in_ok-check_old_keys.ensures)
+    (subst (λ qs. first_new_fault r s (listed_by c.args.old.now) [] qs ≡ None) c.references-news.ensures c.in_ok-check_new_keys.ensures)
+    (subst (λ qs. algorithms_fault r qs (listed_by c.args.new.now) s ≡ None) c.references-olds.ensures (subst (λ qs. algorithms_fault r (texts c.references-olds.result.now) qs s ≡ None) c.references-news.ensures c.in_ok-check_algorithms.ensures))
+    (c.serves_after_start.ensures ∙ ap (λ (s : KeySetState). suitable r (roles_after r (listed_by c.args.old.now) (listed_by c.args.new.now) s.keys)) c.self.view_is) in
     let f = e ∙ ap (λ b. if b then None else Some NoSuitableKeyPresent) c.if-not-serves_after_start.true in
     (f, subst IsSome (sym f) refl)
 
@@ -28,11 +29,11 @@ pub returns : goal.returns
 returns c =
     let s = c.args.self.now in
     let r = c.args.rolltype in
-    let e = last_fault r (texts c.args.old.now) (texts c.args.new.now) s c.serves_after_start.result
+    let e = last_fault r (listed_by c.args.old.now) (listed_by c.args.new.now) s c.serves_after_start.result
     (ap is_some (sym c.phase.ensures) ∙ sym c.is_some.ensures ∙ c.if-is_some.false)
     (ap (λ (s : KeySetState). list_any (λ e. conflicts r e.0) s.rolls) (sym c.self.view_is) ∙ sym c.is_blocked.ensures ∙ c.if-is_blocked.false)
-    c.in_ok-check_old_keys.ensures
-    c.in_ok-check_new_keys.ensures
-    c.in_ok-check_algorithms.ensures
-    (c.serves_after_start.ensures ∙ ap (λ (s : KeySetState). suitable r (roles_after r (texts c.args.old.now) (texts c.args.new.now) s.keys)) c.self.view_is) in
+    (subst (λ qs. first_fault (old_fault r s) qs ≡ None) c.references-olds.ensures c.in_ok-check_old_keys.ensures)
+    (subst (λ qs. first_new_fault r s (listed_by c.args.old.now) [] qs ≡ None) c.references-news.ensures c.in_ok-check_new_keys.ensures)
+    (subst (λ qs. algorithms_fault r qs (listed_by c.args.new.now) s ≡ None) c.references-olds.ensures (subst (λ qs. algorithms_fault r (texts c.references-olds.result.now) qs s ≡ None) c.references-news.ensures c.in_ok-check_algorithms.ensures))
+    (c.serves_after_start.ensures ∙ ap (λ (s : KeySetState). suitable r (roles_after r (listed_by c.args.old.now) (listed_by c.args.new.now) s.keys)) c.self.view_is) in
     e ∙ ap (λ b. if b then None else Some NoSuitableKeyPresent) c.if-not-serves_after_start.false

@@ -1,0 +1,69 @@
+-- References that are found by their hash.
+use Rattle.std.proofs.Common.{◌≡◌, ◌<◌, ◌+◌, ℕ, Bool, true, false, Bor, List, [], ◌∷◌, ◌++◌, take, drop, get_or, length, refl, sym, ap, ◌∙◌, ◌||◌, not, add-one}
+use Rattle.std.specs.Prelude.{None, Some, slice_get}
+use Rattle.std.specs.List.{list_any}
+use Rattle.std.specs.List.Sorted.{IsPermutation}
+use Rattle.std.specs.Bool.{MatchBool}
+use Rattle.std.specs.Str.{bytes_eq}
+use Rattle.std.proofs.lemmas.List.{take-map}
+use Rattle.std.proofs.lemmas.List.Folds.{list_any-append}
+use Rattle.std.proofs.lemmas.List.Sorted.{list_any-IsPermutation}
+use Rattle.std.proofs.lemmas.Option.{slice_get-get_or}
+use Rattle.std.proofs.lemmas.Slice.Eq.{bytes_eq-Decides}
+use Rattle.std.proofs.Math.Seq.{drop-cons}
+use Rattle.keyset.specs.KeyState.{KeySetState, Reference, first_new_fault, listed, new_fault, texts}
+use Rattle.keyset_rolls.specs.declared.rolls.RollType.{RollType}
+use Rattle.keyset.specs.Listing.{IsIndexOf}
+use Rattle.keyset.proofs.KeyMaps.{bytes_eq-sym}
+use Rattle.records.proofs.NameOrders.{take_one}
+
+either_way : (a b : Bool) → (a || b) ≡ (b || (a || false))
+either_way true true = refl
+either_way true false = refl
+either_way false true = refl
+either_way false false = refl
+
+-- of a test that passes already, once more says nothing
+absorbed : (a b : Bool) → (a ≡ true → b ≡ true) → b ≡ (b || (a || false))
+absorbed true b h = h refl ∙ ap (λ t. t || (true || false)) (sym (h refl))
+absorbed false true h = refl
+absorbed false false h = refl
+
+not_false : (b : Bool) → false ≡ not b → b ≡ true
+not_false true h = refl
+not_false false h = h
+
+among : (ks : List (Bor Reference)) (p q : Reference) → p ≡ q → list_any (λ x. bytes_eq p x.now) ks ≡ list_any (λ x. bytes_eq x.now q) ks
+among ks p q e = λ t. list_any (λ x. (ap (λ z. bytes_eq z x.now) e ∙ bytes_eq-sym q x.now) t) ks
+
+-- what is hashed once more
+pub index_grows : (qs : List Reference) (ks ns : List (Bor Reference)) (k : Bor Reference) (added : Bool) → IsIndexOf qs ks → added ≡ not (list_any (λ x. bytes_eq k.now x.now) ks) → MatchBool added (IsPermutation (k ∷ ks) ns) (ns ≡ ks) → IsIndexOf (qs ++ k.now ∷ []) ns
+index_grows qs ks ns k true h a p q =
+    sym (list_any-IsPermutation (λ x. bytes_eq x.now q) (k ∷ ks) ns p)
+    ∙ ap (λ b. bytes_eq k.now q || b) (h q)
+    ∙ either_way (bytes_eq k.now q) (listed qs q)
+    ∙ sym (list_any-append (λ x. bytes_eq x q) qs (k.now ∷ []))
+index_grows qs ks ns k false h a p q =
+    ap (λ xs. list_any (λ x. bytes_eq x.now q) xs) p
+    ∙ h q
+    ∙ absorbed (bytes_eq k.now q) (listed qs q) (λ e. sym (h q) ∙ sym (among ks k.now q ((bytes_eq-Decides k.now q).0 e)) ∙ not_false (list_any (λ x. bytes_eq k.now x.now) ks) a)
+    ∙ sym (list_any-append (λ x. bytes_eq x q) qs (k.now ∷ []))
+
+map_snoc : (rs : List (Bor Reference)) (r : Bor Reference) → texts (rs ++ r ∷ []) ≡ texts rs ++ r.now ∷ []
+map_snoc [] r = refl
+map_snoc (x ∷ rs) r = ap (λ ts. x.now ∷ ts) (map_snoc rs r)
+
+-- one more of some references
+pub texts_one : (rs : List (Bor Reference)) (i : ℕ) (r : Bor Reference) → Some r ≡ slice_get rs i → take (i + 1) (texts rs) ≡ take i (texts rs) ++ r.now ∷ []
+texts_one rs i r h = take-map (λ x. x.now) (i + 1) rs ∙ ap texts (take_one rs i r h) ∙ map_snoc (take i rs) r ∙ ap (λ ts. ts ++ r.now ∷ []) (sym (take-map (λ x. x.now) i rs))
+
+-- of a new key that is not at fault, the first fault is that of the keys behind it
+pub past_new : (r : RollType) (s : KeySetState) (olds before : List Reference) (rs : List (Bor Reference)) (i : ℕ) (d : Bor Reference) → i < length rs → before ≡ texts (take i rs) → new_fault r s olds before (get_or rs i d).now ≡ None → first_new_fault r s olds (texts (take (i + 1) rs)) (texts (drop (i + 1) rs)) ≡ first_new_fault r s olds (texts (take i rs)) (texts (drop i rs))
+past_new r s olds before rs i d h b none =
+    let q = (get_or rs i d).now in
+    let behind = texts (drop (i + 1) rs) in
+    let more = ap texts (take_one rs i (get_or rs i d) (sym (slice_get-get_or rs i d h))) ∙ map_snoc (take i rs) (get_or rs i d) in
+    let left : texts (drop i rs) ≡ q ∷ behind = ap texts (drop-cons rs i d h) ∙ ap (λ k. q ∷ texts (drop k rs)) (sym (add-one i)) in
+    ap (λ qs. first_new_fault r s olds qs behind) more
+    ∙ sym (ap (first_new_fault r s olds (texts (take i rs))) left
+    ∙ ap (λ f. elim f [ Some e ↦ Some e | None ↦ first_new_fault r s olds (texts (take i rs) ++ q ∷ []) behind ]) (ap (λ qs. new_fault r s olds qs q) (sym b) ∙ none))

@@ -1,0 +1,100 @@
+//! The references that a call lists.
+ghost use Rattle.std.specs.Prelude.{◌≡◌, ◌<◌, ◌+◌, ◌++◌, ◌∷◌, [], List, IfSome, length};
+ghost use Rattle.keyset.specs.KeyState.{Reference, listed, texts};
+ghost use Rattle.keyset.specs.Listing.{IsIndexOf, listed_by};
+
+use std::alloc::Global;
+use std::collections::HashSet;
+use std::marker::Model;
+
+/// The first so many of some references, each found by its hash; where no memory is left for that, by going over them.
+#[derive(Drop)]
+pub(crate) struct Listing<'a> {
+    all: &'a [&'a str],
+    count: usize,
+    index: Option<HashSet<&'a str>>,
+}
+
+impl<'a> Model for Listing<'a> {
+    ghost use Rattle.std.specs.Prelude.{take, length, ◌≤◌, IfSome};
+    ghost use Rattle.keyset.specs.KeyState.{texts};
+    ghost use Rattle.keyset.specs.Listing.{IsIndexOf};
+    ghost use Rattle.keyset.specs.Listing as specs;
+
+    ghost Value = { specs.Listing };
+
+    ghost view = { λ l. record { all = texts l.all.now; count = l.count } };
+
+    ghost invariant = { λ l. (l.count ≤ length l.all.now) × IfSome l.index (λ s. IsIndexOf (take l.count (texts l.all.now)) s.keys) };
+}
+
+impl<'a> Listing<'a> {
+    /// None of the references yet.
+    pub(crate) fn none_of(alloc: Global, all: &'a [&'a str]) -> Self
+        ensures { result ≡ record { all = texts all.now; count = 0 } }
+    {
+        Listing {
+            all,
+            count: 0,
+            index: Some(HashSet::new(alloc)),
+        }
+    }
+
+    /// All of the references.
+    pub(crate) fn all_of(alloc: Global, all: &'a [&'a str]) -> Self
+        ensures { result ≡ record { all = texts all.now; count = length all.now } }
+    {
+        let mut listing = Listing::none_of(alloc, all);
+        for _ in 0..all.len() {
+            listing.advance();
+        }
+        listing
+    }
+
+    /// Lists one more.
+    pub(crate) fn advance(&mut self)
+        requires { self.old.count < length self.old.all }
+        ensures { self.new ≡ record self.old { count = self.old.count + 1 } }
+    {
+        if let Some(reference) = self.all.get(self.count) {
+            self.index = with(self.index.take(), reference);
+            self.count += 1;
+        }
+    }
+
+    /// What is listed.
+    pub(crate) fn references(&self) -> &'a [&'a str]
+        ensures { texts result.now ≡ listed_by self.now }
+    {
+        &self.all[..self.count]
+    }
+
+    /// Whether a reference is listed.
+    pub(crate) fn contains(&self, reference: &str) -> bool
+        ensures { result ≡ listed (listed_by self.now) reference.now }
+    {
+        match &self.index {
+            Some(index) => index.contains(reference),
+            None => is_listed(self.references(), reference),
+        }
+    }
+}
+
+/// Hashes one more reference, where there is memory for it.
+fn with<'a>(index: Option<HashSet<&'a str>>, reference: &'a str) -> Option<HashSet<&'a str>>
+    ensures { (qs : List Reference) → IfSome index.entry (λ s. IsIndexOf qs s.keys)
+        → IfSome result (λ s. IsIndexOf (qs ++ reference.now ∷ []) s.keys) }
+{
+    let mut index = index?;
+    match index.insert(reference) {
+        Ok(_) => Some(index),
+        Err(_) => None,
+    }
+}
+
+/// Whether one of the references is this one.
+fn is_listed(references: &[&str], reference: &str) -> bool
+    ensures { result ≡ listed (texts references.now) reference.now }
+{
+    references.iter().any(|listed| *listed == reference)
+}
