@@ -1,0 +1,78 @@
+//! Copies of keys and key sets, and sets of many keys.
+
+use crate::keys::{add_zsk, assert_flags, at, key, with_two_keys};
+use keyset::{Error, KeySet, RollState, RollType};
+use records::names::Name;
+use std::alloc::Global;
+use std::test::Fail;
+
+/// A copy has the keys and the rolls of its own, and goes its own way from then on.
+#[test]
+fn a_copy_goes_its_own_way(rt: HostRuntime) -> Result<(), Fail> {
+    let alloc = rt.alloc();
+    let mut set = with_two_keys(alloc)?;
+    set.start_roll(RollType::AlgorithmRoll, &[], &["K1", "Z1"], &at(0))?;
+    let mut copy = set.clone()?;
+    assert_eq!(rt; copy.name().len(), set.name().len());
+    assert_eq!(rt; copy.keys().len(), 2);
+    for (reference, original) in set.keys() {
+        let copied = key(&copy, reference.as_str())?;
+        assert_eq!(rt; copied.key_tag(), original.key_tag());
+        assert_eq!(rt; copied.keytype(), original.keytype());
+        assert_eq!(rt; copied.privref(), original.privref());
+    }
+    let phase = |set: &KeySet| set.rollstates().get(&RollType::AlgorithmRoll).copied();
+    assert_eq!(rt; phase(&copy), Some(RollState::Propagation1));
+    copy.propagation1_complete(RollType::AlgorithmRoll, 10, &at(1))?;
+    assert_eq!(rt; phase(&copy), Some(RollState::CacheExpire1(10)));
+    assert_eq!(rt; phase(&set), Some(RollState::Propagation1));
+    let mut alone = key(&set, "K1")?.clone()?;
+    alone.set_decoupled(true);
+    assert!(rt; !key(&set, "K1")?.decoupled());
+    assert_eq!(rt; alone.key_tag(), key(&set, "K1")?.key_tag());
+    Ok(())
+}
+
+fn references(alloc: Global, letter: &str, count: u16) -> Result<Vec<String>, Fail> {
+    let mut names = Vec::new(alloc);
+    for i in 0..count {
+        names.push(format!(in alloc; "{letter}{i}")?)?;
+    }
+    Ok(names)
+}
+
+fn texts(alloc: Global, names: &[String]) -> Result<Vec<&str>, Fail> {
+    let mut list = Vec::new(alloc);
+    for name in names {
+        list.push(name.as_str())?;
+    }
+    Ok(list)
+}
+
+/// A thousand keys roll at once; the last new one listed twice, or as an old one too, is refused.
+#[test]
+fn a_thousand_keys(rt: HostRuntime) -> Result<(), Fail> {
+    let alloc = rt.alloc();
+    let mut set = KeySet::new(alloc, Name::root(alloc));
+    let (olds, news) = (
+        references(alloc, "old", 500)?,
+        references(alloc, "new", 500)?,
+    );
+    for (i, name) in olds.iter().chain(news.iter()).enumerate() {
+        add_zsk(&mut set, alloc, name.as_str(), i as u16)?;
+    }
+    let old = texts(alloc, &olds)?;
+    let mut new = texts(alloc, &news)?;
+    new.push("new499")?;
+    let refused = set.start_roll(RollType::ZskRoll, &old, &new, &at(0));
+    assert!(rt; matches!(refused, Err(Error::WrongKeyState)));
+    new.pop();
+    new.push("old0")?;
+    let refused = set.start_roll(RollType::ZskRoll, &old, &new, &at(0));
+    assert!(rt; matches!(refused, Err(Error::WrongKeyState)));
+    new.pop();
+    set.start_roll(RollType::ZskRoll, &old, &new, &at(0))?;
+    assert_flags(&rt, alloc, &set, "old499", "Old (Stale)")?;
+    assert_flags(&rt, alloc, &set, "new499", "Present (Incoming)")?;
+    Ok(())
+}
