@@ -10,16 +10,10 @@ mod name_text;
 #[cfg(test)]
 mod octet_text;
 #[cfg(test)]
-mod parsed_tests;
-#[cfg(test)]
 mod part_tests;
-#[cfg(test)]
-mod plain_tests;
 #[cfg(test)]
 mod refusal_tests;
 #[cfg(test)]
 mod tests;
 #[cfg(test)]
 mod text_tests;
-#[cfg(test)]
-mod wire_names;

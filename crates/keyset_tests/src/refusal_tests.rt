@@ -116,6 +116,16 @@ fn second_half(rt: &(impl Abort + Eprint), set: &mut KeySet) {
     }
 }
 
+fn copy(rt: &(impl Abort + Eprint), set: &KeySet) -> KeySet {
+    match set.clone() {
+        Ok(copied) => copied,
+        Err(_) => {
+            say_refused(rt);
+            set.clone().expect(rt, "memory")
+        }
+    }
+}
+
 #[test]
 fn a_roll_goes_on(rt: HostRuntime) {
     let alloc = rt.alloc();
@@ -128,6 +138,7 @@ fn a_roll_goes_on(rt: HostRuntime) {
         say_refused(&rt);
         assert!(&rt; set.actions(ROLL).is_ok());
     }
+    assert!(&rt; look_at(&copy(&rt, &set)) == look_at(&set));
     second_half(&rt, &mut set);
     assert!(&rt; set.roll_done(ROLL).is_ok());
     assert!(&rt; set.rollstates().is_empty());
