@@ -4,3 +4,4 @@ pub mod Open
 pub mod Order
 pub mod Refused
 pub mod RefusedRelative
+pub mod Walking

@@ -12,7 +12,7 @@ use crate::head::walk;
 use crate::iter::ParsedNameIter;
 use crate::skip::skip_from;
 use crate::suffixes::ParsedSuffixIter;
-use crate::walk::{label_from, label_within};
+use crate::walk::{label_from, label_within, place_behind};
 use names_labels::traits::{Absolute, Labels, ToLabelIter};
 use names_parser::error::ParseError;
 use names_parser::parser::Parser;
@@ -210,10 +210,13 @@ impl<'a> ParsedName<'a> {
 impl<'a> Labels for ParsedName<'a> {
     ghost use Rattle.std.specs.Prelude.{◌++◌, ◌∷◌, []};
     ghost use Rattle.names_parsed.specs.Parsed.{parsed_name};
+    ghost use Rattle.names_parsed.specs.Walking.{Reaches};
 
     ghost labels = { λ n. parsed_name n ++ [] ∷ [] };
 
     ghost name = { parsed_name };
+
+    ghost reaches = { λ n. Reaches n.message.now n.start };
 
     fn label_count(&self) -> usize {
         usize::from(self.labels)
@@ -224,6 +227,18 @@ impl<'a> Labels for ParsedName<'a> {
             return None;
         }
         Some(label_within(self.message, self.start, index))
+    }
+
+    fn label_place(&self, index: usize) -> usize {
+        let index = index.min(usize::from(self.labels) - 1);
+        place_behind(self.message, self.start, index)
+    }
+
+    fn label_onward(&self, place: usize, index: usize) -> Option<(Label<'_>, usize)> {
+        if index >= usize::from(self.labels) {
+            return None;
+        }
+        Some(label_from(self.message, place))
     }
 }
 
