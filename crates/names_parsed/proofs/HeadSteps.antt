@@ -1,8 +1,9 @@
 -- What is read from a place on, by the head that stands there.
-use Rattle.std.proofs.Common.{◌≡◌, ℕ, zero, suc, ◌+◌, ◌-◌, ◌*◌, ◌<◌, ◌≤◌, Bool, true, false, List, [], ◌∷◌, ◌++◌, length, refl, sym, ap, ◌∙◌, arith, Option, Some, None, Result, Ok, Err, eqb, leb, append_assoc}
+use Rattle.std.proofs.Common.{◌≡◌, ℕ, zero, suc, ◌+◌, ◌-◌, ◌*◌, ◌<◌, ◌≤◌, Bool, true, false, List, [], ◌∷◌, ◌++◌, length, refl, sym, ap, ◌∙◌, arith, Option, Some, None, Result, Ok, Err, eqb, leb, append_assoc, cond, eq-eqb, ◌⊎◌, inl, inr}
 use Rattle.std.specs.Prelude.{slice_get, slice_range, unwrap_or}
 use Rattle.std.specs.Option.{option_or}
 use Rattle.std.proofs.lemmas.List.{append-nil}
+use Rattle.std.proofs.lemmas.Option.{slice_get_past}
 use Rattle.std.proofs.lemmas.Bool.{ne_eqb, le-leb, lt-leb, le-ltb, leb-true}
 use Rattle.definitions.specs.Name.{Name, Label}
 use Rattle.definitions.specs.Reading.{ReadFault, Short, Malformed, To, Run, with_label, pointer_at, run_at, most_heads, labels_at, name_at}
@@ -78,6 +79,12 @@ step_label k room m p n h some short inside fits small =
     ∙ ap (λ x. in_front l (finish k m x)) (sym (more_heads far k r m q (omega arith)))
     ∙ ap (in_front l) (sym (opened k r m q))
 
+-- where no octet stands behind a label that fits
+pub step_label_last : (k room : ℕ) (m : List ℕ) (p n : ℕ) → slice_get m p ≡ Some n → 0 < n → n ≤ 63 → length m ≡ p + 1 + n → n + 2 ≤ room → room ≤ 255 → rest_at k room m p ≡ Err Short
+step_label_last k room m p n h some short last fits small =
+    step_label k room m p n h some short (omega (arith, last)) fits small
+    ∙ ap (in_front (slice_range m (p + 1) (p + 1 + n))) (step_short k (room - (n + 1)) m (p + 1 + n) (slice_get_past m (p + 1 + n) (omega (arith, last))))
+
 pub step_type : (k room : ℕ) (m : List ℕ) (p n : ℕ) → slice_get m p ≡ Some n → 63 < n → n < 192 → rest_at k room m p ≡ Err Malformed
 step_type k room m p n h large small =
     tested k room m p n false false (leb (p + 1 + n) (length m)) (leb (n + 2) room) h (not_zero n (omega arith)) (lt-leb n 63 large) refl refl
@@ -139,6 +146,10 @@ malformed (Form f) t h = refl
 
 -- ---- steps of a walk
 
+-- the end of a name is known once a pointer was followed
+abbrev pub known_end : ℕ → ℕ → Option ℕ
+known_end k b = cond (eqb k 255) None (Some b)
+
 -- one label more
 pub label_more : (m : List ℕ) (start p k room len : ℕ) (done : Name) (b : Option ℕ) → name_at 255 m start ≡ onto done b (rest_at k room m p) → LabelHead k room m p len → name_at 255 m start ≡ onto (done ++ slice_range m (p + 1) (p + 1 + len) ∷ []) b (rest_at k (room - (len + 1)) m (p + (len + 1)))
 label_more m start p k room len done b h s =
@@ -146,23 +157,3 @@ label_more m start p k room len done b h s =
     let place : p + 1 + len ≡ p + (len + 1) = omega arith in
     h ∙ ap (onto done b) s.onward ∙ onto_label done b l (rest_at k (room - (len + 1)) m (p + 1 + len))
     ∙ ap (λ q. onto (done ++ l ∷ []) b (rest_at k (room - (len + 1)) m q)) place
-
--- one pointer more
-pub pointer_more : (m : List ℕ) (start p k room to : ℕ) (done : Name) (b : Option ℕ) → name_at 255 m start ≡ onto done b (rest_at k room m p) → PointerHead k room m p to → (c : Option ℕ) → c ≡ option_or b (Some (p + 2)) → name_at 255 m start ≡ onto done c (rest_at (k - 1) room m to)
-pointer_more m start p k room to done b h s c e =
-    h ∙ ap (onto done b) s.onward ∙ go b (rest_at (k - 1) room m to) ∙ ap (λ o. onto done o (rest_at (k - 1) room m to)) (sym e)
-  where
-    go : (o : Option ℕ) (r : Result (Name × ℕ) ReadFault) → onto done o (beyond (p + 2) (labels_of r)) ≡ onto done (option_or o (Some (p + 2))) r
-    go None (Ok r) = refl
-    go (Some x) (Ok r) = refl
-    go None (Err f) = refl
-    go (Some x) (Err f) = refl
-
--- the root
-pub root_ends : (m : List ℕ) (start p k room : ℕ) (done : Name) (b : Option ℕ) → name_at 255 m start ≡ onto done b (rest_at k room m p) → rest_at k room m p ≡ Ok ([], p + 1) → name_at 255 m start ≡ Ok (done, unwrap_or b (p + 1))
-root_ends m start p k room done None h s = h ∙ ap (onto done None) s ∙ ap (λ x. Ok (x, p + 1)) (append-nil done)
-root_ends m start p k room done (Some b) h s = h ∙ ap (onto done (Some b)) s ∙ ap (λ x. Ok (x, b)) (append-nil done)
-
--- a fault
-pub fault_ends : (m : List ℕ) (start p k room : ℕ) (done : Name) (b : Option ℕ) (f : ReadFault) → name_at 255 m start ≡ onto done b (rest_at k room m p) → rest_at k room m p ≡ Err f → name_at 255 m start ≡ Err f
-fault_ends m start p k room done b f h s = h ∙ ap (onto done b) s ∙ onto_fault done b f

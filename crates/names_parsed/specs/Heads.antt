@@ -18,11 +18,11 @@ fault_of (Form f) = Malformed
 unfoldable pub rest_at : ℕ → ℕ → List ℕ → ℕ → Result (Name × ℕ) ReadFault
 rest_at k room m p = finish k m (run_at most_heads k room m p)
 
--- a label that fits, and what is read behind it
+-- a label that fits, with an octet behind it, and what is read there
 pub record LabelHead (k room : ℕ) (m : List ℕ) (p n : ℕ) : Type 0 where
   pub some : 0 < n
   pub fits : n + 2 ≤ room
-  pub inside : p + 1 + n ≤ length m
+  pub inside : p + 1 + n < length m
   pub onward : rest_at k room m p ≡ in_front (slice_range m (p + 1) (p + 1 + n)) (rest_at k (room - (n + 1)) m (p + 1 + n))
 
 -- a pointer to a place before it, and what is read there
