@@ -1,7 +1,7 @@
 -- Walking over a name in a message, from label to label.
 use Rattle.std.proofs.Common.{◌≡◌, ◌⊎◌, inl, inr, ℕ, ◌+◌, ◌<◌, List, [], ◌∷◌, ◌++◌, length, drop, refl, sym, ap, ◌∙◌, arith, Some, length-drop}
 use Rattle.std.specs.Prelude.{slice_get}
-use Rattle.definitions.specs.Name.{Name, Label}
+use Rattle.definitions.specs.Name.{Label}
 use Rattle.names_labels.proofs.Runs.{there, drop-one}
 use Rattle.names_parsed.specs.Standing.{name_from, labels_from}
 use Rattle.names_parsed.specs.Walking.{StepsTo, Reaches}

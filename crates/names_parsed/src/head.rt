@@ -1,7 +1,8 @@
 //! Reading a name head by head: length octets and pointers (RFC 1035, 4.1.4).
 
-ghost use Rattle.std.specs.Prelude.{◌≡◌, ◌≤◌, ◌<◌, ◌+◌, Some, Err, length, slice_get};
-ghost use Rattle.names_parsed.specs.Heads.{Begins, Walks};
+ghost use Rattle.std.specs.Prelude.{◌≡◌, ◌≤◌, ◌<◌, ◌+◌, ◌*◌, Some, Err, length, slice_get};
+ghost use Rattle.definitions.proofs.ReadingLaws.{labels_of};
+ghost use Rattle.names_parsed.specs.Heads.{Begins, Walks, CountsOn, rest_at};
 
 use names_parser::error::ParseError;
 
@@ -34,15 +35,14 @@ pub(crate) fn walk(message: &[u8], start: usize) -> Result<Walked, ParseError>
     if start >= message.len() {
         return Err(ParseError::ShortInput);
     }
-    let (mut place, mut pointers, mut room) = (start, MOST_POINTERS, 254usize);
-    let (mut labels, mut behind) = (1u8, start);
+    let (mut place, mut room, mut labels) = (start, 254usize, 1u8);
     loop {
-        match head_at(message, place, pointers, room)? {
+        match head_at(message, place, MOST_POINTERS, room)? {
             Head::Root => {
-                if pointers == MOST_POINTERS {
-                    behind = place + 1;
-                }
-                return Ok(Walked { labels, behind });
+                return Ok(Walked {
+                    labels,
+                    behind: place + 1,
+                });
             }
             Head::Label(len) => {
                 place += len + 1;
@@ -50,9 +50,34 @@ pub(crate) fn walk(message: &[u8], start: usize) -> Result<Walked, ParseError>
                 labels += 1;
             }
             Head::Pointer(to) => {
-                if pointers == MOST_POINTERS {
-                    behind = place + 2;
-                }
+                return Ok(Walked {
+                    labels: labels_beyond(message, to, room, labels)?,
+                    behind: place + 2,
+                });
+            }
+        }
+    }
+}
+
+/// The number of labels of a name whose first pointer leads to a place, from the number before it and the octets that
+/// are left ahead of the root's.
+fn labels_beyond(message: &[u8], start: usize, left: usize, before: u8) -> Result<u8, ParseError>
+    requires inside { start < length message.now }
+    requires short { left ≤ 254 }
+    requires sized { 2 * before + left ≤ 256 }
+    ensures { CountsOn (labels_of (rest_at 254 (left + 1) message.now start)) before result }
+{
+    let (mut place, mut pointers) = (start, MOST_POINTERS - 1);
+    let (mut room, mut labels) = (left, before);
+    loop {
+        match head_at(message, place, pointers, room)? {
+            Head::Root => return Ok(labels),
+            Head::Label(len) => {
+                place += len + 1;
+                room -= len + 1;
+                labels += 1;
+            }
+            Head::Pointer(to) => {
                 place = to;
                 pointers -= 1;
             }

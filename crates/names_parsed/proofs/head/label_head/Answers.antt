@@ -1,4 +1,4 @@
-use Rattle.std.proofs.Common.{◌≡◌, ◌+◌, ◌≤◌, ◌<◌, length, ◌∙◌, ap, Err, arith}
+use Rattle.std.proofs.Common.{◌+◌, ◌≤◌, ◌<◌, length, ◌∙◌, ap, Err, arith}
 use Rattle.names_parsed.proofs.HeadSteps.{step_label, step_label_long, malformed}
 use Rattle.names_parsed.proofs.head.label_head.Goals as goal
 

@@ -1,6 +1,4 @@
-use Rattle.std.proofs.Common.{◌≡◌, ◌+◌, ◌<◌, ◌≤◌, ◌∙◌, ◌⊎◌, inl, inr, ap, length, Err, arith}
-use Rattle.definitions.specs.Reading.{Short}
-use Rattle.names_parsed.specs.Heads.{rest_at}
+use Rattle.std.proofs.Common.{◌+◌, ◌∙◌, ap, Err, arith}
 use Rattle.names_parsed.proofs.HeadSteps.{step_label_short, step_label_last, step_label_long, malformed}
 use Rattle.names_parsed.proofs.head.last_label_fault.Goals as goal
 use Rattle.names_parsed.proofs.head.last_label_fault.Goals.{then-message-place-via-then-message-place, then-message-place-via-else-message-place+then-room-len}
