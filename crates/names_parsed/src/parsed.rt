@@ -50,6 +50,7 @@ impl<'a> ParsedName<'a> {
     ///
     /// A name has at most 255 octets, its root's included. At most 255 pointers are followed, each to a place before its
     /// own. It ends by the parser's end. A refused call leaves the parser where it was.
+    #[inline(always)]
     pub fn parse(parser: &mut Parser<'a>) -> Result<Self, ParseError>
         ensures ok { IfOk result (ReadsName parser.old parser.new) }
         ensures refused { OnErr result (NoName parser.old) }
