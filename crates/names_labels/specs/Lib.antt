@@ -1,5 +1,6 @@
 pub mod Compare
 pub mod Flat
+pub mod Octets
 pub mod Open
 pub mod Order
 pub mod Refused

@@ -43,8 +43,9 @@ pub trait Labels {
     fn label_onward(&self, place: usize, index: usize) -> Option<(Label<'_>, usize)>
         requires { reaches self.now place index }
         ensures { let found = slice_get (labels self.now) index in
+            let onward = λ (p : ℕ). reaches self.now p (index + 1) in
             MatchOption result (found ≡ None)
-            (λ p. (Some (octets_of p.0) ≡ found) × reaches self.now p.1 (index + 1)) };
+            (λ step. (Some (octets_of step.0) ≡ found) × onward step.1) };
 
     /// The labels in a row, of a name that keeps them so.
     fn label_row(&self) -> Option<&[u8]>
@@ -193,7 +194,7 @@ impl<'a, N: Labels> Model for LabelIter<'a, N> {
 
     ghost view = { λ it. take (it.back - it.front) (drop it.front (N.labels it.name.now)) };
 
-    ghost invariant = { λ it. (it.back ≤ length (N.labels it.name.now)) × StandsAt it.spot (N.labels it.name.now) it.front (N.reaches it.name.now) };
+    ghost invariant = { λ it. (it.back ≤ length (N.labels it.name.now)) × StandsAt (N.labels it.name.now) it.front (N.reaches it.name.now) it.spot };
 }
 
 /// The label at an index, and where the next one stands.
@@ -202,10 +203,11 @@ fn label_then<'a, N: Labels>(
     spot: Spot<'a>,
     index: usize,
 ) -> Option<(Label<'a>, Spot<'a>)>
-    requires { StandsAt spot (N.labels name.now) index (N.reaches name.now) }
+    requires { StandsAt (N.labels name.now) index (N.reaches name.now) spot }
     ensures { let found = slice_get (N.labels name.now) index in
-        MatchOption result (found ≡ None) (λ p. (Some (octets_of p.0) ≡ found)
-        × StandsAt p.1 (N.labels name.now) (index + 1) (N.reaches name.now)) }
+        let onward = StandsAt (N.labels name.now) (index + 1) (N.reaches name.now) in
+        MatchOption result (found ≡ None)
+        (λ step. (Some (octets_of step.0) ≡ found) × onward step.1) }
 {
     match spot {
         Spot::Row(run) => {

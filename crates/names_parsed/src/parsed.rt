@@ -118,7 +118,8 @@ impl<'a> ParsedName<'a> {
 
     /// The first label and the name behind it; nothing for the root.
     pub fn split_first(&self) -> Option<(Label<'a>, ParsedName<'a>)>
-        ensures { MatchOption result (parsed_name self.now ≡ []) (λ p. parsed_name self.now ≡ octets_of p.0 ∷ parsed_name p.1) }
+        ensures { let n = parsed_name self.now in
+            MatchOption result (n ≡ []) (λ p. n ≡ octets_of p.0 ∷ parsed_name p.1) }
     {
         if self.is_root() {
             return None;

@@ -4,6 +4,7 @@ use Rattle.definitions.specs.Name.{Name, IsName, wire, low, same}
 use Rattle.names_parser.specs.Reader.{Reader}
 use Rattle.names_parsed.specs.Standing.{Stands}
 use Rattle.names_data.specs.Reading.{data_at, name_part}
+use Rattle.names_data.specs.ReadBack.{IsReadBack}
 use Rattle.plain.specs.Soa.{soa_part, soa_octets, soa_canonical}
 use Rattle.plain.specs.Ns.{ns_octets, ns_canonical}
 use Rattle.plain.specs.Records.{spelled}
@@ -25,6 +26,10 @@ abbrev pub SoaIsNamesAndNumbers : Type 0
 SoaIsNamesAndNumbers =
     (r : Reader) (octets : List ℕ) → (data_at soa_part r ≡ Ok octets)
     ↔ ((mname : Name) × (rname : Name) × (numbers : List ℕ) × StandsAsSoa r mname rname numbers × (octets ≡ wire mname ++ (wire rname ++ numbers)))
+
+-- SOA data that were written are read back wherever they stand in a message
+abbrev pub SoaIsReadBack : Type 0
+SoaIsReadBack = (m r : Name) (numbers : List ℕ) → IsName m → IsName r → length numbers ≡ 20 → IsReadBack soa_part (wire m ++ (wire r ++ numbers))
 
 -- and NS data where a name stands up to the reader's end (RFC 1035, 3.3.11)
 abbrev pub NsIsName : Type 0
