@@ -75,6 +75,8 @@ def main():
         ("read", "`ParsedName::parse`"),
         ("skip", "`ParsedName::skip`"),
         ("walk", "`parse`, and each label by `iter`"),
+        ("compose", "`parse`, and `compose_name`"),
+        ("order", "`parse` of two, and `cmp`"),
         ("equal", "`parse` of two, and `==`"),
     ):
         counts = []

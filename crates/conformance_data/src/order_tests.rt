@@ -1,7 +1,11 @@
 //! The canonical order of the data of a zone's records, and its laws.
 
 use names::{CanonicalOrd, Name, Rtype, Serial, UnknownRecordData};
-use plain::laws::{ns_data_are_read_back, soa_data_are_read_back};
+use plain::laws::{
+    ns_data_are_one_name, ns_data_are_read_back, ns_octets_spell_one_name,
+    record_octets_spell_one_record, soa_data_are_read_back, soa_data_are_two_names_and_numbers,
+    soa_octets_spell_one_value,
+};
 use plain::ns::Ns;
 use plain::numbers::Ttl;
 use plain::soa::Soa;
@@ -55,6 +59,11 @@ fn data_of_one_kind_are_in_order_of_octets(rt: HostRuntime) {
     assert!(rt; order(&rt, &octets(&rt, a), &octets(&rt, b)) == Ordering::Less);
     soa_data_are_read_back();
     ns_data_are_read_back();
+    soa_data_are_two_names_and_numbers();
+    ns_data_are_one_name();
+    soa_octets_spell_one_value();
+    ns_octets_spell_one_name();
+    record_octets_spell_one_record();
 }
 
 #[test]

@@ -126,6 +126,33 @@ fn labels_and_suffixes_from_both_ends(rt: HostRuntime) {
     assert!(rt; name.label_at(4).is_none());
 }
 
+/// From each place each label is the one at its index, and behind the last there is none.
+fn walk<N: Labels>(rt: &impl Abort, name: &N) {
+    let count = name.label_count();
+    for start in 0..count {
+        let mut place = name.label_place(start);
+        for index in start..count {
+            let (label, next) = name.label_onward(place, index).expect(rt, "a label");
+            assert!(rt; Some(label) == name.label_at(index));
+            place = next;
+        }
+        assert!(rt; name.label_onward(place, count).is_none());
+    }
+    let place = name.label_place(count);
+    assert!(rt; name.label_onward(place, count).is_none());
+}
+
+#[test]
+fn labels_are_reached_from_places(rt: HostRuntime) {
+    let message = b"\x03com\x00\x07example\xc0\x00\x03www\xc0\x05";
+    let (name, _) = read(message, 15).expect(&rt, "a name");
+    walk(&rt, &name);
+    walk(&rt, &Name::from_slice(b"\x03www\x07example\x00").expect(&rt, "a name"));
+    let host = RelativeName::from_slice(b"\x03www\x07example").expect(&rt, "a name");
+    walk(&rt, &host);
+    walk(&rt, &Chain::new(host, name).expect(&rt, "a chain"));
+}
+
 #[test]
 fn a_pointer_to_itself_is_passed_over(rt: HostRuntime) {
     let mut parser = Parser::from_ref(b"\xc0\x0012");

@@ -4,6 +4,8 @@
 //! place of the message. What is printed counts what the task found.
 #![tactic(auto)]
 
+use arrayvec::ArrayVec;
+use names_data::composer::compose_name;
 use names_parsed::parsed::ParsedName;
 use names_parser::parser::Parser;
 use std::io;
@@ -51,6 +53,40 @@ fn walk(message: &[u8], places: &[usize]) -> u64 {
     count
 }
 
+/// How many octets the names have, each written in full.
+fn compose(message: &[u8], places: &[usize]) -> u64 {
+    let mut count = 0u64;
+    for &place in places {
+        let mut parser = Parser::from_ref(message);
+        if parser.seek(place).is_ok() {
+            if let Ok(name) = ParsedName::parse(&mut parser) {
+                let mut target = ArrayVec::<u8, 255>::new();
+                if compose_name(&name, &mut target).is_ok() {
+                    count = count.wrapping_add(target.len() as u64);
+                }
+            }
+        }
+    }
+    count
+}
+
+/// How many names come before that at the next place in canonical order.
+fn order(message: &[u8], places: &[usize]) -> u64 {
+    let mut count = 0u64;
+    for pair in places.windows(2) {
+        let mut left = Parser::from_ref(message);
+        let mut right = Parser::from_ref(message);
+        if left.seek(pair[0]).is_ok() && right.seek(pair[1]).is_ok() {
+            if let (Ok(a), Ok(b)) = (ParsedName::parse(&mut left), ParsedName::parse(&mut right)) {
+                if a < b {
+                    count = count.wrapping_add(1);
+                }
+            }
+        }
+    }
+    count
+}
+
 /// How many names are equal to that at the next place.
 fn equal(message: &[u8], places: &[usize]) -> u64 {
     let mut count = 0u64;
@@ -88,6 +124,8 @@ fn main(rt: HostRuntime) -> io::Result<()> {
             "read" => read(&message, &places),
             "skip" => skip(&message, &places),
             "walk" => walk(&message, &places),
+            "compose" => compose(&message, &places),
+            "order" => order(&message, &places),
             _ => equal(&message, &places),
         };
         count = count.wrapping_add(more);

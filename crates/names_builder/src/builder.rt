@@ -4,10 +4,10 @@ ghost use Rattle.std.specs.Prelude.{List, true, Some, None, ◌≡◌, ◌≢◌
 ghost use Rattle.definitions.specs.Name.{IsName};
 ghost use Rattle.names_labels.specs.Flat.{SpellsRelative, SpellsName, labels_in, spelled};
 ghost use Rattle.names_labels.specs.RefusedRelative.{RefusedRelative};
-ghost use Rattle.std.specs.Iterator.{IsFinite, Drains};
+ghost use Rattle.std.specs.Iterator.{IsFinite};
 ghost use Rattle.definitions.specs.Text.{Symbol as TextSymbol};
 ghost use Rattle.names_wire.specs.Symbols.{symbol_of, is_begun};
-ghost use Rattle.names_wire.specs.Spelled.{SpellsNothing};
+ghost use Rattle.names_wire.specs.Spelled.{CharsSpell, SpellsNothing};
 ghost use Rattle.names_labels.specs.Open.{if_open_short};
 ghost use Rattle.names_builder.specs.FromText.{is_text, continued, standing, text_behind, AddsChar, ReadsSymbols, StopsAtSymbol, StopsInText, FirstFault};
 ghost use Rattle.names_builder.specs.Fault.{CharFault, FaultAt, fault_of};
@@ -261,10 +261,11 @@ impl<B: OctetsBuilder> NameBuilder<B> {
 impl<B: OctetsBuilder> NameBuilder<B> {
     /// Adds a symbol: its octet to the open label, or a label's end.
     pub(crate) fn push_symbol(&mut self, symbol: Symbol) -> Result<(), FromStrError>
-        ensures ok { OnOk result ((ss : List TextSymbol)
-            → continued self.old (symbol_of symbol ∷ ss) ≡ continued self.new ss) }
-        ensures refused { IfErr result (λ e. is_text e ≡ true → (ss : List TextSymbol)
-            → if_open_short (continued self.old (symbol_of symbol ∷ ss)) ≡ None) }
+        ensures ok { let s = symbol_of symbol in OnOk result ((ss : List TextSymbol)
+            → continued self.old (s ∷ ss) ≡ continued self.new ss) }
+        ensures refused { let s = symbol_of symbol in
+            let read = λ (ss : List TextSymbol). if_open_short (continued self.old (s ∷ ss)) in
+            IfErr result (λ e. is_text e ≡ true → (ss : List TextSymbol) → read ss ≡ None) }
         ensures err { OnErr result (self.new ≡ self.old) }
         ensures fault { let is = FaultAt self.old (symbol_of symbol) in
             IfErr result (λ e. IfSome (fault_of e) is) }
@@ -304,10 +305,11 @@ impl<B: OctetsBuilder> NameBuilder<B> {
         reader: &mut SymbolReader,
         ch: char,
     ) -> Result<(), FromStrError>
-        ensures ok { OnOk result ((rest : List ℕ) → text_behind self.old (reader.old ++ ch ∷ rest)
-            ≡ text_behind self.new (reader.new ++ rest)) }
-        ensures refused { IfErr result (λ e. is_text e ≡ true → (rest : List ℕ)
-            → text_behind self.old (reader.old ++ ch ∷ rest) ≡ None) }
+        ensures ok { let read = λ (rest : List ℕ). text_behind self.old (reader.old ++ ch ∷ rest) in
+            let left = λ (rest : List ℕ). text_behind self.new (reader.new ++ rest) in
+            OnOk result ((rest : List ℕ) → read rest ≡ left rest) }
+        ensures refused { let read = λ (rest : List ℕ). text_behind self.old (reader.old ++ ch ∷ rest) in
+            IfErr result (λ e. is_text e ≡ true → (rest : List ℕ) → read rest ≡ None) }
         ensures err { OnErr result (self.new ≡ self.old) }
         ensures fault { let is = CharFault self.old reader.old ch in
             IfErr result (λ e. IfSome (fault_of e) is) }
@@ -332,8 +334,8 @@ impl<B: OctetsBuilder> NameBuilder<B> {
     ) -> Result<(), FromStrError>
         requires can { C.can_next chars }
         requires ends { IsFinite (C.remaining chars) }
-        ensures ok { OnOk result ((text : List ℕ) × Drains C.next_gives chars text
-            × (text_behind self.old text ≡ Some (standing self.new))) }
+        ensures ok { let spell = CharsSpell C.next_gives chars (text_behind self.old) in
+            OnOk result (spell (standing self.new)) }
         ensures refused { IfErr result (λ e. is_text e ≡ true
             → SpellsNothing C.next_gives chars (text_behind self.old)) }
         ensures stands { OnErr result (StopsInText C.next_gives chars [] self.old self.new) }
@@ -352,10 +354,10 @@ impl<B: OctetsBuilder> NameBuilder<B> {
         requires can { C.can_next chars }
         requires ends { IsFinite (C.remaining chars) }
         requires begins { is_begun reader ≡ true }
-        ensures ok { OnOk result ((text : List ℕ) × Drains C.next_gives chars text
-            × (text_behind self.old (reader ++ text) ≡ Some (standing self.new))) }
-        ensures refused { IfErr result (λ e. is_text e ≡ true
-            → SpellsNothing C.next_gives chars (λ text. text_behind self.old (reader ++ text))) }
+        ensures ok { let read = λ (text : List ℕ). text_behind self.old (reader ++ text) in
+            OnOk result (CharsSpell C.next_gives chars read (standing self.new)) }
+        ensures refused { let read = λ (text : List ℕ). text_behind self.old (reader ++ text) in
+            IfErr result (λ e. is_text e ≡ true → SpellsNothing C.next_gives chars read) }
         ensures stands { OnErr result (StopsInText C.next_gives chars reader self.old self.new) }
         ensures fault { let is = FirstFault C.next_gives chars reader self.old self.new in
             IfErr result (λ e. IfSome (fault_of e) is) }

@@ -1,9 +1,9 @@
 //! Whole texts of names, read into builders (RFC 1035, 5.1).
 
-ghost use Rattle.std.specs.Prelude.{◌≡◌, true, None, Some, ℕ, List, IfOk, IfErr, IfSome, IsErrOf};
-ghost use Rattle.std.specs.Iterator.{IsFinite, Drains};
+ghost use Rattle.std.specs.Prelude.{◌≡◌, true, IfOk, IfErr, IfSome, IsErrOf};
+ghost use Rattle.std.specs.Iterator.{IsFinite};
 ghost use Rattle.definitions.specs.Text.{name_of_text, name_of_symbols, relative_of_text};
-ghost use Rattle.names_wire.specs.Spelled.{SpellsNothing};
+ghost use Rattle.names_wire.specs.Spelled.{CharsSpell, SpellsNothing};
 ghost use Rattle.names_builder.specs.Fault.{fault_of, relative_fault_of};
 ghost use Rattle.names_builder.specs.FromText.{NameFault, RelativeFault, SymbolsFault, is_text, is_relative_text, SymbolsSpell, SymbolsSpellNothing, SpellsAbsolute};
 ghost use Rattle.names_builder.specs.Building.{all_labels};
@@ -57,8 +57,8 @@ pub fn read_chars<C: Iterator<Item = char> + Drop>(
 ) -> Result<NameBuilder<Vec<u8>>, FromStrError>
     requires can { C.can_next chars }
     requires ends { IsFinite (C.remaining chars) }
-    ensures ok { IfOk result (λ n. (text : List ℕ)
-        × Drains C.next_gives chars text × (name_of_text text ≡ Some (all_labels n))) }
+    ensures ok { let spell = CharsSpell C.next_gives chars name_of_text in
+        IfOk result (λ n. spell (all_labels n)) }
     ensures refused { IfErr result (λ e. is_text e ≡ true
         → SpellsNothing C.next_gives chars name_of_text) }
     ensures fault { IfErr result (λ e. IfSome (fault_of e) (NameFault C.next_gives chars)) }
@@ -91,8 +91,8 @@ pub fn read_relative<C: Iterator<Item = char> + Drop>(
 ) -> Result<NameBuilder<Vec<u8>>, RelativeFromStrError>
     requires can { C.can_next chars }
     requires ends { IsFinite (C.remaining chars) }
-    ensures ok { IfOk result (λ n. (text : List ℕ)
-        × Drains C.next_gives chars text × (relative_of_text text ≡ Some (all_labels n))) }
+    ensures ok { let spell = CharsSpell C.next_gives chars relative_of_text in
+        IfOk result (λ n. spell (all_labels n)) }
     ensures refused { IfErr result (λ e. is_relative_text e ≡ true
         → SpellsNothing C.next_gives chars relative_of_text) }
     ensures fault { let is = RelativeFault C.next_gives chars in

@@ -1,10 +1,10 @@
 //! Names read from text (RFC 1035, 5.1).
 
 ghost use Rattle.std.specs.Prelude.{◌≡◌, ◌≤◌, true, None, Some, ℕ, List, IfOk, IfErr, IfSome, IsErrOf};
-ghost use Rattle.std.specs.Iterator.{IsFinite, Drains};
+ghost use Rattle.std.specs.Iterator.{IsFinite};
 ghost use Rattle.std.specs.Str.{chars as chars_of};
 ghost use Rattle.definitions.specs.Text.{name_of_text, name_of_symbols, relative_of_text};
-ghost use Rattle.names_wire.specs.Spelled.{SpellsNothing, in_turn};
+ghost use Rattle.names_wire.specs.Spelled.{CharsSpell, SpellsNothing, in_turn};
 ghost use Rattle.names_builder.specs.Fault.{fault_of, relative_fault_of};
 ghost use Rattle.names_builder.specs.FromText.{is_text, is_relative_text, NameFault, RelativeFault, SymbolsFault, SymbolsSpell, SymbolsSpellNothing, IsAbsolute, SpellsAbsolute};
 
@@ -42,8 +42,8 @@ impl Name<Vec<u8>> {
     ) -> Result<Self, FromStrError>
         requires can { C.can_next chars }
         requires ends { IsFinite (C.remaining chars) }
-        ensures ok { IfOk result (λ n. (text : List ℕ)
-            × Drains C.next_gives chars text × (name_of_text text ≡ Some n)) }
+        ensures ok { let spell = CharsSpell C.next_gives chars name_of_text in
+            IfOk result (λ n. spell n) }
         ensures refused { IfErr result (λ e. is_text e ≡ true
             → SpellsNothing C.next_gives chars name_of_text) }
         ensures fault { IfErr result (λ e. IfSome (fault_of e) (NameFault C.next_gives chars)) }
@@ -59,8 +59,8 @@ impl Name<Vec<u8>> {
     ) -> Result<Self, FromStrError>
         requires can { C.can_next chars }
         requires ends { IsFinite (C.remaining chars) }
-        ensures ok { IfOk result (λ n. (text : List ℕ)
-            × Drains C.next_gives chars text × (name_of_text text ≡ Some n)) }
+        ensures ok { let spell = CharsSpell C.next_gives chars name_of_text in
+            IfOk result (λ n. spell n) }
         ensures refused { IfErr result (λ e. is_text e ≡ true
             → SpellsNothing C.next_gives chars name_of_text) }
         ensures fault { IfErr result (λ e. IfSome (fault_of e) (NameFault C.next_gives chars)) }
@@ -89,8 +89,8 @@ impl RelativeName<Vec<u8>> {
     ) -> Result<Self, RelativeFromStrError>
         requires can { C.can_next chars }
         requires ends { IsFinite (C.remaining chars) }
-        ensures ok { IfOk result (λ n. (text : List ℕ)
-            × Drains C.next_gives chars text × (relative_of_text text ≡ Some n)) }
+        ensures ok { let spell = CharsSpell C.next_gives chars relative_of_text in
+            IfOk result (λ n. spell n) }
         ensures refused { IfErr result (λ e. is_relative_text e ≡ true
             → SpellsNothing C.next_gives chars relative_of_text) }
         ensures fault { let is = RelativeFault C.next_gives chars in
@@ -109,8 +109,8 @@ impl RelativeName<Vec<u8>> {
     ) -> Result<Self, RelativeFromStrError>
         requires can { C.can_next chars }
         requires ends { IsFinite (C.remaining chars) }
-        ensures ok { IfOk result (λ n. (text : List ℕ)
-            × Drains C.next_gives chars text × (relative_of_text text ≡ Some n)) }
+        ensures ok { let spell = CharsSpell C.next_gives chars relative_of_text in
+            IfOk result (λ n. spell n) }
         ensures refused { IfErr result (λ e. is_relative_text e ≡ true
             → SpellsNothing C.next_gives chars relative_of_text) }
         ensures fault { let is = RelativeFault C.next_gives chars in

@@ -16,10 +16,9 @@ pub fn canonical_order_is_total()
 pub fn names_below_an_apex_are_an_interval()
     ensures first { (apex n : Name) → IsTrue (at_or_above apex n)
         → is_gt (name_cmp apex n) ≡ false }
-    ensures between { (apex a n b : Name)
-        → IsTrue (at_or_above apex a) → IsTrue (at_or_above apex b)
-        → is_gt (name_cmp a n) ≡ false → is_gt (name_cmp n b) ≡ false
-        → IsTrue (at_or_above apex n) }
+    ensures between { let not_after = λ (m n : Name). is_gt (name_cmp m n) ≡ false in
+        let above = λ (m n : Name). IsTrue (at_or_above m n) in (apex a n b : Name)
+        → above apex a → above apex b → not_after a n → not_after n b → above apex n }
 {}
 
 pub use names_builder::laws::refused_text_has_one_fault;

@@ -228,12 +228,22 @@ impl<Octs: Octets> Labels for Name<Octs> {
 
     ghost name = { λ n. n };
 
+    ghost reaches = { λ _ _ _. Unit {0} };
+
     fn label_count(&self) -> usize {
         flat::label_count(self.run())
     }
 
     fn label_at(&self, index: usize) -> Option<Label<'_>> {
         flat::label_at(self.run(), index)
+    }
+
+    fn label_place(&self, _: usize) -> usize {
+        0
+    }
+
+    fn label_onward(&self, _: usize, index: usize) -> Option<(Label<'_>, usize)> {
+        Some((self.label_at(index)?, 0))
     }
 
     fn label_row(&self) -> Option<&[u8]> {

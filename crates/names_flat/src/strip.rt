@@ -34,8 +34,8 @@ impl<Octs: BuiltOctets> Name<Octs> {
 impl<Octs: BuiltOctets> RelativeName<Octs> {
     /// Takes a suffix away, which is compared up to ASCII case. A refused call changes nothing.
     pub fn strip_suffix<N: Relative>(&mut self, base: &N) -> Result<(), StripSuffixError>
-        ensures ok { OnOk result ((suffix : Labels)
-            × (self.new ++ suffix ≡ self.old) × (same (N.name base.now) suffix ≡ true)) }
+        ensures ok { let ending = N.name base.now in OnOk result ((suffix : Labels)
+            × (self.new ++ suffix ≡ self.old) × (same ending suffix ≡ true)) }
         ensures err { IsErr result ↔ (at_or_above (N.name base.now) self.old ≡ false) }
         ensures unchanged { OnErr result (self.new ≡ self.old) }
     {

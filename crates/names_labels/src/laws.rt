@@ -1,17 +1,17 @@
 //! Laws of the text of names. Each is a function without a parameter, whose contract is the law.
 
-ghost use Rattle.std.specs.Prelude.{◌≡◌, ◌<◌, Some};
-ghost use Rattle.std.specs.List.{AllByRecursion};
+ghost use Rattle.std.specs.Prelude.{◌≡◌, Some};
+ghost use Rattle.names_labels.specs.Octets.{AreOctets};
 ghost use Rattle.definitions.specs.Name.{Name, IsName};
 ghost use Rattle.definitions.specs.Text.{name_of_text, relative_of_text, text_of_name, text_of_relative, dotted_text_of_name};
 
 /// What is printed of a name is read as the same labels, octet for octet (RFC 1035, 5.1): of an absolute name
 /// with or without its last dot, and of a relative one, the empty one included.
 pub fn printed_name_is_read_back()
-    ensures absolute { (n : Name) → IsName n → AllByRecursion (AllByRecursion (λ b. b < 256)) n
+    ensures absolute { (n : Name) → IsName n → AreOctets n
         → name_of_text (text_of_name n) ≡ Some n }
-    ensures dotted { (n : Name) → IsName n → AllByRecursion (AllByRecursion (λ b. b < 256)) n
+    ensures dotted { (n : Name) → IsName n → AreOctets n
         → name_of_text (dotted_text_of_name n) ≡ Some n }
-    ensures relative { (n : Name) → IsName n → AllByRecursion (AllByRecursion (λ b. b < 256)) n
+    ensures relative { (n : Name) → IsName n → AreOctets n
         → relative_of_text (text_of_relative n) ≡ Some n }
 {}

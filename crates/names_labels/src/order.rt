@@ -8,7 +8,7 @@ ghost use Rattle.definitions.specs.Name.{name_cmp};
 ghost use Rattle.names_labels.specs.Flat.{spelled};
 ghost use Rattle.names_labels.specs.Order.{in_case};
 
-use crate::traits::{Labels, labels_counted, labels_from};
+use crate::traits::{Labels, labels_counted, labels_of};
 use names_wire::label::Label;
 use std::cmp::Ordering;
 
@@ -50,7 +50,7 @@ pub fn labels_composed_cmp<A: Labels, B: Labels>(name: &A, other: &B, case: Case
     ensures { let octets = spelled (map (in_case case) (A.labels name.now)) in
         result ≡ slice_cmp nat_cmp octets (spelled (map (in_case case) (B.labels other.now))) }
 {
-    let (mut left, mut right) = (labels_from(name, 0), labels_from(other, 0));
+    let (mut left, mut right) = (labels_of(name), labels_of(other));
     loop {
         let (a, b) = match (left.next(), right.next()) {
             (Some(a), Some(b)) => (a, b),

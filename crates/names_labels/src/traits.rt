@@ -1,11 +1,12 @@
 //! What names have in common, however they are kept: labels by place.
 
-ghost use Rattle.std.specs.Prelude.{◌≡◌, ◌++◌, ◌∷◌, [], ◌≤◌, ◌+◌, ◌-◌, length, option_map, slice_get, drop, IfSome, MatchOption, Some, None};
+ghost use Rattle.std.specs.Prelude.{◌≡◌, ◌++◌, ◌∷◌, [], ◌≤◌, ◌+◌, ◌-◌, ℕ, length, option_map, slice_get, drop, IfSome, MatchOption, Some, None};
 ghost use Rattle.definitions.specs.Name.{Name, IsName, at_or_above, same};
 ghost use Rattle.names_labels.specs.Flat.{spelled, IsRunOf};
 ghost use Rattle.std.specs.Iterator.{YieldsFirstBy, YieldsLastBy, item_count};
 ghost use Rattle.names_wire.specs.Label.{octets_of};
 ghost use Rattle.names_labels.specs.Compare.{begins_with};
+ghost use Rattle.names_labels.specs.Walking.{StandsAt};
 
 use crate::flat::{behind, split_label};
 use names_wire::label::Label;
@@ -19,6 +20,9 @@ pub trait Labels {
     /// The labels without the root's.
     ghost name: { Self → Name };
 
+    /// From a place the label at an index is reached. What places are is the type's own matter.
+    ghost reaches: { Self → ℕ → ℕ → Type 0 };
+
     /// How many labels there are, the root's included.
     fn label_count(&self) -> usize
         ensures count { result ≡ length (labels self.now) }
@@ -29,8 +33,21 @@ pub trait Labels {
     fn label_at(&self, index: usize) -> Option<Label<'_>>
         ensures { option_map octets_of result ≡ slice_get (labels self.now) index };
 
-    /// The labels in a row, of a name that keeps them so. Walking over these labels goes from one to the next;
-    /// over those of other names it asks for the label at each place.
+    /// A place from which a label is reached, or from behind the last one nothing.
+    fn label_place(&self, index: usize) -> usize
+        requires { index ≤ length (labels self.now) }
+        ensures { reaches self.now result index };
+
+    /// The label at an index, and a place from which the next one is reached: so a walk over the labels need not
+    /// begin at the first one again for each.
+    fn label_onward(&self, place: usize, index: usize) -> Option<(Label<'_>, usize)>
+        requires { reaches self.now place index }
+        ensures { let found = slice_get (labels self.now) index in
+            let onward = λ (p : ℕ). reaches self.now p (index + 1) in
+            MatchOption result (found ≡ None)
+            (λ step. (Some (octets_of step.0) ≡ found) × onward step.1) };
+
+    /// The labels in a row, of a name that keeps them so.
     fn label_row(&self) -> Option<&[u8]>
         ensures { IfSome result (λ run. IsRunOf run.now (labels self.now)) }
     {
@@ -38,25 +55,33 @@ pub trait Labels {
     }
 }
 
-/// The labels of a name from a place on.
-pub(crate) fn labels_from<N: Labels>(name: &N, start: usize) -> LabelIter<'_, N>
-    ensures { result ≡ drop start (N.labels name.now) }
-{
-    labels_counted(name, start, name.label_count())
+/// Where a label stands: in front of a row, or where it is reached from a place.
+#[derive(Clone, Copy)]
+pub(crate) enum Spot<'a> {
+    Row(&'a [u8]),
+    Place(usize),
 }
 
-/// The labels from a place on of a name whose labels were counted already.
+/// The labels of a name.
+pub(crate) fn labels_of<N: Labels>(name: &N) -> LabelIter<'_, N>
+    ensures { result ≡ N.labels name.now }
+{
+    labels_counted(name, 0, name.label_count())
+}
+
+/// The labels from an index on of a name whose labels were counted already.
 pub(crate) fn labels_counted<N: Labels>(name: &N, start: usize, count: usize) -> LabelIter<'_, N>
-    requires { count ≡ length (N.labels name.now) }
+    requires within { start ≤ count }
+    requires all { count ≡ length (N.labels name.now) }
     ensures { result ≡ drop start (N.labels name.now) }
 {
-    let row = match name.label_row() {
-        Some(run) => Some(behind(run, start)),
-        None => None,
+    let spot = match name.label_row() {
+        Some(run) => Spot::Row(behind(run, start)),
+        None => Spot::Place(name.label_place(start)),
     };
     LabelIter {
         name,
-        row,
+        spot,
         front: start,
         back: count,
     }
@@ -95,7 +120,7 @@ fn labels_len<N: Labels>(name: &N) -> u16
     ensures { result ≡ length (spelled (N.labels name.now)) }
 {
     let _count = name.label_count();
-    let (mut labels, mut len) = (labels_from(name, 0), 0);
+    let (mut labels, mut len) = (labels_of(name), 0);
     while let Some(label) = labels.next() {
         len += label.len() as u16 + 1;
     }
@@ -110,7 +135,7 @@ pub trait ToLabelIter: Labels {
         Self: Sized,
         ensures { result ≡ Self.labels self.now }
     {
-        labels_from(self, 0)
+        labels_of(self)
     }
 
     /// How many octets the labels take in wire form.
@@ -124,7 +149,7 @@ pub trait ToLabelIter: Labels {
     fn starts_with<N: Labels>(&self, base: &N) -> bool
         ensures { result ≡ begins_with (Self.labels self.now) (N.labels base.now) }
     {
-        agrees(labels_from(self, 0), labels_from(base, 0))
+        agrees(labels_of(self), labels_of(base))
     }
 
     /// Whether the labels end with those of another name, up to ASCII case.
@@ -154,42 +179,46 @@ pub trait Relative: ToLabelIter {
 #[derive(Drop)]
 pub struct LabelIter<'a, N: Labels> {
     name: &'a N,
-    /// The labels from `front` on, of a name that keeps them in a row.
-    row: Option<&'a [u8]>,
+    /// Where the label at `front` stands.
+    spot: Spot<'a>,
     front: usize,
     back: usize,
 }
 
 /// The labels that are left.
 impl<'a, N: Labels> Model for LabelIter<'a, N> {
-    ghost use Rattle.std.specs.Prelude.{List, ℕ, ◌-◌, ◌≤◌, take, drop, length, IfSome};
-    ghost use Rattle.names_labels.specs.Flat.{IsRunOf};
+    ghost use Rattle.std.specs.Prelude.{List, ℕ, ◌-◌, ◌≤◌, take, drop, length};
+    ghost use Rattle.names_labels.specs.Walking.{StandsAt};
 
     ghost Value = { List (List ℕ) };
 
     ghost view = { λ it. take (it.back - it.front) (drop it.front (N.labels it.name.now)) };
 
-    ghost invariant = { λ it. (it.back ≤ length (N.labels it.name.now)) × IfSome it.row (λ run. IsRunOf run.now (drop it.front (N.labels it.name.now))) };
+    ghost invariant = { λ it. (it.back ≤ length (N.labels it.name.now)) × StandsAt (N.labels it.name.now) it.front (N.reaches it.name.now) it.spot };
 }
 
-/// The label at a place, and the row behind it.
+/// The label at an index, and where the next one stands.
 fn label_then<'a, N: Labels>(
     name: &'a N,
-    row: Option<&'a [u8]>,
-    place: usize,
-) -> Option<(Label<'a>, Option<&'a [u8]>)>
-    requires { IfSome row (λ run. IsRunOf run.now (drop place (N.labels name.now))) }
-    ensures { let ls = N.labels name.now in let rest = drop (place + 1) ls in
-        MatchOption result (slice_get ls place ≡ None)
-        (λ p. (Some (octets_of p.0) ≡ slice_get ls place)
-        × IfSome p.1 (λ run. IsRunOf run.now rest)) }
+    spot: Spot<'a>,
+    index: usize,
+) -> Option<(Label<'a>, Spot<'a>)>
+    requires { StandsAt (N.labels name.now) index (N.reaches name.now) spot }
+    ensures { let found = slice_get (N.labels name.now) index in
+        let onward = StandsAt (N.labels name.now) (index + 1) (N.reaches name.now) in
+        MatchOption result (found ≡ None)
+        (λ step. (Some (octets_of step.0) ≡ found) × onward step.1) }
 {
-    let Some(run) = row else {
-        let label = name.label_at(place)?;
-        return Some((label, None));
-    };
-    let (label, behind) = split_label(run)?;
-    Some((label, Some(behind)))
+    match spot {
+        Spot::Row(run) => {
+            let (label, behind) = split_label(run)?;
+            Some((label, Spot::Row(behind)))
+        }
+        Spot::Place(place) => {
+            let (label, next) = name.label_onward(place, index)?;
+            Some((label, Spot::Place(next)))
+        }
+    }
 }
 
 impl<'a, N: Labels> Iterator for LabelIter<'a, N> {
@@ -205,8 +234,8 @@ impl<'a, N: Labels> Iterator for LabelIter<'a, N> {
         if self.front >= self.back {
             return None;
         }
-        let (label, row) = label_then(self.name, self.row, self.front)?;
-        self.row = row;
+        let (label, spot) = label_then(self.name, self.spot, self.front)?;
+        self.spot = spot;
         self.front += 1;
         Some(label)
     }

@@ -1,11 +1,10 @@
 -- What is read from a place on, by the head that stands there.
 use Rattle.std.proofs.Common.{◌≡◌, ℕ, zero, suc, ◌+◌, ◌-◌, ◌*◌, ◌<◌, ◌≤◌, Bool, true, false, List, [], ◌∷◌, ◌++◌, length, refl, sym, ap, ◌∙◌, arith, Option, Some, None, Result, Ok, Err, eqb, leb, append_assoc}
-use Rattle.std.specs.Prelude.{slice_get, slice_range, unwrap_or}
-use Rattle.std.specs.Option.{option_or}
-use Rattle.std.proofs.lemmas.List.{append-nil}
+use Rattle.std.specs.Prelude.{slice_get, slice_range}
+use Rattle.std.proofs.lemmas.Option.{slice_get_past}
 use Rattle.std.proofs.lemmas.Bool.{ne_eqb, le-leb, lt-leb, le-ltb, leb-true}
 use Rattle.definitions.specs.Name.{Name, Label}
-use Rattle.definitions.specs.Reading.{ReadFault, Short, Malformed, To, Run, with_label, pointer_at, run_at, most_heads, labels_at, name_at}
+use Rattle.definitions.specs.Reading.{ReadFault, Short, Malformed, To, Run, with_label, pointer_at, run_at, most_heads, labels_at, name_at, behind_labels}
 use Rattle.definitions.proofs.PlainReading.{at_head, at_place}
 use Rattle.definitions.proofs.ReadingLaws.{finish, finish_root, in_front, beyond, labels_of, pointed, finish-with_label, run_at-pointer, pointer_at-back, behind_nothing, labels_at-finish, name_at-finish, heads_there}
 use Rattle.names_parser.specs.Errors.{form_text}
@@ -78,6 +77,12 @@ step_label k room m p n h some short inside fits small =
     ∙ ap (λ x. in_front l (finish k m x)) (sym (more_heads far k r m q (omega arith)))
     ∙ ap (in_front l) (sym (opened k r m q))
 
+-- where no octet stands behind a label that fits
+pub step_label_last : (k room : ℕ) (m : List ℕ) (p n : ℕ) → slice_get m p ≡ Some n → 0 < n → n ≤ 63 → length m ≡ p + 1 + n → n + 2 ≤ room → room ≤ 255 → rest_at k room m p ≡ Err Short
+step_label_last k room m p n h some short last fits small =
+    step_label k room m p n h some short (omega (arith, last)) fits small
+    ∙ ap (in_front (slice_range m (p + 1) (p + 1 + n))) (step_short k (room - (n + 1)) m (p + 1 + n) (slice_get_past m (p + 1 + n) (omega (arith, last))))
+
 pub step_type : (k room : ℕ) (m : List ℕ) (p n : ℕ) → slice_get m p ≡ Some n → 63 < n → n < 192 → rest_at k room m p ≡ Err Malformed
 step_type k room m p n h large small =
     tested k room m p n false false (leb (p + 1 + n) (length m)) (leb (n + 2) room) h (not_zero n (omega arith)) (lt-leb n 63 large) refl refl
@@ -112,57 +117,49 @@ step_pointer k room m p n low h large some g back =
     ∙ ap (finish (suc (k - 1)) m) (pointer_at-back (k - 1) room m p n low to g refl back)
     ∙ ap (beyond (p + 2)) (behind_nothing (labels_at (k - 1) room m to) ∙ labels_at-finish (k - 1) room m to)
 
--- ---- labels that were read
-
-pub onto_start : (m : List ℕ) (p : ℕ) → name_at 255 m p ≡ onto [] None (rest_at 255 255 m p)
-unfolding rest_at
-onto_start m p = name_at-finish 255 m p ∙ go (finish 255 m (run_at most_heads 255 255 m p))
-  where
-    go : (r : Result (Name × ℕ) ReadFault) → r ≡ onto [] None r
-    go (Ok r) = refl
-    go (Err f) = refl
-
-pub onto_label : (done : Name) (b : Option ℕ) (l : Label) (r : Result (Name × ℕ) ReadFault) → onto done b (in_front l r) ≡ onto (done ++ l ∷ []) b r
-onto_label done None l (Ok r) = ap (λ x. Ok (x, r.1)) (sym (append_assoc done (l ∷ []) r.0))
-onto_label done (Some b) l (Ok r) = ap (λ x. Ok (x, b)) (sym (append_assoc done (l ∷ []) r.0))
-onto_label done None l (Err f) = refl
-onto_label done (Some b) l (Err f) = refl
-
-pub onto_fault : (done : Name) (b : Option ℕ) (f : ReadFault) → onto done b (Err f) ≡ Err f
-onto_fault done None f = refl
-onto_fault done (Some b) f = refl
-
 -- a fault that has a text is one of form
 pub malformed : (e : ParseError) (t : List ℕ) → form_text e ≡ Some t → Malformed ≡ fault_of e
 malformed ShortInput t h = cc
 malformed (Form f) t h = refl
 
--- ---- steps of a walk
+-- ---- labels that were read
 
--- one label more
-pub label_more : (m : List ℕ) (start p k room len : ℕ) (done : Name) (b : Option ℕ) → name_at 255 m start ≡ onto done b (rest_at k room m p) → LabelHead k room m p len → name_at 255 m start ≡ onto (done ++ slice_range m (p + 1) (p + 1 + len) ∷ []) b (rest_at k (room - (len + 1)) m (p + (len + 1)))
-label_more m start p k room len done b h s =
-    let l : Label = slice_range m (p + 1) (p + 1 + len) in
-    let place : p + 1 + len ≡ p + (len + 1) = omega arith in
-    h ∙ ap (onto done b) s.onward ∙ onto_label done b l (rest_at k (room - (len + 1)) m (p + 1 + len))
-    ∙ ap (λ q. onto (done ++ l ∷ []) b (rest_at k (room - (len + 1)) m q)) place
-
--- one pointer more
-pub pointer_more : (m : List ℕ) (start p k room to : ℕ) (done : Name) (b : Option ℕ) → name_at 255 m start ≡ onto done b (rest_at k room m p) → PointerHead k room m p to → (c : Option ℕ) → c ≡ option_or b (Some (p + 2)) → name_at 255 m start ≡ onto done c (rest_at (k - 1) room m to)
-pointer_more m start p k room to done b h s c e =
-    h ∙ ap (onto done b) s.onward ∙ go b (rest_at (k - 1) room m to) ∙ ap (λ o. onto done o (rest_at (k - 1) room m to)) (sym e)
+pub onto_start : (m : List ℕ) (p : ℕ) → name_at 255 m p ≡ onto [] (rest_at 255 255 m p)
+unfolding rest_at
+onto_start m p = name_at-finish 255 m p ∙ go (finish 255 m (run_at most_heads 255 255 m p))
   where
-    go : (o : Option ℕ) (r : Result (Name × ℕ) ReadFault) → onto done o (beyond (p + 2) (labels_of r)) ≡ onto done (option_or o (Some (p + 2))) r
-    go None (Ok r) = refl
-    go (Some x) (Ok r) = refl
-    go None (Err f) = refl
-    go (Some x) (Err f) = refl
+    go : (r : Result (Name × ℕ) ReadFault) → r ≡ onto [] r
+    go (Ok r) = refl
+    go (Err f) = refl
 
--- the root
-pub root_ends : (m : List ℕ) (start p k room : ℕ) (done : Name) (b : Option ℕ) → name_at 255 m start ≡ onto done b (rest_at k room m p) → rest_at k room m p ≡ Ok ([], p + 1) → name_at 255 m start ≡ Ok (done, unwrap_or b (p + 1))
-root_ends m start p k room done None h s = h ∙ ap (onto done None) s ∙ ap (λ x. Ok (x, p + 1)) (append-nil done)
-root_ends m start p k room done (Some b) h s = h ∙ ap (onto done (Some b)) s ∙ ap (λ x. Ok (x, b)) (append-nil done)
+onto_label : (done : Name) (l : Label) (r : Result (Name × ℕ) ReadFault) → onto done (in_front l r) ≡ onto (done ++ l ∷ []) r
+onto_label done l (Ok r) = ap (λ x. Ok (x, r.1)) (sym (append_assoc done (l ∷ []) r.0))
+onto_label done l (Err f) = refl
 
--- a fault
-pub fault_ends : (m : List ℕ) (start p k room : ℕ) (done : Name) (b : Option ℕ) (f : ReadFault) → name_at 255 m start ≡ onto done b (rest_at k room m p) → rest_at k room m p ≡ Err f → name_at 255 m start ≡ Err f
-fault_ends m start p k room done b f h s = h ∙ ap (onto done b) s ∙ onto_fault done b f
+labels_label : (done : Name) (l : Label) (r : Result (Name × ℕ) ReadFault) → behind_labels done (labels_of (in_front l r)) ≡ behind_labels (done ++ l ∷ []) (labels_of r)
+labels_label done l (Ok r) = ap Ok (sym (append_assoc done (l ∷ []) r.0))
+labels_label done l (Err f) = refl
+
+-- what is read behind a label, by the octets that are left ahead of the root's
+label_onward : (m : List ℕ) (p k room len : ℕ) → LabelHead k (room + 1) m p len → rest_at k (room + 1) m p ≡ in_front (slice_range m (p + 1) (p + 1 + len)) (rest_at k (room - (len + 1) + 1) m (p + (len + 1)))
+label_onward m p k room len s =
+    let left : room + 1 - (len + 1) ≡ room - (len + 1) + 1 = omega (arith, s.fits) in
+    let place : p + 1 + len ≡ p + (len + 1) = omega arith in
+    s.onward ∙ ap (λ r. in_front (slice_range m (p + 1) (p + 1 + len)) (rest_at k r m (p + 1 + len))) left
+    ∙ ap (λ q. in_front (slice_range m (p + 1) (p + 1 + len)) (rest_at k (room - (len + 1) + 1) m q)) place
+
+-- one label more of a name
+pub label_more : (whole : Result (Name × ℕ) ReadFault) (m : List ℕ) (p k room len : ℕ) (done : Name) → whole ≡ onto done (rest_at k (room + 1) m p) → LabelHead k (room + 1) m p len → whole ≡ onto (done ++ slice_range m (p + 1) (p + 1 + len) ∷ []) (rest_at k (room - (len + 1) + 1) m (p + (len + 1)))
+label_more whole m p k room len done h s =
+    h ∙ ap (onto done) (label_onward m p k room len s)
+    ∙ onto_label done (slice_range m (p + 1) (p + 1 + len)) (rest_at k (room - (len + 1) + 1) m (p + (len + 1)))
+
+-- one label more of those beyond a pointer
+pub labels_more : (whole : Result Name ReadFault) (m : List ℕ) (p k room len : ℕ) (done : Name) → whole ≡ behind_labels done (labels_of (rest_at k (room + 1) m p)) → LabelHead k (room + 1) m p len → whole ≡ behind_labels (done ++ slice_range m (p + 1) (p + 1 + len) ∷ []) (labels_of (rest_at k (room - (len + 1) + 1) m (p + (len + 1))))
+labels_more whole m p k room len done h s =
+    h ∙ ap (λ r. behind_labels done (labels_of r)) (label_onward m p k room len s)
+    ∙ labels_label done (slice_range m (p + 1) (p + 1 + len)) (rest_at k (room - (len + 1) + 1) m (p + (len + 1)))
+
+-- the name where its labels beyond a pointer are known, or why there is none
+pub onto_pointer : (m : List ℕ) (start p room to : ℕ) (done : Name) (q : Result Name ReadFault) → name_at 255 m start ≡ onto done (rest_at 255 room m p) → PointerHead 255 room m p to → labels_of (rest_at 254 room m to) ≡ q → name_at 255 m start ≡ onto done (beyond (p + 2) q)
+onto_pointer m start p room to done q h s e = h ∙ ap (onto done) (s.onward ∙ ap (beyond (p + 2)) e)

@@ -4,3 +4,4 @@ pub mod Parsing
 pub mod Steps
 pub mod SuffixSteps
 pub mod PassSteps
+pub mod Reaching

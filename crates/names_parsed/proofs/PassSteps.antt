@@ -1,7 +1,6 @@
 -- Passing over names, by what is split off.
 use Rattle.std.proofs.Common.{◌≡◌, ◌⊎◌, inl, inr, ℕ, ◌+◌, ◌-◌, ◌*◌, ◌<◌, ◌≤◌, List, [], ◌∷◌, ◌++◌, length, drop, refl, sym, ap, subst, ◌∙◌, arith, Some, Result, Ok, Err, length-drop, append_assoc}
-use Rattle.std.specs.Prelude.{slice_get, slice_range, sum_by}
-use Rattle.std.proofs.lemmas.Option.{slice_get_within}
+use Rattle.std.specs.Prelude.{slice_get, slice_range}
 use Rattle.std.proofs.lemmas.List.Sums.{sum_by-append}
 use Rattle.definitions.specs.Name.{Name, Label, wire_len}
 use Rattle.definitions.specs.Reading.{Reads, root, label, pointer}
@@ -14,7 +13,7 @@ use Rattle.std.specs.Prelude.{IsOk, OnErr}
 use Rattle.std.proofs.lemmas.Bool.{false≢true}
 use Rattle.names_parser.specs.Reader.{Reader}
 use Rattle.names_parsed.specs.Passing.{Passes, at_root, at_pointer, at_label, CanPass, NothingToSkip}
-use Rattle.names_parsed.proofs.Steps.{Found, same_label, same_rest, not_both}
+use Rattle.names_parsed.proofs.Steps.{same_label, same_rest, not_both}
 
 -- what is passed over begins with a label, or with none
 pub record FirstLabel (m : List ℕ) (p : ℕ) (n : Name) (b : ℕ) : Type 0 where

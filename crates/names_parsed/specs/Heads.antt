@@ -1,5 +1,5 @@
 -- Reading a name head by head.
-use Rattle.std.specs.Prelude.{◌≡◌, ℕ, ◌+◌, ◌-◌, ◌<◌, ◌≤◌, List, [], ◌++◌, length, Option, Some, None, Result, Ok, Err, slice_range}
+use Rattle.std.specs.Prelude.{◌≡◌, ℕ, ◌+◌, ◌-◌, ◌<◌, ◌≤◌, List, [], ◌++◌, length, Result, Ok, Err, slice_range}
 use Rattle.definitions.specs.Name.{Name}
 use Rattle.definitions.specs.Reading.{ReadFault, Short, Malformed, most_heads, run_at, name_at}
 use Rattle.definitions.proofs.ReadingLaws.{finish, in_front, beyond, labels_of}
@@ -18,11 +18,11 @@ fault_of (Form f) = Malformed
 unfoldable pub rest_at : ℕ → ℕ → List ℕ → ℕ → Result (Name × ℕ) ReadFault
 rest_at k room m p = finish k m (run_at most_heads k room m p)
 
--- a label that fits, and what is read behind it
+-- a label that fits, with an octet behind it, and what is read there
 pub record LabelHead (k room : ℕ) (m : List ℕ) (p n : ℕ) : Type 0 where
   pub some : 0 < n
   pub fits : n + 2 ≤ room
-  pub inside : p + 1 + n ≤ length m
+  pub inside : p + 1 + n < length m
   pub onward : rest_at k room m p ≡ in_front (slice_range m (p + 1) (p + 1 + n)) (rest_at k (room - (n + 1)) m (p + 1 + n))
 
 -- a pointer to a place before it, and what is read there
@@ -44,9 +44,12 @@ abbrev pub Walks : List ℕ → ℕ → Result Walked ParseError → Type 0
 Walks m p (Ok w) = (n : Name) × (name_at 255 m p ≡ Ok (n, w.behind)) × (w.labels ≡ length n + 1)
 Walks m p (Err e) = name_at 255 m p ≡ Err (fault_of e)
 
--- labels that were read, and the end of a name that is known where a pointer was followed
-abbrev pub onto : Name → Option ℕ → Result (Name × ℕ) ReadFault → Result (Name × ℕ) ReadFault
-onto done None (Ok r) = Ok (done ++ r.0, r.1)
-onto done (Some b) (Ok r) = Ok (done ++ r.0, b)
-onto done None (Err f) = Err f
-onto done (Some b) (Err f) = Err f
+-- how many labels there are with those that are read, and so many before them; or why none are read
+abbrev pub CountsOn : Result Name ReadFault → ℕ → Result ℕ ParseError → Type 0
+CountsOn found before (Ok labels) = (n : Name) × (found ≡ Ok n) × (labels ≡ before + length n)
+CountsOn found before (Err e) = found ≡ Err (fault_of e)
+
+-- labels that were read, and what is read behind them
+abbrev pub onto : Name → Result (Name × ℕ) ReadFault → Result (Name × ℕ) ReadFault
+onto done (Ok r) = Ok (done ++ r.0, r.1)
+onto done (Err f) = Err f

@@ -1,7 +1,8 @@
 //! Reading a name head by head: length octets and pointers (RFC 1035, 4.1.4).
 
-ghost use Rattle.std.specs.Prelude.{◌≡◌, ◌≤◌, ◌<◌, Some, length, slice_get};
-ghost use Rattle.names_parsed.specs.Heads.{Begins, Walks};
+ghost use Rattle.std.specs.Prelude.{◌≡◌, ◌≤◌, ◌<◌, ◌+◌, ◌*◌, Some, Err, length, slice_get};
+ghost use Rattle.definitions.proofs.ReadingLaws.{labels_of};
+ghost use Rattle.names_parsed.specs.Heads.{Begins, Walks, CountsOn, rest_at};
 
 use names_parser::error::ParseError;
 
@@ -24,17 +25,24 @@ pub(crate) struct Walked {
     pub(crate) behind: usize,
 }
 
+/// How many pointers may be followed.
+const MOST_POINTERS: u8 = 255;
+
 /// Reads the name at a place through at most 255 pointers: at most 255 octets, the root's included.
 pub(crate) fn walk(message: &[u8], start: usize) -> Result<Walked, ParseError>
     ensures { Walks message.now start result }
 {
-    let (mut place, mut pointers, mut room) = (start, 255u8, 255usize);
-    let (mut labels, mut behind) = (1u8, None);
+    if start >= message.len() {
+        return Err(ParseError::ShortInput);
+    }
+    let (mut place, mut room, mut labels) = (start, 254usize, 1u8);
     loop {
-        match head_at(message, place, pointers, room)? {
+        match head_at(message, place, MOST_POINTERS, room)? {
             Head::Root => {
-                let behind = behind.unwrap_or(place + 1);
-                return Ok(Walked { labels, behind });
+                return Ok(Walked {
+                    labels,
+                    behind: place + 1,
+                });
             }
             Head::Label(len) => {
                 place += len + 1;
@@ -42,7 +50,34 @@ pub(crate) fn walk(message: &[u8], start: usize) -> Result<Walked, ParseError>
                 labels += 1;
             }
             Head::Pointer(to) => {
-                behind = behind.or(Some(place + 2));
+                return Ok(Walked {
+                    labels: labels_beyond(message, to, room, labels)?,
+                    behind: place + 2,
+                });
+            }
+        }
+    }
+}
+
+/// The number of labels of a name whose first pointer leads to a place, from the number before it and the octets that
+/// are left ahead of the root's.
+fn labels_beyond(message: &[u8], start: usize, left: usize, before: u8) -> Result<u8, ParseError>
+    requires inside { start < length message.now }
+    requires short { left ≤ 254 }
+    requires sized { 2 * before + left ≤ 256 }
+    ensures { CountsOn (labels_of (rest_at 254 (left + 1) message.now start)) before result }
+{
+    let (mut place, mut pointers) = (start, MOST_POINTERS - 1);
+    let (mut room, mut labels) = (left, before);
+    loop {
+        match head_at(message, place, pointers, room)? {
+            Head::Root => return Ok(labels),
+            Head::Label(len) => {
+                place += len + 1;
+                room -= len + 1;
+                labels += 1;
+            }
+            Head::Pointer(to) => {
                 place = to;
                 pointers -= 1;
             }
@@ -50,26 +85,23 @@ pub(crate) fn walk(message: &[u8], start: usize) -> Result<Walked, ParseError>
     }
 }
 
-fn octet_at(message: &[u8], place: usize) -> Option<u8>
-    ensures { result ≡ slice_get message.now place }
-{
-    message.get(place).copied()
-}
-
-/// What stands at a place, where so many pointers may be followed and so many octets are left.
+/// What stands at a place, where so many pointers may be followed and so many octets are left ahead of the root's.
 fn head_at(message: &[u8], place: usize, pointers: u8, room: usize) -> Result<Head, ParseError>
-    requires { room ≤ 255 }
-    ensures { Begins pointers room message.now place result }
+    requires inside { place < length message.now }
+    requires short { room ≤ 254 }
+    ensures { Begins pointers (room + 1) message.now place result }
 {
-    let Some(head) = octet_at(message, place) else {
-        return Err(ParseError::ShortInput);
-    };
-    match head {
-        0 => Ok(Head::Root),
-        1..=63 => label_head(message, place, pointers, room, head),
-        64..=191 => Err(ParseError::form_error("invalid label type")),
-        192..=255 => pointer_head(message, place, pointers, room, head),
+    let head = usize::from(message[place]);
+    if head != 0 && head <= 63 {
+        return label_head(message, place, pointers, room, head);
     }
+    if head >= 192 {
+        return pointer_head(message, place, pointers, room, head);
+    }
+    if head == 0 {
+        return Ok(Head::Root);
+    }
+    Err(ParseError::form_error("invalid label type"))
 }
 
 /// A length octet, with the label behind it.
@@ -78,22 +110,42 @@ fn label_head(
     place: usize,
     pointers: u8,
     room: usize,
-    head: u8,
+    len: usize,
 ) -> Result<Head, ParseError>
-    requires head { slice_get message.now place ≡ Some head }
-    requires some { 0 < head }
-    requires short { head ≤ 63 }
-    requires room { room ≤ 255 }
-    ensures { Begins pointers room message.now place result }
+    requires head { slice_get message.now place ≡ Some len }
+    requires some { 0 < len }
+    requires short { len ≤ 63 }
+    requires room { room ≤ 254 }
+    ensures { Begins pointers (room + 1) message.now place result }
 {
-    let len = usize::from(head);
-    if message.len() - place - 1 < len {
-        return Err(ParseError::ShortInput);
+    if place + (len + 1) >= message.len() {
+        return Err(last_label_fault(message, place, pointers, room, len));
     }
-    if room < len + 2 {
+    if room < len + 1 {
         return Err(ParseError::form_error("long domain name"));
     }
     Ok(Head::Label(len))
+}
+
+/// Why there is no name where nothing stands behind a label.
+fn last_label_fault(
+    message: &[u8],
+    place: usize,
+    pointers: u8,
+    room: usize,
+    len: usize,
+) -> ParseError
+    requires head { slice_get message.now place ≡ Some len }
+    requires some { 0 < len }
+    requires short { len ≤ 63 }
+    requires room { room ≤ 254 }
+    requires last { length message.now ≤ place + (len + 1) }
+    ensures { Begins pointers (room + 1) message.now place (Err result) }
+{
+    if message.len() < place + (len + 1) || room >= len + 1 {
+        return ParseError::ShortInput;
+    }
+    ParseError::form_error("long domain name")
 }
 
 /// The first octet of a pointer, with the one behind it.
@@ -102,20 +154,21 @@ fn pointer_head(
     place: usize,
     pointers: u8,
     room: usize,
-    head: u8,
+    head: usize,
 ) -> Result<Head, ParseError>
     requires head { slice_get message.now place ≡ Some head }
     requires large { 192 ≤ head }
+    requires small { head < 256 }
     requires inside { place < length message.now }
-    ensures { Begins pointers room message.now place result }
+    ensures { Begins pointers (room + 1) message.now place result }
 {
     if pointers == 0 {
         return Err(ParseError::form_error("too many compression pointers"));
     }
-    let Some(low) = octet_at(message, place + 1) else {
+    if place == message.len() - 1 {
         return Err(ParseError::ShortInput);
-    };
-    let to = (usize::from(head) - 192) * 256 + usize::from(low);
+    }
+    let to = (head - 192) * 256 + usize::from(message[place + 1]);
     if to >= place {
         return Err(ParseError::form_error("invalid compression pointer"));
     }

@@ -12,7 +12,7 @@ use crate::head::walk;
 use crate::iter::ParsedNameIter;
 use crate::skip::skip_from;
 use crate::suffixes::ParsedSuffixIter;
-use crate::walk::{label_from, label_within};
+use crate::walk::{label_from, label_within, place_behind};
 use names_labels::traits::{Absolute, Labels, ToLabelIter};
 use names_parser::error::ParseError;
 use names_parser::parser::Parser;
@@ -50,6 +50,7 @@ impl<'a> ParsedName<'a> {
     ///
     /// A name has at most 255 octets, its root's included. At most 255 pointers are followed, each to a place before its
     /// own. It ends by the parser's end. A refused call leaves the parser where it was.
+    #[inline(always)]
     pub fn parse(parser: &mut Parser<'a>) -> Result<Self, ParseError>
         ensures ok { IfOk result (ReadsName parser.old parser.new) }
         ensures refused { OnErr result (NoName parser.old) }
@@ -117,7 +118,8 @@ impl<'a> ParsedName<'a> {
 
     /// The first label and the name behind it; nothing for the root.
     pub fn split_first(&self) -> Option<(Label<'a>, ParsedName<'a>)>
-        ensures { MatchOption result (parsed_name self.now ≡ []) (λ p. parsed_name self.now ≡ octets_of p.0 ∷ parsed_name p.1) }
+        ensures { let n = parsed_name self.now in
+            MatchOption result (n ≡ []) (λ p. n ≡ octets_of p.0 ∷ parsed_name p.1) }
     {
         if self.is_root() {
             return None;
@@ -210,10 +212,13 @@ impl<'a> ParsedName<'a> {
 impl<'a> Labels for ParsedName<'a> {
     ghost use Rattle.std.specs.Prelude.{◌++◌, ◌∷◌, []};
     ghost use Rattle.names_parsed.specs.Parsed.{parsed_name};
+    ghost use Rattle.names_parsed.specs.Walking.{Reaches};
 
     ghost labels = { λ n. parsed_name n ++ [] ∷ [] };
 
     ghost name = { parsed_name };
+
+    ghost reaches = { λ n. Reaches n.message.now n.start };
 
     fn label_count(&self) -> usize {
         usize::from(self.labels)
@@ -224,6 +229,18 @@ impl<'a> Labels for ParsedName<'a> {
             return None;
         }
         Some(label_within(self.message, self.start, index))
+    }
+
+    fn label_place(&self, index: usize) -> usize {
+        let index = index.min(usize::from(self.labels) - 1);
+        place_behind(self.message, self.start, index)
+    }
+
+    fn label_onward(&self, place: usize, index: usize) -> Option<(Label<'_>, usize)> {
+        if index >= usize::from(self.labels) {
+            return None;
+        }
+        Some(label_from(self.message, place))
     }
 }
 

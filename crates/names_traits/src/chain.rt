@@ -102,6 +102,8 @@ impl<L: Relative, R: ChainEnd> Labels for Chain<L, R> {
 
     ghost name = { λ c. c.left ++ R.name c.right };
 
+    ghost reaches = { λ _ _ _. Unit {0} };
+
     fn label_count(&self) -> usize {
         self.left.label_count() + self.right.label_count()
     }
@@ -112,6 +114,14 @@ impl<L: Relative, R: ChainEnd> Labels for Chain<L, R> {
             return self.left.label_at(index);
         }
         self.right.label_at(index - count)
+    }
+
+    fn label_place(&self, _: usize) -> usize {
+        0
+    }
+
+    fn label_onward(&self, _: usize, index: usize) -> Option<(Label<'_>, usize)> {
+        Some((self.label_at(index)?, 0))
     }
 }
 

@@ -13,6 +13,10 @@ SpellsNothing {S} steps s read =
     ((text : List ℕ) × (t : S) × Yields steps s text t × ((rest : List ℕ) → read (text ++ rest) ≡ None))
     ⊎ ((text : List ℕ) × Drains steps s text × (read text ≡ None))
 
+-- the iterator gave a text that is read as this
+abbrev pub CharsSpell : {S A : Type 0} → (S → Option ℕ → S → Type 0) → S → (List ℕ → Option A) → A → Type 0
+CharsSpell {S} steps s read a = (text : List ℕ) × Drains steps s text × (read text ≡ Some a)
+
 -- the characters of a text, one by one
 abbrev pub in_turn : List ℕ → Option ℕ → List ℕ → Type 0
 in_turn text None rest = text ≡ []

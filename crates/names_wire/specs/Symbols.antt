@@ -23,6 +23,10 @@ followed_by (Some s) read = option_map (λ ss. symbol_of s ∷ ss) read
 abbrev pub ReadsAs : List ℕ → Symbol → Type 0
 ReadsAs chars s = (rest : List ℕ) → symbols_of (chars ++ rest) ≡ option_map (λ ss. symbol_of s ∷ ss) (symbols_of rest)
 
+-- a character behind others makes a symbol whole, or none, and leaves these
+abbrev pub Takes : List ℕ → ℕ → List ℕ → Option Symbol → Type 0
+Takes old ch left symbol = (rest : List ℕ) → symbols_of (old ++ ch ∷ rest) ≡ followed_by symbol (symbols_of (left ++ rest))
+
 -- how a symbol is written, if it is one
 abbrev pub written : text.Symbol → Option (List ℕ)
 written s = if is_symbol s then Some (spelling s) else None

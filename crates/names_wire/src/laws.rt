@@ -11,8 +11,8 @@ ghost use Rattle.names_wire.specs.declared.owned.LabelFault.{LabelFault};
 
 /// What is printed of a label is read as the same octets (RFC 1035, 5.1).
 pub fn printed_label_is_read_back()
-    ensures { (l : List ℕ) → IsLabel l → AllByRecursion (λ b. b < 256) l
-        → label_of_text (text_of_label l) ≡ Some l }
+    ensures { let are_octets = AllByRecursion (λ (b : ℕ). b < 256) in (l : List ℕ)
+        → IsLabel l → are_octets l → label_of_text (text_of_label l) ≡ Some l }
 {}
 
 /// A text that is made of symbols is read as these, and so as no others (RFC 1035, 5.1).

@@ -2,11 +2,11 @@
 
 ghost use Rattle.std.specs.Prelude.{◌≡◌, ◌≤◌, slice_index, ◌++◌, [], ◌∷◌, true, ℕ, List, Some, None, IfOk, IfErr, OnOk, OnErr};
 ghost use Rattle.std.specs.Str.{str_to_ascii_lowercase, chars};
-ghost use Rattle.std.specs.Iterator.{IsFinite, Drains};
+ghost use Rattle.std.specs.Iterator.{IsFinite};
 ghost use Rattle.definitions.specs.Text.{is_symbol, octet, label_of_text};
 ghost use Rattle.names_wire.specs.Label.{octets_of, wire_label};
 ghost use Rattle.names_wire.specs.Symbols.{symbol_of};
-ghost use Rattle.names_wire.specs.Spelled.{CannotFollow, SpellsNothing, in_turn};
+ghost use Rattle.names_wire.specs.Spelled.{CannotFollow, CharsSpell, SpellsNothing, in_turn};
 ghost use Rattle.names_wire.specs.LabelFault.{named, FaultBehind, FirstFault};
 
 use crate::label::Label;
@@ -73,8 +73,8 @@ impl OwnedLabel {
     ) -> Result<OwnedLabel, LabelFromStrError>
         requires can { C.can_next chars }
         requires ends { IsFinite (C.remaining chars) }
-        ensures ok { IfOk result (λ label. (text : List ℕ)
-            × Drains C.next_gives chars text × (label_of_text text ≡ Some (owned_octets label))) }
+        ensures ok { let spell = CharsSpell C.next_gives chars label_of_text in
+            IfOk result (λ label. spell (owned_octets label)) }
         ensures err { OnErr result (SpellsNothing C.next_gives chars label_of_text) }
         ensures fault { IfErr result (λ e. FirstFault C.next_gives chars (named e)) }
     {

@@ -4,7 +4,7 @@ ghost use Rattle.std.specs.Prelude.{◌≡◌, ◌≢◌, false, ◌↔◌, ◌+
 ghost use Rattle.definitions.specs.Text.{is_symbol, is_digit, octet, spelling, symbol_of_octet, symbols_of, octet_at, Plain, Quoted};
 ghost use Rattle.std.specs.Option.{option_map};
 ghost use Rattle.std.specs.Result.{result_ok};
-ghost use Rattle.names_wire.specs.Symbols.{symbol_of, followed_by, written, ReadsAs, char_fault, is_begun, left_of};
+ghost use Rattle.names_wire.specs.Symbols.{symbol_of, Takes, written, ReadsAs, char_fault, is_begun, left_of};
 
 use std::fmt;
 use std::marker::Model;
@@ -121,9 +121,7 @@ impl SymbolReader {
     ///
     /// After an error the reader is as it was.
     pub fn push(&mut self, ch: char) -> Result<Option<Symbol>, SymbolCharsError>
-        ensures read { IfOk result (λ symbol. (rest : List ℕ)
-            → symbols_of (self.old ++ ch ∷ rest)
-            ≡ followed_by symbol (symbols_of (self.new ++ rest))) }
+        ensures read { IfOk result (Takes self.old ch self.new) }
         ensures valid { IfOk result (λ symbol.
             IfSome symbol (λ s. is_symbol (symbol_of s) ≡ true)) }
         ensures err { OnErr result ((rest : List ℕ)

@@ -7,6 +7,7 @@ pub mod Records
 pub mod Refusing
 pub mod Soa
 pub mod SoaLaws
+pub mod Spelling
 pub mod Strips
 pub mod ZoneData
 pub mod ZoneDataLaws

@@ -1,20 +1,22 @@
-use Rattle.std.proofs.Common.{◌∙◌, sym, ap, Err, arith}
-use Rattle.std.proofs.lemmas.Option.{slice_get_within}
-use Rattle.names_parsed.proofs.HeadSteps.{step_root, step_short, step_type, malformed}
+use Rattle.std.proofs.Common.{◌≡◌, ◌+◌, ◌<◌, ◌∙◌, sym, ap, Some, Err, arith}
+use Rattle.std.specs.Prelude.{slice_get}
+use Rattle.std.proofs.lemmas.Option.{slice_get-get_or}
+use Rattle.names_parsed.proofs.HeadSteps.{step_root, step_type, malformed}
 use Rattle.names_parsed.proofs.head.head_at.Goals as goal
+use Rattle.names_parsed.proofs.head.head_at.Goals.{else-head-ne0-via-then-head-ne0+else-head-le63, else-head-ne0-via-else-head-ne0}
 
-pub returns-in_default : goal.returns-in_default
-returns-in_default c = step_short c.args.pointers c.args.room c.args.message.now c.args.place (sym c.octet_at.ensures ∙ c.in_default.is)
+pub returns-then-head-eq0 : goal.returns-then-head-eq0
+returns-then-head-eq0 c =
+    let m = c.args.message.now in
+    let p = c.args.place in
+    let head : slice_get m p ≡ Some c.from-head.result = slice_get-get_or m p 0 c.requires.inside ∙ ap Some (sym c.from-head.ensures) in
+    (c.requires.inside, step_root c.args.pointers (c.args.room + 1) m p c.from-head.result head c.if-head-eq0.true)
 
-pub returns-in-0 : goal.returns-in-0
-returns-in-0 c =
-    let head = sym c.octet_at.ensures ∙ c.in-Some.is in
-    (slice_get_within c.args.message.now c.args.place c.in-Some.head head, step_root c.args.pointers c.args.room c.args.message.now c.args.place c.in-Some.head head c.in-0.is)
-
-pub returns-in-64-to-191 : goal.returns-in-64-to-191
-returns-in-64-to-191 c =
-    step_type c.args.pointers c.args.room c.args.message.now c.args.place c.in-Some.head (sym c.octet_at.ensures ∙ c.in-Some.is) (omega arith) (omega arith)
+pub returns : goal.returns
+returns c =
+    let m = c.args.message.now in
+    let p = c.args.place in
+    let head : slice_get m p ≡ Some c.from-head.result = slice_get-get_or m p 0 c.requires.inside ∙ ap Some (sym c.from-head.ensures) in
+    let large : 63 < c.from-head.result = elim c.else-head-ne0.branch [ else-head-ne0-via-then-head-ne0+else-head-le63 w ↦ omega arith | else-head-ne0-via-else-head-ne0 w ↦ omega arith ] in
+    step_type c.args.pointers (c.args.room + 1) m p c.from-head.result head large (omega arith)
     ∙ ap Err (malformed c.form_error.result _ c.form_error.ensures)
-
-pub pointer_head-requires-clause-inside : goal.pointer_head-requires-clause-inside
-pointer_head-requires-clause-inside c = slice_get_within c.args.message.now c.args.place c.in-Some.head (sym c.octet_at.ensures ∙ c.in-Some.is)

@@ -1,45 +1,53 @@
-use Rattle.std.proofs.Common.{◌∷◌, ◌++◌, [], ◌+◌, subst, refl, Ok, arith, length-append}
+use Rattle.std.proofs.Common.{◌∷◌, ◌++◌, [], ◌+◌, ◌∙◌, ap, subst, refl, Ok, arith, length-append}
 use Rattle.std.specs.Prelude.{slice_range}
-use Rattle.names_parsed.specs.Heads.{Begins, LabelHead, PointerHead}
+use Rattle.std.proofs.lemmas.Option.{slice_get_past}
+use Rattle.definitions.specs.Reading.{name_at}
+use Rattle.names_parsed.specs.Heads.{Begins, LabelHead, PointerHead, onto}
 use Rattle.names_parsed.specs.declared.head.Head.{Head}
-use Rattle.names_parsed.proofs.HeadSteps.{onto_start, label_more, pointer_more}
+use Rattle.names_parsed.proofs.HeadSteps.{onto_start, step_short, label_more, onto_pointer}
 use Rattle.names_parsed.proofs.head.walk.Goals as goal
 
-pub loop-behind-init : goal.loop-behind-init
-loop-behind-init c = ([], record { so_far = onto_start c.args.message.now c.args.start; counted = refl; sized = omega arith })
-
-pub loop-behind-preserved-in-Label : goal.loop-behind-preserved-in-Label
-loop-behind-preserved-in-Label c =
+pub returns-then-start-message : goal.returns-then-start-message
+returns-then-start-message c =
     let m = c.args.message.now in
-    let p = c.loop-behind.place in
-    let k = c.loop-behind.pointers in
-    let room = c.loop-behind.room in
+    onto_start m c.args.start ∙ ap (onto []) (step_short 255 255 m c.args.start (slice_get_past m c.args.start c.if-start-message.true))
+
+pub loop-len-init : goal.loop-len-init
+loop-len-init c = (
+  [],
+  record { so_far = onto_start c.args.message.now c.args.start; counted = refl; sized = omega arith; inside = c.if-start-message.false },
+)
+
+pub loop-len-preserved : goal.loop-len-preserved
+loop-len-preserved c =
+    let m = c.args.message.now in
+    let p = c.loop-len.place in
+    let room = c.loop-len.room in
     let len = c.in-Label.len in
-    let P : Head → Type 0 = λ h. Begins k room m p (Ok h) in
-    let b : LabelHead k room m p len = subst P c.in-Label.is c.in_ok-head_at.ensures in
-    let done = c.loop-behind.invariant.0 in
+    let P : Head → Type 0 = λ h. Begins 255 (room + 1) m p (Ok h) in
+    let b : LabelHead 255 (room + 1) m p len = subst P c.in-Label.is c.in_ok-head_at.ensures in
+    let done = c.loop-len.invariant.0 in
     let l = slice_range m (p + 1) (p + 1 + len) in (
       done ++ l ∷ [],
       record {
-        so_far = label_more m c.args.start p k room len done c.loop-behind.behind c.loop-behind.invariant.1.so_far b;
-        counted = omega (arith, c.loop-behind.invariant.1.counted, length-append done (l ∷ []));
-        sized = omega (arith, c.loop-behind.invariant.1.sized, b.some, b.fits);
+        so_far = label_more (name_at 255 m c.args.start) m p 255 room len done c.loop-len.invariant.1.so_far b;
+        counted = omega (arith, c.loop-len.invariant.1.counted, length-append done (l ∷ []));
+        sized = omega (arith, c.loop-len.invariant.1.sized, b.some, b.fits);
+        inside = omega (arith, b.inside);
       },
     )
 
-pub loop-behind-preserved : goal.loop-behind-preserved
-loop-behind-preserved c =
+pub returns-in-Pointer : goal.returns-in-Pointer
+returns-in-Pointer c =
     let m = c.args.message.now in
-    let p = c.loop-behind.place in
-    let k = c.loop-behind.pointers in
-    let room = c.loop-behind.room in
-    let P : Head → Type 0 = λ h. Begins k room m p (Ok h) in
-    let b : PointerHead k room m p c.in-Pointer.to = subst P c.in-Pointer.is c.in_ok-head_at.ensures in
-    let done = c.loop-behind.invariant.0 in (
-      done,
-      record {
-        so_far = pointer_more m c.args.start p k room c.in-Pointer.to done c.loop-behind.behind c.loop-behind.invariant.1.so_far b c.or-behind.result c.or-behind.ensures;
-        counted = c.loop-behind.invariant.1.counted;
-        sized = c.loop-behind.invariant.1.sized;
-      },
+    let p = c.loop-len.place in
+    let room = c.loop-len.room in
+    let to = c.in-Pointer.to in
+    let P : Head → Type 0 = λ h. Begins 255 (room + 1) m p (Ok h) in
+    let b : PointerHead 255 (room + 1) m p to = subst P c.in-Pointer.is c.in_ok-head_at.ensures in
+    let done = c.loop-len.invariant.0 in
+    let n = c.in_ok-labels_beyond-in-Pointer.ensures in (
+      done ++ n.0,
+      onto_pointer m c.args.start p (room + 1) to done (Ok n.0) c.loop-len.invariant.1.so_far b n.1,
+      omega (arith, n.2, c.loop-len.invariant.1.counted, length-append done n.0),
     )

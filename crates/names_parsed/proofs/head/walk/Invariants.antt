@@ -1,16 +1,17 @@
-use Rattle.std.proofs.Common.{◌≡◌, ◌+◌, ◌*◌, ◌≤◌, length}
+use Rattle.std.proofs.Common.{◌≡◌, ◌+◌, ◌*◌, ◌<◌, ◌≤◌, length}
 use Rattle.definitions.specs.Name.{Name}
 use Rattle.definitions.specs.Reading.{name_at}
 use Rattle.names_parsed.specs.Heads.{rest_at, onto}
 use Rattle.names_parsed.proofs.head.walk.Given as goal
 
-abbrev pub invariant-loop-behind : goal.invariant-loop-behind
-invariant-loop-behind l =
+abbrev pub invariant-loop-len : goal.invariant-loop-len
+invariant-loop-len l =
     (done : Name) × record {
-      so_far : name_at 255 l.message l.start ≡ onto done l.behind (rest_at l.pointers l.room l.message l.place);
+      so_far : name_at 255 l.message l.start ≡ onto done (rest_at 255 (l.room + 1) l.message l.place);
       counted : l.labels ≡ length done + 1;
-      sized : 2 * l.labels + l.room ≤ 257;
+      sized : 2 * l.labels + l.room ≤ 256;
+      inside : l.place < length l.message;
     }
 
-abbrev pub decreases-loop-behind : goal.decreases-loop-behind
-decreases-loop-behind l = l.pointers + l.room
+abbrev pub decreases-loop-len : goal.decreases-loop-len
+decreases-loop-len l = l.room

@@ -1,4 +1,4 @@
-use Rattle.std.proofs.Common.{◌≡◌, ◌+◌, ◌-◌, ◌<◌, ◌∙◌, ℕ, [], Err, length, true, false, sym, ap, subst, arith}
+use Rattle.std.proofs.Common.{◌≡◌, ◌+◌, ◌-◌, ◌∙◌, ℕ, Err, length, true, false, sym, ap, subst, arith}
 use Rattle.names_wire.specs.Label.{octets_of}
 use Rattle.names_wire.proofs.Along.{behind_short}
 use Rattle.names_parsed.proofs.PassSteps.{Passed, none_passed, stuck, ends_at_root, ends_at_pointer, too_long, passes_label}
