@@ -1,9 +1,11 @@
-//! Octets as text: hexadecimal and base32hex, in lower case, without memory (RFC 4648, 7 and 8).
+//! Octets as text without memory: hexadecimal and base32hex in lower case, base64 (RFC 4648).
 
 ghost use Rattle.std.specs.Prelude.{◌≡◌, ◌<◌, ◌≤◌, length, Some};
 ghost use Rattle.definitions.specs.Base32hex.{base32hex, digit};
 ghost use Rattle.names_data.specs.Unknown.{hex, hex_digit};
 
+use base64::display::Base64Display;
+use base64::engine::general_purpose::STANDARD;
 use std::fmt;
 
 /// Octets that print as hexadecimal: two digits each, the upper half first.
@@ -153,5 +155,39 @@ fn digit(value: u8) -> char
         (b'0' + value) as char
     } else {
         (b'a' - 10 + value) as char
+    }
+}
+
+/// Octets that print as hexadecimal behind a blank, and none as nothing.
+#[derive(Clone, Copy, Debug, Drop)]
+pub struct HexField<'a>(pub &'a [u8]);
+
+impl<'a> fmt::Display for HexField<'a> {
+    ghost use Rattle.names_data.specs.Unknown.{hex_field};
+
+    ghost output = { λ d. Some (hex_field d.0.now) };
+
+    fn fmt<W: fmt::Write>(&self, f: &mut fmt::Formatter<W>) -> fmt::Result {
+        if self.0.is_empty() {
+            return Ok(());
+        }
+        write!(f, " {}", HexDigits(self.0))
+    }
+}
+
+/// Octets that print as base64 behind a blank, and none as nothing.
+#[derive(Clone, Copy, Debug, Drop)]
+pub struct Base64Field<'a>(pub &'a [u8]);
+
+impl<'a> fmt::Display for Base64Field<'a> {
+    ghost use Rattle.denial_fields.specs.Fields.{base64_field};
+
+    ghost output = { λ d. Some (base64_field d.0.now) };
+
+    fn fmt<W: fmt::Write>(&self, f: &mut fmt::Formatter<W>) -> fmt::Result {
+        if self.0.is_empty() {
+            return Ok(());
+        }
+        write!(f, " {}", Base64Display::new(self.0, &STANDARD))
     }
 }

@@ -3,6 +3,7 @@
 
 pub mod counted;
 pub mod digits;
+pub mod ended;
 pub mod error;
 pub mod hash;
 pub mod laws;
