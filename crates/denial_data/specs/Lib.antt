@@ -1,0 +1,5 @@
+pub mod NumbersText
+pub mod Protos
+pub mod RrsigData
+pub mod Signatures
+pub mod SignatureLaws
