@@ -31,10 +31,18 @@ fn times_are_near_a_reference(rt: HostRuntime) {
     assert!(rt; Timestamp::from(u32::MAX).to_system_time(u64::MAX) == Some(u64::MAX));
 }
 
+fn time_of(octets: &[u8]) -> Option<Timestamp> {
+    let mut parser = Parser::from_ref(octets);
+    match Timestamp::parse(&mut parser) {
+        Ok(time) => Some(time),
+        Err(_) => None,
+    }
+}
+
 #[test]
 fn times_are_read_and_written(rt: HostRuntime) {
     let octets = b"\x7c\x24\x5f\x00";
-    let time = Timestamp::parse(&mut Parser::from_ref(octets)).expect(&rt, "a time");
+    let time = time_of(octets).expect(&rt, "a time");
     assert!(rt; time.into_int() == 2_082_758_400 && Timestamp::COMPOSE_LEN == 4);
     let text = time.to_string(rt.alloc()).expect(&rt, "memory");
     assert!(rt; text.as_str() == "2082758400");
@@ -44,8 +52,7 @@ fn times_are_read_and_written(rt: HostRuntime) {
     }
     let mut target = Vec::new(rt.alloc());
     assert!(rt; time.compose(&mut target).is_ok() && target.as_slice() == octets.as_slice());
-    let short = Timestamp::parse(&mut Parser::from_ref(b"\x00\x00\x01"));
-    assert!(rt; short == Err(ParseError::ShortInput));
+    assert!(rt; time_of(&octets[1..]).is_none());
 }
 
 #[test]

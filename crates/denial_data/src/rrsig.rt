@@ -6,7 +6,7 @@ ghost use Rattle.std.specs.Cmp.Lexicographic.{slice_cmp};
 ghost use Rattle.definitions.specs.Name.{wire};
 ghost use Rattle.names_parsed.specs.Parsed.{parsed_name};
 ghost use Rattle.names_data.specs.Reading.{ReadsData, ReadsPart, data_at};
-ghost use Rattle.denial_data.specs.Protos.{numbers_with, proto_with};
+ghost use Rattle.denial_data.specs.Protos.{numbers_with};
 ghost use Rattle.denial_data.specs.RrsigData.{rrsig_with, rrsig_len, rrsig_octets, rrsig_canonical};
 ghost use Rattle.denial_data.specs.Signatures.{rrsig_part, signer_part, rrsig_text};
 
@@ -72,9 +72,10 @@ impl<Octs: Octets, N: ToName> Rrsig<Octs, N> {
     where
         N: Drop,
         Octs: Drop,
-        ensures ok { let numbers = numbers_with type_covered algorithm labels original_ttl expiration inception key_tag in
-            let proto = proto_with numbers signer_name in
-            IfOk result (λ d. d ≡ rrsig_with proto (Octs.bytes signature)) }
+        ensures numbers { IfOk result (λ d. d.proto.numbers ≡
+            numbers_with type_covered algorithm labels original_ttl expiration inception key_tag) }
+        ensures signer_name { IfOk result (λ d. d.proto.signer_name ≡ signer_name) }
+        ensures signature { IfOk result (λ d. d.signature ≡ Octs.bytes signature) }
         ensures accepts { let len = rrsig_len N.name signer_name (Octs.bytes signature) in
             IsOk result ↔ (len ≤ 65535) }
     {
@@ -104,8 +105,10 @@ impl<Octs: Octets, N: ToName> Rrsig<Octs, N> {
         signature: Octs,
     ) -> Self
         requires { rrsig_len N.name signer_name (Octs.bytes signature) ≤ 65535 }
-        ensures { let numbers = numbers_with type_covered algorithm labels original_ttl expiration inception key_tag in
-            result ≡ rrsig_with (proto_with numbers signer_name) (Octs.bytes signature) }
+        ensures numbers { result.proto.numbers ≡
+            numbers_with type_covered algorithm labels original_ttl expiration inception key_tag }
+        ensures signer_name { result.proto.signer_name ≡ signer_name }
+        ensures signature { result.signature ≡ Octs.bytes signature }
     {
         Rrsig {
             proto: ProtoRrsig::new(
@@ -250,7 +253,8 @@ impl<'a> Rrsig<&'a [u8], ParsedName<'a>> {
 
 /// Reads the signer and the signature.
 fn parse_signer<'a>(parser: &mut Parser<'a>) -> Result<(ParsedName<'a>, &'a [u8]), ParseError>
-    ensures { ReadsPart signer_part (λ s. wire (parsed_name s.0) ++ s.1.now) parser.old parser.new result }
+    ensures { let old = parser.old in
+        ReadsPart signer_part (λ s. wire (parsed_name s.0) ++ s.1.now) old parser.new result }
 {
     let signer_name = parse_name(parser)?;
     let signature = parse_rest(parser)?;

@@ -45,6 +45,7 @@ limited_ends a ends m p e xs q h = go (a m p e) refl h
       where
         differ : {A : Type 0} {x : A} {f : ReadFault} → Err f ≡ Ok x → ⊥
         differ j = cc j
+
     go : (found : Result (List ℕ × ℕ) ReadFault) → a m p e ≡ found → if_short found ≡ Ok (xs, q) → q ≡ e
     go (Ok r) k i = sized r (leb (length r.0) 65535) refl k i
     go (Err f) k i = cc i

@@ -81,7 +81,8 @@ impl Timestamp {
 
     /// Appends the four octets. A refused call leaves the target as it was.
     pub fn compose<B: OctetsBuilder>(&self, target: &mut B) -> Result<(), ShortBuf>
-        ensures ok { OnOk result (B.bytes target.new ≡ B.bytes target.old ++ to_be_bytes w32 self.now) }
+        ensures ok { let octets = to_be_bytes w32 self.now in
+            OnOk result (B.bytes target.new ≡ B.bytes target.old ++ octets) }
         ensures err { OnErr result (B.bytes target.new ≡ B.bytes target.old) }
     {
         Serial(self.seconds).compose(target)

@@ -63,7 +63,7 @@ impl<Octs: Octets> Nsec3<Octs> {
         Octs: Drop,
         ensures ok { IfOk result (λ d.
             d ≡ nsec3_with hash_algorithm flags iterations salt next_owner types) }
-        ensures accepts { let found = nsec3_with hash_algorithm flags iterations salt next_owner types in
+        ensures accepts { let found = nsec3_with 0 0 0 salt next_owner types in
             IsOk result ↔ (length (nsec3_octets found) ≤ 65535) }
     {
         if !Nsec3::fits_rdlen(&salt, &next_owner, &types) {
