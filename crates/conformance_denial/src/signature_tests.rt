@@ -159,4 +159,10 @@ fn signatures_are_at_most_65535_octets(rt: HostRuntime) {
 #[test]
 fn laws_are_called(_rt: HostRuntime) {
     laws::fields_are_signed();
+    laws::dnskey_data_are_read_back();
+    laws::ds_data_are_read_back();
+    laws::rrsig_data_are_read_back();
+    laws::nsec_data_are_read_back();
+    laws::nsec3_data_are_read_back();
+    laws::nsec3param_data_are_read_back();
 }
