@@ -12,6 +12,8 @@ mod key_tests;
 #[cfg(test)]
 mod link_tests;
 #[cfg(test)]
+mod refusal_tests;
+#[cfg(test)]
 mod signature_tests;
 #[cfg(test)]
 mod tables;

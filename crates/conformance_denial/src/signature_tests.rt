@@ -165,4 +165,5 @@ fn laws_are_called(_rt: HostRuntime) {
     laws::nsec_data_are_read_back();
     laws::nsec3_data_are_read_back();
     laws::nsec3param_data_are_read_back();
+    laws::hashes_are_read_back();
 }

@@ -10,6 +10,7 @@ ghost use Rattle.denial_keys.specs.Keys.{ds_data};
 ghost use Rattle.denial_links.specs.Hashed.{Nsec3Data, Nsec3paramData, nsec3_octets, nsec3_part, nsec3param_octets, nsec3param_part};
 ghost use Rattle.denial_links.specs.Nsec.{nsec_part};
 ghost use Rattle.denial_links.specs.NsecData.{NsecData, nsec_octets};
+ghost use Rattle.denial_data.specs.HashTexts.{HashesAreReadBack};
 ghost use Rattle.denial_data.specs.Protos.{IsSignedOver};
 ghost use Rattle.denial_data.specs.RrsigData.{RrsigData, rrsig_octets};
 ghost use Rattle.denial_data.specs.Signatures.{rrsig_part};
@@ -52,4 +53,9 @@ pub fn nsec3_data_are_read_back()
 /// As of DNSKEY data.
 pub fn nsec3param_data_are_read_back()
     ensures { (d : Nsec3paramData) → IsReadBack nsec3param_part (nsec3param_octets d) }
+{}
+
+/// What is printed of a hash is read as that hash, memory aside (RFC 5155, 3.3).
+pub fn hashes_are_read_back()
+    ensures { HashesAreReadBack }
 {}
