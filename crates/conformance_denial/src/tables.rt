@@ -1,0 +1,6 @@
+//! Tables that were made outside of this project.
+
+pub mod bitmaps;
+pub mod keys;
+pub mod record_data;
+pub mod signed;

@@ -1,0 +1,6 @@
+pub mod HashTexts
+pub mod NumbersText
+pub mod Protos
+pub mod RrsigData
+pub mod Signatures
+pub mod SignatureLaws

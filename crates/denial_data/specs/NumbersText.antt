@@ -1,0 +1,13 @@
+-- The numbers of a signature as text (RFC 4034, 3.2).
+use Rattle.std.specs.Prelude.{ℕ, List, ◌∷◌, ◌++◌}
+use Rattle.std.specs.Fmt.{decimal}
+use Rattle.names_data.specs.Types.{type_text}
+use Rattle.denial_data.specs.declared.proto_rrsig.Numbers.{Numbers}
+
+-- the last four, a blank between
+abbrev pub times_text : Numbers → List ℕ
+times_text n = decimal n.original_ttl ++ 32 ∷ decimal n.expiration ++ 32 ∷ decimal n.inception ++ 32 ∷ decimal n.key_tag
+
+-- the type's name, and the others
+abbrev pub numbers_text : Numbers → List ℕ
+numbers_text n = type_text n.type_covered ++ 32 ∷ decimal n.algorithm ++ 32 ∷ decimal n.labels ++ 32 ∷ times_text n

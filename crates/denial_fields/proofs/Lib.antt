@@ -1,0 +1,4 @@
+pub mod Blocks
+pub mod Ending
+pub mod ReadBack
+pub mod TwoParts

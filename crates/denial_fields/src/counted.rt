@@ -1,0 +1,50 @@
+//! Octets behind their number in one octet, as record data have salts and hashes (RFC 5155, 3.2).
+
+ghost use Rattle.std.specs.Prelude.{◌≡◌, ◌≤◌, ◌++◌, length, take, IfOk, OnOk, OnErr};
+ghost use Rattle.names_data.specs.Reading.{ReadsPart};
+ghost use Rattle.denial_fields.specs.Counted.{counted, counted_part};
+
+use names_data::composer::or_undone;
+use names_data::reading::parse_array;
+use names_parser::error::ParseError;
+use names_parser::parser::Parser;
+use names_wire::builder::{OctetsBuilder, ShortBuf};
+
+/// Reads octets behind their number. A refused call leaves the parser where it was.
+pub fn parse_counted<'a>(parser: &mut Parser<'a>) -> Result<&'a [u8], ParseError>
+    ensures read { ReadsPart counted_part (λ s. counted s.now) parser.old parser.new result }
+    ensures few { IfOk result (λ s. length s.now ≤ 255) }
+    ensures unchanged { OnErr result (parser.new ≡ parser.old) }
+{
+    let (_octets, start) = (parser.as_slice(), parser.pos());
+    let [len] = parse_array::<1>(parser)?;
+    match parser.parse_octets(usize::from(len)) {
+        Ok(octets) => Ok(octets),
+        Err(error) => {
+            parser.seek(start)?;
+            Err(error)
+        }
+    }
+}
+
+/// Appends at most 255 octets behind their number. A refused call leaves the target as it was.
+pub fn compose_counted<B: OctetsBuilder>(octets: &[u8], target: &mut B) -> Result<(), ShortBuf>
+    requires { length octets.now ≤ 255 }
+    ensures ok { OnOk result (B.bytes target.new ≡ B.bytes target.old ++ counted octets.now) }
+    ensures err { OnErr result (B.bytes target.new ≡ B.bytes target.old) }
+{
+    let len = target.as_slice().len();
+    let done = append_counted(octets, target);
+    or_undone(target, len, done)
+}
+
+/// As `compose_counted`, which takes back what there was room for.
+fn append_counted<B: OctetsBuilder>(octets: &[u8], target: &mut B) -> Result<(), ShortBuf>
+    requires { length octets.now ≤ 255 }
+    ensures ok { OnOk result (B.bytes target.new ≡ B.bytes target.old ++ counted octets.now) }
+    ensures err { let old = B.bytes target.old in
+        OnErr result (take (length old) (B.bytes target.new) ≡ old) }
+{
+    target.append_slice(&[octets.len() as u8])?;
+    target.append_slice(octets)
+}

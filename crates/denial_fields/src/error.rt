@@ -1,0 +1,48 @@
+//! What is wrong with times, salts and hashes.
+
+use hex::FromHexError;
+use plain::base32hex::DecodeError;
+use thiserror::Error;
+
+/// Text is no number of 32 bits in decimal.
+#[derive(Clone, Copy, Debug, PartialEq, Eq, Error)]
+#[error("illegal signature time")]
+pub struct IllegalSignatureTime;
+
+/// A salt would have more than 255 octets.
+#[derive(Clone, Copy, Debug, PartialEq, Eq, Error)]
+#[error("NSEC3 salt too long")]
+pub struct Nsec3SaltError;
+
+/// A hash would have more than 255 octets.
+#[derive(Clone, Copy, Debug, PartialEq, Eq, Error)]
+#[error("NSEC3 owner hash too long")]
+pub struct OwnerHashError;
+
+/// Why text is no salt.
+#[derive(Clone, Copy, Debug, PartialEq, Eq, Error)]
+pub enum Nsec3SaltFromStrError {
+    /// It is not hexadecimal, nor `-`.
+    #[error("{0}")]
+    DecodeError(FromHexError),
+    /// It spells too many octets.
+    #[error("{0}")]
+    Nsec3SaltError(Nsec3SaltError),
+    /// There was no memory.
+    #[error("out of memory")]
+    Memory,
+}
+
+/// Why text is no hash.
+#[derive(Clone, Copy, Debug, PartialEq, Eq, Error)]
+pub enum OwnerHashFromStrError {
+    /// It is not base32hex.
+    #[error("{0}")]
+    DecodeError(DecodeError),
+    /// It spells too many octets.
+    #[error("{0}")]
+    OwnerHashError(OwnerHashError),
+    /// There was no memory.
+    #[error("out of memory")]
+    Memory,
+}

@@ -1,0 +1,4 @@
+pub mod Bitmaps
+pub mod Hashed
+pub mod Nsec
+pub mod NsecData
