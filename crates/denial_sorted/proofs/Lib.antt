@@ -1,3 +1,4 @@
+pub mod Grouped
 pub mod Orders
 pub mod Putting
 pub mod Removed

@@ -1,3 +1,5 @@
+pub mod Groups
 pub mod Inserting
 pub mod Places
 pub mod Removing
+pub mod Slices

@@ -1,5 +1,4 @@
-use Rattle.std.proofs.Common.{ap, sym, ◌∙◌, arith, ◌<◌, ◌≤◌, ◌≡◌, ◌+◌, ℕ, false, true, get_or, inl, inr}
-use Rattle.std.proofs.lemmas.Bool.{cases_lt}
+use Rattle.std.proofs.Common.{ap, sym, ◌∙◌, arith}
 use Rattle.denial_sorted.specs.Removing.{is_asked}
 use Rattle.denial_sorted.proofs.Removed.{first_at, more_fail}
 use Rattle.denial_sorted.proofs.Putting.{at_place, none_at}

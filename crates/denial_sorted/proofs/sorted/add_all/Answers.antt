@@ -1,4 +1,4 @@
-use Rattle.std.proofs.Common.{◌≡◌, ◌++◌, sym, ap, ◌∙◌}
+use Rattle.std.proofs.Common.{ap, ◌∙◌}
 use Rattle.plain.specs.Records.{record_canonical_cmp}
 use Rattle.denial_sorted.proofs.Orders.{record_total}
 use Rattle.denial_sorted.proofs.Putting.{sorted_behind, sort_rises}

@@ -1,4 +1,4 @@
-use Rattle.std.proofs.Common.{◌≡◌, ap, ◌∙◌}
+use Rattle.std.proofs.Common.{ap, ◌∙◌}
 use Rattle.plain.specs.Records.{record_canonical_cmp}
 use Rattle.definitions.specs.Sorting.{sort_by}
 use Rattle.denial_sorted.proofs.sorted.SortedRecords.from_iter.Goals as goal

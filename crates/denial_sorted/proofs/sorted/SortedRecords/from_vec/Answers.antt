@@ -1,4 +1,3 @@
-use Rattle.std.proofs.Common.{◌≡◌}
 use Rattle.plain.specs.Records.{record_canonical_cmp}
 use Rattle.denial_sorted.proofs.Orders.{record_total}
 use Rattle.denial_sorted.proofs.Putting.{sort_rises}

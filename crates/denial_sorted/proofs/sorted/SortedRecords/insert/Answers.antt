@@ -1,4 +1,3 @@
-use Rattle.std.proofs.Common.{◌≡◌}
 use Rattle.std.specs.Result.{is_ok}
 use Rattle.plain.specs.Records.{record_canonical_cmp}
 use Rattle.denial_sorted.proofs.Orders.{record_total}

@@ -1,5 +1,3 @@
-use Rattle.std.proofs.Common.{◌≡◌, sym, subst, List, []}
-use Rattle.std.specs.List.Sorted.{IsStrictlySortedBy}
 use Rattle.plain.specs.Records.{record_canonical_cmp}
 use Rattle.denial_sorted.proofs.Orders.{record_total}
 use Rattle.denial_sorted.proofs.Putting.{rising_none}

@@ -1,7 +1,7 @@
-use Rattle.std.proofs.Common.{◌≡◌, rules, ◌∙◌, ap, sym}
+use Rattle.std.proofs.Common.{◌∙◌, ap, sym}
 use Rattle.plain.specs.Records.{record_canonical_cmp}
-use Rattle.std.specs.List.{remove, list_any}
-use Rattle.denial_sorted.specs.Removing.{is_asked, without_first}
+use Rattle.std.specs.List.{list_any}
+use Rattle.denial_sorted.specs.Removing.{is_asked}
 use Rattle.denial_sorted.proofs.Removed.{without_rises, without_none, removed_at}
 use Rattle.denial_sorted.proofs.sorted.SortedRecords.remove_first_by_name_class_rtype.Goals as goal
 
