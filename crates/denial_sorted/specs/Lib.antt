@@ -1,3 +1,4 @@
+pub mod GroupLaws
 pub mod Groups
 pub mod Inserting
 pub mod Places

@@ -26,7 +26,10 @@ impl<N: ToName + Drop, D: RecordData + CanonicalOrd + Drop, S: Sorter> SortedRec
         ensures left { let asked = is_asked N.name D.type_of (N.name name.now) class rtype in
             self.new ≡ filter (λ r. not (asked r)) self.old }
     {
-        let found = self.records.iter().any(|rr| is_of(rr, name, &class, &rtype));
+        let found = self
+            .records
+            .iter()
+            .any(|rr| is_of(rr, name, &class, &rtype));
         self.records.retain(|rr| !is_of(rr, name, &class, &rtype));
         found
     }

@@ -1,11 +1,13 @@
 //! Items in a row, or references to some.
 
-ghost use Rattle.std.specs.Prelude.{◌≡◌, ◌≤◌, take, drop, length, map};
+ghost use Rattle.std.specs.Prelude.{◌≡◌, ◌≤◌, ◌∷◌, [], MatchOption, take, drop, length, map};
 ghost use Rattle.std.specs.Option.{option_map};
 ghost use Rattle.std.specs.List.{slice_get};
+ghost use Rattle.std.specs.Iterator.{YieldsFirstRef, item_count};
 ghost use Rattle.denial_sorted.specs.Slices.{items_of, referred};
 
 use std::alloc::AllocError;
+use std::marker::Model;
 
 /// References to items.
 #[derive(Drop)]
@@ -39,6 +41,14 @@ impl<'a, T> SliceRefs<'a, T> {
     {
         let item = self.items.get(place)?;
         Some(*item)
+    }
+
+    fn split_first(self) -> Option<(&'a T, Self)>
+        ensures { MatchOption result (referred self.entry ≡ [])
+            (λ p. referred self.entry ≡ p.0.now ∷ referred p.1) }
+    {
+        let (first, items) = self.items.split_first()?;
+        Some((*first, SliceRefs { items }))
     }
 
     fn split_at(self, place: usize) -> (Self, Self)
@@ -99,12 +109,74 @@ impl<'a, T> SliceRefsOrOwned<'a, T> {
         match self {
             SliceRefsOrOwned::Refs(refs) => {
                 let (front, behind) = refs.split_at(place);
-                (SliceRefsOrOwned::Refs(front), SliceRefsOrOwned::Refs(behind))
+                (
+                    SliceRefsOrOwned::Refs(front),
+                    SliceRefsOrOwned::Refs(behind),
+                )
             }
             SliceRefsOrOwned::Owned(slice) => {
                 let (front, behind) = slice.split_at(place);
-                (SliceRefsOrOwned::Owned(front), SliceRefsOrOwned::Owned(behind))
+                (
+                    SliceRefsOrOwned::Owned(front),
+                    SliceRefsOrOwned::Owned(behind),
+                )
             }
         }
+    }
+
+    /// The first item, and those behind it.
+    pub(crate) fn split_first(self) -> Option<(&'a T, Self)>
+        ensures { MatchOption result (items_of self.entry ≡ [])
+            (λ p. items_of self.entry ≡ p.0.now ∷ items_of p.1) }
+    {
+        match self {
+            SliceRefsOrOwned::Refs(refs) => {
+                let (first, behind) = refs.split_first()?;
+                Some((first, SliceRefsOrOwned::Refs(behind)))
+            }
+            SliceRefsOrOwned::Owned(slice) => {
+                let (first, behind) = slice.split_first()?;
+                Some((first, SliceRefsOrOwned::Owned(behind)))
+            }
+        }
+    }
+
+    /// The items in their order.
+    pub fn iter(self) -> SliceRefsOrOwnedIterator<'a, T>
+        ensures { result ≡ items_of self.entry }
+    {
+        SliceRefsOrOwnedIterator { rest: self }
+    }
+}
+
+/// Items in their order, by reference. It takes no memory.
+#[derive(Drop)]
+pub struct SliceRefsOrOwnedIterator<'a, T> {
+    rest: SliceRefsOrOwned<'a, T>,
+}
+
+/// The items that are left.
+impl<'a, T> Model for SliceRefsOrOwnedIterator<'a, T> {
+    ghost use Rattle.std.specs.Prelude.{List};
+    ghost use Rattle.denial_sorted.specs.Slices.{items_of};
+
+    ghost Value = { List T };
+
+    ghost view = { λ it. items_of it.rest };
+}
+
+impl<'a, T> Iterator for SliceRefsOrOwnedIterator<'a, T> {
+    type Item = &'a T;
+
+    ghost can_next = { λ _. Unit {0} };
+
+    ghost next_gives = { YieldsFirstRef (λ items. items) };
+
+    ghost remaining = { item_count (λ items. items) };
+
+    fn next(&mut self) -> Option<&'a T> {
+        let (first, behind) = self.rest.split_first()?;
+        self.rest = behind;
+        Some(first)
     }
 }

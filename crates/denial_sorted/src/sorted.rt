@@ -178,10 +178,7 @@ fn add_all<
     D: RecordData + CanonicalOrd + Drop,
     S: Sorter,
     U: IntoIterator<Item = Record<N, D>>,
->(
-    held: &mut Vec<Record<N, D>>,
-    records: U,
-) -> Result<(), AllocError>
+>(held: &mut Vec<Record<N, D>>, records: U) -> Result<(), AllocError>
     requires total { IsTotalOrder D.canonical }
     requires order { let by = record_canonical_cmp N.name D.type_of D.canonical in
         IsStrictlySortedBy by held.old.items }

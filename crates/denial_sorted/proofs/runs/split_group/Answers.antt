@@ -2,12 +2,13 @@ use Rattle.std.proofs.Common.{◌≡◌, ◌∷◌, ◌+◌, sym, ◌∙◌}
 use Rattle.std.proofs.lemmas.Option.{slice_get_within}
 use Rattle.denial_sorted.specs.Groups.{groups}
 use Rattle.denial_sorted.specs.Slices.{items_of}
-use Rattle.denial_sorted.proofs.Grouped.{StopsAt, alike_more, group_to, stops_there, stops_end, none_first}
+use Rattle.denial_sorted.proofs.Grouped.{StopsAt, alike_more, group_to, stops_there, stops_end, none_first, first_is_group}
 use Rattle.denial_sorted.proofs.runs.split_group.Goals.{in-Some-get+then-not-are_alike, in_default-get}
+use Rattle.denial_sorted.proofs.runs.split_group.Given.{Over}
 use Rattle.denial_sorted.proofs.runs.split_group.Goals as goal
 
-pub returns-in_default : goal.returns-in_default
-returns-in_default g c = none_first (items_of c.args.slice) (sym c.in_default.ensures)
+pub returns-in_default-clause-parts : goal.returns-in_default-clause-parts
+returns-in_default-clause-parts g c = none_first (items_of c.args.slice) (sym c.in_default.ensures)
 
 pub loop-item-preserved : goal.loop-item-preserved
 loop-item-preserved g c =
@@ -18,8 +19,8 @@ loop-item-preserved g c =
       alike = alike_more g.K.Alike.alike xs c.loop-item.place c.loop-item.last.now c.in-Some-get.item.now c.loop-item.invariant.alike c.loop-item.invariant.last (sym c.in-Some-get.ensures) (sym c.if-not-are_alike.ensures);
     }
 
-pub returns : goal.returns
-returns g c =
+parts : (g : Over) (c : goal.After-split_at g) → groups g.K.Alike.alike (items_of c.args.slice) ≡ items_of c.split_at.result.0 ∷ groups g.K.Alike.alike (items_of c.split_at.result.1)
+parts g c =
     let alike = g.K.Alike.alike in
     let xs = items_of c.args.slice in
     let stops : StopsAt alike c.loop-item.place xs =
@@ -30,3 +31,9 @@ returns g c =
     let cut = group_to alike xs c.loop-item.place c.loop-item.invariant.inside c.loop-item.invariant.alike stops in
     let parts = c.split_at.ensures in
     cut ∙ (λ i. sym parts.front i ∷ groups alike (sym parts.behind i))
+
+pub returns-clause-parts : goal.returns-clause-parts
+returns-clause-parts g c = parts g c
+
+pub returns-clause-group : goal.returns-clause-group
+returns-clause-group g c = first_is_group g.K.Alike.alike g.met.K.Alike.equivalence _ _ _ (parts g c)
