@@ -3,6 +3,7 @@
 
 pub mod finding;
 pub mod groups;
+pub mod laws;
 pub mod removal;
 mod runs;
 pub mod slices;

@@ -1,0 +1,1 @@
+//! Records that are sorted where memory is refused.
