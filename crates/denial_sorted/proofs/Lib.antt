@@ -1,4 +1,5 @@
 pub mod Grouped
 pub mod Orders
+pub mod Parted
 pub mod Putting
 pub mod Removed

@@ -2,7 +2,8 @@
 
 ghost use Rattle.std.specs.Prelude.{◌≡◌};
 ghost use Rattle.std.specs.Result.{result_ok};
-ghost use Rattle.denial_sorted.specs.Groups.{found_set, groups, is_at, is_of_type, of_one_set};
+ghost use Rattle.denial_sorted.specs.Groups.{found_set, groups, is_at, is_of_type, of_one_owner, of_one_set};
+ghost use Rattle.denial_sorted.specs.Partitions.{IsPartition};
 ghost use Rattle.denial_sorted.specs.Slices.{items_of};
 
 use crate::groups::{MultipleTtlValues, Rrset, first};
@@ -20,14 +21,18 @@ use plain::record::Record;
 impl<N: ToName + Drop, D: RecordData + CanonicalOrd + Drop, S: Sorter> SortedRecords<N, D, S> {
     /// The records in groups by owner and class.
     pub fn owner_rrs(&self) -> RecordsIter<'_, N, D>
-        ensures { result ≡ self.now }
+        ensures records { result ≡ self.now }
+        ensures partition { let alike = of_one_owner N.name in
+            IsPartition alike self.now (groups alike result) }
     {
         RecordsIter::new_from_owned(&self.records)
     }
 
     /// The records in groups by owner, class and type.
     pub fn rrsets(&self) -> RrsetIter<'_, N, D>
-        ensures { result ≡ self.now }
+        ensures records { result ≡ self.now }
+        ensures partition { let alike = of_one_set N.name D.type_of in
+            IsPartition alike self.now (groups alike result) }
     {
         RrsetIter::new(SliceRefsOrOwned::new_from_owned(&self.records))
     }
