@@ -2,6 +2,8 @@
 #![tactic(auto)]
 
 #[cfg(test)]
+mod group_tests;
+#[cfg(test)]
 mod refusal_tests;
 #[cfg(test)]
 mod sorted_tests;
