@@ -77,6 +77,7 @@ impl<N: ToName + Drop, D: RecordData + CanonicalOrd + Drop, S: Sorter> SortedRec
             sorter: PhantomData,
         })
     }
+
     /// The records of an iterator, of those that are equal the first.
     pub fn from_iter<U: IntoIterator<Item = Record<N, D>>>(
         alloc: Global,
@@ -154,7 +155,8 @@ impl<N: ToName + Drop, D: RecordData + CanonicalOrd + Drop, S: Sorter> SortedRec
     pub fn into_inner(self) -> Vec<Record<N, D>>
         ensures { result.items ≡ self }
     {
-        self.records
+        let SortedRecords { records, sorter: _ } = self;
+        records
     }
 }
 

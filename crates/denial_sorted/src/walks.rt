@@ -1,6 +1,6 @@
 //! Records walked group by group.
 
-ghost use Rattle.std.specs.Prelude.{◌≡◌, Some, map};
+ghost use Rattle.std.specs.Prelude.{◌≡◌, ◌∷◌, [], MatchOption, map};
 ghost use Rattle.std.specs.Option.{option_map};
 ghost use Rattle.std.specs.List.{slice_get};
 ghost use Rattle.std.specs.Result.{result_ok};
@@ -106,6 +106,23 @@ impl<'a, N: ToName, D: RecordData> Iterator for RecordsIter<'a, N, D> {
     }
 }
 
+/// The first group as an RRset, and what is behind it.
+fn split_set<'a, N: ToName, D: RecordData>(
+    slice: SliceRefsOrOwned<'a, Record<N, D>>,
+) -> Option<
+    (
+        Result<Rrset<'a, N, D>, MultipleTtlValues>,
+        SliceRefsOrOwned<'a, Record<N, D>>,
+    ),
+>
+    ensures { let sets = rrsets_of N.name D.type_of in
+        MatchOption result (items_of slice.entry ≡ [])
+        (λ p. sets (items_of slice.entry) ≡ result_ok p.0 ∷ sets (items_of p.1)) }
+{
+    let (group, behind) = split_group::<Record<N, D>, BySet>(slice)?;
+    Some((Rrset::new(group), behind))
+}
+
 /// Records in groups by owner, class and type, as they stand together. A group whose TTLs differ is an error, and the
 /// next one comes behind it. It takes no memory.
 #[derive(Drop)]
@@ -142,9 +159,9 @@ impl<'a, N: ToName, D: RecordData> Iterator for RrsetIter<'a, N, D> {
     ghost remaining = { item_count (rrsets_of N.name D.type_of) };
 
     fn next(&mut self) -> Option<Result<Rrset<'a, N, D>, MultipleTtlValues>> {
-        let (group, behind) = split_group::<Record<N, D>, BySet>(self.slice)?;
+        let (set, behind) = split_set(self.slice)?;
         self.slice = behind;
-        Some(Rrset::new(group))
+        Some(set)
     }
 }
 
@@ -184,8 +201,8 @@ impl<'a, N: ToName, D: RecordData> Iterator for OwnerRrsIter<'a, N, D> {
     ghost remaining = { item_count (rrsets_of N.name D.type_of) };
 
     fn next(&mut self) -> Option<Result<Rrset<'a, N, D>, MultipleTtlValues>> {
-        let (group, behind) = split_group::<Record<N, D>, BySet>(self.slice)?;
+        let (set, behind) = split_set(self.slice)?;
         self.slice = behind;
-        Some(Rrset::new(group))
+        Some(set)
     }
 }
