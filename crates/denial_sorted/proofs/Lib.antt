@@ -1,4 +1,5 @@
 pub mod Grouped
+pub mod Keyed
 pub mod Orders
 pub mod Parted
 pub mod Putting

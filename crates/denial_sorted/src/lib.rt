@@ -3,6 +3,7 @@
 
 pub mod finding;
 pub mod groups;
+mod keys;
 pub mod laws;
 pub mod removal;
 mod runs;

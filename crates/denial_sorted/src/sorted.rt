@@ -11,6 +11,7 @@ ghost use Rattle.std.specs.Slice.Iter.{iter_rest};
 ghost use Rattle.denial_sorted.specs.Inserting.{Inserts};
 ghost use Rattle.denial_sorted.specs.Places.{Places};
 
+use crate::keys::near_order;
 use crate::sorter::{DefaultSorter, Sorter};
 use names_data::canonical::CanonicalOrd;
 use names_data::data::RecordData;
@@ -70,7 +71,7 @@ impl<N: ToName + Drop, D: RecordData + CanonicalOrd + Drop, S: Sorter> SortedRec
         ensures { let by = record_canonical_cmp N.name D.type_of D.canonical in
             IfOk result (λ s. s ≡ sort_by by records.items) }
     {
-        let mut records = records;
+        let mut records = near_order(records)?;
         order_all::<N, D, S>(&mut records)?;
         Ok(SortedRecords {
             records,
@@ -194,10 +195,9 @@ fn add_all<
         IsStrictlySortedBy by held.new.items }
 {
     let len = held.len();
-    if let Err(error) = held.extend(records) {
-        held.truncate(len);
-        return Err(error);
-    }
+    let handed = Vec::from_iter(*held.allocator(), records)?;
+    let mut more = near_order(handed)?;
+    held.append(&mut more)?;
     if let Err(error) = order_all::<N, D, S>(held) {
         held.truncate(len);
         return Err(error);
