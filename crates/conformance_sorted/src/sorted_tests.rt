@@ -1,0 +1,178 @@
+//! Records put in order, added and taken out.
+
+use denial_sorted::laws::unknown_data_order_is_total;
+use denial_sorted::sorted::{InsertError, SortedRecords};
+use denial_sorted::sorter::DefaultSorter;
+use names::{Name, Rtype, UnknownRecordData};
+use plain::numbers::{Class, Ttl};
+use plain::record::Record;
+use std::alloc::Global;
+use std::process::Abort;
+
+type Rr<'a> = Record<Name<&'a [u8]>, UnknownRecordData<&'a [u8]>>;
+
+type Sorted<'a> = SortedRecords<Name<&'a [u8]>, UnknownRecordData<&'a [u8]>, DefaultSorter>;
+
+/// The example of canonical order of RFC 4034, 6.1.
+const IN_ORDER: [&[u8]; 9] = [
+    b"\x07example\x00",
+    b"\x01a\x07example\x00",
+    b"\x08yljkjljk\x01a\x07example\x00",
+    b"\x01Z\x01a\x07example\x00",
+    b"\x04zABC\x01a\x07EXAMPLE\x00",
+    b"\x01z\x07example\x00",
+    b"\x01\x01\x01z\x07example\x00",
+    b"\x01*\x01z\x07example\x00",
+    b"\x01\xc8\x01z\x07example\x00",
+];
+
+fn record<'a>(
+    rt: &impl Abort,
+    owner: &'a [u8],
+    class: Class,
+    rtype: Rtype,
+    ttl: u32,
+    octets: &'a [u8],
+) -> Rr<'a> {
+    let owner = Name::from_slice(owner).expect(rt, "a name");
+    let content = UnknownRecordData::from_octets(rtype, octets).expect(rt, "few octets");
+    Record::new(owner, class, Ttl::from_secs(ttl), content)
+}
+
+/// The octets of a name that is printed.
+fn owner_is(rr: &Rr<'_>, octets: &[u8]) -> bool {
+    rr.owner().as_slice() == octets
+}
+
+#[test]
+fn records_are_put_in_canonical_order(rt: HostRuntime) {
+    unknown_data_order_is_total::<&[u8]>();
+    let mut records = Vec::new(rt.alloc());
+    for place in [4, 0, 8, 2, 6, 1, 7, 3, 5] {
+        let rr = record(
+            &rt,
+            IN_ORDER[place],
+            Class::IN,
+            Rtype::A,
+            60,
+            b"\xc0\x00\x02\x01",
+        );
+        records.push(rr).expect(&rt, "memory");
+    }
+    let sorted = Sorted::from_vec(records).expect(&rt, "memory");
+    assert!(rt; sorted.len() == 9 && !sorted.is_empty());
+    for (place, rr) in sorted.iter().enumerate() {
+        assert!(rt; place < 9 && owner_is(rr, IN_ORDER[place]));
+    }
+}
+
+#[test]
+fn class_comes_before_owner_and_type_before_data(rt: HostRuntime) {
+    unknown_data_order_is_total::<&[u8]>();
+    let (a, b) = (IN_ORDER[1], IN_ORDER[5]);
+    let mut records = Vec::new(rt.alloc());
+    let chaos = Class::from_int(3);
+    for rr in [
+        record(&rt, a, chaos, Rtype::A, 60, b"\x00"),
+        record(&rt, b, Class::IN, Rtype::A, 60, b"\x00"),
+        record(&rt, a, Class::IN, Rtype::TXT, 60, b"\x00"),
+        record(&rt, a, Class::IN, Rtype::A, 60, b"\x01"),
+        record(&rt, a, Class::IN, Rtype::A, 60, b"\x00"),
+    ] {
+        records.push(rr).expect(&rt, "memory");
+    }
+    let sorted = Sorted::from_vec(records).expect(&rt, "memory");
+    let held = sorted.into_inner();
+    assert!(rt; held.len() == 5);
+    assert!(rt;
+        held[0].data().as_slice() == [0].as_slice() && held[1].data().as_slice() == [1].as_slice()
+    );
+    assert!(rt; held[2].rtype() == Rtype::TXT && owner_is(&held[3], b));
+    assert!(rt; held[4].class() == chaos);
+}
+
+/// A record of `example` of one octet of data.
+fn plain<'a>(rt: &impl Abort, ttl: u32, octets: &'a [u8]) -> Rr<'a> {
+    record(rt, IN_ORDER[0], Class::IN, Rtype::A, ttl, octets)
+}
+
+#[test]
+fn of_equal_records_the_first_stays(rt: HostRuntime) {
+    unknown_data_order_is_total::<&[u8]>();
+    let mut records = Vec::new(rt.alloc());
+    for rr in [
+        plain(&rt, 2, b"\x02"),
+        plain(&rt, 1, b"\x01"),
+        plain(&rt, 3, b"\x02"),
+    ] {
+        records.push(rr).expect(&rt, "memory");
+    }
+    let more = [
+        plain(&rt, 4, b"\x02"),
+        plain(&rt, 5, b"\x00"),
+        plain(&rt, 6, b"\x00"),
+    ];
+    let mut sorted = Sorted::from_iter(rt.alloc(), records).expect(&rt, "memory");
+    let ttls = sorted.as_slice();
+    assert!(rt; ttls.len() == 2 && ttls[0].ttl().as_secs() == 1 && ttls[1].ttl().as_secs() == 2);
+    assert!(rt; sorted.extend(more).is_ok());
+    let ttls = sorted.as_slice();
+    assert!(rt; ttls.len() == 3 && ttls[0].ttl().as_secs() == 5);
+    assert!(rt; ttls[1].ttl().as_secs() == 1 && ttls[2].ttl().as_secs() == 2);
+}
+
+#[test]
+fn a_record_is_put_in_its_place_unless_an_equal_one_is_there(rt: HostRuntime) {
+    unknown_data_order_is_total::<&[u8]>();
+    let mut sorted = Sorted::new(rt.alloc());
+    assert!(rt; sorted.is_empty());
+    for octets in [b"\x02", b"\x00", b"\x03", b"\x01"] {
+        assert!(rt; sorted.insert(plain(&rt, 1, octets)).is_ok());
+    }
+    match sorted.insert(plain(&rt, 9, b"\x03")) {
+        Err(InsertError::Present(back)) => assert!(rt; back.ttl().as_secs() == 9),
+        _ => assert!(rt; false),
+    }
+    assert!(rt; sorted.len() == 4);
+    for (place, rr) in sorted.iter().enumerate() {
+        assert!(rt; rr.ttl().as_secs() == 1 && place < 4);
+        assert!(rt; rr.data().as_slice() == [place as u8].as_slice());
+    }
+}
+
+#[test]
+fn records_are_taken_out_by_owner_class_and_type(rt: HostRuntime) {
+    unknown_data_order_is_total::<&[u8]>();
+    let (a, upper) = (IN_ORDER[1], b"\x01A\x07Example\x00");
+    let mut records = Vec::new(rt.alloc());
+    for rr in [
+        record(&rt, a, Class::IN, Rtype::A, 60, b"\x00"),
+        record(&rt, a, Class::IN, Rtype::A, 60, b"\x01"),
+        record(&rt, a, Class::IN, Rtype::TXT, 60, b"\x02"),
+        record(&rt, a, Class::from_int(3), Rtype::A, 60, b"\x03"),
+        plain(&rt, 60, b"\x04"),
+    ] {
+        records.push(rr).expect(&rt, "memory");
+    }
+    let mut sorted = Sorted::from_vec(records).expect(&rt, "memory");
+    let name = Name::from_slice(upper.as_slice()).expect(&rt, "a name");
+    let (class, rtype) = (Some(Class::IN), Some(Rtype::A));
+    assert!(rt; sorted.remove_first_by_name_class_rtype(&name, class, rtype));
+    assert!(rt; sorted.len() == 4);
+    assert!(rt;
+        sorted
+            .iter()
+            .all(|rr| rr.data().as_slice() != [0].as_slice())
+    );
+    assert!(rt; sorted.remove_all_by_name_class_rtype(&name, None, Some(Rtype::A)));
+    assert!(rt; sorted.len() == 2);
+    assert!(rt; !sorted.remove_all_by_name_class_rtype(&name, None, Some(Rtype::A)));
+    assert!(rt; !sorted.remove_first_by_name_class_rtype(&name, Some(Class::from_int(3)), None));
+    assert!(rt; sorted.remove_all_by_name_class_rtype(&name, None, None));
+    assert!(rt;
+        sorted.len() == 1
+            && sorted
+                .iter()
+                .all(|rr| rr.data().as_slice() == [4].as_slice())
+    );
+}

@@ -1,0 +1,9 @@
+pub mod Adding
+pub mod GroupLaws
+pub mod Groups
+pub mod Inserting
+pub mod Keys
+pub mod Partitions
+pub mod Places
+pub mod Removing
+pub mod Slices

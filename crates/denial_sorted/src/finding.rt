@@ -1,0 +1,100 @@
+//! Sorted records in groups, and RRsets found among them.
+
+ghost use Rattle.std.specs.Prelude.{◌≡◌};
+ghost use Rattle.std.specs.Result.{result_ok};
+ghost use Rattle.denial_sorted.specs.Groups.{found_set, groups, is_at, is_of_type, of_one_owner, of_one_set};
+ghost use Rattle.denial_sorted.specs.Partitions.{IsPartition};
+ghost use Rattle.denial_sorted.specs.Slices.{items_of};
+
+use crate::groups::{MultipleTtlValues, Rrset, first};
+use crate::runs::{BySet, split_group};
+use crate::slices::SliceRefsOrOwned;
+use crate::sorted::SortedRecords;
+use crate::sorter::Sorter;
+use crate::walks::{RecordsIter, RrsetIter};
+use names_data::canonical::CanonicalOrd;
+use names_data::data::RecordData;
+use names_data::rtype::Rtype;
+use names_traits::to_name::ToName;
+use plain::record::Record;
+
+impl<N: ToName + Drop, D: RecordData + CanonicalOrd + Drop, S: Sorter> SortedRecords<N, D, S> {
+    /// The records in groups by owner and class.
+    pub fn owner_rrs(&self) -> RecordsIter<'_, N, D>
+        ensures records { result ≡ self.now }
+        ensures partition { let alike = of_one_owner N.name in
+            IsPartition alike self.now (groups alike result) }
+    {
+        RecordsIter::new_from_owned(&self.records)
+    }
+
+    /// The records in groups by owner, class and type.
+    pub fn rrsets(&self) -> RrsetIter<'_, N, D>
+        ensures records { result ≡ self.now }
+        ensures partition { let alike = of_one_set N.name D.type_of in
+            IsPartition alike self.now (groups alike result) }
+    {
+        RrsetIter::new(SliceRefsOrOwned::new_from_owned(&self.records))
+    }
+
+    /// The first SOA record, with those of its owner and class. Only the TTLs of what is found matter.
+    pub fn find_soa(&self) -> Result<Option<Rrset<'_, N, D>>, MultipleTtlValues>
+        ensures { let sets = groups (of_one_set N.name D.type_of) self.now in
+            result_ok result ≡ found_set D.type_of (is_of_type D.type_of 6) sets }
+    {
+        first_soa(SliceRefsOrOwned::new_from_owned(&self.records))
+    }
+
+    /// The RRset of a type at an owner, the apex of a zone; of the least class where there are several. Only the TTLs
+    /// of what is found matter.
+    pub fn find_apex_rtype(
+        &self,
+        apex: &N,
+        rtype: Rtype,
+    ) -> Result<Option<Rrset<'_, N, D>>, MultipleTtlValues>
+        ensures { let sets = groups (of_one_set N.name D.type_of) self.now in
+            result_ok result
+            ≡ found_set D.type_of (is_at N.name D.type_of (N.name apex.now) rtype) sets }
+    {
+        first_at(SliceRefsOrOwned::new_from_owned(&self.records), apex, rtype)
+    }
+}
+
+/// The first group of SOA records.
+fn first_soa<'a, N: ToName, D: RecordData>(
+    slice: SliceRefsOrOwned<'a, Record<N, D>>,
+) -> Result<Option<Rrset<'a, N, D>>, MultipleTtlValues>
+    ensures { let sets = groups (of_one_set N.name D.type_of) (items_of slice.entry) in
+        result_ok result ≡ found_set D.type_of (is_of_type D.type_of 6) sets }
+{
+    let mut rest = slice;
+    while let Some((group, behind)) = split_group::<Record<N, D>, BySet>(rest) {
+        if first(group).rtype() == Rtype::SOA {
+            let set = Rrset::new(group)?;
+            return Ok(Some(set));
+        }
+        rest = behind;
+    }
+    Ok(None)
+}
+
+/// The first group of a type and an owner.
+fn first_at<'a, N: ToName, D: RecordData>(
+    slice: SliceRefsOrOwned<'a, Record<N, D>>,
+    owner: &N,
+    rtype: Rtype,
+) -> Result<Option<Rrset<'a, N, D>>, MultipleTtlValues>
+    ensures { let sets = groups (of_one_set N.name D.type_of) (items_of slice.entry) in
+        result_ok result ≡ found_set D.type_of (is_at N.name D.type_of (N.name owner.now) rtype) sets }
+{
+    let mut rest = slice;
+    while let Some((group, behind)) = split_group::<Record<N, D>, BySet>(rest) {
+        let rr = first(group);
+        if rr.rtype() == rtype && rr.owner().name_eq(owner) {
+            let set = Rrset::new(group)?;
+            return Ok(Some(set));
+        }
+        rest = behind;
+    }
+    Ok(None)
+}

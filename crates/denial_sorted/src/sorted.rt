@@ -1,0 +1,220 @@
+//! Records in canonical order.
+
+ghost use Rattle.std.specs.Prelude.{◌≡◌, ◌<◌, ◌↔◌, List, [], length, IsTrue, IfOk, OnOk, OnErr};
+ghost use Rattle.std.specs.Cmp.{IsTotalOrder};
+ghost use Rattle.std.specs.Iterator.{IsFinite, Drains};
+ghost use Rattle.std.specs.List.Sorted.{IsStrictlySortedBy};
+ghost use Rattle.definitions.specs.Sorting.{put_by, put_all_by, sort_by};
+ghost use Rattle.plain.specs.Records.{record_canonical_cmp};
+ghost use Rattle.plain.specs.declared.record.Record.{Record};
+ghost use Rattle.std.specs.Slice.Iter.{iter_rest};
+ghost use Rattle.denial_sorted.specs.Inserting.{Inserts};
+ghost use Rattle.denial_sorted.specs.Places.{Places};
+
+use crate::keys::near_order;
+use crate::sorter::{DefaultSorter, Sorter};
+use names_data::canonical::CanonicalOrd;
+use names_data::data::RecordData;
+use names_traits::to_name::ToName;
+use plain::record::Record;
+use std::alloc::{AllocError, Global};
+use std::marker::{Model, PhantomData};
+use std::slice;
+use thiserror::Error;
+
+/// Why a record wasn't put into sorted ones. It is handed back.
+#[derive(Debug, Drop, Error)]
+pub enum InsertError<N, D> {
+    /// An equal record is there.
+    #[error("an equal record is present")]
+    Present(Record<N, D>),
+    #[error("out of memory")]
+    Memory(Record<N, D>),
+}
+
+/// Records in canonical order, no two of them equal, whatever their TTLs (RFC 4034, 6). A contract sees the records.
+#[derive(Drop)]
+pub struct SortedRecords<N: ToName, D: RecordData + CanonicalOrd, S = DefaultSorter> {
+    pub(crate) records: Vec<Record<N, D>>,
+    sorter: PhantomData<S>,
+}
+
+impl<N: ToName, D: RecordData + CanonicalOrd, S> Model for SortedRecords<N, D, S> {
+    ghost use Rattle.std.specs.Prelude.{List};
+    ghost use Rattle.std.specs.Cmp.{IsTotalOrder};
+    ghost use Rattle.std.specs.List.Sorted.{IsStrictlySortedBy};
+    ghost use Rattle.plain.specs.declared.record.Record.{Record};
+    ghost use Rattle.plain.specs.Records.{record_canonical_cmp};
+
+    ghost Value = { List (Record N D) };
+
+    ghost view = { λ s. s.records.items };
+
+    ghost invariant = { λ s. IsTotalOrder D.canonical
+        × IsStrictlySortedBy (record_canonical_cmp N.name D.type_of D.canonical) s.records.items };
+}
+
+impl<N: ToName + Drop, D: RecordData + CanonicalOrd + Drop, S: Sorter> SortedRecords<N, D, S> {
+    pub fn new(alloc: Global) -> Self
+        requires { IsTotalOrder D.canonical }
+        ensures { result ≡ [] }
+    {
+        SortedRecords {
+            records: Vec::new(alloc),
+            sorter: PhantomData,
+        }
+    }
+
+    /// The records of a vector, of those that are equal the first.
+    pub fn from_vec(records: Vec<Record<N, D>>) -> Result<Self, AllocError>
+        requires { IsTotalOrder D.canonical }
+        ensures { let by = record_canonical_cmp N.name D.type_of D.canonical in
+            IfOk result (λ s. s ≡ sort_by by records.items) }
+    {
+        let mut records = near_order(records)?;
+        order_all::<N, D, S>(&mut records)?;
+        Ok(SortedRecords {
+            records,
+            sorter: PhantomData,
+        })
+    }
+
+    /// The records of an iterator, of those that are equal the first.
+    pub fn from_iter<U: IntoIterator<Item = Record<N, D>>>(
+        alloc: Global,
+        records: U,
+    ) -> Result<Self, AllocError>
+        requires total { IsTotalOrder D.canonical }
+        requires ends { (it : U.IntoIter) → U.into_iter_gives records it →
+            U.IntoIter.can_next it × IsFinite (U.IntoIter.remaining it) }
+        ensures { let by = record_canonical_cmp N.name D.type_of D.canonical in
+            IfOk result (λ s. (it : U.IntoIter) × (xs : List (Record N D)) × U.into_iter_gives records it
+            × Drains U.IntoIter.next_gives it xs × (s ≡ sort_by by xs)) }
+    {
+        let records = Vec::from_iter(alloc, records)?;
+        let sorted = SortedRecords::from_vec(records)?;
+        Ok(sorted)
+    }
+
+    /// Adds the records of an iterator that have no equal one here or earlier among them. Where it is refused, none is
+    /// added.
+    pub fn extend<U: IntoIterator<Item = Record<N, D>>>(
+        &mut self,
+        records: U,
+    ) -> Result<(), AllocError>
+        requires { (it : U.IntoIter) → U.into_iter_gives records it →
+            U.IntoIter.can_next it × IsFinite (U.IntoIter.remaining it) }
+        ensures ok { let by = record_canonical_cmp N.name D.type_of D.canonical in
+            OnOk result ((it : U.IntoIter) × (xs : List (Record N D)) × U.into_iter_gives records it
+            × Drains U.IntoIter.next_gives it xs × (self.new ≡ put_all_by by self.old xs)) }
+        ensures err { OnErr result (self.new ≡ self.old) }
+    {
+        add_all::<N, D, S, U>(&mut self.records, records)
+    }
+
+    /// Puts a record in its place, unless an equal one is there: then, and where there is no memory, all is as it was.
+    pub fn insert(&mut self, rr: Record<N, D>) -> Result<(), InsertError<N, D>>
+        ensures { let by = record_canonical_cmp N.name D.type_of D.canonical in
+            Inserts by rr self.old result self.new }
+    {
+        match place_for(&self.records, &rr) {
+            Ok(_) => Err(InsertError::Present(rr)),
+            Err(place) => match self.records.insert(place, rr) {
+                Ok(()) => Ok(()),
+                Err(refused) => Err(InsertError::Memory(refused.value)),
+            },
+        }
+    }
+
+    pub fn len(&self) -> usize
+        ensures { result ≡ length self.now }
+    {
+        self.records.len()
+    }
+
+    pub fn is_empty(&self) -> bool
+        ensures { IsTrue result ↔ (self.now ≡ []) }
+    {
+        self.records.is_empty()
+    }
+
+    pub fn as_slice(&self) -> &[Record<N, D>]
+        ensures order { let by = record_canonical_cmp N.name D.type_of D.canonical in
+            IsStrictlySortedBy by result.now }
+        ensures records { result.now ≡ self.now }
+    {
+        self.records.as_slice()
+    }
+
+    /// The records in their order.
+    pub fn iter(&self) -> slice::Iter<'_, Record<N, D>>
+        ensures { iter_rest result ≡ self.now }
+    {
+        self.records.iter()
+    }
+
+    pub fn into_inner(self) -> Vec<Record<N, D>>
+        ensures { result.items ≡ self }
+    {
+        let SortedRecords { records, sorter: _ } = self;
+        records
+    }
+}
+
+/// Puts records in order, and leaves of those that are equal the first. They are as they were where it is refused.
+fn order_all<N: ToName + Drop, D: RecordData + CanonicalOrd + Drop, S: Sorter>(
+    records: &mut Vec<Record<N, D>>,
+) -> Result<(), AllocError>
+    requires { IsTotalOrder D.canonical }
+    ensures ok { let by = record_canonical_cmp N.name D.type_of D.canonical in
+        OnOk result (records.new.items ≡ sort_by by records.old.items) }
+    ensures err { OnErr result (records.new.items ≡ records.old.items) }
+{
+    S::sort_by(records, |a, b| a.canonical_cmp(b))?;
+    records.dedup_by(|later, kept| later.canonical_cmp(kept).is_eq());
+    Ok(())
+}
+
+/// Adds records to ordered ones. Where it is refused, none is added.
+fn add_all<
+    N: ToName + Drop,
+    D: RecordData + CanonicalOrd + Drop,
+    S: Sorter,
+    U: IntoIterator<Item = Record<N, D>>,
+>(held: &mut Vec<Record<N, D>>, records: U) -> Result<(), AllocError>
+    requires total { IsTotalOrder D.canonical }
+    requires order { let by = record_canonical_cmp N.name D.type_of D.canonical in
+        IsStrictlySortedBy by held.old.items }
+    requires ends { (it : U.IntoIter) → U.into_iter_gives records it →
+        U.IntoIter.can_next it × IsFinite (U.IntoIter.remaining it) }
+    ensures ok { let by = record_canonical_cmp N.name D.type_of D.canonical in
+        OnOk result ((it : U.IntoIter) × (xs : List (Record N D)) × U.into_iter_gives records it
+        × Drains U.IntoIter.next_gives it xs × (held.new.items ≡ put_all_by by held.old.items xs)) }
+    ensures err { OnErr result (held.new.items ≡ held.old.items) }
+    ensures order { let by = record_canonical_cmp N.name D.type_of D.canonical in
+        IsStrictlySortedBy by held.new.items }
+{
+    let len = held.len();
+    let handed = Vec::from_iter(*held.allocator(), records)?;
+    let mut more = near_order(handed)?;
+    held.append(&mut more)?;
+    if let Err(error) = order_all::<N, D, S>(held) {
+        held.truncate(len);
+        return Err(error);
+    }
+    Ok(())
+}
+
+/// Where an equal record stands, or else the place where a record belongs.
+fn place_for<N: ToName, D: RecordData + CanonicalOrd>(
+    records: &[Record<N, D>],
+    rr: &Record<N, D>,
+) -> Result<usize, usize>
+    requires total { IsTotalOrder D.canonical }
+    requires order { let by = record_canonical_cmp N.name D.type_of D.canonical in
+        IsStrictlySortedBy by records.now }
+    ensures { let by = record_canonical_cmp N.name D.type_of D.canonical in
+        Places by rr.now records.now result }
+{
+    records.binary_search_by(|held| held.canonical_cmp(rr))
+}
