@@ -16,4 +16,6 @@ mod refusal_tests;
 #[cfg(test)]
 mod signature_tests;
 #[cfg(test)]
+mod small_bitmap_tests;
+#[cfg(test)]
 mod tables;

@@ -8,6 +8,4 @@ pub mod error;
 pub mod iter;
 pub mod laws;
 mod order;
-#[cfg(test)]
-mod tests;
 mod window;

@@ -1,11 +1,11 @@
-mod bitmaps;
+//! Bitmaps of small sets of types, in parts: accepted, refused, walked, compared, printed.
 
-use crate::bitmap::RtypeBitmap;
-use crate::builder::RtypeBitmapBuilder;
-use crate::error::RtypeBitmapError;
-use crate::laws;
-use crate::tests::bitmaps::BITMAPS;
+use crate::tables::small_bitmaps::BITMAPS;
 use arrayvec::ArrayVec;
+use denial_bitmap::bitmap::RtypeBitmap;
+use denial_bitmap::builder::RtypeBitmapBuilder;
+use denial_bitmap::error::RtypeBitmapError;
+use denial_bitmap::laws;
 use names_data::canonical::CanonicalOrd;
 use names_data::rtype::Rtype;
 use names_parser::error::ParseError;
