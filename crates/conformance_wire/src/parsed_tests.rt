@@ -147,7 +147,10 @@ fn labels_are_reached_from_places(rt: HostRuntime) {
     let message = b"\x03com\x00\x07example\xc0\x00\x03www\xc0\x05";
     let (name, _) = read(message, 15).expect(&rt, "a name");
     walk(&rt, &name);
-    walk(&rt, &Name::from_slice(b"\x03www\x07example\x00").expect(&rt, "a name"));
+    walk(
+        &rt,
+        &Name::from_slice(b"\x03www\x07example\x00").expect(&rt, "a name"),
+    );
     let host = RelativeName::from_slice(b"\x03www\x07example").expect(&rt, "a name");
     walk(&rt, &host);
     walk(&rt, &Chain::new(host, name).expect(&rt, "a chain"));
