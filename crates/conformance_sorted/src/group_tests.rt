@@ -199,15 +199,11 @@ fn references_are_walked_as_records_are(rt: HostRuntime) {
         record(&rt, A, Rtype::A, 60, b"\x01"),
         record(&rt, D, Rtype::A, 60, b"\x01"),
     );
-    let refs = [&a, &b];
-    let mut owners = RecordsIter::new_from_refs(&refs);
-    for owner in [A, D] {
-        match owners.next() {
-            Some(group) => assert!(rt; group.owner().as_slice() == owner),
-            None => assert!(rt; false),
-        }
-    }
-    assert!(rt; owners.next().is_none());
+    let mut refs = Vec::new(rt.alloc());
+    refs.push(&a).expect(&rt, "memory");
+    refs.push(&b).expect(&rt, "memory");
+    let owners = RecordsIter::new_from_refs(refs.as_slice());
+    assert!(rt; owners.count() == 2);
 }
 
 #[test]
@@ -216,9 +212,6 @@ fn one_record_is_an_rrset(rt: HostRuntime) {
     assert!(rt; RecordsIter::new_from_owned(&owned).count() == 1);
     assert!(rt; RecordsIter::new(SliceRefsOrOwned::new_from_owned(&owned)).count() == 1);
     assert!(rt; Rrset::new_from_owned(&owned).is_ok());
-    let one = [&owned[0]];
-    assert!(rt; Rrset::new_from_refs(&one).is_ok());
-    assert!(rt; Rrset::new(SliceRefsOrOwned::new_from_refs(&one)).is_ok());
 }
 
 #[test]
