@@ -7,11 +7,12 @@ use denial_sorted::laws::{
 use denial_sorted::slices::SliceRefsOrOwned;
 use denial_sorted::sorted::SortedRecords;
 use denial_sorted::sorter::DefaultSorter;
-use denial_sorted::walks::RecordsIter;
-use names::{Name, Rtype, UnknownRecordData};
+use denial_sorted::walks::{OwnerRrsIter, RecordsIter};
+use names::{Name, RecordData, Rtype, ToName, UnknownRecordData};
 use plain::numbers::{Class, Ttl};
 use plain::record::Record;
 use plain::zone_data::ZoneRecordData;
+use std::alloc::Global;
 use std::process::Abort;
 
 type Rr<'a> = Record<Name<&'a [u8]>, UnknownRecordData<&'a [u8]>>;
@@ -44,24 +45,27 @@ fn record<'a>(
     Record::new(owner, Class::IN, Ttl::from_secs(ttl), content)
 }
 
-/// A small zone, and records before and behind it.
-fn zone<'a>(rt: &impl Abort, alloc: std::alloc::Global) -> Sorted<'a> {
+/// A small zone, and records before and behind it: owner, number of the type, TTL and data.
+const RECORDS: [(&[u8], u16, u32, &[u8]); 12] = [
+    (STAR_W, 16, 60, b"\x01x"),
+    (D, 2, 60, EXAMPLE),
+    (EXAMPLE, 6, 60, b"\x00"),
+    (OTHER, 1, 60, b"\x00"),
+    (EXAMPLE, 2, 60, EXAMPLE),
+    (A, 1, 60, b"\x01"),
+    (A, 1, 61, b"\x02"),
+    (A, 16, 60, b"\x01"),
+    (A, 46, 60, b"\x01"),
+    (A, 46, 61, b"\x02"),
+    (BEFORE, 1, 60, b"\x00"),
+    (B_C, 1, 60, b"\x00"),
+];
+
+fn zone(rt: &impl Abort, alloc: Global) -> Sorted<'static> {
     unknown_data_order_is_total::<&[u8]>();
     let mut records = Vec::new(alloc);
-    for rr in [
-        record(rt, STAR_W, Rtype::TXT, 60, b"\x01x"),
-        record(rt, D, Rtype::NS, 60, EXAMPLE),
-        record(rt, EXAMPLE, Rtype::SOA, 60, b"\x00"),
-        record(rt, OTHER, Rtype::A, 60, b"\x00"),
-        record(rt, EXAMPLE, Rtype::NS, 60, EXAMPLE),
-        record(rt, A, Rtype::A, 60, b"\x01"),
-        record(rt, A, Rtype::A, 61, b"\x02"),
-        record(rt, A, Rtype::TXT, 60, b"\x01"),
-        record(rt, A, Rtype::RRSIG, 60, b"\x01"),
-        record(rt, A, Rtype::RRSIG, 61, b"\x02"),
-        record(rt, BEFORE, Rtype::A, 60, b"\x00"),
-        record(rt, B_C, Rtype::A, 60, b"\x00"),
-    ] {
+    for (owner, number, ttl, octets) in RECORDS {
+        let rr = record(rt, owner, Rtype::from_int(number), ttl, octets);
         records.push(rr).expect(rt, "memory");
     }
     Sorted::from_vec(records).expect(rt, "memory")
@@ -90,37 +94,49 @@ fn groups_by_owner_come_in_canonical_order(rt: HostRuntime) {
     assert!(rt; owners.next().is_none());
 }
 
-#[test]
-fn a_group_of_two_ttls_is_an_error_and_the_next_one_comes(rt: HostRuntime) {
-    let zone = zone(&rt, rt.alloc());
+/// The groups by type of the owner that has two addresses.
+fn sets_of_a<'a>(
+    rt: &impl Abort,
+    zone: &'a Sorted<'static>,
+) -> OwnerRrsIter<'a, Name<&'static [u8]>, UnknownRecordData<&'static [u8]>> {
     let mut owners = zone.owner_rrs();
     let _before = owners.next();
     let _apex = owners.next();
-    match owners.next() {
-        Some(group) => {
-            let mut sets = group.rrsets();
-            assert!(rt; matches!(sets.next(), Some(Err(MultipleTtlValues))));
-            match sets.next() {
-                Some(Ok(set)) => {
-                    assert!(rt; set.rtype() == Rtype::TXT && set.len() == 1);
-                    assert!(rt; set.ttl().as_secs() == 60 && set.class() == Class::IN);
-                }
-                _ => assert!(rt; false),
-            }
-            match sets.next() {
-                Some(Ok(set)) => {
-                    assert!(rt; set.rtype() == Rtype::RRSIG && set.len() == 2);
-                    assert!(rt; set.owner().as_slice() == A && set.ttl().as_secs() == 60);
-                    assert!(rt; set.first().data().as_slice() == [1].as_slice());
-                    assert!(rt; set.iter().count() == 2);
-                    assert!(rt; set.into_inner().iter().count() == 2);
-                }
-                _ => assert!(rt; false),
-            }
-            assert!(rt; sets.next().is_none());
-        }
-        None => assert!(rt; false),
-    }
+    owners.next().expect(rt, "an owner").rrsets()
+}
+
+#[test]
+fn a_group_of_two_ttls_is_an_error_and_the_next_one_comes(rt: HostRuntime) {
+    let zone = zone(&rt, rt.alloc());
+    let mut sets = sets_of_a(&rt, &zone);
+    assert!(rt; matches!(sets.next(), Some(Err(MultipleTtlValues))));
+    let Some(Ok(set)) = sets.next() else {
+        assert!(rt; false);
+        return;
+    };
+    assert!(rt; set.rtype() == Rtype::TXT && set.len() == 1);
+    assert!(rt; set.ttl().as_secs() == 60 && set.class() == Class::IN);
+}
+
+#[test]
+fn signatures_of_two_ttls_are_an_rrset(rt: HostRuntime) {
+    let zone = zone(&rt, rt.alloc());
+    let mut sets = sets_of_a(&rt, &zone);
+    let _addresses = sets.next();
+    let _texts = sets.next();
+    let Some(Ok(set)) = sets.next() else {
+        assert!(rt; false);
+        return;
+    };
+    assert!(rt; set.rtype() == Rtype::RRSIG && set.len() == 2 && sets.next().is_none());
+    assert!(rt; set.owner().as_slice() == A && set.ttl().as_secs() == 60);
+    assert!(rt; set.first().data().as_slice() == [1].as_slice());
+    assert!(rt; set.iter().count() == 2 && set.into_inner().iter().count() == 2);
+}
+
+#[test]
+fn all_groups_but_one_are_rrsets(rt: HostRuntime) {
+    let zone = zone(&rt, rt.alloc());
     let (mut good, mut bad) = (0u64, 0u64);
     for set in zone.rrsets() {
         match set {
@@ -177,28 +193,31 @@ fn a_zone_begins_at_its_apex_and_ends_at_its_cuts(rt: HostRuntime) {
     assert!(rt; inside == 5 && cuts == 1);
 }
 
+/// Whether a walk over references gives a group of the first record, then one of the second.
+fn walks_both<N: ToName, D: RecordData>(a: &Record<N, D>, b: &Record<N, D>) -> bool {
+    let refs = [a, b];
+    let mut owners = RecordsIter::new_from_refs(&refs);
+    let (Some(first), Some(second)) = (owners.next(), owners.next()) else {
+        return false;
+    };
+    first.owner().name_eq(a.owner()) && second.owner().name_eq(b.owner()) && owners.next().is_none()
+}
+
 #[test]
 fn references_are_walked_as_records_are(rt: HostRuntime) {
     let (a, b) = (
         record(&rt, A, Rtype::A, 60, b"\x01"),
         record(&rt, D, Rtype::A, 60, b"\x01"),
     );
-    let refs = [&a, &b];
-    let mut owners = RecordsIter::new_from_refs(&refs);
-    for owner in [A, D] {
-        match owners.next() {
-            Some(group) => assert!(rt; group.owner().as_slice() == owner),
-            None => assert!(rt; false),
-        }
-    }
-    assert!(rt; owners.next().is_none());
-    let owned = [a];
+    assert!(rt; walks_both(&a, &b));
+}
+
+#[test]
+fn one_record_is_an_rrset(rt: HostRuntime) {
+    let owned = [record(&rt, A, Rtype::A, 60, b"\x01")];
     assert!(rt; RecordsIter::new_from_owned(&owned).count() == 1);
     assert!(rt; RecordsIter::new(SliceRefsOrOwned::new_from_owned(&owned)).count() == 1);
     assert!(rt; Rrset::new_from_owned(&owned).is_ok());
-    let one = [&owned[0]];
-    assert!(rt; Rrset::new_from_refs(&one).is_ok());
-    assert!(rt; Rrset::new(SliceRefsOrOwned::new_from_refs(&one)).is_ok());
 }
 
 #[test]

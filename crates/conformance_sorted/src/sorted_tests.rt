@@ -66,29 +66,38 @@ fn records_are_put_in_canonical_order(rt: HostRuntime) {
     }
 }
 
+/// The records of a table: owner, class, number of the type, TTL and data.
+fn sorted_of<'a>(
+    rt: &impl Abort,
+    alloc: Global,
+    table: &[(&'a [u8], u16, u16, u32, &'a [u8])],
+) -> Sorted<'a> {
+    unknown_data_order_is_total::<&[u8]>();
+    let mut records = Vec::new(alloc);
+    for (owner, class, number, ttl, octets) in table {
+        let (class, rtype) = (Class::from_int(*class), Rtype::from_int(*number));
+        let rr = record(rt, owner, class, rtype, *ttl, octets);
+        records.push(rr).expect(rt, "memory");
+    }
+    Sorted::from_vec(records).expect(rt, "memory")
+}
+
 #[test]
 fn class_comes_before_owner_and_type_before_data(rt: HostRuntime) {
-    unknown_data_order_is_total::<&[u8]>();
     let (a, b) = (IN_ORDER[1], IN_ORDER[5]);
-    let mut records = Vec::new(rt.alloc());
-    let chaos = Class::from_int(3);
-    for rr in [
-        record(&rt, a, chaos, Rtype::A, 60, b"\x00"),
-        record(&rt, b, Class::IN, Rtype::A, 60, b"\x00"),
-        record(&rt, a, Class::IN, Rtype::TXT, 60, b"\x00"),
-        record(&rt, a, Class::IN, Rtype::A, 60, b"\x01"),
-        record(&rt, a, Class::IN, Rtype::A, 60, b"\x00"),
-    ] {
-        records.push(rr).expect(&rt, "memory");
-    }
-    let sorted = Sorted::from_vec(records).expect(&rt, "memory");
+    let table: [(&[u8], u16, u16, u32, &[u8]); 5] = [
+        (a, 3, 1, 4, b"\x00"),
+        (b, 1, 1, 3, b"\x00"),
+        (a, 1, 16, 2, b"\x00"),
+        (a, 1, 1, 1, b"\x01"),
+        (a, 1, 1, 0, b"\x00"),
+    ];
+    let sorted = sorted_of(&rt, rt.alloc(), &table);
     let held = sorted.into_inner();
     assert!(rt; held.len() == 5);
-    assert!(rt;
-        held[0].data().as_slice() == [0].as_slice() && held[1].data().as_slice() == [1].as_slice()
-    );
-    assert!(rt; held[2].rtype() == Rtype::TXT && owner_is(&held[3], b));
-    assert!(rt; held[4].class() == chaos);
+    for (place, rr) in held.iter().enumerate() {
+        assert!(rt; place < 5 && rr.ttl().as_secs() == place as u32);
+    }
 }
 
 /// A record of `example` of one octet of data.
@@ -140,22 +149,22 @@ fn a_record_is_put_in_its_place_unless_an_equal_one_is_there(rt: HostRuntime) {
     }
 }
 
+/// Records of two owners, some of another class.
+fn some_records(rt: &impl Abort, alloc: Global) -> Sorted<'static> {
+    let table: [(&[u8], u16, u16, u32, &[u8]); 5] = [
+        (IN_ORDER[1], 1, 1, 60, b"\x00"),
+        (IN_ORDER[1], 1, 1, 60, b"\x01"),
+        (IN_ORDER[1], 1, 16, 60, b"\x02"),
+        (IN_ORDER[1], 3, 1, 60, b"\x03"),
+        (IN_ORDER[0], 1, 1, 60, b"\x04"),
+    ];
+    sorted_of(rt, alloc, &table)
+}
+
 #[test]
-fn records_are_taken_out_by_owner_class_and_type(rt: HostRuntime) {
-    unknown_data_order_is_total::<&[u8]>();
-    let (a, upper) = (IN_ORDER[1], b"\x01A\x07Example\x00");
-    let mut records = Vec::new(rt.alloc());
-    for rr in [
-        record(&rt, a, Class::IN, Rtype::A, 60, b"\x00"),
-        record(&rt, a, Class::IN, Rtype::A, 60, b"\x01"),
-        record(&rt, a, Class::IN, Rtype::TXT, 60, b"\x02"),
-        record(&rt, a, Class::from_int(3), Rtype::A, 60, b"\x03"),
-        plain(&rt, 60, b"\x04"),
-    ] {
-        records.push(rr).expect(&rt, "memory");
-    }
-    let mut sorted = Sorted::from_vec(records).expect(&rt, "memory");
-    let name = Name::from_slice(upper.as_slice()).expect(&rt, "a name");
+fn one_record_of_an_owner_class_and_type_is_taken_out(rt: HostRuntime) {
+    let mut sorted = some_records(&rt, rt.alloc());
+    let name = Name::from_slice(b"\x01A\x07Example\x00".as_slice()).expect(&rt, "a name");
     let (class, rtype) = (Some(Class::IN), Some(Rtype::A));
     assert!(rt; sorted.remove_first_by_name_class_rtype(&name, class, rtype));
     assert!(rt; sorted.len() == 4);
@@ -164,15 +173,17 @@ fn records_are_taken_out_by_owner_class_and_type(rt: HostRuntime) {
             .iter()
             .all(|rr| rr.data().as_slice() != [0].as_slice())
     );
+    let class = Some(Class::from_int(4));
+    assert!(rt; !sorted.remove_first_by_name_class_rtype(&name, class, None));
+}
+
+#[test]
+fn all_records_of_an_owner_and_type_are_taken_out(rt: HostRuntime) {
+    let mut sorted = some_records(&rt, rt.alloc());
+    let name = Name::from_slice(b"\x01A\x07Example\x00".as_slice()).expect(&rt, "a name");
     assert!(rt; sorted.remove_all_by_name_class_rtype(&name, None, Some(Rtype::A)));
     assert!(rt; sorted.len() == 2);
     assert!(rt; !sorted.remove_all_by_name_class_rtype(&name, None, Some(Rtype::A)));
-    assert!(rt; !sorted.remove_first_by_name_class_rtype(&name, Some(Class::from_int(3)), None));
     assert!(rt; sorted.remove_all_by_name_class_rtype(&name, None, None));
-    assert!(rt;
-        sorted.len() == 1
-            && sorted
-                .iter()
-                .all(|rr| rr.data().as_slice() == [4].as_slice())
-    );
+    assert!(rt; sorted.len() == 1);
 }

@@ -2,6 +2,7 @@ pub mod Adding
 pub mod GroupLaws
 pub mod Groups
 pub mod Inserting
+pub mod Keyed
 pub mod Keys
 pub mod Partitions
 pub mod Places
