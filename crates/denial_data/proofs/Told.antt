@@ -2,7 +2,7 @@
 use Rattle.std.proofs.Common.{◌≡◌, ℕ, ◌<◌, List, [], ◌∷◌, ◌++◌, length, take, drop, get_or, refl, sym, ap, ◌∙◌, arith}
 use Rattle.std.specs.Int.{w16, w32, to_be_bytes, from_be_bytes}
 use Rattle.std.proofs.lemmas.Nat.{from_be_bytes-to_be_bytes_2, from_be_bytes-to_be_bytes_4}
-use Rattle.definitions.specs.Name.{Name, wire}
+use Rattle.definitions.specs.Name.{wire}
 use Rattle.definitions.proofs.SignedLaws.{wire_spells}
 use Rattle.denial_fields.specs.Counted.{counted}
 use Rattle.denial_links.specs.Hashed.{Nsec3paramData, nsec3param_octets}

@@ -1,5 +1,5 @@
 -- Octets tell the data that they are of: what is read back is equal.
-use Rattle.std.specs.Prelude.{◌≡◌, ℕ, ◌<◌, List}
+use Rattle.std.specs.Prelude.{◌≡◌, ◌<◌}
 use Rattle.definitions.specs.Name.{Name, IsName}
 use Rattle.definitions.specs.Dnskey.{Dnskey, Ds, dnskey_data}
 use Rattle.denial_keys.specs.Keys.{ds_data}
