@@ -25,6 +25,11 @@ fn large_sets_are_built(rt: HostRuntime) {
         let bitmap = built(alloc, types).expect(&rt, "types");
         assert!(rt; bitmap.as_slice() == octets.as_slice());
         let read = RtypeBitmap::from_octets(octets).expect(&rt, "a bitmap");
-        assert!(rt; read.iter().count() == types.split(',').count());
+        for text in types.split(',') {
+            let Ok(number) = text.parse::<u16>() else {
+                continue;
+            };
+            assert!(rt; read.contains(Rtype::from_int(number)));
+        }
     }
 }

@@ -102,15 +102,20 @@ fn is_whole(rtype: u16, octets: &[u8], len: usize) -> bool {
     }
 }
 
+/// Whether each proper beginning of the octets is read or refused as the grammars say.
+fn beginnings_agree(alloc: Global, rtype: u16, octets: &[u8]) -> bool {
+    (0..octets.len()).all(|len| match octets.get(..len) {
+        Some(part) => of_type(alloc, rtype, part) == is_whole(rtype, octets, len),
+        None => false,
+    })
+}
+
 #[test]
 fn beginnings_are_read_by_their_grammar(rt: HostRuntime) {
     let alloc = rt.alloc();
     for (rtype, octets) in RECORD_DATA {
         let octets = hex::decode(alloc, octets).expect(&rt, "hexadecimal");
-        for len in 0..octets.len() {
-            let read = of_type(alloc, rtype, &octets[..len]);
-            assert!(rt; read == is_whole(rtype, &octets, len), "{rtype} {len}");
-        }
+        assert!(rt; beginnings_agree(alloc, rtype, &octets), "{rtype}");
     }
 }
 

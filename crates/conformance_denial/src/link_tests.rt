@@ -94,9 +94,13 @@ fn hashed_links_are_changed_and_ordered(rt: HostRuntime) {
     let mut nsec3 = Nsec3::parse(&mut Parser::from_ref(octets)).expect(&rt, "NSEC3 data");
     let same = Nsec3::parse(&mut Parser::from_ref(octets)).expect(&rt, "NSEC3 data");
     assert!(rt; nsec3 == same && nsec3.canonical_cmp(&same) == Ordering::Equal);
-    nsec3.set_next_owner(OwnerHash::from_slice(b"\x04\x04").expect(&rt, "a hash"));
+    let hash = OwnerHash::from_slice(b"\x04\x04").expect(&rt, "a hash");
+    assert!(rt; Nsec3::fits_rdlen(nsec3.salt(), &hash, nsec3.types()));
+    nsec3.set_next_owner(hash);
     assert!(rt; nsec3 < same && nsec3.canonical_cmp(&same) == Ordering::Greater);
-    nsec3.set_types(RtypeBitmap::from_octets(b"".as_slice()).expect(&rt, "a bitmap"));
+    let types = RtypeBitmap::from_octets(b"".as_slice()).expect(&rt, "a bitmap");
+    assert!(rt; Nsec3::fits_rdlen(nsec3.salt(), nsec3.next_owner(), &types));
+    nsec3.set_types(types);
     assert!(rt; nsec3.types().is_empty() && nsec3.next_owner().as_slice().len() == 2);
     let text = nsec3.to_string(rt.alloc()).expect(&rt, "memory");
     assert!(rt; text.as_str() == "1 0 0 - 0g20");

@@ -166,4 +166,10 @@ fn laws_are_called(_rt: HostRuntime) {
     laws::nsec3_data_are_read_back();
     laws::nsec3param_data_are_read_back();
     laws::hashes_are_read_back();
+    laws::dnskey_octets_tell_the_data();
+    laws::ds_octets_tell_the_data();
+    laws::rrsig_octets_tell_the_data();
+    laws::nsec_octets_tell_the_data();
+    laws::nsec3_octets_tell_the_data();
+    laws::nsec3param_octets_tell_the_data();
 }

@@ -1,6 +1,5 @@
 -- DNSSEC record data that were written are read again.
-use Rattle.std.proofs.Common.{◌≡◌, ◌≤◌, true, List, ℕ, [], ◌∷◌, ◌++◌, length, refl}
-use Rattle.std.specs.Int.{w16, to_be_bytes}
+use Rattle.std.proofs.Common.{◌≡◌, ◌≤◌, true, List, ℕ, ◌++◌, length, refl}
 use Rattle.definitions.specs.Name.{Name, IsName, wire}
 use Rattle.definitions.specs.Bitmap.{is_bitmap}
 use Rattle.definitions.specs.Dnskey.{Dnskey, Ds, dnskey_data}

@@ -1,14 +1,14 @@
 -- Data whose last part goes to their end, read again.
-use Rattle.std.proofs.Common.{◌≡◌, ℕ, ◌+◌, ◌-◌, ◌≤◌, true, List, ◌∷◌, ◌++◌, length, take, drop, refl, sym, ap, ◌∙◌, append_assoc, length-append, arith, Result, Ok, Err, [], cond}
+use Rattle.std.proofs.Common.{◌≡◌, ℕ, ◌+◌, ◌-◌, ◌≤◌, true, List, ◌∷◌, ◌++◌, length, take, refl, sym, ap, ◌∙◌, append_assoc, length-append, arith, Result, Ok, Err, [], cond}
 use Rattle.std.specs.Prelude.{slice_range}
 use Rattle.std.proofs.Math.Seq.{take-append_seam, drop-append_seam}
 use Rattle.std.proofs.lemmas.Bool.{le-leb, eq-eqb}
 use Rattle.definitions.specs.Bitmap.{is_bitmap}
 use Rattle.definitions.specs.Reading.{ReadFault}
-use Rattle.names_data.specs.Reading.{Part, octets_part, behind_octets, followed_by, rest_part, two_parts, if_short, limited, ended}
+use Rattle.names_data.specs.Reading.{Part, octets_part, behind_octets, rest_part, two_parts, if_short, limited, ended}
 use Rattle.names_data.specs.ReadBack.{IsReadBack}
 use Rattle.names_data.proofs.Parts.{two_ok}
-use Rattle.names_data.proofs.WrittenParts.{Written, written_octets, written_data}
+use Rattle.names_data.proofs.WrittenParts.{Written, written_octets}
 use Rattle.denial_fields.specs.Counted.{counted, counted_by, counted_part}
 use Rattle.denial_links.specs.Bitmaps.{bitmap_part, bitmap_fault}
 

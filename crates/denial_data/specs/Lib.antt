@@ -1,3 +1,4 @@
+pub mod EqualData
 pub mod HashTexts
 pub mod NumbersText
 pub mod Protos

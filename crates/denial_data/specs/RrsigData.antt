@@ -1,7 +1,6 @@
 -- The data of RRSIG records, without where they lie (RFC 4034, 3.1).
 use Rattle.std.specs.Prelude.{ℕ, ◌+◌, List, ◌++◌, length}
 use Rattle.definitions.specs.Name.{Name, wire, low}
-use Rattle.denial_data.specs.declared.proto_rrsig.Numbers.{Numbers}
 use Rattle.denial_data.specs.declared.proto_rrsig.ProtoRrsig.{ProtoRrsig}
 use Rattle.denial_data.specs.Protos.{numbers_octets}
 

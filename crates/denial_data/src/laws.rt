@@ -10,6 +10,7 @@ ghost use Rattle.denial_keys.specs.Keys.{ds_data};
 ghost use Rattle.denial_links.specs.Hashed.{Nsec3Data, Nsec3paramData, nsec3_octets, nsec3_part, nsec3param_octets, nsec3param_part};
 ghost use Rattle.denial_links.specs.Nsec.{nsec_part};
 ghost use Rattle.denial_links.specs.NsecData.{NsecData, nsec_octets};
+ghost use Rattle.denial_data.specs.EqualData.{KeysAreTold, DigestsAreTold, SignaturesAreTold, LinksAreTold, ParametersAreTold, HashedLinksAreTold};
 ghost use Rattle.denial_data.specs.HashTexts.{HashesAreReadBack};
 ghost use Rattle.denial_data.specs.Protos.{IsSignedOver};
 ghost use Rattle.denial_data.specs.RrsigData.{RrsigData, rrsig_octets};
@@ -58,4 +59,34 @@ pub fn nsec3param_data_are_read_back()
 /// What is printed of a hash is read as that hash, memory aside (RFC 5155, 3.3).
 pub fn hashes_are_read_back()
     ensures { HashesAreReadBack }
+{}
+
+/// DNSKEY data with the same octets are equal, so what is read back is equal.
+pub fn dnskey_octets_tell_the_data()
+    ensures { KeysAreTold }
+{}
+
+/// As of DNSKEY data.
+pub fn ds_octets_tell_the_data()
+    ensures { DigestsAreTold }
+{}
+
+/// As of DNSKEY data.
+pub fn rrsig_octets_tell_the_data()
+    ensures { SignaturesAreTold }
+{}
+
+/// As of DNSKEY data.
+pub fn nsec_octets_tell_the_data()
+    ensures { LinksAreTold }
+{}
+
+/// As of DNSKEY data.
+pub fn nsec3_octets_tell_the_data()
+    ensures { HashedLinksAreTold }
+{}
+
+/// As of DNSKEY data.
+pub fn nsec3param_octets_tell_the_data()
+    ensures { ParametersAreTold }
 {}

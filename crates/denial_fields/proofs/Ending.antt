@@ -1,5 +1,5 @@
 -- Data whose last part goes to their end.
-use Rattle.std.proofs.Common.{◌≡◌, ℕ, Bool, true, false, List, ◌++◌, length, Ok, Err, Result, refl, sym, ap, ◌∙◌, leb}
+use Rattle.std.proofs.Common.{◌≡◌, ℕ, Bool, true, false, List, length, Ok, Err, Result, refl, sym, ap, ◌∙◌, leb}
 use Rattle.definitions.specs.Reading.{ReadFault, Malformed}
 use Rattle.names_parser.specs.Reader.{Reader}
 use Rattle.names_parser.specs.declared.error.ParseError.{ParseError}

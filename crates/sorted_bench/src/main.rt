@@ -14,6 +14,7 @@ use std::alloc::Global;
 use std::io;
 
 type Rr = Record<Name<Vec<u8>>, UnknownRecordData<Vec<u8>>>;
+
 type Sorted = SortedRecords<Name<Vec<u8>>, UnknownRecordData<Vec<u8>>, DefaultSorter>;
 
 /// The record of a line, if it is one.

@@ -1,14 +1,13 @@
-use Rattle.std.proofs.Common.{◌≡◌, ◌++◌, refl, sym, ap, ◌∙◌, Ok, Err}
+use Rattle.std.proofs.Common.{◌++◌, refl, sym, ap, ◌∙◌, Ok, Err}
 use Rattle.std.proofs.lemmas.Bool.{false≢true}
 use Rattle.std.proofs.lemmas.Result.{err_from_is_err_and}
 use Rattle.definitions.specs.Name.{wire}
-use Rattle.definitions.specs.Reading.{Malformed}
 use Rattle.names_parsed.specs.Heads.{fault_of}
 use Rattle.names_parsed.specs.Parsed.{parsed_name}
 use Rattle.names_data.specs.Reading.{octets_part, if_short, two_parts}
 use Rattle.names_data.proofs.Parts.{then_ok, then_err, went_on}
 use Rattle.names_data.proofs.PartCalls.{has_text}
-use Rattle.denial_data.specs.Protos.{proto_with, numbers_octets}
+use Rattle.denial_data.specs.Protos.{proto_with}
 use Rattle.denial_data.specs.RrsigData.{rrsig_with, rrsig_octets}
 use Rattle.denial_data.specs.Signatures.{signer_part}
 use Rattle.denial_data.proofs.Sizes.{limited_ok, limited_long}
