@@ -58,8 +58,10 @@ fn a_thousand_keys(rt: HostRuntime) -> Result<(), Fail> {
         references(alloc, "old", 500)?,
         references(alloc, "new", 500)?,
     );
-    for (i, name) in olds.iter().chain(news.iter()).enumerate() {
-        add_zsk(&mut set, alloc, name.as_str(), i as u16)?;
+    let mut key_tag = 0u16;
+    for name in olds.iter().chain(news.iter()) {
+        add_zsk(&mut set, alloc, name.as_str(), key_tag)?;
+        key_tag = key_tag.wrapping_add(1);
     }
     let old = texts(alloc, &olds)?;
     let mut new = texts(alloc, &news)?;
