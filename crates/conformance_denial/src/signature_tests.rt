@@ -1,14 +1,10 @@
 //! Signatures, and what they are made over.
 
-use crate::tables::signed::SIGNED;
 use denial_data::{ProtoRrsig, Rrsig, Timestamp, laws};
 use names::{
     CanonicalOrd, ComposeRecordData, Labels, LongRecordData, Name, ParsedName, Parser, Rtype,
-    UnknownRecordData,
 };
-use plain::numbers::{Class, SecurityAlgorithm, Ttl};
-use plain::record::Record;
-use std::alloc::Global;
+use plain::numbers::{SecurityAlgorithm, Ttl};
 use std::cmp::Ordering;
 use std::process::Abort;
 
@@ -32,48 +28,6 @@ fn proto_of<'a>(rrsig: &Rrsig<&'a [u8], ParsedName<'a>>) -> ProtoRrsig<ParsedNam
         rrsig.key_tag(),
         *rrsig.signer_name(),
     )
-}
-
-/// Appends the records of an owner that is signed by its own name, or nothing.
-fn append_records<'a>(
-    alloc: Global,
-    rrsig: &Rrsig<&'a [u8], ParsedName<'a>>,
-    owner: &[u8],
-    list: &str,
-    target: &mut Vec<u8>,
-) -> bool {
-    list.split(',').all(|text| {
-        let Ok(octets) = hex::decode(alloc, text) else {
-            return false;
-        };
-        let Ok(data) = UnknownRecordData::from_octets(rrsig.type_covered(), octets) else {
-            return false;
-        };
-        let Ok(name) = Name::from_slice(owner) else {
-            return false;
-        };
-        let record = Record::new(name, Class::IN, rrsig.original_ttl(), data);
-        record.compose_canonical(target).is_ok()
-    })
-}
-
-#[test]
-fn signed_octets_are_those_of_other_servers(rt: HostRuntime) {
-    let alloc = rt.alloc();
-    for (rrsig, owner, list, signed) in SIGNED {
-        let octets = hex::decode(alloc, rrsig).expect(&rt, "hexadecimal");
-        let signed = hex::decode(alloc, signed).expect(&rt, "hexadecimal");
-        let rrsig = rrsig_of(&rt, &octets);
-        let mut target = Vec::new(alloc);
-        assert!(rt; proto_of(&rrsig).compose_canonical(&mut target).is_ok());
-        assert!(rt; signed.starts_with(target.as_slice()));
-        let owner = hex::decode(alloc, owner).expect(&rt, "hexadecimal");
-        let name = Name::from_slice(owner.as_slice()).expect(&rt, "a name");
-        if usize::from(rrsig.labels()) + 1 == name.label_count() {
-            assert!(rt; append_records(alloc, &rrsig, &owner, list, &mut target));
-            assert!(rt; target.as_slice() == signed.as_slice());
-        }
-    }
 }
 
 #[test]

@@ -3,5 +3,4 @@
 pub mod bitmaps;
 pub mod keys;
 pub mod record_data;
-pub mod signed;
 pub mod small_bitmaps;
