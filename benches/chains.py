@@ -1,0 +1,74 @@
+#!/usr/bin/env python3
+"""Counts the instructions of making NSEC chains, with callgrind.
+
+A chain is made once and once more of the same records, and the difference is divided by the records that were made, so
+that reading the input, sorting and starting the program fall away; what the tests of the conditions cost is counted by
+itself and taken off. Run it from anywhere; it builds crates/chains_bench first.
+"""
+import os
+import random
+import re
+import subprocess
+import sys
+
+ROOT = os.path.dirname(os.path.dirname(os.path.abspath(__file__)))
+BENCH = f"{ROOT}/crates/chains_bench"
+PLAIN = "abcdefghijklmnopqrstuvwxyz0123456789"
+APEX = ["example. 6 soa", "example. 2 ns1"]
+
+
+def word(chance, low, high):
+    return "".join(chance.choices(PLAIN, k=chance.randint(low, high)))
+
+
+def mixed(count):
+    """So many owners: hosts with addresses and text, delegations, some with a DS record. The same at each run."""
+    chance, owners, records = random.Random(1), set(), list(APEX)
+    while len(owners) + 1 < count:
+        owner = f"{word(chance, 6, 12)}.example."
+        if owner in owners:
+            continue
+        owners.add(owner)
+        types = chance.choice([[1], [1, 28], [1, 15, 16], [2, 2], [2, 43]])
+        records += [f"{owner} {rtype} {word(chance, 4, 20)}" for rtype in types]
+    return records
+
+
+def delegations(count):
+    return APEX + [f"d{at:06}.example. 2 ns" for at in range(count - 1)]
+
+
+def deep(count):
+    """So many owners below one name of 100 labels."""
+    under = ".".join(["a"] * 99)
+    return APEX + [f"h{at:06}.{under}.example. 1 x" for at in range(count - 1)]
+
+
+def instructions(task, rounds, records):
+    words = ["valgrind", "--tool=callgrind", "--callgrind-out-file=/dev/null", f"{BENCH}/out/chains_bench"]
+    ran = subprocess.run(words, input="\n".join([f"{task} {rounds}", *records, ""]), capture_output=True, text=True)
+    found = re.search(r"Collected : (\d+)", ran.stderr)
+    if ran.returncode or not found:
+        sys.exit(f"{' '.join(words)} ended with {ran.returncode}\n{ran.stderr}")
+    return int(found[1]), int(ran.stdout)
+
+
+def row(what, zone):
+    once, made = instructions("nsec", 1, zone)
+    twice, _ = instructions("nsec", 2, zone)
+    tests = instructions("tests", 2, zone)[0] - instructions("tests", 1, zone)[0]
+    print(f"| {what} | {made:,} | {(twice - once - tests) / made:,.0f} |", flush=True)
+
+
+def main():
+    subprocess.run(["rt", "run"], cwd=BENCH, stdin=subprocess.DEVNULL, capture_output=True, check=True)
+    print("| zone | NSEC records | instructions a record |\n|---|---|---|")
+    most = int(sys.argv[1]) if len(sys.argv) > 1 else 100_000
+    for count in (1_000, 10_000, 100_000):
+        if count <= most:
+            row("hosts and delegations", mixed(count))
+    row("delegations alone", delegations(most))
+    row("owners below one name of 100 labels", deep(most))
+
+
+main()

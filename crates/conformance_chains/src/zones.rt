@@ -1,0 +1,100 @@
+//! Small zones.
+
+use denial_bitmap::bitmap::RtypeBitmap;
+use denial_sorted::laws::zone_data_order_is_total;
+use denial_sorted::sorted::SortedRecords;
+use denial_sorted::sorter::DefaultSorter;
+use names::{Name, Rtype, Serial, UnknownRecordData};
+use plain::numbers::{Class, Ttl};
+use plain::record::Record;
+use plain::soa::Soa;
+use plain::zone_data::ZoneRecordData;
+use std::alloc::Global;
+use std::process::Abort;
+
+pub type Owner = Name<&'static [u8]>;
+
+pub type Data = ZoneRecordData<&'static [u8], Owner>;
+
+pub type Rr = Record<Owner, Data>;
+
+pub type Sorted = SortedRecords<Owner, Data, DefaultSorter>;
+
+pub const EXAMPLE: &[u8] = b"\x07example\x00";
+
+pub const A: &[u8] = b"\x01a\x07example\x00";
+
+pub const B_C: &[u8] = b"\x01b\x01c\x07example\x00";
+
+pub const D: &[u8] = b"\x01d\x07example\x00";
+
+pub const BELOW_D: &[u8] = b"\x01y\x01d\x07example\x00";
+
+pub const STAR_W: &[u8] = b"\x01*\x01w\x07example\x00";
+
+pub const OTHER: &[u8] = b"\x05other\x00";
+
+pub const DEEP: &[u8] = b"\x01a\x01b\x01d\x07example\x00";
+
+/// A record of a zone: owner, number of the type and TTL; SOA records have a minimum of 900 seconds.
+pub type Line = (&'static [u8], u16, u32);
+
+/// Hosts, a delegation and a wildcard under the apex.
+pub const ZONE: [Line; 5] = [
+    (STAR_W, 16, 3600),
+    (D, 2, 3600),
+    (B_C, 1, 3600),
+    (EXAMPLE, 6, 3600),
+    (A, 1, 3600),
+];
+
+pub fn name(rt: &impl Abort, octets: &'static [u8]) -> Owner {
+    Name::from_slice(octets).expect(rt, "a name")
+}
+
+fn content(rt: &impl Abort, rtype: u16) -> Data {
+    if rtype == 6 {
+        let (mname, rname) = (name(rt, A), name(rt, B_C));
+        let (hour, minimum) = (Ttl::from_secs(3600), Ttl::from_secs(900));
+        return ZoneRecordData::Soa(Soa::new(mname, rname, Serial(1), hour, hour, hour, minimum));
+    }
+    let octets = b"\x01\x02".as_slice();
+    let rtype = Rtype::from_int(rtype);
+    ZoneRecordData::Unknown(UnknownRecordData::from_octets(rtype, octets).expect(rt, "few octets"))
+}
+
+pub fn record(rt: &impl Abort, line: Line) -> Rr {
+    let (owner, rtype, ttl) = line;
+    Record::new(
+        name(rt, owner),
+        Class::IN,
+        Ttl::from_secs(ttl),
+        content(rt, rtype),
+    )
+}
+
+/// The records of some lines, in canonical order.
+pub fn sorted(rt: &impl Abort, alloc: Global, lines: &[Line]) -> Sorted {
+    zone_data_order_is_total::<&[u8], Owner>();
+    let mut records = Vec::new(alloc);
+    for line in lines {
+        records.push(record(rt, *line)).expect(rt, "memory");
+    }
+    Sorted::from_vec(records).expect(rt, "memory")
+}
+
+/// A text record of some octets.
+pub fn text(rt: &impl Abort, owner: &'static [u8], ttl: u32, octets: &'static [u8]) -> Rr {
+    let data = UnknownRecordData::from_octets(Rtype::TXT, octets).expect(rt, "few octets");
+    let data = ZoneRecordData::Unknown(data);
+    Record::new(name(rt, owner), Class::IN, Ttl::from_secs(ttl), data)
+}
+
+/// How many types a bitmap has.
+pub fn type_count(types: &RtypeBitmap<Vec<u8>>) -> usize {
+    let mut count = 0usize;
+    for _ in types.iter() {
+        count = count.wrapping_add(1);
+    }
+    count
+}

@@ -1,0 +1,16 @@
+//! How a zone's gaps are to be denied.
+
+use denial_hashes::config::GenerateNsec3Config;
+use denial_nsec::config::GenerateNsecConfig;
+use names_wire::octets::Octets;
+
+/// How a zone's gaps are to be denied.
+#[derive(Drop)]
+pub enum DenialConfig<Octs: Octets> {
+    /// The zone has its chain already.
+    AlreadyPresent,
+    /// By the owners' names (RFC 4034, 4).
+    Nsec(GenerateNsecConfig),
+    /// By hashes of names (RFC 5155).
+    Nsec3(GenerateNsec3Config<Octs>),
+}

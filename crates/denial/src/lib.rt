@@ -1,0 +1,27 @@
+//! DNSSEC record data, sorted records and the chains of denial under one name (RFC 4034, RFC 5155): what signs a zone's
+//! RRsets and its gaps.
+#![tactic(auto)]
+
+pub mod config;
+
+pub use config::DenialConfig;
+pub use denial_data::{
+    Dnskey, Ds, IllegalSignatureTime, Nsec, Nsec3, Nsec3Salt, Nsec3SaltError,
+    Nsec3SaltFromStrError, Nsec3param, OwnerHash, OwnerHashError, OwnerHashFromStrError,
+    ProtoRrsig, Rrsig, RtypeBitmap, RtypeBitmapBuilder, RtypeBitmapError, RtypeBitmapIter,
+    Timestamp,
+};
+pub use denial_hashes::config::{GenerateNsec3Config, Nsec3ParamTtlMode};
+pub use denial_hashes::hasher::{HashError, Nsec3Hasher};
+pub use denial_hashes::records::Nsec3Records;
+pub use denial_nsec::config::GenerateNsecConfig;
+pub use denial_nsec::generate::generate_nsecs;
+pub use denial_nsec3::generate::generate_nsec3s;
+pub use denial_nsec3::owner_name::mk_hashed_nsec3_owner_name;
+pub use denial_owners::conditions::{is_canonical_order, is_one_class};
+pub use denial_owners::error::SigningError;
+pub use denial_sorted::groups::{MultipleTtlValues, OwnerRrs, Rrset};
+pub use denial_sorted::slices::{SliceRefs, SliceRefsOrOwned, SliceRefsOrOwnedIterator};
+pub use denial_sorted::sorted::{InsertError, SortedRecords};
+pub use denial_sorted::sorter::{DefaultSorter, Sorter};
+pub use denial_sorted::walks::{OwnerRrsIter, RecordsIter, RrsetIter};

@@ -1,0 +1,7 @@
+pub mod Assembled
+pub mod Fresh
+pub mod Named
+pub mod Ordered
+pub mod Spans
+pub mod Spots
+pub mod WalkNames

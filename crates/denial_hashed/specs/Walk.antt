@@ -1,0 +1,40 @@
+-- The names of a chain owner by owner (RFC 5155, 7.1).
+use Rattle.std.specs.Prelude.{ℕ, zero, suc, Bool, true, List, [], ◌∷◌, ◌++◌, drop, if◌then◌else◌}
+use Rattle.definitions.specs.Name.{Name, low, at_or_above}
+use Rattle.plain.specs.declared.record.Record.{Record}
+
+-- the owner of some records of one owner, in lower case
+abbrev pub owner_name : {N D : Type 0} → (N → Name) → List (Record N D) → Name
+owner_name name [] = []
+owner_name name (r ∷ rs) = low (name r.owner)
+
+-- how many names an owner adds behind the one before it: itself and what it stands under, but for what the one before
+-- it is or stands under too
+abbrev pub fresh_count : Name → Name → ℕ
+fresh_count p [] = 0
+fresh_count p (l ∷ o) = if at_or_above (l ∷ o) p then 0 else suc (fresh_count p o)
+
+-- an owner without its first labels, so many
+pub record Spot (G : Type 0) : Type 0 where
+  pub owner : G
+  pub skipped : ℕ
+
+abbrev pub spot : {G : Type 0} → G → ℕ → Spot G
+spot g n = record { owner = g; skipped = n }
+
+abbrev pub spot_name : {G : Type 0} → (G → Name) → Spot G → Name
+spot_name name s = drop s.skipped (name s.owner)
+
+-- an owner and what it stands under, so many, the shortest first
+abbrev pub last_spots : {G : Type 0} → ℕ → G → List (Spot G)
+last_spots zero g = []
+last_spots (suc n) g = spot g n ∷ last_spots n g
+
+abbrev pub spots_behind : {G : Type 0} → (G → Name) → G → List G → List (Spot G)
+spots_behind name p [] = []
+spots_behind name p (g ∷ gs) = last_spots (fresh_count (name p) (name g)) g ++ spots_behind name g gs
+
+-- the names of a chain whose owners begin with the apex
+abbrev pub spots_of : {G : Type 0} → (G → Name) → List G → List (Spot G)
+spots_of name [] = []
+spots_of name (g ∷ gs) = spot g 0 ∷ spots_behind name g gs

@@ -1,0 +1,45 @@
+//! How far two names differ.
+
+ghost use Rattle.std.specs.Prelude.{◌≡◌, ◌≤◌, length};
+ghost use Rattle.definitions.specs.Name.{low};
+ghost use Rattle.denial_hashed.specs.Differing.{differing};
+ghost use Rattle.denial_hashed.specs.Walk.{fresh_count};
+
+use denial_hashes::wire_form::without_first;
+use names_labels::traits::{Absolute, LabelIter};
+
+/// How many of an owner and the names that it stands under another name neither is nor stands under.
+pub(crate) fn fresh_labels<N: Absolute>(before: &N, owner: &N) -> usize
+    ensures { result ≡ fresh_count (low (N.name before.now)) (low (N.name owner.now)) }
+{
+    let (count, other) = (owner.label_count(), before.label_count());
+    let longer = count.saturating_sub(other);
+    let labels = without_first(owner.iter_labels(), longer);
+    let others = without_first(before.iter_labels(), other.saturating_sub(count));
+    longer + differing_labels(count.min(other), labels, others)
+}
+
+/// How many labels there are up to the last one that differs from its counterpart, among as many others.
+fn differing_labels<A: Absolute, B: Absolute>(
+    count: usize,
+    labels: LabelIter<'_, A>,
+    others: LabelIter<'_, B>,
+) -> usize
+    requires labels { count ≡ length labels }
+    requires others { count ≡ length others }
+    ensures value { result ≡ differing labels.entry others.entry }
+    ensures few { result ≤ count }
+{
+    let (mut labels, mut others) = (labels, others);
+    let (mut place, mut last) = (0, 0);
+    while let Some(label) = labels.next() {
+        let Some(other) = others.next() else {
+            unreachable!()
+        };
+        place += 1;
+        if label != other {
+            last = place;
+        }
+    }
+    last
+}

@@ -1,0 +1,6 @@
+//! The names of a chain of hashed names, each with its hash (RFC 5155, 7.1).
+#![tactic(auto)]
+
+pub mod hashed;
+mod labels;
+pub mod names;

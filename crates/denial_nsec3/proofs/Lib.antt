@@ -1,0 +1,4 @@
+pub mod Chained
+pub mod Generated
+pub mod Linking
+pub mod Short

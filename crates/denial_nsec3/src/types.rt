@@ -1,0 +1,95 @@
+//! The bits of NSEC3 records (RFC 5155, 7.1).
+
+ghost use Rattle.std.specs.Prelude.{◌≡◌, ◌≤◌, [], length, IfOk, OnOk};
+ghost use Rattle.definitions.specs.Bitmap.{bitmap};
+ghost use Rattle.denial_owners.specs.Types.{has_type};
+ghost use Rattle.denial_hashed.specs.Chained.{spot_of};
+ghost use Rattle.denial_nsec3.specs.Bits.{apex_types, group_types, is_signed, spot_types};
+
+use denial_bitmap::bitmap::RtypeBitmap;
+use denial_bitmap::builder::RtypeBitmapBuilder;
+use denial_hashed::names::ChainName;
+use denial_owners::types::add_types;
+use denial_sorted::groups::OwnerRrs;
+use names_data::data::RecordData;
+use names_data::rtype::Rtype;
+use names_traits::to_name::ToName;
+use names_wire::builder::ShortBuf;
+use std::alloc::Global;
+
+/// Whether one of the records is a DS record.
+fn has_ds<'a, N: ToName, D: RecordData>(owner: &OwnerRrs<'a, N, D>) -> bool
+    ensures { result ≡ has_type D.type_of 43 owner.now }
+{
+    let mut records = owner.records();
+    while let Some(rr) = records.next() {
+        if rr.rtype() == Rtype::DS {
+            return true;
+        }
+    }
+    false
+}
+
+/// Whether the zone signs records of an owner: at a delegation DS records alone (RFC 4035, 2.2).
+fn is_signed<'a, N: ToName, D: RecordData>(apex: &N, owner: &OwnerRrs<'a, N, D>) -> bool
+    ensures { result ≡ is_signed N.name D.type_of (N.name apex.now) owner.now }
+{
+    !owner.is_zone_cut(apex) || has_ds(owner)
+}
+
+/// Adds what signing adds at the apex.
+fn add_apex_types<N: ToName>(
+    types: &mut RtypeBitmapBuilder<Vec<u8>>,
+    apex: &N,
+    dnskey: bool,
+    owner: &N,
+) -> Result<(), ShortBuf>
+    requires { types.old ≡ bitmap [] }
+    ensures { let more = apex_types (N.name apex.now) dnskey (N.name owner.now) in
+        OnOk result (types.new ≡ bitmap more) }
+{
+    if owner.name_eq(apex) {
+        types.add(Rtype::NSEC3PARAM)?;
+        if dnskey {
+            types.add(Rtype::DNSKEY)?;
+        }
+    }
+    Ok(())
+}
+
+/// Adds the types at an owner to none.
+fn add_group<'a, N: ToName, D: RecordData>(
+    types: &mut RtypeBitmapBuilder<Vec<u8>>,
+    apex: &N,
+    dnskey: bool,
+    owner: &OwnerRrs<'a, N, D>,
+) -> Result<(), ShortBuf>
+    requires { types.old ≡ bitmap [] }
+    ensures { let found = group_types N.name D.type_of (N.name apex.now) dnskey owner.now in
+        OnOk result (types.new ≡ bitmap found) }
+{
+    add_apex_types(types, apex, dnskey, owner.owner())?;
+    if is_signed(apex, owner) {
+        types.add(Rtype::RRSIG)?;
+    }
+    add_types(types, apex, owner)
+}
+
+/// The bits of a name of the chain: none where it is no owner of records.
+pub(crate) fn types_of<'g, 'a, N: ToName, D: RecordData>(
+    alloc: Global,
+    apex: &N,
+    dnskey: bool,
+    name: &ChainName<'g, 'a, N, D>,
+) -> Result<RtypeBitmap<Vec<u8>>, ShortBuf>
+    ensures types { let apex_name = N.name apex.now in
+        let found = spot_types N.name D.type_of apex_name dnskey (spot_of name.now) in
+        IfOk result (λ b. b ≡ bitmap found) }
+    ensures short { IfOk result (λ b. length b ≤ 8704) }
+{
+    let mut types = RtypeBitmapBuilder::new(alloc);
+    if let Some(owner) = name.records() {
+        add_group(&mut types, apex, dnskey, owner)?;
+    }
+    Ok(types.finalize())
+}

@@ -1,0 +1,10 @@
+pub mod Adding
+pub mod AtOwner
+pub mod ByOwner
+pub mod ChainParts
+pub mod Climbs
+pub mod Cuts
+pub mod SoaFound
+pub mod Steps
+pub mod TtlPairs
+pub mod Walked

@@ -1,0 +1,10 @@
+//! Which owners of a zone have records of its chain, and what those records tell of them (RFC 4034, 4; RFC 5155, 7.1).
+#![tactic(auto)]
+
+pub mod conditions;
+pub mod error;
+pub mod kept;
+pub mod owners;
+pub mod soa;
+mod ttls;
+pub mod types;
