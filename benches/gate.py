@@ -1,10 +1,11 @@
 #!/usr/bin/env python3
 """Runs `rt ci` and measures what it costs, crate by crate: processor time of proofs, tests and edits.
 
-usage: benches/gate.py
+usage: benches/gate.py [FILE]
 
 It passes on what `rt ci` prints and looks at the prover's processes twice a second. Before the last line, which stays the
-last, it prints the table of docs/GATE.md. RT_JOBS says on how many processors the gate runs.
+last, it prints the table of docs/GATE.md. RT_JOBS says on how many processors the gate runs. FILE gets the table so far
+each minute, so that a run that is stopped tells what it cost.
 """
 
 import collections
@@ -47,31 +48,37 @@ def prover_processes():
         yield (entry, times[19]), (crate, phase), (int(times[11]) + int(times[12])) / TICKS
 
 
-def watch(seconds, is_over):
+def watch(seconds, is_over, file):
     """Notes the processor seconds of each crate and phase until the run is over."""
+    began = written = time.monotonic()
     while not is_over.wait(0.5):
         for process, part, used in prover_processes():
             seconds[part][process] = used
+        now = time.monotonic()
+        if file and now - written > 60:
+            file.write_text(table(seconds, (now - began) / 60))
+            written = now
 
 
 def row(name, cells):
     return f"| {name} | " + " | ".join(f"{it / 60:.1f}" for it in cells) + " |"
 
 
-def print_table(seconds, minutes):
+def table(seconds, minutes):
     spent = {part: sum(used.values()) for part, used in seconds.items()}
-    print(f"\nThe gate took {minutes:.0f} minutes on {os.cpu_count()} processors. Minutes of one processor:\n")
-    print("| crate | proof | tests | edits | all |\n|---|---|---|---|---|")
+    lines = [f"\nThe gate took {minutes:.0f} minutes on {os.cpu_count()} processors. Minutes of one processor:\n",
+             "| crate | proof | tests | edits | all |\n|---|---|---|---|---|"]
     for crate in dict.fromkeys(crate for crate, _ in spent):
         cells = [spent.get((crate, phase), 0) for phase in PHASES]
-        print(row(f"`{crate}`", [*cells, sum(cells)]))
+        lines.append(row(f"`{crate}`", [*cells, sum(cells)]))
     totals = [sum(used for (_, phase), used in spent.items() if phase == it) for it in PHASES]
-    print(row("all", [*totals, sum(totals)]) + "\n")
+    return "\n".join([*lines, row("all", [*totals, sum(totals)]) + "\n\n"])
 
 
 def main():
     seconds, is_over = collections.defaultdict(dict), threading.Event()
-    watcher = threading.Thread(target=watch, args=(seconds, is_over), daemon=True)
+    file = pathlib.Path(sys.argv[1]) if len(sys.argv) > 1 else None
+    watcher = threading.Thread(target=watch, args=(seconds, is_over, file), daemon=True)
     watcher.start()
     began, last = time.monotonic(), ""
     with subprocess.Popen(["rt", "ci"], cwd=TOP, stdout=subprocess.PIPE, text=True, errors="replace") as gate:
@@ -80,7 +87,7 @@ def main():
             last = line
     is_over.set()
     watcher.join()
-    print_table(seconds, (time.monotonic() - began) / 60)
+    print(table(seconds, (time.monotonic() - began) / 60), end="")
     print(last, end="", flush=True)
     return gate.returncode
 

@@ -13,6 +13,7 @@ import sys
 ROOT = os.path.dirname(os.path.dirname(os.path.abspath(__file__)))
 BENCH = f"{ROOT}/crates/sorted_bench"
 PLAIN = "abcdefghijklmnopqrstuvwxyz0123456789"
+OWNERS = 12_581
 
 
 def zone(count):
@@ -39,6 +40,15 @@ def zone(count):
         return [it.encode() for it in owner.rstrip(".").split(".")[::-1]], int(rtype), data.encode()
 
     return sorted(records, key=key)
+
+
+def hosts(count):
+    """As many owners as there are, each with one record; in no order, the same at each run."""
+    chance = random.Random(3)
+    owners = {f"{''.join(chance.choices(PLAIN, k=chance.randint(3, 12)))}.example." for _ in range(count)}
+    while len(owners) < count:
+        owners.add(f"{''.join(chance.choices(PLAIN, k=12))}.example.")
+    return shuffled([f"{owner} 1 data" for owner in sorted(owners)])
 
 
 def shuffled(records):
@@ -72,6 +82,9 @@ def main():
     row("`from_vec` of records in no order, an owner", sort / owners)
     row("the same, a record", sort / count)
     row("`from_vec` of records in order, an owner", (instructions("sort", 0, ordered) - instructions("read", 0, ordered)) / owners)
+    single = hosts(OWNERS)
+    taken = instructions("sort", 0, single) - instructions("read", 0, single)
+    row(f"`from_vec` of {OWNERS:,} owners with one record each, in no order, an owner", taken / OWNERS)
     put = 100
     row("`insert`", (instructions("sort", put, mixed) - read - sort * (count - put) / count) / put)
     for task, what in (("owners", "`owner_rrs`"), ("sets", "`rrsets`")):

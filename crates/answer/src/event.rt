@@ -3,7 +3,7 @@ use crate::publisher::fault::{AnswerFault, KeyFault};
 use answer_judge::judge::verdict::{Judgement, Refused};
 use keyset::{Action, Available, RollType, UnixTime};
 use messages::question::Question;
-use records::plain::SecurityAlgorithm;
+use plain::numbers::SecurityAlgorithm;
 use signed_data::ds::Ds;
 
 /// An act at a moment. A key call takes the moment as its present, and an added key as its creation.

@@ -10,5 +10,6 @@ pub use answer_judge::{judge, scheme};
 pub use keyset;
 pub use messages as message;
 pub use messages::question;
-pub use records::{names, plain};
+pub use plain;
+pub use records::{names, record};
 pub use signed_data as denial;

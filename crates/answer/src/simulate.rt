@@ -18,7 +18,7 @@ use crate::publisher::publishing::Publisher;
 use crate::simulate::run::Run;
 use answer_judge::scheme::Scheme;
 use records::names::Name;
-use records::plain::record::Record;
+use records::record::Record;
 use signed_data::hasher::Nsec3Hasher;
 use std::alloc::Global;
 

@@ -3,7 +3,7 @@ ghost use Rattle.std.specs.Prelude.{◌≡◌, ℕ, List, Bool, true, ◌+◌, �
 ghost use Rattle.definitions.specs.Dnskey.{Dnskey};
 ghost use Rattle.answer_judge.specs.Answers.{Answers};
 
-use records::plain::DigestAlgorithm;
+use plain::numbers::DigestAlgorithm;
 use signed_data::dnskey::Dnskey;
 use signed_data::hasher::{HashError, Nsec3Hasher};
 use std::alloc::{AllocError, AllocFailed, Global};

@@ -1,8 +1,9 @@
 //! RRsets on their way into an answer.
 ghost use Rattle.std.specs.Prelude.{◌≡◌, map, unwrap_or};
 
+use names_data::rtype::Rtype;
+use plain::numbers::Ttl;
 use records::names::Name;
-use records::plain::{Rtype, Ttl};
 use std::alloc::{AllocError, Global};
 use std::marker::Model;
 

@@ -14,7 +14,7 @@ use crate::zone::faults::first_fault;
 use crate::zone::handed::HandedRecord;
 use crate::zone::sorting::{has_unlike_neighbours, sorted};
 use records::names::Name;
-use records::plain::record::Record;
+use records::record::Record;
 use signed_data::generate::SigningError;
 use std::alloc::{AllocError, Global};
 use std::marker::Model;

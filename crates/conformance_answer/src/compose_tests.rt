@@ -2,7 +2,8 @@
 use crate::scheme::WELL;
 use answer::denial::dnskey::Dnskey;
 use answer::names::Name;
-use answer::plain::{Class, Rtype, SecurityAlgorithm, Ttl};
+use answer::plain::Rtype;
+use answer::plain::numbers::{Class, SecurityAlgorithm, Ttl};
 use answer::publisher::compose::compose_answer;
 use answer::publisher::signing::SignatureTerms;
 use answer::question::Question;

@@ -6,7 +6,8 @@ use crate::zone::{APEX, OWNER, at, name, publisher, question, record, sign_with_
 use answer::denial::ds::Ds;
 use answer::judge::judge;
 use answer::judge::verdict::{Judgement, Refusal, Refused, Verdict};
-use answer::plain::{DigestAlgorithm, Rtype, SecurityAlgorithm};
+use answer::plain::Rtype;
+use answer::plain::numbers::{DigestAlgorithm, SecurityAlgorithm};
 use answer::scheme::counting::SchemeChecks;
 use std::alloc::Global;
 use std::marker::Brand;

@@ -1,7 +1,8 @@
 //! Exact answers at the limits of size.
 use crate::scheme::WELL;
 use crate::zone::{APEX, OWNER, ROLL, at, publisher, question, record, sign_with_two_keys};
-use answer::plain::{Rtype, SecurityAlgorithm};
+use answer::plain::Rtype;
+use answer::plain::numbers::SecurityAlgorithm;
 use answer::publisher::fault::AnswerFault;
 use keyset::Available;
 use std::alloc::Global;

@@ -5,7 +5,8 @@ use answer::judge::by_scheme::judge_with;
 use answer::judge::is_allowed;
 use answer::judge::verdict::{DataList, Judgement, Refusal, Refused, Verdict};
 use answer::names::{Name, ParsedName};
-use answer::plain::{Class, DigestAlgorithm, Rtype, SecurityAlgorithm};
+use answer::plain::Rtype;
+use answer::plain::numbers::{Class, DigestAlgorithm, SecurityAlgorithm};
 use answer::question::Question;
 use std::alloc::{AllocError, Global};
 

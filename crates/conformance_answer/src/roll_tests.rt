@@ -1,12 +1,13 @@
 //! A publisher of a small zone through its first roll.
 use crate::scheme::{TestScheme, WELL};
 use answer::names::Name;
-use answer::plain::record::{Record, Soa, ZoneRecordData};
-use answer::plain::{Class, Rtype, SecurityAlgorithm, Ttl};
+use answer::plain::Rtype;
+use answer::plain::numbers::{Class, SecurityAlgorithm, Ttl};
 use answer::publisher::fault::Mode;
 use answer::publisher::keys::KeyKind;
 use answer::publisher::publishing::Publisher;
 use answer::question::Question;
+use answer::record::{Record, Soa, ZoneRecordData};
 use keyset::{Available, RollType, UnixTime};
 use std::alloc::Global;
 use std::test::Fail;

@@ -1,7 +1,8 @@
 //! A scheme that fails is answered as such, never as want of memory.
 use crate::scheme::TestScheme;
 use crate::zone::{APEX, at, publisher, question, sign_with_two_keys};
-use answer::plain::{Rtype, SecurityAlgorithm};
+use answer::plain::Rtype;
+use answer::plain::numbers::SecurityAlgorithm;
 use answer::publisher::fault::{AnswerFault, KeyFault};
 use keyset::Available;
 use std::test::Fail;

@@ -1,11 +1,12 @@
 //! The zone `example` of the tests, its records and questions.
 use crate::scheme::TestScheme;
 use answer::names::Name;
-use answer::plain::record::{Record, Soa, UnknownRecordData, ZoneRecordData};
-use answer::plain::{Class, Rtype, SecurityAlgorithm, Ttl};
+use answer::plain::Rtype;
+use answer::plain::numbers::{Class, SecurityAlgorithm, Ttl};
 use answer::publisher::fault::Mode;
 use answer::publisher::publishing::Publisher;
 use answer::question::Question;
+use answer::record::{Record, Soa, UnknownRecordData, ZoneRecordData};
 use keyset::{Available, RollType, UnixTime};
 use std::alloc::Global;
 use std::test::Fail;

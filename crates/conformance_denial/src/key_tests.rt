@@ -1,26 +1,14 @@
 //! Keys and digests of keys.
 
-use crate::tables::keys::{DIGESTS, KEY_TAGS};
 use denial_data::{Dnskey, Ds};
-use names::{
-    CanonicalOrd, ComposeRecordData, LongRecordData, Name, Parser, compose_canonical_name,
-};
+use names::{CanonicalOrd, ComposeRecordData, LongRecordData, Parser};
 use plain::numbers::{DigestAlgorithm, SecurityAlgorithm};
-use sha2::{Digest, Sha256};
 use std::cmp::Ordering;
 use std::hash::{DefaultHasher, Hash, Hasher};
 use std::process::Abort;
 
 fn key_of<'a>(rt: &impl Abort, octets: &'a [u8]) -> Dnskey<&'a [u8]> {
     Dnskey::parse(&mut Parser::from_ref(octets)).expect(rt, "a key")
-}
-
-#[test]
-fn tags_are_those_of_other_tools(rt: HostRuntime) {
-    for (key, tag) in KEY_TAGS {
-        let octets = hex::decode(rt.alloc(), key).expect(&rt, "hexadecimal");
-        assert!(rt; key_of(&rt, &octets).key_tag() == tag, "{tag}");
-    }
 }
 
 /// A key of no octets, and keys of algorithm 1 (RFC 4034, B.1).
@@ -33,23 +21,6 @@ fn tags_of_short_keys(rt: HostRuntime) {
     assert!(rt; key.key_tag() == 0x0203);
     let key = Dnskey::new(256, 3, one, b"\x01\x02".as_slice()).expect(&rt, "a key");
     assert!(rt; key.key_tag() == 0);
-}
-
-#[test]
-fn digests_are_those_of_other_tools(rt: HostRuntime) {
-    let alloc = rt.alloc();
-    for (owner, key, tag, digest) in DIGESTS {
-        let owner = hex::decode(alloc, owner).expect(&rt, "hexadecimal");
-        let octets = hex::decode(alloc, key).expect(&rt, "hexadecimal");
-        let name = Name::from_slice(&owner).expect(&rt, "a name");
-        let mut digested = Vec::new(alloc);
-        assert!(rt; compose_canonical_name(&name, &mut digested).is_ok());
-        let key = key_of(&rt, &octets);
-        assert!(rt; key.compose_canonical_rdata(&mut digested).is_ok());
-        let made = Sha256::digest(digested.as_slice());
-        let digest = hex::decode(alloc, digest).expect(&rt, "hexadecimal");
-        assert!(rt; made.as_slice() == digest.as_slice() && key.key_tag() == tag);
-    }
 }
 
 /// RFC 4034, 5.4, with the start of the key of 2.3.

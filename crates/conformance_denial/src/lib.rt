@@ -2,8 +2,6 @@
 #![tactic(auto)]
 
 #[cfg(test)]
-mod bitmap_tests;
-#[cfg(test)]
 mod data_tests;
 #[cfg(test)]
 mod field_tests;

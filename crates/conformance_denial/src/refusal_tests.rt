@@ -86,14 +86,18 @@ fn hash_of(alloc: Global, text: &str) -> Option<usize> {
 #[test]
 fn salts_and_hashes_are_read_or_memory_is_wanted(rt: HostRuntime) {
     let alloc = rt.alloc();
-    if salt_of(alloc, "aabbccdd").is_none() {
+    let mut salt = salt_of(alloc, "aabbccdd");
+    if salt.is_none() {
         rt.eprintln("refused").expect(&rt, "standard error");
+        salt = salt_of(alloc, "aabbccdd");
     }
-    assert!(rt; salt_of(alloc, "aabbccdd") == Some(4));
-    if hash_of(alloc, "cpnmuoj1e8").is_none() {
+    assert!(rt; salt == Some(4));
+    let mut hash = hash_of(alloc, "cpnmuoj1e8");
+    if hash.is_none() {
         rt.eprintln("refused").expect(&rt, "standard error");
+        hash = hash_of(alloc, "cpnmuoj1e8");
     }
-    assert!(rt; hash_of(alloc, "cpnmuoj1e8") == Some(6));
+    assert!(rt; hash == Some(6));
 }
 
 #[test]

@@ -1,6 +1,4 @@
 //! Tables that were made outside of this project.
 
-pub mod bitmaps;
-pub mod keys;
 pub mod record_data;
 pub mod small_bitmaps;

@@ -1,8 +1,9 @@
 //! Names, records and numbers, with values of the standards.
+use names_data::rtype::Rtype;
+use plain::numbers::{Class, DigestAlgorithm, SecurityAlgorithm, Ttl};
 use records::message::write::{push_u16, push_u32};
 use records::names::{Name, NameError, Octets};
-use records::plain::record::{LongRecordData, Ns, Record, Soa, UnknownRecordData, ZoneRecordData};
-use records::plain::{Class, DigestAlgorithm, Rtype, SecurityAlgorithm, Ttl};
+use records::record::{LongRecordData, Ns, Record, Soa, UnknownRecordData, ZoneRecordData};
 use std::alloc::Global;
 use std::cmp::Ordering;
 use std::test::Fail;

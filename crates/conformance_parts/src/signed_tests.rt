@@ -1,6 +1,7 @@
 //! Record data and signed octets, with values of the standards.
+use names_data::rtype::Rtype;
+use plain::numbers::{Class, DigestAlgorithm, SecurityAlgorithm, Ttl};
 use records::names::Name;
-use records::plain::{Class, DigestAlgorithm, Rtype, SecurityAlgorithm, Ttl};
 use signed_data::dnskey::Dnskey;
 use signed_data::ds::Ds;
 use signed_data::ranked::{Ranked, put_data, put_ranked};

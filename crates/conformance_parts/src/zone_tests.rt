@@ -2,9 +2,10 @@
 use answer_zone::fault::{Mode, ZoneFault};
 use answer_zone::group::RrGroup;
 use answer_zone::zone::ZoneRecords;
+use names_data::rtype::Rtype;
+use plain::numbers::{Class, Ttl};
 use records::names::{Name, ParsedName};
-use records::plain::record::{Record, Soa, UnknownRecordData, ZoneRecordData};
-use records::plain::{Class, Rtype, Ttl};
+use records::record::{Record, Soa, UnknownRecordData, ZoneRecordData};
 use signed_data::generate::SigningError;
 use std::alloc::Global;
 use std::test::Fail;

@@ -16,6 +16,11 @@ ghost use Rattle.denial_data.specs.Protos.{IsSignedOver};
 ghost use Rattle.denial_data.specs.RrsigData.{RrsigData, rrsig_octets};
 ghost use Rattle.denial_data.specs.Signatures.{rrsig_part};
 
+pub use crate::orders::{
+    dnskey_order_is_total, ds_order_is_total, nsec_order_is_total, nsec3_order_is_total,
+    nsec3param_order_is_total, rrsig_order_is_total,
+};
+
 /// `ProtoRrsig::compose_canonical` writes the fields that a signature is made over (RFC 4034, 3.1.8.1).
 pub fn fields_are_signed()
     ensures { IsSignedOver }

@@ -2,6 +2,7 @@
 #![tactic(auto)]
 
 pub mod laws;
+mod orders;
 pub mod proto_rrsig;
 pub mod rrsig;
 

@@ -1,8 +1,8 @@
 pub mod Adding
 pub mod GroupLaws
 pub mod Groups
+pub mod Headed
 pub mod Inserting
-pub mod Keyed
 pub mod Keys
 pub mod Partitions
 pub mod Places

@@ -194,7 +194,8 @@ impl<'a, N: ToName, D: RecordData> Rrset<'a, N, D> {
     pub fn into_inner(self) -> SliceRefsOrOwned<'a, Record<N, D>>
         ensures { items_of result ≡ self.entry }
     {
-        self.slice
+        let Rrset { slice } = self;
+        slice
     }
 }
 

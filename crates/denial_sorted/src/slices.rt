@@ -24,10 +24,10 @@ impl<'a, T> Clone for SliceRefs<'a, T> {
 }
 
 impl<'a, T> SliceRefs<'a, T> {
-    pub fn new(items: &'a [&'a T]) -> Self
-        ensures { referred result ≡ map (λ r. r.now) items.now }
+    pub fn new(slice: &'a [&'a T]) -> Self
+        ensures { referred result ≡ map (λ r. r.now) slice.now }
     {
-        SliceRefs { items }
+        SliceRefs { items: slice }
     }
 
     fn len(&self) -> usize
@@ -73,7 +73,7 @@ impl<'a, T> SliceRefsOrOwned<'a, T> {
     pub fn new_from_owned(slice: &'a [T]) -> Self
         ensures { items_of result ≡ slice.now }
     {
-        SliceRefsOrOwned::Owned(slice)
+        Self::Owned(slice)
     }
 
     pub fn new_from_refs(slice: &'a [&'a T]) -> Self

@@ -2,6 +2,7 @@
 
 ghost use Rattle.std.specs.Prelude.{◌≡◌, ◌<◌, ◌↔◌, List, [], length, IsTrue, IfOk, OnOk, OnErr};
 ghost use Rattle.std.specs.Cmp.{IsTotalOrder};
+ghost use Rattle.std.specs.Ordering.{eq_by_cmp};
 ghost use Rattle.std.specs.Iterator.{IsFinite, Drains};
 ghost use Rattle.std.specs.List.Sorted.{IsStrictlySortedBy};
 ghost use Rattle.definitions.specs.Sorting.{put_by, put_all_by, sort_by};
@@ -171,8 +172,25 @@ fn order_all<N: ToName + Drop, D: RecordData + CanonicalOrd + Drop, S: Sorter>(
     ensures err { OnErr result (records.new.items ≡ records.old.items) }
 {
     S::sort_by(records, |a, b| a.canonical_cmp(b))?;
-    records.dedup_by(|later, kept| later.canonical_cmp(kept).is_eq());
+    records.dedup_by(|later, kept| are_equal(later, kept));
     Ok(())
+}
+
+/// Whether the canonical order tells two records apart: names last, since comparing them takes longest.
+fn are_equal<N: ToName, D: RecordData + CanonicalOrd>(a: &Record<N, D>, b: &Record<N, D>) -> bool
+    ensures { let by = record_canonical_cmp N.name D.type_of D.canonical in
+        result ≡ eq_by_cmp by a.now b.now }
+{
+    if a.rtype() != b.rtype() {
+        return false;
+    }
+    if a.class() != b.class() {
+        return false;
+    }
+    if a.data().canonical_cmp(b.data()).is_ne() {
+        return false;
+    }
+    a.owner().name_eq(b.owner())
 }
 
 /// Adds records to ordered ones. Where it is refused, none is added.

@@ -6,7 +6,7 @@ ghost use Rattle.sha2.specs.Sha256.{sha256};
 
 use answer::denial::dnskey::Dnskey;
 use answer::denial::hasher::{HashError, Nsec3Hasher};
-use answer::plain::DigestAlgorithm;
+use answer::plain::numbers::DigestAlgorithm;
 use answer::scheme::{Scheme, SchemeError};
 use sha2::{Digest, Sha256};
 use std::alloc::Global;

@@ -16,8 +16,8 @@ use crate::maps::{
 use crate::settings::Setting;
 use keyset_keys::{Available, Error, Key, KeyState, KeyType, UnixTime};
 use keyset_rolls::{Action, RollState, RollType, Turn};
+use plain::numbers::SecurityAlgorithm;
 use records::names::Name;
-use records::plain::SecurityAlgorithm;
 use std::alloc::{AllocError, Global};
 use std::collections::HashMap;
 use std::marker::Model;

@@ -5,8 +5,8 @@
 #![tactic(auto)]
 
 use keyset::{Available, Error, KeySet, RollType, UnixTime};
+use plain::numbers::SecurityAlgorithm;
 use records::names::Name;
-use records::plain::SecurityAlgorithm;
 use std::alloc::Global;
 use std::io;
 use std::time::Duration;

@@ -4,7 +4,7 @@ ghost use Rattle.keyset_keys.specs.KeyTexts.{stage};
 ghost use Rattle.std.specs.Prelude.{[], if◌then◌else◌, ◌≡◌, option_copied, IfOk, Some};
 
 use crate::time::UnixTime;
-use records::plain::SecurityAlgorithm;
+use plain::numbers::SecurityAlgorithm;
 use std::alloc::AllocError;
 use std::fmt;
 use std::marker::Model;

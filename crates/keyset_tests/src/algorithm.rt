@@ -1,9 +1,10 @@
 //! A zone's first keys, their replacement by an algorithm roll, refusals and texts.
 
+use crate::calls::Calls;
 use crate::keys::{add_ksk, add_zsk, assert_flags, at, key, with_two_keys};
 use keyset::{Action, Available, Error, KeySet, RollState, RollType};
+use plain::numbers::SecurityAlgorithm;
 use records::names::Name;
-use records::plain::SecurityAlgorithm;
 use std::alloc::Global;
 use std::process::Abort;
 use std::test::Fail;
@@ -15,27 +16,27 @@ const TTL: u32 = 3600;
 
 fn start_first(alloc: Global) -> Result<KeySet, Error> {
     let mut set = with_two_keys(alloc)?;
-    set.start_roll(ROLL, &[], &["K1", "Z1"], &at(0))?;
+    set.start(ROLL, &[], &["K1", "Z1"], &at(0))?;
     Ok(set)
 }
 
 fn report_first(alloc: Global) -> Result<KeySet, Error> {
     let mut set = start_first(alloc)?;
-    set.propagation1_complete(ROLL, TTL, &at(0))?;
+    set.report1(ROLL, TTL, &at(0))?;
     Ok(set)
 }
 
 fn report_second(alloc: Global) -> Result<KeySet, Error> {
     let mut set = report_first(alloc)?;
-    set.cache_expired1(ROLL, &at(3600))?;
-    set.propagation2_complete(ROLL, TTL, &at(3600))?;
+    set.wait1(ROLL, &at(3600))?;
+    set.report2(ROLL, TTL, &at(3600))?;
     Ok(set)
 }
 
 fn roll_first(alloc: Global) -> Result<KeySet, Error> {
     let mut set = report_second(alloc)?;
-    set.cache_expired2(ROLL, &at(7200))?;
-    set.roll_done(ROLL)?;
+    set.wait2(ROLL, &at(7200))?;
+    set.done(ROLL)?;
     Ok(set)
 }
 
@@ -43,21 +44,21 @@ fn start_second(alloc: Global) -> Result<KeySet, Error> {
     let mut set = roll_first(alloc)?;
     add_ksk(&mut set, alloc, "K2", 2)?;
     add_zsk(&mut set, alloc, "Z2", 3)?;
-    set.start_roll(ROLL, &["K1", "Z1", "K1"], &["K2", "Z2"], &at(7200))?;
+    set.start(ROLL, &["K1", "Z1", "K1"], &["K2", "Z2"], &at(7200))?;
     Ok(set)
 }
 
 fn wait_in_second(alloc: Global) -> Result<KeySet, Error> {
     let mut set = start_second(alloc)?;
-    set.propagation1_complete(ROLL, 0, &at(7200))?;
-    set.cache_expired1(ROLL, &at(7200))?;
+    set.report1(ROLL, 0, &at(7200))?;
+    set.wait1(ROLL, &at(7200))?;
     Ok(set)
 }
 
 fn roll_second(alloc: Global) -> Result<KeySet, Error> {
     let mut set = wait_in_second(alloc)?;
-    set.propagation2_complete(ROLL, 0, &at(7200))?;
-    set.cache_expired2(ROLL, &at(7200))?;
+    set.report2(ROLL, 0, &at(7200))?;
+    set.wait2(ROLL, &at(7200))?;
     Ok(set)
 }
 
@@ -66,7 +67,7 @@ fn first_keys_start(rt: HostRuntime) -> Result<(), Fail> {
     let alloc = rt.alloc();
     let mut set = with_two_keys(alloc)?;
     assert_flags(&rt, alloc, &set, "K1", "(Future)")?;
-    let actions = set.start_roll(ROLL, &[], &["K1", "Z1"], &at(0))?;
+    let actions = set.start(ROLL, &[], &["K1", "Z1"], &at(0))?;
     let want = [
         Action::UpdateDnskeyRrset,
         Action::UpdateRrsig,
@@ -83,12 +84,12 @@ fn first_keys_start(rt: HostRuntime) -> Result<(), Fail> {
 fn first_keys_wait(rt: HostRuntime) -> Result<(), Fail> {
     let alloc = rt.alloc();
     let mut set = report_first(alloc)?;
-    let early = set.cache_expired1(ROLL, &at(3599)).err().ok_or("accepted")?;
+    let early = set.wait1(ROLL, &at(3599)).err().ok_or("accepted")?;
     assert_eq!(rt;
         early.to_string(alloc)?.as_str(),
         "wait for duration 1.000000000s"
     );
-    let actions = set.cache_expired1(ROLL, &at(3600))?;
+    let actions = set.wait1(ROLL, &at(3600))?;
     let want = [
         Action::CreateCdsRrset,
         Action::UpdateDsRrset,
@@ -110,8 +111,8 @@ fn first_keys_wait(rt: HostRuntime) -> Result<(), Fail> {
 fn first_keys_wait_again(rt: HostRuntime) -> Result<(), Fail> {
     let alloc = rt.alloc();
     let mut set = report_second(alloc)?;
-    assert!(rt; matches!(set.cache_expired2(ROLL, &at(7199)), Err(Error::Wait(_))));
-    let actions = set.cache_expired2(ROLL, &at(7200))?;
+    assert!(rt; matches!(set.wait2(ROLL, &at(7199)), Err(Error::Wait(_))));
+    let actions = set.wait2(ROLL, &at(7200))?;
     let want = [
         Action::RemoveCdsRrset,
         Action::UpdateDnskeyRrset,
@@ -181,7 +182,7 @@ fn old_keys_are_rolled_out(rt: HostRuntime) -> Result<(), Fail> {
 /// Why a start for these keys is refused, beside two fresh keys.
 fn refusal(alloc: Global, old: &[&str], new: &[&str]) -> Result<Option<Error>, Error> {
     let mut set = with_two_keys(alloc)?;
-    Ok(set.start_roll(ROLL, old, new, &at(0)).err())
+    Ok(set.start(ROLL, old, new, &at(0)).err())
 }
 
 #[test]
@@ -206,7 +207,7 @@ fn lists_of_keys_are_refused(rt: HostRuntime) -> Result<(), Fail> {
 #[test]
 fn a_roll_is_not_started_twice(rt: HostRuntime) -> Result<(), Fail> {
     let mut set = start_first(rt.alloc())?;
-    let again = set.start_roll(ROLL, &[], &[], &at(0));
+    let again = set.start(ROLL, &[], &[], &at(0));
     assert!(rt; matches!(again, Err(Error::WrongStateForRollOperation)));
     Ok(())
 }
@@ -223,7 +224,7 @@ fn a_key_that_is_not_available_is_refused(rt: HostRuntime) -> Result<(), Fail> {
         at(5),
         Available::NotAvailable,
     )?;
-    let refused = set.start_roll(ROLL, &[], &["K2", "Z1"], &at(0));
+    let refused = set.start(ROLL, &[], &["K2", "Z1"], &at(0));
     assert!(rt; matches!(refused, Err(Error::WrongKeyState)));
     let added = key(&set, "K2")?;
     assert_eq!(rt; added.privref(), Some("file"));
@@ -255,11 +256,11 @@ fn calls_out_of_turn_are_refused(rt: HostRuntime) -> Result<(), Fail> {
     let mut set = with_two_keys(rt.alloc())?;
     let now = at(0);
     let refusals = [
-        set.propagation1_complete(ROLL, TTL, &now).err(),
-        set.cache_expired1(ROLL, &now).err(),
-        set.propagation2_complete(ROLL, TTL, &now).err(),
-        set.cache_expired2(ROLL, &now).err(),
-        set.roll_done(ROLL).err(),
+        set.report1(ROLL, TTL, &now).err(),
+        set.wait1(ROLL, &now).err(),
+        set.report2(ROLL, TTL, &now).err(),
+        set.wait2(ROLL, &now).err(),
+        set.done(ROLL).err(),
     ];
     for refusal in &refusals {
         assert!(rt; matches!(refusal, Some(Error::WrongStateForRollOperation)));

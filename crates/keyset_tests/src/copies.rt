@@ -1,5 +1,6 @@
 //! Copies of keys and key sets, and sets of many keys.
 
+use crate::calls::Calls;
 use crate::keys::{add_zsk, assert_flags, at, key, with_two_keys};
 use keyset::{Error, KeySet, RollState, RollType};
 use records::names::Name;
@@ -11,7 +12,7 @@ use std::test::Fail;
 fn a_copy_goes_its_own_way(rt: HostRuntime) -> Result<(), Fail> {
     let alloc = rt.alloc();
     let mut set = with_two_keys(alloc)?;
-    set.start_roll(RollType::AlgorithmRoll, &[], &["K1", "Z1"], &at(0))?;
+    set.start(RollType::AlgorithmRoll, &[], &["K1", "Z1"], &at(0))?;
     let mut copy = set.clone()?;
     assert_eq!(rt; copy.name().len(), set.name().len());
     assert_eq!(rt; copy.keys().len(), 2);
@@ -23,7 +24,7 @@ fn a_copy_goes_its_own_way(rt: HostRuntime) -> Result<(), Fail> {
     }
     let phase = |set: &KeySet| set.rollstates().get(&RollType::AlgorithmRoll).copied();
     assert_eq!(rt; phase(&copy), Some(RollState::Propagation1));
-    copy.propagation1_complete(RollType::AlgorithmRoll, 10, &at(1))?;
+    copy.report1(RollType::AlgorithmRoll, 10, &at(1))?;
     assert_eq!(rt; phase(&copy), Some(RollState::CacheExpire1(10)));
     assert_eq!(rt; phase(&set), Some(RollState::Propagation1));
     let mut alone = key(&set, "K1")?.clone()?;
@@ -66,14 +67,14 @@ fn a_thousand_keys(rt: HostRuntime) -> Result<(), Fail> {
     let old = texts(alloc, &olds)?;
     let mut new = texts(alloc, &news)?;
     new.push("new499")?;
-    let refused = set.start_roll(RollType::ZskRoll, &old, &new, &at(0));
+    let refused = set.start(RollType::ZskRoll, &old, &new, &at(0));
     assert!(rt; matches!(refused, Err(Error::WrongKeyState)));
     new.pop();
     new.push("old0")?;
-    let refused = set.start_roll(RollType::ZskRoll, &old, &new, &at(0));
+    let refused = set.start(RollType::ZskRoll, &old, &new, &at(0));
     assert!(rt; matches!(refused, Err(Error::WrongKeyState)));
     new.pop();
-    set.start_roll(RollType::ZskRoll, &old, &new, &at(0))?;
+    set.start(RollType::ZskRoll, &old, &new, &at(0))?;
     assert_flags(&rt, alloc, &set, "old499", "Old (Stale)")?;
     assert_flags(&rt, alloc, &set, "new499", "Present (Incoming)")?;
     Ok(())

@@ -2,8 +2,8 @@
 ghost use Rattle.std.specs.Prelude.{◌*◌, ◌≡◌};
 
 use keyset::{Action, Available, Error, Key, KeySet, KeyType, UnixTime};
+use plain::numbers::SecurityAlgorithm;
 use records::names::Name;
-use records::plain::SecurityAlgorithm;
 use std::alloc::Global;
 use std::process::Abort;
 use std::time::Duration;

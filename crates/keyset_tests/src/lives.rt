@@ -1,5 +1,6 @@
 //! Key lives of a few calls, all of them: what was handed out and isn't retired meets.
 
+use crate::calls::Calls;
 use crate::keys::{Column, add_csk, add_ksk, add_zsk, at, with_two_keys};
 use keyset::{Error, KeySet, RollType};
 use std::alloc::Global;
@@ -113,13 +114,13 @@ fn is_accepted(set: &mut KeySet, made: Made) -> bool {
     let ttl = TTL as u32;
     match made.call {
         Call::Start => set
-            .start_roll(made.roll, olds(made.roll), news(made.roll), &now)
+            .start(made.roll, olds(made.roll), news(made.roll), &now)
             .is_ok(),
-        Call::Report1 => set.propagation1_complete(made.roll, ttl, &now).is_ok(),
-        Call::Wait1 => set.cache_expired1(made.roll, &now).is_ok(),
-        Call::Report2 => set.propagation2_complete(made.roll, ttl, &now).is_ok(),
-        Call::Wait2 => set.cache_expired2(made.roll, &now).is_ok(),
-        Call::Finish => set.roll_done(made.roll).is_ok(),
+        Call::Report1 => set.report1(made.roll, ttl, &now).is_ok(),
+        Call::Wait1 => set.wait1(made.roll, &now).is_ok(),
+        Call::Report2 => set.report2(made.roll, ttl, &now).is_ok(),
+        Call::Wait2 => set.wait2(made.roll, &now).is_ok(),
+        Call::Finish => set.done(made.roll).is_ok(),
     }
 }
 
@@ -229,12 +230,12 @@ fn all_meet(alloc: Global, states: &[Shown], steps: &[Made], moment: u64) -> Res
 fn in_use(alloc: Global) -> Result<KeySet, Error> {
     let mut set = with_two_keys(alloc)?;
     let first = RollType::AlgorithmRoll;
-    set.start_roll(first, &[], &["K1", "Z1"], &at(0))?;
-    set.propagation1_complete(first, 0, &at(0))?;
-    set.cache_expired1(first, &at(0))?;
-    set.propagation2_complete(first, 0, &at(0))?;
-    set.cache_expired2(first, &at(0))?;
-    set.roll_done(first)?;
+    set.start(first, &[], &["K1", "Z1"], &at(0))?;
+    set.report1(first, 0, &at(0))?;
+    set.wait1(first, &at(0))?;
+    set.report2(first, 0, &at(0))?;
+    set.wait2(first, &at(0))?;
+    set.done(first)?;
     add_ksk(&mut set, alloc, "K2", 2)?;
     add_zsk(&mut set, alloc, "Z2", 3)?;
     add_csk(&mut set, alloc, "C1", 4)?;

@@ -2,10 +2,11 @@
 //!
 //! With memory each call succeeds at once. `rt try --test --fail-alloc N` refuses the Nth growth.
 
+use crate::calls::Calls;
 use crate::keys::at;
 use keyset::{Available, Error, KeySet, KeyType, RollState, RollType};
+use plain::numbers::SecurityAlgorithm;
 use records::names::Name;
-use records::plain::SecurityAlgorithm;
 use std::alloc::Global;
 use std::process::Abort;
 
@@ -84,35 +85,35 @@ fn add_both(rt: &(impl Abort + Eprint), alloc: Global, set: &mut KeySet) {
 
 fn start(rt: &(impl Abort + Eprint), set: &mut KeySet) {
     let before = look_at(set);
-    if let Err(error) = set.start_roll(ROLL, &[], &["K1", "Z1"], &at(0)) {
+    if let Err(error) = set.start(ROLL, &[], &["K1", "Z1"], &at(0)) {
         refused(rt, error, set, before);
-        assert!(rt; set.start_roll(ROLL, &[], &["K1", "Z1"], &at(0)).is_ok());
+        assert!(rt; set.start(ROLL, &[], &["K1", "Z1"], &at(0)).is_ok());
     }
 }
 
 fn first_half(rt: &(impl Abort + Eprint), set: &mut KeySet) {
     let before = look_at(set);
-    if let Err(error) = set.propagation1_complete(ROLL, 60, &at(0)) {
+    if let Err(error) = set.report1(ROLL, 60, &at(0)) {
         refused(rt, error, set, before);
-        assert!(rt; set.propagation1_complete(ROLL, 60, &at(0)).is_ok());
+        assert!(rt; set.report1(ROLL, 60, &at(0)).is_ok());
     }
     let before = look_at(set);
-    if let Err(error) = set.cache_expired1(ROLL, &at(60)) {
+    if let Err(error) = set.wait1(ROLL, &at(60)) {
         refused(rt, error, set, before);
-        assert!(rt; set.cache_expired1(ROLL, &at(60)).is_ok());
+        assert!(rt; set.wait1(ROLL, &at(60)).is_ok());
     }
 }
 
 fn second_half(rt: &(impl Abort + Eprint), set: &mut KeySet) {
     let before = look_at(set);
-    if let Err(error) = set.propagation2_complete(ROLL, 60, &at(60)) {
+    if let Err(error) = set.report2(ROLL, 60, &at(60)) {
         refused(rt, error, set, before);
-        assert!(rt; set.propagation2_complete(ROLL, 60, &at(60)).is_ok());
+        assert!(rt; set.report2(ROLL, 60, &at(60)).is_ok());
     }
     let before = look_at(set);
-    if let Err(error) = set.cache_expired2(ROLL, &at(120)) {
+    if let Err(error) = set.wait2(ROLL, &at(120)) {
         refused(rt, error, set, before);
-        assert!(rt; set.cache_expired2(ROLL, &at(120)).is_ok());
+        assert!(rt; set.wait2(ROLL, &at(120)).is_ok());
     }
 }
 
@@ -140,6 +141,6 @@ fn a_roll_goes_on(rt: HostRuntime) {
     }
     assert!(&rt; look_at(&copy(&rt, &set)) == look_at(&set));
     second_half(&rt, &mut set);
-    assert!(&rt; set.roll_done(ROLL).is_ok());
+    assert!(&rt; set.done(ROLL).is_ok());
     assert!(&rt; set.rollstates().is_empty());
 }

@@ -1,5 +1,6 @@
 //! Seven rolls, one after another, and rows of single rolls.
 
+use crate::calls::Calls;
 use crate::keys::{add_csk, add_ksk, add_zsk, at, key, named, published, with_two_keys};
 use keyset::{Action, Error, KeySet, RollState, RollType};
 use records::names::Name;
@@ -37,14 +38,11 @@ fn roll_first(
 ) -> Result<(), Error> {
     let [started, waited] = published;
     let [first, second] = actions;
-    let said = set.start_roll(rolltype, old, new, &at(0))?;
+    let said = set.start(rolltype, old, new, &at(0))?;
     assert_step(rt, alloc, set, said.as_slice(), first, started)?;
-    assert!(rt;
-        set.propagation1_complete(rolltype, 3600, &at(0))?
-            .is_empty()
-    );
-    assert!(rt; matches!(set.cache_expired1(rolltype, &at(3599)), Err(Error::Wait(_))));
-    let said = set.cache_expired1(rolltype, &at(3600))?;
+    assert!(rt; set.report1(rolltype, 3600, &at(0))?.is_empty());
+    assert!(rt; matches!(set.wait1(rolltype, &at(3599)), Err(Error::Wait(_))));
+    let said = set.wait1(rolltype, &at(3600))?;
     assert_step(rt, alloc, set, said.as_slice(), second, waited)
 }
 
@@ -58,19 +56,16 @@ fn roll_second(
     published: &str,
     actions: &str,
 ) -> Result<(), Error> {
-    assert!(rt;
-        set.propagation2_complete(rolltype, 3600, &at(3600))?
-            .is_empty()
-    );
-    let said = set.cache_expired2(rolltype, &at(7200))?;
+    assert!(rt; set.report2(rolltype, 3600, &at(3600))?.is_empty());
+    let said = set.wait2(rolltype, &at(7200))?;
     assert_step(rt, alloc, set, said.as_slice(), actions, published)?;
     assert_eq!(rt;
         set.rollstates().get(&rolltype).copied(),
         Some(RollState::Done)
     );
-    assert!(rt; set.roll_done(rolltype)?.is_empty());
+    assert!(rt; set.done(rolltype)?.is_empty());
     for reference in old {
-        set.delete_key(reference)?;
+        set.delete(reference)?;
     }
     Ok(())
 }
@@ -287,12 +282,12 @@ fn keys_are_rolled_seven_times(rt: HostRuntime) -> Result<(), Fail> {
 fn with_active_keys(alloc: Global) -> Result<KeySet, Error> {
     let mut set = with_two_keys(alloc)?;
     let rolltype = RollType::AlgorithmRoll;
-    set.start_roll(rolltype, &[], &["K1", "Z1"], &at(0))?;
-    set.propagation1_complete(rolltype, 0, &at(0))?;
-    set.cache_expired1(rolltype, &at(0))?;
-    set.propagation2_complete(rolltype, 0, &at(0))?;
-    set.cache_expired2(rolltype, &at(0))?;
-    set.roll_done(rolltype)?;
+    set.start(rolltype, &[], &["K1", "Z1"], &at(0))?;
+    set.report1(rolltype, 0, &at(0))?;
+    set.wait1(rolltype, &at(0))?;
+    set.report2(rolltype, 0, &at(0))?;
+    set.wait2(rolltype, &at(0))?;
+    set.done(rolltype)?;
     Ok(set)
 }
 
@@ -302,19 +297,16 @@ fn a_second_wait_counts_from_the_second_report(rt: HostRuntime) -> Result<(), Fa
     let mut set = with_active_keys(alloc)?;
     add_ksk(&mut set, alloc, "L", 2)?;
     let rolltype = RollType::KskDoubleDsRoll;
-    set.start_roll(rolltype, &["K1"], &["L"], &at(0))?;
-    set.propagation1_complete(rolltype, 10, &at(0))?;
-    set.cache_expired1(rolltype, &at(10))?;
-    set.propagation2_complete(rolltype, 3600, &at(11))?;
-    let early = set
-        .cache_expired2(rolltype, &at(3605))
-        .err()
-        .ok_or("accepted")?;
+    set.start(rolltype, &["K1"], &["L"], &at(0))?;
+    set.report1(rolltype, 10, &at(0))?;
+    set.wait1(rolltype, &at(10))?;
+    set.report2(rolltype, 3600, &at(11))?;
+    let early = set.wait2(rolltype, &at(3605)).err().ok_or("accepted")?;
     assert_eq!(rt;
         early.to_string(alloc)?.as_str(),
         "wait for duration 6.000000000s"
     );
-    set.cache_expired2(rolltype, &at(3611))?;
+    set.wait2(rolltype, &at(3611))?;
     Ok(())
 }
 
@@ -324,18 +316,18 @@ fn a_future_key_that_no_list_names_is_passed_over(rt: HostRuntime) -> Result<(),
     let mut set = with_active_keys(alloc)?;
     add_ksk(&mut set, alloc, "L", 2)?;
     add_ksk(&mut set, alloc, "F", 3)?;
-    set.start_roll(RollType::KskRoll, &["K1"], &["L"], &at(0))?;
-    set.propagation1_complete(RollType::KskRoll, 10, &at(0))?;
+    set.start(RollType::KskRoll, &["K1"], &["L"], &at(0))?;
+    set.report1(RollType::KskRoll, 10, &at(0))?;
     set.set_present("F", true, &at(5))?;
     assert!(rt;
         matches!(
-            set.cache_expired1(RollType::KskRoll, &at(10)),
+            set.wait1(RollType::KskRoll, &at(10)),
             Err(Error::MissingTimestamp)
         )
     );
     assert_eq!(rt; key(&set, "F")?.timestamps().published(), Some(at(5)));
     set.set_present("F", false, &at(6))?;
-    set.cache_expired1(RollType::KskRoll, &at(10))?;
+    set.wait1(RollType::KskRoll, &at(10))?;
     Ok(())
 }
 
@@ -345,11 +337,11 @@ fn the_greatest_rest_is_answered(rt: HostRuntime) -> Result<(), Fail> {
     let mut set = with_active_keys(alloc)?;
     add_ksk(&mut set, alloc, "L", 2)?;
     add_ksk(&mut set, alloc, "M", 3)?;
-    set.start_roll(RollType::KskRoll, &["K1"], &["L", "M"], &at(0))?;
-    set.propagation1_complete(RollType::KskRoll, 10, &at(0))?;
+    set.start(RollType::KskRoll, &["K1"], &["L", "M"], &at(0))?;
+    set.report1(RollType::KskRoll, 10, &at(0))?;
     set.set_visible("M", at(5))?;
     let early = set
-        .cache_expired1(RollType::KskRoll, &at(8))
+        .wait1(RollType::KskRoll, &at(8))
         .err()
         .ok_or("accepted")?;
     assert_eq!(rt;
@@ -364,7 +356,7 @@ fn a_future_zsk_is_not_enough(rt: HostRuntime) -> Result<(), Fail> {
     let alloc = rt.alloc();
     let mut set = with_two_keys(alloc)?;
     for rolltype in [RollType::ZskRoll, RollType::ZskDoubleSignatureRoll] {
-        let refused = set.start_roll(rolltype, &[], &[], &at(0));
+        let refused = set.start(rolltype, &[], &[], &at(0));
         assert!(rt; matches!(refused, Err(Error::NoSuitableKeyPresent)));
     }
     Ok(())
@@ -376,16 +368,16 @@ fn rolls_run_side_by_side(rt: HostRuntime) -> Result<(), Fail> {
     let mut set = with_active_keys(alloc)?;
     add_ksk(&mut set, alloc, "L", 2)?;
     add_zsk(&mut set, alloc, "M", 3)?;
-    set.start_roll(RollType::KskRoll, &["K1"], &["L"], &at(0))?;
+    set.start(RollType::KskRoll, &["K1"], &["L"], &at(0))?;
     for rolltype in [
         RollType::KskDoubleDsRoll,
         RollType::CskRoll,
         RollType::AlgorithmRoll,
     ] {
-        let refused = set.start_roll(rolltype, &[], &[], &at(0));
+        let refused = set.start(rolltype, &[], &[], &at(0));
         assert!(rt; matches!(refused, Err(Error::ConflictingRollInProgress)));
     }
-    set.start_roll(RollType::ZskRoll, &["Z1"], &["M"], &at(0))?;
+    set.start(RollType::ZskRoll, &["Z1"], &["M"], &at(0))?;
     assert_eq!(rt; set.rollstates().len(), 2);
     Ok(())
 }
@@ -402,9 +394,9 @@ fn an_example_that_cannot_run_is_refused(rt: HostRuntime) -> Result<(), Fail> {
             Err(Error::DuplicateKeyTag)
         )
     );
-    let refused = set.start_roll(RollType::CskRoll, &[], &["first", "second"], &at(0));
+    let refused = set.start(RollType::CskRoll, &[], &["first", "second"], &at(0));
     assert!(rt; matches!(refused, Err(Error::KeyNotFound)));
-    let refused = set.start_roll(RollType::CskRoll, &[], &["first"], &at(0));
+    let refused = set.start(RollType::CskRoll, &[], &["first"], &at(0));
     assert!(rt; matches!(refused, Err(Error::AlgorithmSetsMismatch)));
     Ok(())
 }

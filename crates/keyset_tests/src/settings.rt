@@ -1,9 +1,10 @@
 //! What is set of keys by hand.
 
+use crate::calls::Calls;
 use crate::keys::{add_csk, add_ksk, assert_flags, at, key, with_two_keys};
 use keyset::{Available, Error, KeySet, KeyType, RollType};
+use plain::numbers::SecurityAlgorithm;
 use records::names::Name;
-use records::plain::SecurityAlgorithm;
 use std::test::Fail;
 
 #[test]
@@ -38,11 +39,11 @@ fn an_included_key_signs_nothing(rt: HostRuntime) -> Result<(), Fail> {
     assert_flags(&rt, alloc, &set, "other", "Present (Incoming)")?;
     assert!(rt; matches!(set.set_signer("other", true), Err(Error::WrongKeyType)));
     assert!(rt; matches!(set.set_at_parent("other", true), Err(Error::WrongKeyType)));
-    let refused = set.start_roll(RollType::AlgorithmRoll, &["other"], &[], &at(0));
+    let refused = set.start(RollType::AlgorithmRoll, &["other"], &[], &at(0));
     assert!(rt; matches!(refused, Err(Error::WrongKeyType)));
-    assert!(rt; matches!(set.delete_key("other"), Err(Error::KeyNotOld)));
+    assert!(rt; matches!(set.delete("other"), Err(Error::KeyNotOld)));
     set.set_stale("other")?;
-    set.delete_key("other")?;
+    set.delete("other")?;
     assert!(rt; set.keys().is_empty());
     Ok(())
 }
@@ -91,10 +92,10 @@ fn stamps_are_written_over(rt: HostRuntime) -> Result<(), Fail> {
 fn a_key_in_use_is_not_deleted(rt: HostRuntime) -> Result<(), Fail> {
     let alloc = rt.alloc();
     let mut set = with_two_keys(alloc)?;
-    assert!(rt; matches!(set.delete_key("K1"), Err(Error::KeyNotOld)));
-    assert!(rt; matches!(set.delete_key("K2"), Err(Error::KeyNotFound)));
+    assert!(rt; matches!(set.delete("K1"), Err(Error::KeyNotOld)));
+    assert!(rt; matches!(set.delete("K2"), Err(Error::KeyNotFound)));
     set.set_stale("K1")?;
-    set.delete_key("K1")?;
+    set.delete("K1")?;
     assert!(rt; set.key("K1").is_none());
     add_ksk(&mut set, alloc, "K1", 0)?;
     assert_eq!(rt; set.keys().len(), 2);

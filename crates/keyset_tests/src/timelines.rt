@@ -1,5 +1,6 @@
 //! The pictures of rolls in `docs/ROLLS.md`: each line of its tables stands here, and is printed from a key set.
 
+use crate::calls::Calls;
 use crate::keys::{add_csk, add_ksk, add_zsk, at, named, push_columns, with_two_keys};
 use keyset::{Action, Error, KeySet, RollType};
 use std::alloc::Global;
@@ -38,12 +39,12 @@ fn assert_line(
 fn with_keys(alloc: Global) -> Result<KeySet, Error> {
     let mut set = with_two_keys(alloc)?;
     let first = RollType::AlgorithmRoll;
-    set.start_roll(first, &[], &["K1", "Z1"], &at(0))?;
-    set.propagation1_complete(first, 0, &at(0))?;
-    set.cache_expired1(first, &at(0))?;
-    set.propagation2_complete(first, 0, &at(0))?;
-    set.cache_expired2(first, &at(0))?;
-    set.roll_done(first)?;
+    set.start(first, &[], &["K1", "Z1"], &at(0))?;
+    set.report1(first, 0, &at(0))?;
+    set.wait1(first, &at(0))?;
+    set.report2(first, 0, &at(0))?;
+    set.wait2(first, &at(0))?;
+    set.done(first)?;
     add_ksk(&mut set, alloc, "K2", 2)?;
     add_zsk(&mut set, alloc, "Z2", 3)?;
     add_csk(&mut set, alloc, "C1", 4)?;
@@ -66,11 +67,11 @@ fn assert_first_half(
     lines: [&str; 3],
 ) -> Result<(), Error> {
     let [start, report1, wait1] = lines;
-    let actions = set.start_roll(roll.rolltype, roll.old, roll.new, &at(0))?;
+    let actions = set.start(roll.rolltype, roll.old, roll.new, &at(0))?;
     assert_line(rt, alloc, set, "start", actions.as_slice(), start)?;
-    let actions = set.propagation1_complete(roll.rolltype, 60, &at(0))?;
+    let actions = set.report1(roll.rolltype, 60, &at(0))?;
     assert_line(rt, alloc, set, "report 1", actions.as_slice(), report1)?;
-    let actions = set.cache_expired1(roll.rolltype, &at(60))?;
+    let actions = set.wait1(roll.rolltype, &at(60))?;
     assert_line(rt, alloc, set, "wait 1", actions.as_slice(), wait1)
 }
 
@@ -82,11 +83,11 @@ fn assert_second_half(
     lines: [&str; 3],
 ) -> Result<(), Error> {
     let [report2, wait2, done] = lines;
-    let actions = set.propagation2_complete(rolltype, 60, &at(60))?;
+    let actions = set.report2(rolltype, 60, &at(60))?;
     assert_line(rt, alloc, set, "report 2", actions.as_slice(), report2)?;
-    let actions = set.cache_expired2(rolltype, &at(120))?;
+    let actions = set.wait2(rolltype, &at(120))?;
     assert_line(rt, alloc, set, "wait 2", actions.as_slice(), wait2)?;
-    let actions = set.roll_done(rolltype)?;
+    let actions = set.done(rolltype)?;
     assert_line(rt, alloc, set, "done", actions.as_slice(), done)
 }
 

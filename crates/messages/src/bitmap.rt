@@ -4,7 +4,7 @@ ghost use Rattle.std.specs.Option.{option_map};
 ghost use Rattle.definitions.specs.Bitmap.{is_bitmap, bitmap_has, bit_in};
 ghost use Rattle.definitions.specs.Windows.{split, first_window};
 
-use records::plain::Rtype;
+use names_data::rtype::Rtype;
 
 /// The window at the front, its number and its octets, and what is behind it; None where there is none of 1
 /// to 32 octets.

@@ -1,8 +1,9 @@
 //! Questions (RFC 1035, 4.1.2).
 ghost use Rattle.messages.specs.WrittenLaws.{IsQuestion};
 
+use names_data::rtype::Rtype;
+use plain::numbers::Class;
 use records::names::Name;
-use records::plain::{Class, Rtype};
 
 /// What is asked for.
 #[derive(Debug, Drop)]

@@ -9,8 +9,9 @@ ghost use Rattle.records.specs.View.{named};
 use crate::bitmap::is_bitmap;
 use crate::octets::clipped;
 use crate::view::ViewRecord;
+use names_data::rtype::Rtype;
+use plain::numbers::{SecurityAlgorithm, Ttl};
 use records::names::{Name, ParsedName};
-use records::plain::{Rtype, SecurityAlgorithm, Ttl};
 use std::alloc::{AllocError, Global};
 
 /// A signature within a message (RFC 4034, 3.1); its signer as spelled.

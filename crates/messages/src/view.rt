@@ -7,9 +7,10 @@ ghost use Rattle.records.specs.View.{Gives, placed};
 
 use crate::octets::{u16_at, u32_at};
 use crate::question::Question;
+use names_data::rtype::Rtype;
+use plain::numbers::{Class, Ttl};
 use records::message::MessageError;
 use records::names::ParsedName;
-use records::plain::{Class, Rtype, Ttl};
 use std::marker::Model;
 
 /// A record of a message. Its data are the `length` octets of the message from `start` on.

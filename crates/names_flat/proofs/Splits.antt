@@ -9,6 +9,7 @@ use Rattle.std.specs.Char.{to_ascii_lowercase}
 use Rattle.definitions.specs.Name.{Name, Label, low, wire, wire_len, IsLabel, IsName}
 use Rattle.names_labels.specs.Flat.{spelled, labels_in, name_in, IsRun, SplitsLabel, SpellsName, SpellsRelative, StartsLabel}
 use Rattle.names_labels.proofs.Runs.{spelled-append, labels_in-spelled, name_in-wire, wire-spelled}
+use Rattle.names_labels.proofs.Lowered.{lower-spelled}
 use Rattle.names_labels.proofs.Relatives.{all_short}
 use Rattle.names_labels.proofs.Wholes.{wire_len-append, wire_len-cons}
 use Rattle.names_labels.proofs.Cuts.{starts_rise}
@@ -177,16 +178,6 @@ only_root_label n run rest l e h s none = go n h (sym e ∙ s.first)
 
 -- ---- lower case
 
-one_lower : (k : ℕ) → k ≤ 63 → to_ascii_lowercase k ≡ k
-one_lower k h = ap (λ b. cond b k (cond (nat_lt k 91) (k + 32) k)) (lt-ltb k 65 (omega (arith, h)))
-
--- a length octet is no letter
-pub lower-spelled : (n : Name) → AllByRecursion IsLabel n → str_to_ascii_lowercase (spelled n) ≡ spelled (low n)
-lower-spelled [] a = refl
-lower-spelled (l ∷ n) a =
-    (λ i. one_lower (length l) a.0.short i ∷ map-append to_ascii_lowercase l (spelled n) i)
-    ∙ (λ i. sym (length-map l to_ascii_lowercase) i ∷ (str_to_ascii_lowercase l ++ lower-spelled n a.1 i))
-
 lower_labels : (n : Name) → AllByRecursion IsLabel n → AllByRecursion IsLabel (low n)
 lower_labels [] a = tt
 lower_labels (l ∷ n) a = (record { some = omega (arith, a.0.some, length-map l to_ascii_lowercase); short = omega (arith, a.0.short, length-map l to_ascii_lowercase) }, lower_labels n a.1)
@@ -199,10 +190,10 @@ lower_name : (n : Name) → IsName n → IsName (low n)
 lower_name n h = record { labels = lower_labels n h.labels; short = omega (arith, h.short, lower_len n) }
 
 pub lower_spells_relative : (bs : List ℕ) (n : Name) → SpellsRelative bs n → SpellsRelative (str_to_ascii_lowercase bs) (low n)
-lower_spells_relative bs n s = record { octets = sym (lower-spelled n s.name.labels) ∙ ap str_to_ascii_lowercase s.octets; name = lower_name n s.name }
+lower_spells_relative bs n s = record { octets = sym (lower-spelled n (all_short n s.name.labels)) ∙ ap str_to_ascii_lowercase s.octets; name = lower_name n s.name }
 
 pub lower_spells : (bs : List ℕ) (n : Name) → SpellsName bs n → SpellsName (str_to_ascii_lowercase bs) (low n)
 lower_spells bs n s = record {
-  octets = ap (λ xs. xs ++ 0 ∷ []) (sym (lower-spelled n s.name.labels)) ∙ sym (map-append to_ascii_lowercase (spelled n) (0 ∷ [])) ∙ ap str_to_ascii_lowercase s.octets;
+  octets = ap (λ xs. xs ++ 0 ∷ []) (sym (lower-spelled n (all_short n s.name.labels))) ∙ sym (map-append to_ascii_lowercase (spelled n) (0 ∷ [])) ∙ ap str_to_ascii_lowercase s.octets;
   name = lower_name n s.name;
 }

@@ -1,4 +1,5 @@
 pub mod Cuts
+pub mod Lowered
 pub mod Checks
 pub mod Compares
 pub mod Orders

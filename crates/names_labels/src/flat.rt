@@ -1,4 +1,5 @@
-ghost use Rattle.std.specs.Prelude.{◌≡◌, ◌↔◌, ℕ, List, length, [], take, drop, IsTrue, MatchOption, option_map, slice_get};
+ghost use Rattle.std.specs.Prelude.{◌≡◌, ◌↔◌, ℕ, List, length, [], take, drop, true, IsTrue, MatchOption, option_map, slice_get};
+ghost use Rattle.definitions.specs.Name.{same};
 ghost use Rattle.names_labels.specs.Flat.{labels_in, spelled, IsRun, SplitsLabel, StartsLabel};
 ghost use Rattle.names_wire.specs.Label.{octets_of};
 
@@ -76,4 +77,14 @@ pub fn is_label_start(run: &[u8], place: usize) -> bool
         rest = behind;
     }
     run.len() - rest.len() == place
+}
+
+/// Whether two rows have the same labels, up to ASCII case: then their octets are the same so, since no length is the
+/// octet of a letter.
+pub fn runs_eq(run: &[u8], other: &[u8]) -> bool
+    requires run { IsRun run.now }
+    requires other { IsRun other.now }
+    ensures { IsTrue result ↔ (same (labels_in run.now) (labels_in other.now) ≡ true) }
+{
+    run == other || run.eq_ignore_ascii_case(other)
 }

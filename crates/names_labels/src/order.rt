@@ -5,9 +5,10 @@ ghost use Rattle.std.specs.Ordering.{nat_cmp};
 ghost use Rattle.std.specs.Cmp.Lexicographic.{slice_cmp};
 ghost use Rattle.names_wire.specs.Label.{octets_of, wire_label};
 ghost use Rattle.definitions.specs.Name.{name_cmp};
-ghost use Rattle.names_labels.specs.Flat.{spelled};
+ghost use Rattle.names_labels.specs.Flat.{labels_in, spelled, IsRun};
 ghost use Rattle.names_labels.specs.Order.{in_case};
 
+use crate::flat::{behind, label_count, split_label};
 use crate::traits::{Labels, labels_counted, labels_of};
 use names_wire::label::Label;
 use std::cmp::Ordering;
@@ -35,6 +36,9 @@ fn label_cmp(a: Label<'_>, b: Label<'_>, case: Case) -> Ordering
 pub fn labels_cmp<A: Labels, B: Labels>(name: &A, other: &B) -> Ordering
     ensures { result ≡ name_cmp (A.labels name.now) (B.labels other.now) }
 {
+    if let (Some(run), Some(others)) = (name.label_row(), other.label_row()) {
+        return runs_cmp(run, others);
+    }
     let (count, other_count) = (name.label_count(), other.label_count());
     let mut left = labels_counted(name, count.saturating_sub(other_count), count);
     let mut right = labels_counted(other, other_count.saturating_sub(count), other_count);
@@ -43,6 +47,30 @@ pub fn labels_cmp<A: Labels, B: Labels>(name: &A, other: &B) -> Ordering
         order = a.cmp(&b).then(order);
     }
     order.then(count.cmp(&other_count))
+}
+
+/// As `labels_cmp`, of labels in rows. Rows that are equal as they are need no walk.
+fn runs_cmp(run: &[u8], other: &[u8]) -> Ordering
+    requires run { IsRun run.now }
+    requires other { IsRun other.now }
+    ensures { result ≡ name_cmp (labels_in run.now) (labels_in other.now) }
+{
+    if run == other {
+        return Ordering::Equal;
+    }
+    let (count, other_count) = (label_count(run), label_count(other));
+    let mut left = behind(run, count.saturating_sub(other_count));
+    let mut right = behind(other, other_count.saturating_sub(count));
+    let mut order = Ordering::Equal;
+    while let (Some((label, rest)), Some((other_label, other_rest))) = (
+        split_label(left),
+        split_label(right),
+    ) {
+        order = label.cmp(&other_label).then(order);
+        (left, right) = (rest, other_rest);
+    }
+    let counts = count.cmp(&other_count);
+    order.then(counts)
 }
 
 /// Order of the octets of two names in wire form, label by label from the left.

@@ -8,7 +8,7 @@ ghost use Rattle.names_wire.specs.Label.{octets_of};
 ghost use Rattle.names_labels.specs.Compare.{begins_with};
 ghost use Rattle.names_labels.specs.Walking.{StandsAt};
 
-use crate::flat::{behind, split_label};
+use crate::flat::{behind, runs_eq, split_label};
 use names_wire::label::Label;
 use std::marker::Model;
 
@@ -107,6 +107,9 @@ fn agrees<A: Labels, B: Labels>(labels: LabelIter<'_, A>, wanted: LabelIter<'_, 
 pub fn labels_eq<A: Labels, B: Labels>(name: &A, other: &B) -> bool
     ensures { result ≡ same (A.labels name.now) (B.labels other.now) }
 {
+    if let (Some(run), Some(others)) = (name.label_row(), other.label_row()) {
+        return runs_eq(run, others);
+    }
     let count = name.label_count();
     count == other.label_count()
         && agrees(
@@ -173,6 +176,41 @@ pub trait Absolute: ToLabelIter {
 /// Labels that do not end with the root's: at most 254 octets in wire form.
 pub trait Relative: ToLabelIter {
     ghost unrooted: { (n : Self) → Self.labels n ≡ Self.name n };
+}
+
+/// A borrowed name.
+impl<N: Labels> Labels for &N {
+    ghost labels = { λ n. N.labels n.now };
+
+    ghost name = { λ n. N.name n.now };
+
+    ghost reaches = { λ n. N.reaches n.now };
+
+    fn label_count(&self) -> usize {
+        (**self).label_count()
+    }
+
+    fn label_at(&self, index: usize) -> Option<Label<'_>> {
+        (**self).label_at(index)
+    }
+
+    fn label_place(&self, index: usize) -> usize {
+        (**self).label_place(index)
+    }
+
+    fn label_onward(&self, place: usize, index: usize) -> Option<(Label<'_>, usize)> {
+        (**self).label_onward(place, index)
+    }
+
+    fn label_row(&self) -> Option<&[u8]> {
+        (**self).label_row()
+    }
+}
+
+impl<N: ToLabelIter> ToLabelIter for &N {}
+
+impl<N: Absolute> Absolute for &N {
+    ghost rooted = { λ n. N.rooted n.now };
 }
 
 /// The labels of a name, from both ends. It takes no memory.

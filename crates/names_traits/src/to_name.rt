@@ -115,3 +115,6 @@ pub trait ToName: Absolute {
 }
 
 impl<Octs: Octets> ToName for Name<Octs> {}
+
+/// A borrowed name.
+impl<N: ToName> ToName for &N {}

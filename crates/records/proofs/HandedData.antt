@@ -6,10 +6,10 @@ use Rattle.definitions.specs.Name.{IsName}
 use Rattle.records.specs.Handed.{IsHanded, SpellsNs, SpellsSoa}
 use Rattle.records.specs.Rdata.{HasNames, canonical_of, rtype_of, soa_numbers, written_of}
 use Rattle.records.specs.HandedRr.{handed_of, is_unknown}
-use Rattle.records.specs.declared.plain.record.Record.{Record}
-use Rattle.records.specs.declared.plain.record.Soa.{Soa}
-use Rattle.records.specs.declared.plain.record.ZoneRecordData.{ZoneRecordData}
-use Rattle.records.specs.declared.plain.record.ZoneRecordData.TheVariants.{Soa as SoaData, Ns as NsData, Unknown}
+use Rattle.records.specs.declared.record.Record.{Record}
+use Rattle.records.specs.declared.record.Soa.{Soa}
+use Rattle.records.specs.declared.record.ZoneRecordData.{ZoneRecordData}
+use Rattle.records.specs.declared.record.ZoneRecordData.TheVariants.{Soa as SoaData, Ns as NsData, Unknown}
 
 five_numbers : (s : Soa) → length (soa_numbers s) ≡ 20
 unfolding soa_numbers

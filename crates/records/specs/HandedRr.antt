@@ -3,9 +3,9 @@ use Rattle.std.specs.Prelude.{ℕ, Bool, true, false, ◌&&◌, ◌||◌, ◌==�
 use Rattle.std.specs.List.{list_any}
 use Rattle.std.specs.Str.{bytes_eq}
 use Rattle.definitions.specs.Name.{Name}
-use Rattle.records.specs.declared.plain.record.Record.{Record}
-use Rattle.records.specs.declared.plain.record.ZoneRecordData.{ZoneRecordData}
-use Rattle.records.specs.declared.plain.record.ZoneRecordData.TheVariants.{Unknown}
+use Rattle.records.specs.declared.record.Record.{Record}
+use Rattle.records.specs.declared.record.ZoneRecordData.{ZoneRecordData}
+use Rattle.records.specs.declared.record.ZoneRecordData.TheVariants.{Unknown}
 use Rattle.records.specs.Rdata.{rtype_of, written_of, canonical_of}
 
 -- a record as handed in: its data as spelled and in canonical form, and whether they are of an unknown type

@@ -2,9 +2,9 @@
 use Rattle.std.specs.Prelude.{ℕ, List, ◌++◌}
 use Rattle.std.specs.Int.{w32, to_be_bytes}
 use Rattle.definitions.specs.Name.{IsName, wire, low}
-use Rattle.records.specs.declared.plain.record.Soa.{Soa}
-use Rattle.records.specs.declared.plain.record.ZoneRecordData.{ZoneRecordData}
-use Rattle.records.specs.declared.plain.record.ZoneRecordData.TheVariants.{Soa as SoaData, Ns as NsData, Unknown}
+use Rattle.records.specs.declared.record.Soa.{Soa}
+use Rattle.records.specs.declared.record.ZoneRecordData.{ZoneRecordData}
+use Rattle.records.specs.declared.record.ZoneRecordData.TheVariants.{Soa as SoaData, Ns as NsData, Unknown}
 
 abbrev pub rtype_of : ZoneRecordData → ℕ
 rtype_of (SoaData s) = 6

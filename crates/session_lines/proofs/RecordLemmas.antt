@@ -9,8 +9,8 @@ use Rattle.std.proofs.lemmas.List.{drop-drop, take-append-drop}
 use Rattle.definitions.specs.Name.{Name, wire, low}
 use Rattle.records.specs.Message.{owner_at}
 use Rattle.records.specs.Rdata.{soa_numbers}
-use Rattle.records.specs.declared.plain.record.Soa.{Soa}
-use Rattle.records.specs.declared.plain.record.ZoneRecordData.TheVariants.{Soa as SoaData}
+use Rattle.records.specs.declared.record.Soa.{Soa}
+use Rattle.records.specs.declared.record.ZoneRecordData.TheVariants.{Soa as SoaData}
 use Rattle.session_lines.specs.Fields.{hex_field}
 use Rattle.session_lines.specs.Grammar.{◌>>=◌, DataField, name_field, number_field, data_octets, soa_octets, soa_field, record_fields}
 use Rattle.session_lines.specs.Numbers.{number_of}

@@ -14,8 +14,8 @@ use Rattle.session_lines.specs.declared.session.SessionError.TheVariants as sess
 use Rattle.session_lines.specs.declared.zone.Zone.{Zone}
 use Rattle.records.specs.Rdata.{written_of, canonical_of}
 use Rattle.records.specs.HandedRr.{handed_of, is_unknown}
-use Rattle.records.specs.declared.plain.record.Record.{Record}
-use Rattle.records.specs.declared.plain.record.ZoneRecordData.{ZoneRecordData}
+use Rattle.records.specs.declared.record.Record.{Record}
+use Rattle.records.specs.declared.record.ZoneRecordData.{ZoneRecordData}
 use Rattle.session_lines.specs.Grammar.{ZoneLine, ActLine, EventLine, DataField, KeyCall, ShowDs, ShowDnskey, Ask, Judge, JudgeBytes}
 use Rattle.session_lines.specs.Sessions.{Lines, session_of}
 

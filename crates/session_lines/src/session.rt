@@ -11,7 +11,7 @@ use crate::lines::Lines;
 use crate::zone::Zone;
 use crate::zone_lines::{read_record, read_zone};
 use answer::event::Event;
-use answer::plain::record::Record;
+use answer::record::Record;
 use std::alloc::{AllocError, Global};
 use thiserror::Error;
 

@@ -11,9 +11,10 @@ use crate::line_error::LineError;
 use crate::numbers::{number_u16, number_u32};
 use crate::zone::Zone;
 use answer::names::ParsedName;
-use answer::plain::record::{Ns, Record, Soa, UnknownRecordData, ZoneRecordData};
-use answer::plain::{Class, Rtype, Ttl};
+use answer::plain::Rtype;
+use answer::plain::numbers::{Class, Ttl};
 use answer::publisher::fault::Mode;
+use answer::record::{Ns, Record, Soa, UnknownRecordData, ZoneRecordData};
 use std::alloc::Global;
 
 /// The longest life of a signature, in seconds: serial numbers compare up to here (RFC 4034, 3.1.5).

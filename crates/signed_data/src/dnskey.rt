@@ -2,8 +2,8 @@
 ghost use Rattle.std.specs.Prelude.{◌≡◌, ◌+◌, ◌-◌, ◌*◌, ◌%◌, ◌++◌, ◌↔◌, IfOk, OnOk, IsTrue, bit_and, if◌then◌else◌, length, nat_lt, slice_index};
 ghost use Rattle.definitions.specs.Dnskey.{digested, rsamd5_tag, dnskey_data, dnskey_of_data, key_tag, same_key, sum16, tag_of_sum};
 
+use plain::numbers::SecurityAlgorithm;
 use records::names::{Name, Octets};
-use records::plain::SecurityAlgorithm;
 use std::alloc::{AllocError, Global};
 use std::marker::Model;
 

@@ -1,8 +1,8 @@
 //! Digests of delegated keys (RFC 4034, 5).
 ghost use Rattle.std.specs.Prelude.{◌≡◌};
 
+use plain::numbers::{DigestAlgorithm, SecurityAlgorithm};
 use records::names::Octets;
-use records::plain::{DigestAlgorithm, SecurityAlgorithm};
 use std::marker::Model;
 
 /// The data of a DS record. A contract sees tag, algorithm, digest type and digest.

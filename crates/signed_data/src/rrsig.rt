@@ -3,8 +3,9 @@ ghost use Rattle.std.specs.Prelude.{◌≡◌, ◌++◌, OnOk};
 ghost use Rattle.definitions.specs.Signing.{fields_data};
 ghost use Rattle.signed_data.specs.Rrsig.{covered_octets, fields_numbers, spelled_fields, times_octets};
 
+use names_data::rtype::Rtype;
+use plain::numbers::{SecurityAlgorithm, Ttl};
 use records::names::Name;
-use records::plain::{Rtype, SecurityAlgorithm, Ttl};
 use std::alloc::AllocError;
 use std::marker::Model;
 

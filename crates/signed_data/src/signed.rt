@@ -6,8 +6,8 @@ ghost use Rattle.definitions.specs.Signing.{signed_octets, signed_owner};
 ghost use Rattle.signed_data.specs.Rrsig.{record_head, with_length};
 
 use crate::rrsig::ProtoRrsig;
+use plain::numbers::Class;
 use records::names::Name;
-use records::plain::Class;
 use std::alloc::{AllocError, Global};
 
 /// The octets that a signature of an RRset is made over: the fields, then the records in the order given

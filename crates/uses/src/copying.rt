@@ -1,7 +1,7 @@
 //! A stand-in for signatures and digests, which protects nothing: a signature is a copy of what it is made over.
 use answer::denial::dnskey::Dnskey;
 use answer::denial::hasher::{HashError, Nsec3Hasher};
-use answer::plain::DigestAlgorithm;
+use answer::plain::numbers::DigestAlgorithm;
 use answer::scheme::{Scheme, SchemeError};
 use std::alloc::Global;
 

@@ -8,7 +8,8 @@ use crate::copying::Copying;
 use crate::zone::{moment, name, published};
 use answer::judge::by_scheme::judge_with;
 use answer::judge::verdict::{Judgement, Refused, Verdict};
-use answer::plain::{Class, Rtype};
+use answer::plain::Rtype;
+use answer::plain::numbers::Class;
 use answer::question::Question;
 
 /// Asks a zone for two names, and prints what its answers prove.

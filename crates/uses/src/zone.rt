@@ -1,10 +1,11 @@
 //! The zone that is asked: its records, and keys that have rolled in.
 use crate::copying::Copying;
 use answer::names::Name;
-use answer::plain::record::{Record, Soa, UnknownRecordData, ZoneRecordData};
-use answer::plain::{Class, Rtype, SecurityAlgorithm, Ttl};
+use answer::plain::Rtype;
+use answer::plain::numbers::{Class, SecurityAlgorithm, Ttl};
 use answer::publisher::fault::Mode;
 use answer::publisher::publishing::Publisher;
+use answer::record::{Record, Soa, UnknownRecordData, ZoneRecordData};
 use keyset::{Available, RollType, UnixTime};
 use std::alloc::Global;
 use std::time::Duration;

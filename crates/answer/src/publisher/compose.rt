@@ -14,9 +14,10 @@ use crate::publisher::signing::{SignatureTerms, sign_group};
 use answer_judge::scheme::{Scheme, SchemeError};
 use answer_zone::group::RrGroup;
 use messages::question::Question;
+use names_data::rtype::Rtype;
+use plain::numbers::{Class, Ttl};
 use records::message::write::{push_header, push_question, push_record};
 use records::names::{Name, Octets};
-use records::plain::{Class, Rtype, Ttl};
 use signed_data::dnskey::Dnskey;
 use std::alloc::{AllocError, Global};
 

@@ -17,8 +17,8 @@ ghost use Rattle.answer.specs.NewKeys.{added_tag, added_to, AddsBound, Foretells
 use crate::publisher::fault::KeyFault;
 use keyset::set::KeySet;
 use keyset::{Action, Available, Error, KeyType, RollType, UnixTime};
+use plain::numbers::{DigestAlgorithm, SecurityAlgorithm};
 use records::names::Name;
-use records::plain::{DigestAlgorithm, SecurityAlgorithm};
 use signed_data::dnskey::Dnskey;
 use signed_data::ds::Ds;
 use signed_data::ranked::{put_data, put_ranked};

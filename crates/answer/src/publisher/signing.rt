@@ -10,8 +10,8 @@ ghost use Rattle.answer_judge.specs.declared.scheme.SchemeError.TheVariants as e
 
 use answer_judge::scheme::{Scheme, SchemeError};
 use answer_zone::group::RrGroup;
+use plain::numbers::Class;
 use records::names::{Name, Octets};
-use records::plain::Class;
 use signed_data::dnskey::Dnskey;
 use signed_data::rrsig::ProtoRrsig;
 use signed_data::signed::signed_octets;

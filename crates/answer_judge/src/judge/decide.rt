@@ -9,8 +9,8 @@ ghost use Rattle.definitions.specs.Name.{at_or_above};
 
 use crate::judge::verdict::{DataList, Verdict};
 use messages::bitmap::bitmap_has;
+use names_data::rtype::Rtype;
 use records::names::Name;
-use records::plain::Rtype;
 use std::alloc::{AllocError, Global};
 use std::marker::Model;
 

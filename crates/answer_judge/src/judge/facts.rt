@@ -14,8 +14,9 @@ use crate::judge::verdict::DataList;
 use crate::scheme::Checks;
 use messages::ViewRecord;
 use messages::rdata::NsecView;
+use names_data::rtype::Rtype;
+use plain::numbers::Class;
 use records::names::{Name, ParsedName};
-use records::plain::{Class, Rtype};
 use std::alloc::{AllocError, Global};
 
 /// What signatures of an answer verify: the RRset that was asked for, and NSEC records.

@@ -9,8 +9,9 @@ ghost use Rattle.messages.specs.Record.{spelled};
 
 use crate::scheme::{Checks, SchemeError};
 use messages::ViewRecord;
+use names_data::rtype::Rtype;
+use plain::numbers::{Class, SecurityAlgorithm};
 use records::names::Name;
-use records::plain::{Class, Rtype, SecurityAlgorithm};
 use signed_data::dnskey::Dnskey;
 use signed_data::ds::Ds;
 use std::alloc::{AllocError, Global};

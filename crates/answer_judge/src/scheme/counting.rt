@@ -3,7 +3,7 @@ ghost use Rattle.std.specs.Prelude.{◌≡◌, ℕ, ◌<◌};
 
 use crate::scheme::steps::Steps;
 use crate::scheme::{Checks, Scheme, SchemeError};
-use records::plain::DigestAlgorithm;
+use plain::numbers::DigestAlgorithm;
 use signed_data::dnskey::Dnskey;
 use signed_data::hasher::{HashError, Nsec3Hasher};
 use std::alloc::Global;

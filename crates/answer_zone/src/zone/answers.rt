@@ -14,8 +14,8 @@ use crate::fault::Mode;
 use crate::group::RrGroup;
 use crate::zone::ZoneRecords;
 use crate::zone::lookups::{data_among, owner_among};
+use names_data::rtype::Rtype;
 use records::names::Name;
-use records::plain::Rtype;
 use std::alloc::{AllocError, Global};
 
 /// The flags of a response, authoritative (RFC 1035, 4.1.1).

@@ -8,9 +8,10 @@ ghost use Rattle.records.specs.Star.{begins_with_star};
 ghost use Rattle.answer_zone.specs.Accepting.{unlike_ttls};
 
 use crate::group::GroupRecord;
+use names_data::rtype::Rtype;
+use plain::numbers::{Class, Ttl};
 use records::names::Name;
-use records::plain::record::{Record, ZoneRecordData};
-use records::plain::{Class, Rtype, Ttl};
+use records::record::{Record, ZoneRecordData};
 use std::alloc::{AllocError, Global};
 use std::cmp::Ordering;
 use std::marker::Model;

@@ -11,8 +11,8 @@ use crate::group::RrGroup;
 use crate::zone::ZoneRecords;
 use crate::zone::bitmap::write_bitmap;
 use crate::zone::lookups::{chain_ttl_among, types_among};
+use names_data::rtype::Rtype;
 use records::names::Name;
-use records::plain::Rtype;
 use std::alloc::{AllocError, Global};
 use std::cmp::Ordering;
 

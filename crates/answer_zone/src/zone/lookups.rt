@@ -12,8 +12,9 @@ ghost use Rattle.answer_zone.specs.ZoneView.{is_of};
 use crate::group::GroupRecord;
 use crate::zone::ZoneRecords;
 use crate::zone::handed::HandedRecord;
+use names_data::rtype::Rtype;
+use plain::numbers::Ttl;
 use records::names::Name;
-use records::plain::{Rtype, Ttl};
 use std::alloc::{AllocError, Global};
 
 impl ZoneRecords {

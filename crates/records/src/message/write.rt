@@ -4,7 +4,8 @@ ghost use Rattle.std.specs.Int.{w16, w32, to_be_bytes};
 ghost use Rattle.records.specs.Written.{written, header_octets, question_octets, record_octets};
 
 use crate::names::Name;
-use crate::plain::{Class, Rtype, Ttl};
+use names_data::rtype::Rtype;
+use plain::numbers::{Class, Ttl};
 use std::alloc::AllocError;
 
 /// Writes a header at the end: id 0, the flags, one question and how many records the answer and the

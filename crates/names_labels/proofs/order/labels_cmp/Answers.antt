@@ -27,11 +27,11 @@ pub loop-a-preserved : goal.loop-a-preserved
 loop-a-preserved g c =
     let a = g.A.Labels.labels c.args.name.now in
     let b = g.B.Labels.labels c.args.other.now in
-    let l = c.in-Some-Some.ensures.steps in
-    let r = c.in-Some-Some.ensures'.steps in
+    let l = c.in-Some-Some-2.ensures.steps in
+    let r = c.in-Some-Some-2.ensures'.steps in
     let even : length c.next.new.self ≡ length c.next-in-loop-a.new.self = omega (arith, c.loop-a.invariant.even, ap length l, ap length r) in
     record {
-      tied = next_then (name_cmp a b) (nat_cmp (length a) (length b)) c.then-order.result c.cmp.result c.loop-a.order (octets_of c.in-Some-Some.a) (octets_of c.in-Some-Some.b) c.next.new.self c.next-in-loop-a.new.self even c.cmp.ensures c.then-order.ensures
+      tied = next_then (name_cmp a b) (nat_cmp (length a) (length b)) c.then-order.result c.cmp.result c.loop-a.order (octets_of c.in-Some-Some-2.a) (octets_of c.in-Some-Some-2.b) c.next.new.self c.next-in-loop-a.new.self even c.cmp.ensures c.then-order.ensures
           (c.loop-a.invariant.tied ∙ (λ t. ordering_then (ordering_then (name_cmp (l t) (r t)) c.loop-a.order) (nat_cmp (length a) (length b))));
       even = even;
       count = c.loop-a.invariant.count;

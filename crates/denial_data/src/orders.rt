@@ -1,0 +1,44 @@
+//! That the canonical orders of DNSSEC data are total, as sorted records ask of theirs. Each is a function that does
+//! nothing, whose contract is the law.
+
+ghost use Rattle.std.specs.Cmp.{IsTotalOrder};
+
+use crate::rrsig::Rrsig;
+use denial_keys::dnskey::Dnskey;
+use denial_keys::ds::Ds;
+use denial_links::nsec::Nsec;
+use denial_links::nsec3::Nsec3;
+use denial_links::nsec3param::Nsec3param;
+use names_data::canonical::CanonicalOrd;
+use names_traits::to_name::ToName;
+use names_wire::octets::Octets;
+
+/// The canonical order of DNSKEY data is total.
+pub fn dnskey_order_is_total<Octs: Octets>()
+    ensures { IsTotalOrder ⟦<Dnskey<Octs> as CanonicalOrd>⟧.canonical }
+{}
+
+/// As of DNSKEY data.
+pub fn ds_order_is_total<Octs: Octets>()
+    ensures { IsTotalOrder ⟦<Ds<Octs> as CanonicalOrd>⟧.canonical }
+{}
+
+/// As of DNSKEY data.
+pub fn rrsig_order_is_total<Octs: Octets, N: ToName>()
+    ensures { IsTotalOrder ⟦<Rrsig<Octs, N> as CanonicalOrd>⟧.canonical }
+{}
+
+/// As of DNSKEY data.
+pub fn nsec_order_is_total<Octs: Octets, N: ToName>()
+    ensures { IsTotalOrder ⟦<Nsec<Octs, N> as CanonicalOrd>⟧.canonical }
+{}
+
+/// As of DNSKEY data.
+pub fn nsec3_order_is_total<Octs: Octets>()
+    ensures { IsTotalOrder ⟦<Nsec3<Octs> as CanonicalOrd>⟧.canonical }
+{}
+
+/// As of DNSKEY data.
+pub fn nsec3param_order_is_total<Octs: Octets>()
+    ensures { IsTotalOrder ⟦<Nsec3param<Octs> as CanonicalOrd>⟧.canonical }
+{}
