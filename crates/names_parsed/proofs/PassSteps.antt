@@ -1,19 +1,26 @@
 -- Passing over names, by what is split off.
-use Rattle.std.proofs.Common.{◌≡◌, ◌⊎◌, inl, inr, ℕ, ◌+◌, ◌-◌, ◌*◌, ◌<◌, ◌≤◌, List, [], ◌∷◌, ◌++◌, length, drop, refl, sym, ap, subst, ◌∙◌, arith, Some, Result, Ok, Err, length-drop, append_assoc}
+use Rattle.std.proofs.Common.{◌≡◌, ◌⊎◌, inl, inr, ℕ, ◌+◌, ◌-◌, ◌*◌, ◌<◌, ◌≤◌, Bool, true, false, cond, List, [], ◌∷◌, ◌++◌, length, take, drop, refl, sym, ap, subst, ◌∙◌, arith, Some, Result, Ok, Err, nat_le, nat_lt, length-drop, append_assoc}
 use Rattle.std.specs.Prelude.{slice_get, slice_range}
 use Rattle.std.proofs.lemmas.List.Sums.{sum_by-append}
 use Rattle.definitions.specs.Name.{Name, Label, wire_len}
-use Rattle.definitions.specs.Reading.{Reads, root, label, pointer}
+use Rattle.std.proofs.lemmas.Bool.{leb-true, leb-false, ltb-true, ltb-false}
+use Rattle.definitions.specs.Reading.{Reads, root, label, pointer, ReadFault, Short, Malformed}
 use Rattle.definitions.proofs.ReadingLaws.{length-range, wire_len-cons, wire_len_some}
-use Rattle.names_wire.specs.Label.{split}
+use Rattle.names_wire.specs.Label.{split, no_length, pointer_to}
 use Rattle.names_wire.specs.declared.label.SplitLabelError.{SplitLabelError}
-use Rattle.names_wire.specs.declared.label.SplitLabelError.TheVariants.{Pointer}
-use Rattle.names_wire.proofs.AlongNames.{Cut, Points, cut_of, points_of, split_label, split_root, split_pointer}
-use Rattle.std.specs.Prelude.{IsOk, OnErr}
+use Rattle.names_wire.specs.declared.label.SplitLabelError.TheVariants.{Pointer, BadType, ShortInput as ShortLabel}
+use Rattle.names_wire.specs.declared.label.LabelTypeError.{LabelTypeError}
+use Rattle.names_wire.specs.declared.label.LabelTypeError.TheVariants.{Undefined, Extended}
+use Rattle.names_wire.proofs.AlongNames.{Cut, Points, cut_of, points_of, at_drop, split_label, split_root, split_pointer}
+use Rattle.std.specs.Prelude.{IsOk, OnErr, IfErr}
 use Rattle.std.proofs.lemmas.Bool.{false≢true}
 use Rattle.names_parser.specs.Reader.{Reader}
-use Rattle.names_parsed.specs.Passing.{Passes, at_root, at_pointer, at_label, CanPass, NothingToSkip}
+use Rattle.names_parser.specs.declared.error.ParseError.{ParseError}
+use Rattle.names_parser.specs.declared.error.ParseError.TheVariants.{ShortInput}
+use Rattle.names_parsed.specs.Passing.{Passes, at_root, at_pointer, at_label, CanPass, NothingToSkip, StopsPassing, Stuck, no_head, half_pointer, part_of_label, other_type, no_room, behind_label}
+use Rattle.names_parsed.specs.Heads.{fault_of}
 use Rattle.names_parsed.proofs.Steps.{same_label, same_rest, not_both}
+use Rattle.names_parsed.proofs.Parsing.{below_not}
 
 -- what is passed over begins with a label, or with none
 pub record FirstLabel (m : List ℕ) (p : ℕ) (n : Name) (b : ℕ) : Type 0 where
@@ -56,12 +63,13 @@ pub record Passed (m : List ℕ) (start place room : ℕ) : Type 0 where
   pub done : Name
   pub onward : (n : Name) (b : ℕ) → Passes m place n b → Passes m start (done ++ n) b
   pub back : (n : Name) (b : ℕ) → Passes m start n b → (rest : Name) × (n ≡ done ++ rest) × Passes m place rest b
+  pub faults : (f : ReadFault) → Stuck m place room f → Stuck m start 255 f
   pub sized : room + wire_len done ≡ 256
   pub roomy : 1 ≤ room
   pub inside : place ≤ length m
 
 pub none_passed : (m : List ℕ) (start : ℕ) → start ≤ length m → Passed m start start 255
-none_passed m start h = record { done = []; onward = λ n b r. r; back = λ n b r. (n, refl, r); sized = omega arith; roomy = omega arith; inside = h }
+none_passed m start h = record { done = []; onward = λ n b r. r; back = λ n b r. (n, refl, r); faults = λ f s. s; sized = omega arith; roomy = omega arith; inside = h }
 
 wire_len-more : (n m : Name) → wire_len (n ++ m) + 1 ≡ wire_len n + wire_len m
 wire_len-more n m = omega (arith, sum_by-append (λ l. length l + 1) n m)
@@ -134,10 +142,79 @@ passes_label m start place room (o ∷ os) rest p s some fits =
           let x = p.back n b r in
           let f = front m place b (o ∷ os) rest x.0 s (omega arith) (begins x.2) in
           (f.0, x.1 ∙ ap (λ k. p.done ++ k) f.1 ∙ sym (append_assoc p.done ((o ∷ os) ∷ []) f.0), f.2);
+      faults = λ f s.
+          let P : ℕ → Type 0 = λ q. Stuck m q (room - (length (o ∷ os) + 1)) f in
+          p.faults f (behind_label c.head (omega arith) c.short c.inside fits (subst P here s));
       sized = omega (arith, p.sized, wire_len-more p.done ((o ∷ os) ∷ []), fits);
       roomy = omega (arith, fits);
       inside = omega (arith, here, c.inside);
     }
+
+-- ---- why nothing is passed over
+
+abbrev Found : Type 0
+Found = Result (List ℕ × List ℕ) SplitLabelError
+
+-- a head and what stands behind it, where it is known whether it is a length and whether so many octets are there
+abbrev found : ℕ → List ℕ → Bool → Bool → Found
+found n bs short fits = cond short (cond fits (Ok (take n bs, drop n bs)) (Err ShortLabel)) (Err (no_length n bs))
+
+-- and where it is no length
+abbrev unlike : ℕ → List ℕ → Bool → Bool → Found
+unlike n bs extended undefined = Err (cond extended (BadType (Extended n)) (cond undefined (BadType Undefined) (pointer_to n bs)))
+
+pub short_at : (m : List ℕ) (place room : ℕ) → split (drop place m) ≡ Err ShortLabel → Stuck m place room Short
+short_at m p room h = go (drop p m) refl h
+  where
+    pointed : (n : ℕ) (bs xs : List ℕ) → drop p m ≡ n ∷ bs → 192 ≤ n → bs ≡ xs → (let e : Found = Err (pointer_to n xs) in e) ≡ Err ShortLabel → Stuck m p room Short
+    pointed n bs [] e large f k =
+        let there = at_drop m p n bs e in
+        half_pointer there.0 large (omega (arith, ap length f, ap length there.1, length-drop (p + 1) m))
+    pointed n bs (low ∷ xs) e large f k = cc
+
+    typed : (n : ℕ) (bs : List ℕ) (s t : Bool) → drop p m ≡ n ∷ bs → nat_lt n 192 ≡ t → unlike n bs s t ≡ Err ShortLabel → Stuck m p room Short
+    typed n bs true t e g k = cc
+    typed n bs false true e g k = cc
+    typed n bs false false e g k = pointed n bs bs e (ltb-false n 192 g) refl k
+
+    known : (n : ℕ) (bs : List ℕ) (s t : Bool) → drop p m ≡ n ∷ bs → nat_le n 63 ≡ s → nat_le n (length bs) ≡ t → found n bs s t ≡ Err ShortLabel → Stuck m p room Short
+    known n bs true true e f g k = cc
+    known n bs true false e f g k =
+        let there = at_drop m p n bs e in
+        part_of_label there.0 (leb-true n 63 f) (omega (arith, leb-false n (length bs) g, ap length there.1, length-drop (p + 1) m))
+    known n bs false t e f g k = typed n bs (nat_lt n 128) (nat_lt n 192) e refl k
+
+    go : (xs : List ℕ) → drop p m ≡ xs → split xs ≡ Err ShortLabel → Stuck m p room Short
+    go [] e k = no_head (omega (arith, ap length e, length-drop p m))
+    go (n ∷ bs) e k = known n bs (nat_le n 63) (nat_le n (length bs)) e refl refl k
+
+pub malformed_at : (m : List ℕ) (place room : ℕ) (t : LabelTypeError) → split (drop place m) ≡ Err (BadType t) → Stuck m place room Malformed
+malformed_at m p room w h = go (drop p m) refl h
+  where
+    pointed : (n : ℕ) (xs : List ℕ) → (let e : Found = Err (pointer_to n xs) in e) ≡ Err (BadType w) → Stuck m p room Malformed
+    pointed n [] k = cc
+    pointed n (low ∷ xs) k = cc
+
+    typed : (n : ℕ) (bs : List ℕ) (s t : Bool) → drop p m ≡ n ∷ bs → 63 < n → nat_lt n 128 ≡ s → nat_lt n 192 ≡ t → unlike n bs s t ≡ Err (BadType w) → Stuck m p room Malformed
+    typed n bs true t e large f g k = other_type (at_drop m p n bs e).0 large (omega (arith, ltb-true n 128 f))
+    typed n bs false true e large f g k = other_type (at_drop m p n bs e).0 large (ltb-true n 192 g)
+    typed n bs false false e large f g k = pointed n bs k
+
+    known : (n : ℕ) (bs : List ℕ) (s t : Bool) → drop p m ≡ n ∷ bs → nat_le n 63 ≡ s → found n bs s t ≡ Err (BadType w) → Stuck m p room Malformed
+    known n bs true true e f k = cc
+    known n bs true false e f k = cc
+    known n bs false t e f k = typed n bs (nat_lt n 128) (nat_lt n 192) e (omega (arith, leb-false n 63 f)) refl refl k
+
+    go : (xs : List ℕ) → drop p m ≡ xs → split xs ≡ Err (BadType w) → Stuck m p room Malformed
+    go [] e k = cc
+    go (n ∷ bs) e k = known n bs (nat_le n 63) (nat_le n (length bs)) e refl k
+
+-- a label that leaves no room
+pub no_room_behind : (m : List ℕ) (place room : ℕ) (l rest : List ℕ) → split (drop place m) ≡ Ok (l, rest) → (l ≡ [] → ⊥) → room < length l + 2 → Stuck m place room Malformed
+no_room_behind m p room [] rest s some full = absurd (some refl)
+no_room_behind m p room (o ∷ os) rest s some full =
+    let c : Cut m p (o ∷ os) rest = cut_of m p (o ∷ os) rest s in
+    no_room c.head (omega arith) c.short c.inside full
 
 -- ---- a name that is read can be passed over, and both end at the same place
 
@@ -185,3 +262,13 @@ past_the_end r m p b e f c far b' d le =
 pub refused_or : {A E : Type 0} (r : Result A E) (P : Type 0) → ((IsOk r → ⊥) → P) → OnErr r P
 refused_or (Ok x) P h = tt
 refused_or (Err e) P h = h (λ k. false≢true k)
+
+pub stops_at : (r : Reader) (m : List ℕ) (p : ℕ) (e : ParseError) → m ≡ r.octets → p ≡ r.place → Stuck m p 255 (fault_of e) → StopsPassing r e
+stops_at r m p e f g s = inl (subst (λ q. Stuck r.octets q 255 (fault_of e)) g (subst (λ o. Stuck o p 255 (fault_of e)) f s))
+
+-- where what is passed over ends past the reader's end
+pub ends_past : {A : Type 0} (r : Reader) (m : List ℕ) (p b : ℕ) (x : Result A ParseError) → m ≡ r.octets → p ≡ r.place → CanPass m p b → (b ≤ r.end → IsOk x) → IfErr x (λ e. e ≡ ShortInput) → IfErr x (StopsPassing r)
+ends_past r m p b (Ok x) e f c within h = tt
+ends_past r m p b (Err x) e f c within h =
+    let there : CanPass r.octets r.place b = subst (λ q. CanPass r.octets q b) f (subst (λ o. CanPass o p b) e c) in
+    inr (b, there, below_not (λ le. false≢true (within le)), h)

@@ -1,7 +1,11 @@
 -- What is passed over where a name is skipped (RFC 1035, 4.1.4).
-use Rattle.std.specs.Prelude.{◌≡◌, ℕ, ◌+◌, ◌<◌, ◌≤◌, List, [], ◌∷◌, length, Some, slice_get, slice_range}
+use Rattle.std.specs.Prelude.{◌≡◌, ◌⊎◌, ℕ, ◌+◌, ◌-◌, ◌<◌, ◌≤◌, List, [], ◌∷◌, length, Some, slice_get, slice_range}
 use Rattle.definitions.specs.Name.{Name, Label, wire_len}
+use Rattle.definitions.specs.Reading.{ReadFault, Short, Malformed}
 use Rattle.names_parser.specs.Reader.{Reader}
+use Rattle.names_parser.specs.declared.error.ParseError.{ParseError}
+use Rattle.names_parser.specs.declared.error.ParseError.TheVariants.{ShortInput}
+use Rattle.names_parsed.specs.Heads.{fault_of}
 
 -- Labels up to a root octet, or up to a pointer, wherever that leads; and the place behind.
 pub data Passes (m : List ℕ) : ℕ → Name → ℕ → Type 0 where
@@ -24,3 +28,19 @@ pub record Skips (old new : Reader) : Type 0 where
 -- there is nothing to pass over that ends by the reader's end
 abbrev pub NothingToSkip : Reader → Type 0
 NothingToSkip r = (b : ℕ) → CanPass r.octets r.place b → b ≤ r.end → ⊥
+
+-- Passing over stops, with room for so many octets, where they end within a head or its label, at a head of another type,
+-- or at a label that leaves no room for the root's octet.
+pub data Stuck (m : List ℕ) : ℕ → ℕ → ReadFault → Type 0 where
+  no_head : {p room : ℕ} → length m ≤ p → Stuck m p room Short
+  half_pointer : {p room high : ℕ} → slice_get m p ≡ Some high → 192 ≤ high → length m ≤ p + 1 → Stuck m p room Short
+  part_of_label : {p room n : ℕ} → slice_get m p ≡ Some n → n ≤ 63 → length m < p + 1 + n → Stuck m p room Short
+  other_type : {p room n : ℕ} → slice_get m p ≡ Some n → 63 < n → n < 192 → Stuck m p room Malformed
+  no_room : {p room n : ℕ} → slice_get m p ≡ Some n → 0 < n → n ≤ 63 → p + 1 + n ≤ length m → room < n + 2 → Stuck m p room Malformed
+  behind_label : {p room n : ℕ} {f : ReadFault} → slice_get m p ≡ Some n → 0 < n → n ≤ 63 → p + 1 + n ≤ length m → n + 2 ≤ room → Stuck m (p + 1 + n) (room - (n + 1)) f → Stuck m p room f
+
+-- there is nothing to pass over, or what there is ends past the reader's end
+abbrev pub StopsPassing : Reader → ParseError → Type 0
+StopsPassing r e =
+    Stuck r.octets r.place 255 (fault_of e)
+    ⊎ ((b : ℕ) × CanPass r.octets r.place b × (r.end < b) × (e ≡ ShortInput))

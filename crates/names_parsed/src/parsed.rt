@@ -5,7 +5,7 @@ ghost use Rattle.definitions.specs.Name.{IsName, at_or_above};
 ghost use Rattle.names_wire.specs.Label.{octets_of};
 ghost use Rattle.names_labels.specs.Compare.{begins_with};
 ghost use Rattle.names_flat.specs.Suffixes.{suffixes};
-ghost use Rattle.names_parsed.specs.Passing.{Skips, NothingToSkip};
+ghost use Rattle.names_parsed.specs.Passing.{Skips, NothingToSkip, StopsPassing};
 ghost use Rattle.names_parsed.specs.Standing.{stands_at, name_from};
 
 use crate::head::walk;
@@ -82,6 +82,7 @@ impl<'a> ParsedName<'a> {
     pub fn skip(parser: &mut Parser<'_>) -> Result<(), ParseError>
         ensures ok { OnOk result (Skips parser.old parser.new) }
         ensures refused { OnErr result (NothingToSkip parser.old) }
+        ensures fault { IfErr result (StopsPassing parser.old) }
         ensures unchanged { OnErr result (parser.new ≡ parser.old) }
     {
         let behind = skip_from(parser.as_slice(), parser.pos())?;

@@ -1,7 +1,8 @@
 //! Passing over names without reading what their pointers lead to.
 
-ghost use Rattle.std.specs.Prelude.{◌≡◌, ◌≤◌, ℕ, MatchResult, length};
-ghost use Rattle.names_parsed.specs.Passing.{CanPass};
+ghost use Rattle.std.specs.Prelude.{◌≡◌, ◌≤◌, ℕ, MatchResult, IfErr, length};
+ghost use Rattle.names_parsed.specs.Heads.{fault_of};
+ghost use Rattle.names_parsed.specs.Passing.{CanPass, Stuck};
 
 use names_parser::error::ParseError;
 use names_wire::label::{LabelTypeError, SplitLabelError};
@@ -10,7 +11,8 @@ use names_wire::labels::label_at;
 /// The place behind a name, up to its root octet or its first pointer, which is not followed.
 pub(crate) fn skip_from(message: &[u8], start: usize) -> Result<usize, ParseError>
     requires { start ≤ length message.now }
-    ensures { MatchResult result (CanPass message.now start) (λ _. (b : ℕ) → CanPass message.now start b → ⊥) }
+    ensures ends { MatchResult result (CanPass message.now start) (λ _. (b : ℕ) → CanPass message.now start b → ⊥) }
+    ensures fault { IfErr result (λ e. Stuck message.now start 255 (fault_of e)) }
 {
     let (mut place, mut room) = (start, 255usize);
     loop {
