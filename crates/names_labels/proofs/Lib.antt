@@ -9,3 +9,4 @@ pub mod Runs
 pub mod Taken
 pub mod Wholes
 pub mod Spans
+pub mod Tails

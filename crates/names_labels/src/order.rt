@@ -6,7 +6,7 @@ ghost use Rattle.std.specs.Cmp.Lexicographic.{slice_cmp};
 ghost use Rattle.names_wire.specs.Label.{octets_of, wire_label};
 ghost use Rattle.definitions.specs.Name.{name_cmp};
 ghost use Rattle.names_labels.specs.Flat.{labels_in, spelled, IsRun};
-ghost use Rattle.names_labels.specs.Order.{in_case};
+ghost use Rattle.names_labels.specs.Order.{in_case, HaveTail};
 
 use crate::flat::{behind, label_count, split_label};
 use crate::traits::{Labels, labels_counted, labels_of};
@@ -49,28 +49,44 @@ pub fn labels_cmp<A: Labels, B: Labels>(name: &A, other: &B) -> Ordering
     order.then(count.cmp(&other_count))
 }
 
-/// As `labels_cmp`, of labels in rows. Rows that are equal as they are need no walk.
+/// As `labels_cmp`, of labels in rows. Where the rest of both is the same, the labels before it decide.
 fn runs_cmp(run: &[u8], other: &[u8]) -> Ordering
     requires run { IsRun run.now }
     requires other { IsRun other.now }
     ensures { result ≡ name_cmp (labels_in run.now) (labels_in other.now) }
 {
-    if run == other {
-        return Ordering::Equal;
-    }
     let (count, other_count) = (label_count(run), label_count(other));
+    let counts = count.cmp(&other_count);
     let mut left = behind(run, count.saturating_sub(other_count));
     let mut right = behind(other, other_count.saturating_sub(count));
-    let mut order = Ordering::Equal;
+    let tail = common_tail(left, right);
     while let (Some((label, rest)), Some((other_label, other_rest))) = (
         split_label(left),
         split_label(right),
     ) {
-        order = label.cmp(&other_label).then(order);
+        if rest.len() == other_rest.len() && rest.len() <= tail {
+            return label.cmp(&other_label).then(counts);
+        }
         (left, right) = (rest, other_rest);
     }
-    let counts = count.cmp(&other_count);
-    order.then(counts)
+    counts
+}
+
+/// How many octets at the end of both are the same, up to ASCII case.
+fn common_tail(octets: &[u8], others: &[u8]) -> usize
+    ensures { HaveTail octets.now others.now result }
+{
+    let (mut left, mut right) = (octets, others);
+    while let (Some((last, front)), Some((other_last, other_front))) = (
+        left.split_last(),
+        right.split_last(),
+    ) {
+        if !last.eq_ignore_ascii_case(other_last) {
+            break;
+        }
+        (left, right) = (front, other_front);
+    }
+    octets.len() - left.len()
 }
 
 /// Order of the octets of two names in wire form, label by label from the left.
