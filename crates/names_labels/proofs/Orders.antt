@@ -121,8 +121,8 @@ fronts_cmp m n i j e f =
     ∙ nat_cmp_is (length m) (length n) (nat_cmp i j) (surplus (nat_cmp i j) i j (length m) (length n) e f (ranked i j (nat_cmp i j) refl))
 
 -- as many labels at the end of both decide, and then the numbers of labels
-pub tails_decide : (m n : Name) (i j : ℕ) → i ≡ length m - length n → j ≡ length n - length m → name_cmp m n ≡ ordering_then (name_cmp (drop i m) (drop j n)) (nat_cmp (length m) (length n))
-tails_decide m n i j e f =
+pub tails_then : (m n : Name) (i j : ℕ) → i ≡ length m - length n → j ≡ length n - length m → name_cmp m n ≡ ordering_then (ordering_then (name_cmp (drop i m) (drop j n)) Equal) (nat_cmp (length m) (length n))
+tails_then m n i j e f =
     let front = from_root (take i m) in
     let other = from_root (take j n) in
     let s : from_root m ≡ from_root (drop i m) ++ front = ap from_root (sym (take-append-drop i m)) ∙ from_root-append (take i m) (drop i m) in
@@ -130,25 +130,37 @@ tails_decide m n i j e f =
     let even : length (from_root (drop i m)) ≡ length (from_root (drop j n)) = length-from_root (drop i m) ∙ omega (arith, length-drop i m, length-drop j n, e, f) ∙ sym (length-from_root (drop j n)) in
     (λ k. slice_cmp (slice_cmp nat_cmp) (s k) (t k))
     ∙ parts_then (slice_cmp nat_cmp) (from_root (drop i m)) (from_root (drop j n)) front other even
-    ∙ ap (ordering_then (name_cmp (drop i m) (drop j n))) (fronts_cmp m n i j e f)
+    ∙ (λ k. ordering_then (sym (then_nothing (name_cmp (drop i m) (drop j n))) k) (fronts_cmp m n i j e f k))
 
-pub tails_then : (m n : Name) (i j : ℕ) → i ≡ length m - length n → j ≡ length n - length m → name_cmp m n ≡ ordering_then (ordering_then (name_cmp (drop i m) (drop j n)) Equal) (nat_cmp (length m) (length n))
-tails_then m n i j e f = tails_decide m n i j e f ∙ ap (λ o. ordering_then o (nat_cmp (length m) (length n))) (sym (then_nothing (name_cmp (drop i m) (drop j n))))
+-- ---- what stands before labels that are the same
 
--- the first labels decide where those behind them are the same
-pub first_decide : (whole count p : Ordering) (a b : Label) (m n : Name) → length m ≡ length n → p ≡ slice_cmp nat_cmp (str_to_ascii_lowercase a) (str_to_ascii_lowercase b) → name_cmp m n ≡ Equal → whole ≡ ordering_then (name_cmp (a ∷ m) (b ∷ n)) count → whole ≡ ordering_then p count
-first_decide whole count p a b m n h d e w =
-    w ∙ ap (λ o. ordering_then o count) (first_then a b m n h ∙ (λ t. ordering_then (e t) (sym d t)))
+-- labels from the root's side
+abbrev pub from_root_cmp : Name → Name → Ordering
+from_root_cmp m n = slice_cmp (slice_cmp nat_cmp) (from_root m) (from_root n)
+
+pub behind_equal : (m n rest other : Name) → length rest ≡ length other → name_cmp rest other ≡ Equal → name_cmp (m ++ rest) (n ++ other) ≡ from_root_cmp m n
+behind_equal m n rest other h e =
+    (λ t. slice_cmp (slice_cmp nat_cmp) (from_root-append m rest t) (from_root-append n other t))
+    ∙ parts_then (slice_cmp nat_cmp) (from_root rest) (from_root other) (from_root m) (from_root n) (length-from_root rest ∙ h ∙ sym (length-from_root other))
+    ∙ ap (λ o. ordering_then o (from_root_cmp m n)) e
 
 unlike_then : (o p : Ordering) → (o ≡ Equal → ⊥) → ordering_then o p ≡ o
 unlike_then Less p h = refl
 unlike_then Equal p h = absurd (h refl)
 unlike_then Greater p h = refl
 
--- and those behind them where they are not
-pub later_decide : (whole count : Ordering) (a b : Label) (m n : Name) → length m ≡ length n → (name_cmp m n ≡ Equal → ⊥) → whole ≡ ordering_then (name_cmp (a ∷ m) (b ∷ n)) count → whole ≡ ordering_then (name_cmp m n) count
-later_decide whole count a b m n h u w =
-    w ∙ ap (λ o. ordering_then o count) (first_then a b m n h ∙ unlike_then (name_cmp m n) (slice_cmp nat_cmp (str_to_ascii_lowercase a) (str_to_ascii_lowercase b)) u)
+-- the last labels decide where they are no equal ones
+pub last_decides : (m n : Name) (a b : Label) → (slice_cmp nat_cmp (str_to_ascii_lowercase a) (str_to_ascii_lowercase b) ≡ Equal → ⊥) → from_root_cmp (m ++ a ∷ []) (n ++ b ∷ []) ≡ slice_cmp nat_cmp (str_to_ascii_lowercase a) (str_to_ascii_lowercase b)
+last_decides m n a b h =
+    (λ t. slice_cmp (slice_cmp nat_cmp) (from_root-append m (a ∷ []) t) (from_root-append n (b ∷ []) t))
+    ∙ unlike_then (slice_cmp nat_cmp (str_to_ascii_lowercase a) (str_to_ascii_lowercase b)) (from_root_cmp m n) h
+
+-- and no labels come first
+pub none_before : (n : Name) (b : Label) → from_root_cmp [] (n ++ b ∷ []) ≡ Less
+none_before n b = ap (slice_cmp (slice_cmp nat_cmp) []) (from_root-append n (b ∷ []))
+
+pub some_behind : (m : Name) (a : Label) → from_root_cmp (m ++ a ∷ []) [] ≡ Greater
+some_behind m a = ap (λ x. slice_cmp (slice_cmp nat_cmp) x []) (from_root-append m (a ∷ []))
 
 nat_tied : (m n : ℕ) → is_ne (nat_cmp m n) ≡ false → m ≡ n
 nat_tied m n h = let r : MatchOrdering Equal (m < n) (m ≡ n) (n < m) = subst (λ o. MatchOrdering o (m < n) (m ≡ n) (n < m)) (tied_is (nat_cmp m n) h) (ranked m n (nat_cmp m n) refl) in r

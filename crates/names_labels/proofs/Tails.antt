@@ -1,15 +1,25 @@
 -- What two rows have in common at their ends.
-use Rattle.std.proofs.Common.{◌≡◌, ◌⊎◌, inl, inr, ℕ, ◌+◌, ◌-◌, ◌<◌, ◌≤◌, List, [], ◌∷◌, ◌++◌, length, drop, refl, sym, ap, subst, ◌∙◌, arith, append_assoc, length-append}
-use Rattle.std.specs.Str.{str_to_ascii_lowercase}
+use Rattle.std.proofs.Common.{◌≡◌, ◌⊎◌, inl, inr, ℕ, suc, ◌+◌, ◌-◌, ◌<◌, ◌≤◌, Bool, true, false, ◌&&◌, List, [], ◌∷◌, ◌++◌, length, drop, refl, sym, ap, subst, ◌∙◌, arith, append_assoc, length-append, Option, Some, None}
+use Rattle.std.proofs.Math.ListN.{get_or}
+use Rattle.std.proofs.Math.Seq.{drop-cons}
+use Rattle.std.specs.Str.{bytes_eq, str_to_ascii_lowercase}
 use Rattle.std.specs.Char.{to_ascii_lowercase}
+use Rattle.std.specs.Option.{option_cmp}
+use Rattle.std.specs.Ordering.{nat_cmp, ordering_then}
+use Rattle.std.specs.Cmp.Lexicographic.{slice_cmp}
+use Rattle.std.specs.declared.cmp.Ordering.{Ordering}
 use Rattle.std.specs.declared.cmp.Ordering.TheVariants.{Equal}
 use Rattle.std.proofs.lemmas.Bool.{cases_lt}
-use Rattle.std.proofs.lemmas.List.{drop_at, drop-drop, drop-map, length-map, append-nil}
-use Rattle.definitions.specs.Name.{Label, name_cmp}
+use Rattle.std.proofs.lemmas.List.{drop_at, drop-drop, drop-map, length-map}
+use Rattle.definitions.specs.Name.{Name, Label, same, name_cmp}
 use Rattle.definitions.proofs.NameLaws.{equal_is_same, same_is_equal}
+use Rattle.names_wire.specs.Label.{octets_of}
+use Rattle.names_wire.specs.declared.label.Label.{Label as LabelOf}
 use Rattle.names_labels.specs.Flat.{spelled, labels_in, IsRun, SplitsLabel}
 use Rattle.names_labels.specs.Order.{SameEnds, HaveTail}
+use Rattle.names_labels.proofs.Compares.{same_length}
 use Rattle.names_labels.proofs.Lowered.{lowered_same, same_lowered}
+use Rattle.names_labels.proofs.Orders.{from_root_cmp, behind_equal, last_decides, none_before, some_behind}
 
 -- octets and what stands before them
 abbrev pub Behind : List ℕ → List ℕ → Type 0
@@ -56,98 +66,201 @@ same_ends a b end other p q e h = (
   ap str_to_ascii_lowercase (end_is a end p) ∙ h ∙ ap str_to_ascii_lowercase (sym (end_is b other q)) ∙ ap (λ n. str_to_ascii_lowercase (drop (length b - n) b)) (sym e),
 )
 
--- ---- a walk over both rows, from where they have as many labels
+-- ---- octets that are the same, one by one from the end
 
-pub record Walking (left right : List ℕ) (tail : ℕ) : Type 0 where
-  pub whole : List ℕ
-  pub other : List ℕ
-  pub ends : HaveTail whole other tail
-  pub here : Behind whole left
-  pub there : Behind other right
-  pub run : IsRun left
-  pub others : IsRun right
-  pub even : length (labels_in left) ≡ length (labels_in right)
+one_before : (xs : List ℕ) (count : ℕ) → count < length xs → drop (length xs - (count + 1)) xs ≡ get_or xs (length xs - 1 - count) 0 ∷ drop (length xs - count) xs
+one_before xs count h =
+    let k : length xs - (count + 1) ≡ length xs - 1 - count = omega (arith, h) in
+    let next : suc (length xs - 1 - count) ≡ length xs - count = omega (arith, h) in
+    ap (λ n. drop n xs) k
+    ∙ drop-cons xs (length xs - 1 - count) 0 (omega (arith, h))
+    ∙ ap (λ n. get_or xs (length xs - 1 - count) 0 ∷ drop n xs) next
 
-pub walk_begins : (left right : List ℕ) (tail : ℕ) → HaveTail left right tail → IsRun left → IsRun right → length (labels_in left) ≡ length (labels_in right) → Walking left right tail
-walk_begins left right tail h r s e =
-    record { whole = left; other = right; ends = h; here = ([], refl); there = ([], refl); run = r; others = s; even = e }
+pub one_more : (a b : List ℕ) (count : ℕ) → SameEnds a b count → count < length a → count < length b → to_ascii_lowercase (get_or a (length a - 1 - count) 0) ≡ to_ascii_lowercase (get_or b (length b - 1 - count) 0) → SameEnds a b (count + 1)
+one_more a b count s h k e = (
+  omega (arith, h),
+  omega (arith, k),
+  ap str_to_ascii_lowercase (one_before a count h) ∙ (λ i. e i ∷ s.2 i) ∙ ap str_to_ascii_lowercase (sym (one_before b count k)),
+)
 
-pub walk_goes_on : (left right rest others : List ℕ) (a b : Label) (tail : ℕ) → Walking left right tail → SplitsLabel left a rest → SplitsLabel right b others → Walking rest others tail
-walk_goes_on left right rest others a b tail w s t =
-    record {
-      whole = w.whole;
-      other = w.other;
-      ends = w.ends;
-      here = label_behind w.whole left rest a w.here w.run s;
-      there = label_behind w.other right others b w.there w.others t;
-      run = s.behind;
-      others = t.behind;
-      even = omega (arith, w.even, ap length s.first, ap length t.first);
-    }
-
-pub rests_equal : (left right : List ℕ) (tail : ℕ) → Walking left right tail → length left ≡ length right → length left ≤ tail → name_cmp (labels_in left) (labels_in right) ≡ Equal
-rests_equal left right tail w e h =
-    same_is_equal (labels_in left) (labels_in right)
-    (lowered_same left right w.run w.others
-    (ends_are_same w.whole w.other left right w.here w.there e (fewer w.whole w.other tail (length left) w.ends.same h)))
-
-pub rests_differ : (left right : List ℕ) (tail : ℕ) → Walking left right tail → (length left ≡ length right → length left ≤ tail → ⊥) → name_cmp (labels_in left) (labels_in right) ≡ Equal → ⊥
-rests_differ left right tail w other e =
-    let same_octets : str_to_ascii_lowercase left ≡ str_to_ascii_lowercase right = same_lowered left right w.run w.others (equal_is_same (labels_in left) (labels_in right) e) in
-    let even : length left ≡ length right = sym (length-map left to_ascii_lowercase) ∙ ap length same_octets ∙ length-map right to_ascii_lowercase in
-    other even (w.ends.most (length left) (same_ends w.whole w.other left right w.here w.there even same_octets))
-
--- ---- octets passed from the end on
-
-pub record Passed (a b left right : List ℕ) : Type 0 where
-  pub tail : List ℕ
-  pub other : List ℕ
-  pub whole : a ≡ left ++ tail
-  pub whole_other : b ≡ right ++ other
-  pub same : str_to_ascii_lowercase tail ≡ str_to_ascii_lowercase other
-
-pub none_passed : (a b : List ℕ) → Passed a b a b
-none_passed a b = record { tail = []; other = []; whole = sym (append-nil a); whole_other = sym (append-nil b); same = refl }
-
-moved : (a left front tail : List ℕ) (last : ℕ) → a ≡ left ++ tail → left ≡ front ++ last ∷ [] → a ≡ front ++ last ∷ tail
-moved a left front tail last h e = h ∙ ap (λ x. x ++ tail) e ∙ append_assoc front (last ∷ []) tail
-
-pub one_passed : (a b left right front other_front : List ℕ) (last other_last : ℕ) → Passed a b left right → left ≡ front ++ last ∷ [] → right ≡ other_front ++ other_last ∷ [] → to_ascii_lowercase last ≡ to_ascii_lowercase other_last → Passed a b front other_front
-one_passed a b left right front other_front last other_last p e f h =
-    record {
-      tail = last ∷ p.tail;
-      other = other_last ∷ p.other;
-      whole = moved a left front p.tail last p.whole e;
-      whole_other = moved b right other_front p.other other_last p.whole_other f;
-      same = λ i. h i ∷ p.same i;
-    }
-
-tails_even : (a b left right : List ℕ) → (p : Passed a b left right) → length p.tail ≡ length p.other
-tails_even a b left right p = sym (length-map p.tail to_ascii_lowercase) ∙ ap length p.same ∙ length-map p.other to_ascii_lowercase
-
-passed_is : (a b left right : List ℕ) (count : ℕ) → Passed a b left right → count ≡ length a - length left → ((more : ℕ) → SameEnds a b more → more ≤ count) → HaveTail a b count
-passed_is a b left right count p e most =
-    let k : length p.tail ≡ count = omega (arith, e, ap length p.whole, length-append left p.tail) in
-    let P : ℕ → Type 0 = λ n. SameEnds a b n in
-    record { same = subst P k (same_ends a b p.tail p.other (left, p.whole) (right, p.whole_other) (tails_even a b left right p) p.same); most = most }
-
--- where one of both is passed whole
-pub all_passed : (a b left right : List ℕ) (count : ℕ) → Passed a b left right → count ≡ length a - length left → (length left ≡ 0) ⊎ (length right ≡ 0) → HaveTail a b count
-all_passed a b left right count p e none = passed_is a b left right count p e (λ more h. go none more h)
-  where
-    go : (length left ≡ 0) ⊎ (length right ≡ 0) → (more : ℕ) → SameEnds a b more → more ≤ count
-    go (inl z) more h = omega (arith, z, e, h.0)
-    go (inr z) more h = omega (arith, z, e, h.1, tails_even a b left right p, ap length p.whole, length-append left p.tail, ap length p.whole_other, length-append right p.other)
-
--- where the octets before what is passed differ
-pub others_before : (a b left right front other_front : List ℕ) (last other_last count : ℕ) → Passed a b left right → left ≡ front ++ last ∷ [] → right ≡ other_front ++ other_last ∷ [] → (to_ascii_lowercase last ≡ to_ascii_lowercase other_last → ⊥) → count ≡ length a - length left → HaveTail a b count
-others_before a b left right front other_front last other_last count p e f h k = passed_is a b left right count p k (λ more s. go more s (cases_lt count more))
+pub none_of_more : (a b : List ℕ) (count : ℕ) → SameEnds a b count → count < length a → count < length b → (to_ascii_lowercase (get_or a (length a - 1 - count) 0) ≡ to_ascii_lowercase (get_or b (length b - 1 - count) 0) → ⊥) → HaveTail a b count
+none_of_more a b count s h k other = record { same = s; most = λ more t. go more t (cases_lt count more) }
   where
     go : (more : ℕ) → SameEnds a b more → (count < more) ⊎ (more ≤ count) → more ≤ count
-    go more s (inr x) = x
-    go more s (inl x) =
-        let t : SameEnds a b (length (last ∷ p.tail)) = fewer a b more (length (last ∷ p.tail)) s (omega (arith, x, k, ap length p.whole, length-append left p.tail)) in
-        let even : length (last ∷ p.tail) ≡ length (other_last ∷ p.other) = omega (arith, tails_even a b left right p) in
-        let same_octets = ends_are_same a b (last ∷ p.tail) (other_last ∷ p.other) (front, moved a left front p.tail last p.whole e) (other_front, moved b right other_front p.other other_last p.whole_other f) even t in
-        let first : to_ascii_lowercase last ≡ to_ascii_lowercase other_last = cc in
-        absurd (h first)
+    go more t (inr x) = x
+    go more t (inl x) =
+        let one = fewer a b more (count + 1) t (omega (arith, x)) in
+        let both = ap str_to_ascii_lowercase (sym (one_before a count h)) ∙ one.2 ∙ ap str_to_ascii_lowercase (one_before b count k) in
+        let first : to_ascii_lowercase (get_or a (length a - 1 - count) 0) ≡ to_ascii_lowercase (get_or b (length b - 1 - count) 0) = cc in
+        absurd (other first)
+
+pub whole_of_one : (a b : List ℕ) (count : ℕ) → SameEnds a b count → (length a ≤ count) ⊎ (length b ≤ count) → HaveTail a b count
+whole_of_one a b count s none = record { same = s; most = λ more t. go none more t }
+  where
+    go : (length a ≤ count) ⊎ (length b ≤ count) → (more : ℕ) → SameEnds a b more → more ≤ count
+    go (inl z) more t = omega (arith, z, t.0)
+    go (inr z) more t = omega (arith, z, t.1)
+
+-- ---- a walk over one row: the label that was walked over last, and what stands behind it
+
+pub record Walked (run left : List ℕ) (l : Label) : Type 0 where
+  pub before : Name
+  pub from : List ℕ
+  pub labels : labels_in run ≡ before ++ labels_in from
+  pub here : Behind run from
+  pub row : IsRun from
+  pub splits : SplitsLabel from l left
+
+abbrev pub HasWalked : List ℕ → List ℕ → Option LabelOf → Type 0
+HasWalked run left None = left ≡ run
+HasWalked run left (Some l) = Walked run left (octets_of l)
+
+-- the octets from that label on
+abbrev pub reach : List ℕ → LabelOf → ℕ
+reach left l = length left + (length (octets_of l) + 1)
+
+from_len : (run left : List ℕ) (l : Label) (w : Walked run left l) → length w.from ≡ length left + (length l + 1)
+from_len run left l w =
+    omega (arith, ap length (w.row.whole ∙ ap spelled w.splits.first ∙ ap (λ x. (length l ∷ l) ++ x) (sym w.splits.behind.whole)), length-append l left)
+
+row_here : (run left : List ℕ) (o : Option LabelOf) → IsRun run → HasWalked run left o → IsRun left
+row_here run left None r w = subst IsRun (sym w) r
+row_here run left (Some l) r w = w.splits.behind
+
+behind_here : (run left : List ℕ) (o : Option LabelOf) → HasWalked run left o → Behind run left
+behind_here run left None w = ([], sym w)
+behind_here run left (Some l) w = label_behind run w.from left (octets_of l) w.here w.row w.splits
+
+labels_behind : (run left : List ℕ) (l : Label) (w : Walked run left l) → labels_in run ≡ (w.before ++ l ∷ []) ++ labels_in left
+labels_behind run left l w = w.labels ∙ ap (λ x. w.before ++ x) w.splits.first ∙ sym (append_assoc w.before (l ∷ []) (labels_in left))
+
+labels_here : (run left : List ℕ) (o : Option LabelOf) → HasWalked run left o → (before : Name) × (labels_in run ≡ before ++ labels_in left)
+labels_here run left None w = ([], ap labels_in (sym w))
+labels_here run left (Some l) w = (w.before ++ octets_of l ∷ [], labels_behind run left (octets_of l) w)
+
+pub walks_on : (run left rest : List ℕ) (o : Option LabelOf) (l : LabelOf) → IsRun run → HasWalked run left o → SplitsLabel left (octets_of l) rest → HasWalked run rest (Some l)
+walks_on run left rest o l r w s =
+    let b = labels_here run left o w in
+    record { before = b.0; from = left; labels = b.1; here = behind_here run left o w; row = row_here run left o r w; splits = s }
+
+-- ---- over both, the longer rest first
+
+-- where the label and the rest are within the end that both have in common, what is left of the other is shorter
+abbrev pub IsPassed : List ℕ → Option LabelOf → List ℕ → ℕ → Type 0
+IsPassed left None right tail = Unit {0}
+IsPassed left (Some l) right tail = reach left l ≤ tail → length right < reach left l
+
+abbrev pub IsLonger : List ℕ → Option LabelOf → List ℕ → Type 0
+IsLonger left None right = Unit {0}
+IsLonger left (Some l) right = length right < reach left l
+
+-- both labels begin at unlike places from the end, or before what both have in common
+abbrev pub BeginApart : List ℕ → Option LabelOf → List ℕ → Option LabelOf → ℕ → Type 0
+BeginApart left None right k tail = Unit {0}
+BeginApart left (Some l) right None tail = Unit {0}
+BeginApart left (Some l) right (Some k) tail = reach left l ≡ reach right k → reach left l ≤ tail → ⊥
+
+pub record WalkBoth (run other left right : List ℕ) (l k : Option LabelOf) (tail : ℕ) : Type 0 where
+  pub walked : HasWalked run left l
+  pub others : HasWalked other right k
+  pub passed : IsPassed left l right tail
+  pub longer : IsLonger right k left
+  pub apart : BeginApart left l right k tail
+
+pub walk_begins : (run other : List ℕ) (tail : ℕ) → WalkBoth run other run other None None tail
+walk_begins run other tail = record { walked = refl; others = refl; passed = tt; longer = tt; apart = tt }
+
+pub left_walks : (run other left right rest : List ℕ) (o k : Option LabelOf) (l : LabelOf) (tail : ℕ) → IsRun run → WalkBoth run other left right o k tail → SplitsLabel left (octets_of l) rest → (length left ≡ length right → length left ≤ tail → ⊥) → length right ≤ length left → WalkBoth run other rest right (Some l) k tail
+left_walks run other left right rest o k l tail r w s apart h = go k w.others w.longer
+  where
+    reached : length left ≡ reach rest l
+    reached = omega (arith, ap length ((row_here run left o r w.walked).whole ∙ ap spelled s.first ∙ ap (λ x. (length (octets_of l) ∷ octets_of l) ++ x) (sym s.behind.whole)), length-append (octets_of l) rest)
+
+    past : reach rest l ≤ tail → length right < reach rest l
+    past t = go2 (cases_lt (length right) (length left))
+      where
+        go2 : (length right < length left) ⊎ (length left ≤ length right) → length right < reach rest l
+        go2 (inl x) = omega (arith, x, reached)
+        go2 (inr x) = absurd (apart (omega (arith, x, h)) (omega (arith, reached, t)))
+
+    go : (k : Option LabelOf) → HasWalked other right k → IsLonger right k left → WalkBoth run other rest right (Some l) k tail
+    go None v u = record { walked = walks_on run left rest o l r w.walked s; others = v; passed = past; longer = tt; apart = tt }
+    go (Some m) v u = record {
+      walked = walks_on run left rest o l r w.walked s;
+      others = v;
+      passed = past;
+      longer = omega (arith, u, reached);
+      apart = λ e t. omega (arith, e, u, reached);
+    }
+
+pub right_walks : (run other left right rest : List ℕ) (o k : Option LabelOf) (l : LabelOf) (tail : ℕ) → IsRun other → WalkBoth run other left right o k tail → SplitsLabel right (octets_of l) rest → length left < length right → WalkBoth run other left rest o (Some l) tail
+right_walks run other left right rest o k l tail r w s h = go o w.walked w.passed
+  where
+    reached : length right ≡ reach rest l
+    reached = omega (arith, ap length ((row_here other right k r w.others).whole ∙ ap spelled s.first ∙ ap (λ x. (length (octets_of l) ∷ octets_of l) ++ x) (sym s.behind.whole)), length-append (octets_of l) rest)
+
+    go : (o : Option LabelOf) → HasWalked run left o → IsPassed left o right tail → WalkBoth run other left rest o (Some l) tail
+    go None v u = record { walked = v; others = walks_on other right rest k l r w.others s; passed = tt; longer = omega (arith, h, reached); apart = tt }
+    go (Some m) v u = record {
+      walked = v;
+      others = walks_on other right rest k l r w.others s;
+      passed = λ t. omega (arith, u t, reached);
+      longer = omega (arith, h, reached);
+      apart = λ e t. omega (arith, u t, e, reached);
+    }
+
+-- ---- what decides
+
+rests_equal : (run other left right : List ℕ) (l k : Option LabelOf) (tail : ℕ) → IsRun run → IsRun other → HaveTail run other tail → WalkBoth run other left right l k tail → length left ≡ length right → length left ≤ tail → same (labels_in left) (labels_in right) ≡ true
+rests_equal run other left right l k tail r s t w e h =
+    lowered_same left right (row_here run left l r w.walked) (row_here other right k s w.others)
+    (ends_are_same run other left right (behind_here run left l w.walked) (behind_here other right k w.others) e (fewer run other tail (length left) t.same h))
+
+same_onto : (a b : Label) (m n : Name) → same (a ∷ []) (b ∷ []) ≡ true → same m n ≡ true → same (a ∷ m) (b ∷ n) ≡ true
+same_onto a b m n h e = go (bytes_eq (str_to_ascii_lowercase a) (str_to_ascii_lowercase b)) refl
+  where
+    go : (t : Bool) → bytes_eq (str_to_ascii_lowercase a) (str_to_ascii_lowercase b) ≡ t → same (a ∷ m) (b ∷ n) ≡ true
+    go true k = (λ i. k i && e i)
+    go false k = let x : false ≡ true = sym (ap (λ t. t && true) k) ∙ h in cc
+
+-- labels that begin apart are no equal ones
+labels_differ : (run other left right : List ℕ) (l k : LabelOf) (tail : ℕ) → HaveTail run other tail → (w : Walked run left (octets_of l)) → (v : Walked other right (octets_of k)) → (reach left l ≡ reach right k → reach left l ≤ tail → ⊥) → same (labels_in left) (labels_in right) ≡ true → slice_cmp nat_cmp (str_to_ascii_lowercase (octets_of l)) (str_to_ascii_lowercase (octets_of k)) ≡ Equal → ⊥
+labels_differ run other left right l k tail t w v apart e c =
+    let one : same (octets_of l ∷ []) (octets_of k ∷ []) ≡ true = equal_is_same (octets_of l ∷ []) (octets_of k ∷ []) (ap (λ o. ordering_then o Equal) c) in
+    let both : same (octets_of l ∷ labels_in left) (octets_of k ∷ labels_in right) ≡ true = same_onto (octets_of l) (octets_of k) (labels_in left) (labels_in right) one e in
+    let rows : str_to_ascii_lowercase w.from ≡ str_to_ascii_lowercase v.from = same_lowered w.from v.from w.row v.row ((λ i. same (w.splits.first i) (v.splits.first i)) ∙ both) in
+    let even : length w.from ≡ length v.from = sym (length-map w.from to_ascii_lowercase) ∙ ap length rows ∙ length-map v.from to_ascii_lowercase in
+    apart (omega (arith, even, from_len run left (octets_of l) w, from_len other right (octets_of k) v))
+    (omega (arith, t.most (length w.from) (same_ends run other w.from v.from w.here v.here even rows), from_len run left (octets_of l) w))
+
+abbrev label_order : LabelOf → LabelOf → Ordering
+label_order a b = slice_cmp nat_cmp (str_to_ascii_lowercase (octets_of a)) (str_to_ascii_lowercase (octets_of b))
+
+pub walk_decides : (run other left right : List ℕ) (l k : Option LabelOf) (tail : ℕ) → IsRun run → IsRun other → HaveTail run other tail → WalkBoth run other left right l k tail → length left ≡ length right → length left ≤ tail → option_cmp label_order l k ≡ name_cmp (labels_in run) (labels_in other)
+walk_decides run other left right l k tail r s t w e h = sym (go l k w.walked w.others w.apart)
+  where
+    both : same (labels_in left) (labels_in right) ≡ true
+    both = rests_equal run other left right l k tail r s t w e h
+
+    behind : (m n : Name) → labels_in run ≡ m ++ labels_in left → labels_in other ≡ n ++ labels_in right → name_cmp (labels_in run) (labels_in other) ≡ from_root_cmp m n
+    behind m n f g =
+        (λ i. name_cmp (f i) (g i))
+        ∙ behind_equal m n (labels_in left) (labels_in right) (same_length (labels_in left) (labels_in right) both) (same_is_equal (labels_in left) (labels_in right) both)
+
+    go : (l k : Option LabelOf) → HasWalked run left l → HasWalked other right k → BeginApart left l right k tail → name_cmp (labels_in run) (labels_in other) ≡ option_cmp label_order l k
+    go None None v u a = behind [] [] (ap labels_in (sym v)) (ap labels_in (sym u))
+    go None (Some y) v u a = behind [] (u.before ++ octets_of y ∷ []) (ap labels_in (sym v)) (labels_behind other right (octets_of y) u) ∙ none_before u.before (octets_of y)
+    go (Some x) None v u a = behind (v.before ++ octets_of x ∷ []) [] (labels_behind run left (octets_of x) v) (ap labels_in (sym u)) ∙ some_behind v.before (octets_of x)
+    go (Some x) (Some y) v u a =
+        behind (v.before ++ octets_of x ∷ []) (u.before ++ octets_of y ∷ []) (labels_behind run left (octets_of x) v) (labels_behind other right (octets_of y) u)
+        ∙ last_decides v.before u.before (octets_of x) (octets_of y) (labels_differ run other left right x y tail t v u a both)
+
+-- a row without labels is empty
+pub no_octets : (run : List ℕ) → IsRun run → labels_in run ≡ [] → length run ≡ 0
+no_octets run r e = ap length (r.whole ∙ ap spelled e)
+
+pub left_row : (run other left right : List ℕ) (l k : Option LabelOf) (tail : ℕ) → IsRun run → WalkBoth run other left right l k tail → IsRun left
+left_row run other left right l k tail r w = row_here run left l r w.walked
+
+pub right_row : (run other left right : List ℕ) (l k : Option LabelOf) (tail : ℕ) → IsRun other → WalkBoth run other left right l k tail → IsRun right
+right_row run other left right l k tail r w = row_here other right k r w.others

@@ -49,44 +49,50 @@ pub fn labels_cmp<A: Labels, B: Labels>(name: &A, other: &B) -> Ordering
     order.then(count.cmp(&other_count))
 }
 
-/// As `labels_cmp`, of labels in rows. Where the rest of both is the same, the labels before it decide.
+/// As `labels_cmp`, of labels in rows.
+///
+/// Both rows are walked, the longer rest first, to where the rests are the same. The labels before these decide.
 fn runs_cmp(run: &[u8], other: &[u8]) -> Ordering
     requires run { IsRun run.now }
     requires other { IsRun other.now }
     ensures { result ≡ name_cmp (labels_in run.now) (labels_in other.now) }
 {
-    let (count, other_count) = (label_count(run), label_count(other));
-    let counts = count.cmp(&other_count);
-    let mut left = behind(run, count.saturating_sub(other_count));
-    let mut right = behind(other, other_count.saturating_sub(count));
-    let tail = common_tail(left, right);
-    while let (Some((label, rest)), Some((other_label, other_rest))) = (
-        split_label(left),
-        split_label(right),
-    ) {
-        if rest.len() == other_rest.len() && rest.len() <= tail {
-            return label.cmp(&other_label).then(counts);
+    let tail = common_tail(run, other);
+    let (mut left, mut right) = (run, other);
+    let (mut label, mut other_label) = (None, None);
+    while left.len() != right.len() || left.len() > tail {
+        if left.len() >= right.len() {
+            let Some((first, rest)) = split_label(left) else {
+                break;
+            };
+            (label, left) = (Some(first), rest);
+        } else {
+            let Some((first, rest)) = split_label(right) else {
+                break;
+            };
+            (other_label, right) = (Some(first), rest);
         }
-        (left, right) = (rest, other_rest);
     }
-    counts
+    label.cmp(&other_label)
 }
 
 /// How many octets at the end of both are the same, up to ASCII case.
 fn common_tail(octets: &[u8], others: &[u8]) -> usize
     ensures { HaveTail octets.now others.now result }
 {
-    let (mut left, mut right) = (octets, others);
-    while let (Some((last, front)), Some((other_last, other_front))) = (
-        left.split_last(),
-        right.split_last(),
-    ) {
-        if !last.eq_ignore_ascii_case(other_last) {
+    let most = octets.len().min(others.len());
+    let mut count = 0;
+    while count < most {
+        let (octet, other) = (
+            octets[octets.len() - 1 - count],
+            others[others.len() - 1 - count],
+        );
+        if octet != other && !octet.eq_ignore_ascii_case(&other) {
             break;
         }
-        (left, right) = (front, other_front);
+        count += 1;
     }
-    octets.len() - left.len()
+    count
 }
 
 /// Order of the octets of two names in wire form, label by label from the left.

@@ -1,9 +1,9 @@
-use Rattle.std.proofs.Common.{length}
-use Rattle.names_labels.proofs.Tails.{Passed}
+use Rattle.std.proofs.Common.{◌-◌}
+use Rattle.names_labels.specs.Order.{SameEnds}
 use Rattle.names_labels.proofs.order.common_tail.Given as goal
 
-abbrev pub invariant-loop-last : goal.invariant-loop-last
-invariant-loop-last l = Passed l.octets l.others l.left l.right
+abbrev pub invariant-loop-count : goal.invariant-loop-count
+invariant-loop-count l = SameEnds l.octets l.others l.count
 
-abbrev pub decreases-loop-last : goal.decreases-loop-last
-decreases-loop-last l = length l.left
+abbrev pub decreases-loop-count : goal.decreases-loop-count
+decreases-loop-count l = l.most - l.count

@@ -1,15 +1,9 @@
-use Rattle.std.proofs.Common.{◌≡◌, length}
-use Rattle.std.specs.Ordering.{ordering_then}
-use Rattle.definitions.specs.Name.{name_cmp}
-use Rattle.names_labels.specs.Flat.{labels_in}
-use Rattle.names_labels.proofs.Tails.{Walking}
+use Rattle.std.proofs.Common.{◌+◌, length}
+use Rattle.names_labels.proofs.Tails.{WalkBoth}
 use Rattle.names_labels.proofs.order.runs_cmp.Given as goal
 
-abbrev pub invariant-loop-label : goal.invariant-loop-label
-invariant-loop-label l = record {
-  walk : Walking l.left l.right l.tail;
-  decides : name_cmp (labels_in l.fn.run) (labels_in l.fn.other) ≡ ordering_then (name_cmp (labels_in l.left) (labels_in l.right)) l.counts;
-}
+abbrev pub invariant-loop-left : goal.invariant-loop-left
+invariant-loop-left l = WalkBoth l.fn.run l.fn.other l.left l.right l.label l.other_label l.tail
 
-abbrev pub decreases-loop-label : goal.decreases-loop-label
-decreases-loop-label l = length (labels_in l.left)
+abbrev pub decreases-loop-left : goal.decreases-loop-left
+decreases-loop-left l = length l.left + length l.right
