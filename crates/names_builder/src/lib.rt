@@ -4,6 +4,7 @@
 
 pub mod builder;
 pub mod laws;
+pub mod plain;
 pub mod push_error;
 pub mod reverse;
 mod text;
