@@ -2,7 +2,7 @@
 
 use crate::calls::Calls;
 use crate::keys::{add_ksk, add_zsk, assert_flags, at, key, with_two_keys};
-use keyset::{Action, Available, Error, KeySet, RollState, RollType};
+use keyset::{Action, Available, Error, KeySet, RollState, RollType, UnixTime};
 use plain::numbers::SecurityAlgorithm;
 use records::names::Name;
 use std::alloc::Global;
@@ -337,7 +337,8 @@ fn moments_are_told_apart(rt: HostRuntime) -> Result<(), Fail> {
     assert_eq!(rt; at(3).elapsed(&at(10)), Duration::from_secs(7));
     assert_eq!(rt; at(10).elapsed(&at(3)), Duration::ZERO);
     assert_eq!(rt; at(4_294_967_301).timestamp(), 5);
-    assert_eq!(rt; at(3) + Duration::from_secs(4), at(7));
+    let later = UnixTime::new(Duration::from_secs(3)) + Duration::from_secs(4);
+    assert_eq!(rt; later, at(7));
     assert_eq!(rt; Duration::from(at(9)), Duration::from_secs(9));
     assert!(rt; at(3) < at(4));
     Ok(())

@@ -1,16 +1,12 @@
 //! Keys for tests.
-ghost use Rattle.std.specs.Prelude.{◌*◌, ◌≡◌};
-
-use keyset::{Action, Available, Error, Key, KeySet, KeyType, UnixTime};
+use keyset::{Available, Error, Key, KeySet, KeyType, UnixTime};
 use plain::numbers::SecurityAlgorithm;
 use records::names::Name;
 use std::alloc::Global;
 use std::process::Abort;
 use std::time::Duration;
 
-pub fn at(seconds: u64) -> UnixTime
-    ensures { result ≡ seconds * 1_000_000_000 }
-{
+pub fn at(seconds: u64) -> UnixTime {
     UnixTime::new(Duration::from_secs(seconds))
 }
 
@@ -113,83 +109,4 @@ impl Column {
             },
         }
     }
-}
-
-fn push_column(
-    out: &mut String,
-    set: &KeySet,
-    names: &[&str],
-    column: Column,
-) -> Result<(), Error> {
-    let mut is_empty = true;
-    for name in names {
-        if let Some(key) = set.key(name) {
-            if column.has(key.keytype()) {
-                if !is_empty {
-                    out.push_str(" ")?;
-                }
-                out.push_str(name)?;
-                is_empty = false;
-            }
-        }
-    }
-    if is_empty {
-        out.push_str("none")?;
-    }
-    Ok(())
-}
-
-/// Appends the keys present, those that sign the keys, those that sign the zone, and those at the parent.
-pub fn push_columns(
-    out: &mut String,
-    set: &KeySet,
-    names: &[&str],
-    between: &str,
-) -> Result<(), Error> {
-    push_column(out, set, names, Column::Present)?;
-    out.push_str(between)?;
-    push_column(out, set, names, Column::SignsKeys)?;
-    out.push_str(between)?;
-    push_column(out, set, names, Column::SignsZone)?;
-    out.push_str(between)?;
-    push_column(out, set, names, Column::AtParent)
-}
-
-/// The same as a text, with semicolons between.
-pub fn published(alloc: Global, set: &KeySet, names: &[&str]) -> Result<String, Error> {
-    let mut out = String::new(alloc);
-    push_columns(&mut out, set, names, "; ")?;
-    Ok(out)
-}
-
-/// The short names of actions, as `docs/ROLLS.md` has them.
-pub fn short_name(action: Action) -> &'static str {
-    match action {
-        Action::CreateCdsRrset => "create CDS",
-        Action::RemoveCdsRrset => "remove CDS",
-        Action::UpdateDnskeyRrset => "update DNSKEY",
-        Action::UpdateDsRrset => "update DS",
-        Action::UpdateRrsig => "update RRSIG",
-        Action::ReportDnskeyPropagated => "report DNSKEY",
-        Action::WaitDnskeyPropagated => "wait for DNSKEY",
-        Action::ReportDsPropagated => "report DS",
-        Action::WaitDsPropagated => "wait for DS",
-        Action::ReportRrsigPropagated => "report RRSIG",
-        Action::WaitRrsigPropagated => "wait for RRSIG",
-    }
-}
-
-/// The actions by their short names, with a comma and a blank between two.
-pub fn named(alloc: Global, actions: &[Action]) -> Result<String, Error> {
-    let mut out = String::new(alloc);
-    for action in actions {
-        if !out.is_empty() {
-            out.push_str(", ")?;
-        }
-        out.push_str(short_name(*action))?;
-    }
-    if out.is_empty() {
-        out.push_str("none")?;
-    }
-    Ok(out)
 }

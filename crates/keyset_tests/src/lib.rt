@@ -1,4 +1,5 @@
-//! Tests of key sets: rolls one after another, refusals, settings by hand, and the pictures of `docs/ROLLS.md`.
+//! Tests of key sets: first keys, refusals, settings by hand, copies, and all short lives. Whole runs of rolls are lines of the
+//! program `keyset_lines`.
 #![tactic(auto)]
 
 #[cfg(test)]
@@ -14,8 +15,4 @@ mod lives;
 #[cfg(test)]
 mod refusal_tests;
 #[cfg(test)]
-mod rolls;
-#[cfg(test)]
 mod settings;
-#[cfg(test)]
-mod timelines;

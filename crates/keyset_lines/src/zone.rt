@@ -1,0 +1,63 @@
+//! A zone's key set, and which of its keys are shown.
+
+use crate::answer::Answer;
+use crate::calls::call;
+use crate::rows::row;
+use crate::words::{listed, words};
+use keyset::KeySet;
+use names_flat::name::Name as FlatName;
+use records::names::Name;
+use std::alloc::Global;
+
+#[derive(Drop)]
+pub struct Zone {
+    set: KeySet,
+    shown: Vec<String>,
+}
+
+/// A name of its text (RFC 1035, 5.1).
+fn read_name(alloc: Global, text: &str) -> Option<Name> {
+    let name = FlatName::vec_from_str(alloc, text).ok()?;
+    Name::from_octets(alloc, name.as_slice()).ok()
+}
+
+/// The text of a name.
+fn printed_name(alloc: Global, name: &Name) -> Option<String> {
+    let mut octets = Vec::new(alloc);
+    name.compose(&mut octets).ok()?;
+    let name = FlatName::from_octets(octets).ok()?;
+    name.to_string(alloc).ok()
+}
+
+impl Zone {
+    /// The set of a zone that has no keys.
+    pub fn read(alloc: Global, rest: &str) -> Option<Zone> {
+        let words = words(alloc, rest)?;
+        let [name, keys] = words.as_slice() else {
+            return None;
+        };
+        let mut shown = Vec::new(alloc);
+        for reference in &listed(alloc, keys)? {
+            shown.push(String::from_str(alloc, reference).ok()?).ok()?;
+        }
+        let set = KeySet::new(alloc, read_name(alloc, name)?);
+        Some(Zone { set, shown })
+    }
+
+    /// Whose set it is.
+    pub fn title(&self, alloc: Global) -> Option<String> {
+        let name = printed_name(alloc, self.set.name())?;
+        format!(in alloc; "keys of {name}").ok()
+    }
+
+    /// Makes a call, and says what is printed behind it.
+    pub fn called(&mut self, alloc: Global, name: &str, rest: &str) -> Option<String> {
+        match call(alloc, &mut self.set, name, rest)? {
+            Answer::Rolled(step, actions) => {
+                row(alloc, &self.set, &self.shown, step, actions.as_slice()).ok()
+            }
+            Answer::Made => String::from_str(alloc, "ok").ok(),
+            Answer::Refused(error) => format!(in alloc; "refused: {error}").ok(),
+        }
+    }
+}
