@@ -1,38 +1,17 @@
 //! NSEC chains of small zones.
 
+use crate::links::{Link, ZONE_LINKS, is_link};
 use crate::zones::{
-    A, B_C, BELOW_D, D, DEEP, EXAMPLE, Line, OTHER, Owner, STAR_W, Sorted, ZONE, name, record,
-    sorted, text, type_count,
+    A, BELOW_D, D, DEEP, EXAMPLE, Line, OTHER, Owner, Sorted, ZONE, name, record, sorted, text,
 };
-use denial_links::nsec::Nsec;
 use denial_nsec::config::GenerateNsecConfig;
 use denial_nsec::generate::generate_nsecs;
 use denial_owners::conditions::{is_canonical_order, is_one_class};
 use denial_owners::error::SigningError;
 use denial_sorted::laws::zone_data_order_is_total;
 use denial_sorted::walks::RecordsIter;
-use names::Rtype;
-use plain::numbers::Class;
-use plain::record::Record;
 use std::alloc::Global;
 use std::process::Abort;
-
-/// A link: owner, next name and types.
-type Link = (&'static [u8], &'static [u8], &'static [u16]);
-
-fn is_link(rr: &Record<&Owner, Nsec<Vec<u8>, &Owner>>, link: Link) -> bool {
-    let (owner, next, types) = link;
-    let found = rr.data().types();
-    if rr.owner().as_slice() != owner || rr.data().next_name().as_slice() != next {
-        return false;
-    }
-    for rtype in types {
-        if !found.contains(Rtype::from_int(*rtype)) {
-            return false;
-        }
-    }
-    rr.class() == Class::IN && rr.ttl().as_secs() == 900 && type_count(found) == types.len()
-}
 
 /// The chain of a zone is these links.
 fn has_chain(
@@ -55,14 +34,8 @@ fn has_chain(
 
 #[test]
 fn each_owner_leads_to_the_next_and_the_last_to_the_apex(rt: HostRuntime) {
-    let links: [Link; 5] = [
-        (EXAMPLE, A, &[6, 46, 47, 48]),
-        (A, B_C, &[1, 46, 47]),
-        (B_C, D, &[1, 46, 47]),
-        (D, STAR_W, &[2, 46, 47]),
-        (STAR_W, EXAMPLE, &[16, 46, 47]),
-    ];
-    has_chain(&rt, rt.alloc(), &ZONE, GenerateNsecConfig::new(), &links);
+    let config = GenerateNsecConfig::new();
+    has_chain(&rt, rt.alloc(), &ZONE, config, &ZONE_LINKS);
 }
 
 #[test]

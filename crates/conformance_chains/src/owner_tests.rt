@@ -1,8 +1,7 @@
 //! Which owners have records of a chain.
 
-use crate::zones::{
-    A, B_C, BELOW_D, D, EXAMPLE, Line, STAR_W, ZONE, name, record, sorted, type_count,
-};
+use crate::links::type_count;
+use crate::zones::{A, B_C, BELOW_D, D, EXAMPLE, Line, STAR_W, ZONE, name, record, sorted};
 use denial_bitmap::builder::RtypeBitmapBuilder;
 use denial_owners::conditions::{is_canonical_order, is_one_class};
 use denial_owners::error::SigningError;

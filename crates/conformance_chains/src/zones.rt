@@ -1,6 +1,5 @@
 //! Small zones.
 
-use denial_bitmap::bitmap::RtypeBitmap;
 use denial_sorted::laws::zone_data_order_is_total;
 use denial_sorted::sorted::SortedRecords;
 use denial_sorted::sorter::DefaultSorter;
@@ -9,7 +8,7 @@ use plain::numbers::{Class, Ttl};
 use plain::record::Record;
 use plain::soa::Soa;
 use plain::zone_data::ZoneRecordData;
-use std::alloc::Global;
+use std::alloc::{AllocError, Global};
 use std::process::Abort;
 
 pub type Owner = Name<&'static [u8]>;
@@ -48,6 +47,11 @@ pub const ZONE: [Line; 5] = [
     (A, 1, 3600),
 ];
 
+/// A delegation three labels below the apex.
+pub const DEEP_CUT: [Line; 2] = [(EXAMPLE, 6, 3600), (DEEP, 2, 3600)];
+
+pub const APEX_ALONE: [Line; 1] = [(EXAMPLE, 6, 3600)];
+
 pub fn name(rt: &impl Abort, octets: &'static [u8]) -> Owner {
     Name::from_slice(octets).expect(rt, "a name")
 }
@@ -73,14 +77,19 @@ pub fn record(rt: &impl Abort, line: Line) -> Rr {
     )
 }
 
-/// The records of some lines, in canonical order.
-pub fn sorted(rt: &impl Abort, alloc: Global, lines: &[Line]) -> Sorted {
+/// The records of some lines, in canonical order, memory aside.
+pub fn in_order(rt: &impl Abort, alloc: Global, lines: &[Line]) -> Result<Sorted, AllocError> {
     zone_data_order_is_total::<&[u8], Owner>();
     let mut records = Vec::new(alloc);
     for line in lines {
-        records.push(record(rt, *line)).expect(rt, "memory");
+        records.push(record(rt, *line))?;
     }
-    Sorted::from_vec(records).expect(rt, "memory")
+    Sorted::from_vec(records)
+}
+
+/// The records of some lines, in canonical order.
+pub fn sorted(rt: &impl Abort, alloc: Global, lines: &[Line]) -> Sorted {
+    in_order(rt, alloc, lines).expect(rt, "memory")
 }
 
 /// A text record of some octets.
@@ -88,13 +97,4 @@ pub fn text(rt: &impl Abort, owner: &'static [u8], ttl: u32, octets: &'static [u
     let data = UnknownRecordData::from_octets(Rtype::TXT, octets).expect(rt, "few octets");
     let data = ZoneRecordData::Unknown(data);
     Record::new(name(rt, owner), Class::IN, Ttl::from_secs(ttl), data)
-}
-
-/// How many types a bitmap has.
-pub fn type_count(types: &RtypeBitmap<Vec<u8>>) -> usize {
-    let mut count = 0usize;
-    for _ in types.iter() {
-        count = count.wrapping_add(1);
-    }
-    count
 }

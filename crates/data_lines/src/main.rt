@@ -7,6 +7,7 @@
 //! - `digest OWNER KEY`: the SHA-256 digest of a DS record for a key at an owner in wire octets.
 //! - `bitmap TYPES`: the bitmap of types, joined by commas.
 //! - `data TYPE OCTETS`: record data, read and written again.
+//! - `hash NAME ITERATIONS SALT`: the hash of a name in wire octets, in base32hex.
 //! - `signed RRSIG OWNER DATA`: the octets that a signature is made over, of an RRset of data joined by commas.
 //!
 //! Each line is printed with the answer behind it. Lines that begin with `#` are printed as they are.
@@ -14,12 +15,14 @@
 
 mod bitmaps;
 mod data;
+mod hashes;
 mod keys;
 mod octets;
 mod signed;
 
 use bitmaps::bitmap_of;
 use data::written_again;
+use hashes::hash_of;
 use keys::{digest_of, tag_of};
 use signed::signed_octets;
 use std::alloc::Global;
@@ -33,6 +36,7 @@ fn answer(alloc: Global, line: &str) -> Option<String> {
         "digest" => digest_of(alloc, rest),
         "bitmap" => bitmap_of(alloc, rest),
         "data" => written_again(alloc, rest),
+        "hash" => hash_of(alloc, rest),
         "signed" => signed_octets(alloc, rest),
         _ => None,
     }

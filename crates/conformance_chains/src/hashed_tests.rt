@@ -1,47 +1,27 @@
 //! Chains of hashed names of small zones.
 
 use crate::hashers::Faulty;
+use crate::links::{
+    A_HASH, B_C_HASH, B_D_HASH, C_HASH, D_HASH, DEEP_HASH, EXAMPLE_HASH, HashedLink, STAR_W_HASH,
+    W_HASH, ZONE_HASHES, is_hashed_link,
+};
 use crate::zones::{A, APEX_ALONE, D, DEEP_CUT, EXAMPLE, Line, Owner, ZONE, name, sorted};
 use denial_fields::salt::Nsec3Salt;
 use denial_hashes::config::GenerateNsec3Config;
 use denial_hashes::hasher::Nsec3Hasher;
 use denial_hashes::records::Nsec3Records;
-use denial_links::nsec3::Nsec3;
 use denial_links::nsec3param::Nsec3param;
 use denial_nsec3::generate::generate_nsec3s;
 use denial_owners::conditions::{is_canonical_order, is_one_class};
 use denial_owners::error::SigningError;
 use denial_sorted::laws::zone_data_order_is_total;
 use denial_sorted::walks::RecordsIter;
-use names::{Name, Rtype};
+use names::Name;
 use nsec3_sha1::hasher::Sha1Hasher;
-use plain::numbers::Class;
-use plain::record::Record;
 use std::alloc::Global;
 use std::process::Abort;
 
 type Made = Nsec3Records<Name<Vec<u8>>, Vec<u8>>;
-
-/// A record: the hash in base32hex, and the types.
-type Link = (&'static [u8], &'static [u16]);
-
-const EXAMPLE_HASH: &[u8] = b"3msev9usmd4br9s97v51r2tdvmr9iqo1";
-
-const A_HASH: &[u8] = b"6cd522290vma0nr8lqu1ivtcofj94rga";
-
-const C_HASH: &[u8] = b"atutakms2nniod8sie19kmfb3uqd60kq";
-
-const B_C_HASH: &[u8] = b"kgqb5f8cke123q17papomfbrl1tc0551";
-
-const STAR_W_HASH: &[u8] = b"p9n5ptevjsjoskr5u50vc77gp9bdsck8";
-
-const W_HASH: &[u8] = b"tf4v2jbvf5iq28bheot32e5nsh2dbof3";
-
-const D_HASH: &[u8] = b"2km8vfb1ttm1c2s1p6aagsi6hkuk0fss";
-
-const B_D_HASH: &[u8] = b"vu41psg7s7crjquaha9gjd2me0e687f7";
-
-const DEEP_HASH: &[u8] = b"adb8vu4pouc4algo3p9p4tlgjgbddj6n";
 
 /// SHA-1 with no iterations and no salt.
 fn config(alloc: Global) -> GenerateNsec3Config<Vec<u8>> {
@@ -68,62 +48,30 @@ fn made<H: Nsec3Hasher>(
     )
 }
 
-fn has_types(rr: &Record<Name<Vec<u8>>, Nsec3<Vec<u8>>>, types: &[u16]) -> bool {
-    let found = rr.data().types();
-    for rtype in types {
-        if !found.contains(Rtype::from_int(*rtype)) {
-            return false;
-        }
-    }
-    let mut count = 0usize;
-    for _ in found.iter() {
-        count = count.wrapping_add(1);
-    }
-    count == types.len()
-}
-
-fn is_link(rr: &Record<Name<Vec<u8>>, Nsec3<Vec<u8>>>, link: Link) -> bool {
-    let (hash, types) = link;
-    rr.owner().first().as_slice() == hash
-        && rr.owner().label_count() == 3
-        && rr.class() == Class::IN
-        && rr.ttl().as_secs() == 900
-        && has_types(rr, types)
-}
-
 /// The chain of a zone is these records, of which each has the next one's hash and the last the first's.
 fn has_chain(
     rt: &impl Abort,
     alloc: Global,
     lines: &[Line],
     config: &GenerateNsec3Config<Vec<u8>>,
-    links: &[Link],
+    links: &[HashedLink],
 ) {
     let made = made(rt, alloc, lines, config, &Sha1Hasher).expect(rt, "a chain");
     assert!(rt; made.nsec3s.len() == links.len());
     for (rr, link) in made.nsec3s.iter().zip(links) {
-        assert!(rt; is_link(rr, *link));
+        assert!(rt; is_hashed_link(rr, *link));
         assert!(rt; rr.data().flags() == config.params.flags());
     }
 }
 
 #[test]
 fn each_owner_and_each_empty_name_has_a_record(rt: HostRuntime) {
-    let links: [Link; 7] = [
-        (D_HASH, &[2]),
-        (EXAMPLE_HASH, &[6, 46, 48, 51]),
-        (A_HASH, &[1, 46]),
-        (C_HASH, &[]),
-        (B_C_HASH, &[1, 46]),
-        (STAR_W_HASH, &[16, 46]),
-        (W_HASH, &[]),
-    ];
-    has_chain(&rt, rt.alloc(), &ZONE, &config(rt.alloc()), &links);
+    has_chain(&rt, rt.alloc(), &ZONE, &config(rt.alloc()), &ZONE_HASHES);
 }
 
 #[test]
 fn opt_out_leaves_unsigned_delegations_out(rt: HostRuntime) {
-    let links: [Link; 6] = [
+    let links: [HashedLink; 6] = [
         (EXAMPLE_HASH, &[6, 46, 48, 51]),
         (A_HASH, &[1, 46]),
         (C_HASH, &[]),
@@ -142,7 +90,7 @@ fn opt_out_leaves_unsigned_delegations_out(rt: HostRuntime) {
 
 #[test]
 fn names_above_what_is_left_out_have_no_record(rt: HostRuntime) {
-    let links: [Link; 1] = [(EXAMPLE_HASH, &[6, 46, 48, 51])];
+    let links: [HashedLink; 1] = [(EXAMPLE_HASH, &[6, 46, 48, 51])];
     has_chain(
         &rt,
         rt.alloc(),
@@ -154,7 +102,7 @@ fn names_above_what_is_left_out_have_no_record(rt: HostRuntime) {
 
 #[test]
 fn names_above_a_delegation_have_records(rt: HostRuntime) {
-    let links: [Link; 4] = [
+    let links: [HashedLink; 4] = [
         (D_HASH, &[]),
         (EXAMPLE_HASH, &[6, 46, 48, 51]),
         (DEEP_HASH, &[2]),
