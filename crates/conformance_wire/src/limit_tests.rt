@@ -1,6 +1,7 @@
 //! Names and texts at the limits of their size, with memory in plenty.
 
 use arrayvec::ArrayVec;
+use names_builder::plain::{is_plain, plain_octets};
 use names_flat::builder::{Finish, NameBuilder};
 use names_flat::name::Name;
 use names_flat::push_error::PushError;
@@ -35,6 +36,49 @@ fn the_longest_text(rt: HostRuntime) -> Result<(), Fail> {
     text.push_str("\\255")?;
     let longer = Name::vec_from_str(alloc, text.as_str());
     assert!(rt; matches!(longer, Err(FromStrError::Presentation(_))));
+    Ok(())
+}
+
+/// The longest text without a backslash has 253 characters, and a last dot.
+#[test]
+fn the_longest_plain_text(rt: HostRuntime) -> Result<(), Fail> {
+    let alloc = rt.alloc();
+    let mut text = String::new(alloc);
+    for len in [63, 63, 63, 61] {
+        for _ in 0..len {
+            text.push('a')?;
+        }
+        text.push('.')?;
+    }
+    assert_eq!(rt; text.len(), 254);
+    assert_eq!(rt;
+        Name::vec_from_str(alloc, text.as_str())?.as_slice().len(),
+        255
+    );
+    text.pop();
+    assert_eq!(rt;
+        Name::vec_from_str(alloc, text.as_str())?.as_slice().len(),
+        255
+    );
+    text.push('a')?;
+    let longer = Name::vec_from_str(alloc, text.as_str());
+    assert!(rt; matches!(longer, Err(FromStrError::Presentation(_))));
+    Ok(())
+}
+
+/// Octets stand as they are, behind the lengths of their labels.
+#[test]
+fn plain_texts_are_copied(rt: HostRuntime) -> Result<(), Fail> {
+    let alloc = rt.alloc();
+    for text in [b"Www.example.".as_slice(), b"Www.example"] {
+        assert!(rt; is_plain(text));
+        let octets = plain_octets(alloc, text)?;
+        assert!(rt; octets.as_deref() == Some(b"\x03Www\x07example\x00".as_slice()));
+    }
+    assert!(rt; !is_plain(b"a\\b"));
+    assert!(rt; !is_plain(b"a\x7f"));
+    assert!(rt; plain_octets(alloc, b"a..b")?.is_none());
+    assert!(rt; plain_octets(alloc, b".")?.is_none());
     Ok(())
 }
 
