@@ -20,9 +20,11 @@ fn started(alloc: Global) -> Result<KeySet, Error> {
 
 fn is_copied(set: &KeySet, copy: &KeySet, reference: &str) -> Result<bool, Error> {
     let (original, copied) = (key(set, reference)?, key(copy, reference)?);
-    Ok(copied.key_tag() == original.key_tag()
-        && copied.keytype() == original.keytype()
-        && copied.privref() == original.privref())
+    Ok(
+        copied.key_tag() == original.key_tag()
+            && copied.keytype() == original.keytype()
+            && copied.privref() == original.privref(),
+    )
 }
 
 /// A copy has the keys and the rolls.
