@@ -1,6 +1,6 @@
 //! Calls on chains that are refused memory: each says so, and succeeds when it is made again.
 
-use crate::links::{ZONE_HASHES, ZONE_LINKS, is_hashed_link, is_link, type_count};
+use crate::links::{OPT_OUT_HASHES, ZONE_HASHES, ZONE_LINKS, is_hashed_link, is_link, type_count};
 use crate::zones::{A, D, EXAMPLE, Line, Owner, Sorted, ZONE, in_order, name};
 use denial_bitmap::builder::RtypeBitmapBuilder;
 use denial_fields::salt::Nsec3Salt;
@@ -167,9 +167,8 @@ fn a_chain_with_opt_out_is_whole_or_refused(rt: HostRuntime) {
             &Sha1Hasher
         )
     );
-    let [_delegation, links @ ..] = &ZONE_HASHES;
-    assert!(rt; made.nsec3s.len() == links.len());
-    for (rr, link) in made.nsec3s.iter().zip(links) {
+    assert!(rt; made.nsec3s.len() == OPT_OUT_HASHES.len());
+    for (rr, link) in made.nsec3s.iter().zip(&OPT_OUT_HASHES) {
         assert!(rt; is_hashed_link(rr, *link) && rr.data().opt_out());
     }
 }
