@@ -2,8 +2,8 @@
 
 use crate::hashers::Faulty;
 use crate::links::{
-    A_HASH, B_C_HASH, B_D_HASH, C_HASH, D_HASH, DEEP_HASH, EXAMPLE_HASH, HashedLink, STAR_W_HASH,
-    W_HASH, ZONE_HASHES, is_hashed_link,
+    B_D_HASH, D_HASH, DEEP_HASH, EXAMPLE_HASH, HashedLink, OPT_OUT_HASHES, ZONE_HASHES,
+    is_hashed_link,
 };
 use crate::zones::{A, APEX_ALONE, D, DEEP_CUT, EXAMPLE, Line, Owner, ZONE, name, sorted};
 use denial_fields::salt::Nsec3Salt;
@@ -71,20 +71,12 @@ fn each_owner_and_each_empty_name_has_a_record(rt: HostRuntime) {
 
 #[test]
 fn opt_out_leaves_unsigned_delegations_out(rt: HostRuntime) {
-    let links: [HashedLink; 6] = [
-        (EXAMPLE_HASH, &[6, 46, 48, 51]),
-        (A_HASH, &[1, 46]),
-        (C_HASH, &[]),
-        (B_C_HASH, &[1, 46]),
-        (STAR_W_HASH, &[16, 46]),
-        (W_HASH, &[]),
-    ];
     has_chain(
         &rt,
         rt.alloc(),
         &ZONE,
         &config(rt.alloc()).with_opt_out(),
-        &links,
+        &OPT_OUT_HASHES,
     );
 }
 

@@ -52,6 +52,16 @@ pub const ZONE_HASHES: [HashedLink; 7] = [
     (W_HASH, &[]),
 ];
 
+/// The hashed links of the zone of hosts without its unsigned delegation.
+pub const OPT_OUT_HASHES: [HashedLink; 6] = [
+    (EXAMPLE_HASH, &[6, 46, 48, 51]),
+    (A_HASH, &[1, 46]),
+    (C_HASH, &[]),
+    (B_C_HASH, &[1, 46]),
+    (STAR_W_HASH, &[16, 46]),
+    (W_HASH, &[]),
+];
+
 /// How many types a bitmap has.
 pub fn type_count(types: &RtypeBitmap<Vec<u8>>) -> usize {
     let mut count = 0usize;

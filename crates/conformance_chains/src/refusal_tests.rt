@@ -1,7 +1,7 @@
 //! Calls on chains that are refused memory: each says so, and succeeds when it is made again.
 
-use crate::links::{ZONE_HASHES, ZONE_LINKS, is_hashed_link, is_link, type_count};
-use crate::zones::{A, D, EXAMPLE, Line, Owner, ZONE, in_order, name};
+use crate::links::{OPT_OUT_HASHES, ZONE_HASHES, ZONE_LINKS, is_hashed_link, is_link, type_count};
+use crate::zones::{A, D, EXAMPLE, Line, Owner, Sorted, ZONE, in_order, name};
 use denial_bitmap::builder::RtypeBitmapBuilder;
 use denial_fields::salt::Nsec3Salt;
 use denial_hashes::config::GenerateNsec3Config;
@@ -23,6 +23,7 @@ use denial_sorted::walks::RecordsIter;
 use names::{Rtype, ShortBuf};
 use nsec3_sha1::hasher::Sha1Hasher;
 use std::alloc::{AllocError, Global};
+use std::process::Abort;
 
 /// What a call gives, made again where it was refused memory; no other refusal is met.
 macro_rules! again {
@@ -57,18 +58,26 @@ fn owners_are_kept_or_memory_is_wanted(rt: HostRuntime) {
     assert!(rt; kept.len() == 4);
 }
 
+/// How many owners a chain of the zone has, and the TTL of its SOA record.
+fn owners_and_ttl(
+    rt: &impl Abort,
+    alloc: Global,
+    zone: &Sorted,
+) -> Result<(usize, u32), SigningError> {
+    zone_data_order_is_total::<&[u8], Owner>();
+    let (records, apex) = (zone.as_slice(), name(rt, EXAMPLE));
+    assert!(rt; is_one_class(records) && is_canonical_order(records));
+    let records = RecordsIter::new_from_owned(records);
+    let chain = chain_owners(alloc, &apex, records, false)?;
+    Ok((chain.owners.len(), chain.soa.ttl.as_secs()))
+}
+
 #[test]
 fn owners_with_the_soa_come_or_memory_is_wanted(rt: HostRuntime) {
-    let (alloc, apex) = (rt.alloc(), name(&rt, EXAMPLE));
+    let alloc = rt.alloc();
     let zone = again!(rt, AllocError, in_order(&rt, alloc, &ZONE));
-    let records = zone.as_slice();
-    assert!(rt; is_one_class(records) && is_canonical_order(records));
-    let chain = again!(
-        rt,
-        SigningError::Memory,
-        chain_owners(alloc, &apex, RecordsIter::new_from_owned(records), false)
-    );
-    assert!(rt; chain.owners.len() == 5 && chain.soa.ttl.as_secs() == 3600);
+    let (owners, ttl) = again!(rt, SigningError::Memory, owners_and_ttl(&rt, alloc, &zone));
+    assert!(rt; owners == 5 && ttl == 3600);
 }
 
 #[test]
@@ -91,22 +100,26 @@ fn types_at_an_owner_are_added_again(rt: HostRuntime) {
     assert!(rt; types.contains(Rtype::NS) && types.contains(Rtype::DS) && type_count(&types) == 2);
 }
 
+/// Whether the NSEC chain of the zone has each of its links.
+fn has_links(rt: &impl Abort, alloc: Global, zone: &Sorted) -> Result<bool, SigningError> {
+    zone_data_order_is_total::<&[u8], Owner>();
+    let (records, apex) = (zone.as_slice(), name(rt, EXAMPLE));
+    assert!(rt; is_one_class(records) && is_canonical_order(records));
+    let records = RecordsIter::new_from_owned(records);
+    let chain = generate_nsecs(alloc, &apex, records, GenerateNsecConfig::new())?;
+    for (rr, link) in chain.iter().zip(&ZONE_LINKS) {
+        if !is_link(rr, *link) {
+            return Ok(false);
+        }
+    }
+    Ok(chain.len() == ZONE_LINKS.len())
+}
+
 #[test]
 fn an_nsec_chain_is_whole_or_refused(rt: HostRuntime) {
-    let (alloc, apex) = (rt.alloc(), name(&rt, EXAMPLE));
+    let alloc = rt.alloc();
     let zone = again!(rt, AllocError, in_order(&rt, alloc, &ZONE));
-    let records = zone.as_slice();
-    assert!(rt; is_one_class(records) && is_canonical_order(records));
-    let config = GenerateNsecConfig::new();
-    let chain = again!(
-        rt,
-        SigningError::Memory,
-        generate_nsecs(alloc, &apex, RecordsIter::new_from_owned(records), config)
-    );
-    assert!(rt; chain.len() == ZONE_LINKS.len());
-    for (rr, link) in chain.iter().zip(&ZONE_LINKS) {
-        assert!(rt; is_link(rr, *link));
-    }
+    assert!(rt; again!(rt, SigningError::Memory, has_links(&rt, alloc, &zone)));
 }
 
 #[test]
@@ -154,9 +167,8 @@ fn a_chain_with_opt_out_is_whole_or_refused(rt: HostRuntime) {
             &Sha1Hasher
         )
     );
-    let [_delegation, links @ ..] = &ZONE_HASHES;
-    assert!(rt; made.nsec3s.len() == links.len());
-    for (rr, link) in made.nsec3s.iter().zip(links) {
+    assert!(rt; made.nsec3s.len() == OPT_OUT_HASHES.len());
+    for (rr, link) in made.nsec3s.iter().zip(&OPT_OUT_HASHES) {
         assert!(rt; is_hashed_link(rr, *link) && rr.data().opt_out());
     }
 }
