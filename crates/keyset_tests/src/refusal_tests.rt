@@ -130,7 +130,7 @@ fn copy(rt: &(impl Abort + Eprint), set: &KeySet) -> KeySet {
 #[test]
 fn a_roll_goes_on(rt: HostRuntime) {
     let alloc = rt.alloc();
-    let mut set = KeySet::new(alloc, Name::root(alloc));
+    let mut set = KeySet::new(alloc, Name::root(alloc)?);
     add_both(&rt, alloc, &mut set);
     start(&rt, &mut set);
     first_half(&rt, &mut set);

@@ -386,7 +386,7 @@ fn rolls_run_side_by_side(rt: HostRuntime) -> Result<(), Fail> {
 #[test]
 fn an_example_that_cannot_run_is_refused(rt: HostRuntime) -> Result<(), Fail> {
     let alloc = rt.alloc();
-    let mut set = KeySet::new(alloc, Name::root(alloc));
+    let mut set = KeySet::new(alloc, Name::root(alloc)?);
     add_ksk(&mut set, alloc, "first", 0)?;
     assert!(rt;
         matches!(
