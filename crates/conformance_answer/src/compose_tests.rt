@@ -13,7 +13,7 @@ use std::test::Fail;
 #[test]
 fn an_answer_with_a_signature(rt: HostRuntime) -> Result<(), Fail> {
     let alloc = rt.alloc();
-    let apex = Name::root(alloc);
+    let apex = Name::root(alloc)?;
     let terms = SignatureTerms {
         apex: &apex,
         at: 0x1_0000_0005,
@@ -26,14 +26,14 @@ fn an_answer_with_a_signature(rt: HostRuntime) -> Result<(), Fail> {
     canonical.push(address.to_vec(alloc)?)?;
     let group = RrGroup::canonical_form(
         alloc,
-        Name::root(alloc),
+        Name::root(alloc)?,
         0,
         Rtype::A,
         Ttl::from_secs(3600),
         canonical,
     )?;
     let question = Question {
-        name: Name::root(alloc),
+        name: Name::root(alloc)?,
         rtype: Rtype::A,
         class: Class::IN,
     };

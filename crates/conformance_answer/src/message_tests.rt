@@ -41,7 +41,7 @@ struct Case<'a> {
 fn name(alloc: Global, wire: &[u8]) -> Result<Name, AllocError> {
     match ParsedName::parse(wire, 0) {
         Ok((parsed, _)) => parsed.to_name(alloc),
-        Err(_) => Ok(Name::root(alloc)),
+        Err(_) => Name::root(alloc),
     }
 }
 

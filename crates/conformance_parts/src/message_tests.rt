@@ -139,7 +139,7 @@ fn reads_data(rt: HostRuntime) -> Result<(), Fail> {
     let alloc = rt.alloc();
     let mut octets = Vec::new(alloc);
     push_header(&mut octets, 0x8400, 3, 0)?;
-    push_question(&mut octets, &Name::root(alloc), Rtype::NSEC, Class::IN)?;
+    push_question(&mut octets, &Name::root(alloc)?, Rtype::NSEC, Class::IN)?;
     push(&mut octets, Rtype::NSEC, LINK)?;
     push(&mut octets, Rtype::RRSIG, SIGNATURE)?;
     push(&mut octets, Rtype::NS, b"\x01A\x00")?;

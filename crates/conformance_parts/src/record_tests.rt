@@ -42,7 +42,7 @@ fn parts_of_names(rt: HostRuntime) -> Result<(), Fail> {
     assert_eq!(rt; www.rrsig_label_count(), 3);
     assert_eq!(rt; www.wire_len(), 17);
     assert!(rt; www.ends_with(&com) && www.is_below(&com) && !com.is_below(&com));
-    assert!(rt; com.ends_with(&Name::root(alloc)) && !com.ends_with(&www));
+    assert!(rt; com.ends_with(&Name::root(alloc)?) && !com.ends_with(&www));
     let last = www.suffix(alloc, www.len().min(1))?;
     assert!(rt; last.name_eq(&com) && !last.name_eq(&www));
     assert_eq!(rt; last.label_at(0), Some(b"com".as_slice()));
@@ -88,7 +88,7 @@ fn data_of_records(rt: HostRuntime) -> Result<(), Fail> {
     let alloc = rt.alloc();
     let soa = ZoneRecordData::Soa(Soa {
         mname: owner(alloc)?,
-        rname: Name::root(alloc),
+        rname: Name::root(alloc)?,
         serial: 1,
         refresh: 3600,
         retry: 600,

@@ -73,7 +73,7 @@ fn main(rt: HostRuntime) -> io::Result<()> {
         references(alloc, "new", half)?,
     );
     let (old, new) = (texts(alloc, &olds)?, texts(alloc, &news)?);
-    let mut set = KeySet::new(alloc, Name::root(alloc));
+    let mut set = KeySet::new(alloc, Name::root(alloc)?);
     let is_filled = add_all(alloc, &mut set, &olds, 0).is_ok()
         && add_all(alloc, &mut set, &news, 32768).is_ok();
     let mut accepted = 0u64;

@@ -82,7 +82,7 @@ fn texts(alloc: Global, names: &[String]) -> Result<Vec<&str>, Fail> {
 #[test]
 fn a_thousand_keys(rt: HostRuntime) -> Result<(), Fail> {
     let alloc = rt.alloc();
-    let mut set = KeySet::new(alloc, Name::root(alloc));
+    let mut set = KeySet::new(alloc, Name::root(alloc)?);
     let (olds, news) = (
         references(alloc, "old", 500)?,
         references(alloc, "new", 500)?,

@@ -127,10 +127,20 @@ fn copy(rt: &(impl Abort + Eprint), set: &KeySet) -> KeySet {
     }
 }
 
+fn root(rt: &(impl Abort + Eprint), alloc: Global) -> Name {
+    match Name::root(alloc) {
+        Ok(name) => name,
+        Err(_) => {
+            say_refused(rt);
+            Name::root(alloc).expect(rt, "memory")
+        }
+    }
+}
+
 #[test]
 fn a_roll_goes_on(rt: HostRuntime) {
     let alloc = rt.alloc();
-    let mut set = KeySet::new(alloc, Name::root(alloc));
+    let mut set = KeySet::new(alloc, root(&rt, alloc));
     add_both(&rt, alloc, &mut set);
     start(&rt, &mut set);
     first_half(&rt, &mut set);

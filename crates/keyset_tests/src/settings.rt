@@ -10,7 +10,7 @@ use std::test::Fail;
 #[test]
 fn a_key_is_decoupled(rt: HostRuntime) -> Result<(), Fail> {
     let alloc = rt.alloc();
-    let mut set = KeySet::new(alloc, Name::root(alloc));
+    let mut set = KeySet::new(alloc, Name::root(alloc)?);
     set.add_key_ksk(
         String::from_str(alloc, "P")?,
         Some(String::from_str(alloc, "p")?),
@@ -30,7 +30,7 @@ fn a_key_is_decoupled(rt: HostRuntime) -> Result<(), Fail> {
 #[test]
 fn an_included_key_signs_nothing(rt: HostRuntime) -> Result<(), Fail> {
     let alloc = rt.alloc();
-    let mut set = KeySet::new(alloc, Name::root(alloc));
+    let mut set = KeySet::new(alloc, Name::root(alloc)?);
     let reference = String::from_str(alloc, "other")?;
     set.add_public_key(reference, SecurityAlgorithm::from_int(8), 9, at(1), true)?;
     assert!(rt; key(&set, "other")?.privref().is_none());
@@ -51,7 +51,7 @@ fn an_included_key_signs_nothing(rt: HostRuntime) -> Result<(), Fail> {
 #[test]
 fn a_combined_key_is_set_in_both_roles(rt: HostRuntime) -> Result<(), Fail> {
     let alloc = rt.alloc();
-    let mut set = KeySet::new(alloc, Name::root(alloc));
+    let mut set = KeySet::new(alloc, Name::root(alloc)?);
     add_csk(&mut set, alloc, "C", 0)?;
     set.set_present("C", true, &at(3))?;
     set.set_signer("C", true)?;

@@ -96,26 +96,34 @@ walk_more h room m p l ls e w t = go (cases_lt room (length l + 2))
         let x : walk (suc h) room m p ≡ in_front l (walk h (room - (length l + 1)) m (p + 1 + length l)) = walk_label h room m p (length l) t.get t.some t.short t.inside fits ∙ ap (λ k. in_front k (walk h (room - (length l + 1)) m (p + 1 + length l))) t.are in
         front (walk h (room - (length l + 1)) m (p + 1 + length l)) refl (sym x ∙ w) fits
 
+-- the root's octet, where no label stands
+pub record AtEnd (m : List ℕ) (p : ℕ) (ls : Name) (e : ℕ) : Type 0 where
+  pub get : slice_get m p ≡ Some 0
+  pub none : ls ≡ []
+  pub place : e ≡ p + 1
+
 -- where no label stands, a name that reads is at its end
-pub walk_last : (h room : ℕ) (m : List ℕ) (p : ℕ) (ls : Name) (e : ℕ) → walk (suc h) room m p ≡ Ok (ls, e) → label_here m p ≡ None → ls ≡ []
+pub walk_last : (h room : ℕ) (m : List ℕ) (p : ℕ) (ls : Name) (e : ℕ) → walk (suc h) room m p ≡ Ok (ls, e) → label_here m p ≡ None → AtEnd m p ls e
 walk_last h room m p ls e w none = go (slice_get m p) refl none
   where
-    short : (n : ℕ) → slice_get m p ≡ Some n → if_true (tests m p n) (slice_range m (p + 1) (p + 1 + n)) ≡ None → 0 < n → n ≤ 63 → ((length m < p + 1 + n) ⊎ (p + 1 + n ≤ length m)) → ls ≡ []
+    short : (n : ℕ) → slice_get m p ≡ Some n → if_true (tests m p n) (slice_range m (p + 1) (p + 1 + n)) ≡ None → 0 < n → n ≤ 63 → ((length m < p + 1 + n) ⊎ (p + 1 + n ≤ length m)) → AtEnd m p ls e
     short n g t some near (inl far) = let x = walk_short h room m p n g some near far in cc
     short n g t some near (inr inside) =
         let x : tests m p n ≡ true = (λ i. lt-ltb 0 n some i && le-leb n 63 near i && le-leb (p + 1 + n) (length m) inside i) in
         let y : Some (slice_range m (p + 1) (p + 1 + n)) ≡ None = ap (λ b. if_true b (slice_range m (p + 1) (p + 1 + n))) (sym x) ∙ t in
         cc
 
-    near : (n : ℕ) → slice_get m p ≡ Some n → if_true (tests m p n) (slice_range m (p + 1) (p + 1 + n)) ≡ None → 0 < n → ((63 < n) ⊎ (n ≤ 63)) → ls ≡ []
+    near : (n : ℕ) → slice_get m p ≡ Some n → if_true (tests m p n) (slice_range m (p + 1) (p + 1 + n)) ≡ None → 0 < n → ((63 < n) ⊎ (n ≤ 63)) → AtEnd m p ls e
     near n g t some (inl far) = let x = walk_far h room m p n g far in cc
     near n g t some (inr le) = short n g t some le (cases_lt (length m) (p + 1 + n))
 
-    root : (n : ℕ) → slice_get m p ≡ Some n → if_true (tests m p n) (slice_range m (p + 1) (p + 1 + n)) ≡ None → ((n ≡ 0) ⊎ (n ≡ 0 → ⊥)) → ls ≡ []
-    root n g t (inl z) = ap labels_read (sym w ∙ walk_root h room m p (g ∙ ap Some z))
+    root : (n : ℕ) → slice_get m p ≡ Some n → if_true (tests m p n) (slice_range m (p + 1) (p + 1 + n)) ≡ None → ((n ≡ 0) ⊎ (n ≡ 0 → ⊥)) → AtEnd m p ls e
+    root n g t (inl z) =
+        let x = sym w ∙ walk_root h room m p (g ∙ ap Some z) in
+        record { get = g ∙ ap Some z; none = ap labels_read x; place = ap place_read x }
     root n g t (inr nz) = near n g t (omega (arith, nz)) (cases_lt 63 n)
 
-    go : (o : Option ℕ) → slice_get m p ≡ o → here_of m p o ≡ None → ls ≡ []
+    go : (o : Option ℕ) → slice_get m p ≡ o → here_of m p o ≡ None → AtEnd m p ls e
     go None g t = let x = walk_none h room m p g in cc
     go (Some n) g t = root n g t (cases_eq n 0)
 
@@ -125,7 +133,7 @@ walk_name zero room m p ls e w some = let x = walk_zero room m p in cc
 walk_name (suc h) room m p ls e w some = go (label_here m p) refl (λ q k rest f. walk_name h k m q rest e f)
   where
     go : (o : Option Label) → label_here m p ≡ o → ((q k : ℕ) (rest : Name) → walk h k m q ≡ Ok (rest, e) → 1 ≤ k → AllByRecursion IsLabel rest × (wire_len rest ≤ k)) → AllByRecursion IsLabel ls × (wire_len ls ≤ room)
-    go None g rec = let x = walk_last h room m p ls e w g in rw x (tt, omega arith)
+    go None g rec = let x = walk_last h room m p ls e w g in rw x.none (tt, omega arith)
     go (Some l) g rec =
         let t = here m p l g in
         let n = walk_more h room m p l ls e w t in
@@ -142,78 +150,3 @@ name_walk m p h = let r = reads_at (owner_at pointer_limit m p) h in (r.0, sym (
 
 pub name_is : (m : List ℕ) (p : ℕ) → NameReads m p → IsName (name_read m p)
 name_is m p h = let w = name_walk m p h in let n = walk_name 128 255 m p (name_read m p) w.0 w.1 (omega arith) in record { labels = n.0; short = n.1 }
-
--- what is left of a name behind some labels of it
-pub record Left (h : ℕ) (m : List ℕ) (p : ℕ) (front whole : Name) : Type 0 where
-  pub rest : Name
-  pub room : ℕ
-  pub behind : ℕ
-  pub reads : walk h room m p ≡ Ok (rest, behind)
-  pub joins : front ++ rest ≡ whole
-
-pub left_all : (m : List ℕ) (p : ℕ) (whole : Name) → NameReads m p → name_read m p ≡ whole → Left 128 m p [] whole
-left_all m p whole h e = let w = name_walk m p h in record { rest = name_read m p; room = 255; behind = w.0; reads = w.1; joins = e }
-
-pub left_more : (h : ℕ) (m : List ℕ) (p q : ℕ) (front : Name) (whole : Name) (l : Label) → Left (suc h) m p front whole → label_here m p ≡ Some l → p + 1 + length l ≡ q → Left h m q (front ++ l ∷ []) whole
-left_more h m p q front whole l left g s =
-    let n = walk_more h left.room m p l left.rest left.behind left.reads (here m p l g) in
-    record {
-      rest = n.rest;
-      room = left.room - (length l + 1);
-      behind = left.behind;
-      reads = ap (λ at. walk h (left.room - (length l + 1)) m at) (sym s) ∙ n.reads;
-      joins = append_assoc front (l ∷ []) n.rest ∙ ap (λ k. front ++ k) (sym n.are) ∙ left.joins;
-    }
-
-pub left_done : (h : ℕ) (m : List ℕ) (p : ℕ) (front whole : Name) → Left (suc h) m p front whole → label_here m p ≡ None → front ≡ whole
-left_done h m p front whole left g =
-    let e = walk_last h left.room m p left.rest left.behind left.reads g in
-    sym (append-nil front) ∙ ap (λ k. front ++ k) (sym e) ∙ left.joins
-
-pub left_none : (m : List ℕ) (p : ℕ) (front whole : Name) → Left 0 m p front whole → ⊥
-left_none m p front whole left = let x = walk_zero left.room m p in let y = left.reads in cc
-
--- two names so far the same, from one place of each on
-pub record Compared (h : ℕ) (m : List ℕ) (p i : ℕ) (whole other : Name) : Type 0 where
-  pub rest : Name
-  pub room : ℕ
-  pub behind : ℕ
-  pub reads : walk h room m p ≡ Ok (rest, behind)
-  pub tied : same whole other ≡ same rest (drop i other)
-
-pub compared_all : (m : List ℕ) (p : ℕ) (whole other : Name) → NameReads m p → name_read m p ≡ whole → Compared 128 m p 0 whole other
-compared_all m p whole other h e = let w = name_walk m p h in record { rest = name_read m p; room = 255; behind = w.0; reads = w.1; tied = ap (λ n. same n other) (sym e) }
-
-more_same : (h : ℕ) (m : List ℕ) (p i : ℕ) (whole other : Name) (l b : Label) → (c : Compared (suc h) m p i whole other) → (n : More h c.room m p l c.rest c.behind) → drop i other ≡ b ∷ drop (i + 1) other → same whole other ≡ (bytes_eq (str_to_ascii_lowercase l) (str_to_ascii_lowercase b) && same n.rest (drop (i + 1) other))
-more_same h m p i whole other l b c n d = c.tied ∙ (λ t. same (n.are t) (d t))
-
-pub compared_more : (h : ℕ) (m : List ℕ) (p q i : ℕ) (whole other : Name) (l b : Label) → Compared (suc h) m p i whole other → label_here m p ≡ Some l → drop i other ≡ b ∷ drop (i + 1) other → str_to_ascii_lowercase l ≡ str_to_ascii_lowercase b → p + 1 + length l ≡ q → Compared h m q (i + 1) whole other
-compared_more h m p q i whole other l b c g d e s =
-    let n = walk_more h c.room m p l c.rest c.behind c.reads (here m p l g) in
-    record {
-      rest = n.rest;
-      room = c.room - (length l + 1);
-      behind = c.behind;
-      reads = ap (λ at. walk h (c.room - (length l + 1)) m at) (sym s) ∙ n.reads;
-      tied = more_same h m p i whole other l b c n d ∙ ap (λ t. t && same n.rest (drop (i + 1) other)) ((bytes_eq-Decides (str_to_ascii_lowercase l) (str_to_ascii_lowercase b)).1 e);
-    }
-
-pub compared_unlike : (h : ℕ) (m : List ℕ) (p i : ℕ) (whole other : Name) (l b : Label) → Compared (suc h) m p i whole other → label_here m p ≡ Some l → drop i other ≡ b ∷ drop (i + 1) other → bytes_eq (str_to_ascii_lowercase l) (str_to_ascii_lowercase b) ≡ false → same whole other ≡ false
-compared_unlike h m p i whole other l b c g d e =
-    let n = walk_more h c.room m p l c.rest c.behind c.reads (here m p l g) in
-    more_same h m p i whole other l b c n d ∙ ap (λ t. t && same n.rest (drop (i + 1) other)) e
-
-pub compared_short : (h : ℕ) (m : List ℕ) (p i : ℕ) (whole other : Name) (b : Label) → Compared (suc h) m p i whole other → label_here m p ≡ None → drop i other ≡ b ∷ drop (i + 1) other → same whole other ≡ false
-compared_short h m p i whole other b c g d =
-    let e = walk_last h c.room m p c.rest c.behind c.reads g in
-    c.tied ∙ (λ t. same (e t) (d t))
-
-pub compared_last : (h : ℕ) (m : List ℕ) (p i : ℕ) (whole other : Name) → Compared (suc h) m p i whole other → length other ≤ i → same whole other ≡ is_none (label_here m p)
-compared_last h m p i whole other c past = go (label_here m p) refl
-  where
-    end : same whole other ≡ same c.rest []
-    end = c.tied ∙ ap (same c.rest) (drop_all i other past)
-
-    go : (o : Option Label) → label_here m p ≡ o → same whole other ≡ is_none o
-    go None g = let e = walk_last h c.room m p c.rest c.behind c.reads g in end ∙ ap (λ n. same n []) e
-    go (Some l) g = let n = walk_more h c.room m p l c.rest c.behind c.reads (here m p l g) in end ∙ ap (λ k. same k []) n.are

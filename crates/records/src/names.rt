@@ -1,15 +1,18 @@
 //! Names, kept as their labels, and octets that a key or a digest may lie in.
-ghost use Rattle.std.specs.Prelude.{◌≡◌, ℕ, ◌+◌, ◌-◌, ◌<◌, ◌≤◌, ◌↔◌, ◌++◌, [], List, length, drop, map, IfOk, OnOk, IfSome, slice_get};
+ghost use Rattle.std.specs.Prelude.{◌≡◌, ℕ, ◌+◌, ◌-◌, ◌<◌, ◌≤◌, ◌↔◌, ◌++◌, ◌∷◌, [], List, length, drop, IfOk, OnOk, IfSome, slice_get};
 ghost use Rattle.std.specs.Option.{option_map};
-ghost use Rattle.std.specs.Ordering.{nat_cmp};
-ghost use Rattle.std.specs.Cmp.Lexicographic.{slice_cmp};
 ghost use Rattle.std.specs.Str.{str_to_ascii_lowercase};
-ghost use Rattle.records.specs.Items.{items_of};
-ghost use Rattle.definitions.specs.Name.{label_cmp, wire, wire_len, low, same, at_or_above, strictly_above, name_cmp, IsName};
+ghost use Rattle.definitions.specs.Name.{wire, wire_len, low, same, at_or_above, strictly_above, name_cmp, IsName};
 ghost use Rattle.definitions.specs.Signing.{label_count};
 ghost use Rattle.definitions.specs.Zone.{star_under};
+ghost use Rattle.names_labels.specs.Flat.{labels_in, name_in, IsRun, IsFlat};
 ghost use Rattle.records.specs.Star.{begins_with_star};
 
+use names_labels::flat;
+use names_labels::flat::{behind, runs_eq};
+use names_labels::order::labels_cmp;
+use names_labels::traits::{Labels, ToLabelIter};
+use names_wire::label::Label;
 use std::alloc::{AllocError, Global};
 use std::cmp::Ordering;
 use std::marker::Model;
@@ -46,46 +49,57 @@ impl Octets for Vec<u8> {
     }
 }
 
-/// A domain name (RFC 1035, 3.1). A contract sees its labels, the leftmost first, without the root's.
+/// A domain name as the octets of its wire form (RFC 1035, 3.1). A contract sees its labels, the leftmost first, without
+/// the root's.
 #[derive(Debug, Drop)]
 pub struct Name {
-    labels: Vec<Vec<u8>>,
+    octets: Vec<u8>,
 }
 
 impl Model for Name {
-    ghost use Rattle.std.specs.Prelude.{List, ℕ, map};
-    ghost use Rattle.definitions.specs.Name.{IsName};
+    ghost use Rattle.std.specs.Prelude.{List, ℕ};
+    ghost use Rattle.names_labels.specs.Flat.{name_in, IsFlat};
 
     ghost Value = { List (List ℕ) };
 
-    ghost view = { λ n. map (λ v. v.items) n.labels.items };
+    ghost view = { λ n. name_in n.octets.items };
 
-    ghost invariant = { λ n. IsName (map (λ v. v.items) n.labels.items) };
+    ghost invariant = { λ n. IsFlat n.octets.items };
 }
 
 impl Name {
-    /// The root (RFC 1034, 3.1).
-    pub fn root(alloc: Global) -> Self
-        ensures { result ≡ [] }
+    /// The root (RFC 1034, 3.1). It is refused for want of memory alone.
+    pub fn root(alloc: Global) -> Result<Self, AllocError>
+        ensures { IfOk result (λ n. n ≡ []) }
     {
-        Name {
-            labels: Vec::new(alloc),
-        }
+        Name::copied(alloc, b"\x00")
     }
 
-    /// The name of labels, the leftmost first.
-    pub fn from_labels(labels: Vec<Vec<u8>>) -> Name
-        requires { IsName (map (λ v. v.items) labels.items) }
-        ensures { result ≡ map (λ v. v.items) labels.items }
+    /// The name that octets spell, over a copy of them.
+    pub(crate) fn copied(alloc: Global, octets: &[u8]) -> Result<Name, AllocError>
+        requires { IsFlat octets.now }
+        ensures { IfOk result (λ n. n ≡ name_in octets.now) }
     {
-        Name { labels }
+        Ok(Name {
+            octets: Vec::from_slice(alloc, octets)?,
+        })
+    }
+
+    /// The labels in a row, the root's last: the wire form.
+    pub(crate) fn run(&self) -> &[u8]
+        ensures run { IsRun result.now }
+        ensures labels { labels_in result.now ≡ self.now ++ [] ∷ [] }
+        ensures value { result.now ≡ wire self.now }
+        ensures name { IsName self.now }
+    {
+        &self.octets
     }
 
     /// The same name, with the same spelling.
     pub fn try_clone(&self, alloc: Global) -> Result<Name, AllocError>
         ensures { IfOk result (λ n. n ≡ self.now) }
     {
-        self.suffix(alloc, self.labels.len())
+        Name::copied(alloc, &self.octets)
     }
 
     /// The name of the last labels, so many of them. Under an ancestor there is room for a wildcard.
@@ -95,13 +109,7 @@ impl Name {
         ensures room { count < length self.now
             → IfOk result (λ n. wire_len (star_under n) ≤ 255) }
     {
-        let mut labels = Vec::with_capacity(alloc, count)?;
-        push_labels(
-            alloc,
-            &mut labels,
-            &self.labels[self.labels.len() - count..],
-        )?;
-        Ok(Name { labels })
+        Name::copied(alloc, behind(self.run(), self.len() - count))
     }
 
     /// The wildcard name under this one (RFC 4592, 2.1.1); None where no name has room for it.
@@ -109,37 +117,39 @@ impl Name {
         ensures some { IfOk result (λ o. IfSome o (λ n. n ≡ star_under self.now)) }
         ensures none { IfOk result (λ o. (o ≡ None) ↔ (255 < wire_len (star_under self.now))) }
     {
-        if self.wire_len() > 253 {
+        let run = self.run();
+        if run.len() > 253 {
             return Ok(None);
         }
-        let mut labels = Vec::with_capacity(alloc, self.labels.len() + 1)?;
-        labels.push(Vec::from_slice(alloc, b"*")?)?;
-        push_labels(alloc, &mut labels, &self.labels)?;
-        Ok(Some(Name { labels }))
+        let mut octets = Vec::with_capacity(alloc, run.len() + 2)?;
+        octets.extend_from_slice(b"\x01*")?;
+        octets.extend_from_slice(run)?;
+        Ok(Some(Name { octets }))
     }
 
     /// What every name keeps (RFC 1035, 2.3.4), for callers whose proofs need it. It does nothing.
     pub fn keeps(&self)
         ensures { IsName self.now }
     {
-        let _ = &self.labels;
+        let _run = self.run();
     }
 
     /// How many labels the name has, the root's not counted.
     pub fn len(&self) -> usize
         ensures { result ≡ length self.now }
     {
-        self.labels.len()
+        flat::label_count(self.run()) - 1
     }
 
     /// The label at a place, the leftmost at 0.
     pub fn label_at(&self, index: usize) -> Option<&[u8]>
         ensures { option_map (λ l. l.now) result ≡ slice_get self.now index }
     {
-        match self.labels.get(index) {
-            None => None,
-            Some(label) => Some(label.as_slice()),
+        let label = flat::label_at(self.run(), index)?;
+        if label.is_root() {
+            return None;
         }
+        Some(label.as_slice())
     }
 
     /// The octets of the wire form, the root's included.
@@ -147,18 +157,15 @@ impl Name {
         ensures value { result ≡ wire_len self.now }
         ensures short { result ≤ 255 }
     {
-        let mut len = 1;
-        for label in &self.labels {
-            len += label.len() + 1;
-        }
-        len
+        self.run().len()
     }
 
     /// How many labels a signature counts: neither the root nor a leading star (RFC 4034, 3.1.3).
     pub fn rrsig_label_count(&self) -> u8
         ensures { result ≡ label_count self.now }
     {
-        let count = self.labels.len() as u8;
+        self.keeps();
+        let count = self.len() as u8;
         if self.is_wildcard() { count - 1 } else { count }
     }
 
@@ -176,47 +183,22 @@ impl Name {
     pub fn name_eq(&self, other: &Name) -> bool
         ensures { result ≡ same self.now other.now }
     {
-        self.len() == other.len() && self.ends_with(other)
+        runs_eq(self.run(), other.run())
     }
 
     /// The canonical order of names (RFC 4034, 6.1).
     pub fn name_cmp(&self, other: &Name) -> Ordering
         ensures { result ≡ name_cmp self.now other.now }
     {
-        let mut left = self.len();
-        let mut right = other.len();
-        while left > 0 && right > 0 {
-            left -= 1;
-            right -= 1;
-            let (Some(a), Some(b)) = (self.label_at(left), other.label_at(right)) else {
-                return Ordering::Equal;
-            };
-            let order = lowered_cmp(a, b);
-            if order.is_ne() {
-                return order;
-            }
-        }
-        left.cmp(&right)
+        labels_cmp(self, other)
     }
 
     /// Whether another name is at or above this one.
     pub fn ends_with(&self, base: &Name) -> bool
         ensures { result ≡ at_or_above base.now self.now }
     {
-        let count = base.len();
-        if count > self.len() {
-            return false;
-        }
-        let skipped = self.len() - count;
-        for index in 0..count {
-            let (Some(a), Some(b)) = (self.label_at(skipped + index), base.label_at(index)) else {
-                return false;
-            };
-            if !a.eq_ignore_ascii_case(b) {
-                return false;
-            }
-        }
-        true
+        let (count, tail) = (self.len(), base.len());
+        tail <= count && runs_eq(behind(self.run(), count - tail), base.run())
     }
 
     /// Whether another name is strictly above this one.
@@ -230,26 +212,48 @@ impl Name {
     pub fn compose(&self, out: &mut Vec<u8>) -> Result<(), AllocError>
         ensures ok { OnOk result (out.new.items ≡ out.old.items ++ wire self.now) }
     {
-        for label in &self.labels {
-            out.push(label.len() as u8)?;
-            out.extend_from_slice(label)?;
-        }
-        out.push(0)?;
-        Ok(())
+        out.extend_from_slice(self.run())
     }
 
     /// Writes the canonical form at the end: the wire form with letters lowered (RFC 4034, 6.2).
     pub fn compose_canonical(&self, out: &mut Vec<u8>) -> Result<(), AllocError>
         ensures ok { OnOk result (out.new.items ≡ out.old.items ++ wire (low self.now)) }
     {
-        for label in &self.labels {
-            out.push(label.len() as u8)?;
-            push_lowered(out, label)?;
-        }
-        out.push(0)?;
-        Ok(())
+        push_lowered(out, self.run())
     }
 }
+
+impl Labels for Name {
+    ghost use Rattle.std.specs.Prelude.{◌++◌, ◌∷◌, []};
+
+    ghost labels = { λ n. n ++ [] ∷ [] };
+
+    ghost name = { λ n. n };
+
+    ghost reaches = { λ _ _ _. Unit {0} };
+
+    fn label_count(&self) -> usize {
+        flat::label_count(self.run())
+    }
+
+    fn label_at(&self, index: usize) -> Option<Label<'_>> {
+        flat::label_at(self.run(), index)
+    }
+
+    fn label_place(&self, _: usize) -> usize {
+        0
+    }
+
+    fn label_onward(&self, _: usize, index: usize) -> Option<(Label<'_>, usize)> {
+        Some((flat::label_at(self.run(), index)?, 0))
+    }
+
+    fn label_row(&self) -> Option<&[u8]> {
+        Some(self.run())
+    }
+}
+
+impl ToLabelIter for Name {}
 
 /// Adds octets at the end, letters lowered.
 fn push_lowered(out: &mut Vec<u8>, octets: &[u8]) -> Result<(), AllocError>
@@ -259,30 +263,4 @@ fn push_lowered(out: &mut Vec<u8>, octets: &[u8]) -> Result<(), AllocError>
         out.push(octet.to_ascii_lowercase())?;
     }
     Ok(())
-}
-
-/// Adds copies of labels at the end.
-fn push_labels(alloc: Global, labels: &mut Vec<Vec<u8>>, from: &[Vec<u8>]) -> Result<(), AllocError>
-    ensures { let more = items_of from.now in
-        OnOk result (items_of labels.new.items ≡ items_of labels.old.items ++ more) }
-{
-    for label in from {
-        labels.push(Vec::from_slice(alloc, label)?)?;
-    }
-    Ok(())
-}
-
-/// Two labels octet by octet, letters lowered.
-fn lowered_cmp(a: &[u8], b: &[u8]) -> Ordering
-    ensures { result ≡ label_cmp a.now b.now }
-{
-    for index in 0..a.len().min(b.len()) {
-        let order = a[index]
-            .to_ascii_lowercase()
-            .cmp(&b[index].to_ascii_lowercase());
-        if order.is_ne() {
-            return order;
-        }
-    }
-    a.len().cmp(&b.len())
 }

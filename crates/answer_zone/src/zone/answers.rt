@@ -157,6 +157,6 @@ impl ZoneRecords {
                 return Ok(ancestor);
             }
         }
-        Ok(Name::root(alloc))
+        Name::root(alloc)
     }
 }

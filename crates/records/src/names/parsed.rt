@@ -1,33 +1,32 @@
 //! Names as they stand in a message (RFC 1035, 4.1.4), read in place.
-ghost use Rattle.std.specs.Prelude.{◌≡◌, ℕ, ◌+◌, ◌<◌, ◌≤◌, length, IfOk, IfSome};
+ghost use Rattle.std.specs.Prelude.{◌≡◌, ℕ, ◌+◌, ◌<◌, ◌≤◌, length, IfOk};
 ghost use Rattle.definitions.specs.Limits.{pointer_limit};
-ghost use Rattle.std.specs.Option.{option_map};
 ghost use Rattle.definitions.specs.Name.{same};
 ghost use Rattle.records.specs.Message.{owner_at};
-ghost use Rattle.records.specs.Walk.{walk, behind_walk, label_here};
+ghost use Rattle.records.specs.Walk.{walk, behind_walk};
 ghost use Rattle.records.specs.View.{Gives, named, name_read, NameReads};
 
 use crate::message::MessageError;
 use crate::names::Name;
+use names_labels::flat::runs_eq;
 use std::alloc::{AllocError, Global};
 use std::marker::Model;
 
-/// A name within a message. A contract sees its labels, as spelled.
+/// A name within a message, its octets in place. A contract sees its labels, as spelled.
 #[derive(Debug, Drop)]
 pub struct ParsedName<'a> {
-    message: &'a [u8],
-    start: usize,
+    octets: &'a [u8],
 }
 
 impl<'a> Model for ParsedName<'a> {
     ghost use Rattle.std.specs.Prelude.{List, ℕ};
-    ghost use Rattle.records.specs.View.{name_read, NameReads};
+    ghost use Rattle.names_labels.specs.Flat.{name_in, IsFlat};
 
     ghost Value = { List (List ℕ) };
 
-    ghost view = { λ n. name_read n.message.now n.start };
+    ghost view = { λ n. name_in n.octets.now };
 
-    ghost invariant = { λ n. NameReads n.message.now n.start };
+    ghost invariant = { λ n. IsFlat n.octets.now };
 }
 
 impl<'a> ParsedName<'a> {
@@ -39,7 +38,8 @@ impl<'a> ParsedName<'a> {
         ensures before { IfOk result (λ r. start < r.1) }
     {
         let end = name_end(message, start)?;
-        Ok((ParsedName { message, start }, end))
+        let octets = &message[start..end];
+        Ok((ParsedName { octets }, end))
     }
 
     /// The name at a place where one is known to stand.
@@ -47,53 +47,25 @@ impl<'a> ParsedName<'a> {
         requires { NameReads message.now start }
         ensures { result ≡ name_read message.now start }
     {
-        ParsedName { message, start }
+        let end = name_end(message, start).unwrap();
+        ParsedName {
+            octets: &message[start..end],
+        }
     }
 
     /// The name apart from the message, with the same spelling.
     pub fn to_name(&self, alloc: Global) -> Result<Name, AllocError>
         ensures { IfOk result (λ n. n ≡ self.now) }
     {
-        let mut labels = Vec::new(alloc);
-        let mut at = self.start;
-        for _ in 0..128usize {
-            let Some(label) = label_at(self.message, at) else {
-                return Ok(Name::from_labels(labels));
-            };
-            at += 1 + label.len();
-            labels.push(Vec::from_slice(alloc, label)?)?;
-        }
-        Ok(Name::from_labels(labels))
+        Name::copied(alloc, self.octets)
     }
 
     /// Whether a name is the same up to ASCII case (RFC 4343, 3).
     pub fn name_eq(&self, other: &Name) -> bool
         ensures { result ≡ same self.now other.now }
     {
-        let mut at = self.start;
-        for label in &other.labels {
-            let Some(octets) = label_at(self.message, at) else {
-                return false;
-            };
-            if !octets.eq_ignore_ascii_case(label) {
-                return false;
-            }
-            at += 1 + octets.len();
-        }
-        label_at(self.message, at).is_none()
+        runs_eq(self.octets, other.run())
     }
-}
-
-/// The label at a place of a message, where one stands there.
-fn label_at(message: &[u8], at: usize) -> Option<&[u8]>
-    ensures value { option_map (λ l. l.now) result ≡ label_here message.now at }
-    ensures inside { IfSome result (λ l. at + 1 + length l.now ≤ length message.now) }
-{
-    let size = *message.get(at)? as usize;
-    if size == 0 || size > 63 || size > message.len() - at - 1 {
-        return None;
-    }
-    Some(&message[at + 1..at + 1 + size])
 }
 
 /// The place behind the name at a place of a message, where a name stands there.

@@ -1,26 +1,21 @@
-use Rattle.std.proofs.Common.{◌≤◌, ◌∷◌, [], sym, subst, ◌-◌, drop, length, ap, ◌∙◌, arith}
-use Rattle.std.proofs.lemmas.List.{take_rest, length-map}
-use Rattle.definitions.specs.Name.{IsName, wire_len}
-use Rattle.records.proofs.NameLaws.{last_labels, IsName-drop, star_room}
+use Rattle.std.proofs.Common.{◌≡◌, ◌-◌, ◌≤◌, arith, drop, subst, sym}
+use Rattle.std.proofs.lemmas.Result.{IfOk-weaker}
+use Rattle.definitions.specs.Name.{wire_len}
+use Rattle.definitions.specs.Zone.{star_under}
+use Rattle.names_labels.specs.Flat.{name_in}
+use Rattle.names_labels.proofs.Checks.{spells_flat}
+use Rattle.records.proofs.NameFlat.{behind_spells, suffix_room}
 use Rattle.records.proofs.names.Name.suffix.Goals as goal
 
-pub invariant_of-result : goal.invariant_of-result
-invariant_of-result c =
-    let n = c.args.self.now in
+pub copied-requires : goal.copied-requires
+copied-requires c =
     let k = c.len.result - c.args.count in
-    let e = last_labels (λ v. v.items) c.self.inside.labels.items c.in_ok-labels.labels.items _ _ n k (length n - c.args.count) c.in_ok-push_labels.ensures c.in_ok-labels.ensures.items (take_rest c.deref.result.now k ∙ ap (drop k) c.deref.ensures.value) c.self.view_is (omega (arith, c.len.ensures, c.self.inside.labels.ok.0, ap length c.self.view_is, length-map c.self.inside.labels.items (λ v. v.items))) in
-    let whole : IsName n = rw (← c.self.view_is) c.self.invariant in
-    rw e (IsName-drop (length n - c.args.count) n whole)
-
-pub returns-clause-labels : goal.returns-clause-labels
-returns-clause-labels c =
-    let n = c.args.self.now in
-    let k = c.len.result - c.args.count in
-    last_labels (λ v. v.items) c.self.inside.labels.items c.in_ok-labels.labels.items _ _ n k (length n - c.args.count) c.in_ok-push_labels.ensures c.in_ok-labels.ensures.items (take_rest c.deref.result.now k ∙ ap (drop k) c.deref.ensures.value) c.self.view_is (omega (arith, c.len.ensures, c.self.inside.labels.ok.0, ap length c.self.view_is, length-map c.self.inside.labels.items (λ v. v.items)))
+    spells_flat c.behind.result.now (drop k c.args.self.now)
+    (behind_spells c.behind.result.now c.run.result.now c.args.self.now k (omega (arith, c.len.ensures)) c.run.ensures.name c.run.ensures.labels c.behind.ensures.run c.behind.ensures.labels)
 
 pub returns-clause-room : goal.returns-clause-room
-returns-clause-room c = λ below.
-    let n = c.args.self.now in
-    let whole : IsName n = rw (← c.self.view_is) c.self.invariant in
-    let room = star_room (length n - c.args.count) n whole (omega arith) (omega arith) in
-    subst (λ m. wire_len ((42 ∷ []) ∷ m) ≤ 255) (sym (returns-clause-labels c)) room
+returns-clause-room c = λ h.
+    let k = c.len.result - c.args.count in
+    let s = behind_spells c.behind.result.now c.run.result.now c.args.self.now k (omega (arith, c.len.ensures)) c.run.ensures.name c.run.ensures.labels c.behind.ensures.run c.behind.ensures.labels in
+    let room = suffix_room c.behind.result.now c.args.self.now k c.run.ensures.name (omega (arith, c.len.ensures, h)) (omega (arith, c.len.ensures)) s in
+    IfOk-weaker c.copied.result (λ n. n ≡ name_in c.behind.result.now) (λ n. wire_len (star_under n) ≤ 255) (λ n e. subst (λ x. wire_len (star_under x) ≤ 255) (sym e) room) c.copied.ensures
