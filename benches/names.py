@@ -80,9 +80,13 @@ def main():
         row(f"{what} of two of 100 names of a zone", instructions(task, some), len(some) ** 2, blocks(task, some))
     sort = instructions("sort", zone, before=0), blocks("sort", zone, before=0)
     row(f"sorting {len(zone):,} names of a zone, a name", sort[0], len(zone), sort[1])
-    for task, what in (("read", "`Name::vec_from_str`"), ("print", "`to_string`")):
+    for task, what in (("read", "`Name::vec_from_str`"), ("print", "`to_string`"), ("copy", "`to_vec`")):
         row(f"{what} of a name of the table", instructions(task, order), len(order), blocks(task, order))
         row(f"{what} of a name of a zone", instructions(task, zone), len(zone), blocks(task, zone))
+    longest = ["a." * 127]
+    for task, what in (("walk", "`iter` to its end from the front"), ("walk_back", "the same from the back")):
+        row(f"{what}, of a name of a zone", instructions(task, zone), len(zone), blocks(task, zone))
+        row(f"{what}, of a name of 127 labels", instructions(task, longest), len(longest), blocks(task, longest))
 
 
 main()

@@ -31,7 +31,7 @@ mod run;
 /// with `Memory` where the run's own lists cannot grow.
 pub fn simulate<S: Scheme, H: Nsec3Hasher>(
     alloc: Global,
-    apex: Name,
+    apex: Name<Vec<u8>>,
     records: Vec<Record>,
     mode: Mode,
     scheme: &S,

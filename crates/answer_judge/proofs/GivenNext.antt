@@ -6,13 +6,12 @@ use Rattle.std.proofs.lemmas.Bool.{eq-eqb, ne_eqb}
 use Rattle.definitions.specs.Bitmap.{is_bitmap}
 use Rattle.definitions.specs.Name.{Name, IsLabel, wire}
 use Rattle.definitions.specs.Reading.{Reads, root, label, pointer, ReadFault, name_at}
-use Rattle.definitions.proofs.ReadingLaws.{reads_exactly}
+use Rattle.definitions.proofs.ReadingLaws.{length-range, reads_exactly}
 use Rattle.definitions.proofs.SignedLaws.{Labelled, wire_of}
 use Rattle.records.specs.declared.message.MessageError.{MessageError}
 use Rattle.records.specs.Message.{Spelled, canonical_data, data_of, fault_of, if_true, name_in, ns_data, nsec_at, nsec_data, owner_at, soa_data}
 use Rattle.records.specs.Message as message
 use Rattle.records.proofs.Lists.{all_more, some_is}
-use Rattle.records.proofs.NameLabels.{length-range}
 
 -- ---- names that are read have no empty label
 

@@ -33,7 +33,7 @@ use messages::{MessageView, ViewRecord, read_message};
 use names_data::rtype::Rtype;
 use plain::numbers::Class;
 use records::message::MessageError;
-use records::names::{Name, ParsedName};
+use records::names::{Name, ParsedName, ToName, ZoneName};
 use signed_data::ds::Ds;
 use signed_data::ranked::put_data;
 use std::alloc::{AllocError, Global};
@@ -44,7 +44,7 @@ use std::alloc::{AllocError, Global};
 /// Whatever one zone gives under keys that meet, within the times of its signatures, gets the zone's verdict.
 pub fn judge<C: Checks>(
     alloc: Global,
-    apex: &Name,
+    apex: &Name<Vec<u8>>,
     ds: &[Ds<Vec<u8>>],
     dnskey_bytes: &[u8],
     answer_bytes: &[u8],
@@ -112,11 +112,11 @@ pub fn judge<C: Checks>(
 
 /// Whether a question is answered and judged: class IN, at or below the apex, and none of the types that signing
 /// adds, of aliases, or that no zone holds (RFC 6895, 3.1).
-pub fn is_allowed(apex: &Name, question: &Question) -> bool
+pub fn is_allowed(apex: &Name<Vec<u8>>, question: &Question) -> bool
     ensures { result ≡ is_allowed apex.now (asked_of question.now) }
 {
     question.class == Class::IN
-        && question.name.ends_with(apex)
+        && question.name.is_at_or_below(apex)
         && !matches!(
             question.rtype.to_int(),
             46 | 47 | 48 | 50 | 51 | 5 | 39 | 0 | 41 | 128..=255
@@ -127,7 +127,7 @@ pub fn is_allowed(apex: &Name, question: &Question) -> bool
 /// is verified against a key.
 fn judge_messages<C: Checks>(
     alloc: Global,
-    apex: &Name,
+    apex: &Name<Vec<u8>>,
     ds: &[Ds<Vec<u8>>],
     dnskey_bytes: &[u8],
     answer_bytes: &[u8],
@@ -210,7 +210,7 @@ fn judge_messages<C: Checks>(
 
 /// Reads both messages, which answer the keys' question and the one that is asked.
 fn read_messages<'a>(
-    apex: &Name,
+    apex: &Name<Vec<u8>>,
     dnskey_bytes: &'a [u8],
     answer_bytes: &'a [u8],
     question: &Question,
@@ -246,7 +246,7 @@ fn read_counted(bytes: &[u8]) -> Result<MessageView<'_>, MessageError>
 }
 
 /// Whether a message asks for a name, up to case, a type and a class.
-fn asks(view: &MessageView, name: &Name, rtype: Rtype, class: Class) -> bool
+fn asks(view: &MessageView, name: &Name<Vec<u8>>, rtype: Rtype, class: Class) -> bool
     ensures { let asked : Asked = record { name = name.now; rtype = rtype; class = class } in
         result ≡ same_question view.now.asked asked }
 {
@@ -266,7 +266,7 @@ fn records_of<'a>(alloc: Global, view: &MessageView<'a>) -> Result<Vec<ViewRecor
 }
 
 /// The RRset of the keys at the apex.
-fn key_group(alloc: Global, apex: &Name, keys: &[TaggedKey]) -> Result<Group, AllocError>
+fn key_group(alloc: Global, apex: &Name<Vec<u8>>, keys: &[TaggedKey]) -> Result<Group, AllocError>
     ensures owner { IfOk result (λ g. g.owner ≡ apex.now) }
     ensures rtype { IfOk result (λ g. g.rtype ≡ 48) }
     ensures items { IfOk result

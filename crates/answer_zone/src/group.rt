@@ -11,14 +11,14 @@ use std::marker::Model;
 /// data as they are spelled.
 #[derive(Debug, Drop)]
 pub struct GroupRecord {
-    pub owner: Option<Name>,
+    pub owner: Option<Name<Vec<u8>>>,
     pub ttl: Ttl,
     pub octets: Vec<u8>,
 }
 
 impl GroupRecord {
     /// The owner, which is the RRset's unless the record has its own.
-    pub fn owner_in<'a>(&'a self, group: &'a Name) -> &'a Name
+    pub fn owner_in<'a>(&'a self, group: &'a Name<Vec<u8>>) -> &'a Name<Vec<u8>>
         ensures { result.now ≡ unwrap_or self.now.owner group.now }
     {
         match &self.owner {
@@ -32,7 +32,7 @@ impl GroupRecord {
 /// (RFC 4034, 6.3).
 #[derive(Debug, Drop)]
 pub struct RrGroup {
-    owner: Name,
+    owner: Name<Vec<u8>>,
     label_count: u8,
     rtype: Rtype,
     ttl: Ttl,
@@ -66,7 +66,7 @@ impl RrGroup {
     /// none of its own. The label count is that of the owner that the records stem from, which for a wildcard's
     /// records is the wildcard (RFC 4034, 3.1.3).
     pub fn new(
-        owner: Name,
+        owner: Name<Vec<u8>>,
         label_count: u8,
         rtype: Rtype,
         ttl: Ttl,
@@ -96,7 +96,7 @@ impl RrGroup {
     /// An RRset that is written in canonical form, under one owner; it is signed if it has a record.
     pub fn canonical_form(
         alloc: Global,
-        owner: Name,
+        owner: Name<Vec<u8>>,
         label_count: u8,
         rtype: Rtype,
         ttl: Ttl,
@@ -118,7 +118,7 @@ impl RrGroup {
     }
 
     /// The owner of the signatures, and of each record that has none of its own.
-    pub fn owner(&self) -> &Name
+    pub fn owner(&self) -> &Name<Vec<u8>>
         ensures { result.now ≡ self.now.owner }
     {
         &self.owner

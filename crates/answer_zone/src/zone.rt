@@ -13,7 +13,7 @@ use crate::fault::{Mode, ZoneFault};
 use crate::zone::faults::first_fault;
 use crate::zone::handed::HandedRecord;
 use crate::zone::sorting::{has_unlike_neighbours, sorted};
-use records::names::Name;
+use records::names::{Name, ZoneName};
 use records::record::Record;
 use signed_data::generate::SigningError;
 use std::alloc::{AllocError, Global};
@@ -30,7 +30,7 @@ mod sorting;
 /// The records of an accepted zone in canonical order.
 #[derive(Debug, Drop)]
 pub struct ZoneRecords {
-    apex: Name,
+    apex: Name<Vec<u8>>,
     mode: Mode,
     limit: u16,
     records: Vec<HandedRecord>,
@@ -58,7 +58,7 @@ impl ZoneRecords {
     /// whole list before the next (RFC 1035, 5.2; RFC 2181, 5.2; RFC 4035, 2).
     pub fn new(
         alloc: Global,
-        apex: Name,
+        apex: Name<Vec<u8>>,
         records: Vec<Record>,
         mode: Mode,
         limit: u16,
@@ -86,7 +86,7 @@ impl ZoneRecords {
     /// A zone of records whose data are composed.
     fn of_handed(
         alloc: Global,
-        apex: Name,
+        apex: Name<Vec<u8>>,
         records: Vec<HandedRecord>,
         mode: Mode,
         limit: u16,
@@ -124,7 +124,7 @@ impl ZoneRecords {
     }
 
     /// The name of the zone.
-    pub fn apex(&self) -> &Name
+    pub fn apex(&self) -> &Name<Vec<u8>>
         ensures { result.now ≡ self.now.apex }
     {
         &self.apex
@@ -153,7 +153,7 @@ fn composed(alloc: Global, records: Vec<Record>) -> Result<Vec<HandedRecord>, Al
 }
 
 /// How many SOA records stand at the apex.
-fn count_soas(apex: &Name, records: &[HandedRecord]) -> usize
+fn count_soas(apex: &Name<Vec<u8>>, records: &[HandedRecord]) -> usize
     ensures { result ≡ length (soas apex.now records.now) }
 {
     records.iter().filter(|r| r.is_soa_of(apex)).count()

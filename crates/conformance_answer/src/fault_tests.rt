@@ -9,12 +9,26 @@ use answer::record::LongRecordData;
 use answer::scheme::SchemeError;
 use keyset::Error;
 use session_lines::session::SessionError;
+use std::alloc::Global;
+use std::fmt;
+use std::process::Abort;
 use std::test::Fail;
 
-/// Compares what each fault prints with its text.
+/// Compares what a fault prints with its text.
+fn print_is<F: fmt::Display>(
+    rt: &impl Abort,
+    alloc: Global,
+    fault: &F,
+    text: &str,
+) -> Result<(), Fail> {
+    assert_eq!(rt; fault.to_string(alloc)?.as_str(), text);
+    Ok(())
+}
+
+/// The same of each fault.
 macro_rules! prints {
     ($rt:expr; $($fault:expr => $text:expr),* $(,)?) => {
-        $(assert_eq!($rt; $fault.to_string($rt.alloc())?.as_str(), $text);)*
+        $(print_is(&$rt, $rt.alloc(), &$fault, $text)?;)*
     };
 }
 

@@ -3,7 +3,11 @@
 #![tactic(auto)]
 
 #[cfg(test)]
+mod calls;
+#[cfg(test)]
 mod compose_tests;
+#[cfg(test)]
+mod compressed_tests;
 #[cfg(test)]
 mod fault_tests;
 #[cfg(test)]

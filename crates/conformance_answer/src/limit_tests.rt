@@ -1,9 +1,11 @@
 //! Exact answers at the limits of size.
+use crate::calls::Steps;
 use crate::scheme::WELL;
 use crate::zone::{APEX, OWNER, ROLL, at, publisher, question, record, sign_with_two_keys};
 use answer::plain::Rtype;
 use answer::plain::numbers::SecurityAlgorithm;
 use answer::publisher::fault::AnswerFault;
+use answer::record::Record;
 use keyset::Available;
 use std::alloc::Global;
 use std::test::Fail;
@@ -17,22 +19,26 @@ fn octets(alloc: Global, count: usize) -> Result<Vec<u8>, Fail> {
     Ok(octets)
 }
 
+/// The length of an answer with a record of so many octets of data, None where it is too long.
+fn length_beside(alloc: Global, count: usize) -> Result<Option<usize>, Fail> {
+    let mut records = Vec::new(alloc);
+    records.push(record(alloc, OWNER, Rtype::TXT, octets(alloc, count)?)?)?;
+    let publisher = publisher(alloc, records, WELL)?;
+    match publisher.answer(&question(alloc, OWNER, Rtype::TXT)?, &at(0)) {
+        Ok(message) => Ok(Some(message.len())),
+        Err(AnswerFault::TooLong) => Ok(None),
+        Err(fault) => Err(Fail::new(fault)),
+    }
+}
+
 /// The header's 12 octets, a question of 15 and a record of 21 beside its data: with 65,487 octets of data a message is
 /// as long as one can be (RFC 1035, 4.2.2), with one more it is too long. Longer than 4,096 octets it may be.
 #[test]
 fn longest_message(rt: HostRuntime) -> Result<(), Fail> {
     let alloc = rt.alloc();
-    for (count, length) in [(4_100, Some(4_148)), (65_487, Some(65_535)), (65_488, None)] {
-        let mut records = Vec::new(alloc);
-        records.push(record(alloc, OWNER, Rtype::TXT, octets(alloc, count)?)?)?;
-        let publisher = publisher(alloc, records, WELL)?;
-        let answer = publisher.answer(&question(alloc, OWNER, Rtype::TXT)?, &at(0));
-        match (answer, length) {
-            (Ok(message), Some(length)) => assert_eq!(rt; message.len(), length),
-            (Err(AnswerFault::TooLong), None) => {}
-            _ => assert!(rt; false, "at {count} octets"),
-        }
-    }
+    assert_eq!(rt; length_beside(alloc, 4_100)?, Some(4_148));
+    assert_eq!(rt; length_beside(alloc, 65_487)?, Some(65_535));
+    assert_eq!(rt; length_beside(alloc, 65_488)?, None);
     Ok(())
 }
 
@@ -77,28 +83,20 @@ fn longest_ttl(rt: HostRuntime) -> Result<(), Fail> {
     let alloc = rt.alloc();
     let mut publisher = publisher(alloc, Vec::new(alloc), WELL)?;
     sign_with_two_keys(alloc, &mut publisher)?;
-    assert_eq!(rt;
-        publisher
-            .propagation1_complete(ROLL, u32::MAX, &at(0))?
-            .len(),
-        0
-    );
-    assert_eq!(rt;
-        publisher.cache_expired1(ROLL, &at(4_294_967_295))?.len(),
-        3
-    );
-    assert_eq!(rt;
-        publisher
-            .propagation2_complete(ROLL, u32::MAX, &at(4_294_967_295))?
-            .len(),
-        0
-    );
+    assert_eq!(rt; publisher.report1(u32::MAX, 0)?, 0);
+    assert_eq!(rt; publisher.wait1(4_294_967_295)?, 3);
+    assert_eq!(rt; publisher.report2(u32::MAX, 4_294_967_295)?, 0);
     assert_eq!(rt; publisher.key_set().actions(ROLL)?.len(), 0);
-    assert_eq!(rt;
-        publisher.cache_expired2(ROLL, &at(8_589_934_590))?.len(),
-        5
-    );
+    assert_eq!(rt; publisher.wait2(8_589_934_590)?, 5);
     Ok(())
+}
+
+/// An address at the owner of a number.
+fn address(alloc: Global, number: u32) -> Result<Record, Fail> {
+    let mut owner = b"\x04".to_vec(alloc)?;
+    owner.extend_from_slice(&number.to_be_bytes())?;
+    owner.extend_from_slice(APEX)?;
+    record(alloc, &owner, Rtype::A, b"\xc0\x00\x02\x01".to_vec(alloc)?)
 }
 
 /// A zone of 100,000 owners is accepted, and its last name is answered.
@@ -107,10 +105,7 @@ fn many_records(rt: HostRuntime) -> Result<(), Fail> {
     let alloc = rt.alloc();
     let mut records = Vec::new(alloc);
     for number in 0..100_000_u32 {
-        let mut owner = b"\x04".to_vec(alloc)?;
-        owner.extend_from_slice(&number.to_be_bytes())?;
-        owner.extend_from_slice(APEX)?;
-        records.push(record(alloc, &owner, Rtype::A, b"\xc0\x00\x02\x01".to_vec(alloc)?)?)?;
+        records.push(address(alloc, number)?)?;
     }
     let publisher = publisher(alloc, records, WELL)?;
     let last = question(alloc, b"\x04\x00\x01\x86\x9f\x07example\x00", Rtype::A)?;

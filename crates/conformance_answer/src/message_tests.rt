@@ -4,13 +4,13 @@ use answer::denial::ds::Ds;
 use answer::judge::by_scheme::judge_with;
 use answer::judge::is_allowed;
 use answer::judge::verdict::{DataList, Judgement, Refusal, Refused, Verdict};
-use answer::names::{Name, ParsedName};
+use answer::names::{Name, ParsedName, name_from_octets};
 use answer::plain::Rtype;
 use answer::plain::numbers::{Class, DigestAlgorithm, SecurityAlgorithm};
 use answer::question::Question;
 use std::alloc::{AllocError, Global};
 
-const KEYS: &[u8] =
+pub(crate) const KEYS: &[u8] =
     b"\x00\x00\x84\x00\x00\x01\x00\x03\x00\x00\x00\x00\x07example\x00\x000\x00\x01\x07example\x00\x000\x00\x01\x00\x00\x01\x2c\x00\x08\x01\x00\x03\x0d\x00\x01\x00\x00\x07example\x00\x000\x00\x01\x00\x00\x01\x2c\x00\x06\x01\x01\x03\x0d\x00\x10\x07example\x00\x00.\x00\x01\x00\x00\x01\x2c\x00j\x000\x0d\x01\x00\x00\x01\x2c\x00\x00\x07\xd0\x00\x00\x03\xe8\x04\x1e\x07example\x00\x000\x0d\x01\x00\x00\x01\x2c\x00\x00\x07\xd0\x00\x00\x03\xe8\x04\x1e\x07example\x00\x07example\x00\x000\x00\x01\x00\x00\x01\x2c\x00\x08\x01\x00\x03\x0d\x00\x01\x00\x00\x07example\x00\x000\x00\x01\x00\x00\x01\x2c\x00\x06\x01\x01\x03\x0d\x00\x10";
 
 const TWIN_KEYS: &[u8] =
@@ -30,18 +30,18 @@ const NO_NAME: &[u8] =
 
 /// What is handed in beside the apex, and the moment 1500 unless another is said.
 #[derive(Clone, Copy)]
-struct Case<'a> {
-    tag: u16,
-    keys: &'a [u8],
-    answer: &'a [u8],
-    name: &'a [u8],
-    rtype: Rtype,
+pub(crate) struct Case<'a> {
+    pub(crate) tag: u16,
+    pub(crate) keys: &'a [u8],
+    pub(crate) answer: &'a [u8],
+    pub(crate) name: &'a [u8],
+    pub(crate) rtype: Rtype,
 }
 
-fn name(alloc: Global, wire: &[u8]) -> Result<Name, AllocError> {
+fn name(alloc: Global, wire: &[u8]) -> Result<Name<Vec<u8>>, AllocError> {
     match ParsedName::parse(wire, 0) {
         Ok((parsed, _)) => parsed.to_name(alloc),
-        Err(_) => Name::root(alloc),
+        Err(_) => Name::root(alloc).map_err(|_| AllocError),
     }
 }
 
@@ -82,7 +82,7 @@ fn judged_at(alloc: Global, case: &Case, now: u32) -> Result<(&'static str, u32)
     Ok(outcome(&judgement))
 }
 
-fn judged(alloc: Global, case: &Case) -> Result<(&'static str, u32), AllocError> {
+pub(crate) fn judged(alloc: Global, case: &Case) -> Result<(&'static str, u32), AllocError> {
     judged_at(alloc, case, 1500)
 }
 

@@ -1,42 +1,40 @@
 //! A publisher of a small zone through its first roll.
+use crate::calls::Steps;
 use crate::scheme::{TestScheme, WELL};
-use answer::names::Name;
+use crate::zone::{APEX, at, publisher, question, sign_with_two_keys};
 use answer::plain::Rtype;
-use answer::plain::numbers::{Class, SecurityAlgorithm, Ttl};
-use answer::publisher::fault::Mode;
 use answer::publisher::keys::KeyKind;
 use answer::publisher::publishing::Publisher;
-use answer::question::Question;
-use answer::record::{Record, Soa, ZoneRecordData};
-use keyset::{Available, RollType, UnixTime};
 use std::alloc::Global;
 use std::test::Fail;
-use std::time::Duration;
 
-const ROLL: RollType = RollType::AlgorithmRoll;
+type TestPublisher = Publisher<'static, TestScheme, TestScheme>;
 
-fn name(alloc: Global) -> Result<Name, Fail> {
-    Ok(Name::from_octets(alloc, b"\x07example\x00")?)
+/// A publisher whose first roll is started.
+fn started(alloc: Global) -> Result<TestPublisher, Fail> {
+    let mut publisher = publisher(alloc, Vec::new(alloc), WELL)?;
+    sign_with_two_keys(alloc, &mut publisher)?;
+    Ok(publisher)
 }
 
-fn publisher(alloc: Global) -> Result<Publisher<'static, TestScheme, TestScheme>, Fail> {
-    let soa = Soa {
-        mname: name(alloc)?,
-        rname: name(alloc)?,
-        serial: 1,
-        refresh: 3600,
-        retry: 600,
-        expire: 86400,
-        minimum: 300,
-    };
-    let mut records = Vec::new(alloc);
-    records.push(Record::new(
-        name(alloc)?,
-        Class::IN,
-        Ttl::from_secs(3600),
-        ZoneRecordData::Soa(soa),
-    ))?;
-    Ok(Publisher::new(alloc, name(alloc)?, records, Mode::Nsec, WELL, WELL, 0, 100)?)
+/// A publisher whose first roll is over.
+fn rolled(alloc: Global) -> Result<TestPublisher, Fail> {
+    let mut publisher = started(alloc)?;
+    publisher.report1(0, 7)?;
+    publisher.wait1(7)?;
+    publisher.report2(0, 7)?;
+    publisher.wait2(7)?;
+    publisher.done()?;
+    Ok(publisher)
+}
+
+/// The tags of the DS set.
+fn ds_tags(alloc: Global, publisher: &TestPublisher) -> Result<Vec<u16>, Fail> {
+    let mut tags = Vec::new(alloc);
+    for ds in &publisher.ds_set()? {
+        tags.push(ds.key_tag())?;
+    }
+    Ok(tags)
 }
 
 #[test]
@@ -45,49 +43,39 @@ fn flags_of_kinds(rt: HostRuntime) {
     assert_eq!(rt; KeyKind::Zsk.flags(), 256);
 }
 
-/// The keys are published and sign at once, and the DS record of the one that signs keys follows
-/// (RFC 6781, 4.1.4). A set of two keys or of one SOA record has one signature behind it.
+/// The DS record of the key that signs keys follows once all servers have the keys (RFC 6781, 4.1.4).
+#[test]
+fn the_parent_comes_last(rt: HostRuntime) -> Result<(), Fail> {
+    let alloc = rt.alloc();
+    let mut publisher = started(alloc)?;
+    publisher.report1(0, 7)?;
+    assert!(rt; ds_tags(alloc, &publisher)?.is_empty());
+    publisher.wait1(7)?;
+    assert_eq!(rt; ds_tags(alloc, &publisher)?.as_slice(), [1054].as_slice());
+    Ok(())
+}
+
+#[test]
+fn nothing_is_owed_at_the_end(rt: HostRuntime) -> Result<(), Fail> {
+    let mut publisher = started(rt.alloc())?;
+    publisher.report1(0, 7)?;
+    publisher.wait1(7)?;
+    publisher.report2(0, 7)?;
+    publisher.wait2(7)?;
+    assert_eq!(rt; publisher.done()?, 0);
+    Ok(())
+}
+
+/// A set of two keys or of one SOA record has one signature behind it.
 #[test]
 fn a_first_roll(rt: HostRuntime) -> Result<(), Fail> {
-    let alloc = rt.alloc();
-    let now = UnixTime::new(Duration::from_secs(7));
-    let mut publisher = publisher(alloc)?;
-    publisher.add_key_ksk(
-        String::from_str(alloc, "K")?,
-        None,
-        SecurityAlgorithm::ECDSAP256SHA256,
-        b"\x00\x10".to_vec(alloc)?,
-        now,
-        Available::Available,
-    )?;
-    publisher.add_key_zsk(
-        String::from_str(alloc, "Z")?,
-        None,
-        SecurityAlgorithm::ECDSAP256SHA256,
-        b"\x00\x01\x00\x00".to_vec(alloc)?,
-        now,
-        Available::Available,
-    )?;
-    publisher.start_roll(ROLL, &[], &["K", "Z"], &now)?;
-    publisher.propagation1_complete(ROLL, 0, &now)?;
-    assert_eq!(rt; publisher.ds_set()?.len(), 0);
-    publisher.cache_expired1(ROLL, &now)?;
-    let ds = publisher.ds_set()?;
-    assert_eq!(rt; ds.len(), 1);
-    assert_eq!(rt; ds.first().map(|ds| ds.key_tag()), Some(1054));
-    publisher.propagation2_complete(ROLL, 0, &now)?;
-    publisher.cache_expired2(ROLL, &now)?;
-    assert!(rt; publisher.roll_done(ROLL)?.is_empty());
-    let keys = publisher.dnskey_answer(&now)?;
+    let publisher = rolled(rt.alloc())?;
+    let keys = publisher.dnskey_answer(&at(7))?;
     assert!(rt; keys.starts_with(b"\x00\x00\x84\x00\x00\x01\x00\x03\x00\x00\x00\x00\x07example"));
-    let question = Question {
-        name: name(alloc)?,
-        rtype: Rtype::SOA,
-        class: Class::IN,
-    };
-    let answer = publisher.answer(&question, &now)?;
+    let question = question(rt.alloc(), APEX, Rtype::SOA)?;
+    let answer = publisher.answer(&question, &at(7))?;
     assert!(rt; answer.starts_with(b"\x00\x00\x84\x00\x00\x01\x00\x02\x00\x00\x00\x00\x07example"));
     assert!(rt; publisher.key_set().key("K").is_some());
-    assert_eq!(rt; publisher.apex().len(), 1);
+    assert_eq!(rt; publisher.apex().label_count(), 2);
     Ok(())
 }

@@ -1,6 +1,6 @@
 //! The zone `example` of the tests, its records and questions.
 use crate::scheme::TestScheme;
-use answer::names::Name;
+use answer::names::{Name, name_from_octets};
 use answer::plain::Rtype;
 use answer::plain::numbers::{Class, SecurityAlgorithm, Ttl};
 use answer::publisher::fault::Mode;
@@ -18,8 +18,8 @@ pub(crate) const OWNER: &[u8] = b"\x01a\x07example\x00";
 
 pub(crate) const ROLL: RollType = RollType::AlgorithmRoll;
 
-pub(crate) fn name(alloc: Global, wire: &[u8]) -> Result<Name, Fail> {
-    Ok(Name::from_octets(alloc, wire)?)
+pub(crate) fn name(alloc: Global, wire: &[u8]) -> Result<Name<Vec<u8>>, Fail> {
+    Ok(name_from_octets(alloc, wire)?)
 }
 
 /// A moment in seconds.

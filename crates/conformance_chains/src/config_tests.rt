@@ -1,15 +1,17 @@
 //! Configurations, and the NSEC3PARAM record.
 
 use crate::zones::{APEX_ALONE, EXAMPLE, Owner, name, sorted};
+use denial::DenialConfig;
 use denial_fields::salt::Nsec3Salt;
 use denial_hashes::config::{GenerateNsec3Config, Nsec3ParamTtlMode};
 use denial_hashes::records::Nsec3Records;
 use denial_links::nsec3param::Nsec3param;
+use denial_nsec::config::GenerateNsecConfig;
 use denial_nsec3::generate::generate_nsec3s;
 use denial_owners::conditions::{is_canonical_order, is_one_class};
 use denial_sorted::laws::zone_data_order_is_total;
 use denial_sorted::walks::RecordsIter;
-use names::{Name, Rtype};
+use names::{Name, Octets, Rtype};
 use nsec3_sha1::hasher::Sha1Hasher;
 use plain::numbers::Ttl;
 use std::alloc::Global;
@@ -77,4 +79,21 @@ fn opt_out_excludes_unless_it_is_told_not_to(rt: HostRuntime) {
     assert!(rt; config.excludes());
     let config = config.without_opt_out_excluding_owner_names_of_unsigned_delegations();
     assert!(rt; !config.excludes());
+}
+
+/// Whether a configuration says that keys are to come.
+fn assumes_keys<Octs: Octets>(config: &DenialConfig<Octs>) -> bool {
+    match config {
+        DenialConfig::AlreadyPresent => false,
+        DenialConfig::Nsec(config) => config.assume_dnskeys_will_be_added,
+        DenialConfig::Nsec3(config) => config.assume_dnskeys_will_be_added,
+    }
+}
+
+#[test]
+fn gaps_are_denied_in_one_of_three_ways(rt: HostRuntime) {
+    let present: DenialConfig<Vec<u8>> = DenialConfig::AlreadyPresent;
+    let nsec: DenialConfig<Vec<u8>> = DenialConfig::Nsec(GenerateNsecConfig::new());
+    let nsec3 = DenialConfig::Nsec3(config(&rt, rt.alloc()));
+    assert!(rt; !assumes_keys(&present) && assumes_keys(&nsec) && assumes_keys(&nsec3));
 }

@@ -3,6 +3,8 @@
 use crate::links::type_count;
 use crate::zones::{A, B_C, BELOW_D, D, EXAMPLE, Line, STAR_W, ZONE, name, record, sorted};
 use denial_bitmap::builder::RtypeBitmapBuilder;
+use denial_hashes::hasher::HashError;
+use denial_hashes::owner_name::HashedOwnerError;
 use denial_owners::conditions::{is_canonical_order, is_one_class};
 use denial_owners::error::SigningError;
 use denial_owners::kept::kept_owners;
@@ -13,6 +15,8 @@ use denial_sorted::walks::RecordsIter;
 use names::{Name, Rtype};
 use plain::record::Record;
 use plain::zone_data::ZoneRecordData;
+use std::alloc::Global;
+use std::fmt::Display;
 
 #[test]
 fn conditions_hold_of_no_records(rt: HostRuntime) {
@@ -73,8 +77,42 @@ fn a_delegation_shows_no_address(rt: HostRuntime) {
     assert!(rt; types.contains(Rtype::NS) && type_count(&types) == 1);
 }
 
+/// Whether a fault is printed so.
+fn is_printed<T: Display>(alloc: Global, fault: &T, text: &str) -> bool {
+    match fault.to_string(alloc) {
+        Ok(printed) => printed.as_str() == text,
+        Err(_) => false,
+    }
+}
+
 #[test]
 fn errors_print_what_is_wrong(rt: HostRuntime) {
-    let text = format!(in rt.alloc(); "{}", SigningError::NoSingleSoa).expect(&rt, "memory");
-    assert!(rt; text.as_str() == "not exactly one SOA record at the apex");
+    let alloc = rt.alloc();
+    let texts = [
+        (
+            SigningError::NoSingleSoa,
+            "not exactly one SOA record at the apex",
+        ),
+        (
+            SigningError::MultipleTtlValues,
+            "records of one RRset have unequal TTLs",
+        ),
+        (SigningError::HashFailed, "a name was not hashed"),
+        (SigningError::HashTooLong, "a hash is too long"),
+        (SigningError::HashCollision, "two names have one hash"),
+        (SigningError::Memory, "out of memory"),
+    ];
+    for (error, text) in texts {
+        assert!(rt; is_printed(alloc, &error, text));
+    }
+    assert!(rt; is_printed(alloc, &HashError::Failed, "name was not hashed"));
+    assert!(rt; is_printed(alloc, &HashError::Memory, "out of memory"));
+    assert!(rt;
+        is_printed(
+            alloc,
+            &HashedOwnerError::DoesNotFit,
+            "hash does not fit a name"
+        )
+    );
+    assert!(rt; is_printed(alloc, &HashedOwnerError::Memory, "out of memory"));
 }

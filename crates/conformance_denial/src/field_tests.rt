@@ -129,6 +129,16 @@ fn salts_are_composed_and_ordered(rt: HostRuntime) {
 }
 
 #[test]
+fn hashes_are_composed_and_ordered(rt: HostRuntime) {
+    let a = OwnerHash::from_slice(b"\x02").expect(&rt, "a hash");
+    let b = OwnerHash::from_slice(b"\x01\x01").expect(&rt, "a hash");
+    assert!(rt; a > b && a.canonical_cmp(&b) == Ordering::Less);
+    let mut small = ArrayVec::<u8, 4>::new();
+    assert!(rt; a.compose(&mut small).is_ok() && b.compose(&mut small) == Err(ShortBuf));
+    assert!(rt; small.as_slice() == b"\x01\x02".as_slice());
+}
+
+#[test]
 fn laws_are_called(_rt: HostRuntime) {
     laws::times_are_read_back();
     laws::one_time_is_near();

@@ -1,8 +1,8 @@
-//! Tests of DNSSEC record data: rows of the standards, and what tools of others say, each line checked.
+//! Tests of DNSSEC record data, by rows of the standards. `data_lines` has what name servers and tools of others say.
 #![tactic(auto)]
 
 #[cfg(test)]
-mod data_tests;
+mod fault_tests;
 #[cfg(test)]
 mod field_tests;
 #[cfg(test)]
@@ -15,5 +15,3 @@ mod refusal_tests;
 mod signature_tests;
 #[cfg(test)]
 mod small_bitmap_tests;
-#[cfg(test)]
-mod tables;

@@ -5,6 +5,7 @@ use names::{
     CanonicalOrd, ComposeRecordData, LongRecordData, Name, ParseError, ParsedName, Parser,
 };
 use std::cmp::Ordering;
+use std::hash::{DefaultHasher, Hash, Hasher};
 use std::process::Abort;
 
 /// RFC 4034, 4.3: the next name is host.example.com, the types are A, MX, RRSIG, NSEC and TYPE1234.
@@ -36,6 +37,26 @@ fn the_next_name_stays_as_it_is_spelled(rt: HostRuntime) {
     other.set_next_name(root);
     assert!(rt; other.rdlen(false) == Some(38) && other.next_name().as_slice().len() == 1);
     assert!(rt; other < upper);
+}
+
+fn hash_of<T: Hash>(value: &T) -> u64 {
+    let mut hasher = DefaultHasher::new();
+    value.hash(&mut hasher);
+    hasher.finish()
+}
+
+#[test]
+fn equal_links_hash_alike(rt: HostRuntime) {
+    let (lower, upper) = (nsec_of(&rt, b"\x01a\x00"), nsec_of(&rt, b"\x01A\x00"));
+    assert!(rt; lower == upper && hash_of(&lower) == hash_of(&upper));
+    let octets = b"\x01\x00\x00\x00\x00\x01\x05".as_slice();
+    let a = Nsec3::parse(&mut Parser::from_ref(octets)).expect(&rt, "NSEC3 data");
+    let b = Nsec3::parse(&mut Parser::from_ref(octets)).expect(&rt, "NSEC3 data");
+    assert!(rt; a == b && hash_of(&a) == hash_of(&b));
+    let a = Nsec3param::parse(&mut Parser::from_ref(&octets[..5])).expect(&rt, "parameters");
+    let b = Nsec3param::parse(&mut Parser::from_ref(&octets[..5])).expect(&rt, "parameters");
+    assert!(rt; a == b && hash_of(&a) == hash_of(&b));
+    assert!(rt; a.canonical_cmp(&b) == Ordering::Equal && a.cmp(&b) == Ordering::Equal);
 }
 
 /// A next name that a message compressed is read, and written in full.

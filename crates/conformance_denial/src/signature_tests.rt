@@ -57,6 +57,13 @@ fn signers_are_lowered(rt: HostRuntime) {
     let mut proto = Vec::new(alloc);
     assert!(rt; proto_of(&rrsig).compose(&mut proto).is_ok() && plain.starts_with(&proto));
     assert!(rt; proto_of(&rrsig) == proto_of(&lower) && proto.len() == 27);
+    let mut canonical_proto = Vec::new(alloc);
+    assert!(rt;
+        proto_of(&rrsig)
+            .compose_canonical(&mut canonical_proto)
+            .is_ok()
+    );
+    assert!(rt; canonical.starts_with(&canonical_proto) && canonical_proto.len() == 27);
 }
 
 #[test]

@@ -1,6 +1,5 @@
 //! Bitmaps of small sets of types, in parts: accepted, refused, walked, compared, printed.
 
-use crate::tables::small_bitmaps::BITMAPS;
 use arrayvec::ArrayVec;
 use denial_bitmap::bitmap::RtypeBitmap;
 use denial_bitmap::builder::RtypeBitmapBuilder;
@@ -10,7 +9,7 @@ use names_data::canonical::CanonicalOrd;
 use names_data::rtype::Rtype;
 use names_parser::error::ParseError;
 use names_wire::builder::ShortBuf;
-use std::alloc::{AllocError, Global};
+use std::alloc::Global;
 use std::cmp::Ordering;
 use std::hash::{DefaultHasher, Hash, Hasher};
 
@@ -22,33 +21,12 @@ fn built(alloc: Global, types: &[u16]) -> Result<RtypeBitmap<Vec<u8>>, ShortBuf>
     Ok(builder.finalize())
 }
 
-/// As `built`, the last type first, and each twice.
-fn built_backwards(alloc: Global, types: &[u16]) -> Result<RtypeBitmap<Vec<u8>>, ShortBuf> {
-    let mut builder = RtypeBitmap::builder(alloc);
-    for rtype in types.iter().rev() {
-        builder.add(Rtype::from_int(*rtype))?;
-        builder.add(Rtype::from_int(*rtype))?;
-    }
-    Ok(builder.finalize())
-}
-
-#[test]
-fn builds_the_bitmaps_of_other_tools(rt: HostRuntime) {
-    let alloc = rt.alloc();
-    for (types, octets) in BITMAPS {
-        let forwards = built(alloc, types).expect(&rt, "memory");
-        assert_eq!(rt; forwards.as_slice(), octets);
-        let backwards = built_backwards(alloc, types).expect(&rt, "memory");
-        assert_eq!(rt; backwards.as_slice(), octets);
-    }
-}
-
 /// A window of each eighth type, without its number.
 const EIGHTHS: &[u8] = b"\x20\x80\x80\x80\x80\x80\x80\x80\x80\x80\x80\x80\x80\x80\x80\x80\x80\
 \x80\x80\x80\x80\x80\x80\x80\x80\x80\x80\x80\x80\x80\x80\x80\x80";
 
 fn each_eighth(alloc: Global) -> Result<RtypeBitmap<Vec<u8>>, ShortBuf> {
-    let mut builder = RtypeBitmapBuilder::new(alloc);
+    let mut builder = RtypeBitmap::builder(alloc);
     for eighth in 0..8192u16 {
         builder.add(Rtype::from_int(eighth * 8))?;
     }
@@ -63,44 +41,6 @@ fn builds_all_windows(rt: HostRuntime) {
     for window in bitmap.as_slice().chunks(34) {
         assert_eq!(rt; window.split_first(), Some((&number, EIGHTHS)));
         number = number.wrapping_add(1);
-    }
-}
-
-/// The types that the iterator gives.
-fn types_of(alloc: Global, octets: &[u8]) -> Result<Vec<u16>, AllocError> {
-    let mut types = Vec::new(alloc);
-    if let Ok(bitmap) = RtypeBitmap::from_octets(octets) {
-        for rtype in bitmap.iter() {
-            types.push(rtype.to_int())?;
-        }
-    }
-    Ok(types)
-}
-
-#[test]
-fn gives_the_types_of_other_tools(rt: HostRuntime) {
-    for (types, octets) in BITMAPS {
-        let given = types_of(rt.alloc(), octets).expect(&rt, "memory");
-        assert_eq!(rt; given.as_slice(), types);
-    }
-}
-
-/// Whether the bitmap has these types, and of their neighbours those that are among them.
-fn has_exactly(octets: &[u8], types: &[u16]) -> bool {
-    let Ok(bitmap) = RtypeBitmap::from_octets(octets) else {
-        return false;
-    };
-    types.iter().all(|rtype| {
-        let next = rtype.wrapping_add(1);
-        bitmap.contains(Rtype::from_int(*rtype))
-            && bitmap.contains(Rtype::from_int(next)) == types.contains(&next)
-    })
-}
-
-#[test]
-fn contains_the_types_of_other_tools(rt: HostRuntime) {
-    for (types, octets) in BITMAPS {
-        assert!(rt; has_exactly(octets, types));
     }
 }
 

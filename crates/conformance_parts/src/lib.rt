@@ -3,7 +3,11 @@
 #![tactic(auto)]
 
 #[cfg(test)]
+mod labels;
+#[cfg(test)]
 mod message_tests;
+#[cfg(test)]
+mod name_tests;
 #[cfg(test)]
 mod record_tests;
 #[cfg(test)]

@@ -1,14 +1,15 @@
 //! Octets of messages that were written by hand, and what they read as.
 ghost use Rattle.std.specs.Prelude.{◌<◌, ◌^◌, length};
 
+use crate::labels::has_label;
 use messages::bitmap::{bitmap_has, is_bitmap};
 use messages::rdata::{NsecView, RrsigView};
-use messages::read_message;
+use messages::{MessageView, ViewRecord, read_message};
 use names_data::rtype::Rtype;
 use plain::numbers::{Class, Ttl};
 use records::message::MessageError;
 use records::message::write::{push_header, push_question, push_record};
-use records::names::{Name, ParsedName};
+use records::names::{Name, ParsedName, ToName, ZoneName, name_from_octets};
 use std::alloc::Global;
 use std::cmp::Ordering;
 use std::process::Abort;
@@ -18,7 +19,7 @@ use std::test::Fail;
 const SMALL: &[u8] =
     b"\x00\x00\x84\x00\x00\x01\x00\x01\x00\x00\x00\x00\x01a\x07example\x00\x00\x01\x00\x01\x01A\x07example\x00\x00\x01\x00\x01\x00\x00\x0e\x10\x00\x04\xc0\x00\x02\x01";
 
-fn name(rt: &impl Abort, alloc: Global, wire: &[u8]) -> Name {
+fn name(rt: &impl Abort, alloc: Global, wire: &[u8]) -> Name<Vec<u8>> {
     let (parsed, _) = ParsedName::parse(wire, 0).expect(rt, "a name");
     parsed.to_name(alloc).expect(rt, "memory")
 }
@@ -32,32 +33,37 @@ fn orders_names_from_the_root(rt: HostRuntime) {
     assert!(rt; a.is_below(&name(&rt, rt.alloc(), b"\x01A\x07EXAMPLE\x00")));
 }
 
+/// The small message as it is read.
+fn small(rt: &impl Abort) -> MessageView<'static> {
+    read_message(SMALL).expect(rt, "a message")
+}
+
+/// Whether a name that was read is the one of the small message.
+fn is_asked(rt: &impl Abort, alloc: Global, read: &ParsedName<'_>) -> bool {
+    read.name_eq(&name(rt, alloc, b"\x01a\x07example\x00"))
+}
+
 #[test]
-fn reads_a_small_message(rt: HostRuntime) {
-    let view = read_message(SMALL).expect(&rt, "a message");
-    let question = view.question();
+fn reads_a_question(rt: HostRuntime) {
+    let question = small(&rt).question();
     assert_eq!(rt; question.rtype, Rtype::A);
     assert_eq!(rt; question.class, Class::IN);
-    assert!(rt;
-        question
-            .name
-            .name_eq(&name(&rt, rt.alloc(), b"\x01a\x07example\x00"))
+    assert!(rt; is_asked(&rt, rt.alloc(), &question.name));
+}
+
+#[test]
+fn reads_a_record(rt: HostRuntime) {
+    let mut records = small(&rt).records();
+    let entry = records.next().expect(&rt, "a record");
+    assert!(rt; records.next().is_none());
+    assert!(rt; is_asked(&rt, rt.alloc(), &entry.owner));
+    assert_eq!(rt; entry.rtype, Rtype::A);
+    assert_eq!(rt; entry.ttl, Ttl::from_secs(3600));
+    assert_eq!(rt; entry.length, 4);
+    assert_eq!(rt;
+        SMALL.get(entry.start..),
+        Some(b"\xc0\x00\x02\x01".as_slice())
     );
-    let mut count = 0usize;
-    for entry in view.records() {
-        count = usize::saturating_add(count, 1);
-        assert!(rt;
-            entry
-                .owner
-                .name_eq(&name(&rt, rt.alloc(), b"\x01a\x07example\x00"))
-        );
-        assert_eq!(rt; entry.rtype, Rtype::A);
-        assert_eq!(rt; entry.ttl, Ttl::from_secs(3600));
-        let end = entry.start + entry.length;
-        assert!(rt; entry.start <= end && end <= SMALL.len());
-        assert_eq!(rt; &SMALL[entry.start..end], b"\xc0\x00\x02\x01".as_slice());
-    }
-    assert_eq!(rt; count, 1);
 }
 
 #[test]
@@ -81,7 +87,7 @@ fn refuses_what_is_no_message(rt: HostRuntime) {
             Err(MessageError::NotOneQuestion)
         )
     );
-    let pointer = b"\x00\x00\x84\x00\x00\x01\x00\x00\x00\x00\x00\x00\xc0\x00\x00\x01\x00\x01";
+    let pointer = b"\x00\x00\x84\x00\x00\x01\x00\x00\x00\x00\x00\x00\xc0\x0c\x00\x01\x00\x01";
     assert!(rt; matches!(read_message(pointer), Err(MessageError::Form)));
 }
 
@@ -117,7 +123,7 @@ const SIGNATURE: &[u8] =
 fn push(out: &mut Vec<u8>, rtype: Rtype, octets: &[u8]) -> Result<(), Fail>
     requires { length octets.now < 2 ^ 16 }
 {
-    let owner = Name::from_octets(*out.allocator(), b"\x04alfa\x07example\x03com\x00")?;
+    let owner = name_from_octets(*out.allocator(), b"\x04alfa\x07example\x03com\x00")?;
     push_record(out, &owner, rtype, Class::IN, Ttl::from_secs(86400), octets)?;
     Ok(())
 }
@@ -134,46 +140,77 @@ fn bitmaps(rt: HostRuntime) {
     }
 }
 
-#[test]
-fn reads_data(rt: HostRuntime) -> Result<(), Fail> {
-    let alloc = rt.alloc();
+/// A message with one record of a type and data.
+fn message_of(alloc: Global, rtype: Rtype, data: &[u8]) -> Result<Vec<u8>, Fail>
+    requires { length data.now < 2 ^ 16 }
+{
     let mut octets = Vec::new(alloc);
-    push_header(&mut octets, 0x8400, 3, 0)?;
+    push_header(&mut octets, 0x8400, 1, 0)?;
     push_question(&mut octets, &Name::root(alloc)?, Rtype::NSEC, Class::IN)?;
-    push(&mut octets, Rtype::NSEC, LINK)?;
-    push(&mut octets, Rtype::RRSIG, SIGNATURE)?;
-    push(&mut octets, Rtype::NS, b"\x01A\x00")?;
-    let view = read_message(&octets)?;
-    for record in view.records() {
-        match record.rtype.to_int() {
-            47 => {
-                let link = NsecView::read(alloc, &octets, &record)?.expect(&rt, "a link");
-                assert_eq!(rt; link.next.label_at(0), Some(b"Host".as_slice()));
-                assert_eq!(rt; link.types, &LINK[18..]);
-                let canonical = record.canonical_data(alloc, &octets)?;
-                assert_eq!(rt; canonical.expect(&rt, "data").as_slice(), LINK);
-            }
-            46 => {
-                let read = RrsigView::read(alloc, &octets, &record)?;
-                let signature = read.expect(&rt, "a signature");
-                assert_eq!(rt; signature.type_covered, Rtype::A);
-                assert_eq!(rt; signature.algorithm.to_int(), 5);
-                assert_eq!(rt; signature.labels, 3);
-                assert_eq!(rt; signature.original_ttl, Ttl::from_secs(86400));
-                assert_eq!(rt; signature.expiration, 1048354263);
-                assert_eq!(rt; signature.inception, 1045762263);
-                assert_eq!(rt; signature.key_tag, 2642);
-                assert_eq!(rt; signature.signer.label_at(0), Some(b"Example".as_slice()));
-                assert_eq!(rt; signature.signature, b"\xa0\x90".as_slice());
-            }
-            _ => {
-                let canonical = record.canonical_data(alloc, &octets)?;
-                assert_eq!(rt;
-                    canonical.expect(&rt, "data").as_slice(),
-                    b"\x01a\x00".as_slice()
-                );
-            }
-        }
+    push(&mut octets, rtype, data)?;
+    Ok(octets)
+}
+
+/// The first record of a message.
+fn first(octets: &[u8]) -> Result<ViewRecord<'_>, Fail> {
+    match read_message(octets)?.records().next() {
+        Some(record) => Ok(record),
+        None => Err("no record")?,
     }
+}
+
+/// The canonical data of the first record of a message.
+fn canonical_data(alloc: Global, octets: &[u8]) -> Result<Vec<u8>, Fail> {
+    match first(octets)?.canonical_data(alloc, octets)? {
+        Some(data) => Ok(data),
+        None => Err("no data")?,
+    }
+}
+
+#[test]
+fn reads_a_link(rt: HostRuntime) -> Result<(), Fail> {
+    let alloc = rt.alloc();
+    let octets = message_of(alloc, Rtype::NSEC, LINK)?;
+    let read = NsecView::read(alloc, &octets, &first(&octets)?)?;
+    let link = read.expect(&rt, "a link");
+    assert!(rt; has_label(&link.next, 0, b"Host"));
+    assert_eq!(rt; link.types, &LINK[18..]);
+    assert_eq!(rt; canonical_data(alloc, &octets)?.as_slice(), LINK);
+    Ok(())
+}
+
+/// The signature that is the first record of a message.
+fn signature(alloc: Global, octets: &[u8]) -> Result<RrsigView<'_>, Fail> {
+    match RrsigView::read(alloc, octets, &first(octets)?)? {
+        Some(signature) => Ok(signature),
+        None => Err("no signature")?,
+    }
+}
+
+#[test]
+fn reads_a_signature(rt: HostRuntime) -> Result<(), Fail> {
+    let octets = message_of(rt.alloc(), Rtype::RRSIG, SIGNATURE)?;
+    let signature = signature(rt.alloc(), &octets)?;
+    assert_eq!(rt; signature.type_covered, Rtype::A);
+    assert_eq!(rt; signature.algorithm.to_int(), 5);
+    assert_eq!(rt; signature.labels, 3);
+    assert_eq!(rt; signature.original_ttl, Ttl::from_secs(86400));
+    assert_eq!(rt; signature.expiration, 1048354263);
+    assert_eq!(rt; signature.inception, 1045762263);
+    assert_eq!(rt; signature.key_tag, 2642);
+    assert!(rt; has_label(&signature.signer, 0, b"Example"));
+    assert_eq!(rt; signature.signature, b"\xa0\x90".as_slice());
+    Ok(())
+}
+
+/// Names of servers are lowered (RFC 4034, 6.2).
+#[test]
+fn reads_other_data(rt: HostRuntime) -> Result<(), Fail> {
+    let alloc = rt.alloc();
+    let octets = message_of(alloc, Rtype::NS, b"\x01A\x00")?;
+    assert_eq!(rt;
+        canonical_data(alloc, &octets)?.as_slice(),
+        b"\x01a\x00".as_slice()
+    );
     Ok(())
 }

@@ -1,18 +1,29 @@
 //! Names, records and numbers, with values of the standards.
+use crate::labels::has_label;
 use names_data::rtype::Rtype;
 use plain::numbers::{Class, DigestAlgorithm, SecurityAlgorithm, Ttl};
 use records::message::write::{push_u16, push_u32};
-use records::names::{Name, NameError, Octets};
+use records::names::{Name, NameError, Octets, ToName, ZoneName, name_from_octets};
 use records::record::{LongRecordData, Ns, Record, Soa, UnknownRecordData, ZoneRecordData};
 use std::alloc::Global;
 use std::cmp::Ordering;
 use std::test::Fail;
 
-/// The example of RFC 4034, 6.1.
-#[test]
-fn canonical_order(rt: HostRuntime) -> Result<(), Fail> {
-    let alloc = rt.alloc();
-    let sorted: [&[u8]; 9] = [
+/// How two names stand to one another, how the other way round, and how the second does to its copy.
+fn orders(alloc: Global, first: &[u8], second: &[u8]) -> Result<[Ordering; 3], Fail> {
+    let first = name_from_octets(alloc, first)?;
+    let second = name_from_octets(alloc, second)?;
+    let copy = second.try_clone(alloc)?;
+    Ok([
+        first.name_cmp(&second),
+        second.name_cmp(&first),
+        second.name_cmp(&copy),
+    ])
+}
+
+/// The names of RFC 4034, 6.1, in order.
+fn sorted_names() -> [&'static [u8]; 9] {
+    [
         b"\x07example\x00",
         b"\x01a\x07example\x00",
         b"\x08yljkjljk\x01a\x07example\x00",
@@ -22,40 +33,61 @@ fn canonical_order(rt: HostRuntime) -> Result<(), Fail> {
         b"\x01\x01\x01z\x07example\x00",
         b"\x01*\x01z\x07example\x00",
         b"\x01\xc8\x01z\x07example\x00",
-    ];
-    for i in 1..sorted.len() {
-        let before = Name::from_octets(alloc, sorted[i - 1])?;
-        let behind = Name::from_octets(alloc, sorted[i])?;
-        assert_eq!(rt; before.name_cmp(&behind), Ordering::Less);
-        assert_eq!(rt; behind.name_cmp(&before), Ordering::Greater);
-        assert_eq!(rt; behind.name_cmp(&behind.try_clone(alloc)?), Ordering::Equal);
+    ]
+}
+
+#[test]
+fn canonical_order(rt: HostRuntime) -> Result<(), Fail> {
+    let sorted = sorted_names();
+    let rising = [Ordering::Less, Ordering::Greater, Ordering::Equal];
+    for (first, second) in sorted.iter().zip(&sorted[1..]) {
+        assert_eq!(rt; orders(rt.alloc(), first, second)?, rising);
     }
     Ok(())
 }
 
+fn www(alloc: Global) -> Result<Name<Vec<u8>>, Fail> {
+    Ok(name_from_octets(alloc, b"\x03www\x07Example\x03com\x00")?)
+}
+
+fn com(alloc: Global) -> Result<Name<Vec<u8>>, Fail> {
+    Ok(name_from_octets(alloc, b"\x03COM\x00")?)
+}
+
 /// The label counts of RFC 4034, 3.1.3, and what is at or above a name.
 #[test]
-fn parts_of_names(rt: HostRuntime) -> Result<(), Fail> {
-    let alloc = rt.alloc();
-    let www = Name::from_octets(alloc, b"\x03www\x07Example\x03com\x00")?;
-    let com = Name::from_octets(alloc, b"\x03COM\x00")?;
+fn names_above_names(rt: HostRuntime) -> Result<(), Fail> {
+    let (www, com) = (www(rt.alloc())?, com(rt.alloc())?);
     assert_eq!(rt; www.rrsig_label_count(), 3);
-    assert_eq!(rt; www.wire_len(), 17);
-    assert!(rt; www.ends_with(&com) && www.is_below(&com) && !com.is_below(&com));
-    assert!(rt; com.ends_with(&Name::root(alloc)?) && !com.ends_with(&www));
-    let last = www.suffix(alloc, www.len().min(1))?;
+    assert_eq!(rt; www.as_slice().len(), 17);
+    assert!(rt; www.is_at_or_below(&com) && www.is_below(&com) && !com.is_below(&com));
+    assert!(rt; com.is_at_or_below(&Name::root(rt.alloc())?) && !com.is_at_or_below(&www));
+    Ok(())
+}
+
+#[test]
+fn parts_of_names(rt: HostRuntime) -> Result<(), Fail> {
+    let (www, com) = (www(rt.alloc())?, com(rt.alloc())?);
+    let last = www.suffix(rt.alloc(), www.depth().min(1))?;
     assert!(rt; last.name_eq(&com) && !last.name_eq(&www));
-    assert_eq!(rt; last.label_at(0), Some(b"com".as_slice()));
-    let mut octets = Vec::new(alloc);
-    www.compose(&mut octets)?;
+    assert!(rt; has_label(&last, 0, b"com"));
+    Ok(())
+}
+
+/// In canonical form a name is lowered (RFC 4034, 6.2).
+#[test]
+fn octets_of_names(rt: HostRuntime) -> Result<(), Fail> {
+    let www = www(rt.alloc())?;
+    let mut spelled = Vec::new(rt.alloc());
+    www.compose(&mut spelled)?;
     assert_eq!(rt;
-        octets.as_slice(),
+        spelled.as_slice(),
         b"\x03www\x07Example\x03com\x00".as_slice()
     );
-    let mut octets = Vec::new(alloc);
-    www.compose_canonical(&mut octets)?;
+    let mut lowered = Vec::new(rt.alloc());
+    www.compose_canonical(&mut lowered)?;
     assert_eq!(rt;
-        Octets::as_slice(&octets),
+        Octets::as_slice(&lowered),
         b"\x03www\x07example\x03com\x00".as_slice()
     );
     Ok(())
@@ -65,28 +97,34 @@ fn parts_of_names(rt: HostRuntime) -> Result<(), Fail> {
 #[test]
 fn stars(rt: HostRuntime) -> Result<(), Fail> {
     let alloc = rt.alloc();
-    let example = Name::from_octets(alloc, b"\x07example\x00")?;
+    let example = name_from_octets(alloc, b"\x07example\x00")?;
     let star = example
         .wildcard_child(alloc)?
         .expect(&rt, "room for a star");
-    assert!(rt; star.name_eq(&Name::from_octets(alloc, b"\x01*\x07EXAMPLE\x00")?));
+    assert!(rt; star.name_eq(&name_from_octets(alloc, b"\x01*\x07EXAMPLE\x00")?));
     assert!(rt; star.is_wildcard() && star.has_star());
     assert_eq!(rt; star.rrsig_label_count(), 1);
-    let below = Name::from_octets(alloc, b"\x03sub\x01*\x07example\x00")?;
+    let below = name_from_octets(alloc, b"\x03sub\x01*\x07example\x00")?;
     assert!(rt; !below.is_wildcard() && below.has_star());
     assert_eq!(rt; below.rrsig_label_count(), 3);
     Ok(())
 }
 
-fn owner(alloc: Global) -> Result<Name, Fail> {
-    Ok(Name::from_octets(alloc, b"\x07Example\x00")?)
+fn owner(alloc: Global) -> Result<Name<Vec<u8>>, Fail> {
+    Ok(name_from_octets(alloc, b"\x07Example\x00")?)
 }
 
-/// The data of RFC 1035, 3.3.11 and 3.3.13; in canonical form the names are lowered (RFC 4034, 6.2).
-#[test]
-fn data_of_records(rt: HostRuntime) -> Result<(), Fail> {
-    let alloc = rt.alloc();
-    let soa = ZoneRecordData::Soa(Soa {
+/// The octets of data, as spelled and then in canonical form.
+fn written(alloc: Global, data: &ZoneRecordData) -> Result<(Vec<u8>, Vec<u8>), Fail> {
+    let mut spelled = Vec::new(alloc);
+    data.compose_rdata(&mut spelled)?;
+    let mut canonical = Vec::new(alloc);
+    data.compose_canonical_rdata(&mut canonical)?;
+    Ok((spelled, canonical))
+}
+
+fn soa(alloc: Global) -> Result<ZoneRecordData, Fail> {
+    Ok(ZoneRecordData::Soa(Soa {
         mname: owner(alloc)?,
         rname: Name::root(alloc)?,
         serial: 1,
@@ -94,27 +132,35 @@ fn data_of_records(rt: HostRuntime) -> Result<(), Fail> {
         retry: 600,
         expire: 86400,
         minimum: 300,
-    });
-    let record = Record::new(owner(alloc)?, Class::IN, Ttl::from_secs(3600), soa);
+    }))
+}
+
+/// The data of RFC 1035, 3.3.13.
+#[test]
+fn data_of_soa_records(rt: HostRuntime) -> Result<(), Fail> {
+    let alloc = rt.alloc();
+    let record = Record::new(owner(alloc)?, Class::IN, Ttl::from_secs(3600), soa(alloc)?);
     assert_eq!(rt; record.rtype(), Rtype::SOA);
-    let mut octets = Vec::new(alloc);
-    record.rdata.compose_rdata(&mut octets)?;
-    let numbers =
-        b"\x00\x00\x00\x01\x00\x00\x0e\x10\x00\x00\x02\x58\x00\x01\x51\x80\x00\x00\x01\x2c";
-    assert!(rt; octets.starts_with(b"\x07Example\x00\x00"));
-    assert!(rt; octets.ends_with(numbers));
-    assert_eq!(rt; octets.len(), 30);
+    let (spelled, canonical) = written(alloc, &record.rdata)?;
+    assert_eq!(rt; canonical.len(), 30);
+    assert_eq!(rt;
+        spelled.as_slice(),
+        b"\x07Example\x00\x00\x00\x00\x00\x01\x00\x00\x0e\x10\x00\x00\x02\x58\x00\x01\x51\x80\x00\x00\x01\x2c".as_slice()
+    );
+    Ok(())
+}
+
+/// The data of RFC 1035, 3.3.11; in canonical form the name is lowered (RFC 4034, 6.2).
+#[test]
+fn data_of_ns_records(rt: HostRuntime) -> Result<(), Fail> {
+    let alloc = rt.alloc();
     let data = ZoneRecordData::Ns(Ns {
         nsdname: owner(alloc)?,
     });
     assert_eq!(rt; data.rtype(), Rtype::NS);
-    let mut octets = Vec::new(alloc);
-    data.compose_rdata(&mut octets)?;
-    data.compose_canonical_rdata(&mut octets)?;
-    assert_eq!(rt;
-        octets.as_slice(),
-        b"\x07Example\x00\x07example\x00".as_slice()
-    );
+    let (spelled, canonical) = written(alloc, &data)?;
+    assert_eq!(rt; spelled.as_slice(), b"\x07Example\x00".as_slice());
+    assert_eq!(rt; canonical.as_slice(), b"\x07example\x00".as_slice());
     Ok(())
 }
 
@@ -137,6 +183,12 @@ fn numbers(rt: HostRuntime) -> Result<(), Fail> {
     assert_eq!(rt; Ttl::from_secs(86400).as_secs(), 86400);
     assert_eq!(rt; SecurityAlgorithm::from_int(8).to_int(), 8);
     assert_eq!(rt; DigestAlgorithm::from_int(4).to_int(), 4);
+    Ok(())
+}
+
+/// Numbers are written with their most significant octet first (RFC 1035, 2.3.2).
+#[test]
+fn written_numbers(rt: HostRuntime) -> Result<(), Fail> {
     let mut octets = Vec::new(rt.alloc());
     push_u16(&mut octets, 0x0102)?;
     push_u32(&mut octets, 0x0304_0506)?;
@@ -147,15 +199,15 @@ fn numbers(rt: HostRuntime) -> Result<(), Fail> {
 #[test]
 fn reads_one_name_and_nothing_else(rt: HostRuntime) -> Result<(), Fail> {
     let alloc = rt.alloc();
-    let name = Name::from_octets(alloc, b"\x01a\x07Example\x00")?;
-    assert_eq!(rt; name.len(), 2);
-    assert_eq!(rt; name.label_at(1), Some(b"Example".as_slice()));
+    let name = name_from_octets(alloc, b"\x01a\x07Example\x00")?;
+    assert_eq!(rt; name.depth(), 2);
+    assert!(rt; has_label(&name, 1, b"Example"));
     for (octets, error) in [
         (b"\x01a".as_slice(), NameError::ShortInput),
         (b"\xc0\x00".as_slice(), NameError::Malformed),
         (b"\x00\x00".as_slice(), NameError::TrailingData),
     ] {
-        assert_eq!(rt; Name::from_octets(alloc, octets).err(), Some(error));
+        assert_eq!(rt; name_from_octets(alloc, octets).err(), Some(error));
     }
     Ok(())
 }

@@ -155,9 +155,8 @@ fn tells_which_names_exist(rt: HostRuntime) {
 }
 
 #[test]
-fn orders_and_covers_names(rt: HostRuntime) {
+fn orders_names(rt: HostRuntime) {
     let alloc = rt.alloc();
-    let apex = name(&rt, alloc, "example");
     let a = name(&rt, alloc, "a.Example");
     let b = name(&rt, alloc, "b.c.example");
     let z = name(&rt, alloc, "z.example");
@@ -170,6 +169,15 @@ fn orders_and_covers_names(rt: HostRuntime) {
         Ordering::Equal
     );
     assert!(rt; same(&a, &name(&rt, alloc, "A.eXample")) && !same(&a, &b));
+}
+
+#[test]
+fn covers_names(rt: HostRuntime) {
+    let alloc = rt.alloc();
+    let apex = name(&rt, alloc, "example");
+    let a = name(&rt, alloc, "a.Example");
+    let b = name(&rt, alloc, "b.c.example");
+    let z = name(&rt, alloc, "z.example");
     assert!(rt; at_or_above(&apex, &b) && at_or_above(&b, &b) && !at_or_above(&b, &apex));
     assert!(rt; covers(&apex, &a, &z, &b) && covers(&apex, &b, &apex, &z));
     assert!(rt; !covers(&apex, &a, &b, &a) && !covers(&apex, &a, &b, &z));
@@ -182,10 +190,12 @@ fn covers_hashes_on_a_circle(rt: HostRuntime) {
     assert!(rt; hash_covers(&[5], &[5], &[4]) && !hash_covers(&[5], &[5], &[5]));
 }
 
+/// Three names, two of them compressed.
+const MESSAGE: &[u8] = b"\x03com\0\x07example\xc0\0\x03www\xc0\x05";
+
 #[test]
 fn reads_names_of_a_message(rt: HostRuntime) {
-    let message = b"\x03com\0\x07example\xc0\0\x03www\xc0\x05";
-    let read = name_at(rt.alloc(), message, 15, 255);
+    let read = name_at(rt.alloc(), MESSAGE, 15, 255);
     let Ok((labels, behind)) = read else {
         panic!(rt; "no name");
     };
@@ -194,16 +204,22 @@ fn reads_names_of_a_message(rt: HostRuntime) {
     for (label, text) in labels.iter().zip(["www", "example", "com"]) {
         assert_eq!(rt; label.as_slice(), text.as_bytes());
     }
-    for (octets, place, pointers, error) in [
-        (b"\xc0\x0012".as_slice(), 0, 255, ReadError::Malformed),
-        (message.as_slice(), 15, 1, ReadError::Malformed),
-        (b"\x66foo".as_slice(), 0, 255, ReadError::Malformed),
-        (b"\x03ww".as_slice(), 0, 0, ReadError::Short),
-        (b"\x00\xc0".as_slice(), 1, 255, ReadError::Short),
-    ] {
-        let read = name_at(rt.alloc(), octets, place, pointers);
-        assert!(rt; matches!(read, Err(e) if e == error), "{place} {pointers}");
-    }
+}
+
+/// Why no name is read.
+fn refusal(alloc: Global, octets: &[u8], place: usize, pointers: usize) -> Option<ReadError> {
+    name_at(alloc, octets, place, pointers).err()
+}
+
+#[test]
+fn reads_no_name(rt: HostRuntime) {
+    let alloc = rt.alloc();
+    let (short, malformed) = (Some(ReadError::Short), Some(ReadError::Malformed));
+    assert_eq!(rt; refusal(alloc, b"\xc0\x0012", 0, 255), malformed);
+    assert_eq!(rt; refusal(alloc, MESSAGE, 15, 1), malformed);
+    assert_eq!(rt; refusal(alloc, b"\x66foo", 0, 255), malformed);
+    assert_eq!(rt; refusal(alloc, b"\x03ww", 0, 0), short);
+    assert_eq!(rt; refusal(alloc, b"\x00\xc0", 1, 255), short);
 }
 
 /// The bitmap of types 1, 15, 46, 47 and 1234 (RFC 4034, 4.3).
@@ -219,28 +235,50 @@ fn reads_bitmaps(rt: HostRuntime) {
     assert!(rt; is_bitmap(BITMAP) && !is_bitmap(&BITMAP[..9]) && !is_bitmap(&[0, 0]));
 }
 
+/// The types that the NSEC record of an owner of the zone tells of.
+fn nsec_types(rt: &impl Abort, alloc: Global, with_dnskey: bool, text: &str) -> Vec<u16> {
+    let owner = name(rt, alloc, text);
+    zone(rt, alloc)
+        .nsec_types(alloc, with_dnskey, &owner)
+        .expect(rt, "memory")
+}
+
+/// Those that its NSEC3 record tells of.
+fn nsec3_types(rt: &impl Abort, alloc: Global, with_dnskey: bool, text: &str) -> Vec<u16> {
+    let owner = name(rt, alloc, text);
+    zone(rt, alloc)
+        .nsec3_types(alloc, with_dnskey, &owner)
+        .expect(rt, "memory")
+}
+
 #[test]
-fn lists_the_types_of_chain_records(rt: HostRuntime) {
-    let alloc = rt.alloc();
-    let zone = zone(&rt, alloc);
-    let rows: [(&str, &[u16], &[u16]); 4] = [
-        ("example", &[6, 46, 47, 48], &[6, 46, 48, 51]),
-        ("a.example", &[1, 46, 47], &[1, 46]),
-        ("d.example", &[2, 46, 47], &[2]),
-        ("c.example", &[46, 47], &[]),
+fn lists_the_types_of_nsec_records(rt: HostRuntime) {
+    let rows: [(&str, bool, &[u16]); 5] = [
+        ("example", true, &[6, 46, 47, 48]),
+        ("a.example", true, &[1, 46, 47]),
+        ("d.example", true, &[2, 46, 47]),
+        ("c.example", true, &[46, 47]),
+        ("example", false, &[6, 46, 47]),
     ];
-    for (text, nsec, nsec3) in rows {
-        let owner = name(&rt, alloc, text);
-        let types = zone.nsec_types(alloc, true, &owner).expect(&rt, "memory");
-        assert_eq!(rt; types.as_slice(), nsec, "{text}");
-        let types = zone.nsec3_types(alloc, true, &owner).expect(&rt, "memory");
-        assert_eq!(rt; types.as_slice(), nsec3, "{text}");
+    for (text, with_dnskey, want) in rows {
+        let types = nsec_types(&rt, rt.alloc(), with_dnskey, text);
+        assert_eq!(rt; types.as_slice(), want, "{text}");
     }
-    let apex = name(&rt, alloc, "example");
-    let types = zone.nsec_types(alloc, false, &apex).expect(&rt, "memory");
-    assert_eq!(rt; types.as_slice(), [6, 46, 47].as_slice());
-    let types = zone.nsec3_types(alloc, false, &apex).expect(&rt, "memory");
-    assert_eq!(rt; types.as_slice(), [6, 46, 51].as_slice());
+}
+
+#[test]
+fn lists_the_types_of_nsec3_records(rt: HostRuntime) {
+    let rows: [(&str, bool, &[u16]); 5] = [
+        ("example", true, &[6, 46, 48, 51]),
+        ("a.example", true, &[1, 46]),
+        ("d.example", true, &[2]),
+        ("c.example", true, &[]),
+        ("example", false, &[6, 46, 51]),
+    ];
+    for (text, with_dnskey, want) in rows {
+        let types = nsec3_types(&rt, rt.alloc(), with_dnskey, text);
+        assert_eq!(rt; types.as_slice(), want, "{text}");
+    }
 }
 
 #[test]

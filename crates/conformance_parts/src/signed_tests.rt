@@ -1,7 +1,7 @@
 //! Record data and signed octets, with values of the standards.
 use names_data::rtype::Rtype;
 use plain::numbers::{Class, DigestAlgorithm, SecurityAlgorithm, Ttl};
-use records::names::Name;
+use records::names::{ZoneName, name_from_octets};
 use signed_data::dnskey::Dnskey;
 use signed_data::ds::Ds;
 use signed_data::ranked::{Ranked, put_data, put_ranked};
@@ -22,8 +22,7 @@ fn digest(alloc: Global, tag: u16) -> Result<Ds<Vec<u8>>, Fail> {
 }
 
 #[test]
-fn fields_of_keys_and_digests(rt: HostRuntime) -> Result<(), Fail> {
-    let alloc = rt.alloc();
+fn fields_of_keys(rt: HostRuntime) {
     let octets: &[u8] = b"\x00\x10";
     let algorithm = SecurityAlgorithm::ECDSAP256SHA256;
     let key = Dnskey::<&[u8]>::new(257, 3, algorithm, octets);
@@ -32,7 +31,11 @@ fn fields_of_keys_and_digests(rt: HostRuntime) -> Result<(), Fail> {
     assert_eq!(rt; key.algorithm(), algorithm);
     assert_eq!(rt; key.public_key(), octets);
     assert!(rt; key.for_ref().same_key(&key) && key.is_zone_key());
-    let ds = digest(alloc, 60485)?;
+}
+
+#[test]
+fn fields_of_digests(rt: HostRuntime) -> Result<(), Fail> {
+    let ds = digest(rt.alloc(), 60485)?;
     assert_eq!(rt; ds.key_tag(), 60485);
     assert_eq!(rt; ds.algorithm().to_int(), 5);
     assert_eq!(rt; ds.digest_type().to_int(), 1);
@@ -42,7 +45,7 @@ fn fields_of_keys_and_digests(rt: HostRuntime) -> Result<(), Fail> {
 
 /// Octets are compared from the left, and what ends first is less (RFC 4034, 6.3).
 #[test]
-fn lists_in_order(rt: HostRuntime) -> Result<(), Fail> {
+fn data_in_order(rt: HostRuntime) -> Result<(), Fail> {
     let alloc = rt.alloc();
     let mut list = Vec::new(alloc);
     for data in [b"\x02".as_slice(), b"\x01\x00", b"\x01", b"\x02"] {
@@ -54,6 +57,13 @@ fn lists_in_order(rt: HostRuntime) -> Result<(), Fail> {
         list.last().map(|data| data.as_slice()),
         Some(b"\x02".as_slice())
     );
+    Ok(())
+}
+
+/// DS records in order of tag, each once.
+#[test]
+fn digests_in_order(rt: HostRuntime) -> Result<(), Fail> {
+    let alloc = rt.alloc();
     let mut set = Vec::new(alloc);
     for tag in [9, 7, 9] {
         put_ranked(&mut set, digest(alloc, tag)?)?;
@@ -77,7 +87,7 @@ fn fields(alloc: Global, labels: u8) -> Result<ProtoRrsig, Fail> {
         1048354263,
         1045762263,
         2642,
-        Name::from_octets(alloc, b"\x07Example\x03com\x00")?,
+        name_from_octets(alloc, b"\x07Example\x03com\x00")?,
     ))
 }
 
@@ -92,40 +102,64 @@ fn fields_of_signatures(rt: HostRuntime) -> Result<(), Fail> {
     assert_eq!(rt; fields.expiration(), 1048354263);
     assert_eq!(rt; fields.inception(), 1045762263);
     assert_eq!(rt; fields.key_tag(), 2642);
-    assert_eq!(rt; fields.signer_name().len(), 2);
-    let numbers = b"\x00\x01\x05\x03\x00\x01\x51\x80\x3e\x7c\x9d\xd7\x3e\x55\x10\xd7\x0a\x52";
-    let mut octets = Vec::new(alloc);
-    fields.compose(&mut octets)?;
-    assert!(rt; octets.starts_with(numbers));
-    assert!(rt; octets.ends_with(b"\x07Example\x03com\x00"));
-    assert_eq!(rt; octets.len(), 31);
-    let mut octets = Vec::new(alloc);
-    fields.compose_canonical(&mut octets)?;
-    assert!(rt; octets.starts_with(numbers));
-    assert!(rt; octets.ends_with(b"\x07example\x03com\x00"));
+    assert_eq!(rt; fields.signer_name().depth(), 2);
     Ok(())
+}
+
+/// The octets of the fields, as spelled or in canonical form.
+fn written_fields(alloc: Global, is_canonical: bool) -> Result<Vec<u8>, Fail> {
+    let fields = fields(alloc, 3)?;
+    let mut octets = Vec::new(alloc);
+    if is_canonical {
+        fields.compose_canonical(&mut octets)?;
+    } else {
+        fields.compose(&mut octets)?;
+    }
+    Ok(octets)
+}
+
+/// In canonical form the signer is lowered (RFC 4034, 3.1.8.1).
+#[test]
+fn octets_of_fields(rt: HostRuntime) -> Result<(), Fail> {
+    let spelled = written_fields(rt.alloc(), false)?;
+    assert_eq!(rt;
+        spelled.as_slice(),
+        b"\x00\x01\x05\x03\x00\x01\x51\x80\x3e\x7c\x9d\xd7\x3e\x55\x10\xd7\x0a\x52\x07Example\x03com\x00".as_slice()
+    );
+    let canonical = written_fields(rt.alloc(), true)?;
+    assert_eq!(rt;
+        canonical.as_slice(),
+        b"\x00\x01\x05\x03\x00\x01\x51\x80\x3e\x7c\x9d\xd7\x3e\x55\x10\xd7\x0a\x52\x07example\x03com\x00".as_slice()
+    );
+    Ok(())
+}
+
+/// What is signed for an address of an owner of three labels, under so many labels.
+fn signed(alloc: Global, labels: u8) -> Result<Vec<u8>, Fail> {
+    let owner = name_from_octets(alloc, b"\x04Host\x07example\x03com\x00")?;
+    let mut canonical = Vec::new(alloc);
+    canonical.push(b"\xc0\x00\x02\x01".to_vec(alloc)?)?;
+    let fields = fields(alloc, labels)?;
+    Ok(signed_octets(alloc, &fields, &owner, Class::IN, &canonical)?)
+}
+
+/// The fields under so many labels, the octets of a name, and an address.
+fn wanted(alloc: Global, labels: u8, name: &[u8]) -> Result<Vec<u8>, Fail> {
+    let mut octets = Vec::new(alloc);
+    fields(alloc, labels)?.compose_canonical(&mut octets)?;
+    octets.extend_from_slice(name)?;
+    octets.extend_from_slice(b"\x00\x01\x00\x01\x00\x01\x51\x80\x00\x04\xc0\x00\x02\x01")?;
+    Ok(octets)
 }
 
 /// Under two labels an owner of three is signed as the wildcard (RFC 4034, 3.1.8.1; RFC 4035, 5.3.2).
 #[test]
 fn octets_of_signatures(rt: HostRuntime) -> Result<(), Fail> {
     let alloc = rt.alloc();
-    let owner = Name::from_octets(alloc, b"\x04Host\x07example\x03com\x00")?;
-    let mut canonical = Vec::new(alloc);
-    canonical.push(b"\xc0\x00\x02\x01".to_vec(alloc)?)?;
-    let data = b"\x00\x01\x00\x01\x00\x01\x51\x80\x00\x04\xc0\x00\x02\x01";
-    for (labels, name) in [
-        (3, b"\x04host\x07example\x03com\x00".as_slice()),
-        (2, b"\x01*\x07example\x03com\x00"),
-    ] {
-        let fields = fields(alloc, labels)?;
-        let mut want = Vec::new(alloc);
-        fields.compose_canonical(&mut want)?;
-        want.extend_from_slice(name)?;
-        want.extend_from_slice(data)?;
-        let octets = signed_octets(alloc, &fields, &owner, Class::IN, &canonical)?;
-        assert_eq!(rt; octets.as_slice(), want.as_slice());
-    }
+    let in_full = wanted(alloc, 3, b"\x04host\x07example\x03com\x00")?;
+    assert_eq!(rt; signed(alloc, 3)?, in_full);
+    let star = wanted(alloc, 2, b"\x01*\x07example\x03com\x00")?;
+    assert_eq!(rt; signed(alloc, 2)?, star);
     Ok(())
 }
 

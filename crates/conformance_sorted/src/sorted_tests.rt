@@ -1,5 +1,6 @@
 //! Records put in order, added and taken out.
 
+use denial_sorted::groups::MultipleTtlValues;
 use denial_sorted::laws::unknown_data_order_is_total;
 use denial_sorted::sorted::{InsertError, SortedRecords};
 use denial_sorted::sorter::DefaultSorter;
@@ -186,4 +187,17 @@ fn all_records_of_an_owner_and_type_are_taken_out(rt: HostRuntime) {
     assert!(rt; !sorted.remove_all_by_name_class_rtype(&name, None, Some(Rtype::A)));
     assert!(rt; sorted.remove_all_by_name_class_rtype(&name, None, None));
     assert!(rt; sorted.len() == 1);
+}
+
+#[test]
+fn refused_records_say_why(rt: HostRuntime) {
+    let alloc = rt.alloc();
+    let present = InsertError::Present(plain(&rt, 1, b""));
+    let text = format!(in alloc; "{present}").expect(&rt, "memory");
+    assert!(rt; text.as_str() == "an equal record is present");
+    let refused = InsertError::Memory(plain(&rt, 1, b""));
+    let text = format!(in alloc; "{refused}").expect(&rt, "memory");
+    assert!(rt; text.as_str() == "out of memory");
+    let text = format!(in alloc; "{MultipleTtlValues}").expect(&rt, "memory");
+    assert!(rt; text.as_str() == "records of an RRset have different TTLs");
 }

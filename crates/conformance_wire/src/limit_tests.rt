@@ -5,7 +5,10 @@ use names_builder::plain::{is_plain, plain_octets};
 use names_flat::builder::{Finish, NameBuilder};
 use names_flat::name::Name;
 use names_flat::push_error::PushError;
+use names_flat::relative::RelativeName;
 use names_flat::text_error::FromStrError;
+use names_parsed::parsed::ParsedName;
+use names_parser::parser::Parser;
 use names_traits::to_name::ToName;
 use std::alloc::Global;
 use std::test::Fail;
@@ -36,6 +39,46 @@ fn the_longest_text(rt: HostRuntime) -> Result<(), Fail> {
     text.push_str("\\255")?;
     let longer = Name::vec_from_str(alloc, text.as_str());
     assert!(rt; matches!(longer, Err(FromStrError::Presentation(_))));
+    Ok(())
+}
+
+/// In a message and without its root the longest name has the same text, and with its last dot a character more.
+#[test]
+fn the_longest_text_of_each_kind(rt: HostRuntime) -> Result<(), Fail> {
+    let alloc = rt.alloc();
+    let octets = longest(alloc)?;
+    let name = Name::from_slice(&octets)?;
+    let text = name.to_string(alloc)?;
+    assert!(rt; text.as_str().starts_with("\\255\\255") && text.as_str().ends_with("\\255"));
+    let front = octets.as_slice().get(..254).unwrap_or_default();
+    assert!(rt; RelativeName::from_slice(front)?.to_string(alloc)? == text);
+    let parsed = ParsedName::parse(&mut Parser::from_ref(octets.as_slice()))?;
+    assert!(rt; parsed.to_string(alloc)? == text);
+    let dotted = parsed.fmt_with_dot().to_string(alloc)?;
+    assert_eq!(rt; dotted.len(), 1004);
+    assert!(rt; name.fmt_with_dot().to_string(alloc)? == dotted);
+    assert!(rt; dotted.as_str().strip_suffix('.') == Some(text.as_str()));
+    Ok(())
+}
+
+/// The octets beside those that are printed as themselves: the first, the last, and the dot and the backslash between.
+#[test]
+fn octets_beside_plain_ones_are_escaped(rt: HostRuntime) -> Result<(), Fail> {
+    let alloc = rt.alloc();
+    let octets = b"\x03\x1f !\x03-./\x03[\\]\x02~\x7f\x01.\x00";
+    let text = "\\031\\ !.-\\./.[\\\\].~\\127.\\.";
+    let name = Name::from_slice(octets)?;
+    assert_eq!(rt; name.to_string(alloc)?.as_str(), text);
+    let part = RelativeName::from_slice(&octets[..octets.len() - 1])?;
+    assert_eq!(rt; part.to_string(alloc)?.as_str(), text);
+    let parsed = ParsedName::parse(&mut Parser::from_ref(octets.as_slice()))?;
+    assert_eq!(rt; parsed.to_string(alloc)?.as_str(), text);
+    let dotted = name.fmt_with_dot().to_string(alloc)?;
+    assert!(rt; dotted.as_str().strip_suffix('.') == Some(text));
+    let root = ParsedName::parse(&mut Parser::from_ref(b"\x00".as_slice()))?;
+    assert_eq!(rt; root.to_string(alloc)?.as_str(), ".");
+    assert_eq!(rt; root.fmt_with_dot().to_string(alloc)?.as_str(), ".");
+    assert_eq!(rt; RelativeName::empty_ref().to_string(alloc)?.as_str(), "");
     Ok(())
 }
 

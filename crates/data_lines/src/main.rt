@@ -5,8 +5,9 @@
 //!
 //! - `tag KEY`: the key tag of DNSKEY data.
 //! - `digest OWNER KEY`: the SHA-256 digest of a DS record for a key at an owner in wire octets.
-//! - `bitmap TYPES`: the bitmap of types, joined by commas.
-//! - `data TYPE OCTETS`: record data, read and written again.
+//! - `bitmap TYPES`: the bitmap of types, joined by commas, and the types that it gives.
+//! - `data TYPE OCTETS`: record data, read and written again; and how many octets from the front on, a zero counted behind
+//!   the last, are data of the type too, as ranges joined by commas.
 //! - `hash NAME ITERATIONS SALT`: the hash of a name in wire octets, in base32hex.
 //! - `signed RRSIG OWNER DATA`: the octets that a signature is made over, of an RRset of data joined by commas.
 //!

@@ -151,7 +151,7 @@ pub in_append_right : {X : Type 0} (xs ys : List X) (x : X) → In x ys → In x
 in_append_right [] ys x h = h
 in_append_right (y ∷ xs) ys x h = inr (in_append_right xs ys x h)
 
-append_in : {X : Type 0} (xs ys : List X) (x : X) → In x (xs ++ ys) → In x xs ⊎ In x ys
+pub append_in : {X : Type 0} (xs ys : List X) (x : X) → In x (xs ++ ys) → In x xs ⊎ In x ys
 append_in [] ys x h = inr h
 append_in (y ∷ xs) ys x h = elim h [
   | inl e ↦ inl (inl e)
@@ -316,7 +316,7 @@ module _ {A : Type 0} (R : A → A → Ordering) (o : IsTotalOrder R) where
   pub sort_rises : (xs : List A) → Rises (sort_by R xs)
   sort_rises xs = all_rises [] xs tt
 
-  not_less : (x : A) → R x x ≡ Less → ⊥
+  pub not_less : (x : A) → R x x ≡ Less → ⊥
   not_less x e = let n : Equal ≡ Less = sym (tied_itself o x) ∙ e in cc
 
   heads_same : (x y : A) (xs ys : List A) → Rises (x ∷ xs) → Rises (y ∷ ys) → In x (y ∷ ys) → In y (x ∷ xs) → x ≡ y
@@ -334,7 +334,8 @@ module _ {A : Type 0} (R : A → A → Ordering) (o : IsTotalOrder R) where
     | inr j ↦ j
   ]
 
-  rising_same : (xs ys : List A) → Rises xs → Rises ys → Within xs ys → Within ys xs → xs ≡ ys
+  -- lists that rise and have the same items are one
+  pub rising_same : (xs ys : List A) → Rises xs → Rises ys → Within xs ys → Within ys xs → xs ≡ ys
   rising_same [] [] h k f g = refl
   rising_same [] (y ∷ ys) h k f g = absurd (g y (inl refl))
   rising_same (x ∷ xs) [] h k f g = absurd (f x (inl refl))

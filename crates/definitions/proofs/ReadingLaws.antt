@@ -30,7 +30,7 @@ labels_short {m} {p} (label {n = n} {e = e} {l = l} {ls = ls} h a b c d f r) =
     omega (arith, wire_len-cons l ls, labels_short r)
 labels_short (pointer h a b c d e r) = labels_short r
 
-pointers_few : {m : List ℕ} {p k b : ℕ} {ls : Name} → (r : Reads m p k ls b) → pointers_of r ≤ k
+pub pointers_few : {m : List ℕ} {p k b : ℕ} {ls : Name} → (r : Reads m p k ls b) → pointers_of r ≤ k
 pointers_few (root h e) = omega arith
 pointers_few (label h a b c d e r) = pointers_few r
 pointers_few (pointer h a b c d e r) = omega (arith, pointers_few r)

@@ -3,6 +3,7 @@
 #![tactic(auto)]
 
 pub mod config;
+pub mod laws;
 
 pub use config::DenialConfig;
 pub use denial_data::{

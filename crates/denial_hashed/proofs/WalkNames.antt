@@ -6,11 +6,10 @@ use Rattle.std.specs.declared.cmp.Ordering.{Ordering}
 use Rattle.std.specs.declared.cmp.Ordering.TheVariants.{Less, Equal, Greater}
 use Rattle.std.specs.Ordering.{ordering_reverse}
 use Rattle.std.specs.Cmp.{IsTotalOrder}
-use Rattle.std.proofs.lemmas.Cmp.{tied_itself}
 use Rattle.definitions.specs.Name.{Name, low, same, name_cmp, at_or_above, from_root}
 use Rattle.definitions.specs.Zone.{Zone, apex_of, owners, is_live, is_kept, kept_owners, kept}
 use Rattle.definitions.specs.ZoneChain.{with_parents, nsec3_names}
-use Rattle.definitions.proofs.Members.{In, Within, Rises, in_contained, in_filter, filter_in, in_append_left, in_append_right, any_of, any_in, sort_rises}
+use Rattle.definitions.proofs.Members.{append_in, In, Within, Rises, in_contained, in_filter, filter_in, in_append_left, in_append_right, any_of, any_in, rising_same, sort_rises}
 use Rattle.definitions.proofs.NameLaws.{Begins, name_cmp_total, equal_is_same, labels_decide, above_begins, begins_above, interval, apex_first}
 use Rattle.definitions.proofs.ZoneNames.{low-low, apex_kept, above_itself, and_parts, and_from, same_lowered, chain_lowered, chain_kept, kept_in_chain, kept_owner_lowered, apex_in_chain}
 
@@ -31,42 +30,7 @@ names_of (o ∷ os) = o ∷ names_behind o os
 
 -- ---- lists that rise
 
-pub append_in : {X : Type 0} (xs ys : List X) (x : X) → In x (xs ++ ys) → In x xs ⊎ In x ys
-append_in [] ys x h = inr h
-append_in (y ∷ xs) ys x h = elim h [
-  | inl e ↦ inl (inl e)
-  | inr i ↦ elim (append_in xs ys x i) [ inl j ↦ inl (inr j) | inr j ↦ inr j ]
-]
-
 module _ {A : Type 0} (R : A → A → Ordering) (o : IsTotalOrder R) where
-  pub not_less : (x : A) → R x x ≡ Less → ⊥
-  not_less x e = let n : Equal ≡ Less = sym (tied_itself o x) ∙ e in cc
-
-  heads_same : (x y : A) (xs ys : List A) → Rises R o (x ∷ xs) → Rises R o (y ∷ ys) → In x (y ∷ ys) → In y (x ∷ xs) → x ≡ y
-  heads_same x y xs ys h k i j = elim i [
-    | inl e ↦ e
-    | inr later ↦ elim j [
-      | inl e ↦ sym e
-      | inr behind ↦ absurd (not_less x (o.trans x y x (h.0 y behind) (k.0 x later)))
-    ]
-  ]
-
-  tails_within : (x y : A) (xs ys : List A) → Rises R o (x ∷ xs) → x ≡ y → Within (x ∷ xs) (y ∷ ys) → Within xs ys
-  tails_within x y xs ys h e f z i = elim (f z (inr i)) [
-    | inl s ↦ absurd (not_less x (ap (R x) (e ∙ sym s) ∙ h.0 z i))
-    | inr j ↦ j
-  ]
-
-  -- lists that rise and have the same items are one
-  pub rising_same : (xs ys : List A) → Rises R o xs → Rises R o ys → Within xs ys → Within ys xs → xs ≡ ys
-  rising_same [] [] h k f g = refl
-  rising_same [] (y ∷ ys) h k f g = absurd (g y (inl refl))
-  rising_same (x ∷ xs) [] h k f g = absurd (f x (inl refl))
-  rising_same (x ∷ xs) (y ∷ ys) h k f g =
-      let e : x ≡ y = heads_same x y xs ys h k (f x (inl refl)) (g y (inl refl)) in
-      let rest : xs ≡ ys = rising_same xs ys h.1 k.1 (tails_within x y xs ys h e f) (tails_within y x ys xs k (sym e) g) in
-      λ i. e i ∷ rest i
-
   pub rises_append : (xs ys : List A) → Rises R o xs → Rises R o ys → ((x y : A) → In x xs → In y ys → R x y ≡ Less) → Rises R o (xs ++ ys)
   rises_append [] ys h k f = k
   rises_append (x ∷ xs) ys h k f = (

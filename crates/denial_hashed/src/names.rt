@@ -23,6 +23,8 @@ pub struct ChainName<'g, 'a, N: ToName, D> {
 impl<'g, 'a, N: ToName, D> Copy for ChainName<'g, 'a, N, D> {}
 
 impl<'g, 'a, N: ToName, D> Clone for ChainName<'g, 'a, N, D> {
+    ghost is_clone = { λ name copy. copy ≡ name };
+
     fn clone(&self) -> Result<Self, AllocError> {
         Ok(*self)
     }

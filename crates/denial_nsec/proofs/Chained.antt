@@ -6,13 +6,12 @@ use Rattle.std.specs.declared.cmp.Ordering.{Ordering}
 use Rattle.std.specs.declared.cmp.Ordering.TheVariants.{Less, Equal}
 use Rattle.std.specs.Ordering.{nat_cmp, ordering_reverse}
 use Rattle.std.specs.Cmp.Lexicographic.{slice_cmp}
-use Rattle.std.proofs.lemmas.Cmp.{tied_itself}
 use Rattle.definitions.specs.Bitmap.{bitmap}
 use Rattle.definitions.specs.Laws.{IsNsecChain}
 use Rattle.definitions.specs.Name.{Name, low, same, labels_eq, name_cmp, at_or_above}
 use Rattle.definitions.specs.Zone.{Zone, apex_of, owners, owner_of, has, is_delegation, is_kept, is_live}
 use Rattle.definitions.specs.ZoneChain.{at_apex, behind, head_or, links, nsec_names, nsec_next, nsec_types, of_keys, types_at}
-use Rattle.definitions.proofs.Members.{In, Rises, Within, contained, filter_in, in_append_right, in_filter, in_flat, in_map, map_in, sort_rises}
+use Rattle.definitions.proofs.Members.{In, Rises, Within, contained, filter_in, in_append_right, in_filter, in_flat, in_map, map_in, not_less, rising_same, sort_rises}
 use Rattle.definitions.proofs.NameLaws.{apex_first, labels_decide, name_cmp_total}
 use Rattle.definitions.proofs.OwnChains.{one_nsec_record_speaks}
 use Rattle.definitions.proofs.ZoneNames.{and_parts, kept-live, live_owner, owner_in_chain}
@@ -35,38 +34,6 @@ use Rattle.denial_owners.proofs.Walked.{behind_item, before_item, rises_kept}
 use Rattle.denial_nsec.specs.Chain.{ChainRecord, class_of, nsec_chain, nsec_record, ttl_of}
 use Rattle.denial_nsec.specs.Groups.{group_record, group_records, group_types, next_of}
 
--- ---- two ascending lists of the same names are one
-
-not_less : (x : Name) → name_cmp x x ≡ Less → ⊥
-not_less x e = let n : Equal ≡ Less = sym (tied_itself name_cmp_total x) ∙ e in cc
-
-abbrev Up : List Name → Type 0
-Up = Rises name_cmp name_cmp_total
-
-heads_same : (x y : Name) (xs ys : List Name) → Up (x ∷ xs) → Up (y ∷ ys) → In x (y ∷ ys) → In y (x ∷ xs) → x ≡ y
-heads_same x y xs ys h k i j = elim i [
-  | inl e ↦ e
-  | inr later ↦ elim j [
-    | inl e ↦ sym e
-    | inr back ↦ absurd (not_less x (name_cmp_total.trans x y x (h.0 y back) (k.0 x later)))
-  ]
-]
-
-tails_within : (x y : Name) (xs ys : List Name) → Up (x ∷ xs) → x ≡ y → Within (x ∷ xs) (y ∷ ys) → Within xs ys
-tails_within x y xs ys h e f z i = elim (f z (inr i)) [
-  | inl s ↦ absurd (not_less x (ap (name_cmp x) (e ∙ sym s) ∙ h.0 z i))
-  | inr j ↦ j
-]
-
-rising_same : (xs ys : List Name) → Up xs → Up ys → Within xs ys → Within ys xs → xs ≡ ys
-rising_same [] [] h k f g = refl
-rising_same [] (y ∷ ys) h k f g = absurd (g y (inl refl))
-rising_same (x ∷ xs) [] h k f g = absurd (f x (inl refl))
-rising_same (x ∷ xs) (y ∷ ys) h k f g =
-    let e : x ≡ y = heads_same x y xs ys h k (f x (inl refl)) (g y (inl refl)) in
-    let rest : xs ≡ ys = rising_same xs ys h.1 k.1 (tails_within x y xs ys h e f) (tails_within y x ys xs k (sym e) g) in
-    λ i. e i ∷ rest i
-
 -- ---- what stands behind a name
 
 links_first : (a x : Name) (xs : List Name) → links a (x ∷ xs) ≡ (x, head_or a xs) ∷ links a xs
@@ -78,7 +45,7 @@ behind_first a o x xs = ap (behind labels_eq a o) (links_first a x xs)
 
 apart_after : (a b : Name) → name_cmp a b ≡ Less → labels_eq b a ≡ false
 apart_after a b l = not_true (labels_eq b a) (λ e.
-    let x : Equal ≡ Less = sym (tied_itself name_cmp_total a) ∙ ap (name_cmp a) (sym ((labels_decide b a).0 e)) ∙ l in cc)
+    not_less name_cmp name_cmp_total a (ap (name_cmp a) (sym ((labels_decide b a).0 e)) ∙ l))
 
 behind_there : (a : Name) (front : List Name) (o : Name) (back : List Name) → ((f : Name) → In f front → name_cmp f o ≡ Less) → behind labels_eq a o (links a (front ++ o ∷ back)) ≡ head_or a back
 behind_there a [] o back h = behind_first a o o back ∙ ap (λ b. if b then head_or a back else behind labels_eq a o (links a back)) (itself o)
@@ -95,7 +62,7 @@ map_append f (x ∷ xs) ys = ap (λ zs. f x ∷ zs) (map_append f xs ys)
 
 apart_before : (a b : Name) → name_cmp a b ≡ Less → labels_eq a b ≡ false
 apart_before a b l = not_true (labels_eq a b) (λ e.
-    let x : Equal ≡ Less = sym (tied_itself name_cmp_total a) ∙ ap (name_cmp a) ((labels_decide a b).0 e) ∙ l in cc)
+    not_less name_cmp name_cmp_total a (ap (name_cmp a) ((labels_decide a b).0 e) ∙ l))
 
 module _ {N D : Type 0} (name : N → Name) where
   pass_over : (xs ys : List (Record N D)) (o : Name) → ((r : Record N D) → In r xs → labels_eq (low (name r.owner)) o ≡ false) → spelled_among name (xs ++ ys) o ≡ spelled_among name ys o
@@ -172,14 +139,14 @@ module _ {O N : Type 0} (name : N → Name) (apex : Name) (rs : List (Record N (
   abbrev owner : List Rr → Name
   owner g = group_owner name g
 
-  kept_up : Up (map owner ks)
+  kept_up : Rises name_cmp name_cmp_total (map owner ks)
   kept_up = rises_kept owner keeps gs by.rises
 
   live_there : (g : List Rr) → keeps g ≡ true → is_live z (owner g) ≡ true
   live_there g k = sym (kept-live z (owner g)) ∙ k
 
   names_are : nsec_names z ≡ map owner ks
-  names_are = rising_same (nsec_names z) (map owner ks) (sort_rises name_cmp name_cmp_total (kept_owners z false)) kept_up
+  names_are = rising_same name_cmp name_cmp_total (nsec_names z) (map owner ks) (sort_rises name_cmp name_cmp_total (kept_owners z false)) kept_up
       (λ o i.
       let l = live_owner z o i in
       let g = owner_of_group name zone_type (zone_canonical name) apex gs by rs (whole_of name rs) o l.0 in
@@ -283,8 +250,8 @@ module _ {O N : Type 0} (name : N → Name) (apex : Name) (rs : List (Record N (
         ∙ ap (λ x. next_of name apex (x ∷ back)) (sym e.2)
 
     module _ (front : List (List Rr)) (g : List Rr) (back : List (List Rr)) (parts : ks ≡ front ++ g ∷ back) where
-      kept_parts : Up (map owner (front ++ g ∷ back))
-      kept_parts = subst (λ xs. Up (map owner xs)) parts kept_up
+      kept_parts : Rises name_cmp name_cmp_total (map owner (front ++ g ∷ back))
+      kept_parts = subst (λ xs. Rises name_cmp name_cmp_total (map owner xs)) parts kept_up
 
       in_kept : In g ks
       in_kept = subst (In g) (sym parts) (in_append_right front (g ∷ back) g (inl refl))

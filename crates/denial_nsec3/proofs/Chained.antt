@@ -18,7 +18,7 @@ use Rattle.definitions.specs.Laws.{IsNsec3Chain, NoneShare}
 use Rattle.definitions.specs.Name.{Name, low, same, labels_eq, name_cmp, at_or_above, strictly_above}
 use Rattle.definitions.specs.Zone.{Zone, apex_of, owners, owner_of, has, is_of, is_delegation, cut, cut_above, is_kept, is_live, kept_owners, kept}
 use Rattle.definitions.specs.ZoneChain.{at_apex, hash_cmp, hashed_names, hashes, links, head_or, behind, nsec3_names, nsec3_next, nsec3_types, of_keys, types_at}
-use Rattle.definitions.proofs.Members.{In, Rises, Within, ExactAmong, contained, in_contained, filter_in, in_filter, in_map, map_in, sort_has, sort_keeps, sort_rises}
+use Rattle.definitions.proofs.Members.{In, Rises, Within, ExactAmong, contained, in_contained, filter_in, in_filter, in_map, map_in, rising_same, sort_has, sort_keeps, sort_rises}
 use Rattle.definitions.proofs.NameLaws.{labels_decide, name_cmp_total}
 use Rattle.definitions.proofs.OwnChains.{one_nsec3_record_speaks}
 use Rattle.definitions.proofs.ChainSpeaks.{all_from}
@@ -32,7 +32,7 @@ use Rattle.denial_hashes.specs.declared.config.GenerateNsec3Config.{GenerateNsec
 use Rattle.denial_hashed.specs.Chained.{spot_of, chain_name, chain_names_of, some_fails, IsHashed, IsHashedChain}
 use Rattle.denial_hashed.specs.Walk.{Spot, spot_name, spots_of, owner_name}
 use Rattle.denial_hashed.specs.declared.hashed.HashedName.{HashedName}
-use Rattle.denial_hashed.proofs.WalkNames.{Climbs, AreKeptOwners, names_are_chain, names_of, rising_same, not_less}
+use Rattle.denial_hashed.proofs.WalkNames.{Climbs, AreKeptOwners, names_are_chain, names_of}
 use Rattle.denial_hashed.proofs.Spots.{IsSpot, spots_are, spots_named}
 use Rattle.denial_hashed.proofs.Assembled.{all_in, map_map}
 use Rattle.denial_owners.specs.Conditions.{IsOneClass, IsZoneOrder}

@@ -6,11 +6,10 @@ use Rattle.std.specs.Option.{is_none}
 use Rattle.std.specs.List.{flat_map}
 use Rattle.std.specs.declared.cmp.Ordering.TheVariants.{Less, Equal, Greater}
 use Rattle.std.specs.Ordering.{ordering_reverse}
-use Rattle.std.proofs.lemmas.Cmp.{tied_itself}
 use Rattle.std.proofs.lemmas.List.{append-nil}
 use Rattle.definitions.specs.Name.{Name, low, same, labels_eq, name_cmp, at_or_above, strictly_above}
 use Rattle.definitions.specs.Zone.{Zone, owner_of, apex_of, owners, has, is_of, is_delegation, is_live, cut_above}
-use Rattle.definitions.proofs.Members.{In, in_map, map_in, in_append_left, in_append_right, in_filter, filter_in, any_of, Rises}
+use Rattle.definitions.proofs.Members.{append_in, In, in_map, map_in, in_append_left, in_append_right, in_filter, filter_in, any_of, not_less, Rises}
 use Rattle.definitions.proofs.NameLaws.{name_cmp_total, labels_decide, interval}
 use Rattle.definitions.proofs.ZoneNames.{above_itself, and_parts, and_from}
 use Rattle.plain.specs.declared.record.Record.{Record}
@@ -62,16 +61,6 @@ module _ {A : Type 0} (f : A → Name) where
       )
       go false r = r
 
-append_in : {X : Type 0} (xs ys : List X) (x : X) → In x (xs ++ ys) → In x xs ⊎ In x ys
-append_in [] ys x h = inr h
-append_in (y ∷ xs) ys x h = elim h [
-  | inl e ↦ inl (inl e)
-  | inr i ↦ elim (append_in xs ys x i) [ inl j ↦ inl (inr j) | inr j ↦ inr j ]
-]
-
-not_less_itself : (a b : Name) → a ≡ b → name_cmp a b ≡ Less → ⊥
-not_less_itself a b e l = let x : Equal ≡ Less = sym (tied_itself name_cmp_total a) ∙ ap (name_cmp a) e ∙ l in cc
-
 not_both_less : (a b : Name) → name_cmp a b ≡ Less → name_cmp b a ≡ Less → ⊥
 not_both_less a b l m = let x : Less ≡ Greater = sym m ∙ name_cmp_total.antisymm b a ∙ ap ordering_reverse l in cc
 
@@ -112,7 +101,7 @@ module _ {N D : Type 0} (name : N → Name) (rtype : D → ℕ) (canonical : D �
     walked d i l = elim (append_in done (g ∷ rest) d (subst (In d) parts i)) [
       | inl j ↦ j
       | inr j ↦ elim j [
-        | inl e ↦ absurd (not_less_itself (group_owner name d) q (ap (group_owner name) e) l)
+        | inl e ↦ absurd (not_less name_cmp name_cmp_total (group_owner name d) (ap (name_cmp (group_owner name d)) (ap (group_owner name) e) ∙ l))
         | inr k ↦ absurd (not_both_less (group_owner name d) q l (behind_item (group_owner name) done g rest up d k))
       ]
     ]

@@ -18,6 +18,8 @@ pub struct SliceRefs<'a, T> {
 impl<'a, T> Copy for SliceRefs<'a, T> {}
 
 impl<'a, T> Clone for SliceRefs<'a, T> {
+    ghost is_clone = { λ s copy. copy ≡ s };
+
     fn clone(&self) -> Result<Self, AllocError> {
         Ok(*self)
     }

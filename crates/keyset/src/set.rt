@@ -17,7 +17,7 @@ use crate::settings::Setting;
 use keyset_keys::{Available, Error, Key, KeyState, KeyType, UnixTime};
 use keyset_rolls::{Action, RollState, RollType, Turn};
 use plain::numbers::SecurityAlgorithm;
-use records::names::Name;
+use records::names::{Name, ZoneName};
 use std::alloc::{AllocError, Global};
 use std::collections::HashMap;
 use std::marker::Model;
@@ -27,7 +27,7 @@ use std::time::Duration;
 #[derive(Drop)]
 pub struct KeySet {
     alloc: Global,
-    name: Name,
+    name: Name<Vec<u8>>,
     keys: HashMap<String, Key>,
     rollstates: HashMap<RollType, RollState>,
 }
@@ -58,7 +58,7 @@ impl Clone for KeySet {
 
 impl KeySet {
     /// The set of a zone that has no keys.
-    pub fn new(alloc: Global, name: Name) -> Self
+    pub fn new(alloc: Global, name: Name<Vec<u8>>) -> Self
         ensures { result ≡ record { name = name; keys = []; rolls = [] } }
     {
         KeySet {
@@ -70,7 +70,7 @@ impl KeySet {
     }
 
     /// The name of the zone.
-    pub fn name(&self) -> &Name
+    pub fn name(&self) -> &Name<Vec<u8>>
         ensures { result.now ≡ self.now.name }
     {
         &self.name

@@ -7,7 +7,7 @@
 use keyset::{Available, Error, KeySet, RollType, UnixTime};
 use plain::numbers::SecurityAlgorithm;
 use records::names::Name;
-use std::alloc::Global;
+use std::alloc::{AllocError, Global};
 use std::io;
 use std::time::Duration;
 
@@ -73,7 +73,8 @@ fn main(rt: HostRuntime) -> io::Result<()> {
         references(alloc, "new", half)?,
     );
     let (old, new) = (texts(alloc, &olds)?, texts(alloc, &news)?);
-    let mut set = KeySet::new(alloc, Name::root(alloc)?);
+    let root = Name::root(alloc).map_err(|_| AllocError)?;
+    let mut set = KeySet::new(alloc, root);
     let is_filled = add_all(alloc, &mut set, &olds, 0).is_ok()
         && add_all(alloc, &mut set, &news, 32768).is_ok();
     let mut accepted = 0u64;

@@ -1,7 +1,8 @@
 //! Moments.
-ghost use Rattle.std.specs.Prelude.{◌%◌, ◌+◌, ◌-◌, ◌/◌, ◌^◌, ◌≡◌};
+ghost use Rattle.std.specs.Prelude.{◌%◌, ◌*◌, ◌+◌, ◌-◌, ◌/◌, ◌^◌, ◌≡◌};
 ghost use Rattle.std.specs.Duration.{as_nanos, FitsDuration};
 
+use denial_fields::timestamp::Timestamp;
 use std::marker::Model;
 use std::ops::Add;
 use std::time::Duration;
@@ -51,6 +52,18 @@ impl UnixTime {
         ensures { result ≡ self.now / 1_000_000_000 % 2 ^ 32 }
     {
         (self.nanos / NANOS_PER_SEC % (1 << 32)) as u32
+    }
+}
+
+/// The seconds are taken as those since the beginning of 1970, so a time of a signature from the year 2106 on comes out
+/// 2^32 seconds or a multiple of these too early.
+impl From<Timestamp> for UnixTime {
+    ghost from_gives = { λ seconds t. t ≡ seconds * 1_000_000_000 };
+
+    fn from(timestamp: Timestamp) -> UnixTime {
+        UnixTime {
+            nanos: u128::from(timestamp.into_int()) * NANOS_PER_SEC,
+        }
     }
 }
 

@@ -5,8 +5,7 @@ use crate::calls::call;
 use crate::rows::row;
 use crate::words::{listed, words};
 use keyset::KeySet;
-use names_flat::name::Name as FlatName;
-use records::names::Name;
+use names_flat::name::Name;
 use std::alloc::Global;
 
 #[derive(Drop)]
@@ -16,16 +15,12 @@ pub struct Zone {
 }
 
 /// A name of its text (RFC 1035, 5.1).
-fn read_name(alloc: Global, text: &str) -> Option<Name> {
-    let name = FlatName::vec_from_str(alloc, text).ok()?;
-    Name::from_octets(alloc, name.as_slice()).ok()
+fn read_name(alloc: Global, text: &str) -> Option<Name<Vec<u8>>> {
+    Name::vec_from_str(alloc, text).ok()
 }
 
 /// The text of a name.
-fn printed_name(alloc: Global, name: &Name) -> Option<String> {
-    let mut octets = Vec::new(alloc);
-    name.compose(&mut octets).ok()?;
-    let name = FlatName::from_octets(octets).ok()?;
+fn printed_name(alloc: Global, name: &Name<Vec<u8>>) -> Option<String> {
     name.to_string(alloc).ok()
 }
 

@@ -2,6 +2,7 @@
 
 use crate::calls::Calls;
 use crate::keys::{add_ksk, add_zsk, assert_flags, at, key, with_two_keys};
+use denial_fields::timestamp::Timestamp;
 use keyset::{Action, Available, Error, KeySet, RollState, RollType, UnixTime};
 use plain::numbers::SecurityAlgorithm;
 use records::names::Name;
@@ -341,6 +342,14 @@ fn moments_are_told_apart(rt: HostRuntime) -> Result<(), Fail> {
     assert_eq!(rt; later, at(7));
     assert_eq!(rt; Duration::from(at(9)), Duration::from_secs(9));
     assert!(rt; at(3) < at(4));
+    assert_eq!(rt;
+        UnixTime::from(Timestamp::from(1_700_000_000)),
+        at(1_700_000_000)
+    );
+    assert_eq!(rt;
+        UnixTime::from(Timestamp::from(u32::MAX)),
+        at(4_294_967_295)
+    );
     Ok(())
 }
 
@@ -348,7 +357,7 @@ fn moments_are_told_apart(rt: HostRuntime) -> Result<(), Fail> {
 #[test]
 fn first_keys_have_flags_and_stamps(rt: HostRuntime) -> Result<(), Fail> {
     let set = roll_first(rt.alloc())?;
-    assert_eq!(rt; set.name().len(), 0);
+    assert!(rt; set.name().is_root());
     let ksk = set.key("K1").ok_or(Error::KeyNotFound)?;
     let state = ksk.keytype().main_role();
     assert!(rt; !state.old() && state.signer() && state.present());

@@ -43,7 +43,7 @@ pub fn add_zsk(
 }
 
 pub fn with_two_keys(alloc: Global) -> Result<KeySet, Error> {
-    let mut set = KeySet::new(alloc, Name::root(alloc)?);
+    let mut set = KeySet::new(alloc, Name::root(alloc).map_err(|_| Error::Memory)?);
     add_ksk(&mut set, alloc, "K1", 0)?;
     add_zsk(&mut set, alloc, "Z1", 1)?;
     Ok(set)

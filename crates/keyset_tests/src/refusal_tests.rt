@@ -127,7 +127,7 @@ fn copy(rt: &(impl Abort + Eprint), set: &KeySet) -> KeySet {
     }
 }
 
-fn root(rt: &(impl Abort + Eprint), alloc: Global) -> Name {
+fn root(rt: &(impl Abort + Eprint), alloc: Global) -> Name<Vec<u8>> {
     match Name::root(alloc) {
         Ok(name) => name,
         Err(_) => {

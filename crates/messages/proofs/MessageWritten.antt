@@ -111,7 +111,7 @@ inside m p r rest s =
     omega (arith, t.place, ap length t.whole, length-append t.front rest)
 
 pub owner_here : (m : List ℕ) (p : ℕ) (n : Name) (rest : List ℕ) → IsName n → StandsAt m p (wire n ++ rest) → owner_at pointer_limit m p ≡ Ok (n, p + wire_len n)
-owner_here m p n rest name s = owner_wire n s.front rest m p name s.whole s.place
+owner_here m p n rest name s = owner_wire pointer_limit n s.front rest m p name s.whole s.place
 
 pub record_here : (m : List ℕ) (p : ℕ) (r : Written) (rest : List ℕ) → IsRecord r → StandsAt m p (record_octets r ++ rest) → record_at pointer_limit m p ≡ Ok (spelled_at p r, end_of p r)
 record_here m p r rest is s =

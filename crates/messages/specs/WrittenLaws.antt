@@ -9,8 +9,9 @@ use Rattle.records.specs.Message.{Asked, Spelled, owner_at, message, data_of, rr
 use Rattle.signed_data.specs.Rrsig.{rrsig_data}
 use Rattle.records.specs.Written.{Written, message_octets}
 
+-- whatever number of pointers may be followed
 abbrev pub NamesReadBack : Type 0
-NamesReadBack = (n : Name) (before behind : List ℕ) → IsName n → owner_at pointer_limit (before ++ (wire n ++ behind)) (length before) ≡ Ok (n, length before + wire_len n)
+NamesReadBack = (pointers : ℕ) (n : Name) (before behind : List ℕ) → IsName n → owner_at pointers (before ++ (wire n ++ behind)) (length before) ≡ Ok (n, length before + wire_len n)
 
 -- a question whose fields hold what it says (RFC 1035, 4.1.2)
 pub record IsQuestion (q : Asked) : Type 0 where

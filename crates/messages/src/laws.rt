@@ -3,8 +3,8 @@
 ghost use Rattle.messages.specs.Numbers.{NumbersReadAlike};
 ghost use Rattle.messages.specs.WrittenLaws.{NamesReadBack, MessagesReadBack, SignaturesReadBack, DataReadBack};
 
-/// A name in wire form reads as itself, with its own spelling, wherever it stands in a message (RFC 1035, 3.1
-/// and 4.1.4).
+/// A name in wire form reads as itself, with its own spelling, wherever it stands, whatever number of pointers may be
+/// followed (RFC 1035, 3.1 and 4.1.4).
 pub fn names_read_back()
     ensures { NamesReadBack }
 {}

@@ -3,11 +3,11 @@ ghost use Rattle.messages.specs.WrittenLaws.{IsQuestion};
 
 use names_data::rtype::Rtype;
 use plain::numbers::Class;
-use records::names::Name;
+use records::names::{Name, ZoneName};
 
 /// What is asked for.
 #[derive(Debug, Drop)]
-pub struct Question<N = Name> {
+pub struct Question<N = Name<Vec<u8>>> {
     pub name: N,
     pub rtype: Rtype,
     pub class: Class,

@@ -11,7 +11,7 @@ use crate::octets::clipped;
 use crate::view::ViewRecord;
 use names_data::rtype::Rtype;
 use plain::numbers::{SecurityAlgorithm, Ttl};
-use records::names::{Name, ParsedName};
+use records::names::{Name, ParsedName, ZoneName};
 use std::alloc::{AllocError, Global};
 
 /// A signature within a message (RFC 4034, 3.1); its signer as spelled.
@@ -24,14 +24,14 @@ pub struct RrsigView<'a> {
     pub expiration: u32,
     pub inception: u32,
     pub key_tag: u16,
-    pub signer: Name,
+    pub signer: Name<Vec<u8>>,
     pub signature: &'a [u8],
 }
 
 /// A link of the chain of names within a message (RFC 4034, 4.1); its next name as spelled.
 #[derive(Debug, Drop)]
 pub struct NsecView<'a> {
-    pub next: Name,
+    pub next: Name<Vec<u8>>,
     pub types: &'a [u8],
 }
 
@@ -127,7 +127,7 @@ impl<'a> ViewRecord<'a> {
             return Ok(None);
         }
         let mut data = Vec::new(alloc);
-        name.to_name(alloc)?.compose_canonical(&mut data)?;
+        name.compose_canonical(&mut data)?;
         Ok(Some(data))
     }
 
@@ -147,8 +147,8 @@ impl<'a> ViewRecord<'a> {
             return Ok(None);
         }
         let mut data = Vec::new(alloc);
-        mname.to_name(alloc)?.compose_canonical(&mut data)?;
-        rname.to_name(alloc)?.compose_canonical(&mut data)?;
+        mname.compose_canonical(&mut data)?;
+        rname.compose_canonical(&mut data)?;
         data.extend_from_slice(clipped(message, numbers, end))?;
         Ok(Some(data))
     }

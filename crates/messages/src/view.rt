@@ -14,7 +14,7 @@ use records::names::ParsedName;
 use std::marker::Model;
 
 /// A record of a message. Its data are the `length` octets of the message from `start` on.
-#[derive(Debug, Drop)]
+#[derive(Drop)]
 pub struct ViewRecord<'a> {
     pub owner: ParsedName<'a>,
     pub rtype: Rtype,

@@ -57,6 +57,41 @@ fn print(alloc: Global, names: &[Name<Vec<u8>>]) -> u64 {
     count
 }
 
+/// How many octets copies of the names have.
+fn copy(alloc: Global, names: &[Name<Vec<u8>>]) -> u64 {
+    let mut count = 0u64;
+    for name in names {
+        if let Ok(copy) = name.to_vec(alloc) {
+            count = count.wrapping_add(copy.as_slice().len() as u64);
+        }
+    }
+    count
+}
+
+/// How many octets the labels of the names have, walked from the front.
+fn walk(names: &[Name<Vec<u8>>]) -> u64 {
+    let mut count = 0u64;
+    for name in names {
+        let mut labels = name.iter();
+        while let Some(label) = labels.next() {
+            count = count.wrapping_add(label.len() as u64);
+        }
+    }
+    count
+}
+
+/// As `walk`, from the back.
+fn walk_back(names: &[Name<Vec<u8>>]) -> u64 {
+    let mut count = 0u64;
+    for name in names {
+        let mut labels = name.iter();
+        while let Some(label) = labels.next_back() {
+            count = count.wrapping_add(label.len() as u64);
+        }
+    }
+    count
+}
+
 fn main(rt: HostRuntime) -> io::Result<()> {
     let (mut names, mut texts) = (Vec::new(rt.alloc()), Vec::new(rt.alloc()));
     let (mut task, mut rounds) = (String::new(rt.alloc()), 0u64);
@@ -78,6 +113,9 @@ fn main(rt: HostRuntime) -> io::Result<()> {
             "equal" => equal(&names),
             "read" => read(rt.alloc(), &texts),
             "print" => print(rt.alloc(), &names),
+            "copy" => copy(rt.alloc(), &names),
+            "walk" => walk(&names),
+            "walk_back" => walk_back(&names),
             _ => {
                 names.sort_unstable();
                 1

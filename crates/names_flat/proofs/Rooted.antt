@@ -8,7 +8,7 @@ use Rattle.std.specs.Str.{bytes_eq, str_to_ascii_lowercase}
 use Rattle.std.proofs.lemmas.List.{map-append, reverse-append}
 use Rattle.std.proofs.lemmas.Bool.{and_right, eqb-true}
 use Rattle.definitions.specs.Name.{Name, Label, IsLabel, IsName, wire, low, from_root, same, name_cmp}
-use Rattle.names_labels.specs.Flat.{spelled, labels_in, name_in, IsRun, IsFlat}
+use Rattle.names_labels.specs.Flat.{spelled, labels_in, name_in, IsRun, IsFlat, SpellsName}
 use Rattle.names_labels.proofs.Runs.{labels_in-wire, wire-spelled}
 use Rattle.names_labels.proofs.Checks.{length-wire}
 
@@ -24,6 +24,10 @@ flat_run bs f = record {
   whole = sym f.octets ∙ wire-spelled (name_in bs) ∙ ap spelled (sym (flat_labels bs f));
   short = rw (flat_labels bs f) (all_short (name_in bs) f.name.labels);
 }
+
+-- a row that spells a name's labels and the root's is the name's wire form
+pub row_spells : (bs : List ℕ) (n : Name) → IsRun bs → labels_in bs ≡ n ++ [] ∷ [] → IsName n → SpellsName bs n
+row_spells bs n r e h = record { octets = wire-spelled n ∙ ap spelled (sym e) ∙ sym r.whole; name = h }
 
 pub rooted_short : (n : Name) → IsName n → length (spelled (n ++ [] ∷ [])) ≤ 255
 rooted_short n h = omega (arith, h.short, length-wire n, ap length (wire-spelled n))

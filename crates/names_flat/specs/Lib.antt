@@ -1,3 +1,4 @@
+pub mod Dotted
 pub mod Feed
 pub mod Laws
 pub mod Suffixes

@@ -5,7 +5,7 @@ ghost use Rattle.definitions.specs.Text.{text_of_name, text_of_relative};
 
 use crate::name::Name;
 use crate::relative::RelativeName;
-use names_labels::iter::NameIter;
+use crate::text::NameText;
 use names_wire::octets::Octets;
 use std::fmt;
 
@@ -13,15 +13,12 @@ impl<Octs: Octets> fmt::Display for Name<Octs> {
     ghost output = { λ n. Some (text_of_name n) };
 
     fn fmt<W: fmt::Write>(&self, f: &mut fmt::Formatter<W>) -> fmt::Result {
-        let mut labels = NameIter::over(self.relative_run());
-        let Some(first) = labels.next() else {
-            return write!(f, ".");
-        };
-        write!(f, "{first}")?;
-        while let Some(label) = labels.next() {
-            write!(f, ".{label}")?;
+        if self.is_root() {
+            return f.write_str(".");
         }
-        Ok(())
+        let mut text = NameText::new();
+        text.push_labels(self.relative_run());
+        f.write_str(text.without_last_dot())
     }
 }
 
@@ -29,14 +26,11 @@ impl<Octs: Octets> fmt::Display for RelativeName<Octs> {
     ghost output = { λ n. Some (text_of_relative n) };
 
     fn fmt<W: fmt::Write>(&self, f: &mut fmt::Formatter<W>) -> fmt::Result {
-        let mut labels = self.iter();
-        let Some(first) = labels.next() else {
+        if self.is_empty() {
             return Ok(());
-        };
-        write!(f, "{first}")?;
-        while let Some(label) = labels.next() {
-            write!(f, ".{label}")?;
         }
-        Ok(())
+        let mut text = NameText::new();
+        text.push_labels(self.run());
+        f.write_str(text.without_last_dot())
     }
 }

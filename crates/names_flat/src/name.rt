@@ -15,13 +15,13 @@ use names_labels::traits::{Absolute, Labels, ToLabelIter};
 use names_wire::builder::ShortBuf;
 use names_wire::label::Label;
 use names_wire::octets::Octets;
-use std::alloc::Global;
+use std::alloc::{AllocError, Global};
 use std::borrow::CowSlice;
 use std::marker::Model;
 
 /// An absolute domain name: labels in a row of octets, each behind its length, and the root's octet
 /// (RFC 1035, 3.1). A contract sees its labels, the leftmost first, without the root's.
-#[derive(Drop)]
+#[derive(Debug, Drop)]
 pub struct Name<Octs: Octets> {
     octets: Octs,
 }
@@ -201,6 +201,17 @@ impl Name<Vec<u8>> {
         Name {
             octets: CowSlice::Owned(self.octets),
         }
+    }
+
+    /// The name that octets spell of which that is known already (`from_slice` tells), over a copy of them. It is refused
+    /// for want of memory alone.
+    pub fn copied(alloc: Global, octets: &[u8]) -> Result<Self, AllocError>
+        requires { IsFlat octets.now }
+        ensures { IfOk result (λ n. n ≡ name_in octets.now) }
+    {
+        Ok(Name {
+            octets: Vec::from_slice(alloc, octets)?,
+        })
     }
 
     /// As `root_vec`. `root_ref` takes no memory.

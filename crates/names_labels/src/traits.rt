@@ -49,7 +49,8 @@ pub trait Labels {
 
     /// The labels in a row, of a name that keeps them so.
     fn label_row(&self) -> Option<&[u8]>
-        ensures { IfSome result (λ run. IsRunOf run.now (labels self.now)) }
+        ensures row { IfSome result (λ run. IsRunOf run.now (labels self.now)) }
+        ensures name { IfSome result (λ _. IsName (name self.now)) }
     {
         None
     }

@@ -13,7 +13,7 @@ use Rattle.names_parsed.specs.Standing.{Stands, stands_at, name_from}
 -- ---- the name that stands at a place
 
 -- with more pointers left it is read as well
-more_pointers : {m : List ℕ} {p k e : ℕ} {n : Name} → Reads m p k n e → (j : ℕ) → k ≤ j → Reads m p j n e
+pub more_pointers : {m : List ℕ} {p k e : ℕ} {n : Name} → Reads m p k n e → (j : ℕ) → k ≤ j → Reads m p j n e
 more_pointers (root h e) j le = root h e
 more_pointers (label h a b c d f r) j le = label h a b c d f (more_pointers r j le)
 more_pointers (pointer h a b c d e r) zero le = absurd (omega arith)

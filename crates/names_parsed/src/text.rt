@@ -7,6 +7,7 @@ ghost use Rattle.names_parsed.specs.Parsed.{parsed_name};
 
 use crate::parsed::ParsedName;
 use names_flat::name::Name;
+use names_flat::text::NameText;
 use names_labels::traits::ToLabelIter;
 use names_traits::chain::ChainEnd;
 use names_traits::flatten::FlattenInto;
@@ -20,15 +21,15 @@ impl<'a> fmt::Display for ParsedName<'a> {
     ghost output = { λ n. Some (text_of_name (parsed_name n)) };
 
     fn fmt<W: fmt::Write>(&self, f: &mut fmt::Formatter<W>) -> fmt::Result {
-        let mut labels = self.relative_labels();
-        let Some(first) = labels.next() else {
-            return write!(f, ".");
-        };
-        write!(f, "{first}")?;
-        while let Some(label) = labels.next() {
-            write!(f, ".{label}")?;
+        if self.is_root() {
+            return f.write_str(".");
         }
-        Ok(())
+        let mut text = NameText::new();
+        let mut labels = self.relative_labels();
+        while let Some(label) = labels.next() {
+            text.push_label(label);
+        }
+        f.write_str(text.without_last_dot())
     }
 }
 

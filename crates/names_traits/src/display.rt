@@ -3,6 +3,7 @@
 ghost use Rattle.std.specs.Prelude.{◌≡◌, Some};
 ghost use Rattle.definitions.specs.Text.{dotted_text_of_name};
 
+use names_flat::text::NameText;
 use names_labels::traits::{Absolute, Labels, ToLabelIter};
 use std::fmt;
 use std::marker::Model;
@@ -35,13 +36,14 @@ impl<'a, N: Absolute> fmt::Display for DisplayWithDot<'a, N> {
     fn fmt<W: fmt::Write>(&self, f: &mut fmt::Formatter<W>) -> fmt::Result {
         let (count, mut labels) = (self.name.label_count(), self.name.iter_labels());
         if count == 1 {
-            return write!(f, ".");
+            return f.write_str(".");
         }
+        let mut text = NameText::new();
         for _ in 1..count {
             if let Some(label) = labels.next() {
-                write!(f, "{label}.")?;
+                text.push_label(label);
             }
         }
-        Ok(())
+        f.write_str(text.as_str())
     }
 }

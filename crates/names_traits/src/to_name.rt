@@ -107,9 +107,11 @@ pub trait ToName: Absolute {
     fn to_vec(&self, alloc: Global) -> Result<Name<Vec<u8>>, ShortBuf>
         ensures { IfOk result (λ n. n ≡ Self.name self.now) }
     {
-        match NameBuilder::new(alloc).append_origin(self) {
-            Ok(name) => Ok(name),
-            Err(_) => Err(ShortBuf),
+        match self.label_row() {
+            Some(row) => Name::copied(alloc, row).map_err(|_| ShortBuf),
+            None => NameBuilder::new(alloc)
+                .append_origin(self)
+                .map_err(|_| ShortBuf),
         }
     }
 }

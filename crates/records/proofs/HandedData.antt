@@ -1,7 +1,6 @@
 -- Records as they are handed in hold what they say.
-use Rattle.std.proofs.Common.{◌≡◌, ◌<◌, List, [], ◌∷◌, ◌++◌, length, inl, inr, ◌⊎◌, refl, subst, sym}
+use Rattle.std.proofs.Common.{◌≡◌, ◌<◌, length, inl, inr, ◌⊎◌, refl}
 use Rattle.std.specs.Prelude.{MatchBool}
-use Rattle.std.specs.List.{AllByRecursion}
 use Rattle.definitions.specs.Name.{IsName}
 use Rattle.records.specs.Handed.{IsHanded, SpellsNs, SpellsSoa}
 use Rattle.records.specs.Rdata.{HasNames, canonical_of, rtype_of, soa_numbers, written_of}
@@ -22,11 +21,3 @@ spells_data (Unknown d) h = refl
 
 pub handed_from : (r : Record) → IsName r.owner → rtype_of r.rdata < 65536 → r.ttl < 4294967296 → HasNames r.rdata → IsHanded (handed_of r)
 handed_from r name t ttl names = record { owner = name; rtype = t; ttl = ttl; spells = spells_data r.rdata names }
-
-all_snoc : {A : Type 0} (P : A → Type 0) (xs : List A) (x : A) → AllByRecursion P xs → P x → AllByRecursion P (xs ++ x ∷ [])
-all_snoc P [] x h p = (p, tt)
-all_snoc P (y ∷ xs) x h p = (h.0, all_snoc P xs x h.1 p)
-
--- one item more
-pub all_pushed : {A : Type 0} (P : A → Type 0) (xs ys : List A) (x : A) → ys ≡ xs ++ x ∷ [] → AllByRecursion P xs → P x → AllByRecursion P ys
-all_pushed P xs ys x e h p = subst (AllByRecursion P) (sym e) (all_snoc P xs x h p)

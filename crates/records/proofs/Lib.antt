@@ -1,10 +1,7 @@
-pub mod NameOrders
 pub mod NameEnds
 pub mod NameFlat
-pub mod NamePlaces
-pub mod NameLabels
 pub mod NameLaws
-pub mod NameWalk
+pub mod NameRead
 pub mod NameWritten
 pub mod ZoneNames
 pub mod Lists

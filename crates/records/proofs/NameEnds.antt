@@ -112,10 +112,6 @@ ends-begins base (x ∷ n) (suc k) h =
 pub ends_short : (base n : Name) → length n < length base → false ≡ at_or_above base n
 ends_short base n h = sym (above_short base n h)
 
--- the same where as many labels agree at the end
-pub same-ends : (n base : Name) → length n ≡ length base → same n base ≡ at_or_above base n
-same-ends n base e = same-begins n base e ∙ sym (ends-begins base n 0 (omega (arith, e)))
-
 pub strictly-ends : (base n : Name) → length base < length n → strictly_above base n ≡ at_or_above base n
 strictly-ends base [] h = absurd (omega arith)
 strictly-ends base (x ∷ n) h = sym (ap (λ t. t || at_or_above base n) (other_length base (x ∷ n) (λ e. omega (arith, e, h))))

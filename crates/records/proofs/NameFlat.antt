@@ -1,40 +1,41 @@
 -- Names as the octets of their wire form.
-use Rattle.std.proofs.Common.{◌≡◌, ℕ, ◌+◌, ◌<◌, ◌≤◌, Bool, true, ◌||◌, List, [], ◌∷◌, ◌++◌, length, drop, refl, sym, ap, ◌∙◌, subst, lit≤, arith}
-use Rattle.std.specs.Prelude.{◌↔◌, IsTrue}
+use Rattle.std.proofs.Common.{◌≡◌, ℕ, ◌+◌, ◌<◌, ◌≤◌, Bool, true, ◌||◌, List, [], ◌∷◌, ◌++◌, length, drop, refl, sym, ap, ◌∙◌, subst}
+use Rattle.std.specs.Prelude.{◌↔◌, IfOk, IfSome, IsOk, IsTrue, None, Option, Result, Ok, Err, slice_index_or}
+use Rattle.std.specs.Result.{result_ok}
 use Rattle.std.specs.List.{list_any}
 use Rattle.std.specs.Str.{bytes_eq, str_to_ascii_lowercase}
 use Rattle.std.proofs.lemmas.List.{drop-append-le}
-use Rattle.definitions.specs.Name.{Name, Label, IsName, wire, wire_len, low, same, at_or_above}
-use Rattle.names_labels.specs.Flat.{spelled, labels_in, name_in, IsRun, IsFlat, SpellsName}
-use Rattle.names_labels.proofs.Runs.{name_in-wire, wire-spelled}
+use Rattle.definitions.specs.Name.{Name, IsName, wire, wire_len, low, same, at_or_above}
+use Rattle.names_labels.specs.Flat.{labels_in, name_in, IsRun, IsFlat, SpellsName}
+use Rattle.names_labels.proofs.Runs.{labels_in-wire, name_in-wire}
 use Rattle.names_labels.proofs.Checks.{length-wire, spells_flat}
-use Rattle.names_flat.proofs.Rooted.{flat_labels, flat_run, same-rooted}
+use Rattle.names_flat.proofs.Rooted.{flat_run, row_spells, same-rooted}
 use Rattle.names_flat.proofs.Splits.{read_name, lower_spells}
 use Rattle.records.specs.HandedRr.{has_star}
+use Rattle.records.specs.Star.{begins_with_star}
 use Rattle.records.proofs.Lists.{both_ways}
 use Rattle.records.proofs.NameEnds.{ends-begins, same-begins}
 use Rattle.records.proofs.NameLaws.{IsName-drop, IsName-star, star_room}
 
--- the octet of the root
-pub root_spells : SpellsName (0 ∷ []) []
-root_spells = record { octets = refl; name = record { labels = tt; short = lit≤ tt } }
+-- octets that are the wire form of a name
+pub wire_spells : (bs : List ℕ) (n : Name) → bs ≡ wire n → IsName n → SpellsName bs n
+wire_spells bs n e h = record { octets = sym e; name = h }
 
-pub root_flat : IsFlat (0 ∷ [])
-root_flat = spells_flat (0 ∷ []) [] root_spells
+pub wire_flat : (bs : List ℕ) (n : Name) → bs ≡ wire n → IsName n → IsFlat bs
+wire_flat bs n e h = spells_flat bs n (wire_spells bs n e h)
 
-pub root_read : name_in (0 ∷ []) ≡ []
-root_read = name_in-wire []
+pub wire_run : (bs : List ℕ) (n : Name) → bs ≡ wire n → IsName n → IsRun bs
+wire_run bs n e h = flat_run bs (wire_flat bs n e h)
 
--- a row that spells a name's labels and the root's is the name's wire form
-pub row_spells : (bs : List ℕ) (n : Name) → IsRun bs → labels_in bs ≡ n ++ [] ∷ [] → IsName n → SpellsName bs n
-row_spells bs n r e h = record { octets = wire-spelled n ∙ ap spelled (sym e) ∙ sym r.whole; name = h }
+pub wire_labels : (bs : List ℕ) (n : Name) → bs ≡ wire n → labels_in bs ≡ n ++ [] ∷ []
+wire_labels bs n e = ap labels_in e ∙ labels_in-wire n
 
 pub drop-rooted : (k : ℕ) (n : Name) → k ≤ length n → drop k (n ++ [] ∷ []) ≡ drop k n ++ [] ∷ []
 drop-rooted k n h = drop-append-le k n ([] ∷ []) h
 
--- what is left of a name's row behind some labels
-pub behind_spells : (bs run : List ℕ) (n : Name) (k : ℕ) → k ≤ length n → IsName n → labels_in run ≡ n ++ [] ∷ [] → IsRun bs → labels_in bs ≡ drop k (labels_in run) → SpellsName bs (drop k n)
-behind_spells bs run n k h i e r d = row_spells bs (drop k n) r (d ∙ ap (drop k) e ∙ drop-rooted k n h) (IsName-drop k n i)
+-- what is left of a name's wire form behind some labels
+pub suffix_spells : (bs run : List ℕ) (n : Name) (k : ℕ) → k ≤ length n → run ≡ wire n → IsName n → IsRun bs → labels_in bs ≡ drop k (labels_in run) → SpellsName bs (drop k n)
+suffix_spells bs run n k h v i r d = row_spells bs (drop k n) r (d ∙ ap (drop k) (wire_labels run n v) ∙ drop-rooted k n h) (IsName-drop k n i)
 
 -- rows of names are the same as the names are
 pub rows_same : (t : Bool) (run other : List ℕ) (m n : Name) → labels_in run ≡ m ++ [] ∷ [] → labels_in other ≡ n ++ [] ∷ [] → IsTrue t ↔ (same (labels_in run) (labels_in other) ≡ true) → t ≡ same m n
@@ -70,3 +71,21 @@ star_rooted (l ∷ n) = ap (λ t. bytes_eq (42 ∷ []) l || t) (star_rooted n)
 -- a name with a star in front
 pub star_spells : (bs : List ℕ) (n : Name) → bs ≡ wire ((42 ∷ []) ∷ n) → IsName n → wire_len n ≤ 253 → SpellsName bs ((42 ∷ []) ∷ n)
 star_spells bs n e h r = record { octets = sym e; name = IsName-star n h r }
+
+-- a first label that is a star, or none
+pub first_star : (n : Name) → bytes_eq (slice_index_or n 0 []) (42 ∷ []) ≡ begins_with_star n
+first_star [] = refl
+first_star (l ∷ n) = refl
+
+-- a name that octets spell is the one whose wire form they are
+pub one_spelled : (bs : List ℕ) (n m : Name) → SpellsName bs m → bs ≡ wire n → m ≡ n
+one_spelled bs n m s w = sym (read_name bs m s) ∙ ap name_in w ∙ name_in-wire n
+
+pub spelled_one : {E : Type 0} (bs : List ℕ) (n : Name) (r : Result Name E) (o : Option Name) → o ≡ result_ok r → IfOk r (SpellsName bs) → bs ≡ wire n → IfSome o (λ m. m ≡ n)
+spelled_one bs n (Ok m) o e s w = subst (λ x. IfSome x (λ m. m ≡ n)) (sym e) (one_spelled bs n m s w)
+spelled_one bs n (Err f) o e s w = subst (λ x. IfSome x (λ m. m ≡ n)) (sym e) tt
+
+-- what succeeds is something
+pub never_none : {A E C : Type 0} (r : Result A E) (o : Option A) → o ≡ result_ok r → IsOk r → o ≡ None → C
+never_none (Ok x) o e i z = cc
+never_none (Err f) o e i z = cc

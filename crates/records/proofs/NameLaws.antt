@@ -1,12 +1,9 @@
 -- What holds of names and of their parts.
-use Rattle.std.proofs.Common.{◌≡◌, ℕ, zero, suc, ◌+◌, ◌*◌, ◌<◌, ◌≤◌, List, [], ◌∷◌, ◌++◌, length, drop, take, map, get_or, refl, sym, ap, ◌∙◌, append_assoc, lit<, lit≤, add-one, true, false, arith}
-use Rattle.std.specs.Prelude.{sum_by}
+use Rattle.std.proofs.Common.{◌≡◌, ℕ, zero, suc, ◌+◌, ◌*◌, ◌<◌, ◌≤◌, List, [], ◌∷◌, ◌++◌, length, drop, take, map, get_or, sym, ap, ◌∙◌, append_assoc, lit<, lit≤, arith}
 use Rattle.std.specs.List.{AllByRecursion, flat_map}
-use Rattle.std.proofs.lemmas.List.Sums.{sum_by-cons, sum_by_push}
-use Rattle.std.proofs.lemmas.List.{drop-map, drop_more, get_or-map, length-map, map_more, take-map, append-nil}
+use Rattle.std.proofs.lemmas.List.Sums.{sum_by-cons}
+use Rattle.std.proofs.lemmas.List.{append-nil}
 use Rattle.std.proofs.lemmas.List.Concat.{flat_map-append}
-use Rattle.definitions.specs.Signing.{label_count}
-use Rattle.records.specs.Star.{begins_with_star}
 use Rattle.definitions.specs.Name.{Name, Label, IsLabel, IsName, wire_len}
 
 pub wire_len-cons : (l : Label) (n : Name) → wire_len (l ∷ n) ≡ length l + 1 + wire_len n
@@ -39,11 +36,6 @@ pub length-le-wire_len : (n : Name) → AllByRecursion IsLabel n → 2 * length 
 length-le-wire_len [] h = omega arith
 length-le-wire_len (l ∷ n) h = omega (arith, wire_len-cons l n, length-le-wire_len n h.1, h.0.some)
 
-pub wire_len-upto-le : (n : Name) (i : ℕ) → i < length n → sum_by (λ l. length l + 1) (take i n) + (length (get_or n i []) + 1) + 1 ≤ wire_len n
-wire_len-upto-le [] i h = absurd (omega arith)
-wire_len-upto-le (l ∷ n) zero h = omega (arith, wire_len-cons l n)
-wire_len-upto-le (l ∷ n) (suc i) h = omega (arith, wire_len-cons l n, sum_by-cons (λ k. length k + 1) l (take i n), wire_len-upto-le n i (omega arith))
-
 -- what reading the label at a place gives
 pub record LabelRead {X : Type 0} (f : X → Label) (xs : List X) (i : ℕ) (x : X) : Type 0 where
   pub some : 0 < length (f x)
@@ -52,28 +44,6 @@ pub record LabelRead {X : Type 0} (f : X → Label) (xs : List X) (i : ℕ) (x :
   pub len : wire_len (map f (take (i + 1) xs)) ≡ wire_len (map f (take i xs)) + (length (f x) + 1)
   pub taken : map f (take (i + 1) xs) ≡ map f (take i xs) ++ f x ∷ []
   pub whole : wire_len (map f xs) ≤ 255
-
-wire_len-push : (n : Name) (l : Label) → wire_len (n ++ l ∷ []) ≡ wire_len n + (length l + 1)
-wire_len-push n l = omega (arith, sum_by_push (λ k. length k + 1) n l)
-
-pub label_read : {X : Type 0} (f : X → Label) (xs : List X) (i : ℕ) (x : X) → i < length xs → x ≡ get_or xs i x → IsName (map f xs) → LabelRead f xs i x
-label_read f xs i x h e n =
-    let at : get_or (map f xs) i [] ≡ f x = get_or-map f xs i x [] h ∙ ap f (sym e) in
-    let long : i < length (map f xs) = omega (arith, length-map xs f) in
-    let l : IsLabel (get_or (map f xs) i []) = label_of (map f xs) i n long in
-    let r = wire_len-upto-le (map f xs) i long in
-    let t : map f (take (i + 1) xs) ≡ map f (take i xs) ++ f x ∷ [] = map_more f xs i x h ∙ ap (λ y. map f (take i xs) ++ f y ∷ []) (sym e) in
-    let same : take i (map f xs) ≡ map f (take i xs) = take-map f i xs in
-    let k : length (get_or (map f xs) i []) ≡ length (f x) = ap length at in
-    let s : sum_by (λ l. length l + 1) (take i (map f xs)) ≡ sum_by (λ l. length l + 1) (map f (take i xs)) = ap (λ m. sum_by (λ l. length l + 1) m) same in
-    record {
-      some = omega (arith, l.some, k);
-      short = omega (arith, l.short, k);
-      room = omega (arith, r, k, s);
-      len = ap wire_len t ∙ wire_len-push (map f (take i xs)) (f x);
-      taken = t;
-      whole = n.short;
-    }
 
 -- the wire form of labels so far, with one more
 pub spelled_push : (n : Name) (l : Label) → flat_map (λ k. length k ∷ k) (n ++ l ∷ []) ≡ flat_map (λ k. length k ∷ k) n ++ length l ∷ l
@@ -95,30 +65,9 @@ IsName-star n h room = record { labels = (record { some = lit< tt; short = lit�
 pub wire_len-star : (n : Name) → wire_len ((42 ∷ []) ∷ n) ≡ wire_len n + 2
 wire_len-star n = omega (arith, wire_len-cons (42 ∷ []) n)
 
-pub star_some : (n : Name) → begins_with_star n ≡ true → 1 ≤ length n
-star_some [] h = cc
-star_some (l ∷ n) h = omega arith
-
-pub star_counted : (n : Name) → begins_with_star n ≡ true → label_count n + 1 ≡ length n
-star_counted [] h = cc
-star_counted (l ∷ n) h = rw h (add-one (length n))
-
-pub unstarred : (n : Name) → begins_with_star n ≡ false → label_count n ≡ length n
-unstarred [] h = refl
-unstarred (l ∷ n) h = rw h (add-one (length n))
-
--- copies of the last labels
-pub last_labels : {X : Type 0} (f : X → Label) (xs ys from : List X) (new : Name) (n : Name) (k j : ℕ) → new ≡ map f ys ++ map f from → ys ≡ [] → from ≡ drop k xs → map f xs ≡ n → k ≡ j → new ≡ drop j n
-last_labels f xs ys from new n k j e h g v s = e ∙ (λ t. map f (h t) ++ map f (g t)) ∙ sym (drop-map f k xs) ∙ (λ t. drop (s t) (v t))
-
 -- one more part behind what was written so far
 pub grow : (old acc x b y : List ℕ) → x ≡ old ++ acc → y ≡ x ++ b → y ≡ old ++ (acc ++ b)
 grow old acc x b y h g = g ∙ ap (λ s. s ++ b) h ∙ append_assoc old acc b
-
--- the label at a place of a name and those behind it
-pub label_drop : {X : Type 0} (f : X → Label) (xs : List X) (i : ℕ) (x : X) (n : Name) → i < length xs → x ≡ get_or xs i x → map f xs ≡ n → drop i n ≡ f x ∷ drop (i + 1) n
-label_drop f xs i x n h e v =
-    ap (drop i) (sym v) ∙ drop-map f i xs ∙ ap (map f) (drop_more xs i x h) ∙ (λ t. f (sym e t) ∷ sym (drop-map f (i + 1) xs) t) ∙ ap (λ m. f x ∷ drop (i + 1) m) v
 
 pub wire_len-some : (n : Name) → 1 ≤ wire_len n
 wire_len-some n = omega arith

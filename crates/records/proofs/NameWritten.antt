@@ -1,14 +1,13 @@
--- A name that is written without pointers reads back.
-use Rattle.std.proofs.Common.{◌≡◌, ℕ, zero, suc, ◌+◌, ◌-◌, ◌<◌, ◌≤◌, List, [], ◌∷◌, ◌++◌, length, take, drop, Some, Ok, refl, sym, ap, ◌∙◌, append_assoc, length-append, arith}
+-- A name that is written without pointers reads back, whatever number of them may be followed.
+use Rattle.std.proofs.Common.{◌≡◌, ℕ, ◌+◌, ◌-◌, ◌≤◌, List, [], ◌∷◌, ◌++◌, length, take, drop, Some, Ok, refl, sym, ap, subst, ◌∙◌, append_assoc, length-append, arith}
 use Rattle.std.specs.Prelude.{slice_get, slice_range}
 use Rattle.std.specs.List.{AllByRecursion, flat_map}
 use Rattle.std.proofs.lemmas.List.{drop_at, take_at}
 use Rattle.definitions.specs.Name.{Name, Label, IsLabel, IsName, wire, wire_len}
-use Rattle.definitions.specs.Limits.{pointer_limit}
+use Rattle.definitions.specs.Reading.{Reads, root, label}
 use Rattle.records.specs.Message.{owner_at}
-use Rattle.records.specs.Walk.{walk}
-use Rattle.records.proofs.NameLaws.{wire_len-cons, wire_len-some, few_labels}
-use Rattle.records.proofs.NameWalk.{in_front, owner-walk, walk_root, walk_label}
+use Rattle.records.proofs.NameLaws.{wire_len-cons}
+use Rattle.records.proofs.NameRead.{owner_reads}
 
 pub slice_get_at : (pre : List ℕ) (x : ℕ) (post : List ℕ) → slice_get (pre ++ x ∷ post) (length pre) ≡ Some x
 slice_get_at [] x post = refl
@@ -25,26 +24,24 @@ regroup : (m pre post : List ℕ) (l : Label) (n : Name) → m ≡ pre ++ (wire 
 regroup m pre post l n e =
     e ∙ ap (λ s. pre ++ (s ++ post)) (append_assoc (length l ∷ l) (flat_map (λ k. length k ∷ k) n) (0 ∷ [])) ∙ ap (λ s. pre ++ s) (append_assoc (length l ∷ l) (wire n) post)
 
-walk_wire : (n : Name) (h room : ℕ) (pre post m : List ℕ) (p : ℕ) → AllByRecursion IsLabel n → wire_len n ≤ room → length n < h → m ≡ pre ++ (wire n ++ post) → p ≡ length pre → walk h room m p ≡ Ok (n, p + wire_len n)
-walk_wire n zero room pre post m p all fits few e s = absurd (omega arith)
-walk_wire [] (suc h) room pre post m p all fits few e s = walk_root h room m p (octet_there m pre 0 post p e s)
-walk_wire (l ∷ n) (suc h) room pre post m p all fits few e s =
+-- its labels stand there, whatever number of pointers may be followed
+reads_wire : (n : Name) (k : ℕ) (pre post m : List ℕ) (p : ℕ) → AllByRecursion IsLabel n → m ≡ pre ++ (wire n ++ post) → p ≡ length pre → Reads m p k n (p + wire_len n)
+reads_wire [] k pre post m p all e s = root (octet_there m pre 0 post p e s) refl
+reads_wire (l ∷ n) k pre post m p all e s =
     let size = length l in
     let x = wire n ++ post in
     let f : m ≡ pre ++ (size ∷ (l ++ x)) = regroup m pre post l n e in
     let g : m ≡ (pre ++ size ∷ []) ++ (l ++ x) = f ∙ sym (append_assoc pre (size ∷ []) (l ++ x)) in
-    let k : m ≡ (pre ++ size ∷ l) ++ x = f ∙ sym (append_assoc pre (size ∷ l) x) in
+    let h : m ≡ (pre ++ size ∷ l) ++ x = f ∙ sym (append_assoc pre (size ∷ l) x) in
     let a : p + 1 ≡ length (pre ++ size ∷ []) = omega (arith, length-append pre (size ∷ []), s) in
     let q : p + 1 + size ≡ length (pre ++ size ∷ l) = omega (arith, length-append pre (size ∷ l), s) in
-    let inside : p + 1 + size ≤ length m = omega (arith, ap length k, length-append (pre ++ size ∷ l) x, q) in
-    let w = wire_len-cons l n in
+    let inside : p + 1 + size ≤ length m = omega (arith, ap length h, length-append (pre ++ size ∷ l) x, q) in
     let range = range_there m (pre ++ size ∷ []) l x (p + 1) (p + 1 + size) g a refl in
-    let rest = walk_wire n h (room - (size + 1)) (pre ++ size ∷ l) post m (p + 1 + size) all.1 (omega (arith, w)) (omega arith) k q in
-    walk_label h room m p size (octet_there m pre size (l ++ x) p f s) all.0.some all.0.short inside (omega (arith, w, wire_len-some n))
-    ∙ (λ t. in_front (range t) (rest t))
-    ∙ ap (λ b. Ok (l ∷ n, b)) (omega (arith, w))
+    let rest = reads_wire n k (pre ++ size ∷ l) post m (p + 1 + size) all.1 h q in
+    let place : p + 1 + size + wire_len n ≡ p + wire_len (l ∷ n) = omega (arith, wire_len-cons l n) in
+    subst (λ b. Reads m p k (l ∷ n) b) place (label (octet_there m pre size (l ++ x) p f s) all.0.some all.0.short refl inside (sym range) rest)
 
 -- a name at a place, whatever stands before and behind it
-pub owner_wire : (n : Name) (pre post m : List ℕ) (p : ℕ) → IsName n → m ≡ pre ++ (wire n ++ post) → p ≡ length pre → owner_at pointer_limit m p ≡ Ok (n, p + wire_len n)
-owner_wire n pre post m p name e s =
-    owner-walk m p ∙ walk_wire n 128 255 pre post m p name.labels name.short (omega (arith, few_labels n name)) e s
+pub owner_wire : (k : ℕ) (n : Name) (pre post m : List ℕ) (p : ℕ) → IsName n → m ≡ pre ++ (wire n ++ post) → p ≡ length pre → owner_at k m p ≡ Ok (n, p + wire_len n)
+owner_wire k n pre post m p name e s =
+    owner_reads k m p n (p + wire_len n) (reads_wire n k pre post m p name.labels e s) name.short

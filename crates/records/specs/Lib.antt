@@ -2,7 +2,6 @@ pub mod Message
 pub mod Opaque
 pub mod Rdata
 pub mod View
-pub mod Walk
 pub mod NameOctets
 pub mod Written
 pub mod Handed

@@ -3,7 +3,9 @@ use Rattle.std.specs.Prelude.{◌≡◌, ℕ, List, [], Result, Ok, Err, IsOk}
 use Rattle.definitions.specs.Name.{Name}
 use Rattle.definitions.specs.Limits.{pointer_limit}
 use Rattle.records.specs.declared.message.MessageError.{MessageError}
-use Rattle.records.specs.Message.{Spelled, owner_at, records_at}
+use Rattle.names_parser.specs.declared.error.ParseError.{ParseError}
+use Rattle.names_parsed.specs.Heads as heads
+use Rattle.records.specs.Message.{Spelled, fault_of, owner_at, records_at}
 
 -- what a reading returned, seen by view, is what the definition reads
 abbrev pub Gives : {X Y : Type 0} → (X → Y) → Result X MessageError → Result Y MessageError → Type 0
@@ -29,3 +31,7 @@ records_read n m p = elim (records_at n pointer_limit m p) [ Ok rs ↦ rs | Err 
 -- a name reads at a place
 abbrev pub NameReads : List ℕ → ℕ → Type 0
 NameReads m p = IsOk (owner_at pointer_limit m p)
+
+-- why a name of a message can't be read
+abbrev pub message_error : ParseError → MessageError
+message_error e = fault_of (heads.fault_of e)

@@ -1,4 +1,7 @@
 //! Messages as they are written, and why reading one stops (RFC 1035, 4).
+ghost use Rattle.std.specs.Prelude.{◌≡◌};
+
+use names_parser::error::ParseError;
 use thiserror::Error;
 
 pub mod write;
@@ -15,4 +18,17 @@ pub enum MessageError {
     /// The header does not count one question.
     #[error("message has not one question")]
     NotOneQuestion,
+}
+
+impl From<ParseError> for MessageError {
+    ghost use Rattle.records.specs.View.{message_error};
+
+    ghost from_gives = { λ fault error. error ≡ message_error fault };
+
+    fn from(fault: ParseError) -> MessageError {
+        match fault {
+            ParseError::ShortInput => MessageError::ShortInput,
+            ParseError::Form(_) => MessageError::Form,
+        }
+    }
 }

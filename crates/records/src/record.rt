@@ -2,7 +2,7 @@
 ghost use Rattle.std.specs.Prelude.{◌≡◌, ◌<◌, ◌++◌, ◌↔◌, length, IfOk, OnOk, IsErr};
 
 use crate::message::write::push_u32;
-use crate::names::Name;
+use crate::names::{Name, ZoneName};
 use names_data::rtype::Rtype;
 use plain::numbers::{Class, Ttl};
 use std::alloc::AllocError;
@@ -13,9 +13,9 @@ use thiserror::Error;
 #[derive(Debug, Drop)]
 pub struct Soa {
     /// The zone's primary name server.
-    pub mname: Name,
+    pub mname: Name<Vec<u8>>,
     /// The mailbox of who runs the zone, as a name.
-    pub rname: Name,
+    pub rname: Name<Vec<u8>>,
     pub serial: u32,
     pub refresh: u32,
     pub retry: u32,
@@ -43,7 +43,7 @@ impl Soa {
 /// The data of an NS record (RFC 1035, 3.3.11).
 #[derive(Debug, Drop)]
 pub struct Ns {
-    pub nsdname: Name,
+    pub nsdname: Name<Vec<u8>>,
 }
 
 /// Data that are opaque octets of some type (RFC 3597), at most 65,535 of them.
@@ -167,7 +167,7 @@ impl ZoneRecordData {
 /// A record of a zone.
 #[derive(Debug, Drop)]
 pub struct Record {
-    pub owner: Name,
+    pub owner: Name<Vec<u8>>,
     pub class: Class,
     pub ttl: Ttl,
     pub rdata: ZoneRecordData,
@@ -189,7 +189,7 @@ impl Record {
     }
 
     /// Of its parts.
-    pub fn new(owner: Name, class: Class, ttl: Ttl, rdata: ZoneRecordData) -> Record
+    pub fn new(owner: Name<Vec<u8>>, class: Class, ttl: Ttl, rdata: ZoneRecordData) -> Record
         ensures owner { result.owner ≡ owner }
         ensures class { result.class ≡ class }
         ensures ttl { result.ttl ≡ ttl }

@@ -2,5 +2,4 @@ pub mod LineLemmas
 pub mod NumberLemmas
 pub mod FieldLemmas
 pub mod RecordLemmas
-pub mod NameLemmas
 pub mod SessionLemmas

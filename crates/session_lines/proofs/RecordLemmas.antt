@@ -49,15 +49,15 @@ numbers_are s xs size a b c d e = (λ i. a i ++ b i ++ c i ++ d i ++ e i) ∙ in
 soa_known : (octets : List ℕ) (m r : Name) (front : ℕ) → front + 20 ≡ length octets → soa_field octets m r front ≡ Some (record { is_unknown = false; written = wire m ++ wire r ++ drop front octets; bytes = wire (low m) ++ wire (low r) ++ drop front octets })
 soa_known octets m r front size = ap (λ b. cond b (Some (record { is_unknown = false; written = wire m ++ wire r ++ drop front octets; bytes = wire (low m) ++ wire (low r) ++ drop front octets })) None) (eq-eqb (front + 20) (length octets) size)
 
-pub soa_read : (octets numbers : List ℕ) (s : Soa) (m r : Name) (behind front : ℕ) → owner_at 0 octets 0 ≡ Ok (m, behind) → owner_at 0 octets behind ≡ Ok (r, front) → front ≤ length octets → numbers ≡ take (length octets - front) (drop front octets) → length numbers ≡ 20 → s.mname ≡ m → s.rname ≡ r → soa_numbers s ≡ numbers → soa_octets octets ≡ Some (data_view (SoaData s))
+pub soa_read : (octets numbers : List ℕ) (s : Soa) (m r : Name) (behind front : ℕ) → result_ok (owner_at 0 octets 0) ≡ Some (m, behind) → result_ok (owner_at 0 octets behind) ≡ Some (r, front) → front ≤ length octets → numbers ≡ take (length octets - front) (drop front octets) → length numbers ≡ 20 → s.mname ≡ m → s.rname ≡ r → soa_numbers s ≡ numbers → soa_octets octets ≡ Some (data_view (SoaData s))
 soa_read octets numbers s m r behind front e f inside cut_off size a b n =
     let whole : numbers ≡ drop front octets = cut_off ∙ take_all (length octets - front) (drop front octets) (omega (arith, length-drop {A = ℕ})) in
     let twenty : front + 20 ≡ length octets = omega (arith, ap length whole, size, length-drop front octets, inside) in
     let rest = n ∙ whole in
     let seen : data_view (SoaData s) ≡ record { is_unknown = false; written = wire m ++ wire r ++ drop front octets; bytes = wire (low m) ++ wire (low r) ++ drop front octets } =
     (λ i. record { is_unknown = false; written = wire (a i) ++ wire (b i) ++ rest i; bytes = wire (low (a i)) ++ wire (low (b i)) ++ rest i }) in
-    bind_some (result_ok (owner_at 0 octets 0)) (m, behind) (λ x. result_ok (owner_at 0 octets x.1) >>= λ y. soa_field octets x.0 y.0 y.1) _ (ap result_ok e)
-    (bind_some (result_ok (owner_at 0 octets behind)) (r, front) (λ y. soa_field octets m y.0 y.1) _ (ap result_ok f)
+    bind_some (result_ok (owner_at 0 octets 0)) (m, behind) (λ x. result_ok (owner_at 0 octets x.1) >>= λ y. soa_field octets x.0 y.0 y.1) _ e
+    (bind_some (result_ok (owner_at 0 octets behind)) (r, front) (λ y. soa_field octets m y.0 y.1) _ f
     (soa_known octets m r front twenty ∙ ap Some (sym seen)))
 
 negated : (b : Bool) → false ≡ not b → b ≡ true

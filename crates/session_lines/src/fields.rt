@@ -1,18 +1,19 @@
 //! Names, references and octets as fields of a line. The field `-` stands for nothing.
 ghost use Rattle.std.specs.Prelude.{◌≡◌, ◌≤◌, ◌↔◌, length, map, IfOk, IsErrOf, Some, None, true, false, string_bytes, if◌then◌else◌};
+ghost use Rattle.std.specs.Result.{result_ok};
 ghost use Rattle.std.specs.List.{list_all};
+ghost use Rattle.records.specs.Message.{owner_at};
 ghost use Rattle.records.specs.NameOctets.{name_of_octets};
+ghost use Rattle.records.specs.View.{named};
 ghost use Rattle.session_lines.specs.Fields.{base64_field, hex_field, key_field, is_reference};
 ghost use Rattle.session_lines.specs.Grammar.{name_field, references_field};
 ghost use Rattle.session_lines.specs.Readings.{Reads, texts};
 
 use crate::line_error::LineError;
-use answer::message::laws::names_read_back;
-use answer::names::{Name, NameError};
+use answer::names::{Name, NameError, name_at_place, name_from_octets};
 use base64::DecodeAllocError;
 use base64::engine::general_purpose::STANDARD;
 use hex::FromHexError;
-use names_flat::name::Name as FlatName;
 use names_flat::text_error::FromStrError;
 use std::alloc::Global;
 
@@ -20,23 +21,39 @@ use std::alloc::Global;
 const MAX_KEY: usize = 65_531;
 
 /// A name as text (RFC 1035, 5.1).
-pub fn name(alloc: Global, field: &str) -> Result<Name, LineError>
+pub fn name(alloc: Global, field: &str) -> Result<Name<Vec<u8>>, LineError>
     ensures { Reads (λ n. n) result (name_field field.now) }
 {
-    names_read_back();
-    match FlatName::vec_from_str(alloc, field) {
-        Ok(name) => wire_name(alloc, name.as_slice()),
+    match Name::vec_from_str(alloc, field) {
+        Ok(name) => Ok(name),
         Err(FromStrError::ShortBuf) => Err(LineError::Memory),
         Err(FromStrError::Presentation(_)) => Err(LineError::Unreadable),
     }
 }
 
 /// A name as wire octets, uncompressed.
-pub fn wire_name(alloc: Global, octets: &[u8]) -> Result<Name, LineError>
+pub fn wire_name(alloc: Global, octets: &[u8]) -> Result<Name<Vec<u8>>, LineError>
     ensures { Reads (λ n. n) result (name_of_octets octets.now) }
 {
-    match Name::from_octets(alloc, octets) {
+    match name_from_octets(alloc, octets) {
         Ok(name) => Ok(name),
+        Err(NameError::Memory) => Err(LineError::Memory),
+        Err(_) => Err(LineError::Unreadable),
+    }
+}
+
+/// The name at a place of octets, uncompressed, and the place behind it.
+pub fn name_at(
+    alloc: Global,
+    octets: &[u8],
+    start: usize,
+) -> Result<(Name<Vec<u8>>, usize), LineError>
+    ensures read { let read = owner_at 0 octets.now start in
+        Reads (λ r. named r.0 r.1) result (result_ok read) }
+    ensures inside { IfOk result (λ r. r.1 ≤ length octets.now) }
+{
+    match name_at_place(alloc, octets, start) {
+        Ok(read) => Ok(read),
         Err(NameError::Memory) => Err(LineError::Memory),
         Err(_) => Err(LineError::Unreadable),
     }

@@ -7,7 +7,7 @@ use answer::publisher::fault::Mode;
 /// What a zone is published with.
 #[derive(Debug, Drop)]
 pub struct Zone {
-    pub apex: Name,
+    pub apex: Name<Vec<u8>>,
     pub mode: Mode,
     /// How many iterations of a name's hash a publisher and a judge allow (RFC 5155, 10.3).
     pub limit: u16,

@@ -6,11 +6,10 @@ ghost use Rattle.records.specs.HandedRr.{handed_of};
 ghost use Rattle.session_lines.specs.Grammar.{zone_line, zone_fields, life_field, record_line, record_fields, data_octets, soa_octets};
 ghost use Rattle.session_lines.specs.Readings.{Reads, texts, zone_view, data_view};
 
-use crate::fields::{hex_octets, name, wire_name};
+use crate::fields::{hex_octets, name, name_at, wire_name};
 use crate::line_error::LineError;
 use crate::numbers::{number_u16, number_u32};
 use crate::zone::Zone;
-use answer::names::ParsedName;
 use answer::plain::Rtype;
 use answer::plain::numbers::{Class, Ttl};
 use answer::publisher::fault::Mode;
@@ -124,23 +123,18 @@ fn read_rdata(alloc: Global, rtype: Rtype, octets: Vec<u8>) -> Result<ZoneRecord
 }
 
 /// Two names and five numbers of 32 bits (RFC 1035, 3.3.13).
-#[tactic(auto, unfolding(definitions::specs::Limits::pointer_limit))]
 fn read_soa(alloc: Global, octets: &[u8]) -> Result<Soa, LineError>
     ensures { Reads (λ s. data_view (ZoneRecordData.Soa s)) result (soa_octets octets.now) }
 {
-    let Ok((mname, behind)) = ParsedName::parse(octets, 0) else {
-        return Err(LineError::Unreadable);
-    };
-    let Ok((rname, front)) = ParsedName::parse(octets, behind) else {
-        return Err(LineError::Unreadable);
-    };
+    let (mname, behind) = name_at(alloc, octets, 0)?;
+    let (rname, front) = name_at(alloc, octets, behind)?;
     let numbers = &octets[front..];
     if numbers.len() != 20 {
         return Err(LineError::Unreadable);
     }
     Ok(Soa {
-        mname: mname.to_name(alloc)?,
-        rname: rname.to_name(alloc)?,
+        mname,
+        rname,
         serial: number_at(numbers, 0),
         refresh: number_at(numbers, 4),
         retry: number_at(numbers, 8),

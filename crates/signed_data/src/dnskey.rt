@@ -3,7 +3,7 @@ ghost use Rattle.std.specs.Prelude.{◌≡◌, ◌+◌, ◌-◌, ◌*◌, ◌%�
 ghost use Rattle.definitions.specs.Dnskey.{digested, rsamd5_tag, dnskey_data, dnskey_of_data, key_tag, same_key, sum16, tag_of_sum};
 
 use plain::numbers::SecurityAlgorithm;
-use records::names::{Name, Octets};
+use records::names::{Name, Octets, ZoneName};
 use std::alloc::{AllocError, Global};
 use std::marker::Model;
 
@@ -129,7 +129,7 @@ impl<Octs: Octets> Dnskey<Octs> {
     }
 
     /// What a DS record's digest is made of: the owner in canonical form and the record's data (RFC 4034, 5.1.4).
-    pub fn digested(&self, alloc: Global, owner: &Name) -> Result<Vec<u8>, AllocError>
+    pub fn digested(&self, alloc: Global, owner: &Name<Vec<u8>>) -> Result<Vec<u8>, AllocError>
         ensures { IfOk result (λ v. v.items ≡ digested owner.now self.now) }
     {
         let mut octets = Vec::new(alloc);

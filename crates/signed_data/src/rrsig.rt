@@ -5,7 +5,7 @@ ghost use Rattle.signed_data.specs.Rrsig.{covered_octets, fields_numbers, spelle
 
 use names_data::rtype::Rtype;
 use plain::numbers::{SecurityAlgorithm, Ttl};
-use records::names::Name;
+use records::names::{Name, ZoneName};
 use std::alloc::AllocError;
 use std::marker::Model;
 
@@ -19,7 +19,7 @@ pub struct ProtoRrsig {
     expiration: u32,
     inception: u32,
     key_tag: u16,
-    signer_name: Name,
+    signer_name: Name<Vec<u8>>,
 }
 
 impl Model for ProtoRrsig {
@@ -49,7 +49,7 @@ impl ProtoRrsig {
         expiration: u32,
         inception: u32,
         key_tag: u16,
-        signer_name: Name,
+        signer_name: Name<Vec<u8>>,
     ) -> Self
         ensures type_covered { result.covered ≡ type_covered }
         ensures algorithm { result.algorithm ≡ algorithm }
@@ -122,7 +122,7 @@ impl ProtoRrsig {
     }
 
     /// The owner of the key, as spelled (RFC 4034, 3.1.7).
-    pub fn signer_name(&self) -> &Name
+    pub fn signer_name(&self) -> &Name<Vec<u8>>
         ensures { result.now ≡ self.now.signer }
     {
         &self.signer_name

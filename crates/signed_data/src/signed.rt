@@ -7,7 +7,7 @@ ghost use Rattle.signed_data.specs.Rrsig.{record_head, with_length};
 
 use crate::rrsig::ProtoRrsig;
 use plain::numbers::Class;
-use records::names::Name;
+use records::names::{Name, ZoneName};
 use std::alloc::{AllocError, Global};
 
 /// The octets that a signature of an RRset is made over: the fields, then the records in the order given
@@ -17,7 +17,7 @@ use std::alloc::{AllocError, Global};
 pub fn signed_octets(
     alloc: Global,
     fields: &ProtoRrsig,
-    owner: &Name,
+    owner: &Name<Vec<u8>>,
     class: Class,
     canonical: &[Vec<u8>],
 ) -> Result<Vec<u8>, AllocError>
@@ -37,7 +37,7 @@ pub fn signed_octets(
 fn signed_head(
     alloc: Global,
     fields: &ProtoRrsig,
-    owner: &Name,
+    owner: &Name<Vec<u8>>,
     class: Class,
 ) -> Result<Vec<u8>, AllocError>
     ensures { let f = fields.now in
@@ -56,7 +56,7 @@ fn signed_head(
 fn compose_signed_owner(
     alloc: Global,
     labels: u8,
-    owner: &Name,
+    owner: &Name<Vec<u8>>,
     out: &mut Vec<u8>,
 ) -> Result<(), AllocError>
     ensures ok { OnOk result (out.new.items

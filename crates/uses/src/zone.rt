@@ -13,9 +13,8 @@ use std::time::Duration;
 const ROLL: RollType = RollType::AlgorithmRoll;
 
 /// The name of a text, as the publisher and the judge take it.
-pub fn name(alloc: Global, text: &str) -> anyhow::Result<Name> {
-    let flat = names_flat::name::Name::vec_from_str(alloc, text)?;
-    Ok(Name::from_octets(alloc, flat.as_slice())?)
+pub fn name(alloc: Global, text: &str) -> anyhow::Result<Name<Vec<u8>>> {
+    Ok(Name::vec_from_str(alloc, text)?)
 }
 
 /// A publisher whose first two keys sign since moment 0, and whose parent has their DS record since 3600.

@@ -153,7 +153,13 @@ impl Section {
     }
 
     /// Writes a record of class IN.
-    fn push(&mut self, owner: &Name, rtype: Rtype, ttl: Ttl, data: &[u8]) -> Result<(), AnswerFault>
+    fn push(
+        &mut self,
+        owner: &Name<Vec<u8>>,
+        rtype: Rtype,
+        ttl: Ttl,
+        data: &[u8],
+    ) -> Result<(), AnswerFault>
         ensures refused { IfErr result (RefusesRecords self.old.octets.items self.old.count
             (written_rr owner.now rtype ttl data.now ∷ [])) }
         ensures room { OnOk result (HasRoom self.old.octets.items self.old.count

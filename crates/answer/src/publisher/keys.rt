@@ -164,7 +164,7 @@ impl Model for ZoneKeys {
 
 impl ZoneKeys {
     /// No keys, and nothing bound.
-    pub(crate) fn new(alloc: Global, name: Name) -> Self
+    pub(crate) fn new(alloc: Global, name: Name<Vec<u8>>) -> Self
         ensures { result ≡ no_keys name }
     {
         ZoneKeys {

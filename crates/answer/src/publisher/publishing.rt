@@ -31,7 +31,7 @@ use keyset::{Action, Available, Error, RollType, UnixTime};
 use messages::question::Question;
 use names_data::rtype::Rtype;
 use plain::numbers::{Class, DigestAlgorithm, SecurityAlgorithm};
-use records::names::Name;
+use records::names::{Name, ZoneName};
 use records::record::Record;
 use signed_data::dnskey::Dnskey;
 use signed_data::ds::Ds;
@@ -58,7 +58,7 @@ impl<'a, S: Scheme, H: Nsec3Hasher> Publisher<'a, S, H> {
     /// holds for `life` seconds from the moment of its answer.
     pub fn new(
         alloc: Global,
-        apex: Name,
+        apex: Name<Vec<u8>>,
         records: Vec<Record>,
         mode: Mode,
         scheme: &'a S,
@@ -96,9 +96,9 @@ impl<'a, S: Scheme, H: Nsec3Hasher> Publisher<'a, S, H> {
 
     /// The answer for the DNSKEY RRset: the keys that are present, signed by each key that signs keys, at a moment.
     pub fn dnskey_answer(&self, now: &UnixTime) -> Result<Vec<u8>, AnswerFault>
-        ensures refused { let w = world_of S.signature_of S.verifies S.digest_of H.hash_of self.now in
+        ensures fault { let w = world_of S.signature_of S.verifies S.digest_of H.hash_of self.now in
             IfErr result (RefusesKeysQuestion w self.now.keys now.now) }
-        ensures answer { let w = world_of S.signature_of S.verifies S.digest_of H.hash_of self.now in
+        ensures bytes { let w = world_of S.signature_of S.verifies S.digest_of H.hash_of self.now in
             IfOk result (λ m. AnswersKeysQuestion w self.now.keys now.now m.items) }
         ensures given { let w = world_of S.signature_of S.verifies S.digest_of H.hash_of self.now in
             IfOk result (λ m. SpellsKeys w self.now.keys now.now m.items) }
@@ -160,10 +160,10 @@ impl<'a, S: Scheme, H: Nsec3Hasher> Publisher<'a, S, H> {
         ensures allowed { let asked = asked_of question.now in
             let allowed = is_allowed self.now.zone.apex asked in
             IsErrOf result AnswerFault.QuestionNotAllowed ↔ (allowed ≡ false) }
-        ensures refused { let w = world_of S.signature_of S.verifies S.digest_of H.hash_of self.now in
+        ensures fault { let w = world_of S.signature_of S.verifies S.digest_of H.hash_of self.now in
             let asked = asked_of question.now in
             IfErr result (RefusesQuestion w self.now.keys now.now asked) }
-        ensures answer { let w = world_of S.signature_of S.verifies S.digest_of H.hash_of self.now in
+        ensures bytes { let w = world_of S.signature_of S.verifies S.digest_of H.hash_of self.now in
             let asked = asked_of question.now in
             IfOk result (λ m. AnswersQuestion w self.now.keys now.now asked m.items) }
         ensures given { let w = world_of S.signature_of S.verifies S.digest_of H.hash_of self.now in
@@ -192,7 +192,7 @@ impl<'a, S: Scheme, H: Nsec3Hasher> Publisher<'a, S, H> {
     }
 
     /// The name of the zone.
-    pub fn apex(&self) -> &Name
+    pub fn apex(&self) -> &Name<Vec<u8>>
         ensures { result.now ≡ self.now.zone.apex }
     {
         self.zone.apex()
@@ -368,7 +368,7 @@ impl<'a, S: Scheme, H: Nsec3Hasher> Publisher<'a, S, H> {
 fn key_digest<S: Scheme>(
     alloc: Global,
     scheme: &S,
-    apex: &Name,
+    apex: &Name<Vec<u8>>,
     key: &Dnskey<Vec<u8>>,
 ) -> Result<Vec<u8>, KeyFault>
     ensures ok { IfOk result

@@ -11,7 +11,7 @@ ghost use Rattle.answer_judge.specs.declared.scheme.SchemeError.TheVariants as e
 use answer_judge::scheme::{Scheme, SchemeError};
 use answer_zone::group::RrGroup;
 use plain::numbers::Class;
-use records::names::{Name, Octets};
+use records::names::{Name, Octets, ZoneName};
 use signed_data::dnskey::Dnskey;
 use signed_data::rrsig::ProtoRrsig;
 use signed_data::signed::signed_octets;
@@ -21,7 +21,7 @@ use std::alloc::{AllocError, AllocFailed, Global};
 #[derive(Clone, Copy, Debug)]
 pub struct SignatureTerms<'a> {
     /// The apex of the zone, as it is spelled: the signer.
-    pub apex: &'a Name,
+    pub apex: &'a Name<Vec<u8>>,
     /// When the signatures begin, in seconds.
     pub at: u64,
     /// How many seconds they hold.

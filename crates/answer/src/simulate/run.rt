@@ -19,6 +19,7 @@ use answer_judge::judge::verdict::{Judgement, Refused};
 use answer_judge::scheme::Scheme;
 use keyset::{Action, UnixTime};
 use messages::question::Question;
+use records::names::ZoneName;
 use signed_data::ds::Ds;
 use signed_data::hasher::Nsec3Hasher;
 use std::alloc::{AllocError, Global};

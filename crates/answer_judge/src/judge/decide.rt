@@ -10,15 +10,15 @@ ghost use Rattle.definitions.specs.Name.{at_or_above};
 use crate::judge::verdict::{DataList, Verdict};
 use messages::bitmap::bitmap_has;
 use names_data::rtype::Rtype;
-use records::names::Name;
+use records::names::{Name, ToName, ZoneName};
 use std::alloc::{AllocError, Global};
 use std::marker::Model;
 
 /// A verified NSEC record (RFC 4034, 4). A contract sees owner, next name and the octets of its bitmap.
 #[derive(Debug, Drop)]
 pub(crate) struct Link<'a> {
-    owner: Name,
-    next: Name,
+    owner: Name<Vec<u8>>,
+    next: Name<Vec<u8>>,
     types: &'a [u8],
 }
 
@@ -32,7 +32,7 @@ impl<'a> Model for Link<'a> {
 
 impl<'a> Link<'a> {
     /// A link of its fields.
-    pub(crate) fn new(owner: Name, next: Name, types: &'a [u8]) -> Self
+    pub(crate) fn new(owner: Name<Vec<u8>>, next: Name<Vec<u8>>, types: &'a [u8]) -> Self
         ensures owner { result.owner ≡ owner }
         ensures next { result.next ≡ next }
         ensures types { result.bits ≡ types.now }
@@ -48,14 +48,14 @@ impl<'a> Link<'a> {
     }
 
     /// Whether the owner is a delegation.
-    fn is_cut(&self, apex: &Name) -> bool
+    fn is_cut(&self, apex: &Name<Vec<u8>>) -> bool
         ensures { result ≡ is_cut_link apex.now self.now }
     {
         self.has(Rtype::NS) && !self.owner.name_eq(apex)
     }
 
     /// Whether a name lies strictly between owner and next name; the apex as next name ends the order.
-    fn covers(&self, apex: &Name, name: &Name) -> bool
+    fn covers(&self, apex: &Name<Vec<u8>>, name: &Name<Vec<u8>>) -> bool
         ensures { result ≡ link_covers apex.now self.now name.now }
     {
         self.owner.name_cmp(name).is_lt()
@@ -63,7 +63,7 @@ impl<'a> Link<'a> {
     }
 
     /// What the link says of its own name.
-    fn at_owner(&self, apex: &Name, name: &Name, rtype: Rtype) -> Option<Verdict>
+    fn at_owner(&self, apex: &Name<Vec<u8>>, name: &Name<Vec<u8>>, rtype: Rtype) -> Option<Verdict>
         ensures { option_map verdict_of result ≡ at_owner apex.now name.now rtype self.now }
     {
         if !self.owner.name_eq(name) {
@@ -80,7 +80,7 @@ impl<'a> Link<'a> {
     }
 
     /// Whether the owner is a delegation above a name.
-    fn is_cut_above(&self, apex: &Name, name: &Name) -> Option<Verdict>
+    fn is_cut_above(&self, apex: &Name<Vec<u8>>, name: &Name<Vec<u8>>) -> Option<Verdict>
         ensures { option_map verdict_of result ≡ below_cut apex.now name.now self.now }
     {
         if self.is_cut(apex) && name.is_below(&self.owner) {
@@ -90,18 +90,22 @@ impl<'a> Link<'a> {
     }
 
     /// Whether owner or next name shows that an ancestor exists.
-    fn shows(&self, ancestor: &Name) -> bool
+    fn shows(&self, ancestor: &Name<Vec<u8>>) -> bool
         ensures { result
             ≡ (at_or_above ancestor.now self.now.owner || at_or_above ancestor.now self.now.next) }
     {
-        self.owner.ends_with(ancestor) || self.next.ends_with(ancestor)
+        self.owner.is_at_or_below(ancestor) || self.next.is_at_or_below(ancestor)
     }
 
     /// The closest encloser of a name that the link covers (RFC 4592, 3.3.1).
-    fn closest(&self, alloc: Global, name: &Name) -> Result<Option<Name>, AllocError>
+    fn closest(
+        &self,
+        alloc: Global,
+        name: &Name<Vec<u8>>,
+    ) -> Result<Option<Name<Vec<u8>>>, AllocError>
         ensures { IfOk result (λ e. e ≡ closest self.now name.now) }
     {
-        let mut count = name.len();
+        let mut count = name.depth();
         while count > 0 {
             count -= 1;
             let ancestor = name.suffix(alloc, count)?;
@@ -113,7 +117,7 @@ impl<'a> Link<'a> {
     }
 
     /// What the link says of a wildcard.
-    fn at_star(&self, apex: &Name, star: &Name, rtype: Rtype) -> Option<Verdict>
+    fn at_star(&self, apex: &Name<Vec<u8>>, star: &Name<Vec<u8>>, rtype: Rtype) -> Option<Verdict>
         ensures { option_map verdict_of result ≡ at_star apex.now star.now rtype self.now }
     {
         if self.owner.name_eq(star) {
@@ -137,9 +141,9 @@ impl<'a> Link<'a> {
     fn covered(
         &self,
         alloc: Global,
-        apex: &Name,
+        apex: &Name<Vec<u8>>,
         links: &[Link],
-        name: &Name,
+        name: &Name<Vec<u8>>,
         rtype: Rtype,
     ) -> Result<Option<Verdict>, AllocError>
         ensures { IfOk result
@@ -161,9 +165,9 @@ impl<'a> Link<'a> {
 /// What the links say of the wildcard under a closest encloser.
 fn by_star(
     alloc: Global,
-    apex: &Name,
+    apex: &Name<Vec<u8>>,
     links: &[Link],
-    encloser: &Name,
+    encloser: &Name<Vec<u8>>,
     rtype: Rtype,
 ) -> Result<Option<Verdict>, AllocError>
     ensures { IfOk result (λ v. option_map verdict_of v
@@ -176,7 +180,12 @@ fn by_star(
 }
 
 /// What the first link that tells of a wildcard says.
-fn first_at_star(apex: &Name, links: &[Link], star: &Name, rtype: Rtype) -> Option<Verdict>
+fn first_at_star(
+    apex: &Name<Vec<u8>>,
+    links: &[Link],
+    star: &Name<Vec<u8>>,
+    rtype: Rtype,
+) -> Option<Verdict>
     ensures { option_map verdict_of result
         ≡ first_some (at_star apex.now star.now rtype) links.now }
 {
@@ -189,7 +198,12 @@ fn first_at_star(apex: &Name, links: &[Link], star: &Name, rtype: Rtype) -> Opti
 }
 
 /// What the first link that stands at a name says.
-fn first_at_owner(apex: &Name, links: &[Link], name: &Name, rtype: Rtype) -> Option<Verdict>
+fn first_at_owner(
+    apex: &Name<Vec<u8>>,
+    links: &[Link],
+    name: &Name<Vec<u8>>,
+    rtype: Rtype,
+) -> Option<Verdict>
     ensures { option_map verdict_of result
         ≡ first_some (at_owner apex.now name.now rtype) links.now }
 {
@@ -202,7 +216,7 @@ fn first_at_owner(apex: &Name, links: &[Link], name: &Name, rtype: Rtype) -> Opt
 }
 
 /// Whether a link stands at a delegation above a name.
-fn first_cut_above(apex: &Name, links: &[Link], name: &Name) -> Option<Verdict>
+fn first_cut_above(apex: &Name<Vec<u8>>, links: &[Link], name: &Name<Vec<u8>>) -> Option<Verdict>
     ensures { option_map verdict_of result ≡ first_some (below_cut apex.now name.now) links.now }
 {
     for link in links {
@@ -216,9 +230,9 @@ fn first_cut_above(apex: &Name, links: &[Link], name: &Name) -> Option<Verdict>
 /// What the first link that covers a name and tells of it says.
 fn first_covered(
     alloc: Global,
-    apex: &Name,
+    apex: &Name<Vec<u8>>,
     links: &[Link],
-    name: &Name,
+    name: &Name<Vec<u8>>,
     rtype: Rtype,
 ) -> Result<Option<Verdict>, AllocError>
     ensures { IfOk result (λ v. option_map verdict_of v
@@ -235,10 +249,10 @@ fn first_covered(
 /// The verdict on a name and a type from its verified RRset, if any, and verified links; None where they prove none.
 pub(crate) fn decide(
     alloc: Global,
-    apex: &Name,
+    apex: &Name<Vec<u8>>,
     answer: Option<DataList>,
     links: &[Link],
-    name: &Name,
+    name: &Name<Vec<u8>>,
     rtype: Rtype,
 ) -> Result<Option<Verdict>, AllocError>
     ensures { IfOk result

@@ -16,7 +16,7 @@ use messages::ViewRecord;
 use messages::rdata::NsecView;
 use names_data::rtype::Rtype;
 use plain::numbers::Class;
-use records::names::{Name, ParsedName};
+use records::names::{Name, ParsedName, ToName, ZoneName};
 use std::alloc::{AllocError, Global};
 
 /// What signatures of an answer verify: the RRset that was asked for, and NSEC records.
@@ -32,7 +32,7 @@ pub(crate) fn read_facts<'a, C: Checks>(
     message: &'a [u8],
     records: &[ViewRecord],
     trust: &Trust,
-    name: &Name,
+    name: &Name<Vec<u8>>,
     rtype: Rtype,
     checks: &mut C,
     count: &mut u32,
@@ -76,7 +76,7 @@ fn asked_of(group: Option<Group>) -> Option<DataList>
 /// The NSEC RRsets of one record at or below the apex, in order of first record.
 fn read_nsec_groups(
     alloc: Global,
-    apex: &Name,
+    apex: &Name<Vec<u8>>,
     message: &[u8],
     records: &[ViewRecord],
 ) -> Result<Vec<Group>, AllocError>
@@ -97,7 +97,7 @@ fn read_nsec_groups(
 /// The NSEC RRset of an owner, if that is at or below the apex and the RRset is one record.
 fn read_nsec_group(
     alloc: Global,
-    apex: &Name,
+    apex: &Name<Vec<u8>>,
     message: &[u8],
     records: &[ViewRecord],
     owner: &ParsedName,
@@ -107,7 +107,7 @@ fn read_nsec_group(
         (λ g. (g.owner ≡ owner.now) × IsAlone message.now apex.now rs g)) }
 {
     let owner = owner.to_name(alloc)?;
-    if !owner.ends_with(apex) {
+    if !owner.is_at_or_below(apex) {
         return Ok(None);
     }
     let group = read_group(alloc, message, records, &owner, Rtype::NSEC)?;

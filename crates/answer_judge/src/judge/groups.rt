@@ -20,7 +20,7 @@ use messages::ViewRecord;
 use messages::rdata::RrsigView;
 use names_data::rtype::Rtype;
 use plain::numbers::{Class, SecurityAlgorithm, Ttl};
-use records::names::{Name, ParsedName};
+use records::names::{Name, ParsedName, ToName, ZoneName};
 use signed_data::ranked::put_data;
 use signed_data::rrsig::ProtoRrsig;
 use signed_data::signed::signed_octets;
@@ -40,7 +40,7 @@ pub(crate) struct Signed {
 /// An RRset of a message: its canonical data ascending, each once, and what the first signature says that verified it.
 #[derive(Debug, Drop)]
 pub(crate) struct Group {
-    pub(crate) owner: Name,
+    pub(crate) owner: Name<Vec<u8>>,
     pub(crate) rtype: Rtype,
     pub(crate) items: Vec<Vec<u8>>,
     pub(crate) verified: Option<Signed>,
@@ -49,7 +49,7 @@ pub(crate) struct Group {
 /// What signatures are held against: the apex, the keys that may sign, and the moment.
 #[derive(Drop)]
 pub(crate) struct Trust<'a> {
-    pub(crate) apex: &'a Name,
+    pub(crate) apex: &'a Name<Vec<u8>>,
     pub(crate) keys: &'a [TaggedKey<'a>],
     pub(crate) moment: u32,
 }
@@ -68,7 +68,7 @@ pub(crate) fn read_group(
     alloc: Global,
     message: &[u8],
     records: &[ViewRecord],
-    owner: &Name,
+    owner: &Name<Vec<u8>>,
     rtype: Rtype,
 ) -> Result<Group, AllocError>
     ensures owner { IfOk result (λ g. g.owner ≡ owner.now) }
@@ -96,7 +96,7 @@ fn datum_of(
     alloc: Global,
     message: &[u8],
     record: &ViewRecord,
-    owner: &Name,
+    owner: &Name<Vec<u8>>,
     rtype: Rtype,
 ) -> Result<Option<Vec<u8>>, AllocError>
     ensures { IfOk result (λ o. option_map (λ v. v.items) o
@@ -265,7 +265,7 @@ fn octets_of(alloc: Global, signature: &RrsigView, group: &Group) -> Result<Vec<
 
 impl<'a> Trust<'a> {
     /// Whether a signature is the apex's, holds at the moment, and counts the labels of an owner (RFC 4035, 5.3.1).
-    fn is_due(&self, signature: &RrsigView, owner: &Name) -> bool
+    fn is_due(&self, signature: &RrsigView, owner: &Name<Vec<u8>>) -> bool
         ensures { let f = fields_read signature.now in
             result ≡ is_due self.now.apex.now self.now.moment owner.now f }
     {

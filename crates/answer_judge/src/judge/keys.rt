@@ -86,7 +86,7 @@ impl<'a> TaggedKey<'a> {
 /// The keys that a DNSKEY answer's records spell at the apex, in order.
 pub(crate) fn read_keys<'a>(
     alloc: Global,
-    apex: &Name,
+    apex: &Name<Vec<u8>>,
     message: &'a [u8],
     records: &[ViewRecord],
 ) -> Result<Vec<TaggedKey<'a>>, AllocError>
@@ -103,7 +103,11 @@ pub(crate) fn read_keys<'a>(
 }
 
 /// The key that a record spells, if it stands at the apex and its data read.
-fn read_key<'a>(apex: &Name, message: &'a [u8], record: &ViewRecord) -> Option<TaggedKey<'a>>
+fn read_key<'a>(
+    apex: &Name<Vec<u8>>,
+    message: &'a [u8],
+    record: &ViewRecord,
+) -> Option<TaggedKey<'a>>
     ensures { result ≡ key_at message.now apex.now (spelled record.now) }
 {
     if record.rtype != Rtype::DNSKEY || record.class != Class::IN || !record.owner.name_eq(apex) {
@@ -168,7 +172,7 @@ pub(crate) fn usable_keys<'a>(
 /// The keys that may sign the keys: the usable ones that a DS record names.
 pub(crate) fn trusted_keys<'a, C: Checks>(
     alloc: Global,
-    apex: &Name,
+    apex: &Name<Vec<u8>>,
     ds: &[Ds<Vec<u8>>],
     keys: &'a [TaggedKey],
     checks: &mut C,
@@ -191,7 +195,7 @@ pub(crate) fn trusted_keys<'a, C: Checks>(
 /// Whether a DS record names a key.
 fn is_named<C: Checks>(
     alloc: Global,
-    apex: &Name,
+    apex: &Name<Vec<u8>>,
     ds: &[Ds<Vec<u8>>],
     key: &TaggedKey,
     checks: &mut C,
@@ -213,7 +217,7 @@ fn is_named<C: Checks>(
 /// Whether one DS record names a key (RFC 4034, 5.1.4).
 fn names_key<C: Checks>(
     alloc: Global,
-    apex: &Name,
+    apex: &Name<Vec<u8>>,
     ds: &Ds<Vec<u8>>,
     key: &TaggedKey,
     checks: &mut C,

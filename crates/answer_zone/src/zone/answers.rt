@@ -15,7 +15,7 @@ use crate::group::RrGroup;
 use crate::zone::ZoneRecords;
 use crate::zone::lookups::{data_among, owner_among};
 use names_data::rtype::Rtype;
-use records::names::Name;
+use records::names::{Name, ZoneName};
 use std::alloc::{AllocError, Global};
 
 /// The flags of a response, authoritative (RFC 1035, 4.1.1).
@@ -38,11 +38,11 @@ impl ZoneRecords {
     pub fn answer_to(
         &self,
         alloc: Global,
-        name: &Name,
+        name: &Name<Vec<u8>>,
         rtype: Rtype,
     ) -> Result<ZoneAnswer, AllocError>
         requires { ((rtype == 47) || (rtype == 50)) ≡ false }
-        ensures { IfOk result (λ a. (hash : Name → List ℕ) → AnswersAs
+        ensures { IfOk result (λ a. (hash : List (List ℕ) → List ℕ) → AnswersAs
             (served_of self.now.apex self.now.mode hash self.now.records) name.now rtype a) }
     {
         match &self.mode {
@@ -55,12 +55,12 @@ impl ZoneRecords {
     fn nsec_answer(
         &self,
         alloc: Global,
-        name: &Name,
+        name: &Name<Vec<u8>>,
         rtype: Rtype,
     ) -> Result<ZoneAnswer, AllocError>
         requires plain { ((rtype == 47) || (rtype == 50)) ≡ false }
         requires published { IsPublished self.now.apex self.now.records }
-        ensures { IfOk result (λ a. (hash : Name → List ℕ)
+        ensures { IfOk result (λ a. (hash : List (List ℕ) → List ℕ)
             → AnswersAs (served_of self.now.apex Nsec hash self.now.records) name.now rtype a) }
     {
         let mut answer = Vec::new(alloc);
@@ -90,8 +90,8 @@ impl ZoneRecords {
     }
 
     /// The SOA record, and the records of the chain that match or cover one of some names.
-    fn denial(&self, alloc: Global, names: &[&Name]) -> Result<Vec<RrGroup>, AllocError>
-        ensures { IfOk result (λ gs. (hash : Name → List ℕ)
+    fn denial(&self, alloc: Global, names: &[&Name<Vec<u8>>]) -> Result<Vec<RrGroup>, AllocError>
+        ensures { IfOk result (λ gs. (hash : List (List ℕ) → List ℕ)
             → AllZip Presents gs.items (soa (served_of self.now.apex Nsec hash self.now.records)
             ∷ proofs_of (served_of self.now.apex Nsec hash self.now.records)
             (map (λ n. low n.now) names.now))) }
@@ -104,7 +104,7 @@ impl ZoneRecords {
 
     /// The SOA record of the zone, its owner as spelled there.
     fn soa(&self, alloc: Global) -> Result<RrGroup, AllocError>
-        ensures { IfOk result (λ g. (hash : Name → List ℕ)
+        ensures { IfOk result (λ g. (hash : List (List ℕ) → List ℕ)
             → Presents g (soa (served_of self.now.apex Nsec hash self.now.records))) }
     {
         let owner = match owner_among(&self.records, &self.apex, Rtype::SOA) {
@@ -119,7 +119,7 @@ impl ZoneRecords {
     fn rrset(
         &self,
         alloc: Global,
-        owner: Name,
+        owner: Name<Vec<u8>>,
         rtype: Rtype,
         own: bool,
     ) -> Result<RrGroup, AllocError>
@@ -133,7 +133,11 @@ impl ZoneRecords {
     }
 
     /// The wildcard name under the closest encloser of a name that does not exist (RFC 4592, 3.3.1).
-    fn closest_wildcard(&self, alloc: Global, name: &Name) -> Result<Name, AllocError>
+    fn closest_wildcard(
+        &self,
+        alloc: Global,
+        name: &Name<Vec<u8>>,
+    ) -> Result<Name<Vec<u8>>, AllocError>
         ensures { IfOk result (λ s. low s ≡ star_under
             (kept_ancestor (zone_with self.now.apex self.now.records) false (low name.now))) }
     {
@@ -144,12 +148,16 @@ impl ZoneRecords {
     }
 
     /// The longest proper ancestor of a name that exists, the root where none does.
-    fn closest_encloser(&self, alloc: Global, name: &Name) -> Result<Name, AllocError>
+    fn closest_encloser(
+        &self,
+        alloc: Global,
+        name: &Name<Vec<u8>>,
+    ) -> Result<Name<Vec<u8>>, AllocError>
         ensures ancestor { IfOk result (λ e. low e
             ≡ kept_ancestor (zone_with self.now.apex self.now.records) false (low name.now)) }
         ensures room { IfOk result (λ e. wire_len (star_under e) ≤ 255) }
     {
-        let mut count = name.len();
+        let mut count = name.depth();
         while count > 0 {
             count -= 1;
             let ancestor = name.suffix(alloc, count)?;
@@ -157,6 +165,9 @@ impl ZoneRecords {
                 return Ok(ancestor);
             }
         }
-        Name::root(alloc)
+        match Name::root(alloc) {
+            Ok(root) => Ok(root),
+            Err(_) => Err(AllocError),
+        }
     }
 }

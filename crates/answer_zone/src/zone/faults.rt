@@ -13,7 +13,7 @@ use records::names::Name;
 
 /// The first fault of a list, each sought in the whole list before the next.
 pub(super) fn first_fault(
-    apex: &Name,
+    apex: &Name<Vec<u8>>,
     mode: &Mode,
     limit: u16,
     records: &[HandedRecord],
@@ -47,7 +47,7 @@ fn any_of_other_class(records: &[HandedRecord]) -> bool
     records.iter().any(|r| r.is_of_other_class())
 }
 
-fn any_outside(apex: &Name, records: &[HandedRecord]) -> bool
+fn any_outside(apex: &Name<Vec<u8>>, records: &[HandedRecord]) -> bool
     ensures { result ≡ list_any (λ r. not (at_or_above apex.now r.owner)) records.now }
 {
     records.iter().any(|r| r.is_outside(apex))
@@ -78,7 +78,7 @@ fn any_star_delegation(records: &[HandedRecord]) -> bool
     records.iter().any(|r| r.delegates_star())
 }
 
-fn any_cut_or_star(apex: &Name, records: &[HandedRecord]) -> bool
+fn any_cut_or_star(apex: &Name<Vec<u8>>, records: &[HandedRecord]) -> bool
     ensures { result ≡ list_any
         (λ r. ((r.rtype == 2) && strictly_above apex.now r.owner) || has_star r.owner) records.now }
 {

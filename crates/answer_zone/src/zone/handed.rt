@@ -1,5 +1,5 @@
 //! Records with their data composed.
-ghost use Rattle.std.specs.Prelude.{◌≡◌, ◌==◌, not, ◌&&◌, [], IfOk};
+ghost use Rattle.std.specs.Prelude.{◌≡◌, ℕ, ◌==◌, not, ◌&&◌, List, [], IfOk};
 ghost use Rattle.std.specs.Prelude.{◌∷◌, ◌||◌, min, slice_index};
 ghost use Rattle.answer_zone.specs.Served.{minimum_of};
 ghost use Rattle.definitions.specs.Name.{at_or_above, strictly_above, same};
@@ -10,7 +10,7 @@ ghost use Rattle.answer_zone.specs.Accepting.{unlike_ttls};
 use crate::group::GroupRecord;
 use names_data::rtype::Rtype;
 use plain::numbers::{Class, Ttl};
-use records::names::Name;
+use records::names::{Name, ToName, ZoneName};
 use records::record::{Record, ZoneRecordData};
 use std::alloc::{AllocError, Global};
 use std::cmp::Ordering;
@@ -20,7 +20,7 @@ use std::marker::Model;
 /// of a zone (RFC 4034, 6.1 and 6.3): records that differ in TTL or spelling alone are equal.
 #[derive(Debug, Drop)]
 pub struct HandedRecord {
-    owner: Name,
+    owner: Name<Vec<u8>>,
     class: Class,
     ttl: Ttl,
     rtype: Rtype,
@@ -82,7 +82,7 @@ impl HandedRecord {
     }
 
     /// The owner, as spelled.
-    pub fn owner(&self) -> &Name
+    pub fn owner(&self) -> &Name<Vec<u8>>
         ensures { result.now ≡ self.now.owner }
     {
         &self.owner
@@ -103,7 +103,7 @@ impl HandedRecord {
     }
 
     /// Whether the owner is of a name, up to case, and the type is this.
-    pub fn is_of(&self, name: &Name, rtype: Rtype) -> bool
+    pub fn is_of(&self, name: &Name<Vec<u8>>, rtype: Rtype) -> bool
         ensures { result ≡ is_of name.now rtype self.now }
     {
         self.owner.name_eq(name) && self.rtype == rtype
@@ -119,7 +119,7 @@ impl HandedRecord {
 
     /// The record for an answer, with its owner as spelled or without.
     pub fn grouped(&self, alloc: Global, own: bool) -> Result<GroupRecord, AllocError>
-        ensures { IfOk result (λ g. (owner : Name)
+        ensures { IfOk result (λ g. (owner : List (List ℕ))
             → record_under owner self.now.rtype g ≡ spelled_by own owner self.now) }
     {
         let owner = if own {
@@ -156,10 +156,10 @@ impl HandedRecord {
     }
 
     /// Whether the owner is not at or below an apex.
-    pub fn is_outside(&self, apex: &Name) -> bool
+    pub fn is_outside(&self, apex: &Name<Vec<u8>>) -> bool
         ensures { result ≡ not (at_or_above apex.now self.now.owner) }
     {
-        !self.owner.ends_with(apex)
+        !self.owner.is_at_or_below(apex)
     }
 
     /// Whether signing adds records of this type (RFC 4034; RFC 5155).
@@ -196,7 +196,7 @@ impl HandedRecord {
     }
 
     /// Whether this is a delegation, or the owner has a wildcard label.
-    pub fn is_cut_or_star(&self, apex: &Name) -> bool
+    pub fn is_cut_or_star(&self, apex: &Name<Vec<u8>>) -> bool
         ensures { result ≡ (((self.now.rtype == 2) && strictly_above apex.now self.now.owner)
             || has_star self.now.owner) }
     {
@@ -204,7 +204,7 @@ impl HandedRecord {
     }
 
     /// Whether this is the SOA record of an apex.
-    pub fn is_soa_of(&self, apex: &Name) -> bool
+    pub fn is_soa_of(&self, apex: &Name<Vec<u8>>) -> bool
         ensures { result ≡ (same self.now.owner apex.now && (self.now.rtype == 6)) }
     {
         self.owner.name_eq(apex) && self.rtype == Rtype::SOA

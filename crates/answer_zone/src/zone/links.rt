@@ -12,7 +12,7 @@ use crate::zone::ZoneRecords;
 use crate::zone::bitmap::write_bitmap;
 use crate::zone::lookups::{chain_ttl_among, types_among};
 use names_data::rtype::Rtype;
-use records::names::Name;
+use records::names::{Name, ToName, ZoneName};
 use std::alloc::{AllocError, Global};
 use std::cmp::Ordering;
 
@@ -22,9 +22,9 @@ impl ZoneRecords {
         &self,
         alloc: Global,
         groups: &mut Vec<RrGroup>,
-        names: &[&Name],
+        names: &[&Name<Vec<u8>>],
     ) -> Result<(), AllocError>
-        ensures { OnOk result ((hash : Name → List ℕ) → Adds groups.old.items groups.new.items
+        ensures { OnOk result ((hash : List (List ℕ) → List ℕ) → Adds groups.old.items groups.new.items
             (proofs_of (served_of self.now.apex Nsec hash self.now.records)
             (map (λ n. low n.now) names.now))) }
     {
@@ -47,9 +47,9 @@ impl ZoneRecords {
         &self,
         alloc: Global,
         groups: &mut Vec<RrGroup>,
-        owner: &Name,
-        next: &Name,
-        names: &[&Name],
+        owner: &Name<Vec<u8>>,
+        next: &Name<Vec<u8>>,
+        names: &[&Name<Vec<u8>>],
     ) -> Result<(), AllocError>
         requires { Joins self.now.apex self.now.records owner.now next.now }
         ensures { OnOk result (Adds groups.old.items groups.new.items (chosen self.now.apex
@@ -62,7 +62,12 @@ impl ZoneRecords {
     }
 
     /// Whether a link matches or covers one of some names.
-    fn speaks_for_any(&self, owner: &Name, next: &Name, names: &[&Name]) -> bool
+    fn speaks_for_any(
+        &self,
+        owner: &Name<Vec<u8>>,
+        next: &Name<Vec<u8>>,
+        names: &[&Name<Vec<u8>>],
+    ) -> bool
         ensures { result ≡ link_speaks self.now.apex
             (map (λ n. low n.now) names.now) (low owner.now) (low next.now) }
     {
@@ -75,7 +80,7 @@ impl ZoneRecords {
     }
 
     /// Whether a link matches or covers a name.
-    fn speaks(&self, owner: &Name, next: &Name, name: &Name) -> bool
+    fn speaks(&self, owner: &Name<Vec<u8>>, next: &Name<Vec<u8>>, name: &Name<Vec<u8>>) -> bool
         ensures { result ≡ (same owner.now name.now
             || covers (low self.now.apex) (low owner.now) (low next.now) (low name.now)) }
     {
@@ -87,7 +92,12 @@ impl ZoneRecords {
     }
 
     /// The NSEC record of a link.
-    fn nsec(&self, alloc: Global, owner: &Name, next: &Name) -> Result<RrGroup, AllocError>
+    fn nsec(
+        &self,
+        alloc: Global,
+        owner: &Name<Vec<u8>>,
+        next: &Name<Vec<u8>>,
+    ) -> Result<RrGroup, AllocError>
         requires { Joins self.now.apex self.now.records owner.now next.now }
         ensures { IfOk result (λ g. Presents g
             (link_group self.now.apex self.now.records (low owner.now) (low next.now))) }
@@ -102,7 +112,12 @@ impl ZoneRecords {
     }
 
     /// The data of a link's NSEC record: the next name as spelled, and the bits of the owner (RFC 4034, 4.1).
-    fn nsec_data(&self, alloc: Global, owner: &Name, next: &Name) -> Result<Vec<u8>, AllocError>
+    fn nsec_data(
+        &self,
+        alloc: Global,
+        owner: &Name<Vec<u8>>,
+        next: &Name<Vec<u8>>,
+    ) -> Result<Vec<u8>, AllocError>
         requires { Joins self.now.apex self.now.records owner.now next.now }
         ensures { IfOk result (λ v. v.items
             ≡ link_data self.now.apex self.now.records (low owner.now) (low next.now)) }

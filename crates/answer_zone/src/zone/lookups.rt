@@ -14,26 +14,26 @@ use crate::zone::ZoneRecords;
 use crate::zone::handed::HandedRecord;
 use names_data::rtype::Rtype;
 use plain::numbers::Ttl;
-use records::names::Name;
+use records::names::{Name, ToName, ZoneName};
 use std::alloc::{AllocError, Global};
 
 impl ZoneRecords {
     /// Whether a record of this owner and type stands in the zone.
-    pub fn has(&self, name: &Name, rtype: Rtype) -> bool
+    pub fn has(&self, name: &Name<Vec<u8>>, rtype: Rtype) -> bool
         ensures { result ≡ has (zone_with self.now.apex self.now.records) (low name.now) rtype }
     {
         any_of(&self.records, name, rtype)
     }
 
     /// Whether a name exists: an owner is at or below it (RFC 4592, 2.2).
-    pub fn exists(&self, name: &Name) -> bool
+    pub fn exists(&self, name: &Name<Vec<u8>>) -> bool
         ensures { result ≡ exists (zone_with self.now.apex self.now.records) (low name.now) }
     {
-        name.ends_with(&self.apex) && any_at_or_below(&self.records, name)
+        name.is_at_or_below(&self.apex) && any_at_or_below(&self.records, name)
     }
 
     /// The TTL of an owner and a type, 0 where the zone has none.
-    pub fn ttl_at(&self, name: &Name, rtype: Rtype) -> Ttl
+    pub fn ttl_at(&self, name: &Name<Vec<u8>>, rtype: Rtype) -> Ttl
         ensures { result ≡ ttl_among self.now.records (low name.now) rtype }
     {
         ttl_among(&self.records, name, rtype)
@@ -48,7 +48,7 @@ impl ZoneRecords {
 
     /// A next name as the zone spells it: the apex as handed in, an owner as its first record. Of another name
     /// nothing is promised.
-    pub fn spelled<'a>(&'a self, name: &'a Name) -> &'a Name
+    pub fn spelled<'a>(&'a self, name: &'a Name<Vec<u8>>) -> &'a Name<Vec<u8>>
         ensures apex { IsTrue (same self.now.apex name.now) → result.now ≡ self.now.apex }
         ensures owner { IsTrue (list_any (λ r. same r.owner name.now) self.now.records)
             → result.now ≡ spelled_as self.now.apex self.now.records (low name.now) }
@@ -63,7 +63,7 @@ impl ZoneRecords {
     }
 
     /// An owner as its first record spells it. Of another name nothing is promised.
-    pub fn first_spelled<'a>(&'a self, owner: &'a Name) -> &'a Name
+    pub fn first_spelled<'a>(&'a self, owner: &'a Name<Vec<u8>>) -> &'a Name<Vec<u8>>
         ensures { IsTrue (list_any (λ r. same r.owner owner.now) self.now.records)
             → result.now ≡ spelled_among self.now.records (low owner.now) }
     {
@@ -86,7 +86,7 @@ pub(super) struct RrsetData {
 pub(super) fn data_among(
     alloc: Global,
     records: &[HandedRecord],
-    name: &Name,
+    name: &Name<Vec<u8>>,
     rtype: Rtype,
     own: bool,
 ) -> Result<RrsetData, AllocError>
@@ -111,7 +111,7 @@ pub(super) fn data_among(
 pub(super) fn types_among(
     alloc: Global,
     records: &[HandedRecord],
-    name: &Name,
+    name: &Name<Vec<u8>>,
 ) -> Result<Vec<u16>, AllocError>
     ensures { IfOk result
         (λ v. v.items ≡ map (λ r. r.rtype) (filter (λ r. same r.owner name.now) records.now)) }
@@ -125,20 +125,20 @@ pub(super) fn types_among(
     Ok(types)
 }
 
-fn any_of(records: &[HandedRecord], name: &Name, rtype: Rtype) -> bool
+fn any_of(records: &[HandedRecord], name: &Name<Vec<u8>>, rtype: Rtype) -> bool
     ensures { result ≡ list_any (is_of name.now rtype) records.now }
 {
     records.iter().any(|r| r.is_of(name, rtype))
 }
 
-fn any_at_or_below(records: &[HandedRecord], name: &Name) -> bool
+fn any_at_or_below(records: &[HandedRecord], name: &Name<Vec<u8>>) -> bool
     ensures { result ≡ list_any (λ r. at_or_above name.now r.owner) records.now }
 {
-    records.iter().any(|r| r.owner().ends_with(name))
+    records.iter().any(|r| r.owner().is_at_or_below(name))
 }
 
 /// The TTL of the first record of an owner and a type.
-fn ttl_among(records: &[HandedRecord], name: &Name, rtype: Rtype) -> Ttl
+fn ttl_among(records: &[HandedRecord], name: &Name<Vec<u8>>, rtype: Rtype) -> Ttl
     ensures { result ≡ ttl_among records.now (low name.now) rtype }
 {
     for record in records {
@@ -152,9 +152,9 @@ fn ttl_among(records: &[HandedRecord], name: &Name, rtype: Rtype) -> Ttl
 /// The owner of the first record of an owner and a type.
 pub(super) fn owner_among<'a>(
     records: &'a [HandedRecord],
-    name: &Name,
+    name: &Name<Vec<u8>>,
     rtype: Rtype,
-) -> Option<&'a Name>
+) -> Option<&'a Name<Vec<u8>>>
     ensures some { IfSome result (λ n. n.now ≡ owner_among records.now (low name.now) rtype) }
     ensures none { IsNone result → list_any (is_of name.now rtype) records.now ≡ false }
 {
@@ -167,7 +167,7 @@ pub(super) fn owner_among<'a>(
 }
 
 /// The TTL of the chain: the lesser of the SOA record's own and its minimum (RFC 9077, 3).
-pub(super) fn chain_ttl_among(apex: &Name, records: &[HandedRecord]) -> Ttl
+pub(super) fn chain_ttl_among(apex: &Name<Vec<u8>>, records: &[HandedRecord]) -> Ttl
     ensures { result ≡ chain_ttl apex.now records.now }
 {
     for record in records {
@@ -179,7 +179,10 @@ pub(super) fn chain_ttl_among(apex: &Name, records: &[HandedRecord]) -> Ttl
 }
 
 /// The owner of the first record of a name.
-pub(super) fn spelled_among<'a>(records: &'a [HandedRecord], name: &Name) -> Option<&'a Name>
+pub(super) fn spelled_among<'a>(
+    records: &'a [HandedRecord],
+    name: &Name<Vec<u8>>,
+) -> Option<&'a Name<Vec<u8>>>
     ensures some { IfSome result (λ n. n.now ≡ spelled_among records.now (low name.now)) }
     ensures none { IsNone result → list_any (λ r. same r.owner name.now) records.now ≡ false }
 {

@@ -3,7 +3,7 @@ ghost use Rattle.std.specs.Prelude.{◌≡◌, ◌<◌, ◌^◌, ◌++◌, lengt
 ghost use Rattle.std.specs.Int.{w16, w32, to_be_bytes};
 ghost use Rattle.records.specs.Written.{written, header_octets, question_octets, record_octets};
 
-use crate::names::Name;
+use crate::names::{Name, ZoneName};
 use names_data::rtype::Rtype;
 use plain::numbers::{Class, Ttl};
 use std::alloc::AllocError;
@@ -32,7 +32,7 @@ pub fn push_header(
 #[tactic(auto, unfolding(crate::specs::Written::question_octets))]
 pub fn push_question(
     out: &mut Vec<u8>,
-    name: &Name,
+    name: &Name<Vec<u8>>,
     rtype: Rtype,
     class: Class,
 ) -> Result<(), AllocError>
@@ -48,7 +48,7 @@ pub fn push_question(
 #[tactic(auto, unfolding(crate::specs::Written::record_octets))]
 pub fn push_record(
     out: &mut Vec<u8>,
-    owner: &Name,
+    owner: &Name<Vec<u8>>,
     rtype: Rtype,
     class: Class,
     ttl: Ttl,

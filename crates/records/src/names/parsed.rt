@@ -1,45 +1,49 @@
 //! Names as they stand in a message (RFC 1035, 4.1.4), read in place.
-ghost use Rattle.std.specs.Prelude.{◌≡◌, ℕ, ◌+◌, ◌<◌, ◌≤◌, length, IfOk};
+ghost use Rattle.std.specs.Prelude.{◌≡◌, ℕ, ◌+◌, ◌++◌, ◌<◌, ◌≤◌, length, IfOk, OnOk};
 ghost use Rattle.definitions.specs.Limits.{pointer_limit};
-ghost use Rattle.definitions.specs.Name.{same};
+ghost use Rattle.definitions.specs.Name.{same, wire, low};
 ghost use Rattle.records.specs.Message.{owner_at};
-ghost use Rattle.records.specs.Walk.{walk, behind_walk};
 ghost use Rattle.records.specs.View.{Gives, named, name_read, NameReads};
 
 use crate::message::MessageError;
 use crate::names::Name;
-use names_labels::flat::runs_eq;
+use crate::names::wire::written_out;
+use names_data::composer::compose_canonical_name;
+use names_parsed::parsed;
+use names_parser::parser::Parser;
+use names_traits::to_name::ToName;
 use std::alloc::{AllocError, Global};
 use std::marker::Model;
 
-/// A name within a message, its octets in place. A contract sees its labels, as spelled.
-#[derive(Debug, Drop)]
+/// A name within a message, possibly compressed, read in place. A contract sees its labels, as spelled.
+#[derive(Drop)]
 pub struct ParsedName<'a> {
-    octets: &'a [u8],
+    name: parsed::ParsedName<'a>,
 }
 
 impl<'a> Model for ParsedName<'a> {
     ghost use Rattle.std.specs.Prelude.{List, ℕ};
-    ghost use Rattle.names_labels.specs.Flat.{name_in, IsFlat};
+    ghost use Rattle.names_parsed.specs.Parsed.{parsed_name};
 
     ghost Value = { List (List ℕ) };
 
-    ghost view = { λ n. name_in n.octets.now };
+    ghost view = { λ n. parsed_name n.name };
 
-    ghost invariant = { λ n. IsFlat n.octets.now };
+    ghost invariant = { λ _. Unit {0} };
 }
 
 impl<'a> ParsedName<'a> {
-    /// The name at a place of a message, and the place behind it.
+    /// The name at a place of a message, and the place behind it: behind its first pointer or its root octet.
     pub fn parse(message: &'a [u8], start: usize) -> Result<(ParsedName<'a>, usize), MessageError>
         ensures exact { let is = owner_at pointer_limit message.now start in
             Gives (λ r. named r.0 r.1) result is }
         ensures inside { IfOk result (λ r. r.1 ≤ length message.now) }
         ensures before { IfOk result (λ r. start < r.1) }
     {
-        let end = name_end(message, start)?;
-        let octets = &message[start..end];
-        Ok((ParsedName { octets }, end))
+        let mut parser = Parser::from_ref(message);
+        parser.seek(start)?;
+        let name = parsed::ParsedName::parse(&mut parser)?;
+        Ok((ParsedName { name }, parser.pos()))
     }
 
     /// The name at a place where one is known to stand.
@@ -47,54 +51,28 @@ impl<'a> ParsedName<'a> {
         requires { NameReads message.now start }
         ensures { result ≡ name_read message.now start }
     {
-        let end = name_end(message, start).unwrap();
-        ParsedName {
-            octets: &message[start..end],
-        }
+        let (name, _) = ParsedName::parse(message, start).unwrap();
+        name
     }
 
-    /// The name apart from the message, with the same spelling.
-    pub fn to_name(&self, alloc: Global) -> Result<Name, AllocError>
+    /// The name apart from the message, written out, with the same spelling.
+    pub fn to_name(&self, alloc: Global) -> Result<Name<Vec<u8>>, AllocError>
         ensures { IfOk result (λ n. n ≡ self.now) }
     {
-        Name::copied(alloc, self.octets)
+        written_out(alloc, &self.name)
     }
 
     /// Whether a name is the same up to ASCII case (RFC 4343, 3).
-    pub fn name_eq(&self, other: &Name) -> bool
+    pub fn name_eq(&self, other: &Name<Vec<u8>>) -> bool
         ensures { result ≡ same self.now other.now }
     {
-        runs_eq(self.octets, other.run())
+        self.name.name_eq(other)
     }
-}
 
-/// The place behind the name at a place of a message, where a name stands there.
-fn name_end(message: &[u8], start: usize) -> Result<usize, MessageError>
-    ensures exact { Gives (λ n. n) result (behind_walk (walk 128 255 message.now start)) }
-    ensures inside { IfOk result (λ n. n ≤ length message.now) }
-    ensures before { IfOk result (λ n. start < n) }
-{
-    let mut at = start;
-    let mut room = 255;
-    for _ in 0..128usize {
-        let size = match message.get(at) {
-            None => return Err(MessageError::ShortInput),
-            Some(size) => *size as usize,
-        };
-        if size == 0 {
-            return Ok(at + 1);
-        }
-        if size > 63 {
-            return Err(MessageError::Form);
-        }
-        if message.len() - at - 1 < size {
-            return Err(MessageError::ShortInput);
-        }
-        if size + 2 > room {
-            return Err(MessageError::Form);
-        }
-        room -= size + 1;
-        at += size + 1;
+    /// Writes the canonical form at the end: written out, with letters lowered (RFC 4034, 6.2).
+    pub fn compose_canonical(&self, out: &mut Vec<u8>) -> Result<(), AllocError>
+        ensures ok { OnOk result (out.new.items ≡ out.old.items ++ wire (low self.now)) }
+    {
+        compose_canonical_name(&self.name, out).map_err(|_| AllocError)
     }
-    Err(MessageError::Form)
 }

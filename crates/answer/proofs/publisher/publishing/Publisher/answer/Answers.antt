@@ -19,8 +19,8 @@ use Rattle.definitions.specs.Limits.{pointer_limit}
 pub answer_to-requires : goal.answer_to-requires
 answer_to-requires g c = allowed_plain c.args.self.now.zone.apex (asked_of c.args.question.now) (search rules)
 
-pub returns-clause-answer : goal.returns-clause-answer
-returns-clause-answer g c =
+pub returns-clause-bytes : goal.returns-clause-bytes
+returns-clause-bytes g c =
     let z = c.args.self.now.zone in
     let sign = g.S.Scheme.signature_of c.args.self.now.scheme.now in
     let verifies = g.S.Scheme.verifies c.args.self.now.scheme.now in
@@ -58,10 +58,10 @@ returns-clause-given g c =
     (λ m. GivesAnswer verifies pointer_limit (served hash z) z.apex signers at life asked m.items)
     c.compose_answer.result
     (λ m w. answer_given sign verifies hash z at life signers asked m.items c.keeps.ensures.published c.keeps.ensures.handed c.keeps.ensures.mode c.keeps-2.ensures plain w)
-    (returns-clause-answer g c)
+    (returns-clause-bytes g c)
 
-pub returns-clause-refused : goal.returns-clause-refused
-returns-clause-refused g c =
+pub returns-clause-fault : goal.returns-clause-fault
+returns-clause-fault g c =
     let z = c.args.self.now.zone in
     let sign = g.S.Scheme.signature_of c.args.self.now.scheme.now in
     let verifies = g.S.Scheme.verifies c.args.self.now.scheme.now in

@@ -33,8 +33,8 @@ returns-clause-given g c =
     (λ m w. keys_given sign verifies hash z at life present signers m.items c.keeps.ensures.handed (record { group = group; presents = c.in_ok-group.ensures.presents; written = w }))
     written
 
-pub returns-clause-refused : goal.returns-clause-refused
-returns-clause-refused g c =
+pub returns-clause-fault : goal.returns-clause-fault
+returns-clause-fault g c =
     let z = c.args.self.now.zone in
     let sign = g.S.Scheme.signature_of c.args.self.now.scheme.now in
     let verifies = g.S.Scheme.verifies c.args.self.now.scheme.now in

@@ -9,4 +9,4 @@ pub returns-in_ok-push-in-Ok-clause-step : goal.returns-in_ok-push-in-Ok-clause-
 returns-in_ok-push-in-Ok-clause-step g c =
     let shown = c.args.self.now.shown.items in
     let octets = same_octets c.in-Ok.octets.items c.in_ok-clone-in-Ok.field-0.items c.in_ok-clone-in-Ok.ensures.cases.0 in
-    (search (rules, length-map), (c.in-Ok.ensures.answer, c.in-Ok.ensures.given), shown_more c.args.self.now.publisher.keys shown _ _ _ c.in_ok-push-in-Ok.ensures.items (ap OfKeys octets))
+    (search (rules, length-map), (c.in-Ok.ensures.bytes, c.in-Ok.ensures.given), shown_more c.args.self.now.publisher.keys shown _ _ _ c.in_ok-push-in-Ok.ensures.items (ap OfKeys octets))

@@ -1,0 +1,46 @@
+//! The texts of faults.
+
+use denial_data::{
+    IllegalSignatureTime, Nsec3SaltError, Nsec3SaltFromStrError, OwnerHashError,
+    OwnerHashFromStrError, RtypeBitmapError,
+};
+use plain::base32hex::DecodeError;
+use std::alloc::Global;
+use std::fmt::Display;
+
+/// Whether a fault is printed so.
+fn is_printed<T: Display>(alloc: Global, fault: &T, text: &str) -> bool {
+    match fault.to_string(alloc) {
+        Ok(printed) => printed.as_str() == text,
+        Err(_) => false,
+    }
+}
+
+#[test]
+fn faults_of_one_kind_are_printed(rt: HostRuntime) {
+    let alloc = rt.alloc();
+    assert!(rt; is_printed(alloc, &IllegalSignatureTime, "illegal signature time"));
+    assert!(rt; is_printed(alloc, &Nsec3SaltError, "NSEC3 salt too long"));
+    assert!(rt; is_printed(alloc, &OwnerHashError, "NSEC3 owner hash too long"));
+    assert!(rt;
+        is_printed(
+            alloc,
+            &RtypeBitmapError::BadRtypeBitmap,
+            "invalid type bitmap"
+        )
+    );
+    assert!(rt; is_printed(alloc, &RtypeBitmapError::ShortInput, "short input"));
+}
+
+#[test]
+fn faults_of_text_say_what_is_wrong(rt: HostRuntime) {
+    let alloc = rt.alloc();
+    let long = Nsec3SaltFromStrError::Nsec3SaltError(Nsec3SaltError);
+    assert!(rt; is_printed(alloc, &long, "NSEC3 salt too long"));
+    assert!(rt; is_printed(alloc, &Nsec3SaltFromStrError::Memory, "out of memory"));
+    let digit = OwnerHashFromStrError::DecodeError(DecodeError::BadChar(2));
+    assert!(rt; is_printed(alloc, &digit, "illegal character at 2"));
+    let long = OwnerHashFromStrError::OwnerHashError(OwnerHashError);
+    assert!(rt; is_printed(alloc, &long, "NSEC3 owner hash too long"));
+    assert!(rt; is_printed(alloc, &OwnerHashFromStrError::Memory, "out of memory"));
+}

@@ -1,4 +1,0 @@
-//! Tables that were made outside of this project.
-
-pub mod record_data;
-pub mod small_bitmaps;

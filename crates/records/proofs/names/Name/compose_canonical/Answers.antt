@@ -1,9 +1,0 @@
-use Rattle.std.proofs.Common.{◌≡◌, ◌++◌, subst, OnOk}
-use Rattle.records.proofs.NameFlat.{row_lowered}
-use Rattle.records.proofs.names.Name.compose_canonical.Goals as goal
-
-pub returns : goal.returns
-returns c = record {
-  ok = subst (λ x. OnOk c.push_lowered.result (c.push_lowered.new.out.items ≡ c.args.out.now.items ++ x))
-      (row_lowered c.run.result.now c.args.self.now c.run.ensures.value c.run.ensures.name) c.push_lowered.ensures;
-}
