@@ -4,13 +4,14 @@
 usage: benches/gate.py [FILE]
 
 It passes on what `rt ci` prints and looks at the prover's processes twice a second. Before the last line, which stays the
-last, it prints the table of docs/GATE.md. RT_JOBS says on how many processors the gate runs. FILE gets the table so far
+last, it prints once more the lines that say what failed, and the table of docs/GATE.md. RT_JOBS says on how many processors the gate runs. FILE gets the table so far
 each minute, so that a run that is stopped tells what it cost.
 """
 
 import collections
 import os
 import pathlib
+import re
 import subprocess
 import sys
 import threading
@@ -19,6 +20,9 @@ import time
 TOP = pathlib.Path(__file__).resolve().parent.parent
 PHASES = ("proof", "tests", "edits")
 TICKS = os.sysconf("SC_CLK_TCK")
+# Lines that say what was refused and why; of them the last so many are printed again.
+FAULT = re.compile(r": error: |FAILED|NOT REFUSED|BAD EDIT|NOT TRIED|no proof: |was killed|differ first at|panicked")
+FAULTS = 60
 
 
 def is_below(entry):
@@ -80,13 +84,16 @@ def main():
     file = pathlib.Path(sys.argv[1]) if len(sys.argv) > 1 else None
     watcher = threading.Thread(target=watch, args=(seconds, is_over, file), daemon=True)
     watcher.start()
-    began, last = time.monotonic(), ""
+    began, last, faults = time.monotonic(), "", collections.deque(maxlen=FAULTS)
     with subprocess.Popen(["rt", "ci"], cwd=TOP, stdout=subprocess.PIPE, text=True, errors="replace") as gate:
         for line in gate.stdout:
             print(last, end="", flush=True)
             last = line
+            if FAULT.search(line):
+                faults.append(line)
     is_over.set()
     watcher.join()
+    print("".join(faults), end="")
     print(table(seconds, (time.monotonic() - began) / 60), end="")
     print(last, end="", flush=True)
     return gate.returncode
