@@ -18,7 +18,7 @@ use crate::publisher::publishing::Publisher;
 use crate::simulate::run::Run;
 use answer_judge::scheme::Scheme;
 use records::names::Name;
-use records::record::Record;
+use records::record::ZoneRecord;
 use signed_data::hasher::Nsec3Hasher;
 use std::alloc::Global;
 
@@ -32,7 +32,7 @@ mod run;
 pub fn simulate<S: Scheme, H: Nsec3Hasher>(
     alloc: Global,
     apex: Name<Vec<u8>>,
-    records: Vec<Record>,
+    records: Vec<ZoneRecord>,
     mode: Mode,
     scheme: &S,
     hasher: &H,

@@ -3,7 +3,7 @@ pub mod ZoneSorting
 pub mod ZoneTtls
 pub mod ZoneServed
 pub mod ZoneFaults
-pub mod ZoneBitmap
+pub mod ZoneTypes
 pub mod ZoneChains
 pub mod ZoneData
 pub mod ZoneLinks

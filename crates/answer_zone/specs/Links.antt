@@ -11,9 +11,17 @@ use Rattle.records.specs.HandedRr.{HandedRr}
 use Rattle.answer_zone.specs.Accepting.{zone_with}
 use Rattle.answer_zone.specs.Served.{Group, canonical_group, chain_ttl, spelled_among, spelled_as}
 
+-- the types of an owner's records, up to case
+abbrev pub types_of : Name → List HandedRr → List ℕ
+types_of q rs = map (λ r. r.rtype) (filter (λ r. same r.owner q) rs)
+
+-- the types that the record of a link tells of (RFC 4034, 4.1.2)
+abbrev pub link_types : Name → List HandedRr → Name → List ℕ
+link_types apex rs o = types_at (zone_with apex rs) o ++ 46 ∷ 47 ∷ at_apex (zone_with apex rs) o (48 ∷ [])
+
 -- the data of a link: the next name as spelled, and the bits of the owner (RFC 4034, 4.1)
 abbrev pub link_data : Name → List HandedRr → Name → Name → List ℕ
-link_data apex rs o next = wire (spelled_as apex rs next) ++ bitmap (types_at (zone_with apex rs) o ++ 46 ∷ 47 ∷ at_apex (zone_with apex rs) o (48 ∷ []))
+link_data apex rs o next = wire (spelled_as apex rs next) ++ bitmap (link_types apex rs o)
 
 -- a record of the chain, of its owner and next name (RFC 4034, 4)
 abbrev pub link_group : Name → List HandedRr → Name → Name → Group

@@ -11,10 +11,6 @@ use Rattle.answer_zone.specs.Accepting.{record_cmp, soas}
 use Rattle.definitions.specs.ZoneChain as chain
 use Rattle.answer_zone.specs.declared.fault.Mode as declared
 use Rattle.answer_zone.specs.declared.fault.Mode.TheVariants.{Nsec}
-use Rattle.records.specs.declared.record.Record.{Record}
-use Rattle.records.specs.declared.record.ZoneRecordData.{ZoneRecordData}
-use Rattle.records.specs.declared.record.ZoneRecordData.TheVariants.{Unknown}
-use Rattle.records.specs.Rdata.{rtype_of, written_of, canonical_of}
 
 abbrev pub mode_of : declared.Mode → Mode
 mode_of Nsec = chain.Nsec

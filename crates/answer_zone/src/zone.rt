@@ -14,7 +14,7 @@ use crate::zone::faults::first_fault;
 use crate::zone::handed::HandedRecord;
 use crate::zone::sorting::{has_unlike_neighbours, sorted};
 use records::names::{Name, ZoneName};
-use records::record::Record;
+use records::record::ZoneRecord;
 use signed_data::generate::SigningError;
 use std::alloc::{AllocError, Global};
 use std::marker::Model;
@@ -28,7 +28,7 @@ mod lookups;
 mod sorting;
 
 /// The records of an accepted zone in canonical order.
-#[derive(Debug, Drop)]
+#[derive(Drop)]
 pub struct ZoneRecords {
     apex: Name<Vec<u8>>,
     mode: Mode,
@@ -59,7 +59,7 @@ impl ZoneRecords {
     pub fn new(
         alloc: Global,
         apex: Name<Vec<u8>>,
-        records: Vec<Record>,
+        records: Vec<ZoneRecord>,
         mode: Mode,
         limit: u16,
     ) -> Result<ZoneRecords, ZoneFault>
@@ -141,7 +141,7 @@ impl ZoneRecords {
 }
 
 /// The records with their data composed.
-fn composed(alloc: Global, records: Vec<Record>) -> Result<Vec<HandedRecord>, AllocError>
+fn composed(alloc: Global, records: Vec<ZoneRecord>) -> Result<Vec<HandedRecord>, AllocError>
     ensures views { IfOk result (λ v. v.items ≡ map handed_of records.items) }
     ensures handed { IfOk result (λ v. AllByRecursion IsHanded v.items) }
 {

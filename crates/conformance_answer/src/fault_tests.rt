@@ -62,7 +62,7 @@ fn faults_of_chains_and_schemes(rt: HostRuntime) -> Result<(), Fail> {
         HashError::Memory => "out of memory",
         SchemeError::Failed => "scheme failed",
         SchemeError::Memory => "out of memory",
-        LongRecordData => "record data is too long",
+        LongRecordData => "record data too long",
     );
     Ok(())
 }

@@ -5,7 +5,7 @@ use crate::zone::{APEX, OWNER, ROLL, at, publisher, question, record, sign_with_
 use answer::plain::Rtype;
 use answer::plain::numbers::SecurityAlgorithm;
 use answer::publisher::fault::AnswerFault;
-use answer::record::Record;
+use answer::record::ZoneRecord;
 use keyset::Available;
 use std::alloc::Global;
 use std::test::Fail;
@@ -92,7 +92,7 @@ fn longest_ttl(rt: HostRuntime) -> Result<(), Fail> {
 }
 
 /// An address at the owner of a number.
-fn address(alloc: Global, number: u32) -> Result<Record, Fail> {
+fn address(alloc: Global, number: u32) -> Result<ZoneRecord, Fail> {
     let mut owner = b"\x04".to_vec(alloc)?;
     owner.extend_from_slice(&number.to_be_bytes())?;
     owner.extend_from_slice(APEX)?;

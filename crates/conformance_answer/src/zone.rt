@@ -6,7 +6,7 @@ use answer::plain::numbers::{Class, SecurityAlgorithm, Ttl};
 use answer::publisher::fault::Mode;
 use answer::publisher::publishing::Publisher;
 use answer::question::Question;
-use answer::record::{Record, Soa, UnknownRecordData, ZoneRecordData};
+use answer::record::{Record, Serial, Soa, UnknownRecordData, ZoneRecord, ZoneRecordData};
 use keyset::{Available, RollType, UnixTime};
 use std::alloc::Global;
 use std::test::Fail;
@@ -33,7 +33,7 @@ pub(crate) fn record(
     owner: &[u8],
     rtype: Rtype,
     octets: Vec<u8>,
-) -> Result<Record, Fail> {
+) -> Result<ZoneRecord, Fail> {
     Ok(Record::new(
         name(alloc, owner)?,
         Class::IN,
@@ -43,16 +43,16 @@ pub(crate) fn record(
 }
 
 /// The SOA record of the zone.
-pub(crate) fn soa(alloc: Global) -> Result<Record, Fail> {
-    let soa = Soa {
-        mname: name(alloc, APEX)?,
-        rname: name(alloc, APEX)?,
-        serial: 1,
-        refresh: 3600,
-        retry: 600,
-        expire: 86400,
-        minimum: 300,
-    };
+pub(crate) fn soa(alloc: Global) -> Result<ZoneRecord, Fail> {
+    let soa = Soa::new(
+        name(alloc, APEX)?,
+        name(alloc, APEX)?,
+        Serial(1),
+        Ttl::from_secs(3600),
+        Ttl::from_secs(600),
+        Ttl::from_secs(86400),
+        Ttl::from_secs(300),
+    );
     Ok(Record::new(
         name(alloc, APEX)?,
         Class::IN,
@@ -64,7 +64,7 @@ pub(crate) fn soa(alloc: Global) -> Result<Record, Fail> {
 /// A publisher of these records and the SOA record.
 pub(crate) fn publisher<'a>(
     alloc: Global,
-    records: Vec<Record>,
+    records: Vec<ZoneRecord>,
     scheme: &'a TestScheme,
 ) -> Result<Publisher<'a, TestScheme, TestScheme>, Fail> {
     let mut records = records;

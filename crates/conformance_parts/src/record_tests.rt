@@ -1,10 +1,9 @@
-//! Names, records and numbers, with values of the standards.
+//! Names and numbers, with values of the standards.
 use crate::labels::has_label;
 use names_data::rtype::Rtype;
 use plain::numbers::{Class, DigestAlgorithm, SecurityAlgorithm, Ttl};
 use records::message::write::{push_u16, push_u32};
 use records::names::{Name, NameError, Octets, ToName, ZoneName, name_from_octets};
-use records::record::{LongRecordData, Ns, Record, Soa, UnknownRecordData, ZoneRecordData};
 use std::alloc::Global;
 use std::cmp::Ordering;
 use std::test::Fail;
@@ -107,72 +106,6 @@ fn stars(rt: HostRuntime) -> Result<(), Fail> {
     let below = name_from_octets(alloc, b"\x03sub\x01*\x07example\x00")?;
     assert!(rt; !below.is_wildcard() && below.has_star());
     assert_eq!(rt; below.rrsig_label_count(), 3);
-    Ok(())
-}
-
-fn owner(alloc: Global) -> Result<Name<Vec<u8>>, Fail> {
-    Ok(name_from_octets(alloc, b"\x07Example\x00")?)
-}
-
-/// The octets of data, as spelled and then in canonical form.
-fn written(alloc: Global, data: &ZoneRecordData) -> Result<(Vec<u8>, Vec<u8>), Fail> {
-    let mut spelled = Vec::new(alloc);
-    data.compose_rdata(&mut spelled)?;
-    let mut canonical = Vec::new(alloc);
-    data.compose_canonical_rdata(&mut canonical)?;
-    Ok((spelled, canonical))
-}
-
-fn soa(alloc: Global) -> Result<ZoneRecordData, Fail> {
-    Ok(ZoneRecordData::Soa(Soa {
-        mname: owner(alloc)?,
-        rname: Name::root(alloc)?,
-        serial: 1,
-        refresh: 3600,
-        retry: 600,
-        expire: 86400,
-        minimum: 300,
-    }))
-}
-
-/// The data of RFC 1035, 3.3.13.
-#[test]
-fn data_of_soa_records(rt: HostRuntime) -> Result<(), Fail> {
-    let alloc = rt.alloc();
-    let record = Record::new(owner(alloc)?, Class::IN, Ttl::from_secs(3600), soa(alloc)?);
-    assert_eq!(rt; record.rtype(), Rtype::SOA);
-    let (spelled, canonical) = written(alloc, &record.rdata)?;
-    assert_eq!(rt; canonical.len(), 30);
-    assert_eq!(rt;
-        spelled.as_slice(),
-        b"\x07Example\x00\x00\x00\x00\x00\x01\x00\x00\x0e\x10\x00\x00\x02\x58\x00\x01\x51\x80\x00\x00\x01\x2c".as_slice()
-    );
-    Ok(())
-}
-
-/// The data of RFC 1035, 3.3.11; in canonical form the name is lowered (RFC 4034, 6.2).
-#[test]
-fn data_of_ns_records(rt: HostRuntime) -> Result<(), Fail> {
-    let alloc = rt.alloc();
-    let data = ZoneRecordData::Ns(Ns {
-        nsdname: owner(alloc)?,
-    });
-    assert_eq!(rt; data.rtype(), Rtype::NS);
-    let (spelled, canonical) = written(alloc, &data)?;
-    assert_eq!(rt; spelled.as_slice(), b"\x07Example\x00".as_slice());
-    assert_eq!(rt; canonical.as_slice(), b"\x07example\x00".as_slice());
-    Ok(())
-}
-
-/// Data have at most 65,535 octets (RFC 1035, 3.2.1).
-#[test]
-fn unknown_data(rt: HostRuntime) -> Result<(), Fail> {
-    let alloc = rt.alloc();
-    let data = UnknownRecordData::from_octets(Rtype::A, b"\xc0\x00\x02\x01".to_vec(alloc)?)?;
-    assert_eq!(rt; data.rtype(), Rtype::A);
-    assert_eq!(rt; data.data(), b"\xc0\x00\x02\x01".as_slice());
-    let long = UnknownRecordData::from_octets(Rtype::TXT, [0; 65536].to_vec(alloc)?);
-    assert_eq!(rt; long.err(), Some(LongRecordData));
     Ok(())
 }
 

@@ -7,7 +7,7 @@ use answer_zone::zone::answers::ZoneAnswer;
 use names_data::rtype::Rtype;
 use plain::numbers::{Class, Ttl};
 use records::names::{Name, ParsedName, ZoneName};
-use records::record::{Record, Soa, UnknownRecordData, ZoneRecordData};
+use records::record::{Record, Serial, Soa, UnknownRecordData, ZoneRecord, ZoneRecordData};
 use signed_data::generate::SigningError;
 use std::alloc::Global;
 use std::test::Fail;
@@ -32,7 +32,7 @@ fn record(
     ttl: u32,
     rtype: u16,
     octets: &[u8],
-) -> Result<Record, Fail> {
+) -> Result<ZoneRecord, Fail> {
     let data = UnknownRecordData::from_octets(
         Rtype::from_int(rtype),
         Vec::from_slice(alloc, octets)?,
@@ -45,16 +45,16 @@ fn record(
     ))
 }
 
-fn soa(alloc: Global, serial: u32) -> Result<Record, Fail> {
-    let data = Soa {
-        mname: name(alloc, EXAMPLE)?,
-        rname: name(alloc, EXAMPLE)?,
-        serial,
-        refresh: 3600,
-        retry: 600,
-        expire: 86400,
-        minimum: 300,
-    };
+fn soa(alloc: Global, serial: u32) -> Result<ZoneRecord, Fail> {
+    let data = Soa::new(
+        name(alloc, EXAMPLE)?,
+        name(alloc, EXAMPLE)?,
+        Serial(serial),
+        Ttl::from_secs(3600),
+        Ttl::from_secs(600),
+        Ttl::from_secs(86400),
+        Ttl::from_secs(300),
+    );
     Ok(Record::new(
         name(alloc, EXAMPLE)?,
         Class::IN,
@@ -64,14 +64,14 @@ fn soa(alloc: Global, serial: u32) -> Result<Record, Fail> {
 }
 
 /// The fault of a zone of an SOA record and another, None where it is accepted.
-fn fault_of(alloc: Global, other: Record) -> Result<Option<ZoneFault>, Fail> {
+fn fault_of(alloc: Global, other: ZoneRecord) -> Result<Option<ZoneFault>, Fail> {
     let mut records = Vec::new(alloc);
     records.push(soa(alloc, 1)?)?;
     records.push(other)?;
     fault_of_all(alloc, records)
 }
 
-fn fault_of_all(alloc: Global, records: Vec<Record>) -> Result<Option<ZoneFault>, Fail> {
+fn fault_of_all(alloc: Global, records: Vec<ZoneRecord>) -> Result<Option<ZoneFault>, Fail> {
     match ZoneRecords::new(alloc, name(alloc, EXAMPLE)?, records, Mode::Nsec, 0) {
         Ok(_) => Ok(None),
         Err(fault) => Ok(Some(fault)),
@@ -138,7 +138,7 @@ fn faults_of_the_chain(rt: HostRuntime) -> Result<(), Fail> {
 }
 
 /// The zone of these records.
-fn zone_of(alloc: Global, records: Vec<Record>) -> Result<ZoneRecords, Fail> {
+fn zone_of(alloc: Global, records: Vec<ZoneRecord>) -> Result<ZoneRecords, Fail> {
     Ok(ZoneRecords::new(alloc, name(alloc, EXAMPLE)?, records, Mode::Nsec, 0)?)
 }
 

@@ -1,23 +1,21 @@
 -- Records as they are handed in hold what they say.
-use Rattle.std.proofs.Common.{◌≡◌, ◌<◌, length, inl, inr, ◌⊎◌, refl}
+use Rattle.std.proofs.Common.{◌≡◌, ◌<◌, inl, inr, ◌⊎◌, refl, sym, append_assoc}
 use Rattle.std.specs.Prelude.{MatchBool}
-use Rattle.definitions.specs.Name.{IsName}
+use Rattle.definitions.specs.Name.{Name, IsName, wire, low}
+use Rattle.plain.specs.Soa.{times_octets}
+use Rattle.plain.specs.ZoneData.{zone_type}
+use Rattle.plain.specs.declared.record.Record.{Record}
+use Rattle.plain.specs.declared.zone_data.ZoneRecordData.{ZoneRecordData}
+use Rattle.plain.specs.declared.zone_data.ZoneRecordData.TheVariants.{Soa, Ns, Unknown}
 use Rattle.records.specs.Handed.{IsHanded, SpellsNs, SpellsSoa}
-use Rattle.records.specs.Rdata.{HasNames, canonical_of, rtype_of, soa_numbers, written_of}
-use Rattle.records.specs.HandedRr.{handed_of, is_unknown}
-use Rattle.records.specs.declared.record.Record.{Record}
-use Rattle.records.specs.declared.record.Soa.{Soa}
-use Rattle.records.specs.declared.record.ZoneRecordData.{ZoneRecordData}
-use Rattle.records.specs.declared.record.ZoneRecordData.TheVariants.{Soa as SoaData, Ns as NsData, Unknown}
+use Rattle.records.specs.HandedRr.{HasNames, canonical_of, handed_of, is_unknown, written_of}
 
-five_numbers : (s : Soa) → length (soa_numbers s) ≡ 20
-unfolding soa_numbers
-five_numbers s = refl
+spells_data : {O : Type 0} (d : ZoneRecordData O Name) → HasNames d → MatchBool (is_unknown d) (canonical_of d ≡ written_of d) (((zone_type d ≡ 2) × SpellsNs (written_of d) (canonical_of d)) ⊎ ((zone_type d ≡ 6) × SpellsSoa (written_of d) (canonical_of d)))
+spells_data (Soa s) h =
+    let numbers = times_octets s.times in
+    inr (refl, record { mname = s.mname; rname = s.rname; numbers = numbers; mname_is = h.0; rname_is = h.1; five = refl; written_is = sym (append_assoc (wire s.mname) (wire s.rname) numbers); canonical_is = sym (append_assoc (wire (low s.mname)) (wire (low s.rname)) numbers) })
+spells_data (Ns d) h = inl (refl, record { name = d.nsdname; is = h; written_is = refl; canonical_is = refl })
+spells_data (Unknown u) h = refl
 
-spells_data : (d : ZoneRecordData) → HasNames d → MatchBool (is_unknown d) (canonical_of d ≡ written_of d) (((rtype_of d ≡ 2) × SpellsNs (written_of d) (canonical_of d)) ⊎ ((rtype_of d ≡ 6) × SpellsSoa (written_of d) (canonical_of d)))
-spells_data (SoaData s) h = inr (refl, record { mname = s.mname; rname = s.rname; numbers = soa_numbers s; mname_is = h.0; rname_is = h.1; five = five_numbers s; written_is = refl; canonical_is = refl })
-spells_data (NsData s) h = inl (refl, record { name = s.nsdname; is = h; written_is = refl; canonical_is = refl })
-spells_data (Unknown d) h = refl
-
-pub handed_from : (r : Record) → IsName r.owner → rtype_of r.rdata < 65536 → r.ttl < 4294967296 → HasNames r.rdata → IsHanded (handed_of r)
-handed_from r name t ttl names = record { owner = name; rtype = t; ttl = ttl; spells = spells_data r.rdata names }
+pub handed_from : {O : Type 0} (r : Record Name (ZoneRecordData O Name)) → IsName r.owner → zone_type r.content < 65536 → r.ttl < 4294967296 → HasNames r.content → IsHanded (handed_of r)
+handed_from r name t ttl names = record { owner = name; rtype = t; ttl = ttl; spells = spells_data r.content names }

@@ -2,11 +2,11 @@
 use Rattle.std.specs.Prelude.{ℕ, Bool, true, false, ◌&&◌, ◌||◌, ◌==◌, List, [], ◌∷◌, nat_eq, nat_le}
 use Rattle.std.specs.List.{list_any}
 use Rattle.std.specs.Str.{bytes_eq}
-use Rattle.definitions.specs.Name.{Name}
-use Rattle.records.specs.declared.record.Record.{Record}
-use Rattle.records.specs.declared.record.ZoneRecordData.{ZoneRecordData}
-use Rattle.records.specs.declared.record.ZoneRecordData.TheVariants.{Unknown}
-use Rattle.records.specs.Rdata.{rtype_of, written_of, canonical_of}
+use Rattle.definitions.specs.Name.{Name, IsName}
+use Rattle.plain.specs.ZoneData.{zone_type, zone_octets, zone_canonical}
+use Rattle.plain.specs.declared.record.Record.{Record}
+use Rattle.plain.specs.declared.zone_data.ZoneRecordData.{ZoneRecordData}
+use Rattle.plain.specs.declared.zone_data.ZoneRecordData.TheVariants.{Soa, Ns, Unknown}
 
 -- a record as handed in: its data as spelled and in canonical form, and whether they are of an unknown type
 pub record HandedRr : Type 0 where
@@ -29,10 +29,31 @@ is_meta r = (r.rtype == 0) || (r.rtype == 41) || (nat_le 128 r.rtype && nat_le r
 abbrev pub has_star : Name → Bool
 has_star n = list_any (bytes_eq (42 ∷ [])) n
 
-abbrev pub is_unknown : ZoneRecordData → Bool
+abbrev pub is_unknown : {O N : Type 0} → ZoneRecordData O N → Bool
 is_unknown (Unknown d) = true
 is_unknown _ = false
 
+-- data as spelled, and in canonical form (RFC 4034, 6.2)
+abbrev pub written_of : {O : Type 0} → ZoneRecordData O Name → List ℕ
+written_of d = zone_octets (λ n. n) d
+
+abbrev pub canonical_of : {O : Type 0} → ZoneRecordData O Name → List ℕ
+canonical_of d = zone_canonical (λ n. n) d
+
+-- the names in data are names
+abbrev pub HasNames : {O : Type 0} → ZoneRecordData O Name → Type 0
+HasNames (Soa s) = IsName s.mname × IsName s.rname
+HasNames (Ns d) = IsName d.nsdname
+HasNames (Unknown u) = Unit {0}
+
 -- a record as handed in
-abbrev pub handed_of : Record → HandedRr
-handed_of r = record { owner = r.owner; class = r.class; ttl = r.ttl; rtype = rtype_of r.rdata; is_unknown = is_unknown r.rdata; written = written_of r.rdata; bytes = canonical_of r.rdata }
+abbrev pub handed_of : {O : Type 0} → Record Name (ZoneRecordData O Name) → HandedRr
+handed_of r = record {
+  owner = r.owner;
+  class = r.class;
+  ttl = r.ttl;
+  rtype = zone_type r.content;
+  is_unknown = is_unknown r.content;
+  written = written_of r.content;
+  bytes = canonical_of r.content;
+}

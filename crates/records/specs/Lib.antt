@@ -1,6 +1,4 @@
 pub mod Message
-pub mod Opaque
-pub mod Rdata
 pub mod View
 pub mod NameOctets
 pub mod Written

@@ -8,9 +8,11 @@ use Rattle.std.proofs.lemmas.Bool.{eq-eqb}
 use Rattle.std.proofs.lemmas.List.{drop-drop, take-append-drop}
 use Rattle.definitions.specs.Name.{Name, wire, low}
 use Rattle.records.specs.Message.{owner_at}
-use Rattle.records.specs.Rdata.{soa_numbers}
-use Rattle.records.specs.declared.record.Soa.{Soa}
-use Rattle.records.specs.declared.record.ZoneRecordData.TheVariants.{Soa as SoaData}
+use Rattle.plain.specs.Soa.{times_octets}
+use Rattle.plain.specs.declared.soa.Soa.{Soa}
+use Rattle.plain.specs.declared.soa.Times.{Times}
+use Rattle.plain.specs.declared.zone_data.ZoneRecordData.{ZoneRecordData}
+use Rattle.plain.specs.declared.zone_data.ZoneRecordData.TheVariants.{Soa as SoaData}
 use Rattle.session_lines.specs.Fields.{hex_field}
 use Rattle.session_lines.specs.Grammar.{◌>>=◌, DataField, name_field, number_field, data_octets, soa_octets, soa_field, record_fields}
 use Rattle.session_lines.specs.Numbers.{number_of}
@@ -30,32 +32,28 @@ last_four : (xs : List ℕ) → length xs ≡ 20 → fours 16 xs ≡ drop 16 xs
 last_four xs size = take_all 4 (drop 16 xs) (omega (arith, size, length-drop {A = ℕ}))
 
 -- twenty octets, four by four
-in_fours : (xs : List ℕ) → length xs ≡ 20 → fours 0 xs ++ fours 4 xs ++ fours 8 xs ++ fours 12 xs ++ fours 16 xs ≡ xs
+in_fours : (xs : List ℕ) → length xs ≡ 20 → fours 0 xs ++ (fours 4 xs ++ (fours 8 xs ++ (fours 12 xs ++ fours 16 xs))) ≡ xs
 in_fours xs size =
-    let a = fours 0 xs in
-    let b = fours 4 xs in
-    let c = fours 8 xs in
-    let d = fours 12 xs in
-    ap (λ l. a ++ b ++ c ++ d ++ l) (last_four xs size)
-    ∙ append_assoc (a ++ b ++ c) d (drop 16 xs) ∙ ap (λ l. a ++ b ++ c ++ l) (cut xs 12 16 refl)
-    ∙ append_assoc (a ++ b) c (drop 12 xs) ∙ ap (λ l. a ++ b ++ l) (cut xs 8 12 refl)
-    ∙ append_assoc a b (drop 8 xs) ∙ ap (λ l. a ++ l) (cut xs 4 8 refl)
-    ∙ cut xs 0 4 refl
+    let d = ap (λ l. fours 12 xs ++ l) (last_four xs size) ∙ cut xs 12 16 refl in
+    let c = ap (λ l. fours 8 xs ++ l) d ∙ cut xs 8 12 refl in
+    let b = ap (λ l. fours 4 xs ++ l) c ∙ cut xs 4 8 refl in
+    ap (λ l. fours 0 xs ++ l) b ∙ cut xs 0 4 refl
 
-pub numbers_are : (s : Soa) (xs : List ℕ) → length xs ≡ 20 → to_be_bytes w32 s.serial ≡ take 4 (drop 0 xs) → to_be_bytes w32 s.refresh ≡ take 4 (drop 4 xs) → to_be_bytes w32 s.retry ≡ take 4 (drop 8 xs) → to_be_bytes w32 s.expire ≡ take 4 (drop 12 xs) → to_be_bytes w32 s.minimum ≡ take 4 (drop 16 xs) → soa_numbers s ≡ xs
-unfolding soa_numbers
-numbers_are s xs size a b c d e = (λ i. a i ++ b i ++ c i ++ d i ++ e i) ∙ in_fours xs size
+pub numbers_are : (t : Times) (xs : List ℕ) → length xs ≡ 20 → to_be_bytes w32 t.serial ≡ take 4 (drop 0 xs) → to_be_bytes w32 t.refresh ≡ take 4 (drop 4 xs) → to_be_bytes w32 t.retry ≡ take 4 (drop 8 xs) → to_be_bytes w32 t.expire ≡ take 4 (drop 12 xs) → to_be_bytes w32 t.minimum ≡ take 4 (drop 16 xs) → times_octets t ≡ xs
+numbers_are t xs size a b c d e = (λ i. a i ++ (b i ++ (c i ++ (d i ++ e i)))) ∙ in_fours xs size
 
 soa_known : (octets : List ℕ) (m r : Name) (front : ℕ) → front + 20 ≡ length octets → soa_field octets m r front ≡ Some (record { is_unknown = false; written = wire m ++ wire r ++ drop front octets; bytes = wire (low m) ++ wire (low r) ++ drop front octets })
 soa_known octets m r front size = ap (λ b. cond b (Some (record { is_unknown = false; written = wire m ++ wire r ++ drop front octets; bytes = wire (low m) ++ wire (low r) ++ drop front octets })) None) (eq-eqb (front + 20) (length octets) size)
 
-pub soa_read : (octets numbers : List ℕ) (s : Soa) (m r : Name) (behind front : ℕ) → result_ok (owner_at 0 octets 0) ≡ Some (m, behind) → result_ok (owner_at 0 octets behind) ≡ Some (r, front) → front ≤ length octets → numbers ≡ take (length octets - front) (drop front octets) → length numbers ≡ 20 → s.mname ≡ m → s.rname ≡ r → soa_numbers s ≡ numbers → soa_octets octets ≡ Some (data_view (SoaData s))
-soa_read octets numbers s m r behind front e f inside cut_off size a b n =
+pub soa_read : {O : Type 0} (octets numbers : List ℕ) (s : Soa Name) (m r : Name) (behind front : ℕ) → result_ok (owner_at 0 octets 0) ≡ Some (m, behind) → result_ok (owner_at 0 octets behind) ≡ Some (r, front) → front ≤ length octets → numbers ≡ take (length octets - front) (drop front octets) → length numbers ≡ 20 → s.mname ≡ m → s.rname ≡ r → times_octets s.times ≡ numbers → soa_octets octets ≡ Some (data_view (SoaData {O = O} s))
+soa_read {O = O} octets numbers s m r behind front e f inside cut_off size a b n =
     let whole : numbers ≡ drop front octets = cut_off ∙ take_all (length octets - front) (drop front octets) (omega (arith, length-drop {A = ℕ})) in
     let twenty : front + 20 ≡ length octets = omega (arith, ap length whole, size, length-drop front octets, inside) in
     let rest = n ∙ whole in
-    let seen : data_view (SoaData s) ≡ record { is_unknown = false; written = wire m ++ wire r ++ drop front octets; bytes = wire (low m) ++ wire (low r) ++ drop front octets } =
-    (λ i. record { is_unknown = false; written = wire (a i) ++ wire (b i) ++ rest i; bytes = wire (low (a i)) ++ wire (low (b i)) ++ rest i }) in
+    let back = λ (x y : List ℕ). sym (append_assoc x y (drop front octets)) in
+    let seen : data_view (SoaData {O = O} s) ≡ record { is_unknown = false; written = wire m ++ wire r ++ drop front octets; bytes = wire (low m) ++ wire (low r) ++ drop front octets } =
+    (λ i. record { is_unknown = false; written = wire (a i) ++ (wire (b i) ++ rest i); bytes = wire (low (a i)) ++ (wire (low (b i)) ++ rest i) })
+    ∙ (λ i. record { is_unknown = false; written = back (wire m) (wire r) i; bytes = back (wire (low m)) (wire (low r)) i }) in
     bind_some (result_ok (owner_at 0 octets 0)) (m, behind) (λ x. result_ok (owner_at 0 octets x.1) >>= λ y. soa_field octets x.0 y.0 y.1) _ e
     (bind_some (result_ok (owner_at 0 octets behind)) (r, front) (λ y. soa_field octets m y.0 y.1) _ f
     (soa_known octets m r front twenty ∙ ap Some (sym seen)))

@@ -12,10 +12,10 @@ use Rattle.session_lines.specs.declared.line_error.LineError.TheVariants.{Unread
 use Rattle.session_lines.specs.declared.session.SessionError.{SessionError}
 use Rattle.session_lines.specs.declared.session.SessionError.TheVariants as session_error
 use Rattle.session_lines.specs.declared.zone.Zone.{Zone}
-use Rattle.records.specs.Rdata.{written_of, canonical_of}
-use Rattle.records.specs.HandedRr.{handed_of, is_unknown}
-use Rattle.records.specs.declared.record.Record.{Record}
-use Rattle.records.specs.declared.record.ZoneRecordData.{ZoneRecordData}
+use Rattle.definitions.specs.Name.{Name}
+use Rattle.plain.specs.declared.record.Record.{Record}
+use Rattle.plain.specs.declared.zone_data.ZoneRecordData.{ZoneRecordData}
+use Rattle.records.specs.HandedRr.{handed_of, is_unknown, written_of, canonical_of}
 use Rattle.session_lines.specs.Grammar.{ZoneLine, ActLine, EventLine, DataField, KeyCall, ShowDs, ShowDnskey, Ask, Judge, JudgeBytes}
 use Rattle.session_lines.specs.Sessions.{Lines, session_of}
 
@@ -43,11 +43,11 @@ act_view (act.JudgeBytes ds dnskey answer q) = JudgeBytes ds dnskey.items answer
 abbrev pub event_view : Event → EventLine
 event_view e = record { at = e.at; act = act_view e.act }
 
-abbrev pub data_view : ZoneRecordData → DataField
+abbrev pub data_view : {O : Type 0} → ZoneRecordData O Name → DataField
 data_view d = record { is_unknown = is_unknown d; written = written_of d; bytes = canonical_of d }
 
 -- a session that was read
-abbrev pub session_view : Option Zone → List Record → List Event → Lines
+abbrev pub session_view : {O : Type 0} → Option Zone → List (Record Name (ZoneRecordData O Name)) → List Event → Lines
 session_view zone records events = record { zone = option_map zone_view zone; records = map handed_of records; events = map event_view events }
 
 -- the first line that can't be read, counted from 1 on, or want of memory

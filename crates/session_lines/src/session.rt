@@ -11,15 +11,15 @@ use crate::lines::Lines;
 use crate::zone::Zone;
 use crate::zone_lines::{read_record, read_zone};
 use answer::event::Event;
-use answer::record::Record;
+use answer::record::ZoneRecord;
 use std::alloc::{AllocError, Global};
 use thiserror::Error;
 
 /// What an input asks for.
-#[derive(Debug, Drop)]
+#[derive(Drop)]
 pub struct Session {
     pub zone: Zone,
-    pub records: Vec<Record>,
+    pub records: Vec<ZoneRecord>,
     pub events: Vec<Event>,
     ghost fit: { All (λ e. added_octets e ≤ 65531) events.items },
 }
@@ -72,7 +72,7 @@ pub fn read_session(alloc: Global, input: &[u8]) -> Result<Session, SessionError
 #[derive(Drop)]
 struct Reading {
     zone: Option<Zone>,
-    records: Vec<Record>,
+    records: Vec<ZoneRecord>,
     events: Vec<Event>,
     ghost fit: { All (λ e. added_octets e ≤ 65531) events.items },
 }

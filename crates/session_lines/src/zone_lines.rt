@@ -1,7 +1,7 @@
 //! The lines of a zone: the zone itself, and its records.
 ghost use Rattle.std.specs.Prelude.{◌≡◌, ◌+◌, ◌≤◌, IfOk, length, take, drop};
 ghost use Rattle.std.specs.Int.{w32, to_be_bytes};
-ghost use Rattle.records.specs.Rdata.{rtype_of};
+ghost use Rattle.plain.specs.ZoneData.{zone_type};
 ghost use Rattle.records.specs.HandedRr.{handed_of};
 ghost use Rattle.session_lines.specs.Grammar.{zone_line, zone_fields, life_field, record_line, record_fields, data_octets, soa_octets};
 ghost use Rattle.session_lines.specs.Readings.{Reads, texts, zone_view, data_view};
@@ -10,10 +10,13 @@ use crate::fields::{hex_octets, name, name_at, wire_name};
 use crate::line_error::LineError;
 use crate::numbers::{number_u16, number_u32};
 use crate::zone::Zone;
+use answer::names::Name;
 use answer::plain::Rtype;
 use answer::plain::numbers::{Class, Ttl};
 use answer::publisher::fault::Mode;
-use answer::record::{Ns, Record, Soa, UnknownRecordData, ZoneRecordData};
+use answer::record::{
+    Ns, Record, Serial, Soa, UnknownRecordData, ZoneData, ZoneRecord, ZoneRecordData,
+};
 use std::alloc::Global;
 
 /// The longest life of a signature, in seconds: serial numbers compare up to here (RFC 4034, 3.1.5).
@@ -65,7 +68,7 @@ fn read_life(field: &str) -> Result<u32, LineError>
 }
 
 /// Reads `rr OWNER TTL CLASS TYPE HEX`.
-pub fn read_record(alloc: Global, fields: &[&str]) -> Result<Record, LineError>
+pub fn read_record(alloc: Global, fields: &[&str]) -> Result<ZoneRecord, LineError>
     ensures { Reads handed_of result (record_line (texts fields.now)) }
 {
     match *fields {
@@ -84,7 +87,7 @@ fn record_of(
     class: &str,
     rtype: &str,
     octets: &str,
-) -> Result<Record, LineError>
+) -> Result<ZoneRecord, LineError>
     ensures { Reads handed_of result
         (record_fields word.now owner.now ttl.now class.now rtype.now octets.now) }
 {
@@ -96,25 +99,19 @@ fn record_of(
     let class = Class::from_int(number_u16(class)?);
     let rtype = Rtype::from_int(number_u16(rtype)?);
     let octets = hex_octets(alloc, octets, MAX_DATA)?;
-    Ok(Record {
-        owner,
-        class,
-        ttl,
-        rdata: read_rdata(alloc, rtype, octets)?,
-    })
+    let data = read_rdata(alloc, rtype, octets)?;
+    Ok(Record::new(owner, class, ttl, data))
 }
 
-fn read_rdata(alloc: Global, rtype: Rtype, octets: Vec<u8>) -> Result<ZoneRecordData, LineError>
-    ensures rtype { IfOk result (λ d. rtype_of d ≡ rtype) }
+fn read_rdata(alloc: Global, rtype: Rtype, octets: Vec<u8>) -> Result<ZoneData, LineError>
+    ensures rtype { IfOk result (λ d. zone_type d ≡ rtype) }
     ensures read { Reads data_view result (data_octets rtype octets.items) }
 {
     if rtype == Rtype::SOA {
         return Ok(ZoneRecordData::Soa(read_soa(alloc, &octets)?));
     }
     if rtype == Rtype::NS {
-        return Ok(ZoneRecordData::Ns(Ns {
-            nsdname: wire_name(alloc, &octets)?,
-        }));
+        return Ok(ZoneRecordData::Ns(Ns::new(wire_name(alloc, &octets)?)));
     }
     match UnknownRecordData::from_octets(rtype, octets) {
         Ok(rdata) => Ok(ZoneRecordData::Unknown(rdata)),
@@ -123,7 +120,7 @@ fn read_rdata(alloc: Global, rtype: Rtype, octets: Vec<u8>) -> Result<ZoneRecord
 }
 
 /// Two names and five numbers of 32 bits (RFC 1035, 3.3.13).
-fn read_soa(alloc: Global, octets: &[u8]) -> Result<Soa, LineError>
+fn read_soa(alloc: Global, octets: &[u8]) -> Result<Soa<Name<Vec<u8>>>, LineError>
     ensures { Reads (λ s. data_view (ZoneRecordData.Soa s)) result (soa_octets octets.now) }
 {
     let (mname, behind) = name_at(alloc, octets, 0)?;
@@ -132,15 +129,15 @@ fn read_soa(alloc: Global, octets: &[u8]) -> Result<Soa, LineError>
     if numbers.len() != 20 {
         return Err(LineError::Unreadable);
     }
-    Ok(Soa {
+    Ok(Soa::new(
         mname,
         rname,
-        serial: number_at(numbers, 0),
-        refresh: number_at(numbers, 4),
-        retry: number_at(numbers, 8),
-        expire: number_at(numbers, 12),
-        minimum: number_at(numbers, 16),
-    })
+        Serial(number_at(numbers, 0)),
+        Ttl::from_secs(number_at(numbers, 4)),
+        Ttl::from_secs(number_at(numbers, 8)),
+        Ttl::from_secs(number_at(numbers, 12)),
+        Ttl::from_secs(number_at(numbers, 16)),
+    ))
 }
 
 /// A number of 32 bits, the highest octet first (RFC 1035, 2.3.2).

@@ -5,7 +5,9 @@ use answer::plain::Rtype;
 use answer::plain::numbers::{Class, SecurityAlgorithm, Ttl};
 use answer::publisher::fault::Mode;
 use answer::publisher::publishing::Publisher;
-use answer::record::{Record, Soa, UnknownRecordData, ZoneRecordData};
+use answer::record::{
+    Record, Serial, Soa, UnknownRecordData, ZoneData, ZoneRecord, ZoneRecordData,
+};
 use keyset::{Available, RollType, UnixTime};
 use std::alloc::Global;
 use std::time::Duration;
@@ -58,16 +60,16 @@ pub fn moment(seconds: u64) -> UnixTime {
     UnixTime::new(Duration::from_secs(seconds))
 }
 
-fn records(alloc: Global) -> anyhow::Result<Vec<Record>> {
-    let soa = Soa {
-        mname: name(alloc, "example")?,
-        rname: name(alloc, "example")?,
-        serial: 1,
-        refresh: 3600,
-        retry: 600,
-        expire: 86400,
-        minimum: 300,
-    };
+fn records(alloc: Global) -> anyhow::Result<Vec<ZoneRecord>> {
+    let soa = Soa::new(
+        name(alloc, "example")?,
+        name(alloc, "example")?,
+        Serial(1),
+        Ttl::from_secs(3600),
+        Ttl::from_secs(600),
+        Ttl::from_secs(86400),
+        Ttl::from_secs(300),
+    );
     let address = UnknownRecordData::from_octets(Rtype::A, b"\xc0\x00\x02\x50".to_vec(alloc)?)?;
     let mut records = Vec::new(alloc);
     records.push(record(alloc, "example", ZoneRecordData::Soa(soa))?)?;
@@ -75,6 +77,6 @@ fn records(alloc: Global) -> anyhow::Result<Vec<Record>> {
     Ok(records)
 }
 
-fn record(alloc: Global, owner: &str, data: ZoneRecordData) -> anyhow::Result<Record> {
+fn record(alloc: Global, owner: &str, data: ZoneData) -> anyhow::Result<ZoneRecord> {
     Ok(Record::new(name(alloc, owner)?, Class::IN, Ttl::from_secs(3600), data))
 }

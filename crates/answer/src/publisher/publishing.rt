@@ -32,7 +32,7 @@ use messages::question::Question;
 use names_data::rtype::Rtype;
 use plain::numbers::{Class, DigestAlgorithm, SecurityAlgorithm};
 use records::names::{Name, ZoneName};
-use records::record::Record;
+use records::record::ZoneRecord;
 use signed_data::dnskey::Dnskey;
 use signed_data::ds::Ds;
 use signed_data::hasher::Nsec3Hasher;
@@ -59,7 +59,7 @@ impl<'a, S: Scheme, H: Nsec3Hasher> Publisher<'a, S, H> {
     pub fn new(
         alloc: Global,
         apex: Name<Vec<u8>>,
-        records: Vec<Record>,
+        records: Vec<ZoneRecord>,
         mode: Mode,
         scheme: &'a S,
         hasher: &'a H,

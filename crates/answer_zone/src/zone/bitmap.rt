@@ -1,89 +1,58 @@
-//! Writing type bitmaps (RFC 4034, 4.1.2).
-ghost use Rattle.std.specs.Prelude.{◌≡◌, ◌+◌, ◌*◌, ◌/◌, ◌<◌, ◌≤◌, ◌++◌, map, OnOk, if◌then◌else◌, nat_eq};
-ghost use Rattle.std.specs.List.{list_any};
-ghost use Rattle.definitions.specs.Bitmap.{below, bitmap, octet_of, window, window_octets};
+//! The types of an owner, as bits of its NSEC record (RFC 4034, 4.1.2).
+ghost use Rattle.std.specs.Prelude.{◌≡◌, ℕ, List, ◌∷◌, [], ◌++◌, IfOk, OnOk};
+ghost use Rattle.definitions.specs.Bitmap.{bitmap};
+ghost use Rattle.definitions.specs.Name.{low};
+ghost use Rattle.definitions.specs.ZoneChain.{of_keys};
+ghost use Rattle.answer_zone.specs.Links.{link_types, types_of};
 
-use std::alloc::AllocError;
+use crate::zone::handed::HandedRecord;
+use denial_bitmap::bitmap::RtypeBitmap;
+use denial_bitmap::builder::RtypeBitmapBuilder;
+use names_data::rtype::Rtype;
+use names_wire::builder::ShortBuf;
+use records::names::{Name, ToName};
+use std::alloc::Global;
 
-/// Writes the bitmap of some types at the end: the windows that have a type, ascending, each up to its last octet
-/// that is not zero. The types come in any order.
-pub(super) fn write_bitmap(out: &mut Vec<u8>, types: &[u16]) -> Result<(), AllocError>
-    ensures { OnOk result (out.new.items ≡ out.old.items ++ bitmap types.now) }
+/// The types of an owner's records, those that signing adds, and at the apex that of keys.
+pub(super) fn link_types(
+    alloc: Global,
+    apex: &Name<Vec<u8>>,
+    records: &[HandedRecord],
+    owner: &Name<Vec<u8>>,
+) -> Result<RtypeBitmap<Vec<u8>>, ShortBuf>
+    ensures { IfOk result (λ b. b ≡ bitmap (link_types apex.now records.now (low owner.now))) }
 {
-    for number in 0..=255u8 {
-        write_window(out, types, number)?;
-    }
-    Ok(())
+    let mut types = with_keys(alloc, owner.name_eq(apex))?;
+    types.add(Rtype::NSEC)?;
+    types.add(Rtype::RRSIG)?;
+    add_types(&mut types, records, owner)?;
+    Ok(types.finalize())
 }
 
-/// Writes one window: its number, how many octets, and the octets; nothing where it has no type.
-fn write_window(out: &mut Vec<u8>, types: &[u16], number: u8) -> Result<(), AllocError>
-    ensures { OnOk result (out.new.items ≡ out.old.items ++ window types.now number) }
+/// No types, or that of keys.
+fn with_keys(alloc: Global, keys: bool) -> Result<RtypeBitmapBuilder<Vec<u8>>, ShortBuf>
+    ensures { IfOk result (λ b. b ≡ bitmap (of_keys keys)) }
 {
-    let len = window_len(types, number);
-    if len == 0 {
-        return Ok(());
+    let mut types = RtypeBitmapBuilder::new(alloc);
+    if keys {
+        types.add(Rtype::DNSKEY)?;
     }
-    out.push(number)?;
-    out.push(len)?;
-    for place in 0..len {
-        out.push(octet_of(types, number, place))?;
-    }
-    Ok(())
+    Ok(types)
 }
 
-/// How many octets a window has, up to the last that is not zero.
-fn window_len(types: &[u16], number: u8) -> u8
-    ensures short { result ≤ 32 }
-    ensures octets { map (octet_of types.now number) (below result)
-        ≡ window_octets types.now number }
+/// Adds the types of an owner's records.
+fn add_types(
+    types: &mut RtypeBitmapBuilder<Vec<u8>>,
+    records: &[HandedRecord],
+    owner: &Name<Vec<u8>>,
+) -> Result<(), ShortBuf>
+    ensures { let found = types_of owner.now records.now in
+        (ts : List ℕ) → types.old ≡ bitmap ts → OnOk result (types.new ≡ bitmap (found ++ ts)) }
 {
-    if !has_window(types, number) {
-        return 0;
-    }
-    let mut len = 0;
-    for place in 0..32u8 {
-        if octet_of(types, number, place) != 0 {
-            len = place + 1;
+    for record in records {
+        if record.owner().name_eq(owner) {
+            types.add(record.rtype())?;
         }
     }
-    len
-}
-
-/// Whether a type is of a window.
-fn has_window(types: &[u16], number: u8) -> bool
-    ensures { result ≡ list_any (λ t. nat_eq (t / 256) number) types.now }
-{
-    types.iter().any(|t| *t / 256 == u16::from(number))
-}
-
-/// An octet of a window: the first of its eight types has the highest bit.
-fn octet_of(types: &[u16], number: u8, place: u8) -> u8
-    requires { place < 32 }
-    ensures { result ≡ octet_of types.now number place }
-{
-    let first = u16::from(number) * 256 + u16::from(place) * 8;
-    worth(types, first, 128)
-        + worth(types, first + 1, 64)
-        + worth(types, first + 2, 32)
-        + worth(types, first + 3, 16)
-        + worth(types, first + 4, 8)
-        + worth(types, first + 5, 4)
-        + worth(types, first + 6, 2)
-        + worth(types, first + 7, 1)
-}
-
-/// What the bit of a type is worth where the type is there, else 0.
-fn worth(types: &[u16], rtype: u16, bit: u8) -> u8
-    ensures value { result ≡ (if list_any (nat_eq rtype) types.now then bit else 0) }
-    ensures most { result ≤ bit }
-{
-    if is_there(types, rtype) { bit } else { 0 }
-}
-
-/// Whether a type is there.
-fn is_there(types: &[u16], rtype: u16) -> bool
-    ensures { result ≡ list_any (nat_eq rtype) types.now }
-{
-    types.iter().any(|t| rtype == *t)
+    Ok(())
 }

@@ -3,46 +3,37 @@ ghost use Rattle.std.specs.Prelude.{◌≡◌, ℕ, ◌==◌, not, ◌&&◌, Lis
 ghost use Rattle.std.specs.Prelude.{◌∷◌, ◌||◌, min, slice_index};
 ghost use Rattle.answer_zone.specs.Served.{minimum_of};
 ghost use Rattle.definitions.specs.Name.{at_or_above, strictly_above, same};
-ghost use Rattle.records.specs.HandedRr.{among, is_meta, has_star};
+ghost use Rattle.records.specs.HandedRr.{among, is_meta, has_star, written_of, canonical_of};
 ghost use Rattle.records.specs.Star.{begins_with_star};
 ghost use Rattle.answer_zone.specs.Accepting.{unlike_ttls};
 
 use crate::group::GroupRecord;
+use names_data::data::{ComposeRecordData, RecordData};
 use names_data::rtype::Rtype;
 use plain::numbers::{Class, Ttl};
 use records::names::{Name, ToName, ZoneName};
-use records::record::{Record, ZoneRecordData};
+use records::record::{ZoneData, ZoneRecord, ZoneRecordData, keeps};
 use std::alloc::{AllocError, Global};
 use std::cmp::Ordering;
 use std::marker::Model;
 
-/// A record as handed in, its data composed as spelled and in canonical form. Its order is the canonical order
-/// of a zone (RFC 4034, 6.1 and 6.3): records that differ in TTL or spelling alone are equal.
-#[derive(Debug, Drop)]
+/// A record as handed in, with its data in canonical form. Its order is the canonical order of a zone (RFC 4034, 6.1
+/// and 6.3): records that differ in TTL or spelling alone are equal.
+#[derive(Drop)]
 pub struct HandedRecord {
-    owner: Name<Vec<u8>>,
-    class: Class,
-    ttl: Ttl,
-    rtype: Rtype,
-    is_unknown: bool,
-    written: Vec<u8>,
+    given: ZoneRecord,
     canonical: Vec<u8>,
 }
 
 impl Model for HandedRecord {
-    ghost use Rattle.records.specs.HandedRr.{HandedRr};
+    ghost use Rattle.std.specs.Prelude.{◌≡◌};
+    ghost use Rattle.records.specs.HandedRr.{HandedRr, canonical_of, handed_of};
 
     ghost Value = { HandedRr };
 
-    ghost view = { λ r. record {
-      owner = r.owner;
-      class = r.class;
-      ttl = r.ttl;
-      rtype = r.rtype;
-      is_unknown = r.is_unknown;
-      written = r.written.items;
-      bytes = r.canonical.items;
-    } };
+    ghost view = { λ r. handed_of r.given };
+
+    ghost invariant = { λ r. r.canonical.items ≡ canonical_of r.given.content };
 }
 
 impl HandedRecord {
@@ -52,61 +43,42 @@ impl HandedRecord {
     ghost use Rattle.definitions.specs.Name.{Name};
     ghost use Rattle.answer_zone.specs.GroupView.{record_under, spelled_by};
 
-    /// A record with its data composed.
-    pub fn new(alloc: Global, given: Record) -> Result<HandedRecord, AllocError>
+    /// A record, its data composed in canonical form.
+    pub fn new(alloc: Global, given: ZoneRecord) -> Result<HandedRecord, AllocError>
         ensures view { IfOk result (λ r. r ≡ handed_of given) }
         ensures handed { IsHanded (handed_of given) }
     {
-        given.keeps();
-        let Record {
-            owner,
-            class,
-            ttl,
-            rdata,
-        } = given;
-        let mut written = Vec::new(alloc);
-        rdata.compose_rdata(&mut written)?;
-        let mut canonical = Vec::new(alloc);
-        rdata.compose_canonical_rdata(&mut canonical)?;
-        let rtype = rdata.rtype();
-        let is_unknown = matches!(rdata, ZoneRecordData::Unknown(_));
-        Ok(HandedRecord {
-            owner,
-            class,
-            ttl,
-            rtype,
-            is_unknown,
-            written,
-            canonical,
-        })
+        keeps(&given);
+        let canonical = canonical_octets(alloc, given.data())?;
+        Ok(HandedRecord { given, canonical })
     }
 
     /// The owner, as spelled.
     pub fn owner(&self) -> &Name<Vec<u8>>
         ensures { result.now ≡ self.now.owner }
     {
-        &self.owner
+        self.given.owner()
     }
 
     /// The type.
     pub fn rtype(&self) -> Rtype
         ensures { result ≡ self.now.rtype }
     {
-        self.rtype
+        self.given.data().rtype()
     }
 
     /// The TTL.
     pub fn ttl(&self) -> Ttl
         ensures { result ≡ self.now.ttl }
     {
-        self.ttl
+        self.given.ttl()
     }
 
     /// Whether the owner is of a name, up to case, and the type is this.
     pub fn is_of(&self, name: &Name<Vec<u8>>, rtype: Rtype) -> bool
         ensures { result ≡ is_of name.now rtype self.now }
     {
-        self.owner.name_eq(name) && self.rtype == rtype
+        self.owner().name_eq(name) && self.rtype() == rtype
     }
 
     /// The lesser of the TTL and the last four octets of the data, which in an SOA record are its minimum
@@ -114,7 +86,7 @@ impl HandedRecord {
     pub fn chain_ttl(&self) -> Ttl
         ensures { result ≡ min self.now.ttl (minimum_of self.now.bytes) }
     {
-        Ttl::from_secs(self.ttl.as_secs().min(last_number(&self.canonical)))
+        Ttl::from_secs(self.ttl().as_secs().min(last_number(&self.canonical)))
     }
 
     /// The record for an answer, with its owner as spelled or without.
@@ -123,22 +95,15 @@ impl HandedRecord {
             → record_under owner self.now.rtype g ≡ spelled_by own owner self.now) }
     {
         let owner = if own {
-            Some(self.owner.try_clone(alloc)?)
+            Some(self.owner().try_clone(alloc)?)
         } else {
             None
         };
         Ok(GroupRecord {
             owner,
-            ttl: self.ttl,
-            octets: self.written.to_vec(alloc)?,
+            ttl: self.ttl(),
+            octets: written_octets(alloc, self.given.data())?,
         })
-    }
-
-    /// The data as spelled.
-    pub fn written(&self) -> &[u8]
-        ensures { result.now ≡ self.now.written }
-    {
-        &self.written
     }
 
     /// The data in canonical form (RFC 4034, 6.2).
@@ -152,47 +117,54 @@ impl HandedRecord {
     pub fn is_of_other_class(&self) -> bool
         ensures { result ≡ not (self.now.class == 1) }
     {
-        self.class != Class::IN
+        self.given.class() != Class::IN
     }
 
     /// Whether the owner is not at or below an apex.
     pub fn is_outside(&self, apex: &Name<Vec<u8>>) -> bool
         ensures { result ≡ not (at_or_above apex.now self.now.owner) }
     {
-        !self.owner.is_at_or_below(apex)
+        !self.owner().is_at_or_below(apex)
     }
 
     /// Whether signing adds records of this type (RFC 4034; RFC 5155).
     pub fn is_added_by_signing(&self) -> bool
         ensures { result ≡ among (46 ∷ 47 ∷ 48 ∷ 50 ∷ 51 ∷ []) self.now.rtype }
     {
-        matches!(self.rtype.to_int(), 46 | 47 | 48 | 50 | 51)
+        matches!(self.rtype().to_int(), 46 | 47 | 48 | 50 | 51)
     }
 
     /// Whether the record is a CNAME or a DNAME.
     pub fn is_alias(&self) -> bool
         ensures { result ≡ among (5 ∷ 39 ∷ []) self.now.rtype }
     {
-        self.rtype == Rtype::CNAME || self.rtype == Rtype::DNAME
+        self.rtype() == Rtype::CNAME || self.rtype() == Rtype::DNAME
+    }
+
+    /// Whether the data are of an unknown type.
+    fn is_unknown(&self) -> bool
+        ensures { result ≡ self.now.is_unknown }
+    {
+        matches!(self.given.data(), ZoneRecordData::Unknown(_))
     }
 
     /// Whether no zone holds the type (RFC 6895, 3.1), or data of an NS or SOA record are given as unknown ones.
     pub fn is_meta(&self) -> bool
         ensures { result ≡ is_meta self.now }
     {
-        let number = self.rtype.to_int();
-        let is_known = self.rtype == Rtype::NS || self.rtype == Rtype::SOA;
+        let number = self.rtype().to_int();
+        let is_known = self.rtype() == Rtype::NS || self.rtype() == Rtype::SOA;
         number == 0
-            || self.rtype == Rtype::OPT
+            || self.rtype() == Rtype::OPT
             || (128 <= number && number <= 255)
-            || (self.is_unknown && is_known)
+            || (self.is_unknown() && is_known)
     }
 
     /// Whether this is a name server of a wildcard name (RFC 4592, 4.2).
     pub fn delegates_star(&self) -> bool
         ensures { result ≡ ((self.now.rtype == 2) && begins_with_star self.now.owner) }
     {
-        self.rtype == Rtype::NS && self.owner.is_wildcard()
+        self.rtype() == Rtype::NS && self.owner().is_wildcard()
     }
 
     /// Whether this is a delegation, or the owner has a wildcard label.
@@ -200,24 +172,46 @@ impl HandedRecord {
         ensures { result ≡ (((self.now.rtype == 2) && strictly_above apex.now self.now.owner)
             || has_star self.now.owner) }
     {
-        (self.rtype == Rtype::NS && self.owner.is_below(apex)) || self.owner.has_star()
+        (self.rtype() == Rtype::NS && self.owner().is_below(apex)) || self.owner().has_star()
     }
 
     /// Whether this is the SOA record of an apex.
     pub fn is_soa_of(&self, apex: &Name<Vec<u8>>) -> bool
         ensures { result ≡ (same self.now.owner apex.now && (self.now.rtype == 6)) }
     {
-        self.owner.name_eq(apex) && self.rtype == Rtype::SOA
+        self.owner().name_eq(apex) && self.rtype() == Rtype::SOA
     }
 
     /// Whether two records are of one RRset and differ in TTL, signatures aside (RFC 2181, 5.2).
     pub fn is_unlike(&self, other: &HandedRecord) -> bool
         ensures { result ≡ unlike_ttls self.now other.now }
     {
-        self.owner.name_eq(&other.owner)
-            && self.rtype == other.rtype
-            && self.ttl != other.ttl
-            && self.rtype != Rtype::RRSIG
+        self.owner().name_eq(other.owner())
+            && self.rtype() == other.rtype()
+            && self.ttl() != other.ttl()
+            && self.rtype() != Rtype::RRSIG
+    }
+}
+
+/// The octets of data, as spelled.
+fn written_octets(alloc: Global, rdata: &ZoneData) -> Result<Vec<u8>, AllocError>
+    ensures { IfOk result (λ v. v.items ≡ written_of rdata.now) }
+{
+    let mut octets = Vec::new(alloc);
+    match rdata.compose_rdata(&mut octets) {
+        Ok(()) => Ok(octets),
+        Err(_) => Err(AllocError),
+    }
+}
+
+/// The octets of data in canonical form (RFC 4034, 6.2).
+fn canonical_octets(alloc: Global, rdata: &ZoneData) -> Result<Vec<u8>, AllocError>
+    ensures { IfOk result (λ v. v.items ≡ canonical_of rdata.now) }
+{
+    let mut octets = Vec::new(alloc);
+    match rdata.compose_canonical_rdata(&mut octets) {
+        Ok(()) => Ok(octets),
+        Err(_) => Err(AllocError),
     }
 }
 
@@ -259,9 +253,9 @@ impl Ord for HandedRecord {
     ghost matches_eq = { λ a b. refl };
 
     fn cmp(&self, other: &HandedRecord) -> Ordering {
-        self.owner
-            .name_cmp(&other.owner)
-            .then(self.rtype.cmp(&other.rtype))
+        self.owner()
+            .name_cmp(other.owner())
+            .then(self.rtype().cmp(&other.rtype()))
             .then(self.canonical.cmp(&other.canonical))
     }
 }

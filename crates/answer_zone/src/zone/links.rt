@@ -9,8 +9,8 @@ ghost use Rattle.answer_zone.specs.Links.{Joins, chosen, link_data, link_group, 
 
 use crate::group::RrGroup;
 use crate::zone::ZoneRecords;
-use crate::zone::bitmap::write_bitmap;
-use crate::zone::lookups::{chain_ttl_among, types_among};
+use crate::zone::bitmap::link_types;
+use crate::zone::lookups::chain_ttl_among;
 use names_data::rtype::Rtype;
 use records::names::{Name, ToName, ZoneName};
 use std::alloc::{AllocError, Global};
@@ -122,15 +122,12 @@ impl ZoneRecords {
         ensures { IfOk result (λ v. v.items
             ≡ link_data self.now.apex self.now.records (low owner.now) (low next.now)) }
     {
-        let mut types = types_among(alloc, &self.records, owner)?;
-        types.push(Rtype::RRSIG.to_int())?;
-        types.push(Rtype::NSEC.to_int())?;
-        if owner.name_eq(&self.apex) {
-            types.push(Rtype::DNSKEY.to_int())?;
-        }
+        let Ok(types) = link_types(alloc, &self.apex, &self.records, owner) else {
+            return Err(AllocError);
+        };
         let mut octets = Vec::new(alloc);
         self.spelled(next).compose(&mut octets)?;
-        write_bitmap(&mut octets, &types)?;
+        octets.extend_from_slice(types.as_slice())?;
         Ok(octets)
     }
 }

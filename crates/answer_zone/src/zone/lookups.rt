@@ -107,24 +107,6 @@ pub(super) fn data_among(
     })
 }
 
-/// The types at an owner among some records.
-pub(super) fn types_among(
-    alloc: Global,
-    records: &[HandedRecord],
-    name: &Name<Vec<u8>>,
-) -> Result<Vec<u16>, AllocError>
-    ensures { IfOk result
-        (λ v. v.items ≡ map (λ r. r.rtype) (filter (λ r. same r.owner name.now) records.now)) }
-{
-    let mut types = Vec::new(alloc);
-    for record in records {
-        if record.owner().name_eq(name) {
-            types.push(record.rtype().to_int())?;
-        }
-    }
-    Ok(types)
-}
-
 fn any_of(records: &[HandedRecord], name: &Name<Vec<u8>>, rtype: Rtype) -> bool
     ensures { result ≡ list_any (is_of name.now rtype) records.now }
 {
