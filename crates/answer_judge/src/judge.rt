@@ -34,6 +34,7 @@ use names_data::rtype::Rtype;
 use plain::numbers::Class;
 use records::message::MessageError;
 use records::names::{Name, ParsedName, ToName, ZoneName};
+use signed_data::dnskey::ZoneKey;
 use signed_data::ds::Ds;
 use signed_data::ranked::put_data;
 use std::alloc::{AllocError, Global};

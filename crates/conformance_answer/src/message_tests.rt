@@ -72,7 +72,7 @@ fn judge_by(
 }
 
 fn judged_at(alloc: Global, case: &Case, now: u32) -> Result<(&'static str, u32), AllocError> {
-    let ds = Ds::new(
+    let ds = Ds::new_unchecked(
         case.tag,
         SecurityAlgorithm::ECDSAP256SHA256,
         DigestAlgorithm::SHA256,

@@ -23,6 +23,7 @@ pub struct ViewRecord<'a> {
     pub start: usize,
     pub length: usize,
     ghost fits: { start + length < 2 ^ 64 },
+    ghost few: { length ≤ 65535 },
 }
 
 impl<'a> ViewRecord<'a> {

@@ -1,3 +1,3 @@
-pub mod TagSum
 pub mod TagPlaces
 pub mod SignOctets
+pub mod SpelledFields
