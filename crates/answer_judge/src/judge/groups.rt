@@ -16,13 +16,13 @@ ghost use Rattle.definitions.specs.Serial.{serial_le};
 
 use crate::judge::keys::TaggedKey;
 use crate::scheme::Checks;
+use denial_data::{ProtoRrsig, Timestamp};
 use messages::ViewRecord;
 use messages::rdata::RrsigView;
 use names_data::rtype::Rtype;
 use plain::numbers::{Class, SecurityAlgorithm, Ttl};
 use records::names::{Name, ParsedName, ToName, ZoneName};
 use signed_data::ranked::put_data;
-use signed_data::rrsig::ProtoRrsig;
 use signed_data::signed::signed_octets;
 use std::alloc::{AllocError, Global};
 
@@ -255,10 +255,10 @@ fn octets_of(alloc: Global, signature: &RrsigView, group: &Group) -> Result<Vec<
         signature.algorithm,
         signature.labels,
         signature.original_ttl,
-        signature.expiration,
-        signature.inception,
+        Timestamp::from(signature.expiration),
+        Timestamp::from(signature.inception),
         signature.key_tag,
-        signature.signer.try_clone(alloc)?,
+        &signature.signer,
     );
     signed_octets(alloc, &fields, &group.owner, Class::IN, &group.items)
 }
