@@ -1,3 +1,4 @@
 pub mod TagPlaces
 pub mod SignOctets
 pub mod SpelledFields
+pub mod KeyData

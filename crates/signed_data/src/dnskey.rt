@@ -27,8 +27,8 @@ pub trait ZoneKey {
 
     /// Writes a DNSKEY record's data at the end (RFC 4034, 2.1).
     fn compose(&self, out: &mut Vec<u8>) -> Result<(), AllocError>
-        ensures ok { let data = dnskey_data (fields self.now) in
-            OnOk result (out.new.items ≡ out.old.items ++ data) };
+        ensures ok { let octets = dnskey_data (fields self.now) in
+            OnOk result (out.new.items ≡ out.old.items ++ octets) };
 
     /// What a DS record's digest is made of: the owner in canonical form and the record's data (RFC 4034, 5.1.4).
     fn digested(&self, alloc: Global, owner: &Name<Vec<u8>>) -> Result<Vec<u8>, AllocError>
@@ -80,11 +80,11 @@ impl<Octs: Octets> ZoneKey for Dnskey<Octs> {
 
 /// The key that a DNSKEY record's data spell, over the same octets; None where they end within the fields before the
 /// key (RFC 4034, 2.1).
-pub fn key_of_data(data: &[u8]) -> Option<Dnskey<&[u8]>>
-    requires { length data.now ≤ 65535 }
-    ensures { result ≡ dnskey_of_data data.now }
+pub fn key_of_data(rdata: &[u8]) -> Option<Dnskey<&[u8]>>
+    requires { length rdata.now ≤ 65535 }
+    ensures { result ≡ dnskey_of_data rdata.now }
 {
-    let key = Dnskey::parse(&mut Parser::from_ref(data)).ok()?;
+    let key = Dnskey::parse(&mut Parser::from_ref(rdata)).ok()?;
     let _flags = key.flags();
     Some(key)
 }

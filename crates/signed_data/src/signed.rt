@@ -39,8 +39,8 @@ fn compose_signed_fields<N: ToName>(
     fields: &ProtoRrsig<N>,
     out: &mut Vec<u8>,
 ) -> Result<(), AllocError>
-    ensures ok { let data = fields_data (fields_of N.name fields.now) in
-        OnOk result (out.new.items ≡ out.old.items ++ data) }
+    ensures ok { let octets = fields_data (fields_of N.name fields.now) in
+        OnOk result (out.new.items ≡ out.old.items ++ octets) }
 {
     fields.compose_canonical(out).map_err(|_| AllocError)
 }
@@ -50,8 +50,8 @@ pub fn compose_fields<N: ToName>(
     fields: &ProtoRrsig<N>,
     out: &mut Vec<u8>,
 ) -> Result<(), AllocError>
-    ensures ok { let data = spelled_fields (fields_of N.name fields.now) in
-        OnOk result (out.new.items ≡ out.old.items ++ data) }
+    ensures ok { let octets = spelled_fields (fields_of N.name fields.now) in
+        OnOk result (out.new.items ≡ out.old.items ++ octets) }
 {
     fields.compose(out).map_err(|_| AllocError)
 }
