@@ -175,7 +175,9 @@ impl<Octs: Octets, N: ToName> Rrsig<Octs, N> {
         ensures numbers { NumbersFit self.now.proto.numbers }
         ensures signer { IsName (N.name self.now.proto.signer_name) }
     {
-        let _numbers = self.proto.numbers;
+        let _type_and_tag = (self.type_covered().to_int(), self.key_tag());
+        let _times = (self.expiration().into_int(), self.inception().into_int());
+        let _ttl = self.original_ttl().as_secs();
         let _name = self.proto.signer_name.label_count();
     }
 

@@ -96,6 +96,13 @@ impl<'a> MessageView<'a> {
         }
     }
 
+    /// How many records all sections have.
+    pub fn record_count(&self) -> usize
+        ensures { result ≡ length self.now.records }
+    {
+        self.count
+    }
+
     /// The records of all sections in order.
     pub fn records(&self) -> Records<'a>
         ensures { result ≡ self.now.records }

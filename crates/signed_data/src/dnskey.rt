@@ -51,12 +51,7 @@ impl<Octs: Octets> ZoneKey for Dnskey<Octs> {
     fn try_clone(&self, alloc: Global) -> Result<Dnskey<Vec<u8>>, AllocError> {
         let _len = self.rdlen(false);
         let public_key = self.public_key().as_slice().to_vec(alloc)?;
-        Ok(Dnskey::new_unchecked(
-            self.flags(),
-            self.protocol(),
-            self.algorithm(),
-            public_key,
-        ))
+        Ok(Dnskey::new_unchecked(self.flags(), self.protocol(), self.algorithm(), public_key))
     }
 
     fn same_key<Other: Octets>(&self, other: &Dnskey<Other>) -> bool {
@@ -71,7 +66,8 @@ impl<Octs: Octets> ZoneKey for Dnskey<Octs> {
     }
 
     fn digested(&self, alloc: Global, owner: &Name<Vec<u8>>) -> Result<Vec<u8>, AllocError> {
-        let mut octets = Vec::new(alloc);
+        let key = self.public_key().as_slice().len().saturating_add(4);
+        let mut octets = Vec::with_capacity(alloc, owner.as_slice().len().saturating_add(key))?;
         owner.compose_canonical(&mut octets)?;
         self.compose(&mut octets)?;
         Ok(octets)
@@ -84,7 +80,11 @@ pub fn key_of_data(rdata: &[u8]) -> Option<Dnskey<&[u8]>>
     requires { length rdata.now ≤ 65535 }
     ensures { result ≡ dnskey_of_data rdata.now }
 {
-    let key = Dnskey::parse(&mut Parser::from_ref(rdata)).ok()?;
-    let _flags = key.flags();
-    Some(key)
+    match Dnskey::parse(&mut Parser::from_ref(rdata)) {
+        Ok(key) => {
+            let _flags = key.flags();
+            Some(key)
+        }
+        Err(_) => None,
+    }
 }

@@ -11,10 +11,5 @@ pub fn copied(alloc: Global, ds: &Ds<Vec<u8>>) -> Result<Ds<Vec<u8>>, AllocError
 {
     let _len = ds.rdlen(false);
     let digest = ds.digest().as_slice().to_vec(alloc)?;
-    Ok(Ds::new_unchecked(
-        ds.key_tag(),
-        ds.algorithm(),
-        ds.digest_type(),
-        digest,
-    ))
+    Ok(Ds::new_unchecked(ds.key_tag(), ds.algorithm(), ds.digest_type(), digest))
 }

@@ -26,12 +26,25 @@ pub fn signed_octets<N: ToName>(
         IfOk result (λ v. v.items ≡ signed_octets f owner.now class (items_of canonical.now)) }
 {
     let head = signed_head(alloc, fields, owner, class)?;
-    let mut out = Vec::new(alloc);
+    let mut out = Vec::with_capacity(alloc, signed_room(&head, canonical))?;
     compose_signed_fields(fields, &mut out)?;
     for data in canonical {
         compose_signed_record(&head, data, &mut out)?;
     }
     Ok(out)
+}
+
+/// Room for the fields with the longest signer, and for each record what all begin with, two octets and its data.
+fn signed_room(head: &[u8], canonical: &[Vec<u8>]) -> usize {
+    let mut room = 18 + 255;
+    for data in canonical {
+        room = head
+            .len()
+            .saturating_add(2)
+            .saturating_add(data.len())
+            .saturating_add(room);
+    }
+    room
 }
 
 /// Writes the fields as they are signed, the signer in canonical form.
@@ -42,7 +55,10 @@ fn compose_signed_fields<N: ToName>(
     ensures ok { let octets = fields_data (fields_of N.name fields.now) in
         OnOk result (out.new.items ≡ out.old.items ++ octets) }
 {
-    fields.compose_canonical(out).map_err(|_| AllocError)
+    match fields.compose_canonical(out) {
+        Ok(()) => Ok(()),
+        Err(_) => Err(AllocError),
+    }
 }
 
 /// Writes the fields as a record has them, the signer as spelled (RFC 4034, 3.1).
@@ -53,7 +69,10 @@ pub fn compose_fields<N: ToName>(
     ensures ok { let octets = spelled_fields (fields_of N.name fields.now) in
         OnOk result (out.new.items ≡ out.old.items ++ octets) }
 {
-    fields.compose(out).map_err(|_| AllocError)
+    match fields.compose(out) {
+        Ok(()) => Ok(()),
+        Err(_) => Err(AllocError),
+    }
 }
 
 /// What each record of a signed RRset begins with.
@@ -67,7 +86,7 @@ fn signed_head<N: ToName>(
         let signed = signed_owner f.labels owner.now in
         IfOk result (λ v. v.items ≡ record_head signed f.covered class f.ttl) }
 {
-    let mut head = Vec::new(alloc);
+    let mut head = Vec::with_capacity(alloc, owner.as_slice().len().saturating_add(8))?;
     compose_signed_owner(alloc, fields.labels(), owner, &mut head)?;
     head.extend_from_slice(&fields.type_covered().to_int().to_be_bytes())?;
     head.extend_from_slice(&class.to_int().to_be_bytes())?;

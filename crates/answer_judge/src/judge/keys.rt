@@ -113,21 +113,8 @@ fn read_key<'a>(
     if record.rtype != Rtype::DNSKEY || record.class != Class::IN || !record.owner.name_eq(apex) {
         return None;
     }
-    let dnskey = key_of_data(data_of(message, record))?;
+    let dnskey = key_of_data(record.octets(message))?;
     Some(TaggedKey::new(dnskey))
-}
-
-/// The octets of a record's data.
-fn data_of<'a>(message: &'a [u8], record: &ViewRecord) -> &'a [u8]
-    ensures data { result.now ≡ data_of message.now (spelled record.now) }
-    ensures few { length result.now ≤ 65535 }
-{
-    let end = message.len().min(record.start + record.length);
-    if record.start < end {
-        &message[record.start..end]
-    } else {
-        &[]
-    }
 }
 
 /// Whether two unlike keys have one tag.
