@@ -66,6 +66,6 @@ answer_gives sign verifies apex at life keys flags asked answer authority groups
       rtype_is = refl;
       class_is = refl;
       groups_are = subst (λ rs. AreGroups verifies pointer_limit m (spelled_from (first_place asked) rs) apex at life keys groups) both
-          (are_groups sign verifies m (first_place asked) apex at life keys groups pieces [] name formed written
+          (are_groups sign verifies m (first_place asked) apex at life keys groups pieces [] w.short name formed written
           (subst (λ rs. StandsAt m (first_place asked) (flat_map record_octets rs ++ [])) (sym both) stands));
     }

@@ -1,5 +1,5 @@
 -- Data that are written read as their canonical form, type by type.
-use Rattle.std.proofs.Common.{◌≡◌, ℕ, ◌+◌, Bool, true, false, ◌&&◌, ◌||◌, List, [], ◌∷◌, ◌++◌, length, Option, Some, refl, sym, subst, ap, ◌∙◌, append_assoc, eqb, ⊎_elim, ◌⊎◌}
+use Rattle.std.proofs.Common.{◌≡◌, ℕ, ◌+◌, ◌≤◌, Bool, true, false, ◌&&◌, ◌||◌, List, [], ◌∷◌, ◌++◌, length, Option, Some, refl, sym, subst, ap, ◌∙◌, append_assoc, length-append, arith, eqb, ⊎_elim, ◌⊎◌}
 use Rattle.std.specs.Prelude.{MatchBool}
 use Rattle.std.specs.List.{AllZip}
 use Rattle.std.proofs.lemmas.Bool.{or_parts}
@@ -27,7 +27,7 @@ chosen m r is_ns is_soa is_nsec =
 
 -- data of another type than NS, SOA and NSEC
 pub reads_plain : (t : ℕ) (d : List ℕ) → eqb t 2 ≡ false → eqb t 6 ≡ false → eqb t 47 ≡ false → ReadsAs t d d
-reads_plain t d ns soa nsec m rest r type stands size =
+reads_plain t d ns soa nsec m rest r few type stands size =
     let a : eqb r.rtype 2 ≡ false = ap (λ n. eqb n 2) type ∙ ns in
     let b : eqb r.rtype 6 ≡ false = ap (λ n. eqb n 6) type ∙ soa in
     let c : eqb r.rtype 47 ≡ false = ap (λ n. eqb n 47) type ∙ nsec in
@@ -35,7 +35,7 @@ reads_plain t d ns soa nsec m rest r type stands size =
     ∙ ap Some (range_there m stands.front d rest r.start (behind r) stands.whole stands.place (ap (λ n. r.start + n) size))
 
 reads_ns : (written d : List ℕ) → SpellsNs written d → ReadsAs 2 written d
-reads_ns written d s m rest r type stands size =
+reads_ns written d s m rest r few type stands size =
     ap (λ x. chosen m r x (eqb r.rtype 6) (eqb r.rtype 47)) (ap (λ n. eqb n 2) type)
     ∙ ns_here m r s.name rest s.is (subst (λ w. StandsAt m r.start (w ++ rest)) s.written_is stands) (size ∙ ap length s.written_is)
     ∙ ap Some (sym s.canonical_is)
@@ -44,7 +44,7 @@ soa_parts : (a b n rest : List ℕ) → (a ++ b ++ n) ++ rest ≡ a ++ (b ++ (n 
 soa_parts a b n rest = simp append_assoc refl
 
 reads_soa : (written d : List ℕ) → SpellsSoa written d → ReadsAs 6 written d
-reads_soa written d s m rest r type stands size =
+reads_soa written d s m rest r few type stands size =
     ap (λ x. chosen m r x (eqb r.rtype 6) (eqb r.rtype 47)) (ap (λ n. eqb n 2) type)
     ∙ ap (λ x. chosen m r false x (eqb r.rtype 47)) (ap (λ n. eqb n 6) type)
     ∙ soa_here m r s.mname s.rname s.numbers rest s.mname_is s.rname_is s.five
@@ -52,11 +52,12 @@ reads_soa written d s m rest r type stands size =
     ∙ ap Some (sym s.canonical_is)
 
 pub reads_nsec : (next : Name) (bits : List ℕ) → IsName next → is_bitmap bits ≡ true → ReadsAs 47 (wire next ++ bits) (wire next ++ bits)
-reads_nsec next bits name valid m rest r type stands size =
+reads_nsec next bits name valid m rest r few type stands size =
+    let short : length (wire next ++ bits) ≤ 65535 = omega (arith, few, ap length stands.whole, length-append stands.front ((wire next ++ bits) ++ rest), length-append (wire next ++ bits) rest) in
     ap (λ x. chosen m r x (eqb r.rtype 6) (eqb r.rtype 47)) (ap (λ n. eqb n 2) type)
     ∙ ap (λ x. chosen m r false x (eqb r.rtype 47)) (ap (λ n. eqb n 6) type)
     ∙ ap (λ x. chosen m r false false x) (ap (λ n. eqb n 47) type)
-    ∙ nsec_here m r next bits rest name valid (subst (StandsAt m r.start) (append_assoc (wire next) bits rest) stands) size
+    ∙ nsec_here m r next bits rest name valid short (subst (StandsAt m r.start) (append_assoc (wire next) bits rest) stands) size
 
 -- data of unknown types, and of NS and SOA records
 by_spelling : (unknown : Bool) (t : ℕ) (written d : List ℕ) → (unknown && (eqb t 2 || (eqb t 6 || false))) ≡ false → eqb t 47 ≡ false

@@ -44,12 +44,12 @@ parted rs ss rest = ap (λ x. x ++ rest) (flat_map-append record_octets rs ss) �
 
 -- the RRsets, each with its signatures
 pub are_groups : (sign : Dnskey → List ℕ → Option (List ℕ)) (verifies : Dnskey → List ℕ → List ℕ → Bool) (m : List ℕ) (p : ℕ) (apex : Name) (at life : ℕ) (keys : List Dnskey) (gs : List Group) (pieces : List (List Written)) (rest : List ℕ)
-    → IsName apex → AllByRecursion IsFormed gs → AllZip (IsWritten sign verifies apex at life keys) (map view_of gs) pieces → StandsAt m p (flat_map record_octets (joined pieces) ++ rest)
+    → length m ≤ 65535 → IsName apex → AllByRecursion IsFormed gs → AllZip (IsWritten sign verifies apex at life keys) (map view_of gs) pieces → StandsAt m p (flat_map record_octets (joined pieces) ++ rest)
     → AreGroups verifies pointer_limit m (spelled_from p (joined pieces)) apex at life keys gs
-are_groups sign verifies m p apex at life keys [] [] rest name formed written s = refl
-are_groups sign verifies m p apex at life keys [] (x ∷ pieces) rest name formed written s = absurd written
-are_groups sign verifies m p apex at life keys (g ∷ gs) [] rest name formed written s = absurd written
-are_groups sign verifies m p apex at life keys (g ∷ gs) (x ∷ pieces) rest name formed written s =
+are_groups sign verifies m p apex at life keys [] [] rest few name formed written s = refl
+are_groups sign verifies m p apex at life keys [] (x ∷ pieces) rest few name formed written s = absurd written
+are_groups sign verifies m p apex at life keys (g ∷ gs) [] rest few name formed written s = absurd written
+are_groups sign verifies m p apex at life keys (g ∷ gs) (x ∷ pieces) rest few name formed written s =
     let f = formed.0 in
     let w = written.0 in
     let own : List Written = g.written in
@@ -67,9 +67,9 @@ are_groups sign verifies m p apex at life keys (g ∷ gs) (x ∷ pieces) rest na
       spelled_from q signatures,
       spelled_from e others,
       ap (spelled_from p) parts ∙ spelled_more p own (signatures ++ others) ∙ ap (λ y. spelled_from p own ++ y) (spelled_more q signatures others) ∙ sym (append_assoc (spelled_from p own) (spelled_from q signatures) (spelled_from e others)),
-      own_records m p g g.written g.datas _ f.datas first,
-      its_signatures sign verifies m q apex at life g (if g.signed then keys else []) w.0 _ name f.rtype f.ttl w.1.0 second,
-      are_groups sign verifies m e apex at life keys gs pieces rest name formed.1 written.1 third,
+      own_records m p g g.written g.datas _ few f.datas first,
+      its_signatures sign verifies m q apex at life g (if g.signed then keys else []) w.0 _ few name f.rtype f.ttl w.1.0 second,
+      are_groups sign verifies m e apex at life keys gs pieces rest few name formed.1 written.1 third,
       own_kept p g.written,
     )
 

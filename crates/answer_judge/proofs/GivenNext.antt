@@ -1,5 +1,5 @@
 -- An NSEC record whose canonical data are known says one next name and one bitmap.
-use Rattle.std.proofs.Common.{◌≡◌, ℕ, ◌+◌, ◌<◌, ◌≤◌, Bool, true, false, List, ◌++◌, length, Option, Some, None, Result, Ok, Err, eqb, leb, refl, sym, ap, subst, ◌∙◌, arith}
+use Rattle.std.proofs.Common.{◌≡◌, ℕ, ◌+◌, ◌<◌, ◌≤◌, Bool, true, false, ◌&&◌, List, ◌++◌, length, Option, Some, None, Result, Ok, Err, eqb, leb, refl, sym, ap, subst, ◌∙◌, arith}
 use Rattle.std.specs.Prelude.{slice_range}
 use Rattle.std.specs.List.{AllByRecursion}
 use Rattle.std.proofs.lemmas.Bool.{eq-eqb, ne_eqb}
@@ -9,19 +9,10 @@ use Rattle.definitions.specs.Reading.{Reads, root, label, pointer, ReadFault, na
 use Rattle.definitions.proofs.ReadingLaws.{length-range, reads_exactly}
 use Rattle.definitions.proofs.SignedLaws.{Labelled, wire_of}
 use Rattle.records.specs.declared.message.MessageError.{MessageError}
-use Rattle.records.specs.Message.{Spelled, canonical_data, data_of, fault_of, if_true, name_in, ns_data, nsec_at, nsec_data, owner_at, soa_data}
+use Rattle.records.specs.Message.{Spelled, canonical_data, data_of, fault_of, fits, if_true, name_in, name_upto, ns_data, nsec_at, nsec_data, owner_at, soa_data}
 use Rattle.records.specs.Message as message
-use Rattle.records.proofs.Lists.{all_more, some_is}
-
--- ---- names that are read have no empty label
-
-reads_labelled : {m : List ℕ} {p k b : ℕ} {ls : Name} → Reads m p k ls b → Labelled ls
-reads_labelled (root h e) = tt
-reads_labelled {m} {p} (label {n = n} {e = e} {l = l} h a b c d f r) =
-    let inside : p + 1 + n ≤ length m = omega (arith, c, d) in
-    let len : length l ≡ n = ap length f ∙ ap (λ x. length (slice_range m (p + 1) x)) c ∙ length-range m (p + 1) n inside in
-    (omega (arith, len, a), reads_labelled r)
-reads_labelled (pointer h a b c d e r) = reads_labelled r
+use Rattle.records.proofs.Lists.{some_is}
+use Rattle.messages.proofs.ReadNames.{labelled, reads_labelled}
 
 abbrev read_ok : Name × ℕ → Result (Name × ℕ) MessageError
 read_ok n = Ok n
@@ -51,9 +42,14 @@ upto_ok : (limit : ℕ) (o : Result (Name × ℕ) MessageError) (n : Name × ℕ
 upto_ok limit (Ok r) n h = ap Ok (if_true_some (leb r.1 limit) r n h)
 upto_ok limit (Err e) n h = cc
 
+inside_some : (b : Bool) (o : Option (Name × ℕ)) (n : Name × ℕ) → elim b as (λ _. Option (Name × ℕ)) [ false ↦ None | true ↦ o ] ≡ Some n → o ≡ Some n
+inside_some true o n h = h
+inside_some false o n h = cc
+
 name_in_labelled : (k : ℕ) (m : List ℕ) (r : Spelled) (p : ℕ) (n : Name × ℕ) → name_in k m r p ≡ Some n → Labelled n.0
 name_in_labelled k m r p n h =
-    let there : name_at k m p ≡ Ok n = owner_reads k m p n (upto_ok (message.behind r) (owner_at k m p) n h) in
+    let upto = inside_some (leb (message.behind r) (length m)) (name_upto k m p (message.behind r)) n h in
+    let there : name_at k m p ≡ Ok n = owner_reads k m p n (upto_ok (message.behind r) (owner_at k m p) n upto) in
     let reads = (reads_exactly m p k n.0 n.1).0 there in
     reads_labelled reads.0
 
@@ -62,14 +58,14 @@ name_in_labelled k m r p n h =
 abbrev nsec_from : List ℕ → Spelled → Option (Name × ℕ) → Option (Name × List ℕ)
 nsec_from m r o = elim o [
   | None ↦ None
-  | Some n ↦ let bits = slice_range m n.1 (message.behind r) in if_true (is_bitmap bits) (n.0, bits)
+  | Some n ↦ let bits = slice_range m n.1 (message.behind r) in if_true (is_bitmap bits && fits (wire n.0 ++ bits)) (n.0, bits)
 ]
 
 next_labelled : (k : ℕ) (m : List ℕ) (r : Spelled) (o : Option (Name × ℕ)) (n : Name × List ℕ) → name_in k m r r.start ≡ o → nsec_from m r o ≡ Some n → Labelled n.0
 next_labelled k m r None n e h = cc
 next_labelled k m r (Some s) n e h =
     let bits : List ℕ = slice_range m s.1 (message.behind r) in
-    let same : (s.0, bits) ≡ n = if_true_some (is_bitmap bits) (s.0, bits) n h in
+    let same : (s.0, bits) ≡ n = if_true_some (is_bitmap bits && fits (wire s.0 ++ bits)) (s.0, bits) n h in
     subst Labelled (ap (λ (x : Name × List ℕ). x.0) same) (name_in_labelled k m r r.start s e)
 
 nsec_at_labelled : (k : ℕ) (m : List ℕ) (r : Spelled) (n : Name × List ℕ) → nsec_at k m r ≡ Some n → Labelled n.0
@@ -99,9 +95,6 @@ canonical_octets k m r two six nsec = λ i. canonical_by k m r (two i) (six i) (
 abbrev nsec_joined : Option (Name × List ℕ) → Option (List ℕ)
 nsec_joined o = elim o [ None ↦ None | Some n ↦ Some (wire n.0 ++ n.1) ]
 
-labels_some : (n : Name) → AllByRecursion IsLabel n → Labelled n
-labels_some n h = all_more IsLabel (λ l. 0 < length l) n (λ l is. is.some) h
-
 read_back : (k : ℕ) (m : List ℕ) (r : Spelled) (o : Option (Name × List ℕ)) (next : Name) (bits : List ℕ) → Labelled next → nsec_at k m r ≡ o → nsec_joined o ≡ Some (wire next ++ bits) → nsec_at k m r ≡ Some (next, bits)
 read_back k m r None next bits l e h = cc
 read_back k m r (Some n) next bits l e h =
@@ -110,4 +103,4 @@ read_back k m r (Some n) next bits l e h =
     e ∙ (λ i. Some (one.0 i, one.1 i))
 
 pub nsec_given : (k : ℕ) (m : List ℕ) (r : Spelled) (next : Name) (bits : List ℕ) → AllByRecursion IsLabel next → r.rtype ≡ 47 → canonical_data k m r ≡ Some (wire next ++ bits) → nsec_at k m r ≡ Some (next, bits)
-nsec_given k m r next bits l t h = read_back k m r (nsec_at k m r) next bits (labels_some next l) refl (sym (canonical_nsec k m r t) ∙ h)
+nsec_given k m r next bits l t h = read_back k m r (nsec_at k m r) next bits (labelled next l) refl (sym (canonical_nsec k m r t) ∙ h)

@@ -10,11 +10,10 @@ use Rattle.definitions.specs.Dnskey.{Dnskey}
 use Rattle.definitions.specs.Zone.{sorted_data}
 use Rattle.definitions.specs.Signing.{Fields, in_time, label_count, signed_owner, signed_octets, fields_data, canonical_record}
 use Rattle.answer_judge.specs.Answers.{Answers}
-use Rattle.answer_judge.specs.Facts.{is_signature, signs, is_due, fits_key, fields_read}
+use Rattle.answer_judge.specs.Facts.{is_signature, signs, is_due, fits_key}
 use Rattle.records.specs.Message.{Spelled, canonical_data, rrsig_at}
-use Rattle.messages.specs.Record.{fields_of}
+use Rattle.messages.specs.Record.{Signature, fields_of, fields_read}
 use Rattle.answer_judge.specs.Verified.{Trusting, datum_of, rrset_in, verifies_with, is_verified}
-use Rattle.messages.specs.declared.rdata.RrsigView.{RrsigView}
 use Rattle.records.proofs.ZoneNames.{low-low, at_or_above-low}
 use Rattle.answer_zone.proofs.ZoneData.{label_count-low}
 
@@ -65,9 +64,10 @@ is_verified-owner w k m rs a b t items h = (λ i. list_any (λ r. verifies_with-
 -- ---- signers
 
 -- the signer lowered or as spelled
-pub signs-signer : (v : Answers) (apex : Name) (keys : List Dnskey) (now : ℕ) (owner : Name) (items : List (List ℕ)) (s : RrsigView) (sig : List ℕ) → signs v apex keys now owner items (fields_of s) sig ≡ signs v apex keys now owner items (fields_read s) sig
+pub signs-signer : (v : Answers) (apex : Name) (keys : List Dnskey) (now : ℕ) (owner : Name) (items : List (List ℕ)) (s : Signature) (sig : List ℕ) → signs v apex keys now owner items (fields_of s) sig ≡ signs v apex keys now owner items (fields_read s) sig
 signs-signer v apex keys now owner items s sig =
-    let d : is_due apex now owner (fields_of s) ≡ is_due apex now owner (fields_read s) = ap (λ n. (s.labels == label_count owner) && in_time (fields_read s) now && labels_eq n (low apex)) (low-low s.signer) in
+    let f = fields_read s in
+    let d : is_due apex now owner (fields_of s) ≡ is_due apex now owner (fields_read s) = ap (λ n. (f.labels == label_count owner) && in_time (fields_read s) now && labels_eq n (low apex)) (low-low f.signer) in
     let o : signed_octets (fields_of s) owner 1 items ≡ signed_octets (fields_read s) owner 1 items =
-    ap (λ (n : Name). (to_be_bytes w16 s.type_covered ++ s.algorithm ∷ s.labels ∷ to_be_bytes w32 s.original_ttl ++ to_be_bytes w32 s.expiration ++ to_be_bytes w32 s.inception ++ to_be_bytes w16 s.key_tag ++ wire n) ++ flat_map (canonical_record (signed_owner s.labels owner) s.type_covered 1 s.original_ttl) items) (low-low s.signer) in
+    ap (λ (n : Name). (to_be_bytes w16 f.covered ++ f.algorithm ∷ f.labels ∷ to_be_bytes w32 f.ttl ++ to_be_bytes w32 f.expiration ++ to_be_bytes w32 f.inception ++ to_be_bytes w16 f.tag ++ wire n) ++ flat_map (canonical_record (signed_owner f.labels owner) f.covered 1 f.ttl) items) (low-low f.signer) in
     (λ i. elim (not (length items == 0) && d i) [ false ↦ false | true ↦ elim (find (fits_key (fields_read s)) keys) [ None ↦ false | Some k ↦ v.verifies k (o i) sig ] ])

@@ -9,14 +9,13 @@ use Rattle.std.proofs.lemmas.List.{drop_all}
 use Rattle.definitions.specs.Limits.{pointer_limit}
 use Rattle.definitions.specs.Name.{Name, labels_eq, low, same}
 use Rattle.definitions.specs.Signing.{Fields, in_time, label_count}
-use Rattle.messages.specs.Record.{fields_of, signature_of, spelled}
-use Rattle.messages.specs.declared.rdata.RrsigView.{RrsigView}
+use Rattle.messages.specs.Record.{Signature, fields_of, fields_read, signature_of, spelled}
 use Rattle.messages.specs.declared.view.ViewRecord.{ViewRecord}
 use Rattle.records.specs.Message.{Spelled, rrsig_at}
 use Rattle.records.proofs.Lists.{items_from, list_any-map}
 use Rattle.records.proofs.ZoneNames.{low-low, same_labels}
 use Rattle.answer_judge.specs.Counted.{Sought, can_try, is_tried, one_if, tries, tries_fields}
-use Rattle.answer_judge.specs.Facts.{fields_read, first_some, fits_key, is_due, is_signature}
+use Rattle.answer_judge.specs.Facts.{first_some, fits_key, is_due, is_signature}
 use Rattle.answer_judge.specs.Marked.{are_apart, data_in, is_like, is_of, is_tried_in, marked, or_first, signed_of, tries_group, tries_in}
 use Rattle.answer_judge.specs.Verified.{Trusting, is_verified, verified_with}
 use Rattle.answer_judge.specs.declared.judge.groups.Group.{Group}
@@ -118,13 +117,13 @@ count_again w m r f gs i g n k e s c a h at own v same =
     same_count n k (is_tried_in w m gs r) same (at_place w m r f gs i g e s c a h at own ∙ ap (λ b. not b && can_try w g.owner (data_in g) f.0) v)
 
 -- whether the signer is lowered makes no difference
-try-signer : (w : Trusting) (owner : Name) (items : List (List ℕ)) (s : RrsigView) → can_try w owner items (fields_of s) ≡ can_try w owner items (fields_read s)
+try-signer : (w : Trusting) (owner : Name) (items : List (List ℕ)) (s : Signature) → can_try w owner items (fields_of s) ≡ can_try w owner items (fields_read s)
 try-signer w owner items s =
-    let d : is_due w.apex w.now owner (fields_of s) ≡ is_due w.apex w.now owner (fields_read s) = ap (λ n. (s.labels == label_count owner) && in_time (fields_read s) w.now && labels_eq n (low w.apex)) (low-low s.signer) in
+    let d : is_due w.apex w.now owner (fields_of s) ≡ is_due w.apex w.now owner (fields_read s) = ap (λ n. ((fields_read s).labels == label_count owner) && in_time (fields_read s) w.now && labels_eq n (low w.apex)) (low-low (fields_read s).signer) in
     λ i. elim (not (length items == 0) && d i) as (λ _. Bool) [ false ↦ false | true ↦ is_some (find (fits_key (fields_read s)) w.keys) ]
 
-pub count_now : (w : Trusting) (m : List ℕ) (r : Spelled) (s : RrsigView) (gs : List Group) (i : ℕ) (g : Group) (n k : ℕ) → rrsig_at pointer_limit m r ≡ Some (signature_of s) → is_signature r ≡ true → (r.class == 1) ≡ true
-    → are_apart gs ≡ true → i < length gs → g ≡ get_or gs i g → is_of r.owner s.type_covered g ≡ true → is_some g.verified ≡ false
+pub count_now : (w : Trusting) (m : List ℕ) (r : Spelled) (s : Signature) (gs : List Group) (i : ℕ) (g : Group) (n k : ℕ) → rrsig_at pointer_limit m r ≡ Some (signature_of s) → is_signature r ≡ true → (r.class == 1) ≡ true
+    → are_apart gs ≡ true → i < length gs → g ≡ get_or gs i g → is_of r.owner (fields_read s).covered g ≡ true → is_some g.verified ≡ false
     → k ≡ n + one_if (can_try w (get_or gs i g).owner (data_in (get_or gs i g)) (fields_read s)) → k ≡ n + one_if (is_tried_in w m gs r)
 count_now w m r s gs i g n k e sig c a h at own not_yet counted =
     let f = signature_of s in

@@ -10,12 +10,11 @@ use Rattle.definitions.specs.Name.{Name, low, same}
 use Rattle.definitions.specs.Signing.{Fields}
 use Rattle.definitions.specs.Limits.{pointer_limit}
 use Rattle.answer_judge.specs.declared.judge.groups.Group.{Group}
-use Rattle.answer_judge.specs.Facts.{is_signature, signs, fields_read}
-use Rattle.messages.specs.Record.{signature_of, spelled}
+use Rattle.answer_judge.specs.Facts.{is_signature, signs}
+use Rattle.messages.specs.Record.{Signature, fields_read, signature_of, spelled}
 use Rattle.messages.specs.declared.view.ViewRecord.{ViewRecord}
 use Rattle.std.proofs.lemmas.List.{drop_all}
 use Rattle.records.proofs.Lists.{items_from}
-use Rattle.messages.specs.declared.rdata.RrsigView.{RrsigView}
 use Rattle.answer_judge.proofs.JudgeCase.{signs-signer}
 use Rattle.records.specs.Message.{Spelled, if_true, rrsig_at}
 use Rattle.answer_judge.specs.Verified.{Trusting, is_verified, verified_by, verifies_with}
@@ -144,12 +143,12 @@ tried_again w m r f gs i g e a h at own v =
     ap (set gs i) (sym at ∙ same) ∙ tried_at w m r f gs i g e a h at own
 
 -- it was not, and what the signature says of its data was found out
-pub tried_now : (w : Trusting) (m : List ℕ) (r : Spelled) (s : RrsigView) (gs : List Group) (i : ℕ) (g : Group) (v : Option Signed) → rrsig_at pointer_limit m r ≡ Some (signature_of s) → is_signature r ≡ true → (r.class == 1) ≡ true
-    → are_apart gs ≡ true → i < length gs → g ≡ get_or gs i g → is_of r.owner s.type_covered g ≡ true → is_some g.verified ≡ false → v ≡ if_true (signs w.answers w.apex w.keys w.now (get_or gs i g).owner (data_in (get_or gs i g)) (fields_read s) s.signature.now) (signed_of (fields_read s))
+pub tried_now : (w : Trusting) (m : List ℕ) (r : Spelled) (s : Signature) (gs : List Group) (i : ℕ) (g : Group) (v : Option Signed) → rrsig_at pointer_limit m r ≡ Some (signature_of s) → is_signature r ≡ true → (r.class == 1) ≡ true
+    → are_apart gs ≡ true → i < length gs → g ≡ get_or gs i g → is_of r.owner (fields_read s).covered g ≡ true → is_some g.verified ≡ false → v ≡ if_true (signs w.answers w.apex w.keys w.now (get_or gs i g).owner (data_in (get_or gs i g)) (fields_read s) s.signature) (signed_of (fields_read s))
     → set gs i (record { owner = (get_or gs i g).owner; rtype = (get_or gs i g).rtype; items = (get_or gs i g).items; verified = v }) ≡ map (marked w m (r ∷ [])) gs
 tried_now w m r s gs i g v e sig class a h at own not_yet is =
     let f = signature_of s in
-    let t : signs w.answers w.apex w.keys w.now (get_or gs i g).owner (data_in (get_or gs i g)) (fields_read s) s.signature.now ≡ tried w m r g = ap (λ (y : Group). signs w.answers w.apex w.keys w.now y.owner (data_in y) (fields_read s) s.signature.now) (sym at) ∙ sym (signs-signer w.answers w.apex w.keys w.now g.owner (data_in g) s s.signature.now) ∙ sym (tried_own w m r f e sig class g own) in
+    let t : signs w.answers w.apex w.keys w.now (get_or gs i g).owner (data_in (get_or gs i g)) (fields_read s) s.signature ≡ tried w m r g = ap (λ (y : Group). signs w.answers w.apex w.keys w.now y.owner (data_in y) (fields_read s) s.signature) (sym at) ∙ sym (signs-signer w.answers w.apex w.keys w.now g.owner (data_in g) s s.signature) ∙ sym (tried_own w m r f e sig class g own) in
     let b : v ≡ or_first g.verified (gives w m r g) = is ∙ ap (λ x. if_true x (signed_of (fields_read s))) t ∙ sym (gives_own w m r f g e) ∙ first_new g.verified (gives w m r g) not_yet in
     (λ j. set gs i (record { owner = (sym at j).owner; rtype = (sym at j).rtype; items = (sym at j).items; verified = b j })) ∙ tried_at w m r f gs i g e a h at own
 

@@ -13,7 +13,6 @@ use Rattle.answer_judge.specs.declared.judge.verdict.Refusal.{Refusal}
 use Rattle.answer_judge.specs.declared.judge.verdict.Refusal.TheVariants as r
 use Rattle.answer_judge.specs.Judging.{Handing, IsRead, is_first}
 use Rattle.records.specs.Message.{Spelled, Asked}
-use Rattle.messages.specs.declared.rdata.RrsigView.{RrsigView}
 
 -- ---- keys
 
@@ -33,10 +32,6 @@ abbrev pub is_trusted : Answers → Name → List Ds → Dnskey → Bool
 is_trusted a apex ds k = is_usable k && list_any (names_key a apex k) ds
 
 -- ---- signatures
-
--- the fields of a signature that was read, the signer as spelled
-abbrev pub fields_read : RrsigView → Fields
-fields_read s = record { covered = s.type_covered; algorithm = s.algorithm; labels = s.labels; ttl = s.original_ttl; expiration = s.expiration; inception = s.inception; tag = s.key_tag; signer = s.signer }
 
 -- the apex's signature, in time, with the labels of the owner (RFC 4035, 5.3.1)
 abbrev pub is_due : Name → ℕ → Name → Fields → Bool

@@ -34,6 +34,7 @@ use names_data::rtype::Rtype;
 use plain::numbers::Class;
 use records::message::MessageError;
 use records::names::{Name, ParsedName, ToName, ZoneName};
+use signed_data::dnskey::ZoneKey;
 use signed_data::ds::Ds;
 use signed_data::ranked::put_data;
 use std::alloc::{AllocError, Global};
@@ -258,7 +259,7 @@ fn asks(view: &MessageView, name: &Name<Vec<u8>>, rtype: Rtype, class: Class) ->
 fn records_of<'a>(alloc: Global, view: &MessageView<'a>) -> Result<Vec<ViewRecord<'a>>, AllocError>
     ensures { IfOk result (λ rs. map spelled rs.items ≡ view.now.records) }
 {
-    let mut records = Vec::new(alloc);
+    let mut records = Vec::with_capacity(alloc, view.record_count())?;
     for record in view.records() {
         records.push(record)?;
     }
@@ -273,10 +274,11 @@ fn key_group(alloc: Global, apex: &Name<Vec<u8>>, keys: &[TaggedKey]) -> Result<
         (λ g. map (λ d. d.items) g.items.items ≡ sorted_data (map dnskey_data keys.now)) }
     ensures unverified { IfOk result (λ g. g.verified ≡ None) }
 {
-    let mut items = Vec::new(alloc);
+    let mut items = Vec::with_capacity(alloc, keys.len())?;
     for key in keys {
-        let mut item = Vec::new(alloc);
-        key.dnskey().compose(&mut item)?;
+        let dnskey = key.dnskey();
+        let mut item = Vec::with_capacity(alloc, dnskey.public_key().len().saturating_add(4))?;
+        dnskey.compose(&mut item)?;
         put_data(&mut items, item)?;
     }
     Ok(Group {

@@ -20,7 +20,7 @@ fn an_answer_with_a_signature(rt: HostRuntime) -> Result<(), Fail> {
         life: 10,
     };
     let octets: &[u8] = &[0, 1, 0, 0];
-    let keys = [Dnskey::<&[u8]>::new(256, 3, SecurityAlgorithm::ECDSAP256SHA256, octets)];
+    let keys = [Dnskey::<&[u8]>::new(256, 3, SecurityAlgorithm::ECDSAP256SHA256, octets)?];
     let address: &[u8] = &[192, 0, 2, 1];
     let mut canonical = Vec::new(alloc);
     canonical.push(address.to_vec(alloc)?)?;

@@ -21,7 +21,7 @@ fn ds(alloc: Global, digest_type: u8) -> Result<Ds<Vec<u8>>, Fail> {
         SecurityAlgorithm::ECDSAP256SHA256,
         DigestAlgorithm::from_int(digest_type),
         b"\x07".to_vec(alloc)?,
-    ))
+    )?)
 }
 
 /// The DNSKEY answer of two keys, and the zone's answer for its one address.

@@ -4,7 +4,7 @@ use answer::denial::ds::Ds;
 use answer::judge::by_scheme::judge_with;
 use answer::judge::is_allowed;
 use answer::judge::verdict::{DataList, Judgement, Refusal, Refused, Verdict};
-use answer::names::{Name, ParsedName, name_from_octets};
+use answer::names::{Name, NameError, name_from_octets};
 use answer::plain::Rtype;
 use answer::plain::numbers::{Class, DigestAlgorithm, SecurityAlgorithm};
 use answer::question::Question;
@@ -39,8 +39,9 @@ pub(crate) struct Case<'a> {
 }
 
 fn name(alloc: Global, wire: &[u8]) -> Result<Name<Vec<u8>>, AllocError> {
-    match ParsedName::parse(wire, 0) {
-        Ok((parsed, _)) => parsed.to_name(alloc),
+    match name_from_octets(alloc, wire) {
+        Ok(name) => Ok(name),
+        Err(NameError::Memory) => Err(AllocError),
         Err(_) => Name::root(alloc).map_err(|_| AllocError),
     }
 }
@@ -72,7 +73,7 @@ fn judge_by(
 }
 
 fn judged_at(alloc: Global, case: &Case, now: u32) -> Result<(&'static str, u32), AllocError> {
-    let ds = Ds::new(
+    let ds = Ds::new_unchecked(
         case.tag,
         SecurityAlgorithm::ECDSAP256SHA256,
         DigestAlgorithm::SHA256,

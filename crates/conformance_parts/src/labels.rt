@@ -1,9 +1,8 @@
 //! Labels of names.
 use names_labels::traits::Labels;
-use records::names::Name;
 
 /// Whether a name has this label at a place.
-pub(crate) fn has_label(name: &Name<Vec<u8>>, index: usize, want: &[u8]) -> bool {
+pub(crate) fn has_label<N: Labels>(name: &N, index: usize, want: &[u8]) -> bool {
     match name.label_at(index) {
         Some(label) => label.as_slice() == want,
         None => false,

@@ -2,10 +2,10 @@
 ghost use Rattle.std.specs.Prelude.{◌<◌, ◌^◌, length};
 
 use crate::labels::has_label;
-use messages::bitmap::{bitmap_has, is_bitmap};
-use messages::rdata::{NsecView, RrsigView};
+use denial_data::Rrsig;
 use messages::{MessageView, ViewRecord, read_message};
 use names_data::rtype::Rtype;
+use names_parsed::parsed;
 use plain::numbers::{Class, Ttl};
 use records::message::MessageError;
 use records::message::write::{push_header, push_question, push_record};
@@ -20,8 +20,7 @@ const SMALL: &[u8] =
     b"\x00\x00\x84\x00\x00\x01\x00\x01\x00\x00\x00\x00\x01a\x07example\x00\x00\x01\x00\x01\x01A\x07example\x00\x00\x01\x00\x01\x00\x00\x0e\x10\x00\x04\xc0\x00\x02\x01";
 
 fn name(rt: &impl Abort, alloc: Global, wire: &[u8]) -> Name<Vec<u8>> {
-    let (parsed, _) = ParsedName::parse(wire, 0).expect(rt, "a name");
-    parsed.to_name(alloc).expect(rt, "memory")
+    name_from_octets(alloc, wire).expect(rt, "a name")
 }
 
 #[test]
@@ -128,18 +127,6 @@ fn push(out: &mut Vec<u8>, rtype: Rtype, octets: &[u8]) -> Result<(), Fail>
     Ok(())
 }
 
-#[test]
-fn bitmaps(rt: HostRuntime) {
-    let types = &LINK[18..];
-    assert!(rt; is_bitmap(types) && is_bitmap(&[]) && !is_bitmap(&LINK[19..]));
-    for number in [1, 15, 46, 47, 1234] {
-        assert!(rt; bitmap_has(types, Rtype::from_int(number)));
-    }
-    for number in [2, 16, 45, 257, 1235] {
-        assert!(rt; !bitmap_has(types, Rtype::from_int(number)));
-    }
-}
-
 /// A message with one record of a type and data.
 fn message_of(alloc: Global, rtype: Rtype, data: &[u8]) -> Result<Vec<u8>, Fail>
     requires { length data.now < 2 ^ 16 }
@@ -171,17 +158,17 @@ fn canonical_data(alloc: Global, octets: &[u8]) -> Result<Vec<u8>, Fail> {
 fn reads_a_link(rt: HostRuntime) -> Result<(), Fail> {
     let alloc = rt.alloc();
     let octets = message_of(alloc, Rtype::NSEC, LINK)?;
-    let read = NsecView::read(alloc, &octets, &first(&octets)?)?;
-    let link = read.expect(&rt, "a link");
-    assert!(rt; has_label(&link.next, 0, b"Host"));
-    assert_eq!(rt; link.types, &LINK[18..]);
+    let link = first(&octets)?.link(&octets).expect(&rt, "a link");
+    assert!(rt; has_label(link.next_name(), 0, b"Host"));
+    assert_eq!(rt; link.types().as_slice(), &LINK[18..]);
+    assert!(rt; link.types().contains(Rtype::from_int(1234)));
     assert_eq!(rt; canonical_data(alloc, &octets)?.as_slice(), LINK);
     Ok(())
 }
 
 /// The signature that is the first record of a message.
-fn signature(alloc: Global, octets: &[u8]) -> Result<RrsigView<'_>, Fail> {
-    match RrsigView::read(alloc, octets, &first(octets)?)? {
+fn signature(octets: &[u8]) -> Result<Rrsig<&[u8], parsed::ParsedName<'_>>, Fail> {
+    match first(octets)?.signature(octets) {
         Some(signature) => Ok(signature),
         None => Err("no signature")?,
     }
@@ -190,16 +177,16 @@ fn signature(alloc: Global, octets: &[u8]) -> Result<RrsigView<'_>, Fail> {
 #[test]
 fn reads_a_signature(rt: HostRuntime) -> Result<(), Fail> {
     let octets = message_of(rt.alloc(), Rtype::RRSIG, SIGNATURE)?;
-    let signature = signature(rt.alloc(), &octets)?;
-    assert_eq!(rt; signature.type_covered, Rtype::A);
-    assert_eq!(rt; signature.algorithm.to_int(), 5);
-    assert_eq!(rt; signature.labels, 3);
-    assert_eq!(rt; signature.original_ttl, Ttl::from_secs(86400));
-    assert_eq!(rt; signature.expiration, 1048354263);
-    assert_eq!(rt; signature.inception, 1045762263);
-    assert_eq!(rt; signature.key_tag, 2642);
-    assert!(rt; has_label(&signature.signer, 0, b"Example"));
-    assert_eq!(rt; signature.signature, b"\xa0\x90".as_slice());
+    let signature = signature(&octets)?;
+    assert_eq!(rt; signature.type_covered(), Rtype::A);
+    assert_eq!(rt; signature.algorithm().to_int(), 5);
+    assert_eq!(rt; signature.labels(), 3);
+    assert_eq!(rt; signature.original_ttl(), Ttl::from_secs(86400));
+    assert_eq!(rt; signature.expiration().into_int(), 1048354263);
+    assert_eq!(rt; signature.inception().into_int(), 1045762263);
+    assert_eq!(rt; signature.key_tag(), 2642);
+    assert!(rt; has_label(signature.signer_name(), 0, b"Example"));
+    assert_eq!(rt; *signature.signature(), b"\xa0\x90".as_slice());
     Ok(())
 }
 

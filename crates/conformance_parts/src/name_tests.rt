@@ -1,6 +1,9 @@
 //! Names of messages and of octets outside them, written by hand (RFC 1035, 3.1 and 4.1.4).
 use records::message::MessageError;
-use records::names::{NameError, ParsedName, ToName, ZoneName, name_at_place, name_from_octets};
+use names_data::composer::compose_canonical_name;
+use records::names::{
+    NameError, ParsedName, ToName, ZoneName, name_at_place, name_from_octets, written_out,
+};
 use std::test::Fail;
 
 /// Names at 0, 5 and 15: `com`, and two that end in a pointer.
@@ -11,7 +14,7 @@ fn reads_a_name_through_pointers(rt: HostRuntime) -> Result<(), Fail> {
     let alloc = rt.alloc();
     let (name, end) = ParsedName::parse(POINTED, 15)?;
     assert_eq!(rt; end, 21);
-    let flat = name.to_name(alloc)?;
+    let flat = written_out(alloc, name.as_parsed())?;
     assert!(rt; name.name_eq(&flat));
     assert!(rt; name.name_eq(&name_from_octets(alloc, b"\x03www\x07EXAMPLE\x03com\x00")?));
     assert!(rt; !name.name_eq(&name_from_octets(alloc, b"\x03wwx\x07example\x03com\x00")?));
@@ -22,7 +25,7 @@ fn reads_a_name_through_pointers(rt: HostRuntime) -> Result<(), Fail> {
         b"\x03wWw\x07eXample\x03com\x00".as_slice()
     );
     let mut canonical = Vec::new(alloc);
-    name.compose_canonical(&mut canonical)?;
+    compose_canonical_name(name.as_parsed(), &mut canonical)?;
     assert_eq!(rt;
         canonical.as_slice(),
         b"\x03www\x07example\x03com\x00".as_slice()

@@ -6,7 +6,7 @@ use answer_zone::zone::ZoneRecords;
 use answer_zone::zone::answers::ZoneAnswer;
 use names_data::rtype::Rtype;
 use plain::numbers::{Class, Ttl};
-use records::names::{Name, ParsedName, ZoneName};
+use records::names::{Name, ZoneName, name_from_octets};
 use records::record::{Record, Serial, Soa, UnknownRecordData, ZoneRecord, ZoneRecordData};
 use signed_data::generate::SigningError;
 use std::alloc::Global;
@@ -21,8 +21,7 @@ const B_C_EXAMPLE: &[u8] = b"\x01b\x01C\x07example\x00";
 const ADDRESS: &[u8] = b"\x01\x02\x03\x04";
 
 fn name(alloc: Global, octets: &[u8]) -> Result<Name<Vec<u8>>, Fail> {
-    let (parsed, _) = ParsedName::parse(octets, 0)?;
-    Ok(parsed.to_name(alloc)?)
+    Ok(name_from_octets(alloc, octets)?)
 }
 
 fn record(

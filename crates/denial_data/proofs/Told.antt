@@ -18,7 +18,7 @@ number_32 : (m n : ℕ) → m < 4294967296 → n < 4294967296 → to_be_bytes w3
 number_32 m n p q e = sym (from_be_bytes-to_be_bytes_4 m p) ∙ ap (from_be_bytes w32) e ∙ from_be_bytes-to_be_bytes_4 n q
 
 -- two parts, the first equally long
-parts : (a b x y : List ℕ) → length a ≡ length b → a ++ x ≡ b ++ y → (a ≡ b) × (x ≡ y)
+pub parts : (a b x y : List ℕ) → length a ≡ length b → a ++ x ≡ b ++ y → (a ≡ b) × (x ≡ y)
 parts [] [] x y h e = (refl, e)
 parts [] (d ∷ b) x y h e = absurd (omega (arith, h))
 parts (c ∷ a) [] x y h e = absurd (omega (arith, h))

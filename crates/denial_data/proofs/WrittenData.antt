@@ -19,7 +19,7 @@ use Rattle.denial_data.specs.Signatures.{rrsig_part, signer_part}
 use Rattle.denial_data.proofs.Sizes.{numbers_long}
 use Rattle.denial_data.proofs.WrittenEnds.{last_rest, last_bitmap, last_two, last_limited, last_data, written_counted}
 
-ended : (head rest : List ℕ) → length head ≡ 4 → length (head ++ rest) ≤ 65535 → IsReadBack ended_part (head ++ rest)
+pub ended : (head rest : List ℕ) → length head ≡ 4 → length (head ++ rest) ≤ 65535 → IsReadBack ended_part (head ++ rest)
 ended head rest h few =
     last_data ended_part (head ++ rest)
     (last_limited (two_parts (octets_part 4) rest_part) (head ++ rest) few (last_two (octets_part 4) rest_part head rest (written_octets 4 head h) (last_rest rest)))

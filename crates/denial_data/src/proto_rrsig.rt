@@ -171,6 +171,27 @@ impl<N> ProtoRrsig<N> {
             signer_name,
         }
     }
+
+    /// The type of the records that are signed.
+    pub fn type_covered(&self) -> Rtype
+        ensures { result ≡ self.now.numbers.type_covered }
+    {
+        Rtype::from_int(self.numbers.type_covered)
+    }
+
+    /// How many labels their owner has, without the root and a leading star (RFC 4034, 3.1.3).
+    pub fn labels(&self) -> u8
+        ensures { result ≡ self.now.numbers.labels }
+    {
+        self.numbers.labels
+    }
+
+    /// Their TTL.
+    pub fn original_ttl(&self) -> Ttl
+        ensures { result ≡ self.now.numbers.original_ttl }
+    {
+        Ttl::from_secs(self.numbers.original_ttl)
+    }
 }
 
 impl<N: ToName> ProtoRrsig<N> {

@@ -3,9 +3,10 @@
 ghost use Rattle.std.specs.Prelude.{◌≡◌, ◌↔◌, ◌+◌, ◌≤◌, ◌++◌, false, length, IsOk, IfOk, IsTrue, OnOk, OnErr, take};
 ghost use Rattle.std.specs.Ordering.{nat_cmp};
 ghost use Rattle.std.specs.Cmp.Lexicographic.{slice_cmp};
-ghost use Rattle.definitions.specs.Name.{wire};
+ghost use Rattle.definitions.specs.Name.{IsName, wire};
 ghost use Rattle.names_parsed.specs.Parsed.{parsed_name};
 ghost use Rattle.names_data.specs.Reading.{ReadsData, ReadsPart, data_at};
+ghost use Rattle.denial_data.specs.EqualData.{NumbersFit};
 ghost use Rattle.denial_data.specs.Protos.{numbers_with};
 ghost use Rattle.denial_data.specs.RrsigData.{rrsig_with, rrsig_len, rrsig_octets, rrsig_canonical};
 ghost use Rattle.denial_data.specs.Signatures.{rrsig_part, signer_part, rrsig_text};
@@ -160,6 +161,24 @@ impl<Octs: Octets, N: ToName> Rrsig<Octs, N> {
         let _name = self.proto.signer_name.label_count();
         let len = 18 + self.proto.signer_name.compose_len();
         len + self.signature.as_slice().len() as u16
+    }
+
+    /// What the signature says of itself.
+    pub fn proto(&self) -> &ProtoRrsig<N>
+        ensures { result.now ≡ self.now.proto }
+    {
+        &self.proto
+    }
+
+    /// What all signatures keep, for callers whose proofs need it. It does nothing.
+    pub fn keeps(&self)
+        ensures numbers { NumbersFit self.now.proto.numbers }
+        ensures signer { IsName (N.name self.now.proto.signer_name) }
+    {
+        let _type_and_tag = (self.type_covered().to_int(), self.key_tag());
+        let _times = (self.expiration().into_int(), self.inception().into_int());
+        let _ttl = self.original_ttl().as_secs();
+        let _name = self.proto.signer_name.label_count();
     }
 
     /// The type of the records that are signed.

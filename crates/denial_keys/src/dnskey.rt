@@ -278,3 +278,10 @@ impl<Octs: Octets> fmt::Display for Dnskey<Octs> {
         )
     }
 }
+
+/// The text of `Display`.
+impl<Octs: Octets> fmt::Debug for Dnskey<Octs> {
+    fn fmt<W: fmt::Write>(&self, f: &mut fmt::Formatter<W>) -> fmt::Result {
+        fmt::Display::fmt(self, f)
+    }
+}

@@ -221,3 +221,10 @@ impl<Octs: Octets> fmt::Display for Ds<Octs> {
         )
     }
 }
+
+/// The text of `Display`.
+impl<Octs: Octets> fmt::Debug for Ds<Octs> {
+    fn fmt<W: fmt::Write>(&self, f: &mut fmt::Formatter<W>) -> fmt::Result {
+        fmt::Display::fmt(self, f)
+    }
+}

@@ -22,7 +22,7 @@ fn stand_in(key: &Dnskey<&[u8]>, octets: &[u8]) -> [u8; 32]
     let mut hasher = Sha256::new();
     hasher.update(&key.flags().to_be_bytes());
     hasher.update(&[key.protocol(), key.algorithm().to_int()]);
-    hasher.update(key.public_key());
+    hasher.update(*key.public_key());
     hasher.update(octets);
     hasher.finalize()
 }

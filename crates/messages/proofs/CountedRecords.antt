@@ -1,11 +1,11 @@
 -- A message has no more records than its header counts.
 use Rattle.std.proofs.Common.{arith, Fits, w8, ◌≡◌, ℕ, zero, suc, ◌+◌, ◌*◌, ◌<◌, ◌≤◌, length, List, [], ◌∷◌, get_or, refl, sym, map, ap, ◌∙◌, inl, inr}
-use Rattle.std.specs.Prelude.{IfOk, Option, Some, None, Result, Ok, Err}
+use Rattle.std.specs.Prelude.{IfOk, IsOk, Option, Some, None, Result, Ok, Err}
 use Rattle.std.proofs.lemmas.List.{length-map}
 use Rattle.messages.specs.Record.{spelled}
 use Rattle.messages.specs.declared.view.ViewRecord.{ViewRecord}
 use Rattle.std.proofs.lemmas.Option.{slice_get_cases, get_or_from_slice_get}
-use Rattle.records.specs.View.{Gives}
+use Rattle.records.specs.View.{Gives, records_read}
 use Rattle.records.specs.declared.message.MessageError.{MessageError}
 use Rattle.records.specs.declared.message.MessageError.TheVariants.{ShortInput}
 use Rattle.records.specs.Message.{◌>>=◌, Asked, Message, Spelled, octet_at, u16_at, asked_at, record_at, records_at, one_question, message}
@@ -23,6 +23,14 @@ records_at-length (suc n) k m p rs h =
     let ok = more.2 in
     let e : rs ≡ one.0.0 ∷ more.0 = cc in
     ap length e ∙ ap suc (records_at-length n k m one.0.1 more.0 more.1)
+
+-- of records that are known to be there
+pub read_length : (n : ℕ) (m : List ℕ) (p : ℕ) → IsOk (records_at n pointer_limit m p) → length (records_read n m p) ≡ n
+read_length n m p h = go (records_at n pointer_limit m p) refl h
+  where
+    go : (r : Result (List Spelled) MessageError) → records_at n pointer_limit m p ≡ r → IsOk r → length (elim r as (λ _. List Spelled) [ Ok rs ↦ rs | Err e ↦ [] ]) ≡ n
+    go (Ok rs) e h = records_at-length n pointer_limit m p rs e
+    go (Err f) e h = cc
 
 octet-small : (m : List ℕ) (p b : ℕ) → ((i : ℕ) → i < length m → get_or m i 0 < 256) → octet_at m p ≡ Ok b → b < 256
 octet-small m p b small h =

@@ -1,7 +1,9 @@
-pub mod MessageBitmap
 pub mod MessageRecords
 pub mod CountedRecords
 pub mod MessageWritten
 pub mod MessageWhole
 pub mod MessageSignatures
 pub mod MessageData
+pub mod ReadNames
+pub mod DataParts
+pub mod DataRead

@@ -9,7 +9,7 @@ use Rattle.definitions.specs.Name.{Name, IsName, wire, wire_len, low}
 use Rattle.definitions.specs.Signing.{Fields}
 use Rattle.definitions.specs.Limits.{pointer_limit}
 use Rattle.records.specs.declared.message.MessageError.{MessageError}
-use Rattle.records.specs.Message.{Spelled, owner_at, if_true, pair, quad, name_upto, name_in, rrsig_at, rrsig_fields}
+use Rattle.records.specs.Message.{Spelled, owner_at, fits, if_true, pair, quad, name_upto, name_in, rrsig_at, rrsig_fields}
 use Rattle.records.specs.Message as message
 use Rattle.signed_data.specs.Rrsig.{rrsig_data, fields_numbers}
 use Rattle.messages.specs.WrittenLaws.{AreFields}
@@ -42,13 +42,13 @@ quad_here m p n xs small s =
     (λ i. high i * 65536 + low_half i) ∙ value
 
 -- the octets of the numbers, and those behind them
-abbrev behind_ttl : Fields → List ℕ → List ℕ
+abbrev pub behind_ttl : Fields → List ℕ → List ℕ
 behind_ttl f xs = to_be_bytes w32 f.expiration ++ (to_be_bytes w32 f.inception ++ (to_be_bytes w16 f.tag ++ xs))
 
-abbrev numbers_then : Fields → List ℕ → List ℕ
+abbrev pub numbers_then : Fields → List ℕ → List ℕ
 numbers_then f xs = to_be_bytes w16 f.covered ++ (f.algorithm ∷ (f.labels ∷ (to_be_bytes w32 f.ttl ++ behind_ttl f xs)))
 
-numbers_here : (m : List ℕ) (p : ℕ) (f : Fields) (xs : List ℕ) (signer : Name) → AreFields f → StandsAt m p (numbers_then f xs) → rrsig_fields m p signer ≡ record f { signer = signer }
+pub numbers_here : (m : List ℕ) (p : ℕ) (f : Fields) (xs : List ℕ) (signer : Name) → AreFields f → StandsAt m p (numbers_then f xs) → rrsig_fields m p signer ≡ record f { signer = signer }
 numbers_here m p f xs signer are s =
     let ttls = to_be_bytes w32 f.ttl in
     let ends = to_be_bytes w32 f.expiration in
@@ -78,7 +78,9 @@ data_parts f signature behind =
 
 abbrev from_signer : List ℕ → Spelled → Option (Name × ℕ) → Option (Fields × List ℕ)
 from_signer m r None = None
-from_signer m r (Some s) = Some (rrsig_fields m r.start (low s.0), slice_range m s.1 (message.behind r))
+from_signer m r (Some s) =
+    let signature = slice_range m s.1 (message.behind r) in
+    if_true (fits (slice_range m r.start (r.start + 18) ++ (wire s.0 ++ signature))) (rrsig_fields m r.start (low s.0), signature)
 
 abbrev when : List ℕ → Spelled → Bool → Option (Fields × List ℕ)
 when m r true = from_signer m r (name_in pointer_limit m r (r.start + 18))
@@ -88,14 +90,21 @@ abbrev upto : ℕ → Result (Name × ℕ) MessageError → Option (Name × ℕ)
 upto limit (Err e) = None
 upto limit (Ok n) = if_true (leb n.1 limit) n
 
--- a name within a record's data
-pub name_here : (m : List ℕ) (r : Spelled) (p q : ℕ) (n : Name) (rest : List ℕ) → IsName n → StandsAt m p (wire n ++ rest) → q ≡ p + wire_len n → q ≤ message.behind r → name_in pointer_limit m r p ≡ Some (n, q)
-name_here m r p q n rest name s e near =
-    let limit = message.behind r in
-    ap (upto limit) (owner_here m p n rest name s) ∙ ap (λ k. upto limit (Ok (n, k))) (sym e) ∙ ap (λ b. if_true b (n, q)) (le-leb q limit near)
+abbrev when_inside : Bool → Option (Name × ℕ) → Option (Name × ℕ)
+when_inside b o = elim b [ false ↦ None | true ↦ o ]
 
-pub signature_here : (m : List ℕ) (f : Fields) (signature behind : List ℕ) (r : Spelled) → AreFields f → StandsAt m r.start (rrsig_data f signature ++ behind) → r.length ≡ length (rrsig_data f signature) → rrsig_at pointer_limit m r ≡ Some (record f { signer = low f.signer }, signature)
-signature_here m f signature behind r are stands size =
+-- data that stand in a message
+pub data_inside : (m : List ℕ) (r : Spelled) (d rest : List ℕ) → StandsAt m r.start (d ++ rest) → r.length ≡ length d → message.behind r ≤ length m
+data_inside m r d rest s size = omega (arith, ap length s.whole, length-append s.front (d ++ rest), length-append d rest, s.place, size)
+
+-- a name within a record's data
+pub name_here : (m : List ℕ) (r : Spelled) (p q : ℕ) (n : Name) (rest : List ℕ) → message.behind r ≤ length m → IsName n → StandsAt m p (wire n ++ rest) → q ≡ p + wire_len n → q ≤ message.behind r → name_in pointer_limit m r p ≡ Some (n, q)
+name_here m r p q n rest inside name s e near =
+    let limit = message.behind r in
+    ap (λ b. when_inside b (upto limit (owner_at pointer_limit m p))) (le-leb limit (length m) inside) ∙ ap (upto limit) (owner_here m p n rest name s) ∙ ap (λ k. upto limit (Ok (n, k))) (sym e) ∙ ap (λ b. if_true b (n, q)) (le-leb q limit near)
+
+pub signature_here : (m : List ℕ) (f : Fields) (signature behind : List ℕ) (r : Spelled) → AreFields f → length (rrsig_data f signature) ≤ 65535 → StandsAt m r.start (rrsig_data f signature ++ behind) → r.length ≡ length (rrsig_data f signature) → rrsig_at pointer_limit m r ≡ Some (record f { signer = low f.signer }, signature)
+signature_here m f signature behind r are few stands size =
     let start = r.start in
     let n = f.signer in
     let q = start + 18 + wire_len n in
@@ -105,7 +114,11 @@ signature_here m f signature behind r are stands size =
     let whole : r.length ≡ 18 + wire_len n + length signature = omega (arith, size, length-append (fields_numbers f ++ wire n) signature, length-append (fields_numbers f) (wire n), wire-length n) in
     let long : 18 ≤ r.length = omega (arith, whole) in
     let near : q ≤ message.behind r = omega (arith, whole) in
-    let signer : name_in pointer_limit m r (start + 18) ≡ Some (n, q) = name_here m r (start + 18) q n _ are.signer at_signer refl near in
+    let signer : name_in pointer_limit m r (start + 18) ≡ Some (n, q) = name_here m r (start + 18) q n _ (data_inside m r (rrsig_data f signature) behind stands size) are.signer at_signer refl near in
     let fields = numbers_here m start f (signer_then f signature behind) (low n) are s in
     let octets = range_there m at_signature.front signature behind q (message.behind r) at_signature.whole at_signature.place (omega (arith, whole)) in
-    ap (when m r) (le-leb 18 r.length long) ∙ ap (from_signer m r) signer ∙ (λ i. Some (fields i, octets i))
+    let numbers = range_there m s.front (fields_numbers f) (signer_then f signature behind) start (start + 18) s.whole s.place refl in
+    let sizes : length (fields_numbers f ++ (wire n ++ signature)) ≤ 65535 = omega (arith, few, length-append (fields_numbers f ++ wire n) signature, length-append (fields_numbers f) (wire n), length-append (fields_numbers f) (wire n ++ signature), length-append (wire n) signature) in
+    let fitting : fits (slice_range m start (start + 18) ++ (wire n ++ slice_range m q (message.behind r))) ≡ true =
+    (λ i. fits (numbers i ++ (wire n ++ octets i))) ∙ le-leb (length (fields_numbers f ++ (wire n ++ signature))) 65535 sizes in
+    ap (when m r) (le-leb 18 r.length long) ∙ ap (from_signer m r) signer ∙ ap (λ b. if_true b (rrsig_fields m start (low n), slice_range m q (message.behind r))) fitting ∙ (λ i. Some (fields i, octets i))

@@ -1,22 +1,39 @@
 -- The readings of records and of their data, as contracts see them.
 use Rattle.std.specs.Prelude.{ℕ, List}
-use Rattle.definitions.specs.Name.{Name, low}
-use Rattle.definitions.specs.Signing.{Fields}
-use Rattle.records.specs.Message.{Spelled}
+use Rattle.definitions.specs.Name.{Name}
+use Rattle.definitions.specs.Signing.{Fields, lowered_signer}
+use Rattle.names_parser.specs.Reader.{Reader}
+use Rattle.records.specs.Message.{Spelled, behind}
 use Rattle.messages.specs.declared.view.ViewRecord.{ViewRecord}
-use Rattle.messages.specs.declared.rdata.RrsigView.{RrsigView}
-use Rattle.messages.specs.declared.rdata.NsecView.{NsecView}
+use Rattle.names_parsed.specs.Parsed.{parsed_name}
+use Rattle.names_parsed.specs.declared.parsed.ParsedName.{ParsedName}
+use Rattle.denial_data.specs.Protos as protos
+use Rattle.denial_data.specs.RrsigData.{RrsigData}
+use Rattle.denial_links.specs.NsecData.{NsecData}
 
 abbrev pub spelled : ViewRecord → Spelled
 spelled r = record { owner = r.owner; rtype = r.rtype; class = r.class; ttl = r.ttl; start = r.start; length = r.length }
 
--- the fields of a signature, its signer in canonical form
-abbrev pub fields_of : RrsigView → Fields
-fields_of s = record { covered = s.type_covered; algorithm = s.algorithm; labels = s.labels; ttl = s.original_ttl; expiration = s.expiration; inception = s.inception; tag = s.key_tag; signer = low s.signer }
+-- a reader of a record's data
+abbrev pub reader_of : List ℕ → Spelled → Reader
+reader_of m r = record { octets = m; place = r.start; end = behind r }
+
+-- a signature in a message
+abbrev pub Signature : Type 0
+Signature = RrsigData ParsedName
+
+-- its fields, the signer as spelled
+abbrev pub fields_read : Signature → Fields
+fields_read s = protos.fields_of parsed_name s.proto
+
+-- and in canonical form
+abbrev pub fields_of : Signature → Fields
+fields_of s = lowered_signer (fields_read s)
 
 -- with its octets
-abbrev pub signature_of : RrsigView → Fields × List ℕ
-signature_of s = (fields_of s, s.signature.now)
+abbrev pub signature_of : Signature → Fields × List ℕ
+signature_of s = (fields_of s, s.signature)
 
-abbrev pub link_of : NsecView → Name × List ℕ
-link_of l = (l.next, l.types.now)
+-- a link in a message, its next name as spelled
+abbrev pub link_of : NsecData ParsedName → Name × List ℕ
+link_of l = (parsed_name l.next_name, l.types)

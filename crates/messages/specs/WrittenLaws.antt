@@ -1,5 +1,5 @@
 -- What is written reads back, whatever stands before and behind it.
-use Rattle.std.specs.Prelude.{◌≡◌, ℕ, ◌+◌, ◌<◌, List, [], ◌∷◌, ◌++◌, length, true, Ok, Some}
+use Rattle.std.specs.Prelude.{◌≡◌, ℕ, ◌+◌, ◌<◌, ◌≤◌, List, [], ◌∷◌, ◌++◌, length, true, Ok, Some}
 use Rattle.std.specs.List.{AllByRecursion, AllZip}
 use Rattle.definitions.specs.Name.{Name, IsName, wire, wire_len, low}
 use Rattle.definitions.specs.Bitmap.{is_bitmap}
@@ -66,7 +66,7 @@ pub record AreFields (f : Fields) : Type 0 where
 
 -- a signature's data read as its fields, the signer in canonical form, and its octets
 abbrev pub SignaturesReadBack : Type 0
-SignaturesReadBack = (f : Fields) (signature before behind : List ℕ) (r : Spelled) → AreFields f → r.start ≡ length before → r.length ≡ length (rrsig_data f signature)
+SignaturesReadBack = (f : Fields) (signature before behind : List ℕ) (r : Spelled) → AreFields f → length (rrsig_data f signature) ≤ 65535 → r.start ≡ length before → r.length ≡ length (rrsig_data f signature)
     → rrsig_at pointer_limit (before ++ (rrsig_data f signature ++ behind)) r ≡ Some (record f { signer = low f.signer }, signature)
 
 -- The data of NS, SOA and NSEC records, written with their names uncompressed, read as their canonical form: the names
@@ -76,5 +76,5 @@ pub record DataReadBack : Type 0 where
       → ns_data pointer_limit (before ++ (wire n ++ behind)) r ≡ Some (wire (low n))
   pub soa : (mname rname : Name) (numbers before behind : List ℕ) (r : Spelled) → IsName mname → IsName rname → length numbers ≡ 20 → r.start ≡ length before → r.length ≡ length (wire mname ++ wire rname ++ numbers)
       → soa_data pointer_limit (before ++ (wire mname ++ wire rname ++ numbers ++ behind)) r ≡ Some (wire (low mname) ++ wire (low rname) ++ numbers)
-  pub nsec : (next : Name) (bits before behind : List ℕ) (r : Spelled) → IsName next → is_bitmap bits ≡ true → r.start ≡ length before → r.length ≡ length (wire next ++ bits)
+  pub nsec : (next : Name) (bits before behind : List ℕ) (r : Spelled) → IsName next → is_bitmap bits ≡ true → length (wire next ++ bits) ≤ 65535 → r.start ≡ length before → r.length ≡ length (wire next ++ bits)
       → nsec_data pointer_limit (before ++ (wire next ++ bits ++ behind)) r ≡ Some (wire next ++ bits)

@@ -1,7 +1,6 @@
 //! Messages as bytes, read in place (RFC 1035, 4), and the question that a message answers.
 #![tactic(auto)]
 
-pub mod bitmap;
 pub mod laws;
 mod octets;
 pub mod question;

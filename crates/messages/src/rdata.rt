@@ -1,101 +1,64 @@
-//! The data of records within a message (RFC 1035, 3.3; RFC 4034, 3.1 and 4.1), read out of it.
-ghost use Rattle.std.specs.Prelude.{◌≡◌, ◌+◌, ◌<◌, ◌≤◌, length, IfOk, IfSome};
+//! The data of records within a message (RFC 1035, 3.3; RFC 4034, 3.1 and 4.1), read in place.
+ghost use Rattle.std.specs.Prelude.{◌≡◌, ◌+◌, ◌<◌, ◌≤◌, length, IfOk, IfSome, IfNone};
 ghost use Rattle.definitions.specs.Limits.{pointer_limit};
 ghost use Rattle.std.specs.Option.{option_map};
-ghost use Rattle.records.specs.Message.{rrsig_at, nsec_at, canonical_data, ns_data, soa_data, nsec_data, name_upto, pair, quad};
+ghost use Rattle.records.specs.Message.{rrsig_at, nsec_at, canonical_data, data_of, ns_data, soa_data, nsec_data};
 ghost use Rattle.records.specs.Items.{octets_in};
-ghost use Rattle.records.specs.View.{named};
+ghost use Rattle.names_parsed.specs.Parsed.{parsed_name};
+ghost use Rattle.plain.specs.Ns.{ns_canonical};
+ghost use Rattle.plain.specs.Soa.{soa_canonical};
 
-use crate::bitmap::is_bitmap;
 use crate::octets::clipped;
 use crate::view::ViewRecord;
+use denial_data::{Nsec, Rrsig};
+use names_data::data::ComposeRecordData;
 use names_data::rtype::Rtype;
-use plain::numbers::{SecurityAlgorithm, Ttl};
-use records::names::{Name, ParsedName, ZoneName};
+use names_labels::traits::Labels;
+use names_parsed::parsed::ParsedName;
+use names_parser::parser::Parser;
+use plain::ns::Ns;
+use plain::soa::Soa;
 use std::alloc::{AllocError, Global};
 
-/// A signature within a message (RFC 4034, 3.1); its signer as spelled.
-#[derive(Debug, Drop)]
-pub struct RrsigView<'a> {
-    pub type_covered: Rtype,
-    pub algorithm: SecurityAlgorithm,
-    pub labels: u8,
-    pub original_ttl: Ttl,
-    pub expiration: u32,
-    pub inception: u32,
-    pub key_tag: u16,
-    pub signer: Name<Vec<u8>>,
-    pub signature: &'a [u8],
-}
-
-/// A link of the chain of names within a message (RFC 4034, 4.1); its next name as spelled.
-#[derive(Debug, Drop)]
-pub struct NsecView<'a> {
-    pub next: Name<Vec<u8>>,
-    pub types: &'a [u8],
-}
-
-impl<'a> RrsigView<'a> {
-    ghost use Rattle.messages.specs.Record.{spelled, signature_of};
-
-    /// The signature that a record's data spell.
-    pub fn read(
-        alloc: Global,
-        message: &'a [u8],
-        entry: &ViewRecord,
-    ) -> Result<Option<RrsigView<'a>>, AllocError>
-        ensures { IfOk result (λ o.
-            option_map signature_of o ≡ rrsig_at pointer_limit message.now (spelled entry.now)) }
-    {
-        if entry.length < 18 {
-            return Ok(None);
-        }
-        let start = entry.start;
-        let Some((signer, end)) = name_in(message, start + 18, start + entry.length) else {
-            return Ok(None);
-        };
-        let signer = signer.to_name(alloc)?;
-        Ok(Some(RrsigView {
-            type_covered: Rtype::from_int(pair(message, start)),
-            algorithm: SecurityAlgorithm::from_int(message[start + 2]),
-            labels: message[start + 3],
-            original_ttl: Ttl::from_secs(quad(message, start + 4)),
-            expiration: quad(message, start + 8),
-            inception: quad(message, start + 12),
-            key_tag: pair(message, start + 16),
-            signer,
-            signature: clipped(message, end, start + entry.length),
-        }))
-    }
-}
-
-impl<'a> NsecView<'a> {
-    ghost use Rattle.messages.specs.Record.{spelled, link_of};
-
-    /// The link that a record's data spell.
-    pub fn read(
-        alloc: Global,
-        message: &'a [u8],
-        entry: &ViewRecord,
-    ) -> Result<Option<NsecView<'a>>, AllocError>
-        ensures { IfOk result (λ o.
-            option_map link_of o ≡ nsec_at pointer_limit message.now (spelled entry.now)) }
-    {
-        let end = entry.start + entry.length;
-        let Some((next, behind)) = name_in(message, entry.start, end) else {
-            return Ok(None);
-        };
-        let types = clipped(message, behind, end);
-        if !is_bitmap(types) {
-            return Ok(None);
-        }
-        let next = next.to_name(alloc)?;
-        Ok(Some(NsecView { next, types }))
-    }
-}
-
 impl<'a> ViewRecord<'a> {
-    ghost use Rattle.messages.specs.Record.{spelled};
+    ghost use Rattle.messages.specs.Record.{spelled, reader_of, signature_of, link_of};
+
+    /// The octets of the data, so far as the message has them.
+    pub fn octets<'m>(&self, message: &'m [u8]) -> &'m [u8]
+        ensures { result.now ≡ data_of message.now (spelled self.now) }
+    {
+        clipped(message, self.start, self.start + self.length)
+    }
+
+    /// The signature that the data spell (RFC 4034, 3.1).
+    pub fn signature<'m>(&self, message: &'m [u8]) -> Option<Rrsig<&'m [u8], ParsedName<'m>>>
+        ensures { option_map signature_of result
+            ≡ rrsig_at pointer_limit message.now (spelled self.now) }
+    {
+        let mut parser = self.parser(message)?;
+        match Rrsig::parse(&mut parser) {
+            Ok(signature) => {
+                signature.keeps();
+                Some(signature)
+            }
+            Err(_) => None,
+        }
+    }
+
+    /// The link of the chain of names that the data spell (RFC 4034, 4.1).
+    pub fn link<'m>(&self, message: &'m [u8]) -> Option<Nsec<&'m [u8], ParsedName<'m>>>
+        ensures { option_map link_of result
+            ≡ nsec_at pointer_limit message.now (spelled self.now) }
+    {
+        let mut parser = self.parser(message)?;
+        match Nsec::parse(&mut parser) {
+            Ok(link) => {
+                let _next = Labels::label_count(link.next_name());
+                Some(link)
+            }
+            Err(_) => None,
+        }
+    }
 
     /// The canonical data (RFC 4034, 6.2); None where the data don't read as their type's.
     pub fn canonical_data(
@@ -110,7 +73,7 @@ impl<'a> ViewRecord<'a> {
             2 => self.ns_data(alloc, message),
             6 => self.soa_data(alloc, message),
             47 => self.nsec_data(alloc, message),
-            _ => Ok(Some(clipped(message, self.start, self.start + self.length).to_vec(alloc)?)),
+            _ => Ok(Some(self.octets(message).to_vec(alloc)?)),
         }
     }
 
@@ -119,16 +82,10 @@ impl<'a> ViewRecord<'a> {
         ensures { IfOk result (λ o.
             octets_in o ≡ ns_data pointer_limit message.now (spelled self.now)) }
     {
-        let end = self.start + self.length;
-        let Some((name, behind)) = name_in(message, self.start, end) else {
-            return Ok(None);
-        };
-        if behind != end {
-            return Ok(None);
+        match self.name_server(message) {
+            None => Ok(None),
+            Some(ns) => Ok(Some(canonical_octets(alloc, &ns)?)),
         }
-        let mut data = Vec::new(alloc);
-        name.compose_canonical(&mut data)?;
-        Ok(Some(data))
     }
 
     /// The canonical data of an SOA record (RFC 1035, 3.3.13).
@@ -136,21 +93,10 @@ impl<'a> ViewRecord<'a> {
         ensures { IfOk result (λ o.
             octets_in o ≡ soa_data pointer_limit message.now (spelled self.now)) }
     {
-        let end = self.start + self.length;
-        let Some((mname, middle)) = name_in(message, self.start, end) else {
-            return Ok(None);
-        };
-        let Some((rname, numbers)) = name_in(message, middle, end) else {
-            return Ok(None);
-        };
-        if end - numbers != 20 {
-            return Ok(None);
+        match self.start_of_authority(message) {
+            None => Ok(None),
+            Some(soa) => Ok(Some(canonical_octets(alloc, &soa)?)),
         }
-        let mut data = Vec::new(alloc);
-        mname.compose_canonical(&mut data)?;
-        rname.compose_canonical(&mut data)?;
-        data.extend_from_slice(clipped(message, numbers, end))?;
-        Ok(Some(data))
     }
 
     /// The canonical data of an NSEC record, whose next name isn't lowered (RFC 6840, 5.1).
@@ -158,39 +104,62 @@ impl<'a> ViewRecord<'a> {
         ensures { IfOk result (λ o.
             octets_in o ≡ nsec_data pointer_limit message.now (spelled self.now)) }
     {
-        let Some(link) = NsecView::read(alloc, message, self)? else {
-            return Ok(None);
-        };
-        let mut data = Vec::new(alloc);
-        link.next.compose(&mut data)?;
-        data.extend_from_slice(link.types)?;
-        Ok(Some(data))
+        match self.link(message) {
+            None => Ok(None),
+            Some(link) => Ok(Some(canonical_octets(alloc, &link)?)),
+        }
+    }
+
+    /// The NS data that the data spell.
+    fn name_server<'m>(&self, message: &'m [u8]) -> Option<Ns<ParsedName<'m>>>
+        ensures { option_map (λ d. ns_canonical parsed_name d) result
+            ≡ ns_data pointer_limit message.now (spelled self.now) }
+    {
+        let mut parser = self.parser(message)?;
+        match Ns::parse(&mut parser) {
+            Ok(ns) => {
+                let _server = Labels::label_count(ns.nsdname());
+                Some(ns)
+            }
+            Err(_) => None,
+        }
+    }
+
+    /// The SOA data that the data spell.
+    fn start_of_authority<'m>(&self, message: &'m [u8]) -> Option<Soa<ParsedName<'m>>>
+        ensures { option_map (λ d. soa_canonical parsed_name d) result
+            ≡ soa_data pointer_limit message.now (spelled self.now) }
+    {
+        let mut parser = self.parser(message)?;
+        match Soa::parse(&mut parser) {
+            Ok(soa) => {
+                let _first = Labels::label_count(soa.mname());
+                let _second = Labels::label_count(soa.rname());
+                Some(soa)
+            }
+            Err(_) => None,
+        }
+    }
+
+    /// What reads the data, where the message has them.
+    fn parser<'m>(&self, message: &'m [u8]) -> Option<Parser<'m>>
+        ensures inside { IfSome result (λ p. (p ≡ reader_of message.now (spelled self.now))
+            × (self.now.start + self.now.length ≤ length message.now)) }
+        ensures outside { IfNone result (length message.now < self.now.start + self.now.length) }
+    {
+        let mut parser = Parser::from_ref(message);
+        parser.seek(self.start).ok()?;
+        parser.parse_parser(self.length).ok()
     }
 }
 
-/// The name at a place of a message and the place behind it, where that is no further than a limit.
-fn name_in(message: &[u8], start: usize, limit: usize) -> Option<(ParsedName<'_>, usize)>
-    ensures value { option_map (λ r. named r.0 r.1) result
-        ≡ name_upto pointer_limit message.now start limit }
-    ensures inside { IfSome result (λ r.
-        (start < r.1) × (r.1 ≤ limit) × (r.1 ≤ length message.now)) }
+/// Data in canonical form.
+fn canonical_octets<D: ComposeRecordData>(alloc: Global, data: &D) -> Result<Vec<u8>, AllocError>
+    ensures { IfOk result (λ v. v.items ≡ D.canonical_rdata data.now) }
 {
-    let (name, end) = ParsedName::parse(message, start).ok()?;
-    (end <= limit).then_some((name, end))
-}
-
-/// The 16-bit number at a place that is there.
-fn pair(message: &[u8], at: usize) -> u16
-    requires { at + 2 ≤ length message.now }
-    ensures { result ≡ pair message.now at }
-{
-    u16::from(message[at]) * 256 + u16::from(message[at + 1])
-}
-
-/// The 32-bit number at a place that is there.
-fn quad(message: &[u8], at: usize) -> u32
-    requires { at + 4 ≤ length message.now }
-    ensures { result ≡ quad message.now at }
-{
-    u32::from(pair(message, at)) * 65536 + u32::from(pair(message, at + 2))
+    let mut octets = Vec::with_capacity(alloc, 64)?;
+    match data.compose_canonical_rdata(&mut octets) {
+        Ok(()) => Ok(octets),
+        Err(_) => Err(AllocError),
+    }
 }

@@ -23,6 +23,7 @@ pub struct ViewRecord<'a> {
     pub start: usize,
     pub length: usize,
     ghost fits: { start + length < 2 ^ 64 },
+    ghost few: { length ≤ 65535 },
 }
 
 impl<'a> ViewRecord<'a> {
@@ -93,6 +94,13 @@ impl<'a> MessageView<'a> {
             rtype: self.rtype,
             class: self.class,
         }
+    }
+
+    /// How many records all sections have.
+    pub fn record_count(&self) -> usize
+        ensures { result ≡ length self.now.records }
+    {
+        self.count
     }
 
     /// The records of all sections in order.

@@ -31,7 +31,7 @@ pub owner_none : (k : ℕ) (m : List ℕ) (p : ℕ) (f : ReadFault) → name_at 
 unfolding owner_at
 owner_none k m p f h = ap faulted h
 
-limit_is : pointer_limit ≡ 255
+pub limit_is : pointer_limit ≡ 255
 unfolding pointer_limit
 limit_is = refl
 

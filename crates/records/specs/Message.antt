@@ -1,6 +1,6 @@
 -- Messages by the field layout of RFC 1035, 4: one question, and the records of all sections in order. The
 -- first argument is how many pointers may be followed in a name.
-use Rattle.std.specs.Prelude.{ℕ, zero, suc, ◌+◌, ◌*◌, Bool, true, false, List, [], ◌∷◌, ◌++◌, length, Option, Some, None, Result, Ok, Err, slice_get, slice_range, slice_index, nat_le, nat_eq}
+use Rattle.std.specs.Prelude.{ℕ, zero, suc, ◌+◌, ◌*◌, Bool, true, false, ◌&&◌, List, [], ◌∷◌, ◌++◌, length, Option, Some, None, Result, Ok, Err, slice_get, slice_range, slice_index, nat_le, nat_eq}
 use Rattle.definitions.specs.Name.{Name, wire, low}
 use Rattle.definitions.specs.Signing.{Fields}
 use Rattle.definitions.specs.Bitmap.{is_bitmap}
@@ -132,9 +132,13 @@ behind r = r.start + r.length
 abbrev pub name_upto : ℕ → List ℕ → ℕ → ℕ → Option (Name × ℕ)
 name_upto k m p limit = elim (owner_at k m p) [ Err e ↦ None | Ok n ↦ if_true (nat_le n.1 limit) n ]
 
--- a name within a record's data
+-- a name within a record's data, which the message has
 abbrev pub name_in : ℕ → List ℕ → Spelled → ℕ → Option (Name × ℕ)
-name_in k m r p = name_upto k m p (behind r)
+name_in k m r p = elim (nat_le (behind r) (length m)) [ false ↦ None | true ↦ name_upto k m p (behind r) ]
+
+-- octets of data, names written out, are at most as many as their length can say (RFC 1035, 3.2.1)
+abbrev pub fits : List ℕ → Bool
+fits octets = nat_le (length octets) 65535
 
 -- A signature's fields, its signer in canonical form, and its octets (RFC 4034, 3.1); None where the data do not read so.
 abbrev pub rrsig_at : ℕ → List ℕ → Spelled → Option (Fields × List ℕ)
@@ -142,7 +146,9 @@ rrsig_at k m r = elim (nat_le 18 r.length) [
   | false ↦ None
   | true ↦ elim (name_in k m r (r.start + 18)) [
     | None ↦ None
-    | Some signer ↦ Some (rrsig_fields m r.start (low signer.0), slice_range m signer.1 (behind r))
+    | Some signer ↦
+        let signature = slice_range m signer.1 (behind r) in
+        if_true (fits (slice_range m r.start (r.start + 18) ++ (wire signer.0 ++ signature))) (rrsig_fields m r.start (low signer.0), signature)
   ]
 ]
 
@@ -164,7 +170,7 @@ soa_data k m r = elim (name_in k m r r.start) [
 abbrev pub nsec_at : ℕ → List ℕ → Spelled → Option (Name × List ℕ)
 nsec_at k m r = elim (name_in k m r r.start) [
   | None ↦ None
-  | Some n ↦ let bits = slice_range m n.1 (behind r) in if_true (is_bitmap bits) (n.0, bits)
+  | Some n ↦ let bits = slice_range m n.1 (behind r) in if_true (is_bitmap bits && fits (wire n.0 ++ bits)) (n.0, bits)
 ]
 
 -- an NSEC record's next name isn't lowered (RFC 6840, 5.1)

@@ -15,11 +15,13 @@ pub use names_traits::to_name::ToName;
 pub use names_wire::octets::Octets;
 use std::alloc::{AllocError, Global};
 
+mod above;
 pub mod parsed;
 mod wire;
 
+pub use above::{is_above, is_at_or_above};
 pub use parsed::ParsedName;
-pub use wire::{NameError, name_at_place, name_from_octets};
+pub use wire::{NameError, name_at_place, name_from_octets, written_out};
 
 /// What a zone asks of a name.
 pub trait ZoneName: Labels {

@@ -1,3 +1,4 @@
-pub mod TagSum
 pub mod TagPlaces
 pub mod SignOctets
+pub mod SpelledFields
+pub mod KeyData

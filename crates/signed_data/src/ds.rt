@@ -1,78 +1,15 @@
-//! Digests of delegated keys (RFC 4034, 5).
-ghost use Rattle.std.specs.Prelude.{◌≡◌};
+//! What a zone asks of digests of its keys, beside what all DS data have (RFC 4034, 5).
+ghost use Rattle.std.specs.Prelude.{◌≡◌, IfOk};
 
-use plain::numbers::{DigestAlgorithm, SecurityAlgorithm};
-use records::names::Octets;
-use std::marker::Model;
+pub use denial_keys::ds::Ds;
+use names_data::data::ComposeRecordData;
+use std::alloc::{AllocError, Global};
 
-/// The data of a DS record. A contract sees tag, algorithm, digest type and digest.
-#[derive(Debug, Drop)]
-pub struct Ds<Octs: Octets> {
-    key_tag: u16,
-    algorithm: SecurityAlgorithm,
-    digest_type: DigestAlgorithm,
-    digest: Octs,
-}
-
-impl<Octs: Octets> Model for Ds<Octs> {
-    ghost use Rattle.definitions.specs.Dnskey.{Ds};
-
-    ghost Value = { Ds };
-
-    ghost view = { λ d. record {
-      tag = d.key_tag;
-      algorithm = d.algorithm;
-      digest_type = d.digest_type;
-      digest = Octs.bytes d.digest;
-    } };
-}
-
-impl<Octs: Octets> Ds<Octs> {
-    /// A digest of its fields.
-    pub fn new(
-        key_tag: u16,
-        algorithm: SecurityAlgorithm,
-        digest_type: DigestAlgorithm,
-        digest: Octs,
-    ) -> Self
-        ensures key_tag { result.tag ≡ key_tag }
-        ensures algorithm { result.algorithm ≡ algorithm }
-        ensures digest_type { result.digest_type ≡ digest_type }
-        ensures digest { result.digest ≡ Octs.bytes digest }
-    {
-        Ds {
-            key_tag,
-            algorithm,
-            digest_type,
-            digest,
-        }
-    }
-
-    /// The tag of the key (RFC 4034, 5.1.1).
-    pub fn key_tag(&self) -> u16
-        ensures { result ≡ self.now.tag }
-    {
-        self.key_tag
-    }
-
-    /// The algorithm of the key (RFC 4034, 5.1.2).
-    pub fn algorithm(&self) -> SecurityAlgorithm
-        ensures { result ≡ self.now.algorithm }
-    {
-        self.algorithm
-    }
-
-    /// How the digest is made (RFC 4034, 5.1.3).
-    pub fn digest_type(&self) -> DigestAlgorithm
-        ensures { result ≡ self.now.digest_type }
-    {
-        self.digest_type
-    }
-
-    /// The digest's octets (RFC 4034, 5.1.4).
-    pub fn digest(&self) -> &[u8]
-        ensures { result.now ≡ self.now.digest }
-    {
-        self.digest.as_slice()
-    }
+/// The same data once more, with octets of their own.
+pub fn copied(alloc: Global, ds: &Ds<Vec<u8>>) -> Result<Ds<Vec<u8>>, AllocError>
+    ensures { IfOk result (λ d. d ≡ ds.now) }
+{
+    let _len = ds.rdlen(false);
+    let digest = ds.digest().as_slice().to_vec(alloc)?;
+    Ok(Ds::new_unchecked(ds.key_tag(), ds.algorithm(), ds.digest_type(), digest))
 }

@@ -6,5 +6,4 @@ pub mod ds;
 pub mod generate;
 pub mod hasher;
 pub mod ranked;
-pub mod rrsig;
 pub mod signed;

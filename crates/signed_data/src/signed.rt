@@ -1,50 +1,92 @@
 //! The octets that a signature is made over (RFC 4034, 3.1.8.1).
 ghost use Rattle.std.specs.Prelude.{◌≡◌, ◌++◌, map, IfOk, OnOk};
 ghost use Rattle.definitions.specs.Name.{wire};
+ghost use Rattle.denial_data.specs.Protos.{fields_of};
 ghost use Rattle.records.specs.Items.{items_of};
-ghost use Rattle.definitions.specs.Signing.{signed_octets, signed_owner};
-ghost use Rattle.signed_data.specs.Rrsig.{record_head, with_length};
+ghost use Rattle.definitions.specs.Signing.{fields_data, signed_octets, signed_owner};
+ghost use Rattle.signed_data.specs.Rrsig.{record_head, spelled_fields, with_length};
 
-use crate::rrsig::ProtoRrsig;
+use denial_data::ProtoRrsig;
 use plain::numbers::Class;
-use records::names::{Name, ZoneName};
+use records::names::{Name, ToName, ZoneName};
 use std::alloc::{AllocError, Global};
 
 /// The octets that a signature of an RRset is made over: the fields, then the records in the order given
 /// (RFC 4034, 3.1.8.1). An owner with more labels than the fields count is signed as the wildcard that it
 /// stems from (RFC 4035, 5.3.2). The data are canonical and at most 65,535 octets, as a record's are; the
 /// length that is written is taken modulo 65,536.
-pub fn signed_octets(
+pub fn signed_octets<N: ToName>(
     alloc: Global,
-    fields: &ProtoRrsig,
+    fields: &ProtoRrsig<N>,
     owner: &Name<Vec<u8>>,
     class: Class,
     canonical: &[Vec<u8>],
 ) -> Result<Vec<u8>, AllocError>
-    ensures { IfOk result (λ v.
-        v.items ≡ signed_octets fields.now owner.now class (items_of canonical.now)) }
+    ensures { let f = fields_of N.name fields.now in
+        IfOk result (λ v. v.items ≡ signed_octets f owner.now class (items_of canonical.now)) }
 {
     let head = signed_head(alloc, fields, owner, class)?;
-    let mut out = Vec::new(alloc);
-    fields.compose_canonical(&mut out)?;
+    let mut out = Vec::with_capacity(alloc, signed_room(&head, canonical))?;
+    compose_signed_fields(fields, &mut out)?;
     for data in canonical {
         compose_signed_record(&head, data, &mut out)?;
     }
     Ok(out)
 }
 
+/// Room for the fields with the longest signer, and for each record what all begin with, two octets and its data.
+fn signed_room(head: &[u8], canonical: &[Vec<u8>]) -> usize {
+    let mut room = 18 + 255;
+    for data in canonical {
+        room = head
+            .len()
+            .saturating_add(2)
+            .saturating_add(data.len())
+            .saturating_add(room);
+    }
+    room
+}
+
+/// Writes the fields as they are signed, the signer in canonical form.
+fn compose_signed_fields<N: ToName>(
+    fields: &ProtoRrsig<N>,
+    out: &mut Vec<u8>,
+) -> Result<(), AllocError>
+    ensures ok { let octets = fields_data (fields_of N.name fields.now) in
+        OnOk result (out.new.items ≡ out.old.items ++ octets) }
+{
+    match fields.compose_canonical(out) {
+        Ok(()) => Ok(()),
+        Err(_) => Err(AllocError),
+    }
+}
+
+/// Writes the fields as a record has them, the signer as spelled (RFC 4034, 3.1).
+pub fn compose_fields<N: ToName>(
+    fields: &ProtoRrsig<N>,
+    out: &mut Vec<u8>,
+) -> Result<(), AllocError>
+    ensures ok { let octets = spelled_fields (fields_of N.name fields.now) in
+        OnOk result (out.new.items ≡ out.old.items ++ octets) }
+{
+    match fields.compose(out) {
+        Ok(()) => Ok(()),
+        Err(_) => Err(AllocError),
+    }
+}
+
 /// What each record of a signed RRset begins with.
-fn signed_head(
+fn signed_head<N: ToName>(
     alloc: Global,
-    fields: &ProtoRrsig,
+    fields: &ProtoRrsig<N>,
     owner: &Name<Vec<u8>>,
     class: Class,
 ) -> Result<Vec<u8>, AllocError>
-    ensures { let f = fields.now in
+    ensures { let f = fields_of N.name fields.now in
         let signed = signed_owner f.labels owner.now in
         IfOk result (λ v. v.items ≡ record_head signed f.covered class f.ttl) }
 {
-    let mut head = Vec::new(alloc);
+    let mut head = Vec::with_capacity(alloc, owner.as_slice().len().saturating_add(8))?;
     compose_signed_owner(alloc, fields.labels(), owner, &mut head)?;
     head.extend_from_slice(&fields.type_covered().to_int().to_be_bytes())?;
     head.extend_from_slice(&class.to_int().to_be_bytes())?;

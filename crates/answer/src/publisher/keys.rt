@@ -19,7 +19,7 @@ use keyset::set::KeySet;
 use keyset::{Action, Available, Error, KeyType, RollType, UnixTime};
 use plain::numbers::{DigestAlgorithm, SecurityAlgorithm};
 use records::names::Name;
-use signed_data::dnskey::Dnskey;
+use signed_data::dnskey::{Dnskey, ZoneKey};
 use signed_data::ds::Ds;
 use signed_data::ranked::{put_data, put_ranked};
 use std::alloc::{AllocError, Global};
@@ -83,7 +83,7 @@ impl KeyKind {
     }
 }
 
-/// A key that a reference is bound to, with its digest of type 2.
+/// A key that a reference is bound to, with its digest of type 2, which a DS record's data hold.
 #[derive(Debug, Drop)]
 pub(crate) struct BoundKey {
     key: Dnskey<Vec<u8>>,
@@ -91,15 +91,19 @@ pub(crate) struct BoundKey {
 }
 
 impl Model for BoundKey {
+    ghost use Rattle.std.specs.Prelude.{◌≤◌, length};
     ghost use Rattle.answer.specs.Bindings.{BoundKey};
 
     ghost Value = { BoundKey };
 
     ghost view = { λ b. record { key = b.key; digest = b.digest.items } };
+
+    ghost invariant = { λ b. length b.digest.items ≤ 65531 };
 }
 
 impl BoundKey {
     pub(crate) fn new(key: Dnskey<Vec<u8>>, digest: Vec<u8>) -> Self
+        requires { length digest.items ≤ 65531 }
         ensures { result ≡ record { key = key; digest = digest.items } }
     {
         BoundKey { key, digest }
@@ -125,7 +129,7 @@ impl BoundKey {
         ensures { IfOk result (λ d. d ≡ ds_of self.now) }
     {
         let digest = self.digest.as_slice().to_vec(alloc)?;
-        Ok(Ds::new(
+        Ok(Ds::new_unchecked(
             self.key.key_tag(),
             self.key.algorithm(),
             DigestAlgorithm::SHA256,
@@ -205,6 +209,7 @@ impl ZoneKeys {
         key: Dnskey<Vec<u8>>,
         digest: Vec<u8>,
     ) -> Result<(), KeyFault>
+        requires { length digest.items ≤ 65531 }
         ensures { let bound : bindings.BoundKey = record { key = key; digest = digest.items } in
             AddsBound self.old self.new result new bound }
     {

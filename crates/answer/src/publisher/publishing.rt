@@ -33,7 +33,7 @@ use names_data::rtype::Rtype;
 use plain::numbers::{Class, DigestAlgorithm, SecurityAlgorithm};
 use records::names::{Name, ZoneName};
 use records::record::ZoneRecord;
-use signed_data::dnskey::Dnskey;
+use signed_data::dnskey::{Dnskey, ZoneKey};
 use signed_data::ds::Ds;
 use signed_data::hasher::Nsec3Hasher;
 use std::alloc::{AllocError, Global};
@@ -272,12 +272,13 @@ impl<'a, S: Scheme, H: Nsec3Hasher> Publisher<'a, S, H> {
 
     /// Adds a key. Whether its reference is bound to another key is known before any memory is taken.
     fn add_key(&mut self, new: NewKey, public_key: Vec<u8>) -> Result<(), KeyFault>
+        requires { length public_key.items ≤ 65531 }
         ensures keys { let call = add_of new public_key.items in
             let digests = digests S.digest_of self.old in
             Adds digests call new.created self.old.keys self.new.keys result }
         ensures rest { self.new ≡ record self.old { keys = self.new.keys } }
     {
-        let key = Dnskey::new(new.kind.flags(), 3, new.algorithm, public_key);
+        let key = Dnskey::new_unchecked(new.kind.flags(), 3, new.algorithm, public_key);
         if self.keys.is_bound_away(new.pubref.as_str(), &key) {
             return Err(KeyFault::ReferenceBound);
         }
@@ -373,6 +374,7 @@ fn key_digest<S: Scheme>(
 ) -> Result<Vec<u8>, KeyFault>
     ensures ok { IfOk result
         (λ d. digest_at (S.digest_of scheme.now) apex.now key.now ≡ Some d.items) }
+    ensures fits { IfOk result (λ d. length d.items ≤ 65531) }
     ensures err { let digest = digest_at (S.digest_of scheme.now) apex.now key.now in
         IfErr result (λ f. (f ≡ KeyFault.Memory)
         ⊎ ((f ≡ KeyFault.DigestFailed) × (digest ≡ None))) }

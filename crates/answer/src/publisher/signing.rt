@@ -5,16 +5,17 @@ ghost use Rattle.definitions.specs.Name.{wire};
 ghost use Rattle.definitions.specs.Dnskey.{key_tag};
 ghost use Rattle.definitions.specs.Signing.{signed_octets, signed_owner};
 ghost use Rattle.answer_zone.specs.GroupView.{FailsFor, IsRrsigData, fields_of, octets_of};
+ghost use Rattle.denial_data.specs.Protos as protos;
 ghost use Rattle.signed_data.specs.Rrsig.{record_head, with_length};
 ghost use Rattle.answer_judge.specs.declared.scheme.SchemeError.TheVariants as error;
 
 use answer_judge::scheme::{Scheme, SchemeError};
 use answer_zone::group::RrGroup;
+use denial_data::{ProtoRrsig, Timestamp};
 use plain::numbers::Class;
-use records::names::{Name, Octets, ZoneName};
-use signed_data::dnskey::Dnskey;
-use signed_data::rrsig::ProtoRrsig;
-use signed_data::signed::signed_octets;
+use records::names::{Name, Octets};
+use signed_data::dnskey::{Dnskey, ZoneKey};
+use signed_data::signed::{compose_fields, signed_octets};
 use std::alloc::{AllocError, AllocFailed, Global};
 
 /// Whose signatures are made, and for which time.
@@ -66,37 +67,35 @@ fn sign_with<S: Scheme, Octs: Octets>(
         let octets = octets_of t.apex.now t.at t.life group.now key.now in
         result ≡ Err error.Failed → sign key.now octets ≡ None }
 {
-    let fields = fields_for(alloc, terms, group, key)?;
+    let fields = fields_for(terms, group, key);
     let octets = signed_octets(alloc, &fields, group.owner(), Class::IN, group.canonical())?;
     let signature = scheme.sign(alloc, &key.for_ref(), &octets)?;
     let mut data = Vec::new(alloc);
-    fields.compose(&mut data)?;
+    compose_fields(&fields, &mut data)?;
     data.extend_from_slice(&signature)?;
     Ok(data)
 }
 
 /// What one key's signature says of an RRset.
-fn fields_for<Octs: Octets>(
-    alloc: Global,
-    terms: &SignatureTerms,
+fn fields_for<'a, Octs: Octets>(
+    terms: &SignatureTerms<'a>,
     group: &RrGroup,
     key: &Dnskey<Octs>,
-) -> Result<ProtoRrsig, AllocError>
-    ensures fields { let t = terms.now in
-        IfOk result (λ f. f ≡ fields_of t.apex.now t.at t.life group.now key.now) }
-    ensures tag { IfOk result (λ _. key_tag key.now < 65536) }
+) -> ProtoRrsig<&'a Name<Vec<u8>>>
+    ensures fields { let t = terms.now in let f = protos.fields_of (λ n. n.now) result in
+        f ≡ fields_of t.apex.now t.at t.life group.now key.now }
+    ensures tag { key_tag key.now < 65536 }
 {
-    let signer = terms.apex.try_clone(alloc)?;
-    Ok(ProtoRrsig::new(
+    ProtoRrsig::new(
         group.rtype(),
         key.algorithm(),
         group.label_count(),
         group.ttl(),
-        serial_after(terms.at, terms.life),
-        serial_after(terms.at, 0),
+        Timestamp::from(serial_after(terms.at, terms.life)),
+        Timestamp::from(serial_after(terms.at, 0)),
         key.key_tag(),
-        signer,
-    ))
+        terms.apex,
+    )
 }
 
 /// A moment some seconds later, as a serial number (RFC 4034, 3.1.5).

@@ -20,6 +20,7 @@ use answer_judge::scheme::Scheme;
 use keyset::{Action, UnixTime};
 use messages::question::Question;
 use records::names::ZoneName;
+use signed_data::ds;
 use signed_data::ds::Ds;
 use signed_data::hasher::Nsec3Hasher;
 use std::alloc::{AllocError, Global};
@@ -306,8 +307,7 @@ fn copied(alloc: Global, set: &[Ds<Vec<u8>>]) -> Result<Vec<Ds<Vec<u8>>>, AllocE
 {
     let mut copies = Vec::with_capacity(alloc, set.len())?;
     for ds in set {
-        let digest = ds.digest().to_vec(alloc)?;
-        copies.push(Ds::new(ds.key_tag(), ds.algorithm(), ds.digest_type(), digest))?;
+        copies.push(ds::copied(alloc, ds)?)?;
     }
     Ok(copies)
 }

@@ -6,45 +6,64 @@ ghost use Rattle.answer_judge.specs.Facts.{decided, first_some, at_owner, below_
 ghost use Rattle.answer_judge.specs.Judging.{verdict_of};
 ghost use Rattle.definitions.specs.Zone.{star_under};
 ghost use Rattle.definitions.specs.Name.{at_or_above};
+ghost use Rattle.names_parsed.specs.Parsed.{parsed_name};
 
 use crate::judge::verdict::{DataList, Verdict};
-use messages::bitmap::bitmap_has;
+use denial_data::Nsec;
 use names_data::rtype::Rtype;
-use records::names::{Name, ToName, ZoneName};
+use names_parsed::parsed;
+use records::names::{Name, ParsedName, ToName, ZoneName, is_above, is_at_or_above};
 use std::alloc::{AllocError, Global};
 use std::marker::Model;
 
-/// A verified NSEC record (RFC 4034, 4). A contract sees owner, next name and the octets of its bitmap.
-#[derive(Debug, Drop)]
+/// A verified NSEC record (RFC 4034, 4), in place. A contract sees owner, next name and the octets of its bitmap.
+#[derive(Drop)]
 pub(crate) struct Link<'a> {
-    owner: Name<Vec<u8>>,
-    next: Name<Vec<u8>>,
-    types: &'a [u8],
+    owner: parsed::ParsedName<'a>,
+    data: Nsec<&'a [u8], parsed::ParsedName<'a>>,
 }
 
 impl<'a> Model for Link<'a> {
+    ghost use Rattle.names_parsed.specs.Parsed.{parsed_name};
     ghost use Rattle.answer_judge.specs.Facts.{Link};
 
     ghost Value = { Link };
 
-    ghost view = { λ l. record { owner = l.owner; next = l.next; bits = l.types.now } };
+    ghost view = { λ l. record {
+      owner = parsed_name l.owner;
+      next = parsed_name l.data.next_name;
+      bits = l.data.types;
+    } };
 }
 
 impl<'a> Link<'a> {
-    /// A link of its fields.
-    pub(crate) fn new(owner: Name<Vec<u8>>, next: Name<Vec<u8>>, types: &'a [u8]) -> Self
-        ensures owner { result.owner ≡ owner }
-        ensures next { result.next ≡ next }
-        ensures types { result.bits ≡ types.now }
+    /// A link of its owner and its data.
+    pub(crate) fn new(
+        owner: &ParsedName<'a>,
+        data: Nsec<&'a [u8], parsed::ParsedName<'a>>,
+    ) -> Self
+        ensures owner { result.owner ≡ owner.now }
+        ensures next { result.next ≡ parsed_name data.entry.next_name }
+        ensures types { result.bits ≡ data.entry.types }
     {
-        Link { owner, next, types }
+        Link {
+            owner: *owner.as_parsed(),
+            data,
+        }
+    }
+
+    /// The next name.
+    fn next(&self) -> &parsed::ParsedName<'a>
+        ensures { parsed_name result.now ≡ self.now.next }
+    {
+        self.data.next_name()
     }
 
     /// Whether the owner has records of a type.
     fn has(&self, rtype: Rtype) -> bool
         ensures { result ≡ bitmap_has self.now.bits rtype }
     {
-        bitmap_has(self.types, rtype)
+        self.data.types().contains(rtype)
     }
 
     /// Whether the owner is a delegation.
@@ -59,7 +78,7 @@ impl<'a> Link<'a> {
         ensures { result ≡ link_covers apex.now self.now name.now }
     {
         self.owner.name_cmp(name).is_lt()
-            && (self.next.name_eq(apex) || name.name_cmp(&self.next).is_lt())
+            && (self.next().name_eq(apex) || name.name_cmp(self.next()).is_lt())
     }
 
     /// What the link says of its own name.
@@ -83,37 +102,32 @@ impl<'a> Link<'a> {
     fn is_cut_above(&self, apex: &Name<Vec<u8>>, name: &Name<Vec<u8>>) -> Option<Verdict>
         ensures { option_map verdict_of result ≡ below_cut apex.now name.now self.now }
     {
-        if self.is_cut(apex) && name.is_below(&self.owner) {
+        if self.is_cut(apex) && is_above(&self.owner, name) {
             return Some(Verdict::Delegated);
         }
         None
     }
 
     /// Whether owner or next name shows that an ancestor exists.
-    fn shows(&self, ancestor: &Name<Vec<u8>>) -> bool
+    fn shows(&self, ancestor: &Name<&[u8]>) -> bool
         ensures { result
             ≡ (at_or_above ancestor.now self.now.owner || at_or_above ancestor.now self.now.next) }
     {
-        self.owner.is_at_or_below(ancestor) || self.next.is_at_or_below(ancestor)
+        is_at_or_above(ancestor, &self.owner) || is_at_or_above(ancestor, self.next())
     }
 
     /// The closest encloser of a name that the link covers (RFC 4592, 3.3.1).
-    fn closest(
-        &self,
-        alloc: Global,
-        name: &Name<Vec<u8>>,
-    ) -> Result<Option<Name<Vec<u8>>>, AllocError>
-        ensures { IfOk result (λ e. e ≡ closest self.now name.now) }
+    fn closest<'n>(&self, name: &'n Name<Vec<u8>>) -> Option<Name<&'n [u8]>>
+        ensures { result ≡ closest self.now name.now }
     {
-        let mut count = name.depth();
-        while count > 0 {
-            count -= 1;
-            let ancestor = name.suffix(alloc, count)?;
+        let mut ancestors = name.iter_suffixes();
+        let _itself = ancestors.next();
+        for ancestor in ancestors {
             if self.shows(&ancestor) {
-                return Ok(Some(ancestor));
+                return Some(ancestor);
             }
         }
-        Ok(None)
+        None
     }
 
     /// What the link says of a wildcard.
@@ -130,7 +144,7 @@ impl<'a> Link<'a> {
         if !self.covers(apex, star) {
             return None;
         }
-        Some(if self.next.is_below(star) {
+        Some(if is_above(star, self.next()) {
             Verdict::StarNoType
         } else {
             Verdict::NoName
@@ -152,10 +166,10 @@ impl<'a> Link<'a> {
         if !self.covers(apex, name) {
             return Ok(None);
         }
-        if self.next.is_below(name) {
+        if is_above(name, self.next()) {
             return Ok(Some(Verdict::NoType));
         }
-        match self.closest(alloc, name)? {
+        match self.closest(name) {
             None => Ok(None),
             Some(encloser) => by_star(alloc, apex, links, &encloser, rtype),
         }
@@ -167,7 +181,7 @@ fn by_star(
     alloc: Global,
     apex: &Name<Vec<u8>>,
     links: &[Link],
-    encloser: &Name<Vec<u8>>,
+    encloser: &Name<&[u8]>,
     rtype: Rtype,
 ) -> Result<Option<Verdict>, AllocError>
     ensures { IfOk result (λ v. option_map verdict_of v

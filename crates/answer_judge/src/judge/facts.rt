@@ -13,14 +13,13 @@ use crate::judge::groups::{Group, Trust, read_group, verify_groups};
 use crate::judge::verdict::DataList;
 use crate::scheme::Checks;
 use messages::ViewRecord;
-use messages::rdata::NsecView;
 use names_data::rtype::Rtype;
 use plain::numbers::Class;
-use records::names::{Name, ParsedName, ToName, ZoneName};
+use records::names::{Name, ParsedName, ToName, ZoneName, is_at_or_above, written_out};
 use std::alloc::{AllocError, Global};
 
 /// What signatures of an answer verify: the RRset that was asked for, and NSEC records.
-#[derive(Debug, Drop)]
+#[derive(Drop)]
 pub(crate) struct Facts<'a> {
     pub(crate) answer: Option<DataList>,
     pub(crate) links: Vec<Link<'a>>,
@@ -30,7 +29,7 @@ pub(crate) struct Facts<'a> {
 pub(crate) fn read_facts<'a, C: Checks>(
     alloc: Global,
     message: &'a [u8],
-    records: &[ViewRecord],
+    records: &[ViewRecord<'a>],
     trust: &Trust,
     name: &Name<Vec<u8>>,
     rtype: Rtype,
@@ -55,7 +54,8 @@ pub(crate) fn read_facts<'a, C: Checks>(
     ensures same { C.answers checks.new ≡ C.answers checks.old }
 {
     let mut groups = read_nsec_groups(alloc, trust.apex, message, records)?;
-    groups.push(read_group(alloc, message, records, name, rtype)?)?;
+    let owner = name.try_clone(alloc)?;
+    groups.push(read_group(alloc, message, records, owner, rtype)?)?;
     verify_groups(alloc, message, records, trust, &mut groups, checks, count)?;
     let answer = asked_of(groups.pop());
     let links = read_links(alloc, message, records, &groups)?;
@@ -106,11 +106,11 @@ fn read_nsec_group(
         IfOk result (λ o. MatchOption o (stands_alone message.now apex.now rs owner.now ≡ false)
         (λ g. (g.owner ≡ owner.now) × IsAlone message.now apex.now rs g)) }
 {
-    let owner = owner.to_name(alloc)?;
-    if !owner.is_at_or_below(apex) {
+    if !is_at_or_above(apex, owner.as_parsed()) {
         return Ok(None);
     }
-    let group = read_group(alloc, message, records, &owner, Rtype::NSEC)?;
+    let owner = written_out(alloc, owner.as_parsed())?;
+    let group = read_group(alloc, message, records, owner, Rtype::NSEC)?;
     Ok(if group.items.len() == 1 {
         Some(group)
     } else {
@@ -153,7 +153,7 @@ fn is_verified(groups: &[Group], owner: &ParsedName) -> bool
 fn read_links<'a>(
     alloc: Global,
     message: &'a [u8],
-    records: &[ViewRecord],
+    records: &[ViewRecord<'a>],
     groups: &[Group],
 ) -> Result<Vec<Link<'a>>, AllocError>
     ensures { IfOk result
@@ -162,8 +162,8 @@ fn read_links<'a>(
     let mut links = Vec::new(alloc);
     for record in records {
         if is_nsec(record) && is_verified(groups, &record.owner) {
-            if let Some(link) = NsecView::read(alloc, message, record)? {
-                links.push(Link::new(record.owner.to_name(alloc)?, link.next, link.types))?;
+            if let Some(data) = record.link(message) {
+                links.push(Link::new(&record.owner, data))?;
             }
         }
     }

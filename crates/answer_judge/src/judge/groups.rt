@@ -1,8 +1,8 @@
 //! RRsets of a message and the signatures that verify them (RFC 4035, 5.3).
 ghost use Rattle.std.specs.Prelude.{◌≡◌, ◌==◌, ◌&&◌, ◌+◌, ◌<◌, ◌≤◌, ◌^◌, [], ◌∷◌, true, false, None, IfOk, IfSome, MatchOption, length, map, filter, get_or};
 ghost use Rattle.definitions.specs.Limits.{pointer_limit};
-ghost use Rattle.messages.specs.Record.{spelled};
-ghost use Rattle.answer_judge.specs.Facts.{is_signature, is_due, fits_key, fields_read, signs};
+ghost use Rattle.messages.specs.Record.{fields_read, spelled};
+ghost use Rattle.answer_judge.specs.Facts.{is_signature, is_due, fits_key, signs};
 ghost use Rattle.answer_judge.specs.Verified.{datum_of, rrset_in};
 ghost use Rattle.answer_judge.specs.declared.judge.groups.Group.{Group};
 ghost use Rattle.answer_judge.specs.Marked.{held_by, is_of, are_apart, data_in, marked, signed_of, signs_group, is_tried_in, tries_in};
@@ -16,13 +16,13 @@ ghost use Rattle.definitions.specs.Serial.{serial_le};
 
 use crate::judge::keys::TaggedKey;
 use crate::scheme::Checks;
+use denial_data::Rrsig;
 use messages::ViewRecord;
-use messages::rdata::RrsigView;
 use names_data::rtype::Rtype;
+use names_parsed::parsed;
 use plain::numbers::{Class, SecurityAlgorithm, Ttl};
 use records::names::{Name, ParsedName, ToName, ZoneName};
 use signed_data::ranked::put_data;
-use signed_data::rrsig::ProtoRrsig;
 use signed_data::signed::signed_octets;
 use std::alloc::{AllocError, Global};
 
@@ -46,6 +46,9 @@ pub(crate) struct Group {
     pub(crate) verified: Option<Signed>,
 }
 
+/// A signature in a message, its signer in place.
+type Signature<'a> = Rrsig<&'a [u8], parsed::ParsedName<'a>>;
+
 /// What signatures are held against: the apex, the keys that may sign, and the moment.
 #[derive(Drop)]
 pub(crate) struct Trust<'a> {
@@ -68,23 +71,23 @@ pub(crate) fn read_group(
     alloc: Global,
     message: &[u8],
     records: &[ViewRecord],
-    owner: &Name<Vec<u8>>,
+    owner: Name<Vec<u8>>,
     rtype: Rtype,
 ) -> Result<Group, AllocError>
-    ensures owner { IfOk result (λ g. g.owner ≡ owner.now) }
+    ensures owner { IfOk result (λ g. g.owner ≡ owner) }
     ensures rtype { IfOk result (λ g. g.rtype ≡ rtype) }
     ensures items { let rs = map spelled records.now in
-        IfOk result (λ g. data_in g ≡ rrset_in pointer_limit message.now rs owner.now rtype) }
+        IfOk result (λ g. data_in g ≡ rrset_in pointer_limit message.now rs owner rtype) }
     ensures unverified { IfOk result (λ g. g.verified ≡ None) }
 {
     let mut items = Vec::new(alloc);
     for record in records {
-        if let Some(item) = datum_of(alloc, message, record, owner, rtype)? {
+        if let Some(item) = datum_of(alloc, message, record, &owner, rtype)? {
             put_data(&mut items, item)?;
         }
     }
     Ok(Group {
-        owner: owner.try_clone(alloc)?,
+        owner,
         rtype,
         items,
         verified: None,
@@ -168,10 +171,10 @@ fn verify_record<C: Checks>(
     if record.class != Class::IN {
         return Ok(());
     }
-    let Some(signature) = RrsigView::read(alloc, message, record)? else {
+    let Some(signature) = record.signature(message) else {
         return Ok(());
     };
-    if let Some(place) = place_of(groups, &record.owner, signature.type_covered) {
+    if let Some(place) = place_of(groups, &record.owner, signature.type_covered()) {
         let group = &mut groups[place];
         if group.verified.is_none() {
             group.verified = verifies(alloc, &signature, trust, group, checks, count)?;
@@ -183,8 +186,9 @@ fn verify_record<C: Checks>(
 /// The place of a group of an owner and a type.
 fn place_of(groups: &[Group], owner: &ParsedName, rtype: Rtype) -> Option<usize>
     ensures within { IfSome result (λ i. i < length groups.now) }
-    ensures found { MatchOption result (list_any (is_of owner.now rtype) groups.now ≡ false)
-        (λ i. (g : Group) → g ≡ get_or groups.now i g → is_of owner.now rtype g ≡ true) }
+    ensures found { let is = is_of owner.now rtype in
+        MatchOption result (list_any is groups.now ≡ false)
+        (λ i. (g : Group) → g ≡ get_or groups.now i g → is g ≡ true) }
 {
     for (i, group) in groups.iter().enumerate() {
         if group.is_of(owner, rtype) {
@@ -197,7 +201,7 @@ fn place_of(groups: &[Group], owner: &ParsedName, rtype: Rtype) -> Option<usize>
 /// What a signature says, if it verifies its group (RFC 4035, 5.3.1 and 5.3.3).
 fn verifies<C: Checks>(
     alloc: Global,
-    signature: &RrsigView,
+    signature: &Signature,
     trust: &Trust,
     group: &Group,
     checks: &mut C,
@@ -206,7 +210,7 @@ fn verifies<C: Checks>(
     requires { count.old + 1 < 2 ^ 32 }
     ensures signs { let w = held_by (C.answers checks.old) trust.now in
         let f = fields_read signature.now in
-        let is_signed = signs_group w group.now f signature.now.signature.now in
+        let is_signed = signs_group w group.now f signature.now.signature in
         IfOk result (λ o. o ≡ if_true is_signed (signed_of f)) }
     ensures tried { let w = held_by (C.answers checks.old) trust.now in
         let f = fields_read signature.now in
@@ -225,62 +229,60 @@ fn verifies<C: Checks>(
     };
     let octets = octets_of(alloc, signature, group)?;
     *count += 1;
-    if checks.verify(key.dnskey(), &octets, signature.signature) {
+    if checks.verify(key.dnskey(), &octets, *signature.signature()) {
         return Ok(Some(signed_of(signature)));
     }
     Ok(None)
 }
 
 /// What a signature says beside the RRset and the name.
-fn signed_of(signature: &RrsigView) -> Signed
+fn signed_of(signature: &Signature) -> Signed
     ensures { result ≡ signed_of (fields_read signature.now) }
 {
     Signed {
-        algorithm: signature.algorithm,
-        labels: signature.labels,
-        ttl: signature.original_ttl,
-        expiration: signature.expiration,
-        inception: signature.inception,
-        tag: signature.key_tag,
+        algorithm: signature.algorithm(),
+        labels: signature.labels(),
+        ttl: signature.original_ttl(),
+        expiration: signature.expiration().into_int(),
+        inception: signature.inception().into_int(),
+        tag: signature.key_tag(),
     }
 }
 
 /// What a signature of a group is made over (RFC 4034, 3.1.8.1).
-fn octets_of(alloc: Global, signature: &RrsigView, group: &Group) -> Result<Vec<u8>, AllocError>
+fn octets_of(alloc: Global, signature: &Signature, group: &Group) -> Result<Vec<u8>, AllocError>
     ensures { let f = fields_read signature.now in
         IfOk result (λ v. v.items ≡ signed_octets f group.now.owner 1 (data_in group.now)) }
 {
-    let fields = ProtoRrsig::new(
-        signature.type_covered,
-        signature.algorithm,
-        signature.labels,
-        signature.original_ttl,
-        signature.expiration,
-        signature.inception,
-        signature.key_tag,
-        signature.signer.try_clone(alloc)?,
-    );
-    signed_octets(alloc, &fields, &group.owner, Class::IN, &group.items)
+    signed_octets(
+        alloc,
+        signature.proto(),
+        &group.owner,
+        Class::IN,
+        &group.items,
+    )
 }
 
 impl<'a> Trust<'a> {
     /// Whether a signature is the apex's, holds at the moment, and counts the labels of an owner (RFC 4035, 5.3.1).
-    fn is_due(&self, signature: &RrsigView, owner: &Name<Vec<u8>>) -> bool
+    fn is_due(&self, signature: &Signature, owner: &Name<Vec<u8>>) -> bool
         ensures { let f = fields_read signature.now in
             result ≡ is_due self.now.apex.now self.now.moment owner.now f }
     {
-        signature.labels == owner.rrsig_label_count()
+        signature.labels() == owner.rrsig_label_count()
             && in_time(signature, self.moment)
-            && signature.signer.name_eq(self.apex)
+            && signature.signer_name().name_eq(self.apex)
     }
 
     /// The key of a signature's tag and algorithm.
-    fn key(&self, signature: &RrsigView) -> Option<&TaggedKey<'a>>
+    fn key(&self, signature: &Signature) -> Option<&TaggedKey<'a>>
         ensures { let fits = fits_key (fields_read signature.now) in
             option_map (λ k. k.now) result ≡ find fits self.now.keys.now }
     {
         for key in self.keys {
-            if key.tag() == signature.key_tag && key.dnskey().algorithm() == signature.algorithm {
+            if key.tag() == signature.key_tag()
+                && key.dnskey().algorithm() == signature.algorithm()
+            {
                 return Some(key);
             }
         }
@@ -289,10 +291,11 @@ impl<'a> Trust<'a> {
 }
 
 /// Whether a signature holds at a moment (RFC 4034, 3.1.5).
-fn in_time(signature: &RrsigView, now: u32) -> bool
+fn in_time(signature: &Signature, now: u32) -> bool
     ensures { result ≡ in_time (fields_read signature.now) now }
 {
-    serial_le(signature.inception, now) && serial_le(now, signature.expiration)
+    serial_le(signature.inception().into_int(), now)
+        && serial_le(now, signature.expiration().into_int())
 }
 
 /// Whether a serial number is another, or less than half the circle before it (RFC 1982, 3.2).

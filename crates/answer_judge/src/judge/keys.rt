@@ -1,5 +1,5 @@
 //! The keys of a DNSKEY answer, and which of them are trusted (RFC 4035, 5.2).
-ghost use Rattle.std.specs.Prelude.{◌≡◌, IfOk, filter, map};
+ghost use Rattle.std.specs.Prelude.{◌≡◌, ◌≤◌, IfOk, filter, length, map};
 ghost use Rattle.std.specs.List.{list_any};
 ghost use Rattle.definitions.specs.Dnskey.{key_tag};
 ghost use Rattle.answer_judge.specs.Facts.{is_usable, is_trusted, names_key};
@@ -12,7 +12,7 @@ use messages::ViewRecord;
 use names_data::rtype::Rtype;
 use plain::numbers::{Class, SecurityAlgorithm};
 use records::names::Name;
-use signed_data::dnskey::Dnskey;
+use signed_data::dnskey::{Dnskey, ZoneKey, key_of_data};
 use signed_data::ds::Ds;
 use std::alloc::{AllocError, Global};
 use std::marker::Model;
@@ -72,7 +72,7 @@ impl<'a> TaggedKey<'a> {
     fn is_usable(&self) -> bool
         ensures { result ≡ is_usable self.now }
     {
-        self.dnskey.flags() / 256 % 2 == 1 && self.dnskey.protocol() == 3
+        self.dnskey.is_zone_key() && self.dnskey.protocol() == 3
     }
 
     /// Whether another key is unlike this one and has its tag.
@@ -113,20 +113,8 @@ fn read_key<'a>(
     if record.rtype != Rtype::DNSKEY || record.class != Class::IN || !record.owner.name_eq(apex) {
         return None;
     }
-    let dnskey = Dnskey::from_rdata(data_of(message, record))?;
+    let dnskey = key_of_data(record.octets(message))?;
     Some(TaggedKey::new(dnskey))
-}
-
-/// The octets of a record's data.
-fn data_of<'a>(message: &'a [u8], record: &ViewRecord) -> &'a [u8]
-    ensures { result.now ≡ data_of message.now (spelled record.now) }
-{
-    let end = message.len().min(record.start + record.length);
-    if record.start < end {
-        &message[record.start..end]
-    } else {
-        &[]
-    }
 }
 
 /// Whether two unlike keys have one tag.
@@ -233,7 +221,7 @@ fn names_key<C: Checks>(
     }
     let octets = key.dnskey().digested(alloc, apex)?;
     match checks.digest(alloc, ds.digest_type(), &octets) {
-        Ok(digest) => Ok(digest.as_slice() == ds.digest()),
+        Ok(digest) => Ok(digest == *ds.digest()),
         Err(SchemeError::Failed) => Ok(false),
         Err(SchemeError::Memory) => Err(AllocError),
     }

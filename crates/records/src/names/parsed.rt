@@ -1,18 +1,16 @@
 //! Names as they stand in a message (RFC 1035, 4.1.4), read in place.
-ghost use Rattle.std.specs.Prelude.{◌≡◌, ℕ, ◌+◌, ◌++◌, ◌<◌, ◌≤◌, length, IfOk, OnOk};
+ghost use Rattle.std.specs.Prelude.{◌≡◌, ◌<◌, ◌≤◌, length, IfOk};
 ghost use Rattle.definitions.specs.Limits.{pointer_limit};
-ghost use Rattle.definitions.specs.Name.{same, wire, low};
+ghost use Rattle.definitions.specs.Name.{same};
+ghost use Rattle.names_parsed.specs.Parsed.{parsed_name};
 ghost use Rattle.records.specs.Message.{owner_at};
 ghost use Rattle.records.specs.View.{Gives, named, name_read, NameReads};
 
 use crate::message::MessageError;
 use crate::names::Name;
-use crate::names::wire::written_out;
-use names_data::composer::compose_canonical_name;
 use names_parsed::parsed;
 use names_parser::parser::Parser;
 use names_traits::to_name::ToName;
-use std::alloc::{AllocError, Global};
 use std::marker::Model;
 
 /// A name within a message, possibly compressed, read in place. A contract sees its labels, as spelled.
@@ -55,11 +53,11 @@ impl<'a> ParsedName<'a> {
         name
     }
 
-    /// The name apart from the message, written out, with the same spelling.
-    pub fn to_name(&self, alloc: Global) -> Result<Name<Vec<u8>>, AllocError>
-        ensures { IfOk result (λ n. n ≡ self.now) }
+    /// The name as the layer of names reads it, for what any two names share.
+    pub fn as_parsed(&self) -> &parsed::ParsedName<'a>
+        ensures { parsed_name result.now ≡ self.now }
     {
-        written_out(alloc, &self.name)
+        &self.name
     }
 
     /// Whether a name is the same up to ASCII case (RFC 4343, 3).
@@ -67,12 +65,5 @@ impl<'a> ParsedName<'a> {
         ensures { result ≡ same self.now other.now }
     {
         self.name.name_eq(other)
-    }
-
-    /// Writes the canonical form at the end: written out, with letters lowered (RFC 4034, 6.2).
-    pub fn compose_canonical(&self, out: &mut Vec<u8>) -> Result<(), AllocError>
-        ensures ok { OnOk result (out.new.items ≡ out.old.items ++ wire (low self.now)) }
-    {
-        compose_canonical_name(&self.name, out).map_err(|_| AllocError)
     }
 }

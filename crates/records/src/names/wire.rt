@@ -78,7 +78,7 @@ pub fn name_at_place(
 }
 
 /// A name, however it is kept, over octets of its own.
-pub(crate) fn written_out<N: Absolute>(alloc: Global, name: &N) -> Result<Name<Vec<u8>>, AllocError>
+pub fn written_out<N: Absolute>(alloc: Global, name: &N) -> Result<Name<Vec<u8>>, AllocError>
     ensures { IfOk result (λ n. n ≡ N.name name.now) }
 {
     let _count = name.label_count();

@@ -13,5 +13,5 @@ pub returns : goal.returns
 returns c = record {
   ns = λ n before behind r name start size. ns_here _ r n behind name (record { front = before; whole = refl; place = start }) size;
   soa = λ mname rname numbers before behind r first second twenty start size. soa_here _ r mname rname numbers behind first second twenty (record { front = before; whole = three before (wire mname) (wire rname) numbers behind; place = start }) size;
-  nsec = λ next bits before behind r name valid start size. nsec_here _ r next bits behind name valid (record { front = before; whole = two before (wire next) bits behind; place = start }) size;
+  nsec = λ next bits before behind r name valid few start size. nsec_here _ r next bits behind name valid few (record { front = before; whole = two before (wire next) bits behind; place = start }) size;
 }

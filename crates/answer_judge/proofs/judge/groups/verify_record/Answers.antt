@@ -23,7 +23,7 @@ pub returns-in_default-clause-marked : goal.returns-in_default-clause-marked
 returns-in_default-clause-marked g c =
     let w = held_by (g.C.Checks.answers c.args.checks.now) c.args.trust.now in
     let r = spelled c.args.record.now in
-    let h = sym c.in_ok-signature.ensures ∙ ap (option_map signature_of) c.in_default.is in
+    let h = sym c.signature.ensures ∙ ap (option_map signature_of) c.in_default.is in
     untried w c.args.message.now r c.args.groups.now (λ g. no_signature w c.args.message.now r g h)
 
 pub returns-then-ne-clause-tried : goal.returns-then-ne-clause-tried
@@ -34,7 +34,7 @@ returns-then-ne-clause-tried g c =
 pub returns-in_default-clause-tried : goal.returns-in_default-clause-tried
 returns-in_default-clause-tried g c =
     let w = held_by (g.C.Checks.answers c.args.checks.now) c.args.trust.now in
-    count_unread w c.args.message.now (spelled c.args.record.now) c.args.groups.now c.args.count.now c.args.count.now (sym c.in_ok-signature.ensures ∙ ap (option_map signature_of) c.in_default.is) refl
+    count_unread w c.args.message.now (spelled c.args.record.now) c.args.groups.now c.args.count.now c.args.count.now (sym c.signature.ensures ∙ ap (option_map signature_of) c.in_default.is) refl
 
 pub returns-clause-tried : goal.returns-clause-tried
 returns-clause-tried g c =
@@ -44,7 +44,7 @@ returns-clause-tried g c =
     let gs = c.args.groups.now in
     let s = c.in-Some.signature in
     let class : (r.class == 1) ≡ true = not-false _ (sym c.ne.ensures ∙ c.if-ne.false) in
-    let read : rrsig_at pointer_limit m r ≡ Some (signature_of s) = sym c.in_ok-signature.ensures ∙ ap (option_map signature_of) c.in-Some.is in
+    let read : rrsig_at pointer_limit m r ≡ Some (signature_of s) = sym c.signature.ensures ∙ ap (option_map signature_of) c.in-Some.is in
     elim c.match-place_of.branch [
       | in-Some-place_of+then-is_none+in_ok-group b ↦
           let i = b.in-Some-place_of.place in
@@ -65,7 +65,7 @@ returns-clause-marked g c =
     let gs = c.args.groups.now in
     let s = c.in-Some.signature in
     let class : (r.class == 1) ≡ true = not-false _ (sym c.ne.ensures ∙ c.if-ne.false) in
-    let read : rrsig_at pointer_limit m r ≡ Some (signature_of s) = sym c.in_ok-signature.ensures ∙ ap (option_map signature_of) c.in-Some.is in
+    let read : rrsig_at pointer_limit m r ≡ Some (signature_of s) = sym c.signature.ensures ∙ ap (option_map signature_of) c.in-Some.is in
     elim c.match-place_of.branch [
       | in-Some-place_of+then-is_none+in_ok-group w ↦
           let i = w.in-Some-place_of.place in

@@ -1,6 +1,7 @@
 use Rattle.std.proofs.Common.{◌≡◌, drop}
 use Rattle.std.specs.List.{find}
-use Rattle.answer_judge.specs.Facts.{fits_key, fields_read}
+use Rattle.messages.specs.Record.{fields_read}
+use Rattle.answer_judge.specs.Facts.{fits_key}
 use Rattle.answer_judge.proofs.judge.groups.Trust.key.Given as goal
 
 abbrev pub invariant-loop-key : goal.invariant-loop-key
