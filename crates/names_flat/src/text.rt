@@ -86,8 +86,8 @@ pub(crate) fn write_labels<W: fmt::Write>(f: &mut fmt::Formatter<W>, run: &[u8])
     ensures { let text = text_of_relative (labels_in run.now) in
         DisplaysOnOk W.write_str_gives f.old result (Some text) f.new }
 {
-    if run.len() <= 64 {
-        return write_labels_in::<256, W>(f, run);
+    if run.len() <= 48 {
+        return write_labels_in::<192, W>(f, run);
     }
     write_labels_in::<1024, W>(f, run)
 }
@@ -171,9 +171,10 @@ fn write_octet(characters: &mut [u8], place: usize, octet: u8) -> usize
         write_character(characters, place + 1, octet);
         return place + 2;
     }
-    write_character(characters, place + 1, b'0' + octet / 100);
-    write_character(characters, place + 2, b'0' + octet / 10 % 10);
-    write_character(characters, place + 3, b'0' + octet % 10);
+    let (tens, hundreds) = (octet / 10, octet / 100);
+    write_character(characters, place + 1, b'0' + hundreds);
+    write_character(characters, place + 2, b'0' + (tens - hundreds * 10));
+    write_character(characters, place + 3, b'0' + (octet - tens * 10));
     place + 4
 }
 
@@ -189,5 +190,5 @@ fn write_character(characters: &mut [u8], place: usize, character: u8)
 fn is_plain(octet: u8) -> bool
     ensures { result ≡ is_plain octet }
 {
-    matches!(octet, b']'..=b'~') || matches!(octet, b'/'..=b'[') || matches!(octet, b'!'..=b'-')
+    matches!(octet, b']'..=b'~') || (matches!(octet, b'!'..=b'[') && octet != b'.')
 }
