@@ -22,7 +22,8 @@ impl Nsec3Hasher for Faulty {
     ghost use Rattle.std.specs.Prelude.{Some, None, if◌then◌else◌};
     ghost use Rattle.std.specs.Str.{bytes_eq};
 
-    ghost hash_of = { λ h name _ _ _. if bytes_eq name h.fails_at.now then None else Some h.answer.now };
+    ghost hash_of = { λ h name _ _ _.
+        if bytes_eq name h.fails_at.now then None else Some h.answer.now };
 
     fn hash(
         &self,

@@ -6,7 +6,7 @@ pub use definitions::laws::{
 };
 pub use denial_bitmap::laws::{
     bitmap_spells_its_set, built_bitmap_gives_its_types, equal_bitmaps_are_equal_sets,
-    no_types_are_no_octets,
+    no_types_are_no_octets, printed_bitmap_tells_its_types,
 };
 pub use denial_data::laws::{
     dnskey_data_are_read_back, dnskey_octets_tell_the_data, dnskey_order_is_total,

@@ -1,14 +1,14 @@
 -- A built bitmap gives its types in order.
-use Rattle.std.proofs.Common.{◌≡◌, ℕ, zero, suc, ◌+◌, ◌-◌, ◌*◌, ◌/◌, ◌%◌, ◌^◌, ◌<◌, ◌≤◌, Bool, true, false, List, [], ◌∷◌, ◌++◌, length, map, filter, Option, Some, None, refl, sym, ap, ◌∙◌, arith, append_assoc, ne_eqb}
+use Rattle.std.proofs.Common.{◌≡◌, ℕ, zero, suc, ◌+◌, ◌-◌, ◌*◌, ◌/◌, ◌%◌, ◌^◌, ◌<◌, ◌≤◌, Bool, true, false, List, [], ◌∷◌, ◌++◌, length, map, filter, Option, Some, None, refl, sym, ap, ◌∙◌, arith, ne_eqb}
 use Rattle.std.specs.Prelude.{if◌then◌else◌, ◌==◌, slice_index}
 use Rattle.std.specs.List.{flat_map}
-use Rattle.std.proofs.lemmas.List.{append-nil, map-append}
+use Rattle.std.proofs.lemmas.List.{append-nil}
 use Rattle.std.proofs.lemmas.List.Concat.{flat_map-append}
 use Rattle.std.proofs.Math.Nat.{zero-div}
-use Rattle.definitions.specs.Bitmap.{below, bit_in, bitmap, window_octets, window_count, windows}
+use Rattle.definitions.specs.Bitmap.{below, bit_in, window_octets, window_count}
 use Rattle.definitions.proofs.BitmapLaws.{in_set, bit-window, length-window, listed, windows-all}
 use Rattle.denial_bitmap.specs.Padding.{from}
-use Rattle.denial_bitmap.specs.Types.{bits_from, types_from, types_in}
+use Rattle.denial_bitmap.specs.Types.{bits_from, types_from}
 use Rattle.denial_bitmap.specs.Laws.{type_count, GivesTypesInOrder}
 use Rattle.denial_bitmap.proofs.Windows.{below_from}
 

@@ -4,3 +4,4 @@ pub mod InOrder
 pub mod Printing
 pub mod Stepping
 pub mod Windows
+pub mod Told

@@ -1,5 +1,5 @@
 -- Bitmaps that are built type by type (RFC 4034, 4.1.2).
-use Rattle.std.specs.Prelude.{◌≡◌, ℕ, zero, suc, ◌+◌, ◌-◌, ◌/◌, ◌%◌, ◌^◌, ◌==◌, List, [], ◌∷◌, ◌++◌, length, take, drop, if◌then◌else◌, nat_eq}
+use Rattle.std.specs.Prelude.{◌≡◌, ℕ, zero, suc, ◌+◌, ◌-◌, ◌/◌, ◌%◌, ◌^◌, ◌==◌, List, [], ◌∷◌, ◌++◌, take, drop, if◌then◌else◌, nat_eq}
 use Rattle.std.specs.List.{flat_map}
 use Rattle.definitions.specs.Bitmap.{below, bitmap, window}
 

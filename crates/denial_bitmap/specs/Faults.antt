@@ -1,9 +1,8 @@
 -- Why octets are no bitmap (RFC 4034, 4.1.2).
-use Rattle.std.specs.Prelude.{◌≡◌, ◌⊎◌, ℕ, ◌<◌, ◌≤◌, List, [], ◌∷◌, ◌++◌, length, Some, codes}
+use Rattle.std.specs.Prelude.{◌≡◌, ℕ, ◌<◌, ◌≤◌, List, [], ◌∷◌, ◌++◌, length, Some, codes}
 use Rattle.names_parser.specs.Errors.{form_text}
 use Rattle.names_parser.specs.declared.error.ParseError.{ParseError}
 use Rattle.names_parser.specs.declared.error.ParseError.TheVariants as parse
-use Rattle.definitions.specs.Windows.{first_window}
 use Rattle.denial_bitmap.specs.declared.error.RtypeBitmapError.{RtypeBitmapError}
 use Rattle.denial_bitmap.specs.declared.error.RtypeBitmapError.TheVariants.{BadRtypeBitmap, ShortInput}
 

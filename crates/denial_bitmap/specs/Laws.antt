@@ -1,7 +1,8 @@
 -- What holds of every set of types that was built (RFC 4034, 4.1.2).
-use Rattle.std.specs.Prelude.{◌≡◌, ℕ, List, [], filter, nat_eq}
+use Rattle.std.specs.Prelude.{◌≡◌, ℕ, ◌<◌, List, [], filter, nat_eq}
 use Rattle.std.specs.List.{list_any}
 use Rattle.definitions.specs.Bitmap.{below, bitmap}
+use Rattle.denial_bitmap.specs.Texts.{types_text}
 use Rattle.denial_bitmap.specs.Types.{types_in}
 
 -- how many types there are: a word, since a numeral unfolds in every goal
@@ -14,3 +15,9 @@ GivesTypesInOrder = (ts : List ℕ) → types_in (bitmap ts) ≡ filter (λ t. l
 
 abbrev pub NoTypesNoOctets : Type 0
 NoTypesNoOctets = bitmap [] ≡ []
+
+-- built bitmaps have one text only where they have the same types
+abbrev pub TextsTellTypes : Type 0
+TextsTellTypes =
+    (ts us : List ℕ) → types_text (types_in (bitmap ts)) ≡ types_text (types_in (bitmap us))
+    → (t : ℕ) → t < type_count → list_any (nat_eq t) ts ≡ list_any (nat_eq t) us

@@ -1,5 +1,5 @@
 -- The types of a bitmap (RFC 4034, 4.1.2).
-use Rattle.std.specs.Prelude.{◌≡◌, ℕ, zero, suc, ◌+◌, ◌*◌, ◌-◌, Bool, List, [], ◌∷◌, ◌++◌, length, filter, map, Some, None}
+use Rattle.std.specs.Prelude.{ℕ, ◌+◌, ◌*◌, ◌-◌, List, [], length, filter, map, Some, None}
 use Rattle.std.specs.List.{flat_map}
 use Rattle.definitions.specs.Bitmap.{bit_in, windows}
 use Rattle.denial_bitmap.specs.Padding.{from}

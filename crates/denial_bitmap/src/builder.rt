@@ -182,7 +182,8 @@ fn longer_window<B: OctetsBuilder>(
     requires fits { length (B.bytes octets.old) < 9223372036854775808 }
     requires longer { len ≤ needed }
     requires few { needed ≤ 32 }
-    ensures ok { let room = inserted (B.bytes octets.old) (place + 2 + len) (zeros (needed - len)) in
+    ensures ok { let old = B.bytes octets.old in
+        let room = inserted old (place + 2 + len) (zeros (needed - len)) in
         OnOk result (B.bytes octets.new ≡ set room (place + 1) needed) }
     ensures err { OnErr result (B.bytes octets.new ≡ B.bytes octets.old) }
 {

@@ -28,7 +28,8 @@ impl<'a> Model for RtypeBitmapIter<'a> {
 
     ghost Value = { List ℕ };
 
-    ghost view = { λ it. types_from it.window.number it.window.octets.now it.bit ++ types_in it.rest.now };
+    ghost view = { λ it. types_from it.window.number it.window.octets.now it.bit
+        ++ types_in it.rest.now };
 
     ghost invariant = { λ it. (length it.window.octets.now ≤ 32) × (is_bitmap it.rest.now ≡ true) };
 }

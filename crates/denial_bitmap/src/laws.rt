@@ -1,6 +1,6 @@
 //! Laws of sets of types. Each is a function without a parameter, whose contract is the law.
 
-ghost use Rattle.denial_bitmap.specs.Laws.{GivesTypesInOrder, NoTypesNoOctets};
+ghost use Rattle.denial_bitmap.specs.Laws.{GivesTypesInOrder, NoTypesNoOctets, TextsTellTypes};
 
 pub use definitions::laws::{bitmap_spells_its_set, equal_bitmaps_are_equal_sets};
 
@@ -12,4 +12,9 @@ pub fn built_bitmap_gives_its_types()
 /// No types are no octets.
 pub fn no_types_are_no_octets()
     ensures { NoTypesNoOctets }
+{}
+
+/// What is printed of a built bitmap tells its types: bitmaps of other types have other texts.
+pub fn printed_bitmap_tells_its_types()
+    ensures { TextsTellTypes }
 {}

@@ -20,6 +20,7 @@ pub use crate::orders::{
     dnskey_order_is_total, ds_order_is_total, nsec_order_is_total, nsec3_order_is_total,
     nsec3param_order_is_total, rrsig_order_is_total,
 };
+pub use denial_bitmap::laws::printed_bitmap_tells_its_types;
 
 /// `ProtoRrsig::compose_canonical` writes the fields that a signature is made over (RFC 4034, 3.1.8.1).
 pub fn fields_are_signed()
@@ -28,7 +29,8 @@ pub fn fields_are_signed()
 
 /// DNSKEY data are read as the octets that were written, wherever they stand in a message.
 pub fn dnskey_data_are_read_back()
-    ensures { (k : Dnskey) → length (dnskey_data k) ≤ 65535 → IsReadBack ended_part (dnskey_data k) }
+    ensures { (k : Dnskey) → length (dnskey_data k) ≤ 65535
+        → IsReadBack ended_part (dnskey_data k) }
 {}
 
 /// As of DNSKEY data.

@@ -373,7 +373,8 @@ impl<'a> ParseRecordData<'a> for Rrsig<&'a [u8], ParsedName<'a>> {
 
 /// The order of the octets in canonical form (RFC 4034, 6.3).
 impl<Octs: Octets, N: ToName> CanonicalOrd for Rrsig<Octs, N> {
-    ghost canonical = { λ a b. slice_cmp nat_cmp (rrsig_canonical N.name a) (rrsig_canonical N.name b) };
+    ghost canonical = { λ a b.
+        slice_cmp nat_cmp (rrsig_canonical N.name a) (rrsig_canonical N.name b) };
 
     fn canonical_cmp(&self, other: &Self) -> Ordering {
         let (a, b) = (&self.proto, &other.proto);

@@ -43,9 +43,19 @@ impl<Octs: Octets> Model for Dnskey<Octs> {
 
     ghost Value = { Key };
 
-    ghost view = { λ d. record { flags = d.flags; protocol = d.protocol; algorithm = d.algorithm; octets = d.public_key } };
+    ghost view = { λ d. record {
+      flags = d.flags;
+      protocol = d.protocol;
+      algorithm = d.algorithm;
+      octets = d.public_key;
+    } };
 
-    ghost inverse = { λ d. record { flags = d.flags; protocol = d.protocol; algorithm = d.algorithm; public_key = d.octets } };
+    ghost inverse = { λ d. record {
+      flags = d.flags;
+      protocol = d.protocol;
+      algorithm = d.algorithm;
+      public_key = d.octets;
+    } };
 
     ghost invariant = { λ d. 4 + length d.public_key ≤ 65535 };
 }

@@ -41,9 +41,19 @@ impl<Octs: Octets> Model for Ds<Octs> {
 
     ghost Value = { Digest };
 
-    ghost view = { λ d. record { tag = d.key_tag; algorithm = d.algorithm; digest_type = d.digest_type; digest = d.digest } };
+    ghost view = { λ d. record {
+      tag = d.key_tag;
+      algorithm = d.algorithm;
+      digest_type = d.digest_type;
+      digest = d.digest;
+    } };
 
-    ghost inverse = { λ d. record { key_tag = d.tag; algorithm = d.algorithm; digest_type = d.digest_type; digest = d.digest } };
+    ghost inverse = { λ d. record {
+      key_tag = d.tag;
+      algorithm = d.algorithm;
+      digest_type = d.digest_type;
+      digest = d.digest;
+    } };
 
     ghost invariant = { λ d. 4 + length d.digest ≤ 65535 };
 }

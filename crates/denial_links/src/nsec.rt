@@ -46,7 +46,8 @@ impl<Octs: Octets, N: ToName> Model for Nsec<Octs, N> {
 
     ghost inverse = { λ d. record { next_name = d.next_name; types = d.types } };
 
-    ghost invariant = { λ d. length (nsec_octets N.name (record { next_name = d.next_name; types = d.types })) ≤ 65535 };
+    ghost invariant = { λ d. length (nsec_octets N.name
+        (record { next_name = d.next_name; types = d.types })) ≤ 65535 };
 }
 
 impl<Octs: Octets, N: ToName> Nsec<Octs, N> {

@@ -44,9 +44,14 @@ impl<Octs: Octets> Model for Nsec3<Octs> {
 
     ghost view = { λ d. record { params = d.params; next_owner = d.next_owner; types = d.types } };
 
-    ghost inverse = { λ d. record { params = d.params; next_owner = d.next_owner; types = d.types } };
+    ghost inverse = { λ d. record {
+      params = d.params;
+      next_owner = d.next_owner;
+      types = d.types;
+    } };
 
-    ghost invariant = { λ d. length (nsec3_octets (record { params = d.params; next_owner = d.next_owner; types = d.types })) ≤ 65535 };
+    ghost invariant = { λ d. length (nsec3_octets
+        (record { params = d.params; next_owner = d.next_owner; types = d.types })) ≤ 65535 };
 }
 
 impl<Octs: Octets> Nsec3<Octs> {

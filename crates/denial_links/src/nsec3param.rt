@@ -36,9 +36,19 @@ impl<Octs: Octets> Model for Nsec3param<Octs> {
 
     ghost Value = { Nsec3paramData };
 
-    ghost view = { λ d. record { algorithm = d.hash_algorithm; flags = d.flags; iterations = d.iterations; salt = d.salt } };
+    ghost view = { λ d. record {
+      algorithm = d.hash_algorithm;
+      flags = d.flags;
+      iterations = d.iterations;
+      salt = d.salt;
+    } };
 
-    ghost inverse = { λ d. record { hash_algorithm = d.algorithm; flags = d.flags; iterations = d.iterations; salt = d.salt } };
+    ghost inverse = { λ d. record {
+      hash_algorithm = d.algorithm;
+      flags = d.flags;
+      iterations = d.iterations;
+      salt = d.salt;
+    } };
 }
 
 impl<Octs: Octets> Nsec3param<Octs> {

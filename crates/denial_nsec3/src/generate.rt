@@ -41,7 +41,8 @@ pub fn generate_nsec3s<'a, Octs: Octets, N: ToName, S: Octets, H: Nsec3Hasher>(
     requires order { IsZoneOrder N.name records }
     ensures chain { let apex_name = N.name apex.now in
         let answers = H.hash_of hasher.now in
-        IfOk result (λ made. (s : Ttls) × HasNoFault N.name apex_name answers config.now records.entry s
+        IfOk result (λ made. (s : Ttls)
+        × HasNoFault N.name apex_name answers config.now records.entry s
         × (made.nsec3s.items ≡ nsec3_chain N.name apex_name answers config.now records.entry s)
         × (made.nsec3param ≡ nsec3param_record apex_name config.now s)) }
     ensures speaks { let hash = hash_by (H.hash_of hasher.now) config.now.params in

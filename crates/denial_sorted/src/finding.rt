@@ -85,7 +85,8 @@ fn first_at<'a, N: ToName, D: RecordData>(
     rtype: Rtype,
 ) -> Result<Option<Rrset<'a, N, D>>, MultipleTtlValues>
     ensures { let sets = groups (of_one_set N.name D.type_of) (items_of slice.entry) in
-        result_ok result ≡ found_set D.type_of (is_at N.name D.type_of (N.name owner.now) rtype) sets }
+        let is = is_at N.name D.type_of (N.name owner.now) rtype in
+        result_ok result ≡ found_set D.type_of is sets }
 {
     let mut rest = slice;
     while let Some((group, behind)) = split_group::<Record<N, D>, BySet>(rest) {

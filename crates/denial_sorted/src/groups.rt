@@ -27,7 +27,7 @@ pub struct MultipleTtlValues;
 /// The records of one owner and class.
 #[derive(Drop)]
 pub struct OwnerRrs<'a, N: ToName, D> {
-    slice: SliceRefsOrOwned<'a, Record<N, D>>,
+    records: SliceRefsOrOwned<'a, Record<N, D>>,
 }
 
 /// The records, in their order.
@@ -39,44 +39,44 @@ impl<'a, N: ToName, D> Model for OwnerRrs<'a, N, D> {
 
     ghost Value = { List (Record N D) };
 
-    ghost view = { λ g. items_of g.slice };
+    ghost view = { λ g. items_of g.records };
 
-    ghost invariant = { λ g. IsGroup (of_one_owner N.name) (items_of g.slice) };
+    ghost invariant = { λ g. IsGroup (of_one_owner N.name) (items_of g.records) };
 }
 
 impl<'a, N: ToName, D: RecordData> OwnerRrs<'a, N, D> {
-    pub(crate) fn new(slice: SliceRefsOrOwned<'a, Record<N, D>>) -> Self
-        requires { IsGroup (of_one_owner N.name) (items_of slice) }
-        ensures { result ≡ items_of slice.entry }
+    pub(crate) fn new(records: SliceRefsOrOwned<'a, Record<N, D>>) -> Self
+        requires { IsGroup (of_one_owner N.name) (items_of records) }
+        ensures { result ≡ items_of records.entry }
     {
-        OwnerRrs { slice }
+        OwnerRrs { records }
     }
 
     /// The owner, as the first record spells it.
     pub fn owner(&self) -> &'a N
         ensures { Some result.now ≡ option_map (λ r. r.owner) (slice_get self.now 0) }
     {
-        first(self.slice).owner()
+        first(self.records).owner()
     }
 
     pub fn class(&self) -> Class
         ensures { Some result ≡ option_map (λ r. r.class) (slice_get self.now 0) }
     {
-        first(self.slice).class()
+        first(self.records).class()
     }
 
     /// The records in groups by type.
     pub fn rrsets(&self) -> OwnerRrsIter<'a, N, D>
         ensures { result ≡ self.now }
     {
-        OwnerRrsIter::new(self.slice)
+        OwnerRrsIter::new(self.records)
     }
 
     /// The records in their order.
     pub fn records(&self) -> SliceRefsOrOwnedIterator<'a, Record<N, D>>
         ensures { result ≡ self.now }
     {
-        self.slice.iter()
+        self.records.iter()
     }
 
     /// Whether the owner is not the apex and has an NS record, which delegates what is at and below it
@@ -84,15 +84,15 @@ impl<'a, N: ToName, D: RecordData> OwnerRrs<'a, N, D> {
     pub fn is_zone_cut(&self, apex: &N) -> bool
         ensures { result ≡ zone_cut N.name D.type_of (N.name apex.now) self.now }
     {
-        let slice = self.slice;
-        !first(slice).owner().name_eq(apex) && has_type(slice, Rtype::NS)
+        let records = self.records;
+        !first(records).owner().name_eq(apex) && has_type(records, Rtype::NS)
     }
 
     /// Whether the owner is at or below the apex.
     pub fn is_in_zone(&self, apex: &N) -> bool
         ensures { result ≡ in_zone N.name (N.name apex.now) self.now }
     {
-        is_below(first(self.slice).owner(), apex)
+        is_below(first(self.records).owner(), apex)
     }
 }
 

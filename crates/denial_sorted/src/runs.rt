@@ -56,7 +56,8 @@ pub(crate) fn split_group<'a, T, K: Alike<T>>(
 ) -> Option<(SliceRefsOrOwned<'a, T>, SliceRefsOrOwned<'a, T>)>
     ensures group { IfSome result (λ p. IsGroup K.alike (items_of p.0)) }
     ensures parts { MatchOption result (items_of slice.entry ≡ [])
-        (λ p. (groups K.alike (items_of slice.entry) ≡ items_of p.0 ∷ groups K.alike (items_of p.1))) }
+        (λ p. let rest = groups K.alike (items_of p.1) in
+        groups K.alike (items_of slice.entry) ≡ items_of p.0 ∷ rest) }
 {
     let _count = slice.len();
     let Some(mut last) = slice.get(0) else {

@@ -89,8 +89,9 @@ impl<N: ToName + Drop, D: RecordData + CanonicalOrd + Drop, S: Sorter> SortedRec
         requires ends { (it : U.IntoIter) → U.into_iter_gives records it →
             U.IntoIter.can_next it × IsFinite (U.IntoIter.remaining it) }
         ensures { let by = record_canonical_cmp N.name D.type_of D.canonical in
-            IfOk result (λ s. (it : U.IntoIter) × (xs : List (Record N D)) × U.into_iter_gives records it
-            × Drains U.IntoIter.next_gives it xs × (s ≡ sort_by by xs)) }
+            IfOk result (λ s. (it : U.IntoIter) × (xs : List (Record N D))
+            × U.into_iter_gives records it × Drains U.IntoIter.next_gives it xs
+            × (s ≡ sort_by by xs)) }
     {
         let records = Vec::from_iter(alloc, records)?;
         let sorted = SortedRecords::from_vec(records)?;

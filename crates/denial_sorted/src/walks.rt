@@ -66,7 +66,8 @@ impl<'a, N: ToName, D: RecordData> RecordsIter<'a, N, D> {
 
     /// Passes over the records before the first whose owner is at or below the apex: over all where none is.
     pub fn skip_before(&mut self, apex: &N)
-        ensures { self.new ≡ from_first (λ r. at_or_above (N.name apex.now) (N.name r.owner)) self.old }
+        ensures { let is = λ (r : Record N D). at_or_above (N.name apex.now) (N.name r.owner) in
+            self.new ≡ from_first is self.old }
     {
         self.slice = skip_to(self.slice, apex);
     }

@@ -25,7 +25,8 @@ impl<'a> Model for Listing<'a> {
 
     ghost view = { λ l. record { all = texts l.all.now; count = l.count } };
 
-    ghost invariant = { λ l. (l.count ≤ length l.all.now) × IfSome l.index (λ s. IsIndexOf (take l.count (texts l.all.now)) s.keys) };
+    ghost invariant = { λ l. (l.count ≤ length l.all.now)
+        × IfSome l.index (λ s. IsIndexOf (take l.count (texts l.all.now)) s.keys) };
 }
 
 impl<'a> Listing<'a> {

@@ -64,7 +64,8 @@ pub(crate) fn serves_after_start(
     new: &Listing,
 ) -> bool
     ensures { let es = by_reference keys.now.entries in
-        result ≡ suitable rolltype (roles_after rolltype (listed_by old.now) (listed_by new.now) es) }
+        let roles = roles_after rolltype (listed_by old.now) (listed_by new.now) es in
+        result ≡ suitable rolltype roles }
 {
     rolltype.needs().iter().all(|need| has_needed_after_start(keys, rolltype, *need, old, new))
 }

@@ -37,7 +37,11 @@ impl Model for KeySet {
 
     ghost Value = { KeySetState };
 
-    ghost view = { λ s. record { name = s.name; keys = by_reference s.keys.entries; rolls = by_kind s.rollstates.entries } };
+    ghost view = { λ s. record {
+      name = s.name;
+      keys = by_reference s.keys.entries;
+      rolls = by_kind s.rollstates.entries;
+    } };
 }
 
 /// It answers want of memory.

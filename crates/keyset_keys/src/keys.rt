@@ -282,7 +282,14 @@ impl Model for Key {
 
     ghost Value = { specs.Key };
 
-    ghost view = { λ k. record { private = text_of k.privref; decoupled = k.decoupled; roles = k.keytype; algorithm = k.algorithm; tag = k.key_tag; stamps = k.timestamps } };
+    ghost view = { λ k. record {
+      private = text_of k.privref;
+      decoupled = k.decoupled;
+      roles = k.keytype;
+      algorithm = k.algorithm;
+      tag = k.key_tag;
+      stamps = k.timestamps;
+    } };
 }
 
 impl Key {

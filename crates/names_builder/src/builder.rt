@@ -94,7 +94,8 @@ impl<B: OctetsBuilder> Model for NameBuilder<B> {
 
     ghost view = { λ b. building (B.bytes b.builder) b.head };
 
-    ghost invariant = { λ b. Holds (B.bytes b.builder) b.head (building (B.bytes b.builder) b.head) };
+    ghost invariant = { λ b.
+        Holds (B.bytes b.builder) b.head (building (B.bytes b.builder) b.head) };
 }
 
 impl<B: OctetsBuilder> NameBuilder<B> {
@@ -308,7 +309,8 @@ impl<B: OctetsBuilder> NameBuilder<B> {
         ensures ok { let read = λ (rest : List ℕ). text_behind self.old (reader.old ++ ch ∷ rest) in
             let left = λ (rest : List ℕ). text_behind self.new (reader.new ++ rest) in
             OnOk result ((rest : List ℕ) → read rest ≡ left rest) }
-        ensures refused { let read = λ (rest : List ℕ). text_behind self.old (reader.old ++ ch ∷ rest) in
+        ensures refused { let read = λ (rest : List ℕ).
+            text_behind self.old (reader.old ++ ch ∷ rest) in
             IfErr result (λ e. is_text e ≡ true → (rest : List ℕ) → read rest ≡ None) }
         ensures err { OnErr result (self.new ≡ self.old) }
         ensures fault { let is = CharFault self.old reader.old ch in

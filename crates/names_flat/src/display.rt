@@ -5,7 +5,7 @@ ghost use Rattle.definitions.specs.Text.{text_of_name, text_of_relative};
 
 use crate::name::Name;
 use crate::relative::RelativeName;
-use crate::text::NameText;
+use crate::text::write_labels;
 use names_wire::octets::Octets;
 use std::fmt;
 
@@ -16,9 +16,7 @@ impl<Octs: Octets> fmt::Display for Name<Octs> {
         if self.is_root() {
             return f.write_str(".");
         }
-        let mut text = NameText::new();
-        text.push_labels(self.relative_run());
-        f.write_str(text.without_last_dot())
+        write_labels(f, self.relative_run())
     }
 }
 
@@ -29,8 +27,6 @@ impl<Octs: Octets> fmt::Display for RelativeName<Octs> {
         if self.is_empty() {
             return Ok(());
         }
-        let mut text = NameText::new();
-        text.push_labels(self.run());
-        f.write_str(text.without_last_dot())
+        write_labels(f, self.run())
     }
 }

@@ -1,11 +1,11 @@
 -- A row of labels cut where one begins.
 use Rattle.std.specs.Prelude.{◌↔◌, IsTrue}
-use Rattle.std.proofs.Common.{◌≡◌, ℕ, zero, suc, ◌+◌, ◌-◌, ◌<◌, ◌≤◌, Bool, true, false, List, [], ◌∷◌, ◌++◌, length, take, drop, refl, sym, ap, ◌∙◌, length-append, arith, eqb, leb, eq-eqb, ◌⊎◌, inl, inr, length-drop}
+use Rattle.std.proofs.Common.{◌≡◌, ℕ, zero, suc, ◌+◌, ◌-◌, ◌<◌, ◌≤◌, Bool, true, false, List, [], ◌∷◌, ◌++◌, length, take, drop, refl, sym, ap, ◌∙◌, length-append, arith, eqb, leb, eq-eqb, ◌⊎◌, inl, inr}
 use Rattle.std.specs.List.{AllByRecursion}
 use Rattle.std.proofs.lemmas.List.{take_at, drop_at, take-append-drop}
 use Rattle.std.proofs.lemmas.Bool.{eqb-true, leb-true, leb-false}
 use Rattle.definitions.specs.Name.{Name, Label}
-use Rattle.names_labels.specs.Flat.{spelled, labels_in, IsRun, SplitsLabel, StartsLabel}
+use Rattle.names_labels.specs.Flat.{spelled, labels_in, IsRun, SplitsLabel, SplitsLast, StartsLabel}
 use Rattle.names_labels.proofs.Runs.{spelled-append, labels_in-spelled, drop-one}
 
 short_take : (k : ℕ) (ls : Name) → AllByRecursion (λ l. length l ≤ 63) ls → AllByRecursion (λ l. length l ≤ 63) (take k ls)
@@ -146,21 +146,29 @@ pub labels_behind : (run rest : List ℕ) (k count : ℕ) → Behind run rest k 
 labels_behind run rest k count b (inl e) = b.labels ∙ ap (λ n. drop n (labels_in run)) e
 labels_behind run rest k count b (inr p) = p.0 ∙ sym (drop_past (labels_in run) k count (sym b.labels ∙ p.0) p.1)
 
-one_left : {X : Type 0} (x : X) (xs : List X) → length (x ∷ xs) ≡ 1 → xs ≡ []
-one_left x [] h = refl
-one_left x (y ∷ xs) h = absurd (omega (arith, h))
+-- behind k labels, and the one behind these, which begins at a place
+pub record ReachesLast (run rest : List ℕ) (start k : ℕ) (last : Label) : Type 0 where
+  pub behind : Behind run rest (k + 1)
+  pub labels : drop k (labels_in run) ≡ last ∷ labels_in rest
+  pub place : start ≡ length (spelled (take k (labels_in run)))
 
--- the last label, and the row in front of it
-pub last_label : (run front back behind : List ℕ) (place n : ℕ) (l : Label) → IsRun run → 1 ≤ length (labels_in run) → n ≡ length (labels_in run) - 1 → place ≡ length (spelled (take n (labels_in run))) → front ≡ take place run → back ≡ drop place run → SplitsLabel back l behind → labels_in run ≡ labels_in front ++ l ∷ []
-last_label run front back behind place n l r some e p f b s =
-    let ls = labels_in run in
-    let c = cuts run place n r p in
-    let d : drop n ls ≡ l ∷ labels_in behind = sym c.back ∙ ap labels_in (sym b) ∙ s.first in
-    let z : labels_in behind ≡ [] = one_left l (labels_in behind) (sym (ap length d) ∙ length-drop n ls ∙ omega (arith, e, some)) in
-    sym (take-append-drop n ls) ∙ (λ i. (sym c.front ∙ ap labels_in (sym f)) i ++ (d ∙ ap (λ x. l ∷ x) z) i)
+pub reaches_first : (run rest : List ℕ) (l : Label) → IsRun run → SplitsLabel run l rest → ReachesLast run rest 0 0 l
+reaches_first run rest l r s = record { behind = one_behind run run rest 0 l r (begun run r) s; labels = s.first; place = refl }
 
-pub no_last : (run back : List ℕ) (place n : ℕ) → IsRun run → 1 ≤ length (labels_in run) → n ≡ length (labels_in run) - 1 → place ≡ length (spelled (take n (labels_in run))) → back ≡ drop place run → labels_in back ≡ [] → ⊥
-no_last run back place n r some e p b z =
-    let c = cuts run place n r p in
-    let d : length (drop n (labels_in run)) ≡ 0 = ap length (sym c.back ∙ ap labels_in (sym b) ∙ z) in
-    absurd (omega (arith, length-drop n (labels_in run), d, e, some))
+pub reaches_next : (run rest behind : List ℕ) (start k : ℕ) (last l : Label) → IsRun run → ReachesLast run rest start k last → SplitsLabel rest l behind → ReachesLast run behind (length run - length rest) (k + 1) l
+reaches_next run rest behind start k last l r w s = record {
+  behind = one_behind run rest behind (k + 1) l r w.behind s;
+  labels = sym w.behind.labels ∙ s.first;
+  place = omega (arith, w.behind.octets);
+}
+
+-- where nothing stands behind it, it is the last one
+pub splits_last : (run rest : List ℕ) (start k : ℕ) (last : Label) → IsRun run → ReachesLast run rest start k last → labels_in rest ≡ [] → (start ≤ length run) × SplitsLast run (take start run) last
+splits_last run rest start k last r w e =
+    let c = cuts run start k r w.place in (
+      c.within,
+      record {
+        last = sym (take-append-drop k (labels_in run)) ∙ (λ i. sym c.front i ++ (w.labels ∙ ap (λ x. last ∷ x) e) i);
+        in_front = c.front_run;
+      },
+    )

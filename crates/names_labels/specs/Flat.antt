@@ -1,5 +1,5 @@
 -- Labels in a row of octets, each behind its length (RFC 1035, 3.1).
-use Rattle.std.specs.Prelude.{◌≡◌, ℕ, zero, suc, ◌-◌, ◌≤◌, List, [], ◌∷◌, length, take, drop}
+use Rattle.std.specs.Prelude.{◌≡◌, ℕ, zero, suc, ◌-◌, ◌≤◌, List, [], ◌∷◌, ◌++◌, length, take, drop}
 use Rattle.std.specs.List.{flat_map, AllByRecursion}
 use Rattle.definitions.specs.Name.{Name, Label, wire, IsName}
 
@@ -31,6 +31,11 @@ pub record IsRunOf (bs : List ℕ) (ls : Name) : Type 0 where
 pub record SplitsLabel (run : List ℕ) (label : Label) (rest : List ℕ) : Type 0 where
   pub first : labels_in run ≡ label ∷ labels_in rest
   pub behind : IsRun rest
+
+-- a run is a run and the label behind it
+pub record SplitsLast (run front : List ℕ) (label : Label) : Type 0 where
+  pub last : labels_in run ≡ labels_in front ++ label ∷ []
+  pub in_front : IsRun front
 
 -- the name that the octets spell, without the root's label
 abbrev pub name_in : List ℕ → Name

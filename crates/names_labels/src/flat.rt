@@ -1,6 +1,6 @@
 ghost use Rattle.std.specs.Prelude.{◌≡◌, ◌↔◌, ℕ, List, length, [], take, drop, true, IsTrue, MatchOption, option_map, slice_get};
 ghost use Rattle.definitions.specs.Name.{same};
-ghost use Rattle.names_labels.specs.Flat.{labels_in, spelled, IsRun, SplitsLabel, StartsLabel};
+ghost use Rattle.names_labels.specs.Flat.{labels_in, spelled, IsRun, SplitsLabel, SplitsLast, StartsLabel};
 ghost use Rattle.names_wire.specs.Label.{octets_of};
 
 use names_wire::label::Label;
@@ -15,6 +15,22 @@ pub fn split_label(run: &[u8]) -> Option<(Label<'_>, &[u8])>
     let (octets, behind) = rest.split_at(usize::from(len));
     let label = Label::from_slice(octets).unwrap();
     Some((label, behind))
+}
+
+/// The last label of labels in a row, and the row in front of it.
+pub(crate) fn split_last_label(run: &[u8]) -> Option<(&[u8], Label<'_>)>
+    requires { IsRun run.now }
+    ensures { MatchOption result (labels_in run.now ≡ [])
+        (λ p. SplitsLast run.now p.0.now (octets_of p.1)) }
+{
+    let (mut last, mut rest) = split_label(run)?;
+    let mut start = 0;
+    while let Some((label, behind)) = split_label(rest) {
+        start = run.len() - rest.len();
+        last = label;
+        rest = behind;
+    }
+    Some((&run[..start], last))
 }
 
 /// How many labels stand in a row.

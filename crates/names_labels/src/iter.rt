@@ -5,7 +5,7 @@ ghost use Rattle.std.specs.Iterator.{YieldsFirstBy, YieldsLastBy, item_count};
 ghost use Rattle.names_wire.specs.Label.{octets_of};
 ghost use Rattle.names_labels.specs.Flat.{labels_in, IsRun};
 
-use crate::flat::{label_count, place_of, split_label};
+use crate::flat::{split_label, split_last_label};
 use names_wire::label::Label;
 use std::marker::Model;
 
@@ -57,9 +57,7 @@ impl<'a> DoubleEndedIterator for NameIter<'a> {
     ghost next_back_gives = { YieldsLastBy octets_of (λ labels. labels) };
 
     fn next_back(&mut self) -> Option<Label<'a>> {
-        let last = label_count(self.run).checked_sub(1)?;
-        let (front, back) = self.run.split_at(place_of(self.run, last));
-        let (label, _) = split_label(back)?;
+        let (front, label) = split_last_label(self.run)?;
         self.run = front;
         Some(label)
     }

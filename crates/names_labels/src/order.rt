@@ -77,7 +77,7 @@ fn runs_cmp(run: &[u8], other: &[u8]) -> Ordering
 }
 
 /// How many octets at the end of both are the same, up to ASCII case.
-fn common_tail(octets: &[u8], others: &[u8]) -> usize
+pub fn common_tail(octets: &[u8], others: &[u8]) -> usize
     ensures { HaveTail octets.now others.now result }
 {
     let most = octets.len().min(others.len());

@@ -233,7 +233,8 @@ impl<'a, N: Labels> Model for LabelIter<'a, N> {
 
     ghost view = { λ it. take (it.back - it.front) (drop it.front (N.labels it.name.now)) };
 
-    ghost invariant = { λ it. (it.back ≤ length (N.labels it.name.now)) × StandsAt (N.labels it.name.now) it.front (N.reaches it.name.now) it.spot };
+    ghost invariant = { λ it. (it.back ≤ length (N.labels it.name.now))
+        × StandsAt (N.labels it.name.now) it.front (N.reaches it.name.now) it.spot };
 }
 
 /// The label at an index, and where the next one stands.

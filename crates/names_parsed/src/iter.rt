@@ -28,7 +28,8 @@ impl<'a> Model for ParsedNameIter<'a> {
 
     ghost view = { λ it. take it.left (labels_from it.message.now it.place) };
 
-    ghost invariant = { λ it. (stands_at it.message.now it.place ≡ true) × (it.left ≤ length (name_from it.message.now it.place) + 1) };
+    ghost invariant = { λ it. (stands_at it.message.now it.place ≡ true)
+        × (it.left ≤ length (name_from it.message.now it.place) + 1) };
 }
 
 impl<'a> ParsedNameIter<'a> {

@@ -11,7 +11,8 @@ use names_wire::labels::label_at;
 /// The place behind a name, up to its root octet or its first pointer, which is not followed.
 pub(crate) fn skip_from(message: &[u8], start: usize) -> Result<usize, ParseError>
     requires { start ≤ length message.now }
-    ensures ends { MatchResult result (CanPass message.now start) (λ _. (b : ℕ) → CanPass message.now start b → ⊥) }
+    ensures ends { MatchResult result (CanPass message.now start)
+        (λ _. (b : ℕ) → CanPass message.now start b → ⊥) }
     ensures fault { IfErr result (λ e. Stuck message.now start 255 (fault_of e)) }
 {
     let (mut place, mut room) = (start, 255usize);

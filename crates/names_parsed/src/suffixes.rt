@@ -32,7 +32,8 @@ impl<'a> Model for ParsedSuffixIter<'a> {
 
     ghost view = { λ it. take it.left (suffixes (name_from it.message.now it.place)) };
 
-    ghost invariant = { λ it. (stands_at it.message.now it.place ≡ true) × (it.labels ≡ length (name_from it.message.now it.place) + 1) × (it.left ≤ it.labels) };
+    ghost invariant = { λ it. (stands_at it.message.now it.place ≡ true)
+        × (it.labels ≡ length (name_from it.message.now it.place) + 1) × (it.left ≤ it.labels) };
 }
 
 impl<'a> ParsedSuffixIter<'a> {

@@ -98,7 +98,8 @@ impl<'a> Parser<'a> {
 
     /// A parser of the next octets alone, so many, over the whole message. This one goes behind them.
     pub fn parse_parser(&mut self, len: usize) -> Result<Parser<'a>, ParseError>
-        ensures { Takes len (λ _ p. p ≡ record self.old { end = self.old.place + len }) self.old self.new result }
+        ensures { Takes len (λ _ p. p ≡ record self.old { end = self.old.place + len })
+            self.old self.new result }
     {
         let (octets, pos) = (self.octets, self.pos);
         self.advance(len)?;

@@ -72,14 +72,16 @@ impl Serial {
 
     /// The number of the next four octets. A refused call reads nothing.
     pub fn parse(parser: &mut Parser<'_>) -> Result<Self, ParseError>
-        ensures { Takes 4 (λ octets n. n.0 ≡ from_be_bytes w32 octets) parser.old parser.new result }
+        ensures { Takes 4 (λ octets n. n.0 ≡ from_be_bytes w32 octets)
+            parser.old parser.new result }
     {
         Ok(Serial(<u32 as Parse>::parse(parser)?))
     }
 
     /// Appends the four octets. A refused call leaves the target as it was.
     pub fn compose<B: OctetsBuilder>(&self, target: &mut B) -> Result<(), ShortBuf>
-        ensures ok { OnOk result (B.bytes target.new ≡ B.bytes target.old ++ to_be_bytes w32 self.now.0) }
+        ensures ok { let octets = to_be_bytes w32 self.now.0 in
+            OnOk result (B.bytes target.new ≡ B.bytes target.old ++ octets) }
         ensures err { OnErr result (B.bytes target.new ≡ B.bytes target.old) }
         ensures full { OnErr result (B.lacks_room target.old 4) }
     {

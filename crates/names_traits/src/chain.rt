@@ -25,7 +25,8 @@ pub trait ChainEnd: ToLabelIter {
     fn len_before_root(&self) -> u16
         ensures { result ≡ length (spelled (Self.name self.now)) };
 
-    ghost ends: { (n : Self) → (Self.labels n ≡ Self.name n) ⊎ (Self.labels n ≡ Self.name n ++ [] ∷ []) };
+    ghost ends: { (n : Self) → (Self.labels n ≡ Self.name n)
+        ⊎ (Self.labels n ≡ Self.name n ++ [] ∷ []) };
 }
 
 impl<Octs: Octets> ChainEnd for Name<Octs> {
@@ -61,7 +62,8 @@ impl<L: Relative, R: ChainEnd> Model for Chain<L, R> {
 
     ghost view = { λ c. record { left = L.labels c.left; right = c.right } };
 
-    ghost invariant = { λ c. length (spelled (L.labels c.left)) + length (spelled (R.name c.right)) ≤ 254 };
+    ghost invariant = { λ c.
+        length (spelled (L.labels c.left)) + length (spelled (R.name c.right)) ≤ 254 };
 }
 
 impl<L: Relative, R: ChainEnd> Chain<L, R> {
@@ -136,11 +138,13 @@ impl<L: Relative, R: ChainEnd> ChainEnd for Chain<L, R> {
 }
 
 impl<L: Relative, R: ChainEnd + Absolute> Absolute for Chain<L, R> {
-    ghost rooted = { λ c. chain_rooted c.left (R.labels c.right) (R.name c.right) (R.rooted c.right) };
+    ghost rooted = { λ c.
+        chain_rooted c.left (R.labels c.right) (R.name c.right) (R.rooted c.right) };
 }
 
 impl<L: Relative, R: ChainEnd + Relative> Relative for Chain<L, R> {
-    ghost unrooted = { λ c. chain_unrooted c.left (R.labels c.right) (R.name c.right) (R.unrooted c.right) };
+    ghost unrooted = { λ c.
+        chain_unrooted c.left (R.labels c.right) (R.name c.right) (R.unrooted c.right) };
 }
 
 impl<L: Relative, R: ChainEnd + Absolute> ToName for Chain<L, R> {}

@@ -42,7 +42,8 @@ pub trait OctetsBuilder {
             (Lends Self.row (Array byte 0) self.entry result (with_bytes self.entry.now)) }
         ensures value { result.now ≡ bytes self.old };
 
-    ghost shows: { (b : Self) (xs : List ℕ) → length xs ≡ length (bytes b) → bytes (with_bytes b xs) ≡ xs };
+    ghost shows: { (b : Self) (xs : List ℕ) → length xs ≡ length (bytes b)
+        → bytes (with_bytes b xs) ≡ xs };
 }
 
 impl OctetsBuilder for Vec<u8> {

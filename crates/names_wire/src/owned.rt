@@ -148,7 +148,10 @@ impl FromStr for OwnedLabel {
 
     type Err = LabelFromStrError;
 
-    ghost from_str_gives = { λ text result. IfOk result (λ label. label_of_text (chars text) ≡ Some (owned_octets label)) × OnErr result (label_of_text (chars text) ≡ None) × IfErr result (λ e. FirstFault in_turn (chars text) (named e)) };
+    ghost from_str_gives = { λ text result.
+        IfOk result (λ label. label_of_text (chars text) ≡ Some (owned_octets label))
+        × OnErr result (label_of_text (chars text) ≡ None)
+        × IfErr result (λ e. FirstFault in_turn (chars text) (named e)) };
 
     fn from_str(text: &str) -> Result<OwnedLabel, LabelFromStrError> {
         OwnedLabel::from_chars(text.chars())

@@ -268,7 +268,8 @@ impl<'a> ParseRecordData<'a> for Soa<ParsedName<'a>> {
 
 /// The order of the octets in canonical form (RFC 4034, 6.3).
 impl<N: ToName> CanonicalOrd for Soa<N> {
-    ghost canonical = { λ a b. slice_cmp nat_cmp (soa_canonical N.name a) (soa_canonical N.name b) };
+    ghost canonical = { λ a b.
+        slice_cmp nat_cmp (soa_canonical N.name a) (soa_canonical N.name b) };
 
     fn canonical_cmp(&self, other: &Self) -> Ordering {
         let _names = (self.mname.label_count(), other.mname.label_count());

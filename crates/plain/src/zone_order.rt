@@ -71,7 +71,8 @@ fn soa_with_ns<N: ToName>(soa: &Soa<N>, ns: &Ns<N>) -> Ordering
 
 /// The order of the octets in canonical form.
 impl<Octs: Octets, N: ToName> CanonicalOrd for ZoneRecordData<Octs, N> {
-    ghost canonical = { λ a b. slice_cmp nat_cmp (zone_canonical N.name a) (zone_canonical N.name b) };
+    ghost canonical = { λ a b.
+        slice_cmp nat_cmp (zone_canonical N.name a) (zone_canonical N.name b) };
 
     fn canonical_cmp(&self, other: &Self) -> Ordering {
         match (self, other) {

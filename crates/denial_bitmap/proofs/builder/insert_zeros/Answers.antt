@@ -1,4 +1,4 @@
-use Rattle.std.proofs.Common.{◌≡◌, ℕ, List, [], ◌++◌, ◌-◌, ◌+◌, length, take, drop, ap, sym, ◌∙◌, arith, length-drop, length-append}
+use Rattle.std.proofs.Common.{◌≡◌, ℕ, [], ◌++◌, ◌-◌, length, take, drop, ap, sym, ◌∙◌, arith, length-drop, length-append}
 use Rattle.std.proofs.lemmas.List.{take_all, drop_all, append-nil}
 use Rattle.denial_bitmap.specs.Building.{zeros, inserted}
 use Rattle.denial_bitmap.proofs.Windows.{zeros_taken, turned, length-zeros, length-inserted}

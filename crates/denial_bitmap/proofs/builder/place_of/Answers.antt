@@ -1,4 +1,4 @@
-use Rattle.std.proofs.Common.{◌≡◌, ℕ, suc, ◌+◌, ◌<◌, length, drop, ap, ◌∙◌, arith}
+use Rattle.std.proofs.Common.{◌≡◌, ℕ, suc, ◌+◌, length, drop, ap, ◌∙◌, arith}
 use Rattle.definitions.specs.Bitmap.{window_octets}
 use Rattle.denial_bitmap.specs.Building.{window_len, windows_before}
 use Rattle.denial_bitmap.proofs.Windows.{begins_inside, window_len-around, next_begins, next_begins_here}

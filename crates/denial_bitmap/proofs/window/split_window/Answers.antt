@@ -1,4 +1,4 @@
-use Rattle.std.proofs.Common.{◌+◌, ◌<◌, ◌≤◌, length, arith}
+use Rattle.std.proofs.Common.{arith}
 use Rattle.denial_bitmap.proofs.Breaking.{few_octets, no_octets, many_octets, missing_octets}
 use Rattle.denial_bitmap.proofs.window.split_window.Goals as goal
 use Rattle.denial_bitmap.proofs.window.split_window.Goals.{then-len-eq0-via-then-len-eq0, then-len-eq0-via-else-len-eq0+then-len-gt32}

@@ -1,6 +1,5 @@
-use Rattle.std.proofs.Common.{◌≡◌, ℕ, List, suc, ◌∷◌, ◌+◌, ◌-◌, ◌/◌, ◌%◌, ◌<◌, ◌≤◌, length, drop, ap, sym, ◌∙◌, arith}
+use Rattle.std.proofs.Common.{◌≡◌, ℕ, ◌∷◌, ◌+◌, ◌/◌, ◌%◌, length, ap, ◌∙◌, arith}
 use Rattle.std.specs.Prelude.{set, slice_index}
-use Rattle.definitions.specs.Bitmap.{bitmap}
 use Rattle.denial_bitmap.specs.Building.{with_bit, windows_before}
 use Rattle.denial_bitmap.specs.Padding.{roomy}
 use Rattle.denial_bitmap.proofs.Windows.{bit_written, room_inside}

@@ -1,4 +1,4 @@
-use Rattle.std.proofs.Common.{◌++◌, [], map, ap, sym, ◌∙◌, ◌+◌, ◌*◌}
+use Rattle.std.proofs.Common.{◌++◌, map, ap, sym, ◌∙◌, ◌+◌, ◌*◌}
 use Rattle.definitions.specs.Windows.{split}
 use Rattle.definitions.proofs.PlainBitmaps.{is_bitmap-first}
 use Rattle.denial_bitmap.specs.Types.{types_in}
