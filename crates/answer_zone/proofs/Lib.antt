@@ -1,9 +1,11 @@
 pub mod SignMade
 pub mod ZoneSorting
+pub mod ZoneOrder
 pub mod ZoneTtls
 pub mod ZoneServed
 pub mod ZoneFaults
-pub mod ZoneTypes
+pub mod ZoneWords
+pub mod ZoneMade
 pub mod ZoneChains
 pub mod ZoneData
 pub mod ZoneLinks

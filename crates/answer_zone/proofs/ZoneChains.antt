@@ -190,7 +190,7 @@ links_in_order apex (r ∷ rs) h =
     ap (links (low apex)) (sort_by_climbing name_cmp name_cmp_total (low r.owner) (map (λ s. low s.owner) rs) (owners_climb r rs h))
     ∙ links_tidy name_cmp (low apex) (low r.owner) (map (λ s. low s.owner) rs)
 
-names_are : (apex : Name) (rs : List HandedRr) → IsPublished apex rs → nsec_names (zone_with apex rs) ≡ map (λ (m : Name × Name). m.0) (record_links (low apex) rs)
+pub names_are : (apex : Name) (rs : List HandedRr) → IsPublished apex rs → nsec_names (zone_with apex rs) ≡ map (λ (m : Name × Name). m.0) (record_links (low apex) rs)
 names_are apex rs p = ap (sort_by name_cmp) (owners_kept apex rs p.plain p.inside false) ∙ in_order apex rs p.rising
 
 links_are : (apex : Name) (rs : List HandedRr) → IsPublished apex rs → links (low apex) (nsec_names (zone_with apex rs)) ≡ record_links (low apex) rs
@@ -214,7 +214,7 @@ record_is apex hash rs p o =
     let of : List ℕ → Group = λ ts. canonical_group (spelled_among rs o) o 47 (chain_ttl apex rs) ((wire (spelled_as apex rs (nsec_next (zone_with apex rs) o)) ++ bitmap ts) ∷ []) in
     ap of (types_are apex rs p o)
 
-map_agree : {A B : Type 0} (f g : A → B) → ((a : A) → f a ≡ g a) → (xs : List A) → map f xs ≡ map g xs
+pub map_agree : {A B : Type 0} (f g : A → B) → ((a : A) → f a ≡ g a) → (xs : List A) → map f xs ≡ map g xs
 map_agree f g h [] = refl
 map_agree f g h (x ∷ xs) = λ i. h x i ∷ map_agree f g h xs i
 

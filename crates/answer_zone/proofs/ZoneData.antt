@@ -15,10 +15,8 @@ use Rattle.std.proofs.lemmas.Bool.{and_parts, or_parts}
 use Rattle.definitions.specs.Name.{Name, low, labels_eq, same, name_cmp}
 use Rattle.definitions.specs.Signing.{label_count}
 use Rattle.definitions.specs.Zone.{Rr, owner_of, data_at, sorted_data}
-use Rattle.definitions.specs.ZoneChain.{types_at}
 use Rattle.records.specs.HandedRr.{HandedRr}
 use Rattle.answer_zone.specs.Accepting.{record_cmp, rr_of, soas, zone_with}
-use Rattle.answer_zone.specs.Links.{types_of}
 use Rattle.answer_zone.specs.Served.{owner_among, spelled_among}
 use Rattle.answer_zone.specs.ZoneView.{is_of}
 use Rattle.answer_zone.proofs.ZoneChains.{Climbs, less_back, sort_by_climbing, tidy}
@@ -36,11 +34,6 @@ filter-map {A} {B} p f (x ∷ xs) =
     ∙ elim (p (f x)) as (λ b. cond b (f x ∷ map f rest) (map f rest) ≡ map f (cond b (x ∷ rest) rest)) [ true ↦ refl | false ↦ refl ]
 
 -- the types at an owner
-pub types_are_of : (apex : Name) (rs : List HandedRr) (q : Name) → types_of q rs ≡ types_at (zone_with apex rs) (low q)
-types_are_of apex rs q =
-    sym (ap (map (λ (r : Rr). r.rtype)) (filter-map (λ (r : Rr). labels_eq (owner_of r) (low q)) rr_of rs)
-    ∙ map-map (λ (r : Rr). r.rtype) rr_of (filter (λ r. same r.owner q) rs))
-
 -- two records of one RRset differ in their data
 later_data : (q : Name) (t : ℕ) (r s : HandedRr) → is_of q t r ≡ true → is_of q t s ≡ true → record_cmp r s ≡ Less → slice_cmp nat_cmp r.bytes s.bytes ≡ Less
 later_data q t r s a b e =

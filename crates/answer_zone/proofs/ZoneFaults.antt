@@ -9,10 +9,7 @@ use Rattle.answer_zone.specs.declared.fault.ZoneFault.TheVariants as fault
 use Rattle.records.specs.HandedRr.{HandedRr, has_star, is_meta, among}
 use Rattle.records.specs.Star.{begins_with_star}
 use Rattle.answer_zone.specs.Accepting.{record_cmp, sorted_records, zone_of, first_fault, has_unlike_ttls, unlike_ttls, over_limit}
-use Rattle.records.specs.Neighbours.{neighbours}
 use Rattle.records.proofs.Lists.{all_pass, all_fail, all_sorted}
-use Rattle.answer_zone.proofs.ZoneTtls.{unlike_anywhere}
-use Rattle.answer_zone.proofs.ZoneServed.{unlike_kept}
 
 unless : (b : Bool) (x : ZoneFault) (o : Option ZoneFault) → cond b (Some x) o ≡ None → (b ≡ false) × (o ≡ None)
 unless true x o e = cc
@@ -59,5 +56,6 @@ plain_from_none apex mode limit rs e =
       known = all_sorted (λ r. is_meta r ≡ false) record_cmp rs (all_fail is_meta rs k.1);
     }
 
-pub unlike_ttls_are : (apex : Name) (optout : Bool) (rs : List HandedRr) → IsPlain apex (sorted_records rs) → IsStrictlySortedBy record_cmp (sorted_records rs) → has_unlike_ttls (zone_of apex rs) optout (sorted_records rs) ≡ neighbours unlike_ttls (sorted_records rs)
-unlike_ttls_are apex optout rs p s = unlike_kept apex (sorted_records rs) p.plain p.inside optout ∙ unlike_anywhere (sorted_records rs) s
+-- no record is of another class
+pub internet_from_none : (apex : Name) (mode : Mode) (limit : ℕ) (rs : List HandedRr) → first_fault apex mode limit rs ≡ None → list_any (λ r. not (eqb r.class 1)) rs ≡ false
+internet_from_none apex mode limit rs e = (unless (list_any (λ (r : HandedRr). not (eqb r.class 1)) rs) fault.WrongClass _ e).0

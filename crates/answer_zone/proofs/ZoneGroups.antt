@@ -16,7 +16,7 @@ one_more : (own : Bool) (owner : Name) (ws : List Written) (r : HandedRr) → al
 one_more true owner ws r = refl
 one_more false owner ws r = map-append (owned_by owner) ws (written_of_handed r ∷ [])
 
-pub step : (p : HandedRr → Bool) (rs : List HandedRr) (i : ℕ) (r : HandedRr) (b : Bool) → i < length rs → r ≡ get_or rs i r → p r ≡ b → filter p (take (i + 1) rs) ≡ filter p (take i rs) ++ cond b (r ∷ []) []
+pub step : {A : Type 0} (p : A → Bool) (rs : List A) (i : ℕ) (r : A) (b : Bool) → i < length rs → r ≡ get_or rs i r → p r ≡ b → filter p (take (i + 1) rs) ≡ filter p (take i rs) ++ cond b (r ∷ []) []
 step p rs i r b h e t = filter_more p rs i r h ∙ ap (λ x. filter p (take i rs) ++ cond (p x) (x ∷ []) []) (sym e) ∙ ap (λ b. filter p (take i rs) ++ cond b (r ∷ []) []) t
 
 -- the records so far, under an owner, are those of the list

@@ -1,22 +1,25 @@
--- Links that match or cover names, one after another.
-use Rattle.std.proofs.Common.{◌≡◌, ℕ, zero, suc, ◌+◌, ◌<◌, ◌≤◌, true, false, ◌&&◌, ◌||◌, List, [], ◌∷◌, ◌++◌, map, inl, inr, refl, sym, ap, subst, ◌∙◌, cond, Ordering, append_assoc, length, drop, get_or, arith, Some}
+-- Records of the chain that match or cover names, one after another.
+use Rattle.std.proofs.Common.{◌≡◌, ℕ, ◌+◌, ◌<◌, Bool, true, false, ◌&&◌, ◌||◌, List, [], ◌∷◌, ◌++◌, map, refl, sym, ap, subst, ◌∙◌, ⊎_elim, cond, Ordering, append_assoc, length, take, get_or, if◌then◌else◌}
 use Rattle.std.specs.declared.cmp.Ordering.TheVariants.{Less, Equal, Greater}
-use Rattle.std.specs.Prelude.{slice_get}
-use Rattle.std.specs.List.{AllZip, list_any, filter}
-use Rattle.std.specs.Ordering.{is_gt, is_lt}
-use Rattle.std.proofs.lemmas.Bool.{false_from_ne_true, or_left, or_right}
-use Rattle.std.proofs.lemmas.List.{append-nil, drop_all}
-use Rattle.std.proofs.lemmas.Cmp.{tied_itself}
-use Rattle.definitions.specs.Name.{Name, low, same, name_cmp}
+use Rattle.std.specs.List.{AllByRecursion, AllZip, filter}
+use Rattle.std.specs.Ordering.{is_lt}
+use Rattle.std.proofs.lemmas.Bool.{cases_Bool, false_from_ne_true}
+use Rattle.std.proofs.lemmas.List.{append-nil, map-append}
+use Rattle.definitions.specs.Bitmap.{bitmap}
+use Rattle.definitions.specs.Name.{Name, low, labels_eq, same, name_cmp, wire}
 use Rattle.definitions.specs.Covering.{before, covers}
+use Rattle.definitions.specs.ZoneChain.{Nsec, nsec_names, nsec_next, nsec_types}
 use Rattle.records.specs.HandedRr.{HandedRr}
-use Rattle.answer_zone.specs.Served.{Group}
+use Rattle.answer_zone.specs.Accepting.{zone_with}
 use Rattle.answer_zone.specs.GroupView.{Adds, GroupView, Presents}
-use Rattle.answer_zone.specs.Links.{Joins, chosen, link_group, link_speaks}
-use Rattle.answer_zone.proofs.LinkLists.{pairs, proofs_among, record_links}
-use Rattle.answer_zone.specs.ZoneView.{name_cmp_total}
-use Rattle.records.proofs.ZoneNames.{labels_eq-same, same_labels, low_from_Equal, name_cmp-low, name_cmp-same, same-low}
-use Rattle.answer_zone.proofs.ZoneServed.{ahead_is}
+use Rattle.answer_zone.specs.Links.{ChainLink, group_of, link_at, link_speaks, links_of, said_of}
+use Rattle.answer_zone.specs.Served.{Group, canonical_group, chain_record, chain_ttl, proofs_of, served_of, speaks_for, spelled_among, spelled_as}
+use Rattle.answer_zone.specs.ZoneView.{IsPublished}
+use Rattle.answer_zone.proofs.LinkLists.{pairs, record_links}
+use Rattle.answer_zone.proofs.ZoneChains.{names_are, next_is}
+use Rattle.answer_zone.proofs.ZoneData.{low-spelled_among}
+use Rattle.answer_zone.proofs.ZoneGroups.{step}
+use Rattle.records.proofs.ZoneNames.{labels_eq-same, low-low, same_labels, low_from_Equal, name_cmp-low, name_cmp-same, same-low}
 use Rattle.records.proofs.Lists.{zip_append}
 
 pub speaks_equal : (apex owner next q : Name) → name_cmp owner q ≡ Equal → true ≡ (same owner q || covers (low apex) (low owner) (low next) (low q))
@@ -54,105 +57,93 @@ adds_then a b c gs hs h k =
 pub adds_one : (old new : List GroupView) (g : GroupView) (is : Group) → Presents g is → new ≡ old ++ g ∷ [] → Adds old new (is ∷ [])
 adds_one old new g is h e = (g ∷ [], (h, tt), e)
 
--- one link more
-pub among_next : (apex : Name) (rs : List HandedRr) (qs : List Name) (o next : Name) (ls : List (Name × Name)) → proofs_among apex rs qs ((o, next) ∷ ls) ≡ chosen apex rs qs o next ++ proofs_among apex rs qs ls
-among_next apex rs qs o next ls =
-    let rest : List (Name × Name) = filter (λ (m : Name × Name). link_speaks apex qs m.0 m.1) ls in
-    elim (link_speaks apex qs o next) as (λ b. map (λ (m : Name × Name). link_group apex rs m.0 m.1) (cond b ((o, next) ∷ rest) rest) ≡ (elim b [ true ↦ link_group apex rs o next ∷ [] | false ↦ [] ]) ++ map (λ (m : Name × Name). link_group apex rs m.0 m.1) rest) [
-      | true ↦ refl
-      | false ↦ refl
+-- ---- those so far
+
+said_step : (apex : Name) (ttl : ℕ) (qs : List Name) (ls : List ChainLink) (i : ℕ) (l : ChainLink) (b : Bool) → i < length ls → l ≡ get_or ls i l → link_speaks apex qs (low l.owner) (low l.next) ≡ b
+    → said_of apex ttl qs (take (i + 1) ls) ≡ said_of apex ttl qs (take i ls) ++ map (group_of ttl) (cond b (l ∷ []) [])
+said_step apex ttl qs ls i l b h e is =
+    ap (map (group_of ttl)) (step (λ (l : ChainLink). link_speaks apex qs (low l.owner) (low l.next)) ls i l b h e is)
+    ∙ map-append (group_of ttl) (filter (λ l. link_speaks apex qs (low l.owner) (low l.next)) (take i ls)) (cond b (l ∷ []) [])
+
+pub said_more : (apex : Name) (ttl : ℕ) (qs : List Name) (ls : List ChainLink) (i : ℕ) (l : ChainLink) (old mid new : List GroupView) (g : GroupView) → i < length ls → l ≡ get_or ls i l → link_speaks apex qs (low l.owner) (low l.next) ≡ true
+    → Adds old mid (said_of apex ttl qs (take i ls)) → Presents g (group_of ttl l) → new ≡ mid ++ g ∷ [] → Adds old new (said_of apex ttl qs (take (i + 1) ls))
+said_more apex ttl qs ls i l old mid new g h e is before of pushed =
+    subst (Adds old new) (sym (said_step apex ttl qs ls i l true h e is))
+    (adds_then old mid new (said_of apex ttl qs (take i ls)) (group_of ttl l ∷ []) before (adds_one mid new g (group_of ttl l) of pushed))
+
+pub said_same : (apex : Name) (ttl : ℕ) (qs : List Name) (ls : List ChainLink) (i : ℕ) (l : ChainLink) (old mid : List GroupView) → i < length ls → l ≡ get_or ls i l → link_speaks apex qs (low l.owner) (low l.next) ≡ false
+    → Adds old mid (said_of apex ttl qs (take i ls)) → Adds old mid (said_of apex ttl qs (take (i + 1) ls))
+said_same apex ttl qs ls i l old mid h e is before =
+    subst (Adds old mid) (sym (said_step apex ttl qs ls i l false h e is ∙ append-nil (said_of apex ttl qs (take i ls)))) before
+
+-- ---- the chain of the zone
+
+-- a name in lower case, and the name that its record leads to
+abbrev Fits : Name → List HandedRr → Name → Type 0
+Fits apex rs o = (low o ≡ o) × (low (nsec_next (zone_with apex rs) o) ≡ nsec_next (zone_with apex rs) o)
+
+abbrev BothLow : Name × Name → Type 0
+BothLow m = (low m.0 ≡ m.0) × (low m.1 ≡ m.1)
+
+pairs_low : (first x : Name) (ys : List Name) → low first ≡ first → low x ≡ x → AllByRecursion (λ y. low y ≡ y) ys → AllByRecursion BothLow (pairs name_cmp first x ys)
+pairs_low first x [] f h k = ((h, f), tt)
+pairs_low first x (y ∷ ys) f h k =
+    elim (name_cmp y x) as (λ (o : Ordering). AllByRecursion BothLow (elim o [ Less ↦ pairs name_cmp first x ys | Equal ↦ pairs name_cmp first x ys | Greater ↦ (x, y) ∷ pairs name_cmp first y ys ])) [
+      | Less ↦ pairs_low first x ys f h k.1
+      | Equal ↦ pairs_low first x ys f h k.1
+      | Greater ↦ ((h, k.0), pairs_low first y ys f k.0 k.1)
     ]
 
--- The records that speak for some names among the links from an owner on
-abbrev pub left : Name → List HandedRr → List Name → Name → List HandedRr → List Group
-left apex rs qs o later = proofs_among apex rs qs (pairs name_cmp (low apex) (low o) (map (λ s. low s.owner) later))
+owners_low : (rs : List HandedRr) → AllByRecursion (λ y. low y ≡ y) (map (λ s. low s.owner) rs)
+owners_low [] = tt
+owners_low (r ∷ rs) = (low-low r.owner, owners_low rs)
 
--- what was added so far, and what is left
-pub record Passed (apex : Name) (rs : List HandedRr) (qs : List Name) (old new : List GroupView) (owner : Name) (i : ℕ) : Type 0 where
-  pub done : List Group
-  pub adds : Adds old new done
-  pub whole : done ++ left apex rs qs owner (drop i rs) ≡ proofs_among apex rs qs (record_links (low apex) rs)
+links_low : (apex : Name) (rs : List HandedRr) → AllByRecursion BothLow (record_links (low apex) rs)
+links_low apex [] = tt
+links_low apex (r ∷ rs) = pairs_low (low apex) (low r.owner) (map (λ s. low s.owner) rs) (low-low apex) (low-low r.owner) (owners_low rs)
 
-pub first_passed : (apex : Name) (rs : List HandedRr) (qs : List Name) (old : List GroupView) (r : HandedRr) (later : List HandedRr) → rs ≡ r ∷ later → Passed apex rs qs old old r.owner 0
-first_passed apex rs qs old r later e =
-    let ps = pairs name_cmp (low apex) (low r.owner) (map (λ s. low s.owner) later) in
-    record {
-      done = [];
-      adds = adds_none old;
-      whole = ap (left apex rs qs r.owner) e
-          ∙ ap (λ (p : Ordering). proofs_among apex rs qs (elim p [ Less ↦ ps | Equal ↦ ps | Greater ↦ (low r.owner, low r.owner) ∷ ps ])) (tied_itself name_cmp_total (low r.owner))
-          ∙ sym (ap (λ xs. proofs_among apex rs qs (record_links (low apex) xs)) e);
-    }
+fits_each : (apex : Name) (rs : List HandedRr) (ms : List (Name × Name)) → AllByRecursion BothLow ms → AllByRecursion (λ (m : Name × Name). nsec_next (zone_with apex rs) m.0 ≡ m.1) ms → AllByRecursion (Fits apex rs) (map (λ (m : Name × Name). m.0) ms)
+fits_each apex rs [] h k = tt
+fits_each apex rs (m ∷ ms) h k = ((h.0.0, ap low k.0 ∙ h.0.1 ∙ sym k.0), fits_each apex rs ms h.1 k.1)
 
-above_next : (o x : Name) (p : Ordering) → name_cmp x o ≡ p → name_cmp (low x) (low o) ≡ p
-above_next o x p e = name_cmp-low x o ∙ e
+all_fit : (apex : Name) (rs : List HandedRr) → IsPublished apex rs → AllByRecursion (Fits apex rs) (nsec_names (zone_with apex rs))
+all_fit apex rs p = subst (AllByRecursion (Fits apex rs)) (sym (names_are apex rs p)) (fits_each apex rs (record_links (low apex) rs) (links_low apex rs) (next_is apex rs p))
 
-left_above : (apex : Name) (rs : List HandedRr) (qs : List Name) (o : Name) (i : ℕ) (r : HandedRr) → i < length rs → r ≡ get_or rs i r → name_cmp r.owner o ≡ Greater
-    → left apex rs qs o (drop i rs) ≡ chosen apex rs qs (low o) (low r.owner) ++ left apex rs qs r.owner (drop (i + 1) rs)
-left_above apex rs qs o i r h e g =
-    ap (left apex rs qs o) (ahead_is rs i r h e)
-    ∙ ap (λ (p : Ordering). proofs_among apex rs qs (elim p [ Less ↦ pairs name_cmp (low apex) (low o) (map (λ s. low s.owner) (drop (i + 1) rs)) | Equal ↦ pairs name_cmp (low apex) (low o) (map (λ s. low s.owner) (drop (i + 1) rs)) | Greater ↦ (low o, low r.owner) ∷ pairs name_cmp (low apex) (low r.owner) (map (λ s. low s.owner) (drop (i + 1) rs)) ])) (above_next o r.owner Greater g)
-    ∙ among_next apex rs qs (low o) (low r.owner) (pairs name_cmp (low apex) (low r.owner) (map (λ s. low s.owner) (drop (i + 1) rs)))
+-- a spelling of a name in lower case is that name
+spelled_low : (rs : List HandedRr) (o : Name) → low o ≡ o → low (spelled_among rs o) ≡ o
+spelled_low rs o e = ap (λ n. low (spelled_among rs n)) (sym e) ∙ low-spelled_among rs o ∙ e
 
-left_same : (apex : Name) (rs : List HandedRr) (qs : List Name) (o : Name) (i : ℕ) (r : HandedRr) → i < length rs → r ≡ get_or rs i r → (name_cmp r.owner o ≡ Greater → ⊥)
-    → left apex rs qs o (drop i rs) ≡ left apex rs qs o (drop (i + 1) rs)
-left_same apex rs qs o i r h e n =
-    let ps = pairs name_cmp (low apex) (low o) (map (λ s. low s.owner) (drop (i + 1) rs)) in
-    let more = (low o, low r.owner) ∷ pairs name_cmp (low apex) (low r.owner) (map (λ s. low s.owner) (drop (i + 1) rs)) in
-    let go : (p : Ordering) → name_cmp (low r.owner) (low o) ≡ p → (p ≡ Greater → ⊥) → proofs_among apex rs qs (elim p [ Less ↦ ps | Equal ↦ ps | Greater ↦ more ]) ≡ proofs_among apex rs qs ps =
-    λ p. elim p as (λ p. name_cmp (low r.owner) (low o) ≡ p → (p ≡ Greater → ⊥) → proofs_among apex rs qs (elim p [ Less ↦ ps | Equal ↦ ps | Greater ↦ more ]) ≡ proofs_among apex rs qs ps) [ Less ↦ λ _ _. refl | Equal ↦ λ _ _. refl | Greater ↦ λ _ k. absurd (k refl) ] in
-    ap (left apex rs qs o) (ahead_is rs i r h e) ∙ go (name_cmp (low r.owner) (low o)) refl (λ x. n (sym (name_cmp-low r.owner o) ∙ x))
+next_low : (apex : Name) (rs : List HandedRr) (o : Name) → low o ≡ o → low (spelled_as apex rs o) ≡ o
+next_low apex rs o e = ⊎_elim
+    (λ (t : labels_eq (low apex) o ≡ true). ap (λ b. low (if b then apex else spelled_among rs o)) t ∙ same_labels (low apex) o t)
+    (λ (f : labels_eq (low apex) o ≡ false). ap (λ b. low (if b then apex else spelled_among rs o)) f ∙ spelled_low rs o e)
+    (cases_Bool (labels_eq (low apex) o))
 
-pub passed_link : (apex : Name) (rs : List HandedRr) (qs : List Name) (old mid new : List GroupView) (o : Name) (i : ℕ) (r : HandedRr) → i < length rs → r ≡ get_or rs i r → name_cmp r.owner o ≡ Greater
-    → Passed apex rs qs old mid o i → Adds mid new (chosen apex rs qs (low o) (low r.owner)) → Passed apex rs qs old new r.owner (i + 1)
-passed_link apex rs qs old mid new o i r h e g p a =
-    let more = chosen apex rs qs (low o) (low r.owner) in
-    record {
-      done = p.done ++ more;
-      adds = adds_then old mid new p.done more p.adds a;
-      whole = append_assoc p.done more (left apex rs qs r.owner (drop (i + 1) rs)) ∙ ap (λ x. p.done ++ x) (sym (left_above apex rs qs o i r h e g)) ∙ p.whole;
-    }
+-- those that are said of names, and the RRsets of each
+chosen_alike : {A B D : Type 0} (L : A → B) (S : B → Bool) (T : A → Bool) (G : B → D) (C : A → D) (xs : List A) → AllByRecursion (λ x. (S (L x) ≡ T x) × (G (L x) ≡ C x)) xs → map G (filter S (map L xs)) ≡ map C (filter T xs)
+chosen_alike L S T G C [] h = refl
+chosen_alike {A} {B} {D} L S T G C (x ∷ xs) h =
+    let rest = chosen_alike L S T G C xs h.1 in
+    let left : List B = filter S (map L xs) in
+    let right : List A = filter T xs in
+    ap (λ b. map G (cond b (L x ∷ left) left)) h.0.0
+    ∙ elim (T x) as (λ b. map G (cond b (L x ∷ left) left) ≡ map C (cond b (x ∷ right) right)) [
+      | true ↦ (λ i. h.0.1 i ∷ rest i)
+      | false ↦ rest
+    ]
 
-pub passed_same : (apex : Name) (rs : List HandedRr) (qs : List Name) (old new : List GroupView) (o : Name) (i : ℕ) (r : HandedRr) → i < length rs → r ≡ get_or rs i r → (name_cmp r.owner o ≡ Greater → ⊥)
-    → Passed apex rs qs old new o i → Passed apex rs qs old new o (i + 1)
-passed_same apex rs qs old new o i r h e n p =
-    record { done = p.done; adds = p.adds; whole = ap (λ x. p.done ++ x) (sym (left_same apex rs qs o i r h e n)) ∙ p.whole }
+alike : (apex : Name) (hash : Name → List ℕ) (rs : List HandedRr) (qs : List Name) (ns : List Name) → AllByRecursion (Fits apex rs) ns
+    → AllByRecursion (λ o. (link_speaks apex qs (low (link_at apex rs o).owner) (low (link_at apex rs o).next) ≡ link_speaks apex qs o (nsec_next (zone_with apex rs) o)) × (group_of (chain_ttl apex rs) (link_at apex rs o) ≡ chain_record (served_of apex Nsec hash rs) o)) ns
+alike apex hash rs qs [] h = tt
+alike apex hash rs qs (o ∷ ns) h =
+    let z = zone_with apex rs in
+    let own = spelled_low rs o h.0.0 in
+    let next = next_low apex rs (nsec_next z o) h.0.1 in
+    ((λ i. link_speaks apex qs (own i) (next i), (λ i. canonical_group (spelled_among rs o) (own i) 47 (chain_ttl apex rs) ((wire (spelled_as apex rs (nsec_next z o)) ++ bitmap (nsec_types z true o)) ∷ []))), alike apex hash rs qs ns h.1)
 
--- the last link leads to the apex
-pub passed_all : (apex : Name) (rs : List HandedRr) (qs : List Name) (old mid new : List GroupView) (o : Name) (i : ℕ) → length rs ≤ i
-    → Passed apex rs qs old mid o i → Adds mid new (chosen apex rs qs (low o) (low apex)) → Adds old new (proofs_among apex rs qs (record_links (low apex) rs))
-passed_all apex rs qs old mid new o i h p a =
-    let last = chosen apex rs qs (low o) (low apex) in
-    let rest : left apex rs qs o (drop i rs) ≡ last =
-    ap (left apex rs qs o) (drop_all i rs h) ∙ among_next apex rs qs (low o) (low apex) [] ∙ append-nil last in
-    subst (Adds old new) (ap (λ x. p.done ++ x) (sym rest) ∙ p.whole) (adds_then old mid new p.done last p.adds a)
-
--- an owner is among the owners
-pub owner_there : (rs : List HandedRr) (i : ℕ) (r : HandedRr) → i < length rs → r ≡ get_or rs i r → list_any (λ s. same s.owner r.owner) rs ≡ true
-owner_there [] i r h e = absurd (omega arith)
-owner_there (s ∷ rs) zero r h e = or_left (same s.owner r.owner) _ (labels_eq-same (low s.owner) (low r.owner) (ap (λ x. low x.owner) (sym e)))
-owner_there (s ∷ rs) (suc i) r h e = or_right (same s.owner r.owner) _ (owner_there rs i r (omega arith) e)
-
-pub greater_from : (o : Ordering) → is_gt o ≡ true → o ≡ Greater
-greater_from Less e = cc
-greater_from Equal e = cc
-greater_from Greater e = refl
-
-pub not_greater_from : (o : Ordering) → is_gt o ≡ false → o ≡ Greater → ⊥
-not_greater_from Less e g = cc
-not_greater_from Equal e g = cc
-not_greater_from Greater e g = cc
-
-pub first_there : (rs : List HandedRr) (r : HandedRr) → Some r ≡ slice_get rs 0 → rs ≡ r ∷ drop 1 rs
-first_there [] r e = cc
-first_there (x ∷ xs) r e = let h : x ≡ r = cc in ap (λ y. y ∷ xs) h
-
-pub joins_next : (apex : Name) (rs : List HandedRr) (o next : Name) (i : ℕ) (r : HandedRr) → list_any (λ r. same r.owner o) rs ≡ true → i < length rs → r ≡ get_or rs i r → next ≡ r.owner → Joins apex rs o next
-joins_next apex rs o next i r owns h e n = record { owns = owns; leads = inr (ap (λ m. list_any (λ s. same s.owner m) rs) n ∙ owner_there rs i r h e) }
-
-pub joins_apex : (apex : Name) (rs : List HandedRr) (o next : Name) → list_any (λ r. same r.owner o) rs ≡ true → next ≡ apex → Joins apex rs o next
-joins_apex apex rs o next owns n = record { owns = owns; leads = inl (labels_eq-same (low apex) (low next) (ap low (sym n))) }
-
-pub first_owns : (rs : List HandedRr) (r : HandedRr) (o : Name) → rs ≡ r ∷ drop 1 rs → o ≡ r.owner → list_any (λ s. same s.owner o) rs ≡ true
-first_owns rs r o e f =
-    ap (λ xs. list_any (λ s. same s.owner o) xs) e ∙ or_left (same r.owner o) _ (labels_eq-same (low r.owner) (low o) (ap low (sym f)))
+-- the records of the chain that are kept are those of the definitions
+pub proofs_are_said : (apex : Name) (hash : Name → List ℕ) (rs : List HandedRr) → IsPublished apex rs → (qs : List Name) → said_of apex (chain_ttl apex rs) qs (links_of apex rs) ≡ proofs_of (served_of apex Nsec hash rs) qs
+proofs_are_said apex hash rs p qs =
+    let z = zone_with apex rs in
+    chosen_alike (link_at apex rs) (λ l. link_speaks apex qs (low l.owner) (low l.next)) (λ o. link_speaks apex qs o (nsec_next z o)) (group_of (chain_ttl apex rs)) (chain_record (served_of apex Nsec hash rs)) (nsec_names z)
+    (alike apex hash rs qs (nsec_names z) (all_fit apex rs p))

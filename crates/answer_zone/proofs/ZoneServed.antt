@@ -51,7 +51,7 @@ any_low q (r ∷ rs) = λ i. at_or_above-low q r.owner i || any_low q rs i
 pub kept_is : (apex : Name) (rs : List HandedRr) → Plain apex rs → (optout : Bool) (o : Name) → is_kept (zone_with apex rs) optout o ≡ at_or_above (low apex) o
 kept_is apex rs h optout o = rw (no_cut_above apex rs h o, no_delegation apex rs h o) (shown (at_or_above (low apex) o) optout (has (zone_with apex rs) o 43))
 
-all_kept : (apex : Name) (rs : List HandedRr) → Plain apex rs → Inside apex rs → (optout : Bool) (of : List HandedRr) → Inside apex of → AllByRecursion (λ r. is_kept (zone_with apex rs) optout (low r.owner) ≡ true) of
+pub all_kept : (apex : Name) (rs : List HandedRr) → Plain apex rs → Inside apex rs → (optout : Bool) (of : List HandedRr) → Inside apex of → AllByRecursion (λ r. is_kept (zone_with apex rs) optout (low r.owner) ≡ true) of
 all_kept apex rs h k optout of j =
     all_more (λ r. at_or_above apex r.owner ≡ true) (λ r. is_kept (zone_with apex rs) optout (low r.owner) ≡ true) of
     (λ r e. kept_is apex rs h optout (low r.owner) ∙ at_or_above-low apex r.owner ∙ e) j
@@ -131,12 +131,6 @@ ttl_later rs q t i r h e n = sym (ap (λ xs. ttl_among xs (low q) t) (ahead_is r
 
 pub ttl_here : (rs : List HandedRr) (q : Name) (t i : ℕ) (r : HandedRr) → i < length rs → r ≡ get_or rs i r → is_of q t r ≡ true → ttl_among (drop i rs) (low q) t ≡ r.ttl
 ttl_here rs q t i r h e n = ap (λ xs. ttl_among xs (low q) t) (ahead_is rs i r h e) ∙ ap (λ b. if b then r.ttl else ttl_among (drop (i + 1) rs) (low q) t) n
-
-pub spelled_later : (rs : List HandedRr) (q : Name) (i : ℕ) (r : HandedRr) → i < length rs → r ≡ get_or rs i r → same r.owner q ≡ false → spelled_among (drop (i + 1) rs) (low q) ≡ spelled_among (drop i rs) (low q)
-spelled_later rs q i r h e n = sym (ap (λ xs. spelled_among xs (low q)) (ahead_is rs i r h e) ∙ ap (λ b. if b then r.owner else spelled_among (drop (i + 1) rs) (low q)) n)
-
-pub spelled_here : (rs : List HandedRr) (q : Name) (i : ℕ) (r : HandedRr) → i < length rs → r ≡ get_or rs i r → same r.owner q ≡ true → spelled_among (drop i rs) (low q) ≡ r.owner
-spelled_here rs q i r h e n = ap (λ xs. spelled_among xs (low q)) (ahead_is rs i r h e) ∙ ap (λ b. if b then r.owner else spelled_among (drop (i + 1) rs) (low q)) n
 
 pub any_later : (p : HandedRr → Bool) (rs : List HandedRr) (i : ℕ) (r : HandedRr) → i < length rs → r ≡ get_or rs i r → p r ≡ false → list_any p (drop (i + 1) rs) ≡ list_any p (drop i rs)
 any_later p rs i r h e n = sym (ap (list_any p) (ahead_is rs i r h e) ∙ ap (λ b. b || list_any p (drop (i + 1) rs)) n)

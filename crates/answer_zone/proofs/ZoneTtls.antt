@@ -1,159 +1,142 @@
--- Unequal TTLs stand side by side in a sorted zone.
-use Rattle.std.proofs.Common.{◌≡◌, Bool, true, false, ◌&&◌, ◌||◌, not, List, [], ◌∷◌, ◌⊎◌, inl, inr, refl, sym, ap, ◌∙◌, Ordering, eqb, ⊎_elim}
-use Rattle.std.specs.declared.cmp.Ordering.TheVariants.{Less, Equal, Greater}
-use Rattle.std.specs.List.{list_any, AllByRecursion}
-use Rattle.std.specs.List.Sorted.{IsStrictlySortedBy}
-use Rattle.std.specs.Ordering.{nat_cmp, ordering_then, then_cmp, on}
-use Rattle.std.specs.Cmp.{IsTotalOrder, then_total, on_total, both_ways}
-use Rattle.std.proofs.lemmas.Cmp.{nat_cmp_total, tied_itself, tied_back, alike_right}
-use Rattle.std.proofs.lemmas.Bool.{and_parts, and_from, or_cases, or_left, or_right, eqb-true, eq-eqb, eqb-false, false≢true, false_from_ne_true, cases_Bool, not-true, not_from_false}
-use Rattle.std.specs.FinMap.{nat_cmp-IsAntisymmetric}
-use Rattle.definitions.specs.Name.{low, same, name_cmp}
-use Rattle.records.specs.HandedRr.{HandedRr}
-use Rattle.answer_zone.specs.Accepting.{record_cmp, unlike_ttls}
-use Rattle.answer_zone.specs.ZoneView.{name_cmp_total}
-use Rattle.records.specs.Neighbours.{neighbours}
-use Rattle.records.proofs.Lists.{Has, found, any_from, all_at}
-use Rattle.records.proofs.ZoneNames.{same_labels, labels_eq-same, low_from_Equal, name_cmp-same}
+-- Why records have no chain, said of them as they were handed in.
+use Rattle.std.proofs.Common.{◌≡◌, ℕ, Bool, true, false, ◌&&◌, ◌||◌, not, List, [], ◌∷◌, map, length, Option, Some, None, refl, sym, ap, ◌∙◌, eqb, arith, cond}
+use Rattle.std.specs.Prelude.{IsSome}
+use Rattle.std.specs.List.{list_any, AllByRecursion, filter}
+use Rattle.std.specs.Option.{option_map}
+use Rattle.std.proofs.lemmas.Bool.{or_parts, false≢true}
+use Rattle.std.proofs.lemmas.List.{length-map}
+use Rattle.definitions.specs.Name.{Name, low, same, at_or_above, strictly_above}
+use Rattle.definitions.specs.Zone.{Zone, is_kept}
+use Rattle.plain.specs.ZoneData.{zone_canonical, zone_type}
+use Rattle.plain.specs.declared.record.Record.{Record}
+use Rattle.plain.specs.declared.zone_data.ZoneRecordData.{ZoneRecordData}
+use Rattle.plain.specs.declared.zone_data.ZoneRecordData.TheVariants.{Soa, Ns, Unknown}
+use Rattle.denial_sorted.specs.Groups.{is_at}
+use Rattle.denial_owners.specs.Soa.{minimum_of, soa_ttls, ttls_of, ttls_of_one}
+use Rattle.denial_owners.specs.Ttls as words
+use Rattle.records.specs.HandedRr.{HandedRr, among, handed_of, has_star, is_meta, is_unknown}
+use Rattle.records.proofs.Lists.{list_any-map}
+use Rattle.answer_zone.specs.Accepting.{has_unlike_ttls, soas, unlike_ttls, zone_with}
+use Rattle.answer_zone.proofs.WritesNames.{all_filter}
+use Rattle.answer_zone.proofs.ZoneData.{filter-map}
+use Rattle.answer_zone.proofs.ZoneServed.{all_kept, unlike_kept}
+use Rattle.answer_zone.proofs.ZoneWords.{zone_is}
 
--- by owner and type
-abbrev set_cmp : HandedRr → HandedRr → Ordering
-set_cmp = then_cmp (on (λ (r : HandedRr). r.owner) name_cmp) (on (λ (r : HandedRr). r.rtype) nat_cmp)
+-- ---- tests of lists
 
-set_cmp_total : IsTotalOrder set_cmp
-set_cmp_total = then_total (on_total (λ (r : HandedRr). r.owner) name_cmp_total) (on_total (λ (r : HandedRr). r.rtype) nat_cmp_total)
+any_agree : {A : Type 0} (p q : A → Bool) (xs : List A) → AllByRecursion (λ x. p x ≡ q x) xs → list_any p xs ≡ list_any q xs
+any_agree p q [] h = refl
+any_agree p q (x ∷ xs) h = λ i. h.0 i || any_agree p q xs h.1 i
 
--- the first that is not Equal decides
-not_Greater : (o p : Ordering) → ordering_then o p ≡ Less → (o ≡ Less) ⊎ (o ≡ Equal)
-not_Greater Less p e = inl refl
-not_Greater Equal p e = inr refl
-not_Greater Greater p e = cc
+everywhere : {A : Type 0} (P : A → Type 0) → ((x : A) → P x) → (xs : List A) → AllByRecursion P xs
+everywhere P h [] = tt
+everywhere P h (x ∷ xs) = (h x, everywhere P h xs)
 
-then_parts : (o p : Ordering) → ordering_then o p ≡ Equal → (o ≡ Equal) × (p ≡ Equal)
-then_parts Less p e = cc
-then_parts Equal p e = (refl, e)
-then_parts Greater p e = cc
+all_of_map : {A B : Type 0} (P : B → Type 0) (f : A → B) (xs : List A) → AllByRecursion P (map f xs) → AllByRecursion (λ x. P (f x)) xs
+all_of_map P f [] h = tt
+all_of_map P f (x ∷ xs) h = (h.0, all_of_map P f xs h.1)
 
-then_assoc : (o p q : Ordering) → ordering_then o (ordering_then p q) ≡ ordering_then (ordering_then o p) q
-then_assoc Less p q = refl
-then_assoc Equal p q = refl
-then_assoc Greater p q = refl
+all_then : {A : Type 0} (P Q : A → Type 0) → ((x : A) → P x → Q x) → (xs : List A) → AllByRecursion P xs → AllByRecursion Q xs
+all_then P Q f [] h = tt
+all_then P Q f (x ∷ xs) h = (f x h.0, all_then P Q f xs h.1)
 
-set_below : (r s : HandedRr) → record_cmp r s ≡ Less → (set_cmp r s ≡ Less) ⊎ (set_cmp r s ≡ Equal)
-set_below r s e = not_Greater (set_cmp r s) _ (sym (then_assoc (name_cmp r.owner s.owner) (nat_cmp r.rtype s.rtype) _) ∙ e)
+filter_agree : {A : Type 0} (p q : A → Bool) → ((x : A) → p x ≡ q x) → (xs : List A) → filter p xs ≡ filter q xs
+filter_agree p q h [] = refl
+filter_agree p q h (x ∷ xs) = λ i. cond (h x i) (x ∷ filter_agree p q h xs i) (filter_agree p q h xs i)
 
--- what stands between two of one set is of the set
-between : (r s t : HandedRr) → record_cmp r s ≡ Less → record_cmp s t ≡ Less → set_cmp r t ≡ Equal → (set_cmp r s ≡ Equal) × (set_cmp s t ≡ Equal)
-between r s t a b e =
-    let o = set_cmp_total in
-    ⊎_elim
-    (λ l. ⊎_elim
-    (λ m. let k = o.trans r s t l m in cc)
-    (λ m. let k : set_cmp r s ≡ set_cmp r t = alike_right o s t r m in cc)
-    (set_below s t b))
-    (λ l. (l, sym (o.congr r s t l) ∙ e))
-    (set_below r s a)
+pass_one : {A : Type 0} (p : A → Bool) (x : A) (rest : List A) (b : Bool) → p x ≡ b → AllByRecursion (λ x. p x ≡ true) rest → AllByRecursion (λ x. p x ≡ true) (cond b (x ∷ rest) rest)
+pass_one p x rest true e h = (e, h)
+pass_one p x rest false e h = h
 
-set_from_parts : (r s : HandedRr) → same r.owner s.owner ≡ true → eqb r.rtype s.rtype ≡ true → set_cmp r s ≡ Equal
-set_from_parts r s a b =
-    rw (name_cmp-same r.owner s.owner (same_labels (low r.owner) (low s.owner) a)) (let e = eqb-true r.rtype s.rtype b in ap (λ t. nat_cmp t s.rtype) e ∙ tied_itself nat_cmp_total s.rtype)
+filter_passes : {A : Type 0} (p : A → Bool) (xs : List A) → AllByRecursion (λ x. p x ≡ true) (filter p xs)
+filter_passes p [] = tt
+filter_passes p (x ∷ xs) = pass_one p x (filter p xs) (p x) refl (filter_passes p xs)
 
-parts_of_set : (r s : HandedRr) → set_cmp r s ≡ Equal → (same r.owner s.owner ≡ true) × (r.rtype ≡ s.rtype)
-parts_of_set r s e =
-    let p = then_parts (name_cmp r.owner s.owner) (nat_cmp r.rtype s.rtype) e in
-    (labels_eq-same (low r.owner) (low s.owner) (low_from_Equal r.owner s.owner p.0), nat_cmp-IsAntisymmetric r.rtype s.rtype p.1)
+and_back : (a b : Bool) → (a && b) ≡ (b && a)
+and_back true true = refl
+and_back true false = refl
+and_back false true = refl
+and_back false false = refl
 
-record Unlike (r s : HandedRr) : Type 0 where
-  set : set_cmp r s ≡ Equal
-  ttl : eqb r.ttl s.ttl ≡ false
-  unsigned : eqb r.rtype 46 ≡ false
+and_first : (a b : Bool) → (a && b) ≡ true → a ≡ true
+and_first true b e = refl
+and_first false b e = e
 
-unlike_parts : (r s : HandedRr) → unlike_ttls r s ≡ true → Unlike r s
-unlike_parts r s e =
-    let a = and_parts ((same r.owner s.owner && eqb r.rtype s.rtype) && not (eqb r.ttl s.ttl)) (not (eqb r.rtype 46)) e in
-    let b = and_parts (same r.owner s.owner && eqb r.rtype s.rtype) (not (eqb r.ttl s.ttl)) a.0 in
-    let d = and_parts (same r.owner s.owner) (eqb r.rtype s.rtype) b.0 in
-    record { set = set_from_parts r s d.0 d.1; ttl = not-true _ b.1; unsigned = not-true _ a.1 }
+in_front : (a b c d : Bool) → (a && ((b && c) && d)) ≡ (((a && b) && c) && d)
+in_front true b c d = refl
+in_front false b c d = refl
 
-unlike_from : (r s : HandedRr) → Unlike r s → unlike_ttls r s ≡ true
-unlike_from r s u =
-    let p = parts_of_set r s u.set in
-    and_from _ _ (and_from _ _ (and_from _ _ p.0 (eq-eqb r.rtype s.rtype p.1)) (not_from_false _ u.ttl)) (not_from_false _ u.unsigned)
+module _ {O : Type 0} where
+  -- ---- the SOA record
 
--- of two of one set with something between, that is unlike one of them
-near : (r s t : HandedRr) → record_cmp r s ≡ Less → record_cmp s t ≡ Less → unlike_ttls r t ≡ true → (unlike_ttls r s ≡ true) ⊎ (unlike_ttls s t ≡ true)
-near r s t a b e =
-    let u = unlike_parts r t e in
-    let k = between r s t a b u.set in
-    let rs = parts_of_set r s k.0 in
-    ⊎_elim
-    (λ same_ttl. let q = eqb-true r.ttl s.ttl same_ttl in inr (unlike_from s t (record { set = k.1; ttl = ap (λ n. eqb n t.ttl) (sym q) ∙ u.ttl; unsigned = ap (λ n. eqb n 46) (sym rs.1) ∙ u.unsigned })))
-    (λ other. inl (unlike_from r s (record { set = k.0; ttl = other; unsigned = u.unsigned })))
-    (cases_Bool (eqb r.ttl s.ttl))
+  -- data of an SOA record that are known have a minimum
+  has_minimum : (d : ZoneRecordData O Name) → (is_unknown d && among (2 ∷ 6 ∷ []) (zone_type d)) ≡ false → eqb (zone_type d) 6 ≡ true → (m : ℕ) × (minimum_of d ≡ Some m)
+  has_minimum (Soa s) n e = (s.times.minimum, refl)
+  has_minimum (Ns d) n e = absurd (false≢true e)
+  has_minimum (Unknown u) n e =
+      let a = or_parts (eqb u.rtype 2) (eqb u.rtype 6 || false) n in
+      let b = or_parts (eqb u.rtype 6) false a.1 in
+      absurd (false≢true (sym b.0 ∙ e))
 
-unlike_back : (r s : HandedRr) → unlike_ttls r s ≡ true → unlike_ttls s r ≡ true
-unlike_back r s e =
-    let u = unlike_parts r s e in
-    let p = parts_of_set r s u.set in
-    unlike_from s r (record {
-      set = tied_back set_cmp_total r s u.set;
-      ttl = false_from_ne_true (eqb s.ttl r.ttl) (λ t. eqb-false r.ttl s.ttl u.ttl (sym (eqb-true s.ttl r.ttl t)));
-      unsigned = ap (λ n. eqb n 46) (sym p.1) ∙ u.unsigned;
-    })
+  abbrev IsKnown : Record Name (ZoneRecordData O Name) → Type 0
+  IsKnown r = is_meta (handed_of r) ≡ false
 
-unlike_itself : (r : HandedRr) → unlike_ttls r r ≡ true → ⊥
-unlike_itself r e = let u = unlike_parts r r e in eqb-false r.ttl r.ttl u.ttl refl
+  abbrev at_apex : Name → Record Name (ZoneRecordData O Name) → Bool
+  at_apex apex r = is_at (λ n. n) zone_type apex 6 r
 
--- a test holds of an item and a later one
-abbrev later : List HandedRr → Bool
-later [] = false
-later (x ∷ xs) = list_any (unlike_ttls x) xs || later xs
+  has_ttls : (apex : Name) (r : Record Name (ZoneRecordData O Name)) → IsKnown r → at_apex apex r ≡ true → ttls_of r ≡ None → ⊥
+  has_ttls apex r known here none =
+      let unknown = (or_parts _ (is_unknown r.content && among (2 ∷ 6 ∷ []) (zone_type r.content)) known).1 in
+      let m = has_minimum r.content unknown (and_first (eqb (zone_type r.content) 6) (same r.owner apex) here) in
+      let some : ttls_of r ≡ Some (record { ttl = r.ttl; minimum = m.0 }) = ap (option_map (λ m. record { ttl = r.ttl; minimum = m })) m.1 in
+      cc
 
-later_from : (xs : List HandedRr) (r s : HandedRr) → Has xs r → Has xs s → unlike_ttls r s ≡ true → later xs ≡ true
-later_from [] r s h k e = absurd h
-later_from (x ∷ xs) r s h k e = ⊎_elim
-    (λ p. ⊎_elim
-    (λ q. absurd (unlike_itself x (ap (λ t. unlike_ttls t x) (sym p) ∙ ap (λ t. unlike_ttls r t) (sym q) ∙ e)))
-    (λ j. or_left _ _ (any_from (unlike_ttls x) xs s j (ap (λ t. unlike_ttls t s) (sym p) ∙ e)))
-    k)
-    (λ j. ⊎_elim
-    (λ q. or_left _ _ (any_from (unlike_ttls x) xs r j (ap (λ t. unlike_ttls t r) (sym q) ∙ unlike_back r s e)))
-    (λ i. or_right _ _ (later_from xs r s j i e))
-    k)
-    h
+  none_or_one : (apex : Name) (xs : List (Record Name (ZoneRecordData O Name))) → AllByRecursion IsKnown xs → AllByRecursion (λ r. at_apex apex r ≡ true) xs → ttls_of_one xs ≡ None → length xs ≡ 1 → ⊥
+  none_or_one apex [] k h e l = absurd (omega (arith, l))
+  none_or_one apex (r ∷ []) k h e l = has_ttls apex r k.0 h.0 e
+  none_or_one apex (r ∷ s ∷ xs) k h e l = absurd (omega (arith, l))
 
-below_next : (x : HandedRr) (xs : List HandedRr) → IsStrictlySortedBy record_cmp (x ∷ xs) → AllByRecursion (λ y. record_cmp x y ≡ Less) xs × IsStrictlySortedBy record_cmp xs
-unfolding IsStrictlySortedBy
-below_next x xs s = s
+  some_is_one : (xs : List (Record Name (ZoneRecordData O Name))) → IsSome (ttls_of_one xs) → length xs ≡ 1
+  some_is_one [] s = cc
+  some_is_one (r ∷ []) s = refl
+  some_is_one (r ∷ t ∷ xs) s = cc
 
-neighbours_from : (xs : List HandedRr) → IsStrictlySortedBy record_cmp xs → later xs ≡ true → neighbours unlike_ttls xs ≡ true
-neighbours_from [] s e = e
-neighbours_from (x ∷ []) s e = e
-neighbours_from (x ∷ y ∷ ys) s e =
-    let a = below_next x (y ∷ ys) s in
-    let b = below_next y ys a.1 in
-    ⊎_elim
-    (λ h. let f = found (unlike_ttls x) (y ∷ ys) h in
-    ⊎_elim
-    (λ q. or_left _ _ (ap (λ t. unlike_ttls x t) (sym q) ∙ f.2))
-    (λ k. ⊎_elim
-    (λ u. or_left _ _ u)
-    (λ u. or_right _ _ (neighbours_from (y ∷ ys) a.1 (or_left _ (later ys) (any_from (unlike_ttls y) ys f.0 k u))))
-    (near x y f.0 a.0.0 (all_at (λ z. record_cmp y z ≡ Less) ys f.0 b.0 k) f.2))
-    f.1)
-    (λ h. or_right _ _ (neighbours_from (y ∷ ys) a.1 h))
-    (or_cases (list_any (unlike_ttls x) (y ∷ ys)) (later (y ∷ ys)) e)
+  soas_are : (apex : Name) (rs : List (Record Name (ZoneRecordData O Name))) → length (soas apex (map handed_of rs)) ≡ length (filter (at_apex apex) rs)
+  soas_are apex rs =
+      ap length (filter-map (λ (r : HandedRr). same r.owner apex && eqb r.rtype 6) handed_of rs)
+      ∙ length-map (filter (λ r. same r.owner apex && eqb (zone_type r.content) 6) rs) handed_of
+      ∙ ap length (filter_agree (λ (r : Record Name (ZoneRecordData O Name)). same r.owner apex && eqb (zone_type r.content) 6) (at_apex apex) (λ r. and_back (same r.owner apex) (eqb (zone_type r.content) 6)) rs)
 
--- two neighbours are two items
-pair_of_neighbours : (xs : List HandedRr) → neighbours unlike_ttls xs ≡ true → (r s : HandedRr) × Has xs r × Has xs s × (unlike_ttls r s ≡ true)
-pair_of_neighbours [] e = absurd (false≢true e)
-pair_of_neighbours (x ∷ []) e = absurd (false≢true e)
-pair_of_neighbours (x ∷ y ∷ ys) e = ⊎_elim
-    (λ h. (x, y, inl refl, inr (inl refl), h))
-    (λ h. let p = pair_of_neighbours (y ∷ ys) h in (p.0, p.1, inr p.2, inr p.3, p.4))
-    (or_cases (unlike_ttls x y) _ e)
+  -- no single SOA record
+  pub no_single_soa : (apex : Name) (rs : List (Record Name (ZoneRecordData O Name))) → AllByRecursion (λ r. is_meta r ≡ false) (map handed_of rs) → soa_ttls (λ n. n) apex rs ≡ None → length (soas apex (map handed_of rs)) ≡ 1 → ⊥
+  no_single_soa apex rs known none one =
+      none_or_one apex (filter (at_apex apex) rs)
+      (all_filter IsKnown (at_apex apex) rs (all_of_map (λ r. is_meta r ≡ false) handed_of rs known))
+      (filter_passes (at_apex apex) rs) none (sym (soas_are apex rs) ∙ one)
 
-pub unlike_anywhere : (xs : List HandedRr) → IsStrictlySortedBy record_cmp xs → list_any (λ r. list_any (unlike_ttls r) xs) xs ≡ neighbours unlike_ttls xs
-unlike_anywhere xs s = both_ways _ _
-    (λ e. let f = found (λ r. list_any (unlike_ttls r) xs) xs e in let g = found (unlike_ttls f.0) xs f.2 in neighbours_from xs s (later_from xs f.0 g.0 f.1 g.1 g.2))
-    (λ e. let p = pair_of_neighbours xs e in any_from (λ r. list_any (unlike_ttls r) xs) xs p.0 p.2 (any_from (unlike_ttls p.0) xs p.1 p.3 p.4))
+  pub single_soa : (apex : Name) (rs : List (Record Name (ZoneRecordData O Name))) → IsSome (soa_ttls (λ n. n) apex rs) → length (soas apex (map handed_of rs)) ≡ 1
+  single_soa apex rs some = soas_are apex rs ∙ some_is_one (filter (at_apex apex) rs) some
+
+  -- ---- TTLs
+
+  unlike_one : (rs : List (Record Name (ZoneRecordData O Name))) (r : Record Name (ZoneRecordData O Name)) → list_any (λ s. same r.owner s.owner && words.unlike_ttls zone_type r s) rs ≡ list_any (unlike_ttls (handed_of r)) (map handed_of rs)
+  unlike_one rs r =
+      any_agree (λ s. same r.owner s.owner && words.unlike_ttls zone_type r s) (λ s. unlike_ttls (handed_of r) (handed_of s)) rs
+      (everywhere (λ s. (same r.owner s.owner && words.unlike_ttls zone_type r s) ≡ unlike_ttls (handed_of r) (handed_of s)) (λ s. in_front (same r.owner s.owner) (eqb (zone_type r.content) (zone_type s.content)) (not (eqb r.ttl s.ttl)) (not (eqb (zone_type r.content) 46))) rs)
+      ∙ sym (list_any-map (unlike_ttls (handed_of r)) handed_of rs)
+
+  -- unequal TTLs, among the records of a zone that keeps all its owners
+  pub ttls_are : (apex : Name) (optout : Bool) (rs : List (Record Name (ZoneRecordData O Name)))
+      → AllByRecursion (λ r. (((eqb r.rtype 2) && strictly_above apex r.owner) || has_star r.owner) ≡ false) (map handed_of rs)
+      → AllByRecursion (λ r. at_or_above apex r.owner ≡ true) (map handed_of rs)
+      → words.has_unequal_ttls (λ n. n) zone_type (zone_canonical (λ n. n)) apex false rs ≡ has_unlike_ttls (zone_with apex (map handed_of rs)) optout (map handed_of rs)
+  ttls_are apex optout rs plain inside =
+      let hs = map handed_of rs in
+      let all = λ (z : Zone). list_any (λ (r : Record Name (ZoneRecordData O Name)). is_kept z false (low r.owner) && list_any (λ s. same r.owner s.owner && words.unlike_ttls zone_type r s) rs) rs in
+      let kept = all_of_map (λ r. is_kept (zone_with apex hs) false (low r.owner) ≡ true) handed_of rs (all_kept apex hs plain inside false hs inside) in
+      ap all (zone_is apex rs)
+      ∙ any_agree (λ r. is_kept (zone_with apex hs) false (low r.owner) && list_any (λ s. same r.owner s.owner && words.unlike_ttls zone_type r s) rs) (λ r. list_any (unlike_ttls (handed_of r)) hs) rs
+      (all_then (λ r. is_kept (zone_with apex hs) false (low r.owner) ≡ true) (λ r. (is_kept (zone_with apex hs) false (low r.owner) && list_any (λ s. same r.owner s.owner && words.unlike_ttls zone_type r s) rs) ≡ list_any (unlike_ttls (handed_of r)) hs)
+      (λ r k. ap (λ b. b && list_any (λ s. same r.owner s.owner && words.unlike_ttls zone_type r s) rs) k ∙ unlike_one rs r) rs kept)
+      ∙ sym (list_any-map (λ (r : HandedRr). list_any (unlike_ttls r) hs) handed_of rs)
+      ∙ sym (unlike_kept apex hs plain inside optout)

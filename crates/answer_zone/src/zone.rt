@@ -1,43 +1,47 @@
 //! A zone's records in canonical order, and the RRsets of its answers. Keys are not known here.
-ghost use Rattle.std.specs.Prelude.{◌≡◌, ◌⊎◌, IfOk, IfErr};
-ghost use Rattle.answer_zone.specs.Accepting.{IsAccepted, IsFault, sorted_records, soas};
+ghost use Rattle.std.specs.Prelude.{◌≡◌, ◌⊎◌, map, IfOk, IfErr};
+ghost use Rattle.answer_zone.specs.Accepting.{IsAccepted, IsFault, sorted_records, zone_fault};
 ghost use Rattle.answer_zone.specs.ZoneView.{IsPublished, mode_of};
 ghost use Rattle.records.specs.HandedRr.{handed_of};
 ghost use Rattle.records.specs.Handed.{AreHanded, IsHanded};
 ghost use Rattle.definitions.specs.Name.{IsName};
 ghost use Rattle.definitions.specs.ZoneChain.{Nsec};
 ghost use Rattle.std.specs.List.{AllByRecursion};
-ghost use Rattle.std.specs.Prelude.{length, map, ◌==◌};
 
 use crate::fault::{Mode, ZoneFault};
+use crate::zone::chain::{ChainLink, chain_of};
 use crate::zone::faults::first_fault;
 use crate::zone::handed::HandedRecord;
-use crate::zone::sorting::{has_unlike_neighbours, sorted};
+use denial_owners::error;
+use denial_sorted::laws::zone_data_order_is_total;
+use denial_sorted::sorted::SortedRecords;
 use records::names::{Name, ZoneName};
-use records::record::ZoneRecord;
+use records::record::{ZoneRecord, keeps};
 use signed_data::generate::SigningError;
 use std::alloc::{AllocError, Global};
 use std::marker::Model;
 
 pub mod answers;
-mod bitmap;
+mod chain;
 mod faults;
+mod given;
 mod handed;
-mod links;
 mod lookups;
-mod sorting;
 
-/// The records of an accepted zone in canonical order.
+/// The records of an accepted zone in canonical order, and its chain.
 #[derive(Drop)]
 pub struct ZoneRecords {
     apex: Name<Vec<u8>>,
     mode: Mode,
     limit: u16,
     records: Vec<HandedRecord>,
+    chain: Vec<ChainLink>,
 }
 
 impl Model for ZoneRecords {
     ghost use Rattle.records.specs.Handed.{AreHanded};
+    ghost use Rattle.std.specs.Prelude.{◌≡◌};
+    ghost use Rattle.answer_zone.specs.Links.{links_of};
     ghost use Rattle.answer_zone.specs.ZoneView.{AcceptedZone, IsPublished, mode_of};
 
     ghost Value = { AcceptedZone };
@@ -50,7 +54,8 @@ impl Model for ZoneRecords {
     } };
 
     ghost invariant = { λ z. IsPublished z.apex z.records.items
-        × AreHanded z.apex z.records.items };
+        × AreHanded z.apex z.records.items
+        × (z.chain.items ≡ links_of z.apex z.records.items) };
 }
 
 impl ZoneRecords {
@@ -77,49 +82,27 @@ impl ZoneRecords {
             ⊎ IsFault apex (mode_of mode) limit (map handed_of records.items) f) }
     {
         apex.keeps();
-        match composed(alloc, records) {
-            Ok(records) => ZoneRecords::of_handed(alloc, apex, records, mode, limit),
-            Err(_) => Err(ZoneFault::Memory),
-        }
-    }
-
-    /// A zone of records whose data are composed.
-    fn of_handed(
-        alloc: Global,
-        apex: Name<Vec<u8>>,
-        records: Vec<HandedRecord>,
-        mode: Mode,
-        limit: u16,
-    ) -> Result<ZoneRecords, ZoneFault>
-        requires name { IsName apex }
-        requires handed { AllByRecursion IsHanded records.items }
-        ensures zone { IfOk result (λ z. z ≡ record {
-          apex = apex;
-          mode = mode_of mode;
-          limit = limit;
-          records = sorted_records records.items;
-        }) }
-        ensures accepted { IfOk result (λ z. IsAccepted apex (mode_of mode) limit records.items) }
-        ensures fault { IfErr result
-            (λ f. (f ≡ ZoneFault.Memory) ⊎ IsFault apex (mode_of mode) limit records.items f) }
-    {
+        all_keep(&records);
         if let Some(fault) = first_fault(&apex, &mode, limit, &records) {
             return Err(fault);
         }
-        let Ok(records) = sorted(alloc, records) else {
+        zone_data_order_is_total::<Vec<u8>, Name<Vec<u8>>>();
+        let Ok(sorted) = SortedRecords::from_vec(records) else {
             return Err(ZoneFault::Memory);
         };
-        if count_soas(&apex, &records) != 1 {
-            return Err(ZoneFault::Chain(SigningError::NoSingleSoa));
-        }
-        if has_unlike_neighbours(&records) {
-            return Err(ZoneFault::Chain(SigningError::MultipleTtlValues));
-        }
+        let chain = match chain_of(alloc, &apex, &sorted) {
+            Ok(chain) => chain,
+            Err(error) => return Err(fault_of(error)),
+        };
+        let Ok(records) = composed(alloc, sorted.into_inner()) else {
+            return Err(ZoneFault::Memory);
+        };
         Ok(ZoneRecords {
             apex,
             mode,
             limit,
             records,
+            chain,
         })
     }
 
@@ -152,9 +135,22 @@ fn composed(alloc: Global, records: Vec<ZoneRecord>) -> Result<Vec<HandedRecord>
     Ok(composed)
 }
 
-/// How many SOA records stand at the apex.
-fn count_soas(apex: &Name<Vec<u8>>, records: &[HandedRecord]) -> usize
-    ensures { result ≡ length (soas apex.now records.now) }
+/// What all records keep. It does nothing.
+fn all_keep(records: &[ZoneRecord])
+    ensures { AllByRecursion IsHanded (map handed_of records.now) }
 {
-    records.iter().filter(|r| r.is_soa_of(apex)).count()
+    for record in records {
+        keeps(record);
+    }
+}
+
+/// A fault of the chain as one of the zone. Want of memory is none of the chain.
+fn fault_of(error: error::SigningError) -> ZoneFault
+    ensures { result ≡ zone_fault error }
+{
+    match error {
+        error::SigningError::NoSingleSoa => ZoneFault::Chain(SigningError::NoSingleSoa),
+        error::SigningError::MultipleTtlValues => ZoneFault::Chain(SigningError::MultipleTtlValues),
+        _ => ZoneFault::Memory,
+    }
 }

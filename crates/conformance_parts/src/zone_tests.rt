@@ -278,16 +278,3 @@ fn what_a_group_has(rt: HostRuntime) -> Result<(), Fail> {
     assert_eq!(rt; first_datum(group), ADDRESS);
     Ok(())
 }
-
-/// Names keep the spelling of their first record.
-#[test]
-fn how_a_zone_spells(rt: HostRuntime) -> Result<(), Fail> {
-    let alloc = rt.alloc();
-    let zone = small_zone(alloc)?;
-    let asked = name(alloc, b"\x01B\x01c\x07EXAMPLE\x00")?;
-    assert!(rt; has_label(zone.first_spelled(&asked), 1, b"C"));
-    assert!(rt; has_label(zone.spelled(&asked), 0, b"b"));
-    let apex = name(alloc, b"\x07EXAMPLE\x00")?;
-    assert!(rt; has_label(zone.spelled(&apex), 0, b"example"));
-    Ok(())
-}

@@ -1,19 +1,20 @@
 //! The RRsets of an answer.
-ghost use Rattle.std.specs.Prelude.{◌≡◌, ℕ, ◌∷◌, ◌||◌, ◌==◌, ◌≤◌, List, true, false, map, IfOk};
+ghost use Rattle.std.specs.Prelude.{◌≡◌, ℕ, ◌∷◌, ◌||◌, ◌==◌, ◌≤◌, List, true, false, map, IfOk, OnOk};
 ghost use Rattle.std.specs.List.{AllZip};
 ghost use Rattle.definitions.specs.Name.{Name, low, wire_len};
 ghost use Rattle.definitions.specs.Zone.{star_under};
 ghost use Rattle.definitions.specs.ZoneChain.{Nsec};
 ghost use Rattle.answer_zone.specs.Accepting.{zone_with};
 ghost use Rattle.answer_zone.specs.ZoneAnswers.{AnswersAs};
-ghost use Rattle.answer_zone.specs.GroupView.{Presents, rrset_of};
+ghost use Rattle.answer_zone.specs.GroupView.{Adds, Presents, rrset_of};
 ghost use Rattle.answer_zone.specs.ZoneView.{IsPublished};
 ghost use Rattle.answer_zone.specs.Served.{kept_ancestor, proofs_of, served_of, soa};
 
 use crate::fault::Mode;
 use crate::group::RrGroup;
 use crate::zone::ZoneRecords;
-use crate::zone::lookups::{data_among, owner_among};
+use crate::zone::chain::push_links;
+use crate::zone::lookups::{chain_ttl_among, data_among, owner_among};
 use names_data::rtype::Rtype;
 use records::names::{Name, ZoneName};
 use std::alloc::{AllocError, Global};
@@ -100,6 +101,21 @@ impl ZoneRecords {
         groups.push(self.soa(alloc)?)?;
         self.push_proofs(alloc, &mut groups, names)?;
         Ok(groups)
+    }
+
+    /// Adds the records of the chain that match or cover one of some names, in canonical order.
+    fn push_proofs(
+        &self,
+        alloc: Global,
+        groups: &mut Vec<RrGroup>,
+        names: &[&Name<Vec<u8>>],
+    ) -> Result<(), AllocError>
+        ensures { OnOk result ((hash : List (List ℕ) → List ℕ) → Adds groups.old.items groups.new.items
+            (proofs_of (served_of self.now.apex Nsec hash self.now.records)
+            (map (λ n. low n.now) names.now))) }
+    {
+        let ttl = chain_ttl_among(&self.apex, &self.records);
+        push_links(alloc, groups, &self.chain, &self.apex, ttl, names)
     }
 
     /// The SOA record of the zone, its owner as spelled there.

@@ -1,24 +1,28 @@
 //! What makes a list of records no zone that is published.
-ghost use Rattle.std.specs.Prelude.{◌≡◌, ◌==◌, not, ◌&&◌, ◌||◌, [], ◌∷◌};
+ghost use Rattle.std.specs.Prelude.{◌≡◌, ◌==◌, not, ◌&&◌, ◌||◌, [], ◌∷◌, map};
 ghost use Rattle.std.specs.List.{list_any};
 ghost use Rattle.definitions.specs.Name.{at_or_above, strictly_above};
-ghost use Rattle.records.specs.HandedRr.{among, is_meta, has_star};
+ghost use Rattle.records.specs.HandedRr.{among, handed_of, is_meta, has_star};
 ghost use Rattle.records.specs.Star.{begins_with_star};
 ghost use Rattle.answer_zone.specs.Accepting.{first_fault, over_limit};
 ghost use Rattle.answer_zone.specs.ZoneView.{mode_of};
 
 use crate::fault::{Mode, ZoneFault};
-use crate::zone::handed::HandedRecord;
+use crate::zone::given::{
+    delegates_star, is_added_by_signing, is_alias, is_cut_or_star, is_meta, is_of_other_class,
+    is_outside,
+};
 use records::names::Name;
+use records::record::ZoneRecord;
 
 /// The first fault of a list, each sought in the whole list before the next.
 pub(super) fn first_fault(
     apex: &Name<Vec<u8>>,
     mode: &Mode,
     limit: u16,
-    records: &[HandedRecord],
+    records: &[ZoneRecord],
 ) -> Option<ZoneFault>
-    ensures { result ≡ first_fault apex.now (mode_of mode.now) limit records.now }
+    ensures { result ≡ first_fault apex.now (mode_of mode.now) limit (map handed_of records.now) }
 {
     if any_of_other_class(records) {
         Some(ZoneFault::WrongClass)
@@ -41,48 +45,48 @@ pub(super) fn first_fault(
     }
 }
 
-fn any_of_other_class(records: &[HandedRecord]) -> bool
-    ensures { result ≡ list_any (λ r. not (r.class == 1)) records.now }
+fn any_of_other_class(records: &[ZoneRecord]) -> bool
+    ensures { result ≡ list_any (λ r. not (r.class == 1)) (map handed_of records.now) }
 {
-    records.iter().any(|r| r.is_of_other_class())
+    records.iter().any(|r| is_of_other_class(r))
 }
 
-fn any_outside(apex: &Name<Vec<u8>>, records: &[HandedRecord]) -> bool
-    ensures { result ≡ list_any (λ r. not (at_or_above apex.now r.owner)) records.now }
+fn any_outside(apex: &Name<Vec<u8>>, records: &[ZoneRecord]) -> bool
+    ensures { result ≡ list_any (λ r. not (at_or_above apex.now r.owner)) (map handed_of records.now) }
 {
-    records.iter().any(|r| r.is_outside(apex))
+    records.iter().any(|r| is_outside(r, apex))
 }
 
-fn any_added_by_signing(records: &[HandedRecord]) -> bool
+fn any_added_by_signing(records: &[ZoneRecord]) -> bool
     ensures { let added = 46 ∷ 47 ∷ 48 ∷ 50 ∷ 51 ∷ [] in
-        result ≡ list_any (λ r. among added r.rtype) records.now }
+        result ≡ list_any (λ r. among added r.rtype) (map handed_of records.now) }
 {
-    records.iter().any(|r| r.is_added_by_signing())
+    records.iter().any(|r| is_added_by_signing(r))
 }
 
-fn any_alias(records: &[HandedRecord]) -> bool
-    ensures { result ≡ list_any (λ r. among (5 ∷ 39 ∷ []) r.rtype) records.now }
+fn any_alias(records: &[ZoneRecord]) -> bool
+    ensures { result ≡ list_any (λ r. among (5 ∷ 39 ∷ []) r.rtype) (map handed_of records.now) }
 {
-    records.iter().any(|r| r.is_alias())
+    records.iter().any(|r| is_alias(r))
 }
 
-fn any_meta(records: &[HandedRecord]) -> bool
-    ensures { result ≡ list_any is_meta records.now }
+fn any_meta(records: &[ZoneRecord]) -> bool
+    ensures { result ≡ list_any is_meta (map handed_of records.now) }
 {
-    records.iter().any(|r| r.is_meta())
+    records.iter().any(|r| is_meta(r))
 }
 
-fn any_star_delegation(records: &[HandedRecord]) -> bool
-    ensures { result ≡ list_any (λ r. (r.rtype == 2) && begins_with_star r.owner) records.now }
+fn any_star_delegation(records: &[ZoneRecord]) -> bool
+    ensures { result ≡ list_any (λ r. (r.rtype == 2) && begins_with_star r.owner) (map handed_of records.now) }
 {
-    records.iter().any(|r| r.delegates_star())
+    records.iter().any(|r| delegates_star(r))
 }
 
-fn any_cut_or_star(apex: &Name<Vec<u8>>, records: &[HandedRecord]) -> bool
+fn any_cut_or_star(apex: &Name<Vec<u8>>, records: &[ZoneRecord]) -> bool
     ensures { result ≡ list_any
-        (λ r. ((r.rtype == 2) && strictly_above apex.now r.owner) || has_star r.owner) records.now }
+        (λ r. ((r.rtype == 2) && strictly_above apex.now r.owner) || has_star r.owner) (map handed_of records.now) }
 {
-    records.iter().any(|r| r.is_cut_or_star(apex))
+    records.iter().any(|r| is_cut_or_star(r, apex))
 }
 
 /// Whether a chain's iterations are over the limit (RFC 5155, 10.3). A chain of names has none.

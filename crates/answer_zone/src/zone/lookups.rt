@@ -1,11 +1,10 @@
 //! What an accepted zone has at a name and a type.
-ghost use Rattle.std.specs.Prelude.{◌≡◌, ◌&&◌, map, filter, false, IfOk, IfSome, IsNone, IsTrue};
+ghost use Rattle.std.specs.Prelude.{◌≡◌, ◌&&◌, false, IfOk, IfSome, IsNone};
 ghost use Rattle.std.specs.List.{list_any};
-ghost use Rattle.definitions.specs.Name.{low, same, at_or_above};
+ghost use Rattle.definitions.specs.Name.{low, at_or_above};
 ghost use Rattle.definitions.specs.Zone.{has, exists};
-ghost use Rattle.definitions.specs.ZoneChain.{types_at};
 ghost use Rattle.answer_zone.specs.Accepting.{zone_with};
-ghost use Rattle.answer_zone.specs.Served.{chain_ttl, owner_among, ttl_among, spelled_as, spelled_among};
+ghost use Rattle.answer_zone.specs.Served.{chain_ttl, owner_among, ttl_among};
 ghost use Rattle.answer_zone.specs.GroupView.{HoldsRrset};
 ghost use Rattle.answer_zone.specs.ZoneView.{is_of};
 
@@ -44,33 +43,6 @@ impl ZoneRecords {
         ensures { result ≡ ttl_among self.now.records (low self.now.apex) 6 }
     {
         self.ttl_at(&self.apex, Rtype::SOA)
-    }
-
-    /// A next name as the zone spells it: the apex as handed in, an owner as its first record. Of another name
-    /// nothing is promised.
-    pub fn spelled<'a>(&'a self, name: &'a Name<Vec<u8>>) -> &'a Name<Vec<u8>>
-        ensures apex { IsTrue (same self.now.apex name.now) → result.now ≡ self.now.apex }
-        ensures owner { IsTrue (list_any (λ r. same r.owner name.now) self.now.records)
-            → result.now ≡ spelled_as self.now.apex self.now.records (low name.now) }
-    {
-        if self.apex.name_eq(name) {
-            return &self.apex;
-        }
-        match spelled_among(&self.records, name) {
-            Some(owner) => owner,
-            None => name,
-        }
-    }
-
-    /// An owner as its first record spells it. Of another name nothing is promised.
-    pub fn first_spelled<'a>(&'a self, owner: &'a Name<Vec<u8>>) -> &'a Name<Vec<u8>>
-        ensures { IsTrue (list_any (λ r. same r.owner owner.now) self.now.records)
-            → result.now ≡ spelled_among self.now.records (low owner.now) }
-    {
-        match spelled_among(&self.records, owner) {
-            Some(first) => first,
-            None => owner,
-        }
     }
 }
 
@@ -158,20 +130,4 @@ pub(super) fn chain_ttl_among(apex: &Name<Vec<u8>>, records: &[HandedRecord]) ->
         }
     }
     Ttl::from_secs(0)
-}
-
-/// The owner of the first record of a name.
-pub(super) fn spelled_among<'a>(
-    records: &'a [HandedRecord],
-    name: &Name<Vec<u8>>,
-) -> Option<&'a Name<Vec<u8>>>
-    ensures some { IfSome result (λ n. n.now ≡ spelled_among records.now (low name.now)) }
-    ensures none { IsNone result → list_any (λ r. same r.owner name.now) records.now ≡ false }
-{
-    for record in records {
-        if record.owner().name_eq(name) {
-            return Some(record.owner());
-        }
-    }
-    None
 }

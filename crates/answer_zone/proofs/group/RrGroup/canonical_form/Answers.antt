@@ -1,4 +1,4 @@
-use Rattle.std.proofs.Common.{◌≡◌, ◌<◌, length, map, take, not, eqb, ltb, vec_len, ap, sym, ◌∙◌, None, arith}
+use Rattle.std.proofs.Common.{◌≡◌, length, map, take, not, eqb, ltb, vec_len, ap, sym, ◌∙◌, None, arith}
 use Rattle.std.proofs.Math.Seq.{take-length}
 use Rattle.std.proofs.lemmas.List.{length-map}
 use Rattle.records.proofs.Lists.{map-map, same_octets}

@@ -1,0 +1,60 @@
+-- A zone of records without a fault of the list, and its chain.
+use Rattle.std.proofs.Common.{◌≡◌, ℕ, Bool, true, false, List, [], ◌∷◌, map, length, None, ◌⊎◌, inl, inr, refl, sym, ap, subst, ◌∙◌, eqb, ◌&&◌, ◌||◌}
+use Rattle.std.specs.Prelude.{IsSome}
+use Rattle.std.specs.List.{AllByRecursion}
+use Rattle.definitions.specs.Name.{Name, at_or_above, strictly_above}
+use Rattle.definitions.specs.Sorting.{sort_by}
+use Rattle.definitions.specs.ZoneChain.{Mode, optout_of}
+use Rattle.plain.specs.ZoneData.{zone_canonical, zone_type}
+use Rattle.plain.specs.declared.record.Record.{Record}
+use Rattle.plain.specs.declared.zone_data.ZoneRecordData.{ZoneRecordData}
+use Rattle.denial_owners.specs.Conditions.{IsOneClass}
+use Rattle.denial_owners.specs.Refused.{IsOwnersFault}
+use Rattle.denial_owners.specs.Soa.{soa_ttls}
+use Rattle.denial_owners.specs.Ttls.{has_unequal_ttls}
+use Rattle.denial_owners.specs.declared.error.SigningError.{SigningError}
+use Rattle.denial_owners.specs.declared.error.SigningError.TheVariants.{NoSingleSoa, MultipleTtlValues, HashFailed, HashTooLong, HashCollision, Memory}
+use Rattle.records.specs.HandedRr.{HandedRr, handed_of, has_star, is_meta}
+use Rattle.records.proofs.Lists.{all_more}
+use Rattle.answer_zone.specs.declared.fault.ZoneFault.TheVariants as fault
+use Rattle.answer_zone.specs.Accepting.{IsAccepted, IsFault, first_fault, has_unlike_ttls, soas, sorted_records, zone_fault, zone_with}
+use Rattle.answer_zone.proofs.ZoneFaults.{IsPlain, internet_from_none, plain_from_none}
+use Rattle.answer_zone.proofs.ZoneOrder.{IsInternet, all_internet, handed_in_order, sorted_internet, zone_cmp}
+use Rattle.answer_zone.proofs.ZoneTtls.{no_single_soa, single_soa, ttls_are}
+
+one_class_of : {O : Type 0} (rs : List (Record Name (ZoneRecordData O Name))) → AllByRecursion IsInternet rs → IsOneClass rs
+one_class_of [] h = tt
+one_class_of (r ∷ rs) h = all_more IsInternet (λ s. s.class ≡ r.class) rs (λ s e. e ∙ sym h.0) h.1
+
+module _ {O : Type 0} (apex : Name) (mode : Mode) (limit : ℕ) (rs : List (Record Name (ZoneRecordData O Name))) (none : first_fault apex mode limit (map handed_of rs) ≡ None) where
+  internet : AllByRecursion IsInternet rs
+  internet = all_internet rs (internet_from_none apex mode limit (map handed_of rs) none)
+
+  pub in_order : map handed_of (sort_by zone_cmp rs) ≡ sorted_records (map handed_of rs)
+  in_order = handed_in_order rs internet
+
+  pub one_class : IsOneClass (sort_by zone_cmp rs)
+  one_class = one_class_of (sort_by zone_cmp rs) (sorted_internet rs internet)
+
+  plain : IsPlain apex (map handed_of (sort_by zone_cmp rs))
+  plain = subst (IsPlain apex) (sym in_order) (plain_from_none apex mode limit (map handed_of rs) none)
+
+  unequal : has_unequal_ttls (λ n. n) zone_type (zone_canonical (λ n. n)) apex false (sort_by zone_cmp rs) ≡ has_unlike_ttls (zone_with apex (sorted_records (map handed_of rs))) (optout_of mode) (sorted_records (map handed_of rs))
+  unequal =
+      ttls_are apex (optout_of mode) (sort_by zone_cmp rs) plain.plain plain.inside
+      ∙ ap (λ hs. has_unlike_ttls (zone_with apex hs) (optout_of mode) hs) in_order
+
+  pub refused : (e : SigningError) → IsOwnersFault (λ n. n) apex false (sort_by zone_cmp rs) e → (zone_fault e ≡ fault.Memory) ⊎ IsFault apex mode limit (map handed_of rs) (zone_fault e)
+  refused NoSingleSoa h = inr (none, λ one. no_single_soa apex (sort_by zone_cmp rs) plain.known h (ap (λ hs. length (soas apex hs)) in_order ∙ one))
+  refused MultipleTtlValues h = inr (none, sym unequal ∙ h)
+  refused HashFailed h = inl refl
+  refused HashTooLong h = inl refl
+  refused HashCollision h = inl refl
+  refused Memory h = inl refl
+
+  pub accepted : IsSome (soa_ttls (λ n. n) apex (sort_by zone_cmp rs)) → has_unequal_ttls (λ n. n) zone_type (zone_canonical (λ n. n)) apex false (sort_by zone_cmp rs) ≡ false → IsAccepted apex mode limit (map handed_of rs)
+  accepted soa ttls = record {
+    list = none;
+    soa = ap (λ hs. length (soas apex hs)) (sym in_order) ∙ single_soa apex (sort_by zone_cmp rs) soa;
+    ttls = sym unequal ∙ ttls;
+  }

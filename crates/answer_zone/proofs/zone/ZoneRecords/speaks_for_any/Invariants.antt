@@ -1,7 +1,0 @@
-use Rattle.std.proofs.Common.{◌≡◌, map, drop}
-use Rattle.definitions.specs.Name.{low}
-use Rattle.answer_zone.specs.Links.{link_speaks}
-use Rattle.answer_zone.proofs.zone.ZoneRecords.speaks_for_any.Given as goal
-
-abbrev pub invariant-loop-name : goal.invariant-loop-name
-invariant-loop-name l = link_speaks l.self.apex (map (λ n. low n.now) (drop l.name-index l.names)) (low l.owner) (low l.next) ≡ link_speaks l.self.apex (map (λ n. low n.now) l.names) (low l.owner) (low l.next)

@@ -1,0 +1,13 @@
+use Rattle.std.proofs.Common.{◌∙◌, sym, rules, tests, eqb, ◌&&◌, ◌||◌}
+use Rattle.std.proofs.lemmas.Iterator.{YieldsList-from_slice}
+use Rattle.std.proofs.lemmas.Iterator.Search.{any_from_yields_List}
+use Rattle.definitions.specs.Name.{strictly_above}
+use Rattle.records.specs.HandedRr.{HandedRr, handed_of, has_star}
+use Rattle.records.proofs.Lists.{list_any-map}
+use Rattle.answer_zone.proofs.zone.faults.any_cut_or_star.Goals as goal
+
+pub returns : goal.returns
+returns c =
+    let test = λ (r : HandedRr). ((eqb r.rtype 2) && strictly_above c.args.apex.now r.owner) || has_star r.owner in
+    any_from_yields_List (λ r. test (handed_of r)) _ _ _ c.any.ensures.ran (YieldsList-from_slice c.args.records.now cc) (λ x b q k. search (rules, tests))
+    ∙ sym (list_any-map test handed_of c.args.records.now)
