@@ -1,5 +1,5 @@
 -- What an accepted zone answers.
-use Rattle.std.proofs.Common.{◌≡◌, ℕ, suc, ◌-◌, ◌<◌, ◌≤◌, Bool, true, false, ◌&&◌, ◌||◌, List, [], ◌∷◌, ◌++◌, map, refl, sym, ap, ◌∙◌, eqb, length, drop, drop-cons, arith}
+use Rattle.std.proofs.Common.{◌≡◌, ℕ, suc, ◌-◌, ◌<◌, ◌≤◌, true, false, ◌||◌, List, [], ◌∷◌, ◌++◌, map, refl, sym, ap, ◌∙◌, eqb, length, drop, drop-cons, arith}
 use Rattle.std.specs.Prelude.{if◌then◌else◌}
 use Rattle.std.specs.List.{filter}
 use Rattle.std.specs.Str.{str_to_ascii_lowercase}
@@ -11,7 +11,7 @@ use Rattle.definitions.specs.ZoneChain.{Nsec}
 use Rattle.records.specs.HandedRr.{HandedRr}
 use Rattle.answer_zone.specs.Accepting.{zone_with}
 use Rattle.answer_zone.specs.GroupView.{rrset_of}
-use Rattle.answer_zone.specs.Served.{Group, Served, ahead, answer_groups, chain_names, chain_record, chain_ttl, kept_ancestor, proofs_of, served_of, soa, spoken, ttl_among, written_among}
+use Rattle.answer_zone.specs.Served.{Group, Served, ahead, answer_groups, chain_names, chain_record, chain_ttl, kept_ancestor, proofs_of, served_of, soa, spoken, ttl_among}
 use Rattle.answer_zone.specs.declared.fault.Mode as declared
 use Rattle.answer_zone.specs.declared.fault.Mode.TheVariants as variant
 use Rattle.answer_zone.specs.ZoneView.{IsPublished, is_of, mode_of}

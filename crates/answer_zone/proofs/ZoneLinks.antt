@@ -1,7 +1,7 @@
 -- Records of the chain that match or cover names, one after another.
 use Rattle.std.proofs.Common.{◌≡◌, ℕ, ◌+◌, ◌<◌, Bool, true, false, ◌&&◌, ◌||◌, List, [], ◌∷◌, ◌++◌, map, refl, sym, ap, subst, ◌∙◌, ⊎_elim, cond, Ordering, append_assoc, length, take, get_or, if◌then◌else◌}
 use Rattle.std.specs.declared.cmp.Ordering.TheVariants.{Less, Equal, Greater}
-use Rattle.std.specs.List.{AllByRecursion, AllZip, filter}
+use Rattle.std.specs.List.{AllByRecursion, filter}
 use Rattle.std.specs.Ordering.{is_lt}
 use Rattle.std.proofs.lemmas.Bool.{cases_Bool, false_from_ne_true}
 use Rattle.std.proofs.lemmas.List.{append-nil, map-append}
@@ -13,7 +13,7 @@ use Rattle.records.specs.HandedRr.{HandedRr}
 use Rattle.answer_zone.specs.Accepting.{zone_with}
 use Rattle.answer_zone.specs.GroupView.{Adds, GroupView, Presents}
 use Rattle.answer_zone.specs.Links.{ChainLink, group_of, link_at, link_speaks, links_of, said_of}
-use Rattle.answer_zone.specs.Served.{Group, canonical_group, chain_record, chain_ttl, proofs_of, served_of, speaks_for, spelled_among, spelled_as}
+use Rattle.answer_zone.specs.Served.{Group, canonical_group, chain_record, chain_ttl, proofs_of, served_of, spelled_among, spelled_as}
 use Rattle.answer_zone.specs.ZoneView.{IsPublished}
 use Rattle.answer_zone.proofs.LinkLists.{pairs, record_links}
 use Rattle.answer_zone.proofs.ZoneChains.{names_are, next_is}

@@ -1,8 +1,8 @@
 -- A zone of records without a fault of the list, and its chain.
-use Rattle.std.proofs.Common.{◌≡◌, ℕ, Bool, true, false, List, [], ◌∷◌, map, length, None, ◌⊎◌, inl, inr, refl, sym, ap, subst, ◌∙◌, eqb, ◌&&◌, ◌||◌}
+use Rattle.std.proofs.Common.{◌≡◌, ℕ, false, List, [], ◌∷◌, map, length, None, ◌⊎◌, inl, inr, refl, sym, ap, subst, ◌∙◌}
 use Rattle.std.specs.Prelude.{IsSome}
 use Rattle.std.specs.List.{AllByRecursion}
-use Rattle.definitions.specs.Name.{Name, at_or_above, strictly_above}
+use Rattle.definitions.specs.Name.{Name}
 use Rattle.definitions.specs.Sorting.{sort_by}
 use Rattle.definitions.specs.ZoneChain.{Mode, optout_of}
 use Rattle.plain.specs.ZoneData.{zone_canonical, zone_type}
@@ -14,7 +14,7 @@ use Rattle.denial_owners.specs.Soa.{soa_ttls}
 use Rattle.denial_owners.specs.Ttls.{has_unequal_ttls}
 use Rattle.denial_owners.specs.declared.error.SigningError.{SigningError}
 use Rattle.denial_owners.specs.declared.error.SigningError.TheVariants.{NoSingleSoa, MultipleTtlValues, HashFailed, HashTooLong, HashCollision, Memory}
-use Rattle.records.specs.HandedRr.{HandedRr, handed_of, has_star, is_meta}
+use Rattle.records.specs.HandedRr.{handed_of}
 use Rattle.records.proofs.Lists.{all_more}
 use Rattle.answer_zone.specs.declared.fault.ZoneFault.TheVariants as fault
 use Rattle.answer_zone.specs.Accepting.{IsAccepted, IsFault, first_fault, has_unlike_ttls, soas, sorted_records, zone_fault, zone_with}

@@ -1,10 +1,10 @@
 -- Records put in order are, as they were handed in, those that were handed in, put in order.
-use Rattle.std.proofs.Common.{◌≡◌, ℕ, Bool, true, false, not, List, [], ◌∷◌, map, refl, sym, ap, ◌∙◌, eqb, eqb-true, Ordering}
+use Rattle.std.proofs.Common.{◌≡◌, true, false, not, List, [], ◌∷◌, map, refl, sym, ap, ◌∙◌, eqb, eqb-true, Ordering}
 use Rattle.std.specs.declared.cmp.Ordering.TheVariants.{Less, Equal, Greater}
 use Rattle.std.specs.List.{list_any, AllByRecursion}
 use Rattle.std.specs.Ordering.{nat_cmp, ordering_then}
 use Rattle.std.specs.Cmp.Lexicographic.{slice_cmp}
-use Rattle.definitions.specs.Name.{Name, name_cmp}
+use Rattle.definitions.specs.Name.{Name}
 use Rattle.definitions.specs.Sorting.{put_by, put_all_by, sort_by}
 use Rattle.plain.specs.Records.{record_canonical_cmp}
 use Rattle.plain.specs.ZoneData.{zone_canonical, zone_type}

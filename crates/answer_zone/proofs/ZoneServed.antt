@@ -9,7 +9,7 @@ use Rattle.definitions.specs.Name.{Name, low, labels_eq, same, at_or_above, stri
 use Rattle.definitions.specs.Zone.{Zone, Rr, owner_of, Verdict, NoName, has, is_delegation, cut, cut_above, is_kept, kept_owners, kept, exists, ce, star_under, at_existing, at_star, verdict, data_at, Delegated, StarRecords, StarNoType}
 use Rattle.records.specs.HandedRr.{HandedRr, has_star}
 use Rattle.answer_zone.specs.Accepting.{soas, rr_of, zone_with, has_unlike_ttls, unlike_ttls}
-use Rattle.answer_zone.specs.Served.{chain_ttl, chain_ttl_of, minimum_of, owner_among, ttl_among, spelled_among}
+use Rattle.answer_zone.specs.Served.{chain_ttl, chain_ttl_of, minimum_of, owner_among, ttl_among}
 use Rattle.answer_zone.specs.ZoneView.{is_of}
 use Rattle.records.proofs.Lists.{found, all_at, all_more, filter_all, list_any-map}
 use Rattle.records.proofs.ZoneNames.{same_labels, at_or_above-low, strictly_above-low}

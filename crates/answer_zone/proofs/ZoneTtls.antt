@@ -1,5 +1,5 @@
 -- Why records have no chain, said of them as they were handed in.
-use Rattle.std.proofs.Common.{◌≡◌, ℕ, Bool, true, false, ◌&&◌, ◌||◌, not, List, [], ◌∷◌, map, length, Option, Some, None, refl, sym, ap, ◌∙◌, eqb, arith, cond}
+use Rattle.std.proofs.Common.{◌≡◌, ℕ, Bool, true, false, ◌&&◌, ◌||◌, not, List, [], ◌∷◌, map, length, Some, None, refl, sym, ap, ◌∙◌, eqb, arith, cond}
 use Rattle.std.specs.Prelude.{IsSome}
 use Rattle.std.specs.List.{list_any, AllByRecursion, filter}
 use Rattle.std.specs.Option.{option_map}

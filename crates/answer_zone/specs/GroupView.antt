@@ -1,5 +1,5 @@
 -- An RRset on its way into an answer, as contracts see it.
-use Rattle.std.specs.Prelude.{◌≡◌, ℕ, ◌+◌, ◌%◌, ◌<◌, Bool, true, List, [], ◌∷◌, ◌++◌, Option, Some, None, Contains, unwrap_or, map, filter, if◌then◌else◌, Vec, length, nat_lt}
+use Rattle.std.specs.Prelude.{◌≡◌, ℕ, ◌+◌, ◌%◌, ◌<◌, Bool, true, List, ◌++◌, Option, Some, None, Contains, unwrap_or, map, filter, if◌then◌else◌, Vec, length, nat_lt}
 use Rattle.std.specs.List.{AllZip}
 use Rattle.std.specs.declared.alloc.Global.{Global}
 use Rattle.definitions.specs.Name.{Name, low}

@@ -11,12 +11,10 @@ use Rattle.records.specs.Message.{owner_at}
 use Rattle.plain.specs.Soa.{times_octets}
 use Rattle.plain.specs.declared.soa.Soa.{Soa}
 use Rattle.plain.specs.declared.soa.Times.{Times}
-use Rattle.plain.specs.declared.zone_data.ZoneRecordData.{ZoneRecordData}
-use Rattle.plain.specs.declared.zone_data.ZoneRecordData.TheVariants.{Soa as SoaData}
 use Rattle.session_lines.specs.Fields.{hex_field}
 use Rattle.session_lines.specs.Grammar.{◌>>=◌, DataField, name_field, number_field, data_octets, soa_octets, soa_field, record_fields}
 use Rattle.session_lines.specs.Numbers.{number_of}
-use Rattle.session_lines.specs.Readings.{data_view}
+use Rattle.session_lines.specs.Readings.{soa_view}
 
 pub bind_some : {A B : Type 0} (o : Option A) (x : A) (f : A → Option B) (y : Option B) → o ≡ Some x → f x ≡ y → (o >>= f) ≡ y
 bind_some o x f y e h = ap (λ p. p >>= f) e ∙ h
@@ -45,13 +43,13 @@ numbers_are t xs size a b c d e = (λ i. a i ++ (b i ++ (c i ++ (d i ++ e i)))) 
 soa_known : (octets : List ℕ) (m r : Name) (front : ℕ) → front + 20 ≡ length octets → soa_field octets m r front ≡ Some (record { is_unknown = false; written = wire m ++ wire r ++ drop front octets; bytes = wire (low m) ++ wire (low r) ++ drop front octets })
 soa_known octets m r front size = ap (λ b. cond b (Some (record { is_unknown = false; written = wire m ++ wire r ++ drop front octets; bytes = wire (low m) ++ wire (low r) ++ drop front octets })) None) (eq-eqb (front + 20) (length octets) size)
 
-pub soa_read : {O : Type 0} (octets numbers : List ℕ) (s : Soa Name) (m r : Name) (behind front : ℕ) → result_ok (owner_at 0 octets 0) ≡ Some (m, behind) → result_ok (owner_at 0 octets behind) ≡ Some (r, front) → front ≤ length octets → numbers ≡ take (length octets - front) (drop front octets) → length numbers ≡ 20 → s.mname ≡ m → s.rname ≡ r → times_octets s.times ≡ numbers → soa_octets octets ≡ Some (data_view (SoaData {O = O} s))
-soa_read {O = O} octets numbers s m r behind front e f inside cut_off size a b n =
+pub soa_read : (octets numbers : List ℕ) (s : Soa Name) (m r : Name) (behind front : ℕ) → result_ok (owner_at 0 octets 0) ≡ Some (m, behind) → result_ok (owner_at 0 octets behind) ≡ Some (r, front) → front ≤ length octets → numbers ≡ take (length octets - front) (drop front octets) → length numbers ≡ 20 → s.mname ≡ m → s.rname ≡ r → times_octets s.times ≡ numbers → soa_octets octets ≡ Some (soa_view s)
+soa_read octets numbers s m r behind front e f inside cut_off size a b n =
     let whole : numbers ≡ drop front octets = cut_off ∙ take_all (length octets - front) (drop front octets) (omega (arith, length-drop {A = ℕ})) in
     let twenty : front + 20 ≡ length octets = omega (arith, ap length whole, size, length-drop front octets, inside) in
     let rest = n ∙ whole in
     let back = λ (x y : List ℕ). sym (append_assoc x y (drop front octets)) in
-    let seen : data_view (SoaData {O = O} s) ≡ record { is_unknown = false; written = wire m ++ wire r ++ drop front octets; bytes = wire (low m) ++ wire (low r) ++ drop front octets } =
+    let seen : soa_view s ≡ record { is_unknown = false; written = wire m ++ wire r ++ drop front octets; bytes = wire (low m) ++ wire (low r) ++ drop front octets } =
     (λ i. record { is_unknown = false; written = wire (a i) ++ (wire (b i) ++ rest i); bytes = wire (low (a i)) ++ (wire (low (b i)) ++ rest i) })
     ∙ (λ i. record { is_unknown = false; written = back (wire m) (wire r) i; bytes = back (wire (low m)) (wire (low r)) i }) in
     bind_some (result_ok (owner_at 0 octets 0)) (m, behind) (λ x. result_ok (owner_at 0 octets x.1) >>= λ y. soa_field octets x.0 y.0 y.1) _ e

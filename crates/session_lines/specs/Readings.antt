@@ -1,5 +1,5 @@
 -- What the code's readings of lines give, beside the grammar.
-use Rattle.std.specs.Prelude.{◌≡◌, ℕ, List, map, Option, Some, None, Result, Ok, Err}
+use Rattle.std.specs.Prelude.{◌≡◌, ℕ, false, List, map, Option, Some, None, Result, Ok, Err}
 use Rattle.std.specs.Borrow.{Bor}
 use Rattle.std.specs.Option.{option_map}
 use Rattle.messages.specs.Questions.{asked_of}
@@ -13,6 +13,8 @@ use Rattle.session_lines.specs.declared.session.SessionError.{SessionError}
 use Rattle.session_lines.specs.declared.session.SessionError.TheVariants as session_error
 use Rattle.session_lines.specs.declared.zone.Zone.{Zone}
 use Rattle.definitions.specs.Name.{Name}
+use Rattle.plain.specs.Soa.{soa_octets, soa_canonical}
+use Rattle.plain.specs.declared.soa.Soa.{Soa}
 use Rattle.plain.specs.declared.record.Record.{Record}
 use Rattle.plain.specs.declared.zone_data.ZoneRecordData.{ZoneRecordData}
 use Rattle.records.specs.HandedRr.{handed_of, is_unknown, written_of, canonical_of}
@@ -42,6 +44,9 @@ act_view (act.JudgeBytes ds dnskey answer q) = JudgeBytes ds dnskey.items answer
 
 abbrev pub event_view : Event → EventLine
 event_view e = record { at = e.at; act = act_view e.act }
+
+abbrev pub soa_view : Soa Name → DataField
+soa_view s = record { is_unknown = false; written = soa_octets (λ n. n) s; bytes = soa_canonical (λ n. n) s }
 
 abbrev pub data_view : {O : Type 0} → ZoneRecordData O Name → DataField
 data_view d = record { is_unknown = is_unknown d; written = written_of d; bytes = canonical_of d }

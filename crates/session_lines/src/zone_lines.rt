@@ -4,7 +4,7 @@ ghost use Rattle.std.specs.Int.{w32, to_be_bytes};
 ghost use Rattle.plain.specs.ZoneData.{zone_type};
 ghost use Rattle.records.specs.HandedRr.{handed_of};
 ghost use Rattle.session_lines.specs.Grammar.{zone_line, zone_fields, life_field, record_line, record_fields, data_octets, soa_octets};
-ghost use Rattle.session_lines.specs.Readings.{Reads, texts, zone_view, data_view};
+ghost use Rattle.session_lines.specs.Readings.{Reads, texts, zone_view, data_view, soa_view};
 
 use crate::fields::{hex_octets, name, name_at, wire_name};
 use crate::line_error::LineError;
@@ -121,7 +121,7 @@ fn read_rdata(alloc: Global, rtype: Rtype, octets: Vec<u8>) -> Result<ZoneData, 
 
 /// Two names and five numbers of 32 bits (RFC 1035, 3.3.13).
 fn read_soa(alloc: Global, octets: &[u8]) -> Result<Soa<Name<Vec<u8>>>, LineError>
-    ensures { Reads (λ s. data_view (ZoneRecordData.Soa s)) result (soa_octets octets.now) }
+    ensures { Reads soa_view result (soa_octets octets.now) }
 {
     let (mname, behind) = name_at(alloc, octets, 0)?;
     let (rname, front) = name_at(alloc, octets, behind)?;

@@ -52,7 +52,8 @@ fn any_of_other_class(records: &[ZoneRecord]) -> bool
 }
 
 fn any_outside(apex: &Name<Vec<u8>>, records: &[ZoneRecord]) -> bool
-    ensures { result ≡ list_any (λ r. not (at_or_above apex.now r.owner)) (map handed_of records.now) }
+    ensures { let rs = map handed_of records.now in
+        result ≡ list_any (λ r. not (at_or_above apex.now r.owner)) rs }
 {
     records.iter().any(|r| is_outside(r, apex))
 }
@@ -77,14 +78,15 @@ fn any_meta(records: &[ZoneRecord]) -> bool
 }
 
 fn any_star_delegation(records: &[ZoneRecord]) -> bool
-    ensures { result ≡ list_any (λ r. (r.rtype == 2) && begins_with_star r.owner) (map handed_of records.now) }
+    ensures { let rs = map handed_of records.now in
+        result ≡ list_any (λ r. (r.rtype == 2) && begins_with_star r.owner) rs }
 {
     records.iter().any(|r| delegates_star(r))
 }
 
 fn any_cut_or_star(apex: &Name<Vec<u8>>, records: &[ZoneRecord]) -> bool
-    ensures { result ≡ list_any
-        (λ r. ((r.rtype == 2) && strictly_above apex.now r.owner) || has_star r.owner) (map handed_of records.now) }
+    ensures { let rs = map handed_of records.now in result ≡ list_any
+        (λ r. ((r.rtype == 2) && strictly_above apex.now r.owner) || has_star r.owner) rs }
 {
     records.iter().any(|r| is_cut_or_star(r, apex))
 }

@@ -1,4 +1,4 @@
-use Rattle.std.proofs.Common.{◌≡◌, List, map, None, false, ◌⊎◌, sym, ap, subst, ◌∙◌}
+use Rattle.std.proofs.Common.{◌≡◌, map, None, false, ◌⊎◌, sym, ap, subst, ◌∙◌}
 use Rattle.std.specs.Prelude.{IsSome}
 use Rattle.std.specs.List.{AllByRecursion}
 use Rattle.plain.specs.ZoneData.{zone_canonical, zone_type}
