@@ -1,35 +1,23 @@
 -- Going up the ancestors of a name, each once.
-use Rattle.std.proofs.Common.{◌≡◌, Bool, true, false, ◌||◌, List, [], ◌∷◌, ◌++◌, drop, Option, refl, sym, ap, ◌∙◌}
-use Rattle.std.specs.Prelude.{Some, None}
+use Rattle.std.proofs.Common.{arith, ◌≡◌, ℕ, ◌+◌, ◌-◌, ◌<◌, ◌≤◌, Bool, true, false, ◌||◌, length, drop, [], ◌∷◌, get_or, sym, ap, ◌∙◌}
+use Rattle.std.specs.Prelude.{Some}
+use Rattle.std.proofs.lemmas.List.{drop_more}
 use Rattle.definitions.specs.Name.{Name, at_or_above}
-use Rattle.names_flat.specs.Suffixes.{suffixes}
 use Rattle.answer_judge.specs.Facts.{Link, closest}
 
-abbrev pub chosen : Bool → Name → Option Name → Option Name
-chosen true e others = Some e
-chosen false e others = others
+-- what is left above the label before so many last ones
+one_up : (f : Link) (q : Name) (n : ℕ) (e : Name) → 0 < n → n ≤ length q → e ≡ drop (length q - (n - 1)) q → closest f (drop (length q - n) q) ≡ closest f q → closest f q ≡ closest f (get_or q (length q - n) [] ∷ e)
+one_up f q n e some fits is inv =
+    let lt : length q - n < length q = omega arith in
+    let s : drop (length q - n) q ≡ get_or q (length q - n) [] ∷ drop (length q - n + 1) q = drop_more q (length q - n) [] lt in
+    let j : length q - n + 1 ≡ length q - (n - 1) = omega arith in
+    let t : drop (length q - n + 1) q ≡ e = ap (λ k. drop k q) j ∙ sym is in
+    sym inv ∙ ap (closest f) (s ∙ ap (λ r. get_or q (length q - n) [] ∷ r) t)
 
--- the first of some ancestors that a link shows
-abbrev pub closest_among : Link → List Name → Option Name
-closest_among f [] = None
-closest_among f (e ∷ es) = chosen (at_or_above e f.owner || at_or_above e f.next) e (closest_among f es)
+pub closest-found : (f : Link) (q : Name) (n : ℕ) (e : Name) → 0 < n → n ≤ length q → e ≡ drop (length q - (n - 1)) q → (at_or_above e f.owner || at_or_above e f.next) ≡ true → closest f (drop (length q - n) q) ≡ closest f q → Some e ≡ closest f q
+closest-found f q n e some fits is shown inv =
+    sym (one_up f q n e some fits is inv ∙ ap (λ (b : Bool). elim b [ true ↦ Some e | false ↦ closest f e ]) shown)
 
-first_suffix : (q : Name) → suffixes q ≡ q ∷ drop 1 (suffixes q)
-first_suffix [] = refl
-first_suffix (l ∷ q) = refl
-
--- of all of them, which stand behind the name itself
-pub closest-among : (f : Link) (q : Name) → closest_among f (drop 1 (suffixes q)) ≡ closest f q
-closest-among f [] = refl
-closest-among f (l ∷ q) =
-    ap (closest_among f) (first_suffix q) ∙ ap (chosen (at_or_above q f.owner || at_or_above q f.next) q) (closest-among f q)
-
--- the name itself is passed over
-pub closest_behind : (f : Link) (q e : Name) (es : List Name) → suffixes q ≡ e ∷ es → closest_among f es ≡ closest f q
-closest_behind f q e es h = ap (λ l. closest_among f (drop 1 l)) (sym h) ∙ closest-among f q
-
-pub closest-found : (f : Link) (q e : Name) (es : List Name) → (at_or_above e f.owner || at_or_above e f.next) ≡ true → closest_among f (e ∷ es) ≡ closest f q → Some e ≡ closest f q
-closest-found f q e es shown inv = sym (ap (λ b. chosen b e (closest_among f es)) shown) ∙ inv
-
-pub closest-missed : (f : Link) (q e : Name) (es : List Name) → (at_or_above e f.owner || at_or_above e f.next) ≡ false → closest_among f (e ∷ es) ≡ closest f q → closest_among f es ≡ closest f q
-closest-missed f q e es shown inv = sym (ap (λ b. chosen b e (closest_among f es)) shown) ∙ inv
+pub closest-missed : (f : Link) (q : Name) (n : ℕ) (e : Name) → 0 < n → n ≤ length q → e ≡ drop (length q - (n - 1)) q → (at_or_above e f.owner || at_or_above e f.next) ≡ false → closest f (drop (length q - n) q) ≡ closest f q → closest f (drop (length q - (n - 1)) q) ≡ closest f q
+closest-missed f q n e some fits is shown inv =
+    ap (closest f) (sym is) ∙ sym (one_up f q n e some fits is inv ∙ ap (λ (b : Bool). elim b [ true ↦ Some e | false ↦ closest f e ]) shown)

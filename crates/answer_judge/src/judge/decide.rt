@@ -109,7 +109,7 @@ impl<'a> Link<'a> {
     }
 
     /// Whether owner or next name shows that an ancestor exists.
-    fn shows(&self, ancestor: &Name<&[u8]>) -> bool
+    fn shows(&self, ancestor: &Name<Vec<u8>>) -> bool
         ensures { result
             ≡ (at_or_above ancestor.now self.now.owner || at_or_above ancestor.now self.now.next) }
     {
@@ -117,17 +117,22 @@ impl<'a> Link<'a> {
     }
 
     /// The closest encloser of a name that the link covers (RFC 4592, 3.3.1).
-    fn closest<'n>(&self, name: &'n Name<Vec<u8>>) -> Option<Name<&'n [u8]>>
-        ensures { result ≡ closest self.now name.now }
+    fn closest(
+        &self,
+        alloc: Global,
+        name: &Name<Vec<u8>>,
+    ) -> Result<Option<Name<Vec<u8>>>, AllocError>
+        ensures { IfOk result (λ e. e ≡ closest self.now name.now) }
     {
-        let mut ancestors = name.iter_suffixes();
-        let _itself = ancestors.next();
-        for ancestor in ancestors {
+        let mut count = name.depth();
+        while count > 0 {
+            count -= 1;
+            let ancestor = name.suffix(alloc, count)?;
             if self.shows(&ancestor) {
-                return Some(ancestor);
+                return Ok(Some(ancestor));
             }
         }
-        None
+        Ok(None)
     }
 
     /// What the link says of a wildcard.
@@ -169,7 +174,7 @@ impl<'a> Link<'a> {
         if is_above(name, self.next()) {
             return Ok(Some(Verdict::NoType));
         }
-        match self.closest(name) {
+        match self.closest(alloc, name)? {
             None => Ok(None),
             Some(encloser) => by_star(alloc, apex, links, &encloser, rtype),
         }
@@ -181,7 +186,7 @@ fn by_star(
     alloc: Global,
     apex: &Name<Vec<u8>>,
     links: &[Link],
-    encloser: &Name<&[u8]>,
+    encloser: &Name<Vec<u8>>,
     rtype: Rtype,
 ) -> Result<Option<Verdict>, AllocError>
     ensures { IfOk result (λ v. option_map verdict_of v

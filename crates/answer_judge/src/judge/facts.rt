@@ -54,8 +54,7 @@ pub(crate) fn read_facts<'a, C: Checks>(
     ensures same { C.answers checks.new ≡ C.answers checks.old }
 {
     let mut groups = read_nsec_groups(alloc, trust.apex, message, records)?;
-    let owner = name.try_clone(alloc)?;
-    groups.push(read_group(alloc, message, records, owner, rtype)?)?;
+    groups.push(read_group(alloc, message, records, name, rtype)?)?;
     verify_groups(alloc, message, records, trust, &mut groups, checks, count)?;
     let answer = asked_of(groups.pop());
     let links = read_links(alloc, message, records, &groups)?;
@@ -110,7 +109,7 @@ fn read_nsec_group(
         return Ok(None);
     }
     let owner = written_out(alloc, owner.as_parsed())?;
-    let group = read_group(alloc, message, records, owner, Rtype::NSEC)?;
+    let group = read_group(alloc, message, records, &owner, Rtype::NSEC)?;
     Ok(if group.items.len() == 1 {
         Some(group)
     } else {

@@ -71,23 +71,23 @@ pub(crate) fn read_group(
     alloc: Global,
     message: &[u8],
     records: &[ViewRecord],
-    owner: Name<Vec<u8>>,
+    owner: &Name<Vec<u8>>,
     rtype: Rtype,
 ) -> Result<Group, AllocError>
-    ensures owner { IfOk result (λ g. g.owner ≡ owner) }
+    ensures owner { IfOk result (λ g. g.owner ≡ owner.now) }
     ensures rtype { IfOk result (λ g. g.rtype ≡ rtype) }
     ensures items { let rs = map spelled records.now in
-        IfOk result (λ g. data_in g ≡ rrset_in pointer_limit message.now rs owner rtype) }
+        IfOk result (λ g. data_in g ≡ rrset_in pointer_limit message.now rs owner.now rtype) }
     ensures unverified { IfOk result (λ g. g.verified ≡ None) }
 {
     let mut items = Vec::new(alloc);
     for record in records {
-        if let Some(item) = datum_of(alloc, message, record, &owner, rtype)? {
+        if let Some(item) = datum_of(alloc, message, record, owner, rtype)? {
             put_data(&mut items, item)?;
         }
     }
     Ok(Group {
-        owner,
+        owner: owner.try_clone(alloc)?,
         rtype,
         items,
         verified: None,
