@@ -1,6 +1,6 @@
 //! Names of messages and of octets outside them, written by hand (RFC 1035, 3.1 and 4.1.4).
-use records::message::MessageError;
 use names_data::composer::compose_canonical_name;
+use records::message::MessageError;
 use records::names::{
     NameError, ParsedName, ToName, ZoneName, name_at_place, name_from_octets, written_out,
 };

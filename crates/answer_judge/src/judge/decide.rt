@@ -38,10 +38,7 @@ impl<'a> Model for Link<'a> {
 
 impl<'a> Link<'a> {
     /// A link of its owner and its data.
-    pub(crate) fn new(
-        owner: &ParsedName<'a>,
-        data: Nsec<&'a [u8], parsed::ParsedName<'a>>,
-    ) -> Self
+    pub(crate) fn new(owner: &ParsedName<'a>, data: Nsec<&'a [u8], parsed::ParsedName<'a>>) -> Self
         ensures owner { result.owner ≡ owner.now }
         ensures next { result.next ≡ parsed_name data.entry.next_name }
         ensures types { result.bits ≡ data.entry.types }
