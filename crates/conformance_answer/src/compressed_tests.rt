@@ -80,7 +80,7 @@ fn compressed_answer_is_judged_as_the_plain_one(rt: HostRuntime) -> Result<(), A
 fn opt_record_is_counted(rt: HostRuntime) {
     for (answer, count) in [(FLAT, 2), (COMPRESSED, 2), (WITH_OPT, 3)] {
         let view = read_message(answer).expect(&rt, "a message");
-        assert_eq!(rt; view.records().count(), count);
+        assert_eq!(rt; view.record_count(), count);
     }
 }
 
