@@ -1,0 +1,69 @@
+#!/usr/bin/env python3
+"""Counts the instructions and the blocks of memory of an owner's set-up, of an answer and of a judgement, with callgrind and
+memcheck.
+
+A session is run once as it is and once more with more of the same lines, and the difference is divided by their number. What
+an event costs that only says that its place holds nothing is taken off answers and judgements, so that reading a line and
+printing fall away; an owner's set-up has the reading of its line in it. Signing and verifying by the bench's stand-in, SHA-256,
+is part of the counts. Run it from anywhere; it builds crates/denialbench first.
+"""
+import os
+import re
+import subprocess
+import sys
+
+ROOT = os.path.dirname(os.path.dirname(os.path.abspath(__file__)))
+BENCH = f"{ROOT}/crates/denialbench"
+TIMES = 50
+ASKED = (
+    ("records", "n000004.example 1"),
+    ("no records of a type", "n000004.example 15"),
+    ("no such name", "n000004x.example 1"),
+)
+TOOLS = (("callgrind", r"Collected : (\d+)"), ("memcheck", r"total heap usage: ([\d,]+) allocs"))
+
+
+def opening(owners):
+    """A zone of so many owners whose keys have finished their first roll, and what is shown of it."""
+    words = [sys.executable, f"{ROOT}/benches/session.py", str(owners)]
+    session = subprocess.run(words, capture_output=True, text=True, check=True)
+    lines = [line for line in session.stdout.split("\n") if line and line.split()[0] not in ("ask", "judge")]
+    return lines + [f"ask {asked} 7200" for _, asked in ASKED]
+
+
+def run(tool, pattern, lines):
+    words = ["valgrind", f"--tool={tool}", f"{BENCH}/out/denialbench"]
+    if tool == "callgrind":
+        words.insert(2, "--callgrind-out-file=/dev/null")
+    ran = subprocess.run(words, input="\n".join([*lines, ""]), capture_output=True, text=True)
+    found = re.search(pattern, ran.stderr)
+    if ran.returncode or not found:
+        sys.exit(f"{' '.join(words)} ended with {ran.returncode}\n{ran.stderr}")
+    return int(found[1].replace(",", ""))
+
+
+def counts(fewer, more, times):
+    """Instructions and blocks of what one session has more than another."""
+    return [(run(tool, pattern, more) - run(tool, pattern, fewer)) / times for tool, pattern in TOOLS]
+
+
+def row(what, cells):
+    return f"| {what} | " + " | ".join(f"{cell:,.0f}" for cell in cells) + " |"
+
+
+def main():
+    subprocess.run(["rt", "run"], cwd=BENCH, stdin=subprocess.DEVNULL, capture_output=True, check=True)
+    print("| owners | set-up of an owner | blocks |\n|---|---|---|")
+    for owners in (1_000, 10_000):
+        print(row(f"{owners:,}", counts(opening(owners), opening(2 * owners), owners)))
+    for owners in (10, 10_000):
+        start = opening(owners)
+        idle = counts(start, start + ["judge 0 1 9999 7200"] * TIMES, TIMES)
+        print(f"\n| what is asked of {owners:,} owners | an answer | blocks | its judgement | blocks |\n|---|---|---|---|---|")
+        for place, (what, asked) in enumerate(ASKED):
+            answer = counts(start, start + [f"ask {asked} 7200"] * TIMES, TIMES)
+            judgement = counts(start, start + [f"judge 0 1 {place + 2} 7200"] * TIMES, TIMES)
+            print(row(what, [one - none for found in (answer, judgement) for one, none in zip(found, idle)]))
+
+
+main()
