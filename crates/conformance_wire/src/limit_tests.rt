@@ -1,7 +1,7 @@
 //! Names and texts at the limits of their size, with memory in plenty.
 
 use arrayvec::ArrayVec;
-use names_builder::plain::{is_plain, plain_octets};
+use names_builder::walk::{relative_octets, text_octets};
 use names_flat::builder::{Finish, NameBuilder};
 use names_flat::name::Name;
 use names_flat::push_error::PushError;
@@ -109,19 +109,34 @@ fn the_longest_plain_text(rt: HostRuntime) -> Result<(), Fail> {
     Ok(())
 }
 
-/// Octets stand as they are, behind the lengths of their labels.
+/// Each symbol gives an octet, and each label stands behind its length.
 #[test]
-fn plain_texts_are_copied(rt: HostRuntime) -> Result<(), Fail> {
+fn texts_are_read_in_one_walk(rt: HostRuntime) -> Result<(), Fail> {
     let alloc = rt.alloc();
-    for text in [b"Www.example.".as_slice(), b"Www.example"] {
-        assert!(rt; is_plain(text));
-        let octets = plain_octets(alloc, text)?;
+    for text in [
+        b"Www.example".as_slice(),
+        b"Www.example.",
+        b"W\\119w.ex\\ampl\\e.",
+    ] {
+        let octets = text_octets(alloc, text)?;
         assert!(rt; octets.as_deref() == Some(b"\x03Www\x07example\x00".as_slice()));
     }
-    assert!(rt; !is_plain(b"a\\b"));
-    assert!(rt; !is_plain(b"a\x7f"));
-    assert!(rt; plain_octets(alloc, b"a..b")?.is_none());
-    assert!(rt; plain_octets(alloc, b".")?.is_none());
+    let octets = relative_octets(alloc, b"a\\..\\000\\ [")?;
+    assert!(rt; octets.as_deref() == Some(b"\x02a.\x03\x00 [".as_slice()));
+    for text in [
+        b"a..b".as_slice(),
+        b".",
+        b"",
+        b"a\x7f",
+        b"\\[",
+        b"\\25",
+        b"\\256",
+        b"\\",
+    ] {
+        assert!(rt; text_octets(alloc, text)?.is_none());
+        assert!(rt; relative_octets(alloc, text)?.is_none());
+    }
+    assert!(rt; relative_octets(alloc, b"a.")?.is_none());
     Ok(())
 }
 

@@ -112,6 +112,10 @@ longer_new b (o ∷ os) none some = go b.open_label refl
 pub adds_none : (b : Building) → with_octets b [] ≡ b
 adds_none b = λ i. record { done = b.done; open_label = append-nil b.open_label i }
 
+pub labels_with_open : (ls : Name) (l : Label) → 0 < length l → labels_with ls l ≡ ls ++ l ∷ []
+labels_with_open ls [] h = absurd (omega arith)
+labels_with_open ls (o ∷ os) h = refl
+
 -- an open label that is ended
 pub ends_open : (bs : List ℕ) (head : ℕ) (b : Building) → Holds bs (Some head) b → Holds (set bs head (length b.open_label)) None (ended b)
 ends_open bs head b h =
@@ -128,10 +132,6 @@ ends_open bs head b h =
         name = omega (arith, h.short.name, ap length h.octets, ap length x, ap length (append-nil (spelled (all_labels b))), length-set bs head (length b.open_label));
       };
     }
-  where
-    labels_with_open : (ls : Name) (l : Label) → 0 < length l → labels_with ls l ≡ ls ++ l ∷ []
-    labels_with_open ls [] h = absurd (omega arith)
-    labels_with_open ls (o ∷ os) h = refl
 
 pub ends_none : (bs : List ℕ) (b : Building) → Holds bs None b → ended b ≡ b
 ends_none bs b h =

@@ -5,4 +5,4 @@ pub mod OneFault
 pub mod PartText
 pub mod Room
 pub mod WholeTexts
-pub mod PlainTexts
+pub mod TextWalks

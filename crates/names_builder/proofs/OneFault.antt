@@ -13,16 +13,13 @@ use Rattle.names_wire.proofs.OneFault.{given, Refused, Stop, Bars, same_stop, so
 use Rattle.names_labels.specs.Open.{some_before, without_empty, if_open_short}
 use Rattle.names_labels.proofs.Taken.{taken, fits, fitting, taken_pieces}
 use Rattle.names_labels.proofs.Wholes.{some_taken, read_first}
-use Rattle.names_builder.specs.Building.{Building}
+use Rattle.names_builder.specs.Building.{Building, nothing}
 use Rattle.names_builder.specs.Fault.{AddsOctet, FaultAt, CharFault}
 use Rattle.names_builder.specs.FromText.{GoesOn, standing, continued, symbols_behind, text_behind, FirstFault, NameFault, RelativeFault, IsAbsolute}
 use Rattle.names_builder.specs.declared.text_error.Fault.{Fault}
 use Rattle.names_builder.specs.declared.text_error.Fault.TheVariants.{Symbol as BadText, BinaryLabel, LongLabel, EmptyLabel, LongName}
 use Rattle.names_builder.proofs.FromTexts.{at_octet, cannot, full_label, too_long, no_dot_first, no_bracket_dot, text_stops}
 use Rattle.names_builder.proofs.WholeTexts.{not_absolute}
-
-abbrev nothing : Building
-nothing = record { done = []; open_label = [] }
 
 -- ---- symbols behind those that were read
 

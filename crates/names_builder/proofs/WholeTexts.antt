@@ -9,7 +9,7 @@ use Rattle.names_wire.specs.Spelled.{SpellsNothing, in_turn}
 use Rattle.names_labels.specs.Open.{without_empty, if_open_short, read_behind}
 use Rattle.names_labels.proofs.Taken.{if_closed}
 use Rattle.names_labels.proofs.Wholes.{name_read, name_of_plain, relative_of_some, not_empty_read, closed_end, empty_end, some_behind, read_first}
-use Rattle.names_builder.specs.Building.{Building, all_labels, octets_of_building}
+use Rattle.names_builder.specs.Building.{Building, nothing, all_labels, octets_of_building}
 use Rattle.names_wire.specs.Symbols.{symbol_of}
 use Rattle.names_wire.specs.declared.symbol.Symbol.{Symbol as WireSymbol}
 use Rattle.names_wire.proofs.Characters.{characters, no_octets}
@@ -27,9 +27,6 @@ use Rattle.names_builder.specs.declared.text_error.FromStrError.{FromStrError}
 use Rattle.names_builder.specs.declared.text_error.FromStrError.TheVariants.{Presentation, ShortBuf}
 use Rattle.names_builder.specs.FromText.{standing, continued, symbols_behind, text_behind, AddsChar, StopsInText, FirstFault, NameFault, RelativeFault, StopsAtSymbol, FirstSymbolFault, SymbolsFault, IsAbsolute}
 use Rattle.names_builder.proofs.FromTexts.{text_step, without_last}
-
-abbrev nothing : Building
-nothing = record { done = []; open_label = [] }
 
 pub all_standing : (b : Building) → without_empty (standing b) ≡ all_labels b
 all_standing b = without_last b.done b.open_label
@@ -131,18 +128,18 @@ pub relative_none : (b now : Building) (text : List ℕ) → b ≡ nothing → t
 relative_none b now [] e h n = ap Some (sym (sym (all_standing now) ∙ ap without_empty (none_stands now n)))
 relative_none b now (c ∷ text) e h n = absurd (not_nothing c text (ap (λ x. text_behind x (c ∷ text)) (sym e) ∙ h ∙ ap Some (none_stands now n)))
 
--- where no label is open, and some are ended
-some_ended : (now : Building) → now.open_label ≡ [] → (length (octets_of_building now) ≡ 0 → ⊥) → Some ([] ∷ []) ≡ Some (standing now) → ⊥
-some_ended now e n h = n (go now.done now.open_label e h)
+-- what stands is not nothing where there are octets
+some_stands : (now : Building) → (length (octets_of_building now) ≡ 0 → ⊥) → Some ([] ∷ []) ≡ Some (standing now) → ⊥
+some_stands now n h = n (go now.done now.open_label h)
   where
-    go : (done : Name) (l : Label) → l ≡ [] → Some ([] ∷ []) ≡ Some (done ++ l ∷ []) → length (octets_of_building (record { done = done; open_label = l })) ≡ 0
-    go [] [] x k = refl
-    go [] (o ∷ os) x k = cc
-    go (m ∷ []) l x k = cc
-    go (m ∷ o ∷ done) l x k = cc
+    go : (done : Name) (l : Label) → Some ([] ∷ []) ≡ Some (done ++ l ∷ []) → length (octets_of_building (record { done = done; open_label = l })) ≡ 0
+    go [] [] k = refl
+    go [] (o ∷ os) k = cc
+    go (m ∷ []) l k = cc
+    go (m ∷ o ∷ done) l k = cc
 
 pub no_relative : (b now : Building) (text : List ℕ) → b ≡ nothing → text_behind b text ≡ Some (standing now) → now.open_label ≡ [] → (length (octets_of_building now) ≡ 0 → ⊥) → relative_of_text text ≡ None
-no_relative b now [] e h o n = absurd (some_ended now o n (ap (λ x. text_behind x []) (sym e) ∙ h))
+no_relative b now [] e h o n = absurd (some_stands now n (ap (λ x. text_behind x []) (sym e) ∙ h))
 no_relative b now (c ∷ text) e h o n =
     relative_of_some c text ∙ ap (option_and_then if_closed) (ap (λ x. text_behind x (c ∷ text)) (sym e) ∙ h)
     ∙ ap (λ l. if_closed (now.done ++ l ∷ [])) o ∙ empty_end now.done
@@ -154,9 +151,9 @@ dot_reads_nothing text = go (symbols_of text)
     go None = refl
     go (Some us) = read_first (Plain 46 ∷ us)
 
-pub absolute_text : (b now : Building) (text : List ℕ) → b ≡ nothing → text_behind b text ≡ Some (standing now) → now.open_label ≡ [] → (length (octets_of_building now) ≡ 0 → ⊥) → name_of_text text ≡ Some (all_labels now)
-absolute_text b now [] e h o n = absurd (some_ended now o n (ap (λ x. text_behind x []) (sym e) ∙ h))
-absolute_text b now (c ∷ text) e h o n = go (nat_eq c 46) refl
+pub absolute_text : (b now : Building) (text : List ℕ) → b ≡ nothing → text_behind b text ≡ Some (standing now) → (length (octets_of_building now) ≡ 0 → ⊥) → name_of_text text ≡ Some (all_labels now)
+absolute_text b now [] e h n = absurd (some_stands now n (ap (λ x. text_behind x []) (sym e) ∙ h))
+absolute_text b now (c ∷ text) e h n = go (nat_eq c 46) refl
   where
     go : (t : Bool) → nat_eq c 46 ≡ t → name_of_text (c ∷ text) ≡ Some (all_labels now)
     go false k =

@@ -9,6 +9,10 @@ pub record Building : Type 0 where
   pub done : Name
   pub open_label : Label
 
+-- no labels, and none open
+abbrev pub nothing : Building
+nothing = record { done = []; open_label = [] }
+
 -- an open label stands behind an octet that will hold its length
 abbrev pub open_octets : Label → List ℕ
 open_octets [] = []

@@ -7,7 +7,7 @@ use Rattle.definitions.specs.Text.{Symbol, symbols_of, pieces, is_dot, is_bracke
 use Rattle.names_wire.specs.Symbols.{symbol_of, is_begun}
 use Rattle.names_wire.specs.declared.symbol.Symbol.{Symbol as WireSymbol}
 use Rattle.names_labels.specs.Open.{open_labels, read_behind}
-use Rattle.names_builder.specs.Building.{Building}
+use Rattle.names_builder.specs.Building.{Building, nothing}
 use Rattle.names_builder.specs.Fault.{FaultAt, CharFault, fault_of}
 use Rattle.names_builder.specs.declared.text_error.Fault.{Fault}
 use Rattle.names_builder.specs.declared.text_error.Fault.TheVariants.{Symbol as BadText, EmptyLabel}
@@ -116,7 +116,7 @@ pub record FirstFault {S : Type 0} (steps : S → Option ℕ → S → Type 0) (
 -- The first fault of the characters that an iterator gives as a name: there are none, or that of the first refused one.
 abbrev pub NameFault : {S : Type 0} → (S → Option ℕ → S → Type 0) → S → Fault → Type 0
 NameFault {S} steps s f =
-    ((t : S) × steps s None t × (f ≡ EmptyLabel)) ⊎ ((new : Building) × FirstFault steps s [] (record { done = []; open_label = [] }) new f)
+    ((t : S) × steps s None t × (f ≡ EmptyLabel)) ⊎ ((new : Building) × FirstFault steps s [] nothing new f)
 
 -- ---- symbols that an iterator gives
 
@@ -142,11 +142,11 @@ pub record FirstSymbolFault {S : Type 0} (steps : S → Option WireSymbol → S 
 -- the first fault of the symbols that an iterator gives as a name: there are none, or that of the first refused one
 abbrev pub SymbolsFault : {S : Type 0} → (S → Option WireSymbol → S → Type 0) → S → Fault → Type 0
 SymbolsFault {S} steps s f =
-    ((t : S) × steps s None t × (f ≡ EmptyLabel)) ⊎ ((new : Building) × FirstSymbolFault steps s (record { done = []; open_label = [] }) new f)
+    ((t : S) × steps s None t × (f ≡ EmptyLabel)) ⊎ ((new : Building) × FirstSymbolFault steps s nothing new f)
 
 -- the first fault of the characters that an iterator gives as a relative name
 abbrev pub RelativeFault : {S : Type 0} → (S → Option ℕ → S → Type 0) → S → Fault → Type 0
-RelativeFault {S} steps s f = (new : Building) × FirstFault steps s [] (record { done = []; open_label = [] }) new f
+RelativeFault {S} steps s f = (new : Building) × FirstFault steps s [] nothing new f
 
 -- The text spells an absolute name that has a label. The text of the root alone is refused as one with an empty label.
 abbrev pub IsAbsolute : List ℕ → Type 0

@@ -2,4 +2,4 @@ pub mod Addresses
 pub mod Building
 pub mod Fault
 pub mod FromText
-pub mod PlainText
+pub mod TextWalk

@@ -4,9 +4,9 @@
 
 pub mod builder;
 pub mod laws;
-pub mod plain;
 pub mod push_error;
 pub mod reverse;
 mod text;
 pub mod text_error;
+pub mod walk;
 pub mod whole;

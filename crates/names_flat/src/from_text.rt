@@ -11,8 +11,8 @@ ghost use Rattle.names_builder.specs.FromText.{is_text, is_relative_text, NameFa
 use crate::builder::Finish;
 use crate::name::Name;
 use crate::relative::RelativeName;
-use names_builder::plain::{is_plain, plain_octets};
 use names_builder::text_error::{FromStrError, RelativeFromStrError};
+use names_builder::walk::{relative_octets, text_octets};
 use names_builder::whole::{read_chars, read_relative, read_symbols};
 use names_wire::symbol::Symbol;
 use std::alloc::Global;
@@ -77,23 +77,19 @@ impl Name<Vec<u8>> {
         ensures fault { let is = NameFault in_turn (chars_of text.now) in
             IfErr result (λ e. IfSome (fault_of e) is) }
     {
-        match Name::read_plain(alloc, text)? {
+        match Name::read_at_once(alloc, text)? {
             Some(name) => Ok(name),
             None => Name::read(alloc, room_for(text), text.chars()),
         }
     }
 
-    /// The name that a text without a backslash spells, copied at once; nothing where it is to be read symbol by symbol.
-    fn read_plain(alloc: Global, text: &str) -> Result<Option<Self>, FromStrError>
+    /// The name that a text spells, read in one walk; nothing where it is to be read symbol by symbol.
+    fn read_at_once(alloc: Global, text: &str) -> Result<Option<Self>, FromStrError>
         ensures ok { IfOk result (λ o.
             IfSome o (λ n. name_of_text (chars_of text.now) ≡ Some n)) }
         ensures err { IfErr result (λ e. e ≡ FromStrError.ShortBuf) }
     {
-        let text = text.as_bytes();
-        if !is_plain(text) {
-            return Ok(None);
-        }
-        match plain_octets(alloc, text) {
+        match text_octets(alloc, text.as_bytes()) {
             Ok(Some(octets)) => Ok(Some(Name::of_octets(octets))),
             Ok(None) => Ok(None),
             Err(_) => Err(FromStrError::ShortBuf),
@@ -152,7 +148,24 @@ impl RelativeName<Vec<u8>> {
         ensures absolute { IsErrOf result RelativeFromStrError.AbsoluteName
             → IsAbsolute (chars_of text.now) }
     {
-        RelativeName::read(alloc, room_for(text), text.chars())
+        match RelativeName::read_at_once(alloc, text) {
+            Ok(Some(name)) => Ok(name),
+            Ok(None) => RelativeName::read(alloc, room_for(text), text.chars()),
+            Err(error) => Err(RelativeFromStrError::FromStr(error)),
+        }
+    }
+
+    /// The relative name that a text spells, read in one walk; nothing where it is to be read symbol by symbol.
+    fn read_at_once(alloc: Global, text: &str) -> Result<Option<Self>, FromStrError>
+        ensures ok { IfOk result (λ o.
+            IfSome o (λ n. relative_of_text (chars_of text.now) ≡ Some n)) }
+        ensures err { IfErr result (λ e. e ≡ FromStrError.ShortBuf) }
+    {
+        match relative_octets(alloc, text.as_bytes()) {
+            Ok(Some(octets)) => Ok(Some(RelativeName::of_octets(octets))),
+            Ok(None) => Ok(None),
+            Err(_) => Err(FromStrError::ShortBuf),
+        }
     }
 }
 

@@ -46,7 +46,7 @@ returns-else-is_empty-clause-absolute g c = λ h.
           let ended = shut_back _ _ c.in_label.ensures w.if-in_label.false in
           let some = same_end (length (octets_of_building now)) _ w.is_empty.ensures (sym w.value-is ∙ c.if-is_empty.false) in
           let first = first_ended now ended some in
-          (r.0, r.1, (first.0, first.1, absolute_text c.in-Ok.builder now r.0 c.in-Ok.ensures r.2 ended some ∙ ap Some first.2))
+          (r.0, r.1, (first.0, first.1, absolute_text c.in-Ok.builder now r.0 c.in-Ok.ensures r.2 some ∙ ap Some first.2))
     ]
 
 pub returns-in_err-append_chars-clause-fault : goal.returns-in_err-append_chars-clause-fault

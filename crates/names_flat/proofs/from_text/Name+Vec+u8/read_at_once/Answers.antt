@@ -1,27 +1,25 @@
-use Rattle.std.proofs.Common.{◌≡◌, ◌∙◌, ℕ, List, Option, Some, IfSome, true, sym, ap, subst}
-use Rattle.std.specs.List.{list_all}
+use Rattle.std.proofs.Common.{◌≡◌, ◌∙◌, ℕ, List, Option, Some, IfSome, sym, ap, subst}
 use Rattle.std.specs.Str.{chars}
 use Rattle.std.specs.Global.{Vec}
+use Rattle.std.proofs.lemmas.Str.{chars-IsAscii}
 use Rattle.definitions.specs.Name.{Name}
 use Rattle.definitions.specs.Text.{name_of_text}
 use Rattle.names_labels.specs.Flat.{SpellsName, name_in}
 use Rattle.names_labels.proofs.Runs.{name_in-wire}
-use Rattle.names_builder.specs.PlainText.{stands_for_itself, SpellsText}
-use Rattle.names_builder.proofs.PlainTexts.{plain_chars}
-use Rattle.names_flat.proofs.from_text.Name+Vec+u8.read_plain.Goals as goal
+use Rattle.names_builder.specs.TextWalk.{SpellsText}
+use Rattle.names_flat.proofs.from_text.Name+Vec+u8.read_at_once.Goals as goal
 
 spelled_text : (text : List ℕ) (o : Option (Vec ℕ)) (v : Vec ℕ) → IfSome o (λ v. SpellsText text v.items) → o ≡ Some v → SpellsText text v.items
 spelled_text text o v h e = let P : Option (Vec ℕ) → Type 0 = λ x. IfSome x (λ v. SpellsText text v.items) in subst P e h
 
 pub of_octets-requires : goal.of_octets-requires
 of_octets-requires c =
-    let s = spelled_text c.as_bytes-text.result.now c.in-Ok-Some.field-0 c.in-Ok-Some.octets c.in-Ok-Some.ensures c.in-Ok-Some.field-0-is in
+    let s = spelled_text c.as_bytes.result.now c.in-Ok-Some.field-0 c.in-Ok-Some.octets c.in-Ok-Some.ensures c.in-Ok-Some.field-0-is in
     let P : Name → Type 0 = λ n. SpellsName c.in-Ok-Some.octets.items n in
     subst P (sym (ap name_in (sym s.spells.octets) ∙ name_in-wire s.name)) s.spells
 
 pub returns-in-Ok-Some-clause-ok : goal.returns-in-Ok-Some-clause-ok
 returns-in-Ok-Some-clause-ok c =
-    let s = spelled_text c.as_bytes-text.result.now c.in-Ok-Some.field-0 c.in-Ok-Some.octets c.in-Ok-Some.ensures c.in-Ok-Some.field-0-is in
-    let plain : list_all stands_for_itself c.as_bytes-text.result.now ≡ true = c.is_plain.ensures.0 c.if-not-is_plain.false in
-    ap (λ t. name_of_text (chars t)) (sym c.as_bytes-text.ensures.value) ∙ ap name_of_text (plain_chars c.as_bytes-text.result.now plain)
+    let s = spelled_text c.as_bytes.result.now c.in-Ok-Some.field-0 c.in-Ok-Some.octets c.in-Ok-Some.ensures c.in-Ok-Some.field-0-is in
+    ap (λ t. name_of_text (chars t)) (sym c.as_bytes.ensures.value) ∙ ap name_of_text (chars-IsAscii c.as_bytes.result.now s.ascii)
     ∙ s.read ∙ ap Some (sym (c.of_octets.ensures ∙ ap name_in (sym s.spells.octets) ∙ name_in-wire s.name))
