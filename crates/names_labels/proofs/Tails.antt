@@ -1,5 +1,5 @@
 -- What two rows have in common at their ends.
-use Rattle.std.proofs.Common.{◌≡◌, ◌⊎◌, inl, inr, ℕ, suc, ◌+◌, ◌-◌, ◌<◌, ◌≤◌, Bool, true, false, ◌&&◌, List, [], ◌∷◌, ◌++◌, length, drop, refl, sym, ap, subst, ◌∙◌, arith, append_assoc, length-append, Option, Some, None}
+use Rattle.std.proofs.Common.{◌≡◌, ◌⊎◌, inl, inr, ℕ, suc, ◌+◌, ◌-◌, ◌<◌, ◌≤◌, Bool, true, false, ◌&&◌, List, [], ◌∷◌, ◌++◌, length, take, drop, refl, sym, ap, subst, ◌∙◌, arith, append_assoc, length-append, Option, Some, None}
 use Rattle.std.proofs.Math.ListN.{get_or}
 use Rattle.std.proofs.Math.Seq.{drop-cons}
 use Rattle.std.specs.Str.{bytes_eq, str_to_ascii_lowercase}
@@ -10,20 +10,17 @@ use Rattle.std.specs.Cmp.Lexicographic.{slice_cmp}
 use Rattle.std.specs.declared.cmp.Ordering.{Ordering}
 use Rattle.std.specs.declared.cmp.Ordering.TheVariants.{Equal}
 use Rattle.std.proofs.lemmas.Bool.{cases_lt}
-use Rattle.std.proofs.lemmas.List.{drop_at, drop-drop, drop-map, length-map}
+use Rattle.std.proofs.lemmas.List.{drop_at, drop-drop, drop-map, length-map, map-append, take-append-drop, get_or-take, get_or-drop, get_or_past, length-take}
 use Rattle.definitions.specs.Name.{Name, Label, same, name_cmp}
 use Rattle.definitions.proofs.NameLaws.{equal_is_same, same_is_equal}
 use Rattle.names_wire.specs.Label.{octets_of}
 use Rattle.names_wire.specs.declared.label.Label.{Label as LabelOf}
 use Rattle.names_labels.specs.Flat.{spelled, labels_in, IsRun, SplitsLabel}
 use Rattle.names_labels.specs.Order.{SameEnds, HaveTail}
+use Rattle.names_labels.specs.Walked.{Behind, Walked, HasWalked, reach, BeginsBefore, WalksTo}
 use Rattle.names_labels.proofs.Compares.{same_length}
 use Rattle.names_labels.proofs.Lowered.{lowered_same, same_lowered}
 use Rattle.names_labels.proofs.Orders.{from_root_cmp, behind_equal, last_decides, none_before, some_behind}
-
--- octets and what stands before them
-abbrev pub Behind : List ℕ → List ℕ → Type 0
-Behind whole end = (front : List ℕ) × (whole ≡ front ++ end)
 
 -- what stands behind the first label
 label_behind : (whole run rest : List ℕ) (label : Label) → Behind whole run → IsRun run → SplitsLabel run label rest → Behind whole rest
@@ -83,6 +80,45 @@ one_more a b count s h k e = (
   ap str_to_ascii_lowercase (one_before a count h) ∙ (λ i. e i ∷ s.2 i) ∙ ap str_to_ascii_lowercase (sym (one_before b count k)),
 )
 
+-- ---- eight octets at once
+
+-- the octets before those at the end
+split_before : (xs : List ℕ) (count k : ℕ) → count + k ≤ length xs → str_to_ascii_lowercase (drop (length xs - (count + k)) xs) ≡ str_to_ascii_lowercase (take k (drop (length xs - (count + k)) xs)) ++ str_to_ascii_lowercase (drop (length xs - count) xs)
+split_before xs count k h =
+    let p = length xs - (count + k) in
+    let next : p + k ≡ length xs - count = omega (arith, h) in
+    ap str_to_ascii_lowercase (sym (take-append-drop k (drop p xs)))
+    ∙ map-append to_ascii_lowercase (take k (drop p xs)) (drop k (drop p xs))
+    ∙ ap (λ ys. str_to_ascii_lowercase (take k (drop p xs)) ++ str_to_ascii_lowercase ys) (drop-drop k p xs ∙ ap (λ n. drop n xs) next)
+
+pub eight_more : (a b : List ℕ) (count : ℕ) → SameEnds a b count → count + 8 ≤ length a → count + 8 ≤ length b → take 8 (drop (length a - (count + 8)) a) ≡ take 8 (drop (length b - (count + 8)) b) → SameEnds a b (count + 8)
+eight_more a b count s h k e = (h, k, split_before a count 8 h ∙ (λ i. str_to_ascii_lowercase (e i) ++ s.2 i) ∙ sym (split_before b count 8 k))
+
+taken_one : (xs : List ℕ) (p q k : ℕ) → q ≡ suc p → p < length xs → take (suc k) (drop p xs) ≡ get_or xs p 0 ∷ take k (drop q xs)
+taken_one xs p q k e h = ap (take (suc k)) (drop-cons xs p 0 h) ∙ ap (λ n. get_or xs p 0 ∷ take k (drop n xs)) (sym e)
+
+pub eight_taken : (xs : List ℕ) (p : ℕ) → p + 8 ≤ length xs → take 8 (drop p xs) ≡ get_or xs p 0 ∷ get_or xs (p + 1) 0 ∷ get_or xs (p + 2) 0 ∷ get_or xs (p + 3) 0 ∷ get_or xs (p + 4) 0 ∷ get_or xs (p + 5) 0 ∷ get_or xs (p + 6) 0 ∷ get_or xs (p + 7) 0 ∷ []
+eight_taken xs p h =
+    let g : ℕ → ℕ = λ n. get_or xs n 0 in
+    taken_one xs p (p + 1) 7 (omega arith) (omega (arith, h))
+    ∙ ap (λ ys. g p ∷ ys) (taken_one xs (p + 1) (p + 2) 6 (omega arith) (omega (arith, h))
+    ∙ ap (λ ys. g (p + 1) ∷ ys) (taken_one xs (p + 2) (p + 3) 5 (omega arith) (omega (arith, h))
+    ∙ ap (λ ys. g (p + 2) ∷ ys) (taken_one xs (p + 3) (p + 4) 4 (omega arith) (omega (arith, h))
+    ∙ ap (λ ys. g (p + 3) ∷ ys) (taken_one xs (p + 4) (p + 5) 3 (omega arith) (omega (arith, h))
+    ∙ ap (λ ys. g (p + 4) ∷ ys) (taken_one xs (p + 5) (p + 6) 2 (omega arith) (omega (arith, h))
+    ∙ ap (λ ys. g (p + 5) ∷ ys) (taken_one xs (p + 6) (p + 7) 1 (omega arith) (omega (arith, h))
+    ∙ ap (λ ys. g (p + 6) ∷ ys) (taken_one xs (p + 7) (p + 8) 0 (omega arith) (omega (arith, h)))))))))
+
+-- octets of a part are octets
+pub octets_below : (xs : List ℕ) (p : ℕ) → ((i : ℕ) → get_or xs i 0 < 256) → (i : ℕ) → get_or (take 8 (drop p xs)) i 0 < 256
+octets_below xs p below i = go (cases_lt i 8)
+  where
+    go : (i < 8) ⊎ (8 ≤ i) → get_or (take 8 (drop p xs)) i 0 < 256
+    go (inl h) = rw (get_or-take 8 (drop p xs) i 0 h, get_or-drop p xs i 0) (below (p + i))
+    go (inr h) = rw (get_or_past (take 8 (drop p xs)) i 0 (omega (arith, h, length-take 8 (drop p xs)))) (omega arith)
+
+-- ---- where no more are the same
+
 pub none_of_more : (a b : List ℕ) (count : ℕ) → SameEnds a b count → count < length a → count < length b → (to_ascii_lowercase (get_or a (length a - 1 - count) 0) ≡ to_ascii_lowercase (get_or b (length b - 1 - count) 0) → ⊥) → HaveTail a b count
 none_of_more a b count s h k other = record { same = s; most = λ more t. go more t (cases_lt count more) }
   where
@@ -103,22 +139,6 @@ whole_of_one a b count s none = record { same = s; most = λ more t. go none mor
 
 -- ---- a walk over one row: the label that was walked over last, and what stands behind it
 
-pub record Walked (run left : List ℕ) (l : Label) : Type 0 where
-  pub before : Name
-  pub from : List ℕ
-  pub labels : labels_in run ≡ before ++ labels_in from
-  pub here : Behind run from
-  pub row : IsRun from
-  pub splits : SplitsLabel from l left
-
-abbrev pub HasWalked : List ℕ → List ℕ → Option LabelOf → Type 0
-HasWalked run left None = left ≡ run
-HasWalked run left (Some l) = Walked run left (octets_of l)
-
--- the octets from that label on
-abbrev pub reach : List ℕ → LabelOf → ℕ
-reach left l = length left + (length (octets_of l) + 1)
-
 from_len : (run left : List ℕ) (l : Label) (w : Walked run left l) → length w.from ≡ length left + (length l + 1)
 from_len run left l w =
     omega (arith, ap length (w.row.whole ∙ ap spelled w.splits.first ∙ ap (λ x. (length l ∷ l) ++ x) (sym w.splits.behind.whole)), length-append l left)
@@ -138,10 +158,30 @@ labels_here : (run left : List ℕ) (o : Option LabelOf) → HasWalked run left 
 labels_here run left None w = ([], ap labels_in (sym w))
 labels_here run left (Some l) w = (w.before ++ octets_of l ∷ [], labels_behind run left (octets_of l) w)
 
+-- a label in front of a row, counted from the end
+reached : (left rest : List ℕ) (l : LabelOf) → IsRun left → SplitsLabel left (octets_of l) rest → length left ≡ reach rest l
+reached left rest l r s =
+    omega (arith, ap length (r.whole ∙ ap spelled s.first ∙ ap (λ x. (length (octets_of l) ∷ octets_of l) ++ x) (sym s.behind.whole)), length-append (octets_of l) rest)
+
 pub walks_on : (run left rest : List ℕ) (o : Option LabelOf) (l : LabelOf) → IsRun run → HasWalked run left o → SplitsLabel left (octets_of l) rest → HasWalked run rest (Some l)
 walks_on run left rest o l r w s =
     let b = labels_here run left o w in
     record { before = b.0; from = left; labels = b.1; here = behind_here run left o w; row = row_here run left o r w; splits = s }
+
+-- a row without labels is empty
+no_octets : (run : List ℕ) → IsRun run → labels_in run ≡ [] → length run ≡ 0
+no_octets run r e = ap length (r.whole ∙ ap spelled e)
+
+pub rest_shorter : (run left rest : List ℕ) (o : Option LabelOf) (l : LabelOf) → IsRun run → HasWalked run left o → SplitsLabel left (octets_of l) rest → length rest ≤ length left
+rest_shorter run left rest o l r w s = omega (arith, reached left rest l (row_here run left o r w) s)
+
+-- up to so many octets at the end
+pub walks_before : (run left rest : List ℕ) (o : Option LabelOf) (l : LabelOf) (tail : ℕ) → IsRun run → HasWalked run left o → SplitsLabel left (octets_of l) rest → tail < length left → BeginsBefore tail rest (Some l)
+walks_before run left rest o l tail r w s h = omega (arith, reached left rest l (row_here run left o r w) s, h)
+
+-- a walk is at its end only where no octets are left
+pub walk_ends : (run left : List ℕ) (o : Option LabelOf) → IsRun run → HasWalked run left o → labels_in left ≡ [] → length left ≡ 0
+walk_ends run left o r w e = no_octets left (row_here run left o r w) e
 
 -- ---- over both, the longer rest first
 
@@ -167,21 +207,35 @@ pub record WalkBoth (run other left right : List ℕ) (l k : Option LabelOf) (ta
   pub longer : IsLonger right k left
   pub apart : BeginApart left l right k tail
 
-pub walk_begins : (run other : List ℕ) (tail : ℕ) → WalkBoth run other run other None None tail
-walk_begins run other tail = record { walked = refl; others = refl; passed = tt; longer = tt; apart = tt }
+-- both were walked as far as what they have in common
+pub walk_begins : (run other left right : List ℕ) (l k : Option LabelOf) (tail : ℕ) → WalksTo run tail l left → WalksTo other tail k right → WalkBoth run other left right l k tail
+walk_begins run other left right l k tail w v = record { walked = w.walked; others = v.walked; passed = passed l w.begins; longer = longer k v.begins; apart = apart l k w.begins }
+  where
+    passed : (l : Option LabelOf) → BeginsBefore tail left l → IsPassed left l right tail
+    passed None b = tt
+    passed (Some x) b = λ h. absurd (omega (arith, b, h))
+
+    longer : (k : Option LabelOf) → BeginsBefore tail right k → IsLonger right k left
+    longer None b = tt
+    longer (Some y) b = omega (arith, b, w.within)
+
+    apart : (l k : Option LabelOf) → BeginsBefore tail left l → BeginApart left l right k tail
+    apart None k b = tt
+    apart (Some x) None b = tt
+    apart (Some x) (Some y) b = λ e h. omega (arith, b, h)
 
 pub left_walks : (run other left right rest : List ℕ) (o k : Option LabelOf) (l : LabelOf) (tail : ℕ) → IsRun run → WalkBoth run other left right o k tail → SplitsLabel left (octets_of l) rest → (length left ≡ length right → length left ≤ tail → ⊥) → length right ≤ length left → WalkBoth run other rest right (Some l) k tail
 left_walks run other left right rest o k l tail r w s apart h = go k w.others w.longer
   where
-    reached : length left ≡ reach rest l
-    reached = omega (arith, ap length ((row_here run left o r w.walked).whole ∙ ap spelled s.first ∙ ap (λ x. (length (octets_of l) ∷ octets_of l) ++ x) (sym s.behind.whole)), length-append (octets_of l) rest)
+    far : length left ≡ reach rest l
+    far = reached left rest l (row_here run left o r w.walked) s
 
     past : reach rest l ≤ tail → length right < reach rest l
     past t = go2 (cases_lt (length right) (length left))
       where
         go2 : (length right < length left) ⊎ (length left ≤ length right) → length right < reach rest l
-        go2 (inl x) = omega (arith, x, reached)
-        go2 (inr x) = absurd (apart (omega (arith, x, h)) (omega (arith, reached, t)))
+        go2 (inl x) = omega (arith, x, far)
+        go2 (inr x) = absurd (apart (omega (arith, x, h)) (omega (arith, far, t)))
 
     go : (k : Option LabelOf) → HasWalked other right k → IsLonger right k left → WalkBoth run other rest right (Some l) k tail
     go None v u = record { walked = walks_on run left rest o l r w.walked s; others = v; passed = past; longer = tt; apart = tt }
@@ -189,24 +243,24 @@ left_walks run other left right rest o k l tail r w s apart h = go k w.others w.
       walked = walks_on run left rest o l r w.walked s;
       others = v;
       passed = past;
-      longer = omega (arith, u, reached);
-      apart = λ e t. omega (arith, e, u, reached);
+      longer = omega (arith, u, far);
+      apart = λ e t. omega (arith, e, u, far);
     }
 
 pub right_walks : (run other left right rest : List ℕ) (o k : Option LabelOf) (l : LabelOf) (tail : ℕ) → IsRun other → WalkBoth run other left right o k tail → SplitsLabel right (octets_of l) rest → length left < length right → WalkBoth run other left rest o (Some l) tail
 right_walks run other left right rest o k l tail r w s h = go o w.walked w.passed
   where
-    reached : length right ≡ reach rest l
-    reached = omega (arith, ap length ((row_here other right k r w.others).whole ∙ ap spelled s.first ∙ ap (λ x. (length (octets_of l) ∷ octets_of l) ++ x) (sym s.behind.whole)), length-append (octets_of l) rest)
+    far : length right ≡ reach rest l
+    far = reached right rest l (row_here other right k r w.others) s
 
     go : (o : Option LabelOf) → HasWalked run left o → IsPassed left o right tail → WalkBoth run other left rest o (Some l) tail
-    go None v u = record { walked = v; others = walks_on other right rest k l r w.others s; passed = tt; longer = omega (arith, h, reached); apart = tt }
+    go None v u = record { walked = v; others = walks_on other right rest k l r w.others s; passed = tt; longer = omega (arith, h, far); apart = tt }
     go (Some m) v u = record {
       walked = v;
       others = walks_on other right rest k l r w.others s;
-      passed = λ t. omega (arith, u t, reached);
-      longer = omega (arith, h, reached);
-      apart = λ e t. omega (arith, u t, e, reached);
+      passed = λ t. omega (arith, u t, far);
+      longer = omega (arith, h, far);
+      apart = λ e t. omega (arith, u t, e, far);
     }
 
 -- ---- what decides
@@ -254,13 +308,3 @@ walk_decides run other left right l k tail r s t w e h = sym (go l k w.walked w.
     go (Some x) (Some y) v u a =
         behind (v.before ++ octets_of x ∷ []) (u.before ++ octets_of y ∷ []) (labels_behind run left (octets_of x) v) (labels_behind other right (octets_of y) u)
         ∙ last_decides v.before u.before (octets_of x) (octets_of y) (labels_differ run other left right x y tail t v u a both)
-
--- a row without labels is empty
-pub no_octets : (run : List ℕ) → IsRun run → labels_in run ≡ [] → length run ≡ 0
-no_octets run r e = ap length (r.whole ∙ ap spelled e)
-
-pub left_row : (run other left right : List ℕ) (l k : Option LabelOf) (tail : ℕ) → IsRun run → WalkBoth run other left right l k tail → IsRun left
-left_row run other left right l k tail r w = row_here run left l r w.walked
-
-pub right_row : (run other left right : List ℕ) (l k : Option LabelOf) (tail : ℕ) → IsRun other → WalkBoth run other left right l k tail → IsRun right
-right_row run other left right l k tail r w = row_here other right k r w.others

@@ -5,4 +5,5 @@ pub mod Open
 pub mod Order
 pub mod Refused
 pub mod RefusedRelative
+pub mod Walked
 pub mod Walking

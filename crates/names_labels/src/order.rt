@@ -1,12 +1,15 @@
 //! Orders of labels and of names: canonical order, from the root, and the order of the octets.
 
-ghost use Rattle.std.specs.Prelude.{◌≡◌, length, map};
+ghost use Rattle.std.specs.Prelude.{◌≡◌, ◌≢◌, ◌↔◌, ◌+◌, ◌≤◌, IsTrue, length, take, drop, map};
+ghost use Rattle.std.specs.Int.{w64, to_le_bytes};
+ghost use Rattle.std.specs.Char.{to_ascii_lowercase};
 ghost use Rattle.std.specs.Ordering.{nat_cmp};
 ghost use Rattle.std.specs.Cmp.Lexicographic.{slice_cmp};
 ghost use Rattle.names_wire.specs.Label.{octets_of, wire_label};
 ghost use Rattle.definitions.specs.Name.{name_cmp};
 ghost use Rattle.names_labels.specs.Flat.{labels_in, spelled, IsRun};
-ghost use Rattle.names_labels.specs.Order.{in_case, HaveTail};
+ghost use Rattle.names_labels.specs.Order.{in_case, SameEnds, HaveTail};
+ghost use Rattle.names_labels.specs.Walked.{WalksTo};
 
 use crate::flat::{behind, label_count, split_label};
 use crate::traits::{Labels, labels_counted, labels_of};
@@ -51,16 +54,17 @@ pub fn labels_cmp<A: Labels, B: Labels>(name: &A, other: &B) -> Ordering
 
 /// As `labels_cmp`, of labels in rows.
 ///
-/// Both rows are walked, the longer rest first, to where the rests are the same. The labels before these decide.
+/// Each row is walked to the octets that both have in common at their ends, and then the longer rest first, to where the
+/// rests are as long. The labels before these decide.
 fn runs_cmp(run: &[u8], other: &[u8]) -> Ordering
     requires run { IsRun run.now }
     requires other { IsRun other.now }
     ensures { result ≡ name_cmp (labels_in run.now) (labels_in other.now) }
 {
     let tail = common_tail(run, other);
-    let (mut left, mut right) = (run, other);
-    let (mut label, mut other_label) = (None, None);
-    while left.len() != right.len() || left.len() > tail {
+    let (mut label, mut left) = walk_to(run, tail);
+    let (mut other_label, mut right) = walk_to(other, tail);
+    while left.len() != right.len() {
         if left.len() >= right.len() {
             let Some((first, rest)) = split_label(left) else {
                 break;
@@ -76,23 +80,80 @@ fn runs_cmp(run: &[u8], other: &[u8]) -> Ordering
     label.cmp(&other_label)
 }
 
+/// Walks a row to where no more than so many octets are left. Gives the last label before, if there is one, and what is
+/// left.
+fn walk_to(run: &[u8], tail: usize) -> (Option<Label<'_>>, &[u8])
+    requires { IsRun run.now }
+    ensures { WalksTo run.now tail result.0 result.1.now }
+{
+    let (mut label, mut rest) = (None, run);
+    while rest.len() > tail {
+        let Some((first, behind)) = split_label(rest) else {
+            break;
+        };
+        (label, rest) = (Some(first), behind);
+    }
+    (label, rest)
+}
+
 /// How many octets at the end of both are the same, up to ASCII case.
 pub fn common_tail(octets: &[u8], others: &[u8]) -> usize
     ensures { HaveTail octets.now others.now result }
 {
     let most = octets.len().min(others.len());
-    let mut count = 0;
+    let mut count = common_eights(octets, others);
     while count < most {
         let (octet, other) = (
             octets[octets.len() - 1 - count],
             others[others.len() - 1 - count],
         );
-        if octet != other && !octet.eq_ignore_ascii_case(&other) {
+        if octet != other && !is_other_case(octet, other) {
             break;
         }
         count += 1;
     }
     count
+}
+
+/// How many octets at the end of both are equal, counted by eights.
+fn common_eights(octets: &[u8], others: &[u8]) -> usize
+    ensures { SameEnds octets.now others.now result }
+{
+    let most = octets.len().min(others.len());
+    let mut count = 0;
+    while count + 8 <= most {
+        let more = count + 8;
+        if eight_at(octets, octets.len() - more) != eight_at(others, others.len() - more) {
+            break;
+        }
+        count = more;
+    }
+    count
+}
+
+/// Eight octets from a place on, as one number.
+fn eight_at(octets: &[u8], place: usize) -> u64
+    requires { place + 8 ≤ length octets.now }
+    ensures { to_le_bytes w64 result ≡ take 8 (drop place octets.now) }
+{
+    u64::from_le_bytes([
+        octets[place],
+        octets[place + 1],
+        octets[place + 2],
+        octets[place + 3],
+        octets[place + 4],
+        octets[place + 5],
+        octets[place + 6],
+        octets[place + 7],
+    ])
+}
+
+/// Whether two octets are one letter in both cases.
+fn is_other_case(octet: u8, other: u8) -> bool
+    requires { octet ≢ other }
+    ensures { let same = to_ascii_lowercase octet ≡ to_ascii_lowercase other in IsTrue result ↔ same }
+{
+    octet.abs_diff(other) == 32 && octet.eq_ignore_ascii_case(&other)
 }
 
 /// Order of the octets of two names in wire form, label by label from the left.

@@ -1,6 +1,6 @@
 use Rattle.std.proofs.Common.{◌≡◌, ◌∙◌, suc, ◌+◌, ◌-◌, ◌<◌, ◌∷◌, length, take, drop, get_or, set, inl, inr, refl, ap, subst, arith, length-drop}
 use Rattle.std.proofs.Math.Seq.{drop-cons}
-use Rattle.std.proofs.lemmas.List.{take_all, nil_from_length, drop-drop, length-set}
+use Rattle.std.proofs.lemmas.List.{take_rest, nil_from_length, drop-drop, length-set}
 use Rattle.names_builder.proofs.TextWalks.{Writing, writing_begins, puts, goes_on, reads_plain, ends_label, writing_ends}
 use Rattle.names_builder.proofs.walk.write_labels.Goals as goal
 use Rattle.names_builder.proofs.walk.write_labels.Goals.{then-first-lt93+then-first-eq46+else-len-eq0+else-len-gt63, then-first-lt93+else-first-eq46+in_ok-octet, else-first-lt93+else-first-gt126}
@@ -20,7 +20,7 @@ loop-at-preserved c =
     let there : place < length now = omega (arith, c.loop-at-test.true, c.loop-at.invariant.room, c.requires.room, c.loop-at.auto.octets) in
     let next : suc at ≡ at + 1 = omega arith in
     let rest : drop at text ≡ first ∷ behind = drop-cons text at 0 c.loop-at-test.true ∙ ap (λ n. first ∷ drop n text) next in
-    let whole : take (length text - (at + 1)) behind ≡ behind = take_all (length text - (at + 1)) behind (omega (arith, length-drop (at + 1) text)) in
+    let whole : take (length text - (at + 1)) behind ≡ behind = take_rest text (at + 1) in
     let begun = rw rest at c.loop-at.invariant.writing in
     let put = puts text (first ∷ behind) now head place first begun there in
     let still : place < length (set now place first) = omega (arith, length-set now place first, there) in

@@ -1,4 +1,4 @@
-use Rattle.std.proofs.Common.{◌+◌, sym, length, length-take-le}
+use Rattle.std.proofs.Common.{◌+◌, sym, length-take-le}
 use Rattle.names_wire.specs.Label.{octets_of}
 use Rattle.names_labels.proofs.Cuts.{reaches_first, reaches_next, splits_last}
 use Rattle.names_labels.proofs.flat.split_last_label.Goals as goal

@@ -1,21 +1,38 @@
-use Rattle.std.proofs.Common.{◌≡◌, ◌≤◌, ◌∙◌, length, arith}
-use Rattle.names_labels.proofs.Tails.{left_walks, right_walks, walk_decides, no_octets, left_row, right_row}
+use Rattle.std.proofs.Common.{◌≡◌, ◌∙◌, length, arith}
+use Rattle.names_labels.proofs.Tails.{walk_begins, left_walks, right_walks, rest_shorter, walk_ends, walk_decides}
 use Rattle.names_labels.proofs.order.runs_cmp.Goals as goal
-use Rattle.names_labels.proofs.order.runs_cmp.Goals.{then-left-right, else-left-right+then-left-tail, else-left-right+else-left-tail, then-left-right-2+in_default, else-left-right-2+in_default-split_label}
+use Rattle.names_labels.proofs.order.runs_cmp.Goals.{else-loop-left-test, then-loop-left-test+then-left-right+in_default, then-loop-left-test+else-left-right+in_default-split_label}
 
-pub loop-left-preserved-then-left-right-2 : goal.loop-left-preserved-then-left-right-2
-loop-left-preserved-then-left-right-2 c =
+pub loop-left-init : goal.loop-left-init
+loop-left-init c = record {
+  walk = walk_begins c.args.run.now c.args.other.now c.walk_to.result.1.now c.walk_to-2.result.1.now c.walk_to.result.0 c.walk_to-2.result.0 c.common_tail-tail.result c.walk_to.ensures c.walk_to-2.ensures;
+  left = c.walk_to.ensures.within;
+  right = c.walk_to-2.ensures.within;
+}
+
+pub loop-left-preserved-then-left-right : goal.loop-left-preserved-then-left-right
+loop-left-preserved-then-left-right c =
     let left = c.loop-left.left.now in
     let right = c.loop-left.right.now in
-    let apart : length left ≡ length right → length left ≤ c.common_tail-tail.result → ⊥ = λ e h. elim c.if-left-right.branch [
-      | then-left-right w ↦ omega (arith, e, w.if-left-right.true)
-      | else-left-right+then-left-tail w ↦ omega (arith, h, w.if-left-tail.true)
-    ] in
-    left_walks c.args.run.now c.args.other.now left right c.in-Some.rest.now c.loop-left.label c.loop-left.other_label c.in-Some.first c.common_tail-tail.result c.requires.run c.loop-left.invariant c.in-Some.ensures apart c.if-left-right-2.true
+    let w = c.loop-left.invariant in
+    record {
+      walk = left_walks c.args.run.now c.args.other.now left right c.in-Some.rest.now c.loop-left.label c.loop-left.other_label c.in-Some.first c.common_tail-tail.result c.requires.run w.walk c.in-Some.ensures (λ e h. c.loop-left-test.true e) c.if-left-right.true;
+      left = omega (arith, w.left, rest_shorter c.args.run.now left c.in-Some.rest.now c.loop-left.label c.in-Some.first c.requires.run w.walk.walked c.in-Some.ensures);
+      right = w.right;
+    }
 
 pub loop-left-preserved : goal.loop-left-preserved
 loop-left-preserved c =
-    right_walks c.args.run.now c.args.other.now c.loop-left.left.now c.loop-left.right.now c.in-Some-split_label.rest.now c.loop-left.label c.loop-left.other_label c.in-Some-split_label.first c.common_tail-tail.result c.requires.other c.loop-left.invariant c.in-Some-split_label.ensures (omega (arith, c.if-left-right-2.false))
+    let left = c.loop-left.left.now in
+    let right = c.loop-left.right.now in
+    let w = c.loop-left.invariant in
+    let rest = c.in-Some-split_label.rest.now in
+    let l = c.in-Some-split_label.first in
+    record {
+      walk = right_walks c.args.run.now c.args.other.now left right rest c.loop-left.label c.loop-left.other_label l c.common_tail-tail.result c.requires.other w.walk c.in-Some-split_label.ensures c.if-left-right.false;
+      left = w.left;
+      right = omega (arith, w.right, rest_shorter c.args.other.now right rest c.loop-left.other_label l c.requires.other w.walk.others c.in-Some-split_label.ensures);
+    }
 
 pub returns : goal.returns
 returns c =
@@ -25,18 +42,14 @@ returns c =
     let right = c.loop-left.right.now in
     let l = c.loop-left.label in
     let k = c.loop-left.other_label in
-    let tail = c.common_tail-tail.result in
     let w = c.loop-left.invariant in
     c.cmp.ensures
-    ∙ (elim c.if-left-right.branch [
-      | else-left-right+else-left-tail b ↦ walk_decides run other left right l k tail c.requires.run c.requires.other c.common_tail-tail.ensures w b.if-left-right.false b.if-left-tail.false
-      | then-left-right-2+in_default b ↦
-          let none : length left ≡ 0 = no_octets left (left_row run other left right l k tail c.requires.run w) b.in_default.ensures in
-          absurd (elim b.if-left-right.branch [
-            | then-left-right d ↦ omega (arith, none, d.if-left-right.true, b.if-left-right-2.true)
-            | else-left-right+then-left-tail d ↦ omega (arith, none, d.if-left-tail.true)
-          ])
-      | else-left-right-2+in_default-split_label b ↦
-          let none : length right ≡ 0 = no_octets right (right_row run other left right l k tail c.requires.other w) b.in_default-split_label.ensures in
-          absurd (omega (arith, none, b.if-left-right-2.false))
+    ∙ (elim c.loop-left-test.branch [
+      | else-loop-left-test b ↦ walk_decides run other left right l k c.common_tail-tail.result c.requires.run c.requires.other c.common_tail-tail.ensures w.walk b.loop-left-test.false w.left
+      | then-loop-left-test+then-left-right+in_default b ↦
+          let none : length left ≡ 0 = walk_ends run left l c.requires.run w.walk.walked b.in_default.ensures in
+          absurd (b.loop-left-test.true (omega (arith, none, b.if-left-right.true)))
+      | then-loop-left-test+else-left-right+in_default-split_label b ↦
+          let none : length right ≡ 0 = walk_ends other right k c.requires.other w.walk.others b.in_default-split_label.ensures in
+          absurd (omega (arith, none, b.if-left-right.false))
     ])
