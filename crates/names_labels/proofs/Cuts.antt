@@ -5,7 +5,7 @@ use Rattle.std.specs.List.{AllByRecursion}
 use Rattle.std.proofs.lemmas.List.{take_at, drop_at, take-append-drop}
 use Rattle.std.proofs.lemmas.Bool.{eqb-true, leb-true, leb-false}
 use Rattle.definitions.specs.Name.{Name, Label}
-use Rattle.names_labels.specs.Flat.{spelled, labels_in, IsRun, SplitsLabel, SplitsLast, StartsLabel}
+use Rattle.names_labels.specs.Flat.{spelled, labels_in, IsRun, SplitsLabel, SplitsLast, SplitsRun, StartsLabel}
 use Rattle.names_labels.proofs.Runs.{spelled-append, labels_in-spelled, drop-one}
 
 short_take : (k : ℕ) (ls : Name) → AllByRecursion (λ l. length l ≤ 63) ls → AllByRecursion (λ l. length l ≤ 63) (take k ls)
@@ -69,6 +69,12 @@ pub one_behind : (run rest behind : List ℕ) (k : ℕ) (l : Label) → IsRun ru
 one_behind run rest behind k l r b s =
     let e : labels_in behind ≡ drop (k + 1) (labels_in run) = sym (drop-one (labels_in run) k l (labels_in behind) (sym b.labels ∙ s.first)) in
     record { left = s.behind; labels = e; octets = octets_left run behind (k + 1) r s.behind e }
+
+-- the octets in front of what is left
+pub parts_behind : (run rest : List ℕ) (k : ℕ) → IsRun run → Behind run rest k → SplitsRun run (take (length run - length rest) run) rest
+parts_behind run rest k r b =
+    let c = cuts run (length run - length rest) k r (omega (arith, b.octets)) in
+    record { labels = sym (take-append-drop k (labels_in run)) ∙ (λ i. sym c.front i ++ sym b.labels i); in_front = c.front_run; behind = b.left }
 
 -- ---- where labels begin
 

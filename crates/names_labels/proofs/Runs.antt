@@ -68,6 +68,9 @@ unfolding labels_in
 empty_run [] h = refl
 empty_run (b ∷ bs) h = absurd (omega arith)
 
+pub no_row : IsRun []
+no_row = let e : labels_in [] ≡ [] = empty_run [] refl in record { whole = ap spelled (sym e); short = rw e tt }
+
 pub length-spelled : (ls : Name) → length ls ≤ length (spelled ls)
 length-spelled [] = omega arith
 length-spelled (l ∷ ls) = omega (arith, length-spelled ls, length-append l (spelled ls))

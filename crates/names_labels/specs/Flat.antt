@@ -37,6 +37,12 @@ pub record SplitsLast (run front : List ℕ) (label : Label) : Type 0 where
   pub last : labels_in run ≡ labels_in front ++ label ∷ []
   pub in_front : IsRun front
 
+-- a run is two runs
+pub record SplitsRun (run front back : List ℕ) : Type 0 where
+  pub labels : labels_in run ≡ labels_in front ++ labels_in back
+  pub in_front : IsRun front
+  pub behind : IsRun back
+
 -- the name that the octets spell, without the root's label
 abbrev pub name_in : List ℕ → Name
 name_in bs = take (length (labels_in bs) - 1) (labels_in bs)

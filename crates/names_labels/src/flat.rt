@@ -1,6 +1,6 @@
 ghost use Rattle.std.specs.Prelude.{◌≡◌, ◌↔◌, ℕ, List, length, [], take, drop, true, IsTrue, MatchOption, option_map, slice_get};
 ghost use Rattle.definitions.specs.Name.{same};
-ghost use Rattle.names_labels.specs.Flat.{labels_in, spelled, IsRun, SplitsLabel, SplitsLast, StartsLabel};
+ghost use Rattle.names_labels.specs.Flat.{labels_in, spelled, IsRun, SplitsLabel, SplitsLast, SplitsRun, StartsLabel};
 ghost use Rattle.names_wire.specs.Label.{octets_of};
 
 use names_wire::label::Label;
@@ -13,8 +13,7 @@ pub fn split_label(run: &[u8]) -> Option<(Label<'_>, &[u8])>
 {
     let (&len, rest) = run.split_first()?;
     let (octets, behind) = rest.split_at(usize::from(len));
-    let label = Label::from_slice(octets).unwrap();
-    Some((label, behind))
+    Some((Label::from_short(octets), behind))
 }
 
 /// The last label of labels in a row, and the row in front of it.
@@ -31,6 +30,25 @@ pub(crate) fn split_last_label(run: &[u8]) -> Option<(&[u8], Label<'_>)>
         rest = behind;
     }
     Some((&run[..start], last))
+}
+
+/// A row in two: labels at its end, of 32 octets at most or only one, are the second part, and what is in front the first.
+pub(crate) fn split_near_end(run: &[u8]) -> (&[u8], &[u8])
+    requires { IsRun run.now }
+    ensures parts { SplitsRun run.now result.0.now result.1.now }
+    ensures some { length result.1.now ≡ 0 → length run.now ≡ 0 }
+{
+    let mut near = run;
+    while near.len() > 32 {
+        let Some((_, behind)) = split_label(near) else {
+            break;
+        };
+        if behind.is_empty() {
+            break;
+        }
+        near = behind;
+    }
+    (&run[..run.len() - near.len()], near)
 }
 
 /// How many labels stand in a row.

@@ -78,7 +78,7 @@ impl<'a> Label<'a> {
     }
 
     /// The label of octets that are few enough.
-    pub(crate) fn from_short(octets: &'a [u8]) -> Label<'a>
+    pub fn from_short(octets: &'a [u8]) -> Label<'a>
         requires { length octets.now ≤ 63 }
         ensures { octets_of result ≡ octets.now }
     {
