@@ -17,25 +17,25 @@ use Rattle.answer_zone.specs.declared.fault.Mode.TheVariants.{Nsec}
 use Rattle.std.specs.List.{AllByRecursion}
 use Rattle.definitions.specs.Name.{IsName, Name}
 use Rattle.definitions.specs.Limits.{pointer_limit}
-use Rattle.answer_judge.specs.Answers.{Answers}
+use Rattle.answer_scheme.specs.Answers.{Answers}
 use Rattle.records.specs.Handed.{IsHanded}
 use Rattle.answer_zone.specs.ZoneView.{mode_of}
 use Rattle.records.specs.HandedRr.{HandedRr}
 use Rattle.answer_zone.specs.Accepting.{IsAccepted, sorted_records, zone_of}
-use Rattle.answer.specs.Bindings as bindings
-use Rattle.answer.specs.Bindings.{ZoneKeys, apply, ds_set}
+use Rattle.answer_publisher.specs.Bindings as bindings
+use Rattle.answer_publisher.specs.Bindings.{ZoneKeys, apply, ds_set}
 use Rattle.answer_judge.specs.Judging.{Says, answer_of, hashes_of, is_allowed, verifications_of}
 use Rattle.answer_judge.specs.Judged.{AnswersAs}
 use Rattle.answer_judge.specs.Meeting.{IsJudgement, holds}
 use Rattle.records.specs.Message.{Asked}
 use Rattle.answer.specs.OneState.{Moment, VerdictAt, VerdictsAlong, moment, moments_with}
-use Rattle.answer.specs.Publishing.{digest_at, second_of}
+use Rattle.answer_publisher.specs.Publishing.{digest_at, second_of}
 use Rattle.messages.specs.Questions.{asked_of}
 use Rattle.answer.specs.Simulating.{JudgesThings, OfKeys, OfParent, OfZone, Shown, ShowsAnswer, ShowsKeys, Simulates, Sofar, StepOf, begin, call_of, handing}
-use Rattle.answer.specs.World.{World}
+use Rattle.answer_publisher.specs.World.{World}
 use Rattle.messages.specs.WrittenLaws.{IsQuestion}
 use Rattle.answer.proofs.KeyLife.{apply_binds}
-use Rattle.answer.proofs.KeyTags.{apply_own, none_own, own_of}
+use Rattle.answer_publisher.proofs.KeyTags.{apply_own, none_own, own_of}
 use Rattle.answer.proofs.GivenThings.{AreLeft, IsZoneOf, given}
 use Rattle.answer.proofs.KeyHistory.{Held, Reach, accepted_did, held_more, none_held, reach_more, reached_at, rolls_more, set_by_rolls, set_so, state_stays, stay_here, stay_on}
 use Rattle.answer.proofs.KeysMeet.{IsPast, KeysMeet, keys_meet, some_at_parent}

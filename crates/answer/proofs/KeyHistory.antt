@@ -18,9 +18,9 @@ use Rattle.keyset.proofs.KeyRunEnds.{call_next, none_hold}
 use Rattle.keyset.proofs.KeyRunSteps.{Holds}
 use Rattle.keyset_life.specs.KeyLife.{accepted, states}
 use Rattle.keyset_life.proofs.Meets.{accepted_ok}
-use Rattle.answer.specs.declared.publisher.keys.KeyKind.TheVariants.{Ksk, Zsk}
-use Rattle.answer.specs.Bindings as bindings
-use Rattle.answer.specs.Bindings.{BoundKey, Outcome, ZoneKeys, apply, bind, dnskey_for, is_bound_away, lifted, on_state}
+use Rattle.answer_publisher.specs.declared.keys.KeyKind.TheVariants.{Ksk, Zsk}
+use Rattle.answer_publisher.specs.Bindings as bindings
+use Rattle.answer_publisher.specs.Bindings.{BoundKey, Outcome, ZoneKeys, apply, bind, dnskey_for, is_bound_away, lifted, on_state}
 use Rattle.answer.specs.ThroughRolls.{set_call}
 use Rattle.answer_judge.proofs.GivenKeys.{same_key-is}
 use Rattle.answer.proofs.KeyLife.{bound_by, by_digest}

@@ -4,14 +4,14 @@ use Rattle.std.specs.declared.cmp.Ordering.TheVariants.{Less, Equal, Greater}
 use Rattle.std.specs.List.{AllByRecursion, filter}
 use Rattle.std.specs.FinMap.Entries.{put, by_order}
 use Rattle.definitions.specs.Dnskey.{Dnskey}
-use Rattle.answer.specs.Bindings.{Add, BoundKey, Call, Finish, Outcome, Report1, Report2, Start, Wait1, Wait2, ZoneKeys, apply, dnskey_for, dnskeys, is_bound_away, is_published, lifted, on_state, published}
-use Rattle.answer.specs.Bindings as bindings
+use Rattle.answer_publisher.specs.Bindings.{Add, BoundKey, Call, Finish, Outcome, Report1, Report2, Start, Wait1, Wait2, ZoneKeys, apply, dnskey_for, dnskeys, is_bound_away, is_published, lifted, on_state, published}
+use Rattle.answer_publisher.specs.Bindings as bindings
 use Rattle.keyset.specs.KeyState.{Answer, Reference, reference_cmp}
 use Rattle.answer_judge.specs.Meeting.{IsZoneKey}
 use Rattle.keyset_rolls.specs.declared.rolls.Action.{Action}
-use Rattle.answer.specs.declared.publisher.keys.KeyKind.{KeyKind}
-use Rattle.answer.specs.declared.publisher.keys.KeyKind.TheVariants.{Ksk, Zsk}
-use Rattle.answer.specs.declared.publisher.keys.Publication.{Publication}
+use Rattle.answer_publisher.specs.declared.keys.KeyKind.{KeyKind}
+use Rattle.answer_publisher.specs.declared.keys.KeyKind.TheVariants.{Ksk, Zsk}
+use Rattle.answer_publisher.specs.declared.keys.Publication.{Publication}
 
 -- a zone's key beside its digest
 pub record IsBound (digest : Dnskey → Option (List ℕ)) (b : BoundKey) : Type 0 where

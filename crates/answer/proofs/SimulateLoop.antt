@@ -4,7 +4,7 @@ use Rattle.std.proofs.lemmas.List.{drop_more, drop_all, append-nil}
 use Rattle.answer.specs.declared.event.Event.{Event}
 use Rattle.answer.specs.declared.event.Outcome.{Outcome}
 use Rattle.answer.specs.Simulating.{Sofar, StepOf, Simulates}
-use Rattle.answer.specs.World.{World}
+use Rattle.answer_publisher.specs.World.{World}
 
 -- the outcomes so far begin every simulation that goes on from here
 abbrev pub GoesOn : World → Sofar → List Event → List Outcome → ℕ → Sofar → Type 0

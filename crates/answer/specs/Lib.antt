@@ -1,16 +1,7 @@
-pub mod Bindings
-pub mod KeyCalls
-pub mod BoundView
-pub mod NewKeys
-pub mod KeyTags
-pub mod Publishing
 pub mod Simulating
 pub mod Running
+pub mod Keeping
 pub mod OneState
 pub mod ThroughRolls
 pub mod ThroughRollsRows
-pub mod Composed
-pub mod AnswerFaults
 pub mod Events
-pub mod Answering
-pub mod World

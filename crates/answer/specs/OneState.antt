@@ -6,17 +6,17 @@ use Rattle.answer.specs.declared.event.Act.{Act}
 use Rattle.answer.specs.declared.event.Act.TheVariants as act
 use Rattle.answer.specs.declared.event.Outcome.{Outcome}
 use Rattle.answer.specs.declared.event.Outcome.TheVariants as outcome
-use Rattle.answer.specs.declared.publisher.keys.Publication.TheVariants as publication
+use Rattle.answer_publisher.specs.declared.keys.Publication.TheVariants as publication
 use Rattle.records.specs.HandedRr.{HandedRr}
 use Rattle.answer_zone.specs.Accepting.{zone_of}
-use Rattle.answer.specs.Bindings.{ZoneKeys, dnskeys, published}
+use Rattle.answer_publisher.specs.Bindings.{ZoneKeys, dnskeys, published}
 use Rattle.answer_judge.specs.Judged.{AnswersAs}
 use Rattle.answer_judge.specs.Judging.{Says, answer_of}
 use Rattle.answer_judge.specs.Meeting.{Meet, holds}
 use Rattle.records.specs.Message.{Asked}
-use Rattle.answer.specs.Publishing.{second_of}
+use Rattle.answer_publisher.specs.Publishing.{second_of}
 use Rattle.answer.specs.Simulating.{OfZone, Simulates, Sofar, begin}
-use Rattle.answer.specs.World.{World}
+use Rattle.answer_publisher.specs.World.{World}
 
 -- the keys and the time at which a thing was shown
 pub record Moment : Type 0 where

@@ -1,26 +1,33 @@
 -- How a run of the code is seen.
-use Rattle.std.specs.Prelude.{ℕ, Bool, List, map, Option}
+use Rattle.std.specs.Prelude.{◌≡◌, ◌++◌, ◌∷◌, [], ℕ, Bool, List, Option}
 use Rattle.definitions.specs.Dnskey.{Dnskey}
-use Rattle.answer.specs.declared.simulate.run.Shown.{Shown as CodeShown}
+use Rattle.answer.specs.declared.event.Act.{Act}
+use Rattle.answer.specs.declared.event.Outcome.{Outcome}
+use Rattle.answer.specs.declared.simulate.kept.Thing.{Thing}
+use Rattle.answer.specs.declared.simulate.kept.Thing.TheVariants as thing
 use Rattle.answer.specs.declared.simulate.run.Run.{Run}
-use Rattle.answer.specs.declared.simulate.run.Shown.TheVariants as code
-use Rattle.answer.specs.Bindings.{ZoneKeys}
-use Rattle.answer.specs.World.{World, world_of}
-use Rattle.answer.specs.Simulating.{Shown, OfParent, OfKeys, OfZone, Sofar}
+use Rattle.answer.specs.Keeping.{Keeps}
+use Rattle.answer_publisher.specs.Bindings.{ZoneKeys}
+use Rattle.answer_publisher.specs.World.{World, world_of}
+use Rattle.answer.specs.Simulating.{Shown, OfParent, OfKeys, OfZone, Sofar, StepOf}
 use Rattle.messages.specs.Questions.{asked_of}
 
-abbrev pub shown_of : CodeShown → Shown
-shown_of (code.OfParent set) = OfParent set.items
-shown_of (code.OfKeys octets) = OfKeys octets.items
-shown_of (code.OfZone question octets) = OfZone (asked_of question) octets.items
+abbrev pub thing_of : Thing → Shown
+thing_of (thing.OfParent set) = OfParent set.now
+thing_of (thing.OfKeys octets) = OfKeys octets.now
+thing_of (thing.OfZone question octets) = OfZone (asked_of question.now) octets.now
 
 -- the keys, and the things shown in order of place
-abbrev pub sofar : ZoneKeys → List CodeShown → Sofar
-sofar keys shown = record { keys = keys; shown = map shown_of shown }
+abbrev pub sofar : ZoneKeys → Keeps → Sofar
+sofar keys kept = record { keys = keys; shown = kept.shown }
 
 abbrev pub sofar_in : {S H : Type 0} → Run S H → Sofar
-sofar_in r = sofar r.publisher.keys r.shown.items
+sofar_in r = sofar r.publisher.keys r.kept
 
 -- the world that it runs in, by what scheme and hasher answer
 abbrev pub world_in : {S H : Type 0} → (S → Dnskey → List ℕ → Option (List ℕ)) → (S → Dnskey → List ℕ → List ℕ → Bool) → (S → ℕ → List ℕ → Option (List ℕ)) → (H → List ℕ → ℕ → ℕ → List ℕ → Option (List ℕ)) → Run S H → World
 world_in sign verifies digest hash r = world_of sign verifies digest hash r.publisher
+
+-- an act adds an outcome, which is what comes of it
+abbrev pub Serves : {S H : Type 0} → World → Run S H → ℕ → Act → Run S H → Type 0
+Serves w old at act new = (o : Outcome) × (new.kept.outcomes ≡ old.kept.outcomes ++ o ∷ []) × StepOf w (sofar_in old) at act o (sofar_in new)

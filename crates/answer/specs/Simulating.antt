@@ -10,16 +10,16 @@ use Rattle.answer.specs.declared.event.KeyCall.{KeyCall}
 use Rattle.answer.specs.declared.event.KeyCall.TheVariants as call
 use Rattle.answer.specs.declared.event.Outcome.{Outcome}
 use Rattle.answer.specs.declared.event.Outcome.TheVariants as outcome
-use Rattle.answer.specs.declared.publisher.fault.AnswerFault.{AnswerFault}
-use Rattle.answer.specs.declared.publisher.fault.AnswerFault.TheVariants as refusal
-use Rattle.answer.specs.declared.publisher.keys.KeyKind.TheVariants.{Ksk, Zsk}
+use Rattle.answer_publisher.specs.declared.fault.AnswerFault.{AnswerFault}
+use Rattle.answer_publisher.specs.declared.fault.AnswerFault.TheVariants as refusal
+use Rattle.answer_publisher.specs.declared.keys.KeyKind.TheVariants.{Ksk, Zsk}
 use Rattle.records.specs.Message.{Asked}
 use Rattle.messages.specs.Questions.{asked_of}
 use Rattle.keyset.specs.KeyState.{text_of, is_available}
-use Rattle.answer.specs.Bindings.{ZoneKeys, Call, Add, Start, Report1, Wait1, Report2, Wait2, Finish, apply, no_keys, ds_set}
-use Rattle.answer.specs.KeyCalls.{Copied, Gives}
-use Rattle.answer.specs.Publishing.{digest_at, second_of}
-use Rattle.answer.specs.World.{World, AnswersKeysQuestion, AnswersQuestion, RefusesKeysQuestion, RefusesQuestion, SpellsAnswer, SpellsKeys}
+use Rattle.answer_publisher.specs.Bindings.{ZoneKeys, Call, Add, Start, Report1, Wait1, Report2, Wait2, Finish, apply, no_keys, ds_set}
+use Rattle.answer_publisher.specs.KeyCalls.{Copied, Gives}
+use Rattle.answer_publisher.specs.Publishing.{digest_at, second_of}
+use Rattle.answer_publisher.specs.World.{World, AnswersKeysQuestion, AnswersQuestion, RefusesKeysQuestion, RefusesQuestion, SpellsAnswer, SpellsKeys}
 use Rattle.answer_judge.specs.Meeting.{IsJudgement}
 use Rattle.messages.specs.WrittenLaws.{IsQuestion}
 use Rattle.answer_judge.specs.Judging.{Handing, answer_of, verifications_of, hashes_of, is_allowed}

@@ -10,8 +10,8 @@ use Rattle.answer.specs.declared.event.Act.{Act}
 use Rattle.answer.specs.declared.event.Act.TheVariants as act
 use Rattle.answer.specs.declared.event.Outcome.{Outcome}
 use Rattle.answer.specs.declared.event.Outcome.TheVariants as outcome
-use Rattle.answer.specs.declared.publisher.keys.KeyKind.{KeyKind}
-use Rattle.answer.specs.declared.publisher.keys.KeyKind.TheVariants as kind
+use Rattle.answer_publisher.specs.declared.keys.KeyKind.{KeyKind}
+use Rattle.answer_publisher.specs.declared.keys.KeyKind.TheVariants as kind
 use Rattle.keyset.specs.KeyRuns as runs
 use Rattle.keyset.specs.KeyRuns.{Call, Kind, OfKsk, OfZsk}
 use Rattle.keyset_life.specs.KeyLife.{DnskeyAnswer, DsSet, Step, Thing, ZoneAnswer, accepted, retired}
@@ -21,11 +21,11 @@ use Rattle.answer_zone.specs.Accepting.{zone_of}
 use Rattle.answer_judge.specs.Judged.{AnswersAs}
 use Rattle.answer_judge.specs.Judging.{Says, answer_of}
 use Rattle.answer_judge.specs.Meeting.{holds}
-use Rattle.answer.specs.Bindings as bindings
-use Rattle.answer.specs.Bindings.{dnskey_for}
-use Rattle.answer.specs.Publishing.{second_of}
+use Rattle.answer_publisher.specs.Bindings as bindings
+use Rattle.answer_publisher.specs.Bindings.{dnskey_for}
+use Rattle.answer_publisher.specs.Publishing.{second_of}
 use Rattle.answer.specs.Simulating.{OfParent, OfZone, Simulates, Sofar, begin, call_of}
-use Rattle.answer.specs.World.{World}
+use Rattle.answer_publisher.specs.World.{World}
 
 -- ---- a call on a zone's keys, as one on its key set
 

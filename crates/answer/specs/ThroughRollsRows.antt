@@ -1,12 +1,12 @@
 -- A roll of a zone signing key, worked through by computing: what is shown, behind which calls, and what of it is retired when.
 use Rattle.std.specs.Prelude.{◌≡◌, ◌*◌, true, false, [], ◌∷◌, None, codes, length, map}
 use Rattle.keyset_rolls.specs.declared.rolls.RollType.TheVariants.{AlgorithmRoll, ZskRoll}
-use Rattle.answer.specs.declared.publisher.keys.KeyKind.TheVariants.{Ksk, Zsk}
+use Rattle.answer_publisher.specs.declared.keys.KeyKind.TheVariants.{Ksk, Zsk}
 use Rattle.keyset.specs.KeyState.{Reference}
 use Rattle.keyset.specs.KeyRows.{second}
 use Rattle.keyset_life.specs.KeyLife.{DnskeyAnswer}
 use Rattle.definitions.specs.Name.{Name}
-use Rattle.answer.specs.Bindings.{Add, Finish, Report1, Report2, Start, Wait1, Wait2}
+use Rattle.answer_publisher.specs.Bindings.{Add, Finish, Report1, Report2, Start, Wait1, Wait2}
 use Rattle.answer.specs.ThroughRolls.{History, Unretired, is_retired, no_history, steps, with_call, with_thing}
 
 abbrev apex : Name

@@ -1,10 +1,10 @@
 //! What happens to a signed zone over time, and what comes of it.
-use crate::publisher::fault::{AnswerFault, KeyFault};
 use answer_judge::judge::verdict::{Judgement, Refused};
+use answer_publisher::fault::{AnswerFault, KeyFault};
+use denial_data::Ds;
 use keyset::{Action, Available, RollType, UnixTime};
 use messages::question::Question;
 use plain::numbers::SecurityAlgorithm;
-use signed_data::ds::Ds;
 
 /// An act at a moment. A key call takes the moment as its present, and an added key as its creation.
 #[derive(Debug, Drop)]

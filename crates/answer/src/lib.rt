@@ -3,13 +3,16 @@
 #![tactic(auto)]
 
 pub mod event;
-pub mod publisher;
+pub mod laws;
 pub mod simulate;
 
-pub use answer_judge::{judge, scheme};
+pub use answer_judge::judge;
+pub use answer_publisher as publisher;
+pub use answer_scheme as scheme;
+pub use denial;
 pub use keyset;
 pub use messages as message;
 pub use messages::question;
+pub use names;
 pub use plain;
-pub use records::{names, record};
-pub use signed_data as denial;
+pub use records::record;

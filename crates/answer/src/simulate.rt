@@ -10,18 +10,19 @@ ghost use Rattle.answer.specs.Events.{added_octets};
 ghost use Rattle.answer.specs.OneState.{SaysVerdicts};
 ghost use Rattle.answer.specs.Simulating.{Sofar, Simulates, begin};
 ghost use Rattle.answer.specs.ThroughRolls.{VerdictsHoldThroughRolls};
-ghost use Rattle.answer.specs.World.{world_by, zone_by};
+ghost use Rattle.answer_publisher.specs.World.{world_by, zone_by};
 
 use crate::event::{Event, Outcome};
-use crate::publisher::fault::{Mode, ZoneFault};
-use crate::publisher::publishing::Publisher;
 use crate::simulate::run::Run;
-use answer_judge::scheme::Scheme;
+use answer_publisher::fault::{Mode, ZoneFault};
+use answer_publisher::publishing::Publisher;
+use answer_scheme::scheme::Scheme;
+use denial_hashes::hasher::Nsec3Hasher;
 use records::names::Name;
 use records::record::ZoneRecord;
-use signed_data::hasher::Nsec3Hasher;
 use std::alloc::Global;
 
+mod kept;
 mod run;
 
 /// Runs events over a zone, one outcome an event.
@@ -67,14 +68,10 @@ pub fn simulate<S: Scheme, H: Nsec3Hasher>(
 {
     let publisher = Publisher::new(alloc, apex, records, mode, scheme, hasher, limit, life)?;
     let mut run = Run::new(alloc, publisher, limit);
-    let mut outcomes = Vec::new(alloc);
     for event in events {
-        let Ok(outcome) = run.serve(event) else {
+        let Ok(()) = run.serve(event) else {
             return Err(ZoneFault::Memory);
         };
-        if outcomes.push(outcome).is_err() {
-            return Err(ZoneFault::Memory);
-        }
     }
-    Ok(outcomes)
+    Ok(run.into_outcomes())
 }

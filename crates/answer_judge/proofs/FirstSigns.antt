@@ -1,18 +1,17 @@
 -- The first signature that verifies an RRset.
-use Rattle.std.proofs.Common.{◌≡◌, ℕ, Bool, true, false, ◌&&◌, ◌||◌, not, List, [], ◌∷◌, ◌++◌, length, refl, sym, ap, ◌∙◌, subst}
+use Rattle.std.proofs.Common.{◌≡◌, ℕ, Bool, true, false, ◌&&◌, ◌||◌, not, List, [], ◌∷◌, length, refl, sym, ap, ◌∙◌}
 use Rattle.std.specs.Prelude.{◌==◌, Option, Some, None, is_some, unwrap_or}
 use Rattle.std.specs.List.{find}
 use Rattle.std.specs.Option.{option_map}
 use Rattle.std.proofs.lemmas.Bool.{and_parts, eqb-true, false≢true}
 use Rattle.definitions.specs.Limits.{pointer_limit}
 use Rattle.definitions.specs.Name.{Name, same}
-use Rattle.definitions.specs.Dnskey.{Dnskey}
 use Rattle.definitions.specs.Signing.{Fields, signed_octets}
 use Rattle.records.specs.Message.{Spelled, rrsig_at}
 use Rattle.answer_judge.specs.Facts.{fits_key, is_due, is_signature, signs}
-use Rattle.answer_judge.specs.Verified.{Trusting, is_verified, verifies_with, verified_by, verified_with}
+use Rattle.answer_judge.specs.Verified.{Trusting, verifies_with, verified_by, verified_with}
 use Rattle.answer_judge.specs.FirstSignature.{Held, IsFirst}
-use Rattle.answer_judge.proofs.JudgeMarks.{gate_none, with_is}
+use Rattle.answer_judge.proofs.JudgeMarks.{with_is}
 
 -- what stands behind an open gate
 opened : (b c : Bool) → elim b as (λ _. Bool) [ false ↦ false | true ↦ c ] ≡ true → (b ≡ true) × (c ≡ true)

@@ -6,7 +6,7 @@ use Rattle.definitions.specs.Zone.{verdict}
 use Rattle.definitions.specs.ZoneChain.{Nsec}
 use Rattle.records.specs.HandedRr.{HandedRr}
 use Rattle.answer_zone.specs.Accepting.{record_cmp, sorted_records, zone_of}
-use Rattle.answer_judge.specs.Answers.{Answers}
+use Rattle.answer_scheme.specs.Answers.{Answers}
 use Rattle.records.specs.Handed.{IsHanded}
 use Rattle.answer_judge.specs.Judged.{AnswersAs, judged}
 use Rattle.answer_judge.specs.Judging.{Answer, Handing, Says}

@@ -11,7 +11,7 @@ use Rattle.definitions.specs.Name.{Name, low, same}
 use Rattle.definitions.specs.Dnskey.{Dnskey, Ds, dnskey_data, dnskey_of_data, key_tag}
 use Rattle.definitions.specs.Zone.{apex_of, sorted_data}
 use Rattle.records.specs.HandedRr.{HandedRr}
-use Rattle.answer_judge.specs.Answers.{Answers}
+use Rattle.answer_scheme.specs.Answers.{Answers}
 use Rattle.answer_judge.specs.Facts.{digests_to, is_trusted, is_usable, names_key}
 use Rattle.answer_judge.specs.Given.{AreGroups, AreRecords, AreSignatures, GivesKeys, IsRecord, IsSignature, fields_for}
 use Rattle.answer_judge.specs.Judged.{is_chained, keys_of, trusting}

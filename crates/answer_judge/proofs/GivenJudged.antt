@@ -6,7 +6,7 @@ use Rattle.definitions.specs.Name.{Name, low}
 use Rattle.definitions.specs.Dnskey.{Dnskey, Ds, key_tag}
 use Rattle.definitions.specs.Zone.{Unsigned}
 use Rattle.records.specs.HandedRr.{HandedRr}
-use Rattle.answer_judge.specs.Answers.{Answers}
+use Rattle.answer_scheme.specs.Answers.{Answers}
 use Rattle.answer_judge.specs.Facts.{fits_key, is_usable}
 use Rattle.answer_judge.specs.Given.{fields_for}
 use Rattle.answer_judge.specs.declared.judge.verdict.Refusal.{Refusal}

@@ -11,7 +11,7 @@ use Rattle.definitions.specs.Zone.{exists, has, star_under, verdict}
 use Rattle.definitions.specs.ZoneChain.{Nsec, nsec_next}
 use Rattle.records.specs.HandedRr.{HandedRr}
 use Rattle.answer_zone.specs.Accepting.{zone_with}
-use Rattle.answer_judge.specs.Answers.{Answers}
+use Rattle.answer_scheme.specs.Answers.{Answers}
 use Rattle.answer_judge.specs.Facts.{Link, decided}
 use Rattle.answer_judge.specs.Given.{AreGroups}
 use Rattle.answer_judge.proofs.GivenGroups.{SameLink, SaysLink, has_twins, is_nsec, is_rrset}

@@ -1,12 +1,12 @@
 -- An NSEC record whose canonical data are known says one next name and one bitmap.
-use Rattle.std.proofs.Common.{◌≡◌, ℕ, ◌+◌, ◌<◌, ◌≤◌, Bool, true, false, ◌&&◌, List, ◌++◌, length, Option, Some, None, Result, Ok, Err, eqb, leb, refl, sym, ap, subst, ◌∙◌, arith}
+use Rattle.std.proofs.Common.{◌≡◌, ℕ, Bool, true, false, ◌&&◌, List, ◌++◌, length, Option, Some, None, Result, Ok, Err, eqb, leb, refl, sym, ap, subst, ◌∙◌, arith}
 use Rattle.std.specs.Prelude.{slice_range}
 use Rattle.std.specs.List.{AllByRecursion}
 use Rattle.std.proofs.lemmas.Bool.{eq-eqb, ne_eqb}
 use Rattle.definitions.specs.Bitmap.{is_bitmap}
 use Rattle.definitions.specs.Name.{Name, IsLabel, wire}
-use Rattle.definitions.specs.Reading.{Reads, root, label, pointer, ReadFault, name_at}
-use Rattle.definitions.proofs.ReadingLaws.{length-range, reads_exactly}
+use Rattle.definitions.specs.Reading.{ReadFault, name_at}
+use Rattle.definitions.proofs.ReadingLaws.{reads_exactly}
 use Rattle.definitions.proofs.SignedLaws.{Labelled, wire_of}
 use Rattle.records.specs.declared.message.MessageError.{MessageError}
 use Rattle.records.specs.Message.{Spelled, canonical_data, data_of, fault_of, fits, if_true, name_in, name_upto, ns_data, nsec_at, nsec_data, owner_at, soa_data}

@@ -9,7 +9,7 @@ use Rattle.definitions.specs.Zone.{data_at, exists, has, verdict}
 use Rattle.definitions.specs.ZoneChain.{Nsec}
 use Rattle.records.specs.HandedRr.{HandedRr}
 use Rattle.answer_zone.specs.Accepting.{zone_with}
-use Rattle.answer_judge.specs.Answers.{Answers}
+use Rattle.answer_scheme.specs.Answers.{Answers}
 use Rattle.answer_judge.specs.Facts.{Link, decided, fits_key}
 use Rattle.answer_judge.specs.Given.{AreGroups, fields_for}
 use Rattle.answer_judge.proofs.GivenGroups.{SameLink, SaysLink, is_rrset}

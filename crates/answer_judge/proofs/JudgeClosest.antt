@@ -1,23 +1,36 @@
 -- Going up the ancestors of a name, each once.
-use Rattle.std.proofs.Common.{arith, ◌≡◌, ℕ, ◌+◌, ◌-◌, ◌<◌, ◌≤◌, Bool, true, false, ◌||◌, length, drop, [], ◌∷◌, get_or, sym, ap, ◌∙◌}
-use Rattle.std.specs.Prelude.{Some}
-use Rattle.std.proofs.lemmas.List.{drop_more}
-use Rattle.definitions.specs.Name.{Name, at_or_above}
+use Rattle.std.proofs.Common.{◌≡◌, Bool, true, false, ◌||◌, List, [], ◌∷◌, drop, refl, sym, ap, ◌∙◌}
+use Rattle.std.specs.Prelude.{Option, Some, None, MatchOption}
+use Rattle.definitions.specs.Name.{Name, Label, at_or_above}
+use Rattle.names_flat.specs.Suffixes.{suffixes}
 use Rattle.answer_judge.specs.Facts.{Link, closest}
 
--- what is left above the label before so many last ones
-one_up : (f : Link) (q : Name) (n : ℕ) (e : Name) → 0 < n → n ≤ length q → e ≡ drop (length q - (n - 1)) q → closest f (drop (length q - n) q) ≡ closest f q → closest f q ≡ closest f (get_or q (length q - n) [] ∷ e)
-one_up f q n e some fits is inv =
-    let lt : length q - n < length q = omega arith in
-    let s : drop (length q - n) q ≡ get_or q (length q - n) [] ∷ drop (length q - n + 1) q = drop_more q (length q - n) [] lt in
-    let j : length q - n + 1 ≡ length q - (n - 1) = omega arith in
-    let t : drop (length q - n + 1) q ≡ e = ap (λ k. drop k q) j ∙ sym is in
-    sym inv ∙ ap (closest f) (s ∙ ap (λ r. get_or q (length q - n) [] ∷ r) t)
+-- a name that the link shows to exist, or else another
+abbrev pub shown_or : Link → Name → Option Name → Option Name
+shown_or f n rest = elim (at_or_above n f.owner || at_or_above n f.next) [ true ↦ Some n | false ↦ rest ]
 
-pub closest-found : (f : Link) (q : Name) (n : ℕ) (e : Name) → 0 < n → n ≤ length q → e ≡ drop (length q - (n - 1)) q → (at_or_above e f.owner || at_or_above e f.next) ≡ true → closest f (drop (length q - n) q) ≡ closest f q → Some e ≡ closest f q
-closest-found f q n e some fits is shown inv =
-    sym (one_up f q n e some fits is inv ∙ ap (λ (b : Bool). elim b [ true ↦ Some e | false ↦ closest f e ]) shown)
+-- the first name that the link shows to exist
+abbrev pub first_shown : Link → List Name → Option Name
+first_shown f [] = None
+first_shown f (n ∷ ns) = shown_or f n (first_shown f ns)
 
-pub closest-missed : (f : Link) (q : Name) (n : ℕ) (e : Name) → 0 < n → n ≤ length q → e ≡ drop (length q - (n - 1)) q → (at_or_above e f.owner || at_or_above e f.next) ≡ false → closest f (drop (length q - n) q) ≡ closest f q → closest f (drop (length q - (n - 1)) q) ≡ closest f q
-closest-missed f q n e some fits is shown inv =
-    ap (closest f) (sym is) ∙ sym (one_up f q n e some fits is inv ∙ ap (λ (b : Bool). elim b [ true ↦ Some e | false ↦ closest f e ]) shown)
+above_first : (f : Link) (l : Label) (q : Name) → closest f (l ∷ q) ≡ first_shown f (suffixes q)
+above_first f l [] = refl
+above_first f l (k ∷ q) = ap (shown_or f (k ∷ q)) (above_first f k q)
+
+-- the closest encloser is the first ancestor that is shown
+pub closest_above : (f : Link) (n itself : Name) (rest : List Name) → suffixes n ≡ itself ∷ rest → closest f n ≡ first_shown f rest
+closest_above f [] itself rest e = ap (λ ns. first_shown f (drop 1 ns)) e
+closest_above f (l ∷ q) itself rest e = above_first f l q ∙ ap (λ ns. first_shown f (drop 1 ns)) e
+
+-- a name has itself before its ancestors
+some_suffix : (n : Name) → suffixes n ≡ [] → ⊥
+some_suffix [] e = cc
+some_suffix (l ∷ q) e = cc
+
+pub closest_behind : (f : Link) (n : Name) (first : Option Name) (all rest : List Name) → all ≡ suffixes n → MatchOption first ((all ≡ []) × (rest ≡ [])) (λ itself. all ≡ itself ∷ rest) → closest f n ≡ first_shown f rest
+closest_behind f n None all rest e s = absurd (some_suffix n (sym e ∙ s.0))
+closest_behind f n (Some itself) all rest e s = closest_above f n itself rest (sym e ∙ s)
+
+pub shown_so : (f : Link) (n : Name) (rest : Option Name) (b : Bool) → (at_or_above n f.owner || at_or_above n f.next) ≡ b → shown_or f n rest ≡ (elim b [ true ↦ Some n | false ↦ rest ])
+shown_so f n rest b e = ap (λ (b : Bool). elim b [ true ↦ Some n | false ↦ rest ]) e

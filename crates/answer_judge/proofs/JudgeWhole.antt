@@ -1,18 +1,17 @@
 -- What a judge says, from what it read and verified.
 use Rattle.std.proofs.Common.{◌≡◌, ℕ, Bool, true, false, not, ◌&&◌, List, map, filter, length, inr, sym, ap, subst, ◌∙◌}
 use Rattle.std.proofs.lemmas.Bool.{false≢true}
-use Rattle.std.specs.Prelude.{Option, Some, None, Result, Ok, Err, nat_eq, if◌then◌else◌}
+use Rattle.std.specs.Prelude.{Option, Some, None, Ok, Err, nat_eq, if◌then◌else◌}
 use Rattle.std.specs.Option.{option_map, ok_or}
 use Rattle.definitions.specs.Dnskey.{Dnskey, dnskey_data}
 use Rattle.definitions.specs.Zone.{Verdict, sorted_data}
 use Rattle.definitions.specs.Limits.{pointer_limit}
-use Rattle.answer_judge.specs.Answers.{Answers}
+use Rattle.answer_scheme.specs.Answers.{Answers}
 use Rattle.answer_judge.specs.Facts.{Link, is_usable, is_trusted, decided, RefusesFirst}
 use Rattle.answer_judge.specs.declared.judge.verdict.Verdict.{Verdict as CodeVerdict}
 use Rattle.answer_judge.specs.declared.judge.verdict.Refusal.{Refusal}
 use Rattle.answer_judge.specs.declared.judge.verdict.Refusal.TheVariants as r
 use Rattle.answer_judge.specs.Judging.{Answer, Refuses, Handing, is_allowed, same_question, has_equal_tags, first_refusal, message_refusal, keys_in, verdict_of, AnswersFirst, IsRead}
-use Rattle.records.specs.declared.message.MessageError.{MessageError}
 use Rattle.records.specs.Message.{Message, Spelled, message}
 use Rattle.answer_judge.specs.Verified.{is_verified, verified_rrset, verified_links}
 use Rattle.answer_judge.specs.Judged.{trusting, keys_of, is_chained, by_facts, judged_answer, judged_messages, judged_bytes, judged_beyond, said, AnswersAs}

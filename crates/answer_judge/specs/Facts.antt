@@ -8,7 +8,7 @@ use Rattle.definitions.specs.Signing.{Fields, in_time, label_count, signed_octet
 use Rattle.definitions.specs.Covering.{covers}
 use Rattle.definitions.specs.Bitmap.{bitmap_has}
 use Rattle.definitions.specs.Zone.{Verdict, Records, NoType, NoName, StarNoType, Delegated, star_under}
-use Rattle.answer_judge.specs.Answers.{Answers}
+use Rattle.answer_scheme.specs.Answers.{Answers}
 use Rattle.answer_judge.specs.declared.judge.verdict.Refusal.{Refusal}
 use Rattle.answer_judge.specs.declared.judge.verdict.Refusal.TheVariants as r
 use Rattle.answer_judge.specs.Judging.{Handing, IsRead, is_first}

@@ -3,7 +3,7 @@ use Rattle.std.specs.Prelude.{◌≡◌, Bool, true, false, not, ◌&&◌, ◌==
 use Rattle.std.specs.List.{list_any, AllByRecursion}
 use Rattle.definitions.specs.Name.{Name, same, at_or_above}
 use Rattle.definitions.specs.Limits.{pointer_limit}
-use Rattle.answer_judge.specs.Answers.{Answers}
+use Rattle.answer_scheme.specs.Answers.{Answers}
 use Rattle.answer_judge.specs.Counted.{can_try, one_if}
 use Rattle.definitions.specs.Signing.{Fields}
 use Rattle.answer_judge.specs.Facts.{Link, is_signature, signs}

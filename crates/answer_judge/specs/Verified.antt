@@ -5,7 +5,7 @@ use Rattle.std.specs.Option.{option_map}
 use Rattle.definitions.specs.Name.{Name, same, at_or_above}
 use Rattle.definitions.specs.Dnskey.{Dnskey}
 use Rattle.definitions.specs.Zone.{sorted_data}
-use Rattle.answer_judge.specs.Answers.{Answers}
+use Rattle.answer_scheme.specs.Answers.{Answers}
 use Rattle.answer_judge.specs.Facts.{Link, first_some, is_signature, signs}
 use Rattle.definitions.specs.Signing.{Fields}
 use Rattle.records.specs.Message.{Spelled, canonical_data, rrsig_at, nsec_at}

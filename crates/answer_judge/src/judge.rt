@@ -27,7 +27,8 @@ use crate::judge::facts::read_facts;
 use crate::judge::groups::{Group, Trust, verify_groups};
 use crate::judge::keys::{TaggedKey, has_equal_tags, read_keys, trusted_keys, usable_keys};
 use crate::judge::verdict::{Judgement, Refusal, Refused, Verdict};
-use crate::scheme::Checks;
+use answer_scheme::checks::Checks;
+use denial_data::Ds;
 use messages::question::Question;
 use messages::{MessageView, ViewRecord, read_message};
 use names_data::rtype::Rtype;
@@ -35,7 +36,6 @@ use plain::numbers::Class;
 use records::message::MessageError;
 use records::names::{Name, ParsedName, ToName, ZoneName};
 use signed_data::dnskey::ZoneKey;
-use signed_data::ds::Ds;
 use signed_data::ranked::put_data;
 use std::alloc::{AllocError, Global};
 

@@ -1,7 +1,5 @@
-//! A judge that sees a DS set, a DNSKEY answer and a zone answer as bytes alone, and what verifies and digests
-//! for it.
+//! A judge that sees a DS set, a DNSKEY answer and a zone answer as bytes alone.
 #![tactic(auto)]
 
 pub mod judge;
 pub mod laws;
-pub mod scheme;

@@ -47,9 +47,9 @@ module _ {O : Type 0} (apex : Name) (mode : Mode) (limit : ℕ) (rs : List (Reco
   pub refused : (e : SigningError) → IsOwnersFault (λ n. n) apex false (sort_by zone_cmp rs) e → (zone_fault e ≡ fault.Memory) ⊎ IsFault apex mode limit (map handed_of rs) (zone_fault e)
   refused NoSingleSoa h = inr (none, λ one. no_single_soa apex (sort_by zone_cmp rs) plain.known h (ap (λ hs. length (soas apex hs)) in_order ∙ one))
   refused MultipleTtlValues h = inr (none, sym unequal ∙ h)
-  refused HashFailed h = inl refl
-  refused HashTooLong h = inl refl
-  refused HashCollision h = inl refl
+  refused HashFailed h = absurd h
+  refused HashTooLong h = absurd h
+  refused HashCollision h = absurd h
   refused Memory h = inl refl
 
   pub accepted : IsSome (soa_ttls (λ n. n) apex (sort_by zone_cmp rs)) → has_unequal_ttls (λ n. n) zone_type (zone_canonical (λ n. n)) apex false (sort_by zone_cmp rs) ≡ false → IsAccepted apex mode limit (map handed_of rs)

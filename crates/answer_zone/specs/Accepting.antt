@@ -12,10 +12,8 @@ use Rattle.records.specs.HandedRr.{HandedRr, among, is_meta, has_star}
 use Rattle.records.specs.Star.{begins_with_star}
 use Rattle.answer_zone.specs.declared.fault.ZoneFault.{ZoneFault}
 use Rattle.answer_zone.specs.declared.fault.ZoneFault.TheVariants as fault
-use Rattle.signed_data.specs.declared.generate.SigningError.{SigningError}
-use Rattle.signed_data.specs.declared.generate.SigningError.TheVariants as chain
-use Rattle.denial_owners.specs.declared.error.SigningError as owners
-use Rattle.denial_owners.specs.declared.error.SigningError.TheVariants as refused
+use Rattle.denial_owners.specs.declared.error.SigningError.{SigningError}
+use Rattle.denial_owners.specs.declared.error.SigningError.TheVariants as chain
 
 abbrev pub over_limit : Mode → ℕ → Bool
 over_limit Nsec limit = false
@@ -83,8 +81,7 @@ pub record IsAccepted (apex : Name) (mode : Mode) (limit : ℕ) (rs : List Hande
   pub soa : length (soas apex (sorted_records rs)) ≡ 1
   pub ttls : has_unlike_ttls (zone_of apex rs) (optout_of mode) (sorted_records rs) ≡ false
 
--- why a chain was refused, as a fault of the zone
-abbrev pub zone_fault : owners.SigningError → ZoneFault
-zone_fault refused.NoSingleSoa = fault.Chain chain.NoSingleSoa
-zone_fault refused.MultipleTtlValues = fault.Chain chain.MultipleTtlValues
-zone_fault _ = fault.Memory
+-- why a chain was refused, as a fault of the zone: want of memory is none of the chain
+abbrev pub zone_fault : SigningError → ZoneFault
+zone_fault chain.Memory = fault.Memory
+zone_fault e = fault.Chain e

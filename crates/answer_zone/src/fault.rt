@@ -1,5 +1,5 @@
 //! Which chain a zone gets, and why a zone is not accepted.
-use signed_data::generate::SigningError;
+use denial_owners::error::SigningError;
 use thiserror::Error;
 
 /// Which chain a zone gets.

@@ -12,12 +12,11 @@ use crate::fault::{Mode, ZoneFault};
 use crate::zone::chain::{ChainLink, chain_of};
 use crate::zone::faults::first_fault;
 use crate::zone::handed::HandedRecord;
-use denial_owners::error;
+use denial_owners::error::SigningError;
 use denial_sorted::laws::zone_data_order_is_total;
 use denial_sorted::sorted::SortedRecords;
 use records::names::{Name, ZoneName};
 use records::record::{ZoneRecord, keeps};
-use signed_data::generate::SigningError;
 use std::alloc::{AllocError, Global};
 use std::marker::Model;
 
@@ -145,12 +144,11 @@ fn all_keep(records: &[ZoneRecord])
 }
 
 /// A fault of the chain as one of the zone. Want of memory is none of the chain.
-fn fault_of(error: error::SigningError) -> ZoneFault
+fn fault_of(error: SigningError) -> ZoneFault
     ensures { result ≡ zone_fault error }
 {
     match error {
-        error::SigningError::NoSingleSoa => ZoneFault::Chain(SigningError::NoSingleSoa),
-        error::SigningError::MultipleTtlValues => ZoneFault::Chain(SigningError::MultipleTtlValues),
-        _ => ZoneFault::Memory,
+        SigningError::Memory => ZoneFault::Memory,
+        error => ZoneFault::Chain(error),
     }
 }

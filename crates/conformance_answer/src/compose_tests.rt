@@ -1,6 +1,6 @@
 //! The octets of an answer with a signature, written by hand.
 use crate::scheme::WELL;
-use answer::denial::dnskey::Dnskey;
+use answer::denial::Dnskey;
 use answer::names::Name;
 use answer::plain::Rtype;
 use answer::plain::numbers::{Class, SecurityAlgorithm, Ttl};

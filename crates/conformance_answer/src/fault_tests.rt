@@ -1,11 +1,9 @@
 //! The texts of faults.
-use answer::denial::generate::SigningError;
-use answer::denial::hasher::HashError;
+use answer::denial::{HashError, SigningError};
 use answer::judge::verdict::Refusal;
 use answer::message::MessageError;
-use answer::names::NameError;
+use answer::names::LongRecordData;
 use answer::publisher::fault::{AnswerFault, KeyFault, ZoneFault};
-use answer::record::LongRecordData;
 use answer::scheme::SchemeError;
 use keyset::Error;
 use session_lines::session::SessionError;
@@ -107,10 +105,6 @@ fn faults_of_reading(rt: HostRuntime) -> Result<(), Fail> {
         MessageError::ShortInput => "message is too short",
         MessageError::Form => "message has a malformed name",
         MessageError::NotOneQuestion => "message has not one question",
-        NameError::ShortInput => "octets end before the name",
-        NameError::Malformed => "malformed name",
-        NameError::TrailingData => "octets follow the name",
-        NameError::Memory => "out of memory",
         SessionError::Line(7) => "line 7: cannot be read",
         SessionError::Memory => "out of memory",
     );

@@ -3,7 +3,7 @@ ghost use Rattle.std.specs.Prelude.{◌≡◌, ◌<◌};
 
 use crate::scheme::{TestScheme, WELL};
 use crate::zone::{APEX, OWNER, at, name, publisher, question, record, sign_with_two_keys};
-use answer::denial::ds::Ds;
+use answer::denial::Ds;
 use answer::judge::judge;
 use answer::judge::verdict::{Judgement, Refusal, Refused, Verdict};
 use answer::plain::Rtype;

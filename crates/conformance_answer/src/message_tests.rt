@@ -1,10 +1,10 @@
 //! Judgements of small messages of the zone `example`, with chains of its two names.
 use crate::scheme::WELL;
-use answer::denial::ds::Ds;
+use answer::denial::Ds;
 use answer::judge::by_scheme::judge_with;
 use answer::judge::is_allowed;
 use answer::judge::verdict::{DataList, Judgement, Refusal, Refused, Verdict};
-use answer::names::{Name, NameError, name_from_octets};
+use answer::names::Name;
 use answer::plain::Rtype;
 use answer::plain::numbers::{Class, DigestAlgorithm, SecurityAlgorithm};
 use answer::question::Question;
@@ -39,9 +39,8 @@ pub(crate) struct Case<'a> {
 }
 
 fn name(alloc: Global, wire: &[u8]) -> Result<Name<Vec<u8>>, AllocError> {
-    match name_from_octets(alloc, wire) {
+    match Name::from_octets(wire.to_vec(alloc)?) {
         Ok(name) => Ok(name),
-        Err(NameError::Memory) => Err(AllocError),
         Err(_) => Name::root(alloc).map_err(|_| AllocError),
     }
 }

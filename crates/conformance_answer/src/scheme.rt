@@ -1,6 +1,5 @@
 //! A scheme and a hasher that fail as they are told to.
-use answer::denial::dnskey::Dnskey;
-use answer::denial::hasher::{HashError, Nsec3Hasher};
+use answer::denial::{Dnskey, HashError, Nsec3Hasher};
 use answer::plain::numbers::DigestAlgorithm;
 use answer::scheme::{Scheme, SchemeError};
 use std::alloc::Global;

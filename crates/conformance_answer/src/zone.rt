@@ -1,12 +1,15 @@
 //! The zone `example` of the tests, its records and questions.
 use crate::scheme::TestScheme;
-use answer::names::{Name, name_from_octets};
+use answer::names::{Name, Serial, UnknownRecordData};
 use answer::plain::Rtype;
 use answer::plain::numbers::{Class, SecurityAlgorithm, Ttl};
+use answer::plain::record::Record;
+use answer::plain::soa::Soa;
+use answer::plain::zone_data::ZoneRecordData;
 use answer::publisher::fault::Mode;
 use answer::publisher::publishing::Publisher;
 use answer::question::Question;
-use answer::record::{Record, Serial, Soa, UnknownRecordData, ZoneRecord, ZoneRecordData};
+use answer::record::ZoneRecord;
 use keyset::{Available, RollType, UnixTime};
 use std::alloc::Global;
 use std::test::Fail;
@@ -19,7 +22,7 @@ pub(crate) const OWNER: &[u8] = b"\x01a\x07example\x00";
 pub(crate) const ROLL: RollType = RollType::AlgorithmRoll;
 
 pub(crate) fn name(alloc: Global, wire: &[u8]) -> Result<Name<Vec<u8>>, Fail> {
-    Ok(name_from_octets(alloc, wire)?)
+    Ok(Name::from_octets(wire.to_vec(alloc)?)?)
 }
 
 /// A moment in seconds.

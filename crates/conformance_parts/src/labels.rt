@@ -1,5 +1,13 @@
-//! Labels of names.
+//! Names of octets, and their labels.
 use names_labels::traits::Labels;
+use records::names::Name;
+use std::alloc::Global;
+use std::test::Fail;
+
+/// The name that octets spell.
+pub(crate) fn name(alloc: Global, octets: &[u8]) -> Result<Name<Vec<u8>>, Fail> {
+    Ok(Name::from_octets(octets.to_vec(alloc)?)?)
+}
 
 /// Whether a name has this label at a place.
 pub(crate) fn has_label<N: Labels>(name: &N, index: usize, want: &[u8]) -> bool {

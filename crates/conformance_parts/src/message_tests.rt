@@ -1,7 +1,7 @@
 //! Octets of messages that were written by hand, and what they read as.
 ghost use Rattle.std.specs.Prelude.{◌<◌, ◌^◌, length};
 
-use crate::labels::has_label;
+use crate::labels::{self, has_label};
 use denial_data::Rrsig;
 use messages::{MessageView, ViewRecord, read_message};
 use names_data::rtype::Rtype;
@@ -9,7 +9,7 @@ use names_parsed::parsed;
 use plain::numbers::{Class, Ttl};
 use records::message::MessageError;
 use records::message::write::{push_header, push_question, push_record};
-use records::names::{Name, ParsedName, ToName, ZoneName, name_from_octets};
+use records::names::{Name, ParsedName, ToName, ZoneName};
 use std::alloc::Global;
 use std::cmp::Ordering;
 use std::process::Abort;
@@ -20,7 +20,8 @@ const SMALL: &[u8] =
     b"\x00\x00\x84\x00\x00\x01\x00\x01\x00\x00\x00\x00\x01a\x07example\x00\x00\x01\x00\x01\x01A\x07example\x00\x00\x01\x00\x01\x00\x00\x0e\x10\x00\x04\xc0\x00\x02\x01";
 
 fn name(rt: &impl Abort, alloc: Global, wire: &[u8]) -> Name<Vec<u8>> {
-    name_from_octets(alloc, wire).expect(rt, "a name")
+    let octets = wire.to_vec(alloc).expect(rt, "memory");
+    Name::from_octets(octets).expect(rt, "a name")
 }
 
 #[test]
@@ -122,7 +123,7 @@ const SIGNATURE: &[u8] =
 fn push(out: &mut Vec<u8>, rtype: Rtype, octets: &[u8]) -> Result<(), Fail>
     requires { length octets.now < 2 ^ 16 }
 {
-    let owner = name_from_octets(*out.allocator(), b"\x04alfa\x07example\x03com\x00")?;
+    let owner = labels::name(*out.allocator(), b"\x04alfa\x07example\x03com\x00")?;
     push_record(out, &owner, rtype, Class::IN, Ttl::from_secs(86400), octets)?;
     Ok(())
 }

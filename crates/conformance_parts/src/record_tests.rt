@@ -1,17 +1,17 @@
 //! Names and numbers, with values of the standards.
-use crate::labels::has_label;
+use crate::labels::{has_label, name};
 use names_data::rtype::Rtype;
 use plain::numbers::{Class, DigestAlgorithm, SecurityAlgorithm, Ttl};
 use records::message::write::{push_u16, push_u32};
-use records::names::{Name, NameError, Octets, ToName, ZoneName, name_from_octets};
+use records::names::{Name, Octets, ToName, ZoneName, name_from_octets};
 use std::alloc::Global;
 use std::cmp::Ordering;
 use std::test::Fail;
 
 /// How two names stand to one another, how the other way round, and how the second does to its copy.
 fn orders(alloc: Global, first: &[u8], second: &[u8]) -> Result<[Ordering; 3], Fail> {
-    let first = name_from_octets(alloc, first)?;
-    let second = name_from_octets(alloc, second)?;
+    let first = name(alloc, first)?;
+    let second = name(alloc, second)?;
     let copy = second.try_clone(alloc)?;
     Ok([
         first.name_cmp(&second),
@@ -46,11 +46,11 @@ fn canonical_order(rt: HostRuntime) -> Result<(), Fail> {
 }
 
 fn www(alloc: Global) -> Result<Name<Vec<u8>>, Fail> {
-    Ok(name_from_octets(alloc, b"\x03www\x07Example\x03com\x00")?)
+    name(alloc, b"\x03www\x07Example\x03com\x00")
 }
 
 fn com(alloc: Global) -> Result<Name<Vec<u8>>, Fail> {
-    Ok(name_from_octets(alloc, b"\x03COM\x00")?)
+    name(alloc, b"\x03COM\x00")
 }
 
 /// The label counts of RFC 4034, 3.1.3, and what is at or above a name.
@@ -96,14 +96,14 @@ fn octets_of_names(rt: HostRuntime) -> Result<(), Fail> {
 #[test]
 fn stars(rt: HostRuntime) -> Result<(), Fail> {
     let alloc = rt.alloc();
-    let example = name_from_octets(alloc, b"\x07example\x00")?;
+    let example = name(alloc, b"\x07example\x00")?;
     let star = example
         .wildcard_child(alloc)?
         .expect(&rt, "room for a star");
-    assert!(rt; star.name_eq(&name_from_octets(alloc, b"\x01*\x07EXAMPLE\x00")?));
+    assert!(rt; star.name_eq(&name(alloc, b"\x01*\x07EXAMPLE\x00")?));
     assert!(rt; star.is_wildcard() && star.has_star());
     assert_eq!(rt; star.rrsig_label_count(), 1);
-    let below = name_from_octets(alloc, b"\x03sub\x01*\x07example\x00")?;
+    let below = name(alloc, b"\x03sub\x01*\x07example\x00")?;
     assert!(rt; !below.is_wildcard() && below.has_star());
     assert_eq!(rt; below.rrsig_label_count(), 3);
     Ok(())
@@ -132,15 +132,16 @@ fn written_numbers(rt: HostRuntime) -> Result<(), Fail> {
 #[test]
 fn reads_one_name_and_nothing_else(rt: HostRuntime) -> Result<(), Fail> {
     let alloc = rt.alloc();
-    let name = name_from_octets(alloc, b"\x01a\x07Example\x00")?;
+    let octets = b"\x01a\x07Example\x00";
+    let name = name_from_octets(alloc, octets)?.expect(&rt, "a name");
     assert_eq!(rt; name.depth(), 2);
     assert!(rt; has_label(&name, 1, b"Example"));
-    for (octets, error) in [
-        (b"\x01a".as_slice(), NameError::ShortInput),
-        (b"\xc0\x00".as_slice(), NameError::Malformed),
-        (b"\x00\x00".as_slice(), NameError::TrailingData),
+    for octets in [
+        b"\x01a".as_slice(),
+        b"\xc0\x00".as_slice(),
+        b"\x00\x00".as_slice(),
     ] {
-        assert_eq!(rt; name_from_octets(alloc, octets).err(), Some(error));
+        assert!(rt; name_from_octets(alloc, octets)?.is_none());
     }
     Ok(())
 }

@@ -1,10 +1,10 @@
 //! Record data and signed octets, with values of the standards.
-use denial_data::{ProtoRrsig, Timestamp};
+use crate::labels::name;
+use denial_data::{Ds, ProtoRrsig, Timestamp};
 use names_data::rtype::Rtype;
 use plain::numbers::{Class, DigestAlgorithm, SecurityAlgorithm, Ttl};
-use records::names::{Name, name_from_octets};
+use records::names::Name;
 use signed_data::dnskey::{Dnskey, ZoneKey, key_of_data};
-use signed_data::ds::{Ds, copied};
 use signed_data::ranked::{Ranked, put_data, put_ranked};
 use signed_data::signed::{compose_fields, signed_octets};
 use std::alloc::Global;
@@ -36,7 +36,7 @@ fn fields_of_keys(rt: HostRuntime) -> Result<(), Fail> {
 
 #[test]
 fn fields_of_digests(rt: HostRuntime) -> Result<(), Fail> {
-    let ds = copied(rt.alloc(), &digest(rt.alloc(), 60485)?)?;
+    let ds = digest(rt.alloc(), 60485)?;
     assert_eq!(rt; ds.key_tag(), 60485);
     assert_eq!(rt; ds.algorithm().to_int(), 5);
     assert_eq!(rt; ds.digest_type().to_int(), 1);
@@ -88,7 +88,7 @@ fn fields(alloc: Global, labels: u8) -> Result<ProtoRrsig<Name<Vec<u8>>>, Fail> 
         Timestamp::from(1048354263),
         Timestamp::from(1045762263),
         2642,
-        name_from_octets(alloc, b"\x07Example\x03com\x00")?,
+        name(alloc, b"\x07Example\x03com\x00")?,
     ))
 }
 
@@ -132,7 +132,7 @@ fn octets_of_fields(rt: HostRuntime) -> Result<(), Fail> {
 
 /// What is signed for an address of an owner of three labels, under so many labels.
 fn signed(alloc: Global, labels: u8) -> Result<Vec<u8>, Fail> {
-    let owner = name_from_octets(alloc, b"\x04Host\x07example\x03com\x00")?;
+    let owner = name(alloc, b"\x04Host\x07example\x03com\x00")?;
     let mut canonical = Vec::new(alloc);
     canonical.push(b"\xc0\x00\x02\x01".to_vec(alloc)?)?;
     let fields = fields(alloc, labels)?;

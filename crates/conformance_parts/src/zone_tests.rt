@@ -1,14 +1,19 @@
 //! Zones that are accepted and refused, with values of the RFCs and of worked examples.
-use crate::labels::has_label;
+use crate::labels::{has_label, name};
 use answer_zone::fault::{Mode, ZoneFault};
 use answer_zone::group::RrGroup;
 use answer_zone::zone::ZoneRecords;
 use answer_zone::zone::answers::ZoneAnswer;
+use denial_owners::error::SigningError;
 use names_data::rtype::Rtype;
+use names_data::unknown::UnknownRecordData;
+use names_parser::serial::Serial;
 use plain::numbers::{Class, Ttl};
-use records::names::{Name, ZoneName, name_from_octets};
-use records::record::{Record, Serial, Soa, UnknownRecordData, ZoneRecord, ZoneRecordData};
-use signed_data::generate::SigningError;
+use plain::record::Record;
+use plain::soa::Soa;
+use plain::zone_data::ZoneRecordData;
+use records::names::{Name, ZoneName};
+use records::record::ZoneRecord;
 use std::alloc::Global;
 use std::test::Fail;
 
@@ -19,10 +24,6 @@ const A_EXAMPLE: &[u8] = b"\x01a\x07example\x00";
 const B_C_EXAMPLE: &[u8] = b"\x01b\x01C\x07example\x00";
 
 const ADDRESS: &[u8] = b"\x01\x02\x03\x04";
-
-fn name(alloc: Global, octets: &[u8]) -> Result<Name<Vec<u8>>, Fail> {
-    Ok(name_from_octets(alloc, octets)?)
-}
 
 fn record(
     alloc: Global,

@@ -7,12 +7,12 @@ ghost use Rattle.names_data.specs.Reading.{ReadsData, data_at};
 ghost use Rattle.denial_fields.specs.Ended.{ended_part};
 ghost use Rattle.denial_keys.specs.Keys.{ds_with, ds_data, ds_head, ds_text};
 
-use denial_fields::digits::HexField;
 use denial_fields::ended::{cmp_ended, compose_ended, number_16, parse_ended};
 use denial_fields::octets::FieldOctets;
 use names_data::canonical::CanonicalOrd;
 use names_data::composer::Composer;
 use names_data::data::{ComposeRecordData, ParseRecordData, RecordData};
+use names_data::digits::HexField;
 use names_data::long::LongRecordData;
 use names_data::rtype::Rtype;
 use names_parser::error::ParseError;

@@ -13,7 +13,7 @@ use Rattle.answer_zone.specs.declared.fault.Mode.{Mode}
 use Rattle.answer_zone.specs.declared.fault.Mode.TheVariants as declared
 use Rattle.answer_zone.specs.declared.fault.ZoneFault.{ZoneFault}
 use Rattle.answer.specs.Simulating.{Sofar, begin, Simulates}
-use Rattle.answer.specs.World.{World, world}
+use Rattle.answer_publisher.specs.World.{World, world}
 use Rattle.answer.specs.declared.event.Event.{Event}
 use Rattle.answer.specs.declared.event.Outcome.{Outcome}
 use Rattle.session_lines.specs.Grammar.{ZoneLine}

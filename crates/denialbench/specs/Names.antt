@@ -2,16 +2,16 @@
 use Rattle.std.specs.Prelude.{ℕ, List, codes}
 use Rattle.keyset_rolls.specs.declared.rolls.Action.{Action}
 use Rattle.keyset_rolls.specs.declared.rolls.Action.TheVariants as ActionCase
-use Rattle.signed_data.specs.declared.generate.SigningError.{SigningError}
-use Rattle.signed_data.specs.declared.generate.SigningError.TheVariants as SigningErrorCase
+use Rattle.denial_owners.specs.declared.error.SigningError.{SigningError}
+use Rattle.denial_owners.specs.declared.error.SigningError.TheVariants as SigningErrorCase
 use Rattle.answer_zone.specs.declared.fault.ZoneFault.{ZoneFault}
 use Rattle.answer_zone.specs.declared.fault.ZoneFault.TheVariants as ZoneFaultCase
-use Rattle.answer.specs.declared.publisher.fault.AnswerFault.{AnswerFault}
-use Rattle.answer.specs.declared.publisher.fault.AnswerFault.TheVariants as AnswerFaultCase
+use Rattle.answer_publisher.specs.declared.fault.AnswerFault.{AnswerFault}
+use Rattle.answer_publisher.specs.declared.fault.AnswerFault.TheVariants as AnswerFaultCase
 use Rattle.keyset_keys.specs.declared.errors.Error.{Error as KeyError}
 use Rattle.keyset_keys.specs.declared.errors.Error.TheVariants as KeyErrorCase
-use Rattle.answer.specs.declared.publisher.fault.KeyFault.{KeyFault}
-use Rattle.answer.specs.declared.publisher.fault.KeyFault.TheVariants as KeyFaultCase
+use Rattle.answer_publisher.specs.declared.fault.KeyFault.{KeyFault}
+use Rattle.answer_publisher.specs.declared.fault.KeyFault.TheVariants as KeyFaultCase
 use Rattle.answer_judge.specs.declared.judge.verdict.Refusal.{Refusal}
 use Rattle.answer_judge.specs.declared.judge.verdict.Refusal.TheVariants as RefusalCase
 use Rattle.answer_judge.specs.declared.judge.verdict.Verdict.{Verdict}

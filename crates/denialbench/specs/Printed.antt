@@ -12,8 +12,8 @@ use Rattle.answer_judge.specs.declared.judge.verdict.Verdict.TheVariants.{Record
 use Rattle.keyset_rolls.specs.declared.rolls.Action.{Action}
 use Rattle.keyset_keys.specs.declared.errors.Error.{Error as KeyError}
 use Rattle.keyset_keys.specs.declared.errors.Error.TheVariants.{Wait}
-use Rattle.answer.specs.declared.publisher.fault.KeyFault.{KeyFault}
-use Rattle.answer.specs.declared.publisher.fault.KeyFault.TheVariants as KeyFaultCase
+use Rattle.answer_publisher.specs.declared.fault.KeyFault.{KeyFault}
+use Rattle.answer_publisher.specs.declared.fault.KeyFault.TheVariants as KeyFaultCase
 use Rattle.denialbench.specs.Names.{action_name, answer_fault_name, key_error_name, key_fault_name, refusal_name, verdict_name}
 
 -- hexadecimal digits, `-` for none

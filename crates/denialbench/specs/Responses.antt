@@ -8,7 +8,7 @@ use Rattle.definitions.specs.ZoneChain.{Nsec}
 use Rattle.records.specs.HandedRr.{HandedRr}
 use Rattle.answer_zone.specs.Accepting.{IsAccepted, IsFault, sorted_records}
 use Rattle.answer.specs.Simulating.{Sofar, begin, Simulates}
-use Rattle.answer.specs.World.{World, world}
+use Rattle.answer_publisher.specs.World.{World, world}
 use Rattle.answer.specs.declared.event.Event.{Event}
 use Rattle.answer.specs.declared.event.Outcome.{Outcome}
 use Rattle.answer_zone.specs.declared.fault.ZoneFault.{ZoneFault}

@@ -5,6 +5,7 @@
 pub mod canonical;
 pub mod composer;
 pub mod data;
+pub mod digits;
 pub mod laws;
 pub mod long;
 pub mod reading;

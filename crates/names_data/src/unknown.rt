@@ -4,11 +4,12 @@ ghost use Rattle.std.specs.Prelude.{◌≡◌, ◌↔◌, ◌≤◌, length, fal
 ghost use Rattle.std.specs.Ordering.{nat_cmp};
 ghost use Rattle.std.specs.Cmp.Lexicographic.{slice_cmp};
 ghost use Rattle.names_data.specs.Reading.{ReadsData, data_at, limited, rest_part};
-ghost use Rattle.names_data.specs.Unknown.{opaque_text, hex_digit};
+ghost use Rattle.names_data.specs.Unknown.{opaque_text};
 
 use crate::canonical::CanonicalOrd;
 use crate::composer::Composer;
 use crate::data::{ComposeRecordData, ParseAnyRecordData, ParseRecordData, RecordData};
+use crate::digits::HexField;
 use crate::long::LongRecordData;
 use crate::reading::{closed, parse_rest};
 use crate::rtype::Rtype;
@@ -155,38 +156,6 @@ impl<Octs: Octets> fmt::Display for UnknownRecordData<Octs> {
 
     fn fmt<W: fmt::Write>(&self, f: &mut fmt::Formatter<W>) -> fmt::Result {
         let octets = self.as_slice();
-        if octets.is_empty() {
-            return write!(f, "\\# {}", octets.len());
-        }
-        write!(f, "\\# {} {}", octets.len(), Digits(octets))
-    }
-}
-
-/// Octets as hexadecimal.
-#[derive(Drop)]
-struct Digits<'a>(&'a [u8]);
-
-impl<'a> fmt::Display for Digits<'a> {
-    ghost use Rattle.names_data.specs.Unknown.{hex};
-
-    ghost output = { λ d. Some (hex d.0.now) };
-
-    fn fmt<W: fmt::Write>(&self, f: &mut fmt::Formatter<W>) -> fmt::Result {
-        for &octet in self.0 {
-            write!(f, "{}{}", digit(octet / 16), digit(octet % 16))?;
-        }
-        Ok(())
-    }
-}
-
-/// A digit of hexadecimal, in lower case.
-fn digit(value: u8) -> char
-    requires { value ≤ 15 }
-    ensures { result ≡ hex_digit value }
-{
-    if value < 10 {
-        (b'0' + value) as char
-    } else {
-        (b'a' - 10 + value) as char
+        write!(f, "\\# {}{}", octets.len(), HexField(octets))
     }
 }

@@ -6,7 +6,6 @@ use Rattle.std.specs.declared.cmp.Ordering.TheVariants.{Less, Equal, Greater}
 use Rattle.std.specs.List.{list_any, AllByRecursion, AllZip, filter}
 use Rattle.std.proofs.lemmas.Slice.Zip.{AllZip-map}
 use Rattle.std.proofs.lemmas.Bool.{or_cases, or_parts, or_left, or_right, false≢true, not-false}
-use Rattle.records.specs.Neighbours.{neighbours}
 use Rattle.definitions.specs.Sorting.{put_by, put_all_by, sort_by}
 
 -- what stands from a place on
@@ -66,29 +65,6 @@ all_put_all P cmp into (x ∷ xs) h k = all_put_all P cmp (put_by cmp x into) xs
 -- what holds of each item holds of each of those in order
 pub all_sorted : {A : Type 0} (P : A → Type 0) (cmp : A → A → Ordering) (xs : List A) → AllByRecursion P xs → AllByRecursion P (sort_by cmp xs)
 all_sorted P cmp xs h = all_put_all P cmp [] xs tt h
-
-neighbours_two : {A : Type 0} (p : A → A → Bool) (xs : List A) (i : ℕ) (a b : A) → suc i < length xs → a ≡ get_or xs i a → b ≡ get_or xs (suc i) b → neighbours p (drop i xs) ≡ (p a b || neighbours p (drop (suc i) xs))
-neighbours_two p xs i a b h ea eb =
-    let l : i < length xs = omega arith in
-    let u = drop-cons xs i a l ∙ ap (λ x. x ∷ drop (suc i) xs) (sym ea) in
-    let v = drop-cons xs (suc i) b h ∙ ap (λ x. x ∷ drop (suc (suc i)) xs) (sym eb) in
-    ap (neighbours p) u ∙ ap (λ ys. neighbours p (a ∷ ys)) v ∙ ap (λ ys. p a b || neighbours p ys) (sym v)
-
--- two items side by side
-pub neighbours_at : {A : Type 0} (p : A → A → Bool) (xs : List A) (i : ℕ) (a b : A) → 0 < i → i < length xs → a ≡ get_or xs (i - 1) a → b ≡ get_or xs i b → neighbours p (drop (i - 1) xs) ≡ (p a b || neighbours p (drop i xs))
-neighbours_at p xs i a b k h ea eb =
-    let e : suc (i - 1) ≡ i = omega arith in
-    let l : suc (i - 1) < length xs = omega arith in
-    neighbours_two p xs (i - 1) a b l ea (eb ∙ ap (λ n. get_or xs n b) (sym e)) ∙ ap (λ n. p a b || neighbours p (drop n xs)) e
-
-one_or_none : {A : Type 0} (p : A → A → Bool) (xs : List A) → length xs ≤ 1 → neighbours p xs ≡ false
-one_or_none p [] h = refl
-one_or_none p (x ∷ []) h = refl
-one_or_none p (x ∷ y ∷ xs) h = absurd (omega arith)
-
--- at the end nothing is side by side
-pub neighbours_short : {A : Type 0} (p : A → A → Bool) (xs : List A) (i : ℕ) → length xs ≤ i → neighbours p (drop (i - 1) xs) ≡ false
-neighbours_short p xs i h = one_or_none p (drop (i - 1) xs) (rw length-drop (omega arith))
 
 -- a test of what stands from a place on
 pub any_past : {X Y : Type 0} (f : X → Y) (p : Y → Bool) (xs : List X) (i : ℕ) (x : X) → i < length xs → x ≡ get_or xs i x → p (f x) ≡ false → list_any p (map f (drop (i + 1) xs)) ≡ list_any p (map f (drop i xs))

@@ -1,8 +1,9 @@
 -- Names of a message, and names of octets without pointers, by what is read of them.
 use Rattle.std.proofs.Common.{◌≡◌, inl, inr, ℕ, ◌<◌, ◌≤◌, List, [], length, refl, ap, subst, ◌∙◌, Ok, Err, Result, arith}
-use Rattle.std.specs.Prelude.{IsErr}
-use Rattle.std.specs.Result.{is_err}
+use Rattle.std.specs.Prelude.{IsErr, None}
+use Rattle.std.specs.Result.{is_err, result_ok}
 use Rattle.std.proofs.lemmas.Option.{slice_get_past}
+use Rattle.std.proofs.lemmas.Bool.{false≢true}
 use Rattle.definitions.specs.Name.{Name, wire_len}
 use Rattle.definitions.specs.Reading.{Reads, root, label, pointer, pointers_of, ReadFault, Short, name_at}
 use Rattle.definitions.specs.Limits.{pointer_limit}
@@ -125,3 +126,11 @@ flat_pointers m p old new n e r h = go (name_at 0 m p) refl
         let s = (reads_exactly m p 0 k.0 k.1).0 f in
         absurd (omega (arith, (ends_once m).pointers p 0 255 _ _ _ _ s.0 through.2, pointers_few s.0, through.3))
     go (Err x) f = ap is_err (owner_none 0 m p x f)
+
+-- so no name is read
+pub no_owner : (m : List ℕ) (p : ℕ) → IsErr (owner_at 0 m p) → None ≡ result_ok (owner_at 0 m p)
+no_owner m p h = go (owner_at 0 m p) h
+  where
+    go : (r : Result (Name × ℕ) MessageError) → IsErr r → None ≡ result_ok r
+    go (Ok n) k = absurd (false≢true k)
+    go (Err e) k = refl

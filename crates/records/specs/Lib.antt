@@ -5,5 +5,4 @@ pub mod Written
 pub mod Handed
 pub mod Star
 pub mod HandedRr
-pub mod Neighbours
 pub mod Items

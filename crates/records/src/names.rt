@@ -21,7 +21,7 @@ mod wire;
 
 pub use above::{is_above, is_at_or_above};
 pub use parsed::ParsedName;
-pub use wire::{NameError, name_at_place, name_from_octets, written_out};
+pub use wire::{name_at_place, name_from_octets, written_out};
 
 /// What a zone asks of a name.
 pub trait ZoneName: Labels {

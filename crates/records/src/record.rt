@@ -3,13 +3,8 @@ ghost use Rattle.records.specs.Handed.{IsHanded};
 ghost use Rattle.records.specs.HandedRr.{HasNames, handed_of};
 
 use crate::names::{Name, ZoneName};
-pub use names_data::long::LongRecordData;
-pub use names_data::unknown::UnknownRecordData;
-pub use names_parser::serial::Serial;
-pub use plain::ns::Ns;
-pub use plain::record::Record;
-pub use plain::soa::Soa;
-pub use plain::zone_data::ZoneRecordData;
+use plain::record::Record;
+use plain::zone_data::ZoneRecordData;
 
 /// Data of a zone's record.
 pub type ZoneData = ZoneRecordData<Vec<u8>, Name<Vec<u8>>>;

@@ -10,11 +10,12 @@ ghost use Rattle.session_lines.specs.Grammar.{name_field, references_field};
 ghost use Rattle.session_lines.specs.Readings.{Reads, texts};
 
 use crate::line_error::LineError;
-use answer::names::{Name, NameError, name_at_place, name_from_octets};
+use answer::names::Name;
 use base64::DecodeAllocError;
 use base64::engine::general_purpose::STANDARD;
 use hex::FromHexError;
 use names_flat::text_error::FromStrError;
+use records::names::{name_at_place, name_from_octets};
 use std::alloc::Global;
 
 /// The most octets of a DNSKEY record's key: its data are at most 65,535 (RFC 4034, 2.1).
@@ -35,11 +36,7 @@ pub fn name(alloc: Global, field: &str) -> Result<Name<Vec<u8>>, LineError>
 pub fn wire_name(alloc: Global, octets: &[u8]) -> Result<Name<Vec<u8>>, LineError>
     ensures { Reads (λ n. n) result (name_of_octets octets.now) }
 {
-    match name_from_octets(alloc, octets) {
-        Ok(name) => Ok(name),
-        Err(NameError::Memory) => Err(LineError::Memory),
-        Err(_) => Err(LineError::Unreadable),
-    }
+    name_from_octets(alloc, octets)?.ok_or(LineError::Unreadable)
 }
 
 /// The name at a place of octets, uncompressed, and the place behind it.
@@ -52,11 +49,7 @@ pub fn name_at(
         Reads (λ r. named r.0 r.1) result (result_ok read) }
     ensures inside { IfOk result (λ r. r.1 ≤ length octets.now) }
 {
-    match name_at_place(alloc, octets, start) {
-        Ok(read) => Ok(read),
-        Err(NameError::Memory) => Err(LineError::Memory),
-        Err(_) => Err(LineError::Unreadable),
-    }
+    name_at_place(alloc, octets, start)?.ok_or(LineError::Unreadable)
 }
 
 /// What a key is called: text without a comma, neither empty nor `-`.

@@ -10,13 +10,15 @@ use crate::fields::{hex_octets, name, name_at, wire_name};
 use crate::line_error::LineError;
 use crate::numbers::{number_u16, number_u32};
 use crate::zone::Zone;
-use answer::names::Name;
+use answer::names::{Name, Serial, UnknownRecordData};
 use answer::plain::Rtype;
+use answer::plain::ns::Ns;
 use answer::plain::numbers::{Class, Ttl};
+use answer::plain::record::Record;
+use answer::plain::soa::Soa;
+use answer::plain::zone_data::ZoneRecordData;
 use answer::publisher::fault::Mode;
-use answer::record::{
-    Ns, Record, Serial, Soa, UnknownRecordData, ZoneData, ZoneRecord, ZoneRecordData,
-};
+use answer::record::{ZoneData, ZoneRecord};
 use std::alloc::Global;
 
 /// The longest life of a signature, in seconds: serial numbers compare up to here (RFC 4034, 3.1.5).

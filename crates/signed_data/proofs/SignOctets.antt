@@ -43,10 +43,10 @@ star_written count from owner source old mid new below m s f n =
     ∙ ap (λ x. old ++ (1 ∷ 42 ∷ wire (low x))) at ∙ ap (λ x. old ++ x) (sym (signed_owner-star count owner below))
 
 -- all records were written
-pub signed_octets_written : {X : Type 0} (h : X → List ℕ) (f : Fields) (owner : Name) (class : ℕ) (xs : List X) (i : ℕ) (head out : List ℕ) → out ≡ fields_data f ++ flat_map (λ v. head ++ with_length (h v)) (take i xs) → head ≡ record_head (signed_owner f.labels owner) f.covered class f.ttl → i ≡ length xs → out ≡ signed_octets f owner class (map h xs)
-signed_octets_written h f owner class xs i head out o e n =
+pub signed_octets_written : {X : Type 0} (h : X → List ℕ) (f : Fields) (owner : Name) (class : ℕ) (xs : List X) (i : ℕ) (out : List ℕ) → (let head = record_head (signed_owner f.labels owner) f.covered class f.ttl in out ≡ fields_data f ++ flat_map (λ v. head ++ with_length (h v)) (take i xs)) → i ≡ length xs → out ≡ signed_octets f owner class (map h xs)
+signed_octets_written h f owner class xs i out o n =
+    let head = record_head (signed_owner f.labels owner) f.covered class f.ttl in
     o ∙ ap (λ ys. fields_data f ++ flat_map (λ v. head ++ with_length (h v)) ys) (ap (λ k. take k xs) n ∙ take-length xs)
-    ∙ ap (λ b. fields_data f ++ flat_map (λ v. b ++ with_length (h v)) xs) e
     ∙ ap (λ b. fields_data f ++ b) (flat_map-heads h (signed_owner f.labels owner) f.covered class f.ttl xs)
 
 -- one item more, where an item was read in place

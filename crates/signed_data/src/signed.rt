@@ -25,24 +25,21 @@ pub fn signed_octets<N: ToName>(
     ensures { let f = fields_of N.name fields.now in
         IfOk result (λ v. v.items ≡ signed_octets f owner.now class (items_of canonical.now)) }
 {
-    let head = signed_head(alloc, fields, owner, class)?;
-    let mut out = Vec::with_capacity(alloc, signed_room(&head, canonical))?;
+    let mut out = Vec::with_capacity(alloc, signed_room(owner, canonical))?;
     compose_signed_fields(fields, &mut out)?;
     for data in canonical {
-        compose_signed_record(&head, data, &mut out)?;
+        compose_signed_head(alloc, fields, owner, class, &mut out)?;
+        compose_signed_data(data, &mut out)?;
     }
     Ok(out)
 }
 
-/// Room for the fields with the longest signer, and for each record what all begin with, two octets and its data.
-fn signed_room(head: &[u8], canonical: &[Vec<u8>]) -> usize {
+/// Room for the fields with the longest signer, and for each record the owner, ten octets and its data.
+fn signed_room(owner: &Name<Vec<u8>>, canonical: &[Vec<u8>]) -> usize {
+    let head = owner.as_slice().len().saturating_add(10);
     let mut room = 18 + 255;
     for data in canonical {
-        room = head
-            .len()
-            .saturating_add(2)
-            .saturating_add(data.len())
-            .saturating_add(room);
+        room = head.saturating_add(data.len()).saturating_add(room);
     }
     room
 }
@@ -75,23 +72,22 @@ pub fn compose_fields<N: ToName>(
     }
 }
 
-/// What each record of a signed RRset begins with.
-fn signed_head<N: ToName>(
+/// Writes what each record of a signed RRset begins with.
+fn compose_signed_head<N: ToName>(
     alloc: Global,
     fields: &ProtoRrsig<N>,
     owner: &Name<Vec<u8>>,
     class: Class,
-) -> Result<Vec<u8>, AllocError>
-    ensures { let f = fields_of N.name fields.now in
-        let signed = signed_owner f.labels owner.now in
-        IfOk result (λ v. v.items ≡ record_head signed f.covered class f.ttl) }
+    out: &mut Vec<u8>,
+) -> Result<(), AllocError>
+    ensures ok { let f = fields_of N.name fields.now in
+        let head = record_head (signed_owner f.labels owner.now) f.covered class f.ttl in
+        OnOk result (out.new.items ≡ out.old.items ++ head) }
 {
-    let mut head = Vec::with_capacity(alloc, owner.as_slice().len().saturating_add(8))?;
-    compose_signed_owner(alloc, fields.labels(), owner, &mut head)?;
-    head.extend_from_slice(&fields.type_covered().to_int().to_be_bytes())?;
-    head.extend_from_slice(&class.to_int().to_be_bytes())?;
-    head.extend_from_slice(&fields.original_ttl().as_secs().to_be_bytes())?;
-    Ok(head)
+    compose_signed_owner(alloc, fields.labels(), owner, out)?;
+    out.extend_from_slice(&fields.type_covered().to_int().to_be_bytes())?;
+    out.extend_from_slice(&class.to_int().to_be_bytes())?;
+    out.extend_from_slice(&fields.original_ttl().as_secs().to_be_bytes())
 }
 
 /// Writes the owner in canonical form, or the wildcard that it stems from (RFC 4035, 5.3.2).
@@ -112,12 +108,10 @@ fn compose_signed_owner(
     source.compose_canonical(out)
 }
 
-/// Writes one record: what all begin with, and its data behind their length.
-fn compose_signed_record(head: &[u8], data: &[u8], out: &mut Vec<u8>) -> Result<(), AllocError>
-    ensures ok { let more = head.now ++ with_length data.now in
-        OnOk result (out.new.items ≡ out.old.items ++ more) }
+/// Writes the data of a record behind their length.
+fn compose_signed_data(data: &[u8], out: &mut Vec<u8>) -> Result<(), AllocError>
+    ensures ok { OnOk result (out.new.items ≡ out.old.items ++ with_length data.now) }
 {
-    out.extend_from_slice(head)?;
     out.extend_from_slice(&((data.len() % 65536) as u16).to_be_bytes())?;
     out.extend_from_slice(data)
 }

@@ -1,6 +1,5 @@
 //! A stand-in for signatures and digests, which protects nothing: a signature is a copy of what it is made over.
-use answer::denial::dnskey::Dnskey;
-use answer::denial::hasher::{HashError, Nsec3Hasher};
+use answer::denial::{Dnskey, HashError, Nsec3Hasher};
 use answer::plain::numbers::DigestAlgorithm;
 use answer::scheme::{Scheme, SchemeError};
 use std::alloc::Global;

@@ -1,13 +1,14 @@
 //! The zone that is asked: its records, and keys that have rolled in.
 use crate::copying::Copying;
-use answer::names::Name;
+use answer::names::{Name, Serial, UnknownRecordData};
 use answer::plain::Rtype;
 use answer::plain::numbers::{Class, SecurityAlgorithm, Ttl};
+use answer::plain::record::Record;
+use answer::plain::soa::Soa;
+use answer::plain::zone_data::ZoneRecordData;
 use answer::publisher::fault::Mode;
 use answer::publisher::publishing::Publisher;
-use answer::record::{
-    Record, Serial, Soa, UnknownRecordData, ZoneData, ZoneRecord, ZoneRecordData,
-};
+use answer::record::{ZoneData, ZoneRecord};
 use keyset::{Available, RollType, UnixTime};
 use std::alloc::Global;
 use std::time::Duration;

@@ -1,45 +1,37 @@
 //! A run of events, one at a time.
-ghost use Rattle.std.specs.Prelude.{◌≡◌, ◌≤◌, ◌<◌, [], ℕ, IfOk, length, map, slice_get, string_bytes};
+ghost use Rattle.std.specs.Prelude.{◌≡◌, ◌≤◌, [], ℕ, IfOk, OnOk, map, slice_get, string_bytes};
 ghost use Rattle.definitions.specs.Limits.{pointer_limit};
-ghost use Rattle.answer.specs.Bindings.{apply};
+ghost use Rattle.answer_publisher.specs.Bindings.{apply};
 ghost use Rattle.answer.specs.Events.{added_octets, added_by_call};
 ghost use Rattle.answer_judge.specs.Meeting.{JudgesSo};
-ghost use Rattle.answer.specs.KeyCalls.{Copied, Gives};
+ghost use Rattle.answer_publisher.specs.KeyCalls.{Copied, Gives};
 ghost use Rattle.keyset.specs.KeyState as key_state;
-ghost use Rattle.answer.specs.World.{digests};
+ghost use Rattle.answer_publisher.specs.World.{digests};
 ghost use Rattle.messages.specs.Questions.{asked_of};
-ghost use Rattle.answer.specs.Running.{sofar_in, world_in};
-ghost use Rattle.answer.specs.Simulating.{handing, call_of, JudgesThings, JudgesBytes, StepOf};
+ghost use Rattle.answer.specs.Running.{sofar_in, world_in, Serves};
+ghost use Rattle.answer.specs.Simulating.{handing, call_of, JudgesThings, JudgesBytes};
 
 use crate::event::{Act, Event, KeyCall, Outcome};
-use crate::publisher::fault::{AnswerFault, KeyFault};
-use crate::publisher::publishing::Publisher;
+use crate::simulate::kept::{Kept, Thing};
 use answer_judge::judge::by_scheme::judge_with;
 use answer_judge::judge::verdict::{Judgement, Refused};
-use answer_judge::scheme::Scheme;
+use answer_publisher::fault::KeyFault;
+use answer_publisher::publishing::Publisher;
+use answer_scheme::scheme::Scheme;
+use denial_data::Ds;
+use denial_hashes::hasher::Nsec3Hasher;
 use keyset::{Action, UnixTime};
 use messages::question::Question;
 use records::names::ZoneName;
-use signed_data::ds;
-use signed_data::ds::Ds;
-use signed_data::hasher::Nsec3Hasher;
 use std::alloc::{AllocError, Global};
 
-/// A thing that was shown.
-#[derive(Drop)]
-enum Shown {
-    OfParent(Vec<Ds<Vec<u8>>>),
-    OfKeys(Vec<u8>),
-    OfZone(Question, Vec<u8>),
-}
-
-/// A run so far: the publisher, and the things shown in order of place.
+/// A run so far: the publisher, and what is kept of the events.
 #[derive(Drop)]
 pub(super) struct Run<'a, S: Scheme, H: Nsec3Hasher> {
     alloc: Global,
     publisher: Publisher<'a, S, H>,
     limit: u16,
-    shown: Vec<Shown>,
+    kept: Kept<'a>,
 }
 
 impl<'a, S: Scheme, H: Nsec3Hasher> Run<'a, S, H> {
@@ -47,44 +39,64 @@ impl<'a, S: Scheme, H: Nsec3Hasher> Run<'a, S, H> {
     pub(super) fn new(alloc: Global, publisher: Publisher<'a, S, H>, limit: u16) -> Self
         ensures publisher { result.publisher ≡ publisher.entry }
         ensures limit { result.limit ≡ limit }
-        ensures shown { result.shown.items ≡ [] }
+        ensures kept { result.kept ≡ record { outcomes = []; shown = [] } }
     {
         Run {
             alloc,
             publisher,
             limit,
-            shown: Vec::new(alloc),
+            kept: Kept::new(alloc),
         }
     }
 
-    /// What comes of one event.
-    pub(super) fn serve(&mut self, event: &Event) -> Result<Outcome, AllocError>
+    /// The outcomes so far.
+    pub(super) fn into_outcomes(self) -> Vec<Outcome>
+        ensures { result.items ≡ self.entry.kept.outcomes }
+    {
+        self.kept.into_outcomes()
+    }
+
+    /// Keeps what comes of one event.
+    pub(super) fn serve(&mut self, event: &'a Event) -> Result<(), AllocError>
         requires key { added_octets event.now ≤ 65531 }
         requires limit { self.old.limit ≡ self.old.publisher.zone.limit }
         ensures step { let w = world_in S.signature_of S.verifies S.digest_of H.hash_of self.old in
             let e = event.now in
-            IfOk result (λ o. StepOf w (sofar_in self.old) e.at e.act o (sofar_in self.new)) }
+            OnOk result (Serves w self.old e.at e.act self.new) }
         ensures rest { self.new ≡ record self.old {
           publisher = record self.old.publisher {
             keys = self.new.publisher.keys;
           };
-          shown = self.new.shown;
+          kept = self.new.kept;
         } }
     {
         match &event.act {
-            Act::Key(call) => Ok(Outcome::Key(self.key_call(call, &event.at))),
+            Act::Key(call) => {
+                let outcome = Outcome::Key(self.key_call(call, &event.at));
+                self.kept.keep(outcome)
+            }
             Act::ShowDs => self.show_ds(),
             Act::ShowDnskey => self.show_dnskey(&event.at),
             Act::Ask(question) => self.ask(question, &event.at),
-            Act::Judge { ds, dnskey, answer } => Ok(self.judge_shown(
-                *ds, *dnskey, *answer, &event.at,
-            )),
+            Act::Judge { ds, dnskey, answer } => {
+                let outcome = self.judge_shown(*ds, *dnskey, *answer, &event.at);
+                self.kept.keep(outcome)
+            }
             Act::JudgeBytes {
                 ds,
                 dnskey_bytes,
                 answer_bytes,
                 question,
-            } => Ok(self.judge_bytes(*ds, dnskey_bytes, answer_bytes, question, &event.at)),
+            } => {
+                let outcome = self.judge_bytes(
+                    *ds,
+                    dnskey_bytes,
+                    answer_bytes,
+                    question,
+                    &event.at,
+                );
+                self.kept.keep(outcome)
+            }
         }
     }
 
@@ -153,56 +165,37 @@ impl<'a, S: Scheme, H: Nsec3Hasher> Run<'a, S, H> {
     }
 
     /// Shows the DS set at the next place.
-    fn show_ds(&mut self) -> Result<Outcome, AllocError>
+    fn show_ds(&mut self) -> Result<(), AllocError>
         ensures step { let w = world_in S.signature_of S.verifies S.digest_of H.hash_of self.old in
-            IfOk result (λ o. (at : ℕ)
-            → StepOf w (sofar_in self.old) at Act.ShowDs o (sofar_in self.new)) }
-        ensures rest { self.new ≡ record self.old { shown = self.new.shown } }
+            OnOk result ((at : ℕ) → Serves w self.old at Act.ShowDs self.new) }
+        ensures rest { self.new ≡ record self.old { kept = self.new.kept } }
     {
-        let place = self.shown.len();
         let set = self.publisher.ds_set()?;
-        let copy = copied(self.alloc, &set)?;
-        self.shown.push(Shown::OfParent(copy))?;
-        Ok(Outcome::Ds { place, set })
+        self.kept.show_ds(set)
     }
 
     /// Shows the DNSKEY answer at the next place.
-    fn show_dnskey(&mut self, at: &UnixTime) -> Result<Outcome, AllocError>
+    fn show_dnskey(&mut self, at: &UnixTime) -> Result<(), AllocError>
         ensures step { let w = world_in S.signature_of S.verifies S.digest_of H.hash_of self.old in
-            let act = Act.ShowDnskey in
-            IfOk result (λ o. StepOf w (sofar_in self.old) at.now act o (sofar_in self.new)) }
-        ensures rest { self.new ≡ record self.old { shown = self.new.shown } }
+            OnOk result (Serves w self.old at.now Act.ShowDnskey self.new) }
+        ensures rest { self.new ≡ record self.old { kept = self.new.kept } }
     {
-        let place = self.shown.len();
         match self.publisher.dnskey_answer(at) {
-            Err(fault) => Ok(Outcome::Refused(fault)),
-            Ok(octets) => {
-                self.shown.push(Shown::OfKeys(octets.clone()?))?;
-                Ok(Outcome::Message { place, octets })
-            }
+            Err(fault) => self.kept.keep(Outcome::Refused(fault)),
+            Ok(octets) => self.kept.show_keys(octets),
         }
     }
 
     /// Shows the zone's answer to a question at the next place.
-    fn ask(&mut self, question: &Question, at: &UnixTime) -> Result<Outcome, AllocError>
+    fn ask(&mut self, question: &'a Question, at: &UnixTime) -> Result<(), AllocError>
         ensures step { let w = world_in S.signature_of S.verifies S.digest_of H.hash_of self.old in
-            let act = Act.Ask question.now in
-            IfOk result (λ o. StepOf w (sofar_in self.old) at.now act o (sofar_in self.new)) }
-        ensures rest { self.new ≡ record self.old { shown = self.new.shown } }
+            OnOk result (Serves w self.old at.now (Act.Ask question.now) self.new) }
+        ensures rest { self.new ≡ record self.old { kept = self.new.kept } }
     {
-        let place = self.shown.len();
         question.keeps();
         match self.publisher.answer(question, at) {
-            Err(fault) => Ok(Outcome::Refused(fault)),
-            Ok(octets) => {
-                let asked = Question {
-                    name: question.name.try_clone(self.alloc)?,
-                    rtype: question.rtype,
-                    class: question.class,
-                };
-                self.shown.push(Shown::OfZone(asked, octets.clone()?))?;
-                Ok(Outcome::Message { place, octets })
-            }
+            Err(fault) => self.kept.keep(Outcome::Refused(fault)),
+            Ok(octets) => self.kept.show_answer(question, octets),
         }
     }
 
@@ -214,14 +207,14 @@ impl<'a, S: Scheme, H: Nsec3Hasher> Run<'a, S, H> {
             JudgesThings w at.now (thing ds) (thing dnskey) (thing answer) result }
     {
         match (
-            self.shown.get(ds),
-            self.shown.get(dnskey),
-            self.shown.get(answer),
+            self.kept.thing(ds),
+            self.kept.thing(dnskey),
+            self.kept.thing(answer),
         ) {
             (
-                Some(Shown::OfParent(ds)),
-                Some(Shown::OfKeys(keys)),
-                Some(Shown::OfZone(question, octets)),
+                Some(Thing::OfParent(ds)),
+                Some(Thing::OfKeys(keys)),
+                Some(Thing::OfZone(question, octets)),
             ) => { Outcome::Judged(self.judged(ds, keys, octets, question, at)) }
             _ => Outcome::BadPlace,
         }
@@ -242,8 +235,8 @@ impl<'a, S: Scheme, H: Nsec3Hasher> Run<'a, S, H> {
             let thing = slice_get (sofar_in self.now).shown ds in
             JudgesBytes w at.now thing dnskey_bytes.now answer_bytes.now asked result }
     {
-        match self.shown.get(ds) {
-            Some(Shown::OfParent(ds)) => {
+        match self.kept.thing(ds) {
+            Some(Thing::OfParent(ds)) => {
                 Outcome::Judged(self.judged(ds, dnskey_bytes, answer_bytes, question, at))
             }
             _ => Outcome::BadPlace,
@@ -267,8 +260,8 @@ impl<'a, S: Scheme, H: Nsec3Hasher> Run<'a, S, H> {
     {
         judge_with(
             self.alloc,
-            self.publisher.scheme,
-            self.publisher.hasher,
+            self.publisher.scheme(),
+            self.publisher.hasher(),
             self.publisher.apex(),
             ds,
             dnskey_bytes,
@@ -299,15 +292,4 @@ fn texts(alloc: Global, references: &[String]) -> Result<Vec<&str>, AllocError>
         texts.push(reference.as_str())?;
     }
     Ok(texts)
-}
-
-/// A DS set once more.
-fn copied(alloc: Global, set: &[Ds<Vec<u8>>]) -> Result<Vec<Ds<Vec<u8>>>, AllocError>
-    ensures { IfOk result (λ v. v.items ≡ set.now) }
-{
-    let mut copies = Vec::with_capacity(alloc, set.len())?;
-    for ds in set {
-        copies.push(ds::copied(alloc, ds)?)?;
-    }
-    Ok(copies)
 }

@@ -12,7 +12,7 @@ use crate::judge::verdict::{DataList, Verdict};
 use denial_data::Nsec;
 use names_data::rtype::Rtype;
 use names_parsed::parsed;
-use records::names::{Name, ParsedName, ToName, ZoneName, is_above, is_at_or_above};
+use records::names::{Name, Octets, ParsedName, ToName, ZoneName, is_above, is_at_or_above};
 use std::alloc::{AllocError, Global};
 use std::marker::Model;
 
@@ -106,7 +106,7 @@ impl<'a> Link<'a> {
     }
 
     /// Whether owner or next name shows that an ancestor exists.
-    fn shows(&self, ancestor: &Name<Vec<u8>>) -> bool
+    fn shows<Octs: Octets>(&self, ancestor: &Name<Octs>) -> bool
         ensures { result
             ≡ (at_or_above ancestor.now self.now.owner || at_or_above ancestor.now self.now.next) }
     {
@@ -114,22 +114,17 @@ impl<'a> Link<'a> {
     }
 
     /// The closest encloser of a name that the link covers (RFC 4592, 3.3.1).
-    fn closest(
-        &self,
-        alloc: Global,
-        name: &Name<Vec<u8>>,
-    ) -> Result<Option<Name<Vec<u8>>>, AllocError>
-        ensures { IfOk result (λ e. e ≡ closest self.now name.now) }
+    fn closest<'n>(&self, name: &'n Name<Vec<u8>>) -> Option<Name<&'n [u8]>>
+        ensures { result ≡ closest self.now name.now }
     {
-        let mut count = name.depth();
-        while count > 0 {
-            count -= 1;
-            let ancestor = name.suffix(alloc, count)?;
+        let mut ancestors = name.iter_suffixes();
+        let _itself = ancestors.next();
+        for ancestor in ancestors {
             if self.shows(&ancestor) {
-                return Ok(Some(ancestor));
+                return Some(ancestor);
             }
         }
-        Ok(None)
+        None
     }
 
     /// What the link says of a wildcard.
@@ -171,7 +166,7 @@ impl<'a> Link<'a> {
         if is_above(name, self.next()) {
             return Ok(Some(Verdict::NoType));
         }
-        match self.closest(alloc, name)? {
+        match self.closest(name) {
             None => Ok(None),
             Some(encloser) => by_star(alloc, apex, links, &encloser, rtype),
         }
@@ -179,11 +174,11 @@ impl<'a> Link<'a> {
 }
 
 /// What the links say of the wildcard under a closest encloser.
-fn by_star(
+fn by_star<Octs: Octets>(
     alloc: Global,
     apex: &Name<Vec<u8>>,
     links: &[Link],
-    encloser: &Name<Vec<u8>>,
+    encloser: &Name<Octs>,
     rtype: Rtype,
 ) -> Result<Option<Verdict>, AllocError>
     ensures { IfOk result (λ v. option_map verdict_of v

@@ -11,7 +11,7 @@ ghost use Rattle.answer_judge.specs.Marked.{held_by, has_owner, is_proved, is_ns
 use crate::judge::decide::Link;
 use crate::judge::groups::{Group, Trust, read_group, verify_groups};
 use crate::judge::verdict::DataList;
-use crate::scheme::Checks;
+use answer_scheme::checks::Checks;
 use messages::ViewRecord;
 use names_data::rtype::Rtype;
 use plain::numbers::Class;
@@ -54,7 +54,8 @@ pub(crate) fn read_facts<'a, C: Checks>(
     ensures same { C.answers checks.new ≡ C.answers checks.old }
 {
     let mut groups = read_nsec_groups(alloc, trust.apex, message, records)?;
-    groups.push(read_group(alloc, message, records, name, rtype)?)?;
+    let owner = name.try_clone(alloc)?;
+    groups.push(read_group(alloc, message, records, owner, rtype)?)?;
     verify_groups(alloc, message, records, trust, &mut groups, checks, count)?;
     let answer = asked_of(groups.pop());
     let links = read_links(alloc, message, records, &groups)?;
@@ -109,7 +110,7 @@ fn read_nsec_group(
         return Ok(None);
     }
     let owner = written_out(alloc, owner.as_parsed())?;
-    let group = read_group(alloc, message, records, &owner, Rtype::NSEC)?;
+    let group = read_group(alloc, message, records, owner, Rtype::NSEC)?;
     Ok(if group.items.len() == 1 {
         Some(group)
     } else {

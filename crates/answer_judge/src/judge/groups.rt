@@ -15,7 +15,7 @@ ghost use Rattle.definitions.specs.Signing.{in_time, signed_octets};
 ghost use Rattle.definitions.specs.Serial.{serial_le};
 
 use crate::judge::keys::TaggedKey;
-use crate::scheme::Checks;
+use answer_scheme::checks::Checks;
 use denial_data::Rrsig;
 use messages::ViewRecord;
 use names_data::rtype::Rtype;
@@ -71,23 +71,23 @@ pub(crate) fn read_group(
     alloc: Global,
     message: &[u8],
     records: &[ViewRecord],
-    owner: &Name<Vec<u8>>,
+    owner: Name<Vec<u8>>,
     rtype: Rtype,
 ) -> Result<Group, AllocError>
-    ensures owner { IfOk result (λ g. g.owner ≡ owner.now) }
+    ensures owner { IfOk result (λ g. g.owner ≡ owner) }
     ensures rtype { IfOk result (λ g. g.rtype ≡ rtype) }
     ensures items { let rs = map spelled records.now in
-        IfOk result (λ g. data_in g ≡ rrset_in pointer_limit message.now rs owner.now rtype) }
+        IfOk result (λ g. data_in g ≡ rrset_in pointer_limit message.now rs owner rtype) }
     ensures unverified { IfOk result (λ g. g.verified ≡ None) }
 {
     let mut items = Vec::new(alloc);
     for record in records {
-        if let Some(item) = datum_of(alloc, message, record, owner, rtype)? {
+        if let Some(item) = datum_of(alloc, message, record, &owner, rtype)? {
             put_data(&mut items, item)?;
         }
     }
     Ok(Group {
-        owner: owner.try_clone(alloc)?,
+        owner,
         rtype,
         items,
         verified: None,

@@ -7,13 +7,14 @@ ghost use Rattle.answer_judge.specs.Judging.{clashes, has_equal_tags, key_at, ke
 ghost use Rattle.records.specs.Message.{data_of};
 ghost use Rattle.messages.specs.Record.{spelled};
 
-use crate::scheme::{Checks, SchemeError};
+use answer_scheme::checks::Checks;
+use answer_scheme::error::SchemeError;
+use denial_data::Ds;
 use messages::ViewRecord;
 use names_data::rtype::Rtype;
 use plain::numbers::{Class, SecurityAlgorithm};
 use records::names::Name;
 use signed_data::dnskey::{Dnskey, ZoneKey, key_of_data};
-use signed_data::ds::Ds;
 use std::alloc::{AllocError, Global};
 use std::marker::Model;
 

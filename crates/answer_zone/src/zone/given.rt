@@ -7,8 +7,9 @@ ghost use Rattle.plain.specs.ZoneData.{zone_type};
 
 use names_data::rtype::Rtype;
 use plain::numbers::Class;
+use plain::zone_data::ZoneRecordData;
 use records::names::{Name, ZoneName};
-use records::record::{ZoneData, ZoneRecord, ZoneRecordData};
+use records::record::{ZoneData, ZoneRecord};
 
 /// Whether the class is another than IN (RFC 1035, 3.2.4).
 pub(super) fn is_of_other_class(rr: &ZoneRecord) -> bool

@@ -1,80 +1,50 @@
 //! Names as wire octets (RFC 1035, 3.1).
-ghost use Rattle.std.specs.Prelude.{◌≡◌, ◌≤◌, IfOk, IfErr, Some, Ok, length};
+ghost use Rattle.std.specs.Prelude.{◌≡◌, ◌≤◌, IfOk, IfSome, length};
+ghost use Rattle.std.specs.Option.{option_map};
+ghost use Rattle.std.specs.Result.{result_ok};
 ghost use Rattle.records.specs.Message.{owner_at};
-ghost use Rattle.records.specs.NameOctets.{name_of_octets, RefusesOctets, RefusesPlace};
+ghost use Rattle.records.specs.NameOctets.{name_of_octets};
 ghost use Rattle.records.specs.View.{named};
 
 use crate::names::Name;
 use names_data::composer::compose_name;
 use names_labels::traits::Absolute;
 use names_parsed::parsed;
-use names_parser::error::ParseError;
 use names_parser::parser::Parser;
 use std::alloc::{AllocError, Global};
-use thiserror::Error;
 
-/// Why octets are not the wire form of one name.
-#[derive(Clone, Copy, Debug, PartialEq, Eq, Drop, Error)]
-pub enum NameError {
-    /// The octets end before the name does.
-    #[error("octets end before the name")]
-    ShortInput,
-    /// A label is of another type, or the name is too long.
-    #[error("malformed name")]
-    Malformed,
-    /// Octets follow the name.
-    #[error("octets follow the name")]
-    TrailingData,
-    #[error("out of memory")]
-    Memory,
-}
-
-impl From<ParseError> for NameError {
-    ghost use Rattle.records.specs.NameOctets.{name_error};
-
-    ghost from_gives = { λ fault error. error ≡ name_error fault };
-
-    fn from(fault: ParseError) -> NameError {
-        match fault {
-            ParseError::ShortInput => NameError::ShortInput,
-            ParseError::Form(_) => NameError::Malformed,
-        }
-    }
-}
-
-/// The name that octets spell, all of them, without pointers (RFC 1035, 3.1).
-pub fn name_from_octets(alloc: Global, octets: &[u8]) -> Result<Name<Vec<u8>>, NameError>
-    ensures ok { IfOk result (λ n. name_of_octets octets.now ≡ Some n) }
-    ensures err { IfErr result (RefusesOctets octets.now) }
+/// The name that octets spell, all of them, without pointers (RFC 1035, 3.1). Nothing where they spell none.
+pub fn name_from_octets(alloc: Global, octets: &[u8]) -> Result<Option<Name<Vec<u8>>>, AllocError>
+    ensures { IfOk result (λ name. name ≡ name_of_octets octets.now) }
 {
-    let (name, end) = name_at_place(alloc, octets, 0)?;
-    if end != octets.len() {
-        return Err(NameError::TrailingData);
+    match name_at_place(alloc, octets, 0)? {
+        Some((name, end)) if end == octets.len() => Ok(Some(name)),
+        _ => Ok(None),
     }
-    Ok(name)
 }
 
-/// The name that stands at a place of octets, without pointers, and the place behind it.
+/// The name that stands at a place of octets, without pointers, and the place behind it. Nothing where none stands there.
 pub fn name_at_place(
     alloc: Global,
     octets: &[u8],
     start: usize,
-) -> Result<(Name<Vec<u8>>, usize), NameError>
-    ensures ok { let read = owner_at 0 octets.now start in
-        IfOk result (λ r. read ≡ Ok (named r.0 r.1)) }
-    ensures inside { IfOk result (λ r. r.1 ≤ length octets.now) }
-    ensures err { IfErr result (RefusesPlace octets.now start) }
+) -> Result<Option<(Name<Vec<u8>>, usize)>, AllocError>
+    ensures exact { let read = result_ok (owner_at 0 octets.now start) in
+        IfOk result (λ place. option_map (λ r. named r.0 r.1) place ≡ read) }
+    ensures inside { IfOk result (λ place. IfSome place (λ r. r.1 ≤ length octets.now)) }
 {
     let mut parser = Parser::from_ref(octets);
-    parser.seek(start)?;
-    let name = parsed::ParsedName::parse(&mut parser)?;
+    let Ok(()) = parser.seek(start) else {
+        return Ok(None);
+    };
+    let Ok(name) = parsed::ParsedName::parse(&mut parser) else {
+        return Ok(None);
+    };
     if name.is_compressed() {
-        return Err(NameError::Malformed);
+        return Ok(None);
     }
-    match written_out(alloc, &name) {
-        Ok(name) => Ok((name, parser.pos())),
-        Err(_) => Err(NameError::Memory),
-    }
+    let flat = written_out(alloc, &name)?;
+    Ok(Some((flat, parser.pos())))
 }
 
 /// A name, however it is kept, over octets of its own.

@@ -12,7 +12,7 @@ use Rattle.answer_judge.proofs.judge.groups.read_group.Goals.{in-Some+in_ok-put_
 
 pub loop-record-preserved : goal.loop-record-preserved
 loop-record-preserved c =
-    let f = datum_of pointer_limit c.args.message.now c.args.owner.now c.args.rtype in
+    let f = datum_of pointer_limit c.args.message.now c.args.owner c.args.rtype in
     let i = c.loop-record.record-index in
     let r = c.record-item.result in
     elim c.match-branch-2.branch [

@@ -5,4 +5,4 @@ use Rattle.answer_judge.proofs.judge.groups.read_group.Given as goal
 use Rattle.definitions.specs.Limits.{pointer_limit}
 
 abbrev pub invariant-loop-record : goal.invariant-loop-record
-invariant-loop-record l = map (λ d. d.items) l.items.items ≡ rrset_in pointer_limit l.message (map spelled (take l.record-index l.records)) l.owner l.rtype
+invariant-loop-record l = map (λ d. d.items) l.items.items ≡ rrset_in pointer_limit l.message (map spelled (take l.record-index l.records)) l.fn.owner l.rtype

@@ -1,10 +1,10 @@
 use Rattle.std.proofs.Common.{◌≡◌, rules, subst}
 use Rattle.keyset.specs.KeyState.{texts}
-use Rattle.answer.specs.Bindings.{Call, Start, apply}
-use Rattle.answer.specs.KeyCalls.{Copied, Gives, RanOut}
-use Rattle.answer.specs.World.{digests}
+use Rattle.answer_publisher.specs.Bindings.{Call, Start, apply}
+use Rattle.answer_publisher.specs.KeyCalls.{Copied, Gives, RanOut}
+use Rattle.answer_publisher.specs.World.{digests}
 use Rattle.answer.specs.Simulating.{call_of}
-use Rattle.answer.proofs.AddProofs.{copied}
+use Rattle.answer_publisher.proofs.AddProofs.{copied}
 use Rattle.answer.proofs.simulate.run.Run.key_call.Goals as goal
 
 -- a start of the references that were copied

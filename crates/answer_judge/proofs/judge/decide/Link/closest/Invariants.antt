@@ -1,9 +1,7 @@
-use Rattle.std.proofs.Common.{◌≡◌, ◌-◌, ◌≤◌, drop, length}
+use Rattle.std.proofs.Common.{◌≡◌}
 use Rattle.answer_judge.specs.Facts.{closest}
+use Rattle.answer_judge.proofs.JudgeClosest.{first_shown}
 use Rattle.answer_judge.proofs.judge.decide.Link.closest.Given as goal
 
-abbrev pub invariant-loop-count : goal.invariant-loop-count
-invariant-loop-count l = (l.count ≤ length l.name) × (closest l.self (drop (length l.name - l.count) l.name) ≡ closest l.self l.name)
-
-abbrev pub decreases-loop-count : goal.decreases-loop-count
-decreases-loop-count l = l.count
+abbrev pub invariant-loop-ancestor : goal.invariant-loop-ancestor
+invariant-loop-ancestor l = closest l.self l.name ≡ first_shown l.self l.ancestor-iterator

@@ -1,7 +1,0 @@
-//! A publisher of one signed zone whose keys roll.
-pub mod compose;
-pub mod fault;
-pub mod keys;
-pub mod laws;
-pub mod publishing;
-pub mod signing;

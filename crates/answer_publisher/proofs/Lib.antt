@@ -1,0 +1,13 @@
+pub mod BoundKeys
+pub mod AddProofs
+pub mod SignAnswer
+pub mod Refusals
+pub mod WritesRecords
+pub mod WritesGroups
+pub mod WritesAnswer
+pub mod WritesData
+pub mod WritesZone
+pub mod WritesGiven
+pub mod KeyTags
+pub mod KeyTagsPublished
+pub mod SignRecords

@@ -1,0 +1,53 @@
+use Rattle.std.proofs.Common.{[], ◌∷◌, rules}
+use Rattle.std.specs.Prelude.{IfErr, IfOk}
+use Rattle.answer_publisher.specs.Answering.{RefusesKeys, ahead_of_records}
+use Rattle.answer_publisher.specs.Bindings.{dnskeys, keys_by_tag, published}
+use Rattle.answer_publisher.specs.Composed.{IsAnswer, RefusesGroups}
+use Rattle.answer_judge.specs.Given.{GivesKeys}
+use Rattle.answer_zone.specs.Served.{by_tag}
+use Rattle.answer_publisher.proofs.WritesGiven.{keys_given}
+use Rattle.answer_zone.proofs.ZoneData.{if_ok_map}
+use Rattle.answer_publisher.specs.Publishing.{second_of}
+use Rattle.answer_zone.specs.Hashing.{served}
+use Rattle.answer_publisher.specs.declared.keys.Publication.TheVariants.{Present, SignsKeys}
+use Rattle.answer_publisher.proofs.Refusals.{if_err_map, keys_refused}
+use Rattle.answer_publisher.proofs.publishing.Publisher.dnskey_answer.Goals as goal
+use Rattle.definitions.specs.Limits.{pointer_limit}
+
+pub returns-clause-given : goal.returns-clause-given
+returns-clause-given g c =
+    let z = c.args.self.now.zone in
+    let sign = g.S.Scheme.signature_of c.args.self.now.scheme.now in
+    let verifies = g.S.Scheme.verifies c.args.self.now.scheme.now in
+    let hash = g.H.Nsec3Hasher.hash_of c.args.self.now.hasher.now in
+    let present = dnskeys (published c.args.self.now.keys Present) in
+    let signers = dnskeys (published c.args.self.now.keys SignsKeys) in
+    let at = second_of c.args.now.now in
+    let life = c.args.self.now.life in
+    let group = c.in_ok-group.group in
+    let written : IfOk c.compose_answer.result (λ m. IsAnswer sign verifies z.apex at life (by_tag signers) 33792 (record { name = z.apex; rtype = 48; class = 1 }) (group ∷ []) [] m.items) = search rules in
+    if_ok_map
+    (λ m. IsAnswer sign verifies z.apex at life (by_tag signers) 33792 (record { name = z.apex; rtype = 48; class = 1 }) (group ∷ []) [] m.items)
+    (λ m. GivesKeys verifies pointer_limit (served hash z) z.apex present signers at life m.items)
+    c.compose_answer.result
+    (λ m w. keys_given sign verifies hash z at life present signers m.items c.keeps.ensures.handed (record { group = group; presents = c.in_ok-group.ensures.presents; written = w }))
+    written
+
+pub returns-clause-fault : goal.returns-clause-fault
+returns-clause-fault g c =
+    let z = c.args.self.now.zone in
+    let sign = g.S.Scheme.signature_of c.args.self.now.scheme.now in
+    let verifies = g.S.Scheme.verifies c.args.self.now.scheme.now in
+    let keys = keys_by_tag c.args.self.now.keys SignsKeys in
+    let present = dnskeys (published c.args.self.now.keys Present) in
+    let at = second_of c.args.now.now in
+    let life = c.args.self.now.life in
+    let group = c.in_ok-group.group in
+    let s = served (g.H.Nsec3Hasher.hash_of c.args.self.now.hasher.now) z in
+    let refused : IfErr c.compose_answer.result (RefusesGroups sign verifies z.apex at life keys (ahead_of_records (record { name = z.apex; rtype = 48; class = 1 })) (group ∷ [])) = search rules in
+    if_err_map
+    (RefusesGroups sign verifies z.apex at life keys (ahead_of_records (record { name = z.apex; rtype = 48; class = 1 })) (group ∷ []))
+    (RefusesKeys sign verifies s z.apex at life present keys)
+    c.compose_answer.result
+    (λ f h. keys_refused sign verifies s z.apex at life present keys group f c.in_ok-group.ensures.presents h)
+    refused

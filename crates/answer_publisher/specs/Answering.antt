@@ -1,0 +1,49 @@
+-- What a publisher's messages are.
+use Rattle.std.specs.Prelude.{◌≡◌, ℕ, ◌+◌, Bool, false, List, [], ◌∷◌, ◌++◌, length, Option}
+use Rattle.std.specs.List.{AllZip}
+use Rattle.definitions.specs.Name.{Name}
+use Rattle.definitions.specs.Dnskey.{Dnskey}
+use Rattle.definitions.specs.Zone.{apex_of, verdict}
+use Rattle.records.specs.Message.{Asked}
+use Rattle.answer_zone.specs.GroupView.{GroupView, Presents}
+use Rattle.answer_publisher.specs.Composed.{IsAnswer, RefusesGroups}
+use Rattle.answer_judge.specs.Judging.{is_allowed}
+use Rattle.records.specs.Written.{question_octets}
+use Rattle.answer_publisher.specs.declared.fault.AnswerFault.{AnswerFault}
+use Rattle.answer_publisher.specs.declared.fault.AnswerFault.TheVariants as fault
+use Rattle.answer_zone.specs.Served.{Served, answer_groups, key_group}
+use Rattle.answer_zone.specs.ZoneAnswers.{flags_for, answered}
+
+-- the message that answers a question: the RRsets of the answer in order, those asked for in the answer section
+pub record AnswersZone (sign : Dnskey → List ℕ → Option (List ℕ)) (verifies : Dnskey → List ℕ → List ℕ → Bool) (s : Served) (apex : Name) (at life : ℕ) (keys : List Dnskey) (asked : Asked) (m : List ℕ) : Type 0 where
+  pub answer : List GroupView
+  pub authority : List GroupView
+  pub groups_are : AllZip Presents (answer ++ authority) (answer_groups s asked.name asked.rtype)
+  pub split : length answer ≡ answered (verdict s.zone false asked.name asked.rtype)
+  pub written : IsAnswer sign verifies apex at life keys (flags_for (verdict s.zone false asked.name asked.rtype)) asked answer authority m
+
+-- the DNSKEY answer: the keys that are present, their data written in canonical form and order
+pub record AnswersKeys (sign : Dnskey → List ℕ → Option (List ℕ)) (verifies : Dnskey → List ℕ → List ℕ → Bool) (s : Served) (apex : Name) (at life : ℕ) (present keys : List Dnskey) (m : List ℕ) : Type 0 where
+  pub group : GroupView
+  pub presents : Presents group (key_group apex (s.ttl_of (apex_of s.zone) 6) present)
+  pub written : IsAnswer sign verifies apex at life keys 33792 (record { name = apex; rtype = 48; class = 1 }) (group ∷ []) [] m
+
+-- octets of a message ahead of its records: the header and the question (RFC 1035, 4.1.1 and 4.1.2)
+abbrev pub ahead_of_records : Asked → ℕ
+ahead_of_records asked = 12 + length (question_octets asked.name asked.rtype asked.class)
+
+-- Why a question is not answered: it is not allowed, the scheme made no signature of an RRset of the answer, the RRsets
+-- are too long for a message, or memory ran out.
+abbrev pub RefusesAnswer : (Dnskey → List ℕ → Option (List ℕ)) → (Dnskey → List ℕ → List ℕ → Bool) → Served → Name → ℕ → ℕ → List Dnskey → Asked → AnswerFault → Type 0
+RefusesAnswer sign verifies s apex at life keys asked fault.QuestionNotAllowed = is_allowed apex asked ≡ false
+RefusesAnswer sign verifies s apex at life keys asked fault.Memory = Unit {0}
+RefusesAnswer sign verifies s apex at life keys asked f =
+    (groups : List GroupView) × AllZip Presents groups (answer_groups s asked.name asked.rtype)
+    × RefusesGroups sign verifies apex at life keys (ahead_of_records asked) groups f
+
+-- why the DNSKEY answer is not given
+abbrev pub RefusesKeys : (Dnskey → List ℕ → Option (List ℕ)) → (Dnskey → List ℕ → List ℕ → Bool) → Served → Name → ℕ → ℕ → List Dnskey → List Dnskey → AnswerFault → Type 0
+RefusesKeys sign verifies s apex at life present keys fault.Memory = Unit {0}
+RefusesKeys sign verifies s apex at life present keys f =
+    (group : GroupView) × Presents group (key_group apex (s.ttl_of (apex_of s.zone) 6) present)
+    × RefusesGroups sign verifies apex at life keys (ahead_of_records (record { name = apex; rtype = 48; class = 1 })) (group ∷ []) f

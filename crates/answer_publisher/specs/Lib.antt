@@ -1,0 +1,10 @@
+pub mod Bindings
+pub mod KeyCalls
+pub mod BoundView
+pub mod NewKeys
+pub mod KeyTags
+pub mod Publishing
+pub mod Composed
+pub mod AnswerFaults
+pub mod Answering
+pub mod World

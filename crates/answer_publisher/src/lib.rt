@@ -1,0 +1,9 @@
+//! A publisher of one signed zone whose keys roll.
+#![tactic(auto)]
+
+pub mod compose;
+pub mod fault;
+pub mod keys;
+pub mod laws;
+pub mod publishing;
+pub mod signing;

@@ -1,0 +1,403 @@
+//! The publisher.
+ghost use Rattle.std.specs.Prelude.{◌≡◌, ◌⊎◌, ◌<◌, ◌≤◌, ◌^◌, ◌↔◌, [], map, length, string_bytes, IfOk, IfErr, IsErrOf, OnOk, Some, None, false};
+ghost use Rattle.std.specs.List.{AllByRecursion};
+ghost use Rattle.definitions.specs.Name.{IsName, low};
+ghost use Rattle.records.specs.Handed.{IsHanded};
+ghost use Rattle.answer_judge.specs.Judging.{is_allowed};
+ghost use Rattle.messages.specs.Questions.{asked_of};
+ghost use Rattle.answer_zone.specs.Served.{key_group, ttl_among};
+ghost use Rattle.answer_zone.specs.GroupView.{Presents};
+ghost use Rattle.answer_zone.specs.Accepting.{IsAccepted, IsFault};
+ghost use Rattle.answer_zone.specs.ZoneView.{mode_of};
+ghost use Rattle.records.specs.HandedRr.{handed_of};
+ghost use Rattle.keyset.specs.KeyState.{text_of, is_available, texts};
+ghost use Rattle.answer_publisher.specs.Bindings.{no_keys, ds_set, published, dnskeys, keys_by_tag, Add, Start, Report1, Wait1, Report2, Wait2, Finish};
+ghost use Rattle.answer_publisher.specs.KeyCalls.{Acts, Adds};
+ghost use Rattle.answer_publisher.specs.NewKeys.{add_of};
+ghost use Rattle.answer_publisher.specs.Publishing.{digest_at, second_of};
+ghost use Rattle.answer_publisher.specs.World.{AnswersKeysQuestion, AnswersQuestion, RefusesKeysQuestion, RefusesQuestion, SpellsAnswer, SpellsKeys, digests, present_keys, world_of, zone_by};
+
+use crate::compose::compose_answer;
+use crate::fault::{AnswerFault, KeyFault, Mode, ZoneFault};
+use crate::keys::{KeyKind, NewKey, Publication, ZoneKeys};
+use crate::signing::SignatureTerms;
+use answer_judge::judge::is_allowed;
+use answer_scheme::error::SchemeError;
+use answer_scheme::scheme::Scheme;
+use answer_zone::group::RrGroup;
+use answer_zone::zone::ZoneRecords;
+use answer_zone::zone::answers::AUTHORITATIVE;
+use denial_data::Ds;
+use denial_hashes::hasher::Nsec3Hasher;
+use keyset::set::KeySet;
+use keyset::{Action, Available, Error, RollType, UnixTime};
+use messages::question::Question;
+use names_data::rtype::Rtype;
+use plain::numbers::{Class, DigestAlgorithm, SecurityAlgorithm};
+use records::names::{Name, ZoneName};
+use records::record::ZoneRecord;
+use signed_data::dnskey::{Dnskey, ZoneKey};
+use std::alloc::{AllocError, Global};
+use std::slice;
+
+/// Publishes one signed zone while its keys roll (RFC 4035, 2 and 3; RFC 6781, 4.1).
+///
+/// It answers questions in signed messages, and shows the DS set that the parent is to have. Scheme and hasher are
+/// borrowed.
+#[derive(Drop)]
+pub struct Publisher<'a, S: Scheme, H: Nsec3Hasher> {
+    alloc: Global,
+    zone: ZoneRecords,
+    keys: ZoneKeys,
+    scheme: &'a S,
+    hasher: &'a H,
+    life: u32,
+}
+
+impl<'a, S: Scheme, H: Nsec3Hasher> Publisher<'a, S, H> {
+    /// A publisher of these records, without keys. Records that are equal up to TTL are one, the first. A signature
+    /// holds for `life` seconds from the moment of its answer.
+    pub fn new(
+        alloc: Global,
+        apex: Name<Vec<u8>>,
+        records: Vec<ZoneRecord>,
+        mode: Mode,
+        scheme: &'a S,
+        hasher: &'a H,
+        limit: u16,
+        life: u32,
+    ) -> Result<Self, ZoneFault>
+        requires { life < 2 ^ 31 }
+        ensures zone { let rs = map handed_of records.items in
+            IfOk result (λ p. p.zone ≡ zone_by apex (mode_of mode) limit rs) }
+        ensures keys { IfOk result (λ p. p.keys ≡ no_keys apex) }
+        ensures scheme { IfOk result (λ p. p.scheme.now ≡ scheme.now) }
+        ensures hasher { IfOk result (λ p. p.hasher.now ≡ hasher.now) }
+        ensures life { IfOk result (λ p. p.life ≡ life) }
+        ensures accepted { let rs = map handed_of records.items in
+            IfOk result (λ p. IsAccepted apex (mode_of mode) limit rs) }
+        ensures handed { IfOk result
+            (λ p. IsName apex × AllByRecursion IsHanded (map handed_of records.items)) }
+        ensures fault { let rs = map handed_of records.items in
+            IfErr result (λ f. (f ≡ ZoneFault.Memory) ⊎ IsFault apex (mode_of mode) limit rs f) }
+    {
+        let zone = ZoneRecords::new(alloc, apex, records, mode, limit)?;
+        let Ok(name) = zone.apex().try_clone(alloc) else {
+            return Err(ZoneFault::Memory);
+        };
+        Ok(Publisher {
+            alloc,
+            zone,
+            keys: ZoneKeys::new(alloc, name),
+            scheme,
+            hasher,
+            life,
+        })
+    }
+
+    /// The answer for the DNSKEY RRset: the keys that are present, signed by each key that signs keys, at a moment.
+    pub fn dnskey_answer(&self, now: &UnixTime) -> Result<Vec<u8>, AnswerFault>
+        ensures fault { let w = world_of S.signature_of S.verifies S.digest_of H.hash_of self.now in
+            IfErr result (RefusesKeysQuestion w self.now.keys now.now) }
+        ensures bytes { let w = world_of S.signature_of S.verifies S.digest_of H.hash_of self.now in
+            IfOk result (λ m. AnswersKeysQuestion w self.now.keys now.now m.items) }
+        ensures given { let w = world_of S.signature_of S.verifies S.digest_of H.hash_of self.now in
+            IfOk result (λ m. SpellsKeys w self.now.keys now.now m.items) }
+    {
+        self.zone.keeps();
+        let keys = self.keys.keys_by_tag(Publication::SignsKeys)?;
+        let group = self.dnskey_group()?;
+        let question = Question {
+            name: self.zone.apex().try_clone(self.alloc)?,
+            rtype: Rtype::DNSKEY,
+            class: Class::IN,
+        };
+        compose_answer(
+            self.alloc,
+            self.scheme,
+            &self.terms(now),
+            &keys,
+            AUTHORITATIVE,
+            &question,
+            slice::from_ref(&group),
+            &[],
+        )
+    }
+
+    /// The DNSKEY RRset; without a key it is empty, and then there is nothing to sign.
+    fn dnskey_group(&self) -> Result<RrGroup, AllocError>
+        ensures presents { let zone = self.now.zone in
+            let ttl = ttl_among zone.records (low zone.apex) 6 in
+            let group = key_group zone.apex ttl (present_keys self.now.keys) in
+            IfOk result (λ g. Presents g group) }
+    {
+        let owner = self.zone.apex().try_clone(self.alloc)?;
+        let count = owner.rrsig_label_count();
+        RrGroup::canonical_form(
+            self.alloc,
+            owner,
+            count,
+            Rtype::DNSKEY,
+            self.zone.soa_ttl(),
+            self.keys.dnskey_data()?,
+        )
+    }
+
+    /// What this publisher's signatures of a moment are made with.
+    fn terms(&self, now: &UnixTime) -> SignatureTerms<'_>
+        ensures apex { result.apex.now ≡ self.now.zone.apex }
+        ensures at { result.at ≡ second_of now.now }
+        ensures life { result.life ≡ self.now.life }
+    {
+        SignatureTerms {
+            apex: self.zone.apex(),
+            at: u64::from(now.timestamp()),
+            life: self.life,
+        }
+    }
+
+    /// The zone's answer to a question at a moment, signed by each key that signs the zone.
+    pub fn answer(&self, question: &Question, now: &UnixTime) -> Result<Vec<u8>, AnswerFault>
+        ensures allowed { let asked = asked_of question.now in
+            let allowed = is_allowed self.now.zone.apex asked in
+            IsErrOf result AnswerFault.QuestionNotAllowed ↔ (allowed ≡ false) }
+        ensures fault { let w = world_of S.signature_of S.verifies S.digest_of H.hash_of self.now in
+            let asked = asked_of question.now in
+            IfErr result (RefusesQuestion w self.now.keys now.now asked) }
+        ensures bytes { let w = world_of S.signature_of S.verifies S.digest_of H.hash_of self.now in
+            let asked = asked_of question.now in
+            IfOk result (λ m. AnswersQuestion w self.now.keys now.now asked m.items) }
+        ensures given { let w = world_of S.signature_of S.verifies S.digest_of H.hash_of self.now in
+            let asked = asked_of question.now in
+            IfOk result (λ m. SpellsAnswer w self.now.keys now.now asked m.items) }
+    {
+        self.zone.keeps();
+        question.keeps();
+        if !is_allowed(self.zone.apex(), question) {
+            return Err(AnswerFault::QuestionNotAllowed);
+        }
+        let keys = self.keys.keys_by_tag(Publication::SignsZone)?;
+        let found = self
+            .zone
+            .answer_to(self.alloc, &question.name, question.rtype)?;
+        compose_answer(
+            self.alloc,
+            self.scheme,
+            &self.terms(now),
+            &keys,
+            found.flags,
+            question,
+            &found.answer,
+            &found.authority,
+        )
+    }
+
+    /// The name of the zone.
+    pub fn apex(&self) -> &Name<Vec<u8>>
+        ensures { result.now ≡ self.now.zone.apex }
+    {
+        self.zone.apex()
+    }
+
+    /// What signs, verifies and digests.
+    pub fn scheme(&self) -> &'a S
+        ensures { result.now ≡ self.now.scheme.now }
+    {
+        self.scheme
+    }
+
+    /// What hashes names.
+    pub fn hasher(&self) -> &'a H
+        ensures { result.now ≡ self.now.hasher.now }
+    {
+        self.hasher
+    }
+
+    /// The key set.
+    pub fn key_set(&self) -> &KeySet
+        ensures { result.now ≡ self.now.keys.keys }
+    {
+        self.keys.key_set()
+    }
+
+    /// The DS set that the parent is to have, of digest type 2, in order of tag (RFC 4034, 5; RFC 4509).
+    pub fn ds_set(&self) -> Result<Vec<Ds<Vec<u8>>>, AllocError>
+        ensures { IfOk result (λ v. v.items ≡ ds_set self.now.keys) }
+    {
+        self.keys.ds_set()
+    }
+
+    /// Adds a key signing key of these octets, at most 65,531 of them.
+    pub fn add_key_ksk(
+        &mut self,
+        pubref: String,
+        privref: Option<String>,
+        algorithm: SecurityAlgorithm,
+        public_key: Vec<u8>,
+        creation_ts: UnixTime,
+        available: Available,
+    ) -> Result<(), KeyFault>
+        requires { length public_key.items ≤ 65531 }
+        ensures keys { let at_hand = is_available available in
+            let private = text_of privref in let octets = public_key.items in
+            let call = Add KeyKind.Ksk (string_bytes pubref) private algorithm octets at_hand in
+            let digests = digests S.digest_of self.old in
+            Adds digests call creation_ts self.old.keys self.new.keys result }
+        ensures rest { self.new ≡ record self.old { keys = self.new.keys } }
+    {
+        let new = NewKey {
+            kind: KeyKind::Ksk,
+            pubref,
+            privref,
+            algorithm,
+            created: creation_ts,
+            available,
+        };
+        self.add_key(new, public_key)
+    }
+
+    /// Adds a zone signing key of these octets, at most 65,531 of them.
+    pub fn add_key_zsk(
+        &mut self,
+        pubref: String,
+        privref: Option<String>,
+        algorithm: SecurityAlgorithm,
+        public_key: Vec<u8>,
+        creation_ts: UnixTime,
+        available: Available,
+    ) -> Result<(), KeyFault>
+        requires { length public_key.items ≤ 65531 }
+        ensures keys { let at_hand = is_available available in
+            let private = text_of privref in let octets = public_key.items in
+            let call = Add KeyKind.Zsk (string_bytes pubref) private algorithm octets at_hand in
+            let digests = digests S.digest_of self.old in
+            Adds digests call creation_ts self.old.keys self.new.keys result }
+        ensures rest { self.new ≡ record self.old { keys = self.new.keys } }
+    {
+        let new = NewKey {
+            kind: KeyKind::Zsk,
+            pubref,
+            privref,
+            algorithm,
+            created: creation_ts,
+            available,
+        };
+        self.add_key(new, public_key)
+    }
+
+    /// Adds a key. Whether its reference is bound to another key is known before any memory is taken.
+    fn add_key(&mut self, new: NewKey, public_key: Vec<u8>) -> Result<(), KeyFault>
+        requires { length public_key.items ≤ 65531 }
+        ensures keys { let call = add_of new public_key.items in
+            let digests = digests S.digest_of self.old in
+            Adds digests call new.created self.old.keys self.new.keys result }
+        ensures rest { self.new ≡ record self.old { keys = self.new.keys } }
+    {
+        let key = Dnskey::new_unchecked(new.kind.flags(), 3, new.algorithm, public_key);
+        if self.keys.is_bound_away(new.pubref.as_str(), &key) {
+            return Err(KeyFault::ReferenceBound);
+        }
+        let digest = key_digest(self.alloc, self.scheme, self.zone.apex(), &key)?;
+        self.keys.add(new, key, digest)
+    }
+
+    /// Starts a roll from the old keys to the new ones.
+    pub fn start_roll(
+        &mut self,
+        rolltype: RollType,
+        old: &[&str],
+        new: &[&str],
+        now: &UnixTime,
+    ) -> Result<Vec<Action>, KeyFault>
+        ensures keys { let call = Start rolltype (texts old.now) (texts new.now) in
+            Acts (digests S.digest_of self.old) call now.now self.old.keys self.new.keys result }
+        ensures rest { self.new ≡ record self.old { keys = self.new.keys } }
+    {
+        self.keys.start_roll(rolltype, old, new, now)
+    }
+
+    /// Reports that a roll's first changes are on all servers; `ttl` is the greatest one of what they replaced.
+    pub fn propagation1_complete(
+        &mut self,
+        rolltype: RollType,
+        ttl: u32,
+        now: &UnixTime,
+    ) -> Result<Vec<Action>, KeyFault>
+        ensures keys { let digests = digests S.digest_of self.old in
+            Acts digests (Report1 rolltype ttl) now.now self.old.keys self.new.keys result }
+        ensures rest { self.new ≡ record self.old { keys = self.new.keys } }
+    {
+        self.keys.propagation1_complete(rolltype, ttl, now)
+    }
+
+    /// Ends a roll's first wait.
+    pub fn cache_expired1(
+        &mut self,
+        rolltype: RollType,
+        now: &UnixTime,
+    ) -> Result<Vec<Action>, KeyFault>
+        ensures keys { let digests = digests S.digest_of self.old in
+            Acts digests (Wait1 rolltype) now.now self.old.keys self.new.keys result }
+        ensures rest { self.new ≡ record self.old { keys = self.new.keys } }
+    {
+        self.keys.cache_expired1(rolltype, now)
+    }
+
+    /// Reports that a roll's second changes are on all servers; `ttl` is the greatest one of what they replaced.
+    pub fn propagation2_complete(
+        &mut self,
+        rolltype: RollType,
+        ttl: u32,
+        now: &UnixTime,
+    ) -> Result<Vec<Action>, KeyFault>
+        ensures keys { let digests = digests S.digest_of self.old in
+            Acts digests (Report2 rolltype ttl) now.now self.old.keys self.new.keys result }
+        ensures rest { self.new ≡ record self.old { keys = self.new.keys } }
+    {
+        self.keys.propagation2_complete(rolltype, ttl, now)
+    }
+
+    /// Ends a roll's second wait.
+    pub fn cache_expired2(
+        &mut self,
+        rolltype: RollType,
+        now: &UnixTime,
+    ) -> Result<Vec<Action>, KeyFault>
+        ensures keys { let digests = digests S.digest_of self.old in
+            Acts digests (Wait2 rolltype) now.now self.old.keys self.new.keys result }
+        ensures rest { self.new ≡ record self.old { keys = self.new.keys } }
+    {
+        self.keys.cache_expired2(rolltype, now)
+    }
+
+    /// Ends a roll whose last actions are done.
+    pub fn roll_done(&mut self, rolltype: RollType) -> Result<Vec<Action>, KeyFault>
+        ensures keys { let digests = digests S.digest_of self.old in
+            Acts digests (Finish rolltype) 0 self.old.keys self.new.keys result }
+        ensures rest { self.new ≡ record self.old { keys = self.new.keys } }
+    {
+        self.keys.roll_done(rolltype)
+    }
+}
+
+/// The digest of type 2 of a key at the apex (RFC 4034, 5.1.4).
+fn key_digest<S: Scheme>(
+    alloc: Global,
+    scheme: &S,
+    apex: &Name<Vec<u8>>,
+    key: &Dnskey<Vec<u8>>,
+) -> Result<Vec<u8>, KeyFault>
+    ensures ok { IfOk result
+        (λ d. digest_at (S.digest_of scheme.now) apex.now key.now ≡ Some d.items) }
+    ensures fits { IfOk result (λ d. length d.items ≤ 65531) }
+    ensures err { let digest = digest_at (S.digest_of scheme.now) apex.now key.now in
+        IfErr result (λ f. (f ≡ KeyFault.Memory)
+        ⊎ ((f ≡ KeyFault.DigestFailed) × (digest ≡ None))) }
+{
+    let octets = key.digested(alloc, apex)?;
+    match scheme.digest(alloc, DigestAlgorithm::SHA256, &octets) {
+        Ok(digest) => Ok(digest),
+        Err(SchemeError::Failed) => Err(KeyFault::DigestFailed),
+        Err(SchemeError::Memory) => Err(KeyFault::Memory),
+    }
+}

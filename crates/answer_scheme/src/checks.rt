@@ -1,0 +1,56 @@
+//! What a judge asks of what signs, digests and hashes.
+ghost use Rattle.std.specs.Prelude.{◌≡◌, ℕ, ◌+◌, Some, None, IfOk, IsErrOf};
+ghost use Rattle.answer_scheme.specs.Answers.{Answers};
+
+use crate::error::SchemeError;
+use denial_hashes::hasher::HashError;
+use denial_keys::dnskey::Dnskey;
+use plain::numbers::DigestAlgorithm;
+use std::alloc::Global;
+
+/// What a judge asks of a scheme and a hasher. A contract sees how often `verify` and `hash` were called.
+pub trait Checks {
+    ghost answers: { Self → Answers };
+
+    /// How often `verify` was called.
+    ghost verified: { Self → ℕ };
+
+    /// How often `hash` was called.
+    ghost hashed: { Self → ℕ };
+
+    fn verify(&mut self, key: &Dnskey<&[u8]>, octets: &[u8], signature: &[u8]) -> bool
+        ensures answer { result ≡ (answers self.old).verifies key.now octets.now signature.now }
+        ensures counted { verified self.new ≡ verified self.old + 1 }
+        ensures others { hashed self.new ≡ hashed self.old }
+        ensures same { answers self.new ≡ answers self.old };
+
+    fn digest(
+        &mut self,
+        alloc: Global,
+        algorithm: DigestAlgorithm,
+        octets: &[u8],
+    ) -> Result<Vec<u8>, SchemeError>
+        ensures answer { IfOk result
+            (λ d. (answers self.old).digest algorithm octets.now ≡ Some d.items) }
+        ensures failed { IsErrOf result SchemeError.Failed
+            → (answers self.old).digest algorithm octets.now ≡ None }
+        ensures verifications { verified self.new ≡ verified self.old }
+        ensures hashes { hashed self.new ≡ hashed self.old }
+        ensures same { answers self.new ≡ answers self.old };
+
+    fn hash(
+        &mut self,
+        alloc: Global,
+        name: &[u8],
+        algorithm: u8,
+        iterations: u16,
+        salt: &[u8],
+    ) -> Result<Vec<u8>, HashError>
+        ensures answer { IfOk result
+            (λ h. (answers self.old).hash name.now algorithm iterations salt.now ≡ Some h.items) }
+        ensures failed { IsErrOf result HashError.Failed
+            → (answers self.old).hash name.now algorithm iterations salt.now ≡ None }
+        ensures counted { hashed self.new ≡ hashed self.old + 1 }
+        ensures others { verified self.new ≡ verified self.old }
+        ensures same { answers self.new ≡ answers self.old };
+}
