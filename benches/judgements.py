@@ -4,13 +4,15 @@ memcheck.
 
 A session is run once as it is and once more with more of the same lines, and the difference is divided by their number. What
 an event costs that only says that its place holds nothing is taken off answers and judgements, so that reading a line and
-printing fall away; an owner's set-up has the reading of its line in it. Signing and verifying by the bench's stand-in, SHA-256,
-is part of the counts. Run it from anywhere; it builds crates/denialbench first.
+printing fall away; an owner's set-up has the reading of its line in it. The bench's stand-in for
+signatures and digests, SHA-256, is part of the counts; how much of a judgement it is stands beside it. Run it from anywhere;
+it builds crates/denialbench first.
 """
 import os
 import re
 import subprocess
 import sys
+import tempfile
 
 ROOT = os.path.dirname(os.path.dirname(os.path.abspath(__file__)))
 BENCH = f"{ROOT}/crates/denialbench"
@@ -42,6 +44,17 @@ def run(tool, pattern, lines):
     return int(found[1].replace(",", ""))
 
 
+def stand_in(lines):
+    """Instructions within SHA-256."""
+    with tempfile.NamedTemporaryFile() as profile:
+        words = ["valgrind", "--tool=callgrind", f"--callgrind-out-file={profile.name}", f"{BENCH}/out/denialbench"]
+        subprocess.run(words, input="\n".join([*lines, ""]), capture_output=True, text=True, check=True)
+        words = ["callgrind_annotate", "--threshold=100", profile.name]
+        table = subprocess.run(words, capture_output=True, text=True, check=True).stdout
+    found = re.findall(r"^ *([\d,]+) .*\bsha2::", table, re.MULTILINE)
+    return sum(int(it.replace(",", "")) for it in found)
+
+
 def counts(fewer, more, times):
     """Instructions and blocks of what one session has more than another."""
     return [(run(tool, pattern, more) - run(tool, pattern, fewer)) / times for tool, pattern in TOOLS]
@@ -52,18 +65,23 @@ def row(what, cells):
 
 
 def main():
-    subprocess.run(["rt", "run"], cwd=BENCH, stdin=subprocess.DEVNULL, capture_output=True, check=True)
+    with open(f"{ROOT}/sessions/first_wait", encoding="utf-8") as session:
+        subprocess.run(["rt", "run"], cwd=BENCH, stdin=session, capture_output=True, check=True)
     print("| owners | set-up of an owner | blocks |\n|---|---|---|")
     for owners in (1_000, 10_000):
         print(row(f"{owners:,}", counts(opening(owners), opening(2 * owners), owners)))
     for owners in (10, 10_000):
         start = opening(owners)
         idle = counts(start, start + ["judge 0 1 9999 7200"] * TIMES, TIMES)
-        print(f"\n| what is asked of {owners:,} owners | an answer | blocks | its judgement | blocks |\n|---|---|---|---|---|")
+        print(f"\n| what is asked of {owners:,} owners | an answer | blocks | its judgement | blocks | SHA-256 |")
+        print("|---|---|---|---|---|---|")
         for place, (what, asked) in enumerate(ASKED):
             answer = counts(start, start + [f"ask {asked} 7200"] * TIMES, TIMES)
-            judgement = counts(start, start + [f"judge 0 1 {place + 2} 7200"] * TIMES, TIMES)
-            print(row(what, [one - none for found in (answer, judgement) for one, none in zip(found, idle)]))
+            judged = start + [f"judge 0 1 {place + 2} 7200"] * TIMES
+            judgement = counts(start, judged, TIMES)
+            cells = [one - none for found in (answer, judgement) for one, none in zip(found, idle)]
+            print(row(what, [*cells, (stand_in(judged) - stand_in(start)) / TIMES]))
 
 
-main()
+if __name__ == "__main__":
+    main()
