@@ -1,5 +1,5 @@
-//! Texts of names, read in one walk over their octets (RFC 1035, 5.1). What spells no name is not told from what is left to
-//! the reading symbol by symbol, which finds the faults.
+//! Texts of names, read in one walk over their octets (RFC 1035, 5.1). It finds no faults: what it does not read is left to
+//! the reading symbol by symbol.
 
 ghost use Rattle.std.specs.Prelude.{◌≡◌, ◌≢◌, ◌<◌, ◌≤◌, ◌∷◌, Bool, true, drop, length, IfOk, IfSome};
 ghost use Rattle.definitions.specs.Text.{is_digit};
@@ -42,8 +42,8 @@ pub fn relative_octets(alloc: Global, text: &[u8]) -> Result<Option<Vec<u8>>, Al
 }
 
 /// Writes the labels that a text spells, each behind its length, which stands where the dot before its label would. Gives
-/// the place behind them, and the length of the last, which is 0 behind a last dot. Nothing where the text spells no labels,
-/// or there is no room for them and the root's octet.
+/// the place behind them, and the length of the last, which is 0 behind a last dot. Nothing where the text spells no
+/// labels, or there is no room for them and the root's octet.
 fn write_labels(octets: &mut [u8], text: &[u8]) -> Option<(usize, usize)>
     requires room { length text.now < length octets.old }
     requires few { length octets.old ≤ 255 }

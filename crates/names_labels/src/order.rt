@@ -151,7 +151,7 @@ fn eight_at(octets: &[u8], place: usize) -> u64
 /// Whether two octets are one letter in both cases.
 fn is_other_case(octet: u8, other: u8) -> bool
     requires { octet ≢ other }
-    ensures { let same = to_ascii_lowercase octet ≡ to_ascii_lowercase other in IsTrue result ↔ same }
+    ensures { let lower = to_ascii_lowercase in IsTrue result ↔ (lower octet ≡ lower other) }
 {
     octet.abs_diff(other) == 32 && octet.eq_ignore_ascii_case(&other)
 }

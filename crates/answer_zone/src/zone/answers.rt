@@ -110,7 +110,8 @@ impl ZoneRecords {
         groups: &mut Vec<RrGroup>,
         names: &[&Name<Vec<u8>>],
     ) -> Result<(), AllocError>
-        ensures { OnOk result ((hash : List (List ℕ) → List ℕ) → Adds groups.old.items groups.new.items
+        ensures { OnOk result ((hash : List (List ℕ) → List ℕ)
+            → Adds groups.old.items groups.new.items
             (proofs_of (served_of self.now.apex Nsec hash self.now.records)
             (map (λ n. low n.now) names.now))) }
     {
