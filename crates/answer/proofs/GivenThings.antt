@@ -9,14 +9,14 @@ use Rattle.definitions.specs.Name.{IsName}
 use Rattle.definitions.specs.ZoneChain.{Nsec}
 use Rattle.definitions.specs.Limits.{pointer_limit}
 use Rattle.answer_publisher.specs.declared.keys.Publication.TheVariants as publication
-use Rattle.records.specs.HandedRr.{HandedRr}
+use Rattle.messages.specs.HandedRr.{HandedRr}
 use Rattle.answer_zone.specs.Accepting.{IsAccepted}
 use Rattle.answer_publisher.specs.Bindings.{BoundKey, ZoneKeys, dnskeys, ds_cmp, ds_of, ds_set, published}
 use Rattle.answer_judge.specs.Given as spelled
-use Rattle.records.specs.Handed.{IsHanded}
+use Rattle.messages.specs.Handed.{IsHanded}
 use Rattle.answer_judge.specs.Judging.{has_equal_tags, is_allowed}
 use Rattle.answer_judge.specs.Meeting.{HasDs, WasGiven, holds, zone_from}
-use Rattle.records.specs.Message.{Asked}
+use Rattle.messages.specs.Message.{Asked}
 use Rattle.answer_publisher.specs.Publishing.{digest_at, second_of}
 use Rattle.answer_zone.specs.Hashing.{served}
 use Rattle.answer.specs.Simulating.{ShowsAnswer, ShowsKeys, handing}
@@ -30,7 +30,7 @@ use Rattle.answer.proofs.KeyLife.{AreBound, IsBound, all_published, published_si
 use Rattle.answer_publisher.proofs.KeyTags.{HasOwnTags}
 use Rattle.answer.proofs.KeysMeet.{KeysMeet}
 use Rattle.answer_publisher.proofs.KeyTagsPublished.{equal_tags}
-use Rattle.records.proofs.Lists.{Has, all_at, some_is}
+use Rattle.messages.proofs.Lists.{Has, all_at, some_is}
 
 -- keys that calls have left
 pub record AreLeft (w : World) (keys : ZoneKeys) : Type 0 where

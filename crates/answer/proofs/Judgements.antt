@@ -18,16 +18,16 @@ use Rattle.std.specs.List.{AllByRecursion}
 use Rattle.definitions.specs.Name.{IsName, Name}
 use Rattle.definitions.specs.Limits.{pointer_limit}
 use Rattle.answer_scheme.specs.Answers.{Answers}
-use Rattle.records.specs.Handed.{IsHanded}
+use Rattle.messages.specs.Handed.{IsHanded}
 use Rattle.answer_zone.specs.ZoneView.{mode_of}
-use Rattle.records.specs.HandedRr.{HandedRr}
+use Rattle.messages.specs.HandedRr.{HandedRr}
 use Rattle.answer_zone.specs.Accepting.{IsAccepted, sorted_records, zone_of}
 use Rattle.answer_publisher.specs.Bindings as bindings
 use Rattle.answer_publisher.specs.Bindings.{ZoneKeys, apply, ds_set}
 use Rattle.answer_judge.specs.Judging.{Says, answer_of, hashes_of, is_allowed, verifications_of}
 use Rattle.answer_judge.specs.Judged.{AnswersAs}
 use Rattle.answer_judge.specs.Meeting.{IsJudgement, holds}
-use Rattle.records.specs.Message.{Asked}
+use Rattle.messages.specs.Message.{Asked}
 use Rattle.answer.specs.OneState.{Moment, VerdictAt, VerdictsAlong, moment, moments_with}
 use Rattle.answer_publisher.specs.Publishing.{digest_at, second_of}
 use Rattle.messages.specs.Questions.{asked_of}
@@ -46,7 +46,7 @@ use Rattle.keyset.specs.KeyState.{ds as at_parent}
 use Rattle.keyset_life.specs.KeyLife.{states}
 use Rattle.keyset_life.specs.Sides.{is_empty}
 use Rattle.keyset_life.proofs.Meets.{unretired_things_meet}
-use Rattle.records.proofs.Lists.{some_is}
+use Rattle.messages.proofs.Lists.{some_is}
 
 -- what is known of a thing that was shown
 abbrev ThingIs : World → Moment → Shown → Type 0

@@ -24,7 +24,7 @@ use Rattle.answer_publisher.specs.Bindings.{BoundKey, Outcome, ZoneKeys, apply, 
 use Rattle.answer.specs.ThroughRolls.{set_call}
 use Rattle.answer_judge.proofs.GivenKeys.{same_key-is}
 use Rattle.answer.proofs.KeyLife.{bound_by, by_digest}
-use Rattle.records.proofs.Lists.{some_is}
+use Rattle.messages.proofs.Lists.{some_is}
 
 -- ---- a reference stays bound to its key
 

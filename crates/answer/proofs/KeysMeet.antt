@@ -22,7 +22,7 @@ use Rattle.answer_judge.specs.Meeting.{Meet}
 use Rattle.answer_judge.proofs.GivenLists.{contained_has}
 use Rattle.answer.proofs.KeyHistory.{Held, StayBound}
 use Rattle.answer_publisher.proofs.KeyTags.{HasOwnTags}
-use Rattle.records.proofs.Lists.{Has, found, some_is}
+use Rattle.messages.proofs.Lists.{Has, found, some_is}
 
 -- the keys of three states meet
 abbrev pub KeysMeet : ZoneKeys → ZoneKeys → ZoneKeys → Type 0

@@ -7,13 +7,13 @@ use Rattle.answer.specs.declared.event.Act.TheVariants as act
 use Rattle.answer.specs.declared.event.Outcome.{Outcome}
 use Rattle.answer.specs.declared.event.Outcome.TheVariants as outcome
 use Rattle.answer_publisher.specs.declared.keys.Publication.TheVariants as publication
-use Rattle.records.specs.HandedRr.{HandedRr}
+use Rattle.messages.specs.HandedRr.{HandedRr}
 use Rattle.answer_zone.specs.Accepting.{zone_of}
 use Rattle.answer_publisher.specs.Bindings.{ZoneKeys, dnskeys, published}
 use Rattle.answer_judge.specs.Judged.{AnswersAs}
 use Rattle.answer_judge.specs.Judging.{Says, answer_of}
 use Rattle.answer_judge.specs.Meeting.{Meet, holds}
-use Rattle.records.specs.Message.{Asked}
+use Rattle.messages.specs.Message.{Asked}
 use Rattle.answer_publisher.specs.Publishing.{second_of}
 use Rattle.answer.specs.Simulating.{OfZone, Simulates, Sofar, begin}
 use Rattle.answer_publisher.specs.World.{World}

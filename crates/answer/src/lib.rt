@@ -12,7 +12,6 @@ pub use answer_scheme as scheme;
 pub use denial;
 pub use keyset;
 pub use messages as message;
-pub use messages::question;
+pub use messages::{question, record};
 pub use names;
 pub use plain;
-pub use records::record;

@@ -3,9 +3,9 @@ ghost use Rattle.std.specs.Prelude.{◌≡◌, ◌⊎◌, ◌<◌, ◌≤◌, �
 ghost use Rattle.answer_zone.specs.Accepting.{IsAccepted, IsFault, sorted_records};
 ghost use Rattle.std.specs.List.{AllByRecursion};
 ghost use Rattle.definitions.specs.Name.{IsName};
-ghost use Rattle.records.specs.Handed.{IsHanded};
+ghost use Rattle.messages.specs.Handed.{IsHanded};
 ghost use Rattle.answer_zone.specs.ZoneView.{mode_of};
-ghost use Rattle.records.specs.HandedRr.{handed_of};
+ghost use Rattle.messages.specs.HandedRr.{handed_of};
 ghost use Rattle.answer.specs.Events.{added_octets};
 ghost use Rattle.answer.specs.OneState.{SaysVerdicts};
 ghost use Rattle.answer.specs.Simulating.{Sofar, Simulates, begin};
@@ -18,8 +18,8 @@ use answer_publisher::fault::{Mode, ZoneFault};
 use answer_publisher::publishing::Publisher;
 use answer_scheme::scheme::Scheme;
 use denial_hashes::hasher::Nsec3Hasher;
-use records::names::Name;
-use records::record::ZoneRecord;
+use messages::names::Name;
+use messages::record::ZoneRecord;
 use std::alloc::Global;
 
 mod kept;

@@ -7,7 +7,7 @@ use Rattle.std.proofs.lemmas.Bool.{and_from, and_parts, false_from_ne_true, or_c
 use Rattle.definitions.specs.Name.{Name, IsLabel, low, same, name_cmp, at_or_above, strictly_above, wire_len}
 use Rattle.definitions.specs.Zone.{exists}
 use Rattle.definitions.proofs.NameLaws.{interval}
-use Rattle.records.specs.HandedRr.{HandedRr}
+use Rattle.messages.specs.HandedRr.{HandedRr}
 use Rattle.answer_zone.specs.Accepting.{zone_with}
 use Rattle.answer_judge.specs.Facts.{Link, closest}
 use Rattle.answer_zone.specs.Served.{kept_ancestor}
@@ -15,10 +15,10 @@ use Rattle.answer_zone.specs.ZoneView.{IsPublished, is_of}
 use Rattle.answer_judge.proofs.AnswerRrsets.{soa_is}
 use Rattle.answer_judge.proofs.DenialDecided.{IsLinkOf}
 use Rattle.answer_judge.proofs.DenialLink.{Linked, Owns, Speaks}
-use Rattle.records.proofs.NameLaws.{wire_len-cons}
+use Rattle.messages.proofs.NameLaws.{wire_len-cons}
 use Rattle.answer_zone.proofs.ZoneAnswers.{at_itself}
-use Rattle.records.proofs.Lists.{any_from, both_ways, found}
-use Rattle.records.proofs.ZoneNames.{at_or_above-low, same_labels}
+use Rattle.messages.proofs.Lists.{any_from, both_ways, found}
+use Rattle.messages.proofs.ZoneNames.{at_or_above-low, same_labels}
 use Rattle.answer_zone.proofs.ZoneServed.{exists_is, has_is}
 
 -- ---- what exists

@@ -1,7 +1,7 @@
 -- What two tests choose of a list, each of them one item.
 use Rattle.std.proofs.Common.{◌≡◌, ◌⊎◌, Bool, true, false, ◌||◌, cond, List, [], ◌∷◌, inl, inr, refl, sym, ap, ◌∙◌, ⊎_elim}
 use Rattle.std.specs.List.{filter}
-use Rattle.records.proofs.Lists.{Has}
+use Rattle.messages.proofs.Lists.{Has}
 
 pub filter_agree : {A : Type 0} (f g : A → Bool) → ((a : A) → f a ≡ g a) → (xs : List A) → filter f xs ≡ filter g xs
 filter_agree f g h [] = refl

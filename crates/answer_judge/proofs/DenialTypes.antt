@@ -9,13 +9,13 @@ use Rattle.definitions.specs.Name.{Name, low, labels_eq, at_or_above, strictly_a
 use Rattle.definitions.specs.Zone.{Rr, Zone, owner_of, has, is_delegation}
 use Rattle.definitions.specs.ZoneChain.{types_at, at_apex}
 use Rattle.definitions.proofs.BitmapLaws.{spells_set}
-use Rattle.records.specs.HandedRr.{HandedRr, among}
+use Rattle.messages.specs.HandedRr.{HandedRr, among}
 use Rattle.answer_zone.specs.Accepting.{zone_with}
 use Rattle.answer_judge.specs.Judging.{is_allowed}
-use Rattle.records.specs.Message.{Asked}
+use Rattle.messages.specs.Message.{Asked}
 use Rattle.answer_zone.specs.ZoneView.{IsPublished}
 use Rattle.answer_zone.proofs.ZoneServed.{no_delegation}
-use Rattle.records.proofs.Lists.{eqb-back}
+use Rattle.messages.proofs.Lists.{eqb-back}
 
 any_at : (t : ℕ) (o : Name) (rs : List Rr) → list_any (nat_eq t) (map (λ r. r.rtype) (filter (λ r. labels_eq (owner_of r) o) rs)) ≡ list_any (λ r. labels_eq (owner_of r) o && eqb r.rtype t) rs
 any_at t o [] = refl

@@ -7,7 +7,7 @@ use Rattle.std.proofs.lemmas.Bool.{and_parts, eqb-true, false≢true}
 use Rattle.definitions.specs.Limits.{pointer_limit}
 use Rattle.definitions.specs.Name.{Name, same}
 use Rattle.definitions.specs.Signing.{Fields, signed_octets}
-use Rattle.records.specs.Message.{Spelled, rrsig_at}
+use Rattle.messages.specs.Message.{Spelled, rrsig_at}
 use Rattle.answer_judge.specs.Facts.{fits_key, is_due, is_signature, signs}
 use Rattle.answer_judge.specs.Verified.{Trusting, verifies_with, verified_by, verified_with}
 use Rattle.answer_judge.specs.FirstSignature.{Held, IsFirst}

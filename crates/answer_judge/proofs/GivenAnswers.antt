@@ -4,10 +4,10 @@ use Rattle.std.specs.List.{AllByRecursion}
 use Rattle.definitions.specs.Name.{IsLabel}
 use Rattle.definitions.specs.Zone.{verdict}
 use Rattle.definitions.specs.ZoneChain.{Nsec}
-use Rattle.records.specs.HandedRr.{HandedRr}
+use Rattle.messages.specs.HandedRr.{HandedRr}
 use Rattle.answer_zone.specs.Accepting.{record_cmp, sorted_records, zone_of}
 use Rattle.answer_scheme.specs.Answers.{Answers}
-use Rattle.records.specs.Handed.{IsHanded}
+use Rattle.messages.specs.Handed.{IsHanded}
 use Rattle.answer_judge.specs.Judged.{AnswersAs, judged}
 use Rattle.answer_judge.specs.Judging.{Answer, Handing, Says}
 use Rattle.answer_judge.specs.Meeting.{AnswersGiven, WasGiven}
@@ -17,7 +17,7 @@ use Rattle.answer_judge.proofs.AnswerRrsets.{AreNamed}
 use Rattle.answer_judge.proofs.GivenJudged.{judged_given, signer_found, signer_signs, usable_keys}
 use Rattle.answer_judge.proofs.GivenMissing.{every_verdict}
 use Rattle.answer_judge.proofs.GivenVerdict.{IsAnswered}
-use Rattle.records.proofs.Lists.{all_more, all_sorted}
+use Rattle.messages.proofs.Lists.{all_more, all_sorted}
 use Rattle.answer_zone.proofs.ZoneRising.{published_from}
 
 named : (rs : List HandedRr) → AllByRecursion IsHanded rs → AreNamed (sorted_records rs)

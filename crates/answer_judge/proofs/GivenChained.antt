@@ -10,14 +10,14 @@ use lib.Pointwise.{bytes_decides}
 use Rattle.definitions.specs.Name.{Name, low, same}
 use Rattle.definitions.specs.Dnskey.{Dnskey, Ds, dnskey_data, dnskey_of_data, key_tag}
 use Rattle.definitions.specs.Zone.{apex_of, sorted_data}
-use Rattle.records.specs.HandedRr.{HandedRr}
+use Rattle.messages.specs.HandedRr.{HandedRr}
 use Rattle.answer_scheme.specs.Answers.{Answers}
 use Rattle.answer_judge.specs.Facts.{digests_to, is_trusted, is_usable, names_key}
 use Rattle.answer_judge.specs.Given.{AreGroups, AreRecords, AreSignatures, GivesKeys, IsRecord, IsSignature, fields_for}
 use Rattle.answer_judge.specs.Judged.{is_chained, keys_of, trusting}
 use Rattle.answer_judge.specs.Judging.{Handing, has_equal_tags, key_at, keys_in}
 use Rattle.answer_judge.specs.Meeting.{HasDs, IsZoneKey, WasGiven, served_from}
-use Rattle.records.specs.Message.{Spelled, data_of}
+use Rattle.messages.specs.Message.{Spelled, data_of}
 use Rattle.answer_zone.specs.Served.{Group, Served, by_tag, key_group}
 use Rattle.answer_judge.specs.Verified.{Trusting, is_verified}
 use Rattle.answer_judge.proofs.GivenKeys.{IsKeyData, by_tag-has, data_of_key, find_kept, key_data, read_all, read_from, read_has, tags_within}
@@ -25,8 +25,8 @@ use Rattle.answer_judge.proofs.GivenLists.{has_contained}
 use Rattle.answer_judge.proofs.GivenNext.{canonical_octets}
 use Rattle.answer_judge.proofs.GivenSignatures.{IsSignedBy, verified_given}
 use Rattle.answer_judge.proofs.GivenSorted.{all_has, data_has, sorted_from, sorted_twice}
-use Rattle.records.proofs.Lists.{Has, all_at, all_more, any_from}
-use Rattle.records.proofs.ZoneNames.{labels_eq-same}
+use Rattle.messages.proofs.Lists.{Has, all_at, all_more, any_from}
+use Rattle.messages.proofs.ZoneNames.{labels_eq-same}
 
 -- ---- the keys of a message
 

@@ -5,24 +5,24 @@ use Rattle.std.proofs.lemmas.Bool.{and_from, eq-eqb, ne_eqb}
 use Rattle.definitions.specs.Name.{Name, low}
 use Rattle.definitions.specs.Dnskey.{Dnskey, Ds, key_tag}
 use Rattle.definitions.specs.Zone.{Unsigned}
-use Rattle.records.specs.HandedRr.{HandedRr}
+use Rattle.messages.specs.HandedRr.{HandedRr}
 use Rattle.answer_scheme.specs.Answers.{Answers}
 use Rattle.answer_judge.specs.Facts.{fits_key, is_usable}
 use Rattle.answer_judge.specs.Given.{fields_for}
 use Rattle.answer_judge.specs.declared.judge.verdict.Refusal.{Refusal}
 use Rattle.answer_judge.specs.declared.judge.verdict.Refusal.TheVariants as r
-use Rattle.records.specs.declared.message.MessageError.{MessageError}
+use Rattle.messages.specs.declared.error.MessageError.{MessageError}
 use Rattle.answer_judge.specs.Judged.{judged, judged_answer, judged_messages, keys_of, trusting}
 use Rattle.answer_judge.specs.Judging.{Answer, Handing, Refuses, Says, first_refusal, has_equal_tags, message_refusal, same_question}
 use Rattle.answer_judge.specs.Meeting.{HasDs, IsZoneKey, WasGiven, served_from}
-use Rattle.records.specs.Message.{Asked, Message}
+use Rattle.messages.specs.Message.{Asked, Message}
 use Rattle.answer_zone.specs.Served.{Group, answer_groups, by_tag}
 use Rattle.answer_judge.specs.Verified.{Trusting}
 use Rattle.answer_judge.proofs.GivenChained.{chained_given, keys_apart, keys_has, small_flags}
 use Rattle.answer_judge.proofs.GivenKeys.{by_tag-has, find_kept}
 use Rattle.answer_judge.proofs.GivenLists.{has_contained}
-use Rattle.records.proofs.Lists.{Has, all_at}
-use Rattle.records.proofs.ZoneNames.{labels_eq-same}
+use Rattle.messages.proofs.Lists.{Has, all_at}
+use Rattle.messages.proofs.ZoneNames.{labels_eq-same}
 
 -- ---- no first refusal
 

@@ -1,8 +1,8 @@
 -- Keys of different tags: each is the one that its tag names, in lists that have the same keys.
-use Rattle.std.proofs.Common.{◌≡◌, ℕ, ◌+◌, ◌*◌, ◌<◌, Bool, true, false, not, ◌&&◌, List, [], ◌∷◌, Some, Ordering, eqb, map, refl, sym, ap, subst, ◌∙◌, inl, inr, ⊎_elim, arith}
+use Rattle.std.proofs.Common.{[], ◌≡◌, ℕ, ◌+◌, ◌*◌, ◌<◌, Bool, true, false, not, ◌&&◌, List, ◌∷◌, Some, Ordering, eqb, map, refl, sym, ap, subst, ◌∙◌, inl, inr, ⊎_elim, arith}
 use Rattle.std.specs.declared.cmp.Ordering.TheVariants.{Equal}
 use Rattle.std.specs.Int.{byte_at}
-use Rattle.std.specs.List.{AllByRecursion, Contains, cons_option, filter, filter_map, find, list_any}
+use Rattle.std.specs.List.{AllByRecursion, cons_option, filter, filter_map, find, list_any}
 use Rattle.std.specs.Ordering.{nat_cmp}
 use Rattle.std.specs.FinMap.{nat_cmp-IsAntisymmetric}
 use Rattle.std.specs.Str.{bytes_eq}
@@ -14,9 +14,8 @@ use Rattle.definitions.specs.Signing.{Fields}
 use Rattle.answer_judge.specs.Facts.{fits_key}
 use Rattle.answer_judge.specs.Judging.{clashes, has_equal_tags}
 use Rattle.answer_zone.specs.Served.{by_tag}
-use Rattle.answer_judge.proofs.GivenLists.{contained_has, has_contained}
-use Rattle.answer_judge.proofs.GivenSorted.{all_has, filter_from, filter_has, find_only, sorted_from, sorted_has}
-use Rattle.records.proofs.Lists.{Has, all_at, all_fail, any_from, found}
+use Rattle.answer_judge.proofs.GivenSorted.{all_has, filter_from, filter_has, find_only, sorted_has}
+use Rattle.messages.proofs.Lists.{Has, all_at, all_fail, any_from, found}
 
 -- ---- the same key
 
@@ -60,12 +59,6 @@ tag_cmp a b = nat_cmp (key_tag a) (key_tag b)
 
 pub by_tag-has : (ks : List Dnskey) (x : Dnskey) → has_equal_tags ks ≡ false → Has ks x → Has (by_tag ks) x
 by_tag-has ks x apart h = sorted_has tag_cmp (λ k. Has ks k) (tag_exact ks apart) ks x (all_has (λ k. Has ks k) ks (λ k i. i)) h
-
-pub by_tag-from : (ks : List Dnskey) (x : Dnskey) → Has (by_tag ks) x → Has ks x
-by_tag-from ks x h = sorted_from tag_cmp ks x h
-
-pub by_tag-contains : (ks : List Dnskey) (x : Dnskey) → has_equal_tags ks ≡ false → Contains ks x → Contains (by_tag ks) x
-by_tag-contains ks x apart c = contained_has (by_tag ks) x (by_tag-has ks x apart (has_contained ks x c))
 
 -- ---- the key that fields name
 

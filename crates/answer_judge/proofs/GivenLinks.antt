@@ -1,5 +1,5 @@
 -- The links that a given message proves are those of its NSEC records.
-use Rattle.std.proofs.Common.{◌≡◌, ℕ, Bool, true, false, ◌&&◌, List, [], ◌∷◌, ◌++◌, Option, Some, None, cond, eqb, length, refl, sym, ap, subst, ◌∙◌, inl, inr}
+use Rattle.std.proofs.Common.{[], ◌≡◌, ℕ, Bool, true, false, ◌&&◌, List, ◌∷◌, ◌++◌, Option, Some, None, cond, eqb, length, refl, sym, ap, subst, ◌∙◌, inl, inr}
 use Rattle.std.specs.Prelude.{if◌then◌else◌}
 use Rattle.std.specs.List.{AllZip, cons_option, filter, filter_map}
 use Rattle.std.specs.Option.{option_map}
@@ -11,22 +11,19 @@ use Rattle.definitions.specs.Zone.{sorted_data}
 use Rattle.answer_judge.specs.Facts.{Link}
 use Rattle.answer_judge.specs.Given.{AreGroups, AreRecords, AreSignatures, IsRecord, IsSignature}
 use Rattle.answer_judge.proofs.GivenGroups.{SameLink, SaysLink, has_twins, is_nsec}
-use Rattle.records.specs.Message.{Spelled, nsec_at}
+use Rattle.messages.specs.Message.{Spelled, nsec_at}
 use Rattle.answer_zone.specs.Served.{Group}
 use Rattle.answer_judge.specs.Verified.{Trusting, is_link, is_verified, link_at, link_of, rrset_in, verified_links}
 use Rattle.answer_judge.proofs.GivenNext.{nsec_given}
 use Rattle.answer_judge.proofs.GivenRecords.{rrset_given}
 use Rattle.answer_judge.proofs.JudgeCase.{above-owner}
 use Rattle.answer_judge.proofs.GivenSignatures.{IsSignedBy, verified_given}
-use Rattle.records.proofs.Lists.{Has}
+use Rattle.messages.proofs.Lists.{Has}
 
 -- ---- one record
 
 abbrev link_when : Bool → Option Link → Option Link
 link_when b o = elim b [ true ↦ o | false ↦ None ]
-
-abbrev is_link_when : Trusting → Spelled → Bool → Bool → List (List ℕ) → Bool → Bool
-is_link_when w r t c ds passes = t && c && at_or_above w.apex r.owner && (eqb (length ds) 1) && passes
 
 other_type : (w : Trusting) (k : ℕ) (m : List ℕ) (rs : List Spelled) (r : Spelled) → eqb r.rtype 47 ≡ false → link_at w k m rs r ≡ None
 other_type w k m rs r e = ap (λ b. link_when (b && eqb r.class 1 && at_or_above w.apex r.owner && eqb (length (rrset_in k m rs r.owner 47)) 1 && is_verified w k m rs r.owner 47 (rrset_in k m rs r.owner 47)) (link_of k m r)) e

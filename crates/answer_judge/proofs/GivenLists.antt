@@ -1,7 +1,7 @@
 -- Items of lists that are put together.
 use Rattle.std.proofs.Common.{◌≡◌, ℕ, zero, suc, ◌<◌, List, [], ◌∷◌, ◌++◌, length, get_or, sym, inl, inr, ⊎_elim, arith}
 use Rattle.std.specs.List.{Contains}
-use Rattle.records.proofs.Lists.{Has}
+use Rattle.messages.proofs.Lists.{Has}
 
 has_at : {A : Type 0} (xs : List A) (x : A) (k : ℕ) → k < length xs → get_or xs k x ≡ x → Has xs x
 has_at [] x k h e = absurd (omega arith)

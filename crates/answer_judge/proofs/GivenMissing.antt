@@ -9,7 +9,7 @@ use Rattle.definitions.specs.Covering.{covers}
 use Rattle.definitions.specs.Name.{Name, IsLabel, at_or_above, labels_eq, low, same, wire_len}
 use Rattle.definitions.specs.Zone.{exists, has, star_under, verdict}
 use Rattle.definitions.specs.ZoneChain.{Nsec, nsec_next}
-use Rattle.records.specs.HandedRr.{HandedRr}
+use Rattle.messages.specs.HandedRr.{HandedRr}
 use Rattle.answer_zone.specs.Accepting.{zone_with}
 use Rattle.answer_scheme.specs.Answers.{Answers}
 use Rattle.answer_judge.specs.Facts.{Link, decided}
@@ -19,7 +19,7 @@ use Rattle.answer_judge.specs.Judged.{by_facts, judged_answer, trusting}
 use Rattle.answer_judge.specs.Judging.{Handing, Says}
 use Rattle.answer_zone.specs.Links.{link_group, link_speaks}
 use Rattle.answer_zone.proofs.LinkLists.{record_links}
-use Rattle.records.specs.Message.{Message}
+use Rattle.messages.specs.Message.{Message}
 use Rattle.answer_zone.specs.Served.{Group, answer_groups, kept_ancestor, proofs_of, served_of, soa, spelled_as}
 use Rattle.answer_judge.specs.Verified.{verified_links, verified_rrset}
 use Rattle.answer_zone.specs.ZoneView.{IsPublished}
@@ -35,8 +35,8 @@ use Rattle.answer_judge.proofs.GivenSignatures.{verified_rrset_missing}
 use Rattle.answer_judge.proofs.GivenVerdict.{IsAnswered, given_verdict}
 use Rattle.answer_zone.proofs.ZoneAnswers.{exists_from_has, groups_without_name, verdict_without_name}
 use Rattle.answer_zone.proofs.ZoneChains.{next_is, proofs_are}
-use Rattle.records.proofs.Lists.{Has, all_at, eqb-back}
-use Rattle.records.proofs.ZoneNames.{same_labels}
+use Rattle.messages.proofs.Lists.{Has, all_at, eqb-back}
+use Rattle.messages.proofs.ZoneNames.{same_labels}
 
 abbrev Pair : Type 0
 Pair = Name × Name

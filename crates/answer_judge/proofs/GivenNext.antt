@@ -8,10 +8,10 @@ use Rattle.definitions.specs.Name.{Name, IsLabel, wire}
 use Rattle.definitions.specs.Reading.{ReadFault, name_at}
 use Rattle.definitions.proofs.ReadingLaws.{reads_exactly}
 use Rattle.definitions.proofs.SignedLaws.{Labelled, wire_of}
-use Rattle.records.specs.declared.message.MessageError.{MessageError}
-use Rattle.records.specs.Message.{Spelled, canonical_data, data_of, fault_of, fits, if_true, name_in, name_upto, ns_data, nsec_at, nsec_data, owner_at, soa_data}
-use Rattle.records.specs.Message as message
-use Rattle.records.proofs.Lists.{some_is}
+use Rattle.messages.specs.declared.error.MessageError.{MessageError}
+use Rattle.messages.specs.Message.{Spelled, canonical_data, data_of, fault_of, fits, if_true, name_in, name_upto, ns_data, nsec_at, nsec_data, owner_at, soa_data}
+use Rattle.messages.specs.Message as message
+use Rattle.messages.proofs.Lists.{some_is}
 use Rattle.messages.proofs.ReadNames.{labelled, reads_labelled}
 
 abbrev read_ok : Name × ℕ → Result (Name × ℕ) MessageError

@@ -2,7 +2,7 @@
 use Rattle.std.proofs.Common.{◌≡◌, ℕ, Bool, true, false, ◌&&◌, List, [], ◌∷◌, ◌++◌, Option, Some, None, eqb, refl, sym, ap, ◌∙◌, ⊎_elim}
 use Rattle.std.specs.Prelude.{if◌then◌else◌}
 use Rattle.std.specs.List.{cons_option, filter_map, flat_map, list_any}
-use Rattle.records.proofs.ZoneNames.{labels_eq-same, same_labels}
+use Rattle.messages.proofs.ZoneNames.{labels_eq-same, same_labels}
 use Rattle.std.proofs.lemmas.Bool.{and_from, and_parts, eqb-true, and_left, and_right, cases_Bool, eq-eqb, false≢true, or_parts}
 use Rattle.std.proofs.lemmas.List.{append-nil}
 use Rattle.std.proofs.lemmas.List.Elements.{filter_map-append}
@@ -11,10 +11,10 @@ use Rattle.definitions.specs.Dnskey.{Dnskey}
 use Rattle.definitions.specs.Zone.{sorted_data}
 use Rattle.answer_judge.specs.Given.{AreGroups, AreRecords, AreSignatures, IsRecord, IsSignature}
 use Rattle.answer_judge.proofs.GivenGroups.{has_twins, is_rrset}
-use Rattle.records.specs.Message.{Spelled, canonical_data}
+use Rattle.messages.specs.Message.{Spelled, canonical_data}
 use Rattle.answer_zone.specs.Served.{Group}
 use Rattle.answer_judge.specs.Verified.{datum_of, rrset_in}
-use Rattle.records.proofs.Lists.{Has, any_from}
+use Rattle.messages.proofs.Lists.{Has, any_from}
 
 -- ---- one RRset
 

@@ -11,14 +11,14 @@ use Rattle.answer_judge.specs.Facts.{fits_key, is_due, signs}
 use Rattle.answer_judge.specs.Given.{AreGroups, AreSignatures, IsSignature, fields_for, octets_for}
 use Rattle.answer_judge.proofs.GivenGroups.{has_twins, is_rrset}
 use Rattle.answer_judge.specs.Meeting.{holds}
-use Rattle.records.specs.Message.{Spelled, rrsig_at}
+use Rattle.messages.specs.Message.{Spelled, rrsig_at}
 use Rattle.answer_zone.specs.Served.{Group}
 use Rattle.answer_judge.specs.Verified.{Trusting, is_verified, rrset_in, verified_rrset, verifies_with}
 use Rattle.answer_judge.proofs.GivenLists.{has_left, has_right}
 use Rattle.answer_judge.proofs.JudgeCase.{is_verified-owner}
 use Rattle.answer_judge.proofs.GivenRecords.{rrset_given, rrset_missing}
-use Rattle.records.proofs.Lists.{Has, any_from}
-use Rattle.records.proofs.ZoneNames.{labels_eq-same, low-low}
+use Rattle.messages.proofs.Lists.{Has, any_from}
+use Rattle.messages.proofs.ZoneNames.{labels_eq-same, low-low}
 
 -- ---- a signature of each key
 

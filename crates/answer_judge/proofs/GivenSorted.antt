@@ -11,7 +11,7 @@ use Rattle.std.proofs.lemmas.Cmp.{nat_list_cmp_total}
 use Rattle.definitions.proofs.Members.{In, sort_same}
 use Rattle.definitions.specs.Sorting.{put_by, put_all_by, sort_by}
 use Rattle.definitions.specs.Zone.{sorted_data}
-use Rattle.records.proofs.Lists.{Has, all_at, all_more, all_put, all_sorted}
+use Rattle.messages.proofs.Lists.{Has, all_at, all_more, all_put, all_sorted}
 
 -- ---- items
 

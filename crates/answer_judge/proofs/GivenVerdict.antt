@@ -7,7 +7,7 @@ use Rattle.definitions.specs.Dnskey.{Dnskey}
 use Rattle.definitions.specs.Name.{Name, IsLabel, low, same}
 use Rattle.definitions.specs.Zone.{data_at, exists, has, verdict}
 use Rattle.definitions.specs.ZoneChain.{Nsec}
-use Rattle.records.specs.HandedRr.{HandedRr}
+use Rattle.messages.specs.HandedRr.{HandedRr}
 use Rattle.answer_zone.specs.Accepting.{zone_with}
 use Rattle.answer_scheme.specs.Answers.{Answers}
 use Rattle.answer_judge.specs.Facts.{Link, decided, fits_key}
@@ -17,7 +17,7 @@ use Rattle.answer_judge.specs.Judged.{by_facts, judged_answer, trusting}
 use Rattle.answer_judge.specs.Judging.{Handing, Says, is_allowed}
 use Rattle.answer_zone.specs.Links.{link_group}
 use Rattle.answer_judge.specs.Meeting.{holds}
-use Rattle.records.specs.Message.{Message}
+use Rattle.messages.specs.Message.{Message}
 use Rattle.answer_zone.specs.Served.{Group, answer_groups, served_of, soa, spelled_as}
 use Rattle.answer_judge.specs.Verified.{verified_links, verified_rrset}
 use Rattle.answer_zone.specs.GroupView.{rrset_of}
@@ -32,7 +32,7 @@ use Rattle.answer_judge.proofs.DenialTypes.{allowed_plain}
 use Rattle.answer_zone.proofs.ZoneAnswers.{groups_found, groups_without_type, verdict_found, verdict_without_type}
 use Rattle.answer_zone.proofs.ZoneChains.{proofs_are}
 use Rattle.answer_zone.proofs.ZoneData.{label_count-low}
-use Rattle.records.proofs.Lists.{Has, eqb-back}
+use Rattle.messages.proofs.Lists.{Has, eqb-back}
 
 -- an answer of a zone in order, signed by a key that is trusted, whose signatures hold
 pub record IsAnswered (a : Answers) (k : ℕ) (h : Handing) (usable : List Dnskey) (answer : Message) (hash : Name → List ℕ) (rs : List HandedRr) : Type 0 where

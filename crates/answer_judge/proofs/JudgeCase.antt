@@ -11,10 +11,10 @@ use Rattle.definitions.specs.Zone.{sorted_data}
 use Rattle.definitions.specs.Signing.{Fields, in_time, label_count, signed_owner, signed_octets, fields_data, canonical_record}
 use Rattle.answer_scheme.specs.Answers.{Answers}
 use Rattle.answer_judge.specs.Facts.{is_signature, signs, is_due, fits_key}
-use Rattle.records.specs.Message.{Spelled, canonical_data, rrsig_at}
+use Rattle.messages.specs.Message.{Spelled, canonical_data, rrsig_at}
 use Rattle.messages.specs.Record.{Signature, fields_of, fields_read}
 use Rattle.answer_judge.specs.Verified.{Trusting, datum_of, rrset_in, verifies_with, is_verified}
-use Rattle.records.proofs.ZoneNames.{low-low, at_or_above-low}
+use Rattle.messages.proofs.ZoneNames.{low-low, at_or_above-low}
 use Rattle.answer_zone.proofs.ZoneData.{label_count-low}
 
 pub same-owner : (r a b : Name) → low a ≡ low b → same r a ≡ same r b

@@ -1,5 +1,5 @@
 -- How many signatures are tried, by groups as the code has them, is how many are due.
-use Rattle.std.proofs.Common.{◌≡◌, ℕ, zero, suc, ◌+◌, ◌<◌, ◌≤◌, Bool, true, false, not, ◌&&◌, ◌||◌, ◌==◌, List, [], ◌∷◌, ◌++◌, map, length, drop, get_or, refl, sym, ap, ◌∙◌, arith}
+use Rattle.std.proofs.Common.{[], ◌≡◌, ℕ, zero, suc, ◌+◌, ◌<◌, ◌≤◌, Bool, true, false, not, ◌&&◌, ◌||◌, ◌==◌, List, ◌∷◌, ◌++◌, map, length, drop, get_or, refl, sym, ap, ◌∙◌, arith}
 use Rattle.std.specs.Prelude.{Option, Some, None}
 use Rattle.std.specs.Option.{is_some, option_map}
 use Rattle.answer_judge.specs.declared.judge.groups.Signed.{Signed}
@@ -11,9 +11,9 @@ use Rattle.definitions.specs.Name.{Name, labels_eq, low, same}
 use Rattle.definitions.specs.Signing.{Fields, in_time, label_count}
 use Rattle.messages.specs.Record.{Signature, fields_of, fields_read, signature_of, spelled}
 use Rattle.messages.specs.declared.view.ViewRecord.{ViewRecord}
-use Rattle.records.specs.Message.{Spelled, rrsig_at}
-use Rattle.records.proofs.Lists.{items_from, list_any-map}
-use Rattle.records.proofs.ZoneNames.{low-low, same_labels}
+use Rattle.messages.specs.Message.{Spelled, rrsig_at}
+use Rattle.messages.proofs.Lists.{items_from, list_any-map}
+use Rattle.messages.proofs.ZoneNames.{low-low, same_labels}
 use Rattle.answer_judge.specs.Counted.{Sought, can_try, is_tried, one_if, tries, tries_fields}
 use Rattle.answer_judge.specs.Facts.{first_some, fits_key, is_due, is_signature}
 use Rattle.answer_judge.specs.Marked.{are_apart, data_in, is_like, is_of, is_tried_in, marked, or_first, signed_of, tries_group, tries_in}
@@ -24,10 +24,6 @@ use Rattle.answer_judge.proofs.JudgeMarks.{any_at, marked_done, marked_is, none_
 use Rattle.answer_judge.proofs.JudgeTried.{both_of}
 
 -- ---- tests of two parts
-
-both_shut : (a b : Bool) → b ≡ false → (a && b) ≡ false
-both_shut true b h = h
-both_shut false b h = refl
 
 none_of : (p c : Group → Bool) (gs : List Group) → list_any p gs ≡ false → list_any (λ g. p g && c g) gs ≡ false
 none_of p c [] h = refl

@@ -8,11 +8,11 @@ use Rattle.definitions.specs.Name.{Name, low, same, at_or_above}
 use Rattle.definitions.specs.Limits.{pointer_limit}
 use Rattle.answer_judge.specs.declared.judge.groups.Group.{Group}
 use Rattle.answer_judge.specs.Facts.{Link}
-use Rattle.records.specs.Message.{Spelled, if_true}
+use Rattle.messages.specs.Message.{Spelled, if_true}
 use Rattle.answer_judge.specs.Verified.{Trusting, rrset_in, is_verified, verified_rrset, link_of, link_at, verified_links}
 use Rattle.answer_judge.specs.Marked.{data_in, has_owner, is_proved, is_like, are_apart, is_nsec, stands_alone, marked, IsAlone, IsGathered, AreGathered, link_by, data_verified}
-use Rattle.records.proofs.ZoneNames.{same_labels}
-use Rattle.records.proofs.Lists.{found, any_from, all_at, list_any-map}
+use Rattle.messages.proofs.ZoneNames.{same_labels}
+use Rattle.messages.proofs.Lists.{found, any_from, all_at, list_any-map}
 use Rattle.answer_judge.proofs.JudgeCase.{above-owner, rrset_in-owner, is_verified-owner}
 use Rattle.answer_judge.proofs.JudgeGathered.{apart_push}
 use Rattle.answer_judge.proofs.JudgeMarks.{marked_is}

@@ -6,11 +6,11 @@ use Rattle.std.proofs.lemmas.List.{map-append}
 use Rattle.definitions.specs.Name.{Name, low, same}
 use Rattle.answer_judge.specs.declared.judge.groups.Group.{Group}
 use Rattle.messages.specs.declared.view.ViewRecord.{ViewRecord}
-use Rattle.records.specs.Message.{Spelled}
+use Rattle.messages.specs.Message.{Spelled}
 use Rattle.messages.specs.Record.{spelled}
 use Rattle.answer_judge.specs.Marked.{has_owner, is_like, are_apart, IsAlone, IsGathered, AreGathered}
-use Rattle.records.proofs.ZoneNames.{same_labels, labels_eq-same}
-use Rattle.records.proofs.Lists.{all_more, take_next}
+use Rattle.messages.proofs.ZoneNames.{same_labels, labels_eq-same}
+use Rattle.messages.proofs.Lists.{all_more, take_next}
 use Rattle.answer_judge.proofs.JudgeMarks.{or_true, none_like}
 
 any_push : {X : Type 0} (p : X → Bool) (xs : List X) (x : X) → p x ≡ true → list_any p (xs ++ x ∷ []) ≡ true

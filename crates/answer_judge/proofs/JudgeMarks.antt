@@ -7,12 +7,12 @@ use Rattle.std.specs.Prelude.{◌==◌, Option, Some, None, is_some}
 use Rattle.std.specs.Option.{option_map}
 use Rattle.definitions.specs.Name.{Name, same}
 use Rattle.definitions.specs.Signing.{Fields}
-use Rattle.records.specs.Message.{Spelled, rrsig_at}
+use Rattle.messages.specs.Message.{Spelled, rrsig_at}
 use Rattle.answer_judge.specs.Facts.{is_signature, signs}
 use Rattle.answer_judge.specs.declared.judge.groups.Signed.{Signed}
 use Rattle.answer_judge.specs.Verified.{Trusting, is_verified, verifies_with, verified_by, verified_with}
 use Rattle.answer_judge.specs.Marked.{data_in, is_like, are_apart, marked_if, marked, or_first, signed_of}
-use Rattle.records.proofs.Lists.{list_any-map}
+use Rattle.messages.proofs.Lists.{list_any-map}
 use Rattle.definitions.specs.Limits.{pointer_limit}
 
 -- the item at a place

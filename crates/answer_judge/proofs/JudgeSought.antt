@@ -8,9 +8,9 @@ use Rattle.definitions.specs.Limits.{pointer_limit}
 use Rattle.definitions.specs.Dnskey.{Dnskey, dnskey_data}
 use Rattle.definitions.specs.Name.{Name, low, same}
 use Rattle.definitions.specs.Zone.{sorted_data}
-use Rattle.records.specs.Message.{Spelled, canonical_data}
-use Rattle.records.proofs.Lists.{Has, all_at, any_from, found}
-use Rattle.records.proofs.ZoneNames.{labels_eq-same, same_labels}
+use Rattle.messages.specs.Message.{Spelled, canonical_data}
+use Rattle.messages.proofs.Lists.{Has, all_at, any_from, found}
+use Rattle.messages.proofs.ZoneNames.{labels_eq-same, same_labels}
 use Rattle.answer_judge.specs.Counted.{answer_sought, is_alone, keys_sought}
 use Rattle.answer_judge.specs.Marked.{AreGathered, IsAlone, data_in, has_owner, is_of, stands_alone}
 use Rattle.answer_judge.specs.Verified.{datum_of, rrset_in}

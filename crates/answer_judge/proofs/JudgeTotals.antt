@@ -3,7 +3,7 @@ use Rattle.std.proofs.Common.{◌≡◌, ℕ, ◌+◌, true, false, List, [], fi
 use Rattle.std.specs.Prelude.{Some, None, Ok, Err}
 use Rattle.definitions.specs.Dnskey.{Dnskey}
 use Rattle.definitions.specs.Limits.{pointer_limit}
-use Rattle.records.specs.Message.{Message, Spelled, message}
+use Rattle.messages.specs.Message.{Message, Spelled, message}
 use Rattle.answer_scheme.specs.Answers.{Answers}
 use Rattle.answer_judge.specs.Counted.{answer_sought, answer_tries, key_tries, keys_sought, tries, tries_beyond, tries_in_bytes, tries_in_messages}
 use Rattle.answer_judge.specs.Facts.{is_trusted, is_usable}

@@ -14,12 +14,12 @@ use Rattle.answer_judge.specs.Facts.{is_signature, signs}
 use Rattle.messages.specs.Record.{Signature, fields_read, signature_of, spelled}
 use Rattle.messages.specs.declared.view.ViewRecord.{ViewRecord}
 use Rattle.std.proofs.lemmas.List.{drop_all}
-use Rattle.records.proofs.Lists.{items_from}
+use Rattle.messages.proofs.Lists.{items_from}
 use Rattle.answer_judge.proofs.JudgeCase.{signs-signer}
-use Rattle.records.specs.Message.{Spelled, if_true, rrsig_at}
+use Rattle.messages.specs.Message.{Spelled, if_true, rrsig_at}
 use Rattle.answer_judge.specs.Verified.{Trusting, is_verified, verified_by, verifies_with}
 use Rattle.answer_judge.specs.Marked.{data_in, is_of, is_like, are_apart, marked_if, marked, or_first, signed_of}
-use Rattle.records.proofs.ZoneNames.{same_labels, labels_eq-same}
+use Rattle.messages.proofs.ZoneNames.{same_labels, labels_eq-same}
 use Rattle.answer_judge.proofs.JudgeMarks.{or_no, or_rest, unmarked, unmarked_by, marked_at, marked_next, marked_done, marked_apart}
 
 gate_class : (a s x : Bool) → elim (a && false && s) as (λ _. Bool) [ false ↦ false | true ↦ x ] ≡ false

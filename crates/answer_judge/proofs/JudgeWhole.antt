@@ -1,6 +1,5 @@
 -- What a judge says, from what it read and verified.
-use Rattle.std.proofs.Common.{◌≡◌, ℕ, Bool, true, false, not, ◌&&◌, List, map, filter, length, inr, sym, ap, subst, ◌∙◌}
-use Rattle.std.proofs.lemmas.Bool.{false≢true}
+use Rattle.std.proofs.Common.{◌≡◌, ℕ, Bool, true, false, not, List, map, filter, length, inr, sym, ap, subst, ◌∙◌}
 use Rattle.std.specs.Prelude.{Option, Some, None, Ok, Err, nat_eq, if◌then◌else◌}
 use Rattle.std.specs.Option.{option_map, ok_or}
 use Rattle.definitions.specs.Dnskey.{Dnskey, dnskey_data}
@@ -11,8 +10,8 @@ use Rattle.answer_judge.specs.Facts.{Link, is_usable, is_trusted, decided, Refus
 use Rattle.answer_judge.specs.declared.judge.verdict.Verdict.{Verdict as CodeVerdict}
 use Rattle.answer_judge.specs.declared.judge.verdict.Refusal.{Refusal}
 use Rattle.answer_judge.specs.declared.judge.verdict.Refusal.TheVariants as r
-use Rattle.answer_judge.specs.Judging.{Answer, Refuses, Handing, is_allowed, same_question, has_equal_tags, first_refusal, message_refusal, keys_in, verdict_of, AnswersFirst, IsRead}
-use Rattle.records.specs.Message.{Message, Spelled, message}
+use Rattle.answer_judge.specs.Judging.{Answer, Refuses, Handing, is_allowed, first_refusal, message_refusal, keys_in, verdict_of, AnswersFirst}
+use Rattle.messages.specs.Message.{Message, Spelled, message}
 use Rattle.answer_judge.specs.Verified.{is_verified, verified_rrset, verified_links}
 use Rattle.answer_judge.specs.Judged.{trusting, keys_of, is_chained, by_facts, judged_answer, judged_messages, judged_bytes, judged_beyond, said, AnswersAs}
 
@@ -24,10 +23,6 @@ beyond a k h keys answer d z none =
       | Err e ↦ Refuses r.BadDnskeyMessage
       | Ok keys ↦ elim (z i) as (λ _. Answer) [ Err e ↦ Refuses r.BadAnswerMessage | Ok answer ↦ judged_messages a k h keys answer ]
     ])
-
--- a first refusal
-pub refused_first : (a : Answers) (k : ℕ) (h : Handing) (e : Refusal) → message_refusal k h ≡ Some e → AnswersAs (Refuses e) (judged_beyond a k h)
-refused_first a k h e first = inr (sym (ap (λ o. elim o as (λ _. Answer) [ Some e ↦ Refuses e | None ↦ judged_bytes a k h ]) first))
 
 -- the keys are signed, or not, as was found out
 pub chained_as : (a : Answers) (h : Handing) (keys : Message) (rs : List Spelled) (ks trusted : List Dnskey) (b : Bool) → rs ≡ keys.records → ks ≡ keys_in h.dnskey_bytes h.apex rs → trusted ≡ filter (is_trusted a h.apex h.ds) ks
@@ -62,28 +57,6 @@ answered None e h = inr h
 answered (Some v) e h = inr h
 
 -- ---- first refusals
-
--- both messages were read and ask what they should
-tags_alone : (a b : Bool) → a ≡ false → IsRead (if a then Some r.QuestionMismatch else if b then Some r.EqualTags else None)
-tags_alone true b h = absurd (false≢true (sym h))
-tags_alone false true h = tt
-tags_alone false false h = tt
-
-asked_both : (a b : Bool) → a ≡ true → b ≡ true → not (a && b) ≡ false
-asked_both a b h k = λ i. not (h i && k i)
-
-pub read_both : (k : ℕ) (h : Handing) (keys answer : Message) → message k h.dnskey_bytes ≡ Ok keys → message k h.answer_bytes ≡ Ok answer
-    → same_question keys.asked (record { name = h.apex; rtype = 48; class = 1 }) ≡ true → same_question answer.asked h.asked ≡ true → IsRead (message_refusal k h)
-read_both k h keys answer d z asks_keys asks_answer =
-    let asked : Message → Message → Option Refusal = λ keys answer.
-    if not (same_question keys.asked (record { name = h.apex; rtype = 48; class = 1 }) && same_question answer.asked h.asked) then Some r.QuestionMismatch
-    else if has_equal_tags (keys_in h.dnskey_bytes h.apex keys.records) then Some r.EqualTags
-    else None in
-    let is : message_refusal k h ≡ asked keys answer = λ i. elim (d i) as (λ _. Option Refusal) [
-      | Err e ↦ Some r.BadDnskeyMessage
-      | Ok keys ↦ elim (z i) as (λ _. Option Refusal) [ Err e ↦ Some r.BadAnswerMessage | Ok answer ↦ asked keys answer ]
-    ] in
-    subst IsRead (sym is) (tags_alone _ (has_equal_tags (keys_in h.dnskey_bytes h.apex keys.records)) (asked_both _ _ asks_keys asks_answer))
 
 -- beside a question that is allowed and a DS set that isn't empty
 first_kept : (e : Refusal) (m : Option Refusal) → RefusesFirst e m → AnswersFirst (Refuses e) m

@@ -6,7 +6,7 @@ use Rattle.definitions.specs.Name.{Name, same, at_or_above}
 use Rattle.definitions.specs.Dnskey.{Dnskey, dnskey_data}
 use Rattle.definitions.specs.Signing.{Fields}
 use Rattle.definitions.specs.Zone.{sorted_data}
-use Rattle.records.specs.Message.{Message, Spelled, message, rrsig_at}
+use Rattle.messages.specs.Message.{Message, Spelled, message, rrsig_at}
 use Rattle.answer_scheme.specs.Answers.{Answers}
 use Rattle.answer_judge.specs.Facts.{fits_key, is_due, is_signature, is_trusted, is_usable}
 use Rattle.answer_judge.specs.Judged.{is_chained, keys_of, trusting}

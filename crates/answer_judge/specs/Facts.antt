@@ -12,7 +12,7 @@ use Rattle.answer_scheme.specs.Answers.{Answers}
 use Rattle.answer_judge.specs.declared.judge.verdict.Refusal.{Refusal}
 use Rattle.answer_judge.specs.declared.judge.verdict.Refusal.TheVariants as r
 use Rattle.answer_judge.specs.Judging.{Handing, IsRead, is_first}
-use Rattle.records.specs.Message.{Spelled, Asked}
+use Rattle.messages.specs.Message.{Spelled, Asked}
 
 -- ---- keys
 

@@ -3,7 +3,7 @@ use Rattle.std.specs.Prelude.{◌≡◌, ℕ, Bool, true, false, List, ◌∷◌
 use Rattle.definitions.specs.Limits.{pointer_limit}
 use Rattle.definitions.specs.Name.{Name}
 use Rattle.definitions.specs.Signing.{Fields}
-use Rattle.records.specs.Message.{Spelled, rrsig_at}
+use Rattle.messages.specs.Message.{Spelled, rrsig_at}
 use Rattle.answer_judge.specs.Facts.{is_due, is_signature, signs}
 use Rattle.answer_judge.specs.Verified.{Trusting, is_verified, verified_by}
 

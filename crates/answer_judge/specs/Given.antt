@@ -5,8 +5,8 @@ use Rattle.definitions.specs.Name.{Name, low}
 use Rattle.definitions.specs.Dnskey.{Dnskey}
 use Rattle.definitions.specs.Signing.{Fields, lowered_signer, signed_octets}
 use Rattle.definitions.specs.Zone.{apex_of}
-use Rattle.records.specs.Written.{Written}
-use Rattle.records.specs.Message.{Message, Asked, Spelled, message, canonical_data, rrsig_at}
+use Rattle.messages.specs.Written.{Written}
+use Rattle.messages.specs.Message.{Message, Asked, Spelled, message, canonical_data, rrsig_at}
 use Rattle.answer_zone.specs.GroupView.{fields_of, view_of}
 use Rattle.answer_zone.specs.Served.{Served, Group, answer_groups, key_group, by_tag}
 

@@ -8,7 +8,7 @@ use Rattle.answer_judge.specs.declared.judge.verdict.Verdict.{Verdict as CodeVer
 use Rattle.answer_judge.specs.declared.judge.verdict.Refusal.{Refusal}
 use Rattle.answer_judge.specs.declared.judge.verdict.Refusal.TheVariants as r
 use Rattle.answer_judge.specs.Judging.{Answer, Says, Refuses, Handing, first_refusal, message_refusal, keys_in, verdict_of}
-use Rattle.records.specs.Message.{Message, message}
+use Rattle.messages.specs.Message.{Message, message}
 use Rattle.answer_judge.specs.Verified.{Trusting, is_verified, verified_rrset, verified_links}
 
 -- some keys of the apex at the moment

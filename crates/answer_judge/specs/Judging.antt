@@ -4,8 +4,8 @@ use Rattle.std.specs.List.{list_any, filter_map}
 use Rattle.definitions.specs.Name.{Name, same, at_or_above}
 use Rattle.definitions.specs.Dnskey.{Dnskey, Ds, key_tag, same_key, dnskey_of_data}
 use Rattle.definitions.specs.Zone.{Verdict, Records, NoType, NoName, StarRecords, StarNoType, Delegated, Open, Unsigned}
-use Rattle.records.specs.HandedRr.{among}
-use Rattle.records.specs.Message.{Spelled, Asked, message, data_of}
+use Rattle.messages.specs.HandedRr.{among}
+use Rattle.messages.specs.Message.{Spelled, Asked, message, data_of}
 use Rattle.answer_judge.specs.declared.judge.verdict.Verdict.{Verdict as CodeVerdict}
 use Rattle.answer_judge.specs.declared.judge.verdict.Verdict.TheVariants as v
 use Rattle.answer_judge.specs.declared.judge.verdict.Refusal.{Refusal}

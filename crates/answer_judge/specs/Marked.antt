@@ -7,7 +7,7 @@ use Rattle.answer_scheme.specs.Answers.{Answers}
 use Rattle.answer_judge.specs.Counted.{can_try, one_if}
 use Rattle.definitions.specs.Signing.{Fields}
 use Rattle.answer_judge.specs.Facts.{Link, is_signature, signs}
-use Rattle.records.specs.Message.{Spelled, if_true, rrsig_at}
+use Rattle.messages.specs.Message.{Spelled, if_true, rrsig_at}
 use Rattle.answer_judge.specs.Verified.{Trusting, verified_by, rrset_in, link_of}
 use Rattle.answer_judge.specs.declared.judge.groups.Signed.{Signed}
 use Rattle.std.specs.Option.{option_map}

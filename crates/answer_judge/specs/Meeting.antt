@@ -6,12 +6,12 @@ use Rattle.definitions.specs.Dnskey.{Dnskey, Ds, key_tag, digested}
 use Rattle.definitions.specs.Serial.{serial_le}
 use Rattle.definitions.specs.Zone.{verdict}
 use Rattle.definitions.specs.ZoneChain.{Nsec}
-use Rattle.records.specs.HandedRr.{HandedRr}
+use Rattle.messages.specs.HandedRr.{HandedRr}
 use Rattle.answer_zone.specs.Accepting.{IsAccepted, sorted_records, zone_of}
 use Rattle.answer_scheme.specs.Answers.{Answers}
 use Rattle.answer_judge.specs.Facts.{is_usable}
 use Rattle.answer_judge.specs.Given.{GivesKeys, GivesAnswer}
-use Rattle.records.specs.Handed.{IsHanded}
+use Rattle.messages.specs.Handed.{IsHanded}
 use Rattle.answer_judge.specs.Judging.{Answer, Says, Handing, Judges, answer_of, verifications_of, hashes_of, is_allowed, has_equal_tags}
 use Rattle.answer_judge.specs.declared.judge.verdict.Judgement.{Judgement}
 use Rattle.answer_judge.specs.declared.judge.verdict.Refused.{Refused}

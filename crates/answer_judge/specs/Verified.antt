@@ -8,7 +8,7 @@ use Rattle.definitions.specs.Zone.{sorted_data}
 use Rattle.answer_scheme.specs.Answers.{Answers}
 use Rattle.answer_judge.specs.Facts.{Link, first_some, is_signature, signs}
 use Rattle.definitions.specs.Signing.{Fields}
-use Rattle.records.specs.Message.{Spelled, canonical_data, rrsig_at, nsec_at}
+use Rattle.messages.specs.Message.{Spelled, canonical_data, rrsig_at, nsec_at}
 
 -- the canonical data of a record of an owner, up to case, and a type, class IN
 abbrev pub datum_of : ℕ → List ℕ → Name → ℕ → Spelled → Option (List ℕ)

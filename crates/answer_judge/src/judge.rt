@@ -8,8 +8,8 @@ ghost use Rattle.messages.specs.Record.{spelled};
 ghost use Rattle.answer_judge.specs.Counted.{Counts, keys_sought, tries, tries_beyond, verifications_due};
 ghost use Rattle.answer_judge.specs.Verified.{is_verified};
 ghost use Rattle.answer_judge.specs.Marked.{held_by};
-ghost use Rattle.records.specs.Message.{Asked, message};
-ghost use Rattle.records.specs.View.{Gives};
+ghost use Rattle.messages.specs.Message.{Asked, message};
+ghost use Rattle.messages.specs.View.{Gives};
 ghost use Rattle.answer_judge.specs.Facts.{is_signature, RefusesFirst, handed};
 ghost use Rattle.answer_judge.specs.Judged.{judged, judged_beyond, said, AnswersAs};
 ghost use Rattle.answer_judge.specs.Meeting.{AnswersGiven};
@@ -28,15 +28,15 @@ use crate::judge::groups::{Group, Trust, verify_groups};
 use crate::judge::keys::{TaggedKey, has_equal_tags, read_keys, trusted_keys, usable_keys};
 use crate::judge::verdict::{Judgement, Refusal, Refused, Verdict};
 use answer_scheme::checks::Checks;
+use answer_zone::dnskey::ZoneKey;
+use answer_zone::ranked::put_data;
 use denial_data::Ds;
+use messages::error::MessageError;
+use messages::names::{Name, ToName, cow_name, is_at_or_above};
 use messages::question::Question;
 use messages::{MessageView, ViewRecord, read_message};
 use names_data::rtype::Rtype;
 use plain::numbers::Class;
-use records::message::MessageError;
-use records::names::{Name, ParsedName, ToName, ZoneName};
-use signed_data::dnskey::ZoneKey;
-use signed_data::ranked::put_data;
 use std::alloc::{AllocError, Global};
 
 /// Judges what a zone says of a question, from a DS set, a DNSKEY answer and a zone answer (RFC 4035, 5). The
@@ -117,7 +117,7 @@ pub fn is_allowed(apex: &Name<Vec<u8>>, question: &Question) -> bool
     ensures { result ≡ is_allowed apex.now (asked_of question.now) }
 {
     question.class == Class::IN
-        && question.name.is_at_or_below(apex)
+        && is_at_or_above(apex, &question.name)
         && !matches!(
             question.rtype.to_int(),
             46 | 47 | 48 | 50 | 51 | 5 | 39 | 0 | 41 | 128..=255
@@ -267,7 +267,11 @@ fn records_of<'a>(alloc: Global, view: &MessageView<'a>) -> Result<Vec<ViewRecor
 }
 
 /// The RRset of the keys at the apex.
-fn key_group(alloc: Global, apex: &Name<Vec<u8>>, keys: &[TaggedKey]) -> Result<Group, AllocError>
+fn key_group<'a>(
+    alloc: Global,
+    apex: &'a Name<Vec<u8>>,
+    keys: &[TaggedKey],
+) -> Result<Group<'a>, AllocError>
     ensures owner { IfOk result (λ g. g.owner ≡ apex.now) }
     ensures rtype { IfOk result (λ g. g.rtype ≡ 48) }
     ensures items { IfOk result
@@ -282,7 +286,7 @@ fn key_group(alloc: Global, apex: &Name<Vec<u8>>, keys: &[TaggedKey]) -> Result<
         put_data(&mut items, item)?;
     }
     Ok(Group {
-        owner: apex.try_clone(alloc)?,
+        owner: cow_name(alloc, apex)?,
         rtype: Rtype::DNSKEY,
         items,
         verified: None,

@@ -15,7 +15,7 @@ use Rattle.answer_publisher.specs.Bindings.{Add, BoundKey, Call, Finish, Outcome
 use Rattle.answer_publisher.specs.Bindings as bindings
 use Rattle.keyset.specs.KeyState.{Answer, DuplicateKeyTag, Key, KeyExists, KeySetState, Reference, add, added, has_tag, key_of, new_key, reference_cmp}
 use Rattle.keyset.proofs.KeyTagsCalls.{LeavesTags, TagsFrom, done_tags, report1_tags, report2_tags, start_tags, wait1_tags, wait2_tags}
-use Rattle.records.proofs.Lists.{some_is}
+use Rattle.messages.proofs.Lists.{some_is}
 
 -- references rise; no two keys have one tag; each key's reference is bound to a DNSKEY of its tag
 pub record HasOwnTags (s : ZoneKeys) : Type 0 where

@@ -18,7 +18,7 @@ use Rattle.answer_judge.specs.Judging.{clashes, has_equal_tags}
 use Rattle.keyset.specs.KeyState.{Key, Reference, key_of, reference_cmp}
 use Rattle.answer_publisher.specs.KeyTags.{PublishedTagsDiffer, PublishedTagsPass, behind, left}
 use Rattle.answer_publisher.proofs.KeyTags.{HasOwnTags, LeavesOwn, apply_own, none_own}
-use Rattle.records.proofs.Lists.{Has, found, some_is}
+use Rattle.messages.proofs.Lists.{Has, found, some_is}
 
 -- ---- entries in order
 

@@ -1,5 +1,5 @@
 -- Why answers are not written.
-use Rattle.std.proofs.Common.{◌≡◌, ℕ, ◌+◌, ◌<◌, ◌≤◌, Bool, true, List, [], ◌∷◌, ◌++◌, Option, Result, Ok, Err, map, length, take, drop, get_or, refl, sym, ap, subst, ◌∙◌, append_assoc, length-append, arith, zero, suc}
+use Rattle.std.proofs.Common.{[], ◌≡◌, ℕ, ◌+◌, ◌<◌, ◌≤◌, Bool, true, List, ◌∷◌, ◌++◌, Option, Result, Ok, Err, map, length, take, drop, get_or, refl, sym, ap, subst, ◌∙◌, append_assoc, length-append, arith, zero, suc}
 use Rattle.std.specs.Prelude.{Contains, if◌then◌else◌}
 use Rattle.std.specs.List.{AllZip, flat_map}
 use Rattle.std.proofs.lemmas.Grind.{flat_map-append}
@@ -18,13 +18,13 @@ use Rattle.answer_publisher.specs.AnswerFaults.{fault_of}
 use Rattle.answer_publisher.specs.Answering.{RefusesAnswer, RefusesKeys, ahead_of_records}
 use Rattle.answer_publisher.specs.Composed.{HasRoom, IsSection, IsTooLong, IsWritten, RefusesGroups, RefusesRecords, joined, rrsig_of}
 use Rattle.answer_zone.specs.GroupView.{FailsFor, GroupView, IsRrsigData, Presents}
-use Rattle.records.specs.Message.{Asked}
+use Rattle.messages.specs.Message.{Asked}
 use Rattle.answer_zone.specs.Served.{Served, answer_groups, key_group}
-use Rattle.records.specs.Written.{Written, header_octets, question_octets, record_octets}
+use Rattle.messages.specs.Written.{Written, header_octets, question_octets, record_octets}
 use Rattle.messages.proofs.MessageWritten.{record_parts, wire-length}
-use Rattle.records.proofs.NameLaws.{wire_len-some}
+use Rattle.messages.proofs.NameLaws.{wire_len-some}
 use Rattle.answer_publisher.proofs.SignAnswer.{section_more}
-use Rattle.records.proofs.Lists.{zip_append}
+use Rattle.messages.proofs.Lists.{zip_append}
 
 pub length_record : (r : Written) → length (record_octets r) ≡ wire_len r.owner + 10 + length r.octets
 length_record r =
@@ -49,14 +49,8 @@ room_more old new c d w e n h = omega (arith, ap length e, length-append old (re
 one_record : (old : List ℕ) (w : Written) → length (old ++ flat_map record_octets (w ∷ [])) ≡ length old + length (record_octets w)
 one_record old w = length-append old (record_octets w ++ []) ∙ ap (λ x. length old + length x) (append-nil (record_octets w))
 
-pub full_count : (old : List ℕ) (c : ℕ) (w : Written) → 65535 ≤ c → HasRoom old c → 65535 < length (old ++ flat_map record_octets (w ∷ []))
-full_count old c w h room = omega (arith, one_record old w)
-
 pub long_data : (old : List ℕ) (w : Written) → 65535 < length w.octets → 65535 < length (old ++ flat_map record_octets (w ∷ []))
 long_data old w h = omega (arith, one_record old w, length_record w)
-
-pub records_memory : (old : List ℕ) (c : ℕ) (ws : List Written) (f : AnswerFault) → f ≡ fault.Memory → RefusesRecords old c ws f
-records_memory old c ws f e = subst (RefusesRecords old c ws) (sym e) tt
 
 part_length : {V : Type 0} (f : V → List ℕ) (vs : List V) (i : ℕ) (v : V) → i < length vs → v ≡ get_or vs i v → length (flat_map f (take i vs)) + length (f v) ≤ length (flat_map f vs)
 part_length f [] i v h e = absurd (omega arith)
@@ -89,9 +83,6 @@ pub signing_refused : (sign : Dnskey → List ℕ → Option (List ℕ)) (verifi
 signing_refused sign verifies apex at life keys more gs i g error.Failed f inside is e h =
     let p = h refl in subst (RefusesGroups sign verifies apex at life keys more gs) (sym e) (g, contains_at gs i g inside is, p.0, p.1)
 signing_refused sign verifies apex at life keys more gs i g error.Memory f inside is e h = subst (RefusesGroups sign verifies apex at life keys more gs) (sym e) tt
-
-pub groups_memory : (sign : Dnskey → List ℕ → Option (List ℕ)) (verifies : Dnskey → List ℕ → List ℕ → Bool) (apex : Name) (at life : ℕ) (keys : List Dnskey) (more : ℕ) (gs : List GroupView) (f : AnswerFault) → f ≡ fault.Memory → RefusesGroups sign verifies apex at life keys more gs f
-groups_memory sign verifies apex at life keys more gs f e = subst (RefusesGroups sign verifies apex at life keys more gs) (sym e) tt
 
 pub if_err_map : {T E : Type 0} (P Q : E → Type 0) (r : Result T E) → ((e : E) → P e → Q e) → IfErr r P → IfErr r Q
 if_err_map P Q (Ok x) f h = tt

@@ -1,15 +1,14 @@
 -- Answers that are written RRset by RRset.
-use Rattle.std.proofs.Common.{◌≡◌, ℕ, ◌+◌, ◌<◌, ◌≤◌, Bool, List, [], ◌∷◌, ◌++◌, Option, length, take, map, get_or, refl, ap, ◌∙◌, sym, append_assoc, length-append, arith}
+use Rattle.std.proofs.Common.{[], ◌≡◌, ℕ, ◌+◌, ◌<◌, Bool, List, ◌∷◌, ◌++◌, Option, length, take, map, get_or, refl, ap, ◌∙◌, sym, append_assoc, length-append, arith}
 use Rattle.std.specs.Prelude.{if◌then◌else◌}
 use Rattle.std.specs.List.{AllZip, flat_map}
 use Rattle.std.proofs.lemmas.List.{append-nil, length-map}
 use Rattle.std.proofs.lemmas.Grind.{flat_map-append}
 use Rattle.definitions.specs.Name.{Name}
 use Rattle.definitions.specs.Dnskey.{Dnskey}
-use Rattle.records.specs.Message.{Asked}
-use Rattle.records.specs.Written.{Written, header_octets, question_octets, record_octets}
+use Rattle.messages.specs.Written.{Written, record_octets}
 use Rattle.answer_zone.specs.GroupView.{GroupView, IsRrsigData}
-use Rattle.answer_publisher.specs.Composed.{IsAnswer, IsSection, IsWritten, joined, rrsig_of}
+use Rattle.answer_publisher.specs.Composed.{IsSection, IsWritten, joined, rrsig_of}
 use Rattle.answer_zone.proofs.SignMade.{AllZip-next}
 
 -- one RRset more
@@ -48,24 +47,3 @@ section_more sign verifies apex at life keys gs i g own datas o o' o'' c c' c'' 
         count_more before.0 a b c c' c'' (length own) (length datas) before.1.2 counted counted_too la lb,
       ),
     )
-
--- two sections behind a header and a question
-pub answer_written : (sign : Dnskey → List ℕ → Option (List ℕ)) (verifies : Dnskey → List ℕ → List ℕ → Bool) (apex : Name) (at life : ℕ) (keys : List Dnskey) (flags : ℕ) (asked : Asked) (answer authority : List GroupView) (o p start head question first all : List ℕ) (n m : ℕ)
-    → IsSection sign verifies apex at life keys answer o n → IsSection sign verifies apex at life keys authority p m
-    → start ≡ [] → head ≡ start ++ header_octets flags n m → question ≡ head ++ question_octets asked.name asked.rtype asked.class
-    → first ≡ question ++ o → all ≡ first ++ p → length all ≤ 65535
-    → IsAnswer sign verifies apex at life keys flags asked answer authority all
-answer_written sign verifies apex at life keys flags asked answer authority o p start head question first all n m s t empty h q f a short =
-    let asks = question_octets asked.name asked.rtype asked.class in
-    let begun : head ≡ header_octets flags (length (joined s.0)) (length (joined t.0)) =
-    h ∙ ap (λ x. x ++ header_octets flags n m) empty ∙ ap (λ k. header_octets flags k m) s.1.2 ∙ ap (λ k. header_octets flags (length (joined s.0)) k) t.1.2 in
-    record {
-      answers = s.0;
-      authorities = t.0;
-      answers_are = s.1.0;
-      authorities_are = t.1.0;
-      octets_are = a ∙ ap (λ x. x ++ p) (f ∙ ap (λ x. x ++ o) (q ∙ ap (λ x. x ++ asks) begun))
-          ∙ ap (λ x. ((header_octets flags (length (joined s.0)) (length (joined t.0)) ++ asks) ++ x) ++ p) s.1.1
-          ∙ ap (λ x. ((header_octets flags (length (joined s.0)) (length (joined t.0)) ++ asks) ++ flat_map record_octets (joined s.0)) ++ x) t.1.1;
-      short = short;
-    }

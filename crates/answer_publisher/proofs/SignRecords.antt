@@ -3,7 +3,7 @@ use Rattle.std.proofs.Common.{◌≡◌, ℕ, List, ◌++◌, length, take, map,
 use Rattle.std.specs.List.{flat_map}
 use Rattle.std.proofs.Math.Seq.{take-length}
 use Rattle.std.proofs.lemmas.List.Folds.{flat_map-map}
-use Rattle.records.specs.Written.{Written, record_octets}
+use Rattle.messages.specs.Written.{Written, record_octets}
 
 -- all records were written
 pub records_written : {X : Type 0} (f : X → Written) (xs : List X) (i : ℕ) (old new : List ℕ) → new ≡ old ++ flat_map (λ v. record_octets (f v)) (take i xs) → i ≡ length xs → new ≡ old ++ flat_map record_octets (map f xs)

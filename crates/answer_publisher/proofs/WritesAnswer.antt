@@ -5,17 +5,17 @@ use Rattle.std.proofs.lemmas.List.Concat.{flat_map-append}
 use Rattle.definitions.specs.Limits.{pointer_limit}
 use Rattle.definitions.specs.Name.{Name, IsName}
 use Rattle.definitions.specs.Dnskey.{Dnskey}
-use Rattle.records.specs.Message.{Asked}
+use Rattle.messages.specs.Message.{Asked}
 use Rattle.answer_zone.specs.Served.{Group}
 use Rattle.answer_judge.specs.Given.{AreGroups, Gives}
 use Rattle.answer_zone.specs.GroupView.{GroupView, Presents, view_of}
 use Rattle.answer_publisher.specs.Composed.{IsAnswer, IsWritten, joined}
-use Rattle.records.specs.Written.{Written, record_octets}
+use Rattle.messages.specs.Written.{Written, record_octets}
 use Rattle.messages.specs.WrittenLaws.{IsQuestion, IsRecord, first_place, spelled_from}
 use Rattle.messages.proofs.MessageWhole.{message_here, records_stand}
 use Rattle.messages.proofs.MessageWritten.{StandsAt}
 use Rattle.answer_publisher.proofs.WritesGroups.{IsFormed, all_hold, all_records, are_groups, count_of}
-use Rattle.records.proofs.Lists.{zip_append}
+use Rattle.messages.proofs.Lists.{zip_append}
 
 presented : (v : GroupView) (g : Group) → Presents v g → v ≡ view_of g
 presented v g p = λ i. record { owner = p.owner_is i; labels = p.labels_are i; rtype = p.rtype_is i; ttl = p.ttl_is i; written = p.written_is i; canonical = p.canonical_is i; signed = p.signed_is i }

@@ -6,12 +6,12 @@ use Rattle.std.proofs.lemmas.Bool.{or_parts}
 use Rattle.definitions.specs.Name.{Name, IsName, wire}
 use Rattle.definitions.specs.Bitmap.{is_bitmap}
 use Rattle.definitions.specs.Limits.{pointer_limit}
-use Rattle.records.specs.HandedRr.{HandedRr, is_meta}
-use Rattle.records.specs.Handed.{IsHanded, SpellsNs, SpellsSoa}
-use Rattle.records.specs.Message.{Spelled, behind, data_of, ns_data, soa_data, nsec_data}
+use Rattle.messages.specs.HandedRr.{HandedRr, is_meta}
+use Rattle.messages.specs.Handed.{IsHanded, SpellsNs, SpellsSoa}
+use Rattle.messages.specs.Message.{Spelled, behind, data_of, ns_data, soa_data, nsec_data}
 use Rattle.messages.proofs.MessageData.{ns_here, soa_here, nsec_here}
 use Rattle.messages.proofs.MessageWritten.{StandsAt}
-use Rattle.records.proofs.NameWritten.{range_there}
+use Rattle.messages.proofs.NameWritten.{range_there}
 use Rattle.answer_publisher.proofs.WritesRecords.{ReadsAs}
 
 -- which data are read, by three tests

@@ -7,8 +7,8 @@ use Rattle.definitions.specs.Zone.{apex_of}
 use Rattle.definitions.specs.Limits.{pointer_limit}
 use Rattle.answer_publisher.specs.Answering.{AnswersKeys, AnswersZone}
 use Rattle.answer_judge.specs.Given.{GivesAnswer, GivesKeys}
-use Rattle.records.specs.Handed.{AreHanded}
-use Rattle.records.specs.Message.{Asked}
+use Rattle.messages.specs.Handed.{AreHanded}
+use Rattle.messages.specs.Message.{Asked}
 use Rattle.answer_zone.specs.Hashing.{hash_in, served}
 use Rattle.answer_zone.specs.Served.{answer_groups, by_tag, key_group, served_of}
 use Rattle.messages.specs.WrittenLaws.{IsQuestion}

@@ -10,7 +10,7 @@ use Rattle.answer_zone.specs.GroupView.{view_of}
 use Rattle.answer_zone.specs.Served.{Group}
 use Rattle.answer_judge.specs.Given.{AreGroups}
 use Rattle.answer_publisher.specs.Composed.{IsWritten, joined, rrsig_of}
-use Rattle.records.specs.Written.{Written, record_octets}
+use Rattle.messages.specs.Written.{Written, record_octets}
 use Rattle.messages.specs.WrittenLaws.{IsRecord, spelled_at, spelled_from}
 use Rattle.messages.proofs.MessageWritten.{StandsAt, end_of}
 use Rattle.answer_publisher.proofs.Refusals.{length_record}

@@ -7,17 +7,17 @@ use Rattle.definitions.specs.Name.{Name, IsName, wire, low}
 use Rattle.definitions.specs.Dnskey.{Dnskey, key_tag}
 use Rattle.definitions.specs.Signing.{Fields, canonical_record, label_count, signed_octets, signed_owner}
 use Rattle.definitions.specs.Limits.{pointer_limit}
-use Rattle.records.specs.Message.{Spelled, canonical_data}
+use Rattle.messages.specs.Message.{Spelled, canonical_data}
 use Rattle.answer_zone.specs.Served.{Group}
 use Rattle.answer_judge.specs.Given.{AreRecords, AreSignatures, IsSignature, KeepsOwn}
 use Rattle.answer_zone.specs.GroupView.{GroupView, IsRrsigData, fields_of, view_of}
 use Rattle.answer_publisher.specs.Composed.{rrsig_of}
-use Rattle.records.specs.Written.{Written, record_octets}
-use Rattle.signed_data.specs.Rrsig.{rrsig_data}
+use Rattle.messages.specs.Written.{Written, record_octets}
+use Rattle.messages.specs.Rrsig.{rrsig_data}
 use Rattle.messages.specs.WrittenLaws.{AreFields, spelled_at, spelled_from}
 use Rattle.messages.proofs.MessageSignatures.{signature_here}
 use Rattle.messages.proofs.MessageWritten.{StandsAt, moved, data_behind, end_of, next_behind}
-use Rattle.records.proofs.ZoneNames.{low-low}
+use Rattle.messages.proofs.ZoneNames.{low-low}
 
 -- data of a type, as written, read as canonical data wherever they stand in a message that is not too long
 abbrev pub ReadsAs : ℕ → List ℕ → List ℕ → Type 0

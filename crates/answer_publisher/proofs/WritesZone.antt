@@ -2,16 +2,16 @@
 use Rattle.std.proofs.Common.{◌≡◌, ℕ, ◌<◌, Bool, true, false, ◌||◌, List, [], ◌∷◌, map, refl, sym, subst, ◌∙◌, cond, eqb, lit<, ⊎_elim}
 use Rattle.std.specs.List.{AllByRecursion, AllZip, filter, list_any}
 use Rattle.std.proofs.lemmas.Bool.{and_parts, cases_Bool, eqb-true, or_parts}
-use Rattle.records.proofs.ZoneNames.{same_labels}
+use Rattle.messages.proofs.ZoneNames.{same_labels}
 use Rattle.definitions.specs.Name.{Name, IsName, low, name_cmp, same}
 use Rattle.definitions.specs.Bitmap.{bitmap}
 use Rattle.definitions.specs.Dnskey.{Dnskey}
 use Rattle.definitions.specs.Zone.{data_at, exists, has, kept_owners, star_under}
 use Rattle.definitions.specs.ZoneChain.{Nsec, nsec_names, nsec_next, nsec_types}
 use Rattle.definitions.proofs.BitmapLaws.{spells_set}
-use Rattle.records.specs.HandedRr.{HandedRr, is_meta}
+use Rattle.messages.specs.HandedRr.{HandedRr, is_meta}
 use Rattle.answer_zone.specs.Accepting.{zone_with}
-use Rattle.records.specs.Handed.{AreHanded, IsHanded}
+use Rattle.messages.specs.Handed.{AreHanded, IsHanded}
 use Rattle.answer_zone.specs.GroupView.{all_spelled_by, rrset_of, spelled_by}
 use Rattle.answer_zone.specs.Served.{Group, answer_groups, chain_names, chain_record, chain_ttl, kept_ancestor, key_data, key_group, owned_by, owner_among, proofs_of, served_of, soa, speaks_for, spelled_among, ttl_among, written_among, written_of_handed, written_rr}
 use Rattle.answer_zone.specs.ZoneView.{IsPublished, is_of}
@@ -21,7 +21,7 @@ use Rattle.answer_zone.proofs.WritesNames.{all_filter, chain_small, first_name, 
 use Rattle.answer_publisher.proofs.WritesRecords.{ReadsAs, ReadsRecord}
 use Rattle.answer_zone.proofs.ZoneAnswers.{groups_found, groups_without_name, groups_without_type}
 use Rattle.answer_zone.proofs.ZoneData.{data_are, low-owner_among}
-use Rattle.records.proofs.Lists.{all_more, all_sorted, map-map}
+use Rattle.messages.proofs.Lists.{all_more, all_sorted, map-map}
 use Rattle.answer_zone.proofs.ZoneServed.{owners_kept}
 
 -- a record of an RRset, under the RRset's owner or its own

@@ -4,11 +4,11 @@ use Rattle.std.specs.List.{AllZip}
 use Rattle.definitions.specs.Name.{Name}
 use Rattle.definitions.specs.Dnskey.{Dnskey}
 use Rattle.definitions.specs.Zone.{apex_of, verdict}
-use Rattle.records.specs.Message.{Asked}
+use Rattle.messages.specs.Message.{Asked}
 use Rattle.answer_zone.specs.GroupView.{GroupView, Presents}
 use Rattle.answer_publisher.specs.Composed.{IsAnswer, RefusesGroups}
 use Rattle.answer_judge.specs.Judging.{is_allowed}
-use Rattle.records.specs.Written.{question_octets}
+use Rattle.messages.specs.Written.{question_octets}
 use Rattle.answer_publisher.specs.declared.fault.AnswerFault.{AnswerFault}
 use Rattle.answer_publisher.specs.declared.fault.AnswerFault.TheVariants as fault
 use Rattle.answer_zone.specs.Served.{Served, answer_groups, key_group}

@@ -3,8 +3,8 @@ use Rattle.std.specs.Prelude.{◌≡◌, ℕ, ◌+◌, ◌*◌, ◌<◌, ◌≤�
 use Rattle.std.specs.List.{AllZip, flat_map}
 use Rattle.definitions.specs.Name.{Name}
 use Rattle.definitions.specs.Dnskey.{Dnskey}
-use Rattle.records.specs.Message.{Asked}
-use Rattle.records.specs.Written.{Written, record_octets, message_octets}
+use Rattle.messages.specs.Message.{Asked}
+use Rattle.messages.specs.Written.{Written, record_octets, message_octets}
 use Rattle.answer_zone.specs.Served.{written_rr}
 use Rattle.answer_zone.specs.GroupView.{FailsFor, GroupView, IsRrsigData}
 use Rattle.answer_publisher.specs.declared.fault.AnswerFault.{AnswerFault}

@@ -4,8 +4,8 @@ use Rattle.definitions.specs.Name.{Name}
 use Rattle.definitions.specs.Dnskey.{Dnskey}
 use Rattle.definitions.specs.Limits.{pointer_limit}
 use Rattle.definitions.specs.ZoneChain.{Mode}
-use Rattle.records.specs.HandedRr.{HandedRr}
-use Rattle.records.specs.Message.{Asked}
+use Rattle.messages.specs.HandedRr.{HandedRr}
+use Rattle.messages.specs.Message.{Asked}
 use Rattle.answer_zone.specs.Accepting.{sorted_records}
 use Rattle.answer_zone.specs.ZoneView.{AcceptedZone}
 use Rattle.answer_zone.specs.Hashing.{served}

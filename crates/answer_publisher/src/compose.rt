@@ -5,7 +5,7 @@ ghost use Rattle.answer_zone.specs.GroupView.{FailsFor, IsRrsigData};
 ghost use Rattle.answer_publisher.specs.Answering.{ahead_of_records};
 ghost use Rattle.messages.specs.Questions.{asked_of};
 ghost use Rattle.answer_scheme.specs.declared.error.SchemeError.TheVariants as error;
-ghost use Rattle.records.specs.Written.{record_octets};
+ghost use Rattle.messages.specs.Written.{record_octets};
 ghost use Rattle.answer_publisher.specs.Composed.{HasRoom, IsAnswer, IsSection, RefusesGroups, RefusesRecords, rrsig_of};
 ghost use Rattle.answer_zone.specs.Served.{written_rr};
 
@@ -13,13 +13,13 @@ use crate::fault::AnswerFault;
 use crate::signing::{SignatureTerms, sign_group};
 use answer_scheme::error::SchemeError;
 use answer_scheme::scheme::Scheme;
+use answer_zone::dnskey::Dnskey;
 use answer_zone::group::RrGroup;
+use messages::names::{Name, Octets};
 use messages::question::Question;
+use messages::write::{push_header, push_question, push_record};
 use names_data::rtype::Rtype;
 use plain::numbers::{Class, Ttl};
-use records::message::write::{push_header, push_question, push_record};
-use records::names::{Name, Octets};
-use signed_data::dnskey::Dnskey;
 use std::alloc::{AllocError, Global};
 
 /// The octets of a longest message (RFC 1035, 4.2.2).

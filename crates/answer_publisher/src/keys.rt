@@ -15,13 +15,13 @@ ghost use Rattle.answer_publisher.specs.KeyCalls.{ActsOnKeys};
 ghost use Rattle.answer_publisher.specs.NewKeys.{added_tag, added_to, AddsBound, Foretells};
 
 use crate::fault::KeyFault;
+use answer_zone::dnskey::{Dnskey, ZoneKey};
+use answer_zone::ranked::{put_data, put_ranked};
 use denial_data::Ds;
 use keyset::set::KeySet;
 use keyset::{Action, Available, Error, KeyType, RollType, UnixTime};
+use messages::names::Name;
 use plain::numbers::{DigestAlgorithm, SecurityAlgorithm};
-use records::names::Name;
-use signed_data::dnskey::{Dnskey, ZoneKey};
-use signed_data::ranked::{put_data, put_ranked};
 use std::alloc::{AllocError, Global};
 use std::collections::BTreeMap;
 use std::marker::Model;

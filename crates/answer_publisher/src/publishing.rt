@@ -2,14 +2,14 @@
 ghost use Rattle.std.specs.Prelude.{◌≡◌, ◌⊎◌, ◌<◌, ◌≤◌, ◌^◌, ◌↔◌, [], map, length, string_bytes, IfOk, IfErr, IsErrOf, OnOk, Some, None, false};
 ghost use Rattle.std.specs.List.{AllByRecursion};
 ghost use Rattle.definitions.specs.Name.{IsName, low};
-ghost use Rattle.records.specs.Handed.{IsHanded};
+ghost use Rattle.messages.specs.Handed.{IsHanded};
 ghost use Rattle.answer_judge.specs.Judging.{is_allowed};
 ghost use Rattle.messages.specs.Questions.{asked_of};
 ghost use Rattle.answer_zone.specs.Served.{key_group, ttl_among};
 ghost use Rattle.answer_zone.specs.GroupView.{Presents};
 ghost use Rattle.answer_zone.specs.Accepting.{IsAccepted, IsFault};
 ghost use Rattle.answer_zone.specs.ZoneView.{mode_of};
-ghost use Rattle.records.specs.HandedRr.{handed_of};
+ghost use Rattle.messages.specs.HandedRr.{handed_of};
 ghost use Rattle.keyset.specs.KeyState.{text_of, is_available, texts};
 ghost use Rattle.answer_publisher.specs.Bindings.{no_keys, ds_set, published, dnskeys, keys_by_tag, Add, Start, Report1, Wait1, Report2, Wait2, Finish};
 ghost use Rattle.answer_publisher.specs.KeyCalls.{Acts, Adds};
@@ -24,6 +24,7 @@ use crate::signing::SignatureTerms;
 use answer_judge::judge::is_allowed;
 use answer_scheme::error::SchemeError;
 use answer_scheme::scheme::Scheme;
+use answer_zone::dnskey::{Dnskey, ZoneKey};
 use answer_zone::group::RrGroup;
 use answer_zone::zone::ZoneRecords;
 use answer_zone::zone::answers::AUTHORITATIVE;
@@ -31,12 +32,11 @@ use denial_data::Ds;
 use denial_hashes::hasher::Nsec3Hasher;
 use keyset::set::KeySet;
 use keyset::{Action, Available, Error, RollType, UnixTime};
+use messages::names::{Name, ZoneName, copy_name};
 use messages::question::Question;
+use messages::record::ZoneRecord;
 use names_data::rtype::Rtype;
 use plain::numbers::{Class, DigestAlgorithm, SecurityAlgorithm};
-use records::names::{Name, ZoneName};
-use records::record::ZoneRecord;
-use signed_data::dnskey::{Dnskey, ZoneKey};
 use std::alloc::{AllocError, Global};
 use std::slice;
 
@@ -82,7 +82,7 @@ impl<'a, S: Scheme, H: Nsec3Hasher> Publisher<'a, S, H> {
             IfErr result (λ f. (f ≡ ZoneFault.Memory) ⊎ IsFault apex (mode_of mode) limit rs f) }
     {
         let zone = ZoneRecords::new(alloc, apex, records, mode, limit)?;
-        let Ok(name) = zone.apex().try_clone(alloc) else {
+        let Ok(name) = copy_name(alloc, zone.apex()) else {
             return Err(ZoneFault::Memory);
         };
         Ok(Publisher {
@@ -108,7 +108,7 @@ impl<'a, S: Scheme, H: Nsec3Hasher> Publisher<'a, S, H> {
         let keys = self.keys.keys_by_tag(Publication::SignsKeys)?;
         let group = self.dnskey_group()?;
         let question = Question {
-            name: self.zone.apex().try_clone(self.alloc)?,
+            name: copy_name(self.alloc, self.zone.apex())?,
             rtype: Rtype::DNSKEY,
             class: Class::IN,
         };
@@ -131,7 +131,7 @@ impl<'a, S: Scheme, H: Nsec3Hasher> Publisher<'a, S, H> {
             let group = key_group zone.apex ttl (present_keys self.now.keys) in
             IfOk result (λ g. Presents g group) }
     {
-        let owner = self.zone.apex().try_clone(self.alloc)?;
+        let owner = copy_name(self.alloc, self.zone.apex())?;
         let count = owner.rrsig_label_count();
         RrGroup::canonical_form(
             self.alloc,

@@ -15,3 +15,5 @@ pub mod WritesNames
 pub mod ZoneAnswers
 pub mod ZoneGroups
 pub mod LinkLists
+pub mod TagPlaces
+pub mod KeyData

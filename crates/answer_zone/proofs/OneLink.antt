@@ -11,8 +11,8 @@ use Rattle.answer_zone.specs.Links.{link_speaks}
 use Rattle.answer_zone.proofs.LinkLists.{pairs}
 use Rattle.answer_zone.specs.ZoneView.{name_cmp_total}
 use Rattle.answer_zone.proofs.ZoneChains.{Climbs, greater_back, greater_trans, less_back}
-use Rattle.records.proofs.Lists.{Has}
-use Rattle.records.proofs.ZoneNames.{labels_eq-same, low_from_Equal, name_cmp-same, same_labels}
+use Rattle.messages.proofs.Lists.{Has}
+use Rattle.messages.proofs.ZoneNames.{labels_eq-same, low_from_Equal, name_cmp-same, same_labels}
 
 -- a name in lower case
 abbrev pub Lowered : Name → Type 0

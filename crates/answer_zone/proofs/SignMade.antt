@@ -5,7 +5,7 @@ use Rattle.std.proofs.lemmas.List.{take_more, map-append}
 use Rattle.definitions.specs.Name.{Name}
 use Rattle.definitions.specs.Dnskey.{Dnskey, key_tag}
 use Rattle.definitions.specs.Signing.{Fields, signed_octets}
-use Rattle.signed_data.specs.Rrsig.{spelled_fields}
+use Rattle.messages.specs.Rrsig.{spelled_fields}
 use Rattle.answer_zone.specs.GroupView.{GroupView, IsRrsigData, fields_of, octets_of}
 
 -- what was signed and written is the data of an RRSIG record

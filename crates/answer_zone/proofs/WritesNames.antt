@@ -7,11 +7,11 @@ use Rattle.std.proofs.Math.Nat.{min-le_left}
 use Rattle.std.proofs.lemmas.List.{length-map}
 use Rattle.definitions.specs.Name.{Name, IsLabel, IsName, labels_eq, low, same, wire_len}
 use Rattle.definitions.specs.ZoneChain.{behind, links}
-use Rattle.records.specs.HandedRr.{HandedRr}
+use Rattle.messages.specs.HandedRr.{HandedRr}
 use Rattle.answer_zone.specs.Accepting.{soas}
-use Rattle.records.specs.Handed.{IsHanded}
+use Rattle.messages.specs.Handed.{IsHanded}
 use Rattle.answer_zone.specs.Served.{chain_ttl, chain_ttl_of, minimum_of, owner_among, spelled_among, spelled_as, ttl_among}
-use Rattle.records.proofs.NameLaws.{wire_len-cons}
+use Rattle.messages.proofs.NameLaws.{wire_len-cons}
 
 lower_labels : (n : Name) → AllByRecursion IsLabel n → AllByRecursion IsLabel (low n)
 lower_labels [] h = tt

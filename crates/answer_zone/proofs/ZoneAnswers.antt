@@ -8,15 +8,15 @@ use Rattle.std.proofs.lemmas.List.{drop_all, drop-map, length-map}
 use Rattle.definitions.specs.Name.{Name, low, same, at_or_above}
 use Rattle.definitions.specs.Zone.{Zone, Verdict, Records, NoType, NoName, data_at, exists, has, star_under, verdict}
 use Rattle.definitions.specs.ZoneChain.{Nsec}
-use Rattle.records.specs.HandedRr.{HandedRr}
+use Rattle.messages.specs.HandedRr.{HandedRr}
 use Rattle.answer_zone.specs.Accepting.{zone_with}
 use Rattle.answer_zone.specs.GroupView.{rrset_of}
 use Rattle.answer_zone.specs.Served.{Group, Served, ahead, answer_groups, chain_names, chain_record, chain_ttl, kept_ancestor, proofs_of, served_of, soa, spoken, ttl_among}
 use Rattle.answer_zone.specs.declared.fault.Mode as declared
 use Rattle.answer_zone.specs.declared.fault.Mode.TheVariants as variant
 use Rattle.answer_zone.specs.ZoneView.{IsPublished, is_of, mode_of}
-use Rattle.records.proofs.Lists.{all_at, any_from, found}
-use Rattle.records.proofs.ZoneNames.{at_or_above-low, labels_eq-same, same_labels}
+use Rattle.messages.proofs.Lists.{all_at, any_from, found}
+use Rattle.messages.proofs.ZoneNames.{at_or_above-low, labels_eq-same, same_labels}
 use Rattle.answer_zone.proofs.ZoneServed.{exists_is, has_is, verdict_at, verdict_none}
 
 pub at_itself : (n : Name) → at_or_above n n ≡ true

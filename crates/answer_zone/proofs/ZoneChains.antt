@@ -13,13 +13,13 @@ use Rattle.definitions.specs.Sorting.{put_by, put_all_by, sort_by}
 use Rattle.definitions.specs.Name.{Name, low, labels_eq, name_cmp, wire}
 use Rattle.definitions.specs.ZoneChain.{Nsec, links, behind, nsec_names, nsec_next, nsec_types, types_at, at_apex}
 use Rattle.definitions.specs.Bitmap.{bitmap}
-use Rattle.records.specs.HandedRr.{HandedRr}
+use Rattle.messages.specs.HandedRr.{HandedRr}
 use Rattle.answer_zone.specs.Accepting.{record_cmp, zone_with}
 use Rattle.answer_zone.specs.Served.{Group, canonical_group, chain_record, chain_ttl, proofs_of, served_of, spelled_among, spelled_as}
 use Rattle.answer_zone.specs.Links.{link_group, link_speaks}
 use Rattle.answer_zone.proofs.LinkLists.{pairs, record_links, proofs_among}
 use Rattle.answer_zone.specs.ZoneView.{IsPublished, name_cmp_total}
-use Rattle.records.proofs.ZoneNames.{same_labels, labels_eq-same, low_from_Equal, name_cmp-low}
+use Rattle.messages.proofs.ZoneNames.{same_labels, labels_eq-same, low_from_Equal, name_cmp-low}
 use Rattle.answer_zone.proofs.ZoneServed.{no_delegation, owners_kept}
 
 pub less_back : {A : Type 0} (cmp : A → A → Ordering) → IsTotalOrder cmp → (a b : A) → cmp a b ≡ Less → cmp b a ≡ Greater

@@ -15,13 +15,13 @@ use Rattle.std.proofs.lemmas.Bool.{and_parts, or_parts}
 use Rattle.definitions.specs.Name.{Name, low, labels_eq, same, name_cmp}
 use Rattle.definitions.specs.Signing.{label_count}
 use Rattle.definitions.specs.Zone.{Rr, owner_of, data_at, sorted_data}
-use Rattle.records.specs.HandedRr.{HandedRr}
+use Rattle.messages.specs.HandedRr.{HandedRr}
 use Rattle.answer_zone.specs.Accepting.{record_cmp, rr_of, soas, zone_with}
 use Rattle.answer_zone.specs.Served.{owner_among, spelled_among}
 use Rattle.answer_zone.specs.ZoneView.{is_of}
 use Rattle.answer_zone.proofs.ZoneChains.{Climbs, less_back, sort_by_climbing, tidy}
-use Rattle.records.proofs.ZoneNames.{low-low, name_cmp-same, same_labels}
-use Rattle.records.proofs.Lists.{both_ways, map-map}
+use Rattle.messages.proofs.ZoneNames.{low-low, name_cmp-same, same_labels}
+use Rattle.messages.proofs.Lists.{both_ways, map-map}
 
 eq_from : (a b : ℕ) → eqb a b ≡ true → a ≡ b
 eq_from a b e = grind arith

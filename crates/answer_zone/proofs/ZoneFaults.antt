@@ -5,10 +5,10 @@ use Rattle.definitions.specs.Name.{Name, at_or_above, strictly_above}
 use Rattle.definitions.specs.ZoneChain.{Mode}
 use Rattle.answer_zone.specs.declared.fault.ZoneFault.{ZoneFault}
 use Rattle.answer_zone.specs.declared.fault.ZoneFault.TheVariants as fault
-use Rattle.records.specs.HandedRr.{HandedRr, has_star, is_meta, among}
-use Rattle.records.specs.Star.{begins_with_star}
+use Rattle.messages.specs.HandedRr.{HandedRr, has_star, is_meta, among}
+use Rattle.messages.specs.Star.{begins_with_star}
 use Rattle.answer_zone.specs.Accepting.{record_cmp, sorted_records, first_fault, over_limit}
-use Rattle.records.proofs.Lists.{all_pass, all_fail, all_sorted}
+use Rattle.messages.proofs.Lists.{all_pass, all_fail, all_sorted}
 
 unless : (b : Bool) (x : ZoneFault) (o : Option ZoneFault) → cond b (Some x) o ≡ None → (b ≡ false) × (o ≡ None)
 unless true x o e = cc

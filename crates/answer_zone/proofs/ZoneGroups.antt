@@ -1,12 +1,12 @@
 -- The records of an RRset, one more at a time.
-use Rattle.std.proofs.Common.{◌≡◌, ℕ, zero, suc, ◌+◌, ◌<◌, Bool, true, false, not, eqb, ltb, cond, List, [], ◌∷◌, ◌++◌, length, map, take, get_or, refl, sym, ap, arith, ◌∙◌}
+use Rattle.std.proofs.Common.{[], ◌≡◌, ℕ, zero, suc, ◌+◌, ◌<◌, Bool, true, false, not, eqb, ltb, cond, List, ◌∷◌, ◌++◌, length, map, take, get_or, refl, sym, ap, arith, ◌∙◌}
 use Rattle.std.specs.List.{filter}
 use Rattle.std.proofs.lemmas.Bool.{and_parts, eqb-true, lt-ltb, ne_eqb}
 use Rattle.std.proofs.lemmas.List.{append-nil, map-append, take_more}
 use Rattle.std.proofs.lemmas.List.Elements.{filter_more}
 use Rattle.definitions.specs.Name.{Name, same}
-use Rattle.records.specs.HandedRr.{HandedRr}
-use Rattle.records.specs.Written.{Written}
+use Rattle.messages.specs.HandedRr.{HandedRr}
+use Rattle.messages.specs.Written.{Written}
 use Rattle.answer_zone.specs.GroupView.{all_spelled_by, record_under, spelled_by}
 use Rattle.answer_zone.specs.Served.{owned_by, written_of_handed}
 use Rattle.answer_zone.specs.ZoneView.{is_of}
@@ -36,17 +36,6 @@ pub passed : (own : Bool) (q : Name) (t : ℕ) (owner : Name) (gs : List GroupRe
     → Sofar own q t owner gs (take i rs) → Sofar own q t owner gs (take (i + 1) rs)
 passed own q t owner gs rs i r h e is before =
     before ∙ ap (λ xs. all_spelled_by own owner (map written_of_handed xs)) (sym (step (is_of q t) rs i r false h e is ∙ append-nil (filter (is_of q t) (take i rs))))
-
--- the canonical data so far
-pub datum_taken : {D : Type 0} (f : D → List ℕ) (q : Name) (t : ℕ) (ds : List D) (d : D) (rs : List HandedRr) (i : ℕ) (r : HandedRr) → i < length rs → r ≡ get_or rs i r → is_of q t r ≡ true
-    → f d ≡ r.bytes → map f ds ≡ map (λ r. r.bytes) (filter (is_of q t) (take i rs)) → map f (ds ++ d ∷ []) ≡ map (λ r. r.bytes) (filter (is_of q t) (take (i + 1) rs))
-datum_taken f q t ds d rs i r h e is made before =
-    map-append f ds (d ∷ []) ∙ (λ j. before j ++ made j ∷ [])
-    ∙ sym (ap (map (λ r. r.bytes)) (step (is_of q t) rs i r true h e is) ∙ map-append (λ r. r.bytes) (filter (is_of q t) (take i rs)) (r ∷ []))
-
-pub datum_passed : (q : Name) (t : ℕ) (xs : List (List ℕ)) (rs : List HandedRr) (i : ℕ) (r : HandedRr) → i < length rs → r ≡ get_or rs i r → is_of q t r ≡ false
-    → xs ≡ map (λ r. r.bytes) (filter (is_of q t) (take i rs)) → xs ≡ map (λ r. r.bytes) (filter (is_of q t) (take (i + 1) rs))
-datum_passed q t xs rs i r h e is before = before ∙ ap (map (λ r. r.bytes)) (sym (step (is_of q t) rs i r false h e is ∙ append-nil (filter (is_of q t) (take i rs))))
 
 -- records that are written one after another
 pub written_more : {D : Type 0} (h : GroupRecord → Written) (f : D → Written) (gs hs : List GroupRecord) (g : GroupRecord) (ds : List D) (i : ℕ) (d : D) → hs ≡ gs ++ g ∷ [] → i < length ds → d ≡ get_or ds i d → h g ≡ f d

@@ -9,7 +9,7 @@ use Rattle.definitions.specs.Bitmap.{bitmap}
 use Rattle.definitions.specs.Name.{Name, low, labels_eq, same, name_cmp, wire}
 use Rattle.definitions.specs.Covering.{before, covers}
 use Rattle.definitions.specs.ZoneChain.{Nsec, nsec_names, nsec_next, nsec_types}
-use Rattle.records.specs.HandedRr.{HandedRr}
+use Rattle.messages.specs.HandedRr.{HandedRr}
 use Rattle.answer_zone.specs.Accepting.{zone_with}
 use Rattle.answer_zone.specs.GroupView.{Adds, GroupView, Presents}
 use Rattle.answer_zone.specs.Links.{ChainLink, group_of, link_at, link_speaks, links_of, said_of}
@@ -19,8 +19,8 @@ use Rattle.answer_zone.proofs.LinkLists.{pairs, record_links}
 use Rattle.answer_zone.proofs.ZoneChains.{names_are, next_is}
 use Rattle.answer_zone.proofs.ZoneData.{low-spelled_among}
 use Rattle.answer_zone.proofs.ZoneGroups.{step}
-use Rattle.records.proofs.ZoneNames.{labels_eq-same, low-low, same_labels, low_from_Equal, name_cmp-low, name_cmp-same, same-low}
-use Rattle.records.proofs.Lists.{zip_append}
+use Rattle.messages.proofs.ZoneNames.{labels_eq-same, low-low, same_labels, low_from_Equal, name_cmp-low, name_cmp-same, same-low}
+use Rattle.messages.proofs.Lists.{zip_append}
 
 pub speaks_equal : (apex owner next q : Name) → name_cmp owner q ≡ Equal → true ≡ (same owner q || covers (low apex) (low owner) (low next) (low q))
 speaks_equal apex owner next q e = sym (ap (λ b. b || covers (low apex) (low owner) (low next) (low q)) (labels_eq-same (low owner) (low q) (low_from_Equal owner q e)))

@@ -14,8 +14,8 @@ use Rattle.denial_owners.specs.Soa.{soa_ttls}
 use Rattle.denial_owners.specs.Ttls.{has_unequal_ttls}
 use Rattle.denial_owners.specs.declared.error.SigningError.{SigningError}
 use Rattle.denial_owners.specs.declared.error.SigningError.TheVariants.{NoSingleSoa, MultipleTtlValues, HashFailed, HashTooLong, HashCollision, Memory}
-use Rattle.records.specs.HandedRr.{handed_of}
-use Rattle.records.proofs.Lists.{all_more}
+use Rattle.messages.specs.HandedRr.{handed_of}
+use Rattle.messages.proofs.Lists.{all_more}
 use Rattle.answer_zone.specs.declared.fault.ZoneFault.TheVariants as fault
 use Rattle.answer_zone.specs.Accepting.{IsAccepted, IsFault, first_fault, has_unlike_ttls, soas, sorted_records, zone_fault, zone_with}
 use Rattle.answer_zone.proofs.ZoneFaults.{IsPlain, internet_from_none, plain_from_none}

@@ -10,9 +10,9 @@ use Rattle.plain.specs.Records.{record_canonical_cmp}
 use Rattle.plain.specs.ZoneData.{zone_canonical, zone_type}
 use Rattle.plain.specs.declared.record.Record.{Record}
 use Rattle.plain.specs.declared.zone_data.ZoneRecordData.{ZoneRecordData}
-use Rattle.records.specs.HandedRr.{HandedRr, handed_of}
+use Rattle.messages.specs.HandedRr.{HandedRr, handed_of}
 use Rattle.answer_zone.specs.Accepting.{record_cmp, sorted_records}
-use Rattle.records.proofs.Lists.{all_more, all_pass, all_put, all_sorted, list_any-map}
+use Rattle.messages.proofs.Lists.{all_more, all_pass, all_put, all_sorted, list_any-map}
 
 module _ {A B : Type 0} (f : A → B) (c : A → A → Ordering) (d : B → B → Ordering) (P : A → Type 0) (alike : (x y : A) → P x → P y → c x y ≡ d (f x) (f y)) where
   put_by-map : (a : A) (xs : List A) → P a → AllByRecursion P xs → map f (put_by c a xs) ≡ put_by d (f a) (map f xs)

@@ -7,12 +7,12 @@ use Rattle.std.specs.Str.{bytes_eq, str_to_ascii_lowercase}
 use Rattle.std.proofs.lemmas.Bool.{and_parts, and_from, or_cases, or_parts, or_left, or_right, false≢true, false_from_ne_true}
 use Rattle.definitions.specs.Name.{Name, low, labels_eq, same, at_or_above, strictly_above}
 use Rattle.definitions.specs.Zone.{Zone, Rr, owner_of, Verdict, NoName, has, is_delegation, cut, cut_above, is_kept, kept_owners, kept, exists, ce, star_under, at_existing, at_star, verdict, data_at, Delegated, StarRecords, StarNoType}
-use Rattle.records.specs.HandedRr.{HandedRr, has_star}
+use Rattle.messages.specs.HandedRr.{HandedRr, has_star}
 use Rattle.answer_zone.specs.Accepting.{soas, rr_of, zone_with, has_unlike_ttls, unlike_ttls}
 use Rattle.answer_zone.specs.Served.{chain_ttl, chain_ttl_of, minimum_of, owner_among, ttl_among}
 use Rattle.answer_zone.specs.ZoneView.{is_of}
-use Rattle.records.proofs.Lists.{found, all_at, all_more, filter_all, list_any-map}
-use Rattle.records.proofs.ZoneNames.{same_labels, at_or_above-low, strictly_above-low}
+use Rattle.messages.proofs.Lists.{found, all_at, all_more, filter_all, list_any-map}
+use Rattle.messages.proofs.ZoneNames.{same_labels, at_or_above-low, strictly_above-low}
 
 abbrev Plain : Name → List HandedRr → Type 0
 Plain apex rs = AllByRecursion (λ r. (((eqb r.rtype 2) && strictly_above apex r.owner) || has_star r.owner) ≡ false) rs

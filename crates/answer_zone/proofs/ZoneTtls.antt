@@ -14,8 +14,8 @@ use Rattle.plain.specs.declared.zone_data.ZoneRecordData.TheVariants.{Soa, Ns, U
 use Rattle.denial_sorted.specs.Groups.{is_at}
 use Rattle.denial_owners.specs.Soa.{minimum_of, soa_ttls, ttls_of, ttls_of_one}
 use Rattle.denial_owners.specs.Ttls as words
-use Rattle.records.specs.HandedRr.{HandedRr, among, handed_of, has_star, is_meta, is_unknown}
-use Rattle.records.proofs.Lists.{list_any-map}
+use Rattle.messages.specs.HandedRr.{HandedRr, among, handed_of, has_star, is_meta, is_unknown}
+use Rattle.messages.proofs.Lists.{list_any-map}
 use Rattle.answer_zone.specs.Accepting.{has_unlike_ttls, soas, unlike_ttls, zone_with}
 use Rattle.answer_zone.proofs.WritesNames.{all_filter}
 use Rattle.answer_zone.proofs.ZoneData.{filter-map}

@@ -10,8 +10,8 @@ use Rattle.plain.specs.declared.record.Record.{Record}
 use Rattle.plain.specs.declared.zone_data.ZoneRecordData.{ZoneRecordData}
 use Rattle.denial_owners.specs.Zones as words
 use Rattle.denial_nsec.specs.Chain.{nsec_chain, nsec_record}
-use Rattle.records.specs.HandedRr.{handed_of}
-use Rattle.records.proofs.Lists.{map-map}
+use Rattle.messages.specs.HandedRr.{handed_of}
+use Rattle.messages.proofs.Lists.{map-map}
 use Rattle.answer_zone.specs.Accepting.{rr_of, zone_with}
 use Rattle.answer_zone.specs.Links.{ChainLink, link_at, link_of, links_of}
 use Rattle.answer_zone.specs.Served.{spelled_among, spelled_as}

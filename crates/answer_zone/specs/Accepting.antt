@@ -8,8 +8,8 @@ use Rattle.definitions.specs.Sorting.{sort_by}
 use Rattle.definitions.specs.Name.{Name, low, at_or_above, strictly_above, same, name_cmp}
 use Rattle.definitions.specs.Zone.{Zone, Rr, is_kept}
 use Rattle.definitions.specs.ZoneChain.{Mode, Nsec, Nsec3, optout_of}
-use Rattle.records.specs.HandedRr.{HandedRr, among, is_meta, has_star}
-use Rattle.records.specs.Star.{begins_with_star}
+use Rattle.messages.specs.HandedRr.{HandedRr, among, is_meta, has_star}
+use Rattle.messages.specs.Star.{begins_with_star}
 use Rattle.answer_zone.specs.declared.fault.ZoneFault.{ZoneFault}
 use Rattle.answer_zone.specs.declared.fault.ZoneFault.TheVariants as fault
 use Rattle.denial_owners.specs.declared.error.SigningError.{SigningError}

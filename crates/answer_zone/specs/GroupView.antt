@@ -5,9 +5,9 @@ use Rattle.std.specs.declared.alloc.Global.{Global}
 use Rattle.definitions.specs.Name.{Name, low}
 use Rattle.definitions.specs.Dnskey.{Dnskey, key_tag}
 use Rattle.definitions.specs.Signing.{Fields, label_count, signed_octets}
-use Rattle.signed_data.specs.Rrsig.{rrsig_data}
-use Rattle.records.specs.Written.{Written}
-use Rattle.records.specs.HandedRr.{HandedRr}
+use Rattle.messages.specs.Rrsig.{rrsig_data}
+use Rattle.messages.specs.Written.{Written}
+use Rattle.messages.specs.HandedRr.{HandedRr}
 use Rattle.definitions.specs.Zone.{data_at}
 use Rattle.answer_zone.specs.Accepting.{zone_with}
 use Rattle.answer_zone.specs.ZoneView.{is_of}

@@ -6,7 +6,7 @@ use Rattle.definitions.specs.Bitmap.{bitmap}
 use Rattle.definitions.specs.Covering.{covers}
 use Rattle.definitions.specs.ZoneChain.{at_apex, nsec_names, nsec_next, nsec_types, types_at}
 use Rattle.denial_nsec.specs.Chain.{ChainRecord}
-use Rattle.records.specs.HandedRr.{HandedRr}
+use Rattle.messages.specs.HandedRr.{HandedRr}
 use Rattle.answer_zone.specs.Accepting.{zone_with}
 use Rattle.answer_zone.specs.Served.{Group, canonical_group, chain_ttl, spelled_among, spelled_as}
 

@@ -12,8 +12,8 @@ use Rattle.definitions.specs.Covering.{covers, hash_covers}
 use Rattle.definitions.specs.Base32hex.{base32hex}
 use Rattle.definitions.specs.Dnskey.{Dnskey, dnskey_data, key_tag}
 use Rattle.definitions.specs.ZoneChain.{Mode, Nsec, Nsec3, parameters_of, optout_of, nsec_names, hashed_names, nsec_next, nsec_data, nsec3_data, nsec3_next}
-use Rattle.records.specs.HandedRr.{HandedRr}
-use Rattle.records.specs.Written.{Written}
+use Rattle.messages.specs.HandedRr.{HandedRr}
+use Rattle.messages.specs.Written.{Written}
 use Rattle.answer_zone.specs.Accepting.{zone_with, soas}
 
 -- A zone, its chain's mode and hash, the TTL and the spelling of an owner and a type, which their signatures have, the

@@ -6,7 +6,7 @@ use Rattle.std.specs.Cmp.{IsTotalOrder, then_total, on_total}
 use Rattle.std.proofs.lemmas.Cmp.{lists_total, nat_cmp_total, nat_list_cmp_total}
 use Rattle.definitions.specs.Name.{Name, from_root, name_cmp, at_or_above, strictly_above, same}
 use Rattle.definitions.specs.ZoneChain.{Mode}
-use Rattle.records.specs.HandedRr.{HandedRr, has_star}
+use Rattle.messages.specs.HandedRr.{HandedRr, has_star}
 use Rattle.answer_zone.specs.Accepting.{record_cmp, soas}
 use Rattle.definitions.specs.ZoneChain as chain
 use Rattle.answer_zone.specs.declared.fault.Mode as declared

@@ -1,9 +1,9 @@
 //! RRsets on their way into an answer.
 ghost use Rattle.std.specs.Prelude.{◌≡◌, map, unwrap_or};
 
+use messages::names::Name;
 use names_data::rtype::Rtype;
 use plain::numbers::Ttl;
-use records::names::Name;
 use std::alloc::{AllocError, Global};
 use std::marker::Model;
 

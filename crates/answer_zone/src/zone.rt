@@ -2,8 +2,8 @@
 ghost use Rattle.std.specs.Prelude.{◌≡◌, ◌⊎◌, map, IfOk, IfErr};
 ghost use Rattle.answer_zone.specs.Accepting.{IsAccepted, IsFault, sorted_records, zone_fault};
 ghost use Rattle.answer_zone.specs.ZoneView.{IsPublished, mode_of};
-ghost use Rattle.records.specs.HandedRr.{handed_of};
-ghost use Rattle.records.specs.Handed.{AreHanded, IsHanded};
+ghost use Rattle.messages.specs.HandedRr.{handed_of};
+ghost use Rattle.messages.specs.Handed.{AreHanded, IsHanded};
 ghost use Rattle.definitions.specs.Name.{IsName};
 ghost use Rattle.definitions.specs.ZoneChain.{Nsec};
 ghost use Rattle.std.specs.List.{AllByRecursion};
@@ -15,8 +15,8 @@ use crate::zone::handed::HandedRecord;
 use denial_owners::error::SigningError;
 use denial_sorted::laws::zone_data_order_is_total;
 use denial_sorted::sorted::SortedRecords;
-use records::names::{Name, ZoneName};
-use records::record::{ZoneRecord, keeps};
+use messages::names::{Name, ZoneName};
+use messages::record::{ZoneRecord, keeps};
 use std::alloc::{AllocError, Global};
 use std::marker::Model;
 
@@ -38,7 +38,7 @@ pub struct ZoneRecords {
 }
 
 impl Model for ZoneRecords {
-    ghost use Rattle.records.specs.Handed.{AreHanded};
+    ghost use Rattle.messages.specs.Handed.{AreHanded};
     ghost use Rattle.std.specs.Prelude.{◌≡◌};
     ghost use Rattle.answer_zone.specs.Links.{links_of};
     ghost use Rattle.answer_zone.specs.ZoneView.{AcceptedZone, IsPublished, mode_of};

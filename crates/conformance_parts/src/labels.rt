@@ -1,6 +1,6 @@
 //! Names of octets, and their labels.
+use messages::names::Name;
 use names_labels::traits::Labels;
-use records::names::Name;
 use std::alloc::Global;
 use std::test::Fail;
 

@@ -3,13 +3,12 @@ ghost use Rattle.std.specs.Prelude.{◌<◌, ◌^◌, length};
 
 use crate::labels::{self, has_label};
 use denial_data::Rrsig;
+use messages::error::MessageError;
+use messages::names::{Name, ParsedName, ToName, ZoneName, is_above};
+use messages::write::{push_header, push_question, push_record};
 use messages::{MessageView, ViewRecord, read_message};
 use names_data::rtype::Rtype;
-use names_parsed::parsed;
 use plain::numbers::{Class, Ttl};
-use records::message::MessageError;
-use records::message::write::{push_header, push_question, push_record};
-use records::names::{Name, ParsedName, ToName, ZoneName};
 use std::alloc::Global;
 use std::cmp::Ordering;
 use std::process::Abort;
@@ -30,7 +29,7 @@ fn orders_names_from_the_root(rt: HostRuntime) {
     let a = name(&rt, rt.alloc(), b"\x02yy\x01a\x07example\x00");
     assert_eq!(rt; z.name_cmp(&a), Ordering::Greater);
     assert_eq!(rt; a.name_cmp(&z), Ordering::Less);
-    assert!(rt; a.is_below(&name(&rt, rt.alloc(), b"\x01A\x07EXAMPLE\x00")));
+    assert!(rt; is_above(&name(&rt, rt.alloc(), b"\x01A\x07EXAMPLE\x00"), &a));
 }
 
 /// The small message as it is read.
@@ -56,7 +55,7 @@ fn reads_a_record(rt: HostRuntime) {
     let mut records = small(&rt).records();
     let entry = records.next().expect(&rt, "a record");
     assert!(rt; records.next().is_none());
-    assert!(rt; is_asked(&rt, rt.alloc(), &entry.owner));
+    assert!(rt; is_asked(&rt, rt.alloc(), entry.owner.name()));
     assert_eq!(rt; entry.rtype, Rtype::A);
     assert_eq!(rt; entry.ttl, Ttl::from_secs(3600));
     assert_eq!(rt; entry.length, 4);
@@ -168,7 +167,7 @@ fn reads_a_link(rt: HostRuntime) -> Result<(), Fail> {
 }
 
 /// The signature that is the first record of a message.
-fn signature(octets: &[u8]) -> Result<Rrsig<&[u8], parsed::ParsedName<'_>>, Fail> {
+fn signature(octets: &[u8]) -> Result<Rrsig<&[u8], ParsedName<'_>>, Fail> {
     match first(octets)?.signature(octets) {
         Some(signature) => Ok(signature),
         None => Err("no signature")?,

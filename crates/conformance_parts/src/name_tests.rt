@@ -1,8 +1,8 @@
 //! Names of messages and of octets outside them, written by hand (RFC 1035, 3.1 and 4.1.4).
 use crate::labels::name;
+use messages::error::MessageError;
+use messages::names::{ToName, ZoneName, copy_name, name_at_place, read_name};
 use names_data::composer::compose_canonical_name;
-use records::message::MessageError;
-use records::names::{ParsedName, ToName, ZoneName, name_at_place, written_out};
 use std::test::Fail;
 
 /// Names at 0, 5 and 15: `com`, and two that end in a pointer.
@@ -11,9 +11,9 @@ const POINTED: &[u8] = b"\x03com\x00\x07eXample\xc0\x00\x03wWw\xc0\x05";
 #[test]
 fn reads_a_name_through_pointers(rt: HostRuntime) -> Result<(), Fail> {
     let alloc = rt.alloc();
-    let (read, end) = ParsedName::parse(POINTED, 15)?;
+    let (read, end) = read_name(POINTED, 15)?;
     assert_eq!(rt; end, 21);
-    let flat = written_out(alloc, read.as_parsed())?;
+    let flat = copy_name(alloc, &read)?;
     assert!(rt; read.name_eq(&flat));
     assert!(rt; read.name_eq(&name(alloc, b"\x03www\x07EXAMPLE\x03com\x00")?));
     assert!(rt; !read.name_eq(&name(alloc, b"\x03wwx\x07example\x03com\x00")?));
@@ -24,7 +24,7 @@ fn reads_a_name_through_pointers(rt: HostRuntime) -> Result<(), Fail> {
         b"\x03wWw\x07eXample\x03com\x00".as_slice()
     );
     let mut canonical = Vec::new(alloc);
-    compose_canonical_name(read.as_parsed(), &mut canonical)?;
+    compose_canonical_name(&read, &mut canonical)?;
     assert_eq!(rt;
         canonical.as_slice(),
         b"\x03www\x07example\x03com\x00".as_slice()
@@ -34,13 +34,13 @@ fn reads_a_name_through_pointers(rt: HostRuntime) -> Result<(), Fail> {
 
 #[test]
 fn refuses_pointers_that_do_not_lead_back(rt: HostRuntime) {
-    let own = ParsedName::parse(b"\xc0\x00", 0);
+    let own = read_name(b"\xc0\x00", 0);
     assert!(rt; matches!(own, Err(MessageError::Form)));
-    let later = ParsedName::parse(b"\xc0\x02\x00", 0);
+    let later = read_name(b"\xc0\x02\x00", 0);
     assert!(rt; matches!(later, Err(MessageError::Form)));
-    let half = ParsedName::parse(b"\x00\xc0", 1);
+    let half = read_name(b"\x00\xc0", 1);
     assert!(rt; matches!(half, Err(MessageError::ShortInput)));
-    let behind = ParsedName::parse(b"\x00\xc0", 3);
+    let behind = read_name(b"\x00\xc0", 3);
     assert!(rt; matches!(behind, Err(MessageError::ShortInput)));
 }
 

@@ -1,9 +1,11 @@
 //! Names and numbers, with values of the standards.
 use crate::labels::{has_label, name};
+use messages::names::{
+    Name, Octets, ToName, ZoneName, copy_name, is_above, is_at_or_above, name_from_octets,
+};
+use messages::write::{push_u16, push_u32};
 use names_data::rtype::Rtype;
 use plain::numbers::{Class, DigestAlgorithm, SecurityAlgorithm, Ttl};
-use records::message::write::{push_u16, push_u32};
-use records::names::{Name, Octets, ToName, ZoneName, name_from_octets};
 use std::alloc::Global;
 use std::cmp::Ordering;
 use std::test::Fail;
@@ -12,7 +14,7 @@ use std::test::Fail;
 fn orders(alloc: Global, first: &[u8], second: &[u8]) -> Result<[Ordering; 3], Fail> {
     let first = name(alloc, first)?;
     let second = name(alloc, second)?;
-    let copy = second.try_clone(alloc)?;
+    let copy = copy_name(alloc, &second)?;
     Ok([
         first.name_cmp(&second),
         second.name_cmp(&first),
@@ -59,8 +61,8 @@ fn names_above_names(rt: HostRuntime) -> Result<(), Fail> {
     let (www, com) = (www(rt.alloc())?, com(rt.alloc())?);
     assert_eq!(rt; www.rrsig_label_count(), 3);
     assert_eq!(rt; www.as_slice().len(), 17);
-    assert!(rt; www.is_at_or_below(&com) && www.is_below(&com) && !com.is_below(&com));
-    assert!(rt; com.is_at_or_below(&Name::root(rt.alloc())?) && !com.is_at_or_below(&www));
+    assert!(rt; is_at_or_above(&com, &www) && is_above(&com, &www) && !is_above(&com, &com));
+    assert!(rt; is_at_or_above(&Name::root(rt.alloc())?, &com) && !is_at_or_above(&www, &com));
     Ok(())
 }
 

@@ -1,12 +1,12 @@
 //! Record data and signed octets, with values of the standards.
 use crate::labels::name;
+use answer_zone::dnskey::{Dnskey, ZoneKey, key_of_data};
+use answer_zone::ranked::{Ranked, put_data, put_ranked};
 use denial_data::{Ds, ProtoRrsig, Timestamp};
+use messages::names::Name;
+use messages::signed::{compose_fields, signed_octets};
 use names_data::rtype::Rtype;
 use plain::numbers::{Class, DigestAlgorithm, SecurityAlgorithm, Ttl};
-use records::names::Name;
-use signed_data::dnskey::{Dnskey, ZoneKey, key_of_data};
-use signed_data::ranked::{Ranked, put_data, put_ranked};
-use signed_data::signed::{compose_fields, signed_octets};
 use std::alloc::Global;
 use std::cmp::Ordering;
 use std::test::Fail;

@@ -5,6 +5,8 @@ use answer_zone::group::RrGroup;
 use answer_zone::zone::ZoneRecords;
 use answer_zone::zone::answers::ZoneAnswer;
 use denial_owners::error::SigningError;
+use messages::names::{Name, ZoneName};
+use messages::record::ZoneRecord;
 use names_data::rtype::Rtype;
 use names_data::unknown::UnknownRecordData;
 use names_parser::serial::Serial;
@@ -12,8 +14,6 @@ use plain::numbers::{Class, Ttl};
 use plain::record::Record;
 use plain::soa::Soa;
 use plain::zone_data::ZoneRecordData;
-use records::names::{Name, ZoneName};
-use records::record::ZoneRecord;
 use std::alloc::Global;
 use std::test::Fail;
 

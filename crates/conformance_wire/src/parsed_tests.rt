@@ -126,6 +126,37 @@ fn labels_and_suffixes_from_both_ends(rt: HostRuntime) {
     assert!(rt; name.label_at(4).is_none());
 }
 
+/// Whether the labels of a name are known to stand in this row.
+fn is_row(name: ParsedName<'_>, row: &[u8]) -> bool {
+    name.label_row() == Some(row)
+}
+
+#[test]
+fn names_without_pointers_are_rows(rt: HostRuntime) {
+    let message = b"\x03com\x00\x07example\xc0\x00\x03www\x07example\x03org\x00\x00\x01a\xc0\x05";
+    let (name, _) = read(message, 15).expect(&rt, "a name");
+    let row = b"\x03www\x07example\x03org\x00".as_slice();
+    assert!(rt; name.label_row() == Some(row) && !name.is_compressed());
+    let parent = name.parent().expect(&rt, "a parent");
+    assert!(rt; parent.label_row() == Some(&row[4..]) && !parent.is_compressed());
+    let mut suffixes = name.iter_suffixes();
+    assert!(rt; suffixes.next().map(|n| is_row(n, row)) == Some(true));
+    assert!(rt; suffixes.next_back().map(|n| is_row(n, &row[16..])) == Some(true));
+    assert!(rt; suffixes.next_back().map(|n| is_row(n, &row[12..])) == Some(true));
+    assert!(rt; suffixes.next().map(|n| is_row(n, &row[4..])) == Some(true));
+    assert!(rt; suffixes.next().is_none());
+    let (root, _) = read(message, 32).expect(&rt, "the root");
+    assert!(rt; root.label_row() == Some(b"\x00".as_slice()) && !root.is_compressed());
+    for place in [5, 33] {
+        let (name, _) = read(message, place).expect(&rt, "a name");
+        assert!(rt; name.label_row().is_none() && name.is_compressed());
+        let mut suffixes = name.iter_suffixes();
+        while let Some(suffix) = suffixes.next() {
+            assert!(rt; suffix.label_row().is_none());
+        }
+    }
+}
+
 /// From each place each label is the one at its index, and behind the last there is none.
 fn walk<N: Labels>(rt: &impl Abort, name: &N) {
     let count = name.label_count();

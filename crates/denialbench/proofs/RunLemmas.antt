@@ -6,7 +6,7 @@ use Rattle.std.specs.Str.{bytes_eq}
 use Rattle.sha2.specs.Sha256.{sha256}
 use Rattle.definitions.specs.ZoneChain as chain
 use Rattle.definitions.specs.ZoneChain.{Nsec}
-use Rattle.records.specs.HandedRr.{HandedRr}
+use Rattle.messages.specs.HandedRr.{HandedRr}
 use Rattle.answer_zone.specs.Accepting.{IsAccepted, IsFault, sorted_records}
 use Rattle.answer_zone.specs.ZoneView.{mode_of}
 use Rattle.answer_zone.specs.declared.fault.Mode.{Mode}

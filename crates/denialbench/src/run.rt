@@ -2,7 +2,7 @@
 ghost use Rattle.std.specs.Prelude.{◌≡◌, ◌≢◌, ◌↔◌, ℕ, List, [], ◌∷◌, ◌++◌, map, codes, OnOk, IfOk, IfSome, string_bytes};
 ghost use Rattle.std.specs.List.{flat_map};
 ghost use Rattle.std.specs.Io.KnownBytes.{Appends};
-ghost use Rattle.records.specs.HandedRr.{handed_of};
+ghost use Rattle.messages.specs.HandedRr.{handed_of};
 ghost use Rattle.session_lines.specs.Readings.{zone_view, event_view};
 ghost use Rattle.denialbench.specs.Names.{zone_fault_name};
 ghost use Rattle.denialbench.specs.Printed.{outcome_text};

@@ -16,8 +16,9 @@ use crate::maps::{
 use crate::settings::Setting;
 use keyset_keys::{Available, Error, Key, KeyState, KeyType, UnixTime};
 use keyset_rolls::{Action, RollState, RollType, Turn};
+use names_flat::name::Name;
+use names_traits::to_name::ToName;
 use plain::numbers::SecurityAlgorithm;
-use records::names::{Name, ZoneName};
 use std::alloc::{AllocError, Global};
 use std::collections::HashMap;
 use std::marker::Model;
@@ -53,7 +54,7 @@ impl Clone for KeySet {
     fn clone(&self) -> Result<KeySet, AllocError> {
         Ok(KeySet {
             alloc: self.alloc,
-            name: self.name.try_clone(self.alloc)?,
+            name: self.name.to_vec(self.alloc).map_err(|_| AllocError)?,
             keys: self.keys.clone()?,
             rollstates: self.rollstates.clone()?,
         })

@@ -5,8 +5,8 @@
 #![tactic(auto)]
 
 use keyset::{Available, Error, KeySet, RollType, UnixTime};
+use names_flat::name::Name;
 use plain::numbers::SecurityAlgorithm;
-use records::names::Name;
 use std::alloc::{AllocError, Global};
 use std::io;
 use std::time::Duration;

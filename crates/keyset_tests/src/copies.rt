@@ -3,7 +3,7 @@
 use crate::calls::Calls;
 use crate::keys::{add_zsk, assert_flags, at, key, with_two_keys};
 use keyset::{Error, KeySet, RollState, RollType};
-use records::names::Name;
+use names_flat::name::Name;
 use std::alloc::Global;
 use std::test::Fail;
 

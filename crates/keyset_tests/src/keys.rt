@@ -1,7 +1,7 @@
 //! Keys for tests.
 use keyset::{Available, Error, Key, KeySet, KeyType, UnixTime};
+use names_flat::name::Name;
 use plain::numbers::SecurityAlgorithm;
-use records::names::Name;
 use std::alloc::Global;
 use std::process::Abort;
 use std::time::Duration;

@@ -5,8 +5,8 @@
 use crate::calls::Calls;
 use crate::keys::at;
 use keyset::{Available, Error, KeySet, KeyType, RollState, RollType};
+use names_flat::name::Name;
 use plain::numbers::SecurityAlgorithm;
-use records::names::Name;
 use std::alloc::Global;
 use std::process::Abort;
 

@@ -3,8 +3,8 @@
 use crate::calls::Calls;
 use crate::keys::{add_csk, add_ksk, assert_flags, at, key, with_two_keys};
 use keyset::{Available, Error, KeySet, KeyType, RollType};
+use names_flat::name::Name;
 use plain::numbers::SecurityAlgorithm;
-use records::names::Name;
 use std::test::Fail;
 
 #[test]

@@ -5,10 +5,10 @@ use Rattle.std.proofs.lemmas.List.{length-map}
 use Rattle.messages.specs.Record.{spelled}
 use Rattle.messages.specs.declared.view.ViewRecord.{ViewRecord}
 use Rattle.std.proofs.lemmas.Option.{slice_get_cases, get_or_from_slice_get}
-use Rattle.records.specs.View.{Gives, records_read}
-use Rattle.records.specs.declared.message.MessageError.{MessageError}
-use Rattle.records.specs.declared.message.MessageError.TheVariants.{ShortInput}
-use Rattle.records.specs.Message.{◌>>=◌, Asked, Message, Spelled, octet_at, u16_at, asked_at, record_at, records_at, one_question, message}
+use Rattle.messages.specs.View.{Gives, records_read}
+use Rattle.messages.specs.declared.error.MessageError.{MessageError}
+use Rattle.messages.specs.declared.error.MessageError.TheVariants.{ShortInput}
+use Rattle.messages.specs.Message.{◌>>=◌, Asked, Message, Spelled, octet_at, u16_at, asked_at, record_at, records_at, one_question, message}
 use Rattle.definitions.specs.Limits.{pointer_limit}
 
 pub bound : {A B : Type 0} (x : Result A MessageError) (f : A → Result B MessageError) (y : B) → x >>= f ≡ Ok y → (a : A) × (x ≡ Ok a) × (f a ≡ Ok y)

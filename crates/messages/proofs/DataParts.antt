@@ -15,10 +15,10 @@ use Rattle.plain.specs.Soa.{soa_part}
 use Rattle.denial_links.specs.Bitmaps.{bitmap_part}
 use Rattle.denial_links.specs.Nsec.{nsec_part}
 use Rattle.denial_data.specs.Signatures.{rrsig_part}
-use Rattle.records.specs.declared.message.MessageError.{MessageError}
-use Rattle.records.specs.Message.{Spelled, fault_of, fits, if_true, name_in, ns_data, nsec_at, owner_at, rrsig_at, rrsig_fields, soa_data}
-use Rattle.records.specs.Message as message
-use Rattle.records.proofs.NameRead.{limit_is}
+use Rattle.messages.specs.declared.error.MessageError.{MessageError}
+use Rattle.messages.specs.Message.{Spelled, fault_of, fits, if_true, name_in, ns_data, nsec_at, owner_at, rrsig_at, rrsig_fields, soa_data}
+use Rattle.messages.specs.Message as message
+use Rattle.messages.proofs.NameRead.{limit_is}
 use Rattle.messages.specs.Record.{reader_of}
 use Rattle.messages.proofs.ReadNames.{reads_labelled}
 

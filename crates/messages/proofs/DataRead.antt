@@ -25,8 +25,8 @@ use Rattle.denial_data.specs.RrsigData.{rrsig_octets}
 use Rattle.denial_data.specs.Signatures.{rrsig_part}
 use Rattle.denial_data.proofs.Sizes.{numbers_long}
 use Rattle.denial_data.proofs.Told.{parts}
-use Rattle.records.specs.Message.{Spelled, fits, if_true, name_in, name_upto, ns_data, nsec_at, rrsig_at, rrsig_fields, soa_data}
-use Rattle.records.specs.Message as message
+use Rattle.messages.specs.Message.{Spelled, fits, if_true, name_in, name_upto, ns_data, nsec_at, rrsig_at, rrsig_fields, soa_data}
+use Rattle.messages.specs.Message as message
 use Rattle.messages.specs.Record.{Signature, fields_read, link_of, reader_of, signature_of}
 use Rattle.messages.proofs.DataParts.{LinkIs, NsIs, SignatureIs, SoaIs, matched, unmatched, ns_matches, soa_by, soa_matches, link_matches, signature_matches}
 use Rattle.messages.proofs.MessageSignatures.{numbers_here, numbers_then}

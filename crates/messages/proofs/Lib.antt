@@ -7,3 +7,13 @@ pub mod MessageData
 pub mod ReadNames
 pub mod DataParts
 pub mod DataRead
+pub mod NameEnds
+pub mod NameFlat
+pub mod NameLaws
+pub mod NameRead
+pub mod NameWritten
+pub mod ZoneNames
+pub mod Lists
+pub mod HandedData
+pub mod SignOctets
+pub mod SpelledFields

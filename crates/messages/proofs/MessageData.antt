@@ -5,11 +5,11 @@ use Rattle.std.proofs.lemmas.Bool.{eq-eqb, le-leb}
 use Rattle.definitions.specs.Bitmap.{is_bitmap}
 use Rattle.definitions.specs.Name.{Name, IsName, wire, wire_len, low}
 use Rattle.definitions.specs.Limits.{pointer_limit}
-use Rattle.records.specs.Message.{Spelled, fits, if_true, name_in, ns_data, soa_data, nsec_at, nsec_data}
-use Rattle.records.specs.Message as message
+use Rattle.messages.specs.Message.{Spelled, fits, if_true, name_in, ns_data, soa_data, nsec_at, nsec_data}
+use Rattle.messages.specs.Message as message
 use Rattle.messages.proofs.MessageSignatures.{data_inside, name_here}
 use Rattle.messages.proofs.MessageWritten.{StandsAt, past, wire-length}
-use Rattle.records.proofs.NameWritten.{range_there}
+use Rattle.messages.proofs.NameWritten.{range_there}
 
 abbrev from_ns : Spelled → Option (Name × ℕ) → Option (List ℕ)
 from_ns r None = None

@@ -1,9 +1,8 @@
 -- Records of a message, one after another.
-use Rattle.std.proofs.Common.{◌≡◌, ℕ, suc, List, [], ◌∷◌, Some, None, Option, Ok, Err, Result, refl, sym, ap, ◌∙◌, false}
-use Rattle.std.specs.Result.{IsOk, is_ok}
-use Rattle.records.specs.declared.message.MessageError.{MessageError}
-use Rattle.records.specs.Message.{Spelled, record_at, records_at, ◌>>=◌}
-use Rattle.records.specs.View.{records_read}
+use Rattle.std.proofs.Common.{◌≡◌, ℕ, suc, List, ◌∷◌, Some, None, Option, Ok, Err, Result, refl, ap, ◌∙◌}
+use Rattle.std.specs.Result.{IsOk}
+use Rattle.messages.specs.declared.error.MessageError.{MessageError}
+use Rattle.messages.specs.Message.{Spelled, record_at, records_at, ◌>>=◌}
 use Rattle.definitions.specs.Limits.{pointer_limit}
 
 -- why reading stops
@@ -31,23 +30,3 @@ more_records n m p r h = ap (λ o. fault_in (o >>= behind n m)) h ∙ fault_behi
 
 pub bad_record : (n : ℕ) (m : List ℕ) (p : ℕ) (e : MessageError) → record_at pointer_limit m p ≡ Err e → fault_in (records_at (suc n) pointer_limit m p) ≡ Some e
 bad_record n m p e h = ap (λ o. fault_in (o >>= behind n m)) h
-
-ok_behind : (s : Spelled) (r : Result (List Spelled) MessageError) → IsOk (r >>= λ rs. Ok (s ∷ rs)) → IsOk r
-ok_behind s (Ok x) h = refl
-ok_behind s (Err e) h = cc
-
-abbrev list_of : Result (List Spelled) MessageError → List Spelled
-list_of o = elim o [ Ok rs ↦ rs | Err e ↦ [] ]
-
-list_behind : (s : Spelled) (r : Result (List Spelled) MessageError) → IsOk r → list_of (r >>= λ rs. Ok (s ∷ rs)) ≡ s ∷ list_of r
-list_behind s (Ok x) h = refl
-list_behind s (Err e) h = cc
-
-pub rest_reads : (n : ℕ) (m : List ℕ) (p : ℕ) (r : Spelled × ℕ) → record_at pointer_limit m p ≡ Ok r → IsOk (records_at (suc n) pointer_limit m p) → IsOk (records_at n pointer_limit m r.1)
-rest_reads n m p r h ok = ok_behind r.0 (records_at n pointer_limit m r.1) (ap (λ o. is_ok (o >>= behind n m)) (sym h) ∙ ok)
-
-pub first_record : (n : ℕ) (m : List ℕ) (p : ℕ) (r : Spelled × ℕ) → record_at pointer_limit m p ≡ Ok r → IsOk (records_at (suc n) pointer_limit m p) → records_read (suc n) m p ≡ r.0 ∷ records_read n m r.1
-first_record n m p r h ok = ap (λ o. list_of (o >>= behind n m)) h ∙ list_behind r.0 (records_at n pointer_limit m r.1) (rest_reads n m p r h ok)
-
-pub no_error : (n : ℕ) (m : List ℕ) (p : ℕ) (e : MessageError) → record_at pointer_limit m p ≡ Err e → IsOk (records_at (suc n) pointer_limit m p) → ⊥
-no_error n m p e h ok = let x : is_ok (records_at (suc n) pointer_limit m p) ≡ false = ap (λ o. is_ok (o >>= behind n m)) h in cc

@@ -8,13 +8,13 @@ use Rattle.std.proofs.lemmas.Option.{get_or_from_slice_get}
 use Rattle.definitions.specs.Name.{Name, IsName, wire, wire_len, low}
 use Rattle.definitions.specs.Signing.{Fields}
 use Rattle.definitions.specs.Limits.{pointer_limit}
-use Rattle.records.specs.declared.message.MessageError.{MessageError}
-use Rattle.records.specs.Message.{Spelled, owner_at, fits, if_true, pair, quad, name_upto, name_in, rrsig_at, rrsig_fields}
-use Rattle.records.specs.Message as message
-use Rattle.signed_data.specs.Rrsig.{rrsig_data, fields_numbers}
+use Rattle.messages.specs.declared.error.MessageError.{MessageError}
+use Rattle.messages.specs.Message.{Spelled, owner_at, fits, if_true, pair, quad, name_upto, name_in, rrsig_at, rrsig_fields}
+use Rattle.messages.specs.Message as message
+use Rattle.messages.specs.Rrsig.{rrsig_data, fields_numbers}
 use Rattle.messages.specs.WrittenLaws.{AreFields}
 use Rattle.messages.proofs.MessageWritten.{StandsAt, past, owner_here, wire-length}
-use Rattle.records.proofs.NameWritten.{octet_there, range_there}
+use Rattle.messages.proofs.NameWritten.{octet_there, range_there}
 
 index_here : (m : List ℕ) (p x : ℕ) (xs : List ℕ) → StandsAt m p (x ∷ xs) → slice_index m p ≡ x
 index_here m p x xs s = get_or_from_slice_get m p x 0 (octet_there m s.front x xs p s.whole s.place)

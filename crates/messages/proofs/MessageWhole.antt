@@ -6,9 +6,9 @@ use Rattle.std.proofs.lemmas.List.{append-nil}
 use Rattle.std.proofs.lemmas.List.Concat.{flat_map-append}
 use Rattle.definitions.specs.Name.{wire, wire_len}
 use Rattle.definitions.specs.Limits.{pointer_limit}
-use Rattle.records.specs.declared.message.MessageError.{MessageError}
-use Rattle.records.specs.Message.{Asked, Message, ◌>>=◌, u16_at, owner_at, asked_at, records_at}
-use Rattle.records.specs.Written.{Written, header_octets, question_octets, record_octets, message_octets}
+use Rattle.messages.specs.declared.error.MessageError.{MessageError}
+use Rattle.messages.specs.Message.{Asked, Message, ◌>>=◌, u16_at, owner_at, asked_at, records_at}
+use Rattle.messages.specs.Written.{Written, header_octets, question_octets, record_octets, message_octets}
 use Rattle.messages.specs.WrittenLaws.{IsQuestion, IsRecord, AreSections, ReadsBack, first_place, spelled_from}
 use Rattle.messages.proofs.MessageWritten.{StandsAt, past, bind_ok, u16_here, owner_here, wire-length, records_here, data_here}
 

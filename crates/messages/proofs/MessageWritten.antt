@@ -6,13 +6,13 @@ use Rattle.std.proofs.lemmas.Bool.{le-leb}
 use Rattle.std.proofs.lemmas.Nat.{from_be_bytes-to_be_bytes_2, from_be_bytes-to_be_bytes_4}
 use Rattle.definitions.specs.Name.{Name, IsName, wire, wire_len}
 use Rattle.definitions.specs.Limits.{pointer_limit}
-use Rattle.records.specs.declared.message.MessageError.{MessageError}
-use Rattle.records.specs.declared.message.MessageError.TheVariants.{ShortInput}
-use Rattle.records.specs.Message.{◌>>=◌, octet_at, u16_at, u32_at, owner_at, within, record_at, records_at, data_of}
-use Rattle.records.specs.Written.{Written, record_octets}
+use Rattle.messages.specs.declared.error.MessageError.{MessageError}
+use Rattle.messages.specs.declared.error.MessageError.TheVariants.{ShortInput}
+use Rattle.messages.specs.Message.{◌>>=◌, octet_at, u16_at, u32_at, owner_at, within, record_at, records_at, data_of}
+use Rattle.messages.specs.Written.{Written, record_octets}
 use Rattle.messages.specs.WrittenLaws.{IsRecord, spelled_at, spelled_from}
-use Rattle.records.proofs.NameLaws.{wire_len-cons}
-use Rattle.records.proofs.NameWritten.{octet_there, owner_wire, range_there}
+use Rattle.messages.proofs.NameLaws.{wire_len-cons}
+use Rattle.messages.proofs.NameWritten.{octet_there, owner_wire, range_there}
 
 -- these octets stand from a place on, to the end of the message
 pub record StandsAt (m : List ℕ) (p : ℕ) (xs : List ℕ) : Type 0 where

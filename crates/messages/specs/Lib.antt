@@ -2,3 +2,12 @@ pub mod Record
 pub mod WrittenLaws
 pub mod Questions
 pub mod Numbers
+pub mod Message
+pub mod View
+pub mod NameOctets
+pub mod Written
+pub mod Handed
+pub mod Star
+pub mod HandedRr
+pub mod Items
+pub mod Rrsig

@@ -1,6 +1,6 @@
 -- Numbers in octets, read where they may not be there and where they are.
 use Rattle.std.specs.Prelude.{◌≡◌, ℕ, ◌+◌, ◌<◌, List, length, Ok}
-use Rattle.records.specs.Message.{pair, quad, u16_at, u32_at}
+use Rattle.messages.specs.Message.{pair, quad, u16_at, u32_at}
 
 -- where the octets are there, both readings give one number
 pub record NumbersReadAlike : Type 0 where

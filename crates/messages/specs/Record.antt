@@ -3,7 +3,7 @@ use Rattle.std.specs.Prelude.{ℕ, List}
 use Rattle.definitions.specs.Name.{Name}
 use Rattle.definitions.specs.Signing.{Fields, lowered_signer}
 use Rattle.names_parser.specs.Reader.{Reader}
-use Rattle.records.specs.Message.{Spelled, behind}
+use Rattle.messages.specs.Message.{Spelled, behind}
 use Rattle.messages.specs.declared.view.ViewRecord.{ViewRecord}
 use Rattle.names_parsed.specs.Parsed.{parsed_name}
 use Rattle.names_parsed.specs.declared.parsed.ParsedName.{ParsedName}

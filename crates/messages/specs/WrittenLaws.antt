@@ -5,9 +5,9 @@ use Rattle.definitions.specs.Name.{Name, IsName, wire, wire_len, low}
 use Rattle.definitions.specs.Bitmap.{is_bitmap}
 use Rattle.definitions.specs.Signing.{Fields}
 use Rattle.definitions.specs.Limits.{pointer_limit}
-use Rattle.records.specs.Message.{Asked, Spelled, owner_at, message, data_of, rrsig_at, ns_data, soa_data, nsec_data}
-use Rattle.signed_data.specs.Rrsig.{rrsig_data}
-use Rattle.records.specs.Written.{Written, message_octets}
+use Rattle.messages.specs.Message.{Asked, Spelled, owner_at, message, data_of, rrsig_at, ns_data, soa_data, nsec_data}
+use Rattle.messages.specs.Rrsig.{rrsig_data}
+use Rattle.messages.specs.Written.{Written, message_octets}
 
 -- whatever number of pointers may be followed
 abbrev pub NamesReadBack : Type 0

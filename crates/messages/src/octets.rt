@@ -1,9 +1,9 @@
 //! Numbers that stand in octets with the highest octet first (RFC 1035, 2.3.2).
 ghost use Rattle.std.specs.Prelude.{◌≡◌, ◌+◌, ◌≤◌, length, IfOk, slice_range, slice_index};
-ghost use Rattle.records.specs.Message.{octet_at, u16_at, u32_at};
-ghost use Rattle.records.specs.View.{Gives};
+ghost use Rattle.messages.specs.Message.{octet_at, u16_at, u32_at};
+ghost use Rattle.messages.specs.View.{Gives};
 
-use records::message::MessageError;
+use crate::error::MessageError;
 
 /// The octet at a place.
 fn octet_at(bytes: &[u8], at: usize) -> Result<u8, MessageError>

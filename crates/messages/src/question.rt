@@ -1,9 +1,9 @@
 //! Questions (RFC 1035, 4.1.2).
 ghost use Rattle.messages.specs.WrittenLaws.{IsQuestion};
 
+use crate::names::{Name, ZoneName};
 use names_data::rtype::Rtype;
 use plain::numbers::Class;
-use records::names::{Name, ZoneName};
 
 /// What is asked for.
 #[derive(Debug, Drop)]

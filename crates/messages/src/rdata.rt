@@ -2,8 +2,8 @@
 ghost use Rattle.std.specs.Prelude.{◌≡◌, ◌+◌, ◌<◌, ◌≤◌, length, IfOk, IfSome, IfNone};
 ghost use Rattle.definitions.specs.Limits.{pointer_limit};
 ghost use Rattle.std.specs.Option.{option_map};
-ghost use Rattle.records.specs.Message.{rrsig_at, nsec_at, canonical_data, data_of, ns_data, soa_data, nsec_data};
-ghost use Rattle.records.specs.Items.{octets_in};
+ghost use Rattle.messages.specs.Message.{rrsig_at, nsec_at, canonical_data, data_of, ns_data, soa_data, nsec_data};
+ghost use Rattle.messages.specs.Items.{octets_in};
 ghost use Rattle.names_parsed.specs.Parsed.{parsed_name};
 ghost use Rattle.plain.specs.Ns.{ns_canonical};
 ghost use Rattle.plain.specs.Soa.{soa_canonical};

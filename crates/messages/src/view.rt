@@ -2,21 +2,23 @@
 ghost use Rattle.std.specs.Prelude.{◌≡◌, ℕ, ◌+◌, ◌<◌, ◌≤◌, ◌^◌, length, IsOk, MatchResult};
 ghost use Rattle.definitions.specs.Limits.{pointer_limit};
 ghost use Rattle.std.specs.Iterator.{YieldsFirstBy, item_count};
-ghost use Rattle.records.specs.Message.{message, record_at, records_at};
-ghost use Rattle.records.specs.View.{Gives, placed};
+ghost use Rattle.names_parsed.specs.Parsed.{parsed_name};
+ghost use Rattle.messages.specs.Message.{message, record_at, records_at};
+ghost use Rattle.messages.specs.View.{Gives, placed};
 
+use crate::error::MessageError;
+use crate::names::{ParsedName, known_name, read_name};
 use crate::octets::{u16_at, u32_at};
+use crate::owner::Owner;
 use crate::question::Question;
 use names_data::rtype::Rtype;
 use plain::numbers::{Class, Ttl};
-use records::message::MessageError;
-use records::names::ParsedName;
 use std::marker::Model;
 
 /// A record of a message. Its data are the `length` octets of the message from `start` on.
 #[derive(Drop)]
 pub struct ViewRecord<'a> {
-    pub owner: ParsedName<'a>,
+    pub owner: Owner<'a>,
     pub rtype: Rtype,
     pub class: Class,
     pub ttl: Ttl,
@@ -34,7 +36,7 @@ impl<'a> ViewRecord<'a> {
         ensures { let is = record_at pointer_limit bytes.now at in
             Gives (λ r. placed (spelled r.0) r.1) result is }
     {
-        let (owner, end) = ParsedName::parse(bytes, at)?;
+        let (name, end) = read_name(bytes, at)?;
         let rtype = u16_at(bytes, end)?;
         let class = u16_at(bytes, end + 2)?;
         let ttl = u32_at(bytes, end + 4)?;
@@ -44,7 +46,7 @@ impl<'a> ViewRecord<'a> {
             return Err(MessageError::ShortInput);
         }
         let record = ViewRecord {
-            owner,
+            owner: Owner::new(name),
             rtype: Rtype::from_int(rtype),
             class: Class::from_int(class),
             ttl: Ttl::from_secs(ttl),
@@ -68,8 +70,8 @@ pub struct MessageView<'a> {
 impl<'a> Model for MessageView<'a> {
     ghost use Rattle.std.specs.Prelude.{IsOk};
     ghost use Rattle.definitions.specs.Limits.{pointer_limit};
-    ghost use Rattle.records.specs.Message.{Message, records_at};
-    ghost use Rattle.records.specs.View.{name_read, records_read, NameReads};
+    ghost use Rattle.messages.specs.Message.{Message, records_at};
+    ghost use Rattle.messages.specs.View.{name_read, records_read, NameReads};
 
     ghost Value = { Message };
 
@@ -85,12 +87,12 @@ impl<'a> Model for MessageView<'a> {
 impl<'a> MessageView<'a> {
     /// What is asked.
     pub fn question(&self) -> Question<ParsedName<'a>>
-        ensures name { result.name ≡ self.now.asked.name }
+        ensures name { parsed_name result.name ≡ self.now.asked.name }
         ensures rtype { result.rtype ≡ self.now.asked.rtype }
         ensures class { result.class ≡ self.now.asked.class }
     {
         Question {
-            name: ParsedName::at(self.bytes, 12),
+            name: known_name(self.bytes, 12),
             rtype: self.rtype,
             class: self.class,
         }
@@ -126,8 +128,8 @@ pub struct Records<'a> {
 impl<'a> Model for Records<'a> {
     ghost use Rattle.std.specs.Prelude.{IsOk, List};
     ghost use Rattle.definitions.specs.Limits.{pointer_limit};
-    ghost use Rattle.records.specs.Message.{Spelled, records_at};
-    ghost use Rattle.records.specs.View.{records_read};
+    ghost use Rattle.messages.specs.Message.{Spelled, records_at};
+    ghost use Rattle.messages.specs.View.{records_read};
 
     ghost Value = { List Spelled };
 
@@ -168,7 +170,7 @@ pub fn read_message(bytes: &[u8]) -> Result<MessageView<'_>, MessageError>
     if questions != 1 {
         return Err(MessageError::NotOneQuestion);
     }
-    let (_, end) = ParsedName::parse(bytes, 12)?;
+    let (_, end) = read_name(bytes, 12)?;
     let rtype = u16_at(bytes, end)?;
     let class = u16_at(bytes, end + 2)?;
     let count = answers as usize + authority as usize + additional as usize;

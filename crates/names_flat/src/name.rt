@@ -193,6 +193,18 @@ impl Name<&'static [u8]> {
     }
 }
 
+impl<'a> Name<CowSlice<'a, u8>> {
+    /// The name that octets spell of which that is known already (`from_slice` tells), over these octets themselves.
+    pub fn borrowed(octets: &'a [u8]) -> Self
+        requires { IsFlat octets.now }
+        ensures { result ≡ name_in octets.now }
+    {
+        Name {
+            octets: CowSlice::Borrowed(octets),
+        }
+    }
+}
+
 impl Name<Vec<u8>> {
     /// The same name over octets that may be borrowed or owned.
     pub fn into_cow(self) -> Name<CowSlice<'static, u8>>

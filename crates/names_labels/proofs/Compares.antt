@@ -1,10 +1,12 @@
 -- Two names, compared label by label.
-use Rattle.std.proofs.Common.{◌≡◌, ℕ, zero, suc, ◌+◌, ◌<◌, ◌≤◌, Bool, true, false, ◌&&◌, ◌||◌, [], ◌∷◌, length, drop, refl, sym, ap, ◌∙◌, add-one, arith}
+use Rattle.std.proofs.Common.{[], ◌≡◌, ℕ, zero, suc, ◌+◌, ◌<◌, ◌≤◌, Bool, true, false, ◌&&◌, ◌||◌, ◌∷◌, length, drop, refl, sym, ap, ◌∙◌, add-one, arith}
 use Rattle.std.specs.Prelude.{Some, slice_get}
 use Rattle.std.specs.Str.{bytes_eq, str_to_ascii_lowercase}
 use Rattle.std.proofs.lemmas.Cmp.{nat_list_eq_equiv}
 use Rattle.definitions.specs.Name.{Name, Label, same, at_or_above}
 use Rattle.names_labels.specs.Compare.{begins_with}
+use Rattle.std.specs.Prelude.{◌↔◌, IsTrue}
+use Rattle.std.proofs.Common.{length-drop}
 
 -- comparing from a place on is comparing there, and from the next place on
 pub begins_from : (m n : Name) (i j : ℕ) (a b : Label) → Some a ≡ slice_get m i → Some b ≡ slice_get n j → begins_with (drop i m) (drop j n) ≡ (bytes_eq (str_to_ascii_lowercase a) (str_to_ascii_lowercase b) && begins_with (drop (suc i) m) (drop (suc j) n))
@@ -99,3 +101,14 @@ ends-begins base (x ∷ n) (suc k) h =
 
 pub ends_short : (base n : Name) → length n < length base → false ≡ at_or_above base n
 ends_short base n h = sym (above_short base n h)
+
+told : (t u : Bool) → IsTrue t ↔ (u ≡ true) → t ≡ u
+told true u is = sym (is.0 refl)
+told false true is = is.1 refl
+told false false is = refl
+
+-- rows tell it: one ends with the other where what is left behind the other labels is the same
+pub ends-same : (t : Bool) (base n rest : Name) (k : ℕ) → k + length base ≡ length n → rest ≡ drop k n → IsTrue t ↔ (same rest base ≡ true) → t ≡ at_or_above base n
+ends-same t base n rest k h e is =
+    let left : length (drop k n) ≡ length base = omega (arith, length-drop k n, h) in
+    told t (same rest base) is ∙ ap (λ r. same r base) e ∙ same-begins (drop k n) base left ∙ sym (ends-begins base n k h)

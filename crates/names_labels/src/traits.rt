@@ -161,11 +161,16 @@ pub trait ToLabelIter: Labels {
         ensures { result ≡ at_or_above (N.labels base.now) (Self.labels self.now) }
     {
         let (count, tail) = (self.label_count(), base.label_count());
-        tail <= count
-            && agrees(
-                labels_counted(self, count - tail, count),
-                labels_counted(base, 0, tail),
-            )
+        if tail > count {
+            return false;
+        }
+        if let (Some(run), Some(others)) = (self.label_row(), base.label_row()) {
+            return runs_eq(behind(run, count - tail), others);
+        }
+        agrees(
+            labels_counted(self, count - tail, count),
+            labels_counted(base, 0, tail),
+        )
     }
 }
 

@@ -2,12 +2,14 @@
 use Rattle.std.proofs.Common.{◌≡◌, ◌⊎◌, inl, inr, ℕ, ◌+◌, ◌-◌, ◌<◌, ◌≤◌, true, List, [], ◌∷◌, length, drop, sym, ap, subst, ◌∙◌, arith, Result, Ok, Err, length-drop}
 use Rattle.std.proofs.lemmas.List.{drop-drop}
 use Rattle.definitions.specs.Name.{Name, Label, wire_len}
+use Rattle.definitions.specs.Reading.{Reads}
 use Rattle.names_wire.specs.Label.{split}
 use Rattle.names_wire.specs.declared.label.SplitLabelError.{SplitLabelError}
 use Rattle.names_wire.specs.declared.label.SplitLabelError.TheVariants.{Pointer}
-use Rattle.names_parsed.specs.Standing.{Stands, stands_at, name_from}
+use Rattle.names_parsed.specs.Standing.{Stands, stands_at, name_from, InRow, KeepsRow}
 use Rattle.names_parsed.specs.Walking.{StepsTo}
 use Rattle.names_parsed.proofs.Inversion.{standing, stood, invert, Inverted, short_behind}
+use Rattle.names_parsed.proofs.Rows.{row_reads, row_stands, row_at_pointer}
 
 abbrev pub Found : Type 0
 Found = Result (List ℕ × List ℕ) SplitLabelError
@@ -46,6 +48,7 @@ pub record Follows (m : List ℕ) (p to : ℕ) : Type 0 where
   pub before : to < p
   pub stands : stands_at m to ≡ true
   pub labels : name_from m to ≡ name_from m p
+  pub row : KeepsRow m p to
 
 pub pointer_step : (m : List ℕ) (p to : ℕ) → stands_at m p ≡ true → split (drop p m) ≡ Err (Pointer to) → Follows m p to
 pointer_step m p to h x = go (stood m p h)
@@ -53,7 +56,12 @@ pointer_step m p to h x = go (stood m p h)
     there : (q e : ℕ) → q ≡ to → q < p → Stands m q (name_from m p) e → Follows m p to
     there q e f lt s =
         let r = standing m q (name_from m p) e s in
-        record { before = omega arith; stands = ap (stands_at m) (sym f) ∙ r.0; labels = ap (name_from m) (sym f) ∙ r.1 }
+        record {
+          before = omega arith;
+          stands = ap (stands_at m) (sym f) ∙ r.0;
+          labels = ap (name_from m) (sym f) ∙ r.1;
+          row = λ end row. absurd (row_at_pointer m p to end x row);
+        }
 
     go : (e : ℕ) × Stands m p (name_from m p) e → Follows m p to
     go s = by_form (invert s.1.reads)
@@ -71,9 +79,25 @@ root_step m p l rest h x z = go (stood m p h)
     go s = by_form (invert s.1.reads)
       where
         by_form : Inverted m p 255 (name_from m p) s.0 s.1.reads → StepsTo m p l p
-        by_form (inl r) = record { stands = h; labels = inl (z, r.0.none, r.0.none) }
+        by_form (inl r) = record { stands = h; labels = inl (z, r.0.none, r.0.none); row = λ end row. row }
         by_form (inr (inl r)) = absurd (omega (arith, r.some, ap length (same_label (split (drop p m)) r.first l _ _ r.splits x), ap length z))
         by_form (inr (inr r)) = absurd (not_both (split (drop p m)) _ _ x r.splits)
+
+-- a row goes on behind its first label
+row_step : (m : List ℕ) (p : ℕ) (l rest : List ℕ) → split (drop p m) ≡ Ok (l, rest) → (l ≡ [] → ⊥) → KeepsRow m p (length m - length rest)
+row_step m p l rest x some e h = by_form (invert read.0)
+  where
+    read : Reads m p 0 (name_from m p) e × (wire_len (name_from m p) ≤ 255)
+    read = row_reads m p e h
+
+    by_form : Inverted m p 0 (name_from m p) e read.0 → InRow m (length m - length rest) e
+    by_form (inl r) = absurd (some (sym (same_label (split (drop p m)) [] l _ _ r.0.splits x)))
+    by_form (inr (inl r)) =
+        let others : drop r.behind m ≡ rest = same_rest (split (drop p m)) r.first l _ _ r.splits x in
+        let place : r.behind ≡ length m - length rest = omega (arith, ap length others, length-drop r.behind m, r.inside) in
+        let short = short_behind r.first r.rest (subst (λ n. wire_len n ≤ 255) r.labels read.1) in
+        subst (λ q. InRow m q e) place (row_stands m r.behind e r.rest r.onward short)
+    by_form (inr (inr r)) = absurd (not_both (split (drop p m)) _ _ x r.splits)
 
 pub label_step : (m : List ℕ) (p : ℕ) (l rest : List ℕ) → stands_at m p ≡ true → split (drop p m) ≡ Ok (l, rest) → (l ≡ [] → ⊥) → StepsTo m p l (length m - length rest)
 label_step m p l rest h x some = go (stood m p h)
@@ -92,6 +116,7 @@ label_step m p l rest h x some = go (stood m p h)
             record {
               stands = ap (stands_at m) place ∙ t.0;
               labels = inr (omega (arith, r.some, ap length first), named ∙ (λ i. first i ∷ sym (ap (name_from m) place ∙ t.1) i));
+              row = row_step m p l rest x some;
             }
         by_form (inr (inr r)) = absurd (not_both (split (drop p m)) _ _ x r.splits)
 
@@ -110,8 +135,8 @@ only_pointers m p e h x = go (stood m p h)
         by_form (inr (inr r)) = (r.to, same_error e (Pointer r.to) x r.splits)
 
 -- the same from where a pointer stood
-pub steps_from : (m : List ℕ) (p s : ℕ) (l : Label) (next : ℕ) → name_from m p ≡ name_from m s → StepsTo m p l next → StepsTo m s l next
-steps_from m p s l next e h = record { stands = h.stands; labels = go h.labels }
+pub steps_from : (m : List ℕ) (p s : ℕ) (l : Label) (next : ℕ) → name_from m p ≡ name_from m s → KeepsRow m s p → StepsTo m p l next → StepsTo m s l next
+steps_from m p s l next e k h = record { stands = h.stands; labels = go h.labels; row = λ end row. h.row end (k end row) }
   where
     go : ((l ≡ []) × (name_from m p ≡ []) × (name_from m next ≡ [])) ⊎ ((0 < length l) × (name_from m p ≡ l ∷ name_from m next)) → ((l ≡ []) × (name_from m s ≡ []) × (name_from m next ≡ [])) ⊎ ((0 < length l) × (name_from m s ≡ l ∷ name_from m next))
     go (inl x) = inl (x.0, sym e ∙ x.1, x.2)

@@ -39,9 +39,12 @@ Begins k room m p (Ok (Label n)) = LabelHead k room m p n
 Begins k room m p (Ok (Pointer to)) = PointerHead k room m p to
 Begins k room m p (Err e) = rest_at k room m p ≡ Err (fault_of e)
 
--- how many labels the name at a place has, the root's included, and where it ends; or why there is none
+-- How many labels the name at a place has, the root's included, how many octets where it stands without a pointer, and
+-- where it ends; or why there is none.
 abbrev pub Walks : List ℕ → ℕ → Result Walked ParseError → Type 0
-Walks m p (Ok w) = (n : Name) × (name_at 255 m p ≡ Ok (n, w.behind)) × (w.labels ≡ length n + 1)
+Walks m p (Ok w) =
+    (n : Name) × (name_at 255 m p ≡ Ok (n, w.behind)) × (w.labels ≡ length n + 1)
+    × (0 < w.row → name_at 0 m p ≡ Ok (n, p + w.row))
 Walks m p (Err e) = name_at 255 m p ≡ Err (fault_of e)
 
 -- how many labels there are with those that are read, and so many before them; or why none are read

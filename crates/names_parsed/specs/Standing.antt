@@ -1,5 +1,5 @@
 -- Names that stand in a message, found through at most 255 pointers (RFC 1035, 4.1.4).
-use Rattle.std.specs.Prelude.{ℕ, ◌≤◌, Bool, true, false, List, [], ◌∷◌, ◌++◌, Ok, Err}
+use Rattle.std.specs.Prelude.{◌≡◌, ℕ, ◌+◌, ◌<◌, ◌≤◌, Bool, true, false, List, [], ◌∷◌, ◌++◌, Ok, Err}
 use Rattle.definitions.specs.Name.{Name, wire_len}
 use Rattle.definitions.specs.Reading.{Reads, name_at}
 
@@ -15,6 +15,18 @@ stands_at m p = elim (name_at 255 m p) [ Ok r ↦ true | Err f ↦ false ]
 -- its labels
 unfoldable pub name_from : List ℕ → ℕ → Name
 name_from m p = elim (name_at 255 m p) [ Ok r ↦ r.0 | Err f ↦ [] ]
+
+-- It stands there without a pointer and ends at another place: its wire form is the octets between the two.
+abbrev pub InRow : List ℕ → ℕ → ℕ → Type 0
+InRow m p e = name_at 0 m p ≡ Ok (name_from m p, e)
+
+-- it is a row of so many octets; of 0 nothing is said
+abbrev pub HasRow : List ℕ → ℕ → ℕ → Type 0
+HasRow m p row = 0 < row → InRow m p (p + row)
+
+-- where the name at a place is in a row, so is the one at another, up to the same end
+abbrev pub KeepsRow : List ℕ → ℕ → ℕ → Type 0
+KeepsRow m p q = (e : ℕ) → InRow m p e → InRow m q e
 
 -- its labels, the root's last
 abbrev pub labels_from : List ℕ → ℕ → Name

@@ -21,6 +21,8 @@ enum Head {
 pub(crate) struct Walked {
     /// How many labels it has, the root's included.
     pub(crate) labels: u8,
+    /// How many octets of its wire form stand in a row, without a pointer; 0 where one is followed.
+    pub(crate) row: u8,
     /// The place behind it: behind its first pointer or its root octet.
     pub(crate) behind: usize,
 }
@@ -41,6 +43,7 @@ pub(crate) fn walk(message: &[u8], start: usize) -> Result<Walked, ParseError>
             Head::Root => {
                 return Ok(Walked {
                     labels,
+                    row: (255 - room) as u8,
                     behind: place + 1,
                 });
             }
@@ -52,6 +55,7 @@ pub(crate) fn walk(message: &[u8], start: usize) -> Result<Walked, ParseError>
             Head::Pointer(to) => {
                 return Ok(Walked {
                     labels: labels_beyond(message, to, room, labels)?,
+                    row: 0,
                     behind: place + 2,
                 });
             }

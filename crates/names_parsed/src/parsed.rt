@@ -6,7 +6,7 @@ ghost use Rattle.names_wire.specs.Label.{octets_of};
 ghost use Rattle.names_labels.specs.Compare.{begins_with};
 ghost use Rattle.names_flat.specs.Suffixes.{suffixes};
 ghost use Rattle.names_parsed.specs.Passing.{Skips, NothingToSkip, StopsPassing};
-ghost use Rattle.names_parsed.specs.Standing.{stands_at, name_from};
+ghost use Rattle.names_parsed.specs.Standing.{stands_at, name_from, HasRow, KeepsRow};
 
 use crate::head::walk;
 use crate::iter::ParsedNameIter;
@@ -26,24 +26,43 @@ pub struct ParsedName<'a> {
     start: usize,
     /// How many labels the name has, the root's included.
     labels: u8,
+    /// How many octets of its wire form stand in a row there, without a pointer; 0 where that is not known.
+    row: u8,
     ghost there: { stands_at message.now start ≡ true },
     ghost counted: { labels ≡ length (name_from message.now start) + 1 },
+    ghost in_row: { HasRow message.now start row },
 }
 
 impl<'a> ParsedName<'a> {
     ghost use Rattle.names_parsed.specs.Parsed.{parsed_name, message_of, place_of, ReadsName, NoName, StopsAt, HasPointers, HasNoPointers};
 
-    /// The name at a place, which has so many labels.
-    pub(crate) fn at(message: &'a [u8], start: usize, labels: u8) -> Self
-        requires stands { stands_at message.now start ≡ true }
-        requires all { labels ≡ length (name_from message.now start) + 1 }
-        ensures { parsed_name result ≡ name_from message.now start }
+    /// The name at a place of the message where a suffix of this one stands, which has so many labels.
+    fn suffix(&self, start: usize, labels: u8) -> Self
+        requires stands { stands_at (message_of self.now) start ≡ true }
+        requires all { labels ≡ length (name_from (message_of self.now) start) + 1 }
+        requires row { KeepsRow (message_of self.now) (place_of self.now) start }
+        ensures { parsed_name result ≡ name_from (message_of self.now) start }
     {
+        let row = if self.row == 0 {
+            0
+        } else {
+            (self.start + usize::from(self.row) - start) as u8
+        };
         ParsedName {
-            message,
+            message: self.message,
             start,
             labels,
+            row,
         }
+    }
+
+    /// The name without so many of its first labels.
+    pub(crate) fn without(&self, count: u8) -> Self
+        requires { count ≤ length (parsed_name self.now) }
+        ensures { parsed_name result ≡ drop count (parsed_name self.now) }
+    {
+        let start = place_behind(self.message, self.start, usize::from(count));
+        self.suffix(start, self.labels - count)
     }
 
     /// Reads the name that stands where the parser is, and goes behind it: behind its first pointer or its root octet.
@@ -64,6 +83,7 @@ impl<'a> ParsedName<'a> {
             message,
             start,
             labels: walked.labels,
+            row: walked.row,
         })
     }
 
@@ -126,14 +146,7 @@ impl<'a> ParsedName<'a> {
             return None;
         }
         let (label, start) = label_from(self.message, self.start);
-        Some((
-            label,
-            ParsedName {
-                message: self.message,
-                start,
-                labels: self.labels - 1,
-            },
-        ))
+        Some((label, self.suffix(start, self.labels - 1)))
     }
 
     /// The name without its first label; nothing for the root.
@@ -163,7 +176,7 @@ impl<'a> ParsedName<'a> {
     pub fn iter_suffixes(&self) -> ParsedSuffixIter<'a>
         ensures { result ≡ suffixes (parsed_name self.now) }
     {
-        ParsedSuffixIter::new(self.message, self.start, self.labels)
+        ParsedSuffixIter::new(*self, self.labels)
     }
 
     /// Whether a pointer is followed from the name's place on.
@@ -171,6 +184,9 @@ impl<'a> ParsedName<'a> {
         ensures compressed { result ≡ true → HasPointers (message_of self.now) (place_of self.now) }
         ensures flat { result ≡ false → HasNoPointers (message_of self.now) (place_of self.now) }
     {
+        if self.row > 0 {
+            return false;
+        }
         let mut place = self.start;
         loop {
             match label_at(self.message, place) {
@@ -242,6 +258,13 @@ impl<'a> Labels for ParsedName<'a> {
             return None;
         }
         Some(label_from(self.message, place))
+    }
+
+    fn label_row(&self) -> Option<&[u8]> {
+        if self.row == 0 {
+            return None;
+        }
+        Some(&self.message[self.start..self.start + usize::from(self.row)])
     }
 }
 

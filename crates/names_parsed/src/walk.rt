@@ -2,7 +2,7 @@
 
 ghost use Rattle.std.specs.Prelude.{◌≡◌, ◌≤◌, ℕ, Some, true, length, drop, slice_get};
 ghost use Rattle.names_wire.specs.Label.{octets_of};
-ghost use Rattle.names_parsed.specs.Standing.{stands_at, name_from, labels_from};
+ghost use Rattle.names_parsed.specs.Standing.{stands_at, name_from, labels_from, KeepsRow};
 ghost use Rattle.names_parsed.specs.Walking.{StepsTo};
 
 use names_wire::label::{Label, SplitLabelError};
@@ -40,6 +40,7 @@ pub(crate) fn place_behind(message: &[u8], start: usize, count: usize) -> usize
     requires labels { count ≤ length (name_from message.now start) }
     ensures stands { stands_at message.now result ≡ true }
     ensures labels { name_from message.now result ≡ drop count (name_from message.now start) }
+    ensures row { KeepsRow message.now start result }
 {
     let mut place = start;
     for _ in 0..count {

@@ -93,10 +93,14 @@ pub trait ToName: Absolute {
         self.to_vec(alloc)
     }
 
-    /// The name over octets that may be borrowed or owned: here a copy.
-    fn to_cow(&self, alloc: Global) -> Result<Name<CowSlice<'static, u8>>, ShortBuf>
+    /// The name over octets that are borrowed where its labels stand in a row, and else copied. It is refused for want of
+    /// memory alone.
+    fn to_cow(&self, alloc: Global) -> Result<Name<CowSlice<'_, u8>>, ShortBuf>
         ensures { IfOk result (λ n. n ≡ Self.name self.now) }
     {
+        if let Some(row) = self.label_row() {
+            return Ok(Name::borrowed(row));
+        }
         match self.to_vec(alloc) {
             Ok(name) => Ok(name.into_cow()),
             Err(error) => Err(error),

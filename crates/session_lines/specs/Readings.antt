@@ -17,7 +17,7 @@ use Rattle.plain.specs.Soa.{soa_octets, soa_canonical}
 use Rattle.plain.specs.declared.soa.Soa.{Soa}
 use Rattle.plain.specs.declared.record.Record.{Record}
 use Rattle.plain.specs.declared.zone_data.ZoneRecordData.{ZoneRecordData}
-use Rattle.records.specs.HandedRr.{handed_of, is_unknown, written_of, canonical_of}
+use Rattle.messages.specs.HandedRr.{handed_of, is_unknown, written_of, canonical_of}
 use Rattle.session_lines.specs.Grammar.{ZoneLine, ActLine, EventLine, DataField, KeyCall, ShowDs, ShowDnskey, Ask, Judge, JudgeBytes}
 use Rattle.session_lines.specs.Sessions.{Lines, session_of}
 

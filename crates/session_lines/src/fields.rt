@@ -2,9 +2,9 @@
 ghost use Rattle.std.specs.Prelude.{◌≡◌, ◌≤◌, ◌↔◌, length, map, IfOk, IsErrOf, Some, None, true, false, string_bytes, if◌then◌else◌};
 ghost use Rattle.std.specs.Result.{result_ok};
 ghost use Rattle.std.specs.List.{list_all};
-ghost use Rattle.records.specs.Message.{owner_at};
-ghost use Rattle.records.specs.NameOctets.{name_of_octets};
-ghost use Rattle.records.specs.View.{named};
+ghost use Rattle.messages.specs.Message.{owner_at};
+ghost use Rattle.messages.specs.NameOctets.{name_of_octets};
+ghost use Rattle.messages.specs.View.{named};
 ghost use Rattle.session_lines.specs.Fields.{base64_field, hex_field, key_field, is_reference};
 ghost use Rattle.session_lines.specs.Grammar.{name_field, references_field};
 ghost use Rattle.session_lines.specs.Readings.{Reads, texts};
@@ -14,8 +14,8 @@ use answer::names::Name;
 use base64::DecodeAllocError;
 use base64::engine::general_purpose::STANDARD;
 use hex::FromHexError;
+use messages::names::{name_at_place, name_from_octets};
 use names_flat::text_error::FromStrError;
-use records::names::{name_at_place, name_from_octets};
 use std::alloc::Global;
 
 /// The most octets of a DNSKEY record's key: its data are at most 65,535 (RFC 4034, 2.1).

@@ -21,8 +21,8 @@ use answer_scheme::scheme::Scheme;
 use denial_data::Ds;
 use denial_hashes::hasher::Nsec3Hasher;
 use keyset::{Action, UnixTime};
+use messages::names::ZoneName;
 use messages::question::Question;
-use records::names::ZoneName;
 use std::alloc::{AllocError, Global};
 
 /// A run so far: the publisher, and what is kept of the events.

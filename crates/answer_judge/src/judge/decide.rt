@@ -10,17 +10,16 @@ ghost use Rattle.names_parsed.specs.Parsed.{parsed_name};
 
 use crate::judge::verdict::{DataList, Verdict};
 use denial_data::Nsec;
+use messages::names::{Name, Octets, ParsedName, ToName, ZoneName, is_above, is_at_or_above};
 use names_data::rtype::Rtype;
-use names_parsed::parsed;
-use records::names::{Name, Octets, ParsedName, ToName, ZoneName, is_above, is_at_or_above};
 use std::alloc::{AllocError, Global};
 use std::marker::Model;
 
 /// A verified NSEC record (RFC 4034, 4), in place. A contract sees owner, next name and the octets of its bitmap.
 #[derive(Drop)]
 pub(crate) struct Link<'a> {
-    owner: parsed::ParsedName<'a>,
-    data: Nsec<&'a [u8], parsed::ParsedName<'a>>,
+    owner: ParsedName<'a>,
+    data: Nsec<&'a [u8], ParsedName<'a>>,
 }
 
 impl<'a> Model for Link<'a> {
@@ -38,19 +37,16 @@ impl<'a> Model for Link<'a> {
 
 impl<'a> Link<'a> {
     /// A link of its owner and its data.
-    pub(crate) fn new(owner: &ParsedName<'a>, data: Nsec<&'a [u8], parsed::ParsedName<'a>>) -> Self
-        ensures owner { result.owner ≡ owner.now }
+    pub(crate) fn new(owner: ParsedName<'a>, data: Nsec<&'a [u8], ParsedName<'a>>) -> Self
+        ensures owner { result.owner ≡ parsed_name owner.entry }
         ensures next { result.next ≡ parsed_name data.entry.next_name }
         ensures types { result.bits ≡ data.entry.types }
     {
-        Link {
-            owner: *owner.as_parsed(),
-            data,
-        }
+        Link { owner, data }
     }
 
     /// The next name.
-    fn next(&self) -> &parsed::ParsedName<'a>
+    fn next(&self) -> &ParsedName<'a>
         ensures { parsed_name result.now ≡ self.now.next }
     {
         self.data.next_name()

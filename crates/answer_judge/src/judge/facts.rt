@@ -12,10 +12,10 @@ use crate::judge::decide::Link;
 use crate::judge::groups::{Group, Trust, read_group, verify_groups};
 use crate::judge::verdict::DataList;
 use answer_scheme::checks::Checks;
-use messages::ViewRecord;
+use messages::names::{Name, ToName, cow_name, is_at_or_above};
+use messages::{Owner, ViewRecord};
 use names_data::rtype::Rtype;
 use plain::numbers::Class;
-use records::names::{Name, ParsedName, ToName, ZoneName, is_at_or_above, written_out};
 use std::alloc::{AllocError, Global};
 
 /// What signatures of an answer verify: the RRset that was asked for, and NSEC records.
@@ -54,7 +54,7 @@ pub(crate) fn read_facts<'a, C: Checks>(
     ensures same { C.answers checks.new ≡ C.answers checks.old }
 {
     let mut groups = read_nsec_groups(alloc, trust.apex, message, records)?;
-    let owner = name.try_clone(alloc)?;
+    let owner = cow_name(alloc, name)?;
     groups.push(read_group(alloc, message, records, owner, rtype)?)?;
     verify_groups(alloc, message, records, trust, &mut groups, checks, count)?;
     let answer = asked_of(groups.pop());
@@ -74,16 +74,16 @@ fn asked_of(group: Option<Group>) -> Option<DataList>
 }
 
 /// The NSEC RRsets of one record at or below the apex, in order of first record.
-fn read_nsec_groups(
+fn read_nsec_groups<'r>(
     alloc: Global,
     apex: &Name<Vec<u8>>,
     message: &[u8],
-    records: &[ViewRecord],
-) -> Result<Vec<Group>, AllocError>
+    records: &'r [ViewRecord],
+) -> Result<Vec<Group<'r>>, AllocError>
     ensures { let rs = map spelled records.now in
         IfOk result (λ gs. AreGathered message.now apex.now rs rs gs.items) }
 {
-    let mut groups: Vec<Group> = Vec::new(alloc);
+    let mut groups: Vec<Group<'r>> = Vec::new(alloc);
     for record in records {
         if is_nsec(record) && !is_among(&groups, &record.owner) {
             if let Some(group) = read_nsec_group(alloc, apex, message, records, &record.owner)? {
@@ -95,21 +95,21 @@ fn read_nsec_groups(
 }
 
 /// The NSEC RRset of an owner, if that is at or below the apex and the RRset is one record.
-fn read_nsec_group(
+fn read_nsec_group<'r>(
     alloc: Global,
     apex: &Name<Vec<u8>>,
     message: &[u8],
     records: &[ViewRecord],
-    owner: &ParsedName,
-) -> Result<Option<Group>, AllocError>
+    owner: &'r Owner,
+) -> Result<Option<Group<'r>>, AllocError>
     ensures { let rs = map spelled records.now in
         IfOk result (λ o. MatchOption o (stands_alone message.now apex.now rs owner.now ≡ false)
         (λ g. (g.owner ≡ owner.now) × IsAlone message.now apex.now rs g)) }
 {
-    if !is_at_or_above(apex, owner.as_parsed()) {
+    if !is_at_or_above(apex, owner.name()) {
         return Ok(None);
     }
-    let owner = written_out(alloc, owner.as_parsed())?;
+    let owner = cow_name(alloc, owner.name())?;
     let group = read_group(alloc, message, records, owner, Rtype::NSEC)?;
     Ok(if group.items.len() == 1 {
         Some(group)
@@ -126,11 +126,11 @@ fn is_nsec(record: &ViewRecord) -> bool
 }
 
 /// Whether an owner has one of the groups.
-fn is_among(groups: &[Group], owner: &ParsedName) -> bool
+fn is_among(groups: &[Group], owner: &Owner) -> bool
     ensures { result ≡ list_any (has_owner owner.now) groups.now }
 {
     for group in groups {
-        if owner.name_eq(&group.owner) {
+        if owner.name().name_eq(&group.owner) {
             return true;
         }
     }
@@ -138,11 +138,11 @@ fn is_among(groups: &[Group], owner: &ParsedName) -> bool
 }
 
 /// Whether an owner has one of the groups, and that is verified.
-fn is_verified(groups: &[Group], owner: &ParsedName) -> bool
+fn is_verified(groups: &[Group], owner: &Owner) -> bool
     ensures { result ≡ list_any (is_proved owner.now) groups.now }
 {
     for group in groups {
-        if group.verified.is_some() && owner.name_eq(&group.owner) {
+        if group.verified.is_some() && owner.name().name_eq(&group.owner) {
             return true;
         }
     }
@@ -163,7 +163,7 @@ fn read_links<'a>(
     for record in records {
         if is_nsec(record) && is_verified(groups, &record.owner) {
             if let Some(data) = record.link(message) {
-                links.push(Link::new(&record.owner, data))?;
+                links.push(Link::new(*record.owner.name(), data))?;
             }
         }
     }

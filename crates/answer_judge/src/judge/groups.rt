@@ -6,7 +6,7 @@ ghost use Rattle.answer_judge.specs.Facts.{is_signature, is_due, fits_key, signs
 ghost use Rattle.answer_judge.specs.Verified.{datum_of, rrset_in};
 ghost use Rattle.answer_judge.specs.declared.judge.groups.Group.{Group};
 ghost use Rattle.answer_judge.specs.Marked.{held_by, is_of, are_apart, data_in, marked, signed_of, signs_group, is_tried_in, tries_in};
-ghost use Rattle.records.specs.Message.{if_true};
+ghost use Rattle.messages.specs.Message.{if_true};
 ghost use Rattle.answer_judge.specs.Counted.{can_try, one_if};
 ghost use Rattle.std.specs.Option.{option_map};
 ghost use Rattle.std.specs.List.{find, list_any};
@@ -16,15 +16,15 @@ ghost use Rattle.definitions.specs.Serial.{serial_le};
 
 use crate::judge::keys::TaggedKey;
 use answer_scheme::checks::Checks;
+use answer_zone::ranked::put_data;
 use denial_data::Rrsig;
-use messages::ViewRecord;
+use messages::names::{Name, ParsedName, ToName, ZoneName};
+use messages::signed::signed_octets;
+use messages::{Owner, ViewRecord};
 use names_data::rtype::Rtype;
-use names_parsed::parsed;
 use plain::numbers::{Class, SecurityAlgorithm, Ttl};
-use records::names::{Name, ParsedName, ToName, ZoneName};
-use signed_data::ranked::put_data;
-use signed_data::signed::signed_octets;
 use std::alloc::{AllocError, Global};
+use std::borrow::CowSlice;
 
 /// What a signature says beside the RRset that it covers and the name that signs it (RFC 4034, 3.1).
 #[derive(Clone, Copy, Debug)]
@@ -37,17 +37,20 @@ pub(crate) struct Signed {
     pub(crate) tag: u16,
 }
 
+/// The owner of an RRset, borrowed from what has it in a row.
+pub(crate) type GroupOwner<'a> = Name<CowSlice<'a, u8>>;
+
 /// An RRset of a message: its canonical data ascending, each once, and what the first signature says that verified it.
 #[derive(Debug, Drop)]
-pub(crate) struct Group {
-    pub(crate) owner: Name<Vec<u8>>,
+pub(crate) struct Group<'a> {
+    pub(crate) owner: GroupOwner<'a>,
     pub(crate) rtype: Rtype,
     pub(crate) items: Vec<Vec<u8>>,
     pub(crate) verified: Option<Signed>,
 }
 
 /// A signature in a message, its signer in place.
-type Signature<'a> = Rrsig<&'a [u8], parsed::ParsedName<'a>>;
+type Signature<'a> = Rrsig<&'a [u8], ParsedName<'a>>;
 
 /// What signatures are held against: the apex, the keys that may sign, and the moment.
 #[derive(Drop)]
@@ -57,23 +60,23 @@ pub(crate) struct Trust<'a> {
     pub(crate) moment: u32,
 }
 
-impl Group {
+impl<'a> Group<'a> {
     /// Whether the group has a type and an owner, up to case.
-    pub(crate) fn is_of(&self, owner: &ParsedName, rtype: Rtype) -> bool
+    pub(crate) fn is_of(&self, owner: &Owner, rtype: Rtype) -> bool
         ensures { result ≡ ((self.now.rtype == rtype) && same owner.now self.now.owner) }
     {
-        self.rtype == rtype && owner.name_eq(&self.owner)
+        self.rtype == rtype && owner.name().name_eq(&self.owner)
     }
 }
 
 /// The RRset of an owner and a type: what reads of the records of class IN.
-pub(crate) fn read_group(
+pub(crate) fn read_group<'a>(
     alloc: Global,
     message: &[u8],
     records: &[ViewRecord],
-    owner: Name<Vec<u8>>,
+    owner: GroupOwner<'a>,
     rtype: Rtype,
-) -> Result<Group, AllocError>
+) -> Result<Group<'a>, AllocError>
     ensures owner { IfOk result (λ g. g.owner ≡ owner) }
     ensures rtype { IfOk result (λ g. g.rtype ≡ rtype) }
     ensures items { let rs = map spelled records.now in
@@ -99,13 +102,13 @@ fn datum_of(
     alloc: Global,
     message: &[u8],
     record: &ViewRecord,
-    owner: &Name<Vec<u8>>,
+    owner: &GroupOwner,
     rtype: Rtype,
 ) -> Result<Option<Vec<u8>>, AllocError>
     ensures { IfOk result (λ o. option_map (λ v. v.items) o
         ≡ datum_of pointer_limit message.now owner.now rtype (spelled record.now)) }
 {
-    if record.class == Class::IN && record.rtype == rtype && record.owner.name_eq(owner) {
+    if record.class == Class::IN && record.rtype == rtype && record.owner.name().name_eq(owner) {
         return record.canonical_data(alloc, message);
     }
     Ok(None)
@@ -184,7 +187,7 @@ fn verify_record<C: Checks>(
 }
 
 /// The place of a group of an owner and a type.
-fn place_of(groups: &[Group], owner: &ParsedName, rtype: Rtype) -> Option<usize>
+fn place_of(groups: &[Group], owner: &Owner, rtype: Rtype) -> Option<usize>
     ensures within { IfSome result (λ i. i < length groups.now) }
     ensures found { let is = is_of owner.now rtype in
         MatchOption result (list_any is groups.now ≡ false)
@@ -265,7 +268,7 @@ fn octets_of(alloc: Global, signature: &Signature, group: &Group) -> Result<Vec<
 
 impl<'a> Trust<'a> {
     /// Whether a signature is the apex's, holds at the moment, and counts the labels of an owner (RFC 4035, 5.3.1).
-    fn is_due(&self, signature: &Signature, owner: &Name<Vec<u8>>) -> bool
+    fn is_due(&self, signature: &Signature, owner: &GroupOwner) -> bool
         ensures { let f = fields_read signature.now in
             result ≡ is_due self.now.apex.now self.now.moment owner.now f }
     {

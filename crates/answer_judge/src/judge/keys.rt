@@ -4,17 +4,17 @@ ghost use Rattle.std.specs.List.{list_any};
 ghost use Rattle.definitions.specs.Dnskey.{key_tag};
 ghost use Rattle.answer_judge.specs.Facts.{is_usable, is_trusted, names_key};
 ghost use Rattle.answer_judge.specs.Judging.{clashes, has_equal_tags, key_at, keys_in};
-ghost use Rattle.records.specs.Message.{data_of};
+ghost use Rattle.messages.specs.Message.{data_of};
 ghost use Rattle.messages.specs.Record.{spelled};
 
 use answer_scheme::checks::Checks;
 use answer_scheme::error::SchemeError;
+use answer_zone::dnskey::{Dnskey, ZoneKey, key_of_data};
 use denial_data::Ds;
 use messages::ViewRecord;
+use messages::names::{Name, ToName};
 use names_data::rtype::Rtype;
 use plain::numbers::{Class, SecurityAlgorithm};
-use records::names::Name;
-use signed_data::dnskey::{Dnskey, ZoneKey, key_of_data};
 use std::alloc::{AllocError, Global};
 use std::marker::Model;
 
@@ -111,7 +111,10 @@ fn read_key<'a>(
 ) -> Option<TaggedKey<'a>>
     ensures { result ≡ key_at message.now apex.now (spelled record.now) }
 {
-    if record.rtype != Rtype::DNSKEY || record.class != Class::IN || !record.owner.name_eq(apex) {
+    if record.rtype != Rtype::DNSKEY
+        || record.class != Class::IN
+        || !record.owner.name().name_eq(apex)
+    {
         return None;
     }
     let dnskey = key_of_data(record.octets(message))?;

@@ -15,8 +15,8 @@ use crate::group::RrGroup;
 use crate::zone::ZoneRecords;
 use crate::zone::chain::push_links;
 use crate::zone::lookups::{chain_ttl_among, data_among, owner_among};
+use messages::names::{Name, ZoneName, copy_name};
 use names_data::rtype::Rtype;
-use records::names::{Name, ZoneName};
 use std::alloc::{AllocError, Global};
 
 /// The flags of a response, authoritative (RFC 1035, 4.1.1).
@@ -66,7 +66,7 @@ impl ZoneRecords {
     {
         let mut answer = Vec::new(alloc);
         if self.has(name, rtype) {
-            answer.push(self.rrset(alloc, name.try_clone(alloc)?, rtype, false)?)?;
+            answer.push(self.rrset(alloc, copy_name(alloc, name)?, rtype, false)?)?;
             return Ok(ZoneAnswer {
                 flags: AUTHORITATIVE,
                 answer,
@@ -128,7 +128,7 @@ impl ZoneRecords {
             Some(owner) => owner,
             None => &self.apex,
         };
-        self.rrset(alloc, owner.try_clone(alloc)?, Rtype::SOA, true)
+        self.rrset(alloc, copy_name(alloc, owner)?, Rtype::SOA, true)
     }
 
     /// The RRset of an owner and a type, written under a name that is the owner up to case, or each record as it spells

@@ -8,7 +8,7 @@ ghost use Rattle.denial_owners.specs.Refused.{IsOwnersFault};
 ghost use Rattle.denial_owners.specs.Soa.{soa_ttls};
 ghost use Rattle.denial_owners.specs.Ttls.{has_unequal_ttls};
 ghost use Rattle.plain.specs.ZoneData.{zone_canonical, zone_type};
-ghost use Rattle.records.specs.HandedRr.{handed_of};
+ghost use Rattle.messages.specs.HandedRr.{handed_of};
 ghost use Rattle.answer_zone.specs.GroupView.{Adds, Presents};
 ghost use Rattle.answer_zone.specs.Links.{group_of, link_of, link_speaks, links_of, said_of};
 
@@ -19,11 +19,11 @@ use denial_nsec::config::GenerateNsecConfig;
 use denial_nsec::generate::generate_nsecs;
 use denial_owners::error::SigningError;
 use denial_sorted::sorted::SortedRecords;
+use messages::names::{Name, ToName, ZoneName, copy_name};
+use messages::record::ZoneData;
 use names_data::rtype::Rtype;
 use plain::numbers::Ttl;
 use plain::record::Record;
-use records::names::{Name, ToName, ZoneName};
-use records::record::ZoneData;
 use std::alloc::{AllocError, Global};
 use std::cmp::Ordering;
 use std::marker::Model;
@@ -82,8 +82,8 @@ impl ChainLink {
         ensures { IfOk result (λ l. l ≡ link_of (record_of (λ n. n) nsec.now)) }
     {
         Ok(ChainLink {
-            owner: nsec.owner().try_clone(alloc)?,
-            next: nsec.data().next_name().try_clone(alloc)?,
+            owner: copy_name(alloc, nsec.owner())?,
+            next: copy_name(alloc, nsec.data().next_name())?,
             octets: written_octets(alloc, nsec.data())?,
         })
     }
@@ -124,7 +124,7 @@ impl ChainLink {
     fn group(&self, alloc: Global, ttl: Ttl) -> Result<RrGroup, AllocError>
         ensures { IfOk result (λ g. Presents g (group_of ttl self.now)) }
     {
-        let owner = self.owner.try_clone(alloc)?;
+        let owner = copy_name(alloc, &self.owner)?;
         let count = owner.rrsig_label_count();
         let mut canonical = Vec::new(alloc);
         canonical.push(self.written(alloc)?)?;

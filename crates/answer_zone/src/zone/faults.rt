@@ -2,8 +2,8 @@
 ghost use Rattle.std.specs.Prelude.{◌≡◌, ◌==◌, not, ◌&&◌, ◌||◌, [], ◌∷◌, map};
 ghost use Rattle.std.specs.List.{list_any};
 ghost use Rattle.definitions.specs.Name.{at_or_above, strictly_above};
-ghost use Rattle.records.specs.HandedRr.{among, handed_of, is_meta, has_star};
-ghost use Rattle.records.specs.Star.{begins_with_star};
+ghost use Rattle.messages.specs.HandedRr.{among, handed_of, is_meta, has_star};
+ghost use Rattle.messages.specs.Star.{begins_with_star};
 ghost use Rattle.answer_zone.specs.Accepting.{first_fault, over_limit};
 ghost use Rattle.answer_zone.specs.ZoneView.{mode_of};
 
@@ -12,8 +12,8 @@ use crate::zone::given::{
     delegates_star, is_added_by_signing, is_alias, is_cut_or_star, is_meta, is_of_other_class,
     is_outside,
 };
-use records::names::Name;
-use records::record::ZoneRecord;
+use messages::names::Name;
+use messages::record::ZoneRecord;
 
 /// The first fault of a list, each sought in the whole list before the next.
 pub(super) fn first_fault(

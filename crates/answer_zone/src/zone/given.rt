@@ -1,15 +1,15 @@
 //! Records as they are handed in, and what makes one of them no record of a zone that is published.
 ghost use Rattle.std.specs.Prelude.{◌≡◌, ◌==◌, not, ◌&&◌, ◌||◌, [], ◌∷◌};
 ghost use Rattle.definitions.specs.Name.{at_or_above, strictly_above};
-ghost use Rattle.records.specs.HandedRr.{among, handed_of, is_meta, is_unknown, has_star};
-ghost use Rattle.records.specs.Star.{begins_with_star};
+ghost use Rattle.messages.specs.HandedRr.{among, handed_of, is_meta, is_unknown, has_star};
+ghost use Rattle.messages.specs.Star.{begins_with_star};
 ghost use Rattle.plain.specs.ZoneData.{zone_type};
 
+use messages::names::{Name, ZoneName, is_above, is_at_or_above};
+use messages::record::{ZoneData, ZoneRecord};
 use names_data::rtype::Rtype;
 use plain::numbers::Class;
 use plain::zone_data::ZoneRecordData;
-use records::names::{Name, ZoneName};
-use records::record::{ZoneData, ZoneRecord};
 
 /// Whether the class is another than IN (RFC 1035, 3.2.4).
 pub(super) fn is_of_other_class(rr: &ZoneRecord) -> bool
@@ -22,7 +22,7 @@ pub(super) fn is_of_other_class(rr: &ZoneRecord) -> bool
 pub(super) fn is_outside(rr: &ZoneRecord, apex: &Name<Vec<u8>>) -> bool
     ensures { result ≡ not (at_or_above apex.now rr.now.owner) }
 {
-    !rr.owner().is_at_or_below(apex)
+    !is_at_or_above(apex, rr.owner())
 }
 
 /// Whether signing adds records of this type (RFC 4034; RFC 5155).
@@ -70,5 +70,5 @@ pub(super) fn is_cut_or_star(rr: &ZoneRecord, apex: &Name<Vec<u8>>) -> bool
     ensures { result ≡ (((zone_type rr.now.content == 2) && strictly_above apex.now rr.now.owner)
         || has_star rr.now.owner) }
 {
-    (rr.rtype() == Rtype::NS && rr.owner().is_below(apex)) || rr.owner().has_star()
+    (rr.rtype() == Rtype::NS && is_above(apex, rr.owner())) || rr.owner().has_star()
 }

@@ -4,11 +4,11 @@ ghost use Rattle.answer_zone.specs.Served.{minimum_of};
 ghost use Rattle.definitions.specs.Name.{same};
 
 use crate::group::GroupRecord;
+use messages::names::{Name, ToName, copy_name};
+use messages::record::{ZoneRecord, keeps};
 use names_data::data::{ComposeRecordData, RecordData};
 use names_data::rtype::Rtype;
 use plain::numbers::Ttl;
-use records::names::{Name, ToName, ZoneName};
-use records::record::{ZoneRecord, keeps};
 use std::alloc::{AllocError, Global};
 use std::marker::Model;
 
@@ -21,7 +21,7 @@ pub struct HandedRecord {
 
 impl Model for HandedRecord {
     ghost use Rattle.std.specs.Prelude.{◌≡◌};
-    ghost use Rattle.records.specs.HandedRr.{HandedRr, canonical_of, handed_of};
+    ghost use Rattle.messages.specs.HandedRr.{HandedRr, canonical_of, handed_of};
 
     ghost Value = { HandedRr };
 
@@ -31,8 +31,8 @@ impl Model for HandedRecord {
 }
 
 impl HandedRecord {
-    ghost use Rattle.records.specs.Handed.{IsHanded};
-    ghost use Rattle.records.specs.HandedRr.{handed_of};
+    ghost use Rattle.messages.specs.Handed.{IsHanded};
+    ghost use Rattle.messages.specs.HandedRr.{handed_of};
     ghost use Rattle.answer_zone.specs.ZoneView.{is_of};
     ghost use Rattle.definitions.specs.Name.{Name};
     ghost use Rattle.answer_zone.specs.GroupView.{record_under, spelled_by};
@@ -89,7 +89,7 @@ impl HandedRecord {
             → record_under owner self.now.rtype g ≡ spelled_by own owner self.now) }
     {
         let owner = if own {
-            Some(self.owner().try_clone(alloc)?)
+            Some(copy_name(alloc, self.owner())?)
         } else {
             None
         };

@@ -11,9 +11,9 @@ ghost use Rattle.answer_zone.specs.ZoneView.{is_of};
 use crate::group::GroupRecord;
 use crate::zone::ZoneRecords;
 use crate::zone::handed::HandedRecord;
+use messages::names::{Name, ToName, is_at_or_above};
 use names_data::rtype::Rtype;
 use plain::numbers::Ttl;
-use records::names::{Name, ToName, ZoneName};
 use std::alloc::{AllocError, Global};
 
 impl ZoneRecords {
@@ -28,7 +28,7 @@ impl ZoneRecords {
     pub fn exists(&self, name: &Name<Vec<u8>>) -> bool
         ensures { result ≡ exists (zone_with self.now.apex self.now.records) (low name.now) }
     {
-        name.is_at_or_below(&self.apex) && any_at_or_below(&self.records, name)
+        is_at_or_above(&self.apex, name) && any_at_or_below(&self.records, name)
     }
 
     /// The TTL of an owner and a type, 0 where the zone has none.
@@ -88,7 +88,7 @@ fn any_of(records: &[HandedRecord], name: &Name<Vec<u8>>, rtype: Rtype) -> bool
 fn any_at_or_below(records: &[HandedRecord], name: &Name<Vec<u8>>) -> bool
     ensures { result ≡ list_any (λ r. at_or_above name.now r.owner) records.now }
 {
-    records.iter().any(|r| r.owner().is_at_or_below(name))
+    records.iter().any(|r| is_at_or_above(name, r.owner()))
 }
 
 /// The TTL of the first record of an owner and a type.

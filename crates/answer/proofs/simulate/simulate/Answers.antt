@@ -2,7 +2,7 @@ use Rattle.std.proofs.Common.{rules, ◌+◌, List, ap, length, map, subst, sym,
 use Rattle.std.proofs.lemmas.List.{length_push}
 use Rattle.answer_zone.specs.Accepting.{sorted_records}
 use Rattle.answer_zone.specs.ZoneView.{mode_of}
-use Rattle.records.specs.HandedRr.{handed_of}
+use Rattle.messages.specs.HandedRr.{handed_of}
 use Rattle.answer.specs.declared.event.Outcome.{Outcome}
 use Rattle.answer.specs.Running.{sofar}
 use Rattle.answer.specs.Simulating.{Simulates, Sofar, begin}

@@ -1,7 +1,7 @@
 use Rattle.std.proofs.Common.{◌≡◌, length, map}
 use Rattle.answer_zone.specs.Accepting.{sorted_records}
 use Rattle.answer_zone.specs.ZoneView.{mode_of}
-use Rattle.records.specs.HandedRr.{handed_of}
+use Rattle.messages.specs.HandedRr.{handed_of}
 use Rattle.answer.specs.Running.{sofar}
 use Rattle.answer.specs.Simulating.{begin}
 use Rattle.answer_publisher.specs.World.{World, world}

@@ -1,7 +1,7 @@
 use Rattle.std.proofs.Common.{◌≡◌, map}
 use Rattle.std.specs.List.{AllByRecursion}
-use Rattle.records.specs.Handed.{IsHanded}
-use Rattle.records.specs.HandedRr.{handed_of}
+use Rattle.messages.specs.Handed.{IsHanded}
+use Rattle.messages.specs.HandedRr.{handed_of}
 use Rattle.answer_zone.proofs.zone.composed.Given as goal
 
 abbrev pub invariant-loop-record : goal.invariant-loop-record

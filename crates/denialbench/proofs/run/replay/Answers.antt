@@ -1,7 +1,7 @@
 use Rattle.std.proofs.Common.{List, ap, map, subst, string_bytes, ◌∙◌, ◌++◌, ◌∷◌, []}
 use Rattle.std.specs.List.{flat_map}
 use Rattle.std.proofs.lemmas.Result.{IfOk-weaker}
-use Rattle.records.specs.HandedRr.{handed_of}
+use Rattle.messages.specs.HandedRr.{handed_of}
 use Rattle.answer_zone.specs.ZoneView.{mode_of}
 use Rattle.answer.specs.Simulating.{Sofar, begin, Simulates}
 use Rattle.answer.specs.declared.event.Event.{Event}

@@ -1,6 +1,6 @@
 use Rattle.std.proofs.Common.{◌++◌, length, refl}
 use Rattle.definitions.specs.Name.{wire}
-use Rattle.records.proofs.NameWritten.{owner_wire}
+use Rattle.messages.proofs.NameWritten.{owner_wire}
 use Rattle.messages.proofs.laws.names_read_back.Goals as goal
 
 pub returns : goal.returns

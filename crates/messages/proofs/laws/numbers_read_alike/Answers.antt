@@ -1,8 +1,8 @@
 use Rattle.std.proofs.Common.{◌≡◌, ℕ, zero, suc, ◌+◌, ◌<◌, List, [], ◌∷◌, length, refl, ap, ◌∙◌, sym, arith}
 use Rattle.std.specs.Prelude.{Some, None, Ok, Err, Result, Option, slice_get, slice_index}
-use Rattle.records.specs.declared.message.MessageError.{MessageError}
-use Rattle.records.specs.declared.message.MessageError.TheVariants.{ShortInput}
-use Rattle.records.specs.Message.{◌>>=◌, octet_at, of_octets, of_pairs, pair, quad, u16_at, u32_at}
+use Rattle.messages.specs.declared.error.MessageError.{MessageError}
+use Rattle.messages.specs.declared.error.MessageError.TheVariants.{ShortInput}
+use Rattle.messages.specs.Message.{◌>>=◌, octet_at, of_octets, of_pairs, pair, quad, u16_at, u32_at}
 use Rattle.messages.proofs.laws.numbers_read_alike.Goals as goal
 
 there : (m : List ℕ) (p : ℕ) → p < length m → slice_get m p ≡ Some (slice_index m p)

@@ -1,6 +1,6 @@
 use Rattle.std.proofs.Common.{◌≡◌, ℕ, suc, ◌+◌, ◌-◌, ◌<◌, ap, ◌∙◌, arith}
 use Rattle.std.proofs.lemmas.Result.{err_from_is_err_and}
-use Rattle.records.specs.Message.{records_at}
+use Rattle.messages.specs.Message.{records_at}
 use Rattle.messages.proofs.MessageRecords.{fault_in, ok_of, err_of, more_records, bad_record}
 use Rattle.messages.proofs.view.read_records.Goals as goal
 use Rattle.definitions.specs.Limits.{pointer_limit}

@@ -1,5 +1,5 @@
 use Rattle.std.proofs.Common.{◌≡◌, ◌-◌}
-use Rattle.records.specs.Message.{records_at}
+use Rattle.messages.specs.Message.{records_at}
 use Rattle.messages.proofs.MessageRecords.{fault_in}
 use Rattle.messages.proofs.view.read_records.Given as goal
 use Rattle.definitions.specs.Limits.{pointer_limit}

@@ -1,10 +1,13 @@
-use Rattle.std.proofs.Common.{◌∷◌, ◌++◌, [], ◌+◌, ◌∙◌, ap, subst, refl, Ok, arith, length-append}
+use Rattle.std.proofs.Common.{◌≡◌, ◌∷◌, ◌++◌, [], ◌+◌, ◌∙◌, ap, subst, refl, Ok, arith, length-append}
 use Rattle.std.specs.Prelude.{slice_range}
 use Rattle.std.proofs.lemmas.Option.{slice_get_past}
+use Rattle.std.proofs.lemmas.List.{append-nil}
 use Rattle.definitions.specs.Reading.{name_at}
+use Rattle.definitions.proofs.ReadingLaws.{length-range}
 use Rattle.names_parsed.specs.Heads.{Begins, LabelHead, PointerHead, onto}
 use Rattle.names_parsed.specs.declared.head.Head.{Head}
 use Rattle.names_parsed.proofs.HeadSteps.{onto_start, step_short, label_more, onto_pointer}
+use Rattle.names_parsed.proofs.Rows.{walked_row, wire_len-push}
 use Rattle.names_parsed.proofs.head.walk.Goals as goal
 
 pub returns-then-start-message : goal.returns-then-start-message
@@ -15,7 +18,7 @@ returns-then-start-message c =
 pub loop-len-init : goal.loop-len-init
 loop-len-init c = (
   [],
-  record { so_far = onto_start c.args.message.now c.args.start; counted = refl; sized = omega arith; inside = c.if-start-message.false },
+  record { so_far = onto_start c.args.message.now c.args.start; counted = refl; sized = omega arith; inside = c.if-start-message.false; spent = refl; here = refl },
 )
 
 pub loop-len-preserved : goal.loop-len-preserved
@@ -34,6 +37,8 @@ loop-len-preserved c =
         counted = omega (arith, c.loop-len.invariant.1.counted, length-append done (l ∷ []));
         sized = omega (arith, c.loop-len.invariant.1.sized, b.some, b.fits);
         inside = omega (arith, b.inside);
+        spent = omega (arith, c.loop-len.invariant.1.spent, wire_len-push done l, length-range m (p + 1) len (omega (arith, b.inside)), b.fits);
+        here = omega (arith, c.loop-len.invariant.1.here, b.fits);
       },
     )
 
@@ -50,4 +55,21 @@ returns-in-Pointer c =
       done ++ n.0,
       onto_pointer m c.args.start p (room + 1) to done (Ok n.0) c.loop-len.invariant.1.so_far b n.1,
       omega (arith, n.2, c.loop-len.invariant.1.counted, length-append done n.0),
+      λ some. absurd (omega (arith, some)),
+    )
+
+pub returns-in-Root : goal.returns-in-Root
+returns-in-Root c =
+    let m = c.args.message.now in
+    let p = c.loop-len.place in
+    let room = c.loop-len.room in
+    let P : Head → Type 0 = λ h. Begins 255 (room + 1) m p (Ok h) in
+    let b = subst P c.in-Root.is c.in_ok-head_at.ensures in
+    let done = c.loop-len.invariant.0 in
+    let read : name_at 255 m c.args.start ≡ Ok (done, p + 1) =
+    c.loop-len.invariant.1.so_far ∙ ap (onto done) b.1 ∙ ap (λ n. Ok (n, p + 1)) (append-nil done) in (
+      done,
+      read,
+      c.loop-len.invariant.1.counted,
+      λ some. walked_row m c.args.start (p + 1) room done read c.loop-len.invariant.1.spent (omega (arith, c.loop-len.invariant.1.here)),
     )

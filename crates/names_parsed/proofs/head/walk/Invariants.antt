@@ -1,5 +1,5 @@
 use Rattle.std.proofs.Common.{◌≡◌, ◌+◌, ◌*◌, ◌<◌, ◌≤◌, length}
-use Rattle.definitions.specs.Name.{Name}
+use Rattle.definitions.specs.Name.{Name, wire_len}
 use Rattle.definitions.specs.Reading.{name_at}
 use Rattle.names_parsed.specs.Heads.{rest_at, onto}
 use Rattle.names_parsed.proofs.head.walk.Given as goal
@@ -11,6 +11,8 @@ invariant-loop-len l =
       counted : l.labels ≡ length done + 1;
       sized : 2 * l.labels + l.room ≤ 256;
       inside : l.place < length l.message;
+      spent : wire_len done + l.room ≡ 255;
+      here : l.place + l.room ≡ l.start + 254;
     }
 
 abbrev pub decreases-loop-len : goal.decreases-loop-len

@@ -11,14 +11,14 @@ pub returns-in-Ok : goal.returns-in-Ok
 returns-in-Ok c =
     let m = c.args.message.now in
     let p = c.loop-label.place in
-    steps_from m p c.args.start (octets_of c.in-Ok.label) p c.loop-label.invariant.labels
+    steps_from m p c.args.start (octets_of c.in-Ok.label) p c.loop-label.invariant.labels c.loop-label.invariant.row
     (root_step m p (octets_of c.in-Ok.label) _ c.loop-label.invariant.stands c.in-Ok.ensures (c.is_root.ensures.0 c.if-is_root.true))
 
 pub returns-in-Ok-2 : goal.returns-in-Ok-2
 returns-in-Ok-2 c =
     let m = c.args.message.now in
     let p = c.loop-label.place in
-    steps_from m p c.args.start (octets_of c.in-Ok.label) _ c.loop-label.invariant.labels
+    steps_from m p c.args.start (octets_of c.in-Ok.label) _ c.loop-label.invariant.labels c.loop-label.invariant.row
     (label_step m p (octets_of c.in-Ok.label) _ c.loop-label.invariant.stands c.in-Ok.ensures (λ e. let x : true ≡ false = sym (c.is_root.ensures.1 e) ∙ c.if-is_root.false in cc))
 
 pub overflow_sub-result : goal.overflow_sub-result
@@ -36,4 +36,8 @@ loop-label-smaller c =
 pub loop-label-preserved : goal.loop-label-preserved
 loop-label-preserved c =
     let f = pointer_step c.args.message.now c.loop-label.place c.target-place.result c.loop-label.invariant.stands (c.in-Err.ensures ∙ ap Err c.target-place.ensures) in
-    record { stands = f.stands; labels = f.labels ∙ c.loop-label.invariant.labels }
+    record {
+      stands = f.stands;
+      labels = f.labels ∙ c.loop-label.invariant.labels;
+      row = λ e r. f.row e (c.loop-label.invariant.row e r);
+    }

@@ -1,5 +1,5 @@
 use Rattle.std.proofs.Common.{◌≡◌, true}
-use Rattle.names_parsed.specs.Standing.{stands_at, name_from}
+use Rattle.names_parsed.specs.Standing.{stands_at, name_from, KeepsRow}
 use Rattle.names_parsed.proofs.walk.label_from.Given as goal
 
 abbrev pub decreases-loop-label : goal.decreases-loop-label
@@ -9,4 +9,5 @@ abbrev pub invariant-loop-label : goal.invariant-loop-label
 invariant-loop-label l = record {
   stands : stands_at l.message l.place ≡ true;
   labels : name_from l.message l.place ≡ name_from l.message l.fn.start;
+  row : KeepsRow l.message l.fn.start l.place;
 }

@@ -5,7 +5,7 @@ use Rattle.std.specs.List.{list_any}
 use Rattle.std.specs.Option.{option_map}
 use Rattle.std.proofs.lemmas.Bool.{not-true, not-false}
 use Rattle.messages.specs.Record.{fields_read, spelled, signature_of}
-use Rattle.records.specs.Message.{rrsig_at}
+use Rattle.messages.specs.Message.{rrsig_at}
 use Rattle.answer_judge.specs.Marked.{held_by, is_of}
 use Rattle.answer_judge.proofs.JudgeCounted.{count_again, count_class, count_none, count_now, count_unread}
 use Rattle.answer_judge.proofs.JudgeTried.{untried, tried_none, tried_now, tried_again, class_other, no_signature}

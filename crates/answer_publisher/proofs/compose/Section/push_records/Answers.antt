@@ -2,7 +2,7 @@ use Rattle.std.proofs.Common.{◌≡◌, [], ◌∷◌, ◌++◌, length, subst,
 use Rattle.std.specs.Prelude.{unwrap_or}
 use Rattle.std.specs.List.{flat_map}
 use Rattle.std.proofs.lemmas.Result.{err_from_is_err_and}
-use Rattle.records.specs.Written.{record_octets}
+use Rattle.messages.specs.Written.{record_octets}
 use Rattle.answer_publisher.specs.Composed.{RefusesRecords}
 use Rattle.answer_publisher.proofs.Refusals.{records_refused}
 use Rattle.answer_publisher.proofs.SignRecords.{records_written}

@@ -4,10 +4,10 @@ use Rattle.std.proofs.lemmas.List.Folds.{flat_map-map}
 use Rattle.answer_zone.specs.Served.{written_rr}
 use Rattle.answer_publisher.specs.Composed.{RefusesRecords, rrsig_of}
 use Rattle.std.proofs.lemmas.Result.{err_from_is_err_and}
-use Rattle.records.proofs.Lists.{map-map}
+use Rattle.messages.proofs.Lists.{map-map}
 use Rattle.answer_publisher.proofs.Refusals.{records_refused}
 use Rattle.answer_publisher.proofs.SignRecords.{records_written}
-use Rattle.records.specs.Written.{record_octets}
+use Rattle.messages.specs.Written.{record_octets}
 use Rattle.answer_publisher.proofs.compose.Section.push_signatures.Goals as goal
 
 pub returns-clause-octets : goal.returns-clause-octets

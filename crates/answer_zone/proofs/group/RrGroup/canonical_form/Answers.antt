@@ -1,7 +1,7 @@
 use Rattle.std.proofs.Common.{◌≡◌, length, map, take, not, eqb, ltb, vec_len, ap, sym, ◌∙◌, None, arith}
 use Rattle.std.proofs.Math.Seq.{take-length}
 use Rattle.std.proofs.lemmas.List.{length-map}
-use Rattle.records.proofs.Lists.{map-map, same_octets}
+use Rattle.messages.proofs.Lists.{map-map, same_octets}
 use Rattle.answer_zone.specs.GroupView.{record_under}
 use Rattle.answer_zone.specs.Served.{written_rr}
 use Rattle.answer_zone.proofs.ZoneGroups.{not_empty, written_more}

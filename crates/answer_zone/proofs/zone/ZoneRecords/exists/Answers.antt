@@ -4,16 +4,16 @@ use Rattle.definitions.specs.Name.{at_or_above}
 use Rattle.answer_zone.proofs.ZoneServed.{exists_is}
 use Rattle.answer_zone.proofs.zone.ZoneRecords.exists.Goals as goal
 
-pub returns-then-is_at_or_below : goal.returns-then-is_at_or_below
-returns-then-is_at_or_below c =
+pub returns-then-is_at_or_above : goal.returns-then-is_at_or_above
+returns-then-is_at_or_above c =
     let z = c.self.inside in
     let is = exists_is z.apex z.records.items c.self.invariant.0.plain c.self.invariant.0.inside false c.args.name.now in
-    let above : at_or_above z.apex c.args.name.now ≡ true = sym c.is_at_or_below.ensures ∙ c.if-is_at_or_below.true in
+    let above : at_or_above z.apex c.args.name.now ≡ true = sym c.is_at_or_above.ensures ∙ c.if-is_at_or_above.true in
     rw (← c.self.view_is) (c.any_at_or_below.ensures ∙ ap (list_any (λ r. at_or_above c.args.name.now r.owner)) c.deref.ensures.value ∙ sym (ap (λ b. b && list_any (λ r. at_or_above c.args.name.now r.owner) z.records.items) above) ∙ sym is)
 
-pub returns-else-is_at_or_below : goal.returns-else-is_at_or_below
-returns-else-is_at_or_below c =
+pub returns-else-is_at_or_above : goal.returns-else-is_at_or_above
+returns-else-is_at_or_above c =
     let z = c.self.inside in
     let is = exists_is z.apex z.records.items c.self.invariant.0.plain c.self.invariant.0.inside false c.args.name.now in
-    let above : at_or_above z.apex c.args.name.now ≡ false = sym c.is_at_or_below.ensures ∙ c.if-is_at_or_below.false in
-    rw (← c.self.view_is) (c.if-is_at_or_below.false ∙ sym (ap (λ b. b && list_any (λ r. at_or_above c.args.name.now r.owner) z.records.items) above) ∙ sym is)
+    let above : at_or_above z.apex c.args.name.now ≡ false = sym c.is_at_or_above.ensures ∙ c.if-is_at_or_above.false in
+    rw (← c.self.view_is) (c.if-is_at_or_above.false ∙ sym (ap (λ b. b && list_any (λ r. at_or_above c.args.name.now r.owner) z.records.items) above) ∙ sym is)

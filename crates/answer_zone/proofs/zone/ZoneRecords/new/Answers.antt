@@ -6,7 +6,7 @@ use Rattle.denial_owners.specs.Conditions.{IsOneClass}
 use Rattle.denial_owners.specs.Refused.{IsOwnersFault}
 use Rattle.denial_owners.specs.Soa.{soa_ttls}
 use Rattle.denial_owners.specs.Ttls.{has_unequal_ttls}
-use Rattle.records.specs.HandedRr.{handed_of, is_meta}
+use Rattle.messages.specs.HandedRr.{handed_of, is_meta}
 use Rattle.answer_zone.specs.declared.fault.ZoneFault.TheVariants as fault
 use Rattle.answer_zone.specs.Accepting.{IsFault, first_fault, sorted_records}
 use Rattle.answer_zone.specs.Links.{links_of}

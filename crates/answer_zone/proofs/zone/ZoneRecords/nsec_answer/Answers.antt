@@ -21,7 +21,7 @@ returns-then-has c = λ hash.
     let said = verdict_found apex rs c.requires.published q t there in
     let one : c.push.new.self.items ≡ g ∷ [] = c.in_ok-push.ensures.items ∙ ap (λ x. x ++ g ∷ []) c.new-answer.ensures.items in
     let P : Name → Type 0 = λ o. Presents g (rrset_of false apex rs o t) in
-    let is : P q = subst P c.in_ok-try_clone.ensures c.in_ok-rrset.ensures in
+    let is : P q = subst P c.in_ok-copy_name.ensures c.in_ok-rrset.ensures in
     let zip = subst (AllZip Presents (g ∷ [])) (groups_found apex hash rs c.requires.published q t c.requires.plain there) (is, tt) in
     record {
       groups_are = subst (λ gs. AllZip Presents gs (answer_groups (served_of apex Nsec hash rs) q t)) (sym (ap (λ x. x ++ c.new.result.items) one ∙ ap (λ x. g ∷ x) c.new.ensures.items)) zip;

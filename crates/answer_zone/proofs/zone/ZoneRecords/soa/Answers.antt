@@ -23,7 +23,7 @@ returns c =
       | in-None w ↦ absurd (soa_there apex rs published.soa (sym (ap (λ xs. list_any (is_of c.self.inside.apex 6) xs) items ∙ ap (λ n. list_any (is_of n 6) rs) name) ∙ w.in-None.ensures.none refl))
     ] in
     let P : Name → Name → GroupView → Type 0 = λ o l g. Presents g (record { owner = o; source = l; rtype = 6; ttl = ttl_among rs l 6; written = written_among rs l 6; datas = data_at (zone_with apex rs) l 6; signed = true }) in
-    let owned = c.in_ok-try_clone.ensures ∙ there in
-    if_ok_map (P c.in_ok-try_clone.field-0 (low c.in_ok-try_clone.field-0)) (λ g. (hash : Name → List ℕ) → Presents g (soa (served_of apex Nsec hash rs))) c.rrset.result
+    let owned = c.in_ok-copy_name.ensures ∙ there in
+    if_ok_map (P c.in_ok-copy_name.field-0 (low c.in_ok-copy_name.field-0)) (λ g. (hash : Name → List ℕ) → Presents g (soa (served_of apex Nsec hash rs))) c.rrset.result
     (λ g h hash. subst (λ l. P (owner_among rs (low apex) 6) l g) (low-owner_among rs apex 6) (subst (λ o. P o (low o) g) owned h))
     c.rrset.ensures

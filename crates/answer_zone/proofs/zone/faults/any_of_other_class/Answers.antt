@@ -1,8 +1,8 @@
 use Rattle.std.proofs.Common.{◌∙◌, sym, rules, tests, not, eqb}
 use Rattle.std.proofs.lemmas.Iterator.{YieldsList-from_slice}
 use Rattle.std.proofs.lemmas.Iterator.Search.{any_from_yields_List}
-use Rattle.records.specs.HandedRr.{HandedRr, handed_of}
-use Rattle.records.proofs.Lists.{list_any-map}
+use Rattle.messages.specs.HandedRr.{HandedRr, handed_of}
+use Rattle.messages.proofs.Lists.{list_any-map}
 use Rattle.answer_zone.proofs.zone.faults.any_of_other_class.Goals as goal
 
 pub returns : goal.returns

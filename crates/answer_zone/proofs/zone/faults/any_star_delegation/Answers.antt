@@ -1,9 +1,9 @@
 use Rattle.std.proofs.Common.{◌∙◌, sym, rules, tests, eqb, ◌&&◌}
 use Rattle.std.proofs.lemmas.Iterator.{YieldsList-from_slice}
 use Rattle.std.proofs.lemmas.Iterator.Search.{any_from_yields_List}
-use Rattle.records.specs.Star.{begins_with_star}
-use Rattle.records.specs.HandedRr.{HandedRr, handed_of}
-use Rattle.records.proofs.Lists.{list_any-map}
+use Rattle.messages.specs.Star.{begins_with_star}
+use Rattle.messages.specs.HandedRr.{HandedRr, handed_of}
+use Rattle.messages.proofs.Lists.{list_any-map}
 use Rattle.answer_zone.proofs.zone.faults.any_star_delegation.Goals as goal
 
 pub returns : goal.returns

@@ -1,5 +1,5 @@
 use Rattle.std.proofs.Common.{◌∙◌, ap, length, sym}
-use Rattle.records.specs.Message.{Message}
+use Rattle.messages.specs.Message.{Message}
 use Rattle.messages.proofs.CountedRecords.{read_length}
 use Rattle.messages.proofs.view.MessageView.record_count.Goals as goal
 

@@ -1,8 +1,14 @@
-use Rattle.std.proofs.Common.{◌≡◌, ◌<◌, ◌-◌, ◌∙◌, sym, length, true, false, arith}
+use Rattle.std.proofs.Common.{◌≡◌, ◌<◌, ◌+◌, ◌-◌, ◌∙◌, sym, length, true, false, arith}
 use Rattle.names_wire.specs.Label.{octets_of}
 use Rattle.names_wire.proofs.Along.{behind_short}
 use Rattle.names_parsed.proofs.Parsing.{along_start, along_inside, along_root, along_pointer, along_label}
+use Rattle.names_parsed.proofs.Rows.{row_flat}
 use Rattle.names_parsed.proofs.parsed.ParsedName.is_compressed.Goals as goal
+
+pub returns-then-self-gt0-clause-flat : goal.returns-then-self-gt0-clause-flat
+returns-then-self-gt0-clause-flat c = λ h.
+    let n = c.args.self.now in
+    row_flat n.message.now n.start (n.start + n.row) (n.in_row c.if-self-gt0.true)
 
 pub loop-label-init : goal.loop-label-init
 loop-label-init c = let n = c.args.self.now in along_start n.message.now n.start n.there

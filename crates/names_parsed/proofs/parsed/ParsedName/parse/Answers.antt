@@ -1,4 +1,4 @@
-use Rattle.std.proofs.Common.{◌≡◌, ◌<◌, ◌∙◌, inl, inr, length, refl, sym, ap, Ok, Err, arith}
+use Rattle.std.proofs.Common.{◌≡◌, ◌+◌, ◌<◌, ◌∙◌, inl, inr, length, refl, sym, ap, Ok, Err, arith}
 use Rattle.std.proofs.lemmas.Result.{err_from_is_err_and}
 use Rattle.std.proofs.lemmas.Bool.{false≢true}
 use Rattle.definitions.specs.Reading.{name_at}
@@ -48,7 +48,11 @@ invariant_of-result c =
     let w = c.in_ok-walked.ensures in
     let m = c.as_slice-message.result.now in
     let s = standing m c.pos-start.result w.0 c.in_ok-walked.walked.behind (read_name m c.pos-start.result w.0 c.in_ok-walked.walked.behind w.1) in
-    record { there = s.0; counted = omega (arith, w.2, ap length s.1) }
+    record {
+      there = s.0;
+      counted = omega (arith, w.2, ap length s.1);
+      in_row = λ some. w.3 some ∙ ap (λ n. Ok (n, c.pos-start.result + c.in_ok-walked.walked.row)) (sym s.1);
+    }
 
 pub returns-clause-ok : goal.returns-clause-ok
 returns-clause-ok c =

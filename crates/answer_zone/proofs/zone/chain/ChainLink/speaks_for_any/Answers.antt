@@ -3,7 +3,7 @@ use Rattle.std.specs.List.{list_any}
 use Rattle.std.proofs.lemmas.List.{drop_all}
 use Rattle.definitions.specs.Name.{Name, low, labels_eq}
 use Rattle.definitions.specs.Covering.{covers}
-use Rattle.records.proofs.Lists.{any_past, any_found}
+use Rattle.messages.proofs.Lists.{any_past, any_found}
 use Rattle.answer_zone.proofs.zone.chain.ChainLink.speaks_for_any.Goals as goal
 
 pub loop-name-preserved : goal.loop-name-preserved

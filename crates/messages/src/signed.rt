@@ -1,0 +1,117 @@
+//! The octets that a signature is made over (RFC 4034, 3.1.8.1).
+ghost use Rattle.std.specs.Prelude.{◌≡◌, ◌++◌, map, IfOk, OnOk};
+ghost use Rattle.definitions.specs.Name.{wire};
+ghost use Rattle.denial_data.specs.Protos.{fields_of};
+ghost use Rattle.messages.specs.Items.{items_of};
+ghost use Rattle.definitions.specs.Signing.{fields_data, signed_octets, signed_owner};
+ghost use Rattle.messages.specs.Rrsig.{record_head, spelled_fields, with_length};
+
+use crate::names::{Name, Octets, ToName, ZoneName};
+use denial_data::ProtoRrsig;
+use plain::numbers::Class;
+use std::alloc::{AllocError, Global};
+
+/// The octets that a signature of an RRset is made over: the fields, then the records in the order given
+/// (RFC 4034, 3.1.8.1). An owner with more labels than the fields count is signed as the wildcard that it
+/// stems from (RFC 4035, 5.3.2). The data are canonical and at most 65,535 octets, as a record's are; the
+/// length that is written is taken modulo 65,536.
+pub fn signed_octets<N: ToName, Octs: Octets>(
+    alloc: Global,
+    fields: &ProtoRrsig<N>,
+    owner: &Name<Octs>,
+    class: Class,
+    canonical: &[Vec<u8>],
+) -> Result<Vec<u8>, AllocError>
+    ensures { let f = fields_of N.name fields.now in
+        IfOk result (λ v. v.items ≡ signed_octets f owner.now class (items_of canonical.now)) }
+{
+    let mut out = Vec::with_capacity(alloc, signed_room(owner, canonical))?;
+    compose_signed_fields(fields, &mut out)?;
+    for data in canonical {
+        compose_signed_head(alloc, fields, owner, class, &mut out)?;
+        compose_signed_data(data, &mut out)?;
+    }
+    Ok(out)
+}
+
+/// Room for the fields with the longest signer, and for each record the owner, ten octets and its data.
+fn signed_room<Octs: Octets>(owner: &Name<Octs>, canonical: &[Vec<u8>]) -> usize {
+    let head = owner.as_slice().len().saturating_add(10);
+    let mut room = 18 + 255;
+    for data in canonical {
+        room = head.saturating_add(data.len()).saturating_add(room);
+    }
+    room
+}
+
+/// Writes the fields as they are signed, the signer in canonical form.
+fn compose_signed_fields<N: ToName>(
+    fields: &ProtoRrsig<N>,
+    out: &mut Vec<u8>,
+) -> Result<(), AllocError>
+    ensures ok { let octets = fields_data (fields_of N.name fields.now) in
+        OnOk result (out.new.items ≡ out.old.items ++ octets) }
+{
+    match fields.compose_canonical(out) {
+        Ok(()) => Ok(()),
+        Err(_) => Err(AllocError),
+    }
+}
+
+/// Writes the fields as a record has them, the signer as spelled (RFC 4034, 3.1).
+pub fn compose_fields<N: ToName>(
+    fields: &ProtoRrsig<N>,
+    out: &mut Vec<u8>,
+) -> Result<(), AllocError>
+    ensures ok { let octets = spelled_fields (fields_of N.name fields.now) in
+        OnOk result (out.new.items ≡ out.old.items ++ octets) }
+{
+    match fields.compose(out) {
+        Ok(()) => Ok(()),
+        Err(_) => Err(AllocError),
+    }
+}
+
+/// Writes what each record of a signed RRset begins with.
+fn compose_signed_head<N: ToName, Octs: Octets>(
+    alloc: Global,
+    fields: &ProtoRrsig<N>,
+    owner: &Name<Octs>,
+    class: Class,
+    out: &mut Vec<u8>,
+) -> Result<(), AllocError>
+    ensures ok { let f = fields_of N.name fields.now in
+        let head = record_head (signed_owner f.labels owner.now) f.covered class f.ttl in
+        OnOk result (out.new.items ≡ out.old.items ++ head) }
+{
+    compose_signed_owner(alloc, fields.labels(), owner, out)?;
+    out.extend_from_slice(&fields.type_covered().to_int().to_be_bytes())?;
+    out.extend_from_slice(&class.to_int().to_be_bytes())?;
+    out.extend_from_slice(&fields.original_ttl().as_secs().to_be_bytes())
+}
+
+/// Writes the owner in canonical form, or the wildcard that it stems from (RFC 4035, 5.3.2).
+fn compose_signed_owner<Octs: Octets>(
+    alloc: Global,
+    labels: u8,
+    owner: &Name<Octs>,
+    out: &mut Vec<u8>,
+) -> Result<(), AllocError>
+    ensures ok { OnOk result (out.new.items
+        ≡ out.old.items ++ wire (signed_owner labels owner.now)) }
+{
+    if labels >= owner.rrsig_label_count() {
+        return owner.compose_canonical(out);
+    }
+    let source = owner.suffix(alloc, usize::from(labels))?;
+    out.extend_from_slice(b"\x01*")?;
+    source.compose_canonical(out)
+}
+
+/// Writes the data of a record behind their length.
+fn compose_signed_data(data: &[u8], out: &mut Vec<u8>) -> Result<(), AllocError>
+    ensures ok { OnOk result (out.new.items ≡ out.old.items ++ with_length data.now) }
+{
+    out.extend_from_slice(&((data.len() % 65536) as u16).to_be_bytes())?;
+    out.extend_from_slice(data)
+}

@@ -1,4 +1,0 @@
-pub mod TagPlaces
-pub mod SignOctets
-pub mod SpelledFields
-pub mod KeyData

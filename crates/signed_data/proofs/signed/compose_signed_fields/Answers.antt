@@ -1,6 +1,0 @@
-use Rattle.std.proofs.Common.{◌++◌, ◌∙◌, ap}
-use Rattle.signed_data.proofs.SpelledFields.{fields_signed}
-use Rattle.signed_data.proofs.signed.compose_signed_fields.Goals as goal
-
-pub returns-in-Ok : goal.returns-in-Ok
-returns-in-Ok g c = record { ok = c.in-Ok.ensures.ok ∙ ap (λ x. c.args.out.now.items ++ x) (fields_signed g.N.Labels.name c.args.fields.now) }
