@@ -5,14 +5,12 @@ A chain is made once and once more of the same records, and the difference is di
 that reading the input, sorting and starting the program fall away; what the tests of the conditions cost is counted by
 itself and taken off. Run it from anywhere; it builds crates/chains_bench first.
 """
-import os
 import random
-import re
-import subprocess
 import sys
 
-ROOT = os.path.dirname(os.path.dirname(os.path.abspath(__file__)))
-BENCH = f"{ROOT}/crates/chains_bench"
+from counting import build, counted
+
+BENCH = "chains_bench"
 PLAIN = "abcdefghijklmnopqrstuvwxyz0123456789"
 APEX = ["example. 6 soa", "example. 2 ns1"]
 
@@ -45,12 +43,8 @@ def deep(count):
 
 
 def instructions(task, rounds, records):
-    words = ["valgrind", "--tool=callgrind", "--callgrind-out-file=/dev/null", f"{BENCH}/out/chains_bench"]
-    ran = subprocess.run(words, input="\n".join([f"{task} {rounds}", *records, ""]), capture_output=True, text=True)
-    found = re.search(r"Collected : (\d+)", ran.stderr)
-    if ran.returncode or not found:
-        sys.exit(f"{' '.join(words)} ended with {ran.returncode}\n{ran.stderr}")
-    return int(found[1]), int(ran.stdout)
+    count, made = counted(BENCH, [f"{task} {rounds}", *records])
+    return count, int(made)
 
 
 def row(what, zone):
@@ -61,7 +55,7 @@ def row(what, zone):
 
 
 def main():
-    subprocess.run(["rt", "run"], cwd=BENCH, stdin=subprocess.DEVNULL, capture_output=True, check=True)
+    build(BENCH)
     print("| zone | NSEC records | instructions a record |\n|---|---|---|")
     most = int(sys.argv[1]) if len(sys.argv) > 1 else 100_000
     for count in (1_000, 10_000, 100_000):

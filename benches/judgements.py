@@ -8,46 +8,35 @@ printing fall away; an owner's set-up has the reading of its line in it. The ben
 signatures and digests, SHA-256, is part of the counts; how much of a judgement it is stands beside it. Run it from anywhere;
 it builds crates/denialbench first.
 """
-import os
 import re
 import subprocess
 import sys
 import tempfile
 
-ROOT = os.path.dirname(os.path.dirname(os.path.abspath(__file__)))
-BENCH = f"{ROOT}/crates/denialbench"
+from counting import TOP, build, counted, program
+
+BENCH = "denialbench"
 TIMES = 50
 ASKED = (
     ("records", "n000004.example 1"),
     ("no records of a type", "n000004.example 15"),
     ("no such name", "n000004x.example 1"),
 )
-TOOLS = (("callgrind", r"Collected : (\d+)"), ("memcheck", r"total heap usage: ([\d,]+) allocs"))
+TOOLS = ("callgrind", "memcheck")
 
 
 def opening(owners):
     """A zone of so many owners whose keys have finished their first roll, and what is shown of it."""
-    words = [sys.executable, f"{ROOT}/benches/session.py", str(owners)]
+    words = [sys.executable, str(TOP / "benches/session.py"), str(owners)]
     session = subprocess.run(words, capture_output=True, text=True, check=True)
     lines = [line for line in session.stdout.split("\n") if line and line.split()[0] not in ("ask", "judge")]
     return lines + [f"ask {asked} 7200" for _, asked in ASKED]
 
 
-def run(tool, pattern, lines):
-    words = ["valgrind", f"--tool={tool}", f"{BENCH}/out/denialbench"]
-    if tool == "callgrind":
-        words.insert(2, "--callgrind-out-file=/dev/null")
-    ran = subprocess.run(words, input="\n".join([*lines, ""]), capture_output=True, text=True)
-    found = re.search(pattern, ran.stderr)
-    if ran.returncode or not found:
-        sys.exit(f"{' '.join(words)} ended with {ran.returncode}\n{ran.stderr}")
-    return int(found[1].replace(",", ""))
-
-
 def stand_in(lines):
     """Instructions within SHA-256."""
     with tempfile.NamedTemporaryFile() as profile:
-        words = ["valgrind", "--tool=callgrind", f"--callgrind-out-file={profile.name}", f"{BENCH}/out/denialbench"]
+        words = ["valgrind", "--tool=callgrind", f"--callgrind-out-file={profile.name}", str(program(BENCH))]
         subprocess.run(words, input="\n".join([*lines, ""]), capture_output=True, text=True, check=True)
         words = ["callgrind_annotate", "--threshold=100", profile.name]
         table = subprocess.run(words, capture_output=True, text=True, check=True).stdout
@@ -57,7 +46,7 @@ def stand_in(lines):
 
 def counts(fewer, more, times):
     """Instructions and blocks of what one session has more than another."""
-    return [(run(tool, pattern, more) - run(tool, pattern, fewer)) / times for tool, pattern in TOOLS]
+    return [(counted(BENCH, more, tool)[0] - counted(BENCH, fewer, tool)[0]) / times for tool in TOOLS]
 
 
 def row(what, cells):
@@ -65,8 +54,7 @@ def row(what, cells):
 
 
 def main():
-    with open(f"{ROOT}/sessions/first_wait", encoding="utf-8") as session:
-        subprocess.run(["rt", "run"], cwd=BENCH, stdin=session, capture_output=True, check=True)
+    build(BENCH, (TOP / "sessions/first_wait").read_text(encoding="utf-8").split("\n"))
     print("| owners | set-up of an owner | blocks |\n|---|---|---|")
     for owners in (1_000, 10_000):
         print(row(f"{owners:,}", counts(opening(owners), opening(2 * owners), owners)))

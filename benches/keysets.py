@@ -4,13 +4,11 @@
 The calls are made up to one and up to the one before, and the difference is divided by the keys. Run it from anywhere; it
 builds crates/keyset_bench first.
 """
-import os
-import re
-import subprocess
 import sys
 
-ROOT = os.path.dirname(os.path.dirname(os.path.abspath(__file__)))
-BENCH = f"{ROOT}/crates/keyset_bench"
+from counting import build, counted
+
+BENCH = "keyset_bench"
 SIZES = (100, 1000, 4000)
 CALLS = (
     "`start_roll`, each key listed",
@@ -23,16 +21,14 @@ CALLS = (
 
 
 def run(keys, calls):
-    words = ["valgrind", "--tool=callgrind", "--callgrind-out-file=/dev/null", f"{BENCH}/out/keyset_bench"]
-    ran = subprocess.run(words, input=f"{keys} {calls}\n", capture_output=True, text=True)
-    found = re.search(r"Collected : (\d+)", ran.stderr)
-    if ran.returncode or not found or ran.stdout != f"{calls}\n":
-        sys.exit(f"{' '.join(words)} ended with {ran.returncode}\n{ran.stdout}{ran.stderr}")
-    return int(found[1])
+    count, made = counted(BENCH, [f"{keys} {calls}"])
+    if made != f"{calls}\n":
+        sys.exit(f"of {calls} calls on {keys} keys {made.strip()} were made")
+    return count
 
 
 def main():
-    subprocess.run(["rt", "run"], cwd=BENCH, stdin=subprocess.DEVNULL, capture_output=True, check=False)
+    build(BENCH, [f"{SIZES[0]} 0"])
     print("| call | " + " | ".join(f"{keys:,} keys" for keys in SIZES) + " |\n" + "|---" * (len(SIZES) + 1) + "|")
     counts = {keys: [run(keys, calls) for calls in range(len(CALLS) + 1)] for keys in SIZES}
     for step, what in enumerate(CALLS):

@@ -4,13 +4,9 @@
 A task is done once and once more on the same names, and the difference is divided by the names, so that reading the input
 and starting the program fall away. Run it from anywhere; it builds crates/message_bench first.
 """
-import os
-import re
-import subprocess
-import sys
+from counting import build, counted
 
-ROOT = os.path.dirname(os.path.dirname(os.path.abspath(__file__)))
-BENCH = f"{ROOT}/crates/message_bench"
+BENCH = "message_bench"
 
 
 def wire(name):
@@ -59,17 +55,11 @@ def deep():
 
 
 def run(task, rounds, message, places):
-    words = ["valgrind", "--tool=callgrind", "--callgrind-out-file=/dev/null", f"{BENCH}/out/message_bench"]
-    lines = "\n".join([f"{task} {rounds}", message.hex(), *map(str, places), ""])
-    ran = subprocess.run(words, input=lines, capture_output=True, text=True)
-    found = re.search(r"Collected : (\d+)", ran.stderr)
-    if ran.returncode or not found:
-        sys.exit(f"{' '.join(words)} ended with {ran.returncode}\n{ran.stderr}")
-    return int(found[1])
+    return counted(BENCH, [f"{task} {rounds}", message.hex(), *map(str, places)])[0]
 
 
 def main():
-    subprocess.run(["rt", "run"], cwd=BENCH, stdin=subprocess.DEVNULL, capture_output=True, check=True)
+    build(BENCH)
     print("| call | a name of a referral | a name of 100 labels over 100 pointers |\n|---|---|---|")
     for task, what in (
         ("read", "`ParsedName::parse`"),

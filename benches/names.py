@@ -4,14 +4,12 @@
 A task is done once and once more on the same names, and the difference is divided by the calls of one time, so that
 reading the input and starting the program fall away. Run it from anywhere; it builds crates/names_bench first.
 """
-import os
 import random
 import re
-import subprocess
-import sys
 
-ROOT = os.path.dirname(os.path.dirname(os.path.abspath(__file__)))
-BENCH = f"{ROOT}/crates/names_bench"
+from counting import TOP, build, counted
+
+BENCH = "names_bench"
 PLAIN = "abcdefghijklmnopqrstuvwxyz0123456789"
 
 
@@ -26,8 +24,8 @@ def text(wire):
 
 def order_names():
     """The names of the table of canonical order."""
-    with open(f"{ROOT}/crates/conformance/src/name_order.rt", encoding="utf-8") as file:
-        return [text(bytes.fromhex(it)) for it in re.findall(r'^([0-9a-f]+)(?:\\n\\|";)$', file.read(), re.MULTILINE)]
+    table = (TOP / "crates/conformance/src/name_order.rt").read_text(encoding="utf-8")
+    return [text(bytes.fromhex(it)) for it in re.findall(r'^([0-9a-f]+)(?:\\n\\|";)$', table, re.MULTILINE)]
 
 
 def zone_names(count):
@@ -42,27 +40,18 @@ def zone_names(count):
     return names
 
 
-def run(tool, pattern, task, rounds, names):
-    words = ["valgrind", f"--tool={tool}", *tool_flags(tool), f"{BENCH}/out/names_bench"]
-    ran = subprocess.run(words, input="\n".join([f"{task} {rounds}", *names, ""]), capture_output=True, text=True)
-    found = re.search(pattern, ran.stderr)
-    if ran.returncode or not found:
-        sys.exit(f"{' '.join(words)} ended with {ran.returncode}\n{ran.stderr}")
-    return int(found[1].replace(",", ""))
-
-
-def tool_flags(tool):
-    return ["--callgrind-out-file=/dev/null"] if tool == "callgrind" else []
+def more(tool, task, names, before):
+    """What one time more of a task counts."""
+    fewer, one_more = (counted(BENCH, [f"{task} {rounds}", *names], tool)[0] for rounds in (before, before + 1))
+    return one_more - fewer
 
 
 def instructions(task, names, before=1):
-    counts = [run("callgrind", r"Collected : (\d+)", task, rounds, names) for rounds in (before, before + 1)]
-    return counts[1] - counts[0]
+    return more("callgrind", task, names, before)
 
 
 def blocks(task, names, before=1):
-    counts = [run("memcheck", r"total heap usage: ([\d,]+) allocs", task, rounds, names) for rounds in (before, before + 1)]
-    return counts[1] - counts[0]
+    return more("memcheck", task, names, before)
 
 
 def row(what, count, calls, taken):
@@ -70,7 +59,7 @@ def row(what, count, calls, taken):
 
 
 def main():
-    subprocess.run(["rt", "run"], cwd=BENCH, stdin=subprocess.DEVNULL, capture_output=True, check=True)
+    build(BENCH)
     order, zone = order_names(), zone_names(10_000)
     print("| call | instructions | blocks of memory |\n|---|---|---|")
     for task, what in (("compare", "`name_cmp`"), ("equal", "`name_eq`")):

@@ -4,14 +4,12 @@
 A pass is done once and once more on the same records, and the difference is divided by them, so that reading the input
 and starting the program fall away. Run it from anywhere; it builds crates/sorted_bench first.
 """
-import os
 import random
-import re
-import subprocess
 import sys
 
-ROOT = os.path.dirname(os.path.dirname(os.path.abspath(__file__)))
-BENCH = f"{ROOT}/crates/sorted_bench"
+from counting import build, counted
+
+BENCH = "sorted_bench"
 PLAIN = "abcdefghijklmnopqrstuvwxyz0123456789"
 OWNERS = 12_581
 
@@ -58,12 +56,7 @@ def shuffled(records):
 
 
 def instructions(task, rounds, records):
-    words = ["valgrind", "--tool=callgrind", "--callgrind-out-file=/dev/null", f"{BENCH}/out/sorted_bench"]
-    ran = subprocess.run(words, input="\n".join([f"{task} {rounds}", *records, ""]), capture_output=True, text=True)
-    found = re.search(r"Collected : (\d+)", ran.stderr)
-    if ran.returncode or not found:
-        sys.exit(f"{' '.join(words)} ended with {ran.returncode}\n{ran.stderr}")
-    return int(found[1])
+    return counted(BENCH, [f"{task} {rounds}", *records])[0]
 
 
 def row(what, count):
@@ -71,7 +64,7 @@ def row(what, count):
 
 
 def main():
-    subprocess.run(["rt", "run"], cwd=BENCH, stdin=subprocess.DEVNULL, capture_output=True, check=True)
+    build(BENCH)
     count = int(sys.argv[1]) if len(sys.argv) > 1 else 100_000
     ordered = zone(count)
     mixed = shuffled(ordered)
