@@ -18,7 +18,7 @@ use Rattle.keyset_rolls.specs.declared.rolls.RollType.{RollType}
 use Rattle.keyset_rolls.specs.declared.rolls.RollType.TheVariants.{KskRoll, KskDoubleDsRoll, ZskRoll, ZskDoubleSignatureRoll, CskRoll, AlgorithmRoll}
 use Rattle.keyset.specs.KeyState.{Reference, in_order, by_reference, by_kind, reference_cmp, kind_cmp, index_of, greatest, removed, without}
 use Rattle.keyset.proofs.KeyOrder.{find-in_order, in_order-put, in_order-where_key, in_order-map, in_order-permutes, greatest-IsPermutation}
-use Rattle.messages.proofs.Lists.{list_any-map, map-map}
+use Rattle.keyset.proofs.Lists.{list_any-map, map-map}
 
 turned : {X : Type 0} (a b : Bool) (x : Option X) → b ≡ a → cond b None x ≡ cond (not a) x None
 turned true b x h = ap (λ t. cond t None x) h

@@ -1,3 +1,4 @@
+pub mod Lists
 pub mod KeyOrder
 pub mod KeyMaps
 pub mod Listings

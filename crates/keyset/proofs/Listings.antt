@@ -15,7 +15,7 @@ use Rattle.keyset.specs.KeyState.{KeySetState, Reference, first_new_fault, liste
 use Rattle.keyset_rolls.specs.declared.rolls.RollType.{RollType}
 use Rattle.keyset.specs.Listing.{IsIndexOf}
 use Rattle.keyset.proofs.KeyMaps.{bytes_eq-sym}
-use Rattle.messages.proofs.Lists.{take_one}
+use Rattle.keyset.proofs.Lists.{take_one}
 
 either_way : (a b : Bool) → (a || b) ≡ (b || (a || false))
 either_way true true = refl

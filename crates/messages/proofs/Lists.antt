@@ -1,7 +1,6 @@
 -- Lists, their items, and tests of them.
 use Rattle.std.proofs.lemmas.List.{map-id, take_more}
-use Rattle.std.specs.Prelude.{slice_get}
-use Rattle.std.proofs.Common.{◌++◌, take, ◌≡◌, ℕ, zero, suc, ◌+◌, ◌-◌, ◌<◌, ◌≤◌, length, drop, get_or, arith, add-one, drop-cons, length-drop, Bool, true, false, ◌||◌, not, eqb, Some, List, [], ◌∷◌, map, ◌⊎◌, inl, inr, refl, sym, ap, subst, ◌∙◌, ⊎_elim, cond, Ordering}
+use Rattle.std.proofs.Common.{◌++◌, take, ◌≡◌, ℕ, ◌+◌, ◌-◌, ◌<◌, length, drop, get_or, arith, add-one, drop-cons, Bool, true, false, ◌||◌, not, eqb, Some, List, [], ◌∷◌, map, ◌⊎◌, inl, inr, refl, sym, ap, subst, ◌∙◌, ⊎_elim, cond, Ordering}
 use Rattle.std.specs.declared.cmp.Ordering.TheVariants.{Less, Equal, Greater}
 use Rattle.std.specs.List.{list_any, AllByRecursion, AllZip, filter}
 use Rattle.std.proofs.lemmas.Slice.Zip.{AllZip-map}
@@ -103,12 +102,3 @@ eqb-back a b = grind arith
 
 pub some_is : {A : Type 0} (a b : A) → Some a ≡ Some b → a ≡ b
 some_is a b e = cc
-
--- one more item of the front
-take_suc : {X : Type 0} (xs : List X) (i : ℕ) (x : X) → Some x ≡ slice_get xs i → take (suc i) xs ≡ take i xs ++ x ∷ []
-take_suc [] i x h = cc
-take_suc (y ∷ xs) zero x h = let e : y ≡ x = cc in λ t. e t ∷ []
-take_suc (y ∷ xs) (suc i) x h = ap (λ zs. y ∷ zs) (take_suc xs i x h)
-
-pub take_one : {X : Type 0} (xs : List X) (i : ℕ) (x : X) → Some x ≡ slice_get xs i → take (i + 1) xs ≡ take i xs ++ x ∷ []
-take_one xs i x h = ap (λ k. take k xs) (add-one i) ∙ take_suc xs i x h

@@ -3,7 +3,7 @@ use Rattle.std.specs.Str.{bytes_eq}
 use Rattle.std.proofs.lemmas.Iterator.{YieldsList-from_slice}
 use Rattle.std.proofs.lemmas.Iterator.Search.{any_from_yields_List}
 use Rattle.keyset.proofs.listing.is_listed.Goals as goal
-use Rattle.messages.proofs.Lists.{list_any-map}
+use Rattle.keyset.proofs.Lists.{list_any-map}
 
 pub returns : goal.returns
 returns c =

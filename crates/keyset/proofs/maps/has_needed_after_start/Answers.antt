@@ -8,7 +8,7 @@ use Rattle.keyset_rolls.specs.Rolls.{meets_need, started_roles, touches}
 use Rattle.keyset.proofs.KeyMaps.{any-by_reference}
 use Rattle.keyset.specs.Listing.{listed_by}
 use Rattle.keyset.proofs.maps.has_needed_after_start.Goals as goal
-use Rattle.messages.proofs.Lists.{list_any-map}
+use Rattle.keyset.proofs.Lists.{list_any-map}
 
 pub returns : goal.returns
 returns c =
