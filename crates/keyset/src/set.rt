@@ -52,9 +52,12 @@ impl Clone for KeySet {
     ghost is_clone = { λ s copy. copy ≡ s };
 
     fn clone(&self) -> Result<KeySet, AllocError> {
+        let Ok(name) = self.name.to_vec(self.alloc) else {
+            return Err(AllocError);
+        };
         Ok(KeySet {
             alloc: self.alloc,
-            name: self.name.to_vec(self.alloc).map_err(|_| AllocError)?,
+            name,
             keys: self.keys.clone()?,
             rollstates: self.rollstates.clone()?,
         })
