@@ -134,3 +134,7 @@ pub last_of : {X : Type 0} (xs : List X) (y d : X) (now old : List X) (n : ℕ) 
 last_of xs y d now old n e h =
     let k : n - 1 ≡ length xs = omega (arith, h, ap length e ∙ length_more xs y) in
     (λ i. get_or ((over now old n h ∙ e) i) (k i) d) ∙ get_last xs y d
+
+-- a group gives data where it is verified
+pub gives_data : (g : Group) → is_some (data_verified (Some g)) ≡ is_some g.verified
+gives_data g = elim g.verified as (λ v. is_some (data_verified (Some (record g { verified = v }))) ≡ is_some v) [ None ↦ refl | Some s ↦ refl ]

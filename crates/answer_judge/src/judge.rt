@@ -23,7 +23,7 @@ mod keys;
 pub mod verdict;
 
 use crate::judge::decide::decide;
-use crate::judge::facts::read_facts;
+use crate::judge::facts::{read_facts, verified_data};
 use crate::judge::groups::{Group, Trust, verify_groups};
 use crate::judge::keys::{TaggedKey, has_equal_tags, read_keys, trusted_keys, usable_keys};
 use crate::judge::verdict::{Judgement, Refusal, Refused, Verdict};
@@ -316,8 +316,8 @@ fn are_verified<C: Checks>(
     ensures hashed { C.hashed checks.new ≡ C.hashed checks.old }
     ensures same { C.answers checks.new ≡ C.answers checks.old }
 {
-    let group = key_group(alloc, trust.apex, keys)?;
-    let mut groups = [group];
+    let mut groups = Vec::with_capacity(alloc, 1)?;
+    groups.push(key_group(alloc, trust.apex, keys)?)?;
     verify_groups(alloc, message, records, trust, &mut groups, checks, count)?;
-    Ok(groups[0].verified.is_some())
+    Ok(verified_data(groups.pop()).is_some())
 }

@@ -32,16 +32,17 @@ fn reads_a_name_through_pointers(rt: HostRuntime) -> Result<(), Fail> {
     Ok(())
 }
 
+/// Why no name is read at a place.
+fn fault(octets: &[u8], place: usize) -> Option<MessageError> {
+    read_name(octets, place).err()
+}
+
 #[test]
 fn refuses_pointers_that_do_not_lead_back(rt: HostRuntime) {
-    let own = read_name(b"\xc0\x00", 0);
-    assert!(rt; matches!(own, Err(MessageError::Form)));
-    let later = read_name(b"\xc0\x02\x00", 0);
-    assert!(rt; matches!(later, Err(MessageError::Form)));
-    let half = read_name(b"\x00\xc0", 1);
-    assert!(rt; matches!(half, Err(MessageError::ShortInput)));
-    let behind = read_name(b"\x00\xc0", 3);
-    assert!(rt; matches!(behind, Err(MessageError::ShortInput)));
+    assert_eq!(rt; fault(b"\xc0\x00", 0), Some(MessageError::Form));
+    assert_eq!(rt; fault(b"\xc0\x02\x00", 0), Some(MessageError::Form));
+    assert_eq!(rt; fault(b"\x00\xc0", 1), Some(MessageError::ShortInput));
+    assert_eq!(rt; fault(b"\x00\xc0", 3), Some(MessageError::ShortInput));
 }
 
 #[test]

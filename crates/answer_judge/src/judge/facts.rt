@@ -57,14 +57,14 @@ pub(crate) fn read_facts<'a, C: Checks>(
     let owner = cow_name(alloc, name)?;
     groups.push(read_group(alloc, message, records, owner, rtype)?)?;
     verify_groups(alloc, message, records, trust, &mut groups, checks, count)?;
-    let answer = asked_of(groups.pop());
+    let answer = verified_data(groups.pop());
     let links = read_links(alloc, message, records, &groups)?;
     Ok(Facts { answer, links })
 }
 
-/// The data of the group that was asked for, if a signature verified it.
-fn asked_of(group: Option<Group>) -> Option<DataList>
-    ensures { result ≡ data_verified group }
+/// The data of a group, if a signature verified it.
+pub(crate) fn verified_data(group: Option<Group>) -> Option<DataList>
+    ensures { result ≡ data_verified group.entry }
 {
     let group = group?;
     if group.verified.is_some() {

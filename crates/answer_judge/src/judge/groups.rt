@@ -77,10 +77,10 @@ pub(crate) fn read_group<'a>(
     owner: GroupOwner<'a>,
     rtype: Rtype,
 ) -> Result<Group<'a>, AllocError>
-    ensures owner { IfOk result (λ g. g.owner ≡ owner) }
+    ensures owner { IfOk result (λ g. g.owner ≡ owner.entry) }
     ensures rtype { IfOk result (λ g. g.rtype ≡ rtype) }
     ensures items { let rs = map spelled records.now in
-        IfOk result (λ g. data_in g ≡ rrset_in pointer_limit message.now rs owner rtype) }
+        IfOk result (λ g. data_in g ≡ rrset_in pointer_limit message.now rs owner.entry rtype) }
     ensures unverified { IfOk result (λ g. g.verified ≡ None) }
 {
     let mut items = Vec::new(alloc);
