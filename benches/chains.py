@@ -65,4 +65,5 @@ def main():
     row("owners below one name of 100 labels", deep(most))
 
 
-main()
+if __name__ == "__main__":
+    main()

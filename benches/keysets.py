@@ -36,4 +36,5 @@ def main():
         print(f"| {what} | " + " | ".join(cells) + " |", flush=True)
 
 
-main()
+if __name__ == "__main__":
+    main()

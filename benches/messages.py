@@ -76,4 +76,5 @@ def main():
         print(f"| {what} | {counts[0]} | {counts[1]} |", flush=True)
 
 
-main()
+if __name__ == "__main__":
+    main()

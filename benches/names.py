@@ -78,4 +78,5 @@ def main():
         row(f"{what}, of a name of 127 labels", instructions(task, longest), len(longest), blocks(task, longest))
 
 
-main()
+if __name__ == "__main__":
+    main()

@@ -86,4 +86,5 @@ def main():
     row("`find_soa`", instructions("soa", 2, ordered) - instructions("soa", 1, ordered))
 
 
-main()
+if __name__ == "__main__":
+    main()
