@@ -1,7 +1,7 @@
 //! Names of messages and of octets outside them, written by hand (RFC 1035, 3.1 and 4.1.4).
 use crate::labels::name;
 use messages::error::MessageError;
-use messages::names::{ToName, ZoneName, copy_name, name_at_place, read_name};
+use messages::names::{ToName, ZoneName, copy_name, cow_name, name_at_place, read_name};
 use names_data::composer::compose_canonical_name;
 use std::test::Fail;
 
@@ -14,6 +14,8 @@ fn reads_a_name_through_pointers(rt: HostRuntime) -> Result<(), Fail> {
     let (read, end) = read_name(POINTED, 15)?;
     assert_eq!(rt; end, 21);
     let flat = copy_name(alloc, &read)?;
+    let cow = cow_name(alloc, &read)?;
+    assert!(rt; cow.as_slice() == flat.as_slice());
     assert!(rt; read.name_eq(&flat));
     assert!(rt; read.name_eq(&name(alloc, b"\x03www\x07EXAMPLE\x03com\x00")?));
     assert!(rt; !read.name_eq(&name(alloc, b"\x03wwx\x07example\x03com\x00")?));
