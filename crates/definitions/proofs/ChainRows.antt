@@ -6,7 +6,7 @@ use Rattle.definitions.specs.Zone.{Zone}
 use Rattle.definitions.specs.Covering.{covers, hash_covers}
 use Rattle.definitions.specs.Base32hex.{base32hex}
 use Rattle.definitions.specs.Bitmap.{octet_of, window_size, window_count}
-use Rattle.definitions.specs.ZoneChain.{nsec_names, nsec3_names, nsec_next, nsec_types, nsec3_types, nsec_data, nsec3_data, Nsec, Nsec3, parameters_of, ChainParameters, excludes}
+use Rattle.definitions.specs.ZoneChain.{nsec_names, nsec3_names, nsec_next, nsec_types, nsec3_types, nsec_data, nsec3_data, Nsec, parameters_of, ChainParameters, excludes}
 use Rattle.definitions.proofs.NameRows.{example}
 use Rattle.definitions.proofs.ZoneRows.{small, apex_alone, rr}
 

@@ -36,7 +36,7 @@ within_contained xs ys f x h = let c : Contains ys x = f x (contained xs x h) in
 
 -- ---- tests
 
-either : (s t : Bool) → (s || t) ≡ true → (s ≡ true) ⊎ (t ≡ true)
+pub either : (s t : Bool) → (s || t) ≡ true → (s ≡ true) ⊎ (t ≡ true)
 either true t h = inl refl
 either false t h = inr h
 

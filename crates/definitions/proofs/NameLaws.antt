@@ -11,6 +11,7 @@ use Rattle.std.proofs.lemmas.Cmp.{on_total, lists_total, nat_list_cmp_total, tie
 use Rattle.std.proofs.lemmas.List.{reverse-reverse}
 use Rattle.std.proofs.lemmas.Grind.{reverse_onto}
 use Rattle.definitions.specs.Name.{Name, low, from_root, same, labels_eq, name_cmp, at_or_above}
+use Rattle.definitions.proofs.Members.{either}
 
 -- the order of labels, each octet by octet
 abbrev label_cmp : List ℕ → List ℕ → Ordering
@@ -67,10 +68,6 @@ begins_less (l ∷ p) (x ∷ xs) y h = elim (begins_less p xs y h.1) [
 
 from_root_more : (l : List ℕ) (m : Name) → from_root (l ∷ m) ≡ from_root m ++ str_to_ascii_lowercase l ∷ []
 from_root_more l m = reverse_onto (low m) (str_to_ascii_lowercase l) []
-
-either : (s t : Bool) → (s || t) ≡ true → (s ≡ true) ⊎ (t ≡ true)
-either true t h = inl refl
-either false t h = inr h
 
 left_true : (s t : Bool) → s ≡ true → (s || t) ≡ true
 left_true s t h = ap (λ b. b || t) h

@@ -1,5 +1,5 @@
 -- The chains of a zone: whose records they are, and that one of them speaks.
-use Rattle.std.proofs.Common.{◌≡◌, ℕ, Bool, true, false, List, [], ◌∷◌, map, refl, sym, ap, subst, ◌∙◌, ◌⊎◌, inl, inr, IsTrue}
+use Rattle.std.proofs.Common.{◌≡◌, ℕ, Bool, true, false, List, [], ◌∷◌, map, refl, sym, ap, subst, ◌∙◌, inl, IsTrue}
 use Rattle.std.specs.Prelude.{filter}
 use Rattle.std.specs.List.{Contains}
 use Rattle.std.specs.Str.{bytes_eq}
@@ -10,18 +10,17 @@ use Rattle.std.specs.Cmp.{IsTotalOrder, on_total}
 use Rattle.std.specs.Cmp.Lexicographic.{bytes_decides}
 use Rattle.std.specs.FinMap.{nat_cmp-IsAntisymmetric, slice_cmp-IsAntisymmetric}
 use Rattle.std.proofs.lemmas.Cmp.{nat_list_cmp_total, tied_itself}
-use Rattle.definitions.specs.Name.{Name, low, labels_eq, name_cmp, at_or_above}
-use Rattle.definitions.specs.Covering.{octets_before}
+use Rattle.definitions.specs.Name.{Name, low, labels_eq, name_cmp}
 use Rattle.definitions.specs.Signing.{ascending}
-use Rattle.definitions.specs.Zone.{Zone, apex_of, owners, kept_owners, is_live, kept}
-use Rattle.definitions.specs.ZoneChain.{links, behind, head_or, hash_cmp, nsec_names, nsec3_names, hashed_names, hashes, nsec3_next}
-use Rattle.definitions.specs.Laws.{rising, link_speaks, hash_link_speaks, IsNsecChain, NsecChainSpeaks, NoneShare, SharesNone, nsec3_speaks, IsNsec3Chain, Nsec3ChainSpeaks}
+use Rattle.definitions.specs.Zone.{apex_of, owners, kept_owners, kept}
+use Rattle.definitions.specs.ZoneChain.{links, behind, head_or, hash_cmp, nsec_names, nsec3_names, hashed_names, hashes}
+use Rattle.definitions.specs.Laws.{rising, link_speaks, hash_link_speaks, NsecChainSpeaks, Nsec3ChainSpeaks}
 use Rattle.definitions.proofs.Members.{In, in_map, map_in, contained, in_contained, Rises, sort_has, sort_keeps, sort_rises}
 use Rattle.definitions.proofs.NameLaws.{name_cmp_total, labels_decide}
 use Rattle.definitions.proofs.LawProofs.{one_link_speaks}
 use Rattle.definitions.proofs.CircleLaws.{one_hash_link_speaks}
 use Rattle.definitions.proofs.ChainSpeaks.{all_from, filter_map, one_of_map, Apart, speaks_alone}
-use Rattle.definitions.proofs.ZoneNames.{kept_owner_lowered, live_owner, owner_in_chain, chain_begins, chain_kept, kept_in_chain, apex_in_chain, rising_test}
+use Rattle.definitions.proofs.ZoneNames.{live_owner, owner_in_chain, chain_begins, chain_kept, kept_in_chain, apex_in_chain, rising_test}
 
 not_true : (b : Bool) → (b ≡ true → ⊥) → b ≡ false
 not_true true f = absurd (f refl)

@@ -7,6 +7,7 @@ use Rattle.std.proofs.lemmas.Option.{slice_get_within}
 use Rattle.std.proofs.lemmas.List.Sums.{sum_by-cons}
 use Rattle.definitions.specs.Name.{Name, Label, wire_len}
 use Rattle.definitions.specs.Reading.{Reads, root, label, pointer, heads_of, pointers_of, ReadFault, Short, Malformed, End, AtRoot, To, Run, with_label, pointer_at, run_at, behind_labels, most_heads, labels_at, end_at, name_at}
+use Rattle.definitions.specs.Limits.{pointer_limit}
 use Rattle.definitions.specs.Laws.{ReadsExactly, ReadingIsShort, EndsOnce}
 use Rattle.definitions.proofs.PlainReading.{at_head, at_place, run_at-label}
 
@@ -41,6 +42,7 @@ heads-are (label h a b c d e r) = omega (arith, heads-are r)
 heads-are (pointer h a b c d e r) = omega (arith, heads-are r)
 
 pub reading_is_short : ReadingIsShort
+unfolding pointer_limit
 reading_is_short m p n e r short = record {
   pointers = pointers_few r;
   heads = omega (arith, heads-are r, pointers_few r, labels_short r);

@@ -1,6 +1,6 @@
 -- The verdict on a name, case by case.
 use Rattle.std.proofs.Common.{◌≡◌, ℕ, Bool, true, false, ◌&&◌, sym, ap, subst, ◌∙◌, Option, Some, None, Result}
-use Rattle.std.specs.Prelude.{not, ◌==◌, if◌then◌else◌, IfOk}
+use Rattle.std.specs.Prelude.{◌==◌, if◌then◌else◌, IfOk}
 use Rattle.std.specs.declared.alloc.AllocError.{AllocError}
 use Rattle.definitions.specs.Name.{Name, labels_eq, low}
 use Rattle.definitions.specs.Zone.{Zone, Verdict, Open, Delegated, NoName, is_open, cut, exists, ce, star_under, at_existing, at_star, verdict}

@@ -1,20 +1,18 @@
 -- Names up to case, and the names of a zone's chains.
-use Rattle.std.proofs.Common.{◌≡◌, ℕ, suc, ◌≤◌, Bool, true, false, ◌&&◌, ◌||◌, List, [], ◌∷◌, length, map, Option, Some, None, refl, sym, ap, subst, ◌∙◌, ◌⊎◌, inl, inr, arith}
+use Rattle.std.proofs.Common.{◌≡◌, ℕ, suc, ◌≤◌, Bool, true, false, ◌&&◌, ◌||◌, List, [], ◌∷◌, length, Option, Some, None, refl, sym, ap, ◌∙◌, inl, inr, arith}
 use Rattle.std.specs.Prelude.{filter, not, if◌then◌else◌}
 use Rattle.std.specs.List.{list_any, flat_map, Contains}
 use Rattle.std.specs.Option.{is_none}
-use Rattle.std.specs.Char.{to_ascii_lowercase}
 use Rattle.std.specs.Str.{str_to_ascii_lowercase}
-use Rattle.std.specs.declared.cmp.Ordering.{Ordering}
-use Rattle.std.specs.declared.cmp.Ordering.TheVariants.{Less, Equal, Greater}
+use Rattle.std.specs.declared.cmp.Ordering.TheVariants.{Less, Greater}
 use Rattle.std.specs.Ordering.{is_lt, ordering_reverse}
 use Rattle.std.proofs.lemmas.Str.Ascii.{lowercase-lowercase}
-use Rattle.definitions.specs.Name.{Name, low, same, labels_eq, name_cmp, at_or_above, strictly_above}
+use Rattle.definitions.specs.Name.{Name, low, same, labels_eq, name_cmp, at_or_above}
 use Rattle.definitions.specs.Covering.{before}
-use Rattle.definitions.specs.Zone.{Rr, Zone, owner_of, apex_of, owners, has, is_delegation, cut, cut_above, is_live, is_kept, kept_owners, kept}
+use Rattle.definitions.specs.Zone.{Zone, owner_of, apex_of, owners, has, is_delegation, cut, cut_above, is_live, is_kept, kept_owners, kept}
 use Rattle.definitions.specs.ZoneChain.{with_parents, nsec_names, nsec3_names}
 use Rattle.definitions.specs.Laws.{rising}
-use Rattle.definitions.proofs.Members.{In, Of, in_map, map_in, in_flat, flat_in, in_filter, filter_in, any_of, any_in, both_ways, contained, in_contained, Rises, ExactAmong, sort_has, sort_keeps, sort_rises}
+use Rattle.definitions.proofs.Members.{either, In, map_in, in_flat, flat_in, in_filter, filter_in, any_of, any_in, in_contained, Rises, ExactAmong, sort_has, sort_keeps, sort_rises}
 use Rattle.definitions.proofs.NameLaws.{name_cmp_total, labels_decide, equal_is_same, apex_first}
 
 -- ---- lower case
@@ -44,14 +42,10 @@ same_lowered a b la lb e = sym la ∙ (labels_decide (low a) (low b)).0 e ∙ lb
 
 -- ---- at or above, by length
 
-either : (s t : Bool) → (s || t) ≡ true → (s ≡ true) ⊎ (t ≡ true)
-either true t h = inl refl
-either false t h = inr h
-
-same-length : (n m : Name) → same n m ≡ true → length n ≡ length m
+pub same-length : (n m : Name) → same n m ≡ true → length n ≡ length m
 same-length n m h = sym (low-length n) ∙ ap length ((labels_decide (low n) (low m)).0 h) ∙ low-length m
 
-above_longer : (n m : Name) → at_or_above n m ≡ true → length n ≤ length m
+pub above_longer : (n m : Name) → at_or_above n m ≡ true → length n ≤ length m
 above_longer n [] h = let e : length n ≡ length {A = List ℕ} [] = same-length n [] h in omega arith
 above_longer n (l ∷ m) h = elim (either (same n (l ∷ m)) (at_or_above n m) h) [
   | inl s ↦ let e : length n ≡ length (l ∷ m) = same-length n (l ∷ m) s in omega arith

@@ -5,6 +5,7 @@ use Rattle.std.specs.Str.{bytes_eq}
 use Rattle.std.specs.declared.cmp.Ordering.TheVariants.{Equal, Greater}
 use Rattle.std.specs.Cmp.{IsTotalOrder}
 use Rattle.definitions.specs.Name.{Name, IsName, wire, wire_len, low, same, name_cmp, at_or_above}
+use Rattle.definitions.specs.Limits.{pointer_limit}
 use Rattle.definitions.specs.Reading.{Reads, heads_of, pointers_of, name_at}
 use Rattle.definitions.specs.Covering.{before, covers, hash_covers}
 use Rattle.definitions.specs.Bitmap.{bitmap, is_bitmap, bitmap_has}
@@ -167,9 +168,9 @@ pub record EndsOnce (m : List ℕ) : Type 0 where
   pub within : (p k : ℕ) (n : Name) (e : ℕ) → Reads m p k n e → (p < e) × (e ≤ length m)
 
 -- how many heads are looked at, and how many of them are pointers
-pub record IsShortReading {m : List ℕ} {p : ℕ} {n : Name} {e : ℕ} (r : Reads m p 255 n e) : Type 0 where
-  pub pointers : pointers_of r ≤ 255
+pub record IsShortReading {m : List ℕ} {p : ℕ} {n : Name} {e : ℕ} (r : Reads m p pointer_limit n e) : Type 0 where
+  pub pointers : pointers_of r ≤ pointer_limit
   pub heads : heads_of r ≤ 383
 
 abbrev pub ReadingIsShort : Type 0
-ReadingIsShort = (m : List ℕ) (p : ℕ) (n : Name) (e : ℕ) (r : Reads m p 255 n e) → wire_len n ≤ 255 → IsShortReading r
+ReadingIsShort = (m : List ℕ) (p : ℕ) (n : Name) (e : ℕ) (r : Reads m p pointer_limit n e) → wire_len n ≤ 255 → IsShortReading r

@@ -1,5 +1,5 @@
 -- What a signature is made over (RFC 4034, 3.1.8.1; RFC 4035, 5.3.2) and when it holds (RFC 4034, 3.1.5).
-use Rattle.std.specs.Prelude.{◌≡◌, ℕ, ◌+◌, ◌-◌, ◌<◌, Bool, true, false, ◌&&◌, List, [], ◌∷◌, ◌++◌, length, drop, nat_lt, if◌then◌else◌, IsTrue}
+use Rattle.std.specs.Prelude.{ℕ, ◌+◌, ◌-◌, Bool, true, false, ◌&&◌, List, [], ◌∷◌, ◌++◌, length, drop, nat_lt, if◌then◌else◌}
 use Rattle.std.specs.List.{flat_map}
 use Rattle.std.specs.Int.{w16, w32, to_be_bytes}
 use Rattle.std.specs.Str.{bytes_eq}
@@ -50,12 +50,6 @@ abbrev pub ascending : List (List ℕ) → Bool
 ascending [] = true
 ascending (d ∷ []) = true
 ascending (d ∷ e ∷ ds) = elim (octets_before d e) [ true ↦ ascending (e ∷ ds) | false ↦ false ]
-
--- octets over one RRset: at least one record, each once and ascending. Type and TTL are those of the fields.
-pub record Signs (octets : List ℕ) (f : Fields) (owner : Name) (class : ℕ) (ds : List (List ℕ)) : Type 0 where
-  pub some : 0 < length ds
-  pub rising : IsTrue (ascending ds)
-  pub are : octets ≡ signed_octets f owner class ds
 
 -- inception ≤ now ≤ expiration as serial numbers
 abbrev pub in_time : Fields → ℕ → Bool

@@ -132,11 +132,6 @@ without_last_dot [] = []
 without_last_dot (s ∷ []) = if is_dot s then [] else s ∷ []
 without_last_dot (s ∷ t ∷ ss) = s ∷ without_last_dot (t ∷ ss)
 
-abbrev pub ends_with_dot : List Symbol → Bool
-ends_with_dot [] = false
-ends_with_dot (s ∷ []) = is_dot s
-ends_with_dot (s ∷ t ∷ ss) = ends_with_dot (t ∷ ss)
-
 abbrev pub is_lone_dot : List Symbol → Bool
 is_lone_dot [] = false
 is_lone_dot (s ∷ []) = is_dot s

@@ -11,7 +11,7 @@ use Rattle.definitions.specs.Bitmap.{window_size, window_count, below, octet_of,
 use Rattle.definitions.specs.Windows.{numbered}
 use Rattle.definitions.proofs.BitmapLaws.{index-trimmed, index_map_below, length-below}
 use Rattle.denial_bitmap.specs.Building.{zeros, inserted, window_len, with_bit, windows_before}
-use Rattle.denial_bitmap.specs.Padding.{padded, from, windows_after, around, roomy}
+use Rattle.denial_bitmap.specs.Padding.{padded, from, windows_after, roomy}
 use Rattle.denial_bitmap.proofs.Bits.{other_octet, this_octet, bit_is_some}
 
 -- ---- the numbers below 256
@@ -25,6 +25,10 @@ below_from a zero = ap below {x = 0 + a} {y = a} (omega arith) ∙ sym (append-n
 below_from a (suc n) =
     ap below {x = suc n + a} {y = suc (n + a)} (omega arith) ∙ ap (λ xs. xs ++ (n + a) ∷ []) (below_from a n) ∙ append_assoc (below a) (from a n) ((n + a) ∷ [])
     ∙ ap (λ k. below a ++ (from a n ++ k ∷ [])) (omega arith) ∙ ap (λ xs. below a ++ xs) (from_more a n)
+
+-- a window of these octets, between those of lower and higher numbers
+abbrev pub around : List ℕ → ℕ → List ℕ → List ℕ → List ℕ
+around front number octets back = front ++ (numbered number octets ++ back)
 
 -- a bitmap is its windows around one
 pub bitmap_around : (ts : List ℕ) (w : ℕ) → w < 256 → bitmap ts ≡ around (windows_before ts w) w (window_octets ts w) (windows_after ts w)

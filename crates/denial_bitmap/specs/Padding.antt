@@ -2,7 +2,6 @@
 use Rattle.std.specs.Prelude.{◌≡◌, ℕ, zero, suc, ◌-◌, List, [], ◌∷◌, ◌++◌, length}
 use Rattle.std.specs.List.{flat_map}
 use Rattle.definitions.specs.Bitmap.{bitmap, window, window_octets}
-use Rattle.definitions.specs.Windows.{numbered}
 use Rattle.denial_bitmap.specs.Building.{zeros, windows_before}
 
 -- octets filled up with zeros, to so many at least
@@ -17,10 +16,6 @@ from a (suc n) = a ∷ from (suc a) n
 -- the windows of higher numbers
 abbrev pub windows_after : List ℕ → ℕ → List ℕ
 windows_after ts number = flat_map (window ts) (from (suc number) (255 - number))
-
--- a window of these octets, between those of lower and higher numbers
-abbrev pub around : List ℕ → ℕ → List ℕ → List ℕ → List ℕ
-around front number octets back = front ++ (numbered number octets ++ back)
 
 -- a bitmap in which a window has room for so many octets at least
 abbrev pub roomy : List ℕ → ℕ → ℕ → List ℕ

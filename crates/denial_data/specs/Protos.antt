@@ -10,9 +10,6 @@ abbrev pub numbers_with : ℕ → ℕ → ℕ → ℕ → ℕ → ℕ → ℕ �
 numbers_with covered algorithm labels ttl expiration inception tag =
     record { type_covered = covered; algorithm = algorithm; labels = labels; original_ttl = ttl; expiration = expiration; inception = inception; key_tag = tag }
 
-abbrev pub proto_with : {N : Type 0} → Numbers → N → ProtoRrsig N
-proto_with numbers signer = record { numbers = numbers; signer_name = signer }
-
 -- the octets before the signer: a word, since they are many
 unfoldable pub numbers_octets : Numbers → List ℕ
 numbers_octets n =

@@ -7,7 +7,7 @@ use Rattle.definitions.proofs.ZoneNames.{above_lowered, lowered_above}
 use Rattle.denial_hashes.proofs.Skipped.{skip_rooted, past_end}
 use Rattle.denial_hashed.specs.Differing.{one_more, differing}
 use Rattle.denial_hashed.specs.Walk.{fresh_count}
-use Rattle.denial_hashed.proofs.WalkNames.{above_longer, same-length}
+use Rattle.definitions.proofs.ZoneNames.{above_longer, same-length}
 
 not_true : (b : Bool) → (b ≡ true → ⊥) → b ≡ false
 not_true true f = absurd (f refl)

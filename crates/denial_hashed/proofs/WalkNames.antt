@@ -9,9 +9,9 @@ use Rattle.std.specs.Cmp.{IsTotalOrder}
 use Rattle.definitions.specs.Name.{Name, low, same, name_cmp, at_or_above, from_root}
 use Rattle.definitions.specs.Zone.{Zone, apex_of, owners, is_live, is_kept, kept_owners, kept}
 use Rattle.definitions.specs.ZoneChain.{with_parents, nsec3_names}
-use Rattle.definitions.proofs.Members.{append_in, In, Within, Rises, in_contained, in_filter, filter_in, in_append_left, in_append_right, any_of, any_in, rising_same, sort_rises}
+use Rattle.definitions.proofs.Members.{either, append_in, In, Within, Rises, in_contained, in_filter, filter_in, in_append_left, in_append_right, any_of, any_in, rising_same, sort_rises}
 use Rattle.definitions.proofs.NameLaws.{Begins, name_cmp_total, equal_is_same, labels_decide, above_begins, begins_above, interval, apex_first}
-use Rattle.definitions.proofs.ZoneNames.{low-low, apex_kept, above_itself, and_parts, and_from, same_lowered, chain_lowered, chain_kept, kept_in_chain, kept_owner_lowered, apex_in_chain}
+use Rattle.definitions.proofs.ZoneNames.{same-length, above_longer, low-low, apex_kept, above_itself, and_parts, and_from, same_lowered, chain_lowered, chain_kept, kept_in_chain, kept_owner_lowered, apex_in_chain}
 
 -- what an owner adds behind the one before it: itself and what it stands under, the shortest first, but for what the one
 -- before it is or stands under too
@@ -57,10 +57,6 @@ module _ {A : Type 0} (R : A → A → Ordering) (o : IsTotalOrder R) where
 
 -- ---- names at or above one another
 
-either : (s t : Bool) → (s || t) ≡ true → (s ≡ true) ⊎ (t ≡ true)
-either true t h = inl refl
-either false t h = inr h
-
 pub right_true : (s t : Bool) → t ≡ true → (s || t) ≡ true
 right_true true t h = refl
 right_true false t h = h
@@ -93,20 +89,6 @@ above_either a b c h k = elim (begins_either (from_root a) (from_root b) (from_r
 pub root_above : (p : Name) → at_or_above [] p ≡ true
 root_above [] = refl
 root_above (l ∷ p) = right_true (same [] (l ∷ p)) (at_or_above [] p) (root_above p)
-
-low-length : (n : Name) → length (low n) ≡ length n
-low-length [] = refl
-low-length (l ∷ n) = ap suc (low-length n)
-
-pub same-length : (n m : Name) → same n m ≡ true → length n ≡ length m
-same-length n m h = sym (low-length n) ∙ ap length ((labels_decide (low n) (low m)).0 h) ∙ low-length m
-
-pub above_longer : (n m : Name) → at_or_above n m ≡ true → length n ≤ length m
-above_longer n [] h = let e : length n ≡ length {A = List ℕ} [] = same-length n [] h in omega arith
-above_longer n (l ∷ m) h = elim (either (same n (l ∷ m)) (at_or_above n m) h) [
-  | inl s ↦ let e : length n ≡ length (l ∷ m) = same-length n (l ∷ m) s in omega arith
-  | inr a ↦ let e : length n ≤ length m = above_longer n m a in omega arith
-]
 
 parent_less : (x o : Name) (l : List ℕ) → at_or_above x o ≡ true → name_cmp x (l ∷ o) ≡ Less
 parent_less x o l h = elim (name_cmp x (l ∷ o)) as (λ r. name_cmp x (l ∷ o) ≡ r → name_cmp x (l ∷ o) ≡ Less) [

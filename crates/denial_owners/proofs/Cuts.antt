@@ -6,11 +6,8 @@ use Rattle.std.specs.declared.cmp.Ordering.TheVariants.{Less, Equal, Greater}
 use Rattle.definitions.specs.Name.{Name, low, same, name_cmp, at_or_above, strictly_above}
 use Rattle.definitions.specs.Zone.{Zone, apex_of, has, is_delegation, cut, cut_above}
 use Rattle.definitions.proofs.NameLaws.{name_cmp_total, labels_decide, same_is_equal, apex_first}
-use Rattle.definitions.proofs.ZoneNames.{above_itself, and_parts, same_lowered}
-
-pub either : (s t : Bool) → (s || t) ≡ true → (s ≡ true) ⊎ (t ≡ true)
-either true t h = inl refl
-either false t h = inr h
+use Rattle.definitions.proofs.Members.{either}
+use Rattle.definitions.proofs.ZoneNames.{same-length, above_longer, above_itself, and_parts, same_lowered}
 
 pub or_later : (s t : Bool) → t ≡ true → (s || t) ≡ true
 or_later true t h = refl
@@ -19,20 +16,6 @@ or_later false t h = h
 pub not_true : (b : Bool) → (b ≡ true → ⊥) → b ≡ false
 not_true true f = absurd (f refl)
 not_true false f = refl
-
-low-length : (n : Name) → length (low n) ≡ length n
-low-length [] = refl
-low-length (l ∷ n) = ap suc (low-length n)
-
-same-length : (n m : Name) → same n m ≡ true → length n ≡ length m
-same-length n m h = sym (low-length n) ∙ ap length ((labels_decide (low n) (low m)).0 h) ∙ low-length m
-
-above_longer : (n m : Name) → at_or_above n m ≡ true → length n ≤ length m
-above_longer n [] h = let e : length n ≡ length {A = List ℕ} [] = same-length n [] h in omega arith
-above_longer n (l ∷ m) h = elim (either (same n (l ∷ m)) (at_or_above n m) h) [
-  | inl s ↦ let e : length n ≡ length (l ∷ m) = same-length n (l ∷ m) s in omega arith
-  | inr a ↦ let e : length n ≤ length m = above_longer n m a in omega arith
-]
 
 -- strictly above is at or above, and not the same
 pub strictly : (n m : Name) → at_or_above n m ≡ true → strictly_above n m ≡ not (same n m)

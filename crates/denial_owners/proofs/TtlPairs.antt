@@ -13,7 +13,7 @@ use Rattle.std.proofs.lemmas.Cmp.{tied_itself}
 use Rattle.std.proofs.lemmas.Map.Keys.{sorted_head, sorted_tail}
 use Rattle.definitions.specs.Name.{Name, low, same, labels_eq, name_cmp}
 use Rattle.definitions.specs.Zone.{is_kept}
-use Rattle.definitions.proofs.Members.{In, in_append_left, any_in, any_of, both_ways}
+use Rattle.definitions.proofs.Members.{either, In, in_append_left, any_in, any_of, both_ways}
 use Rattle.definitions.proofs.NameLaws.{labels_decide, same_is_equal}
 use Rattle.definitions.proofs.ZoneNames.{and_parts}
 use Rattle.plain.specs.Records.{record_canonical_cmp}
@@ -25,7 +25,7 @@ use Rattle.denial_owners.specs.Ttls.{has_unequal_ttls, neighbours, unlike_ttls}
 use Rattle.denial_owners.specs.Zones.{zone_of}
 use Rattle.denial_owners.proofs.ByOwner.{ByOwner, all_at, by_owner, class_at, whole_of}
 use Rattle.denial_owners.proofs.AtOwner.{any_agree, any_filter, any_flat, group_is_filter}
-use Rattle.denial_owners.proofs.Cuts.{either, or_later}
+use Rattle.denial_owners.proofs.Cuts.{or_later}
 
 or_first : (a b : Bool) → a ≡ true → (a || b) ≡ true
 or_first true b e = refl

@@ -3,7 +3,7 @@ ghost use Rattle.std.specs.Prelude.{◌≡◌, ◌∷◌, ◌++◌, ℕ, List, B
 ghost use Rattle.keyset_keys.specs.declared.keys.KeyType.TheVariants.{Ksk, Zsk, Csk, Include};
 ghost use Rattle.keyset_keys.specs.declared.errors.Error.TheVariants.{Memory};
 ghost use Rattle.keyset_rolls.specs.Actions.{actions_in};
-ghost use Rattle.keyset.specs.KeyState.{KeySetState, by_reference, by_kind, key_of, phase_of, add, done, entered, first_fault, first_new_fault, new_fault, old_fault, report1, report2, start, start_fault, algorithms_fault, texts, wait1, wait2, wait_fault, new_key, text_of, clear, is_available, write, decoupled_to, present_to, signer_to, at_parent_to, seen_at, ds_seen_at, rrsig_seen_at, stale_now, delete, Reference, algorithms_within, algorithm_is_within, same_algorithms};
+ghost use Rattle.keyset.specs.KeyState.{KeySetState, by_reference, by_kind, key_of, phase_of, add, done, entered, first_fault, first_new_fault, has_tag, new_fault, old_fault, report1, report2, start, start_fault, algorithms_fault, texts, wait1, wait2, wait_fault, new_key, text_of, clear, is_available, write, decoupled_to, present_to, signer_to, at_parent_to, seen_at, ds_seen_at, rrsig_seen_at, stale_now, delete, Reference, algorithms_within, algorithm_is_within, same_algorithms};
 ghost use Rattle.keyset.specs.KeyAnswers.{Acts, Adds, Finds, GivesAtOnce, Lists, Writes};
 ghost use Rattle.keyset.specs.Listing.{AreAlgorithmsOf, listed_by};
 ghost use Rattle.keyset.specs.KeySteps.{new_csk, new_ksk, new_other, new_zsk, set_to};
@@ -105,6 +105,13 @@ impl KeySet {
         self.keys.get(reference)
     }
 
+    /// Whether a key has this tag.
+    pub fn has_tag(&self, key_tag: u16) -> bool
+        ensures { result ≡ has_tag key_tag self.now.keys }
+    {
+        has_tag(&self.keys, key_tag)
+    }
+
     fn phase(&self, rolltype: RollType) -> Option<RollState>
         ensures { result ≡ phase_of self.now rolltype }
     {
@@ -191,7 +198,7 @@ impl KeySet {
     fn add_key(&mut self, pubref: String, key: Key) -> Result<(), Error>
         ensures { Adds self.old self.new result pubref key }
     {
-        if has_tag(&self.keys, key.key_tag()) {
+        if self.has_tag(key.key_tag()) {
             return Err(Error::DuplicateKeyTag);
         }
         if self.key(pubref.as_str()).is_some() {

@@ -1,5 +1,5 @@
 -- What the flags of a key print, and why a call is refused.
-use Rattle.std.specs.Prelude.{ℕ, ◌-◌, ◌^◌, ◌/◌, ◌%◌, Bool, true, false, List, [], ◌∷◌, ◌++◌, codes, decimal, Result, Ok, Err, if◌then◌else◌}
+use Rattle.std.specs.Prelude.{ℕ, ◌-◌, ◌^◌, ◌/◌, ◌%◌, Bool, true, false, List, [], ◌∷◌, ◌++◌, codes, decimal}
 use Rattle.std.specs.Duration.{as_nanos}
 use Rattle.std.specs.Fmt.{padded_integral, format_spec}
 use Rattle.std.specs.declared.time.Duration.{Duration}

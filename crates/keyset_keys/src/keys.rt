@@ -1,7 +1,6 @@
 //! Keys, their flags and their stamps.
-ghost use Rattle.keyset_keys.specs.Keys.{text_of};
 ghost use Rattle.keyset_keys.specs.KeyTexts.{stage};
-ghost use Rattle.std.specs.Prelude.{[], if◌then◌else◌, ◌≡◌, option_copied, IfOk, Some};
+ghost use Rattle.std.specs.Prelude.{[], if◌then◌else◌, ◌≡◌, option_copied, Some};
 
 use crate::time::UnixTime;
 use plain::numbers::SecurityAlgorithm;
@@ -425,21 +424,12 @@ impl Clone for Key {
 
     fn clone(&self) -> Result<Key, AllocError> {
         Ok(Key {
-            privref: cloned(&self.privref)?,
+            privref: self.privref.as_ref().cloned()?,
             decoupled: self.decoupled,
             keytype: self.keytype,
             algorithm: self.algorithm,
             key_tag: self.key_tag,
             timestamps: KeyTimestamps { ..self.timestamps },
         })
-    }
-}
-
-fn cloned(reference: &Option<String>) -> Result<Option<String>, AllocError>
-    ensures { IfOk result (λ r. text_of r ≡ text_of reference.now) }
-{
-    match reference {
-        Some(reference) => Ok(Some(reference.clone()?)),
-        None => Ok(None),
     }
 }

@@ -1,3 +1,4 @@
+pub mod SideWords
 pub mod SideTables
 pub mod Contents
 pub mod Retiring

@@ -24,9 +24,10 @@ use Rattle.keyset.proofs.KeyRunSteps.{Holds, Together, is_double, other_roll, ro
 use Rattle.keyset.proofs.KeyRunTags.{Apart}
 use Rattle.keyset.proofs.KeyTables.{and_left as left_of, and_right as right_of, join}
 use Rattle.keyset_life.specs.KeyLife.{DnskeyAnswer, DsSet, Step, Thing, differ, is_first_wait, is_start, states, tags_of}
-use Rattle.keyset_life.specs.Sides.{OfKeys, OfZone, Side, agrees, doubles, is_empty, is_of, is_on, is_ready, is_settled, is_shown, need_of, partner}
-use Rattle.keyset_life.specs.Anchors.{Grows, HasKey, Kept, Life, NoDs, Resting, Rests, Switches, Unborn, is_first, is_second, rests}
+use Rattle.keyset_life.specs.Sides.{OfKeys, OfZone, Side, doubles, is_empty, is_on, is_ready, is_shown, partner}
+use Rattle.keyset_life.specs.Anchors.{Grows, HasKey, Kept, Life, NoDs, Resting, Rests, Switches, Unborn, is_second, rests}
 use Rattle.keyset_life.specs.Meeting.{algorithm_first, starts_from_ds}
+use Rattle.keyset_life.proofs.SideWords.{agrees, is_first, is_of, is_settled, need_of}
 use Rattle.keyset_life.proofs.Effects.{Calm, Finished, Moved, Reported1, Reported2, Started, Waited1, Waited2, same_key, touched_by}
 use Rattle.keyset_life.proofs.Lives.{Roles, IsUnsettled, calm_unshown, empty_unshown, lasting_awaited, ran1, ran2, ready_awaited, unshown_empty}
 use Rattle.keyset_life.proofs.Retiring.{step_of}

@@ -18,9 +18,9 @@ use Rattle.keyset.proofs.KeyRunSteps.{Holds}
 use Rattle.keyset.proofs.KeyRunTags.{Apart, call_apart}
 use Rattle.keyset.proofs.KeyTables.{and_right as right_of, join}
 use Rattle.keyset_life.specs.KeyLife.{DnskeyAnswer, DsSet, Step, Thing, ZoneAnswer, accepted, differ, is_start, meet, retired, states, tags_of}
-use Rattle.keyset_life.specs.Sides.{agrees, is_settled}
-use Rattle.keyset_life.specs.Anchors.{Life, is_first}
+use Rattle.keyset_life.specs.Anchors.{Life}
 use Rattle.keyset_life.specs.Meeting.{algorithm_first}
+use Rattle.keyset_life.proofs.SideWords.{agrees, is_first, is_settled}
 use Rattle.keyset_life.proofs.Effects.{Calm, Finished, Reported1, Reported2, Started, Waited1, Waited2, add_calm, decouple_calm, delete_calm, done_so, report1_so, report2_so, same_key, start_so, touched_by, wait1_so, wait2_so, when_accepted}
 use Rattle.keyset_life.proofs.LifeSteps.{Base, Noted, Sides, calm_sides, finish_sides, report1_sides, report2_sides, start_sides, then, wait1_sides, wait2_sides, when_on, when_roles}
 use Rattle.keyset_life.proofs.Lives.{Roles, calm_roles, present_differ, turn_roles}

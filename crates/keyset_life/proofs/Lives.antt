@@ -24,8 +24,9 @@ use Rattle.keyset.proofs.KeyRunSteps as runs
 use Rattle.keyset.proofs.KeyRunTags.{Apart}
 use Rattle.keyset.proofs.KeyTables.{join}
 use Rattle.keyset_life.specs.KeyLife.{DsSet, differ, tags_of}
-use Rattle.keyset_life.specs.Sides.{OfKeys, Side, agrees, is_empty, is_lasting, is_ready, is_settled, is_shown}
-use Rattle.keyset_life.specs.Anchors.{HasKey, is_first}
+use Rattle.keyset_life.specs.Sides.{OfKeys, Side, is_empty, is_lasting, is_ready, is_shown}
+use Rattle.keyset_life.specs.Anchors.{HasKey}
+use Rattle.keyset_life.proofs.SideWords.{agrees, is_first, is_settled}
 use Rattle.keyset_life.proofs.Contents.{found_named, none_empty}
 use Rattle.keyset_life.proofs.Effects.{Calm, IsFresh, Moved}
 use Rattle.keyset_life.proofs.SideTables.{fresh_agrees, fresh_settled, fresh_unshown, keeps_all, signs_late, watched1, watched2, witness}

@@ -16,7 +16,8 @@ use Rattle.keyset_life.specs.KeyLife.{DsSet, Step, is_first_wait, states}
 use Rattle.keyset.specs.KeyState.{is_at_parent, ksk_is}
 use Rattle.keyset_life.proofs.Contents.{found_named}
 use Rattle.keyset_life.specs.Sides.{OfKeys, is_empty, is_shown}
-use Rattle.keyset_life.specs.Anchors.{Anchored, Grows, HasKey, Kept, Life, NoDs, Rests, Switches, is_first}
+use Rattle.keyset_life.specs.Anchors.{Anchored, Grows, HasKey, Kept, Life, NoDs, Rests, Switches}
+use Rattle.keyset_life.proofs.SideWords.{is_first}
 use Rattle.keyset_life.proofs.LifeSteps.{Noted, Sides}
 use Rattle.keyset_life.proofs.Lived.{Lived}
 use Rattle.keyset_life.proofs.Retiring.{get_place, state_further, step_of}

@@ -10,7 +10,8 @@ use Rattle.keyset.specs.KeyRuns.{Kind, OfKsk, OfZsk, OfCsk, OfOther, roles_of}
 use Rattle.keyset.specs.KeyRunLaws.{keeps_roles}
 use Rattle.keyset.proofs.KeyTables.{OfAll, from_implies, implies, of_all}
 use Rattle.keyset_life.specs.KeyLife.{Thing, DsSet, DnskeyAnswer}
-use Rattle.keyset_life.specs.Sides.{OfKeys, OfZone, Side, agrees, doubles, first_of, is_lasting, is_of, is_on, is_ready, is_settled, is_shown, need_of, partner}
+use Rattle.keyset_life.specs.Sides.{OfKeys, OfZone, Side, doubles, first_of, is_lasting, is_on, is_ready, is_shown, partner}
+use Rattle.keyset_life.proofs.SideWords.{agrees, is_of, is_settled, need_of}
 
 -- what the roles of every key keep
 abbrev pub keeps_all : KeyType → Bool

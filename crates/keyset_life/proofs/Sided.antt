@@ -11,8 +11,9 @@ use Rattle.keyset_rolls.specs.Rolls.{touches}
 use Rattle.keyset.specs.KeyState.{Key, KeySetState, Reference, ds, each_is, is_stale, key_of, phase_of}
 use Rattle.keyset.specs.KeyRunLaws.{Reports}
 use Rattle.keyset_life.specs.KeyLife.{DnskeyAnswer, Step, Thing, is_first_wait, is_start}
-use Rattle.keyset_life.specs.Sides.{Side, doubles, first_of, is_empty, is_lasting, is_of, is_on, is_ready, is_shown, partner, second_of, shows, stays}
+use Rattle.keyset_life.specs.Sides.{Side, doubles, first_of, is_empty, is_lasting, is_on, is_ready, is_shown, partner, second_of, shows, stays}
 use Rattle.keyset_life.specs.Anchors.{Anchored, Crossing, Early, Growing, Grows, HasKey, Kept, Late, Life, NoDs, Rests, Switched, Switches, grown, is_second, rests}
+use Rattle.keyset_life.proofs.SideWords.{is_of}
 use Rattle.keyset_life.proofs.Contents.{shown_shows}
 use Rattle.keyset_life.proofs.Retiring.{each_more, live_more, since_more}
 use Rattle.keyset_life.proofs.SideTables.{shown_of, shown_used}

@@ -21,7 +21,8 @@ use Rattle.keyset.proofs.KeyTables.{and_left as left_of, and_right as right_of, 
 use Rattle.keyset.proofs.KeyWaits.{kind_itself}
 use Rattle.keyset_life.specs.KeyLife.{DnskeyAnswer, DsSet, Step, Thing, is_first_wait, is_start, reported_first, reported_second, same_thing}
 use Rattle.keyset_life.specs.Sides.{OfKeys, OfZone, Side, doubles, first_of, is_empty, is_lasting, is_on, is_ready, is_shown, partner, second_of, shows}
-use Rattle.keyset_life.specs.Anchors.{Anchored, Crossing, Early, Growing, Grows, HasKey, HasRun, Kept, Late, Life, Live, NoDs, Resting, Rests, Since, Switched, Switches, grown, is_first, is_second, rests}
+use Rattle.keyset_life.specs.Anchors.{Anchored, Crossing, Early, Growing, Grows, HasKey, HasRun, Kept, Late, Life, Live, NoDs, Resting, Rests, Since, Switched, Switches, grown, is_second, rests}
+use Rattle.keyset_life.proofs.SideWords.{is_first}
 use Rattle.keyset_life.proofs.Contents.{shows_same}
 use Rattle.keyset_life.proofs.Retiring.{first_report_leaves, live_more, live_so, run_in_time, second_report_leaves, since_now, since_so, step_of}
 use Rattle.keyset_life.proofs.Sided.{anchored_more, lasting_first, lasting_second, no_ds_more, of_lasting, of_ready, ready_first, ready_grown, shows_now, wanted}

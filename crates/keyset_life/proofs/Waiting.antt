@@ -19,10 +19,11 @@ use Rattle.keyset.proofs.KeyMaps.{kind_same}
 use Rattle.keyset.proofs.KeyRunEnds.{waits_count}
 use Rattle.keyset.proofs.KeyRunStarts.{runs_alone, start_of}
 use Rattle.keyset.proofs.KeyTables.{join}
-use Rattle.keyset_life.specs.Anchors.{HasKey, Life, is_first, is_second}
+use Rattle.keyset_life.specs.Anchors.{HasKey, Life, is_second}
 use Rattle.keyset_life.specs.KeyLife.{Step}
 use Rattle.keyset_life.specs.Sides.{first_of, is_lasting, is_ready, is_shown}
 use Rattle.keyset_life.specs.Waiting.{WaitsAreTimed}
+use Rattle.keyset_life.proofs.SideWords.{is_first}
 use Rattle.keyset_life.proofs.Effects.{Calm, Finished, Moved, Reported1, Reported2, Started, Waited1, Waited2, add_calm, decouple_calm, delete_calm, done_so, report1_so, report2_so, same_key, start_so, touched_by, wait1_so, wait2_so, when_accepted}
 use Rattle.keyset_life.proofs.LifeSteps.{Base, Noted, keep_all, new_ready, then, together, when_on, when_roles, witness_on}
 use Rattle.keyset_life.proofs.Lived.{base_next, base_of_none, finished_roles, keep_next, report1_roles, report2_roles, sorted_next, start_roles, waited1_roles, waited2_roles}

@@ -98,11 +98,6 @@ pub record Crossing (side : Side) (r : RollType) (life : Life) (steps : List Ste
   pub either : Live life (second_of side r) steps (λ x. shows side (second_of side r) old x || shows side (second_of side r) n x)
   pub late : Late side r life steps p n (phase_of s r)
 
-abbrev pub is_first : Option RollState → Bool
-is_first (Some state.Propagation1) = true
-is_first (Some (state.CacheExpire1 ttl)) = true
-is_first _ = false
-
 abbrev pub is_second : Option RollState → Bool
 is_second (Some state.Propagation2) = true
 is_second (Some (state.CacheExpire2 ttl)) = true

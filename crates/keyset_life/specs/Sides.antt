@@ -41,11 +41,6 @@ is_shown OfZone DnskeyAnswer t = main_is is_present t && zsk_is (λ _. true) t
 is_shown OfZone ZoneAnswer t = zsk_is signs t
 is_shown _ _ t = false
 
--- a key on this side: one with a role of the KSK, of the ZSK
-abbrev pub is_of : Side → KeyType → Bool
-is_of OfKeys t = ksk_is (λ _. true) t
-is_of OfZone t = zsk_is (λ _. true) t
-
 -- the rolls that change keys of a side
 abbrev pub is_on : Side → RollType → Bool
 is_on OfKeys ZskRoll = false
@@ -85,27 +80,3 @@ is_ready side r t = touches r t && stays side t && is_shown side (first_of side 
 -- from the first wait on: both show it
 abbrev pub is_lasting : Side → RollType → KeyType → Bool
 is_lasting side r t = touches r t && stays side t && is_shown side (first_of side r) t && is_shown side (second_of side r) t
-
--- why a start leaves one: what some key has to be
-abbrev pub need_of : Side → RollType → Need
-need_of OfKeys KskDoubleDsRoll = need.AtParent
-need_of OfKeys KskRoll = need.Present
-need_of OfKeys _ = need.KskPresent
-need_of OfZone ZskRoll = need.Present
-need_of OfZone ZskDoubleSignatureRoll = need.Present
-need_of OfZone _ = need.ZskPresent
-
--- ---- what the roles of every key keep, beside the flags of each
-
-abbrev pub if_both : Bool → Bool → Bool
-if_both true b = b
-if_both false b = not b
-
--- both roles of a combined key are old together, and one that isn't old stands for the key by its KSK role
-abbrev pub agrees : KeyType → Bool
-agrees (Csk f g) = (if_both f.old g.old) && (g.old || not g.present || f.present)
-agrees _ = true
-
--- a ZSK role that is present and stays signs
-abbrev pub is_settled : KeyType → Bool
-is_settled t = not (zsk_is (current is_present) t) || zsk_is signs t

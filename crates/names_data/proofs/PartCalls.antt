@@ -3,6 +3,7 @@ use Rattle.std.proofs.Common.{◌≡◌, ℕ, ◌+◌, ◌-◌, ◌≤◌, ◌<�
 use Rattle.std.specs.Prelude.{IfOk, IfErr, OnErr, slice_range}
 use Rattle.std.proofs.lemmas.Bool.{le-leb, lt-leb, eq-eqb}
 use Rattle.std.proofs.lemmas.List.{length-take-le, length-drop}
+use Rattle.definitions.specs.Limits.{pointer_limit}
 use Rattle.definitions.specs.Name.{Name, wire}
 use Rattle.definitions.specs.Reading.{Short, Malformed}
 use Rattle.definitions.proofs.ReadingLaws.{reads_exactly}
@@ -27,7 +28,7 @@ outside e b n h = rw (lt-leb b e h) refl
 -- a name, or why there is none
 pub name_read : (old new : Reader) (result : Result ParsedName ParseError) → IfOk result (ReadsName old new) → IfErr result (StopsAt old) → OnErr result (new ≡ old) → ReadsPart name_part (λ n. wire (parsed_name n)) old new result
 name_read old new (Ok n) r s u = (
-  ap (name_inside old.end) ((reads_exactly old.octets old.place 255 (parsed_name n) new.place).1 (r.stands.reads, r.stands.short))
+  ap (name_inside old.end) ((reads_exactly old.octets old.place pointer_limit (parsed_name n) new.place).1 (r.stands.reads, r.stands.short))
       ∙ inside old.end new.place (parsed_name n) r.fits,
   r.reader,
 )

@@ -4,6 +4,7 @@ use Rattle.std.specs.Prelude.{slice_range}
 use Rattle.std.specs.List.{AllByRecursion, flat_map}
 use Rattle.std.proofs.Math.Seq.{take-append_seam, drop-append_seam}
 use Rattle.std.proofs.lemmas.List.{drop-drop, length-drop}
+use Rattle.definitions.specs.Limits.{pointer_limit}
 use Rattle.definitions.specs.Name.{Name, Label, IsLabel, wire}
 use Rattle.definitions.specs.Reading.{Reads, root, label}
 use Rattle.names_wire.proofs.AlongNames.{at_drop}
@@ -38,6 +39,6 @@ wire_at m p k (l ∷ n) rest h a =
 
 pub written_names : NamesAreReadBack
 written_names before behind n h = record {
-  reads = wire_at (before ++ (wire n ++ behind)) (length before) 255 n behind (drop-append_seam before (wire n ++ behind)) h.labels;
+  reads = wire_at (before ++ (wire n ++ behind)) (length before) pointer_limit n behind (drop-append_seam before (wire n ++ behind)) h.labels;
   short = h.short;
 }

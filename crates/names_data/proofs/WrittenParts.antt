@@ -3,6 +3,7 @@ use Rattle.std.proofs.Common.{◌≡◌, ℕ, ◌+◌, ◌-◌, ◌≤◌, List,
 use Rattle.std.specs.Prelude.{slice_range}
 use Rattle.std.proofs.Math.Seq.{take-append_seam, drop-append_seam}
 use Rattle.std.proofs.lemmas.Bool.{le-leb, eq-eqb}
+use Rattle.definitions.specs.Limits.{pointer_limit}
 use Rattle.definitions.specs.Name.{Name, IsName, wire}
 use Rattle.definitions.proofs.ReadingLaws.{reads_exactly}
 use Rattle.names_data.specs.Reading.{Part, name_inside, name_part, octets_part, rest_part, two_parts, limited, ended}
@@ -23,7 +24,7 @@ pub written_name : (n : Name) → IsName n → Written name_part (wire n)
 written_name n h before behind e le =
     let s = written_names before behind n h in
     let b = length before + length (wire n) in
-    ap (name_inside e) ((reads_exactly (before ++ (wire n ++ behind)) (length before) 255 n b).1 (s.reads, s.short)) ∙ rw (le-leb b e le) refl
+    ap (name_inside e) ((reads_exactly (before ++ (wire n ++ behind)) (length before) pointer_limit n b).1 (s.reads, s.short)) ∙ rw (le-leb b e le) refl
 
 pub written_octets : (n : ℕ) (xs : List ℕ) → length xs ≡ n → Written (octets_part n) xs
 written_octets n xs h before behind e le =

@@ -1,5 +1,6 @@
 -- Record data, read in a message (RFC 1035, 3.2.1 and 4.1.4).
 use Rattle.std.specs.Prelude.{◌≡◌, ℕ, ◌+◌, Bool, true, false, List, ◌++◌, length, Option, Some, None, Result, Ok, Err, slice_range, nat_le, nat_eq, if◌then◌else◌}
+use Rattle.definitions.specs.Limits.{pointer_limit}
 use Rattle.definitions.specs.Name.{Name, wire}
 use Rattle.definitions.specs.Reading.{ReadFault, Short, Malformed, name_at}
 use Rattle.names_parser.specs.Reader.{Reader}
@@ -22,7 +23,7 @@ name_inside e (Err f) = Err f
 
 -- a name, read in the whole message, that ends inside the data
 abbrev pub name_part : Part
-name_part m p e = name_inside e (name_at 255 m p)
+name_part m p e = name_inside e (name_at pointer_limit m p)
 
 -- all that is left
 abbrev pub rest_part : Part

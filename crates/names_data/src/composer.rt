@@ -1,6 +1,7 @@
 //! Targets that messages are written to, and names written there (RFC 1035, 3.1).
 
 ghost use Rattle.std.specs.Prelude.{◌≡◌, ◌++◌, false, take, map, OnOk, OnErr};
+ghost use Rattle.std.specs.Str.{str_to_ascii_lowercase};
 ghost use Rattle.definitions.specs.Name.{low, wire};
 ghost use Rattle.names_wire.specs.Label.{octets_of, wire_label};
 ghost use Rattle.names_labels.specs.Flat.{spelled};
@@ -57,7 +58,22 @@ pub fn compose_canonical_name<N: Absolute, B: OctetsBuilder>(
         OnOk result (B.bytes target.new ≡ B.bytes target.old ++ octets) }
     ensures err { OnErr result (B.bytes target.new ≡ B.bytes target.old) }
 {
-    compose_labels(name, target, Case::Lowered)
+    match name.label_row() {
+        Some(row) => append_lowered(row, target),
+        None => compose_labels(name, target, Case::Lowered),
+    }
+}
+
+/// Appends octets with ASCII letters lowered, or nothing.
+fn append_lowered<B: OctetsBuilder>(octets: &[u8], target: &mut B) -> Result<(), ShortBuf>
+    ensures ok { let lowered = str_to_ascii_lowercase octets.now in
+        OnOk result (B.bytes target.new ≡ B.bytes target.old ++ lowered) }
+    ensures err { OnErr result (B.bytes target.new ≡ B.bytes target.old) }
+{
+    let len = target.as_slice().len();
+    target.append_slice(octets)?;
+    target.as_mut_slice()[len..].make_ascii_lowercase();
+    Ok(())
 }
 
 /// Appends the labels in a row, the root's last, or nothing.

@@ -66,7 +66,6 @@ other_length m n h = go (same m n) refl
     go false e = refl
     go true e = absurd (h (same_length m n e))
 
--- a name ends with another where it does so at the place that is left by as many labels
 drop_nil : {X : Type 0} (k : ℕ) → drop {A = X} k [] ≡ []
 drop_nil zero = refl
 drop_nil (suc k) = refl
@@ -90,7 +89,6 @@ above_short base [] h = other_length base [] (λ e. omega (arith, e, h))
 above_short base (x ∷ n) h =
     (λ t. other_length base (x ∷ n) (λ e. omega (arith, e, h)) t || above_short base n (omega arith) t)
 
--- a name ends with another where it does so at the place that is left by as many labels
 -- a name ends with another where it does so at the place that leaves as many labels
 pub ends-begins : (base n : Name) (k : ℕ) → k + length base ≡ length n → at_or_above base n ≡ begins_with (drop k n) base
 ends-begins base [] k h = sym (begins-same [] base (omega (arith, h))) ∙ ap (λ t. begins_with t base) (sym (drop_nil k))

@@ -5,7 +5,7 @@ use Rattle.std.specs.List.{list_any, AllByRecursion}
 use Rattle.std.proofs.lemmas.List.{append-nil}
 use Rattle.std.proofs.lemmas.Bool.{le-leb}
 use Rattle.definitions.specs.Name.{Name, Label, IsLabel, IsName, wire_len}
-use Rattle.definitions.specs.Text.{Symbol, Plain, is_dot, symbol_of_octet, text_of_octet, text_of_label, text_of_relative, text_of_name, dotted_text_of_name, symbols_of, pieces, onto_first, labels_of_pieces, if_short, without_last_dot, ends_with_dot, is_lone_dot, name_of_symbols, name_of_text, relative_of_symbols, relative_of_text}
+use Rattle.definitions.specs.Text.{Symbol, Plain, is_dot, symbol_of_octet, text_of_octet, text_of_label, text_of_relative, text_of_name, dotted_text_of_name, symbols_of, pieces, onto_first, labels_of_pieces, if_short, without_last_dot, is_lone_dot, name_of_symbols, name_of_text, relative_of_symbols, relative_of_text}
 use Rattle.names_wire.proofs.Printed.{symbol_again, prints, no_dot, as_label}
 
 -- each label is of octets
@@ -87,6 +87,11 @@ some_symbols : (l : Label) (n : Name) → IsLabel l → 0 < length (symbols_of_n
 some_symbols [] n h = absurd (omega (arith, h.some))
 some_symbols (o ∷ os) [] h = omega arith
 some_symbols (o ∷ os) (k ∷ n) h = omega arith
+
+abbrev ends_with_dot : List Symbol → Bool
+ends_with_dot [] = false
+ends_with_dot (s ∷ []) = is_dot s
+ends_with_dot (s ∷ t ∷ ss) = ends_with_dot (t ∷ ss)
 
 -- the last symbol is no dot
 record EndsPlain (ss : List Symbol) : Type 0 where

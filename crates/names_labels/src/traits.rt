@@ -119,11 +119,14 @@ pub fn labels_eq<A: Labels, B: Labels>(name: &A, other: &B) -> bool
         )
 }
 
-/// How many octets the labels of a name take in wire form.
+/// How many octets the labels of a name take in wire form: as many as their row has, where they stand in one.
 fn labels_len<N: Labels>(name: &N) -> u16
     ensures { result ≡ length (spelled (N.labels name.now)) }
 {
     let _count = name.label_count();
+    if let Some(run) = name.label_row() {
+        return run.len() as u16;
+    }
     let (mut labels, mut len) = (labels_of(name), 0);
     while let Some(label) = labels.next() {
         len += label.len() as u16 + 1;

@@ -4,13 +4,14 @@ use Rattle.std.specs.Prelude.{slice_get, slice_range}
 use Rattle.std.proofs.lemmas.Option.{slice_get_past}
 use Rattle.std.proofs.lemmas.Bool.{ne_eqb, le-leb, lt-leb, le-ltb, leb-true}
 use Rattle.definitions.specs.Name.{Name, Label}
+use Rattle.definitions.specs.Limits.{pointer_limit}
 use Rattle.definitions.specs.Reading.{ReadFault, Short, Malformed, To, Run, with_label, pointer_at, run_at, most_heads, labels_at, name_at, behind_labels}
 use Rattle.definitions.proofs.PlainReading.{at_head, at_place}
 use Rattle.definitions.proofs.ReadingLaws.{finish, finish_root, in_front, beyond, labels_of, pointed, finish-with_label, run_at-pointer, pointer_at-back, behind_nothing, labels_at-finish, name_at-finish, heads_there}
 use Rattle.names_parser.specs.Errors.{form_text}
 use Rattle.names_parser.specs.declared.error.ParseError.{ParseError}
 use Rattle.names_parser.specs.declared.error.ParseError.TheVariants.{ShortInput, Form}
-use Rattle.names_parsed.specs.Heads.{rest_at, onto, fault_of, LabelHead, PointerHead}
+use Rattle.names_parsed.specs.Heads.{rest_at, fault_of, LabelHead, PointerHead}
 
 -- ---- one head more or less makes no difference
 
@@ -124,8 +125,13 @@ malformed (Form f) t h = refl
 
 -- ---- labels that were read
 
-pub onto_start : (m : List ℕ) (p : ℕ) → name_at 255 m p ≡ onto [] (rest_at 255 255 m p)
-unfolding rest_at
+-- labels that were read, and what is read behind them
+abbrev pub onto : Name → Result (Name × ℕ) ReadFault → Result (Name × ℕ) ReadFault
+onto done (Ok r) = Ok (done ++ r.0, r.1)
+onto done (Err f) = Err f
+
+pub onto_start : (m : List ℕ) (p : ℕ) → name_at pointer_limit m p ≡ onto [] (rest_at 255 255 m p)
+unfolding rest_at pointer_limit
 onto_start m p = name_at-finish 255 m p ∙ go (finish 255 m (run_at most_heads 255 255 m p))
   where
     go : (r : Result (Name × ℕ) ReadFault) → r ≡ onto [] r
@@ -161,5 +167,5 @@ labels_more whole m p k room len done h s =
     ∙ labels_label done (slice_range m (p + 1) (p + 1 + len)) (rest_at k (room - (len + 1) + 1) m (p + (len + 1)))
 
 -- the name where its labels beyond a pointer are known, or why there is none
-pub onto_pointer : (m : List ℕ) (start p room to : ℕ) (done : Name) (q : Result Name ReadFault) → name_at 255 m start ≡ onto done (rest_at 255 room m p) → PointerHead 255 room m p to → labels_of (rest_at 254 room m to) ≡ q → name_at 255 m start ≡ onto done (beyond (p + 2) q)
-onto_pointer m start p room to done q h s e = h ∙ ap (onto done) (s.onward ∙ ap (beyond (p + 2)) e)
+pub onto_pointer : (whole : Result (Name × ℕ) ReadFault) (m : List ℕ) (p room to : ℕ) (done : Name) (q : Result Name ReadFault) → whole ≡ onto done (rest_at 255 room m p) → PointerHead 255 room m p to → labels_of (rest_at 254 room m to) ≡ q → whole ≡ onto done (beyond (p + 2) q)
+onto_pointer whole m p room to done q h s e = h ∙ ap (onto done) (s.onward ∙ ap (beyond (p + 2)) e)

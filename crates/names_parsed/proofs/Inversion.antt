@@ -1,6 +1,7 @@
 -- What a name that stands in a message begins with, and the name behind that.
 use Rattle.std.proofs.Common.{◌≡◌, ◌⊎◌, inl, inr, ℕ, zero, suc, ◌+◌, ◌<◌, ◌≤◌, Bool, true, false, List, [], ◌∷◌, length, drop, refl, sym, ap, ◌∙◌, arith, Result, Ok, Err}
 use Rattle.std.specs.Prelude.{slice_range}
+use Rattle.definitions.specs.Limits.{pointer_limit}
 use Rattle.definitions.specs.Name.{Name, Label, wire_len}
 use Rattle.definitions.specs.Reading.{Reads, root, label, pointer, pointers_of, ReadFault, name_at}
 use Rattle.std.proofs.lemmas.Option.{slice_get_within}
@@ -19,11 +20,16 @@ more_pointers (label h a b c d f r) j le = label h a b c d f (more_pointers r j 
 more_pointers (pointer h a b c d e r) zero le = absurd (omega arith)
 more_pointers (pointer h a b c d e r) (suc j) le = pointer h a b c d e (more_pointers r j (omega arith))
 
+-- none are fewer than may be followed
+pub limit_fits : 0 ≤ pointer_limit
+unfolding pointer_limit
+limit_fits = omega arith
+
 -- a name that stands there is the one
 pub standing : (m : List ℕ) (p : ℕ) (n : Name) (e : ℕ) → Stands m p n e → (stands_at m p ≡ true) × (name_from m p ≡ n)
 unfolding stands_at name_from
 standing m p n e s =
-    let read : name_at 255 m p ≡ Ok (n, e) = (reads_exactly m p 255 n e).1 (s.reads, s.short) in (
+    let read : name_at pointer_limit m p ≡ Ok (n, e) = (reads_exactly m p pointer_limit n e).1 (s.reads, s.short) in (
       ap (λ (o : Result (Name × ℕ) ReadFault). elim o as (λ _. Bool) [ Ok r ↦ true | Err f ↦ false ]) read,
       ap (λ (o : Result (Name × ℕ) ReadFault). elim o as (λ _. Name) [ Ok r ↦ r.0 | Err f ↦ [] ]) read,
     )
@@ -31,10 +37,10 @@ standing m p n e s =
 -- and one does where it is said to
 pub stood : (m : List ℕ) (p : ℕ) → stands_at m p ≡ true → (e : ℕ) × Stands m p (name_from m p) e
 unfolding stands_at name_from
-stood m p h = go (name_at 255 m p) refl h
+stood m p h = go (name_at pointer_limit m p) refl h
   where
-    go : (o : Result (Name × ℕ) ReadFault) → name_at 255 m p ≡ o → elim o as (λ _. Bool) [ Ok r ↦ true | Err f ↦ false ] ≡ true → (e : ℕ) × Stands m p (elim o as (λ _. Name) [ Ok r ↦ r.0 | Err f ↦ [] ]) e
-    go (Ok r) e k = let s = (reads_exactly m p 255 r.0 r.1).0 e in (r.1, record { reads = s.0; short = s.1 })
+    go : (o : Result (Name × ℕ) ReadFault) → name_at pointer_limit m p ≡ o → elim o as (λ _. Bool) [ Ok r ↦ true | Err f ↦ false ] ≡ true → (e : ℕ) × Stands m p (elim o as (λ _. Name) [ Ok r ↦ r.0 | Err f ↦ [] ]) e
+    go (Ok r) e k = let s = (reads_exactly m p pointer_limit r.0 r.1).0 e in (r.1, record { reads = s.0; short = s.1 })
     go (Err f) e k = cc
 
 -- ---- by what it begins with

@@ -2,6 +2,7 @@
 use Rattle.std.proofs.Common.{◌≡◌, ◌⊎◌, inl, inr, ℕ, zero, suc, ◌+◌, ◌-◌, ◌<◌, ◌≤◌, true, List, [], ◌∷◌, ◌++◌, length, drop, refl, sym, ap, subst, ◌∙◌, arith, Some, Result, Ok, Err, length-drop}
 use Rattle.std.specs.Prelude.{slice_get, slice_range}
 use Rattle.std.specs.List.{AllByRecursion}
+use Rattle.definitions.specs.Limits.{pointer_limit}
 use Rattle.definitions.specs.Name.{Name, Label, IsLabel, IsName}
 use Rattle.definitions.specs.Reading.{Reads, root, label, pointer, pointers_of, ReadFault, name_at}
 use Rattle.definitions.proofs.ReadingLaws.{reads_exactly, length-range, one_name}
@@ -17,17 +18,17 @@ use Rattle.names_parsed.proofs.Steps.{same_label, same_rest, not_both}
 
 -- ---- names
 
-pub read_name : (m : List ℕ) (p : ℕ) (n : Name) (e : ℕ) → name_at 255 m p ≡ Ok (n, e) → Stands m p n e
-read_name m p n e h = let r = (reads_exactly m p 255 n e).0 h in record { reads = r.0; short = r.1 }
+pub read_name : (m : List ℕ) (p : ℕ) (n : Name) (e : ℕ) → name_at pointer_limit m p ≡ Ok (n, e) → Stands m p n e
+read_name m p n e h = let r = (reads_exactly m p pointer_limit n e).0 h in record { reads = r.0; short = r.1 }
 
 two_results : (r : Result (Name × ℕ) ReadFault) (x : Name × ℕ) (f : ReadFault) → r ≡ Ok x → r ≡ Err f → ⊥
 two_results r x f h g = let k : Ok x ≡ Err f = sym h ∙ g in cc
 
-pub no_name : (m : List ℕ) (p : ℕ) (f : ReadFault) → name_at 255 m p ≡ Err f → (n : Name) (e : ℕ) → Stands m p n e → ⊥
-no_name m p f h n e s = two_results (name_at 255 m p) (n, e) f ((reads_exactly m p 255 n e).1 (s.reads, s.short)) h
+pub no_name : (m : List ℕ) (p : ℕ) (f : ReadFault) → name_at pointer_limit m p ≡ Err f → (n : Name) (e : ℕ) → Stands m p n e → ⊥
+no_name m p f h n e s = two_results (name_at pointer_limit m p) (n, e) f ((reads_exactly m p pointer_limit n e).1 (s.reads, s.short)) h
 
 -- what is handed out, by what was read of a message
-pub reads_name : (old new : Reader) (m : List ℕ) (start behind : ℕ) (n : Name) (x : ParsedName) → m ≡ old.octets → start ≡ old.place → name_at 255 m start ≡ Ok (n, behind) → behind ≤ old.end → new ≡ record old { place = behind } → message_of x ≡ m → place_of x ≡ start → ReadsName old new x
+pub reads_name : (old new : Reader) (m : List ℕ) (start behind : ℕ) (n : Name) (x : ParsedName) → m ≡ old.octets → start ≡ old.place → name_at pointer_limit m start ≡ Ok (n, behind) → behind ≤ old.end → new ≡ record old { place = behind } → message_of x ≡ m → place_of x ≡ start → ReadsName old new x
 reads_name old new m start behind n x em es h fits en xm xs =
     let s : Stands m start n behind = read_name m start n behind h in
     let named : name_from (message_of x) (place_of x) ≡ n = (λ i. name_from (xm i) (xs i)) ∙ (standing m start n behind s).1 in
@@ -45,7 +46,7 @@ reads_name old new m start behind n x em es h fits en xm xs =
     }
 
 -- a name that ends past the end of reading is none that ends before
-pub past_end : (m : List ℕ) (p : ℕ) (n k : Name) (b e end : ℕ) → name_at 255 m p ≡ Ok (n, b) → end < b → Stands m p k e → e ≤ end → ⊥
+pub past_end : (m : List ℕ) (p : ℕ) (n k : Name) (b e end : ℕ) → name_at pointer_limit m p ≡ Ok (n, b) → end < b → Stands m p k e → e ≤ end → ⊥
 past_end m p n k b e end h lt s le = omega (arith, (one_name (read_name m p n b h).reads p refl s.reads).1, lt, le)
 
 all_labels : {m : List ℕ} {p k e : ℕ} {n : Name} → Reads m p k n e → AllByRecursion IsLabel n
@@ -80,8 +81,8 @@ label_there m start p next index l h e s = go s.labels
 pub record Along (m : List ℕ) (start p : ℕ) : Type 0 where
   pub name : Name
   pub end : ℕ
-  pub reads : Reads m p 255 name end
-  pub same : (start_name : Name) × (start_end : ℕ) × (r : Reads m start 255 start_name start_end) × (pointers_of r ≡ pointers_of reads)
+  pub reads : Reads m p pointer_limit name end
+  pub same : (start_name : Name) × (start_end : ℕ) × (r : Reads m start pointer_limit start_name start_end) × (pointers_of r ≡ pointers_of reads)
 
 pub along_start : (m : List ℕ) (p : ℕ) → stands_at m p ≡ true → Along m p p
 along_start m p h = let s = stood m p h in record { name = name_from m p; end = s.0; reads = s.1.reads; same = (name_from m p, s.0, s.1.reads, refl) }
@@ -89,7 +90,7 @@ along_start m p h = let s = stood m p h in record { name = name_from m p; end = 
 pub along_inside : (m : List ℕ) (start p : ℕ) → Along m start p → p ≤ length m
 along_inside m start p a = by_form (invert a.reads)
   where
-    by_form : Inverted m p 255 a.name a.end a.reads → p ≤ length m
+    by_form : Inverted m p pointer_limit a.name a.end a.reads → p ≤ length m
     by_form (inl r) = omega (arith, r.0.inside)
     by_form (inr (inl r)) = omega (arith, r.place, r.inside)
     by_form (inr (inr r)) = omega (arith, r.inside)
@@ -97,7 +98,7 @@ along_inside m start p a = by_form (invert a.reads)
 pub along_root : (m : List ℕ) (start p : ℕ) (l rest : List ℕ) → Along m start p → split (drop p m) ≡ Ok (l, rest) → l ≡ [] → HasNoPointers m start
 along_root m start p l rest a x z = by_form (invert a.reads)
   where
-    by_form : Inverted m p 255 a.name a.end a.reads → HasNoPointers m start
+    by_form : Inverted m p pointer_limit a.name a.end a.reads → HasNoPointers m start
     by_form (inl r) = (a.same.0, a.same.1, a.same.2, a.same.3 ∙ r.1)
     by_form (inr (inl r)) = absurd (omega (arith, r.some, ap length (same_label (split (drop p m)) r.first l _ _ r.splits x), ap length z))
     by_form (inr (inr r)) = absurd (not_both (split (drop p m)) _ _ x r.splits)
@@ -105,7 +106,7 @@ along_root m start p l rest a x z = by_form (invert a.reads)
 pub along_pointer : (m : List ℕ) (start p : ℕ) (e : SplitLabelError) → Along m start p → split (drop p m) ≡ Err e → HasPointers m start
 along_pointer m start p e a x = by_form (invert a.reads)
   where
-    by_form : Inverted m p 255 a.name a.end a.reads → HasPointers m start
+    by_form : Inverted m p pointer_limit a.name a.end a.reads → HasPointers m start
     by_form (inl r) = absurd (not_both (split (drop p m)) _ _ r.0.splits x)
     by_form (inr (inl r)) = absurd (not_both (split (drop p m)) _ _ r.splits x)
     by_form (inr (inr r)) = (a.same.0, a.same.1, a.same.2, omega (arith, a.same.3, r.pointers))
@@ -122,7 +123,7 @@ along_label m start p l rest a x some = by_form (invert a.reads)
     there : (q : ℕ) → q ≡ length m - length rest → Further m start p q → Further m start p (length m - length rest)
     there q e f = let P : ℕ → Type 0 = λ x. Further m start p x in subst P e f
 
-    by_form : Inverted m p 255 a.name a.end a.reads → Further m start p (length m - length rest)
+    by_form : Inverted m p pointer_limit a.name a.end a.reads → Further m start p (length m - length rest)
     by_form (inl r) = absurd (some (sym (same_label (split (drop p m)) [] l _ _ r.0.splits x)))
     by_form (inr (inl r)) =
         let others : drop r.behind m ≡ rest = same_rest (split (drop p m)) r.first l _ _ r.splits x in

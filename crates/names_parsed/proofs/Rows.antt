@@ -3,6 +3,7 @@ use Rattle.std.proofs.Common.{◌≡◌, inl, inr, ℕ, ◌+◌, ◌-◌, ◌<�
 use Rattle.std.specs.Prelude.{slice_range}
 use Rattle.std.proofs.lemmas.List.{take_at}
 use Rattle.std.proofs.lemmas.List.Folds.{drop_split}
+use Rattle.definitions.specs.Limits.{pointer_limit}
 use Rattle.definitions.specs.Name.{Name, Label, wire, wire_len, IsName}
 use Rattle.definitions.specs.Reading.{Reads, root, label, pointer, pointers_of, name_at}
 use Rattle.definitions.proofs.ReadingLaws.{reads_exactly, length-range, wire_len-cons, labels_short, pointers_few, ends_within, ends_once}
@@ -16,7 +17,7 @@ use Rattle.names_labels.proofs.Wholes.{wire_len-append}
 use Rattle.names_flat.proofs.Rooted.{flat_run}
 use Rattle.names_parsed.specs.Standing.{name_from, InRow}
 use Rattle.names_parsed.specs.Parsed.{HasNoPointers}
-use Rattle.names_parsed.proofs.Inversion.{standing, invert, Inverted, more_pointers}
+use Rattle.names_parsed.proofs.Inversion.{limit_fits, standing, invert, Inverted, more_pointers}
 
 -- ---- names without pointers
 
@@ -25,7 +26,7 @@ row_reads m p e h = (reads_exactly m p 0 (name_from m p) e).0 h
 
 pub row_stands : (m : List ℕ) (p e : ℕ) (n : Name) → Reads m p 0 n e → wire_len n ≤ 255 → InRow m p e
 row_stands m p e n r short =
-    let named = standing m p n e (record { reads = more_pointers r 255 (omega arith); short = short }) in
+    let named = standing m p n e (record { reads = more_pointers r pointer_limit limit_fits; short = short }) in
     (reads_exactly m p 0 n e).1 (r, short) ∙ ap (λ x. Ok (x, e)) (sym named.1)
 
 -- no wire form of a name has two octets, as many as a pointer
@@ -97,15 +98,15 @@ row_run m p e name h = of_octets (slice_range m p e) (name_from m p) (row_spells
 pub row_flat : (m : List ℕ) (p e : ℕ) → InRow m p e → HasNoPointers m p
 row_flat m p e h =
     let r = (row_reads m p e h).0 in
-    let more = more_pointers r 255 (omega arith) in
-    (name_from m p, e, more, omega (arith, (ends_once m).pointers p 255 0 _ _ _ _ more r, pointers_few r))
+    let more = more_pointers r pointer_limit limit_fits in
+    (name_from m p, e, more, omega (arith, (ends_once m).pointers p pointer_limit 0 _ _ _ _ more r, pointers_few r))
 
 -- ---- a name that was read
 
 -- where the octets of its labels come to the place where it ends, it is a row
-pub walked_row : (m : List ℕ) (p b room : ℕ) (n : Name) → name_at 255 m p ≡ Ok (n, b) → wire_len n + room ≡ 255 → b + room ≡ p + 255 → name_at 0 m p ≡ Ok (n, p + (255 - room))
+pub walked_row : (m : List ℕ) (p b room : ℕ) (n : Name) → name_at pointer_limit m p ≡ Ok (n, b) → wire_len n + room ≡ 255 → b + room ≡ p + 255 → name_at 0 m p ≡ Ok (n, p + (255 - room))
 walked_row m p b room n h spent here =
-    let r = (reads_exactly m p 255 n b).0 h in
+    let r = (reads_exactly m p pointer_limit n b).0 h in
     let ends : b ≡ p + (255 - room) = omega (arith, spent, here) in
     (reads_exactly m p 0 n b).1 (unled r.0 (omega (arith, spent, here)), r.1) ∙ ap (λ x. Ok (n, x)) ends
 

@@ -1,6 +1,7 @@
 -- Steps along a name that stands in a message, by what is split off there.
 use Rattle.std.proofs.Common.{◌≡◌, ◌⊎◌, inl, inr, ℕ, ◌+◌, ◌-◌, ◌<◌, ◌≤◌, true, List, [], ◌∷◌, length, drop, sym, ap, subst, ◌∙◌, arith, Result, Ok, Err, length-drop}
 use Rattle.std.proofs.lemmas.List.{drop-drop}
+use Rattle.definitions.specs.Limits.{pointer_limit}
 use Rattle.definitions.specs.Name.{Name, Label, wire_len}
 use Rattle.definitions.specs.Reading.{Reads}
 use Rattle.names_wire.specs.Label.{split}
@@ -38,7 +39,7 @@ inside_step m p h = go (stood m p h)
     go : (e : ℕ) × Stands m p (name_from m p) e → p < length m
     go s = by_form (invert s.1.reads)
       where
-        by_form : Inverted m p 255 (name_from m p) s.0 s.1.reads → p < length m
+        by_form : Inverted m p pointer_limit (name_from m p) s.0 s.1.reads → p < length m
         by_form (inl r) = r.0.inside
         by_form (inr (inl r)) = omega (arith, r.place, r.inside)
         by_form (inr (inr r)) = r.inside
@@ -66,7 +67,7 @@ pointer_step m p to h x = go (stood m p h)
     go : (e : ℕ) × Stands m p (name_from m p) e → Follows m p to
     go s = by_form (invert s.1.reads)
       where
-        by_form : Inverted m p 255 (name_from m p) s.0 s.1.reads → Follows m p to
+        by_form : Inverted m p pointer_limit (name_from m p) s.0 s.1.reads → Follows m p to
         by_form (inl r) = absurd (not_both (split (drop p m)) _ _ r.0.splits x)
         by_form (inr (inl r)) = absurd (not_both (split (drop p m)) _ _ r.splits x)
         by_form (inr (inr r)) =
@@ -78,7 +79,7 @@ root_step m p l rest h x z = go (stood m p h)
     go : (e : ℕ) × Stands m p (name_from m p) e → StepsTo m p l p
     go s = by_form (invert s.1.reads)
       where
-        by_form : Inverted m p 255 (name_from m p) s.0 s.1.reads → StepsTo m p l p
+        by_form : Inverted m p pointer_limit (name_from m p) s.0 s.1.reads → StepsTo m p l p
         by_form (inl r) = record { stands = h; labels = inl (z, r.0.none, r.0.none); row = λ end row. row }
         by_form (inr (inl r)) = absurd (omega (arith, r.some, ap length (same_label (split (drop p m)) r.first l _ _ r.splits x), ap length z))
         by_form (inr (inr r)) = absurd (not_both (split (drop p m)) _ _ x r.splits)
@@ -105,7 +106,7 @@ label_step m p l rest h x some = go (stood m p h)
     go : (e : ℕ) × Stands m p (name_from m p) e → StepsTo m p l (length m - length rest)
     go s = by_form (invert s.1.reads)
       where
-        by_form : Inverted m p 255 (name_from m p) s.0 s.1.reads → StepsTo m p l (length m - length rest)
+        by_form : Inverted m p pointer_limit (name_from m p) s.0 s.1.reads → StepsTo m p l (length m - length rest)
         by_form (inl r) = absurd (some (sym (same_label (split (drop p m)) [] l _ _ r.0.splits x)))
         by_form (inr (inl r)) =
             let first : r.first ≡ l = same_label (split (drop p m)) r.first l _ _ r.splits x in
@@ -129,7 +130,7 @@ only_pointers m p e h x = go (stood m p h)
         same_error : (a b : SplitLabelError) → split (drop p m) ≡ Err a → split (drop p m) ≡ Err b → a ≡ b
         same_error a b f g = let k : Err a ≡ Err b = sym f ∙ g in cc
 
-        by_form : Inverted m p 255 (name_from m p) s.0 s.1.reads → (to : ℕ) × (e ≡ Pointer to)
+        by_form : Inverted m p pointer_limit (name_from m p) s.0 s.1.reads → (to : ℕ) × (e ≡ Pointer to)
         by_form (inl r) = absurd (not_both (split (drop p m)) _ _ r.0.splits x)
         by_form (inr (inl r)) = absurd (not_both (split (drop p m)) _ _ r.splits x)
         by_form (inr (inr r)) = (r.to, same_error e (Pointer r.to) x r.splits)

@@ -1,5 +1,6 @@
 -- Reading a name head by head.
 use Rattle.std.specs.Prelude.{◌≡◌, ℕ, ◌+◌, ◌-◌, ◌<◌, ◌≤◌, List, [], ◌++◌, length, Result, Ok, Err, slice_range}
+use Rattle.definitions.specs.Limits.{pointer_limit}
 use Rattle.definitions.specs.Name.{Name}
 use Rattle.definitions.specs.Reading.{ReadFault, Short, Malformed, most_heads, run_at, name_at}
 use Rattle.definitions.proofs.ReadingLaws.{finish, in_front, beyond, labels_of}
@@ -43,16 +44,11 @@ Begins k room m p (Err e) = rest_at k room m p ≡ Err (fault_of e)
 -- where it ends; or why there is none.
 abbrev pub Walks : List ℕ → ℕ → Result Walked ParseError → Type 0
 Walks m p (Ok w) =
-    (n : Name) × (name_at 255 m p ≡ Ok (n, w.behind)) × (w.labels ≡ length n + 1)
+    (n : Name) × (name_at pointer_limit m p ≡ Ok (n, w.behind)) × (w.labels ≡ length n + 1)
     × (0 < w.row → name_at 0 m p ≡ Ok (n, p + w.row))
-Walks m p (Err e) = name_at 255 m p ≡ Err (fault_of e)
+Walks m p (Err e) = name_at pointer_limit m p ≡ Err (fault_of e)
 
 -- how many labels there are with those that are read, and so many before them; or why none are read
 abbrev pub CountsOn : Result Name ReadFault → ℕ → Result ℕ ParseError → Type 0
 CountsOn found before (Ok labels) = (n : Name) × (found ≡ Ok n) × (labels ≡ before + length n)
 CountsOn found before (Err e) = found ≡ Err (fault_of e)
-
--- labels that were read, and what is read behind them
-abbrev pub onto : Name → Result (Name × ℕ) ReadFault → Result (Name × ℕ) ReadFault
-onto done (Ok r) = Ok (done ++ r.0, r.1)
-onto done (Err f) = Err f

@@ -1,5 +1,6 @@
 -- Names over a message, and reading them.
 use Rattle.std.specs.Prelude.{◌≡◌, ◌⊎◌, ◌<◌, ◌≤◌, ℕ, List, Ok, Err}
+use Rattle.definitions.specs.Limits.{pointer_limit}
 use Rattle.definitions.specs.Name.{Name}
 use Rattle.definitions.specs.Reading.{Reads, pointers_of, name_at}
 use Rattle.names_parser.specs.Reader.{Reader}
@@ -36,13 +37,13 @@ NoName r = (n : Name) (e : ℕ) → Stands r.octets r.place n e → e ≤ r.end 
 -- reading a name there stops at this fault, or the name ends past the reader's end
 abbrev pub StopsAt : Reader → ParseError → Type 0
 StopsAt r e =
-    (name_at 255 r.octets r.place ≡ Err (fault_of e))
-    ⊎ ((n : Name) × (b : ℕ) × (name_at 255 r.octets r.place ≡ Ok (n, b)) × (r.end < b) × (e ≡ ShortInput))
+    (name_at pointer_limit r.octets r.place ≡ Err (fault_of e))
+    ⊎ ((n : Name) × (b : ℕ) × (name_at pointer_limit r.octets r.place ≡ Ok (n, b)) × (r.end < b) × (e ≡ ShortInput))
 
 -- a name stands there through pointers
 abbrev pub HasPointers : List ℕ → ℕ → Type 0
-HasPointers m p = (n : Name) × (e : ℕ) × (r : Reads m p 255 n e) × (0 < pointers_of r)
+HasPointers m p = (n : Name) × (e : ℕ) × (r : Reads m p pointer_limit n e) × (0 < pointers_of r)
 
 -- or through none
 abbrev pub HasNoPointers : List ℕ → ℕ → Type 0
-HasNoPointers m p = (n : Name) × (e : ℕ) × (r : Reads m p 255 n e) × (pointers_of r ≡ 0)
+HasNoPointers m p = (n : Name) × (e : ℕ) × (r : Reads m p pointer_limit n e) × (pointers_of r ≡ 0)

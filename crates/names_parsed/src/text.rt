@@ -33,6 +33,13 @@ impl<'a> fmt::Display for ParsedName<'a> {
     }
 }
 
+/// The text of `Display`.
+impl<'a> fmt::Debug for ParsedName<'a> {
+    fn fmt<W: fmt::Write>(&self, f: &mut fmt::Formatter<W>) -> fmt::Result {
+        fmt::Display::fmt(self, f)
+    }
+}
+
 impl<'a> ToName for ParsedName<'a> {}
 
 impl<'a> ChainEnd for ParsedName<'a> {

@@ -1,8 +1,9 @@
 -- The labels along a row and its pointers, step by step.
-use Rattle.std.proofs.Common.{◌≡◌, ◌⊎◌, inl, inr, ℕ, zero, suc, ◌+◌, ◌-◌, ◌≤◌, Bool, true, false, cond, List, [], ◌∷◌, ◌++◌, length, take, drop, refl, sym, ap, ◌∙◌, arith, Option, Some, None, Result, Ok, Err, nat_le, length-drop, length-take-le}
-use Rattle.std.proofs.lemmas.List.{drop_all, drop-drop}
+use Rattle.std.proofs.Common.{◌≡◌, ◌⊎◌, inl, inr, ℕ, zero, suc, ◌+◌, ◌-◌, ◌≤◌, min, Bool, true, false, cond, List, [], ◌∷◌, ◌++◌, length, take, drop, refl, sym, ap, ◌∙◌, arith, Option, Some, None, Result, Ok, Err, nat_le, length-drop, length-take-le}
+use Rattle.std.proofs.lemmas.List.{drop_all, drop_min, drop-drop}
 use Rattle.std.proofs.lemmas.Bool.{leb-true}
 use Rattle.std.specs.Iterator.{MakesProgress, item_count}
+use Rattle.definitions.specs.Limits.{pointer_limit}
 use Rattle.names_wire.specs.Label.{split, no_length}
 use Rattle.names_wire.specs.declared.label.SplitLabelError.{SplitLabelError}
 use Rattle.names_wire.specs.declared.label.SplitLabelError.TheVariants.{ShortInput}
@@ -64,6 +65,11 @@ onto k m r = r.labels ++ (elim r.onward [ None ↦ [] | Some q ↦ labels_along 
 pub along_end : (k : ℕ) (m : List ℕ) → labels_along k m (length m) ≡ []
 along_end zero m = ap (λ xs. (row_behind (length m) 0 xs).labels) (drop_all (length m) m (omega arith))
 along_end (suc k) m = ap (λ xs. onto k m (row_behind (length m) 0 xs)) (drop_all (length m) m (omega arith))
+
+-- from a place past the end there are those from the end on, which are none
+pub along_within : (m : List ℕ) (p q : ℕ) → q ≡ min p (length m) → labels_along 255 m q ≡ labels_along pointer_limit m p
+unfolding pointer_limit
+along_within m p q h = ap (λ xs. onto 254 m (row_behind (length m) 0 xs)) (ap (λ n. drop n m) h ∙ drop_min p m)
 
 pub along_none : (k : ℕ) (m : List ℕ) (p : ℕ) (e : SplitLabelError) → split (drop p m) ≡ Err e → (k ≡ 0) ⊎ (pointer_from m p ≡ None) → labels_along k m p ≡ []
 along_none zero m p e h o = ap (λ (r : Row). r.labels) (row_err (length m) (drop p m) e h)

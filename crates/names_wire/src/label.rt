@@ -47,6 +47,7 @@ pub enum SplitLabelError {
 
 impl<'a> Label<'a> {
     ghost use Rattle.names_wire.specs.Label.{octets_of, lowered, wire_label, split};
+    ghost use Rattle.definitions.specs.Limits.{pointer_limit};
     ghost use Rattle.names_wire.specs.Slices.{labels_along};
 
     /// The most octets that a label has.
@@ -125,7 +126,7 @@ impl<'a> Label<'a> {
     /// There are none where the place is not within the octets. At most 255 pointers are followed, each to a
     /// place before its own (RFC 1035, 4.1.4).
     pub fn iter_slice(slice: &'a [u8], start: usize) -> SliceLabelsIter<'a>
-        ensures { result ≡ labels_along 255 slice.now start }
+        ensures { result ≡ labels_along pointer_limit slice.now start }
     {
         SliceLabelsIter::new(slice, start)
     }

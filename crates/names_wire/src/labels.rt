@@ -3,6 +3,7 @@
 ghost use Rattle.std.specs.Prelude.{◌≡◌, ◌≤◌, ◌<◌, length, drop, Some, None, OnSome, IfSome, [], IfNone, IsNone, ◌⊎◌, MatchResult, Ok, Err};
 ghost use Rattle.std.specs.Option.{option_map};
 ghost use Rattle.std.specs.Iterator.{YieldsFirstBy, item_count};
+ghost use Rattle.definitions.specs.Limits.{pointer_limit};
 ghost use Rattle.names_wire.specs.Slices.{labels_along, pointer_from};
 ghost use Rattle.names_wire.specs.Label.{octets_of, split};
 
@@ -37,7 +38,7 @@ impl<'a> Model for SliceLabelsIter<'a> {
 impl<'a> SliceLabelsIter<'a> {
     /// The labels from a place on: none where the place is not within the octets.
     pub(crate) fn new(slice: &'a [u8], start: usize) -> SliceLabelsIter<'a>
-        ensures { result ≡ labels_along 255 slice.now start }
+        ensures { result ≡ labels_along pointer_limit slice.now start }
     {
         SliceLabelsIter {
             slice,

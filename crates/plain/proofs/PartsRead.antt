@@ -2,6 +2,7 @@
 use Rattle.std.proofs.Common.{◌≡◌, ◌↔◌, ℕ, ◌+◌, ◌≤◌, Bool, true, false, cond, List, ◌++◌, Ok, Err, Result, refl, sym, ap, ◌∙◌, arith, eqb, leb}
 use Rattle.std.specs.Prelude.{slice_range}
 use Rattle.std.proofs.lemmas.Bool.{le-leb, leb-true, eqb-true, eq-eqb}
+use Rattle.definitions.specs.Limits.{pointer_limit}
 use Rattle.definitions.specs.Name.{Name, wire}
 use Rattle.definitions.specs.Reading.{ReadFault, Short, Malformed, name_at}
 use Rattle.definitions.proofs.ReadingLaws.{reads_exactly, ends_within}
@@ -22,22 +23,22 @@ record NameThere (m : List ℕ) (p e : ℕ) (xs : List ℕ) (b : ℕ) : Type 0 w
   inside : b ≤ e
 
 name_there : (m : List ℕ) (p e : ℕ) (xs : List ℕ) (b : ℕ) → name_part m p e ≡ Ok (xs, b) → NameThere m p e xs b
-name_there m p e xs b h = go (name_at 255 m p) refl h
+name_there m p e xs b h = go (name_at pointer_limit m p) refl h
   where
-    kept : (n : Name) (q : ℕ) (t : Bool) → leb q e ≡ t → name_at 255 m p ≡ Ok (n, q) → cond {A = Found} t (Ok (wire n, q)) (Err Short) ≡ Ok (xs, b) → NameThere m p e xs b
+    kept : (n : Name) (q : ℕ) (t : Bool) → leb q e ≡ t → name_at pointer_limit m p ≡ Ok (n, q) → cond {A = Found} t (Ok (wire n, q)) (Err Short) ≡ Ok (xs, b) → NameThere m p e xs b
     kept n q false k r f = cc
     kept n q true k r f =
         let o : wire n ≡ xs = ap (λ (x : Found). elim x as (λ _. List ℕ) [ Ok y ↦ y.0 | Err z ↦ xs ]) f in
         let s : q ≡ b = ap (λ (x : Found). elim x as (λ _. ℕ) [ Ok y ↦ y.1 | Err z ↦ b ]) f in
-        let w = (reads_exactly m p 255 n b).0 (r ∙ ap (λ y. Ok (n, y)) s) in
+        let w = (reads_exactly m p pointer_limit n b).0 (r ∙ ap (λ y. Ok (n, y)) s) in
         record { name = n; stands = record { reads = w.0; short = w.1 }; octets = sym o; inside = omega (arith, s, leb-true q e k) }
 
-    go : (r : Result (Name × ℕ) ReadFault) → name_at 255 m p ≡ r → name_inside e r ≡ Ok (xs, b) → NameThere m p e xs b
+    go : (r : Result (Name × ℕ) ReadFault) → name_at pointer_limit m p ≡ r → name_inside e r ≡ Ok (xs, b) → NameThere m p e xs b
     go (Err f) r g = cc
     go (Ok (n, q)) r g = kept n q (leb q e) refl r g
 
 name_read : (m : List ℕ) (p e b : ℕ) (n : Name) → Stands m p n b → b ≤ e → name_part m p e ≡ Ok (wire n, b)
-name_read m p e b n s le = ap (name_inside e) ((reads_exactly m p 255 n b).1 (s.reads, s.short)) ∙ rw (le-leb b e le) refl
+name_read m p e b n s le = ap (name_inside e) ((reads_exactly m p pointer_limit n b).1 (s.reads, s.short)) ∙ rw (le-leb b e le) refl
 
 -- two parts, each of which was read
 record TwoThere (a c : Part) (m : List ℕ) (p e : ℕ) (xs : List ℕ) (b : ℕ) : Type 0 where

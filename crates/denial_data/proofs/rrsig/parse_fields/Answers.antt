@@ -7,11 +7,15 @@ use Rattle.names_parsed.specs.Parsed.{parsed_name}
 use Rattle.names_data.specs.Reading.{octets_part, if_short, two_parts}
 use Rattle.names_data.proofs.Parts.{then_ok, then_err, went_on}
 use Rattle.names_data.proofs.PartCalls.{has_text}
-use Rattle.denial_data.specs.Protos.{proto_with}
+use Rattle.denial_data.specs.declared.proto_rrsig.Numbers.{Numbers}
+use Rattle.denial_data.specs.declared.proto_rrsig.ProtoRrsig.{ProtoRrsig}
 use Rattle.denial_data.specs.RrsigData.{rrsig_with, rrsig_octets}
 use Rattle.denial_data.specs.Signatures.{signer_part}
 use Rattle.denial_data.proofs.Sizes.{limited_ok, limited_long}
 use Rattle.denial_data.proofs.rrsig.parse_fields.Goals as goal
+
+abbrev proto_with : {N : Type 0} → Numbers → N → ProtoRrsig N
+proto_with numbers signer = record { numbers = numbers; signer_name = signer }
 
 pub returns-in_err-signer_name : goal.returns-in_err-signer_name
 returns-in_err-signer_name c =

@@ -1,10 +1,18 @@
 use Rattle.std.proofs.Common.{◌≡◌, List, ℕ, ◌++◌, subst}
 use Rattle.std.specs.Prelude.{OnOk}
-use Rattle.names_data.proofs.Names.{lowered_is_wire}
+use Rattle.names_data.proofs.Names.{lowered_is_wire, row_lowered}
 use Rattle.names_data.proofs.composer.compose_canonical_name.Goals as goal
 
-pub returns-clause-ok : goal.returns-clause-ok
-returns-clause-ok g c =
+pub returns-in-Some-clause-ok : goal.returns-in-Some-clause-ok
+returns-in-Some-clause-ok g c =
+    let old = g.B.OctetsBuilder.bytes c.args.target.now in
+    let new = g.B.OctetsBuilder.bytes c.append_lowered.new.target in
+    let n = c.args.name.now in
+    let P : List ℕ → Type 0 = λ octets. OnOk c.append_lowered.result (new ≡ old ++ octets) in
+    subst P (row_lowered c.in-Some.row.now (g.N.Labels.labels n) (g.N.Labels.name n) c.in-Some.ensures.row (g.met.N.Absolute.rooted n)) c.append_lowered.ensures.ok
+
+pub returns-in-None-clause-ok : goal.returns-in-None-clause-ok
+returns-in-None-clause-ok g c =
     let old = g.B.OctetsBuilder.bytes c.args.target.now in
     let new = g.B.OctetsBuilder.bytes c.compose_labels.new.target in
     let n = c.args.name.now in

@@ -2,11 +2,12 @@ use Rattle.std.proofs.Common.{◌≡◌, ◌∷◌, ◌++◌, [], ◌+◌, ◌�
 use Rattle.std.specs.Prelude.{slice_range}
 use Rattle.std.proofs.lemmas.Option.{slice_get_past}
 use Rattle.std.proofs.lemmas.List.{append-nil}
+use Rattle.definitions.specs.Limits.{pointer_limit}
 use Rattle.definitions.specs.Reading.{name_at}
 use Rattle.definitions.proofs.ReadingLaws.{length-range}
-use Rattle.names_parsed.specs.Heads.{Begins, LabelHead, PointerHead, onto}
+use Rattle.names_parsed.specs.Heads.{Begins, LabelHead, PointerHead}
 use Rattle.names_parsed.specs.declared.head.Head.{Head}
-use Rattle.names_parsed.proofs.HeadSteps.{onto_start, step_short, label_more, onto_pointer}
+use Rattle.names_parsed.proofs.HeadSteps.{onto, onto_start, step_short, label_more, onto_pointer}
 use Rattle.names_parsed.proofs.Rows.{walked_row, wire_len-push}
 use Rattle.names_parsed.proofs.head.walk.Goals as goal
 
@@ -33,7 +34,7 @@ loop-len-preserved c =
     let l = slice_range m (p + 1) (p + 1 + len) in (
       done ++ l ∷ [],
       record {
-        so_far = label_more (name_at 255 m c.args.start) m p 255 room len done c.loop-len.invariant.1.so_far b;
+        so_far = label_more (name_at pointer_limit m c.args.start) m p 255 room len done c.loop-len.invariant.1.so_far b;
         counted = omega (arith, c.loop-len.invariant.1.counted, length-append done (l ∷ []));
         sized = omega (arith, c.loop-len.invariant.1.sized, b.some, b.fits);
         inside = omega (arith, b.inside);
@@ -53,7 +54,7 @@ returns-in-Pointer c =
     let done = c.loop-len.invariant.0 in
     let n = c.in_ok-labels_beyond-in-Pointer.ensures in (
       done ++ n.0,
-      onto_pointer m c.args.start p (room + 1) to done (Ok n.0) c.loop-len.invariant.1.so_far b n.1,
+      onto_pointer (name_at pointer_limit m c.args.start) m p (room + 1) to done (Ok n.0) c.loop-len.invariant.1.so_far b n.1,
       omega (arith, n.2, c.loop-len.invariant.1.counted, length-append done n.0),
       λ some. absurd (omega (arith, some)),
     )
@@ -66,7 +67,7 @@ returns-in-Root c =
     let P : Head → Type 0 = λ h. Begins 255 (room + 1) m p (Ok h) in
     let b = subst P c.in-Root.is c.in_ok-head_at.ensures in
     let done = c.loop-len.invariant.0 in
-    let read : name_at 255 m c.args.start ≡ Ok (done, p + 1) =
+    let read : name_at pointer_limit m c.args.start ≡ Ok (done, p + 1) =
     c.loop-len.invariant.1.so_far ∙ ap (onto done) b.1 ∙ ap (λ n. Ok (n, p + 1)) (append-nil done) in (
       done,
       read,

@@ -1,6 +1,7 @@
 use Rattle.std.proofs.Common.{◌≡◌, ◌+◌, ◌<◌, ◌∙◌, inl, inr, length, refl, sym, ap, Ok, Err, arith}
 use Rattle.std.proofs.lemmas.Result.{err_from_is_err_and}
 use Rattle.std.proofs.lemmas.Bool.{false≢true}
+use Rattle.definitions.specs.Limits.{pointer_limit}
 use Rattle.definitions.specs.Reading.{name_at}
 use Rattle.names_parsed.specs.Heads.{fault_of}
 use Rattle.names_parsed.proofs.Inversion.{standing}
@@ -12,7 +13,7 @@ returns-in_err-walked-clause-refused c =
     let p = err_from_is_err_and c.from_residual.result c.from_residual.ensures.1 in
     let e = c.in_err-walked.field-0.0 in
     let r = c.args.parser.now in
-    let read : name_at 255 r.octets r.place ≡ Err (fault_of e) = (λ i. name_at 255 (sym c.as_slice-message.ensures.octets i) (sym c.pos-start.ensures i)) ∙ c.in_err-walked.ensures in
+    let read : name_at pointer_limit r.octets r.place ≡ Err (fault_of e) = (λ i. name_at pointer_limit (sym c.as_slice-message.ensures.octets i) (sym c.pos-start.ensures i)) ∙ c.in_err-walked.ensures in
     rw p.1 (λ n b s h. no_name r.octets r.place (fault_of e) read n b s)
 
 pub returns-in_err-walked-clause-fault : goal.returns-in_err-walked-clause-fault
@@ -20,7 +21,7 @@ returns-in_err-walked-clause-fault c =
     let p = err_from_is_err_and c.from_residual.result c.from_residual.ensures.1 in
     let e = c.in_err-walked.field-0.0 in
     let r = c.args.parser.now in
-    let read : name_at 255 r.octets r.place ≡ Err (fault_of e) = (λ i. name_at 255 (sym c.as_slice-message.ensures.octets i) (sym c.pos-start.ensures i)) ∙ c.in_err-walked.ensures in
+    let read : name_at pointer_limit r.octets r.place ≡ Err (fault_of e) = (λ i. name_at pointer_limit (sym c.as_slice-message.ensures.octets i) (sym c.pos-start.ensures i)) ∙ c.in_err-walked.ensures in
     rw (p.1, p.2) (inl read)
 
 pub returns-in_err-seek-clause-refused : goal.returns-in_err-seek-clause-refused
@@ -29,7 +30,7 @@ returns-in_err-seek-clause-refused c =
     let w = c.in_ok-walked.ensures in
     let r = c.args.parser.now in
     let b = c.in_ok-walked.walked.behind in
-    let read : name_at 255 r.octets r.place ≡ Ok (w.0, b) = (λ i. name_at 255 (sym c.as_slice-message.ensures.octets i) (sym c.pos-start.ensures i)) ∙ w.1 in
+    let read : name_at pointer_limit r.octets r.place ≡ Ok (w.0, b) = (λ i. name_at pointer_limit (sym c.as_slice-message.ensures.octets i) (sym c.pos-start.ensures i)) ∙ w.1 in
     let past : r.end < b = below_not (λ h. false≢true (c.in_err-seek.ensures.inside.1 h)) in
     rw p.1 (λ n e s h. past_end r.octets r.place w.0 n b e r.end read past s h)
 
@@ -39,7 +40,7 @@ returns-in_err-seek-clause-fault c =
     let w = c.in_ok-walked.ensures in
     let r = c.args.parser.now in
     let b = c.in_ok-walked.walked.behind in
-    let read : name_at 255 r.octets r.place ≡ Ok (w.0, b) = (λ i. name_at 255 (sym c.as_slice-message.ensures.octets i) (sym c.pos-start.ensures i)) ∙ w.1 in
+    let read : name_at pointer_limit r.octets r.place ≡ Ok (w.0, b) = (λ i. name_at pointer_limit (sym c.as_slice-message.ensures.octets i) (sym c.pos-start.ensures i)) ∙ w.1 in
     let past : r.end < b = below_not (λ h. false≢true (c.in_err-seek.ensures.inside.1 h)) in
     rw (p.1, p.2) (inr (w.0, b, read, past, c.in_err-seek.ensures.fault))
 
