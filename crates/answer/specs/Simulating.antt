@@ -17,7 +17,7 @@ use Rattle.messages.specs.Message.{Asked}
 use Rattle.messages.specs.Questions.{asked_of}
 use Rattle.keyset.specs.KeyState.{text_of, is_available}
 use Rattle.answer_publisher.specs.Bindings.{ZoneKeys, Call, Add, Start, Report1, Wait1, Report2, Wait2, Finish, apply, no_keys, ds_set}
-use Rattle.answer_publisher.specs.KeyCalls.{Copied, Gives}
+use Rattle.answer_publisher.specs.KeyCalls.{Gives, RanOutCopying}
 use Rattle.answer_publisher.specs.Publishing.{digest_at, second_of}
 use Rattle.answer_publisher.specs.World.{World, AnswersKeysQuestion, AnswersQuestion, RefusesKeysQuestion, RefusesQuestion, SpellsAnswer, SpellsKeys}
 use Rattle.answer_judge.specs.Meeting.{IsJudgement}
@@ -89,7 +89,7 @@ RefusesAsked allowed _ = allowed ≡ true
 -- takes the next place; a judgement is of what stands at its places. What is refused takes no place.
 abbrev pub StepOf : World → Sofar → ℕ → Act → Outcome → Sofar → Type 0
 StepOf w s at (act.Key c) (outcome.Key r) t =
-    Gives Copied (λ v. v.items) s.keys t.keys r (apply (digest_at w.answers.digest w.zone.apex) (call_of c) at s.keys) × (t.shown ≡ s.shown)
+    Gives (RanOutCopying (call_of c)) (λ v. v.items) s.keys t.keys r (apply (digest_at w.answers.digest w.zone.apex) (call_of c) at s.keys) × (t.shown ≡ s.shown)
 StepOf w s at act.ShowDs (outcome.Ds place set) t =
     (place ≡ length s.shown) × (set.items ≡ ds_set s.keys) × (t ≡ record s { shown = s.shown ++ OfParent set.items ∷ [] })
 StepOf w s at act.ShowDnskey (outcome.Message place octets) t =

@@ -1,6 +1,6 @@
 //! A simulation of a zone's key life: key calls, things shown, and judgements of them.
-ghost use Rattle.std.specs.Prelude.{◌≡◌, ◌⊎◌, ◌<◌, ◌≤◌, ◌^◌, ℕ, All, map, IfOk, IfErr, length};
-ghost use Rattle.answer_zone.specs.Accepting.{IsAccepted, IsFault, sorted_records};
+ghost use Rattle.std.specs.Prelude.{◌≡◌, ◌<◌, ◌≤◌, ◌^◌, ℕ, All, map, IfOk, IfErr, length};
+ghost use Rattle.answer_zone.specs.Accepting.{IsAccepted, RefusesZone, sorted_records};
 ghost use Rattle.std.specs.List.{AllByRecursion};
 ghost use Rattle.definitions.specs.Name.{IsName};
 ghost use Rattle.messages.specs.Handed.{IsHanded};
@@ -64,7 +64,7 @@ pub fn simulate<S: Scheme, H: Nsec3Hasher>(
     ensures handed { IfOk result
         (λ outcomes. IsName apex × AllByRecursion IsHanded (map handed_of records.items)) }
     ensures fault { let rs = map handed_of records.items in
-        IfErr result (λ f. (f ≡ ZoneFault.Memory) ⊎ IsFault apex (mode_of mode) limit rs f) }
+        IfErr result (RefusesZone apex (mode_of mode) limit rs) }
 {
     let publisher = Publisher::new(alloc, apex, records, mode, scheme, hasher, limit, life)?;
     let mut run = Run::new(alloc, publisher, limit);

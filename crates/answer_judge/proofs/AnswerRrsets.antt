@@ -9,7 +9,7 @@ use Rattle.definitions.specs.Zone.{data_at, has, sorted_data}
 use Rattle.definitions.specs.ZoneChain.{Nsec}
 use Rattle.messages.specs.HandedRr.{HandedRr}
 use Rattle.answer_zone.specs.Accepting.{zone_with}
-use Rattle.answer_zone.specs.Links.{link_group}
+use Rattle.answer_zone.proofs.LinkLists.{link_group}
 use Rattle.answer_zone.specs.Served.{owner_among, served_of, soa, spelled_among, spelled_as}
 use Rattle.answer_zone.specs.ZoneView.{IsPublished, is_of}
 use Rattle.answer_judge.proofs.DenialLink.{Linked, Owns}

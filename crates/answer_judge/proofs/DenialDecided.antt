@@ -8,13 +8,13 @@ use Rattle.std.proofs.lemmas.Bool.{and_parts, false_from_ne_true, or_cases, or_r
 use Rattle.definitions.specs.Bitmap.{bitmap, bitmap_has}
 use Rattle.definitions.specs.Name.{Name, low, same, name_cmp, at_or_above, strictly_above}
 use Rattle.definitions.specs.Zone.{Verdict, NoType, Delegated, exists, has, star_under}
-use Rattle.definitions.proofs.NameLaws.{apex_first, interval}
+use Rattle.definitions.proofs.NameLaws.{name_cmp_total, apex_first, interval}
 use Rattle.messages.specs.HandedRr.{HandedRr}
 use Rattle.answer_zone.specs.Accepting.{zone_with}
-use Rattle.answer_judge.specs.Facts.{Link, at_owner, below_cut, by_star, closest, covered, decided, first_some, is_cut_link, link_covers, or_else}
+use Rattle.answer_rules.specs.Rules.{Link, at_owner, below_cut, by_star, closest, covered, decided, first_some, is_cut_link, link_covers, or_else}
 use Rattle.answer_judge.specs.Judging.{is_allowed}
 use Rattle.messages.specs.Message.{Asked}
-use Rattle.answer_zone.specs.ZoneView.{IsPublished, name_cmp_total}
+use Rattle.answer_zone.specs.ZoneView.{IsPublished}
 use Rattle.answer_judge.proofs.DenialLink.{Owns, Speaks}
 use Rattle.answer_judge.proofs.DenialTypes.{link_lacks_ns, link_lacks_type, link_types}
 use Rattle.answer_zone.proofs.ZoneAnswers.{at_itself}

@@ -4,11 +4,11 @@ use Rattle.std.specs.declared.cmp.Ordering.TheVariants.{Less, Greater}
 use Rattle.std.specs.List.{AllByRecursion, filter, list_any}
 use Rattle.std.proofs.lemmas.Bool.{and_parts}
 use Rattle.definitions.specs.Name.{Name, low, same, name_cmp, at_or_above}
-use Rattle.definitions.proofs.NameLaws.{apex_first}
+use Rattle.definitions.proofs.NameLaws.{name_cmp_total, apex_first}
 use Rattle.messages.specs.HandedRr.{HandedRr}
 use Rattle.answer_zone.specs.Links.{link_speaks}
 use Rattle.answer_zone.proofs.LinkLists.{record_links}
-use Rattle.answer_zone.specs.ZoneView.{IsPublished, is_of, name_cmp_total}
+use Rattle.answer_zone.specs.ZoneView.{IsPublished, is_of}
 use Rattle.answer_zone.proofs.OneLink.{Lowered, One, climbed, one_link}
 use Rattle.answer_zone.proofs.ZoneChains.{Climbs, greater_trans, owners_climb}
 use Rattle.answer_zone.proofs.ZoneData.{soa_there}

@@ -9,7 +9,7 @@ use Rattle.definitions.specs.Zone.{exists}
 use Rattle.definitions.proofs.NameLaws.{interval}
 use Rattle.messages.specs.HandedRr.{HandedRr}
 use Rattle.answer_zone.specs.Accepting.{zone_with}
-use Rattle.answer_judge.specs.Facts.{Link, closest}
+use Rattle.answer_rules.specs.Rules.{Link, closest}
 use Rattle.answer_zone.specs.Served.{kept_ancestor}
 use Rattle.answer_zone.specs.ZoneView.{IsPublished, is_of}
 use Rattle.answer_judge.proofs.AnswerRrsets.{soa_is}

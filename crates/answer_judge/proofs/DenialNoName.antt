@@ -10,7 +10,7 @@ use Rattle.definitions.specs.Name.{Name, low, labels_eq, same, at_or_above, stri
 use Rattle.definitions.specs.Zone.{Verdict, NoName, NoType, StarNoType, exists, star_under}
 use Rattle.messages.specs.HandedRr.{HandedRr}
 use Rattle.answer_zone.specs.Accepting.{zone_with}
-use Rattle.answer_judge.specs.Facts.{Link, at_owner, at_star, below_cut, by_star, closest, covered, decided, first_some, link_covers, or_else}
+use Rattle.answer_rules.specs.Rules.{Link, at_owner, at_star, below_cut, by_star, closest, covered, decided, first_some, link_covers, or_else}
 use Rattle.answer_zone.specs.Links.{link_speaks}
 use Rattle.answer_zone.specs.ZoneView.{IsPublished}
 use Rattle.answer_judge.proofs.DenialDecided.{IsLinkOf, cut_silent, no_cut_link, owner_silent}

@@ -11,6 +11,7 @@ use Rattle.std.proofs.lemmas.Nat.{from_be_bytes-to_be_bytes_2}
 use lib.Pointwise.{bytes_decides}
 use Rattle.definitions.specs.Dnskey.{Dnskey, dnskey_data, dnskey_of_data, key_tag, same_key}
 use Rattle.definitions.specs.Signing.{Fields}
+use Rattle.answer_zone.proofs.KeyData.{key_read_back}
 use Rattle.answer_judge.specs.Facts.{fits_key}
 use Rattle.answer_judge.specs.Judging.{clashes, has_equal_tags}
 use Rattle.answer_zone.specs.Served.{by_tag}
@@ -78,12 +79,6 @@ find_kept p ks signer f apart h passes t a =
     find_signer (filter p ks) signer f (tags_within (filter p ks) ks (λ x i. filter_from p ks x i) apart) (filter_has p ks signer h passes) t a
 
 -- ---- data of keys
-
-pub key_read_back : (k : Dnskey) → k.flags < 65536 → dnskey_of_data (dnskey_data k) ≡ Some k
-key_read_back k small =
-    let back = from_be_bytes-to_be_bytes_2 k.flags small in
-    let value : byte_at 1 k.flags * 256 + byte_at 0 k.flags ≡ k.flags = omega (arith, back) in
-    λ i. Some (record { flags = value i; protocol = k.protocol; algorithm = k.algorithm; octets = k.octets })
 
 -- octets are a key's data
 pub record IsKeyData (ks : List Dnskey) (d : List ℕ) : Type 0 where

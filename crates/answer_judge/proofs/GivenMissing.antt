@@ -12,13 +12,13 @@ use Rattle.definitions.specs.ZoneChain.{Nsec, nsec_next}
 use Rattle.messages.specs.HandedRr.{HandedRr}
 use Rattle.answer_zone.specs.Accepting.{zone_with}
 use Rattle.answer_scheme.specs.Answers.{Answers}
-use Rattle.answer_judge.specs.Facts.{Link, decided}
+use Rattle.answer_rules.specs.Rules.{Link, decided}
 use Rattle.answer_judge.specs.Given.{AreGroups}
 use Rattle.answer_judge.proofs.GivenGroups.{SameLink, SaysLink, has_twins, is_nsec, is_rrset}
 use Rattle.answer_judge.specs.Judged.{by_facts, judged_answer, trusting}
 use Rattle.answer_judge.specs.Judging.{Handing, Says}
-use Rattle.answer_zone.specs.Links.{link_group, link_speaks}
-use Rattle.answer_zone.proofs.LinkLists.{record_links}
+use Rattle.answer_zone.specs.Links.{link_speaks}
+use Rattle.answer_zone.proofs.LinkLists.{link_group, record_links}
 use Rattle.messages.specs.Message.{Message}
 use Rattle.answer_zone.specs.Served.{Group, answer_groups, kept_ancestor, proofs_of, served_of, soa, spelled_as}
 use Rattle.answer_judge.specs.Verified.{verified_links, verified_rrset}

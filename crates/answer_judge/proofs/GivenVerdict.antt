@@ -10,12 +10,13 @@ use Rattle.definitions.specs.ZoneChain.{Nsec}
 use Rattle.messages.specs.HandedRr.{HandedRr}
 use Rattle.answer_zone.specs.Accepting.{zone_with}
 use Rattle.answer_scheme.specs.Answers.{Answers}
-use Rattle.answer_judge.specs.Facts.{Link, decided, fits_key}
+use Rattle.answer_judge.specs.Facts.{fits_key}
+use Rattle.answer_rules.specs.Rules.{Link, decided}
 use Rattle.answer_judge.specs.Given.{AreGroups, fields_for}
 use Rattle.answer_judge.proofs.GivenGroups.{SameLink, SaysLink, is_rrset}
 use Rattle.answer_judge.specs.Judged.{by_facts, judged_answer, trusting}
 use Rattle.answer_judge.specs.Judging.{Handing, Says, is_allowed}
-use Rattle.answer_zone.specs.Links.{link_group}
+use Rattle.answer_zone.proofs.LinkLists.{link_group}
 use Rattle.answer_judge.specs.Meeting.{holds}
 use Rattle.messages.specs.Message.{Message}
 use Rattle.answer_zone.specs.Served.{Group, answer_groups, served_of, soa, spelled_as}

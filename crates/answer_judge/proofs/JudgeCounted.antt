@@ -15,7 +15,8 @@ use Rattle.messages.specs.Message.{Spelled, rrsig_at}
 use Rattle.messages.proofs.Lists.{items_from, list_any-map}
 use Rattle.messages.proofs.ZoneNames.{low-low, same_labels}
 use Rattle.answer_judge.specs.Counted.{Sought, can_try, is_tried, one_if, tries, tries_fields}
-use Rattle.answer_judge.specs.Facts.{first_some, fits_key, is_due, is_signature}
+use Rattle.answer_judge.specs.Facts.{fits_key, is_due, is_signature}
+use Rattle.answer_rules.specs.Rules.{first_some}
 use Rattle.answer_judge.specs.Marked.{are_apart, data_in, is_like, is_of, is_tried_in, marked, or_first, signed_of, tries_group, tries_in}
 use Rattle.answer_judge.specs.Verified.{Trusting, is_verified, verified_with}
 use Rattle.answer_judge.specs.declared.judge.groups.Group.{Group}

@@ -6,11 +6,13 @@ use Rattle.definitions.specs.Dnskey.{Dnskey, dnskey_data}
 use Rattle.definitions.specs.Zone.{Verdict, sorted_data}
 use Rattle.definitions.specs.Limits.{pointer_limit}
 use Rattle.answer_scheme.specs.Answers.{Answers}
-use Rattle.answer_judge.specs.Facts.{Link, is_usable, is_trusted, decided, RefusesFirst}
-use Rattle.answer_judge.specs.declared.judge.verdict.Verdict.{Verdict as CodeVerdict}
+use Rattle.answer_judge.specs.Facts.{is_usable, is_trusted, RefusesFirst}
+use Rattle.answer_rules.specs.Rules.{Link, decided}
+use Rattle.answer_rules.specs.declared.verdict.Verdict.{Verdict as CodeVerdict}
 use Rattle.answer_judge.specs.declared.judge.verdict.Refusal.{Refusal}
 use Rattle.answer_judge.specs.declared.judge.verdict.Refusal.TheVariants as r
-use Rattle.answer_judge.specs.Judging.{Answer, Refuses, Handing, is_allowed, first_refusal, message_refusal, keys_in, verdict_of, AnswersFirst}
+use Rattle.answer_judge.specs.Judging.{Answer, Refuses, Handing, is_allowed, first_refusal, message_refusal, keys_in, AnswersFirst}
+use Rattle.answer_rules.specs.Rules.{verdict_of}
 use Rattle.messages.specs.Message.{Message, Spelled, message}
 use Rattle.answer_judge.specs.Verified.{is_verified, verified_rrset, verified_links}
 use Rattle.answer_judge.specs.Judged.{trusting, keys_of, is_chained, by_facts, judged_answer, judged_messages, judged_bytes, judged_beyond, said, AnswersAs}

@@ -1,11 +1,11 @@
 pub mod JudgeGroups
+pub mod JudgeKeys
 pub mod JudgeCase
 pub mod JudgeMarks
 pub mod JudgeTried
 pub mod JudgeGathered
 pub mod JudgeFacts
 pub mod JudgeWhole
-pub mod JudgeClosest
 pub mod DenialLink
 pub mod DenialTypes
 pub mod DenialPairs

@@ -3,11 +3,13 @@ use Rattle.std.specs.Prelude.{◌≡◌, ◌⊎◌, ℕ, Bool, true, false, List
 use Rattle.definitions.specs.Dnskey.{Dnskey, dnskey_data}
 use Rattle.definitions.specs.Zone.{Verdict, Unsigned, sorted_data}
 use Rattle.answer_scheme.specs.Answers.{Answers}
-use Rattle.answer_judge.specs.Facts.{is_usable, is_trusted, decided}
-use Rattle.answer_judge.specs.declared.judge.verdict.Verdict.{Verdict as CodeVerdict}
+use Rattle.answer_judge.specs.Facts.{is_usable, is_trusted}
+use Rattle.answer_rules.specs.Rules.{decided}
+use Rattle.answer_rules.specs.declared.verdict.Verdict.{Verdict as CodeVerdict}
 use Rattle.answer_judge.specs.declared.judge.verdict.Refusal.{Refusal}
 use Rattle.answer_judge.specs.declared.judge.verdict.Refusal.TheVariants as r
-use Rattle.answer_judge.specs.Judging.{Answer, Says, Refuses, Handing, first_refusal, message_refusal, keys_in, verdict_of}
+use Rattle.answer_judge.specs.Judging.{Answer, Says, Refuses, Handing, first_refusal, message_refusal, keys_in}
+use Rattle.answer_rules.specs.Rules.{verdict_of}
 use Rattle.messages.specs.Message.{Message, message}
 use Rattle.answer_judge.specs.Verified.{Trusting, is_verified, verified_rrset, verified_links}
 

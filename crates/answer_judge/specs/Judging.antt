@@ -6,8 +6,7 @@ use Rattle.definitions.specs.Dnskey.{Dnskey, Ds, key_tag, same_key, dnskey_of_da
 use Rattle.definitions.specs.Zone.{Verdict, Records, NoType, NoName, StarRecords, StarNoType, Delegated, Open, Unsigned}
 use Rattle.messages.specs.HandedRr.{among}
 use Rattle.messages.specs.Message.{Spelled, Asked, message, data_of}
-use Rattle.answer_judge.specs.declared.judge.verdict.Verdict.{Verdict as CodeVerdict}
-use Rattle.answer_judge.specs.declared.judge.verdict.Verdict.TheVariants as v
+use Rattle.answer_rules.specs.Rules.{verdict_of}
 use Rattle.answer_judge.specs.declared.judge.verdict.Refusal.{Refusal}
 use Rattle.answer_judge.specs.declared.judge.verdict.Refusal.TheVariants as r
 use Rattle.answer_judge.specs.declared.judge.verdict.Judgement.{Judgement}
@@ -17,16 +16,6 @@ use Rattle.answer_judge.specs.declared.judge.verdict.Refused.{Refused}
 pub data Answer : Type 0 where
   Says : Verdict → Answer
   Refuses : Refusal → Answer
-
-abbrev pub verdict_of : CodeVerdict → Verdict
-verdict_of (v.Records ds) = Records ds
-verdict_of v.NoType = NoType
-verdict_of v.NoName = NoName
-verdict_of (v.StarRecords ds) = StarRecords ds
-verdict_of v.StarNoType = StarNoType
-verdict_of v.Delegated = Delegated
-verdict_of v.Open = Open
-verdict_of v.Unsigned = Unsigned
 
 abbrev pub answer_of : Result Judgement Refused → Answer
 answer_of (Ok j) = Says (verdict_of j.verdict)

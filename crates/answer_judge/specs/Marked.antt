@@ -1,12 +1,14 @@
 -- RRsets of a message, and which of them are verified, as contracts see them.
 use Rattle.std.specs.Prelude.{◌≡◌, Bool, true, false, not, ◌&&◌, ◌==◌, ℕ, ◌+◌, List, [], ◌∷◌, map, length, Option, Some, None, is_some}
 use Rattle.std.specs.List.{list_any, AllByRecursion}
+use Rattle.std.specs.Cow.{cow_slice_items}
 use Rattle.definitions.specs.Name.{Name, same, at_or_above}
 use Rattle.definitions.specs.Limits.{pointer_limit}
 use Rattle.answer_scheme.specs.Answers.{Answers}
 use Rattle.answer_judge.specs.Counted.{can_try, one_if}
 use Rattle.definitions.specs.Signing.{Fields}
-use Rattle.answer_judge.specs.Facts.{Link, is_signature, signs}
+use Rattle.answer_judge.specs.Facts.{is_signature, signs}
+use Rattle.answer_rules.specs.Rules.{Link}
 use Rattle.messages.specs.Message.{Spelled, if_true, rrsig_at}
 use Rattle.answer_judge.specs.Verified.{Trusting, verified_by, rrset_in, link_of}
 use Rattle.answer_judge.specs.declared.judge.groups.Signed.{Signed}
@@ -20,7 +22,7 @@ held_by a t = record { answers = a; apex = t.apex.now; keys = t.keys.now; now = 
 
 -- the canonical data of a group
 abbrev pub data_in : Group → List (List ℕ)
-data_in g = map (λ d. d.items) g.items.items
+data_in g = map cow_slice_items g.items.items
 
 -- the group is of a type and an owner, up to case
 abbrev pub is_of : Name → ℕ → Group → Bool

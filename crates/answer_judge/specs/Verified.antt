@@ -6,7 +6,8 @@ use Rattle.definitions.specs.Name.{Name, same, at_or_above}
 use Rattle.definitions.specs.Dnskey.{Dnskey}
 use Rattle.definitions.specs.Zone.{sorted_data}
 use Rattle.answer_scheme.specs.Answers.{Answers}
-use Rattle.answer_judge.specs.Facts.{Link, first_some, is_signature, signs}
+use Rattle.answer_judge.specs.Facts.{is_signature, signs}
+use Rattle.answer_rules.specs.Rules.{Link, first_some}
 use Rattle.definitions.specs.Signing.{Fields}
 use Rattle.messages.specs.Message.{Spelled, canonical_data, rrsig_at, nsec_at}
 

@@ -1,5 +1,6 @@
 //! Judging a zone answer from bytes alone (RFC 4035, 5).
-ghost use Rattle.std.specs.Prelude.{◌≡◌, ◌==◌, ◌+◌, ◌<◌, ◌≤◌, ◌^◌, [], IfOk, IfErr, OnOk, length, map, filter, true, false};
+ghost use Rattle.std.specs.Prelude.{◌≡◌, ◌==◌, ◌+◌, ◌++◌, ◌<◌, ◌≤◌, ◌^◌, ◌⊎◌, [], IfOk, IfErr, MatchOption, OnOk, is_some, length, map, filter, true, false};
+ghost use Rattle.std.specs.Cow.{cow_slice_items};
 ghost use Rattle.definitions.specs.Limits.{pointer_limit};
 ghost use Rattle.definitions.specs.Dnskey.{dnskey_data};
 ghost use Rattle.definitions.specs.Zone.{sorted_data};
@@ -16,28 +17,27 @@ ghost use Rattle.answer_judge.specs.Meeting.{AnswersGiven};
 ghost use Rattle.answer_judge.specs.Judging.{Judges, answer_of, verifications_of, hashes_of, is_allowed, is_first, message_refusal, same_question, verification_bound};
 
 pub mod by_scheme;
-mod decide;
 mod facts;
 mod groups;
 mod keys;
 pub mod verdict;
 
-use crate::judge::decide::decide;
-use crate::judge::facts::{read_facts, verified_data};
+use crate::judge::facts::read_facts;
 use crate::judge::groups::{Group, Trust, verify_groups};
 use crate::judge::keys::{TaggedKey, has_equal_tags, read_keys, trusted_keys, usable_keys};
 use crate::judge::verdict::{Judgement, Refusal, Refused, Verdict};
+use answer_rules::decide::decide;
 use answer_scheme::checks::Checks;
-use answer_zone::dnskey::ZoneKey;
-use answer_zone::ranked::put_data;
+use answer_zone::ranked::put_cow_data;
 use denial_data::Ds;
 use messages::error::MessageError;
 use messages::names::{Name, ToName, cow_name, is_at_or_above};
 use messages::question::Question;
-use messages::{MessageView, ViewRecord, read_message};
+use messages::{MessageView, ViewRecord, read_message_into};
 use names_data::rtype::Rtype;
 use plain::numbers::Class;
 use std::alloc::{AllocError, Global};
+use std::borrow::CowSlice;
 
 /// Judges what a zone says of a question, from a DS set, a DNSKEY answer and a zone answer (RFC 4035, 5). The
 /// moment is in whole seconds modulo 2^32; the limit is on the iterations of NSEC3 records.
@@ -158,13 +158,13 @@ fn judge_messages<C: Checks>(
     ensures hashed { C.hashed checks.new ≡ C.hashed checks.old }
     ensures same { C.answers checks.new ≡ C.answers checks.old }
 {
-    let (keys_view, answer_view) = read_messages(apex, dnskey_bytes, answer_bytes, question)?;
-    let key_records = records_of(alloc, &keys_view)?;
-    let keys = read_keys(alloc, apex, dnskey_bytes, &key_records)?;
+    let messages = read_messages(alloc, apex, dnskey_bytes, answer_bytes, question)?;
+    let keys = read_keys(alloc, apex, dnskey_bytes, &messages.key_records)?;
     if has_equal_tags(&keys) {
         return Err(Refusal::EqualTags);
     }
-    let trusted = trusted_keys(alloc, apex, ds, &keys, checks)?;
+    let mut octets = Vec::with_capacity(alloc, 512)?;
+    let trusted = trusted_keys(alloc, apex, ds, &keys, &mut octets, checks)?;
     let trust = Trust {
         apex,
         keys: &trusted,
@@ -173,28 +173,29 @@ fn judge_messages<C: Checks>(
     if !are_verified(
         alloc,
         dnskey_bytes,
-        &key_records,
+        &messages.key_records,
         &keys,
         &trust,
+        &mut octets,
         checks,
         count,
     )? {
         return Err(Refusal::NoTrustedKey);
     }
-    let usable = usable_keys(alloc, &keys)?;
+    let usable = usable_keys(keys);
     let trust = Trust {
         apex,
         keys: &usable,
         moment: now,
     };
-    let records = records_of(alloc, &answer_view)?;
     let facts = read_facts(
         alloc,
         answer_bytes,
-        &records,
+        &messages.answer_records,
         &trust,
         &question.name,
         question.rtype,
+        &mut octets,
         checks,
         count,
     )?;
@@ -209,41 +210,73 @@ fn judge_messages<C: Checks>(
     verdict.ok_or(Refusal::NotProven)
 }
 
-/// Reads both messages, which answer the keys' question and the one that is asked.
+/// Both messages, and the records of each.
+#[derive(Drop)]
+struct Messages<'a> {
+    keys: MessageView<'a>,
+    key_records: Vec<ViewRecord<'a>>,
+    answer: MessageView<'a>,
+    answer_records: Vec<ViewRecord<'a>>,
+}
+
+/// Reads both messages, which answer the keys' question and the one that is asked. Memory that was refused is told
+/// behind both, so that what a message is refused for never depends on it.
 fn read_messages<'a>(
+    alloc: Global,
     apex: &Name<Vec<u8>>,
     dnskey_bytes: &'a [u8],
     answer_bytes: &'a [u8],
     question: &Question,
-) -> Result<(MessageView<'a>, MessageView<'a>), Refusal>
-    ensures keys { IfOk result (λ v. message pointer_limit dnskey_bytes.now ≡ Ok v.0) }
-    ensures answer { IfOk result (λ v. message pointer_limit answer_bytes.now ≡ Ok v.1) }
+) -> Result<Messages<'a>, Refusal>
+    ensures keys { IfOk result (λ v. message pointer_limit dnskey_bytes.now ≡ Ok v.keys) }
+    ensures answer { IfOk result (λ v. message pointer_limit answer_bytes.now ≡ Ok v.answer) }
+    ensures key_records { IfOk result
+        (λ v. map spelled v.key_records.items ≡ v.keys.records) }
+    ensures answer_records { IfOk result
+        (λ v. map spelled v.answer_records.items ≡ v.answer.records) }
     ensures asks_keys { let keys : Asked = record { name = apex.now; rtype = 48; class = 1 } in
-        IfOk result (λ v. same_question v.0.asked keys ≡ true) }
+        IfOk result (λ v. same_question v.keys.asked keys ≡ true) }
     ensures asks_answer { IfOk result
-        (λ v. same_question v.1.asked (asked_of question.now) ≡ true) }
-    ensures first { IfErr result (λ e. is_first e ≡ true) }
-    ensures few { IfOk result (λ v. length v.0.records + length v.1.records ≤ 393210) }
+        (λ v. same_question v.answer.asked (asked_of question.now) ≡ true) }
+    ensures few { IfOk result (λ v. length v.keys.records + length v.answer.records ≤ 393210) }
+    ensures first { IfErr result (λ e. (e ≡ Refusal.Memory) ⊎ (is_first e ≡ true)) }
     ensures refusal { let asked = asked_of question.now in
         let h = handed apex.now [] dnskey_bytes.now answer_bytes.now asked 0 0 in
         IfErr result (λ e. RefusesFirst e (message_refusal pointer_limit h)) }
 {
-    let keys = read_counted(dnskey_bytes).map_err(|_| Refusal::BadDnskeyMessage)?;
-    let answer = read_counted(answer_bytes).map_err(|_| Refusal::BadAnswerMessage)?;
+    let (mut key_records, mut answer_records) = (Vec::new(alloc), Vec::new(alloc));
+    let (keys, kept) = read_counted(dnskey_bytes, &mut key_records).map_err(
+        |_| Refusal::BadDnskeyMessage,
+    )?;
+    let (answer, also_kept) = read_counted(answer_bytes, &mut answer_records).map_err(
+        |_| Refusal::BadAnswerMessage,
+    )?;
     if !asks(&keys, apex, Rtype::DNSKEY, Class::IN)
         || !asks(&answer, &question.name, question.rtype, question.class)
     {
         return Err(Refusal::QuestionMismatch);
     }
-    Ok((keys, answer))
+    kept?;
+    also_kept?;
+    Ok(Messages {
+        keys,
+        key_records,
+        answer,
+        answer_records,
+    })
 }
 
-/// Reads a message, which has no more records than three counts of 16 bits.
-fn read_counted(bytes: &[u8]) -> Result<MessageView<'_>, MessageError>
-    ensures exact { Gives (λ v. v) result (message pointer_limit bytes.now) }
-    ensures few { IfOk result (λ v. length v.records ≤ 196605) }
+/// Reads a message, which has no more records than three counts of 16 bits, and puts them behind those of a list.
+fn read_counted<'a>(
+    bytes: &'a [u8],
+    records: &mut Vec<ViewRecord<'a>>,
+) -> Result<(MessageView<'a>, Result<(), AllocError>), MessageError>
+    ensures exact { Gives (λ r. r.0) result (message pointer_limit bytes.now) }
+    ensures kept { IfOk result (λ r. OnOk r.1
+        (map spelled records.new.items ≡ map spelled records.old.items ++ r.0.records)) }
+    ensures few { IfOk result (λ r. length r.0.records ≤ 196605) }
 {
-    read_message(bytes)
+    read_message_into(bytes, records)
 }
 
 /// Whether a message asks for a name, up to case, a type and a class.
@@ -255,35 +288,21 @@ fn asks(view: &MessageView, name: &Name<Vec<u8>>, rtype: Rtype, class: Class) ->
     asked.name.name_eq(name) && asked.rtype == rtype && asked.class == class
 }
 
-/// The records of a message.
-fn records_of<'a>(alloc: Global, view: &MessageView<'a>) -> Result<Vec<ViewRecord<'a>>, AllocError>
-    ensures { IfOk result (λ rs. map spelled rs.items ≡ view.now.records) }
-{
-    let mut records = Vec::with_capacity(alloc, view.record_count())?;
-    for record in view.records() {
-        records.push(record)?;
-    }
-    Ok(records)
-}
-
 /// The RRset of the keys at the apex.
 fn key_group<'a>(
     alloc: Global,
     apex: &'a Name<Vec<u8>>,
-    keys: &[TaggedKey],
+    keys: &[TaggedKey<'a>],
 ) -> Result<Group<'a>, AllocError>
     ensures owner { IfOk result (λ g. g.owner ≡ apex.now) }
     ensures rtype { IfOk result (λ g. g.rtype ≡ 48) }
     ensures items { IfOk result
-        (λ g. map (λ d. d.items) g.items.items ≡ sorted_data (map dnskey_data keys.now)) }
+        (λ g. map cow_slice_items g.items.items ≡ sorted_data (map dnskey_data keys.now)) }
     ensures unverified { IfOk result (λ g. g.verified ≡ None) }
 {
     let mut items = Vec::with_capacity(alloc, keys.len())?;
     for key in keys {
-        let dnskey = key.dnskey();
-        let mut item = Vec::with_capacity(alloc, dnskey.public_key().len().saturating_add(4))?;
-        dnskey.compose(&mut item)?;
-        put_data(&mut items, item)?;
+        put_cow_data(&mut items, CowSlice::Borrowed(key.data()))?;
     }
     Ok(Group {
         owner: cow_name(alloc, apex)?,
@@ -293,13 +312,14 @@ fn key_group<'a>(
     })
 }
 
-/// Whether a trusted key signs the keys.
+/// Whether a trusted key signs the keys. The octets are a buffer; what they are does not matter.
 fn are_verified<C: Checks>(
     alloc: Global,
     message: &[u8],
     records: &[ViewRecord],
     keys: &[TaggedKey],
     trust: &Trust,
+    octets: &mut Vec<u8>,
     checks: &mut C,
     count: &mut u32,
 ) -> Result<bool, AllocError>
@@ -318,6 +338,25 @@ fn are_verified<C: Checks>(
 {
     let mut groups = Vec::with_capacity(alloc, 1)?;
     groups.push(key_group(alloc, trust.apex, keys)?)?;
-    verify_groups(alloc, message, records, trust, &mut groups, checks, count)?;
-    Ok(verified_data(groups.pop()).is_some())
+    verify_groups(
+        alloc,
+        message,
+        records,
+        trust,
+        &mut groups,
+        octets,
+        checks,
+        count,
+    )?;
+    Ok(was_verified(groups.pop()))
+}
+
+/// Whether there is an RRset, and a signature verified it.
+fn was_verified(group: Option<Group>) -> bool
+    ensures { MatchOption group.entry (result ≡ false) (λ g. result ≡ is_some g.verified) }
+{
+    match group {
+        None => false,
+        Some(group) => group.verified.is_some(),
+    }
 }

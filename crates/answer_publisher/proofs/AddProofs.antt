@@ -1,5 +1,5 @@
 -- Adds to bound keys.
-use Rattle.std.proofs.Common.{◌≡◌, ℕ, Bool, false, cond, List, [], sym, ap, subst}
+use Rattle.std.proofs.Common.{◌≡◌, ℕ, Bool, false, cond, List, [], refl, sym, ap, subst}
 use Rattle.std.specs.Prelude.{Option, Some, None, Result, Ok, Err}
 use Rattle.definitions.specs.Dnskey.{Dnskey, key_tag}
 use Rattle.answer_publisher.specs.declared.keys.KeyKind.{KeyKind}
@@ -8,10 +8,11 @@ use Rattle.keyset_keys.specs.declared.errors.Error.TheVariants as error
 use Rattle.keyset.specs.KeyAnswers as answers
 use Rattle.keyset.specs.KeyAnswers.{Refuses, refusal_of}
 use Rattle.answer_publisher.specs.declared.fault.KeyFault.{KeyFault}
+use Rattle.answer_publisher.specs.declared.fault.KeyFault.TheVariants as fault
 use Rattle.keyset_rolls.specs.declared.rolls.Action.{Action}
-use Rattle.answer_publisher.specs.KeyCalls.{Copied, Fails, Gives, IsAccepted, IsFree, IsNamed, fault_of, fault_from}
+use Rattle.answer_publisher.specs.KeyCalls.{Fails, Gives, IsAccepted, IsFree, IsNamed, RanOut, RanOutCopying, RefusesAhead, fault_of, fault_from}
 use Rattle.keyset.specs.KeyState.{KeySetState, Reference, Refusal, Answer, add, new_key}
-use Rattle.answer_publisher.specs.Bindings.{ZoneKeys, BoundKey, Fault, Outcome, ReferenceBound, DigestFailed, Add, apply, lifted, bind, roles_of, dnskey_for, is_bound_away}
+use Rattle.answer_publisher.specs.Bindings.{ZoneKeys, BoundKey, Call, Fault, Outcome, ReferenceBound, DigestFailed, Add, Start, Report1, Wait1, Report2, Wait2, Finish, apply, lifted, bind, roles_of, dnskey_for, is_bound_away}
 
 pub lifted_ok : (b d : List (Reference × BoundKey)) (a : Answer) (k : KeySetState) → a ≡ Ok (k, []) → b ≡ d → lifted b a ≡ Ok (record { keys = k; bound = d }, [])
 lifted_ok b d a k e f i = lifted (f i) (e i)
@@ -76,11 +77,33 @@ pub loosened : {X : Type 0} (view : X → List Action) (old new : ZoneKeys) (r :
 loosened view old new (Ok x) b a h = h
 loosened view old new (Err e) b a h = (h.0, h.1, loose (fault_of e) b a h.2)
 
--- and behind a copy nothing is certain
-uncertain : (ran_out : Outcome → Type 0) (f : Option Fault) (o : Outcome) → Fails ran_out f o → Fails Copied f o
-uncertain ran_out None o h = tt
-uncertain ran_out (Some f) o h = h
+-- an add that is refused before its call
+pub refused_ahead : {X : Type 0} (view : X → List Action) (digests : Dnskey → Option (List ℕ)) (kind : KeyKind) (q : Reference) (private : Option Reference) (algorithm : ℕ) (octets : List ℕ) (available : Bool) (now : ℕ) (s : ZoneKeys) (f : KeyFault)
+    → RefusesAhead (is_bound_away s.bound q (dnskey_for kind algorithm octets)) f → Gives IsFree view s s (Err f) (apply digests (Add kind q private algorithm octets available) now s)
+refused_ahead view digests kind q private algorithm octets available now s fault.ReferenceBound h =
+    let k : Dnskey = dnskey_for kind algorithm octets in
+    let a : Answer = add q (new_key private (roles_of kind available) algorithm (key_tag k) now) s.keys in
+    let by : Option (List ℕ) → Outcome = λ o. elim o [ None ↦ Err DigestFailed | Some d ↦ lifted (bind q (record { key = k; digest = d }) s.bound) a ] in
+    (refl, tt, ap (λ (away : Bool). cond away (Err ReferenceBound) (by (digests k))) h)
+refused_ahead view digests kind q private algorithm octets available now s fault.Memory h =
+    (refl, tt, free_applied digests kind q private algorithm octets available now s h)
+refused_ahead view digests kind q private algorithm octets available now s fault.DigestFailed h = absurd h
+refused_ahead view digests kind q private algorithm octets available now s (fault.Key e) h = absurd h
 
-pub copied : {X : Type 0} (ran_out : Outcome → Type 0) (view : X → List Action) (old new : ZoneKeys) (r : Result X KeyFault) (o : Outcome) → Gives ran_out view old new r o → Gives Copied view old new r o
-copied ran_out view old new (Ok x) o h = h
-copied ran_out view old new (Err e) o h = (h.0, h.1, uncertain ran_out (fault_of e) o h.2)
+-- where arguments are copied before the call, no more is certain than without that
+ran_out_copying : (c : Call) (o : Outcome) → RanOut c o → RanOutCopying c o
+ran_out_copying (Add kind q private algorithm octets available) o h = h
+ran_out_copying (Start r olds news) o h = tt
+ran_out_copying (Report1 r ttl) o h = h
+ran_out_copying (Wait1 r) o h = h
+ran_out_copying (Report2 r ttl) o h = h
+ran_out_copying (Wait2 r) o h = h
+ran_out_copying (Finish r) o h = h
+
+fails_copying : (c : Call) (f : Option Fault) (o : Outcome) → Fails (RanOut c) f o → Fails (RanOutCopying c) f o
+fails_copying c None o h = ran_out_copying c o h
+fails_copying c (Some f) o h = h
+
+pub copied : {X : Type 0} (c : Call) (view : X → List Action) (old new : ZoneKeys) (r : Result X KeyFault) (o : Outcome) → Gives (RanOut c) view old new r o → Gives (RanOutCopying c) view old new r o
+copied c view old new (Ok x) o h = h
+copied c view old new (Err e) o h = (h.0, h.1, fails_copying c (fault_of e) o h.2)

@@ -1,5 +1,5 @@
 -- What the publisher's key calls return, beside the definitions.
-use Rattle.std.specs.Prelude.{◌≡◌, ℕ, List, [], Option, Some, None, Result, Ok, Err}
+use Rattle.std.specs.Prelude.{◌≡◌, ℕ, Bool, true, false, List, [], Option, Some, None, Result, Ok, Err}
 use Rattle.std.specs.Global.{Vec}
 use Rattle.definitions.specs.Dnskey.{Dnskey}
 use Rattle.answer_publisher.specs.declared.fault.KeyFault.{KeyFault}
@@ -10,7 +10,7 @@ use Rattle.keyset_keys.specs.declared.errors.Error.TheVariants as error
 use Rattle.keyset.specs.KeyState.{Refusal}
 use Rattle.keyset.specs.KeyAnswers.{refusal_of}
 use Rattle.answer_publisher.specs.Bindings as bindings
-use Rattle.answer_publisher.specs.Bindings.{ZoneKeys, Fault, Outcome, Call, Add, apply, lifted, on_state}
+use Rattle.answer_publisher.specs.Bindings.{ZoneKeys, Fault, Outcome, Call, Add, Start, apply, lifted, on_state}
 
 abbrev pub refused : Option Refusal → Option Fault
 refused None = None
@@ -49,6 +49,17 @@ abbrev pub RanOut : Call → Outcome → Type 0
 RanOut (Add kind q private algorithm octets available) outcome = IsFree outcome
 RanOut _ outcome = IsAccepted outcome
 
+-- The same where the references that a start lists are copied before the call: of a start nothing is certain then.
+abbrev pub RanOutCopying : Call → Outcome → Type 0
+RanOutCopying (Start r olds news) outcome = Unit {0}
+RanOutCopying c outcome = RanOut c outcome
+
+-- What an add is refused for before its call: its reference is bound to another key, or, where it isn't, memory ran out.
+abbrev pub RefusesAhead : Bool → KeyFault → Type 0
+RefusesAhead away fault.ReferenceBound = away ≡ true
+RefusesAhead away fault.Memory = away ≡ false
+RefusesAhead away _ = ⊥
+
 -- the fault says why the outcome is a refusal, or that memory ran out, where this is certain then
 abbrev pub Fails : (Outcome → Type 0) → Option Fault → Outcome → Type 0
 Fails ran_out None outcome = ran_out outcome
@@ -74,7 +85,3 @@ Adds digest c at old new result = GivesKeys (λ _. []) digest c at old new resul
 -- of a call on the key set alone, which changes nothing that is bound
 abbrev pub ActsOnKeys : Call → ℕ → ZoneKeys → ZoneKeys → Result (Vec Action) KeyFault → Type 0
 ActsOnKeys c at old new result = Gives IsAccepted (λ (v : Vec Action). v.items) old new result (lifted old.bound (on_state c at old.keys))
-
--- nothing is certain: what hands a call in copied its arguments before
-abbrev pub Copied : Outcome → Type 0
-Copied outcome = Unit {0}

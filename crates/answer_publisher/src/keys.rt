@@ -6,7 +6,7 @@ ghost use Rattle.definitions.specs.Dnskey as dnskey;
 ghost use Rattle.definitions.specs.Dnskey.{dnskey_data};
 ghost use Rattle.definitions.specs.Sorting.{put_by, sort_by};
 ghost use Rattle.std.specs.Ordering.{nat_cmp};
-ghost use Rattle.keyset.specs.KeyState.{Key, add, has_tag, texts};
+ghost use Rattle.keyset.specs.KeyState.{Key, add, texts};
 ghost use Rattle.answer_publisher.specs.Bindings.{ZoneKeys, BoundKey, no_keys, Start, Report1, Wait1, Report2, Wait2, Finish, bound_at, is_bound_away, has_role, is_published, keys_by_tag, flags_of, ds_of, ds_set, dnskey_rdata};
 ghost use Rattle.answer_publisher.specs.Bindings as bindings;
 ghost use Rattle.answer_publisher.specs.BoundView.{by_text};
@@ -193,12 +193,12 @@ impl ZoneKeys {
     }
 
     /// Whether a reference is bound to another key.
-    pub(crate) fn is_bound_away(&self, reference: &str, key: &Dnskey<Vec<u8>>) -> bool
+    pub(crate) fn is_bound_away(&self, reference: &str, key: &Dnskey<&[u8]>) -> bool
         ensures { result ≡ is_bound_away self.now.bound reference.now key.now }
     {
         match self.bound(reference) {
             None => false,
-            Some(bound) => !bound.key.same_key(key),
+            Some(bound) => bound.key.for_ref() != *key,
         }
     }
 
@@ -396,20 +396,13 @@ impl ZoneKeys {
 fn check_add(keys: &KeySet, reference: &str, key_tag: u16) -> Result<(), Error>
     ensures { (k : Key) → k.tag ≡ key_tag → Foretells result (add reference.now k keys.now) }
 {
-    if has_tag(keys, key_tag) {
+    if keys.has_tag(key_tag) {
         return Err(Error::DuplicateKeyTag);
     }
     if keys.key(reference).is_some() {
         return Err(Error::KeyExists);
     }
     Ok(())
-}
-
-/// Whether a key of the set has this tag.
-fn has_tag(keys: &KeySet, key_tag: u16) -> bool
-    ensures { result ≡ has_tag key_tag keys.now.keys }
-{
-    keys.keys().values().any(|key| key.key_tag() == key_tag)
 }
 
 /// Adds a key of a tag to the key set alone.

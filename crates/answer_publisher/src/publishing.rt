@@ -7,11 +7,11 @@ ghost use Rattle.answer_judge.specs.Judging.{is_allowed};
 ghost use Rattle.messages.specs.Questions.{asked_of};
 ghost use Rattle.answer_zone.specs.Served.{key_group, ttl_among};
 ghost use Rattle.answer_zone.specs.GroupView.{Presents};
-ghost use Rattle.answer_zone.specs.Accepting.{IsAccepted, IsFault};
+ghost use Rattle.answer_zone.specs.Accepting.{IsAccepted, RefusesZone};
 ghost use Rattle.answer_zone.specs.ZoneView.{mode_of};
 ghost use Rattle.messages.specs.HandedRr.{handed_of};
 ghost use Rattle.keyset.specs.KeyState.{text_of, is_available, texts};
-ghost use Rattle.answer_publisher.specs.Bindings.{no_keys, ds_set, published, dnskeys, keys_by_tag, Add, Start, Report1, Wait1, Report2, Wait2, Finish};
+ghost use Rattle.answer_publisher.specs.Bindings.{no_keys, dnskey_for, ds_set, is_bound_away, published, dnskeys, keys_by_tag, Add, Start, Report1, Wait1, Report2, Wait2, Finish};
 ghost use Rattle.answer_publisher.specs.KeyCalls.{Acts, Adds};
 ghost use Rattle.answer_publisher.specs.NewKeys.{add_of};
 ghost use Rattle.answer_publisher.specs.Publishing.{digest_at, second_of};
@@ -79,7 +79,7 @@ impl<'a, S: Scheme, H: Nsec3Hasher> Publisher<'a, S, H> {
         ensures handed { IfOk result
             (λ p. IsName apex × AllByRecursion IsHanded (map handed_of records.items)) }
         ensures fault { let rs = map handed_of records.items in
-            IfErr result (λ f. (f ≡ ZoneFault.Memory) ⊎ IsFault apex (mode_of mode) limit rs f) }
+            IfErr result (RefusesZone apex (mode_of mode) limit rs) }
     {
         let zone = ZoneRecords::new(alloc, apex, records, mode, limit)?;
         let Ok(name) = copy_name(alloc, zone.apex()) else {
@@ -227,6 +227,23 @@ impl<'a, S: Scheme, H: Nsec3Hasher> Publisher<'a, S, H> {
         self.keys.ds_set()
     }
 
+    /// Whether a reference is bound to another key than one of these octets, at most 65,531 of them, so that an add of
+    /// this one is refused.
+    pub fn is_bound_away(
+        &self,
+        reference: &str,
+        kind: KeyKind,
+        algorithm: SecurityAlgorithm,
+        public_key: &[u8],
+    ) -> bool
+        requires { length public_key.now ≤ 65531 }
+        ensures { let key = dnskey_for kind algorithm public_key.now in
+            result ≡ is_bound_away self.now.keys.bound reference.now key }
+    {
+        let key = Dnskey::new_unchecked(kind.flags(), 3, algorithm, public_key);
+        self.keys.is_bound_away(reference, &key)
+    }
+
     /// Adds a key signing key of these octets, at most 65,531 of them.
     pub fn add_key_ksk(
         &mut self,
@@ -293,10 +310,10 @@ impl<'a, S: Scheme, H: Nsec3Hasher> Publisher<'a, S, H> {
             Adds digests call new.created self.old.keys self.new.keys result }
         ensures rest { self.new ≡ record self.old { keys = self.new.keys } }
     {
-        let key = Dnskey::new_unchecked(new.kind.flags(), 3, new.algorithm, public_key);
-        if self.keys.is_bound_away(new.pubref.as_str(), &key) {
+        if self.is_bound_away(new.pubref.as_str(), new.kind, new.algorithm, &public_key) {
             return Err(KeyFault::ReferenceBound);
         }
+        let key = Dnskey::new_unchecked(new.kind.flags(), 3, new.algorithm, public_key);
         let digest = key_digest(self.alloc, self.scheme, self.zone.apex(), &key)?;
         self.keys.add(new, key, digest)
     }

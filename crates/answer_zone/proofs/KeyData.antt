@@ -14,8 +14,8 @@ abbrev pub found : List ℕ → Result (List ℕ) ReadFault
 found d = data_at ended_part (record { octets = d; place = 0; end = length d })
 
 -- a key's data spell it
-of_data : (k : Dnskey) → k.flags < 65536 → dnskey_of_data (dnskey_data k) ≡ Some k
-of_data k small =
+pub key_read_back : (k : Dnskey) → k.flags < 65536 → dnskey_of_data (dnskey_data k) ≡ Some k
+key_read_back k small =
     let back = from_be_bytes-to_be_bytes_2 k.flags small in
     let value : byte_at 1 k.flags * 256 + byte_at 0 k.flags ≡ k.flags = omega (arith, back) in
     λ i. Some (record { flags = value i; protocol = k.protocol; algorithm = k.algorithm; octets = k.octets })
@@ -36,7 +36,7 @@ key_found (a ∷ b ∷ p ∷ g ∷ rest) k few small h =
     let d : List ℕ = a ∷ b ∷ p ∷ g ∷ rest in
     let there = four a b p g rest few in
     let same : dnskey_data k ≡ d = cc in
-    sym (of_data k small) ∙ ap dnskey_of_data same
+    sym (key_read_back k small) ∙ ap dnskey_of_data same
 
 -- or none
 pub no_key : (d : List ℕ) (f : ReadFault) → length d ≤ 65535 → found d ≡ Err f → None ≡ dnskey_of_data d

@@ -1,11 +1,22 @@
 -- The links of records in order, one by one.
-use Rattle.std.specs.Prelude.{List, [], ◌∷◌, map, filter}
+use Rattle.std.specs.Prelude.{ℕ, List, [], ◌∷◌, ◌++◌, map, filter}
 use Rattle.std.specs.declared.cmp.Ordering.{Ordering}
 use Rattle.std.specs.declared.cmp.Ordering.TheVariants.{Less, Equal, Greater}
-use Rattle.definitions.specs.Name.{Name, low, name_cmp}
+use Rattle.definitions.specs.Name.{Name, low, name_cmp, wire}
+use Rattle.definitions.specs.Bitmap.{bitmap}
+use Rattle.definitions.specs.ZoneChain.{at_apex, types_at}
 use Rattle.messages.specs.HandedRr.{HandedRr}
-use Rattle.answer_zone.specs.Links.{link_group, link_speaks}
-use Rattle.answer_zone.specs.Served.{Group}
+use Rattle.answer_zone.specs.Accepting.{zone_with}
+use Rattle.answer_zone.specs.Links.{link_speaks}
+use Rattle.answer_zone.specs.Served.{Group, canonical_group, chain_ttl, spelled_among, spelled_as}
+
+-- the data of a link: the next name as spelled, and the bits of the owner (RFC 4034, 4.1)
+abbrev pub link_data : Name → List HandedRr → Name → Name → List ℕ
+link_data apex rs o next = wire (spelled_as apex rs next) ++ bitmap (types_at (zone_with apex rs) o ++ 46 ∷ 47 ∷ at_apex (zone_with apex rs) o (48 ∷ []))
+
+-- a record of the chain, of its owner and next name (RFC 4034, 4)
+abbrev pub link_group : Name → List HandedRr → Name → Name → Group
+link_group apex rs o next = canonical_group (spelled_among rs o) o 47 (chain_ttl apex rs) (link_data apex rs o next ∷ [])
 
 -- each with the next greater, the last with the first
 abbrev pub pairs : {A : Type 0} → (A → A → Ordering) → A → A → List A → List (A × A)

@@ -7,9 +7,9 @@ use Rattle.std.proofs.lemmas.Bool.{false_from_ne_true, or_right}
 use Rattle.std.proofs.lemmas.Cmp.{tied_itself}
 use Rattle.definitions.specs.Name.{Name, low, labels_eq, same, name_cmp}
 use Rattle.definitions.specs.Covering.{before, covers}
+use Rattle.definitions.proofs.NameLaws.{name_cmp_total}
 use Rattle.answer_zone.specs.Links.{link_speaks}
 use Rattle.answer_zone.proofs.LinkLists.{pairs}
-use Rattle.answer_zone.specs.ZoneView.{name_cmp_total}
 use Rattle.answer_zone.proofs.ZoneChains.{Climbs, greater_back, greater_trans, less_back}
 use Rattle.messages.proofs.Lists.{Has}
 use Rattle.messages.proofs.ZoneNames.{labels_eq-same, low_from_Equal, name_cmp-same, same_labels}

@@ -14,11 +14,12 @@ use Rattle.definitions.specs.Name.{Name, low, labels_eq, name_cmp, wire}
 use Rattle.definitions.specs.ZoneChain.{Nsec, links, behind, nsec_names, nsec_next, nsec_types, types_at, at_apex}
 use Rattle.definitions.specs.Bitmap.{bitmap}
 use Rattle.messages.specs.HandedRr.{HandedRr}
+use Rattle.definitions.proofs.NameLaws.{name_cmp_total}
 use Rattle.answer_zone.specs.Accepting.{record_cmp, zone_with}
 use Rattle.answer_zone.specs.Served.{Group, canonical_group, chain_record, chain_ttl, proofs_of, served_of, spelled_among, spelled_as}
-use Rattle.answer_zone.specs.Links.{link_group, link_speaks}
-use Rattle.answer_zone.proofs.LinkLists.{pairs, record_links, proofs_among}
-use Rattle.answer_zone.specs.ZoneView.{IsPublished, name_cmp_total}
+use Rattle.answer_zone.specs.Links.{link_speaks}
+use Rattle.answer_zone.proofs.LinkLists.{link_group, pairs, record_links, proofs_among}
+use Rattle.answer_zone.specs.ZoneView.{IsPublished}
 use Rattle.messages.proofs.ZoneNames.{same_labels, labels_eq-same, low_from_Equal, name_cmp-low}
 use Rattle.answer_zone.proofs.ZoneServed.{no_delegation, owners_kept}
 

@@ -1,5 +1,5 @@
 -- A zone of records without a fault of the list, and its chain.
-use Rattle.std.proofs.Common.{◌≡◌, ℕ, false, List, [], ◌∷◌, map, length, None, ◌⊎◌, inl, inr, refl, sym, ap, subst, ◌∙◌}
+use Rattle.std.proofs.Common.{◌≡◌, ℕ, false, List, [], ◌∷◌, map, length, None, inl, inr, refl, sym, ap, subst, ◌∙◌}
 use Rattle.std.specs.Prelude.{IsSome}
 use Rattle.std.specs.List.{AllByRecursion}
 use Rattle.definitions.specs.Name.{Name}
@@ -16,8 +16,7 @@ use Rattle.denial_owners.specs.declared.error.SigningError.{SigningError}
 use Rattle.denial_owners.specs.declared.error.SigningError.TheVariants.{NoSingleSoa, MultipleTtlValues, HashFailed, HashTooLong, HashCollision, Memory}
 use Rattle.messages.specs.HandedRr.{handed_of}
 use Rattle.messages.proofs.Lists.{all_more}
-use Rattle.answer_zone.specs.declared.fault.ZoneFault.TheVariants as fault
-use Rattle.answer_zone.specs.Accepting.{IsAccepted, IsFault, first_fault, has_unlike_ttls, soas, sorted_records, zone_fault, zone_with}
+use Rattle.answer_zone.specs.Accepting.{IsAccepted, RefusesZone, first_fault, has_unlike_ttls, soas, sorted_records, zone_fault, zone_with}
 use Rattle.answer_zone.proofs.ZoneFaults.{IsPlain, internet_from_none, plain_from_none}
 use Rattle.answer_zone.proofs.ZoneOrder.{IsInternet, all_internet, handed_in_order, sorted_internet, zone_cmp}
 use Rattle.answer_zone.proofs.ZoneTtls.{no_single_soa, single_soa, ttls_are}
@@ -44,13 +43,13 @@ module _ {O : Type 0} (apex : Name) (mode : Mode) (limit : ℕ) (rs : List (Reco
       ttls_are apex (optout_of mode) (sort_by zone_cmp rs) plain.plain plain.inside
       ∙ ap (λ hs. has_unlike_ttls (zone_with apex hs) (optout_of mode) hs) in_order
 
-  pub refused : (e : SigningError) → IsOwnersFault (λ n. n) apex false (sort_by zone_cmp rs) e → (zone_fault e ≡ fault.Memory) ⊎ IsFault apex mode limit (map handed_of rs) (zone_fault e)
+  pub refused : (e : SigningError) → IsOwnersFault (λ n. n) apex false (sort_by zone_cmp rs) e → RefusesZone apex mode limit (map handed_of rs) (zone_fault e)
   refused NoSingleSoa h = inr (none, λ one. no_single_soa apex (sort_by zone_cmp rs) plain.known h (ap (λ hs. length (soas apex hs)) in_order ∙ one))
   refused MultipleTtlValues h = inr (none, sym unequal ∙ h)
   refused HashFailed h = absurd h
   refused HashTooLong h = absurd h
   refused HashCollision h = absurd h
-  refused Memory h = inl refl
+  refused Memory h = inl (refl, none)
 
   pub accepted : IsSome (soa_ttls (λ n. n) apex (sort_by zone_cmp rs)) → has_unequal_ttls (λ n. n) zone_type (zone_canonical (λ n. n)) apex false (sort_by zone_cmp rs) ≡ false → IsAccepted apex mode limit (map handed_of rs)
   accepted soa ttls = record {

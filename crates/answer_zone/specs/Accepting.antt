@@ -1,5 +1,5 @@
 -- Which zones are accepted, on the list of records as handed in, and the zone that an accepted list spells.
-use Rattle.std.specs.Prelude.{◌≡◌, ℕ, Bool, false, not, ◌&&◌, ◌||◌, ◌==◌, List, [], ◌∷◌, map, filter, length, Option, Some, None, IsTrue, if◌then◌else◌, nat_lt}
+use Rattle.std.specs.Prelude.{◌≡◌, ◌⊎◌, ℕ, Bool, false, not, ◌&&◌, ◌||◌, ◌==◌, List, [], ◌∷◌, map, filter, length, Option, Some, None, IsTrue, if◌then◌else◌, nat_lt}
 use Rattle.std.specs.List.{list_any}
 use Rattle.std.specs.declared.cmp.Ordering.{Ordering}
 use Rattle.std.specs.Ordering.{nat_cmp, ordering_then}
@@ -74,6 +74,10 @@ IsChainFault apex mode rs _ = ⊥
 abbrev pub IsFault : Name → Mode → ℕ → List HandedRr → ZoneFault → Type 0
 IsFault apex mode limit rs (fault.Chain e) = (first_fault apex mode limit rs ≡ None) × IsChainFault apex mode rs e
 IsFault apex mode limit rs f = first_fault apex mode limit rs ≡ Some f
+
+-- why a list may be refused: a fault, or want of memory, which only a list without a fault of its own can meet
+abbrev pub RefusesZone : Name → Mode → ℕ → List HandedRr → ZoneFault → Type 0
+RefusesZone apex mode limit rs f = ((f ≡ fault.Memory) × (first_fault apex mode limit rs ≡ None)) ⊎ IsFault apex mode limit rs f
 
 -- no fault
 pub record IsAccepted (apex : Name) (mode : Mode) (limit : ℕ) (rs : List HandedRr) : Type 0 where

@@ -10,14 +10,6 @@ use Rattle.messages.specs.HandedRr.{HandedRr}
 use Rattle.answer_zone.specs.Accepting.{zone_with}
 use Rattle.answer_zone.specs.Served.{Group, canonical_group, chain_ttl, spelled_among, spelled_as}
 
--- the data of a link: the next name as spelled, and the bits of the owner (RFC 4034, 4.1)
-abbrev pub link_data : Name → List HandedRr → Name → Name → List ℕ
-link_data apex rs o next = wire (spelled_as apex rs next) ++ bitmap (types_at (zone_with apex rs) o ++ 46 ∷ 47 ∷ at_apex (zone_with apex rs) o (48 ∷ []))
-
--- a record of the chain, of its owner and next name (RFC 4034, 4)
-abbrev pub link_group : Name → List HandedRr → Name → Name → Group
-link_group apex rs o next = canonical_group (spelled_among rs o) o 47 (chain_ttl apex rs) (link_data apex rs o next ∷ [])
-
 -- a link matches or covers one of some names
 abbrev pub link_speaks : Name → List Name → Name → Name → Bool
 link_speaks apex qs o next = list_any (λ q. labels_eq o q || covers (low apex) o next q) qs

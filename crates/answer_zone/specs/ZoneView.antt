@@ -1,10 +1,8 @@
--- How a zone's records and its mode are seen, and the laws of the records' order.
+-- How a zone's records and its mode are seen.
 use Rattle.std.specs.Prelude.{ℕ, List, Bool, true, false, ◌&&◌, ◌||◌, ◌==◌, ◌≡◌, length}
 use Rattle.std.specs.List.{AllByRecursion}
 use Rattle.std.specs.List.Sorted.{IsStrictlySortedBy}
-use Rattle.std.specs.Cmp.{IsTotalOrder, then_total, on_total}
-use Rattle.std.proofs.lemmas.Cmp.{lists_total, nat_cmp_total, nat_list_cmp_total}
-use Rattle.definitions.specs.Name.{Name, from_root, name_cmp, at_or_above, strictly_above, same}
+use Rattle.definitions.specs.Name.{Name, name_cmp, at_or_above, strictly_above, same}
 use Rattle.definitions.specs.ZoneChain.{Mode}
 use Rattle.messages.specs.HandedRr.{HandedRr, has_star}
 use Rattle.answer_zone.specs.Accepting.{record_cmp, soas}
@@ -14,14 +12,6 @@ use Rattle.answer_zone.specs.declared.fault.Mode.TheVariants.{Nsec}
 
 abbrev pub mode_of : declared.Mode → Mode
 mode_of Nsec = chain.Nsec
-
-pub name_cmp_total : IsTotalOrder name_cmp
-name_cmp_total = on_total from_root (lists_total nat_list_cmp_total)
-
-pub record_cmp_total : IsTotalOrder record_cmp
-record_cmp_total =
-    then_total (on_total (λ (r : HandedRr). r.owner) name_cmp_total)
-    (then_total (on_total (λ (r : HandedRr). r.rtype) nat_cmp_total) (on_total (λ (r : HandedRr). r.bytes) nat_list_cmp_total))
 
 -- what is known of the records of an accepted zone, in order
 pub record IsPublished (apex : Name) (rs : List HandedRr) : Type 0 where

@@ -1,6 +1,6 @@
 //! What a zone asks of its keys, beside what all DNSKEY data have (RFC 4034, 2).
 ghost use Rattle.std.specs.Prelude.{◌≡◌, ◌≤◌, ◌++◌, length, IfOk, OnOk};
-ghost use Rattle.definitions.specs.Dnskey.{Dnskey as Key, digested, dnskey_data, dnskey_of_data, same_key};
+ghost use Rattle.definitions.specs.Dnskey.{Dnskey as Key, digested, dnskey_data, dnskey_of_data};
 
 pub use denial_keys::dnskey::Dnskey;
 use messages::names::{Name, Octets, ZoneName};
@@ -20,10 +20,6 @@ pub trait ZoneKey {
     /// The same key with octets of its own.
     fn try_clone(&self, alloc: Global) -> Result<Dnskey<Vec<u8>>, AllocError>
         ensures { IfOk result (λ k. k ≡ fields self.now) };
-
-    /// Whether another key has the same fields and octets.
-    fn same_key<Other: Octets>(&self, other: &Dnskey<Other>) -> bool
-        ensures { result ≡ same_key (fields self.now) other.now };
 
     /// Writes a DNSKEY record's data at the end (RFC 4034, 2.1).
     fn compose(&self, out: &mut Vec<u8>) -> Result<(), AllocError>
@@ -52,13 +48,6 @@ impl<Octs: Octets> ZoneKey for Dnskey<Octs> {
         let _len = self.rdlen(false);
         let public_key = self.public_key().as_slice().to_vec(alloc)?;
         Ok(Dnskey::new_unchecked(self.flags(), self.protocol(), self.algorithm(), public_key))
-    }
-
-    fn same_key<Other: Octets>(&self, other: &Dnskey<Other>) -> bool {
-        self.flags() == other.flags()
-            && self.protocol() == other.protocol()
-            && self.algorithm() == other.algorithm()
-            && self.public_key().as_slice() == other.public_key().as_slice()
     }
 
     fn compose(&self, out: &mut Vec<u8>) -> Result<(), AllocError> {

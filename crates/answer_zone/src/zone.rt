@@ -1,6 +1,6 @@
 //! A zone's records in canonical order, and the RRsets of its answers. Keys are not known here.
-ghost use Rattle.std.specs.Prelude.{◌≡◌, ◌⊎◌, map, IfOk, IfErr};
-ghost use Rattle.answer_zone.specs.Accepting.{IsAccepted, IsFault, sorted_records, zone_fault};
+ghost use Rattle.std.specs.Prelude.{◌≡◌, map, IfOk, IfErr};
+ghost use Rattle.answer_zone.specs.Accepting.{IsAccepted, RefusesZone, sorted_records, zone_fault};
 ghost use Rattle.answer_zone.specs.ZoneView.{IsPublished, mode_of};
 ghost use Rattle.messages.specs.HandedRr.{handed_of};
 ghost use Rattle.messages.specs.Handed.{AreHanded, IsHanded};
@@ -12,11 +12,13 @@ use crate::fault::{Mode, ZoneFault};
 use crate::zone::chain::{ChainLink, chain_of};
 use crate::zone::faults::first_fault;
 use crate::zone::handed::HandedRecord;
+use crate::zone::lookups::chain_ttl_among;
 use denial_owners::error::SigningError;
 use denial_sorted::laws::zone_data_order_is_total;
 use denial_sorted::sorted::SortedRecords;
 use messages::names::{Name, ZoneName};
 use messages::record::{ZoneRecord, keeps};
+use plain::numbers::Ttl;
 use std::alloc::{AllocError, Global};
 use std::marker::Model;
 
@@ -27,7 +29,7 @@ mod given;
 mod handed;
 mod lookups;
 
-/// The records of an accepted zone in canonical order, and its chain.
+/// The records of an accepted zone in canonical order, and its chain with the TTL of its records.
 #[derive(Drop)]
 pub struct ZoneRecords {
     apex: Name<Vec<u8>>,
@@ -35,12 +37,14 @@ pub struct ZoneRecords {
     limit: u16,
     records: Vec<HandedRecord>,
     chain: Vec<ChainLink>,
+    link_ttl: Ttl,
 }
 
 impl Model for ZoneRecords {
     ghost use Rattle.messages.specs.Handed.{AreHanded};
     ghost use Rattle.std.specs.Prelude.{◌≡◌};
     ghost use Rattle.answer_zone.specs.Links.{links_of};
+    ghost use Rattle.answer_zone.specs.Served.{chain_ttl};
     ghost use Rattle.answer_zone.specs.ZoneView.{AcceptedZone, IsPublished, mode_of};
 
     ghost Value = { AcceptedZone };
@@ -54,7 +58,8 @@ impl Model for ZoneRecords {
 
     ghost invariant = { λ z. IsPublished z.apex z.records.items
         × AreHanded z.apex z.records.items
-        × (z.chain.items ≡ links_of z.apex z.records.items) };
+        × (z.chain.items ≡ links_of z.apex z.records.items)
+        × (z.link_ttl ≡ chain_ttl z.apex z.records.items) };
 }
 
 impl ZoneRecords {
@@ -77,8 +82,8 @@ impl ZoneRecords {
             (λ z. IsAccepted apex (mode_of mode) limit (map handed_of records.items)) }
         ensures handed { IfOk result
             (λ z. IsName apex × AllByRecursion IsHanded (map handed_of records.items)) }
-        ensures fault { IfErr result (λ f. (f ≡ ZoneFault.Memory)
-            ⊎ IsFault apex (mode_of mode) limit (map handed_of records.items) f) }
+        ensures fault { IfErr result
+            (RefusesZone apex (mode_of mode) limit (map handed_of records.items)) }
     {
         apex.keeps();
         all_keep(&records);
@@ -96,12 +101,14 @@ impl ZoneRecords {
         let Ok(records) = composed(alloc, sorted.into_inner()) else {
             return Err(ZoneFault::Memory);
         };
+        let link_ttl = chain_ttl_among(&apex, &records);
         Ok(ZoneRecords {
             apex,
             mode,
             limit,
             records,
             chain,
+            link_ttl,
         })
     }
 

@@ -18,7 +18,6 @@ use Rattle.denial_data.specs.Signatures.{rrsig_part}
 use Rattle.messages.specs.declared.error.MessageError.{MessageError}
 use Rattle.messages.specs.Message.{Spelled, fault_of, fits, if_true, name_in, ns_data, nsec_at, owner_at, rrsig_at, rrsig_fields, soa_data}
 use Rattle.messages.specs.Message as message
-use Rattle.messages.proofs.NameRead.{limit_is}
 use Rattle.messages.specs.Record.{reader_of}
 use Rattle.messages.proofs.ReadNames.{reads_labelled}
 
@@ -46,11 +45,11 @@ abbrev NameOk : Result (Name × ℕ) ReadFault → Type 0
 NameOk (Ok n) = Labelled n.0
 NameOk (Err f) = Unit {0}
 
-name_ok : (m : List ℕ) (p : ℕ) → NameOk (name_at 255 m p)
-name_ok m p = go (name_at 255 m p) refl
+name_ok : (m : List ℕ) (p : ℕ) → NameOk (name_at pointer_limit m p)
+name_ok m p = go (name_at pointer_limit m p) refl
   where
-    go : (o : Result (Name × ℕ) ReadFault) → name_at 255 m p ≡ o → NameOk o
-    go (Ok n) e = reads_labelled ((reads_exactly m p 255 n.0 n.1).0 e).0
+    go : (o : Result (Name × ℕ) ReadFault) → name_at pointer_limit m p ≡ o → NameOk o
+    go (Ok n) e = reads_labelled ((reads_exactly m p pointer_limit n.0 n.1).0 e).0
     go (Err f) e = tt
 
 abbrev owner_from : Result (Name × ℕ) ReadFault → Result (Name × ℕ) MessageError
@@ -60,11 +59,10 @@ abbrev upto : ℕ → Result (Name × ℕ) ReadFault → Option (Name × ℕ)
 upto e o = elim (owner_from o) [ Err f ↦ None | Ok n ↦ if_true (leb n.1 e) n ]
 
 -- a name within data that the message has
-name_within : (m : List ℕ) (r : Spelled) (p : ℕ) → message.behind r ≤ length m → name_in pointer_limit m r p ≡ upto (message.behind r) (name_at 255 m p)
+name_within : (m : List ℕ) (r : Spelled) (p : ℕ) → message.behind r ≤ length m → name_in pointer_limit m r p ≡ upto (message.behind r) (name_at pointer_limit m p)
 unfolding owner_at
 name_within m r p inside =
     (λ i. elim (le-leb (message.behind r) (length m) inside i) as (λ _. Option (Name × ℕ)) [ false ↦ None | true ↦ upto (message.behind r) (name_at pointer_limit m p) ])
-    ∙ ap (λ k. upto (message.behind r) (name_at k m p)) limit_is
 
 -- octets that end with the data
 at_end : {X : Type 0} (is : List ℕ → X → Type 0) (e : ℕ) (octets : List ℕ) (x : X) → is octets x → Matches is (ended e (Ok (octets, e))) (Some x)
@@ -97,7 +95,7 @@ ns_upto e (Ok n) ok = go (leb n.1 e)
 pub ns_matches : (m : List ℕ) (r : Spelled) → message.behind r ≤ length m → Matches NsIs (data_at name_part (reader_of m r)) (ns_data pointer_limit m r)
 ns_matches m r inside =
     let e = message.behind r in
-    subst (λ o. Matches NsIs (data_at name_part (reader_of m r)) (ns_from e o)) (sym (name_within m r r.start inside)) (ns_upto e (name_at 255 m r.start) (name_ok m r.start))
+    subst (λ o. Matches NsIs (data_at name_part (reader_of m r)) (ns_from e o)) (sym (name_within m r r.start inside)) (ns_upto e (name_at pointer_limit m r.start) (name_ok m r.start))
 
 -- ---- SOA data
 
@@ -137,14 +135,14 @@ soa_last m e n (Ok o) first ok = go (leb o.1 e)
 
 abbrev soa_first : List ℕ → ℕ → Option (Name × ℕ) → Option (List ℕ)
 soa_first m e None = None
-soa_first m e (Some n) = soa_second m e n.0 (upto e (name_at 255 m n.1))
+soa_first m e (Some n) = soa_second m e n.0 (upto e (name_at pointer_limit m n.1))
 
 soa_upto : (m : List ℕ) (e : ℕ) (o : Result (Name × ℕ) ReadFault) → NameOk o → Matches SoaIs (ended e (followed_by (two_parts name_part (octets_part 20)) m e (name_inside e o))) (soa_first m e (upto e o))
 soa_upto m e (Err f) ok = tt
 soa_upto m e (Ok n) ok = go (leb n.1 e)
   where
     go : (b : Bool) → Matches SoaIs (ended e (followed_by (two_parts name_part (octets_part 20)) m e (if b then Ok (wire n.0, n.1) else Err Short))) (soa_first m e (if_true b n))
-    go true = soa_last m e n.0 (name_at 255 m n.1) ok (name_ok m n.1)
+    go true = soa_last m e n.0 (name_at pointer_limit m n.1) ok (name_ok m n.1)
     go false = tt
 
 abbrev pub soa_by : List ℕ → Spelled → Option (Name × ℕ) → Option (List ℕ)
@@ -163,8 +161,8 @@ soa_names m r inside (Some n) = ap (soa_second m (message.behind r) n.0) (name_w
 pub soa_matches : (m : List ℕ) (r : Spelled) → message.behind r ≤ length m → Matches SoaIs (data_at soa_part (reader_of m r)) (soa_data pointer_limit m r)
 soa_matches m r inside =
     let e = message.behind r in
-    subst (Matches SoaIs (data_at soa_part (reader_of m r))) (sym (ap (soa_by m r) (name_within m r r.start inside) ∙ soa_names m r inside (upto e (name_at 255 m r.start))))
-    (soa_upto m e (name_at 255 m r.start) (name_ok m r.start))
+    subst (Matches SoaIs (data_at soa_part (reader_of m r))) (sym (ap (soa_by m r) (name_within m r r.start inside) ∙ soa_names m r inside (upto e (name_at pointer_limit m r.start))))
+    (soa_upto m e (name_at pointer_limit m r.start) (name_ok m r.start))
 
 -- ---- NSEC data
 
@@ -198,7 +196,7 @@ link_upto m e (Ok n) ok = go (leb n.1 e)
 pub link_matches : (m : List ℕ) (r : Spelled) → message.behind r ≤ length m → Matches LinkIs (data_at nsec_part (reader_of m r)) (nsec_at pointer_limit m r)
 link_matches m r inside =
     let e = message.behind r in
-    subst (λ o. Matches LinkIs (data_at nsec_part (reader_of m r)) (link_from m e o)) (sym (name_within m r r.start inside)) (link_upto m e (name_at 255 m r.start) (name_ok m r.start))
+    subst (λ o. Matches LinkIs (data_at nsec_part (reader_of m r)) (link_from m e o)) (sym (name_within m r r.start inside)) (link_upto m e (name_at pointer_limit m r.start) (name_ok m r.start))
 
 -- ---- RRSIG data
 
@@ -233,8 +231,8 @@ signature_left m start e b = ended e (if_short (followed_by (two_parts name_part
 abbrev signature_right : List ℕ → ℕ → ℕ → Bool → Option (Name × ℕ) → Option (Fields × List ℕ)
 signature_right m start e b o = elim b [ false ↦ None | true ↦ signature_from m start e o ]
 
-signature_long : (m : List ℕ) (start e : ℕ) (b : Bool) → leb (start + 18) e ≡ b → Matches (SignatureIs m start e) (signature_left m start e b) (signature_right m start e b (upto e (name_at 255 m (start + 18))))
-signature_long m start e true h = signature_upto m start e (name_at 255 m (start + 18)) (leb-true (start + 18) e h) (name_ok m (start + 18))
+signature_long : (m : List ℕ) (start e : ℕ) (b : Bool) → leb (start + 18) e ≡ b → Matches (SignatureIs m start e) (signature_left m start e b) (signature_right m start e b (upto e (name_at pointer_limit m (start + 18))))
+signature_long m start e true h = signature_upto m start e (name_at pointer_limit m (start + 18)) (leb-true (start + 18) e h) (name_ok m (start + 18))
 signature_long m start e false h = tt
 
 same_long : (start n : ℕ) → leb 18 n ≡ leb (start + 18) (start + n)
@@ -248,6 +246,6 @@ pub signature_matches : (m : List ℕ) (r : Spelled) → message.behind r ≤ le
 signature_matches m r inside =
     let e = message.behind r in
     let start = r.start in
-    let right : rrsig_at pointer_limit m r ≡ signature_right m start e (leb (start + 18) e) (upto e (name_at 255 m (start + 18))) =
+    let right : rrsig_at pointer_limit m r ≡ signature_right m start e (leb (start + 18) e) (upto e (name_at pointer_limit m (start + 18))) =
     (λ i. signature_right m start e (same_long start r.length i) (name_within m r (start + 18) inside i)) in
     subst (Matches (SignatureIs m start e) (data_at rrsig_part (reader_of m r))) (sym right) (signature_long m start e (leb (start + 18) e) refl)

@@ -14,8 +14,8 @@ use Rattle.names_parsed.specs.Standing.{Stands}
 use Rattle.names_parsed.specs.Parsed.{ReadsName, NoName, StopsAt, HasPointers, HasNoPointers, parsed_name, message_of, place_of}
 use Rattle.names_parsed.specs.Heads as heads
 use Rattle.names_parsed.specs.declared.parsed.ParsedName.{ParsedName}
-use Rattle.names_parsed.proofs.HeadSteps.{onto_start, step_short}
-use Rattle.names_parsed.proofs.Inversion.{more_pointers}
+use Rattle.names_parsed.proofs.HeadSteps.{onto, onto_start, step_short}
+use Rattle.names_parsed.proofs.Inversion.{limit_fits, more_pointers}
 use Rattle.messages.specs.declared.error.MessageError.{MessageError}
 use Rattle.messages.specs.declared.error.MessageError.TheVariants.{ShortInput}
 use Rattle.messages.specs.Message.{fault_of, owner_at}
@@ -31,10 +31,6 @@ owner_found k m p n h = ap faulted h
 pub owner_none : (k : ℕ) (m : List ℕ) (p : ℕ) (f : ReadFault) → name_at k m p ≡ Err f → owner_at k m p ≡ Err (fault_of f)
 unfolding owner_at
 owner_none k m p f h = ap faulted h
-
-pub limit_is : pointer_limit ≡ 255
-unfolding pointer_limit
-limit_is = refl
 
 pub owner_reads : (k : ℕ) (m : List ℕ) (p : ℕ) (n : Name) (e : ℕ) → Reads m p k n e → wire_len n ≤ 255 → owner_at k m p ≡ Ok (n, e)
 owner_reads k m p n e r short = owner_found k m p (n, e) ((reads_exactly m p k n e).1 (r, short))
@@ -59,7 +55,7 @@ pub record Read (m : List ℕ) (p : ℕ) (n : Name) (e : ℕ) : Type 0 where
 standing_read : (m : List ℕ) (p : ℕ) (n : Name) (e : ℕ) → Stands m p n e → Read m p n e
 standing_read m p n e s =
     let ends = ends_within s.reads in
-    record { owner = ap (λ k. owner_at k m p) limit_is ∙ owner_reads 255 m p n e s.reads s.short; inside = ends.1; before = ends.0 }
+    record { owner = owner_reads pointer_limit m p n e s.reads s.short; inside = ends.1; before = ends.0 }
 
 pub was_read : (m : List ℕ) (p : ℕ) (old new : Reader) (n : ParsedName) → old ≡ front m p → ReadsName old new n → Read m p (parsed_name n) new.place
 was_read m p old new n e r = let s = subst (λ o. ReadsName o new n) e r in standing_read m p (parsed_name n) new.place s.stands
@@ -69,15 +65,15 @@ pub was_refused : (m : List ℕ) (p : ℕ) (old : Reader) (e : ParseError) → o
 was_refused m p old e f h = go (subst (λ o. StopsAt o e) f h)
   where
     go : StopsAt (front m p) e → owner_at pointer_limit m p ≡ Err (message_error e)
-    go (inl s) = ap (λ k. owner_at k m p) limit_is ∙ owner_none 255 m p (heads.fault_of e) s
-    go (inr s) = absurd (omega (arith, s.3, (ends_within ((reads_exactly m p 255 s.0 s.1).0 s.2).0).1))
+    go (inl s) = owner_none pointer_limit m p (heads.fault_of e) s
+    go (inr s) = absurd (omega (arith, s.3, (ends_within ((reads_exactly m p pointer_limit s.0 s.1).0 s.2).0).1))
 
 -- nothing is read behind the octets
-past : (m : List ℕ) (p : ℕ) → length m ≤ p → name_at 255 m p ≡ Err Short
-past m p h = onto_start m p ∙ ap (heads.onto []) (step_short 255 255 m p (slice_get_past m p h))
+past : (m : List ℕ) (p : ℕ) → length m ≤ p → name_at pointer_limit m p ≡ Err Short
+past m p h = onto_start m p ∙ ap (onto []) (step_short 255 255 m p (slice_get_past m p h))
 
 pub past_all : (m : List ℕ) (p : ℕ) → length m ≤ p → owner_at pointer_limit m p ≡ Err ShortInput
-past_all m p h = ap (λ k. owner_at k m p) limit_is ∙ owner_none 255 m p Short (past m p h)
+past_all m p h = owner_none pointer_limit m p Short (past m p h)
 
 -- ---- a name without pointers
 
@@ -92,7 +88,7 @@ was_flat m p old new n e r h =
     let read = subst (λ o. ReadsName o new n) e r in
     let s = read.stands in
     let alone : HasNoPointers m p = subst (HasNoPointers m) read.place (subst (λ o. HasNoPointers o (place_of n)) read.message h) in
-    let same = (ends_once m).pointers p 255 255 _ _ _ _ s.reads alone.2 in
+    let same = (ends_once m).pointers p pointer_limit pointer_limit _ _ _ _ s.reads alone.2 in
     owner_reads 0 m p (parsed_name n) new.place (without s.reads (same ∙ alone.3)) s.short
 
 none_stands : (m : List ℕ) (p : ℕ) → ((n : Name) (e : ℕ) → Stands m p n e → ⊥) → IsErr (owner_at 0 m p)
@@ -101,7 +97,7 @@ none_stands m p none = go (name_at 0 m p) refl
     go : (r : Result (Name × ℕ) ReadFault) → name_at 0 m p ≡ r → IsErr (owner_at 0 m p)
     go (Ok n) h =
         let s = (reads_exactly m p 0 n.0 n.1).0 h in
-        absurd (none n.0 n.1 (record { reads = more_pointers s.0 255 (omega arith); short = s.1 }))
+        absurd (none n.0 n.1 (record { reads = more_pointers s.0 pointer_limit limit_fits; short = s.1 }))
     go (Err f) h = ap is_err (owner_none 0 m p f h)
 
 -- a refused one has none
@@ -124,7 +120,7 @@ flat_pointers m p old new n e r h = go (name_at 0 m p) refl
     go : (r : Result (Name × ℕ) ReadFault) → name_at 0 m p ≡ r → IsErr (owner_at 0 m p)
     go (Ok k) f =
         let s = (reads_exactly m p 0 k.0 k.1).0 f in
-        absurd (omega (arith, (ends_once m).pointers p 0 255 _ _ _ _ s.0 through.2, pointers_few s.0, through.3))
+        absurd (omega (arith, (ends_once m).pointers p 0 pointer_limit _ _ _ _ s.0 through.2, pointers_few s.0, through.3))
     go (Err x) f = ap is_err (owner_none 0 m p x f)
 
 -- so no name is read

@@ -1,15 +1,18 @@
 -- What signed octets are made of, record by record.
-use Rattle.std.proofs.Common.{[], ◌≡◌, ℕ, ◌+◌, ◌-◌, ◌<◌, List, ◌∷◌, ◌++◌, length, take, drop, map, refl, ap, ◌∙◌, sym, append_assoc}
+use Rattle.std.proofs.Common.{[], ◌≡◌, ℕ, ◌+◌, ◌-◌, ◌<◌, List, ◌∷◌, ◌++◌, length, get_or, take, drop, map, refl, ap, ◌∙◌, sym, append_assoc}
 use Rattle.std.specs.List.{flat_map}
-use Rattle.std.specs.Int.{w16, to_be_bytes}
-use Rattle.std.proofs.lemmas.List.{drop-map}
+use Rattle.std.specs.Int.{w16, w32, to_be_bytes}
+use Rattle.std.proofs.lemmas.List.{append-nil, drop-map}
+use Rattle.std.proofs.lemmas.List.Concat.{flat_map-append}
 use Rattle.std.proofs.Math.Seq.{take-length}
 use Rattle.std.proofs.lemmas.Bool.{lt-ltb}
-use Rattle.std.specs.Prelude.{if◌then◌else◌}
+use Rattle.std.specs.Prelude.{Err, Ok, OnOk, Result, if◌then◌else◌}
+use Rattle.std.specs.Result.{is_ok}
 use Rattle.std.specs.Str.{str_to_ascii_lowercase}
 use Rattle.definitions.specs.Name.{Name, wire, low}
 use Rattle.definitions.specs.Signing.{Fields, fields_data, label_count, signed_owner, signed_octets, canonical_record}
-use Rattle.messages.specs.Rrsig.{record_head, with_length}
+use Rattle.messages.specs.Rrsig.{record_head, record_numbers, with_length}
+use Rattle.messages.proofs.Lists.{take_next}
 
 -- an owner with more labels than are counted is signed as a star and its last labels
 pub signed_owner-star : (count : ℕ) (owner : Name) → count < label_count owner → wire (signed_owner count owner) ≡ 1 ∷ 42 ∷ wire (low (drop (length owner - count) owner))
@@ -39,3 +42,23 @@ signed_octets_written h f owner class xs i out o n =
     let head = record_head (signed_owner f.labels owner) f.covered class f.ttl in
     o ∙ ap (λ ys. fields_data f ++ flat_map (λ v. head ++ with_length (h v)) ys) (ap (λ k. take k xs) n ∙ take-length xs)
     ∙ ap (λ b. fields_data f ++ b) (flat_map-heads h (signed_owner f.labels owner) f.covered class f.ttl xs)
+
+-- what was appended, unless it was refused
+pub if_appended : {T E : Type 0} (r : Result T E) (new more same : List ℕ) → new ≡ (if is_ok r then more else same) → OnOk r (new ≡ more)
+if_appended (Ok x) new more same e = e
+if_appended (Err f) new more same e = tt
+
+-- a record more was written
+pub one_more_signed : {X : Type 0} (old fields : List ℕ) (octets : X → List ℕ) (xs : List X) (i : ℕ) (x : X) → i < length xs → x ≡ get_or xs i x
+    → (old ++ (fields ++ flat_map octets (take i xs))) ++ octets x ≡ old ++ (fields ++ flat_map octets (take (i + 1) xs))
+one_more_signed old fields octets xs i x inside is =
+    let so_far = flat_map octets (take i xs) in
+    append_assoc old (fields ++ so_far) (octets x)
+    ∙ ap (λ v. old ++ v) (append_assoc fields so_far (octets x)
+    ∙ ap (λ v. fields ++ v) (sym (ap (flat_map octets) (take_next xs i x inside is) ∙ flat_map-append octets (take i xs) (x ∷ []) ∙ ap (λ v. so_far ++ v) (append-nil (octets x)))))
+
+-- owner, numbers and data are a record
+pub record_written : (old owner octets : List ℕ) (t class ttl : ℕ) → ((old ++ owner) ++ record_numbers t class ttl (length octets)) ++ octets
+    ≡ old ++ ((owner ++ to_be_bytes w16 t ++ to_be_bytes w16 class ++ to_be_bytes w32 ttl) ++ with_length octets)
+unfolding record_numbers
+record_written old owner octets t class ttl = simp append_assoc

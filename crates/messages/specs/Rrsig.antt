@@ -24,6 +24,10 @@ spelled_fields f = fields_numbers f ++ wire f.signer
 abbrev pub rrsig_data : Fields → List ℕ → List ℕ
 rrsig_data f signature = spelled_fields f ++ signature
 
+-- the numbers between a record's owner and its data
+unfoldable pub record_numbers : ℕ → ℕ → ℕ → ℕ → List ℕ
+record_numbers t class ttl len = to_be_bytes w16 t ++ (to_be_bytes w16 class ++ (to_be_bytes w32 ttl ++ to_be_bytes w16 len))
+
 -- a record in canonical form before the length of its data (RFC 4034, 6.2)
 abbrev pub record_head : Name → ℕ → ℕ → ℕ → List ℕ
 record_head owner t class ttl = wire owner ++ to_be_bytes w16 t ++ to_be_bytes w16 class ++ to_be_bytes w32 ttl

@@ -1,11 +1,11 @@
 -- What readings of a message give, as contracts see it.
-use Rattle.std.specs.Prelude.{◌≡◌, ℕ, List, [], Result, Ok, Err, IsOk}
+use Rattle.std.specs.Prelude.{◌≡◌, ℕ, ◌+◌, List, [], Result, Ok, Err, IsOk}
 use Rattle.definitions.specs.Name.{Name}
 use Rattle.definitions.specs.Limits.{pointer_limit}
 use Rattle.messages.specs.declared.error.MessageError.{MessageError}
 use Rattle.names_parser.specs.declared.error.ParseError.{ParseError}
 use Rattle.names_parsed.specs.Heads as heads
-use Rattle.messages.specs.Message.{Spelled, fault_of, owner_at, records_at}
+use Rattle.messages.specs.Message.{◌>>=◌, Asked, Spelled, asked_at, fault_of, one_question, owner_at, records_at, u16_at}
 
 -- what a reading returned, seen by view, is what the definition reads
 abbrev pub Gives : {X Y : Type 0} → (X → Y) → Result X MessageError → Result Y MessageError → Type 0
@@ -23,6 +23,20 @@ placed r p = (r, p)
 -- the labels that stand at a place
 abbrev pub name_read : List ℕ → ℕ → Name
 name_read m p = elim (owner_at pointer_limit m p) [ Ok r ↦ r.0 | Err e ↦ [] ]
+
+-- what stands before the records: what is asked, the place behind it, and how many records there are
+abbrev pub head_at : ℕ → List ℕ → Result (Asked × ℕ × ℕ) MessageError
+head_at k m = do
+  questions ← u16_at m 4
+  answers ← u16_at m 6
+  authority ← u16_at m 8
+  additional ← u16_at m 10
+  only ← one_question questions
+  q ← asked_at k m 12
+  Ok (q.0, q.1, answers + authority + additional)
+
+abbrev pub headed : Name → ℕ → ℕ → ℕ → ℕ → Asked × ℕ × ℕ
+headed n t c p count = (record { name = n; rtype = t; class = c }, p, count)
 
 -- so many records from a place on
 abbrev pub records_read : ℕ → List ℕ → ℕ → List Spelled

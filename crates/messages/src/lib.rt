@@ -3,6 +3,7 @@
 #![tactic(auto)]
 
 pub mod error;
+pub mod kept;
 pub mod laws;
 pub mod names;
 mod octets;
@@ -15,5 +16,6 @@ pub mod view;
 pub mod write;
 
 pub use error::MessageError;
+pub use kept::read_message_into;
 pub use owner::Owner;
 pub use view::{MessageView, Records, ViewRecord, read_message};

@@ -127,8 +127,8 @@ impl<Octs: Octets> ZoneName for Name<Octs> {
 fn push_lowered(out: &mut Vec<u8>, octets: &[u8]) -> Result<(), AllocError>
     ensures { OnOk result (out.new.items ≡ out.old.items ++ str_to_ascii_lowercase octets.now) }
 {
-    for octet in octets {
-        out.push(octet.to_ascii_lowercase())?;
-    }
+    let len = out.len();
+    out.extend_from_slice(octets)?;
+    out[len..].make_ascii_lowercase();
     Ok(())
 }

@@ -1,6 +1,7 @@
 //! The data of records within a message (RFC 1035, 3.3; RFC 4034, 3.1 and 4.1), read in place.
 ghost use Rattle.std.specs.Prelude.{◌≡◌, ◌+◌, ◌<◌, ◌≤◌, length, IfOk, IfSome, IfNone};
 ghost use Rattle.definitions.specs.Limits.{pointer_limit};
+ghost use Rattle.std.specs.Cow.{cow_slice_items};
 ghost use Rattle.std.specs.Option.{option_map};
 ghost use Rattle.messages.specs.Message.{rrsig_at, nsec_at, canonical_data, data_of, ns_data, soa_data, nsec_data};
 ghost use Rattle.messages.specs.Items.{octets_in};
@@ -19,6 +20,7 @@ use names_parser::parser::Parser;
 use plain::ns::Ns;
 use plain::soa::Soa;
 use std::alloc::{AllocError, Global};
+use std::borrow::CowSlice;
 
 impl<'a> ViewRecord<'a> {
     ghost use Rattle.messages.specs.Record.{spelled, reader_of, signature_of, link_of};
@@ -74,6 +76,24 @@ impl<'a> ViewRecord<'a> {
             6 => self.soa_data(alloc, message),
             47 => self.nsec_data(alloc, message),
             _ => Ok(Some(self.octets(message).to_vec(alloc)?)),
+        }
+    }
+
+    /// As `canonical_data`; what the message has as it is to be is borrowed.
+    pub fn canonical_cow<'m>(
+        &self,
+        alloc: Global,
+        message: &'m [u8],
+    ) -> Result<Option<CowSlice<'m, u8>>, AllocError>
+        ensures { IfOk result (λ o. option_map cow_slice_items o
+            ≡ canonical_data pointer_limit message.now (spelled self.now)) }
+    {
+        match self.rtype.to_int() {
+            2 | 6 | 47 => match self.canonical_data(alloc, message)? {
+                None => Ok(None),
+                Some(octets) => Ok(Some(CowSlice::Owned(octets))),
+            },
+            _ => Ok(Some(CowSlice::Borrowed(self.octets(message)))),
         }
     }
 
@@ -153,8 +173,11 @@ impl<'a> ViewRecord<'a> {
     }
 }
 
-/// Data in canonical form.
-fn canonical_octets<D: ComposeRecordData>(alloc: Global, data: &D) -> Result<Vec<u8>, AllocError>
+/// The octets of data in canonical form (RFC 4034, 6.2).
+pub fn canonical_octets<D: ComposeRecordData>(
+    alloc: Global,
+    data: &D,
+) -> Result<Vec<u8>, AllocError>
     ensures { IfOk result (λ v. v.items ≡ D.canonical_rdata data.now) }
 {
     let mut octets = Vec::with_capacity(alloc, 64)?;

@@ -4,11 +4,12 @@ ghost use Rattle.definitions.specs.Name.{wire};
 ghost use Rattle.denial_data.specs.Protos.{fields_of};
 ghost use Rattle.messages.specs.Items.{items_of};
 ghost use Rattle.definitions.specs.Signing.{fields_data, signed_octets, signed_owner};
-ghost use Rattle.messages.specs.Rrsig.{record_head, spelled_fields, with_length};
+ghost use Rattle.messages.specs.Rrsig.{record_head, record_numbers, spelled_fields, with_length};
 
 use crate::names::{Name, Octets, ToName, ZoneName};
 use denial_data::ProtoRrsig;
-use plain::numbers::Class;
+use names_data::rtype::Rtype;
+use plain::numbers::{Class, Ttl};
 use std::alloc::{AllocError, Global};
 
 /// The octets that a signature of an RRset is made over: the fields, then the records in the order given
@@ -25,21 +26,41 @@ pub fn signed_octets<N: ToName, Octs: Octets>(
     ensures { let f = fields_of N.name fields.now in
         IfOk result (λ v. v.items ≡ signed_octets f owner.now class (items_of canonical.now)) }
 {
-    let mut out = Vec::with_capacity(alloc, signed_room(owner, canonical))?;
-    compose_signed_fields(fields, &mut out)?;
-    for data in canonical {
-        compose_signed_head(alloc, fields, owner, class, &mut out)?;
-        compose_signed_data(data, &mut out)?;
-    }
+    let mut out = Vec::new(alloc);
+    compose_signed_octets(alloc, fields, owner, class, canonical, &mut out)?;
     Ok(out)
 }
 
+/// Writes what [`signed_octets`] gives at the end, of data however they are kept. Callers with many signatures reuse
+/// one vector.
+pub fn compose_signed_octets<N: ToName, Octs: Octets, Data: Octets>(
+    alloc: Global,
+    fields: &ProtoRrsig<N>,
+    owner: &Name<Octs>,
+    class: Class,
+    canonical: &[Data],
+    out: &mut Vec<u8>,
+) -> Result<(), AllocError>
+    ensures ok { let f = fields_of N.name fields.now in
+        let octets = signed_octets f owner.now class (map Data.bytes canonical.now) in
+        OnOk result (out.new.items ≡ out.old.items ++ octets) }
+{
+    out.reserve(signed_room(owner, canonical))?;
+    compose_signed_fields(fields, out)?;
+    for data in canonical {
+        compose_signed_record(alloc, fields, owner, class, data.as_slice(), out)?;
+    }
+    Ok(())
+}
+
 /// Room for the fields with the longest signer, and for each record the owner, ten octets and its data.
-fn signed_room<Octs: Octets>(owner: &Name<Octs>, canonical: &[Vec<u8>]) -> usize {
+fn signed_room<Octs: Octets, Data: Octets>(owner: &Name<Octs>, canonical: &[Data]) -> usize {
     let head = owner.as_slice().len().saturating_add(10);
     let mut room = 18 + 255;
     for data in canonical {
-        room = head.saturating_add(data.len()).saturating_add(room);
+        room = head
+            .saturating_add(data.as_slice().len())
+            .saturating_add(room);
     }
     room
 }
@@ -72,22 +93,39 @@ pub fn compose_fields<N: ToName>(
     }
 }
 
-/// Writes what each record of a signed RRset begins with.
-fn compose_signed_head<N: ToName, Octs: Octets>(
+/// Writes a record of a signed RRset.
+fn compose_signed_record<N: ToName, Octs: Octets>(
     alloc: Global,
     fields: &ProtoRrsig<N>,
     owner: &Name<Octs>,
     class: Class,
+    data: &[u8],
     out: &mut Vec<u8>,
 ) -> Result<(), AllocError>
     ensures ok { let f = fields_of N.name fields.now in
         let head = record_head (signed_owner f.labels owner.now) f.covered class f.ttl in
-        OnOk result (out.new.items ≡ out.old.items ++ head) }
+        OnOk result (out.new.items ≡ out.old.items ++ (head ++ with_length data.now)) }
 {
     compose_signed_owner(alloc, fields.labels(), owner, out)?;
-    out.extend_from_slice(&fields.type_covered().to_int().to_be_bytes())?;
-    out.extend_from_slice(&class.to_int().to_be_bytes())?;
-    out.extend_from_slice(&fields.original_ttl().as_secs().to_be_bytes())
+    out.extend_from_slice(&record_numbers(
+        fields.type_covered(),
+        class,
+        fields.original_ttl(),
+        data.len(),
+    ))?;
+    out.extend_from_slice(data)
+}
+
+/// The numbers between a record's owner and its data, the length of these taken modulo 65,536.
+#[tactic(auto, unfolding(crate::specs::Rrsig::record_numbers))]
+fn record_numbers(rtype: Rtype, class: Class, ttl: Ttl, len: usize) -> [u8; 10]
+    ensures { result ≡ record_numbers rtype class ttl len }
+{
+    let [a, b] = rtype.to_int().to_be_bytes();
+    let [c, d] = class.to_int().to_be_bytes();
+    let [e, f, g, h] = ttl.as_secs().to_be_bytes();
+    let [i, j] = ((len % 65536) as u16).to_be_bytes();
+    [a, b, c, d, e, f, g, h, i, j]
 }
 
 /// Writes the owner in canonical form, or the wildcard that it stems from (RFC 4035, 5.3.2).
@@ -106,12 +144,4 @@ fn compose_signed_owner<Octs: Octets>(
     let source = owner.suffix(alloc, usize::from(labels))?;
     out.extend_from_slice(b"\x01*")?;
     source.compose_canonical(out)
-}
-
-/// Writes the data of a record behind their length.
-fn compose_signed_data(data: &[u8], out: &mut Vec<u8>) -> Result<(), AllocError>
-    ensures ok { OnOk result (out.new.items ≡ out.old.items ++ with_length data.now) }
-{
-    out.extend_from_slice(&((data.len() % 65536) as u16).to_be_bytes())?;
-    out.extend_from_slice(data)
 }

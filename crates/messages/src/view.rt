@@ -4,10 +4,10 @@ ghost use Rattle.definitions.specs.Limits.{pointer_limit};
 ghost use Rattle.std.specs.Iterator.{YieldsFirstBy, item_count};
 ghost use Rattle.names_parsed.specs.Parsed.{parsed_name};
 ghost use Rattle.messages.specs.Message.{message, record_at, records_at};
-ghost use Rattle.messages.specs.View.{Gives, placed};
+ghost use Rattle.messages.specs.View.{Gives, head_at, headed, placed, records_read};
 
 use crate::error::MessageError;
-use crate::names::{ParsedName, known_name, read_name};
+use crate::names::{ParsedName, read_name};
 use crate::octets::{u16_at, u32_at};
 use crate::owner::Owner;
 use crate::question::Question;
@@ -32,7 +32,7 @@ impl<'a> ViewRecord<'a> {
     ghost use Rattle.messages.specs.Record.{spelled};
 
     /// The record at a place and the place behind it.
-    fn read(bytes: &'a [u8], at: usize) -> Result<(ViewRecord<'a>, usize), MessageError>
+    pub(crate) fn read(bytes: &'a [u8], at: usize) -> Result<(ViewRecord<'a>, usize), MessageError>
         ensures { let is = record_at pointer_limit bytes.now at in
             Gives (λ r. placed (spelled r.0) r.1) result is }
     {
@@ -61,6 +61,7 @@ impl<'a> ViewRecord<'a> {
 #[derive(Debug, Drop)]
 pub struct MessageView<'a> {
     bytes: &'a [u8],
+    name: ParsedName<'a>,
     rtype: Rtype,
     class: Class,
     first: usize,
@@ -70,21 +71,46 @@ pub struct MessageView<'a> {
 impl<'a> Model for MessageView<'a> {
     ghost use Rattle.std.specs.Prelude.{IsOk};
     ghost use Rattle.definitions.specs.Limits.{pointer_limit};
+    ghost use Rattle.names_parsed.specs.Parsed.{parsed_name};
     ghost use Rattle.messages.specs.Message.{Message, records_at};
-    ghost use Rattle.messages.specs.View.{name_read, records_read, NameReads};
+    ghost use Rattle.messages.specs.View.{records_read};
 
     ghost Value = { Message };
 
     ghost view = { λ v. record {
-      asked = record { name = name_read v.bytes.now 12; rtype = v.rtype; class = v.class };
+      asked = record { name = parsed_name v.name; rtype = v.rtype; class = v.class };
       records = records_read v.count v.bytes.now v.first;
     } };
 
-    ghost invariant = { λ v. NameReads v.bytes.now 12
-        × IsOk (records_at v.count pointer_limit v.bytes.now v.first) };
+    ghost invariant = { λ v. IsOk (records_at v.count pointer_limit v.bytes.now v.first) };
 }
 
 impl<'a> MessageView<'a> {
+    /// A message with so many records from a place on, which read.
+    pub(crate) fn new(
+        bytes: &'a [u8],
+        name: ParsedName<'a>,
+        rtype: u16,
+        class: u16,
+        first: usize,
+        count: usize,
+    ) -> Self
+        requires { IsOk (records_at count pointer_limit bytes.now first) }
+        ensures name { result.asked.name ≡ parsed_name name.entry }
+        ensures rtype { result.asked.rtype ≡ rtype }
+        ensures class { result.asked.class ≡ class }
+        ensures records { result.records ≡ records_read count bytes.now first }
+    {
+        MessageView {
+            bytes,
+            name,
+            rtype: Rtype::from_int(rtype),
+            class: Class::from_int(class),
+            first,
+            count,
+        }
+    }
+
     /// What is asked.
     pub fn question(&self) -> Question<ParsedName<'a>>
         ensures name { parsed_name result.name ≡ self.now.asked.name }
@@ -92,7 +118,7 @@ impl<'a> MessageView<'a> {
         ensures class { result.class ≡ self.now.asked.class }
     {
         Question {
-            name: known_name(self.bytes, 12),
+            name: self.name,
             rtype: self.rtype,
             class: self.class,
         }
@@ -163,6 +189,18 @@ impl<'a> Iterator for Records<'a> {
 pub fn read_message(bytes: &[u8]) -> Result<MessageView<'_>, MessageError>
     ensures { Gives (λ v. v) result (message pointer_limit bytes.now) }
 {
+    let (name, rtype, class, first, count) = read_head(bytes)?;
+    read_records(bytes, first, count)?;
+    Ok(MessageView::new(bytes, name, rtype, class, first, count))
+}
+
+/// Reads what stands before the records: what is asked, the place behind it, and how many records there are.
+pub(crate) fn read_head(
+    bytes: &[u8],
+) -> Result<(ParsedName<'_>, u16, u16, usize, usize), MessageError>
+    ensures { Gives (λ h. headed (parsed_name h.0) h.1 h.2 h.3 h.4)
+        result (head_at pointer_limit bytes.now) }
+{
     let questions = u16_at(bytes, 4)?;
     let answers = u16_at(bytes, 6)?;
     let authority = u16_at(bytes, 8)?;
@@ -170,18 +208,11 @@ pub fn read_message(bytes: &[u8]) -> Result<MessageView<'_>, MessageError>
     if questions != 1 {
         return Err(MessageError::NotOneQuestion);
     }
-    let (_, end) = read_name(bytes, 12)?;
+    let (name, end) = read_name(bytes, 12)?;
     let rtype = u16_at(bytes, end)?;
     let class = u16_at(bytes, end + 2)?;
     let count = answers as usize + authority as usize + additional as usize;
-    read_records(bytes, end + 4, count)?;
-    Ok(MessageView {
-        bytes,
-        rtype: Rtype::from_int(rtype),
-        class: Class::from_int(class),
-        first: end + 4,
-        count,
-    })
+    Ok((name, rtype, class, end + 4, count))
 }
 
 /// Reads so many records from a place on.

@@ -5,14 +5,14 @@ use Rattle.std.specs.Result.{result_ok}
 use Rattle.std.specs.Str.{bytes_eq, chars}
 use Rattle.definitions.specs.Name.{Name, wire, low}
 use Rattle.definitions.specs.Text.{name_of_text}
-use Rattle.messages.specs.HandedRr.{HandedRr}
-use Rattle.answer_publisher.specs.Bindings.{Call, Add, Start, Report1, Wait1, Report2, Wait2, Finish}
-use Rattle.keyset.specs.Actions.{read_roll}
-use Rattle.messages.specs.Message.{Asked, owner_at}
-use Rattle.messages.specs.NameOctets.{name_of_octets}
-use Rattle.keyset_rolls.specs.declared.rolls.RollType.{RollType}
-use Rattle.answer_publisher.specs.declared.keys.KeyKind.{KeyKind}
-use Rattle.answer_publisher.specs.declared.keys.KeyKind.TheVariants.{Ksk, Zsk}
+use Rattle.answer.specs.HandedRr.{HandedRr}
+use Rattle.answer.specs.Bindings.{Call, Add, Start, Report1, Wait1, Report2, Wait2, Finish}
+use Rattle.answer.specs.Actions.{read_roll}
+use Rattle.answer.specs.Message.{Asked, owner_at}
+use Rattle.answer.specs.NameOctets.{name_of_octets}
+use Rattle.answer.specs.RollType.{RollType}
+use Rattle.answer.specs.KeyKind.{KeyKind}
+use Rattle.answer.specs.KeyKindCase.{Ksk, Zsk}
 use Rattle.session_lines.specs.Fields.{is_nothing, hex_field, key_field, is_reference}
 use Rattle.session_lines.specs.Numbers.{number_of}
 

@@ -2,7 +2,7 @@
 use Rattle.std.specs.Prelude.{◌≡◌, ℕ, false, List, map, Option, Some, None, Result, Ok, Err}
 use Rattle.std.specs.Borrow.{Bor}
 use Rattle.std.specs.Option.{option_map}
-use Rattle.messages.specs.Questions.{asked_of}
+use Rattle.answer.specs.Questions.{asked_of}
 use Rattle.answer.specs.Simulating.{call_of}
 use Rattle.answer.specs.declared.event.Event.{Event}
 use Rattle.answer.specs.declared.event.Act.{Act}
@@ -17,7 +17,7 @@ use Rattle.plain.specs.Soa.{soa_octets, soa_canonical}
 use Rattle.plain.specs.declared.soa.Soa.{Soa}
 use Rattle.plain.specs.declared.record.Record.{Record}
 use Rattle.plain.specs.declared.zone_data.ZoneRecordData.{ZoneRecordData}
-use Rattle.messages.specs.HandedRr.{handed_of, is_unknown, written_of, canonical_of}
+use Rattle.answer.specs.HandedRr.{handed_of, is_unknown, written_of, canonical_of}
 use Rattle.session_lines.specs.Grammar.{ZoneLine, ActLine, EventLine, DataField, KeyCall, ShowDs, ShowDnskey, Ask, Judge, JudgeBytes}
 use Rattle.session_lines.specs.Sessions.{Lines, session_of}
 

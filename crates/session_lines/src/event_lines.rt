@@ -1,6 +1,6 @@
 //! The lines of events.
 ghost use Rattle.std.specs.Prelude.{◌≤◌, IfOk};
-ghost use Rattle.messages.specs.Questions.{asked_of};
+ghost use Rattle.answer.specs.Questions.{asked_of};
 ghost use Rattle.session_lines.specs.Grammar.{Ask, ask_line, act_line1, act_line2, act_line3, act_line4, act_line5, act_line, roll_field, event_line};
 ghost use Rattle.session_lines.specs.Readings.{Reads, texts, act_view, event_view};
 ghost use Rattle.answer.specs.Events.{added_octets, added_by_act};

@@ -2,7 +2,7 @@
 ghost use Rattle.std.specs.Prelude.{◌≡◌, ◌+◌, ◌≤◌, IfOk, length, take, drop};
 ghost use Rattle.std.specs.Int.{w32, to_be_bytes};
 ghost use Rattle.plain.specs.ZoneData.{zone_type};
-ghost use Rattle.messages.specs.HandedRr.{handed_of};
+ghost use Rattle.answer.specs.HandedRr.{handed_of};
 ghost use Rattle.session_lines.specs.Grammar.{zone_line, zone_fields, life_field, record_line, record_fields, data_octets, soa_octets};
 ghost use Rattle.session_lines.specs.Readings.{Reads, texts, zone_view, data_view, soa_view};
 

@@ -1,10 +1,10 @@
 //! A run of events, one at a time.
-ghost use Rattle.std.specs.Prelude.{◌≡◌, ◌≤◌, [], ℕ, IfOk, OnOk, map, slice_get, string_bytes};
+ghost use Rattle.std.specs.Prelude.{◌≡◌, ◌≤◌, [], ℕ, IfOk, IfErr, OnOk, length, map, slice_get, string_bytes};
 ghost use Rattle.definitions.specs.Limits.{pointer_limit};
-ghost use Rattle.answer_publisher.specs.Bindings.{apply};
+ghost use Rattle.answer_publisher.specs.Bindings.{apply, dnskey_for, is_bound_away};
 ghost use Rattle.answer.specs.Events.{added_octets, added_by_call};
 ghost use Rattle.answer_judge.specs.Meeting.{JudgesSo};
-ghost use Rattle.answer_publisher.specs.KeyCalls.{Copied, Gives};
+ghost use Rattle.answer_publisher.specs.KeyCalls.{Gives, RanOutCopying, RefusesAhead};
 ghost use Rattle.keyset.specs.KeyState as key_state;
 ghost use Rattle.answer_publisher.specs.World.{digests};
 ghost use Rattle.messages.specs.Questions.{asked_of};
@@ -16,6 +16,7 @@ use crate::simulate::kept::{Kept, Thing};
 use answer_judge::judge::by_scheme::judge_with;
 use answer_judge::judge::verdict::{Judgement, Refused};
 use answer_publisher::fault::KeyFault;
+use answer_publisher::keys::KeyKind;
 use answer_publisher::publishing::Publisher;
 use answer_scheme::scheme::Scheme;
 use denial_data::Ds;
@@ -23,7 +24,16 @@ use denial_hashes::hasher::Nsec3Hasher;
 use keyset::{Action, UnixTime};
 use messages::names::ZoneName;
 use messages::question::Question;
+use plain::numbers::SecurityAlgorithm;
 use std::alloc::{AllocError, Global};
+
+/// A key that is to be added, copied from its event.
+#[derive(Drop)]
+struct KeyCopy {
+    pubref: String,
+    privref: Option<String>,
+    public_key: Vec<u8>,
+}
 
 /// A run so far: the publisher, and what is kept of the events.
 #[derive(Drop)]
@@ -104,8 +114,9 @@ impl<'a, S: Scheme, H: Nsec3Hasher> Run<'a, S, H> {
         requires { added_by_call call.now ≤ 65531 }
         ensures keys { let old = self.old.publisher.keys in
             let digests = digests S.digest_of self.old.publisher in
-            Gives Copied (λ v. v.items) old self.new.publisher.keys result
-            (apply digests (call_of call.now) at.now old) }
+            let c = call_of call.now in
+            Gives (RanOutCopying c) (λ v. v.items) old self.new.publisher.keys result
+            (apply digests c at.now old) }
         ensures rest { self.new ≡ record self.old {
           publisher = record self.old.publisher { keys = self.new.publisher.keys };
         } }
@@ -118,12 +129,18 @@ impl<'a, S: Scheme, H: Nsec3Hasher> Run<'a, S, H> {
                 public_key,
                 available,
             } => {
-                let privref = cloned(privref)?;
-                self.publisher.add_key_ksk(
-                    pubref.clone()?,
+                let copy = self.copied_key(
+                    KeyKind::Ksk,
+                    pubref.as_str(),
                     privref,
                     *algorithm,
-                    public_key.clone()?,
+                    public_key,
+                )?;
+                self.publisher.add_key_ksk(
+                    copy.pubref,
+                    copy.privref,
+                    *algorithm,
+                    copy.public_key,
                     *at,
                     *available,
                 )?;
@@ -136,12 +153,18 @@ impl<'a, S: Scheme, H: Nsec3Hasher> Run<'a, S, H> {
                 public_key,
                 available,
             } => {
-                let privref = cloned(privref)?;
-                self.publisher.add_key_zsk(
-                    pubref.clone()?,
+                let copy = self.copied_key(
+                    KeyKind::Zsk,
+                    pubref.as_str(),
                     privref,
                     *algorithm,
-                    public_key.clone()?,
+                    public_key,
+                )?;
+                self.publisher.add_key_zsk(
+                    copy.pubref,
+                    copy.privref,
+                    *algorithm,
+                    copy.public_key,
                     *at,
                     *available,
                 )?;
@@ -162,6 +185,36 @@ impl<'a, S: Scheme, H: Nsec3Hasher> Run<'a, S, H> {
             KeyCall::CacheExpired2 { rolltype } => self.publisher.cache_expired2(*rolltype, at),
             KeyCall::RollDone { rolltype } => self.publisher.roll_done(*rolltype),
         }
+    }
+
+    /// Copies the references and the octets of a key that is to be added. Whether its reference is bound to another key
+    /// is known before any memory is taken.
+    fn copied_key(
+        &self,
+        kind: KeyKind,
+        pubref: &str,
+        privref: &Option<String>,
+        algorithm: SecurityAlgorithm,
+        public_key: &[u8],
+    ) -> Result<KeyCopy, KeyFault>
+        requires { length public_key.now ≤ 65531 }
+        ensures pubref { IfOk result (λ k. string_bytes k.pubref ≡ pubref.now) }
+        ensures privref { IfOk result
+            (λ k. key_state.text_of k.privref ≡ key_state.text_of privref.now) }
+        ensures public_key { IfOk result (λ k. k.public_key.items ≡ public_key.now) }
+        ensures err { let key = dnskey_for kind algorithm public_key.now in
+            let bound = self.now.publisher.keys.bound in
+            IfErr result (RefusesAhead (is_bound_away bound pubref.now key)) }
+    {
+        let publisher = &self.publisher;
+        if publisher.is_bound_away(pubref, kind, algorithm, public_key) {
+            return Err(KeyFault::ReferenceBound);
+        }
+        Ok(KeyCopy {
+            pubref: String::from_str(self.alloc, pubref)?,
+            privref: privref.as_ref().cloned()?,
+            public_key: public_key.to_vec(self.alloc)?,
+        })
     }
 
     /// Shows the DS set at the next place.
@@ -270,16 +323,6 @@ impl<'a, S: Scheme, H: Nsec3Hasher> Run<'a, S, H> {
             at.timestamp(),
             self.limit,
         )
-    }
-}
-
-/// A text where there is one.
-fn cloned(text: &Option<String>) -> Result<Option<String>, AllocError>
-    ensures { IfOk result (λ t. key_state.text_of t ≡ key_state.text_of text.now) }
-{
-    match text {
-        None => Ok(None),
-        Some(text) => Ok(Some(text.clone()?)),
     }
 }
 

@@ -1,5 +1,6 @@
 //! From bytes to verified facts (RFC 4035, 5.3).
 ghost use Rattle.std.specs.Prelude.{◌≡◌, ◌==◌, ◌+◌, ◌<◌, ◌≤◌, ◌^◌, [], false, IfOk, MatchOption, length, map, filter};
+ghost use Rattle.std.specs.Cow.{cow_slice_items};
 ghost use Rattle.definitions.specs.Limits.{pointer_limit};
 ghost use Rattle.std.specs.List.{list_any, filter_map};
 ghost use Rattle.messages.specs.Record.{spelled};
@@ -8,15 +9,16 @@ ghost use Rattle.answer_judge.specs.Counted.{answer_sought, tries};
 ghost use Rattle.answer_judge.specs.Verified.{verified_rrset, verified_links};
 ghost use Rattle.answer_judge.specs.Marked.{held_by, has_owner, is_proved, is_nsec, stands_alone, IsAlone, AreGathered, link_by, data_verified};
 
-use crate::judge::decide::Link;
 use crate::judge::groups::{Group, Trust, read_group, verify_groups};
 use crate::judge::verdict::DataList;
+use answer_rules::decide::Link;
 use answer_scheme::checks::Checks;
 use messages::names::{Name, ToName, cow_name, is_at_or_above};
 use messages::{Owner, ViewRecord};
 use names_data::rtype::Rtype;
 use plain::numbers::Class;
 use std::alloc::{AllocError, Global};
+use std::borrow::CowSlice;
 
 /// What signatures of an answer verify: the RRset that was asked for, and NSEC records.
 #[derive(Drop)]
@@ -25,7 +27,8 @@ pub(crate) struct Facts<'a> {
     pub(crate) links: Vec<Link<'a>>,
 }
 
-/// The facts of an answer. The count rises by one with each signature that is verified against a key.
+/// The facts of an answer. The count rises by one with each signature that is verified against a key. The octets are a
+/// buffer.
 pub(crate) fn read_facts<'a, C: Checks>(
     alloc: Global,
     message: &'a [u8],
@@ -33,6 +36,7 @@ pub(crate) fn read_facts<'a, C: Checks>(
     trust: &Trust,
     name: &Name<Vec<u8>>,
     rtype: Rtype,
+    octets: &mut Vec<u8>,
     checks: &mut C,
     count: &mut u32,
 ) -> Result<Facts<'a>, AllocError>
@@ -56,28 +60,51 @@ pub(crate) fn read_facts<'a, C: Checks>(
     let mut groups = read_nsec_groups(alloc, trust.apex, message, records)?;
     let owner = cow_name(alloc, name)?;
     groups.push(read_group(alloc, message, records, owner, rtype)?)?;
-    verify_groups(alloc, message, records, trust, &mut groups, checks, count)?;
-    let answer = verified_data(groups.pop());
+    verify_groups(
+        alloc,
+        message,
+        records,
+        trust,
+        &mut groups,
+        octets,
+        checks,
+        count,
+    )?;
+    let answer = verified_data(alloc, groups.pop())?;
     let links = read_links(alloc, message, records, &groups)?;
     Ok(Facts { answer, links })
 }
 
 /// The data of a group, if a signature verified it.
-pub(crate) fn verified_data(group: Option<Group>) -> Option<DataList>
-    ensures { result ≡ data_verified group.entry }
+fn verified_data(alloc: Global, group: Option<Group>) -> Result<Option<DataList>, AllocError>
+    ensures { IfOk result (λ found. found ≡ data_verified group.entry) }
 {
-    let group = group?;
+    let Some(group) = group else {
+        return Ok(None);
+    };
     if group.verified.is_some() {
-        return Some(DataList::new(group.items));
+        return Ok(Some(DataList::new(owned_data(alloc, group.items)?)));
     }
-    None
+    Ok(None)
+}
+
+/// Data with octets of their own.
+fn owned_data(alloc: Global, items: Vec<CowSlice<u8>>) -> Result<Vec<Vec<u8>>, AllocError>
+    ensures { IfOk result (λ v. map (λ d. d.items) v.items
+        ≡ map cow_slice_items items.entry.items) }
+{
+    let mut owned = Vec::with_capacity(alloc, items.len())?;
+    for item in items {
+        owned.push(item.into_owned(alloc)?)?;
+    }
+    Ok(owned)
 }
 
 /// The NSEC RRsets of one record at or below the apex, in order of first record.
 fn read_nsec_groups<'r>(
     alloc: Global,
     apex: &Name<Vec<u8>>,
-    message: &[u8],
+    message: &'r [u8],
     records: &'r [ViewRecord],
 ) -> Result<Vec<Group<'r>>, AllocError>
     ensures { let rs = map spelled records.now in
@@ -98,7 +125,7 @@ fn read_nsec_groups<'r>(
 fn read_nsec_group<'r>(
     alloc: Global,
     apex: &Name<Vec<u8>>,
-    message: &[u8],
+    message: &'r [u8],
     records: &[ViewRecord],
     owner: &'r Owner,
 ) -> Result<Option<Group<'r>>, AllocError>

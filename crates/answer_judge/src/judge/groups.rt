@@ -1,5 +1,6 @@
 //! RRsets of a message and the signatures that verify them (RFC 4035, 5.3).
-ghost use Rattle.std.specs.Prelude.{◌≡◌, ◌==◌, ◌&&◌, ◌+◌, ◌<◌, ◌≤◌, ◌^◌, [], ◌∷◌, true, false, None, IfOk, IfSome, MatchOption, length, map, filter, get_or};
+ghost use Rattle.std.specs.Prelude.{◌≡◌, ◌==◌, ◌&&◌, ◌+◌, ◌<◌, ◌≤◌, ◌^◌, [], ◌∷◌, true, false, None, IfOk, IfSome, OnOk, MatchOption, length, map, filter, get_or};
+ghost use Rattle.std.specs.Cow.{cow_slice_items};
 ghost use Rattle.definitions.specs.Limits.{pointer_limit};
 ghost use Rattle.messages.specs.Record.{fields_read, spelled};
 ghost use Rattle.answer_judge.specs.Facts.{is_signature, is_due, fits_key, signs};
@@ -16,10 +17,10 @@ ghost use Rattle.definitions.specs.Serial.{serial_le};
 
 use crate::judge::keys::TaggedKey;
 use answer_scheme::checks::Checks;
-use answer_zone::ranked::put_data;
+use answer_zone::ranked::put_cow_data;
 use denial_data::Rrsig;
 use messages::names::{Name, ParsedName, ToName, ZoneName};
-use messages::signed::signed_octets;
+use messages::signed::compose_signed_octets;
 use messages::{Owner, ViewRecord};
 use names_data::rtype::Rtype;
 use plain::numbers::{Class, SecurityAlgorithm, Ttl};
@@ -45,7 +46,7 @@ pub(crate) type GroupOwner<'a> = Name<CowSlice<'a, u8>>;
 pub(crate) struct Group<'a> {
     pub(crate) owner: GroupOwner<'a>,
     pub(crate) rtype: Rtype,
-    pub(crate) items: Vec<Vec<u8>>,
+    pub(crate) items: Vec<CowSlice<'a, u8>>,
     pub(crate) verified: Option<Signed>,
 }
 
@@ -72,7 +73,7 @@ impl<'a> Group<'a> {
 /// The RRset of an owner and a type: what reads of the records of class IN.
 pub(crate) fn read_group<'a>(
     alloc: Global,
-    message: &[u8],
+    message: &'a [u8],
     records: &[ViewRecord],
     owner: GroupOwner<'a>,
     rtype: Rtype,
@@ -86,7 +87,7 @@ pub(crate) fn read_group<'a>(
     let mut items = Vec::new(alloc);
     for record in records {
         if let Some(item) = datum_of(alloc, message, record, &owner, rtype)? {
-            put_data(&mut items, item)?;
+            put_cow_data(&mut items, item)?;
         }
     }
     Ok(Group {
@@ -98,30 +99,31 @@ pub(crate) fn read_group<'a>(
 }
 
 /// The canonical data of a record of an owner, up to case, and a type, class IN; None where they do not read.
-fn datum_of(
+fn datum_of<'m>(
     alloc: Global,
-    message: &[u8],
+    message: &'m [u8],
     record: &ViewRecord,
     owner: &GroupOwner,
     rtype: Rtype,
-) -> Result<Option<Vec<u8>>, AllocError>
-    ensures { IfOk result (λ o. option_map (λ v. v.items) o
+) -> Result<Option<CowSlice<'m, u8>>, AllocError>
+    ensures { IfOk result (λ o. option_map cow_slice_items o
         ≡ datum_of pointer_limit message.now owner.now rtype (spelled record.now)) }
 {
     if record.class == Class::IN && record.rtype == rtype && record.owner.name().name_eq(owner) {
-        return record.canonical_data(alloc, message);
+        return record.canonical_cow(alloc, message);
     }
     Ok(None)
 }
 
 /// Tries the signatures of a message in order, each on its group until one verifies it. The count rises by one
-/// with each that is verified against a key.
+/// with each that is verified against a key. The octets are a buffer.
 pub(crate) fn verify_groups<C: Checks>(
     alloc: Global,
     message: &[u8],
     records: &[ViewRecord],
     trust: &Trust,
     groups: &mut [Group],
+    octets: &mut Vec<u8>,
     checks: &mut C,
     count: &mut u32,
 ) -> Result<(), AllocError>
@@ -141,7 +143,7 @@ pub(crate) fn verify_groups<C: Checks>(
 {
     for record in records {
         if record.rtype == Rtype::RRSIG {
-            verify_record(alloc, message, record, trust, groups, checks, count)?;
+            verify_record(alloc, message, record, trust, groups, octets, checks, count)?;
         }
     }
     Ok(())
@@ -154,6 +156,7 @@ fn verify_record<C: Checks>(
     record: &ViewRecord,
     trust: &Trust,
     groups: &mut [Group],
+    octets: &mut Vec<u8>,
     checks: &mut C,
     count: &mut u32,
 ) -> Result<(), AllocError>
@@ -180,7 +183,7 @@ fn verify_record<C: Checks>(
     if let Some(place) = place_of(groups, &record.owner, signature.type_covered()) {
         let group = &mut groups[place];
         if group.verified.is_none() {
-            group.verified = verifies(alloc, &signature, trust, group, checks, count)?;
+            group.verified = verifies(alloc, &signature, trust, group, octets, checks, count)?;
         }
     }
     Ok(())
@@ -207,6 +210,7 @@ fn verifies<C: Checks>(
     signature: &Signature,
     trust: &Trust,
     group: &Group,
+    octets: &mut Vec<u8>,
     checks: &mut C,
     count: &mut u32,
 ) -> Result<Option<Signed>, AllocError>
@@ -230,9 +234,9 @@ fn verifies<C: Checks>(
     let Some(key) = trust.key(signature) else {
         return Ok(None);
     };
-    let octets = octets_of(alloc, signature, group)?;
+    write_signed(alloc, signature, group, octets)?;
     *count += 1;
-    if checks.verify(key.dnskey(), &octets, *signature.signature()) {
+    if checks.verify(key.dnskey(), octets, *signature.signature()) {
         return Ok(Some(signed_of(signature)));
     }
     Ok(None)
@@ -252,17 +256,25 @@ fn signed_of(signature: &Signature) -> Signed
     }
 }
 
-/// What a signature of a group is made over (RFC 4034, 3.1.8.1).
-fn octets_of(alloc: Global, signature: &Signature, group: &Group) -> Result<Vec<u8>, AllocError>
+/// Writes what a signature of a group is made over (RFC 4034, 3.1.8.1), in the place of what was there.
+fn write_signed(
+    alloc: Global,
+    signature: &Signature,
+    group: &Group,
+    octets: &mut Vec<u8>,
+) -> Result<(), AllocError>
     ensures { let f = fields_read signature.now in
-        IfOk result (λ v. v.items ≡ signed_octets f group.now.owner 1 (data_in group.now)) }
+        let signed = signed_octets f group.now.owner 1 (data_in group.now) in
+        OnOk result (octets.new.items ≡ signed) }
 {
-    signed_octets(
+    octets.clear();
+    compose_signed_octets(
         alloc,
         signature.proto(),
         &group.owner,
         Class::IN,
         &group.items,
+        octets,
     )
 }
 

@@ -1,7 +1,7 @@
 //! The keys of a DNSKEY answer, and which of them are trusted (RFC 4035, 5.2).
 ghost use Rattle.std.specs.Prelude.{◌≡◌, ◌≤◌, IfOk, filter, length, map};
 ghost use Rattle.std.specs.List.{list_any};
-ghost use Rattle.definitions.specs.Dnskey.{key_tag};
+ghost use Rattle.definitions.specs.Dnskey.{dnskey_data, key_tag};
 ghost use Rattle.answer_judge.specs.Facts.{is_usable, is_trusted, names_key};
 ghost use Rattle.answer_judge.specs.Judging.{clashes, has_equal_tags, key_at, keys_in};
 ghost use Rattle.messages.specs.Message.{data_of};
@@ -12,37 +12,40 @@ use answer_scheme::error::SchemeError;
 use answer_zone::dnskey::{Dnskey, ZoneKey, key_of_data};
 use denial_data::Ds;
 use messages::ViewRecord;
-use messages::names::{Name, ToName};
+use messages::names::{Name, ToName, ZoneName};
+use names_data::data::ComposeRecordData;
 use names_data::rtype::Rtype;
 use plain::numbers::{Class, SecurityAlgorithm};
 use std::alloc::{AllocError, Global};
 use std::marker::Model;
 
-/// A key with its tag, which is summed once. A contract sees the key.
+/// A key with the data that spell it, and its tag, which is summed once. A contract sees the key.
 #[derive(Debug, Drop)]
 pub(crate) struct TaggedKey<'a> {
     dnskey: Dnskey<&'a [u8]>,
+    data: &'a [u8],
     tag: u16,
 }
 
 impl<'a> Model for TaggedKey<'a> {
     ghost use Rattle.std.specs.Prelude.{◌≡◌};
-    ghost use Rattle.definitions.specs.Dnskey.{Dnskey, key_tag};
+    ghost use Rattle.definitions.specs.Dnskey.{Dnskey, dnskey_data, key_tag};
 
     ghost Value = { Dnskey };
 
     ghost view = { λ k. k.dnskey };
 
-    ghost invariant = { λ k. k.tag ≡ key_tag k.dnskey };
+    ghost invariant = { λ k. (k.tag ≡ key_tag k.dnskey) × (k.data.now ≡ dnskey_data k.dnskey) };
 }
 
 impl<'a> TaggedKey<'a> {
-    /// A key and its tag.
-    pub(crate) fn new(dnskey: Dnskey<&'a [u8]>) -> Self
+    /// A key, its data and its tag.
+    pub(crate) fn new(dnskey: Dnskey<&'a [u8]>, data: &'a [u8]) -> Self
+        requires { data.now ≡ dnskey_data dnskey }
         ensures { result ≡ dnskey.entry }
     {
         let tag = dnskey.key_tag();
-        TaggedKey { dnskey, tag }
+        TaggedKey { dnskey, data, tag }
     }
 
     /// The key.
@@ -50,6 +53,13 @@ impl<'a> TaggedKey<'a> {
         ensures { result.now ≡ self.now }
     {
         &self.dnskey
+    }
+
+    /// The octets of its data.
+    pub(crate) fn data(&self) -> &'a [u8]
+        ensures { result.now ≡ dnskey_data self.now }
+    {
+        self.data
     }
 
     /// The tag.
@@ -60,11 +70,18 @@ impl<'a> TaggedKey<'a> {
     }
 
     /// The same key over the same octets.
-    fn copied(&self) -> TaggedKey<'_>
+    fn copied(&self) -> TaggedKey<'a>
         ensures { result ≡ self.now }
     {
+        let _len = self.dnskey.rdlen(false);
         TaggedKey {
-            dnskey: self.dnskey.for_ref(),
+            dnskey: Dnskey::new_unchecked(
+                self.dnskey.flags(),
+                self.dnskey.protocol(),
+                self.dnskey.algorithm(),
+                *self.dnskey.public_key(),
+            ),
+            data: self.data,
             tag: self.tag,
         }
     }
@@ -80,7 +97,7 @@ impl<'a> TaggedKey<'a> {
     fn clashes(&self, other: &TaggedKey) -> bool
         ensures { result ≡ clashes self.now other.now }
     {
-        self.tag == other.tag && !self.dnskey.same_key(&other.dnskey)
+        self.tag == other.tag && self.dnskey != other.dnskey
     }
 }
 
@@ -117,8 +134,9 @@ fn read_key<'a>(
     {
         return None;
     }
-    let dnskey = key_of_data(record.octets(message))?;
-    Some(TaggedKey::new(dnskey))
+    let data = record.octets(message);
+    let dnskey = key_of_data(data)?;
+    Some(TaggedKey::new(dnskey, data))
 }
 
 /// Whether two unlike keys have one tag.
@@ -146,27 +164,21 @@ fn clashes_with_any(key: &TaggedKey, keys: &[TaggedKey]) -> bool
 }
 
 /// The keys that may sign what is in the zone.
-pub(crate) fn usable_keys<'a>(
-    alloc: Global,
-    keys: &'a [TaggedKey],
-) -> Result<Vec<TaggedKey<'a>>, AllocError>
-    ensures { IfOk result (λ ks. ks.items ≡ filter is_usable keys.now) }
+pub(crate) fn usable_keys<'a>(keys: Vec<TaggedKey<'a>>) -> Vec<TaggedKey<'a>>
+    ensures { result.items ≡ filter is_usable keys.entry.items }
 {
-    let mut usable = Vec::new(alloc);
-    for key in keys {
-        if key.is_usable() {
-            usable.push(key.copied())?;
-        }
-    }
-    Ok(usable)
+    let mut usable = keys;
+    usable.retain(|key| key.is_usable());
+    usable
 }
 
-/// The keys that may sign the keys: the usable ones that a DS record names.
+/// The keys that may sign the keys: the usable ones that a DS record names. The octets are a buffer.
 pub(crate) fn trusted_keys<'a, C: Checks>(
     alloc: Global,
     apex: &Name<Vec<u8>>,
     ds: &[Ds<Vec<u8>>],
-    keys: &'a [TaggedKey],
+    keys: &[TaggedKey<'a>],
+    octets: &mut Vec<u8>,
     checks: &mut C,
 ) -> Result<Vec<TaggedKey<'a>>, AllocError>
     ensures trusted { IfOk result
@@ -177,7 +189,7 @@ pub(crate) fn trusted_keys<'a, C: Checks>(
 {
     let mut trusted = Vec::new(alloc);
     for key in keys {
-        if key.is_usable() && is_named(alloc, apex, ds, key, checks)? {
+        if key.is_usable() && is_named(alloc, apex, ds, key, octets, checks)? {
             trusted.push(key.copied())?;
         }
     }
@@ -190,6 +202,7 @@ fn is_named<C: Checks>(
     apex: &Name<Vec<u8>>,
     ds: &[Ds<Vec<u8>>],
     key: &TaggedKey,
+    octets: &mut Vec<u8>,
     checks: &mut C,
 ) -> Result<bool, AllocError>
     ensures named { IfOk result
@@ -199,7 +212,7 @@ fn is_named<C: Checks>(
     ensures same { C.answers checks.new ≡ C.answers checks.old }
 {
     for record in ds {
-        if names_key(alloc, apex, record, key, checks)? {
+        if names_key(alloc, apex, record, key, octets, checks)? {
             return Ok(true);
         }
     }
@@ -212,6 +225,7 @@ fn names_key<C: Checks>(
     apex: &Name<Vec<u8>>,
     ds: &Ds<Vec<u8>>,
     key: &TaggedKey,
+    octets: &mut Vec<u8>,
     checks: &mut C,
 ) -> Result<bool, AllocError>
     ensures named { IfOk result
@@ -223,8 +237,10 @@ fn names_key<C: Checks>(
     if ds.key_tag() != key.tag() || ds.algorithm() != key.dnskey().algorithm() {
         return Ok(false);
     }
-    let octets = key.dnskey().digested(alloc, apex)?;
-    match checks.digest(alloc, ds.digest_type(), &octets) {
+    octets.clear();
+    apex.compose_canonical(octets)?;
+    key.dnskey().compose(octets)?;
+    match checks.digest(alloc, ds.digest_type(), octets) {
         Ok(digest) => Ok(digest == *ds.digest()),
         Err(SchemeError::Failed) => Ok(false),
         Err(SchemeError::Memory) => Err(AllocError),

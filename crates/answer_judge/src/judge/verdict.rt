@@ -1,61 +1,10 @@
 //! What a judge answers.
-ghost use Rattle.std.specs.Prelude.{◌≡◌, map};
+ghost use Rattle.std.specs.Prelude.{◌≡◌};
 ghost use Rattle.answer_judge.specs.declared.judge.verdict.Refusal.TheVariants.{Memory};
 
+pub use answer_rules::verdict::{DataList, Verdict};
 use std::alloc::AllocError;
-use std::marker::Model;
 use thiserror::Error;
-
-/// Canonical data of an RRset, in ascending order of octets. A contract sees a list of octets.
-#[derive(Debug, Drop)]
-pub struct DataList {
-    items: Vec<Vec<u8>>,
-}
-
-impl Model for DataList {
-    ghost use Rattle.std.specs.Prelude.{List, ℕ, map};
-
-    ghost Value = { List (List ℕ) };
-
-    ghost view = { λ d. map (λ v. v.items) d.items.items };
-}
-
-impl DataList {
-    /// A list of data.
-    pub(crate) fn new(items: Vec<Vec<u8>>) -> Self
-        ensures { result ≡ map (λ v. v.items) items.items }
-    {
-        DataList { items }
-    }
-
-    /// The data, ascending.
-    pub fn as_slice(&self) -> &[Vec<u8>]
-        ensures { map (λ v. v.items) result.now ≡ self.now }
-    {
-        &self.items
-    }
-}
-
-/// What a zone says of a name and a type.
-#[derive(Debug, Drop)]
-pub enum Verdict {
-    /// The name has records of the type: these data.
-    Records(DataList),
-    /// The name exists and has no record of the type.
-    NoType,
-    /// The name does not exist, and no wildcard stands for it.
-    NoName,
-    /// A wildcard stands for the name, with these data (RFC 4592).
-    StarRecords(DataList),
-    /// A wildcard stands for the name and has no record of the type.
-    StarNoType,
-    /// The name is at or below a delegation.
-    Delegated,
-    /// An opt-out chain leaves open what is there (RFC 5155, 6).
-    Open,
-    /// The zone has no DS record: nothing in it is signed.
-    Unsigned,
-}
 
 /// Why a judge gives no verdict, in the order in which it is sought; `Memory` comes wherever a growth was refused.
 #[derive(Clone, Copy, Debug, PartialEq, Eq, Drop, Error)]

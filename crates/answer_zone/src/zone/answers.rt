@@ -14,7 +14,7 @@ use crate::fault::Mode;
 use crate::group::RrGroup;
 use crate::zone::ZoneRecords;
 use crate::zone::chain::push_links;
-use crate::zone::lookups::{chain_ttl_among, data_among, owner_among};
+use crate::zone::lookups::{data_among, owner_among};
 use messages::names::{Name, ZoneName, copy_name};
 use names_data::rtype::Rtype;
 use std::alloc::{AllocError, Global};
@@ -115,8 +115,7 @@ impl ZoneRecords {
             (proofs_of (served_of self.now.apex Nsec hash self.now.records)
             (map (λ n. low n.now) names.now))) }
     {
-        let ttl = chain_ttl_among(&self.apex, &self.records);
-        push_links(alloc, groups, &self.chain, &self.apex, ttl, names)
+        push_links(alloc, groups, &self.chain, &self.apex, self.link_ttl, names)
     }
 
     /// The SOA record of the zone, its owner as spelled there.

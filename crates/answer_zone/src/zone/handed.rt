@@ -5,6 +5,7 @@ ghost use Rattle.definitions.specs.Name.{same};
 
 use crate::group::GroupRecord;
 use messages::names::{Name, ToName, copy_name};
+use messages::rdata::canonical_octets;
 use messages::record::{ZoneRecord, keeps};
 use names_data::data::{ComposeRecordData, RecordData};
 use names_data::rtype::Rtype;
@@ -124,17 +125,6 @@ pub(super) fn written_octets<D: ComposeRecordData>(
 {
     let mut octets = Vec::new(alloc);
     match rdata.compose_rdata(&mut octets) {
-        Ok(()) => Ok(octets),
-        Err(_) => Err(AllocError),
-    }
-}
-
-/// The octets of data in canonical form (RFC 4034, 6.2).
-fn canonical_octets<D: ComposeRecordData>(alloc: Global, rdata: &D) -> Result<Vec<u8>, AllocError>
-    ensures { IfOk result (λ v. v.items ≡ D.canonical_rdata rdata.now) }
-{
-    let mut octets = Vec::new(alloc);
-    match rdata.compose_canonical_rdata(&mut octets) {
         Ok(()) => Ok(octets),
         Err(_) => Err(AllocError),
     }

@@ -1,13 +1,14 @@
-use Rattle.std.proofs.Common.{rules, ◌≡◌, ◌||◌, [], ◌∷◌, ◌+◌, ◌++◌, map, length, ap, ◌∙◌, arith}
-use Rattle.std.specs.Prelude.{Some, is_some}
+use Rattle.std.proofs.Common.{rules, ◌≡◌, false, subst, ◌||◌, [], ◌∷◌, ◌+◌, ◌++◌, map, length, ap, ◌∙◌, arith}
+use Rattle.std.specs.Prelude.{MatchOption, Some, is_some}
 use Rattle.definitions.specs.Limits.{pointer_limit}
+use Rattle.answer_judge.specs.declared.judge.groups.Group.{Group}
 use Rattle.answer_judge.specs.Verified.{is_verified}
 use Rattle.answer_judge.proofs.JudgeMarks.{marked_is}
 use Rattle.messages.specs.Record.{spelled}
 use Rattle.answer_judge.specs.Counted.{keys_sought}
-use Rattle.answer_judge.specs.Marked.{held_by, marked, data_verified, tries_in}
+use Rattle.answer_judge.specs.Marked.{held_by, marked, tries_in}
 use Rattle.answer_judge.proofs.JudgeCounted.{tries_are}
-use Rattle.answer_judge.proofs.JudgeFacts.{gives_data, last_of}
+use Rattle.answer_judge.proofs.JudgeFacts.{last_of}
 use Rattle.answer_judge.proofs.JudgeSought.{keys_are}
 use Rattle.answer_judge.proofs.judge.are_verified.Goals as goal
 
@@ -36,5 +37,5 @@ returns-clause-exact g c =
     let all : c.verify_groups.new.groups ≡ y ∷ [] = c.in_ok-verify_groups.ensures.marked ∙ ap (map (marked a m rs)) old in
     let len : c.push.new.self.len ≡ length c.verify_groups.new.groups = search rules in
     let last = c.pop.ensures.value y (omega (arith, len, ap length all)) ∙ ap Some (last_of [] y y c.verify_groups.new.groups c.push.new.self.items c.push.new.self.len all len) in
-    c.is_some.ensures ∙ ap is_some (c.verified_data.ensures ∙ ap data_verified last) ∙ gives_data y ∙ marked_is a m rs x
+    subst (λ o. MatchOption o (c.was_verified.result ≡ false) (λ (g : Group). c.was_verified.result ≡ is_some g.verified)) last c.was_verified.ensures ∙ marked_is a m rs x
     ∙ (λ i. is_some (e.unverified i) || is_verified a pointer_limit m rs (e.owner i) (e.rtype i) (e.items i))

@@ -1,12 +1,9 @@
-use Rattle.std.proofs.Common.{◌≡◌, ℕ, suc, ◌+◌, ◌-◌, ◌<◌, ap, ◌∙◌, arith}
+use Rattle.std.proofs.Common.{◌≡◌, ◌+◌, ◌-◌, ap, ◌∙◌, arith}
 use Rattle.std.proofs.lemmas.Result.{err_from_is_err_and}
 use Rattle.messages.specs.Message.{records_at}
-use Rattle.messages.proofs.MessageRecords.{fault_in, ok_of, err_of, more_records, bad_record}
+use Rattle.messages.proofs.MessageRecords.{fault_in, ok_of, err_of, more_records, bad_record, one_less}
 use Rattle.messages.proofs.view.read_records.Goals as goal
 use Rattle.definitions.specs.Limits.{pointer_limit}
-
-one_less : (n i : ℕ) → i < n → n - i ≡ suc (n - (i + 1))
-one_less n i h = omega arith
 
 pub returns-in_err-end : goal.returns-in_err-end
 returns-in_err-end c =

@@ -31,7 +31,7 @@ returns-clause-answer g c =
     let all : c.verify_groups.new.groups ≡ map (marked a m rs) gs ++ marked a m rs x ∷ [] = c.in_ok-verify_groups.ensures.marked ∙ ap (map (marked a m rs)) old ∙ map-append (marked a m rs) gs (x ∷ []) in
     let len : c.push.new.self.len ≡ length c.verify_groups.new.groups = search rules in
     let last = c.pop.ensures.value (marked a m rs x) (omega (arith, len, ap length all ∙ length_more (map (marked a m rs) gs) (marked a m rs x))) ∙ ap Some (last_of (map (marked a m rs) gs) (marked a m rs x) (marked a m rs x) c.verify_groups.new.groups c.push.new.self.items c.push.new.self.len all len) in
-    c.verified_data-answer.ensures ∙ ap data_verified last ∙ asked_data a m rs x c.args.name.now c.args.rtype (c.in_ok-read_group.ensures.owner ∙ c.in_ok-owner.ensures) c.in_ok-read_group.ensures.rtype (c.in_ok-read_group.ensures.items ∙ ap (λ n. rrset_in pointer_limit m rs n c.args.rtype) c.in_ok-owner.ensures) c.in_ok-read_group.ensures.unverified
+    c.in_ok-answer.ensures ∙ ap data_verified last ∙ asked_data a m rs x c.args.name.now c.args.rtype (c.in_ok-read_group.ensures.owner ∙ c.in_ok-owner.ensures) c.in_ok-read_group.ensures.rtype (c.in_ok-read_group.ensures.items ∙ ap (λ n. rrset_in pointer_limit m rs n c.args.rtype) c.in_ok-owner.ensures) c.in_ok-read_group.ensures.unverified
 
 pub returns-clause-links : goal.returns-clause-links
 returns-clause-links g c =

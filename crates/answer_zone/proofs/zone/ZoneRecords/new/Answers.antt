@@ -1,4 +1,4 @@
-use Rattle.std.proofs.Common.{◌≡◌, map, None, false, ◌⊎◌, sym, ap, subst, ◌∙◌}
+use Rattle.std.proofs.Common.{◌≡◌, map, None, false, sym, ap, subst, ◌∙◌}
 use Rattle.std.specs.Prelude.{IsSome}
 use Rattle.std.specs.List.{AllByRecursion}
 use Rattle.plain.specs.ZoneData.{zone_canonical, zone_type}
@@ -7,9 +7,9 @@ use Rattle.denial_owners.specs.Refused.{IsOwnersFault}
 use Rattle.denial_owners.specs.Soa.{soa_ttls}
 use Rattle.denial_owners.specs.Ttls.{has_unequal_ttls}
 use Rattle.messages.specs.HandedRr.{handed_of, is_meta}
-use Rattle.answer_zone.specs.declared.fault.ZoneFault.TheVariants as fault
-use Rattle.answer_zone.specs.Accepting.{IsFault, first_fault, sorted_records}
+use Rattle.answer_zone.specs.Accepting.{RefusesZone, first_fault, sorted_records}
 use Rattle.answer_zone.specs.Links.{links_of}
+use Rattle.answer_zone.specs.Served.{chain_ttl}
 use Rattle.answer_zone.specs.ZoneView.{IsPublished, mode_of}
 use Rattle.answer_zone.proofs.ZoneFaults.{plain_from_none}
 use Rattle.answer_zone.proofs.ZoneMade.{accepted, in_order, one_class, refused}
@@ -30,7 +30,7 @@ returns-in-Err-clause-fault c =
     let mode = mode_of c.args.mode in
     let rs = c.args.records.items in
     let none : first_fault apex mode c.args.limit (map handed_of rs) ≡ None = cc in
-    subst (λ f. (f ≡ fault.Memory) ⊎ IsFault apex mode c.args.limit (map handed_of rs) f) (sym c.fault_of.ensures)
+    subst (RefusesZone apex mode c.args.limit (map handed_of rs)) (sym c.fault_of.ensures)
     (refused apex mode c.args.limit rs none c.in-Err.error (subst (λ xs. IsOwnersFault (λ n. n) apex false xs c.in-Err.error) c.in-Ok.ensures c.in-Err.ensures.refused))
 
 pub returns-clause-accepted : goal.returns-clause-accepted
@@ -71,4 +71,5 @@ invariant_of-result c =
         known = subst (AllByRecursion (λ r. is_meta r ≡ false)) (sym items) (plain_from_none apex mode c.args.limit (map handed_of rs) none).known;
       },
       c.in-Ok-chain_of.ensures.links ∙ ap (links_of apex) (sym kept),
+      c.chain_ttl_among-link_ttl.ensures ∙ ap (chain_ttl c.args.apex) c.deref-3.ensures.value,
     )

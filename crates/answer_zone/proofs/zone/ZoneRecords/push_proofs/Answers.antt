@@ -16,9 +16,8 @@ returns c =
     let old = c.args.groups.now.items in
     let new = c.push_links.new.groups.items in
     let name : c.self.inside.apex ≡ apex = ap (λ z. z.apex) c.self.view_is in
-    let items : c.deref.result.now ≡ rs = c.deref.ensures.value ∙ ap (λ z. z.records) c.self.view_is in
-    let ttl : c.chain_ttl_among-ttl.result ≡ chain_ttl apex rs = c.chain_ttl_among-ttl.ensures ∙ ap (λ n. chain_ttl n c.deref.result.now) name ∙ ap (chain_ttl apex) items in
-    let links : c.deref-2.result.now ≡ links_of apex rs = c.deref-2.ensures.value ∙ c.self.invariant.2 ∙ ap (λ z. links_of z.apex z.records) c.self.view_is in
+    let ttl : c.self.inside.link_ttl ≡ chain_ttl apex rs = c.self.invariant.3 ∙ ap (λ z. chain_ttl z.apex z.records) c.self.view_is in
+    let links : c.deref.result.now ≡ links_of apex rs = c.deref.ensures.value ∙ c.self.invariant.2 ∙ ap (λ z. links_of z.apex z.records) c.self.view_is in
     let published : IsPublished apex rs = rw (← c.self.view_is) c.self.invariant.0 in
-    let said : said_of c.self.inside.apex c.chain_ttl_among-ttl.result qs c.deref-2.result.now ≡ said_of apex (chain_ttl apex rs) qs (links_of apex rs) = (λ i. said_of (name i) (ttl i) qs (links i)) in
+    let said : said_of c.self.inside.apex c.self.inside.link_ttl qs c.deref.result.now ≡ said_of apex (chain_ttl apex rs) qs (links_of apex rs) = (λ i. said_of (name i) (ttl i) qs (links i)) in
     on_ok_weaker c.push_links.result (λ a hash. subst (Adds old new) (said ∙ proofs_are_said apex hash rs published qs) a) c.push_links.ensures

@@ -5,5 +5,5 @@ use Rattle.messages.proofs.view.MessageView.record_count.Goals as goal
 
 pub returns : goal.returns
 returns c =
-    sym (read_length c.self.inside.count c.self.inside.bytes.now c.self.inside.first c.self.invariant.1)
+    sym (read_length c.self.inside.count c.self.inside.bytes.now c.self.inside.first c.self.invariant)
     ∙ ap (λ (v : Message). length v.records) c.self.view_is
