@@ -1,11 +1,12 @@
 //! Judgements of what a publisher of two keys hands out, beside DS sets that a scheme digests in part or not at all.
 ghost use Rattle.std.specs.Prelude.{◌≡◌, ◌<◌};
 
+use crate::message_tests::outcome;
 use crate::scheme::{TestScheme, WELL};
 use crate::zone::{APEX, OWNER, at, name, publisher, question, record, sign_with_two_keys};
 use answer::denial::Ds;
 use answer::judge::judge;
-use answer::judge::verdict::{Judgement, Refusal, Refused, Verdict};
+use answer::judge::verdict::{Judgement, Refused};
 use answer::plain::Rtype;
 use answer::plain::numbers::{DigestAlgorithm, SecurityAlgorithm};
 use answer::scheme::counting::SchemeChecks;
@@ -15,7 +16,7 @@ use std::sync::ledger::{Blank, Ledger};
 use std::test::Fail;
 
 /// The DS record of the key signing key with a digest of this type.
-fn ds(alloc: Global, digest_type: u8) -> Result<Ds<Vec<u8>>, Fail> {
+pub(crate) fn ds(alloc: Global, digest_type: u8) -> Result<Ds<Vec<u8>>, Fail> {
     Ok(Ds::new(
         1054,
         SecurityAlgorithm::ECDSAP256SHA256,
@@ -24,8 +25,11 @@ fn ds(alloc: Global, digest_type: u8) -> Result<Ds<Vec<u8>>, Fail> {
     )?)
 }
 
+/// A DNSKEY answer, and an answer of the zone.
+pub(crate) type Answers = (Vec<u8>, Vec<u8>);
+
 /// The DNSKEY answer of two keys, and the zone's answer for its one address.
-fn answers(alloc: Global) -> Result<(Vec<u8>, Vec<u8>), Fail> {
+fn answers(alloc: Global) -> Result<Answers, Fail> {
     let mut records = Vec::new(alloc);
     records.push(record(alloc, OWNER, Rtype::A, b"\xc0\x00\x02\x01".to_vec(alloc)?)?)?;
     let mut publisher = publisher(alloc, records, WELL)?;
@@ -38,6 +42,8 @@ fn answers(alloc: Global) -> Result<(Vec<u8>, Vec<u8>), Fail> {
 fn judge_by<L: Ledger, M: Ledger>(
     alloc: Global,
     set: &[Ds<Vec<u8>>],
+    answers: &Answers,
+    rtype: Rtype,
     first: Blank,
     second: Blank,
 ) -> Result<Result<Judgement, Refused>, Fail>
@@ -48,43 +54,31 @@ fn judge_by<L: Ledger, M: Ledger>(
     requires second_parts { second.parts ≡ M.parts }
     requires second_some { 0 < M.parts }
 {
-    let (keys, answer) = answers(alloc)?;
+    let (keys, answer) = answers;
     let apex = name(alloc, APEX)?;
-    let asked = question(alloc, OWNER, Rtype::A)?;
+    let asked = question(alloc, OWNER, rtype)?;
     let mut checks = SchemeChecks::<TestScheme, TestScheme, L, M>::new(WELL, WELL, first, second);
-    Ok(judge(alloc, &apex, set, &keys, &answer, &asked, 0, &mut checks, 0))
+    Ok(judge(alloc, &apex, set, keys, answer, &asked, 0, &mut checks, 0))
 }
 
-/// What is said of these answers beside a DS set: the name of the verdict or refusal, and the verifications.
-fn judged(alloc: Global, set: &[Ds<Vec<u8>>]) -> Result<(&'static str, u32), Fail> {
-    let judgement = judge_by::<Brand, Brand>(alloc, set, Blank::new(1), Blank::new(1))?;
-    Ok(outcome(&judgement))
-}
-
-fn outcome(judgement: &Result<Judgement, Refused>) -> (&'static str, u32) {
-    match judgement {
-        Ok(judgement) => (verdict_name(&judgement.verdict), judgement.verifications),
-        Err(refused) if refused.refusal == Refusal::NoTrustedKey => {
-            ("NoTrustedKey", refused.verifications)
-        }
-        Err(_) => ("another refusal", 0),
-    }
-}
-
-fn verdict_name(verdict: &Verdict) -> &'static str {
-    match verdict {
-        Verdict::Records(_) => "Records",
-        _ => "another verdict",
-    }
+/// What is said of these answers beside a DS set, where this type of the one owner was asked for.
+pub(crate) fn judged(
+    alloc: Global,
+    set: &[Ds<Vec<u8>>],
+    answers: &Answers,
+    rtype: Rtype,
+) -> Result<Result<Judgement, Refused>, Fail> {
+    judge_by::<Brand, Brand>(alloc, set, answers, rtype, Blank::new(1), Blank::new(1))
 }
 
 /// A digest that fails is no match: another DS record of the key still names it, and where none does no key is trusted.
 #[test]
 fn digests_that_fail(rt: HostRuntime) -> Result<(), Fail> {
     let alloc = rt.alloc();
-    let both = [ds(alloc, 1)?, ds(alloc, 2)?];
-    assert_eq!(rt; judged(alloc, &both)?, ("Records", 2));
-    let unknown = [ds(alloc, 1)?];
-    assert_eq!(rt; judged(alloc, &unknown)?, ("NoTrustedKey", 0));
+    let answers = answers(alloc)?;
+    let both = judged(alloc, &[ds(alloc, 1)?, ds(alloc, 2)?], &answers, Rtype::A)?;
+    assert_eq!(rt; outcome(&both), ("Records", 2, 0));
+    let unknown = judged(alloc, &[ds(alloc, 1)?], &answers, Rtype::A)?;
+    assert_eq!(rt; outcome(&unknown), ("NoTrustedKey", 0, 0));
     Ok(())
 }

@@ -13,22 +13,28 @@ use std::test::Fail;
 const ECDSA: SecurityAlgorithm = SecurityAlgorithm::ECDSAP256SHA256;
 
 /// So many octets 7.
-fn octets(alloc: Global, count: usize) -> Result<Vec<u8>, Fail> {
+pub(crate) fn octets(alloc: Global, count: usize) -> Result<Vec<u8>, Fail> {
     let mut octets = Vec::new(alloc);
     octets.resize(count, 7)?;
     Ok(octets)
 }
 
-/// The length of an answer with a record of so many octets of data, None where it is too long.
-fn length_beside(alloc: Global, count: usize) -> Result<Option<usize>, Fail> {
+/// An answer without signatures, of a record of so many octets of data; None where it is too long.
+pub(crate) fn answer_beside(alloc: Global, count: usize) -> Result<Option<Vec<u8>>, Fail> {
     let mut records = Vec::new(alloc);
     records.push(record(alloc, OWNER, Rtype::TXT, octets(alloc, count)?)?)?;
     let publisher = publisher(alloc, records, WELL)?;
     match publisher.answer(&question(alloc, OWNER, Rtype::TXT)?, &at(0)) {
-        Ok(message) => Ok(Some(message.len())),
+        Ok(message) => Ok(Some(message)),
         Err(AnswerFault::TooLong) => Ok(None),
         Err(fault) => Err(Fail::new(fault)),
     }
+}
+
+/// Its length.
+fn length_beside(alloc: Global, count: usize) -> Result<Option<usize>, Fail> {
+    let answer = answer_beside(alloc, count)?;
+    Ok(answer.map(|it| it.len()))
 }
 
 /// The header's 12 octets, a question of 15 and a record of 21 beside its data: with 65,487 octets of data a message is

@@ -45,7 +45,7 @@ fn name(alloc: Global, wire: &[u8]) -> Result<Name<Vec<u8>>, AllocError> {
     }
 }
 
-fn judge_by(
+pub(crate) fn judge_by(
     alloc: Global,
     case: &Case,
     ds: &[Ds<Vec<u8>>],
@@ -71,7 +71,7 @@ fn judge_by(
     ))
 }
 
-fn judged_at(alloc: Global, case: &Case, now: u32) -> Result<(&'static str, u32), AllocError> {
+fn judged_at(alloc: Global, case: &Case, now: u32) -> Result<Outcome, AllocError> {
     let ds = Ds::new_unchecked(
         case.tag,
         SecurityAlgorithm::ECDSAP256SHA256,
@@ -82,26 +82,37 @@ fn judged_at(alloc: Global, case: &Case, now: u32) -> Result<(&'static str, u32)
     Ok(outcome(&judgement))
 }
 
-pub(crate) fn judged(alloc: Global, case: &Case) -> Result<(&'static str, u32), AllocError> {
+pub(crate) fn judged(alloc: Global, case: &Case) -> Result<Outcome, AllocError> {
     judged_at(alloc, case, 1500)
 }
 
-fn unsigned(alloc: Global, case: &Case) -> Result<(&'static str, u32), AllocError> {
+fn unsigned(alloc: Global, case: &Case) -> Result<Outcome, AllocError> {
     let judgement = judge_by(alloc, case, &[], 1500)?;
     Ok(outcome(&judgement))
 }
 
-/// The name of what was answered, and the verifications.
-fn outcome(judgement: &Result<Judgement, Refused>) -> (&'static str, u32) {
+/// The name of what was answered, the verifications and the hashes.
+pub(crate) type Outcome = (&'static str, u32, u32);
+
+pub(crate) fn outcome(judgement: &Result<Judgement, Refused>) -> Outcome {
     match judgement {
-        Ok(judgement) => (verdict_name(&judgement.verdict), judgement.verifications),
-        Err(refused) => (refusal_name(refused.refusal), refused.verifications),
+        Ok(judgement) => (
+            verdict_name(&judgement.verdict),
+            judgement.verifications,
+            judgement.hashes,
+        ),
+        Err(refused) => (
+            refusal_name(refused.refusal),
+            refused.verifications,
+            refused.hashes,
+        ),
     }
 }
 
 fn verdict_name(verdict: &Verdict) -> &'static str {
     match verdict {
         Verdict::Records(list) if is_address(list) => "Records",
+        Verdict::Records(_) => "other records",
         Verdict::NoType => "NoType",
         Verdict::NoName => "NoName",
         Verdict::Unsigned => "Unsigned",
@@ -141,12 +152,12 @@ const ADDRESS_CASE: Case<'static> = Case {
 #[test]
 fn records_that_are_signed(rt: HostRuntime) -> Result<(), AllocError> {
     let alloc = rt.alloc();
-    assert_eq!(rt; judged(alloc, &ADDRESS_CASE)?, ("Records", 2));
+    assert_eq!(rt; judged(alloc, &ADDRESS_CASE)?, ("Records", 2, 0));
     let upper = Case {
         name: b"\x01A\x07EXAMPLE\x00",
         ..ADDRESS_CASE
     };
-    assert_eq!(rt; judged(alloc, &upper)?, ("Records", 2));
+    assert_eq!(rt; judged(alloc, &upper)?, ("Records", 2, 0));
     Ok(())
 }
 
@@ -159,13 +170,13 @@ fn denials(rt: HostRuntime) -> Result<(), AllocError> {
         rtype: Rtype::TXT,
         ..ADDRESS_CASE
     };
-    assert_eq!(rt; judged(alloc, &no_type)?, ("NoType", 2));
+    assert_eq!(rt; judged(alloc, &no_type)?, ("NoType", 2, 0));
     let no_name = Case {
         answer: NO_NAME,
         name: b"\x01b\x07example\x00",
         ..ADDRESS_CASE
     };
-    assert_eq!(rt; judged(alloc, &no_name)?, ("NoName", 3));
+    assert_eq!(rt; judged(alloc, &no_name)?, ("NoName", 3, 0));
     Ok(())
 }
 
@@ -177,28 +188,28 @@ fn first_refusals(rt: HostRuntime) -> Result<(), AllocError> {
         keys: b"",
         ..ADDRESS_CASE
     };
-    assert_eq!(rt; judged(alloc, &not_allowed)?, ("QuestionNotAllowed", 0));
+    assert_eq!(rt; judged(alloc, &not_allowed)?, ("QuestionNotAllowed", 0, 0));
     let short = Case {
         answer: b"\x00\x00\x84\x00\x00\x01\x00\x01\x00\x00\x00",
         ..ADDRESS_CASE
     };
-    assert_eq!(rt; judged(alloc, &short)?, ("BadAnswerMessage", 0));
+    assert_eq!(rt; judged(alloc, &short)?, ("BadAnswerMessage", 0, 0));
     let both = Case {
         keys: b"",
         answer: b"",
         ..ADDRESS_CASE
     };
-    assert_eq!(rt; judged(alloc, &both)?, ("BadDnskeyMessage", 0));
+    assert_eq!(rt; judged(alloc, &both)?, ("BadDnskeyMessage", 0, 0));
     let other = Case {
         answer: NO_TYPE,
         ..ADDRESS_CASE
     };
-    assert_eq!(rt; judged(alloc, &other)?, ("QuestionMismatch", 0));
+    assert_eq!(rt; judged(alloc, &other)?, ("QuestionMismatch", 0, 0));
     let twins = Case {
         keys: TWIN_KEYS,
         ..ADDRESS_CASE
     };
-    assert_eq!(rt; judged(alloc, &twins)?, ("EqualTags", 0));
+    assert_eq!(rt; judged(alloc, &twins)?, ("EqualTags", 0, 0));
     Ok(())
 }
 
@@ -209,14 +220,17 @@ fn trust_and_times(rt: HostRuntime) -> Result<(), AllocError> {
         tag: 1055,
         ..ADDRESS_CASE
     };
-    assert_eq!(rt; judged(alloc, &stranger)?, ("NoTrustedKey", 0));
-    assert_eq!(rt; judged_at(alloc, &ADDRESS_CASE, 2001)?, ("NoTrustedKey", 0));
+    assert_eq!(rt; judged(alloc, &stranger)?, ("NoTrustedKey", 0, 0));
+    assert_eq!(rt;
+        judged_at(alloc, &ADDRESS_CASE, 2001)?,
+        ("NoTrustedKey", 0, 0)
+    );
     let late = Case {
         answer: LATE_ADDRESS,
         ..ADDRESS_CASE
     };
-    assert_eq!(rt; judged_at(alloc, &late, 1499)?, ("NotProven", 1));
-    assert_eq!(rt; judged_at(alloc, &late, 1500)?, ("Records", 2));
+    assert_eq!(rt; judged_at(alloc, &late, 1499)?, ("NotProven", 1, 0));
+    assert_eq!(rt; judged_at(alloc, &late, 1500)?, ("Records", 2, 0));
     Ok(())
 }
 
@@ -228,7 +242,7 @@ fn unsigned_whatever_the_bytes(rt: HostRuntime) -> Result<(), AllocError> {
         answer: b"",
         ..ADDRESS_CASE
     };
-    assert_eq!(rt; unsigned(alloc, &empty)?, ("Unsigned", 0));
+    assert_eq!(rt; unsigned(alloc, &empty)?, ("Unsigned", 0, 0));
     Ok(())
 }
 

@@ -4,7 +4,8 @@ use denial_data::{
     IllegalSignatureTime, Nsec3SaltError, Nsec3SaltFromStrError, OwnerHashError,
     OwnerHashFromStrError, RtypeBitmapError,
 };
-use plain::base32hex::DecodeError;
+use hex::FromHexError;
+use plain::base32hex::{DecodeError, decode};
 use std::alloc::Global;
 use std::fmt::Display;
 
@@ -43,4 +44,26 @@ fn faults_of_text_say_what_is_wrong(rt: HostRuntime) {
     let long = OwnerHashFromStrError::OwnerHashError(OwnerHashError);
     assert!(rt; is_printed(alloc, &long, "NSEC3 owner hash too long"));
     assert!(rt; is_printed(alloc, &OwnerHashFromStrError::Memory, "out of memory"));
+}
+
+#[test]
+fn faults_of_digits_are_printed(rt: HostRuntime) {
+    let alloc = rt.alloc();
+    for (text, fault) in [
+        ("c-", "illegal character at 1"),
+        ("c", "illegal number of digits"),
+        ("cpn", "illegal number of digits"),
+        ("cp", "trailing bits"),
+    ] {
+        let Err(error) = decode(alloc, text) else {
+            panic!(rt; "{text} is read");
+        };
+        assert!(rt; is_printed(alloc, &error, fault));
+    }
+    assert!(rt; is_printed(alloc, &DecodeError::Memory, "out of memory"));
+    let digit = FromHexError::InvalidHexCharacter { c: 'g', index: 3 };
+    let digit = Nsec3SaltFromStrError::DecodeError(digit);
+    assert!(rt; is_printed(alloc, &digit, "Invalid character 'g' at position 3"));
+    let odd = Nsec3SaltFromStrError::DecodeError(FromHexError::OddLength);
+    assert!(rt; is_printed(alloc, &odd, "Odd number of digits"));
 }

@@ -30,7 +30,7 @@ fn fields_of_keys(rt: HostRuntime) -> Result<(), Fail> {
     assert_eq!(rt; key.protocol(), 3);
     assert_eq!(rt; key.algorithm(), algorithm);
     assert_eq!(rt; *key.public_key(), octets);
-    assert!(rt; key.for_ref().same_key(&key) && key.is_zone_key());
+    assert!(rt; key.for_ref() == key && key.is_zone_key());
     Ok(())
 }
 
@@ -183,7 +183,7 @@ fn record_data(rt: HostRuntime) -> Result<(), Fail> {
     assert!(rt; key_of_data(&data[..3]).is_none());
     if let Some(key) = key_of_data(data) {
         assert!(rt; key.is_zone_key());
-        assert!(rt; key.same_key(&key.try_clone(rt.alloc())?));
+        assert!(rt; key.try_clone(rt.alloc())?.for_ref() == key);
         assert_eq!(rt; key.key_tag(), 1054);
         key.compose(&mut out)?;
     }

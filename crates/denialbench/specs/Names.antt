@@ -14,8 +14,8 @@ use Rattle.answer_publisher.specs.declared.fault.KeyFault.{KeyFault}
 use Rattle.answer_publisher.specs.declared.fault.KeyFault.TheVariants as KeyFaultCase
 use Rattle.answer_judge.specs.declared.judge.verdict.Refusal.{Refusal}
 use Rattle.answer_judge.specs.declared.judge.verdict.Refusal.TheVariants as RefusalCase
-use Rattle.answer_judge.specs.declared.judge.verdict.Verdict.{Verdict}
-use Rattle.answer_judge.specs.declared.judge.verdict.Verdict.TheVariants as VerdictCase
+use Rattle.answer_rules.specs.declared.verdict.Verdict.{Verdict}
+use Rattle.answer_rules.specs.declared.verdict.Verdict.TheVariants as VerdictCase
 
 abbrev pub action_name : Action → List ℕ
 action_name ActionCase.CreateCdsRrset = codes "CreateCdsRrset"

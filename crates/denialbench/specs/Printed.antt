@@ -7,8 +7,8 @@ use Rattle.answer.specs.declared.event.Outcome.{Outcome}
 use Rattle.answer.specs.declared.event.Outcome.TheVariants.{Key, Ds, Message, Refused, Judged, BadPlace}
 use Rattle.answer_judge.specs.declared.judge.verdict.Judgement.{Judgement}
 use Rattle.answer_judge.specs.declared.judge.verdict.Refused.{Refused as JudgeRefused}
-use Rattle.answer_judge.specs.declared.judge.verdict.Verdict.{Verdict}
-use Rattle.answer_judge.specs.declared.judge.verdict.Verdict.TheVariants.{Records, StarRecords}
+use Rattle.answer_rules.specs.declared.verdict.Verdict.{Verdict}
+use Rattle.answer_rules.specs.declared.verdict.Verdict.TheVariants.{Records, StarRecords}
 use Rattle.keyset_rolls.specs.declared.rolls.Action.{Action}
 use Rattle.keyset_keys.specs.declared.errors.Error.{Error as KeyError}
 use Rattle.keyset_keys.specs.declared.errors.Error.TheVariants.{Wait}

@@ -1,6 +1,7 @@
-//! Runs over memory: lines that cannot be read, and readers and writers that fail.
+//! Runs over memory: lines that cannot be read, data and messages at their limits, and readers and writers that fail.
 use super::fakes::{Endless, Sink, Source};
 use super::run;
+use crate::input::InputError;
 use crate::status::Status;
 use std::alloc::Global;
 use std::process::Abort;
@@ -193,6 +194,91 @@ fn data_and_keys_have_limits(rt: HostRuntime) -> Result<(), Fail> {
     input.extend_from_slice(&letters)?;
     input.extend_from_slice(b"AAA= 0\nds\n")?;
     assert_refused(&rt, &input, 3)
+}
+
+/// Calls that have both keys sign, then the text is asked for and judged.
+const LONG_EVENTS: &str = "key ksk K 13 ABA= 0
+key zsk Z 13 AAEAAA== 0
+start algorithm-roll - K,Z 0
+report1 algorithm-roll 0 0
+wait1 algorithm-roll 0
+ds 0
+dnskey 0
+ask a.example 16 0
+judge 0 1 2 0
+";
+
+/// What is printed of the events in front of the question.
+const LONG_BEGIN: &str = "ok
+ok
+ok UpdateDnskeyRrset UpdateRrsig ReportDnskeyPropagated ReportRrsigPropagated
+ok
+ok CreateCdsRrset UpdateDsRrset ReportDsPropagated
+place 0 1054
+place 1
+";
+
+/// What is printed of a session whose zone has a text of so many octets.
+fn long_session(alloc: Global, count: usize) -> Result<Vec<u8>, Fail> {
+    let mut input = ZONE.as_bytes().to_vec(alloc)?;
+    input.extend_from_slice(b"rr example 3600 1 6 ")?;
+    input.extend_from_slice(b"00000000000100000e10000003840001518000000e10\n")?;
+    input.extend_from_slice(b"rr a.example 3600 1 16 ")?;
+    input.extend_from_slice(&vec![in alloc; b'7'; count.saturating_mul(2)]?)?;
+    input.extend_from_slice(b"\n")?;
+    input.extend_from_slice(LONG_EVENTS.as_bytes())?;
+    let (_, written) = run_in_steps(alloc, &input, usize::MAX)?;
+    Ok(written)
+}
+
+/// An answer has 48 octets beside the text's, and 80 of a signature: with 65,407 it is as long as a message can be.
+#[test]
+fn the_longest_answer_is_judged(rt: HostRuntime) -> Result<(), Fail> {
+    let alloc = rt.alloc();
+    let mut want = LONG_BEGIN.as_bytes().to_vec(alloc)?;
+    want.extend_from_slice(b"place 2\nRecords ")?;
+    want.extend_from_slice(&vec![in alloc; b'7'; 130_814]?)?;
+    want.extend_from_slice(b" verifications 2 hashes 0\n")?;
+    assert!(rt; long_session(alloc, 65_407)? == want);
+    Ok(())
+}
+
+/// One octet more is read and makes no message, up to the most that data have.
+#[test]
+fn the_longest_data_are_read(rt: HostRuntime) -> Result<(), Fail> {
+    let alloc = rt.alloc();
+    let mut want = LONG_BEGIN.as_bytes().to_vec(alloc)?;
+    want.extend_from_slice(b"refused TooLong\nBadPlace\n")?;
+    for count in [65_408, 65_535] {
+        assert!(rt; long_session(alloc, count)? == want, "{count}");
+    }
+    Ok(())
+}
+
+/// Messages can't be given in hexadecimal yet, also none that are as long as can be.
+#[test]
+fn long_messages_are_not_read(rt: HostRuntime) -> Result<(), Fail> {
+    let alloc = rt.alloc();
+    let digits = vec![in alloc; b'0'; 131_070]?;
+    let mut input = ZONE.as_bytes().to_vec(alloc)?;
+    input.extend_from_slice(b"bytes 0 ")?;
+    input.extend_from_slice(&digits)?;
+    input.extend_from_slice(b" ")?;
+    input.extend_from_slice(&digits)?;
+    input.extend_from_slice(b" a.example 15 0\n")?;
+    assert_refused(&rt, &input, 2)
+}
+
+#[test]
+fn faults_of_an_input(rt: HostRuntime) -> Result<(), Fail> {
+    for (fault, text) in [
+        (InputError::Reader, "reader failed"),
+        (InputError::Endless, "input has no end"),
+        (InputError::Memory, "out of memory"),
+    ] {
+        assert_eq!(rt; fault.to_string(rt.alloc())?.as_str(), text);
+    }
+    Ok(())
 }
 
 #[test]

@@ -17,3 +17,6 @@ mod refusal_tests;
 mod tests;
 #[cfg(test)]
 mod text_tests;
+
+/// There is nothing to run but the tests.
+fn main() {}

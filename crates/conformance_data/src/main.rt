@@ -9,3 +9,6 @@ mod order_tests;
 mod plain_tests;
 #[cfg(test)]
 mod refusal_tests;
+
+/// There is nothing to run but the tests.
+fn main() {}

@@ -15,6 +15,8 @@ mod judge_tests;
 #[cfg(test)]
 mod limit_tests;
 #[cfg(test)]
+mod long_tests;
+#[cfg(test)]
 mod message_tests;
 #[cfg(test)]
 mod roll_tests;
@@ -26,3 +28,6 @@ mod scheme_tests;
 mod session_tests;
 #[cfg(test)]
 mod zone;
+
+/// There is nothing to run but the tests.
+fn main() {}

@@ -19,3 +19,6 @@ mod owner_tests;
 mod refusal_tests;
 #[cfg(test)]
 mod zones;
+
+/// There is nothing to run but the tests.
+fn main() {}

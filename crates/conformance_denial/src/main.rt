@@ -15,3 +15,6 @@ mod refusal_tests;
 mod signature_tests;
 #[cfg(test)]
 mod small_bitmap_tests;
+
+/// There is nothing to run but the tests.
+fn main() {}

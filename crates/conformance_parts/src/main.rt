@@ -16,3 +16,6 @@ mod reference_tests;
 mod signed_tests;
 #[cfg(test)]
 mod zone_tests;
+
+/// There is nothing to run but the tests.
+fn main() {}

@@ -16,3 +16,6 @@ mod lives;
 mod refusal_tests;
 #[cfg(test)]
 mod settings;
+
+/// There is nothing to run but the tests.
+fn main() {}

@@ -7,3 +7,6 @@ mod group_tests;
 mod refusal_tests;
 #[cfg(test)]
 mod sorted_tests;
+
+/// There is nothing to run but the tests.
+fn main() {}
