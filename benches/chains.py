@@ -42,6 +42,12 @@ def deep(count):
     return APEX + [f"h{at:06}.{under}.example. 1 x" for at in range(count - 1)]
 
 
+def typed(count):
+    """One owner with so many types. The chain adds those of signatures and links, 46 and 47."""
+    others = [rtype for rtype in range(1, count + 3) if rtype not in (6, 46, 47)]
+    return ["example. 6 soa"] + [f"example. {rtype} x" for rtype in others]
+
+
 def instructions(task, rounds, records):
     count, made = counted(BENCH, [f"{task} {rounds}", *records])
     return count, int(made)
@@ -63,6 +69,7 @@ def main():
             row("hosts and delegations", mixed(count))
     row("delegations alone", delegations(most))
     row("owners below one name of 100 labels", deep(most))
+    row("one owner with 1,000 types", typed(1_000))
 
 
 if __name__ == "__main__":

@@ -3,7 +3,9 @@
 
 usage: benches/gate.py [FILE]
 
-It passes on what `rt ci` prints and looks at the prover's processes twice a second. Before the last line, which stays the
+It passes on what `rt ci` prints and looks at the prover's processes twice a second. The row `rt` is what `rt ci` itself
+takes, which runs on one processor: it sums up the text of the libraries below each library once for each way through
+crates.txt that leads to them. Before the last line, which stays the
 last, it prints once more the lines that say what failed, and the table of docs/GATE.md. RT_JOBS says on how many processors the gate runs. FILE gets the table so far
 each minute, so that a run that is stopped tells what it cost.
 """
@@ -52,10 +54,21 @@ def prover_processes():
         yield (entry, times[19]), (crate, phase), (int(times[11]) + int(times[12])) / TICKS
 
 
-def watch(seconds, is_over, file):
-    """Notes the processor seconds of each crate and phase until the run is over."""
+def own_seconds(process):
+    """Returns the processor seconds that a process took so far, without those of its children."""
+    try:
+        times = pathlib.Path(f"/proc/{process}/stat").read_text(errors="replace").rpartition(")")[2].split()
+    except OSError:
+        return 0
+    return (int(times[11]) + int(times[12])) / TICKS
+
+
+def watch(seconds, gate, is_over, file):
+    """Notes the processor seconds of each crate and phase, and of the gate's own process, until the run is over."""
     began = written = time.monotonic()
     while not is_over.wait(0.5):
+        own = seconds["rt", "proof"]
+        own[gate.pid] = max(own_seconds(gate.pid), own.get(gate.pid, 0))
         for process, part, used in prover_processes():
             seconds[part][process] = used
         now = time.monotonic()
@@ -82,10 +95,10 @@ def table(seconds, minutes):
 def main():
     seconds, is_over = collections.defaultdict(dict), threading.Event()
     file = pathlib.Path(sys.argv[1]) if len(sys.argv) > 1 else None
-    watcher = threading.Thread(target=watch, args=(seconds, is_over, file), daemon=True)
-    watcher.start()
     began, last, faults = time.monotonic(), "", collections.deque(maxlen=FAULTS)
     with subprocess.Popen(["rt", "ci"], cwd=TOP, stdout=subprocess.PIPE, text=True, errors="replace") as gate:
+        watcher = threading.Thread(target=watch, args=(seconds, gate, is_over, file), daemon=True)
+        watcher.start()
         for line in gate.stdout:
             print(last, end="", flush=True)
             last = line

@@ -5,8 +5,8 @@ memcheck.
 A session is run once as it is and once more with more of the same lines, and the difference is divided by their number. What
 an event costs that only says that its place holds nothing is taken off answers and judgements, so that reading a line and
 printing fall away; an owner's set-up has the reading of its line in it. The bench's stand-in for
-signatures and digests, SHA-256, is part of the counts; how much of a judgement it is stands beside it. Run it from anywhere;
-it builds crates/denialbench first.
+signatures and digests, SHA-256, is part of the counts; how much of a judgement it is stands beside it, and how much it takes to
+decide from the facts that were verified. Run it from anywhere; it builds crates/denialbench first.
 """
 import re
 import subprocess
@@ -23,6 +23,7 @@ ASKED = (
     ("no such name", "n000004x.example 1"),
 )
 TOOLS = ("callgrind", "memcheck")
+DECIDE = r"decide::decide\b"
 
 
 def opening(owners):
@@ -33,15 +34,25 @@ def opening(owners):
     return lines + [f"ask {asked} 7200" for _, asked in ASKED]
 
 
-def stand_in(lines):
-    """Instructions within SHA-256."""
+def within(lines, function, *flags):
+    """Instructions within the functions whose names have a form."""
     with tempfile.NamedTemporaryFile() as profile:
         words = ["valgrind", "--tool=callgrind", f"--callgrind-out-file={profile.name}", str(program(BENCH))]
         subprocess.run(words, input="\n".join([*lines, ""]), capture_output=True, text=True, check=True)
-        words = ["callgrind_annotate", "--threshold=100", profile.name]
+        words = ["callgrind_annotate", "--threshold=100", *flags, profile.name]
         table = subprocess.run(words, capture_output=True, text=True, check=True).stdout
-    found = re.findall(r"^ *([\d,]+) .*\bsha2::", table, re.MULTILINE)
+    found = re.findall(rf"^ *([\d,]+) .*\b{function}", table, re.MULTILINE)
     return sum(int(it.replace(",", "")) for it in found)
+
+
+def stand_in(lines):
+    """Instructions within SHA-256."""
+    return within(lines, "sha2::")
+
+
+def deciding(lines):
+    """Instructions of deciding, those of what it calls included."""
+    return within(lines, DECIDE, "--inclusive=yes")
 
 
 def counts(fewer, more, times):
@@ -56,19 +67,20 @@ def row(what, cells):
 def main():
     build(BENCH, (TOP / "sessions/first_wait").read_text(encoding="utf-8").split("\n"))
     print("| owners | set-up of an owner | blocks |\n|---|---|---|")
-    for owners in (1_000, 10_000):
+    for owners in (1_000, 10_000, 100_000):
         print(row(f"{owners:,}", counts(opening(owners), opening(2 * owners), owners)))
     for owners in (10, 10_000):
         start = opening(owners)
         idle = counts(start, start + ["judge 0 1 9999 7200"] * TIMES, TIMES)
-        print(f"\n| what is asked of {owners:,} owners | an answer | blocks | its judgement | blocks | SHA-256 |")
-        print("|---|---|---|---|---|---|")
+        print(f"\n| what is asked of {owners:,} owners | an answer | blocks | its judgement | blocks | SHA-256 | deciding |")
+        print("|---|---|---|---|---|---|---|")
         for place, (what, asked) in enumerate(ASKED):
             answer = counts(start, start + [f"ask {asked} 7200"] * TIMES, TIMES)
             judged = start + [f"judge 0 1 {place + 2} 7200"] * TIMES
             judgement = counts(start, judged, TIMES)
             cells = [one - none for found in (answer, judgement) for one, none in zip(found, idle)]
-            print(row(what, [*cells, (stand_in(judged) - stand_in(start)) / TIMES]))
+            parts = [(part(judged) - part(start)) / TIMES for part in (stand_in, deciding)]
+            print(row(what, [*cells, *parts]), flush=True)
 
 
 if __name__ == "__main__":
