@@ -5,7 +5,6 @@ pub mod OneState
 pub mod ThroughRolls
 pub mod ThroughRollsRows
 pub mod Events
-
 -- What the public contracts of `simulate` and of the crates below cite, passed on, so that a crate above need name none of
 -- these.
 pub use Rattle.messages.specs.HandedRr
