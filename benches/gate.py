@@ -3,10 +3,10 @@
 
 usage: benches/gate.py [FILE]
 
-It passes on what `rt ci` prints and looks at the prover's processes twice a second. The row `rt` is what `rt ci` itself
-takes, which runs on one processor: it sums up the text of the libraries below each library once for each way through
-crates.txt that leads to them. Before the last line, which stays the
-last, it prints once more the lines that say what failed, and the table of docs/GATE.md. RT_JOBS says on how many processors the gate runs. FILE gets the table so far
+It passes on what `rt ci` prints and looks at its processes twice a second. The row `rt` is what all of them but the prover
+take, `rt ci` itself before all: on one processor it sums up the text of the libraries below each library once for each way
+through crates.txt that leads to them. Before the last line, which stays the last, it prints once more the lines that say
+what failed, and the table of docs/GATE.md. RT_JOBS says on how many processors the gate runs. FILE gets the table so far
 each minute, so that a run that is stopped tells what it cost.
 """
 
@@ -36,41 +36,37 @@ def is_below(entry):
     return False
 
 
-def prover_processes():
-    """Yields each process of the prover: what tells it from others, its crate and phase, its processor seconds so far."""
+def part_of(words, entry):
+    """Returns the crate and the phase that a process works for: the prover's of one crate, or those of `rt`."""
+    if not words[0].endswith("/rattle") or "--crate-name" not in words:
+        return "rt", "proof"
+    folder = os.readlink(f"/proc/{entry}/cwd")
+    phase = "edits" if "rt-edit-" in folder else "tests" if "--test" in words else "proof"
+    return words[words.index("--crate-name") + 1], phase
+
+
+def processes():
+    """Yields each process below this one: what tells it from others, its crate and phase, its own processor seconds so far."""
     for entry in filter(str.isdigit, os.listdir("/proc")):
         try:
+            if entry == str(os.getpid()) or not is_below(entry):
+                continue
             words = pathlib.Path(f"/proc/{entry}/cmdline").read_text(errors="replace").split("\0")
-            if not words[0].endswith("/rattle") or "--crate-name" not in words:
-                continue
-            if not is_below(entry):
-                continue
-            folder = os.readlink(f"/proc/{entry}/cwd")
             times = pathlib.Path(f"/proc/{entry}/stat").read_text(errors="replace").rpartition(")")[2].split()
+            part = part_of(words, entry)
         except OSError:
             continue
-        crate = words[words.index("--crate-name") + 1]
-        phase = "edits" if "rt-edit-" in folder else "tests" if "--test" in words else "proof"
-        yield (entry, times[19]), (crate, phase), (int(times[11]) + int(times[12])) / TICKS
+        yield (entry, times[19]), part, (int(times[11]) + int(times[12])) / TICKS
 
 
-def own_seconds(process):
-    """Returns the processor seconds that a process took so far, without those of its children."""
-    try:
-        times = pathlib.Path(f"/proc/{process}/stat").read_text(errors="replace").rpartition(")")[2].split()
-    except OSError:
-        return 0
-    return (int(times[11]) + int(times[12])) / TICKS
-
-
-def watch(seconds, gate, is_over, file):
-    """Notes the processor seconds of each crate and phase, and of the gate's own process, until the run is over."""
+def watch(seconds, is_over, file):
+    """Notes the processor seconds of each crate and phase until the run is over."""
     began = written = time.monotonic()
     while not is_over.wait(0.5):
-        own = seconds["rt", "proof"]
-        own[gate.pid] = max(own_seconds(gate.pid), own.get(gate.pid, 0))
-        for process, part, used in prover_processes():
-            seconds[part][process] = used
+        for process, part, used in processes():
+            # a process may become another by `exec`, or be read while it ends
+            seen = seconds[part].get(process, 0)
+            seconds[part][process] = max(used, seen)
         now = time.monotonic()
         if file and now - written > 60:
             file.write_text(table(seconds, (now - began) / 60))
@@ -97,7 +93,7 @@ def main():
     file = pathlib.Path(sys.argv[1]) if len(sys.argv) > 1 else None
     began, last, faults = time.monotonic(), "", collections.deque(maxlen=FAULTS)
     with subprocess.Popen(["rt", "ci"], cwd=TOP, stdout=subprocess.PIPE, text=True, errors="replace") as gate:
-        watcher = threading.Thread(target=watch, args=(seconds, gate, is_over, file), daemon=True)
+        watcher = threading.Thread(target=watch, args=(seconds, is_over, file), daemon=True)
         watcher.start()
         for line in gate.stdout:
             print(last, end="", flush=True)

@@ -12,9 +12,10 @@ use Rattle.answer_publisher.specs.declared.keys.Publication.TheVariants as publi
 use Rattle.messages.specs.HandedRr.{HandedRr}
 use Rattle.answer_zone.specs.Accepting.{IsAccepted}
 use Rattle.answer_publisher.specs.Bindings.{BoundKey, ZoneKeys, dnskeys, ds_cmp, ds_of, ds_set, published}
-use Rattle.answer_judge.specs.Given as spelled
+use Rattle.answer_zone.specs.Given as spelled
 use Rattle.messages.specs.Handed.{IsHanded}
-use Rattle.answer_judge.specs.Judging.{has_equal_tags, is_allowed}
+use Rattle.answer_zone.specs.EqualTags.{has_equal_tags}
+use Rattle.answer_zone.specs.Asking.{is_allowed}
 use Rattle.answer_judge.specs.Meeting.{HasDs, WasGiven, holds, zone_from}
 use Rattle.messages.specs.Message.{Asked}
 use Rattle.answer_publisher.specs.Publishing.{digest_at, second_of}

@@ -24,7 +24,8 @@ use Rattle.messages.specs.HandedRr.{HandedRr}
 use Rattle.answer_zone.specs.Accepting.{IsAccepted, sorted_records, zone_of}
 use Rattle.answer_publisher.specs.Bindings as bindings
 use Rattle.answer_publisher.specs.Bindings.{ZoneKeys, apply, ds_set}
-use Rattle.answer_judge.specs.Judging.{Says, answer_of, hashes_of, is_allowed, verifications_of}
+use Rattle.answer_judge.specs.Judging.{Says, answer_of, hashes_of, verifications_of}
+use Rattle.answer_zone.specs.Asking.{is_allowed}
 use Rattle.answer_judge.specs.Judged.{AnswersAs}
 use Rattle.answer_judge.specs.Meeting.{IsJudgement, holds}
 use Rattle.messages.specs.Message.{Asked}

@@ -22,7 +22,8 @@ use Rattle.answer_publisher.specs.Publishing.{digest_at, second_of}
 use Rattle.answer_publisher.specs.World.{World, AnswersKeysQuestion, AnswersQuestion, RefusesKeysQuestion, RefusesQuestion, SpellsAnswer, SpellsKeys}
 use Rattle.answer_judge.specs.Meeting.{IsJudgement}
 use Rattle.messages.specs.WrittenLaws.{IsQuestion}
-use Rattle.answer_judge.specs.Judging.{Handing, answer_of, verifications_of, hashes_of, is_allowed}
+use Rattle.answer_judge.specs.Judging.{Handing, answer_of, verifications_of, hashes_of}
+use Rattle.answer_zone.specs.Asking.{is_allowed}
 
 -- what was shown
 pub data Shown : Type 0 where

@@ -12,7 +12,7 @@ use Rattle.definitions.proofs.NameLaws.{name_cmp_total, apex_first, interval}
 use Rattle.messages.specs.HandedRr.{HandedRr}
 use Rattle.answer_zone.specs.Accepting.{zone_with}
 use Rattle.answer_rules.specs.Rules.{Link, at_owner, below_cut, by_star, closest, covered, decided, first_some, is_cut_link, link_covers, or_else}
-use Rattle.answer_judge.specs.Judging.{is_allowed}
+use Rattle.answer_zone.specs.Asking.{is_allowed}
 use Rattle.messages.specs.Message.{Asked}
 use Rattle.answer_zone.specs.ZoneView.{IsPublished}
 use Rattle.answer_judge.proofs.DenialLink.{Owns, Speaks}

@@ -13,9 +13,10 @@ use Rattle.definitions.specs.Zone.{apex_of, sorted_data}
 use Rattle.messages.specs.HandedRr.{HandedRr}
 use Rattle.answer_scheme.specs.Answers.{Answers}
 use Rattle.answer_judge.specs.Facts.{digests_to, is_trusted, is_usable, names_key}
-use Rattle.answer_judge.specs.Given.{AreGroups, AreRecords, AreSignatures, GivesKeys, IsRecord, IsSignature, fields_for}
+use Rattle.answer_zone.specs.Given.{AreGroups, AreRecords, AreSignatures, GivesKeys, IsRecord, IsSignature, fields_for}
 use Rattle.answer_judge.specs.Judged.{is_chained, keys_of, trusting}
-use Rattle.answer_judge.specs.Judging.{Handing, has_equal_tags, key_at, keys_in}
+use Rattle.answer_judge.specs.Judging.{Handing, key_at, keys_in}
+use Rattle.answer_zone.specs.EqualTags.{has_equal_tags}
 use Rattle.answer_judge.specs.Meeting.{HasDs, IsZoneKey, WasGiven, served_from}
 use Rattle.messages.specs.Message.{Spelled, data_of}
 use Rattle.answer_zone.specs.Served.{Group, Served, by_tag, key_group}

@@ -8,12 +8,13 @@ use Rattle.definitions.specs.Zone.{Unsigned}
 use Rattle.messages.specs.HandedRr.{HandedRr}
 use Rattle.answer_scheme.specs.Answers.{Answers}
 use Rattle.answer_judge.specs.Facts.{fits_key, is_usable}
-use Rattle.answer_judge.specs.Given.{fields_for}
+use Rattle.answer_zone.specs.Given.{fields_for}
 use Rattle.answer_judge.specs.declared.judge.verdict.Refusal.{Refusal}
 use Rattle.answer_judge.specs.declared.judge.verdict.Refusal.TheVariants as r
 use Rattle.messages.specs.declared.error.MessageError.{MessageError}
 use Rattle.answer_judge.specs.Judged.{judged, judged_answer, judged_messages, keys_of, trusting}
-use Rattle.answer_judge.specs.Judging.{Answer, Handing, Refuses, Says, first_refusal, has_equal_tags, message_refusal, same_question}
+use Rattle.answer_judge.specs.Judging.{Answer, Handing, Refuses, Says, first_refusal, message_refusal, same_question}
+use Rattle.answer_zone.specs.EqualTags.{has_equal_tags}
 use Rattle.answer_judge.specs.Meeting.{HasDs, IsZoneKey, WasGiven, served_from}
 use Rattle.messages.specs.Message.{Asked, Message}
 use Rattle.answer_zone.specs.Served.{Group, answer_groups, by_tag}

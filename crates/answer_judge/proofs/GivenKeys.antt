@@ -13,7 +13,7 @@ use Rattle.definitions.specs.Dnskey.{Dnskey, dnskey_data, dnskey_of_data, key_ta
 use Rattle.definitions.specs.Signing.{Fields}
 use Rattle.answer_zone.proofs.KeyData.{key_read_back}
 use Rattle.answer_judge.specs.Facts.{fits_key}
-use Rattle.answer_judge.specs.Judging.{clashes, has_equal_tags}
+use Rattle.answer_zone.specs.EqualTags.{clashes, has_equal_tags}
 use Rattle.answer_zone.specs.Served.{by_tag}
 use Rattle.answer_judge.proofs.GivenSorted.{all_has, filter_from, filter_has, find_only, sorted_has}
 use Rattle.messages.proofs.Lists.{Has, all_at, all_fail, any_from, found}

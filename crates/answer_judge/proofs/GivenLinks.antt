@@ -9,7 +9,7 @@ use Rattle.definitions.specs.Name.{Name, at_or_above, wire}
 use Rattle.definitions.specs.Dnskey.{Dnskey}
 use Rattle.definitions.specs.Zone.{sorted_data}
 use Rattle.answer_rules.specs.Rules.{Link}
-use Rattle.answer_judge.specs.Given.{AreGroups, AreRecords, AreSignatures, IsRecord, IsSignature}
+use Rattle.answer_zone.specs.Given.{AreGroups, AreRecords, AreSignatures, IsRecord, IsSignature}
 use Rattle.answer_judge.proofs.GivenGroups.{SameLink, SaysLink, has_twins, is_nsec}
 use Rattle.messages.specs.Message.{Spelled, nsec_at}
 use Rattle.answer_zone.specs.Served.{Group}

@@ -13,7 +13,7 @@ use Rattle.messages.specs.HandedRr.{HandedRr}
 use Rattle.answer_zone.specs.Accepting.{zone_with}
 use Rattle.answer_scheme.specs.Answers.{Answers}
 use Rattle.answer_rules.specs.Rules.{Link, decided}
-use Rattle.answer_judge.specs.Given.{AreGroups}
+use Rattle.answer_zone.specs.Given.{AreGroups}
 use Rattle.answer_judge.proofs.GivenGroups.{SameLink, SaysLink, has_twins, is_nsec, is_rrset}
 use Rattle.answer_judge.specs.Judged.{by_facts, judged_answer, trusting}
 use Rattle.answer_judge.specs.Judging.{Handing, Says}
@@ -29,7 +29,8 @@ use Rattle.answer_judge.proofs.DenialLink.{Linked, Speaks, speaks_for_name}
 use Rattle.answer_judge.proofs.DenialNames.{Encloser, encloser_of}
 use Rattle.answer_judge.proofs.DenialNoName.{IsOneOf, decided_no_name}
 use Rattle.answer_judge.proofs.DenialPairs.{Chosen, chosen_by_two, chosen_there, filter_agree}
-use Rattle.answer_judge.proofs.DenialTypes.{inside_apex, link_types, not_nsec, not_rrsig}
+use Rattle.answer_zone.proofs.AllowedTypes.{inside_apex, not_nsec, not_rrsig}
+use Rattle.answer_judge.proofs.DenialTypes.{link_types}
 use Rattle.answer_judge.proofs.GivenLinks.{IsProof, verified_links_given}
 use Rattle.answer_judge.proofs.GivenSignatures.{verified_rrset_missing}
 use Rattle.answer_judge.proofs.GivenVerdict.{IsAnswered, given_verdict}

@@ -9,7 +9,7 @@ use Rattle.std.proofs.lemmas.List.Elements.{filter_map-append}
 use Rattle.definitions.specs.Name.{Name, labels_eq, low, same}
 use Rattle.definitions.specs.Dnskey.{Dnskey}
 use Rattle.definitions.specs.Zone.{sorted_data}
-use Rattle.answer_judge.specs.Given.{AreGroups, AreRecords, AreSignatures, IsRecord, IsSignature}
+use Rattle.answer_zone.specs.Given.{AreGroups, AreRecords, AreSignatures, IsRecord, IsSignature}
 use Rattle.answer_judge.proofs.GivenGroups.{has_twins, is_rrset}
 use Rattle.messages.specs.Message.{Spelled, canonical_data}
 use Rattle.answer_zone.specs.Served.{Group}

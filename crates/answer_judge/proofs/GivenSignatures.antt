@@ -8,7 +8,7 @@ use Rattle.definitions.specs.Dnskey.{Dnskey}
 use Rattle.definitions.specs.Signing.{Fields, label_count}
 use Rattle.definitions.specs.Zone.{sorted_data}
 use Rattle.answer_judge.specs.Facts.{fits_key, is_due, signs}
-use Rattle.answer_judge.specs.Given.{AreGroups, AreSignatures, IsSignature, fields_for, octets_for}
+use Rattle.answer_zone.specs.Given.{AreGroups, AreSignatures, IsSignature, fields_for, octets_for}
 use Rattle.answer_judge.proofs.GivenGroups.{has_twins, is_rrset}
 use Rattle.answer_judge.specs.Meeting.{holds}
 use Rattle.messages.specs.Message.{Spelled, rrsig_at}

@@ -12,10 +12,11 @@ use Rattle.answer_zone.specs.Accepting.{zone_with}
 use Rattle.answer_scheme.specs.Answers.{Answers}
 use Rattle.answer_judge.specs.Facts.{fits_key}
 use Rattle.answer_rules.specs.Rules.{Link, decided}
-use Rattle.answer_judge.specs.Given.{AreGroups, fields_for}
+use Rattle.answer_zone.specs.Given.{AreGroups, fields_for}
 use Rattle.answer_judge.proofs.GivenGroups.{SameLink, SaysLink, is_rrset}
 use Rattle.answer_judge.specs.Judged.{by_facts, judged_answer, trusting}
-use Rattle.answer_judge.specs.Judging.{Handing, Says, is_allowed}
+use Rattle.answer_judge.specs.Judging.{Handing, Says}
+use Rattle.answer_zone.specs.Asking.{is_allowed}
 use Rattle.answer_zone.proofs.LinkLists.{link_group}
 use Rattle.answer_judge.specs.Meeting.{holds}
 use Rattle.messages.specs.Message.{Message}
@@ -26,10 +27,11 @@ use Rattle.answer_zone.specs.ZoneView.{IsPublished}
 use Rattle.answer_judge.proofs.AnswerRrsets.{AreNamed, link_inside, link_labels, low-link_owner, low-next_spelled, next_spelled, soa_not_asked, some_data, sorted_already}
 use Rattle.answer_judge.proofs.DenialDecided.{IsLinkOf, decided_no_type}
 use Rattle.answer_judge.proofs.DenialLink.{Speaks, speaks_for_name}
-use Rattle.answer_judge.proofs.DenialTypes.{inside_apex, link_types, not_nsec, not_rrsig}
+use Rattle.answer_zone.proofs.AllowedTypes.{inside_apex, not_nsec, not_rrsig}
+use Rattle.answer_judge.proofs.DenialTypes.{link_types}
 use Rattle.answer_judge.proofs.GivenLinks.{IsProof, verified_links_given}
 use Rattle.answer_judge.proofs.GivenSignatures.{IsSignedBy, verified_rrset_given, verified_rrset_missing}
-use Rattle.answer_judge.proofs.DenialTypes.{allowed_plain}
+use Rattle.answer_zone.proofs.AllowedTypes.{allowed_plain}
 use Rattle.answer_zone.proofs.ZoneAnswers.{groups_found, groups_without_type, verdict_found, verdict_without_type}
 use Rattle.answer_zone.proofs.ZoneChains.{proofs_are}
 use Rattle.answer_zone.proofs.ZoneData.{label_count-low}

@@ -11,7 +11,8 @@ use Rattle.answer_rules.specs.Rules.{Link, decided}
 use Rattle.answer_rules.specs.declared.verdict.Verdict.{Verdict as CodeVerdict}
 use Rattle.answer_judge.specs.declared.judge.verdict.Refusal.{Refusal}
 use Rattle.answer_judge.specs.declared.judge.verdict.Refusal.TheVariants as r
-use Rattle.answer_judge.specs.Judging.{Answer, Refuses, Handing, is_allowed, first_refusal, message_refusal, keys_in, AnswersFirst}
+use Rattle.answer_judge.specs.Judging.{Answer, Refuses, Handing, first_refusal, message_refusal, keys_in, AnswersFirst}
+use Rattle.answer_zone.specs.Asking.{is_allowed}
 use Rattle.answer_rules.specs.Rules.{verdict_of}
 use Rattle.messages.specs.Message.{Message, Spelled, message}
 use Rattle.answer_judge.specs.Verified.{is_verified, verified_rrset, verified_links}

@@ -1,10 +1,9 @@
 -- What a judge is handed, what it answers, and what it promises.
-use Rattle.std.specs.Prelude.{◌≡◌, MatchBool, ℕ, ◌+◌, ◌≤◌, Bool, true, false, not, ◌&&◌, ◌==◌, List, [], ◌∷◌, filter, length, Option, Some, None, Result, Ok, Err, IsTrue, nat_le, nat_eq, if◌then◌else◌}
-use Rattle.std.specs.List.{list_any, filter_map}
-use Rattle.definitions.specs.Name.{Name, same, at_or_above}
-use Rattle.definitions.specs.Dnskey.{Dnskey, Ds, key_tag, same_key, dnskey_of_data}
-use Rattle.definitions.specs.Zone.{Verdict, Records, NoType, NoName, StarRecords, StarNoType, Delegated, Open, Unsigned}
-use Rattle.messages.specs.HandedRr.{among}
+use Rattle.std.specs.Prelude.{◌≡◌, MatchBool, ℕ, ◌+◌, ◌≤◌, Bool, true, false, not, ◌&&◌, ◌==◌, List, [], filter, length, Option, Some, None, Result, Ok, Err, IsTrue, nat_eq, if◌then◌else◌}
+use Rattle.std.specs.List.{filter_map}
+use Rattle.definitions.specs.Name.{Name, same}
+use Rattle.definitions.specs.Dnskey.{Dnskey, Ds, dnskey_of_data}
+use Rattle.definitions.specs.Zone.{Verdict, Unsigned}
 use Rattle.messages.specs.Message.{Spelled, Asked, message, data_of}
 use Rattle.answer_rules.specs.Rules.{verdict_of}
 use Rattle.answer_judge.specs.declared.judge.verdict.Refusal.{Refusal}
@@ -39,13 +38,6 @@ pub record Handing : Type 0 where
   pub now : ℕ
   pub limit : ℕ
 
--- Questions that are answered and judged: class IN, at or below the apex, and none of the types that signing
--- adds, of aliases, or that no zone holds (RFC 6895, 3.1).
-abbrev pub is_allowed : Name → Asked → Bool
-is_allowed apex q =
-    (q.class == 1) && at_or_above apex q.name
-    && not (among (46 ∷ 47 ∷ 48 ∷ 50 ∷ 51 ∷ 5 ∷ 39 ∷ 0 ∷ 41 ∷ []) q.rtype) && not (nat_le 128 q.rtype && nat_le q.rtype 255)
-
 -- ---- the first refusals
 
 -- the same question, names up to case
@@ -58,13 +50,6 @@ key_at m apex s = if same s.owner apex && (s.rtype == 48) && (s.class == 1) then
 
 abbrev pub keys_in : List ℕ → Name → List Spelled → List Dnskey
 keys_in m apex rs = filter_map (key_at m apex) rs
-
--- two unlike keys of one tag
-abbrev pub clashes : Dnskey → Dnskey → Bool
-clashes a b = (key_tag a == key_tag b) && not (same_key a b)
-
-abbrev pub has_equal_tags : List Dnskey → Bool
-has_equal_tags ks = list_any (λ a. list_any (clashes a) ks) ks
 
 -- what the messages themselves bring, beside a DS set that isn't empty
 abbrev pub message_refusal : ℕ → Handing → Option Refusal

@@ -1,4 +1,3 @@
-pub mod Given
 pub mod Judging
 pub mod Facts
 pub mod Verified

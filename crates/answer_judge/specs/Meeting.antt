@@ -10,9 +10,11 @@ use Rattle.messages.specs.HandedRr.{HandedRr}
 use Rattle.answer_zone.specs.Accepting.{IsAccepted, sorted_records, zone_of}
 use Rattle.answer_scheme.specs.Answers.{Answers}
 use Rattle.answer_judge.specs.Facts.{is_usable}
-use Rattle.answer_judge.specs.Given.{GivesKeys, GivesAnswer}
+use Rattle.answer_zone.specs.Given.{GivesKeys, GivesAnswer}
 use Rattle.messages.specs.Handed.{IsHanded}
-use Rattle.answer_judge.specs.Judging.{Answer, Says, Handing, Judges, answer_of, verifications_of, hashes_of, is_allowed, has_equal_tags}
+use Rattle.answer_judge.specs.Judging.{Answer, Says, Handing, Judges, answer_of, verifications_of, hashes_of}
+use Rattle.answer_zone.specs.Asking.{is_allowed}
+use Rattle.answer_zone.specs.EqualTags.{has_equal_tags}
 use Rattle.answer_judge.specs.declared.judge.verdict.Judgement.{Judgement}
 use Rattle.answer_judge.specs.declared.judge.verdict.Refused.{Refused}
 use Rattle.answer_judge.specs.Judged.{AnswersAs, judged}

@@ -14,7 +14,8 @@ ghost use Rattle.messages.specs.View.{Gives};
 ghost use Rattle.answer_judge.specs.Facts.{is_signature, RefusesFirst, handed};
 ghost use Rattle.answer_judge.specs.Judged.{judged, judged_beyond, said, AnswersAs};
 ghost use Rattle.answer_judge.specs.Meeting.{AnswersGiven};
-ghost use Rattle.answer_judge.specs.Judging.{Judges, answer_of, verifications_of, hashes_of, is_allowed, is_first, message_refusal, same_question, verification_bound};
+ghost use Rattle.answer_judge.specs.Judging.{Judges, answer_of, verifications_of, hashes_of, is_first, message_refusal, same_question, verification_bound};
+ghost use Rattle.answer_zone.specs.Asking.{is_allowed};
 
 pub mod by_scheme;
 mod facts;
@@ -28,10 +29,11 @@ use crate::judge::keys::{TaggedKey, has_equal_tags, read_keys, trusted_keys, usa
 use crate::judge::verdict::{Judgement, Refusal, Refused, Verdict};
 use answer_rules::decide::decide;
 use answer_scheme::checks::Checks;
+use answer_zone::question::is_allowed;
 use answer_zone::ranked::put_cow_data;
 use denial_data::Ds;
 use messages::error::MessageError;
-use messages::names::{Name, ToName, cow_name, is_at_or_above};
+use messages::names::{Name, ToName, cow_name};
 use messages::question::Question;
 use messages::{MessageView, ViewRecord, read_message_into};
 use names_data::rtype::Rtype;
@@ -109,19 +111,6 @@ pub fn judge<C: Checks>(
             hashes: 0,
         }),
     }
-}
-
-/// Whether a question is answered and judged: class IN, at or below the apex, and none of the types that signing
-/// adds, of aliases, or that no zone holds (RFC 6895, 3.1).
-pub fn is_allowed(apex: &Name<Vec<u8>>, question: &Question) -> bool
-    ensures { result ≡ is_allowed apex.now (asked_of question.now) }
-{
-    question.class == Class::IN
-        && is_at_or_above(apex, &question.name)
-        && !matches!(
-            question.rtype.to_int(),
-            46 | 47 | 48 | 50 | 51 | 5 | 39 | 0 | 41 | 128..=255
-        )
 }
 
 /// The verdict of two messages beside a DS set that isn't empty. The count rises by one with each signature that

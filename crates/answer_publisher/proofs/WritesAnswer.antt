@@ -7,7 +7,7 @@ use Rattle.definitions.specs.Name.{Name, IsName}
 use Rattle.definitions.specs.Dnskey.{Dnskey}
 use Rattle.messages.specs.Message.{Asked}
 use Rattle.answer_zone.specs.Served.{Group}
-use Rattle.answer_judge.specs.Given.{AreGroups, Gives}
+use Rattle.answer_zone.specs.Given.{AreGroups, Gives}
 use Rattle.answer_zone.specs.GroupView.{GroupView, Presents, view_of}
 use Rattle.answer_publisher.specs.Composed.{IsAnswer, IsWritten, joined}
 use Rattle.messages.specs.Written.{Written, record_octets}

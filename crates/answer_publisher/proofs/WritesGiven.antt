@@ -6,7 +6,7 @@ use Rattle.definitions.specs.ZoneChain.{Mode, Nsec}
 use Rattle.definitions.specs.Zone.{apex_of}
 use Rattle.definitions.specs.Limits.{pointer_limit}
 use Rattle.answer_publisher.specs.Answering.{AnswersKeys, AnswersZone}
-use Rattle.answer_judge.specs.Given.{GivesAnswer, GivesKeys}
+use Rattle.answer_zone.specs.Given.{GivesAnswer, GivesKeys}
 use Rattle.messages.specs.Handed.{AreHanded}
 use Rattle.messages.specs.Message.{Asked}
 use Rattle.answer_zone.specs.Hashing.{hash_in, served}

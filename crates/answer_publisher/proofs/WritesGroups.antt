@@ -8,7 +8,7 @@ use Rattle.definitions.specs.Name.{Name, IsName}
 use Rattle.definitions.specs.Dnskey.{Dnskey}
 use Rattle.answer_zone.specs.GroupView.{view_of}
 use Rattle.answer_zone.specs.Served.{Group}
-use Rattle.answer_judge.specs.Given.{AreGroups}
+use Rattle.answer_zone.specs.Given.{AreGroups}
 use Rattle.answer_publisher.specs.Composed.{IsWritten, joined, rrsig_of}
 use Rattle.messages.specs.Written.{Written, record_octets}
 use Rattle.messages.specs.WrittenLaws.{IsRecord, spelled_at, spelled_from}

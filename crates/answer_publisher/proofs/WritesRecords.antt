@@ -9,7 +9,7 @@ use Rattle.definitions.specs.Signing.{Fields, canonical_record, label_count, sig
 use Rattle.definitions.specs.Limits.{pointer_limit}
 use Rattle.messages.specs.Message.{Spelled, canonical_data}
 use Rattle.answer_zone.specs.Served.{Group}
-use Rattle.answer_judge.specs.Given.{AreRecords, AreSignatures, IsSignature, KeepsOwn}
+use Rattle.answer_zone.specs.Given.{AreRecords, AreSignatures, IsSignature, KeepsOwn}
 use Rattle.answer_zone.specs.GroupView.{GroupView, IsRrsigData, fields_of, view_of}
 use Rattle.answer_publisher.specs.Composed.{rrsig_of}
 use Rattle.messages.specs.Written.{Written, record_octets}

@@ -7,7 +7,7 @@ use Rattle.definitions.specs.Zone.{apex_of, verdict}
 use Rattle.messages.specs.Message.{Asked}
 use Rattle.answer_zone.specs.GroupView.{GroupView, Presents}
 use Rattle.answer_publisher.specs.Composed.{IsAnswer, RefusesGroups}
-use Rattle.answer_judge.specs.Judging.{is_allowed}
+use Rattle.answer_zone.specs.Asking.{is_allowed}
 use Rattle.messages.specs.Written.{question_octets}
 use Rattle.answer_publisher.specs.declared.fault.AnswerFault.{AnswerFault}
 use Rattle.answer_publisher.specs.declared.fault.AnswerFault.TheVariants as fault

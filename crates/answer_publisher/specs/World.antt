@@ -11,7 +11,7 @@ use Rattle.answer_zone.specs.ZoneView.{AcceptedZone}
 use Rattle.answer_zone.specs.Hashing.{served}
 use Rattle.answer_zone.specs.Served.{Served}
 use Rattle.answer_scheme.specs.Answers.{Answers}
-use Rattle.answer_judge.specs.Given as spelled
+use Rattle.answer_zone.specs.Given as spelled
 use Rattle.answer_publisher.specs.declared.publishing.Publisher.{Publisher}
 use Rattle.answer_publisher.specs.declared.fault.AnswerFault.{AnswerFault}
 use Rattle.answer_publisher.specs.declared.keys.Publication.TheVariants as publication

@@ -3,7 +3,7 @@ ghost use Rattle.std.specs.Prelude.{◌≡◌, ◌⊎◌, ◌<◌, ◌≤◌, �
 ghost use Rattle.std.specs.List.{AllByRecursion};
 ghost use Rattle.definitions.specs.Name.{IsName, low};
 ghost use Rattle.messages.specs.Handed.{IsHanded};
-ghost use Rattle.answer_judge.specs.Judging.{is_allowed};
+ghost use Rattle.answer_zone.specs.Asking.{is_allowed};
 ghost use Rattle.messages.specs.Questions.{asked_of};
 ghost use Rattle.answer_zone.specs.Served.{key_group, ttl_among};
 ghost use Rattle.answer_zone.specs.GroupView.{Presents};
@@ -21,7 +21,7 @@ use crate::compose::compose_answer;
 use crate::fault::{AnswerFault, KeyFault, Mode, ZoneFault};
 use crate::keys::{KeyKind, NewKey, Publication, ZoneKeys};
 use crate::signing::SignatureTerms;
-use answer_judge::judge::is_allowed;
+use answer_zone::question::is_allowed;
 use answer_scheme::error::SchemeError;
 use answer_scheme::scheme::Scheme;
 use answer_zone::dnskey::{Dnskey, ZoneKey};

@@ -17,3 +17,4 @@ pub mod ZoneGroups
 pub mod LinkLists
 pub mod TagPlaces
 pub mod KeyData
+pub mod AllowedTypes

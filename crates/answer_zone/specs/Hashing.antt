@@ -1,19 +1,14 @@
 -- How a zone is served under a hasher.
-use Rattle.std.specs.Prelude.{ℕ, List, [], Option, Some, None}
+use Rattle.std.specs.Prelude.{ℕ, List, [], Option, unwrap_or}
 use Rattle.definitions.specs.Name.{Name, wire, low}
 use Rattle.definitions.specs.ZoneChain.{Mode, Nsec, Nsec3}
 use Rattle.answer_zone.specs.Served.{Served, served_of}
 use Rattle.answer_zone.specs.ZoneView.{AcceptedZone}
 
--- a hash, or no octets where it fails
-abbrev pub hash_or_none : Option (List ℕ) → List ℕ
-hash_or_none None = []
-hash_or_none (Some h) = h
-
--- the hash of a name under the chain's parameters
+-- the hash of a name under the chain's parameters, or no octets where it fails
 abbrev pub hash_in : (List ℕ → ℕ → ℕ → List ℕ → Option (List ℕ)) → Mode → Name → List ℕ
 hash_in hash Nsec n = []
-hash_in hash (Nsec3 iterations salt optout) n = hash_or_none (hash (wire (low n)) 1 iterations salt)
+hash_in hash (Nsec3 iterations salt optout) n = unwrap_or (hash (wire (low n)) 1 iterations salt) []
 
 -- how the zone is served
 abbrev pub served : (List ℕ → ℕ → ℕ → List ℕ → Option (List ℕ)) → AcceptedZone → Served

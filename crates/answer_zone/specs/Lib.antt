@@ -5,3 +5,6 @@ pub mod ZoneView
 pub mod GroupView
 pub mod Hashing
 pub mod ZoneAnswers
+pub mod Asking
+pub mod EqualTags
+pub mod Given

@@ -5,5 +5,6 @@
 pub mod dnskey;
 pub mod fault;
 pub mod group;
+pub mod question;
 pub mod ranked;
 pub mod zone;

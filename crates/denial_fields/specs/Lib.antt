@@ -1,4 +1,3 @@
-pub mod Blocks
 pub mod Counted
 pub mod Ended
 pub mod Fields

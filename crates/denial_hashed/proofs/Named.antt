@@ -7,10 +7,11 @@ use Rattle.definitions.specs.Name.{Name, low, wire}
 use Rattle.definitions.proofs.Members.{in_contained, in_map, any_in}
 use Rattle.definitions.proofs.ZoneNames.{low-low}
 use Rattle.plain.specs.declared.record.Record.{Record}
-use Rattle.denial_hashed.specs.Walk.{owner_name, spot, last_spots}
+use Rattle.denial_hashed.specs.Walk.{spot, last_spots}
+use Rattle.denial_sorted.specs.Groups.{group_owner}
 
 -- the owner is that of the first record
-pub owner_spelled : {N D : Type 0} (name : N → Name) (g : List (Record N D)) (n : N) → Some n ≡ option_map (λ r. r.owner) (slice_get g 0) → owner_name name g ≡ low (name n)
+pub owner_spelled : {N D : Type 0} (name : N → Name) (g : List (Record N D)) (n : N) → Some n ≡ option_map (λ r. r.owner) (slice_get g 0) → group_owner name g ≡ low (name n)
 owner_spelled name [] n e = absurd cc
 owner_spelled {N} name (r ∷ g) n e = let same : n ≡ r.owner = cc in ap (λ m. low (name m)) (sym same)
 
@@ -20,7 +21,7 @@ low_drop (suc k) [] = refl
 low_drop (suc k) (l ∷ m) = low_drop k m
 
 -- what is written of the owner
-pub written_name : {N D : Type 0} (name : N → Name) (g : List (Record N D)) (n : N) (k : ℕ) → Some n ≡ option_map (λ r. r.owner) (slice_get g 0) → wire (low (drop k (name n))) ≡ wire (low (drop k (owner_name name g)))
+pub written_name : {N D : Type 0} (name : N → Name) (g : List (Record N D)) (n : N) (k : ℕ) → Some n ≡ option_map (λ r. r.owner) (slice_get g 0) → wire (low (drop k (name n))) ≡ wire (low (drop k (group_owner name g)))
 written_name name g n k e = ap wire (sym (low_drop k (name n)) ∙ ap (λ m. low (drop k m)) (sym (owner_spelled name g n e)))
 
 pub last_step : {G : Type 0} (k m : ℕ) (g : G) → m + 1 ≡ k → last_spots k g ≡ spot g m ∷ last_spots m g

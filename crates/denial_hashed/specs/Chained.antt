@@ -1,5 +1,5 @@
 -- The names of a chain with their hashes (RFC 5155, 7.1).
-use Rattle.std.specs.Prelude.{◌≡◌, ◌↔◌, ℕ, Bool, true, false, ◌||◌, List, [], ◌∷◌, map, Some, IsTrue}
+use Rattle.std.specs.Prelude.{◌≡◌, ◌↔◌, Bool, true, List, map, Some, IsTrue}
 use Rattle.std.specs.Str.{bytes_eq}
 use Rattle.std.specs.List.{AllByRecursion, Contains, list_any}
 use Rattle.std.specs.Option.{is_none}
@@ -10,7 +10,8 @@ use Rattle.definitions.specs.Laws.{NoneShare}
 use Rattle.plain.specs.declared.record.Record.{Record}
 use Rattle.denial_links.specs.Hashed.{Nsec3paramData}
 use Rattle.denial_hashes.specs.Hashing.{Answers, answered, hash_by}
-use Rattle.denial_hashed.specs.Walk.{Spot, spot, spot_name, spots_of, owner_name}
+use Rattle.denial_hashed.specs.Walk.{Spot, spot, spot_name, spots_of}
+use Rattle.denial_sorted.specs.Groups.{group_owner}
 use Rattle.denial_hashed.specs.declared.names.ChainName.{ChainName}
 use Rattle.denial_hashed.specs.declared.hashed.HashedName.{HashedName}
 use Rattle.denial_hashed.specs.declared.hashed.HashedChainError.{HashedChainError}
@@ -21,7 +22,7 @@ spot_of c = spot c.group.now c.skipped
 
 -- the name, in lower case
 abbrev pub chain_name : {N D : Type 0} → (N → Name) → ChainName N D → Name
-chain_name name c = spot_name (owner_name name) (spot_of c)
+chain_name name c = spot_name (group_owner name) (spot_of c)
 
 -- the hash is what is answered for the name
 abbrev pub IsHashed : {N D : Type 0} → (N → Name) → Answers → Nsec3paramData → HashedName N D → Type 0
@@ -31,12 +32,6 @@ IsHashed name answers p h = answered answers p (chain_name name h.name) ≡ Some
 abbrev pub some_fails : Answers → Nsec3paramData → List Name → Bool
 some_fails answers p ns = list_any (λ n. is_none (answered answers p n)) ns
 
--- a test holds of an item and the next
-abbrev pub neighbours : {A : Type 0} → (A → A → Bool) → List A → Bool
-neighbours p [] = false
-neighbours p (a ∷ []) = false
-neighbours p (a ∷ b ∷ xs) = p a b || neighbours p (b ∷ xs)
-
 abbrev pub have_one_hash : {N D : Type 0} → HashedName N D → HashedName N D → Bool
 have_one_hash a b = bytes_eq a.hash.items b.hash.items
 
@@ -45,7 +40,7 @@ has_lesser_hash a b = octets_before a.hash.items b.hash.items
 
 -- the names of the chain of some owners
 abbrev pub chain_names_of : {N D : Type 0} → (N → Name) → List (List (Record N D)) → List Name
-chain_names_of name gs = map (spot_name (owner_name name)) (spots_of (owner_name name) gs)
+chain_names_of name gs = map (spot_name (group_owner name)) (spots_of (group_owner name) gs)
 
 -- The names of a chain, each once with its hash, in ascending order of hash.
 pub record IsHashedChain {N D : Type 0} (name : N → Name) (answers : Answers) (p : Nsec3paramData) (spots : List (Spot (List (Record N D)))) (hs : List (HashedName N D)) : Type 0 where

@@ -1,12 +1,6 @@
 -- The names of a chain owner by owner (RFC 5155, 7.1).
-use Rattle.std.specs.Prelude.{ℕ, zero, suc, Bool, true, List, [], ◌∷◌, ◌++◌, drop, if◌then◌else◌}
-use Rattle.definitions.specs.Name.{Name, low, at_or_above}
-use Rattle.plain.specs.declared.record.Record.{Record}
-
--- the owner of some records of one owner, in lower case
-abbrev pub owner_name : {N D : Type 0} → (N → Name) → List (Record N D) → Name
-owner_name name [] = []
-owner_name name (r ∷ rs) = low (name r.owner)
+use Rattle.std.specs.Prelude.{ℕ, zero, suc, List, [], ◌∷◌, ◌++◌, drop, if◌then◌else◌}
+use Rattle.definitions.specs.Name.{Name, at_or_above}
 
 -- how many names an owner adds behind the one before it: itself and what it stands under, but for what the one before
 -- it is or stands under too

@@ -3,7 +3,8 @@
 ghost use Rattle.std.specs.Prelude.{◌≡◌, ◌++◌, ◌<◌, map, IfOk, MatchOption, OnOk};
 ghost use Rattle.definitions.specs.Name.{low, wire};
 ghost use Rattle.denial_hashed.specs.Chained.{chain_name, spot_of};
-ghost use Rattle.denial_hashed.specs.Walk.{last_spots, owner_name, spots_of};
+ghost use Rattle.denial_hashed.specs.Walk.{last_spots, spots_of};
+ghost use Rattle.denial_sorted.specs.Groups.{group_owner};
 
 use crate::labels::fresh_labels;
 use denial_hashes::wire_form::write_lower_wire;
@@ -57,7 +58,7 @@ pub fn chain_names<'g, 'a, N: ToName, D: RecordData>(
     alloc: Global,
     owners: &'g [OwnerRrs<'a, N, D>],
 ) -> Result<Vec<ChainName<'g, 'a, N, D>>, AllocError>
-    ensures { IfOk result (λ v. map spot_of v.items ≡ spots_of (owner_name N.name) owners.now) }
+    ensures { IfOk result (λ v. map spot_of v.items ≡ spots_of (group_owner N.name) owners.now) }
 {
     let mut names = Vec::with_capacity(alloc, owners.len())?;
     let Some((apex, behind)) = owners.split_first() else {

@@ -1,5 +1,5 @@
 -- The hash of a name, and the owner of its record (RFC 5155, 3 and 5).
-use Rattle.std.specs.Prelude.{ℕ, List, [], ◌∷◌, Option, Some, None}
+use Rattle.std.specs.Prelude.{ℕ, List, [], ◌∷◌, Option, unwrap_or}
 use Rattle.definitions.specs.Base32hex.{base32hex}
 use Rattle.definitions.specs.Name.{Name, IsName, low, wire}
 use Rattle.denial_links.specs.Hashed.{Nsec3paramData}
@@ -12,13 +12,9 @@ Answers = List ℕ → ℕ → ℕ → List ℕ → Option (List ℕ)
 abbrev pub answered : Answers → Nsec3paramData → Name → Option (List ℕ)
 answered answers p n = answers (wire (low n)) p.algorithm p.iterations p.salt
 
-abbrev pub octets_or_none : Option (List ℕ) → List ℕ
-octets_or_none None = []
-octets_or_none (Some h) = h
-
 -- the hash of a name that is hashed
 abbrev pub hash_by : Answers → Nsec3paramData → Name → List ℕ
-hash_by answers p n = octets_or_none (answered answers p n)
+hash_by answers p n = unwrap_or (answered answers p n) []
 
 -- the hash in base32hex under the apex
 abbrev pub hashed_owner : Name → List ℕ → Name

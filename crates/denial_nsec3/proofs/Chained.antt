@@ -5,7 +5,7 @@ use Rattle.std.specs.Str.{bytes_eq}
 use Rattle.std.specs.Prelude.{nat_eq, filter, not, ◌==◌, if◌then◌else◌}
 use Rattle.std.specs.List.{AllByRecursion, list_any, flat_map, Contains}
 use Rattle.std.specs.List.Sorted.{IsStrictlySortedBy}
-use Rattle.std.specs.Option.{is_none}
+use Rattle.std.specs.Option.{is_none, unwrap_or}
 use Rattle.std.specs.declared.cmp.Ordering.{Ordering}
 use Rattle.std.specs.declared.cmp.Ordering.TheVariants.{Less, Equal, Greater}
 use Rattle.std.specs.Ordering.{nat_cmp, ordering_reverse}
@@ -26,17 +26,17 @@ use Rattle.definitions.proofs.ZoneNames.{and_parts, and_from, low-low, chain_kep
 use Rattle.plain.specs.ZoneData.{zone_canonical, zone_type}
 use Rattle.plain.specs.declared.record.Record.{Record}
 use Rattle.plain.specs.declared.zone_data.ZoneRecordData.{ZoneRecordData}
-use Rattle.denial_sorted.specs.Groups.{groups, is_at, of_one_owner, zone_cut}
-use Rattle.denial_hashes.specs.Hashing.{Answers, answered, hash_by, octets_or_none, FitsName}
+use Rattle.denial_sorted.specs.Groups.{groups, is_at, of_one_owner, zone_cut, group_owner}
+use Rattle.denial_hashes.specs.Hashing.{Answers, answered, hash_by, FitsName}
 use Rattle.denial_hashes.specs.declared.config.GenerateNsec3Config.{GenerateNsec3Config}
 use Rattle.denial_hashed.specs.Chained.{spot_of, chain_name, chain_names_of, some_fails, IsHashed, IsHashedChain}
-use Rattle.denial_hashed.specs.Walk.{Spot, spot_name, spots_of, owner_name}
+use Rattle.denial_hashed.specs.Walk.{Spot, spot_name, spots_of}
 use Rattle.denial_hashed.specs.declared.hashed.HashedName.{HashedName}
 use Rattle.denial_hashed.proofs.WalkNames.{Climbs, AreKeptOwners, names_are_chain, names_of}
 use Rattle.denial_hashed.proofs.Spots.{IsSpot, spots_are, spots_named}
 use Rattle.denial_hashed.proofs.Assembled.{all_in, map_map}
 use Rattle.denial_owners.specs.Conditions.{IsOneClass, IsZoneOrder}
-use Rattle.denial_owners.specs.Kept.{group_owner, kept_groups}
+use Rattle.denial_owners.specs.Kept.{kept_groups}
 use Rattle.denial_owners.specs.Soa.{soa_ttls, ttls_of_one}
 use Rattle.denial_owners.specs.Types.{has_type, own_types}
 use Rattle.denial_owners.specs.declared.soa.SoaTtls.{SoaTtls}
@@ -54,10 +54,6 @@ not_true false f = refl
 
 to_in : {X : Type 0} (xs : List X) (x : X) → Contains xs x → In x xs
 to_in xs x c = in_contained xs x c.0 c.1 c.2
-
-map_agree : {A B : Type 0} (f g : A → B) (xs : List A) → ((x : A) → f x ≡ g x) → map f xs ≡ map g xs
-map_agree f g [] h = refl
-map_agree f g (x ∷ xs) h = λ i. h x i ∷ map_agree f g xs h i
 
 pub strict_of : (ns : List Name) → Climbs ns → IsStrictlySortedBy name_cmp ns
 unfolding IsStrictlySortedBy
@@ -173,21 +169,14 @@ module _ {O N : Type 0} (name : N → Name) (apex : Name) (rs : List (Record N (
   abbrev pub ks : List (List Rr)
   ks = kept_groups name zone_type (zone_canonical name) apex excluding rs
 
-  alike : (g : List Rr) → group_owner name g ≡ owner_name name g
-  alike [] = refl
-  alike (r ∷ g) = refl
-
   abbrev pub os : List Name
-  os = map (owner_name name) ks
-
-  os_are : map (group_owner name) ks ≡ os
-  os_are = map_agree (group_owner name) (owner_name name) ks alike
+  os = map (group_owner name) ks
 
   pub kept_climb : Climbs os
-  kept_climb = subst Climbs os_are (rises_kept (group_owner name) keeps gs by.rises)
+  kept_climb = rises_kept (group_owner name) keeps gs by.rises
 
   in_os : (g : List Rr) → In g gs → keeps g ≡ true → In (group_owner name g) os
-  in_os g i k = let P : List Name → Type 0 = λ ns. In (group_owner name g) ns in subst P os_are (in_map (group_owner name) ks g (in_filter keeps gs g i k))
+  in_os g i k = in_map (group_owner name) ks g (in_filter keeps gs g i k)
 
   kept_owner_listed : (o : Name) → In o (kept_owners z excluding) → In o os
   kept_owner_listed o i =
@@ -198,8 +187,7 @@ module _ {O N : Type 0} (name : N → Name) (apex : Name) (rs : List (Record N (
 
   listed_owner_kept : (o : Name) → In o os → In o (kept_owners z excluding)
   listed_owner_kept o i =
-      let P : List Name → Type 0 = λ ns. In o ns in
-      let m = map_in (group_owner name) ks o (subst P (sym os_are) i) in
+      let m = map_in (group_owner name) ks o i in
       let f = filter_in keeps gs m.item m.inside in
       let Q : Name → Type 0 = λ n. In n (kept_owners z excluding) in
       subst Q (sym m.makes) (in_filter (is_kept z excluding) (owners z) (group_owner name m.item) (group_owns name zone_type (zone_canonical name) apex gs by rs (whole_of name rs) m.item f.0) f.1)
@@ -223,7 +211,7 @@ module _ {O N : Type 0} (name : N → Name) (apex : Name) (rs : List (Record N (
       contained (owners z) (apex_of z) (subst P is (in_map owner_of z.records _ (in_map (Rattle.denial_owners.specs.Zones.rr_of name zone_type (zone_canonical name)) rs r.0 f.0)))
 
   pub names_are : Contains (owners z) (apex_of z) → chain_names_of name ks ≡ nsec3_names z excluding
-  names_are c = spots_named (owner_name name) ks ∙ names_are_chain z excluding os c are_kept
+  names_are c = spots_named (group_owner name) ks ∙ names_are_chain z excluding os c are_kept
 
   -- ---- the bits of a name
 
@@ -268,28 +256,28 @@ module _ {O N : Type 0} (name : N → Name) (apex : Name) (rs : List (Record N (
           ∙ ap bitmap (sym (some_shown (zone_type r.content) (map (λ r. zone_type r.content) more) (has_type zone_type 43 (r ∷ more)) (at_apex z (group_owner name (r ∷ more)) (of_keys dnskey ++ 51 ∷ []))))
           ∙ sym (ap bitmap (λ i. shown ((delegates ∙ e) i) (ds i) (types i) (at_apex z (group_owner name (r ∷ more)) (of_keys dnskey ++ 51 ∷ []))))
 
-  no_owner : (s : Spot (List Rr)) → at_or_above (apex_of z) (spot_name (owner_name name) s) ≡ true → IsSpot (owner_name name) ks s → 0 < s.skipped
-      → ((g : List Rr) → In g ks → owner_name name g ≡ spot_name (owner_name name) s → ⊥) → In (spot_name (owner_name name) s) (owners z) → ⊥
+  no_owner : (s : Spot (List Rr)) → at_or_above (apex_of z) (spot_name (group_owner name) s) ≡ true → IsSpot (group_owner name) ks s → 0 < s.skipped
+      → ((g : List Rr) → In g ks → group_owner name g ≡ spot_name (group_owner name) s → ⊥) → In (spot_name (group_owner name) s) (owners z) → ⊥
   no_owner s inside is p none owned =
       let f = filter_in keeps gs s.owner is.inside in
-      let kept_there : is_kept z excluding (owner_name name s.owner) ≡ true = ap (is_kept z excluding) (sym (alike s.owner)) ∙ f.1 in
-      let k : is_kept z excluding (spot_name (owner_name name) s) ≡ true = below_kept z excluding (owner_name name s.owner) s.skipped kept_there p inside in
-      let listed : In (spot_name (owner_name name) s) os = kept_owner_listed (spot_name (owner_name name) s) (in_filter (is_kept z excluding) (owners z) (spot_name (owner_name name) s) owned k) in
-      let m = map_in (owner_name name) ks (spot_name (owner_name name) s) listed in
+      let kept_there : is_kept z excluding (group_owner name s.owner) ≡ true = f.1 in
+      let k : is_kept z excluding (spot_name (group_owner name) s) ≡ true = below_kept z excluding (group_owner name s.owner) s.skipped kept_there p inside in
+      let listed : In (spot_name (group_owner name) s) os = kept_owner_listed (spot_name (group_owner name) s) (in_filter (is_kept z excluding) (owners z) (spot_name (group_owner name) s) owned k) in
+      let m = map_in (group_owner name) ks (spot_name (group_owner name) s) listed in
       none m.item m.inside (sym m.makes)
 
-  pub types_are : (dnskey : Bool) (s : Spot (List Rr)) → at_or_above (apex_of z) (spot_name (owner_name name) s) ≡ true → IsSpot (owner_name name) ks s
-      → bitmap (spot_types name zone_type apex dnskey s) ≡ bitmap (nsec3_types z dnskey (spot_name (owner_name name) s))
+  pub types_are : (dnskey : Bool) (s : Spot (List Rr)) → at_or_above (apex_of z) (spot_name (group_owner name) s) ≡ true → IsSpot (group_owner name) ks s
+      → bitmap (spot_types name zone_type apex dnskey s) ≡ bitmap (nsec3_types z dnskey (spot_name (group_owner name) s))
   types_are dnskey s inside is = elim is.is [
     | inl e ↦
         let f = filter_in keeps gs s.owner is.inside in
         let T : List ℕ = group_types name zone_type apex dnskey s.owner in
         ap (λ k. bitmap (types_at_skipped k T)) e
         ∙ signed_at s.owner dnskey f.0 f.1
-        ∙ ap (λ n. bitmap (nsec3_types z dnskey n)) (alike s.owner ∙ ap (λ k. drop k (owner_name name s.owner)) (sym e))
+        ∙ ap (λ n. bitmap (nsec3_types z dnskey n)) (ap (λ k. drop k (group_owner name s.owner)) (sym e))
     | inr m ↦
         ap bitmap (skipped_none s.skipped (group_types name zone_type apex dnskey s.owner) m.0)
-        ∙ sym (ap bitmap (empty_types z dnskey (spot_name (owner_name name) s) (no_owner s inside is m.0 m.1)))
+        ∙ sym (ap bitmap (empty_types z dnskey (spot_name (group_owner name) s) (no_owner s inside is m.0 m.1)))
   ]
     where
       skipped_none : (k : ℕ) (ts : List ℕ) → 0 < k → types_at_skipped k ts ≡ []
@@ -298,7 +286,7 @@ module _ {O N : Type 0} (name : N → Name) (apex : Name) (rs : List (Record N (
 
   -- ---- names in the order of their hashes
 
-  module _ {S : Type 0} (answers : Answers) (c : GenerateNsec3Config S) (there : Contains (owners z) (apex_of z)) (hs : List (HashedName N (ZoneRecordData O N))) (made : IsHashedChain name answers c.params (spots_of (owner_name name) ks) hs) where
+  module _ {S : Type 0} (answers : Answers) (c : GenerateNsec3Config S) (there : Contains (owners z) (apex_of z)) (hs : List (HashedName N (ZoneRecordData O N))) (made : IsHashedChain name answers c.params (spots_of (group_owner name) ks) hs) where
     abbrev pub hash : Name → List ℕ
     hash = hash_by answers c.params
 
@@ -318,7 +306,7 @@ module _ {O N : Type 0} (name : N → Name) (apex : Name) (rs : List (Record N (
     by_hash_total = on_total hash nat_list_cmp_total
 
     pub hash_is : (h : Item) → In h hs → hash (item h) ≡ octets h
-    hash_is h i = ap octets_or_none (all_in (IsHashed name answers c.params) hs h made.hashes i)
+    hash_is h i = ap (λ o. unwrap_or o []) (all_in (IsHashed name answers c.params) hs h made.hashes i)
 
     rise : Rises hash_cmp nat_list_cmp_total (map octets hs)
     rise = octets_rise (map octets hs) made.ascends
@@ -338,17 +326,17 @@ module _ {O N : Type 0} (name : N → Name) (apex : Name) (rs : List (Record N (
     -- a name of the chain is one of the items, and the other way round
     pub in_names : (h : Item) → In h hs → In (item h) (nsec3_names z excluding)
     in_names h i =
-        let s : Contains (spots_of (owner_name name) ks) (spot_of h.name) = (made.names (spot_of h.name)).1 (contained (map (λ h. spot_of h.name) hs) (spot_of h.name) (in_map (λ (h : Item). spot_of h.name) hs h i)) in
+        let s : Contains (spots_of (group_owner name) ks) (spot_of h.name) = (made.names (spot_of h.name)).1 (contained (map (λ h. spot_of h.name) hs) (spot_of h.name) (in_map (λ (h : Item). spot_of h.name) hs h i)) in
         let P : List Name → Type 0 = λ ns. In (item h) ns in
-        subst P (names_are there) (in_map (spot_name (owner_name name)) (spots_of (owner_name name) ks) (spot_of h.name) (to_in (spots_of (owner_name name) ks) (spot_of h.name) s))
+        subst P (names_are there) (in_map (spot_name (group_owner name)) (spots_of (group_owner name) ks) (spot_of h.name) (to_in (spots_of (group_owner name) ks) (spot_of h.name) s))
 
     pub from_names : (n : Name) → In n (nsec3_names z excluding) → In n (map item hs)
     from_names n i =
         let P : List Name → Type 0 = λ ns. In n ns in
-        let s = map_in (spot_name (owner_name name)) (spots_of (owner_name name) ks) n (subst P (sym (names_are there)) i) in
-        let k : Contains (map (λ h. spot_of h.name) hs) s.item = (made.names s.item).0 (contained (spots_of (owner_name name) ks) s.item s.inside) in
+        let s = map_in (spot_name (group_owner name)) (spots_of (group_owner name) ks) n (subst P (sym (names_are there)) i) in
+        let k : Contains (map (λ h. spot_of h.name) hs) s.item = (made.names s.item).0 (contained (spots_of (group_owner name) ks) s.item s.inside) in
         let h = map_in (λ (h : Item). spot_of h.name) hs s.item (to_in (map (λ h. spot_of h.name) hs) s.item k) in
-        let is : n ≡ item h.item = s.makes ∙ ap (spot_name (owner_name name)) h.makes in
+        let is : n ≡ item h.item = s.makes ∙ ap (spot_name (group_owner name)) h.makes in
         let Q : Name → Type 0 = λ m. In m (map item hs) in
         subst Q (sym is) (in_map item hs h.item h.inside)
 
@@ -400,8 +388,8 @@ module _ {O N : Type 0} (name : N → Name) (apex : Name) (rs : List (Record N (
         one_link l i e s =
             let own : octets l.0 ≡ hash (item l.0) = sym (hash_is l.0 i) in
             let next : octets l.1 ≡ nsec3_next hash z excluding (item l.0) = sym e ∙ (λ t. behind bytes_eq [] (own t) (links (head_or [] (octets_are t)) (octets_are t))) in
-            let spotted : In (spot_of l.0.name) (spots_of (owner_name name) ks) = to_in (spots_of (owner_name name) ks) (spot_of l.0.name) ((made.names (spot_of l.0.name)).1 (contained (map (λ h. spot_of h.name) hs) (spot_of l.0.name) (in_map (λ (h : Item). spot_of h.name) hs l.0 i))) in
-            let is : IsSpot (owner_name name) ks (spot_of l.0.name) = spots_are (owner_name name) ks kept_climb (spot_of l.0.name) spotted in
+            let spotted : In (spot_of l.0.name) (spots_of (group_owner name) ks) = to_in (spots_of (group_owner name) ks) (spot_of l.0.name) ((made.names (spot_of l.0.name)).1 (contained (map (λ h. spot_of h.name) hs) (spot_of l.0.name) (in_map (λ (h : Item). spot_of h.name) hs l.0 i))) in
+            let is : IsSpot (group_owner name) ks (spot_of l.0.name) = spots_are (group_owner name) ks kept_climb (spot_of l.0.name) spotted in
             let lowered : low (item l.0) ≡ item l.0 = chain_lowered z excluding (item l.0) (in_names l.0 i) in
             let P : Name → Type 0 = λ n. In n (nsec3_names z excluding) in
             let inside : at_or_above (apex_of z) (item l.0) ≡ true = (and_parts (at_or_above (apex_of z) (item l.0)) _ (chain_kept z excluding (item l.0) (subst P (sym lowered) (in_names l.0 i)))).0 in

@@ -16,7 +16,8 @@ use Rattle.denial_links.specs.Hashed.{Nsec3Data}
 use Rattle.denial_hashes.specs.Hashing.{Answers, hash_by, FitsName}
 use Rattle.denial_hashes.specs.declared.config.GenerateNsec3Config.{GenerateNsec3Config}
 use Rattle.denial_hashed.specs.Chained.{chain_name, chain_names_of, some_fails, IsHashedChain}
-use Rattle.denial_hashed.specs.Walk.{spots_of, owner_name}
+use Rattle.denial_hashed.specs.Walk.{spots_of}
+use Rattle.denial_sorted.specs.Groups.{group_owner}
 use Rattle.denial_hashed.specs.declared.hashed.HashedName.{HashedName}
 use Rattle.denial_hashed.proofs.Assembled.{all_in, map_map}
 use Rattle.denial_owners.specs.Conditions.{IsOneClass, IsZoneOrder}
@@ -54,10 +55,10 @@ module _ {O N S : Type 0} (name : N → Name) (apex : Name) (answers : Answers) 
   owners_fault Memory h = tt
 
   module _ (groups : List (List Rr)) (are : groups ≡ kept_now) where
-    pub in_order : IsStrictlySortedBy name_cmp (map (owner_name name) groups)
+    pub in_order : IsStrictlySortedBy name_cmp (map (group_owner name) groups)
     in_order =
-        let P : List (List Rr) → Type 0 = λ gs. IsStrictlySortedBy name_cmp (map (owner_name name) gs) in
-        subst P (sym are) (strict_of (map (owner_name name) kept_now) (kept_climb name apex rs one order e))
+        let P : List (List Rr) → Type 0 = λ gs. IsStrictlySortedBy name_cmp (map (group_owner name) gs) in
+        subst P (sym are) (strict_of (map (group_owner name) kept_now) (kept_climb name apex rs one order e))
 
     module _ (s : SoaTtls) (soa : soa_ttls name apex rs ≡ Some s) where
       there : Contains (owners z) (apex_of z)
@@ -66,7 +67,7 @@ module _ {O N S : Type 0} (name : N → Name) (apex : Name) (answers : Answers) 
       pub names_listed : chain_names_of name groups ≡ names_among name apex answers c rs
       names_listed = ap (chain_names_of name) are ∙ names_are name apex rs one order e there
 
-      module _ (hs : List (HashedName N (ZoneRecordData O N))) (made : IsHashedChain name answers c.params (spots_of (owner_name name) groups) hs) where
+      module _ (hs : List (HashedName N (ZoneRecordData O N))) (made : IsHashedChain name answers c.params (spots_of (group_owner name) groups) hs) where
         abbrev Item : Type 0
         Item = HashedName N (ZoneRecordData O N)
 
@@ -79,9 +80,9 @@ module _ {O N S : Type 0} (name : N → Name) (apex : Name) (answers : Answers) 
         abbrev hash : Name → List Rattle.std.proofs.Common.ℕ
         hash = hash_by answers c.params
 
-        made_now : IsHashedChain name answers c.params (spots_of (owner_name name) kept_now) hs
+        made_now : IsHashedChain name answers c.params (spots_of (group_owner name) kept_now) hs
         made_now =
-            let P : List (List Rr) → Type 0 = λ gs. IsHashedChain name answers c.params (spots_of (owner_name name) gs) hs in
+            let P : List (List Rr) → Type 0 = λ gs. IsHashedChain name answers c.params (spots_of (group_owner name) gs) hs in
             subst P are made
 
         pub speaks_now : IsNsec3Chain hash z e

@@ -18,12 +18,11 @@ use Rattle.definitions.proofs.ZoneNames.{low-low, and_parts, and_from}
 use Rattle.plain.specs.Records.{record_canonical_cmp}
 use Rattle.plain.specs.declared.record.Record.{Record}
 use Rattle.denial_sorted.specs.GroupLaws.{one_owner_equivalence}
-use Rattle.denial_sorted.specs.Groups.{IsGroup, groups, of_one_owner}
+use Rattle.denial_sorted.specs.Groups.{IsGroup, groups, of_one_owner, group_owner}
 use Rattle.denial_sorted.specs.Partitions.{AreApart, AreUnlike}
 use Rattle.denial_sorted.proofs.Grouped.{all_groups}
 use Rattle.denial_sorted.proofs.Parted.{joined, owners_parted}
 use Rattle.denial_owners.specs.Conditions.{IsCanonicalOrder, IsOneClass}
-use Rattle.denial_owners.specs.Kept.{group_owner}
 
 pub all_at : {X : Type 0} (P : X → Type 0) (xs : List X) (x : X) → AllByRecursion P xs → In x xs → P x
 all_at P [] x h i = absurd i

@@ -11,9 +11,9 @@ use Rattle.definitions.proofs.NameLaws.{labels_decide}
 use Rattle.definitions.proofs.ZoneNames.{and_parts, apex_kept}
 use Rattle.plain.specs.declared.record.Record.{Record}
 use Rattle.plain.specs.declared.zone_data.ZoneRecordData.{ZoneRecordData}
-use Rattle.denial_sorted.specs.Groups.{groups, is_at, of_one_owner}
+use Rattle.denial_sorted.specs.Groups.{groups, is_at, of_one_owner, group_owner}
 use Rattle.denial_owners.specs.Conditions.{IsCanonicalOrder, IsOneClass}
-use Rattle.denial_owners.specs.Kept.{group_owner, kept_groups}
+use Rattle.denial_owners.specs.Kept.{kept_groups}
 use Rattle.denial_owners.specs.Soa.{and_ttls, seen_from, ttls_of, ttls_of_one}
 use Rattle.denial_owners.specs.Zones.{zone_of}
 use Rattle.denial_owners.specs.declared.soa.Seen.{Seen}

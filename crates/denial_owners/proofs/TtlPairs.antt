@@ -18,10 +18,10 @@ use Rattle.definitions.proofs.NameLaws.{labels_decide, same_is_equal}
 use Rattle.definitions.proofs.ZoneNames.{and_parts}
 use Rattle.plain.specs.Records.{record_canonical_cmp}
 use Rattle.plain.specs.declared.record.Record.{Record}
-use Rattle.denial_sorted.specs.Groups.{groups, of_one_owner}
+use Rattle.denial_sorted.specs.Groups.{groups, of_one_owner, group_owner, neighbours}
 use Rattle.denial_owners.specs.Conditions.{IsCanonicalOrder, IsOneClass}
-use Rattle.denial_owners.specs.Kept.{group_owner, kept_groups}
-use Rattle.denial_owners.specs.Ttls.{has_unequal_ttls, neighbours, unlike_ttls}
+use Rattle.denial_owners.specs.Kept.{kept_groups}
+use Rattle.denial_owners.specs.Ttls.{has_unequal_ttls, unlike_ttls}
 use Rattle.denial_owners.specs.Zones.{zone_of}
 use Rattle.denial_owners.proofs.ByOwner.{ByOwner, all_at, by_owner, class_at, whole_of}
 use Rattle.denial_owners.proofs.AtOwner.{any_agree, any_filter, any_flat, group_is_filter}

@@ -1,16 +1,11 @@
 -- The records of the owners that have records of a chain (RFC 4034, 4; RFC 4035, 2.3; RFC 5155, 7.1).
-use Rattle.std.specs.Prelude.{ℕ, Bool, false, List, [], ◌∷◌, filter, Option, Some, None}
+use Rattle.std.specs.Prelude.{ℕ, Bool, false, List, filter, Option, Some, None}
 use Rattle.std.specs.Borrow.{Bor}
-use Rattle.definitions.specs.Name.{Name, low}
+use Rattle.definitions.specs.Name.{Name}
 use Rattle.definitions.specs.Zone.{is_kept}
-use Rattle.denial_sorted.specs.Groups.{groups, in_zone, of_one_owner}
+use Rattle.denial_sorted.specs.Groups.{group_owner, groups, in_zone, of_one_owner}
 use Rattle.denial_owners.specs.Zones.{zone_of}
 use Rattle.plain.specs.declared.record.Record.{Record}
-
--- the owner of some records of one owner, in lower case
-abbrev pub group_owner : {N D : Type 0} → (N → Name) → List (Record N D) → Name
-group_owner name [] = []
-group_owner name (r ∷ rs) = low (name r.owner)
 
 -- records by owner: those of each kept owner of their zone, in their order
 abbrev pub kept_groups : {N D : Type 0} → (N → Name) → (D → ℕ) → (D → List ℕ) → Name → Bool → List (Record N D) → List (List (Record N D))

@@ -1,5 +1,5 @@
 -- RRsets whose records have unequal TTLs (RFC 2181, 5.2).
-use Rattle.std.specs.Prelude.{ℕ, Bool, false, not, ◌&&◌, ◌||◌, nat_eq, List, [], ◌∷◌}
+use Rattle.std.specs.Prelude.{ℕ, Bool, not, ◌&&◌, nat_eq, List}
 use Rattle.std.specs.List.{list_any}
 use Rattle.definitions.specs.Name.{Name, low, same}
 use Rattle.definitions.specs.Zone.{is_kept}
@@ -17,9 +17,3 @@ has_unequal_ttls name rtype canonical apex excluding rs =
     let z = zone_of name rtype canonical apex rs in
     list_any (λ r. is_kept z excluding (low (name r.owner))
     && list_any (λ s. same (name r.owner) (name s.owner) && unlike_ttls rtype r s) rs) rs
-
--- a test holds of an item and the next
-abbrev pub neighbours : {A : Type 0} → (A → A → Bool) → List A → Bool
-neighbours p [] = false
-neighbours p (a ∷ []) = false
-neighbours p (a ∷ b ∷ xs) = p a b || neighbours p (b ∷ xs)

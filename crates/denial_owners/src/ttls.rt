@@ -2,7 +2,8 @@
 
 ghost use Rattle.std.specs.Prelude.{◌≡◌};
 ghost use Rattle.std.specs.List.{list_any};
-ghost use Rattle.denial_owners.specs.Ttls.{neighbours, unlike_ttls};
+ghost use Rattle.denial_owners.specs.Ttls.{unlike_ttls};
+ghost use Rattle.denial_sorted.specs.Groups.{neighbours};
 
 use denial_sorted::groups::OwnerRrs;
 use denial_sorted::slices::SliceRefsOrOwnedIterator;

@@ -1,9 +1,9 @@
 -- Items in groups: as many of a kind as stand together.
-use Rattle.std.specs.Prelude.{◌≡◌, ℕ, Bool, true, false, not, ◌&&◌, nat_eq, List, [], ◌∷◌, Option, if◌then◌else◌, map}
+use Rattle.std.specs.Prelude.{◌≡◌, ℕ, Bool, true, false, not, ◌&&◌, ◌||◌, nat_eq, List, [], ◌∷◌, Option, if◌then◌else◌, map}
 use Rattle.std.specs.declared.option.Option.TheVariants.{None, Some}
 use Rattle.std.specs.Option.{option_map}
 use Rattle.std.specs.List.{AllByRecursion, list_any, onto_first}
-use Rattle.definitions.specs.Name.{Name, same, at_or_above}
+use Rattle.definitions.specs.Name.{Name, low, same, at_or_above}
 use Rattle.plain.specs.declared.record.Record.{Record}
 
 -- the groups of neighbours that are alike
@@ -16,6 +16,17 @@ groups alike (x ∷ y ∷ ys) = if alike x y then onto_first x (groups alike (y 
 abbrev pub IsGroup : {A : Type 0} → (A → A → Bool) → List A → Type 0
 IsGroup alike [] = ⊥
 IsGroup alike (x ∷ xs) = AllByRecursion (λ y. alike x y ≡ true) xs
+
+-- a test holds of an item and the next
+abbrev pub neighbours : {A : Type 0} → (A → A → Bool) → List A → Bool
+neighbours p [] = false
+neighbours p (a ∷ []) = false
+neighbours p (a ∷ b ∷ xs) = p a b || neighbours p (b ∷ xs)
+
+-- the owner of some records of one owner, in lower case
+abbrev pub group_owner : {N D : Type 0} → (N → Name) → List (Record N D) → Name
+group_owner name [] = []
+group_owner name (r ∷ rs) = low (name r.owner)
 
 -- records of one class and owner, up to ASCII case
 abbrev pub of_one_owner : {N D : Type 0} → (N → Name) → Record N D → Record N D → Bool

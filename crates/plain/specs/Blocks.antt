@@ -1,9 +1,17 @@
--- The digits of five octets, four and four (RFC 4648, 7).
-use Rattle.std.specs.Prelude.{ℕ, ◌+◌, ◌*◌, ◌/◌, ◌%◌, List, [], ◌∷◌}
-use Rattle.definitions.specs.Base32hex.{digit}
+-- The digits of at most five octets (RFC 4648, 7).
+use Rattle.std.specs.Prelude.{ℕ, ◌+◌, ◌*◌, ◌/◌, ◌%◌, List, [], ◌∷◌, take}
+use Rattle.definitions.specs.Base32hex.{base32hex, digit}
 
 abbrev pub front_digits : ℕ → ℕ → ℕ → List ℕ
 front_digits a b c = digit (a / 8) ∷ digit (a % 8 * 4 + b / 64) ∷ digit (b / 2 % 32) ∷ digit (b % 2 * 16 + c / 16) ∷ []
 
 abbrev pub back_digits : ℕ → ℕ → ℕ → List ℕ
 back_digits c d e = digit (c % 16 * 2 + d / 128) ∷ digit (d / 4 % 32) ∷ digit (d % 4 * 8 + e / 32) ∷ digit (e % 32) ∷ []
+
+-- the last three digits of four octets
+abbrev pub three_digits : ℕ → ℕ → List ℕ
+three_digits c d = digit (c % 16 * 2 + d / 128) ∷ digit (d / 4 % 32) ∷ digit (d % 4 * 8) ∷ []
+
+-- the digits of the first five octets
+abbrev pub block_text : List ℕ → List ℕ
+block_text octets = base32hex (take 5 octets)

@@ -3,7 +3,8 @@ ghost use Rattle.std.specs.Prelude.{◌≡◌, ◌≤◌, IfOk, filter, length, 
 ghost use Rattle.std.specs.List.{list_any};
 ghost use Rattle.definitions.specs.Dnskey.{dnskey_data, key_tag};
 ghost use Rattle.answer_judge.specs.Facts.{is_usable, is_trusted, names_key};
-ghost use Rattle.answer_judge.specs.Judging.{clashes, has_equal_tags, key_at, keys_in};
+ghost use Rattle.answer_zone.specs.EqualTags.{clashes, has_equal_tags};
+ghost use Rattle.answer_judge.specs.Judging.{key_at, keys_in};
 ghost use Rattle.messages.specs.Message.{data_of};
 ghost use Rattle.messages.specs.Record.{spelled};
 

@@ -2,7 +2,8 @@ use Rattle.std.proofs.Common.{rules, ◌≡◌, true, false, length}
 use Rattle.std.specs.Prelude.{nat_eq}
 use Rattle.answer_scheme.specs.Answers.{Answers}
 use Rattle.answer_judge.specs.Judged.{AnswersAs, judged}
-use Rattle.answer_judge.specs.Judging.{Handing, Refuses, Says, is_allowed}
+use Rattle.answer_judge.specs.Judging.{Handing, Refuses, Says}
+use Rattle.answer_zone.specs.Asking.{is_allowed}
 use Rattle.answer_rules.specs.Rules.{verdict_of}
 use Rattle.answer_judge.proofs.GivenAnswers.{answers_given}
 use Rattle.answer_judge.proofs.JudgeWhole.{refuses_first}

@@ -1,9 +1,10 @@
 use Rattle.std.proofs.Common.{◌≡◌, ◌++◌, ◌≤◌, map, length, drop}
 use Rattle.denial_hashed.specs.Chained.{spot_of}
-use Rattle.denial_hashed.specs.Walk.{owner_name, spots_behind, spots_of}
+use Rattle.denial_hashed.specs.Walk.{spots_behind, spots_of}
+use Rattle.denial_sorted.specs.Groups.{group_owner}
 use Rattle.denial_hashed.proofs.names.chain_names.Given as goal
 
 abbrev pub invariant-loop-owner : goal.invariant-loop-owner
 invariant-loop-owner g l =
-    let name = owner_name g.N.Labels.name in
+    let name = group_owner g.N.Labels.name in
     map spot_of l.names.items ++ spots_behind name l.before (drop l.owner-index l.behind) ≡ spots_of name l.owners

@@ -1,6 +1,6 @@
 use Rattle.std.proofs.Common.{◌≡◌, drop}
 use Rattle.std.specs.List.{list_any}
-use Rattle.answer_judge.specs.Judging.{clashes}
+use Rattle.answer_zone.specs.EqualTags.{clashes}
 use Rattle.answer_judge.proofs.judge.keys.has_equal_tags.Given as goal
 
 abbrev pub invariant-loop-key : goal.invariant-loop-key

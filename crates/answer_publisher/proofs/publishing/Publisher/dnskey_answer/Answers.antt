@@ -3,7 +3,7 @@ use Rattle.std.specs.Prelude.{IfErr, IfOk}
 use Rattle.answer_publisher.specs.Answering.{RefusesKeys, ahead_of_records}
 use Rattle.answer_publisher.specs.Bindings.{dnskeys, keys_by_tag, published}
 use Rattle.answer_publisher.specs.Composed.{IsAnswer, RefusesGroups}
-use Rattle.answer_judge.specs.Given.{GivesKeys}
+use Rattle.answer_zone.specs.Given.{GivesKeys}
 use Rattle.answer_zone.specs.Served.{by_tag}
 use Rattle.answer_publisher.proofs.WritesGiven.{keys_given}
 use Rattle.answer_zone.proofs.ZoneData.{if_ok_map}

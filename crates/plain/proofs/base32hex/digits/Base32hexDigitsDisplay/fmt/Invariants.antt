@@ -1,7 +1,7 @@
 use Rattle.std.proofs.Common.{◌≡◌, ℕ, List, ◌++◌, length}
 use Rattle.std.specs.Fmt.{HasWritten, IsPlainFormatter}
 use Rattle.definitions.specs.Base32hex.{base32hex}
-use Rattle.denial_fields.proofs.digits.Base32hexDigitsDisplay.fmt.Given as goal
+use Rattle.plain.proofs.base32hex.digits.Base32hexDigitsDisplay.fmt.Given as goal
 
 abbrev pub invariant-loop-rest : goal.invariant-loop-rest
 invariant-loop-rest g l =

@@ -1,6 +1,6 @@
 use Rattle.std.proofs.Output.{has_written_of_eq}
-use Rattle.denial_fields.proofs.Blocks.{first_five}
-use Rattle.denial_fields.proofs.digits.BlockDisplay.fmt.Goals as goal
+use Rattle.plain.proofs.Digits.{first_five}
+use Rattle.plain.proofs.base32hex.digits.BlockDisplay.fmt.Goals as goal
 
 pub returns-in-len5-up-clause-writes : goal.returns-in-len5-up-clause-writes
 returns-in-len5-up-clause-writes g c = λ p k.

@@ -2,8 +2,8 @@ use Rattle.std.proofs.Common.{◌≡◌, ◌++◌, take, ap, refl, arith}
 use Rattle.std.proofs.lemmas.Grind.{put_two, common_steps}
 use Rattle.definitions.specs.Base32hex.{base32hex}
 use Rattle.plain.proofs.Digits.{one_block}
-use Rattle.denial_fields.specs.Blocks.{block_text}
-use Rattle.denial_fields.proofs.digits.Base32hexDigitsDisplay.fmt.Goals as goal
+use Rattle.plain.specs.Blocks.{block_text}
+use Rattle.plain.proofs.base32hex.digits.Base32hexDigitsDisplay.fmt.Goals as goal
 
 pub loop-rest-preserved : goal.loop-rest-preserved
 loop-rest-preserved g c =
