@@ -14,6 +14,7 @@ use Rattle.answer_zone.specs.Accepting.{zone_with}
 use Rattle.answer_zone.specs.Asking.{is_allowed}
 use Rattle.messages.specs.Message.{Asked}
 use Rattle.answer_zone.specs.ZoneView.{IsPublished}
+use Rattle.answer_zone.proofs.AllowedTypes.{Unsigned, unsigned_from}
 use Rattle.answer_zone.proofs.ZoneServed.{no_delegation}
 use Rattle.messages.proofs.Lists.{eqb-back}
 

@@ -5,6 +5,8 @@ use Rattle.definitions.specs.Name.{Name, same}
 use Rattle.definitions.specs.Dnskey.{Dnskey, Ds, dnskey_of_data}
 use Rattle.definitions.specs.Zone.{Verdict, Unsigned}
 use Rattle.messages.specs.Message.{Spelled, Asked, message, data_of}
+use Rattle.answer_zone.specs.Asking.{is_allowed}
+use Rattle.answer_zone.specs.EqualTags.{has_equal_tags}
 use Rattle.answer_rules.specs.Rules.{verdict_of}
 use Rattle.answer_judge.specs.declared.judge.verdict.Refusal.{Refusal}
 use Rattle.answer_judge.specs.declared.judge.verdict.Refusal.TheVariants as r

@@ -29,7 +29,7 @@ use crate::judge::keys::{TaggedKey, has_equal_tags, read_keys, trusted_keys, usa
 use crate::judge::verdict::{Judgement, Refusal, Refused, Verdict};
 use answer_rules::decide::decide;
 use answer_scheme::checks::Checks;
-use answer_zone::question::is_allowed;
+pub use answer_zone::question::is_allowed;
 use answer_zone::ranked::put_cow_data;
 use denial_data::Ds;
 use messages::error::MessageError;

@@ -8,7 +8,7 @@ ghost use Rattle.definitions.specs.Name.{at_or_above};
 ghost use Rattle.names_parsed.specs.Parsed.{parsed_name};
 
 use crate::verdict::{DataList, Verdict};
-use denial_data::Nsec;
+use denial_links::nsec::Nsec;
 use messages::names::{Name, Octets, ParsedName, ToName, ZoneName, is_above, is_at_or_above};
 use names_data::rtype::Rtype;
 use std::alloc::{AllocError, Global};
