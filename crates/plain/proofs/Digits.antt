@@ -14,6 +14,16 @@ first_five (a ∷ b ∷ c ∷ []) h = absurd (omega (arith, h))
 first_five (a ∷ b ∷ c ∷ d ∷ []) h = absurd (omega (arith, h))
 first_five (a ∷ b ∷ c ∷ d ∷ e ∷ xs) h = refl
 
+-- five octets
+pub block_digits : (xs : List ℕ) → length xs ≡ 5 → base32hex xs ≡ front_digits (get_or xs 0 0) (get_or xs 1 0) (get_or xs 2 0) ++ back_digits (get_or xs 2 0) (get_or xs 3 0) (get_or xs 4 0)
+block_digits [] h = absurd (omega (arith, h))
+block_digits (a ∷ []) h = absurd (omega (arith, h))
+block_digits (a ∷ b ∷ []) h = absurd (omega (arith, h))
+block_digits (a ∷ b ∷ c ∷ []) h = absurd (omega (arith, h))
+block_digits (a ∷ b ∷ c ∷ d ∷ []) h = absurd (omega (arith, h))
+block_digits (a ∷ b ∷ c ∷ d ∷ e ∷ []) h = refl
+block_digits (a ∷ b ∷ c ∷ d ∷ e ∷ f ∷ xs) h = absurd (omega (arith, h))
+
 -- five octets in front of others
 pub block_first : (xs rest : List ℕ) → length xs ≡ 5 → base32hex (xs ++ rest) ≡ base32hex xs ++ base32hex rest
 block_first [] rest h = absurd (omega (arith, h))
@@ -28,6 +38,10 @@ block_first (a ∷ b ∷ c ∷ d ∷ e ∷ f ∷ xs) rest h = absurd (omega (ari
 pub on_ok_more : {A E : Type 0} (r : Result A E) (P Q : Type 0) → (P → Q) → OnOk r P → OnOk r Q
 on_ok_more (Ok x) P Q f h = f h
 on_ok_more (Err e) P Q f h = tt
+
+-- both halves of a block
+pub both_halves : (old mid new front back : List ℕ) (xs : List ℕ) → mid ≡ old ++ front → base32hex xs ≡ front ++ back → new ≡ mid ++ back → new ≡ old ++ base32hex xs
+both_halves old mid new front back xs m b n = n ∙ ap (λ t. t ++ back) m ∙ append_assoc old front back ∙ ap (λ t. old ++ t) (sym b)
 
 -- a block more
 pub one_block : (old new : List ℕ) (rest block behind all : List ℕ) → 5 ≤ length rest → block ≡ take 5 rest → behind ≡ drop 5 rest → new ≡ old ++ base32hex block → old ++ base32hex rest ≡ all → new ++ base32hex behind ≡ all

@@ -117,7 +117,7 @@ impl fmt::Display for Back {
 }
 
 /// A digit of base32hex, in lower case.
-fn digit(value: u8) -> char
+pub(crate) fn digit(value: u8) -> char
     requires { value < 32 }
     ensures { result ≡ digit value }
 {
