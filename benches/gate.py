@@ -4,9 +4,9 @@
 usage: benches/gate.py [FILE]
 
 It passes on what `rt ci` prints and looks at its processes twice a second. The row `rt` is what all of them but the prover
-take, `rt ci` itself before all: on one processor it sums up the text of the libraries below each library once for each way
-through crates.txt that leads to them. Before the last line, which stays the last, it prints once more the lines that say
-what failed, and the table of docs/GATE.md. RT_JOBS says on how many processors the gate runs. FILE gets the table so far
+take: `rt ci` itself, links, and runs. A crate that an earlier run passed on this machine is not proved again and has no row.
+Before the last line, which stays the last, it prints once more the lines that say what failed, and the table of
+docs/GATE.md. RT_JOBS says on how many processors the gate runs. FILE gets the table so far
 each minute, so that a run that is stopped tells what it cost.
 """
 

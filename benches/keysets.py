@@ -2,13 +2,13 @@
 """Counts the instructions of the calls of a roll on large key sets, with callgrind.
 
 The calls are made up to one and up to the one before, and the difference is divided by the keys. Run it from anywhere; it
-builds crates/keyset_bench first.
+builds crates/counting_bench first.
 """
 import sys
 
 from counting import build, counted
 
-BENCH = "keyset_bench"
+BENCH = "counting_bench"
 SIZES = (100, 1000, 4000)
 CALLS = (
     "`start_roll`, each key listed",
@@ -21,14 +21,14 @@ CALLS = (
 
 
 def run(keys, calls):
-    count, made = counted(BENCH, [f"{keys} {calls}"])
+    count, made = counted(BENCH, [f"# keysets {keys} {calls}"])
     if made != f"{calls}\n":
         sys.exit(f"of {calls} calls on {keys} keys {made.strip()} were made")
     return count
 
 
 def main():
-    build(BENCH, [f"{SIZES[0]} 0"])
+    build(BENCH, [f"# keysets {SIZES[0]} 0"])
     print("| call | " + " | ".join(f"{keys:,} keys" for keys in SIZES) + " |\n" + "|---" * (len(SIZES) + 1) + "|")
     counts = {keys: [run(keys, calls) for calls in range(len(CALLS) + 1)] for keys in SIZES}
     for step, what in enumerate(CALLS):

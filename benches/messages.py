@@ -2,11 +2,11 @@
 """Counts the instructions of calls on names in messages, with callgrind.
 
 A task is done once and once more on the same names, and the difference is divided by the names, so that reading the input
-and starting the program fall away. Run it from anywhere; it builds crates/message_bench first.
+and starting the program fall away. Run it from anywhere; it builds crates/counting_bench first.
 """
 from counting import build, counted
 
-BENCH = "message_bench"
+BENCH = "counting_bench"
 
 
 def wire(name):
@@ -55,7 +55,7 @@ def deep():
 
 
 def run(task, rounds, message, places):
-    return counted(BENCH, [f"{task} {rounds}", message.hex(), *map(str, places)])[0]
+    return counted(BENCH, [f"# messages {task} {rounds}", message.hex(), *map(str, places)])[0]
 
 
 def main():

@@ -2,14 +2,14 @@
 """Counts the instructions of calls on names, with callgrind, and the blocks of memory that comparing takes.
 
 A task is done once and once more on the same names, and the difference is divided by the calls of one time, so that
-reading the input and starting the program fall away. Run it from anywhere; it builds crates/names_bench first.
+reading the input and starting the program fall away. Run it from anywhere; it builds crates/counting_bench first.
 """
 import random
 import re
 
 from counting import TOP, build, counted
 
-BENCH = "names_bench"
+BENCH = "counting_bench"
 PLAIN = "abcdefghijklmnopqrstuvwxyz0123456789"
 
 
@@ -23,9 +23,10 @@ def text(wire):
 
 
 def order_names():
-    """The names of the table of canonical order."""
-    table = (TOP / "crates/conformance/src/name_order.rt").read_text(encoding="utf-8")
-    return [text(bytes.fromhex(it)) for it in re.findall(r'^([0-9a-f]+)(?:\\n\\|";)$', table, re.MULTILINE)]
+    """The names of the table of canonical order: pairs of neighbours, a line each behind lines that say so."""
+    lines = (TOP / "crates/name_lines/stdin").read_text(encoding="utf-8")
+    pairs = re.search(r"^# names in canonical order.*\n(?:#.*\n)*((?:pair .*\n)+)", lines, re.MULTILINE)[1]
+    return [text(bytes.fromhex(it)) for it in dict.fromkeys(re.findall(r"\b(?:[0-9a-f]{2})+\b", pairs))]
 
 
 def zone_names(count):
@@ -42,7 +43,7 @@ def zone_names(count):
 
 def more(tool, task, names, before):
     """What one time more of a task counts."""
-    fewer, one_more = (counted(BENCH, [f"{task} {rounds}", *names], tool)[0] for rounds in (before, before + 1))
+    fewer, one_more = (counted(BENCH, [f"# names {task} {rounds}", *names], tool)[0] for rounds in (before, before + 1))
     return one_more - fewer
 
 

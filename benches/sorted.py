@@ -2,14 +2,14 @@
 """Counts the instructions of calls on sorted records, with callgrind.
 
 A pass is done once and once more on the same records, and the difference is divided by them, so that reading the input
-and starting the program fall away. Run it from anywhere; it builds crates/sorted_bench first.
+and starting the program fall away. Run it from anywhere; it builds crates/counting_bench first.
 """
 import random
 import sys
 
 from counting import build, counted
 
-BENCH = "sorted_bench"
+BENCH = "counting_bench"
 PLAIN = "abcdefghijklmnopqrstuvwxyz0123456789"
 OWNERS = 12_581
 
@@ -56,7 +56,7 @@ def shuffled(records):
 
 
 def instructions(task, rounds, records):
-    return counted(BENCH, [f"{task} {rounds}", *records])[0]
+    return counted(BENCH, [f"# sorted {task} {rounds}", *records])[0]
 
 
 def row(what, count):

@@ -7,11 +7,11 @@ use Rattle.definitions.specs.Dnskey.{Ds}
 use Rattle.definitions.specs.Name.{Name}
 use Rattle.messages.specs.declared.question.Question.{Question}
 use Rattle.messages.specs.Questions.{asked_of}
-use Rattle.answer.specs.declared.event.Outcome.{Outcome}
-use Rattle.answer.specs.declared.simulate.kept.Shown.{Shown as CodeShown}
-use Rattle.answer.specs.declared.simulate.kept.Shown.TheVariants as code
+use Rattle.answer_life.specs.declared.outcome.Outcome.{Outcome}
+use Rattle.answer.specs.declared.simulation.kept.Shown.{Shown as CodeShown}
+use Rattle.answer.specs.declared.simulation.kept.Shown.TheVariants as code
 use Rattle.answer.specs.Keeping.{IsKept, Keeps, keeps, octets_of, set_of, shown_of}
-use Rattle.answer.specs.Simulating.{Shown, OfParent, OfKeys, OfZone}
+use Rattle.answer_life.specs.Simulating.{Shown, OfParent, OfKeys, OfZone}
 
 -- what an outcome keeps stays at its place
 stays : {X : Type 0} (of : Option Outcome → Option X) → of None ≡ None → (os more : List Outcome) (n : ℕ) → IsSome (of (slice_get os n)) → slice_get (os ++ more) n ≡ slice_get os n

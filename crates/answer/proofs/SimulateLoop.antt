@@ -1,9 +1,9 @@
 -- A simulation in progress: whatever follows the events so far ends the whole.
 use Rattle.std.proofs.Common.{◌≡◌, ℕ, ◌+◌, ◌<◌, ◌≤◌, length, drop, List, [], ◌∷◌, ◌++◌, get_or, subst, sym, append_assoc, ap, ◌∙◌}
 use Rattle.std.proofs.lemmas.List.{drop_more, drop_all, append-nil}
-use Rattle.answer.specs.declared.event.Event.{Event}
-use Rattle.answer.specs.declared.event.Outcome.{Outcome}
-use Rattle.answer.specs.Simulating.{Sofar, StepOf, Simulates}
+use Rattle.answer_events.specs.declared.event.Event.{Event}
+use Rattle.answer_life.specs.declared.outcome.Outcome.{Outcome}
+use Rattle.answer_life.specs.Simulating.{Sofar, StepOf, Simulates}
 use Rattle.answer_publisher.specs.World.{World}
 
 -- the outcomes so far begin every simulation that goes on from here

@@ -1,11 +1,11 @@
 -- What a run keeps: outcomes, and what was shown, by the places of the outcomes that keep it.
 use Rattle.std.specs.Prelude.{ℕ, List, [], Option, Some, None, IsSome, map, slice_get, unwrap_or}
 use Rattle.definitions.specs.Dnskey.{Ds}
-use Rattle.answer.specs.declared.event.Outcome.{Outcome}
-use Rattle.answer.specs.declared.event.Outcome.TheVariants as outcome
-use Rattle.answer.specs.declared.simulate.kept.Shown.{Shown as CodeShown}
-use Rattle.answer.specs.declared.simulate.kept.Shown.TheVariants as code
-use Rattle.answer.specs.Simulating.{Shown, OfParent, OfKeys, OfZone}
+use Rattle.answer_life.specs.declared.outcome.Outcome.{Outcome}
+use Rattle.answer_life.specs.declared.outcome.Outcome.TheVariants as outcome
+use Rattle.answer.specs.declared.simulation.kept.Shown.{Shown as CodeShown}
+use Rattle.answer.specs.declared.simulation.kept.Shown.TheVariants as code
+use Rattle.answer_life.specs.Simulating.{Shown, OfParent, OfKeys, OfZone}
 use Rattle.messages.specs.Questions.{asked_of}
 
 -- the DS set of an outcome, if there is one

@@ -1,15 +1,15 @@
 -- How a run of the code is seen.
 use Rattle.std.specs.Prelude.{◌≡◌, ◌++◌, ◌∷◌, [], ℕ, Bool, List, Option}
 use Rattle.definitions.specs.Dnskey.{Dnskey}
-use Rattle.answer.specs.declared.event.Act.{Act}
-use Rattle.answer.specs.declared.event.Outcome.{Outcome}
-use Rattle.answer.specs.declared.simulate.kept.Thing.{Thing}
-use Rattle.answer.specs.declared.simulate.kept.Thing.TheVariants as thing
-use Rattle.answer.specs.declared.simulate.run.Run.{Run}
+use Rattle.answer_events.specs.declared.event.Act.{Act}
+use Rattle.answer_life.specs.declared.outcome.Outcome.{Outcome}
+use Rattle.answer.specs.declared.simulation.kept.Thing.{Thing}
+use Rattle.answer.specs.declared.simulation.kept.Thing.TheVariants as thing
+use Rattle.answer.specs.declared.simulation.run.Run.{Run}
 use Rattle.answer.specs.Keeping.{Keeps}
 use Rattle.answer_publisher.specs.Bindings.{ZoneKeys}
 use Rattle.answer_publisher.specs.World.{World, world_of}
-use Rattle.answer.specs.Simulating.{Shown, OfParent, OfKeys, OfZone, Sofar, StepOf}
+use Rattle.answer_life.specs.Simulating.{Shown, OfParent, OfKeys, OfZone, Sofar, StepOf}
 use Rattle.messages.specs.Questions.{asked_of}
 
 abbrev pub thing_of : Thing → Shown

@@ -1,17 +1,36 @@
 //! A publisher of one signed zone whose keys roll, a judge that sees a DS set, a DNSKEY answer and a zone
 //! answer as bytes alone, and a simulation of a zone's key life that joins the two.
+//!
+//! A caller finds here what these calls take and give; all of names, records, DNSSEC data and key sets stands in the modules of
+//! the layers.
 #![tactic(auto)]
 
-pub mod event;
-pub mod laws;
-pub mod simulate;
+pub mod simulation;
 
-pub use answer_judge::judge;
-pub use answer_publisher as publisher;
-pub use answer_scheme as scheme;
+pub use crate::simulation::simulate;
+pub use answer_events::event::{Act, Event, KeyCall};
+pub use answer_events::key_kind::KeyKind;
+pub use answer_judge::judging::is_allowed;
+pub use answer_judge::{Case, DataList, Judgement, Refusal, Refused, Verdict, judge, judge_with};
+pub use answer_life::laws;
+pub use answer_life::outcome::Outcome;
+pub use answer_publisher::fault::{AnswerFault, KeyFault, Mode, ZoneFault};
+pub use answer_publisher::publishing::Publisher;
+pub use answer_scheme::counting::SchemeChecks;
+pub use answer_scheme::{Checks, Scheme, SchemeError};
 pub use denial;
+pub use denial::{Dnskey, Ds, HashError, Nsec3Hasher};
 pub use keyset;
-pub use messages as message;
-pub use messages::{question, record};
+pub use keyset::{Action, Available, RollType, UnixTime};
+pub use messages::question::Question;
+pub use messages::record::{ZoneData, ZoneRecord};
 pub use names;
+pub use names::{Name, Rtype, Serial, UnknownRecordData};
+pub use numbers::algorithm::{DigestAlgorithm, SecurityAlgorithm};
+pub use numbers::class::Class;
+pub use numbers::ttl::Ttl;
 pub use plain;
+pub use plain::ns::Ns;
+pub use plain::record::Record;
+pub use plain::soa::Soa;
+pub use plain::zone_data::ZoneRecordData;

@@ -8,15 +8,15 @@ use Rattle.definitions.specs.Signing.{label_count}
 use Rattle.definitions.specs.Zone.{data_at, has, sorted_data}
 use Rattle.definitions.specs.ZoneChain.{Nsec}
 use Rattle.messages.specs.HandedRr.{HandedRr}
-use Rattle.answer_zone.specs.Accepting.{zone_with}
-use Rattle.answer_zone.proofs.LinkLists.{link_group}
-use Rattle.answer_zone.specs.Served.{owner_among, served_of, soa, spelled_among, spelled_as}
-use Rattle.answer_zone.specs.ZoneView.{IsPublished, is_of}
+use Rattle.answer_terms.specs.Accepting.{zone_with}
+use Rattle.answer_terms.proofs.LinkLists.{link_group}
+use Rattle.answer_terms.specs.Served.{owner_among, served_of, soa, spelled_among, spelled_as}
+use Rattle.answer_terms.specs.ZoneView.{IsPublished, is_of}
 use Rattle.answer_judge.proofs.DenialLink.{Linked, Owns}
-use Rattle.answer_zone.proofs.ZoneData.{already_sorted, data_are, data_rise, label_count-low, low-owner_among, low-spelled_among, soa_there}
+use Rattle.answer_terms.proofs.ZoneData.{already_sorted, data_are, data_rise, label_count-low, low-owner_among, low-spelled_among, soa_there}
 use Rattle.messages.proofs.Lists.{Has, all_at}
 use Rattle.messages.proofs.ZoneNames.{at_or_above-low, labels_eq-same, same_labels}
-use Rattle.answer_zone.proofs.ZoneServed.{has_is}
+use Rattle.answer_terms.proofs.ZoneServed.{has_is}
 
 -- ---- the RRset that was asked for
 

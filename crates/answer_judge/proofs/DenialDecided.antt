@@ -10,18 +10,18 @@ use Rattle.definitions.specs.Name.{Name, low, same, name_cmp, at_or_above, stric
 use Rattle.definitions.specs.Zone.{Verdict, NoType, Delegated, exists, has, star_under}
 use Rattle.definitions.proofs.NameLaws.{name_cmp_total, apex_first, interval}
 use Rattle.messages.specs.HandedRr.{HandedRr}
-use Rattle.answer_zone.specs.Accepting.{zone_with}
+use Rattle.answer_terms.specs.Accepting.{zone_with}
 use Rattle.answer_rules.specs.Rules.{Link, at_owner, below_cut, by_star, closest, covered, decided, first_some, is_cut_link, link_covers, or_else}
-use Rattle.answer_zone.specs.Asking.{is_allowed}
+use Rattle.answer_terms.specs.Asking.{is_allowed}
 use Rattle.messages.specs.Message.{Asked}
-use Rattle.answer_zone.specs.ZoneView.{IsPublished}
+use Rattle.answer_terms.specs.ZoneView.{IsPublished}
 use Rattle.answer_judge.proofs.DenialLink.{Owns, Speaks}
 use Rattle.answer_judge.proofs.DenialTypes.{link_lacks_ns, link_lacks_type, link_types}
-use Rattle.answer_zone.proofs.ZoneAnswers.{at_itself}
-use Rattle.answer_zone.proofs.ZoneChains.{less_back}
+use Rattle.answer_terms.proofs.ZoneAnswers.{at_itself}
+use Rattle.answer_terms.proofs.ZoneChains.{less_back}
 use Rattle.messages.proofs.Lists.{Has, all_at, found}
 use Rattle.messages.proofs.ZoneNames.{at_or_above-low, labels_eq-same, low-low, name_cmp-low, name_cmp-same, same_labels, strictly_above-low}
-use Rattle.answer_zone.proofs.ZoneServed.{exists_is}
+use Rattle.answer_terms.proofs.ZoneServed.{exists_is}
 
 -- what a judge reads of a link of the zone
 pub record IsLinkOf (apex : Name) (rs : List HandedRr) (owner next : Name) (f : Link) : Type 0 where

@@ -6,12 +6,12 @@ use Rattle.std.proofs.lemmas.Bool.{and_parts}
 use Rattle.definitions.specs.Name.{Name, low, same, name_cmp, at_or_above}
 use Rattle.definitions.proofs.NameLaws.{name_cmp_total, apex_first}
 use Rattle.messages.specs.HandedRr.{HandedRr}
-use Rattle.answer_zone.specs.Links.{link_speaks}
-use Rattle.answer_zone.proofs.LinkLists.{record_links}
-use Rattle.answer_zone.specs.ZoneView.{IsPublished, is_of}
-use Rattle.answer_zone.proofs.OneLink.{Lowered, One, climbed, one_link}
-use Rattle.answer_zone.proofs.ZoneChains.{Climbs, greater_trans, owners_climb}
-use Rattle.answer_zone.proofs.ZoneData.{soa_there}
+use Rattle.answer_terms.specs.Links.{link_speaks}
+use Rattle.answer_terms.proofs.LinkLists.{record_links}
+use Rattle.answer_terms.specs.ZoneView.{IsPublished, is_of}
+use Rattle.answer_terms.proofs.OneLink.{Lowered, One, climbed, one_link}
+use Rattle.answer_terms.proofs.ZoneChains.{Climbs, greater_trans, owners_climb}
+use Rattle.answer_terms.proofs.ZoneData.{soa_there}
 use Rattle.messages.proofs.Lists.{Has, found}
 use Rattle.messages.proofs.ZoneNames.{at_or_above-low, low-low, same_labels}
 

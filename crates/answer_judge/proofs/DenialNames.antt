@@ -8,18 +8,18 @@ use Rattle.definitions.specs.Name.{Name, IsLabel, low, same, name_cmp, at_or_abo
 use Rattle.definitions.specs.Zone.{exists}
 use Rattle.definitions.proofs.NameLaws.{interval}
 use Rattle.messages.specs.HandedRr.{HandedRr}
-use Rattle.answer_zone.specs.Accepting.{zone_with}
+use Rattle.answer_terms.specs.Accepting.{zone_with}
 use Rattle.answer_rules.specs.Rules.{Link, closest}
-use Rattle.answer_zone.specs.Served.{kept_ancestor}
-use Rattle.answer_zone.specs.ZoneView.{IsPublished, is_of}
+use Rattle.denial_rules.specs.OwnFacts.{kept_ancestor}
+use Rattle.answer_terms.specs.ZoneView.{IsPublished, is_of}
 use Rattle.answer_judge.proofs.AnswerRrsets.{soa_is}
 use Rattle.answer_judge.proofs.DenialDecided.{IsLinkOf}
 use Rattle.answer_judge.proofs.DenialLink.{Linked, Owns, Speaks}
 use Rattle.messages.proofs.NameLaws.{wire_len-cons}
-use Rattle.answer_zone.proofs.ZoneAnswers.{at_itself}
+use Rattle.answer_terms.proofs.ZoneAnswers.{at_itself}
 use Rattle.messages.proofs.Lists.{any_from, both_ways, found}
 use Rattle.messages.proofs.ZoneNames.{at_or_above-low, same_labels}
-use Rattle.answer_zone.proofs.ZoneServed.{exists_is, has_is}
+use Rattle.answer_terms.proofs.ZoneServed.{exists_is, has_is}
 
 -- ---- what exists
 

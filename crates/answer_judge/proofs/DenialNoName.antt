@@ -9,17 +9,17 @@ use Rattle.definitions.specs.Covering.{covers}
 use Rattle.definitions.specs.Name.{Name, low, labels_eq, same, at_or_above, strictly_above, wire_len}
 use Rattle.definitions.specs.Zone.{Verdict, NoName, NoType, StarNoType, exists, star_under}
 use Rattle.messages.specs.HandedRr.{HandedRr}
-use Rattle.answer_zone.specs.Accepting.{zone_with}
+use Rattle.answer_terms.specs.Accepting.{zone_with}
 use Rattle.answer_rules.specs.Rules.{Link, at_owner, at_star, below_cut, by_star, closest, covered, decided, first_some, link_covers, or_else}
-use Rattle.answer_zone.specs.Links.{link_speaks}
-use Rattle.answer_zone.specs.ZoneView.{IsPublished}
+use Rattle.answer_terms.specs.Links.{link_speaks}
+use Rattle.answer_terms.specs.ZoneView.{IsPublished}
 use Rattle.answer_judge.proofs.DenialDecided.{IsLinkOf, cut_silent, no_cut_link, owner_silent}
 use Rattle.answer_judge.proofs.DenialLink.{Linked, Speaks}
 use Rattle.answer_judge.proofs.DenialNames.{Encloser, none_at, none_below, shows_exist}
 use Rattle.messages.proofs.NameLaws.{wire_len-star}
 use Rattle.messages.proofs.Lists.{Has}
 use Rattle.messages.proofs.ZoneNames.{name_cmp-low, same-low, same_labels, strictly_above-low}
-use Rattle.answer_zone.proofs.ZoneServed.{no_star}
+use Rattle.answer_terms.proofs.ZoneServed.{no_star}
 
 -- ---- a link of the zone as a judge sees it
 

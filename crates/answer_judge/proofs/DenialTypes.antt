@@ -10,12 +10,12 @@ use Rattle.definitions.specs.Zone.{Rr, Zone, owner_of, has, is_delegation}
 use Rattle.definitions.specs.ZoneChain.{types_at, at_apex}
 use Rattle.definitions.proofs.BitmapLaws.{spells_set}
 use Rattle.messages.specs.HandedRr.{HandedRr}
-use Rattle.answer_zone.specs.Accepting.{zone_with}
-use Rattle.answer_zone.specs.Asking.{is_allowed}
+use Rattle.answer_terms.specs.Accepting.{zone_with}
+use Rattle.answer_terms.specs.Asking.{is_allowed}
 use Rattle.messages.specs.Message.{Asked}
-use Rattle.answer_zone.specs.ZoneView.{IsPublished}
-use Rattle.answer_zone.proofs.AllowedTypes.{Unsigned, unsigned_from}
-use Rattle.answer_zone.proofs.ZoneServed.{no_delegation}
+use Rattle.answer_terms.specs.ZoneView.{IsPublished}
+use Rattle.answer_terms.proofs.AllowedTypes.{Unsigned, unsigned_from}
+use Rattle.answer_terms.proofs.ZoneServed.{no_delegation}
 use Rattle.messages.proofs.Lists.{eqb-back}
 
 any_at : (t : ℕ) (o : Name) (rs : List Rr) → list_any (nat_eq t) (map (λ r. r.rtype) (filter (λ r. labels_eq (owner_of r) o) rs)) ≡ list_any (λ r. labels_eq (owner_of r) o && eqb r.rtype t) rs

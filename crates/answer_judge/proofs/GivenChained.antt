@@ -13,13 +13,13 @@ use Rattle.definitions.specs.Zone.{apex_of, sorted_data}
 use Rattle.messages.specs.HandedRr.{HandedRr}
 use Rattle.answer_scheme.specs.Answers.{Answers}
 use Rattle.answer_judge.specs.Facts.{digests_to, is_trusted, is_usable, names_key}
-use Rattle.answer_zone.specs.Given.{AreGroups, AreRecords, AreSignatures, GivesKeys, IsRecord, IsSignature, fields_for}
+use Rattle.answer_terms.specs.Told.{TellsGroups, AreRecords, AreSignatures, TellsKeys, IsRecord, IsSignature, fields_for}
 use Rattle.answer_judge.specs.Judged.{is_chained, keys_of, trusting}
 use Rattle.answer_judge.specs.Judging.{Handing, key_at, keys_in}
-use Rattle.answer_zone.specs.EqualTags.{has_equal_tags}
+use Rattle.answer_terms.specs.EqualTags.{has_equal_tags}
 use Rattle.answer_judge.specs.Meeting.{HasDs, IsZoneKey, WasGiven, served_from}
 use Rattle.messages.specs.Message.{Spelled, data_of}
-use Rattle.answer_zone.specs.Served.{Group, Served, by_tag, key_group}
+use Rattle.answer_terms.specs.Served.{Group, Served, by_tag, key_group}
 use Rattle.answer_judge.specs.Verified.{Trusting, is_verified}
 use Rattle.answer_judge.proofs.GivenKeys.{IsKeyData, by_tag-has, data_of_key, find_kept, key_data, read_all, read_from, read_has, tags_within}
 use Rattle.answer_judge.proofs.GivenLists.{has_contained}
@@ -62,8 +62,8 @@ no_keys v k m (r ∷ rs) apex at life g (key ∷ keys) h =
     λ i. cons_option (key_when (other i) (data_of m r)) (no_keys v k m rs apex at life g keys h.1 i)
 
 -- a message of one RRset of keys
-keys_among : (v : Dnskey → List ℕ → List ℕ → Bool) (k : ℕ) (m : List ℕ) (rs : List Spelled) (apex : Name) (at life : ℕ) (keys : List Dnskey) (g : Group) → g.owner ≡ apex → g.rtype ≡ 48 → AreGroups v k m rs apex at life keys (g ∷ []) → keys_in m apex rs ≡ filter_map dnskey_of_data g.datas
-keys_among v k m rs apex at life keys g o t (own, signatures, rest, are, records, signs, more, kept) =
+keys_among : (v : Dnskey → List ℕ → List ℕ → Bool) (k : ℕ) (m : List ℕ) (rs : List Spelled) (apex : Name) (at life : ℕ) (keys : List Dnskey) (g : Group) → g.owner ≡ apex → g.rtype ≡ 48 → TellsGroups v k m rs apex at life keys (g ∷ []) → keys_in m apex rs ≡ filter_map dnskey_of_data g.datas
+keys_among v k m rs apex at life keys g o t (own, signatures, rest, are, records, signs, more) =
     let f = key_at m apex in
     ap (filter_map f) are ∙ filter_map-append f (own ++ signatures) rest
     ∙ (λ i. filter_map-append f own signatures i ++ filter_map f (more i))
@@ -83,11 +83,11 @@ are_data : (ks : List Dnskey) → Small ks → AllByRecursion (IsKeyData ks) (pr
 are_data ks small = all_has (IsKeyData ks) (present_data ks) (λ d h. key_data ks d small (sorted_from _ (map dnskey_data ks) d h))
 
 -- the keys of the answer are those that are present, in order of their data
-pub keys_given : (v : Dnskey → List ℕ → List ℕ → Bool) (k : ℕ) (s : Served) (apex : Name) (present signers : List Dnskey) (at life : ℕ) (bytes : List ℕ) → (g : GivesKeys v k s apex present signers at life bytes) → keys_in bytes apex g.read.records ≡ filter_map dnskey_of_data (present_data present)
+pub keys_given : (v : Dnskey → List ℕ → List ℕ → Bool) (k : ℕ) (s : Served) (apex : Name) (present signers : List Dnskey) (at life : ℕ) (bytes : List ℕ) → (g : TellsKeys v k s apex present signers at life bytes) → keys_in bytes apex g.read.records ≡ filter_map dnskey_of_data (present_data present)
 keys_given v k s apex present signers at life bytes g =
     keys_among v k bytes g.read.records apex at life (by_tag signers) (key_group apex (s.ttl_of (apex_of s.zone) 6) present) refl refl g.groups_are
 
-module _ (v : Dnskey → List ℕ → List ℕ → Bool) (k : ℕ) (s : Served) (apex : Name) (present signers : List Dnskey) (at life : ℕ) (bytes : List ℕ) (g : GivesKeys v k s apex present signers at life bytes) (small : Small present) where
+module _ (v : Dnskey → List ℕ → List ℕ → Bool) (k : ℕ) (s : Served) (apex : Name) (present signers : List Dnskey) (at life : ℕ) (bytes : List ℕ) (g : TellsKeys v k s apex present signers at life bytes) (small : Small present) where
   abbrev read_keys : List Dnskey
   read_keys = keys_in bytes apex g.read.records
 
@@ -129,9 +129,9 @@ some_length (y ∷ ys) x h = omega arith
 pub small_flags : (ks : List Dnskey) → AllByRecursion IsZoneKey ks → Small ks
 small_flags ks h = all_more IsZoneKey (λ (k : Dnskey). k.flags < 65536) ks (λ k is. is.flags) h
 
-pub chained_given : (a : Answers) (k : ℕ) (h : Handing) (rs : List HandedRr) → (given : WasGiven a k h rs) → is_chained a k h given.keys_given.read ≡ true
+pub chained_given : (a : Answers) (k : ℕ) (h : Handing) (rs : List HandedRr) → (given : WasGiven a k h rs) → is_chained a k h given.keys_told.read ≡ true
 chained_given a k h rs given =
-    let gives = given.keys_given in
+    let gives = given.keys_told in
     let s : Served = served_from a h rs in
     let anchor : Dnskey = given.meet.anchor in
     let present : List Dnskey = given.present in

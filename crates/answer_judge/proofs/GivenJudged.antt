@@ -8,16 +8,16 @@ use Rattle.definitions.specs.Zone.{Unsigned}
 use Rattle.messages.specs.HandedRr.{HandedRr}
 use Rattle.answer_scheme.specs.Answers.{Answers}
 use Rattle.answer_judge.specs.Facts.{fits_key, is_usable}
-use Rattle.answer_zone.specs.Given.{fields_for}
-use Rattle.answer_judge.specs.declared.judge.verdict.Refusal.{Refusal}
-use Rattle.answer_judge.specs.declared.judge.verdict.Refusal.TheVariants as r
+use Rattle.answer_terms.specs.Told.{fields_for}
+use Rattle.answer_judge.specs.declared.judging.verdict.Refusal.{Refusal}
+use Rattle.answer_judge.specs.declared.judging.verdict.Refusal.TheVariants as r
 use Rattle.messages.specs.declared.error.MessageError.{MessageError}
 use Rattle.answer_judge.specs.Judged.{judged, judged_answer, judged_messages, keys_of, trusting}
 use Rattle.answer_judge.specs.Judging.{Answer, Handing, Refuses, Says, first_refusal, message_refusal, same_question}
-use Rattle.answer_zone.specs.EqualTags.{has_equal_tags}
+use Rattle.answer_terms.specs.EqualTags.{has_equal_tags}
 use Rattle.answer_judge.specs.Meeting.{HasDs, IsZoneKey, WasGiven, served_from}
 use Rattle.messages.specs.Message.{Asked, Message}
-use Rattle.answer_zone.specs.Served.{Group, answer_groups, by_tag}
+use Rattle.answer_terms.specs.Served.{Group, answer_groups, by_tag}
 use Rattle.answer_judge.specs.Verified.{Trusting}
 use Rattle.answer_judge.proofs.GivenChained.{chained_given, keys_apart, keys_has, small_flags}
 use Rattle.answer_judge.proofs.GivenKeys.{by_tag-has, find_kept}
@@ -62,20 +62,20 @@ chained_by chained later = elim chained [ true ↦ later | false ↦ Refuses r.N
 
 module _ (a : Answers) (k : ℕ) (h : Handing) (rs : List HandedRr) (given : WasGiven a k h rs) where
   abbrev read_keys : List Dnskey
-  read_keys = keys_of h given.keys_given.read
+  read_keys = keys_of h given.keys_told.read
 
   abbrev pub usable_keys : List Dnskey
   usable_keys = filter is_usable read_keys
 
   apart : has_equal_tags read_keys ≡ false
-  apart = keys_apart a.verifies k (served_from a h rs) h.apex given.present given.keysigners given.keys_at given.life h.dnskey_bytes given.keys_given (small_flags given.present given.keys_are) given.present_tags
+  apart = keys_apart a.verifies k (served_from a h rs) h.apex given.present given.keysigners given.keys_at given.life h.dnskey_bytes given.keys_told (small_flags given.present given.keys_are) given.present_tags
 
-  asked : (same_question given.keys_given.read.asked (question_of h.apex) && same_question given.answer_given.read.asked h.asked) ≡ true
-  asked = and_from _ _ (same_asked given.keys_given.read.asked (question_of h.apex) given.keys_given.name_is given.keys_given.rtype_is given.keys_given.class_is) (same_asked given.answer_given.read.asked h.asked given.answer_given.name_is given.answer_given.rtype_is given.answer_given.class_is)
+  asked : (same_question given.keys_told.read.asked (question_of h.apex) && same_question given.answer_told.read.asked h.asked) ≡ true
+  asked = and_from _ _ (same_asked given.keys_told.read.asked (question_of h.apex) given.keys_told.name_is given.keys_told.rtype_is given.keys_told.class_is) (same_asked given.answer_told.read.asked h.asked given.answer_told.name_is given.answer_told.rtype_is given.answer_told.class_is)
 
   messages_first : message_refusal k h ≡ None
   messages_first =
-      (λ i. two_messages (given.keys_given.reads i) (given.answer_given.reads i) (refusal_of h))
+      (λ i. two_messages (given.keys_told.reads i) (given.answer_told.reads i) (refusal_of h))
       ∙ (λ i. refusal_by (asked i) (apart i))
 
   -- the DS set has the key at the parent
@@ -94,10 +94,10 @@ module _ (a : Answers) (k : ℕ) (h : Handing) (rs : List HandedRr) (given : Was
   first_refusal_given = (λ i. first_by (given.allowed i) (some_ds i) (messages_first i))
 
   -- the judgement is what the answer verifies under the usable keys
-  pub judged_given : judged a k h ≡ judged_answer a k h usable_keys given.answer_given.read
+  pub judged_given : judged a k h ≡ judged_answer a k h usable_keys given.answer_told.read
   judged_given =
-      (λ i. judged_by (first_refusal_given i) (some_ds i) (answers_by (given.keys_given.reads i) (given.answer_given.reads i) (judged_messages a k h)))
-      ∙ ap (λ b. chained_by b (judged_answer a k h usable_keys given.answer_given.read)) (chained_given a k h rs given)
+      (λ i. judged_by (first_refusal_given i) (some_ds i) (answers_by (given.keys_told.reads i) (given.answer_told.reads i) (judged_messages a k h)))
+      ∙ ap (λ b. chained_by b (judged_answer a k h usable_keys given.answer_told.read)) (chained_given a k h rs given)
 
   -- what the judge verifies the answer with
   abbrev pub answer_trust : Trusting
@@ -112,7 +112,7 @@ module _ (a : Answers) (k : ℕ) (h : Handing) (rs : List HandedRr) (given : Was
       let signer : Dnskey = given.meet.signer in
       let there : Has given.present signer = has_contained given.present signer given.meet.signer_present in
       find_kept is_usable read_keys signer (fields_for h.apex given.answer_at given.life g signer) apart
-      (keys_has a.verifies k (served_from a h rs) h.apex given.present given.keysigners given.keys_at given.life h.dnskey_bytes given.keys_given (small_flags given.present given.keys_are) signer there)
+      (keys_has a.verifies k (served_from a h rs) h.apex given.present given.keysigners given.keys_at given.life h.dnskey_bytes given.keys_told (small_flags given.present given.keys_are) signer there)
       (all_at IsZoneKey given.present signer given.keys_are there).usable refl refl
 
   pub signer_signs : Has (by_tag given.zonesigners) given.meet.signer

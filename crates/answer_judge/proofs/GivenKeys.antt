@@ -11,10 +11,10 @@ use Rattle.std.proofs.lemmas.Nat.{from_be_bytes-to_be_bytes_2}
 use lib.Pointwise.{bytes_decides}
 use Rattle.definitions.specs.Dnskey.{Dnskey, dnskey_data, dnskey_of_data, key_tag, same_key}
 use Rattle.definitions.specs.Signing.{Fields}
-use Rattle.answer_zone.proofs.KeyData.{key_read_back}
+use Rattle.answer_terms.proofs.KeyData.{key_read_back}
 use Rattle.answer_judge.specs.Facts.{fits_key}
-use Rattle.answer_zone.specs.EqualTags.{clashes, has_equal_tags}
-use Rattle.answer_zone.specs.Served.{by_tag}
+use Rattle.answer_terms.specs.EqualTags.{clashes, has_equal_tags}
+use Rattle.answer_terms.specs.Served.{by_tag}
 use Rattle.answer_judge.proofs.GivenSorted.{all_has, filter_from, filter_has, find_only, sorted_has}
 use Rattle.messages.proofs.Lists.{Has, all_at, all_fail, any_from, found}
 

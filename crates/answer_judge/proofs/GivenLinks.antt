@@ -9,10 +9,10 @@ use Rattle.definitions.specs.Name.{Name, at_or_above, wire}
 use Rattle.definitions.specs.Dnskey.{Dnskey}
 use Rattle.definitions.specs.Zone.{sorted_data}
 use Rattle.answer_rules.specs.Rules.{Link}
-use Rattle.answer_zone.specs.Given.{AreGroups, AreRecords, AreSignatures, IsRecord, IsSignature}
+use Rattle.answer_terms.specs.Told.{TellsGroups, AreRecords, AreSignatures, IsRecord, IsSignature}
 use Rattle.answer_judge.proofs.GivenGroups.{SameLink, SaysLink, has_twins, is_nsec}
 use Rattle.messages.specs.Message.{Spelled, nsec_at}
-use Rattle.answer_zone.specs.Served.{Group}
+use Rattle.answer_terms.specs.Served.{Group}
 use Rattle.answer_judge.specs.Verified.{Trusting, is_link, is_verified, link_at, link_of, rrset_in, verified_links}
 use Rattle.answer_judge.proofs.GivenNext.{nsec_given}
 use Rattle.answer_judge.proofs.GivenRecords.{rrset_given}
@@ -45,7 +45,7 @@ pub record IsProof (w : Trusting) (apex : Name) (at life : ℕ) (keys : List Dns
   pub by : IsSignedBy w apex at life keys gs g key
   pub below : at_or_above apex g.owner ≡ true
 
-proves : (w : Trusting) (k : ℕ) (m : List ℕ) (rs : List Spelled) (apex : Name) (at life : ℕ) (keys : List Dnskey) (gs : List Group) (g : Group) (key : Dnskey) (r : Spelled) (l : Link) (d : List ℕ) → AreGroups w.answers.verifies k m rs apex at life keys gs → has_twins gs ≡ false
+proves : (w : Trusting) (k : ℕ) (m : List ℕ) (rs : List Spelled) (apex : Name) (at life : ℕ) (keys : List Dnskey) (gs : List Group) (g : Group) (key : Dnskey) (r : Spelled) (l : Link) (d : List ℕ) → TellsGroups w.answers.verifies k m rs apex at life keys gs → has_twins gs ≡ false
     → IsProof w apex at life keys gs g key → g.rtype ≡ 47 → SaysLink g l → g.datas ≡ d ∷ [] → IsRecord k m r g.owner g.rtype d → Proves w k m rs r l
 proves w k m rs apex at life keys gs g key r l d are alone p t says one is =
     let type_is : r.rtype ≡ 47 = is.type_is ∙ t in
@@ -115,11 +115,11 @@ linked_same w k m rs own signatures rest ls first none h =
     subst (λ ys. AllZip SameLink ys ls) (sym whole) h
 
 module _ (w : Trusting) (k : ℕ) (m : List ℕ) (rs : List Spelled) (apex : Name) (at life : ℕ) (keys : List Dnskey) (all : List Group) (key : Dnskey)
-    (are : AreGroups w.answers.verifies k m rs apex at life keys all) (alone : has_twins all ≡ false) where
-  linked_in : (xs : List Spelled) (gs : List Group) (ls : List Link) → ((g : Group) → Has gs g → g.rtype ≡ 47 → IsProof w apex at life keys all g key) → AreGroups w.answers.verifies k m xs apex at life keys gs → AllZip SaysLink (filter is_nsec gs) ls → Linked w k m rs xs ls
+    (are : TellsGroups w.answers.verifies k m rs apex at life keys all) (alone : has_twins all ≡ false) where
+  linked_in : (xs : List Spelled) (gs : List Group) (ls : List Link) → ((g : Group) → Has gs g → g.rtype ≡ 47 → IsProof w apex at life keys all g key) → TellsGroups w.answers.verifies k m xs apex at life keys gs → AllZip SaysLink (filter is_nsec gs) ls → Linked w k m rs xs ls
   linked_in xs [] [] each h z = subst (λ ys. Linked w k m rs ys []) (sym h) tt
   linked_in xs [] (l ∷ ls) each h z = absurd z
-  linked_in xs (g ∷ gs) ls each (own, signatures, rest, parts, records, signs, more, kept) z =
+  linked_in xs (g ∷ gs) ls each (own, signatures, rest, parts, records, signs, more) z =
       subst (λ ys. Linked w k m rs ys ls) (sym parts) (go (is_nsec g) refl ls z (λ ks y. linked_in rest gs ks (λ x i. each x (inr i)) more y))
     where
       none : filter_map (link_at w k m rs) signatures ≡ []
@@ -136,6 +136,6 @@ module _ (w : Trusting) (k : ℕ) (m : List ℕ) (rs : List Spelled) (apex : Nam
       go false e ks y later = linked_same w k m rs own signatures rest ks (none_other w k m rs own g g.datas e records) none (later ks y)
 
 -- the links of a message are what its NSEC groups say
-pub verified_links_given : (w : Trusting) (k : ℕ) (m : List ℕ) (rs : List Spelled) (apex : Name) (at life : ℕ) (keys : List Dnskey) (gs : List Group) (key : Dnskey) (ls : List Link) → AreGroups w.answers.verifies k m rs apex at life keys gs → has_twins gs ≡ false
+pub verified_links_given : (w : Trusting) (k : ℕ) (m : List ℕ) (rs : List Spelled) (apex : Name) (at life : ℕ) (keys : List Dnskey) (gs : List Group) (key : Dnskey) (ls : List Link) → TellsGroups w.answers.verifies k m rs apex at life keys gs → has_twins gs ≡ false
     → ((g : Group) → Has gs g → g.rtype ≡ 47 → IsProof w apex at life keys gs g key) → AllZip SaysLink (filter is_nsec gs) ls → AllZip SameLink (verified_links w k m rs) ls
 verified_links_given w k m rs apex at life keys gs key ls are alone each says = linked_in w k m rs apex at life keys gs key are alone rs gs ls each are says

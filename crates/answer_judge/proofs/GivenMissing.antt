@@ -10,32 +10,33 @@ use Rattle.definitions.specs.Name.{Name, IsLabel, at_or_above, labels_eq, low, s
 use Rattle.definitions.specs.Zone.{exists, has, star_under, verdict}
 use Rattle.definitions.specs.ZoneChain.{Nsec, nsec_next}
 use Rattle.messages.specs.HandedRr.{HandedRr}
-use Rattle.answer_zone.specs.Accepting.{zone_with}
+use Rattle.answer_terms.specs.Accepting.{zone_with}
 use Rattle.answer_scheme.specs.Answers.{Answers}
 use Rattle.answer_rules.specs.Rules.{Link, decided}
-use Rattle.answer_zone.specs.Given.{AreGroups}
+use Rattle.answer_terms.specs.Told.{TellsGroups}
 use Rattle.answer_judge.proofs.GivenGroups.{SameLink, SaysLink, has_twins, is_nsec, is_rrset}
 use Rattle.answer_judge.specs.Judged.{by_facts, judged_answer, trusting}
 use Rattle.answer_judge.specs.Judging.{Handing, Says}
-use Rattle.answer_zone.specs.Links.{link_speaks}
-use Rattle.answer_zone.proofs.LinkLists.{link_group, record_links}
+use Rattle.answer_terms.specs.Links.{link_speaks}
+use Rattle.answer_terms.proofs.LinkLists.{link_group, record_links}
 use Rattle.messages.specs.Message.{Message}
-use Rattle.answer_zone.specs.Served.{Group, answer_groups, kept_ancestor, proofs_of, served_of, soa, spelled_as}
+use Rattle.denial_rules.specs.OwnFacts.{kept_ancestor}
+use Rattle.answer_terms.specs.Served.{Group, answer_groups, proofs_of, served_of, soa, spelled_as}
 use Rattle.answer_judge.specs.Verified.{verified_links, verified_rrset}
-use Rattle.answer_zone.specs.ZoneView.{IsPublished}
+use Rattle.answer_terms.specs.ZoneView.{IsPublished}
 use Rattle.answer_judge.proofs.AnswerRrsets.{AreNamed, link_inside, link_labels, low-link_owner, low-next_spelled, next_spelled, soa_not_asked}
 use Rattle.answer_judge.proofs.DenialDecided.{IsLinkOf}
 use Rattle.answer_judge.proofs.DenialLink.{Linked, Speaks, speaks_for_name}
 use Rattle.answer_judge.proofs.DenialNames.{Encloser, encloser_of}
 use Rattle.answer_judge.proofs.DenialNoName.{IsOneOf, decided_no_name}
 use Rattle.answer_judge.proofs.DenialPairs.{Chosen, chosen_by_two, chosen_there, filter_agree}
-use Rattle.answer_zone.proofs.AllowedTypes.{inside_apex, not_nsec, not_rrsig}
+use Rattle.answer_terms.proofs.AllowedTypes.{inside_apex, not_nsec, not_rrsig}
 use Rattle.answer_judge.proofs.DenialTypes.{link_types}
 use Rattle.answer_judge.proofs.GivenLinks.{IsProof, verified_links_given}
 use Rattle.answer_judge.proofs.GivenSignatures.{verified_rrset_missing}
 use Rattle.answer_judge.proofs.GivenVerdict.{IsAnswered, given_verdict}
-use Rattle.answer_zone.proofs.ZoneAnswers.{exists_from_has, groups_without_name, verdict_without_name}
-use Rattle.answer_zone.proofs.ZoneChains.{next_is, proofs_are}
+use Rattle.answer_terms.proofs.ZoneAnswers.{exists_from_has, groups_without_name, verdict_without_name}
+use Rattle.answer_terms.proofs.ZoneChains.{next_is, proofs_are}
 use Rattle.messages.proofs.Lists.{Has, all_at, eqb-back}
 use Rattle.messages.proofs.ZoneNames.{same_labels}
 
@@ -128,7 +129,7 @@ denial_read a k h usable answer hash rs is ls d none =
     let w = trusting a h usable in
     let head : Group = soa (served_of h.apex Nsec hash rs) in
     let gs : List Group = head ∷ map (record_of h.apex rs) ls in
-    let are = subst (AreGroups a.verifies k h.answer_bytes answer.records h.apex is.at is.life is.keys) d.groups_are is.groups_are in
+    let are = subst (TellsGroups a.verifies k h.answer_bytes answer.records h.apex is.at is.life is.keys) d.groups_are is.groups_are in
     let each : (x : Group) → Has gs x → x.rtype ≡ 47 → IsProof w h.apex is.at is.life is.keys gs x is.key =
     λ x there nsec. ⊎_elim
     (λ (e : x ≡ head). absurd (let six : 6 ≡ 47 = ap (λ (y : Group). y.rtype) (sym e) ∙ nsec in omega (arith, six)))

@@ -9,10 +9,10 @@ use Rattle.std.proofs.lemmas.List.Elements.{filter_map-append}
 use Rattle.definitions.specs.Name.{Name, labels_eq, low, same}
 use Rattle.definitions.specs.Dnskey.{Dnskey}
 use Rattle.definitions.specs.Zone.{sorted_data}
-use Rattle.answer_zone.specs.Given.{AreGroups, AreRecords, AreSignatures, IsRecord, IsSignature}
+use Rattle.answer_terms.specs.Told.{TellsGroups, AreRecords, AreSignatures, IsRecord, IsSignature}
 use Rattle.answer_judge.proofs.GivenGroups.{has_twins, is_rrset}
 use Rattle.messages.specs.Message.{Spelled, canonical_data}
-use Rattle.answer_zone.specs.Served.{Group}
+use Rattle.answer_terms.specs.Served.{Group}
 use Rattle.answer_judge.specs.Verified.{datum_of, rrset_in}
 use Rattle.messages.proofs.Lists.{Has, any_from}
 
@@ -64,10 +64,10 @@ no_data v k m (r ∷ rs) apex at life g (key ∷ keys) o t other h =
 
 -- ---- all of them
 
-data_in : (v : Dnskey → List ℕ → List ℕ → Bool) (k : ℕ) (m : List ℕ) (rs : List Spelled) (apex : Name) (at life : ℕ) (keys : List Dnskey) (gs : List Group) (o : Name) (t : ℕ) → eqb 46 t ≡ false → AreGroups v k m rs apex at life keys gs
+data_in : (v : Dnskey → List ℕ → List ℕ → Bool) (k : ℕ) (m : List ℕ) (rs : List Spelled) (apex : Name) (at life : ℕ) (keys : List Dnskey) (gs : List Group) (o : Name) (t : ℕ) → eqb 46 t ≡ false → TellsGroups v k m rs apex at life keys gs
     → filter_map (datum_of k m o t) rs ≡ flat_map (λ g. taken (is_rrset o t g) g.datas) gs
 data_in v k m rs apex at life keys [] o t other h = ap (filter_map (datum_of k m o t)) h
-data_in v k m rs apex at life keys (g ∷ gs) o t other (own, signatures, rest, are, records, signs, more, kept) =
+data_in v k m rs apex at life keys (g ∷ gs) o t other (own, signatures, rest, are, records, signs, more) =
     let f = datum_of k m o t in
     let first : filter_map f (own ++ signatures) ≡ taken (is_rrset o t g) g.datas =
     filter_map-append f own signatures
@@ -110,12 +110,12 @@ one_taken o t (x ∷ gs) g alone h f e =
     h
 
 -- the RRset of a message
-pub rrset_given : (v : Dnskey → List ℕ → List ℕ → Bool) (k : ℕ) (m : List ℕ) (rs : List Spelled) (apex : Name) (at life : ℕ) (keys : List Dnskey) (gs : List Group) (o : Name) (t : ℕ) (g : Group) → eqb 46 t ≡ false → AreGroups v k m rs apex at life keys gs
+pub rrset_given : (v : Dnskey → List ℕ → List ℕ → Bool) (k : ℕ) (m : List ℕ) (rs : List Spelled) (apex : Name) (at life : ℕ) (keys : List Dnskey) (gs : List Group) (o : Name) (t : ℕ) (g : Group) → eqb 46 t ≡ false → TellsGroups v k m rs apex at life keys gs
     → has_twins gs ≡ false → Has gs g → g.rtype ≡ t → low g.owner ≡ low o → rrset_in k m rs o t ≡ sorted_data g.datas
 rrset_given v k m rs apex at life keys gs o t g other are alone h f e =
     ap sorted_data (data_in v k m rs apex at life keys gs o t other are ∙ one_taken o t gs g alone h f e)
 
-pub rrset_missing : (v : Dnskey → List ℕ → List ℕ → Bool) (k : ℕ) (m : List ℕ) (rs : List Spelled) (apex : Name) (at life : ℕ) (keys : List Dnskey) (gs : List Group) (o : Name) (t : ℕ) → eqb 46 t ≡ false → AreGroups v k m rs apex at life keys gs
+pub rrset_missing : (v : Dnskey → List ℕ → List ℕ → Bool) (k : ℕ) (m : List ℕ) (rs : List Spelled) (apex : Name) (at life : ℕ) (keys : List Dnskey) (gs : List Group) (o : Name) (t : ℕ) → eqb 46 t ≡ false → TellsGroups v k m rs apex at life keys gs
     → list_any (is_rrset o t) gs ≡ false → rrset_in k m rs o t ≡ []
 rrset_missing v k m rs apex at life keys gs o t other are none =
     ap sorted_data (data_in v k m rs apex at life keys gs o t other are ∙ none_taken o t gs none)

@@ -8,11 +8,11 @@ use Rattle.definitions.specs.Dnskey.{Dnskey}
 use Rattle.definitions.specs.Signing.{Fields, label_count}
 use Rattle.definitions.specs.Zone.{sorted_data}
 use Rattle.answer_judge.specs.Facts.{fits_key, is_due, signs}
-use Rattle.answer_zone.specs.Given.{AreGroups, AreSignatures, IsSignature, fields_for, octets_for}
+use Rattle.answer_terms.specs.Told.{TellsGroups, AreSignatures, IsSignature, fields_for, octets_for}
 use Rattle.answer_judge.proofs.GivenGroups.{has_twins, is_rrset}
 use Rattle.answer_judge.specs.Meeting.{holds}
 use Rattle.messages.specs.Message.{Spelled, rrsig_at}
-use Rattle.answer_zone.specs.Served.{Group}
+use Rattle.answer_terms.specs.Served.{Group}
 use Rattle.answer_judge.specs.Verified.{Trusting, is_verified, rrset_in, verified_rrset, verifies_with}
 use Rattle.answer_judge.proofs.GivenLists.{has_left, has_right}
 use Rattle.answer_judge.proofs.JudgeCase.{is_verified-owner}
@@ -39,9 +39,9 @@ signed_among v k m (r ∷ rs) apex at life g (x ∷ keys) key h i = ⊎_elim
     record { spelled = s.spelled; inside = inr s.inside; is = s.is })
     i
 
-signed_in : (v : Dnskey → List ℕ → List ℕ → Bool) (k : ℕ) (m : List ℕ) (rs : List Spelled) (apex : Name) (at life : ℕ) (keys : List Dnskey) (gs : List Group) (g : Group) (key : Dnskey) → AreGroups v k m rs apex at life keys gs → Has gs g → g.signed ≡ true → Has keys key → Signed v k m rs apex at life g key
+signed_in : (v : Dnskey → List ℕ → List ℕ → Bool) (k : ℕ) (m : List ℕ) (rs : List Spelled) (apex : Name) (at life : ℕ) (keys : List Dnskey) (gs : List Group) (g : Group) (key : Dnskey) → TellsGroups v k m rs apex at life keys gs → Has gs g → g.signed ≡ true → Has keys key → Signed v k m rs apex at life g key
 signed_in v k m rs apex at life keys [] g key h i s j = absurd i
-signed_in v k m rs apex at life keys (x ∷ gs) g key (own, signatures, rest, are, records, signs, more, kept) i s j = ⊎_elim
+signed_in v k m rs apex at life keys (x ∷ gs) g key (own, signatures, rest, are, records, signs, more) i s j = ⊎_elim
     (λ (e : g ≡ x).
     let by : AreSignatures v k m signatures apex at life g (if g.signed then keys else []) = subst (λ (y : Group). AreSignatures v k m signatures apex at life y (if y.signed then keys else [])) (sym e) signs in
     let all : AreSignatures v k m signatures apex at life g keys = subst (λ b. AreSignatures v k m signatures apex at life g (if b then keys else [])) s by in
@@ -91,7 +91,7 @@ pub record IsSignedBy (w : Trusting) (apex : Name) (at life : ℕ) (keys : List 
   pub found : find (fits_key (fields_for apex at life g key)) w.keys ≡ Some key
   pub hold : holds at life w.now ≡ true
 
-pub verified_given : (w : Trusting) (k : ℕ) (m : List ℕ) (rs : List Spelled) (apex : Name) (at life : ℕ) (keys : List Dnskey) (gs : List Group) (o : Name) (t : ℕ) (g : Group) (key : Dnskey) → AreGroups w.answers.verifies k m rs apex at life keys gs → IsSignedBy w apex at life keys gs g key
+pub verified_given : (w : Trusting) (k : ℕ) (m : List ℕ) (rs : List Spelled) (apex : Name) (at life : ℕ) (keys : List Dnskey) (gs : List Group) (o : Name) (t : ℕ) (g : Group) (key : Dnskey) → TellsGroups w.answers.verifies k m rs apex at life keys gs → IsSignedBy w apex at life keys gs g key
     → g.rtype ≡ t → low g.owner ≡ low o → is_verified w k m rs o t g.datas ≡ true
 verified_given w k m rs apex at life keys gs o t g key are by f e =
     let s : Signed w.answers.verifies k m rs apex at life g key = signed_in w.answers.verifies k m rs apex at life keys gs g key are by.group by.signed by.signer in
@@ -117,13 +117,13 @@ nothing_verified w k m (r ∷ rs) o t = λ i. nothing_when (eqb r.rtype 46 && eq
 abbrev rrset_when : Bool → List (List ℕ) → Option (List (List ℕ))
 rrset_when b ds = elim b [ true ↦ Some ds | false ↦ None ]
 
-pub verified_rrset_given : (w : Trusting) (k : ℕ) (m : List ℕ) (rs : List Spelled) (apex : Name) (at life : ℕ) (keys : List Dnskey) (gs : List Group) (o : Name) (t : ℕ) (g : Group) (key : Dnskey) → AreGroups w.answers.verifies k m rs apex at life keys gs → IsSignedBy w apex at life keys gs g key
+pub verified_rrset_given : (w : Trusting) (k : ℕ) (m : List ℕ) (rs : List Spelled) (apex : Name) (at life : ℕ) (keys : List Dnskey) (gs : List Group) (o : Name) (t : ℕ) (g : Group) (key : Dnskey) → TellsGroups w.answers.verifies k m rs apex at life keys gs → IsSignedBy w apex at life keys gs g key
     → eqb 46 t ≡ false → has_twins gs ≡ false → sorted_data g.datas ≡ g.datas → g.rtype ≡ t → low g.owner ≡ low o → verified_rrset w k m rs o t ≡ Some g.datas
 verified_rrset_given w k m rs apex at life keys gs o t g key are by other alone sorted f e =
     let there : rrset_in k m rs o t ≡ g.datas = rrset_given w.answers.verifies k m rs apex at life keys gs o t g other are alone by.group f e ∙ sorted in
     (λ i. rrset_when (is_verified w k m rs o t (there i)) (there i)) ∙ ap (λ b. rrset_when b g.datas) (verified_given w k m rs apex at life keys gs o t g key are by f e)
 
-pub verified_rrset_missing : (w : Trusting) (k : ℕ) (m : List ℕ) (rs : List Spelled) (apex : Name) (at life : ℕ) (keys : List Dnskey) (gs : List Group) (o : Name) (t : ℕ) → AreGroups w.answers.verifies k m rs apex at life keys gs
+pub verified_rrset_missing : (w : Trusting) (k : ℕ) (m : List ℕ) (rs : List Spelled) (apex : Name) (at life : ℕ) (keys : List Dnskey) (gs : List Group) (o : Name) (t : ℕ) → TellsGroups w.answers.verifies k m rs apex at life keys gs
     → eqb 46 t ≡ false → list_any (is_rrset o t) gs ≡ false → verified_rrset w k m rs o t ≡ None
 verified_rrset_missing w k m rs apex at life keys gs o t are other none =
     let there : rrset_in k m rs o t ≡ [] = rrset_missing w.answers.verifies k m rs apex at life keys gs o t other are none in

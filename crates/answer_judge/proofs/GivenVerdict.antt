@@ -8,33 +8,33 @@ use Rattle.definitions.specs.Name.{Name, IsLabel, low, same}
 use Rattle.definitions.specs.Zone.{data_at, exists, has, verdict}
 use Rattle.definitions.specs.ZoneChain.{Nsec}
 use Rattle.messages.specs.HandedRr.{HandedRr}
-use Rattle.answer_zone.specs.Accepting.{zone_with}
+use Rattle.answer_terms.specs.Accepting.{zone_with}
 use Rattle.answer_scheme.specs.Answers.{Answers}
 use Rattle.answer_judge.specs.Facts.{fits_key}
 use Rattle.answer_rules.specs.Rules.{Link, decided}
-use Rattle.answer_zone.specs.Given.{AreGroups, fields_for}
+use Rattle.answer_terms.specs.Told.{TellsGroups, fields_for}
 use Rattle.answer_judge.proofs.GivenGroups.{SameLink, SaysLink, is_rrset}
 use Rattle.answer_judge.specs.Judged.{by_facts, judged_answer, trusting}
 use Rattle.answer_judge.specs.Judging.{Handing, Says}
-use Rattle.answer_zone.specs.Asking.{is_allowed}
-use Rattle.answer_zone.proofs.LinkLists.{link_group}
+use Rattle.answer_terms.specs.Asking.{is_allowed}
+use Rattle.answer_terms.proofs.LinkLists.{link_group}
 use Rattle.answer_judge.specs.Meeting.{holds}
 use Rattle.messages.specs.Message.{Message}
-use Rattle.answer_zone.specs.Served.{Group, answer_groups, served_of, soa, spelled_as}
+use Rattle.answer_terms.specs.Served.{Group, answer_groups, served_of, soa, spelled_as}
 use Rattle.answer_judge.specs.Verified.{verified_links, verified_rrset}
-use Rattle.answer_zone.specs.GroupView.{rrset_of}
-use Rattle.answer_zone.specs.ZoneView.{IsPublished}
+use Rattle.answer_terms.specs.GroupView.{rrset_of}
+use Rattle.answer_terms.specs.ZoneView.{IsPublished}
 use Rattle.answer_judge.proofs.AnswerRrsets.{AreNamed, link_inside, link_labels, low-link_owner, low-next_spelled, next_spelled, soa_not_asked, some_data, sorted_already}
 use Rattle.answer_judge.proofs.DenialDecided.{IsLinkOf, decided_no_type}
 use Rattle.answer_judge.proofs.DenialLink.{Speaks, speaks_for_name}
-use Rattle.answer_zone.proofs.AllowedTypes.{inside_apex, not_nsec, not_rrsig}
+use Rattle.answer_terms.proofs.AllowedTypes.{inside_apex, not_nsec, not_rrsig}
 use Rattle.answer_judge.proofs.DenialTypes.{link_types}
 use Rattle.answer_judge.proofs.GivenLinks.{IsProof, verified_links_given}
 use Rattle.answer_judge.proofs.GivenSignatures.{IsSignedBy, verified_rrset_given, verified_rrset_missing}
-use Rattle.answer_zone.proofs.AllowedTypes.{allowed_plain}
-use Rattle.answer_zone.proofs.ZoneAnswers.{groups_found, groups_without_type, verdict_found, verdict_without_type}
-use Rattle.answer_zone.proofs.ZoneChains.{proofs_are}
-use Rattle.answer_zone.proofs.ZoneData.{label_count-low}
+use Rattle.answer_terms.proofs.AllowedTypes.{allowed_plain}
+use Rattle.answer_terms.proofs.ZoneAnswers.{groups_found, groups_without_type, verdict_found, verdict_without_type}
+use Rattle.answer_terms.proofs.ZoneChains.{proofs_are}
+use Rattle.answer_terms.proofs.ZoneData.{label_count-low}
 use Rattle.messages.proofs.Lists.{Has, eqb-back}
 
 -- an answer of a zone in order, signed by a key that is trusted, whose signatures hold
@@ -48,7 +48,7 @@ pub record IsAnswered (a : Answers) (k : ℕ) (h : Handing) (usable : List Dnske
   pub named : AreNamed rs
   pub allowed : is_allowed h.apex h.asked ≡ true
   pub small : h.asked.rtype < 2 ^ 16
-  pub groups_are : AreGroups a.verifies k h.answer_bytes answer.records h.apex at life keys (answer_groups (served_of h.apex Nsec hash rs) h.asked.name h.asked.rtype)
+  pub groups_are : TellsGroups a.verifies k h.answer_bytes answer.records h.apex at life keys (answer_groups (served_of h.apex Nsec hash rs) h.asked.name h.asked.rtype)
   pub signer : Has keys key
   pub found : (g : Group) → find (fits_key (fields_for h.apex at life g key)) usable ≡ Some key
   pub hold : holds at life h.now ≡ true
@@ -61,7 +61,7 @@ found_verdict a k h usable answer hash rs is there =
     let t = h.asked.rtype in
     let w = trusting a h usable in
     let g : Group = rrset_of false h.apex rs q t in
-    let are = subst (AreGroups a.verifies k h.answer_bytes answer.records h.apex is.at is.life is.keys) (sym (groups_found h.apex hash rs is.published q t (allowed_plain h.apex h.asked is.allowed) there)) is.groups_are in
+    let are = subst (TellsGroups a.verifies k h.answer_bytes answer.records h.apex is.at is.life is.keys) (sym (groups_found h.apex hash rs is.published q t (allowed_plain h.apex h.asked is.allowed) there)) is.groups_are in
     let by : IsSignedBy w h.apex is.at is.life is.keys (g ∷ []) g is.key = record {
       apex_is = refl;
       group = inl refl;
@@ -118,7 +118,7 @@ absent_verdict a k h usable answer hash rs is none there =
     let head : Group = soa (served_of h.apex Nsec hash rs) in
     let g : Group = link_group h.apex rs s.owner s.next in
     let l : Link = record { owner = g.owner; next = spelled_as h.apex rs s.next; bits = bitmap (link_types h.apex rs s.owner) } in
-    let are = subst (AreGroups a.verifies k h.answer_bytes answer.records h.apex is.at is.life is.keys) (denial_groups h.apex hash rs p q t s none there) is.groups_are in
+    let are = subst (TellsGroups a.verifies k h.answer_bytes answer.records h.apex is.at is.life is.keys) (denial_groups h.apex hash rs p q t s none there) is.groups_are in
     let by : IsSignedBy w h.apex is.at is.life is.keys (head ∷ g ∷ []) g is.key = record {
       apex_is = refl;
       group = inr (inl refl);

@@ -2,7 +2,7 @@
 use Rattle.std.proofs.Common.{[], ◌≡◌, ℕ, zero, suc, ◌+◌, ◌<◌, ◌≤◌, Bool, true, false, not, ◌&&◌, ◌||◌, ◌==◌, List, ◌∷◌, ◌++◌, map, length, drop, get_or, refl, sym, ap, ◌∙◌, arith}
 use Rattle.std.specs.Prelude.{Option, Some, None}
 use Rattle.std.specs.Option.{is_some, option_map}
-use Rattle.answer_judge.specs.declared.judge.groups.Signed.{Signed}
+use Rattle.answer_judge.specs.declared.judging.groups.Signed.{Signed}
 use Rattle.std.specs.List.{AllByRecursion, find, list_any}
 use Rattle.std.proofs.lemmas.Bool.{and_parts, eqb-true, or_parts, not-true, false≢true}
 use Rattle.std.proofs.lemmas.List.{drop_all}
@@ -19,7 +19,7 @@ use Rattle.answer_judge.specs.Facts.{fits_key, is_due, is_signature}
 use Rattle.answer_rules.specs.Rules.{first_some}
 use Rattle.answer_judge.specs.Marked.{are_apart, data_in, is_like, is_of, is_tried_in, marked, or_first, signed_of, tries_group, tries_in}
 use Rattle.answer_judge.specs.Verified.{Trusting, is_verified, verified_with}
-use Rattle.answer_judge.specs.declared.judge.groups.Group.{Group}
+use Rattle.answer_judge.specs.declared.judging.groups.Group.{Group}
 use Rattle.answer_judge.proofs.JudgeCase.{is_due-owner, is_verified-owner}
 use Rattle.answer_judge.proofs.JudgeMarks.{any_at, marked_done, marked_is, none_like, or_no, or_rest}
 use Rattle.answer_judge.proofs.JudgeTried.{both_of}

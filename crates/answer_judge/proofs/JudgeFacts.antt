@@ -6,7 +6,7 @@ use Rattle.std.proofs.lemmas.Bool.{and_parts}
 use Rattle.definitions.proofs.Members.{both_ways}
 use Rattle.definitions.specs.Name.{Name, low, same, at_or_above}
 use Rattle.definitions.specs.Limits.{pointer_limit}
-use Rattle.answer_judge.specs.declared.judge.groups.Group.{Group}
+use Rattle.answer_judge.specs.declared.judging.groups.Group.{Group}
 use Rattle.answer_rules.specs.Rules.{Link}
 use Rattle.messages.specs.Message.{Spelled, if_true}
 use Rattle.answer_judge.specs.Verified.{Trusting, rrset_in, is_verified, verified_rrset, link_of, link_at, verified_links}

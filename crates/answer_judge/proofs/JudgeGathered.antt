@@ -4,7 +4,7 @@ use Rattle.std.specs.List.{list_any, AllByRecursion}
 use Rattle.std.proofs.lemmas.Bool.{or_parts, and_parts, not-true, false≢true}
 use Rattle.std.proofs.lemmas.List.{map-append}
 use Rattle.definitions.specs.Name.{Name, low, same}
-use Rattle.answer_judge.specs.declared.judge.groups.Group.{Group}
+use Rattle.answer_judge.specs.declared.judging.groups.Group.{Group}
 use Rattle.messages.specs.declared.view.ViewRecord.{ViewRecord}
 use Rattle.messages.specs.Message.{Spelled}
 use Rattle.messages.specs.Record.{spelled}

@@ -7,7 +7,7 @@ use Rattle.std.proofs.lemmas.List.{append-nil, map-append}
 use Rattle.std.proofs.lemmas.List.Elements.{filter_map-append}
 use Rattle.definitions.specs.Sorting.{put_by}
 use Rattle.definitions.specs.Zone.{sorted_data}
-use Rattle.answer_zone.proofs.ZoneSorting.{insert_key-put, sort_by-push}
+use Rattle.answer_judge.proofs.ZoneSorting.{insert_key-put, sort_by-push}
 use Rattle.messages.proofs.Lists.{take_next}
 
 cons_one : {X Y : Type 0} (f : X → Option Y) (x : X) (y : Y) → f x ≡ Some y → filter_map f (x ∷ []) ≡ y ∷ []

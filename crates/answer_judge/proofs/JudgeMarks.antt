@@ -2,14 +2,14 @@
 use Rattle.std.proofs.Common.{◌≡◌, ℕ, zero, suc, ◌<◌, Bool, true, false, ◌&&◌, ◌||◌, not, List, [], ◌∷◌, map, length, get_or, set, refl, sym, ap, ◌∙◌, arith}
 use Rattle.std.specs.List.{list_any}
 use Rattle.std.proofs.lemmas.Bool.{or_parts, and_parts, not-true, false≢true}
-use Rattle.answer_judge.specs.declared.judge.groups.Group.{Group}
+use Rattle.answer_judge.specs.declared.judging.groups.Group.{Group}
 use Rattle.std.specs.Prelude.{◌==◌, Option, Some, None, is_some}
 use Rattle.std.specs.Option.{option_map}
 use Rattle.definitions.specs.Name.{Name, same}
 use Rattle.definitions.specs.Signing.{Fields}
 use Rattle.messages.specs.Message.{Spelled, rrsig_at}
 use Rattle.answer_judge.specs.Facts.{is_signature, signs}
-use Rattle.answer_judge.specs.declared.judge.groups.Signed.{Signed}
+use Rattle.answer_judge.specs.declared.judging.groups.Signed.{Signed}
 use Rattle.answer_judge.specs.Verified.{Trusting, is_verified, verifies_with, verified_by, verified_with}
 use Rattle.answer_judge.specs.Marked.{data_in, is_like, are_apart, marked_if, marked, or_first, signed_of}
 use Rattle.messages.proofs.Lists.{list_any-map}

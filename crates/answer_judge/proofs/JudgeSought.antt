@@ -14,7 +14,7 @@ use Rattle.messages.proofs.ZoneNames.{labels_eq-same, same_labels}
 use Rattle.answer_judge.specs.Counted.{answer_sought, is_alone, keys_sought}
 use Rattle.answer_judge.specs.Marked.{AreGathered, IsAlone, data_in, has_owner, is_of, stands_alone}
 use Rattle.answer_judge.specs.Verified.{datum_of, rrset_in}
-use Rattle.answer_judge.specs.declared.judge.groups.Group.{Group}
+use Rattle.answer_judge.specs.declared.judging.groups.Group.{Group}
 use Rattle.answer_judge.proofs.JudgeCase.{rrset_in-owner}
 use Rattle.answer_judge.proofs.JudgeCounted.{AreSought}
 use Rattle.answer_judge.proofs.JudgeFacts.{alone_owner}

@@ -2,14 +2,14 @@
 use Rattle.std.proofs.Common.{◌≡◌, ℕ, suc, Bool, true, false, ◌&&◌, ◌||◌, ◌==◌, List, [], ◌∷◌, map, length, get_or, set, ◌+◌, ◌<◌, ◌≤◌, drop, cond, refl, sym, ap, ◌∙◌}
 use Rattle.std.specs.Prelude.{Option, Some, None, is_some}
 use Rattle.std.specs.Option.{option_map}
-use Rattle.answer_judge.specs.declared.judge.groups.Signed.{Signed}
+use Rattle.answer_judge.specs.declared.judging.groups.Signed.{Signed}
 use Rattle.std.specs.List.{list_any, filter}
 use Rattle.std.proofs.lemmas.Bool.{and_parts, eq-eqb, eqb-true, false≢true}
 use Rattle.definitions.proofs.Members.{both_ways}
 use Rattle.definitions.specs.Name.{Name, low, same}
 use Rattle.definitions.specs.Signing.{Fields}
 use Rattle.definitions.specs.Limits.{pointer_limit}
-use Rattle.answer_judge.specs.declared.judge.groups.Group.{Group}
+use Rattle.answer_judge.specs.declared.judging.groups.Group.{Group}
 use Rattle.answer_judge.specs.Facts.{is_signature, signs}
 use Rattle.messages.specs.Record.{Signature, fields_read, signature_of, spelled}
 use Rattle.messages.specs.declared.view.ViewRecord.{ViewRecord}

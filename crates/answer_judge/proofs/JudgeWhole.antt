@@ -1,5 +1,5 @@
 -- What a judge says, from what it read and verified.
-use Rattle.std.proofs.Common.{◌≡◌, ℕ, Bool, true, false, not, List, map, filter, length, inr, sym, ap, subst, ◌∙◌}
+use Rattle.std.proofs.Common.{◌≡◌, ℕ, Bool, true, false, not, ◌&&◌, List, map, filter, length, inr, sym, ap, subst, ◌∙◌}
 use Rattle.std.specs.Prelude.{Option, Some, None, Ok, Err, nat_eq, if◌then◌else◌}
 use Rattle.std.specs.Option.{option_map, ok_or}
 use Rattle.definitions.specs.Dnskey.{Dnskey, dnskey_data}
@@ -9,12 +9,13 @@ use Rattle.answer_scheme.specs.Answers.{Answers}
 use Rattle.answer_judge.specs.Facts.{is_usable, is_trusted, RefusesFirst}
 use Rattle.answer_rules.specs.Rules.{Link, decided}
 use Rattle.answer_rules.specs.declared.verdict.Verdict.{Verdict as CodeVerdict}
-use Rattle.answer_judge.specs.declared.judge.verdict.Refusal.{Refusal}
-use Rattle.answer_judge.specs.declared.judge.verdict.Refusal.TheVariants as r
-use Rattle.answer_judge.specs.Judging.{Answer, Refuses, Handing, first_refusal, message_refusal, keys_in, AnswersFirst}
-use Rattle.answer_zone.specs.Asking.{is_allowed}
+use Rattle.answer_judge.specs.declared.judging.verdict.Refusal.{Refusal}
+use Rattle.answer_judge.specs.declared.judging.verdict.Refusal.TheVariants as r
+use Rattle.answer_judge.specs.Judging.{Answer, Refuses, Handing, first_refusal, message_refusal, keys_in, same_question, AnswersFirst}
+use Rattle.answer_terms.specs.Asking.{is_allowed}
+use Rattle.answer_terms.specs.EqualTags.{has_equal_tags}
 use Rattle.answer_rules.specs.Rules.{verdict_of}
-use Rattle.messages.specs.Message.{Message, Spelled, message}
+use Rattle.messages.specs.Message.{Asked, Message, Spelled, message}
 use Rattle.answer_judge.specs.Verified.{is_verified, verified_rrset, verified_links}
 use Rattle.answer_judge.specs.Judged.{trusting, keys_of, is_chained, by_facts, judged_answer, judged_messages, judged_bytes, judged_beyond, said, AnswersAs}
 
@@ -26,6 +27,28 @@ beyond a k h keys answer d z none =
       | Err e ↦ Refuses r.BadDnskeyMessage
       | Ok keys ↦ elim (z i) as (λ _. Answer) [ Err e ↦ Refuses r.BadAnswerMessage | Ok answer ↦ judged_messages a k h keys answer ]
     ])
+
+-- the keys' question, as it is asked of a zone
+abbrev asked_for_keys : Handing → Asked
+asked_for_keys h = record { name = h.apex; rtype = 48; class = 1 }
+
+-- what the messages bring once both are read
+abbrev brought : Bool → Bool → Bool → Option Refusal
+brought p q t = if not (p && q) then Some r.QuestionMismatch else if t then Some r.EqualTags else None
+
+-- both messages are read, ask what they should, and no keys have one tag: they bring no refusal
+pub unrefused : (k : ℕ) (h : Handing) (keys answer : Message) → message k h.dnskey_bytes ≡ Ok keys → message k h.answer_bytes ≡ Ok answer
+    → same_question keys.asked (asked_for_keys h) ≡ true → same_question answer.asked h.asked ≡ true
+    → has_equal_tags (keys_in h.dnskey_bytes h.apex keys.records) ≡ false → message_refusal k h ≡ None
+unrefused k h keys answer d z p q t =
+    (λ i. elim (d i) as (λ _. Option Refusal) [
+      | Err e ↦ Some r.BadDnskeyMessage
+      | Ok keys ↦ elim (z i) as (λ _. Option Refusal) [
+        | Err e ↦ Some r.BadAnswerMessage
+        | Ok answer ↦ brought (same_question keys.asked (asked_for_keys h)) (same_question answer.asked h.asked) (has_equal_tags (keys_in h.dnskey_bytes h.apex keys.records))
+      ]
+    ])
+    ∙ (λ i. brought (p i) (q i) (t i))
 
 -- the keys are signed, or not, as was found out
 pub chained_as : (a : Answers) (h : Handing) (keys : Message) (rs : List Spelled) (ks trusted : List Dnskey) (b : Bool) → rs ≡ keys.records → ks ≡ keys_in h.dnskey_bytes h.apex rs → trusted ≡ filter (is_trusted a h.apex h.ds) ks

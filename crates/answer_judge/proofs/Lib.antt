@@ -30,3 +30,4 @@ pub mod JudgeSought
 pub mod JudgeTotals
 pub mod GivenGroups
 pub mod FirstSigns
+pub mod ZoneSorting

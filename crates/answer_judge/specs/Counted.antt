@@ -11,7 +11,7 @@ use Rattle.answer_scheme.specs.Answers.{Answers}
 use Rattle.answer_judge.specs.Facts.{fits_key, is_due, is_signature, is_trusted, is_usable}
 use Rattle.answer_judge.specs.Judged.{is_chained, keys_of, trusting}
 use Rattle.answer_judge.specs.Judging.{Answer, Handing, Refuses, first_refusal, message_refusal}
-use Rattle.answer_judge.specs.declared.judge.verdict.Refusal.TheVariants as r
+use Rattle.answer_judge.specs.declared.judging.verdict.Refusal.TheVariants as r
 use Rattle.answer_judge.specs.Verified.{Trusting, is_verified, rrset_in}
 
 abbrev pub one_if : Bool → ℕ

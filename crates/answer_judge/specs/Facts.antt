@@ -9,8 +9,8 @@ use Rattle.definitions.specs.Covering.{covers}
 use Rattle.definitions.specs.Bitmap.{bitmap_has}
 use Rattle.definitions.specs.Zone.{Verdict, Records, NoType, NoName, StarNoType, Delegated, star_under}
 use Rattle.answer_scheme.specs.Answers.{Answers}
-use Rattle.answer_judge.specs.declared.judge.verdict.Refusal.{Refusal}
-use Rattle.answer_judge.specs.declared.judge.verdict.Refusal.TheVariants as r
+use Rattle.answer_judge.specs.declared.judging.verdict.Refusal.{Refusal}
+use Rattle.answer_judge.specs.declared.judging.verdict.Refusal.TheVariants as r
 use Rattle.answer_judge.specs.Judging.{Handing, IsRead, is_first}
 use Rattle.messages.specs.Message.{Spelled, Asked}
 
@@ -61,7 +61,3 @@ is_signature s = nat_eq s.rtype 46
 abbrev pub RefusesFirst : Refusal → Option Refusal → Type 0
 RefusesFirst r.Memory first = IsRead first
 RefusesFirst e first = MatchBool (is_first e) (first ≡ Some e) (first ≡ None)
-
-abbrev pub handed : Name → List Ds → List ℕ → List ℕ → Asked → ℕ → ℕ → Handing
-handed apex ds dnskey_bytes answer_bytes asked now limit =
-    record { apex = apex; ds = ds; dnskey_bytes = dnskey_bytes; answer_bytes = answer_bytes; asked = asked; now = now; limit = limit }

@@ -6,8 +6,8 @@ use Rattle.answer_scheme.specs.Answers.{Answers}
 use Rattle.answer_judge.specs.Facts.{is_usable, is_trusted}
 use Rattle.answer_rules.specs.Rules.{decided}
 use Rattle.answer_rules.specs.declared.verdict.Verdict.{Verdict as CodeVerdict}
-use Rattle.answer_judge.specs.declared.judge.verdict.Refusal.{Refusal}
-use Rattle.answer_judge.specs.declared.judge.verdict.Refusal.TheVariants as r
+use Rattle.answer_judge.specs.declared.judging.verdict.Refusal.{Refusal}
+use Rattle.answer_judge.specs.declared.judging.verdict.Refusal.TheVariants as r
 use Rattle.answer_judge.specs.Judging.{Answer, Says, Refuses, Handing, first_refusal, message_refusal, keys_in}
 use Rattle.answer_rules.specs.Rules.{verdict_of}
 use Rattle.messages.specs.Message.{Message, message}

@@ -5,13 +5,14 @@ use Rattle.definitions.specs.Name.{Name, same}
 use Rattle.definitions.specs.Dnskey.{Dnskey, Ds, dnskey_of_data}
 use Rattle.definitions.specs.Zone.{Verdict, Unsigned}
 use Rattle.messages.specs.Message.{Spelled, Asked, message, data_of}
-use Rattle.answer_zone.specs.Asking.{is_allowed}
-use Rattle.answer_zone.specs.EqualTags.{has_equal_tags}
+use Rattle.answer_terms.specs.Asking.{is_allowed}
+use Rattle.answer_terms.specs.EqualTags.{has_equal_tags}
 use Rattle.answer_rules.specs.Rules.{verdict_of}
-use Rattle.answer_judge.specs.declared.judge.verdict.Refusal.{Refusal}
-use Rattle.answer_judge.specs.declared.judge.verdict.Refusal.TheVariants as r
-use Rattle.answer_judge.specs.declared.judge.verdict.Judgement.{Judgement}
-use Rattle.answer_judge.specs.declared.judge.verdict.Refused.{Refused}
+use Rattle.answer_scheme.specs.Moments.{second_of}
+use Rattle.answer_judge.specs.declared.judging.verdict.Refusal.{Refusal}
+use Rattle.answer_judge.specs.declared.judging.verdict.Refusal.TheVariants as r
+use Rattle.answer_judge.specs.declared.judging.verdict.Judgement.{Judgement}
+use Rattle.answer_judge.specs.declared.judging.verdict.Refused.{Refused}
 
 -- what a judge answers, apart from its counts
 pub data Answer : Type 0 where
@@ -30,7 +31,7 @@ abbrev pub hashes_of : Result Judgement Refused → ℕ
 hashes_of (Ok j) = j.hashes
 hashes_of (Err e) = e.hashes
 
--- what it is handed; the moment in whole seconds
+-- what it is handed; the moment in whole seconds modulo 2^32
 pub record Handing : Type 0 where
   pub apex : Name
   pub ds : List Ds
@@ -39,6 +40,18 @@ pub record Handing : Type 0 where
   pub asked : Asked
   pub now : ℕ
   pub limit : ℕ
+
+-- at a moment in nanoseconds
+abbrev pub handed : Name → List Ds → List ℕ → List ℕ → Asked → ℕ → ℕ → Handing
+handed apex ds dnskey_bytes answer_bytes asked at limit = record {
+  apex = apex;
+  ds = ds;
+  dnskey_bytes = dnskey_bytes;
+  answer_bytes = answer_bytes;
+  asked = asked;
+  now = second_of at;
+  limit = limit;
+}
 
 -- ---- the first refusals
 

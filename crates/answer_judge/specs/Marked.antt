@@ -11,10 +11,10 @@ use Rattle.answer_judge.specs.Facts.{is_signature, signs}
 use Rattle.answer_rules.specs.Rules.{Link}
 use Rattle.messages.specs.Message.{Spelled, if_true, rrsig_at}
 use Rattle.answer_judge.specs.Verified.{Trusting, verified_by, rrset_in, link_of}
-use Rattle.answer_judge.specs.declared.judge.groups.Signed.{Signed}
+use Rattle.answer_judge.specs.declared.judging.groups.Signed.{Signed}
 use Rattle.std.specs.Option.{option_map}
-use Rattle.answer_judge.specs.declared.judge.groups.Group.{Group}
-use Rattle.answer_judge.specs.declared.judge.groups.Trust.{Trust}
+use Rattle.answer_judge.specs.declared.judging.groups.Group.{Group}
+use Rattle.answer_judge.specs.declared.judging.groups.Trust.{Trust}
 
 -- what is verified with, under a scheme's answers
 abbrev pub held_by : Answers → Trust → Trusting

@@ -7,22 +7,22 @@ use Rattle.definitions.specs.Serial.{serial_le}
 use Rattle.definitions.specs.Zone.{verdict}
 use Rattle.definitions.specs.ZoneChain.{Nsec}
 use Rattle.messages.specs.HandedRr.{HandedRr}
-use Rattle.answer_zone.specs.Accepting.{IsAccepted, sorted_records, zone_of}
+use Rattle.answer_terms.specs.Accepting.{IsAccepted, sorted_records, zone_of}
 use Rattle.answer_scheme.specs.Answers.{Answers}
 use Rattle.answer_judge.specs.Facts.{is_usable}
-use Rattle.answer_zone.specs.Given.{GivesKeys, GivesAnswer}
+use Rattle.answer_terms.specs.Told.{TellsKeys, TellsAnswer}
 use Rattle.messages.specs.Handed.{IsHanded}
 use Rattle.answer_judge.specs.Judging.{Answer, Says, Handing, Judges, answer_of, verifications_of, hashes_of}
-use Rattle.answer_zone.specs.Asking.{is_allowed}
-use Rattle.answer_zone.specs.EqualTags.{has_equal_tags}
-use Rattle.answer_judge.specs.declared.judge.verdict.Judgement.{Judgement}
-use Rattle.answer_judge.specs.declared.judge.verdict.Refused.{Refused}
+use Rattle.answer_terms.specs.Asking.{is_allowed}
+use Rattle.answer_terms.specs.EqualTags.{has_equal_tags}
+use Rattle.answer_judge.specs.declared.judging.verdict.Judgement.{Judgement}
+use Rattle.answer_judge.specs.declared.judging.verdict.Refused.{Refused}
 use Rattle.answer_judge.specs.Judged.{AnswersAs, judged}
 use Rattle.answer_judge.specs.Counted.{Counts, verifications_due}
-use Rattle.answer_zone.specs.Hashing.{served}
-use Rattle.answer_zone.specs.Served.{Served}
+use Rattle.answer_terms.specs.Hashing.{served}
+use Rattle.answer_terms.specs.Served.{Served}
 use Rattle.messages.specs.WrittenLaws.{IsQuestion}
-use Rattle.answer_zone.specs.ZoneView.{AcceptedZone}
+use Rattle.answer_terms.specs.ZoneView.{AcceptedZone}
 
 -- a DS record of type 2 names the key (RFC 4034, 5.1; RFC 4509)
 pub record HasDs (a : Answers) (apex : Name) (ds : List Ds) (k : Dnskey) : Type 0 where
@@ -78,8 +78,8 @@ pub record WasGiven (a : Answers) (k : ℕ) (h : Handing) (rs : List HandedRr) :
   pub present_tags : has_equal_tags present ≡ false
   pub keysigner_tags : has_equal_tags keysigners ≡ false
   pub zonesigner_tags : has_equal_tags zonesigners ≡ false
-  pub keys_given : GivesKeys a.verifies k (served_from a h rs) h.apex present keysigners keys_at life h.dnskey_bytes
-  pub answer_given : GivesAnswer a.verifies k (served_from a h rs) h.apex zonesigners answer_at life h.asked h.answer_bytes
+  pub keys_told : TellsKeys a.verifies k (served_from a h rs) h.apex present keysigners keys_at life h.dnskey_bytes
+  pub answer_told : TellsAnswer a.verifies k (served_from a h rs) h.apex zonesigners answer_at life h.asked h.answer_bytes
   pub keys_hold : holds keys_at life h.now ≡ true
   pub answer_holds : holds answer_at life h.now ≡ true
 

@@ -1,5 +1,11 @@
 //! A judge that sees a DS set, a DNSKEY answer and a zone answer as bytes alone.
 #![tactic(auto)]
 
-pub mod judge;
+pub mod case;
+pub mod judging;
 pub mod laws;
+
+pub use crate::case::Case;
+pub use crate::judging::by_scheme::judge_with;
+pub use crate::judging::judge;
+pub use crate::judging::verdict::{DataList, Judgement, Refusal, Refused, Verdict};

@@ -2,7 +2,7 @@
 use Rattle.std.proofs.Common.{◌≡◌, ℕ, Bool, false, cond, List, [], refl, sym, ap, subst}
 use Rattle.std.specs.Prelude.{Option, Some, None, Result, Ok, Err}
 use Rattle.definitions.specs.Dnskey.{Dnskey, key_tag}
-use Rattle.answer_publisher.specs.declared.keys.KeyKind.{KeyKind}
+use Rattle.answer_events.specs.declared.key_kind.KeyKind.{KeyKind}
 use Rattle.keyset_keys.specs.declared.errors.Error.{Error}
 use Rattle.keyset_keys.specs.declared.errors.Error.TheVariants as error
 use Rattle.keyset.specs.KeyAnswers as answers

@@ -14,12 +14,15 @@ use Rattle.keyset_rolls.specs.declared.rolls.Action.{Action}
 use Rattle.answer_publisher.specs.Bindings.{Add, BoundKey, Call, Finish, Outcome, Report1, Report2, Start, Wait1, Wait2, ZoneKeys, apply, bound_at, dnskey_for, dnskeys, has_role, is_bound_away, is_published, lifted, on_state, published, roles_of}
 use Rattle.answer_publisher.specs.Bindings as bindings
 use Rattle.keyset.specs.KeyState.{Answer, DuplicateKeyTag, Key, KeyExists, KeySetState, Reference, add, added, has_tag, key_of, new_key, reference_cmp}
-use Rattle.keyset.proofs.KeyTagsCalls.{LeavesTags, TagsFrom, done_tags, report1_tags, report2_tags, start_tags, wait1_tags, wait2_tags}
+use Rattle.keyset.proofs.KeyTagsCalls.{LeavesRising, LeavesTags, RisesFrom, TagsFrom, done_rises, done_tags, report1_rises, report1_tags, report2_rises, report2_tags, start_rises, start_tags, wait1_rises, wait1_tags, wait2_rises, wait2_tags}
 use Rattle.messages.proofs.Lists.{some_is}
+use Rattle.answer_publisher.proofs.BoundAll.{by_digest}
 
--- references rise; no two keys have one tag; each key's reference is bound to a DNSKEY of its tag
+-- references rise, of keys and of what is bound; no two keys have one tag; each key's reference is bound to a DNSKEY of its
+-- tag
 pub record HasOwnTags (s : ZoneKeys) : Type 0 where
   pub sorted : T (is_sorted reference_cmp s.bound)
+  pub rises : T (is_sorted reference_cmp s.keys.keys)
   pub apart : (p q : Reference) (k l : Key) → key_of s.keys p ≡ Some k → key_of s.keys q ≡ Some l → k.tag ≡ l.tag → p ≡ q
   pub tied : (q : Reference) (k : Key) → key_of s.keys q ≡ Some k → (b : BoundKey) × (bound_at s.bound q ≡ Some b) × (key_tag b.key ≡ k.tag)
 
@@ -38,9 +41,10 @@ same_is q = ap is_eq (tied_itself nat_list_cmp_total q)
 
 -- ---- calls that add nothing
 
-kept : (s : ZoneKeys) (ks : KeySetState) → HasOwnTags s → TagsFrom s.keys.keys ks.keys → HasOwnTags (record { keys = ks; bound = s.bound })
-kept s ks h from = record {
+kept : (s : ZoneKeys) (ks : KeySetState) → HasOwnTags s → TagsFrom s.keys.keys ks.keys → RisesFrom s.keys.keys ks.keys → HasOwnTags (record { keys = ks; bound = s.bound })
+kept s ks h from up = record {
   sorted = h.sorted;
+  rises = up h.rises;
   apart = λ p q k l f g e. let a = from p k f in let b = from q l g in h.apart p q a.0 b.0 a.1 b.1 (a.2 ∙ e ∙ sym b.2);
   tied = λ q k f. let a = from q k f in let b = h.tied q a.0 a.1 in (b.0, b.1, b.2 ∙ a.2);
 }
@@ -50,9 +54,9 @@ abbrev pub LeavesOwn : Outcome → Type 0
 LeavesOwn (Ok r) = HasOwnTags r.0
 LeavesOwn (Err e) = Unit {0}
 
-rolled : (s : ZoneKeys) (a : Answer) → HasOwnTags s → LeavesTags s.keys.keys a → LeavesOwn (lifted s.bound a)
-rolled s (Ok x) h from = kept s x.0 h from
-rolled s (Err e) h from = tt
+rolled : (s : ZoneKeys) (a : Answer) → HasOwnTags s → LeavesTags s.keys.keys a → LeavesRising s.keys.keys a → LeavesOwn (lifted s.bound a)
+rolled s (Ok x) h from up = kept s x.0 h from up
+rolled s (Err e) h from up = tt
 
 -- ---- adds
 
@@ -87,6 +91,7 @@ module _ (s : ZoneKeys) (q : Reference) (n : Key) (b : BoundKey) (same : key_tag
   joined : HasOwnTags (record { keys = added q n s.keys; bound = bindings.bind q b s.bound })
   joined = record {
     sorted = is_sorted-put reference_cmp nat_list_cmp_total q b s.bound h.sorted;
+    rises = is_sorted-put reference_cmp nat_list_cmp_total q n s.keys.keys h.rises;
     apart = λ p r k l f g e. apart_at p r k l (eq_by_cmp reference_cmp p q) (eq_by_cmp reference_cmp r q) refl refl (put_at q p n k s.keys.keys f) (put_at q r n l s.keys.keys g) e;
     tied = λ p k f. let a = tied_at p k (eq_by_cmp reference_cmp p q) refl (put_at q p n k s.keys.keys f) in (a.0, find-put reference_cmp nat_list_cmp_total p q b s.bound ∙ a.1, a.2);
   }
@@ -95,10 +100,6 @@ put_in : (s : ZoneKeys) (q : Reference) (n : Key) (b : BoundKey) (t e : Bool) �
 put_in s q n b true e same new h = tt
 put_in s q n b false true same new h = tt
 put_in s q n b false false same new h = joined s q n b same new h
-
-abbrev by_digest : ZoneKeys → Reference → Dnskey → Answer → Option (List ℕ) → Outcome
-by_digest s q k a None = Err bindings.DigestFailed
-by_digest s q k a (Some d) = lifted (bindings.bind q (record { key = k; digest = d }) s.bound) a
 
 bound_in : (s : ZoneKeys) (q : Reference) (k : Dnskey) (n : Key) (o : Option (List ℕ)) (away : Bool) → key_tag k ≡ n.tag → HasOwnTags s → LeavesOwn (cond away (Err bindings.ReferenceBound) (by_digest s q k (add q n s.keys) o))
 bound_in s q k n o true same h = tt
@@ -110,16 +111,16 @@ pub apply_own : (digest : Dnskey → Option (List ℕ)) (c : Call) (now : ℕ) (
 apply_own digest (Add kind q private algorithm octets available) now s h =
     let k = dnskey_for kind algorithm octets in
     bound_in s q k (new_key private (roles_of kind available) algorithm (key_tag k) now) (digest k) (is_bound_away s.bound q k) refl h
-apply_own digest (Start r olds news) now s h = rolled s (on_state (Start r olds news) now s.keys) h (start_tags r olds news now s.keys)
-apply_own digest (Report1 r ttl) now s h = rolled s (on_state (Report1 r ttl) now s.keys) h (report1_tags r ttl now s.keys)
-apply_own digest (Wait1 r) now s h = rolled s (on_state (Wait1 r) now s.keys) h (wait1_tags r now s.keys)
-apply_own digest (Report2 r ttl) now s h = rolled s (on_state (Report2 r ttl) now s.keys) h (report2_tags r ttl now s.keys)
-apply_own digest (Wait2 r) now s h = rolled s (on_state (Wait2 r) now s.keys) h (wait2_tags r now s.keys)
-apply_own digest (Finish r) now s h = rolled s (on_state (Finish r) now s.keys) h (done_tags r s.keys)
+apply_own digest (Start r olds news) now s h = rolled s (on_state (Start r olds news) now s.keys) h (start_tags r olds news now s.keys) (start_rises r olds news now s.keys)
+apply_own digest (Report1 r ttl) now s h = rolled s (on_state (Report1 r ttl) now s.keys) h (report1_tags r ttl now s.keys) (report1_rises r ttl now s.keys)
+apply_own digest (Wait1 r) now s h = rolled s (on_state (Wait1 r) now s.keys) h (wait1_tags r now s.keys) (wait1_rises r now s.keys)
+apply_own digest (Report2 r ttl) now s h = rolled s (on_state (Report2 r ttl) now s.keys) h (report2_tags r ttl now s.keys) (report2_rises r ttl now s.keys)
+apply_own digest (Wait2 r) now s h = rolled s (on_state (Wait2 r) now s.keys) h (wait2_tags r now s.keys) (wait2_rises r now s.keys)
+apply_own digest (Finish r) now s h = rolled s (on_state (Finish r) now s.keys) h (done_tags r s.keys) (done_rises r s.keys)
 
 -- an accepted call
 pub own_of : (o : Outcome) (t : ZoneKeys) (acts : List Action) → LeavesOwn o → o ≡ Ok (t, acts) → HasOwnTags t
 own_of o t acts h e = subst LeavesOwn e h
 
 pub none_own : (name : List (List ℕ)) → HasOwnTags (bindings.no_keys name)
-none_own name = record { sorted = tt; apart = λ p q k l f g e. cc; tied = λ q k f. cc }
+none_own name = record { sorted = tt; rises = tt; apart = λ p q k l f g e. cc; tied = λ q k f. cc }

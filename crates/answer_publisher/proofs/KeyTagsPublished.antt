@@ -14,7 +14,7 @@ use Rattle.std.proofs.lemmas.Cmp.{tied_itself}
 use Rattle.definitions.specs.Dnskey.{Dnskey, key_tag, same_key}
 use Rattle.answer_publisher.specs.declared.keys.Publication.{Publication}
 use Rattle.answer_publisher.specs.Bindings.{BoundKey, Call, Outcome, ZoneKeys, apply, dnskeys, has_role, is_published, no_keys, published}
-use Rattle.answer_zone.specs.EqualTags.{clashes, has_equal_tags}
+use Rattle.answer_terms.specs.EqualTags.{clashes, has_equal_tags}
 use Rattle.keyset.specs.KeyState.{Key, Reference, key_of, reference_cmp}
 use Rattle.answer_publisher.specs.KeyTags.{PublishedTagsDiffer, PublishedTagsPass, behind, left}
 use Rattle.answer_publisher.proofs.KeyTags.{HasOwnTags, LeavesOwn, apply_own, none_own}
@@ -155,7 +155,8 @@ left_own : (s : ZoneKeys) (o : Outcome) → HasOwnTags s → LeavesOwn o → Has
 left_own s (Ok r) h l = l
 left_own s (Err e) h l = h
 
-behind_own : (digest : Dnskey → Option (List ℕ)) (s : ZoneKeys) (cs : List (ℕ × Call)) → HasOwnTags s → HasOwnTags (behind digest s cs)
+-- the tags of a zone's keys are their own, whatever calls are behind them
+pub behind_own : (digest : Dnskey → Option (List ℕ)) (s : ZoneKeys) (cs : List (ℕ × Call)) → HasOwnTags s → HasOwnTags (behind digest s cs)
 behind_own digest s [] h = h
 behind_own digest s (c ∷ cs) h = behind_own digest (left s (apply digest c.1 c.0 s)) cs (left_own s (apply digest c.1 c.0 s) h (apply_own digest c.1 c.0 s h))
 

@@ -11,3 +11,6 @@ pub mod WritesGiven
 pub mod KeyTags
 pub mod KeyTagsPublished
 pub mod SignRecords
+pub mod SignMade
+pub mod BoundAll
+pub mod PublishedKeys

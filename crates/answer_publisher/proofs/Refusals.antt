@@ -17,9 +17,9 @@ use Rattle.answer_scheme.specs.declared.error.SchemeError.TheVariants as error
 use Rattle.answer_publisher.specs.AnswerFaults.{fault_of}
 use Rattle.answer_publisher.specs.Answering.{RefusesAnswer, RefusesKeys, ahead_of_records}
 use Rattle.answer_publisher.specs.Composed.{HasRoom, IsSection, IsTooLong, IsWritten, RefusesGroups, RefusesRecords, joined, rrsig_of}
-use Rattle.answer_zone.specs.GroupView.{FailsFor, GroupView, IsRrsigData, Presents}
+use Rattle.answer_terms.specs.GroupView.{FailsFor, GroupView, IsRrsigData, Presents}
 use Rattle.messages.specs.Message.{Asked}
-use Rattle.answer_zone.specs.Served.{Served, answer_groups, key_group}
+use Rattle.answer_terms.specs.Served.{Served, answer_groups, key_group}
 use Rattle.messages.specs.Written.{Written, header_octets, question_octets, record_octets}
 use Rattle.messages.proofs.MessageWritten.{record_parts, wire-length}
 use Rattle.messages.proofs.NameLaws.{wire_len-some}

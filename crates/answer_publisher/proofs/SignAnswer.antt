@@ -7,9 +7,9 @@ use Rattle.std.proofs.lemmas.Grind.{flat_map-append}
 use Rattle.definitions.specs.Name.{Name}
 use Rattle.definitions.specs.Dnskey.{Dnskey}
 use Rattle.messages.specs.Written.{Written, record_octets}
-use Rattle.answer_zone.specs.GroupView.{GroupView, IsRrsigData}
+use Rattle.answer_terms.specs.GroupView.{GroupView, IsRrsigData}
 use Rattle.answer_publisher.specs.Composed.{IsSection, IsWritten, joined, rrsig_of}
-use Rattle.answer_zone.proofs.SignMade.{AllZip-next}
+use Rattle.answer_publisher.proofs.SignMade.{AllZip-next}
 
 -- one RRset more
 pub joined-snoc : (ps : List (List Written)) (p : List Written) → joined (ps ++ p ∷ []) ≡ joined ps ++ p

@@ -6,13 +6,13 @@ use Rattle.definitions.specs.ZoneChain.{Mode, Nsec}
 use Rattle.definitions.specs.Zone.{apex_of}
 use Rattle.definitions.specs.Limits.{pointer_limit}
 use Rattle.answer_publisher.specs.Answering.{AnswersKeys, AnswersZone}
-use Rattle.answer_zone.specs.Given.{GivesAnswer, GivesKeys}
+use Rattle.answer_terms.specs.Given.{GivesAnswer, GivesKeys}
 use Rattle.messages.specs.Handed.{AreHanded}
 use Rattle.messages.specs.Message.{Asked}
-use Rattle.answer_zone.specs.Hashing.{hash_in, served}
-use Rattle.answer_zone.specs.Served.{answer_groups, by_tag, key_group, served_of}
+use Rattle.answer_terms.specs.Hashing.{hash_in, served}
+use Rattle.answer_terms.specs.Served.{answer_groups, by_tag, key_group, served_of}
 use Rattle.messages.specs.WrittenLaws.{IsQuestion}
-use Rattle.answer_zone.specs.ZoneView.{AcceptedZone, IsPublished}
+use Rattle.answer_terms.specs.ZoneView.{AcceptedZone, IsPublished}
 use Rattle.answer_publisher.proofs.WritesAnswer.{answer_gives}
 use Rattle.answer_publisher.proofs.WritesGroups.{IsFormed}
 use Rattle.answer_publisher.proofs.WritesZone.{answer_formed, keys_formed}

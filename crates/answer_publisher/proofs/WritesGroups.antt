@@ -6,15 +6,15 @@ use Rattle.std.proofs.lemmas.List.Concat.{flat_map-append}
 use Rattle.definitions.specs.Limits.{pointer_limit}
 use Rattle.definitions.specs.Name.{Name, IsName}
 use Rattle.definitions.specs.Dnskey.{Dnskey}
-use Rattle.answer_zone.specs.GroupView.{view_of}
-use Rattle.answer_zone.specs.Served.{Group}
-use Rattle.answer_zone.specs.Given.{AreGroups}
+use Rattle.answer_terms.specs.GroupView.{view_of}
+use Rattle.answer_terms.specs.Served.{Group}
+use Rattle.answer_terms.specs.Given.{AreGroups}
 use Rattle.answer_publisher.specs.Composed.{IsWritten, joined, rrsig_of}
 use Rattle.messages.specs.Written.{Written, record_octets}
 use Rattle.messages.specs.WrittenLaws.{IsRecord, spelled_at, spelled_from}
 use Rattle.messages.proofs.MessageWritten.{StandsAt, end_of}
 use Rattle.answer_publisher.proofs.Refusals.{length_record}
-use Rattle.answer_publisher.proofs.WritesRecords.{ReadsRecord, own_kept, own_records, its_signatures, rest_stands}
+use Rattle.answer_publisher.proofs.WritesRecords.{ReadsRecord, own_kept, own_records, its_signatures, rest_stands, signatures_ttl}
 
 -- an RRset whose fields hold what they say, and whose data read as their canonical form
 pub record IsFormed (g : Group) : Type 0 where
@@ -71,6 +71,7 @@ are_groups sign verifies m p apex at life keys (g ∷ gs) (x ∷ pieces) rest fe
       its_signatures sign verifies m q apex at life g (if g.signed then keys else []) w.0 _ few name f.rtype f.ttl w.1.0 second,
       are_groups sign verifies m e apex at life keys gs pieces rest few name formed.1 written.1 third,
       own_kept p g.written,
+      signatures_ttl q g w.0,
     )
 
 -- ---- sizes

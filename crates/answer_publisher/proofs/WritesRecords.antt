@@ -1,16 +1,17 @@
 -- An RRset that is written in a message, with its signatures behind it, reads back.
 use Rattle.std.proofs.Common.{◌≡◌, ℕ, ◌+◌, ◌<◌, ◌≤◌, Bool, List, [], ◌∷◌, ◌++◌, length, map, Option, Some, refl, subst, ap, ◌∙◌, append_assoc, length-append, arith, lit<}
-use Rattle.std.specs.List.{AllZip, flat_map}
+use Rattle.std.specs.List.{AllByRecursion, AllZip, flat_map}
 use Rattle.std.specs.Int.{w16, w32, to_be_bytes}
 use Rattle.std.proofs.Math.Nat.{mod-lt}
 use Rattle.definitions.specs.Name.{Name, IsName, wire, low}
 use Rattle.definitions.specs.Dnskey.{Dnskey, key_tag}
-use Rattle.definitions.specs.Signing.{Fields, canonical_record, label_count, signed_octets, signed_owner}
+use Rattle.definitions.specs.Signing.{Fields, canonical_record, signed_octets, signed_owner}
 use Rattle.definitions.specs.Limits.{pointer_limit}
 use Rattle.messages.specs.Message.{Spelled, canonical_data}
-use Rattle.answer_zone.specs.Served.{Group}
-use Rattle.answer_zone.specs.Given.{AreRecords, AreSignatures, IsSignature, KeepsOwn}
-use Rattle.answer_zone.specs.GroupView.{GroupView, IsRrsigData, fields_of, view_of}
+use Rattle.answer_terms.specs.Served.{Group}
+use Rattle.answer_terms.specs.Given.{HasTtl, KeepsOwn}
+use Rattle.answer_terms.specs.Told.{AreRecords, AreSignatures, IsSignature}
+use Rattle.answer_terms.specs.GroupView.{GroupView, IsRrsigData, fields_of, view_of}
 use Rattle.answer_publisher.specs.Composed.{rrsig_of}
 use Rattle.messages.specs.Written.{Written, record_octets}
 use Rattle.messages.specs.Rrsig.{rrsig_data}
@@ -61,6 +62,10 @@ pub own_kept : (p : ℕ) (ws : List Written) → AllZip KeepsOwn (spelled_from p
 own_kept p [] = tt
 own_kept p (w ∷ ws) = (record { owner_is = refl; ttl_is = refl }, own_kept (end_of p w) ws)
 
+pub signatures_ttl : (p : ℕ) (g : Group) (ds : List (List ℕ)) → AllByRecursion (HasTtl g.ttl) (spelled_from p (map (rrsig_of (view_of g)) ds))
+signatures_ttl p g [] = tt
+signatures_ttl p g (d ∷ ds) = (refl, signatures_ttl (end_of p (rrsig_of (view_of g) d)) g ds)
+
 -- fields that fit their places
 are_fields : (apex : Name) (at life : ℕ) (g : GroupView) (key : Dnskey) → IsName apex → g.rtype < 65536 → g.ttl < 4294967296 → key_tag key < 65536 → AreFields (fields_of apex at life g key)
 are_fields apex at life g key name t ttl tag = record {
@@ -93,7 +98,6 @@ its_signature sign verifies m p apex at life g key d rest few name t ttl made s 
       owner_is = refl;
       type_is = refl;
       class_is = refl;
-      ttl_is = refl;
       fields_are = signature_here m f made.signature rest (spelled_at p r) (are_fields apex at life (view_of g) key name t ttl made.tag_fits) short stands (ap length made.data_is);
       passes = ap (λ x. verifies key x made.signature) (lowered_signer f g.owner g.datas) ∙ made.passes;
     }

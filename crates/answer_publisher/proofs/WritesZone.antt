@@ -10,19 +10,20 @@ use Rattle.definitions.specs.Zone.{data_at, exists, has, kept_owners, star_under
 use Rattle.definitions.specs.ZoneChain.{Nsec, nsec_names, nsec_next, nsec_types}
 use Rattle.definitions.proofs.BitmapLaws.{spells_set}
 use Rattle.messages.specs.HandedRr.{HandedRr, is_meta}
-use Rattle.answer_zone.specs.Accepting.{zone_with}
+use Rattle.answer_terms.specs.Accepting.{zone_with}
 use Rattle.messages.specs.Handed.{AreHanded, IsHanded}
-use Rattle.answer_zone.specs.GroupView.{all_spelled_by, rrset_of, spelled_by}
-use Rattle.answer_zone.specs.Served.{Group, answer_groups, chain_names, chain_record, chain_ttl, kept_ancestor, key_data, key_group, owned_by, owner_among, proofs_of, served_of, soa, speaks_for, spelled_among, ttl_among, written_among, written_of_handed, written_rr}
-use Rattle.answer_zone.specs.ZoneView.{IsPublished, is_of}
+use Rattle.answer_terms.specs.GroupView.{all_spelled_by, rrset_of, spelled_by}
+use Rattle.denial_rules.specs.OwnFacts.{kept_ancestor}
+use Rattle.answer_terms.specs.Served.{Group, answer_groups, chain_names, chain_record, chain_ttl, key_data, key_group, owned_by, owner_among, proofs_of, served_of, soa, speaks_for, spelled_among, ttl_among, written_among, written_of_handed, written_rr}
+use Rattle.answer_terms.specs.ZoneView.{IsPublished, is_of}
 use Rattle.answer_publisher.proofs.WritesData.{all_plain, reads_handed, reads_nsec}
 use Rattle.answer_publisher.proofs.WritesGroups.{IsFormed}
 use Rattle.answer_zone.proofs.WritesNames.{all_filter, chain_small, first_name, lower_name, next_name, owner_name, owner_names, spelled_name, ttl_small}
 use Rattle.answer_publisher.proofs.WritesRecords.{ReadsAs, ReadsRecord}
-use Rattle.answer_zone.proofs.ZoneAnswers.{groups_found, groups_without_name, groups_without_type}
-use Rattle.answer_zone.proofs.ZoneData.{data_are, low-owner_among}
+use Rattle.answer_terms.proofs.ZoneAnswers.{groups_found, groups_without_name, groups_without_type}
+use Rattle.answer_terms.proofs.ZoneData.{data_are, low-owner_among}
 use Rattle.messages.proofs.Lists.{all_more, all_sorted, map-map}
-use Rattle.answer_zone.proofs.ZoneServed.{owners_kept}
+use Rattle.answer_terms.proofs.ZoneServed.{owners_kept}
 
 -- a record of an RRset, under the RRset's owner or its own
 record_read : (own : Bool) (g : Group) (r : HandedRr) (q : Name) → IsHanded r → is_meta r ≡ false → is_of q g.rtype r ≡ true → IsName g.owner → low g.owner ≡ low q → eqb g.rtype 47 ≡ false → ReadsRecord g (spelled_by own g.owner r) r.bytes

@@ -5,13 +5,13 @@ use Rattle.definitions.specs.Name.{Name}
 use Rattle.definitions.specs.Dnskey.{Dnskey}
 use Rattle.definitions.specs.Zone.{apex_of, verdict}
 use Rattle.messages.specs.Message.{Asked}
-use Rattle.answer_zone.specs.GroupView.{GroupView, Presents}
+use Rattle.answer_terms.specs.GroupView.{GroupView, Presents}
 use Rattle.answer_publisher.specs.Composed.{IsAnswer, RefusesGroups}
-use Rattle.answer_zone.specs.Asking.{is_allowed}
+use Rattle.answer_terms.specs.Asking.{is_allowed}
 use Rattle.messages.specs.Written.{question_octets}
 use Rattle.answer_publisher.specs.declared.fault.AnswerFault.{AnswerFault}
 use Rattle.answer_publisher.specs.declared.fault.AnswerFault.TheVariants as fault
-use Rattle.answer_zone.specs.Served.{Served, answer_groups, key_group}
+use Rattle.answer_terms.specs.Served.{Served, answer_groups, key_group}
 use Rattle.answer_zone.specs.ZoneAnswers.{flags_for, answered}
 
 -- the message that answers a question: the RRsets of the answer in order, those asked for in the answer section

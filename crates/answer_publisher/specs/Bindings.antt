@@ -4,29 +4,20 @@ use Rattle.std.specs.declared.cmp.Ordering.{Ordering}
 use Rattle.std.specs.Ordering.{nat_cmp}
 use Rattle.std.specs.Cmp.Lexicographic.{slice_cmp}
 use Rattle.definitions.specs.Sorting.{sort_by}
-use Rattle.answer_zone.specs.Served.{by_tag}
+use Rattle.answer_terms.specs.Served.{by_tag}
 use Rattle.answer_publisher.specs.declared.keys.Publication.{Publication}
 use Rattle.answer_publisher.specs.declared.keys.Publication.TheVariants as publication
 use Rattle.std.specs.FinMap.Entries as entries
 use Rattle.definitions.specs.Dnskey.{Dnskey, Ds, dnskey_data, key_tag, same_key}
 use Rattle.keyset_keys.specs.declared.keys.KeyType.{KeyType}
 use Rattle.keyset_keys.specs.declared.keys.KeyType.TheVariants.{Ksk, Zsk}
-use Rattle.answer_publisher.specs.declared.keys.KeyKind.{KeyKind}
-use Rattle.answer_publisher.specs.declared.keys.KeyKind.TheVariants.{Ksk as KskKey, Zsk as ZskKey}
+use Rattle.answer_events.specs.declared.key_kind.KeyKind.{KeyKind}
+use Rattle.answer_events.specs.declared.key_kind.KeyKind.TheVariants.{Ksk as KskKey, Zsk as ZskKey}
+pub use Rattle.answer_events.specs.Calls.{Call, Add, Start, Report1, Wait1, Report2, Wait2, Finish, flags_of}
 use Rattle.keyset_rolls.specs.declared.rolls.RollType.{RollType}
 use Rattle.keyset_rolls.specs.declared.rolls.Action.{Action}
 use Rattle.keyset.specs.KeyState as key_set
 use Rattle.keyset.specs.KeyState.{KeySetState, Reference, reference_cmp, clear, new_key, Refusal, Answer, add, start, report1, report2, wait1, wait2, done, key_of, ksk_is, zsk_is, main_is, is_at_parent, is_present, signs}
-
--- a call on the keys; an add names the key's private reference, algorithm and octets, and whether it is available
-pub data Call : Type 0 where
-  Add : KeyKind → Reference → Option Reference → ℕ → List ℕ → Bool → Call
-  Start : RollType → List Reference → List Reference → Call
-  Report1 : RollType → ℕ → Call
-  Wait1 : RollType → Call
-  Report2 : RollType → ℕ → Call
-  Wait2 : RollType → Call
-  Finish : RollType → Call
 
 -- a key that a reference is bound to, with its digest
 pub record BoundKey : Type 0 where
@@ -46,11 +37,6 @@ pub data Fault : Type 0 where
 abbrev pub roles_of : KeyKind → Bool → KeyType
 roles_of KskKey a = Ksk (clear a)
 roles_of ZskKey a = Zsk (clear a)
-
--- an entry point has its bit beside that of a zone key (RFC 4034, 2.1.1)
-abbrev pub flags_of : KeyKind → ℕ
-flags_of KskKey = 257
-flags_of ZskKey = 256
 
 abbrev pub dnskey_for : KeyKind → ℕ → List ℕ → Dnskey
 dnskey_for kind algorithm octets = record { flags = flags_of kind; protocol = 3; algorithm = algorithm; octets = octets }
@@ -122,9 +108,12 @@ ListsRoles = (p : Publication) (s : KeySetState) → references_in p s ≡ key_s
 abbrev pub is_published : KeySetState → Publication → Reference → Bool
 is_published s p q = elim (key_of s q) [ None ↦ false | Some k ↦ has_role p k.roles ]
 
--- the bound keys of these references, in order of reference
+-- the bound keys of these references, in order of reference, each beside its reference, and by themselves
+abbrev pub shown : ZoneKeys → Publication → List (Reference × BoundKey)
+shown s p = filter (λ e. is_published s.keys p e.0) s.bound
+
 abbrev pub published : ZoneKeys → Publication → List BoundKey
-published s p = map (λ e. e.1) (filter (λ e. is_published s.keys p e.0) s.bound)
+published s p = map (λ e. e.1) (shown s p)
 
 -- their keys
 abbrev pub dnskeys : List BoundKey → List Dnskey

@@ -8,3 +8,4 @@ pub mod Composed
 pub mod AnswerFaults
 pub mod Answering
 pub mod World
+pub mod PublishedKeys

@@ -1,4 +1,4 @@
--- What an add of the code hands in, as a call of the definitions.
+-- What an add of the code hands in, beside what is bound.
 use Rattle.std.specs.Prelude.{ℕ, List, [], Result, Ok, Err, string_bytes}
 use Rattle.definitions.specs.Dnskey.{key_tag}
 use Rattle.answer_publisher.specs.declared.keys.NewKey.{NewKey}
@@ -7,12 +7,8 @@ use Rattle.keyset_keys.specs.declared.errors.Error.{Error}
 use Rattle.keyset.specs.KeyState.{KeySetState, Answer, add, new_key, text_of, is_available}
 use Rattle.keyset.specs.KeyAnswers as answers
 use Rattle.keyset.specs.KeyAnswers.{Refuses, refusal_of}
-use Rattle.answer_publisher.specs.Bindings.{Call, Add, ZoneKeys, BoundKey, roles_of, bind, lifted}
+use Rattle.answer_publisher.specs.Bindings.{ZoneKeys, BoundKey, roles_of, bind, lifted}
 use Rattle.answer_publisher.specs.KeyCalls.{Gives, IsAccepted}
-
--- with the octets of the key
-abbrev pub add_of : NewKey → List ℕ → Call
-add_of n octets = Add n.kind (string_bytes n.pubref) (text_of n.privref) n.algorithm octets (is_available n.available)
 
 -- the add to the key set alone, by the key's tag
 abbrev pub added_tag : KeySetState → NewKey → ℕ → Answer

@@ -6,17 +6,19 @@ use Rattle.definitions.specs.Limits.{pointer_limit}
 use Rattle.definitions.specs.ZoneChain.{Mode}
 use Rattle.messages.specs.HandedRr.{HandedRr}
 use Rattle.messages.specs.Message.{Asked}
-use Rattle.answer_zone.specs.Accepting.{sorted_records}
-use Rattle.answer_zone.specs.ZoneView.{AcceptedZone}
-use Rattle.answer_zone.specs.Hashing.{served}
-use Rattle.answer_zone.specs.Served.{Served}
+use Rattle.answer_terms.specs.Accepting.{sorted_records}
+use Rattle.answer_terms.specs.ZoneView.{AcceptedZone}
+use Rattle.answer_terms.specs.Hashing.{served}
+use Rattle.answer_terms.specs.Served.{Served}
 use Rattle.answer_scheme.specs.Answers.{Answers}
-use Rattle.answer_zone.specs.Given as spelled
+use Rattle.answer_terms.specs.Given as spelled
+use Rattle.answer_terms.specs.Told as told
 use Rattle.answer_publisher.specs.declared.publishing.Publisher.{Publisher}
 use Rattle.answer_publisher.specs.declared.fault.AnswerFault.{AnswerFault}
 use Rattle.answer_publisher.specs.declared.keys.Publication.TheVariants as publication
 use Rattle.answer_publisher.specs.Bindings.{ZoneKeys, published, dnskeys, keys_by_tag}
-use Rattle.answer_publisher.specs.Publishing.{digest_at, second_of}
+use Rattle.answer_publisher.specs.Publishing.{digest_at}
+use Rattle.answer_scheme.specs.Moments.{second_of}
 use Rattle.answer_publisher.specs.Answering.{AnswersKeys, AnswersZone, RefusesAnswer, RefusesKeys}
 
 -- an accepted zone, how long its signatures hold, what its scheme signs, and what scheme and hasher answer a judge
@@ -74,3 +76,13 @@ SpellsAnswer w keys at asked m = spelled.GivesAnswer w.answers.verifies pointer_
 
 abbrev pub RefusesQuestion : World → ZoneKeys → ℕ → Asked → AnswerFault → Type 0
 RefusesQuestion w keys at asked f = RefusesAnswer w.sign w.answers.verifies (served_in w) w.zone.apex (second_of at) w.life (keys_by_tag keys publication.SignsZone) asked f
+
+-- ---- what any bytes tell a judge
+
+-- the DNSKEY answer of these keys at a moment
+abbrev pub TellsKeys : World → ZoneKeys → ℕ → List ℕ → Type 0
+TellsKeys w keys at m = told.TellsKeys w.answers.verifies pointer_limit (served_in w) w.zone.apex (present_keys keys) (dnskeys (published keys publication.SignsKeys)) (second_of at) w.life m
+
+-- the zone's answer to a question at a moment, signed by these keys
+abbrev pub TellsAnswer : World → ZoneKeys → ℕ → Asked → List ℕ → Type 0
+TellsAnswer w keys at asked m = told.TellsAnswer w.answers.verifies pointer_limit (served_in w) w.zone.apex (dnskeys (published keys publication.SignsZone)) (second_of at) w.life asked m

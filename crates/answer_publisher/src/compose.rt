@@ -1,26 +1,27 @@
 //! Writing answers (RFC 1035, 4.1; RFC 4035, 3.1.1).
 ghost use Rattle.std.specs.Prelude.{◌≡◌, ◌+◌, ◌++◌, [], ◌∷◌, true, map, length, Err, IfOk, IfErr, OnOk, if◌then◌else◌};
 ghost use Rattle.std.specs.List.{AllZip, flat_map};
-ghost use Rattle.answer_zone.specs.GroupView.{FailsFor, IsRrsigData};
+ghost use Rattle.answer_terms.specs.GroupView.{FailsFor, IsRrsigData};
 ghost use Rattle.answer_publisher.specs.Answering.{ahead_of_records};
 ghost use Rattle.messages.specs.Questions.{asked_of};
 ghost use Rattle.answer_scheme.specs.declared.error.SchemeError.TheVariants as error;
 ghost use Rattle.messages.specs.Written.{record_octets};
 ghost use Rattle.answer_publisher.specs.Composed.{HasRoom, IsAnswer, IsSection, RefusesGroups, RefusesRecords, rrsig_of};
-ghost use Rattle.answer_zone.specs.Served.{written_rr};
+ghost use Rattle.answer_terms.specs.Served.{written_rr};
 
 use crate::fault::AnswerFault;
 use crate::signing::{SignatureTerms, sign_group};
 use answer_scheme::error::SchemeError;
 use answer_scheme::scheme::Scheme;
-use answer_zone::dnskey::Dnskey;
+use answer_terms::dnskey::Dnskey;
 use answer_zone::group::RrGroup;
 use messages::names::{Name, Octets};
 use messages::question::Question;
 use messages::write::{push_header, push_question, push_record};
 use names_data::rtype::Rtype;
-use plain::numbers::{Class, Ttl};
-use std::alloc::{AllocError, Global};
+use numbers::class::Class;
+use numbers::ttl::Ttl;
+use std::alloc::Global;
 
 /// The octets of a longest message (RFC 1035, 4.2.2).
 const LONGEST: usize = 65535;
@@ -178,30 +179,5 @@ impl Section {
         push_record(&mut self.octets, owner, rtype, Class::IN, ttl, data)?;
         self.count = count;
         Ok(())
-    }
-}
-
-impl From<AllocError> for AnswerFault {
-    ghost use Rattle.std.specs.Prelude.{◌≡◌};
-    ghost use Rattle.answer_publisher.specs.declared.fault.AnswerFault.TheVariants.{Memory};
-
-    ghost from_gives = { λ _ e. e ≡ Memory };
-
-    fn from(_error: AllocError) -> AnswerFault {
-        AnswerFault::Memory
-    }
-}
-
-impl From<SchemeError> for AnswerFault {
-    ghost use Rattle.answer_publisher.specs.AnswerFaults.{fault_of};
-    ghost use Rattle.std.specs.Prelude.{◌≡◌};
-
-    ghost from_gives = { λ error fault. fault ≡ fault_of error };
-
-    fn from(error: SchemeError) -> AnswerFault {
-        match error {
-            SchemeError::Failed => AnswerFault::SignFailed,
-            SchemeError::Memory => AnswerFault::Memory,
-        }
     }
 }

@@ -1,4 +1,5 @@
 //! Why a publisher refuses.
+use answer_scheme::error::SchemeError;
 pub use answer_zone::fault::{Mode, ZoneFault};
 use keyset;
 use std::alloc::{AllocError, AllocFailed};
@@ -72,6 +73,31 @@ impl From<keyset::Error> for KeyFault {
         match error {
             keyset::Error::Memory => KeyFault::Memory,
             error => KeyFault::Key(error),
+        }
+    }
+}
+
+impl From<AllocError> for AnswerFault {
+    ghost use Rattle.std.specs.Prelude.{◌≡◌};
+    ghost use Rattle.answer_publisher.specs.declared.fault.AnswerFault.TheVariants.{Memory};
+
+    ghost from_gives = { λ _ e. e ≡ Memory };
+
+    fn from(_error: AllocError) -> AnswerFault {
+        AnswerFault::Memory
+    }
+}
+
+impl From<SchemeError> for AnswerFault {
+    ghost use Rattle.std.specs.Prelude.{◌≡◌};
+    ghost use Rattle.answer_publisher.specs.AnswerFaults.{fault_of};
+
+    ghost from_gives = { λ error fault. fault ≡ fault_of error };
+
+    fn from(error: SchemeError) -> AnswerFault {
+        match error {
+            SchemeError::Failed => AnswerFault::SignFailed,
+            SchemeError::Memory => AnswerFault::Memory,
         }
     }
 }

@@ -7,7 +7,7 @@ ghost use Rattle.definitions.specs.Dnskey.{dnskey_data};
 ghost use Rattle.definitions.specs.Sorting.{put_by, sort_by};
 ghost use Rattle.std.specs.Ordering.{nat_cmp};
 ghost use Rattle.keyset.specs.KeyState.{Key, add, texts};
-ghost use Rattle.answer_publisher.specs.Bindings.{ZoneKeys, BoundKey, no_keys, Start, Report1, Wait1, Report2, Wait2, Finish, bound_at, is_bound_away, has_role, is_published, keys_by_tag, flags_of, ds_of, ds_set, dnskey_rdata};
+ghost use Rattle.answer_publisher.specs.Bindings.{ZoneKeys, BoundKey, no_keys, Start, Report1, Wait1, Report2, Wait2, Finish, bound_at, is_bound_away, has_role, is_published, keys_by_tag, ds_of, ds_set, dnskey_rdata};
 ghost use Rattle.answer_publisher.specs.Bindings as bindings;
 ghost use Rattle.answer_publisher.specs.BoundView.{by_text};
 ghost use Rattle.keyset.specs.KeyAnswers.{Changes, IsAccepted};
@@ -15,13 +15,14 @@ ghost use Rattle.answer_publisher.specs.KeyCalls.{ActsOnKeys};
 ghost use Rattle.answer_publisher.specs.NewKeys.{added_tag, added_to, AddsBound, Foretells};
 
 use crate::fault::KeyFault;
-use answer_zone::dnskey::{Dnskey, ZoneKey};
-use answer_zone::ranked::{put_data, put_ranked};
+pub use answer_events::key_kind::KeyKind;
+use answer_terms::dnskey::{Dnskey, ZoneKey};
+use answer_terms::ranked::{put_data, put_ranked};
 use denial_data::Ds;
 use keyset::set::KeySet;
 use keyset::{Action, Available, Error, KeyType, RollType, UnixTime};
 use messages::names::Name;
-use plain::numbers::{DigestAlgorithm, SecurityAlgorithm};
+use numbers::algorithm::{DigestAlgorithm, SecurityAlgorithm};
 use std::alloc::{AllocError, Global};
 use std::collections::BTreeMap;
 use std::marker::Model;
@@ -58,27 +59,6 @@ impl Publication {
                 KeyType::Zsk(state) | KeyType::Csk(_, state) => state.signer(),
                 KeyType::Ksk(_) | KeyType::Include(_) => false,
             },
-        }
-    }
-}
-
-/// A kind of key.
-#[derive(Clone, Copy, Debug, PartialEq, Eq)]
-pub enum KeyKind {
-    /// A key that signs keys: an entry point of the zone.
-    Ksk,
-    /// A key that signs the zone.
-    Zsk,
-}
-
-impl KeyKind {
-    /// The flags of such a key (RFC 4034, 2.1.1).
-    pub fn flags(self) -> u16
-        ensures { result ≡ flags_of self }
-    {
-        match self {
-            KeyKind::Ksk => 257,
-            KeyKind::Zsk => 256,
         }
     }
 }

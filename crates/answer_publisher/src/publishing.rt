@@ -3,18 +3,19 @@ ghost use Rattle.std.specs.Prelude.{◌≡◌, ◌⊎◌, ◌<◌, ◌≤◌, �
 ghost use Rattle.std.specs.List.{AllByRecursion};
 ghost use Rattle.definitions.specs.Name.{IsName, low};
 ghost use Rattle.messages.specs.Handed.{IsHanded};
-ghost use Rattle.answer_zone.specs.Asking.{is_allowed};
+ghost use Rattle.answer_terms.specs.Asking.{is_allowed};
 ghost use Rattle.messages.specs.Questions.{asked_of};
-ghost use Rattle.answer_zone.specs.Served.{key_group, ttl_among};
-ghost use Rattle.answer_zone.specs.GroupView.{Presents};
-ghost use Rattle.answer_zone.specs.Accepting.{IsAccepted, RefusesZone};
-ghost use Rattle.answer_zone.specs.ZoneView.{mode_of};
+ghost use Rattle.answer_terms.specs.Served.{key_group, ttl_among};
+ghost use Rattle.answer_terms.specs.GroupView.{Presents};
+ghost use Rattle.answer_terms.specs.Accepting.{IsAccepted};
+ghost use Rattle.answer_zone.specs.Faults.{RefusesZone};
+ghost use Rattle.answer_zone.specs.ModeView.{mode_of};
 ghost use Rattle.messages.specs.HandedRr.{handed_of};
 ghost use Rattle.keyset.specs.KeyState.{text_of, is_available, texts};
 ghost use Rattle.answer_publisher.specs.Bindings.{no_keys, dnskey_for, ds_set, is_bound_away, published, dnskeys, keys_by_tag, Add, Start, Report1, Wait1, Report2, Wait2, Finish};
 ghost use Rattle.answer_publisher.specs.KeyCalls.{Acts, Adds};
-ghost use Rattle.answer_publisher.specs.NewKeys.{add_of};
-ghost use Rattle.answer_publisher.specs.Publishing.{digest_at, second_of};
+ghost use Rattle.answer_publisher.specs.Publishing.{digest_at};
+ghost use Rattle.answer_scheme.specs.Moments.{second_of};
 ghost use Rattle.answer_publisher.specs.World.{AnswersKeysQuestion, AnswersQuestion, RefusesKeysQuestion, RefusesQuestion, SpellsAnswer, SpellsKeys, digests, present_keys, world_of, zone_by};
 
 use crate::compose::compose_answer;
@@ -23,9 +24,9 @@ use crate::keys::{KeyKind, NewKey, Publication, ZoneKeys};
 use crate::signing::SignatureTerms;
 use answer_scheme::error::SchemeError;
 use answer_scheme::scheme::Scheme;
-use answer_zone::dnskey::{Dnskey, ZoneKey};
+use answer_terms::dnskey::{Dnskey, ZoneKey};
+use answer_terms::question::is_allowed;
 use answer_zone::group::RrGroup;
-use answer_zone::question::is_allowed;
 use answer_zone::zone::ZoneRecords;
 use answer_zone::zone::answers::AUTHORITATIVE;
 use denial_data::Ds;
@@ -36,7 +37,8 @@ use messages::names::{Name, ZoneName, copy_name};
 use messages::question::Question;
 use messages::record::ZoneRecord;
 use names_data::rtype::Rtype;
-use plain::numbers::{Class, DigestAlgorithm, SecurityAlgorithm};
+use numbers::algorithm::{DigestAlgorithm, SecurityAlgorithm};
+use numbers::class::Class;
 use std::alloc::{AllocError, Global};
 use std::slice;
 
@@ -55,8 +57,9 @@ pub struct Publisher<'a, S: Scheme, H: Nsec3Hasher> {
 }
 
 impl<'a, S: Scheme, H: Nsec3Hasher> Publisher<'a, S, H> {
-    /// A publisher of these records, without keys. Records that are equal up to TTL are one, the first. A signature
-    /// holds for `life` seconds from the moment of its answer.
+    /// A publisher of these records, without keys. Records that are equal up to TTL are one, the first. `limit` is the
+    /// most iterations of NSEC3 that are accepted. A signature holds for `life` seconds from the moment of its answer.
+    /// NS records below the apex and wildcard owners are not accepted yet (`NotYet`).
     pub fn new(
         alloc: Global,
         apex: Name<Vec<u8>>,
@@ -262,15 +265,15 @@ impl<'a, S: Scheme, H: Nsec3Hasher> Publisher<'a, S, H> {
             Adds digests call creation_ts self.old.keys self.new.keys result }
         ensures rest { self.new ≡ record self.old { keys = self.new.keys } }
     {
-        let new = NewKey {
-            kind: KeyKind::Ksk,
+        self.add_key(
+            KeyKind::Ksk,
             pubref,
             privref,
             algorithm,
-            created: creation_ts,
+            public_key,
+            creation_ts,
             available,
-        };
-        self.add_key(new, public_key)
+        )
     }
 
     /// Adds a zone signing key of these octets, at most 65,531 of them.
@@ -291,30 +294,50 @@ impl<'a, S: Scheme, H: Nsec3Hasher> Publisher<'a, S, H> {
             Adds digests call creation_ts self.old.keys self.new.keys result }
         ensures rest { self.new ≡ record self.old { keys = self.new.keys } }
     {
+        self.add_key(
+            KeyKind::Zsk,
+            pubref,
+            privref,
+            algorithm,
+            public_key,
+            creation_ts,
+            available,
+        )
+    }
+
+    /// Adds a key of a kind, of these octets, at most 65,531 of them. Whether its reference is bound to another key is known
+    /// before any memory is taken.
+    pub fn add_key(
+        &mut self,
+        kind: KeyKind,
+        pubref: String,
+        privref: Option<String>,
+        algorithm: SecurityAlgorithm,
+        public_key: Vec<u8>,
+        creation_ts: UnixTime,
+        available: Available,
+    ) -> Result<(), KeyFault>
+        requires { length public_key.items ≤ 65531 }
+        ensures keys { let at_hand = is_available available in
+            let private = text_of privref in let octets = public_key.items in
+            let call = Add kind (string_bytes pubref) private algorithm octets at_hand in
+            let digests = digests S.digest_of self.old in
+            Adds digests call creation_ts self.old.keys self.new.keys result }
+        ensures rest { self.new ≡ record self.old { keys = self.new.keys } }
+    {
+        if self.is_bound_away(pubref.as_str(), kind, algorithm, &public_key) {
+            return Err(KeyFault::ReferenceBound);
+        }
+        let key = Dnskey::new_unchecked(kind.flags(), 3, algorithm, public_key);
+        let digest = key_digest(self.alloc, self.scheme, self.zone.apex(), &key)?;
         let new = NewKey {
-            kind: KeyKind::Zsk,
+            kind,
             pubref,
             privref,
             algorithm,
             created: creation_ts,
             available,
         };
-        self.add_key(new, public_key)
-    }
-
-    /// Adds a key. Whether its reference is bound to another key is known before any memory is taken.
-    fn add_key(&mut self, new: NewKey, public_key: Vec<u8>) -> Result<(), KeyFault>
-        requires { length public_key.items ≤ 65531 }
-        ensures keys { let call = add_of new public_key.items in
-            let digests = digests S.digest_of self.old in
-            Adds digests call new.created self.old.keys self.new.keys result }
-        ensures rest { self.new ≡ record self.old { keys = self.new.keys } }
-    {
-        if self.is_bound_away(new.pubref.as_str(), new.kind, new.algorithm, &public_key) {
-            return Err(KeyFault::ReferenceBound);
-        }
-        let key = Dnskey::new_unchecked(new.kind.flags(), 3, new.algorithm, public_key);
-        let digest = key_digest(self.alloc, self.scheme, self.zone.apex(), &key)?;
         self.keys.add(new, key, digest)
     }
 

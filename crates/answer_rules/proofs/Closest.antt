@@ -2,7 +2,7 @@
 use Rattle.std.proofs.Common.{◌≡◌, Bool, true, false, ◌||◌, List, [], ◌∷◌, drop, refl, sym, ap, ◌∙◌}
 use Rattle.std.specs.Prelude.{Option, Some, None, MatchOption}
 use Rattle.definitions.specs.Name.{Name, Label, at_or_above}
-use Rattle.names_flat.specs.Suffixes.{suffixes}
+use Rattle.names_labels.specs.Suffixes.{suffixes}
 use Rattle.answer_rules.specs.Rules.{Link, closest}
 
 -- a name that the link shows to exist, or else another

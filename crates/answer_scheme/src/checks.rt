@@ -5,7 +5,7 @@ ghost use Rattle.answer_scheme.specs.Answers.{Answers};
 use crate::error::SchemeError;
 use denial_hashes::hasher::HashError;
 use denial_keys::dnskey::Dnskey;
-use plain::numbers::DigestAlgorithm;
+use numbers::algorithm::DigestAlgorithm;
 use std::alloc::Global;
 
 /// What a judge asks of a scheme and a hasher. A contract sees how often `verify` and `hash` were called.
@@ -25,18 +25,15 @@ pub trait Checks {
         ensures same { answers self.new ≡ answers self.old };
 
     fn digest(
-        &mut self,
+        &self,
         alloc: Global,
         algorithm: DigestAlgorithm,
         octets: &[u8],
     ) -> Result<Vec<u8>, SchemeError>
         ensures answer { IfOk result
-            (λ d. (answers self.old).digest algorithm octets.now ≡ Some d.items) }
+            (λ d. (answers self.now).digest algorithm octets.now ≡ Some d.items) }
         ensures failed { IsErrOf result SchemeError.Failed
-            → (answers self.old).digest algorithm octets.now ≡ None }
-        ensures verifications { verified self.new ≡ verified self.old }
-        ensures hashes { hashed self.new ≡ hashed self.old }
-        ensures same { answers self.new ≡ answers self.old };
+            → (answers self.now).digest algorithm octets.now ≡ None };
 
     fn hash(
         &mut self,

@@ -7,7 +7,7 @@ use crate::scheme::Scheme;
 use crate::steps::Steps;
 use denial_hashes::hasher::{HashError, Nsec3Hasher};
 use denial_keys::dnskey::Dnskey;
-use plain::numbers::DigestAlgorithm;
+use numbers::algorithm::DigestAlgorithm;
 use std::alloc::Global;
 use std::sync::ledger::{Blank, Ledger};
 
@@ -58,7 +58,7 @@ impl<'a, S: Scheme, H: Nsec3Hasher, L: Ledger, M: Ledger> Checks for SchemeCheck
     }
 
     fn digest(
-        &mut self,
+        &self,
         alloc: Global,
         algorithm: DigestAlgorithm,
         octets: &[u8],

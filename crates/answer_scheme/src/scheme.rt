@@ -4,7 +4,7 @@ ghost use Rattle.definitions.specs.Dnskey.{Dnskey};
 
 use crate::error::SchemeError;
 use denial_keys::dnskey::Dnskey;
-use plain::numbers::DigestAlgorithm;
+use numbers::algorithm::DigestAlgorithm;
 use std::alloc::Global;
 
 /// Signs, verifies and digests. What it answers is a function of the arguments, memory aside.

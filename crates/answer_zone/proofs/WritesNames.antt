@@ -8,9 +8,9 @@ use Rattle.std.proofs.lemmas.List.{length-map}
 use Rattle.definitions.specs.Name.{Name, IsLabel, IsName, labels_eq, low, same, wire_len}
 use Rattle.definitions.specs.ZoneChain.{behind, links}
 use Rattle.messages.specs.HandedRr.{HandedRr}
-use Rattle.answer_zone.specs.Accepting.{soas}
+use Rattle.answer_terms.specs.Accepting.{soas}
 use Rattle.messages.specs.Handed.{IsHanded}
-use Rattle.answer_zone.specs.Served.{chain_ttl, chain_ttl_of, minimum_of, owner_among, spelled_among, spelled_as, ttl_among}
+use Rattle.answer_terms.specs.Served.{chain_ttl, chain_ttl_of, minimum_of, owner_among, spelled_among, spelled_as, ttl_among}
 use Rattle.messages.proofs.NameLaws.{wire_len-cons}
 
 lower_labels : (n : Name) → AllByRecursion IsLabel n → AllByRecursion IsLabel (low n)

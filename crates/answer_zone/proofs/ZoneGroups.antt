@@ -7,9 +7,10 @@ use Rattle.std.proofs.lemmas.List.Elements.{filter_more}
 use Rattle.definitions.specs.Name.{Name, same}
 use Rattle.messages.specs.HandedRr.{HandedRr}
 use Rattle.messages.specs.Written.{Written}
-use Rattle.answer_zone.specs.GroupView.{all_spelled_by, record_under, spelled_by}
-use Rattle.answer_zone.specs.Served.{owned_by, written_of_handed}
-use Rattle.answer_zone.specs.ZoneView.{is_of}
+use Rattle.answer_terms.specs.GroupView.{all_spelled_by, spelled_by}
+use Rattle.answer_zone.specs.GroupRecords.{record_under}
+use Rattle.answer_terms.specs.Served.{owned_by, written_of_handed}
+use Rattle.answer_terms.specs.ZoneView.{is_of}
 use Rattle.answer_zone.specs.declared.group.GroupRecord.{GroupRecord}
 
 one_more : (own : Bool) (owner : Name) (ws : List Written) (r : HandedRr) → all_spelled_by own owner (ws ++ written_of_handed r ∷ []) ≡ all_spelled_by own owner ws ++ spelled_by own owner r ∷ []

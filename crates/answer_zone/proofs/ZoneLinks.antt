@@ -10,14 +10,14 @@ use Rattle.definitions.specs.Name.{Name, low, labels_eq, same, name_cmp, wire}
 use Rattle.definitions.specs.Covering.{before, covers}
 use Rattle.definitions.specs.ZoneChain.{Nsec, nsec_names, nsec_next, nsec_types}
 use Rattle.messages.specs.HandedRr.{HandedRr}
-use Rattle.answer_zone.specs.Accepting.{zone_with}
-use Rattle.answer_zone.specs.GroupView.{Adds, GroupView, Presents}
-use Rattle.answer_zone.specs.Links.{ChainLink, group_of, link_at, link_speaks, links_of, said_of}
-use Rattle.answer_zone.specs.Served.{Group, canonical_group, chain_record, chain_ttl, proofs_of, served_of, spelled_among, spelled_as}
-use Rattle.answer_zone.specs.ZoneView.{IsPublished}
-use Rattle.answer_zone.proofs.LinkLists.{pairs, record_links}
-use Rattle.answer_zone.proofs.ZoneChains.{names_are, next_is}
-use Rattle.answer_zone.proofs.ZoneData.{low-spelled_among}
+use Rattle.answer_terms.specs.Accepting.{zone_with}
+use Rattle.answer_terms.specs.GroupView.{Adds, GroupView, Presents}
+use Rattle.answer_terms.specs.Links.{ChainLink, group_of, link_at, link_speaks, links_of, said_of}
+use Rattle.answer_terms.specs.Served.{Group, canonical_group, chain_record, chain_ttl, proofs_of, served_of, spelled_among, spelled_as}
+use Rattle.answer_terms.specs.ZoneView.{IsPublished}
+use Rattle.answer_terms.proofs.LinkLists.{pairs, record_links}
+use Rattle.answer_terms.proofs.ZoneChains.{names_are, next_is}
+use Rattle.answer_terms.proofs.ZoneData.{low-spelled_among}
 use Rattle.answer_zone.proofs.ZoneGroups.{step}
 use Rattle.messages.proofs.ZoneNames.{labels_eq-same, low-low, same_labels, low_from_Equal, name_cmp-low, name_cmp-same, same-low}
 use Rattle.messages.proofs.Lists.{zip_append}

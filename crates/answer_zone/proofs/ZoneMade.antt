@@ -16,8 +16,10 @@ use Rattle.denial_owners.specs.declared.error.SigningError.{SigningError}
 use Rattle.denial_owners.specs.declared.error.SigningError.TheVariants.{NoSingleSoa, MultipleTtlValues, HashFailed, HashTooLong, HashCollision, Memory}
 use Rattle.messages.specs.HandedRr.{handed_of}
 use Rattle.messages.proofs.Lists.{all_more}
-use Rattle.answer_zone.specs.Accepting.{IsAccepted, RefusesZone, first_fault, has_unlike_ttls, soas, sorted_records, zone_fault, zone_with}
-use Rattle.answer_zone.proofs.ZoneFaults.{IsPlain, internet_from_none, plain_from_none}
+use Rattle.answer_terms.specs.Accepting.{IsAccepted, IsFaultless, has_unlike_ttls, soas, sorted_records, zone_with}
+use Rattle.answer_zone.specs.Faults.{RefusesZone, first_fault, zone_fault}
+use Rattle.answer_terms.proofs.ZonePlain.{IsPlain, plain_from}
+use Rattle.answer_zone.proofs.ZoneFaults.{faultless}
 use Rattle.answer_zone.proofs.ZoneOrder.{IsInternet, all_internet, handed_in_order, sorted_internet, zone_cmp}
 use Rattle.answer_zone.proofs.ZoneTtls.{no_single_soa, single_soa, ttls_are}
 
@@ -26,8 +28,11 @@ one_class_of [] h = tt
 one_class_of (r ∷ rs) h = all_more IsInternet (λ s. s.class ≡ r.class) rs (λ s e. e ∙ sym h.0) h.1
 
 module _ {O : Type 0} (apex : Name) (mode : Mode) (limit : ℕ) (rs : List (Record Name (ZoneRecordData O Name))) (none : first_fault apex mode limit (map handed_of rs) ≡ None) where
+  no_fault : IsFaultless apex mode limit (map handed_of rs)
+  no_fault = faultless apex mode limit (map handed_of rs) none
+
   internet : AllByRecursion IsInternet rs
-  internet = all_internet rs (internet_from_none apex mode limit (map handed_of rs) none)
+  internet = all_internet rs no_fault.of_class_in
 
   pub in_order : map handed_of (sort_by zone_cmp rs) ≡ sorted_records (map handed_of rs)
   in_order = handed_in_order rs internet
@@ -36,7 +41,7 @@ module _ {O : Type 0} (apex : Name) (mode : Mode) (limit : ℕ) (rs : List (Reco
   one_class = one_class_of (sort_by zone_cmp rs) (sorted_internet rs internet)
 
   plain : IsPlain apex (map handed_of (sort_by zone_cmp rs))
-  plain = subst (IsPlain apex) (sym in_order) (plain_from_none apex mode limit (map handed_of rs) none)
+  plain = subst (IsPlain apex) (sym in_order) (plain_from apex mode limit (map handed_of rs) no_fault)
 
   unequal : has_unequal_ttls (λ n. n) zone_type (zone_canonical (λ n. n)) apex false (sort_by zone_cmp rs) ≡ has_unlike_ttls (zone_with apex (sorted_records (map handed_of rs))) (optout_of mode) (sorted_records (map handed_of rs))
   unequal =
@@ -53,7 +58,7 @@ module _ {O : Type 0} (apex : Name) (mode : Mode) (limit : ℕ) (rs : List (Reco
 
   pub accepted : IsSome (soa_ttls (λ n. n) apex (sort_by zone_cmp rs)) → has_unequal_ttls (λ n. n) zone_type (zone_canonical (λ n. n)) apex false (sort_by zone_cmp rs) ≡ false → IsAccepted apex mode limit (map handed_of rs)
   accepted soa ttls = record {
-    list = none;
+    faultless = no_fault;
     soa = ap (λ hs. length (soas apex hs)) (sym in_order) ∙ single_soa apex (sort_by zone_cmp rs) soa;
     ttls = sym unequal ∙ ttls;
   }

@@ -11,7 +11,7 @@ use Rattle.plain.specs.ZoneData.{zone_canonical, zone_type}
 use Rattle.plain.specs.declared.record.Record.{Record}
 use Rattle.plain.specs.declared.zone_data.ZoneRecordData.{ZoneRecordData}
 use Rattle.messages.specs.HandedRr.{HandedRr, handed_of}
-use Rattle.answer_zone.specs.Accepting.{record_cmp, sorted_records}
+use Rattle.answer_terms.specs.Accepting.{record_cmp, sorted_records}
 use Rattle.messages.proofs.Lists.{all_more, all_pass, all_put, all_sorted, list_any-map}
 
 module _ {A B : Type 0} (f : A → B) (c : A → A → Ordering) (d : B → B → Ordering) (P : A → Type 0) (alike : (x y : A) → P x → P y → c x y ≡ d (f x) (f y)) where

@@ -12,10 +12,11 @@ use Rattle.denial_owners.specs.Zones as words
 use Rattle.denial_nsec.specs.Chain.{nsec_chain, nsec_record}
 use Rattle.messages.specs.HandedRr.{handed_of}
 use Rattle.messages.proofs.Lists.{map-map}
-use Rattle.answer_zone.specs.Accepting.{rr_of, zone_with}
-use Rattle.answer_zone.specs.Links.{ChainLink, link_at, link_of, links_of}
-use Rattle.answer_zone.specs.Served.{spelled_among, spelled_as}
-use Rattle.answer_zone.proofs.ZoneChains.{map_agree}
+use Rattle.answer_terms.specs.Accepting.{rr_of, zone_with}
+use Rattle.answer_terms.specs.Links.{ChainLink, link_at, links_of}
+use Rattle.answer_zone.specs.MadeLinks.{link_of}
+use Rattle.answer_terms.specs.Served.{spelled_among, spelled_as}
+use Rattle.answer_terms.proofs.ZoneChains.{map_agree}
 
 module _ {O : Type 0} where
   pub zone_is : (apex : Name) (rs : List (Record Name (ZoneRecordData O Name))) → words.zone_of (λ n. n) zone_type (zone_canonical (λ n. n)) apex rs ≡ zone_with apex (map handed_of rs)

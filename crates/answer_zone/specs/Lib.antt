@@ -1,10 +1,5 @@
-pub mod Accepting
-pub mod Served
-pub mod Links
-pub mod ZoneView
-pub mod GroupView
-pub mod Hashing
+pub mod ModeView
+pub mod Faults
+pub mod MadeLinks
+pub mod GroupRecords
 pub mod ZoneAnswers
-pub mod Asking
-pub mod EqualTags
-pub mod Given

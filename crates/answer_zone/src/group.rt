@@ -3,7 +3,7 @@ ghost use Rattle.std.specs.Prelude.{◌≡◌, map, unwrap_or};
 
 use messages::names::Name;
 use names_data::rtype::Rtype;
-use plain::numbers::Ttl;
+use plain::Ttl;
 use std::alloc::{AllocError, Global};
 use std::marker::Model;
 
@@ -43,7 +43,8 @@ pub struct RrGroup {
 
 impl Model for RrGroup {
     ghost use Rattle.std.specs.Prelude.{map};
-    ghost use Rattle.answer_zone.specs.GroupView.{GroupView, record_under};
+    ghost use Rattle.answer_terms.specs.GroupView.{GroupView};
+    ghost use Rattle.answer_zone.specs.GroupRecords.{record_under};
 
     ghost Value = { GroupView };
 
@@ -60,7 +61,8 @@ impl Model for RrGroup {
 
 impl RrGroup {
     ghost use Rattle.std.specs.Prelude.{◌≡◌, map, IfOk};
-    ghost use Rattle.answer_zone.specs.GroupView.{canonical_view, record_under};
+    ghost use Rattle.answer_terms.specs.GroupView.{canonical_view};
+    ghost use Rattle.answer_zone.specs.GroupRecords.{record_under};
 
     /// An RRset of its parts. Owner and TTL are those of its signatures, and the owner is that of each record which has
     /// none of its own. The label count is that of the owner that the records stem from, which for a wildcard's

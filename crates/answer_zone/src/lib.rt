@@ -1,10 +1,6 @@
-//! A zone's records in canonical order, whether they are accepted, and the RRsets of the zone's answers; what a zone asks
-//! of its keys.
+//! A zone's records in canonical order, whether they are accepted, and the RRsets of the zone's answers.
 #![tactic(auto)]
 
-pub mod dnskey;
 pub mod fault;
 pub mod group;
-pub mod question;
-pub mod ranked;
 pub mod zone;

@@ -1,7 +1,9 @@
 //! A zone's records in canonical order, and the RRsets of its answers. Keys are not known here.
 ghost use Rattle.std.specs.Prelude.{◌≡◌, map, IfOk, IfErr};
-ghost use Rattle.answer_zone.specs.Accepting.{IsAccepted, RefusesZone, sorted_records, zone_fault};
-ghost use Rattle.answer_zone.specs.ZoneView.{IsPublished, mode_of};
+ghost use Rattle.answer_terms.specs.Accepting.{IsAccepted, sorted_records};
+ghost use Rattle.answer_zone.specs.Faults.{RefusesZone, zone_fault};
+ghost use Rattle.answer_terms.specs.ZoneView.{IsPublished};
+ghost use Rattle.answer_zone.specs.ModeView.{mode_of};
 ghost use Rattle.messages.specs.HandedRr.{handed_of};
 ghost use Rattle.messages.specs.Handed.{AreHanded, IsHanded};
 ghost use Rattle.definitions.specs.Name.{IsName};
@@ -10,24 +12,24 @@ ghost use Rattle.std.specs.List.{AllByRecursion};
 
 use crate::fault::{Mode, ZoneFault};
 use crate::zone::chain::{ChainLink, chain_of};
+use crate::zone::composed_record::ComposedRecord;
 use crate::zone::faults::first_fault;
-use crate::zone::handed::HandedRecord;
 use crate::zone::lookups::chain_ttl_among;
 use denial_owners::error::SigningError;
 use denial_sorted::laws::zone_data_order_is_total;
 use denial_sorted::sorted::SortedRecords;
 use messages::names::{Name, ZoneName};
 use messages::record::{ZoneRecord, keeps};
-use plain::numbers::Ttl;
+use plain::Ttl;
 use std::alloc::{AllocError, Global};
 use std::marker::Model;
 
 pub mod answers;
 mod chain;
+mod composed_record;
 mod faults;
-mod given;
-mod handed;
 mod lookups;
+mod record_faults;
 
 /// The records of an accepted zone in canonical order, and its chain with the TTL of its records.
 #[derive(Drop)]
@@ -35,7 +37,7 @@ pub struct ZoneRecords {
     apex: Name<Vec<u8>>,
     mode: Mode,
     limit: u16,
-    records: Vec<HandedRecord>,
+    records: Vec<ComposedRecord>,
     chain: Vec<ChainLink>,
     link_ttl: Ttl,
 }
@@ -43,9 +45,10 @@ pub struct ZoneRecords {
 impl Model for ZoneRecords {
     ghost use Rattle.messages.specs.Handed.{AreHanded};
     ghost use Rattle.std.specs.Prelude.{◌≡◌};
-    ghost use Rattle.answer_zone.specs.Links.{links_of};
-    ghost use Rattle.answer_zone.specs.Served.{chain_ttl};
-    ghost use Rattle.answer_zone.specs.ZoneView.{AcceptedZone, IsPublished, mode_of};
+    ghost use Rattle.answer_terms.specs.Links.{links_of};
+    ghost use Rattle.answer_terms.specs.Served.{chain_ttl};
+    ghost use Rattle.answer_terms.specs.ZoneView.{AcceptedZone, IsPublished};
+    ghost use Rattle.answer_zone.specs.ModeView.{mode_of};
 
     ghost Value = { AcceptedZone };
 
@@ -130,13 +133,13 @@ impl ZoneRecords {
 }
 
 /// The records with their data composed.
-fn composed(alloc: Global, records: Vec<ZoneRecord>) -> Result<Vec<HandedRecord>, AllocError>
+fn composed(alloc: Global, records: Vec<ZoneRecord>) -> Result<Vec<ComposedRecord>, AllocError>
     ensures views { IfOk result (λ v. v.items ≡ map handed_of records.items) }
     ensures handed { IfOk result (λ v. AllByRecursion IsHanded v.items) }
 {
     let mut composed = Vec::with_capacity(alloc, records.len())?;
     for record in records {
-        composed.push(HandedRecord::new(alloc, record)?)?;
+        composed.push(ComposedRecord::new(alloc, record)?)?;
     }
     Ok(composed)
 }

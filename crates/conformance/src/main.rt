@@ -1,22 +1,13 @@
-//! Tests of names: rows of the standards, and what tools of others say, each line checked.
+//! Tests of names that no line of `name_lines` carries: calls that are refused memory, buffers of fixed sizes, what is
+//! written in place, walks from places, and faults that no text brings.
 #![tactic(auto)]
 
 #[cfg(test)]
-mod name_order;
+mod label_tests;
 #[cfg(test)]
 mod name_tests;
 #[cfg(test)]
-mod name_text;
-#[cfg(test)]
-mod octet_text;
-#[cfg(test)]
-mod part_tests;
-#[cfg(test)]
 mod refusal_tests;
-#[cfg(test)]
-mod tests;
-#[cfg(test)]
-mod text_tests;
 
 /// There is nothing to run but the tests.
 fn main() {}

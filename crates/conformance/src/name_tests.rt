@@ -1,147 +1,114 @@
-//! Rows that the standards and the public crate give.
+//! What is told of names where no line can ask: walks from places, texts in one walk, faults that no text brings, and laws.
 
-use arrayvec::ArrayVec;
-use names_flat::builder::{Finish, NameBuilder};
-use names_flat::laws;
-use names_flat::name::Name;
-use names_flat::push_error::{PushError, PushNameError};
-use names_flat::relative::RelativeName;
-use names_labels::name_error::NameError;
-use names_labels::relative_error::RelativeNameError;
-use names_labels::traits::ToLabelIter;
-use names_traits::to_name::ToName;
-use names_traits::to_relative::ToRelativeName;
-use names_wire::label::LabelTypeError;
-use std::cmp::Ordering;
+use names::laws::{
+    canonical_order_is_total, names_below_an_apex_are_an_interval, what_is_read_is_passed_over,
+};
+use names::{
+    Chain, FormError, FromStrError, Labels, Name, ParseError, ParsedName, Parser, PushNameError,
+    RelativeFromStrError, RelativeName,
+};
+use names_builder::laws::refused_text_has_one_fault;
+use names_builder::walk::{relative_octets, text_octets};
+use names_labels::laws::printed_name_is_read_back;
+use names_wire::laws::{
+    printed_label_is_read_back, refused_label_text_has_one_fault, spelled_symbols_are_read,
+};
+use std::process::Abort;
+use std::test::Fail;
 
-fn orders<N: ToName>(left: &N, right: &N) -> (Ordering, Ordering, Ordering) {
-    (
-        left.name_cmp(right),
-        left.composed_cmp(right),
-        left.lowercase_composed_cmp(right),
-    )
-}
-
-fn shares_labels<N: ToRelativeName>(left: &N, right: &N) -> bool {
-    left.name_eq(right) && left.starts_with(right) && left.ends_with(right)
-}
-
-#[test]
-fn flat_names_are_read(rt: HostRuntime) {
-    let www = Name::from_slice(b"\x03www\x07EXAMPLE\x03com\x00").expect(&rt, "a name");
-    let com = Name::from_slice(b"\x07example\x03COM\x00").expect(&rt, "a name");
-    let root = Name::from_slice(b"\x00").expect(&rt, "the root");
-    assert!(rt; www.label_count() == 4 && www.compose_len() == 17);
-    assert!(rt; www.first().as_slice() == b"www".as_slice() && www.last().is_root());
-    assert!(rt; www.ends_with(&com) && www.ends_with(&root) && !com.ends_with(&www));
-    assert!(rt; www.starts_with(&www) && !www.starts_with(&com));
-    assert!(rt; root.is_root() && !www.is_root());
-    assert!(rt; www.for_ref() == www && www != com);
-    assert!(rt; www.into_octets() == b"\x03www\x07EXAMPLE\x03com\x00".as_slice());
-}
-
-#[test]
-fn octets_that_spell_no_name_are_refused(rt: HostRuntime) {
-    assert!(rt; Name::from_slice(b"").err() == Some(NameError::ShortInput));
-    assert!(rt; Name::from_slice(b"\x03ww").err() == Some(NameError::ShortInput));
-    assert!(rt; Name::from_slice(b"\x03www").err() == Some(NameError::RelativeName));
-    assert!(rt; Name::from_slice(b"\x03www\x00\x00").err() == Some(NameError::TrailingData));
-    assert!(rt; Name::from_slice(b"\xc0\x05foo").err() == Some(NameError::CompressedName));
-    assert!(rt;
-        Name::from_slice(b"\x66foo\x00").err()
-            == Some(NameError::BadLabel(LabelTypeError::Extended(0x66)))
-    );
-    assert!(rt;
-        Name::from_slice(b"\xb3foo\x00").err()
-            == Some(NameError::BadLabel(LabelTypeError::Undefined))
-    );
-    assert!(rt; Name::from_slice(&[1; 256]).err() == Some(NameError::LongName));
-    assert!(rt;
-        RelativeName::from_slice(b"\x03www\x00").err() == Some(RelativeNameError::AbsoluteName)
-    );
-    assert!(rt; RelativeName::from_slice(&[1; 255]).err() == Some(RelativeNameError::LongName));
-}
-
-#[test]
-fn canonical_order_is_not_that_of_octets(rt: HostRuntime) {
-    let z = Name::from_slice(b"\x01z\x07example\x00").expect(&rt, "a name");
-    let yy = Name::from_slice(b"\x02yy\x01a\x07example\x00").expect(&rt, "a name");
-    assert!(rt; orders(&z, &yy) == (Ordering::Greater, Ordering::Less, Ordering::Less));
-    assert!(rt; z > yy);
-    laws::canonical_order_is_total();
-    laws::names_below_an_apex_are_an_interval();
-    laws::printed_name_is_read_back();
-    laws::refused_text_has_one_fault();
-}
-
-#[test]
-fn relative_names_are_read(rt: HostRuntime) {
-    let www = RelativeName::from_slice(b"\x03www\x07example").expect(&rt, "a name");
-    let same = RelativeName::from_slice(b"\x03WWW\x07example").expect(&rt, "a name");
-    let empty = RelativeName::from_slice(b"").expect(&rt, "the empty name");
-    assert!(rt; www.label_count() == 2 && www.ndots() == 1 && www.len() == 12);
-    assert!(rt;
-        empty.ndots() == 0 && empty.is_empty() && empty.first().is_none() && empty.last().is_none()
-    );
-    assert!(rt; shares_labels(&www, &same) && www == same && www > empty);
-    assert!(rt; www.for_ref().into_octets() == b"\x03www\x07example".as_slice());
-}
-
-#[test]
-fn builders_keep_the_limits(rt: HostRuntime) {
-    let mut builder = NameBuilder::new(rt.alloc());
-    for _ in 0..3 {
-        assert!(rt; builder.append_label(&[b'a'; 63]).is_ok());
+/// From each place each label is the one at its index, and behind the last there is none.
+fn walk<N: Labels>(rt: &impl Abort, name: &N) {
+    let count = name.label_count();
+    for start in 0..count {
+        let mut place = name.label_place(start);
+        for index in start..count {
+            let (label, next) = name.label_onward(place, index).expect(rt, "a label");
+            assert!(rt; Some(label) == name.label_at(index));
+            place = next;
+        }
+        assert!(rt; name.label_onward(place, count).is_none());
     }
-    assert!(rt; builder.append_slice(&[b'b'; 61]).is_ok());
-    assert!(rt; builder.len() == 254 && builder.in_label());
-    assert!(rt; builder.push(b'c') == Err(PushError::LongName));
-    assert!(rt; builder.push(b'c') == Err(PushError::LongName) && builder.len() == 254);
-    let name = builder.into_name().expect(&rt, "room for the root");
-    assert!(rt; name.compose_len() == 255);
+    let place = name.label_place(count);
+    assert!(rt; name.label_onward(place, count).is_none());
 }
 
 #[test]
-fn builders_refuse_long_labels_and_full_buffers(rt: HostRuntime) {
-    let mut builder = NameBuilder::new(rt.alloc());
-    assert!(rt; builder.append_slice(&[b'a'; 63]).is_ok());
-    assert!(rt; builder.push(b'a') == Err(PushError::LongLabel) && builder.len() == 64);
-    let mut small = NameBuilder::from_builder(ArrayVec::<u8, 4>::new()).expect(&rt, "no labels");
-    assert!(rt; small.push(1).is_ok() && small.push(2).is_ok() && small.push(3).is_ok());
-    assert!(rt;
-        small.push(4) == Err(PushError::ShortBuf)
-            && small.as_slice() == b"\x00\x01\x02\x03".as_slice()
+fn labels_are_reached_from_places(rt: HostRuntime) {
+    let message = b"\x03com\x00\x07example\xc0\x00\x03www\xc0\x05";
+    let mut parser = Parser::from_ref(message);
+    assert!(rt; parser.seek(15).is_ok());
+    let name = ParsedName::parse(&mut parser).expect(&rt, "a name");
+    walk(&rt, &name);
+    assert!(rt; name.label_at(1).map(|label| label.len()) == Some(7) && name.label_at(4).is_none());
+    walk(
+        &rt,
+        &Name::from_slice(b"\x03www\x07example\x00").expect(&rt, "a name"),
     );
-    small.end_label();
-    assert!(rt; small.finish().as_slice() == b"\x03\x01\x02\x03".as_slice());
+    let host = RelativeName::from_slice(b"\x03www\x07example").expect(&rt, "a name");
+    walk(&rt, &host);
+    walk(&rt, &Chain::new(host, name).expect(&rt, "a chain"));
+}
+
+/// Each symbol gives an octet, and each label stands behind its length.
+#[test]
+fn texts_are_read_in_one_walk(rt: HostRuntime) -> Result<(), Fail> {
+    let alloc = rt.alloc();
+    for text in [
+        b"Www.example".as_slice(),
+        b"Www.example.",
+        b"W\\119w.ex\\ampl\\e.",
+    ] {
+        let octets = text_octets(alloc, text)?;
+        assert!(rt; octets.as_deref() == Some(b"\x03Www\x07example\x00".as_slice()));
+    }
+    let octets = relative_octets(alloc, b"a\\..\\000\\ [")?;
+    assert!(rt; octets.as_deref() == Some(b"\x02a.\x03\x00 [".as_slice()));
+    for text in [
+        b"a..b".as_slice(),
+        b".",
+        b"",
+        b"a\x7f",
+        b"\\[",
+        b"\\25",
+        b"\\256",
+        b"\\",
+    ] {
+        assert!(rt; text_octets(alloc, text)?.is_none());
+        assert!(rt; relative_octets(alloc, text)?.is_none());
+    }
+    assert!(rt; relative_octets(alloc, b"a.")?.is_none());
+    Ok(())
+}
+
+/// Texts of faults that come of want of memory alone, and of those that a caller names.
+#[test]
+fn faults_that_no_line_brings(rt: HostRuntime) -> Result<(), Fail> {
+    let short = FromStrError::ShortBuf;
+    let (name, relative) = (
+        PushNameError::ShortBuf,
+        RelativeFromStrError::FromStr(short),
+    );
+    assert_eq!(rt; short.to_string(rt.alloc())?.as_str(), "buffer too short");
+    assert_eq!(rt; name.to_string(rt.alloc())?.as_str(), "buffer too short");
+    assert_eq!(rt;
+        relative.to_string(rt.alloc())?.as_str(),
+        "buffer too short"
+    );
+    let fault = FormError::new("some fault");
+    assert_eq!(rt; fault.to_string(rt.alloc())?.as_str(), "some fault");
+    let fault = ParseError::form_error("another one");
+    assert_eq!(rt; fault.to_string(rt.alloc())?.as_str(), "another one");
+    Ok(())
 }
 
 #[test]
-fn names_are_joined(rt: HostRuntime) {
-    let www = RelativeName::from_slice(b"\x03www").expect(&rt, "a name");
-    let com = Name::from_slice(b"\x03com\x00").expect(&rt, "a name");
-    let mut builder = NameBuilder::with_capacity(rt.alloc(), 16).expect(&rt, "room");
-    assert!(rt;
-        builder.is_empty() && builder.append_name(&www).is_ok() && builder.push(b'x').is_ok()
-    );
-    let joined = builder.append_origin(&com).expect(&rt, "room");
-    assert!(rt; joined.as_slice() == b"\x03www\x01x\x03com\x00".as_slice());
-    let copied = joined.to_vec(rt.alloc()).expect(&rt, "memory");
-    assert!(rt; copied == joined && copied.ends_with(&com) && copied.ends_with(&Name::root_ref()));
-    assert!(rt;
-        Name::root_slice().is_root() && RelativeName::empty_ref() == RelativeName::empty_slice()
-    );
-    let fourth = NameBuilder::from_builder(ArrayVec::<u8, 4>::new()).expect(&rt, "no labels");
-    assert!(rt; fourth.append_origin(&com).err() == Some(PushNameError::ShortBuf));
-}
-
-#[test]
-fn names_are_printed(rt: HostRuntime) {
-    let name = Name::from_slice(b"\x03a.b\x01A\x02\x07 \x00").expect(&rt, "a name");
-    let root = Name::from_slice(b"\x00").expect(&rt, "the root");
-    let part = RelativeName::from_slice(b"\x03www\x07example").expect(&rt, "a name");
-    let text = name.to_string(rt.alloc()).expect(&rt, "memory");
-    assert!(rt; text.as_str() == "a\\.b.A.\\007\\ ");
-    assert!(rt; root.to_string(rt.alloc()).expect(&rt, "memory").as_str() == ".");
-    assert!(rt; part.to_string(rt.alloc()).expect(&rt, "memory").as_str() == "www.example");
+fn laws_hold(_rt: HostRuntime) {
+    canonical_order_is_total();
+    names_below_an_apex_are_an_interval();
+    what_is_read_is_passed_over();
+    printed_name_is_read_back();
+    refused_text_has_one_fault();
+    printed_label_is_read_back();
+    refused_label_text_has_one_fault();
+    spelled_symbols_are_read();
 }

@@ -5,7 +5,7 @@ use denial_bitmap::bitmap::RtypeBitmap;
 use denial_links::nsec::Nsec;
 use denial_links::nsec3::Nsec3;
 use names::{Name, Rtype};
-use plain::numbers::Class;
+use plain::Class;
 use plain::record::Record;
 
 /// A link: owner, next name and types.
@@ -14,23 +14,19 @@ pub type Link = (&'static [u8], &'static [u8], &'static [u16]);
 /// A link of hashed names: the hash in base32hex, and the types.
 pub type HashedLink = (&'static [u8], &'static [u16]);
 
-pub const EXAMPLE_HASH: &[u8] = b"3msev9usmd4br9s97v51r2tdvmr9iqo1";
+const EXAMPLE_HASH: &[u8] = b"3msev9usmd4br9s97v51r2tdvmr9iqo1";
 
-pub const A_HASH: &[u8] = b"6cd522290vma0nr8lqu1ivtcofj94rga";
+const A_HASH: &[u8] = b"6cd522290vma0nr8lqu1ivtcofj94rga";
 
-pub const C_HASH: &[u8] = b"atutakms2nniod8sie19kmfb3uqd60kq";
+const C_HASH: &[u8] = b"atutakms2nniod8sie19kmfb3uqd60kq";
 
-pub const B_C_HASH: &[u8] = b"kgqb5f8cke123q17papomfbrl1tc0551";
+const B_C_HASH: &[u8] = b"kgqb5f8cke123q17papomfbrl1tc0551";
 
-pub const STAR_W_HASH: &[u8] = b"p9n5ptevjsjoskr5u50vc77gp9bdsck8";
+const STAR_W_HASH: &[u8] = b"p9n5ptevjsjoskr5u50vc77gp9bdsck8";
 
-pub const W_HASH: &[u8] = b"tf4v2jbvf5iq28bheot32e5nsh2dbof3";
+const W_HASH: &[u8] = b"tf4v2jbvf5iq28bheot32e5nsh2dbof3";
 
-pub const D_HASH: &[u8] = b"2km8vfb1ttm1c2s1p6aagsi6hkuk0fss";
-
-pub const B_D_HASH: &[u8] = b"vu41psg7s7crjquaha9gjd2me0e687f7";
-
-pub const DEEP_HASH: &[u8] = b"adb8vu4pouc4algo3p9p4tlgjgbddj6n";
+const D_HASH: &[u8] = b"2km8vfb1ttm1c2s1p6aagsi6hkuk0fss";
 
 /// The links of the zone of hosts.
 pub const ZONE_LINKS: [Link; 5] = [

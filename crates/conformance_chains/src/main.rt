@@ -1,20 +1,9 @@
-//! Tests of the owners of chains, of NSEC chains and of chains of hashed names.
+//! Calls on chains that are refused memory. All else that is tried of chains, their owners and hashes of names are lines of
+//! the program `zone_chains`.
 #![tactic(auto)]
 
 #[cfg(test)]
-mod config_tests;
-#[cfg(test)]
-mod hashed_owner_tests;
-#[cfg(test)]
-mod hashed_tests;
-#[cfg(test)]
-mod hashers;
-#[cfg(test)]
 mod links;
-#[cfg(test)]
-mod nsec_tests;
-#[cfg(test)]
-mod owner_tests;
 #[cfg(test)]
 mod refusal_tests;
 #[cfg(test)]

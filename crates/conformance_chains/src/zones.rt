@@ -4,10 +4,10 @@ use denial_sorted::laws::zone_data_order_is_total;
 use denial_sorted::sorted::SortedRecords;
 use denial_sorted::sorter::DefaultSorter;
 use names::{Name, Rtype, Serial, UnknownRecordData};
-use plain::numbers::{Class, Ttl};
 use plain::record::Record;
 use plain::soa::Soa;
 use plain::zone_data::ZoneRecordData;
+use plain::{Class, Ttl};
 use std::alloc::{AllocError, Global};
 use std::process::Abort;
 
@@ -27,13 +27,7 @@ pub const B_C: &[u8] = b"\x01b\x01c\x07example\x00";
 
 pub const D: &[u8] = b"\x01d\x07example\x00";
 
-pub const BELOW_D: &[u8] = b"\x01y\x01d\x07example\x00";
-
 pub const STAR_W: &[u8] = b"\x01*\x01w\x07example\x00";
-
-pub const OTHER: &[u8] = b"\x05other\x00";
-
-pub const DEEP: &[u8] = b"\x01a\x01b\x01d\x07example\x00";
 
 /// A record of a zone: owner, number of the type and TTL; SOA records have a minimum of 900 seconds.
 pub type Line = (&'static [u8], u16, u32);
@@ -46,11 +40,6 @@ pub const ZONE: [Line; 5] = [
     (EXAMPLE, 6, 3600),
     (A, 1, 3600),
 ];
-
-/// A delegation three labels below the apex.
-pub const DEEP_CUT: [Line; 2] = [(EXAMPLE, 6, 3600), (DEEP, 2, 3600)];
-
-pub const APEX_ALONE: [Line; 1] = [(EXAMPLE, 6, 3600)];
 
 pub fn name(rt: &impl Abort, octets: &'static [u8]) -> Owner {
     Name::from_slice(octets).expect(rt, "a name")
@@ -85,16 +74,4 @@ pub fn in_order(rt: &impl Abort, alloc: Global, lines: &[Line]) -> Result<Sorted
         records.push(record(rt, *line))?;
     }
     Sorted::from_vec(records)
-}
-
-/// The records of some lines, in canonical order.
-pub fn sorted(rt: &impl Abort, alloc: Global, lines: &[Line]) -> Sorted {
-    in_order(rt, alloc, lines).expect(rt, "memory")
-}
-
-/// A text record of some octets.
-pub fn text(rt: &impl Abort, owner: &'static [u8], ttl: u32, octets: &'static [u8]) -> Rr {
-    let data = UnknownRecordData::from_octets(Rtype::TXT, octets).expect(rt, "few octets");
-    let data = ZoneRecordData::Unknown(data);
-    Record::new(name(rt, owner), Class::IN, Ttl::from_secs(ttl), data)
 }

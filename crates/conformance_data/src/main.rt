@@ -1,12 +1,9 @@
-//! Tests of numbers and base32hex, and of record data and records: read in messages, written, compared and printed.
+//! Tests of records and sorted records that no line of `record_lines` carries: calls that are refused memory, buffers of fixed
+//! sizes, and a fault that no line brings.
 #![tactic(auto)]
 
 #[cfg(test)]
-mod data_tests;
-#[cfg(test)]
-mod order_tests;
-#[cfg(test)]
-mod plain_tests;
+mod record_tests;
 #[cfg(test)]
 mod refusal_tests;
 

@@ -1,10 +1,12 @@
 //! Records and record data composed to a target that is refused memory: the target stays as it was, and the call succeeds
 //! when it is made again.
 
+mod sorted;
+
 use names::{ComposeRecordData, Composer, Name, Serial, ShortBuf, compose_canonical_name};
-use plain::numbers::{Class, Ttl};
 use plain::record::Record;
 use plain::soa::Soa;
+use plain::{Class, Ttl};
 use std::process::Abort;
 
 type SoaRecord<'a> = Record<Name<&'a [u8]>, Soa<Name<&'a [u8]>>>;

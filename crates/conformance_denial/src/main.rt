@@ -1,20 +1,13 @@
-//! Tests of DNSSEC record data, by rows of the standards. `data_lines` has what name servers and tools of others say.
+//! Tests of DNSSEC record data that lines cannot carry: fixed buffers, laws, and calls that are refused memory. All else that
+//! is tried of these data are lines of the program `data_lines`.
 #![tactic(auto)]
 
 #[cfg(test)]
-mod fault_tests;
+mod buffer_tests;
 #[cfg(test)]
-mod field_tests;
-#[cfg(test)]
-mod key_tests;
-#[cfg(test)]
-mod link_tests;
+mod law_tests;
 #[cfg(test)]
 mod refusal_tests;
-#[cfg(test)]
-mod signature_tests;
-#[cfg(test)]
-mod small_bitmap_tests;
 
 /// There is nothing to run but the tests.
 fn main() {}

@@ -1,6 +1,8 @@
 //! Bitmaps of types.
 
-use crate::octets::text_of;
+use crate::data::push_range;
+use crate::octets::{octets_of, text_of};
+use crate::words::{compared, refused, yes_or_no};
 use denial_data::{RtypeBitmap, RtypeBitmapBuilder};
 use names::Rtype;
 use std::alloc::Global;
@@ -71,4 +73,69 @@ fn given_types(alloc: Global, bitmap: &RtypeBitmap<Vec<u8>>) -> Option<String> {
         text.push('-').ok()?;
     }
     Some(text)
+}
+
+/// The types of a bitmap as text, how many octets it has, whether data may hold them and whether they are none.
+pub fn types_of(alloc: Global, octets: &str) -> Option<String> {
+    let octets = octets_of(alloc, octets)?;
+    let bitmap = match RtypeBitmap::from_octets(octets.as_slice()) {
+        Ok(bitmap) => bitmap,
+        Err(error) => return refused(alloc, &error),
+    };
+    if !bitmap.fits_rdlen() {
+        return None;
+    }
+    let (len, is_empty) = (bitmap.compose_len(), yes_or_no(bitmap.is_empty()));
+    format!(in alloc; "{len}, none {is_empty}: {bitmap}").ok()
+}
+
+/// Whether a bitmap has types.
+pub fn has_types(alloc: Global, line: &str) -> Option<String> {
+    let (octets, types) = line.split_once(' ')?;
+    let octets = octets_of(alloc, octets)?;
+    let bitmap = RtypeBitmap::from_octets(octets.as_slice()).ok()?;
+    let mut text = String::new(alloc);
+    for rtype in &types_in(alloc, types)? {
+        if !text.is_empty() {
+            text.push(',').ok()?;
+        }
+        text.push_str(yes_or_no(bitmap.contains(Rtype::from_int(*rtype))))
+            .ok()?;
+    }
+    Some(text)
+}
+
+/// How many octets from the front on are a bitmap: ranges, joined by commas.
+pub fn accepted_lengths(alloc: Global, octets: &str) -> Option<String> {
+    let octets = octets_of(alloc, octets)?;
+    let mut text = String::new(alloc);
+    for len in 0..=octets.len() {
+        if RtypeBitmap::from_octets(octets.get(..len)?).is_ok() {
+            push_range(alloc, &mut text, Some((len, len)))?;
+        }
+    }
+    Some(text)
+}
+
+/// How a bitmap stands to another.
+pub fn bitmaps(alloc: Global, line: &str) -> Option<String> {
+    let (first, second) = line.split_once(' ')?;
+    let (first, second) = (octets_of(alloc, first)?, octets_of(alloc, second)?);
+    let first = RtypeBitmap::from_octets(first).ok()?;
+    compared(alloc, &first, &RtypeBitmap::from_octets(second).ok()?)
+}
+
+/// The bitmap of the types that are multiples of a number.
+pub fn bitmap_of_each(alloc: Global, step: &str) -> Option<String> {
+    let step = step.parse::<u16>().ok()?;
+    let mut builder = RtypeBitmap::builder(alloc);
+    let mut rtype = Some(0u16);
+    for _ in 0..=u16::MAX {
+        let Some(number) = rtype else {
+            break;
+        };
+        builder.add(Rtype::from_int(number)).ok()?;
+        rtype = number.checked_add(step);
+    }
+    text_of(alloc, builder.finalize().as_slice())
 }

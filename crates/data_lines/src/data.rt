@@ -9,7 +9,8 @@ use std::alloc::Global;
 /// counted behind them.
 pub fn written_again(alloc: Global, line: &str) -> Option<String> {
     let (rtype, octets) = line.split_once(' ')?;
-    let (rtype, mut octets) = (rtype.parse::<u16>().ok()?, octets_of(alloc, octets)?);
+    let rtype = Rtype::from_int(rtype.parse().ok()?);
+    let mut octets = octets_of(alloc, octets)?;
     let written = text_of(alloc, &written(alloc, rtype, &octets)?)?;
     octets.push(0).ok()?;
     let lengths = read_lengths(alloc, rtype, &octets)?;
@@ -17,14 +18,14 @@ pub fn written_again(alloc: Global, line: &str) -> Option<String> {
 }
 
 /// Octets as they are written again, read as data of a type.
-fn written(alloc: Global, rtype: u16, octets: &[u8]) -> Option<Vec<u8>> {
+fn written(alloc: Global, rtype: Rtype, octets: &[u8]) -> Option<Vec<u8>> {
     match rtype {
-        43 => as_data::<Ds<&[u8]>>(alloc, rtype, octets),
-        46 => as_data::<Rrsig<&[u8], ParsedName>>(alloc, rtype, octets),
-        47 => as_data::<Nsec<&[u8], ParsedName>>(alloc, rtype, octets),
-        48 => as_data::<Dnskey<&[u8]>>(alloc, rtype, octets),
-        50 => as_data::<Nsec3<&[u8]>>(alloc, rtype, octets),
-        51 => as_data::<Nsec3param<&[u8]>>(alloc, rtype, octets),
+        Rtype::DS => as_data::<Ds<&[u8]>>(alloc, rtype, octets),
+        Rtype::RRSIG => as_data::<Rrsig<&[u8], ParsedName>>(alloc, rtype, octets),
+        Rtype::NSEC => as_data::<Nsec<&[u8], ParsedName>>(alloc, rtype, octets),
+        Rtype::DNSKEY => as_data::<Dnskey<&[u8]>>(alloc, rtype, octets),
+        Rtype::NSEC3 => as_data::<Nsec3<&[u8]>>(alloc, rtype, octets),
+        Rtype::NSEC3PARAM => as_data::<Nsec3param<&[u8]>>(alloc, rtype, octets),
         _ => None,
     }
 }
@@ -32,16 +33,16 @@ fn written(alloc: Global, rtype: u16, octets: &[u8]) -> Option<Vec<u8>> {
 /// As `written`, where the data say their type and length, are as long in canonical form and end with the octets.
 fn as_data<'a, D: ParseRecordData<'a> + ComposeRecordData + Drop>(
     alloc: Global,
-    rtype: u16,
+    rtype: Rtype,
     octets: &'a [u8],
 ) -> Option<Vec<u8>> {
     let mut parser = Parser::from_ref(octets);
-    let data = D::parse_rdata(Rtype::from_int(rtype), &mut parser).ok()??;
+    let data = D::parse_rdata(rtype, &mut parser).ok()??;
     let (mut written, mut canonical) = (Vec::new(alloc), Vec::new(alloc));
     data.compose_rdata(&mut written).ok()?;
     data.compose_canonical_rdata(&mut canonical).ok()?;
     let is_whole = parser.remaining() == 0
-        && data.rtype().to_int() == rtype
+        && data.rtype() == rtype
         && data.rdlen(true) == data.rdlen(false)
         && data.rdlen(false).map(usize::from) == Some(written.len())
         && canonical.len() == written.len()
@@ -56,7 +57,7 @@ fn is_passed_over<'a, D: ParseRecordData<'a> + Drop>(octets: &'a [u8]) -> bool {
 }
 
 /// How many octets from the front on are read as data of a type and written again the same: ranges, joined by commas.
-fn read_lengths(alloc: Global, rtype: u16, octets: &[u8]) -> Option<String> {
+fn read_lengths(alloc: Global, rtype: Rtype, octets: &[u8]) -> Option<String> {
     let mut text = String::new(alloc);
     let mut range: Option<(usize, usize)> = None;
     for len in 0..=octets.len() {
@@ -76,7 +77,7 @@ fn read_lengths(alloc: Global, rtype: u16, octets: &[u8]) -> Option<String> {
 }
 
 /// Appends a range, if there is one: both ends, or the one number that it has.
-fn push_range(alloc: Global, text: &mut String, range: Option<(usize, usize)>) -> Option<()> {
+pub fn push_range(alloc: Global, text: &mut String, range: Option<(usize, usize)>) -> Option<()> {
     let Some((first, last)) = range else {
         return Some(());
     };

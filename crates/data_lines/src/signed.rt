@@ -5,11 +5,11 @@ use denial_data::{ProtoRrsig, Rrsig};
 use names::{
     Labels, Name, ParsedName, Parser, RelativeName, ToName, ToRelativeName, UnknownRecordData,
 };
-use plain::numbers::Class;
+use plain::Class;
 use plain::record::Record;
 use std::alloc::Global;
 
-type ReadRrsig<'a> = Rrsig<&'a [u8], ParsedName<'a>>;
+pub type ReadRrsig<'a> = Rrsig<&'a [u8], ParsedName<'a>>;
 
 /// The octets that are signed by the signature of a line, if it is one with its RRset.
 pub fn signed_octets(alloc: Global, line: &str) -> Option<String> {
@@ -25,7 +25,7 @@ pub fn signed_octets(alloc: Global, line: &str) -> Option<String> {
 }
 
 /// What a signature says of itself, without its octets.
-fn proto_of<'a>(rrsig: &ReadRrsig<'a>) -> ProtoRrsig<ParsedName<'a>> {
+pub fn proto_of<'a>(rrsig: &ReadRrsig<'a>) -> ProtoRrsig<ParsedName<'a>> {
     ProtoRrsig::new(
         rrsig.type_covered(),
         rrsig.algorithm(),

@@ -1,6 +1,6 @@
 -- Types as text, one after another.
 use Rattle.std.proofs.Common.{◌≡◌, ℕ, ◌<◌, List, [], ◌∷◌, ◌++◌, length, refl, sym, ap, ◌∙◌, arith, append_assoc}
-use Rattle.names_data.specs.Types.{type_text}
+use Rattle.numbers.specs.Types.{type_text}
 use Rattle.denial_bitmap.specs.Texts.{types_text}
 
 pub text-push : (ts : List ℕ) (t : ℕ) → 0 < length ts → types_text (ts ++ t ∷ []) ≡ types_text ts ++ 32 ∷ type_text t

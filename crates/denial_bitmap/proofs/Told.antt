@@ -9,7 +9,7 @@ use Rattle.std.specs.Int.Digits.{digits_of}
 use Rattle.std.proofs.lemmas.List.Elements.{filter-append}
 use Rattle.std.proofs.lemmas.List.Folds.{list_any-append}
 use Rattle.definitions.specs.Bitmap.{below}
-use Rattle.names_data.specs.Types.{type_text}
+use Rattle.numbers.specs.Types.{type_text}
 use Rattle.denial_bitmap.specs.Laws.{type_count, TextsTellTypes}
 use Rattle.denial_bitmap.specs.Texts.{types_text}
 use Rattle.denial_bitmap.proofs.InOrder.{gives_types_in_order}

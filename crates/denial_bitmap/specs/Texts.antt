@@ -1,6 +1,6 @@
 -- Types as text (RFC 4034, 4.2).
 use Rattle.std.specs.Prelude.{ℕ, List, [], ◌∷◌, ◌++◌}
-use Rattle.names_data.specs.Types.{type_text}
+use Rattle.numbers.specs.Types.{type_text}
 
 -- with a blank between
 abbrev pub types_text : List ℕ → List ℕ

@@ -7,16 +7,18 @@ ghost use Rattle.denial_bitmap.specs.Faults.{BreaksOff};
 use crate::builder::RtypeBitmapBuilder;
 use crate::error::RtypeBitmapError;
 use crate::window::{has_bit, split_window};
-use names_data::rtype::Rtype;
+use names_data::octets::FieldOctets;
 use names_wire::octets::Octets;
+use numbers::rtype::Rtype;
 use std::alloc::Global;
 use std::marker::Model;
 
 /// A set of types: windows, each a number, a length of 1 to 32, and that many octets, a bit for each type. A contract sees
 /// the octets.
 #[derive(Drop)]
+#[derive_where(PartialEq, Eq, PartialOrd, Ord, Hash)]
 pub struct RtypeBitmap<Octs: Octets> {
-    octets: Octs,
+    octets: FieldOctets<Octs>,
 }
 
 impl<Octs: Octets> Model for RtypeBitmap<Octs> {
@@ -25,9 +27,11 @@ impl<Octs: Octets> Model for RtypeBitmap<Octs> {
 
     ghost Value = { List ℕ };
 
-    ghost view = { λ b. Octs.bytes b.octets };
+    ghost view = { λ b. b.octets };
 
-    ghost invariant = { λ b. is_bitmap (Octs.bytes b.octets) ≡ true };
+    ghost inverse = { λ octets. record { octets = octets } };
+
+    ghost invariant = { λ b. is_bitmap b.octets ≡ true };
 }
 
 impl<Octs: Octets> RtypeBitmap<Octs> {
@@ -40,7 +44,9 @@ impl<Octs: Octets> RtypeBitmap<Octs> {
         ensures refused { IfErr result (BreaksOff (Octs.bytes octets)) }
     {
         match check(octets.as_slice()) {
-            Ok(()) => Ok(RtypeBitmap { octets }),
+            Ok(()) => Ok(RtypeBitmap {
+                octets: FieldOctets::new(octets),
+            }),
             Err(error) => Err(error),
         }
     }
@@ -50,7 +56,9 @@ impl<Octs: Octets> RtypeBitmap<Octs> {
         requires { is_bitmap (Octs.bytes octets) ≡ true }
         ensures { result ≡ Octs.bytes octets }
     {
-        RtypeBitmap { octets }
+        RtypeBitmap {
+            octets: FieldOctets::new(octets),
+        }
     }
 
     pub fn as_slice(&self) -> &[u8]
@@ -63,13 +71,13 @@ impl<Octs: Octets> RtypeBitmap<Octs> {
     pub fn as_octets(&self) -> &Octs
         ensures { Octs.bytes result.now ≡ self.now }
     {
-        &self.octets
+        self.octets.as_octets()
     }
 
     pub fn into_octets(self) -> Octs
         ensures { Octs.bytes result ≡ self }
     {
-        self.octets
+        self.octets.into_octets()
     }
 
     /// Whether record data have room for the octets: at most 65,535.

@@ -6,8 +6,8 @@ ghost use Rattle.denial_bitmap.specs.Building.{IsBuilt, zeros, inserted, window_
 ghost use Rattle.denial_bitmap.specs.Padding.{roomy, IsPlaced};
 
 use crate::bitmap::RtypeBitmap;
-use names_data::rtype::Rtype;
 use names_wire::builder::{BuiltOctets, OctetsBuilder, ShortBuf};
+use numbers::rtype::Rtype;
 use std::alloc::Global;
 use std::marker::Model;
 

@@ -6,8 +6,8 @@ ghost use Rattle.denial_bitmap.specs.Types.{bits_from, types_in};
 
 use crate::bitmap::RtypeBitmap;
 use crate::window::{Window, has_bit, split_window};
-use names_data::rtype::Rtype;
 use names_wire::octets::Octets;
+use numbers::rtype::Rtype;
 use std::marker::Model;
 
 /// The types of a bitmap, window by window as they stand, ascending in each. It takes no memory.

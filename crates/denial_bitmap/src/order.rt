@@ -1,56 +1,12 @@
-//! Bitmaps compare and hash as their octets do.
+//! The canonical order of bitmaps.
 
-ghost use Rattle.std.specs.Prelude.{Some, nat_eq, refl};
 ghost use Rattle.std.specs.Ordering.{nat_cmp};
-ghost use Rattle.std.specs.Cmp.{partial_equiv_from_equiv};
-ghost use Rattle.std.specs.Cmp.Lexicographic.{pointwise, slice_cmp, nat_list_eq_equiv, nat_list_cmp_total, texts_po, texts_ties};
-ghost use Rattle.std.specs.Cmp.Rules.{hashing};
-ghost use Rattle.std.specs.Hash as fed;
-ghost use Rattle.std.proofs.Common.{rules};
+ghost use Rattle.std.specs.Cmp.Lexicographic.{slice_cmp};
 
 use crate::bitmap::RtypeBitmap;
 use names_data::canonical::CanonicalOrd;
 use names_wire::octets::Octets;
 use std::cmp::Ordering;
-use std::hash::{Hash, Hasher};
-
-impl<Octs: Octets> PartialEq for RtypeBitmap<Octs> {
-    ghost eq = { pointwise nat_eq };
-
-    ghost laws = { partial_equiv_from_equiv nat_list_eq_equiv };
-
-    fn eq(&self, other: &Self) -> bool {
-        self.as_slice() == other.as_slice()
-    }
-}
-
-impl<Octs: Octets> Eq for RtypeBitmap<Octs> {
-    ghost laws = { nat_list_eq_equiv };
-}
-
-impl<Octs: Octets> PartialOrd for RtypeBitmap<Octs> {
-    ghost partial_cmp = { λ a b. Some (slice_cmp nat_cmp a b) };
-
-    ghost laws = { texts_po };
-
-    fn partial_cmp(&self, other: &Self) -> Option<Ordering> {
-        Some(self.cmp(other))
-    }
-}
-
-impl<Octs: Octets> Ord for RtypeBitmap<Octs> {
-    ghost cmp = { slice_cmp nat_cmp };
-
-    ghost total = { nat_list_cmp_total };
-
-    ghost matches_partial_cmp = { λ a b. refl };
-
-    ghost matches_eq = { texts_ties };
-
-    fn cmp(&self, other: &Self) -> Ordering {
-        self.as_slice().cmp(other.as_slice())
-    }
-}
 
 /// The order of the octets (RFC 4034, 6.3).
 impl<Octs: Octets> CanonicalOrd for RtypeBitmap<Octs> {
@@ -58,15 +14,5 @@ impl<Octs: Octets> CanonicalOrd for RtypeBitmap<Octs> {
 
     fn canonical_cmp(&self, other: &Self) -> Ordering {
         self.cmp(other)
-    }
-}
-
-impl<Octs: Octets> Hash for RtypeBitmap<Octs> {
-    ghost hash_input = { fed.slice fed.u8 };
-
-    ghost respects_eq = { Prim.search (hashing, rules) };
-
-    fn hash<H: Hasher>(&self, state: &mut H) {
-        self.as_slice().hash(state);
     }
 }

@@ -6,10 +6,10 @@ use Rattle.std.specs.Char.{to_ascii_lowercase}
 use Rattle.std.specs.Str.{str_to_ascii_lowercase}
 use Rattle.std.proofs.lemmas.Bool.{and_parts, cases_lt, eqb-true, le-ltb}
 use Rattle.definitions.specs.Base32hex.{base32hex, digit}
-use Rattle.plain.specs.Decoding.{is_digit, first_no_digit, decoded}
-use Rattle.plain.specs.Refusing.{IsBadLength}
-use Rattle.plain.specs.declared.base32hex.DecodeError.TheVariants as decode
-use Rattle.plain.proofs.Decodes.{decodes}
+use Rattle.numbers.specs.Decoding.{is_digit, first_no_digit, decoded}
+use Rattle.numbers.specs.Refusing.{IsBadLength}
+use Rattle.numbers.specs.declared.base32hex.DecodeError.TheVariants as decode
+use Rattle.numbers.proofs.Decodes.{decodes}
 use Rattle.denial_fields.specs.declared.error.OwnerHashFromStrError.TheVariants.{DecodeError, OwnerHashError, Memory}
 use Rattle.denial_data.specs.HashTexts.{HashesAreReadBack}
 

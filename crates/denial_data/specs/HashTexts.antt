@@ -2,7 +2,7 @@
 use Rattle.std.specs.Prelude.{◌≡◌, ◌⊎◌, ℕ, ◌<◌, ◌≤◌, List, length, Result, Ok, Err, IfOk}
 use Rattle.std.specs.List.{AllByRecursion}
 use Rattle.definitions.specs.Base32hex.{base32hex}
-use Rattle.plain.specs.declared.base32hex.DecodeError.TheVariants as decode
+use Rattle.numbers.specs.declared.base32hex.DecodeError.TheVariants as decode
 use Rattle.denial_fields.specs.Texts.{ReadsHash}
 use Rattle.denial_fields.specs.declared.error.OwnerHashFromStrError.{OwnerHashFromStrError}
 use Rattle.denial_fields.specs.declared.error.OwnerHashFromStrError.TheVariants.{DecodeError, Memory}

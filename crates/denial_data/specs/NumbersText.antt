@@ -1,7 +1,7 @@
 -- The numbers of a signature as text (RFC 4034, 3.2).
 use Rattle.std.specs.Prelude.{ℕ, List, ◌∷◌, ◌++◌}
 use Rattle.std.specs.Fmt.{decimal}
-use Rattle.names_data.specs.Types.{type_text}
+use Rattle.numbers.specs.Types.{type_text}
 use Rattle.denial_data.specs.declared.proto_rrsig.Numbers.{Numbers}
 
 -- the last four, a blank between

@@ -13,7 +13,8 @@ use names_data::rtype::Rtype;
 use names_traits::to_name::ToName;
 use names_wire::builder::{OctetsBuilder, ShortBuf};
 use names_wire::octets::Octets;
-use plain::numbers::{SecurityAlgorithm, Ttl};
+use numbers::algorithm::SecurityAlgorithm;
+use numbers::ttl::Ttl;
 use std::fmt;
 
 /// The numbers of the data, in their order.

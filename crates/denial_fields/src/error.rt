@@ -1,7 +1,7 @@
 //! What is wrong with times, salts and hashes.
 
 use hex::FromHexError;
-use plain::base32hex::DecodeError;
+use numbers::base32hex::DecodeError;
 use thiserror::Error;
 
 /// Text is no number of 32 bits in decimal.

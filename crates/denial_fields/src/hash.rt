@@ -9,12 +9,12 @@ ghost use Rattle.denial_fields.specs.Texts.{ReadsHash};
 
 use crate::counted::compose_counted;
 use crate::error::{OwnerHashError, OwnerHashFromStrError};
-use crate::octets::FieldOctets;
 use names_data::canonical::CanonicalOrd;
+use names_data::octets::FieldOctets;
 use names_wire::builder::{OctetsBuilder, ShortBuf};
 use names_wire::octets::Octets;
-use plain::base32hex::digits::Base32hexDigits;
-use plain::base32hex::{self, DecodeError};
+use numbers::base32hex::digits::Base32hexDigits;
+use numbers::base32hex::{self, DecodeError};
 use std::alloc::Global;
 use std::cmp::Ordering;
 use std::fmt;

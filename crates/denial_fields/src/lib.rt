@@ -1,4 +1,4 @@
-//! Fields of DNSSEC record data: times of signatures, salts and hashes, and octets that compare by what they are.
+//! Fields of DNSSEC record data: times of signatures, salts and hashes.
 #![tactic(auto)]
 
 pub mod counted;
@@ -7,7 +7,5 @@ pub mod ended;
 pub mod error;
 pub mod hash;
 pub mod laws;
-pub mod octets;
-mod octets_order;
 pub mod salt;
 pub mod timestamp;

@@ -9,10 +9,10 @@ ghost use Rattle.denial_fields.specs.Texts.{salt_text, ReadsSalt};
 
 use crate::counted::{compose_counted, parse_counted};
 use crate::error::{Nsec3SaltError, Nsec3SaltFromStrError};
-use crate::octets::FieldOctets;
 use hex::FromHexError;
 use names_data::canonical::CanonicalOrd;
 use names_data::digits::HexDigits;
+use names_data::octets::FieldOctets;
 use names_parser::error::ParseError;
 use names_parser::parser::Parser;
 use names_wire::builder::{OctetsBuilder, ShortBuf};

@@ -4,6 +4,7 @@ ghost use Rattle.std.specs.Fmt.{decimal};
 ghost use Rattle.std.specs.Prelude.{◌≡◌, ◌≤◌, ◌^◌, ◌++◌, ℕ, Some, IfSome, IsNone, OnOk, OnErr};
 ghost use Rattle.std.specs.Int.{w32, from_be_bytes, to_be_bytes};
 ghost use Rattle.std.specs.Ordering.{nat_cmp};
+ghost use Rattle.definitions.specs.Serial.{serial_le};
 ghost use Rattle.names_parser.specs.Reader.{Takes};
 ghost use Rattle.names_parser.specs.Serials.{serial_cmp};
 ghost use Rattle.denial_fields.specs.Times.{IsTimeNear};
@@ -62,6 +63,13 @@ impl Timestamp {
         } else {
             Some(u64::from(self.seconds))
         }
+    }
+
+    /// Whether it is another, or less than half the circle before it, as serial numbers (RFC 4034, 3.1.5).
+    pub fn is_at_or_before(&self, other: &Self) -> bool
+        ensures { result ≡ serial_le self.now other.now }
+    {
+        Serial(self.seconds).is_at_or_before(&Serial(other.seconds))
     }
 
     /// Which is before the other, as serial numbers: none of two that are 2^31 seconds apart.

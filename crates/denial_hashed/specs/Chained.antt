@@ -1,15 +1,14 @@
 -- The names of a chain with their hashes (RFC 5155, 7.1).
-use Rattle.std.specs.Prelude.{◌≡◌, ◌↔◌, Bool, true, List, map, Some, IsTrue}
+use Rattle.std.specs.Prelude.{◌≡◌, ◌↔◌, ℕ, Bool, true, false, List, map, Some, IsTrue}
 use Rattle.std.specs.Str.{bytes_eq}
 use Rattle.std.specs.List.{AllByRecursion, Contains, list_any}
 use Rattle.std.specs.Option.{is_none}
 use Rattle.definitions.specs.Name.{Name}
 use Rattle.definitions.specs.Covering.{octets_before}
 use Rattle.definitions.specs.Signing.{ascending}
-use Rattle.definitions.specs.Laws.{NoneShare}
 use Rattle.plain.specs.declared.record.Record.{Record}
 use Rattle.denial_links.specs.Hashed.{Nsec3paramData}
-use Rattle.denial_hashes.specs.Hashing.{Answers, answered, hash_by}
+use Rattle.denial_hashes.specs.Hashing.{Answers, answered}
 use Rattle.denial_hashed.specs.Walk.{Spot, spot, spot_name, spots_of}
 use Rattle.denial_sorted.specs.Groups.{group_owner}
 use Rattle.denial_hashed.specs.declared.names.ChainName.{ChainName}
@@ -48,8 +47,20 @@ pub record IsHashedChain {N D : Type 0} (name : N → Name) (answers : Answers) 
   pub names : (s : Spot (List (Record N D))) → Contains spots s ↔ Contains (map (λ h. spot_of h.name) hs) s
   pub ascends : IsTrue (ascending (map (λ h. h.hash.items) hs))
 
--- why names have no chain: one is not hashed, or two share a hash
+-- Each of some names is hashed, and one hash is answered for two of them.
+pub record TwoShare (answers : Answers) (p : Nsec3paramData) (ns : List Name) : Type 0 where
+  pub hashed : some_fails answers p ns ≡ false
+  pub first : Name
+  pub second : Name
+  pub unlike : first ≡ second → ⊥
+  pub has_first : Contains ns first
+  pub has_second : Contains ns second
+  pub hash : List ℕ
+  pub of_first : answered answers p first ≡ Some hash
+  pub of_second : answered answers p second ≡ Some hash
+
+-- why names have no chain: one is not hashed, or all are and two share a hash
 abbrev pub IsChainFault : Answers → Nsec3paramData → List Name → HashedChainError → Type 0
 IsChainFault answers p ns Failed = some_fails answers p ns ≡ true
-IsChainFault answers p ns Collision = NoneShare (hash_by answers p) ns → ⊥
+IsChainFault answers p ns Collision = TwoShare answers p ns
 IsChainFault answers p ns Memory = Unit {0}

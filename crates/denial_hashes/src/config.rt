@@ -8,7 +8,7 @@ ghost use Rattle.denial_hashes.specs.declared.config.Nsec3ParamTtlMode.TheVarian
 
 use denial_links::nsec3param::Nsec3param;
 use names_wire::octets::Octets;
-use plain::numbers::Ttl;
+use plain::Ttl;
 
 /// Which TTL the NSEC3PARAM record has.
 #[derive(Clone, Copy, Debug, PartialEq, Eq)]

@@ -4,6 +4,8 @@ ghost use Rattle.std.specs.Prelude.{◌≡◌, OnOk, drop};
 ghost use Rattle.definitions.specs.Name.{low, wire};
 ghost use Rattle.names_labels.specs.Flat.{spelled};
 
+use names_data::composer::compose_labels;
+use names_labels::order::Case;
 use names_labels::traits::{Absolute, LabelIter};
 use names_wire::builder::ShortBuf;
 
@@ -25,11 +27,7 @@ fn write_labels<N: Absolute>(buffer: &mut Vec<u8>, labels: LabelIter<'_, N>) -> 
     ensures { OnOk result (buffer.new.items ≡ spelled (low labels.entry)) }
 {
     buffer.clear();
-    let mut labels = labels;
-    while let Some(label) = labels.next() {
-        label.compose_canonical(buffer)?;
-    }
-    Ok(())
+    compose_labels(labels, buffer, Case::Lowered)
 }
 
 /// The labels behind the first ones, so many.

@@ -2,7 +2,7 @@
 use Rattle.std.proofs.Common.{[], ◌∷◌}
 use Rattle.std.specs.List.{AllByRecursion}
 use Rattle.definitions.specs.Name.{Name, IsLabel}
-use Rattle.plain.proofs.WireOrder.{HasNoRoot}
+use Rattle.names_data.proofs.WireOrder.{HasNoRoot}
 
 -- no label of a name is the root's
 pub no_root : (n : Name) → AllByRecursion IsLabel n → HasNoRoot n

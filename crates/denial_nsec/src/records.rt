@@ -19,7 +19,7 @@ use names_data::rtype::Rtype;
 use names_labels::traits::Labels;
 use names_traits::to_name::ToName;
 use names_wire::builder::ShortBuf;
-use plain::numbers::Ttl;
+use plain::Ttl;
 use plain::record::Record;
 use std::alloc::Global;
 

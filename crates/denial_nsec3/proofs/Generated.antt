@@ -15,7 +15,7 @@ use Rattle.plain.specs.declared.zone_data.ZoneRecordData.{ZoneRecordData}
 use Rattle.denial_links.specs.Hashed.{Nsec3Data}
 use Rattle.denial_hashes.specs.Hashing.{Answers, hash_by, FitsName}
 use Rattle.denial_hashes.specs.declared.config.GenerateNsec3Config.{GenerateNsec3Config}
-use Rattle.denial_hashed.specs.Chained.{chain_name, chain_names_of, some_fails, IsHashedChain}
+use Rattle.denial_hashed.specs.Chained.{chain_name, chain_names_of, some_fails, IsHashed, IsHashedChain}
 use Rattle.denial_hashed.specs.Walk.{spots_of}
 use Rattle.denial_sorted.specs.Groups.{group_owner}
 use Rattle.denial_hashed.specs.declared.hashed.HashedName.{HashedName}
@@ -100,21 +100,23 @@ module _ {O N S : Type 0} (name : N → Name) (apex : Name) (answers : Answers) 
           apart = apart name apex rs one order e answers c there hs made_now;
         }
 
-        pub link_fault : (f : SigningError) → IsLinkFault apex (map octets hs) f → IsNsec3Fault name apex answers c rs f
-        link_fault HashTooLong h =
+        pub link_fault : some_fails answers c.params (chain_names_of name groups) ≡ false → (f : SigningError) → IsLinkFault apex (map octets hs) f → IsNsec3Fault name apex answers c rs f
+        link_fault hashed HashTooLong h =
             let m = map_in octets hs h.0 (in_contained (map octets hs) h.0 h.1.0.0 h.1.0.1 h.1.0.2) in
-            let P : List Rattle.std.proofs.Common.ℕ → Type 0 = λ o. FitsName apex o in (
-              item m.item,
-              (
-                contained (nsec3_names z e) (item m.item) (in_names name apex rs one order e answers c there hs made_now m.item m.inside),
-                (λ fits. h.1.1 (subst P (hash_is name apex rs one order e answers c there hs made_now m.item m.inside ∙ sym m.makes) fits)),
-              ),
-            )
-        link_fault Memory h = tt
-        link_fault NoSingleSoa h = absurd h
-        link_fault MultipleTtlValues h = absurd h
-        link_fault HashFailed h = absurd h
-        link_fault HashCollision h = absurd h
+            record {
+              hashed = ap (some_fails answers c.params) (sym names_listed) ∙ hashed;
+              apart = apart name apex rs one order e answers c there hs made_now;
+              one = item m.item;
+              has_one = contained (nsec3_names z e) (item m.item) (in_names name apex rs one order e answers c there hs made_now m.item m.inside);
+              hash = h.0;
+              of_one = all_in (IsHashed name answers c.params) hs m.item made.hashes m.inside ∙ ap Some (sym m.makes);
+              long = h.1.1;
+            }
+        link_fault hashed Memory h = tt
+        link_fault hashed NoSingleSoa h = absurd h
+        link_fault hashed MultipleTtlValues h = absurd h
+        link_fault hashed HashFailed h = absurd h
+        link_fault hashed HashCollision h = absurd h
 
         abbrev of_name : Name → Record Name Nsec3Data
         of_name o = nsec3_record (making c s) apex (hash o) (nsec3_next hash z e o) (nsec3_types z c.assume_dnskeys_will_be_added o)

@@ -1,5 +1,5 @@
 -- Links of names and of their hashes.
-use Rattle.std.proofs.Common.{◌≡◌, ℕ, suc, ◌+◌, ◌<◌, Bool, true, false, List, [], ◌∷◌, ◌++◌, length, drop, get_or, map, refl, sym, ap, subst, ◌∙◌, inl, inr, append_assoc, add-one, drop-cons}
+use Rattle.std.proofs.Common.{◌≡◌, ℕ, suc, ◌+◌, ◌<◌, Bool, true, false, List, [], ◌∷◌, ◌++◌, length, drop, get_or, map, Some, refl, sym, ap, subst, ◌∙◌, inl, inr, append_assoc, add-one, drop-cons}
 use Rattle.std.specs.Prelude.{if◌then◌else◌}
 use Rattle.std.specs.Str.{bytes_eq}
 use Rattle.std.specs.List.{AllByRecursion, Contains}
@@ -17,6 +17,7 @@ use Rattle.denial_hashes.specs.Hashing.{FitsName}
 use Rattle.denial_owners.specs.declared.error.SigningError.{SigningError}
 use Rattle.denial_owners.specs.declared.error.SigningError.TheVariants.{NoSingleSoa, MultipleTtlValues, HashFailed, HashTooLong, HashCollision, Memory}
 use Rattle.denial_nsec3.specs.Linked.{links_around, IsLinkFault}
+use Rattle.denial_nsec3.specs.Owner.{IsOwnerFault}
 
 abbrev by_octets : List ℕ → List ℕ → Ordering
 by_octets = slice_cmp nat_cmp
@@ -138,6 +139,15 @@ link_more made first owner next left rest records new all l n h =
 pub link_last : {A B : Type 0} (made : A × A → B) (first owner : A) (left : List A) (records new all : List B) → left ≡ [] → new ≡ records ++ made (owner, first) ∷ []
     → records ++ map made (links first (owner ∷ left)) ≡ all → new ≡ all
 link_last made first owner left records new all l n h = n ∙ ap (λ r. records ++ map made (links first (owner ∷ r))) (sym l) ∙ h
+
+-- why a hash is no owner is why its link is refused
+pub owner_links : (apex : Name) (hash next : List ℕ) (e : SigningError) → IsOwnerFault apex (Some hash) e → IsLinkFault apex (hash ∷ next ∷ []) e
+owner_links apex hash next HashTooLong f = (hash, (contained (hash ∷ next ∷ []) hash (inl refl), f))
+owner_links apex hash next Memory f = tt
+owner_links apex hash next HashFailed f = cc
+owner_links apex hash next NoSingleSoa f = absurd f
+owner_links apex hash next MultipleTtlValues f = absurd f
+owner_links apex hash next HashCollision f = absurd f
 
 -- what fits no name is one of more hashes
 pub wider_fault : {A : Type 0} (hash : A → List ℕ) (apex : Name) (all : List A) (a b : A) (e : SigningError) → In a all → In b all → IsLinkFault apex (hash a ∷ hash b ∷ []) e → IsLinkFault apex (map hash all) e

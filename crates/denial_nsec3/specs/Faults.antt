@@ -1,5 +1,5 @@
 -- Why a zone has no chain of hashed names.
-use Rattle.std.specs.Prelude.{◌≡◌, Bool, true, false, List, Some, None}
+use Rattle.std.specs.Prelude.{◌≡◌, ℕ, Bool, true, false, List, Some, None}
 use Rattle.std.specs.List.{AllByRecursion, Contains}
 use Rattle.definitions.specs.Laws.{NoneShare}
 use Rattle.definitions.specs.Name.{Name}
@@ -7,9 +7,9 @@ use Rattle.definitions.specs.ZoneChain.{nsec3_names}
 use Rattle.plain.specs.ZoneData.{zone_type, zone_canonical}
 use Rattle.plain.specs.declared.record.Record.{Record}
 use Rattle.plain.specs.declared.zone_data.ZoneRecordData.{ZoneRecordData}
-use Rattle.denial_hashes.specs.Hashing.{Answers, hash_by, FitsName}
+use Rattle.denial_hashes.specs.Hashing.{Answers, answered, hash_by, FitsName}
 use Rattle.denial_hashes.specs.declared.config.GenerateNsec3Config.{GenerateNsec3Config}
-use Rattle.denial_hashed.specs.Chained.{some_fails}
+use Rattle.denial_hashed.specs.Chained.{some_fails, TwoShare}
 use Rattle.denial_owners.specs.Soa.{soa_ttls}
 use Rattle.denial_owners.specs.Ttls.{has_unequal_ttls}
 use Rattle.denial_owners.specs.declared.error.SigningError.{SigningError}
@@ -25,13 +25,23 @@ module _ {O N S : Type 0} (name : N → Name) (apex : Name) (answers : Answers) 
   abbrev pub unequal_ttls : Bool
   unequal_ttls = has_unequal_ttls name zone_type (zone_canonical name) apex (leaves_out c) rs
 
-  -- the cause of a refusal stands; want of memory has none here
+  -- Each name of the chain is hashed, no two share a hash, and that of one fits no name.
+  pub record OneIsTooLong : Type 0 where
+    pub hashed : some_fails answers c.params names_among ≡ false
+    pub apart : NoneShare (hash_by answers c.params) names_among
+    pub one : Name
+    pub has_one : Contains names_among one
+    pub hash : List ℕ
+    pub of_one : answered answers c.params one ≡ Some hash
+    pub long : FitsName apex hash → ⊥
+
+  -- The cause of a refusal stands; want of memory has none here. Hashes are spoken of only where they were answered.
   abbrev pub IsNsec3Fault : SigningError → Type 0
   IsNsec3Fault NoSingleSoa = soa_ttls name apex rs ≡ None
   IsNsec3Fault MultipleTtlValues = unequal_ttls ≡ true
   IsNsec3Fault HashFailed = some_fails answers c.params names_among ≡ true
-  IsNsec3Fault HashTooLong = (o : Name) × (Contains names_among o × (FitsName apex (hash_by answers c.params o) → ⊥))
-  IsNsec3Fault HashCollision = NoneShare (hash_by answers c.params) names_among → ⊥
+  IsNsec3Fault HashTooLong = OneIsTooLong
+  IsNsec3Fault HashCollision = TwoShare answers c.params names_among
   IsNsec3Fault Memory = Unit {0}
 
   -- No cause of a refusal stands: the apex has one SOA record, with these TTLs, no RRset of a kept owner has unequal

@@ -21,7 +21,7 @@ use denial_sorted::walks::RecordsIter;
 use names_flat::name::Name;
 use names_traits::to_name::ToName;
 use names_wire::octets::Octets;
-use plain::numbers::Class;
+use plain::Class;
 use plain::record::Record;
 use plain::zone_data::ZoneRecordData;
 use std::alloc::Global;

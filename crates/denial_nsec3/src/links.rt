@@ -7,12 +7,12 @@ ghost use Rattle.denial_links.specs.Hashed.{nsec3_with};
 ghost use Rattle.denial_nsec3.specs.Linked.{IsLinkFault, linked, links_around};
 ghost use Rattle.denial_nsec3.specs.Made.{making_of};
 
+use crate::owner_name::owner_of_hash;
 use crate::types::types_of;
 use denial_bitmap::bitmap::RtypeBitmap;
 use denial_fields::hash::OwnerHash;
 use denial_fields::salt::Nsec3Salt;
 use denial_hashed::hashed::HashedName;
-use denial_hashes::owner_name::{HashedOwnerError, hashed_owner};
 use denial_links::nsec3::Nsec3;
 use denial_links::nsec3param::Nsec3param;
 use denial_owners::error::SigningError;
@@ -20,8 +20,8 @@ use names_data::data::RecordData;
 use names_flat::name::Name;
 use names_traits::to_name::ToName;
 use names_wire::octets::Octets;
-use plain::numbers::{Class, Ttl};
 use plain::record::Record;
+use plain::{Class, Ttl};
 use std::alloc::{AllocError, Global};
 
 /// How the records of a chain are made.
@@ -101,10 +101,9 @@ fn link<'g, 'a, 'c, N: ToName, D: RecordData, S: Octets>(
     ensures refused { let hashes = owner.now.hash.items ∷ next.now.hash.items ∷ [] in
         IfErr result (IsLinkFault (N.name apex.now) hashes) }
 {
-    let name = match hashed_owner(alloc, &owner.hash, apex) {
+    let name = match owner_of_hash(alloc, &owner.hash, apex) {
         Ok(name) => name,
-        Err(HashedOwnerError::DoesNotFit) => return Err(SigningError::HashTooLong),
-        Err(HashedOwnerError::Memory) => return Err(SigningError::Memory),
+        Err(error) => return Err(error),
     };
     let types = types_of(alloc, apex, settings.dnskey, &owner.name)?;
     let salt = copied_salt(alloc, settings.params.salt())?;

@@ -1,6 +1,6 @@
 //! The owner of a name's NSEC3 record (RFC 5155, 3).
 
-ghost use Rattle.std.specs.Prelude.{IfErr, IfOk};
+ghost use Rattle.std.specs.Prelude.{IfErr, IfOk, Some};
 ghost use Rattle.definitions.specs.Name.{low, wire};
 ghost use Rattle.denial_nsec3.specs.Owner.{IsOwnerFault, IsOwnerOf};
 
@@ -39,7 +39,19 @@ pub fn mk_hashed_nsec3_owner_name<N: ToName, S: Octets, H: Nsec3Hasher>(
         Err(HashError::Failed) => return Err(SigningError::HashFailed),
         Err(HashError::Memory) => return Err(SigningError::Memory),
     };
-    match hashed_owner(alloc, &hash, apex) {
+    owner_of_hash(alloc, &hash, apex)
+}
+
+/// The owner of a hash's record, refused where no label or name holds the hash.
+pub(crate) fn owner_of_hash<N: ToName>(
+    alloc: Global,
+    hash: &[u8],
+    apex: &N,
+) -> Result<Name<Vec<u8>>, SigningError>
+    ensures ok { IfOk result (IsOwnerOf (N.name apex.now) (Some hash.now)) }
+    ensures refused { IfErr result (IsOwnerFault (N.name apex.now) (Some hash.now)) }
+{
+    match hashed_owner(alloc, hash, apex) {
         Ok(name) => Ok(name),
         Err(HashedOwnerError::DoesNotFit) => Err(SigningError::HashTooLong),
         Err(HashedOwnerError::Memory) => Err(SigningError::Memory),

@@ -11,7 +11,7 @@ use denial_sorted::slices::SliceRefsOrOwnedIterator;
 use names_data::rtype::Rtype;
 use names_traits::to_name::ToName;
 use names_wire::octets::Octets;
-use plain::numbers::Ttl;
+use plain::Ttl;
 use plain::record::Record;
 use plain::zone_data::ZoneRecordData;
 

@@ -5,7 +5,7 @@ use Rattle.std.specs.Cmp.{IsTotalOrder, nat_cmp_total, tied_then, unsigned_ties}
 use Rattle.std.specs.Ordering.{eq_by_cmp, is_eq, nat_cmp, ordering_then}
 use Rattle.std.proofs.lemmas.Cmp.{on_total, then_total}
 use Rattle.definitions.specs.Name.{Name, name_cmp, same}
-use Rattle.names_flat.specs.Laws.{name_cmp_total, name_cmp_ties}
+use Rattle.names_labels.specs.Laws.{name_cmp_total, name_cmp_ties}
 use Rattle.plain.specs.Records.{record_canonical_cmp}
 use Rattle.plain.specs.declared.record.Record.{Record}
 

@@ -9,7 +9,7 @@ use Rattle.std.specs.Ordering.{is_eq, nat_cmp, ordering_then}
 use Rattle.std.proofs.lemmas.Cmp.{on_total, then_total}
 use Rattle.std.proofs.lemmas.Map.Keys.{sorted_head, sorted_tail}
 use Rattle.definitions.specs.Name.{Name, name_cmp, same}
-use Rattle.names_flat.specs.Laws.{name_cmp_ties, name_cmp_total}
+use Rattle.names_labels.specs.Laws.{name_cmp_ties, name_cmp_total}
 use Rattle.plain.specs.Records.{record_canonical_cmp}
 use Rattle.plain.specs.declared.record.Record.{Record}
 use Rattle.denial_sorted.specs.GroupLaws.{one_owner_equivalence, one_set_equivalence}

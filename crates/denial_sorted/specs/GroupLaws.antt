@@ -2,7 +2,7 @@
 use Rattle.std.proofs.Common.{ℕ}
 use Rattle.std.specs.Cmp.{IsEquivalence, nat_eq_equiv, on_equiv, and_equiv}
 use Rattle.definitions.specs.Name.{Name}
-use Rattle.names_flat.specs.Laws.{same_equivalence}
+use Rattle.names_labels.specs.Laws.{same_equivalence}
 use Rattle.plain.specs.declared.record.Record.{Record}
 use Rattle.denial_sorted.specs.Groups.{of_one_owner, of_one_set}
 

@@ -9,13 +9,13 @@ ghost use Rattle.denial_sorted.specs.Groups.{IsGroup, in_zone, of_one_owner, of_
 ghost use Rattle.denial_sorted.specs.Slices.{items_of};
 
 use crate::slices::{SliceRefsOrOwned, SliceRefsOrOwnedIterator};
-use crate::walks::OwnerRrsIter;
+use crate::walks::{OwnerRrsIter, RrsetIter};
 use names_data::data::RecordData;
 use names_data::rtype::Rtype;
 use names_labels::traits::ToLabelIter;
 use names_traits::to_name::ToName;
-use plain::numbers::{Class, Ttl};
 use plain::record::Record;
+use plain::{Class, Ttl};
 use std::marker::Model;
 use thiserror::Error;
 
@@ -69,7 +69,7 @@ impl<'a, N: ToName, D: RecordData> OwnerRrs<'a, N, D> {
     pub fn rrsets(&self) -> OwnerRrsIter<'a, N, D>
         ensures { result ≡ self.now }
     {
-        OwnerRrsIter::new(self.records)
+        RrsetIter::new(self.records)
     }
 
     /// The records in their order.

@@ -10,7 +10,7 @@ use names_data::canonical::CanonicalOrd;
 use names_data::data::RecordData;
 use names_data::rtype::Rtype;
 use names_traits::to_name::ToName;
-use plain::numbers::Class;
+use plain::Class;
 use plain::record::Record;
 
 impl<N: ToName + Drop, D: RecordData + CanonicalOrd + Drop, S: Sorter> SortedRecords<N, D, S> {

@@ -107,23 +107,6 @@ impl<'a, N: ToName, D: RecordData> Iterator for RecordsIter<'a, N, D> {
     }
 }
 
-/// The first group as an RRset, and what is behind it.
-fn split_set<'a, N: ToName, D: RecordData>(
-    slice: SliceRefsOrOwned<'a, Record<N, D>>,
-) -> Option<
-    (
-        Result<Rrset<'a, N, D>, MultipleTtlValues>,
-        SliceRefsOrOwned<'a, Record<N, D>>,
-    ),
->
-    ensures { let sets = rrsets_of N.name D.type_of in
-        MatchOption result (items_of slice.entry ≡ [])
-        (λ p. sets (items_of slice.entry) ≡ result_ok p.0 ∷ sets (items_of p.1)) }
-{
-    let (group, behind) = split_group::<Record<N, D>, BySet>(slice)?;
-    Some((Rrset::new(group), behind))
-}
-
 /// Records in groups by owner, class and type, as they stand together. A group whose TTLs differ is an error, and the
 /// next one comes behind it. It takes no memory.
 #[derive(Drop)]
@@ -166,44 +149,22 @@ impl<'a, N: ToName, D: RecordData> Iterator for RrsetIter<'a, N, D> {
     }
 }
 
-/// The records of one owner in groups by type. A group whose TTLs differ is an error, and the next one comes behind
-/// it. It takes no memory.
-#[derive(Drop)]
-pub struct OwnerRrsIter<'a, N: ToName, D: RecordData> {
+/// The first group as an RRset, and what is behind it.
+fn split_set<'a, N: ToName, D: RecordData>(
     slice: SliceRefsOrOwned<'a, Record<N, D>>,
+) -> Option<
+    (
+        Result<Rrset<'a, N, D>, MultipleTtlValues>,
+        SliceRefsOrOwned<'a, Record<N, D>>,
+    ),
+>
+    ensures { let sets = rrsets_of N.name D.type_of in
+        MatchOption result (items_of slice.entry ≡ [])
+        (λ p. sets (items_of slice.entry) ≡ result_ok p.0 ∷ sets (items_of p.1)) }
+{
+    let (group, behind) = split_group::<Record<N, D>, BySet>(slice)?;
+    Some((Rrset::new(group), behind))
 }
 
-/// The records that are left.
-impl<'a, N: ToName, D: RecordData> Model for OwnerRrsIter<'a, N, D> {
-    ghost use Rattle.std.specs.Prelude.{List};
-    ghost use Rattle.plain.specs.declared.record.Record.{Record};
-    ghost use Rattle.denial_sorted.specs.Slices.{items_of};
-
-    ghost Value = { List (Record N D) };
-
-    ghost view = { λ it. items_of it.slice };
-}
-
-impl<'a, N: ToName, D: RecordData> OwnerRrsIter<'a, N, D> {
-    pub(crate) fn new(slice: SliceRefsOrOwned<'a, Record<N, D>>) -> Self
-        ensures { result ≡ items_of slice.entry }
-    {
-        OwnerRrsIter { slice }
-    }
-}
-
-impl<'a, N: ToName, D: RecordData> Iterator for OwnerRrsIter<'a, N, D> {
-    type Item = Result<Rrset<'a, N, D>, MultipleTtlValues>;
-
-    ghost can_next = { λ _. Unit {0} };
-
-    ghost next_gives = { YieldsFirstBy result_ok (rrsets_of N.name D.type_of) };
-
-    ghost remaining = { item_count (rrsets_of N.name D.type_of) };
-
-    fn next(&mut self) -> Option<Result<Rrset<'a, N, D>, MultipleTtlValues>> {
-        let (set, behind) = split_set(self.slice)?;
-        self.slice = behind;
-        Some(set)
-    }
-}
+/// The records of one owner in groups by type.
+pub type OwnerRrsIter<'a, N, D> = RrsetIter<'a, N, D>;

@@ -7,15 +7,16 @@ use Rattle.sha2.specs.Sha256.{sha256}
 use Rattle.definitions.specs.ZoneChain as chain
 use Rattle.definitions.specs.ZoneChain.{Nsec}
 use Rattle.messages.specs.HandedRr.{HandedRr}
-use Rattle.answer_zone.specs.Accepting.{IsAccepted, IsFault, sorted_records}
-use Rattle.answer_zone.specs.ZoneView.{mode_of}
+use Rattle.answer_terms.specs.Accepting.{sorted_records}
+use Rattle.answer_zone.specs.Faults.{IsFault}
+use Rattle.answer_zone.specs.ModeView.{mode_of}
 use Rattle.answer_zone.specs.declared.fault.Mode.{Mode}
 use Rattle.answer_zone.specs.declared.fault.Mode.TheVariants as declared
 use Rattle.answer_zone.specs.declared.fault.ZoneFault.{ZoneFault}
-use Rattle.answer.specs.Simulating.{Sofar, begin, Simulates}
+use Rattle.answer_life.specs.Simulations.{IsSimulation}
 use Rattle.answer_publisher.specs.World.{World, world}
-use Rattle.answer.specs.declared.event.Event.{Event}
-use Rattle.answer.specs.declared.event.Outcome.{Outcome}
+use Rattle.answer_events.specs.declared.event.Event.{Event}
+use Rattle.answer_life.specs.declared.outcome.Outcome.{Outcome}
 use Rattle.session_lines.specs.Grammar.{ZoneLine}
 use Rattle.session_lines.specs.Readings.{event_view}
 use Rattle.denialbench.specs.Names.{zone_fault_name}
@@ -30,13 +31,11 @@ abbrev pub served_in : ZoneLine → List HandedRr → chain.Mode → World
 served_in zone records mode = world (record { apex = zone.apex; mode = mode; limit = zone.limit; records = sorted_records records }) zone.life
     (λ k octets. Some (stand_in k octets)) (λ k octets s. bytes_eq (stand_in k octets) s) (λ t octets. if nat_eq t 2 then Some (sha256 octets) else None) (λ _ _ _ _. None)
 
-pub outcomes_printed : (zone : ZoneLine) (records : List HandedRr) (m : Mode) (acted : List Event) (outcomes : List Outcome) → IsAccepted zone.apex (mode_of m) zone.limit records → ((last : Sofar) × Simulates (served_in zone records (mode_of m)) (begin zone.apex) acted outcomes last)
+pub outcomes_printed : (zone : ZoneLine) (records : List HandedRr) (m : Mode) (acted : List Event) (outcomes : List Outcome) → IsSimulation (served_in zone records (mode_of m)) records acted outcomes
     → (text : List ℕ) → text ≡ flat_map (λ o. outcome_text o ++ 10 ∷ []) outcomes → PrintsSession zone records (map event_view acted) text
-outcomes_printed zone records m acted outcomes accepted played text printed =
-    let P : chain.Mode → Type 0 = λ mode. IsAccepted zone.apex mode zone.limit records in
-    let Q : chain.Mode → Type 0 = λ mode. (last : Sofar) × Simulates (served_in zone records mode) (begin zone.apex) acted outcomes last in
-    let run = subst Q (only_mode m) played in
-    inl (record { acted = acted; acts_are = refl; accepted = subst P (only_mode m) accepted; outcomes = outcomes; last = run.0; simulates = run.1; printed = printed })
+outcomes_printed zone records m acted outcomes is text printed =
+    let P : chain.Mode → Type 0 = λ mode. IsSimulation (served_in zone records mode) records acted outcomes in
+    inl (record { acted = acted; acts_are = refl; outcomes = outcomes; simulation = subst P (only_mode m) is; printed = printed })
 
 pub fault_printed : (zone : ZoneLine) (records : List HandedRr) (m : Mode) (acted : List Event) (fault : ZoneFault) → IsFault zone.apex (mode_of m) zone.limit records fault
     → (text : List ℕ) → text ≡ codes "refused " ++ zone_fault_name fault ++ 10 ∷ [] → PrintsSession zone records (map event_view acted) text

@@ -12,8 +12,8 @@ use Rattle.keyset_keys.specs.declared.errors.Error.{Error as KeyError}
 use Rattle.keyset_keys.specs.declared.errors.Error.TheVariants as KeyErrorCase
 use Rattle.answer_publisher.specs.declared.fault.KeyFault.{KeyFault}
 use Rattle.answer_publisher.specs.declared.fault.KeyFault.TheVariants as KeyFaultCase
-use Rattle.answer_judge.specs.declared.judge.verdict.Refusal.{Refusal}
-use Rattle.answer_judge.specs.declared.judge.verdict.Refusal.TheVariants as RefusalCase
+use Rattle.answer_judge.specs.declared.judging.verdict.Refusal.{Refusal}
+use Rattle.answer_judge.specs.declared.judging.verdict.Refusal.TheVariants as RefusalCase
 use Rattle.answer_rules.specs.declared.verdict.Verdict.{Verdict}
 use Rattle.answer_rules.specs.declared.verdict.Verdict.TheVariants as VerdictCase
 

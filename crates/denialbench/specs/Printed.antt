@@ -3,10 +3,10 @@ use Rattle.std.specs.Prelude.{ℕ, ◌/◌, List, [], ◌∷◌, ◌++◌, codes
 use Rattle.std.specs.List.{flat_map, join_by}
 use Rattle.std.specs.Duration.{as_nanos}
 use Rattle.hex.specs.Hex.{encode_lower}
-use Rattle.answer.specs.declared.event.Outcome.{Outcome}
-use Rattle.answer.specs.declared.event.Outcome.TheVariants.{Key, Ds, Message, Refused, Judged, BadPlace}
-use Rattle.answer_judge.specs.declared.judge.verdict.Judgement.{Judgement}
-use Rattle.answer_judge.specs.declared.judge.verdict.Refused.{Refused as JudgeRefused}
+use Rattle.answer_life.specs.declared.outcome.Outcome.{Outcome}
+use Rattle.answer_life.specs.declared.outcome.Outcome.TheVariants.{Key, Ds, Message, Refused, Judged, BadPlace}
+use Rattle.answer_judge.specs.declared.judging.verdict.Judgement.{Judgement}
+use Rattle.answer_judge.specs.declared.judging.verdict.Refused.{Refused as JudgeRefused}
 use Rattle.answer_rules.specs.declared.verdict.Verdict.{Verdict}
 use Rattle.answer_rules.specs.declared.verdict.Verdict.TheVariants.{Records, StarRecords}
 use Rattle.keyset_rolls.specs.declared.rolls.Action.{Action}

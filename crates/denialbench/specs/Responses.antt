@@ -6,11 +6,12 @@ use Rattle.sha2.specs.Sha256.{sha256}
 use Rattle.definitions.specs.Dnskey.{Dnskey, dnskey_data}
 use Rattle.definitions.specs.ZoneChain.{Nsec}
 use Rattle.messages.specs.HandedRr.{HandedRr}
-use Rattle.answer_zone.specs.Accepting.{IsAccepted, IsFault, sorted_records}
-use Rattle.answer.specs.Simulating.{Sofar, begin, Simulates}
+use Rattle.answer_terms.specs.Accepting.{sorted_records}
+use Rattle.answer_zone.specs.Faults.{IsFault}
+use Rattle.answer_life.specs.Simulations.{IsSimulation}
 use Rattle.answer_publisher.specs.World.{World, world}
-use Rattle.answer.specs.declared.event.Event.{Event}
-use Rattle.answer.specs.declared.event.Outcome.{Outcome}
+use Rattle.answer_events.specs.declared.event.Event.{Event}
+use Rattle.answer_life.specs.declared.outcome.Outcome.{Outcome}
 use Rattle.answer_zone.specs.declared.fault.ZoneFault.{ZoneFault}
 use Rattle.session_lines.specs.Grammar.{ZoneLine, EventLine}
 use Rattle.session_lines.specs.Readings.{event_view}
@@ -33,14 +34,12 @@ abbrev pub bench : ZoneLine → List HandedRr → World
 bench zone records = world (record { apex = zone.apex; mode = Nsec; limit = zone.limit; records = sorted_records records }) zone.life
     (λ k octets. Some (stand_in k octets)) (λ k octets s. bytes_eq (stand_in k octets) s) (λ t octets. if nat_eq t 2 then Some (sha256 octets) else None) (λ _ _ _ _. None)
 
--- the zone is accepted, and of each event the outcome is printed in a line
+-- the zone is accepted, and the outcomes of a simulation of the events are printed, each in a line
 pub record PrintsOutcomes (zone : ZoneLine) (records : List HandedRr) (events : List EventLine) (text : List ℕ) : Type 0 where
   pub acted : List Event
   pub acts_are : map event_view acted ≡ events
-  pub accepted : IsAccepted zone.apex Nsec zone.limit records
   pub outcomes : List Outcome
-  pub last : Sofar
-  pub simulates : Simulates (bench zone records) (begin zone.apex) acted outcomes last
+  pub simulation : IsSimulation (bench zone records) records acted outcomes
   pub printed : text ≡ flat_map (λ o. outcome_text o ++ 10 ∷ []) outcomes
 
 -- the zone is refused, which is all that is printed

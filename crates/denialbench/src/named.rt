@@ -3,9 +3,7 @@ ghost use Rattle.std.specs.Prelude.{◌≡◌, ℕ, List};
 ghost use Rattle.denialbench.specs.Names.{action_name, zone_fault_name, answer_fault_name, key_fault_name, refusal_name, verdict_name, signing_error_name, key_error_name};
 
 use answer::denial::SigningError;
-use answer::judge::verdict::{Refusal, Verdict};
-use answer::keyset::{self, Action};
-use answer::publisher::fault::{AnswerFault, KeyFault, ZoneFault};
+use answer::{Action, AnswerFault, KeyFault, Refusal, Verdict, ZoneFault, keyset};
 
 /// Something that is printed by a name: of a fault within faults, the innermost.
 pub trait Named {

@@ -6,11 +6,7 @@ ghost use Rattle.denialbench.specs.Names.{action_name};
 ghost use Rattle.denialbench.specs.Printed.{octets_text, list_text, actions_text, key_error_text, key_refusal, counts_text, data_text, judgement_text, judge_refusal, outcome_text};
 
 use crate::named::Named;
-use answer::denial::Ds;
-use answer::event::Outcome;
-use answer::judge::verdict::{DataList, Judgement, Refused, Verdict};
-use answer::keyset::{self, Action};
-use answer::publisher::fault::KeyFault;
+use answer::{Action, DataList, Ds, Judgement, KeyFault, Outcome, Refused, Verdict, keyset};
 use std::alloc::AllocError;
 
 /// An item of a printed list.

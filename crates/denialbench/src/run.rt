@@ -13,9 +13,7 @@ use crate::named::Named;
 use crate::print::push_outcomes;
 use crate::scheme::{BenchHasher, BenchScheme};
 use crate::status::Status;
-use answer::event::Outcome;
-use answer::publisher::fault::ZoneFault;
-use answer::simulate::simulate;
+use answer::{Outcome, ZoneFault, simulate};
 use session_lines::session::{Session, SessionError, read_session};
 use std::alloc::{AllocError, Global};
 use std::io;
@@ -59,7 +57,7 @@ fn write_out<W: Write>(writer: &mut W, octets: &[u8]) -> io::Result<()>
     writer.flush()
 }
 
-/// What is answered to an input. Its only error is want of memory.
+/// What is answered to an input. Its only error is out of memory.
 pub fn respond(alloc: Global, input: &[u8]) -> Result<Response, AllocError>
     ensures { IfOk result (λ r. Responds input.now r.status (string_bytes r.text)) }
 {
@@ -127,8 +125,6 @@ fn fault_text(alloc: Global, fault: &ZoneFault) -> Result<String, AllocError>
     format!(in alloc; "refused {name}\n")
 }
 
-#[cfg(test)]
-mod agreement;
 #[cfg(test)]
 mod fakes;
 #[cfg(test)]

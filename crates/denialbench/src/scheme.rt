@@ -4,9 +4,7 @@ ghost use Rattle.std.specs.Str.{bytes_eq};
 ghost use Rattle.definitions.specs.Dnskey.{dnskey_data};
 ghost use Rattle.sha2.specs.Sha256.{sha256};
 
-use answer::denial::{Dnskey, HashError, Nsec3Hasher};
-use answer::plain::numbers::DigestAlgorithm;
-use answer::scheme::{Scheme, SchemeError};
+use answer::{DigestAlgorithm, Dnskey, HashError, Nsec3Hasher, Scheme, SchemeError};
 use sha2::{Digest, Sha256};
 use std::alloc::Global;
 

@@ -11,7 +11,7 @@ pub enum Status {
     Done,
     /// A line cannot be read: 1.
     BadLine,
-    /// The reader or the writer failed, or memory ran out: 2.
+    /// The reader or the writer failed, or out of memory: 2.
     Fault,
 }
 

@@ -18,7 +18,7 @@ use keyset_keys::{Available, Error, Key, KeyState, KeyType, UnixTime};
 use keyset_rolls::{Action, RollState, RollType, Turn};
 use names_flat::name::Name;
 use names_traits::to_name::ToName;
-use plain::numbers::SecurityAlgorithm;
+use numbers::algorithm::SecurityAlgorithm;
 use std::alloc::{AllocError, Global};
 use std::collections::HashMap;
 use std::marker::Model;

@@ -3,7 +3,7 @@ ghost use Rattle.keyset_keys.specs.KeyTexts.{stage};
 ghost use Rattle.std.specs.Prelude.{[], if◌then◌else◌, ◌≡◌, option_copied, Some};
 
 use crate::time::UnixTime;
-use plain::numbers::SecurityAlgorithm;
+use numbers::algorithm::SecurityAlgorithm;
 use std::alloc::AllocError;
 use std::fmt;
 use std::marker::Model;

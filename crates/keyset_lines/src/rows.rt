@@ -22,7 +22,7 @@ fn short_name(action: Action) -> &'static str {
 
 /// A column of the tables: which keys are in it.
 #[derive(Clone, Copy, Debug)]
-enum Column {
+pub enum Column {
     Present,
     SignsKeys,
     SignsZone,
@@ -46,7 +46,7 @@ fn as_zsk(keytype: KeyType) -> Option<KeyState> {
 }
 
 impl Column {
-    fn has(self, keytype: KeyType) -> bool {
+    pub fn has(self, keytype: KeyType) -> bool {
         match self {
             Column::Present => keytype.main_role().present(),
             Column::SignsKeys => as_ksk(keytype).is_some_and(|state| state.signer()),
@@ -112,7 +112,8 @@ fn keys_in(
     cell.ended()
 }
 
-fn named(alloc: Global, actions: &[Action]) -> Result<String, AllocError> {
+/// The short names of actions.
+pub fn named(alloc: Global, actions: &[Action]) -> Result<String, AllocError> {
     let mut cell = Cell::new(alloc, ", ");
     for action in actions {
         cell.push(short_name(*action))?;

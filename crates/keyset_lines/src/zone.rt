@@ -3,7 +3,7 @@
 use crate::answer::Answer;
 use crate::calls::call;
 use crate::rows::row;
-use crate::words::{listed, words};
+use crate::words::{keys_of, words};
 use keyset::KeySet;
 use names_flat::name::Name;
 use std::alloc::Global;
@@ -11,6 +11,8 @@ use std::alloc::Global;
 #[derive(Drop)]
 pub struct Zone {
     set: KeySet,
+    /// A copy of the set that was put aside.
+    aside: Option<KeySet>,
     shown: Vec<String>,
 }
 
@@ -31,18 +33,36 @@ impl Zone {
         let [name, keys] = words.as_slice() else {
             return None;
         };
-        let mut shown = Vec::new(alloc);
-        for reference in &listed(alloc, keys)? {
-            shown.push(String::from_str(alloc, reference).ok()?).ok()?;
-        }
-        let set = KeySet::new(alloc, read_name(alloc, name)?);
-        Some(Zone { set, shown })
+        Some(Zone {
+            set: KeySet::new(alloc, read_name(alloc, name)?),
+            aside: None,
+            shown: keys_of(alloc, keys)?,
+        })
     }
 
     /// Whose set it is.
     pub fn title(&self, alloc: Global) -> Option<String> {
         let name = printed_name(alloc, self.set.name())?;
         format!(in alloc; "keys of {name}").ok()
+    }
+
+    pub fn set(&self) -> &KeySet {
+        &self.set
+    }
+
+    /// Puts a copy of the set aside.
+    pub fn copy(&mut self, alloc: Global) -> Option<String> {
+        let copy = self.set.clone().ok()?;
+        let has_name = copy.name() == self.set.name();
+        self.aside = Some(copy);
+        String::from_str(alloc, if has_name { "ok" } else { "another name" }).ok()
+    }
+
+    /// Takes the copy that is put aside, and puts the set there.
+    pub fn swap(&mut self, alloc: Global) -> Option<String> {
+        let copy = self.aside.take()?;
+        self.aside = Some(std::mem::replace(&mut self.set, copy));
+        String::from_str(alloc, "ok").ok()
     }
 
     /// Makes a call, and says what is printed behind it.

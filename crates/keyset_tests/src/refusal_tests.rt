@@ -3,10 +3,10 @@
 //! With memory each call succeeds at once. `rt try --test --fail-alloc N` refuses the Nth growth.
 
 use crate::calls::Calls;
-use crate::keys::at;
+use crate::moments::at;
 use keyset::{Available, Error, KeySet, KeyType, RollState, RollType};
 use names_flat::name::Name;
-use plain::numbers::SecurityAlgorithm;
+use numbers::algorithm::SecurityAlgorithm;
 use std::alloc::Global;
 use std::process::Abort;
 

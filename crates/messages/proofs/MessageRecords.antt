@@ -57,11 +57,11 @@ front_all n m p old new h = go (records_at n pointer_limit m p) h
     go (Err f) e = cc
 
 -- one more of them in a list, where all before it are
-pub front_kept : {T E : Type 0} (kept result : Result T E) (n : ℕ) (m : List ℕ) (p : ℕ) (r : Spelled × ℕ) (old new : List Spelled) (all : Result (List Spelled) MessageError) → record_at pointer_limit m p ≡ Ok r
-    → OnOk kept (in_front old (records_at (suc n) pointer_limit m p) ≡ all) → OnOk result (IsOk kept) → OnOk result (new ≡ old ++ r.0 ∷ []) → OnOk result (in_front new (records_at n pointer_limit m r.1) ≡ all)
-front_kept kept (Err e) n m p r old new all h so_far before more = tt
-front_kept (Err f) (Ok x) n m p r old new all h so_far before more = cc
-front_kept (Ok y) (Ok x) n m p r old new all h so_far before more = ap (λ xs. in_front xs (records_at n pointer_limit m r.1)) more ∙ sym (front_more n m p r old h) ∙ so_far
+pub front_listed : {T E : Type 0} (listed result : Result T E) (n : ℕ) (m : List ℕ) (p : ℕ) (r : Spelled × ℕ) (old new : List Spelled) (all : Result (List Spelled) MessageError) → record_at pointer_limit m p ≡ Ok r
+    → OnOk listed (in_front old (records_at (suc n) pointer_limit m p) ≡ all) → OnOk result (IsOk listed) → OnOk result (new ≡ old ++ r.0 ∷ []) → OnOk result (in_front new (records_at n pointer_limit m r.1) ≡ all)
+front_listed listed (Err e) n m p r old new all h so_far before more = tt
+front_listed (Err f) (Ok x) n m p r old new all h so_far before more = cc
+front_listed (Ok y) (Ok x) n m p r old new all h so_far before more = ap (λ xs. in_front xs (records_at n pointer_limit m r.1)) more ∙ sym (front_more n m p r old h) ∙ so_far
 
 pub one_less : (n i : ℕ) → i < n → n - i ≡ suc (n - (i + 1))
 one_less n i h = omega arith

@@ -3,14 +3,14 @@ use Rattle.std.proofs.Common.{[], ◌≡◌, ℕ, ◌+◌, ◌<◌, ◌≤◌, �
 use Rattle.std.specs.Prelude.{IfOk, IfSome, IsOk, None, Option, Result, Ok, Err, slice_index_or}
 use Rattle.std.specs.Result.{result_ok}
 use Rattle.std.specs.List.{list_any}
-use Rattle.std.specs.Str.{bytes_eq, str_to_ascii_lowercase}
+use Rattle.std.specs.Str.{bytes_eq}
 use Rattle.std.proofs.lemmas.List.{drop-append-le}
-use Rattle.definitions.specs.Name.{Name, IsName, wire, wire_len, low}
+use Rattle.definitions.specs.Name.{Name, IsName, wire, wire_len}
 use Rattle.names_labels.specs.Flat.{labels_in, name_in, IsRun, IsFlat, SpellsName}
 use Rattle.names_labels.proofs.Runs.{labels_in-wire, name_in-wire}
 use Rattle.names_labels.proofs.Checks.{length-wire, spells_flat}
-use Rattle.names_flat.proofs.Rooted.{flat_run, row_spells}
-use Rattle.names_flat.proofs.Splits.{read_name, lower_spells}
+use Rattle.names_labels.proofs.Rooted.{flat_run, row_spells}
+use Rattle.names_flat.proofs.Splits.{read_name}
 use Rattle.messages.specs.HandedRr.{has_star}
 use Rattle.messages.specs.Star.{begins_with_star}
 use Rattle.messages.proofs.NameLaws.{IsName-drop, IsName-star, star_room}
@@ -38,10 +38,6 @@ suffix_spells bs run n k h v i r d = row_spells bs (drop k n) r (d ∙ ap (drop 
 -- one octet for each of the wire form's
 pub row_len : (run : List ℕ) (n : Name) → run ≡ wire n → length run ≡ wire_len n
 row_len run n e = ap length e ∙ length-wire n
-
--- lowered octets are those of the lowered name
-pub row_lowered : (run : List ℕ) (n : Name) → run ≡ wire n → IsName n → str_to_ascii_lowercase run ≡ wire (low n)
-row_lowered run n e h = sym (lower_spells run n (record { octets = sym e; name = h })).octets
 
 -- a suffix leaves room for a star
 pub suffix_room : (bs : List ℕ) (n : Name) (k : ℕ) → IsName n → 0 < k → k ≤ length n → SpellsName bs (drop k n) → wire_len ((42 ∷ []) ∷ name_in bs) ≤ 255

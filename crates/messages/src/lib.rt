@@ -3,8 +3,8 @@
 #![tactic(auto)]
 
 pub mod error;
-pub mod kept;
 pub mod laws;
+pub mod listed;
 pub mod names;
 mod octets;
 pub mod owner;
@@ -16,6 +16,6 @@ pub mod view;
 pub mod write;
 
 pub use error::MessageError;
-pub use kept::read_message_into;
+pub use listed::read_message_into;
 pub use owner::Owner;
 pub use view::{MessageView, Records, ViewRecord, read_message};

@@ -1,12 +1,12 @@
 //! What a zone asks of its names, beside what all names have.
 ghost use Rattle.std.specs.Prelude.{◌≡◌, ℕ, ◌-◌, ◌<◌, ◌≤◌, ◌↔◌, ◌++◌, List, length, drop, None, IfOk, OnOk, IfSome};
-ghost use Rattle.std.specs.Str.{str_to_ascii_lowercase};
 ghost use Rattle.definitions.specs.Name.{IsName, wire, wire_len, low};
 ghost use Rattle.definitions.specs.Signing.{label_count};
 ghost use Rattle.definitions.specs.Zone.{star_under};
 ghost use Rattle.messages.specs.HandedRr.{has_star};
 ghost use Rattle.messages.specs.Star.{begins_with_star};
 
+use names_data::composer::compose_canonical_name;
 pub use names_flat::name::Name;
 use names_labels::flat::{behind, split_label};
 use names_labels::traits::{Labels, ToLabelIter};
@@ -119,16 +119,9 @@ impl<Octs: Octets> ZoneName for Name<Octs> {
     }
 
     fn compose_canonical(&self, out: &mut Vec<u8>) -> Result<(), AllocError> {
-        push_lowered(out, self.as_slice())
+        match compose_canonical_name(self, out) {
+            Ok(()) => Ok(()),
+            Err(_) => Err(AllocError),
+        }
     }
-}
-
-/// Adds octets at the end, letters lowered.
-fn push_lowered(out: &mut Vec<u8>, octets: &[u8]) -> Result<(), AllocError>
-    ensures { OnOk result (out.new.items ≡ out.old.items ++ str_to_ascii_lowercase octets.now) }
-{
-    let len = out.len();
-    out.extend_from_slice(octets)?;
-    out[len..].make_ascii_lowercase();
-    Ok(())
 }

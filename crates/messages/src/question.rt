@@ -3,7 +3,7 @@ ghost use Rattle.messages.specs.WrittenLaws.{IsQuestion};
 
 use crate::names::{Name, ZoneName};
 use names_data::rtype::Rtype;
-use plain::numbers::Class;
+use plain::Class;
 
 /// What is asked for.
 #[derive(Debug, Drop)]

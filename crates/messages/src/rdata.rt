@@ -71,10 +71,10 @@ impl<'a> ViewRecord<'a> {
         ensures { IfOk result (λ o.
             octets_in o ≡ canonical_data pointer_limit message.now (spelled self.now)) }
     {
-        match self.rtype.to_int() {
-            2 => self.ns_data(alloc, message),
-            6 => self.soa_data(alloc, message),
-            47 => self.nsec_data(alloc, message),
+        match self.rtype {
+            Rtype::NS => self.ns_data(alloc, message),
+            Rtype::SOA => self.soa_data(alloc, message),
+            Rtype::NSEC => self.nsec_data(alloc, message),
             _ => Ok(Some(self.octets(message).to_vec(alloc)?)),
         }
     }
@@ -88,8 +88,8 @@ impl<'a> ViewRecord<'a> {
         ensures { IfOk result (λ o. option_map cow_slice_items o
             ≡ canonical_data pointer_limit message.now (spelled self.now)) }
     {
-        match self.rtype.to_int() {
-            2 | 6 | 47 => match self.canonical_data(alloc, message)? {
+        match self.rtype {
+            Rtype::NS | Rtype::SOA | Rtype::NSEC => match self.canonical_data(alloc, message)? {
                 None => Ok(None),
                 Some(octets) => Ok(Some(CowSlice::Owned(octets))),
             },

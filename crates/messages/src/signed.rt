@@ -9,7 +9,7 @@ ghost use Rattle.messages.specs.Rrsig.{record_head, record_numbers, spelled_fiel
 use crate::names::{Name, Octets, ToName, ZoneName};
 use denial_data::ProtoRrsig;
 use names_data::rtype::Rtype;
-use plain::numbers::{Class, Ttl};
+use plain::{Class, Ttl};
 use std::alloc::{AllocError, Global};
 
 /// The octets that a signature of an RRset is made over: the fields, then the records in the order given
@@ -31,7 +31,7 @@ pub fn signed_octets<N: ToName, Octs: Octets>(
     Ok(out)
 }
 
-/// Writes what [`signed_octets`] gives at the end, of data however they are kept. Callers with many signatures reuse
+/// Writes what [`signed_octets`] gives at the end, of data however they are stored. Callers with many signatures reuse
 /// one vector.
 pub fn compose_signed_octets<N: ToName, Octs: Octets, Data: Octets>(
     alloc: Global,

@@ -12,7 +12,7 @@ use crate::octets::{u16_at, u32_at};
 use crate::owner::Owner;
 use crate::question::Question;
 use names_data::rtype::Rtype;
-use plain::numbers::{Class, Ttl};
+use plain::{Class, Ttl};
 use std::marker::Model;
 
 /// A record of a message. Its data are the `length` octets of the message from `start` on.

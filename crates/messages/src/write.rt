@@ -5,7 +5,7 @@ ghost use Rattle.messages.specs.Written.{written, header_octets, question_octets
 
 use crate::names::{Name, ZoneName};
 use names_data::rtype::Rtype;
-use plain::numbers::{Class, Ttl};
+use plain::{Class, Ttl};
 use std::alloc::AllocError;
 
 /// Writes a header at the end: id 0, the flags, one question and how many records the answer and the

@@ -4,3 +4,4 @@ pub mod Parts
 pub mod PartCalls
 pub mod WrittenNames
 pub mod WrittenParts
+pub mod WireOrder

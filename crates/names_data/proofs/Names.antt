@@ -7,7 +7,7 @@ use Rattle.names_labels.specs.Order.{in_case}
 use Rattle.names_labels.specs.declared.order.Case.TheVariants.{Kept, Lowered}
 use Rattle.names_labels.proofs.Lowered.{lower-spelled}
 use Rattle.names_labels.proofs.Runs.{wire-spelled}
-use Rattle.names_traits.proofs.Composed.{spelled-kept, spelled-lowered}
+use Rattle.names_labels.proofs.Composed.{spelled-kept, spelled-lowered}
 
 -- labels in a row, the root's last, are the wire form
 pub row_is_wire : (row : List ℕ) (labels n : Name) → IsRunOf row labels → labels ≡ n ++ [] ∷ [] → row ≡ wire n

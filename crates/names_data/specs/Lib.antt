@@ -1,5 +1,4 @@
 pub mod Composing
 pub mod ReadBack
 pub mod Reading
-pub mod Types
 pub mod Unknown

@@ -9,7 +9,7 @@ ghost use Rattle.names_labels.specs.Order.{in_case};
 
 use arrayvec::ArrayVec;
 use names_labels::order::Case;
-use names_labels::traits::{Absolute, Labels, ToLabelIter};
+use names_labels::traits::{Absolute, LabelIter, Labels, ToLabelIter};
 use names_wire::builder::{OctetsBuilder, ShortBuf};
 use names_wire::label::Label;
 
@@ -45,7 +45,7 @@ pub fn compose_name<N: Absolute, B: OctetsBuilder>(name: &N, target: &mut B) -> 
 {
     match name.label_row() {
         Some(row) => target.append_slice(row),
-        None => compose_labels(name, target, Case::Kept),
+        None => compose_labels(name.iter_labels(), target, Case::Kept),
     }
 }
 
@@ -60,7 +60,7 @@ pub fn compose_canonical_name<N: Absolute, B: OctetsBuilder>(
 {
     match name.label_row() {
         Some(row) => append_lowered(row, target),
-        None => compose_labels(name, target, Case::Lowered),
+        None => compose_labels(name.iter_labels(), target, Case::Lowered),
     }
 }
 
@@ -76,17 +76,17 @@ fn append_lowered<B: OctetsBuilder>(octets: &[u8], target: &mut B) -> Result<(),
     Ok(())
 }
 
-/// Appends the labels in a row, the root's last, or nothing.
-fn compose_labels<N: Absolute, B: OctetsBuilder>(
-    name: &N,
+/// Appends labels in a row, as they are or lowered. A refused call leaves the target as it was.
+pub fn compose_labels<N: Absolute, B: OctetsBuilder>(
+    labels: LabelIter<'_, N>,
     target: &mut B,
     case: Case,
 ) -> Result<(), ShortBuf>
-    ensures ok { let octets = spelled (map (in_case case) (N.labels name.now)) in
+    ensures ok { let octets = spelled (map (in_case case) labels.entry) in
         OnOk result (B.bytes target.new ≡ B.bytes target.old ++ octets) }
     ensures err { OnErr result (B.bytes target.new ≡ B.bytes target.old) }
 {
-    let (len, mut labels) = (target.as_slice().len(), name.iter_labels());
+    let (len, mut labels) = (target.as_slice().len(), labels);
     while let Some(label) = labels.next() {
         if let Err(error) = compose_label(label, target, case) {
             target.truncate(len);

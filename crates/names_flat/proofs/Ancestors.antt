@@ -3,8 +3,8 @@ use Rattle.std.proofs.Common.{◌≡◌, ℕ, ◌<◌, List, [], ◌∷◌, ◌+
 use Rattle.definitions.specs.Name.{Name, Label, wire, IsName}
 use Rattle.names_labels.specs.Flat.{labels_in, name_in, spelled, SplitsLabel}
 use Rattle.names_labels.proofs.Checks.{spells_flat}
-use Rattle.names_flat.specs.Suffixes.{suffixes, names_left, IsLeft}
-use Rattle.names_flat.proofs.Rooted.{flat_labels}
+use Rattle.names_labels.specs.Suffixes.{suffixes, names_left, IsLeft}
+use Rattle.names_labels.proofs.Rooted.{flat_labels}
 use Rattle.names_flat.proofs.Splits.{first_of_name, read_name}
 
 pub left_of : (bs : List ℕ) → 0 < length bs → names_left bs ≡ suffixes (name_in bs)

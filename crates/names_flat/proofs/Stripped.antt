@@ -8,7 +8,7 @@ use Rattle.std.proofs.lemmas.Bool.{and_parts}
 use Rattle.definitions.specs.Name.{Name, same, at_or_above, wire}
 use Rattle.names_labels.specs.Flat.{spelled, StartsLabel}
 use Rattle.names_labels.proofs.Runs.{spelled-append, wire-spelled}
-use Rattle.names_flat.proofs.Rooted.{same-rooted}
+use Rattle.names_labels.proofs.Rooted.{same-rooted}
 
 or_false : (b : Bool) → (b || false) ≡ b
 or_false true = refl

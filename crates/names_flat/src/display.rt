@@ -5,7 +5,7 @@ ghost use Rattle.definitions.specs.Text.{text_of_name, text_of_relative};
 
 use crate::name::Name;
 use crate::relative::RelativeName;
-use crate::text::write_labels;
+use names_labels::text::write_labels;
 use names_wire::octets::Octets;
 use std::fmt;
 

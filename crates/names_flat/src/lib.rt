@@ -14,7 +14,6 @@ mod relative_order;
 mod reverse;
 pub mod strip;
 pub mod suffixes;
-pub mod text;
 
 pub use names_builder::{push_error, text_error};
-pub use names_labels::{iter, name_error, relative_error, traits};
+pub use names_labels::{iter, name_error, relative_error, text, traits};

@@ -1,15 +1,15 @@
 //! Names of one type compare and hash with ASCII letters lowered.
 
-ghost use Rattle.std.specs.Prelude.{◌≡◌, refl, Some};
-ghost use Rattle.std.specs.List.{fold};
+ghost use Rattle.std.specs.Prelude.{refl, Some};
 ghost use Rattle.std.specs.Cmp.{partial_equiv_from_equiv};
 ghost use Rattle.definitions.specs.Name.{same, name_cmp};
-ghost use Rattle.names_flat.specs.Laws.{same_equivalence, name_cmp_total, name_cmp_partial, name_cmp_ties};
-ghost use Rattle.names_flat.specs.Feed.{labels_feed, name_feed, name_feed-same};
+ghost use Rattle.names_labels.specs.Laws.{same_equivalence, name_cmp_total, name_cmp_partial, name_cmp_ties};
+ghost use Rattle.names_labels.specs.Feed.{name_feed, name_feed-same};
 
 use crate::name::Name;
+use names_labels::feed::feed_labels;
 use names_labels::order::labels_cmp;
-use names_labels::traits::{ToLabelIter, labels_eq};
+use names_labels::traits::labels_eq;
 use names_wire::octets::Octets;
 use std::cmp::Ordering;
 use std::hash::{Hash, Hasher};
@@ -60,15 +60,5 @@ impl<Octs: Octets> Hash for Name<Octs> {
 
     fn hash<H: Hasher>(&self, state: &mut H) {
         feed_labels(self, state);
-    }
-}
-
-/// Feeds each label's length and lowered octets.
-pub fn feed_labels<N: ToLabelIter, H: Hasher>(name: &N, state: &mut H)
-    ensures { state.new ≡ fold H.write state.old (labels_feed (N.labels name.now)) }
-{
-    let mut labels = name.iter_labels();
-    while let Some(label) = labels.next() {
-        label.hash(state);
     }
 }

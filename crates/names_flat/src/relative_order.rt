@@ -3,11 +3,11 @@
 ghost use Rattle.std.specs.Prelude.{◌≡◌, refl, Some};
 ghost use Rattle.std.specs.Cmp.{partial_equiv_from_equiv};
 ghost use Rattle.definitions.specs.Name.{same, name_cmp};
-ghost use Rattle.names_flat.specs.Laws.{same_equivalence, name_cmp_total, name_cmp_partial, name_cmp_ties};
-ghost use Rattle.names_flat.specs.Feed.{labels_feed, labels_feed-same};
+ghost use Rattle.names_labels.specs.Laws.{same_equivalence, name_cmp_total, name_cmp_partial, name_cmp_ties};
+ghost use Rattle.names_labels.specs.Feed.{labels_feed, labels_feed-same};
 
-use crate::name_order::feed_labels;
 use crate::relative::RelativeName;
+use names_labels::feed::feed_labels;
 use names_labels::order::labels_cmp;
 use names_labels::traits::labels_eq;
 use names_wire::octets::Octets;

@@ -2,7 +2,7 @@
 
 ghost use Rattle.std.specs.Prelude.{◌≡◌};
 ghost use Rattle.std.specs.Iterator.{YieldsFirst, item_count};
-ghost use Rattle.names_flat.specs.Suffixes.{suffixes};
+ghost use Rattle.names_labels.specs.Suffixes.{suffixes};
 
 use crate::name::Name;
 use names_labels::flat::split_label;
@@ -19,7 +19,7 @@ pub struct SuffixIter<'a> {
 /// The names that are left.
 impl<'a> Model for SuffixIter<'a> {
     ghost use Rattle.std.specs.Prelude.{List, ℕ};
-    ghost use Rattle.names_flat.specs.Suffixes.{names_left, IsLeft};
+    ghost use Rattle.names_labels.specs.Suffixes.{names_left, IsLeft};
 
     ghost Value = { List (List (List ℕ)) };
 

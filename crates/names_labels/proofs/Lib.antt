@@ -10,3 +10,7 @@ pub mod Taken
 pub mod Wholes
 pub mod Spans
 pub mod Tails
+pub mod Composed
+pub mod Feeds
+pub mod Rooted
+pub mod Texts

@@ -7,3 +7,7 @@ pub mod Refused
 pub mod RefusedRelative
 pub mod Walked
 pub mod Walking
+pub mod Dotted
+pub mod Feed
+pub mod Laws
+pub mod Suffixes

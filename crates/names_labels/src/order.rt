@@ -6,13 +6,13 @@ ghost use Rattle.std.specs.Char.{to_ascii_lowercase};
 ghost use Rattle.std.specs.Ordering.{nat_cmp};
 ghost use Rattle.std.specs.Cmp.Lexicographic.{slice_cmp};
 ghost use Rattle.names_wire.specs.Label.{octets_of, wire_label};
-ghost use Rattle.definitions.specs.Name.{name_cmp};
+ghost use Rattle.definitions.specs.Name.{low, wire, name_cmp};
 ghost use Rattle.names_labels.specs.Flat.{labels_in, spelled, IsRun};
 ghost use Rattle.names_labels.specs.Order.{in_case, SameEnds, HaveTail};
 ghost use Rattle.names_labels.specs.Walked.{WalksTo};
 
 use crate::flat::{behind, label_count, split_label};
-use crate::traits::{Labels, labels_counted, labels_of};
+use crate::traits::{Absolute, Labels, labels_counted, labels_of};
 use names_wire::label::Label;
 use std::cmp::Ordering;
 
@@ -157,7 +157,7 @@ fn is_other_case(octet: u8, other: u8) -> bool
 }
 
 /// Order of the octets of two names in wire form, label by label from the left.
-pub fn labels_composed_cmp<A: Labels, B: Labels>(name: &A, other: &B, case: Case) -> Ordering
+fn labels_composed_cmp<A: Labels, B: Labels>(name: &A, other: &B, case: Case) -> Ordering
     ensures { let octets = spelled (map (in_case case) (A.labels name.now)) in
         result ≡ slice_cmp nat_cmp octets (spelled (map (in_case case) (B.labels other.now))) }
 {
@@ -174,4 +174,27 @@ pub fn labels_composed_cmp<A: Labels, B: Labels>(name: &A, other: &B, case: Case
             return order;
         }
     }
+}
+
+/// Canonical order of two absolute names: labels from the root on, in lower case; an absent label comes first (RFC 4034,
+/// 6.1).
+pub fn name_cmp<A: Absolute, B: Absolute>(name: &A, other: &B) -> Ordering
+    ensures { result ≡ name_cmp (A.name name.now) (B.name other.now) }
+{
+    labels_cmp(name, other)
+}
+
+/// The order of the octets of two absolute names in wire form.
+pub fn composed_cmp<A: Absolute, B: Absolute>(name: &A, other: &B) -> Ordering
+    ensures { result ≡ slice_cmp nat_cmp (wire (A.name name.now)) (wire (B.name other.now)) }
+{
+    labels_composed_cmp(name, other, Case::Kept)
+}
+
+/// As `composed_cmp`, with ASCII letters lowered.
+pub fn lowercase_composed_cmp<A: Absolute, B: Absolute>(name: &A, other: &B) -> Ordering
+    ensures { let octets = wire (low (A.name name.now)) in
+        result ≡ slice_cmp nat_cmp octets (wire (low (B.name other.now))) }
+{
+    labels_composed_cmp(name, other, Case::Lowered)
 }

@@ -14,7 +14,7 @@ use Rattle.names_labels.specs.Flat.{spelled, name_in, IsRunOf, SpellsName}
 use Rattle.names_labels.proofs.Runs.{labels_in-wire, name_in-wire}
 use Rattle.names_labels.proofs.Checks.{length-wire}
 use Rattle.names_labels.proofs.Wholes.{wire_len-append}
-use Rattle.names_flat.proofs.Rooted.{flat_run}
+use Rattle.names_labels.proofs.Rooted.{flat_run}
 use Rattle.names_parsed.specs.Standing.{name_from, InRow}
 use Rattle.names_parsed.specs.Parsed.{HasNoPointers}
 use Rattle.names_parsed.proofs.Inversion.{limit_fits, standing, invert, Inverted, more_pointers}

@@ -2,7 +2,7 @@
 use Rattle.std.proofs.Common.{◌≡◌, ℕ, zero, suc, ◌+◌, ◌-◌, ◌<◌, ◌≤◌, [], ◌∷◌, length, drop, take, refl, sym, ap, ◌∙◌, arith, Some, length-drop}
 use Rattle.std.specs.Prelude.{slice_get}
 use Rattle.definitions.specs.Name.{Name}
-use Rattle.names_flat.specs.Suffixes.{suffixes}
+use Rattle.names_labels.specs.Suffixes.{suffixes}
 
 -- the first of them, and those behind it
 pub first_suffix : (n next : Name) (left : ℕ) → next ≡ drop 1 n → 0 < left → left ≤ length n + 1 → take left (suffixes n) ≡ n ∷ take (left - 1) (suffixes next)

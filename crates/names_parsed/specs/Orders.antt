@@ -4,8 +4,8 @@ use Rattle.std.specs.Ordering.{eq_by_cmp}
 use Rattle.std.specs.Cmp.{IsEquivalence, IsTotalOrder, IsPartialOrder, on_equiv, on_total, partial_order_from_total, partial_order_from_own_ties}
 use Rattle.std.specs.declared.cmp.Ordering.{Ordering}
 use Rattle.definitions.specs.Name.{same, name_cmp}
-use Rattle.names_flat.specs.Feed.{name_feed, name_feed-same}
-use Rattle.names_flat.specs.Laws.{same_equivalence, name_cmp_total, name_cmp_ties}
+use Rattle.names_labels.specs.Feed.{name_feed, name_feed-same}
+use Rattle.names_labels.specs.Laws.{same_equivalence, name_cmp_total, name_cmp_ties}
 use Rattle.names_parsed.specs.Parsed.{parsed_name}
 use Rattle.names_parsed.specs.declared.parsed.ParsedName.{ParsedName}
 

@@ -5,7 +5,7 @@ ghost use Rattle.std.specs.Cmp.{partial_equiv_from_equiv};
 ghost use Rattle.names_parsed.specs.Orders.{parsed_same, parsed_cmp, parsed_feed, parsed_feed-same, parsed_equivalence, parsed_total, parsed_partial, parsed_ties};
 
 use crate::parsed::ParsedName;
-use names_flat::name_order::feed_labels;
+use names_labels::feed::feed_labels;
 use names_labels::order::labels_cmp;
 use names_labels::traits::labels_eq;
 use std::cmp::Ordering;

@@ -4,7 +4,7 @@ ghost use Rattle.std.specs.Prelude.{◌≡◌, ◌↔◌, ◌+◌, ◌++◌, ◌
 ghost use Rattle.definitions.specs.Name.{IsName, at_or_above};
 ghost use Rattle.names_wire.specs.Label.{octets_of};
 ghost use Rattle.names_labels.specs.Compare.{begins_with};
-ghost use Rattle.names_flat.specs.Suffixes.{suffixes};
+ghost use Rattle.names_labels.specs.Suffixes.{suffixes};
 ghost use Rattle.names_parsed.specs.Passing.{Skips, NothingToSkip, StopsPassing};
 ghost use Rattle.names_parsed.specs.Standing.{stands_at, name_from, HasRow, KeepsRow};
 

@@ -2,7 +2,7 @@
 
 ghost use Rattle.std.specs.Prelude.{◌≡◌, ◌+◌, length};
 ghost use Rattle.std.specs.Iterator.{YieldsFirstBy, YieldsLastBy, item_count};
-ghost use Rattle.names_flat.specs.Suffixes.{suffixes};
+ghost use Rattle.names_labels.specs.Suffixes.{suffixes};
 ghost use Rattle.names_parsed.specs.Parsed.{parsed_name};
 
 use crate::parsed::ParsedName;
@@ -20,7 +20,7 @@ pub struct ParsedSuffixIter<'a> {
 /// The names that are left.
 impl<'a> Model for ParsedSuffixIter<'a> {
     ghost use Rattle.std.specs.Prelude.{List, ℕ, ◌≤◌, ◌+◌, take, length};
-    ghost use Rattle.names_flat.specs.Suffixes.{suffixes};
+    ghost use Rattle.names_labels.specs.Suffixes.{suffixes};
     ghost use Rattle.names_parsed.specs.Parsed.{parsed_name};
 
     ghost Value = { List (List (List ℕ)) };

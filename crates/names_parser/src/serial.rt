@@ -4,6 +4,7 @@ ghost use Rattle.std.specs.Fmt.{decimal};
 ghost use Rattle.std.specs.Prelude.{◌≡◌, Some, ◌≤◌, ◌++◌, length, OnOk, OnErr};
 ghost use Rattle.std.specs.Int.{w32, from_be_bytes, to_be_bytes};
 ghost use Rattle.std.specs.Ordering.{nat_cmp};
+ghost use Rattle.definitions.specs.Serial.{serial_le};
 ghost use Rattle.names_parser.specs.Reader.{Takes};
 ghost use Rattle.names_parser.specs.Serials.{serial_add, serial_cmp};
 
@@ -47,19 +48,22 @@ impl Serial {
         Serial(self.0.wrapping_add(other))
     }
 
+    /// Whether it is another, or less than half the circle before it (RFC 1982, 3.2).
+    pub fn is_at_or_before(&self, other: &Self) -> bool
+        ensures { result ≡ serial_le self.now.0 other.now.0 }
+    {
+        other.0.wrapping_sub(self.0) < 0x8000_0000
+    }
+
     /// Which is before the other: none of two that are 2^31 apart (RFC 1982, 3.2).
     pub fn partial_cmp(&self, other: &Self) -> Option<Ordering>
         ensures { result ≡ serial_cmp self.now.0 other.now.0 }
     {
-        let distance = other.0.wrapping_sub(self.0);
-        if distance == 0 {
-            Some(Ordering::Equal)
-        } else if distance < 0x8000_0000 {
-            Some(Ordering::Less)
-        } else if distance > 0x8000_0000 {
-            Some(Ordering::Greater)
-        } else {
-            None
+        match (self.is_at_or_before(other), other.is_at_or_before(self)) {
+            (true, true) => Some(Ordering::Equal),
+            (true, false) => Some(Ordering::Less),
+            (false, true) => Some(Ordering::Greater),
+            (false, false) => None,
         }
     }
 

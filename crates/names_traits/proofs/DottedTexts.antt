@@ -2,8 +2,8 @@
 use Rattle.std.proofs.Common.{◌≡◌, ◌<◌, [], ◌∷◌, ◌++◌, length, take, refl, sym, ap, ◌∙◌, arith}
 use Rattle.definitions.specs.Name.{Name}
 use Rattle.definitions.specs.Text.{dotted_text_of_name}
-use Rattle.names_flat.specs.Dotted.{dotted}
-use Rattle.names_flat.proofs.Texts.{dotted_relative}
+use Rattle.names_labels.specs.Dotted.{dotted}
+use Rattle.names_labels.proofs.Texts.{dotted_relative}
 use Rattle.std.proofs.lemmas.List.{take_at}
 
 -- all labels before the root's

@@ -1,3 +1,2 @@
-pub mod Composed
 pub mod DottedTexts
 pub mod Chained

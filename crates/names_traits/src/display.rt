@@ -3,7 +3,7 @@
 ghost use Rattle.std.specs.Prelude.{◌≡◌, Some};
 ghost use Rattle.definitions.specs.Text.{dotted_text_of_name};
 
-use names_flat::text::NameText;
+use names_labels::text::NameText;
 use names_labels::traits::{Absolute, Labels, ToLabelIter};
 use std::fmt;
 use std::marker::Model;

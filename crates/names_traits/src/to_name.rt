@@ -8,7 +8,7 @@ ghost use Rattle.definitions.specs.Name.{low, wire, same, name_cmp};
 use crate::display::DisplayWithDot;
 use names_flat::builder::{Finish, NameBuilder};
 use names_flat::name::Name;
-use names_labels::order::{Case, labels_cmp, labels_composed_cmp};
+use names_labels::order::{composed_cmp, lowercase_composed_cmp, name_cmp};
 pub use names_labels::traits::Absolute;
 use names_labels::traits::labels_eq;
 use names_wire::builder::ShortBuf;
@@ -30,7 +30,7 @@ pub trait ToName: Absolute {
     fn name_cmp<N: Absolute>(&self, other: &N) -> Ordering
         ensures { result ≡ name_cmp (Self.name self.now) (N.name other.now) }
     {
-        labels_cmp(self, other)
+        name_cmp(self, other)
     }
 
     /// The order of the octets in wire form.
@@ -38,7 +38,7 @@ pub trait ToName: Absolute {
         ensures { let octets = wire (Self.name self.now) in
             result ≡ slice_cmp nat_cmp octets (wire (N.name other.now)) }
     {
-        labels_composed_cmp(self, other, Case::Kept)
+        composed_cmp(self, other)
     }
 
     /// The order of the octets in wire form, with ASCII letters lowered.
@@ -46,7 +46,7 @@ pub trait ToName: Absolute {
         ensures { let octets = wire (low (Self.name self.now)) in
             result ≡ slice_cmp nat_cmp octets (wire (low (N.name other.now))) }
     {
-        labels_composed_cmp(self, other, Case::Lowered)
+        lowercase_composed_cmp(self, other)
     }
 
     /// The name to be printed with its last dot.

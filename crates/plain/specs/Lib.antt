@@ -1,10 +1,6 @@
-pub mod Blocks
-pub mod Classes
-pub mod Decoding
 pub mod Ns
 pub mod NsLaws
 pub mod Records
-pub mod Refusing
 pub mod Soa
 pub mod SoaLaws
 pub mod Spelling

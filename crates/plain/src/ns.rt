@@ -13,10 +13,11 @@ use names_data::composer::{Composer, compose_canonical_name};
 use names_data::data::{ComposeRecordData, ParseRecordData, RecordData};
 use names_data::reading::{closed, parse_name};
 use names_data::rtype::Rtype;
+use names_labels::order::lowercase_composed_cmp;
+use names_labels::traits::{Absolute, ToLabelIter};
 use names_parsed::parsed::ParsedName;
 use names_parser::error::ParseError;
 use names_parser::parser::Parser;
-use names_traits::to_name::ToName;
 use names_wire::builder::ShortBuf;
 use std::cmp::Ordering;
 
@@ -60,7 +61,7 @@ fn parse_fields<'a>(parser: &mut Parser<'a>) -> Result<Ns<ParsedName<'a>>, Parse
     })
 }
 
-impl<N: ToName> RecordData for Ns<N> {
+impl<N: Absolute> RecordData for Ns<N> {
     ghost use Rattle.plain.specs.NsLaws.{ns_as_long};
 
     ghost type_of = { λ _. 2 };
@@ -76,7 +77,7 @@ impl<N: ToName> RecordData for Ns<N> {
     }
 }
 
-impl<N: ToName> ComposeRecordData for Ns<N> {
+impl<N: Absolute> ComposeRecordData for Ns<N> {
     ghost use Rattle.std.specs.Prelude.{true};
 
     ghost compressible = { λ _. true };
@@ -113,10 +114,10 @@ impl<'a> ParseRecordData<'a> for Ns<ParsedName<'a>> {
 }
 
 /// The order of the octets in canonical form (RFC 4034, 6.3).
-impl<N: ToName> CanonicalOrd for Ns<N> {
+impl<N: Absolute> CanonicalOrd for Ns<N> {
     ghost canonical = { λ a b. slice_cmp nat_cmp (ns_canonical N.name a) (ns_canonical N.name b) };
 
     fn canonical_cmp(&self, other: &Self) -> Ordering {
-        self.nsdname.lowercase_composed_cmp(&other.nsdname)
+        lowercase_composed_cmp(&self.nsdname, &other.nsdname)
     }
 }

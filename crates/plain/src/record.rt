@@ -3,13 +3,15 @@
 ghost use Rattle.std.specs.Prelude.{◌≡◌, ◌++◌, length, take, OnOk, OnErr};
 ghost use Rattle.plain.specs.Records.{head_octets, record_octets, record_canonical};
 
-use crate::numbers::{Class, Ttl};
 use names_data::canonical::CanonicalOrd;
 use names_data::composer::{Composer, compose_canonical_name, or_undone};
 use names_data::data::{ComposeRecordData, RecordData};
 use names_data::rtype::Rtype;
-use names_traits::to_name::ToName;
+use names_labels::order::name_cmp;
+use names_labels::traits::Absolute;
 use names_wire::builder::{OctetsBuilder, ShortBuf};
+use numbers::class::Class;
+use numbers::ttl::Ttl;
 use std::cmp::Ordering;
 
 /// A record: who has it, its class, how long it may be kept, and its data, which know the type. Records are equal,
@@ -73,7 +75,7 @@ impl<N, D: RecordData> Record<N, D> {
     }
 }
 
-impl<N: ToName, D: ComposeRecordData> Record<N, D> {
+impl<N: Absolute, D: ComposeRecordData> Record<N, D> {
     /// Appends the record in wire form. A refused call leaves the target as it was.
     pub fn compose<B: Composer>(&self, target: &mut B) -> Result<(), ShortBuf>
         ensures ok { let octets = record_octets N.name D.type_of D.rdata self.now in
@@ -108,7 +110,7 @@ fn head<N, D: RecordData>(rr: &Record<N, D>) -> [u8; 8]
 }
 
 /// Appends the fields; those that there is room for, where it is refused.
-fn compose_fields<N: ToName, D: ComposeRecordData, B: Composer>(
+fn compose_fields<N: Absolute, D: ComposeRecordData, B: Composer>(
     rr: &Record<N, D>,
     target: &mut B,
 ) -> Result<(), ShortBuf>
@@ -123,7 +125,7 @@ fn compose_fields<N: ToName, D: ComposeRecordData, B: Composer>(
 }
 
 /// As `compose_fields`, in canonical form.
-fn compose_canonical_fields<N: ToName, D: ComposeRecordData, B: Composer>(
+fn compose_canonical_fields<N: Absolute, D: ComposeRecordData, B: Composer>(
     rr: &Record<N, D>,
     target: &mut B,
 ) -> Result<(), ShortBuf>
@@ -138,7 +140,7 @@ fn compose_canonical_fields<N: ToName, D: ComposeRecordData, B: Composer>(
 }
 
 /// By class, owner, type and data; TTLs aren't looked at.
-impl<N: ToName, D: RecordData + CanonicalOrd> CanonicalOrd for Record<N, D> {
+impl<N: Absolute, D: RecordData + CanonicalOrd> CanonicalOrd for Record<N, D> {
     ghost use Rattle.plain.specs.Records.{record_canonical_cmp};
 
     ghost canonical = { record_canonical_cmp N.name D.type_of D.canonical };
@@ -148,7 +150,7 @@ impl<N: ToName, D: RecordData + CanonicalOrd> CanonicalOrd for Record<N, D> {
         if order.is_ne() {
             return order;
         }
-        let order = self.owner.name_cmp(&other.owner);
+        let order = name_cmp(&self.owner, &other.owner);
         if order.is_ne() {
             return order;
         }

@@ -9,19 +9,19 @@ ghost use Rattle.names_parsed.specs.Parsed.{parsed_name};
 ghost use Rattle.names_data.specs.Reading.{ReadsPart, ReadsData, data_at};
 ghost use Rattle.plain.specs.Soa.{soa_octets, soa_canonical, soa_part, times_octets};
 
-use crate::numbers::Ttl;
 use names_data::canonical::CanonicalOrd;
 use names_data::composer::{Composer, compose_canonical_name, or_undone};
 use names_data::data::{ComposeRecordData, ParseRecordData, RecordData};
 use names_data::reading::{closed, parse_array, parse_name};
 use names_data::rtype::Rtype;
-use names_labels::traits::{Labels, ToLabelIter};
+use names_labels::order::lowercase_composed_cmp;
+use names_labels::traits::{Absolute, Labels, ToLabelIter};
 use names_parsed::parsed::ParsedName;
 use names_parser::error::ParseError;
 use names_parser::parser::Parser;
 use names_parser::serial::Serial;
-use names_traits::to_name::ToName;
 use names_wire::builder::{OctetsBuilder, ShortBuf};
+use numbers::ttl::Ttl;
 use std::cmp::Ordering;
 
 /// The numbers of the data, in their order; times in seconds.
@@ -184,7 +184,7 @@ fn parse_fields<'a>(parser: &mut Parser<'a>) -> Result<Soa<ParsedName<'a>>, Pars
     })
 }
 
-impl<N: ToName> RecordData for Soa<N> {
+impl<N: Absolute> RecordData for Soa<N> {
     ghost use Rattle.plain.specs.SoaLaws.{soa_as_long};
 
     ghost type_of = { λ _. 6 };
@@ -200,7 +200,7 @@ impl<N: ToName> RecordData for Soa<N> {
     }
 }
 
-impl<N: ToName> ComposeRecordData for Soa<N> {
+impl<N: Absolute> ComposeRecordData for Soa<N> {
     ghost compressible = { λ _. true };
 
     fn rdlen(&self, compress: bool) -> Option<u16> {
@@ -225,7 +225,7 @@ impl<N: ToName> ComposeRecordData for Soa<N> {
 }
 
 /// Appends the fields; those that there is room for, where it is refused.
-fn compose_fields<N: ToName, B: Composer>(soa: &Soa<N>, target: &mut B) -> Result<(), ShortBuf>
+fn compose_fields<N: Absolute, B: Composer>(soa: &Soa<N>, target: &mut B) -> Result<(), ShortBuf>
     ensures ok { let octets = soa_octets N.name soa.now in
         OnOk result (B.bytes target.new ≡ B.bytes target.old ++ octets) }
     ensures err { let old = B.bytes target.old in
@@ -237,7 +237,7 @@ fn compose_fields<N: ToName, B: Composer>(soa: &Soa<N>, target: &mut B) -> Resul
 }
 
 /// As `compose_fields`, in canonical form.
-fn compose_canonical_fields<N: ToName, B: Composer>(
+fn compose_canonical_fields<N: Absolute, B: Composer>(
     soa: &Soa<N>,
     target: &mut B,
 ) -> Result<(), ShortBuf>
@@ -267,18 +267,18 @@ impl<'a> ParseRecordData<'a> for Soa<ParsedName<'a>> {
 }
 
 /// The order of the octets in canonical form (RFC 4034, 6.3).
-impl<N: ToName> CanonicalOrd for Soa<N> {
+impl<N: Absolute> CanonicalOrd for Soa<N> {
     ghost canonical = { λ a b.
         slice_cmp nat_cmp (soa_canonical N.name a) (soa_canonical N.name b) };
 
     fn canonical_cmp(&self, other: &Self) -> Ordering {
         let _names = (self.mname.label_count(), other.mname.label_count());
-        let order = self.mname.lowercase_composed_cmp(&other.mname);
+        let order = lowercase_composed_cmp(&self.mname, &other.mname);
         if order.is_ne() {
             return order;
         }
         let _names = (self.rname.label_count(), other.rname.label_count());
-        let order = self.rname.lowercase_composed_cmp(&other.rname);
+        let order = lowercase_composed_cmp(&self.rname, &other.rname);
         if order.is_ne() {
             return order;
         }

@@ -13,10 +13,10 @@ use names_data::composer::Composer;
 use names_data::data::{ComposeRecordData, ParseAnyRecordData, ParseRecordData, RecordData};
 use names_data::rtype::Rtype;
 use names_data::unknown::UnknownRecordData;
+use names_labels::traits::Absolute;
 use names_parsed::parsed::ParsedName;
 use names_parser::error::ParseError;
 use names_parser::parser::Parser;
-use names_traits::to_name::ToName;
 use names_wire::builder::ShortBuf;
 use names_wire::octets::Octets;
 
@@ -46,7 +46,7 @@ impl<'a> ZoneRecordData<&'a [u8], ParsedName<'a>> {
     }
 }
 
-impl<Octs: Octets, N: ToName> RecordData for ZoneRecordData<Octs, N> {
+impl<Octs: Octets, N: Absolute> RecordData for ZoneRecordData<Octs, N> {
     ghost use Rattle.plain.specs.ZoneDataLaws.{zone_as_long};
 
     ghost type_of = { zone_type };
@@ -66,7 +66,7 @@ impl<Octs: Octets, N: ToName> RecordData for ZoneRecordData<Octs, N> {
     }
 }
 
-impl<Octs: Octets, N: ToName> ComposeRecordData for ZoneRecordData<Octs, N> {
+impl<Octs: Octets, N: Absolute> ComposeRecordData for ZoneRecordData<Octs, N> {
     ghost compressible = { zone_compressible };
 
     fn rdlen(&self, compress: bool) -> Option<u16> {

@@ -14,8 +14,8 @@ use crate::ns::Ns;
 use crate::soa::Soa;
 use crate::zone_data::ZoneRecordData;
 use names_data::canonical::CanonicalOrd;
+use names_labels::order::lowercase_composed_cmp;
 use names_labels::traits::{Absolute, Labels, ToLabelIter};
-use names_traits::to_name::ToName;
 use names_wire::octets::Octets;
 use names_wire::owned::OwnedLabel;
 use std::cmp::Ordering;
@@ -37,7 +37,7 @@ fn strip_canonical_name<'a, N: Absolute>(name: &N, octets: &'a [u8]) -> Result<&
     Ok(rest)
 }
 
-fn soa_with_octets<N: ToName>(soa: &Soa<N>, octets: &[u8]) -> Ordering
+fn soa_with_octets<N: Absolute>(soa: &Soa<N>, octets: &[u8]) -> Ordering
     ensures { result ≡ slice_cmp nat_cmp (soa_canonical N.name soa.now) octets.now }
 {
     let rest = match strip_canonical_name(soa.mname(), octets) {
@@ -50,7 +50,7 @@ fn soa_with_octets<N: ToName>(soa: &Soa<N>, octets: &[u8]) -> Ordering
     }
 }
 
-fn ns_with_octets<N: ToName>(ns: &Ns<N>, octets: &[u8]) -> Ordering
+fn ns_with_octets<N: Absolute>(ns: &Ns<N>, octets: &[u8]) -> Ordering
     ensures { result ≡ slice_cmp nat_cmp (ns_canonical N.name ns.now) octets.now }
 {
     match strip_canonical_name(ns.nsdname(), octets) {
@@ -59,18 +59,16 @@ fn ns_with_octets<N: ToName>(ns: &Ns<N>, octets: &[u8]) -> Ordering
     }
 }
 
-fn soa_with_ns<N: ToName>(soa: &Soa<N>, ns: &Ns<N>) -> Ordering
+fn soa_with_ns<N: Absolute>(soa: &Soa<N>, ns: &Ns<N>) -> Ordering
     ensures { let name = N.name in
         result ≡ slice_cmp nat_cmp (soa_canonical name soa.now) (ns_canonical name ns.now) }
 {
     let _counts = (soa.mname().label_count(), ns.nsdname().label_count());
-    soa.mname()
-        .lowercase_composed_cmp(ns.nsdname())
-        .then(Ordering::Greater)
+    lowercase_composed_cmp(soa.mname(), ns.nsdname()).then(Ordering::Greater)
 }
 
 /// The order of the octets in canonical form.
-impl<Octs: Octets, N: ToName> CanonicalOrd for ZoneRecordData<Octs, N> {
+impl<Octs: Octets, N: Absolute> CanonicalOrd for ZoneRecordData<Octs, N> {
     ghost canonical = { λ a b.
         slice_cmp nat_cmp (zone_canonical N.name a) (zone_canonical N.name b) };
 

@@ -7,7 +7,7 @@ use Rattle.std.specs.Str.{bytes_eq}
 use Rattle.std.proofs.lemmas.Bool.{eq-eqb}
 use Rattle.std.proofs.lemmas.List.{drop-drop, take-append-drop}
 use Rattle.definitions.specs.Name.{Name, wire, low}
-use Rattle.answer.specs.Message.{owner_at}
+use Rattle.answer_events.specs.Message.{owner_at}
 use Rattle.plain.specs.Soa.{times_octets}
 use Rattle.plain.specs.declared.soa.Soa.{Soa}
 use Rattle.plain.specs.declared.soa.Times.{Times}

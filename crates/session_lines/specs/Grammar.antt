@@ -5,14 +5,14 @@ use Rattle.std.specs.Result.{result_ok}
 use Rattle.std.specs.Str.{bytes_eq, chars}
 use Rattle.definitions.specs.Name.{Name, wire, low}
 use Rattle.definitions.specs.Text.{name_of_text}
-use Rattle.answer.specs.HandedRr.{HandedRr}
-use Rattle.answer.specs.Bindings.{Call, Add, Start, Report1, Wait1, Report2, Wait2, Finish}
-use Rattle.answer.specs.Actions.{read_roll}
-use Rattle.answer.specs.Message.{Asked, owner_at}
-use Rattle.answer.specs.NameOctets.{name_of_octets}
-use Rattle.answer.specs.RollType.{RollType}
-use Rattle.answer.specs.KeyKind.{KeyKind}
-use Rattle.answer.specs.KeyKindCase.{Ksk, Zsk}
+use Rattle.answer_events.specs.HandedRr.{HandedRr}
+use Rattle.answer_events.specs.Calls.{Call, Add, Start, Report1, Wait1, Report2, Wait2, Finish}
+use Rattle.answer_events.specs.Actions.{read_roll}
+use Rattle.answer_events.specs.Message.{Asked, owner_at}
+use Rattle.answer_events.specs.NameOctets.{name_of_octets}
+use Rattle.answer_events.specs.RollType.{RollType}
+use Rattle.answer_events.specs.declared.key_kind.KeyKind.{KeyKind}
+use Rattle.answer_events.specs.declared.key_kind.KeyKind.TheVariants.{Ksk, Zsk}
 use Rattle.session_lines.specs.Fields.{is_nothing, hex_field, key_field, is_reference}
 use Rattle.session_lines.specs.Numbers.{number_of}
 

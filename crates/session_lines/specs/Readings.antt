@@ -2,11 +2,11 @@
 use Rattle.std.specs.Prelude.{◌≡◌, ℕ, false, List, map, Option, Some, None, Result, Ok, Err}
 use Rattle.std.specs.Borrow.{Bor}
 use Rattle.std.specs.Option.{option_map}
-use Rattle.answer.specs.Questions.{asked_of}
-use Rattle.answer.specs.Simulating.{call_of}
-use Rattle.answer.specs.declared.event.Event.{Event}
-use Rattle.answer.specs.declared.event.Act.{Act}
-use Rattle.answer.specs.declared.event.Act.TheVariants as act
+use Rattle.answer_events.specs.Questions.{asked_of}
+use Rattle.answer_events.specs.Calls.{call_of}
+use Rattle.answer_events.specs.declared.event.Event.{Event}
+use Rattle.answer_events.specs.declared.event.Act.{Act}
+use Rattle.answer_events.specs.declared.event.Act.TheVariants as act
 use Rattle.session_lines.specs.declared.line_error.LineError.{LineError}
 use Rattle.session_lines.specs.declared.line_error.LineError.TheVariants.{Unreadable, Memory}
 use Rattle.session_lines.specs.declared.session.SessionError.{SessionError}
@@ -17,7 +17,7 @@ use Rattle.plain.specs.Soa.{soa_octets, soa_canonical}
 use Rattle.plain.specs.declared.soa.Soa.{Soa}
 use Rattle.plain.specs.declared.record.Record.{Record}
 use Rattle.plain.specs.declared.zone_data.ZoneRecordData.{ZoneRecordData}
-use Rattle.answer.specs.HandedRr.{handed_of, is_unknown, written_of, canonical_of}
+use Rattle.answer_events.specs.HandedRr.{handed_of, is_unknown, written_of, canonical_of}
 use Rattle.session_lines.specs.Grammar.{ZoneLine, ActLine, EventLine, DataField, KeyCall, ShowDs, ShowDnskey, Ask, Judge, JudgeBytes}
 use Rattle.session_lines.specs.Sessions.{Lines, session_of}
 

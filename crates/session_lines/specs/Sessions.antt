@@ -2,7 +2,7 @@
 use Rattle.std.specs.Prelude.{ℕ, ◌+◌, ◌==◌, ◌&&◌, Bool, true, false, List, [], ◌∷◌, ◌++◌, length, codes, if◌then◌else◌, Option, Some, None, Result, Ok, Err}
 use Rattle.std.specs.List.{slice_split}
 use Rattle.std.specs.Str.{bytes_eq, is_utf8}
-use Rattle.answer.specs.HandedRr.{HandedRr}
+use Rattle.answer_events.specs.HandedRr.{HandedRr}
 use Rattle.session_lines.specs.Grammar.{◌>>=◌, ZoneLine, EventLine, zone_line, record_line, event_line}
 use Rattle.session_lines.specs.Lines.{lines_of}
 

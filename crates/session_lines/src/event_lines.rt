@@ -1,18 +1,19 @@
 //! The lines of events.
 ghost use Rattle.std.specs.Prelude.{◌≤◌, IfOk};
-ghost use Rattle.answer.specs.Questions.{asked_of};
+ghost use Rattle.answer_events.specs.Questions.{asked_of};
 ghost use Rattle.session_lines.specs.Grammar.{Ask, ask_line, act_line1, act_line2, act_line3, act_line4, act_line5, act_line, roll_field, event_line};
 ghost use Rattle.session_lines.specs.Readings.{Reads, texts, act_view, event_view};
-ghost use Rattle.answer.specs.Events.{added_octets, added_by_act};
+ghost use Rattle.answer_events.specs.Events.{added_octets, added_by_act};
 
 use crate::fields::{key_octets, name, reference, references};
 use crate::line_error::LineError;
-use crate::numbers::{number_u8, number_u16, number_u32, number_u64, place};
-use answer::event::{Act, Event, KeyCall};
-use answer::keyset::{Available, RollType, UnixTime};
-use answer::plain::Rtype;
-use answer::plain::numbers::{Class, SecurityAlgorithm};
-use answer::question::Question;
+use crate::number_fields::{number_u8, number_u16, number_u32, number_u64, place};
+use answer_events::event::{Act, Event, KeyCall};
+use answer_events::keyset::{Available, RollType, UnixTime};
+use answer_events::question::Question;
+use numbers::algorithm::SecurityAlgorithm;
+use numbers::class::Class;
+use numbers::rtype::Rtype;
 use std::alloc::Global;
 use std::time::Duration;
 

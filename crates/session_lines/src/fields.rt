@@ -2,16 +2,16 @@
 ghost use Rattle.std.specs.Prelude.{◌≡◌, ◌≤◌, ◌↔◌, length, map, IfOk, IsErrOf, Some, None, true, false, string_bytes, if◌then◌else◌};
 ghost use Rattle.std.specs.Result.{result_ok};
 ghost use Rattle.std.specs.List.{list_all};
-ghost use Rattle.answer.specs.Message.{owner_at};
-ghost use Rattle.answer.specs.NameOctets.{name_of_octets};
-ghost use Rattle.answer.specs.View.{named};
+ghost use Rattle.answer_events.specs.Message.{owner_at};
+ghost use Rattle.answer_events.specs.NameOctets.{name_of_octets};
+ghost use Rattle.answer_events.specs.View.{named};
 ghost use Rattle.session_lines.specs.Fields.{base64_field, hex_field, key_field, is_reference};
 ghost use Rattle.session_lines.specs.Grammar.{name_field, references_field};
 ghost use Rattle.session_lines.specs.Readings.{Reads, texts};
 
 use crate::line_error::LineError;
-use answer::message::names::{name_at_place, name_from_octets};
-use answer::names::Name;
+use answer_events::message::names::{name_at_place, name_from_octets};
+use answer_events::names::Name;
 use base64::DecodeAllocError;
 use base64::engine::general_purpose::STANDARD;
 use hex::FromHexError;

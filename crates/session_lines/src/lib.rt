@@ -6,7 +6,7 @@ mod event_lines;
 mod fields;
 mod line_error;
 mod lines;
-mod numbers;
+mod number_fields;
 pub mod session;
 pub mod zone;
 mod zone_lines;

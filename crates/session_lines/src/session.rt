@@ -1,7 +1,7 @@
 //! A session: a zone, its records, and the events that follow.
 ghost use Rattle.std.specs.Prelude.{◌≡◌, ◌≤◌, All, map, IfOk, IfErr, Ok};
-ghost use Rattle.answer.specs.Events.{added_octets};
-ghost use Rattle.answer.specs.HandedRr.{handed_of};
+ghost use Rattle.answer_events.specs.Events.{added_octets};
+ghost use Rattle.answer_events.specs.HandedRr.{handed_of};
 ghost use Rattle.session_lines.specs.Readings.{Reads, texts, zone_view, event_view, session_view, IsSessionError};
 ghost use Rattle.session_lines.specs.Sessions.{session_of, no_lines, is_passed_over, is_record_line, fields_of, with_fields, with_line};
 
@@ -10,8 +10,8 @@ use crate::line_error::LineError;
 use crate::lines::Lines;
 use crate::zone::Zone;
 use crate::zone_lines::{read_record, read_zone};
-use answer::event::Event;
-use answer::record::ZoneRecord;
+use answer_events::event::Event;
+use answer_events::record::ZoneRecord;
 use std::alloc::{AllocError, Global};
 use thiserror::Error;
 

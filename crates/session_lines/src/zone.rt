@@ -1,8 +1,8 @@
 //! What a session's zone is published with.
 ghost use Rattle.std.specs.Prelude.{◌≤◌};
 
-use answer::names::Name;
-use answer::publisher::fault::Mode;
+use answer_events::names::Name;
+use answer_zone::fault::Mode;
 
 /// What a zone is published with.
 #[derive(Debug, Drop)]

@@ -2,23 +2,24 @@
 ghost use Rattle.std.specs.Prelude.{◌≡◌, ◌+◌, ◌≤◌, IfOk, length, take, drop};
 ghost use Rattle.std.specs.Int.{w32, to_be_bytes};
 ghost use Rattle.plain.specs.ZoneData.{zone_type};
-ghost use Rattle.answer.specs.HandedRr.{handed_of};
+ghost use Rattle.answer_events.specs.HandedRr.{handed_of};
 ghost use Rattle.session_lines.specs.Grammar.{zone_line, zone_fields, life_field, record_line, record_fields, data_octets, soa_octets};
 ghost use Rattle.session_lines.specs.Readings.{Reads, texts, zone_view, data_view, soa_view};
 
 use crate::fields::{hex_octets, name, name_at, wire_name};
 use crate::line_error::LineError;
-use crate::numbers::{number_u16, number_u32};
+use crate::number_fields::{number_u16, number_u32};
 use crate::zone::Zone;
-use answer::names::{Name, Serial, UnknownRecordData};
-use answer::plain::Rtype;
-use answer::plain::ns::Ns;
-use answer::plain::numbers::{Class, Ttl};
-use answer::plain::record::Record;
-use answer::plain::soa::Soa;
-use answer::plain::zone_data::ZoneRecordData;
-use answer::publisher::fault::Mode;
-use answer::record::{ZoneData, ZoneRecord};
+use answer_events::names::{Name, Serial, UnknownRecordData};
+use answer_events::record::{ZoneData, ZoneRecord};
+use answer_zone::fault::Mode;
+use numbers::class::Class;
+use numbers::rtype::Rtype;
+use numbers::ttl::Ttl;
+use plain::ns::Ns;
+use plain::record::Record;
+use plain::soa::Soa;
+use plain::zone_data::ZoneRecordData;
 use std::alloc::Global;
 
 /// The longest life of a signature, in seconds: serial numbers compare up to here (RFC 4034, 3.1.5).

@@ -1,7 +1,5 @@
 //! A stand-in for signatures and digests, which protects nothing: a signature is a copy of what it is made over.
-use answer::denial::{Dnskey, HashError, Nsec3Hasher};
-use answer::plain::numbers::DigestAlgorithm;
-use answer::scheme::{Scheme, SchemeError};
+use answer::{DigestAlgorithm, Dnskey, HashError, Nsec3Hasher, Scheme, SchemeError};
 use std::alloc::Global;
 
 /// Signs by copying, digests to one octet, and hashes no name.

@@ -6,11 +6,7 @@ mod zone;
 
 use crate::copying::Copying;
 use crate::zone::{moment, name, published};
-use answer::judge::by_scheme::judge_with;
-use answer::judge::verdict::{Judgement, Refused, Verdict};
-use answer::plain::Rtype;
-use answer::plain::numbers::Class;
-use answer::question::Question;
+use answer::{Case, Class, Judgement, Question, Refused, Rtype, Verdict, judge_with};
 
 /// Asks a zone for two names, and prints what its answers prove.
 fn main(rt: HostRuntime) -> anyhow::Result<()> {
@@ -27,9 +23,16 @@ fn main(rt: HostRuntime) -> anyhow::Result<()> {
             class: Class::IN,
         };
         let answer = publisher.answer(&question, &now)?;
-        let judgement = judge_with(
-            alloc, &Copying, &Copying, &apex, &ds, &keys, &answer, &question, 3600, 0,
-        );
+        let case = Case {
+            apex: &apex,
+            ds: &ds,
+            dnskey: &keys,
+            answer: &answer,
+            question: &question,
+            moment: now,
+            limit: 0,
+        };
+        let judgement = judge_with(alloc, &Copying, &Copying, &case);
         println!(rt; "{owner}: {}", words(&judgement))?;
     }
     Ok(())

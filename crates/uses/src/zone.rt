@@ -1,15 +1,9 @@
 //! The zone that is asked: its records, and keys that have rolled in.
 use crate::copying::Copying;
-use answer::names::{Name, Serial, UnknownRecordData};
-use answer::plain::Rtype;
-use answer::plain::numbers::{Class, SecurityAlgorithm, Ttl};
-use answer::plain::record::Record;
-use answer::plain::soa::Soa;
-use answer::plain::zone_data::ZoneRecordData;
-use answer::publisher::fault::Mode;
-use answer::publisher::publishing::Publisher;
-use answer::record::{ZoneData, ZoneRecord};
-use keyset::{Available, RollType, UnixTime};
+use answer::{
+    Available, Class, Mode, Name, Publisher, Record, RollType, Rtype, SecurityAlgorithm, Serial,
+    Soa, Ttl, UnixTime, UnknownRecordData, ZoneData, ZoneRecord, ZoneRecordData,
+};
 use std::alloc::Global;
 use std::time::Duration;
 

@@ -2,20 +2,27 @@
 
 use crate::fault::Fault;
 use crate::hashed::nsec3_links;
+use crate::options::Options;
 use crate::section::{Rr, Section};
-use denial_bitmap::bitmap::RtypeBitmap;
-use denial_links::nsec::Nsec;
-use denial_nsec::config::GenerateNsecConfig;
-use denial_nsec::generate::generate_nsecs;
-use denial_owners::conditions::{is_canonical_order, is_one_class};
+use denial::{
+    DefaultSorter, GenerateNsecConfig, Nsec, RecordsIter, RtypeBitmap, SortedRecords,
+    generate_nsecs, is_canonical_order, is_one_class,
+};
 use denial_sorted::laws::zone_data_order_is_total;
-use denial_sorted::sorted::SortedRecords;
-use denial_sorted::sorter::DefaultSorter;
-use denial_sorted::walks::RecordsIter;
 use names::{ParsedName, ToName};
 use plain::record::Record;
 use plain::zone_data::ZoneRecordData;
 use std::alloc::Global;
+use std::fmt::Display;
+
+/// How the records of a chain are printed.
+#[derive(Clone, Copy)]
+pub enum Form {
+    /// Owner, next name and types.
+    Links,
+    /// Owner, TTL, class and data, as text.
+    Records,
+}
 
 pub type Sorted<'a> = SortedRecords<
     ParsedName<'a>,
@@ -23,15 +30,22 @@ pub type Sorted<'a> = SortedRecords<
     DefaultSorter,
 >;
 
-/// The links of the chain of a kind.
-pub fn links(alloc: Global, section: &Section, kind: &str, rest: &str) -> Result<String, Fault> {
+/// The records of the chain of a kind.
+pub fn links(
+    alloc: Global,
+    section: &Section,
+    form: Form,
+    kind: &str,
+    rest: &str,
+) -> Result<String, Fault> {
     match kind {
         "nsec" => {
             let apex = section.apex()?;
             let records = sorted(section.records(alloc)?)?;
-            nsec_links(alloc, &apex, records.as_slice())
+            let config = Options::read(alloc, rest)?.of_names();
+            nsec_links(alloc, &apex, records.as_slice(), config, form)
         }
-        "nsec3" => nsec3_links(alloc, section, rest),
+        "nsec3" => nsec3_links(alloc, section, form, rest),
         _ => Err(Fault::UnknownChain),
     }
 }
@@ -45,16 +59,21 @@ fn nsec_links<'a>(
     alloc: Global,
     apex: &ParsedName<'a>,
     records: &[Rr<'a>],
+    config: GenerateNsecConfig,
+    form: Form,
 ) -> Result<String, Fault> {
     zone_data_order_is_total::<&[u8], ParsedName<'_>>();
     if !is_one_class(records) || !is_canonical_order(records) {
         return Err(Fault::Unreadable);
     }
     let records = RecordsIter::new_from_owned(records);
-    let chain = generate_nsecs(alloc, apex, records, GenerateNsecConfig::new())?;
+    let chain = generate_nsecs(alloc, apex, records, config)?;
     let mut text = String::new(alloc);
     for rr in &chain {
-        push_link(alloc, &mut text, rr)?;
+        match form {
+            Form::Links => push_link(alloc, &mut text, rr)?,
+            Form::Records => push_record(alloc, &mut text, rr)?,
+        }
     }
     Ok(text)
 }
@@ -70,6 +89,18 @@ fn push_link<'a>(
     push_name(alloc, text, rr.data().next_name())?;
     push_types(alloc, text, rr.data().types())?;
     text.push_str("\n")?;
+    Ok(())
+}
+
+/// A record as text: owner, TTL, class and data.
+pub fn push_record<N: Display, D: Display>(
+    alloc: Global,
+    text: &mut String,
+    rr: &Record<N, D>,
+) -> Result<(), Fault> {
+    let (owner, data) = (rr.owner(), rr.data());
+    let (ttl, class) = (rr.ttl().as_secs(), rr.class().to_int());
+    text.push_str(&format!(in alloc; "record {owner} {ttl} {class} {data}\n")?)?;
     Ok(())
 }
 

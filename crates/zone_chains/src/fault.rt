@@ -1,6 +1,6 @@
 //! Why a line has no answer.
 
-use denial_owners::error::SigningError;
+use denial::SigningError;
 use std::alloc::{AllocError, AllocFailed};
 use thiserror::Error;
 

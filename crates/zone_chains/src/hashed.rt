@@ -1,25 +1,45 @@
 //! The links of chains of hashed names, as lines.
 
-use crate::chains::{push_name, push_types, sorted};
+use crate::chains::{Form, push_name, push_record, push_types, sorted};
 use crate::fault::Fault;
-use crate::lines::{field, iterations, salt};
-use crate::section::Section;
-use denial_fields::salt::Nsec3Salt;
-use denial_hashes::config::GenerateNsec3Config;
-use denial_links::nsec3::Nsec3;
-use denial_links::nsec3param::Nsec3param;
-use denial_nsec3::generate::generate_nsec3s;
-use denial_owners::conditions::{is_canonical_order, is_one_class};
+use crate::lines::{algorithm, field, first_word, iterations, octets, octets_or_none};
+use crate::options::Options;
+use crate::section::{Section, name};
+use denial::{
+    GenerateNsec3Config, Nsec3, Nsec3Hasher, Nsec3Salt, RecordsIter, generate_nsec3s,
+    is_canonical_order, is_one_class, mk_hashed_nsec3_owner_name,
+};
 use denial_sorted::laws::zone_data_order_is_total;
-use denial_sorted::walks::RecordsIter;
 use names::{Name, ParsedName};
 use nsec3_sha1::hasher::Sha1Hasher;
 use plain::record::Record;
 use std::alloc::Global;
 
-/// The links of the chain of SHA-1 hashes with the iterations, the salt and the flag of opt-out that a line names.
-pub fn nsec3_links(alloc: Global, section: &Section, line: &str) -> Result<String, Fault> {
-    let config = config(alloc, line)?;
+/// The links of the chain of hashes with the iterations, the salt and the options that a line names, by SHA-1 unless it
+/// names other hashes.
+pub fn nsec3_links(
+    alloc: Global,
+    section: &Section,
+    form: Form,
+    line: &str,
+) -> Result<String, Fault> {
+    let (count, rest) = field(line)?;
+    let (octets, rest) = first_word(rest);
+    let options = Options::read(alloc, rest)?;
+    let config = options.of_hashes(alloc, count, octets)?;
+    match &options.hasher {
+        Some(hasher) => hashed_links(alloc, section, form, &config, hasher),
+        None => hashed_links(alloc, section, form, &config, &Sha1Hasher),
+    }
+}
+
+fn hashed_links<H: Nsec3Hasher>(
+    alloc: Global,
+    section: &Section,
+    form: Form,
+    config: &GenerateNsec3Config<Vec<u8>>,
+    hasher: &H,
+) -> Result<String, Fault> {
     let apex = section.apex()?;
     let records = sorted(section.records(alloc)?)?;
     zone_data_order_is_total::<&[u8], ParsedName<'_>>();
@@ -28,26 +48,18 @@ pub fn nsec3_links(alloc: Global, section: &Section, line: &str) -> Result<Strin
         return Err(Fault::Unreadable);
     }
     let records = RecordsIter::new_from_owned(records);
-    let chain = generate_nsec3s(alloc, &apex, records, &config, &Sha1Hasher)?;
+    let chain = generate_nsec3s(alloc, &apex, records, config, hasher)?;
     let mut text = String::new(alloc);
     for rr in &chain.nsec3s {
-        push_link(alloc, &mut text, rr)?;
+        match form {
+            Form::Links => push_link(alloc, &mut text, rr)?,
+            Form::Records => push_record(alloc, &mut text, rr)?,
+        }
+    }
+    if let Form::Records = form {
+        push_record(alloc, &mut text, &chain.nsec3param)?;
     }
     Ok(text)
-}
-
-fn config(alloc: Global, line: &str) -> Result<GenerateNsec3Config<Vec<u8>>, Fault> {
-    let (count, rest) = field(line)?;
-    let (octets, rest) = field(rest)?;
-    let (opt_out, _) = field(rest)?;
-    let Ok(salt) = Nsec3Salt::from_octets(salt(alloc, octets)?) else {
-        return Err(Fault::Unreadable);
-    };
-    let config = GenerateNsec3Config::new(Nsec3param::new(1, 0, iterations(count)?, salt));
-    Ok(match opt_out {
-        "0" => config,
-        _ => config.with_opt_out(),
-    })
 }
 
 fn push_link(
@@ -62,4 +74,45 @@ fn push_link(
     push_types(alloc, text, rr.data().types())?;
     text.push_str("\n")?;
     Ok(())
+}
+
+/// The owner of the NSEC3 record of a name under the apex.
+pub fn owner_of(alloc: Global, section: &Section, line: &str) -> Result<String, Fault> {
+    let (wire, rest) = field(line)?;
+    let (number, rest) = field(rest)?;
+    let (count, rest) = field(rest)?;
+    let (salted, rest) = first_word(rest);
+    let options = Options::read(alloc, rest)?;
+    let params = (
+        algorithm(number)?,
+        iterations(count)?,
+        octets_or_none(alloc, salted)?,
+    );
+    let wire = octets(alloc, wire)?;
+    match &options.hasher {
+        Some(hasher) => hashed_owner(alloc, section, &wire, params, hasher),
+        None => hashed_owner(alloc, section, &wire, params, &Sha1Hasher),
+    }
+}
+
+fn hashed_owner<H: Nsec3Hasher>(
+    alloc: Global,
+    section: &Section,
+    wire: &[u8],
+    params: (u8, u16, Vec<u8>),
+    hasher: &H,
+) -> Result<String, Fault> {
+    let (algorithm, count, salted) = params;
+    let Ok(salt) = Nsec3Salt::from_octets(salted) else {
+        return Err(Fault::Unreadable);
+    };
+    let (name, apex) = (name(wire)?, section.apex()?);
+    let owner = mk_hashed_nsec3_owner_name(alloc, &name, algorithm, count, &salt, &apex, hasher)?;
+    Ok(format!(in alloc; "{owner}\n")?)
+}
+
+/// Whether unsigned delegations are left out of chains with these options.
+pub fn excludes(alloc: Global, line: &str) -> Result<String, Fault> {
+    let config = Options::read(alloc, line)?.of_hashes(alloc, "0", "-")?;
+    Ok(String::from_str(alloc, if config.excludes() { "yes\n" } else { "no\n" })?)
 }

@@ -8,12 +8,11 @@ pub fn is_comment(line: &str) -> bool {
     line.is_empty() || line.starts_with('#')
 }
 
-/// The kind of chain that a line asks for, and the rest of the line.
-pub fn chain(line: &str) -> Option<(&str, &str)> {
-    let rest = line.strip_prefix("chain ")?;
-    match rest.split_once(' ') {
-        Some(parts) => Some(parts),
-        None => Some((rest, "")),
+/// The first word of a line, and the rest.
+pub fn first_word(line: &str) -> (&str, &str) {
+    match line.split_once(' ') {
+        Some(parts) => parts,
+        None => (line, ""),
     }
 }
 
@@ -54,8 +53,15 @@ pub fn iterations(field: &str) -> Result<u16, Fault> {
     }
 }
 
-/// The octets of a salt; `-` is none.
-pub fn salt(alloc: Global, field: &str) -> Result<Vec<u8>, Fault> {
+pub fn algorithm(field: &str) -> Result<u8, Fault> {
+    match field.parse() {
+        Ok(number) => Ok(number),
+        Err(_) => Err(Fault::Unreadable),
+    }
+}
+
+/// Octets from hexadecimal digits; `-` is none.
+pub fn octets_or_none(alloc: Global, field: &str) -> Result<Vec<u8>, Fault> {
     match field {
         "-" => Ok(Vec::new(alloc)),
         digits => octets(alloc, digits),

@@ -1,60 +1,77 @@
 //! Reads zones and requests for chains from standard input, and prints them with the links of each chain.
 //!
 //! A zone is a line `zone APEX` and lines `rr OWNER TTL TYPE DATA`: names and data as hexadecimal digits of their wire
-//! form, numbers in decimal. A line `chain nsec ..` asks for the NSEC chain of the zone so far, a line
-//! `chain nsec3 ITERATIONS SALT OPTOUT ..` for the NSEC3 chain of SHA-1 hashes, with the flag of opt-out where that is 1;
-//! a line `link OWNER NEXT TYPES` is printed behind it for each record, names in lower case, of no types `-`. Lines that
-//! begin with `#` are passed on. The exit status is 1 where a line cannot be read or a zone has no chain, and the reason
-//! is printed.
+//! form, no data as `-`, numbers in decimal. Behind a line that asks for something are printed its lines, or why there are
+//! none:
+//!
+//! - `chain nsec`: the NSEC chain of the zone so far, `chain nsec3 ITERATIONS SALT`: the NSEC3 chain of SHA-1 hashes; a line
+//!   `link OWNER NEXT TYPES` for each record, names in lower case, of no types `-`. `records nsec` and
+//!   `records nsec3 ITERATIONS SALT`: the same, each record as text, and the NSEC3PARAM record last.
+//! - `owners all`, `owners without-unsigned`: the TTLs of the SOA record and of a chain, and the owners that have records,
+//!   with their types; `conditions`: whether the records stand in the order that a chain needs.
+//! - `owner NAME ALGORITHM ITERATIONS SALT`: the owner of the NSEC3 record of a name.
+//! - `excludes`, `ways`: what a configuration says of unsigned delegations, and each way to deny gaps of keys to come.
+//! - `faults`: the texts of faults.
+//!
+//! Words behind these are options: `without-keys` (no DNSKEY records are to come), `opt-out`, `covering-all` (also unsigned
+//! delegations have records), `ttl=soa`, `ttl=minimum`, `ttl=SECONDS` (of the NSEC3PARAM record), and `hashes=OCTETS,NAME`
+//! (each name has this hash, but this one's fails). What stands behind `by` is passed over, and so are empty lines and ones
+//! that begin with `#`.
 #![tactic(auto)]
 
 mod chains;
 mod fault;
 mod hashed;
+mod hasher;
 mod lines;
+mod options;
+mod owners;
 mod section;
+mod texts;
 
+use crate::chains::Form;
 use crate::fault::Fault;
 use crate::section::Section;
+use std::alloc::Global;
 use std::io;
-use std::process::ExitCode;
 
-/// What is printed for a line.
-fn answer(rt: &HostRuntime, section: &mut Section, line: &str) -> Result<String, Fault> {
-    let alloc = rt.alloc();
+/// What is printed behind a line.
+fn answer(alloc: Global, section: &mut Section, line: &str) -> Result<String, Fault> {
     if lines::is_comment(line) {
         return Ok(String::new(alloc));
     }
-    if let Some((kind, rest)) = lines::chain(line) {
-        return chains::links(alloc, section, kind, rest);
+    let (word, rest) = lines::first_word(line);
+    match word {
+        "zone" | "rr" => {
+            section.read(alloc, line)?;
+            Ok(String::new(alloc))
+        }
+        "chain" => of_chain(alloc, section, Form::Links, rest),
+        "records" => of_chain(alloc, section, Form::Records, rest),
+        "owners" => owners::owners(alloc, section, rest),
+        "conditions" => owners::conditions(alloc, section),
+        "owner" => hashed::owner_of(alloc, section, rest),
+        "excludes" => hashed::excludes(alloc, rest),
+        "ways" => texts::ways(alloc, rest),
+        "faults" => texts::faults(alloc),
+        _ => Err(Fault::Unreadable),
     }
-    section.read(alloc, line)?;
-    Ok(String::new(alloc))
 }
 
-fn run(rt: &HostRuntime) -> io::Result<bool> {
-    let alloc = rt.alloc();
-    let (mut section, mut number) = (Section::new(alloc), 0u64);
-    for line in rt.lines(alloc) {
+fn of_chain(alloc: Global, section: &Section, form: Form, rest: &str) -> Result<String, Fault> {
+    let (kind, rest) = lines::first_word(rest);
+    chains::links(alloc, section, form, kind, rest)
+}
+
+fn main(rt: HostRuntime) -> io::Result<()> {
+    let mut section = Section::new(rt.alloc());
+    for line in rt.lines(rt.alloc()) {
         let line = line?;
-        number = number.wrapping_add(1);
-        match answer(rt, &mut section, line.as_str()) {
-            Ok(links) => {
-                println!(rt; "{line}")?;
-                print!(rt; "{links}")?;
-            }
-            Err(fault) => {
-                println!(rt; "line {number}: {fault}")?;
-                return Ok(false);
-            }
+        println!(rt; "{line}")?;
+        match answer(rt.alloc(), &mut section, line.as_str()) {
+            Ok(lines) => print!(rt; "{lines}")?,
+            Err(fault) => println!(rt; "{fault}")?,
         }
     }
-    Ok(true)
-}
-
-fn main(rt: HostRuntime) -> ExitCode {
-    match run(&rt) {
-        Ok(true) => ExitCode::SUCCESS,
-        _ => ExitCode::FAILURE,
-    }
+    Ok(())
 }

@@ -1,11 +1,11 @@
 //! A zone while its lines are read.
 
 use crate::fault::Fault;
-use crate::lines::{field, octets, rtype, ttl};
+use crate::lines::{field, first_word, octets, octets_or_none, rtype, ttl};
 use names::{ParsedName, Parser, Rtype};
-use plain::numbers::{Class, Ttl};
 use plain::record::Record;
 use plain::zone_data::ZoneRecordData;
+use plain::{Class, Ttl};
 use std::alloc::Global;
 
 /// A record of a zone, over the octets of a line.
@@ -29,7 +29,7 @@ impl RrLine {
             owner: octets(alloc, owner)?,
             ttl: ttl(seconds)?,
             rtype: rtype(number)?,
-            content: octets(alloc, content)?,
+            content: octets_or_none(alloc, content)?,
         })
     }
 
@@ -45,7 +45,7 @@ impl RrLine {
 }
 
 /// The name that octets spell.
-fn name(octets: &[u8]) -> Result<ParsedName<'_>, Fault> {
+pub fn name(octets: &[u8]) -> Result<ParsedName<'_>, Fault> {
     let mut parser = Parser::from_ref(octets);
     match ParsedName::parse(&mut parser) {
         Ok(name) => Ok(name),
@@ -69,7 +69,7 @@ impl Section {
 
     /// Reads a line of a zone. A line `zone` begins another one.
     pub fn read(&mut self, alloc: Global, line: &str) -> Result<(), Fault> {
-        let (word, rest) = field(line)?;
+        let (word, rest) = first_word(line);
         if word == "zone" {
             self.apex = octets(alloc, rest)?;
             self.records.clear();

@@ -4,11 +4,12 @@ ghost use Rattle.std.specs.List.{AllZip};
 ghost use Rattle.definitions.specs.Name.{Name, low, wire_len};
 ghost use Rattle.definitions.specs.Zone.{star_under};
 ghost use Rattle.definitions.specs.ZoneChain.{Nsec};
-ghost use Rattle.answer_zone.specs.Accepting.{zone_with};
+ghost use Rattle.answer_terms.specs.Accepting.{zone_with};
 ghost use Rattle.answer_zone.specs.ZoneAnswers.{AnswersAs};
-ghost use Rattle.answer_zone.specs.GroupView.{Adds, Presents, rrset_of};
-ghost use Rattle.answer_zone.specs.ZoneView.{IsPublished};
-ghost use Rattle.answer_zone.specs.Served.{kept_ancestor, proofs_of, served_of, soa};
+ghost use Rattle.answer_terms.specs.GroupView.{Adds, Presents, rrset_of};
+ghost use Rattle.answer_terms.specs.ZoneView.{IsPublished};
+ghost use Rattle.denial_rules.specs.OwnFacts.{kept_ancestor};
+ghost use Rattle.answer_terms.specs.Served.{proofs_of, served_of, soa};
 
 use crate::fault::Mode;
 use crate::group::RrGroup;

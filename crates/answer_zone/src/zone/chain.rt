@@ -9,11 +9,12 @@ ghost use Rattle.denial_owners.specs.Soa.{soa_ttls};
 ghost use Rattle.denial_owners.specs.Ttls.{has_unequal_ttls};
 ghost use Rattle.plain.specs.ZoneData.{zone_canonical, zone_type};
 ghost use Rattle.messages.specs.HandedRr.{handed_of};
-ghost use Rattle.answer_zone.specs.GroupView.{Adds, Presents};
-ghost use Rattle.answer_zone.specs.Links.{group_of, link_of, link_speaks, links_of, said_of};
+ghost use Rattle.answer_terms.specs.GroupView.{Adds, Presents};
+ghost use Rattle.answer_terms.specs.Links.{group_of, link_speaks, links_of, said_of};
+ghost use Rattle.answer_zone.specs.MadeLinks.{link_of};
 
 use crate::group::RrGroup;
-use crate::zone::handed::written_octets;
+use crate::zone::composed_record::written_octets;
 use denial_links::nsec::Nsec;
 use denial_nsec::config::GenerateNsecConfig;
 use denial_nsec::generate::generate_nsecs;
@@ -22,7 +23,7 @@ use denial_sorted::sorted::SortedRecords;
 use messages::names::{Name, ToName, ZoneName, copy_name};
 use messages::record::ZoneData;
 use names_data::rtype::Rtype;
-use plain::numbers::Ttl;
+use plain::Ttl;
 use plain::record::Record;
 use std::alloc::{AllocError, Global};
 use std::cmp::Ordering;
@@ -40,7 +41,7 @@ pub(super) struct ChainLink {
 }
 
 impl Model for ChainLink {
-    ghost use Rattle.answer_zone.specs.Links.{ChainLink};
+    ghost use Rattle.answer_terms.specs.Links.{ChainLink};
 
     ghost Value = { ChainLink };
 

@@ -1,14 +1,21 @@
 //! What makes a list of records no zone that is published.
-ghost use Rattle.std.specs.Prelude.{◌≡◌, ◌==◌, not, ◌&&◌, ◌||◌, [], ◌∷◌, map};
+ghost use Rattle.std.specs.Prelude.{◌≡◌, map};
 ghost use Rattle.std.specs.List.{list_any};
-ghost use Rattle.definitions.specs.Name.{at_or_above, strictly_above};
-ghost use Rattle.messages.specs.HandedRr.{among, handed_of, is_meta, has_star};
-ghost use Rattle.messages.specs.Star.{begins_with_star};
-ghost use Rattle.answer_zone.specs.Accepting.{first_fault, over_limit};
-ghost use Rattle.answer_zone.specs.ZoneView.{mode_of};
+ghost use Rattle.messages.specs.HandedRr.{handed_of, is_meta};
+ghost use Rattle.answer_terms.specs.Accepting.{
+  delegates_star,
+  is_added_by_signing,
+  is_alias,
+  is_cut_or_star,
+  is_of_other_class,
+  is_outside,
+  over_limit,
+};
+ghost use Rattle.answer_zone.specs.Faults.{first_fault};
+ghost use Rattle.answer_zone.specs.ModeView.{mode_of};
 
 use crate::fault::{Mode, ZoneFault};
-use crate::zone::given::{
+use crate::zone::record_faults::{
     delegates_star, is_added_by_signing, is_alias, is_cut_or_star, is_meta, is_of_other_class,
     is_outside,
 };
@@ -46,27 +53,25 @@ pub(super) fn first_fault(
 }
 
 fn any_of_other_class(records: &[ZoneRecord]) -> bool
-    ensures { result ≡ list_any (λ r. not (r.class == 1)) (map handed_of records.now) }
+    ensures { result ≡ list_any is_of_other_class (map handed_of records.now) }
 {
     records.iter().any(|r| is_of_other_class(r))
 }
 
 fn any_outside(apex: &Name<Vec<u8>>, records: &[ZoneRecord]) -> bool
-    ensures { let rs = map handed_of records.now in
-        result ≡ list_any (λ r. not (at_or_above apex.now r.owner)) rs }
+    ensures { result ≡ list_any (is_outside apex.now) (map handed_of records.now) }
 {
     records.iter().any(|r| is_outside(r, apex))
 }
 
 fn any_added_by_signing(records: &[ZoneRecord]) -> bool
-    ensures { let added = 46 ∷ 47 ∷ 48 ∷ 50 ∷ 51 ∷ [] in
-        result ≡ list_any (λ r. among added r.rtype) (map handed_of records.now) }
+    ensures { result ≡ list_any is_added_by_signing (map handed_of records.now) }
 {
     records.iter().any(|r| is_added_by_signing(r))
 }
 
 fn any_alias(records: &[ZoneRecord]) -> bool
-    ensures { result ≡ list_any (λ r. among (5 ∷ 39 ∷ []) r.rtype) (map handed_of records.now) }
+    ensures { result ≡ list_any is_alias (map handed_of records.now) }
 {
     records.iter().any(|r| is_alias(r))
 }
@@ -78,15 +83,13 @@ fn any_meta(records: &[ZoneRecord]) -> bool
 }
 
 fn any_star_delegation(records: &[ZoneRecord]) -> bool
-    ensures { let rs = map handed_of records.now in
-        result ≡ list_any (λ r. (r.rtype == 2) && begins_with_star r.owner) rs }
+    ensures { result ≡ list_any delegates_star (map handed_of records.now) }
 {
     records.iter().any(|r| delegates_star(r))
 }
 
 fn any_cut_or_star(apex: &Name<Vec<u8>>, records: &[ZoneRecord]) -> bool
-    ensures { let rs = map handed_of records.now in result ≡ list_any
-        (λ r. ((r.rtype == 2) && strictly_above apex.now r.owner) || has_star r.owner) rs }
+    ensures { result ≡ list_any (is_cut_or_star apex.now) (map handed_of records.now) }
 {
     records.iter().any(|r| is_cut_or_star(r, apex))
 }

@@ -3,17 +3,17 @@ ghost use Rattle.std.specs.Prelude.{◌≡◌, ◌&&◌, false, IfOk, IfSome, Is
 ghost use Rattle.std.specs.List.{list_any};
 ghost use Rattle.definitions.specs.Name.{low, at_or_above};
 ghost use Rattle.definitions.specs.Zone.{has, exists};
-ghost use Rattle.answer_zone.specs.Accepting.{zone_with};
-ghost use Rattle.answer_zone.specs.Served.{chain_ttl, owner_among, ttl_among};
-ghost use Rattle.answer_zone.specs.GroupView.{HoldsRrset};
-ghost use Rattle.answer_zone.specs.ZoneView.{is_of};
+ghost use Rattle.answer_terms.specs.Accepting.{zone_with};
+ghost use Rattle.answer_terms.specs.Served.{chain_ttl, owner_among, ttl_among};
+ghost use Rattle.answer_zone.specs.GroupRecords.{HoldsRrset};
+ghost use Rattle.answer_terms.specs.ZoneView.{is_of};
 
 use crate::group::GroupRecord;
 use crate::zone::ZoneRecords;
-use crate::zone::handed::HandedRecord;
+use crate::zone::composed_record::ComposedRecord;
 use messages::names::{Name, ToName, is_at_or_above};
 use names_data::rtype::Rtype;
-use plain::numbers::Ttl;
+use plain::Ttl;
 use std::alloc::{AllocError, Global};
 
 impl ZoneRecords {
@@ -57,7 +57,7 @@ pub(super) struct RrsetData {
 /// without.
 pub(super) fn data_among(
     alloc: Global,
-    records: &[HandedRecord],
+    records: &[ComposedRecord],
     name: &Name<Vec<u8>>,
     rtype: Rtype,
     own: bool,
@@ -79,20 +79,20 @@ pub(super) fn data_among(
     })
 }
 
-fn any_of(records: &[HandedRecord], name: &Name<Vec<u8>>, rtype: Rtype) -> bool
+fn any_of(records: &[ComposedRecord], name: &Name<Vec<u8>>, rtype: Rtype) -> bool
     ensures { result ≡ list_any (is_of name.now rtype) records.now }
 {
     records.iter().any(|r| r.is_of(name, rtype))
 }
 
-fn any_at_or_below(records: &[HandedRecord], name: &Name<Vec<u8>>) -> bool
+fn any_at_or_below(records: &[ComposedRecord], name: &Name<Vec<u8>>) -> bool
     ensures { result ≡ list_any (λ r. at_or_above name.now r.owner) records.now }
 {
     records.iter().any(|r| is_at_or_above(name, r.owner()))
 }
 
 /// The TTL of the first record of an owner and a type.
-fn ttl_among(records: &[HandedRecord], name: &Name<Vec<u8>>, rtype: Rtype) -> Ttl
+fn ttl_among(records: &[ComposedRecord], name: &Name<Vec<u8>>, rtype: Rtype) -> Ttl
     ensures { result ≡ ttl_among records.now (low name.now) rtype }
 {
     for record in records {
@@ -105,7 +105,7 @@ fn ttl_among(records: &[HandedRecord], name: &Name<Vec<u8>>, rtype: Rtype) -> Tt
 
 /// The owner of the first record of an owner and a type.
 pub(super) fn owner_among<'a>(
-    records: &'a [HandedRecord],
+    records: &'a [ComposedRecord],
     name: &Name<Vec<u8>>,
     rtype: Rtype,
 ) -> Option<&'a Name<Vec<u8>>>
@@ -121,7 +121,7 @@ pub(super) fn owner_among<'a>(
 }
 
 /// The TTL of the chain: the lesser of the SOA record's own and its minimum (RFC 9077, 3).
-pub(super) fn chain_ttl_among(apex: &Name<Vec<u8>>, records: &[HandedRecord]) -> Ttl
+pub(super) fn chain_ttl_among(apex: &Name<Vec<u8>>, records: &[ComposedRecord]) -> Ttl
     ensures { result ≡ chain_ttl apex.now records.now }
 {
     for record in records {

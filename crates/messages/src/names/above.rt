@@ -1,4 +1,4 @@
-//! Names that stand above others, however they are kept (RFC 1034, 3.1).
+//! Names that stand above others, however they are stored (RFC 1034, 3.1).
 ghost use Rattle.std.specs.Prelude.{◌≡◌};
 ghost use Rattle.definitions.specs.Name.{at_or_above, strictly_above};
 

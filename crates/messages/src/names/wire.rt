@@ -47,14 +47,14 @@ pub fn name_at_place(
     Ok(Some((flat, parser.pos())))
 }
 
-/// A name, however it is kept, with the same spelling over octets of its own.
+/// A name, however it is stored, with the same spelling over octets of its own.
 pub fn copy_name<N: ToName>(alloc: Global, name: &N) -> Result<Name<Vec<u8>>, AllocError>
     ensures { IfOk result (λ n. n ≡ N.name name.now) }
 {
     name.to_vec(alloc).map_err(|_| AllocError)
 }
 
-/// A name, however it is kept, with the same spelling: over its own octets where they stand in a row, and else over a copy.
+/// A name, however it is stored, with the same spelling: over its own octets where they stand in a row, and else over a copy.
 pub fn cow_name<N: ToName>(alloc: Global, name: &N) -> Result<Name<CowSlice<'_, u8>>, AllocError>
     ensures { IfOk result (λ n. n ≡ N.name name.now) }
 {

@@ -1,5 +1,5 @@
-use Rattle.answer_zone.specs.GroupView.{IsRrsigData}
-use Rattle.answer_zone.proofs.SignMade.{AllZip-pushed}
+use Rattle.answer_terms.specs.GroupView.{IsRrsigData}
+use Rattle.answer_publisher.proofs.SignMade.{AllZip-pushed}
 use Rattle.answer_publisher.proofs.signing.sign_group.Goals as goal
 
 pub loop-key-preserved : goal.loop-key-preserved

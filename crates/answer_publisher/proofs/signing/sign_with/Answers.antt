@@ -1,5 +1,5 @@
 use Rattle.std.proofs.Common.{◌++◌, ◌∙◌, ap, Bor, List, ℕ}
-use Rattle.answer_zone.proofs.SignMade.{rrsig_made}
+use Rattle.answer_publisher.proofs.SignMade.{rrsig_made}
 use Rattle.denial_data.specs.Protos as protos
 use Rattle.answer_publisher.proofs.signing.sign_with.Goals as goal
 

@@ -1,12 +1,11 @@
 use Rattle.std.proofs.Common.{◌≡◌, Bool, List, map, subst, sym, ap, ◌∙◌}
 use Rattle.std.specs.List.{AllByRecursion}
-use Rattle.definitions.specs.Laws.{NoneShare}
 use Rattle.definitions.specs.Name.{Name}
 use Rattle.plain.specs.ZoneData.{zone_canonical, zone_type}
 use Rattle.plain.specs.declared.record.Record.{Record}
 use Rattle.plain.specs.declared.zone_data.ZoneRecordData.{ZoneRecordData}
-use Rattle.denial_hashes.specs.Hashing.{FitsName, hash_by}
-use Rattle.denial_hashed.specs.Chained.{some_fails}
+use Rattle.denial_hashes.specs.Hashing.{FitsName}
+use Rattle.denial_hashed.specs.Chained.{some_fails, TwoShare}
 use Rattle.denial_hashed.specs.declared.hashed.HashedName.{HashedName}
 use Rattle.denial_owners.specs.Kept.{kept_groups}
 use Rattle.denial_owners.specs.Refused.{IsOwnersFault}
@@ -39,14 +38,14 @@ returns-in-Err-Failed-clause-refused g c =
     ∙ (rw c.in-Err-Failed.field-0-is at c.in-Err-Failed.ensures.refused)
 
 pub returns-in-Err-Collision-clause-refused : goal.returns-in-Err-Collision-clause-refused
-returns-in-Err-Collision-clause-refused g c = λ none.
+returns-in-Err-Collision-clause-refused g c =
     let name = g.N.Labels.name in
     let apex = g.N.Labels.name c.args.apex.now in
     let answers = g.H.Nsec3Hasher.hash_of c.args.hasher.now in
     let are = c.deref.ensures.value ∙ c.in-Ok.ensures.owners ∙ ap (λ b. kept_groups name zone_type (zone_canonical name) apex b c.args.records) c.excludes.ensures in
-    let P : List Name → Type 0 = λ ns. NoneShare (hash_by answers c.args.config.now.params) ns in
+    let P : List Name → Type 0 = λ ns. TwoShare answers c.args.config.now.params ns in
     let refused = rw c.in-Err-Collision.field-0-is at c.in-Err-Collision.ensures.refused in
-    refused (subst P (sym (names_listed name apex answers c.args.config.now c.args.records c.requires.class c.requires.order c.deref.result.now are c.in-Ok.chain.soa c.in-Ok.ensures.soa)) none)
+    subst P (names_listed name apex answers c.args.config.now c.args.records c.requires.class c.requires.order c.deref.result.now are c.in-Ok.chain.soa c.in-Ok.ensures.soa) refused
 
 pub returns-in-Err-nsec3s_of-clause-refused : goal.returns-in-Err-nsec3s_of-clause-refused
 returns-in-Err-nsec3s_of-clause-refused g c =
@@ -55,7 +54,7 @@ returns-in-Err-nsec3s_of-clause-refused g c =
     let answers = g.H.Nsec3Hasher.hash_of c.args.hasher.now in
     let are = c.deref.ensures.value ∙ c.in-Ok.ensures.owners ∙ ap (λ b. kept_groups name zone_type (zone_canonical name) apex b c.args.records) c.excludes.ensures in
     let f = c.in-Err-nsec3s_of.error in
-    link_fault name apex answers c.args.config.now c.args.records c.requires.class c.requires.order c.deref.result.now are c.in-Ok.chain.soa c.in-Ok.ensures.soa c.in-Ok-hashed_chain.hashed.items c.in-Ok-hashed_chain.ensures.chain f
+    link_fault name apex answers c.args.config.now c.args.records c.requires.class c.requires.order c.deref.result.now are c.in-Ok.chain.soa c.in-Ok.ensures.soa c.in-Ok-hashed_chain.hashed.items c.in-Ok-hashed_chain.ensures.chain c.in-Ok-hashed_chain.ensures.hashed f
     (subst (λ (hs : List (HashedName g.row.N.Denot (ZoneRecordData g.row.Octs.Denot g.row.N.Denot))). IsLinkFault apex (map (λ h. h.hash.items) hs) f) c.deref-2.ensures.value c.in-Err-nsec3s_of.ensures.refused)
 
 pub returns-clause-chain : goal.returns-clause-chain

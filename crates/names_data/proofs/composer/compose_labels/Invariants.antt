@@ -8,7 +8,7 @@ abbrev pub invariant-loop-label : goal.invariant-loop-label
 invariant-loop-label g l =
     let old = g.B.OctetsBuilder.bytes l.fn.target in
     (done : Name) × record {
-      labels : done ++ l.labels ≡ g.N.Labels.labels l.name;
+      labels : done ++ l.labels ≡ l.fn.labels;
       octets : g.B.OctetsBuilder.bytes l.target ≡ old ++ spelled (map (in_case l.case) done);
       len : l.len ≡ length old;
     }

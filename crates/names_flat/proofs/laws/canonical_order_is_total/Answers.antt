@@ -1,4 +1,4 @@
-use Rattle.names_flat.specs.Laws.{same_equivalence, name_cmp_total, name_cmp_ties}
+use Rattle.names_labels.specs.Laws.{same_equivalence, name_cmp_total, name_cmp_ties}
 use Rattle.names_flat.proofs.laws.canonical_order_is_total.Goals as goal
 
 pub returns-clause-total : goal.returns-clause-total

@@ -11,18 +11,17 @@ use Rattle.answer_publisher.proofs.publishing.Publisher.add_key.Goals as goal
 -- the key set takes the key beside its digest
 pub returns-clause-keys : goal.returns-clause-keys
 returns-clause-keys g c =
-    let n = c.args.new in
     let s = c.args.self.now.keys in
     let made = digests g.S.Scheme.digest_of c.args.self.now in
     let k : Dnskey = c.new_unchecked-key.result in
     let octets : List ℕ = c.args.public_key.items in
-    let q : Reference = string_bytes n.pubref in
-    let same : k ≡ dnskey_for n.kind n.algorithm octets = search rules in
+    let q : Reference = string_bytes c.args.pubref in
+    let same : k ≡ dnskey_for c.args.kind c.args.algorithm octets = search rules in
     let free : is_bound_away s.bound q k ≡ false = search rules in
     let digest : List ℕ = c.in_ok-digest.digest.items in
     let digested_so : made k ≡ Some digest = ap (λ a. g.S.Scheme.digest_of c.args.self.now.scheme.now 2 (digested a k)) (sym c.apex.ensures) ∙ c.in_ok-digest.ensures.ok in
-    let a : Answer = add q (new_key (text_of n.privref) (roles_of n.kind (is_available n.available)) n.algorithm (key_tag k) n.created) s.keys in
+    let a : Answer = add q (new_key (text_of c.args.privref) (roles_of c.args.kind (is_available c.args.available)) c.args.algorithm (key_tag k) c.args.creation_ts) s.keys in
     let b : List (Reference × BoundKey) = bind q (record { key = k; digest = digest }) s.bound in
     let P : Outcome → Type 0 = λ o. Gives IsFree (λ _. []) s c.add.new.self c.add.result o in
-    subst P (sym (applied made n.kind q (text_of n.privref) n.algorithm octets (is_available n.available) n.created s k digest same free digested_so))
+    subst P (sym (applied made c.args.kind q (text_of c.args.privref) c.args.algorithm octets (is_available c.args.available) c.args.creation_ts s k digest same free digested_so))
     (loosened (λ _. []) s c.add.new.self c.add.result b a c.add.ensures)

@@ -2,17 +2,17 @@ use Rattle.std.proofs.Common.{◌++◌, subst, rules}
 use Rattle.std.specs.Prelude.{IfErr, IfOk}
 use Rattle.answer_publisher.specs.Answering.{AnswersZone, RefusesAnswer, ahead_of_records}
 use Rattle.answer_publisher.specs.Bindings.{dnskeys, keys_by_tag, published}
-use Rattle.answer_zone.specs.Given.{GivesAnswer}
-use Rattle.answer_zone.specs.Served.{by_tag}
+use Rattle.answer_terms.specs.Given.{GivesAnswer}
+use Rattle.answer_terms.specs.Served.{by_tag}
 use Rattle.answer_publisher.proofs.WritesGiven.{answer_given}
 use Rattle.answer_publisher.specs.Composed.{IsAnswer, RefusesGroups}
-use Rattle.answer_zone.specs.Hashing.{hash_in, served}
-use Rattle.answer_publisher.specs.Publishing.{second_of}
+use Rattle.answer_terms.specs.Hashing.{hash_in, served}
+use Rattle.answer_scheme.specs.Moments.{second_of}
 use Rattle.messages.specs.Questions.{asked_of}
 use Rattle.answer_publisher.specs.declared.keys.Publication.TheVariants.{SignsZone}
-use Rattle.answer_zone.proofs.AllowedTypes.{allowed_plain}
+use Rattle.answer_terms.proofs.AllowedTypes.{allowed_plain}
 use Rattle.answer_publisher.proofs.Refusals.{answer_refused, if_err_map}
-use Rattle.answer_zone.proofs.ZoneData.{if_ok_map}
+use Rattle.answer_terms.proofs.ZoneData.{if_ok_map}
 use Rattle.answer_publisher.proofs.publishing.Publisher.answer.Goals as goal
 use Rattle.definitions.specs.Limits.{pointer_limit}
 

@@ -3,12 +3,12 @@ use Rattle.std.specs.Prelude.{IfErr, IfOk}
 use Rattle.answer_publisher.specs.Answering.{RefusesKeys, ahead_of_records}
 use Rattle.answer_publisher.specs.Bindings.{dnskeys, keys_by_tag, published}
 use Rattle.answer_publisher.specs.Composed.{IsAnswer, RefusesGroups}
-use Rattle.answer_zone.specs.Given.{GivesKeys}
-use Rattle.answer_zone.specs.Served.{by_tag}
+use Rattle.answer_terms.specs.Given.{GivesKeys}
+use Rattle.answer_terms.specs.Served.{by_tag}
 use Rattle.answer_publisher.proofs.WritesGiven.{keys_given}
-use Rattle.answer_zone.proofs.ZoneData.{if_ok_map}
-use Rattle.answer_publisher.specs.Publishing.{second_of}
-use Rattle.answer_zone.specs.Hashing.{served}
+use Rattle.answer_terms.proofs.ZoneData.{if_ok_map}
+use Rattle.answer_scheme.specs.Moments.{second_of}
+use Rattle.answer_terms.specs.Hashing.{served}
 use Rattle.answer_publisher.specs.declared.keys.Publication.TheVariants.{Present, SignsKeys}
 use Rattle.answer_publisher.proofs.Refusals.{if_err_map, keys_refused}
 use Rattle.answer_publisher.proofs.publishing.Publisher.dnskey_answer.Goals as goal

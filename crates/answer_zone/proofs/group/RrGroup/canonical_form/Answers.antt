@@ -2,8 +2,8 @@ use Rattle.std.proofs.Common.{◌≡◌, length, map, take, not, eqb, ltb, vec_l
 use Rattle.std.proofs.Math.Seq.{take-length}
 use Rattle.std.proofs.lemmas.List.{length-map}
 use Rattle.messages.proofs.Lists.{map-map, same_octets}
-use Rattle.answer_zone.specs.GroupView.{record_under}
-use Rattle.answer_zone.specs.Served.{written_rr}
+use Rattle.answer_zone.specs.GroupRecords.{record_under}
+use Rattle.answer_terms.specs.Served.{written_rr}
 use Rattle.answer_zone.proofs.ZoneGroups.{not_empty, written_more}
 use Rattle.answer_zone.proofs.group.RrGroup.canonical_form.Goals as goal
 

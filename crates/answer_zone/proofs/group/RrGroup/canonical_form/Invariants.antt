@@ -1,6 +1,6 @@
 use Rattle.std.proofs.Common.{◌≡◌, map, take}
-use Rattle.answer_zone.specs.GroupView.{record_under}
-use Rattle.answer_zone.specs.Served.{written_rr}
+use Rattle.answer_zone.specs.GroupRecords.{record_under}
+use Rattle.answer_terms.specs.Served.{written_rr}
 use Rattle.answer_zone.proofs.group.RrGroup.canonical_form.Given as goal
 
 abbrev pub invariant-loop-octets : goal.invariant-loop-octets

@@ -2,9 +2,9 @@ use Rattle.std.proofs.Common.{◌≡◌, ℕ, List, ap, sym, subst, ◌∙◌}
 use Rattle.definitions.specs.Name.{Name}
 use Rattle.definitions.specs.ZoneChain.{Nsec}
 use Rattle.answer_zone.specs.ZoneAnswers.{AnswersAs}
-use Rattle.answer_zone.specs.Served.{served_of}
-use Rattle.answer_zone.proofs.ZoneAnswers.{is_nsec}
-use Rattle.answer_zone.proofs.ZoneData.{if_ok_map}
+use Rattle.answer_terms.specs.Served.{served_of}
+use Rattle.answer_zone.proofs.OneMode.{is_nsec}
+use Rattle.answer_terms.proofs.ZoneData.{if_ok_map}
 use Rattle.answer_zone.proofs.zone.ZoneRecords.answer_to.Goals as goal
 
 pub nsec_answer-requires-clause-published : goal.nsec_answer-requires-clause-published

@@ -1,9 +1,9 @@
 use Rattle.std.proofs.Common.{◌≡◌, ◌≤◌, false, [], sym, ap, subst, lit≤, ◌∙◌, arith}
 use Rattle.definitions.specs.Name.{low, wire_len}
 use Rattle.definitions.specs.Zone.{star_under}
-use Rattle.answer_zone.specs.Accepting.{zone_with}
-use Rattle.answer_zone.specs.Served.{kept_ancestor}
-use Rattle.answer_zone.proofs.ZoneAnswers.{encloser_here, encloser_none, encloser_past}
+use Rattle.answer_terms.specs.Accepting.{zone_with}
+use Rattle.denial_rules.specs.OwnFacts.{kept_ancestor}
+use Rattle.answer_zone.proofs.Enclosers.{encloser_here, encloser_none, encloser_past}
 use Rattle.answer_zone.proofs.zone.ZoneRecords.closest_encloser.Goals as goal
 
 pub returns-then-exists-clause-ancestor : goal.returns-then-exists-clause-ancestor

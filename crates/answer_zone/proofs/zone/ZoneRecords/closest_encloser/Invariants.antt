@@ -1,7 +1,7 @@
 use Rattle.std.proofs.Common.{◌≡◌, ◌-◌, ◌≤◌, false, drop, length}
 use Rattle.definitions.specs.Name.{low}
-use Rattle.answer_zone.specs.Accepting.{zone_with}
-use Rattle.answer_zone.specs.Served.{kept_ancestor}
+use Rattle.answer_terms.specs.Accepting.{zone_with}
+use Rattle.denial_rules.specs.OwnFacts.{kept_ancestor}
 use Rattle.answer_zone.proofs.zone.ZoneRecords.closest_encloser.Given as goal
 
 abbrev pub invariant-loop-count : goal.invariant-loop-count

@@ -2,8 +2,8 @@ use Rattle.std.proofs.Common.{[], ◌∷◌, ◌++◌, map, sym, ap, subst, ◌�
 use Rattle.std.specs.List.{AllZip}
 use Rattle.definitions.specs.ZoneChain.{Nsec}
 use Rattle.definitions.specs.Name.{low}
-use Rattle.answer_zone.specs.GroupView.{Presents}
-use Rattle.answer_zone.specs.Served.{proofs_of, served_of, soa}
+use Rattle.answer_terms.specs.GroupView.{Presents}
+use Rattle.answer_terms.specs.Served.{proofs_of, served_of, soa}
 use Rattle.answer_zone.proofs.zone.ZoneRecords.denial.Goals as goal
 
 pub returns : goal.returns

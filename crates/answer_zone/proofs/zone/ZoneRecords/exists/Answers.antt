@@ -1,7 +1,7 @@
 use Rattle.std.proofs.Common.{sym, ◌∙◌, ap, ◌≡◌, true, false, ◌&&◌}
 use Rattle.std.specs.List.{list_any}
 use Rattle.definitions.specs.Name.{at_or_above}
-use Rattle.answer_zone.proofs.ZoneServed.{exists_is}
+use Rattle.answer_terms.proofs.ZoneServed.{exists_is}
 use Rattle.answer_zone.proofs.zone.ZoneRecords.exists.Goals as goal
 
 pub returns-then-is_at_or_above : goal.returns-then-is_at_or_above

@@ -1,7 +1,7 @@
 use Rattle.std.proofs.Common.{sym, ◌∙◌, ap, ◌≡◌}
 use Rattle.std.specs.List.{list_any}
-use Rattle.answer_zone.specs.ZoneView.{is_of}
-use Rattle.answer_zone.proofs.ZoneServed.{has_is}
+use Rattle.answer_terms.specs.ZoneView.{is_of}
+use Rattle.answer_terms.proofs.ZoneServed.{has_is}
 use Rattle.answer_zone.proofs.zone.ZoneRecords.has.Goals as goal
 
 pub returns : goal.returns

@@ -1,5 +1,5 @@
 use Rattle.std.proofs.Common.{sym, ap, ◌∙◌}
-use Rattle.answer_zone.proofs.ZoneAnswers.{is_nsec}
+use Rattle.answer_zone.proofs.OneMode.{is_nsec}
 use Rattle.answer_zone.proofs.zone.ZoneRecords.keeps.Goals as goal
 
 pub returns-clause-mode : goal.returns-clause-mode

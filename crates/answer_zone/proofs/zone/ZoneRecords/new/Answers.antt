@@ -7,13 +7,16 @@ use Rattle.denial_owners.specs.Refused.{IsOwnersFault}
 use Rattle.denial_owners.specs.Soa.{soa_ttls}
 use Rattle.denial_owners.specs.Ttls.{has_unequal_ttls}
 use Rattle.messages.specs.HandedRr.{handed_of, is_meta}
-use Rattle.answer_zone.specs.Accepting.{RefusesZone, first_fault, sorted_records}
-use Rattle.answer_zone.specs.Links.{links_of}
-use Rattle.answer_zone.specs.Served.{chain_ttl}
-use Rattle.answer_zone.specs.ZoneView.{IsPublished, mode_of}
-use Rattle.answer_zone.proofs.ZoneFaults.{plain_from_none}
+use Rattle.answer_terms.specs.Accepting.{sorted_records}
+use Rattle.answer_zone.specs.Faults.{RefusesZone, first_fault}
+use Rattle.answer_terms.specs.Links.{links_of}
+use Rattle.answer_terms.specs.Served.{chain_ttl}
+use Rattle.answer_terms.specs.ZoneView.{IsPublished}
+use Rattle.answer_zone.specs.ModeView.{mode_of}
+use Rattle.answer_terms.proofs.ZonePlain.{plain_from}
+use Rattle.answer_zone.proofs.ZoneFaults.{faultless}
 use Rattle.answer_zone.proofs.ZoneMade.{accepted, in_order, one_class, refused}
-use Rattle.answer_zone.proofs.ZoneRising.{published_from}
+use Rattle.answer_terms.proofs.ZoneRising.{published_from}
 use Rattle.answer_zone.proofs.zone.ZoneRecords.new.Goals as goal
 
 pub chain_of-requires : goal.chain_of-requires
@@ -68,7 +71,7 @@ invariant_of-result c =
       record {
         apex_is = c.keeps.ensures;
         records_are = c.in-Ok-composed.ensures.handed;
-        known = subst (AllByRecursion (λ r. is_meta r ≡ false)) (sym items) (plain_from_none apex mode c.args.limit (map handed_of rs) none).known;
+        known = subst (AllByRecursion (λ r. is_meta r ≡ false)) (sym items) (plain_from apex mode c.args.limit (map handed_of rs) (faultless apex mode c.args.limit (map handed_of rs) none)).known;
       },
       c.in-Ok-chain_of.ensures.links ∙ ap (links_of apex) (sym kept),
       c.chain_ttl_among-link_ttl.ensures ∙ ap (chain_ttl c.args.apex) c.deref-3.ensures.value,

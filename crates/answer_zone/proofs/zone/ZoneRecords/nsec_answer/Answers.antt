@@ -3,11 +3,12 @@ use Rattle.std.specs.List.{AllZip}
 use Rattle.definitions.specs.Name.{Name, low}
 use Rattle.definitions.specs.Zone.{exists, has, star_under}
 use Rattle.definitions.specs.ZoneChain.{Nsec}
-use Rattle.answer_zone.specs.Accepting.{zone_with}
+use Rattle.answer_terms.specs.Accepting.{zone_with}
 use Rattle.answer_zone.specs.ZoneAnswers.{answered, flags_for}
-use Rattle.answer_zone.specs.GroupView.{Presents, rrset_of}
-use Rattle.answer_zone.specs.Served.{answer_groups, kept_ancestor, proofs_of, served_of, soa}
-use Rattle.answer_zone.proofs.ZoneAnswers.{groups_found, groups_without_name, groups_without_type, verdict_found, verdict_without_name, verdict_without_type}
+use Rattle.answer_terms.specs.GroupView.{Presents, rrset_of}
+use Rattle.denial_rules.specs.OwnFacts.{kept_ancestor}
+use Rattle.answer_terms.specs.Served.{answer_groups, proofs_of, served_of, soa}
+use Rattle.answer_terms.proofs.ZoneAnswers.{groups_found, groups_without_name, groups_without_type, verdict_found, verdict_without_name, verdict_without_type}
 use Rattle.answer_zone.proofs.zone.ZoneRecords.nsec_answer.Goals as goal
 
 pub returns-then-has : goal.returns-then-has

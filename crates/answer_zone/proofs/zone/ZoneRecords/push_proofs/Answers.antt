@@ -1,10 +1,10 @@
 use Rattle.std.proofs.Common.{◌≡◌, List, map, ap, subst, ◌∙◌}
 use Rattle.std.proofs.lemmas.Result.{on_ok_weaker}
 use Rattle.definitions.specs.Name.{Name, low}
-use Rattle.answer_zone.specs.GroupView.{Adds}
-use Rattle.answer_zone.specs.Links.{links_of, said_of}
-use Rattle.answer_zone.specs.Served.{chain_ttl}
-use Rattle.answer_zone.specs.ZoneView.{IsPublished}
+use Rattle.answer_terms.specs.GroupView.{Adds}
+use Rattle.answer_terms.specs.Links.{links_of, said_of}
+use Rattle.answer_terms.specs.Served.{chain_ttl}
+use Rattle.answer_terms.specs.ZoneView.{IsPublished}
 use Rattle.answer_zone.proofs.ZoneLinks.{proofs_are_said}
 use Rattle.answer_zone.proofs.zone.ZoneRecords.push_proofs.Goals as goal
 

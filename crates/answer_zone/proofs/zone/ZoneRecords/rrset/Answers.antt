@@ -1,8 +1,8 @@
 use Rattle.std.proofs.Common.{◌≡◌, map, filter, sym, ap, ◌∙◌}
-use Rattle.answer_zone.specs.GroupView.{all_spelled_by}
-use Rattle.answer_zone.specs.Served.{written_of_handed}
-use Rattle.answer_zone.specs.ZoneView.{IsPublished, is_of}
-use Rattle.answer_zone.proofs.ZoneData.{data_are, label_count-low}
+use Rattle.answer_terms.specs.GroupView.{all_spelled_by}
+use Rattle.answer_terms.specs.Served.{written_of_handed}
+use Rattle.answer_terms.specs.ZoneView.{IsPublished, is_of}
+use Rattle.answer_terms.proofs.ZoneData.{data_are, label_count-low}
 use Rattle.answer_zone.proofs.zone.ZoneRecords.rrset.Goals as goal
 
 pub returns : goal.returns

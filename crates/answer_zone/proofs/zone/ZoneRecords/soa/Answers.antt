@@ -3,11 +3,11 @@ use Rattle.std.specs.List.{list_any}
 use Rattle.definitions.specs.Name.{Name, low}
 use Rattle.definitions.specs.Zone.{data_at}
 use Rattle.definitions.specs.ZoneChain.{Nsec}
-use Rattle.answer_zone.specs.Accepting.{zone_with}
-use Rattle.answer_zone.specs.GroupView.{GroupView, Presents}
-use Rattle.answer_zone.specs.Served.{owner_among, served_of, soa, ttl_among, written_among}
-use Rattle.answer_zone.specs.ZoneView.{IsPublished, is_of}
-use Rattle.answer_zone.proofs.ZoneData.{if_ok_map, low-owner_among, soa_there}
+use Rattle.answer_terms.specs.Accepting.{zone_with}
+use Rattle.answer_terms.specs.GroupView.{GroupView, Presents}
+use Rattle.answer_terms.specs.Served.{owner_among, served_of, soa, ttl_among, written_among}
+use Rattle.answer_terms.specs.ZoneView.{IsPublished, is_of}
+use Rattle.answer_terms.proofs.ZoneData.{if_ok_map, low-owner_among, soa_there}
 use Rattle.answer_zone.proofs.zone.ZoneRecords.soa.Goals as goal
 use Rattle.answer_zone.proofs.zone.ZoneRecords.soa.Goals.{in-Some, in-None}
 

@@ -3,7 +3,7 @@ use Rattle.plain.specs.ZoneData.{zone_canonical, zone_type}
 use Rattle.denial_nsec.specs.Chain.{nsec_chain, record_of}
 use Rattle.denial_owners.specs.Ttls.{has_unequal_ttls}
 use Rattle.messages.proofs.Lists.{map-map}
-use Rattle.answer_zone.specs.Links.{link_of}
+use Rattle.answer_zone.specs.MadeLinks.{link_of}
 use Rattle.answer_zone.proofs.ZoneWords.{links_are_of}
 use Rattle.answer_zone.proofs.zone.chain.chain_of.Goals as goal
 

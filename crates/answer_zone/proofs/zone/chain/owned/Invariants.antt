@@ -1,6 +1,6 @@
 use Rattle.std.proofs.Common.{◌≡◌, map, take}
 use Rattle.denial_nsec.specs.Chain.{record_of}
-use Rattle.answer_zone.specs.Links.{link_of}
+use Rattle.answer_zone.specs.MadeLinks.{link_of}
 use Rattle.answer_zone.proofs.zone.chain.owned.Given as goal
 
 abbrev pub invariant-loop-nsec : goal.invariant-loop-nsec

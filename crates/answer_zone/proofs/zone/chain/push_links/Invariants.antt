@@ -1,7 +1,7 @@
 use Rattle.std.proofs.Common.{map, take}
 use Rattle.definitions.specs.Name.{low}
-use Rattle.answer_zone.specs.GroupView.{Adds}
-use Rattle.answer_zone.specs.Links.{said_of}
+use Rattle.answer_terms.specs.GroupView.{Adds}
+use Rattle.answer_terms.specs.Links.{said_of}
 use Rattle.answer_zone.proofs.zone.chain.push_links.Given as goal
 
 abbrev pub invariant-loop-link : goal.invariant-loop-link

@@ -1,8 +1,8 @@
 use Rattle.std.proofs.Common.{◌≡◌, true, false, sym, ap, ◌∙◌, arith, eqb, ◌&&◌}
 use Rattle.std.proofs.lemmas.List.{drop_all}
 use Rattle.definitions.specs.Name.{same}
-use Rattle.answer_zone.specs.Served.{chain_ttl}
-use Rattle.answer_zone.proofs.ZoneServed.{chain_ttl_later, chain_ttl_here}
+use Rattle.answer_terms.specs.Served.{chain_ttl}
+use Rattle.answer_terms.proofs.ZoneServed.{chain_ttl_later, chain_ttl_here}
 use Rattle.answer_zone.proofs.zone.lookups.chain_ttl_among.Goals as goal
 
 pub loop-record-preserved : goal.loop-record-preserved

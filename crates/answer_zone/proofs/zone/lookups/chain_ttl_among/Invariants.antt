@@ -1,5 +1,5 @@
 use Rattle.std.proofs.Common.{◌≡◌, drop}
-use Rattle.answer_zone.specs.Served.{chain_ttl}
+use Rattle.answer_terms.specs.Served.{chain_ttl}
 use Rattle.answer_zone.proofs.zone.lookups.chain_ttl_among.Given as goal
 
 abbrev pub invariant-loop-record : goal.invariant-loop-record

@@ -1,6 +1,6 @@
 use Rattle.std.proofs.Common.{◌≡◌, map, filter, take}
 use Rattle.definitions.specs.Name.{Name}
-use Rattle.answer_zone.specs.ZoneView.{is_of}
+use Rattle.answer_terms.specs.ZoneView.{is_of}
 use Rattle.answer_zone.proofs.ZoneGroups.{Sofar}
 use Rattle.answer_zone.proofs.zone.lookups.data_among.Given as goal
 

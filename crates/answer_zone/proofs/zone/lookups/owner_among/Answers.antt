@@ -1,8 +1,8 @@
 use Rattle.std.proofs.Common.{◌≡◌, true, false, sym, ap, ◌∙◌, arith}
 use Rattle.std.proofs.lemmas.List.{drop_all}
 use Rattle.std.specs.List.{list_any}
-use Rattle.answer_zone.specs.ZoneView.{is_of}
-use Rattle.answer_zone.proofs.ZoneServed.{owner_later, owner_here, any_later}
+use Rattle.answer_terms.specs.ZoneView.{is_of}
+use Rattle.answer_terms.proofs.ZoneServed.{owner_later, owner_here, any_later}
 use Rattle.answer_zone.proofs.zone.lookups.owner_among.Goals as goal
 
 pub loop-record-preserved : goal.loop-record-preserved

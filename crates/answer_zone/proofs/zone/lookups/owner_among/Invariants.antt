@@ -1,8 +1,8 @@
 use Rattle.std.proofs.Common.{◌≡◌, drop}
 use Rattle.std.specs.List.{list_any}
 use Rattle.definitions.specs.Name.{low}
-use Rattle.answer_zone.specs.Served.{owner_among}
-use Rattle.answer_zone.specs.ZoneView.{is_of}
+use Rattle.answer_terms.specs.Served.{owner_among}
+use Rattle.answer_terms.specs.ZoneView.{is_of}
 use Rattle.answer_zone.proofs.zone.lookups.owner_among.Given as goal
 
 abbrev pub invariant-loop-record : goal.invariant-loop-record

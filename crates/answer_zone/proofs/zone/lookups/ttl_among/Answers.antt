@@ -1,9 +1,9 @@
 use Rattle.std.proofs.Common.{◌≡◌, true, false, sym, ap, ◌∙◌, arith}
 use Rattle.std.proofs.lemmas.List.{drop_all}
 use Rattle.definitions.specs.Name.{low}
-use Rattle.answer_zone.specs.Served.{ttl_among}
-use Rattle.answer_zone.specs.ZoneView.{is_of}
-use Rattle.answer_zone.proofs.ZoneServed.{ttl_later, ttl_here}
+use Rattle.answer_terms.specs.Served.{ttl_among}
+use Rattle.answer_terms.specs.ZoneView.{is_of}
+use Rattle.answer_terms.proofs.ZoneServed.{ttl_later, ttl_here}
 use Rattle.answer_zone.proofs.zone.lookups.ttl_among.Goals as goal
 
 pub loop-record-preserved : goal.loop-record-preserved

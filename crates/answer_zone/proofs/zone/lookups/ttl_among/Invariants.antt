@@ -1,6 +1,6 @@
 use Rattle.std.proofs.Common.{◌≡◌, drop}
 use Rattle.definitions.specs.Name.{low}
-use Rattle.answer_zone.specs.Served.{ttl_among}
+use Rattle.answer_terms.specs.Served.{ttl_among}
 use Rattle.answer_zone.proofs.zone.lookups.ttl_among.Given as goal
 
 abbrev pub invariant-loop-record : goal.invariant-loop-record

@@ -1,6 +1,6 @@
 use Rattle.std.proofs.Common.{◌∷◌, ◌++◌, ◌∙◌, [], length-append, sym, refl, arith}
 use Rattle.std.proofs.lemmas.Grind.{put_two}
-use Rattle.names_data.specs.Types.{type_text}
+use Rattle.numbers.specs.Types.{type_text}
 use Rattle.denial_bitmap.specs.Texts.{types_text}
 use Rattle.denial_bitmap.specs.Types.{types_in}
 use Rattle.denial_bitmap.proofs.Printing.{moved, text-push}

@@ -1,6 +1,6 @@
 use Rattle.std.proofs.Common.{sym, ◌∙◌}
 use Rattle.std.specs.Ordering.{ordering_then}
-use Rattle.plain.proofs.WireOrder.{wire_then}
+use Rattle.names_data.proofs.WireOrder.{wire_then}
 use Rattle.denial_links.proofs.NextNames.{no_root}
 use Rattle.denial_links.proofs.nsec.NsecCanonicalOrd.canonical_cmp.Goals as goal
 

@@ -1,5 +1,5 @@
 use Rattle.std.proofs.Common.{refl}
-use Rattle.names_flat.proofs.Rooted.{only_root}
+use Rattle.names_labels.proofs.Rooted.{only_root}
 use Rattle.names_flat.proofs.name.Name.is_root.Goals as goal
 
 pub returns : goal.returns

@@ -1,4 +1,4 @@
-use Rattle.names_flat.proofs.Rooted.{flat_run, flat_labels}
+use Rattle.names_labels.proofs.Rooted.{flat_run, flat_labels}
 use Rattle.names_flat.proofs.name.Name.run.Goals as goal
 
 pub returns-clause-run : goal.returns-clause-run

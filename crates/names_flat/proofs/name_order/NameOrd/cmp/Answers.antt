@@ -1,5 +1,5 @@
 use Rattle.std.proofs.Common.{◌∙◌}
-use Rattle.names_flat.proofs.Rooted.{name_cmp-rooted}
+use Rattle.names_labels.proofs.Rooted.{name_cmp-rooted}
 use Rattle.names_flat.proofs.name_order.NameOrd.cmp.Goals as goal
 
 pub returns : goal.returns

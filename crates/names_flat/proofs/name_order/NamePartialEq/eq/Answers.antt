@@ -1,5 +1,5 @@
 use Rattle.std.proofs.Common.{◌∙◌}
-use Rattle.names_flat.proofs.Rooted.{same-rooted}
+use Rattle.names_labels.proofs.Rooted.{same-rooted}
 use Rattle.names_flat.proofs.name_order.NamePartialEq.eq.Goals as goal
 
 pub returns : goal.returns

@@ -1,8 +1,8 @@
 use Rattle.std.proofs.Common.{◌∙◌, ◌∷◌, ap, sym}
 use Rattle.names_wire.specs.Label.{octets_of}
 use Rattle.names_labels.proofs.Checks.{test_some}
-use Rattle.names_flat.specs.Suffixes.{names_left}
-use Rattle.names_flat.proofs.Rooted.{flat_run}
+use Rattle.names_labels.specs.Suffixes.{names_left}
+use Rattle.names_labels.proofs.Rooted.{flat_run}
 use Rattle.names_flat.proofs.Ancestors.{steps_up, stays_left, not_none}
 use Rattle.names_flat.proofs.suffixes.SuffixIterIterator.next.Goals as goal
 

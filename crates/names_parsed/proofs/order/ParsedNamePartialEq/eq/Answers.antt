@@ -1,5 +1,5 @@
 use Rattle.std.proofs.Common.{◌∙◌}
-use Rattle.names_flat.proofs.Rooted.{same-rooted}
+use Rattle.names_labels.proofs.Rooted.{same-rooted}
 use Rattle.names_parsed.specs.Parsed.{parsed_name}
 use Rattle.names_parsed.proofs.order.ParsedNamePartialEq.eq.Goals as goal
 

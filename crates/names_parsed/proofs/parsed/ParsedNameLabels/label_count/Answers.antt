@@ -1,4 +1,4 @@
-use Rattle.names_flat.proofs.Rooted.{rooted_short}
+use Rattle.names_labels.proofs.Rooted.{rooted_short}
 use Rattle.names_parsed.specs.Standing.{name_from}
 use Rattle.names_parsed.proofs.Parsing.{is_name}
 use Rattle.names_parsed.proofs.parsed.ParsedNameLabels.label_count.Goals as goal

@@ -1,6 +1,6 @@
 use Rattle.std.proofs.Common.{arith}
 use Rattle.std.proofs.lemmas.List.{take_all}
-use Rattle.names_flat.specs.Suffixes.{suffixes}
+use Rattle.names_labels.specs.Suffixes.{suffixes}
 use Rattle.names_parsed.specs.Parsed.{parsed_name}
 use Rattle.names_parsed.proofs.SuffixSteps.{length-suffixes}
 use Rattle.names_parsed.proofs.suffixes.ParsedSuffixIter.new.Goals as goal

@@ -1,6 +1,6 @@
 use Rattle.std.proofs.Common.{◌≡◌, ◌+◌, ◌-◌, ◌∙◌, ◌∷◌, [], length, length-append, Some, sym, ap, take, drop, arith}
 use Rattle.names_labels.proofs.Runs.{take_one}
-use Rattle.names_flat.specs.Suffixes.{suffixes}
+use Rattle.names_labels.specs.Suffixes.{suffixes}
 use Rattle.names_parsed.specs.Parsed.{parsed_name}
 use Rattle.names_parsed.proofs.SuffixSteps.{suffix_at}
 use Rattle.names_parsed.proofs.suffixes.ParsedSuffixIterDoubleEndedIterator.next_back.Goals as goal

@@ -6,8 +6,8 @@ use Rattle.names_wire.specs.Label.{octets_of}
 use Rattle.names_labels.specs.Flat.{spelled}
 use Rattle.names_labels.proofs.Checks.{length-spelled_sum}
 use Rattle.names_labels.proofs.Runs.{moved}
-use Rattle.names_flat.specs.Dotted.{dotted}
-use Rattle.names_flat.proofs.Texts.{dotted-push, dotted_some, room_for_next, some_label, text_left, name_text}
+use Rattle.names_labels.specs.Dotted.{dotted}
+use Rattle.names_labels.proofs.Texts.{dotted-push, dotted_some, room_for_next, some_label, text_left, name_text}
 use Rattle.names_parsed.specs.Parsed.{parsed_name}
 use Rattle.names_parsed.proofs.Parsing.{is_name}
 use Rattle.names_parsed.proofs.text.ParsedNameDisplay.fmt.Goals as goal

@@ -1,6 +1,6 @@
 use Rattle.std.proofs.Common.{◌≡◌, ◌++◌}
 use Rattle.definitions.specs.Name.{Name}
-use Rattle.names_flat.specs.Dotted.{dotted}
+use Rattle.names_labels.specs.Dotted.{dotted}
 use Rattle.names_parsed.specs.Parsed.{parsed_name}
 use Rattle.names_parsed.proofs.text.ParsedNameDisplay.fmt.Given as goal
 

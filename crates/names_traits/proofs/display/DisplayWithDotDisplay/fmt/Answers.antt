@@ -5,8 +5,8 @@ use Rattle.definitions.specs.Text.{text_of_label}
 use Rattle.names_wire.specs.Label.{octets_of}
 use Rattle.names_labels.specs.Flat.{spelled}
 use Rattle.names_labels.proofs.Runs.{moved}
-use Rattle.names_flat.specs.Dotted.{dotted}
-use Rattle.names_flat.proofs.Texts.{dotted-push, room_for_next}
+use Rattle.names_labels.specs.Dotted.{dotted}
+use Rattle.names_labels.proofs.Texts.{dotted-push, room_for_next}
 use Rattle.names_traits.proofs.DottedTexts.{dotted_text, all_moved}
 use Rattle.names_traits.proofs.display.DisplayWithDotDisplay.fmt.Goals as goal
 use Rattle.names_traits.proofs.display.DisplayWithDotDisplay.fmt.Goals.{in-Some, in_default}

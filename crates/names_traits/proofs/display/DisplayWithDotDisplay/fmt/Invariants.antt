@@ -1,6 +1,6 @@
 use Rattle.std.proofs.Common.{◌≡◌, ◌+◌, ◌++◌, ◌∷◌, [], length}
 use Rattle.definitions.specs.Name.{Name}
-use Rattle.names_flat.specs.Dotted.{dotted}
+use Rattle.names_labels.specs.Dotted.{dotted}
 use Rattle.names_traits.proofs.display.DisplayWithDotDisplay.fmt.Given as goal
 
 abbrev pub invariant-loop : goal.invariant-loop

@@ -1,6 +1,6 @@
 use Rattle.std.proofs.Common.{◌∙◌}
 use Rattle.definitions.specs.Name.{same}
-use Rattle.names_flat.proofs.Rooted.{same-rooted}
+use Rattle.names_labels.proofs.Rooted.{same-rooted}
 use Rattle.names_traits.proofs.to_name.ToName.name_eq.Goals as goal
 
 pub returns : goal.returns

@@ -1,6 +1,6 @@
 use Rattle.std.proofs.Common.{◌∙◌}
 use Rattle.names_labels.proofs.Checks.{spells_flat}
-use Rattle.names_flat.proofs.Rooted.{row_spells}
+use Rattle.names_labels.proofs.Rooted.{row_spells}
 use Rattle.names_traits.proofs.to_name.ToName.to_cow.Goals as goal
 
 pub borrowed-requires : goal.borrowed-requires

@@ -1,6 +1,6 @@
 use Rattle.std.proofs.Common.{◌≡◌, map, drop}
 use Rattle.definitions.specs.Name.{low}
-use Rattle.answer_zone.specs.Links.{link_speaks}
+use Rattle.answer_terms.specs.Links.{link_speaks}
 use Rattle.answer_zone.proofs.zone.chain.ChainLink.speaks_for_any.Given as goal
 
 abbrev pub invariant-loop-name : goal.invariant-loop-name

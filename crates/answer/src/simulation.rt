@@ -1,0 +1,57 @@
+//! A simulation of a zone's key life: key calls, things shown, and judgements of them.
+ghost use Rattle.std.specs.Prelude.{◌<◌, ◌≤◌, ◌^◌, All, map, IfOk, IfErr};
+ghost use Rattle.answer_zone.specs.Faults.{RefusesZone};
+ghost use Rattle.messages.specs.HandedRr.{handed_of};
+ghost use Rattle.answer_zone.specs.ModeView.{mode_of};
+ghost use Rattle.answer_events.specs.Events.{added_octets};
+ghost use Rattle.answer_life.specs.Simulations.{IsSimulation};
+ghost use Rattle.answer_publisher.specs.World.{world_by, zone_by};
+
+use crate::simulation::run::Run;
+use answer_events::event::Event;
+use answer_life::outcome::Outcome;
+use answer_publisher::fault::{Mode, ZoneFault};
+use answer_publisher::publishing::Publisher;
+use answer_scheme::scheme::Scheme;
+use denial_hashes::hasher::Nsec3Hasher;
+use messages::names::Name;
+use messages::record::ZoneRecord;
+use std::alloc::Global;
+
+mod kept;
+mod run;
+
+/// Runs events over a zone, one outcome an event.
+///
+/// A thing that is shown takes the next place, from 0 on; a judgement names the places of what it judges. A refused
+/// key call or showing is an outcome of its own. The whole is refused as [`Publisher::new`] refuses the zone, and
+/// with `Memory` where the run's own lists cannot grow.
+pub fn simulate<S: Scheme, H: Nsec3Hasher>(
+    alloc: Global,
+    apex: Name<Vec<u8>>,
+    records: Vec<ZoneRecord>,
+    mode: Mode,
+    scheme: &S,
+    hasher: &H,
+    limit: u16,
+    life: u32,
+    events: &[Event],
+) -> Result<Vec<Outcome>, ZoneFault>
+    requires life { life < 2 ^ 31 }
+    requires keys { All (λ e. added_octets e ≤ 65531) events.now }
+    ensures simulation { let rs = map handed_of records.items in
+        let by = world_by S.signature_of S.verifies S.digest_of H.hash_of scheme.now hasher.now in
+        let w = by (zone_by apex (mode_of mode) limit rs) life in
+        IfOk result (λ outcomes. IsSimulation w rs events.now outcomes.items) }
+    ensures fault { let rs = map handed_of records.items in
+        IfErr result (RefusesZone apex (mode_of mode) limit rs) }
+{
+    let publisher = Publisher::new(alloc, apex, records, mode, scheme, hasher, limit, life)?;
+    let mut run = Run::new(alloc, publisher, limit);
+    for event in events {
+        let Ok(()) = run.serve(event) else {
+            return Err(ZoneFault::Memory);
+        };
+    }
+    Ok(run.into_outcomes())
+}

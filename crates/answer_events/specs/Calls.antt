@@ -1,0 +1,34 @@
+-- Calls on the keys of a zone.
+use Rattle.std.specs.Prelude.{ℕ, Bool, List, map, Option, string_bytes}
+use Rattle.keyset.specs.KeyState.{Reference, text_of, is_available}
+use Rattle.keyset_rolls.specs.declared.rolls.RollType.{RollType}
+use Rattle.answer_events.specs.declared.event.KeyCall.{KeyCall}
+use Rattle.answer_events.specs.declared.event.KeyCall.TheVariants as call
+use Rattle.answer_events.specs.declared.key_kind.KeyKind.{KeyKind}
+use Rattle.answer_events.specs.declared.key_kind.KeyKind.TheVariants.{Ksk, Zsk}
+
+-- an entry point has its bit beside that of a zone key (RFC 4034, 2.1.1)
+abbrev pub flags_of : KeyKind → ℕ
+flags_of Ksk = 257
+flags_of Zsk = 256
+
+-- a call on the keys; an add names the key's private reference, algorithm and octets, and whether it is available
+pub data Call : Type 0 where
+  Add : KeyKind → Reference → Option Reference → ℕ → List ℕ → Bool → Call
+  Start : RollType → List Reference → List Reference → Call
+  Report1 : RollType → ℕ → Call
+  Wait1 : RollType → Call
+  Report2 : RollType → ℕ → Call
+  Wait2 : RollType → Call
+  Finish : RollType → Call
+
+-- a key call by its arguments
+abbrev pub call_of : KeyCall → Call
+call_of (call.AddKeyKsk pubref privref algorithm key available) = Add Ksk (string_bytes pubref) (text_of privref) algorithm key.items (is_available available)
+call_of (call.AddKeyZsk pubref privref algorithm key available) = Add Zsk (string_bytes pubref) (text_of privref) algorithm key.items (is_available available)
+call_of (call.StartRoll r olds news) = Start r (map string_bytes olds.items) (map string_bytes news.items)
+call_of (call.Propagation1Complete r ttl) = Report1 r ttl
+call_of (call.CacheExpired1 r) = Wait1 r
+call_of (call.Propagation2Complete r ttl) = Report2 r ttl
+call_of (call.CacheExpired2 r) = Wait2 r
+call_of (call.RollDone r) = Finish r

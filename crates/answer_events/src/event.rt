@@ -1,0 +1,88 @@
+//! What happens to a signed zone over time.
+use keyset::{Available, RollType, UnixTime};
+use messages::question::Question;
+use numbers::algorithm::SecurityAlgorithm;
+
+/// An act at a moment. A key call takes the moment as its present, and an added key as its creation.
+#[derive(Debug, Drop)]
+pub struct Event {
+    pub at: UnixTime,
+    pub act: Act,
+}
+
+/// What a zone's keeper, a resolver or a stranger does.
+///
+/// A place counts the things shown so far, from 0 on.
+#[derive(Debug, Drop)]
+pub enum Act {
+    /// A call on the keys of the zone.
+    Key(KeyCall),
+    /// Shows the DS set of the parent (RFC 4034, 5).
+    ShowDs,
+    /// Shows the answer for the DNSKEY RRset.
+    ShowDnskey,
+    /// Shows the zone's answer to a question.
+    Ask(Question),
+    /// Judges three shown things by their places, for the question that the zone answer was given to.
+    Judge {
+        ds: usize,
+        dnskey: usize,
+        answer: usize,
+    },
+    /// Judges any two strings of bytes beside a DS set that was shown.
+    JudgeBytes {
+        ds: usize,
+        dnskey_bytes: Vec<u8>,
+        answer_bytes: Vec<u8>,
+        question: Question,
+    },
+}
+
+/// A call on the keys of a zone, with its arguments. A key's octets are at most 65,531.
+#[derive(Debug, Drop)]
+pub enum KeyCall {
+    /// Adds a key signing key.
+    AddKeyKsk {
+        pubref: String,
+        privref: Option<String>,
+        algorithm: SecurityAlgorithm,
+        public_key: Vec<u8>,
+        available: Available,
+    },
+    /// Adds a zone signing key.
+    AddKeyZsk {
+        pubref: String,
+        privref: Option<String>,
+        algorithm: SecurityAlgorithm,
+        public_key: Vec<u8>,
+        available: Available,
+    },
+    /// Starts a roll from old keys to new ones.
+    StartRoll {
+        rolltype: RollType,
+        old: Vec<String>,
+        new: Vec<String>,
+    },
+    /// Reports that the first changes are on all servers, with the greatest TTL in seconds.
+    Propagation1Complete {
+        rolltype: RollType,
+        ttl: u32,
+    },
+    /// Says that what was served before the first report has expired.
+    CacheExpired1 {
+        rolltype: RollType,
+    },
+    /// Reports that the second changes are on all servers, with the greatest TTL in seconds.
+    Propagation2Complete {
+        rolltype: RollType,
+        ttl: u32,
+    },
+    /// Says that what was served before the second report has expired.
+    CacheExpired2 {
+        rolltype: RollType,
+    },
+    /// Ends a roll whose last actions are done.
+    RollDone {
+        rolltype: RollType,
+    },
+}

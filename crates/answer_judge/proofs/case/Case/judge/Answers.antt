@@ -1,0 +1,25 @@
+use Rattle.std.proofs.Common.{rules, ◌≡◌, true, false, length}
+use Rattle.std.specs.Prelude.{nat_eq}
+use Rattle.answer_scheme.specs.Answers.{Answers}
+use Rattle.answer_judge.specs.Judged.{AnswersAs, judged}
+use Rattle.answer_judge.specs.Judging.{Handing, Refuses, Says}
+use Rattle.answer_terms.specs.Asking.{is_allowed}
+use Rattle.answer_rules.specs.Rules.{verdict_of}
+use Rattle.answer_judge.proofs.GivenAnswers.{answers_given}
+use Rattle.answer_judge.proofs.JudgeWhole.{refuses_first}
+use Rattle.answer_judge.proofs.case.Case.judge.Goals as goal
+use Rattle.definitions.specs.Limits.{pointer_limit}
+
+pub returns-in-Ok-clause-given : goal.returns-in-Ok-clause-given
+returns-in-Ok-clause-given g c =
+    let a : Answers = g.C.Checks.answers c.args.checks.now in
+    let h : Handing = c.args.self.now in
+    let exact : AnswersAs (Says (verdict_of c.in-Ok.verdict)) (judged a pointer_limit h) = search rules in
+    answers_given a pointer_limit h (Says (verdict_of c.in-Ok.verdict)) exact
+
+pub returns-clause-given : goal.returns-clause-given
+returns-clause-given g c =
+    let a : Answers = g.C.Checks.answers c.args.checks.now in
+    let h : Handing = c.args.self.now in
+    let exact : AnswersAs (Refuses c.in-Err.refusal) (judged a pointer_limit h) = search rules in
+    answers_given a pointer_limit h (Refuses c.in-Err.refusal) exact

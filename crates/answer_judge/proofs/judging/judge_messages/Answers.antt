@@ -1,0 +1,136 @@
+use Rattle.std.proofs.Common.{rules, arith, ◌≡◌, false, map, filter, [], ◌+◌, inr, sym, ap, subst, ◌∙◌}
+use Rattle.std.specs.Prelude.{None, nat_eq}
+use Rattle.std.specs.Option.{option_map}
+use Rattle.definitions.specs.Dnskey.{dnskey_data}
+use Rattle.definitions.specs.Zone.{sorted_data}
+use Rattle.definitions.specs.Limits.{pointer_limit}
+use Rattle.answer_judge.specs.Facts.{is_usable, is_trusted}
+use Rattle.answer_rules.specs.Rules.{decided}
+use Rattle.answer_judge.specs.Judging.{Handing, message_refusal, keys_in}
+use Rattle.answer_rules.specs.Rules.{verdict_of}
+use Rattle.answer_judge.specs.Judged.{trusting, keys_of, judged_beyond, said, AnswersAs}
+use Rattle.messages.specs.Record.{spelled}
+use Rattle.answer_judge.specs.Verified.{is_verified, verified_rrset, verified_links}
+use Rattle.messages.proofs.CountedRecords.{same_count}
+use Rattle.answer_judge.specs.Counted.{answer_sought, keys_sought, tries}
+use Rattle.answer_judge.proofs.JudgeTotals.{key_tries_as, keys_alone, keys_and_answer}
+use Rattle.answer_judge.proofs.JudgeWhole.{beyond, chained_as, usable_as, untrusted, decided_as, answered, unrefused}
+use Rattle.answer_terms.specs.EqualTags.{has_equal_tags}
+use Rattle.answer_judge.proofs.judging.judge_messages.Goals as goal
+
+pub read_facts-requires : goal.read_facts-requires
+read_facts-requires g c =
+    record {
+      room = omega (
+        arith,
+        c.requires.counts,
+        ap (λ v. v.count) c.in_ok-trusted.ensures.rest,
+        c.in_ok-messages.ensures.few,
+        c.are_verified.ensures.few,
+        same_count c.in_ok-messages.messages.key_records.items c.in_ok-messages.messages.keys.records c.in_ok-messages.ensures.key_records,
+        same_count c.in_ok-messages.messages.answer_records.items c.in_ok-messages.messages.answer.records c.in_ok-messages.ensures.answer_records,
+      );
+      other = ap (λ (h : Handing). nat_eq h.asked.rtype 47) c.case.view_is ∙ c.requires.other;
+    }
+
+pub returns-then-not-branch-clause-exact : goal.returns-then-not-branch-clause-exact
+returns-then-not-branch-clause-exact g c =
+    let a = g.C.Checks.answers c.args.verifier.now.checks.now in
+    let h : Handing = c.args.case.now in
+    let is = c.case.view_is in
+    let moment = c.timestamp-moment.ensures ∙ ap (λ (h : Handing). h.now) is in
+    let keys = c.in_ok-messages.messages.keys in
+    let answer = c.in_ok-messages.messages.answer in
+    let rs = map spelled c.in_ok-messages.messages.key_records.items in
+    let ks : c.in_ok-keys.keys.items ≡ keys_in h.dnskey_bytes h.apex rs = c.in_ok-keys.ensures ∙ (λ i. keys_in (is i).dnskey_bytes (is i).apex (map spelled (c.deref.ensures.value i))) in
+    let tags : has_equal_tags (keys_in h.dnskey_bytes h.apex keys.records) ≡ false = sym (c.has_equal_tags.ensures ∙ ap has_equal_tags (c.deref-2.ensures.value ∙ ks ∙ ap (keys_in h.dnskey_bytes h.apex) c.in_ok-messages.ensures.key_records)) ∙ c.if-has_equal_tags.false in
+    let none : message_refusal pointer_limit h ≡ None = unrefused pointer_limit h keys answer c.in_ok-messages.ensures.keys c.in_ok-messages.ensures.answer c.in_ok-messages.ensures.asks_keys c.in_ok-messages.ensures.asks_answer tags in
+    let trusted : c.in_ok-trusted.trusted.items ≡ filter (is_trusted a h.apex h.ds) c.in_ok-keys.keys.items = c.in_ok-trusted.ensures.trusted ∙ (λ i. filter (is_trusted a (is i).apex (is i).ds) (c.deref-3.ensures.value i)) in
+    let rest = c.in_ok-trusted.ensures.rest in
+    let same = ap (λ v. g.C.Checks.answers v.checks.now) rest in
+    let chained : c.in_ok-are_verified.field-0 ≡ is_verified (trusting a h c.in_ok-trusted.trusted.items) pointer_limit h.dnskey_bytes rs h.apex 48 (sorted_data (map dnskey_data c.in_ok-keys.keys.items)) =
+    c.in_ok-are_verified.ensures.exact ∙ (λ i. is_verified (record { answers = same i; apex = (is i).apex; keys = c.deref-4.ensures.value i; now = moment i }) pointer_limit (is i).dnskey_bytes (map spelled (c.deref-5.ensures.value i)) (is i).apex 48 (sorted_data (map dnskey_data (c.deref-6.ensures.value i)))) in
+    untrusted a h keys answer (beyond a pointer_limit h keys answer c.in_ok-messages.ensures.keys c.in_ok-messages.ensures.answer none)
+    (sym c.if-not-branch.true ∙ chained_as a h keys rs c.in_ok-keys.keys.items c.in_ok-trusted.trusted.items c.in_ok-are_verified.field-0 c.in_ok-messages.ensures.key_records ks trusted chained)
+
+pub returns-clause-exact : goal.returns-clause-exact
+returns-clause-exact g c =
+    let a = g.C.Checks.answers c.args.verifier.now.checks.now in
+    let h : Handing = c.args.case.now in
+    let is = c.case.view_is in
+    let moment = c.timestamp-moment.ensures ∙ ap (λ (h : Handing). h.now) is in
+    let keys = c.in_ok-messages.messages.keys in
+    let answer = c.in_ok-messages.messages.answer in
+    let rs = map spelled c.in_ok-messages.messages.key_records.items in
+    let ks : c.in_ok-keys.keys.items ≡ keys_in h.dnskey_bytes h.apex rs = c.in_ok-keys.ensures ∙ (λ i. keys_in (is i).dnskey_bytes (is i).apex (map spelled (c.deref.ensures.value i))) in
+    let tags : has_equal_tags (keys_in h.dnskey_bytes h.apex keys.records) ≡ false = sym (c.has_equal_tags.ensures ∙ ap has_equal_tags (c.deref-2.ensures.value ∙ ks ∙ ap (keys_in h.dnskey_bytes h.apex) c.in_ok-messages.ensures.key_records)) ∙ c.if-has_equal_tags.false in
+    let none : message_refusal pointer_limit h ≡ None = unrefused pointer_limit h keys answer c.in_ok-messages.ensures.keys c.in_ok-messages.ensures.answer c.in_ok-messages.ensures.asks_keys c.in_ok-messages.ensures.asks_answer tags in
+    let trusted : c.in_ok-trusted.trusted.items ≡ filter (is_trusted a h.apex h.ds) c.in_ok-keys.keys.items = c.in_ok-trusted.ensures.trusted ∙ (λ i. filter (is_trusted a (is i).apex (is i).ds) (c.deref-3.ensures.value i)) in
+    let rest = c.in_ok-trusted.ensures.rest in
+    let same = ap (λ v. g.C.Checks.answers v.checks.now) rest in
+    let chained : c.in_ok-are_verified.field-0 ≡ is_verified (trusting a h c.in_ok-trusted.trusted.items) pointer_limit h.dnskey_bytes rs h.apex 48 (sorted_data (map dnskey_data c.in_ok-keys.keys.items)) =
+    c.in_ok-are_verified.ensures.exact ∙ (λ i. is_verified (record { answers = same i; apex = (is i).apex; keys = c.deref-4.ensures.value i; now = moment i }) pointer_limit (is i).dnskey_bytes (map spelled (c.deref-5.ensures.value i)) (is i).apex 48 (sorted_data (map dnskey_data (c.deref-6.ensures.value i)))) in
+    let usable : c.usable_keys-usable.result.items ≡ filter is_usable (keys_of h keys) = usable_as h keys rs c.in_ok-keys.keys.items c.usable_keys-usable.result.items c.in_ok-messages.ensures.key_records ks c.usable_keys-usable.ensures in
+    let later = c.in_ok-are_verified.ensures.same ∙ same in
+    let found : c.in_ok-facts.facts.answer ≡ verified_rrset (trusting a h c.usable_keys-usable.result.items) pointer_limit h.answer_bytes (map spelled c.in_ok-messages.messages.answer_records.items) h.asked.name h.asked.rtype =
+    c.in_ok-facts.ensures.answer ∙ (λ i. verified_rrset (record { answers = later i; apex = (is i).apex; keys = c.deref-7.ensures.value i; now = moment i }) pointer_limit (is i).answer_bytes (map spelled (c.deref-8.ensures.value i)) (is i).asked.name (is i).asked.rtype) in
+    let links : c.in_ok-facts.facts.links.items ≡ verified_links (trusting a h c.usable_keys-usable.result.items) pointer_limit h.answer_bytes (map spelled c.in_ok-messages.messages.answer_records.items) =
+    c.in_ok-facts.ensures.links ∙ (λ i. verified_links (record { answers = later i; apex = (is i).apex; keys = c.deref-7.ensures.value i; now = moment i }) pointer_limit (is i).answer_bytes (map spelled (c.deref-8.ensures.value i))) in
+    let decides : option_map verdict_of c.in_ok-verdict.verdict ≡ decided h.apex c.in_ok-facts.facts.answer c.in_ok-facts.facts.links.items h.asked.name h.asked.rtype =
+    c.in_ok-verdict.ensures ∙ (λ i. decided (is i).apex c.in_ok-facts.facts.answer (c.deref-9.ensures.value i) (is i).asked.name (is i).asked.rtype) in
+    let chain = sym c.if-not-branch.false ∙ chained_as a h keys rs c.in_ok-keys.keys.items c.in_ok-trusted.trusted.items c.in_ok-are_verified.field-0 c.in_ok-messages.ensures.key_records ks trusted chained in
+    let all = decided_as a h keys answer c.usable_keys-usable.result.items (map spelled c.in_ok-messages.messages.answer_records.items) c.in_ok-facts.facts.answer c.in_ok-facts.facts.links.items (option_map verdict_of c.in_ok-verdict.verdict)
+    (beyond a pointer_limit h keys answer c.in_ok-messages.ensures.keys c.in_ok-messages.ensures.answer none) chain usable c.in_ok-messages.ensures.answer_records found links decides in
+    subst (λ o. AnswersAs (said o) (judged_beyond a pointer_limit h)) (sym c.ok_or.ensures.value) (answered c.in_ok-verdict.verdict (judged_beyond a pointer_limit h) all)
+
+-- the signatures that were tried on the keys
+pub returns-then-not-branch-clause-counts : goal.returns-then-not-branch-clause-counts
+returns-then-not-branch-clause-counts g c =
+    let a = g.C.Checks.answers c.args.verifier.now.checks.now in
+    let h : Handing = c.args.case.now in
+    let is = c.case.view_is in
+    let moment = c.timestamp-moment.ensures ∙ ap (λ (h : Handing). h.now) is in
+    let keys = c.in_ok-messages.messages.keys in
+    let answer = c.in_ok-messages.messages.answer in
+    let rs = map spelled c.in_ok-messages.messages.key_records.items in
+    let ks : c.in_ok-keys.keys.items ≡ keys_in h.dnskey_bytes h.apex rs = c.in_ok-keys.ensures ∙ (λ i. keys_in (is i).dnskey_bytes (is i).apex (map spelled (c.deref.ensures.value i))) in
+    let tags : has_equal_tags (keys_in h.dnskey_bytes h.apex keys.records) ≡ false = sym (c.has_equal_tags.ensures ∙ ap has_equal_tags (c.deref-2.ensures.value ∙ ks ∙ ap (keys_in h.dnskey_bytes h.apex) c.in_ok-messages.ensures.key_records)) ∙ c.if-has_equal_tags.false in
+    let none : message_refusal pointer_limit h ≡ None = unrefused pointer_limit h keys answer c.in_ok-messages.ensures.keys c.in_ok-messages.ensures.answer c.in_ok-messages.ensures.asks_keys c.in_ok-messages.ensures.asks_answer tags in
+    let trusted : c.in_ok-trusted.trusted.items ≡ filter (is_trusted a h.apex h.ds) c.in_ok-keys.keys.items = c.in_ok-trusted.ensures.trusted ∙ (λ i. filter (is_trusted a (is i).apex (is i).ds) (c.deref-3.ensures.value i)) in
+    let rest = c.in_ok-trusted.ensures.rest in
+    let same = ap (λ v. g.C.Checks.answers v.checks.now) rest in
+    let chained : c.in_ok-are_verified.field-0 ≡ is_verified (trusting a h c.in_ok-trusted.trusted.items) pointer_limit h.dnskey_bytes rs h.apex 48 (sorted_data (map dnskey_data c.in_ok-keys.keys.items)) =
+    c.in_ok-are_verified.ensures.exact ∙ (λ i. is_verified (record { answers = same i; apex = (is i).apex; keys = c.deref-4.ensures.value i; now = moment i }) pointer_limit (is i).dnskey_bytes (map spelled (c.deref-5.ensures.value i)) (is i).apex 48 (sorted_data (map dnskey_data (c.deref-6.ensures.value i)))) in
+    let none_yet = ap (λ v. v.count) rest ∙ c.requires.counts in
+    let tried = c.in_ok-are_verified.ensures.tried ∙ (λ i. none_yet i + tries (record { answers = same i; apex = (is i).apex; keys = c.deref-4.ensures.value i; now = moment i }) pointer_limit (is i).dnskey_bytes (keys_sought (is i).apex (c.deref-6.ensures.value i)) [] (map spelled (c.deref-5.ensures.value i))) in
+    inr (keys_alone a h keys answer c.are_verified.new.verifier.count none c.in_ok-messages.ensures.keys c.in_ok-messages.ensures.answer
+    (sym c.if-not-branch.true ∙ chained_as a h keys rs c.in_ok-keys.keys.items c.in_ok-trusted.trusted.items c.in_ok-are_verified.field-0 c.in_ok-messages.ensures.key_records ks trusted chained)
+    (key_tries_as a h keys rs c.in_ok-keys.keys.items c.in_ok-trusted.trusted.items c.are_verified.new.verifier.count c.in_ok-messages.ensures.key_records ks trusted tried))
+
+-- and on the answer
+pub returns-clause-counts : goal.returns-clause-counts
+returns-clause-counts g c =
+    let a = g.C.Checks.answers c.args.verifier.now.checks.now in
+    let h : Handing = c.args.case.now in
+    let is = c.case.view_is in
+    let moment = c.timestamp-moment.ensures ∙ ap (λ (h : Handing). h.now) is in
+    let keys = c.in_ok-messages.messages.keys in
+    let answer = c.in_ok-messages.messages.answer in
+    let rs = map spelled c.in_ok-messages.messages.key_records.items in
+    let ks : c.in_ok-keys.keys.items ≡ keys_in h.dnskey_bytes h.apex rs = c.in_ok-keys.ensures ∙ (λ i. keys_in (is i).dnskey_bytes (is i).apex (map spelled (c.deref.ensures.value i))) in
+    let tags : has_equal_tags (keys_in h.dnskey_bytes h.apex keys.records) ≡ false = sym (c.has_equal_tags.ensures ∙ ap has_equal_tags (c.deref-2.ensures.value ∙ ks ∙ ap (keys_in h.dnskey_bytes h.apex) c.in_ok-messages.ensures.key_records)) ∙ c.if-has_equal_tags.false in
+    let none : message_refusal pointer_limit h ≡ None = unrefused pointer_limit h keys answer c.in_ok-messages.ensures.keys c.in_ok-messages.ensures.answer c.in_ok-messages.ensures.asks_keys c.in_ok-messages.ensures.asks_answer tags in
+    let trusted : c.in_ok-trusted.trusted.items ≡ filter (is_trusted a h.apex h.ds) c.in_ok-keys.keys.items = c.in_ok-trusted.ensures.trusted ∙ (λ i. filter (is_trusted a (is i).apex (is i).ds) (c.deref-3.ensures.value i)) in
+    let rest = c.in_ok-trusted.ensures.rest in
+    let same = ap (λ v. g.C.Checks.answers v.checks.now) rest in
+    let chained : c.in_ok-are_verified.field-0 ≡ is_verified (trusting a h c.in_ok-trusted.trusted.items) pointer_limit h.dnskey_bytes rs h.apex 48 (sorted_data (map dnskey_data c.in_ok-keys.keys.items)) =
+    c.in_ok-are_verified.ensures.exact ∙ (λ i. is_verified (record { answers = same i; apex = (is i).apex; keys = c.deref-4.ensures.value i; now = moment i }) pointer_limit (is i).dnskey_bytes (map spelled (c.deref-5.ensures.value i)) (is i).apex 48 (sorted_data (map dnskey_data (c.deref-6.ensures.value i)))) in
+    let none_yet = ap (λ v. v.count) rest ∙ c.requires.counts in
+    let tried = c.in_ok-are_verified.ensures.tried ∙ (λ i. none_yet i + tries (record { answers = same i; apex = (is i).apex; keys = c.deref-4.ensures.value i; now = moment i }) pointer_limit (is i).dnskey_bytes (keys_sought (is i).apex (c.deref-6.ensures.value i)) [] (map spelled (c.deref-5.ensures.value i))) in
+    let usable : c.usable_keys-usable.result.items ≡ filter is_usable (keys_of h keys) = usable_as h keys rs c.in_ok-keys.keys.items c.usable_keys-usable.result.items c.in_ok-messages.ensures.key_records ks c.usable_keys-usable.ensures in
+    let later = c.in_ok-are_verified.ensures.same ∙ same in
+    let more = c.in_ok-facts.ensures.tried ∙ (λ i. c.are_verified.new.verifier.count + tries (record { answers = later i; apex = (is i).apex; keys = c.deref-7.ensures.value i; now = moment i }) pointer_limit (is i).answer_bytes (answer_sought pointer_limit (is i).answer_bytes (is i).apex (map spelled (c.deref-8.ensures.value i)) (is i).asked.name (is i).asked.rtype) [] (map spelled (c.deref-8.ensures.value i))) in
+    inr (keys_and_answer a h keys answer c.usable_keys-usable.result.items (map spelled c.in_ok-messages.messages.answer_records.items) c.are_verified.new.verifier.count c.read_facts.new.verifier.count none c.in_ok-messages.ensures.keys c.in_ok-messages.ensures.answer
+    (sym c.if-not-branch.false ∙ chained_as a h keys rs c.in_ok-keys.keys.items c.in_ok-trusted.trusted.items c.in_ok-are_verified.field-0 c.in_ok-messages.ensures.key_records ks trusted chained)
+    (key_tries_as a h keys rs c.in_ok-keys.keys.items c.in_ok-trusted.trusted.items c.are_verified.new.verifier.count c.in_ok-messages.ensures.key_records ks trusted tried)
+    usable c.in_ok-messages.ensures.answer_records more)

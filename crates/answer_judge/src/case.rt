@@ -1,0 +1,36 @@
+//! What a judge is handed.
+use denial_data::Ds;
+use keyset_keys::UnixTime;
+use messages::names::Name;
+use messages::question::Question;
+use std::marker::Model;
+
+/// What a judge is handed: a zone's name, its DS set at the parent, two messages of the zone, and what they are judged for.
+///
+/// Whole seconds of the moment, modulo 2^32, are compared with the times of signatures (RFC 4034, 3.1.5).
+#[derive(Drop)]
+pub struct Case<'a> {
+    /// The name of the zone.
+    pub apex: &'a Name<Vec<u8>>,
+    /// The DS set of the parent.
+    pub ds: &'a [Ds<Vec<u8>>],
+    /// The answer for the DNSKEY RRset, as octets of a message.
+    pub dnskey: &'a [u8],
+    /// The answer to the question, as octets of a message.
+    pub answer: &'a [u8],
+    /// What the zone was asked.
+    pub question: &'a Question,
+    /// The moment at which signatures are to hold.
+    pub moment: UnixTime,
+    /// How many iterations of a name's hash are allowed (RFC 5155, 10.3).
+    pub limit: u16,
+}
+
+impl<'a> Model for Case<'a> {
+    ghost use Rattle.messages.specs.Questions.{asked_of};
+    ghost use Rattle.answer_judge.specs.Judging.{Handing, handed};
+
+    ghost Value = { Handing };
+
+    ghost view = { λ c. handed c.apex.now c.ds.now c.dnskey.now c.answer.now (asked_of c.question.now) c.moment c.limit };
+}

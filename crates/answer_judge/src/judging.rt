@@ -1,0 +1,326 @@
+//! Judging a zone answer from bytes alone (RFC 4035, 5).
+ghost use Rattle.std.specs.Prelude.{◌≡◌, ◌==◌, ◌+◌, ◌++◌, ◌<◌, ◌≤◌, ◌^◌, ◌⊎◌, [], IfOk, IfErr, MatchOption, OnOk, is_some, length, map, filter, true, false};
+ghost use Rattle.std.specs.Cow.{cow_slice_items};
+ghost use Rattle.definitions.specs.Limits.{pointer_limit};
+ghost use Rattle.definitions.specs.Dnskey.{dnskey_data};
+ghost use Rattle.definitions.specs.Zone.{sorted_data};
+ghost use Rattle.messages.specs.Questions.{asked_of};
+ghost use Rattle.messages.specs.Record.{spelled};
+ghost use Rattle.answer_judge.specs.Counted.{Counts, keys_sought, tries, tries_beyond, verifications_due};
+ghost use Rattle.answer_judge.specs.Verified.{is_verified};
+ghost use Rattle.answer_judge.specs.Marked.{held_by};
+ghost use Rattle.messages.specs.Message.{Asked, message};
+ghost use Rattle.messages.specs.View.{Gives};
+ghost use Rattle.answer_judge.specs.Facts.{is_signature, RefusesFirst};
+ghost use Rattle.answer_judge.specs.Judged.{judged, judged_beyond, said, AnswersAs};
+ghost use Rattle.answer_judge.specs.Meeting.{AnswersGiven, JudgesSo};
+ghost use Rattle.answer_judge.specs.Judging.{Judges, answer_of, handed, verifications_of, hashes_of, is_first, message_refusal, same_question, verification_bound};
+ghost use Rattle.answer_terms.specs.Asking.{is_allowed};
+
+pub mod by_scheme;
+mod facts;
+mod groups;
+mod keys;
+pub mod verdict;
+mod verifier;
+
+use crate::case::Case;
+use crate::judging::facts::read_facts;
+use crate::judging::groups::{Group, Trust, verify_groups};
+use crate::judging::keys::{TaggedKey, has_equal_tags, read_keys, trusted_keys, usable_keys};
+use crate::judging::verdict::{Judgement, Refusal, Refused, Verdict};
+use crate::judging::verifier::Verifier;
+use answer_rules::decide::decide;
+use answer_scheme::checks::Checks;
+pub use answer_terms::question::is_allowed;
+use answer_terms::ranked::put_cow_data;
+use denial_data::Ds;
+use keyset_keys::UnixTime;
+use messages::error::MessageError;
+use messages::names::{Name, ToName, cow_name};
+use messages::question::Question;
+use messages::{MessageView, ViewRecord, read_message_into};
+use names_data::rtype::Rtype;
+use numbers::class::Class;
+use std::alloc::{AllocError, Global};
+use std::borrow::CowSlice;
+
+/// Judges what a zone says of a question, from a DS set, a DNSKEY answer and a zone answer (RFC 4035, 5), as [`Case::judge`]
+/// does.
+pub fn judge<C: Checks>(
+    alloc: Global,
+    apex: &Name<Vec<u8>>,
+    ds: &[Ds<Vec<u8>>],
+    dnskey_bytes: &[u8],
+    answer_bytes: &[u8],
+    question: &Question,
+    now: &UnixTime,
+    checks: &mut C,
+    limit: u16,
+) -> Result<Judgement, Refused>
+    ensures judgement { let asked = asked_of question.now in
+        let h = handed apex.now ds.now dnskey_bytes.now answer_bytes.now asked now.now limit in
+        JudgesSo pointer_limit (C.answers checks.old) h result }
+    ensures verified { C.verified checks.new ≡ C.verified checks.old + verifications_of result }
+    ensures hashed { C.hashed checks.new ≡ C.hashed checks.old + hashes_of result }
+    ensures same { C.answers checks.new ≡ C.answers checks.old }
+{
+    let case = Case {
+        apex,
+        ds,
+        dnskey: dnskey_bytes,
+        answer: answer_bytes,
+        question,
+        moment: *now,
+        limit,
+    };
+    case.judge(alloc, checks)
+}
+
+impl<'a> Case<'a> {
+    /// Judges what the zone says of the question.
+    ///
+    /// Whatever one zone gives under keys that meet, within the times of its signatures, gets the zone's verdict.
+    pub fn judge<C: Checks>(&self, alloc: Global, checks: &mut C) -> Result<Judgement, Refused>
+        ensures judges { let answer = answer_of result in
+            Judges pointer_limit self.now answer (verifications_of result) (hashes_of result) }
+        ensures exact { let a = C.answers checks.old in
+            AnswersAs (answer_of result) (judged a pointer_limit self.now) }
+        ensures given { let a = C.answers checks.old in
+            AnswersGiven a pointer_limit self.now (answer_of result) }
+        ensures counts { let due = verifications_due (C.answers checks.old) pointer_limit self.now in
+            Counts (answer_of result) (verifications_of result) due }
+        ensures no_hashes { hashes_of result ≡ 0 }
+        ensures verified { C.verified checks.new ≡ C.verified checks.old + verifications_of result }
+        ensures hashed { C.hashed checks.new ≡ C.hashed checks.old + hashes_of result }
+        ensures same { C.answers checks.new ≡ C.answers checks.old }
+    {
+        if !is_allowed(self.apex, self.question) {
+            return Err(Refused {
+                refusal: Refusal::QuestionNotAllowed,
+                verifications: 0,
+                hashes: 0,
+            });
+        }
+        if self.ds.is_empty() {
+            return Ok(Judgement {
+                verdict: Verdict::Unsigned,
+                verifications: 0,
+                hashes: 0,
+            });
+        }
+        let mut octets = Vec::new(alloc);
+        let mut verifier = Verifier::new(alloc, checks, &mut octets);
+        match judge_messages(self, &mut verifier) {
+            Ok(verdict) => Ok(Judgement {
+                verdict,
+                verifications: verifier.count,
+                hashes: 0,
+            }),
+            Err(refusal) => Err(Refused {
+                refusal,
+                verifications: verifier.count,
+                hashes: 0,
+            }),
+        }
+    }
+}
+
+/// The verdict of two messages beside a DS set that isn't empty.
+fn judge_messages<C: Checks>(case: &Case, verifier: &mut Verifier<C>) -> Result<Verdict, Refusal>
+    requires counts { verifier.old.count ≡ 0 }
+    requires other { (case.now.asked.rtype == 47) ≡ false }
+    ensures exact { let a = C.answers verifier.old.checks.now in
+        AnswersAs (said result) (judged_beyond a pointer_limit case.now) }
+    ensures counts { let a = C.answers verifier.old.checks.now in
+        Counts (said result) verifier.new.count (tries_beyond a pointer_limit case.now) }
+    ensures verdict { OnOk result (message_refusal pointer_limit case.now ≡ None) }
+    ensures refusal { IfErr result
+        (λ e. RefusesFirst e (message_refusal pointer_limit case.now)) }
+    ensures bound { verifier.new.count ≤ verification_bound pointer_limit case.now }
+    ensures counted { C.verified verifier.new.checks.now
+        ≡ C.verified verifier.old.checks.now + verifier.new.count }
+    ensures hashed { C.hashed verifier.new.checks.now ≡ C.hashed verifier.old.checks.now }
+    ensures same { C.answers verifier.new.checks.now ≡ C.answers verifier.old.checks.now }
+    ensures same_checks { verifier.new.checks.ghost_name ≡ verifier.old.checks.ghost_name }
+{
+    let alloc = verifier.alloc;
+    let messages = read_messages(alloc, case)?;
+    let keys = read_keys(alloc, case.apex, case.dnskey, &messages.key_records)?;
+    if has_equal_tags(&keys) {
+        return Err(Refusal::EqualTags);
+    }
+    verifier.octets.reserve(512)?;
+    let trusted = trusted_keys(case.apex, case.ds, &keys, verifier)?;
+    let moment = case.moment.timestamp();
+    let trust = Trust {
+        apex: case.apex,
+        keys: &trusted,
+        moment,
+    };
+    if !are_verified(case.dnskey, &messages.key_records, &keys, &trust, verifier)? {
+        return Err(Refusal::NoTrustedKey);
+    }
+    let usable = usable_keys(keys);
+    let trust = Trust {
+        apex: case.apex,
+        keys: &usable,
+        moment,
+    };
+    let question = case.question;
+    let facts = read_facts(
+        case.answer,
+        &messages.answer_records,
+        &trust,
+        &question.name,
+        question.rtype,
+        verifier,
+    )?;
+    let verdict = decide(
+        alloc,
+        case.apex,
+        facts.answer,
+        &facts.links,
+        &question.name,
+        question.rtype,
+    )?;
+    verdict.ok_or(Refusal::NotProven)
+}
+
+/// Both messages, and the records of each.
+#[derive(Drop)]
+struct Messages<'a> {
+    keys: MessageView<'a>,
+    key_records: Vec<ViewRecord<'a>>,
+    answer: MessageView<'a>,
+    answer_records: Vec<ViewRecord<'a>>,
+}
+
+/// Reads both messages, which answer the keys' question and the one that is asked. Memory that was refused is told
+/// behind both, so that what a message is refused for never depends on it.
+fn read_messages<'a>(alloc: Global, case: &Case<'a>) -> Result<Messages<'a>, Refusal>
+    ensures keys { IfOk result (λ v. message pointer_limit case.now.dnskey_bytes ≡ Ok v.keys) }
+    ensures answer { IfOk result (λ v. message pointer_limit case.now.answer_bytes ≡ Ok v.answer) }
+    ensures key_records { IfOk result
+        (λ v. map spelled v.key_records.items ≡ v.keys.records) }
+    ensures answer_records { IfOk result
+        (λ v. map spelled v.answer_records.items ≡ v.answer.records) }
+    ensures asks_keys { let keys : Asked = record { name = case.now.apex; rtype = 48; class = 1 } in
+        IfOk result (λ v. same_question v.keys.asked keys ≡ true) }
+    ensures asks_answer { IfOk result
+        (λ v. same_question v.answer.asked case.now.asked ≡ true) }
+    ensures few { IfOk result (λ v. length v.keys.records + length v.answer.records ≤ 393210) }
+    ensures first { IfErr result (λ e. (e ≡ Refusal.Memory) ⊎ (is_first e ≡ true)) }
+    ensures refusal { IfErr result
+        (λ e. RefusesFirst e (message_refusal pointer_limit case.now)) }
+{
+    let (mut key_records, mut answer_records) = (Vec::new(alloc), Vec::new(alloc));
+    let (keys, kept) = read_counted(case.dnskey, &mut key_records).map_err(
+        |_| Refusal::BadDnskeyMessage,
+    )?;
+    let (answer, also_kept) = read_counted(case.answer, &mut answer_records).map_err(
+        |_| Refusal::BadAnswerMessage,
+    )?;
+    let question = case.question;
+    if !asks(&keys, case.apex, Rtype::DNSKEY, Class::IN)
+        || !asks(&answer, &question.name, question.rtype, question.class)
+    {
+        return Err(Refusal::QuestionMismatch);
+    }
+    kept?;
+    also_kept?;
+    Ok(Messages {
+        keys,
+        key_records,
+        answer,
+        answer_records,
+    })
+}
+
+/// Reads a message, which has no more records than three counts of 16 bits, and puts them behind those of a list.
+fn read_counted<'a>(
+    bytes: &'a [u8],
+    records: &mut Vec<ViewRecord<'a>>,
+) -> Result<(MessageView<'a>, Result<(), AllocError>), MessageError>
+    ensures exact { Gives (λ r. r.0) result (message pointer_limit bytes.now) }
+    ensures kept { IfOk result (λ r. OnOk r.1
+        (map spelled records.new.items ≡ map spelled records.old.items ++ r.0.records)) }
+    ensures few { IfOk result (λ r. length r.0.records ≤ 196605) }
+{
+    read_message_into(bytes, records)
+}
+
+/// Whether a message asks for a name, up to case, a type and a class.
+fn asks(view: &MessageView, name: &Name<Vec<u8>>, rtype: Rtype, class: Class) -> bool
+    ensures { let asked : Asked = record { name = name.now; rtype = rtype; class = class } in
+        result ≡ same_question view.now.asked asked }
+{
+    let asked = view.question();
+    asked.name.name_eq(name) && asked.rtype == rtype && asked.class == class
+}
+
+/// The RRset of the keys at the apex.
+fn key_group<'a>(
+    alloc: Global,
+    apex: &'a Name<Vec<u8>>,
+    keys: &[TaggedKey<'a>],
+) -> Result<Group<'a>, AllocError>
+    ensures owner { IfOk result (λ g. g.owner ≡ apex.now) }
+    ensures rtype { IfOk result (λ g. g.rtype ≡ 48) }
+    ensures items { IfOk result
+        (λ g. map cow_slice_items g.items.items ≡ sorted_data (map dnskey_data keys.now)) }
+    ensures unverified { IfOk result (λ g. g.verified ≡ None) }
+{
+    let mut items = Vec::with_capacity(alloc, keys.len())?;
+    for key in keys {
+        put_cow_data(&mut items, CowSlice::Borrowed(key.data()))?;
+    }
+    Ok(Group {
+        owner: cow_name(alloc, apex)?,
+        rtype: Rtype::DNSKEY,
+        items,
+        verified: None,
+    })
+}
+
+/// Whether a trusted key signs the keys.
+fn are_verified<C: Checks>(
+    message: &[u8],
+    records: &[ViewRecord],
+    keys: &[TaggedKey],
+    trust: &Trust,
+    verifier: &mut Verifier<C>,
+) -> Result<bool, AllocError>
+    requires { verifier.old.count + length records.now < 2 ^ 32 }
+    ensures exact { let w = held_by (C.answers verifier.old.checks.now) trust.now in
+        let items = sorted_data (map dnskey_data keys.now) in let rs = map spelled records.now in
+        IfOk result (λ b. b ≡ is_verified w pointer_limit message.now rs w.apex 48 items) }
+    ensures tried { let w = held_by (C.answers verifier.old.checks.now) trust.now in
+        let sought = keys_sought w.apex keys.now in let rs = map spelled records.now in
+        let count = verifier.old.count + tries w pointer_limit message.now sought [] rs in
+        IfOk result (λ _. verifier.new.count ≡ count) }
+    ensures counted { C.verified verifier.new.checks.now + verifier.old.count
+        ≡ C.verified verifier.old.checks.now + verifier.new.count }
+    ensures bound { let rs = map spelled records.now in
+        verifier.new.count ≤ verifier.old.count + length (filter is_signature rs) }
+    ensures few { verifier.new.count ≤ verifier.old.count + length records.now }
+    ensures hashed { C.hashed verifier.new.checks.now ≡ C.hashed verifier.old.checks.now }
+    ensures same { C.answers verifier.new.checks.now ≡ C.answers verifier.old.checks.now }
+    ensures same_checks { verifier.new.checks.ghost_name ≡ verifier.old.checks.ghost_name }
+{
+    let alloc = verifier.alloc;
+    let mut groups = Vec::with_capacity(alloc, 1)?;
+    groups.push(key_group(alloc, trust.apex, keys)?)?;
+    verify_groups(message, records, trust, &mut groups, verifier)?;
+    Ok(was_verified(groups.pop()))
+}
+
+/// Whether there is an RRset, and a signature verified it.
+fn was_verified(group: Option<Group>) -> bool
+    ensures { MatchOption group.entry (result ≡ false) (λ g. result ≡ is_some g.verified) }
+{
+    match group {
+        None => false,
+        Some(group) => group.verified.is_some(),
+    }
+}

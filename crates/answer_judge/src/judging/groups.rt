@@ -1,0 +1,316 @@
+//! RRsets of a message and the signatures that verify them (RFC 4035, 5.3).
+ghost use Rattle.std.specs.Prelude.{◌≡◌, ◌==◌, ◌&&◌, ◌+◌, ◌<◌, ◌≤◌, ◌^◌, [], ◌∷◌, true, false, None, IfOk, IfSome, OnOk, MatchOption, length, map, filter, get_or};
+ghost use Rattle.std.specs.Cow.{cow_slice_items};
+ghost use Rattle.definitions.specs.Limits.{pointer_limit};
+ghost use Rattle.messages.specs.Record.{fields_read, spelled};
+ghost use Rattle.answer_judge.specs.Facts.{is_signature, is_due, fits_key, signs};
+ghost use Rattle.answer_judge.specs.Verified.{datum_of, rrset_in};
+ghost use Rattle.answer_judge.specs.declared.judging.groups.Group.{Group};
+ghost use Rattle.answer_judge.specs.Marked.{held_by, is_of, are_apart, data_in, marked, signed_of, signs_group, is_tried_in, tries_in};
+ghost use Rattle.messages.specs.Message.{if_true};
+ghost use Rattle.answer_judge.specs.Counted.{can_try, one_if};
+ghost use Rattle.std.specs.Option.{option_map};
+ghost use Rattle.std.specs.List.{find, list_any};
+ghost use Rattle.definitions.specs.Name.{same};
+ghost use Rattle.definitions.specs.Signing.{in_time, signed_octets};
+
+use crate::judging::keys::TaggedKey;
+use crate::judging::verifier::Verifier;
+use answer_scheme::checks::Checks;
+use answer_terms::ranked::put_cow_data;
+use denial_data::{Rrsig, Timestamp};
+use messages::names::{Name, ParsedName, ToName, ZoneName};
+use messages::signed::compose_signed_octets;
+use messages::{Owner, ViewRecord};
+use names_data::rtype::Rtype;
+use numbers::algorithm::SecurityAlgorithm;
+use numbers::class::Class;
+use numbers::ttl::Ttl;
+use std::alloc::{AllocError, Global};
+use std::borrow::CowSlice;
+
+/// What a signature says beside the RRset that it covers and the name that signs it (RFC 4034, 3.1).
+#[derive(Clone, Copy, Debug)]
+pub(crate) struct Signed {
+    pub(crate) algorithm: SecurityAlgorithm,
+    pub(crate) labels: u8,
+    pub(crate) ttl: Ttl,
+    pub(crate) expiration: u32,
+    pub(crate) inception: u32,
+    pub(crate) tag: u16,
+}
+
+/// The owner of an RRset, borrowed from what has it in a row.
+pub(crate) type GroupOwner<'a> = Name<CowSlice<'a, u8>>;
+
+/// An RRset of a message: its canonical data ascending, each once, and what the first signature says that verified it.
+#[derive(Debug, Drop)]
+pub(crate) struct Group<'a> {
+    pub(crate) owner: GroupOwner<'a>,
+    pub(crate) rtype: Rtype,
+    pub(crate) items: Vec<CowSlice<'a, u8>>,
+    pub(crate) verified: Option<Signed>,
+}
+
+/// A signature in a message, its signer in place.
+type Signature<'a> = Rrsig<&'a [u8], ParsedName<'a>>;
+
+/// What signatures are held against: the apex, the keys that may sign, and the moment.
+#[derive(Drop)]
+pub(crate) struct Trust<'a> {
+    pub(crate) apex: &'a Name<Vec<u8>>,
+    pub(crate) keys: &'a [TaggedKey<'a>],
+    pub(crate) moment: u32,
+}
+
+impl<'a> Group<'a> {
+    /// Whether the group has a type and an owner, up to case.
+    pub(crate) fn is_of(&self, owner: &Owner, rtype: Rtype) -> bool
+        ensures { result ≡ ((self.now.rtype == rtype) && same owner.now self.now.owner) }
+    {
+        self.rtype == rtype && owner.name().name_eq(&self.owner)
+    }
+}
+
+/// The RRset of an owner and a type: what reads of the records of class IN.
+pub(crate) fn read_group<'a>(
+    alloc: Global,
+    message: &'a [u8],
+    records: &[ViewRecord],
+    owner: GroupOwner<'a>,
+    rtype: Rtype,
+) -> Result<Group<'a>, AllocError>
+    ensures owner { IfOk result (λ g. g.owner ≡ owner.entry) }
+    ensures rtype { IfOk result (λ g. g.rtype ≡ rtype) }
+    ensures items { let rs = map spelled records.now in
+        IfOk result (λ g. data_in g ≡ rrset_in pointer_limit message.now rs owner.entry rtype) }
+    ensures unverified { IfOk result (λ g. g.verified ≡ None) }
+{
+    let mut items = Vec::new(alloc);
+    for record in records {
+        if let Some(item) = datum_of(alloc, message, record, &owner, rtype)? {
+            put_cow_data(&mut items, item)?;
+        }
+    }
+    Ok(Group {
+        owner,
+        rtype,
+        items,
+        verified: None,
+    })
+}
+
+/// The canonical data of a record of an owner, up to case, and a type, class IN; None where they do not read.
+fn datum_of<'m>(
+    alloc: Global,
+    message: &'m [u8],
+    record: &ViewRecord,
+    owner: &GroupOwner,
+    rtype: Rtype,
+) -> Result<Option<CowSlice<'m, u8>>, AllocError>
+    ensures { IfOk result (λ o. option_map cow_slice_items o
+        ≡ datum_of pointer_limit message.now owner.now rtype (spelled record.now)) }
+{
+    if record.class == Class::IN && record.rtype == rtype && record.owner.name().name_eq(owner) {
+        return record.canonical_cow(alloc, message);
+    }
+    Ok(None)
+}
+
+/// Tries the signatures of a message in order, each on its group until one verifies it.
+pub(crate) fn verify_groups<C: Checks>(
+    message: &[u8],
+    records: &[ViewRecord],
+    trust: &Trust,
+    groups: &mut [Group],
+    verifier: &mut Verifier<C>,
+) -> Result<(), AllocError>
+    requires room { verifier.old.count + length records.now < 2 ^ 32 }
+    requires apart { are_apart groups.old ≡ true }
+    ensures marked { let w = held_by (C.answers verifier.old.checks.now) trust.now in
+        let rs = map spelled records.now in
+        IfOk result (λ _. groups.new ≡ map (marked w message.now rs) groups.old) }
+    ensures tried { let w = held_by (C.answers verifier.old.checks.now) trust.now in
+        let tried = tries_in w message.now groups.old (map spelled records.now) in
+        IfOk result (λ _. verifier.new.count ≡ verifier.old.count + tried) }
+    ensures counted { C.verified verifier.new.checks.now + verifier.old.count
+        ≡ C.verified verifier.old.checks.now + verifier.new.count }
+    ensures bound { let rs = map spelled records.now in
+        verifier.new.count ≤ verifier.old.count + length (filter is_signature rs) }
+    ensures few { verifier.new.count ≤ verifier.old.count + length records.now }
+    ensures hashed { C.hashed verifier.new.checks.now ≡ C.hashed verifier.old.checks.now }
+    ensures same { C.answers verifier.new.checks.now ≡ C.answers verifier.old.checks.now }
+    ensures same_checks { verifier.new.checks.ghost_name ≡ verifier.old.checks.ghost_name }
+{
+    for record in records {
+        if record.rtype == Rtype::RRSIG {
+            verify_record(message, record, trust, groups, verifier)?;
+        }
+    }
+    Ok(())
+}
+
+/// Tries a signature on its group, unless one verified that before.
+fn verify_record<C: Checks>(
+    message: &[u8],
+    record: &ViewRecord,
+    trust: &Trust,
+    groups: &mut [Group],
+    verifier: &mut Verifier<C>,
+) -> Result<(), AllocError>
+    requires room { verifier.old.count + 1 < 2 ^ 32 }
+    requires signature { is_signature (spelled record.now) ≡ true }
+    requires apart { are_apart groups.old ≡ true }
+    ensures marked { let w = held_by (C.answers verifier.old.checks.now) trust.now in
+        let r = spelled record.now in
+        IfOk result (λ _. groups.new ≡ map (marked w message.now (r ∷ [])) groups.old) }
+    ensures tried { let w = held_by (C.answers verifier.old.checks.now) trust.now in
+        let is_tried = is_tried_in w message.now groups.old (spelled record.now) in
+        IfOk result (λ _. verifier.new.count ≡ verifier.old.count + one_if is_tried) }
+    ensures counted { C.verified verifier.new.checks.now + verifier.old.count
+        ≡ C.verified verifier.old.checks.now + verifier.new.count }
+    ensures bound { verifier.new.count ≤ verifier.old.count + 1 }
+    ensures hashed { C.hashed verifier.new.checks.now ≡ C.hashed verifier.old.checks.now }
+    ensures same { C.answers verifier.new.checks.now ≡ C.answers verifier.old.checks.now }
+    ensures same_checks { verifier.new.checks.ghost_name ≡ verifier.old.checks.ghost_name }
+{
+    if record.class != Class::IN {
+        return Ok(());
+    }
+    let Some(signature) = record.signature(message) else {
+        return Ok(());
+    };
+    if let Some(place) = place_of(groups, &record.owner, signature.type_covered()) {
+        let group = &mut groups[place];
+        if group.verified.is_none() {
+            group.verified = verifies(&signature, trust, group, verifier)?;
+        }
+    }
+    Ok(())
+}
+
+/// The place of a group of an owner and a type.
+fn place_of(groups: &[Group], owner: &Owner, rtype: Rtype) -> Option<usize>
+    ensures within { IfSome result (λ i. i < length groups.now) }
+    ensures found { let is = is_of owner.now rtype in
+        MatchOption result (list_any is groups.now ≡ false)
+        (λ i. (g : Group) → g ≡ get_or groups.now i g → is g ≡ true) }
+{
+    for (i, group) in groups.iter().enumerate() {
+        if group.is_of(owner, rtype) {
+            return Some(i);
+        }
+    }
+    None
+}
+
+/// What a signature says, if it verifies its group (RFC 4035, 5.3.1 and 5.3.3).
+fn verifies<C: Checks>(
+    signature: &Signature,
+    trust: &Trust,
+    group: &Group,
+    verifier: &mut Verifier<C>,
+) -> Result<Option<Signed>, AllocError>
+    requires { verifier.old.count + 1 < 2 ^ 32 }
+    ensures signs { let w = held_by (C.answers verifier.old.checks.now) trust.now in
+        let f = fields_read signature.now in
+        let is_signed = signs_group w group.now f signature.now.signature in
+        IfOk result (λ o. o ≡ if_true is_signed (signed_of f)) }
+    ensures tried { let w = held_by (C.answers verifier.old.checks.now) trust.now in
+        let f = fields_read signature.now in
+        let is_tried = can_try w group.now.owner (data_in group.now) f in
+        IfOk result (λ _. verifier.new.count ≡ verifier.old.count + one_if is_tried) }
+    ensures counted { C.verified verifier.new.checks.now + verifier.old.count
+        ≡ C.verified verifier.old.checks.now + verifier.new.count }
+    ensures bound { verifier.new.count ≤ verifier.old.count + 1 }
+    ensures hashed { C.hashed verifier.new.checks.now ≡ C.hashed verifier.old.checks.now }
+    ensures same { C.answers verifier.new.checks.now ≡ C.answers verifier.old.checks.now }
+    ensures same_checks { verifier.new.checks.ghost_name ≡ verifier.old.checks.ghost_name }
+{
+    if group.items.is_empty() || !trust.is_due(signature, &group.owner) {
+        return Ok(None);
+    }
+    let Some(key) = trust.key(signature) else {
+        return Ok(None);
+    };
+    write_signed(verifier.alloc, signature, group, verifier.octets)?;
+    verifier.count += 1;
+    if verifier
+        .checks
+        .verify(key.dnskey(), verifier.octets, *signature.signature())
+    {
+        return Ok(Some(signed_of(signature)));
+    }
+    Ok(None)
+}
+
+/// What a signature says beside the RRset and the name.
+fn signed_of(signature: &Signature) -> Signed
+    ensures { result ≡ signed_of (fields_read signature.now) }
+{
+    Signed {
+        algorithm: signature.algorithm(),
+        labels: signature.labels(),
+        ttl: signature.original_ttl(),
+        expiration: signature.expiration().into_int(),
+        inception: signature.inception().into_int(),
+        tag: signature.key_tag(),
+    }
+}
+
+/// Writes what a signature of a group is made over (RFC 4034, 3.1.8.1), in the place of what was there.
+fn write_signed(
+    alloc: Global,
+    signature: &Signature,
+    group: &Group,
+    octets: &mut Vec<u8>,
+) -> Result<(), AllocError>
+    ensures { let f = fields_read signature.now in
+        let signed = signed_octets f group.now.owner 1 (data_in group.now) in
+        OnOk result (octets.new.items ≡ signed) }
+{
+    octets.clear();
+    compose_signed_octets(
+        alloc,
+        signature.proto(),
+        &group.owner,
+        Class::IN,
+        &group.items,
+        octets,
+    )
+}
+
+impl<'a> Trust<'a> {
+    /// Whether a signature is the apex's, holds at the moment, and counts the labels of an owner (RFC 4035, 5.3.1).
+    fn is_due(&self, signature: &Signature, owner: &GroupOwner) -> bool
+        ensures { let f = fields_read signature.now in
+            result ≡ is_due self.now.apex.now self.now.moment owner.now f }
+    {
+        signature.labels() == owner.rrsig_label_count()
+            && in_time(signature, self.moment)
+            && signature.signer_name().name_eq(self.apex)
+    }
+
+    /// The key of a signature's tag and algorithm.
+    fn key(&self, signature: &Signature) -> Option<&TaggedKey<'a>>
+        ensures { let fits = fits_key (fields_read signature.now) in
+            option_map (λ k. k.now) result ≡ find fits self.now.keys.now }
+    {
+        for key in self.keys {
+            if key.tag() == signature.key_tag()
+                && key.dnskey().algorithm() == signature.algorithm()
+            {
+                return Some(key);
+            }
+        }
+        None
+    }
+}
+
+/// Whether a signature holds at a moment (RFC 4034, 3.1.5).
+fn in_time(signature: &Signature, now: u32) -> bool
+    ensures { result ≡ in_time (fields_read signature.now) now }
+{
+    let now = Timestamp::from(now);
+    signature.inception().is_at_or_before(&now) && now.is_at_or_before(&signature.expiration())
+}

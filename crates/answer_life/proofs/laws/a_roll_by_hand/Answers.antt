@@ -1,0 +1,16 @@
+use Rattle.std.proofs.Common.{refl}
+use Rattle.answer_life.proofs.laws.a_roll_by_hand.Goals as goal
+
+pub returns : goal.returns
+returns c = record {
+  all_accepted = refl;
+  shown_behind = refl;
+  unretired = record {
+    in_time = refl;
+    first = refl;
+    ds_lives = refl;
+    dnskey_lives = refl;
+    answer_lives = refl;
+  };
+  retired = refl;
+}

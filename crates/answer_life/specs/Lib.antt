@@ -1,0 +1,5 @@
+pub mod Simulating
+pub mod OneState
+pub mod ThroughRolls
+pub mod ThroughRollsRows
+pub mod Simulations

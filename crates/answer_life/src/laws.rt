@@ -1,0 +1,15 @@
+//! Laws of a zone's key life.
+ghost use Rattle.answer_life.specs.Simulations.{RunsAreSimulations};
+ghost use Rattle.answer_life.specs.ThroughRollsRows.{RollByHand};
+
+/// Whatever outcomes the definitions of a simulation allow of events over an accepted zone, event by event, its judgements
+/// say the zone's verdicts: of things that one state of the keys showed, where its keys meet, and of things that any three
+/// states showed, none of them retired (RFC 6781, 4.1).
+pub fn runs_are_simulations()
+    ensures { RunsAreSimulations }
+{}
+
+/// A roll of a zone signing key, worked through on the definitions: what may be in use together, and what is retired.
+pub fn a_roll_by_hand()
+    ensures { RollByHand }
+{}

@@ -1,0 +1,114 @@
+//! The texts of faults.
+
+use answer::denial::SigningError;
+use answer::keyset::Error;
+use answer::names::LongRecordData;
+use answer::{AnswerFault, HashError, KeyFault, KeyKind, Refusal, SchemeError, ZoneFault};
+use messages::MessageError;
+use session_lines::session::SessionError;
+use std::alloc::Global;
+use std::fmt::Display;
+
+/// The texts of faults, one behind another.
+fn texts<F: Display>(alloc: Global, faults: &[F]) -> Option<String> {
+    let mut text = String::new(alloc);
+    for fault in faults {
+        if !text.is_empty() {
+            text.push_str("; ").ok()?;
+        }
+        text.push_str(&fault.to_string(alloc).ok()?).ok()?;
+    }
+    Some(text)
+}
+
+/// The texts of the faults of a kind, in the order in which its enum has them.
+pub fn faults(alloc: Global, kind: &str) -> Option<String> {
+    match kind {
+        "zone" => texts(alloc, &zone_faults()),
+        "chain" => texts(alloc, &chain_faults()),
+        "hash" => texts(alloc, &[HashError::Failed, HashError::Memory]),
+        "scheme" => texts(alloc, &[SchemeError::Failed, SchemeError::Memory]),
+        "data" => texts(alloc, &[LongRecordData]),
+        "answer" => texts(alloc, &answer_faults()),
+        "key" => texts(alloc, &key_faults()),
+        "judge" => texts(alloc, &refusals()),
+        "message" => texts(alloc, &message_errors()),
+        "session" => texts(alloc, &[SessionError::Line(7), SessionError::Memory]),
+        _ => None,
+    }
+}
+
+fn zone_faults() -> [ZoneFault; 10] {
+    [
+        ZoneFault::WrongClass,
+        ZoneFault::OutsideApex,
+        ZoneFault::SignedType,
+        ZoneFault::Alias,
+        ZoneFault::MetaType,
+        ZoneFault::StarNs,
+        ZoneFault::NotYet,
+        ZoneFault::IterationsOverLimit,
+        ZoneFault::Chain(SigningError::NoSingleSoa),
+        ZoneFault::Memory,
+    ]
+}
+
+fn chain_faults() -> [SigningError; 6] {
+    [
+        SigningError::NoSingleSoa,
+        SigningError::MultipleTtlValues,
+        SigningError::HashFailed,
+        SigningError::HashTooLong,
+        SigningError::HashCollision,
+        SigningError::Memory,
+    ]
+}
+
+fn answer_faults() -> [AnswerFault; 5] {
+    [
+        AnswerFault::QuestionNotAllowed,
+        AnswerFault::HashFailed,
+        AnswerFault::SignFailed,
+        AnswerFault::TooLong,
+        AnswerFault::Memory,
+    ]
+}
+
+fn key_faults() -> [KeyFault; 4] {
+    [
+        KeyFault::ReferenceBound,
+        KeyFault::DigestFailed,
+        KeyFault::Key(Error::KeyNotFound),
+        KeyFault::Memory,
+    ]
+}
+
+fn refusals() -> [Refusal; 11] {
+    [
+        Refusal::QuestionNotAllowed,
+        Refusal::BadDnskeyMessage,
+        Refusal::BadAnswerMessage,
+        Refusal::QuestionMismatch,
+        Refusal::EqualTags,
+        Refusal::NoTrustedKey,
+        Refusal::MixedNsec3Parameters,
+        Refusal::IterationsOverLimit,
+        Refusal::HashFailed,
+        Refusal::NotProven,
+        Refusal::Memory,
+    ]
+}
+
+fn message_errors() -> [MessageError; 3] {
+    [
+        MessageError::ShortInput,
+        MessageError::Form,
+        MessageError::NotOneQuestion,
+    ]
+}
+
+/// The flags of a key signing key and of a zone signing key.
+pub fn flags(alloc: Global) -> Option<String> {
+    let (ksk, zsk) = (KeyKind::Ksk.flags(), KeyKind::Zsk.flags());
+    format!(in alloc; "{ksk} {zsk}").ok()
+}

@@ -1,0 +1,163 @@
+//! Judgements.
+ghost use Rattle.std.specs.Prelude.{◌≡◌, ◌<◌};
+
+use crate::desk::Desk;
+use crate::scheme::{TestScheme, WELL};
+use crate::shown::question;
+use crate::words::{listed, moment, name_of, printed, refused, yes_or_no};
+use answer::{
+    Case, Class, DataList, DigestAlgorithm, Ds, Judgement, Name, Question, Refused, Rtype,
+    SchemeChecks, SecurityAlgorithm, UnixTime, Verdict, is_allowed, judge, judge_with,
+};
+use std::alloc::Global;
+use std::marker::Brand;
+use std::sync::ledger::{Blank, Ledger};
+
+/// What is judged, beside the messages.
+#[derive(Drop)]
+struct Asked {
+    apex: Name<Vec<u8>>,
+    set: Vec<Ds<Vec<u8>>>,
+    question: Question,
+    now: UnixTime,
+}
+
+impl Asked {
+    fn read(alloc: Global, words: &[&str]) -> Option<Asked> {
+        let [apex, set, name, rtype, now] = words else {
+            return None;
+        };
+        Some(Asked {
+            apex: name_of(alloc, apex)?,
+            set: ds_set(alloc, set)?,
+            question: question(alloc, name, rtype)?,
+            now: moment(now)?,
+        })
+    }
+
+    /// The same beside the messages that are held.
+    fn beside<'a>(&'a self, desk: &'a Desk) -> Case<'a> {
+        Case {
+            apex: &self.apex,
+            ds: &self.set,
+            dnskey: &desk.keys,
+            answer: &desk.answer,
+            question: &self.question,
+            moment: self.now,
+            limit: 0,
+        }
+    }
+}
+
+/// DS records of tags and digest types, as `1054:2`, of algorithm 13 and the digest that the scheme makes.
+fn ds_set(alloc: Global, list: &str) -> Option<Vec<Ds<Vec<u8>>>> {
+    let mut set = Vec::new(alloc);
+    for word in &listed(alloc, list)? {
+        let (tag, digest_type) = word.split_once(':')?;
+        let digest_type = DigestAlgorithm::from_int(digest_type.parse::<u8>().ok()?);
+        let ecdsa = SecurityAlgorithm::ECDSAP256SHA256;
+        let digest = b"\x07".to_vec(alloc).ok()?;
+        set.push(Ds::new(tag.parse::<u16>().ok()?, ecdsa, digest_type, digest).ok()?)
+            .ok()?;
+    }
+    Some(set)
+}
+
+fn by_scheme(alloc: Global, case: &Case) -> Result<Judgement, Refused> {
+    judge_with(alloc, WELL, WELL, case)
+}
+
+fn by_checks<L: Ledger, M: Ledger>(
+    alloc: Global,
+    case: &Case,
+    first: Blank,
+    second: Blank,
+) -> Result<Judgement, Refused>
+    requires name { first.name ≡ L.name }
+    requires parts { first.parts ≡ L.parts }
+    requires some { 0 < L.parts }
+    requires second_name { second.name ≡ M.name }
+    requires second_parts { second.parts ≡ M.parts }
+    requires second_some { 0 < M.parts }
+{
+    let mut checks = SchemeChecks::<TestScheme, TestScheme, L, M>::new(WELL, WELL, first, second);
+    judge(
+        alloc,
+        case.apex,
+        case.ds,
+        case.dnskey,
+        case.answer,
+        case.question,
+        &case.moment,
+        &mut checks,
+        case.limit,
+    )
+}
+
+fn counted(alloc: Global, case: &Case) -> Result<Judgement, Refused> {
+    by_checks::<Brand, Brand>(alloc, case, Blank::new(1), Blank::new(1))
+}
+
+/// What `judge_with` and `judge` say of the messages that are held, where they say the same.
+pub fn judged(alloc: Global, desk: &Desk, words: &[&str]) -> Option<String> {
+    let asked = Asked::read(alloc, words)?;
+    let case = asked.beside(desk);
+    let said = outcome(alloc, &by_scheme(alloc, &case))?;
+    let other = outcome(alloc, &counted(alloc, &case))?;
+    if said.as_str() != other.as_str() {
+        return format!(in alloc; "{said}, but by counts {other}").ok();
+    }
+    Some(said)
+}
+
+/// What was answered, and how often was verified and hashed.
+fn outcome(alloc: Global, judged: &Result<Judgement, Refused>) -> Option<String> {
+    let (said, verifications, hashes) = match judged {
+        Ok(judgement) => (
+            verdict(alloc, &judgement.verdict)?,
+            judgement.verifications,
+            judgement.hashes,
+        ),
+        Err(answer) => (
+            refused(alloc, &answer.refusal)?,
+            answer.verifications,
+            answer.hashes,
+        ),
+    };
+    format!(in alloc; "{said}; {verifications} verified, {hashes} hashed").ok()
+}
+
+fn verdict(alloc: Global, verdict: &Verdict) -> Option<String> {
+    match verdict {
+        Verdict::Records(list) => with_data(alloc, "records", list),
+        Verdict::NoType => String::from_str(alloc, "no type").ok(),
+        Verdict::NoName => String::from_str(alloc, "no name").ok(),
+        Verdict::StarRecords(list) => with_data(alloc, "records of a wildcard", list),
+        Verdict::StarNoType => String::from_str(alloc, "no type at a wildcard").ok(),
+        Verdict::Delegated => String::from_str(alloc, "delegated").ok(),
+        Verdict::Open => String::from_str(alloc, "open").ok(),
+        Verdict::Unsigned => String::from_str(alloc, "unsigned").ok(),
+    }
+}
+
+fn with_data(alloc: Global, word: &str, list: &DataList) -> Option<String> {
+    let mut text = String::from_str(alloc, word).ok()?;
+    for octets in list.as_slice() {
+        text.push(' ').ok()?;
+        text.push_str(&printed(alloc, octets)?).ok()?;
+    }
+    Some(text)
+}
+
+/// Whether a question is allowed.
+pub fn allowed(alloc: Global, words: &[&str]) -> Option<String> {
+    let [apex, name, rtype, class] = words else {
+        return None;
+    };
+    let question = Question {
+        name: name_of(alloc, name)?,
+        rtype: Rtype::from_int(rtype.parse::<u16>().ok()?),
+        class: Class::from_int(class.parse::<u16>().ok()?),
+    };
+    yes_or_no(alloc, is_allowed(&name_of(alloc, apex)?, &question))
+}

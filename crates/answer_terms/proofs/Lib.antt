@@ -1,0 +1,13 @@
+pub mod ZoneServed
+pub mod ZoneChains
+pub mod ZoneData
+pub mod OneLink
+pub mod ZonePlain
+pub mod ZoneRising
+pub mod ZoneAnswers
+pub mod LinkLists
+pub mod TagPlaces
+pub mod KeyData
+pub mod AllowedTypes
+pub mod GivenTold
+pub mod ToldAlike

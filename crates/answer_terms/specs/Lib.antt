@@ -1,0 +1,11 @@
+pub mod Accepting
+pub mod Served
+pub mod Links
+pub mod ZoneView
+pub mod GroupView
+pub mod Hashing
+pub mod Asking
+pub mod EqualTags
+pub mod Given
+pub mod Told
+pub mod Alike

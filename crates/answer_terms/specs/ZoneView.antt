@@ -1,0 +1,26 @@
+-- How an accepted zone is seen.
+use Rattle.std.specs.Prelude.{ℕ, List, Bool, true, false, ◌&&◌, ◌||◌, ◌==◌, ◌≡◌, length}
+use Rattle.std.specs.List.{AllByRecursion}
+use Rattle.std.specs.List.Sorted.{IsStrictlySortedBy}
+use Rattle.definitions.specs.Name.{Name, at_or_above, strictly_above, same}
+use Rattle.definitions.specs.ZoneChain.{Mode}
+use Rattle.messages.specs.HandedRr.{HandedRr, has_star}
+use Rattle.answer_terms.specs.Accepting.{record_cmp, soas}
+
+-- what is known of the records of an accepted zone, in order
+pub record IsPublished (apex : Name) (rs : List HandedRr) : Type 0 where
+  pub rising : IsStrictlySortedBy record_cmp rs
+  pub inside : AllByRecursion (λ r. at_or_above apex r.owner ≡ true) rs
+  pub plain : AllByRecursion (λ r. (((r.rtype == 2) && strictly_above apex r.owner) || has_star r.owner) ≡ false) rs
+  pub soa : length (soas apex rs) ≡ 1
+
+-- an accepted zone
+pub record AcceptedZone : Type 0 where
+  pub apex : Name
+  pub mode : Mode
+  pub limit : ℕ
+  pub records : List HandedRr
+
+-- a record is of a name, up to case, and a type
+abbrev pub is_of : Name → ℕ → HandedRr → Bool
+is_of name t r = same r.owner name && (r.rtype == t)

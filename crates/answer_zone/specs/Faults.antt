@@ -1,0 +1,44 @@
+-- Why a list of records is refused.
+use Rattle.std.specs.Prelude.{◌≡◌, ◌⊎◌, ℕ, List, length, Option, Some, None, IsTrue, if◌then◌else◌}
+use Rattle.std.specs.List.{list_any}
+use Rattle.definitions.specs.Name.{Name}
+use Rattle.definitions.specs.ZoneChain.{Mode, optout_of}
+use Rattle.messages.specs.HandedRr.{HandedRr, is_meta}
+use Rattle.answer_terms.specs.Accepting.{delegates_star, has_unlike_ttls, is_added_by_signing, is_alias, is_cut_or_star, is_of_other_class, is_outside, over_limit, soas, sorted_records, zone_of}
+use Rattle.answer_zone.specs.declared.fault.ZoneFault.{ZoneFault}
+use Rattle.answer_zone.specs.declared.fault.ZoneFault.TheVariants as fault
+use Rattle.denial_owners.specs.declared.error.SigningError.{SigningError}
+use Rattle.denial_owners.specs.declared.error.SigningError.TheVariants as chain
+
+-- the first fault of the list itself
+abbrev pub first_fault : Name → Mode → ℕ → List HandedRr → Option ZoneFault
+first_fault apex mode limit rs =
+    if list_any is_of_other_class rs then Some fault.WrongClass
+    else if list_any (is_outside apex) rs then Some fault.OutsideApex
+    else if list_any is_added_by_signing rs then Some fault.SignedType
+    else if list_any is_alias rs then Some fault.Alias
+    else if list_any is_meta rs then Some fault.MetaType
+    else if list_any delegates_star rs then Some fault.StarNs
+    else if list_any (is_cut_or_star apex) rs then Some fault.NotYet
+    else if over_limit mode limit then Some fault.IterationsOverLimit
+    else None
+
+-- a fault of the chain whose condition holds, in Nsec mode
+abbrev pub IsChainFault : Name → Mode → List HandedRr → SigningError → Type 0
+IsChainFault apex mode rs chain.NoSingleSoa = length (soas apex (sorted_records rs)) ≡ 1 → ⊥
+IsChainFault apex mode rs chain.MultipleTtlValues = IsTrue (has_unlike_ttls (zone_of apex rs) (optout_of mode) (sorted_records rs))
+IsChainFault apex mode rs _ = ⊥
+
+-- a fault that may be answered: the first of the list itself, else any of the chain
+abbrev pub IsFault : Name → Mode → ℕ → List HandedRr → ZoneFault → Type 0
+IsFault apex mode limit rs (fault.Chain e) = (first_fault apex mode limit rs ≡ None) × IsChainFault apex mode rs e
+IsFault apex mode limit rs f = first_fault apex mode limit rs ≡ Some f
+
+-- why a list may be refused: a fault, or want of memory, which only a list without a fault of its own can meet
+abbrev pub RefusesZone : Name → Mode → ℕ → List HandedRr → ZoneFault → Type 0
+RefusesZone apex mode limit rs f = ((f ≡ fault.Memory) × (first_fault apex mode limit rs ≡ None)) ⊎ IsFault apex mode limit rs f
+
+-- why a chain was refused, as a fault of the zone: want of memory is none of the chain
+abbrev pub zone_fault : SigningError → ZoneFault
+zone_fault chain.Memory = fault.Memory
+zone_fault e = fault.Chain e

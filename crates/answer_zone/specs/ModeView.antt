@@ -1,0 +1,8 @@
+-- How the mode of a zone's chain is seen.
+use Rattle.definitions.specs.ZoneChain.{Mode}
+use Rattle.definitions.specs.ZoneChain as chain
+use Rattle.answer_zone.specs.declared.fault.Mode as declared
+use Rattle.answer_zone.specs.declared.fault.Mode.TheVariants.{Nsec}
+
+abbrev pub mode_of : declared.Mode → Mode
+mode_of Nsec = chain.Nsec

@@ -1,0 +1,189 @@
+//! Zones that are accepted or refused, and their answers.
+
+use crate::words::{name_of, octets_of, printed, refused, text, wire_of, words, yes_or_no};
+use answer_zone::fault::Mode;
+use answer_zone::group::RrGroup;
+use answer_zone::zone::ZoneRecords;
+use answer_zone::zone::answers::ZoneAnswer;
+use messages::names::{Name, copy_name};
+use messages::record::ZoneRecord;
+use names::{Rtype, Serial, UnknownRecordData};
+use plain::record::Record;
+use plain::soa::Soa;
+use plain::zone_data::ZoneRecordData;
+use plain::{Class, Ttl};
+use std::alloc::Global;
+
+/// The records of a zone while its lines are read, and the zone that was accepted.
+#[derive(Drop)]
+pub struct Section {
+    apex: Option<Name<Vec<u8>>>,
+    records: Vec<ZoneRecord>,
+    zone: Option<ZoneRecords>,
+}
+
+impl Section {
+    pub fn new(alloc: Global) -> Section {
+        Section {
+            apex: None,
+            records: Vec::new(alloc),
+            zone: None,
+        }
+    }
+
+    /// A line of a zone, or one that asks something of it.
+    pub fn reply(&mut self, alloc: Global, name: &str, rest: &str) -> Option<String> {
+        let words = words(alloc, rest)?;
+        match (name, words.as_slice()) {
+            ("zone", [apex]) => self.begin(alloc, apex),
+            ("soa", [serial]) => self.put(alloc, soa(alloc, self.apex.as_ref()?, serial)?),
+            ("rr", [owner, class, ttl, rtype, octets]) => {
+                let octets = octets_of(alloc, octets)?;
+                self.put(alloc, record(alloc, owner, class, ttl, rtype, octets)?)
+            }
+            ("accept", _) => self.accept(alloc),
+            ("ask", [name, rtype]) => self.ask(alloc, name, rtype),
+            ("has", [name, rtype]) => self.has(alloc, name, rtype),
+            ("exists", [name]) => self.exists(alloc, name),
+            ("ttl", [name, rtype]) => self.ttl(alloc, name, rtype),
+            ("apex", _) => self.of_apex(alloc),
+            _ => None,
+        }
+    }
+
+    /// Begins a zone without records.
+    fn begin(&mut self, alloc: Global, apex: &str) -> Option<String> {
+        self.apex = Some(name_of(alloc, apex)?);
+        self.records.clear();
+        self.zone = None;
+        text(alloc, "ok")
+    }
+
+    fn put(&mut self, alloc: Global, record: ZoneRecord) -> Option<String> {
+        self.records.push(record).ok()?;
+        text(alloc, "ok")
+    }
+
+    /// Makes the zone of the records so far.
+    fn accept(&mut self, alloc: Global) -> Option<String> {
+        let records = std::mem::replace(&mut self.records, Vec::new(alloc));
+        match ZoneRecords::new(alloc, self.apex.take()?, records, Mode::Nsec, 0) {
+            Ok(zone) => {
+                self.zone = Some(zone);
+                text(alloc, "ok")
+            }
+            Err(fault) => refused(alloc, &fault),
+        }
+    }
+
+    fn has(&self, alloc: Global, name: &str, rtype: &str) -> Option<String> {
+        let (name, rtype) = (name_of(alloc, name)?, rtype_of(rtype)?);
+        text(alloc, yes_or_no(self.zone.as_ref()?.has(&name, rtype)))
+    }
+
+    fn exists(&self, alloc: Global, name: &str) -> Option<String> {
+        let name = name_of(alloc, name)?;
+        text(alloc, yes_or_no(self.zone.as_ref()?.exists(&name)))
+    }
+
+    /// The TTL of an RRset.
+    fn ttl(&self, alloc: Global, name: &str, rtype: &str) -> Option<String> {
+        let (name, rtype) = (name_of(alloc, name)?, rtype_of(rtype)?);
+        let ttl = self.zone.as_ref()?.ttl_at(&name, rtype);
+        ttl.as_secs().to_string(alloc).ok()
+    }
+
+    /// The apex, and the TTL of its SOA record.
+    fn of_apex(&self, alloc: Global) -> Option<String> {
+        let zone = self.zone.as_ref()?;
+        let (apex, ttl) = (wire_of(alloc, zone.apex())?, zone.soa_ttl().as_secs());
+        format!(in alloc; "{apex} {ttl}").ok()
+    }
+
+    /// The answer to a question; none of the types of a chain is asked for.
+    fn ask(&self, alloc: Global, name: &str, rtype: &str) -> Option<String> {
+        let (name, rtype) = (name_of(alloc, name)?, rtype_of(rtype)?);
+        if rtype.to_int() == 47 || rtype.to_int() == 50 {
+            return None;
+        }
+        let answer = self.zone.as_ref()?.answer_to(alloc, &name, rtype).ok()?;
+        answer_text(alloc, &answer)
+    }
+}
+
+fn rtype_of(word: &str) -> Option<Rtype> {
+    Some(Rtype::from_int(word.parse::<u16>().ok()?))
+}
+
+/// A record with opaque data.
+fn record(
+    alloc: Global,
+    owner: &str,
+    class: &str,
+    ttl: &str,
+    rtype: &str,
+    octets: Vec<u8>,
+) -> Option<ZoneRecord> {
+    let class = Class::from_int(class.parse::<u16>().ok()?);
+    let ttl = Ttl::from_secs(ttl.parse::<u32>().ok()?);
+    let data = UnknownRecordData::from_octets(rtype_of(rtype)?, octets).ok()?;
+    let data = ZoneRecordData::Unknown(data);
+    Some(Record::new(name_of(alloc, owner)?, class, ttl, data))
+}
+
+/// The SOA record of an apex, which is its server and its keeper too, of TTL 3600 and minimum 300.
+fn soa(alloc: Global, apex: &Name<Vec<u8>>, serial: &str) -> Option<ZoneRecord> {
+    let data = Soa::new(
+        copy_name(alloc, apex).ok()?,
+        copy_name(alloc, apex).ok()?,
+        Serial(serial.parse::<u32>().ok()?),
+        Ttl::from_secs(3600),
+        Ttl::from_secs(600),
+        Ttl::from_secs(86400),
+        Ttl::from_secs(300),
+    );
+    let data = ZoneRecordData::Soa(data);
+    Some(Record::new(
+        copy_name(alloc, apex).ok()?,
+        Class::IN,
+        Ttl::from_secs(3600),
+        data,
+    ))
+}
+
+fn answer_text(alloc: Global, found: &ZoneAnswer) -> Option<String> {
+    let mut text = printed(alloc, found.flags.to_be_bytes().as_slice())?;
+    push_groups(alloc, &mut text, "answer", &found.answer)?;
+    push_groups(alloc, &mut text, "authority", &found.authority)?;
+    Some(text)
+}
+
+fn push_groups(alloc: Global, text: &mut String, section: &str, groups: &[RrGroup]) -> Option<()> {
+    for group in groups {
+        text.push_str("; ").ok()?;
+        text.push_str(section).ok()?;
+        push_group(alloc, text, group)?;
+    }
+    Some(())
+}
+
+/// Appends owner, type, TTL and label count of an RRset, its data as written and in canonical form.
+fn push_group(alloc: Global, text: &mut String, group: &RrGroup) -> Option<()> {
+    let owner = wire_of(alloc, group.owner())?;
+    let (rtype, ttl) = (group.rtype().to_int(), group.ttl().as_secs());
+    let (labels, signed) = (group.label_count(), yes_or_no(group.is_signed()));
+    write!(text, " {owner} {rtype} {ttl} of {labels}, signed {signed}:").ok()?;
+    for record in group.records() {
+        push_octets(alloc, text, &record.octets)?;
+    }
+    text.push_str(" as").ok()?;
+    for octets in group.canonical() {
+        push_octets(alloc, text, octets)?;
+    }
+    Some(())
+}
+
+fn push_octets(alloc: Global, text: &mut String, octets: &[u8]) -> Option<()> {
+    text.push(' ').ok()?;
+    text.push_str(&printed(alloc, octets)?).ok()
+}

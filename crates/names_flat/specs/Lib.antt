@@ -1,4 +1,0 @@
-pub mod Dotted
-pub mod Feed
-pub mod Laws
-pub mod Suffixes

@@ -1,0 +1,5 @@
+pub mod Blocks
+pub mod Classes
+pub mod Decoding
+pub mod Refusing
+pub mod Types
