@@ -1,5 +1,5 @@
 -- What a judge takes from two messages, and what follows from it (RFC 4034, 3 and 4; RFC 4035, 5; RFC 4592).
-use Rattle.std.specs.Prelude.{◌≡◌, MatchBool, ℕ, ◌/◌, ◌%◌, Bool, true, false, not, ◌&&◌, ◌||◌, ◌==◌, List, [], ◌∷◌, length, Option, Some, None, nat_eq, nat_lt}
+use Rattle.std.specs.Prelude.{◌≡◌, MatchBool, ℕ, ◌/◌, ◌%◌, Bool, true, false, not, ◌&&◌, ◌||◌, ◌==◌, List, [], ◌∷◌, length, Option, Some, None, nat_eq, nat_le, nat_lt}
 use Rattle.std.specs.List.{find, list_any}
 use Rattle.std.specs.Str.{bytes_eq}
 use Rattle.definitions.specs.Name.{Name, same, at_or_above, strictly_above, wire_len}
@@ -33,9 +33,21 @@ is_trusted a apex ds k = is_usable k && list_any (names_key a apex k) ds
 
 -- ---- signatures
 
--- the apex's signature, in time, with the labels of the owner (RFC 4035, 5.3.1)
+-- Records of a chain stand under their own owner alone: a wildcard's, replayed under another name, would pass for a record
+-- of that name (RFC 4592, 4.6; RFC 4035, 5.4).
+abbrev pub may_expand : ℕ → Bool
+may_expand t = not (t == 47) && not (t == 50)
+
+-- The labels of the owner, or fewer: then the RRset is a wildcard's, which does not stand above the apex (RFC 4035, 5.3.1 and
+-- 5.3.2).
+abbrev pub labels_fit : Name → Name → Fields → Bool
+labels_fit apex owner f =
+    (f.labels == label_count owner)
+    || (may_expand f.covered && nat_lt f.labels (label_count owner) && nat_le (length apex) f.labels)
+
+-- the apex's signature, in time, with labels that fit the owner (RFC 4035, 5.3.1)
 abbrev pub is_due : Name → ℕ → Name → Fields → Bool
-is_due apex now owner f = (f.labels == label_count owner) && in_time f now && same f.signer apex
+is_due apex now owner f = labels_fit apex owner f && in_time f now && same f.signer apex
 
 abbrev pub fits_key : Fields → Dnskey → Bool
 fits_key f k = (key_tag k == f.tag) && (k.algorithm == f.algorithm)

@@ -8,7 +8,7 @@ use Rattle.answer_scheme.specs.Answers.{Answers}
 use Rattle.answer_judge.specs.Counted.{can_try, one_if}
 use Rattle.definitions.specs.Signing.{Fields}
 use Rattle.answer_judge.specs.Facts.{is_signature, signs}
-use Rattle.answer_rules.specs.Rules.{Link}
+use Rattle.denial_rules.specs.Facts.{Link, Rrset}
 use Rattle.messages.specs.Message.{Spelled, if_true, rrsig_at}
 use Rattle.answer_judge.specs.Verified.{Trusting, verified_by, rrset_in, link_of}
 use Rattle.answer_judge.specs.declared.judging.groups.Signed.{Signed}
@@ -119,7 +119,7 @@ pub record AreGathered (m : List ℕ) (apex : Name) (rs some : List Spelled) (gs
 abbrev pub link_by : List ℕ → List Group → Spelled → Option Link
 link_by m gs r = elim (is_nsec r && list_any (is_proved r.owner) gs) [ true ↦ link_of pointer_limit m r | false ↦ None ]
 
--- the data of a group that is verified
-abbrev pub data_verified : Option Group → Option (List (List ℕ))
-data_verified None = None
-data_verified (Some g) = if_true (is_some g.verified) (data_in g)
+-- a group that is verified, with the label count of its signature
+abbrev pub rrset_verified : Option Group → Option Rrset
+rrset_verified None = None
+rrset_verified (Some g) = option_map (λ s. record { datas = data_in g; labels = s.labels }) g.verified

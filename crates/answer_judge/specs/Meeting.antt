@@ -5,7 +5,7 @@ use Rattle.definitions.specs.Name.{Name, IsName}
 use Rattle.definitions.specs.Dnskey.{Dnskey, Ds, key_tag, digested}
 use Rattle.definitions.specs.Serial.{serial_le}
 use Rattle.definitions.specs.Zone.{verdict}
-use Rattle.definitions.specs.ZoneChain.{Nsec}
+use Rattle.definitions.specs.ZoneChain.{Mode, Nsec, optout_of}
 use Rattle.messages.specs.HandedRr.{HandedRr}
 use Rattle.answer_terms.specs.Accepting.{IsAccepted, sorted_records, zone_of}
 use Rattle.answer_scheme.specs.Answers.{Answers}
@@ -19,7 +19,7 @@ use Rattle.answer_judge.specs.declared.judging.verdict.Judgement.{Judgement}
 use Rattle.answer_judge.specs.declared.judging.verdict.Refused.{Refused}
 use Rattle.answer_judge.specs.Judged.{AnswersAs, judged}
 use Rattle.answer_judge.specs.Counted.{Counts, verifications_due}
-use Rattle.answer_terms.specs.Hashing.{served}
+use Rattle.answer_terms.specs.Hashing.{HashesHold, served}
 use Rattle.answer_terms.specs.Served.{Served}
 use Rattle.messages.specs.WrittenLaws.{IsQuestion}
 use Rattle.answer_terms.specs.ZoneView.{AcceptedZone}
@@ -49,17 +49,17 @@ pub record Meet (parents present keysigners zonesigners : List Dnskey) : Type 0 
 abbrev pub holds : ℕ → ℕ → ℕ → Bool
 holds at life now = serial_le (at % 4294967296) now && serial_le now ((at + life) % 4294967296)
 
--- the zone that records spell, as it is published
-abbrev pub zone_from : Name → ℕ → List HandedRr → AcceptedZone
-zone_from apex limit rs = record { apex = apex; mode = Nsec; limit = limit; records = sorted_records rs }
+-- the zone that records spell, as it is published with a chain
+abbrev pub zone_from : Name → Mode → ℕ → List HandedRr → AcceptedZone
+zone_from apex mode limit rs = record { apex = apex; mode = mode; limit = limit; records = sorted_records rs }
 
 -- how it is served
-abbrev pub served_from : Answers → Handing → List HandedRr → Served
-served_from a h rs = served a.hash (zone_from h.apex h.limit rs)
+abbrev pub served_from : Answers → Handing → Mode → List HandedRr → Served
+served_from a h mode rs = served a.hash (zone_from h.apex mode h.limit rs)
 
--- What is handed in was given by the zone of these records: the DS set of the keys at the parent, a DNSKEY answer and
--- a zone answer of keys that meet, whose signatures hold.
-pub record WasGiven (a : Answers) (k : ℕ) (h : Handing) (rs : List HandedRr) : Type 0 where
+-- What is handed in was given by the zone of these records and this chain: the DS set of the keys at the parent, a DNSKEY
+-- answer and a zone answer of keys that meet, whose signatures hold. Chains of hashes are not judged yet.
+pub record WasGiven (a : Answers) (k : ℕ) (h : Handing) (mode : Mode) (rs : List HandedRr) : Type 0 where
   pub parents : List Dnskey
   pub present : List Dnskey
   pub keysigners : List Dnskey
@@ -69,7 +69,9 @@ pub record WasGiven (a : Answers) (k : ℕ) (h : Handing) (rs : List HandedRr) :
   pub answer_at : ℕ
   pub apex_is : IsName h.apex
   pub records_are : AllByRecursion IsHanded rs
-  pub accepted : IsAccepted h.apex Nsec h.limit rs
+  pub accepted : IsAccepted h.apex mode h.limit rs
+  pub of_names : mode ≡ Nsec
+  pub hashes : HashesHold a.hash mode (zone_of h.apex rs) h.asked.name
   pub asked_is : IsQuestion h.asked
   pub allowed : is_allowed h.apex h.asked ≡ true
   pub keys_are : AllByRecursion IsZoneKey present
@@ -78,14 +80,16 @@ pub record WasGiven (a : Answers) (k : ℕ) (h : Handing) (rs : List HandedRr) :
   pub present_tags : has_equal_tags present ≡ false
   pub keysigner_tags : has_equal_tags keysigners ≡ false
   pub zonesigner_tags : has_equal_tags zonesigners ≡ false
-  pub keys_told : TellsKeys a.verifies k (served_from a h rs) h.apex present keysigners keys_at life h.dnskey_bytes
-  pub answer_told : TellsAnswer a.verifies k (served_from a h rs) h.apex zonesigners answer_at life h.asked h.answer_bytes
+  pub keys_told : TellsKeys a.verifies k (served_from a h mode rs) h.apex present keysigners keys_at life h.dnskey_bytes
+  pub answer_told : TellsAnswer a.verifies k (served_from a h mode rs) h.apex zonesigners answer_at life h.asked h.answer_bytes
   pub keys_hold : holds keys_at life h.now ≡ true
   pub answer_holds : holds answer_at life h.now ≡ true
 
 -- the answer is the zone's verdict
 abbrev pub AnswersGiven : Answers → ℕ → Handing → Answer → Type 0
-AnswersGiven a k h answer = (rs : List HandedRr) → WasGiven a k h rs → AnswersAs answer (Says (verdict (zone_of h.apex rs) false h.asked.name h.asked.rtype))
+AnswersGiven a k h answer =
+    (mode : Mode) (rs : List HandedRr) → WasGiven a k h mode rs
+    → AnswersAs answer (Says (verdict (zone_of h.apex rs) (optout_of mode) h.asked.name h.asked.rtype))
 
 -- A judgement: what it keeps whatever is handed in, what it says of the two messages, and the verdict of a zone that gave
 -- them. The first argument is how many pointers may be followed in a name.

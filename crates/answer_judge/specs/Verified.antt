@@ -1,5 +1,5 @@
 -- What signatures of a message verify (RFC 4035, 5.3).
-use Rattle.std.specs.Prelude.{ℕ, Bool, true, false, ◌&&◌, ◌==◌, List, length, Option, Some, None}
+use Rattle.std.specs.Prelude.{ℕ, Bool, true, false, ◌&&◌, ◌==◌, List, [], length, Option, Some, None}
 use Rattle.std.specs.List.{filter_map, list_any}
 use Rattle.std.specs.Option.{option_map}
 use Rattle.definitions.specs.Name.{Name, same, at_or_above}
@@ -7,7 +7,8 @@ use Rattle.definitions.specs.Dnskey.{Dnskey}
 use Rattle.definitions.specs.Zone.{sorted_data}
 use Rattle.answer_scheme.specs.Answers.{Answers}
 use Rattle.answer_judge.specs.Facts.{is_signature, signs}
-use Rattle.answer_rules.specs.Rules.{Link, first_some}
+use Rattle.denial_rules.specs.Facts.{Facts, Link, Rrset}
+use Rattle.denial_rules.specs.NsecRules.{first_some}
 use Rattle.definitions.specs.Signing.{Fields}
 use Rattle.messages.specs.Message.{Spelled, canonical_data, rrsig_at, nsec_at}
 
@@ -48,9 +49,11 @@ verified_with w k m owner t items r = elim (verifies_with w k m owner t items r)
 abbrev pub verified_by : Trusting → ℕ → List ℕ → List Spelled → Name → ℕ → List (List ℕ) → Option Fields
 verified_by w k m rs owner t items = first_some (verified_with w k m owner t items) rs
 
--- the RRset that was asked for, where it is verified
-abbrev pub verified_rrset : Trusting → ℕ → List ℕ → List Spelled → Name → ℕ → Option (List (List ℕ))
-verified_rrset w k m rs owner t = elim (is_verified w k m rs owner t (rrset_in k m rs owner t)) [ true ↦ Some (rrset_in k m rs owner t) | false ↦ None ]
+-- the RRset that was asked for, where it is verified, with the label count of the first signature that verifies it
+abbrev pub verified_rrset : Trusting → ℕ → List ℕ → List Spelled → Name → ℕ → Option Rrset
+verified_rrset w k m rs owner t =
+    let items = rrset_in k m rs owner t in
+    option_map (λ f. record { datas = items; labels = f.labels }) (verified_by w k m rs owner t items)
 
 -- an NSEC record of class IN at or below the apex, the only one of its RRset, which is verified
 abbrev pub is_link : Trusting → ℕ → List ℕ → List Spelled → Spelled → Bool
@@ -68,3 +71,7 @@ link_at w k m rs r = elim (is_link w k m rs r) [ true ↦ link_of k m r | false 
 -- the links that a message proves, in order
 abbrev pub verified_links : Trusting → ℕ → List ℕ → List Spelled → List Link
 verified_links w k m rs = filter_map (link_at w k m rs) rs
+
+-- all facts of a message on a question; links of a chain of hashes are not read
+abbrev pub verified_facts : Trusting → ℕ → List ℕ → List Spelled → Name → ℕ → Facts
+verified_facts w k m rs q t = record { rrset = verified_rrset w k m rs q t; links = verified_links w k m rs; hash_links = [] }

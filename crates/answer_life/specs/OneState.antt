@@ -1,6 +1,7 @@
 -- What a judgement says of things that were given in one state of the keys.
 use Rattle.std.specs.Prelude.{◌≡◌, ℕ, true, false, List, [], ◌∷◌, ◌++◌, Some, slice_get}
 use Rattle.definitions.specs.Zone.{verdict}
+use Rattle.definitions.specs.ZoneChain.{optout_of}
 use Rattle.answer_events.specs.declared.event.Event.{Event}
 use Rattle.answer_events.specs.declared.event.Act.{Act}
 use Rattle.answer_events.specs.declared.event.Act.TheVariants as act
@@ -9,6 +10,7 @@ use Rattle.answer_life.specs.declared.outcome.Outcome.TheVariants as outcome
 use Rattle.answer_publisher.specs.declared.keys.Publication.TheVariants as publication
 use Rattle.messages.specs.HandedRr.{HandedRr}
 use Rattle.answer_terms.specs.Accepting.{zone_of}
+use Rattle.answer_terms.specs.Hashing.{HashesHold}
 use Rattle.answer_publisher.specs.Bindings.{ZoneKeys, dnskeys, published}
 use Rattle.answer_judge.specs.Judged.{AnswersAs}
 use Rattle.answer_judge.specs.Judging.{Says, answer_of}
@@ -52,13 +54,15 @@ VerdictAt w rs ms s at (act.Judge ds dnskey answer) (outcome.Judged j) =
     → slice_get ms ds ≡ Some (moment keys parent_at) → slice_get ms dnskey ≡ Some (moment keys keys_at) → slice_get ms answer ≡ Some (moment keys answer_at)
     → slice_get s.shown answer ≡ Some (OfZone asked bytes)
     → MeetsItself keys → holds (second_of keys_at) w.life (second_of at) ≡ true → holds (second_of answer_at) w.life (second_of at) ≡ true
-    → AnswersAs (answer_of j) (Says (verdict (zone_of w.zone.apex rs) false asked.name asked.rtype))
+    → HashesHold w.answers.hash w.zone.mode (zone_of w.zone.apex rs) asked.name
+    → AnswersAs (answer_of j) (Says (verdict (zone_of w.zone.apex rs) (optout_of w.zone.mode) asked.name asked.rtype))
 VerdictAt w rs ms s at (act.JudgeBytes ds dnskey answer q) (outcome.Judged j) =
     (keys : ZoneKeys) (parent_at keys_at answer_at : ℕ)
     → slice_get ms ds ≡ Some (moment keys parent_at)
     → TellsKeys w keys keys_at dnskey.items → TellsAnswer w keys answer_at (asked_of q) answer.items → is_allowed w.zone.apex (asked_of q) ≡ true
     → MeetsItself keys → holds (second_of keys_at) w.life (second_of at) ≡ true → holds (second_of answer_at) w.life (second_of at) ≡ true
-    → AnswersAs (answer_of j) (Says (verdict (zone_of w.zone.apex rs) false (asked_of q).name (asked_of q).rtype))
+    → HashesHold w.answers.hash w.zone.mode (zone_of w.zone.apex rs) (asked_of q).name
+    → AnswersAs (answer_of j) (Says (verdict (zone_of w.zone.apex rs) (optout_of w.zone.mode) (asked_of q).name (asked_of q).rtype))
 VerdictAt w rs ms s at _ _ = Unit {0}
 
 -- at each judgement of a simulation

@@ -14,12 +14,13 @@ use Rattle.answer_life.specs.OneState.{SaysVerdicts}
 use Rattle.answer_life.specs.Simulating.{Simulates, Sofar, begin}
 use Rattle.answer_life.specs.ThroughRolls.{VerdictsHoldThroughRolls}
 
--- the zone is the one that records spell: they are accepted, with a chain of names
+-- the zone is the one that records spell: they are accepted, with its chain, of names as yet
 pub record IsZoneOf (w : World) (rs : List HandedRr) : Type 0 where
   pub apex_is : IsName w.zone.apex
   pub records_are : AllByRecursion IsHanded rs
-  pub accepted : IsAccepted w.zone.apex Nsec w.zone.limit rs
-  pub zone_is : w.zone ≡ zone_from w.zone.apex w.zone.limit rs
+  pub accepted : IsAccepted w.zone.apex w.zone.mode w.zone.limit rs
+  pub of_names : w.zone.mode ≡ Nsec
+  pub zone_is : w.zone ≡ zone_from w.zone.apex w.zone.mode w.zone.limit rs
 
 -- Outcomes of events over the zone of these records, one an event, each what the definitions say of its event. While the
 -- signatures hold, a judgement of things of one state of the keys, which meet, says the zone's verdict; so does one of things

@@ -3,6 +3,7 @@ use Rattle.std.specs.Prelude.{◌≡◌, ℕ, Bool, true, false, List, [], ◌�
 use Rattle.definitions.specs.Name.{Name}
 use Rattle.definitions.specs.Dnskey.{Ds, key_tag}
 use Rattle.definitions.specs.Zone.{verdict}
+use Rattle.definitions.specs.ZoneChain.{optout_of}
 use Rattle.messages.specs.HandedRr.{HandedRr}
 use Rattle.messages.specs.Message.{Asked}
 use Rattle.messages.specs.Questions.{asked_of}
@@ -21,6 +22,7 @@ use Rattle.keyset_life.specs.KeyLife.{DnskeyAnswer, DsSet, Step, Thing, ZoneAnsw
 use Rattle.keyset_life.specs.Meeting.{algorithm_first, by_then}
 use Rattle.keyset_life.specs.Sides.{is_empty}
 use Rattle.answer_terms.specs.Accepting.{zone_of}
+use Rattle.answer_terms.specs.Hashing.{HashesHold}
 use Rattle.answer_judge.specs.Judged.{AnswersAs}
 use Rattle.answer_judge.specs.Judging.{Says, answer_of}
 use Rattle.answer_judge.specs.Meeting.{holds}
@@ -123,14 +125,16 @@ VerdictThrough w rs h past s at (act.Judge ds dnskey answer) (outcome.Judged j) 
     → slice_get s.shown ds ≡ Some (OfParent set) → slice_get s.shown answer ≡ Some (OfZone asked bytes)
     → Unretired w.zone.apex h.calls at x.behind y.behind z.behind → is_empty set ≡ false
     → holds (second_of y.at) w.life (second_of at) ≡ true → holds (second_of z.at) w.life (second_of at) ≡ true
-    → AnswersAs (answer_of j) (Says (verdict (zone_of w.zone.apex rs) false asked.name asked.rtype))
+    → HashesHold w.answers.hash w.zone.mode (zone_of w.zone.apex rs) asked.name
+    → AnswersAs (answer_of j) (Says (verdict (zone_of w.zone.apex rs) (optout_of w.zone.mode) asked.name asked.rtype))
 VerdictThrough w rs h past s at (act.JudgeBytes ds dnskey answer q) (outcome.Judged j) =
     (x : Showing) (y z : Answering) (set : List Ds)
     → slice_get h.shown ds ≡ Some x → slice_get s.shown ds ≡ Some (OfParent set) → WasPassed past s y → WasPassed past s z
     → TellsKeys w y.keys y.at dnskey.items → TellsAnswer w z.keys z.at (asked_of q) answer.items → is_allowed w.zone.apex (asked_of q) ≡ true
     → Unretired w.zone.apex h.calls at x.behind y.behind z.behind → is_empty set ≡ false
     → holds (second_of y.at) w.life (second_of at) ≡ true → holds (second_of z.at) w.life (second_of at) ≡ true
-    → AnswersAs (answer_of j) (Says (verdict (zone_of w.zone.apex rs) false (asked_of q).name (asked_of q).rtype))
+    → HashesHold w.answers.hash w.zone.mode (zone_of w.zone.apex rs) (asked_of q).name
+    → AnswersAs (answer_of j) (Says (verdict (zone_of w.zone.apex rs) (optout_of w.zone.mode) (asked_of q).name (asked_of q).rtype))
 VerdictThrough w rs h past s at _ _ = Unit {0}
 
 -- at each judgement of a simulation

@@ -1,14 +1,14 @@
 -- Which lists of records, as handed in, are accepted as a zone's, and the zone that an accepted list spells.
-use Rattle.std.specs.Prelude.{◌≡◌, ℕ, Bool, false, not, ◌&&◌, ◌||◌, ◌==◌, List, [], ◌∷◌, map, filter, length, nat_lt}
+use Rattle.std.specs.Prelude.{◌≡◌, ℕ, Bool, false, not, ◌&&◌, ◌==◌, List, [], ◌∷◌, map, filter, length, nat_lt}
 use Rattle.std.specs.List.{list_any}
 use Rattle.std.specs.declared.cmp.Ordering.{Ordering}
 use Rattle.std.specs.Ordering.{nat_cmp, ordering_then}
 use Rattle.std.specs.Cmp.Lexicographic.{slice_cmp}
 use Rattle.definitions.specs.Sorting.{sort_by}
-use Rattle.definitions.specs.Name.{Name, low, at_or_above, strictly_above, same, name_cmp}
+use Rattle.definitions.specs.Name.{Name, low, at_or_above, same, name_cmp}
 use Rattle.definitions.specs.Zone.{Zone, Rr, is_kept}
 use Rattle.definitions.specs.ZoneChain.{Mode, Nsec, Nsec3, optout_of}
-use Rattle.messages.specs.HandedRr.{HandedRr, among, is_meta, has_star}
+use Rattle.messages.specs.HandedRr.{HandedRr, among, is_meta}
 use Rattle.messages.specs.Star.{begins_with_star}
 
 -- of another class than IN
@@ -31,10 +31,6 @@ is_alias r = among (5 ∷ 39 ∷ []) r.rtype
 abbrev pub delegates_star : HandedRr → Bool
 delegates_star r = (r.rtype == 2) && begins_with_star r.owner
 
--- a delegation, or with an owner that has a wildcard label
-abbrev pub is_cut_or_star : Name → HandedRr → Bool
-is_cut_or_star apex r = ((r.rtype == 2) && strictly_above apex r.owner) || has_star r.owner
-
 abbrev pub over_limit : Mode → ℕ → Bool
 over_limit Nsec limit = false
 over_limit (Nsec3 iterations salt optout) limit = nat_lt limit iterations
@@ -47,7 +43,6 @@ pub record IsFaultless (apex : Name) (mode : Mode) (limit : ℕ) (rs : List Hand
   pub no_alias : list_any is_alias rs ≡ false
   pub known : list_any is_meta rs ≡ false
   pub no_star_delegation : list_any delegates_star rs ≡ false
-  pub plain : list_any (is_cut_or_star apex) rs ≡ false
   pub within_limit : over_limit mode limit ≡ false
 
 -- by owner, type and canonical data (RFC 4034, 6.1 and 6.3)

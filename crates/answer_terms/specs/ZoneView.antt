@@ -1,17 +1,19 @@
 -- How an accepted zone is seen.
-use Rattle.std.specs.Prelude.{ℕ, List, Bool, true, false, ◌&&◌, ◌||◌, ◌==◌, ◌≡◌, length}
+use Rattle.std.specs.Prelude.{ℕ, List, Bool, true, false, ◌&&◌, ◌==◌, ◌≡◌, length}
 use Rattle.std.specs.List.{AllByRecursion}
 use Rattle.std.specs.List.Sorted.{IsStrictlySortedBy}
-use Rattle.definitions.specs.Name.{Name, at_or_above, strictly_above, same}
+use Rattle.definitions.specs.Name.{Name, at_or_above, same}
 use Rattle.definitions.specs.ZoneChain.{Mode}
-use Rattle.messages.specs.HandedRr.{HandedRr, has_star}
-use Rattle.answer_terms.specs.Accepting.{record_cmp, soas}
+use Rattle.messages.specs.HandedRr.{HandedRr}
+use Rattle.answer_terms.specs.Accepting.{delegates_star, is_added_by_signing, is_alias, record_cmp, soas}
 
 -- what is known of the records of an accepted zone, in order
 pub record IsPublished (apex : Name) (rs : List HandedRr) : Type 0 where
   pub rising : IsStrictlySortedBy record_cmp rs
   pub inside : AllByRecursion (λ r. at_or_above apex r.owner ≡ true) rs
-  pub plain : AllByRecursion (λ r. (((r.rtype == 2) && strictly_above apex r.owner) || has_star r.owner) ≡ false) rs
+  pub unsigned : AllByRecursion (λ r. is_added_by_signing r ≡ false) rs
+  pub no_alias : AllByRecursion (λ r. is_alias r ≡ false) rs
+  pub no_star_delegation : AllByRecursion (λ r. delegates_star r ≡ false) rs
   pub soa : length (soas apex rs) ≡ 1
 
 -- an accepted zone

@@ -4,7 +4,7 @@ use Rattle.std.specs.List.{list_any}
 use Rattle.definitions.specs.Name.{Name}
 use Rattle.definitions.specs.ZoneChain.{Mode, optout_of}
 use Rattle.messages.specs.HandedRr.{HandedRr, is_meta}
-use Rattle.answer_terms.specs.Accepting.{delegates_star, has_unlike_ttls, is_added_by_signing, is_alias, is_cut_or_star, is_of_other_class, is_outside, over_limit, soas, sorted_records, zone_of}
+use Rattle.answer_terms.specs.Accepting.{delegates_star, has_unlike_ttls, is_added_by_signing, is_alias, is_of_other_class, is_outside, over_limit, soas, sorted_records, zone_of}
 use Rattle.answer_zone.specs.declared.fault.ZoneFault.{ZoneFault}
 use Rattle.answer_zone.specs.declared.fault.ZoneFault.TheVariants as fault
 use Rattle.denial_owners.specs.declared.error.SigningError.{SigningError}
@@ -19,11 +19,10 @@ first_fault apex mode limit rs =
     else if list_any is_alias rs then Some fault.Alias
     else if list_any is_meta rs then Some fault.MetaType
     else if list_any delegates_star rs then Some fault.StarNs
-    else if list_any (is_cut_or_star apex) rs then Some fault.NotYet
     else if over_limit mode limit then Some fault.IterationsOverLimit
     else None
 
--- a fault of the chain whose condition holds, in Nsec mode
+-- a fault of the chain whose condition holds, with a chain of names
 abbrev pub IsChainFault : Name → Mode → List HandedRr → SigningError → Type 0
 IsChainFault apex mode rs chain.NoSingleSoa = length (soas apex (sorted_records rs)) ≡ 1 → ⊥
 IsChainFault apex mode rs chain.MultipleTtlValues = IsTrue (has_unlike_ttls (zone_of apex rs) (optout_of mode) (sorted_records rs))
