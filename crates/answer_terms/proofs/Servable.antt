@@ -52,14 +52,14 @@ star_first : (n : Name) → is_star n ≡ begins_with_star n
 star_first [] = refl
 star_first (l ∷ n) = refl
 
+apex_or_later : (apex : Name) (r : HandedRr) (rs : List HandedRr) (b : Bool) → (same r.owner apex && (r.rtype == 6)) ≡ b → (0 < length (soas apex rs) → In (low apex) (map owner_of (map rr_of rs))) → 0 < length (cond b (r ∷ soas apex rs) (soas apex rs)) → In (low apex) (map owner_of (map rr_of (r ∷ rs)))
+apex_or_later apex r rs true e later h = inl (sym (same_names r.owner apex (and_parts (same r.owner apex) (r.rtype == 6) e).0))
+apex_or_later apex r rs false e later h = inr (later h)
+
 -- an SOA record at the apex has the apex as its owner
 apex_in : (apex : Name) (rs : List HandedRr) → 0 < length (soas apex rs) → In (low apex) (map owner_of (map rr_of rs))
 apex_in apex [] h = absurd (omega arith)
-apex_in apex (r ∷ rs) h = go (same r.owner apex && (r.rtype == 6)) refl h
-  where
-    go : (b : Bool) → (same r.owner apex && (r.rtype == 6)) ≡ b → 0 < length (cond b (r ∷ soas apex rs) (soas apex rs)) → In (low apex) (map owner_of (map rr_of (r ∷ rs)))
-    go true e h = inl (sym (same_names r.owner apex (and_parts (same r.owner apex) (r.rtype == 6) e).0))
-    go false e h = inr (apex_in apex rs h)
+apex_in apex (r ∷ rs) h = apex_or_later apex r rs (same r.owner apex && (r.rtype == 6)) refl (apex_in apex rs) h
 
 pub servable : (apex : Name) (mode : Mode) (limit : ℕ) (rs : List HandedRr) → IsAccepted apex mode limit rs → IsServable (zone_of apex rs)
 servable apex mode limit rs a =
