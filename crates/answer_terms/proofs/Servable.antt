@@ -2,16 +2,14 @@
 use Rattle.std.proofs.Common.{◌≡◌, ℕ, ◌<◌, Bool, true, false, ◌&&◌, ◌||◌, not, cond, List, [], ◌∷◌, ◌++◌, map, length, refl, sym, ap, ◌∙◌, inl, inr, arith}
 use Rattle.std.specs.Prelude.{Some, nat_eq, nat_le, ◌==◌}
 use Rattle.std.specs.List.{list_any, AllByRecursion}
-use Rattle.std.specs.Str.{bytes_eq}
 use Rattle.std.proofs.lemmas.Bool.{and_parts, or_parts, not-true}
 use Rattle.definitions.specs.Name.{Name, low, same, at_or_above}
-use Rattle.definitions.specs.Zone.{Rr, owner_of, apex_of, verdict}
+use Rattle.definitions.specs.Zone.{Rr, owner_of, verdict}
 use Rattle.definitions.specs.ZoneChain.{Mode, optout_of}
 use Rattle.definitions.proofs.Members.{In, contained}
 use Rattle.definitions.proofs.ZoneNames.{lowered_above}
 use Rattle.denial_rules.specs.Truth.{IsServable, NoSharedHash, is_foreign_type, is_star}
 use Rattle.denial_rules.specs.Truth as zone
-use Rattle.denial_rules.specs.Laws.{is_asked_type}
 use Rattle.denial_rules.specs.Deciding.{decided}
 use Rattle.denial_rules.specs.OwnFacts.{own_facts}
 use Rattle.denial_rules.proofs.NameFacts.{same_names}
