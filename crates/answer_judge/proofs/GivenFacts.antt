@@ -1,34 +1,40 @@
 -- What is verified in bytes that tell a zone's answer is the zone's own facts, up to case.
-use Rattle.std.proofs.Common.{◌≡◌, ℕ, Bool, true, false, List, [], ◌∷◌, ◌++◌, map, Option, Some, None, eqb, refl, sym, ap, subst, ◌∙◌, ◌⊎◌, inl, inr, ⊎_elim, arith}
+use Rattle.std.proofs.Common.{◌≡◌, ℕ, ◌<◌, Bool, true, false, ◌&&◌, ◌||◌, cond, length, List, [], ◌∷◌, ◌++◌, map, Option, Some, None, eqb, refl, sym, ap, subst, ◌∙◌, ◌⊎◌, inl, inr, ⊎_elim, arith}
+use Rattle.std.specs.Prelude.{◌==◌}
 use Rattle.std.specs.List.{AllByRecursion, AllZip, filter, find, list_any}
 use Rattle.std.proofs.lemmas.Bool.{and_left, eq-eqb, false≢true, or_from}
 use Rattle.std.proofs.lemmas.List.Folds.{list_any-append}
 use Rattle.definitions.specs.Dnskey.{Dnskey}
-use Rattle.definitions.specs.Name.{Name, IsLabel, low, at_or_above, name_cmp}
+use Rattle.definitions.specs.Name.{Name, IsLabel, low, same, at_or_above, name_cmp}
 use Rattle.definitions.specs.Zone.{Zone, apex_of, has, kept_owners}
-use Rattle.definitions.specs.ZoneChain.{Nsec, nsec_names}
+use Rattle.definitions.specs.ZoneChain.{Mode, Nsec, nsec_names}
 use Rattle.definitions.proofs.Members.{In, Rises, filter_in, sort_rises}
 use Rattle.definitions.proofs.NameLaws.{name_cmp_total}
-use Rattle.denial_rules.specs.Facts.{Facts, Link, Rrset}
-use Rattle.denial_rules.specs.OwnFacts.{link_of, link_speaks, own_facts, own_links}
+use Rattle.definitions.proofs.ZoneNames.{above_lowered}
+use Rattle.denial_rules.specs.Facts.{Link, Rrset}
+use Rattle.denial_rules.specs.OwnFacts.{link_speaks, own_facts, own_links}
 use Rattle.denial_rules.specs.Truth.{IsServable}
 use Rattle.messages.specs.HandedRr.{HandedRr}
-use Rattle.messages.specs.Message.{Spelled}
-use Rattle.messages.proofs.Lists.{Has, eqb-back}
-use Rattle.answer_terms.specs.Accepting.{zone_with}
-use Rattle.answer_terms.specs.Served.{Group, answer_groups, proofs_of, served_of}
+use Rattle.messages.specs.Handed.{IsHanded}
+use Rattle.messages.specs.Message.{Asked, Spelled}
+use Rattle.messages.proofs.Lists.{Has, all_more, all_sorted, eqb-back}
+use Rattle.answer_terms.specs.Accepting.{record_cmp, soas, sorted_records, zone_of, zone_with}
+use Rattle.answer_terms.specs.Served.{Group, answer_groups, served_of}
 use Rattle.answer_terms.specs.Told.{TellsGroups, fields_for}
+use Rattle.answer_terms.proofs.AllowedTypes.{unsigned_from}
+use Rattle.answer_terms.proofs.Servable.{asked_inside, servable}
 use Rattle.answer_judge.specs.Facts.{fits_key}
 use Rattle.answer_judge.specs.Meeting.{holds}
-use Rattle.answer_judge.specs.OwnFacts.{low_facts, low_link}
+use Rattle.answer_terms.specs.FactsCase.{low_facts, low_link}
+use Rattle.answer_judge.specs.OwnFacts.{TellsZone, ToldFactsAreOwn}
 use Rattle.answer_judge.specs.Verified.{Trusting, verified_facts, verified_links, verified_rrset}
 use Rattle.answer_judge.proofs.GivenGroups.{SameLink, SaysLink, has_twins, is_nsec}
 use Rattle.answer_judge.proofs.GivenLinks.{IsProof, verified_links_given}
-use Rattle.answer_judge.proofs.GivenLists.{has_left}
+use Rattle.answer_judge.proofs.GivenLists.{has_contained, has_left}
 use Rattle.answer_judge.proofs.GivenRrset.{all_joined, is_ordinary, is_signed_rrset, verified_rrset_given, verified_rrset_missing}
-use Rattle.answer_judge.proofs.GivenSignatures.{IsSignedBy, fits_equal}
-use Rattle.answer_judge.proofs.OwnAnswer.{IsFront, OwnAnswer, Proves, own_answer}
-use Rattle.answer_judge.proofs.OwnChain.{AreNamed, apart_behind, chain_apart, chain_below, chain_group, chain_labels, chain_other, chain_says, kept_rise, links_low, nsec_behind, read_link}
+use Rattle.answer_judge.proofs.GivenSignatures.{fits_equal}
+use Rattle.answer_judge.proofs.OwnAnswer.{OwnAnswer, Proves, own_answer}
+use Rattle.answer_judge.proofs.OwnChain.{AreNamed, apart_behind, chain_apart, chain_below, chain_group, chain_labels, chain_says, kept_rise, links_low, nsec_behind, read_link}
 
 -- links that are the same up to case have the same names in lower case
 lowered_links : (fs ls : List Link) → AllZip SameLink fs ls → map low_link fs ≡ map low_link ls
@@ -163,3 +169,49 @@ module _ (w : Trusting) (k : ℕ) (m : List ℕ) (records : List Spelled) (apex 
   facts_told =
       let rrset : verified_rrset w k m records q t ≡ own.rrset = rrset_by own.rrset own.is_front.proves in
       (λ i. record { rrset = rrset i; links = links_are i; hash_links = [] }) ∙ sym own.facts_are
+
+-- ---- an accepted zone
+
+-- an SOA record stands at the apex
+soa_has : (apex : Name) (rs : List HandedRr) → 0 < length (soas apex rs) → has (zone_with apex rs) (low apex) 6 ≡ true
+soa_has apex [] h = absurd (omega arith)
+soa_has apex (r ∷ rs) h = go (same r.owner apex && (r.rtype == 6)) h (λ l. soa_has apex rs l)
+  where
+    go : (b : Bool) → 0 < length (cond b (r ∷ soas apex rs) (soas apex rs)) → (0 < length (soas apex rs) → has (zone_with apex rs) (low apex) 6 ≡ true) → (b || has (zone_with apex rs) (low apex) 6) ≡ true
+    go true h f = refl
+    go false h f = f h
+
+owners_named : (rs : List HandedRr) → AllByRecursion IsHanded rs → AreNamed (sorted_records rs)
+owners_named rs h = all_sorted (λ r. AllByRecursion IsLabel r.owner) record_cmp rs (all_more IsHanded (λ r. AllByRecursion IsLabel r.owner) rs (λ r is. is.owner.labels) h)
+
+abbrev Told : Trusting → ℕ → Mode → (Name → List ℕ) → List HandedRr → Asked → List ℕ → Type 0
+Told w k mode hash rs asked bytes =
+    (t : TellsZone w k mode hash rs asked bytes)
+    → low_facts (verified_facts w k bytes t.told.read.records asked.name asked.rtype) ≡ own_facts (zone_of w.apex rs) hash mode asked.name asked.rtype
+
+by_names : (w : Trusting) (k : ℕ) (hash : Name → List ℕ) (rs : List HandedRr) (asked : Asked) (bytes : List ℕ) → Told w k Nsec hash rs asked bytes
+by_names w k hash rs asked bytes t =
+    let types = unsigned_from w.apex asked t.allowed in
+    let one : length (soas w.apex (sorted_records rs)) ≡ 1 = t.accepted.soa in
+    facts_told w k bytes t.told.read.records w.apex hash (sorted_records rs) asked.name asked.rtype (record {
+      at = t.at;
+      life = t.life;
+      keys = t.keys;
+      key = t.signer;
+      trusted_apex = refl;
+      apex_is = t.apex_is.labels;
+      named = owners_named rs t.records_are;
+      servable = servable w.apex Nsec t.limit rs t.accepted;
+      soa_there = soa_has w.apex (sorted_records rs) (omega (arith, one));
+      inside = above_lowered (low w.apex) asked.name ∙ (asked_inside w.apex asked t.allowed).inside rs;
+      not_rrsig = types.rrsig;
+      not_nsec = types.nsec;
+      not_nsec3 = types.nsec3;
+      groups_are = t.told.groups_are;
+      signer = has_contained t.keys t.signer t.signs;
+      found = λ g. t.found;
+      hold = t.hold;
+    })
+
+pub told_facts_are_own : ToldFactsAreOwn
+told_facts_are_own w k mode hash rs asked bytes t = subst (λ m. Told w k m hash rs asked bytes) (sym t.of_names) (by_names w k hash rs asked bytes) t

@@ -1,23 +1,22 @@
--- The RRset that was asked for, as a given message proves it: with the label count of its source, whichever signature of it is
--- the first that verifies it.
+-- The RRset that was asked for, as a given message proves it: with the label count of its source, whichever signature of it
+-- is the first that verifies it.
 use Rattle.std.proofs.Common.{◌≡◌, ℕ, Bool, true, false, ◌&&◌, ◌||◌, List, [], ◌∷◌, ◌++◌, Option, Some, None, eqb, refl, sym, ap, subst, ◌∙◌, ⊎_elim, inl, inr}
 use Rattle.std.specs.Prelude.{if◌then◌else◌}
 use Rattle.std.specs.List.{AllByRecursion, list_any}
 use Rattle.std.specs.Option.{option_map}
-use Rattle.std.proofs.lemmas.Bool.{and_from, and_left, and_parts, cases_Bool, eq-eqb, eqb-true, false≢true, or_parts}
+use Rattle.std.proofs.lemmas.Bool.{and_from, and_parts, eqb-true, false≢true, or_parts}
 use Rattle.definitions.specs.Name.{Name, labels_eq, low, same}
 use Rattle.definitions.specs.Dnskey.{Dnskey}
 use Rattle.definitions.specs.Signing.{Fields, label_count}
 use Rattle.definitions.specs.Zone.{sorted_data}
 use Rattle.denial_rules.specs.Facts.{Rrset}
-use Rattle.denial_rules.specs.NsecRules.{first_some}
 use Rattle.messages.specs.Message.{Spelled, rrsig_at}
 use Rattle.messages.proofs.Lists.{Has, all_fail, all_at}
-use Rattle.messages.proofs.ZoneNames.{labels_eq-same, same_labels}
+use Rattle.messages.proofs.ZoneNames.{same_labels}
 use Rattle.answer_terms.specs.Told.{TellsGroups, AreRecords, AreSignatures, IsRecord, IsSignature, fields_for}
 use Rattle.answer_terms.specs.Served.{Group}
 use Rattle.answer_judge.specs.Facts.{is_signature, signs}
-use Rattle.answer_judge.specs.Verified.{Trusting, is_verified, rrset_in, verified_by, verified_rrset, verified_with, verifies_with}
+use Rattle.answer_judge.specs.Verified.{Trusting, is_verified, rrset_in, verified_by, verified_rrset, verifies_with}
 use Rattle.answer_judge.proofs.GivenGroups.{has_twins, is_rrset}
 use Rattle.answer_judge.proofs.GivenRecords.{rrset_given, rrset_here}
 use Rattle.answer_judge.proofs.GivenSignatures.{IsSignedBy, verified_given}

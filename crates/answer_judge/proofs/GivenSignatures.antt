@@ -3,13 +3,13 @@ use Rattle.std.proofs.Common.{◌≡◌, ℕ, ◌<◌, Bool, true, false, not, �
 use Rattle.std.specs.Prelude.{◌==◌, nat_le, nat_lt, if◌then◌else◌}
 use Rattle.std.specs.List.{find}
 use Rattle.std.proofs.lemmas.Bool.{and_from, eq-eqb, ne_eqb, or_left}
-use Rattle.definitions.specs.Name.{Name, low, same}
+use Rattle.definitions.specs.Name.{Name, low}
 use Rattle.definitions.specs.Dnskey.{Dnskey}
 use Rattle.definitions.specs.Signing.{Fields, label_count}
 use Rattle.answer_judge.specs.Facts.{fits_key, is_due, may_expand, signs}
 use Rattle.answer_terms.specs.Told.{TellsGroups, AreSignatures, IsSignature, fields_for, octets_for}
 use Rattle.answer_judge.specs.Meeting.{holds}
-use Rattle.messages.specs.Message.{Spelled, rrsig_at}
+use Rattle.messages.specs.Message.{Spelled}
 use Rattle.answer_terms.specs.Served.{Group}
 use Rattle.answer_judge.specs.Verified.{Trusting, is_verified, verifies_with}
 use Rattle.answer_judge.proofs.GivenLists.{has_left, has_right}

@@ -1,15 +1,15 @@
--- The RRsets of a zone's own answer, verdict by verdict: those in front of the chain's records, and which of them is the RRset of
--- the zone's own facts.
-use Rattle.std.proofs.Common.{◌≡◌, ℕ, ◌<◌, ◌≤◌, Bool, true, false, ◌&&◌, ◌||◌, not, List, [], ◌∷◌, ◌++◌, map, length, Option, Some, None, eqb, refl, sym, ap, ◌∙◌, ◌⊎◌, inl, inr, ⊎_elim, arith}
-use Rattle.std.specs.Prelude.{◌==◌, nat_le, nat_lt, if◌then◌else◌}
+-- The RRsets of a zone's own answer, verdict by verdict: those in front of the chain's records, and which of them is the RRset
+-- of the zone's own facts.
+use Rattle.std.proofs.Common.{◌≡◌, ℕ, ◌<◌, ◌≤◌, Bool, true, false, ◌&&◌, ◌||◌, not, List, [], ◌∷◌, ◌++◌, map, length, Option, Some, None, eqb, refl, sym, ap, ◌∙◌, inl, arith}
+use Rattle.std.specs.Prelude.{◌==◌, nat_lt, if◌then◌else◌}
 use Rattle.std.specs.List.{AllByRecursion, filter, list_any}
 use Rattle.std.specs.Str.{str_to_ascii_lowercase}
-use Rattle.std.proofs.lemmas.Bool.{and_from, and_left, and_parts, and_right, eq-eqb, eqb-true, false_from_ne_true, false≢true, le-leb, or_from, or_right}
+use Rattle.std.proofs.lemmas.Bool.{and_from, and_left, and_parts, and_right, eqb-true, false_from_ne_true, false≢true, le-leb, or_from, or_right}
 use Rattle.std.proofs.lemmas.List.{length-map}
 use Rattle.definitions.specs.Name.{Name, labels_eq, low, same, at_or_above}
 use Rattle.definitions.specs.Signing.{label_count}
 use Rattle.definitions.specs.Zone.{Zone, Rr, Verdict, Records, NoType, NoName, StarRecords, StarNoType, Delegated, apex_of, has, is_of, is_delegation, is_live, exists, ce, cut, data_at, sorted_data, star_under, verdict}
-use Rattle.definitions.specs.ZoneChain.{Nsec, optout_of}
+use Rattle.definitions.specs.ZoneChain.{Nsec}
 use Rattle.definitions.proofs.Members.{any_of, in_filter, in_map}
 use Rattle.definitions.proofs.ZoneNames.{apex_in_chain, low-low}
 use Rattle.denial_rules.specs.Facts.{Rrset, Facts}

@@ -8,7 +8,7 @@ use Rattle.std.proofs.lemmas.List.Folds.{list_any-append}
 use Rattle.definitions.specs.Bitmap.{bitmap}
 use Rattle.definitions.specs.Name.{Name, IsLabel, labels_eq, low, same, at_or_above, name_cmp}
 use Rattle.definitions.specs.Signing.{label_count}
-use Rattle.definitions.specs.Zone.{Zone, Rr, owner_of, apex_of, owners}
+use Rattle.definitions.specs.Zone.{Zone, owner_of, owners}
 use Rattle.definitions.specs.ZoneChain.{Nsec, nsec_names, nsec_next, nsec_types}
 use Rattle.definitions.proofs.Members.{In, Rises, filter_in}
 use Rattle.definitions.proofs.NameLaws.{name_cmp_total, labels_decide, same_is_equal}
@@ -23,7 +23,7 @@ use Rattle.messages.proofs.ZoneNames.{labels_eq-same, same_labels}
 use Rattle.answer_terms.specs.Accepting.{rr_of, zone_with}
 use Rattle.answer_terms.specs.Served.{Group, chain_record, served_of, spelled_among, spelled_as}
 use Rattle.answer_terms.proofs.ZoneData.{label_count-low, low-spelled_among}
-use Rattle.answer_judge.specs.OwnFacts.{low_link}
+use Rattle.answer_terms.specs.FactsCase.{low_link}
 use Rattle.answer_judge.proofs.GivenGroups.{SaysLink, has_twins, is_nsec, is_rrset}
 
 -- the labels of each owner are labels
