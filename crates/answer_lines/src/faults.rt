@@ -46,7 +46,6 @@ fn zone_faults() -> [ZoneFault; 10] {
         ZoneFault::Alias,
         ZoneFault::MetaType,
         ZoneFault::StarNs,
-        ZoneFault::NotYet,
         ZoneFault::IterationsOverLimit,
         ZoneFault::Chain(SigningError::NoSingleSoa),
         ZoneFault::Memory,
