@@ -83,27 +83,24 @@ module _ (apex : Name) (mode : Mode) (hash : Name → List ℕ) (rs : List Hande
     datas = rrset_read false (under owner (rrset (served_of apex mode hash rs) (low q) t)) apex rs p h q name tt nsec;
   }
 
-  -- an RRset as its records spell it
-  own_formed : (q : Name) (t : ℕ) → IsName q → t < 65536 → eqb t 47 ≡ false → IsFormed (rrset (served_of apex mode hash rs) (low q) t)
-  own_formed q t name small nsec =
+  -- an RRset as its records spell it, signed or not
+  own_formed : (q : Name) (t : ℕ) (signed : Bool) → IsName q → t < 65536 → eqb t 47 ≡ false → IsFormed (record (rrset (served_of apex mode hash rs) (low q) t) { signed = signed })
+  own_formed q t signed name small nsec =
       let is : IsName (served_owner rs (low q) t) = either IsName (eqb t 47 || eqb t 50) (spelled_among rs (low q)) (owner_among rs (low q) t) (first_name rs (low q) h.records_are (lower_name q name)) (owner_name rs (low q) t h.records_are (lower_name q name)) in
       let named : low (served_owner rs (low q) t) ≡ low q = either (λ n. low n ≡ low q) (eqb t 47 || eqb t 50) (spelled_among rs (low q)) (owner_among rs (low q) t) (low-spelled_among rs q) (low-owner_among rs q t) in
       record {
         owner = is;
         rtype = small;
         ttl = ttl_served (low q) t;
-        datas = rrset_read true (rrset (served_of apex mode hash rs) (low q) t) apex rs p h q is named nsec;
+        datas = rrset_read true (record (rrset (served_of apex mode hash rs) (low q) t) { signed = signed }) apex rs p h q is named nsec;
       }
 
   soa_formed : IsFormed (soa (served_of apex mode hash rs))
-  soa_formed = own_formed apex 6 h.apex_is (lit< tt) refl
+  soa_formed = own_formed apex 6 true h.apex_is (lit< tt) refl
 
   -- of a delegation, as its records spell it
-  cut_formed : (c : Name) (t : ℕ) → IsName c → low c ≡ c → t < 65536 → eqb t 47 ≡ false → IsFormed (rrset (served_of apex mode hash rs) c t)
-  cut_formed c t name lower small nsec = subst (λ o. IsFormed (rrset (served_of apex mode hash rs) o t)) lower (own_formed c t name small nsec)
-
-  ns_formed : (c : Name) → IsName c → low c ≡ c → IsFormed (record (rrset (served_of apex mode hash rs) c 2) { signed = false })
-  ns_formed c name lower = let r = cut_formed c 2 name lower (lit< tt) refl in record { owner = r.owner; rtype = r.rtype; ttl = r.ttl; datas = r.datas }
+  cut_formed : (c : Name) (t : ℕ) (signed : Bool) → IsName c → low c ≡ c → t < 65536 → eqb t 47 ≡ false → IsFormed (record (rrset (served_of apex mode hash rs) c t) { signed = signed })
+  cut_formed c t signed name lower small nsec = subst (λ o. IsFormed (record (rrset (served_of apex mode hash rs) o t) { signed = signed })) lower (own_formed c t signed name small nsec)
 
   star_formed : (q : Name) (t : ℕ) → IsName q → t < 65536 → eqb t 47 ≡ false → (e : Name) → low e ≡ e → IsFormed (under q (rrset (served_of apex mode hash rs) (star_under e) t))
   star_formed q t name small nsec e lower = subst (λ o. IsFormed (under q (rrset (served_of apex mode hash rs) o t))) (ap star_under lower) (under_formed q (star_under e) t name small nsec)
@@ -130,7 +127,7 @@ module _ (apex : Name) (mode : Mode) (hash : Name → List ℕ) (rs : List Hande
       at None i = tt
       at (Some c) i =
           let is = cut_at q name c i in
-          (ns_formed c is.0 is.1, either (AllByRecursion IsFormed) (has (zone_with apex rs) c 43) (rrset s c 43 ∷ []) [] (cut_formed c 43 is.0 is.1 (lit< tt) refl, tt) tt)
+          (cut_formed c 2 false is.0 is.1 (lit< tt) refl, either (AllByRecursion IsFormed) (has (zone_with apex rs) c 43) (rrset s c 43 ∷ []) [] (cut_formed c 43 true is.0 is.1 (lit< tt) refl, tt) tt)
 
   left_open : (q : Name) (t : ℕ) → IsName q → AllByRecursion IsFormed (ahead_open (served_of apex mode hash rs) q t NoType)
   left_open q t name = at (cut (zone_with apex rs) (low q)) refl
@@ -142,7 +139,7 @@ module _ (apex : Name) (mode : Mode) (hash : Name → List ℕ) (rs : List Hande
       at None i = (soa_formed, tt)
       at (Some c) i =
           let is = cut_at q name c i in
-          either (AllByRecursion IsFormed) (labels_eq c (low q) && eqb t 43) (soa s ∷ []) (unsigned_ns s c) (soa_formed, tt) (ns_formed c is.0 is.1, tt)
+          either (AllByRecursion IsFormed) (labels_eq c (low q) && eqb t 43) (soa s ∷ []) (unsigned_ns s c) (soa_formed, tt) (cut_formed c 2 false is.0 is.1 (lit< tt) refl, tt)
 
   at_open : (q : Name) (t : ℕ) → IsName q → t < 65536 → eqb t 47 ≡ false → (v : Verdict) → AllByRecursion IsFormed (ahead_open (served_of apex mode hash rs) q t v)
   at_open q t name small nsec (StarRecords ds) = at_encloser q t name small nsec ds
