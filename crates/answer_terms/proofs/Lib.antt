@@ -11,3 +11,5 @@ pub mod KeyData
 pub mod AllowedTypes
 pub mod GivenTold
 pub mod ToldAlike
+pub mod FactsCase
+pub mod Servable
