@@ -1,7 +1,7 @@
-//! What a run keeps: outcomes, and what was shown.
+//! Outcomes of a run, and what was shown.
 ghost use Rattle.std.specs.Prelude.{◌≡◌, ◌++◌, ◌∷◌, [], OnOk, length, slice_get};
 ghost use Rattle.std.specs.Option.{option_map};
-ghost use Rattle.answer.specs.Keeping.{octets_of, set_of};
+ghost use Rattle.answer.specs.Results.{octets_of, set_of};
 ghost use Rattle.answer_life.specs.Simulating.{OfParent, OfKeys, OfZone};
 ghost use Rattle.messages.specs.Questions.{asked_of};
 
@@ -11,7 +11,7 @@ use messages::question::Question;
 use std::alloc::{AllocError, Global};
 use std::marker::Model;
 
-/// A thing that was shown: the place of the outcome that keeps it, and the question of a zone answer.
+/// A thing that was shown: the place of its outcome, and the question of a zone answer.
 #[derive(Drop)]
 enum Shown<'a> {
     OfParent(usize),
@@ -27,34 +27,34 @@ pub(super) enum Thing<'a> {
     OfZone(&'a Question, &'a [u8]),
 }
 
-/// The outcomes so far, and the things shown in order of place. A thing is kept once, in its outcome.
+/// The outcomes so far, and the things shown in order of place. A thing stands once, in its outcome.
 ///
-/// A call without memory ends the run, so nothing is said of what is kept behind it.
+/// A call without memory ends the run, so nothing is said of what stands there behind it.
 #[derive(Drop)]
-pub(super) struct Kept<'a> {
+pub(super) struct Results<'a> {
     outcomes: Vec<Outcome>,
     shown: Vec<Shown<'a>>,
 }
 
-impl<'a> Model for Kept<'a> {
+impl<'a> Model for Results<'a> {
     ghost use Rattle.std.specs.List.{AllByRecursion};
-    ghost use Rattle.answer.specs.Keeping.{Keeps, IsKept, keeps};
+    ghost use Rattle.answer.specs.Results.{Results, IsThere, results};
 
-    ghost Value = { Keeps };
+    ghost Value = { Results };
 
-    ghost view = { λ k. keeps k.outcomes.items k.shown.items };
+    ghost view = { λ r. results r.outcomes.items r.shown.items };
 
-    ghost invariant = { λ k. AllByRecursion (IsKept k.outcomes.items) k.shown.items };
+    ghost invariant = { λ r. AllByRecursion (IsThere r.outcomes.items) r.shown.items };
 }
 
-impl<'a> Kept<'a> {
+impl<'a> Results<'a> {
     ghost use Rattle.answer.specs.Running.{thing_of};
 
     /// Nothing so far.
     pub(super) fn new(alloc: Global) -> Self
         ensures { result ≡ record { outcomes = []; shown = [] } }
     {
-        Kept {
+        Results {
             outcomes: Vec::new(alloc),
             shown: Vec::new(alloc),
         }
@@ -67,8 +67,8 @@ impl<'a> Kept<'a> {
         self.outcomes
     }
 
-    /// Keeps an outcome that shows nothing.
-    pub(super) fn keep(&mut self, outcome: Outcome) -> Result<(), AllocError>
+    /// Adds an outcome that shows nothing.
+    pub(super) fn add(&mut self, outcome: Outcome) -> Result<(), AllocError>
         ensures { OnOk result (self.new ≡ record self.old {
           outcomes = self.old.outcomes ++ outcome ∷ [];
         }) }
@@ -85,9 +85,9 @@ impl<'a> Kept<'a> {
         }) }
     {
         let place = self.shown.len();
-        let kept = self.outcomes.len();
+        let at = self.outcomes.len();
         self.outcomes.push(Outcome::Ds { place, set })?;
-        self.shown.push(Shown::OfParent(kept))?;
+        self.shown.push(Shown::OfParent(at))?;
         Ok(())
     }
 
@@ -99,9 +99,9 @@ impl<'a> Kept<'a> {
         }) }
     {
         let place = self.shown.len();
-        let kept = self.outcomes.len();
+        let at = self.outcomes.len();
         self.outcomes.push(Outcome::Message { place, octets })?;
-        self.shown.push(Shown::OfKeys(kept))?;
+        self.shown.push(Shown::OfKeys(at))?;
         Ok(())
     }
 
@@ -117,9 +117,9 @@ impl<'a> Kept<'a> {
         }) }
     {
         let place = self.shown.len();
-        let kept = self.outcomes.len();
+        let at = self.outcomes.len();
         self.outcomes.push(Outcome::Message { place, octets })?;
-        self.shown.push(Shown::OfZone(question, kept))?;
+        self.shown.push(Shown::OfZone(question, at))?;
         Ok(())
     }
 
@@ -128,10 +128,10 @@ impl<'a> Kept<'a> {
         ensures { option_map thing_of result ≡ slice_get self.now.shown place }
     {
         match self.shown.get(place)? {
-            Shown::OfParent(kept) => Some(Thing::OfParent(set_at(&self.outcomes, *kept)?)),
-            Shown::OfKeys(kept) => Some(Thing::OfKeys(octets_at(&self.outcomes, *kept)?)),
-            Shown::OfZone(question, kept) => {
-                Some(Thing::OfZone(question, octets_at(&self.outcomes, *kept)?))
+            Shown::OfParent(at) => Some(Thing::OfParent(set_at(&self.outcomes, *at)?)),
+            Shown::OfKeys(at) => Some(Thing::OfKeys(octets_at(&self.outcomes, *at)?)),
+            Shown::OfZone(question, at) => {
+                Some(Thing::OfZone(question, octets_at(&self.outcomes, *at)?))
             }
         }
     }
