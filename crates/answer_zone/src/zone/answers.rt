@@ -82,7 +82,7 @@ impl ZoneRecords {
             IsNone result → NoneRefers z (low name.now) rtype }
     {
         let cut = self.cut(name)?;
-        if rtype == Rtype::DS && cut.name_eq(name) {
+        if cut.name_eq(name) && rtype == Rtype::DS {
             None
         } else {
             Some(cut)
