@@ -140,7 +140,7 @@ module _ (apex : Name) (rs : List HandedRr) (q : Name) where
 
   -- it stands at or above the name
   serves : (d : Name) (s : Server apex rs d) → at_or_above d (low q) ≡ true → delegates apex q s.by ≡ true
-  serves d s a = and_from _ _ s.kind (and_from _ _ s.below (sym (above-low s.by.owner q) ∙ ap (λ n. at_or_above n (low q)) s.owns ∙ a))
+  serves d s a = and_from _ _ (and_from _ _ s.kind s.below) (sym (above-low s.by.owner q) ∙ ap (λ n. at_or_above n (low q)) s.owns ∙ a)
 
   pub no_cut : list_any (delegates apex q) rs ≡ false → cut ours (low q) ≡ None
   no_cut n = uncut_from ours (low q) (low-low q) (λ d h a.
@@ -151,19 +151,19 @@ module _ (apex : Name) (rs : List HandedRr) (q : Name) where
     here : In r rs
     here = in_contained rs r i h (sym e)
 
-    kind : eqb r.rtype 2 ≡ true
-    kind = (and_parts (eqb r.rtype 2) (strictly_above apex r.owner && at_or_above r.owner q) yes).0
+    parts : ((eqb r.rtype 2 && strictly_above apex r.owner) ≡ true) × (at_or_above r.owner q ≡ true)
+    parts = and_parts (eqb r.rtype 2 && strictly_above apex r.owner) (at_or_above r.owner q) yes
 
-    places : (strictly_above apex r.owner ≡ true) × (at_or_above r.owner q ≡ true)
-    places = and_parts (strictly_above apex r.owner) (at_or_above r.owner q) (and_parts (eqb r.rtype 2) (strictly_above apex r.owner && at_or_above r.owner q) yes).1
+    served : (eqb r.rtype 2 ≡ true) × (strictly_above apex r.owner ≡ true)
+    served = and_parts (eqb r.rtype 2) (strictly_above apex r.owner) parts.0
 
     delegation : is_delegation ours (low r.owner) ≡ true
     delegation =
-        and_from _ _ (has_is apex rs r.owner 2 ∙ any_in (is_of r.owner 2) rs r here (and_from _ _ (names_same r.owner r.owner refl) kind))
-        (strictly-low apex r.owner ∙ places.0)
+        and_from _ _ (has_is apex rs r.owner 2 ∙ any_in (is_of r.owner 2) rs r here (and_from _ _ (names_same r.owner r.owner refl) served.0))
+        (strictly-low apex r.owner ∙ served.1)
 
     above : at_or_above (low r.owner) (low q) ≡ true
-    above = above-low r.owner q ∙ places.1
+    above = above-low r.owner q ∙ parts.1
 
     -- a delegation further up would stand before it
     topmost : NoneStrictlyAbove ours (low r.owner)
@@ -180,7 +180,7 @@ module _ (apex : Name) (rs : List HandedRr) (q : Name) where
 
     pub cut_here : cut ours (low q) ≡ Some (low r.owner)
     cut_here =
-        let live : is_live ours (low r.owner) ≡ true = uncut_live ours (low r.owner) (low-low r.owner) (strictly_at (low apex) (low r.owner) (strictly-low apex r.owner ∙ places.0)) topmost in
+        let live : is_live ours (low r.owner) ≡ true = uncut_live ours (low r.owner) (low-low r.owner) (strictly_at (low apex) (low r.owner) (strictly-low apex r.owner ∙ served.1)) topmost in
         cut_from ours (low q) (low r.owner) (low-low q) delegation live above
 
 -- one record more that is none

@@ -1,19 +1,20 @@
 -- The verdict on a question, from what is found of it in an accepted zone, and the answer for it.
-use Rattle.std.proofs.Common.{◌≡◌, ℕ, Bool, true, false, ◌&&◌, ◌||◌, not, List, [], ◌∷◌, ◌++◌, Option, Some, None, refl, sym, ap, subst, ◌∙◌, length, inl, inr}
+use Rattle.std.proofs.Common.{◌≡◌, ℕ, Bool, true, false, ◌&&◌, ◌||◌, not, List, [], ◌∷◌, ◌++◌, Option, Some, None, refl, sym, ap, subst, ◌∙◌, eqb, length, inl, inr}
 use Rattle.std.specs.Prelude.{◌==◌, if◌then◌else◌}
-use Rattle.std.specs.List.{AllZip, list_any}
+use Rattle.std.specs.List.{AllByRecursion, AllZip, list_any}
 use Rattle.std.proofs.lemmas.Bool.{and_parts, and_from, or_right, false≢true, false_from_ne_true, eqb-true, cases_Bool}
 use Rattle.std.proofs.lemmas.Slice.Zip.{AllZip-long}
-use Rattle.definitions.specs.Name.{Name, low, labels_eq, at_or_above, strictly_above}
+use Rattle.definitions.specs.Name.{Name, low, labels_eq, same, at_or_above, strictly_above}
 use Rattle.definitions.specs.Zone.{Zone, Verdict, Records, NoType, NoName, StarRecords, StarNoType, Delegated, apex_of, has, is_delegation, is_live, cut, exists, ce, data_at, star_under, verdict}
 use Rattle.definitions.specs.Zone as zone
 use Rattle.definitions.proofs.NameLaws.{labels_decide}
 use Rattle.definitions.proofs.VerdictCases.{verdict-alone}
 use Rattle.definitions.proofs.ZoneNames.{above_itself, apex_in_chain, kept-live, low-low}
-use Rattle.definitions.proofs.Members.{contained}
+use Rattle.definitions.proofs.Members.{any_of, contained}
 use Rattle.denial_rules.specs.OwnFacts.{kept_ancestor}
 use Rattle.denial_rules.specs.Truth.{is_signed}
-use Rattle.denial_rules.proofs.NameFacts.{above_trans, same_names, strictly_at, strictly_from}
+use Rattle.denial_rules.proofs.ChainBits.{all_at}
+use Rattle.denial_rules.proofs.NameFacts.{above-low, above_trans, same_names, strictly_at, strictly_from}
 use Rattle.denial_rules.proofs.ZoneCuts.{IsCut, IsEncloser, NoneAbove, ce_encloses, cut_is, cut_live, delegation_owner, has_owner, kept_inside, kept_lowered, owner_kept, uncut, uncut_from, uncut_live}
 use Rattle.denial_rules.proofs.Verdicts.{lacking, verdict_by_star, verdict_delegated, verdict_ds, verdict_existing, verdict_signed}
 use Rattle.messages.specs.HandedRr.{HandedRr}
@@ -42,6 +43,13 @@ apex_exists apex rs one =
     let z = zone_with apex rs in
     let there : has z (low apex) 6 ≡ true = has_is apex rs apex 6 ∙ elim (cases_Bool (list_any (is_of apex 6) rs)) [ inl y ↦ y | inr n ↦ absurd (soa_there apex rs one n) ] in
     apex_in_chain z false (contained (zone.owners z) (low apex) (has_owner z (low apex) 6 there))
+
+-- what has a type stands in the zone
+pub owner_inside : (apex : Name) (rs : List HandedRr) → AllByRecursion (λ r. at_or_above apex r.owner ≡ true) rs → (q : Name) (t : ℕ) → has (zone_with apex rs) (low q) t ≡ true → at_or_above (low apex) (low q) ≡ true
+owner_inside apex rs inside q t h =
+    let r = any_of (is_of q t) rs (sym (has_is apex rs q t) ∙ h) in
+    let owner : low r.0.owner ≡ low q = same_names r.0.owner q (and_parts (same r.0.owner q) (eqb r.0.rtype t) r.1.1).0 in
+    sym (ap (at_or_above (low apex)) owner) ∙ above-low apex r.0.owner ∙ all_at (λ r. at_or_above apex r.owner ≡ true) rs r.0 inside r.1.0
 
 module _ (z : Zone) (q : Name) (t : ℕ) where
   -- a delegation refers the question away

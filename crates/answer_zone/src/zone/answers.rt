@@ -119,9 +119,10 @@ impl ZoneRecords {
             → Adds groups.old.items groups.new.items
             (if_any (served_of self.now.apex Nsec hash self.now.records) (low cut.now) 43)) }
     {
-        if self.has(cut, Rtype::DS) {
-            groups.push(self.spelled_rrset(alloc, cut, Rtype::DS)?)?;
+        if !self.has(cut, Rtype::DS) {
+            return Ok(());
         }
+        groups.push(self.spelled_rrset(alloc, cut, Rtype::DS)?)?;
         Ok(())
     }
 
