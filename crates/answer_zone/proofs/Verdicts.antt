@@ -20,7 +20,7 @@ use Rattle.denial_rules.proofs.Verdicts.{lacking, verdict_by_star, verdict_deleg
 use Rattle.messages.specs.HandedRr.{HandedRr}
 use Rattle.messages.proofs.Lists.{zip_append}
 use Rattle.answer_terms.specs.Accepting.{soas, zone_with}
-use Rattle.answer_terms.specs.GroupView.{Presents}
+use Rattle.answer_terms.specs.GroupView.{GroupView, Presents}
 use Rattle.answer_terms.specs.Served.{Group, Served, answer_groups}
 use Rattle.answer_terms.specs.ZoneView.{is_of}
 use Rattle.answer_terms.proofs.ZoneData.{soa_there}
@@ -156,3 +156,15 @@ module _ (z : Zone) (x : exists z (apex_of z) ≡ true) (q : Name) (t : ℕ) (no
 
   pub star_no_type : at_or_above (apex_of z) (low q) ≡ true → exists z star ≡ true → has z star t ≡ false → verdict z false q t ≡ StarNoType
   star_no_type a s h = by_star a ∙ (λ i. if s i then (if h i then StarRecords (data_at z star t) else StarNoType) else NoName)
+
+-- an RRset without its signatures
+pub unsigned_presents : (g h : GroupView) (of : Group) → h ≡ record g { signed = false } → Presents g of → Presents h (record of { signed = false })
+unsigned_presents g h of e p = subst (λ v. Presents v (record of { signed = false })) (sym e) (record {
+  owner_is = p.owner_is;
+  labels_are = p.labels_are;
+  rtype_is = p.rtype_is;
+  ttl_is = p.ttl_is;
+  written_is = p.written_is;
+  canonical_is = p.canonical_is;
+  signed_is = refl;
+})
