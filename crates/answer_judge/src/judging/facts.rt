@@ -61,18 +61,23 @@ pub(crate) fn read_facts<'a, C: Checks>(
 
 /// The data of a group and the label count of its signature, if one verified it.
 ///
-/// The count of the owner in its place would let a wildcard's RRset pass for one of the name, with no proof that the name does
-/// not exist (RFC 4035, 5.3.4).
+/// The owner's count in its place would let a wildcard's RRset pass for one of the name, with no proof that the name does not
+/// exist (RFC 4035, 5.3.4).
 fn rrset_of(alloc: Global, group: Option<Group>) -> Result<Option<Rrset>, AllocError>
     ensures { IfOk result (λ found. found ≡ rrset_verified group.entry) }
 {
     let Some(group) = group else {
         return Ok(None);
     };
-    let Some(signed) = group.verified else {
+    let Group {
+        items,
+        verified,
+        ..
+    } = group;
+    let Some(signed) = verified else {
         return Ok(None);
     };
-    let datas = DataList::new(owned_data(alloc, group.items)?);
+    let datas = DataList::new(owned_data(alloc, items)?);
     Ok(Some(Rrset::new(datas, signed.labels)))
 }
 
