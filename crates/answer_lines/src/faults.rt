@@ -38,7 +38,7 @@ pub fn faults(alloc: Global, kind: &str) -> Option<String> {
     }
 }
 
-fn zone_faults() -> [ZoneFault; 10] {
+fn zone_faults() -> [ZoneFault; 9] {
     [
         ZoneFault::WrongClass,
         ZoneFault::OutsideApex,
@@ -46,7 +46,6 @@ fn zone_faults() -> [ZoneFault; 10] {
         ZoneFault::Alias,
         ZoneFault::MetaType,
         ZoneFault::StarNs,
-        ZoneFault::NotYet,
         ZoneFault::IterationsOverLimit,
         ZoneFault::Chain(SigningError::NoSingleSoa),
         ZoneFault::Memory,

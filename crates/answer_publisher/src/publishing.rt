@@ -59,7 +59,6 @@ pub struct Publisher<'a, S: Scheme, H: Nsec3Hasher> {
 impl<'a, S: Scheme, H: Nsec3Hasher> Publisher<'a, S, H> {
     /// A publisher of these records, without keys. Records that are equal up to TTL are one, the first. `limit` is the
     /// most iterations of NSEC3 that are accepted. A signature holds for `life` seconds from the moment of its answer.
-    /// NS records below the apex and wildcard owners are not accepted yet (`NotYet`).
     pub fn new(
         alloc: Global,
         apex: Name<Vec<u8>>,

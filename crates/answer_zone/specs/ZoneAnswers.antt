@@ -1,10 +1,10 @@
 -- What a zone answers, before it is signed.
-use Rattle.std.specs.Prelude.{◌≡◌, ℕ, false, ◌++◌, length}
+use Rattle.std.specs.Prelude.{◌≡◌, ℕ, false, List, ◌++◌, length}
 use Rattle.std.specs.List.{AllZip}
 use Rattle.definitions.specs.Name.{Name}
 use Rattle.definitions.specs.Zone.{Verdict, verdict, Records, NoName, StarRecords, Delegated}
 use Rattle.answer_terms.specs.GroupView.{Presents}
-use Rattle.answer_terms.specs.Served.{Served, answer_groups}
+use Rattle.answer_terms.specs.Served.{Group, Served, answer_groups}
 use Rattle.answer_zone.specs.declared.zone.answers.ZoneAnswer.{ZoneAnswer}
 
 -- an authoritative answer, one that no such name exists, or a referral (RFC 1035, 4.1.1)
@@ -24,3 +24,9 @@ pub record AnswersAs (s : Served) (name : Name) (t : ℕ) (a : ZoneAnswer) : Typ
   pub groups_are : AllZip Presents (a.answer.items ++ a.authority.items) (answer_groups s name t)
   pub split : length a.answer.items ≡ answered (verdict s.zone false name t)
   pub flags_are : a.flags ≡ flags_for (verdict s.zone false name t)
+
+-- its flags, the RRsets of its answer section, and the others
+pub record Holds (flags : ℕ) (found rest : List Group) (a : ZoneAnswer) : Type 0 where
+  pub flags_are : a.flags ≡ flags
+  pub found_are : AllZip Presents a.answer.items found
+  pub rest_are : AllZip Presents a.authority.items rest

@@ -30,9 +30,6 @@ pub enum ZoneFault {
     /// A delegation stands at a wildcard name (RFC 4592, 4.2).
     #[error("a delegation stands at a wildcard name")]
     StarNs,
-    /// A delegation or a wildcard, which are not published yet.
-    #[error("delegations and wildcards are not published yet")]
-    NotYet,
     /// The chain's iterations are over the limit (RFC 5155, 10.3).
     #[error("iterations are over the limit")]
     IterationsOverLimit,

@@ -60,7 +60,7 @@ impl Model for RrGroup {
 }
 
 impl RrGroup {
-    ghost use Rattle.std.specs.Prelude.{◌≡◌, map, IfOk};
+    ghost use Rattle.std.specs.Prelude.{◌≡◌, false, map, IfOk};
     ghost use Rattle.answer_terms.specs.GroupView.{canonical_view};
     ghost use Rattle.answer_zone.specs.GroupRecords.{record_under};
 
@@ -117,6 +117,16 @@ impl RrGroup {
         }
         let signed = !canonical.is_empty();
         Ok(RrGroup::new(owner, label_count, rtype, ttl, records, canonical, signed))
+    }
+
+    /// The same without signatures (RFC 4035, 2.2).
+    pub fn unsigned(self) -> Self
+        ensures { result ≡ record self { signed = false } }
+    {
+        RrGroup {
+            signed: false,
+            ..self
+        }
     }
 
     /// The owner of the signatures, and of each record that has none of its own.

@@ -45,7 +45,6 @@ zone_fault_name ZoneFaultCase.SignedType = codes "SignedType"
 zone_fault_name ZoneFaultCase.Alias = codes "Alias"
 zone_fault_name ZoneFaultCase.MetaType = codes "MetaType"
 zone_fault_name ZoneFaultCase.StarNs = codes "StarNs"
-zone_fault_name ZoneFaultCase.NotYet = codes "NotYet"
 zone_fault_name ZoneFaultCase.IterationsOverLimit = codes "IterationsOverLimit"
 zone_fault_name (ZoneFaultCase.Chain error) = signing_error_name error
 zone_fault_name ZoneFaultCase.Memory = codes "Memory"

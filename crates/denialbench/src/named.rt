@@ -60,7 +60,6 @@ impl Named for ZoneFault {
             ZoneFault::Alias => "Alias",
             ZoneFault::MetaType => "MetaType",
             ZoneFault::StarNs => "StarNs",
-            ZoneFault::NotYet => "NotYet",
             ZoneFault::IterationsOverLimit => "IterationsOverLimit",
             ZoneFault::Chain(error) => error.name(),
             ZoneFault::Memory => "Memory",

@@ -8,6 +8,7 @@ use answer_zone::zone::answers::ZoneAnswer;
 use messages::names::{Name, copy_name};
 use messages::record::ZoneRecord;
 use names::{Rtype, Serial, UnknownRecordData};
+use plain::ns::Ns;
 use plain::record::Record;
 use plain::soa::Soa;
 use plain::zone_data::ZoneRecordData;
@@ -36,11 +37,12 @@ impl Section {
         let words = words(alloc, rest)?;
         match (name, words.as_slice()) {
             ("zone", [apex]) => self.begin(alloc, apex),
-            ("soa", [serial]) => self.put(alloc, soa(alloc, self.apex.as_ref()?, serial)?),
+            ("soa", [serial]) => self.put_soa(alloc, serial),
             ("rr", [owner, class, ttl, rtype, octets]) => {
                 let octets = octets_of(alloc, octets)?;
                 self.put(alloc, record(alloc, owner, class, ttl, rtype, octets)?)
             }
+            ("ns", [owner, ttl, server]) => self.put(alloc, ns(alloc, owner, ttl, server)?),
             ("accept", _) => self.accept(alloc),
             ("ask", [name, rtype]) => self.ask(alloc, name, rtype),
             ("has", [name, rtype]) => self.has(alloc, name, rtype),
@@ -57,6 +59,14 @@ impl Section {
         self.records.clear();
         self.zone = None;
         text(alloc, "ok")
+    }
+
+    fn put_soa(&mut self, alloc: Global, serial: &str) -> Option<String> {
+        let record = match &self.apex {
+            Some(apex) => soa(alloc, apex, serial)?,
+            None => return None,
+        };
+        self.put(alloc, record)
     }
 
     fn put(&mut self, alloc: Global, record: ZoneRecord) -> Option<String> {
@@ -129,6 +139,13 @@ fn record(
     let data = UnknownRecordData::from_octets(rtype_of(rtype)?, octets).ok()?;
     let data = ZoneRecordData::Unknown(data);
     Some(Record::new(name_of(alloc, owner)?, class, ttl, data))
+}
+
+/// A name server of an owner.
+fn ns(alloc: Global, owner: &str, ttl: &str, server: &str) -> Option<ZoneRecord> {
+    let ttl = Ttl::from_secs(ttl.parse::<u32>().ok()?);
+    let data = ZoneRecordData::Ns(Ns::new(name_of(alloc, server)?));
+    Some(Record::new(name_of(alloc, owner)?, Class::IN, ttl, data))
 }
 
 /// The SOA record of an apex, which is its server and its keeper too, of TTL 3600 and minimum 300.

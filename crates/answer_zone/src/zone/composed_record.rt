@@ -4,7 +4,7 @@ ghost use Rattle.answer_terms.specs.Served.{minimum_of};
 ghost use Rattle.definitions.specs.Name.{same};
 
 use crate::group::GroupRecord;
-use messages::names::{Name, ToName, copy_name};
+use messages::names::{Name, ToName, copy_name, is_above, is_at_or_above};
 use messages::rdata::canonical_octets;
 use messages::record::{ZoneRecord, keeps};
 use names_data::data::{ComposeRecordData, RecordData};
@@ -37,6 +37,7 @@ impl ComposedRecord {
     ghost use Rattle.answer_terms.specs.ZoneView.{is_of};
     ghost use Rattle.definitions.specs.Name.{Name};
     ghost use Rattle.answer_terms.specs.GroupView.{spelled_by};
+    ghost use Rattle.answer_zone.specs.Cuts.{delegates};
     ghost use Rattle.answer_zone.specs.GroupRecords.{record_under};
 
     /// A record, its data composed in canonical form.
@@ -75,6 +76,15 @@ impl ComposedRecord {
         ensures { result ≡ is_of name.now rtype self.now }
     {
         self.owner().name_eq(name) && self.rtype() == rtype
+    }
+
+    /// Whether this is a name server of a delegation at or above a name: of an owner strictly below the apex.
+    pub fn delegates(&self, apex: &Name<Vec<u8>>, name: &Name<Vec<u8>>) -> bool
+        ensures { result ≡ delegates apex.now name.now self.now }
+    {
+        self.rtype() == Rtype::NS
+            && is_above(apex, self.owner())
+            && is_at_or_above(self.owner(), name)
     }
 
     /// The lesser of the TTL and the last four octets of the data, which in an SOA record are its minimum

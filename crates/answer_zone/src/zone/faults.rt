@@ -6,7 +6,6 @@ ghost use Rattle.answer_terms.specs.Accepting.{
   delegates_star,
   is_added_by_signing,
   is_alias,
-  is_cut_or_star,
   is_of_other_class,
   is_outside,
   over_limit,
@@ -16,8 +15,7 @@ ghost use Rattle.answer_zone.specs.ModeView.{mode_of};
 
 use crate::fault::{Mode, ZoneFault};
 use crate::zone::record_faults::{
-    delegates_star, is_added_by_signing, is_alias, is_cut_or_star, is_meta, is_of_other_class,
-    is_outside,
+    delegates_star, is_added_by_signing, is_alias, is_meta, is_of_other_class, is_outside,
 };
 use messages::names::Name;
 use messages::record::ZoneRecord;
@@ -43,8 +41,6 @@ pub(super) fn first_fault(
         Some(ZoneFault::MetaType)
     } else if any_star_delegation(records) {
         Some(ZoneFault::StarNs)
-    } else if any_cut_or_star(apex, records) {
-        Some(ZoneFault::NotYet)
     } else if is_over_limit(mode, limit) {
         Some(ZoneFault::IterationsOverLimit)
     } else {
@@ -86,12 +82,6 @@ fn any_star_delegation(records: &[ZoneRecord]) -> bool
     ensures { result ≡ list_any delegates_star (map handed_of records.now) }
 {
     records.iter().any(|r| delegates_star(r))
-}
-
-fn any_cut_or_star(apex: &Name<Vec<u8>>, records: &[ZoneRecord]) -> bool
-    ensures { result ≡ list_any (is_cut_or_star apex.now) (map handed_of records.now) }
-{
-    records.iter().any(|r| is_cut_or_star(r, apex))
 }
 
 /// Whether a chain's iterations are over the limit (RFC 5155, 10.3). A chain of names has none.

@@ -1,10 +1,12 @@
 //! What an accepted zone has at a name and a type.
-ghost use Rattle.std.specs.Prelude.{◌≡◌, ◌&&◌, false, IfOk, IfSome, IsNone};
+ghost use Rattle.std.specs.Prelude.{◌≡◌, ◌&&◌, false, IfOk, IfSome, IsNone, None, Some};
 ghost use Rattle.std.specs.List.{list_any};
+ghost use Rattle.std.specs.List.Sorted.{IsStrictlySortedBy};
 ghost use Rattle.definitions.specs.Name.{low, at_or_above};
-ghost use Rattle.definitions.specs.Zone.{has, exists};
-ghost use Rattle.answer_terms.specs.Accepting.{zone_with};
+ghost use Rattle.definitions.specs.Zone.{cut, has, exists};
+ghost use Rattle.answer_terms.specs.Accepting.{record_cmp, zone_with};
 ghost use Rattle.answer_terms.specs.Served.{chain_ttl, owner_among, ttl_among};
+ghost use Rattle.answer_zone.specs.Cuts.{is_cut_off};
 ghost use Rattle.answer_zone.specs.GroupRecords.{HoldsRrset};
 ghost use Rattle.answer_terms.specs.ZoneView.{is_of};
 
@@ -24,11 +26,39 @@ impl ZoneRecords {
         any_of(&self.records, name, rtype)
     }
 
-    /// Whether a name exists: an owner is at or below it (RFC 4592, 2.2).
+    /// Whether a name exists: an owner that is not below a delegation is at or below it (RFC 4592, 2.2).
     pub fn exists(&self, name: &Name<Vec<u8>>) -> bool
         ensures { result ≡ exists (zone_with self.now.apex self.now.records) (low name.now) }
     {
+        self.has_at_or_below(name) && !self.is_below_cut(name)
+    }
+
+    /// Whether the name is at or below the apex, and an owner at or below the name.
+    fn has_at_or_below(&self, name: &Name<Vec<u8>>) -> bool
+        ensures { result ≡ (at_or_above self.now.apex name.now
+            && list_any (λ r. at_or_above name.now r.owner) self.now.records) }
+    {
         is_at_or_above(&self.apex, name) && any_at_or_below(&self.records, name)
+    }
+
+    /// Whether a delegation stands strictly above a name.
+    fn is_below_cut(&self, name: &Name<Vec<u8>>) -> bool
+        ensures { result ≡ is_cut_off (zone_with self.now.apex self.now.records) (low name.now) }
+    {
+        match self.cut(name) {
+            Some(cut) => !cut.name_eq(name),
+            None => false,
+        }
+    }
+
+    /// The topmost delegation at or above a name, as its first record spells it (RFC 1034, 4.2.1).
+    pub(super) fn cut(&self, name: &Name<Vec<u8>>) -> Option<&Name<Vec<u8>>>
+        ensures some { let z = zone_with self.now.apex self.now.records in
+            IfSome result (λ c. cut z (low name.now) ≡ Some (low c.now)) }
+        ensures none { let z = zone_with self.now.apex self.now.records in
+            IsNone result → cut z (low name.now) ≡ None }
+    {
+        cut_among(&self.records, &self.apex, name)
     }
 
     /// The TTL of an owner and a type, 0 where the zone has none.
@@ -89,6 +119,26 @@ fn any_at_or_below(records: &[ComposedRecord], name: &Name<Vec<u8>>) -> bool
     ensures { result ≡ list_any (λ r. at_or_above name.now r.owner) records.now }
 {
     records.iter().any(|r| is_at_or_above(name, r.owner()))
+}
+
+/// The owner of the first delegation at or above a name. Names above others stand before them, so it is the topmost.
+fn cut_among<'a>(
+    records: &'a [ComposedRecord],
+    apex: &Name<Vec<u8>>,
+    name: &Name<Vec<u8>>,
+) -> Option<&'a Name<Vec<u8>>>
+    requires rising { IsStrictlySortedBy record_cmp records.now }
+    ensures some { let z = zone_with apex.now records.now in
+        IfSome result (λ c. cut z (low name.now) ≡ Some (low c.now)) }
+    ensures none { let z = zone_with apex.now records.now in
+        IsNone result → cut z (low name.now) ≡ None }
+{
+    for record in records {
+        if record.delegates(apex, name) {
+            return Some(record.owner());
+        }
+    }
+    None
 }
 
 /// The TTL of the first record of an owner and a type.

@@ -1,11 +1,11 @@
 //! Records as they are handed in, and what makes one of them no record of a zone that is published.
-ghost use Rattle.std.specs.Prelude.{◌≡◌, ◌==◌, not, ◌&&◌, ◌||◌, [], ◌∷◌};
-ghost use Rattle.definitions.specs.Name.{at_or_above, strictly_above};
-ghost use Rattle.messages.specs.HandedRr.{among, handed_of, is_meta, is_unknown, has_star};
+ghost use Rattle.std.specs.Prelude.{◌≡◌, ◌==◌, not, ◌&&◌, [], ◌∷◌};
+ghost use Rattle.definitions.specs.Name.{at_or_above};
+ghost use Rattle.messages.specs.HandedRr.{among, handed_of, is_meta, is_unknown};
 ghost use Rattle.messages.specs.Star.{begins_with_star};
 ghost use Rattle.plain.specs.ZoneData.{zone_type};
 
-use messages::names::{Name, ZoneName, is_above, is_at_or_above};
+use messages::names::{Name, ZoneName, is_at_or_above};
 use messages::record::{ZoneData, ZoneRecord};
 use names_data::rtype::Rtype;
 use plain::Class;
@@ -66,12 +66,4 @@ pub(super) fn delegates_star(rr: &ZoneRecord) -> bool
     ensures { result ≡ ((zone_type rr.now.content == 2) && begins_with_star rr.now.owner) }
 {
     rr.rtype() == Rtype::NS && rr.owner().is_wildcard()
-}
-
-/// Whether this is a delegation, or the owner has a wildcard label.
-pub(super) fn is_cut_or_star(rr: &ZoneRecord, apex: &Name<Vec<u8>>) -> bool
-    ensures { result ≡ (((zone_type rr.now.content == 2) && strictly_above apex.now rr.now.owner)
-        || has_star rr.now.owner) }
-{
-    (rr.rtype() == Rtype::NS && is_above(apex, rr.owner())) || rr.owner().has_star()
 }
