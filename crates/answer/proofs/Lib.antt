@@ -1,2 +1,2 @@
 pub mod SimulateLoop
-pub mod KeptThings
+pub mod ShownThings

@@ -3,10 +3,10 @@ use Rattle.std.specs.Prelude.{◌≡◌, ◌++◌, ◌∷◌, [], ℕ, Bool, Lis
 use Rattle.definitions.specs.Dnskey.{Dnskey}
 use Rattle.answer_events.specs.declared.event.Act.{Act}
 use Rattle.answer_life.specs.declared.outcome.Outcome.{Outcome}
-use Rattle.answer.specs.declared.simulation.kept.Thing.{Thing}
-use Rattle.answer.specs.declared.simulation.kept.Thing.TheVariants as thing
+use Rattle.answer.specs.declared.simulation.results.Thing.{Thing}
+use Rattle.answer.specs.declared.simulation.results.Thing.TheVariants as thing
 use Rattle.answer.specs.declared.simulation.run.Run.{Run}
-use Rattle.answer.specs.Keeping.{Keeps}
+use Rattle.answer.specs.Results.{Results}
 use Rattle.answer_publisher.specs.Bindings.{ZoneKeys}
 use Rattle.answer_publisher.specs.World.{World, world_of}
 use Rattle.answer_life.specs.Simulating.{Shown, OfParent, OfKeys, OfZone, Sofar, StepOf}
@@ -18,11 +18,11 @@ thing_of (thing.OfKeys octets) = OfKeys octets.now
 thing_of (thing.OfZone question octets) = OfZone (asked_of question.now) octets.now
 
 -- the keys, and the things shown in order of place
-abbrev pub sofar : ZoneKeys → Keeps → Sofar
-sofar keys kept = record { keys = keys; shown = kept.shown }
+abbrev pub sofar : ZoneKeys → Results → Sofar
+sofar keys results = record { keys = keys; shown = results.shown }
 
 abbrev pub sofar_in : {S H : Type 0} → Run S H → Sofar
-sofar_in r = sofar r.publisher.keys r.kept
+sofar_in r = sofar r.publisher.keys r.results
 
 -- the world that it runs in, by what scheme and hasher answer
 abbrev pub world_in : {S H : Type 0} → (S → Dnskey → List ℕ → Option (List ℕ)) → (S → Dnskey → List ℕ → List ℕ → Bool) → (S → ℕ → List ℕ → Option (List ℕ)) → (H → List ℕ → ℕ → ℕ → List ℕ → Option (List ℕ)) → Run S H → World
@@ -30,4 +30,4 @@ world_in sign verifies digest hash r = world_of sign verifies digest hash r.publ
 
 -- an act adds an outcome, which is what comes of it
 abbrev pub Serves : {S H : Type 0} → World → Run S H → ℕ → Act → Run S H → Type 0
-Serves w old at act new = (o : Outcome) × (new.kept.outcomes ≡ old.kept.outcomes ++ o ∷ []) × StepOf w (sofar_in old) at act o (sofar_in new)
+Serves w old at act new = (o : Outcome) × (new.results.outcomes ≡ old.results.outcomes ++ o ∷ []) × StepOf w (sofar_in old) at act o (sofar_in new)

@@ -18,7 +18,7 @@ use messages::names::Name;
 use messages::record::ZoneRecord;
 use std::alloc::Global;
 
-mod kept;
+mod results;
 mod run;
 
 /// Runs events over a zone, one outcome an event.

@@ -1,5 +1,5 @@
 -- The keys of a given DNSKEY answer, and that one at the parent signs them.
-use Rattle.std.proofs.Common.{◌≡◌, ℕ, ◌<◌, Bool, true, false, ◌&&◌, List, [], ◌∷◌, ◌++◌, Option, Some, None, eqb, length, map, refl, sym, ap, subst, ◌∙◌, inl, arith}
+use Rattle.std.proofs.Common.{◌≡◌, ℕ, ◌<◌, Bool, true, false, ◌&&◌, List, [], ◌∷◌, ◌++◌, Option, Some, None, eqb, length, map, refl, sym, ap, subst, ◌∙◌, inl}
 use Rattle.std.specs.Prelude.{if◌then◌else◌}
 use Rattle.std.specs.List.{AllByRecursion, cons_option, filter, filter_map, list_any}
 use Rattle.std.specs.Str.{bytes_eq}
@@ -10,6 +10,7 @@ use lib.Pointwise.{bytes_decides}
 use Rattle.definitions.specs.Name.{Name, low, same}
 use Rattle.definitions.specs.Dnskey.{Dnskey, Ds, dnskey_data, dnskey_of_data, key_tag}
 use Rattle.definitions.specs.Zone.{apex_of, sorted_data}
+use Rattle.definitions.specs.ZoneChain.{Mode}
 use Rattle.messages.specs.HandedRr.{HandedRr}
 use Rattle.answer_scheme.specs.Answers.{Answers}
 use Rattle.answer_judge.specs.Facts.{digests_to, is_trusted, is_usable, names_key}
@@ -24,8 +25,8 @@ use Rattle.answer_judge.specs.Verified.{Trusting, is_verified}
 use Rattle.answer_judge.proofs.GivenKeys.{IsKeyData, by_tag-has, data_of_key, find_kept, key_data, read_all, read_from, read_has, tags_within}
 use Rattle.answer_judge.proofs.GivenLists.{has_contained}
 use Rattle.answer_judge.proofs.GivenNext.{canonical_octets}
-use Rattle.answer_judge.proofs.GivenSignatures.{IsSignedBy, verified_given}
-use Rattle.answer_judge.proofs.GivenSorted.{all_has, data_has, sorted_from, sorted_twice}
+use Rattle.answer_judge.proofs.GivenSignatures.{IsSignedBy, fits_equal, verified_given}
+use Rattle.answer_judge.proofs.GivenSorted.{all_has, data_has, some_length, sorted_from, sorted_twice}
 use Rattle.messages.proofs.Lists.{Has, all_at, all_more, any_from}
 use Rattle.messages.proofs.ZoneNames.{labels_eq-same}
 
@@ -121,18 +122,14 @@ trusted_given a apex ds k usable has =
     let named : names_key a apex k d ≡ true = and_from _ _ (and_from _ _ (eq-eqb (key_tag k) (key_tag k) refl) (eq-eqb k.algorithm k.algorithm refl)) digests in
     and_from (is_usable k) (list_any (names_key a apex k) ds) usable (any_from (names_key a apex k) ds d (has_contained ds d has.held) named)
 
-pub some_length : (xs : List (List ℕ)) (x : List ℕ) → Has xs x → 0 < length xs
-some_length [] x h = absurd h
-some_length (y ∷ ys) x h = omega arith
-
 -- flags of keys that may sign
 pub small_flags : (ks : List Dnskey) → AllByRecursion IsZoneKey ks → Small ks
 small_flags ks h = all_more IsZoneKey (λ (k : Dnskey). k.flags < 65536) ks (λ k is. is.flags) h
 
-pub chained_given : (a : Answers) (k : ℕ) (h : Handing) (rs : List HandedRr) → (given : WasGiven a k h rs) → is_chained a k h given.keys_told.read ≡ true
-chained_given a k h rs given =
+pub chained_given : (a : Answers) (k : ℕ) (h : Handing) (mode : Mode) (rs : List HandedRr) → (given : WasGiven a k h mode rs) → is_chained a k h given.keys_told.read ≡ true
+chained_given a k h mode rs given =
     let gives = given.keys_told in
-    let s : Served = served_from a h rs in
+    let s : Served = served_from a h mode rs in
     let anchor : Dnskey = given.meet.anchor in
     let present : List Dnskey = given.present in
     let small : Small present = small_flags present given.keys_are in
@@ -152,7 +149,7 @@ chained_given a k h rs given =
       group = inl refl;
       signed = lt-ltb 0 (length (present_data present)) some;
       some = some;
-      labels = refl;
+      fits = fits_equal h.apex g refl;
       signer = by_tag-has given.keysigners anchor given.keysigner_tags (has_contained given.keysigners anchor given.meet.signs_keys);
       found = find_kept (is_trusted a h.apex h.ds) keys anchor (fields_for h.apex given.keys_at given.life g anchor) apart kept trusted refl refl;
       hold = given.keys_hold;

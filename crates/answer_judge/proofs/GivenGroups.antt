@@ -2,7 +2,7 @@
 use Rattle.std.specs.Prelude.{◌≡◌, ℕ, Bool, false, ◌&&◌, ◌||◌, ◌==◌, List, [], ◌∷◌, ◌++◌}
 use Rattle.std.specs.List.{AllByRecursion, list_any}
 use Rattle.definitions.specs.Name.{Name, IsLabel, low, same, wire}
-use Rattle.answer_rules.specs.Rules.{Link}
+use Rattle.denial_rules.specs.Facts.{Link}
 use Rattle.answer_terms.specs.Served.{Group}
 
 -- the RRset of an owner, up to case, and a type

@@ -4,21 +4,22 @@ use Rattle.std.specs.Prelude.{find, nat_eq, if◌then◌else◌}
 use Rattle.std.proofs.lemmas.Bool.{and_from, eq-eqb, ne_eqb}
 use Rattle.definitions.specs.Name.{Name, low}
 use Rattle.definitions.specs.Dnskey.{Dnskey, Ds, key_tag}
+use Rattle.definitions.specs.Signing.{Fields}
 use Rattle.definitions.specs.Zone.{Unsigned}
+use Rattle.definitions.specs.ZoneChain.{Mode}
 use Rattle.messages.specs.HandedRr.{HandedRr}
 use Rattle.answer_scheme.specs.Answers.{Answers}
-use Rattle.answer_judge.specs.Facts.{fits_key, is_usable}
-use Rattle.answer_terms.specs.Told.{fields_for}
+use Rattle.answer_judge.specs.Facts.{is_usable}
+use Rattle.answer_judge.specs.OwnFacts.{passes_for}
 use Rattle.answer_judge.specs.declared.judging.verdict.Refusal.{Refusal}
 use Rattle.answer_judge.specs.declared.judging.verdict.Refusal.TheVariants as r
 use Rattle.messages.specs.declared.error.MessageError.{MessageError}
-use Rattle.answer_judge.specs.Judged.{judged, judged_answer, judged_messages, keys_of, trusting}
+use Rattle.answer_judge.specs.Judged.{judged, judged_answer, judged_messages, keys_of}
 use Rattle.answer_judge.specs.Judging.{Answer, Handing, Refuses, Says, first_refusal, message_refusal, same_question}
 use Rattle.answer_terms.specs.EqualTags.{has_equal_tags}
 use Rattle.answer_judge.specs.Meeting.{HasDs, IsZoneKey, WasGiven, served_from}
 use Rattle.messages.specs.Message.{Asked, Message}
-use Rattle.answer_terms.specs.Served.{Group, answer_groups, by_tag}
-use Rattle.answer_judge.specs.Verified.{Trusting}
+use Rattle.answer_terms.specs.Served.{by_tag}
 use Rattle.answer_judge.proofs.GivenChained.{chained_given, keys_apart, keys_has, small_flags}
 use Rattle.answer_judge.proofs.GivenKeys.{by_tag-has, find_kept}
 use Rattle.answer_judge.proofs.GivenLists.{has_contained}
@@ -60,7 +61,7 @@ answers_by keys answer f = elim keys [
 abbrev chained_by : Bool → Answer → Answer
 chained_by chained later = elim chained [ true ↦ later | false ↦ Refuses r.NoTrustedKey ]
 
-module _ (a : Answers) (k : ℕ) (h : Handing) (rs : List HandedRr) (given : WasGiven a k h rs) where
+module _ (a : Answers) (k : ℕ) (h : Handing) (mode : Mode) (rs : List HandedRr) (given : WasGiven a k h mode rs) where
   abbrev read_keys : List Dnskey
   read_keys = keys_of h given.keys_told.read
 
@@ -68,7 +69,7 @@ module _ (a : Answers) (k : ℕ) (h : Handing) (rs : List HandedRr) (given : Was
   usable_keys = filter is_usable read_keys
 
   apart : has_equal_tags read_keys ≡ false
-  apart = keys_apart a.verifies k (served_from a h rs) h.apex given.present given.keysigners given.keys_at given.life h.dnskey_bytes given.keys_told (small_flags given.present given.keys_are) given.present_tags
+  apart = keys_apart a.verifies k (served_from a h mode rs) h.apex given.present given.keysigners given.keys_at given.life h.dnskey_bytes given.keys_told (small_flags given.present given.keys_are) given.present_tags
 
   asked : (same_question given.keys_told.read.asked (question_of h.apex) && same_question given.answer_told.read.asked h.asked) ≡ true
   asked = and_from _ _ (same_asked given.keys_told.read.asked (question_of h.apex) given.keys_told.name_is given.keys_told.rtype_is given.keys_told.class_is) (same_asked given.answer_told.read.asked h.asked given.answer_told.name_is given.answer_told.rtype_is given.answer_told.class_is)
@@ -97,22 +98,16 @@ module _ (a : Answers) (k : ℕ) (h : Handing) (rs : List HandedRr) (given : Was
   pub judged_given : judged a k h ≡ judged_answer a k h usable_keys given.answer_told.read
   judged_given =
       (λ i. judged_by (first_refusal_given i) (some_ds i) (answers_by (given.keys_told.reads i) (given.answer_told.reads i) (judged_messages a k h)))
-      ∙ ap (λ b. chained_by b (judged_answer a k h usable_keys given.answer_told.read)) (chained_given a k h rs given)
-
-  -- what the judge verifies the answer with
-  abbrev pub answer_trust : Trusting
-  answer_trust = trusting a h usable_keys
-
-  abbrev pub given_groups : List Group
-  given_groups = answer_groups (served_from a h rs) h.asked.name h.asked.rtype
+      ∙ ap (λ b. chained_by b (judged_answer a k h usable_keys given.answer_told.read)) (chained_given a k h mode rs given)
 
   -- the key that signs the zone is found by its tag and algorithm
-  pub signer_found : (g : Group) → find (fits_key (fields_for h.apex given.answer_at given.life g given.meet.signer)) usable_keys ≡ Some given.meet.signer
-  signer_found g =
+  pub signer_found : find (passes_for given.meet.signer) usable_keys ≡ Some given.meet.signer
+  signer_found =
       let signer : Dnskey = given.meet.signer in
       let there : Has given.present signer = has_contained given.present signer given.meet.signer_present in
-      find_kept is_usable read_keys signer (fields_for h.apex given.answer_at given.life g signer) apart
-      (keys_has a.verifies k (served_from a h rs) h.apex given.present given.keysigners given.keys_at given.life h.dnskey_bytes given.keys_told (small_flags given.present given.keys_are) signer there)
+      let named : Fields = record { covered = 0; algorithm = signer.algorithm; labels = 0; ttl = 0; expiration = 0; inception = 0; tag = key_tag signer; signer = h.apex } in
+      find_kept is_usable read_keys signer named apart
+      (keys_has a.verifies k (served_from a h mode rs) h.apex given.present given.keysigners given.keys_at given.life h.dnskey_bytes given.keys_told (small_flags given.present given.keys_are) signer there)
       (all_at IsZoneKey given.present signer given.keys_are there).usable refl refl
 
   pub signer_signs : Has (by_tag given.zonesigners) given.meet.signer

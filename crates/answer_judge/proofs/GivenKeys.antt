@@ -1,13 +1,11 @@
 -- Keys of different tags: each is the one that its tag names, in lists that have the same keys.
-use Rattle.std.proofs.Common.{[], ◌≡◌, ℕ, ◌+◌, ◌*◌, ◌<◌, Bool, true, false, not, ◌&&◌, List, ◌∷◌, Some, Ordering, eqb, map, refl, sym, ap, subst, ◌∙◌, inl, inr, ⊎_elim, arith}
+use Rattle.std.proofs.Common.{[], ◌≡◌, ℕ, ◌<◌, Bool, true, false, not, ◌&&◌, List, ◌∷◌, Some, Ordering, eqb, map, refl, sym, ap, subst, ◌∙◌, inl, inr, ⊎_elim}
 use Rattle.std.specs.declared.cmp.Ordering.TheVariants.{Equal}
-use Rattle.std.specs.Int.{byte_at}
 use Rattle.std.specs.List.{AllByRecursion, cons_option, filter, filter_map, find, list_any}
 use Rattle.std.specs.Ordering.{nat_cmp}
 use Rattle.std.specs.FinMap.{nat_cmp-IsAntisymmetric}
 use Rattle.std.specs.Str.{bytes_eq}
 use Rattle.std.proofs.lemmas.Bool.{and_from, and_parts, eq-eqb, eqb-true, false_from_ne_true, false≢true}
-use Rattle.std.proofs.lemmas.Nat.{from_be_bytes-to_be_bytes_2}
 use lib.Pointwise.{bytes_decides}
 use Rattle.definitions.specs.Dnskey.{Dnskey, dnskey_data, dnskey_of_data, key_tag, same_key}
 use Rattle.definitions.specs.Signing.{Fields}

@@ -86,7 +86,7 @@ none_taken o t (g ∷ gs) e =
 rrset_as : (o p : Name) (t s : ℕ) (gs : List Group) → low o ≡ low p → t ≡ s → list_any (is_rrset o t) gs ≡ list_any (is_rrset p s) gs
 rrset_as o p t s gs e f = λ i. list_any (λ g. eqb g.rtype (f i) && labels_eq (low g.owner) (e i)) gs
 
-rrset_here : (o : Name) (t : ℕ) (g : Group) → g.rtype ≡ t → low g.owner ≡ low o → is_rrset o t g ≡ true
+pub rrset_here : (o : Name) (t : ℕ) (g : Group) → g.rtype ≡ t → low g.owner ≡ low o → is_rrset o t g ≡ true
 rrset_here o t g f e = and_from (eqb g.rtype t) (same g.owner o) (eq-eqb g.rtype t f) (labels_eq-same (low g.owner) (low o) e)
 
 one_taken : (o : Name) (t : ℕ) (gs : List Group) (g : Group) → has_twins gs ≡ false → Has gs g → g.rtype ≡ t → low g.owner ≡ low o → flat_map (λ g. taken (is_rrset o t g) g.datas) gs ≡ g.datas
@@ -114,8 +114,3 @@ pub rrset_given : (v : Dnskey → List ℕ → List ℕ → Bool) (k : ℕ) (m :
     → has_twins gs ≡ false → Has gs g → g.rtype ≡ t → low g.owner ≡ low o → rrset_in k m rs o t ≡ sorted_data g.datas
 rrset_given v k m rs apex at life keys gs o t g other are alone h f e =
     ap sorted_data (data_in v k m rs apex at life keys gs o t other are ∙ one_taken o t gs g alone h f e)
-
-pub rrset_missing : (v : Dnskey → List ℕ → List ℕ → Bool) (k : ℕ) (m : List ℕ) (rs : List Spelled) (apex : Name) (at life : ℕ) (keys : List Dnskey) (gs : List Group) (o : Name) (t : ℕ) → eqb 46 t ≡ false → TellsGroups v k m rs apex at life keys gs
-    → list_any (is_rrset o t) gs ≡ false → rrset_in k m rs o t ≡ []
-rrset_missing v k m rs apex at life keys gs o t other are none =
-    ap sorted_data (data_in v k m rs apex at life keys gs o t other are ∙ none_taken o t gs none)

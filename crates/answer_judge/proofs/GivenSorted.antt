@@ -1,5 +1,5 @@
 -- Lists in order have the items that were put in.
-use Rattle.std.proofs.Common.{◌≡◌, ℕ, Bool, true, false, List, [], ◌∷◌, Some, cond, refl, sym, ap, subst, ◌∙◌, inl, inr, ⊎_elim, Ordering}
+use Rattle.std.proofs.Common.{◌≡◌, ℕ, ◌<◌, Bool, true, false, List, [], ◌∷◌, Some, cond, length, arith, refl, sym, ap, subst, ◌∙◌, inl, inr, ⊎_elim, Ordering}
 use Rattle.std.specs.declared.cmp.Ordering.TheVariants.{Less, Equal, Greater}
 use Rattle.std.specs.List.{AllByRecursion, filter, find}
 use Rattle.std.specs.Cmp.Lexicographic.{slice_cmp}
@@ -68,13 +68,17 @@ data_exact a b s t e = slice_cmp-IsAntisymmetric nat_cmp-IsAntisymmetric a b e
 pub data_has : (ds : List (List ℕ)) (d : List ℕ) → Has ds d → Has (sorted_data ds) d
 data_has ds d h = sorted_has (slice_cmp nat_cmp) (λ _. ⊤) data_exact ds d (all_has (λ _. ⊤) ds (λ x _. tt)) h
 
-in_has : {A : Type 0} (xs : List A) (x : A) → In x xs → Has xs x
+pub in_has : {A : Type 0} (xs : List A) (x : A) → In x xs → Has xs x
 in_has [] x h = absurd h
 in_has (y ∷ ys) x h = ⊎_elim (λ e. inl e) (λ k. inr (in_has ys x k)) h
 
 has_in : {A : Type 0} (xs : List A) (x : A) → Has xs x → In x xs
 has_in [] x h = absurd h
 has_in (y ∷ ys) x h = ⊎_elim (λ e. inl e) (λ k. inr (has_in ys x k)) h
+
+pub some_length : (xs : List (List ℕ)) (x : List ℕ) → Has xs x → 0 < length xs
+some_length [] x h = absurd h
+some_length (y ∷ xs) x h = omega arith
 
 -- data in order stay as they are
 pub sorted_twice : (ds : List (List ℕ)) → sorted_data (sorted_data ds) ≡ sorted_data ds

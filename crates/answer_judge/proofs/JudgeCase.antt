@@ -1,6 +1,6 @@
 -- What signatures verify of an RRset does not depend on the case of its owner, nor of the signer.
-use Rattle.std.proofs.Common.{◌≡◌, ℕ, ◌-◌, Bool, true, false, ◌&&◌, not, ◌==◌, List, ◌∷◌, [], ◌++◌, length, drop, sym, ap, ◌∙◌}
-use Rattle.std.specs.Prelude.{Some, None, nat_lt, if◌then◌else◌}
+use Rattle.std.proofs.Common.{◌≡◌, ℕ, ◌-◌, Bool, true, false, ◌&&◌, ◌||◌, not, ◌==◌, List, ◌∷◌, [], ◌++◌, length, drop, sym, ap, ◌∙◌}
+use Rattle.std.specs.Prelude.{Some, None, nat_le, nat_lt, if◌then◌else◌}
 use Rattle.std.specs.List.{find, filter_map, list_any, flat_map}
 use Rattle.std.specs.Int.{w16, w32, to_be_bytes}
 use Rattle.std.specs.Str.{str_to_ascii_lowercase}
@@ -10,7 +10,7 @@ use Rattle.definitions.specs.Dnskey.{Dnskey}
 use Rattle.definitions.specs.Zone.{sorted_data}
 use Rattle.definitions.specs.Signing.{Fields, in_time, label_count, signed_owner, signed_octets, fields_data, canonical_record}
 use Rattle.answer_scheme.specs.Answers.{Answers}
-use Rattle.answer_judge.specs.Facts.{is_signature, signs, is_due, fits_key}
+use Rattle.answer_judge.specs.Facts.{is_signature, signs, is_due, fits_key, labels_fit, may_expand}
 use Rattle.messages.specs.Message.{Spelled, canonical_data, rrsig_at}
 use Rattle.messages.specs.Record.{Signature, fields_of, fields_read}
 use Rattle.answer_judge.specs.Verified.{Trusting, datum_of, rrset_in, verifies_with, is_verified}
@@ -35,8 +35,11 @@ signed_owner-owner c a b h = let n = label_count-owner a b h in let l = length-o
 pub signed_octets-owner : (f : Fields) (a b : Name) (items : List (List ℕ)) → low a ≡ low b → signed_octets f a 1 items ≡ signed_octets f b 1 items
 signed_octets-owner f a b items h = ap (λ (o : Name). fields_data f ++ flat_map (canonical_record o f.covered 1 f.ttl) items) (signed_owner-owner f.labels a b h)
 
+labels_fit-owner : (apex a b : Name) (f : Fields) → low a ≡ low b → labels_fit apex a f ≡ labels_fit apex b f
+labels_fit-owner apex a b f h = ap (λ n. (f.labels == n) || (may_expand f.covered && nat_lt f.labels n && nat_le (length apex) f.labels)) (label_count-owner a b h)
+
 pub is_due-owner : (apex : Name) (now : ℕ) (a b : Name) (f : Fields) → low a ≡ low b → is_due apex now a f ≡ is_due apex now b f
-is_due-owner apex now a b f h = ap (λ n. (f.labels == n) && in_time f now && same f.signer apex) (label_count-owner a b h)
+is_due-owner apex now a b f h = ap (λ fit. fit && in_time f now && same f.signer apex) (labels_fit-owner apex a b f h)
 
 pub signs-owner : (v : Answers) (apex : Name) (keys : List Dnskey) (now : ℕ) (a b : Name) (items : List (List ℕ)) (f : Fields) (sig : List ℕ) → low a ≡ low b → signs v apex keys now a items f sig ≡ signs v apex keys now b items f sig
 signs-owner v apex keys now a b items f sig h =
@@ -67,7 +70,7 @@ is_verified-owner w k m rs a b t items h = (λ i. list_any (λ r. verifies_with-
 pub signs-signer : (v : Answers) (apex : Name) (keys : List Dnskey) (now : ℕ) (owner : Name) (items : List (List ℕ)) (s : Signature) (sig : List ℕ) → signs v apex keys now owner items (fields_of s) sig ≡ signs v apex keys now owner items (fields_read s) sig
 signs-signer v apex keys now owner items s sig =
     let f = fields_read s in
-    let d : is_due apex now owner (fields_of s) ≡ is_due apex now owner (fields_read s) = ap (λ n. (f.labels == label_count owner) && in_time (fields_read s) now && labels_eq n (low apex)) (low-low f.signer) in
+    let d : is_due apex now owner (fields_of s) ≡ is_due apex now owner (fields_read s) = ap (λ n. labels_fit apex owner f && in_time f now && labels_eq n (low apex)) (low-low f.signer) in
     let o : signed_octets (fields_of s) owner 1 items ≡ signed_octets (fields_read s) owner 1 items =
     ap (λ (n : Name). (to_be_bytes w16 f.covered ++ f.algorithm ∷ f.labels ∷ to_be_bytes w32 f.ttl ++ to_be_bytes w32 f.expiration ++ to_be_bytes w32 f.inception ++ to_be_bytes w16 f.tag ++ wire n) ++ flat_map (canonical_record (signed_owner f.labels owner) f.covered 1 f.ttl) items) (low-low f.signer) in
     (λ i. elim (not (length items == 0) && d i) [ false ↦ false | true ↦ elim (find (fits_key (fields_read s)) keys) [ None ↦ false | Some k ↦ v.verifies k (o i) sig ] ])

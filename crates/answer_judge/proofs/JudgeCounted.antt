@@ -8,15 +8,15 @@ use Rattle.std.proofs.lemmas.Bool.{and_parts, eqb-true, or_parts, not-true, fals
 use Rattle.std.proofs.lemmas.List.{drop_all}
 use Rattle.definitions.specs.Limits.{pointer_limit}
 use Rattle.definitions.specs.Name.{Name, labels_eq, low, same}
-use Rattle.definitions.specs.Signing.{Fields, in_time, label_count}
+use Rattle.definitions.specs.Signing.{Fields, in_time}
 use Rattle.messages.specs.Record.{Signature, fields_of, fields_read, signature_of, spelled}
 use Rattle.messages.specs.declared.view.ViewRecord.{ViewRecord}
 use Rattle.messages.specs.Message.{Spelled, rrsig_at}
 use Rattle.messages.proofs.Lists.{items_from, list_any-map}
 use Rattle.messages.proofs.ZoneNames.{low-low, same_labels}
 use Rattle.answer_judge.specs.Counted.{Sought, can_try, is_tried, one_if, tries, tries_fields}
-use Rattle.answer_judge.specs.Facts.{fits_key, is_due, is_signature}
-use Rattle.answer_rules.specs.Rules.{first_some}
+use Rattle.answer_judge.specs.Facts.{fits_key, is_due, is_signature, labels_fit}
+use Rattle.denial_rules.specs.NsecRules.{first_some}
 use Rattle.answer_judge.specs.Marked.{are_apart, data_in, is_like, is_of, is_tried_in, marked, or_first, signed_of, tries_group, tries_in}
 use Rattle.answer_judge.specs.Verified.{Trusting, is_verified, verified_with}
 use Rattle.answer_judge.specs.declared.judging.groups.Group.{Group}
@@ -116,7 +116,7 @@ count_again w m r f gs i g n k e s c a h at own v same =
 -- whether the signer is lowered makes no difference
 try-signer : (w : Trusting) (owner : Name) (items : List (List ℕ)) (s : Signature) → can_try w owner items (fields_of s) ≡ can_try w owner items (fields_read s)
 try-signer w owner items s =
-    let d : is_due w.apex w.now owner (fields_of s) ≡ is_due w.apex w.now owner (fields_read s) = ap (λ n. ((fields_read s).labels == label_count owner) && in_time (fields_read s) w.now && labels_eq n (low w.apex)) (low-low (fields_read s).signer) in
+    let d : is_due w.apex w.now owner (fields_of s) ≡ is_due w.apex w.now owner (fields_read s) = ap (λ n. labels_fit w.apex owner (fields_read s) && in_time (fields_read s) w.now && labels_eq n (low w.apex)) (low-low (fields_read s).signer) in
     λ i. elim (not (length items == 0) && d i) as (λ _. Bool) [ false ↦ false | true ↦ is_some (find (fits_key (fields_read s)) w.keys) ]
 
 pub count_now : (w : Trusting) (m : List ℕ) (r : Spelled) (s : Signature) (gs : List Group) (i : ℕ) (g : Group) (n k : ℕ) → rrsig_at pointer_limit m r ≡ Some (signature_of s) → is_signature r ≡ true → (r.class == 1) ≡ true

@@ -2,15 +2,18 @@
 use Rattle.std.proofs.Common.{◌≡◌, ℕ, suc, ◌-◌, Bool, true, false, ◌&&◌, ◌||◌, ◌==◌, List, [], ◌∷◌, ◌++◌, map, take, drop, get_or, length, refl, sym, ap, ◌∙◌, arith}
 use Rattle.std.specs.Prelude.{Option, Some, None, is_some}
 use Rattle.std.specs.List.{list_any, filter_map, cons_option, AllByRecursion}
+use Rattle.std.specs.Option.{option_map}
+use Rattle.definitions.specs.Signing.{Fields}
 use Rattle.std.proofs.lemmas.Bool.{and_parts}
 use Rattle.definitions.proofs.Members.{both_ways}
 use Rattle.definitions.specs.Name.{Name, low, same, at_or_above}
 use Rattle.definitions.specs.Limits.{pointer_limit}
 use Rattle.answer_judge.specs.declared.judging.groups.Group.{Group}
-use Rattle.answer_rules.specs.Rules.{Link}
-use Rattle.messages.specs.Message.{Spelled, if_true}
-use Rattle.answer_judge.specs.Verified.{Trusting, rrset_in, is_verified, verified_rrset, link_of, link_at, verified_links}
-use Rattle.answer_judge.specs.Marked.{data_in, has_owner, is_proved, is_like, are_apart, is_nsec, stands_alone, marked, IsAlone, IsGathered, AreGathered, link_by, data_verified}
+use Rattle.answer_judge.specs.declared.judging.groups.Signed.{Signed}
+use Rattle.denial_rules.specs.Facts.{Facts, Link, Rrset}
+use Rattle.messages.specs.Message.{Spelled}
+use Rattle.answer_judge.specs.Verified.{Trusting, rrset_in, is_verified, verified_by, verified_rrset, link_of, link_at, verified_links, verified_facts}
+use Rattle.answer_judge.specs.Marked.{data_in, has_owner, is_proved, is_like, are_apart, is_nsec, stands_alone, marked, IsAlone, IsGathered, AreGathered, link_by, or_first, rrset_verified, signed_of}
 use Rattle.messages.proofs.ZoneNames.{same_labels}
 use Rattle.messages.proofs.Lists.{found, any_from, all_at, list_any-map}
 use Rattle.answer_judge.proofs.JudgeCase.{above-owner, rrset_in-owner, is_verified-owner}
@@ -28,16 +31,18 @@ none_of_type m apex rs (x ∷ gs) g h a = (λ i. (ap (λ t. (t == g.rtype) && sa
 pub asked_apart : (m : List ℕ) (apex : Name) (rs some : List Spelled) (gs : List Group) (g : Group) (new : List Group) → AreGathered m apex rs some gs → (g.rtype == 47) ≡ false → new ≡ gs ++ g ∷ [] → are_apart new ≡ true
 asked_apart m apex rs some gs g new a h n = ap are_apart n ∙ apart_push gs g a.apart (none_of_type m apex rs gs g h a.each)
 
-if_true-elim : {X : Type 0} (b : Bool) (x : X) → if_true b x ≡ elim b [ true ↦ Some x | false ↦ None ]
-if_true-elim true x = refl
-if_true-elim false x = refl
+abbrev with_labels : List (List ℕ) → ℕ → Rrset
+with_labels ds n = record { datas = ds; labels = n }
 
--- the RRset that was asked for
-pub asked_data : (w : Trusting) (m : List ℕ) (rs : List Spelled) (g : Group) (owner : Name) (t : ℕ) → g.owner ≡ owner → g.rtype ≡ t → data_in g ≡ rrset_in pointer_limit m rs owner t → g.verified ≡ None → data_verified (Some (marked w m rs g)) ≡ verified_rrset w pointer_limit m rs owner t
-asked_data w m rs g owner t o r d v =
-    ap (λ b. if_true b (data_in g)) (marked_is w m rs g)
-    ∙ (λ i. if_true (is_some (v i) || is_verified w pointer_limit m rs (o i) (r i) (d i)) (d i))
-    ∙ if_true-elim (is_verified w pointer_limit m rs owner t (rrset_in pointer_limit m rs owner t)) (rrset_in pointer_limit m rs owner t)
+signed_labels : (ds : List (List ℕ)) (f : Option Fields) → option_map (λ s. with_labels ds s.labels) (option_map signed_of f) ≡ option_map (λ f. with_labels ds f.labels) f
+signed_labels ds None = refl
+signed_labels ds (Some f) = refl
+
+-- the RRset that was asked for, with the labels of its first signature
+pub asked_rrset : (w : Trusting) (m : List ℕ) (rs : List Spelled) (g : Group) (owner : Name) (t : ℕ) → g.owner ≡ owner → g.rtype ≡ t → data_in g ≡ rrset_in pointer_limit m rs owner t → g.verified ≡ None → rrset_verified (Some (marked w m rs g)) ≡ verified_rrset w pointer_limit m rs owner t
+asked_rrset w m rs g owner t o r d v =
+    (λ i. option_map (λ (s : Signed). with_labels (d i) s.labels) (or_first (v i) (option_map signed_of (verified_by w pointer_limit m rs (o i) (r i) (d i)))))
+    ∙ signed_labels (rrset_in pointer_limit m rs owner t) (verified_by w pointer_limit m rs owner t (rrset_in pointer_limit m rs owner t))
 
 -- ---- links
 
@@ -135,6 +140,7 @@ last_of xs y d now old n e h =
     let k : n - 1 ≡ length xs = omega (arith, h, ap length e ∙ length_more xs y) in
     (λ i. get_or ((over now old n h ∙ e) i) (k i) d) ∙ get_last xs y d
 
--- a group gives data where it is verified
-pub gives_data : (g : Group) → is_some (data_verified (Some g)) ≡ is_some g.verified
-gives_data g = elim g.verified as (λ v. is_some (data_verified (Some (record g { verified = v }))) ≡ is_some v) [ None ↦ refl | Some s ↦ refl ]
+-- ---- all facts
+
+pub facts_verified : (w : Trusting) (m : List ℕ) (rs : List Spelled) (q : Name) (t : ℕ) (f : Facts) → f.rrset ≡ verified_rrset w pointer_limit m rs q t → f.links ≡ verified_links w pointer_limit m rs → f.hash_links ≡ [] → f ≡ verified_facts w pointer_limit m rs q t
+facts_verified w m rs q t f r l n = λ i. record { rrset = r i; links = l i; hash_links = n i }

@@ -18,8 +18,8 @@ pub record Held : Type 0 where
 abbrev pub is_held : Trusting → Held → Bool
 is_held w h = is_verified w pointer_limit h.message h.records h.owner h.rtype h.items
 
--- Fields of a signature in the message that covers the RRset's type, is the apex's and in time, and passes under a key;
--- no record before it verifies the RRset.
+-- Fields of a signature in the message that covers the RRset's type, is the apex's and in time, has a label count that fits
+-- the owner, and passes under a key; no record before it verifies the RRset.
 pub record IsFirst (w : Trusting) (h : Held) (f : Fields) : Type 0 where
   pub before : List Spelled
   pub found : Spelled

@@ -6,3 +6,4 @@ pub mod Judged
 pub mod Meeting
 pub mod Counted
 pub mod FirstSignature
+pub mod OwnFacts

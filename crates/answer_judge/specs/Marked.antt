@@ -14,7 +14,7 @@ use Rattle.answer_judge.specs.Verified.{Trusting, verified_by, rrset_in, link_of
 use Rattle.answer_judge.specs.declared.judging.groups.Signed.{Signed}
 use Rattle.std.specs.Option.{option_map}
 use Rattle.answer_judge.specs.declared.judging.groups.Group.{Group}
-use Rattle.answer_judge.specs.declared.judging.groups.Trust.{Trust}
+use Rattle.answer_judge.specs.declared.judging.trust.Trust.{Trust}
 
 -- what is verified with, under a scheme's answers
 abbrev pub held_by : Answers → Trust → Trusting

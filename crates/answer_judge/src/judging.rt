@@ -21,13 +21,15 @@ pub mod by_scheme;
 mod facts;
 mod groups;
 mod keys;
+mod trust;
 pub mod verdict;
 mod verifier;
 
 use crate::case::Case;
 use crate::judging::facts::read_facts;
-use crate::judging::groups::{Group, Trust, verify_groups};
+use crate::judging::groups::{Group, verify_groups};
 use crate::judging::keys::{TaggedKey, has_equal_tags, read_keys, trusted_keys, usable_keys};
+use crate::judging::trust::Trust;
 use crate::judging::verdict::{Judgement, Refusal, Refused, Verdict};
 use crate::judging::verifier::Verifier;
 use answer_rules::decide::decide;
@@ -37,7 +39,7 @@ use answer_terms::ranked::put_cow_data;
 use denial_data::Ds;
 use keyset_keys::UnixTime;
 use messages::error::MessageError;
-use messages::names::{Name, ToName, cow_name};
+use messages::names::{Name, ToName, ZoneName, cow_name};
 use messages::question::Question;
 use messages::{MessageView, ViewRecord, read_message_into};
 use names_data::rtype::Rtype;
@@ -153,8 +155,10 @@ fn judge_messages<C: Checks>(case: &Case, verifier: &mut Verifier<C>) -> Result<
     verifier.octets.reserve(512)?;
     let trusted = trusted_keys(case.apex, case.ds, &keys, verifier)?;
     let moment = case.moment.timestamp();
+    let depth = case.apex.depth();
     let trust = Trust {
         apex: case.apex,
+        depth,
         keys: &trusted,
         moment,
     };
@@ -164,6 +168,7 @@ fn judge_messages<C: Checks>(case: &Case, verifier: &mut Verifier<C>) -> Result<
     let usable = usable_keys(keys);
     let trust = Trust {
         apex: case.apex,
+        depth,
         keys: &usable,
         moment,
     };
@@ -176,14 +181,7 @@ fn judge_messages<C: Checks>(case: &Case, verifier: &mut Verifier<C>) -> Result<
         question.rtype,
         verifier,
     )?;
-    let verdict = decide(
-        alloc,
-        case.apex,
-        facts.answer,
-        &facts.links,
-        &question.name,
-        question.rtype,
-    )?;
+    let verdict = decide(alloc, case.apex, facts, &question.name, question.rtype)?;
     verdict.ok_or(Refusal::NotProven)
 }
 
@@ -215,10 +213,10 @@ fn read_messages<'a>(alloc: Global, case: &Case<'a>) -> Result<Messages<'a>, Ref
         (λ e. RefusesFirst e (message_refusal pointer_limit case.now)) }
 {
     let (mut key_records, mut answer_records) = (Vec::new(alloc), Vec::new(alloc));
-    let (keys, kept) = read_counted(case.dnskey, &mut key_records).map_err(
+    let (keys, keys_in_memory) = read_counted(case.dnskey, &mut key_records).map_err(
         |_| Refusal::BadDnskeyMessage,
     )?;
-    let (answer, also_kept) = read_counted(case.answer, &mut answer_records).map_err(
+    let (answer, answer_in_memory) = read_counted(case.answer, &mut answer_records).map_err(
         |_| Refusal::BadAnswerMessage,
     )?;
     let question = case.question;
@@ -227,8 +225,8 @@ fn read_messages<'a>(alloc: Global, case: &Case<'a>) -> Result<Messages<'a>, Ref
     {
         return Err(Refusal::QuestionMismatch);
     }
-    kept?;
-    also_kept?;
+    keys_in_memory?;
+    answer_in_memory?;
     Ok(Messages {
         keys,
         key_records,
@@ -237,13 +235,14 @@ fn read_messages<'a>(alloc: Global, case: &Case<'a>) -> Result<Messages<'a>, Ref
     })
 }
 
-/// Reads a message, which has no more records than three counts of 16 bits, and puts them behind those of a list.
+/// Reads a message, which has no more records than three counts of 16 bits, and puts them behind those of a list. The second
+/// part says whether all of them could be put into memory.
 fn read_counted<'a>(
     bytes: &'a [u8],
     records: &mut Vec<ViewRecord<'a>>,
 ) -> Result<(MessageView<'a>, Result<(), AllocError>), MessageError>
     ensures exact { Gives (λ r. r.0) result (message pointer_limit bytes.now) }
-    ensures kept { IfOk result (λ r. OnOk r.1
+    ensures in_memory { IfOk result (λ r. OnOk r.1
         (map spelled records.new.items ≡ map spelled records.old.items ++ r.0.records)) }
     ensures few { IfOk result (λ r. length r.0.records ≤ 196605) }
 {

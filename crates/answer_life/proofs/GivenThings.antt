@@ -10,7 +10,7 @@ use Rattle.definitions.specs.ZoneChain.{Nsec}
 use Rattle.definitions.specs.Limits.{pointer_limit}
 use Rattle.answer_publisher.specs.declared.keys.Publication.TheVariants as publication
 use Rattle.messages.specs.HandedRr.{HandedRr}
-use Rattle.answer_terms.specs.Accepting.{IsAccepted}
+use Rattle.answer_terms.specs.Accepting.{IsAccepted, zone_of}
 use Rattle.answer_publisher.specs.Bindings.{BoundKey, ZoneKeys, dnskeys, ds_cmp, ds_of, ds_set, published}
 use Rattle.answer_terms.specs.Told as told
 use Rattle.messages.specs.Handed.{IsHanded}
@@ -20,7 +20,7 @@ use Rattle.answer_judge.specs.Meeting.{HasDs, WasGiven, holds, zone_from}
 use Rattle.messages.specs.Message.{Asked}
 use Rattle.answer_publisher.specs.Publishing.{digest_at}
 use Rattle.answer_scheme.specs.Moments.{second_of}
-use Rattle.answer_terms.specs.Hashing.{served}
+use Rattle.answer_terms.specs.Hashing.{HashesHold, served}
 use Rattle.answer_life.specs.Simulating.{handing}
 use Rattle.answer_life.specs.Simulations.{IsZoneOf}
 use Rattle.answer_publisher.specs.World.{TellsAnswer, TellsKeys, World}
@@ -100,8 +100,8 @@ parents_have_ds w keys left =
 pub given : (w : World) (rs : List HandedRr) (x y z : ZoneKeys) (keys_at answer_at at : ℕ) (key_bytes bytes : List ℕ) (asked : Asked)
     → IsZoneOf w rs → AreLeft w x → AreLeft w y → AreLeft w z → TellsKeys w y keys_at key_bytes → IsQuestion asked → is_allowed w.zone.apex asked ≡ true → TellsAnswer w z answer_at asked bytes
     → KeysMeet x y z → holds (second_of keys_at) w.life (second_of at) ≡ true → holds (second_of answer_at) w.life (second_of at) ≡ true
-    → WasGiven w.answers pointer_limit (handing w (ds_set x) key_bytes bytes asked at) rs
-given w rs x y z keys_at answer_at at key_bytes bytes asked zone left_x left_y left_z tells is allowed answers meets keys_hold answer_holds = record {
+    → HashesHold w.answers.hash w.zone.mode (zone_of w.zone.apex rs) asked.name → WasGiven w.answers pointer_limit (handing w (ds_set x) key_bytes bytes asked at) w.zone.mode rs
+given w rs x y z keys_at answer_at at key_bytes bytes asked zone left_x left_y left_z tells is allowed answers meets keys_hold answer_holds hashes = record {
   parents = dnskeys (published x publication.AtParent);
   present = dnskeys (published y publication.Present);
   keysigners = dnskeys (published y publication.SignsKeys);
@@ -112,6 +112,8 @@ given w rs x y z keys_at answer_at at key_bytes bytes asked zone left_x left_y l
   apex_is = zone.apex_is;
   records_are = zone.records_are;
   accepted = zone.accepted;
+  of_names = zone.of_names;
+  hashes = hashes;
   asked_is = is;
   allowed = allowed;
   keys_are = published_sign (digest_at w.answers.digest w.zone.apex) y publication.Present left_y.bound;

@@ -6,6 +6,7 @@ use Rattle.std.specs.Prelude.{Option, Some, None, Ok, Err, slice_get}
 use Rattle.std.specs.declared.result.Result.{Result}
 use Rattle.definitions.specs.Dnskey.{Dnskey, Ds}
 use Rattle.definitions.specs.Zone.{verdict}
+use Rattle.definitions.specs.ZoneChain.{optout_of}
 use Rattle.answer_events.specs.declared.event.Event.{Event}
 use Rattle.answer_events.specs.declared.event.Act.{Act}
 use Rattle.answer_events.specs.declared.event.Act.TheVariants as act
@@ -24,6 +25,7 @@ use Rattle.messages.specs.Handed.{IsHanded}
 use Rattle.answer_zone.specs.ModeView.{mode_of}
 use Rattle.messages.specs.HandedRr.{HandedRr}
 use Rattle.answer_terms.specs.Accepting.{IsAccepted, sorted_records, zone_of}
+use Rattle.answer_terms.specs.Hashing.{HashesHold}
 use Rattle.answer_publisher.specs.Bindings as bindings
 use Rattle.answer_publisher.specs.Bindings.{ZoneKeys, apply, ds_set}
 use Rattle.answer_judge.specs.Judging.{Says, answer_of, hashes_of, verifications_of}
@@ -158,10 +160,10 @@ answer_told w m asked bytes is = record {
 -- of a DS set, and bytes that tell answers, whose keys meet
 says : (w : World) (rs : List HandedRr) (x y z : Moment) (at : ℕ) (ds : List Ds) (keys bytes : List ℕ) (asked : Asked) (j : Result Judgement Refused) → IsZoneOf w rs → IsOf w at ds keys bytes asked j
     → IsShown w x (OfParent ds) → TellKeys w y keys → TellAnswer w z asked bytes → KeysMeet x.keys y.keys z.keys → holds (second_of y.at) w.life (second_of at) ≡ true → holds (second_of z.at) w.life (second_of at) ≡ true
-    → AnswersAs (answer_of j) (Says (verdict (zone_of w.zone.apex rs) false asked.name asked.rtype))
-says w rs x y z at ds keys bytes asked j zone is a b c meets keys_hold answer_holds =
+    → HashesHold w.answers.hash w.zone.mode (zone_of w.zone.apex rs) asked.name → AnswersAs (answer_of j) (Says (verdict (zone_of w.zone.apex rs) (optout_of w.zone.mode) asked.name asked.rtype))
+says w rs x y z at ds keys bytes asked j zone is a b c meets keys_hold answer_holds hashes =
     let of : IsOf w at (ds_set x.keys) keys bytes asked j = subst (λ (d : List Ds). IsOf w at d keys bytes asked j) a.1 is in
-    of.given rs (given w rs x.keys y.keys z.keys y.at z.at at keys bytes asked zone a.0 b.0 c.left b.1 c.question c.allowed c.tells meets keys_hold answer_holds)
+    of.given w.zone.mode rs (given w rs x.keys y.keys z.keys y.at z.at at keys bytes asked zone a.0 b.0 c.left b.1 c.question c.allowed c.tells meets keys_hold answer_holds hashes)
 
 -- the things of a judgement, where the zone's answer is known
 abbrev JudgesAt : World → Sofar → ℕ → ℕ → ℕ → ℕ → Result Judgement Refused → Type 0
@@ -175,23 +177,23 @@ things_at w s at ds dnskey answer asked bytes j h shown =
 -- shown in one state
 judged_at : (w : World) (rs : List HandedRr) (ms : List Moment) (s : Sofar) (at ds dnskey answer : ℕ) (j : Result Judgement Refused) → IsZoneOf w rs → Stand (IsShown w) ms s.shown
     → JudgesAt w s at ds dnskey answer j → VerdictAt w rs ms s at (act.Judge ds dnskey answer) (outcome.Judged j)
-judged_at w rs ms s at ds dnskey answer j zone stand h keys parent_at keys_at answer_at asked bytes md mk ma shown meets keys_hold answer_holds =
+judged_at w rs ms s at ds dnskey answer j zone stand h keys parent_at keys_at answer_at asked bytes md mk ma shown meets keys_hold answer_holds hashes =
     let t = things_at w s at ds dnskey answer asked bytes j h shown in
     let a = stands_at (IsShown w) ms s.shown ds (moment keys parent_at) (OfParent t.0) stand md t.2 in
     let b = stands_at (IsShown w) ms s.shown dnskey (moment keys keys_at) (OfKeys t.1) stand mk t.3 in
     let c = stands_at (IsShown w) ms s.shown answer (moment keys answer_at) (OfZone asked bytes) stand ma shown in
     let tells = keys_told w (moment keys keys_at) t.1 b in
     let answered = answer_told w (moment keys answer_at) asked bytes c in
-    says w rs (moment keys parent_at) (moment keys keys_at) (moment keys answer_at) at t.0 t.1 bytes asked j zone t.4 a tells answered meets keys_hold answer_holds
+    says w rs (moment keys parent_at) (moment keys keys_at) (moment keys answer_at) at t.0 t.1 bytes asked j zone t.4 a tells answered meets keys_hold answer_holds hashes
 
 -- of bytes that tell what one state gives
 bytes_at : (w : World) (rs : List HandedRr) (ms : List Moment) (s : Sofar) (at ds : ℕ) (dnskey answer : Vec ℕ Global) (q : Question Name) (j : Result Judgement Refused) → IsZoneOf w rs → Stand (IsShown w) ms s.shown
     → JudgesBytes w at (slice_get s.shown ds) dnskey.items answer.items (asked_of q) (outcome.Judged j) → IsQuestion (asked_of q) → VerdictAt w rs ms s at (act.JudgeBytes ds dnskey answer q) (outcome.Judged j)
-bytes_at w rs ms s at ds dnskey answer q j zone stand judges is keys parent_at keys_at answer_at md tells answers allowed meets keys_hold answer_holds =
+bytes_at w rs ms s at ds dnskey answer q j zone stand judges is keys parent_at keys_at answer_at md tells answers allowed meets keys_hold answer_holds hashes =
     let t = beside w at (slice_get s.shown ds) dnskey.items answer.items (asked_of q) j judges in
     let a = stands_at (IsShown w) ms s.shown ds (moment keys parent_at) (OfParent t.0) stand md t.1 in
     let answered : TellAnswer w (moment keys answer_at) (asked_of q) answer.items = record { left = a.0; allowed = allowed; question = is; tells = answers } in
-    says w rs (moment keys parent_at) (moment keys keys_at) (moment keys answer_at) at t.0 dnskey.items answer.items (asked_of q) j zone t.2 a (a.0, tells) answered meets keys_hold answer_holds
+    says w rs (moment keys parent_at) (moment keys keys_at) (moment keys answer_at) at t.0 dnskey.items answer.items (asked_of q) j zone t.2 a (a.0, tells) answered meets keys_hold answer_holds hashes
 
 some_ds : (w : World) (ds set : List Ds) (o : Option Shown) (x : Moment) → o ≡ Some (OfParent ds) → o ≡ Some (OfParent set) → IsShown w x (OfParent ds) → is_empty set ≡ false → is_empty (at_parent x.keys.keys) ≡ false
 some_ds w ds set o x e f is some =
@@ -201,7 +203,7 @@ some_ds w ds set o x e f is some =
 -- shown in three
 judged_through : (w : World) (rs : List HandedRr) (h : History) (past : List ZoneKeys) (s : Sofar) (at ds dnskey answer : ℕ) (j : Result Judgement Refused) → IsZoneOf w rs → by_rolls_alone h.calls ≡ true → Stand (IsPlaced w h.calls s.keys) h.shown s.shown
     → JudgesAt w s at ds dnskey answer j → VerdictThrough w rs h past s at (act.Judge ds dnskey answer) (outcome.Judged j)
-judged_through w rs h past s at ds dnskey answer j zone by_rolls stand judges x y z set asked bytes hx hy hz parent shown lives some keys_hold answer_holds =
+judged_through w rs h past s at ds dnskey answer j zone by_rolls stand judges x y z set asked bytes hx hy hz parent shown lives some keys_hold answer_holds hashes =
     let t = things_at w s at ds dnskey answer asked bytes j judges shown in
     let P = IsPlaced w h.calls s.keys in
     let a = stands_at P h.shown s.shown ds x (OfParent t.0) stand hx t.2 in
@@ -211,13 +213,13 @@ judged_through w rs h past s at ds dnskey answer j zone by_rolls stand judges x 
     let references = unretired_things_meet w.zone.apex h.calls at x.behind y.behind z.behind a.keys.keys b.keys.keys c.keys.keys by_rolls lives.in_time lives.first a.state b.state c.state lives.ds_lives lives.dnskey_lives lives.answer_lives some_parent in
     let tells = keys_told w (moment b.keys y.at) t.1 b.shown in
     let answered = answer_told w (moment c.keys z.at) asked bytes c.shown in
-    says w rs (moment a.keys x.at) (moment b.keys y.at) (moment c.keys z.at) at t.0 t.1 bytes asked j zone t.4 a.shown tells answered (keys_meet a.keys b.keys c.keys s.keys a.past b.past c.past references) keys_hold answer_holds
+    says w rs (moment a.keys x.at) (moment b.keys y.at) (moment c.keys z.at) at t.0 t.1 bytes asked j zone t.4 a.shown tells answered (keys_meet a.keys b.keys c.keys s.keys a.past b.past c.past references) keys_hold answer_holds hashes
 
 -- of bytes that tell what any states give
 bytes_through : (w : World) (rs : List HandedRr) (h : History) (past : List ZoneKeys) (s : Sofar) (at ds : ℕ) (dnskey answer : Vec ℕ Global) (q : Question Name) (j : Result Judgement Refused) → IsZoneOf w rs → by_rolls_alone h.calls ≡ true
     → Stand (IsPlaced w h.calls s.keys) h.shown s.shown → ArePassed w h.calls past s.keys → JudgesBytes w at (slice_get s.shown ds) dnskey.items answer.items (asked_of q) (outcome.Judged j) → IsQuestion (asked_of q)
     → VerdictThrough w rs h past s at (act.JudgeBytes ds dnskey answer q) (outcome.Judged j)
-bytes_through w rs h past s at ds dnskey answer q j zone by_rolls stand passed judges is x y z set hx parent was_y was_z tells answers allowed lives some keys_hold answer_holds =
+bytes_through w rs h past s at ds dnskey answer q j zone by_rolls stand passed judges is x y z set hx parent was_y was_z tells answers allowed lives some keys_hold answer_holds hashes =
     let t = beside w at (slice_get s.shown ds) dnskey.items answer.items (asked_of q) j judges in
     let a = stands_at (IsPlaced w h.calls s.keys) h.shown s.shown ds x (OfParent t.0) stand hx t.1 in
     let b = passed.each y.behind y.keys was_y in
@@ -226,7 +228,7 @@ bytes_through w rs h past s at ds dnskey answer q j zone by_rolls stand passed j
     let references = unretired_things_meet w.zone.apex h.calls at x.behind y.behind z.behind a.keys.keys y.keys.keys z.keys.keys by_rolls lives.in_time lives.first a.state b.state c.state lives.ds_lives lives.dnskey_lives lives.answer_lives some_parent in
     let answered : TellAnswer w (moment z.keys z.at) (asked_of q) answer.items = record { left = c.left; allowed = allowed; question = is; tells = answers } in
     let meets = keys_meet a.keys y.keys z.keys s.keys a.past b.past c.past references in
-    says w rs (moment a.keys x.at) (moment y.keys y.at) (moment z.keys z.at) at t.0 dnskey.items answer.items (asked_of q) j zone t.2 a.shown (b.left, tells) answered meets keys_hold answer_holds
+    says w rs (moment a.keys x.at) (moment y.keys y.at) (moment z.keys z.at) at t.0 dnskey.items answer.items (asked_of q) j zone t.2 a.shown (b.left, tells) answered meets keys_hold answer_holds hashes
 
 -- ---- what is known of the whole
 
@@ -435,4 +437,4 @@ along_all w rs es os u run zone = along w rs [] no_history [] (begin w.zone.apex
 -- an accepted zone
 pub zone_known : (apex : Name) (mode : CodeMode) (limit : ℕ) (rs : List HandedRr) (life : ℕ) (sign : Dnskey → List ℕ → Option (List ℕ)) (answers : Answers) → IsAccepted apex (mode_of mode) limit rs → IsName apex → AllByRecursion IsHanded rs
     → IsZoneOf (record { zone = record { apex = apex; mode = mode_of mode; limit = limit; records = sorted_records rs }; life = life; sign = sign; answers = answers }) rs
-zone_known apex Nsec limit rs life sign answers accepted name handed = record { apex_is = name; records_are = handed; accepted = accepted; zone_is = refl }
+zone_known apex Nsec limit rs life sign answers accepted name handed = record { apex_is = name; records_are = handed; accepted = accepted; of_names = refl; zone_is = refl }

@@ -38,7 +38,7 @@ pub fn faults(alloc: Global, kind: &str) -> Option<String> {
     }
 }
 
-fn zone_faults() -> [ZoneFault; 10] {
+fn zone_faults() -> [ZoneFault; 9] {
     [
         ZoneFault::WrongClass,
         ZoneFault::OutsideApex,

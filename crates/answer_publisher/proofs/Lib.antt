@@ -6,6 +6,7 @@ pub mod WritesRecords
 pub mod WritesGroups
 pub mod WritesAnswer
 pub mod WritesData
+pub mod WritesCuts
 pub mod WritesZone
 pub mod WritesGiven
 pub mod KeyTags

@@ -1,32 +1,36 @@
 -- The RRsets that an accepted zone answers with read back.
-use Rattle.std.proofs.Common.{◌≡◌, ℕ, ◌<◌, Bool, true, false, ◌||◌, List, [], ◌∷◌, map, refl, sym, subst, ◌∙◌, cond, eqb, lit<, ⊎_elim}
+use Rattle.std.proofs.Common.{◌≡◌, ℕ, ◌<◌, Bool, true, false, ◌&&◌, List, [], ◌∷◌, ◌++◌, map, refl, sym, subst, ap, ◌∙◌, cond, eqb, lit<}
+use Rattle.std.specs.Prelude.{Option, Some, None, ◌||◌}
 use Rattle.std.specs.List.{AllByRecursion, AllZip, filter, list_any}
-use Rattle.std.proofs.lemmas.Bool.{and_parts, cases_Bool, eqb-true, or_parts}
-use Rattle.messages.proofs.ZoneNames.{same_labels}
-use Rattle.definitions.specs.Name.{Name, IsName, low, name_cmp, same}
+use Rattle.std.proofs.lemmas.Bool.{and_parts, eqb-true, or_parts}
+use Rattle.messages.proofs.ZoneNames.{low-low, same_labels}
+use Rattle.definitions.specs.Name.{Name, IsName, labels_eq, low, name_cmp, same}
 use Rattle.definitions.specs.Bitmap.{bitmap}
 use Rattle.definitions.specs.Dnskey.{Dnskey}
-use Rattle.definitions.specs.Zone.{data_at, exists, has, kept_owners, star_under}
-use Rattle.definitions.specs.ZoneChain.{Nsec, nsec_names, nsec_next, nsec_types}
+use Rattle.definitions.specs.Zone.{Verdict, Records, NoType, NoName, StarRecords, StarNoType, Delegated, Open, Unsigned, Zone, ce, cut, data_at, has, is_kept, kept_owners, owner_of, owners, star_under, verdict}
+use Rattle.definitions.specs.ZoneChain.{Mode, Nsec, nsec_names, nsec_next, nsec_types}
 use Rattle.definitions.proofs.BitmapLaws.{spells_set}
 use Rattle.messages.specs.HandedRr.{HandedRr, is_meta}
-use Rattle.answer_terms.specs.Accepting.{zone_with}
+use Rattle.answer_terms.specs.Accepting.{rr_of, zone_with}
 use Rattle.messages.specs.Handed.{AreHanded, IsHanded}
-use Rattle.answer_terms.specs.GroupView.{all_spelled_by, rrset_of, spelled_by}
-use Rattle.denial_rules.specs.OwnFacts.{kept_ancestor}
-use Rattle.answer_terms.specs.Served.{Group, answer_groups, chain_names, chain_record, chain_ttl, key_data, key_group, owned_by, owner_among, proofs_of, served_of, soa, speaks_for, spelled_among, ttl_among, written_among, written_of_handed, written_rr}
+use Rattle.answer_terms.specs.GroupView.{all_spelled_by, spelled_by}
+use Rattle.answer_terms.specs.Served.{Group, Served, ahead, ahead_open, answer_groups, chain_names, chain_record, chain_ttl, if_any, key_data, key_group, owned_by, owner_among, proofs_of, rrset, served_of, served_owner, soa, speaks_for, spelled_among, spoken, ttl_among, under, unsigned_ns, written_among, written_of_handed, written_rr}
 use Rattle.answer_terms.specs.ZoneView.{IsPublished, is_of}
 use Rattle.answer_publisher.proofs.WritesData.{all_plain, reads_handed, reads_nsec}
 use Rattle.answer_publisher.proofs.WritesGroups.{IsFormed}
-use Rattle.answer_zone.proofs.WritesNames.{all_filter, chain_small, first_name, lower_name, next_name, owner_name, owner_names, spelled_name, ttl_small}
+use Rattle.answer_publisher.proofs.WritesCuts.{ce_lower, cut_lower, cut_name}
 use Rattle.answer_publisher.proofs.WritesRecords.{ReadsAs, ReadsRecord}
-use Rattle.answer_terms.proofs.ZoneAnswers.{groups_found, groups_without_name, groups_without_type}
-use Rattle.answer_terms.proofs.ZoneData.{data_are, low-owner_among}
+use Rattle.answer_zone.proofs.WritesNames.{all_filter, chain_small, either, first_name, lower_name, next_name, owner_name, owner_names, spelled_name, ttl_small}
+use Rattle.answer_terms.proofs.ZoneData.{data_are, low-owner_among, low-spelled_among}
 use Rattle.messages.proofs.Lists.{all_more, all_sorted, map-map}
-use Rattle.answer_terms.proofs.ZoneServed.{owners_kept}
+
+-- records that keep their owners stand under that of the RRset, up to case
+abbrev NamesIt : Bool → Group → Name → Type 0
+NamesIt true g q = low g.owner ≡ low q
+NamesIt false g q = Unit {0}
 
 -- a record of an RRset, under the RRset's owner or its own
-record_read : (own : Bool) (g : Group) (r : HandedRr) (q : Name) → IsHanded r → is_meta r ≡ false → is_of q g.rtype r ≡ true → IsName g.owner → low g.owner ≡ low q → eqb g.rtype 47 ≡ false → ReadsRecord g (spelled_by own g.owner r) r.bytes
+record_read : (own : Bool) (g : Group) (r : HandedRr) (q : Name) → IsHanded r → is_meta r ≡ false → is_of q g.rtype r ≡ true → IsName g.owner → NamesIt own g q → eqb g.rtype 47 ≡ false → ReadsRecord g (spelled_by own g.owner r) r.bytes
 record_read true g r q h k is name n nsec =
     let parts = and_parts (same r.owner q) (eqb r.rtype g.rtype) is in
     let kind : r.rtype ≡ g.rtype = eqb-true r.rtype g.rtype parts.1 in
@@ -36,7 +40,7 @@ record_read false g r q h k is name n nsec =
     record { owner = name; named = refl; rtype = kind; class = refl; ttl = h.ttl; reads = reads_handed r g.rtype h k kind nsec }
 
 -- the records of an owner and a type, one by one
-records_read : (own : Bool) (g : Group) (rs : List HandedRr) (q : Name) → AllByRecursion IsHanded rs → AllByRecursion (λ r. is_meta r ≡ false) rs → IsName g.owner → low g.owner ≡ low q → eqb g.rtype 47 ≡ false
+records_read : (own : Bool) (g : Group) (rs : List HandedRr) (q : Name) → AllByRecursion IsHanded rs → AllByRecursion (λ r. is_meta r ≡ false) rs → IsName g.owner → NamesIt own g q → eqb g.rtype 47 ≡ false
     → AllZip (ReadsRecord g) (map (spelled_by own g.owner) (filter (is_of q g.rtype) rs)) (map (λ r. r.bytes) (filter (is_of q g.rtype) rs))
 records_read own g [] q h k name n nsec = tt
 records_read own g (r ∷ rs) q h k name n nsec =
@@ -53,7 +57,7 @@ one_by_one : (own : Bool) (owner : Name) (rs : List HandedRr) → all_spelled_by
 one_by_one true owner rs = refl
 one_by_one false owner rs = map-map (owned_by owner) written_of_handed rs
 
-rrset_read : (own : Bool) (g : Group) (apex : Name) (rs : List HandedRr) → IsPublished apex rs → AreHanded apex rs → (q : Name) → IsName g.owner → low g.owner ≡ low q → eqb g.rtype 47 ≡ false
+rrset_read : (own : Bool) (g : Group) (apex : Name) (rs : List HandedRr) → IsPublished apex rs → AreHanded apex rs → (q : Name) → IsName g.owner → NamesIt own g q → eqb g.rtype 47 ≡ false
     → AllZip (ReadsRecord g) (all_spelled_by own g.owner (written_among rs (low q) g.rtype)) (data_at (zone_with apex rs) (low q) g.rtype)
 rrset_read own g apex rs p h q name n nsec =
     let xs : List HandedRr = filter (is_of q g.rtype) rs in
@@ -66,35 +70,111 @@ ttls rs h = all_more IsHanded (λ r. r.ttl < 4294967296) rs (λ r is. is.ttl) h
 ttl_fits : (apex : Name) (rs : List HandedRr) → AreHanded apex rs → (o : Name) (t : ℕ) → ttl_among rs o t < 4294967296
 ttl_fits apex rs h o t = ttl_small 4294967296 (lit< tt) rs o t (ttls rs h.records_are)
 
--- an RRset under a name that is its owner up to case
-abbrev rrset_at : Bool → Name → List HandedRr → Name → Name → ℕ → Group
-rrset_at own apex rs owner q t = record (rrset_of own apex rs q t) { owner = owner; written = all_spelled_by own owner (written_among rs (low q) t) }
+module _ (apex : Name) (mode : Mode) (hash : Name → List ℕ) (rs : List HandedRr) (p : IsPublished apex rs) (h : AreHanded apex rs) where
+  ttl_served : (o : Name) (t : ℕ) → (served_of apex mode hash rs).ttl_of o t < 4294967296
+  ttl_served o t = either (λ n. n < 4294967296) (eqb t 47 || eqb t 50) (chain_ttl apex rs) (ttl_among rs o t) (chain_small 4294967296 (lit< tt) apex rs (ttls rs h.records_are)) (ttl_fits apex rs h o t)
 
-rrset_formed : (own : Bool) (apex : Name) (rs : List HandedRr) → IsPublished apex rs → AreHanded apex rs → (owner q : Name) (t : ℕ) → IsName owner → low owner ≡ low q → t < 65536 → eqb t 47 ≡ false
-    → IsFormed (rrset_at own apex rs owner q t)
-rrset_formed own apex rs p h owner q t name n small nsec = record {
-  owner = name;
-  rtype = small;
-  ttl = ttl_fits apex rs h (low q) t;
-  datas = rrset_read own (rrset_at own apex rs owner q t) apex rs p h q name n nsec;
-}
+  -- an RRset under another owner, as that of a wildcard
+  under_formed : (owner q : Name) (t : ℕ) → IsName owner → t < 65536 → eqb t 47 ≡ false → IsFormed (under owner (rrset (served_of apex mode hash rs) (low q) t))
+  under_formed owner q t name small nsec = record {
+    owner = name;
+    rtype = small;
+    ttl = ttl_served (low q) t;
+    datas = rrset_read false (under owner (rrset (served_of apex mode hash rs) (low q) t)) apex rs p h q name tt nsec;
+  }
 
-soa_formed : (apex : Name) (hash : Name → List ℕ) (rs : List HandedRr) → IsPublished apex rs → AreHanded apex rs → IsFormed (soa (served_of apex Nsec hash rs))
-soa_formed apex hash rs p h =
-    let r = rrset_formed true apex rs p h (owner_among rs (low apex) 6) apex 6 (owner_name rs (low apex) 6 h.records_are (lower_name apex h.apex_is)) (low-owner_among rs apex 6) (lit< tt) refl in
-    record { owner = r.owner; rtype = r.rtype; ttl = r.ttl; datas = r.datas }
+  -- an RRset as its records spell it, signed or not
+  own_formed : (q : Name) (t : ℕ) (signed : Bool) → IsName q → t < 65536 → eqb t 47 ≡ false → IsFormed (record (rrset (served_of apex mode hash rs) (low q) t) { signed = signed })
+  own_formed q t signed name small nsec =
+      let is : IsName (served_owner rs (low q) t) = either IsName (eqb t 47 || eqb t 50) (spelled_among rs (low q)) (owner_among rs (low q) t) (first_name rs (low q) h.records_are (lower_name q name)) (owner_name rs (low q) t h.records_are (lower_name q name)) in
+      let named : low (served_owner rs (low q) t) ≡ low q = either (λ n. low n ≡ low q) (eqb t 47 || eqb t 50) (spelled_among rs (low q)) (owner_among rs (low q) t) (low-spelled_among rs q) (low-owner_among rs q t) in
+      record {
+        owner = is;
+        rtype = small;
+        ttl = ttl_served (low q) t;
+        datas = rrset_read true (record (rrset (served_of apex mode hash rs) (low q) t) { signed = signed }) apex rs p h q is named nsec;
+      }
+
+  soa_formed : IsFormed (soa (served_of apex mode hash rs))
+  soa_formed = own_formed apex 6 true h.apex_is (lit< tt) refl
+
+  -- of a delegation, as its records spell it
+  cut_formed : (c : Name) (t : ℕ) (signed : Bool) → IsName c → low c ≡ c → t < 65536 → eqb t 47 ≡ false → IsFormed (record (rrset (served_of apex mode hash rs) c t) { signed = signed })
+  cut_formed c t signed name lower small nsec = subst (λ o. IsFormed (record (rrset (served_of apex mode hash rs) o t) { signed = signed })) lower (own_formed c t signed name small nsec)
+
+  star_formed : (q : Name) (t : ℕ) → IsName q → t < 65536 → eqb t 47 ≡ false → (e : Name) → low e ≡ e → IsFormed (under q (rrset (served_of apex mode hash rs) (star_under e) t))
+  star_formed q t name small nsec e lower = subst (λ o. IsFormed (under q (rrset (served_of apex mode hash rs) o t))) (ap star_under lower) (under_formed q (star_under e) t name small nsec)
+
+  -- ---- what stands before the chain's records
+
+  at_encloser : (q : Name) (t : ℕ) → IsName q → t < 65536 → eqb t 47 ≡ false → (ds : List (List ℕ)) → AllByRecursion IsFormed (ahead (served_of apex mode hash rs) q t (StarRecords ds))
+  at_encloser q t name small nsec ds = at (ce (zone_with apex rs) (low q)) refl
+    where
+      at : (o : Option Name) → ce (zone_with apex rs) (low q) ≡ o → AllByRecursion IsFormed (elim o [ None ↦ [] | Some e ↦ under q (rrset (served_of apex mode hash rs) (star_under e) t) ∷ [] ])
+      at None i = tt
+      at (Some e) i = (star_formed q t name small nsec e (ce_lower (zone_with apex rs) (low q) e (low-low q) i), tt)
+
+  cut_at : (q : Name) → IsName q → (c : Name) → cut (zone_with apex rs) (low q) ≡ Some c → IsName c × (low c ≡ c)
+  cut_at q name c i = (cut_name (zone_with apex rs) (low q) c (lower_name q name) i, cut_lower (zone_with apex rs) (low q) c (low-low q) i)
+
+  at_cut : (q : Name) (t : ℕ) → IsName q → AllByRecursion IsFormed (ahead (served_of apex mode hash rs) q t Delegated)
+  at_cut q t name = at (cut (zone_with apex rs) (low q)) refl
+    where
+      s : Served
+      s = served_of apex mode hash rs
+
+      at : (o : Option Name) → cut (zone_with apex rs) (low q) ≡ o → AllByRecursion IsFormed (elim o [ None ↦ [] | Some c ↦ unsigned_ns s c ++ if_any s c 43 ])
+      at None i = tt
+      at (Some c) i =
+          let is = cut_at q name c i in
+          (cut_formed c 2 false is.0 is.1 (lit< tt) refl, either (AllByRecursion IsFormed) (has (zone_with apex rs) c 43) (rrset s c 43 ∷ []) [] (cut_formed c 43 true is.0 is.1 (lit< tt) refl, tt) tt)
+
+  left_open : (q : Name) (t : ℕ) → IsName q → AllByRecursion IsFormed (ahead_open (served_of apex mode hash rs) q t NoType)
+  left_open q t name = at (cut (zone_with apex rs) (low q)) refl
+    where
+      s : Served
+      s = served_of apex mode hash rs
+
+      at : (o : Option Name) → cut (zone_with apex rs) (low q) ≡ o → AllByRecursion IsFormed (elim o [ None ↦ soa s ∷ [] | Some c ↦ cond (labels_eq c (low q) && eqb t 43) (soa s ∷ []) (unsigned_ns s c) ])
+      at None i = (soa_formed, tt)
+      at (Some c) i =
+          let is = cut_at q name c i in
+          either (AllByRecursion IsFormed) (labels_eq c (low q) && eqb t 43) (soa s ∷ []) (unsigned_ns s c) (soa_formed, tt) (cut_formed c 2 false is.0 is.1 (lit< tt) refl, tt)
+
+  at_open : (q : Name) (t : ℕ) → IsName q → t < 65536 → eqb t 47 ≡ false → (v : Verdict) → AllByRecursion IsFormed (ahead_open (served_of apex mode hash rs) q t v)
+  at_open q t name small nsec (StarRecords ds) = at_encloser q t name small nsec ds
+  at_open q t name small nsec (Records ds) = left_open q t name
+  at_open q t name small nsec NoType = left_open q t name
+  at_open q t name small nsec NoName = left_open q t name
+  at_open q t name small nsec StarNoType = left_open q t name
+  at_open q t name small nsec Delegated = left_open q t name
+  at_open q t name small nsec Open = left_open q t name
+  at_open q t name small nsec Unsigned = left_open q t name
+
+  ahead_formed : (q : Name) (t : ℕ) → IsName q → t < 65536 → eqb t 47 ≡ false → (v : Verdict) → AllByRecursion IsFormed (ahead (served_of apex mode hash rs) q t v)
+  ahead_formed q t name small nsec (Records ds) = (under_formed q q t name small nsec, tt)
+  ahead_formed q t name small nsec NoType = (soa_formed, tt)
+  ahead_formed q t name small nsec NoName = (soa_formed, tt)
+  ahead_formed q t name small nsec (StarRecords ds) = at_encloser q t name small nsec ds
+  ahead_formed q t name small nsec StarNoType = (soa_formed, tt)
+  ahead_formed q t name small nsec Delegated = at_cut q t name
+  ahead_formed q t name small nsec Open = at_open q t name small nsec (verdict (zone_with apex rs) false q t)
+  ahead_formed q t name small nsec Unsigned = tt
 
 -- ---- the chain
 
-names_are : (apex : Name) (rs : List HandedRr) → IsPublished apex rs → AreHanded apex rs → AllByRecursion IsName (nsec_names (zone_with apex rs))
-names_are apex rs p h = all_sorted IsName name_cmp (kept_owners (zone_with apex rs) false) (subst (AllByRecursion IsName) (sym (owners_kept apex rs p.plain p.inside false)) (owner_names rs h.records_are))
+names_are : (apex : Name) (rs : List HandedRr) → AreHanded apex rs → AllByRecursion IsName (nsec_names (zone_with apex rs))
+names_are apex rs h =
+    let z = zone_with apex rs in
+    let all : AllByRecursion IsName (owners z) = subst (AllByRecursion IsName) (sym (map-map owner_of rr_of rs)) (owner_names rs h.records_are) in
+    all_sorted IsName name_cmp (kept_owners z false) (all_filter IsName (is_kept z false) (owners z) all)
 
-link_formed : (apex : Name) (hash : Name → List ℕ) (rs : List HandedRr) → IsPublished apex rs → AreHanded apex rs → (o : Name) → IsName o → IsFormed (chain_record (served_of apex Nsec hash rs) o)
-link_formed apex hash rs p h o name =
+link_formed : (apex : Name) (hash : Name → List ℕ) (rs : List HandedRr) → AreHanded apex rs → (o : Name) → IsName o → IsFormed (chain_record (served_of apex Nsec hash rs) o)
+link_formed apex hash rs h o name =
     let z = zone_with apex rs in
     let ttl : chain_ttl apex rs < 4294967296 = chain_small 4294967296 (lit< tt) apex rs (ttls rs h.records_are) in
     let owner : IsName (spelled_among rs o) = first_name rs o h.records_are name in
-    let next : IsName (nsec_next z o) = next_name (low apex) o (nsec_names z) (lower_name apex h.apex_is) (names_are apex rs p h) in
+    let next : IsName (nsec_next z o) = next_name (low apex) o (nsec_names z) (lower_name apex h.apex_is) (names_are apex rs h) in
     record {
       owner = owner;
       rtype = lit< tt;
@@ -112,28 +192,28 @@ link_formed apex hash rs p h o name =
       );
     }
 
-links_formed : (apex : Name) (hash : Name → List ℕ) (rs : List HandedRr) → IsPublished apex rs → AreHanded apex rs → (ns : List Name) → AllByRecursion IsName ns → AllByRecursion IsFormed (map (chain_record (served_of apex Nsec hash rs)) ns)
-links_formed apex hash rs p h [] names = tt
-links_formed apex hash rs p h (n ∷ ns) names = (link_formed apex hash rs p h n names.0, links_formed apex hash rs p h ns names.1)
+links_formed : (apex : Name) (hash : Name → List ℕ) (rs : List HandedRr) → AreHanded apex rs → (ns : List Name) → AllByRecursion IsName ns → AllByRecursion IsFormed (map (chain_record (served_of apex Nsec hash rs)) ns)
+links_formed apex hash rs h [] names = tt
+links_formed apex hash rs h (n ∷ ns) names = (link_formed apex hash rs h n names.0, links_formed apex hash rs h ns names.1)
 
-proofs_formed : (apex : Name) (hash : Name → List ℕ) (rs : List HandedRr) → IsPublished apex rs → AreHanded apex rs → (qs : List Name) → AllByRecursion IsFormed (proofs_of (served_of apex Nsec hash rs) qs)
-proofs_formed apex hash rs p h qs =
+proofs_formed : (apex : Name) (hash : Name → List ℕ) (rs : List HandedRr) → AreHanded apex rs → (qs : List Name) → AllByRecursion IsFormed (proofs_of (served_of apex Nsec hash rs) qs)
+proofs_formed apex hash rs h qs =
     let s = served_of apex Nsec hash rs in
-    links_formed apex hash rs p h (filter (λ o. list_any (speaks_for s o) qs) (chain_names s)) (all_filter IsName (λ o. list_any (speaks_for s o) qs) (chain_names s) (names_are apex rs p h))
+    links_formed apex hash rs h (filter (λ o. list_any (speaks_for s o) qs) (chain_names s)) (all_filter IsName (λ o. list_any (speaks_for s o) qs) (chain_names s) (names_are apex rs h))
 
 -- ---- answers
 
+joined_formed : (gs hs : List Group) → AllByRecursion IsFormed gs → AllByRecursion IsFormed hs → AllByRecursion IsFormed (gs ++ hs)
+joined_formed [] hs f more = more
+joined_formed (g ∷ gs) hs f more = (f.0, joined_formed gs hs f.1 more)
+
+-- whatever the verdict
 pub answer_formed : (apex : Name) (hash : Name → List ℕ) (rs : List HandedRr) → IsPublished apex rs → AreHanded apex rs → (q : Name) (t : ℕ) → IsName q → t < 65536 → (eqb t 47 || eqb t 50) ≡ false → AllByRecursion IsFormed (answer_groups (served_of apex Nsec hash rs) q t)
 answer_formed apex hash rs p h q t name small plain =
-    let z = zone_with apex rs in
     let s = served_of apex Nsec hash rs in
-    let first = soa_formed apex hash rs p h in ⊎_elim
-    (λ e. subst (AllByRecursion IsFormed) (groups_found apex hash rs p q t plain e) (rrset_formed false apex rs p h q q t name refl small (or_parts (eqb t 47) (eqb t 50) plain).0, tt))
-    (λ e. ⊎_elim
-    (λ x. subst (AllByRecursion IsFormed) (groups_without_type apex hash rs p q t e x) (first, proofs_formed apex hash rs p h (low q ∷ [])))
-    (λ x. subst (AllByRecursion IsFormed) (groups_without_name apex hash rs p q t x) (first, proofs_formed apex hash rs p h (low q ∷ star_under (kept_ancestor z false (low q)) ∷ [])))
-    (cases_Bool (exists z (low q))))
-    (cases_Bool (has z (low q) t))
+    let v = verdict (zone_with apex rs) false q t in
+    let nsec = (or_parts (eqb t 47) (eqb t 50) plain).0 in
+    joined_formed (ahead s q t v) (proofs_of s (spoken s (low q) v)) (ahead_formed apex Nsec hash rs p h q t name small nsec v) (proofs_formed apex hash rs h (spoken s (low q) v))
 
 canonical_read : (g : Group) (ttl : ℕ) (ds : List (List ℕ)) → IsName g.owner → ttl < 4294967296 → AllZip (ReadsAs g.rtype) ds ds → AllZip (ReadsRecord g) (map (written_rr g.owner g.rtype ttl) ds) ds
 canonical_read g ttl [] name small h = tt

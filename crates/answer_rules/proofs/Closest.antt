@@ -1,9 +1,13 @@
 -- Going up the ancestors of a name, each once.
-use Rattle.std.proofs.Common.{◌≡◌, Bool, true, false, ◌||◌, List, [], ◌∷◌, drop, refl, sym, ap, ◌∙◌}
-use Rattle.std.specs.Prelude.{Option, Some, None, MatchOption}
-use Rattle.definitions.specs.Name.{Name, Label, at_or_above}
+use Rattle.std.proofs.Common.{◌≡◌, ◌<◌, ◌≤◌, Bool, true, false, ◌||◌, List, [], ◌∷◌, length, drop, refl, sym, ap, ◌∙◌, subst, ◌⊎◌, inl, inr, arith}
+use Rattle.std.specs.Prelude.{◌↔◌, Option, Some, None, Result, Ok, Err, MatchOption, IfOk, IfSome}
+use Rattle.std.specs.Option.{option_map}
+use Rattle.definitions.specs.Name.{Name, Label, IsName, wire_len, at_or_above}
 use Rattle.names_labels.specs.Suffixes.{suffixes}
-use Rattle.answer_rules.specs.Rules.{Link, closest}
+use Rattle.definitions.specs.Zone.{star_under}
+use Rattle.denial_rules.specs.Facts.{Link}
+use Rattle.denial_rules.specs.NsecRules.{closest}
+use Rattle.messages.proofs.NameLaws.{IsName-drop, star_room}
 
 -- a name that the link shows to exist, or else another
 abbrev pub shown_or : Link → Name → Option Name → Option Name
@@ -34,3 +38,26 @@ closest_behind f n (Some itself) all rest e s = closest_above f n itself rest (s
 
 pub shown_so : (f : Link) (n : Name) (rest : Option Name) (b : Bool) → (at_or_above n f.owner || at_or_above n f.next) ≡ b → shown_or f n rest ≡ (elim b [ true ↦ Some n | false ↦ rest ])
 shown_so f n rest b e = ap (λ (b : Bool). elim b [ true ↦ Some n | false ↦ rest ]) e
+
+-- ---- the wildcard under the closest encloser
+
+chosen : (b : Bool) (q e : Name) (rest : Option Name) → (elim b as (λ _. Option Name) [ true ↦ Some q | false ↦ rest ]) ≡ Some e → (q ≡ e) ⊎ (rest ≡ Some e)
+chosen true q e rest h = inl (let same : q ≡ e = cc in same)
+chosen false q e rest h = inr h
+
+-- it is at least a label shorter than the name, so there is room for a star
+pub closest_room : (f : Link) (q e : Name) → IsName q → closest f q ≡ Some e → wire_len (star_under e) ≤ 255
+closest_room f [] e h c = absurd cc
+closest_room f (l ∷ q) e h c = elim (chosen (at_or_above q f.owner || at_or_above q f.next) q e (closest f q) c) [
+  | inl same ↦ subst (λ n. wire_len (star_under n) ≤ 255) same (star_room 1 (l ∷ q) h (omega arith) (omega arith))
+  | inr later ↦ closest_room f q e (IsName-drop 1 (l ∷ q) h) later
+]
+
+-- a wildcard with room is given
+given : (o : Option Name) (star : Name) → IfSome o (λ n. n ≡ star) → (o ≡ None) ↔ (255 < wire_len star) → wire_len star ≤ 255 → o ≡ Some star
+given None star s n room = let long : 255 < wire_len star = n.0 refl in absurd (omega arith)
+given (Some m) star s n room = ap (λ x. Some x) s
+
+pub wildcard_given : {E : Type 0} (f : Link) (q e : Name) (r : Result (Option Name) E) → IsName q → Some e ≡ closest f q → IfOk r (λ o. IfSome o (λ n. n ≡ star_under e)) → IfOk r (λ o. (o ≡ None) ↔ (255 < wire_len (star_under e))) → IfOk r (λ o. o ≡ option_map star_under (closest f q))
+wildcard_given f q e (Ok o) h c s n = given o (star_under e) s n (closest_room f q e h (sym c)) ∙ ap (option_map star_under) c
+wildcard_given f q e (Err x) h c s n = tt

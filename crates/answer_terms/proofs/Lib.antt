@@ -9,3 +9,5 @@ pub mod KeyData
 pub mod AllowedTypes
 pub mod GivenTold
 pub mod ToldAlike
+pub mod FactsCase
+pub mod Servable

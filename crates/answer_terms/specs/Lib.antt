@@ -9,3 +9,5 @@ pub mod EqualTags
 pub mod Given
 pub mod Told
 pub mod Alike
+pub mod FactsCase
+pub mod Servable

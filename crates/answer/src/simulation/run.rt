@@ -13,7 +13,7 @@ ghost use Rattle.messages.specs.WrittenLaws.{IsQuestion};
 ghost use Rattle.answer.specs.Running.{sofar_in, world_in, Serves};
 ghost use Rattle.answer_life.specs.Simulating.{handing, JudgesThings, JudgesBytes};
 
-use crate::simulation::kept::{Kept, Thing};
+use crate::simulation::results::{Results, Thing};
 use answer_events::event::{Act, Event, KeyCall};
 use answer_judge::{Case, Judgement, Refused, judge_with};
 use answer_life::outcome::Outcome;
@@ -37,13 +37,13 @@ struct KeyCopy {
     public_key: Vec<u8>,
 }
 
-/// A run so far: the publisher, and what is kept of the events.
+/// A run so far: the publisher, and what came of the events.
 #[derive(Drop)]
 pub(super) struct Run<'a, S: Scheme, H: Nsec3Hasher> {
     alloc: Global,
     publisher: Publisher<'a, S, H>,
     limit: u16,
-    kept: Kept<'a>,
+    results: Results<'a>,
 }
 
 impl<'a, S: Scheme, H: Nsec3Hasher> Run<'a, S, H> {
@@ -51,24 +51,24 @@ impl<'a, S: Scheme, H: Nsec3Hasher> Run<'a, S, H> {
     pub(super) fn new(alloc: Global, publisher: Publisher<'a, S, H>, limit: u16) -> Self
         ensures publisher { result.publisher ≡ publisher.entry }
         ensures limit { result.limit ≡ limit }
-        ensures kept { result.kept ≡ record { outcomes = []; shown = [] } }
+        ensures results { result.results ≡ record { outcomes = []; shown = [] } }
     {
         Run {
             alloc,
             publisher,
             limit,
-            kept: Kept::new(alloc),
+            results: Results::new(alloc),
         }
     }
 
     /// The outcomes so far.
     pub(super) fn into_outcomes(self) -> Vec<Outcome>
-        ensures { result.items ≡ self.entry.kept.outcomes }
+        ensures { result.items ≡ self.entry.results.outcomes }
     {
-        self.kept.into_outcomes()
+        self.results.into_outcomes()
     }
 
-    /// Keeps what comes of one event.
+    /// Adds what comes of one event.
     pub(super) fn serve(&mut self, event: &'a Event) -> Result<(), AllocError>
         requires key { added_octets event.now ≤ 65531 }
         requires limit { self.old.limit ≡ self.old.publisher.zone.limit }
@@ -79,20 +79,20 @@ impl<'a, S: Scheme, H: Nsec3Hasher> Run<'a, S, H> {
           publisher = record self.old.publisher {
             keys = self.new.publisher.keys;
           };
-          kept = self.new.kept;
+          results = self.new.results;
         } }
     {
         match &event.act {
             Act::Key(call) => {
                 let outcome = Outcome::Key(self.key_call(call, &event.at));
-                self.kept.keep(outcome)
+                self.results.add(outcome)
             }
             Act::ShowDs => self.show_ds(),
             Act::ShowDnskey => self.show_dnskey(&event.at),
             Act::Ask(question) => self.ask(question, &event.at),
             Act::Judge { ds, dnskey, answer } => {
                 let outcome = self.judge_shown(*ds, *dnskey, *answer, &event.at);
-                self.kept.keep(outcome)
+                self.results.add(outcome)
             }
             Act::JudgeBytes {
                 ds,
@@ -107,7 +107,7 @@ impl<'a, S: Scheme, H: Nsec3Hasher> Run<'a, S, H> {
                     question,
                     &event.at,
                 );
-                self.kept.keep(outcome)
+                self.results.add(outcome)
             }
         }
     }
@@ -241,21 +241,21 @@ impl<'a, S: Scheme, H: Nsec3Hasher> Run<'a, S, H> {
     fn show_ds(&mut self) -> Result<(), AllocError>
         ensures step { let w = world_in S.signature_of S.verifies S.digest_of H.hash_of self.old in
             OnOk result ((at : ℕ) → Serves w self.old at Act.ShowDs self.new) }
-        ensures rest { self.new ≡ record self.old { kept = self.new.kept } }
+        ensures rest { self.new ≡ record self.old { results = self.new.results } }
     {
         let set = self.publisher.ds_set()?;
-        self.kept.show_ds(set)
+        self.results.show_ds(set)
     }
 
     /// Shows the DNSKEY answer at the next place.
     fn show_dnskey(&mut self, at: &UnixTime) -> Result<(), AllocError>
         ensures step { let w = world_in S.signature_of S.verifies S.digest_of H.hash_of self.old in
             OnOk result (Serves w self.old at.now Act.ShowDnskey self.new) }
-        ensures rest { self.new ≡ record self.old { kept = self.new.kept } }
+        ensures rest { self.new ≡ record self.old { results = self.new.results } }
     {
         match self.publisher.dnskey_answer(at) {
-            Err(fault) => self.kept.keep(Outcome::Refused(fault)),
-            Ok(octets) => self.kept.show_keys(octets),
+            Err(fault) => self.results.add(Outcome::Refused(fault)),
+            Ok(octets) => self.results.show_keys(octets),
         }
     }
 
@@ -263,12 +263,12 @@ impl<'a, S: Scheme, H: Nsec3Hasher> Run<'a, S, H> {
     fn ask(&mut self, question: &'a Question, at: &UnixTime) -> Result<(), AllocError>
         ensures step { let w = world_in S.signature_of S.verifies S.digest_of H.hash_of self.old in
             OnOk result (Serves w self.old at.now (Act.Ask question.now) self.new) }
-        ensures rest { self.new ≡ record self.old { kept = self.new.kept } }
+        ensures rest { self.new ≡ record self.old { results = self.new.results } }
     {
         question.keeps();
         match self.publisher.answer(question, at) {
-            Err(fault) => self.kept.keep(Outcome::Refused(fault)),
-            Ok(octets) => self.kept.show_answer(question, octets),
+            Err(fault) => self.results.add(Outcome::Refused(fault)),
+            Ok(octets) => self.results.show_answer(question, octets),
         }
     }
 
@@ -280,9 +280,9 @@ impl<'a, S: Scheme, H: Nsec3Hasher> Run<'a, S, H> {
             JudgesThings w at.now (thing ds) (thing dnskey) (thing answer) result }
     {
         match (
-            self.kept.thing(ds),
-            self.kept.thing(dnskey),
-            self.kept.thing(answer),
+            self.results.thing(ds),
+            self.results.thing(dnskey),
+            self.results.thing(answer),
         ) {
             (
                 Some(Thing::OfParent(ds)),
@@ -310,7 +310,7 @@ impl<'a, S: Scheme, H: Nsec3Hasher> Run<'a, S, H> {
         ensures question { IsQuestion (asked_of question.now) }
     {
         question.keeps();
-        match self.kept.thing(ds) {
+        match self.results.thing(ds) {
             Some(Thing::OfParent(ds)) => {
                 Outcome::Judged(self.judged(ds, dnskey_bytes, answer_bytes, question, at))
             }

@@ -6,13 +6,14 @@ ghost use Rattle.std.specs.List.{list_any, filter_map};
 ghost use Rattle.messages.specs.Record.{spelled};
 ghost use Rattle.answer_judge.specs.Facts.{is_signature};
 ghost use Rattle.answer_judge.specs.Counted.{answer_sought, tries};
-ghost use Rattle.answer_judge.specs.Verified.{verified_rrset, verified_links};
-ghost use Rattle.answer_judge.specs.Marked.{held_by, has_owner, is_proved, is_nsec, stands_alone, IsAlone, AreGathered, link_by, data_verified};
+ghost use Rattle.answer_judge.specs.Verified.{verified_facts};
+ghost use Rattle.answer_judge.specs.Marked.{held_by, has_owner, is_proved, is_nsec, stands_alone, IsAlone, AreGathered, link_by, rrset_verified};
 
-use crate::judging::groups::{Group, Trust, read_group, verify_groups};
+use crate::judging::groups::{Group, read_group, verify_groups};
+use crate::judging::trust::Trust;
 use crate::judging::verdict::DataList;
 use crate::judging::verifier::Verifier;
-use answer_rules::decide::Link;
+use answer_rules::decide::{Facts, Link, Rrset};
 use answer_scheme::checks::Checks;
 use messages::names::{Name, ToName, cow_name, is_at_or_above};
 use messages::{Owner, ViewRecord};
@@ -22,13 +23,6 @@ use std::alloc::{AllocError, Global};
 use std::borrow::CowSlice;
 
 /// What signatures of an answer verify: the RRset that was asked for, and NSEC records.
-#[derive(Drop)]
-pub(crate) struct Facts<'a> {
-    pub(crate) answer: Option<DataList>,
-    pub(crate) links: Vec<Link<'a>>,
-}
-
-/// The facts of an answer.
 pub(crate) fn read_facts<'a, C: Checks>(
     message: &'a [u8],
     records: &[ViewRecord<'a>],
@@ -39,12 +33,9 @@ pub(crate) fn read_facts<'a, C: Checks>(
 ) -> Result<Facts<'a>, AllocError>
     requires room { verifier.old.count + length records.now < 2 ^ 32 }
     requires other { (rtype == 47) ≡ false }
-    ensures answer { let w = held_by (C.answers verifier.old.checks.now) trust.now in
+    ensures facts { let w = held_by (C.answers verifier.old.checks.now) trust.now in
         let m = message.now in let rs = map spelled records.now in
-        IfOk result (λ f. f.answer ≡ verified_rrset w pointer_limit m rs name.now rtype) }
-    ensures links { let w = held_by (C.answers verifier.old.checks.now) trust.now in
-        let m = message.now in let rs = map spelled records.now in
-        IfOk result (λ f. f.links.items ≡ verified_links w pointer_limit m rs) }
+        IfOk result (λ f. f ≡ verified_facts w pointer_limit m rs name.now rtype) }
     ensures tried { let w = held_by (C.answers verifier.old.checks.now) trust.now in
         let m = message.now in let rs = map spelled records.now in
         let sought = answer_sought pointer_limit m w.apex rs name.now rtype in
@@ -63,22 +54,26 @@ pub(crate) fn read_facts<'a, C: Checks>(
     let owner = cow_name(alloc, name)?;
     groups.push(read_group(alloc, message, records, owner, rtype)?)?;
     verify_groups(message, records, trust, &mut groups, verifier)?;
-    let answer = verified_data(alloc, groups.pop())?;
+    let rrset = rrset_of(alloc, groups.pop())?;
     let links = read_links(alloc, message, records, &groups)?;
-    Ok(Facts { answer, links })
+    Ok(Facts::new(rrset, links))
 }
 
-/// The data of a group, if a signature verified it.
-fn verified_data(alloc: Global, group: Option<Group>) -> Result<Option<DataList>, AllocError>
-    ensures { IfOk result (λ found. found ≡ data_verified group.entry) }
+/// The data of a group and the label count of its signature, if one verified it.
+///
+/// The count of the owner in its place would let a wildcard's RRset pass for one of the name, with no proof that the name does
+/// not exist (RFC 4035, 5.3.4).
+fn rrset_of(alloc: Global, group: Option<Group>) -> Result<Option<Rrset>, AllocError>
+    ensures { IfOk result (λ found. found ≡ rrset_verified group.entry) }
 {
     let Some(group) = group else {
         return Ok(None);
     };
-    if group.verified.is_some() {
-        return Ok(Some(DataList::new(owned_data(alloc, group.items)?)));
-    }
-    Ok(None)
+    let Some(signed) = group.verified else {
+        return Ok(None);
+    };
+    let datas = DataList::new(owned_data(alloc, group.items)?);
+    Ok(Some(Rrset::new(datas, signed.labels)))
 }
 
 /// Data with octets of their own.

@@ -3,23 +3,23 @@ ghost use Rattle.std.specs.Prelude.{◌≡◌, ◌==◌, ◌&&◌, ◌+◌, ◌<
 ghost use Rattle.std.specs.Cow.{cow_slice_items};
 ghost use Rattle.definitions.specs.Limits.{pointer_limit};
 ghost use Rattle.messages.specs.Record.{fields_read, spelled};
-ghost use Rattle.answer_judge.specs.Facts.{is_signature, is_due, fits_key, signs};
+ghost use Rattle.answer_judge.specs.Facts.{is_signature};
 ghost use Rattle.answer_judge.specs.Verified.{datum_of, rrset_in};
 ghost use Rattle.answer_judge.specs.declared.judging.groups.Group.{Group};
 ghost use Rattle.answer_judge.specs.Marked.{held_by, is_of, are_apart, data_in, marked, signed_of, signs_group, is_tried_in, tries_in};
 ghost use Rattle.messages.specs.Message.{if_true};
 ghost use Rattle.answer_judge.specs.Counted.{can_try, one_if};
 ghost use Rattle.std.specs.Option.{option_map};
-ghost use Rattle.std.specs.List.{find, list_any};
+ghost use Rattle.std.specs.List.{list_any};
 ghost use Rattle.definitions.specs.Name.{same};
-ghost use Rattle.definitions.specs.Signing.{in_time, signed_octets};
+ghost use Rattle.definitions.specs.Signing.{signed_octets};
 
-use crate::judging::keys::TaggedKey;
+use crate::judging::trust::Trust;
 use crate::judging::verifier::Verifier;
 use answer_scheme::checks::Checks;
 use answer_terms::ranked::put_cow_data;
-use denial_data::{Rrsig, Timestamp};
-use messages::names::{Name, ParsedName, ToName, ZoneName};
+use denial_data::Rrsig;
+use messages::names::{Name, ParsedName, ToName};
 use messages::signed::compose_signed_octets;
 use messages::{Owner, ViewRecord};
 use names_data::rtype::Rtype;
@@ -53,15 +53,7 @@ pub(crate) struct Group<'a> {
 }
 
 /// A signature in a message, its signer in place.
-type Signature<'a> = Rrsig<&'a [u8], ParsedName<'a>>;
-
-/// What signatures are held against: the apex, the keys that may sign, and the moment.
-#[derive(Drop)]
-pub(crate) struct Trust<'a> {
-    pub(crate) apex: &'a Name<Vec<u8>>,
-    pub(crate) keys: &'a [TaggedKey<'a>],
-    pub(crate) moment: u32,
-}
+pub(crate) type Signature<'a> = Rrsig<&'a [u8], ParsedName<'a>>;
 
 impl<'a> Group<'a> {
     /// Whether the group has a type and an owner, up to case.
@@ -278,39 +270,4 @@ fn write_signed(
         &group.items,
         octets,
     )
-}
-
-impl<'a> Trust<'a> {
-    /// Whether a signature is the apex's, holds at the moment, and counts the labels of an owner (RFC 4035, 5.3.1).
-    fn is_due(&self, signature: &Signature, owner: &GroupOwner) -> bool
-        ensures { let f = fields_read signature.now in
-            result ≡ is_due self.now.apex.now self.now.moment owner.now f }
-    {
-        signature.labels() == owner.rrsig_label_count()
-            && in_time(signature, self.moment)
-            && signature.signer_name().name_eq(self.apex)
-    }
-
-    /// The key of a signature's tag and algorithm.
-    fn key(&self, signature: &Signature) -> Option<&TaggedKey<'a>>
-        ensures { let fits = fits_key (fields_read signature.now) in
-            option_map (λ k. k.now) result ≡ find fits self.now.keys.now }
-    {
-        for key in self.keys {
-            if key.tag() == signature.key_tag()
-                && key.dnskey().algorithm() == signature.algorithm()
-            {
-                return Some(key);
-            }
-        }
-        None
-    }
-}
-
-/// Whether a signature holds at a moment (RFC 4034, 3.1.5).
-fn in_time(signature: &Signature, now: u32) -> bool
-    ensures { result ≡ in_time (fields_read signature.now) now }
-{
-    let now = Timestamp::from(now);
-    signature.inception().is_at_or_before(&now) && now.is_at_or_before(&signature.expiration())
 }

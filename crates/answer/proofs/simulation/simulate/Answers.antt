@@ -16,8 +16,8 @@ loop-event-preserved g c =
     let run = c.loop-event.run in
     let there : World = world (record { apex = c.args.apex; mode = mode_of c.args.mode; limit = c.args.limit; records = sorted_records (map handed_of c.args.records.items) }) c.args.life (g.S.Scheme.signature_of c.args.scheme.now) (g.S.Scheme.verifies c.args.scheme.now) (g.S.Scheme.digest_of c.args.scheme.now) (g.H.Nsec3Hasher.hash_of c.args.hasher.now) in
     let next = c.serve.new.self in
-    let before = sofar run.publisher.keys run.kept in
-    let after = sofar next.publisher.keys next.kept in
+    let before = sofar run.publisher.keys run.results in
+    let after = sofar next.publisher.keys next.results in
     let events = c.args.events.now in
     let index = c.loop-event.event-index in
     let event = c.event-item.result in
@@ -27,7 +27,7 @@ loop-event-preserved g c =
     record {
       limit = search rules;
       same = search rules;
-      follows = step_on there (begin c.args.apex) events run.kept.outcomes next.kept.outcomes index before after event outcome c.loop-event-test.true step served.1 c.loop-event.invariant.follows;
+      follows = step_on there (begin c.args.apex) events run.results.outcomes next.results.outcomes index before after event outcome c.loop-event-test.true step served.1 c.loop-event.invariant.follows;
     }
 
 pub returns-clause-simulation : goal.returns-clause-simulation
@@ -37,5 +37,5 @@ returns-clause-simulation g c =
     let events = c.args.events.now in
     let there : World = world (record { apex = c.args.apex; mode = mode_of c.args.mode; limit = c.args.limit; records = sorted_records rs }) c.args.life (g.S.Scheme.signature_of c.args.scheme.now) (g.S.Scheme.verifies c.args.scheme.now) (g.S.Scheme.digest_of c.args.scheme.now) (g.H.Nsec3Hasher.hash_of c.args.hasher.now) in
     let zone = zone_known c.args.apex c.args.mode c.args.limit rs c.args.life there.sign there.answers c.in_ok-publisher.ensures.accepted c.in_ok-publisher.ensures.handed.0 c.in_ok-publisher.ensures.handed.1 in
-    let whole = at_end there (begin c.args.apex) events run.kept.outcomes c.loop-event.event-index (sofar run.publisher.keys run.kept) c.loop-event-test.false c.loop-event.invariant.follows in
-    subst (IsSimulation there rs events) (sym c.into_outcomes.ensures) (runs_are_simulations there rs events run.kept.outcomes whole.0 zone whole.1)
+    let whole = at_end there (begin c.args.apex) events run.results.outcomes c.loop-event.event-index (sofar run.publisher.keys run.results) c.loop-event-test.false c.loop-event.invariant.follows in
+    subst (IsSimulation there rs events) (sym c.into_outcomes.ensures) (runs_are_simulations there rs events run.results.outcomes whole.0 zone whole.1)

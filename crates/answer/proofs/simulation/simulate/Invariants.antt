@@ -16,5 +16,5 @@ invariant-loop-event g l =
     record {
       limit : run.limit ≡ run.publisher.zone.limit;
       same : world run.publisher.zone run.publisher.life (g.S.Scheme.signature_of run.publisher.scheme.now) (g.S.Scheme.verifies run.publisher.scheme.now) (g.S.Scheme.digest_of run.publisher.scheme.now) (g.H.Nsec3Hasher.hash_of run.publisher.hasher.now) ≡ there;
-      follows : GoesOn there (begin l.fn.apex) l.events run.kept.outcomes l.event-index (sofar run.publisher.keys run.kept);
+      follows : GoesOn there (begin l.fn.apex) l.events run.results.outcomes l.event-index (sofar run.publisher.keys run.results);
     }

@@ -5,12 +5,12 @@ use Rattle.definitions.specs.Dnskey.{dnskey_data}
 use Rattle.definitions.specs.Zone.{sorted_data}
 use Rattle.definitions.specs.Limits.{pointer_limit}
 use Rattle.answer_judge.specs.Facts.{is_usable, is_trusted}
-use Rattle.answer_rules.specs.Rules.{decided}
+use Rattle.denial_rules.specs.Deciding.{decided}
 use Rattle.answer_judge.specs.Judging.{Handing, message_refusal, keys_in}
 use Rattle.answer_rules.specs.Rules.{verdict_of}
-use Rattle.answer_judge.specs.Judged.{trusting, keys_of, judged_beyond, said, AnswersAs}
+use Rattle.answer_judge.specs.Judged.{trusting, keys_of, decided_by, hash_among, judged_beyond, said, AnswersAs}
 use Rattle.messages.specs.Record.{spelled}
-use Rattle.answer_judge.specs.Verified.{is_verified, verified_rrset, verified_links}
+use Rattle.answer_judge.specs.Verified.{is_verified, verified_facts}
 use Rattle.messages.proofs.CountedRecords.{same_count}
 use Rattle.answer_judge.specs.Counted.{answer_sought, keys_sought, tries}
 use Rattle.answer_judge.proofs.JudgeTotals.{key_tries_as, keys_alone, keys_and_answer}
@@ -72,15 +72,15 @@ returns-clause-exact g c =
     c.in_ok-are_verified.ensures.exact ∙ (λ i. is_verified (record { answers = same i; apex = (is i).apex; keys = c.deref-4.ensures.value i; now = moment i }) pointer_limit (is i).dnskey_bytes (map spelled (c.deref-5.ensures.value i)) (is i).apex 48 (sorted_data (map dnskey_data (c.deref-6.ensures.value i)))) in
     let usable : c.usable_keys-usable.result.items ≡ filter is_usable (keys_of h keys) = usable_as h keys rs c.in_ok-keys.keys.items c.usable_keys-usable.result.items c.in_ok-messages.ensures.key_records ks c.usable_keys-usable.ensures in
     let later = c.in_ok-are_verified.ensures.same ∙ same in
-    let found : c.in_ok-facts.facts.answer ≡ verified_rrset (trusting a h c.usable_keys-usable.result.items) pointer_limit h.answer_bytes (map spelled c.in_ok-messages.messages.answer_records.items) h.asked.name h.asked.rtype =
-    c.in_ok-facts.ensures.answer ∙ (λ i. verified_rrset (record { answers = later i; apex = (is i).apex; keys = c.deref-7.ensures.value i; now = moment i }) pointer_limit (is i).answer_bytes (map spelled (c.deref-8.ensures.value i)) (is i).asked.name (is i).asked.rtype) in
-    let links : c.in_ok-facts.facts.links.items ≡ verified_links (trusting a h c.usable_keys-usable.result.items) pointer_limit h.answer_bytes (map spelled c.in_ok-messages.messages.answer_records.items) =
-    c.in_ok-facts.ensures.links ∙ (λ i. verified_links (record { answers = later i; apex = (is i).apex; keys = c.deref-7.ensures.value i; now = moment i }) pointer_limit (is i).answer_bytes (map spelled (c.deref-8.ensures.value i))) in
-    let decides : option_map verdict_of c.in_ok-verdict.verdict ≡ decided h.apex c.in_ok-facts.facts.answer c.in_ok-facts.facts.links.items h.asked.name h.asked.rtype =
-    c.in_ok-verdict.ensures ∙ (λ i. decided (is i).apex c.in_ok-facts.facts.answer (c.deref-9.ensures.value i) (is i).asked.name (is i).asked.rtype) in
+    let facts = c.in_ok-facts.facts in
+    let found : facts ≡ verified_facts (trusting a h c.usable_keys-usable.result.items) pointer_limit h.answer_bytes (map spelled c.in_ok-messages.messages.answer_records.items) h.asked.name h.asked.rtype =
+    c.in_ok-facts.ensures.facts ∙ (λ i. verified_facts (record { answers = later i; apex = (is i).apex; keys = c.deref-7.ensures.value i; now = moment i }) pointer_limit (is i).answer_bytes (map spelled (c.deref-8.ensures.value i)) (is i).asked.name (is i).asked.rtype) in
+    let hash = hash_among a.hash facts.hash_links in
+    let decides : option_map verdict_of c.in_ok-verdict.verdict ≡ decided_by a h facts =
+    c.in_ok-verdict.ensures hash ∙ (λ i. decided (is i).apex hash facts (is i).asked.name (is i).asked.rtype) in
     let chain = sym c.if-not-branch.false ∙ chained_as a h keys rs c.in_ok-keys.keys.items c.in_ok-trusted.trusted.items c.in_ok-are_verified.field-0 c.in_ok-messages.ensures.key_records ks trusted chained in
-    let all = decided_as a h keys answer c.usable_keys-usable.result.items (map spelled c.in_ok-messages.messages.answer_records.items) c.in_ok-facts.facts.answer c.in_ok-facts.facts.links.items (option_map verdict_of c.in_ok-verdict.verdict)
-    (beyond a pointer_limit h keys answer c.in_ok-messages.ensures.keys c.in_ok-messages.ensures.answer none) chain usable c.in_ok-messages.ensures.answer_records found links decides in
+    let all = decided_as a h keys answer c.usable_keys-usable.result.items (map spelled c.in_ok-messages.messages.answer_records.items) facts (option_map verdict_of c.in_ok-verdict.verdict)
+    (beyond a pointer_limit h keys answer c.in_ok-messages.ensures.keys c.in_ok-messages.ensures.answer none) chain usable c.in_ok-messages.ensures.answer_records found decides in
     subst (λ o. AnswersAs (said o) (judged_beyond a pointer_limit h)) (sym c.ok_or.ensures.value) (answered c.in_ok-verdict.verdict (judged_beyond a pointer_limit h) all)
 
 -- the signatures that were tried on the keys

@@ -1,6 +1,0 @@
-use Rattle.std.proofs.Common.{◌∷◌, []}
-use Rattle.answer.proofs.KeptThings.{more_outcomes}
-use Rattle.answer.proofs.simulation.kept.Kept.keep.Goals as goal
-
-pub returns : goal.returns
-returns c = (more_outcomes c.self.inside.outcomes.items c.push.new.self.items c.self.inside.shown.items c.args.self.now (c.args.outcome ∷ []) c.self.view_is c.self.invariant c.in_ok-push.ensures.items).0
