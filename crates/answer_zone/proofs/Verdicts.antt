@@ -15,7 +15,7 @@ use Rattle.denial_rules.specs.OwnFacts.{kept_ancestor}
 use Rattle.denial_rules.specs.Truth.{is_signed}
 use Rattle.denial_rules.proofs.ChainBits.{all_at}
 use Rattle.denial_rules.proofs.NameFacts.{above-low, above_trans, same_names, strictly_at, strictly_from}
-use Rattle.denial_rules.proofs.ZoneCuts.{IsCut, IsEncloser, NoneAbove, ce_encloses, cut_is, cut_live, delegation_owner, has_owner, kept_inside, kept_lowered, owner_kept, uncut, uncut_from, uncut_live}
+use Rattle.denial_rules.proofs.ZoneCuts.{IsCut, IsEncloser, NoneAbove, ce_encloses, cut_is, cut_live, delegation_owner, has_owner, kept_inside, kept_lowered, owner_kept, uncut, uncut_live}
 use Rattle.denial_rules.proofs.Verdicts.{lacking, verdict_by_star, verdict_delegated, verdict_ds, verdict_existing, verdict_signed}
 use Rattle.messages.specs.HandedRr.{HandedRr}
 use Rattle.messages.proofs.Lists.{zip_append}
@@ -25,7 +25,7 @@ use Rattle.answer_terms.specs.Served.{Group, Served, answer_groups}
 use Rattle.answer_terms.specs.ZoneView.{is_of}
 use Rattle.answer_terms.proofs.ZoneData.{soa_there}
 use Rattle.answer_terms.proofs.ZoneServed.{has_is}
-use Rattle.answer_zone.specs.Cuts.{NoneRefers, Refers, is_parents}
+use Rattle.answer_zone.specs.Cuts.{NoneRefers, Refers}
 use Rattle.answer_zone.specs.ZoneAnswers.{AnswersAs, Holds, answered, flags_for}
 use Rattle.answer_zone.specs.declared.zone.answers.ZoneAnswer.{ZoneAnswer}
 
@@ -38,11 +38,13 @@ answers s q t v found rest a e n g h = record {
 }
 
 -- an SOA record stands at the apex, so it exists
+pub has_soa : (apex : Name) (rs : List HandedRr) → length (soas apex rs) ≡ 1 → has (zone_with apex rs) (low apex) 6 ≡ true
+has_soa apex rs one = has_is apex rs apex 6 ∙ elim (cases_Bool (list_any (is_of apex 6) rs)) [ inl y ↦ y | inr n ↦ absurd (soa_there apex rs one n) ]
+
 pub apex_exists : (apex : Name) (rs : List HandedRr) → length (soas apex rs) ≡ 1 → exists (zone_with apex rs) (low apex) ≡ true
 apex_exists apex rs one =
     let z = zone_with apex rs in
-    let there : has z (low apex) 6 ≡ true = has_is apex rs apex 6 ∙ elim (cases_Bool (list_any (is_of apex 6) rs)) [ inl y ↦ y | inr n ↦ absurd (soa_there apex rs one n) ] in
-    apex_in_chain z false (contained (zone.owners z) (low apex) (has_owner z (low apex) 6 there))
+    apex_in_chain z false (contained (zone.owners z) (low apex) (has_owner z (low apex) 6 (has_soa apex rs one)))
 
 -- what has a type stands in the zone
 pub owner_inside : (apex : Name) (rs : List HandedRr) → AllByRecursion (λ r. at_or_above apex r.owner ≡ true) rs → (q : Name) (t : ℕ) → has (zone_with apex rs) (low q) t ≡ true → at_or_above (low apex) (low q) ≡ true
