@@ -1,0 +1,8 @@
+use Rattle.denial_mistakes.proofs.SameRules.{same_rules, never_false}
+use Rattle.denial_mistakes.proofs.laws.right_choices_are_the_rules.Goals as goal
+
+pub returns-clause-same : goal.returns-clause-same
+returns-clause-same c = same_rules
+
+pub returns-clause-truly : goal.returns-clause-truly
+returns-clause-truly c = never_false

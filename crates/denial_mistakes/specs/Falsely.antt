@@ -1,0 +1,35 @@
+-- When a rule says of true facts what is not so.
+use Rattle.std.specs.Prelude.{◌≡◌, ℕ, ◌<◌, List, Some}
+use Rattle.definitions.specs.Name.{Name}
+use Rattle.definitions.specs.Zone.{Zone, Verdict, verdict}
+use Rattle.definitions.specs.ZoneChain.{Mode, optout_of}
+use Rattle.denial_rules.specs.Facts.{Facts}
+use Rattle.denial_rules.specs.Deciding.{decided}
+use Rattle.denial_rules.specs.Truth.{IsServable, NoSharedHash, AreTrue}
+use Rattle.denial_mistakes.specs.Choices.{Rule, right}
+use Rattle.denial_mistakes.specs.Mistakes.{decided_with}
+
+-- There is a zone with a chain of a mode, and facts that are true of it, of which the rule makes a verdict that is not the
+-- zone's. All premises of `TrueFactsDecideTruly` hold.
+pub record DecidesFalsely (rule : Rule) (mode : Mode) : Type 0 where
+  pub zone : Zone
+  pub hash : Name → List ℕ
+  pub facts : Facts
+  pub name : Name
+  pub rtype : ℕ
+  pub said : Verdict
+  pub servable : IsServable zone
+  pub unshared : NoSharedHash zone hash mode name
+  pub fits : rtype < 65536
+  pub holds : AreTrue zone hash mode name rtype facts
+  pub says : rule zone.name hash facts name rtype ≡ Some said
+  pub otherwise : said ≡ verdict zone (optout_of mode) name rtype → ⊥
+
+-- With all choices made rightly the rules are those of `denial_rules`.
+abbrev pub RightChoicesAreTheRules : Type 0
+RightChoicesAreTheRules =
+    (apex : Name) (hash : Name → List ℕ) (f : Facts) (q : Name) (t : ℕ) → decided_with right apex hash f q t ≡ decided apex hash f q t
+
+-- So they never decide falsely.
+abbrev pub RightChoicesAreNeverFalse : Type 0
+RightChoicesAreNeverFalse = (mode : Mode) → DecidesFalsely (decided_with right) mode → ⊥
