@@ -1,12 +1,11 @@
 -- Zones of whose NSEC3 records wrong rules make what the zone does not say, by computing. Hashes are wire octets.
-use Rattle.std.proofs.Common.{◌≡◌, List, [], ◌∷◌, refl, arith}
+use Rattle.std.proofs.Common.{◌≡◌, [], ◌∷◌, refl, arith}
 use Rattle.std.specs.Prelude.{codes, true, false, Some}
-use Rattle.definitions.specs.Name.{Name, wire}
-use Rattle.definitions.specs.Zone.{Verdict, Records, NoType, NoName, StarRecords, Delegated, Open}
+use Rattle.definitions.specs.Name.{wire}
+use Rattle.definitions.specs.Zone.{Records, NoType, NoName, StarRecords, Delegated, Open}
 use Rattle.definitions.specs.ZoneChain.{Nsec3}
-use Rattle.denial_rules.specs.Facts.{HashLink, Facts}
 use Rattle.denial_rules.specs.Truth.{IsTrueHashLink}
-use Rattle.denial_mistakes.specs.Mistakes.{all_open, without_delegations, without_wildcards, without_label_counts, without_opt_out}
+use Rattle.denial_mistakes.specs.Mistakes.{all_open, without_delegations, without_child_types, without_wildcards, without_label_counts, without_opt_out}
 use Rattle.denial_mistakes.specs.Falsely.{DecidesFalsely}
 use Rattle.denial_mistakes.proofs.WireHash.{none_shared}
 use Rattle.denial_mistakes.proofs.NsecMistakes.{star_rrset, star_rrset_holds}
@@ -65,6 +64,23 @@ hashed_delegations_falsely = record {
   holds = record { rrset = tt; chain = (refl, (cut_holds, (above_holds, tt))) };
   says = refl;
   otherwise = λ e. let n : NoName ≡ Delegated = e in cc;
+}
+
+-- and it lists no type of the child zone
+pub hashed_child_types_falsely : DecidesFalsely without_child_types (Nsec3 0 [] false)
+hashed_child_types_falsely = record {
+  zone = delegating;
+  hash = wire;
+  facts = by_hashes (hash_link false d example hashed_delegation_bits ∷ []);
+  name = d;
+  rtype = 1;
+  said = NoType;
+  servable = delegating_served;
+  unshared = none_shared delegating (Nsec3 0 [] false) d;
+  fits = omega arith;
+  holds = record { rrset = tt; chain = (refl, (cut_holds, tt)) };
+  says = refl;
+  otherwise = λ e. let n : NoType ≡ Delegated = e in cc;
 }
 
 -- in order of hash: the wildcard, the apex

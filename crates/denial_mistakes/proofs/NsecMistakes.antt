@@ -1,14 +1,13 @@
 -- Zones of whose NSEC records wrong rules make what the zone does not say, by computing.
-use Rattle.std.proofs.Common.{◌≡◌, List, [], ◌∷◌, refl, arith}
-use Rattle.std.specs.Prelude.{codes, Some, Option}
-use Rattle.definitions.specs.Name.{Name, wire}
-use Rattle.definitions.specs.Zone.{Verdict, Records, NoType, NoName, StarRecords, Delegated, Open}
+use Rattle.std.proofs.Common.{◌≡◌, [], ◌∷◌, refl, arith}
+use Rattle.std.specs.Prelude.{codes, Some}
+use Rattle.definitions.specs.Name.{wire}
+use Rattle.definitions.specs.Zone.{Records, NoType, NoName, StarRecords, Delegated, Open}
 use Rattle.definitions.specs.ZoneChain.{Nsec}
-use Rattle.denial_rules.specs.Facts.{Rrset, Link, Facts}
+use Rattle.denial_rules.specs.Facts.{Rrset}
 use Rattle.denial_rules.specs.Truth.{IsTrueLink, IsTrueRrset}
-use Rattle.denial_mistakes.specs.Mistakes.{all_open, without_delegations, without_wildcards, without_label_counts, by_wire_octets, without_non_terminals}
-use Rattle.denial_mistakes.specs.Falsely.{DecidesFalsely}
-use Rattle.denial_mistakes.proofs.WireHash.{none_shared}
+use Rattle.denial_mistakes.specs.Mistakes.{all_open, nothing, without_delegations, without_child_types, without_wildcards, without_label_counts, by_wire_octets, without_non_terminals}
+use Rattle.denial_mistakes.specs.Falsely.{DecidesFalsely, MissesOwnAnswer}
 use Rattle.denial_mistakes.proofs.Zones.{example, star, b, d, a_b, star_a, aa_b, b_b, bare, delegating, starred, beside, deep, crossed, bare_served, delegating_served, starred_served, beside_served, deep_served, crossed_served, link, by_links, apex_bits, address_bits, delegation_bits, apex_spelled, address_spelled, delegation_spelled}
 
 -- nothing is looked at: the SOA record is there, and is left open
@@ -26,6 +25,21 @@ open_falsely = record {
   holds = record { rrset = tt; chain = (tt, refl) };
   says = refl;
   otherwise = λ e. let n : Open ≡ Records ((1 ∷ []) ∷ []) = e in cc;
+}
+
+-- nothing is said of the SOA record
+pub nothing_misses : MissesOwnAnswer nothing Nsec
+nothing_misses = record {
+  zone = bare;
+  hash = wire;
+  name = example;
+  rtype = 6;
+  servable = bare_served;
+  unshared = tt;
+  fits = omega arith;
+  inside = refl;
+  asked = refl;
+  misses = λ e. cc;
 }
 
 -- the delegation's record covers a name below it, and the wildcard under it
@@ -46,6 +60,23 @@ delegations_falsely = record {
   holds = record { rrset = tt; chain = ((cut_holds, tt), refl) };
   says = refl;
   otherwise = λ e. let n : NoName ≡ Delegated = e in cc;
+}
+
+-- and it lists no type of the child zone
+pub child_types_falsely : DecidesFalsely without_child_types Nsec
+child_types_falsely = record {
+  zone = delegating;
+  hash = wire;
+  facts = by_links (link d example delegation_bits ∷ []);
+  name = d;
+  rtype = 1;
+  said = NoType;
+  servable = delegating_served;
+  unshared = tt;
+  fits = omega arith;
+  holds = record { rrset = tt; chain = ((cut_holds, tt), refl) };
+  says = refl;
+  otherwise = λ e. let n : NoType ≡ Delegated = e in cc;
 }
 
 -- the wildcard's record covers a name for which the wildcard answers

@@ -1,6 +1,6 @@
 -- Small zones over `example`, and what their records are made from.
 use Rattle.std.proofs.Common.{◌≡◌, ℕ, List, [], ◌∷◌, refl, arith}
-use Rattle.std.specs.Prelude.{codes, Bool, false, None}
+use Rattle.std.specs.Prelude.{codes, Bool, None}
 use Rattle.definitions.specs.Name.{Name, wire}
 use Rattle.definitions.specs.Bitmap.{bitmap, octet_of, window_size, window_count}
 use Rattle.definitions.specs.Zone.{Rr, Zone}

@@ -1,5 +1,5 @@
 -- The choices that a rule of denial makes: each can be made rightly or not.
-use Rattle.std.specs.Prelude.{ℕ, Bool, true, false, List, Option}
+use Rattle.std.specs.Prelude.{ℕ, Bool, true, List, Option}
 use Rattle.definitions.specs.Name.{Name}
 use Rattle.definitions.specs.Zone.{Verdict}
 use Rattle.denial_rules.specs.Facts.{Facts}
@@ -14,6 +14,8 @@ pub record Choices : Type 0 where
   pub facts : Bool
   -- a delegation above a name decides before what covers the name (RFC 6840, 4.1); otherwise it is passed over
   pub delegations : Bool
+  -- a delegation's record proves of its own name nothing but of DS (RFC 6840, 4.1); otherwise that any type is missing
+  pub child_types : Bool
   -- the wildcard decides of a name that is covered (RFC 4035, 5.4; RFC 5155, 8.4); otherwise the name is missing at once
   pub wildcards : Bool
   -- A wildcard's RRset speaks from the closest encloser alone: the label count is compared (RFC 4035, 5.3.4; RFC 5155, 8.8);
@@ -31,6 +33,7 @@ abbrev pub right : Choices
 right = record {
   facts = true;
   delegations = true;
+  child_types = true;
   wildcards = true;
   label_counts = true;
   canonical_order = true;

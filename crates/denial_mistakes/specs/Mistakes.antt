@@ -31,13 +31,16 @@ inside_with c apex hash f q t = elim (at_or_above apex q) [ true ↦ decided_ins
 abbrev pub decided_with : Choices → Rule
 decided_with c apex hash f q t = elim c.facts [ true ↦ inside_with c apex hash f q t | false ↦ Some Open ]
 
--- ---- mistakes
+-- ---- one choice made wrongly
 
 abbrev pub all_open : Rule
 all_open = decided_with (record right { facts = false })
 
 abbrev pub without_delegations : Rule
 without_delegations = decided_with (record right { delegations = false })
+
+abbrev pub without_child_types : Rule
+without_child_types = decided_with (record right { child_types = false })
 
 abbrev pub without_wildcards : Rule
 without_wildcards = decided_with (record right { wildcards = false })
@@ -53,3 +56,8 @@ without_non_terminals = decided_with (record right { non_terminals = false })
 
 abbrev pub without_opt_out : Rule
 without_opt_out = decided_with (record right { opt_out = false })
+
+-- ---- no rule at all
+
+abbrev pub nothing : Rule
+nothing apex hash f q t = None

@@ -5,8 +5,12 @@ use Rattle.definitions.specs.Name.{Name, low, same}
 use Rattle.definitions.specs.Zone.{Verdict, NoName, StarRecords, Open, star_under}
 use Rattle.denial_rules.specs.Facts.{Rrset, HashLink}
 use Rattle.denial_rules.specs.NsecRules.{first_some, or_else}
-use Rattle.denial_rules.specs.Nsec3Rules.{covers_hash, is_matched, at_hash, encloses, cut_above, star_at, last_labels}
+use Rattle.denial_rules.specs.Nsec3Rules.{is_at, covers_hash, is_matched, encloses, cut_above, star_at, last_labels}
 use Rattle.denial_mistakes.specs.Choices.{Choices}
+use Rattle.denial_mistakes.specs.NsecChoices.{at_name_with}
+
+abbrev pub at_hash_with : Choices → Name → Name → ℕ → List ℕ → HashLink → Option Verdict
+at_hash_with c apex q t h f = elim (is_at h f) [ true ↦ at_name_with c apex q t f.bits | false ↦ None ]
 
 abbrev pub opts_out : Choices → HashLink → Bool
 opts_out c f = elim c.opt_out [ true ↦ f.opt_out | false ↦ false ]
@@ -43,7 +47,7 @@ climbed_with c apex hash (l ∷ p) t fs = elim (same (l ∷ p) apex) [
 abbrev pub hash_denied_with : Choices → Name → (Name → List ℕ) → Name → ℕ → List HashLink → Option Verdict
 hash_denied_with c apex hash q t fs =
     let h = hash (low q) in
-    elim (is_matched fs h) [ true ↦ first_some (at_hash apex q t h) fs | false ↦ climbed_with c apex hash q t fs ]
+    elim (is_matched fs h) [ true ↦ first_some (at_hash_with c apex q t h) fs | false ↦ climbed_with c apex hash q t fs ]
 
 -- the name that must not exist: one label longer than the wildcard's parent
 abbrev pub closer_with : Choices → Name → Rrset → Name

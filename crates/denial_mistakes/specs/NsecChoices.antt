@@ -4,8 +4,17 @@ use Rattle.definitions.specs.Name.{Name, low, same, strictly_above, wire}
 use Rattle.definitions.specs.Covering.{before, octets_before}
 use Rattle.definitions.specs.Zone.{Verdict, NoType, NoName, StarRecords, StarNoType, star_under}
 use Rattle.denial_rules.specs.Facts.{Rrset, Link}
-use Rattle.denial_rules.specs.NsecRules.{first_some, or_else, lacks, at_owner, redirects, below_cut, closest, encloses_at}
+use Rattle.denial_rules.specs.NsecRules.{first_some, or_else, lacks, at_name, redirects, below_cut, closest, encloses_at}
 use Rattle.denial_mistakes.specs.Choices.{Choices}
+
+abbrev pub at_name_with : Choices → Name → Name → ℕ → List ℕ → Option Verdict
+at_name_with c apex q t bits = elim c.child_types [
+  | true ↦ at_name apex q t bits
+  | false ↦ elim (lacks bits t) [ true ↦ Some NoType | false ↦ None ]
+]
+
+abbrev pub at_owner_with : Choices → Name → Name → ℕ → Link → Option Verdict
+at_owner_with c apex q t f = elim (same f.owner q) [ true ↦ at_name_with c apex q t f.bits | false ↦ None ]
 
 -- the order of the wire form's octets, from the left, letters lowered
 abbrev pub wire_before : Name → Name → Bool
@@ -51,7 +60,8 @@ below_cut_with c apex q fs = elim c.delegations [ true ↦ first_some (below_cut
 
 abbrev pub denied_with : Choices → Name → Name → ℕ → List Link → Option Verdict
 denied_with c apex q t fs =
-    or_else (first_some (at_owner apex q t) fs) (or_else (below_cut_with c apex q fs) (first_some (covered_with c apex q t fs) fs))
+    or_else (first_some (at_owner_with c apex q t) fs)
+    (or_else (below_cut_with c apex q fs) (first_some (covered_with c apex q t fs) fs))
 
 -- the RRset's label count is that of the closest encloser
 abbrev pub count_fits : Choices → Name → Rrset → Link → Bool
