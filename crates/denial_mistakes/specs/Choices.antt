@@ -21,7 +21,7 @@ pub record Choices : Type 0 where
   -- A wildcard's RRset speaks from the closest encloser alone: the label count is compared (RFC 4035, 5.3.4; RFC 5155, 8.8);
   -- otherwise it speaks for each name that is covered.
   pub label_counts : Bool
-  -- an NSEC record covers what lies between its names in canonical order (RFC 4034, 6.1); otherwise in that of their wire octets
+  -- an NSEC record covers what lies between its names in canonical order (RFC 4034, 6.1); otherwise in that of wire octets
   pub canonical_order : Bool
   -- a name that an NSEC record covers exists where the next name is below it (RFC 4592, 2.2.2); otherwise it is missing too
   pub non_terminals : Bool

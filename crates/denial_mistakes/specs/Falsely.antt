@@ -39,7 +39,8 @@ pub record MissesOwnAnswer (rule : Rule) (mode : Mode) : Type 0 where
   pub fits : rtype < 65536
   pub inside : at_or_above (apex_of zone) name ≡ true
   pub asked : is_asked_type rtype ≡ true
-  pub misses : rule zone.name hash (own_facts zone hash mode name rtype) name rtype ≡ Some (verdict zone (optout_of mode) name rtype) → ⊥
+  pub misses :
+      rule zone.name hash (own_facts zone hash mode name rtype) name rtype ≡ Some (verdict zone (optout_of mode) name rtype) → ⊥
 
 -- With all choices made rightly the rules are those of `denial_rules`.
 abbrev pub RightChoicesAreTheRules : Type 0

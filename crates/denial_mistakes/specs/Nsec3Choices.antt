@@ -17,7 +17,10 @@ opts_out c f = elim c.opt_out [ true ↦ f.opt_out | false ↦ false ]
 
 -- what the wildcard decides
 abbrev pub hash_star_with : Choices → (Name → List ℕ) → Name → ℕ → List HashLink → Option Verdict
-hash_star_with c hash e t fs = elim c.wildcards [ true ↦ first_some (star_at (hash (low (star_under e))) t) fs | false ↦ Some NoName ]
+hash_star_with c hash e t fs = elim c.wildcards [
+  | true ↦ first_some (star_at (hash (low (star_under e))) t) fs
+  | false ↦ Some NoName
+]
 
 abbrev pub beyond_with : Choices → (Name → List ℕ) → Name → ℕ → List HashLink → List ℕ → HashLink → Option Verdict
 beyond_with c hash e t fs h f = elim (covers_hash h f) [

@@ -31,8 +31,8 @@ pub fn delegations_decide_first()
     ensures nsec3 { DecidesFalsely without_delegations (Nsec3 0 [] false) }
 {}
 
-/// A record at a delegation lists the types of the parent's side. An attacker who replays it would deny any type that the child
-/// zone has there (RFC 6840, 4.1).
+/// A record at a delegation lists the types of the parent's side. An attacker who replays it would deny the types that the
+/// child zone has there (RFC 6840, 4.1).
 pub fn child_types_are_not_denied()
     ensures nsec { DecidesFalsely without_child_types Nsec }
     ensures nsec3 { DecidesFalsely without_child_types (Nsec3 0 [] false) }
@@ -58,13 +58,14 @@ pub fn names_are_in_canonical_order()
     ensures { DecidesFalsely by_wire_octets Nsec }
 {}
 
-/// A name that is covered exists where the next name stands below it. Who takes it for missing may take all names below it for
-/// missing (RFC 4592, 2.2.2; RFC 8020, 2).
+/// A name that is covered exists where the next name stands below it. Who takes it for missing may take all names below it
+/// for missing (RFC 4592, 2.2.2; RFC 8020, 2).
 pub fn names_above_names_exist()
     ensures { DecidesFalsely without_non_terminals Nsec }
 {}
 
-/// Under opt-out an unsigned delegation may lie in a gap. An attacker would deny it, and with it the child zone (RFC 5155, 6).
+/// Under opt-out an unsigned delegation may lie in a gap. An attacker would deny it, and all names of the child zone
+/// (RFC 5155, 6).
 pub fn opt_out_proves_nothing()
     ensures { DecidesFalsely without_opt_out (Nsec3 0 [] true) }
 {}
