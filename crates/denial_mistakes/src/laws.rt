@@ -1,4 +1,4 @@
-//! What each rule of denial is needed for. Each law is the contract of a function that does nothing.
+//! What rules of denial are needed for. Each law is the contract of a function that does nothing.
 ghost use Rattle.std.specs.Prelude.{true, false, []};
 ghost use Rattle.definitions.specs.ZoneChain.{Nsec, Nsec3};
 ghost use Rattle.denial_mistakes.specs.Falsely.{DecidesFalsely, MissesOwnAnswer, RightChoicesAreTheRules, RightChoicesAreNeverFalse, RightChoicesMissNothing};
