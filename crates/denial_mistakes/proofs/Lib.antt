@@ -1,0 +1,5 @@
+pub mod SameRules
+pub mod WireHash
+pub mod Zones
+pub mod NsecMistakes
+pub mod Nsec3Mistakes
