@@ -1,15 +1,13 @@
 -- An RRset on its way into an answer, as contracts see it.
 use Rattle.std.specs.Prelude.{◌≡◌, ℕ, ◌+◌, ◌%◌, ◌<◌, Bool, true, List, ◌++◌, Option, Some, None, Contains, map, if◌then◌else◌, length, nat_lt}
 use Rattle.std.specs.List.{AllZip}
-use Rattle.definitions.specs.Name.{Name, low}
+use Rattle.definitions.specs.Name.{Name}
 use Rattle.definitions.specs.Dnskey.{Dnskey, key_tag}
 use Rattle.definitions.specs.Signing.{Fields, label_count, signed_octets}
 use Rattle.messages.specs.Rrsig.{rrsig_data}
 use Rattle.messages.specs.Written.{Written}
 use Rattle.messages.specs.HandedRr.{HandedRr}
-use Rattle.definitions.specs.Zone.{data_at}
-use Rattle.answer_terms.specs.Accepting.{zone_with}
-use Rattle.answer_terms.specs.Served.{Group, owned_by, ttl_among, written_among, written_of_handed, written_rr}
+use Rattle.answer_terms.specs.Served.{Group, owned_by, written_of_handed, written_rr}
 
 -- the owner and the TTL of its signatures, the label count of its source, its records as they are written, and the
 -- canonical data in order
@@ -40,18 +38,6 @@ spelled_by own owner r = if own then written_of_handed r else owned_by owner (wr
 
 abbrev pub all_spelled_by : Bool → Name → List Written → List Written
 all_spelled_by own owner ws = if own then ws else map (owned_by owner) ws
-
--- the RRset of an owner and a type of a zone, written under that owner or as its records spell it
-abbrev pub rrset_of : Bool → Name → List HandedRr → Name → ℕ → Group
-rrset_of own apex rs owner t = record {
-  owner = owner;
-  source = low owner;
-  rtype = t;
-  ttl = ttl_among rs (low owner) t;
-  written = all_spelled_by own owner (written_among rs (low owner) t);
-  datas = data_at (zone_with apex rs) (low owner) t;
-  signed = true;
-}
 
 -- an RRset of an answer, as it is seen
 abbrev pub view_of : Group → GroupView

@@ -15,8 +15,8 @@
 //! - `key FLAGS ALGORITHM OCTETS`, `key-data OCTETS`: a key with its tag, whether it is a zone key, and its data.
 //!   `ranked OCTETS,..`: data in order; `digests TAG,..`: DS records in order.
 //! - `fields RRSIG`: the fields of a signature, spelled and canonical; `signed RRSIG OWNER OCTETS,..`: what it is made over.
-//! - `zone NAME`: begins a zone; `soa SERIAL`, `ns OWNER TTL SERVER`, `rr OWNER CLASS TTL TYPE OCTETS`: its records; `accept`:
-//!   makes it. Then `ask NAME TYPE`: the flags and RRsets of the answer, the data of each as written and in canonical form;
+//! - `zone NAME`: begins a zone; `soa SERIAL`, `ns OWNER TTL SERVER`, `rr OWNER CLASS TTL TYPE OCTETS`: records; `accept`: makes
+//!   it. Then `ask NAME TYPE`: the flags and RRsets of the answer, the data of each as written and in canonical form;
 //!   `has NAME TYPE`, `exists NAME`, `ttl NAME TYPE`, `apex`.
 //!
 //! Each line is printed, and the answer behind it. Lines that begin with `#` and empty ones are printed alone.

@@ -1,5 +1,6 @@
 //! The RRsets of an answer.
-ghost use Rattle.std.specs.Prelude.{◌≡◌, ℕ, [], ◌∷◌, ◌++◌, ◌&&◌, ◌||◌, ◌==◌, ◌≤◌, List, true, false, map, IfOk, IfSome, IsNone, OnOk};
+ghost use Rattle.std.specs.Prelude.{◌≡◌, ℕ, ◌&&◌, ◌||◌, ◌==◌, ◌≤◌, true, false, IfOk, IfSome, IsNone, OnOk};
+ghost use Rattle.std.specs.Prelude.{List, [], ◌∷◌, ◌++◌, map};
 ghost use Rattle.std.specs.List.{AllZip};
 ghost use Rattle.definitions.specs.Name.{Name, at_or_above, low, wire_len};
 ghost use Rattle.definitions.specs.Zone.{exists, has, star_under};
@@ -92,7 +93,8 @@ impl ZoneRecords {
     /// A referral: the name servers of a delegation without signatures, its DS records if it has any, and its record of
     /// the chain, which shows whether it has (RFC 4035, 3.1.4).
     fn referral(&self, alloc: Global, cut: &Name<Vec<u8>>) -> Result<ZoneAnswer, AllocError>
-        requires delegation { has (zone_with self.now.apex self.now.records) (low cut.now) 2 ≡ true }
+        requires delegation { let z = zone_with self.now.apex self.now.records in
+            has z (low cut.now) 2 ≡ true }
         ensures { IfOk result (λ a. (hash : List (List ℕ) → List ℕ)
             → let s = served_of self.now.apex Nsec hash self.now.records in let c = low cut.now in
             Holds 32768 [] (unsigned_ns s c ++ if_any s c 43 ++ proofs_of s (c ∷ [])) a) }
@@ -216,7 +218,8 @@ impl ZoneRecords {
         requires plain { ((rtype == 47) || (rtype == 50)) ≡ false }
         ensures { IfOk result (λ a. (hash : List (List ℕ) → List ℕ)
             → let s = served_of self.now.apex Nsec hash self.now.records in
-            Holds 33792 (expanded s (low star.now) name.now rtype) (proofs_of s (low name.now ∷ [])) a) }
+            let q = name.now in
+            Holds 33792 (expanded s (low star.now) q rtype) (proofs_of s (low q ∷ [])) a) }
     {
         let mut authority = Vec::new(alloc);
         self.push_proofs(alloc, &mut authority, &[name])?;
@@ -308,7 +311,8 @@ impl ZoneRecords {
         rtype: Rtype,
     ) -> Result<RrGroup, AllocError>
         requires plain { ((rtype == 47) || (rtype == 50)) ≡ false }
-        requires there { has (zone_with self.now.apex self.now.records) (low name.now) rtype ≡ true }
+        requires there { let z = zone_with self.now.apex self.now.records in
+            has z (low name.now) rtype ≡ true }
         ensures { IfOk result (λ g. (hash : List (List ℕ) → List ℕ)
             → let s = served_of self.now.apex Nsec hash self.now.records in
             Presents g (rrset s (low name.now) rtype)) }
