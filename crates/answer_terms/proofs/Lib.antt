@@ -1,11 +1,9 @@
 pub mod ZoneServed
-pub mod ZoneChains
+pub mod Climbing
 pub mod ZoneData
-pub mod OneLink
-pub mod ZonePlain
+pub mod ZoneFaultless
 pub mod ZoneRising
 pub mod ZoneAnswers
-pub mod LinkLists
 pub mod TagPlaces
 pub mod KeyData
 pub mod AllowedTypes

@@ -19,7 +19,7 @@ use Rattle.messages.specs.HandedRr.{HandedRr}
 use Rattle.answer_terms.specs.Accepting.{record_cmp, rr_of, soas, zone_with}
 use Rattle.answer_terms.specs.Served.{owner_among, spelled_among}
 use Rattle.answer_terms.specs.ZoneView.{is_of}
-use Rattle.answer_terms.proofs.ZoneChains.{Climbs, less_back, sort_by_climbing, tidy}
+use Rattle.answer_terms.proofs.Climbing.{Climbs, less_back, sort_by_climbing, tidy}
 use Rattle.messages.proofs.ZoneNames.{low-low, name_cmp-same, same_labels}
 use Rattle.messages.proofs.Lists.{both_ways, map-map}
 

@@ -1,3 +1,5 @@
+pub mod Cuts
+pub mod Verdicts
 pub mod ZoneOrder
 pub mod ZoneTtls
 pub mod ZoneFaults

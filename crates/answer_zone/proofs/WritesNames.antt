@@ -47,21 +47,25 @@ owner_names (r ∷ rs) h = (lower_name r.owner h.0.owner, owner_names rs h.1)
 
 -- ---- next names
 
-abbrev Leads : Name × Name → Type 0
-Leads l = IsName l.1
+module _ (P : Name → Type 0) where
+  abbrev Leads : Name × Name → Type 0
+  Leads l = P l.1
 
-all_lead : (first : Name) (ns : List Name) → IsName first → AllByRecursion IsName ns → AllByRecursion Leads (links first ns)
-all_lead first [] f h = tt
-all_lead first (n ∷ []) f h = (f, tt)
-all_lead first (n ∷ o ∷ ns) f h = (h.1.0, all_lead first (o ∷ ns) f h.1)
+  all_lead : (first : Name) (ns : List Name) → P first → AllByRecursion P ns → AllByRecursion Leads (links first ns)
+  all_lead first [] f h = tt
+  all_lead first (n ∷ []) f h = (f, tt)
+  all_lead first (n ∷ o ∷ ns) f h = (h.1.0, all_lead first (o ∷ ns) f h.1)
 
-name_behind : (d o : Name) (ls : List (Name × Name)) → IsName d → AllByRecursion Leads ls → IsName (behind labels_eq d o ls)
-name_behind d o [] is h = is
-name_behind d o (l ∷ ls) is h = either IsName (labels_eq o l.0) l.1 (behind labels_eq d o ls) h.0 (name_behind d o ls is h.1)
+  name_behind : (d o : Name) (ls : List (Name × Name)) → P d → AllByRecursion Leads ls → P (behind labels_eq d o ls)
+  name_behind d o [] is h = is
+  name_behind d o (l ∷ ls) is h = either P (labels_eq o l.0) l.1 (behind labels_eq d o ls) h.0 (name_behind d o ls is h.1)
 
--- what follows a name round a circle
+  -- what follows a name round a circle is one of its names
+  pub next_of : (first o : Name) (ns : List Name) → P first → AllByRecursion P ns → P (behind labels_eq first o (links first ns))
+  next_of first o ns f h = name_behind first o (links first ns) f (all_lead first ns f h)
+
 pub next_name : (first o : Name) (ns : List Name) → IsName first → AllByRecursion IsName ns → IsName (behind labels_eq first o (links first ns))
-next_name first o ns f h = name_behind first o (links first ns) f (all_lead first ns f h)
+next_name = next_of IsName
 
 -- ---- TTLs
 

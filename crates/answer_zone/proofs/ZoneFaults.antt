@@ -4,7 +4,7 @@ use Rattle.std.specs.List.{list_any}
 use Rattle.definitions.specs.Name.{Name}
 use Rattle.definitions.specs.ZoneChain.{Mode}
 use Rattle.messages.specs.HandedRr.{HandedRr, is_meta}
-use Rattle.answer_terms.specs.Accepting.{IsFaultless, delegates_star, is_added_by_signing, is_alias, is_cut_or_star, is_of_other_class, is_outside, over_limit}
+use Rattle.answer_terms.specs.Accepting.{IsFaultless, delegates_star, is_added_by_signing, is_alias, is_of_other_class, is_outside, over_limit}
 use Rattle.answer_zone.specs.Faults.{first_fault}
 use Rattle.answer_zone.specs.declared.fault.ZoneFault.{ZoneFault}
 use Rattle.answer_zone.specs.declared.fault.ZoneFault.TheVariants as fault
@@ -15,8 +15,7 @@ unless false x o e = (refl, e)
 
 pub faultless : (apex : Name) (mode : Mode) (limit : ℕ) (rs : List HandedRr) → first_fault apex mode limit rs ≡ None → IsFaultless apex mode limit rs
 faultless apex mode limit rs e =
-    let o7 : Option ZoneFault = cond (over_limit mode limit) (Some fault.IterationsOverLimit) None in
-    let o6 : Option ZoneFault = cond (list_any (is_cut_or_star apex) rs) (Some fault.NotYet) o7 in
+    let o6 : Option ZoneFault = cond (over_limit mode limit) (Some fault.IterationsOverLimit) None in
     let o5 : Option ZoneFault = cond (list_any delegates_star rs) (Some fault.StarNs) o6 in
     let o4 : Option ZoneFault = cond (list_any is_meta rs) (Some fault.MetaType) o5 in
     let o3 : Option ZoneFault = cond (list_any is_alias rs) (Some fault.Alias) o4 in
@@ -28,8 +27,7 @@ faultless apex mode limit rs e =
     let e3 = unless (list_any is_alias rs) fault.Alias o4 e2.1 in
     let e4 = unless (list_any is_meta rs) fault.MetaType o5 e3.1 in
     let e5 = unless (list_any delegates_star rs) fault.StarNs o6 e4.1 in
-    let e6 = unless (list_any (is_cut_or_star apex) rs) fault.NotYet o7 e5.1 in
-    let e7 = unless (over_limit mode limit) fault.IterationsOverLimit None e6.1 in
+    let e6 = unless (over_limit mode limit) fault.IterationsOverLimit None e5.1 in
     record {
       of_class_in = e0.0;
       inside = e1.0;
@@ -37,6 +35,5 @@ faultless apex mode limit rs e =
       no_alias = e3.0;
       known = e4.0;
       no_star_delegation = e5.0;
-      plain = e6.0;
-      within_limit = e7.0;
+      within_limit = e6.0;
     }

@@ -1,5 +1,5 @@
 -- Records of the chain that match or cover names, one after another.
-use Rattle.std.proofs.Common.{◌≡◌, ℕ, ◌+◌, ◌<◌, Bool, true, false, ◌&&◌, ◌||◌, List, [], ◌∷◌, ◌++◌, map, refl, sym, ap, subst, ◌∙◌, ⊎_elim, cond, Ordering, append_assoc, length, take, get_or, if◌then◌else◌}
+use Rattle.std.proofs.Common.{◌≡◌, ℕ, ◌+◌, ◌<◌, Bool, true, false, ◌&&◌, ◌||◌, List, [], ◌∷◌, ◌++◌, map, inl, inr, refl, sym, ap, subst, ◌∙◌, ⊎_elim, cond, Ordering, append_assoc, length, take, get_or, if◌then◌else◌}
 use Rattle.std.specs.declared.cmp.Ordering.TheVariants.{Less, Equal, Greater}
 use Rattle.std.specs.List.{AllByRecursion, filter}
 use Rattle.std.specs.Ordering.{is_lt}
@@ -9,15 +9,15 @@ use Rattle.definitions.specs.Bitmap.{bitmap}
 use Rattle.definitions.specs.Name.{Name, low, labels_eq, same, name_cmp, wire}
 use Rattle.definitions.specs.Covering.{before, covers}
 use Rattle.definitions.specs.ZoneChain.{Nsec, nsec_names, nsec_next, nsec_types}
+use Rattle.definitions.proofs.Members.{In}
+use Rattle.definitions.proofs.ZoneNames.{live_owner, owner_lowered}
 use Rattle.messages.specs.HandedRr.{HandedRr}
 use Rattle.answer_terms.specs.Accepting.{zone_with}
 use Rattle.answer_terms.specs.GroupView.{Adds, GroupView, Presents}
 use Rattle.answer_terms.specs.Links.{ChainLink, group_of, link_at, link_speaks, links_of, said_of}
 use Rattle.answer_terms.specs.Served.{Group, canonical_group, chain_record, chain_ttl, proofs_of, served_of, spelled_among, spelled_as}
-use Rattle.answer_terms.specs.ZoneView.{IsPublished}
-use Rattle.answer_terms.proofs.LinkLists.{pairs, record_links}
-use Rattle.answer_terms.proofs.ZoneChains.{names_are, next_is}
 use Rattle.answer_terms.proofs.ZoneData.{low-spelled_among}
+use Rattle.answer_zone.proofs.WritesNames.{next_of}
 use Rattle.answer_zone.proofs.ZoneGroups.{step}
 use Rattle.messages.proofs.ZoneNames.{labels_eq-same, low-low, same_labels, low_from_Equal, name_cmp-low, name_cmp-same, same-low}
 use Rattle.messages.proofs.Lists.{zip_append}
@@ -82,32 +82,16 @@ said_same apex ttl qs ls i l old mid h e is before =
 abbrev Fits : Name → List HandedRr → Name → Type 0
 Fits apex rs o = (low o ≡ o) × (low (nsec_next (zone_with apex rs) o) ≡ nsec_next (zone_with apex rs) o)
 
-abbrev BothLow : Name × Name → Type 0
-BothLow m = (low m.0 ≡ m.0) × (low m.1 ≡ m.1)
+all_from : {A : Type 0} (P : A → Type 0) (xs : List A) → ((x : A) → In x xs → P x) → AllByRecursion P xs
+all_from P [] f = tt
+all_from P (x ∷ xs) f = (f x (inl refl), all_from P xs (λ y i. f y (inr i)))
 
-pairs_low : (first x : Name) (ys : List Name) → low first ≡ first → low x ≡ x → AllByRecursion (λ y. low y ≡ y) ys → AllByRecursion BothLow (pairs name_cmp first x ys)
-pairs_low first x [] f h k = ((h, f), tt)
-pairs_low first x (y ∷ ys) f h k =
-    elim (name_cmp y x) as (λ (o : Ordering). AllByRecursion BothLow (elim o [ Less ↦ pairs name_cmp first x ys | Equal ↦ pairs name_cmp first x ys | Greater ↦ (x, y) ∷ pairs name_cmp first y ys ])) [
-      | Less ↦ pairs_low first x ys f h k.1
-      | Equal ↦ pairs_low first x ys f h k.1
-      | Greater ↦ ((h, k.0), pairs_low first y ys f k.0 k.1)
-    ]
-
-owners_low : (rs : List HandedRr) → AllByRecursion (λ y. low y ≡ y) (map (λ s. low s.owner) rs)
-owners_low [] = tt
-owners_low (r ∷ rs) = (low-low r.owner, owners_low rs)
-
-links_low : (apex : Name) (rs : List HandedRr) → AllByRecursion BothLow (record_links (low apex) rs)
-links_low apex [] = tt
-links_low apex (r ∷ rs) = pairs_low (low apex) (low r.owner) (map (λ s. low s.owner) rs) (low-low apex) (low-low r.owner) (owners_low rs)
-
-fits_each : (apex : Name) (rs : List HandedRr) (ms : List (Name × Name)) → AllByRecursion BothLow ms → AllByRecursion (λ (m : Name × Name). nsec_next (zone_with apex rs) m.0 ≡ m.1) ms → AllByRecursion (Fits apex rs) (map (λ (m : Name × Name). m.0) ms)
-fits_each apex rs [] h k = tt
-fits_each apex rs (m ∷ ms) h k = ((h.0.0, ap low k.0 ∙ h.0.1 ∙ sym k.0), fits_each apex rs ms h.1 k.1)
-
-all_fit : (apex : Name) (rs : List HandedRr) → IsPublished apex rs → AllByRecursion (Fits apex rs) (nsec_names (zone_with apex rs))
-all_fit apex rs p = subst (AllByRecursion (Fits apex rs)) (sym (names_are apex rs p)) (fits_each apex rs (record_links (low apex) rs) (links_low apex rs) (next_is apex rs p))
+all_fit : (apex : Name) (rs : List HandedRr) → AllByRecursion (Fits apex rs) (nsec_names (zone_with apex rs))
+all_fit apex rs =
+    let z = zone_with apex rs in
+    let lowered = λ (o : Name) (i : In o (nsec_names z)). owner_lowered z o (live_owner z o i).0 in
+    let all : AllByRecursion (λ o. low o ≡ o) (nsec_names z) = all_from (λ o. low o ≡ o) (nsec_names z) lowered in
+    all_from (Fits apex rs) (nsec_names z) (λ o i. (lowered o i, next_of (λ n. low n ≡ n) (low apex) o (nsec_names z) (low-low apex) all))
 
 -- a spelling of a name in lower case is that name
 spelled_low : (rs : List HandedRr) (o : Name) → low o ≡ o → low (spelled_among rs o) ≡ o
@@ -142,8 +126,8 @@ alike apex hash rs qs (o ∷ ns) h =
     ((λ i. link_speaks apex qs (own i) (next i), (λ i. canonical_group (spelled_among rs o) (own i) 47 (chain_ttl apex rs) ((wire (spelled_as apex rs (nsec_next z o)) ++ bitmap (nsec_types z true o)) ∷ []))), alike apex hash rs qs ns h.1)
 
 -- the records of the chain that are kept are those of the definitions
-pub proofs_are_said : (apex : Name) (hash : Name → List ℕ) (rs : List HandedRr) → IsPublished apex rs → (qs : List Name) → said_of apex (chain_ttl apex rs) qs (links_of apex rs) ≡ proofs_of (served_of apex Nsec hash rs) qs
-proofs_are_said apex hash rs p qs =
+pub proofs_are_said : (apex : Name) (hash : Name → List ℕ) (rs : List HandedRr) (qs : List Name) → said_of apex (chain_ttl apex rs) qs (links_of apex rs) ≡ proofs_of (served_of apex Nsec hash rs) qs
+proofs_are_said apex hash rs qs =
     let z = zone_with apex rs in
     chosen_alike (link_at apex rs) (λ l. link_speaks apex qs (low l.owner) (low l.next)) (λ o. link_speaks apex qs o (nsec_next z o)) (group_of (chain_ttl apex rs)) (chain_record (served_of apex Nsec hash rs)) (nsec_names z)
-    (alike apex hash rs qs (nsec_names z) (all_fit apex rs p))
+    (alike apex hash rs qs (nsec_names z) (all_fit apex rs))

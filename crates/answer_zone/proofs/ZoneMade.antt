@@ -4,7 +4,7 @@ use Rattle.std.specs.Prelude.{IsSome}
 use Rattle.std.specs.List.{AllByRecursion}
 use Rattle.definitions.specs.Name.{Name}
 use Rattle.definitions.specs.Sorting.{sort_by}
-use Rattle.definitions.specs.ZoneChain.{Mode, optout_of}
+use Rattle.definitions.specs.ZoneChain.{Mode, Nsec, optout_of}
 use Rattle.plain.specs.ZoneData.{zone_canonical, zone_type}
 use Rattle.plain.specs.declared.record.Record.{Record}
 use Rattle.plain.specs.declared.zone_data.ZoneRecordData.{ZoneRecordData}
@@ -18,7 +18,7 @@ use Rattle.messages.specs.HandedRr.{handed_of}
 use Rattle.messages.proofs.Lists.{all_more}
 use Rattle.answer_terms.specs.Accepting.{IsAccepted, IsFaultless, has_unlike_ttls, soas, sorted_records, zone_with}
 use Rattle.answer_zone.specs.Faults.{RefusesZone, first_fault, zone_fault}
-use Rattle.answer_terms.proofs.ZonePlain.{IsPlain, plain_from}
+use Rattle.answer_terms.proofs.ZoneFaultless.{HasNoFault, no_fault_from}
 use Rattle.answer_zone.proofs.ZoneFaults.{faultless}
 use Rattle.answer_zone.proofs.ZoneOrder.{IsInternet, all_internet, handed_in_order, sorted_internet, zone_cmp}
 use Rattle.answer_zone.proofs.ZoneTtls.{no_single_soa, single_soa, ttls_are}
@@ -27,7 +27,7 @@ one_class_of : {O : Type 0} (rs : List (Record Name (ZoneRecordData O Name))) �
 one_class_of [] h = tt
 one_class_of (r ∷ rs) h = all_more IsInternet (λ s. s.class ≡ r.class) rs (λ s e. e ∙ sym h.0) h.1
 
-module _ {O : Type 0} (apex : Name) (mode : Mode) (limit : ℕ) (rs : List (Record Name (ZoneRecordData O Name))) (none : first_fault apex mode limit (map handed_of rs) ≡ None) where
+module _ {O : Type 0} (apex : Name) (mode : Mode) (limit : ℕ) (rs : List (Record Name (ZoneRecordData O Name))) (of_names : mode ≡ Nsec) (none : first_fault apex mode limit (map handed_of rs) ≡ None) where
   no_fault : IsFaultless apex mode limit (map handed_of rs)
   no_fault = faultless apex mode limit (map handed_of rs) none
 
@@ -40,16 +40,17 @@ module _ {O : Type 0} (apex : Name) (mode : Mode) (limit : ℕ) (rs : List (Reco
   pub one_class : IsOneClass (sort_by zone_cmp rs)
   one_class = one_class_of (sort_by zone_cmp rs) (sorted_internet rs internet)
 
-  plain : IsPlain apex (map handed_of (sort_by zone_cmp rs))
-  plain = subst (IsPlain apex) (sym in_order) (plain_from apex mode limit (map handed_of rs) no_fault)
+  kept : HasNoFault apex (map handed_of (sort_by zone_cmp rs))
+  kept = subst (HasNoFault apex) (sym in_order) (no_fault_from apex mode limit (map handed_of rs) no_fault)
 
   unequal : has_unequal_ttls (λ n. n) zone_type (zone_canonical (λ n. n)) apex false (sort_by zone_cmp rs) ≡ has_unlike_ttls (zone_with apex (sorted_records (map handed_of rs))) (optout_of mode) (sorted_records (map handed_of rs))
   unequal =
-      ttls_are apex (optout_of mode) (sort_by zone_cmp rs) plain.plain plain.inside
-      ∙ ap (λ hs. has_unlike_ttls (zone_with apex hs) (optout_of mode) hs) in_order
+      ttls_are apex (sort_by zone_cmp rs)
+      ∙ ap (λ hs. has_unlike_ttls (zone_with apex hs) false hs) in_order
+      ∙ ap (λ m. has_unlike_ttls (zone_with apex (sorted_records (map handed_of rs))) (optout_of m) (sorted_records (map handed_of rs))) (sym of_names)
 
   pub refused : (e : SigningError) → IsOwnersFault (λ n. n) apex false (sort_by zone_cmp rs) e → RefusesZone apex mode limit (map handed_of rs) (zone_fault e)
-  refused NoSingleSoa h = inr (none, λ one. no_single_soa apex (sort_by zone_cmp rs) plain.known h (ap (λ hs. length (soas apex hs)) in_order ∙ one))
+  refused NoSingleSoa h = inr (none, λ one. no_single_soa apex (sort_by zone_cmp rs) kept.known h (ap (λ hs. length (soas apex hs)) in_order ∙ one))
   refused MultipleTtlValues h = inr (none, sym unequal ∙ h)
   refused HashFailed h = absurd h
   refused HashTooLong h = absurd h

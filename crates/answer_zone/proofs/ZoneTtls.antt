@@ -5,8 +5,10 @@ use Rattle.std.specs.List.{list_any, AllByRecursion, filter}
 use Rattle.std.specs.Option.{option_map}
 use Rattle.std.proofs.lemmas.Bool.{or_parts, false≢true}
 use Rattle.std.proofs.lemmas.List.{length-map}
-use Rattle.definitions.specs.Name.{Name, low, same, at_or_above, strictly_above}
+use Rattle.definitions.specs.Name.{Name, low, same}
 use Rattle.definitions.specs.Zone.{Zone, is_kept}
+use Rattle.definitions.proofs.Members.{any_kept}
+use Rattle.denial_rules.proofs.NameFacts.{same_names}
 use Rattle.plain.specs.ZoneData.{zone_canonical, zone_type}
 use Rattle.plain.specs.declared.record.Record.{Record}
 use Rattle.plain.specs.declared.zone_data.ZoneRecordData.{ZoneRecordData}
@@ -14,31 +16,21 @@ use Rattle.plain.specs.declared.zone_data.ZoneRecordData.TheVariants.{Soa, Ns, U
 use Rattle.denial_sorted.specs.Groups.{is_at}
 use Rattle.denial_owners.specs.Soa.{minimum_of, soa_ttls, ttls_of, ttls_of_one}
 use Rattle.denial_owners.specs.Ttls as words
-use Rattle.messages.specs.HandedRr.{HandedRr, among, handed_of, has_star, is_meta, is_unknown}
-use Rattle.messages.proofs.Lists.{list_any-map}
+use Rattle.messages.specs.HandedRr.{HandedRr, among, handed_of, is_meta, is_unknown}
 use Rattle.answer_terms.specs.Accepting.{has_unlike_ttls, soas, unlike_ttls, zone_with}
 use Rattle.answer_zone.proofs.WritesNames.{all_filter}
 use Rattle.answer_terms.proofs.ZoneData.{filter-map}
-use Rattle.answer_terms.proofs.ZoneServed.{all_kept, unlike_kept}
 use Rattle.answer_zone.proofs.ZoneWords.{zone_is}
 
 -- ---- tests of lists
 
-any_agree : {A : Type 0} (p q : A → Bool) (xs : List A) → AllByRecursion (λ x. p x ≡ q x) xs → list_any p xs ≡ list_any q xs
-any_agree p q [] h = refl
-any_agree p q (x ∷ xs) h = λ i. h.0 i || any_agree p q xs h.1 i
-
-everywhere : {A : Type 0} (P : A → Type 0) → ((x : A) → P x) → (xs : List A) → AllByRecursion P xs
-everywhere P h [] = tt
-everywhere P h (x ∷ xs) = (h x, everywhere P h xs)
+any_alike : {A : Type 0} (p q : A → Bool) → ((x : A) → p x ≡ q x) → (xs : List A) → list_any p xs ≡ list_any q xs
+any_alike p q h [] = refl
+any_alike p q h (x ∷ xs) = λ i. h x i || any_alike p q h xs i
 
 all_of_map : {A B : Type 0} (P : B → Type 0) (f : A → B) (xs : List A) → AllByRecursion P (map f xs) → AllByRecursion (λ x. P (f x)) xs
 all_of_map P f [] h = tt
 all_of_map P f (x ∷ xs) h = (h.0, all_of_map P f xs h.1)
-
-all_then : {A : Type 0} (P Q : A → Type 0) → ((x : A) → P x → Q x) → (xs : List A) → AllByRecursion P xs → AllByRecursion Q xs
-all_then P Q f [] h = tt
-all_then P Q f (x ∷ xs) h = (f x h.0, all_then P Q f xs h.1)
 
 filter_agree : {A : Type 0} (p q : A → Bool) → ((x : A) → p x ≡ q x) → (xs : List A) → filter p xs ≡ filter q xs
 filter_agree p q h [] = refl
@@ -119,24 +111,36 @@ module _ {O : Type 0} where
 
   -- ---- TTLs
 
-  unlike_one : (rs : List (Record Name (ZoneRecordData O Name))) (r : Record Name (ZoneRecordData O Name)) → list_any (λ s. same r.owner s.owner && words.unlike_ttls zone_type r s) rs ≡ list_any (unlike_ttls (handed_of r)) (map handed_of rs)
-  unlike_one rs r =
-      any_agree (λ s. same r.owner s.owner && words.unlike_ttls zone_type r s) (λ s. unlike_ttls (handed_of r) (handed_of s)) rs
-      (everywhere (λ s. (same r.owner s.owner && words.unlike_ttls zone_type r s) ≡ unlike_ttls (handed_of r) (handed_of s)) (λ s. in_front (same r.owner s.owner) (eqb (zone_type r.content) (zone_type s.content)) (not (eqb r.ttl s.ttl)) (not (eqb (zone_type r.content) 46))) rs)
-      ∙ sym (list_any-map (unlike_ttls (handed_of r)) handed_of rs)
+  -- what another record of an owner is compared with
+  abbrev unlike : Record Name (ZoneRecordData O Name) → Record Name (ZoneRecordData O Name) → Bool
+  unlike r s = same r.owner s.owner && words.unlike_ttls zone_type r s
 
-  -- unequal TTLs, among the records of a zone that keeps all its owners
-  pub ttls_are : (apex : Name) (optout : Bool) (rs : List (Record Name (ZoneRecordData O Name)))
-      → AllByRecursion (λ r. (((eqb r.rtype 2) && strictly_above apex r.owner) || has_star r.owner) ≡ false) (map handed_of rs)
-      → AllByRecursion (λ r. at_or_above apex r.owner ≡ true) (map handed_of rs)
-      → words.has_unequal_ttls (λ n. n) zone_type (zone_canonical (λ n. n)) apex false rs ≡ has_unlike_ttls (zone_with apex (map handed_of rs)) optout (map handed_of rs)
-  ttls_are apex optout rs plain inside =
+  abbrev keeps : Zone → Record Name (ZoneRecordData O Name) → Bool
+  keeps z r = is_kept z false (low r.owner)
+
+  -- records of one owner are kept or not alike
+  kept_alike : (z : Zone) (r s : Record Name (ZoneRecordData O Name)) → keeps z r ≡ true → unlike r s ≡ (keeps z s && unlike_ttls (handed_of r) (handed_of s))
+  kept_alike z r s k =
+      go (same r.owner s.owner) refl
+      ∙ ap (λ b. keeps z s && b) (in_front (same r.owner s.owner) (eqb (zone_type r.content) (zone_type s.content)) (not (eqb r.ttl s.ttl)) (not (eqb (zone_type r.content) 46)))
+    where
+      go : (b : Bool) → same r.owner s.owner ≡ b → (b && words.unlike_ttls zone_type r s) ≡ (keeps z s && (b && words.unlike_ttls zone_type r s))
+      go true e = sym (ap (λ b. b && words.unlike_ttls zone_type r s) (ap (is_kept z false) (sym (same_names r.owner s.owner e)) ∙ k))
+      go false e = and_back false (keeps z s)
+
+  one_alike : (z : Zone) (rs : List (Record Name (ZoneRecordData O Name))) (r : Record Name (ZoneRecordData O Name)) (b : Bool) → keeps z r ≡ b
+      → (b && list_any (unlike r) rs) ≡ (b && list_any (λ s. keeps z s && unlike_ttls (handed_of r) (handed_of s)) rs)
+  one_alike z rs r true k = any_alike (unlike r) (λ s. keeps z s && unlike_ttls (handed_of r) (handed_of s)) (λ s. kept_alike z r s k) rs
+  one_alike z rs r false k = refl
+
+  -- unequal TTLs, among the records of the owners that a zone keeps
+  pub ttls_are : (apex : Name) (rs : List (Record Name (ZoneRecordData O Name)))
+      → words.has_unequal_ttls (λ n. n) zone_type (zone_canonical (λ n. n)) apex false rs ≡ has_unlike_ttls (zone_with apex (map handed_of rs)) false (map handed_of rs)
+  ttls_are apex rs =
       let hs = map handed_of rs in
-      let all = λ (z : Zone). list_any (λ (r : Record Name (ZoneRecordData O Name)). is_kept z false (low r.owner) && list_any (λ s. same r.owner s.owner && words.unlike_ttls zone_type r s) rs) rs in
-      let kept = all_of_map (λ r. is_kept (zone_with apex hs) false (low r.owner) ≡ true) handed_of rs (all_kept apex hs plain inside false hs inside) in
-      ap all (zone_is apex rs)
-      ∙ any_agree (λ r. is_kept (zone_with apex hs) false (low r.owner) && list_any (λ s. same r.owner s.owner && words.unlike_ttls zone_type r s) rs) (λ r. list_any (unlike_ttls (handed_of r)) hs) rs
-      (all_then (λ r. is_kept (zone_with apex hs) false (low r.owner) ≡ true) (λ r. (is_kept (zone_with apex hs) false (low r.owner) && list_any (λ s. same r.owner s.owner && words.unlike_ttls zone_type r s) rs) ≡ list_any (unlike_ttls (handed_of r)) hs)
-      (λ r k. ap (λ b. b && list_any (λ s. same r.owner s.owner && words.unlike_ttls zone_type r s) rs) k ∙ unlike_one rs r) rs kept)
-      ∙ sym (list_any-map (λ (r : HandedRr). list_any (unlike_ttls r) hs) handed_of rs)
-      ∙ sym (unlike_kept apex hs plain inside optout)
+      let z = zone_with apex hs in
+      let kept : HandedRr → Bool = λ r. is_kept z false (low r.owner) in
+      ap (λ z. list_any (λ r. keeps z r && list_any (unlike r) rs) rs) (zone_is apex rs)
+      ∙ any_alike (λ r. keeps z r && list_any (unlike r) rs) (λ r. kept (handed_of r) && list_any (unlike_ttls (handed_of r)) (filter kept hs))
+      (λ r. one_alike z rs r (keeps z r) refl ∙ ap (λ b. keeps z r && b) (sym (any_kept kept (unlike_ttls (handed_of r)) handed_of rs))) rs
+      ∙ sym (any_kept kept (λ r. list_any (unlike_ttls r) (filter kept hs)) handed_of rs)

@@ -16,7 +16,10 @@ use Rattle.answer_terms.specs.Accepting.{rr_of, zone_with}
 use Rattle.answer_terms.specs.Links.{ChainLink, link_at, links_of}
 use Rattle.answer_zone.specs.MadeLinks.{link_of}
 use Rattle.answer_terms.specs.Served.{spelled_among, spelled_as}
-use Rattle.answer_terms.proofs.ZoneChains.{map_agree}
+
+map_agree : {A B : Type 0} (f g : A → B) → ((a : A) → f a ≡ g a) → (xs : List A) → map f xs ≡ map g xs
+map_agree f g h [] = refl
+map_agree f g h (x ∷ xs) = λ i. h x i ∷ map_agree f g h xs i
 
 module _ {O : Type 0} where
   pub zone_is : (apex : Name) (rs : List (Record Name (ZoneRecordData O Name))) → words.zone_of (λ n. n) zone_type (zone_canonical (λ n. n)) apex rs ≡ zone_with apex (map handed_of rs)

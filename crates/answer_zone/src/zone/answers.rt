@@ -82,7 +82,7 @@ impl ZoneRecords {
             IsNone result → NoneRefers z (low name.now) rtype }
     {
         let cut = self.cut(name)?;
-        if rtype == Rtype::DS && cut.name_eq(name) {
+        if cut.name_eq(name) && rtype == Rtype::DS {
             None
         } else {
             Some(cut)
@@ -119,9 +119,10 @@ impl ZoneRecords {
             → Adds groups.old.items groups.new.items
             (if_any (served_of self.now.apex Nsec hash self.now.records) (low cut.now) 43)) }
     {
-        if self.has(cut, Rtype::DS) {
-            groups.push(self.spelled_rrset(alloc, cut, Rtype::DS)?)?;
+        if !self.has(cut, Rtype::DS) {
+            return Ok(());
         }
+        groups.push(self.spelled_rrset(alloc, cut, Rtype::DS)?)?;
         Ok(())
     }
 

@@ -7,9 +7,6 @@ use Rattle.answer_zone.proofs.OneMode.{is_nsec}
 use Rattle.answer_terms.proofs.ZoneData.{if_ok_map}
 use Rattle.answer_zone.proofs.zone.ZoneRecords.answer_to.Goals as goal
 
-pub nsec_answer-requires-clause-published : goal.nsec_answer-requires-clause-published
-nsec_answer-requires-clause-published c = rw (← c.self.view_is) c.self.invariant.0
-
 pub returns : goal.returns
 returns c =
     let z = c.args.self.now in

@@ -13,7 +13,8 @@ use Rattle.answer_terms.specs.Links.{links_of}
 use Rattle.answer_terms.specs.Served.{chain_ttl}
 use Rattle.answer_terms.specs.ZoneView.{IsPublished}
 use Rattle.answer_zone.specs.ModeView.{mode_of}
-use Rattle.answer_terms.proofs.ZonePlain.{plain_from}
+use Rattle.answer_terms.proofs.ZoneFaultless.{no_fault_from}
+use Rattle.answer_zone.proofs.OneMode.{is_nsec}
 use Rattle.answer_zone.proofs.ZoneFaults.{faultless}
 use Rattle.answer_zone.proofs.ZoneMade.{accepted, in_order, one_class, refused}
 use Rattle.answer_terms.proofs.ZoneRising.{published_from}
@@ -25,7 +26,7 @@ chain_of-requires c =
     let mode = mode_of c.args.mode in
     let rs = c.args.records.items in
     let none : first_fault apex mode c.args.limit (map handed_of rs) ≡ None = cc in
-    record { class = subst IsOneClass (sym c.in-Ok.ensures) (one_class apex mode c.args.limit rs none) }
+    record { class = subst IsOneClass (sym c.in-Ok.ensures) (one_class apex mode c.args.limit rs (is_nsec c.args.mode) none) }
 
 pub returns-in-Err-clause-fault : goal.returns-in-Err-clause-fault
 returns-in-Err-clause-fault c =
@@ -34,7 +35,7 @@ returns-in-Err-clause-fault c =
     let rs = c.args.records.items in
     let none : first_fault apex mode c.args.limit (map handed_of rs) ≡ None = cc in
     subst (RefusesZone apex mode c.args.limit (map handed_of rs)) (sym c.fault_of.ensures)
-    (refused apex mode c.args.limit rs none c.in-Err.error (subst (λ xs. IsOwnersFault (λ n. n) apex false xs c.in-Err.error) c.in-Ok.ensures c.in-Err.ensures.refused))
+    (refused apex mode c.args.limit rs (is_nsec c.args.mode) none c.in-Err.error (subst (λ xs. IsOwnersFault (λ n. n) apex false xs c.in-Err.error) c.in-Ok.ensures c.in-Err.ensures.refused))
 
 pub returns-clause-accepted : goal.returns-clause-accepted
 returns-clause-accepted c =
@@ -42,7 +43,7 @@ returns-clause-accepted c =
     let mode = mode_of c.args.mode in
     let rs = c.args.records.items in
     let none : first_fault apex mode c.args.limit (map handed_of rs) ≡ None = cc in
-    accepted apex mode c.args.limit rs none
+    accepted apex mode c.args.limit rs (is_nsec c.args.mode) none
     (subst (λ xs. IsSome (soa_ttls (λ n. n) apex xs)) c.in-Ok.ensures c.in-Ok-chain_of.ensures.soa)
     (ap (has_unequal_ttls (λ n. n) zone_type (zone_canonical (λ n. n)) apex false) (sym c.in-Ok.ensures) ∙ c.in-Ok-chain_of.ensures.ttls)
 
@@ -53,7 +54,7 @@ returns-clause-zone c =
     let rs = c.args.records.items in
     let none : first_fault apex mode c.args.limit (map handed_of rs) ≡ None = cc in
     let items : c.in-Ok-composed.records.items ≡ sorted_records (map handed_of rs) =
-    c.in-Ok-composed.ensures.views ∙ ap (map handed_of) (c.into_inner.ensures ∙ c.in-Ok.ensures) ∙ in_order apex mode c.args.limit rs none in
+    c.in-Ok-composed.ensures.views ∙ ap (map handed_of) (c.into_inner.ensures ∙ c.in-Ok.ensures) ∙ in_order apex mode c.args.limit rs (is_nsec c.args.mode) none in
     ap (λ rs. record { apex = apex; mode = mode; limit = c.args.limit; records = rs }) items
 
 pub invariant_of-result : goal.invariant_of-result
@@ -63,15 +64,15 @@ invariant_of-result c =
     let rs = c.args.records.items in
     let none : first_fault apex mode c.args.limit (map handed_of rs) ≡ None = cc in
     let kept : c.in-Ok-composed.records.items ≡ map handed_of c.in-Ok.sorted = c.in-Ok-composed.ensures.views ∙ ap (map handed_of) c.into_inner.ensures in
-    let items : c.in-Ok-composed.records.items ≡ sorted_records (map handed_of rs) = kept ∙ ap (map handed_of) c.in-Ok.ensures ∙ in_order apex mode c.args.limit rs none in
-    let taken = accepted apex mode c.args.limit rs none
+    let items : c.in-Ok-composed.records.items ≡ sorted_records (map handed_of rs) = kept ∙ ap (map handed_of) c.in-Ok.ensures ∙ in_order apex mode c.args.limit rs (is_nsec c.args.mode) none in
+    let taken = accepted apex mode c.args.limit rs (is_nsec c.args.mode) none
     (subst (λ xs. IsSome (soa_ttls (λ n. n) apex xs)) c.in-Ok.ensures c.in-Ok-chain_of.ensures.soa)
     (ap (has_unequal_ttls (λ n. n) zone_type (zone_canonical (λ n. n)) apex false) (sym c.in-Ok.ensures) ∙ c.in-Ok-chain_of.ensures.ttls) in (
       subst (IsPublished apex) (sym items) (published_from apex mode c.args.limit (map handed_of rs) taken),
       record {
         apex_is = c.keeps.ensures;
         records_are = c.in-Ok-composed.ensures.handed;
-        known = subst (AllByRecursion (λ r. is_meta r ≡ false)) (sym items) (plain_from apex mode c.args.limit (map handed_of rs) (faultless apex mode c.args.limit (map handed_of rs) none)).known;
+        known = subst (AllByRecursion (λ r. is_meta r ≡ false)) (sym items) (no_fault_from apex mode c.args.limit (map handed_of rs) (faultless apex mode c.args.limit (map handed_of rs) none)).known;
       },
       c.in-Ok-chain_of.ensures.links ∙ ap (links_of apex) (sym kept),
       c.chain_ttl_among-link_ttl.ensures ∙ ap (chain_ttl c.args.apex) c.deref-3.ensures.value,
