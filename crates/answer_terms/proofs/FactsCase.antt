@@ -17,7 +17,7 @@ use Rattle.denial_rules.specs.NsecRules.{first_some, or_else, is_cut, lacks, at_
 use Rattle.denial_rules.specs.Nsec3Rules.{is_at, covers_hash, is_matched, at_hash, encloses, cut_above, star_at, beyond, enclosed, climbed, hash_denied, last_labels, hash_expanded_by, hash_expanded}
 use Rattle.denial_rules.specs.Deciding.{by_chain, by_wildcard, decided_inside, decided}
 use Rattle.denial_rules.proofs.NameFacts.{strictly_lowered}
-use Rattle.answer_terms.specs.FactsCase.{low_link, low_facts}
+use Rattle.answer_terms.specs.FactsCase.{low_link, low_facts, IsCaseless}
 use Rattle.answer_terms.proofs.ZoneData.{label_count-low}
 
 -- ---- one of two names lowered
@@ -245,3 +245,6 @@ module _ (apex : Name) where
   -- the case of the name that is asked for means nothing
   pub name_lowered : (hash : Name → List ℕ) (f : Facts) (q : Name) (t : ℕ) → decided apex hash f (low q) t ≡ decided apex hash f q t
   name_lowered hash f q t i = elim (above_lowered apex q i) [ true ↦ inside_named hash f q t i | false ↦ None ]
+
+pub caseless : (apex : Name) (hash : Name → List ℕ) (f : Facts) (q : Name) (t : ℕ) → IsCaseless apex hash f q t
+caseless apex hash f q t = record { links = links_lowered apex hash f q t; name = name_lowered apex hash f q t }

@@ -1,6 +1,7 @@
 //! Laws of answers.
 
 ghost use Rattle.answer_terms.specs.Alike.{AlikeTellsAlike};
+ghost use Rattle.answer_terms.specs.FactsCase.{CaseMeansNothing};
 ghost use Rattle.answer_terms.specs.Given.{GivenIsTold};
 ghost use Rattle.answer_terms.specs.Servable.{AcceptedIsServable, AllowedAnswersDecide};
 
@@ -27,4 +28,10 @@ pub fn accepted_zones_can_be_served()
 /// question concerns share a hash.
 pub fn allowed_questions_are_decided()
     ensures { AllowedAnswersDecide }
+{}
+
+/// What facts decide depends neither on the case of the names in NSEC records nor on that of the name that is asked for
+/// (RFC 4343, 3).
+pub fn case_means_nothing()
+    ensures { CaseMeansNothing }
 {}

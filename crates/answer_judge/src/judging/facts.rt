@@ -69,10 +69,13 @@ fn rrset_of(alloc: Global, group: Option<Group>) -> Result<Option<Rrset>, AllocE
     let Some(group) = group else {
         return Ok(None);
     };
-    let Some(signed) = group.verified else {
+    let Group {
+        items, verified, ..
+    } = group;
+    let Some(signed) = verified else {
         return Ok(None);
     };
-    let datas = DataList::new(owned_data(alloc, group.items)?);
+    let datas = DataList::new(owned_data(alloc, items)?);
     Ok(Some(Rrset::new(datas, signed.labels)))
 }
 
