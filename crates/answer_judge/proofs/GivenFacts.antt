@@ -6,20 +6,20 @@ use Rattle.std.proofs.lemmas.Bool.{and_left, eq-eqb, false≢true, or_from}
 use Rattle.std.proofs.lemmas.List.Folds.{list_any-append}
 use Rattle.definitions.specs.Dnskey.{Dnskey}
 use Rattle.definitions.specs.Name.{Name, IsLabel, low, same, at_or_above, name_cmp}
-use Rattle.definitions.specs.Zone.{Zone, apex_of, has, kept_owners}
-use Rattle.definitions.specs.ZoneChain.{Mode, Nsec, nsec_names}
+use Rattle.definitions.specs.Zone.{Zone, Verdict, apex_of, has, kept_owners, verdict}
+use Rattle.definitions.specs.ZoneChain.{Mode, Nsec, nsec_names, optout_of}
 use Rattle.definitions.proofs.Members.{In, Rises, filter_in, sort_rises}
 use Rattle.definitions.proofs.NameLaws.{name_cmp_total}
 use Rattle.definitions.proofs.ZoneNames.{above_lowered}
 use Rattle.denial_rules.specs.Facts.{Link, Rrset}
-use Rattle.denial_rules.specs.OwnFacts.{link_speaks, own_facts, own_links}
+use Rattle.denial_rules.specs.OwnFacts.{link_speaks, own_facts, own_links, own_rrset, spoken}
 use Rattle.denial_rules.specs.Truth.{IsServable}
 use Rattle.messages.specs.HandedRr.{HandedRr}
 use Rattle.messages.specs.Handed.{IsHanded}
 use Rattle.messages.specs.Message.{Asked, Spelled}
 use Rattle.messages.proofs.Lists.{Has, all_more, all_sorted, eqb-back}
 use Rattle.answer_terms.specs.Accepting.{record_cmp, soas, sorted_records, zone_of, zone_with}
-use Rattle.answer_terms.specs.Served.{Group, answer_groups, served_of}
+use Rattle.answer_terms.specs.Served.{Group, ahead, answer_groups, served_of}
 use Rattle.answer_terms.specs.Told.{TellsGroups, fields_for}
 use Rattle.answer_terms.proofs.AllowedTypes.{unsigned_from}
 use Rattle.answer_terms.proofs.Servable.{asked_inside, servable}
@@ -33,7 +33,7 @@ use Rattle.answer_judge.proofs.GivenLinks.{IsProof, verified_links_given}
 use Rattle.answer_judge.proofs.GivenLists.{has_contained, has_left}
 use Rattle.answer_judge.proofs.GivenRrset.{all_joined, is_ordinary, is_signed_rrset, verified_rrset_given, verified_rrset_missing}
 use Rattle.answer_judge.proofs.GivenSignatures.{fits_equal}
-use Rattle.answer_judge.proofs.OwnAnswer.{OwnAnswer, Proves, own_answer}
+use Rattle.answer_judge.proofs.OwnAnswer.{IsFront, Proves, own_front}
 use Rattle.answer_judge.proofs.OwnChain.{AreNamed, apart_behind, chain_apart, chain_below, chain_group, chain_labels, chain_says, kept_rise, links_low, nsec_behind, read_link}
 
 -- links that are the same up to case have the same names in lower case
@@ -83,33 +83,42 @@ module _ (w : Trusting) (k : ℕ) (m : List ℕ) (records : List Spelled) (apex 
   abbrev z : Zone
   z = zone_with apex rs
 
-  own : OwnAnswer apex hash rs q t
-  own = own_answer apex hash rs q t told.servable told.soa_there told.not_rrsig told.not_nsec told.not_nsec3 told.inside
+  abbrev said : Verdict
+  said = verdict z (optout_of Nsec) q t
+
+  abbrev front : List Group
+  front = ahead (served_of apex Nsec hash rs) q t said
+
+  is_front : IsFront apex q t front (own_rrset z q t said)
+  is_front = own_front apex Nsec hash rs q t told.servable told.soa_there told.not_rrsig told.not_nsec told.not_nsec3 told.inside
+
+  abbrev names : List Name
+  names = spoken z Nsec (low q) said
 
   -- the names of the chain whose records are in the answer
   abbrev chosen : List Name
-  chosen = filter (λ o. list_any (link_speaks z o) own.names) (nsec_names z)
+  chosen = filter (λ o. list_any (link_speaks z o) names) (nsec_names z)
 
   chosen_in : (o : Name) → In o chosen → In o (nsec_names z)
-  chosen_in o i = (filter_in (λ o. list_any (link_speaks z o) own.names) (nsec_names z) o i).0
+  chosen_in o i = (filter_in (λ o. list_any (link_speaks z o) names) (nsec_names z) o i).0
 
   chosen_rise : Rises name_cmp name_cmp_total chosen
-  chosen_rise = kept_rise (λ o. list_any (link_speaks z o) own.names) (nsec_names z) (sort_rises name_cmp name_cmp_total (kept_owners z false))
+  chosen_rise = kept_rise (λ o. list_any (link_speaks z o) names) (nsec_names z) (sort_rises name_cmp name_cmp_total (kept_owners z false))
 
   abbrev chain : List Group
   chain = map (chain_group apex rs hash) chosen
 
   abbrev groups : List Group
-  groups = own.front ++ chain
+  groups = front ++ chain
 
   are : TellsGroups w.answers.verifies k m records apex told.at told.life told.keys groups
-  are = subst (TellsGroups w.answers.verifies k m records apex told.at told.life told.keys) own.groups_are told.groups_are
+  are = told.groups_are
 
   alone : has_twins groups ≡ false
-  alone = apart_behind apex rs hash own.front chosen own.is_front.beside own.is_front.alone (chain_apart apex rs hash chosen chosen_in chosen_rise)
+  alone = apart_behind apex rs hash front chosen is_front.beside is_front.alone (chain_apart apex rs hash chosen chosen_in chosen_rise)
 
   ordinary : AllByRecursion is_ordinary groups
-  ordinary = all_joined is_ordinary own.front chain own.is_front.ordinary (all_chain (chain_group apex rs hash) is_ordinary (λ o. refl) chosen)
+  ordinary = all_joined is_ordinary front chain is_front.ordinary (all_chain (chain_group apex rs hash) is_ordinary (λ o. refl) chosen)
 
   -- ---- links
 
@@ -136,39 +145,37 @@ module _ (w : Trusting) (k : ℕ) (m : List ℕ) (records : List Spelled) (apex 
 
   proofs : (g : Group) → Has groups g → g.rtype ≡ 47 → IsProof w apex told.at told.life told.keys groups g told.key
   proofs g i e = ⊎_elim
-      (λ (f : Has own.front g). absurd (no_front own.front own.is_front.beside g f e))
+      (λ (f : Has front g). absurd (no_front front is_front.beside g f e))
       (λ (c : Has chain g).
       let r = record_of (chain_group apex rs hash) chosen g c in
       subst (λ x. IsProof w apex told.at told.life told.keys groups x told.key) (sym r.1.1) (chain_proof r.0 r.1.0 (subst (Has groups) r.1.1 i)))
-      (from_joined own.front chain g i)
+      (from_joined front chain g i)
 
-  links_are : map low_link (verified_links w k m records) ≡ own_links z Nsec own.names
+  links_are : map low_link (verified_links w k m records) ≡ own_links z Nsec names
   links_are =
-      let says = subst (λ gs. AllZip SaysLink gs (map (read_link apex rs hash) chosen)) (sym (nsec_behind apex rs hash own.front chosen own.is_front.beside)) (chain_says apex rs hash told.servable told.apex_is told.named chosen chosen_in) in
+      let says = subst (λ gs. AllZip SaysLink gs (map (read_link apex rs hash) chosen)) (sym (nsec_behind apex rs hash front chosen is_front.beside)) (chain_says apex rs hash told.servable told.apex_is told.named chosen chosen_in) in
       lowered_links (verified_links w k m records) (map (read_link apex rs hash) chosen)
       (verified_links_given w k m records apex told.at told.life told.keys groups told.key (map (read_link apex rs hash) chosen) are alone proofs says)
       ∙ links_low apex rs hash told.servable chosen chosen_in
 
   -- ---- the RRset
 
-  rrset_by : (r : Option Rrset) → Proves apex q t own.front r → verified_rrset w k m records q t ≡ r
+  rrset_by : (r : Option Rrset) → Proves apex q t front r → verified_rrset w k m records q t ≡ r
   rrset_by None h =
       verified_rrset_missing w k m records apex told.at told.life told.keys groups q t are ordinary
-      (list_any-append (is_signed_rrset q t) own.front chain ∙ or_from _ _ h (none_chain chosen))
+      (list_any-append (is_signed_rrset q t) front chain ∙ or_from _ _ h (none_chain chosen))
     where
       none_chain : (ns : List Name) → list_any (is_signed_rrset q t) (map (chain_group apex rs hash) ns) ≡ false
       none_chain [] = refl
       none_chain (n ∷ ns) = or_from _ _ (and_left _ true (and_left (eqb 47 t) _ (eqb-back 47 t ∙ told.not_nsec))) (none_chain ns)
   rrset_by (Some r) (g, there, is) =
       verified_rrset_given w k m records apex told.at told.life told.keys groups q t g told.key are ordinary
-      (record { apex_is = told.trusted_apex; group = has_left own.front chain g there; signed = is.signed; some = is.some; fits = is.fits; signer = told.signer; found = told.found g; hold = told.hold })
+      (record { apex_is = told.trusted_apex; group = has_left front chain g there; signed = is.signed; some = is.some; fits = is.fits; signer = told.signer; found = told.found g; hold = told.hold })
       (eqb-back 46 t ∙ told.not_rrsig) alone is.sorted is.rtype_is is.owner_is
       ∙ ap (λ (x : Rrset). Some x) is.is
 
   pub facts_told : low_facts (verified_facts w k m records q t) ≡ own_facts z hash Nsec q t
-  facts_told =
-      let rrset : verified_rrset w k m records q t ≡ own.rrset = rrset_by own.rrset own.is_front.proves in
-      (λ i. record { rrset = rrset i; links = links_are i; hash_links = [] }) ∙ sym own.facts_are
+  facts_told = λ i. record { rrset = rrset_by (own_rrset z q t said) is_front.proves i; links = links_are i; hash_links = [] }
 
 -- ---- an accepted zone
 

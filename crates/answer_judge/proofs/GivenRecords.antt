@@ -114,8 +114,3 @@ pub rrset_given : (v : Dnskey → List ℕ → List ℕ → Bool) (k : ℕ) (m :
     → has_twins gs ≡ false → Has gs g → g.rtype ≡ t → low g.owner ≡ low o → rrset_in k m rs o t ≡ sorted_data g.datas
 rrset_given v k m rs apex at life keys gs o t g other are alone h f e =
     ap sorted_data (data_in v k m rs apex at life keys gs o t other are ∙ one_taken o t gs g alone h f e)
-
-pub rrset_missing : (v : Dnskey → List ℕ → List ℕ → Bool) (k : ℕ) (m : List ℕ) (rs : List Spelled) (apex : Name) (at life : ℕ) (keys : List Dnskey) (gs : List Group) (o : Name) (t : ℕ) → eqb 46 t ≡ false → TellsGroups v k m rs apex at life keys gs
-    → list_any (is_rrset o t) gs ≡ false → rrset_in k m rs o t ≡ []
-rrset_missing v k m rs apex at life keys gs o t other are none =
-    ap sorted_data (data_in v k m rs apex at life keys gs o t other are ∙ none_taken o t gs none)
