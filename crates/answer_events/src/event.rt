@@ -1,4 +1,10 @@
 //! What happens to a signed zone over time.
+ghost use Rattle.std.specs.Prelude.{◌≡◌, length, string_bytes};
+ghost use Rattle.keyset.specs.KeyState.{text_of, is_available};
+ghost use Rattle.answer_events.specs.Calls.{Add, call_of};
+ghost use Rattle.answer_events.specs.Events.{added_by_call};
+
+use crate::key_kind::KeyKind;
 use keyset::{Available, RollType, UnixTime};
 use messages::question::Question;
 use numbers::algorithm::SecurityAlgorithm;
@@ -85,4 +91,37 @@ pub enum KeyCall {
     RollDone {
         rolltype: RollType,
     },
+}
+
+impl KeyCall {
+    /// The add of a key of a kind.
+    pub fn add(
+        kind: KeyKind,
+        pubref: String,
+        privref: Option<String>,
+        algorithm: SecurityAlgorithm,
+        public_key: Vec<u8>,
+        available: Available,
+    ) -> Self
+        ensures octets { added_by_call result ≡ length public_key.items }
+        ensures call { let q = string_bytes pubref in let private = text_of privref in
+            call_of result ≡ Add kind q private algorithm public_key.items (is_available available) }
+    {
+        match kind {
+            KeyKind::Ksk => KeyCall::AddKeyKsk {
+                pubref,
+                privref,
+                algorithm,
+                public_key,
+                available,
+            },
+            KeyKind::Zsk => KeyCall::AddKeyZsk {
+                pubref,
+                privref,
+                algorithm,
+                public_key,
+                available,
+            },
+        }
+    }
 }

@@ -12,9 +12,13 @@ type ReadNsec<'a> = Nsec<&'a [u8], ParsedName<'a>>;
 pub fn renamed(alloc: Global, line: &str) -> Option<String> {
     let (octets, name) = line.split_once(' ')?;
     let (octets, name) = (octets_of(alloc, octets)?, octets_of(alloc, name)?);
-    let before: ReadNsec<'_> = Nsec::parse(&mut Parser::from_ref(&octets)).ok()?;
-    let mut nsec: ReadNsec<'_> = Nsec::parse(&mut Parser::from_ref(&octets)).ok()?;
-    let name = ParsedName::parse(&mut Parser::from_ref(&name)).ok()?;
+    renamed_to(alloc, &octets, &name)
+}
+
+fn renamed_to<'a>(alloc: Global, octets: &'a [u8], name: &'a [u8]) -> Option<String> {
+    let before: ReadNsec<'a> = Nsec::parse(&mut Parser::from_ref(octets)).ok()?;
+    let mut nsec: ReadNsec<'a> = Nsec::parse(&mut Parser::from_ref(octets)).ok()?;
+    let name = ParsedName::parse(&mut Parser::from_ref(name)).ok()?;
     if !Nsec::fits_rdlen(&name, nsec.types()) {
         return None;
     }

@@ -10,15 +10,15 @@ use std::hash::Hash;
 
 /// What is asked of data.
 #[derive(Clone, Copy)]
-pub enum Asked<'a> {
+pub enum Asked {
     /// How they are printed.
     Text,
     /// Their octets in canonical form.
     Canonical,
     /// Why they are refused, and where the parser stands then.
     Fault,
-    /// How they stand to others.
-    Order(&'a [u8]),
+    /// How they stand to other data.
+    Order,
 }
 
 /// What is asked by this name of the data of a line, `TYPE OCTETS`.
@@ -29,12 +29,8 @@ pub fn asked_of(alloc: Global, name: &str, line: &str) -> Option<String> {
         _ => Asked::Fault,
     };
     let (rtype, octets) = line.split_once(' ')?;
-    answered(
-        alloc,
-        rtype.parse::<u16>().ok()?,
-        &octets_of(alloc, octets)?,
-        asked,
-    )
+    let octets = octets_of(alloc, octets)?;
+    answered(alloc, rtype.parse::<u16>().ok()?, &octets, &octets, asked)
 }
 
 /// How the first data of a line, `TYPE OCTETS OCTETS`, stand to the second.
@@ -46,18 +42,25 @@ pub fn order_of(alloc: Global, line: &str) -> Option<String> {
         alloc,
         rtype.parse::<u16>().ok()?,
         &first,
-        Asked::Order(&second),
+        &second,
+        Asked::Order,
     )
 }
 
-fn answered<'a>(alloc: Global, rtype: u16, octets: &'a [u8], asked: Asked<'a>) -> Option<String> {
+fn answered<'a>(
+    alloc: Global,
+    rtype: u16,
+    octets: &'a [u8],
+    other: &'a [u8],
+    asked: Asked,
+) -> Option<String> {
     match rtype {
-        43 => answered_as::<Ds<&[u8]>>(alloc, rtype, octets, asked),
-        46 => answered_as::<Rrsig<&[u8], ParsedName>>(alloc, rtype, octets, asked),
-        47 => answered_as::<Nsec<&[u8], ParsedName>>(alloc, rtype, octets, asked),
-        48 => answered_as::<Dnskey<&[u8]>>(alloc, rtype, octets, asked),
-        50 => answered_as::<Nsec3<&[u8]>>(alloc, rtype, octets, asked),
-        51 => answered_as::<Nsec3param<&[u8]>>(alloc, rtype, octets, asked),
+        43 => answered_as::<Ds<&[u8]>>(alloc, rtype, octets, other, asked),
+        46 => answered_as::<Rrsig<&[u8], ParsedName>>(alloc, rtype, octets, other, asked),
+        47 => answered_as::<Nsec<&[u8], ParsedName>>(alloc, rtype, octets, other, asked),
+        48 => answered_as::<Dnskey<&[u8]>>(alloc, rtype, octets, other, asked),
+        50 => answered_as::<Nsec3<&[u8]>>(alloc, rtype, octets, other, asked),
+        51 => answered_as::<Nsec3param<&[u8]>>(alloc, rtype, octets, other, asked),
         _ => None,
     }
 }
@@ -65,7 +68,7 @@ fn answered<'a>(alloc: Global, rtype: u16, octets: &'a [u8], asked: Asked<'a>) -
 fn answered_as<
     'a,
     D: ParseRecordData<'a> + ComposeRecordData + Ord + CanonicalOrd + Hash + Display + Drop,
->(alloc: Global, rtype: u16, octets: &'a [u8], asked: Asked<'a>) -> Option<String> {
+>(alloc: Global, rtype: u16, octets: &'a [u8], other: &'a [u8], asked: Asked) -> Option<String> {
     let rtype = Rtype::from_int(rtype);
     let mut parser = Parser::from_ref(octets);
     let found = D::parse_rdata(rtype, &mut parser);
@@ -73,7 +76,7 @@ fn answered_as<
     match (found, asked) {
         (Ok(Some(data)), Asked::Text) => data.to_string(alloc).ok(),
         (Ok(Some(data)), Asked::Canonical) => canonical_text(alloc, &data),
-        (Ok(Some(data)), Asked::Order(other)) => {
+        (Ok(Some(data)), Asked::Order) => {
             let other = D::parse_rdata(rtype, &mut Parser::from_ref(other)).ok()??;
             compared(alloc, &data, &other)
         }

@@ -37,7 +37,7 @@ impl Section {
         let words = words(alloc, rest)?;
         match (name, words.as_slice()) {
             ("zone", [apex]) => self.begin(alloc, apex),
-            ("soa", [serial]) => self.put(alloc, soa(alloc, self.apex.as_ref()?, serial)?),
+            ("soa", [serial]) => self.put_soa(alloc, serial),
             ("rr", [owner, class, ttl, rtype, octets]) => {
                 let octets = octets_of(alloc, octets)?;
                 self.put(alloc, record(alloc, owner, class, ttl, rtype, octets)?)
@@ -59,6 +59,14 @@ impl Section {
         self.records.clear();
         self.zone = None;
         text(alloc, "ok")
+    }
+
+    fn put_soa(&mut self, alloc: Global, serial: &str) -> Option<String> {
+        let record = match &self.apex {
+            Some(apex) => soa(alloc, apex, serial)?,
+            None => return None,
+        };
+        self.put(alloc, record)
     }
 
     fn put(&mut self, alloc: Global, record: ZoneRecord) -> Option<String> {

@@ -1,7 +1,7 @@
 //! The lines of events.
 ghost use Rattle.std.specs.Prelude.{◌≤◌, IfOk};
 ghost use Rattle.answer_events.specs.Questions.{asked_of};
-ghost use Rattle.session_lines.specs.Grammar.{Ask, ask_line, act_line1, act_line2, act_line3, act_line4, act_line5, act_line, roll_field, event_line};
+ghost use Rattle.session_lines.specs.Grammar.{Ask, ask_line, act_line1, act_line2, act_line3, act_line4, act_line5, act_line, kind_field, roll_field, event_line};
 ghost use Rattle.session_lines.specs.Readings.{Reads, texts, act_view, event_view};
 ghost use Rattle.answer_events.specs.Events.{added_octets, added_by_act};
 
@@ -9,6 +9,7 @@ use crate::fields::{key_octets, name, reference, references};
 use crate::line_error::LineError;
 use crate::number_fields::{number_u8, number_u16, number_u32, number_u64, place};
 use answer_events::event::{Act, Event, KeyCall};
+use answer_events::key_kind::KeyKind;
 use answer_events::keyset::{Available, RollType, UnixTime};
 use answer_events::question::Question;
 use numbers::algorithm::SecurityAlgorithm;
@@ -162,21 +163,22 @@ fn read_add(
     let pubref = reference(alloc, pubref)?;
     let algorithm = SecurityAlgorithm::from_int(number_u8(algorithm)?);
     let public_key = key_octets(alloc, octets)?;
-    match kind {
-        "ksk" => Ok(Act::Key(KeyCall::AddKeyKsk {
-            pubref,
-            privref: None,
-            algorithm,
-            public_key,
-            available: Available::Available,
-        })),
-        "zsk" => Ok(Act::Key(KeyCall::AddKeyZsk {
-            pubref,
-            privref: None,
-            algorithm,
-            public_key,
-            available: Available::Available,
-        })),
+    Ok(Act::Key(KeyCall::add(
+        read_kind(kind)?,
+        pubref,
+        None,
+        algorithm,
+        public_key,
+        Available::Available,
+    )))
+}
+
+fn read_kind(field: &str) -> Result<KeyKind, LineError>
+    ensures { Reads (λ k. k) result (kind_field field.now) }
+{
+    match field {
+        "ksk" => Ok(KeyKind::Ksk),
+        "zsk" => Ok(KeyKind::Zsk),
         _ => Err(LineError::Unreadable),
     }
 }
