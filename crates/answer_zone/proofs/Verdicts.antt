@@ -38,11 +38,13 @@ answers s q t v found rest a e n g h = record {
 }
 
 -- an SOA record stands at the apex, so it exists
+pub has_soa : (apex : Name) (rs : List HandedRr) → length (soas apex rs) ≡ 1 → has (zone_with apex rs) (low apex) 6 ≡ true
+has_soa apex rs one = has_is apex rs apex 6 ∙ elim (cases_Bool (list_any (is_of apex 6) rs)) [ inl y ↦ y | inr n ↦ absurd (soa_there apex rs one n) ]
+
 pub apex_exists : (apex : Name) (rs : List HandedRr) → length (soas apex rs) ≡ 1 → exists (zone_with apex rs) (low apex) ≡ true
 apex_exists apex rs one =
     let z = zone_with apex rs in
-    let there : has z (low apex) 6 ≡ true = has_is apex rs apex 6 ∙ elim (cases_Bool (list_any (is_of apex 6) rs)) [ inl y ↦ y | inr n ↦ absurd (soa_there apex rs one n) ] in
-    apex_in_chain z false (contained (zone.owners z) (low apex) (has_owner z (low apex) 6 there))
+    apex_in_chain z false (contained (zone.owners z) (low apex) (has_owner z (low apex) 6 (has_soa apex rs one)))
 
 -- what has a type stands in the zone
 pub owner_inside : (apex : Name) (rs : List HandedRr) → AllByRecursion (λ r. at_or_above apex r.owner ≡ true) rs → (q : Name) (t : ℕ) → has (zone_with apex rs) (low q) t ≡ true → at_or_above (low apex) (low q) ≡ true

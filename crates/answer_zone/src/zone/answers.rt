@@ -140,6 +140,7 @@ impl ZoneRecords {
         ensures { IfOk result (λ a. (hash : List (List ℕ) → List ℕ)
             → AnswersAs (served_of self.now.apex Nsec hash self.now.records) name.now rtype a) }
     {
+        self.keeps();
         if self.has(name, rtype) {
             return self.found(alloc, name, rtype);
         }
@@ -165,6 +166,7 @@ impl ZoneRecords {
         ensures { IfOk result (λ a. (hash : List (List ℕ) → List ℕ)
             → AnswersAs (served_of self.now.apex Nsec hash self.now.records) name.now rtype a) }
     {
+        self.keeps();
         let star = self.closest_wildcard(alloc, name)?;
         if !self.expands(name, &star) {
             return self.missing(alloc, NO_SUCH_NAME, &[name, &star]);

@@ -7,25 +7,23 @@ use Rattle.denial_rules.specs.OwnFacts.{kept_ancestor}
 use Rattle.denial_rules.proofs.NameFacts.{above-low}
 use Rattle.answer_terms.specs.Accepting.{zone_with}
 use Rattle.answer_terms.specs.Served.{expanded, proofs_of, served_of, soa}
-use Rattle.answer_terms.specs.ZoneView.{IsPublished}
 use Rattle.answer_terms.proofs.ZoneAnswers.{groups_expanded, groups_without_name, groups_without_star_type}
 use Rattle.answer_terms.proofs.ZoneData.{if_ok_map}
 use Rattle.answer_zone.specs.ZoneAnswers.{AnswersAs, Holds}
 use Rattle.answer_zone.proofs.Verdicts.{answers, apex_exists, encloser_there, no_name, star_no_type, star_records}
 use Rattle.answer_zone.proofs.zone.ZoneRecords.answer_without_name.Goals as goal
 
-pub returns-else-expands : goal.returns-else-expands
-returns-else-expands c =
+pub returns-then-not-expands : goal.returns-then-not-expands
+returns-then-not-expands c =
     let apex = c.args.self.now.apex in
     let rs = c.args.self.now.records in
     let q = c.args.name.now in
     let t = c.args.rtype in
     let z = zone_with apex rs in
     let star = star_under (kept_ancestor z false (low q)) in
-    let published : IsPublished apex rs = rw (← c.self.view_is) c.self.invariant.0 in
     let is : low c.in_ok-star.star ≡ star = c.in_ok-star.ensures in
-    let none : (at_or_above (low apex) (low q) && exists z star) ≡ false = (λ i. above-low apex q i && exists z (sym is i)) ∙ sym c.expands.ensures ∙ c.if-expands.false in
-    let said = no_name z (apex_exists apex rs published.soa) q t c.requires.own c.requires.gone none in
+    let none : (at_or_above (low apex) (low q) && exists z star) ≡ false = (λ i. above-low apex q i && exists z (sym is i)) ∙ sym c.expands.ensures ∙ c.if-not-expands.true in
+    let said = no_name z (apex_exists apex rs c.keeps.ensures.published.soa) q t c.requires.own c.requires.gone none in
     if_ok_map
     (λ a. (hash : Name → List ℕ) → let s = served_of apex Nsec hash rs in Holds 33795 [] (soa s ∷ proofs_of s (low q ∷ low c.in_ok-star.star ∷ [])) a)
     (λ a. (hash : Name → List ℕ) → AnswersAs (served_of apex Nsec hash rs) q t a)
@@ -43,11 +41,10 @@ returns-then-has c =
     let t = c.args.rtype in
     let z = zone_with apex rs in
     let star = star_under (kept_ancestor z false (low q)) in
-    let published : IsPublished apex rs = rw (← c.self.view_is) c.self.invariant.0 in
     let is : low c.in_ok-star.star ≡ star = c.in_ok-star.ensures in
-    let both = and_parts (at_or_above (low apex) (low q)) (exists z star) ((λ i. above-low apex q i && exists z (sym is i)) ∙ sym c.expands.ensures ∙ c.if-expands.true) in
+    let both = and_parts (at_or_above (low apex) (low q)) (exists z star) ((λ i. above-low apex q i && exists z (sym is i)) ∙ sym c.expands.ensures ∙ c.if-not-expands.false) in
     let there : has z star t ≡ true = ap (λ n. has z n t) (sym is) ∙ sym c.has.ensures ∙ c.if-has.true in
-    let x = apex_exists apex rs published.soa in
+    let x = apex_exists apex rs c.keeps.ensures.published.soa in
     let ds = data_at z star t in
     let said = star_records z x q t c.requires.own c.requires.gone both.0 both.1 there in
     let e = encloser_there z x q t c.requires.own c.requires.gone both.0 in
@@ -68,11 +65,10 @@ returns c =
     let t = c.args.rtype in
     let z = zone_with apex rs in
     let star = star_under (kept_ancestor z false (low q)) in
-    let published : IsPublished apex rs = rw (← c.self.view_is) c.self.invariant.0 in
     let is : low c.in_ok-star.star ≡ star = c.in_ok-star.ensures in
-    let both = and_parts (at_or_above (low apex) (low q)) (exists z star) ((λ i. above-low apex q i && exists z (sym is i)) ∙ sym c.expands.ensures ∙ c.if-expands.true) in
+    let both = and_parts (at_or_above (low apex) (low q)) (exists z star) ((λ i. above-low apex q i && exists z (sym is i)) ∙ sym c.expands.ensures ∙ c.if-not-expands.false) in
     let none : has z star t ≡ false = ap (λ n. has z n t) (sym is) ∙ sym c.has.ensures ∙ c.if-has.false in
-    let said = star_no_type z (apex_exists apex rs published.soa) q t c.requires.own c.requires.gone both.0 both.1 none in
+    let said = star_no_type z (apex_exists apex rs c.keeps.ensures.published.soa) q t c.requires.own c.requires.gone both.0 both.1 none in
     if_ok_map
     (λ a. (hash : Name → List ℕ) → let s = served_of apex Nsec hash rs in Holds 33792 [] (soa s ∷ proofs_of s (low q ∷ low c.in_ok-star.star ∷ [])) a)
     (λ a. (hash : Name → List ℕ) → AnswersAs (served_of apex Nsec hash rs) q t a)

@@ -4,7 +4,6 @@ use Rattle.definitions.specs.Zone.{NoType, Records, data_at, exists, has}
 use Rattle.definitions.specs.ZoneChain.{Nsec}
 use Rattle.answer_terms.specs.Accepting.{zone_with}
 use Rattle.answer_terms.specs.Served.{proofs_of, rrset, served_of, soa, under}
-use Rattle.answer_terms.specs.ZoneView.{IsPublished}
 use Rattle.answer_terms.proofs.ZoneAnswers.{groups_found, groups_without_type}
 use Rattle.answer_terms.proofs.ZoneData.{if_ok_map}
 use Rattle.answer_zone.specs.ZoneAnswers.{AnswersAs, Holds}
@@ -18,10 +17,9 @@ returns-then-has c =
     let q = c.args.name.now in
     let t = c.args.rtype in
     let z = zone_with apex rs in
-    let published : IsPublished apex rs = rw (← c.self.view_is) c.self.invariant.0 in
     let there : has z (low q) t ≡ true = sym c.has.ensures ∙ c.if-has.true in
     let ds = data_at z (low q) t in
-    let said = has_type z q t c.requires.own (owner_inside apex rs published.inside q t there) there in
+    let said = has_type z q t c.requires.own (owner_inside apex rs c.keeps.ensures.published.inside q t there) there in
     if_ok_map
     (λ a. (hash : Name → List ℕ) → Holds 33792 (under q (rrset (served_of apex Nsec hash rs) (low q) t) ∷ []) [] a)
     (λ a. (hash : Name → List ℕ) → AnswersAs (served_of apex Nsec hash rs) q t a)

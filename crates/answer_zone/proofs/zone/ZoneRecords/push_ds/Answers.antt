@@ -9,12 +9,12 @@ use Rattle.answer_terms.specs.Served.{Group, rrset, served_of}
 use Rattle.answer_zone.proofs.ZoneLinks.{adds_none, adds_one}
 use Rattle.answer_zone.proofs.zone.ZoneRecords.push_ds.Goals as goal
 
-pub returns-else-has : goal.returns-else-has
-returns-else-has c = λ hash.
+pub returns-then-not-has : goal.returns-then-not-has
+returns-then-not-has c = λ hash.
     let z = c.args.self.now in
     let s = served_of z.apex Nsec hash z.records in
     let n = low c.args.cut.now in
-    let none : has (zone_with z.apex z.records) n 43 ≡ false = sym c.has.ensures ∙ c.if-has.false in
+    let none : has (zone_with z.apex z.records) n 43 ≡ false = sym c.has.ensures ∙ c.if-not-has.true in
     let old = c.args.groups.now.items in
     subst (Adds old old) (sym (ap (λ b. if b then rrset s n 43 ∷ [] else []) none)) (adds_none old)
 
@@ -23,7 +23,7 @@ returns c = λ hash.
     let z = c.args.self.now in
     let s = served_of z.apex Nsec hash z.records in
     let n = low c.args.cut.now in
-    let there : has (zone_with z.apex z.records) n 43 ≡ true = sym c.has.ensures ∙ c.if-has.true in
+    let there : has (zone_with z.apex z.records) n 43 ≡ true = sym c.has.ensures ∙ c.if-not-has.false in
     let old = c.args.groups.now.items in
     let new = c.push.new.self.items in
     subst (Adds old new) (sym (ap (λ b. if b then rrset s n 43 ∷ [] else []) there))
