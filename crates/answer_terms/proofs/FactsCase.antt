@@ -8,12 +8,12 @@ use Rattle.std.specs.Cmp.Lexicographic.{slice_cmp}
 use Rattle.std.specs.Str.{str_to_ascii_lowercase}
 use Rattle.std.proofs.lemmas.List.{length-map}
 use Rattle.definitions.specs.Name.{Name, low, from_root, labels_eq, same, at_or_above, strictly_above}
-use Rattle.definitions.specs.Covering.{covers, hash_covers}
+use Rattle.definitions.specs.Covering.{covers}
 use Rattle.definitions.specs.Bitmap.{bitmap_has}
 use Rattle.definitions.specs.Zone.{Verdict, Records, NoType, NoName, StarRecords, StarNoType, Delegated, Open, star_under}
 use Rattle.definitions.proofs.ZoneNames.{low-low, above_lowered, lowered_above}
 use Rattle.denial_rules.specs.Facts.{Rrset, Link, HashLink, Facts, is_expanded}
-use Rattle.denial_rules.specs.NsecRules.{first_some, or_else, is_cut, lacks, at_name, at_owner, redirects, below_cut, link_covers, closest, at_star, covered, denied, encloses_at, expanded_by, expanded}
+use Rattle.denial_rules.specs.NsecRules.{first_some, or_else, is_cut, lacks, at_name, at_owner, below_cut, link_covers, closest, at_star, covered, denied, encloses_at, expanded_by}
 use Rattle.denial_rules.specs.Nsec3Rules.{is_at, covers_hash, is_matched, at_hash, encloses, cut_above, star_at, beyond, enclosed, climbed, hash_denied, last_labels, hash_expanded_by, hash_expanded}
 use Rattle.denial_rules.specs.Deciding.{by_chain, by_wildcard, decided_inside, decided}
 use Rattle.denial_rules.proofs.NameFacts.{strictly_lowered}

@@ -2,16 +2,14 @@
 use Rattle.std.proofs.Common.{◌≡◌, ℕ, ◌<◌, Bool, true, false, ◌&&◌, ◌||◌, not, cond, List, [], ◌∷◌, ◌++◌, map, length, refl, sym, ap, ◌∙◌, inl, inr, arith}
 use Rattle.std.specs.Prelude.{Some, nat_eq, nat_le, ◌==◌}
 use Rattle.std.specs.List.{list_any, AllByRecursion}
-use Rattle.std.specs.Str.{bytes_eq}
 use Rattle.std.proofs.lemmas.Bool.{and_parts, or_parts, not-true}
 use Rattle.definitions.specs.Name.{Name, low, same, at_or_above}
-use Rattle.definitions.specs.Zone.{Rr, owner_of, apex_of, verdict}
+use Rattle.definitions.specs.Zone.{Rr, owner_of, verdict}
 use Rattle.definitions.specs.ZoneChain.{Mode, optout_of}
 use Rattle.definitions.proofs.Members.{In, contained}
 use Rattle.definitions.proofs.ZoneNames.{lowered_above}
 use Rattle.denial_rules.specs.Truth.{IsServable, NoSharedHash, is_foreign_type, is_star}
 use Rattle.denial_rules.specs.Truth as zone
-use Rattle.denial_rules.specs.Laws.{is_asked_type}
 use Rattle.denial_rules.specs.Deciding.{decided}
 use Rattle.denial_rules.specs.OwnFacts.{own_facts}
 use Rattle.denial_rules.proofs.NameFacts.{same_names}
@@ -52,14 +50,14 @@ star_first : (n : Name) → is_star n ≡ begins_with_star n
 star_first [] = refl
 star_first (l ∷ n) = refl
 
+apex_or_later : (apex : Name) (r : HandedRr) (rs : List HandedRr) (b : Bool) → (same r.owner apex && (r.rtype == 6)) ≡ b → (0 < length (soas apex rs) → In (low apex) (map owner_of (map rr_of rs))) → 0 < length (cond b (r ∷ soas apex rs) (soas apex rs)) → In (low apex) (map owner_of (map rr_of (r ∷ rs)))
+apex_or_later apex r rs true e later h = inl (sym (same_names r.owner apex (and_parts (same r.owner apex) (r.rtype == 6) e).0))
+apex_or_later apex r rs false e later h = inr (later h)
+
 -- an SOA record at the apex has the apex as its owner
 apex_in : (apex : Name) (rs : List HandedRr) → 0 < length (soas apex rs) → In (low apex) (map owner_of (map rr_of rs))
 apex_in apex [] h = absurd (omega arith)
-apex_in apex (r ∷ rs) h = go (same r.owner apex && (r.rtype == 6)) refl h
-  where
-    go : (b : Bool) → (same r.owner apex && (r.rtype == 6)) ≡ b → 0 < length (cond b (r ∷ soas apex rs) (soas apex rs)) → In (low apex) (map owner_of (map rr_of (r ∷ rs)))
-    go true e h = inl (sym (same_names r.owner apex (and_parts (same r.owner apex) (r.rtype == 6) e).0))
-    go false e h = inr (apex_in apex rs h)
+apex_in apex (r ∷ rs) h = apex_or_later apex r rs (same r.owner apex && (r.rtype == 6)) refl (apex_in apex rs) h
 
 pub servable : (apex : Name) (mode : Mode) (limit : ℕ) (rs : List HandedRr) → IsAccepted apex mode limit rs → IsServable (zone_of apex rs)
 servable apex mode limit rs a =
