@@ -7,7 +7,7 @@ use Rattle.std.specs.Cmp.Lexicographic.{slice_cmp}
 use Rattle.std.specs.Str.{bytes_eq}
 use Rattle.definitions.specs.Sorting.{sort_by}
 use Rattle.definitions.specs.Name.{Name, low, labels_eq}
-use Rattle.definitions.specs.Zone.{Zone, apex_of, Verdict, verdict, Records, NoType, NoName, StarRecords, StarNoType, Delegated, Open, Unsigned, cut, kept, ce, star_under, has, data_at}
+use Rattle.definitions.specs.Zone.{Zone, apex_of, Verdict, verdict, Records, NoType, NoName, StarRecords, StarNoType, Delegated, Open, Unsigned, cut, ce, star_under, has, data_at}
 use Rattle.definitions.specs.Covering.{covers, hash_covers}
 use Rattle.definitions.specs.Base32hex.{base32hex}
 use Rattle.definitions.specs.Dnskey.{Dnskey, dnskey_data, key_tag}

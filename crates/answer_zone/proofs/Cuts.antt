@@ -1,13 +1,13 @@
 -- Delegations among a zone's records in order, and which names exist below them.
-use Rattle.std.proofs.Common.{◌≡◌, ◌⊎◌, ℕ, zero, suc, ◌+◌, ◌<◌, Bool, true, false, ◌&&◌, ◌||◌, not, List, [], ◌∷◌, ◌++◌, map, Option, Some, None, inl, inr, refl, sym, ap, subst, ◌∙◌, eqb, Ordering, length, take, get_or, arith}
-use Rattle.std.specs.declared.cmp.Ordering.TheVariants.{Less, Equal, Greater}
+use Rattle.std.proofs.Common.{◌≡◌, ◌⊎◌, ℕ, zero, suc, ◌+◌, ◌<◌, Bool, true, false, ◌&&◌, ◌||◌, not, List, [], ◌∷◌, map, Option, Some, None, inl, inr, refl, sym, ap, subst, ◌∙◌, eqb, length, take, get_or, arith}
+use Rattle.std.specs.declared.cmp.Ordering.TheVariants.{Less, Greater}
 use Rattle.std.specs.Ordering.{ordering_then, nat_cmp}
 use Rattle.std.specs.Cmp.Lexicographic.{slice_cmp}
 use Rattle.std.specs.List.{list_any}
 use Rattle.std.specs.List.Sorted.{IsStrictlySortedBy}
-use Rattle.std.proofs.lemmas.Bool.{and_parts, and_from, or_parts, false≢true, false_from_ne_true}
+use Rattle.std.proofs.lemmas.Bool.{and_parts, and_from, false≢true, false_from_ne_true}
 use Rattle.std.proofs.lemmas.List.Folds.{list_any-append}
-use Rattle.definitions.specs.Name.{Name, low, labels_eq, same, name_cmp, at_or_above, strictly_above}
+use Rattle.definitions.specs.Name.{Name, low, labels_eq, name_cmp, at_or_above, strictly_above}
 use Rattle.definitions.specs.Zone.{Zone, Rr, owner_of, apex_of, owners, has, is_delegation, is_live, cut, exists}
 use Rattle.definitions.proofs.Members.{In, in_contained, any_of, any_in, both_ways}
 use Rattle.definitions.proofs.NameLaws.{labels_decide}

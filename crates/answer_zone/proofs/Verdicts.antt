@@ -15,7 +15,7 @@ use Rattle.denial_rules.specs.OwnFacts.{kept_ancestor}
 use Rattle.denial_rules.specs.Truth.{is_signed}
 use Rattle.denial_rules.proofs.ChainBits.{all_at}
 use Rattle.denial_rules.proofs.NameFacts.{above-low, above_trans, same_names, strictly_at, strictly_from}
-use Rattle.denial_rules.proofs.ZoneCuts.{IsCut, IsEncloser, NoneAbove, ce_encloses, cut_is, cut_live, delegation_owner, has_owner, kept_inside, kept_lowered, owner_kept, uncut, uncut_from, uncut_live}
+use Rattle.denial_rules.proofs.ZoneCuts.{IsCut, IsEncloser, NoneAbove, ce_encloses, cut_is, cut_live, delegation_owner, has_owner, kept_inside, kept_lowered, owner_kept, uncut, uncut_live}
 use Rattle.denial_rules.proofs.Verdicts.{lacking, verdict_by_star, verdict_delegated, verdict_ds, verdict_existing, verdict_signed}
 use Rattle.messages.specs.HandedRr.{HandedRr}
 use Rattle.messages.proofs.Lists.{zip_append}
@@ -25,7 +25,7 @@ use Rattle.answer_terms.specs.Served.{Group, Served, answer_groups}
 use Rattle.answer_terms.specs.ZoneView.{is_of}
 use Rattle.answer_terms.proofs.ZoneData.{soa_there}
 use Rattle.answer_terms.proofs.ZoneServed.{has_is}
-use Rattle.answer_zone.specs.Cuts.{NoneRefers, Refers, is_parents}
+use Rattle.answer_zone.specs.Cuts.{NoneRefers, Refers}
 use Rattle.answer_zone.specs.ZoneAnswers.{AnswersAs, Holds, answered, flags_for}
 use Rattle.answer_zone.specs.declared.zone.answers.ZoneAnswer.{ZoneAnswer}
 

@@ -1,5 +1,4 @@
-use Rattle.std.proofs.Common.{◌≡◌, Some, None, sym, ap, subst, ◌∙◌}
-use Rattle.std.specs.Prelude.{IfSome, IsNone}
+use Rattle.std.proofs.Common.{sym, subst}
 use Rattle.std.specs.List.Sorted.{IsStrictlySortedBy}
 use Rattle.answer_terms.specs.Accepting.{record_cmp}
 use Rattle.answer_zone.proofs.zone.ZoneRecords.cut.Goals as goal

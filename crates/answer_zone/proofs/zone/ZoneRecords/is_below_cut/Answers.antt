@@ -1,4 +1,4 @@
-use Rattle.std.proofs.Common.{◌≡◌, not, Some, None, false, refl, sym, ap, ◌∙◌}
+use Rattle.std.proofs.Common.{not, Some, None, false, refl, sym, ap, ◌∙◌}
 use Rattle.definitions.specs.Name.{low, labels_eq}
 use Rattle.answer_zone.proofs.zone.ZoneRecords.is_below_cut.Goals as goal
 

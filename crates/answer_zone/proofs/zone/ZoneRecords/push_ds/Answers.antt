@@ -5,7 +5,7 @@ use Rattle.definitions.specs.Zone.{has}
 use Rattle.definitions.specs.ZoneChain.{Nsec}
 use Rattle.answer_terms.specs.Accepting.{zone_with}
 use Rattle.answer_terms.specs.GroupView.{Adds}
-use Rattle.answer_terms.specs.Served.{Group, rrset, served_of}
+use Rattle.answer_terms.specs.Served.{rrset, served_of}
 use Rattle.answer_zone.proofs.ZoneLinks.{adds_none, adds_one}
 use Rattle.answer_zone.proofs.zone.ZoneRecords.push_ds.Goals as goal
 

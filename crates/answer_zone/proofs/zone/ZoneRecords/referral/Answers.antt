@@ -1,8 +1,8 @@
-use Rattle.std.proofs.Common.{◌≡◌, [], ◌∷◌, ◌++◌, false, refl, sym, ap, subst, ◌∙◌}
+use Rattle.std.proofs.Common.{[], ◌∷◌, ◌++◌, false, refl, sym, ap, subst, ◌∙◌}
 use Rattle.std.specs.List.{AllZip}
 use Rattle.definitions.specs.Name.{low}
 use Rattle.definitions.specs.ZoneChain.{Nsec}
-use Rattle.answer_terms.specs.GroupView.{Adds, Presents}
+use Rattle.answer_terms.specs.GroupView.{Presents}
 use Rattle.answer_terms.specs.Served.{if_any, proofs_of, rrset, served_of, unsigned_ns}
 use Rattle.answer_zone.proofs.ZoneLinks.{adds_one, adds_then}
 use Rattle.answer_zone.proofs.Verdicts.{unsigned_presents}
