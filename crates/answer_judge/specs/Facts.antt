@@ -1,18 +1,15 @@
 -- What a judge takes from two messages, and what follows from it (RFC 4034, 3 and 4; RFC 4035, 5; RFC 4592).
-use Rattle.std.specs.Prelude.{◌≡◌, MatchBool, ℕ, ◌/◌, ◌%◌, Bool, true, false, not, ◌&&◌, ◌||◌, ◌==◌, List, [], ◌∷◌, length, Option, Some, None, nat_eq, nat_le, nat_lt}
+use Rattle.std.specs.Prelude.{◌≡◌, MatchBool, ℕ, ◌/◌, ◌%◌, Bool, true, false, not, ◌&&◌, ◌||◌, ◌==◌, List, length, Option, Some, None, nat_eq, nat_le, nat_lt}
 use Rattle.std.specs.List.{find, list_any}
 use Rattle.std.specs.Str.{bytes_eq}
-use Rattle.definitions.specs.Name.{Name, same, at_or_above, strictly_above, wire_len}
+use Rattle.definitions.specs.Name.{Name, same}
 use Rattle.definitions.specs.Dnskey.{Dnskey, Ds, key_tag, digested}
 use Rattle.definitions.specs.Signing.{Fields, in_time, label_count, signed_octets}
-use Rattle.definitions.specs.Covering.{covers}
-use Rattle.definitions.specs.Bitmap.{bitmap_has}
-use Rattle.definitions.specs.Zone.{Verdict, Records, NoType, NoName, StarNoType, Delegated, star_under}
 use Rattle.answer_scheme.specs.Answers.{Answers}
 use Rattle.answer_judge.specs.declared.judging.verdict.Refusal.{Refusal}
 use Rattle.answer_judge.specs.declared.judging.verdict.Refusal.TheVariants as r
-use Rattle.answer_judge.specs.Judging.{Handing, IsRead, is_first}
-use Rattle.messages.specs.Message.{Spelled, Asked}
+use Rattle.answer_judge.specs.Judging.{IsRead, is_first}
+use Rattle.messages.specs.Message.{Spelled}
 
 -- ---- keys
 

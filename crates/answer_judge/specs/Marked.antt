@@ -9,7 +9,7 @@ use Rattle.answer_judge.specs.Counted.{can_try, one_if}
 use Rattle.definitions.specs.Signing.{Fields}
 use Rattle.answer_judge.specs.Facts.{is_signature, signs}
 use Rattle.denial_rules.specs.Facts.{Link, Rrset}
-use Rattle.messages.specs.Message.{Spelled, if_true, rrsig_at}
+use Rattle.messages.specs.Message.{Spelled, rrsig_at}
 use Rattle.answer_judge.specs.Verified.{Trusting, verified_by, rrset_in, link_of}
 use Rattle.answer_judge.specs.declared.judging.groups.Signed.{Signed}
 use Rattle.std.specs.Option.{option_map}

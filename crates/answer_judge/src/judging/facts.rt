@@ -61,8 +61,8 @@ pub(crate) fn read_facts<'a, C: Checks>(
 
 /// The data of a group and the label count of its signature, if one verified it.
 ///
-/// The count of the owner in its place would let a wildcard's RRset pass for one of the name, with no proof that the name does
-/// not exist (RFC 4035, 5.3.4).
+/// The owner's count in its place would let a wildcard's RRset pass for one of the name, with no proof that the name does not
+/// exist (RFC 4035, 5.3.4).
 fn rrset_of(alloc: Global, group: Option<Group>) -> Result<Option<Rrset>, AllocError>
     ensures { IfOk result (λ found. found ≡ rrset_verified group.entry) }
 {
@@ -70,7 +70,9 @@ fn rrset_of(alloc: Global, group: Option<Group>) -> Result<Option<Rrset>, AllocE
         return Ok(None);
     };
     let Group {
-        items, verified, ..
+        items,
+        verified,
+        ..
     } = group;
     let Some(signed) = verified else {
         return Ok(None);

@@ -37,8 +37,8 @@ impl<'a> Trust<'a> {
     /// (RFC 4035, 5.3.1 and 5.3.2).
     ///
     /// Records of a chain are never expanded: a wildcard's NSEC record, replayed under another name, would deny what stands
-    /// at that name (RFC 4592, 4.6). No wildcard above the apex is expanded: it is not the zone's, whose keys would then speak
-    /// for names beside the zone (RFC 4035, 5.3.1).
+    /// at that name (RFC 4592, 4.6). No wildcard above the apex is expanded: it is not the zone's, and the zone's keys would
+    /// speak for names beside it (RFC 4035, 5.3.1).
     fn fits_labels(&self, signature: &Signature, owner: &GroupOwner) -> bool
         ensures { result ≡ labels_fit self.now.apex.now owner.now (fields_read signature.now) }
     {

@@ -1,4 +1,4 @@
-use Rattle.std.proofs.Common.{rules, arith, ◌≡◌, false, map, filter, [], ◌+◌, inr, sym, ap, subst, ◌∙◌}
+use Rattle.std.proofs.Common.{arith, ◌≡◌, false, map, filter, [], ◌+◌, inr, sym, ap, subst, ◌∙◌}
 use Rattle.std.specs.Prelude.{None, nat_eq}
 use Rattle.std.specs.Option.{option_map}
 use Rattle.definitions.specs.Dnskey.{dnskey_data}

@@ -1,4 +1,4 @@
-use Rattle.std.proofs.Common.{Fits, w8, ◌≡◌, ℕ, ◌<◌, ◌≤◌, List, length, get_or, arith}
+use Rattle.std.proofs.Common.{Fits, w8, ℕ, ◌≤◌, List, length, get_or, arith}
 use Rattle.std.specs.Prelude.{IfOk, Result, Ok, Err}
 use Rattle.definitions.specs.Limits.{pointer_limit}
 use Rattle.messages.specs.Message.{Message, message}

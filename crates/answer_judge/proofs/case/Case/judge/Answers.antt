@@ -1,12 +1,9 @@
-use Rattle.std.proofs.Common.{rules, ◌≡◌, true, false, length}
-use Rattle.std.specs.Prelude.{nat_eq}
+use Rattle.std.proofs.Common.{rules}
 use Rattle.answer_scheme.specs.Answers.{Answers}
 use Rattle.answer_judge.specs.Judged.{AnswersAs, judged}
 use Rattle.answer_judge.specs.Judging.{Handing, Refuses, Says}
-use Rattle.answer_terms.specs.Asking.{is_allowed}
 use Rattle.answer_rules.specs.Rules.{verdict_of}
 use Rattle.answer_judge.proofs.GivenAnswers.{answers_given}
-use Rattle.answer_judge.proofs.JudgeWhole.{refuses_first}
 use Rattle.answer_judge.proofs.case.Case.judge.Goals as goal
 use Rattle.definitions.specs.Limits.{pointer_limit}
 

@@ -1,5 +1,4 @@
-use Rattle.std.proofs.Common.{◌≡◌, ◌+◌, ◌<◌, ℕ, length, get_or, subst, sym, List}
-use Rattle.messages.specs.Message.{data_of}
+use Rattle.std.proofs.Common.{◌+◌, ◌<◌, ℕ, length, get_or, subst, sym, List}
 use Rattle.messages.specs.Record.{spelled}
 use Rattle.answer_judge.proofs.JudgeKeys.{data_spelled, range_small}
 use Rattle.answer_judge.proofs.judging.keys.read_key.Goals as goal
