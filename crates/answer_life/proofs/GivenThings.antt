@@ -5,18 +5,15 @@ use Rattle.std.specs.List.{AllByRecursion}
 use Rattle.std.specs.declared.cmp.Ordering.TheVariants.{Equal}
 use Rattle.std.specs.FinMap.{nat_cmp-IsAntisymmetric}
 use Rattle.definitions.specs.Dnskey.{Dnskey, Ds, key_tag}
-use Rattle.definitions.specs.Name.{IsName}
-use Rattle.definitions.specs.ZoneChain.{Nsec}
 use Rattle.definitions.specs.Limits.{pointer_limit}
 use Rattle.answer_publisher.specs.declared.keys.Publication.TheVariants as publication
 use Rattle.messages.specs.HandedRr.{HandedRr}
-use Rattle.answer_terms.specs.Accepting.{IsAccepted, zone_of}
+use Rattle.answer_terms.specs.Accepting.{zone_of}
 use Rattle.answer_publisher.specs.Bindings.{BoundKey, ZoneKeys, dnskeys, ds_cmp, ds_of, ds_set, published}
 use Rattle.answer_terms.specs.Told as told
-use Rattle.messages.specs.Handed.{IsHanded}
 use Rattle.answer_terms.specs.EqualTags.{has_equal_tags}
 use Rattle.answer_terms.specs.Asking.{is_allowed}
-use Rattle.answer_judge.specs.Meeting.{HasDs, WasGiven, holds, zone_from}
+use Rattle.answer_judge.specs.Meeting.{HasDs, WasGiven, holds}
 use Rattle.messages.specs.Message.{Asked}
 use Rattle.answer_publisher.specs.Publishing.{digest_at}
 use Rattle.answer_scheme.specs.Moments.{second_of}

@@ -1,5 +1,5 @@
 -- Names that a zone finds at or above a name are names, in lower case where that one is.
-use Rattle.std.proofs.Common.{◌≡◌, ℕ, Bool, true, false, cond, List, [], ◌∷◌, subst, sym, ap, arith}
+use Rattle.std.proofs.Common.{◌≡◌, ℕ, Bool, true, false, cond, List, [], ◌∷◌, subst, arith}
 use Rattle.std.specs.Prelude.{Option, Some, None}
 use Rattle.definitions.specs.Name.{Name, IsName, low}
 use Rattle.definitions.specs.Zone.{Zone, ce, cut, exists, is_delegation}

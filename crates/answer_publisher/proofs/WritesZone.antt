@@ -7,7 +7,7 @@ use Rattle.messages.proofs.ZoneNames.{low-low, same_labels}
 use Rattle.definitions.specs.Name.{Name, IsName, labels_eq, low, name_cmp, same}
 use Rattle.definitions.specs.Bitmap.{bitmap}
 use Rattle.definitions.specs.Dnskey.{Dnskey}
-use Rattle.definitions.specs.Zone.{Verdict, Records, NoType, NoName, StarRecords, StarNoType, Delegated, Open, Unsigned, Zone, ce, cut, data_at, has, is_kept, kept_owners, owner_of, owners, star_under, verdict}
+use Rattle.definitions.specs.Zone.{Verdict, Records, NoType, NoName, StarRecords, StarNoType, Delegated, Open, Unsigned, ce, cut, data_at, has, is_kept, kept_owners, owner_of, owners, star_under, verdict}
 use Rattle.definitions.specs.ZoneChain.{Mode, Nsec, nsec_names, nsec_next, nsec_types}
 use Rattle.definitions.proofs.BitmapLaws.{spells_set}
 use Rattle.messages.specs.HandedRr.{HandedRr, is_meta}
