@@ -5,12 +5,13 @@ use Rattle.keyset_rolls.specs.declared.rolls.RollType.{RollType}
 use Rattle.answer_events.specs.declared.event.KeyCall.{KeyCall}
 use Rattle.answer_events.specs.declared.event.KeyCall.TheVariants as call
 use Rattle.answer_events.specs.declared.key_kind.KeyKind.{KeyKind}
-use Rattle.answer_events.specs.declared.key_kind.KeyKind.TheVariants.{Ksk, Zsk}
+use Rattle.answer_events.specs.declared.key_kind.KeyKind.TheVariants.{Ksk, Zsk, Csk}
 
 -- an entry point has its bit beside that of a zone key (RFC 4034, 2.1.1)
 abbrev pub flags_of : KeyKind → ℕ
 flags_of Ksk = 257
 flags_of Zsk = 256
+flags_of Csk = 257
 
 -- a call on the keys; an add names the key's private reference, algorithm and octets, and whether it is available
 pub data Call : Type 0 where
@@ -26,6 +27,7 @@ pub data Call : Type 0 where
 abbrev pub call_of : KeyCall → Call
 call_of (call.AddKeyKsk pubref privref algorithm key available) = Add Ksk (string_bytes pubref) (text_of privref) algorithm key.items (is_available available)
 call_of (call.AddKeyZsk pubref privref algorithm key available) = Add Zsk (string_bytes pubref) (text_of privref) algorithm key.items (is_available available)
+call_of (call.AddKeyCsk pubref privref algorithm key available) = Add Csk (string_bytes pubref) (text_of privref) algorithm key.items (is_available available)
 call_of (call.StartRoll r olds news) = Start r (map string_bytes olds.items) (map string_bytes news.items)
 call_of (call.Propagation1Complete r ttl) = Report1 r ttl
 call_of (call.CacheExpired1 r) = Wait1 r

@@ -63,6 +63,14 @@ pub enum KeyCall {
         public_key: Vec<u8>,
         available: Available,
     },
+    /// Adds a key that signs both, keys and zone.
+    AddKeyCsk {
+        pubref: String,
+        privref: Option<String>,
+        algorithm: SecurityAlgorithm,
+        public_key: Vec<u8>,
+        available: Available,
+    },
     /// Starts a roll from old keys to new ones.
     StartRoll {
         rolltype: RollType,
@@ -116,6 +124,13 @@ impl KeyCall {
                 available,
             },
             KeyKind::Zsk => KeyCall::AddKeyZsk {
+                pubref,
+                privref,
+                algorithm,
+                public_key,
+                available,
+            },
+            KeyKind::Csk => KeyCall::AddKeyCsk {
                 pubref,
                 privref,
                 algorithm,

@@ -9,6 +9,8 @@ pub enum KeyKind {
     Ksk,
     /// A key that signs the zone.
     Zsk,
+    /// A key that signs both, keys and zone: an entry point too.
+    Csk,
 }
 
 impl KeyKind {
@@ -17,7 +19,7 @@ impl KeyKind {
         ensures { result ≡ flags_of self }
     {
         match self {
-            KeyKind::Ksk => 257,
+            KeyKind::Ksk | KeyKind::Csk => 257,
             KeyKind::Zsk => 256,
         }
     }

@@ -18,7 +18,7 @@ use Rattle.keyset.proofs.KeyRunEnds.{call_next, none_hold}
 use Rattle.keyset.proofs.KeyRunSteps.{Holds}
 use Rattle.keyset_life.specs.KeyLife.{accepted, states}
 use Rattle.keyset_life.proofs.Meets.{accepted_ok}
-use Rattle.answer_events.specs.declared.key_kind.KeyKind.TheVariants.{Ksk, Zsk}
+use Rattle.answer_events.specs.declared.key_kind.KeyKind.TheVariants.{Ksk, Zsk, Csk}
 use Rattle.answer_publisher.specs.Bindings as bindings
 use Rattle.answer_publisher.specs.Bindings.{BoundKey, Outcome, ZoneKeys, apply, bind, dnskey_for, is_bound_away, lifted, on_state}
 use Rattle.answer_life.specs.ThroughRolls.{set_call}
@@ -95,6 +95,7 @@ accepted_did digest (bindings.Finish r) now s t acts e = did_roll (bindings.Fini
 pub set_so : (c : bindings.Call) (now : ℕ) (s : KeySetState) → runs.on_state (set_call c now) now s ≡ on_state c now s
 set_so (bindings.Add Ksk q private algorithm octets available) now s = refl
 set_so (bindings.Add Zsk q private algorithm octets available) now s = refl
+set_so (bindings.Add Csk q private algorithm octets available) now s = refl
 set_so (bindings.Start r olds news) now s = refl
 set_so (bindings.Report1 r ttl) now s = refl
 set_so (bindings.Wait1 r) now s = refl

@@ -17,7 +17,7 @@ use Rattle.answer_life.specs.declared.outcome.Outcome.TheVariants as outcome
 use Rattle.answer_events.specs.declared.key_kind.KeyKind.{KeyKind}
 use Rattle.answer_events.specs.declared.key_kind.KeyKind.TheVariants as kind
 use Rattle.keyset.specs.KeyRuns as runs
-use Rattle.keyset.specs.KeyRuns.{Call, Kind, OfKsk, OfZsk}
+use Rattle.keyset.specs.KeyRuns.{Call, Kind, OfKsk, OfZsk, OfCsk}
 use Rattle.keyset_life.specs.KeyLife.{DnskeyAnswer, DsSet, Step, Thing, ZoneAnswer, accepted, retired}
 use Rattle.keyset_life.specs.Meeting.{algorithm_first, by_then}
 use Rattle.keyset_life.specs.Sides.{is_empty}
@@ -37,6 +37,7 @@ use Rattle.answer_publisher.specs.World.{TellsAnswer, TellsKeys, World}
 abbrev pub kind_in : KeyKind → Kind
 kind_in kind.Ksk = OfKsk
 kind_in kind.Zsk = OfZsk
+kind_in kind.Csk = OfCsk
 
 -- an added key has the tag of its DNSKEY, and the call's moment as its creation
 abbrev pub set_call : bindings.Call → ℕ → Call

@@ -106,8 +106,12 @@ fn message_errors() -> [MessageError; 3] {
     ]
 }
 
-/// The flags of a key signing key and of a zone signing key.
+/// The flags of a key signing key, of a zone signing key and of a key that signs both.
 pub fn flags(alloc: Global) -> Option<String> {
-    let (ksk, zsk) = (KeyKind::Ksk.flags(), KeyKind::Zsk.flags());
-    format!(in alloc; "{ksk} {zsk}").ok()
+    let (ksk, zsk, csk) = (
+        KeyKind::Ksk.flags(),
+        KeyKind::Zsk.flags(),
+        KeyKind::Csk.flags(),
+    );
+    format!(in alloc; "{ksk} {zsk} {csk}").ok()
 }

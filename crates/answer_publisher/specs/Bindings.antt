@@ -10,9 +10,9 @@ use Rattle.answer_publisher.specs.declared.keys.Publication.TheVariants as publi
 use Rattle.std.specs.FinMap.Entries as entries
 use Rattle.definitions.specs.Dnskey.{Dnskey, Ds, dnskey_data, key_tag, same_key}
 use Rattle.keyset_keys.specs.declared.keys.KeyType.{KeyType}
-use Rattle.keyset_keys.specs.declared.keys.KeyType.TheVariants.{Ksk, Zsk}
+use Rattle.keyset_keys.specs.declared.keys.KeyType.TheVariants.{Ksk, Zsk, Csk}
 use Rattle.answer_events.specs.declared.key_kind.KeyKind.{KeyKind}
-use Rattle.answer_events.specs.declared.key_kind.KeyKind.TheVariants.{Ksk as KskKey, Zsk as ZskKey}
+use Rattle.answer_events.specs.declared.key_kind.KeyKind.TheVariants.{Ksk as KskKey, Zsk as ZskKey, Csk as CskKey}
 pub use Rattle.answer_events.specs.Calls.{Call, Add, Start, Report1, Wait1, Report2, Wait2, Finish, flags_of}
 use Rattle.keyset_rolls.specs.declared.rolls.RollType.{RollType}
 use Rattle.keyset_rolls.specs.declared.rolls.Action.{Action}
@@ -37,6 +37,7 @@ pub data Fault : Type 0 where
 abbrev pub roles_of : KeyKind → Bool → KeyType
 roles_of KskKey a = Ksk (clear a)
 roles_of ZskKey a = Zsk (clear a)
+roles_of CskKey a = Csk (clear a) (clear a)
 
 abbrev pub dnskey_for : KeyKind → ℕ → List ℕ → Dnskey
 dnskey_for kind algorithm octets = record { flags = flags_of kind; protocol = 3; algorithm = algorithm; octets = octets }

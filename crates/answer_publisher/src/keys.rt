@@ -406,5 +406,13 @@ fn add_key(keys: &mut KeySet, new: NewKey, tag: u16) -> Result<(), Error>
             new.created,
             new.available,
         ),
+        KeyKind::Csk => keys.add_key_csk(
+            new.pubref,
+            new.privref,
+            new.algorithm,
+            tag,
+            new.created,
+            new.available,
+        ),
     }
 }

@@ -304,6 +304,35 @@ impl<'a, S: Scheme, H: Nsec3Hasher> Publisher<'a, S, H> {
         )
     }
 
+    /// Adds a key that signs both, keys and zone, of these octets, at most 65,531 of them.
+    pub fn add_key_csk(
+        &mut self,
+        pubref: String,
+        privref: Option<String>,
+        algorithm: SecurityAlgorithm,
+        public_key: Vec<u8>,
+        creation_ts: UnixTime,
+        available: Available,
+    ) -> Result<(), KeyFault>
+        requires { length public_key.items ≤ 65531 }
+        ensures keys { let at_hand = is_available available in
+            let private = text_of privref in let octets = public_key.items in
+            let call = Add KeyKind.Csk (string_bytes pubref) private algorithm octets at_hand in
+            let digests = digests S.digest_of self.old in
+            Adds digests call creation_ts self.old.keys self.new.keys result }
+        ensures rest { self.new ≡ record self.old { keys = self.new.keys } }
+    {
+        self.add_key(
+            KeyKind::Csk,
+            pubref,
+            privref,
+            algorithm,
+            public_key,
+            creation_ts,
+            available,
+        )
+    }
+
     /// Adds a key of a kind, of these octets, at most 65,531 of them. Whether its reference is bound to another key is known
     /// before any memory is taken.
     pub fn add_key(

@@ -12,7 +12,7 @@ use Rattle.answer_events.specs.Message.{Asked, owner_at}
 use Rattle.answer_events.specs.NameOctets.{name_of_octets}
 use Rattle.answer_events.specs.RollType.{RollType}
 use Rattle.answer_events.specs.declared.key_kind.KeyKind.{KeyKind}
-use Rattle.answer_events.specs.declared.key_kind.KeyKind.TheVariants.{Ksk, Zsk}
+use Rattle.answer_events.specs.declared.key_kind.KeyKind.TheVariants.{Ksk, Zsk, Csk}
 use Rattle.session_lines.specs.Fields.{is_nothing, hex_field, key_field, is_reference}
 use Rattle.session_lines.specs.Numbers.{number_of}
 
@@ -101,7 +101,11 @@ judge_line ds dnskey answer = do
   Some (Judge d k a)
 
 abbrev pub kind_field : List ℕ → Option KeyKind
-kind_field field = if bytes_eq field (codes "ksk") then Some Ksk else if bytes_eq field (codes "zsk") then Some Zsk else None
+kind_field field =
+    if bytes_eq field (codes "ksk") then Some Ksk
+    else if bytes_eq field (codes "zsk") then Some Zsk
+    else if bytes_eq field (codes "csk") then Some Csk
+    else None
 
 -- `key KIND REF ALGORITHM BASE64`
 abbrev pub key_line : List ℕ → List ℕ → List ℕ → List ℕ → Option ActLine

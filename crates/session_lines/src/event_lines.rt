@@ -179,6 +179,7 @@ fn read_kind(field: &str) -> Result<KeyKind, LineError>
     match field {
         "ksk" => Ok(KeyKind::Ksk),
         "zsk" => Ok(KeyKind::Zsk),
+        "csk" => Ok(KeyKind::Csk),
         _ => Err(LineError::Unreadable),
     }
 }

@@ -154,6 +154,21 @@ impl<'a, S: Scheme, H: Nsec3Hasher> Run<'a, S, H> {
                 *available,
                 at,
             ),
+            KeyCall::AddKeyCsk {
+                pubref,
+                privref,
+                algorithm,
+                public_key,
+                available,
+            } => self.add_key(
+                KeyKind::Csk,
+                pubref.as_str(),
+                privref,
+                *algorithm,
+                public_key,
+                *available,
+                at,
+            ),
             KeyCall::StartRoll { rolltype, old, new } => {
                 let old = texts(self.alloc, old)?;
                 let new = texts(self.alloc, new)?;
