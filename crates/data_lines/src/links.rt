@@ -75,9 +75,13 @@ fn nsec3_text(alloc: Global, nsec3: &Nsec3<Vec<u8>>) -> Option<String> {
 pub fn rehashed(alloc: Global, line: &str) -> Option<String> {
     let (octets, hash) = line.split_once(' ')?;
     let (octets, hash) = (octets_of(alloc, octets)?, octets_of(alloc, hash)?);
-    let before = Nsec3::parse(&mut Parser::from_ref(&octets)).ok()?;
-    let mut nsec3 = Nsec3::parse(&mut Parser::from_ref(&octets)).ok()?;
-    let hash = OwnerHash::from_slice(&hash).ok()?;
+    rehashed_to(alloc, &octets, &hash)
+}
+
+fn rehashed_to<'a>(alloc: Global, octets: &'a [u8], hash: &'a [u8]) -> Option<String> {
+    let before = Nsec3::parse(&mut Parser::from_ref(octets)).ok()?;
+    let mut nsec3 = Nsec3::parse(&mut Parser::from_ref(octets)).ok()?;
+    let hash = OwnerHash::from_slice(hash).ok()?;
     if !Nsec3::fits_rdlen(nsec3.salt(), &hash, nsec3.types()) {
         return None;
     }
