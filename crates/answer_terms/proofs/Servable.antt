@@ -69,11 +69,11 @@ servable apex mode limit rs a =
     record {
       apex = contained (map owner_of (map rr_of sorted)) (low apex) (apex_in apex sorted none);
       ordinary = all_mapped (λ (r : Rr). is_foreign_type r.rtype ≡ false) rr_of sorted (all_sorted (λ (r : HandedRr). is_foreign_type r.rtype ≡ false) record_cmp rs
-      (all_both (λ r. is_added_by_signing r ≡ false) (λ r. is_alias r ≡ false) (λ r. is_foreign_type r.rtype ≡ false) rs
-      (λ r e f. none_of_both (nat_eq r.rtype) (46 ∷ 47 ∷ 48 ∷ 50 ∷ 51 ∷ []) (5 ∷ 39 ∷ []) e f) signing aliases));
+          (all_both (λ r. is_added_by_signing r ≡ false) (λ r. is_alias r ≡ false) (λ r. is_foreign_type r.rtype ≡ false) rs
+          (λ r e f. none_of_both (nat_eq r.rtype) (46 ∷ 47 ∷ 48 ∷ 50 ∷ 51 ∷ []) (5 ∷ 39 ∷ []) e f) signing aliases));
       stars = all_mapped (λ (r : Rr). zone.delegates_star r ≡ false) rr_of sorted (all_sorted (λ (r : HandedRr). zone.delegates_star (rr_of r) ≡ false) record_cmp rs
-      (all_more (λ r. delegates_star r ≡ false) (λ r. zone.delegates_star (rr_of r) ≡ false) rs
-      (λ r e. ap (λ b. (r.rtype == 2) && b) (star_first r.owner) ∙ e) stars));
+          (all_more (λ r. delegates_star r ≡ false) (λ r. zone.delegates_star (rr_of r) ≡ false) rs
+          (λ r e. ap (λ b. (r.rtype == 2) && b) (star_first r.owner) ∙ e) stars));
     }
 
 -- ---- questions

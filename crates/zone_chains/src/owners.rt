@@ -14,6 +14,7 @@ use plain::zone_data::ZoneRecordData;
 use std::alloc::Global;
 
 type Data<'a> = ZoneRecordData<&'a [u8], ParsedName<'a>>;
+
 type Kept<'a> = OwnerRrs<'a, ParsedName<'a>, Data<'a>>;
 
 /// The TTL and the minimum of the SOA record, the TTL of a chain's records, and the owners with their types.
