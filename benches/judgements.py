@@ -21,6 +21,14 @@ ASKED = (
     ("records", "n000004.example 1"),
     ("no records of a type", "n000004.example 15"),
     ("no such name", "n000004x.example 1"),
+    ("a wildcard's records", "x.w.example 16"),
+    ("no records of a type by a wildcard", "x.w.example 1"),
+    ("a delegation", "x.d.example 1"),
+)
+# a wildcard and a delegation beside the addresses
+OTHERS = (
+    "rr *.w.example 3600 1 16 0474657874",
+    "rr d.example 3600 1 2 026e73076578616d706c6500",
 )
 TOOLS = ("callgrind", "memcheck")
 DECIDE = r"decide::decide\b"
@@ -31,7 +39,7 @@ def opening(owners):
     words = [sys.executable, str(TOP / "benches/session.py"), str(owners)]
     session = subprocess.run(words, capture_output=True, text=True, check=True)
     lines = [line for line in session.stdout.split("\n") if line and line.split()[0] not in ("ask", "judge")]
-    return lines + [f"ask {asked} 7200" for _, asked in ASKED]
+    return [*lines[:2], *OTHERS, *lines[2:], *(f"ask {asked} 7200" for _, asked in ASKED)]
 
 
 def within(lines, function, *flags):
