@@ -35,11 +35,11 @@ DECIDE = r"decide::decide\b"
 
 
 def opening(owners):
-    """A zone of so many owners whose keys have finished their first roll, and what is shown of it."""
+    """A zone of so many owners whose keys have finished their first roll, and its DS set and DNSKEY answer."""
     words = [sys.executable, str(TOP / "benches/session.py"), str(owners)]
     session = subprocess.run(words, capture_output=True, text=True, check=True)
     lines = [line for line in session.stdout.split("\n") if line and line.split()[0] not in ("ask", "judge")]
-    return [*lines[:2], *OTHERS, *lines[2:], *(f"ask {asked} 7200" for _, asked in ASKED)]
+    return [*lines[:2], *OTHERS, *lines[2:]]
 
 
 def within(lines, function, *flags):
@@ -78,7 +78,7 @@ def main():
     for owners in (1_000, 10_000, 100_000):
         print(row(f"{owners:,}", counts(opening(owners), opening(2 * owners), owners)))
     for owners in (10, 10_000):
-        start = opening(owners)
+        start = [*opening(owners), *(f"ask {asked} 7200" for _, asked in ASKED)]
         idle = counts(start, start + ["judge 0 1 9999 7200"] * TIMES, TIMES)
         print(f"\n| what is asked of {owners:,} owners | an answer | blocks | its judgement | blocks | SHA-256 | deciding |")
         print("|---|---|---|---|---|---|---|")
