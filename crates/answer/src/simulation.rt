@@ -44,7 +44,7 @@ pub fn simulate<S: Scheme, H: Nsec3Hasher>(
         let w = by (zone_by apex (mode_of mode) limit rs) life in
         IfOk result (λ outcomes. IsSimulation w rs events.now outcomes.items) }
     ensures fault { let rs = map handed_of records.items in
-        IfErr result (RefusesZone apex (mode_of mode) limit rs) }
+        IfErr result (RefusesZone (H.hash_of hasher.now) apex (mode_of mode) limit rs) }
 {
     let publisher = Publisher::new(alloc, apex, records, mode, scheme, hasher, limit, life)?;
     let mut run = Run::new(alloc, publisher, limit);

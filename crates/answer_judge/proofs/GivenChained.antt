@@ -41,7 +41,7 @@ some_octets a b e = cc
 key_there : (k : ℕ) (m : List ℕ) (apex : Name) (d : List ℕ) (r : Spelled) → IsRecord k m r apex 48 d → key_at m apex r ≡ dnskey_of_data d
 key_there k m apex d r is =
     let here = and_from _ _ (and_from _ _ (labels_eq-same (low r.owner) (low apex) is.owner_is) (eq-eqb r.rtype 48 is.type_is)) (eq-eqb r.class 1 is.class_is) in
-    let octets : data_of m r ≡ d = some_octets (data_of m r) d (sym (canonical_octets k m r (ap (λ n. eqb n 2) is.type_is) (ap (λ n. eqb n 6) is.type_is) (ap (λ n. eqb n 47) is.type_is)) ∙ is.data_is) in
+    let octets : data_of m r ≡ d = some_octets (data_of m r) d (sym (canonical_octets k m r (ap (λ n. eqb n 2) is.type_is) (ap (λ n. eqb n 6) is.type_is) (ap (λ n. eqb n 47) is.type_is) (ap (λ n. eqb n 50) is.type_is)) ∙ is.data_is) in
     (λ i. key_when (here i) (octets i))
 
 keys_there : (k : ℕ) (m : List ℕ) (apex : Name) (g : Group) (rs : List Spelled) (ds : List (List ℕ)) → g.owner ≡ apex → g.rtype ≡ 48 → AreRecords k m rs g ds → keys_in m apex rs ≡ filter_map dnskey_of_data ds

@@ -1,40 +1,43 @@
 -- What is verified in bytes that tell a zone's answer is the zone's own facts, up to case.
-use Rattle.std.proofs.Common.{◌≡◌, ℕ, ◌<◌, Bool, true, false, ◌&&◌, ◌||◌, cond, length, List, [], ◌∷◌, ◌++◌, map, Option, Some, None, eqb, refl, sym, ap, subst, ◌∙◌, ◌⊎◌, inl, inr, ⊎_elim, arith}
-use Rattle.std.specs.Prelude.{◌==◌}
-use Rattle.std.specs.List.{AllByRecursion, AllZip, filter, find, list_any}
-use Rattle.std.proofs.lemmas.Bool.{and_left, eq-eqb, false≢true, or_from}
+use Rattle.std.proofs.Common.{◌≡◌, ℕ, ◌<◌, ◌≤◌, Bool, true, false, ◌&&◌, ◌||◌, cond, length, List, [], ◌∷◌, ◌++◌, map, Option, Some, None, eqb, leb, refl, sym, ap, ◌∙◌, ◌⊎◌, inl, inr, ⊎_elim, arith}
+use Rattle.std.specs.Prelude.{◌==◌, IfSome, nat_lt, unwrap_or}
+use Rattle.std.specs.List.{AllByRecursion, AllZip, find}
+use Rattle.std.proofs.lemmas.Bool.{and_parts, eq-eqb, false≢true, leb-true, ltb-false, ltb-true, ne_eqb, or_from}
 use Rattle.std.proofs.lemmas.List.Folds.{list_any-append}
 use Rattle.definitions.specs.Dnskey.{Dnskey}
-use Rattle.definitions.specs.Name.{Name, IsLabel, low, same, at_or_above, name_cmp}
-use Rattle.definitions.specs.Zone.{Zone, Verdict, apex_of, has, kept_owners, verdict}
-use Rattle.definitions.specs.ZoneChain.{Mode, Nsec, nsec_names, optout_of}
-use Rattle.definitions.proofs.Members.{In, Rises, filter_in, sort_rises}
-use Rattle.definitions.proofs.NameLaws.{name_cmp_total}
+use Rattle.definitions.specs.Name.{Name, IsLabel, low, same, at_or_above, wire}
+use Rattle.definitions.specs.Signing.{label_count}
+use Rattle.definitions.specs.Zone.{Zone, Verdict, apex_of, has, verdict}
+use Rattle.definitions.specs.ZoneChain.{Mode, Nsec, Nsec3, optout_of}
 use Rattle.definitions.proofs.ZoneNames.{above_lowered}
-use Rattle.denial_rules.specs.Facts.{Link, Rrset}
-use Rattle.denial_rules.specs.OwnFacts.{link_speaks, own_facts, own_links, own_rrset, spoken}
+use Rattle.denial_rules.specs.Facts.{Link, Rrset, is_expanded}
+use Rattle.denial_rules.specs.OwnFacts.{own_facts, own_hash_links, own_links, own_rrset, spoken}
 use Rattle.denial_rules.specs.Truth.{IsServable}
 use Rattle.messages.specs.HandedRr.{HandedRr}
 use Rattle.messages.specs.Handed.{IsHanded}
 use Rattle.messages.specs.Message.{Asked, Spelled}
-use Rattle.messages.proofs.Lists.{Has, all_more, all_sorted, eqb-back}
-use Rattle.answer_terms.specs.Accepting.{record_cmp, soas, sorted_records, zone_of, zone_with}
-use Rattle.answer_terms.specs.Served.{Group, ahead, answer_groups, served_of}
+use Rattle.messages.proofs.Lists.{Has, all_at, all_more, all_sorted, eqb-back}
+use Rattle.answer_terms.specs.Accepting.{over_limit, record_cmp, soas, sorted_records, zone_of, zone_with}
+use Rattle.answer_terms.specs.Hashing.{Hasher, HashesOctets, hash_in}
+use Rattle.answer_terms.specs.Served.{Group, Served, ahead, answer_groups, proofs_of, served_of}
 use Rattle.answer_terms.specs.Told.{TellsGroups, fields_for}
 use Rattle.answer_terms.proofs.AllowedTypes.{unsigned_from}
 use Rattle.answer_terms.proofs.Servable.{asked_inside, servable}
-use Rattle.answer_judge.specs.Facts.{fits_key}
+use Rattle.answer_terms.proofs.ZoneData.{label_count-low}
+use Rattle.answer_judge.specs.Facts.{fits_key, may_expand}
 use Rattle.answer_judge.specs.Meeting.{holds}
 use Rattle.answer_terms.specs.FactsCase.{low_facts, low_link}
 use Rattle.answer_judge.specs.OwnFacts.{TellsZone, ToldFactsAreOwn}
-use Rattle.answer_judge.specs.Verified.{Trusting, verified_facts, verified_links, verified_rrset}
-use Rattle.answer_judge.proofs.GivenGroups.{SameLink, SaysLink, has_twins, is_nsec}
+use Rattle.answer_judge.specs.Verified.{Trusting, verified_facts, verified_hash_links, verified_links, verified_rrset}
+use Rattle.answer_judge.proofs.GivenGroups.{SameLink}
+use Rattle.answer_judge.proofs.GivenHashes.{verified_hash_links_given}
 use Rattle.answer_judge.proofs.GivenLinks.{IsProof, verified_links_given}
 use Rattle.answer_judge.proofs.GivenLists.{has_contained, has_left}
 use Rattle.answer_judge.proofs.GivenRrset.{all_joined, is_ordinary, is_signed_rrset, verified_rrset_given, verified_rrset_missing}
-use Rattle.answer_judge.proofs.GivenSignatures.{fits_equal}
+use Rattle.answer_judge.proofs.GivenSignatures.{IsSignedBy}
 use Rattle.answer_judge.proofs.OwnAnswer.{IsFront, Proves, own_front}
-use Rattle.answer_judge.proofs.OwnChain.{AreNamed, apart_behind, chain_apart, chain_below, chain_group, chain_labels, chain_says, kept_rise, links_low, nsec_behind, read_link}
+use Rattle.answer_judge.proofs.OwnBehind.{IsBehind, IsVerifiable, hashes_behind, names_behind}
+use Rattle.answer_judge.proofs.OwnChain.{AreNamed}
 
 -- links that are the same up to case have the same names in lower case
 lowered_links : (fs ls : List Link) → AllZip SameLink fs ls → map low_link fs ≡ map low_link ls
@@ -50,17 +53,8 @@ from_joined : {A : Type 0} (xs ys : List A) (x : A) → Has (xs ++ ys) x → Has
 from_joined [] ys x h = inr h
 from_joined (y ∷ xs) ys x h = ⊎_elim (λ e. inl (inl e)) (λ k. ⊎_elim (λ i. inl (inr i)) (λ j. inr j) (from_joined xs ys x k)) h
 
--- an RRset of a name's record
-record_of : (f : Name → Group) (ns : List Name) (g : Group) → Has (map f ns) g → (o : Name) × (In o ns × (g ≡ f o))
-record_of f [] g h = absurd h
-record_of f (n ∷ ns) g h = ⊎_elim (λ e. (n, (inl refl, e))) (λ k. let r = record_of f ns g k in (r.0, (inr r.1.0, r.1.1))) h
-
-all_chain : (f : Name → Group) (P : Group → Type 0) → ((o : Name) → P (f o)) → (ns : List Name) → AllByRecursion P (map f ns)
-all_chain f P h [] = tt
-all_chain f P h (n ∷ ns) = (h n, all_chain f P h ns)
-
 -- a zone's answer is told, under keys of which one that signs is trusted
-pub record IsToldBy (w : Trusting) (k : ℕ) (m : List ℕ) (records : List Spelled) (apex : Name) (hash : Name → List ℕ) (rs : List HandedRr) (q : Name) (t : ℕ) : Type 0 where
+pub record IsToldBy (w : Trusting) (k : ℕ) (m : List ℕ) (records : List Spelled) (apex : Name) (mode : Mode) (hash : Name → List ℕ) (rs : List HandedRr) (q : Name) (t : ℕ) : Type 0 where
   pub at : ℕ
   pub life : ℕ
   pub keys : List Dnskey
@@ -74,39 +68,37 @@ pub record IsToldBy (w : Trusting) (k : ℕ) (m : List ℕ) (records : List Spel
   pub not_rrsig : eqb t 46 ≡ false
   pub not_nsec : eqb t 47 ≡ false
   pub not_nsec3 : eqb t 50 ≡ false
-  pub groups_are : TellsGroups w.answers.verifies k m records apex at life keys (answer_groups (served_of apex Nsec hash rs) q t)
+  pub groups_are : TellsGroups w.answers.verifies k m records apex at life keys (answer_groups (served_of apex mode hash rs) q t)
   pub signer : Has keys key
   pub found : (g : Group) → find (fits_key (fields_for apex at life g key)) w.keys ≡ Some key
   pub hold : holds at life w.now ≡ true
 
-module _ (w : Trusting) (k : ℕ) (m : List ℕ) (records : List Spelled) (apex : Name) (hash : Name → List ℕ) (rs : List HandedRr) (q : Name) (t : ℕ) (told : IsToldBy w k m records apex hash rs q t) where
+-- iterations that a record holds, and hashes that are octets
+abbrev pub FitsRecords : Mode → (Name → List ℕ) → Type 0
+FitsRecords Nsec hash = Unit {0}
+FitsRecords (Nsec3 iterations salt optout) hash = (iterations < 65536) × ((n : Name) → AllByRecursion (λ x. x < 256) (hash n))
+
+module _ (w : Trusting) (k : ℕ) (m : List ℕ) (records : List Spelled) (apex : Name) (mode : Mode) (hash : Name → List ℕ) (rs : List HandedRr) (q : Name) (t : ℕ) (told : IsToldBy w k m records apex mode hash rs q t) where
   abbrev z : Zone
   z = zone_with apex rs
 
+  abbrev s : Served
+  s = served_of apex mode hash rs
+
   abbrev said : Verdict
-  said = verdict z (optout_of Nsec) q t
+  said = verdict z (optout_of mode) q t
 
   abbrev front : List Group
-  front = ahead (served_of apex Nsec hash rs) q t said
+  front = ahead s q t said
 
   is_front : IsFront apex q t front (own_rrset z q t said)
-  is_front = own_front apex Nsec hash rs q t told.servable told.soa_there told.not_rrsig told.not_nsec told.not_nsec3 told.inside
+  is_front = own_front apex mode hash rs q t told.servable told.soa_there told.not_rrsig told.not_nsec told.not_nsec3 told.inside
 
   abbrev names : List Name
-  names = spoken z Nsec (low q) said
-
-  -- the names of the chain whose records are in the answer
-  abbrev chosen : List Name
-  chosen = filter (λ o. list_any (link_speaks z o) names) (nsec_names z)
-
-  chosen_in : (o : Name) → In o chosen → In o (nsec_names z)
-  chosen_in o i = (filter_in (λ o. list_any (link_speaks z o) names) (nsec_names z) o i).0
-
-  chosen_rise : Rises name_cmp name_cmp_total chosen
-  chosen_rise = kept_rise (λ o. list_any (link_speaks z o) names) (nsec_names z) (sort_rises name_cmp name_cmp_total (kept_owners z false))
+  names = spoken z mode (low q) said
 
   abbrev chain : List Group
-  chain = map (chain_group apex rs hash) chosen
+  chain = proofs_of s names
 
   abbrev groups : List Group
   groups = front ++ chain
@@ -114,68 +106,79 @@ module _ (w : Trusting) (k : ℕ) (m : List ℕ) (records : List Spelled) (apex 
   are : TellsGroups w.answers.verifies k m records apex told.at told.life told.keys groups
   are = told.groups_are
 
-  alone : has_twins groups ≡ false
-  alone = apart_behind apex rs hash front chosen is_front.beside is_front.alone (chain_apart apex rs hash chosen chosen_in chosen_rise)
+  module _ (behind : IsBehind apex q t front chain (own_links z mode names) (own_hash_links z hash mode names)) where
+    ordinary : AllByRecursion is_ordinary groups
+    ordinary = all_joined is_ordinary front chain is_front.ordinary behind.ordinary
 
-  ordinary : AllByRecursion is_ordinary groups
-  ordinary = all_joined is_ordinary front chain is_front.ordinary (all_chain (chain_group apex rs hash) is_ordinary (λ o. refl) chosen)
+    -- ---- links
 
-  -- ---- links
+    no_front : (p : ℕ) (gs : List Group) → AllByRecursion (λ g. eqb g.rtype p ≡ false) gs → (g : Group) → Has gs g → g.rtype ≡ p → ⊥
+    no_front p [] h g i e = i
+    no_front p (x ∷ gs) h g i e = ⊎_elim (λ here. false≢true (sym h.0 ∙ ap (λ (y : Group). eqb y.rtype p) (sym here) ∙ eq-eqb g.rtype p e)) (λ j. no_front p gs h.1 g j e) i
 
-  no_front : (gs : List Group) → AllByRecursion (λ g. is_nsec g ≡ false) gs → (g : Group) → Has gs g → g.rtype ≡ 47 → ⊥
-  no_front [] h g i e = i
-  no_front (x ∷ gs) h g i e = ⊎_elim (λ s. false≢true (sym h.0 ∙ ap (λ (y : Group). is_nsec y) (sym s) ∙ eq-eqb g.rtype 47 e)) (λ j. no_front gs h.1 g j e) i
+    signed_by : (g : Group) → Has groups g → IsVerifiable apex g → IsSignedBy w apex told.at told.life told.keys groups g told.key
+    signed_by g there is = record {
+      apex_is = told.trusted_apex;
+      group = there;
+      signed = is.signed;
+      some = is.some;
+      fits = is.fits;
+      signer = told.signer;
+      found = told.found g;
+      hold = told.hold;
+    }
 
-  chain_proof : (o : Name) → In o chosen → Has groups (chain_group apex rs hash o) → IsProof w apex told.at told.life told.keys groups (chain_group apex rs hash o) told.key
-  chain_proof o i there =
-      let j : In o (nsec_names z) = chosen_in o i in
-      record {
-        by = record {
-          apex_is = told.trusted_apex;
-          group = there;
-          signed = refl;
-          some = omega arith;
-          fits = fits_equal apex (chain_group apex rs hash o) (chain_labels apex rs hash o j);
-          signer = told.signer;
-          found = told.found (chain_group apex rs hash o);
-          hold = told.hold;
-        };
-        below = chain_below apex rs hash told.servable o j;
-      }
+    -- an RRset of a type that is not in front is the chain's
+    of_chain : (p : ℕ) → AllByRecursion (λ g. eqb g.rtype p ≡ false) front → (g : Group) → Has groups g → g.rtype ≡ p → IsVerifiable apex g
+    of_chain p none g i e = ⊎_elim
+        (λ (f : Has front g). absurd (no_front p front none g f e))
+        (λ (c : Has chain g). all_at (IsVerifiable apex) chain g behind.each c)
+        (from_joined front chain g i)
 
-  proofs : (g : Group) → Has groups g → g.rtype ≡ 47 → IsProof w apex told.at told.life told.keys groups g told.key
-  proofs g i e = ⊎_elim
-      (λ (f : Has front g). absurd (no_front front is_front.beside g f e))
-      (λ (c : Has chain g).
-      let r = record_of (chain_group apex rs hash) chosen g c in
-      subst (λ x. IsProof w apex told.at told.life told.keys groups x told.key) (sym r.1.1) (chain_proof r.0 r.1.0 (subst (Has groups) r.1.1 i)))
-      (from_joined front chain g i)
+    proofs : (g : Group) → Has groups g → g.rtype ≡ 47 → IsProof w apex told.at told.life told.keys groups g told.key
+    proofs g i e =
+        let is : IsVerifiable apex g = of_chain 47 is_front.beside g i e in
+        record { by = signed_by g i is; below = is.below e }
 
-  links_are : map low_link (verified_links w k m records) ≡ own_links z Nsec names
-  links_are =
-      let says = subst (λ gs. AllZip SaysLink gs (map (read_link apex rs hash) chosen)) (sym (nsec_behind apex rs hash front chosen is_front.beside)) (chain_says apex rs hash told.servable told.apex_is told.named chosen chosen_in) in
-      lowered_links (verified_links w k m records) (map (read_link apex rs hash) chosen)
-      (verified_links_given w k m records apex told.at told.life told.keys groups told.key (map (read_link apex rs hash) chosen) are alone proofs says)
-      ∙ links_low apex rs hash told.servable chosen chosen_in
+    links_are : map low_link (verified_links w k m records) ≡ own_links z mode names
+    links_are =
+        lowered_links (verified_links w k m records) behind.read
+        (verified_links_given w k m records apex told.at told.life told.keys groups told.key behind.read are behind.alone proofs behind.says)
+        ∙ behind.lowered
 
-  -- ---- the RRset
+    hash_links_are : verified_hash_links w k m records ≡ own_hash_links z hash mode names
+    hash_links_are =
+        verified_hash_links_given w k m records apex told.at told.life told.keys groups told.key (own_hash_links z hash mode names) are behind.alone
+        (λ g i e. signed_by g i (of_chain 50 is_front.unhashed g i e)) behind.hashed
 
-  rrset_by : (r : Option Rrset) → Proves apex q t front r → verified_rrset w k m records q t ≡ r
-  rrset_by None h =
-      verified_rrset_missing w k m records apex told.at told.life told.keys groups q t are ordinary
-      (list_any-append (is_signed_rrset q t) front chain ∙ or_from _ _ h (none_chain chosen))
-    where
-      none_chain : (ns : List Name) → list_any (is_signed_rrset q t) (map (chain_group apex rs hash) ns) ≡ false
-      none_chain [] = refl
-      none_chain (n ∷ ns) = or_from _ _ (and_left _ true (and_left (eqb 47 t) _ (eqb-back 47 t ∙ told.not_nsec))) (none_chain ns)
-  rrset_by (Some r) (g, there, is) =
-      verified_rrset_given w k m records apex told.at told.life told.keys groups q t g told.key are ordinary
-      (record { apex_is = told.trusted_apex; group = has_left front chain g there; signed = is.signed; some = is.some; fits = is.fits; signer = told.signer; found = told.found g; hold = told.hold })
-      (eqb-back 46 t ∙ told.not_rrsig) alone is.sorted is.rtype_is is.owner_is
-      ∙ ap (λ (x : Rrset). Some x) is.is
+    -- ---- the RRset
 
-  pub facts_told : low_facts (verified_facts w k m records q t) ≡ own_facts z hash Nsec q t
-  facts_told = λ i. record { rrset = rrset_by (own_rrset z q t said) is_front.proves i; links = links_are i; hash_links = [] }
+    rrset_by : (r : Option Rrset) → Proves apex q t front r → verified_rrset w k m records q t ≡ r
+    rrset_by None h =
+        verified_rrset_missing w k m records apex told.at told.life told.keys groups q t are ordinary
+        (list_any-append (is_signed_rrset q t) front chain ∙ or_from _ _ h behind.unasked)
+    rrset_by (Some r) (g, there, is) =
+        verified_rrset_given w k m records apex told.at told.life told.keys groups q t g told.key are ordinary
+        (record { apex_is = told.trusted_apex; group = has_left front chain g there; signed = is.signed; some = is.some; fits = is.fits; signer = told.signer; found = told.found g; hold = told.hold })
+        (eqb-back 46 t ∙ told.not_rrsig) behind.alone is.sorted is.rtype_is is.owner_is
+        ∙ ap (λ (x : Rrset). Some x) is.is
+
+    facts_behind : low_facts (verified_facts w k m records q t) ≡ own_facts z hash mode q t
+    facts_behind = λ i. record { rrset = rrset_by (own_rrset z q t said) is_front.proves i; links = links_are i; hash_links = hash_links_are i }
+
+abbrev FactsTold : Trusting → ℕ → List ℕ → List Spelled → Name → Mode → (Name → List ℕ) → List HandedRr → Name → ℕ → Type 0
+FactsTold w k m records apex mode hash rs q t = low_facts (verified_facts w k m records q t) ≡ own_facts (zone_with apex rs) hash mode q t
+
+pub facts_told : (w : Trusting) (k : ℕ) (m : List ℕ) (records : List Spelled) (apex : Name) (mode : Mode) (hash : Name → List ℕ) (rs : List HandedRr) (q : Name) (t : ℕ) → IsToldBy w k m records apex mode hash rs q t → FitsRecords mode hash → FactsTold w k m records apex mode hash rs q t
+facts_told w k m records apex Nsec hash rs q t told fits =
+    let f = is_front w k m records apex Nsec hash rs q t told in
+    facts_behind w k m records apex Nsec hash rs q t told
+    (names_behind apex rs q t hash (names w k m records apex Nsec hash rs q t told) (front w k m records apex Nsec hash rs q t told) f.beside f.unhashed f.alone told.servable told.apex_is told.named told.not_nsec)
+facts_told w k m records apex (Nsec3 iterations salt optout) hash rs q t told fits =
+    let mode : Mode = Nsec3 iterations salt optout in
+    let f = is_front w k m records apex mode hash rs q t told in
+    facts_behind w k m records apex mode hash rs q t told
+    (hashes_behind apex rs q t hash (names w k m records apex mode hash rs q t told) (front w k m records apex mode hash rs q t told) f.beside f.unhashed f.alone iterations salt optout fits.1 fits.0 told.not_nsec3)
 
 -- ---- an accepted zone
 
@@ -191,16 +194,26 @@ soa_has apex (r ∷ rs) h = go (same r.owner apex && (r.rtype == 6)) h (λ l. so
 owners_named : (rs : List HandedRr) → AllByRecursion IsHanded rs → AreNamed (sorted_records rs)
 owners_named rs h = all_sorted (λ r. AllByRecursion IsLabel r.owner) record_cmp rs (all_more IsHanded (λ r. AllByRecursion IsLabel r.owner) rs (λ r is. is.owner.labels) h)
 
-abbrev Told : Trusting → ℕ → Mode → (Name → List ℕ) → List HandedRr → Asked → List ℕ → Type 0
-Told w k mode hash rs asked bytes =
-    (t : TellsZone w k mode hash rs asked bytes)
-    → low_facts (verified_facts w k bytes t.told.read.records asked.name asked.rtype) ≡ own_facts (zone_of w.apex rs) hash mode asked.name asked.rtype
+-- ---- hashes
 
-by_names : (w : Trusting) (k : ℕ) (hash : Name → List ℕ) (rs : List HandedRr) (asked : Asked) (bytes : List ℕ) → Told w k Nsec hash rs asked bytes
-by_names w k hash rs asked bytes t =
+octets_in : (h : Option (List ℕ)) → ((o : List ℕ) → h ≡ Some o → AllByRecursion (λ x. x < 256) o) → AllByRecursion (λ x. x < 256) (unwrap_or h [])
+octets_in None f = tt
+octets_in (Some o) f = f o refl
+
+small_iterations : (a b : ℕ) → nat_lt a b ≡ false → a < 65536 → b < 65536
+small_iterations a b h small = let over = ltb-false a b h in omega (arith, over, small)
+
+fitting : (hash : Hasher) (mode : Mode) (limit : ℕ) → limit < 65536 → over_limit mode limit ≡ false → HashesOctets hash mode → FitsRecords mode (hash_in hash mode)
+fitting hash Nsec limit small within octets = tt
+fitting hash (Nsec3 iterations salt optout) limit small within octets = (small_iterations limit iterations within small, λ n. octets_in (hash (wire (low n)) 1 iterations salt) (octets (wire (low n))))
+
+-- ---- what an accepted zone gave
+
+told_by : (w : Trusting) (k : ℕ) (mode : Mode) (rs : List HandedRr) (asked : Asked) (bytes : List ℕ) → (t : TellsZone w k mode rs asked bytes) → IsToldBy w k bytes t.told.read.records w.apex mode (hash_in w.answers.hash mode) (sorted_records rs) asked.name asked.rtype
+told_by w k mode rs asked bytes t =
     let types = unsigned_from w.apex asked t.allowed in
     let one : length (soas w.apex (sorted_records rs)) ≡ 1 = t.accepted.soa in
-    facts_told w k bytes t.told.read.records w.apex hash (sorted_records rs) asked.name asked.rtype (record {
+    record {
       at = t.at;
       life = t.life;
       keys = t.keys;
@@ -208,7 +221,7 @@ by_names w k hash rs asked bytes t =
       trusted_apex = refl;
       apex_is = t.apex_is.labels;
       named = owners_named rs t.records_are;
-      servable = servable w.apex Nsec t.limit rs t.accepted;
+      servable = servable w.answers.hash w.apex mode t.limit rs t.accepted;
       soa_there = soa_has w.apex (sorted_records rs) (omega (arith, one));
       inside = above_lowered (low w.apex) asked.name ∙ (asked_inside w.apex asked t.allowed).inside rs;
       not_rrsig = types.rrsig;
@@ -218,7 +231,33 @@ by_names w k hash rs asked bytes t =
       signer = has_contained t.keys t.signer t.signs;
       found = λ g. t.found;
       hold = t.hold;
-    })
+    }
 
 pub told_facts_are_own : ToldFactsAreOwn
-told_facts_are_own w k mode hash rs asked bytes t = subst (λ m. Told w k m hash rs asked bytes) (sym t.of_names) (by_names w k hash rs asked bytes) t
+told_facts_are_own w k mode rs asked bytes t =
+    facts_told w k bytes t.told.read.records w.apex mode (hash_in w.answers.hash mode) (sorted_records rs) asked.name asked.rtype
+    (told_by w k mode rs asked bytes t)
+    (fitting w.answers.hash mode t.limit t.short_limit t.accepted.faultless.within_limit t.octets)
+
+-- the RRset of its own facts is expanded no further than from the apex
+abbrev RrsetInside : Name → Name → Option Rrset → Type 0
+RrsetInside apex q o = IfSome o (λ r. is_expanded r q ≡ true → length apex ≤ r.labels)
+
+expands_inside : (apex q : Name) (t : ℕ) (gs : List Group) (o : Option Rrset) → Proves apex q t gs o → RrsetInside apex q o
+expands_inside apex q t gs None h = tt
+expands_inside apex q t gs (Some r) (g, there, is) = λ x.
+    let counted : label_count g.source ≡ r.labels = ap (λ (y : Rrset). y.labels) is.is in
+    let long : label_count g.owner ≡ label_count q = sym (label_count-low g.owner) ∙ ap label_count is.owner_is ∙ label_count-low q in
+    let fewer : r.labels < label_count q = ltb-true r.labels (label_count q) x in
+    let unlike : eqb (label_count g.source) (label_count g.owner) ≡ false = ne_eqb (label_count g.source) (label_count g.owner) (λ e. omega (arith, e, counted, long, fewer)) in
+    let wider = and_parts (may_expand g.rtype && nat_lt (label_count g.source) (label_count g.owner)) (leb (length apex) (label_count g.source)) (ap (λ b. b || (may_expand g.rtype && nat_lt (label_count g.source) (label_count g.owner) && leb (length apex) (label_count g.source))) (sym unlike) ∙ is.fits) in
+    let far = leb-true (length apex) (label_count g.source) wider.1 in
+    omega (arith, far, counted)
+
+pub rrset_inside : (w : Trusting) (k : ℕ) (mode : Mode) (rs : List HandedRr) (asked : Asked) (bytes : List ℕ) → (t : TellsZone w k mode rs asked bytes) → RrsetInside w.apex asked.name (own_rrset (zone_of w.apex rs) asked.name asked.rtype (verdict (zone_of w.apex rs) (optout_of mode) asked.name asked.rtype))
+rrset_inside w k mode rs asked bytes t =
+    let hash : Name → List ℕ = hash_in w.answers.hash mode in
+    let told = told_by w k mode rs asked bytes t in
+    let f = is_front w k bytes t.told.read.records w.apex mode hash (sorted_records rs) asked.name asked.rtype told in
+    expands_inside w.apex asked.name asked.rtype (front w k bytes t.told.read.records w.apex mode hash (sorted_records rs) asked.name asked.rtype told)
+    (own_rrset (zone_of w.apex rs) asked.name asked.rtype (verdict (zone_of w.apex rs) (optout_of mode) asked.name asked.rtype)) f.proves

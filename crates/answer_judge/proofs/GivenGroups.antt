@@ -1,9 +1,12 @@
 -- RRsets of an answer, by their owners and types.
-use Rattle.std.specs.Prelude.{◌≡◌, ℕ, Bool, false, ◌&&◌, ◌||◌, ◌==◌, List, [], ◌∷◌, ◌++◌}
+use Rattle.std.specs.Prelude.{◌≡◌, ℕ, ◌<◌, Bool, true, false, ◌&&◌, ◌||◌, ◌==◌, List, [], ◌∷◌, ◌++◌, Some}
 use Rattle.std.specs.List.{AllByRecursion, list_any}
+use Rattle.definitions.specs.Base32hex.{base32hex}
 use Rattle.definitions.specs.Name.{Name, IsLabel, low, same, wire}
-use Rattle.denial_rules.specs.Facts.{Link}
+use Rattle.denial_rules.specs.Facts.{HashLink, Link}
+use Rattle.messages.specs.Message.{HashedNext, nsec3_of}
 use Rattle.answer_terms.specs.Served.{Group}
+use Rattle.answer_judge.specs.Verified.{is_known}
 
 -- the RRset of an owner, up to case, and a type
 abbrev pub is_rrset : Name → ℕ → Group → Bool
@@ -17,6 +20,9 @@ has_twins (g ∷ gs) = list_any (is_rrset g.owner g.rtype) gs || has_twins gs
 abbrev pub is_nsec : Group → Bool
 is_nsec g = g.rtype == 47
 
+abbrev pub is_nsec3 : Group → Bool
+is_nsec3 g = g.rtype == 50
+
 -- what an NSEC record's one datum says
 pub record SaysLink (g : Group) (l : Link) : Type 0 where
   pub owner_is : low g.owner ≡ low l.owner
@@ -28,3 +34,25 @@ pub record SameLink (l f : Link) : Type 0 where
   pub owner_is : low l.owner ≡ low f.owner
   pub next_is : l.next ≡ f.next
   pub bits_are : l.bits ≡ f.bits
+
+-- a hash, and what the data of its record say
+abbrev pub said_of : List ℕ → HashedNext → HashLink
+said_of h n = record {
+  owner = h;
+  next = n.next;
+  bits = n.bits;
+  opt_out = n.flags == 1;
+  iterations = n.iterations;
+  salt = n.salt;
+}
+
+-- what an NSEC3 record's one datum says, whose owner spells a hash under the apex
+pub record SaysHashLink (apex : Name) (g : Group) (l : HashLink) : Type 0 where
+  pub octets : AllByRecursion (λ x. x < 256) l.owner
+  pub owner_is : low g.owner ≡ base32hex l.owner ∷ low apex
+  pub datum : List ℕ
+  pub data_are : g.datas ≡ datum ∷ []
+  pub next : HashedNext
+  pub reads : nsec3_of datum ≡ Some next
+  pub known : is_known next ≡ true
+  pub is : said_of l.owner next ≡ l

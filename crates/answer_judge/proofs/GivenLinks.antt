@@ -34,7 +34,7 @@ pub record Proves (w : Trusting) (k : ℕ) (m : List ℕ) (rs : List Spelled) (r
   pub proven : link_at w k m rs r ≡ Some link
   pub is : SameLink link l
 
-sorted_one : (d : List ℕ) (ds : List (List ℕ)) → ds ≡ d ∷ [] → sorted_data ds ≡ d ∷ []
+pub sorted_one : (d : List ℕ) (ds : List (List ℕ)) → ds ≡ d ∷ [] → sorted_data ds ≡ d ∷ []
 sorted_one d ds e = ap sorted_data e
 
 abbrev with_owner : Name → Option (Name × List ℕ) → Option Link
@@ -90,7 +90,7 @@ pub record OneRecord (k : ℕ) (m : List ℕ) (xs : List Spelled) (g : Group) (d
   pub are : xs ≡ spelled ∷ []
   pub is : IsRecord k m spelled g.owner g.rtype d
 
-one_record : (k : ℕ) (m : List ℕ) (xs : List Spelled) (g : Group) (d : List ℕ) → AreRecords k m xs g (d ∷ []) → OneRecord k m xs g d
+pub one_record : (k : ℕ) (m : List ℕ) (xs : List Spelled) (g : Group) (d : List ℕ) → AreRecords k m xs g (d ∷ []) → OneRecord k m xs g d
 one_record k m [] g d h = absurd h
 one_record k m (r ∷ []) g d h = record { spelled = r; are = refl; is = h.0 }
 one_record k m (r ∷ s ∷ xs) g d h = absurd h.1

@@ -9,7 +9,7 @@ use Rattle.definitions.specs.Reading.{ReadFault, name_at}
 use Rattle.definitions.proofs.ReadingLaws.{reads_exactly}
 use Rattle.definitions.proofs.SignedLaws.{Labelled, wire_of}
 use Rattle.messages.specs.declared.error.MessageError.{MessageError}
-use Rattle.messages.specs.Message.{Spelled, canonical_data, data_of, fault_of, fits, if_true, name_in, name_upto, ns_data, nsec_at, nsec_data, owner_at, soa_data}
+use Rattle.messages.specs.Message.{Spelled, canonical_data, data_of, fault_of, fits, if_true, name_in, name_upto, ns_data, nsec3_data, nsec_at, nsec_data, owner_at, soa_data}
 use Rattle.messages.specs.Message as message
 use Rattle.messages.proofs.Lists.{some_is}
 use Rattle.messages.proofs.ReadNames.{labelled, reads_labelled}
@@ -71,13 +71,16 @@ next_labelled k m r (Some s) n e h =
 nsec_at_labelled : (k : ℕ) (m : List ℕ) (r : Spelled) (n : Name × List ℕ) → nsec_at k m r ≡ Some n → Labelled n.0
 nsec_at_labelled k m r n h = next_labelled k m r (name_in k m r r.start) n refl h
 
-abbrev canonical_by : ℕ → List ℕ → Spelled → Bool → Bool → Bool → Option (List ℕ)
-canonical_by k m r two six nsec =
+abbrev canonical_by : ℕ → List ℕ → Spelled → Bool → Bool → Bool → Bool → Option (List ℕ)
+canonical_by k m r two six nsec nsec3 =
     elim two [
       | true ↦ ns_data k m r
       | false ↦ elim six [
         | true ↦ soa_data k m r
-        | false ↦ elim nsec [ true ↦ nsec_data k m r | false ↦ Some (data_of m r) ]
+        | false ↦ elim nsec [
+          | true ↦ nsec_data k m r
+          | false ↦ elim nsec3 [ true ↦ nsec3_data m r | false ↦ Some (data_of m r) ]
+        ]
       ]
     ]
 
@@ -86,11 +89,15 @@ canonical_nsec k m r e =
     let two : eqb r.rtype 2 ≡ false = ne_eqb r.rtype 2 (λ h. omega (arith, e, h)) in
     let six : eqb r.rtype 6 ≡ false = ne_eqb r.rtype 6 (λ h. omega (arith, e, h)) in
     let nsec : eqb r.rtype 47 ≡ true = eq-eqb r.rtype 47 e in
-    λ i. canonical_by k m r (two i) (six i) (nsec i)
+    λ i. canonical_by k m r (two i) (six i) (nsec i) (eqb r.rtype 50)
 
 -- data of a type without names are their octets
-pub canonical_octets : (k : ℕ) (m : List ℕ) (r : Spelled) → eqb r.rtype 2 ≡ false → eqb r.rtype 6 ≡ false → eqb r.rtype 47 ≡ false → canonical_data k m r ≡ Some (data_of m r)
-canonical_octets k m r two six nsec = λ i. canonical_by k m r (two i) (six i) (nsec i)
+pub canonical_octets : (k : ℕ) (m : List ℕ) (r : Spelled) → eqb r.rtype 2 ≡ false → eqb r.rtype 6 ≡ false → eqb r.rtype 47 ≡ false → eqb r.rtype 50 ≡ false → canonical_data k m r ≡ Some (data_of m r)
+canonical_octets k m r two six nsec nsec3 = λ i. canonical_by k m r (two i) (six i) (nsec i) (nsec3 i)
+
+-- those of an NSEC3 record are canonical as they stand
+pub canonical_nsec3 : (k : ℕ) (m : List ℕ) (r : Spelled) → r.rtype ≡ 50 → canonical_data k m r ≡ nsec3_data m r
+canonical_nsec3 k m r e = λ i. canonical_by k m r (eqb (e i) 2) (eqb (e i) 6) (eqb (e i) 47) (eqb (e i) 50)
 
 abbrev nsec_joined : Option (Name × List ℕ) → Option (List ℕ)
 nsec_joined o = elim o [ None ↦ None | Some n ↦ Some (wire n.0 ++ n.1) ]

@@ -1,11 +1,12 @@
 -- What signatures verify of an RRset does not depend on the case of its owner, nor of the signer.
-use Rattle.std.proofs.Common.{◌≡◌, ℕ, ◌-◌, Bool, true, false, ◌&&◌, ◌||◌, not, ◌==◌, List, ◌∷◌, [], ◌++◌, length, drop, sym, ap, ◌∙◌}
+use Rattle.std.proofs.Common.{◌≡◌, ℕ, ◌-◌, Bool, true, false, ◌&&◌, ◌||◌, not, ◌==◌, List, ◌∷◌, [], ◌++◌, length, drop, get_or, refl, sym, ap, ◌∙◌}
 use Rattle.std.specs.Prelude.{Some, None, nat_le, nat_lt, if◌then◌else◌}
 use Rattle.std.specs.List.{find, filter_map, list_any, flat_map}
 use Rattle.std.specs.Int.{w16, w32, to_be_bytes}
-use Rattle.std.specs.Str.{str_to_ascii_lowercase}
+use Rattle.std.specs.Str.{bytes_eq, str_to_ascii_lowercase}
 use Rattle.std.proofs.lemmas.List.{length-map}
 use Rattle.definitions.specs.Name.{Name, low, labels_eq, same, at_or_above, wire}
+use Rattle.definitions.specs.Base32hex.{base32hex}
 use Rattle.definitions.specs.Dnskey.{Dnskey}
 use Rattle.definitions.specs.Zone.{sorted_data}
 use Rattle.definitions.specs.Signing.{Fields, in_time, label_count, signed_owner, signed_octets, fields_data, canonical_record}
@@ -13,7 +14,8 @@ use Rattle.answer_scheme.specs.Answers.{Answers}
 use Rattle.answer_judge.specs.Facts.{is_signature, signs, is_due, fits_key, labels_fit, may_expand}
 use Rattle.messages.specs.Message.{Spelled, canonical_data, rrsig_at}
 use Rattle.messages.specs.Record.{Signature, fields_of, fields_read}
-use Rattle.answer_judge.specs.Verified.{Trusting, datum_of, rrset_in, verifies_with, is_verified}
+use Rattle.numbers.specs.Decoding.{decoded}
+use Rattle.answer_judge.specs.Verified.{Trusting, datum_of, rrset_in, spells_hash, verifies_with, is_verified}
 use Rattle.messages.proofs.ZoneNames.{low-low, at_or_above-low}
 use Rattle.answer_terms.proofs.ZoneData.{label_count-low}
 
@@ -63,6 +65,15 @@ verifies_with-owner w k m a b t items r h =
 
 pub is_verified-owner : (w : Trusting) (k : ℕ) (m : List ℕ) (rs : List Spelled) (a b : Name) (t : ℕ) (items : List (List ℕ)) → low a ≡ low b → is_verified w k m rs a t items ≡ is_verified w k m rs b t items
 is_verified-owner w k m rs a b t items h = (λ i. list_any (λ r. verifies_with-owner w k m a b t items r h i) rs)
+
+pub spells-owner : (apex a b : Name) → low a ≡ low b → spells_hash apex a ≡ spells_hash apex b
+spells-owner apex [] [] h = refl
+spells-owner apex [] (k ∷ b) h = cc
+spells-owner apex (l ∷ a) [] h = cc
+spells-owner apex (l ∷ a) (k ∷ b) h =
+    let first : str_to_ascii_lowercase l ≡ str_to_ascii_lowercase k = ap (λ n. get_or n 0 []) h in
+    let rest : low a ≡ low b = ap (drop 1) h in
+    (λ i. labels_eq (rest i) (low apex) && bytes_eq (base32hex (decoded (first i))) (first i))
 
 -- ---- signers
 

@@ -3,7 +3,7 @@ use Rattle.std.proofs.Common.{◌≡◌, ℕ, Bool, true, false, not, ◌&&◌, 
 use Rattle.std.specs.Prelude.{Option, Some, None, Ok, Err, nat_eq, if◌then◌else◌}
 use Rattle.std.specs.Option.{option_map, ok_or}
 use Rattle.definitions.specs.Dnskey.{Dnskey, dnskey_data}
-use Rattle.definitions.specs.Zone.{Verdict, sorted_data}
+use Rattle.definitions.specs.Zone.{sorted_data}
 use Rattle.definitions.specs.Limits.{pointer_limit}
 use Rattle.answer_scheme.specs.Answers.{Answers}
 use Rattle.answer_judge.specs.Facts.{is_usable, is_trusted, RefusesFirst}
@@ -17,7 +17,7 @@ use Rattle.answer_terms.specs.EqualTags.{has_equal_tags}
 use Rattle.answer_rules.specs.Rules.{verdict_of}
 use Rattle.messages.specs.Message.{Asked, Message, Spelled, message}
 use Rattle.answer_judge.specs.Verified.{is_verified, verified_facts}
-use Rattle.answer_judge.specs.Judged.{trusting, keys_of, is_chained, by_facts, decided_by, judged_answer, judged_messages, judged_bytes, judged_beyond, said, AnswersAs}
+use Rattle.answer_judge.specs.Judged.{trusting, keys_of, is_chained, by_facts, judged_answer, judged_facts, judged_messages, judged_bytes, judged_beyond, said, AnswersAs}
 
 -- both messages were read, and they bring no refusal
 pub beyond : (a : Answers) (k : ℕ) (h : Handing) (keys answer : Message) → message k h.dnskey_bytes ≡ Ok keys → message k h.answer_bytes ≡ Ok answer → message_refusal k h ≡ None → judged_beyond a k h ≡ judged_messages a k h keys answer
@@ -68,11 +68,11 @@ untrusted a h keys answer e chained =
     inr (sym (e ∙ ap (λ b. elim b as (λ _. Answer) [ true ↦ judged_answer a pointer_limit h (filter is_usable (keys_of h keys)) answer | false ↦ Refuses r.NoTrustedKey ]) (sym chained)))
 
 -- they are, and what was verified of the answer decides
-pub decided_as : (a : Answers) (h : Handing) (keys answer : Message) (usable : List Dnskey) (rs : List Spelled) (facts : Facts) (v : Option Verdict) → judged_beyond a pointer_limit h ≡ judged_messages a pointer_limit h keys answer → true ≡ is_chained a pointer_limit h keys
-    → usable ≡ filter is_usable (keys_of h keys) → rs ≡ answer.records → facts ≡ verified_facts (trusting a h usable) pointer_limit h.answer_bytes rs h.asked.name h.asked.rtype → v ≡ decided_by a h facts → by_facts v ≡ judged_beyond a pointer_limit h
-decided_as a h keys answer usable rs facts v e chained u s f d =
-    ap by_facts (d ∙ ap (decided_by a h) f)
-    ∙ (λ i. by_facts (decided_by a h (verified_facts (trusting a h (u i)) pointer_limit h.answer_bytes (s i) h.asked.name h.asked.rtype)))
+pub decided_as : (a : Answers) (h : Handing) (keys answer : Message) (usable : List Dnskey) (rs : List Spelled) (facts : Facts) → judged_beyond a pointer_limit h ≡ judged_messages a pointer_limit h keys answer → true ≡ is_chained a pointer_limit h keys
+    → usable ≡ filter is_usable (keys_of h keys) → rs ≡ answer.records → facts ≡ verified_facts (trusting a h usable) pointer_limit h.answer_bytes rs h.asked.name h.asked.rtype → judged_facts a h facts ≡ judged_beyond a pointer_limit h
+decided_as a h keys answer usable rs facts e chained u s f =
+    ap (judged_facts a h) f
+    ∙ (λ i. judged_facts a h (verified_facts (trusting a h (u i)) pointer_limit h.answer_bytes (s i) h.asked.name h.asked.rtype))
     ∙ ap (λ b. elim b as (λ _. Answer) [ true ↦ judged_answer a pointer_limit h (filter is_usable (keys_of h keys)) answer | false ↦ Refuses r.NoTrustedKey ]) chained
     ∙ sym e
 

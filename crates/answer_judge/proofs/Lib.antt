@@ -15,6 +15,10 @@ pub mod OwnAnswer
 pub mod GivenFacts
 pub mod GivenNext
 pub mod GivenLinks
+pub mod GivenHashes
+pub mod OwnHashed
+pub mod OwnBehind
+pub mod GivenHashing
 pub mod GivenAnswers
 pub mod GivenSorted
 pub mod GivenKeys
@@ -26,3 +30,6 @@ pub mod JudgeTotals
 pub mod GivenGroups
 pub mod FirstSigns
 pub mod ZoneSorting
+pub mod HashOwners
+pub mod ShortData
+pub mod JudgeHashes

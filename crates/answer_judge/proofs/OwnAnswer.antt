@@ -25,7 +25,7 @@ use Rattle.answer_terms.specs.Accepting.{zone_with}
 use Rattle.answer_terms.specs.Served.{Group, Served, ahead, ahead_open, expanded, if_any, owner_among, rrset, served_of, soa, under, unsigned_ns}
 use Rattle.answer_terms.proofs.ZoneData.{label_count-low, low-owner_among}
 use Rattle.answer_judge.specs.Facts.{may_expand}
-use Rattle.answer_judge.proofs.GivenGroups.{has_twins, is_nsec, is_rrset}
+use Rattle.answer_judge.proofs.GivenGroups.{has_twins, is_nsec, is_nsec3, is_rrset}
 use Rattle.answer_judge.proofs.GivenRrset.{is_ordinary, is_signed_rrset}
 use Rattle.answer_judge.proofs.GivenSignatures.{fits_equal, fits_owner}
 use Rattle.answer_judge.proofs.GivenSorted.{data_has, in_has, some_length, sorted_twice}
@@ -49,6 +49,7 @@ Proves apex q t gs (Some r) = (g : Group) × Has gs g × IsRrsetOf apex q t g r
 pub record IsFront (apex q : Name) (t : ℕ) (front : List Group) (r : Option Rrset) : Type 0 where
   pub ordinary : AllByRecursion is_ordinary front
   pub beside : AllByRecursion (λ g. is_nsec g ≡ false) front
+  pub unhashed : AllByRecursion (λ g. is_nsec3 g ≡ false) front
   pub alone : has_twins front ≡ false
   pub proves : Proves apex q t front r
 
@@ -78,6 +79,7 @@ module _ (apex : Name) (mode : Mode) (hash : Name → List ℕ) (rs : List Hande
   asked_front o r h fits is = record {
     ordinary = (not_rrsig, tt);
     beside = (not_nsec, tt);
+    unhashed = (not_nsec3, tt);
     alone = refl;
     proves = (
       under q (rrset s o t),
@@ -119,6 +121,7 @@ module _ (apex : Name) (mode : Mode) (hash : Name → List ℕ) (rs : List Hande
   soa_front other = record {
     ordinary = (refl, tt);
     beside = (refl, tt);
+    unhashed = (refl, tt);
     alone = refl;
     proves = or_from _ _ (and_left (is_rrset q t (soa s)) true (false_from_ne_true _ (λ y.
         let both = and_parts (eqb 6 t) (same (owner_among rs (low apex) 6) q) y in
@@ -141,7 +144,7 @@ module _ (apex : Name) (mode : Mode) (hash : Name → List ℕ) (rs : List Hande
   unasked c = and_right (is_rrset q t (unsigned c)) false refl
 
   ns_front : (c : Name) → IsFront apex q t (unsigned_ns s c) None
-  ns_front c = record { ordinary = (refl, tt); beside = (refl, tt); alone = refl; proves = or_from _ _ (unasked c) refl }
+  ns_front c = record { ordinary = (refl, tt); beside = (refl, tt); unhashed = (refl, tt); alone = refl; proves = or_from _ _ (unasked c) refl }
 
   -- with it DS where the delegation has it, which is not asked for
   ds_front : (c : Name) → low c ≡ c → (labels_eq c (low q) && (t == 43)) ≡ false → IsFront apex q t (unsigned_ns s c ++ if_any s c 43) None
@@ -156,7 +159,7 @@ module _ (apex : Name) (mode : Mode) (hash : Name → List ℕ) (rs : List Hande
           false≢true (sym n ∙ and_from _ _ (ap (λ m. labels_eq m (low q)) (sym owner) ∙ both.1) (eqb-back t 43 ∙ both.0))))
 
       go : (b : Bool) → IsFront apex q t (unsigned c ∷ (if b then rrset s c 43 ∷ [] else [])) None
-      go true = record { ordinary = (refl, (refl, tt)); beside = (refl, (refl, tt)); alone = refl; proves = or_from _ _ (unasked c) (or_from _ _ ds refl) }
+      go true = record { ordinary = (refl, (refl, tt)); beside = (refl, (refl, tt)); unhashed = (refl, (refl, tt)); alone = refl; proves = or_from _ _ (unasked c) (or_from _ _ ds refl) }
       go false = ns_front c
 
   own_cut : (c : Name) → cut z (low q) ≡ Some c → (labels_eq c (low q) && (t == 43)) ≡ false → Front Delegated

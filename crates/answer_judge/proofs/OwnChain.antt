@@ -1,5 +1,7 @@
 -- The RRsets of a zone's NSEC records in an answer: they are apart, and say the links of the zone's own facts, up to case.
 use Rattle.std.proofs.Common.{◌≡◌, ℕ, Bool, true, false, ◌&&◌, ◌||◌, cond, List, [], ◌∷◌, ◌++◌, map, eqb, refl, sym, ap, ◌∙◌, inl, inr}
+use Rattle.std.specs.Cmp.{IsTotalOrder}
+use Rattle.std.specs.declared.cmp.Ordering.{Ordering}
 use Rattle.std.specs.declared.cmp.Ordering.TheVariants.{Less, Equal}
 use Rattle.std.specs.List.{AllByRecursion, AllZip, filter, list_any}
 use Rattle.std.proofs.lemmas.Bool.{false_from_ne_true, false≢true, or_from, or_parts}
@@ -24,7 +26,7 @@ use Rattle.answer_terms.specs.Accepting.{rr_of, zone_with}
 use Rattle.answer_terms.specs.Served.{Group, chain_record, served_of, spelled_among, spelled_as}
 use Rattle.answer_terms.proofs.ZoneData.{label_count-low, low-spelled_among}
 use Rattle.answer_terms.specs.FactsCase.{low_link}
-use Rattle.answer_judge.proofs.GivenGroups.{SaysLink, has_twins, is_nsec, is_rrset}
+use Rattle.answer_judge.proofs.GivenGroups.{SaysLink, has_twins, is_rrset}
 
 -- the labels of each owner are labels
 abbrev pub AreNamed : List HandedRr → Type 0
@@ -45,7 +47,7 @@ spelled_named (r ∷ rs) h n i = go (labels_eq (low r.owner) n) refl (λ j. spel
 low-spelled : (rs : List HandedRr) (n : Name) → low n ≡ n → low (spelled_among rs n) ≡ n
 low-spelled rs n l = ap (λ m. low (spelled_among rs m)) (sym l) ∙ low-spelled_among rs n ∙ l
 
-low-spelled_as : (apex : Name) (rs : List HandedRr) (n : Name) → low n ≡ n → low (spelled_as apex rs n) ≡ n
+pub low-spelled_as : (apex : Name) (rs : List HandedRr) (n : Name) → low n ≡ n → low (spelled_as apex rs n) ≡ n
 low-spelled_as apex rs n l = go (labels_eq (low apex) n) refl
   where
     go : (b : Bool) → labels_eq (low apex) n ≡ b → low (cond b apex (spelled_among rs n)) ≡ n
@@ -59,24 +61,45 @@ spelled_as_named apex rs a h n i = go (labels_eq (low apex) n)
     go true = a
     go false = spelled_named rs h n i
 
--- ---- lists of names
+-- ---- lists of RRsets
 
-all_nsec : (f : Name → Group) → ((o : Name) → is_nsec (f o) ≡ true) → (ns : List Name) → filter is_nsec (map f ns) ≡ map f ns
-all_nsec f h [] = refl
-all_nsec f h (o ∷ ns) = ap (λ b. cond b (f o ∷ filter is_nsec (map f ns)) (filter is_nsec (map f ns))) (h o) ∙ ap (λ gs. f o ∷ gs) (all_nsec f h ns)
+-- all of them are of a kind, or none
+all_kept : (p : Group → Bool) (f : Name → Group) → ((o : Name) → p (f o) ≡ true) → (ns : List Name) → filter p (map f ns) ≡ map f ns
+all_kept p f h [] = refl
+all_kept p f h (o ∷ ns) = ap (λ b. cond b (f o ∷ filter p (map f ns)) (filter p (map f ns))) (h o) ∙ ap (λ gs. f o ∷ gs) (all_kept p f h ns)
 
-none_nsec : (gs : List Group) → AllByRecursion (λ g. is_nsec g ≡ false) gs → filter is_nsec gs ≡ []
-none_nsec [] h = refl
-none_nsec (g ∷ gs) h = ap (λ b. cond b (g ∷ filter is_nsec gs) (filter is_nsec gs)) h.0 ∙ none_nsec gs h.1
+pub none_kept : (p : Group → Bool) (gs : List Group) → AllByRecursion (λ g. p g ≡ false) gs → filter p gs ≡ []
+none_kept p [] h = refl
+none_kept p (g ∷ gs) h = ap (λ b. cond b (g ∷ filter p gs) (filter p gs)) h.0 ∙ none_kept p gs h.1
 
--- what is kept of names that rise rises
-pub kept_rise : (p : Name → Bool) (ns : List Name) → Rises name_cmp name_cmp_total ns → Rises name_cmp name_cmp_total (filter p ns)
-kept_rise p [] h = tt
-kept_rise p (n ∷ ns) h = go (p n) (kept_rise p ns h.1)
+-- behind others
+pub kept_behind : (p : Group → Bool) (f : Name → Group) → ((o : Name) → p (f o) ≡ true) → (front : List Group) (ns : List Name) → AllByRecursion (λ g. p g ≡ false) front → filter p (front ++ map f ns) ≡ map f ns
+kept_behind p f h front ns none = filter-append p front (map f ns) ∙ (λ i. none_kept p front none i ++ all_kept p f h ns i)
+
+-- what is kept of items that rise rises
+pub kept_rise : (R : Name → Name → Ordering) (o : IsTotalOrder R) (p : Name → Bool) (ns : List Name) → Rises R o ns → Rises R o (filter p ns)
+kept_rise R o p [] h = tt
+kept_rise R o p (n ∷ ns) h = go (p n) (kept_rise R o p ns h.1)
   where
-    go : (b : Bool) → Rises name_cmp name_cmp_total (filter p ns) → Rises name_cmp name_cmp_total (cond b (n ∷ filter p ns) (filter p ns))
+    go : (b : Bool) → Rises R o (filter p ns) → Rises R o (cond b (n ∷ filter p ns) (filter p ns))
     go true r = ((λ x i. h.0 x (filter_in p ns x i).0), r)
     go false r = r
+
+-- RRsets of one type are none of another
+pub all_other : (f : Name → Group) (u : ℕ) → ((n : Name) → (f n).rtype ≡ u) → (o : Name) (t : ℕ) → eqb u t ≡ false → (ns : List Name) → list_any (is_rrset o t) (map f ns) ≡ false
+all_other f u k o t e [] = refl
+all_other f u k o t e (n ∷ ns) = λ i. ((ap (λ x. eqb x t) (k n) ∙ e) i && same (f n).owner o) || all_other f u k o t e ns i
+
+other_way : (a b : ℕ) → eqb a b ≡ false → eqb b a ≡ false
+other_way a b e = eqb-back b a ∙ e
+
+pub apart_behind : (f : Name → Group) (u : ℕ) → ((n : Name) → (f n).rtype ≡ u) → (front : List Group) (ns : List Name) → AllByRecursion (λ g. eqb g.rtype u ≡ false) front → has_twins front ≡ false → has_twins (map f ns) ≡ false → has_twins (front ++ map f ns) ≡ false
+apart_behind f u k [] ns h alone e = e
+apart_behind f u k (g ∷ gs) ns h alone e =
+    let parts = or_parts (list_any (is_rrset g.owner g.rtype) gs) (has_twins gs) alone in
+    or_from _ _
+    (list_any-append (is_rrset g.owner g.rtype) gs (map f ns) ∙ or_from _ _ parts.0 (all_other f u k g.owner g.rtype (other_way g.rtype u h.0) ns))
+    (apart_behind f u k gs ns h.1 parts.1 e)
 
 map_within : {A B : Type 0} (f g : A → B) (xs : List A) → ((x : A) → In x xs → f x ≡ g x) → map f xs ≡ map g xs
 map_within f g [] h = refl
@@ -107,11 +130,6 @@ module _ (apex : Name) (rs : List HandedRr) (hash : Name → List ℕ) where
 
   pub chain_labels : (o : Name) → In o (nsec_names z) → label_count (chain_group o).source ≡ label_count (chain_group o).owner
   chain_labels o i = ap label_count (sym (low-chain_owner o i)) ∙ label_count-low (chain_group o).owner
-
-  -- no RRset of theirs is of another type
-  pub chain_other : (o : Name) (t : ℕ) → eqb 47 t ≡ false → (ns : List Name) → list_any (is_rrset o t) (map chain_group ns) ≡ false
-  chain_other o t e [] = refl
-  chain_other o t e (n ∷ ns) = λ i. (e i && same (chain_group n).owner o) || chain_other o t e ns i
 
   unlike : (o n : Name) → In o (nsec_names z) → In n (nsec_names z) → name_cmp o n ≡ Less → same (chain_group n).owner (chain_group o).owner ≡ false
   unlike o n i j l = false_from_ne_true _ (λ e.
@@ -153,19 +171,3 @@ module _ (apex : Name) (rs : List HandedRr) (hash : Name → List ℕ) where
         let i : In o (nsec_names z) = f o (inl refl) in
         let next : AllByRecursion IsLabel (spelled_as apex rs (nsec_next z o)) = spelled_as_named apex rs a h (nsec_next z o) (live_owner z (nsec_next z o) (next_in z s o i)).0 in
         (record { owner_is = refl; labels = next; data_are = refl }, chain_says a h ns (λ n j. f n (inr j)))
-
-  -- ---- behind other RRsets
-
-  pub nsec_behind : (front : List Group) (ns : List Name) → AllByRecursion (λ g. is_nsec g ≡ false) front → filter is_nsec (front ++ map chain_group ns) ≡ map chain_group ns
-  nsec_behind front ns h = filter-append is_nsec front (map chain_group ns) ∙ (λ i. none_nsec front h i ++ all_nsec chain_group (λ o. refl) ns i)
-
-  other_way : (a b : ℕ) → eqb a b ≡ false → eqb b a ≡ false
-  other_way a b e = eqb-back b a ∙ e
-
-  pub apart_behind : (front : List Group) (ns : List Name) → AllByRecursion (λ g. is_nsec g ≡ false) front → has_twins front ≡ false → has_twins (map chain_group ns) ≡ false → has_twins (front ++ map chain_group ns) ≡ false
-  apart_behind [] ns h alone e = e
-  apart_behind (g ∷ gs) ns h alone e =
-      let parts = or_parts (list_any (is_rrset g.owner g.rtype) gs) (has_twins gs) alone in
-      or_from _ _
-      (list_any-append (is_rrset g.owner g.rtype) gs (map chain_group ns) ∙ or_from _ _ parts.0 (chain_other g.owner g.rtype (other_way g.rtype 47 h.0) ns))
-      (apart_behind gs ns h.1 parts.1 e)

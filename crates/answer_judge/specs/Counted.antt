@@ -9,10 +9,12 @@ use Rattle.definitions.specs.Zone.{sorted_data}
 use Rattle.messages.specs.Message.{Message, Spelled, message, rrsig_at}
 use Rattle.answer_scheme.specs.Answers.{Answers}
 use Rattle.answer_judge.specs.Facts.{fits_key, is_due, is_signature, is_trusted, is_usable}
-use Rattle.answer_judge.specs.Judged.{is_chained, keys_of, trusting}
+use Rattle.denial_rules.specs.Facts.{Facts}
+use Rattle.answer_rules.specs.Hashes.{hashed_for}
+use Rattle.answer_judge.specs.Judged.{are_mixed, are_over, facts_in, is_chained, keys_of, trusting}
 use Rattle.answer_judge.specs.Judging.{Answer, Handing, Refuses, first_refusal, message_refusal}
 use Rattle.answer_judge.specs.declared.judging.verdict.Refusal.TheVariants as r
-use Rattle.answer_judge.specs.Verified.{Trusting, is_verified, rrset_in}
+use Rattle.answer_judge.specs.Verified.{Trusting, is_hash_alone, is_verified, rrset_in}
 
 abbrev pub one_if : Bool → ℕ
 one_if b = if b then 1 else 0
@@ -54,10 +56,10 @@ keys_sought apex ks = record { is = λ o t. (48 == t) && same o apex; datas = λ
 abbrev pub is_alone : ℕ → List ℕ → Name → List Spelled → Name → Bool
 is_alone k m apex rs owner = at_or_above apex owner && (length (rrset_in k m rs owner 47) == 1)
 
--- the RRset that was asked for, and the NSEC RRsets of one record
+-- the RRset that was asked for, and the NSEC and NSEC3 RRsets of one record
 abbrev pub answer_sought : ℕ → List ℕ → Name → List Spelled → Name → ℕ → Sought
 answer_sought k m apex rs name rtype = record {
-  is = λ o t. ((47 == t) && is_alone k m apex rs o) || ((rtype == t) && same o name);
+  is = λ o t. ((47 == t) && is_alone k m apex rs o) || ((50 == t) && is_hash_alone k m apex rs o) || ((rtype == t) && same o name);
   datas = λ o t. rrset_in k m rs o t;
 }
 
@@ -95,6 +97,37 @@ verifications_due a k h = elim (first_refusal k h) [
   | None ↦ if nat_eq (length h.ds) 0 then 0 else tries_in_bytes a k h
 ]
 
+-- ---- names that are hashed: until one fails, beside links of one kind and within the limit
+
+abbrev pub hashes_of_facts : Answers → Handing → Facts → ℕ
+hashes_of_facts a h f = if are_mixed f.hash_links || are_over h.limit f.hash_links then 0 else length (hashed_for a.hash h.apex f h.asked.name)
+
+abbrev pub hashes_in_messages : Answers → ℕ → Handing → Message → Message → ℕ
+hashes_in_messages a k h keys answer = elim (is_chained a k h keys) [
+  | true ↦ hashes_of_facts a h (facts_in a k h (filter is_usable (keys_of h keys)) answer)
+  | false ↦ 0
+]
+
+abbrev pub hashes_in_bytes : Answers → ℕ → Handing → ℕ
+hashes_in_bytes a k h = elim (message k h.dnskey_bytes) [
+  | Err e ↦ 0
+  | Ok keys ↦ elim (message k h.answer_bytes) [ Err e ↦ 0 | Ok answer ↦ hashes_in_messages a k h keys answer ]
+]
+
+abbrev pub hashes_beyond : Answers → ℕ → Handing → ℕ
+hashes_beyond a k h = elim (message_refusal k h) [ Some e ↦ 0 | None ↦ hashes_in_bytes a k h ]
+
+-- the names that a judgement hashes, memory aside
+abbrev pub hashes_due : Answers → ℕ → Handing → ℕ
+hashes_due a k h = elim (first_refusal k h) [
+  | Some e ↦ 0
+  | None ↦ if nat_eq (length h.ds) 0 then 0 else hashes_in_bytes a k h
+]
+
 -- this is the count, or memory ran out
 abbrev pub Counts : Answer → ℕ → ℕ → Type 0
 Counts answer count due = (answer ≡ Refuses r.Memory) ⊎ (count ≡ due)
+
+-- a count of calls has risen by this, or memory ran out
+abbrev pub Rises : Answer → ℕ → ℕ → ℕ → Type 0
+Rises answer old new due = (answer ≡ Refuses r.Memory) ⊎ (new ≡ old + due)

@@ -1,12 +1,14 @@
 -- What a judge says of two messages (RFC 4035, 5).
-use Rattle.std.specs.Prelude.{◌≡◌, ◌⊎◌, ℕ, Bool, true, false, List, [], ◌∷◌, map, filter, length, Option, Some, None, Ok, Err, nat_eq, unwrap_or, if◌then◌else◌, Result}
-use Rattle.definitions.specs.Name.{Name, low, wire}
+use Rattle.std.specs.Prelude.{◌≡◌, ◌⊎◌, ℕ, Bool, true, false, List, [], ◌∷◌, map, filter, length, Option, Some, None, Ok, Err, nat_eq, if◌then◌else◌, Result, nat_lt, not, ◌&&◌, ◌==◌}
+use Rattle.std.specs.List.{list_any}
+use Rattle.std.specs.Str.{bytes_eq}
 use Rattle.definitions.specs.Dnskey.{Dnskey, dnskey_data}
 use Rattle.definitions.specs.Zone.{Verdict, Unsigned, sorted_data}
 use Rattle.answer_scheme.specs.Answers.{Answers}
 use Rattle.answer_judge.specs.Facts.{is_usable, is_trusted}
 use Rattle.denial_rules.specs.Deciding.{decided}
 use Rattle.denial_rules.specs.Facts.{Facts, HashLink}
+use Rattle.answer_rules.specs.Hashes.{fails_among, hash_among, hashed_for}
 use Rattle.answer_rules.specs.declared.verdict.Verdict.{Verdict as CodeVerdict}
 use Rattle.answer_judge.specs.declared.judging.verdict.Refusal.{Refusal}
 use Rattle.answer_judge.specs.declared.judging.verdict.Refusal.TheVariants as r
@@ -35,16 +37,35 @@ by_facts (Some v) = Says v
 abbrev pub facts_in : Answers → ℕ → Handing → List Dnskey → Message → Facts
 facts_in a k h usable answer = verified_facts (trusting a h usable) k h.answer_bytes answer.records h.asked.name h.asked.rtype
 
--- names are hashed as the first link of a chain of hashes says; a hash that fails is no octets
-abbrev pub hash_among : (List ℕ → ℕ → ℕ → List ℕ → Option (List ℕ)) → List HashLink → Name → List ℕ
-hash_among hash [] n = []
-hash_among hash (l ∷ ls) n = unwrap_or (hash (wire (low n)) 1 l.iterations l.salt) []
+-- Records of one chain are hashed alike: a mixture could prove of one name what another chain says (RFC 5155, 8.2).
+abbrev pub are_alike : HashLink → HashLink → Bool
+are_alike a b = (a.iterations == b.iterations) && bytes_eq a.salt b.salt
+
+abbrev pub are_mixed : List HashLink → Bool
+are_mixed [] = false
+are_mixed (l ∷ ls) = list_any (λ m. not (are_alike l m)) ls
+
+-- what a judge is ready to hash (RFC 5155, 10.3; RFC 9276, 3.2)
+abbrev pub are_over : ℕ → List HashLink → Bool
+are_over limit ls = list_any (λ l. nat_lt limit l.iterations) ls
 
 abbrev pub decided_by : Answers → Handing → Facts → Option Verdict
 decided_by a h f = decided h.apex (hash_among a.hash f.hash_links) f h.asked.name h.asked.rtype
 
+-- a name that cannot be hashed
+abbrev pub is_unhashed : Answers → Handing → Facts → Bool
+is_unhashed a h f = list_any (fails_among a.hash f.hash_links) (hashed_for a.hash h.apex f h.asked.name)
+
+-- the refusals that links of hashes bring, in order
+abbrev pub judged_facts : Answers → Handing → Facts → Answer
+judged_facts a h f =
+    if are_mixed f.hash_links then Refuses r.MixedNsec3Parameters
+    else if are_over h.limit f.hash_links then Refuses r.IterationsOverLimit
+    else if is_unhashed a h f then Refuses r.HashFailed
+    else by_facts (decided_by a h f)
+
 abbrev pub judged_answer : Answers → ℕ → Handing → List Dnskey → Message → Answer
-judged_answer a k h usable answer = by_facts (decided_by a h (facts_in a k h usable answer))
+judged_answer a k h usable answer = judged_facts a h (facts_in a k h usable answer)
 
 abbrev pub judged_messages : Answers → ℕ → Handing → Message → Message → Answer
 judged_messages a k h keys answer = elim (is_chained a k h keys) [ true ↦ judged_answer a k h (filter is_usable (keys_of h keys)) answer | false ↦ Refuses r.NoTrustedKey ]

@@ -7,3 +7,4 @@ pub mod Meeting
 pub mod Counted
 pub mod FirstSignature
 pub mod OwnFacts
+pub mod HashRefusal

@@ -1,16 +1,16 @@
 -- RRsets of a message, and which of them are verified, as contracts see them.
-use Rattle.std.specs.Prelude.{◌≡◌, Bool, true, false, not, ◌&&◌, ◌==◌, ℕ, ◌+◌, List, [], ◌∷◌, map, length, Option, Some, None, is_some}
+use Rattle.std.specs.Prelude.{◌≡◌, Bool, true, false, not, ◌&&◌, ◌||◌, ◌==◌, ℕ, ◌+◌, ◌≤◌, List, [], ◌∷◌, map, length, Option, Some, None, is_some, if◌then◌else◌}
 use Rattle.std.specs.List.{list_any, AllByRecursion}
 use Rattle.std.specs.Cow.{cow_slice_items}
 use Rattle.definitions.specs.Name.{Name, same, at_or_above}
 use Rattle.definitions.specs.Limits.{pointer_limit}
 use Rattle.answer_scheme.specs.Answers.{Answers}
-use Rattle.answer_judge.specs.Counted.{can_try, one_if}
+use Rattle.answer_judge.specs.Counted.{can_try, is_alone, one_if}
 use Rattle.definitions.specs.Signing.{Fields}
 use Rattle.answer_judge.specs.Facts.{is_signature, signs}
-use Rattle.denial_rules.specs.Facts.{Link, Rrset}
-use Rattle.messages.specs.Message.{Spelled, rrsig_at}
-use Rattle.answer_judge.specs.Verified.{Trusting, verified_by, rrset_in, link_of}
+use Rattle.denial_rules.specs.Facts.{HashLink, Link, Rrset}
+use Rattle.messages.specs.Message.{Spelled, nsec3_at, rrsig_at}
+use Rattle.answer_judge.specs.Verified.{Trusting, hash_link_with, is_hash_alone, link_of, one_known, rrset_in, spells_hash, verified_by}
 use Rattle.answer_judge.specs.declared.judging.groups.Signed.{Signed}
 use Rattle.std.specs.Option.{option_map}
 use Rattle.answer_judge.specs.declared.judging.groups.Group.{Group}
@@ -81,33 +81,48 @@ abbrev pub tries_in : Trusting → List ℕ → List Group → List Spelled → 
 tries_in w m gs [] = 0
 tries_in w m gs (r ∷ rs) = one_if (is_tried_in w m gs r) + tries_in w m (map (marked w m (r ∷ [])) gs) rs
 
--- ---- NSEC records
+-- ---- records of chains
 
--- a group has an owner, up to case
-abbrev pub has_owner : Name → Group → Bool
-has_owner owner g = same owner g.owner
+-- NSEC and NSEC3
+abbrev pub is_chain_type : ℕ → Bool
+is_chain_type t = (t == 47) || (t == 50)
 
--- and is verified
-abbrev pub is_proved : Name → Group → Bool
-is_proved owner g = is_some g.verified && same owner g.owner
+abbrev pub is_chain : Spelled → Bool
+is_chain r = is_chain_type r.rtype && (r.class == 1)
 
-abbrev pub is_nsec : Spelled → Bool
-is_nsec r = (r.rtype == 47) && (r.class == 1)
+-- a record of a type, class IN
+abbrev pub is_record_of : ℕ → Spelled → Bool
+is_record_of t r = (r.rtype == t) && (r.class == 1)
 
--- an owner at or below the apex, whose NSEC RRset is one record
-abbrev pub stands_alone : List ℕ → Name → List Spelled → Name → Bool
-stands_alone m apex rs owner = at_or_above apex owner && (length (rrset_in pointer_limit m rs owner 47) == 1)
+-- where records of such a type stand
+abbrev pub has_place : ℕ → Name → Name → Bool
+has_place t apex owner = if t == 50 then spells_hash apex owner else at_or_above apex owner
 
--- the NSEC RRset of such an owner, not yet verified
+-- data that are one record of such a type
+abbrev pub holds_one : ℕ → List (List ℕ) → Bool
+holds_one t ds = if t == 50 then one_known ds else length ds == 1
+
+-- an owner whose RRset of a chain's type is one record and stands where such records do
+abbrev pub stands_alone : List ℕ → Name → List Spelled → ℕ → Name → Bool
+stands_alone m apex rs t owner = ((47 == t) && is_alone pointer_limit m apex rs owner) || ((50 == t) && is_hash_alone pointer_limit m apex rs owner)
+
+-- data of NSEC3 records are no longer than a message can say
+abbrev pub AreShort : Group → Type 0
+AreShort g = g.rtype ≡ 50 → AllByRecursion (λ d. length d ≤ 65535) (data_in g)
+
+-- a group of an owner and a type is verified
+abbrev pub is_proved : Name → ℕ → Group → Bool
+is_proved owner t g = is_some g.verified && is_of owner t g
+
+-- the RRset of such an owner, not yet verified
 pub record IsAlone (m : List ℕ) (apex : Name) (rs : List Spelled) (g : Group) : Type 0 where
-  pub rtype_is : g.rtype ≡ 47
-  pub data_are : data_in g ≡ rrset_in pointer_limit m rs g.owner 47
-  pub alone : stands_alone m apex rs g.owner ≡ true
+  pub data_are : data_in g ≡ rrset_in pointer_limit m rs g.owner g.rtype
+  pub alone : stands_alone m apex rs g.rtype g.owner ≡ true
   pub unverified : g.verified ≡ None
 
--- the owner of an NSEC record has a group, where it stands alone
+-- the owner of a chain's record has a group of its type, where it stands alone
 abbrev pub IsGathered : List ℕ → Name → List Spelled → List Group → Spelled → Type 0
-IsGathered m apex rs gs r = is_nsec r ≡ true → stands_alone m apex rs r.owner ≡ true → list_any (has_owner r.owner) gs ≡ true
+IsGathered m apex rs gs r = is_chain r ≡ true → stands_alone m apex rs r.rtype r.owner ≡ true → list_any (is_of r.owner r.rtype) gs ≡ true
 
 -- groups of the owners of some of a message's records
 pub record AreGathered (m : List ℕ) (apex : Name) (rs some : List Spelled) (gs : List Group) : Type 0 where
@@ -117,7 +132,14 @@ pub record AreGathered (m : List ℕ) (apex : Name) (rs some : List Spelled) (gs
 
 -- the link of a record whose owner has a verified group
 abbrev pub link_by : List ℕ → List Group → Spelled → Option Link
-link_by m gs r = elim (is_nsec r && list_any (is_proved r.owner) gs) [ true ↦ link_of pointer_limit m r | false ↦ None ]
+link_by m gs r = elim (is_record_of 47 r && list_any (is_proved r.owner 47) gs) [ true ↦ link_of pointer_limit m r | false ↦ None ]
+
+-- the hash that a record's owner spells, and what its data say
+abbrev pub hash_link_of : Name → List ℕ → Spelled → Option HashLink
+hash_link_of apex m r = elim (spells_hash apex r.owner) [ true ↦ option_map (hash_link_with r.owner) (nsec3_at m r) | false ↦ None ]
+
+abbrev pub hash_link_by : Name → List ℕ → List Group → Spelled → Option HashLink
+hash_link_by apex m gs r = elim (is_record_of 50 r && list_any (is_proved r.owner 50) gs) [ true ↦ hash_link_of apex m r | false ↦ None ]
 
 -- a group that is verified, with the label count of its signature
 abbrev pub rrset_verified : Option Group → Option Rrset

@@ -5,20 +5,21 @@ use Rattle.definitions.specs.Name.{Name, IsName}
 use Rattle.definitions.specs.Dnskey.{Dnskey, Ds, key_tag, digested}
 use Rattle.definitions.specs.Serial.{serial_le}
 use Rattle.definitions.specs.Zone.{verdict}
-use Rattle.definitions.specs.ZoneChain.{Mode, Nsec, optout_of}
+use Rattle.definitions.specs.ZoneChain.{Mode, optout_of}
 use Rattle.messages.specs.HandedRr.{HandedRr}
-use Rattle.answer_terms.specs.Accepting.{IsAccepted, sorted_records, zone_of}
+use Rattle.answer_terms.specs.Accepting.{sorted_records, zone_of}
 use Rattle.answer_scheme.specs.Answers.{Answers}
 use Rattle.answer_judge.specs.Facts.{is_usable}
 use Rattle.answer_terms.specs.Told.{TellsKeys, TellsAnswer}
 use Rattle.messages.specs.Handed.{IsHanded}
 use Rattle.answer_judge.specs.Judging.{Answer, Says, Handing, Judges, answer_of, verifications_of, hashes_of}
+use Rattle.answer_terms.specs.Accepted.{IsAccepted}
 use Rattle.answer_terms.specs.Asking.{is_allowed}
 use Rattle.answer_terms.specs.EqualTags.{has_equal_tags}
 use Rattle.answer_judge.specs.declared.judging.verdict.Judgement.{Judgement}
 use Rattle.answer_judge.specs.declared.judging.verdict.Refused.{Refused}
 use Rattle.answer_judge.specs.Judged.{AnswersAs, judged}
-use Rattle.answer_judge.specs.Counted.{Counts, verifications_due}
+use Rattle.answer_judge.specs.Counted.{Counts, hashes_due, verifications_due}
 use Rattle.answer_terms.specs.Hashing.{HashesHold, served}
 use Rattle.answer_terms.specs.Served.{Served}
 use Rattle.messages.specs.WrittenLaws.{IsQuestion}
@@ -58,7 +59,7 @@ abbrev pub served_from : Answers → Handing → Mode → List HandedRr → Serv
 served_from a h mode rs = served a.hash (zone_from h.apex mode h.limit rs)
 
 -- What is handed in was given by the zone of these records and this chain: the DS set of the keys at the parent, a DNSKEY
--- answer and a zone answer of keys that meet, whose signatures hold. Chains of hashes are not judged yet.
+-- answer and a zone answer of keys that meet, whose signatures hold.
 pub record WasGiven (a : Answers) (k : ℕ) (h : Handing) (mode : Mode) (rs : List HandedRr) : Type 0 where
   pub parents : List Dnskey
   pub present : List Dnskey
@@ -69,8 +70,7 @@ pub record WasGiven (a : Answers) (k : ℕ) (h : Handing) (mode : Mode) (rs : Li
   pub answer_at : ℕ
   pub apex_is : IsName h.apex
   pub records_are : AllByRecursion IsHanded rs
-  pub accepted : IsAccepted h.apex mode h.limit rs
-  pub of_names : mode ≡ Nsec
+  pub accepted : IsAccepted a.hash h.apex mode h.limit rs
   pub hashes : HashesHold a.hash mode (zone_of h.apex rs) h.asked.name
   pub asked_is : IsQuestion h.asked
   pub allowed : is_allowed h.apex h.asked ≡ true
@@ -97,7 +97,7 @@ pub record IsJudgement (k : ℕ) (a : Answers) (h : Handing) (answer : Answer) (
   pub keeps : Judges k h answer verifications hashes
   pub exact : AnswersAs answer (judged a k h)
   pub counts : Counts answer verifications (verifications_due a k h)
-  pub no_hashes : hashes ≡ 0
+  pub hash_counts : Counts answer hashes (hashes_due a k h)
   pub given : AnswersGiven a k h answer
 
 -- the code's answer is one

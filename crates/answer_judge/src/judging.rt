@@ -1,12 +1,12 @@
 //! Judging a zone answer from bytes alone (RFC 4035, 5).
-ghost use Rattle.std.specs.Prelude.{◌≡◌, ◌==◌, ◌+◌, ◌++◌, ◌<◌, ◌≤◌, ◌^◌, ◌⊎◌, [], IfOk, IfErr, MatchOption, OnOk, is_some, length, map, filter, true, false};
+ghost use Rattle.std.specs.Prelude.{◌≡◌, ◌==◌, ◌+◌, ◌-◌, ◌%◌, ◌++◌, ◌<◌, ◌≤◌, ◌^◌, ◌⊎◌, [], IfOk, IfErr, MatchOption, OnOk, is_some, length, map, filter, true, false};
 ghost use Rattle.std.specs.Cow.{cow_slice_items};
 ghost use Rattle.definitions.specs.Limits.{pointer_limit};
 ghost use Rattle.definitions.specs.Dnskey.{dnskey_data};
 ghost use Rattle.definitions.specs.Zone.{sorted_data};
 ghost use Rattle.messages.specs.Questions.{asked_of};
 ghost use Rattle.messages.specs.Record.{spelled};
-ghost use Rattle.answer_judge.specs.Counted.{Counts, keys_sought, tries, tries_beyond, verifications_due};
+ghost use Rattle.answer_judge.specs.Counted.{Counts, Rises, hashes_beyond, hashes_due, keys_sought, tries, tries_beyond, verifications_due};
 ghost use Rattle.answer_judge.specs.Verified.{is_verified};
 ghost use Rattle.answer_judge.specs.Marked.{held_by};
 ghost use Rattle.messages.specs.Message.{Asked, message};
@@ -14,25 +14,27 @@ ghost use Rattle.messages.specs.View.{Gives};
 ghost use Rattle.answer_judge.specs.Facts.{is_signature, RefusesFirst};
 ghost use Rattle.answer_judge.specs.Judged.{judged, judged_beyond, said, AnswersAs};
 ghost use Rattle.answer_judge.specs.Meeting.{AnswersGiven, JudgesSo};
-ghost use Rattle.answer_judge.specs.Judging.{Judges, answer_of, handed, verifications_of, hashes_of, is_first, message_refusal, same_question, verification_bound};
+ghost use Rattle.answer_judge.specs.Judging.{Judges, answer_of, handed, verifications_of, hashes_of, is_first, message_refusal, same_question, hash_bound, verification_bound};
 ghost use Rattle.answer_terms.specs.Asking.{is_allowed};
 
 pub mod by_scheme;
+mod deciding;
 mod facts;
 mod groups;
+mod hash_owner;
 mod keys;
 mod trust;
 pub mod verdict;
 mod verifier;
 
 use crate::case::Case;
+use crate::judging::deciding::judge_facts;
 use crate::judging::facts::read_facts;
 use crate::judging::groups::{Group, verify_groups};
 use crate::judging::keys::{TaggedKey, has_equal_tags, read_keys, trusted_keys, usable_keys};
 use crate::judging::trust::Trust;
 use crate::judging::verdict::{Judgement, Refusal, Refused, Verdict};
 use crate::judging::verifier::Verifier;
-use answer_rules::decide::decide;
 use answer_scheme::checks::Checks;
 pub use answer_terms::question::is_allowed;
 use answer_terms::ranked::put_cow_data;
@@ -92,7 +94,8 @@ impl<'a> Case<'a> {
             AnswersGiven a pointer_limit self.now (answer_of result) }
         ensures counts { let due = verifications_due (C.answers checks.old) pointer_limit self.now in
             Counts (answer_of result) (verifications_of result) due }
-        ensures no_hashes { hashes_of result ≡ 0 }
+        ensures hash_counts { let a = C.answers checks.old in
+            Counts (answer_of result) (hashes_of result) (hashes_due a pointer_limit self.now) }
         ensures verified { C.verified checks.new ≡ C.verified checks.old + verifications_of result }
         ensures hashed { C.hashed checks.new ≡ C.hashed checks.old + hashes_of result }
         ensures same { C.answers checks.new ≡ C.answers checks.old }
@@ -111,27 +114,43 @@ impl<'a> Case<'a> {
                 hashes: 0,
             });
         }
+        self.limit_fits();
         let mut octets = Vec::new(alloc);
         let mut verifier = Verifier::new(alloc, checks, &mut octets);
-        match judge_messages(self, &mut verifier) {
+        match judge_counted(self, &mut verifier) {
             Ok(verdict) => Ok(Judgement {
                 verdict,
                 verifications: verifier.count,
-                hashes: 0,
+                hashes: verifier.hashes,
             }),
             Err(refusal) => Err(Refused {
                 refusal,
                 verifications: verifier.count,
-                hashes: 0,
+                hashes: verifier.hashes,
             }),
         }
     }
+
+    /// The limit is a number of 16 bits, as the iterations of a chain are (RFC 5155, 3.1.3).
+    fn limit_fits(&self)
+        ensures { self.now.limit < 65536 }
+    {
+        let _limit = self.limit;
+    }
 }
 
-/// The verdict of two messages beside a DS set that isn't empty.
-fn judge_messages<C: Checks>(case: &Case, verifier: &mut Verifier<C>) -> Result<Verdict, Refusal>
+/// How often `hash` was called since there was a count.
+fn hashes_since<C: Checks>(checks: &C, before: u32) -> u32
+    ensures { result ≡ (C.hashed checks.now % 4294967296 + 4294967296 - before) % 4294967296 }
+{
+    checks.hash_count().wrapping_sub(before)
+}
+
+/// The verdict of two messages beside a DS set that isn't empty, and how many names are hashed for it.
+fn judge_counted<C: Checks>(case: &Case, verifier: &mut Verifier<C>) -> Result<Verdict, Refusal>
     requires counts { verifier.old.count ≡ 0 }
     requires other { (case.now.asked.rtype == 47) ≡ false }
+    requires other_too { (case.now.asked.rtype == 50) ≡ false }
     ensures exact { let a = C.answers verifier.old.checks.now in
         AnswersAs (said result) (judged_beyond a pointer_limit case.now) }
     ensures counts { let a = C.answers verifier.old.checks.now in
@@ -142,7 +161,43 @@ fn judge_messages<C: Checks>(case: &Case, verifier: &mut Verifier<C>) -> Result<
     ensures bound { verifier.new.count ≤ verification_bound pointer_limit case.now }
     ensures counted { C.verified verifier.new.checks.now
         ≡ C.verified verifier.old.checks.now + verifier.new.count }
-    ensures hashed { C.hashed verifier.new.checks.now ≡ C.hashed verifier.old.checks.now }
+    ensures hash_counts { let a = C.answers verifier.old.checks.now in
+        Counts (said result) verifier.new.hashes (hashes_beyond a pointer_limit case.now) }
+    ensures hash_bound { verifier.new.hashes ≤ hash_bound case.now }
+    ensures hashed { C.hashed verifier.new.checks.now
+        ≡ C.hashed verifier.old.checks.now + verifier.new.hashes }
+    ensures same { C.answers verifier.new.checks.now ≡ C.answers verifier.old.checks.now }
+    ensures same_checks { verifier.new.checks.ghost_name ≡ verifier.old.checks.ghost_name }
+{
+    case.question.name.keeps();
+    let before = verifier.checks.hash_count();
+    let said = judge_messages(case, verifier);
+    verifier.hashes = hashes_since(verifier.checks, before);
+    said
+}
+
+/// The verdict of two messages beside a DS set that isn't empty.
+fn judge_messages<C: Checks>(case: &Case, verifier: &mut Verifier<C>) -> Result<Verdict, Refusal>
+    requires counts { verifier.old.count ≡ 0 }
+    requires other { (case.now.asked.rtype == 47) ≡ false }
+    requires other_too { (case.now.asked.rtype == 50) ≡ false }
+    ensures exact { let a = C.answers verifier.old.checks.now in
+        AnswersAs (said result) (judged_beyond a pointer_limit case.now) }
+    ensures counts { let a = C.answers verifier.old.checks.now in
+        Counts (said result) verifier.new.count (tries_beyond a pointer_limit case.now) }
+    ensures verdict { OnOk result (message_refusal pointer_limit case.now ≡ None) }
+    ensures refusal { IfErr result
+        (λ e. RefusesFirst e (message_refusal pointer_limit case.now)) }
+    ensures bound { verifier.new.count ≤ verification_bound pointer_limit case.now }
+    ensures counted { C.verified verifier.new.checks.now
+        ≡ C.verified verifier.old.checks.now + verifier.new.count }
+    ensures rises { let a = C.answers verifier.old.checks.now in
+        let due = hashes_beyond a pointer_limit case.now in
+        let old = C.hashed verifier.old.checks.now in
+        Rises (said result) old (C.hashed verifier.new.checks.now) due }
+    ensures least { C.hashed verifier.old.checks.now ≤ C.hashed verifier.new.checks.now }
+    ensures most { C.hashed verifier.new.checks.now
+        ≤ C.hashed verifier.old.checks.now + hash_bound case.now }
     ensures same { C.answers verifier.new.checks.now ≡ C.answers verifier.old.checks.now }
     ensures same_checks { verifier.new.checks.ghost_name ≡ verifier.old.checks.ghost_name }
 {
@@ -181,8 +236,7 @@ fn judge_messages<C: Checks>(case: &Case, verifier: &mut Verifier<C>) -> Result<
         question.rtype,
         verifier,
     )?;
-    let verdict = decide(alloc, case.apex, facts, &question.name, question.rtype)?;
-    verdict.ok_or(Refusal::NotProven)
+    judge_facts(alloc, case, facts, verifier.checks)
 }
 
 /// Both messages, and the records of each.

@@ -11,9 +11,10 @@ pub fn first_signature_says()
     ensures { SaysFirst }
 {}
 
-/// What is verified in bytes that tell an accepted zone's answer are the facts of the zone's own answer, whatever its verdict:
-/// the RRset of the question with the label count of its source, and the links of the NSEC records, their names up to case
-/// (RFC 4035, 3.1.3 and 5.3). An RRset without a signature proves nothing, as the NS RRset of a referral. Of NSEC chains.
+/// What is verified in bytes that tell an accepted zone's answer are the facts of the zone's own answer, whatever its
+/// verdict: the RRset of the question with the label count of its source, and the links of the chain's records: of NSEC
+/// records, their names up to case (RFC 4035, 3.1.3 and 5.3), or of NSEC3 records, with opt-out and without (RFC 5155, 7.2).
+/// An RRset without a signature proves nothing, as the NS RRset of a referral.
 pub fn told_facts_are_own()
     ensures { ToldFactsAreOwn }
 {}

@@ -109,7 +109,6 @@ given w rs x y z keys_at answer_at at key_bytes bytes asked zone left_x left_y l
   apex_is = zone.apex_is;
   records_are = zone.records_are;
   accepted = zone.accepted;
-  of_names = zone.of_names;
   hashes = hashes;
   asked_is = is;
   allowed = allowed;

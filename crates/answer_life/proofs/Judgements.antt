@@ -6,7 +6,7 @@ use Rattle.std.specs.Prelude.{Option, Some, None, Ok, Err, slice_get}
 use Rattle.std.specs.declared.result.Result.{Result}
 use Rattle.definitions.specs.Dnskey.{Dnskey, Ds}
 use Rattle.definitions.specs.Zone.{verdict}
-use Rattle.definitions.specs.ZoneChain.{optout_of}
+use Rattle.definitions.specs.ZoneChain.{Mode, optout_of}
 use Rattle.answer_events.specs.declared.event.Event.{Event}
 use Rattle.answer_events.specs.declared.event.Act.{Act}
 use Rattle.answer_events.specs.declared.event.Act.TheVariants as act
@@ -15,16 +15,14 @@ use Rattle.answer_life.specs.declared.outcome.Outcome.TheVariants as outcome
 use Rattle.answer_judge.specs.declared.judging.verdict.Judgement.{Judgement}
 use Rattle.answer_judge.specs.declared.judging.verdict.Refused.{Refused}
 use Rattle.keyset_rolls.specs.declared.rolls.Action.{Action}
-use Rattle.answer_zone.specs.declared.fault.Mode.{Mode as CodeMode}
-use Rattle.answer_zone.specs.declared.fault.Mode.TheVariants.{Nsec}
 use Rattle.std.specs.List.{AllByRecursion}
 use Rattle.definitions.specs.Name.{IsName, Name}
 use Rattle.definitions.specs.Limits.{pointer_limit}
 use Rattle.answer_scheme.specs.Answers.{Answers}
 use Rattle.messages.specs.Handed.{IsHanded}
-use Rattle.answer_zone.specs.ModeView.{mode_of}
 use Rattle.messages.specs.HandedRr.{HandedRr}
-use Rattle.answer_terms.specs.Accepting.{IsAccepted, sorted_records, zone_of}
+use Rattle.answer_terms.specs.Accepted.{IsAccepted}
+use Rattle.answer_terms.specs.Accepting.{sorted_records, zone_of}
 use Rattle.answer_terms.specs.Hashing.{HashesHold}
 use Rattle.answer_publisher.specs.Bindings as bindings
 use Rattle.answer_publisher.specs.Bindings.{ZoneKeys, apply, ds_set}
@@ -435,6 +433,6 @@ pub along_all : (w : World) (rs : List HandedRr) (es : List Event) (os : List Ou
 along_all w rs es os u run zone = along w rs [] no_history [] (begin w.zone.apex) es os u run zone (none_known w)
 
 -- an accepted zone
-pub zone_known : (apex : Name) (mode : CodeMode) (limit : ℕ) (rs : List HandedRr) (life : ℕ) (sign : Dnskey → List ℕ → Option (List ℕ)) (answers : Answers) → IsAccepted apex (mode_of mode) limit rs → IsName apex → AllByRecursion IsHanded rs
-    → IsZoneOf (record { zone = record { apex = apex; mode = mode_of mode; limit = limit; records = sorted_records rs }; life = life; sign = sign; answers = answers }) rs
-zone_known apex Nsec limit rs life sign answers accepted name handed = record { apex_is = name; records_are = handed; accepted = accepted; of_names = refl; zone_is = refl }
+pub zone_known : (apex : Name) (mode : Mode) (limit : ℕ) (rs : List HandedRr) (life : ℕ) (sign : Dnskey → List ℕ → Option (List ℕ)) (answers : Answers) → IsAccepted answers.hash apex mode limit rs → IsName apex → AllByRecursion IsHanded rs
+    → IsZoneOf (record { zone = record { apex = apex; mode = mode; limit = limit; records = sorted_records rs }; life = life; sign = sign; answers = answers }) rs
+zone_known apex mode limit rs life sign answers accepted name handed = record { apex_is = name; records_are = handed; accepted = accepted; zone_is = refl }

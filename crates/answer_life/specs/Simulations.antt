@@ -2,10 +2,9 @@
 use Rattle.std.specs.Prelude.{◌≡◌, List, length}
 use Rattle.std.specs.List.{AllByRecursion}
 use Rattle.definitions.specs.Name.{IsName}
-use Rattle.definitions.specs.ZoneChain.{Nsec}
 use Rattle.messages.specs.Handed.{IsHanded}
 use Rattle.messages.specs.HandedRr.{HandedRr}
-use Rattle.answer_terms.specs.Accepting.{IsAccepted}
+use Rattle.answer_terms.specs.Accepted.{IsAccepted}
 use Rattle.answer_judge.specs.Meeting.{zone_from}
 use Rattle.answer_publisher.specs.World.{World}
 use Rattle.answer_events.specs.declared.event.Event.{Event}
@@ -14,12 +13,11 @@ use Rattle.answer_life.specs.OneState.{SaysVerdicts}
 use Rattle.answer_life.specs.Simulating.{Simulates, Sofar, begin}
 use Rattle.answer_life.specs.ThroughRolls.{VerdictsHoldThroughRolls}
 
--- the zone is the one that records spell: they are accepted, with its chain, of names as yet
+-- the zone is the one that records spell: they are accepted, with its chain
 pub record IsZoneOf (w : World) (rs : List HandedRr) : Type 0 where
   pub apex_is : IsName w.zone.apex
   pub records_are : AllByRecursion IsHanded rs
-  pub accepted : IsAccepted w.zone.apex w.zone.mode w.zone.limit rs
-  pub of_names : w.zone.mode ≡ Nsec
+  pub accepted : IsAccepted w.answers.hash w.zone.apex w.zone.mode w.zone.limit rs
   pub zone_is : w.zone ≡ zone_from w.zone.apex w.zone.mode w.zone.limit rs
 
 -- Outcomes of events over the zone of these records, one an event, each what the definitions say of its event. While the

@@ -7,6 +7,7 @@ pub mod WritesGroups
 pub mod WritesAnswer
 pub mod WritesData
 pub mod WritesCuts
+pub mod WritesHashes
 pub mod WritesZone
 pub mod WritesGiven
 pub mod KeyTags

@@ -14,6 +14,7 @@ use Rattle.answer_publisher.specs.declared.fault.AnswerFault.{AnswerFault}
 use Rattle.answer_publisher.specs.declared.fault.AnswerFault.TheVariants as fault
 use Rattle.answer_scheme.specs.declared.error.SchemeError.{SchemeError}
 use Rattle.answer_scheme.specs.declared.error.SchemeError.TheVariants as error
+use Rattle.answer_terms.specs.Hashing.{Hasher}
 use Rattle.answer_publisher.specs.AnswerFaults.{fault_of}
 use Rattle.answer_publisher.specs.Answering.{RefusesAnswer, RefusesKeys, ahead_of_records}
 use Rattle.answer_publisher.specs.Composed.{HasRoom, IsSection, IsTooLong, IsWritten, RefusesGroups, RefusesRecords, joined, rrsig_of}
@@ -171,13 +172,13 @@ message_refused sign verifies apex at life keys flags asked gs hs o p start head
     )
 
 -- what refuses the RRsets of an answer refuses the question
-pub answer_refused : (sign : Dnskey → List ℕ → Option (List ℕ)) (verifies : Dnskey → List ℕ → List ℕ → Bool) (s : Served) (apex : Name) (at life : ℕ) (keys : List Dnskey) (asked : Asked) (gs : List GroupView) (f : AnswerFault)
-    → AllZip Presents gs (answer_groups s asked.name asked.rtype) → RefusesGroups sign verifies apex at life keys (ahead_of_records asked) gs f → RefusesAnswer sign verifies s apex at life keys asked f
-answer_refused sign verifies s apex at life keys asked gs fault.Memory z r = tt
-answer_refused sign verifies s apex at life keys asked gs fault.QuestionNotAllowed z r = absurd r
-answer_refused sign verifies s apex at life keys asked gs fault.HashFailed z r = (gs, z, r)
-answer_refused sign verifies s apex at life keys asked gs fault.SignFailed z r = (gs, z, r)
-answer_refused sign verifies s apex at life keys asked gs fault.TooLong z r = (gs, z, r)
+pub answer_refused : (sign : Dnskey → List ℕ → Option (List ℕ)) (verifies : Dnskey → List ℕ → List ℕ → Bool) (hash : Hasher) (s : Served) (apex : Name) (at life : ℕ) (keys : List Dnskey) (asked : Asked) (gs : List GroupView) (f : AnswerFault)
+    → AllZip Presents gs (answer_groups s asked.name asked.rtype) → RefusesGroups sign verifies apex at life keys (ahead_of_records asked) gs f → RefusesAnswer sign verifies hash s apex at life keys asked f
+answer_refused sign verifies hash s apex at life keys asked gs fault.Memory z r = tt
+answer_refused sign verifies hash s apex at life keys asked gs fault.QuestionNotAllowed z r = absurd r
+answer_refused sign verifies hash s apex at life keys asked gs fault.HashFailed z r = absurd r
+answer_refused sign verifies hash s apex at life keys asked gs fault.SignFailed z r = (gs, z, r)
+answer_refused sign verifies hash s apex at life keys asked gs fault.TooLong z r = (gs, z, r)
 
 pub keys_refused : (sign : Dnskey → List ℕ → Option (List ℕ)) (verifies : Dnskey → List ℕ → List ℕ → Bool) (s : Served) (apex : Name) (at life : ℕ) (present keys : List Dnskey) (g : GroupView) (f : AnswerFault)
     → Presents g (key_group apex (s.ttl_of (apex_of s.zone) 6) present) → RefusesGroups sign verifies apex at life keys (ahead_of_records (record { name = apex; rtype = 48; class = 1 })) (g ∷ []) f → RefusesKeys sign verifies s apex at life present keys f

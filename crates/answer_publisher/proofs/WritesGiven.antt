@@ -1,31 +1,49 @@
 -- What a publisher writes gives the RRsets of its zone and keys.
-use Rattle.std.proofs.Common.{◌≡◌, ℕ, Bool, false, ◌||◌, List, [], ◌∷◌, Option, sym, subst, eqb, lit<}
-use Rattle.std.specs.List.{AllByRecursion}
+use Rattle.std.proofs.Common.{◌≡◌, ℕ, Bool, false, List, [], ◌∷◌, ◌++◌, Option, subst, lit<}
+use Rattle.std.specs.List.{AllByRecursion, AllZip}
+use Rattle.definitions.specs.Name.{IsName}
 use Rattle.definitions.specs.Dnskey.{Dnskey}
-use Rattle.definitions.specs.ZoneChain.{Mode, Nsec}
 use Rattle.definitions.specs.Zone.{apex_of}
 use Rattle.definitions.specs.Limits.{pointer_limit}
-use Rattle.answer_publisher.specs.Answering.{AnswersKeys, AnswersZone}
+use Rattle.answer_publisher.specs.Answering.{AnswersKeys}
+use Rattle.answer_publisher.specs.Composed.{IsAnswer}
 use Rattle.answer_terms.specs.Given.{GivesAnswer, GivesKeys}
 use Rattle.messages.specs.Handed.{AreHanded}
 use Rattle.messages.specs.Message.{Asked}
-use Rattle.answer_terms.specs.Hashing.{hash_in, served}
-use Rattle.answer_terms.specs.Served.{answer_groups, by_tag, key_group, served_of}
+use Rattle.answer_terms.specs.GroupView.{GroupView, Presents}
+use Rattle.answer_terms.specs.Hashing.{Hasher, hash_in, served}
+use Rattle.answer_terms.specs.Served.{Group, answer_groups, by_tag, key_group}
 use Rattle.messages.specs.WrittenLaws.{IsQuestion}
 use Rattle.answer_terms.specs.ZoneView.{AcceptedZone, IsPublished}
 use Rattle.answer_publisher.proofs.WritesAnswer.{answer_gives}
 use Rattle.answer_publisher.proofs.WritesGroups.{IsFormed}
-use Rattle.answer_publisher.proofs.WritesZone.{answer_formed, keys_formed}
+use Rattle.answer_publisher.proofs.WritesData.{of_chain}
+use Rattle.answer_publisher.proofs.WritesZone.{Named, answer_formed, keys_formed}
+
+-- a name owns it
+abbrev pub NamedView : GroupView → Type 0
+NamedView g = IsName g.owner
+
+named : (vs : List GroupView) (gs : List Group) → AllZip Presents vs gs → AllByRecursion NamedView vs → AllByRecursion Named gs
+named [] [] h n = tt
+named [] (g ∷ gs) h n = absurd h
+named (v ∷ vs) [] h n = absurd h
+named (v ∷ vs) (g ∷ gs) h n = (subst IsName h.0.owner_is n.0, named vs gs h.1 n.1)
+
+named_both : (vs ws : List GroupView) → AllByRecursion NamedView vs → AllByRecursion NamedView ws → AllByRecursion NamedView (vs ++ ws)
+named_both [] ws n m = m
+named_both (v ∷ vs) ws n m = (n.0, named_both vs ws n.1 m)
 
 -- the zone's answer to a question
-pub answer_given : (sign : Dnskey → List ℕ → Option (List ℕ)) (verifies : Dnskey → List ℕ → List ℕ → Bool) (hash : List ℕ → ℕ → ℕ → List ℕ → Option (List ℕ)) (z : AcceptedZone) (at life : ℕ) (signers : List Dnskey) (asked : Asked) (m : List ℕ)
-    → IsPublished z.apex z.records → AreHanded z.apex z.records → z.mode ≡ Nsec → IsQuestion asked → (eqb asked.rtype 47 || eqb asked.rtype 50) ≡ false
-    → AnswersZone sign verifies (served hash z) z.apex at life (by_tag signers) asked m → GivesAnswer verifies pointer_limit (served hash z) z.apex signers at life asked m
-answer_given sign verifies hash z at life signers asked m published handed mode is plain w =
-    let formed : AllByRecursion IsFormed (answer_groups (served hash z) asked.name asked.rtype) =
-    subst (λ (k : Mode). AllByRecursion IsFormed (answer_groups (served_of z.apex k (hash_in hash k) z.records) asked.name asked.rtype)) (sym mode)
-    (answer_formed z.apex (hash_in hash Nsec) z.records published handed asked.name asked.rtype is.name is.rtype plain) in
-    answer_gives sign verifies z.apex at life (by_tag signers) _ asked w.answer w.authority (answer_groups (served hash z) asked.name asked.rtype) m handed.apex_is is formed w.groups_are w.written
+pub answer_given : (sign : Dnskey → List ℕ → Option (List ℕ)) (verifies : Dnskey → List ℕ → List ℕ → Bool) (hash : Hasher) (z : AcceptedZone) (at life flags : ℕ) (signers : List Dnskey) (asked : Asked) (answer authority : List GroupView) (m : List ℕ)
+    → IsPublished z.apex z.records → AreHanded z.apex z.records → IsQuestion asked → of_chain asked.rtype ≡ false
+    → AllByRecursion NamedView answer → AllByRecursion NamedView authority → AllZip Presents (answer ++ authority) (answer_groups (served hash z) asked.name asked.rtype)
+    → IsAnswer sign verifies z.apex at life (by_tag signers) flags asked answer authority m → GivesAnswer verifies pointer_limit (served hash z) z.apex signers at life asked m
+answer_given sign verifies hash z at life flags signers asked answer authority m published handed is plain owners others presents written =
+    let groups : List Group = answer_groups (served hash z) asked.name asked.rtype in
+    let names : AllByRecursion Named groups = named (answer ++ authority) groups presents (named_both answer authority owners others) in
+    let formed : AllByRecursion IsFormed groups = answer_formed z.apex z.mode (hash_in hash z.mode) z.records published handed asked.name asked.rtype is.name is.rtype plain names in
+    answer_gives sign verifies z.apex at life (by_tag signers) flags asked answer authority groups m handed.apex_is is formed presents written
 
 -- the DNSKEY answer
 pub keys_given : (sign : Dnskey → List ℕ → Option (List ℕ)) (verifies : Dnskey → List ℕ → List ℕ → Bool) (hash : List ℕ → ℕ → ℕ → List ℕ → Option (List ℕ)) (z : AcceptedZone) (at life : ℕ) (present signers : List Dnskey) (m : List ℕ)

@@ -1,17 +1,20 @@
 -- What a publisher's messages are.
 use Rattle.std.specs.Prelude.{◌≡◌, ℕ, ◌+◌, Bool, false, List, [], ◌∷◌, ◌++◌, length, Option}
 use Rattle.std.specs.List.{AllZip}
-use Rattle.definitions.specs.Name.{Name}
+use Rattle.definitions.specs.Name.{Name, low}
 use Rattle.definitions.specs.Dnskey.{Dnskey}
 use Rattle.definitions.specs.Zone.{apex_of, verdict}
+use Rattle.denial_rules.specs.Truth.{concerned}
 use Rattle.messages.specs.Message.{Asked}
 use Rattle.answer_terms.specs.GroupView.{GroupView, Presents}
 use Rattle.answer_publisher.specs.Composed.{IsAnswer, RefusesGroups}
 use Rattle.answer_terms.specs.Asking.{is_allowed}
+use Rattle.answer_terms.specs.Hashing.{Hasher}
 use Rattle.messages.specs.Written.{question_octets}
 use Rattle.answer_publisher.specs.declared.fault.AnswerFault.{AnswerFault}
 use Rattle.answer_publisher.specs.declared.fault.AnswerFault.TheVariants as fault
 use Rattle.answer_terms.specs.Served.{Served, answer_groups, key_group}
+use Rattle.answer_zone.specs.HashedZone.{FailsOn}
 use Rattle.answer_zone.specs.ZoneAnswers.{flags_for, answered}
 
 -- the message that answers a question: the RRsets of the answer in order, those asked for in the answer section
@@ -32,12 +35,13 @@ pub record AnswersKeys (sign : Dnskey → List ℕ → Option (List ℕ)) (verif
 abbrev pub ahead_of_records : Asked → ℕ
 ahead_of_records asked = 12 + length (question_octets asked.name asked.rtype asked.class)
 
--- Why a question is not answered: it is not allowed, the scheme made no signature of an RRset of the answer, the RRsets
--- are too long for a message, or memory ran out.
-abbrev pub RefusesAnswer : (Dnskey → List ℕ → Option (List ℕ)) → (Dnskey → List ℕ → List ℕ → Bool) → Served → Name → ℕ → ℕ → List Dnskey → Asked → AnswerFault → Type 0
-RefusesAnswer sign verifies s apex at life keys asked fault.QuestionNotAllowed = is_allowed apex asked ≡ false
-RefusesAnswer sign verifies s apex at life keys asked fault.Memory = Unit {0}
-RefusesAnswer sign verifies s apex at life keys asked f =
+-- Why a question is not answered: it is not allowed, the hasher fails on a name that the question concerns, the scheme made
+-- no signature of an RRset of the answer, the RRsets are too long for a message, or memory ran out.
+abbrev pub RefusesAnswer : (Dnskey → List ℕ → Option (List ℕ)) → (Dnskey → List ℕ → List ℕ → Bool) → Hasher → Served → Name → ℕ → ℕ → List Dnskey → Asked → AnswerFault → Type 0
+RefusesAnswer sign verifies hash s apex at life keys asked fault.QuestionNotAllowed = is_allowed apex asked ≡ false
+RefusesAnswer sign verifies hash s apex at life keys asked fault.HashFailed = FailsOn hash s.mode (concerned (low apex) (low asked.name))
+RefusesAnswer sign verifies hash s apex at life keys asked fault.Memory = Unit {0}
+RefusesAnswer sign verifies hash s apex at life keys asked f =
     (groups : List GroupView) × AllZip Presents groups (answer_groups s asked.name asked.rtype)
     × RefusesGroups sign verifies apex at life keys (ahead_of_records asked) groups f
 

@@ -10,6 +10,7 @@ use Rattle.answer_terms.specs.Accepting.{sorted_records}
 use Rattle.answer_terms.specs.ZoneView.{AcceptedZone}
 use Rattle.answer_terms.specs.Hashing.{served}
 use Rattle.answer_terms.specs.Served.{Served}
+use Rattle.answer_zone.specs.HashedZone.{accepted_zone}
 use Rattle.answer_scheme.specs.Answers.{Answers}
 use Rattle.answer_terms.specs.Given as spelled
 use Rattle.answer_terms.specs.Told as told
@@ -41,7 +42,7 @@ world_by sign verifies digest hash s h zone life = world zone life (sign s) (ver
 
 -- that of a publisher
 abbrev pub world_of : {S H : Type 0} → (S → Dnskey → List ℕ → Option (List ℕ)) → (S → Dnskey → List ℕ → List ℕ → Bool) → (S → ℕ → List ℕ → Option (List ℕ)) → (H → List ℕ → ℕ → ℕ → List ℕ → Option (List ℕ)) → Publisher S H → World
-world_of sign verifies digest hash p = world_by sign verifies digest hash p.scheme.now p.hasher.now p.zone p.life
+world_of sign verifies digest hash p = world_by sign verifies digest hash p.scheme.now p.zone.hasher (accepted_zone p.zone) p.life
 
 -- the digests of its keys
 abbrev pub digests : {S H : Type 0} → (S → ℕ → List ℕ → Option (List ℕ)) → Publisher S H → Dnskey → Option (List ℕ)
@@ -75,7 +76,7 @@ abbrev pub SpellsAnswer : World → ZoneKeys → ℕ → Asked → List ℕ → 
 SpellsAnswer w keys at asked m = spelled.GivesAnswer w.answers.verifies pointer_limit (served_in w) w.zone.apex (dnskeys (published keys publication.SignsZone)) (second_of at) w.life asked m
 
 abbrev pub RefusesQuestion : World → ZoneKeys → ℕ → Asked → AnswerFault → Type 0
-RefusesQuestion w keys at asked f = RefusesAnswer w.sign w.answers.verifies (served_in w) w.zone.apex (second_of at) w.life (keys_by_tag keys publication.SignsZone) asked f
+RefusesQuestion w keys at asked f = RefusesAnswer w.sign w.answers.verifies w.answers.hash (served_in w) w.zone.apex (second_of at) w.life (keys_by_tag keys publication.SignsZone) asked f
 
 -- ---- what any bytes tell a judge
 

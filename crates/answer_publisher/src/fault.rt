@@ -1,6 +1,7 @@
 //! Why a publisher refuses.
 use answer_scheme::error::SchemeError;
 pub use answer_zone::fault::{Mode, ZoneFault};
+use denial_hashes::hasher::HashError;
 use keyset;
 use std::alloc::{AllocError, AllocFailed};
 use thiserror::Error;
@@ -98,6 +99,20 @@ impl From<SchemeError> for AnswerFault {
         match error {
             SchemeError::Failed => AnswerFault::SignFailed,
             SchemeError::Memory => AnswerFault::Memory,
+        }
+    }
+}
+
+impl From<HashError> for AnswerFault {
+    ghost use Rattle.std.specs.Prelude.{◌≡◌};
+    ghost use Rattle.answer_publisher.specs.AnswerFaults.{fault_of_hash};
+
+    ghost from_gives = { λ error fault. fault ≡ fault_of_hash error };
+
+    fn from(error: HashError) -> AnswerFault {
+        match error {
+            HashError::Failed => AnswerFault::HashFailed,
+            HashError::Memory => AnswerFault::Memory,
         }
     }
 }

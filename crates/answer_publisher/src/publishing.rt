@@ -7,8 +7,9 @@ ghost use Rattle.answer_terms.specs.Asking.{is_allowed};
 ghost use Rattle.messages.specs.Questions.{asked_of};
 ghost use Rattle.answer_terms.specs.Served.{key_group, ttl_among};
 ghost use Rattle.answer_terms.specs.GroupView.{Presents};
-ghost use Rattle.answer_terms.specs.Accepting.{IsAccepted};
+ghost use Rattle.answer_terms.specs.Accepted.{IsAccepted};
 ghost use Rattle.answer_zone.specs.Faults.{RefusesZone};
+ghost use Rattle.answer_zone.specs.HashedZone.{accepted_zone};
 ghost use Rattle.answer_zone.specs.ModeView.{mode_of};
 ghost use Rattle.messages.specs.HandedRr.{handed_of};
 ghost use Rattle.keyset.specs.KeyState.{text_of, is_available, texts};
@@ -45,20 +46,20 @@ use std::slice;
 /// Publishes one signed zone while its keys roll (RFC 4035, 2 and 3; RFC 6781, 4.1).
 ///
 /// It answers questions in signed messages, and shows the DS set that the parent is to have. Scheme and hasher are
-/// borrowed.
+/// borrowed; the zone keeps the hasher.
 #[derive(Drop)]
 pub struct Publisher<'a, S: Scheme, H: Nsec3Hasher> {
     alloc: Global,
-    zone: ZoneRecords,
+    zone: ZoneRecords<'a, H>,
     keys: ZoneKeys,
     scheme: &'a S,
-    hasher: &'a H,
     life: u32,
 }
 
 impl<'a, S: Scheme, H: Nsec3Hasher> Publisher<'a, S, H> {
-    /// A publisher of these records, without keys. Records that are equal up to TTL are one, the first. `limit` is the
-    /// most iterations of NSEC3 that are accepted. A signature holds for `life` seconds from the moment of its answer.
+    /// A publisher of these records with a chain of names or of hashes, without keys. Records that are equal up to TTL are
+    /// one, the first. `limit` is the most iterations of NSEC3 that are accepted (RFC 5155, 10.3). A signature holds for
+    /// `life` seconds from the moment of its answer.
     pub fn new(
         alloc: Global,
         apex: Name<Vec<u8>>,
@@ -71,19 +72,19 @@ impl<'a, S: Scheme, H: Nsec3Hasher> Publisher<'a, S, H> {
     ) -> Result<Self, ZoneFault>
         requires { life < 2 ^ 31 }
         ensures zone { let rs = map handed_of records.items in
-            IfOk result (λ p. p.zone ≡ zone_by apex (mode_of mode) limit rs) }
+            IfOk result (λ p. accepted_zone p.zone ≡ zone_by apex (mode_of mode) limit rs) }
         ensures keys { IfOk result (λ p. p.keys ≡ no_keys apex) }
         ensures scheme { IfOk result (λ p. p.scheme.now ≡ scheme.now) }
-        ensures hasher { IfOk result (λ p. p.hasher.now ≡ hasher.now) }
+        ensures hasher { IfOk result (λ p. p.zone.hasher ≡ hasher.now) }
         ensures life { IfOk result (λ p. p.life ≡ life) }
         ensures accepted { let rs = map handed_of records.items in
-            IfOk result (λ p. IsAccepted apex (mode_of mode) limit rs) }
+            IfOk result (λ p. IsAccepted (H.hash_of hasher.now) apex (mode_of mode) limit rs) }
         ensures handed { IfOk result
             (λ p. IsName apex × AllByRecursion IsHanded (map handed_of records.items)) }
         ensures fault { let rs = map handed_of records.items in
-            IfErr result (RefusesZone apex (mode_of mode) limit rs) }
+            IfErr result (RefusesZone (H.hash_of hasher.now) apex (mode_of mode) limit rs) }
     {
-        let zone = ZoneRecords::new(alloc, apex, records, mode, limit)?;
+        let zone = ZoneRecords::new(alloc, apex, records, mode, limit, hasher)?;
         let Ok(name) = copy_name(alloc, zone.apex()) else {
             return Err(ZoneFault::Memory);
         };
@@ -92,7 +93,6 @@ impl<'a, S: Scheme, H: Nsec3Hasher> Publisher<'a, S, H> {
             zone,
             keys: ZoneKeys::new(alloc, name),
             scheme,
-            hasher,
             life,
         })
     }
@@ -182,6 +182,8 @@ impl<'a, S: Scheme, H: Nsec3Hasher> Publisher<'a, S, H> {
         let found = self
             .zone
             .answer_to(self.alloc, &question.name, question.rtype)?;
+        owners_keep(&found.answer);
+        owners_keep(&found.authority);
         compose_answer(
             self.alloc,
             self.scheme,
@@ -210,9 +212,9 @@ impl<'a, S: Scheme, H: Nsec3Hasher> Publisher<'a, S, H> {
 
     /// What hashes names.
     pub fn hasher(&self) -> &'a H
-        ensures { result.now ≡ self.now.hasher.now }
+        ensures { result.now ≡ self.now.zone.hasher }
     {
-        self.hasher
+        self.zone.hasher()
     }
 
     /// The key set.
@@ -445,6 +447,15 @@ impl<'a, S: Scheme, H: Nsec3Hasher> Publisher<'a, S, H> {
         ensures rest { self.new ≡ record self.old { keys = self.new.keys } }
     {
         self.keys.roll_done(rolltype)
+    }
+}
+
+/// What the owners of RRsets keep. It does nothing.
+fn owners_keep(groups: &[RrGroup])
+    ensures { AllByRecursion (λ g. IsName g.owner) groups.now }
+{
+    for group in groups {
+        group.owner().keeps();
     }
 }
 

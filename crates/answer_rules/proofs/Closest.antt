@@ -1,5 +1,5 @@
 -- Going up the ancestors of a name, each once.
-use Rattle.std.proofs.Common.{◌≡◌, ◌<◌, ◌≤◌, Bool, true, false, ◌||◌, List, [], ◌∷◌, drop, refl, sym, ap, ◌∙◌, subst, ◌⊎◌, inl, inr, arith}
+use Rattle.std.proofs.Common.{◌≡◌, ◌<◌, ◌≤◌, Bool, true, false, ◌||◌, List, [], ◌∷◌, drop, refl, sym, ap, ◌∙◌, subst, arith}
 use Rattle.std.specs.Prelude.{◌↔◌, Option, Some, None, Result, Ok, Err, MatchOption, IfOk, IfSome}
 use Rattle.std.specs.Option.{option_map}
 use Rattle.definitions.specs.Name.{Name, Label, IsName, wire_len, at_or_above}
@@ -41,17 +41,16 @@ shown_so f n rest b e = ap (λ (b : Bool). elim b [ true ↦ Some n | false ↦ 
 
 -- ---- the wildcard under the closest encloser
 
-chosen : (b : Bool) (q e : Name) (rest : Option Name) → (elim b as (λ _. Option Name) [ true ↦ Some q | false ↦ rest ]) ≡ Some e → (q ≡ e) ⊎ (rest ≡ Some e)
-chosen true q e rest h = inl (let same : q ≡ e = cc in same)
-chosen false q e rest h = inr h
+shorter : (f : Link) (l : Label) (q e : Name) → IsName (l ∷ q) → ((b : Bool) → (at_or_above q f.owner || at_or_above q f.next) ≡ b → (elim b [ true ↦ Some q | false ↦ closest f q ]) ≡ Some e → wire_len (star_under e) ≤ 255) → closest f (l ∷ q) ≡ Some e → wire_len (star_under e) ≤ 255
+shorter f l q e h k c = k (at_or_above q f.owner || at_or_above q f.next) refl c
 
 -- it is at least a label shorter than the name, so there is room for a star
 pub closest_room : (f : Link) (q e : Name) → IsName q → closest f q ≡ Some e → wire_len (star_under e) ≤ 255
 closest_room f [] e h c = absurd cc
-closest_room f (l ∷ q) e h c = elim (chosen (at_or_above q f.owner || at_or_above q f.next) q e (closest f q) c) [
-  | inl same ↦ subst (λ n. wire_len (star_under n) ≤ 255) same (star_room 1 (l ∷ q) h (omega arith) (omega arith))
-  | inr later ↦ closest_room f q e (IsName-drop 1 (l ∷ q) h) later
-]
+closest_room f (l ∷ q) e h c = shorter f l q e h (λ b s. elim b as (λ (x : Bool). (elim x [ true ↦ Some q | false ↦ closest f q ]) ≡ Some e → wire_len (star_under e) ≤ 255) [
+  | true ↦ λ d. let same : q ≡ e = cc in subst (λ n. wire_len (star_under n) ≤ 255) same (star_room 1 (l ∷ q) h (omega arith) (omega arith))
+  | false ↦ λ d. closest_room f q e (IsName-drop 1 (l ∷ q) h) d
+]) c
 
 -- a wildcard with room is given
 given : (o : Option Name) (star : Name) → IfSome o (λ n. n ≡ star) → (o ≡ None) ↔ (255 < wire_len star) → wire_len star ≤ 255 → o ≡ Some star

@@ -1,11 +1,13 @@
-//! What verified records tell: an RRset and links of the chain of names.
-ghost use Rattle.std.specs.Prelude.{◌≡◌, []};
+//! What verified records tell: an RRset, links of the chain of names and links of the chain of hashes.
+ghost use Rattle.std.specs.Prelude.{◌≡◌, ◌==◌};
 ghost use Rattle.definitions.specs.Bitmap.{bitmap_has};
 ghost use Rattle.denial_rules.specs.Facts.{is_expanded};
 ghost use Rattle.names_parsed.specs.Parsed.{parsed_name};
 
 use crate::verdict::DataList;
+use denial_bitmap::bitmap::RtypeBitmap;
 use denial_links::nsec::Nsec;
+use denial_links::nsec3::Nsec3;
 use messages::names::{Name, ParsedName, ZoneName};
 use names_data::rtype::Rtype;
 use std::marker::Model;
@@ -80,39 +82,142 @@ impl<'a> Link<'a> {
         self.nsec.next_name()
     }
 
+    /// The types of the owner.
+    pub(crate) fn types(&self) -> &RtypeBitmap<&'a [u8]>
+        ensures { result.now ≡ self.now.bits }
+    {
+        self.nsec.types()
+    }
+
     /// Whether the owner has records of a type.
     pub(crate) fn has(&self, rtype: Rtype) -> bool
         ensures { result ≡ bitmap_has self.now.bits rtype }
     {
-        self.nsec.types().contains(rtype)
+        self.types().contains(rtype)
     }
 }
 
-/// All that was verified of an answer: the RRset of the question, if any, and links in the order of the message.
+/// A verified NSEC3 record (RFC 5155, 3), its data in place. A contract sees the hash that its owner spells, the next hash,
+/// the octets of its bitmap, whether it opts out, and how it was hashed.
+#[derive(Drop)]
+pub struct HashLink<'a> {
+    owner: Vec<u8>,
+    nsec3: Nsec3<&'a [u8]>,
+}
+
+impl<'a> Model for HashLink<'a> {
+    ghost use Rattle.std.specs.Prelude.{◌==◌};
+    ghost use Rattle.denial_rules.specs.Facts.{HashLink};
+
+    ghost Value = { HashLink };
+
+    ghost view = { λ l. record {
+      owner = l.owner.items;
+      next = l.nsec3.next_owner;
+      bits = l.nsec3.types;
+      opt_out = l.nsec3.params.flags == 1;
+      iterations = l.nsec3.params.iterations;
+      salt = l.nsec3.params.salt;
+    } };
+}
+
+impl<'a> HashLink<'a> {
+    /// A link of the hash that its owner spells and its data, whose algorithm is SHA-1 and whose flags are 0 or 1.
+    pub fn new(owner: Vec<u8>, nsec3: Nsec3<&'a [u8]>) -> Self
+        ensures owner { result.owner ≡ owner.items }
+        ensures next { result.next ≡ nsec3.entry.next_owner }
+        ensures types { result.bits ≡ nsec3.entry.types }
+        ensures opt_out { result.opt_out ≡ (nsec3.entry.params.flags == 1) }
+        ensures iterations { result.iterations ≡ nsec3.entry.params.iterations }
+        ensures salt { result.salt ≡ nsec3.entry.params.salt }
+    {
+        HashLink { owner, nsec3 }
+    }
+
+    /// The hash that the owner spells.
+    pub(crate) fn owner(&self) -> &[u8]
+        ensures { result.now ≡ self.now.owner }
+    {
+        &self.owner
+    }
+
+    /// The next hash.
+    pub(crate) fn next(&self) -> &[u8]
+        ensures { result.now ≡ self.now.next }
+    {
+        self.nsec3.next_owner().as_slice()
+    }
+
+    /// The types of the name whose hash the owner is.
+    pub(crate) fn types(&self) -> &RtypeBitmap<&'a [u8]>
+        ensures { result.now ≡ self.now.bits }
+    {
+        self.nsec3.types()
+    }
+
+    /// Whether delegations that aren't signed may lie between owner and next hash (RFC 5155, 6).
+    pub(crate) fn opts_out(&self) -> bool
+        ensures { result ≡ self.now.opt_out }
+    {
+        self.nsec3.flags() == 1
+    }
+
+    /// How often a hash is hashed again.
+    pub fn iterations(&self) -> u16
+        ensures { result ≡ self.now.iterations }
+    {
+        self.nsec3.iterations()
+    }
+
+    /// What is hashed behind a name.
+    pub fn salt(&self) -> &[u8]
+        ensures { result.now ≡ self.now.salt }
+    {
+        self.nsec3.salt().as_slice()
+    }
+}
+
+/// All that was verified of an answer: the RRset of the question, if any, and links of both chains in the order of the
+/// message.
 #[derive(Drop)]
 pub struct Facts<'a> {
     pub(crate) rrset: Option<Rrset>,
     pub(crate) links: Vec<Link<'a>>,
+    pub(crate) hash_links: Vec<HashLink<'a>>,
 }
 
 impl<'a> Model for Facts<'a> {
-    ghost use Rattle.std.specs.Prelude.{[]};
     ghost use Rattle.denial_rules.specs.Facts.{Facts};
 
     ghost Value = { Facts };
 
-    ghost view = { λ f. record { rrset = f.rrset; links = f.links.items; hash_links = [] } };
+    ghost view = { λ f. record {
+      rrset = f.rrset;
+      links = f.links.items;
+      hash_links = f.hash_links.items;
+    } };
 }
 
 impl<'a> Facts<'a> {
-    /// Facts of an RRset, if any, and links.
-    pub fn new(rrset: Option<Rrset>, links: Vec<Link<'a>>) -> Self
+    /// Facts of an RRset, if any, and links of both chains.
+    pub fn new(rrset: Option<Rrset>, links: Vec<Link<'a>>, hash_links: Vec<HashLink<'a>>) -> Self
         ensures { result ≡ record {
           rrset = rrset;
           links = links.entry.items;
-          hash_links = [];
+          hash_links = hash_links.entry.items;
         } }
     {
-        Facts { rrset, links }
+        Facts {
+            rrset,
+            links,
+            hash_links,
+        }
+    }
+
+    /// The links of the chain of hashes.
+    pub fn hash_links(&self) -> &[HashLink<'a>]
+        ensures { result.now ≡ self.now.hash_links }
+    {
+        &self.hash_links
     }
 }

@@ -3,32 +3,17 @@ ghost use Rattle.std.specs.Prelude.{◌≡◌, ◌||◌, IfOk};
 ghost use Rattle.std.specs.Option.{option_map};
 ghost use Rattle.definitions.specs.Name.{at_or_above};
 ghost use Rattle.definitions.specs.Zone.{star_under};
-ghost use Rattle.denial_rules.specs.NsecRules.{first_some, is_cut, lacks, at_owner, below_cut, redirects, link_covers, closest, at_star, covered, denied};
+ghost use Rattle.denial_rules.specs.NsecRules.{first_some, at_owner, below_cut, redirects, link_covers, closest, at_star, covered, denied};
 ghost use Rattle.answer_rules.specs.Rules.{verdict_of};
 
 use crate::facts::Link;
+use crate::types::{at_name, is_cut, lacks};
 use crate::verdict::Verdict;
 use messages::names::{Name, Octets, ToName, ZoneName, is_above, is_at_or_above};
 use names_data::rtype::Rtype;
 use std::alloc::{AllocError, Global};
 
 impl<'a> Link<'a> {
-    /// Whether it proves that a type is missing where it stands: it has neither the type nor CNAME.
-    ///
-    /// An alias answers for all types: taken as proof, its record would hide where it leads (RFC 6840, 4.3).
-    fn lacks(&self, rtype: Rtype) -> bool
-        ensures { result ≡ lacks self.now.bits rtype }
-    {
-        !self.has(rtype) && !self.has(Rtype::CNAME)
-    }
-
-    /// Whether it is the record of a delegation, if it stands at a name: NS below the apex.
-    fn is_cut<N: ToName>(&self, apex: &Name<Vec<u8>>, owner: &N) -> bool
-        ensures { result ≡ is_cut apex.now (N.name owner.now) self.now.bits }
-    {
-        self.has(Rtype::NS) && !owner.name_eq(apex)
-    }
-
     /// Whether the owner stands above a name and has DNAME.
     ///
     /// What is below it is redirected: taken as proof, its record would deny names that exist where it leads (RFC 6840, 4.1).
@@ -51,18 +36,12 @@ impl<'a> Link<'a> {
 
     /// What the link says of its own name.
     ///
-    /// At a delegation the parent tells of DS alone: its link, replayed, would deny what the child holds (RFC 6840, 4.1).
+    /// A record at another name says nothing of this one: replayed, it would deny what that name lacks (RFC 4035, 5.4).
     fn at_owner(&self, apex: &Name<Vec<u8>>, name: &Name<Vec<u8>>, rtype: Rtype) -> Option<Verdict>
         ensures { option_map verdict_of result ≡ at_owner apex.now name.now rtype self.now }
     {
-        if !self.owner.name_eq(name) {
-            return None;
-        }
-        if self.is_cut(apex, name) && rtype != Rtype::DS {
-            return Some(Verdict::Delegated);
-        }
-        if self.lacks(rtype) {
-            Some(Verdict::NoType)
+        if self.owner.name_eq(name) {
+            at_name(self.types(), apex, name, rtype)
         } else {
             None
         }
@@ -74,7 +53,7 @@ impl<'a> Link<'a> {
     fn below_cut(&self, apex: &Name<Vec<u8>>, name: &Name<Vec<u8>>) -> Option<Verdict>
         ensures { option_map verdict_of result ≡ below_cut apex.now name.now self.now }
     {
-        if self.is_cut(apex, &self.owner)
+        if is_cut(self.types(), apex, &self.owner)
             && is_above(&self.owner, name)
             && !self.has(Rtype::DNAME)
         {
@@ -130,7 +109,7 @@ impl<'a> Link<'a> {
         ensures { option_map verdict_of result ≡ at_star apex.now star.now rtype self.now }
     {
         if self.owner.name_eq(star) {
-            return if self.lacks(rtype) {
+            return if lacks(self.types(), rtype) {
                 Some(Verdict::StarNoType)
             } else {
                 None

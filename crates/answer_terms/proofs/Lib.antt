@@ -4,6 +4,7 @@ pub mod ZoneData
 pub mod ZoneFaultless
 pub mod ZoneRising
 pub mod ZoneAnswers
+pub mod HashedLinks
 pub mod TagPlaces
 pub mod KeyData
 pub mod AllowedTypes

@@ -18,8 +18,10 @@ use Rattle.messages.specs.HandedRr.{HandedRr, among}
 use Rattle.messages.specs.Message.{Asked}
 use Rattle.messages.specs.Star.{begins_with_star}
 use Rattle.messages.proofs.Lists.{all_fail, all_sorted, all_more}
-use Rattle.answer_terms.specs.Accepting.{IsAccepted, is_added_by_signing, is_alias, delegates_star, record_cmp, rr_of, soas, sorted_records, zone_of}
+use Rattle.answer_terms.specs.Accepted.{IsAccepted}
+use Rattle.answer_terms.specs.Accepting.{is_added_by_signing, is_alias, delegates_star, record_cmp, rr_of, soas, sorted_records, zone_of}
 use Rattle.answer_terms.specs.Asking.{is_allowed}
+use Rattle.answer_terms.specs.Hashing.{Hasher}
 use Rattle.answer_terms.specs.Servable.{IsAskedInside}
 
 -- ---- types
@@ -59,8 +61,8 @@ apex_in : (apex : Name) (rs : List HandedRr) → 0 < length (soas apex rs) → I
 apex_in apex [] h = absurd (omega arith)
 apex_in apex (r ∷ rs) h = apex_or_later apex r rs (same r.owner apex && (r.rtype == 6)) refl (apex_in apex rs) h
 
-pub servable : (apex : Name) (mode : Mode) (limit : ℕ) (rs : List HandedRr) → IsAccepted apex mode limit rs → IsServable (zone_of apex rs)
-servable apex mode limit rs a =
+pub servable : (hasher : Hasher) (apex : Name) (mode : Mode) (limit : ℕ) (rs : List HandedRr) → IsAccepted hasher apex mode limit rs → IsServable (zone_of apex rs)
+servable hasher apex mode limit rs a =
     let sorted = sorted_records rs in
     let none : 0 < length (soas apex sorted) = (let one : length (soas apex sorted) ≡ 1 = a.soa in omega arith) in
     let signing = all_fail is_added_by_signing rs a.faultless.unsigned in
@@ -100,7 +102,7 @@ asked_inside apex asked e =
     }
 
 -- the zone's own answer decides it
-pub allowed_answers_decide : (apex : Name) (mode : Mode) (limit : ℕ) (rs : List HandedRr) (hash : Name → List ℕ) (asked : Asked) → IsAccepted apex mode limit rs → is_allowed apex asked ≡ true → asked.rtype < 65536 → NoSharedHash (zone_of apex rs) hash mode asked.name → decided apex hash (own_facts (zone_of apex rs) hash mode asked.name asked.rtype) asked.name asked.rtype ≡ Some (verdict (zone_of apex rs) (optout_of mode) asked.name asked.rtype)
-allowed_answers_decide apex mode limit rs hash asked a e short none =
+pub allowed_answers_decide : (hasher : Hasher) (apex : Name) (mode : Mode) (limit : ℕ) (rs : List HandedRr) (hash : Name → List ℕ) (asked : Asked) → IsAccepted hasher apex mode limit rs → is_allowed apex asked ≡ true → asked.rtype < 65536 → NoSharedHash (zone_of apex rs) hash mode asked.name → decided apex hash (own_facts (zone_of apex rs) hash mode asked.name asked.rtype) asked.name asked.rtype ≡ Some (verdict (zone_of apex rs) (optout_of mode) asked.name asked.rtype)
+allowed_answers_decide hasher apex mode limit rs hash asked a e short none =
     let k = asked_inside apex asked e in
-    own_answers_decide (zone_of apex rs) hash mode asked.name asked.rtype (servable apex mode limit rs a) none short (k.inside rs) k.asked_type
+    own_answers_decide (zone_of apex rs) hash mode asked.name asked.rtype (servable hasher apex mode limit rs a) none short (k.inside rs) k.asked_type

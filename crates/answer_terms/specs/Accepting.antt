@@ -76,9 +76,3 @@ has_unlike_ttls z optout sorted =
 -- the SOA records at the apex
 abbrev pub soas : Name → List HandedRr → List HandedRr
 soas apex sorted = filter (λ r. same r.owner apex && (r.rtype == 6)) sorted
-
--- no fault
-pub record IsAccepted (apex : Name) (mode : Mode) (limit : ℕ) (rs : List HandedRr) : Type 0 where
-  pub faultless : IsFaultless apex mode limit rs
-  pub soa : length (soas apex (sorted_records rs)) ≡ 1
-  pub ttls : has_unlike_ttls (zone_of apex rs) (optout_of mode) (sorted_records rs) ≡ false

@@ -1,5 +1,6 @@
--- How a zone is served under a hasher, and which hashes its promises ask for.
-use Rattle.std.specs.Prelude.{ℕ, List, [], Contains, IsSome, Option, unwrap_or}
+-- How a zone is served under a hasher, and which hashes its chain and its promises ask for.
+use Rattle.std.specs.Prelude.{◌≡◌, ℕ, ◌<◌, List, [], Contains, IsSome, Option, Some, unwrap_or}
+use Rattle.std.specs.List.{AllByRecursion}
 use Rattle.definitions.specs.Name.{Name, wire, low}
 use Rattle.definitions.specs.Zone.{Zone}
 use Rattle.definitions.specs.ZoneChain.{Mode, Nsec, Nsec3}
@@ -7,23 +8,34 @@ use Rattle.denial_rules.specs.Truth.{NoSharedHash, concerned}
 use Rattle.answer_terms.specs.Served.{Served, served_of}
 use Rattle.answer_terms.specs.ZoneView.{AcceptedZone}
 
+-- what a hasher answers for a name in lower-case wire form, an algorithm, iterations and a salt (RFC 5155, 5)
+abbrev pub Hasher : Type 0
+Hasher = List ℕ → ℕ → ℕ → List ℕ → Option (List ℕ)
+
 -- the hash of a name under the chain's parameters, or no octets where it fails
-abbrev pub hash_in : (List ℕ → ℕ → ℕ → List ℕ → Option (List ℕ)) → Mode → Name → List ℕ
+abbrev pub hash_in : Hasher → Mode → Name → List ℕ
 hash_in hash Nsec n = []
 hash_in hash (Nsec3 iterations salt optout) n = unwrap_or (hash (wire (low n)) 1 iterations salt) []
 
 -- how the zone is served
-abbrev pub served : (List ℕ → ℕ → ℕ → List ℕ → Option (List ℕ)) → AcceptedZone → Served
+abbrev pub served : Hasher → AcceptedZone → Served
 served hash z = served_of z.apex z.mode (hash_in hash z.mode) z.records
 
 -- each name that a question concerns has a hash
-abbrev pub HaveHashes : (List ℕ → ℕ → ℕ → List ℕ → Option (List ℕ)) → Mode → Name → Name → Type 0
+abbrev pub HaveHashes : Hasher → Mode → Name → Name → Type 0
 HaveHashes hash Nsec apex q = Unit {0}
 HaveHashes hash (Nsec3 iterations salt optout) apex q =
     (n : Name) → Contains (concerned (low apex) (low q)) n → IsSome (hash (wire n) 1 iterations salt)
 
--- What a zone with a chain of hashes asks of its hasher for a question: it hashes the names concerned, and no two of them,
--- or of the chain, share a hash.
-pub record HashesHold (hash : List ℕ → ℕ → ℕ → List ℕ → Option (List ℕ)) (mode : Mode) (z : Zone) (q : Name) : Type 0 where
+-- what a hasher answers under the chain's parameters are octets
+abbrev pub HashesOctets : Hasher → Mode → Type 0
+HashesOctets hash Nsec = Unit {0}
+HashesOctets hash (Nsec3 iterations salt optout) =
+    (name h : List ℕ) → hash name 1 iterations salt ≡ Some h → AllByRecursion (λ x. x < 256) h
+
+-- What a zone with a chain of hashes asks of its hasher for a question: it answers octets, it hashes the names concerned, and
+-- no two of them, or of the chain, share a hash.
+pub record HashesHold (hash : Hasher) (mode : Mode) (z : Zone) (q : Name) : Type 0 where
+  pub octets : HashesOctets hash mode
   pub made : HaveHashes hash mode z.name q
   pub apart : NoSharedHash z (hash_in hash mode) mode q

@@ -1,6 +1,7 @@
 pub mod Accepting
 pub mod Served
 pub mod Links
+pub mod HashedLinks
 pub mod ZoneView
 pub mod GroupView
 pub mod Hashing
@@ -11,3 +12,5 @@ pub mod Told
 pub mod Alike
 pub mod FactsCase
 pub mod Servable
+pub mod Chainable
+pub mod Accepted

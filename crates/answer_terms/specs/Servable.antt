@@ -9,12 +9,14 @@ use Rattle.denial_rules.specs.Deciding.{decided}
 use Rattle.denial_rules.specs.OwnFacts.{own_facts}
 use Rattle.messages.specs.HandedRr.{HandedRr}
 use Rattle.messages.specs.Message.{Asked}
-use Rattle.answer_terms.specs.Accepting.{IsAccepted, zone_of}
+use Rattle.answer_terms.specs.Accepting.{zone_of}
+use Rattle.answer_terms.specs.Accepted.{IsAccepted}
 use Rattle.answer_terms.specs.Asking.{is_allowed}
+use Rattle.answer_terms.specs.Hashing.{Hasher}
 
 -- an accepted list spells a zone that can be served
 abbrev pub AcceptedIsServable : Type 0
-AcceptedIsServable = (apex : Name) (mode : Mode) (limit : ℕ) (rs : List HandedRr) → IsAccepted apex mode limit rs → IsServable (zone_of apex rs)
+AcceptedIsServable = (hasher : Hasher) (apex : Name) (mode : Mode) (limit : ℕ) (rs : List HandedRr) → IsAccepted hasher apex mode limit rs → IsServable (zone_of apex rs)
 
 -- An allowed question asks for a type that is asked for, at or below the apex.
 pub record IsAskedInside (apex : Name) (asked : Asked) : Type 0 where
@@ -24,7 +26,7 @@ pub record IsAskedInside (apex : Name) (asked : Asked) : Type 0 where
 -- The facts of an accepted zone's own answer to an allowed question decide its verdict.
 abbrev pub AllowedAnswersDecide : Type 0
 AllowedAnswersDecide =
-    (apex : Name) (mode : Mode) (limit : ℕ) (rs : List HandedRr) (hash : Name → List ℕ) (asked : Asked)
-    → IsAccepted apex mode limit rs → is_allowed apex asked ≡ true → asked.rtype < 65536 → NoSharedHash (zone_of apex rs) hash mode asked.name
+    (hasher : Hasher) (apex : Name) (mode : Mode) (limit : ℕ) (rs : List HandedRr) (hash : Name → List ℕ) (asked : Asked)
+    → IsAccepted hasher apex mode limit rs → is_allowed apex asked ≡ true → asked.rtype < 65536 → NoSharedHash (zone_of apex rs) hash mode asked.name
     → decided apex hash (own_facts (zone_of apex rs) hash mode asked.name asked.rtype) asked.name asked.rtype
     ≡ Some (verdict (zone_of apex rs) (optout_of mode) asked.name asked.rtype)

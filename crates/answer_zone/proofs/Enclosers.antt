@@ -1,44 +1,121 @@
 -- The closest encloser, sought label by label.
-use Rattle.std.proofs.Common.{◌≡◌, ℕ, suc, ◌-◌, ◌<◌, ◌≤◌, true, false, [], length, drop, drop-cons, sym, ap, ◌∙◌, arith}
+use Rattle.std.proofs.Common.{◌≡◌, ℕ, zero, suc, ◌+◌, ◌-◌, ◌<◌, ◌≤◌, Bool, true, false, List, [], ◌∷◌, length, drop, drop-cons, get_or, refl, sym, ap, ◌∙◌, arith}
 use Rattle.std.specs.Prelude.{if◌then◌else◌}
+use Rattle.std.proofs.lemmas.Bool.{false_from_ne_true, or_right}
 use Rattle.std.specs.Str.{str_to_ascii_lowercase}
-use Rattle.std.proofs.lemmas.List.{drop_all, drop-map, length-map}
-use Rattle.definitions.specs.Name.{Name, low}
-use Rattle.definitions.specs.Zone.{Zone, exists}
-use Rattle.denial_rules.specs.OwnFacts.{kept_ancestor}
+use Rattle.std.proofs.lemmas.List.{drop_all, drop-map, length-drop, length-map}
+use Rattle.definitions.specs.Name.{Name, at_or_above, labels_eq, low, same}
+use Rattle.definitions.specs.Zone.{Zone, kept}
+use Rattle.definitions.proofs.NameLaws.{labels_decide}
+use Rattle.definitions.proofs.ZoneNames.{above_itself}
+use Rattle.denial_rules.specs.OwnFacts.{kept_ancestor, next_closer}
+use Rattle.denial_rules.proofs.NameFacts.{strictly_at}
 
 -- one label further up
-ancestor_step : (z : Zone) (m : Name) (k : ℕ) → k < length m → kept_ancestor z false (drop k m) ≡ (if exists z (drop (suc k) m) then drop (suc k) m else kept_ancestor z false (drop (suc k) m))
-ancestor_step z m k h = ap (kept_ancestor z false) (drop-cons m k [] h)
+ancestor_step : (z : Zone) (ex : Bool) (m : Name) (k : ℕ) → k < length m → kept_ancestor z ex (drop k m) ≡ (if kept z ex (drop (suc k) m) then drop (suc k) m else kept_ancestor z ex (drop (suc k) m))
+ancestor_step z ex m k h = ap (kept_ancestor z ex) (drop-cons m k [] h)
 
 low-drop : (k : ℕ) (n : Name) → low (drop k n) ≡ drop k (low n)
 low-drop k n = sym (drop-map str_to_ascii_lowercase k n)
 
 -- what is looked at next, after so many labels are left
-next_up : (z : Zone) (name : Name) (count : ℕ) → 0 < count → count ≤ length name
-    → kept_ancestor z false (drop (length name - count) (low name)) ≡ (if exists z (drop (length name - (count - 1)) (low name)) then drop (length name - (count - 1)) (low name) else kept_ancestor z false (drop (length name - (count - 1)) (low name)))
-next_up z name count a b =
+next_up : (z : Zone) (ex : Bool) (name : Name) (count : ℕ) → 0 < count → count ≤ length name
+    → kept_ancestor z ex (drop (length name - count) (low name)) ≡ (if kept z ex (drop (length name - (count - 1)) (low name)) then drop (length name - (count - 1)) (low name) else kept_ancestor z ex (drop (length name - (count - 1)) (low name)))
+next_up z ex name count a b =
     let n = length-map name str_to_ascii_lowercase in
     let inside : length name - count < length (low name) = omega (arith, n) in
     let k : suc (length name - count) ≡ length name - (count - 1) = omega arith in
-    ancestor_step z (low name) (length name - count) inside
-    ∙ ap (λ j. if exists z (drop j (low name)) then drop j (low name) else kept_ancestor z false (drop j (low name))) k
+    ancestor_step z ex (low name) (length name - count) inside
+    ∙ ap (λ j. if kept z ex (drop j (low name)) then drop j (low name) else kept_ancestor z ex (drop j (low name))) k
 
-pub encloser_here : (z : Zone) (name a : Name) (count : ℕ) → 0 < count → count ≤ length name → a ≡ drop (length name - (count - 1)) name
-    → kept_ancestor z false (low name) ≡ kept_ancestor z false (drop (length name - count) (low name)) → exists z (low a) ≡ true → low a ≡ kept_ancestor z false (low name)
-encloser_here z name a count h k is so e =
+pub encloser_here : (z : Zone) (ex : Bool) (name a : Name) (count : ℕ) → 0 < count → count ≤ length name → a ≡ drop (length name - (count - 1)) name
+    → kept_ancestor z ex (low name) ≡ kept_ancestor z ex (drop (length name - count) (low name)) → kept z ex (low a) ≡ true → low a ≡ kept_ancestor z ex (low name)
+encloser_here z ex name a count h k is so e =
     let j = length name - (count - 1) in
     let lowered : low a ≡ drop j (low name) = ap low is ∙ low-drop j name in
-    lowered ∙ sym (so ∙ next_up z name count h k ∙ ap (λ b. if b then drop j (low name) else kept_ancestor z false (drop j (low name))) (ap (exists z) (sym lowered) ∙ e))
+    lowered ∙ sym (so ∙ next_up z ex name count h k ∙ ap (λ b. if b then drop j (low name) else kept_ancestor z ex (drop j (low name))) (ap (kept z ex) (sym lowered) ∙ e))
 
-pub encloser_past : (z : Zone) (name a : Name) (count : ℕ) → 0 < count → count ≤ length name → a ≡ drop (length name - (count - 1)) name
-    → kept_ancestor z false (low name) ≡ kept_ancestor z false (drop (length name - count) (low name)) → exists z (low a) ≡ false → kept_ancestor z false (low name) ≡ kept_ancestor z false (drop (length name - (count - 1)) (low name))
-encloser_past z name a count h k is so e =
+pub encloser_past : (z : Zone) (ex : Bool) (name a : Name) (count : ℕ) → 0 < count → count ≤ length name → a ≡ drop (length name - (count - 1)) name
+    → kept_ancestor z ex (low name) ≡ kept_ancestor z ex (drop (length name - count) (low name)) → kept z ex (low a) ≡ false → kept_ancestor z ex (low name) ≡ kept_ancestor z ex (drop (length name - (count - 1)) (low name))
+encloser_past z ex name a count h k is so e =
     let j = length name - (count - 1) in
     let lowered : low a ≡ drop j (low name) = ap low is ∙ low-drop j name in
-    so ∙ next_up z name count h k ∙ ap (λ b. if b then drop j (low name) else kept_ancestor z false (drop j (low name))) (ap (exists z) (sym lowered) ∙ e)
+    so ∙ next_up z ex name count h k ∙ ap (λ b. if b then drop j (low name) else kept_ancestor z ex (drop j (low name))) (ap (kept z ex) (sym lowered) ∙ e)
 
-pub encloser_none : (z : Zone) (name : Name) (count : ℕ) → count ≡ 0 → kept_ancestor z false (low name) ≡ kept_ancestor z false (drop (length name - count) (low name)) → [] ≡ kept_ancestor z false (low name)
-encloser_none z name count e so =
+pub encloser_none : (z : Zone) (ex : Bool) (name : Name) (count : ℕ) → count ≡ 0 → kept_ancestor z ex (low name) ≡ kept_ancestor z ex (drop (length name - count) (low name)) → [] ≡ kept_ancestor z ex (low name)
+encloser_none z ex name count e so =
     let all : length (low name) ≤ length name - count = omega (arith, length-map name str_to_ascii_lowercase) in
-    sym (so ∙ ap (kept_ancestor z false) (drop_all (length name - count) (low name) all))
+    sym (so ∙ ap (kept_ancestor z ex) (drop_all (length name - count) (low name) all))
+
+-- ---- the next closer name
+
+-- an ancestor is what is left behind some labels, fewer than all but one
+record IsBehind (q e : Name) : Type 0 where
+  skipped : ℕ
+  within : skipped < length q
+  is : e ≡ drop (suc skipped) q
+
+root_either : (b : Bool) → if◌then◌else◌ {A = Name} b [] [] ≡ []
+root_either true = refl
+root_either false = refl
+
+-- every kept ancestor is one, or the root
+ancestor_behind : (z : Zone) (ex : Bool) (l : List ℕ) (q : Name) → IsBehind (l ∷ q) (kept_ancestor z ex (l ∷ q))
+ancestor_behind z ex l [] =
+    record { skipped = 0; within = omega arith; is = root_either (kept z ex []) }
+ancestor_behind z ex l (m ∷ q) = go (kept z ex (m ∷ q)) (ancestor_behind z ex m q)
+  where
+    go : (b : Bool) → IsBehind (m ∷ q) (kept_ancestor z ex (m ∷ q)) → IsBehind (l ∷ m ∷ q) (if b then m ∷ q else kept_ancestor z ex (m ∷ q))
+    go true r = record { skipped = 0; within = omega arith; is = refl }
+    go false r = record { skipped = suc r.skipped; within = (let w = r.within in omega arith); is = r.is }
+
+unlike_lengths : (a b : Name) → (length a ≡ length b → ⊥) → labels_eq a b ≡ false
+unlike_lengths a b f = false_from_ne_true (labels_eq a b) (λ e. f (ap length ((labels_decide a b).0 e)))
+
+closer_behind : (k : ℕ) (q : Name) → k < length q → next_closer (drop (suc k) q) q ≡ drop k q
+closer_behind k [] h = absurd (omega arith)
+closer_behind zero (l ∷ q) h = ap (λ b. if b then l ∷ q else next_closer q q) ((labels_decide q q).1 refl)
+closer_behind (suc k) (l ∷ q) h =
+    let inside : k < length q = omega arith in
+    let shorter : labels_eq (drop (suc k) q) q ≡ false = unlike_lengths (drop (suc k) q) q (λ e. let n = length-drop (suc k) q in omega arith) in
+    ap (λ b. if b then l ∷ q else next_closer (drop (suc k) q) q) shorter ∙ closer_behind k q inside
+
+-- the last labels of a name, one more than its kept ancestor has
+pub closer_found : (z : Zone) (ex : Bool) (name e c : Name) (count : ℕ) → low e ≡ kept_ancestor z ex (low name) → c ≡ drop (length name - count) name → (length e < length name → count ≡ length e + 1) → low c ≡ next_closer (kept_ancestor z ex (low name)) (low name)
+closer_found z ex [] e c count is so few = ap low (so ∙ drop_all (0 - count) [] (omega arith))
+closer_found z ex (l ∷ n) e c count is so few =
+    let name : Name = l ∷ n in
+    let q : Name = low name in
+    let r : IsBehind q (kept_ancestor z ex q) = ancestor_behind z ex (str_to_ascii_lowercase l) (low n) in
+    let long : length q ≡ length name = length-map name str_to_ascii_lowercase in
+    let short : length (low e) ≡ length e = length-map e str_to_ascii_lowercase in
+    let same : length (low e) ≡ length (drop (suc r.skipped) q) = ap length (is ∙ r.is) in
+    let left : length (drop (suc r.skipped) q) ≡ length q - suc r.skipped = length-drop (suc r.skipped) q in
+    let w : r.skipped < length q = r.within in
+    let fewer : length e < length name = omega (arith, long, short, same, left, w) in
+    let counted : count ≡ length e + 1 = few fewer in
+    let place : length name - count ≡ r.skipped = omega (arith, long, short, same, left, w, counted) in
+    ap low so ∙ low-drop (length name - count) name ∙ ap (λ k. drop k q) place
+    ∙ sym (ap (λ m. next_closer m q) r.is ∙ closer_behind r.skipped q w)
+
+-- the next closer name is at or above the name, and below the ancestor
+pub record IsCloser (q e c : Name) : Type 0 where
+  pub above : at_or_above c q ≡ true
+  pub below : (n : Name) → at_or_above n e ≡ true → at_or_above n c ≡ true
+  pub lowered : low q ≡ q → low c ≡ c
+
+behind_above : (n : ℕ) (q : Name) → at_or_above (drop n q) q ≡ true
+behind_above zero q = above_itself q
+behind_above (suc n) [] = refl
+behind_above (suc n) (l ∷ q) = or_right (same (drop n q) (l ∷ q)) (at_or_above (drop n q) q) (behind_above n q)
+
+pub closer_there : (z : Zone) (ex : Bool) (l : List ℕ) (q : Name) → IsCloser (l ∷ q) (kept_ancestor z ex (l ∷ q)) (next_closer (kept_ancestor z ex (l ∷ q)) (l ∷ q))
+closer_there z ex l q =
+    let r : IsBehind (l ∷ q) (kept_ancestor z ex (l ∷ q)) = ancestor_behind z ex l q in
+    let k = r.skipped in
+    let is : next_closer (kept_ancestor z ex (l ∷ q)) (l ∷ q) ≡ drop k (l ∷ q) = ap (λ m. next_closer m (l ∷ q)) r.is ∙ closer_behind k (l ∷ q) r.within in
+    record {
+      above = ap (λ c. at_or_above c (l ∷ q)) is ∙ behind_above k (l ∷ q);
+      below = λ n a. ap (at_or_above n) (is ∙ drop-cons (l ∷ q) k [] r.within) ∙ strictly_at n (get_or (l ∷ q) k [] ∷ drop (suc k) (l ∷ q)) (ap (at_or_above n) (sym r.is) ∙ a);
+      lowered = λ lq. ap low is ∙ low-drop k (l ∷ q) ∙ ap (drop k) lq ∙ sym is;
+    }

@@ -5,8 +5,14 @@ pub mod ZoneTtls
 pub mod ZoneFaults
 pub mod ZoneWords
 pub mod ZoneMade
+pub mod HashedMade
 pub mod ZoneLinks
+pub mod Spoken
+pub mod ChainProofs
+pub mod Kept
+pub mod Failures
+pub mod HashedSaid
 pub mod WritesNames
 pub mod ZoneGroups
 pub mod Enclosers
-pub mod OneMode
+pub mod Concerned

@@ -1,21 +1,21 @@
 -- The verdict on a question, from what is found of it in an accepted zone, and the answer for it.
-use Rattle.std.proofs.Common.{◌≡◌, ℕ, Bool, true, false, ◌&&◌, ◌||◌, not, List, [], ◌∷◌, ◌++◌, Option, Some, None, refl, sym, ap, subst, ◌∙◌, eqb, length, inl, inr}
+use Rattle.std.proofs.Common.{◌≡◌, ℕ, Bool, true, false, ◌&&◌, ◌||◌, not, List, [], ◌∷◌, ◌++◌, Option, Some, None, refl, sym, ap, subst, ◌∙◌, ◌⊎◌, eqb, length, inl, inr}
 use Rattle.std.specs.Prelude.{◌==◌, if◌then◌else◌}
 use Rattle.std.specs.List.{AllByRecursion, AllZip, list_any}
-use Rattle.std.proofs.lemmas.Bool.{and_parts, and_from, or_right, false≢true, false_from_ne_true, eqb-true, cases_Bool}
+use Rattle.std.proofs.lemmas.Bool.{and_parts, and_from, or_cases, or_right, not-true, false≢true, false_from_ne_true, eqb-true, cases_Bool}
 use Rattle.std.proofs.lemmas.Slice.Zip.{AllZip-long}
 use Rattle.definitions.specs.Name.{Name, low, labels_eq, same, at_or_above, strictly_above}
-use Rattle.definitions.specs.Zone.{Zone, Verdict, Records, NoType, NoName, StarRecords, StarNoType, Delegated, apex_of, has, is_delegation, is_live, cut, exists, ce, data_at, star_under, verdict}
+use Rattle.definitions.specs.Zone.{Zone, Verdict, Records, NoType, NoName, StarRecords, StarNoType, Delegated, Open, apex_of, is_open, kept, kept_cut_above, has, is_delegation, is_live, cut, exists, ce, data_at, star_under, verdict}
 use Rattle.definitions.specs.Zone as zone
 use Rattle.definitions.proofs.NameLaws.{labels_decide}
-use Rattle.definitions.proofs.VerdictCases.{verdict-alone}
+use Rattle.definitions.proofs.VerdictCases.{said, verdict-alone, verdict-open, verdict-said}
 use Rattle.definitions.proofs.ZoneNames.{above_itself, apex_in_chain, kept-live, low-low}
 use Rattle.definitions.proofs.Members.{any_of, contained}
 use Rattle.denial_rules.specs.OwnFacts.{kept_ancestor}
 use Rattle.denial_rules.specs.Truth.{is_signed}
 use Rattle.denial_rules.proofs.ChainBits.{all_at}
 use Rattle.denial_rules.proofs.NameFacts.{above-low, above_trans, same_names, strictly_at, strictly_from}
-use Rattle.denial_rules.proofs.ZoneCuts.{IsCut, IsEncloser, NoneAbove, ce_encloses, cut_is, cut_live, delegation_owner, has_owner, kept_inside, kept_lowered, owner_kept, uncut, uncut_live}
+use Rattle.denial_rules.proofs.ZoneCuts.{IsBelowKeptCut, IsCut, IsEncloser, NoneAbove, below_cut, kept_exists, live_kept, ce_encloses, cut_is, cut_live, delegation_owner, has_owner, kept_inside, kept_lowered, owner_kept, uncut, uncut_live}
 use Rattle.denial_rules.proofs.Verdicts.{lacking, verdict_by_star, verdict_delegated, verdict_ds, verdict_existing, verdict_signed}
 use Rattle.messages.specs.HandedRr.{HandedRr}
 use Rattle.messages.proofs.Lists.{zip_append}
@@ -104,7 +104,7 @@ module _ (z : Zone) (q : Name) (t : ℕ) where
             verdict_ds z false q t (eqb-true t 43 k.ds) k.delegation (kept-live z (low q) ∙ k.live) ∙ lacking z (low q) t h
 
     -- a name that does not exist is below no delegation
-    below_none : exists z (low q) ≡ false → cut z (low q) ≡ None
+    pub below_none : exists z (low q) ≡ false → cut z (low q) ≡ None
     below_none x = go (cut z (low q)) refl
       where
         go : (c : Option Name) → cut z (low q) ≡ c → c ≡ None
@@ -158,6 +158,46 @@ module _ (z : Zone) (x : exists z (apex_of z) ≡ true) (q : Name) (t : ℕ) (no
 
   pub star_no_type : at_or_above (apex_of z) (low q) ≡ true → exists z star ≡ true → has z star t ≡ false → verdict z false q t ≡ StarNoType
   star_no_type a s h = by_star a ∙ (λ i. if s i then (if h i then StarRecords (data_at z star t) else StarNoType) else NoName)
+
+-- ---- opt-out
+
+-- where nothing is left open the verdict is that without opt-out
+pub closed : (z : Zone) (ex : Bool) (q : Name) (t : ℕ) → is_open z ex (low q) ≡ false → verdict z ex q t ≡ verdict z false q t
+closed z ex q t e = verdict-said z ex q (low q) t refl ∙ ap (λ b. said z (low q) t b (cut z (low q)) (exists z (low q)) (ce z (low q))) e ∙ sym (verdict-said z false q (low q) t refl)
+
+pub left_open : (z : Zone) (ex : Bool) (q : Name) (t : ℕ) → is_open z ex (low q) ≡ true → verdict z ex q t ≡ Open
+left_open z ex q t e = verdict-open z ex q (low q) t refl e
+
+-- a name that does not exist, below no delegation, is closed only where nothing is excluded
+pub plain_zone : (z : Zone) (ex : Bool) (q : Name) → is_open z ex (low q) ≡ false → exists z (low q) ≡ false → cut z (low q) ≡ None → ex ≡ false
+plain_zone z false q o x n = refl
+plain_zone z true q o x n = go (kept z true (low q)) refl (kept_cut_above z true (low q)) refl o
+  where
+    go : (k : Bool) → kept z true (low q) ≡ k → (c : Bool) → kept_cut_above z true (low q) ≡ c → (not k && not c) ≡ false → true ≡ false
+    go true e c f h = absurd (false≢true (sym x ∙ kept_exists z true (low q) e))
+    go false e true f h =
+        let b : IsBelowKeptCut z true (low q) = below_cut z true (low q) f in
+        absurd (uncut z (low q) (low-low q) n b.cut b.delegation (strictly_at b.cut (low q) b.above))
+    go false e false f h = h
+
+-- what stands at a name that is left open is not signed
+pub no_record : (z : Zone) (ex : Bool) (q : Name) (t : ℕ) → NoneRefers z (low q) t → is_open z ex (low q) ≡ true → at_or_above (apex_of z) (low q) ≡ true → has z (low q) t ≡ true → ⊥
+no_record z ex q t none o a h =
+    let outer = and_parts (ex && not (kept z ex (low q))) (not (kept_cut_above z ex (low q))) o in
+    let gone : kept z ex (low q) ≡ false = not-true (kept z ex (low q)) (and_parts ex (not (kept z ex (low q))) outer.0).1 in
+    let signed = signed_there z q t none a h in
+    let parts = and_parts (is_live z (low q) && (not (is_delegation z (low q)) || (t == 43))) (has z (low q) t) signed in
+    let live = and_parts (is_live z (low q)) (not (is_delegation z (low q)) || (t == 43)) parts.0 in
+    let plain : (is_delegation z (low q) ≡ false) ⊎ (has z (low q) 43 ≡ true) = elim (or_cases (not (is_delegation z (low q))) (t == 43) live.1) [
+      | inl n ↦ inl (not-true (is_delegation z (low q)) n)
+      | inr e ↦ inr (ap (has z (low q)) (sym (eqb-true t 43 e)) ∙ h)
+    ] in
+    false≢true (sym gone ∙ owner_kept z ex (low q) (has_owner z (low q) t h) (live_kept z ex (low q) live.0 plain))
+
+-- no delegation refers away
+pub not_referred : {A : Type 0} (z : Zone) (q : Name) (t : ℕ) (x : A) (f : Name → A) → NoneRefers z q t → (c : Option Name) → cut z q ≡ c → elim c as (λ _. A) [ None ↦ x | Some c ↦ (if labels_eq c q && (t == 43) then x else f c) ] ≡ x
+not_referred z q t x f none None e = refl
+not_referred z q t x f none (Some c) e = ap (λ b. if b then x else f c) (none c e)
 
 -- an RRset without its signatures
 pub unsigned_presents : (g h : GroupView) (of : Group) → h ≡ record g { signed = false } → Presents g of → Presents h (record of { signed = false })

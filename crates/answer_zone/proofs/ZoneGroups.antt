@@ -39,7 +39,7 @@ passed own q t owner gs rs i r h e is before =
     before ∙ ap (λ xs. all_spelled_by own owner (map written_of_handed xs)) (sym (step (is_of q t) rs i r false h e is ∙ append-nil (filter (is_of q t) (take i rs))))
 
 -- records that are written one after another
-pub written_more : {D : Type 0} (h : GroupRecord → Written) (f : D → Written) (gs hs : List GroupRecord) (g : GroupRecord) (ds : List D) (i : ℕ) (d : D) → hs ≡ gs ++ g ∷ [] → i < length ds → d ≡ get_or ds i d → h g ≡ f d
+pub written_more : {A C D : Type 0} (h : A → C) (f : D → C) (gs hs : List A) (g : A) (ds : List D) (i : ℕ) (d : D) → hs ≡ gs ++ g ∷ [] → i < length ds → d ≡ get_or ds i d → h g ≡ f d
     → map h gs ≡ map f (take i ds) → map h hs ≡ map f (take (i + 1) ds)
 written_more h f gs hs g ds i d pushed inside e made before =
     ap (map h) pushed ∙ map-append h gs (g ∷ []) ∙ (λ j. before j ++ made j ∷ [])

@@ -1,7 +1,7 @@
 -- Records of the chain that match or cover names, one after another.
 use Rattle.std.proofs.Common.{◌≡◌, ℕ, ◌+◌, ◌<◌, Bool, true, false, ◌&&◌, ◌||◌, List, [], ◌∷◌, ◌++◌, map, inl, inr, refl, sym, ap, subst, ◌∙◌, ⊎_elim, cond, Ordering, append_assoc, length, take, get_or, if◌then◌else◌}
 use Rattle.std.specs.declared.cmp.Ordering.TheVariants.{Less, Equal, Greater}
-use Rattle.std.specs.List.{AllByRecursion, filter}
+use Rattle.std.specs.List.{AllByRecursion, AllZip, filter}
 use Rattle.std.specs.Ordering.{is_lt}
 use Rattle.std.proofs.lemmas.Bool.{cases_Bool, false_from_ne_true}
 use Rattle.std.proofs.lemmas.List.{append-nil, map-append}
@@ -56,6 +56,10 @@ adds_then a b c gs hs h k =
 
 pub adds_one : (old new : List GroupView) (g : GroupView) (is : Group) → Presents g is → new ≡ old ++ g ∷ [] → Adds old new (is ∷ [])
 adds_one old new g is h e = (g ∷ [], (h, tt), e)
+
+-- behind what was there
+pub added : (old new : List GroupView) (gs hs : List Group) → AllZip Presents old gs → Adds old new hs → AllZip Presents new (gs ++ hs)
+added old new gs hs h k = subst (λ vs. AllZip Presents vs (gs ++ hs)) (sym k.2) (zip_append Presents old gs k.0 hs h k.1)
 
 -- ---- those so far
 

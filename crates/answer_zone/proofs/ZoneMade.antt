@@ -4,20 +4,23 @@ use Rattle.std.specs.Prelude.{IsSome}
 use Rattle.std.specs.List.{AllByRecursion}
 use Rattle.definitions.specs.Name.{Name}
 use Rattle.definitions.specs.Sorting.{sort_by}
-use Rattle.definitions.specs.ZoneChain.{Mode, Nsec, optout_of}
+use Rattle.definitions.specs.ZoneChain.{Mode, Nsec, Nsec3, optout_of}
 use Rattle.plain.specs.ZoneData.{zone_canonical, zone_type}
 use Rattle.plain.specs.declared.record.Record.{Record}
 use Rattle.plain.specs.declared.zone_data.ZoneRecordData.{ZoneRecordData}
 use Rattle.denial_owners.specs.Conditions.{IsOneClass}
-use Rattle.denial_owners.specs.Refused.{IsOwnersFault}
 use Rattle.denial_owners.specs.Soa.{soa_ttls}
 use Rattle.denial_owners.specs.Ttls.{has_unequal_ttls}
 use Rattle.denial_owners.specs.declared.error.SigningError.{SigningError}
 use Rattle.denial_owners.specs.declared.error.SigningError.TheVariants.{NoSingleSoa, MultipleTtlValues, HashFailed, HashTooLong, HashCollision, Memory}
 use Rattle.messages.specs.HandedRr.{handed_of}
 use Rattle.messages.proofs.Lists.{all_more}
-use Rattle.answer_terms.specs.Accepting.{IsAccepted, IsFaultless, has_unlike_ttls, soas, sorted_records, zone_with}
-use Rattle.answer_zone.specs.Faults.{RefusesZone, first_fault, zone_fault}
+use Rattle.answer_terms.specs.Accepted.{IsAccepted}
+use Rattle.answer_terms.specs.Accepting.{IsFaultless, has_unlike_ttls, soas, sorted_records, zone_with}
+use Rattle.answer_terms.specs.Chainable.{HasChain}
+use Rattle.answer_terms.specs.Hashing.{Hasher}
+use Rattle.answer_zone.specs.Faults.{IsModeFault, RefusesZone, first_fault, zone_fault}
+use Rattle.answer_zone.specs.MadeLinks.{IsMade, IsUnmade}
 use Rattle.answer_terms.proofs.ZoneFaultless.{HasNoFault, no_fault_from}
 use Rattle.answer_zone.proofs.ZoneFaults.{faultless}
 use Rattle.answer_zone.proofs.ZoneOrder.{IsInternet, all_internet, handed_in_order, sorted_internet, zone_cmp}
@@ -27,7 +30,7 @@ one_class_of : {O : Type 0} (rs : List (Record Name (ZoneRecordData O Name))) �
 one_class_of [] h = tt
 one_class_of (r ∷ rs) h = all_more IsInternet (λ s. s.class ≡ r.class) rs (λ s e. e ∙ sym h.0) h.1
 
-module _ {O : Type 0} (apex : Name) (mode : Mode) (limit : ℕ) (rs : List (Record Name (ZoneRecordData O Name))) (of_names : mode ≡ Nsec) (none : first_fault apex mode limit (map handed_of rs) ≡ None) where
+module _ {O : Type 0} (hash : Hasher) (apex : Name) (mode : Mode) (limit : ℕ) (rs : List (Record Name (ZoneRecordData O Name))) (none : first_fault apex mode limit (map handed_of rs) ≡ None) where
   no_fault : IsFaultless apex mode limit (map handed_of rs)
   no_fault = faultless apex mode limit (map handed_of rs) none
 
@@ -43,23 +46,27 @@ module _ {O : Type 0} (apex : Name) (mode : Mode) (limit : ℕ) (rs : List (Reco
   kept : HasNoFault apex (map handed_of (sort_by zone_cmp rs))
   kept = subst (HasNoFault apex) (sym in_order) (no_fault_from apex mode limit (map handed_of rs) no_fault)
 
-  unequal : has_unequal_ttls (λ n. n) zone_type (zone_canonical (λ n. n)) apex false (sort_by zone_cmp rs) ≡ has_unlike_ttls (zone_with apex (sorted_records (map handed_of rs))) (optout_of mode) (sorted_records (map handed_of rs))
+  unequal : has_unequal_ttls (λ n. n) zone_type (zone_canonical (λ n. n)) apex (optout_of mode) (sort_by zone_cmp rs) ≡ has_unlike_ttls (zone_with apex (sorted_records (map handed_of rs))) (optout_of mode) (sorted_records (map handed_of rs))
   unequal =
-      ttls_are apex (sort_by zone_cmp rs)
-      ∙ ap (λ hs. has_unlike_ttls (zone_with apex hs) false hs) in_order
-      ∙ ap (λ m. has_unlike_ttls (zone_with apex (sorted_records (map handed_of rs))) (optout_of m) (sorted_records (map handed_of rs))) (sym of_names)
+      ttls_are (optout_of mode) apex (sort_by zone_cmp rs)
+      ∙ ap (λ hs. has_unlike_ttls (zone_with apex hs) (optout_of mode) hs) in_order
 
-  pub refused : (e : SigningError) → IsOwnersFault (λ n. n) apex false (sort_by zone_cmp rs) e → RefusesZone apex mode limit (map handed_of rs) (zone_fault e)
+  -- a fault of the mode's own
+  by_mode : (e : SigningError) → IsModeFault hash mode (zone_with apex (map handed_of (sort_by zone_cmp rs))) e → IsModeFault hash mode (zone_with apex (sorted_records (map handed_of rs))) e
+  by_mode e h = subst (λ hs. IsModeFault hash mode (zone_with apex hs) e) in_order h
+
+  pub refused : (e : SigningError) → IsUnmade hash apex mode (sort_by zone_cmp rs) e → RefusesZone hash apex mode limit (map handed_of rs) (zone_fault e)
   refused NoSingleSoa h = inr (none, λ one. no_single_soa apex (sort_by zone_cmp rs) kept.known h (ap (λ hs. length (soas apex hs)) in_order ∙ one))
   refused MultipleTtlValues h = inr (none, sym unequal ∙ h)
-  refused HashFailed h = absurd h
-  refused HashTooLong h = absurd h
-  refused HashCollision h = absurd h
+  refused HashFailed h = inr (none, by_mode HashFailed h)
+  refused HashTooLong h = inr (none, by_mode HashTooLong h)
+  refused HashCollision h = inr (none, by_mode HashCollision h)
   refused Memory h = inl (refl, none)
 
-  pub accepted : IsSome (soa_ttls (λ n. n) apex (sort_by zone_cmp rs)) → has_unequal_ttls (λ n. n) zone_type (zone_canonical (λ n. n)) apex false (sort_by zone_cmp rs) ≡ false → IsAccepted apex mode limit (map handed_of rs)
-  accepted soa ttls = record {
+  pub accepted : IsMade hash apex mode (sort_by zone_cmp rs) → IsAccepted hash apex mode limit (map handed_of rs)
+  accepted m = record {
     faultless = no_fault;
-    soa = ap (λ hs. length (soas apex hs)) (sym in_order) ∙ single_soa apex (sort_by zone_cmp rs) soa;
-    ttls = sym unequal ∙ ttls;
+    soa = ap (λ hs. length (soas apex hs)) (sym in_order) ∙ single_soa apex (sort_by zone_cmp rs) m.soa;
+    ttls = sym unequal ∙ m.ttls;
+    chain = subst (λ hs. HasChain hash mode (zone_with apex hs)) in_order m.chain;
   }

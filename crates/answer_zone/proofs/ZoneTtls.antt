@@ -115,32 +115,32 @@ module _ {O : Type 0} where
   abbrev unlike : Record Name (ZoneRecordData O Name) → Record Name (ZoneRecordData O Name) → Bool
   unlike r s = same r.owner s.owner && words.unlike_ttls zone_type r s
 
-  abbrev keeps : Zone → Record Name (ZoneRecordData O Name) → Bool
-  keeps z r = is_kept z false (low r.owner)
+  abbrev keeps : Bool → Zone → Record Name (ZoneRecordData O Name) → Bool
+  keeps ex z r = is_kept z ex (low r.owner)
 
   -- records of one owner are kept or not alike
-  kept_alike : (z : Zone) (r s : Record Name (ZoneRecordData O Name)) → keeps z r ≡ true → unlike r s ≡ (keeps z s && unlike_ttls (handed_of r) (handed_of s))
-  kept_alike z r s k =
+  kept_alike : (ex : Bool) (z : Zone) (r s : Record Name (ZoneRecordData O Name)) → keeps ex z r ≡ true → unlike r s ≡ (keeps ex z s && unlike_ttls (handed_of r) (handed_of s))
+  kept_alike ex z r s k =
       go (same r.owner s.owner) refl
-      ∙ ap (λ b. keeps z s && b) (in_front (same r.owner s.owner) (eqb (zone_type r.content) (zone_type s.content)) (not (eqb r.ttl s.ttl)) (not (eqb (zone_type r.content) 46)))
+      ∙ ap (λ b. keeps ex z s && b) (in_front (same r.owner s.owner) (eqb (zone_type r.content) (zone_type s.content)) (not (eqb r.ttl s.ttl)) (not (eqb (zone_type r.content) 46)))
     where
-      go : (b : Bool) → same r.owner s.owner ≡ b → (b && words.unlike_ttls zone_type r s) ≡ (keeps z s && (b && words.unlike_ttls zone_type r s))
-      go true e = sym (ap (λ b. b && words.unlike_ttls zone_type r s) (ap (is_kept z false) (sym (same_names r.owner s.owner e)) ∙ k))
-      go false e = and_back false (keeps z s)
+      go : (b : Bool) → same r.owner s.owner ≡ b → (b && words.unlike_ttls zone_type r s) ≡ (keeps ex z s && (b && words.unlike_ttls zone_type r s))
+      go true e = sym (ap (λ b. b && words.unlike_ttls zone_type r s) (ap (is_kept z ex) (sym (same_names r.owner s.owner e)) ∙ k))
+      go false e = and_back false (keeps ex z s)
 
-  one_alike : (z : Zone) (rs : List (Record Name (ZoneRecordData O Name))) (r : Record Name (ZoneRecordData O Name)) (b : Bool) → keeps z r ≡ b
-      → (b && list_any (unlike r) rs) ≡ (b && list_any (λ s. keeps z s && unlike_ttls (handed_of r) (handed_of s)) rs)
-  one_alike z rs r true k = any_alike (unlike r) (λ s. keeps z s && unlike_ttls (handed_of r) (handed_of s)) (λ s. kept_alike z r s k) rs
-  one_alike z rs r false k = refl
+  one_alike : (ex : Bool) (z : Zone) (rs : List (Record Name (ZoneRecordData O Name))) (r : Record Name (ZoneRecordData O Name)) (b : Bool) → keeps ex z r ≡ b
+      → (b && list_any (unlike r) rs) ≡ (b && list_any (λ s. keeps ex z s && unlike_ttls (handed_of r) (handed_of s)) rs)
+  one_alike ex z rs r true k = any_alike (unlike r) (λ s. keeps ex z s && unlike_ttls (handed_of r) (handed_of s)) (λ s. kept_alike ex z r s k) rs
+  one_alike ex z rs r false k = refl
 
   -- unequal TTLs, among the records of the owners that a zone keeps
-  pub ttls_are : (apex : Name) (rs : List (Record Name (ZoneRecordData O Name)))
-      → words.has_unequal_ttls (λ n. n) zone_type (zone_canonical (λ n. n)) apex false rs ≡ has_unlike_ttls (zone_with apex (map handed_of rs)) false (map handed_of rs)
-  ttls_are apex rs =
+  pub ttls_are : (ex : Bool) (apex : Name) (rs : List (Record Name (ZoneRecordData O Name)))
+      → words.has_unequal_ttls (λ n. n) zone_type (zone_canonical (λ n. n)) apex ex rs ≡ has_unlike_ttls (zone_with apex (map handed_of rs)) ex (map handed_of rs)
+  ttls_are ex apex rs =
       let hs = map handed_of rs in
       let z = zone_with apex hs in
-      let kept : HandedRr → Bool = λ r. is_kept z false (low r.owner) in
-      ap (λ z. list_any (λ r. keeps z r && list_any (unlike r) rs) rs) (zone_is apex rs)
-      ∙ any_alike (λ r. keeps z r && list_any (unlike r) rs) (λ r. kept (handed_of r) && list_any (unlike_ttls (handed_of r)) (filter kept hs))
-      (λ r. one_alike z rs r (keeps z r) refl ∙ ap (λ b. keeps z r && b) (sym (any_kept kept (unlike_ttls (handed_of r)) handed_of rs))) rs
+      let kept : HandedRr → Bool = λ r. is_kept z ex (low r.owner) in
+      ap (λ z. list_any (λ r. keeps ex z r && list_any (unlike r) rs) rs) (zone_is apex rs)
+      ∙ any_alike (λ r. keeps ex z r && list_any (unlike r) rs) (λ r. kept (handed_of r) && list_any (unlike_ttls (handed_of r)) (filter kept hs))
+      (λ r. one_alike ex z rs r (keeps ex z r) refl ∙ ap (λ b. keeps ex z r && b) (sym (any_kept kept (unlike_ttls (handed_of r)) handed_of rs))) rs
       ∙ sym (any_kept kept (λ r. list_any (unlike_ttls r) (filter kept hs)) handed_of rs)

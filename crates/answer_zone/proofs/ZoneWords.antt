@@ -17,7 +17,7 @@ use Rattle.answer_terms.specs.Links.{ChainLink, link_at, links_of}
 use Rattle.answer_zone.specs.MadeLinks.{link_of}
 use Rattle.answer_terms.specs.Served.{spelled_among, spelled_as}
 
-map_agree : {A B : Type 0} (f g : A → B) → ((a : A) → f a ≡ g a) → (xs : List A) → map f xs ≡ map g xs
+pub map_agree : {A B : Type 0} (f g : A → B) → ((a : A) → f a ≡ g a) → (xs : List A) → map f xs ≡ map g xs
 map_agree f g h [] = refl
 map_agree f g h (x ∷ xs) = λ i. h x i ∷ map_agree f g h xs i
 

@@ -4,8 +4,8 @@ use Rattle.std.specs.List.{flat_map}
 use Rattle.std.specs.Str.{bytes_eq}
 use Rattle.sha2.specs.Sha256.{sha256}
 use Rattle.definitions.specs.Dnskey.{Dnskey, dnskey_data}
-use Rattle.definitions.specs.ZoneChain.{Nsec}
 use Rattle.messages.specs.HandedRr.{HandedRr}
+use Rattle.nsec3_sha1.specs.Iterated.{answered}
 use Rattle.answer_terms.specs.Accepting.{sorted_records}
 use Rattle.answer_zone.specs.Faults.{IsFault}
 use Rattle.answer_life.specs.Simulations.{IsSimulation}
@@ -29,10 +29,10 @@ refused_line n = codes "line " ++ decimal n ++ (codes ": cannot be read" ++ 10 �
 abbrev pub stand_in : Dnskey → List ℕ → List ℕ
 stand_in k octets = sha256 (dnskey_data k ++ octets)
 
--- a zone as the bench serves it: it signs with stand-ins, digests by type 2 alone, and hashes no name
+-- a zone as the bench serves it: it signs with stand-ins, digests by type 2 alone, and hashes names by SHA-1
 abbrev pub bench : ZoneLine → List HandedRr → World
-bench zone records = world (record { apex = zone.apex; mode = Nsec; limit = zone.limit; records = sorted_records records }) zone.life
-    (λ k octets. Some (stand_in k octets)) (λ k octets s. bytes_eq (stand_in k octets) s) (λ t octets. if nat_eq t 2 then Some (sha256 octets) else None) (λ _ _ _ _. None)
+bench zone records = world (record { apex = zone.apex; mode = zone.mode; limit = zone.limit; records = sorted_records records }) zone.life
+    (λ k octets. Some (stand_in k octets)) (λ k octets s. bytes_eq (stand_in k octets) s) (λ t octets. if nat_eq t 2 then Some (sha256 octets) else None) answered
 
 -- the zone is accepted, and the outcomes of a simulation of the events are printed, each in a line
 pub record PrintsOutcomes (zone : ZoneLine) (records : List HandedRr) (events : List EventLine) (text : List ℕ) : Type 0 where
@@ -45,7 +45,7 @@ pub record PrintsOutcomes (zone : ZoneLine) (records : List HandedRr) (events : 
 -- the zone is refused, which is all that is printed
 pub record PrintsFault (zone : ZoneLine) (records : List HandedRr) (text : List ℕ) : Type 0 where
   pub fault : ZoneFault
-  pub is_fault : IsFault zone.apex Nsec zone.limit records fault
+  pub is_fault : IsFault answered zone.apex zone.mode zone.limit records fault
   pub printed : text ≡ codes "refused " ++ zone_fault_name fault ++ 10 ∷ []
 
 abbrev pub PrintsSession : ZoneLine → List HandedRr → List EventLine → List ℕ → Type 0

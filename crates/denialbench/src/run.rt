@@ -11,9 +11,10 @@ ghost use Rattle.denialbench.specs.Responses.{IsUnreadable, Responds, PrintsSess
 use crate::input::read_all;
 use crate::named::Named;
 use crate::print::push_outcomes;
-use crate::scheme::{BenchHasher, BenchScheme};
+use crate::scheme::BenchScheme;
 use crate::status::Status;
 use answer::{Outcome, ZoneFault, simulate};
+use nsec3_sha1::hasher::Sha1Hasher;
 use session_lines::session::{Session, SessionError, read_session};
 use std::alloc::{AllocError, Global};
 use std::io;
@@ -97,7 +98,7 @@ fn replay(alloc: Global, session: Session) -> Result<String, AllocError>
         records,
         zone.mode,
         &BenchScheme,
-        &BenchHasher,
+        &Sha1Hasher,
         zone.limit,
         zone.life,
         &events,

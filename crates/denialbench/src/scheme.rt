@@ -1,10 +1,10 @@
-//! The bench's stand-ins for signatures and for hashes of names. They protect nothing.
+//! The bench's stand-ins for signatures and digests. They protect nothing.
 ghost use Rattle.std.specs.Prelude.{◌≡◌, ◌++◌, Some, None, nat_eq, if◌then◌else◌};
 ghost use Rattle.std.specs.Str.{bytes_eq};
 ghost use Rattle.definitions.specs.Dnskey.{dnskey_data};
 ghost use Rattle.sha2.specs.Sha256.{sha256};
 
-use answer::{DigestAlgorithm, Dnskey, HashError, Nsec3Hasher, Scheme, SchemeError};
+use answer::{DigestAlgorithm, Dnskey, Scheme, SchemeError};
 use sha2::{Digest, Sha256};
 use std::alloc::Global;
 
@@ -60,24 +60,5 @@ impl Scheme for BenchScheme {
             Ok(digest) => Ok(digest),
             Err(_) => Err(SchemeError::Memory),
         }
-    }
-}
-
-/// Hashes no name.
-#[derive(Clone, Copy, Debug)]
-pub struct BenchHasher;
-
-impl Nsec3Hasher for BenchHasher {
-    ghost hash_of = { λ _ _ _ _ _. None };
-
-    fn hash(
-        &self,
-        _alloc: Global,
-        _name: &[u8],
-        _algorithm: u8,
-        _iterations: u16,
-        _salt: &[u8],
-    ) -> Result<Vec<u8>, HashError> {
-        Err(HashError::Failed)
     }
 }

@@ -15,8 +15,9 @@
 //! - `key FLAGS ALGORITHM OCTETS`, `key-data OCTETS`: a key with its tag, whether it is a zone key, and its data.
 //!   `ranked OCTETS,..`: data in order; `digests TAG,..`: DS records in order.
 //! - `fields RRSIG`: the fields of a signature, spelled and canonical; `signed RRSIG OWNER OCTETS,..`: what it is made over.
-//! - `zone NAME`: begins a zone; `soa SERIAL`, `ns OWNER TTL SERVER`, `rr OWNER CLASS TTL TYPE OCTETS`: records; `accept`: makes
-//!   it. Then `ask NAME TYPE`: the flags and RRsets of the answer, the data of each as written and in canonical form;
+//! - `zone NAME`: begins a zone; `soa SERIAL`, `ns OWNER TTL SERVER`, `rr OWNER CLASS TTL TYPE OCTETS`: its records;
+//!   `nsec3 ITERATIONS SALT OPTOUT LIMIT`: asks for a chain of hashes, by SHA-1, instead of one of names; `accept`: makes it.
+//!   Then `ask NAME TYPE`: the flags and RRsets of the answer, the data of each as written and in canonical form;
 //!   `has NAME TYPE`, `exists NAME`, `ttl NAME TYPE`, `apex`.
 //!
 //! Each line is printed, and the answer behind it. Lines that begin with `#` and empty ones are printed alone.
@@ -29,13 +30,14 @@ mod records;
 mod words;
 mod zone;
 
+use nsec3_sha1::hasher::Sha1Hasher;
 use std::alloc::Global;
 use std::io;
 use words::words;
 use zone::Section;
 
 /// What is printed behind a line, if it can be read.
-fn reply(alloc: Global, section: &mut Section, line: &str) -> Option<String> {
+fn reply(alloc: Global, section: &mut Section<'_>, line: &str) -> Option<String> {
     let (name, rest) = line.split_once(' ').unwrap_or((line, ""));
     match name {
         "name" | "is" | "flat" | "whole" | "compare" | "parts" => of_names(alloc, name, rest),
@@ -85,7 +87,8 @@ fn of_keys(alloc: Global, name: &str, rest: &str) -> Option<String> {
 }
 
 fn main(rt: HostRuntime) -> io::Result<()> {
-    let mut section = Section::new(rt.alloc());
+    let hasher = Sha1Hasher;
+    let mut section = Section::new(rt.alloc(), &hasher);
     for line in rt.lines(rt.alloc()) {
         let line = line?;
         println!(rt; "{line}")?;

@@ -5,9 +5,11 @@ use answer_zone::fault::Mode;
 use answer_zone::group::RrGroup;
 use answer_zone::zone::ZoneRecords;
 use answer_zone::zone::answers::ZoneAnswer;
+use denial_fields::salt::Nsec3Salt;
 use messages::names::{Name, copy_name};
 use messages::record::ZoneRecord;
 use names::{Rtype, Serial, UnknownRecordData};
+use nsec3_sha1::hasher::Sha1Hasher;
 use plain::ns::Ns;
 use plain::record::Record;
 use plain::soa::Soa;
@@ -15,20 +17,26 @@ use plain::zone_data::ZoneRecordData;
 use plain::{Class, Ttl};
 use std::alloc::Global;
 
-/// The records of a zone while its lines are read, and the zone that was accepted.
+/// The records of a zone while its lines are read, its mode, and the zone that was accepted. Names are hashed by SHA-1.
 #[derive(Drop)]
-pub struct Section {
+pub struct Section<'h> {
     apex: Option<Name<Vec<u8>>>,
     records: Vec<ZoneRecord>,
-    zone: Option<ZoneRecords>,
+    mode: Mode,
+    limit: u16,
+    zone: Option<ZoneRecords<'h, Sha1Hasher>>,
+    hasher: &'h Sha1Hasher,
 }
 
-impl Section {
-    pub fn new(alloc: Global) -> Section {
+impl<'h> Section<'h> {
+    pub fn new(alloc: Global, hasher: &'h Sha1Hasher) -> Self {
         Section {
             apex: None,
             records: Vec::new(alloc),
+            mode: Mode::Nsec,
+            limit: 0,
             zone: None,
+            hasher,
         }
     }
 
@@ -43,6 +51,9 @@ impl Section {
                 self.put(alloc, record(alloc, owner, class, ttl, rtype, octets)?)
             }
             ("ns", [owner, ttl, server]) => self.put(alloc, ns(alloc, owner, ttl, server)?),
+            ("nsec3", [iterations, salt, opt_out, limit]) => {
+                self.put_mode(alloc, iterations, salt, opt_out, limit)
+            }
             ("accept", _) => self.accept(alloc),
             ("ask", [name, rtype]) => self.ask(alloc, name, rtype),
             ("has", [name, rtype]) => self.has(alloc, name, rtype),
@@ -51,6 +62,24 @@ impl Section {
             ("apex", _) => self.of_apex(alloc),
             _ => None,
         }
+    }
+
+    /// Asks for a chain of hashes, with opt-out where the word says `yes`.
+    fn put_mode(
+        &mut self,
+        alloc: Global,
+        iterations: &str,
+        salt: &str,
+        opt_out: &str,
+        limit: &str,
+    ) -> Option<String> {
+        self.mode = Mode::Nsec3 {
+            iterations: iterations.parse::<u16>().ok()?,
+            salt: Nsec3Salt::from_str(alloc, salt).ok()?,
+            opt_out: opt_out == "yes",
+        };
+        self.limit = limit.parse::<u16>().ok()?;
+        text(alloc, "ok")
     }
 
     /// Begins a zone without records.
@@ -77,7 +106,9 @@ impl Section {
     /// Makes the zone of the records so far.
     fn accept(&mut self, alloc: Global) -> Option<String> {
         let records = std::mem::replace(&mut self.records, Vec::new(alloc));
-        match ZoneRecords::new(alloc, self.apex.take()?, records, Mode::Nsec, 0) {
+        let mode = std::mem::replace(&mut self.mode, Mode::Nsec);
+        let apex = self.apex.take()?;
+        match ZoneRecords::new(alloc, apex, records, mode, self.limit, self.hasher) {
             Ok(zone) => {
                 self.zone = Some(zone);
                 text(alloc, "ok")

@@ -1,8 +1,7 @@
 -- The data of a record, as they are read part by part and as they are defined.
-use Rattle.std.proofs.Common.{◌≡◌, ℕ, ◌+◌, ◌-◌, ◌<◌, ◌≤◌, Bool, true, false, ◌&&◌, List, ◌∷◌, ◌++◌, length, take, drop, Option, Some, None, Result, Ok, Err, refl, sym, subst, ap, ◌∙◌, append_assoc, eqb, leb, arith, length-append}
+use Rattle.std.proofs.Common.{◌≡◌, ℕ, ◌+◌, ◌≤◌, Bool, true, false, ◌&&◌, List, ◌++◌, length, Option, Some, None, Result, Ok, Err, refl, sym, subst, ap, ◌∙◌, eqb, leb, arith}
 use Rattle.std.specs.Prelude.{slice_range, if◌then◌else◌}
 use Rattle.std.proofs.lemmas.Bool.{eq-eqb, eqb-true, le-leb, leb-true, leb-false, lt-leb}
-use Rattle.std.proofs.lemmas.List.{length-take-le, length-drop}
 use Rattle.definitions.specs.Bitmap.{is_bitmap}
 use Rattle.definitions.specs.Name.{Name, wire, low}
 use Rattle.definitions.specs.Limits.{pointer_limit}
@@ -65,7 +64,7 @@ name_within m r p inside =
     (λ i. elim (le-leb (message.behind r) (length m) inside i) as (λ _. Option (Name × ℕ)) [ false ↦ None | true ↦ upto (message.behind r) (name_at pointer_limit m p) ])
 
 -- octets that end with the data
-at_end : {X : Type 0} (is : List ℕ → X → Type 0) (e : ℕ) (octets : List ℕ) (x : X) → is octets x → Matches is (ended e (Ok (octets, e))) (Some x)
+pub at_end : {X : Type 0} (is : List ℕ → X → Type 0) (e : ℕ) (octets : List ℕ) (x : X) → is octets x → Matches is (ended e (Ok (octets, e))) (Some x)
 at_end is e octets x h = subst (λ b. Matches is (if b then Ok octets else Err Malformed) (Some x)) (sym (eq-eqb e e refl)) h
 
 -- ---- NS data

@@ -1,13 +1,10 @@
 -- What is read of a record's data is what is defined.
-use Rattle.std.proofs.Common.{◌≡◌, ℕ, ◌+◌, ◌-◌, ◌<◌, ◌≤◌, Bool, true, false, ◌&&◌, None, eqb, leb, List, [], ◌∷◌, ◌++◌, length, take, drop, Option, Some, Ok, Err, refl, sym, subst, ap, ◌∙◌, append_assoc, arith}
+use Rattle.std.proofs.Common.{◌≡◌, ℕ, ◌+◌, ◌-◌, ◌≤◌, None, List, [], ◌++◌, length, take, drop, Some, Ok, Err, sym, subst, ap, ◌∙◌, append_assoc, arith}
 use Rattle.std.specs.Prelude.{slice_range}
-use Rattle.std.proofs.lemmas.List.{append-nil, length-take-le, length-drop, take-append-drop}
-use Rattle.std.proofs.lemmas.Bool.{lt-leb}
-use Rattle.definitions.specs.Bitmap.{is_bitmap}
+use Rattle.std.proofs.lemmas.List.{length-take-le, length-drop, take-append-drop}
 use Rattle.definitions.specs.Name.{Name, IsName, wire, low}
 use Rattle.definitions.specs.Limits.{pointer_limit}
 use Rattle.definitions.specs.Reading.{ReadFault}
-use Rattle.definitions.specs.Signing.{Fields}
 use Rattle.definitions.proofs.SignedLaws.{wire_of}
 use Rattle.messages.proofs.ReadNames.{labelled}
 use Rattle.names_data.specs.Reading.{data_at, name_part}
@@ -28,7 +25,7 @@ use Rattle.denial_data.proofs.Told.{parts}
 use Rattle.messages.specs.Message.{Spelled, fits, if_true, name_in, name_upto, ns_data, nsec_at, rrsig_at, rrsig_fields, soa_data}
 use Rattle.messages.specs.Message as message
 use Rattle.messages.specs.Record.{Signature, fields_read, link_of, reader_of, signature_of}
-use Rattle.messages.proofs.DataParts.{LinkIs, NsIs, SignatureIs, SoaIs, matched, unmatched, ns_matches, soa_by, soa_matches, link_matches, signature_matches}
+use Rattle.messages.proofs.DataParts.{LinkIs, NsIs, SignatureIs, SoaIs, matched, unmatched, ns_matches, soa_matches, link_matches, signature_matches}
 use Rattle.messages.proofs.MessageSignatures.{numbers_here, numbers_then}
 use Rattle.messages.proofs.MessageWritten.{StandsAt}
 

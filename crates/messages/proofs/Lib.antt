@@ -7,6 +7,7 @@ pub mod MessageData
 pub mod ReadNames
 pub mod DataParts
 pub mod DataRead
+pub mod Nsec3Read
 pub mod NameEnds
 pub mod NameFlat
 pub mod NameLaws

@@ -1,6 +1,6 @@
 -- Lists, their items, and tests of them.
 use Rattle.std.proofs.lemmas.List.{map-id, take_more}
-use Rattle.std.proofs.Common.{◌++◌, take, ◌≡◌, ℕ, ◌+◌, ◌-◌, ◌<◌, length, drop, get_or, arith, add-one, drop-cons, Bool, true, false, ◌||◌, not, eqb, Some, List, [], ◌∷◌, map, ◌⊎◌, inl, inr, refl, sym, ap, subst, ◌∙◌, ⊎_elim, cond, Ordering}
+use Rattle.std.proofs.Common.{◌++◌, take, ◌≡◌, ℕ, ◌+◌, ◌<◌, length, drop, get_or, arith, add-one, drop-cons, Bool, true, false, ◌||◌, not, eqb, Some, List, [], ◌∷◌, map, ◌⊎◌, inl, inr, refl, sym, ap, subst, ◌∙◌, ⊎_elim, cond, Ordering}
 use Rattle.std.specs.declared.cmp.Ordering.TheVariants.{Less, Equal, Greater}
 use Rattle.std.specs.List.{list_any, AllByRecursion, AllZip, filter}
 use Rattle.std.proofs.lemmas.Slice.Zip.{AllZip-map}

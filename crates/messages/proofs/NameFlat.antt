@@ -1,5 +1,5 @@
 -- Names as the octets of their wire form.
-use Rattle.std.proofs.Common.{[], ◌≡◌, ℕ, ◌+◌, ◌<◌, ◌≤◌, ◌||◌, List, ◌∷◌, ◌++◌, length, drop, refl, sym, ap, ◌∙◌, subst}
+use Rattle.std.proofs.Common.{[], ◌≡◌, ℕ, ◌<◌, ◌≤◌, ◌||◌, List, ◌∷◌, ◌++◌, length, drop, refl, sym, ap, ◌∙◌, subst}
 use Rattle.std.specs.Prelude.{IfOk, IfSome, IsOk, None, Option, Result, Ok, Err, slice_index_or}
 use Rattle.std.specs.Result.{result_ok}
 use Rattle.std.specs.List.{list_any}

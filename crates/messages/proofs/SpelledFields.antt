@@ -1,5 +1,5 @@
 -- The octets of a signature's fields, as they are written and as they are defined.
-use Rattle.std.proofs.Common.{◌≡◌, ℕ, List, ◌++◌, refl}
+use Rattle.std.proofs.Common.{◌≡◌, refl}
 use Rattle.definitions.specs.Name.{Name}
 use Rattle.definitions.specs.Signing.{fields_data}
 use Rattle.denial_data.specs.declared.proto_rrsig.ProtoRrsig.{ProtoRrsig}

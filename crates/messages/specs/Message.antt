@@ -177,14 +177,60 @@ nsec_at k m r = elim (name_in k m r r.start) [
 abbrev pub nsec_data : ℕ → List ℕ → Spelled → Option (List ℕ)
 nsec_data k m r = elim (nsec_at k m r) [ None ↦ None | Some n ↦ Some (wire n.0 ++ n.1) ]
 
+-- what the data of an NSEC3 record say: how names are hashed, the flags, the next hash and the octets of the bitmap
+-- (RFC 5155, 3.1)
+pub record HashedNext : Type 0 where
+  pub algorithm : ℕ
+  pub flags : ℕ
+  pub iterations : ℕ
+  pub salt : List ℕ
+  pub next : List ℕ
+  pub bits : List ℕ
+
+-- octets as such data, the salt up to one place and the next hash up to another (RFC 5155, 3.2)
+abbrev pub hashed_next : List ℕ → ℕ → ℕ → HashedNext
+hashed_next d salt_end next_end = record {
+  algorithm = slice_index d 0;
+  flags = slice_index d 1;
+  iterations = pair d 2;
+  salt = slice_range d 5 salt_end;
+  next = slice_range d (salt_end + 1) next_end;
+  bits = slice_range d next_end (length d);
+}
+
+abbrev pub next_of : List ℕ → ℕ → Option HashedNext
+next_of d salt_end = elim (nat_le (salt_end + 1) (length d)) [
+  | false ↦ None
+  | true ↦
+      let next_end = salt_end + 1 + slice_index d salt_end in
+      elim (nat_le next_end (length d)) [
+        | false ↦ None
+        | true ↦ if_true (is_bitmap (slice_range d next_end (length d))) (hashed_next d salt_end next_end)
+      ]
+]
+
+-- salt and next hash each stand behind their length
+abbrev pub nsec3_of : List ℕ → Option HashedNext
+nsec3_of d = elim (nat_le 5 (length d)) [ false ↦ None | true ↦ next_of d (5 + slice_index d 4) ]
+
+abbrev pub nsec3_at : List ℕ → Spelled → Option HashedNext
+nsec3_at m r = nsec3_of (data_of m r)
+
+-- without names, the data are canonical as they stand
+abbrev pub nsec3_data : List ℕ → Spelled → Option (List ℕ)
+nsec3_data m r = elim (nsec3_at m r) [ None ↦ None | Some n ↦ Some (data_of m r) ]
+
 -- Canonical data (RFC 4034, 6.2; RFC 6840, 5.1): names written out, and lowered where the type asks for it; None
--- where an SOA, NS or NSEC record's data do not read as their type's. Data of other types are their octets.
+-- where an SOA, NS, NSEC or NSEC3 record's data do not read as their type's. Data of other types are their octets.
 abbrev pub canonical_data : ℕ → List ℕ → Spelled → Option (List ℕ)
 canonical_data k m r =
     elim (nat_eq r.rtype 2) [
       | true ↦ ns_data k m r
       | false ↦ elim (nat_eq r.rtype 6) [
         | true ↦ soa_data k m r
-        | false ↦ elim (nat_eq r.rtype 47) [ true ↦ nsec_data k m r | false ↦ Some (data_of m r) ]
+        | false ↦ elim (nat_eq r.rtype 47) [
+          | true ↦ nsec_data k m r
+          | false ↦ elim (nat_eq r.rtype 50) [ true ↦ nsec3_data m r | false ↦ Some (data_of m r) ]
+        ]
       ]
     ]

@@ -3,12 +3,13 @@ use Rattle.std.specs.Prelude.{ℕ, List}
 use Rattle.definitions.specs.Name.{Name}
 use Rattle.definitions.specs.Signing.{Fields, lowered_signer}
 use Rattle.names_parser.specs.Reader.{Reader}
-use Rattle.messages.specs.Message.{Spelled, behind}
+use Rattle.messages.specs.Message.{HashedNext, Spelled, behind}
 use Rattle.messages.specs.declared.view.ViewRecord.{ViewRecord}
 use Rattle.names_parsed.specs.Parsed.{parsed_name}
 use Rattle.names_parsed.specs.declared.parsed.ParsedName.{ParsedName}
 use Rattle.denial_data.specs.Protos as protos
 use Rattle.denial_data.specs.RrsigData.{RrsigData}
+use Rattle.denial_links.specs.Hashed.{Nsec3Data}
 use Rattle.denial_links.specs.NsecData.{NsecData}
 
 abbrev pub spelled : ViewRecord → Spelled
@@ -37,3 +38,14 @@ signature_of s = (fields_of s, s.signature)
 -- a link in a message, its next name as spelled
 abbrev pub link_of : NsecData ParsedName → Name × List ℕ
 link_of l = (parsed_name l.next_name, l.types)
+
+-- a link of hashes
+abbrev pub hashed_link_of : Nsec3Data → HashedNext
+hashed_link_of l = record {
+  algorithm = l.params.algorithm;
+  flags = l.params.flags;
+  iterations = l.params.iterations;
+  salt = l.params.salt;
+  next = l.next_owner;
+  bits = l.types;
+}

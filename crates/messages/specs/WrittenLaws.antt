@@ -1,11 +1,12 @@
 -- What is written reads back, whatever stands before and behind it.
 use Rattle.std.specs.Prelude.{◌≡◌, ℕ, ◌+◌, ◌<◌, ◌≤◌, List, [], ◌∷◌, ◌++◌, length, true, Ok, Some}
+use Rattle.std.specs.Int.{w16, to_be_bytes}
 use Rattle.std.specs.List.{AllByRecursion, AllZip}
 use Rattle.definitions.specs.Name.{Name, IsName, wire, wire_len, low}
 use Rattle.definitions.specs.Bitmap.{is_bitmap}
 use Rattle.definitions.specs.Signing.{Fields}
 use Rattle.definitions.specs.Limits.{pointer_limit}
-use Rattle.messages.specs.Message.{Asked, Spelled, owner_at, message, data_of, rrsig_at, ns_data, soa_data, nsec_data}
+use Rattle.messages.specs.Message.{Asked, HashedNext, Spelled, owner_at, message, data_of, rrsig_at, ns_data, soa_data, nsec_data, nsec3_of, nsec3_data}
 use Rattle.messages.specs.Rrsig.{rrsig_data}
 use Rattle.messages.specs.Written.{Written, message_octets}
 
@@ -69,8 +70,12 @@ abbrev pub SignaturesReadBack : Type 0
 SignaturesReadBack = (f : Fields) (signature before behind : List ℕ) (r : Spelled) → AreFields f → length (rrsig_data f signature) ≤ 65535 → r.start ≡ length before → r.length ≡ length (rrsig_data f signature)
     → rrsig_at pointer_limit (before ++ (rrsig_data f signature ++ behind)) r ≡ Some (record f { signer = low f.signer }, signature)
 
+-- an NSEC3 record's data as written: salt and next hash each behind their length (RFC 5155, 3.2)
+abbrev pub hashed_octets : HashedNext → List ℕ
+hashed_octets n = n.algorithm ∷ n.flags ∷ to_be_bytes w16 n.iterations ++ length n.salt ∷ n.salt ++ length n.next ∷ n.next ++ n.bits
+
 -- The data of NS, SOA and NSEC records, written with their names uncompressed, read as their canonical form: the names
--- of the first two lowered (RFC 4034, 6.2; RFC 6840, 5.1).
+-- of the first two lowered (RFC 4034, 6.2; RFC 6840, 5.1). NSEC3 data read as what they say, and as they stand.
 pub record DataReadBack : Type 0 where
   pub ns : (n : Name) (before behind : List ℕ) (r : Spelled) → IsName n → r.start ≡ length before → r.length ≡ length (wire n)
       → ns_data pointer_limit (before ++ (wire n ++ behind)) r ≡ Some (wire (low n))
@@ -78,3 +83,5 @@ pub record DataReadBack : Type 0 where
       → soa_data pointer_limit (before ++ (wire mname ++ wire rname ++ numbers ++ behind)) r ≡ Some (wire (low mname) ++ wire (low rname) ++ numbers)
   pub nsec : (next : Name) (bits before behind : List ℕ) (r : Spelled) → IsName next → is_bitmap bits ≡ true → length (wire next ++ bits) ≤ 65535 → r.start ≡ length before → r.length ≡ length (wire next ++ bits)
       → nsec_data pointer_limit (before ++ (wire next ++ bits ++ behind)) r ≡ Some (wire next ++ bits)
+  pub nsec3 : (n : HashedNext) (before behind : List ℕ) (r : Spelled) → n.iterations < 65536 → is_bitmap n.bits ≡ true → r.start ≡ length before → r.length ≡ length (hashed_octets n)
+      → (nsec3_of (hashed_octets n) ≡ Some n) × (nsec3_data (before ++ (hashed_octets n ++ behind)) r ≡ Some (hashed_octets n))

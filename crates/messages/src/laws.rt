@@ -22,7 +22,7 @@ pub fn signatures_read_back()
 {}
 
 /// The data of NS, SOA and NSEC records, written with their names uncompressed, read as their canonical form
-/// (RFC 4034, 6.2).
+/// (RFC 4034, 6.2). Those of NSEC3 records read as what they say, and as they stand (RFC 5155, 3.2).
 pub fn data_read_back()
     ensures { DataReadBack }
 {}

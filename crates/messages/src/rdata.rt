@@ -1,17 +1,19 @@
-//! The data of records within a message (RFC 1035, 3.3; RFC 4034, 3.1 and 4.1), read in place.
+//! The data of records within a message (RFC 1035, 3.3; RFC 4034, 3.1 and 4.1; RFC 5155, 3.2), read in place.
 ghost use Rattle.std.specs.Prelude.{◌≡◌, ◌+◌, ◌<◌, ◌≤◌, length, IfOk, IfSome, IfNone};
 ghost use Rattle.definitions.specs.Limits.{pointer_limit};
 ghost use Rattle.std.specs.Cow.{cow_slice_items};
 ghost use Rattle.std.specs.Option.{option_map};
-ghost use Rattle.messages.specs.Message.{rrsig_at, nsec_at, canonical_data, data_of, ns_data, soa_data, nsec_data};
+ghost use Rattle.messages.specs.Message.{rrsig_at, nsec_at, nsec3_at, nsec3_of};
+ghost use Rattle.messages.specs.Message.{canonical_data, data_of, ns_data, soa_data, nsec_data, nsec3_data};
 ghost use Rattle.messages.specs.Items.{octets_in};
+ghost use Rattle.messages.specs.Record.{hashed_link_of};
 ghost use Rattle.names_parsed.specs.Parsed.{parsed_name};
 ghost use Rattle.plain.specs.Ns.{ns_canonical};
 ghost use Rattle.plain.specs.Soa.{soa_canonical};
 
 use crate::octets::clipped;
 use crate::view::ViewRecord;
-use denial_data::{Nsec, Rrsig};
+use denial_data::{Nsec, Nsec3, Rrsig};
 use names_data::data::ComposeRecordData;
 use names_data::rtype::Rtype;
 use names_labels::traits::Labels;
@@ -27,7 +29,8 @@ impl<'a> ViewRecord<'a> {
 
     /// The octets of the data, so far as the message has them.
     pub fn octets<'m>(&self, message: &'m [u8]) -> &'m [u8]
-        ensures { result.now ≡ data_of message.now (spelled self.now) }
+        ensures data { result.now ≡ data_of message.now (spelled self.now) }
+        ensures few { length result.now ≤ 65535 }
     {
         clipped(message, self.start, self.start + self.length)
     }
@@ -62,6 +65,13 @@ impl<'a> ViewRecord<'a> {
         }
     }
 
+    /// The link of the chain of hashed names that the data spell (RFC 5155, 3.2).
+    pub fn hashed_link<'m>(&self, message: &'m [u8]) -> Option<Nsec3<&'m [u8]>>
+        ensures { option_map hashed_link_of result ≡ nsec3_at message.now (spelled self.now) }
+    {
+        read_hashed_link(self.octets(message))
+    }
+
     /// The canonical data (RFC 4034, 6.2); None where the data don't read as their type's.
     pub fn canonical_data(
         &self,
@@ -75,6 +85,10 @@ impl<'a> ViewRecord<'a> {
             Rtype::NS => self.ns_data(alloc, message),
             Rtype::SOA => self.soa_data(alloc, message),
             Rtype::NSEC => self.nsec_data(alloc, message),
+            Rtype::NSEC3 => match self.nsec3_data(message) {
+                None => Ok(None),
+                Some(octets) => Ok(Some(octets.to_vec(alloc)?)),
+            },
             _ => Ok(Some(self.octets(message).to_vec(alloc)?)),
         }
     }
@@ -92,6 +106,10 @@ impl<'a> ViewRecord<'a> {
             Rtype::NS | Rtype::SOA | Rtype::NSEC => match self.canonical_data(alloc, message)? {
                 None => Ok(None),
                 Some(octets) => Ok(Some(CowSlice::Owned(octets))),
+            },
+            Rtype::NSEC3 => match self.nsec3_data(message) {
+                None => Ok(None),
+                Some(octets) => Ok(Some(CowSlice::Borrowed(octets))),
             },
             _ => Ok(Some(CowSlice::Borrowed(self.octets(message)))),
         }
@@ -128,6 +146,14 @@ impl<'a> ViewRecord<'a> {
             None => Ok(None),
             Some(link) => Ok(Some(canonical_octets(alloc, &link)?)),
         }
+    }
+
+    /// The canonical data of an NSEC3 record: they have no names, so they are the octets themselves.
+    fn nsec3_data<'m>(&self, message: &'m [u8]) -> Option<&'m [u8]>
+        ensures { option_map (λ s. s.now) result ≡ nsec3_data message.now (spelled self.now) }
+    {
+        let _link = self.hashed_link(message)?;
+        Some(self.octets(message))
     }
 
     /// The NS data that the data spell.
@@ -170,6 +196,22 @@ impl<'a> ViewRecord<'a> {
         let mut parser = Parser::from_ref(message);
         parser.seek(self.start).ok()?;
         parser.parse_parser(self.length).ok()
+    }
+}
+
+/// The link of the chain of hashed names that octets spell as data (RFC 5155, 3.2).
+pub fn read_hashed_link(octets: &[u8]) -> Option<Nsec3<&[u8]>>
+    requires { length octets.now ≤ 65535 }
+    ensures { option_map hashed_link_of result ≡ nsec3_of octets.now }
+{
+    let mut parser = Parser::from_ref(octets);
+    match Nsec3::parse(&mut parser) {
+        Ok(link) => {
+            let _iterations = link.iterations();
+            let _types = link.types().as_slice();
+            Some(link)
+        }
+        Err(_) => None,
     }
 }
 

@@ -39,14 +39,16 @@ many_fields (a ∷ b ∷ c ∷ d ∷ []) h = absurd (omega arith)
 many_fields (a ∷ b ∷ c ∷ d ∷ e ∷ []) h = absurd (omega arith)
 many_fields (a ∷ b ∷ c ∷ d ∷ e ∷ f ∷ fs) h = refl
 
-pub not_five : (fs : List (List ℕ)) → (length fs ≡ 5 → ⊥) → zone_line fs ≡ None
-not_five [] h = refl
-not_five (a ∷ []) h = refl
-not_five (a ∷ b ∷ []) h = refl
-not_five (a ∷ b ∷ c ∷ []) h = refl
-not_five (a ∷ b ∷ c ∷ d ∷ []) h = refl
-not_five (a ∷ b ∷ c ∷ d ∷ e ∷ []) h = absurd (h refl)
-not_five (a ∷ b ∷ c ∷ d ∷ e ∷ f ∷ fs) h = refl
+pub not_five_or_seven : (fs : List (List ℕ)) → (length fs ≡ 5 → ⊥) → (length fs ≡ 7 → ⊥) → zone_line fs ≡ None
+not_five_or_seven [] h k = refl
+not_five_or_seven (a ∷ []) h k = refl
+not_five_or_seven (a ∷ b ∷ []) h k = refl
+not_five_or_seven (a ∷ b ∷ c ∷ []) h k = refl
+not_five_or_seven (a ∷ b ∷ c ∷ d ∷ []) h k = refl
+not_five_or_seven (a ∷ b ∷ c ∷ d ∷ e ∷ []) h k = absurd (h refl)
+not_five_or_seven (a ∷ b ∷ c ∷ d ∷ e ∷ f ∷ []) h k = refl
+not_five_or_seven (a ∷ b ∷ c ∷ d ∷ e ∷ f ∷ g ∷ []) h k = absurd (k refl)
+not_five_or_seven (a ∷ b ∷ c ∷ d ∷ e ∷ f ∷ g ∷ i ∷ fs) h k = refl
 
 pub not_six : (fs : List (List ℕ)) → (length fs ≡ 6 → ⊥) → record_line fs ≡ None
 not_six [] h = refl

@@ -3,6 +3,7 @@ use Rattle.std.specs.Prelude.{ℕ, ◌+◌, ◌-◌, ◌*◌, ◌==◌, ◌&&◌
 use Rattle.std.specs.List.{list_all, slice_split}
 use Rattle.std.specs.Result.{result_ok}
 use Rattle.std.specs.Str.{bytes_eq, chars}
+use Rattle.definitions.specs.ZoneChain.{Mode, Nsec, Nsec3}
 use Rattle.definitions.specs.Name.{Name, wire, low}
 use Rattle.definitions.specs.Text.{name_of_text}
 use Rattle.answer_events.specs.HandedRr.{HandedRr}
@@ -48,11 +49,13 @@ life_field field = do
   life ← number_field 32 field
   if nat_le life 2147483647 then Some life else None
 
--- ---- the zone's line: `zone APEX nsec LIMIT LIFE`
+-- ---- the zone's line: `zone APEX nsec LIMIT LIFE`, or `zone APEX nsec3 ITERATIONS SALT LIMIT LIFE`, or the same with
+-- `nsec3optout`
 
--- a zone with a chain of names: the most iterations that are allowed, and the life of a signature in seconds
+-- a zone with its chain: the most iterations that are allowed, and the life of a signature in seconds
 pub record ZoneLine : Type 0 where
   pub apex : Name
+  pub mode : Mode
   pub limit : ℕ
   pub life : ℕ
 
@@ -62,11 +65,34 @@ zone_fields word apex mode limit life =
       name ← name_field apex
       most ← number_field 16 limit
       seconds ← life_field life
-      Some (record { apex = name; limit = most; life = seconds }))
+      Some (record { apex = name; mode = Nsec; limit = most; life = seconds }))
+    else None
+
+-- whether a chain of hashes opts out (RFC 5155, 6)
+abbrev pub opt_out_field : List ℕ → Option Bool
+opt_out_field field = if bytes_eq field (codes "nsec3") then Some false else if bytes_eq field (codes "nsec3optout") then Some true else None
+
+-- a salt of at most 255 octets (RFC 5155, 3.1.4)
+abbrev pub salt_field : List ℕ → Option (List ℕ)
+salt_field field = do
+  octets ← hex_field 255 field
+  if nat_le (length octets) 255 then Some octets else None
+
+abbrev pub hashed_fields : List ℕ → List ℕ → List ℕ → List ℕ → List ℕ → List ℕ → List ℕ → Option ZoneLine
+hashed_fields word apex mode iterations salt limit life =
+    if bytes_eq word (codes "zone") then (do
+      optout ← opt_out_field mode
+      name ← name_field apex
+      times ← number_field 16 iterations
+      octets ← salt_field salt
+      most ← number_field 16 limit
+      seconds ← life_field life
+      Some (record { apex = name; mode = Nsec3 times octets optout; limit = most; life = seconds }))
     else None
 
 abbrev pub zone_line : List (List ℕ) → Option ZoneLine
 zone_line (word ∷ apex ∷ mode ∷ limit ∷ life ∷ []) = zone_fields word apex mode limit life
+zone_line (word ∷ apex ∷ mode ∷ iterations ∷ salt ∷ limit ∷ life ∷ []) = hashed_fields word apex mode iterations salt limit life
 zone_line _ = None
 
 -- ---- events

@@ -3,6 +3,7 @@ use Rattle.std.specs.Prelude.{◌≡◌, ℕ, false, List, map, Option, Some, No
 use Rattle.std.specs.Borrow.{Bor}
 use Rattle.std.specs.Option.{option_map}
 use Rattle.answer_events.specs.Questions.{asked_of}
+use Rattle.answer_zone.specs.ModeView.{mode_of}
 use Rattle.answer_events.specs.Calls.{call_of}
 use Rattle.answer_events.specs.declared.event.Event.{Event}
 use Rattle.answer_events.specs.declared.event.Act.{Act}
@@ -32,7 +33,7 @@ abbrev pub texts : List (Bor (List ℕ)) → List (List ℕ)
 texts fields = map (λ f. f.now) fields
 
 abbrev pub zone_view : Zone → ZoneLine
-zone_view z = record { apex = z.apex; limit = z.limit; life = z.life }
+zone_view z = record { apex = z.apex; mode = mode_of z.mode; limit = z.limit; life = z.life }
 
 abbrev pub act_view : Act → ActLine
 act_view (act.Key c) = KeyCall (call_of c)

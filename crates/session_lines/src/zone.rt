@@ -5,7 +5,7 @@ use answer_events::names::Name;
 use answer_zone::fault::Mode;
 
 /// What a zone is published with.
-#[derive(Debug, Drop)]
+#[derive(Drop)]
 pub struct Zone {
     pub apex: Name<Vec<u8>>,
     pub mode: Mode,

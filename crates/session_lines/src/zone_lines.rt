@@ -3,7 +3,8 @@ ghost use Rattle.std.specs.Prelude.{◌≡◌, ◌+◌, ◌≤◌, IfOk, length,
 ghost use Rattle.std.specs.Int.{w32, to_be_bytes};
 ghost use Rattle.plain.specs.ZoneData.{zone_type};
 ghost use Rattle.answer_events.specs.HandedRr.{handed_of};
-ghost use Rattle.session_lines.specs.Grammar.{zone_line, zone_fields, life_field, record_line, record_fields, data_octets, soa_octets};
+ghost use Rattle.session_lines.specs.Grammar.{zone_line, zone_fields, hashed_fields, opt_out_field, salt_field, life_field};
+ghost use Rattle.session_lines.specs.Grammar.{record_line, record_fields, data_octets, soa_octets};
 ghost use Rattle.session_lines.specs.Readings.{Reads, texts, zone_view, data_view, soa_view};
 
 use crate::fields::{hex_octets, name, name_at, wire_name};
@@ -13,6 +14,7 @@ use crate::zone::Zone;
 use answer_events::names::{Name, Serial, UnknownRecordData};
 use answer_events::record::{ZoneData, ZoneRecord};
 use answer_zone::fault::Mode;
+use denial_fields::salt::Nsec3Salt;
 use numbers::class::Class;
 use numbers::rtype::Rtype;
 use numbers::ttl::Ttl;
@@ -28,16 +30,23 @@ const MAX_LIFE: u32 = 2_147_483_647;
 /// The most octets of a record's data (RFC 1035, 3.2.1).
 const MAX_DATA: usize = 65_535;
 
-/// Reads `zone APEX nsec LIMIT LIFE`.
+/// The most octets of a salt (RFC 5155, 3.1.4).
+const MAX_SALT: usize = 255;
+
+/// Reads `zone APEX nsec LIMIT LIFE`, or `zone APEX nsec3 ITERATIONS SALT LIMIT LIFE`, or the same with `nsec3optout`.
 pub fn read_zone(alloc: Global, fields: &[&str]) -> Result<Zone, LineError>
     ensures { Reads zone_view result (zone_line (texts fields.now)) }
 {
     match *fields {
         [word, apex, mode, limit, life] => zone_of(alloc, word, apex, mode, limit, life),
+        [word, apex, mode, iterations, salt, limit, life] => {
+            hashed_zone(alloc, word, apex, mode, iterations, salt, limit, life)
+        }
         _ => Err(LineError::Unreadable),
     }
 }
 
+/// A zone with a chain of names.
 fn zone_of(
     alloc: Global,
     word: &str,
@@ -57,6 +66,57 @@ fn zone_of(
         limit: number_u16(limit)?,
         life: read_life(life)?,
     })
+}
+
+/// A zone with a chain of hashes.
+fn hashed_zone(
+    alloc: Global,
+    word: &str,
+    apex: &str,
+    mode: &str,
+    iterations: &str,
+    salt: &str,
+    limit: &str,
+    life: &str,
+) -> Result<Zone, LineError>
+    ensures { Reads zone_view result
+        (hashed_fields word.now apex.now mode.now iterations.now salt.now limit.now life.now) }
+{
+    if word != "zone" {
+        return Err(LineError::Unreadable);
+    }
+    let opt_out = read_opt_out(mode)?;
+    Ok(Zone {
+        apex: name(alloc, apex)?,
+        mode: Mode::Nsec3 {
+            iterations: number_u16(iterations)?,
+            salt: read_salt(alloc, salt)?,
+            opt_out,
+        },
+        limit: number_u16(limit)?,
+        life: read_life(life)?,
+    })
+}
+
+/// Whether a chain of hashes opts out (RFC 5155, 6).
+fn read_opt_out(field: &str) -> Result<bool, LineError>
+    ensures { Reads (λ b. b) result (opt_out_field field.now) }
+{
+    match field {
+        "nsec3" => Ok(false),
+        "nsec3optout" => Ok(true),
+        _ => Err(LineError::Unreadable),
+    }
+}
+
+/// A salt in hexadecimal; `-` for the empty one (RFC 5155, 3.3).
+fn read_salt(alloc: Global, field: &str) -> Result<Nsec3Salt<Vec<u8>>, LineError>
+    ensures { Reads (λ s. s) result (salt_field field.now) }
+{
+    match Nsec3Salt::from_octets(hex_octets(alloc, field, MAX_SALT)?) {
+        Ok(salt) => Ok(salt),
+        Err(_) => Err(LineError::Unreadable),
+    }
 }
 
 fn read_life(field: &str) -> Result<u32, LineError>

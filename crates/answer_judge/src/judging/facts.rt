@@ -1,28 +1,30 @@
 //! From bytes to verified facts (RFC 4035, 5.3).
-ghost use Rattle.std.specs.Prelude.{◌≡◌, ◌==◌, ◌+◌, ◌<◌, ◌≤◌, ◌^◌, [], false, IfOk, MatchOption, length, map, filter};
+ghost use Rattle.std.specs.Prelude.{◌≡◌, ◌==◌, ◌+◌, ◌<◌, ◌≤◌, ◌^◌, [], true, false, IfOk, MatchOption, length, map, filter};
 ghost use Rattle.std.specs.Cow.{cow_slice_items};
 ghost use Rattle.definitions.specs.Limits.{pointer_limit};
 ghost use Rattle.std.specs.List.{list_any, filter_map};
 ghost use Rattle.messages.specs.Record.{spelled};
 ghost use Rattle.answer_judge.specs.Facts.{is_signature};
 ghost use Rattle.answer_judge.specs.Counted.{answer_sought, tries};
-ghost use Rattle.answer_judge.specs.Verified.{verified_facts};
-ghost use Rattle.answer_judge.specs.Marked.{held_by, has_owner, is_proved, is_nsec, stands_alone, IsAlone, AreGathered, link_by, rrset_verified};
+ghost use Rattle.answer_judge.specs.Verified.{is_known_datum, verified_facts};
+ghost use Rattle.answer_judge.specs.Marked.{held_by, is_of, data_in, is_proved, is_chain_type, is_chain, is_record_of, has_place, holds_one, stands_alone, AreShort, IsAlone, AreGathered, link_by, hash_link_by, hash_link_of, rrset_verified};
 
 use crate::judging::groups::{Group, read_group, verify_groups};
+use crate::judging::hash_owner::hash_spelled;
 use crate::judging::trust::Trust;
 use crate::judging::verdict::DataList;
 use crate::judging::verifier::Verifier;
-use answer_rules::decide::{Facts, Link, Rrset};
+use answer_rules::decide::{Facts, HashLink, Link, Rrset};
 use answer_scheme::checks::Checks;
-use messages::names::{Name, ToName, cow_name, is_at_or_above};
+use messages::names::{Name, cow_name, is_at_or_above};
+use messages::rdata::read_hashed_link;
 use messages::{Owner, ViewRecord};
 use names_data::rtype::Rtype;
 use numbers::class::Class;
 use std::alloc::{AllocError, Global};
 use std::borrow::CowSlice;
 
-/// What signatures of an answer verify: the RRset that was asked for, and NSEC records.
+/// What signatures of an answer verify: the RRset that was asked for, and records of chains, NSEC and NSEC3.
 pub(crate) fn read_facts<'a, C: Checks>(
     message: &'a [u8],
     records: &[ViewRecord<'a>],
@@ -32,7 +34,7 @@ pub(crate) fn read_facts<'a, C: Checks>(
     verifier: &mut Verifier<C>,
 ) -> Result<Facts<'a>, AllocError>
     requires room { verifier.old.count + length records.now < 2 ^ 32 }
-    requires other { (rtype == 47) ≡ false }
+    requires other { is_chain_type rtype ≡ false }
     ensures facts { let w = held_by (C.answers verifier.old.checks.now) trust.now in
         let m = message.now in let rs = map spelled records.now in
         IfOk result (λ f. f ≡ verified_facts w pointer_limit m rs name.now rtype) }
@@ -50,13 +52,14 @@ pub(crate) fn read_facts<'a, C: Checks>(
     ensures same_checks { verifier.new.checks.ghost_name ≡ verifier.old.checks.ghost_name }
 {
     let alloc = verifier.alloc;
-    let mut groups = read_nsec_groups(alloc, trust.apex, message, records)?;
+    let mut groups = read_chain_groups(alloc, trust.apex, message, records)?;
     let owner = cow_name(alloc, name)?;
     groups.push(read_group(alloc, message, records, owner, rtype)?)?;
     verify_groups(message, records, trust, &mut groups, verifier)?;
     let rrset = rrset_of(alloc, groups.pop())?;
     let links = read_links(alloc, message, records, &groups)?;
-    Ok(Facts::new(rrset, links))
+    let hash_links = read_hash_links(alloc, trust.apex, message, records, &groups)?;
+    Ok(Facts::new(rrset, links, hash_links))
 }
 
 /// The data of a group and the label count of its signature, if one verified it.
@@ -93,8 +96,8 @@ fn owned_data(alloc: Global, items: Vec<CowSlice<u8>>) -> Result<Vec<Vec<u8>>, A
     Ok(owned)
 }
 
-/// The NSEC RRsets of one record at or below the apex, in order of first record.
-fn read_nsec_groups<'r>(
+/// The RRsets of one record of a chain, each where its chain's records stand, in order of first record.
+fn read_chain_groups<'r>(
     alloc: Global,
     apex: &Name<Vec<u8>>,
     message: &'r [u8],
@@ -105,8 +108,16 @@ fn read_nsec_groups<'r>(
 {
     let mut groups: Vec<Group<'r>> = Vec::new(alloc);
     for record in records {
-        if is_nsec(record) && !is_among(&groups, &record.owner) {
-            if let Some(group) = read_nsec_group(alloc, apex, message, records, &record.owner)? {
+        if is_chain(record) && !is_among(&groups, &record.owner, record.rtype) {
+            let found = read_chain_group(
+                alloc,
+                apex,
+                message,
+                records,
+                &record.owner,
+                record.rtype,
+            )?;
+            if let Some(group) = found {
                 groups.push(group)?;
             }
         }
@@ -114,55 +125,109 @@ fn read_nsec_groups<'r>(
     Ok(groups)
 }
 
-/// The NSEC RRset of an owner, if that is at or below the apex and the RRset is one record.
-fn read_nsec_group<'r>(
+/// The RRset of an owner and a chain's type, if it is one record and stands where the chain's records do.
+fn read_chain_group<'r>(
     alloc: Global,
     apex: &Name<Vec<u8>>,
     message: &'r [u8],
     records: &[ViewRecord],
     owner: &'r Owner,
+    rtype: Rtype,
 ) -> Result<Option<Group<'r>>, AllocError>
+    requires { is_chain_type rtype ≡ true }
     ensures { let rs = map spelled records.now in
-        IfOk result (λ o. MatchOption o (stands_alone message.now apex.now rs owner.now ≡ false)
-        (λ g. (g.owner ≡ owner.now) × IsAlone message.now apex.now rs g)) }
+        let alone = stands_alone message.now apex.now rs rtype owner.now in
+        IfOk result (λ o. MatchOption o (alone ≡ false)
+        (λ g. (g.owner ≡ owner.now) × (g.rtype ≡ rtype) × IsAlone message.now apex.now rs g)) }
 {
-    if !is_at_or_above(apex, owner.name()) {
+    if !has_place(alloc, apex, owner, rtype)? {
         return Ok(None);
     }
     let owner = cow_name(alloc, owner.name())?;
-    let group = read_group(alloc, message, records, owner, Rtype::NSEC)?;
-    Ok(if group.items.len() == 1 {
-        Some(group)
-    } else {
-        None
-    })
+    let group = read_group(alloc, message, records, owner, rtype)?;
+    if holds_one(&group) {
+        return Ok(Some(group));
+    }
+    Ok(None)
 }
 
-/// Whether a record is an NSEC record of class IN.
-fn is_nsec(record: &ViewRecord) -> bool
-    ensures { result ≡ is_nsec (spelled record.now) }
+/// Whether records of a chain's type may have an owner: NSEC at or below the apex, NSEC3 at a hash under it.
+///
+/// A record of another zone, replayed, would speak for names that are not its own (RFC 4034, 4; RFC 5155, 3).
+fn has_place(
+    alloc: Global,
+    apex: &Name<Vec<u8>>,
+    owner: &Owner,
+    rtype: Rtype,
+) -> Result<bool, AllocError>
+    ensures { IfOk result (λ b. b ≡ has_place rtype apex.now owner.now) }
 {
-    record.rtype == Rtype::NSEC && record.class == Class::IN
+    if rtype == Rtype::NSEC3 {
+        return Ok(hash_spelled(alloc, apex, owner)?.is_some());
+    }
+    Ok(is_at_or_above(apex, owner.name()))
 }
 
-/// Whether an owner has one of the groups.
-fn is_among(groups: &[Group], owner: &Owner) -> bool
-    ensures { result ≡ list_any (has_owner owner.now) groups.now }
+/// Whether a group of a chain's type is one record, for NSEC3 one that is known.
+fn holds_one(group: &Group) -> bool
+    requires { AreShort group.now }
+    ensures { result ≡ holds_one group.now.rtype (data_in group.now) }
+{
+    if group.rtype != Rtype::NSEC3 {
+        return group.items.len() == 1;
+    }
+    match group.items.as_slice() {
+        [item] => is_known(item),
+        _ => false,
+    }
+}
+
+/// Whether octets are data of an NSEC3 record whose algorithm is SHA-1 and whose flags are none but opt-out.
+///
+/// Of another algorithm or flag a judge doesn't know what it says: taken as known, it would deny names by a meaning that
+/// the zone did not sign (RFC 5155, 8.1 and 8.2).
+fn is_known(octets: &[u8]) -> bool
+    requires { length octets.now ≤ 65535 }
+    ensures { result ≡ is_known_datum octets.now }
+{
+    match read_hashed_link(octets) {
+        None => false,
+        Some(link) => link.hash_algorithm() == 1 && link.flags() < 2,
+    }
+}
+
+/// Whether a record is one of a chain, NSEC or NSEC3, of class IN.
+fn is_chain(record: &ViewRecord) -> bool
+    ensures { result ≡ is_chain (spelled record.now) }
+{
+    (record.rtype == Rtype::NSEC || record.rtype == Rtype::NSEC3) && record.class == Class::IN
+}
+
+/// Whether a record is of a type and of class IN.
+fn is_record_of(record: &ViewRecord, rtype: Rtype) -> bool
+    ensures { result ≡ is_record_of rtype (spelled record.now) }
+{
+    record.rtype == rtype && record.class == Class::IN
+}
+
+/// Whether an owner has one of the groups of a type.
+fn is_among(groups: &[Group], owner: &Owner, rtype: Rtype) -> bool
+    ensures { result ≡ list_any (is_of owner.now rtype) groups.now }
 {
     for group in groups {
-        if owner.name().name_eq(&group.owner) {
+        if group.is_of(owner, rtype) {
             return true;
         }
     }
     false
 }
 
-/// Whether an owner has one of the groups, and that is verified.
-fn is_verified(groups: &[Group], owner: &Owner) -> bool
-    ensures { result ≡ list_any (is_proved owner.now) groups.now }
+/// Whether an owner has one of the groups of a type, and that is verified.
+fn is_verified(groups: &[Group], owner: &Owner, rtype: Rtype) -> bool
+    ensures { result ≡ list_any (is_proved owner.now rtype) groups.now }
 {
     for group in groups {
-        if group.verified.is_some() && owner.name().name_eq(&group.owner) {
+        if group.verified.is_some() && group.is_of(owner, rtype) {
             return true;
         }
     }
@@ -181,11 +246,51 @@ fn read_links<'a>(
 {
     let mut links = Vec::new(alloc);
     for record in records {
-        if is_nsec(record) && is_verified(groups, &record.owner) {
+        if is_record_of(record, Rtype::NSEC) && is_verified(groups, &record.owner, Rtype::NSEC) {
             if let Some(data) = record.link(message) {
                 links.push(Link::new(*record.owner.name(), data))?;
             }
         }
     }
     Ok(links)
+}
+
+/// The NSEC3 records of verified groups.
+fn read_hash_links<'a>(
+    alloc: Global,
+    apex: &Name<Vec<u8>>,
+    message: &'a [u8],
+    records: &[ViewRecord<'a>],
+    groups: &[Group],
+) -> Result<Vec<HashLink<'a>>, AllocError>
+    ensures { let link = hash_link_by apex.now message.now groups.now in
+        IfOk result (λ ls. ls.items ≡ filter_map link (map spelled records.now)) }
+{
+    let mut links = Vec::new(alloc);
+    for record in records {
+        if is_record_of(record, Rtype::NSEC3) && is_verified(groups, &record.owner, Rtype::NSEC3) {
+            if let Some(link) = read_hash_link(alloc, apex, message, record)? {
+                links.push(link)?;
+            }
+        }
+    }
+    Ok(links)
+}
+
+/// The link of an NSEC3 record: the hash that its owner spells, and its data.
+fn read_hash_link<'a>(
+    alloc: Global,
+    apex: &Name<Vec<u8>>,
+    message: &'a [u8],
+    record: &ViewRecord<'a>,
+) -> Result<Option<HashLink<'a>>, AllocError>
+    ensures { IfOk result (λ o. o ≡ hash_link_of apex.now message.now (spelled record.now)) }
+{
+    let Some(hash) = hash_spelled(alloc, apex, &record.owner)? else {
+        return Ok(None);
+    };
+    match record.hashed_link(message) {
+        None => Ok(None),
+        Some(data) => Ok(Some(HashLink::new(hash, data))),
+    }
 }

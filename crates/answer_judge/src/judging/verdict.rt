@@ -3,6 +3,7 @@ ghost use Rattle.std.specs.Prelude.{◌≡◌};
 ghost use Rattle.answer_judge.specs.declared.judging.verdict.Refusal.TheVariants.{Memory};
 
 pub use answer_rules::verdict::{DataList, Verdict};
+use denial_hashes::hasher::HashError;
 use std::alloc::AllocError;
 use thiserror::Error;
 
@@ -48,6 +49,19 @@ impl From<AllocError> for Refusal {
 
     fn from(_e: AllocError) -> Refusal {
         Refusal::Memory
+    }
+}
+
+impl From<HashError> for Refusal {
+    ghost use Rattle.answer_judge.specs.HashRefusal.{refusal_of};
+
+    ghost from_gives = { λ e r. r ≡ refusal_of e };
+
+    fn from(error: HashError) -> Refusal {
+        match error {
+            HashError::Failed => Refusal::HashFailed,
+            HashError::Memory => Refusal::Memory,
+        }
     }
 }
 

@@ -1,23 +1,32 @@
 //! The RRsets of an answer.
-ghost use Rattle.std.specs.Prelude.{◌≡◌, ℕ, ◌&&◌, ◌||◌, ◌==◌, ◌≤◌, true, false, IfOk, IfSome, IsNone, OnOk};
-ghost use Rattle.std.specs.Prelude.{List, [], ◌∷◌, ◌++◌, map};
+ghost use Rattle.std.specs.Prelude.{◌≡◌, ℕ, [], ◌∷◌, ◌++◌, ◌&&◌, ◌||◌, ◌==◌, List, true, false, map, IfErr, IfOk, IfSome, IsNone, OnOk};
 ghost use Rattle.std.specs.List.{AllZip};
-ghost use Rattle.definitions.specs.Name.{Name, at_or_above, low, wire_len};
-ghost use Rattle.definitions.specs.Zone.{exists, has, star_under};
-ghost use Rattle.definitions.specs.ZoneChain.{Nsec};
+ghost use Rattle.definitions.specs.Name.{at_or_above, low};
+ghost use Rattle.definitions.specs.Zone.{NoName, StarRecords, exists, has, is_open, star_under};
+ghost use Rattle.definitions.specs.ZoneChain.{optout_of};
+ghost use Rattle.denial_rules.specs.OwnFacts.{spoken};
+ghost use Rattle.denial_rules.specs.Truth.{concerned};
 ghost use Rattle.answer_terms.specs.Accepting.{zone_with};
+ghost use Rattle.answer_terms.specs.GroupView.{Adds, Presents};
+ghost use Rattle.answer_terms.specs.HashedLinks.{hashed_said_of};
+ghost use Rattle.answer_terms.specs.Hashing.{hash_in};
+ghost use Rattle.answer_terms.specs.Links.{said_of};
+ghost use Rattle.answer_terms.specs.Served.{chain_ttl, expanded, if_any, proofs_of, rrset, soa, under, unsigned_ns};
+ghost use Rattle.answer_zone.specs.Around.{IsAround};
 ghost use Rattle.answer_zone.specs.Cuts.{NoneRefers, Refers};
 ghost use Rattle.answer_zone.specs.GroupRecords.{rrset_from};
+ghost use Rattle.answer_zone.specs.HashedZone.{FailsFor, IsHashFailure, served_by};
 ghost use Rattle.answer_zone.specs.ZoneAnswers.{AnswersAs, Holds};
-ghost use Rattle.answer_terms.specs.GroupView.{Adds, Presents};
-ghost use Rattle.denial_rules.specs.OwnFacts.{kept_ancestor};
-ghost use Rattle.answer_terms.specs.Served.{expanded, if_any, proofs_of, rrset, served_of, soa, under, unsigned_ns};
 
 use crate::fault::Mode;
 use crate::group::RrGroup;
 use crate::zone::ZoneRecords;
-use crate::zone::chain::push_links;
+use crate::zone::around::Around;
+use crate::zone::chain::{ChainLink, push_links};
+use crate::zone::chains::Chain;
+use crate::zone::hash_chain::{HashedLink, push_hashed_links};
 use crate::zone::lookups::{data_among, owner_among};
+use denial_hashes::hasher::{HashError, Nsec3Hasher};
 use messages::names::{Name, ToName, ZoneName, copy_name, is_at_or_above};
 use names_data::rtype::Rtype;
 use std::alloc::{AllocError, Global};
@@ -26,10 +35,10 @@ use std::alloc::{AllocError, Global};
 pub const AUTHORITATIVE: u16 = 0x8400;
 
 /// The flags of one that says that no such name exists.
-const NO_SUCH_NAME: u16 = 0x8403;
+pub(super) const NO_SUCH_NAME: u16 = 0x8403;
 
 /// The flags of a referral, which is not authoritative (RFC 4035, 3.1.4).
-const REFERRAL: u16 = 0x8000;
+pub(super) const REFERRAL: u16 = 0x8000;
 
 /// What a zone answers: the flags of the message, and the RRsets of its two sections in order.
 #[derive(Drop)]
@@ -39,34 +48,45 @@ pub struct ZoneAnswer {
     pub authority: Vec<RrGroup>,
 }
 
-impl ZoneRecords {
+impl<'h, H: Nsec3Hasher> ZoneRecords<'h, H> {
     /// The answer to a question: the RRset asked for, its own or a wildcard's, or the SOA record, or a referral, with the
-    /// records of the chain that prove it (RFC 4035, 3.1). The type is none of those that the chain has.
+    /// records of the chain that prove it (RFC 4035, 3.1; RFC 5155, 7.2). The type is none of those that the chain has.
+    /// It fails where memory does, or where the hasher fails on a name that the proof speaks of: the question's name, what
+    /// stands above it up to the apex, or a wildcard under these.
     pub fn answer_to(
         &self,
         alloc: Global,
         name: &Name<Vec<u8>>,
         rtype: Rtype,
-    ) -> Result<ZoneAnswer, AllocError>
+    ) -> Result<ZoneAnswer, HashError>
         requires { ((rtype == 47) || (rtype == 50)) ≡ false }
-        ensures { IfOk result (λ a. (hash : List (List ℕ) → List ℕ) → AnswersAs
-            (served_of self.now.apex self.now.mode hash self.now.records) name.now rtype a) }
+        ensures answer { IfOk result (AnswersAs (served_by H.hash_of self.now) name.now rtype) }
+        ensures failed { IfErr result (FailsFor H.hash_of self.now name.now rtype) }
+        ensures concerned { let hash = H.hash_of self.now.hasher in
+            at_or_above self.now.apex name.now ≡ true
+            → IfErr result (IsHashFailure hash self.now.mode
+            (concerned (low self.now.apex) (low name.now))) }
     {
-        match &self.mode {
-            Mode::Nsec => self.nsec_answer(alloc, name, rtype),
+        self.keeps();
+        if self.leaves_open(name) {
+            self.open_answer(alloc, name, rtype)
+        } else {
+            self.told_answer(alloc, name, rtype)
         }
     }
 
-    /// The answer with a chain of names: a referral at or below a delegation, otherwise the zone's own.
-    fn nsec_answer(
+    /// The answer where opt-out leaves nothing open: a referral at or below a delegation, otherwise the zone's own.
+    fn told_answer(
         &self,
         alloc: Global,
         name: &Name<Vec<u8>>,
         rtype: Rtype,
-    ) -> Result<ZoneAnswer, AllocError>
+    ) -> Result<ZoneAnswer, HashError>
         requires plain { ((rtype == 47) || (rtype == 50)) ≡ false }
-        ensures { IfOk result (λ a. (hash : List (List ℕ) → List ℕ)
-            → AnswersAs (served_of self.now.apex Nsec hash self.now.records) name.now rtype a) }
+        requires told { let z = zone_with self.now.apex self.now.records in
+            is_open z (optout_of self.now.mode) (low name.now) ≡ false }
+        ensures answer { IfOk result (AnswersAs (served_by H.hash_of self.now) name.now rtype) }
+        ensures failed { IfErr result (FailsFor H.hash_of self.now name.now rtype) }
     {
         match self.referring(name, rtype) {
             Some(cut) => self.referral(alloc, cut),
@@ -76,7 +96,7 @@ impl ZoneRecords {
 
     /// The topmost delegation at or above a name, unless its DS record is asked for, which stands in this zone
     /// (RFC 4035, 3.1.4.1).
-    fn referring(&self, name: &Name<Vec<u8>>, rtype: Rtype) -> Option<&Name<Vec<u8>>>
+    pub(super) fn referring(&self, name: &Name<Vec<u8>>, rtype: Rtype) -> Option<&Name<Vec<u8>>>
         ensures some { let z = zone_with self.now.apex self.now.records in
             IfSome result (λ c. Refers z (low name.now) rtype (low c.now)) }
         ensures none { let z = zone_with self.now.apex self.now.records in
@@ -91,16 +111,15 @@ impl ZoneRecords {
     }
 
     /// A referral: the name servers of a delegation without signatures, its DS records if it has any, and its record of
-    /// the chain, which shows whether it has (RFC 4035, 3.1.4).
-    fn referral(&self, alloc: Global, cut: &Name<Vec<u8>>) -> Result<ZoneAnswer, AllocError>
-        requires delegation { let z = zone_with self.now.apex self.now.records in
-            has z (low cut.now) 2 ≡ true }
-        ensures { IfOk result (λ a. (hash : List (List ℕ) → List ℕ)
-            → let s = served_of self.now.apex Nsec hash self.now.records in let c = low cut.now in
-            Holds 32768 [] (unsigned_ns s c ++ if_any s c 43 ++ proofs_of s (c ∷ [])) a) }
+    /// the chain, which shows whether it has (RFC 4035, 3.1.4; RFC 5155, 7.2.7).
+    fn referral(&self, alloc: Global, cut: &Name<Vec<u8>>) -> Result<ZoneAnswer, HashError>
+        requires delegation { has (zone_with self.now.apex self.now.records) (low cut.now) 2 ≡ true }
+        ensures answer { let s = served_by H.hash_of self.now in let c = low cut.now in
+            IfOk result (Holds 32768 [] (unsigned_ns s c ++ if_any s c 43 ++ proofs_of s (c ∷ []))) }
+        ensures failed { let hash = H.hash_of self.now.hasher in
+            IfErr result (IsHashFailure hash self.now.mode (low cut.now ∷ [])) }
     {
-        let mut authority = Vec::new(alloc);
-        authority.push(self.spelled_rrset(alloc, cut, Rtype::NS)?.unsigned())?;
+        let mut authority = self.name_servers(alloc, cut)?;
         self.push_ds(alloc, &mut authority, cut)?;
         self.push_proofs(alloc, &mut authority, &[cut])?;
         Ok(ZoneAnswer {
@@ -110,6 +129,21 @@ impl ZoneRecords {
         })
     }
 
+    /// The name servers of a delegation, without signatures (RFC 4035, 2.2).
+    pub(super) fn name_servers(
+        &self,
+        alloc: Global,
+        cut: &Name<Vec<u8>>,
+    ) -> Result<Vec<RrGroup>, AllocError>
+        requires delegation { has (zone_with self.now.apex self.now.records) (low cut.now) 2 ≡ true }
+        ensures { let s = served_by H.hash_of self.now in
+            IfOk result (λ v. AllZip Presents v.items (unsigned_ns s (low cut.now))) }
+    {
+        let mut groups = Vec::new(alloc);
+        groups.push(self.spelled_rrset(alloc, cut, Rtype::NS)?.unsigned())?;
+        Ok(groups)
+    }
+
     /// Adds the DS records of a delegation, if it has any.
     fn push_ds(
         &self,
@@ -117,9 +151,8 @@ impl ZoneRecords {
         groups: &mut Vec<RrGroup>,
         cut: &Name<Vec<u8>>,
     ) -> Result<(), AllocError>
-        ensures { OnOk result ((hash : List (List ℕ) → List ℕ)
-            → Adds groups.old.items groups.new.items
-            (if_any (served_of self.now.apex Nsec hash self.now.records) (low cut.now) 43)) }
+        ensures { let s = served_by H.hash_of self.now in
+            OnOk result (Adds groups.old.items groups.new.items (if_any s (low cut.now) 43)) }
     {
         if !self.has(cut, Rtype::DS) {
             return Ok(());
@@ -129,22 +162,24 @@ impl ZoneRecords {
     }
 
     /// The answer where no delegation refers away: the RRset asked for, or the record of the chain that matches or covers
-    /// a name without it (RFC 4035, 3.1.1 and 3.1.3.1).
+    /// a name without it (RFC 4035, 3.1.1 and 3.1.3.1; RFC 5155, 7.2.3).
     fn own_answer(
         &self,
         alloc: Global,
         name: &Name<Vec<u8>>,
         rtype: Rtype,
-    ) -> Result<ZoneAnswer, AllocError>
+    ) -> Result<ZoneAnswer, HashError>
         requires plain { ((rtype == 47) || (rtype == 50)) ≡ false }
+        requires told { let z = zone_with self.now.apex self.now.records in
+            is_open z (optout_of self.now.mode) (low name.now) ≡ false }
         requires own { let z = zone_with self.now.apex self.now.records in
             NoneRefers z (low name.now) rtype }
-        ensures { IfOk result (λ a. (hash : List (List ℕ) → List ℕ)
-            → AnswersAs (served_of self.now.apex Nsec hash self.now.records) name.now rtype a) }
+        ensures answer { IfOk result (AnswersAs (served_by H.hash_of self.now) name.now rtype) }
+        ensures failed { IfErr result (FailsFor H.hash_of self.now name.now rtype) }
     {
         self.keeps();
         if self.has(name, rtype) {
-            return self.found(alloc, name, rtype);
+            return Ok(self.found(alloc, name, rtype)?);
         }
         if self.exists(name) {
             return self.missing(alloc, AUTHORITATIVE, &[name]);
@@ -153,34 +188,37 @@ impl ZoneRecords {
     }
 
     /// The answer for a name that does not exist: that of the wildcard under its closest encloser, with the record that
-    /// covers the name, or that there is no such name (RFC 4035, 3.1.3.2 to 3.1.3.4).
+    /// covers the name or the next closer one, or that there is no such name (RFC 4035, 3.1.3.2 to 3.1.3.4; RFC 5155,
+    /// 7.2.2, 7.2.5 and 7.2.6).
     fn answer_without_name(
         &self,
         alloc: Global,
         name: &Name<Vec<u8>>,
         rtype: Rtype,
-    ) -> Result<ZoneAnswer, AllocError>
+    ) -> Result<ZoneAnswer, HashError>
         requires plain { ((rtype == 47) || (rtype == 50)) ≡ false }
+        requires told { let z = zone_with self.now.apex self.now.records in
+            is_open z (optout_of self.now.mode) (low name.now) ≡ false }
         requires own { let z = zone_with self.now.apex self.now.records in
             NoneRefers z (low name.now) rtype }
         requires gone { let z = zone_with self.now.apex self.now.records in
             exists z (low name.now) ≡ false }
-        ensures { IfOk result (λ a. (hash : List (List ℕ) → List ℕ)
-            → AnswersAs (served_of self.now.apex Nsec hash self.now.records) name.now rtype a) }
+        ensures answer { IfOk result (AnswersAs (served_by H.hash_of self.now) name.now rtype) }
+        ensures failed { IfErr result (FailsFor H.hash_of self.now name.now rtype) }
     {
         self.keeps();
-        let star = self.closest_wildcard(alloc, name)?;
-        if !self.expands(name, &star) {
-            return self.missing(alloc, NO_SUCH_NAME, &[name, &star]);
+        let around = self.around(alloc, name)?;
+        if !self.expands(name, &around.star) {
+            return self.denied(alloc, NO_SUCH_NAME, name, &around);
         }
-        if self.has(&star, rtype) {
-            return self.expanded(alloc, name, &star, rtype);
+        if self.has(&around.star, rtype) {
+            return self.expanded(alloc, name, &around, rtype);
         }
-        self.missing(alloc, AUTHORITATIVE, &[name, &star])
+        self.denied(alloc, AUTHORITATIVE, name, &around)
     }
 
     /// Whether a wildcard name exists, and the name is one of the zone.
-    fn expands(&self, name: &Name<Vec<u8>>, star: &Name<Vec<u8>>) -> bool
+    pub(super) fn expands(&self, name: &Name<Vec<u8>>, star: &Name<Vec<u8>>) -> bool
         ensures { result ≡ (at_or_above self.now.apex name.now
             && exists (zone_with self.now.apex self.now.records) (low star.now)) }
     {
@@ -195,9 +233,8 @@ impl ZoneRecords {
         rtype: Rtype,
     ) -> Result<ZoneAnswer, AllocError>
         requires plain { ((rtype == 47) || (rtype == 50)) ≡ false }
-        ensures { IfOk result (λ a. (hash : List (List ℕ) → List ℕ)
-            → let s = served_of self.now.apex Nsec hash self.now.records in
-            Holds 33792 (under name.now (rrset s (low name.now) rtype) ∷ []) [] a) }
+        ensures { let s = served_by H.hash_of self.now in
+            IfOk result (Holds 33792 (under name.now (rrset s (low name.now) rtype) ∷ []) []) }
     {
         Ok(ZoneAnswer {
             flags: AUTHORITATIVE,
@@ -206,32 +243,52 @@ impl ZoneRecords {
         })
     }
 
-    /// The RRset of a wildcard under the name asked for, and the record of the chain that covers the name
-    /// (RFC 4035, 3.1.3.3).
+    /// The RRset of a wildcard under the name asked for, and the record of the chain that covers that name, or the next
+    /// closer name: the name itself does not exist (RFC 4035, 3.1.3.3; RFC 5155, 7.2.6).
     fn expanded(
         &self,
         alloc: Global,
         name: &Name<Vec<u8>>,
-        star: &Name<Vec<u8>>,
+        around: &Around,
         rtype: Rtype,
-    ) -> Result<ZoneAnswer, AllocError>
+    ) -> Result<ZoneAnswer, HashError>
         requires plain { ((rtype == 47) || (rtype == 50)) ≡ false }
-        ensures { IfOk result (λ a. (hash : List (List ℕ) → List ℕ)
-            → let s = served_of self.now.apex Nsec hash self.now.records in
-            let q = name.now in
-            Holds 33792 (expanded s (low star.now) q rtype) (proofs_of s (low q ∷ [])) a) }
+        requires around { let z = zone_with self.now.apex self.now.records in
+            IsAround z (optout_of self.now.mode) (low name.now) around.now }
+        ensures answer { let s = served_by H.hash_of self.now in let q = low name.now in
+            let star = low around.now.star in
+            let said = spoken s.zone s.mode q (StarRecords []) in
+            IfOk result (Holds 33792 (expanded s star name.now rtype) (proofs_of s said)) }
+        ensures failed { let hash = H.hash_of self.now.hasher in let mode = self.now.mode in
+            let z = zone_with self.now.apex self.now.records in
+            let said = spoken z mode (low name.now) (StarRecords []) in
+            IfErr result (IsHashFailure hash mode said) }
     {
+        let covered = self.covered_name(name, around);
         let mut authority = Vec::new(alloc);
-        self.push_proofs(alloc, &mut authority, &[name])?;
+        self.push_proofs(alloc, &mut authority, &[covered])?;
         Ok(ZoneAnswer {
             flags: AUTHORITATIVE,
-            answer: self.under_name(alloc, name, star, rtype)?,
+            answer: self.under_name(alloc, name, &around.star, rtype)?,
             authority,
         })
     }
 
+    /// The name that an expanded wildcard's proof covers: the question's, or the next closer one.
+    fn covered_name<'n>(&self, name: &'n Name<Vec<u8>>, around: &'n Around) -> &'n Name<Vec<u8>>
+        requires around { let z = zone_with self.now.apex self.now.records in
+            IsAround z (optout_of self.now.mode) (low name.now) around.now }
+        ensures { let z = zone_with self.now.apex self.now.records in
+            low result.now ∷ [] ≡ spoken z self.now.mode (low name.now) (StarRecords []) }
+    {
+        match &self.mode {
+            Mode::Nsec => name,
+            Mode::Nsec3 { .. } => &around.closer,
+        }
+    }
+
     /// The RRset of an owner and a type under the name asked for.
-    fn under_name(
+    pub(super) fn under_name(
         &self,
         alloc: Global,
         name: &Name<Vec<u8>>,
@@ -239,26 +296,57 @@ impl ZoneRecords {
         rtype: Rtype,
     ) -> Result<Vec<RrGroup>, AllocError>
         requires plain { ((rtype == 47) || (rtype == 50)) ≡ false }
-        ensures { IfOk result (λ v. (hash : List (List ℕ) → List ℕ)
-            → let s = served_of self.now.apex Nsec hash self.now.records in
-            AllZip Presents v.items (under name.now (rrset s (low source.now) rtype) ∷ [])) }
+        ensures { let s = served_by H.hash_of self.now in
+            let there = rrset s (low source.now) rtype in
+            IfOk result (λ v. AllZip Presents v.items (under name.now there ∷ [])) }
     {
         let mut groups = Vec::new(alloc);
         groups.push(self.rrset(alloc, source, copy_name(alloc, name)?, rtype, false)?)?;
         Ok(groups)
     }
 
+    /// An answer that denies a name: the SOA record, and the records of the chain that match or cover the name and the
+    /// wildcard, or its closest encloser, the next closer name and the wildcard (RFC 4035, 3.1.3.2; RFC 5155, 7.2.2).
+    fn denied(
+        &self,
+        alloc: Global,
+        flags: u16,
+        name: &Name<Vec<u8>>,
+        around: &Around,
+    ) -> Result<ZoneAnswer, HashError>
+        requires around { let z = zone_with self.now.apex self.now.records in
+            IsAround z (optout_of self.now.mode) (low name.now) around.now }
+        ensures answer { let s = served_by H.hash_of self.now in
+            let said = spoken s.zone s.mode (low name.now) NoName in
+            IfOk result (Holds flags [] (soa s ∷ proofs_of s said)) }
+        ensures failed { let hash = H.hash_of self.now.hasher in let mode = self.now.mode in
+            let z = zone_with self.now.apex self.now.records in
+            let said = spoken z mode (low name.now) NoName in
+            IfErr result (IsHashFailure hash mode said) }
+    {
+        match &self.mode {
+            Mode::Nsec => self.missing(alloc, flags, &[name, &around.star]),
+            Mode::Nsec3 { .. } => {
+                let names = [&around.encloser, &around.closer, &around.star];
+                self.missing(alloc, flags, &names)
+            }
+        }
+    }
+
     /// An answer without the RRset asked for: the SOA record, and the records of the chain that match or cover one of
     /// some names.
-    fn missing(
+    pub(super) fn missing(
         &self,
         alloc: Global,
         flags: u16,
         names: &[&Name<Vec<u8>>],
-    ) -> Result<ZoneAnswer, AllocError>
-        ensures { IfOk result (λ a. (hash : List (List ℕ) → List ℕ)
-            → let s = served_of self.now.apex Nsec hash self.now.records in
-            Holds flags [] (soa s ∷ proofs_of s (map (λ n. low n.now) names.now)) a) }
+    ) -> Result<ZoneAnswer, HashError>
+        ensures answer { let s = served_by H.hash_of self.now in
+            let qs = map (λ n. low n.now) names.now in
+            IfOk result (Holds flags [] (soa s ∷ proofs_of s qs)) }
+        ensures failed { let hash = H.hash_of self.now.hasher in
+            let qs = map (λ n. low n.now) names.now in
+            IfErr result (IsHashFailure hash self.now.mode qs) }
     {
         Ok(ZoneAnswer {
             flags,
@@ -268,37 +356,135 @@ impl ZoneRecords {
     }
 
     /// The SOA record, and the records of the chain that match or cover one of some names.
-    fn denial(&self, alloc: Global, names: &[&Name<Vec<u8>>]) -> Result<Vec<RrGroup>, AllocError>
-        ensures { IfOk result (λ gs. (hash : List (List ℕ) → List ℕ)
-            → AllZip Presents gs.items (soa (served_of self.now.apex Nsec hash self.now.records)
-            ∷ proofs_of (served_of self.now.apex Nsec hash self.now.records)
-            (map (λ n. low n.now) names.now))) }
+    fn denial(&self, alloc: Global, names: &[&Name<Vec<u8>>]) -> Result<Vec<RrGroup>, HashError>
+        ensures answer { let s = served_by H.hash_of self.now in
+            let qs = map (λ n. low n.now) names.now in
+            IfOk result (λ gs. AllZip Presents gs.items (soa s ∷ proofs_of s qs)) }
+        ensures failed { let hash = H.hash_of self.now.hasher in
+            let qs = map (λ n. low n.now) names.now in
+            IfErr result (IsHashFailure hash self.now.mode qs) }
     {
-        let mut groups = Vec::new(alloc);
-        groups.push(self.soa(alloc)?)?;
+        let mut groups = self.soa_alone(alloc)?;
         self.push_proofs(alloc, &mut groups, names)?;
         Ok(groups)
     }
 
     /// Adds the records of the chain that match or cover one of some names, in canonical order.
-    fn push_proofs(
+    pub(super) fn push_proofs(
         &self,
         alloc: Global,
         groups: &mut Vec<RrGroup>,
         names: &[&Name<Vec<u8>>],
-    ) -> Result<(), AllocError>
-        ensures { OnOk result ((hash : List (List ℕ) → List ℕ)
-            → Adds groups.old.items groups.new.items
-            (proofs_of (served_of self.now.apex Nsec hash self.now.records)
-            (map (λ n. low n.now) names.now))) }
+    ) -> Result<(), HashError>
+        ensures adds { let s = served_by H.hash_of self.now in
+            let qs = map (λ n. low n.now) names.now in
+            OnOk result (Adds groups.old.items groups.new.items (proofs_of s qs)) }
+        ensures failed { let hash = H.hash_of self.now.hasher in
+            let qs = map (λ n. low n.now) names.now in
+            IfErr result (IsHashFailure hash self.now.mode qs) }
     {
-        push_links(alloc, groups, &self.chain, &self.apex, self.link_ttl, names)
+        match &self.chain {
+            Chain::Names(links) => self.push_named_proofs(alloc, groups, links, names),
+            Chain::Hashes(links) => self.push_hashed_proofs(alloc, groups, links, names),
+        }
+    }
+
+    /// Adds those of NSEC records that match or cover one of some names.
+    fn push_named_proofs(
+        &self,
+        alloc: Global,
+        groups: &mut Vec<RrGroup>,
+        links: &Vec<ChainLink>,
+        names: &[&Name<Vec<u8>>],
+    ) -> Result<(), HashError>
+        ensures adds { let ttl = chain_ttl self.now.apex self.now.records in
+            let said = said_of self.now.apex ttl (map (λ n. low n.now) names.now) links.now.items in
+            OnOk result (Adds groups.old.items groups.new.items said) }
+        ensures failed { IfErr result (λ e. e ≡ HashError.Memory) }
+    {
+        push_links(alloc, groups, links, &self.apex, self.link_ttl, names)?;
+        Ok(())
+    }
+
+    /// Adds those of NSEC3 records that match or cover one of some names, each of which is hashed once.
+    fn push_hashed_proofs(
+        &self,
+        alloc: Global,
+        groups: &mut Vec<RrGroup>,
+        links: &Vec<HashedLink>,
+        names: &[&Name<Vec<u8>>],
+    ) -> Result<(), HashError>
+        ensures adds { let ttl = chain_ttl self.now.apex self.now.records in
+            let hash = hash_in (H.hash_of self.now.hasher) self.now.mode in
+            let said = hashed_said_of ttl (map (λ n. hash n.now) names.now) links.now.items in
+            OnOk result (Adds groups.old.items groups.new.items said) }
+        ensures failed { let hash = H.hash_of self.now.hasher in
+            let qs = map (λ n. low n.now) names.now in
+            IfErr result (IsHashFailure hash self.now.mode qs) }
+    {
+        let hashes = self.hashes_of(alloc, names)?;
+        push_hashed_links(alloc, groups, links, self.link_ttl, &hashes)?;
+        Ok(())
+    }
+
+    /// The hash of each of some names.
+    fn hashes_of(
+        &self,
+        alloc: Global,
+        names: &[&Name<Vec<u8>>],
+    ) -> Result<Vec<Vec<u8>>, HashError>
+        ensures hashes { let hash = hash_in (H.hash_of self.now.hasher) self.now.mode in
+            let hashes = map (λ n. hash n.now) names.now in
+            IfOk result (λ v. map (λ h. h.items) v.items ≡ hashes) }
+        ensures failed { let hash = H.hash_of self.now.hasher in
+            let qs = map (λ n. low n.now) names.now in
+            IfErr result (IsHashFailure hash self.now.mode qs) }
+    {
+        let mut hashes = Vec::with_capacity(alloc, names.len())?;
+        for name in names {
+            let hash = match self.hash_of_name(alloc, name) {
+                Ok(hash) => hash,
+                Err(error) => return Err(error),
+            };
+            push_hash(&mut hashes, hash)?;
+        }
+        Ok(hashes)
+    }
+
+    /// The hash of a name, in lower case (RFC 5155, 5); of no octets where the chain is one of names.
+    fn hash_of_name(&self, alloc: Global, name: &Name<Vec<u8>>) -> Result<Vec<u8>, HashError>
+        ensures hash { let hash = hash_in (H.hash_of self.now.hasher) self.now.mode in
+            IfOk result (λ h. h.items ≡ hash name.now) }
+        ensures failed { let hash = H.hash_of self.now.hasher in
+            IfErr result (IsHashFailure hash self.now.mode (low name.now ∷ [])) }
+    {
+        match &self.mode {
+            Mode::Nsec => Ok(Vec::new(alloc)),
+            Mode::Nsec3 {
+                iterations, salt, ..
+            } => {
+                let mut octets = Vec::new(alloc);
+                name.compose_canonical(&mut octets)?;
+                self.hasher
+                    .hash(alloc, &octets, 1, *iterations, salt.as_slice())
+            }
+        }
+    }
+
+    /// The SOA record of the zone, and nothing else yet.
+    pub(super) fn soa_alone(&self, alloc: Global) -> Result<Vec<RrGroup>, AllocError>
+        ensures { let s = served_by H.hash_of self.now in
+            IfOk result (λ v. AllZip Presents v.items (soa s ∷ [])) }
+    {
+        let mut groups = Vec::new(alloc);
+        groups.push(self.soa(alloc)?)?;
+        Ok(groups)
     }
 
     /// The SOA record of the zone.
     fn soa(&self, alloc: Global) -> Result<RrGroup, AllocError>
-        ensures { IfOk result (λ g. (hash : List (List ℕ) → List ℕ)
-            → Presents g (soa (served_of self.now.apex Nsec hash self.now.records))) }
+        ensures { let s = served_by H.hash_of self.now in
+            IfOk result (λ g. Presents g (soa s)) }
     {
         self.spelled_rrset(alloc, &self.apex, Rtype::SOA)
     }
@@ -311,11 +497,9 @@ impl ZoneRecords {
         rtype: Rtype,
     ) -> Result<RrGroup, AllocError>
         requires plain { ((rtype == 47) || (rtype == 50)) ≡ false }
-        requires there { let z = zone_with self.now.apex self.now.records in
-            has z (low name.now) rtype ≡ true }
-        ensures { IfOk result (λ g. (hash : List (List ℕ) → List ℕ)
-            → let s = served_of self.now.apex Nsec hash self.now.records in
-            Presents g (rrset s (low name.now) rtype)) }
+        requires there { has (zone_with self.now.apex self.now.records) (low name.now) rtype ≡ true }
+        ensures { let s = served_by H.hash_of self.now in
+            IfOk result (λ g. Presents g (rrset s (low name.now) rtype)) }
     {
         let owner = match owner_among(&self.records, name, rtype) {
             Some(owner) => owner,
@@ -342,43 +526,15 @@ impl ZoneRecords {
         let count = source.rrsig_label_count();
         Ok(RrGroup::new(owner, count, rtype, ttl, data.records, data.canonical, true))
     }
+}
 
-    /// The wildcard name under the closest encloser of a name that does not exist (RFC 4592, 3.3.1).
-    fn closest_wildcard(
-        &self,
-        alloc: Global,
-        name: &Name<Vec<u8>>,
-    ) -> Result<Name<Vec<u8>>, AllocError>
-        ensures { IfOk result (λ s. low s ≡ star_under
-            (kept_ancestor (zone_with self.now.apex self.now.records) false (low name.now))) }
-    {
-        match self.closest_encloser(alloc, name)?.wildcard_child(alloc)? {
-            Some(star) => Ok(star),
-            None => unreachable!(),
-        }
+/// Adds a hash.
+fn push_hash(hashes: &mut Vec<Vec<u8>>, hash: Vec<u8>) -> Result<(), HashError>
+    ensures ok { OnOk result (hashes.new.items ≡ hashes.old.items ++ hash ∷ []) }
+    ensures refused { IfErr result (λ e. e ≡ HashError.Memory) }
+{
+    if let Err(error) = hashes.push(hash) {
+        return Err(AllocError::from(error).into());
     }
-
-    /// The longest proper ancestor of a name that exists, the root where none does.
-    fn closest_encloser(
-        &self,
-        alloc: Global,
-        name: &Name<Vec<u8>>,
-    ) -> Result<Name<Vec<u8>>, AllocError>
-        ensures ancestor { IfOk result (λ e. low e
-            ≡ kept_ancestor (zone_with self.now.apex self.now.records) false (low name.now)) }
-        ensures room { IfOk result (λ e. wire_len (star_under e) ≤ 255) }
-    {
-        let mut count = name.depth();
-        while count > 0 {
-            count -= 1;
-            let ancestor = name.suffix(alloc, count)?;
-            if self.exists(&ancestor) {
-                return Ok(ancestor);
-            }
-        }
-        match Name::root(alloc) {
-            Ok(root) => Ok(root),
-            Err(_) => Err(AllocError),
-        }
-    }
+    Ok(())
 }

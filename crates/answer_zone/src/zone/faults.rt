@@ -90,5 +90,6 @@ fn is_over_limit(mode: &Mode, limit: u16) -> bool
 {
     match mode {
         Mode::Nsec => false,
+        Mode::Nsec3 { iterations, .. } => limit < *iterations,
     }
 }

@@ -13,12 +13,13 @@ ghost use Rattle.answer_terms.specs.ZoneView.{is_of};
 use crate::group::GroupRecord;
 use crate::zone::ZoneRecords;
 use crate::zone::composed_record::ComposedRecord;
+use denial_hashes::hasher::Nsec3Hasher;
 use messages::names::{Name, ToName, is_at_or_above};
 use names_data::rtype::Rtype;
 use plain::Ttl;
 use std::alloc::{AllocError, Global};
 
-impl ZoneRecords {
+impl<'h, H: Nsec3Hasher> ZoneRecords<'h, H> {
     /// Whether a record of this owner and type stands in the zone.
     pub fn has(&self, name: &Name<Vec<u8>>, rtype: Rtype) -> bool
         ensures { result ≡ has (zone_with self.now.apex self.now.records) (low name.now) rtype }
@@ -42,7 +43,7 @@ impl ZoneRecords {
     }
 
     /// Whether a delegation stands strictly above a name.
-    fn is_below_cut(&self, name: &Name<Vec<u8>>) -> bool
+    pub(super) fn is_below_cut(&self, name: &Name<Vec<u8>>) -> bool
         ensures { result ≡ is_cut_off (zone_with self.now.apex self.now.records) (low name.now) }
     {
         match self.cut(name) {

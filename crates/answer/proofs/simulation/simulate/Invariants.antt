@@ -1,5 +1,6 @@
 use Rattle.std.proofs.Common.{◌≡◌, map}
 use Rattle.answer_terms.specs.Accepting.{sorted_records}
+use Rattle.answer_zone.specs.HashedZone.{accepted_zone}
 use Rattle.answer_zone.specs.ModeView.{mode_of}
 use Rattle.messages.specs.HandedRr.{handed_of}
 use Rattle.answer.specs.Running.{sofar}
@@ -15,6 +16,6 @@ invariant-loop-event g l =
     let there : World = world (record { apex = l.fn.apex; mode = mode_of l.fn.mode; limit = l.fn.limit; records = sorted_records (map handed_of l.fn.records.items) }) l.fn.life (g.S.Scheme.signature_of l.scheme) (g.S.Scheme.verifies l.scheme) (g.S.Scheme.digest_of l.scheme) (g.H.Nsec3Hasher.hash_of l.hasher) in
     record {
       limit : run.limit ≡ run.publisher.zone.limit;
-      same : world run.publisher.zone run.publisher.life (g.S.Scheme.signature_of run.publisher.scheme.now) (g.S.Scheme.verifies run.publisher.scheme.now) (g.S.Scheme.digest_of run.publisher.scheme.now) (g.H.Nsec3Hasher.hash_of run.publisher.hasher.now) ≡ there;
+      same : world (accepted_zone run.publisher.zone) run.publisher.life (g.S.Scheme.signature_of run.publisher.scheme.now) (g.S.Scheme.verifies run.publisher.scheme.now) (g.S.Scheme.digest_of run.publisher.scheme.now) (g.H.Nsec3Hasher.hash_of run.publisher.zone.hasher) ≡ there;
       follows : GoesOn there (begin l.fn.apex) l.events run.results.outcomes l.event-index (sofar run.publisher.keys run.results);
     }

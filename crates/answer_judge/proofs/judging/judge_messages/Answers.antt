@@ -1,20 +1,18 @@
-use Rattle.std.proofs.Common.{arith, ◌≡◌, false, map, filter, [], ◌+◌, inr, sym, ap, subst, ◌∙◌}
+use Rattle.std.proofs.Common.{arith, ◌≡◌, ◌||◌, false, map, filter, [], ◌+◌, inr, sym, ap, subst, ◌∙◌}
 use Rattle.std.specs.Prelude.{None, nat_eq}
-use Rattle.std.specs.Option.{option_map}
 use Rattle.definitions.specs.Dnskey.{dnskey_data}
 use Rattle.definitions.specs.Zone.{sorted_data}
 use Rattle.definitions.specs.Limits.{pointer_limit}
 use Rattle.answer_judge.specs.Facts.{is_usable, is_trusted}
-use Rattle.denial_rules.specs.Deciding.{decided}
 use Rattle.answer_judge.specs.Judging.{Handing, message_refusal, keys_in}
-use Rattle.answer_rules.specs.Rules.{verdict_of}
-use Rattle.answer_judge.specs.Judged.{trusting, keys_of, decided_by, hash_among, judged_beyond, said, AnswersAs}
+use Rattle.answer_judge.specs.Judged.{trusting, keys_of, judged_facts, said, AnswersAs}
 use Rattle.messages.specs.Record.{spelled}
 use Rattle.answer_judge.specs.Verified.{is_verified, verified_facts}
 use Rattle.messages.proofs.CountedRecords.{same_count}
-use Rattle.answer_judge.specs.Counted.{answer_sought, keys_sought, tries}
+use Rattle.answer_judge.specs.Counted.{answer_sought, hashes_beyond, hashes_of_facts, keys_sought, tries}
 use Rattle.answer_judge.proofs.JudgeTotals.{key_tries_as, keys_alone, keys_and_answer}
-use Rattle.answer_judge.proofs.JudgeWhole.{beyond, chained_as, usable_as, untrusted, decided_as, answered, unrefused}
+use Rattle.answer_judge.proofs.JudgeWhole.{beyond, chained_as, usable_as, untrusted, decided_as, unrefused}
+use Rattle.answer_judge.proofs.JudgeHashes.{facts_hashed, none_hashed, rises_from}
 use Rattle.answer_terms.specs.EqualTags.{has_equal_tags}
 use Rattle.answer_judge.proofs.judging.judge_messages.Goals as goal
 
@@ -30,7 +28,7 @@ read_facts-requires g c =
         same_count c.in_ok-messages.messages.key_records.items c.in_ok-messages.messages.keys.records c.in_ok-messages.ensures.key_records,
         same_count c.in_ok-messages.messages.answer_records.items c.in_ok-messages.messages.answer.records c.in_ok-messages.ensures.answer_records,
       );
-      other = ap (λ (h : Handing). nat_eq h.asked.rtype 47) c.case.view_is ∙ c.requires.other;
+      other = (λ i. (ap (λ (h : Handing). nat_eq h.asked.rtype 47) c.case.view_is ∙ c.requires.other) i || (ap (λ (h : Handing). nat_eq h.asked.rtype 50) c.case.view_is ∙ c.requires.other_too) i);
     }
 
 pub returns-then-not-branch-clause-exact : goal.returns-then-not-branch-clause-exact
@@ -75,13 +73,11 @@ returns-clause-exact g c =
     let facts = c.in_ok-facts.facts in
     let found : facts ≡ verified_facts (trusting a h c.usable_keys-usable.result.items) pointer_limit h.answer_bytes (map spelled c.in_ok-messages.messages.answer_records.items) h.asked.name h.asked.rtype =
     c.in_ok-facts.ensures.facts ∙ (λ i. verified_facts (record { answers = later i; apex = (is i).apex; keys = c.deref-7.ensures.value i; now = moment i }) pointer_limit (is i).answer_bytes (map spelled (c.deref-8.ensures.value i)) (is i).asked.name (is i).asked.rtype) in
-    let hash = hash_among a.hash facts.hash_links in
-    let decides : option_map verdict_of c.in_ok-verdict.verdict ≡ decided_by a h facts =
-    c.in_ok-verdict.ensures hash ∙ (λ i. decided (is i).apex hash facts (is i).asked.name (is i).asked.rtype) in
     let chain = sym c.if-not-branch.false ∙ chained_as a h keys rs c.in_ok-keys.keys.items c.in_ok-trusted.trusted.items c.in_ok-are_verified.field-0 c.in_ok-messages.ensures.key_records ks trusted chained in
-    let all = decided_as a h keys answer c.usable_keys-usable.result.items (map spelled c.in_ok-messages.messages.answer_records.items) facts (option_map verdict_of c.in_ok-verdict.verdict)
-    (beyond a pointer_limit h keys answer c.in_ok-messages.ensures.keys c.in_ok-messages.ensures.answer none) chain usable c.in_ok-messages.ensures.answer_records found decides in
-    subst (λ o. AnswersAs (said o) (judged_beyond a pointer_limit h)) (sym c.ok_or.ensures.value) (answered c.in_ok-verdict.verdict (judged_beyond a pointer_limit h) all)
+    let all = decided_as a h keys answer c.usable_keys-usable.result.items (map spelled c.in_ok-messages.messages.answer_records.items) facts
+    (beyond a pointer_limit h keys answer c.in_ok-messages.ensures.keys c.in_ok-messages.ensures.answer none) chain usable c.in_ok-messages.ensures.answer_records found in
+    let last = c.in_ok-facts.ensures.same ∙ later in
+    subst (AnswersAs (said c.judge_facts.result)) (ap (λ v. judged_facts v h facts) last ∙ all) c.judge_facts.ensures.exact
 
 -- the signatures that were tried on the keys
 pub returns-then-not-branch-clause-counts : goal.returns-then-not-branch-clause-counts
@@ -134,3 +130,56 @@ returns-clause-counts g c =
     (sym c.if-not-branch.false ∙ chained_as a h keys rs c.in_ok-keys.keys.items c.in_ok-trusted.trusted.items c.in_ok-are_verified.field-0 c.in_ok-messages.ensures.key_records ks trusted chained)
     (key_tries_as a h keys rs c.in_ok-keys.keys.items c.in_ok-trusted.trusted.items c.are_verified.new.verifier.count c.in_ok-messages.ensures.key_records ks trusted tried)
     usable c.in_ok-messages.ensures.answer_records more)
+
+-- no name is hashed where the keys aren't signed
+pub returns-then-not-branch-clause-rises : goal.returns-then-not-branch-clause-rises
+returns-then-not-branch-clause-rises g c =
+    let a = g.C.Checks.answers c.args.verifier.now.checks.now in
+    let h : Handing = c.args.case.now in
+    let is = c.case.view_is in
+    let moment = c.timestamp-moment.ensures ∙ ap (λ (h : Handing). h.now) is in
+    let keys = c.in_ok-messages.messages.keys in
+    let answer = c.in_ok-messages.messages.answer in
+    let rs = map spelled c.in_ok-messages.messages.key_records.items in
+    let ks : c.in_ok-keys.keys.items ≡ keys_in h.dnskey_bytes h.apex rs = c.in_ok-keys.ensures ∙ (λ i. keys_in (is i).dnskey_bytes (is i).apex (map spelled (c.deref.ensures.value i))) in
+    let tags : has_equal_tags (keys_in h.dnskey_bytes h.apex keys.records) ≡ false = sym (c.has_equal_tags.ensures ∙ ap has_equal_tags (c.deref-2.ensures.value ∙ ks ∙ ap (keys_in h.dnskey_bytes h.apex) c.in_ok-messages.ensures.key_records)) ∙ c.if-has_equal_tags.false in
+    let none : message_refusal pointer_limit h ≡ None = unrefused pointer_limit h keys answer c.in_ok-messages.ensures.keys c.in_ok-messages.ensures.answer c.in_ok-messages.ensures.asks_keys c.in_ok-messages.ensures.asks_answer tags in
+    let trusted : c.in_ok-trusted.trusted.items ≡ filter (is_trusted a h.apex h.ds) c.in_ok-keys.keys.items = c.in_ok-trusted.ensures.trusted ∙ (λ i. filter (is_trusted a (is i).apex (is i).ds) (c.deref-3.ensures.value i)) in
+    let rest = c.in_ok-trusted.ensures.rest in
+    let same = ap (λ v. g.C.Checks.answers v.checks.now) rest in
+    let chained : c.in_ok-are_verified.field-0 ≡ is_verified (trusting a h c.in_ok-trusted.trusted.items) pointer_limit h.dnskey_bytes rs h.apex 48 (sorted_data (map dnskey_data c.in_ok-keys.keys.items)) =
+    c.in_ok-are_verified.ensures.exact ∙ (λ i. is_verified (record { answers = same i; apex = (is i).apex; keys = c.deref-4.ensures.value i; now = moment i }) pointer_limit (is i).dnskey_bytes (map spelled (c.deref-5.ensures.value i)) (is i).apex 48 (sorted_data (map dnskey_data (c.deref-6.ensures.value i)))) in
+    let count = c.in_ok-are_verified.ensures.hashed ∙ ap (λ v. g.C.Checks.hashed v.checks.now) rest in
+    let due = none_hashed a h keys answer none c.in_ok-messages.ensures.keys c.in_ok-messages.ensures.answer
+    (sym c.if-not-branch.true ∙ chained_as a h keys rs c.in_ok-keys.keys.items c.in_ok-trusted.trusted.items c.in_ok-are_verified.field-0 c.in_ok-messages.ensures.key_records ks trusted chained) in
+    inr (omega (arith, count, due))
+
+-- where they are, those that the facts ask for
+pub returns-clause-rises : goal.returns-clause-rises
+returns-clause-rises g c =
+    let a = g.C.Checks.answers c.args.verifier.now.checks.now in
+    let h : Handing = c.args.case.now in
+    let is = c.case.view_is in
+    let moment = c.timestamp-moment.ensures ∙ ap (λ (h : Handing). h.now) is in
+    let keys = c.in_ok-messages.messages.keys in
+    let answer = c.in_ok-messages.messages.answer in
+    let rs = map spelled c.in_ok-messages.messages.key_records.items in
+    let ks : c.in_ok-keys.keys.items ≡ keys_in h.dnskey_bytes h.apex rs = c.in_ok-keys.ensures ∙ (λ i. keys_in (is i).dnskey_bytes (is i).apex (map spelled (c.deref.ensures.value i))) in
+    let tags : has_equal_tags (keys_in h.dnskey_bytes h.apex keys.records) ≡ false = sym (c.has_equal_tags.ensures ∙ ap has_equal_tags (c.deref-2.ensures.value ∙ ks ∙ ap (keys_in h.dnskey_bytes h.apex) c.in_ok-messages.ensures.key_records)) ∙ c.if-has_equal_tags.false in
+    let none : message_refusal pointer_limit h ≡ None = unrefused pointer_limit h keys answer c.in_ok-messages.ensures.keys c.in_ok-messages.ensures.answer c.in_ok-messages.ensures.asks_keys c.in_ok-messages.ensures.asks_answer tags in
+    let trusted : c.in_ok-trusted.trusted.items ≡ filter (is_trusted a h.apex h.ds) c.in_ok-keys.keys.items = c.in_ok-trusted.ensures.trusted ∙ (λ i. filter (is_trusted a (is i).apex (is i).ds) (c.deref-3.ensures.value i)) in
+    let rest = c.in_ok-trusted.ensures.rest in
+    let same = ap (λ v. g.C.Checks.answers v.checks.now) rest in
+    let chained : c.in_ok-are_verified.field-0 ≡ is_verified (trusting a h c.in_ok-trusted.trusted.items) pointer_limit h.dnskey_bytes rs h.apex 48 (sorted_data (map dnskey_data c.in_ok-keys.keys.items)) =
+    c.in_ok-are_verified.ensures.exact ∙ (λ i. is_verified (record { answers = same i; apex = (is i).apex; keys = c.deref-4.ensures.value i; now = moment i }) pointer_limit (is i).dnskey_bytes (map spelled (c.deref-5.ensures.value i)) (is i).apex 48 (sorted_data (map dnskey_data (c.deref-6.ensures.value i)))) in
+    let usable : c.usable_keys-usable.result.items ≡ filter is_usable (keys_of h keys) = usable_as h keys rs c.in_ok-keys.keys.items c.usable_keys-usable.result.items c.in_ok-messages.ensures.key_records ks c.usable_keys-usable.ensures in
+    let later = c.in_ok-are_verified.ensures.same ∙ same in
+    let facts = c.in_ok-facts.facts in
+    let found : facts ≡ verified_facts (trusting a h c.usable_keys-usable.result.items) pointer_limit h.answer_bytes (map spelled c.in_ok-messages.messages.answer_records.items) h.asked.name h.asked.rtype =
+    c.in_ok-facts.ensures.facts ∙ (λ i. verified_facts (record { answers = later i; apex = (is i).apex; keys = c.deref-7.ensures.value i; now = moment i }) pointer_limit (is i).answer_bytes (map spelled (c.deref-8.ensures.value i)) (is i).asked.name (is i).asked.rtype) in
+    let chain = sym c.if-not-branch.false ∙ chained_as a h keys rs c.in_ok-keys.keys.items c.in_ok-trusted.trusted.items c.in_ok-are_verified.field-0 c.in_ok-messages.ensures.key_records ks trusted chained in
+    let count = c.in_ok-facts.ensures.hashed ∙ c.in_ok-are_verified.ensures.hashed ∙ ap (λ v. g.C.Checks.hashed v.checks.now) rest in
+    let due = facts_hashed a h keys answer c.usable_keys-usable.result.items (map spelled c.in_ok-messages.messages.answer_records.items) facts none c.in_ok-messages.ensures.keys c.in_ok-messages.ensures.answer chain usable c.in_ok-messages.ensures.answer_records found in
+    let last = c.in_ok-facts.ensures.same ∙ later in
+    rises_from (said c.judge_facts.result) (g.C.Checks.hashed c.args.verifier.now.checks.now) (g.C.Checks.hashed c.read_facts.new.verifier.checks.now) (g.C.Checks.hashed c.judge_facts.new.checks)
+    (hashes_of_facts (g.C.Checks.answers c.read_facts.new.verifier.checks.now) h facts) (hashes_beyond a pointer_limit h) count (ap (λ v. hashes_of_facts v h facts) last ∙ due) c.judge_facts.ensures.rises

@@ -2,13 +2,13 @@ use Rattle.std.proofs.Common.{List, ap, map, subst, string_bytes, ◌∙◌, ◌
 use Rattle.std.specs.List.{flat_map}
 use Rattle.std.proofs.lemmas.Result.{IfOk-weaker}
 use Rattle.messages.specs.HandedRr.{handed_of}
-use Rattle.answer_zone.specs.ModeView.{mode_of}
 use Rattle.answer_life.specs.Simulations.{IsSimulation}
 use Rattle.answer_events.specs.declared.event.Event.{Event}
 use Rattle.answer_life.specs.declared.outcome.Outcome.{Outcome}
 use Rattle.session_lines.specs.Readings.{zone_view}
 use Rattle.denialbench.specs.Printed.{outcome_text}
-use Rattle.denialbench.proofs.RunLemmas.{outcomes_printed, served_in}
+use Rattle.denialbench.specs.Responses.{bench}
+use Rattle.denialbench.proofs.RunLemmas.{outcomes_printed}
 use Rattle.denialbench.proofs.run.replay.Goals as goal
 
 pub returns-in-Ok : goal.returns-in-Ok
@@ -17,7 +17,7 @@ returns-in-Ok c =
     let zone = zone_view session.zone in
     let records = map handed_of session.records.items in
     let outcomes = c.in-Ok.outcomes.items in
-    let Is : List Event → Type 0 = λ events. IsSimulation (served_in zone records (mode_of session.zone.mode)) records events outcomes in
+    let Is : List Event → Type 0 = λ events. IsSimulation (bench zone records) records events outcomes in
     let is = subst Is c.deref.ensures.value c.in-Ok.ensures.simulation in
     let lines = λ (os : List Outcome). flat_map (λ o. outcome_text o ++ 10 ∷ []) os in
-    IfOk-weaker c.outcomes_text.result _ _ (λ t text. outcomes_printed zone records session.zone.mode session.events.items outcomes is (string_bytes t) (text ∙ ap lines c.deref-in-Ok.ensures.value)) c.outcomes_text.ensures
+    IfOk-weaker c.outcomes_text.result _ _ (λ t text. outcomes_printed zone records session.events.items outcomes is (string_bytes t) (text ∙ ap lines c.deref-in-Ok.ensures.value)) c.outcomes_text.ensures

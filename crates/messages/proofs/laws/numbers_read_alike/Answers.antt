@@ -1,4 +1,4 @@
-use Rattle.std.proofs.Common.{◌≡◌, ℕ, zero, suc, ◌+◌, ◌<◌, List, [], ◌∷◌, length, refl, ap, ◌∙◌, sym, arith}
+use Rattle.std.proofs.Common.{◌≡◌, ℕ, zero, suc, ◌+◌, ◌<◌, List, [], ◌∷◌, length, refl, ap, ◌∙◌, arith}
 use Rattle.std.specs.Prelude.{Some, None, Ok, Err, Result, Option, slice_get, slice_index}
 use Rattle.messages.specs.declared.error.MessageError.{MessageError}
 use Rattle.messages.specs.declared.error.MessageError.TheVariants.{ShortInput}

@@ -1,4 +1,4 @@
-use Rattle.std.proofs.Common.{rules}
+use Rattle.std.proofs.Common.{◌<◌, arith, rules}
 use Rattle.answer_scheme.specs.Answers.{Answers}
 use Rattle.answer_judge.specs.Judged.{AnswersAs, judged}
 use Rattle.answer_judge.specs.Judging.{Handing, Refuses, Says}
@@ -11,12 +11,14 @@ pub returns-in-Ok-clause-given : goal.returns-in-Ok-clause-given
 returns-in-Ok-clause-given g c =
     let a : Answers = g.C.Checks.answers c.args.checks.now in
     let h : Handing = c.args.self.now in
+    let short : h.limit < 65536 = omega (arith, c.limit_fits.ensures) in
     let exact : AnswersAs (Says (verdict_of c.in-Ok.verdict)) (judged a pointer_limit h) = search rules in
-    answers_given a pointer_limit h (Says (verdict_of c.in-Ok.verdict)) exact
+    answers_given a pointer_limit h (Says (verdict_of c.in-Ok.verdict)) short exact
 
 pub returns-clause-given : goal.returns-clause-given
 returns-clause-given g c =
     let a : Answers = g.C.Checks.answers c.args.checks.now in
     let h : Handing = c.args.self.now in
+    let short : h.limit < 65536 = omega (arith, c.limit_fits.ensures) in
     let exact : AnswersAs (Refuses c.in-Err.refusal) (judged a pointer_limit h) = search rules in
-    answers_given a pointer_limit h (Refuses c.in-Err.refusal) exact
+    answers_given a pointer_limit h (Refuses c.in-Err.refusal) short exact

@@ -1,14 +1,14 @@
-use Rattle.std.proofs.Common.{rules, ◌≡◌, ◌==◌, ◌++◌, [], ◌∷◌, false, map, length, ◌+◌, refl, ap, ◌∙◌, arith}
+use Rattle.std.proofs.Common.{rules, ◌≡◌, ◌++◌, [], ◌∷◌, false, map, length, ◌+◌, ap, ◌∙◌, arith}
 use Rattle.std.specs.Prelude.{Some}
 use Rattle.std.proofs.lemmas.List.{map-append}
 use Rattle.messages.specs.Record.{spelled}
-use Rattle.answer_judge.specs.Marked.{held_by, marked, rrset_verified, tries_in}
+use Rattle.answer_judge.specs.Marked.{held_by, is_chain_type, marked, rrset_verified, tries_in}
 use Rattle.answer_judge.specs.Counted.{answer_sought}
 use Rattle.answer_judge.specs.Verified.{rrset_in}
 use Rattle.definitions.specs.Limits.{pointer_limit}
 use Rattle.answer_judge.proofs.JudgeCounted.{tries_are}
 use Rattle.answer_judge.proofs.JudgeSought.{answer_is}
-use Rattle.answer_judge.proofs.JudgeFacts.{asked_apart, asked_rrset, facts_verified, links_verified, front_of, last_of, length_more}
+use Rattle.answer_judge.proofs.JudgeFacts.{asked_apart, asked_rrset, facts_verified, hash_links_verified, links_verified, front_of, last_of, length_more}
 use Rattle.answer_judge.proofs.judging.facts.read_facts.Goals as goal
 
 pub verify_groups-requires-clause-apart : goal.verify_groups-requires-clause-apart
@@ -16,7 +16,7 @@ verify_groups-requires-clause-apart g c =
     let rs = map spelled c.args.records.now in
     let pushed : c.push.new.self.items ≡ c.in_ok-groups.groups.items ++ c.in_ok-read_group.field-0 ∷ [] = c.in_ok-push.ensures.items in
     let new : c.deref_mut.result.now ≡ c.in_ok-groups.groups.items ++ c.in_ok-read_group.field-0 ∷ [] = c.deref_mut.ensures.value ∙ pushed in
-    let other : (c.in_ok-read_group.field-0.rtype == 47) ≡ false = ap (λ t. t == 47) c.in_ok-read_group.ensures.rtype ∙ c.requires.other in
+    let other : is_chain_type c.in_ok-read_group.field-0.rtype ≡ false = ap is_chain_type c.in_ok-read_group.ensures.rtype ∙ c.requires.other in
     asked_apart c.args.message.now c.args.trust.now.apex.now rs rs c.in_ok-groups.groups.items c.in_ok-read_group.field-0 c.deref_mut.result.now c.in_ok-groups.ensures other new
 
 pub returns-clause-facts : goal.returns-clause-facts
@@ -34,7 +34,9 @@ returns-clause-facts g c =
     let rrset = c.in_ok-rrset.ensures ∙ ap rrset_verified last ∙ asked_rrset a m rs x c.args.name.now c.args.rtype (c.in_ok-read_group.ensures.owner ∙ c.in_ok-owner.ensures) c.in_ok-read_group.ensures.rtype (c.in_ok-read_group.ensures.items ∙ ap (λ n. rrset_in pointer_limit m rs n c.args.rtype) c.in_ok-owner.ensures) c.in_ok-read_group.ensures.unverified in
     let front : c.deref.result.now ≡ map (marked a m rs) gs = c.deref.ensures.value ∙ c.pop.ensures.rest ∙ front_of (map (marked a m rs) gs) (marked a m rs x) c.verify_groups.new.groups c.push.new.self.items c.push.new.self.len all len in
     let links = c.in_ok-links.ensures ∙ links_verified a m rs gs c.deref.result.now c.in_ok-groups.ensures front in
-    c.new.ensures ∙ facts_verified a m rs c.args.name.now c.args.rtype (record { rrset = c.in_ok-rrset.rrset; links = c.in_ok-links.links.items; hash_links = [] }) rrset links refl
+    let again : c.deref-2.result.now ≡ map (marked a m rs) gs = c.deref-2.ensures.value ∙ c.pop.ensures.rest ∙ front_of (map (marked a m rs) gs) (marked a m rs x) c.verify_groups.new.groups c.push.new.self.items c.push.new.self.len all len in
+    let hash_links = c.in_ok-hash_links.ensures ∙ hash_links_verified a m rs gs c.deref-2.result.now c.in_ok-groups.ensures again in
+    c.new.ensures ∙ facts_verified a m rs c.args.name.now c.args.rtype (record { rrset = c.in_ok-rrset.rrset; links = c.in_ok-links.links.items; hash_links = c.in_ok-hash_links.hash_links.items }) rrset links hash_links
 
 pub returns-clause-tried : goal.returns-clause-tried
 returns-clause-tried g c =

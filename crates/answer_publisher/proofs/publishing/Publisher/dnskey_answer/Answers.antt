@@ -9,6 +9,7 @@ use Rattle.answer_publisher.proofs.WritesGiven.{keys_given}
 use Rattle.answer_terms.proofs.ZoneData.{if_ok_map}
 use Rattle.answer_scheme.specs.Moments.{second_of}
 use Rattle.answer_terms.specs.Hashing.{served}
+use Rattle.answer_zone.specs.HashedZone.{accepted_zone}
 use Rattle.answer_publisher.specs.declared.keys.Publication.TheVariants.{Present, SignsKeys}
 use Rattle.answer_publisher.proofs.Refusals.{if_err_map, keys_refused}
 use Rattle.answer_publisher.proofs.publishing.Publisher.dnskey_answer.Goals as goal
@@ -16,10 +17,10 @@ use Rattle.definitions.specs.Limits.{pointer_limit}
 
 pub returns-clause-given : goal.returns-clause-given
 returns-clause-given g c =
-    let z = c.args.self.now.zone in
+    let z = accepted_zone c.args.self.now.zone in
     let sign = g.S.Scheme.signature_of c.args.self.now.scheme.now in
     let verifies = g.S.Scheme.verifies c.args.self.now.scheme.now in
-    let hash = g.H.Nsec3Hasher.hash_of c.args.self.now.hasher.now in
+    let hash = g.H.Nsec3Hasher.hash_of c.args.self.now.zone.hasher in
     let present = dnskeys (published c.args.self.now.keys Present) in
     let signers = dnskeys (published c.args.self.now.keys SignsKeys) in
     let at = second_of c.args.now.now in
@@ -35,7 +36,7 @@ returns-clause-given g c =
 
 pub returns-clause-fault : goal.returns-clause-fault
 returns-clause-fault g c =
-    let z = c.args.self.now.zone in
+    let z = accepted_zone c.args.self.now.zone in
     let sign = g.S.Scheme.signature_of c.args.self.now.scheme.now in
     let verifies = g.S.Scheme.verifies c.args.self.now.scheme.now in
     let keys = keys_by_tag c.args.self.now.keys SignsKeys in
@@ -43,7 +44,7 @@ returns-clause-fault g c =
     let at = second_of c.args.now.now in
     let life = c.args.self.now.life in
     let group = c.in_ok-group.group in
-    let s = served (g.H.Nsec3Hasher.hash_of c.args.self.now.hasher.now) z in
+    let s = served (g.H.Nsec3Hasher.hash_of c.args.self.now.zone.hasher) z in
     let refused : IfErr c.compose_answer.result (RefusesGroups sign verifies z.apex at life keys (ahead_of_records (record { name = z.apex; rtype = 48; class = 1 })) (group ∷ [])) = search rules in
     if_err_map
     (RefusesGroups sign verifies z.apex at life keys (ahead_of_records (record { name = z.apex; rtype = 48; class = 1 })) (group ∷ []))

@@ -1,19 +1,33 @@
-use Rattle.std.proofs.Common.{◌≡◌, ℕ, List, ap, sym, subst, ◌∙◌}
-use Rattle.definitions.specs.Name.{Name}
-use Rattle.definitions.specs.ZoneChain.{Nsec}
-use Rattle.answer_zone.specs.ZoneAnswers.{AnswersAs}
-use Rattle.answer_terms.specs.Served.{served_of}
-use Rattle.answer_zone.proofs.OneMode.{is_nsec}
-use Rattle.answer_terms.proofs.ZoneData.{if_ok_map}
+use Rattle.std.proofs.Common.{refl, ◌∙◌}
+use Rattle.definitions.specs.Name.{low}
+use Rattle.definitions.specs.Zone.{owners, verdict}
+use Rattle.definitions.specs.ZoneChain.{optout_of}
+use Rattle.definitions.proofs.Members.{contained}
+use Rattle.denial_rules.specs.Truth.{concerned}
+use Rattle.denial_rules.proofs.NameFacts.{above-low}
+use Rattle.denial_rules.proofs.ZoneCuts.{has_owner}
+use Rattle.answer_terms.specs.Accepting.{zone_with}
+use Rattle.answer_zone.proofs.Concerned.{all_concerned}
+use Rattle.answer_zone.proofs.Failures.{fails_among, if_err_map}
+use Rattle.answer_zone.proofs.Verdicts.{has_soa}
 use Rattle.answer_zone.proofs.zone.ZoneRecords.answer_to.Goals as goal
 
-pub returns : goal.returns
-returns c =
-    let z = c.args.self.now in
-    let mode : Nsec ≡ z.mode = sym (is_nsec c.self.inside.mode) ∙ ap (λ z. z.mode) c.self.view_is in
-    if_ok_map
-    (λ a. (hash : Name → List ℕ) → AnswersAs (served_of z.apex Nsec hash z.records) c.args.name.now c.args.rtype a)
-    (λ a. (hash : Name → List ℕ) → AnswersAs (served_of z.apex z.mode hash z.records) c.args.name.now c.args.rtype a)
-    c.nsec_answer.result
-    (λ a h hash. subst (λ m. AnswersAs (served_of z.apex m hash z.records) c.args.name.now c.args.rtype a) mode (h hash))
-    c.nsec_answer.ensures
+pub returns-then-leaves_open-clause-concerned : goal.returns-then-leaves_open-clause-concerned
+returns-then-leaves_open-clause-concerned g c = λ inside.
+    let x = c.args.self.now in
+    let z = zone_with x.apex x.records in
+    let there = contained (owners z) (low x.apex) (has_owner z (low x.apex) 6 (has_soa x.apex x.records c.keeps.ensures.published.soa)) in
+    if_err_map _ _ c.open_answer.result
+    (λ e h. fails_among (g.H.Nsec3Hasher.hash_of x.hasher) x.mode _ (concerned (low x.apex) (low c.args.name.now)) e
+    (all_concerned z there x.mode c.args.name.now c.args.rtype (above-low x.apex c.args.name.now ∙ inside) (verdict z (optout_of x.mode) c.args.name.now c.args.rtype) refl) h)
+    c.open_answer.ensures.failed
+
+pub returns-else-leaves_open-clause-concerned : goal.returns-else-leaves_open-clause-concerned
+returns-else-leaves_open-clause-concerned g c = λ inside.
+    let x = c.args.self.now in
+    let z = zone_with x.apex x.records in
+    let there = contained (owners z) (low x.apex) (has_owner z (low x.apex) 6 (has_soa x.apex x.records c.keeps.ensures.published.soa)) in
+    if_err_map _ _ c.told_answer.result
+    (λ e h. fails_among (g.H.Nsec3Hasher.hash_of x.hasher) x.mode _ (concerned (low x.apex) (low c.args.name.now)) e
+    (all_concerned z there x.mode c.args.name.now c.args.rtype (above-low x.apex c.args.name.now ∙ inside) (verdict z (optout_of x.mode) c.args.name.now c.args.rtype) refl) h)
+    c.told_answer.ensures.failed

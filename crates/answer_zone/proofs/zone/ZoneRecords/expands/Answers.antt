@@ -5,14 +5,14 @@ use Rattle.answer_terms.specs.Accepting.{zone_with}
 use Rattle.answer_zone.proofs.zone.ZoneRecords.expands.Goals as goal
 
 pub returns-then-is_at_or_above : goal.returns-then-is_at_or_above
-returns-then-is_at_or_above c =
+returns-then-is_at_or_above g c =
     let z = c.args.self.now in
     let name = ap (λ z. at_or_above z.apex c.args.name.now) c.self.view_is in
     let above : at_or_above z.apex c.args.name.now ≡ true = sym name ∙ sym c.is_at_or_above.ensures ∙ c.if-is_at_or_above.true in
     c.exists.ensures ∙ sym (ap (λ b. b && exists (zone_with z.apex z.records) (low c.args.star.now)) above)
 
 pub returns-else-is_at_or_above : goal.returns-else-is_at_or_above
-returns-else-is_at_or_above c =
+returns-else-is_at_or_above g c =
     let z = c.args.self.now in
     let name = ap (λ z. at_or_above z.apex c.args.name.now) c.self.view_is in
     let above : at_or_above z.apex c.args.name.now ≡ false = sym name ∙ sym c.is_at_or_above.ensures ∙ c.if-is_at_or_above.false in

@@ -1,21 +1,28 @@
 use Rattle.std.proofs.Common.{◌≡◌, List, map, ap, subst, ◌∙◌}
 use Rattle.std.proofs.lemmas.Result.{on_ok_weaker}
 use Rattle.definitions.specs.Name.{Name, low}
-use Rattle.answer_terms.specs.GroupView.{Adds}
-use Rattle.answer_terms.specs.Links.{links_of, said_of}
-use Rattle.answer_terms.specs.Served.{chain_ttl}
-use Rattle.answer_zone.proofs.ZoneLinks.{proofs_are_said}
+use Rattle.answer_zone.specs.MadeLinks.{IsChain}
+use Rattle.answer_zone.proofs.ChainProofs.{hashed_proofs, memory_only, named_proofs}
 use Rattle.answer_zone.proofs.zone.ZoneRecords.push_proofs.Goals as goal
 
-pub returns : goal.returns
-returns c =
-    let apex = c.args.self.now.apex in
-    let rs = c.args.self.now.records in
+pub returns-in-Names-clause-adds : goal.returns-in-Names-clause-adds
+returns-in-Names-clause-adds g c =
+    let z = c.args.self.now in
+    let hash = g.H.Nsec3Hasher.hash_of z.hasher in
     let qs : List Name = map (λ n. low n.now) c.args.names.now in
-    let old = c.args.groups.now.items in
-    let new = c.push_links.new.groups.items in
-    let name : c.self.inside.apex ≡ apex = ap (λ z. z.apex) c.self.view_is in
-    let ttl : c.self.inside.link_ttl ≡ chain_ttl apex rs = c.self.invariant.3 ∙ ap (λ z. chain_ttl z.apex z.records) c.self.view_is in
-    let links : c.deref.result.now ≡ links_of apex rs = c.deref.ensures.value ∙ c.self.invariant.2 ∙ ap (λ z. links_of z.apex z.records) c.self.view_is in
-    let said : said_of c.self.inside.apex c.self.inside.link_ttl qs c.deref.result.now ≡ said_of apex (chain_ttl apex rs) qs (links_of apex rs) = (λ i. said_of (name i) (ttl i) qs (links i)) in
-    on_ok_weaker c.push_links.result (λ a hash. subst (Adds old new) (said ∙ proofs_are_said apex hash rs qs) a) c.push_links.ensures
+    let kept = subst (λ z. IsChain (g.H.Nsec3Hasher.hash_of z.hasher) z.apex z.mode z.records c.self.inside.chain) c.self.view_is c.self.invariant.2 in
+    let chain = subst (IsChain hash z.apex z.mode z.records) c.in-Names.is kept in
+    on_ok_weaker c.push_named_proofs.result (named_proofs hash z.apex z.mode z.records qs _ _ _ chain) c.push_named_proofs.ensures.adds
+
+pub returns-in-Names-clause-failed : goal.returns-in-Names-clause-failed
+returns-in-Names-clause-failed g c =
+    let z = c.args.self.now in
+    memory_only (g.H.Nsec3Hasher.hash_of z.hasher) z.mode (map (λ n. low n.now) c.args.names.now) c.push_named_proofs.result c.push_named_proofs.ensures.failed
+
+pub returns-in-Hashes-clause-adds : goal.returns-in-Hashes-clause-adds
+returns-in-Hashes-clause-adds g c =
+    let z = c.args.self.now in
+    let hash = g.H.Nsec3Hasher.hash_of z.hasher in
+    let kept = subst (λ z. IsChain (g.H.Nsec3Hasher.hash_of z.hasher) z.apex z.mode z.records c.self.inside.chain) c.self.view_is c.self.invariant.2 in
+    let chain = subst (IsChain hash z.apex z.mode z.records) c.in-Hashes.is kept in
+    on_ok_weaker c.push_hashed_proofs.result (hashed_proofs hash z.apex z.mode z.records (λ n. n.now) c.args.names.now _ _ _ chain) c.push_hashed_proofs.ensures.adds

@@ -6,7 +6,7 @@ use Rattle.answer_terms.proofs.ZoneData.{data_are, label_count-low}
 use Rattle.answer_zone.proofs.zone.ZoneRecords.rrset.Goals as goal
 
 pub returns : goal.returns
-returns c =
+returns g c =
     let apex = c.args.self.now.apex in
     let rs = c.args.self.now.records in
     let q = c.args.source.now in

@@ -4,19 +4,19 @@ use Rattle.std.specs.List.{list_any}
 use Rattle.std.proofs.lemmas.Bool.{false≢true}
 use Rattle.definitions.specs.Name.{Name, low}
 use Rattle.definitions.specs.Zone.{data_at}
-use Rattle.definitions.specs.ZoneChain.{Nsec}
 use Rattle.answer_terms.specs.Accepting.{zone_with}
 use Rattle.answer_terms.specs.GroupView.{Presents}
-use Rattle.answer_terms.specs.Served.{Group, chain_ttl, owner_among, rrset, served_of, spelled_among, ttl_among, written_among}
+use Rattle.answer_terms.specs.Served.{Group, chain_ttl, owner_among, rrset, spelled_among, ttl_among, written_among}
 use Rattle.answer_terms.specs.ZoneView.{is_of}
 use Rattle.answer_terms.proofs.ZoneData.{if_ok_map}
 use Rattle.answer_terms.proofs.ZoneServed.{has_is}
 use Rattle.answer_zone.specs.GroupRecords.{rrset_from}
+use Rattle.answer_zone.specs.HashedZone.{served_by}
 use Rattle.answer_zone.proofs.zone.ZoneRecords.spelled_rrset.Goals as goal
 use Rattle.answer_zone.proofs.zone.ZoneRecords.spelled_rrset.Goals.{in-Some, in-None}
 
 pub returns : goal.returns
-returns c =
+returns g c =
     let apex = c.args.self.now.apex in
     let rs = c.args.self.now.records in
     let n = c.args.name.now in
@@ -30,6 +30,7 @@ returns c =
     let G : Name → ℕ → Group = λ o m. record { owner = o; source = low n; rtype = t; ttl = m; written = written_among rs (low n) t; datas = data_at (zone_with apex rs) (low n) t; signed = true } in
     let owned = c.in_ok-copy_name.ensures ∙ there ∙ sym (ap (λ b. if b then spelled_among rs (low n) else owner_among rs (low n) t) c.requires.plain) in
     let ttl = sym (ap (λ b. if b then chain_ttl apex rs else ttl_among rs (low n) t) c.requires.plain) in
-    if_ok_map (λ g. Presents g (rrset_from true apex rs n copied t)) (λ g. (hash : Name → List ℕ) → Presents g (rrset (served_of apex Nsec hash rs) (low n) t)) c.rrset.result
-    (λ g h hash. subst (Presents g) (λ i. G (owned i) (ttl i)) h)
+    let s = served_by g.H.Nsec3Hasher.hash_of c.args.self.now in
+    if_ok_map (λ v. Presents v (rrset_from true apex rs n copied t)) (λ v. Presents v (rrset s (low n) t)) c.rrset.result
+    (λ v h. subst (Presents v) (λ i. G (owned i) (ttl i)) h)
     c.rrset.ensures

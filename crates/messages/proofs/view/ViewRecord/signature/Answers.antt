@@ -1,7 +1,5 @@
-use Rattle.std.proofs.Common.{◌∙◌, ap, subst, sym}
-use Rattle.definitions.specs.Name.{IsName}
+use Rattle.std.proofs.Common.{◌∙◌, ap, sym}
 use Rattle.names_data.specs.Reading.{data_at}
-use Rattle.names_parsed.specs.Parsed.{parsed_name}
 use Rattle.denial_data.specs.Signatures.{rrsig_part}
 use Rattle.messages.specs.Record.{spelled}
 use Rattle.messages.proofs.DataRead.{signature_found, signature_unread}

@@ -1,0 +1,83 @@
+//! What verified facts prove, beside links that were hashed alike and within a limit.
+ghost use Rattle.std.specs.Prelude.{◌≡◌, ◌≤◌, ◌+◌, not, IfErr, None};
+ghost use Rattle.std.specs.List.{list_any};
+ghost use Rattle.answer_judge.specs.Facts.{RefusesFirst};
+ghost use Rattle.answer_judge.specs.Judging.{hash_bound};
+ghost use Rattle.answer_judge.specs.Judged.{are_alike, are_mixed, are_over, judged_facts, said, AnswersAs};
+ghost use Rattle.answer_judge.specs.Counted.{hashes_of_facts, Rises};
+
+use crate::case::Case;
+use crate::judging::verdict::{Refusal, Verdict};
+use answer_rules::decide::{Facts, HashLink, decide};
+use answer_scheme::checks::Checks;
+use std::alloc::Global;
+
+/// The verdict that facts prove.
+pub(crate) fn judge_facts<C: Checks>(
+    alloc: Global,
+    case: &Case,
+    facts: Facts,
+    checks: &mut C,
+) -> Result<Verdict, Refusal>
+    ensures exact { let a = C.answers checks.old in
+        AnswersAs (said result) (judged_facts a case.now facts.entry) }
+    ensures rises { let due = hashes_of_facts (C.answers checks.old) case.now facts.entry in
+        Rises (said result) (C.hashed checks.old) (C.hashed checks.new) due }
+    ensures least { C.hashed checks.old ≤ C.hashed checks.new }
+    ensures most { C.hashed checks.new ≤ C.hashed checks.old + hash_bound case.now }
+    ensures refusal { IfErr result (λ e. RefusesFirst e None) }
+    ensures verified { C.verified checks.new ≡ C.verified checks.old }
+    ensures same { C.answers checks.new ≡ C.answers checks.old }
+{
+    if are_mixed(facts.hash_links()) {
+        return Err(Refusal::MixedNsec3Parameters);
+    }
+    if are_over(facts.hash_links(), case.limit) {
+        return Err(Refusal::IterationsOverLimit);
+    }
+    let question = case.question;
+    let verdict = decide(
+        alloc,
+        case.apex,
+        facts,
+        &question.name,
+        question.rtype,
+        checks,
+    )?;
+    verdict.ok_or(Refusal::NotProven)
+}
+
+/// Whether two links were hashed alike.
+fn are_alike(a: &HashLink, b: &HashLink) -> bool
+    ensures { result ≡ are_alike a.now b.now }
+{
+    a.iterations() == b.iterations() && a.salt() == b.salt()
+}
+
+/// Whether links were hashed in unlike ways.
+///
+/// Records of another chain, mixed in, would deny a name by a hash that it does not have there (RFC 5155, 8.2).
+fn are_mixed(links: &[HashLink]) -> bool
+    ensures { result ≡ are_mixed links.now }
+{
+    match links.split_first() {
+        None => false,
+        Some((first, others)) => are_unlike(first, others),
+    }
+}
+
+/// Whether some links were hashed otherwise than one.
+fn are_unlike(first: &HashLink, others: &[HashLink]) -> bool
+    ensures { result ≡ list_any (λ l. not (are_alike first.now l)) others.now }
+{
+    others.iter().any(|link| !are_alike(first, link))
+}
+
+/// Whether a link asks for more iterations than a limit.
+///
+/// A zone that asks for endless hashing would otherwise wear a judge out (RFC 5155, 10.3; RFC 9276, 3.2).
+fn are_over(links: &[HashLink], limit: u16) -> bool
+    ensures { result ≡ are_over limit links.now }
+{
+    links.iter().any(|link| limit < link.iterations())
+}

@@ -1,0 +1,107 @@
+//! Names that are hashed for a question, each once (RFC 5155, 5).
+ghost use Rattle.std.specs.Prelude.{◌≡◌, ◌+◌, ◌∷◌, [], Some, None, IfOk, IsErrOf, OnOk, drop};
+ghost use Rattle.definitions.specs.Name.{low, wire};
+ghost use Rattle.definitions.specs.Zone.{star_under};
+ghost use Rattle.answer_rules.specs.Hashing.{fails_as, hash_as, Hashes};
+
+use crate::facts::HashLink;
+use answer_scheme::checks::Checks;
+use denial_hashes::hasher::HashError;
+use denial_hashes::wire_form::write_lower_wire;
+use messages::names::{Name, ToName, ZoneName};
+use std::alloc::{AllocError, Global};
+
+/// A name and its hash.
+#[derive(Drop)]
+pub(crate) struct HashedName<'n> {
+    pub(crate) name: Name<&'n [u8]>,
+    pub(crate) hash: Vec<u8>,
+}
+
+/// The hash of octets, as a link says.
+fn hash_octets<C: Checks>(
+    alloc: Global,
+    link: &HashLink,
+    checks: &mut C,
+    octets: &[u8],
+) -> Result<Vec<u8>, HashError>
+    ensures answer { let l = link.now in let hash = (C.answers checks.old).hash in
+        IfOk result (λ h. hash octets.now 1 l.iterations l.salt ≡ Some h.items) }
+    ensures failed { let l = link.now in let hash = (C.answers checks.old).hash in
+        IsErrOf result HashError.Failed → hash octets.now 1 l.iterations l.salt ≡ None }
+    ensures counted { C.hashed checks.new ≡ C.hashed checks.old + 1 }
+    ensures others { C.verified checks.new ≡ C.verified checks.old }
+    ensures same { C.answers checks.new ≡ C.answers checks.old }
+{
+    checks.hash(alloc, octets, 1, link.iterations(), link.salt())
+}
+
+/// The hash of a name without its first labels, so many, which is written to the buffer.
+pub(crate) fn hash_behind<N: ToName, C: Checks>(
+    alloc: Global,
+    link: &HashLink,
+    checks: &mut C,
+    octets: &mut Vec<u8>,
+    name: &N,
+    skipped: usize,
+) -> Result<Vec<u8>, HashError>
+    ensures hash { let hash = hash_as (C.answers checks.old).hash link.now in
+        IfOk result (λ h. h.items ≡ hash (low (drop skipped (N.name name.now)))) }
+    ensures hashes { let fails = fails_as (C.answers checks.old).hash link.now in
+        let names = drop skipped (N.name name.now) ∷ [] in
+        Hashes fails names (C.hashed checks.old) (C.hashed checks.new) result }
+    ensures others { C.verified checks.new ≡ C.verified checks.old }
+    ensures same { C.answers checks.new ≡ C.answers checks.old }
+{
+    write_lower_wire(octets, name, skipped)?;
+    hash_octets(alloc, link, checks, octets)
+}
+
+/// A name with its hash.
+pub(crate) fn hash_name<'n, C: Checks>(
+    alloc: Global,
+    link: &HashLink,
+    checks: &mut C,
+    octets: &mut Vec<u8>,
+    name: Name<&'n [u8]>,
+) -> Result<HashedName<'n>, HashError>
+    ensures name { IfOk result (λ h. h.name ≡ name.entry) }
+    ensures hash { let hash = hash_as (C.answers checks.old).hash link.now in
+        IfOk result (λ h. h.hash.items ≡ hash (low h.name)) }
+    ensures hashes { let fails = fails_as (C.answers checks.old).hash link.now in
+        Hashes fails (name.entry ∷ []) (C.hashed checks.old) (C.hashed checks.new) result }
+    ensures others { C.verified checks.new ≡ C.verified checks.old }
+    ensures same { C.answers checks.new ≡ C.answers checks.old }
+{
+    let hash = hash_behind(alloc, link, checks, octets, &name, 0)?;
+    Ok(HashedName { name, hash })
+}
+
+/// Writes the wildcard under a name in lower-case wire form, over what a buffer held.
+fn write_wildcard(octets: &mut Vec<u8>, name: &Name<&[u8]>) -> Result<(), AllocError>
+    ensures { OnOk result (octets.new.items ≡ wire (low (star_under name.now))) }
+{
+    octets.clear();
+    octets.extend_from_slice(b"\x01*")?;
+    name.compose_canonical(octets)
+}
+
+/// The hash of the wildcard under a name, which is written to the buffer.
+pub(crate) fn hash_wildcard<C: Checks>(
+    alloc: Global,
+    link: &HashLink,
+    checks: &mut C,
+    octets: &mut Vec<u8>,
+    name: &Name<&[u8]>,
+) -> Result<Vec<u8>, HashError>
+    ensures hash { let hash = hash_as (C.answers checks.old).hash link.now in
+        IfOk result (λ h. h.items ≡ hash (low (star_under name.now))) }
+    ensures hashes { let fails = fails_as (C.answers checks.old).hash link.now in
+        let names = star_under name.now ∷ [] in
+        Hashes fails names (C.hashed checks.old) (C.hashed checks.new) result }
+    ensures others { C.verified checks.new ≡ C.verified checks.old }
+    ensures same { C.answers checks.new ≡ C.answers checks.old }
+{
+    write_wildcard(octets, name)?;
+    hash_octets(alloc, link, checks, octets)
+}

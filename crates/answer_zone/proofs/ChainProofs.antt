@@ -1,0 +1,48 @@
+-- Records of the kept chain that are said of names are the proofs of the definitions.
+use Rattle.std.proofs.Common.{◌≡◌, ℕ, Bool, List, [], ◌∷◌, map, refl, sym, ap, subst, ◌∙◌}
+use Rattle.std.specs.Prelude.{IfErr, Result, Ok, Err, Vec, unwrap_or}
+use Rattle.std.specs.declared.alloc.Global.{Global}
+use Rattle.definitions.specs.Name.{Name, low, wire}
+use Rattle.definitions.specs.ZoneChain.{Mode, Nsec, Nsec3}
+use Rattle.denial_hashes.specs.declared.hasher.HashError.{HashError}
+use Rattle.denial_hashes.specs.declared.hasher.HashError.TheVariants.{Failed, Memory}
+use Rattle.messages.specs.HandedRr.{HandedRr}
+use Rattle.messages.proofs.ZoneNames.{low-low}
+use Rattle.answer_terms.specs.GroupView.{Adds, GroupView}
+use Rattle.answer_terms.specs.HashedLinks.{HashedLink, hashed_said_of}
+use Rattle.answer_terms.specs.Hashing.{Hasher, hash_in}
+use Rattle.answer_terms.specs.Links.{ChainLink, said_of}
+use Rattle.answer_terms.specs.Served.{chain_ttl, proofs_of, served_of}
+use Rattle.answer_terms.proofs.HashedLinks.{proofs_are_hashed}
+use Rattle.answer_zone.specs.HashedZone.{IsHashFailure}
+use Rattle.answer_zone.specs.MadeLinks.{IsChain}
+use Rattle.answer_zone.specs.declared.zone.chains.Chain.TheVariants.{Names, Hashes}
+use Rattle.answer_zone.proofs.ZoneLinks.{proofs_are_said}
+
+pub named_proofs : (hash : Hasher) (apex : Name) (mode : Mode) (rs : List HandedRr) (qs : List Name) (old new : List GroupView) (ls : Vec ChainLink Global) → IsChain hash apex mode rs (Names ls)
+    → Adds old new (said_of apex (chain_ttl apex rs) qs ls.items) → Adds old new (proofs_of (served_of apex mode (hash_in hash mode) rs) qs)
+named_proofs hash apex Nsec rs qs old new ls k a = subst (Adds old new) (ap (said_of apex (chain_ttl apex rs) qs) k ∙ proofs_are_said apex (hash_in hash Nsec) rs qs) a
+named_proofs hash apex (Nsec3 i s o) rs qs old new ls k a = absurd k
+
+-- a name is hashed in lower case
+hashed_low : {A : Type 0} (hash : Hasher) (mode : Mode) (f : A → Name) (xs : List A) → map (λ x. hash_in hash mode (f x)) xs ≡ map (hash_in hash mode) (map (λ x. low (f x)) xs)
+hashed_low hash mode f [] = refl
+hashed_low hash mode f (x ∷ xs) = λ t. one mode t ∷ hashed_low hash mode f xs t
+  where
+    one : (m : Mode) → hash_in hash m (f x) ≡ hash_in hash m (low (f x))
+    one Nsec = refl
+    one (Nsec3 i s o) = ap (λ n. unwrap_or (hash (wire n) 1 i s) []) (sym (low-low (f x)))
+
+pub hashed_proofs : {A : Type 0} (hash : Hasher) (apex : Name) (mode : Mode) (rs : List HandedRr) (f : A → Name) (xs : List A) (old new : List GroupView) (ls : Vec HashedLink Global) → IsChain hash apex mode rs (Hashes ls)
+    → Adds old new (hashed_said_of (chain_ttl apex rs) (map (λ x. hash_in hash mode (f x)) xs) ls.items) → Adds old new (proofs_of (served_of apex mode (hash_in hash mode) rs) (map (λ x. low (f x)) xs))
+hashed_proofs hash apex Nsec rs f xs old new ls k a = absurd k
+hashed_proofs hash apex (Nsec3 i s o) rs f xs old new ls k a =
+    let mode = Nsec3 i s o in
+    subst (Adds old new) ((λ t. hashed_said_of (chain_ttl apex rs) (hashed_low hash mode f xs t) (k t)) ∙ proofs_are_hashed apex i s o (hash_in hash mode) rs (map (λ x. low (f x)) xs)) a
+
+memory_is : (hash : Hasher) (mode : Mode) (ns : List Name) (e : HashError) → e ≡ Memory → IsHashFailure hash mode ns e
+memory_is hash mode ns e is = subst (IsHashFailure hash mode ns) (sym is) tt
+
+pub memory_only : {T : Type 0} (hash : Hasher) (mode : Mode) (ns : List Name) (r : Result T HashError) → IfErr r (λ e. e ≡ Memory) → IfErr r (IsHashFailure hash mode ns)
+memory_only hash mode ns (Ok x) h = tt
+memory_only hash mode ns (Err e) h = memory_is hash mode ns e h

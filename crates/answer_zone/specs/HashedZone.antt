@@ -1,0 +1,47 @@
+-- An accepted zone beside what hashes its names.
+use Rattle.std.specs.Prelude.{◌≡◌, ℕ, List, Contains, None}
+use Rattle.definitions.specs.Name.{Name, low, wire}
+use Rattle.definitions.specs.Zone.{verdict}
+use Rattle.definitions.specs.ZoneChain.{Mode, Nsec, Nsec3, optout_of}
+use Rattle.denial_hashes.specs.declared.hasher.HashError.{HashError}
+use Rattle.denial_hashes.specs.declared.hasher.HashError.TheVariants.{Failed, Memory}
+use Rattle.messages.specs.HandedRr.{HandedRr}
+use Rattle.answer_terms.specs.Hashing.{Hasher, served}
+use Rattle.answer_terms.specs.Served.{Served, spoken}
+use Rattle.answer_terms.specs.ZoneView.{AcceptedZone}
+
+-- a zone that was accepted under a hasher, and that hasher
+pub record HashedZone (H : Type 0) : Type 0 where
+  pub apex : Name
+  pub mode : Mode
+  pub limit : ℕ
+  pub records : List HandedRr
+  pub hasher : H
+
+-- the zone alone
+abbrev pub accepted_zone : {H : Type 0} → HashedZone H → AcceptedZone
+accepted_zone z = record { apex = z.apex; mode = z.mode; limit = z.limit; records = z.records }
+
+-- how it is served
+abbrev pub served_by : {H : Type 0} → (H → Hasher) → HashedZone H → Served
+served_by hash_of z = served (hash_of z.hasher) (accepted_zone z)
+
+-- ---- names that are not hashed
+
+-- the hasher fails on one of some names in lower case; a chain of names has no hashes
+abbrev pub FailsOn : Hasher → Mode → List Name → Type 0
+FailsOn hash Nsec ns = ⊥
+FailsOn hash (Nsec3 iterations salt optout) ns = (n : Name) × Contains ns n × (hash (wire n) 1 iterations salt ≡ None)
+
+-- why no answer is made: that, or want of memory
+abbrev pub IsHashFailure : Hasher → Mode → List Name → HashError → Type 0
+IsHashFailure hash mode ns Failed = FailsOn hash mode ns
+IsHashFailure hash mode ns Memory = Unit {0}
+
+-- the names that the proof of an answer speaks of
+abbrev pub spoken_for : Served → Name → ℕ → List Name
+spoken_for s q t = spoken s (low q) (verdict s.zone (optout_of s.mode) q t)
+
+-- the hasher fails on one of these
+abbrev pub FailsFor : {H : Type 0} → (H → Hasher) → HashedZone H → Name → ℕ → HashError → Type 0
+FailsFor hash_of z q t e = IsHashFailure (hash_of z.hasher) z.mode (spoken_for (served_by hash_of z) q t) e
