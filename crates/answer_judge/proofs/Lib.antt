@@ -29,6 +29,7 @@ pub mod JudgeSought
 pub mod JudgeTotals
 pub mod GivenGroups
 pub mod FirstSigns
+pub mod BothChains
 pub mod ZoneSorting
 pub mod HashOwners
 pub mod ShortData

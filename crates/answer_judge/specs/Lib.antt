@@ -8,3 +8,4 @@ pub mod Counted
 pub mod FirstSignature
 pub mod OwnFacts
 pub mod HashRefusal
+pub mod BothChains

@@ -1,5 +1,6 @@
 //! Laws of what a judge verifies.
 
+ghost use Rattle.answer_judge.specs.BothChains.{ChainsSayTheSame};
 ghost use Rattle.answer_judge.specs.FirstSignature.{SaysFirst};
 ghost use Rattle.answer_judge.specs.OwnFacts.{ToldFactsAreOwn};
 
@@ -17,4 +18,10 @@ pub fn first_signature_says()
 /// An RRset without a signature proves nothing, as the NS RRset of a referral.
 pub fn told_facts_are_own()
     ensures { ToldFactsAreOwn }
+{}
+
+/// A zone with a chain of names and the same zone with a chain of hashes, without opt-out, have one verdict of a question: what
+/// both gave is judged alike.
+pub fn chains_say_the_same()
+    ensures { ChainsSayTheSame }
 {}
