@@ -1,6 +1,7 @@
 -- Records of a zone's chain that are verified say true links.
-use Rattle.std.proofs.Common.{◌≡◌, ℕ, ◌<◌, Bool, true, List, [], ◌∷◌, ◌++◌, Some, None, refl, sym, ap, subst, ◌∙◌, arith}
+use Rattle.std.proofs.Common.{◌≡◌, ℕ, ◌<◌, Bool, true, List, [], ◌∷◌, ◌++◌, Some, None, eqb, refl, sym, ap, subst, ◌∙◌}
 use Rattle.std.specs.List.{AllByRecursion}
+use Rattle.std.proofs.lemmas.Bool.{false≢true}
 use Rattle.definitions.specs.Base32hex.{base32hex}
 use Rattle.definitions.specs.Bitmap.{bitmap}
 use Rattle.definitions.specs.Name.{Name, IsName, low, wire}
@@ -56,7 +57,7 @@ module _ (apex : Name) (hash : Name → List ℕ) (rs : List HandedRr) (servable
 
   -- it has no record of hashes
   pub no_hashes : (m : List ℕ) (r : Spelled) (l : HashLink) → IsHashRecord (served_of apex Nsec hash rs) m r l → ⊥
-  no_hashes m r l x = let e : 47 ≡ 50 = x.chain.type_is in omega arith
+  no_hashes m r l x = false≢true (ap (λ (n : ℕ). eqb n 50) x.chain.type_is)
 
 -- ---- a chain of hashes
 
@@ -77,7 +78,7 @@ module _ (apex : Name) (hash : Name → List ℕ) (rs : List HandedRr) (iteratio
   hash_of m r l x =
       let o : Name = x.chain.name in
       let say : SaysHashLink apex (hashed_group apex rs hash iterations salt optout octets o) (hash_link_of zone hash iterations salt optout o) = says apex rs hash iterations salt optout octets small o in
-      let data_is : data_of m r ≡ say.datum = x.chain.data_is say.datum refl in
+      let data_is : data_of m r ≡ say.datum = x.chain.data_is say.datum say.data_are in
       let next : x.next ≡ say.next = some_is x.next say.next (sym x.reads ∙ ap nsec3_of data_is ∙ say.reads) in
       let owner : low r.owner ≡ base32hex (hash o) ∷ low apex = x.chain.owner_is ∙ owner_whole (label_count (hashed_group apex rs hash iterations salt optout octets o).owner) (hashed_group apex rs hash iterations salt optout octets o).owner refl ∙ low-hashed_owner apex rs hash iterations salt optout octets o in
       let spelled : hash_spelled r.owner ≡ hash o = (owner_spells apex r.owner (hash o) (octets o) owner).1 in
@@ -89,4 +90,4 @@ module _ (apex : Name) (hash : Name → List ℕ) (rs : List HandedRr) (iteratio
 
   -- it has no record of names
   pub no_names : (k : ℕ) (m : List ℕ) (r : Spelled) (l : Link) → IsNextRecord (served_of apex mode hash rs) k m r l → ⊥
-  no_names k m r l x = let e : 50 ≡ 47 = x.chain.type_is in omega arith
+  no_names k m r l x = false≢true (ap (λ (n : ℕ). eqb n 47) x.chain.type_is)

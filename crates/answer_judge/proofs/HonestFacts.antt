@@ -3,7 +3,7 @@ use Rattle.std.proofs.Common.{◌≡◌, ℕ, ◌<◌, ◌≤◌, Bool, true, fa
 use Rattle.std.specs.Prelude.{◌==◌, Contains, IfSome, nat_eq, nat_le, nat_lt}
 use Rattle.std.specs.List.{AllByRecursion, filter_map, list_any}
 use Rattle.std.specs.Option.{option_map}
-use Rattle.std.proofs.lemmas.Bool.{and_from, and_parts, eq-eqb, eqb-true, false≢true, leb-true, or_cases}
+use Rattle.std.proofs.lemmas.Bool.{and_from, and_parts, eq-eqb, eqb-true, false≢true, leb-true, ltb-true, or_cases}
 use Rattle.std.proofs.lemmas.List.{length-map}
 use Rattle.std.specs.Str.{str_to_ascii_lowercase}
 use Rattle.definitions.specs.Base32hex.{base32hex}
@@ -12,7 +12,7 @@ use Rattle.definitions.specs.Dnskey.{Dnskey}
 use Rattle.definitions.specs.Name.{Name, IsName, low, same, wire, at_or_above}
 use Rattle.definitions.specs.Signing.{Fields, label_count, signed_owner}
 use Rattle.definitions.specs.Zone.{Zone, Rr, apex_of, has, data_at, is_of}
-use Rattle.definitions.specs.ZoneChain.{Mode, Nsec, Nsec3, hashed_names, nsec_data, nsec_names, nsec_next, nsec_types, nsec3_data, optout_of, parameters_of}
+use Rattle.definitions.specs.ZoneChain.{Mode, Nsec, Nsec3, hashed_names, nsec_data, nsec_names, nsec_next, nsec_types, optout_of, parameters_of}
 use Rattle.definitions.proofs.Members.{any_of, contained}
 use Rattle.definitions.proofs.SignedLaws.{wire_of}
 use Rattle.denial_rules.specs.Facts.{Facts, HashLink, Link, Rrset, is_expanded}
@@ -21,7 +21,7 @@ use Rattle.denial_rules.specs.Truth.{AreChain, AreTrue, IsServable, IsTrueHashLi
 use Rattle.denial_rules.proofs.ChainBits.{all_at}
 use Rattle.messages.specs.HandedRr.{HandedRr}
 use Rattle.messages.specs.Handed.{IsHanded}
-use Rattle.messages.specs.Message.{HashedNext, Message, Spelled, canonical_data, data_of, message, nsec3_at, nsec3_data, nsec3_of, nsec_at, nsec_data}
+use Rattle.messages.specs.Message.{HashedNext, Message, Spelled, canonical_data, data_of, message, nsec3_at, nsec3_of, nsec_at}
 use Rattle.messages.specs.Message as message
 use Rattle.messages.proofs.Lists.{Has, some_is}
 use Rattle.messages.proofs.Lists as lists
@@ -61,17 +61,17 @@ mapped f (Some x) y e = (x, refl, some_is (f x) y e)
 
 -- without a wildcard the labels are the owner's
 whole_labels : (apex owner : Name) (f : Fields) → may_expand f.covered ≡ false → labels_fit apex owner f ≡ true → f.labels ≡ label_count owner
-whole_labels apex owner f no e = elim (or_cases (f.labels == label_count owner) _ e) [
-  | inl same ↦ eqb-true f.labels (label_count owner) same
-  | inr more ↦ absurd (false≢true (sym no ∙ (and_parts (may_expand f.covered) (nat_lt f.labels (label_count owner)) (and_parts (may_expand f.covered && nat_lt f.labels (label_count owner)) (nat_le (length apex) f.labels) more).0).0))
+whole_labels apex owner f whole e = elim (or_cases (f.labels == label_count owner) _ e) [
+  | inl equal ↦ eqb-true f.labels (label_count owner) equal
+  | inr more ↦ absurd (false≢true (sym whole ∙ (and_parts (may_expand f.covered) (nat_lt f.labels (label_count owner)) (and_parts (may_expand f.covered && nat_lt f.labels (label_count owner)) (nat_le (length apex) f.labels) more).0).0))
 ]
 
 -- with one they are not above the apex
 expanded_labels : (apex owner : Name) (f : Fields) → nat_lt f.labels (label_count owner) ≡ true → labels_fit apex owner f ≡ true → length apex ≤ f.labels
 expanded_labels apex owner f fewer e = elim (or_cases (f.labels == label_count owner) _ e) [
-  | inl same ↦
-      let equal : f.labels ≡ label_count owner = eqb-true f.labels (label_count owner) same in
-      let less : f.labels < label_count owner = Rattle.std.proofs.lemmas.Bool.ltb-true f.labels (label_count owner) fewer in
+  | inl equal ↦
+      let is : f.labels ≡ label_count owner = eqb-true f.labels (label_count owner) equal in
+      let less : f.labels < label_count owner = ltb-true f.labels (label_count owner) fewer in
       absurd (omega arith)
   | inr more ↦ leb-true (length apex) f.labels (and_parts (may_expand f.covered && nat_lt f.labels (label_count owner)) (nat_le (length apex) f.labels) more).1
 ]

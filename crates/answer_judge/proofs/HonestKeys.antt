@@ -12,7 +12,7 @@ use Rattle.definitions.specs.Dnskey.{Dnskey, Ds, digested, dnskey_data, dnskey_o
 use Rattle.definitions.specs.Name.{Name, same}
 use Rattle.definitions.specs.Signing.{Fields}
 use Rattle.definitions.specs.Zone.{apex_of, sorted_data}
-use Rattle.definitions.specs.ZoneChain.{Mode}
+use Rattle.definitions.specs.ZoneChain.{Mode, Nsec, Nsec3}
 use Rattle.denial_rules.specs.Truth.{is_foreign_type}
 use Rattle.messages.specs.HandedRr.{HandedRr}
 use Rattle.messages.specs.Message.{Message, Spelled, data_of, message}
@@ -88,8 +88,8 @@ same_digest a apex key d e = go (a.digest d.digest_type (digested apex key)) e
     go (Some octets) h = ap Some ((bytes_decides octets d.digest).0 h)
 
 chain_other : (apex : Name) (mode : Mode) (hash : Name → List ℕ) (rs : List HandedRr) (o : Name) → (chain_record (served_of apex mode hash rs) o).rtype ≡ 48 → ⊥
-chain_other apex Rattle.definitions.specs.ZoneChain.Nsec hash rs o e = let n : 47 ≡ 48 = e in omega arith
-chain_other apex (Rattle.definitions.specs.ZoneChain.Nsec3 iterations salt optout) hash rs o e = let n : 50 ≡ 48 = e in omega arith
+chain_other apex Nsec hash rs o e = false≢true (ap (λ (n : ℕ). eqb n 48) e)
+chain_other apex (Nsec3 iterations salt optout) hash rs o e = false≢true (ap (λ (n : ℕ). eqb n 48) e)
 
 module _ (a : Answers) (k : ℕ) (h : Handing) (mode : Mode) (hash : Name → List ℕ) (rs : List HandedRr) (published : List Dnskey) (outs : List HandedOut) (known : IsLife h.apex mode hash rs published outs) (life : ℕ) (read : Message)
     (honest : IsHonest a k h published (made (served_of h.apex mode hash rs) h.apex life outs) h.dnskey_bytes) (reads : message k h.dnskey_bytes ≡ Ok read) (flags_are : AllByRecursion (λ (key : Dnskey). key.flags < 65536) published) where

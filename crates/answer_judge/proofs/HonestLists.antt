@@ -6,13 +6,13 @@ use Rattle.messages.proofs.Lists.{Has, some_is}
 -- an item that is found in a list comes from one of the list
 pub kept_from : {A B : Type 0} (f : A → Option B) (xs : List A) (y : B) → Has (filter_map f xs) y → (x : A) × Has xs x × (f x ≡ Some y)
 kept_from f [] y h = absurd h
-kept_from {A} {B} f (x ∷ xs) y h = go (f x) refl h
+kept_from {A} {B} f (x ∷ xs) y h = go (f x) refl h (λ i. kept_from f xs y i)
   where
-    go : (o : Option B) → f x ≡ o → Has (cons_option o (filter_map f xs)) y → (a : A) × Has (x ∷ xs) a × (f a ≡ Some y)
-    go None e i = let r = kept_from f xs y i in (r.0, inr r.1, r.2)
-    go (Some b) e i = elim i [
-      | inl s ↦ (x, inl refl, e ∙ ap Some (sym s))
-      | inr j ↦ let r = kept_from f xs y j in (r.0, inr r.1, r.2)
+    go : (o : Option B) → f x ≡ o → Has (cons_option o (filter_map f xs)) y → (Has (filter_map f xs) y → (a : A) × Has xs a × (f a ≡ Some y)) → (a : A) × Has (x ∷ xs) a × (f a ≡ Some y)
+    go None e i later = let r = later i in (r.0, inr r.1, r.2)
+    go (Some b) e i later = elim i [
+      | inl s ↦ (x, inl refl, e ∙ ap (λ (b : B). Some b) (sym s))
+      | inr j ↦ let r = later j in (r.0, inr r.1, r.2)
     ]
 
 -- and each such item is found
@@ -45,14 +45,14 @@ none_kept_of {A} {B} f (x ∷ xs) h = go (f x) refl (none_kept_of f xs (λ a y i
 
 pub passes_has : {A : Type 0} (p : A → Bool) (xs : List A) (x : A) → Has (filter p xs) x → Has xs x × (p x ≡ true)
 passes_has p [] x h = absurd h
-passes_has p (y ∷ ys) x h = go (p y) refl h
+passes_has {A} p (y ∷ ys) x h = go (p y) refl h (λ i. passes_has p ys x i)
   where
-    go : (b : Bool) → p y ≡ b → Has (cond b (y ∷ filter p ys) (filter p ys)) x → Has (y ∷ ys) x × (p x ≡ true)
-    go true e i = elim i [
+    go : (b : Bool) → p y ≡ b → Has (cond b (y ∷ filter p ys) (filter p ys)) x → (Has (filter p ys) x → Has ys x × (p x ≡ true)) → Has (y ∷ ys) x × (p x ≡ true)
+    go true e i later = elim i [
       | inl s ↦ (inl s, ap p s ∙ e)
-      | inr j ↦ let r = passes_has p ys x j in (inr r.0, r.1)
+      | inr j ↦ let r = later j in (inr r.0, r.1)
     ]
-    go false e i = let r = passes_has p ys x i in (inr r.0, r.1)
+    go false e i later = let r = later i in (inr r.0, r.1)
 
 -- the only item of a list
 pub only_item : {A : Type 0} (xs : List A) (d x : A) → xs ≡ d ∷ [] → Has xs x → x ≡ d

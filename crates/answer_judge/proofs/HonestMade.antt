@@ -90,7 +90,7 @@ pub data Kind (s : Served) (apex : Name) (published : List Dnskey) (g : Group) :
   ZoneKind : IsZoneGroup s.zone g → Kind s apex published g
   ChainKind : (o : Name) → Has (chain_names s) o → g ≡ chain_record s o → Kind s apex published g
 
-owner_whole : (n : ℕ) (q : Name) → n ≡ label_count q → signed_owner n q ≡ low q
+pub owner_whole : (n : ℕ) (q : Name) → n ≡ label_count q → signed_owner n q ≡ low q
 owner_whole n q e =
     ap (λ k. signed_owner k q) e
     ∙ whole_owner (record { datas = []; labels = label_count q }) q (le-ltb (label_count q) (label_count q) (omega arith))
@@ -108,7 +108,7 @@ module _ (apex : Name) (mode : Mode) (hash : Name → List ℕ) (rs : List Hande
 
   -- an RRset of the zone as its records spell it
   whole_part : (o : Name) (t : ℕ) → served_owner rs o t ≡ owner_among rs o t → low o ≡ o → IsName o → is_signed z o t ≡ true → Part (rrset s o t)
-  whole_part o t e lower name h = λ _. 
+  whole_part o t e lower name h = λ _.
       let owner : low (served_owner rs o t) ≡ o = ap low e ∙ ap (λ m. low (owner_among rs m t)) (sym lower) ∙ low-owner_among rs o t ∙ lower in
       let count : label_count o ≡ label_count (served_owner rs o t) = ap label_count (sym owner) ∙ label_count-low (served_owner rs o t) in
       let is : signed_owner (label_count o) (served_owner rs o t) ≡ o = owner_whole (label_count o) (served_owner rs o t) count ∙ owner in
@@ -128,8 +128,8 @@ module _ (apex : Name) (mode : Mode) (hash : Name → List ℕ) (rs : List Hande
   apex_signed =
       let live : is_live z (low apex) ≡ true = uncut_live z (low apex) (low-low apex) (above_itself (low apex)) none_above_apex in
       let plain : is_delegation z (low apex) ≡ false = false_from_ne_true (is_delegation z (low apex)) (λ h.
-          let below : length (low apex) < length (low apex) = strictly_shorter (low apex) (low apex) (and_parts (has z (low apex) 2) (strictly_above (low apex) (low apex)) h).1 in
-          omega arith) in
+      let below : length (low apex) < length (low apex) = strictly_shorter (low apex) (low apex) (and_parts (has z (low apex) 2) (strictly_above (low apex) (low apex)) h).1 in
+      omega arith) in
       and_from _ _ (and_from _ _ live (ap (λ b. not b || (6 == 43)) plain)) soa_there
 
   soa_part : Part (soa s)
@@ -141,12 +141,14 @@ module _ (apex : Name) (mode : Mode) (hash : Name → List ℕ) (rs : List Hande
 
     signed_parts : is_signed z (low q) t ≡ true → Parts (Records (data_at z (low q) t))
     signed_parts h =
-        let r = own_records_true z q t h in
-        ((λ _. record {
-          named = name;
-          signed = ap (λ n. is_signed z (signed_owner n q) t) (label_count-low q) ∙ r.signed;
-          datas = r.datas ∙ ap (λ n. data_at z (signed_owner n q) t) (sym (label_count-low q));
-        }), tt)
+        let r = own_records_true z q t h in (
+          (λ _. record {
+            named = name;
+            signed = ap (λ n. is_signed z (signed_owner n q) t) (label_count-low q) ∙ r.signed;
+            datas = r.datas ∙ ap (λ n. data_at z (signed_owner n q) t) (sym (label_count-low q));
+          }),
+          tt,
+        )
 
     star_parts : (e : Name) → exists z (low q) ≡ false → ce z (low q) ≡ Some e → is_signed z (star_under e) t ≡ true → Parts (StarRecords (data_at z (star_under e) t))
     star_parts e x c h =
@@ -167,7 +169,7 @@ module _ (apex : Name) (mode : Mode) (hash : Name → List ℕ) (rs : List Hande
         go : (b : Bool) → has z c 43 ≡ b → AllByRecursion Part (if b then rrset s c 43 ∷ [] else [])
         go true h = (
           whole_part c 43 refl (delegation_low z c k.delegation) (cut_name z (low q) c (lower_name q name) e)
-          (and_from _ _ (and_from _ _ (cut_live z (low q) c k) (or_right (not (is_delegation z c)) true refl)) h),
+              (and_from _ _ (and_from _ _ (cut_live z (low q) c k) (or_right (not (is_delegation z c)) true refl)) h),
           tt,
         )
         go false h = tt

@@ -234,7 +234,7 @@ soa_rest k m r n p (Some s) d first e h =
     let end : s.1 + 20 ≡ message.behind r = eqb-true (s.1 + 20) (message.behind r) got.0 in
     let few : length numbers ≤ 20 = subst (λ e. length (slice_range m s.1 e) ≤ 20) end (range_short m s.1 20) in
     let second = name_short k m r p s e in
-    subst IsShort got.1 (omega (arith, few, first, second, length-append (wire (low n)) (wire (low s.0) ++ numbers), length-append (wire (low s.0)) numbers))
+    subst IsShort got.1 (omega (arith, few, first, second, length-append (wire (low n) ++ wire (low s.0)) numbers, length-append (wire (low n)) (wire (low s.0))))
 
 soa_short : (k : ℕ) (m : List ℕ) (r : Spelled) (o : Option (Name × ℕ)) (d : List ℕ) → name_in k m r r.start ≡ o → soa_from k m r o ≡ Some d → IsShort d
 soa_short k m r None d e h = cc
@@ -292,7 +292,7 @@ soa_rest_octets k m r n p None d octets first e h = cc
 soa_rest_octets k m r n p (Some s) d octets first e h =
     let numbers : List ℕ = slice_range m s.1 (message.behind r) in
     subst AreOctets (tested (nat_eq (s.1 + 20) (message.behind r)) (wire (low n) ++ wire (low s.0) ++ numbers) d h).1
-    (octets_join (wire (low n)) (wire (low s.0) ++ numbers) first (octets_join (wire (low s.0)) numbers (name_octets k m r p s octets e) (octets_range m s.1 (message.behind r) octets)))
+    (octets_join (wire (low n) ++ wire (low s.0)) numbers (octets_join (wire (low n)) (wire (low s.0)) first (name_octets k m r p s octets e)) (octets_range m s.1 (message.behind r) octets))
 
 soa_octets : (k : ℕ) (m : List ℕ) (r : Spelled) (o : Option (Name × ℕ)) (d : List ℕ) → AreOctets m → name_in k m r r.start ≡ o → soa_from k m r o ≡ Some d → AreOctets d
 soa_octets k m r None d octets e h = cc
@@ -350,6 +350,12 @@ pub record ReadsRecord (r : Spelled) : Type 0 where
   pub owner : IsRead r.owner
   pub short : r.length < 65536
 
+abbrev placed : Spelled × ℕ → Result (Spelled × ℕ) MessageError
+placed x = Ok x
+
+ok_is : (a b : Spelled × ℕ) → placed a ≡ placed b → a ≡ b
+ok_is a b e = cc
+
 record_read : (k : ℕ) (m : List ℕ) (p : ℕ) (x : Spelled × ℕ) → AreOctets m → record_at k m p ≡ Ok x → ReadsRecord x.0
 record_read k m p x o h =
     let n = bound (owner_at k m p) (λ (n : Name × ℕ). u16_at m n.1 >>= (λ t. u16_at m (n.1 + 2) >>= (λ c. u32_at m (n.1 + 4) >>= (λ ttl. u16_at m (n.1 + 8) >>= (λ len. within m (n.1 + 10) len >>= (λ e. Ok (record { owner = n.0; rtype = t; class = c; ttl = ttl; start = n.1 + 10; length = len }, e))))))) x h in
@@ -361,9 +367,6 @@ record_read k m p x o h =
     let r : Spelled = record { owner = n.0.0; rtype = t.0; class = c.0; ttl = l.0; start = n.0.1 + 10; length = s.0 } in
     let is : (r, e.0) ≡ x = ok_is (r, e.0) x e.2 in
     subst (λ (y : Spelled × ℕ). ReadsRecord y.0) is (record { owner = name_read k m p n.0 o (owner_reads k m p n.0 n.1); short = number_there m (n.0.1 + 8) s.0 o s.1 })
-  where
-    ok_is : (a b : Spelled × ℕ) → Ok a ≡ Ok b → a ≡ b
-    ok_is a b e = cc
 
 records_read : (n k : ℕ) (m : List ℕ) (p : ℕ) (rs : List Spelled) → AreOctets m → records_at n k m p ≡ Ok rs → AllByRecursion ReadsRecord rs
 records_read zero k m p rs o h = let e : rs ≡ [] = cc in subst (AllByRecursion ReadsRecord) (sym e) tt

@@ -41,7 +41,7 @@ true_here a k h Nsec hash rs published outs known life m read honest reads keys 
         rrset = question_true a k h Nsec hash rs published outs known life m read honest reads keys trusted q t asked;
         chain = (
           all_kept_of (IsTrueLink (zone_with h.apex rs)) (link_at (trusting a h keys) k m read.records) read.records
-          (λ r l i e. next_true h.apex hash rs known.servable known.apex_is known.handed k m r l honest.octets_are (next_record a k h Nsec hash rs published outs known life m read honest reads keys trusted r l i e)),
+              (λ r l i e. next_true h.apex hash rs known.servable known.apex_is known.handed k m r l honest.octets_are (next_record a k h Nsec hash rs published outs known life m read honest reads keys trusted r l i e)),
           hashes,
         );
       };

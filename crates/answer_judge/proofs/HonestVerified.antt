@@ -47,52 +47,56 @@ pub record Verifying (w : Trusting) (k : ℕ) (m : List ℕ) (owner : Name) (t :
 
 find_has : (p : Dnskey → Bool) (ks : List Dnskey) (x : Dnskey) → find p ks ≡ Some x → Has ks x
 find_has p [] x e = cc
-find_has p (y ∷ ks) x e = go (p y) e
+find_has p (y ∷ ks) x e = go (p y) e (λ i. find_has p ks x i)
   where
-    go : (b : Bool) → cond b (Some y) (find p ks) ≡ Some x → Has (y ∷ ks) x
-    go true h = inl (some_is x y (sym h))
-    go false h = inr (find_has p ks x h)
+    go : (b : Bool) → cond b (Some y) (find p ks) ≡ Some x → (find p ks ≡ Some x → Has ks x) → Has (y ∷ ks) x
+    go true h later = inl (some_is x y (sym h))
+    go false h later = inr (later h)
 
 some_items : (items : List (List ℕ)) → not (length items == 0) ≡ true → 0 < length items
 some_items [] e = absurd (false≢true e)
 some_items (x ∷ items) e = omega arith
 
+-- what the signature of a record says of them
+abbrev says : Trusting → Name → ℕ → List (List ℕ) → Option (Fields × List ℕ) → Bool
+says w owner t items o = elim o as (λ _. Bool) [ None ↦ false | Some f ↦ (f.0.covered == t) && signs w.answers w.apex w.keys w.now owner items f.0 f.1 ]
+
+abbrev by_key : Trusting → Name → List (List ℕ) → Fields → List ℕ → Option Dnskey → Bool
+by_key w owner items f signature o = elim o as (λ _. Bool) [ None ↦ false | Some key ↦ w.answers.verifies key (signed_octets f owner 1 items) signature ]
+
+-- under a key
+keyed : (w : Trusting) (owner : Name) (items : List (List ℕ)) (f : Fields) (signature : List ℕ) (o : Option Dnskey) → find (fits_key f) w.keys ≡ o → by_key w owner items f signature o ≡ true
+    → (key : Dnskey) × Has w.keys key × (w.answers.verifies key (signed_octets f owner 1 items) signature ≡ true)
+keyed w owner items f signature None i p = absurd (false≢true p)
+keyed w owner items f signature (Some key) i p = (key, find_has (fits_key f) w.keys key i, p)
+
+said_by : (w : Trusting) (k : ℕ) (m : List ℕ) (owner : Name) (t : ℕ) (items : List (List ℕ)) (r : Spelled) → (is_signature r && (r.class == 1) && same r.owner owner) ≡ true
+    → (o : Option (Fields × List ℕ)) → rrsig_at k m r ≡ o → says w owner t items o ≡ true → Verifying w k m owner t items r
+said_by w k m owner t items r gate None i p = absurd (false≢true p)
+said_by w k m owner t items r gate (Some f) i p =
+    let both = and_parts (f.0.covered == t) (signs w.answers w.apex w.keys w.now owner items f.0 f.1) p in
+    let open_gate = opened (not (length items == 0) && is_due w.apex w.now owner f.0) (by_key w owner items f.0 f.1 (find (fits_key f.0) w.keys)) both.1 in
+    let parts = and_parts (not (length items == 0)) (is_due w.apex w.now owner f.0) open_gate.0 in
+    let by = keyed w owner items f.0 f.1 (find (fits_key f.0) w.keys) refl open_gate.1 in
+    let outer = and_parts (is_signature r && (r.class == 1)) (same r.owner owner) gate in
+    record {
+      fields = f.0;
+      signature = f.1;
+      owner_is = same_labels (low r.owner) (low owner) outer.1;
+      type_is = eqb-true r.rtype 46 (and_parts (is_signature r) (r.class == 1) outer.0).0;
+      reads = i;
+      covered = eqb-true f.0.covered t both.0;
+      some = some_items items parts.0;
+      due = parts.1;
+      key = by.0;
+      trusted = by.1;
+      passes = by.2;
+    }
+
 pub verifying : (w : Trusting) (k : ℕ) (m : List ℕ) (owner : Name) (t : ℕ) (items : List (List ℕ)) (r : Spelled) → verifies_with w k m owner t items r ≡ true → Verifying w k m owner t items r
-verifying w k m owner t items r e = at (rrsig_at k m r) refl gate.1
-  where
-    abbrev says : Option (Fields × List ℕ) → Bool
-    says x = elim x as (λ _. Bool) [ None ↦ false | Some f ↦ (f.0.covered == t) && signs w.answers w.apex w.keys w.now owner items f.0 f.1 ]
-
-    gate : ((is_signature r && (r.class == 1) && same r.owner owner) ≡ true) × (says (rrsig_at k m r) ≡ true)
-    gate = opened (is_signature r && (r.class == 1) && same r.owner owner) (says (rrsig_at k m r)) e
-
-    abbrev by_key : Fields → List ℕ → Option Dnskey → Bool
-    by_key f signature o = elim o as (λ _. Bool) [ None ↦ false | Some key ↦ w.answers.verifies key (signed_octets f owner 1 items) signature ]
-
-    keyed : (f : Fields) (signature : List ℕ) (o : Option Dnskey) → find (fits_key f) w.keys ≡ o → by_key f signature o ≡ true → (key : Dnskey) × Has w.keys key × (w.answers.verifies key (signed_octets f owner 1 items) signature ≡ true)
-    keyed f signature None i p = absurd (false≢true p)
-    keyed f signature (Some key) i p = (key, find_has (fits_key f) w.keys key i, p)
-
-    at : (o : Option (Fields × List ℕ)) → rrsig_at k m r ≡ o → says o ≡ true → Verifying w k m owner t items r
-    at None i p = absurd (false≢true p)
-    at (Some f) i p =
-        let both = and_parts (f.0.covered == t) (signs w.answers w.apex w.keys w.now owner items f.0 f.1) p in
-        let open_gate = opened (not (length items == 0) && is_due w.apex w.now owner f.0) (by_key f.0 f.1 (find (fits_key f.0) w.keys)) both.1 in
-        let parts = and_parts (not (length items == 0)) (is_due w.apex w.now owner f.0) open_gate.0 in
-        let by = keyed f.0 f.1 (find (fits_key f.0) w.keys) refl open_gate.1 in
-        record {
-          fields = f.0;
-          signature = f.1;
-          owner_is = same_labels (low r.owner) (low owner) (and_parts (is_signature r && (r.class == 1)) (same r.owner owner) gate.0).1;
-          type_is = eqb-true r.rtype 46 (and_parts (is_signature r) (r.class == 1) (and_parts (is_signature r && (r.class == 1)) (same r.owner owner) gate.0).0).0;
-          reads = i;
-          covered = eqb-true f.0.covered t both.0;
-          some = some_items items parts.0;
-          due = parts.1;
-          key = by.0;
-          trusted = by.1;
-          passes = by.2;
-        }
+verifying w k m owner t items r e =
+    let gate = opened (is_signature r && (r.class == 1) && same r.owner owner) (says w owner t items (rrsig_at k m r)) e in
+    said_by w k m owner t items r gate.0 (rrsig_at k m r) refl gate.1
 
 -- one of some records verifies them
 pub record Found (w : Trusting) (k : ℕ) (m : List ℕ) (rs : List Spelled) (owner : Name) (t : ℕ) (items : List (List ℕ)) : Type 0 where
@@ -152,11 +156,11 @@ owner_octets n owner h = go (nat_lt n (label_count owner))
 
 record_octets : (o : Name) (t class ttl : ℕ) (d : List ℕ) → AreOctets (wire o) → AreOctets d → AreOctets (canonical_record o t class ttl d)
 record_octets o t class ttl d h i =
-    octets_join (wire o) _ h
-    (octets_join (to_be_bytes w16 t) _ (octets_16 t)
-    (octets_join (to_be_bytes w16 class) _ (octets_16 class)
-    (octets_join (to_be_bytes w32 ttl) _ (octets_32 ttl)
-    (octets_join (to_be_bytes w16 (length d)) d (octets_16 (length d)) i))))
+    let type_are = octets_join (wire o) (to_be_bytes w16 t) h (octets_16 t) in
+    let class_are = octets_join (wire o ++ to_be_bytes w16 t) (to_be_bytes w16 class) type_are (octets_16 class) in
+    let ttl_are = octets_join (wire o ++ to_be_bytes w16 t ++ to_be_bytes w16 class) (to_be_bytes w32 ttl) class_are (octets_32 ttl) in
+    let length_are = octets_join (wire o ++ to_be_bytes w16 t ++ to_be_bytes w16 class ++ to_be_bytes w32 ttl) (to_be_bytes w16 (length d)) ttl_are (octets_16 (length d)) in
+    octets_join (wire o ++ to_be_bytes w16 t ++ to_be_bytes w16 class ++ to_be_bytes w32 ttl ++ to_be_bytes w16 (length d)) d length_are i
 
 records_octets : (o : Name) (t class ttl : ℕ) (ds : List (List ℕ)) → AreOctets (wire o) → AllByRecursion IsDatum ds → AreOctets (flat_map (canonical_record o t class ttl) ds)
 records_octets o t class ttl [] h i = tt
@@ -165,12 +169,13 @@ records_octets o t class ttl (d ∷ ds) h i = octets_join (canonical_record o t 
 fields_octets : (f : Fields) → ReadsFields f → AreOctets (fields_data f)
 fields_octets f h =
     let signer : IsRead (low f.signer) = lowered_read f.signer h.signer in
-    octets_join (to_be_bytes w16 f.covered) _ (octets_16 f.covered)
-    (h.algorithm, (h.labels,
-    octets_join (to_be_bytes w32 f.ttl) _ (octets_32 f.ttl)
-    (octets_join (to_be_bytes w32 f.expiration) _ (octets_32 f.expiration)
-    (octets_join (to_be_bytes w32 f.inception) _ (octets_32 f.inception)
-    (octets_join (to_be_bytes w16 f.tag) (wire (low f.signer)) (octets_16 f.tag) (wire_octets (low f.signer) signer.name.labels signer.octets))))))
+    let front : List ℕ = f.algorithm ∷ f.labels ∷ to_be_bytes w32 f.ttl in
+    let front_are : AreOctets front = (h.algorithm, (h.labels, octets_32 f.ttl)) in
+    let numbers_are = octets_join (to_be_bytes w16 f.covered) front (octets_16 f.covered) front_are in
+    let expiration_are = octets_join (to_be_bytes w16 f.covered ++ front) (to_be_bytes w32 f.expiration) numbers_are (octets_32 f.expiration) in
+    let inception_are = octets_join (to_be_bytes w16 f.covered ++ front ++ to_be_bytes w32 f.expiration) (to_be_bytes w32 f.inception) expiration_are (octets_32 f.inception) in
+    let tag_are = octets_join (to_be_bytes w16 f.covered ++ front ++ to_be_bytes w32 f.expiration ++ to_be_bytes w32 f.inception) (to_be_bytes w16 f.tag) inception_are (octets_16 f.tag) in
+    octets_join (to_be_bytes w16 f.covered ++ front ++ to_be_bytes w32 f.expiration ++ to_be_bytes w32 f.inception ++ to_be_bytes w16 f.tag) (wire (low f.signer)) tag_are (wire_octets (low f.signer) signer.name.labels signer.octets)
 
 signed_are_octets : (f : Fields) (owner : Name) (ds : List (List ℕ)) → ReadsFields f → IsRead owner → AllByRecursion IsDatum ds → AreOctets (signed_octets f owner 1 ds)
 signed_are_octets f owner ds h i d =
