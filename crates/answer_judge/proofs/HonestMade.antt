@@ -65,7 +65,7 @@ pub record IsMade (s : Served) (apex : Name) (life : ℕ) (outs : List HandedOut
   pub key : Dnskey
   pub is : octets ≡ octets_for apex out.at life group key
 
-signed_only : (b : Bool) (xs : List (List ℕ)) (x : List ℕ) → Has (if b then xs else []) x → (b ≡ true) × Has xs x
+pub signed_only : {A : Type 0} (b : Bool) (xs : List A) (x : A) → Has (if b then xs else []) x → (b ≡ true) × Has xs x
 signed_only true xs x h = (refl, h)
 signed_only false xs x h = absurd h
 

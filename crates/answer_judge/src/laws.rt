@@ -3,7 +3,7 @@
 ghost use Rattle.answer_judge.specs.FirstSignature.{SaysFirst};
 ghost use Rattle.answer_judge.specs.Honest.{NoFalseVerdict, UntimelyIsRefused};
 ghost use Rattle.answer_judge.specs.OwnFacts.{ToldFactsAreOwn};
-ghost use Rattle.answer_judge.specs.Splices.{SplicesAreHonest};
+ghost use Rattle.answer_judge.specs.Splices.{PlainSchemeBinds, SplicesAreHonest, ToldIsSpliced};
 
 /// An RRset of a message is verified exactly where some signature of it is the first that verifies it. That signature
 /// covers the RRset's type, is the apex's and in time, has a label count that fits the owner, passes under a key, and no
@@ -43,4 +43,14 @@ pub fn untimely_is_refused()
 /// RRset under another owner, a DNSKEY set that a stranger signs, and anything out of its times.
 pub fn splices_are_honest()
     ensures { SplicesAreHonest }
+{}
+
+/// There is such a scheme: signatures that are the tag of the key and the octets themselves.
+pub fn a_plain_scheme_binds()
+    ensures { PlainSchemeBinds }
+{}
+
+/// The signatures of bytes that tell a message which was handed out are such as may be spliced.
+pub fn what_is_told_is_spliced()
+    ensures { ToldIsSpliced }
 {}
