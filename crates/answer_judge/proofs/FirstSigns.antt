@@ -14,12 +14,12 @@ use Rattle.answer_judge.specs.FirstSignature.{Held, IsFirst}
 use Rattle.answer_judge.proofs.JudgeMarks.{with_is}
 
 -- what stands behind an open gate
-opened : (b c : Bool) → elim b as (λ _. Bool) [ false ↦ false | true ↦ c ] ≡ true → (b ≡ true) × (c ≡ true)
+pub opened : (b c : Bool) → elim b as (λ _. Bool) [ false ↦ false | true ↦ c ] ≡ true → (b ≡ true) × (c ≡ true)
 opened true c h = (refl, h)
 opened false c h = absurd (false≢true h)
 
 -- fields that were read, with the signature beside them
-read_of : (b : Bool) (o : Option (Fields × List ℕ)) (f : Fields) → elim b as (λ _. Option Fields) [ true ↦ option_map (λ x. x.0) o | false ↦ None ] ≡ Some f → (b ≡ true) × (signature : List ℕ) × (o ≡ Some (f, signature))
+pub read_of : (b : Bool) (o : Option (Fields × List ℕ)) (f : Fields) → elim b as (λ _. Option Fields) [ true ↦ option_map (λ x. x.0) o | false ↦ None ] ≡ Some f → (b ≡ true) × (signature : List ℕ) × (o ≡ Some (f, signature))
 read_of false o f h = cc
 read_of true None f h = cc
 read_of true (Some x) f h = let is : x.0 ≡ f = ap (λ o. unwrap_or o f) h in (refl, x.1, λ i. Some (is i, x.1))

@@ -49,7 +49,7 @@ lowered_links (f ∷ fs) (l ∷ ls) h =
     λ i. record { owner = h.0.owner_is i; next = low (h.0.next_is i); bits = h.0.bits_are i } ∷ rest i
 
 -- an item of two lists put together
-from_joined : {A : Type 0} (xs ys : List A) (x : A) → Has (xs ++ ys) x → Has xs x ⊎ Has ys x
+pub from_joined : {A : Type 0} (xs ys : List A) (x : A) → Has (xs ++ ys) x → Has xs x ⊎ Has ys x
 from_joined [] ys x h = inr h
 from_joined (y ∷ xs) ys x h = ⊎_elim (λ e. inl (inl e)) (λ k. ⊎_elim (λ i. inl (inr i)) (λ j. inr j) (from_joined xs ys x k)) h
 
@@ -183,7 +183,7 @@ facts_told w k m records apex (Nsec3 iterations salt optout) hash rs q t told fi
 -- ---- an accepted zone
 
 -- an SOA record stands at the apex
-soa_has : (apex : Name) (rs : List HandedRr) → 0 < length (soas apex rs) → has (zone_with apex rs) (low apex) 6 ≡ true
+pub soa_has : (apex : Name) (rs : List HandedRr) → 0 < length (soas apex rs) → has (zone_with apex rs) (low apex) 6 ≡ true
 soa_has apex [] h = absurd (omega arith)
 soa_has apex (r ∷ rs) h = go (same r.owner apex && (r.rtype == 6)) h (λ l. soa_has apex rs l)
   where
@@ -203,7 +203,7 @@ octets_in (Some o) f = f o refl
 small_iterations : (a b : ℕ) → nat_lt a b ≡ false → a < 65536 → b < 65536
 small_iterations a b h small = let over = ltb-false a b h in omega (arith, over, small)
 
-fitting : (hash : Hasher) (mode : Mode) (limit : ℕ) → limit < 65536 → over_limit mode limit ≡ false → HashesOctets hash mode → FitsRecords mode (hash_in hash mode)
+pub fitting : (hash : Hasher) (mode : Mode) (limit : ℕ) → limit < 65536 → over_limit mode limit ≡ false → HashesOctets hash mode → FitsRecords mode (hash_in hash mode)
 fitting hash Nsec limit small within octets = tt
 fitting hash (Nsec3 iterations salt optout) limit small within octets = (small_iterations limit iterations within small, λ n. octets_in (hash (wire (low n)) 1 iterations salt) (octets (wire (low n))))
 

@@ -33,7 +33,7 @@ later_labels : (a b : List ℕ) (x y : Name) → a ∷ x ≡ b ∷ y → x ≡ y
 later_labels a b x y e = cc
 
 -- an owner that spells a hash, in either case
-owner_spells : (apex o : Name) (h : List ℕ) → AllByRecursion (λ x. x < 256) h → low o ≡ base32hex h ∷ low apex → (spells_hash apex o ≡ true) × (hash_spelled o ≡ h)
+pub owner_spells : (apex o : Name) (h : List ℕ) → AllByRecursion (λ x. x < 256) h → low o ≡ base32hex h ∷ low apex → (spells_hash apex o ≡ true) × (hash_spelled o ≡ h)
 owner_spells apex [] h octets e = cc
 owner_spells apex (l ∷ o) h octets e =
     let label : str_to_ascii_lowercase l ≡ base32hex h = first_label (str_to_ascii_lowercase l) (base32hex h) (low o) (low apex) e in

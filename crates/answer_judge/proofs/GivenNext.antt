@@ -27,14 +27,14 @@ owner_from_ok : (o : Result (Name × ℕ) ReadFault) (n : Name × ℕ) → owner
 owner_from_ok (Ok r) n h = ap Ok (ok_back r n h)
 owner_from_ok (Err f) n h = cc
 
-owner_reads : (k : ℕ) (m : List ℕ) (p : ℕ) (n : Name × ℕ) → owner_at k m p ≡ Ok n → name_at k m p ≡ Ok n
+pub owner_reads : (k : ℕ) (m : List ℕ) (p : ℕ) (n : Name × ℕ) → owner_at k m p ≡ Ok n → name_at k m p ≡ Ok n
 unfolding owner_at
 owner_reads k m p n h = owner_from_ok (name_at k m p) n h
 
 abbrev name_upto_from : ℕ → Result (Name × ℕ) MessageError → Option (Name × ℕ)
 name_upto_from limit o = elim o [ Err e ↦ None | Ok n ↦ if_true (leb n.1 limit) n ]
 
-if_true_some : {A : Type 0} (b : Bool) (x y : A) → if_true b x ≡ Some y → x ≡ y
+pub if_true_some : {A : Type 0} (b : Bool) (x y : A) → if_true b x ≡ Some y → x ≡ y
 if_true_some true x y h = some_is x y h
 if_true_some false x y h = cc
 
@@ -46,11 +46,15 @@ inside_some : (b : Bool) (o : Option (Name × ℕ)) (n : Name × ℕ) → elim b
 inside_some true o n h = h
 inside_some false o n h = cc
 
+-- a name in a record's data stands in the message
+pub name_in_at : (k : ℕ) (m : List ℕ) (r : Spelled) (p : ℕ) (n : Name × ℕ) → name_in k m r p ≡ Some n → name_at k m p ≡ Ok n
+name_in_at k m r p n h =
+    let upto = inside_some (leb (message.behind r) (length m)) (name_upto k m p (message.behind r)) n h in
+    owner_reads k m p n (upto_ok (message.behind r) (owner_at k m p) n upto)
+
 name_in_labelled : (k : ℕ) (m : List ℕ) (r : Spelled) (p : ℕ) (n : Name × ℕ) → name_in k m r p ≡ Some n → Labelled n.0
 name_in_labelled k m r p n h =
-    let upto = inside_some (leb (message.behind r) (length m)) (name_upto k m p (message.behind r)) n h in
-    let there : name_at k m p ≡ Ok n = owner_reads k m p n (upto_ok (message.behind r) (owner_at k m p) n upto) in
-    let reads = (reads_exactly m p k n.0 n.1).0 there in
+    let reads = (reads_exactly m p k n.0 n.1).0 (name_in_at k m r p n h) in
     reads_labelled reads.0
 
 -- ---- the data of an NSEC record
@@ -71,7 +75,7 @@ next_labelled k m r (Some s) n e h =
 nsec_at_labelled : (k : ℕ) (m : List ℕ) (r : Spelled) (n : Name × List ℕ) → nsec_at k m r ≡ Some n → Labelled n.0
 nsec_at_labelled k m r n h = next_labelled k m r (name_in k m r r.start) n refl h
 
-abbrev canonical_by : ℕ → List ℕ → Spelled → Bool → Bool → Bool → Bool → Option (List ℕ)
+abbrev pub canonical_by : ℕ → List ℕ → Spelled → Bool → Bool → Bool → Bool → Option (List ℕ)
 canonical_by k m r two six nsec nsec3 =
     elim two [
       | true ↦ ns_data k m r
@@ -84,7 +88,7 @@ canonical_by k m r two six nsec nsec3 =
       ]
     ]
 
-canonical_nsec : (k : ℕ) (m : List ℕ) (r : Spelled) → r.rtype ≡ 47 → canonical_data k m r ≡ nsec_data k m r
+pub canonical_nsec : (k : ℕ) (m : List ℕ) (r : Spelled) → r.rtype ≡ 47 → canonical_data k m r ≡ nsec_data k m r
 canonical_nsec k m r e =
     let two : eqb r.rtype 2 ≡ false = ne_eqb r.rtype 2 (λ h. omega (arith, e, h)) in
     let six : eqb r.rtype 6 ≡ false = ne_eqb r.rtype 6 (λ h. omega (arith, e, h)) in

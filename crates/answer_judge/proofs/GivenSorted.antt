@@ -72,7 +72,7 @@ pub in_has : {A : Type 0} (xs : List A) (x : A) → In x xs → Has xs x
 in_has [] x h = absurd h
 in_has (y ∷ ys) x h = ⊎_elim (λ e. inl e) (λ k. inr (in_has ys x k)) h
 
-has_in : {A : Type 0} (xs : List A) (x : A) → Has xs x → In x xs
+pub has_in : {A : Type 0} (xs : List A) (x : A) → Has xs x → In x xs
 has_in [] x h = absurd h
 has_in (y ∷ ys) x h = ⊎_elim (λ e. inl e) (λ k. inr (has_in ys x k)) h
 

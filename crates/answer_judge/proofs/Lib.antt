@@ -34,3 +34,17 @@ pub mod ZoneSorting
 pub mod HashOwners
 pub mod ShortData
 pub mod JudgeHashes
+pub mod HonestReads
+pub mod HonestMade
+pub mod HonestSpelled
+pub mod HonestVerified
+pub mod HonestLists
+pub mod HonestFacts
+pub mod HonestChain
+pub mod HonestTrue
+pub mod HonestKeys
+pub mod JudgedSays
+pub mod HonestJudged
+pub mod Timely
+pub mod Spliced
+pub mod ToldShort

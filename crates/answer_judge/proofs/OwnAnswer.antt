@@ -54,7 +54,7 @@ pub record IsFront (apex q : Name) (t : ℕ) (front : List Group) (r : Option Rr
   pub proves : Proves apex q t front r
 
 -- what a type has is some data
-some_data : (z : Zone) (o : Name) (t : ℕ) → has z o t ≡ true → 0 < length (data_at z o t)
+pub some_data : (z : Zone) (o : Name) (t : ℕ) → has z o t ≡ true → 0 < length (data_at z o t)
 some_data z o t h =
     let r = any_of (is_of o t) z.records h in
     let there = in_map (λ (r : Rr). r.bytes) (filter (is_of o t) z.records) r.0 (in_filter (is_of o t) z.records r.0 r.1.0 r.1.1) in

@@ -155,7 +155,7 @@ module _ (apex : Name) (rs : List HandedRr) (hash : Name → List ℕ) where
         sym (above_lowered apex (chain_group o).owner) ∙ ap (at_or_above apex) (low-chain_owner o i)
         ∙ sym (lowered_above apex o) ∙ chain_inside z s o i
 
-    read_low : (o : Name) → In o (nsec_names z) → low_link (read_link o) ≡ link_of z o
+    pub read_low : (o : Name) → In o (nsec_names z) → low_link (read_link o) ≡ link_of z o
     read_low o i =
         let owner : low (spelled_among rs o) ≡ o = low-chain_owner o i in
         let next : low (spelled_as apex rs (nsec_next z o)) ≡ nsec_next z o = low-spelled_as apex rs (nsec_next z o) (chain_low (nsec_next z o) (next_in z s o i)) in

@@ -136,7 +136,7 @@ module _ (apex : Name) (rs : List HandedRr) (hash : Name → List ℕ) (iteratio
       go true = refl
       go false = refl
 
-  says : iterations < 65536 → (o : Name) → SaysHashLink apex (hashed_group o) (hash_link o)
+  pub says : iterations < 65536 → (o : Name) → SaysHashLink apex (hashed_group o) (hash_link o)
   says small o = record {
     octets = octets o;
     owner_is = low-hashed_owner o;

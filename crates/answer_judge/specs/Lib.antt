@@ -9,3 +9,5 @@ pub mod FirstSignature
 pub mod OwnFacts
 pub mod HashRefusal
 pub mod BothChains
+pub mod Honest
+pub mod Splices

@@ -18,6 +18,7 @@ use Rattle.answer_terms.specs.Asking.{is_allowed}
 use Rattle.answer_terms.specs.EqualTags.{has_equal_tags}
 use Rattle.answer_judge.specs.declared.judging.verdict.Judgement.{Judgement}
 use Rattle.answer_judge.specs.declared.judging.verdict.Refused.{Refused}
+use Rattle.answer_judge.specs.Honest.{AnswersHonest, RefusesUntimely}
 use Rattle.answer_judge.specs.Judged.{AnswersAs, judged}
 use Rattle.answer_judge.specs.Counted.{Counts, hashes_due, verifications_due}
 use Rattle.answer_terms.specs.Hashing.{HashesHold, served}
@@ -91,14 +92,17 @@ AnswersGiven a k h answer =
     (mode : Mode) (rs : List HandedRr) → WasGiven a k h mode rs
     → AnswersAs answer (Says (verdict (zone_of h.apex rs) (optout_of mode) h.asked.name h.asked.rtype))
 
--- A judgement: what it keeps whatever is handed in, what it says of the two messages, and the verdict of a zone that gave
--- them. The first argument is how many pointers may be followed in a name.
+-- A judgement: what it keeps whatever is handed in, what it says of the two messages, the verdict of a zone that gave them,
+-- no other verdict of honest ones, and a refusal where no signature holds. The first argument is how many pointers may be
+-- followed in a name.
 pub record IsJudgement (k : ℕ) (a : Answers) (h : Handing) (answer : Answer) (verifications hashes : ℕ) : Type 0 where
   pub keeps : Judges k h answer verifications hashes
   pub exact : AnswersAs answer (judged a k h)
   pub counts : Counts answer verifications (verifications_due a k h)
   pub hash_counts : Counts answer hashes (hashes_due a k h)
   pub given : AnswersGiven a k h answer
+  pub honest : AnswersHonest a k h answer
+  pub timely : RefusesUntimely k h answer
 
 -- the code's answer is one
 abbrev pub JudgesSo : ℕ → Answers → Handing → Result Judgement Refused → Type 0

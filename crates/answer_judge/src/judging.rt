@@ -12,6 +12,7 @@ ghost use Rattle.answer_judge.specs.Marked.{held_by};
 ghost use Rattle.messages.specs.Message.{Asked, message};
 ghost use Rattle.messages.specs.View.{Gives};
 ghost use Rattle.answer_judge.specs.Facts.{is_signature, RefusesFirst};
+ghost use Rattle.answer_judge.specs.Honest.{AnswersHonest, RefusesUntimely};
 ghost use Rattle.answer_judge.specs.Judged.{judged, judged_beyond, said, AnswersAs};
 ghost use Rattle.answer_judge.specs.Meeting.{AnswersGiven, JudgesSo};
 ghost use Rattle.answer_judge.specs.Judging.{Judges, answer_of, handed, verifications_of, hashes_of, is_first, message_refusal, same_question, hash_bound, verification_bound};
@@ -84,7 +85,10 @@ pub fn judge<C: Checks>(
 impl<'a> Case<'a> {
     /// Judges what the zone says of the question.
     ///
-    /// Whatever one zone gives under keys that meet, within the times of its signatures, gets the zone's verdict.
+    /// Whatever one zone gives under keys that meet, within the times of its signatures, gets the zone's verdict. No two messages
+    /// get another verdict in which nothing is forged: no signature that holds at the moment and passes under a key that the
+    /// zone published is over octets that were not signed, and each key that the DS set names is one that the zone published.
+    /// Where no signature of the one message holds at the moment, or none of the other, they are refused.
     pub fn judge<C: Checks>(&self, alloc: Global, checks: &mut C) -> Result<Judgement, Refused>
         ensures judges { let answer = answer_of result in
             Judges pointer_limit self.now answer (verifications_of result) (hashes_of result) }
@@ -92,6 +96,9 @@ impl<'a> Case<'a> {
             AnswersAs (answer_of result) (judged a pointer_limit self.now) }
         ensures given { let a = C.answers checks.old in
             AnswersGiven a pointer_limit self.now (answer_of result) }
+        ensures honest { let a = C.answers checks.old in
+            AnswersHonest a pointer_limit self.now (answer_of result) }
+        ensures timely { RefusesUntimely pointer_limit self.now (answer_of result) }
         ensures counts { let due = verifications_due (C.answers checks.old) pointer_limit self.now in
             Counts (answer_of result) (verifications_of result) due }
         ensures hash_counts { let a = C.answers checks.old in

@@ -2,7 +2,9 @@
 
 ghost use Rattle.answer_judge.specs.BothChains.{ChainsSayTheSame};
 ghost use Rattle.answer_judge.specs.FirstSignature.{SaysFirst};
+ghost use Rattle.answer_judge.specs.Honest.{NoFalseVerdict, UntimelyIsRefused};
 ghost use Rattle.answer_judge.specs.OwnFacts.{ToldFactsAreOwn};
+ghost use Rattle.answer_judge.specs.Splices.{PlainSchemeBinds, SplicesAreHonest, ToldIsSpliced};
 
 /// An RRset of a message is verified exactly where some signature of it is the first that verifies it. That signature
 /// covers the RRset's type, is the apex's and in time, has a label count that fits the owner, passes under a key, and no
@@ -24,4 +26,38 @@ pub fn told_facts_are_own()
 /// both gave is judged alike.
 pub fn chains_say_the_same()
     ensures { ChainsSayTheSame }
+{}
+
+/// Of messages in which nothing is forged a judge says the zone's verdict, or refuses, beside any DS set that isn't empty.
+///
+/// Nothing is forged where each signature that holds at the moment and passes under a key that the zone published, over
+/// whichever octets, is over octets that were signed in the zone's life, and where each key that the DS set names is one that
+/// the zone published. So messages may be spliced of any answers that the zone gave, under any of its keys; signatures may be
+/// moved to other owners and made by strangers; keys of strangers may stand in the DNSKEY answer, and sign it; what is out of
+/// its times may be forged (RFC 4035, 5; RFC 5155, 8).
+pub fn no_bytes_bring_a_false_verdict()
+    ensures { NoFalseVerdict }
+{}
+
+/// Beside a DS set that isn't empty a judge refuses where no signature of the one message holds at the moment, or none of the
+/// other (RFC 4035, 5.3.1).
+pub fn untimely_is_refused()
+    ensures { UntimelyIsRefused }
+{}
+
+/// Where a signature passes over one string of octets alone, nothing is forged in messages that are spliced from any that were
+/// handed out and from what strangers made: the signatures of one answer beside the records of another, those of a wildcard's
+/// RRset under another owner, a DNSKEY set that a stranger signs, and anything out of its times.
+pub fn splices_are_honest()
+    ensures { SplicesAreHonest }
+{}
+
+/// There is such a scheme: signatures that are the tag of the key and the octets themselves.
+pub fn a_plain_scheme_binds()
+    ensures { PlainSchemeBinds }
+{}
+
+/// The signatures of bytes that tell a message which was handed out are such as may be spliced.
+pub fn what_is_told_is_spliced()
+    ensures { ToldIsSpliced }
 {}

@@ -4,3 +4,4 @@ pub mod KeysMeet
 pub mod GivenThings
 pub mod Judgements
 pub mod Simulations
+pub mod HonestBytes

@@ -6,6 +6,7 @@ use Rattle.answer_events.specs.declared.event.Event.{Event}
 use Rattle.answer_life.specs.declared.outcome.Outcome.{Outcome}
 use Rattle.answer_life.specs.Simulating.{Simulates, Sofar, begin}
 use Rattle.answer_life.specs.Simulations.{IsSimulation, IsZoneOf}
+use Rattle.answer_life.proofs.HonestBytes.{honest_along}
 use Rattle.answer_life.proofs.Judgements.{along_all}
 
 one_each : (w : World) (s : Sofar) (es : List Event) (os : List Outcome) (u : Sofar) → Simulates w s es os u → length os ≡ length es
@@ -22,4 +23,5 @@ runs_are_simulations w rs es os end zone run = record {
   simulates = run;
   one_state = λ u r. (along_all w rs es os u r zone).0;
   through_rolls = λ u r. (along_all w rs es os u r zone).1;
+  no_false = λ u r. honest_along w rs es os u r zone;
 }

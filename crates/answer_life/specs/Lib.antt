@@ -2,4 +2,5 @@ pub mod Simulating
 pub mod OneState
 pub mod ThroughRolls
 pub mod ThroughRollsRows
+pub mod HonestBytes
 pub mod Simulations

@@ -9,6 +9,7 @@ use Rattle.answer_judge.specs.Meeting.{zone_from}
 use Rattle.answer_publisher.specs.World.{World}
 use Rattle.answer_events.specs.declared.event.Event.{Event}
 use Rattle.answer_life.specs.declared.outcome.Outcome.{Outcome}
+use Rattle.answer_life.specs.HonestBytes.{NoFalseVerdicts}
 use Rattle.answer_life.specs.OneState.{SaysVerdicts}
 use Rattle.answer_life.specs.Simulating.{Simulates, Sofar, begin}
 use Rattle.answer_life.specs.ThroughRolls.{VerdictsHoldThroughRolls}
@@ -22,7 +23,8 @@ pub record IsZoneOf (w : World) (rs : List HandedRr) : Type 0 where
 
 -- Outcomes of events over the zone of these records, one an event, each what the definitions say of its event. While the
 -- signatures hold, a judgement of things of one state of the keys, which meet, says the zone's verdict; so does one of things
--- of any three states, none of them retired, beside a DS set that isn't empty.
+-- of any three states, none of them retired, beside a DS set that isn't empty. Of messages in which nothing is forged no judgement
+-- beside such a DS set says another verdict.
 pub record IsSimulation (w : World) (rs : List HandedRr) (es : List Event) (os : List Outcome) : Type 0 where
   pub zone : IsZoneOf w rs
   pub each : length os ≡ length es
@@ -30,6 +32,7 @@ pub record IsSimulation (w : World) (rs : List HandedRr) (es : List Event) (os :
   pub simulates : Simulates w (begin w.zone.apex) es os end
   pub one_state : SaysVerdicts w rs es os
   pub through_rolls : VerdictsHoldThroughRolls w rs es os
+  pub no_false : NoFalseVerdicts w rs es os
 
 -- whatever outcomes the definitions allow, event by event, keep the rest of it
 abbrev pub RunsAreSimulations : Type 0

@@ -6,7 +6,6 @@ pub mod WritesRecords
 pub mod WritesGroups
 pub mod WritesAnswer
 pub mod WritesData
-pub mod WritesCuts
 pub mod WritesHashes
 pub mod WritesZone
 pub mod WritesGiven

@@ -20,9 +20,9 @@ use Rattle.answer_publisher.proofs.WritesAnswer.{all_behind}
 use Rattle.answer_publisher.proofs.WritesData.{all_plain, of_chain, reads_handed, reads_nsec, reads_nsec3}
 use Rattle.answer_publisher.proofs.WritesGroups.{IsFormed}
 use Rattle.answer_publisher.proofs.WritesHashes.{chain_is_read}
-use Rattle.answer_publisher.proofs.WritesCuts.{ce_lower, cut_lower, cut_name}
+use Rattle.answer_terms.proofs.ZoneCutNames.{ce_lower, cut_lower, cut_name}
 use Rattle.answer_publisher.proofs.WritesRecords.{ReadsAs, ReadsRecord}
-use Rattle.answer_zone.proofs.WritesNames.{all_filter, chain_small, either, first_name, lower_name, next_name, owner_name, owner_names, spelled_name, ttl_small}
+use Rattle.answer_terms.proofs.ZoneNaming.{all_filter, chain_named, chain_small, either, first_name, lower_name, next_name, owner_name, owner_names, spelled_name, ttl_small}
 use Rattle.answer_terms.proofs.ZoneData.{data_are, low-owner_among, low-spelled_among}
 use Rattle.messages.proofs.Lists.{all_more, all_sorted, map-map}
 
@@ -165,18 +165,12 @@ module _ (apex : Name) (mode : Mode) (hash : Name → List ℕ) (rs : List Hande
 
 -- ---- the chain
 
-names_are : (apex : Name) (rs : List HandedRr) → AreHanded apex rs → AllByRecursion IsName (nsec_names (zone_with apex rs))
-names_are apex rs h =
-    let z = zone_with apex rs in
-    let all : AllByRecursion IsName (owners z) = subst (AllByRecursion IsName) (sym (map-map owner_of rr_of rs)) (owner_names rs h.records_are) in
-    all_sorted IsName name_cmp (kept_owners z false) (all_filter IsName (is_kept z false) (owners z) all)
-
 link_formed : (apex : Name) (hash : Name → List ℕ) (rs : List HandedRr) → AreHanded apex rs → (o : Name) → IsName o → IsFormed (chain_record (served_of apex Nsec hash rs) o)
 link_formed apex hash rs h o name =
     let z = zone_with apex rs in
     let ttl : chain_ttl apex rs < 4294967296 = chain_small 4294967296 (lit< tt) apex rs (ttls rs h.records_are) in
     let owner : IsName (spelled_among rs o) = first_name rs o h.records_are name in
-    let next : IsName (nsec_next z o) = next_name (low apex) o (nsec_names z) (lower_name apex h.apex_is) (names_are apex rs h) in
+    let next : IsName (nsec_next z o) = next_name (low apex) o (nsec_names z) (lower_name apex h.apex_is) (chain_named apex rs h.records_are) in
     record {
       owner = owner;
       rtype = lit< tt;
@@ -201,7 +195,7 @@ links_formed apex hash rs h (n ∷ ns) names = (link_formed apex hash rs h n nam
 proofs_formed : (apex : Name) (hash : Name → List ℕ) (rs : List HandedRr) → AreHanded apex rs → (qs : List Name) → AllByRecursion IsFormed (proofs_of (served_of apex Nsec hash rs) qs)
 proofs_formed apex hash rs h qs =
     let s = served_of apex Nsec hash rs in
-    links_formed apex hash rs h (filter (λ o. list_any (speaks_for s o) qs) (chain_names s)) (all_filter IsName (λ o. list_any (speaks_for s o) qs) (chain_names s) (names_are apex rs h))
+    links_formed apex hash rs h (filter (λ o. list_any (speaks_for s o) qs) (chain_names s)) (all_filter IsName (λ o. list_any (speaks_for s o) qs) (chain_names s) (chain_named apex rs h.records_are))
 
 -- ---- a chain of hashes
 

@@ -27,7 +27,7 @@ chosen_alike {A} {B} {D} L S T G C s g (x ∷ xs) =
     ]
 
 -- the apex is spelled as it was handed in
-apex_spelled : (apex : Name) (rs : List HandedRr) → spelled_as apex rs (low apex) ≡ apex
+pub apex_spelled : (apex : Name) (rs : List HandedRr) → spelled_as apex rs (low apex) ≡ apex
 apex_spelled apex rs = ap (λ b. if b then apex else spelled_among rs (low apex)) ((labels_decide (low apex) (low apex)).1 refl)
 
 -- the records that are said of hashes are those that speak for the names

@@ -12,3 +12,5 @@ pub mod GivenTold
 pub mod ToldAlike
 pub mod FactsCase
 pub mod Servable
+pub mod ZoneNaming
+pub mod ZoneCutNames

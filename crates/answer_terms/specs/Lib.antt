@@ -9,6 +9,7 @@ pub mod Asking
 pub mod EqualTags
 pub mod Given
 pub mod Told
+pub mod Made
 pub mod Alike
 pub mod FactsCase
 pub mod Servable

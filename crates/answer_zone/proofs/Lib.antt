@@ -12,7 +12,6 @@ pub mod ChainProofs
 pub mod Kept
 pub mod Failures
 pub mod HashedSaid
-pub mod WritesNames
 pub mod ZoneGroups
 pub mod Enclosers
 pub mod Concerned

@@ -17,7 +17,7 @@ use Rattle.answer_terms.specs.GroupView.{Adds, GroupView, Presents}
 use Rattle.answer_terms.specs.Links.{ChainLink, group_of, link_at, link_speaks, links_of, said_of}
 use Rattle.answer_terms.specs.Served.{Group, canonical_group, chain_record, chain_ttl, proofs_of, served_of, spelled_among, spelled_as}
 use Rattle.answer_terms.proofs.ZoneData.{low-spelled_among}
-use Rattle.answer_zone.proofs.WritesNames.{next_of}
+use Rattle.answer_terms.proofs.ZoneNaming.{next_of}
 use Rattle.answer_zone.proofs.ZoneGroups.{step}
 use Rattle.messages.proofs.ZoneNames.{labels_eq-same, low-low, same_labels, low_from_Equal, name_cmp-low, name_cmp-same, same-low}
 use Rattle.messages.proofs.Lists.{zip_append}

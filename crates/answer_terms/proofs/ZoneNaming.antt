@@ -1,23 +1,25 @@
--- Names and TTLs of a zone's records that are written.
-use Rattle.std.proofs.Common.{◌≡◌, ℕ, ◌<◌, Bool, true, false, ◌&&◌, List, [], ◌∷◌, map, refl, arith, cond, eqb}
+-- Names and TTLs of a zone's records.
+use Rattle.std.proofs.Common.{◌≡◌, ℕ, ◌<◌, Bool, true, false, ◌&&◌, List, [], ◌∷◌, map, refl, arith, cond, eqb, subst, sym}
 use Rattle.std.specs.List.{AllByRecursion, filter}
 use Rattle.std.specs.Char.{to_ascii_lowercase}
 use Rattle.std.specs.Str.{str_to_ascii_lowercase}
 use Rattle.std.proofs.Math.Nat.{min-le_left}
 use Rattle.std.proofs.lemmas.List.{length-map}
-use Rattle.definitions.specs.Name.{Name, IsLabel, IsName, labels_eq, low, same, wire_len}
-use Rattle.definitions.specs.ZoneChain.{behind, links}
+use Rattle.definitions.specs.Name.{Name, IsLabel, IsName, labels_eq, low, name_cmp, same, wire_len}
+use Rattle.definitions.specs.Zone.{is_kept, kept_owners, owner_of, owners}
+use Rattle.definitions.specs.ZoneChain.{behind, links, nsec_names}
 use Rattle.messages.specs.HandedRr.{HandedRr}
-use Rattle.answer_terms.specs.Accepting.{soas}
+use Rattle.answer_terms.specs.Accepting.{rr_of, soas, zone_with}
 use Rattle.messages.specs.Handed.{IsHanded}
 use Rattle.answer_terms.specs.Served.{chain_ttl, chain_ttl_of, minimum_of, owner_among, spelled_among, spelled_as, ttl_among}
+use Rattle.messages.proofs.Lists.{all_sorted, map-map}
 use Rattle.messages.proofs.NameLaws.{wire_len-cons}
 
 lower_labels : (n : Name) → AllByRecursion IsLabel n → AllByRecursion IsLabel (low n)
 lower_labels [] h = tt
 lower_labels (l ∷ n) h = (record { some = omega (arith, h.0.some, length-map l to_ascii_lowercase); short = omega (arith, h.0.short, length-map l to_ascii_lowercase) }, lower_labels n h.1)
 
-lower_len : (n : Name) → wire_len (low n) ≡ wire_len n
+pub lower_len : (n : Name) → wire_len (low n) ≡ wire_len n
 lower_len [] = refl
 lower_len (l ∷ n) = omega (arith, wire_len-cons l n, wire_len-cons (str_to_ascii_lowercase l) (low n), lower_len n, length-map l to_ascii_lowercase)
 
@@ -28,6 +30,10 @@ lower_name n h = record { labels = lower_labels n h.labels; short = omega (arith
 pub either : {A : Type 0} (P : A → Type 0) (b : Bool) (x y : A) → P x → P y → P (cond b x y)
 either P true x y h k = h
 either P false x y h k = k
+
+pub all_filter : {A : Type 0} (P : A → Type 0) (p : A → Bool) (xs : List A) → AllByRecursion P xs → AllByRecursion P (filter p xs)
+all_filter P p [] h = tt
+all_filter P p (x ∷ xs) h = either (AllByRecursion P) (p x) (x ∷ filter p xs) (filter p xs) (h.0, all_filter P p xs h.1) (all_filter P p xs h.1)
 
 pub owner_name : (rs : List HandedRr) (o : Name) (t : ℕ) → AllByRecursion IsHanded rs → IsName o → IsName (owner_among rs o t)
 owner_name [] o t h is = is
@@ -44,6 +50,13 @@ spelled_name apex rs o a h is = either IsName (labels_eq (low apex) o) apex (spe
 pub owner_names : (rs : List HandedRr) → AllByRecursion IsHanded rs → AllByRecursion IsName (map (λ r. low r.owner) rs)
 owner_names [] h = tt
 owner_names (r ∷ rs) h = (lower_name r.owner h.0.owner, owner_names rs h.1)
+
+-- the names of a zone's NSEC chain
+pub chain_named : (apex : Name) (rs : List HandedRr) → AllByRecursion IsHanded rs → AllByRecursion IsName (nsec_names (zone_with apex rs))
+chain_named apex rs h =
+    let z = zone_with apex rs in
+    let all : AllByRecursion IsName (owners z) = subst (AllByRecursion IsName) (sym (map-map owner_of rr_of rs)) (owner_names rs h) in
+    all_sorted IsName name_cmp (kept_owners z false) (all_filter IsName (is_kept z false) (owners z) all)
 
 -- ---- next names
 
@@ -68,10 +81,6 @@ pub next_name : (first o : Name) (ns : List Name) → IsName first → AllByRecu
 next_name = next_of IsName
 
 -- ---- TTLs
-
-pub all_filter : {A : Type 0} (P : A → Type 0) (p : A → Bool) (xs : List A) → AllByRecursion P xs → AllByRecursion P (filter p xs)
-all_filter P p [] h = tt
-all_filter P p (x ∷ xs) h = either (AllByRecursion P) (p x) (x ∷ filter p xs) (filter p xs) (h.0, all_filter P p xs h.1) (all_filter P p xs h.1)
 
 abbrev Below : ℕ → HandedRr → Type 0
 Below most r = r.ttl < most

@@ -1,0 +1,156 @@
+-- The keys of an honest DNSKEY answer that a trusted key signs are published.
+use Rattle.std.proofs.Common.{◌≡◌, ℕ, ◌+◌, ◌*◌, ◌<◌, Bool, true, false, not, ◌&&◌, List, [], ◌∷◌, ◌++◌, length, map, Option, Some, None, Ok, eqb, refl, sym, ap, subst, ◌∙◌, inl, inr, arith}
+use Rattle.std.specs.Prelude.{◌==◌, Contains, if◌then◌else◌}
+use Rattle.std.specs.List.{AllByRecursion, filter, list_any}
+use Rattle.std.specs.Int.{w16, to_be_bytes}
+use Rattle.std.specs.Ordering.{nat_cmp}
+use Rattle.std.specs.Cmp.Lexicographic.{slice_cmp}
+use Rattle.std.specs.Str.{bytes_eq}
+use Rattle.std.proofs.lemmas.Bool.{and_parts, eqb-true, false≢true}
+use lib.Pointwise.{bytes_decides}
+use Rattle.definitions.specs.Dnskey.{Dnskey, Ds, digested, dnskey_data, dnskey_of_data, key_tag}
+use Rattle.definitions.specs.Name.{Name, same}
+use Rattle.definitions.specs.Signing.{Fields}
+use Rattle.definitions.specs.Zone.{apex_of, sorted_data}
+use Rattle.definitions.specs.ZoneChain.{Mode, Nsec, Nsec3}
+use Rattle.denial_rules.specs.Truth.{is_foreign_type}
+use Rattle.messages.specs.HandedRr.{HandedRr}
+use Rattle.messages.specs.Message.{Message, Spelled, data_of, message}
+use Rattle.messages.proofs.Lists.{Has, all_at, all_more, all_sorted, found, some_is}
+use Rattle.answer_terms.specs.Accepting.{zone_with}
+use Rattle.answer_terms.specs.Made.{HandedOut, made}
+use Rattle.answer_terms.specs.Served.{Group, Served, chain_record, key_group, served_of}
+use Rattle.answer_terms.specs.Served as served
+use Rattle.answer_terms.proofs.KeyData.{key_read_back}
+use Rattle.answer_scheme.specs.Answers.{Answers}
+use Rattle.answer_judge.specs.Facts.{digests_to, is_trusted, is_usable, names_key}
+use Rattle.answer_judge.specs.Honest.{AreOctets, IsHonest}
+use Rattle.answer_judge.specs.Judged.{is_chained, keys_of, trusting}
+use Rattle.answer_judge.specs.Judging.{Handing, key_at}
+use Rattle.answer_judge.proofs.GivenKeys.{IsKeyData, data_of_key, key_data}
+use Rattle.answer_judge.proofs.GivenLists.{contained_has, has_contained}
+use Rattle.answer_judge.proofs.GivenSorted.{all_has, data_has, sorted_from}
+use Rattle.answer_judge.proofs.HonestFacts.{IsLife, IsOf, of_found, zone_type}
+use Rattle.answer_judge.proofs.HonestLists.{kept_from, passes_has}
+use Rattle.answer_judge.proofs.HonestMade.{Kind, KeyKind, ZoneKind, ChainKind}
+use Rattle.answer_judge.proofs.HonestReads.{IsDatum, ReadsRecord, data_read, message_read, octets_16, octets_join}
+use Rattle.answer_judge.proofs.HonestSpelled.{Spells}
+use Rattle.answer_judge.proofs.HonestVerified.{Found, found_verifying, sorted_ascend}
+
+-- ---- keys that are read
+
+-- a key that octets spell
+pub record IsReadKey (key : Dnskey) : Type 0 where
+  pub datum : IsDatum (dnskey_data key)
+  pub small : key.flags < 65536
+
+read_key : (d : List ℕ) (key : Dnskey) → IsDatum d → dnskey_of_data d ≡ Some key → IsReadKey key
+read_key [] key i e = cc
+read_key (a ∷ []) key i e = cc
+read_key (a ∷ b ∷ []) key i e = cc
+read_key (a ∷ b ∷ p ∷ []) key i e = cc
+read_key (a ∷ b ∷ p ∷ g ∷ octets) key i e =
+    let k : Dnskey = record { flags = a * 256 + b; protocol = p; algorithm = g; octets = octets } in
+    subst IsReadKey (some_is k key e) (record {
+      datum = record {
+        short = omega (arith, i.short);
+        octets = octets_join (to_be_bytes w16 (a * 256 + b)) (p ∷ g ∷ octets) (octets_16 (a * 256 + b)) i.octets.1.1;
+      };
+      small = omega (arith, i.octets.0, i.octets.1.0);
+    })
+
+-- a record of a key
+pub record IsKeyRecord (m : List ℕ) (rs : List Spelled) (key : Dnskey) : Type 0 where
+  pub spelled : Spelled
+  pub there : Has rs spelled
+  pub type_is : spelled.rtype ≡ 48
+  pub reads : dnskey_of_data (data_of m spelled) ≡ Some key
+
+key_record : (m : List ℕ) (apex : Name) (rs : List Spelled) (key : Dnskey) (r : Spelled) → Has rs r → key_at m apex r ≡ Some key → IsKeyRecord m rs key
+key_record m apex rs key r i e =
+    let got = go (same r.owner apex && (r.rtype == 48) && (r.class == 1)) e in
+    record {
+      spelled = r;
+      there = i;
+      type_is = eqb-true r.rtype 48 (and_parts (same r.owner apex) (r.rtype == 48) (and_parts (same r.owner apex && (r.rtype == 48)) (r.class == 1) got.0).0).1;
+      reads = got.1;
+    }
+  where
+    go : (b : Bool) → (if b then dnskey_of_data (data_of m r) else None) ≡ Some key → (b ≡ true) × (dnskey_of_data (data_of m r) ≡ Some key)
+    go true h = (refl, h)
+    go false h = cc
+
+same_digest : (a : Answers) (apex : Name) (key : Dnskey) (d : Ds) → digests_to a apex key d ≡ true → a.digest d.digest_type (digested apex key) ≡ Some d.digest
+same_digest a apex key d e = go (a.digest d.digest_type (digested apex key)) e
+  where
+    go : (o : Option (List ℕ)) → elim o as (λ _. Bool) [ None ↦ false | Some octets ↦ bytes_eq octets d.digest ] ≡ true → o ≡ Some d.digest
+    go None h = absurd (false≢true h)
+    go (Some octets) h = ap Some ((bytes_decides octets d.digest).0 h)
+
+chain_other : (apex : Name) (mode : Mode) (hash : Name → List ℕ) (rs : List HandedRr) (o : Name) → (chain_record (served_of apex mode hash rs) o).rtype ≡ 48 → ⊥
+chain_other apex Nsec hash rs o e = false≢true (ap (λ (n : ℕ). eqb n 48) e)
+chain_other apex (Nsec3 iterations salt optout) hash rs o e = false≢true (ap (λ (n : ℕ). eqb n 48) e)
+
+module _ (a : Answers) (k : ℕ) (h : Handing) (mode : Mode) (hash : Name → List ℕ) (rs : List HandedRr) (published : List Dnskey) (outs : List HandedOut) (known : IsLife h.apex mode hash rs published outs) (life : ℕ) (read : Message)
+    (honest : IsHonest a k h published (made (served_of h.apex mode hash rs) h.apex life outs) h.dnskey_bytes) (reads : message k h.dnskey_bytes ≡ Ok read) (flags_are : AllByRecursion (λ (key : Dnskey). key.flags < 65536) published) where
+  abbrev s : Served
+  s = served_of h.apex mode hash rs
+
+  abbrev keys : List Dnskey
+  keys = keys_of h read
+
+  here : (key : Dnskey) → Has keys key → IsKeyRecord h.dnskey_bytes read.records key
+  here key i = let r = kept_from (key_at h.dnskey_bytes h.apex) read.records key i in key_record h.dnskey_bytes h.apex read.records key r.0 r.1 r.2
+
+  is_read : (key : Dnskey) → Has keys key → IsReadKey key
+  is_read key i =
+      let r : IsKeyRecord h.dnskey_bytes read.records key = here key i in
+      let short = all_at ReadsRecord read.records r.spelled (message_read k h.dnskey_bytes read honest.octets_are reads) r.there in
+      read_key (data_of h.dnskey_bytes r.spelled) key (data_read h.dnskey_bytes r.spelled honest.octets_are short.short) r.reads
+
+  -- those that a DS record names
+  abbrev trusted : List Dnskey
+  trusted = filter (is_trusted a h.apex h.ds) keys
+
+  trusted_published : (key : Dnskey) → Has trusted key → Contains published key
+  trusted_published key i =
+      let p = passes_has (is_trusted a h.apex h.ds) keys key i in
+      let r : IsKeyRecord h.dnskey_bytes read.records key = here key p.0 in
+      let d = found (names_key a h.apex key) h.ds (and_parts (is_usable key) (list_any (names_key a h.apex key) h.ds) p.1).1 in
+      let digest = same_digest a h.apex key d.0 (and_parts ((d.0.tag == key_tag key) && (d.0.algorithm == key.algorithm)) (digests_to a h.apex key d.0) d.2).1 in
+      honest.known read r.spelled key d.0 reads (contained_has read.records r.spelled r.there) r.type_is r.reads (contained_has h.ds d.0 d.1) digest
+
+  abbrev items : List (List ℕ)
+  items = sorted_data (map dnskey_data keys)
+
+  each_datum : (ks : List Dnskey) → ((key : Dnskey) → Has ks key → IsReadKey key) → AllByRecursion IsDatum (map dnskey_data ks)
+  each_datum [] f = tt
+  each_datum (key ∷ ks) f = ((f key (inl refl)).datum, each_datum ks (λ y i. f y (inr i)))
+
+  data_are : AllByRecursion IsDatum items
+  data_are = all_sorted IsDatum (slice_cmp nat_cmp) (map dnskey_data keys) (each_datum keys is_read)
+
+  -- the RRset that was signed is that of keys that were published
+  from_present : (present : List Dnskey) → AllByRecursion (Contains published) present → items ≡ served.key_data present → (key : Dnskey) → Has keys key → Contains published key
+  from_present present of same key i =
+      let d : List ℕ = dnskey_data key in
+      let inside : Has items d = data_has (map dnskey_data keys) d (data_of_key keys key i) in
+      let back : Has (map dnskey_data present) d = sorted_from (slice_cmp nat_cmp) (map dnskey_data present) d (subst (λ ds. Has ds d) same inside) in
+      let small : AllByRecursion (λ (key : Dnskey). key.flags < 65536) present = all_more (Contains published) (λ (key : Dnskey). key.flags < 65536) present (λ x c. all_at (λ (key : Dnskey). key.flags < 65536) published x flags_are (has_contained published x c)) of in
+      let p : IsKeyData present d = key_data present d small back in
+      let one : p.key ≡ key = some_is p.key key (sym p.reads ∙ key_read_back key (is_read key i).small) in
+      subst (Contains published) one (all_at (Contains published) present p.key of p.inside)
+
+  pub all_published : is_chained a k h read ≡ true → (key : Dnskey) → Has keys key → Contains published key
+  all_published chained = go x.by.fields x.by.covered is.group is.kind is.spells
+    where
+      x : Found (trusting a h trusted) k h.dnskey_bytes read.records h.apex 48 items
+      x = found_verifying (trusting a h trusted) k h.dnskey_bytes read.records h.apex 48 items chained
+
+      is : IsOf s h.apex published x.by.fields h.apex items
+      is = of_found a k h mode hash rs published outs known life h.dnskey_bytes read honest reads trusted trusted_published h.apex 48 items data_are (sorted_ascend (map dnskey_data keys)) x
+
+      go : (f : Fields) → f.covered ≡ 48 → (g : Group) → Kind s h.apex published g → Spells f h.apex items g → (key : Dnskey) → Has keys key → Contains published key
+      go f c g (KeyKind present of e) y = from_present present of (y.contents ∙ ap (λ (v : Group). v.datas) e)
+      go f c g (ZoneKind z) y = absurd (zone_type h.apex mode hash rs published outs known g z (ap is_foreign_type (sym y.covered ∙ c)))
+      go f c g (ChainKind o j e) y = absurd (chain_other h.apex mode hash rs o (ap (λ (v : Group). v.rtype) (sym e) ∙ sym y.covered ∙ c))

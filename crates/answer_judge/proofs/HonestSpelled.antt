@@ -1,0 +1,92 @@
+-- Octets of a signature over an RRset that was signed tell that RRset.
+use Rattle.std.proofs.Common.{◌≡◌, ℕ, zero, suc, ◌/◌, ◌<◌, ◌^◌, List, ◌∷◌, ◌++◌, length, get_or, refl, sym, ap, ◌∙◌, arith, lit<}
+use Rattle.std.specs.Int.{w16, w32, from_be_bytes, to_be_bytes}
+use Rattle.std.specs.List.{AllByRecursion, flat_map}
+use Rattle.std.proofs.Math.Nat.{mod-lt}
+use Rattle.std.proofs.lemmas.Nat.{be_bytes_2, be_bytes_4}
+use Rattle.definitions.specs.Dnskey.{Dnskey, key_tag}
+use Rattle.definitions.specs.Laws.{IsSignable, SignsSame}
+use Rattle.definitions.specs.Name.{Name, IsName, low, wire}
+use Rattle.definitions.specs.Signing.{Fields, label_count, signed_octets, signed_owner}
+use Rattle.definitions.proofs.SignedLaws.{signed_octets_spell}
+use Rattle.answer_terms.specs.Made.{IsShortGroup}
+use Rattle.answer_terms.specs.Served.{Group}
+use Rattle.answer_terms.specs.Told.{fields_for, octets_for}
+use Rattle.answer_terms.proofs.ZoneNaming.{lower_name}
+use Rattle.answer_judge.proofs.HonestMade.{IsRoomy}
+
+-- ---- numbers as their octets say them
+
+small_16 : (n i : ℕ) → get_or (to_be_bytes w16 n) i 0 < 256
+small_16 n zero = mod-lt (n / 256 ^ suc zero) (lit< tt)
+small_16 n (suc zero) = mod-lt n (lit< tt)
+small_16 n (suc (suc i)) = lit< tt
+
+said_16 : ℕ → ℕ
+said_16 n = from_be_bytes w16 (to_be_bytes w16 n)
+
+back_16 : (n : ℕ) → to_be_bytes w16 (said_16 n) ≡ to_be_bytes w16 n
+unfolding said_16
+back_16 n = be_bytes_2 (to_be_bytes w16 n) (said_16 n) refl (small_16 n) refl
+
+fits_16 : (n : ℕ) → said_16 n < 2 ^ 16
+unfolding said_16
+fits_16 n = omega (arith, small_16 n 0, small_16 n 1)
+
+small_32 : (n i : ℕ) → get_or (to_be_bytes w32 n) i 0 < 256
+small_32 n zero = mod-lt (n / 256 ^ suc (suc (suc zero))) (lit< tt)
+small_32 n (suc zero) = mod-lt (n / 256 ^ suc (suc zero)) (lit< tt)
+small_32 n (suc (suc zero)) = mod-lt (n / 256 ^ suc zero) (lit< tt)
+small_32 n (suc (suc (suc zero))) = mod-lt n (lit< tt)
+small_32 n (suc (suc (suc (suc i)))) = lit< tt
+
+said_32 : ℕ → ℕ
+said_32 n = from_be_bytes w32 (to_be_bytes w32 n)
+
+back_32 : (n : ℕ) → to_be_bytes w32 (said_32 n) ≡ to_be_bytes w32 n
+unfolding said_32
+back_32 n = be_bytes_4 (to_be_bytes w32 n) (said_32 n) refl (small_32 n) refl
+
+fits_32 : (n : ℕ) → said_32 n < 2 ^ 32
+unfolding said_32
+fits_32 n = omega (arith, small_32 n 0, small_32 n 1, small_32 n 2, small_32 n 3)
+
+-- ---- fields with such numbers
+
+abbrev tidied : Fields → Fields
+tidied f = record f { ttl = said_32 f.ttl; expiration = said_32 f.expiration; inception = said_32 f.inception; tag = said_16 f.tag }
+
+abbrev octets_with : Fields → Name → List (List ℕ) → List ℕ → List ℕ → List ℕ → List ℕ → List ℕ
+octets_with f owner ds ttl expiration inception tag =
+    (to_be_bytes w16 f.covered ++ f.algorithm ∷ f.labels ∷ ttl ++ expiration ++ inception ++ tag ++ wire (low f.signer))
+    ++ flat_map (λ d. wire (signed_owner f.labels owner) ++ to_be_bytes w16 f.covered ++ to_be_bytes w16 1 ++ ttl ++ to_be_bytes w16 (length d) ++ d) ds
+
+tidied_octets : (f : Fields) (owner : Name) (ds : List (List ℕ)) → signed_octets (tidied f) owner 1 ds ≡ signed_octets f owner 1 ds
+tidied_octets f owner ds = λ i. octets_with f owner ds (back_32 f.ttl i) (back_32 f.expiration i) (back_32 f.inception i) (back_16 f.tag i)
+
+-- ---- what the octets tell
+
+-- fields, owner and data are those of an RRset, expanded or not
+pub record Spells (f : Fields) (owner : Name) (items : List (List ℕ)) (g : Group) : Type 0 where
+  pub covered : f.covered ≡ g.rtype
+  pub labels : f.labels ≡ label_count g.source
+  pub owners : signed_owner f.labels owner ≡ signed_owner (label_count g.source) g.owner
+  pub contents : items ≡ g.datas
+
+pub spells : (f : Fields) (owner : Name) (items : List (List ℕ)) (apex : Name) (at life : ℕ) (g : Group) (key : Dnskey) → IsSignable f owner 1 items → IsName apex → IsRoomy g → IsShortGroup g → signed_octets f owner 1 items ≡ octets_for apex at life g key → Spells f owner items g
+spells f owner items apex at life g key p apex_is roomy short e =
+    let made : Fields = tidied (fields_for apex at life g key) in
+    let q : IsSignable made g.owner 1 g.datas = record {
+      covered = roomy.small;
+      ttl = fits_32 g.ttl;
+      expiration = fits_32 (fields_for apex at life g key).expiration;
+      inception = fits_32 (fields_for apex at life g key).inception;
+      tag = fits_16 (key_tag key);
+      signer = lower_name apex apex_is;
+      named = roomy.named;
+      classed = lit< tt;
+      some = roomy.some;
+      short = short;
+    } in
+    let same : SignsSame f made owner g.owner 1 1 items g.datas = signed_octets_spell f made owner g.owner 1 1 items g.datas p q (e ∙ sym (tidied_octets (fields_for apex at life g key) g.owner g.datas)) in
+    record { covered = same.covered; labels = same.labels; owners = same.owners; contents = same.contents }

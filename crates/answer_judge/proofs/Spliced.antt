@@ -1,0 +1,132 @@
+-- Nothing is forged in a message whose signatures were handed out, or pass under no published key.
+use Rattle.std.proofs.Common.{◌≡◌, ℕ, Bool, true, false, List, [], ◌∷◌, ◌++◌, Option, Some, Result, Ok, map, refl, sym, ap, subst, ◌∙◌, inl, inr, ⊎_elim}
+use Rattle.std.specs.Prelude.{Contains, if◌then◌else◌}
+use Rattle.std.specs.List.{AllByRecursion, flat_map}
+use Rattle.std.specs.Int.{w16, to_be_bytes}
+use Rattle.std.proofs.lemmas.Bool.{false≢true}
+use lib.Pointwise.{bytes_decides}
+use Rattle.definitions.specs.Dnskey.{Dnskey, key_tag}
+use Rattle.definitions.specs.Name.{Name}
+use Rattle.definitions.specs.Signing.{Fields}
+use Rattle.definitions.proofs.SignedLaws.{pieces}
+use Rattle.std.specs.Ordering.{nat_cmp}
+use Rattle.messages.specs.declared.error.MessageError.{MessageError}
+use Rattle.messages.specs.Message.{Message, Spelled, message, rrsig_at}
+use Rattle.messages.proofs.Lists.{Has, all_at, some_is}
+use Rattle.answer_terms.specs.Made.{HandedOut, groups_of, made, made_in, made_of}
+use Rattle.answer_terms.specs.Served.{Group, Served, by_tag}
+use Rattle.answer_terms.specs.Told.{AreRecords, AreSignatures, IsRecord, IsSignature, TellsGroups, octets_for}
+use Rattle.answer_judge.proofs.GivenFacts.{from_joined}
+use Rattle.answer_judge.proofs.GivenLists.{contained_has, has_contained, has_left, has_right}
+use Rattle.answer_judge.proofs.GivenSorted.{sorted_from}
+use Rattle.answer_judge.proofs.HonestMade.{signed_only}
+use Rattle.answer_judge.specs.Splices.{PassesNowhere, PlainSchemeBinds, ToldIsSpliced, SplicesAreHonest, WasCarried}
+
+pub splices_are_honest : SplicesAreHonest
+splices_are_honest a k h published made m binds octets spliced known = record {
+  octets_are = octets;
+  unforged = λ read r f signature signed owner class ds key reads there type_is fields time inside signs passes.
+      ⊎_elim
+      (λ (c : WasCarried a made signature). subst (Contains made) (binds c.key key c.octets signed signature c.passes passes) c.there)
+      (λ (n : PassesNowhere a published signature). absurd (false≢true (sym (n key signed inside) ∙ passes)))
+      (spliced read r f signature reads there type_is fields time);
+  known = known;
+}
+
+pub plain_scheme_binds : PlainSchemeBinds
+plain_scheme_binds digest hash j k octets others signature p q =
+    let first = (bytes_decides signature (to_be_bytes w16 (key_tag j) ++ octets)).0 p in
+    let second = (bytes_decides signature (to_be_bytes w16 (key_tag k) ++ others)).0 q in
+    (pieces (to_be_bytes w16 (key_tag j)) (to_be_bytes w16 (key_tag k)) octets others refl (sym first ∙ second)).1
+
+-- ---- what was handed out
+
+in_map : {A B : Type 0} (f : A → B) (xs : List A) (x : A) → Has xs x → Has (map f xs) (f x)
+in_map f [] x h = absurd h
+in_map f (y ∷ xs) x h = elim h [ inl e ↦ inl (ap f e) | inr i ↦ inr (in_map f xs x i) ]
+
+in_parts : {A B : Type 0} (f : A → List B) (xs : List A) (x : A) (y : B) → Has xs x → Has (f x) y → Has (flat_map f xs) y
+in_parts f [] x y h i = absurd h
+in_parts {A} {B} f (z ∷ xs) x y h i = elim h [
+  | inl e ↦ has_left (f z) (flat_map f xs) y (subst (λ (a : A). Has (f a) y) e i)
+  | inr j ↦ has_right (f z) (flat_map f xs) y (in_parts f xs x y j i)
+]
+
+if_signed : (b : Bool) (xs : List (List ℕ)) (x : List ℕ) → b ≡ true → Has xs x → Has (if b then xs else []) x
+if_signed true xs x e h = h
+if_signed false xs x e h = absurd (false≢true e)
+
+-- what a key signed of an RRset of it was made
+signed_made : (s : Served) (apex : Name) (life : ℕ) (outs : List HandedOut) (out : HandedOut) (g : Group) (key : Dnskey) → Has outs out → Has (groups_of s apex out.content) g → g.signed ≡ true → Has out.signers key → Has (made s apex life outs) (octets_for apex out.at life g key)
+signed_made s apex life outs out g key there inside signed signs =
+    in_parts (made_in s apex life) outs out (octets_for apex out.at life g key) there
+    (in_parts (made_of apex out.at life out.signers) (groups_of s apex out.content) g (octets_for apex out.at life g key) inside
+    (if_signed g.signed (map (octets_for apex out.at life g) out.signers) (octets_for apex out.at life g key) signed (in_map (octets_for apex out.at life g) out.signers key signs)))
+
+-- ---- signatures of a message that tells it
+
+abbrev message_ok : Message → Result Message MessageError
+message_ok x = Ok x
+
+abbrev f_and : Fields × List ℕ → Option (Fields × List ℕ)
+f_and x = Some x
+
+-- a record is a signature of one of the RRsets by one of the keys
+record IsSignatureOf (v : Dnskey → List ℕ → List ℕ → Bool) (k : ℕ) (m : List ℕ) (r : Spelled) (apex : Name) (at life : ℕ) (keys : List Dnskey) (gs : List Group) : Type 0 where
+  group : Group
+  inside : Has gs group
+  signed : group.signed ≡ true
+  key : Dnskey
+  signs : Has keys key
+  is : IsSignature v k m r apex at life group key
+
+own_type : (k : ℕ) (m : List ℕ) (rs : List Spelled) (g : Group) (ds : List (List ℕ)) (r : Spelled) → AreRecords k m rs g ds → Has rs r → r.rtype ≡ g.rtype
+own_type k m [] g ds r h i = absurd i
+own_type k m (x ∷ rs) g [] r h i = absurd h
+own_type k m (x ∷ rs) g (d ∷ ds) r h i = elim i [
+  | inl e ↦ (let is : IsRecord k m x g.owner g.rtype d = h.0 in ap (λ (y : Spelled). y.rtype) e ∙ is.type_is)
+  | inr j ↦ own_type k m rs g ds r h.1 j
+]
+
+its_signature : (v : Dnskey → List ℕ → List ℕ → Bool) (k : ℕ) (m : List ℕ) (rs : List Spelled) (apex : Name) (at life : ℕ) (g : Group) (keys : List Dnskey) (r : Spelled) → AreSignatures v k m rs apex at life g keys → Has rs r → (key : Dnskey) × Has keys key × IsSignature v k m r apex at life g key
+its_signature v k m [] apex at life g keys r h i = absurd i
+its_signature v k m (x ∷ rs) apex at life g [] r h i = absurd h
+its_signature v k m (x ∷ rs) apex at life g (key ∷ keys) r h i = elim i [
+  | inl e ↦ (key, inl refl, subst (λ (y : Spelled). IsSignature v k m y apex at life g key) (sym e) h.0)
+  | inr j ↦ let s = its_signature v k m rs apex at life g keys r h.1 j in (s.0, inr s.1, s.2)
+]
+
+signature_of : (v : Dnskey → List ℕ → List ℕ → Bool) (k : ℕ) (m : List ℕ) (rs : List Spelled) (apex : Name) (at life : ℕ) (keys : List Dnskey) (gs : List Group) (r : Spelled) → AllByRecursion (λ (g : Group). g.rtype ≡ 46 → ⊥) gs → TellsGroups v k m rs apex at life keys gs → Has rs r → r.rtype ≡ 46
+    → IsSignatureOf v k m r apex at life keys gs
+signature_of v k m rs apex at life keys [] r types tells i e = absurd (subst (λ xs. Has xs r) tells i)
+signature_of v k m rs apex at life keys (g ∷ gs) r types (own, signatures, rest, split, records, signs, more) i e =
+    elim (from_joined (own ++ signatures) rest r (subst (λ xs. Has xs r) split i)) [
+      | inl front ↦ elim (from_joined own signatures r front) [
+        | inl here ↦ absurd (types.0 (sym (own_type k m own g g.datas r records here) ∙ e))
+        | inr here ↦
+            let s = its_signature v k m signatures apex at life g (if g.signed then keys else []) r signs here in
+            let by = signed_only g.signed keys s.0 s.1 in
+            record { group = g; inside = inl refl; signed = by.0; key = s.0; signs = by.1; is = s.2 }
+      ]
+      | inr later ↦
+          let x = signature_of v k m rest apex at life keys gs r types.1 more later e in
+          record { group = x.group; inside = inr x.inside; signed = x.signed; key = x.key; signs = x.signs; is = x.is }
+    ]
+
+ok_is : (x y : Message) → message_ok x ≡ message_ok y → x ≡ y
+ok_is x y e = cc
+
+pub told_is_spliced : ToldIsSpliced
+told_is_spliced a k now s apex life published outs out asked m there types tells read r f signature reads inside kind fields time =
+    let same : read ≡ tells.read = ok_is read tells.read (sym reads ∙ tells.reads) in
+    let here : Has tells.read.records r = subst (λ (x : Message). Has x.records r) same (has_contained read.records r inside) in
+    let x = signature_of a.verifies k m tells.read.records apex out.at life (by_tag out.signers) (groups_of s apex out.content) r types tells.groups_are here kind in
+    let one : f_and (f, signature) ≡ f_and (Rattle.answer_terms.specs.Told.fields_for apex out.at life x.group x.key, x.is.signature) = sym fields ∙ x.is.fields_are in
+    let octets : signature ≡ x.is.signature = ap (λ (y : Fields × List ℕ). y.1) (some_is _ _ one) in
+    let signer : Has out.signers x.key = sorted_from (λ b c. nat_cmp (key_tag b) (key_tag c)) out.signers x.key x.signs in
+    inl (record {
+      key = x.key;
+      octets = octets_for apex out.at life x.group x.key;
+      there = contained_has (made s apex life outs) (octets_for apex out.at life x.group x.key) (signed_made s apex life outs out x.group x.key (has_contained outs out there) x.inside x.signed signer);
+      passes = ap (a.verifies x.key (octets_for apex out.at life x.group x.key)) octets ∙ x.is.passes;
+    })

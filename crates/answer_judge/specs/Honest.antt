@@ -1,0 +1,118 @@
+-- Messages in which nothing is forged, and what a judge says of them.
+use Rattle.std.specs.Prelude.{◌≡◌, ℕ, ◌<◌, Bool, true, false, ◌&&◌, List, [], Contains, Some, None, Ok, Err}
+use Rattle.std.specs.List.{AllByRecursion, list_any}
+use Rattle.definitions.specs.Name.{Name, IsName}
+use Rattle.definitions.specs.Dnskey.{Dnskey, Ds, digested, dnskey_of_data}
+use Rattle.definitions.specs.Laws.{IsSignable}
+use Rattle.definitions.specs.Signing.{Fields, ascending, in_time, signed_octets}
+use Rattle.definitions.specs.Zone.{Verdict, verdict}
+use Rattle.definitions.specs.ZoneChain.{Mode, optout_of}
+use Rattle.denial_rules.specs.Truth.{NoSharedHash}
+use Rattle.messages.specs.Handed.{IsHanded}
+use Rattle.messages.specs.HandedRr.{HandedRr}
+use Rattle.messages.specs.Message.{Message, Spelled, data_of, message, rrsig_at}
+use Rattle.messages.specs.WrittenLaws.{IsQuestion}
+use Rattle.answer_scheme.specs.Answers.{Answers}
+use Rattle.answer_terms.specs.Accepted.{IsAccepted}
+use Rattle.answer_terms.specs.Accepting.{sorted_records, zone_of}
+use Rattle.answer_terms.specs.Hashing.{HashesOctets, hash_in}
+use Rattle.answer_terms.specs.Made.{HandedOut, WasHandedOut, made}
+use Rattle.answer_terms.specs.Served.{Served, served_of}
+use Rattle.answer_judge.specs.Facts.{is_signature}
+use Rattle.answer_judge.specs.Judged.{AnswersAs, judged}
+use Rattle.answer_judge.specs.Judging.{Answer, Says, Refuses, Handing}
+
+abbrev pub AreOctets : List ℕ → Type 0
+AreOctets xs = AllByRecursion (λ x. x < 256) xs
+
+-- Octets that a signature of these fields may be made over: one RRset, at least one record, each once and ascending
+-- (RFC 4034, 3.1.8.1 and 6.3).
+pub record Signs (octets : List ℕ) (f : Fields) (owner : Name) (class : ℕ) (ds : List (List ℕ)) : Type 0 where
+  pub fits : IsSignable f owner class ds
+  pub rising : ascending ds ≡ true
+  pub are : octets ≡ signed_octets f owner class ds
+  pub octets_are : AreOctets octets
+
+-- Each signature of a message that holds at the moment and verifies under a published key, over whichever octets, is over
+-- octets that were made. Of signatures out of their times nothing is asked.
+abbrev pub NothingForged : Answers → ℕ → ℕ → List Dnskey → List (List ℕ) → List ℕ → Type 0
+NothingForged a k now published made m =
+    (read : Message) (r : Spelled) (f : Fields) (signature octets : List ℕ) (owner : Name) (class : ℕ) (ds : List (List ℕ)) (key : Dnskey)
+    → message k m ≡ Ok read → Contains read.records r → r.rtype ≡ 46 → rrsig_at k m r ≡ Some (f, signature) → in_time f now ≡ true
+    → Contains published key → Signs octets f owner class ds → a.verifies key octets signature ≡ true → Contains made octets
+
+-- Each key of a message whose digest is that of one of some DS records is published.
+abbrev pub NoStranger : Answers → ℕ → Name → List Dnskey → List Ds → List ℕ → Type 0
+NoStranger a k apex published ds m =
+    (read : Message) (r : Spelled) (key : Dnskey) (d : Ds)
+    → message k m ≡ Ok read → Contains read.records r → r.rtype ≡ 48 → dnskey_of_data (data_of m r) ≡ Some key
+    → Contains ds d → a.digest d.digest_type (digested apex key) ≡ Some d.digest → Contains published key
+
+-- octets of a message, in which nothing is forged
+pub record IsHonest (a : Answers) (k : ℕ) (h : Handing) (published : List Dnskey) (made : List (List ℕ)) (m : List ℕ) : Type 0 where
+  pub octets_are : AreOctets m
+  pub unforged : NothingForged a k h.now published made m
+  pub known : NoStranger a k h.apex published h.ds m
+
+-- how the zone of some records is served, in order
+abbrev pub served_by : Answers → Handing → Mode → List HandedRr → Served
+served_by a h mode rs = served_of h.apex mode (hash_in a.hash mode) (sorted_records rs)
+
+-- What is handed in beside a DS set that isn't empty: two messages that are honest in the life of the zone of these records and
+-- this chain. Some keys were published in it, and some messages were handed out, each a DNSKEY answer of published keys or an
+-- answer to an allowed question, signed by whatever keys at whatever moments.
+pub record AreHonest (a : Answers) (k : ℕ) (h : Handing) (mode : Mode) (rs : List HandedRr) : Type 0 where
+  pub published : List Dnskey
+  pub handed_out : List HandedOut
+  pub life : ℕ
+  pub apex_is : IsName h.apex
+  pub records_are : AllByRecursion IsHanded rs
+  pub accepted : IsAccepted a.hash h.apex mode h.limit rs
+  pub hashes_are : HashesOctets a.hash mode
+  pub apart : NoSharedHash (zone_of h.apex rs) (hash_in a.hash mode) mode h.asked.name
+  pub asked_is : IsQuestion h.asked
+  pub ds_some : h.ds ≡ [] → ⊥
+  pub flags_are : AllByRecursion (λ key. key.flags < 65536) published
+  pub handed_out_are : AllByRecursion (WasHandedOut (served_by a h mode rs) h.apex published) handed_out
+  pub keys_honest : IsHonest a k h published (made (served_by a h mode rs) h.apex life handed_out) h.dnskey_bytes
+  pub answer_honest : IsHonest a k h published (made (served_by a h mode rs) h.apex life handed_out) h.answer_bytes
+
+-- no other verdict is said
+abbrev pub SaysAtMost : Verdict → Answer → Type 0
+SaysAtMost v (Says w) = w ≡ v
+SaysAtMost v (Refuses e) = Unit {0}
+
+-- of honest messages a judge says the zone's verdict, or refuses
+abbrev pub AnswersHonest : Answers → ℕ → Handing → Answer → Type 0
+AnswersHonest a k h answer =
+    (mode : Mode) (rs : List HandedRr) → AreHonest a k h mode rs
+    → SaysAtMost (verdict (zone_of h.apex rs) (optout_of mode) h.asked.name h.asked.rtype) answer
+
+-- Whatever is exact, memory aside, is this. The limit is a number of 16 bits (RFC 5155, 3.1.3).
+abbrev pub NoFalseVerdict : Type 0
+NoFalseVerdict =
+    (a : Answers) (k : ℕ) (h : Handing) (answer : Answer)
+    → h.limit < 65536 → AnswersAs answer (judged a k h) → AnswersHonest a k h answer
+
+-- ---- times
+
+-- a signature that holds at a moment
+abbrev pub holds_now : ℕ → ℕ → List ℕ → Spelled → Bool
+holds_now k now m r = is_signature r && elim (rrsig_at k m r) [ None ↦ false | Some f ↦ in_time f.0 now ]
+
+-- a message that reads has one
+abbrev pub has_timely : ℕ → ℕ → List ℕ → Bool
+has_timely k now m = elim (message k m) [ Err e ↦ false | Ok read ↦ list_any (holds_now k now m) read.records ]
+
+-- a refusal
+abbrev pub IsRefused : Answer → Type 0
+IsRefused (Says v) = ⊥
+IsRefused (Refuses e) = Unit {0}
+
+-- beside a DS set that isn't empty a judge refuses where no signature of the one message holds, or none of the other
+abbrev pub RefusesUntimely : ℕ → Handing → Answer → Type 0
+RefusesUntimely k h answer =
+    (h.ds ≡ [] → ⊥) → (has_timely k h.now h.dnskey_bytes && has_timely k h.now h.answer_bytes) ≡ false → IsRefused answer
+
+abbrev pub UntimelyIsRefused : Type 0
+UntimelyIsRefused = (a : Answers) (k : ℕ) (h : Handing) (answer : Answer) → AnswersAs answer (judged a k h) → RefusesUntimely k h answer

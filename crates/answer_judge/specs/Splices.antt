@@ -1,0 +1,63 @@
+-- Messages in which nothing is forged: put together from what was handed out, and from what strangers made.
+use Rattle.std.specs.Prelude.{◌≡◌, ◌⊎◌, ℕ, Bool, true, false, List, ◌++◌, Contains, Option, Some, Ok}
+use Rattle.std.specs.Int.{w16, to_be_bytes}
+use Rattle.std.specs.Str.{bytes_eq}
+use Rattle.definitions.specs.Dnskey.{Dnskey, key_tag}
+use Rattle.definitions.specs.Signing.{Fields, in_time}
+use Rattle.definitions.specs.Name.{Name}
+use Rattle.std.specs.List.{AllByRecursion}
+use Rattle.messages.specs.Message.{Asked, Message, Spelled, message, rrsig_at}
+use Rattle.answer_terms.specs.Made.{HandedOut, groups_of, made}
+use Rattle.answer_terms.specs.Served.{Served, by_tag}
+use Rattle.answer_terms.specs.Told.{Tells}
+use Rattle.answer_scheme.specs.Answers.{Answers}
+use Rattle.answer_judge.specs.Honest.{AreOctets, IsHonest, NoStranger}
+use Rattle.answer_judge.specs.Judging.{Handing}
+
+-- a signature passes over one string of octets alone, whatever the key
+abbrev pub Binds : Answers → Type 0
+Binds a = (j k : Dnskey) (octets others signature : List ℕ) → a.verifies j octets signature ≡ true → a.verifies k others signature ≡ true → octets ≡ others
+
+-- a signature that passes over octets that were made, as those in messages that were handed out
+pub record WasCarried (a : Answers) (made : List (List ℕ)) (signature : List ℕ) : Type 0 where
+  pub key : Dnskey
+  pub octets : List ℕ
+  pub there : Contains made octets
+  pub passes : a.verifies key octets signature ≡ true
+
+-- one that passes under none of some keys, as a stranger's
+abbrev pub PassesNowhere : Answers → List Dnskey → List ℕ → Type 0
+PassesNowhere a keys signature = (key : Dnskey) (octets : List ℕ) → Contains keys key → a.verifies key octets signature ≡ false
+
+-- Each signature of a message that holds at the moment is such, wherever it stands, whatever its fields say and whatever stands
+-- beside it.
+abbrev pub IsSpliced : Answers → ℕ → ℕ → List Dnskey → List (List ℕ) → List ℕ → Type 0
+IsSpliced a k now published made m =
+    (read : Message) (r : Spelled) (f : Fields) (signature : List ℕ)
+    → message k m ≡ Ok read → Contains read.records r → r.rtype ≡ 46 → rrsig_at k m r ≡ Some (f, signature) → in_time f now ≡ true
+    → WasCarried a made signature ⊎ PassesNowhere a published signature
+
+abbrev pub SplicesAreHonest : Type 0
+SplicesAreHonest =
+    (a : Answers) (k : ℕ) (h : Handing) (published : List Dnskey) (made : List (List ℕ)) (m : List ℕ)
+    → Binds a → AreOctets m → IsSpliced a k h.now published made m → NoStranger a k h.apex published h.ds m → IsHonest a k h published made m
+
+-- a scheme whose signatures are the tag of the key and the octets themselves
+abbrev pub plain_verifies : Dnskey → List ℕ → List ℕ → Bool
+plain_verifies key octets signature = bytes_eq signature (to_be_bytes w16 (key_tag key) ++ octets)
+
+-- with any digests and hashes
+abbrev pub plain_answers : (ℕ → List ℕ → Option (List ℕ)) → (List ℕ → ℕ → ℕ → List ℕ → Option (List ℕ)) → Answers
+plain_answers digest hash = record { verifies = plain_verifies; digest = digest; hash = hash }
+
+abbrev pub PlainSchemeBinds : Type 0
+PlainSchemeBinds = (digest : ℕ → List ℕ → Option (List ℕ)) (hash : List ℕ → ℕ → ℕ → List ℕ → Option (List ℕ)) → Binds (plain_answers digest hash)
+
+-- Bytes that tell a message that was handed out are such, whatever the case of owners, the TTLs and the compression; no RRset in
+-- it is one of signatures.
+abbrev pub ToldIsSpliced : Type 0
+ToldIsSpliced =
+    (a : Answers) (k now : ℕ) (s : Served) (apex : Name) (life : ℕ) (published : List Dnskey) (outs : List HandedOut) (out : HandedOut) (asked : Asked) (m : List ℕ)
+    → Contains outs out → AllByRecursion (λ g. g.rtype ≡ 46 → ⊥) (groups_of s apex out.content)
+    → Tells a.verifies k apex out.at life (by_tag out.signers) asked (groups_of s apex out.content) m
+    → IsSpliced a k now published (made s apex life outs) m

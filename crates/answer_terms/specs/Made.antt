@@ -1,0 +1,52 @@
+-- What was signed: the octets of the signatures in messages that were handed out.
+use Rattle.std.specs.Prelude.{◌≡◌, ℕ, ◌<◌, true, List, [], ◌∷◌, map, if◌then◌else◌, length, Contains}
+use Rattle.std.specs.List.{AllByRecursion, flat_map}
+use Rattle.definitions.specs.Name.{Name}
+use Rattle.definitions.specs.Dnskey.{Dnskey}
+use Rattle.definitions.specs.Zone.{apex_of}
+use Rattle.messages.specs.Message.{Asked}
+use Rattle.messages.specs.WrittenLaws.{IsQuestion}
+use Rattle.answer_terms.specs.Asking.{is_allowed}
+use Rattle.answer_terms.specs.Served.{Served, Group, answer_groups, key_group}
+use Rattle.answer_terms.specs.Told.{octets_for}
+
+-- what a message holds: the keys that were present, or a zone's answer to a question
+pub data Content : Type 0 where
+  OfKeys : List Dnskey → Content
+  OfZone : Asked → Content
+
+-- a message that was handed out, the keys that signed it, and the moment of their signatures
+pub record HandedOut : Type 0 where
+  pub content : Content
+  pub signers : List Dnskey
+  pub at : ℕ
+
+-- its RRsets
+abbrev pub groups_of : Served → Name → Content → List Group
+groups_of s apex (OfKeys present) = key_group apex (s.ttl_of (apex_of s.zone) 6) present ∷ []
+groups_of s apex (OfZone asked) = answer_groups s asked.name asked.rtype
+
+-- what the keys signed of one RRset, each all of it
+abbrev pub made_of : Name → ℕ → ℕ → List Dnskey → Group → List (List ℕ)
+made_of apex at life signers g = if g.signed then map (octets_for apex at life g) signers else []
+
+abbrev pub made_in : Served → Name → ℕ → HandedOut → List (List ℕ)
+made_in s apex life out = flat_map (made_of apex out.at life out.signers) (groups_of s apex out.content)
+
+-- the octets of all signatures in some messages, whose lifetime is one
+abbrev pub made : Served → Name → ℕ → List HandedOut → List (List ℕ)
+made s apex life outs = flat_map (made_in s apex life) outs
+
+-- data that records hold (RFC 1035, 3.2.1)
+abbrev pub IsShortGroup : Group → Type 0
+IsShortGroup g = AllByRecursion (λ d. length d < 65536) g.datas
+
+-- the keys that were present are published; the question is one that is answered
+abbrev pub IsOf : Name → List Dnskey → Content → Type 0
+IsOf apex published (OfKeys present) = AllByRecursion (Contains published) present
+IsOf apex published (OfZone asked) = IsQuestion asked × (is_allowed apex asked ≡ true)
+
+-- a message of a zone's life, in which some keys are published
+pub record WasHandedOut (s : Served) (apex : Name) (published : List Dnskey) (out : HandedOut) : Type 0 where
+  pub of : IsOf apex published out.content
+  pub short : AllByRecursion IsShortGroup (groups_of s apex out.content)
