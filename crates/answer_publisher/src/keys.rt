@@ -260,7 +260,12 @@ impl ZoneKeys {
 
     /// Puts a key into the DNSKEY RRset, or takes it out, outside a roll. The first moment at which it was put in is
     /// kept.
-    pub(crate) fn set_present(&mut self, pubref: &str, value: bool, now: &UnixTime) -> Result<(), KeyFault>
+    pub(crate) fn set_present(
+        &mut self,
+        pubref: &str,
+        value: bool,
+        now: &UnixTime,
+    ) -> Result<(), KeyFault>
         ensures { SetsKeys (Set pubref.now (Present value)) now.now self.old self.new result }
     {
         match self.keys.set_present(pubref, value, now) {

@@ -372,8 +372,8 @@ impl<'a, S: Scheme, H: Nsec3Hasher> Publisher<'a, S, H> {
         )
     }
 
-    /// Adds a key of a kind, of these octets, at most 65,531 of them; of another owner's no private reference is kept. Whether its reference is bound to another key is known
-    /// before any memory is taken.
+    /// Adds a key of a kind, of these octets, at most 65,531 of them. Of a key of another owner no private reference is kept.
+    /// Whether a reference is bound to another key is known before any memory is taken.
     pub fn add_key(
         &mut self,
         kind: KeyKind,

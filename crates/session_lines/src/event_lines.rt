@@ -167,12 +167,7 @@ fn read_add(
     let pubref = reference(alloc, pubref)?;
     let algorithm = SecurityAlgorithm::from_int(number_u8(algorithm)?);
     let public_key = key_octets(alloc, octets)?;
-    Ok(Act::Key(KeyCall::add(
-        read_kind(kind)?,
-        pubref,
-        algorithm,
-        public_key,
-    )))
+    Ok(Act::Key(KeyCall::add(read_kind(kind)?, pubref, algorithm, public_key)))
 }
 
 fn read_kind(field: &str) -> Result<KeyKind, LineError>
