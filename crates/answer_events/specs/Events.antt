@@ -4,13 +4,14 @@ use Rattle.answer_events.specs.declared.event.Event.{Event}
 use Rattle.answer_events.specs.declared.event.Act.{Act}
 use Rattle.answer_events.specs.declared.event.Act.TheVariants.{Key}
 use Rattle.answer_events.specs.declared.event.KeyCall.{KeyCall}
-use Rattle.answer_events.specs.declared.event.KeyCall.TheVariants.{AddKeyKsk, AddKeyZsk, AddKeyCsk}
+use Rattle.answer_events.specs.declared.event.KeyCall.TheVariants.{AddKeyKsk, AddKeyZsk, AddKeyCsk, AddPublicKey}
 
 -- the octets of the key that a call adds, 0 for other calls
 abbrev pub added_by_call : KeyCall → ℕ
 added_by_call (AddKeyKsk pubref privref algorithm key at_hand) = length key.items
 added_by_call (AddKeyZsk pubref privref algorithm key at_hand) = length key.items
 added_by_call (AddKeyCsk pubref privref algorithm key at_hand) = length key.items
+added_by_call (AddPublicKey pubref algorithm key at_hand) = length key.items
 added_by_call _ = 0
 
 abbrev pub added_by_act : Act → ℕ

@@ -1,6 +1,5 @@
 //! What happens to a signed zone over time.
-ghost use Rattle.std.specs.Prelude.{◌≡◌, length, string_bytes};
-ghost use Rattle.keyset.specs.KeyState.{text_of, is_available};
+ghost use Rattle.std.specs.Prelude.{◌≡◌, length, string_bytes, true, None};
 ghost use Rattle.answer_events.specs.Calls.{Add, call_of};
 ghost use Rattle.answer_events.specs.Events.{added_by_call};
 
@@ -71,6 +70,56 @@ pub enum KeyCall {
         public_key: Vec<u8>,
         available: Available,
     },
+    /// Adds a key of another owner, which signs nothing here.
+    AddPublicKey {
+        pubref: String,
+        algorithm: SecurityAlgorithm,
+        public_key: Vec<u8>,
+        available: bool,
+    },
+    /// Sets whether a key is no longer managed by its references.
+    SetDecoupled {
+        pubref: String,
+        value: bool,
+    },
+    /// Puts a key into the DNSKEY RRset, or takes it out, outside a roll.
+    SetPresent {
+        pubref: String,
+        value: bool,
+    },
+    /// Sets whether a key signs, outside a roll.
+    SetSigner {
+        pubref: String,
+        value: bool,
+    },
+    /// Sets whether the parent's DS RRset has a key, outside a roll.
+    SetAtParent {
+        pubref: String,
+        value: bool,
+    },
+    /// Sets since when all servers have a key in the DNSKEY RRset.
+    SetVisible {
+        pubref: String,
+        time: UnixTime,
+    },
+    /// Sets since when all servers of the parent have a key's DS record.
+    SetDsVisible {
+        pubref: String,
+        time: UnixTime,
+    },
+    /// Sets since when all servers have a key's signatures.
+    SetRrsigVisible {
+        pubref: String,
+        time: UnixTime,
+    },
+    /// Takes a key out of use at once, outside a roll.
+    SetStale {
+        pubref: String,
+    },
+    /// Deletes a key that is stale. Its reference stays bound to it.
+    DeleteKey {
+        pubref: String,
+    },
     /// Starts a roll from old keys to new ones.
     StartRoll {
         rolltype: RollType,
@@ -102,40 +151,44 @@ pub enum KeyCall {
 }
 
 impl KeyCall {
-    /// The add of a key of a kind.
+    /// The add of an available key of a kind, without a private reference.
     pub fn add(
         kind: KeyKind,
         pubref: String,
-        privref: Option<String>,
         algorithm: SecurityAlgorithm,
         public_key: Vec<u8>,
-        available: Available,
     ) -> Self
         ensures octets { added_by_call result ≡ length public_key.items }
-        ensures call { let q = string_bytes pubref in let private = text_of privref in
-            call_of result ≡ Add kind q private algorithm public_key.items (is_available available) }
+        ensures call { let octets = public_key.items in
+            call_of result ≡ Add kind (string_bytes pubref) None algorithm octets true }
     {
         match kind {
             KeyKind::Ksk => KeyCall::AddKeyKsk {
                 pubref,
-                privref,
+                privref: None,
                 algorithm,
                 public_key,
-                available,
+                available: Available::Available,
             },
             KeyKind::Zsk => KeyCall::AddKeyZsk {
                 pubref,
-                privref,
+                privref: None,
                 algorithm,
                 public_key,
-                available,
+                available: Available::Available,
             },
             KeyKind::Csk => KeyCall::AddKeyCsk {
                 pubref,
-                privref,
+                privref: None,
                 algorithm,
                 public_key,
-                available,
+                available: Available::Available,
+            },
+            KeyKind::Include => KeyCall::AddPublicKey {
+                pubref,
+                algorithm,
+                public_key,
+                available: true,
             },
         }
     }

@@ -1,6 +1,9 @@
 //! The kinds of keys that a zone is given.
 ghost use Rattle.std.specs.Prelude.{◌≡◌};
 ghost use Rattle.answer_events.specs.Calls.{flags_of};
+ghost use Rattle.keyset.specs.KeyState.{is_available};
+
+use keyset::Available;
 
 /// A kind of key.
 #[derive(Clone, Copy, Debug, PartialEq, Eq)]
@@ -11,6 +14,8 @@ pub enum KeyKind {
     Zsk,
     /// A key that signs both, keys and zone: an entry point too.
     Csk,
+    /// A key of another owner, which signs nothing here: it is to stand among the zone's keys.
+    Include,
 }
 
 impl KeyKind {
@@ -20,7 +25,18 @@ impl KeyKind {
     {
         match self {
             KeyKind::Ksk | KeyKind::Csk => 257,
-            KeyKind::Zsk => 256,
+            KeyKind::Zsk | KeyKind::Include => 256,
         }
+    }
+}
+
+/// Whether a key may be rolled to, as adds of keys that sign take it.
+pub fn availability(available: bool) -> Available
+    ensures { is_available result ≡ available }
+{
+    if available {
+        Available::Available
+    } else {
+        Available::NotAvailable
     }
 }

@@ -25,7 +25,7 @@ use Rattle.answer_terms.specs.Accepted.{IsAccepted}
 use Rattle.answer_terms.specs.Accepting.{sorted_records, zone_of}
 use Rattle.answer_terms.specs.Hashing.{HashesHold}
 use Rattle.answer_publisher.specs.Bindings as bindings
-use Rattle.answer_publisher.specs.Bindings.{ZoneKeys, apply, ds_set}
+use Rattle.answer_publisher.specs.Bindings.{ZoneKeys, apply, ds_set, set_call}
 use Rattle.answer_judge.specs.Judging.{Says, answer_of, hashes_of, verifications_of}
 use Rattle.answer_terms.specs.Asking.{is_allowed}
 use Rattle.answer_judge.specs.Judged.{AnswersAs}
@@ -45,11 +45,10 @@ use Rattle.answer_terms.proofs.GivenTold.{told}
 use Rattle.answer_publisher.proofs.KeyTags.{apply_own, none_own, own_of}
 use Rattle.answer_life.specs.Simulations.{IsZoneOf}
 use Rattle.answer_life.proofs.GivenThings.{AreLeft, given}
-use Rattle.answer_life.proofs.KeyHistory.{Held, Reach, accepted_did, held_more, none_held, reach_more, reached_at, rolls_more, set_by_rolls, set_so, state_stays, stay_here, stay_on}
+use Rattle.answer_life.proofs.KeyHistory.{Reach, accepted_did, reach_more, reached_at, state_stays, stay_here, stay_on}
 use Rattle.answer_life.proofs.KeysMeet.{IsPast, KeysMeet, keys_meet, some_at_parent}
-use Rattle.answer_life.specs.ThroughRolls.{History, Showing, VerdictThrough, VerdictsThrough, history_with, no_history, past_with, set_call, steps, with_call, with_thing}
-use Rattle.keyset.specs.KeyRuns.{Call, no_keys, on_state}
-use Rattle.keyset.specs.KeyRunLaws.{by_rolls_alone}
+use Rattle.answer_life.specs.ThroughRolls.{History, Showing, VerdictThrough, VerdictsThrough, history_with, no_history, past_with, steps, with_call, with_thing}
+use Rattle.keyset.specs.KeyRuns.{Call, no_keys}
 use Rattle.keyset.specs.KeyState.{ds as at_parent}
 use Rattle.keyset_life.specs.KeyLife.{states}
 use Rattle.keyset_life.specs.Sides.{is_empty}
@@ -199,31 +198,31 @@ some_ds w ds set o x e f is some =
     some_at_parent x.keys (subst (λ (d : List Ds). is_empty d ≡ false) (same ∙ is.1) some)
 
 -- shown in three
-judged_through : (w : World) (rs : List HandedRr) (h : History) (past : List ZoneKeys) (s : Sofar) (at ds dnskey answer : ℕ) (j : Result Judgement Refused) → IsZoneOf w rs → by_rolls_alone h.calls ≡ true → Stand (IsPlaced w h.calls s.keys) h.shown s.shown
+judged_through : (w : World) (rs : List HandedRr) (h : History) (past : List ZoneKeys) (s : Sofar) (at ds dnskey answer : ℕ) (j : Result Judgement Refused) → IsZoneOf w rs → Stand (IsPlaced w h.calls s.keys) h.shown s.shown
     → JudgesAt w s at ds dnskey answer j → VerdictThrough w rs h past s at (act.Judge ds dnskey answer) (outcome.Judged j)
-judged_through w rs h past s at ds dnskey answer j zone by_rolls stand judges x y z set asked bytes hx hy hz parent shown lives some keys_hold answer_holds hashes =
+judged_through w rs h past s at ds dnskey answer j zone stand judges x y z set asked bytes hx hy hz parent shown lives some keys_hold answer_holds hashes =
     let t = things_at w s at ds dnskey answer asked bytes j judges shown in
     let P = IsPlaced w h.calls s.keys in
     let a = stands_at P h.shown s.shown ds x (OfParent t.0) stand hx t.2 in
     let b = stands_at P h.shown s.shown dnskey y (OfKeys t.1) stand hy t.3 in
     let c = stands_at P h.shown s.shown answer z (OfZone asked bytes) stand hz shown in
     let some_parent = some_ds w t.0 set (slice_get s.shown ds) (moment a.keys x.at) t.2 parent a.shown some in
-    let references = unretired_things_meet w.zone.apex h.calls at x.behind y.behind z.behind a.keys.keys b.keys.keys c.keys.keys by_rolls lives.in_time lives.first a.state b.state c.state lives.ds_lives lives.dnskey_lives lives.answer_lives some_parent in
+    let references = unretired_things_meet w.zone.apex h.calls at x.behind y.behind z.behind a.keys.keys b.keys.keys c.keys.keys lives.by_rolls lives.in_time lives.first a.state b.state c.state lives.ds_lives lives.dnskey_lives lives.answer_lives some_parent in
     let tells = keys_told w (moment b.keys y.at) t.1 b.shown in
     let answered = answer_told w (moment c.keys z.at) asked bytes c.shown in
     says w rs (moment a.keys x.at) (moment b.keys y.at) (moment c.keys z.at) at t.0 t.1 bytes asked j zone t.4 a.shown tells answered (keys_meet a.keys b.keys c.keys s.keys a.past b.past c.past references) keys_hold answer_holds hashes
 
 -- of bytes that tell what any states give
-bytes_through : (w : World) (rs : List HandedRr) (h : History) (past : List ZoneKeys) (s : Sofar) (at ds : ℕ) (dnskey answer : Vec ℕ Global) (q : Question Name) (j : Result Judgement Refused) → IsZoneOf w rs → by_rolls_alone h.calls ≡ true
+bytes_through : (w : World) (rs : List HandedRr) (h : History) (past : List ZoneKeys) (s : Sofar) (at ds : ℕ) (dnskey answer : Vec ℕ Global) (q : Question Name) (j : Result Judgement Refused) → IsZoneOf w rs
     → Stand (IsPlaced w h.calls s.keys) h.shown s.shown → ArePassed w h.calls past s.keys → JudgesBytes w at (slice_get s.shown ds) dnskey.items answer.items (asked_of q) (outcome.Judged j) → IsQuestion (asked_of q)
     → VerdictThrough w rs h past s at (act.JudgeBytes ds dnskey answer q) (outcome.Judged j)
-bytes_through w rs h past s at ds dnskey answer q j zone by_rolls stand passed judges is x y z set hx parent was_y was_z tells answers allowed lives some keys_hold answer_holds hashes =
+bytes_through w rs h past s at ds dnskey answer q j zone stand passed judges is x y z set hx parent was_y was_z tells answers allowed lives some keys_hold answer_holds hashes =
     let t = beside w at (slice_get s.shown ds) dnskey.items answer.items (asked_of q) j judges in
     let a = stands_at (IsPlaced w h.calls s.keys) h.shown s.shown ds x (OfParent t.0) stand hx t.1 in
     let b = passed.each y.behind y.keys was_y in
     let c = passed.each z.behind z.keys was_z in
     let some_parent = some_ds w t.0 set (slice_get s.shown ds) (moment a.keys x.at) t.1 parent a.shown some in
-    let references = unretired_things_meet w.zone.apex h.calls at x.behind y.behind z.behind a.keys.keys y.keys.keys z.keys.keys by_rolls lives.in_time lives.first a.state b.state c.state lives.ds_lives lives.dnskey_lives lives.answer_lives some_parent in
+    let references = unretired_things_meet w.zone.apex h.calls at x.behind y.behind z.behind a.keys.keys y.keys.keys z.keys.keys lives.by_rolls lives.in_time lives.first a.state b.state c.state lives.ds_lives lives.dnskey_lives lives.answer_lives some_parent in
     let answered : TellAnswer w (moment z.keys z.at) (asked_of q) answer.items = record { left = c.left; allowed = allowed; question = is; tells = answers } in
     let meets = keys_meet a.keys y.keys z.keys s.keys a.past b.past c.past references in
     says w rs (moment a.keys x.at) (moment y.keys y.at) (moment z.keys z.at) at t.0 dnskey.items answer.items (asked_of q) j zone t.2 a.shown (b.left, tells) answered meets keys_hold answer_holds hashes
@@ -234,8 +233,6 @@ bytes_through w rs h past s at ds dnskey answer q j zone by_rolls stand passed j
 pub record Led (w : World) (cs : List (ℕ × Call)) (keys : ZoneKeys) : Type 0 where
   pub left : AreLeft w keys
   pub reach : Reach (no_keys w.zone.apex) cs keys.keys
-  pub by_rolls : by_rolls_alone cs ≡ true
-  pub held : Held keys.keys
 
 pub record IsKnown (w : World) (ms : List Moment) (h : History) (past : List ZoneKeys) (s : Sofar) : Type 0 where
   pub led : Led w h.calls s.keys
@@ -248,15 +245,12 @@ pub record IsKnown (w : World) (ms : List Moment) (h : History) (past : List Zon
 led_more : (w : World) (cs : List (ℕ × Call)) (s t : ZoneKeys) (c : bindings.Call) (at : ℕ) (acts : List Action) → Led w cs s → apply (digest_at w.answers.digest w.zone.apex) c at s ≡ Ok (t, acts) → Led w (cs ++ (at, set_call c at) ∷ []) t
 led_more w cs s t c at acts h e =
     let digest = digest_at w.answers.digest w.zone.apex in
-    let on : on_state (set_call c at) at s.keys ≡ Ok (t.keys, acts) = set_so c at s.keys ∙ (accepted_did digest c at s t acts e).0 in
     record {
       left = record {
         bound = apply_binds digest c at s t acts h.left.bound e;
         own = own_of (apply digest c at s) t acts (apply_own digest c at s h.left.own) e;
       };
-      reach = reach_more (no_keys w.zone.apex) s.keys t.keys cs (at, set_call c at) acts h.reach on;
-      by_rolls = rolls_more cs (at, set_call c at) h.by_rolls (set_by_rolls c at);
-      held = held_more s.keys t.keys (set_call c at) at acts h.held (set_by_rolls c at) on;
+      reach = reach_more (no_keys w.zone.apex) s.keys t.keys cs (at, set_call c at) acts h.reach (accepted_did digest c at s t acts e).0;
     }
 
 placed_more : (w : World) (cs : List (ℕ × Call)) (s t : ZoneKeys) (c : bindings.Call) (at : ℕ) (acts : List Action) → Led w cs s → apply (digest_at w.answers.digest w.zone.apex) c at s ≡ Ok (t, acts)
@@ -266,7 +260,6 @@ placed_more w cs s t c at acts led e y x h = record {
   shown = h.shown;
   past = record {
     own = h.past.own;
-    held = h.past.held;
     stays = stay_on h.keys.bound s.bound t.bound h.past.stays (accepted_did (digest_at w.answers.digest w.zone.apex) c at s t acts e).1;
   };
   state = state_stays (no_keys w.zone.apex) s.keys cs ((at, set_call c at) ∷ []) y.behind h.keys.keys led.reach h.state;
@@ -276,7 +269,7 @@ placed_more w cs s t c at acts led e y x h = record {
 now_passed : (w : World) (cs : List (ℕ × Call)) (keys : ZoneKeys) → Led w cs keys → IsPassed w cs keys (length cs) keys
 now_passed w cs keys led = record {
   left = led.left;
-  past = record { own = led.left.own; held = led.held; stays = stay_here keys.bound };
+  past = record { own = led.left.own; stays = stay_here keys.bound };
   state = reached_at (no_keys w.zone.apex) keys.keys cs led.reach;
 }
 
@@ -286,7 +279,6 @@ still_passed w cs s t c at acts led e behind keys h = record {
   left = h.left;
   past = record {
     own = h.past.own;
-    held = h.past.held;
     stays = stay_on keys.bound s.bound t.bound h.past.stays (accepted_did (digest_at w.answers.digest w.zone.apex) c at s t acts e).1;
   };
   state = state_stays (no_keys w.zone.apex) s.keys cs ((at, set_call c at) ∷ []) behind keys.keys led.reach h.state;
@@ -329,7 +321,7 @@ shows w ms h past s t at x known is e = subst (IsKnown w (ms ++ moment s.keys at
   places = one_more (IsPlaced w h.calls s.keys) h.shown s.shown (record { behind = length h.calls; at = at }) x known.places (record {
     keys = s.keys;
     shown = (known.led.left, is);
-    past = record { own = known.led.left.own; held = known.led.held; stays = stay_here s.keys.bound };
+    past = record { own = known.led.left.own; stays = stay_here s.keys.bound };
     state = reached_at (no_keys w.zone.apex) s.keys.keys h.calls known.led.reach;
   });
 })
@@ -385,7 +377,7 @@ spoken w rs ms h past s t at (act.JudgeBytes ds dnskey answer q) (outcome.Messag
 spoken w rs ms h past s t at (act.JudgeBytes ds dnskey answer q) (outcome.Refused e) zone known is = (tt, tt)
 spoken w rs ms h past s t at (act.JudgeBytes ds dnskey answer q) (outcome.Judged j) zone known is = (
   bytes_at w rs ms s at ds dnskey answer q j zone known.moments is.0 is.1,
-  bytes_through w rs h past s at ds dnskey answer q j zone known.led.by_rolls known.places known.passed is.0 is.1,
+  bytes_through w rs h past s at ds dnskey answer q j zone known.places known.passed is.0 is.1,
 )
 spoken w rs ms h past s t at (act.JudgeBytes ds dnskey answer q) outcome.BadPlace zone known is = (tt, tt)
 spoken w rs ms h past s t at (act.Judge ds dnskey answer) (outcome.Key r) zone known is = (tt, tt)
@@ -393,7 +385,7 @@ spoken w rs ms h past s t at (act.Judge ds dnskey answer) (outcome.Ds place set)
 spoken w rs ms h past s t at (act.Judge ds dnskey answer) (outcome.Message place octets) zone known is = (tt, tt)
 spoken w rs ms h past s t at (act.Judge ds dnskey answer) (outcome.Refused e) zone known is = (tt, tt)
 spoken w rs ms h past s t at (act.Judge ds dnskey answer) (outcome.Judged j) zone known is =
-    (judged_at w rs ms s at ds dnskey answer j zone known.moments is.0, judged_through w rs h past s at ds dnskey answer j zone known.led.by_rolls known.places is.0)
+    (judged_at w rs ms s at ds dnskey answer j zone known.moments is.0, judged_through w rs h past s at ds dnskey answer j zone known.places is.0)
 spoken w rs ms h past s t at (act.Judge ds dnskey answer) outcome.BadPlace zone known is = (tt, tt)
 
 -- ---- all of them
@@ -412,8 +404,6 @@ none_led : (w : World) → Led w [] (bindings.no_keys w.zone.apex)
 none_led w = record {
   left = record { bound = tt; own = none_own w.zone.apex };
   reach = refl;
-  by_rolls = refl;
-  held = none_held w.zone.apex;
 }
 
 none_known : (w : World) → IsKnown w [] no_history [] (begin w.zone.apex)

@@ -1,27 +1,22 @@
 -- The calls that a zone's keys have behind them: the states that they made, and that a reference stays bound to its key.
-use Rattle.std.proofs.Common.{◌≡◌, ℕ, zero, suc, Bool, true, false, cond, not, ◌||◌, List, [], ◌∷◌, ◌++◌, length, refl, sym, ap, subst, ◌∙◌, slice_get}
-use Rattle.std.specs.Prelude.{Option, Some, None, Ok, Err}
-use Rattle.std.specs.List.{list_any}
+use Rattle.std.proofs.Common.{◌≡◌, ℕ, zero, suc, Bool, true, false, cond, not, List, [], ◌∷◌, ◌++◌, length, refl, sym, ap, subst, ◌∙◌, slice_get}
+use Rattle.std.specs.Prelude.{Option, Some, None, option_map, Ok, Err}
 use Rattle.std.specs.Ordering.{eq_by_cmp}
 use Rattle.std.specs.Cmp.Lexicographic.{nat_list_cmp_total}
 use Rattle.std.specs.FinMap.Entries.{find, find-put}
 use Rattle.std.proofs.lemmas.Bool.{not-false}
 use Rattle.definitions.specs.Dnskey.{Dnskey, same_key}
 use Rattle.keyset_rolls.specs.declared.rolls.Action.{Action}
-use Rattle.keyset_rolls.specs.declared.rolls.RollType.TheVariants.{KskRoll}
 use Rattle.keyset.specs.KeyState.{Answer, KeySetState, Reference, reference_cmp}
 use Rattle.keyset.specs.KeyRuns as runs
-use Rattle.keyset.specs.KeyRuns.{Call, is_accepted, left, sets_by_hand}
-use Rattle.keyset.specs.KeyRunLaws.{Reports, by_rolls_alone, no_reports, noted_if}
-use Rattle.keyset.proofs.KeyFinds.{is_same}
-use Rattle.keyset.proofs.KeyRunEnds.{call_next, none_hold}
-use Rattle.keyset.proofs.KeyRunSteps.{Holds}
+use Rattle.keyset.specs.KeyRuns.{Call}
+use Rattle.keyset.proofs.KeyFinds.{is_itself, is_same}
 use Rattle.keyset_life.specs.KeyLife.{accepted, states}
 use Rattle.keyset_life.proofs.Meets.{accepted_ok}
-use Rattle.answer_events.specs.declared.key_kind.KeyKind.TheVariants.{Ksk, Zsk, Csk}
 use Rattle.answer_publisher.specs.Bindings as bindings
-use Rattle.answer_publisher.specs.Bindings.{BoundKey, Outcome, ZoneKeys, apply, bind, dnskey_for, is_bound_away, lifted, on_state}
-use Rattle.answer_life.specs.ThroughRolls.{set_call}
+use Rattle.answer_publisher.specs.Bindings.{BoundKey, Outcome, ZoneKeys, apply, bind, bound_at, dnskey_at, dnskey_for, is_bound_away, lifted, on_state}
+use Rattle.answer_publisher.specs.KeyTags.{behind, left}
+use Rattle.answer_life.specs.StaysBound.{AddsBind, ReferencesStayBound}
 use Rattle.answer_judge.proofs.GivenKeys.{same_key-is}
 use Rattle.answer_publisher.proofs.BoundAll.{bound_by, by_digest}
 use Rattle.messages.proofs.Lists.{some_is}
@@ -83,6 +78,8 @@ pub accepted_did : (digest : Dnskey → Option (List ℕ)) (c : bindings.Call) (
 accepted_did digest (bindings.Add kind q private algorithm octets available) now s t acts e =
     let k = dnskey_for kind algorithm octets in
     did_add (bindings.Add kind q private algorithm octets available) now s t q k (digest k) (is_bound_away s.bound q k) acts refl e
+accepted_did digest (bindings.Set q setting) now s t acts e = did_roll (bindings.Set q setting) now s t acts e
+accepted_did digest (bindings.Delete q) now s t acts e = did_roll (bindings.Delete q) now s t acts e
 accepted_did digest (bindings.Start r olds news) now s t acts e = did_roll (bindings.Start r olds news) now s t acts e
 accepted_did digest (bindings.Report1 r ttl) now s t acts e = did_roll (bindings.Report1 r ttl) now s t acts e
 accepted_did digest (bindings.Wait1 r) now s t acts e = did_roll (bindings.Wait1 r) now s t acts e
@@ -90,37 +87,46 @@ accepted_did digest (bindings.Report2 r ttl) now s t acts e = did_roll (bindings
 accepted_did digest (bindings.Wait2 r) now s t acts e = did_roll (bindings.Wait2 r) now s t acts e
 accepted_did digest (bindings.Finish r) now s t acts e = did_roll (bindings.Finish r) now s t acts e
 
--- ---- the same call on the key set
+-- ---- what a reference is bound to
 
-pub set_so : (c : bindings.Call) (now : ℕ) (s : KeySetState) → runs.on_state (set_call c now) now s ≡ on_state c now s
-set_so (bindings.Add Ksk q private algorithm octets available) now s = refl
-set_so (bindings.Add Zsk q private algorithm octets available) now s = refl
-set_so (bindings.Add Csk q private algorithm octets available) now s = refl
-set_so (bindings.Start r olds news) now s = refl
-set_so (bindings.Report1 r ttl) now s = refl
-set_so (bindings.Wait1 r) now s = refl
-set_so (bindings.Report2 r ttl) now s = refl
-set_so (bindings.Wait2 r) now s = refl
-set_so (bindings.Finish r) now s = refl
+key_there : (o : Option BoundKey) (k : Dnskey) → option_map (λ (b : BoundKey). b.key) o ≡ Some k → (b : BoundKey) × (o ≡ Some b) × (b.key ≡ k)
+key_there None k e = cc
+key_there (Some b) k e = (b, refl, cc)
 
-pub set_by_rolls : (c : bindings.Call) (now : ℕ) → sets_by_hand (set_call c now) ≡ false
-set_by_rolls (bindings.Add kind q private algorithm octets available) now = refl
-set_by_rolls (bindings.Start r olds news) now = refl
-set_by_rolls (bindings.Report1 r ttl) now = refl
-set_by_rolls (bindings.Wait1 r) now = refl
-set_by_rolls (bindings.Report2 r ttl) now = refl
-set_by_rolls (bindings.Wait2 r) now = refl
-set_by_rolls (bindings.Finish r) now = refl
+still_at : (es fs : List (Reference × BoundKey)) (q : Reference) (k : Dnskey) → StayBound es fs → dnskey_at es q ≡ Some k → dnskey_at fs q ≡ Some k
+still_at es fs q k h e =
+    let b = key_there (bound_at es q) k e in
+    let c = h q b.0 b.1 in
+    ap (λ (o : Option BoundKey). option_map (λ (b : BoundKey). b.key) o) c.1 ∙ ap (λ k. Some k) (c.2 ∙ b.2)
 
-none_of : (a b : Bool) → not (a || b) ≡ true → (a ≡ false) × (not b ≡ true)
-none_of true b h = cc
-none_of false b h = (refl, h)
+left_stays : (digest : Dnskey → Option (List ℕ)) (c : bindings.Call) (now : ℕ) (s : ZoneKeys) (o : Outcome) → apply digest c now s ≡ o → StayBound s.bound (left s o).bound
+left_stays digest c now s (Ok r) e = (accepted_did digest c now s r.0 r.1 e).1
+left_stays digest c now s (Err f) e = stay_here s.bound
 
-pub rolls_more : (cs : List (ℕ × Call)) (c : ℕ × Call) → by_rolls_alone cs ≡ true → sets_by_hand c.1 ≡ false → by_rolls_alone (cs ++ c ∷ []) ≡ true
-rolls_more [] c h e = ap (λ b. not (b || false)) e
-rolls_more (d ∷ cs) c h e =
-    let w = none_of (sets_by_hand d.1) (list_any (λ (c : ℕ × Call). sets_by_hand c.1) cs) h in
-    ap (λ b. not (b || list_any (λ (c : ℕ × Call). sets_by_hand c.1) (cs ++ c ∷ []))) w.0 ∙ rolls_more cs c w.1 e
+behind_stays : (digest : Dnskey → Option (List ℕ)) (s : ZoneKeys) (cs : List (ℕ × bindings.Call)) → StayBound s.bound (behind digest s cs).bound
+behind_stays digest s [] = stay_here s.bound
+behind_stays digest s (c ∷ cs) =
+    let t : ZoneKeys = left s (apply digest c.1 c.0 s) in
+    stay_on s.bound t.bound (behind digest t cs).bound (left_stays digest c.1 c.0 s (apply digest c.1 c.0 s) refl) (behind_stays digest t cs)
+
+pub stay_bound : ReferencesStayBound
+stay_bound digest s cs q k e = still_at s.bound (behind digest s cs).bound q k (behind_stays digest s cs) e
+
+-- what an add binds
+put_here : (es : List (Reference × BoundKey)) (q : Reference) (b : BoundKey) → dnskey_at (bind q b es) q ≡ Some b.key
+put_here es q b = ap (λ (o : Option BoundKey). option_map (λ (b : BoundKey). b.key) o) (find-put reference_cmp nat_list_cmp_total q q b es ∙ ap (λ t. cond t (Some b) (find reference_cmp q es)) (is_itself q))
+
+add_binds : (s t : ZoneKeys) (q : Reference) (k : Dnskey) (a : Answer) (o : Option (List ℕ)) (away : Bool) (acts : List Action) → cond away (Err bindings.ReferenceBound) (by_digest s q k a o) ≡ Ok (t, acts) → dnskey_at t.bound q ≡ Some k
+add_binds s t q k a o true acts e = cc
+add_binds s t q k a None false acts e = cc
+add_binds s t q k a (Some d) false acts e =
+    let b : BoundKey = record { key = k; digest = d } in
+    ap (λ es. dnskey_at es q) (bound_by (bind q b s.bound) a t acts e) ∙ put_here s.bound q b
+
+pub adds_bind : AddsBind
+adds_bind digest s t kind q private algorithm octets available now acts e =
+    let k = dnskey_for kind algorithm octets in
+    add_binds s t q k (on_state (bindings.Add kind q private algorithm octets available) now s.keys) (digest k) (is_bound_away s.bound q k) acts e
 
 -- ---- the states
 
@@ -146,16 +152,3 @@ state_stays s t (c ∷ cs) ds zero x h f = f
 state_stays s t (c ∷ cs) ds (suc i) x h f =
     ap (λ ts. slice_get (states s ts) (suc i)) (accepted_ok s c (cs ++ ds) h.0 h.1)
     ∙ state_stays h.0.0 t cs ds i x h.2 (ap (λ ts. slice_get (states s ts) (suc i)) (sym (accepted_ok s c cs h.0 h.1)) ∙ f)
-
--- ---- what holds of each state
-
-abbrev pub Held : KeySetState → Type 0
-Held s = (p : Reports) × Holds KskRoll s p
-
-pub none_held : (name : List (List ℕ)) → Held (runs.no_keys name)
-none_held name = (no_reports, none_hold KskRoll name)
-
-pub held_more : (s t : KeySetState) (c : Call) (now : ℕ) (acts : List Action) → Held s → sets_by_hand c ≡ false → runs.on_state c now s ≡ Ok (t, acts) → Held t
-held_more s t c now acts h by_rolls e =
-    let a : Answer = runs.on_state c now s in
-    (noted_if (is_accepted a) KskRoll c now h.0, subst (λ x. Holds KskRoll x (noted_if (is_accepted a) KskRoll c now h.0)) (ap (left s) e) (call_next KskRoll h.0 s h.1 c now by_rolls))

@@ -8,7 +8,7 @@ use Rattle.keyset.specs.KeyState.{Reference}
 use Rattle.answer_judge.specs.Meeting.{IsZoneKey}
 use Rattle.keyset_rolls.specs.declared.rolls.Action.{Action}
 use Rattle.answer_events.specs.declared.key_kind.KeyKind.{KeyKind}
-use Rattle.answer_events.specs.declared.key_kind.KeyKind.TheVariants.{Ksk, Zsk, Csk}
+use Rattle.answer_events.specs.declared.key_kind.KeyKind.TheVariants.{Ksk, Zsk, Csk, Include}
 use Rattle.answer_publisher.specs.declared.keys.Publication.{Publication}
 
 -- a zone's key beside its digest
@@ -24,6 +24,7 @@ zone_key : (kind : KeyKind) (algorithm : ℕ) (octets : List ℕ) → IsZoneKey 
 zone_key Ksk algorithm octets = record { flags = lit< tt; usable = refl }
 zone_key Zsk algorithm octets = record { flags = lit< tt; usable = refl }
 zone_key Csk algorithm octets = record { flags = lit< tt; usable = refl }
+zone_key Include algorithm octets = record { flags = lit< tt; usable = refl }
 
 -- a call keeps it
 pub apply_binds : (digest : Dnskey → Option (List ℕ)) (c : Call) (now : ℕ) (s t : ZoneKeys) (acts : List Action) → AreBound digest s.bound → apply digest c now s ≡ Ok (t, acts) → AreBound digest t.bound

@@ -20,7 +20,7 @@ use Rattle.answer_publisher.specs.Bindings.{BoundKey, ZoneKeys, bound_at, dnskey
 use Rattle.definitions.specs.Sorting.{sort_by}
 use Rattle.answer_judge.specs.Meeting.{Meet}
 use Rattle.answer_judge.proofs.GivenLists.{contained_has}
-use Rattle.answer_life.proofs.KeyHistory.{Held, StayBound}
+use Rattle.answer_life.proofs.KeyHistory.{StayBound}
 use Rattle.answer_publisher.proofs.KeyTags.{HasOwnTags}
 use Rattle.messages.proofs.Lists.{Has, found, some_is}
 
@@ -71,9 +71,9 @@ entry_has t q b (e ∷ es) f h = at (eq_by_cmp reference_cmp q e.0) refl f (λ g
 abbrev IsPublishedAs : ZoneKeys → Publication → Reference → Type 0
 IsPublishedAs s p q = (b : BoundKey) × (bound_at s.bound q ≡ Some b) × Has (dnskeys (published s p)) b.key
 
-published_as : (s : ZoneKeys) (p : Publication) (q : Reference) → HasOwnTags s → Held s.keys → Has (references_where (has_role p) s.keys) q → IsPublishedAs s p q
-published_as s p q own held h =
-    let f = named_found (has_role p) s.keys.keys q held.1.sorted h in
+published_as : (s : ZoneKeys) (p : Publication) (q : Reference) → HasOwnTags s → Has (references_where (has_role p) s.keys) q → IsPublishedAs s p q
+published_as s p q own h =
+    let f = named_found (has_role p) s.keys.keys q own.rises h in
     let b = own.tied q f.0 f.1 in
     let role : is_published s.keys p q ≡ true = ap (λ (o : Option Key). elim o [ None ↦ false | Some k ↦ has_role p k.roles ]) f.1 ∙ f.2 in
     (b.0, b.1, entry_has (is_published s.keys p) q b.0 s.bound b.1 role)
@@ -83,7 +83,6 @@ published_as s p q own held h =
 -- what a state's keys are, whose references stay bound up to now
 pub record IsPast (s now : ZoneKeys) : Type 0 where
   pub own : HasOwnTags s
-  pub held : Held s.keys
   pub stays : StayBound s.bound now.bound
 
 -- a reference has one key in two states
@@ -107,11 +106,11 @@ keys_meet x y z now px py pz e =
     let anchor = found (λ q. listed (present y.keys) q && listed (keysigners y.keys) q) (ds x.keys) two.0 in
     let both = and_parts (listed (present y.keys) anchor.0) (listed (keysigners y.keys) anchor.0) anchor.2 in
     let signer = found (λ q. listed (zonesigners z.keys) q) (present y.keys) two.1 in
-    let parent = published_as x publication.AtParent anchor.0 px.own px.held anchor.1 in
-    let there = published_as y publication.Present anchor.0 py.own py.held (listed_has (present y.keys) anchor.0 both.0) in
-    let keys = published_as y publication.SignsKeys anchor.0 py.own py.held (listed_has (keysigners y.keys) anchor.0 both.1) in
-    let member = published_as y publication.Present signer.0 py.own py.held signer.1 in
-    let zone = published_as z publication.SignsZone signer.0 pz.own pz.held (listed_has (zonesigners z.keys) signer.0 signer.2) in
+    let parent = published_as x publication.AtParent anchor.0 px.own anchor.1 in
+    let there = published_as y publication.Present anchor.0 py.own (listed_has (present y.keys) anchor.0 both.0) in
+    let keys = published_as y publication.SignsKeys anchor.0 py.own (listed_has (keysigners y.keys) anchor.0 both.1) in
+    let member = published_as y publication.Present signer.0 py.own signer.1 in
+    let zone = published_as z publication.SignsZone signer.0 pz.own (listed_has (zonesigners z.keys) signer.0 signer.2) in
     record {
       anchor = there.0.key;
       at_parent = contained_has (dnskeys (published x publication.AtParent)) there.0.key (shared x y now publication.AtParent publication.Present anchor.0 px py parent there);

@@ -1,3 +1,4 @@
+pub mod StaysBound
 pub mod Simulating
 pub mod OneState
 pub mod ThroughRolls

@@ -1,7 +1,7 @@
 -- What a judgement says of things that were given in three states of the keys.
 use Rattle.std.specs.Prelude.{◌≡◌, ℕ, Bool, true, false, List, [], ◌∷◌, ◌++◌, length, Some, Ok, slice_get}
 use Rattle.definitions.specs.Name.{Name}
-use Rattle.definitions.specs.Dnskey.{Ds, key_tag}
+use Rattle.definitions.specs.Dnskey.{Ds}
 use Rattle.definitions.specs.Zone.{verdict}
 use Rattle.definitions.specs.ZoneChain.{optout_of}
 use Rattle.messages.specs.HandedRr.{HandedRr}
@@ -14,10 +14,9 @@ use Rattle.answer_events.specs.declared.event.Act.{Act}
 use Rattle.answer_events.specs.declared.event.Act.TheVariants as act
 use Rattle.answer_life.specs.declared.outcome.Outcome.{Outcome}
 use Rattle.answer_life.specs.declared.outcome.Outcome.TheVariants as outcome
-use Rattle.answer_events.specs.declared.key_kind.KeyKind.{KeyKind}
-use Rattle.answer_events.specs.declared.key_kind.KeyKind.TheVariants as kind
 use Rattle.keyset.specs.KeyRuns as runs
-use Rattle.keyset.specs.KeyRuns.{Call, Kind, OfKsk, OfZsk, OfCsk}
+use Rattle.keyset.specs.KeyRuns.{Call}
+use Rattle.keyset.specs.KeyRunLaws.{by_rolls_alone}
 use Rattle.keyset_life.specs.KeyLife.{DnskeyAnswer, DsSet, Step, Thing, ZoneAnswer, accepted, retired}
 use Rattle.keyset_life.specs.Meeting.{algorithm_first, by_then}
 use Rattle.keyset_life.specs.Sides.{is_empty}
@@ -27,28 +26,10 @@ use Rattle.answer_judge.specs.Judged.{AnswersAs}
 use Rattle.answer_judge.specs.Judging.{Says, answer_of}
 use Rattle.answer_judge.specs.Meeting.{holds}
 use Rattle.answer_publisher.specs.Bindings as bindings
-use Rattle.answer_publisher.specs.Bindings.{ZoneKeys, dnskey_for}
+use Rattle.answer_publisher.specs.Bindings.{ZoneKeys, set_call}
 use Rattle.answer_scheme.specs.Moments.{second_of}
 use Rattle.answer_life.specs.Simulating.{OfParent, OfZone, Simulates, Sofar, begin}
 use Rattle.answer_publisher.specs.World.{TellsAnswer, TellsKeys, World}
-
--- ---- a call on a zone's keys, as one on its key set
-
-abbrev pub kind_in : KeyKind → Kind
-kind_in kind.Ksk = OfKsk
-kind_in kind.Zsk = OfZsk
-kind_in kind.Csk = OfCsk
-
--- an added key has the tag of its DNSKEY, and the call's moment as its creation
-abbrev pub set_call : bindings.Call → ℕ → Call
-set_call (bindings.Add kind q private algorithm octets available) at =
-    runs.Add q (record { kind = kind_in kind; private = private; algorithm = algorithm; tag = key_tag (dnskey_for kind algorithm octets); created = at; available = available })
-set_call (bindings.Start r olds news) at = runs.Start r olds news
-set_call (bindings.Report1 r ttl) at = runs.Report1 r ttl
-set_call (bindings.Wait1 r) at = runs.Wait1 r
-set_call (bindings.Report2 r ttl) at = runs.Report2 r ttl
-set_call (bindings.Wait2 r) at = runs.Wait2 r
-set_call (bindings.Finish r) at = runs.Finish r
 
 -- ---- the events so far
 
@@ -91,9 +72,11 @@ steps apex cs = accepted (runs.no_keys apex) cs
 abbrev pub is_retired : Thing → Name → List (ℕ × Call) → ℕ → ℕ → Bool
 is_retired thing apex cs behind moment = retired thing (runs.no_keys apex) (steps apex cs) behind moment
 
--- A DS set, a DNSKEY answer and a zone answer, each shown behind so many of these calls, may all be in use at a moment: none of
--- the three is retired. No call comes later than the moment, and the zone's first DS set came by a roll of its algorithm.
+-- A DS set, a DNSKEY answer and a zone answer, each shown behind so many of these accepted calls, may all be in use at a
+-- moment: none of the three is retired. No call set a flag or a stamp by hand or comes later than the moment, and the zone's
+-- first DS set came by a roll of its algorithm.
 pub record Unretired (apex : Name) (cs : List (ℕ × Call)) (moment ds dnskey answer : ℕ) : Type 0 where
+  pub by_rolls : by_rolls_alone cs ≡ true
   pub in_time : by_then moment cs ≡ true
   pub first : algorithm_first (steps apex cs) ≡ true
   pub ds_lives : is_retired DsSet apex cs ds moment ≡ false

@@ -1,6 +1,13 @@
 //! Laws of a zone's key life.
 ghost use Rattle.answer_life.specs.Simulations.{RunsAreSimulations};
+ghost use Rattle.answer_life.specs.StaysBound.{AddsBind, ReferencesStayBound};
 ghost use Rattle.answer_life.specs.ThroughRollsRows.{RollByHand};
+
+/// An accepted add binds its reference to its key, for good: whatever calls come behind, also once the key is deleted.
+pub fn references_stay_bound()
+    ensures bind { AddsBind }
+    ensures stay { ReferencesStayBound }
+{}
 
 /// Whatever outcomes the definitions of a simulation allow of events over an accepted zone, event by event, its judgements
 /// say the zone's verdicts: of things that one state of the keys showed, where its keys meet, and of things that any three

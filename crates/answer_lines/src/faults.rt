@@ -106,12 +106,13 @@ fn message_errors() -> [MessageError; 3] {
     ]
 }
 
-/// The flags of a key signing key, of a zone signing key and of a key that signs both.
+/// The flags of a key signing key, of a zone signing key, of a key that signs both and of one of another owner.
 pub fn flags(alloc: Global) -> Option<String> {
-    let (ksk, zsk, csk) = (
+    let (ksk, zsk, csk, include) = (
         KeyKind::Ksk.flags(),
         KeyKind::Zsk.flags(),
         KeyKind::Csk.flags(),
+        KeyKind::Include.flags(),
     );
-    format!(in alloc; "{ksk} {zsk} {csk}").ok()
+    format!(in alloc; "{ksk} {zsk} {csk} {include}").ok()
 }

@@ -11,6 +11,9 @@
 //! - `ksk KEY PRIVATE OCTETS`, `zsk KEY PRIVATE OCTETS`, `start ROLL OLD NEW MOMENT`, `report1 ROLL TTL MOMENT`,
 //!   `wait1 ROLL MOMENT`, `report2 ROLL TTL MOMENT`, `wait2 ROLL MOMENT`, `done ROLL`: calls on its keys; `owed ROLL`: the
 //!   actions of its last step; `key KEY`: whether a key is there; `apex`: whose keys they are.
+//! - `include KEY OCTETS AVAILABLE`, `set-present KEY VALUE MOMENT`, `set-decoupled KEY VALUE`, `set-signer KEY VALUE`,
+//!   `set-at-parent KEY VALUE`, `set-visible KEY MOMENT`, `set-ds-visible KEY MOMENT`, `set-rrsig-visible KEY MOMENT`,
+//!   `set-stale KEY`, `delete KEY`: further calls, values `yes` or `no`; `bound KEY`: what a key is bound to.
 //! - `ds`, `dnskey MOMENT`, `answer NAME TYPE MOMENT`: what is handed out; both answers are held, and are judged.
 //! - `keys OCTETS`, `message OCTETS`: holds these messages in their place.
 //! - `judge APEX DS NAME TYPE MOMENT`: what is said of the messages that are held, beside a list of DS records, each a tag
@@ -31,6 +34,7 @@ mod given;
 mod judged;
 mod scheme;
 mod sessions;
+mod settings;
 mod shown;
 mod words;
 mod zone;
@@ -71,6 +75,16 @@ fn on_keys(alloc: Global, desk: &mut Desk, name: &str, words: &[&str]) -> Option
         "report1" | "report2" => calls::report(alloc, publisher, name, words),
         "wait1" | "wait2" => calls::wait(alloc, publisher, name, words),
         "done" => calls::end(alloc, publisher, words),
+        "include" => settings::include(alloc, publisher, words),
+        "set-present" => settings::set_present(alloc, publisher, words),
+        "set-decoupled" | "set-signer" | "set-at-parent" => {
+            settings::set_flag(alloc, publisher, name, words)
+        }
+        "set-visible" | "set-ds-visible" | "set-rrsig-visible" => {
+            settings::set_stamp(alloc, publisher, name, words)
+        }
+        "set-stale" | "delete" => settings::leave(alloc, publisher, name, words),
+        "bound" => settings::bound(alloc, publisher, words),
         "owed" => calls::still_owed(alloc, publisher, words),
         "key" => calls::key(alloc, publisher, words),
         "ds" => shown::ds_set(alloc, publisher),

@@ -11,20 +11,25 @@ use Rattle.answer_publisher.specs.declared.fault.KeyFault.{KeyFault}
 use Rattle.answer_publisher.specs.declared.fault.KeyFault.TheVariants as fault
 use Rattle.keyset_rolls.specs.declared.rolls.Action.{Action}
 use Rattle.answer_publisher.specs.KeyCalls.{Fails, Gives, IsAccepted, IsFree, IsNamed, RanOut, RanOutCopying, RefusesAhead, fault_of, fault_from}
-use Rattle.keyset.specs.KeyState.{KeySetState, Reference, Refusal, Answer, add, new_key}
-use Rattle.answer_publisher.specs.Bindings.{ZoneKeys, BoundKey, Call, Fault, Outcome, ReferenceBound, DigestFailed, Add, Start, Report1, Wait1, Report2, Wait2, Finish, apply, lifted, bind, roles_of, dnskey_for, is_bound_away}
+use Rattle.keyset.specs.KeyState.{KeySetState, Reference, Refusal, Answer}
+use Rattle.keyset.specs.KeyRuns as runs
+use Rattle.answer_publisher.specs.Bindings.{ZoneKeys, BoundKey, Call, Fault, Outcome, ReferenceBound, DigestFailed, Add, Set, Delete, Start, Report1, Wait1, Report2, Wait2, Finish, apply, lifted, bind, dnskey_for, is_bound_away, new_in_set}
 
 pub lifted_ok : (b d : List (Reference × BoundKey)) (a : Answer) (k : KeySetState) → a ≡ Ok (k, []) → b ≡ d → lifted b a ≡ Ok (record { keys = k; bound = d }, [])
 lifted_ok b d a k e f i = lifted (f i) (e i)
 
+-- an add to the key set, by a tag
+abbrev pub taking : KeyKind → Reference → Option Reference → ℕ → ℕ → ℕ → Bool → KeySetState → Answer
+taking kind q private algorithm tag now available s = runs.on_state (runs.Add q (new_in_set kind private algorithm tag now available)) now s
+
 -- an add of a key that isn't bound away and has a digest
 pub applied : (digests : Dnskey → Option (List ℕ)) (kind : KeyKind) (q : Reference) (private : Option Reference) (algorithm : ℕ) (octets : List ℕ) (available : Bool) (now : ℕ) (s : ZoneKeys) (k : Dnskey) (d : List ℕ)
     → k ≡ dnskey_for kind algorithm octets → is_bound_away s.bound q k ≡ false → digests k ≡ Some d
-    → apply digests (Add kind q private algorithm octets available) now s ≡ lifted (bind q (record { key = k; digest = d }) s.bound) (add q (new_key private (roles_of kind available) algorithm (key_tag k) now) s.keys)
+    → apply digests (Add kind q private algorithm octets available) now s ≡ lifted (bind q (record { key = k; digest = d }) s.bound) (taking kind q private algorithm (key_tag k) now available s.keys)
 applied digests kind q private algorithm octets available now s k d same free digest =
-    let P : Dnskey → Type 0 = λ k. is_bound_away s.bound q k ≡ false → digests k ≡ Some d → apply digests (Add kind q private algorithm octets available) now s ≡ lifted (bind q (record { key = k; digest = d }) s.bound) (add q (new_key private (roles_of kind available) algorithm (key_tag k) now) s.keys) in
+    let P : Dnskey → Type 0 = λ k. is_bound_away s.bound q k ≡ false → digests k ≡ Some d → apply digests (Add kind q private algorithm octets available) now s ≡ lifted (bind q (record { key = k; digest = d }) s.bound) (taking kind q private algorithm (key_tag k) now available s.keys) in
     let kk : Dnskey = dnskey_for kind algorithm octets in
-    let there : P kk = λ f g. (λ i. cond (f i) (Err ReferenceBound) (elim (g i) [ None ↦ Err DigestFailed | Some d ↦ lifted (bind q (record { key = kk; digest = d }) s.bound) (add q (new_key private (roles_of kind available) algorithm (key_tag kk) now) s.keys) ])) in
+    let there : P kk = λ f g. (λ i. cond (f i) (Err ReferenceBound) (elim (g i) [ None ↦ Err DigestFailed | Some d ↦ lifted (bind q (record { key = kk; digest = d }) s.bound) (taking kind q private algorithm (key_tag kk) now available s.keys) ])) in
     subst P (sym same) there free digest
 
 -- what the key set accepts, is accepted
@@ -63,7 +68,7 @@ pub free_applied : (digests : Dnskey → Option (List ℕ)) (kind : KeyKind) (q 
     → is_bound_away s.bound q (dnskey_for kind algorithm octets) ≡ false → IsFree (apply digests (Add kind q private algorithm octets available) now s)
 free_applied digests kind q private algorithm octets available now s free =
     let k : Dnskey = dnskey_for kind algorithm octets in
-    let a : Answer = add q (new_key private (roles_of kind available) algorithm (key_tag k) now) s.keys in
+    let a : Answer = taking kind q private algorithm (key_tag k) now available s.keys in
     let by : Option (List ℕ) → Outcome = λ o. elim o [ None ↦ Err DigestFailed | Some d ↦ lifted (bind q (record { key = k; digest = d }) s.bound) a ] in
     let there : IsFree (by (digests k)) = elim (digests k) as (λ o. IsFree (by o)) [ None ↦ tt | Some d ↦ free_lifted (bind q (record { key = k; digest = d }) s.bound) a ] in
     subst (λ (away : Bool). IsFree (cond away (Err ReferenceBound) (by (digests k)))) (sym free) there
@@ -82,7 +87,7 @@ pub refused_ahead : {X : Type 0} (view : X → List Action) (digests : Dnskey �
     → RefusesAhead (is_bound_away s.bound q (dnskey_for kind algorithm octets)) f → Gives IsFree view s s (Err f) (apply digests (Add kind q private algorithm octets available) now s)
 refused_ahead view digests kind q private algorithm octets available now s fault.ReferenceBound h =
     let k : Dnskey = dnskey_for kind algorithm octets in
-    let a : Answer = add q (new_key private (roles_of kind available) algorithm (key_tag k) now) s.keys in
+    let a : Answer = taking kind q private algorithm (key_tag k) now available s.keys in
     let by : Option (List ℕ) → Outcome = λ o. elim o [ None ↦ Err DigestFailed | Some d ↦ lifted (bind q (record { key = k; digest = d }) s.bound) a ] in
     (refl, tt, ap (λ (away : Bool). cond away (Err ReferenceBound) (by (digests k))) h)
 refused_ahead view digests kind q private algorithm octets available now s fault.Memory h =
@@ -93,6 +98,8 @@ refused_ahead view digests kind q private algorithm octets available now s (faul
 -- where arguments are copied before the call, no more is certain than without that
 ran_out_copying : (c : Call) (o : Outcome) → RanOut c o → RanOutCopying c o
 ran_out_copying (Add kind q private algorithm octets available) o h = h
+ran_out_copying (Set q setting) o h = h
+ran_out_copying (Delete q) o h = h
 ran_out_copying (Start r olds news) o h = tt
 ran_out_copying (Report1 r ttl) o h = h
 ran_out_copying (Wait1 r) o h = h

@@ -7,7 +7,7 @@ use Rattle.definitions.specs.Dnskey.{Dnskey}
 use Rattle.keyset.specs.KeyState.{Answer, Reference, reference_cmp}
 use Rattle.keyset_rolls.specs.declared.rolls.Action.{Action}
 use Rattle.answer_events.specs.declared.key_kind.KeyKind.{KeyKind}
-use Rattle.answer_publisher.specs.Bindings.{Add, BoundKey, Call, Finish, Outcome, Report1, Report2, Start, Wait1, Wait2, ZoneKeys, apply, dnskey_for, is_bound_away, lifted, no_keys, on_state}
+use Rattle.answer_publisher.specs.Bindings.{Add, BoundKey, Call, Delete, Finish, Outcome, Report1, Report2, Set, Start, Wait1, Wait2, ZoneKeys, apply, dnskey_for, is_bound_away, lifted, no_keys, on_state}
 use Rattle.answer_publisher.specs.Bindings as bindings
 use Rattle.answer_publisher.specs.KeyTags.{behind, left}
 
@@ -53,6 +53,8 @@ module _ (digest : Dnskey → Option (List ℕ)) (P : BoundKey → Type 0) (bind
   apply_all (Add kind q private algorithm octets available) now s t acts h e =
       let k = dnskey_for kind algorithm octets in
       added s t q k (on_state (Add kind q private algorithm octets available) now s.keys) (digest k) (is_bound_away s.bound q k) acts (binds kind algorithm octets) h e
+  apply_all (Set q setting) now s t acts h e = rolled s t (on_state (Set q setting) now s.keys) acts h e
+  apply_all (Delete q) now s t acts h e = rolled s t (on_state (Delete q) now s.keys) acts h e
   apply_all (Start r olds news) now s t acts h e = rolled s t (on_state (Start r olds news) now s.keys) acts h e
   apply_all (Report1 r ttl) now s t acts h e = rolled s t (on_state (Report1 r ttl) now s.keys) acts h e
   apply_all (Wait1 r) now s t acts h e = rolled s t (on_state (Wait1 r) now s.keys) acts h e

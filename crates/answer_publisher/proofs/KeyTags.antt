@@ -11,10 +11,12 @@ use Rattle.std.proofs.lemmas.Bool.{eq-eqb, or_parts, false≢true}
 use Rattle.std.proofs.lemmas.Cmp.{tied_itself}
 use Rattle.definitions.specs.Dnskey.{Dnskey, key_tag}
 use Rattle.keyset_rolls.specs.declared.rolls.Action.{Action}
-use Rattle.answer_publisher.specs.Bindings.{Add, BoundKey, Call, Finish, Outcome, Report1, Report2, Start, Wait1, Wait2, ZoneKeys, apply, bound_at, dnskey_for, dnskeys, has_role, is_bound_away, is_published, lifted, on_state, published, roles_of}
+use Rattle.answer_publisher.specs.Bindings.{Add, BoundKey, Call, Delete, Finish, Outcome, Report1, Report2, Set, Setting, Start, Wait1, Wait2, ZoneKeys, apply, bound_at, dnskey_for, dnskeys, has_role, is_bound_away, is_published, lifted, on_state, private_for, published, roles_of, set_call, setting_call}
 use Rattle.answer_publisher.specs.Bindings as bindings
+use Rattle.answer_events.specs.Calls.{AtParent, Decoupled, DsVisible, Present, RrsigVisible, Signer, Stale, Visible}
 use Rattle.keyset.specs.KeyState.{Answer, DuplicateKeyTag, Key, KeyExists, KeySetState, Reference, add, added, has_tag, key_of, new_key, reference_cmp}
-use Rattle.keyset.proofs.KeyTagsCalls.{LeavesRising, LeavesTags, RisesFrom, TagsFrom, done_rises, done_tags, report1_rises, report1_tags, report2_rises, report2_tags, start_rises, start_tags, wait1_rises, wait1_tags, wait2_rises, wait2_tags}
+use Rattle.keyset.proofs.KeyRunTags.{adds, call_rises, call_tags}
+use Rattle.keyset.proofs.KeyTagsCalls.{LeavesRising, LeavesTags, RisesFrom, TagsFrom}
 use Rattle.messages.proofs.Lists.{some_is}
 use Rattle.answer_publisher.proofs.BoundAll.{by_digest}
 
@@ -57,6 +59,19 @@ LeavesOwn (Err e) = Unit {0}
 rolled : (s : ZoneKeys) (a : Answer) → HasOwnTags s → LeavesTags s.keys.keys a → LeavesRising s.keys.keys a → LeavesOwn (lifted s.bound a)
 rolled s (Ok x) h from up = kept s x.0 h from up
 rolled s (Err e) h from up = tt
+
+setting_adds : (q : Reference) (setting : Setting) → adds (setting_call q setting) ≡ false
+setting_adds q (Decoupled b) = refl
+setting_adds q (Present b) = refl
+setting_adds q (Signer b) = refl
+setting_adds q (AtParent b) = refl
+setting_adds q (Visible time) = refl
+setting_adds q (DsVisible time) = refl
+setting_adds q (RrsigVisible time) = refl
+setting_adds q Stale = refl
+
+no_add : (c : Call) (now : ℕ) (s : ZoneKeys) → adds (set_call c now) ≡ false → HasOwnTags s → LeavesOwn (lifted s.bound (on_state c now s.keys))
+no_add c now s none h = rolled s (on_state c now s.keys) h (call_tags (set_call c now) now s.keys none) (call_rises (set_call c now) now s.keys)
 
 -- ---- adds
 
@@ -110,13 +125,15 @@ bound_in s q k n (Some d) false same h = put_in s q n (record { key = k; digest 
 pub apply_own : (digest : Dnskey → Option (List ℕ)) (c : Call) (now : ℕ) (s : ZoneKeys) → HasOwnTags s → LeavesOwn (apply digest c now s)
 apply_own digest (Add kind q private algorithm octets available) now s h =
     let k = dnskey_for kind algorithm octets in
-    bound_in s q k (new_key private (roles_of kind available) algorithm (key_tag k) now) (digest k) (is_bound_away s.bound q k) refl h
-apply_own digest (Start r olds news) now s h = rolled s (on_state (Start r olds news) now s.keys) h (start_tags r olds news now s.keys) (start_rises r olds news now s.keys)
-apply_own digest (Report1 r ttl) now s h = rolled s (on_state (Report1 r ttl) now s.keys) h (report1_tags r ttl now s.keys) (report1_rises r ttl now s.keys)
-apply_own digest (Wait1 r) now s h = rolled s (on_state (Wait1 r) now s.keys) h (wait1_tags r now s.keys) (wait1_rises r now s.keys)
-apply_own digest (Report2 r ttl) now s h = rolled s (on_state (Report2 r ttl) now s.keys) h (report2_tags r ttl now s.keys) (report2_rises r ttl now s.keys)
-apply_own digest (Wait2 r) now s h = rolled s (on_state (Wait2 r) now s.keys) h (wait2_tags r now s.keys) (wait2_rises r now s.keys)
-apply_own digest (Finish r) now s h = rolled s (on_state (Finish r) now s.keys) h (done_tags r s.keys) (done_rises r s.keys)
+    bound_in s q k (new_key (private_for kind private) (roles_of kind available) algorithm (key_tag k) now) (digest k) (is_bound_away s.bound q k) refl h
+apply_own digest (Set q setting) now s h = no_add (Set q setting) now s (setting_adds q setting) h
+apply_own digest (Delete q) now s h = no_add (Delete q) now s refl h
+apply_own digest (Start r olds news) now s h = no_add (Start r olds news) now s refl h
+apply_own digest (Report1 r ttl) now s h = no_add (Report1 r ttl) now s refl h
+apply_own digest (Wait1 r) now s h = no_add (Wait1 r) now s refl h
+apply_own digest (Report2 r ttl) now s h = no_add (Report2 r ttl) now s refl h
+apply_own digest (Wait2 r) now s h = no_add (Wait2 r) now s refl h
+apply_own digest (Finish r) now s h = no_add (Finish r) now s refl h
 
 -- an accepted call
 pub own_of : (o : Outcome) (t : ZoneKeys) (acts : List Action) → LeavesOwn o → o ≡ Ok (t, acts) → HasOwnTags t

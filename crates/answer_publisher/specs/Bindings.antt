@@ -1,5 +1,5 @@
 -- Keys together with the DNSKEYs that their references are bound to, call by call.
-use Rattle.std.specs.Prelude.{◌≡◌, ℕ, Bool, false, not, List, [], map, filter, Option, Some, None, Result, Ok, Err, if◌then◌else◌}
+use Rattle.std.specs.Prelude.{◌≡◌, ℕ, Bool, false, not, List, [], map, filter, Option, Some, None, option_map, Result, Ok, Err, if◌then◌else◌}
 use Rattle.std.specs.declared.cmp.Ordering.{Ordering}
 use Rattle.std.specs.Ordering.{nat_cmp}
 use Rattle.std.specs.Cmp.Lexicographic.{slice_cmp}
@@ -10,14 +10,16 @@ use Rattle.answer_publisher.specs.declared.keys.Publication.TheVariants as publi
 use Rattle.std.specs.FinMap.Entries as entries
 use Rattle.definitions.specs.Dnskey.{Dnskey, Ds, dnskey_data, key_tag, same_key}
 use Rattle.keyset_keys.specs.declared.keys.KeyType.{KeyType}
-use Rattle.keyset_keys.specs.declared.keys.KeyType.TheVariants.{Ksk, Zsk, Csk}
 use Rattle.answer_events.specs.declared.key_kind.KeyKind.{KeyKind}
-use Rattle.answer_events.specs.declared.key_kind.KeyKind.TheVariants.{Ksk as KskKey, Zsk as ZskKey, Csk as CskKey}
-pub use Rattle.answer_events.specs.Calls.{Call, Add, Start, Report1, Wait1, Report2, Wait2, Finish, flags_of}
+use Rattle.answer_events.specs.declared.key_kind.KeyKind.TheVariants as kind
+pub use Rattle.answer_events.specs.Calls.{Call, Setting, Add, Set, Delete, Start, Report1, Wait1, Report2, Wait2, Finish, flags_of}
+use Rattle.answer_events.specs.Calls as calls
 use Rattle.keyset_rolls.specs.declared.rolls.RollType.{RollType}
 use Rattle.keyset_rolls.specs.declared.rolls.Action.{Action}
 use Rattle.keyset.specs.KeyState as key_set
-use Rattle.keyset.specs.KeyState.{KeySetState, Reference, reference_cmp, clear, new_key, Refusal, Answer, add, start, report1, report2, wait1, wait2, done, key_of, ksk_is, zsk_is, main_is, is_at_parent, is_present, signs}
+use Rattle.keyset.specs.KeyState.{KeySetState, Reference, reference_cmp, Refusal, Answer, key_of, ksk_is, zsk_is, main_is, is_at_parent, is_present, signs}
+use Rattle.keyset.specs.KeyRuns as runs
+use Rattle.keyset.specs.KeyRuns.{Kind, OfKsk, OfZsk, OfCsk, OfOther}
 
 -- a key that a reference is bound to, with its digest
 pub record BoundKey : Type 0 where
@@ -34,11 +36,6 @@ pub data Fault : Type 0 where
   DigestFailed : Fault
   Refused : Refusal → Fault
 
-abbrev pub roles_of : KeyKind → Bool → KeyType
-roles_of KskKey a = Ksk (clear a)
-roles_of ZskKey a = Zsk (clear a)
-roles_of CskKey a = Csk (clear a) (clear a)
-
 abbrev pub dnskey_for : KeyKind → ℕ → List ℕ → Dnskey
 dnskey_for kind algorithm octets = record { flags = flags_of kind; protocol = 3; algorithm = algorithm; octets = octets }
 
@@ -49,15 +46,57 @@ bound_at bound q = entries.find reference_cmp q bound
 abbrev pub is_bound_away : List (Reference × BoundKey) → Reference → Dnskey → Bool
 is_bound_away bound q k = elim (bound_at bound q) [ None ↦ false | Some b ↦ not (same_key b.key k) ]
 
--- a call on the key set alone, an add by the key's tag
+-- the key that a reference is bound to, by itself
+abbrev pub dnskey_at : List (Reference × BoundKey) → Reference → Option Dnskey
+dnskey_at bound q = option_map (λ b. b.key) (bound_at bound q)
+
+-- ---- calls on the key set alone
+
+abbrev pub kind_in : KeyKind → Kind
+kind_in kind.Ksk = OfKsk
+kind_in kind.Zsk = OfZsk
+kind_in kind.Csk = OfCsk
+kind_in kind.Include = OfOther
+
+-- the roles of a new key
+abbrev pub roles_of : KeyKind → Bool → KeyType
+roles_of kind available = runs.roles_of (kind_in kind) available
+
+-- a key of another owner has no private reference
+abbrev pub private_for : KeyKind → Option Reference → Option Reference
+private_for kind.Include private = None
+private_for _ private = private
+
+-- what is handed in of a new key, made at a moment: it has the tag of its DNSKEY
+abbrev pub new_in_set : KeyKind → Option Reference → ℕ → ℕ → ℕ → Bool → runs.NewKey
+new_in_set kind private algorithm tag now available = record { kind = kind_in kind; private = private_for kind private; algorithm = algorithm; tag = tag; created = now; available = available }
+
+abbrev pub setting_call : Reference → Setting → runs.Call
+setting_call q (calls.Decoupled b) = runs.SetDecoupled q b
+setting_call q (calls.Present b) = runs.SetPresent q b
+setting_call q (calls.Signer b) = runs.SetSigner q b
+setting_call q (calls.AtParent b) = runs.SetAtParent q b
+setting_call q (calls.Visible time) = runs.SetVisible q time
+setting_call q (calls.DsVisible time) = runs.SetDsVisible q time
+setting_call q (calls.RrsigVisible time) = runs.SetRrsigVisible q time
+setting_call q calls.Stale = runs.SetStale q
+
+-- a call at a moment, as one on the key set
+abbrev pub set_call : Call → ℕ → runs.Call
+set_call (Add kind q private algorithm octets available) now = runs.Add q (new_in_set kind private algorithm (key_tag (dnskey_for kind algorithm octets)) now available)
+set_call (Set q setting) now = setting_call q setting
+set_call (Delete q) now = runs.Delete q
+set_call (Start r olds news) now = runs.Start r olds news
+set_call (Report1 r ttl) now = runs.Report1 r ttl
+set_call (Wait1 r) now = runs.Wait1 r
+set_call (Report2 r ttl) now = runs.Report2 r ttl
+set_call (Wait2 r) now = runs.Wait2 r
+set_call (Finish r) now = runs.Finish r
+
 abbrev pub on_state : Call → ℕ → KeySetState → Answer
-on_state (Add kind q private algorithm octets available) now s = add q (new_key private (roles_of kind available) algorithm (key_tag (dnskey_for kind algorithm octets)) now) s
-on_state (Start r olds news) now s = start r olds news now s
-on_state (Report1 r ttl) now s = report1 r ttl now s
-on_state (Wait1 r) now s = wait1 r now s
-on_state (Report2 r ttl) now s = report2 r ttl now s
-on_state (Wait2 r) now s = wait2 r now s
-on_state (Finish r) now s = done r s
+on_state c now s = runs.on_state (set_call c now) now s
+
+-- ---- calls on both
 
 abbrev pub Outcome : Type 0
 Outcome = Result (ZoneKeys × List Action) Fault
@@ -70,7 +109,7 @@ lifted b (Err e) = Err (Refused e)
 abbrev pub bind : Reference → BoundKey → List (Reference × BoundKey) → List (Reference × BoundKey)
 bind q b bound = entries.put reference_cmp q b bound
 
--- What a call gives. `digest` is the scheme's digest of a key; None where it fails.
+-- What a call gives. `digest` is the scheme's digest of a key; None where it fails. A delete leaves its reference bound.
 abbrev pub apply : (Dnskey → Option (List ℕ)) → Call → ℕ → ZoneKeys → Outcome
 apply digest (Add kind q private algorithm octets available) now s =
     let k = dnskey_for kind algorithm octets in

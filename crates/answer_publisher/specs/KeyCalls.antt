@@ -10,7 +10,7 @@ use Rattle.keyset_keys.specs.declared.errors.Error.TheVariants as error
 use Rattle.keyset.specs.KeyState.{Refusal}
 use Rattle.keyset.specs.KeyAnswers.{refusal_of}
 use Rattle.answer_publisher.specs.Bindings as bindings
-use Rattle.answer_publisher.specs.Bindings.{ZoneKeys, Fault, Outcome, Call, Add, Start, apply, lifted, on_state}
+use Rattle.answer_publisher.specs.Bindings.{ZoneKeys, Fault, Outcome, Call, Add, Set, Delete, Start, apply, lifted, on_state}
 
 abbrev pub refused : Option Refusal → Option Fault
 refused None = None
@@ -44,9 +44,12 @@ IsFree (Err bindings.ReferenceBound) = ⊥
 IsFree _ = Unit {0}
 
 -- What is certain where memory ran out. It comes last: the call would have been accepted. Only an add grows before that
--- is known: its key is digested behind the look at its reference and ahead of what the key set says.
+-- is known: its key is digested behind the look at its reference and ahead of what the key set says. What sets or deletes
+-- a key takes no memory.
 abbrev pub RanOut : Call → Outcome → Type 0
 RanOut (Add kind q private algorithm octets available) outcome = IsFree outcome
+RanOut (Set q setting) outcome = ⊥
+RanOut (Delete q) outcome = ⊥
 RanOut _ outcome = IsAccepted outcome
 
 -- The same where the references that a start lists are copied before the call: of a start nothing is certain then.
@@ -79,9 +82,12 @@ GivesKeys view digest c at old new result = Gives (RanOut c) view old new result
 abbrev pub Acts : (Dnskey → Option (List ℕ)) → Call → ℕ → ZoneKeys → ZoneKeys → Result (Vec Action) KeyFault → Type 0
 Acts digest c at old new result = GivesKeys (λ (v : Vec Action). v.items) digest c at old new result
 
-abbrev pub Adds : (Dnskey → Option (List ℕ)) → Call → ℕ → ZoneKeys → ZoneKeys → Result (Unit {0}) KeyFault → Type 0
-Adds digest c at old new result = GivesKeys (λ _. []) digest c at old new result
+abbrev pub Changes : (Dnskey → Option (List ℕ)) → Call → ℕ → ZoneKeys → ZoneKeys → Result (Unit {0}) KeyFault → Type 0
+Changes digest c at old new result = GivesKeys (λ _. []) digest c at old new result
 
--- of a call on the key set alone, which changes nothing that is bound
+-- of a call on the key set alone that takes no memory, and of any other; neither changes what is bound
+abbrev pub SetsKeys : Call → ℕ → ZoneKeys → ZoneKeys → Result (Unit {0}) KeyFault → Type 0
+SetsKeys c at old new result = Gives (λ _. ⊥) (λ _. []) old new result (lifted old.bound (on_state c at old.keys))
+
 abbrev pub ActsOnKeys : Call → ℕ → ZoneKeys → ZoneKeys → Result (Vec Action) KeyFault → Type 0
 ActsOnKeys c at old new result = Gives IsAccepted (λ (v : Vec Action). v.items) old new result (lifted old.bound (on_state c at old.keys))

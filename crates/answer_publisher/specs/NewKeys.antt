@@ -4,15 +4,16 @@ use Rattle.definitions.specs.Dnskey.{key_tag}
 use Rattle.answer_publisher.specs.declared.keys.NewKey.{NewKey}
 use Rattle.answer_publisher.specs.declared.fault.KeyFault.{KeyFault}
 use Rattle.keyset_keys.specs.declared.errors.Error.{Error}
-use Rattle.keyset.specs.KeyState.{KeySetState, Answer, add, new_key, text_of, is_available}
+use Rattle.keyset.specs.KeyState.{KeySetState, Answer, text_of, is_available}
+use Rattle.keyset.specs.KeyRuns as runs
 use Rattle.keyset.specs.KeyAnswers as answers
 use Rattle.keyset.specs.KeyAnswers.{Refuses, refusal_of}
-use Rattle.answer_publisher.specs.Bindings.{ZoneKeys, BoundKey, roles_of, bind, lifted}
+use Rattle.answer_publisher.specs.Bindings.{ZoneKeys, BoundKey, bind, lifted, new_in_set}
 use Rattle.answer_publisher.specs.KeyCalls.{Gives, IsAccepted}
 
 -- the add to the key set alone, by the key's tag
 abbrev pub added_tag : KeySetState → NewKey → ℕ → Answer
-added_tag s n tag = add (string_bytes n.pubref) (new_key (text_of n.privref) (roles_of n.kind (is_available n.available)) n.algorithm tag n.created) s
+added_tag s n tag = runs.on_state (runs.Add (string_bytes n.pubref) (new_in_set n.kind (text_of n.privref) n.algorithm tag n.created (is_available n.available))) n.created s
 
 abbrev pub added_to : ZoneKeys → NewKey → BoundKey → Answer
 added_to s n b = added_tag s.keys n (key_tag b.key)

@@ -7,11 +7,12 @@ ghost use Rattle.definitions.specs.Dnskey.{dnskey_data};
 ghost use Rattle.definitions.specs.Sorting.{put_by, sort_by};
 ghost use Rattle.std.specs.Ordering.{nat_cmp};
 ghost use Rattle.keyset.specs.KeyState.{Key, add, texts};
-ghost use Rattle.answer_publisher.specs.Bindings.{ZoneKeys, BoundKey, no_keys, Start, Report1, Wait1, Report2, Wait2, Finish, bound_at, is_bound_away, has_role, is_published, keys_by_tag, ds_of, ds_set, dnskey_rdata};
+ghost use Rattle.answer_events.specs.Calls.{Decoupled, Present, Signer, AtParent, Visible, DsVisible, RrsigVisible, Stale};
+ghost use Rattle.answer_publisher.specs.Bindings.{ZoneKeys, BoundKey, no_keys, Set, Delete, Start, Report1, Wait1, Report2, Wait2, Finish, bound_at, dnskey_at, is_bound_away, has_role, is_published, keys_by_tag, ds_of, ds_set, dnskey_rdata};
 ghost use Rattle.answer_publisher.specs.Bindings as bindings;
 ghost use Rattle.answer_publisher.specs.BoundView.{by_text};
 ghost use Rattle.keyset.specs.KeyAnswers.{Changes, IsAccepted};
-ghost use Rattle.answer_publisher.specs.KeyCalls.{ActsOnKeys};
+ghost use Rattle.answer_publisher.specs.KeyCalls.{ActsOnKeys, SetsKeys};
 ghost use Rattle.answer_publisher.specs.NewKeys.{added_tag, added_to, AddsBound, Foretells};
 
 use crate::fault::KeyFault;
@@ -172,6 +173,16 @@ impl ZoneKeys {
         self.bound.get(reference)
     }
 
+    /// The DNSKEY that a reference is bound to.
+    pub(crate) fn dnskey_of(&self, reference: &str) -> Option<&Dnskey<Vec<u8>>>
+        ensures { option_copied result ≡ dnskey_at self.now.bound reference.now }
+    {
+        match self.bound(reference) {
+            None => None,
+            Some(bound) => Some(bound.key()),
+        }
+    }
+
     /// Whether a reference is bound to another key.
     pub(crate) fn is_bound_away(&self, reference: &str, key: &Dnskey<&[u8]>) -> bool
         ensures { result ≡ is_bound_away self.now.bound reference.now key.now }
@@ -234,6 +245,102 @@ impl ZoneKeys {
                 self.bound.remove(reference.as_str());
                 Err(KeyFault::from(error))
             }
+        }
+    }
+
+    /// Sets whether a key is no longer managed by its references.
+    pub(crate) fn set_decoupled(&mut self, pubref: &str, value: bool) -> Result<(), KeyFault>
+        ensures { SetsKeys (Set pubref.now (Decoupled value)) 0 self.old self.new result }
+    {
+        match self.keys.set_decoupled(pubref, value) {
+            Ok(()) => Ok(()),
+            Err(error) => Err(KeyFault::from(error)),
+        }
+    }
+
+    /// Puts a key into the DNSKEY RRset, or takes it out, outside a roll. The first moment at which it was put in is
+    /// kept.
+    pub(crate) fn set_present(
+        &mut self,
+        pubref: &str,
+        value: bool,
+        now: &UnixTime,
+    ) -> Result<(), KeyFault>
+        ensures { SetsKeys (Set pubref.now (Present value)) now.now self.old self.new result }
+    {
+        match self.keys.set_present(pubref, value, now) {
+            Ok(()) => Ok(()),
+            Err(error) => Err(KeyFault::from(error)),
+        }
+    }
+
+    /// Sets whether a key signs, outside a roll: a combined key in both its roles. An included key never does.
+    pub(crate) fn set_signer(&mut self, pubref: &str, value: bool) -> Result<(), KeyFault>
+        ensures { SetsKeys (Set pubref.now (Signer value)) 0 self.old self.new result }
+    {
+        match self.keys.set_signer(pubref, value) {
+            Ok(()) => Ok(()),
+            Err(error) => Err(KeyFault::from(error)),
+        }
+    }
+
+    /// Sets whether the parent's DS RRset has a key, outside a roll. Zone signing and included keys are never there.
+    pub(crate) fn set_at_parent(&mut self, pubref: &str, value: bool) -> Result<(), KeyFault>
+        ensures { SetsKeys (Set pubref.now (AtParent value)) 0 self.old self.new result }
+    {
+        match self.keys.set_at_parent(pubref, value) {
+            Ok(()) => Ok(()),
+            Err(error) => Err(KeyFault::from(error)),
+        }
+    }
+
+    /// Sets since when all servers have a key in the DNSKEY RRset.
+    pub(crate) fn set_visible(&mut self, pubref: &str, time: UnixTime) -> Result<(), KeyFault>
+        ensures { SetsKeys (Set pubref.now (Visible time)) 0 self.old self.new result }
+    {
+        match self.keys.set_visible(pubref, time) {
+            Ok(()) => Ok(()),
+            Err(error) => Err(KeyFault::from(error)),
+        }
+    }
+
+    /// Sets since when all servers of the parent have a key's DS record.
+    pub(crate) fn set_ds_visible(&mut self, pubref: &str, time: UnixTime) -> Result<(), KeyFault>
+        ensures { SetsKeys (Set pubref.now (DsVisible time)) 0 self.old self.new result }
+    {
+        match self.keys.set_ds_visible(pubref, time) {
+            Ok(()) => Ok(()),
+            Err(error) => Err(KeyFault::from(error)),
+        }
+    }
+
+    /// Sets since when all servers have a key's signatures.
+    pub(crate) fn set_rrsig_visible(&mut self, pubref: &str, time: UnixTime) -> Result<(), KeyFault>
+        ensures { SetsKeys (Set pubref.now (RrsigVisible time)) 0 self.old self.new result }
+    {
+        match self.keys.set_rrsig_visible(pubref, time) {
+            Ok(()) => Ok(()),
+            Err(error) => Err(KeyFault::from(error)),
+        }
+    }
+
+    /// Takes a key out of use at once, outside a roll, so that it may be deleted.
+    pub(crate) fn set_stale(&mut self, pubref: &str) -> Result<(), KeyFault>
+        ensures { SetsKeys (Set pubref.now Stale) 0 self.old self.new result }
+    {
+        match self.keys.set_stale(pubref) {
+            Ok(()) => Ok(()),
+            Err(error) => Err(KeyFault::from(error)),
+        }
+    }
+
+    /// Deletes a key that is stale in all its roles. Its reference stays bound to it.
+    pub(crate) fn delete_key(&mut self, pubref: &str) -> Result<(), KeyFault>
+        ensures { SetsKeys (Delete pubref.now) 0 self.old self.new result }
+    {
+        match self.keys.delete_key(pubref) {
+            Ok(()) => Ok(()),
+            Err(error) => Err(KeyFault::from(error)),
         }
     }
 
@@ -414,5 +521,9 @@ fn add_key(keys: &mut KeySet, new: NewKey, tag: u16) -> Result<(), Error>
             new.created,
             new.available,
         ),
+        KeyKind::Include => {
+            let available = matches!(new.available, Available::Available);
+            keys.add_public_key(new.pubref, new.algorithm, tag, new.created, available)
+        }
     }
 }

@@ -1,5 +1,5 @@
 //! The publisher.
-ghost use Rattle.std.specs.Prelude.{◌≡◌, ◌⊎◌, ◌<◌, ◌≤◌, ◌^◌, ◌↔◌, [], map, length, string_bytes, IfOk, IfErr, IsErrOf, OnOk, Some, None, false};
+ghost use Rattle.std.specs.Prelude.{◌≡◌, ◌⊎◌, ◌<◌, ◌≤◌, ◌^◌, ◌↔◌, [], map, length, string_bytes, IfOk, IfErr, IsErrOf, OnOk, Some, None, option_copied, false};
 ghost use Rattle.std.specs.List.{AllByRecursion};
 ghost use Rattle.definitions.specs.Name.{IsName, low};
 ghost use Rattle.messages.specs.Handed.{IsHanded};
@@ -13,8 +13,9 @@ ghost use Rattle.answer_zone.specs.HashedZone.{accepted_zone};
 ghost use Rattle.answer_zone.specs.ModeView.{mode_of};
 ghost use Rattle.messages.specs.HandedRr.{handed_of};
 ghost use Rattle.keyset.specs.KeyState.{text_of, is_available, texts};
-ghost use Rattle.answer_publisher.specs.Bindings.{no_keys, dnskey_for, ds_set, is_bound_away, published, dnskeys, keys_by_tag, Add, Start, Report1, Wait1, Report2, Wait2, Finish};
-ghost use Rattle.answer_publisher.specs.KeyCalls.{Acts, Adds};
+ghost use Rattle.answer_events.specs.Calls.{Decoupled, Present, Signer, AtParent, Visible, DsVisible, RrsigVisible, Stale};
+ghost use Rattle.answer_publisher.specs.Bindings.{no_keys, dnskey_at, dnskey_for, ds_set, is_bound_away, published, dnskeys, keys_by_tag, Add, Set, Delete, Start, Report1, Wait1, Report2, Wait2, Finish};
+ghost use Rattle.answer_publisher.specs.KeyCalls.{Acts, Changes};
 ghost use Rattle.answer_publisher.specs.Publishing.{digest_at};
 ghost use Rattle.answer_scheme.specs.Moments.{second_of};
 ghost use Rattle.answer_publisher.specs.World.{AnswersKeysQuestion, AnswersQuestion, RefusesKeysQuestion, RefusesQuestion, SpellsAnswer, SpellsKeys, digests, present_keys, world_of, zone_by};
@@ -23,6 +24,7 @@ use crate::compose::compose_answer;
 use crate::fault::{AnswerFault, KeyFault, Mode, ZoneFault};
 use crate::keys::{KeyKind, NewKey, Publication, ZoneKeys};
 use crate::signing::SignatureTerms;
+use answer_events::key_kind::availability;
 use answer_scheme::error::SchemeError;
 use answer_scheme::scheme::Scheme;
 use answer_terms::dnskey::{Dnskey, ZoneKey};
@@ -224,6 +226,13 @@ impl<'a, S: Scheme, H: Nsec3Hasher> Publisher<'a, S, H> {
         self.keys.key_set()
     }
 
+    /// The DNSKEY that a reference is bound to: that of its first accepted add, also once its key is deleted.
+    pub fn dnskey_of(&self, reference: &str) -> Option<&Dnskey<Vec<u8>>>
+        ensures { option_copied result ≡ dnskey_at self.now.keys.bound reference.now }
+    {
+        self.keys.dnskey_of(reference)
+    }
+
     /// The DS set that the parent is to have, of digest type 2, in order of tag (RFC 4034, 5; RFC 4509).
     pub fn ds_set(&self) -> Result<Vec<Ds<Vec<u8>>>, AllocError>
         ensures { IfOk result (λ v. v.items ≡ ds_set self.now.keys) }
@@ -263,7 +272,7 @@ impl<'a, S: Scheme, H: Nsec3Hasher> Publisher<'a, S, H> {
             let private = text_of privref in let octets = public_key.items in
             let call = Add KeyKind.Ksk (string_bytes pubref) private algorithm octets at_hand in
             let digests = digests S.digest_of self.old in
-            Adds digests call creation_ts self.old.keys self.new.keys result }
+            Changes digests call creation_ts self.old.keys self.new.keys result }
         ensures rest { self.new ≡ record self.old { keys = self.new.keys } }
     {
         self.add_key(
@@ -292,7 +301,7 @@ impl<'a, S: Scheme, H: Nsec3Hasher> Publisher<'a, S, H> {
             let private = text_of privref in let octets = public_key.items in
             let call = Add KeyKind.Zsk (string_bytes pubref) private algorithm octets at_hand in
             let digests = digests S.digest_of self.old in
-            Adds digests call creation_ts self.old.keys self.new.keys result }
+            Changes digests call creation_ts self.old.keys self.new.keys result }
         ensures rest { self.new ≡ record self.old { keys = self.new.keys } }
     {
         self.add_key(
@@ -321,7 +330,7 @@ impl<'a, S: Scheme, H: Nsec3Hasher> Publisher<'a, S, H> {
             let private = text_of privref in let octets = public_key.items in
             let call = Add KeyKind.Csk (string_bytes pubref) private algorithm octets at_hand in
             let digests = digests S.digest_of self.old in
-            Adds digests call creation_ts self.old.keys self.new.keys result }
+            Changes digests call creation_ts self.old.keys self.new.keys result }
         ensures rest { self.new ≡ record self.old { keys = self.new.keys } }
     {
         self.add_key(
@@ -335,8 +344,36 @@ impl<'a, S: Scheme, H: Nsec3Hasher> Publisher<'a, S, H> {
         )
     }
 
-    /// Adds a key of a kind, of these octets, at most 65,531 of them. Whether its reference is bound to another key is known
-    /// before any memory is taken.
+    /// Adds a key of another owner, which is to be in the DNSKEY RRset and signs nothing here, of these octets, at most
+    /// 65,531 of them.
+    pub fn add_public_key(
+        &mut self,
+        pubref: String,
+        algorithm: SecurityAlgorithm,
+        public_key: Vec<u8>,
+        creation_ts: UnixTime,
+        available: bool,
+    ) -> Result<(), KeyFault>
+        requires { length public_key.items ≤ 65531 }
+        ensures keys { let octets = public_key.items in
+            let call = Add KeyKind.Include (string_bytes pubref) None algorithm octets available in
+            let digests = digests S.digest_of self.old in
+            Changes digests call creation_ts self.old.keys self.new.keys result }
+        ensures rest { self.new ≡ record self.old { keys = self.new.keys } }
+    {
+        self.add_key(
+            KeyKind::Include,
+            pubref,
+            None,
+            algorithm,
+            public_key,
+            creation_ts,
+            availability(available),
+        )
+    }
+
+    /// Adds a key of a kind, of these octets, at most 65,531 of them. Of a key of another owner no private reference is kept.
+    /// Whether a reference is bound to another key is known before any memory is taken.
     pub fn add_key(
         &mut self,
         kind: KeyKind,
@@ -352,7 +389,7 @@ impl<'a, S: Scheme, H: Nsec3Hasher> Publisher<'a, S, H> {
             let private = text_of privref in let octets = public_key.items in
             let call = Add kind (string_bytes pubref) private algorithm octets at_hand in
             let digests = digests S.digest_of self.old in
-            Adds digests call creation_ts self.old.keys self.new.keys result }
+            Changes digests call creation_ts self.old.keys self.new.keys result }
         ensures rest { self.new ≡ record self.old { keys = self.new.keys } }
     {
         if self.is_bound_away(pubref.as_str(), kind, algorithm, &public_key) {
@@ -369,6 +406,97 @@ impl<'a, S: Scheme, H: Nsec3Hasher> Publisher<'a, S, H> {
             available,
         };
         self.keys.add(new, key, digest)
+    }
+
+    /// Sets whether a key is no longer managed by its references.
+    pub fn set_decoupled(&mut self, pubref: &str, value: bool) -> Result<(), KeyFault>
+        ensures keys { let digests = digests S.digest_of self.old in
+            let call = Set pubref.now (Decoupled value) in
+            Changes digests call 0 self.old.keys self.new.keys result }
+        ensures rest { self.new ≡ record self.old { keys = self.new.keys } }
+    {
+        self.keys.set_decoupled(pubref, value)
+    }
+
+    /// Puts a key into the DNSKEY RRset, or takes it out, outside a roll. The first moment at which it was put in is
+    /// kept.
+    pub fn set_present(&mut self, pubref: &str, value: bool, now: &UnixTime) -> Result<(), KeyFault>
+        ensures keys { let digests = digests S.digest_of self.old in
+            let call = Set pubref.now (Present value) in
+            Changes digests call now.now self.old.keys self.new.keys result }
+        ensures rest { self.new ≡ record self.old { keys = self.new.keys } }
+    {
+        self.keys.set_present(pubref, value, now)
+    }
+
+    /// Sets whether a key signs, outside a roll: a combined key in both its roles. An included key never does.
+    pub fn set_signer(&mut self, pubref: &str, value: bool) -> Result<(), KeyFault>
+        ensures keys { let digests = digests S.digest_of self.old in
+            let call = Set pubref.now (Signer value) in
+            Changes digests call 0 self.old.keys self.new.keys result }
+        ensures rest { self.new ≡ record self.old { keys = self.new.keys } }
+    {
+        self.keys.set_signer(pubref, value)
+    }
+
+    /// Sets whether the parent's DS RRset has a key, outside a roll. Zone signing and included keys are never there.
+    pub fn set_at_parent(&mut self, pubref: &str, value: bool) -> Result<(), KeyFault>
+        ensures keys { let digests = digests S.digest_of self.old in
+            let call = Set pubref.now (AtParent value) in
+            Changes digests call 0 self.old.keys self.new.keys result }
+        ensures rest { self.new ≡ record self.old { keys = self.new.keys } }
+    {
+        self.keys.set_at_parent(pubref, value)
+    }
+
+    /// Sets since when all servers have a key in the DNSKEY RRset.
+    pub fn set_visible(&mut self, pubref: &str, time: UnixTime) -> Result<(), KeyFault>
+        ensures keys { let digests = digests S.digest_of self.old in
+            let call = Set pubref.now (Visible time) in
+            Changes digests call 0 self.old.keys self.new.keys result }
+        ensures rest { self.new ≡ record self.old { keys = self.new.keys } }
+    {
+        self.keys.set_visible(pubref, time)
+    }
+
+    /// Sets since when all servers of the parent have a key's DS record.
+    pub fn set_ds_visible(&mut self, pubref: &str, time: UnixTime) -> Result<(), KeyFault>
+        ensures keys { let digests = digests S.digest_of self.old in
+            let call = Set pubref.now (DsVisible time) in
+            Changes digests call 0 self.old.keys self.new.keys result }
+        ensures rest { self.new ≡ record self.old { keys = self.new.keys } }
+    {
+        self.keys.set_ds_visible(pubref, time)
+    }
+
+    /// Sets since when all servers have a key's signatures.
+    pub fn set_rrsig_visible(&mut self, pubref: &str, time: UnixTime) -> Result<(), KeyFault>
+        ensures keys { let digests = digests S.digest_of self.old in
+            let call = Set pubref.now (RrsigVisible time) in
+            Changes digests call 0 self.old.keys self.new.keys result }
+        ensures rest { self.new ≡ record self.old { keys = self.new.keys } }
+    {
+        self.keys.set_rrsig_visible(pubref, time)
+    }
+
+    /// Takes a key out of use at once, outside a roll, so that it may be deleted.
+    pub fn set_stale(&mut self, pubref: &str) -> Result<(), KeyFault>
+        ensures keys { let digests = digests S.digest_of self.old in
+            let call = Set pubref.now Stale in
+            Changes digests call 0 self.old.keys self.new.keys result }
+        ensures rest { self.new ≡ record self.old { keys = self.new.keys } }
+    {
+        self.keys.set_stale(pubref)
+    }
+
+    /// Deletes a key that is stale in all its roles. Its reference stays bound to it.
+    pub fn delete_key(&mut self, pubref: &str) -> Result<(), KeyFault>
+        ensures keys { let digests = digests S.digest_of self.old in
+            let call = Delete pubref.now in
+            Changes digests call 0 self.old.keys self.new.keys result }
+        ensures rest { self.new ≡ record self.old { keys = self.new.keys } }
+    {
+        self.keys.delete_key(pubref)
     }
 
     /// Starts a roll from the old keys to the new ones.

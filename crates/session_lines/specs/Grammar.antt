@@ -7,13 +7,13 @@ use Rattle.definitions.specs.ZoneChain.{Mode, Nsec, Nsec3}
 use Rattle.definitions.specs.Name.{Name, wire, low}
 use Rattle.definitions.specs.Text.{name_of_text}
 use Rattle.answer_events.specs.HandedRr.{HandedRr}
-use Rattle.answer_events.specs.Calls.{Call, Add, Start, Report1, Wait1, Report2, Wait2, Finish}
+use Rattle.answer_events.specs.Calls.{Call, Add, Delete, Start, Report1, Wait1, Report2, Wait2, Finish}
 use Rattle.answer_events.specs.Actions.{read_roll}
 use Rattle.answer_events.specs.Message.{Asked, owner_at}
 use Rattle.answer_events.specs.NameOctets.{name_of_octets}
 use Rattle.answer_events.specs.RollType.{RollType}
 use Rattle.answer_events.specs.declared.key_kind.KeyKind.{KeyKind}
-use Rattle.answer_events.specs.declared.key_kind.KeyKind.TheVariants.{Ksk, Zsk, Csk}
+use Rattle.answer_events.specs.declared.key_kind.KeyKind.TheVariants.{Ksk, Zsk, Csk, Include}
 use Rattle.session_lines.specs.Fields.{is_nothing, hex_field, key_field, is_reference}
 use Rattle.session_lines.specs.Numbers.{number_of}
 
@@ -131,6 +131,7 @@ kind_field field =
     if bytes_eq field (codes "ksk") then Some Ksk
     else if bytes_eq field (codes "zsk") then Some Zsk
     else if bytes_eq field (codes "csk") then Some Csk
+    else if bytes_eq field (codes "include") then Some Include
     else None
 
 -- `key KIND REF ALGORITHM BASE64`
@@ -163,12 +164,18 @@ roll_line call roll = do
   r ← roll_field roll
   Some (KeyCall (call r))
 
+-- `delete REF`
+abbrev pub delete_line : List ℕ → Option ActLine
+delete_line pubref = do
+  q ← reference_field pubref
+  Some (KeyCall (Delete q))
+
 -- by how many fields stand before the moment
 abbrev pub act_line1 : List ℕ → Option ActLine
 act_line1 w = if bytes_eq w (codes "ds") then Some ShowDs else if bytes_eq w (codes "dnskey") then Some ShowDnskey else None
 
 abbrev pub act_line2 : List ℕ → List ℕ → Option ActLine
-act_line2 w a = if bytes_eq w (codes "wait1") then roll_line Wait1 a else if bytes_eq w (codes "wait2") then roll_line Wait2 a else if bytes_eq w (codes "done") then roll_line Finish a else None
+act_line2 w a = if bytes_eq w (codes "wait1") then roll_line Wait1 a else if bytes_eq w (codes "wait2") then roll_line Wait2 a else if bytes_eq w (codes "done") then roll_line Finish a else if bytes_eq w (codes "delete") then delete_line a else None
 
 abbrev pub act_line3 : List ℕ → List ℕ → List ℕ → Option ActLine
 act_line3 w a b = if bytes_eq w (codes "ask") then ask_line a b else if bytes_eq w (codes "report1") then report_line Report1 a b else if bytes_eq w (codes "report2") then report_line Report2 a b else None

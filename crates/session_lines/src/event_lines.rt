@@ -10,7 +10,7 @@ use crate::line_error::LineError;
 use crate::number_fields::{number_u8, number_u16, number_u32, number_u64, place};
 use answer_events::event::{Act, Event, KeyCall};
 use answer_events::key_kind::KeyKind;
-use answer_events::keyset::{Available, RollType, UnixTime};
+use answer_events::keyset::{RollType, UnixTime};
 use answer_events::question::Question;
 use numbers::algorithm::SecurityAlgorithm;
 use numbers::class::Class;
@@ -38,7 +38,7 @@ fn read_act(alloc: Global, fields: &[&str]) -> Result<Act, LineError>
 {
     match *fields {
         [word] => read_showing(word),
-        [word, roll] => read_roll_step(word, roll),
+        [word, field] => read_step(alloc, word, field),
         [word, first, second] => read_asking(alloc, word, first, second),
         [word, first, second, third] => read_judging(alloc, word, first, second, third),
         [word, kind, pubref, algorithm, octets] => {
@@ -60,23 +60,27 @@ fn read_showing(word: &str) -> Result<Act, LineError>
     }
 }
 
-/// Reads `wait1 ROLL`, `wait2 ROLL` and `done ROLL`.
-fn read_roll_step(word: &str, roll: &str) -> Result<Act, LineError>
+/// Reads `wait1 ROLL`, `wait2 ROLL`, `done ROLL` and `delete REF`.
+fn read_step(alloc: Global, word: &str, field: &str) -> Result<Act, LineError>
     ensures small { IfOk result (λ a. added_by_act a ≤ 65531) }
-    ensures read { Reads act_view result (act_line2 word.now roll.now) }
+    ensures read { Reads act_view result (act_line2 word.now field.now) }
 {
     match word {
         "wait1" => {
-            let rolltype = read_roll(roll)?;
+            let rolltype = read_roll(field)?;
             Ok(Act::Key(KeyCall::CacheExpired1 { rolltype }))
         }
         "wait2" => {
-            let rolltype = read_roll(roll)?;
+            let rolltype = read_roll(field)?;
             Ok(Act::Key(KeyCall::CacheExpired2 { rolltype }))
         }
         "done" => {
-            let rolltype = read_roll(roll)?;
+            let rolltype = read_roll(field)?;
             Ok(Act::Key(KeyCall::RollDone { rolltype }))
+        }
+        "delete" => {
+            let pubref = reference(alloc, field)?;
+            Ok(Act::Key(KeyCall::DeleteKey { pubref }))
         }
         _ => Err(LineError::Unreadable),
     }
@@ -163,14 +167,7 @@ fn read_add(
     let pubref = reference(alloc, pubref)?;
     let algorithm = SecurityAlgorithm::from_int(number_u8(algorithm)?);
     let public_key = key_octets(alloc, octets)?;
-    Ok(Act::Key(KeyCall::add(
-        read_kind(kind)?,
-        pubref,
-        None,
-        algorithm,
-        public_key,
-        Available::Available,
-    )))
+    Ok(Act::Key(KeyCall::add(read_kind(kind)?, pubref, algorithm, public_key)))
 }
 
 fn read_kind(field: &str) -> Result<KeyKind, LineError>
@@ -180,6 +177,7 @@ fn read_kind(field: &str) -> Result<KeyKind, LineError>
         "ksk" => Ok(KeyKind::Ksk),
         "zsk" => Ok(KeyKind::Zsk),
         "csk" => Ok(KeyKind::Csk),
+        "include" => Ok(KeyKind::Include),
         _ => Err(LineError::Unreadable),
     }
 }

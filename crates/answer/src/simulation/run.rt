@@ -15,10 +15,10 @@ ghost use Rattle.answer_life.specs.Simulating.{handing, JudgesThings, JudgesByte
 
 use crate::simulation::results::{Results, Thing};
 use answer_events::event::{Act, Event, KeyCall};
+use answer_events::key_kind::{KeyKind, availability};
 use answer_judge::{Case, Judgement, Refused, judge_with};
 use answer_life::outcome::Outcome;
 use answer_publisher::fault::KeyFault;
-use answer_publisher::keys::KeyKind;
 use answer_publisher::publishing::Publisher;
 use answer_scheme::scheme::Scheme;
 use denial_data::Ds;
@@ -169,6 +169,56 @@ impl<'a, S: Scheme, H: Nsec3Hasher> Run<'a, S, H> {
                 *available,
                 at,
             ),
+            KeyCall::AddPublicKey {
+                pubref,
+                algorithm,
+                public_key,
+                available,
+            } => self.add_key(
+                KeyKind::Include,
+                pubref.as_str(),
+                &None,
+                *algorithm,
+                public_key,
+                availability(*available),
+                at,
+            ),
+            KeyCall::SetDecoupled { pubref, value } => {
+                self.publisher.set_decoupled(pubref, *value)?;
+                Ok(Vec::new(self.alloc))
+            }
+            KeyCall::SetPresent { pubref, value } => {
+                self.publisher.set_present(pubref, *value, at)?;
+                Ok(Vec::new(self.alloc))
+            }
+            KeyCall::SetSigner { pubref, value } => {
+                self.publisher.set_signer(pubref, *value)?;
+                Ok(Vec::new(self.alloc))
+            }
+            KeyCall::SetAtParent { pubref, value } => {
+                self.publisher.set_at_parent(pubref, *value)?;
+                Ok(Vec::new(self.alloc))
+            }
+            KeyCall::SetVisible { pubref, time } => {
+                self.publisher.set_visible(pubref, *time)?;
+                Ok(Vec::new(self.alloc))
+            }
+            KeyCall::SetDsVisible { pubref, time } => {
+                self.publisher.set_ds_visible(pubref, *time)?;
+                Ok(Vec::new(self.alloc))
+            }
+            KeyCall::SetRrsigVisible { pubref, time } => {
+                self.publisher.set_rrsig_visible(pubref, *time)?;
+                Ok(Vec::new(self.alloc))
+            }
+            KeyCall::SetStale { pubref } => {
+                self.publisher.set_stale(pubref)?;
+                Ok(Vec::new(self.alloc))
+            }
+            KeyCall::DeleteKey { pubref } => {
+                self.publisher.delete_key(pubref)?;
+                Ok(Vec::new(self.alloc))
+            }
             KeyCall::StartRoll { rolltype, old, new } => {
                 let old = texts(self.alloc, old)?;
                 let new = texts(self.alloc, new)?;

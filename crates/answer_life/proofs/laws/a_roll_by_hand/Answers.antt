@@ -6,6 +6,7 @@ returns c = record {
   all_accepted = refl;
   shown_behind = refl;
   unretired = record {
+    by_rolls = refl;
     in_time = refl;
     first = refl;
     ds_lives = refl;
