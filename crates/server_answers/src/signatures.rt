@@ -3,7 +3,6 @@ ghost use Rattle.std.specs.Prelude.{◌≡◌};
 ghost use Rattle.server_answers.specs.Passing.{is_signed};
 
 use answer::{DigestAlgorithm, Dnskey, Scheme, SchemeError};
-use answer_terms::dnskey::ZoneKey;
 use sha2::{Digest, Sha256};
 use std::alloc::Global;
 use std::collections::HashMap;
@@ -20,7 +19,11 @@ impl Signed {
     fn is_of(&self, key: &Dnskey<&[u8]>, octets: &[u8]) -> bool
         ensures { result ≡ is_signed self.now key.now octets.now }
     {
-        self.key.for_ref() == *key && self.octets.as_slice() == octets
+        self.key.flags() == key.flags()
+            && self.key.protocol() == key.protocol()
+            && self.key.algorithm() == key.algorithm()
+            && self.key.public_key().as_slice() == *key.public_key()
+            && self.octets.as_slice() == octets
     }
 }
 
