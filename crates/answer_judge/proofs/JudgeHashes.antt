@@ -1,17 +1,15 @@
 -- How many names a judge hashes, of both messages.
-use Rattle.std.proofs.Common.{◌≡◌, ℕ, ◌+◌, ◌-◌, ◌%◌, ◌<◌, ◌≤◌, true, false, List, [], ◌∷◌, filter, length, inl, inr, ⊎_elim, sym, ap, ◌∙◌, arith}
+use Rattle.std.proofs.Common.{◌≡◌, ℕ, true, false, List, filter, inl, inr, ⊎_elim, sym, ap, ◌∙◌}
 use Rattle.std.specs.Prelude.{Some, None, Ok, Err}
 use Rattle.definitions.specs.Dnskey.{Dnskey}
 use Rattle.definitions.specs.Limits.{pointer_limit}
-use Rattle.definitions.specs.Name.{Name, IsName, wire_len}
 use Rattle.denial_rules.specs.Facts.{Facts}
 use Rattle.messages.specs.Message.{Message, Spelled, message}
-use Rattle.messages.proofs.NameLaws.{wire_len-cons}
 use Rattle.answer_scheme.specs.Answers.{Answers}
-use Rattle.answer_judge.specs.Counted.{Counts, Rises, hashes_beyond, hashes_in_bytes, hashes_in_messages, hashes_of_facts}
+use Rattle.answer_judge.specs.Counted.{Counts, hashes_beyond, hashes_in_bytes, hashes_in_messages, hashes_of_facts}
 use Rattle.answer_judge.specs.Facts.{is_usable}
 use Rattle.answer_judge.specs.Judged.{facts_in, is_chained, keys_of, trusting}
-use Rattle.answer_judge.specs.Judging.{Answer, Handing, hash_bound, message_refusal}
+use Rattle.answer_judge.specs.Judging.{Answer, Handing, message_refusal}
 use Rattle.answer_judge.specs.Verified.{verified_facts}
 
 -- both messages were read, and they bring no refusal
@@ -39,22 +37,6 @@ facts_hashed a h keys answer usable rs facts none d z chained u s f =
     ∙ ap (λ b. elim b as (λ _. ℕ) [ true ↦ hashes_of_facts a h (usable_facts a h keys answer) | false ↦ 0 ]) chained
     ∙ sym (beyond a h keys answer none d z)
 
--- from a count that is the same
-pub rises_from : (x : Answer) (old mid new due all : ℕ) → mid ≡ old → due ≡ all → Rises x mid new due → Rises x old new all
-rises_from x old mid new due all e d h = ⊎_elim (λ m. inl m) (λ k. inr (omega (arith, k, e, d))) h
-
--- ---- counts at run time
-
-pub name_short : (n : Name) → length n ≤ wire_len n
-name_short [] = omega arith
-name_short (l ∷ n) = omega (arith, name_short n, wire_len-cons l n)
-
-pub bound_small : (h : Handing) → IsName h.asked.name → hash_bound h < 4294967296
-bound_small h name = omega (arith, name_short h.asked.name, name.short)
-
--- the difference of two counts modulo 2^32
-pub counted : (old new before hashes bound : ℕ) → before ≡ old % 4294967296 → hashes ≡ (new % 4294967296 + 4294967296 - before) % 4294967296 → old ≤ new → new ≤ old + bound → bound < 4294967296 → new ≡ old + hashes
-counted old new before hashes bound b h least most small = omega (arith, b, h, least, most, small)
-
-pub counts_from : (x : Answer) (old new due hashes : ℕ) → new ≡ old + hashes → Rises x old new due → Counts x hashes due
-counts_from x old new due hashes e h = ⊎_elim (λ m. inl m) (λ k. inr (omega (arith, k, e))) h
+-- from a number that is the same
+pub counts_as : (x : Answer) (count due all : ℕ) → due ≡ all → Counts x count due → Counts x count all
+counts_as x count due all e h = ⊎_elim (λ m. inl m) (λ k. inr (k ∙ e)) h

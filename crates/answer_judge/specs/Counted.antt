@@ -127,7 +127,3 @@ hashes_due a k h = elim (first_refusal k h) [
 -- this is the count, or memory ran out
 abbrev pub Counts : Answer → ℕ → ℕ → Type 0
 Counts answer count due = (answer ≡ Refuses r.Memory) ⊎ (count ≡ due)
-
--- a count of calls has risen by this, or memory ran out
-abbrev pub Rises : Answer → ℕ → ℕ → ℕ → Type 0
-Rises answer old new due = (answer ≡ Refuses r.Memory) ⊎ (new ≡ old + due)

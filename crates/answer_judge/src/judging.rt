@@ -1,12 +1,12 @@
 //! Judging a zone answer from bytes alone (RFC 4035, 5).
-ghost use Rattle.std.specs.Prelude.{◌≡◌, ◌==◌, ◌+◌, ◌-◌, ◌%◌, ◌++◌, ◌<◌, ◌≤◌, ◌^◌, ◌⊎◌, [], IfOk, IfErr, MatchOption, OnOk, is_some, length, map, filter, true, false};
+ghost use Rattle.std.specs.Prelude.{◌≡◌, ◌==◌, ◌+◌, ◌++◌, ◌<◌, ◌≤◌, ◌^◌, ◌⊎◌, [], IfOk, IfErr, MatchOption, OnOk, is_some, length, map, filter, true, false};
 ghost use Rattle.std.specs.Cow.{cow_slice_items};
 ghost use Rattle.definitions.specs.Limits.{pointer_limit};
 ghost use Rattle.definitions.specs.Dnskey.{dnskey_data};
 ghost use Rattle.definitions.specs.Zone.{sorted_data};
 ghost use Rattle.messages.specs.Questions.{asked_of};
 ghost use Rattle.messages.specs.Record.{spelled};
-ghost use Rattle.answer_judge.specs.Counted.{Counts, Rises, hashes_beyond, hashes_due, keys_sought, tries, tries_beyond, verifications_due};
+ghost use Rattle.answer_judge.specs.Counted.{Counts, hashes_beyond, hashes_due, keys_sought, tries, tries_beyond, verifications_due};
 ghost use Rattle.answer_judge.specs.Verified.{is_verified};
 ghost use Rattle.answer_judge.specs.Marked.{held_by};
 ghost use Rattle.messages.specs.Message.{Asked, message};
@@ -124,16 +124,17 @@ impl<'a> Case<'a> {
         self.limit_fits();
         let mut octets = Vec::new(alloc);
         let mut verifier = Verifier::new(alloc, checks, &mut octets);
-        match judge_counted(self, &mut verifier) {
+        let mut hashes = 0;
+        match judge_messages(self, &mut verifier, &mut hashes) {
             Ok(verdict) => Ok(Judgement {
                 verdict,
                 verifications: verifier.count,
-                hashes: verifier.hashes,
+                hashes,
             }),
             Err(refusal) => Err(Refused {
                 refusal,
                 verifications: verifier.count,
-                hashes: verifier.hashes,
+                hashes,
             }),
         }
     }
@@ -146,16 +147,14 @@ impl<'a> Case<'a> {
     }
 }
 
-/// How often `hash` was called since there was a count.
-fn hashes_since<C: Checks>(checks: &C, before: u32) -> u32
-    ensures { result ≡ (C.hashed checks.now % 4294967296 + 4294967296 - before) % 4294967296 }
-{
-    checks.hash_count().wrapping_sub(before)
-}
-
 /// The verdict of two messages beside a DS set that isn't empty, and how many names are hashed for it.
-fn judge_counted<C: Checks>(case: &Case, verifier: &mut Verifier<C>) -> Result<Verdict, Refusal>
+fn judge_messages<C: Checks>(
+    case: &Case,
+    verifier: &mut Verifier<C>,
+    hashes: &mut u32,
+) -> Result<Verdict, Refusal>
     requires counts { verifier.old.count ≡ 0 }
+    requires none_hashed { hashes.old ≡ 0 }
     requires other { (case.now.asked.rtype == 47) ≡ false }
     requires other_too { (case.now.asked.rtype == 50) ≡ false }
     ensures exact { let a = C.answers verifier.old.checks.now in
@@ -169,42 +168,10 @@ fn judge_counted<C: Checks>(case: &Case, verifier: &mut Verifier<C>) -> Result<V
     ensures counted { C.verified verifier.new.checks.now
         ≡ C.verified verifier.old.checks.now + verifier.new.count }
     ensures hash_counts { let a = C.answers verifier.old.checks.now in
-        Counts (said result) verifier.new.hashes (hashes_beyond a pointer_limit case.now) }
-    ensures hash_bound { verifier.new.hashes ≤ hash_bound case.now }
+        Counts (said result) hashes.new (hashes_beyond a pointer_limit case.now) }
+    ensures hash_bound { hashes.new ≤ hash_bound case.now }
     ensures hashed { C.hashed verifier.new.checks.now
-        ≡ C.hashed verifier.old.checks.now + verifier.new.hashes }
-    ensures same { C.answers verifier.new.checks.now ≡ C.answers verifier.old.checks.now }
-    ensures same_checks { verifier.new.checks.ghost_name ≡ verifier.old.checks.ghost_name }
-{
-    case.question.name.keeps();
-    let before = verifier.checks.hash_count();
-    let said = judge_messages(case, verifier);
-    verifier.hashes = hashes_since(verifier.checks, before);
-    said
-}
-
-/// The verdict of two messages beside a DS set that isn't empty.
-fn judge_messages<C: Checks>(case: &Case, verifier: &mut Verifier<C>) -> Result<Verdict, Refusal>
-    requires counts { verifier.old.count ≡ 0 }
-    requires other { (case.now.asked.rtype == 47) ≡ false }
-    requires other_too { (case.now.asked.rtype == 50) ≡ false }
-    ensures exact { let a = C.answers verifier.old.checks.now in
-        AnswersAs (said result) (judged_beyond a pointer_limit case.now) }
-    ensures counts { let a = C.answers verifier.old.checks.now in
-        Counts (said result) verifier.new.count (tries_beyond a pointer_limit case.now) }
-    ensures verdict { OnOk result (message_refusal pointer_limit case.now ≡ None) }
-    ensures refusal { IfErr result
-        (λ e. RefusesFirst e (message_refusal pointer_limit case.now)) }
-    ensures bound { verifier.new.count ≤ verification_bound pointer_limit case.now }
-    ensures counted { C.verified verifier.new.checks.now
-        ≡ C.verified verifier.old.checks.now + verifier.new.count }
-    ensures rises { let a = C.answers verifier.old.checks.now in
-        let due = hashes_beyond a pointer_limit case.now in
-        let old = C.hashed verifier.old.checks.now in
-        Rises (said result) old (C.hashed verifier.new.checks.now) due }
-    ensures least { C.hashed verifier.old.checks.now ≤ C.hashed verifier.new.checks.now }
-    ensures most { C.hashed verifier.new.checks.now
-        ≤ C.hashed verifier.old.checks.now + hash_bound case.now }
+        ≡ C.hashed verifier.old.checks.now + hashes.new }
     ensures same { C.answers verifier.new.checks.now ≡ C.answers verifier.old.checks.now }
     ensures same_checks { verifier.new.checks.ghost_name ≡ verifier.old.checks.ghost_name }
 {
@@ -243,7 +210,7 @@ fn judge_messages<C: Checks>(case: &Case, verifier: &mut Verifier<C>) -> Result<
         question.rtype,
         verifier,
     )?;
-    judge_facts(alloc, case, facts, verifier.checks)
+    judge_facts(alloc, case, facts, verifier.checks, hashes)
 }
 
 /// Both messages, and the records of each.

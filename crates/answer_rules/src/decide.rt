@@ -1,5 +1,5 @@
 //! What follows from verified facts (RFC 4035, 5; RFC 4592; RFC 5155, 8).
-ghost use Rattle.std.specs.Prelude.{◌≡◌, ◌⊎◌, ◌+◌, ◌≤◌, length, true, false, IfOk, OnOk, IsErrOf};
+ghost use Rattle.std.specs.Prelude.{◌≡◌, ◌⊎◌, ◌+◌, ◌<◌, ◌≤◌, ◌^◌, length, true, false, IfOk, OnOk, IsErrOf};
 ghost use Rattle.std.specs.List.{list_any};
 ghost use Rattle.std.specs.Option.{option_map};
 ghost use Rattle.denial_rules.specs.Deciding.{decided, hashed};
@@ -14,7 +14,7 @@ use crate::links::denied;
 use crate::verdict::Verdict;
 use answer_scheme::checks::Checks;
 use denial_hashes::hasher::HashError;
-use messages::names::{Name, is_at_or_above};
+use messages::names::{Name, ZoneName, is_at_or_above};
 use names_data::rtype::Rtype;
 use std::alloc::{AllocError, Global};
 
@@ -23,7 +23,7 @@ use std::alloc::{AllocError, Global};
 /// Of names outside the zone they prove none: beside an apex that is a wildcard name the last record would cover them.
 /// A verified RRset answers at once, or, expanded, beside a link alone: no other rule is tried then (RFC 4035, 5.3.4).
 /// Names are hashed beside links of a chain of hashes alone, each once, in order, until one fails; such a link is in use
-/// wherever there is one.
+/// wherever there is one. `hashes` becomes how many were hashed, whatever comes of it.
 pub fn decide<C: Checks>(
     alloc: Global,
     apex: &Name<Vec<u8>>,
@@ -31,6 +31,7 @@ pub fn decide<C: Checks>(
     name: &Name<Vec<u8>>,
     rtype: Rtype,
     checks: &mut C,
+    hashes: &mut u32,
 ) -> Result<Option<Verdict>, HashError>
     ensures verdict { let hash = (C.answers checks.old).hash in let f = facts.entry in
         IfOk result (λ v. option_map verdict_of v
@@ -51,10 +52,13 @@ pub fn decide<C: Checks>(
         C.hashed checks.new ≤ C.hashed checks.old + length names }
     ensures least { C.hashed checks.old ≤ C.hashed checks.new }
     ensures few { C.hashed checks.new ≤ C.hashed checks.old + length name.now + 2 }
+    ensures told { C.hashed checks.new ≡ C.hashed checks.old + hashes.new }
     ensures others { C.verified checks.new ≡ C.verified checks.old }
     ensures same { C.answers checks.new ≡ C.answers checks.old }
 {
-    by_rules(alloc, apex, facts, name, rtype, checks)
+    name.keeps();
+    *hashes = 0;
+    by_rules(alloc, apex, facts, name, rtype, checks, hashes)
 }
 
 /// By the rules, which say nothing of names outside the zone.
@@ -65,7 +69,9 @@ fn by_rules<C: Checks>(
     name: &Name<Vec<u8>>,
     rtype: Rtype,
     checks: &mut C,
+    count: &mut u32,
 ) -> Result<Option<Verdict>, HashError>
+    requires room { count.old + length name.now + 2 < 2 ^ 32 }
     ensures verdict { let f = facts.entry in
         let hash = hash_among (C.answers checks.old).hash f.hash_links in
         IfOk result (λ v. option_map verdict_of v ≡ decided apex.now hash f name.now rtype) }
@@ -73,6 +79,7 @@ fn by_rules<C: Checks>(
         let names = hashed apex.now (hash_among answers f.hash_links) f name.now in
         let fails = fails_among answers f.hash_links in
         Hashes fails names (C.hashed checks.old) (C.hashed checks.new) result }
+    ensures alike { C.hashed checks.new + count.old ≡ C.hashed checks.old + count.new }
     ensures others { C.verified checks.new ≡ C.verified checks.old }
     ensures same { C.answers checks.new ≡ C.answers checks.old }
 {
@@ -94,7 +101,7 @@ fn by_rules<C: Checks>(
         links: &hash_links,
         rtype,
     };
-    by_hash_links(&chain, checks, rrset, name)
+    by_hash_links(&chain, checks, count, rrset, name)
 }
 
 /// By links of names alone.
@@ -125,9 +132,11 @@ fn by_links(
 fn by_hash_links<C: Checks>(
     chain: &HashChain,
     checks: &mut C,
+    count: &mut u32,
     rrset: Option<Rrset>,
     name: &Name<Vec<u8>>,
 ) -> Result<Option<Verdict>, HashError>
+    requires room { count.old + length name.now + 2 < 2 ^ 32 }
     ensures verdict { let hash = hash_as (C.answers checks.old).hash chain.now.first.now in
         let apex = chain.now.apex.now in let links = chain.now.links.now in
         IfOk result (λ v. option_map verdict_of v
@@ -137,15 +146,16 @@ fn by_hash_links<C: Checks>(
         let fails = fails_as answers chain.now.first.now in
         let names = hashed_by chain.now.apex.now hash rrset chain.now.links.now name.now in
         Hashes fails names (C.hashed checks.old) (C.hashed checks.new) result }
+    ensures alike { C.hashed checks.new + count.old ≡ C.hashed checks.old + count.new }
     ensures others { C.verified checks.new ≡ C.verified checks.old }
     ensures same { C.answers checks.new ≡ C.answers checks.old }
 {
     let mut octets = Vec::with_capacity(chain.alloc, 255)?;
     match rrset {
-        None => hash_denied(chain, checks, &mut octets, name),
+        None => hash_denied(chain, checks, count, &mut octets, name),
         Some(rrset) => {
             if rrset.is_expanded(name) {
-                hash_expanded(chain, checks, &mut octets, rrset, name)
+                hash_expanded(chain, checks, count, &mut octets, rrset, name)
             } else {
                 Ok(Some(Verdict::Records(rrset.items)))
             }

@@ -1,5 +1,5 @@
 //! What links of a chain of hashes prove of a name and a type (RFC 5155, 8; RFC 6840, 4.1 and 4.3).
-ghost use Rattle.std.specs.Prelude.{◌≡◌, ◌+◌, ◌∷◌, [], ℕ, List, IfOk};
+ghost use Rattle.std.specs.Prelude.{◌≡◌, ◌+◌, ◌<◌, ◌^◌, ◌∷◌, [], ℕ, List, IfOk, length};
 ghost use Rattle.std.specs.Option.{option_map};
 ghost use Rattle.definitions.specs.Name.{low};
 ghost use Rattle.definitions.specs.Zone.{star_under};
@@ -36,10 +36,12 @@ pub(crate) struct HashChain<'a> {
 fn at_wildcard<C: Checks>(
     chain: &HashChain,
     checks: &mut C,
+    count: &mut u32,
     octets: &mut Vec<u8>,
     closer: &HashedName,
     encloser: &Name<&[u8]>,
 ) -> Result<Option<Verdict>, HashError>
+    requires room { count.old + 1 < 2 ^ 32 }
     requires child { (l : List ℕ) × (closer.now.name ≡ l ∷ encloser.now) }
     requires hash { let hash = hash_as (C.answers checks.old).hash chain.now.first.now in
         closer.now.hash.items ≡ hash (low closer.now.name) }
@@ -50,13 +52,14 @@ fn at_wildcard<C: Checks>(
     ensures hashes { let fails = fails_as (C.answers checks.old).hash chain.now.first.now in
         let names = hashed_star closer.now.name encloser.now in
         Hashes fails names (C.hashed checks.old) (C.hashed checks.new) result }
+    ensures alike { C.hashed checks.new + count.old ≡ C.hashed checks.old + count.new }
     ensures others { C.verified checks.new ≡ C.verified checks.old }
     ensures same { C.answers checks.new ≡ C.answers checks.old }
 {
     if closer.name.is_wildcard() {
         return Ok(first_star_at(chain.links, &closer.hash, chain.rtype));
     }
-    let star = hash_wildcard(chain.alloc, chain.first, checks, octets, encloser)?;
+    let star = hash_wildcard(chain.alloc, chain.first, checks, count, octets, encloser)?;
     Ok(first_star_at(chain.links, &star, chain.rtype))
 }
 
@@ -67,10 +70,12 @@ fn at_wildcard<C: Checks>(
 fn beyond_encloser<C: Checks>(
     chain: &HashChain,
     checks: &mut C,
+    count: &mut u32,
     octets: &mut Vec<u8>,
     closer: &HashedName,
     encloser: &Name<&[u8]>,
 ) -> Result<Option<Verdict>, HashError>
+    requires room { count.old + 1 < 2 ^ 32 }
     requires child { (l : List ℕ) × (closer.now.name ≡ l ∷ encloser.now) }
     requires hash { let hash = hash_as (C.answers checks.old).hash chain.now.first.now in
         closer.now.hash.items ≡ hash (low closer.now.name) }
@@ -82,13 +87,14 @@ fn beyond_encloser<C: Checks>(
         let links = chain.now.links.now in
         let names = hashed_beyond closer.now.hash.items closer.now.name encloser.now links in
         Hashes fails names (C.hashed checks.old) (C.hashed checks.new) result }
+    ensures alike { C.hashed checks.new + count.old ≡ C.hashed checks.old + count.new }
     ensures others { C.verified checks.new ≡ C.verified checks.old }
     ensures same { C.answers checks.new ≡ C.answers checks.old }
 {
     if !is_denied(chain.links, &closer.hash) {
         return Ok(left_open(chain.links, &closer.hash));
     }
-    match at_wildcard(chain, checks, octets, closer, encloser)? {
+    match at_wildcard(chain, checks, count, octets, closer, encloser)? {
         None => Ok(left_open(chain.links, &closer.hash)),
         found => Ok(found),
     }
@@ -98,10 +104,12 @@ fn beyond_encloser<C: Checks>(
 fn from_encloser<C: Checks>(
     chain: &HashChain,
     checks: &mut C,
+    count: &mut u32,
     octets: &mut Vec<u8>,
     closer: &HashedName,
     encloser: &HashedName,
 ) -> Result<Option<Verdict>, HashError>
+    requires room { count.old + 1 < 2 ^ 32 }
     requires child { (l : List ℕ) × (closer.now.name ≡ l ∷ encloser.now.name) }
     requires closer { let hash = hash_as (C.answers checks.old).hash chain.now.first.now in
         closer.now.hash.items ≡ hash (low closer.now.name) }
@@ -118,6 +126,7 @@ fn from_encloser<C: Checks>(
         let apex = chain.now.apex.now in let links = chain.now.links.now in
         let names = hashed_enclosed apex hash closer.now.name encloser.now.name links in
         Hashes fails names (C.hashed checks.old) (C.hashed checks.new) result }
+    ensures alike { C.hashed checks.new + count.old ≡ C.hashed checks.old + count.new }
     ensures others { C.verified checks.new ≡ C.verified checks.old }
     ensures same { C.answers checks.new ≡ C.answers checks.old }
 {
@@ -128,7 +137,7 @@ fn from_encloser<C: Checks>(
     if !is_enclosed(chain.links, &encloser.hash) {
         return Ok(None);
     }
-    beyond_encloser(chain, checks, octets, closer, &encloser.name)
+    beyond_encloser(chain, checks, count, octets, closer, &encloser.name)
 }
 
 /// What links prove of a name that none of them matches, by its parents: each is hashed, up to the apex, until one is
@@ -138,10 +147,12 @@ fn from_encloser<C: Checks>(
 fn climbed<C: Checks>(
     chain: &HashChain,
     checks: &mut C,
+    count: &mut u32,
     octets: &mut Vec<u8>,
     below: &HashedName,
 ) -> Result<Option<Verdict>, HashError>
-    requires { let hash = hash_as (C.answers checks.old).hash chain.now.first.now in
+    requires room { count.old + length below.now.name + 1 < 2 ^ 32 }
+    requires hash { let hash = hash_as (C.answers checks.old).hash chain.now.first.now in
         below.now.hash.items ≡ hash (low below.now.name) }
     ensures verdict { let hash = hash_as (C.answers checks.old).hash chain.now.first.now in
         let apex = chain.now.apex.now in let t = chain.now.rtype in
@@ -153,6 +164,7 @@ fn climbed<C: Checks>(
         let apex = chain.now.apex.now in let links = chain.now.links.now in
         let names = hashed_climbing apex hash below.now.name links in
         Hashes fails names (C.hashed checks.old) (C.hashed checks.new) result }
+    ensures alike { C.hashed checks.new + count.old ≡ C.hashed checks.old + count.new }
     ensures others { C.verified checks.new ≡ C.verified checks.old }
     ensures same { C.answers checks.new ≡ C.answers checks.old }
 {
@@ -162,20 +174,22 @@ fn climbed<C: Checks>(
     let Some(parent) = below.name.parent() else {
         return Ok(None);
     };
-    let parent = hash_name(chain.alloc, chain.first, checks, octets, parent)?;
+    let parent = hash_name(chain.alloc, chain.first, checks, count, octets, parent)?;
     if is_matched(chain.links, &parent.hash) {
-        return from_encloser(chain, checks, octets, below, &parent);
+        return from_encloser(chain, checks, count, octets, below, &parent);
     }
-    climbed(chain, checks, octets, &parent)
+    climbed(chain, checks, count, octets, &parent)
 }
 
 /// What links prove of a name: one that matches it tells, or else those that match and cover its ancestors.
 pub(crate) fn hash_denied<C: Checks>(
     chain: &HashChain,
     checks: &mut C,
+    count: &mut u32,
     octets: &mut Vec<u8>,
     name: &Name<Vec<u8>>,
 ) -> Result<Option<Verdict>, HashError>
+    requires room { count.old + length name.now + 2 < 2 ^ 32 }
     ensures verdict { let hash = hash_as (C.answers checks.old).hash chain.now.first.now in
         let apex = chain.now.apex.now in let t = chain.now.rtype in
         let links = chain.now.links.now in
@@ -186,15 +200,23 @@ pub(crate) fn hash_denied<C: Checks>(
         let apex = chain.now.apex.now in let links = chain.now.links.now in
         let names = hashed_denied apex hash name.now links in
         Hashes fails names (C.hashed checks.old) (C.hashed checks.new) result }
+    ensures alike { C.hashed checks.new + count.old ≡ C.hashed checks.old + count.new }
     ensures others { C.verified checks.new ≡ C.verified checks.old }
     ensures same { C.answers checks.new ≡ C.answers checks.old }
 {
-    let name = hash_name(chain.alloc, chain.first, checks, octets, name.for_ref())?;
+    let name = hash_name(
+        chain.alloc,
+        chain.first,
+        checks,
+        count,
+        octets,
+        name.for_ref(),
+    )?;
     if is_matched(chain.links, &name.hash) {
         let verdict = first_at_hash(chain.apex, chain.links, &name.name, &name.hash, chain.rtype);
         return Ok(verdict);
     }
-    climbed(chain, checks, octets, &name)
+    climbed(chain, checks, count, octets, &name)
 }
 
 /// What a wildcard's RRset proves of a name whose next closer name has a hash.
@@ -216,20 +238,31 @@ fn expanded_at(links: &[HashLink], rrset: Rrset, hash: &[u8]) -> Option<Verdict>
 pub(crate) fn hash_expanded<C: Checks>(
     chain: &HashChain,
     checks: &mut C,
+    count: &mut u32,
     octets: &mut Vec<u8>,
     rrset: Rrset,
     name: &Name<Vec<u8>>,
 ) -> Result<Option<Verdict>, HashError>
+    requires room { count.old + 1 < 2 ^ 32 }
     ensures verdict { let hash = hash_as (C.answers checks.old).hash chain.now.first.now in
         IfOk result (λ v. option_map verdict_of v
         ≡ hash_expanded hash name.now rrset chain.now.links.now) }
     ensures hashes { let fails = fails_as (C.answers checks.old).hash chain.now.first.now in
         let names = last_labels (rrset.labels + 1) name.now ∷ [] in
         Hashes fails names (C.hashed checks.old) (C.hashed checks.new) result }
+    ensures alike { C.hashed checks.new + count.old ≡ C.hashed checks.old + count.new }
     ensures others { C.verified checks.new ≡ C.verified checks.old }
     ensures same { C.answers checks.new ≡ C.answers checks.old }
 {
     let skipped = name.depth().saturating_sub(usize::from(rrset.labels) + 1);
-    let hash = hash_behind(chain.alloc, chain.first, checks, octets, name, skipped)?;
+    let hash = hash_behind(
+        chain.alloc,
+        chain.first,
+        checks,
+        count,
+        octets,
+        name,
+        skipped,
+    )?;
     Ok(expanded_at(chain.links, rrset, &hash))
 }

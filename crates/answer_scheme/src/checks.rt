@@ -1,5 +1,5 @@
 //! What a judge asks of what signs, digests and hashes.
-ghost use Rattle.std.specs.Prelude.{◌≡◌, ℕ, ◌+◌, ◌%◌, Some, None, IfOk, IsErrOf};
+ghost use Rattle.std.specs.Prelude.{◌≡◌, ℕ, ◌+◌, Some, None, IfOk, IsErrOf};
 ghost use Rattle.answer_scheme.specs.Answers.{Answers};
 
 use crate::error::SchemeError;
@@ -50,8 +50,4 @@ pub trait Checks {
         ensures counted { hashed self.new ≡ hashed self.old + 1 }
         ensures others { verified self.new ≡ verified self.old }
         ensures same { answers self.new ≡ answers self.old };
-
-    /// How often `hash` was called, modulo 2^32: a judge tells how often it hashed by the difference of two such counts.
-    fn hash_count(&self) -> u32
-        ensures { result ≡ hashed self.now % 4294967296 };
 }

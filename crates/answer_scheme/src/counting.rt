@@ -77,8 +77,4 @@ impl<'a, S: Scheme, H: Nsec3Hasher, L: Ledger, M: Ledger> Checks for SchemeCheck
         self.hashed.tick();
         self.hasher.hash(alloc, name, algorithm, iterations, salt)
     }
-
-    fn hash_count(&self) -> u32 {
-        self.hashed.count()
-    }
 }

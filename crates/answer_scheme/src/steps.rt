@@ -1,25 +1,22 @@
-//! Counting steps.
-ghost use Rattle.std.specs.Prelude.{◌≡◌, ℕ, ◌+◌, ◌%◌, ◌<◌};
+//! Counting steps, at no cost when the program runs.
+ghost use Rattle.std.specs.Prelude.{◌≡◌, ℕ, ◌+◌, ◌<◌};
 
 use std::marker::Model;
 use std::sync::ledger::{Blank, Book, Ledger, Share};
 
-/// How often a step was taken. When the program runs, that is known modulo 2^32.
+/// How often a step was taken. It takes no bytes when the program runs.
 #[derive(Drop)]
 pub struct Steps<L: Ledger> {
     book: Book<L>,
     share: Share<L>,
-    count: u32,
 }
 
 impl<L: Ledger> Model for Steps<L> {
-    ghost use Rattle.std.specs.Prelude.{◌≡◌, ℕ, ◌%◌, ◌<◌};
-
     ghost Value = { ℕ };
 
     ghost view = { λ s. s.book.total };
 
-    ghost invariant = { λ s. (0 < s.share.parts) × (s.count ≡ s.book.total % 4294967296) };
+    ghost invariant = { λ s. 0 < s.share.parts };
 }
 
 impl<L: Ledger> Steps<L> {
@@ -30,24 +27,12 @@ impl<L: Ledger> Steps<L> {
         ensures { result ≡ 0 }
     {
         let (book, share) = blank.open();
-        Steps {
-            book,
-            share,
-            count: 0,
-        }
+        Steps { book, share }
     }
 
     pub fn tick(&mut self)
         ensures { self.new ≡ self.old + 1 }
     {
         self.book.add(&mut self.share, 1);
-        self.count = self.count.wrapping_add(1);
-    }
-
-    /// How often, modulo 2^32.
-    pub fn count(&self) -> u32
-        ensures { result ≡ self.now % 4294967296 }
-    {
-        self.count
     }
 }

@@ -4,7 +4,7 @@ ghost use Rattle.std.specs.List.{list_any};
 ghost use Rattle.answer_judge.specs.Facts.{RefusesFirst};
 ghost use Rattle.answer_judge.specs.Judging.{hash_bound};
 ghost use Rattle.answer_judge.specs.Judged.{are_alike, are_mixed, are_over, judged_facts, said, AnswersAs};
-ghost use Rattle.answer_judge.specs.Counted.{hashes_of_facts, Rises};
+ghost use Rattle.answer_judge.specs.Counted.{hashes_of_facts, Counts};
 
 use crate::case::Case;
 use crate::judging::verdict::{Refusal, Verdict};
@@ -12,19 +12,21 @@ use answer_rules::decide::{Facts, HashLink, decide};
 use answer_scheme::checks::Checks;
 use std::alloc::Global;
 
-/// The verdict that facts prove.
+/// The verdict that facts prove, and how many names are hashed for it.
 pub(crate) fn judge_facts<C: Checks>(
     alloc: Global,
     case: &Case,
     facts: Facts,
     checks: &mut C,
+    hashes: &mut u32,
 ) -> Result<Verdict, Refusal>
+    requires { hashes.old ≡ 0 }
     ensures exact { let a = C.answers checks.old in
         AnswersAs (said result) (judged_facts a case.now facts.entry) }
-    ensures rises { let due = hashes_of_facts (C.answers checks.old) case.now facts.entry in
-        Rises (said result) (C.hashed checks.old) (C.hashed checks.new) due }
-    ensures least { C.hashed checks.old ≤ C.hashed checks.new }
-    ensures most { C.hashed checks.new ≤ C.hashed checks.old + hash_bound case.now }
+    ensures hash_counts { let a = C.answers checks.old in
+        Counts (said result) hashes.new (hashes_of_facts a case.now facts.entry) }
+    ensures hash_bound { hashes.new ≤ hash_bound case.now }
+    ensures hashed { C.hashed checks.new ≡ C.hashed checks.old + hashes.new }
     ensures refusal { IfErr result (λ e. RefusesFirst e None) }
     ensures verified { C.verified checks.new ≡ C.verified checks.old }
     ensures same { C.answers checks.new ≡ C.answers checks.old }
@@ -43,6 +45,7 @@ pub(crate) fn judge_facts<C: Checks>(
         &question.name,
         question.rtype,
         checks,
+        hashes,
     )?;
     verdict.ok_or(Refusal::NotProven)
 }

@@ -4,8 +4,8 @@ ghost use Rattle.std.specs.Prelude.{◌≡◌};
 use answer_scheme::checks::Checks;
 use std::alloc::Global;
 
-/// What verifies for one judgement: the checks, a buffer for what they are asked about, how many signatures were verified
-/// against a key so far, and how many names were hashed in the end.
+/// What verifies for one judgement: the checks, a buffer for what they are asked about, and how many signatures were verified
+/// against a key so far.
 ///
 /// The buffer is borrowed, since a struct that owns memory would keep what a caller's proof knows of its checks.
 #[derive(Drop)]
@@ -14,7 +14,6 @@ pub(crate) struct Verifier<'a, C: Checks> {
     pub(crate) checks: &'a mut C,
     pub(crate) octets: &'a mut Vec<u8>,
     pub(crate) count: u32,
-    pub(crate) hashes: u32,
 }
 
 impl<'a, C: Checks> Verifier<'a, C> {
@@ -29,7 +28,6 @@ impl<'a, C: Checks> Verifier<'a, C> {
             checks,
             octets,
             count: 0,
-            hashes: 0,
         }
     }
 }

@@ -12,7 +12,7 @@ use Rattle.messages.proofs.CountedRecords.{same_count}
 use Rattle.answer_judge.specs.Counted.{answer_sought, hashes_beyond, hashes_of_facts, keys_sought, tries}
 use Rattle.answer_judge.proofs.JudgeTotals.{key_tries_as, keys_alone, keys_and_answer}
 use Rattle.answer_judge.proofs.JudgeWhole.{beyond, chained_as, usable_as, untrusted, decided_as, unrefused}
-use Rattle.answer_judge.proofs.JudgeHashes.{facts_hashed, none_hashed, rises_from}
+use Rattle.answer_judge.proofs.JudgeHashes.{counts_as, facts_hashed, none_hashed}
 use Rattle.answer_terms.specs.EqualTags.{has_equal_tags}
 use Rattle.answer_judge.proofs.judging.judge_messages.Goals as goal
 
@@ -132,8 +132,8 @@ returns-clause-counts g c =
     usable c.in_ok-messages.ensures.answer_records more)
 
 -- no name is hashed where the keys aren't signed
-pub returns-then-not-branch-clause-rises : goal.returns-then-not-branch-clause-rises
-returns-then-not-branch-clause-rises g c =
+pub returns-then-not-branch-clause-hash_counts : goal.returns-then-not-branch-clause-hash_counts
+returns-then-not-branch-clause-hash_counts g c =
     let a = g.C.Checks.answers c.args.verifier.now.checks.now in
     let h : Handing = c.args.case.now in
     let is = c.case.view_is in
@@ -149,14 +149,13 @@ returns-then-not-branch-clause-rises g c =
     let same = ap (λ v. g.C.Checks.answers v.checks.now) rest in
     let chained : c.in_ok-are_verified.field-0 ≡ is_verified (trusting a h c.in_ok-trusted.trusted.items) pointer_limit h.dnskey_bytes rs h.apex 48 (sorted_data (map dnskey_data c.in_ok-keys.keys.items)) =
     c.in_ok-are_verified.ensures.exact ∙ (λ i. is_verified (record { answers = same i; apex = (is i).apex; keys = c.deref-4.ensures.value i; now = moment i }) pointer_limit (is i).dnskey_bytes (map spelled (c.deref-5.ensures.value i)) (is i).apex 48 (sorted_data (map dnskey_data (c.deref-6.ensures.value i)))) in
-    let count = c.in_ok-are_verified.ensures.hashed ∙ ap (λ v. g.C.Checks.hashed v.checks.now) rest in
     let due = none_hashed a h keys answer none c.in_ok-messages.ensures.keys c.in_ok-messages.ensures.answer
     (sym c.if-not-branch.true ∙ chained_as a h keys rs c.in_ok-keys.keys.items c.in_ok-trusted.trusted.items c.in_ok-are_verified.field-0 c.in_ok-messages.ensures.key_records ks trusted chained) in
-    inr (omega (arith, count, due))
+    inr (c.requires.none_hashed ∙ sym due)
 
 -- where they are, those that the facts ask for
-pub returns-clause-rises : goal.returns-clause-rises
-returns-clause-rises g c =
+pub returns-clause-hash_counts : goal.returns-clause-hash_counts
+returns-clause-hash_counts g c =
     let a = g.C.Checks.answers c.args.verifier.now.checks.now in
     let h : Handing = c.args.case.now in
     let is = c.case.view_is in
@@ -178,8 +177,7 @@ returns-clause-rises g c =
     let found : facts ≡ verified_facts (trusting a h c.usable_keys-usable.result.items) pointer_limit h.answer_bytes (map spelled c.in_ok-messages.messages.answer_records.items) h.asked.name h.asked.rtype =
     c.in_ok-facts.ensures.facts ∙ (λ i. verified_facts (record { answers = later i; apex = (is i).apex; keys = c.deref-7.ensures.value i; now = moment i }) pointer_limit (is i).answer_bytes (map spelled (c.deref-8.ensures.value i)) (is i).asked.name (is i).asked.rtype) in
     let chain = sym c.if-not-branch.false ∙ chained_as a h keys rs c.in_ok-keys.keys.items c.in_ok-trusted.trusted.items c.in_ok-are_verified.field-0 c.in_ok-messages.ensures.key_records ks trusted chained in
-    let count = c.in_ok-facts.ensures.hashed ∙ c.in_ok-are_verified.ensures.hashed ∙ ap (λ v. g.C.Checks.hashed v.checks.now) rest in
     let due = facts_hashed a h keys answer c.usable_keys-usable.result.items (map spelled c.in_ok-messages.messages.answer_records.items) facts none c.in_ok-messages.ensures.keys c.in_ok-messages.ensures.answer chain usable c.in_ok-messages.ensures.answer_records found in
     let last = c.in_ok-facts.ensures.same ∙ later in
-    rises_from (said c.judge_facts.result) (g.C.Checks.hashed c.args.verifier.now.checks.now) (g.C.Checks.hashed c.read_facts.new.verifier.checks.now) (g.C.Checks.hashed c.judge_facts.new.checks)
-    (hashes_of_facts (g.C.Checks.answers c.read_facts.new.verifier.checks.now) h facts) (hashes_beyond a pointer_limit h) count (ap (λ v. hashes_of_facts v h facts) last ∙ due) c.judge_facts.ensures.rises
+    counts_as (said c.judge_facts.result) c.judge_facts.new.hashes (hashes_of_facts (g.C.Checks.answers c.read_facts.new.verifier.checks.now) h facts) (hashes_beyond a pointer_limit h)
+    (ap (λ v. hashes_of_facts v h facts) last ∙ due) c.judge_facts.ensures.hash_counts

@@ -3,7 +3,11 @@ use Rattle.denial_rules.specs.Deciding.{hashed}
 use Rattle.denial_rules.proofs.FewHashes.{few_hashes}
 use Rattle.answer_rules.specs.Hashes.{fails_among, hash_among, up_to}
 use Rattle.answer_rules.proofs.InTurn.{all_counted, at_least, at_most, no_more, none_failed, some_failed}
+use Rattle.messages.proofs.NameLaws.{length-le-wire_len}
 use Rattle.answer_rules.proofs.decide.decide.Goals as goal
+
+pub by_rules-requires : goal.by_rules-requires
+by_rules-requires g c = omega (arith, length-le-wire_len c.args.name.now c.keeps.ensures.labels, c.keeps.ensures.short)
 
 pub returns-clause-hashed : goal.returns-clause-hashed
 returns-clause-hashed g c =
