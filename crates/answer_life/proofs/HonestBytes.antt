@@ -16,8 +16,9 @@ use Rattle.answer_terms.specs.Accepting.{sorted_records}
 use Rattle.answer_terms.specs.Asking.{is_allowed}
 use Rattle.answer_terms.specs.Hashing.{hash_in}
 use Rattle.answer_terms.specs.Made.{Content, OfKeys, OfZone, HandedOut, IsOf, IsShortGroup, WasHandedOut, groups_of, made}
-use Rattle.answer_terms.specs.Served.{Served, answer_groups, served_of}
+use Rattle.answer_terms.specs.Served.{Served, by_tag, served_of}
 use Rattle.answer_terms.specs.Told.{Tells}
+use Rattle.answer_terms.specs.ZoneView.{AcceptedZone}
 use Rattle.answer_terms.proofs.GivenTold.{told}
 use Rattle.answer_events.specs.declared.event.Event.{Event}
 use Rattle.answer_events.specs.declared.event.Act.{Act}
@@ -142,13 +143,13 @@ keys_out : (w : World) (outs : List HandedOut) (past : List ZoneKeys) (s : Sofar
     → WasHandedOut (served_in w) w.zone.apex (published_by past s.keys) (record { content = OfKeys (present_keys s.keys); signers = dnskeys (published s.keys publication.SignsKeys); at = second_of at })
 keys_out w outs past s at bytes is =
     let tells = told _ _ _ _ _ _ _ _ _ is.1 in
-    record { of = present_published past s.keys; short = short_told w.answers.verifies pointer_limit bytes tells.read.records w.zone.apex (second_of at) w.life _ _ is.0.written.short tells.groups_are }
+    record { of = present_published past s.keys; short = short_told w.answers.verifies pointer_limit bytes tells.read.records w.zone.apex (second_of at) w.life (by_tag (dnskeys (published s.keys publication.SignsKeys))) (groups_of (served_in w) w.zone.apex (OfKeys (present_keys s.keys))) is.0.written.short tells.groups_are }
 
 zone_out : (w : World) (outs : List HandedOut) (past : List ZoneKeys) (s : Sofar) (at : ℕ) (asked : Asked) (bytes : List ℕ) → is_allowed w.zone.apex asked ≡ true → IsQuestion asked → things.ShowsAnswer w s.keys at asked bytes
     → WasHandedOut (served_in w) w.zone.apex (published_by past s.keys) (record { content = OfZone asked; signers = dnskeys (published s.keys publication.SignsZone); at = second_of at })
 zone_out w outs past s at asked bytes allowed question is =
     let tells = told _ _ _ _ _ _ _ _ _ is.1 in
-    record { of = (question, allowed); short = short_told w.answers.verifies pointer_limit bytes tells.read.records w.zone.apex (second_of at) w.life _ _ is.0.written.short tells.groups_are }
+    record { of = (question, allowed); short = short_told w.answers.verifies pointer_limit bytes tells.read.records w.zone.apex (second_of at) w.life (by_tag (dnskeys (published s.keys publication.SignsZone))) (groups_of (served_in w) w.zone.apex (OfZone asked)) is.0.written.short tells.groups_are }
 
 stepped : (w : World) (outs : List HandedOut) (past : List ZoneKeys) (s t : Sofar) (at : ℕ) (a : Act) (o : Outcome) → IsSo w outs past s → StepOf w s at a o t → IsSo w (handed_with outs s.keys at a o) (past_with past s.keys a o) t
 stepped w outs past s t at (act.Key c) (outcome.Key (Ok v)) known is = called w outs past s t (call_of c) at v.items known is.0 is.1
@@ -190,7 +191,7 @@ honestly : (w : World) (rs : List HandedRr) (outs : List HandedOut) (past : List
     → Judges w at set keys bytes asked j → SaysHonestly w rs outs past s at set keys bytes asked (answer_of j)
 honestly w rs outs past s at set keys bytes asked j zone known question judges some first second octets apart =
     let h : Handing = handing w set keys bytes asked at in
-    let served : served_in w ≡ served_by w.answers h w.zone.mode rs = ap (λ z. served_of w.zone.apex w.zone.mode (hash_in w.answers.hash w.zone.mode) z.records) zone.zone_is in
+    let served : served_in w ≡ served_by w.answers h w.zone.mode rs = ap (λ (z : AcceptedZone). served_of w.zone.apex w.zone.mode (hash_in w.answers.hash w.zone.mode) z.records) zone.zone_is in
     let ks : List Dnskey = published_by past s.keys in
     judges.honest w.zone.mode rs (record {
       published = ks;

@@ -1,0 +1,20 @@
+use Rattle.std.proofs.Common.{rules, subst}
+use Rattle.definitions.specs.Limits.{pointer_limit}
+use Rattle.answer_scheme.specs.Answers.{Answers, answers_by}
+use Rattle.answer_judge.specs.Honest.{AnswersHonest}
+use Rattle.answer_judge.specs.Judging.{answer_of}
+use Rattle.answer_judge.proofs.judging.by_scheme.counted.Goals as goal
+
+pub returns : goal.returns
+returns g c = record {
+  keeps = search rules;
+  exact = search rules;
+  counts = search rules;
+  hash_counts = search rules;
+  given = search rules;
+  honest =
+      subst (λ (a : Answers). AnswersHonest a pointer_limit c.args.case.now (answer_of c.judge.result))
+      (λ i. answers_by g.S.Scheme.verifies g.S.Scheme.digest_of g.H.Nsec3Hasher.hash_of (c.new-checks.ensures.scheme i) (c.new-checks.ensures.hasher i))
+      c.judge.ensures.honest;
+  timely = search rules;
+}
