@@ -63,7 +63,6 @@ tells_zone a k h mode rs short given = record {
   records_are = given.records_are;
   accepted = given.accepted;
   short_limit = short;
-  octets = given.hashes.octets;
   allowed = given.allowed;
   told = given.answer_told;
   signs = contained_has (by_tag given.zonesigners) given.meet.signer (signer_signs a k h mode rs given);

@@ -1,14 +1,14 @@
 -- What is verified in bytes that tell a zone's answer is the zone's own facts, up to case.
 use Rattle.std.proofs.Common.{◌≡◌, ℕ, ◌<◌, ◌≤◌, Bool, true, false, ◌&&◌, ◌||◌, cond, length, List, [], ◌∷◌, ◌++◌, map, Option, Some, None, eqb, leb, refl, sym, ap, ◌∙◌, ◌⊎◌, inl, inr, ⊎_elim, arith}
-use Rattle.std.specs.Prelude.{◌==◌, IfSome, nat_lt, unwrap_or}
+use Rattle.std.specs.Prelude.{◌==◌, Contains, IfSome, nat_lt}
 use Rattle.std.specs.List.{AllByRecursion, AllZip, find}
 use Rattle.std.proofs.lemmas.Bool.{and_parts, eq-eqb, false≢true, leb-true, ltb-false, ltb-true, ne_eqb, or_from}
 use Rattle.std.proofs.lemmas.List.Folds.{list_any-append}
 use Rattle.definitions.specs.Dnskey.{Dnskey}
-use Rattle.definitions.specs.Name.{Name, IsLabel, low, same, at_or_above, wire}
+use Rattle.definitions.specs.Name.{Name, IsLabel, low, same, at_or_above}
 use Rattle.definitions.specs.Signing.{label_count}
 use Rattle.definitions.specs.Zone.{Zone, Verdict, apex_of, has, verdict}
-use Rattle.definitions.specs.ZoneChain.{Mode, Nsec, Nsec3, optout_of}
+use Rattle.definitions.specs.ZoneChain.{Mode, Nsec, Nsec3, nsec3_names, optout_of}
 use Rattle.definitions.proofs.ZoneNames.{above_lowered}
 use Rattle.denial_rules.specs.Facts.{Link, Rrset, is_expanded}
 use Rattle.denial_rules.specs.OwnFacts.{own_facts, own_hash_links, own_links, own_rrset, spoken}
@@ -18,7 +18,8 @@ use Rattle.messages.specs.Handed.{IsHanded}
 use Rattle.messages.specs.Message.{Asked, Spelled}
 use Rattle.messages.proofs.Lists.{Has, all_at, all_more, all_sorted, eqb-back}
 use Rattle.answer_terms.specs.Accepting.{over_limit, record_cmp, soas, sorted_records, zone_of, zone_with}
-use Rattle.answer_terms.specs.Hashing.{Hasher, HashesOctets, hash_in}
+use Rattle.answer_terms.specs.Chainable.{HasChain}
+use Rattle.answer_terms.specs.Hashing.{Hasher, hash_in}
 use Rattle.answer_terms.specs.Served.{Group, Served, ahead, answer_groups, proofs_of, served_of}
 use Rattle.answer_terms.specs.Told.{TellsGroups, fields_for}
 use Rattle.answer_terms.proofs.AllowedTypes.{unsigned_from}
@@ -73,10 +74,10 @@ pub record IsToldBy (w : Trusting) (k : ℕ) (m : List ℕ) (records : List Spel
   pub found : (g : Group) → find (fits_key (fields_for apex at life g key)) w.keys ≡ Some key
   pub hold : holds at life w.now ≡ true
 
--- iterations that a record holds, and hashes that are octets
-abbrev pub FitsRecords : Mode → (Name → List ℕ) → Type 0
-FitsRecords Nsec hash = Unit {0}
-FitsRecords (Nsec3 iterations salt optout) hash = (iterations < 65536) × ((n : Name) → AllByRecursion (λ x. x < 256) (hash n))
+-- iterations that a record holds, and hashes of the chain that are octets
+abbrev pub FitsRecords : Zone → Mode → (Name → List ℕ) → Type 0
+FitsRecords z Nsec hash = Unit {0}
+FitsRecords z (Nsec3 iterations salt optout) hash = (iterations < 65536) × ((n : Name) → Contains (nsec3_names z optout) n → AllByRecursion (λ x. x < 256) (hash n))
 
 module _ (w : Trusting) (k : ℕ) (m : List ℕ) (records : List Spelled) (apex : Name) (mode : Mode) (hash : Name → List ℕ) (rs : List HandedRr) (q : Name) (t : ℕ) (told : IsToldBy w k m records apex mode hash rs q t) where
   abbrev z : Zone
@@ -169,7 +170,7 @@ module _ (w : Trusting) (k : ℕ) (m : List ℕ) (records : List Spelled) (apex 
 abbrev FactsTold : Trusting → ℕ → List ℕ → List Spelled → Name → Mode → (Name → List ℕ) → List HandedRr → Name → ℕ → Type 0
 FactsTold w k m records apex mode hash rs q t = low_facts (verified_facts w k m records q t) ≡ own_facts (zone_with apex rs) hash mode q t
 
-pub facts_told : (w : Trusting) (k : ℕ) (m : List ℕ) (records : List Spelled) (apex : Name) (mode : Mode) (hash : Name → List ℕ) (rs : List HandedRr) (q : Name) (t : ℕ) → IsToldBy w k m records apex mode hash rs q t → FitsRecords mode hash → FactsTold w k m records apex mode hash rs q t
+pub facts_told : (w : Trusting) (k : ℕ) (m : List ℕ) (records : List Spelled) (apex : Name) (mode : Mode) (hash : Name → List ℕ) (rs : List HandedRr) (q : Name) (t : ℕ) → IsToldBy w k m records apex mode hash rs q t → FitsRecords (zone_with apex rs) mode hash → FactsTold w k m records apex mode hash rs q t
 facts_told w k m records apex Nsec hash rs q t told fits =
     let f = is_front w k m records apex Nsec hash rs q t told in
     facts_behind w k m records apex Nsec hash rs q t told
@@ -196,16 +197,12 @@ owners_named rs h = all_sorted (λ r. AllByRecursion IsLabel r.owner) record_cmp
 
 -- ---- hashes
 
-octets_in : (h : Option (List ℕ)) → ((o : List ℕ) → h ≡ Some o → AllByRecursion (λ x. x < 256) o) → AllByRecursion (λ x. x < 256) (unwrap_or h [])
-octets_in None f = tt
-octets_in (Some o) f = f o refl
-
 small_iterations : (a b : ℕ) → nat_lt a b ≡ false → a < 65536 → b < 65536
 small_iterations a b h small = let over = ltb-false a b h in omega (arith, over, small)
 
-pub fitting : (hash : Hasher) (mode : Mode) (limit : ℕ) → limit < 65536 → over_limit mode limit ≡ false → HashesOctets hash mode → FitsRecords mode (hash_in hash mode)
-fitting hash Nsec limit small within octets = tt
-fitting hash (Nsec3 iterations salt optout) limit small within octets = (small_iterations limit iterations within small, λ n. octets_in (hash (wire (low n)) 1 iterations salt) (octets (wire (low n))))
+pub fitting : (hash : Hasher) (z : Zone) (mode : Mode) (limit : ℕ) → limit < 65536 → over_limit mode limit ≡ false → HasChain hash mode z → FitsRecords z mode (hash_in hash mode)
+fitting hash z Nsec limit small within chain = tt
+fitting hash z (Nsec3 iterations salt optout) limit small within chain = (small_iterations limit iterations within small, chain.octets)
 
 -- ---- what an accepted zone gave
 
@@ -237,7 +234,7 @@ pub told_facts_are_own : ToldFactsAreOwn
 told_facts_are_own w k mode rs asked bytes t =
     facts_told w k bytes t.told.read.records w.apex mode (hash_in w.answers.hash mode) (sorted_records rs) asked.name asked.rtype
     (told_by w k mode rs asked bytes t)
-    (fitting w.answers.hash mode t.limit t.short_limit t.accepted.faultless.within_limit t.octets)
+    (fitting w.answers.hash (zone_of w.apex rs) mode t.limit t.short_limit t.accepted.faultless.within_limit t.accepted.chain)
 
 -- the RRset of its own facts is expanded no further than from the apex
 abbrev RrsetInside : Name → Name → Option Rrset → Type 0

@@ -1,6 +1,6 @@
 -- A label that spells octets in base32hex, and one that spells none.
 use Rattle.std.proofs.Common.{◌≡◌, ℕ, zero, suc, ◌+◌, ◌*◌, ◌/◌, ◌%◌, ◌<◌, ◌≤◌, Bool, true, false, not, cond, List, [], ◌∷◌, length, refl, sym, subst, ap, ◌∙◌, arith, inl, inr, ⊎_elim, leb, ltb}
-use Rattle.std.specs.Prelude.{◌&&◌, ◌||◌, Some, None, slice_index}
+use Rattle.std.specs.Prelude.{◌&&◌, ◌||◌, Some, None}
 use Rattle.std.specs.List.{AllByRecursion, prefix_len}
 use Rattle.std.specs.Char.{to_ascii_lowercase}
 use Rattle.std.specs.Str.{IsAscii, IsUtf8, str_to_ascii_lowercase}
@@ -185,10 +185,3 @@ label_refused l e h n = unspelled l (refused_digits (str_to_ascii_lowercase l) e
 
 pub text_refused : (t l : List ℕ) (e : DecodeError) → t ≡ l → RefusedText t e → RefusedText l e
 text_refused t l e same h = subst (λ x. RefusedText x e) same h
-
-pub bytes_all : (s xs : List ℕ) → s ≡ xs → ((k : ℕ) → slice_index s k < 256) → AllByRecursion (λ x. x < 256) xs
-bytes_all s xs e h = subst AreBytes e (each s h)
-  where
-    each : (ys : List ℕ) → ((k : ℕ) → slice_index ys k < 256) → AreBytes ys
-    each [] f = tt
-    each (y ∷ ys) f = (f zero, each ys (λ k. f (suc k)))

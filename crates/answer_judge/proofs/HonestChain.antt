@@ -1,14 +1,14 @@
 -- Records of a zone's chain that are verified say true links.
 use Rattle.std.proofs.Common.{◌≡◌, ℕ, ◌<◌, Bool, true, List, [], ◌∷◌, ◌++◌, Some, None, eqb, refl, sym, ap, subst, ◌∙◌}
-use Rattle.std.specs.List.{AllByRecursion}
+use Rattle.std.specs.List.{AllByRecursion, Contains}
 use Rattle.std.proofs.lemmas.Bool.{false≢true}
 use Rattle.definitions.specs.Base32hex.{base32hex}
 use Rattle.definitions.specs.Bitmap.{bitmap}
 use Rattle.definitions.specs.Name.{Name, IsName, low, wire}
 use Rattle.definitions.specs.Signing.{label_count, signed_owner}
 use Rattle.definitions.specs.Zone.{Zone}
-use Rattle.definitions.specs.ZoneChain.{Mode, Nsec, Nsec3, hashed_names, nsec_names, nsec_next, nsec_types, nsec3_data, parameters_of}
-use Rattle.definitions.proofs.Members.{In, contained}
+use Rattle.definitions.specs.ZoneChain.{Mode, Nsec, Nsec3, hashed_names, nsec_names, nsec_next, nsec_types, nsec3_data, nsec3_names, parameters_of}
+use Rattle.definitions.proofs.Members.{In, contained, sort_has}
 use Rattle.definitions.proofs.SignedLaws.{Labelled, wire_of}
 use Rattle.denial_rules.specs.Facts.{HashLink, Link}
 use Rattle.denial_rules.specs.OwnFacts.{hash_link_of}
@@ -30,7 +30,7 @@ use Rattle.answer_judge.proofs.HonestFacts.{IsChainRecord, IsHashRecord, IsNextR
 use Rattle.answer_judge.proofs.HonestMade.{owner_whole}
 use Rattle.answer_judge.proofs.HonestReads.{ReadsNext, link_read}
 use Rattle.answer_judge.proofs.OwnChain.{chain_group, chain_labels, low-chain_owner, read_low}
-use Rattle.answer_judge.proofs.OwnHashed.{hashed_group, low-hashed_owner, says}
+use Rattle.answer_judge.proofs.OwnHashed.{by_hash, by_hash_total, hashed_group, low-hashed_owner, says}
 
 -- ---- a chain of names
 
@@ -50,7 +50,7 @@ module _ (apex : Name) (hash : Name → List ℕ) (rs : List HandedRr) (servable
       let owner : low r.owner ≡ o = x.chain.owner_is ∙ owner_whole (label_count o) (chain_group apex rs hash o).owner (chain_labels apex rs hash o i) ∙ low-chain_owner apex rs hash o i in
       let low_next : low next ≡ nsec_next z o = ap (λ (y : Link). y.next) (read_low apex rs hash servable o i) in
       subst (IsTrueLink z) x.is (record {
-        owner = subst (Rattle.std.specs.Prelude.Contains (nsec_names z)) (sym owner) (contained (nsec_names z) o i);
+        owner = subst (Contains (nsec_names z)) (sym owner) (contained (nsec_names z) o i);
         next = ap low said.0 ∙ low_next ∙ ap (nsec_next z) (sym owner);
         bits = said.1 ∙ ap (λ n. bitmap (nsec_types z true n)) (sym owner);
       })
@@ -61,7 +61,7 @@ module _ (apex : Name) (hash : Name → List ℕ) (rs : List HandedRr) (servable
 
 -- ---- a chain of hashes
 
-module _ (apex : Name) (hash : Name → List ℕ) (rs : List HandedRr) (iterations : ℕ) (salt : List ℕ) (optout : Bool) (octets : (n : Name) → AllByRecursion (λ x. x < 256) (hash n)) (small : iterations < 65536) where
+module _ (apex : Name) (hash : Name → List ℕ) (rs : List HandedRr) (iterations : ℕ) (salt : List ℕ) (optout : Bool) (octets : (n : Name) → Contains (nsec3_names (zone_with apex rs) optout) n → AllByRecursion (λ x. x < 256) (hash n)) (small : iterations < 65536) where
   abbrev zone : Zone
   zone = zone_with apex rs
 
@@ -77,11 +77,13 @@ module _ (apex : Name) (hash : Name → List ℕ) (rs : List HandedRr) (iteratio
   pub hash_of : (m : List ℕ) (r : Spelled) (l : HashLink) → IsHashRecord (served_of apex mode hash rs) m r l → IsHashOf l
   hash_of m r l x =
       let o : Name = x.chain.name in
-      let say : SaysHashLink apex (hashed_group apex rs hash iterations salt optout octets o) (hash_link_of zone hash iterations salt optout o) = says apex rs hash iterations salt optout octets small o in
+      let named : In o (nsec3_names zone optout) = sort_has (by_hash hash) (by_hash_total hash) (nsec3_names zone optout) o (has_in (hashed_names hash zone optout) o x.chain.there) in
+      let bytes : AllByRecursion (λ x. x < 256) (hash o) = octets o (contained (nsec3_names zone optout) o named) in
+      let say : SaysHashLink apex (hashed_group apex rs hash iterations salt optout o) (hash_link_of zone hash iterations salt optout o) = says apex rs hash iterations salt optout small o bytes in
       let data_is : data_of m r ≡ say.datum = x.chain.data_is say.datum say.data_are in
       let next : x.next ≡ say.next = some_is x.next say.next (sym x.reads ∙ ap nsec3_of data_is ∙ say.reads) in
-      let owner : low r.owner ≡ base32hex (hash o) ∷ low apex = x.chain.owner_is ∙ owner_whole (label_count (hashed_group apex rs hash iterations salt optout octets o).owner) (hashed_group apex rs hash iterations salt optout octets o).owner refl ∙ low-hashed_owner apex rs hash iterations salt optout octets o in
-      let spelled : hash_spelled r.owner ≡ hash o = (owner_spells apex r.owner (hash o) (octets o) owner).1 in
+      let owner : low r.owner ≡ base32hex (hash o) ∷ low apex = x.chain.owner_is ∙ owner_whole (label_count (hashed_group apex rs hash iterations salt optout o).owner) (hashed_group apex rs hash iterations salt optout o).owner refl ∙ low-hashed_owner apex rs hash iterations salt optout o bytes in
+      let spelled : hash_spelled r.owner ≡ hash o = (owner_spells apex r.owner (hash o) bytes owner).1 in
       record {
         name = o;
         there = x.chain.there;

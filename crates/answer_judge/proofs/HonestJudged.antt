@@ -71,8 +71,8 @@ module _ (a : Answers) (k : ℕ) (h : Handing) (mode : Mode) (rs : List HandedRr
         outs_are = x.handed_out_are;
       }
 
-  fits : FitsRecords mode hash
-  fits = fitting a.hash mode h.limit short x.accepted.faultless.within_limit x.hashes_are
+  fits : FitsRecords z mode hash
+  fits = fitting a.hash z mode h.limit short x.accepted.faultless.within_limit x.accepted.chain
 
   pub says_truly : (v : Verdict) → judged a k h ≡ Says v → v ≡ verdict z (optout_of mode) h.asked.name h.asked.rtype
   says_truly v e =

@@ -33,7 +33,7 @@ pub record AreTrueHere (apex : Name) (mode : Mode) (hash : Name → List ℕ) (r
 
 pub true_here : (a : Answers) (k : ℕ) (h : Handing) (mode : Mode) (hash : Name → List ℕ) (rs : List HandedRr) (published : List Dnskey) (outs : List HandedOut) (known : IsLife h.apex mode hash rs published outs) (life : ℕ) (m : List ℕ) (read : Message)
     (honest : IsHonest a k h published (made (served_of h.apex mode hash rs) h.apex life outs) m) (reads : message k m ≡ Ok read) (keys : List Dnskey) (trusted : (key : Dnskey) → Has keys key → Contains published key)
-    → FitsRecords mode hash → (q : Name) (t : ℕ) → is_foreign_type t ≡ false → AreTrueHere h.apex mode hash rs q t (verified_facts (trusting a h keys) k m read.records q t)
+    → FitsRecords (zone_with h.apex rs) mode hash → (q : Name) (t : ℕ) → is_foreign_type t ≡ false → AreTrueHere h.apex mode hash rs q t (verified_facts (trusting a h keys) k m read.records q t)
 true_here a k h Nsec hash rs published outs known life m read honest reads keys trusted fits q t asked =
     let hashes = none_kept_of (hash_link_at (trusting a h keys) k m read.records) read.records (λ r l i e. no_hashes h.apex hash rs known.servable known.apex_is known.handed m r l (hash_record a k h Nsec hash rs published outs known life m read honest reads keys trusted r l i e)) in
     record {

@@ -1,11 +1,11 @@
 -- The RRsets of a zone's chain behind the others of an answer, whichever chain it is.
 use Rattle.std.proofs.Common.{◌≡◌, ℕ, ◌<◌, Bool, true, false, length, List, [], ◌∷◌, ◌++◌, map, eqb, refl, sym, ap, subst, ◌∙◌, inl, inr, arith}
-use Rattle.std.specs.List.{AllByRecursion, AllZip, filter, list_any}
+use Rattle.std.specs.List.{AllByRecursion, AllZip, Contains, filter, list_any}
 use Rattle.std.proofs.lemmas.Bool.{and_left, or_from}
 use Rattle.definitions.specs.Name.{Name, IsLabel, at_or_above, name_cmp}
 use Rattle.definitions.specs.Zone.{Zone, kept_owners}
 use Rattle.definitions.specs.ZoneChain.{Mode, Nsec, Nsec3, hashed_names, nsec3_names, nsec_names}
-use Rattle.definitions.proofs.Members.{In, filter_in, sort_rises}
+use Rattle.definitions.proofs.Members.{In, contained, filter_in, sort_has, sort_rises}
 use Rattle.definitions.proofs.NameLaws.{name_cmp_total}
 use Rattle.denial_rules.specs.Facts.{HashLink, Link}
 use Rattle.denial_rules.specs.OwnFacts.{hash_link_speaks, link_speaks, own_hash_links, own_links}
@@ -96,14 +96,18 @@ module _ (apex : Name) (rs : List HandedRr) (q : Name) (t : ℕ) (hash : Name �
     abbrev taken : List Name
     taken = filter (λ o. list_any (hash_link_speaks z hash optout o) qs) (hashed_names hash z optout)
 
-    pub hashes_behind : ((n : Name) → AllByRecursion (λ x. x < 256) (hash n)) → iterations < 65536 → eqb t 50 ≡ false → IsBehind apex q t front (proofs_of (served_of apex mode hash rs) qs) (own_links z mode qs) (own_hash_links z hash mode qs)
+    taken_in : (o : Name) → In o taken → In o (nsec3_names z optout)
+    taken_in o i = sort_has (by_hash hash) (by_hash_total hash) (nsec3_names z optout) o (filter_in (λ o. list_any (hash_link_speaks z hash optout o) qs) (hashed_names hash z optout) o i).0
+
+    pub hashes_behind : ((n : Name) → Contains (nsec3_names z optout) n → AllByRecursion (λ x. x < 256) (hash n)) → iterations < 65536 → eqb t 50 ≡ false → IsBehind apex q t front (proofs_of (served_of apex mode hash rs) qs) (own_links z mode qs) (own_hash_links z hash mode qs)
     hashes_behind octets small other =
-        let f : Name → Group = hashed_group apex rs hash iterations salt optout octets in
+        let f : Name → Group = hashed_group apex rs hash iterations salt optout in
+        let bytes : (o : Name) → In o taken → AllByRecursion (λ x. x < 256) (hash o) = λ o i. octets o (contained (nsec3_names z optout) o (taken_in o i)) in
         let rise = kept_rise (by_hash hash) (by_hash_total hash) (λ o. list_any (hash_link_speaks z hash optout o) qs) (hashed_names hash z optout) (sort_rises (by_hash hash) (by_hash_total hash) (nsec3_names z optout)) in
         record {
           ordinary = all_mapped is_ordinary f taken (λ o i. refl);
           unasked = none_asked f 50 (λ o. refl) q t other taken;
-          alone = apart_behind f 50 (λ o. refl) front taken unhashed alone (hashed_apart apex rs hash iterations salt optout octets taken rise);
+          alone = apart_behind f 50 (λ o. refl) front taken unhashed alone (hashed_apart apex rs hash iterations salt optout taken bytes rise);
           each = all_mapped (IsVerifiable apex) f taken (λ o i. record {
             signed = refl;
             some = omega arith;
@@ -113,5 +117,5 @@ module _ (apex : Name) (rs : List HandedRr) (q : Name) (t : ℕ) (hash : Name �
           read = [];
           says = subst (λ gs. AllZip SaysLink gs []) (sym (both_none is_nsec f (λ o. refl) front taken beside)) tt;
           lowered = refl;
-          hashed = subst (λ gs. AllZip (SaysHashLink apex) gs (map (hash_link apex rs hash iterations salt optout octets) taken)) (sym (kept_behind is_nsec3 f (λ o. refl) front taken unhashed)) (hashed_say apex rs hash iterations salt optout octets small taken);
+          hashed = subst (λ gs. AllZip (SaysHashLink apex) gs (map (hash_link apex rs hash iterations salt optout) taken)) (sym (kept_behind is_nsec3 f (λ o. refl) front taken unhashed)) (hashed_say apex rs hash iterations salt optout small taken bytes);
         }

@@ -87,7 +87,7 @@ by_hash hash a b = hash_cmp (hash a) (hash b)
 pub by_hash_total : (hash : Name → List ℕ) → IsTotalOrder (by_hash hash)
 by_hash_total hash = on_total hash nat_list_cmp_total
 
-module _ (apex : Name) (rs : List HandedRr) (hash : Name → List ℕ) (iterations : ℕ) (salt : List ℕ) (optout : Bool) (octets : (n : Name) → AllByRecursion (λ x. x < 256) (hash n)) where
+module _ (apex : Name) (rs : List HandedRr) (hash : Name → List ℕ) (iterations : ℕ) (salt : List ℕ) (optout : Bool) where
   abbrev z : Zone
   z = zone_with apex rs
 
@@ -103,26 +103,29 @@ module _ (apex : Name) (rs : List HandedRr) (hash : Name → List ℕ) (iteratio
   abbrev pub hash_link : Name → HashLink
   hash_link o = hash_link_of z hash iterations salt optout o
 
-  pub low-hashed_owner : (o : Name) → low (hashed_group o).owner ≡ base32hex (hash o) ∷ low apex
-  low-hashed_owner o = λ i. digits_low (hash o) (octets o) i ∷ low-spelled_as apex rs (low apex) (low-low apex) i
+  abbrev HasOctets : Name → Type 0
+  HasOctets o = AllByRecursion (λ x. x < 256) (hash o)
+
+  pub low-hashed_owner : (o : Name) → HasOctets o → low (hashed_group o).owner ≡ base32hex (hash o) ∷ low apex
+  low-hashed_owner o octets = λ i. digits_low (hash o) octets i ∷ low-spelled_as apex rs (low apex) (low-low apex) i
 
   -- hashes have the digits of one hash only
-  unlike : (o n : Name) → by_hash hash o n ≡ Less → same (hashed_group n).owner (hashed_group o).owner ≡ false
-  unlike o n l = false_from_ne_true _ (λ e.
-      let alike : base32hex (hash n) ∷ low apex ≡ base32hex (hash o) ∷ low apex = sym (low-hashed_owner n) ∙ same_labels (low (hashed_group n).owner) (low (hashed_group o).owner) e ∙ low-hashed_owner o in
+  unlike : (o n : Name) → HasOctets o → HasOctets n → by_hash hash o n ≡ Less → same (hashed_group n).owner (hashed_group o).owner ≡ false
+  unlike o n a b l = false_from_ne_true _ (λ e.
+      let alike : base32hex (hash n) ∷ low apex ≡ base32hex (hash o) ∷ low apex = sym (low-hashed_owner n b) ∙ same_labels (low (hashed_group n).owner) (low (hashed_group o).owner) e ∙ low-hashed_owner o a in
       let digits : base32hex (hash n) ≡ base32hex (hash o) = first_label (base32hex (hash n)) (base32hex (hash o)) (low apex) (low apex) alike in
-      let is : hash n ≡ hash o = sym (decodes (hash n) (octets n)) ∙ ap decoded digits ∙ decodes (hash o) (octets o) in
+      let is : hash n ≡ hash o = sym (decodes (hash n) b) ∙ ap decoded digits ∙ decodes (hash o) a in
       let even : by_hash hash o n ≡ Equal = ap (hash_cmp (hash o)) is ∙ tied_itself nat_list_cmp_total (hash o) in
       let bad : Less ≡ Equal = sym l ∙ even in
       cc)
 
-  none_later : (o : Name) (ns : List Name) → ((n : Name) → In n ns → by_hash hash o n ≡ Less) → list_any (is_rrset (hashed_group o).owner 50) (map hashed_group ns) ≡ false
-  none_later o [] h = refl
-  none_later o (n ∷ ns) h = or_from _ _ (unlike o n (h n (inl refl))) (none_later o ns (λ x j. h x (inr j)))
+  none_later : (o : Name) (ns : List Name) → HasOctets o → ((n : Name) → In n ns → HasOctets n) → ((n : Name) → In n ns → by_hash hash o n ≡ Less) → list_any (is_rrset (hashed_group o).owner 50) (map hashed_group ns) ≡ false
+  none_later o [] a b h = refl
+  none_later o (n ∷ ns) a b h = or_from _ _ (unlike o n a (b n (inl refl)) (h n (inl refl))) (none_later o ns a (λ x j. b x (inr j)) (λ x j. h x (inr j)))
 
-  pub hashed_apart : (ns : List Name) → Rises (by_hash hash) (by_hash_total hash) ns → has_twins (map hashed_group ns) ≡ false
-  hashed_apart [] h = refl
-  hashed_apart (n ∷ ns) h = or_from _ _ (none_later n ns h.0) (hashed_apart ns h.1)
+  pub hashed_apart : (ns : List Name) → ((n : Name) → In n ns → HasOctets n) → Rises (by_hash hash) (by_hash_total hash) ns → has_twins (map hashed_group ns) ≡ false
+  hashed_apart [] b h = refl
+  hashed_apart (n ∷ ns) b h = or_from _ _ (none_later n ns (b n (inl refl)) (λ x j. b x (inr j)) h.0) (hashed_apart ns (λ x j. b x (inr j)) h.1)
 
   -- ---- what they say
 
@@ -136,10 +139,10 @@ module _ (apex : Name) (rs : List HandedRr) (hash : Name → List ℕ) (iteratio
       go true = refl
       go false = refl
 
-  pub says : iterations < 65536 → (o : Name) → SaysHashLink apex (hashed_group o) (hash_link o)
-  says small o = record {
-    octets = octets o;
-    owner_is = low-hashed_owner o;
+  pub says : iterations < 65536 → (o : Name) → HasOctets o → SaysHashLink apex (hashed_group o) (hash_link o)
+  says small o octets = record {
+    octets = octets;
+    owner_is = low-hashed_owner o octets;
     datum = nsec3_data hash z parameters o;
     data_are = refl;
     next = next o;
@@ -148,6 +151,6 @@ module _ (apex : Name) (rs : List HandedRr) (hash : Name → List ℕ) (iteratio
     is = λ i. record (hash_link o) { opt_out = flag_back optout i };
   }
 
-  pub hashed_say : iterations < 65536 → (ns : List Name) → AllZip (SaysHashLink apex) (map hashed_group ns) (map hash_link ns)
-  hashed_say small [] = tt
-  hashed_say small (o ∷ ns) = (says small o, hashed_say small ns)
+  pub hashed_say : iterations < 65536 → (ns : List Name) → ((n : Name) → In n ns → HasOctets n) → AllZip (SaysHashLink apex) (map hashed_group ns) (map hash_link ns)
+  hashed_say small [] b = tt
+  hashed_say small (o ∷ ns) b = (says small o (b o (inl refl)), hashed_say small ns (λ x j. b x (inr j)))

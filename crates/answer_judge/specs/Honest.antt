@@ -15,7 +15,7 @@ use Rattle.messages.specs.WrittenLaws.{IsQuestion}
 use Rattle.answer_scheme.specs.Answers.{Answers}
 use Rattle.answer_terms.specs.Accepted.{IsAccepted}
 use Rattle.answer_terms.specs.Accepting.{sorted_records, zone_of}
-use Rattle.answer_terms.specs.Hashing.{HashesOctets, hash_in}
+use Rattle.answer_terms.specs.Hashing.{hash_in}
 use Rattle.answer_terms.specs.Made.{HandedOut, WasHandedOut, made}
 use Rattle.answer_terms.specs.Served.{Served, served_of}
 use Rattle.answer_judge.specs.Facts.{is_signature}
@@ -68,7 +68,6 @@ pub record AreHonest (a : Answers) (k : ℕ) (h : Handing) (mode : Mode) (rs : L
   pub apex_is : IsName h.apex
   pub records_are : AllByRecursion IsHanded rs
   pub accepted : IsAccepted a.hash h.apex mode h.limit rs
-  pub hashes_are : HashesOctets a.hash mode
   pub apart : NoSharedHash (zone_of h.apex rs) (hash_in a.hash mode) mode h.asked.name
   pub asked_is : IsQuestion h.asked
   pub ds_some : h.ds ≡ [] → ⊥

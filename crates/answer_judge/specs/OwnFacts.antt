@@ -10,7 +10,7 @@ use Rattle.messages.specs.HandedRr.{HandedRr}
 use Rattle.messages.specs.Message.{Asked}
 use Rattle.answer_terms.specs.Accepting.{sorted_records, zone_of}
 use Rattle.answer_terms.specs.Accepted.{IsAccepted}
-use Rattle.answer_terms.specs.Hashing.{HashesOctets, hash_in}
+use Rattle.answer_terms.specs.Hashing.{hash_in}
 use Rattle.answer_terms.specs.Asking.{is_allowed}
 use Rattle.answer_terms.specs.FactsCase.{low_facts}
 use Rattle.answer_terms.specs.Served.{answer_groups, served_of}
@@ -23,7 +23,7 @@ abbrev pub passes_for : Dnskey → Dnskey → Bool
 passes_for signer k = (key_tag k == key_tag signer) && (k.algorithm == signer.algorithm)
 
 -- Bytes tell the answer of an accepted zone to an allowed question; one of the keys that sign it is the first trusted key of
--- its tag and algorithm, and the signatures hold. Iterations are numbers of 16 bits (RFC 5155, 3.1.3), and hashes octets.
+-- its tag and algorithm, and the signatures hold. Iterations are numbers of 16 bits (RFC 5155, 3.1.3).
 pub record TellsZone (w : Trusting) (k : ℕ) (mode : Mode) (rs : List HandedRr) (asked : Asked) (bytes : List ℕ) : Type 0 where
   pub limit : ℕ
   pub at : ℕ
@@ -34,7 +34,6 @@ pub record TellsZone (w : Trusting) (k : ℕ) (mode : Mode) (rs : List HandedRr)
   pub records_are : AllByRecursion IsHanded rs
   pub accepted : IsAccepted w.answers.hash w.apex mode limit rs
   pub short_limit : limit < 65536
-  pub octets : HashesOctets w.answers.hash mode
   pub allowed : is_allowed w.apex asked ≡ true
   pub told : Tells w.answers.verifies k w.apex at life keys asked (answer_groups (served_of w.apex mode (hash_in w.answers.hash mode) (sorted_records rs)) asked.name asked.rtype) bytes
   pub signs : Contains keys signer

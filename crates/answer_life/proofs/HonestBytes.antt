@@ -189,7 +189,7 @@ Judges w at ds keys bytes asked j = IsJudgement pointer_limit w.answers (handing
 
 honestly : (w : World) (rs : List HandedRr) (outs : List HandedOut) (past : List ZoneKeys) (s : Sofar) (at : ℕ) (set : List Ds) (keys bytes : List ℕ) (asked : Asked) (j : Result Judgement Refused) → IsZoneOf w rs → IsSo w outs past s → IsQuestion asked
     → Judges w at set keys bytes asked j → SaysHonestly w rs outs past s at set keys bytes asked (answer_of j)
-honestly w rs outs past s at set keys bytes asked j zone known question judges some first second octets apart =
+honestly w rs outs past s at set keys bytes asked j zone known question judges some first second apart =
     let h : Handing = handing w set keys bytes asked at in
     let served : served_in w ≡ served_by w.answers h w.zone.mode rs = ap (λ (z : AcceptedZone). served_of w.zone.apex w.zone.mode (hash_in w.answers.hash w.zone.mode) z.records) zone.zone_is in
     let ks : List Dnskey = published_by past s.keys in
@@ -200,7 +200,6 @@ honestly w rs outs past s at set keys bytes asked j zone known question judges s
       apex_is = zone.apex_is;
       records_are = zone.records_are;
       accepted = zone.accepted;
-      hashes_are = octets;
       apart = apart;
       asked_is = question;
       ds_some = some;

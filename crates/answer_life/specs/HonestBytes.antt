@@ -10,7 +10,7 @@ use Rattle.messages.specs.HandedRr.{HandedRr}
 use Rattle.messages.specs.Message.{Asked}
 use Rattle.messages.specs.Questions.{asked_of}
 use Rattle.answer_terms.specs.Accepting.{zone_of}
-use Rattle.answer_terms.specs.Hashing.{HashesOctets, hash_in}
+use Rattle.answer_terms.specs.Hashing.{hash_in}
 use Rattle.answer_terms.specs.Made.{HandedOut, OfKeys, OfZone, made}
 use Rattle.answer_events.specs.declared.event.Event.{Event}
 use Rattle.answer_events.specs.declared.event.Act.{Act}
@@ -51,13 +51,13 @@ made_by w outs = made (served_in w) w.zone.apex w.life outs
 abbrev pub IsHonestSo : World → List HandedOut → List ZoneKeys → Sofar → Handing → List ℕ → Type 0
 IsHonestSo w outs past s h m = IsHonest w.answers pointer_limit h (published_by past s.keys) (made_by w outs) m
 
--- Beside a DS set that isn't empty a judgement of two such messages says the zone's verdict, or refuses; of NSEC3 where hashes
--- are octets and the names that the question concerns share none.
+-- Beside a DS set that isn't empty a judgement of two such messages says the zone's verdict, or refuses; of NSEC3 where
+-- the names that the question concerns share no hash.
 abbrev pub SaysHonestly : World → List HandedRr → List HandedOut → List ZoneKeys → Sofar → ℕ → List Ds → List ℕ → List ℕ → Asked → Answer → Type 0
 SaysHonestly w rs outs past s at set dnskey bytes asked answer =
     (set ≡ [] → ⊥)
     → IsHonestSo w outs past s (handing w set dnskey bytes asked at) dnskey → IsHonestSo w outs past s (handing w set dnskey bytes asked at) bytes
-    → HashesOctets w.answers.hash w.zone.mode → NoSharedHash (zone_of w.zone.apex rs) (hash_in w.answers.hash w.zone.mode) w.zone.mode asked.name
+    → NoSharedHash (zone_of w.zone.apex rs) (hash_in w.answers.hash w.zone.mode) w.zone.mode asked.name
     → SaysAtMost (verdict (zone_of w.zone.apex rs) (optout_of w.zone.mode) asked.name asked.rtype) answer
 
 -- of things that were shown, and of any bytes beside a DS set that was shown

@@ -1,3 +1,4 @@
+pub mod Octets
 pub mod ZoneServed
 pub mod Climbing
 pub mod ZoneData

@@ -1,5 +1,6 @@
 -- What a chain of hashes asks of its hasher, and why there is none (RFC 5155, 7.1).
-use Rattle.std.specs.Prelude.{◌≡◌, ℕ, Bool, List, Contains, Some, None}
+use Rattle.std.specs.Prelude.{◌≡◌, ℕ, ◌<◌, Bool, List, Contains, Some, None}
+use Rattle.std.specs.List.{AllByRecursion}
 use Rattle.definitions.specs.Laws.{NoneShare}
 use Rattle.definitions.specs.Name.{Name, low, wire}
 use Rattle.definitions.specs.Zone.{Zone}
@@ -23,9 +24,10 @@ abbrev pub AllHashed : Hasher → ℕ → List ℕ → Bool → Zone → Type 0
 AllHashed hash iterations salt optout z =
     (n : Name) → Contains (nsec3_names z optout) n → (h : List ℕ) × HasHash hash iterations salt n h
 
--- the hash of each name fits, and no two names share one
+-- the hash of each name is of octets and fits, and no two names share one
 pub record IsChainable (hash : Hasher) (iterations : ℕ) (salt : List ℕ) (optout : Bool) (z : Zone) : Type 0 where
   pub hashed : AllHashed hash iterations salt optout z
+  pub octets : (n : Name) → Contains (nsec3_names z optout) n → AllByRecursion (λ x. x < 256) (hash_in hash (Nsec3 iterations salt optout) n)
   pub fit : (n : Name) → Contains (nsec3_names z optout) n → FitsName z.name (hash_in hash (Nsec3 iterations salt optout) n)
   pub apart : NoneShare (hash_in hash (Nsec3 iterations salt optout)) (nsec3_names z optout)
 

@@ -1,6 +1,5 @@
 -- How a zone is served under a hasher, and which hashes its chain and its promises ask for.
-use Rattle.std.specs.Prelude.{◌≡◌, ℕ, ◌<◌, List, [], Contains, IsSome, Option, Some, unwrap_or}
-use Rattle.std.specs.List.{AllByRecursion}
+use Rattle.std.specs.Prelude.{ℕ, List, [], Contains, IsSome, Option, unwrap_or}
 use Rattle.definitions.specs.Name.{Name, wire, low}
 use Rattle.definitions.specs.Zone.{Zone}
 use Rattle.definitions.specs.ZoneChain.{Mode, Nsec, Nsec3}
@@ -27,15 +26,8 @@ HaveHashes hash Nsec apex q = Unit {0}
 HaveHashes hash (Nsec3 iterations salt optout) apex q =
     (n : Name) → Contains (concerned (low apex) (low q)) n → IsSome (hash (wire n) 1 iterations salt)
 
--- what a hasher answers under the chain's parameters are octets
-abbrev pub HashesOctets : Hasher → Mode → Type 0
-HashesOctets hash Nsec = Unit {0}
-HashesOctets hash (Nsec3 iterations salt optout) =
-    (name h : List ℕ) → hash name 1 iterations salt ≡ Some h → AllByRecursion (λ x. x < 256) h
-
--- What a zone with a chain of hashes asks of its hasher for a question: it answers octets, it hashes the names concerned, and
--- no two of them, or of the chain, share a hash.
+-- What a zone with a chain of hashes asks of its hasher for a question: it hashes the names concerned, and no two of them,
+-- or of the chain, share a hash.
 pub record HashesHold (hash : Hasher) (mode : Mode) (z : Zone) (q : Name) : Type 0 where
-  pub octets : HashesOctets hash mode
   pub made : HaveHashes hash mode z.name q
   pub apart : NoSharedHash z (hash_in hash mode) mode q

@@ -1,18 +1,22 @@
 -- A chain of hashes that was made is that of the zone, and why none is made.
-use Rattle.std.proofs.Common.{◌≡◌, ℕ, ◌+◌, ◌%◌, Bool, true, false, ◌&&◌, List, [], ◌∷◌, ◌++◌, map, Option, Some, None, inl, inr, refl, sym, ap, subst, ◌∙◌, append_assoc}
+use Rattle.std.proofs.Common.{◌≡◌, ℕ, ◌+◌, ◌%◌, ◌<◌, Bool, true, false, ◌&&◌, List, [], ◌∷◌, ◌++◌, map, Option, Some, None, inl, inr, refl, sym, ap, subst, ◌∙◌, append_assoc}
 use Rattle.std.specs.Prelude.{if◌then◌else◌, ◌==◌, IsSome, length, unwrap_or}
 use Rattle.std.specs.Int.{w16, to_be_bytes}
 use Rattle.std.specs.List.{AllByRecursion, Contains, list_any}
 use Rattle.std.specs.Option.{is_none}
 use Rattle.std.proofs.lemmas.Bool.{false≢true, or_parts}
+use Rattle.std.specs.Cmp.{IsTotalOrder}
+use Rattle.std.specs.FinMap.{nat_cmp-IsAntisymmetric, slice_cmp-IsAntisymmetric}
 use Rattle.std.specs.Str.{bytes_eq}
+use Rattle.std.specs.declared.cmp.Ordering.{Ordering}
+use Rattle.std.proofs.lemmas.Cmp.{nat_list_cmp_total, on_total}
 use Rattle.definitions.specs.Base32hex.{base32hex}
 use Rattle.definitions.specs.Bitmap.{bitmap}
 use Rattle.definitions.specs.Laws.{IsNsec3Chain, NoneShare}
 use Rattle.definitions.specs.Name.{Name, low, wire}
 use Rattle.definitions.specs.Zone.{Zone}
-use Rattle.definitions.specs.ZoneChain.{Mode, Nsec3, behind, excludes, hashed_names, hashes, head_or, links, nsec3_data, nsec3_names, nsec3_next, nsec3_types, optout_of, parameters_of}
-use Rattle.definitions.proofs.Members.{In, any_of, contained, in_contained}
+use Rattle.definitions.specs.ZoneChain.{Mode, Nsec3, behind, excludes, hash_cmp, hashed_names, hashes, head_or, links, nsec3_data, nsec3_names, nsec3_next, nsec3_types, optout_of, parameters_of}
+use Rattle.definitions.proofs.Members.{In, any_of, contained, in_contained, in_map, sort_keeps}
 use Rattle.plain.specs.ZoneData.{zone_canonical, zone_type}
 use Rattle.plain.specs.declared.record.Record.{Record}
 use Rattle.plain.specs.declared.zone_data.ZoneRecordData.{ZoneRecordData}
@@ -29,12 +33,12 @@ use Rattle.denial_nsec3.specs.Chain.{leaves_out, making, nsec3_chain, zone_among
 use Rattle.denial_nsec3.specs.Faults.{HasNoFault, IsNsec3Fault}
 use Rattle.denial_nsec3.specs.Linked.{Making, nsec3_record}
 use Rattle.denial_nsec3.proofs.Linking.{behind_each, octets_rise}
-use Rattle.messages.specs.HandedRr.{handed_of}
+use Rattle.messages.specs.HandedRr.{HandedRr, handed_of}
 use Rattle.answer_terms.specs.Accepting.{zone_with}
 use Rattle.answer_terms.specs.Chainable.{AllHashed, FailsHashing, HashesCollide, HashesTooLong}
 use Rattle.answer_terms.specs.HashedLinks.{HashedLink, hashed_link_at, hashed_links_of}
 use Rattle.answer_terms.specs.Hashing.{Hasher, hash_in}
-use Rattle.answer_zone.specs.MadeLinks.{IsMade, IsUnmade, hashed_around, hashed_from, hashed_link_of, last_next}
+use Rattle.answer_zone.specs.MadeLinks.{HasOctets, IsMade, IsUnmade, hashed_around, hashed_from, hashed_link_of, last_next}
 use Rattle.answer_zone.proofs.ZoneWords.{map_agree, zone_is}
 
 -- ---- each record's hash is the next hash of the one before
@@ -106,6 +110,18 @@ all_in : {A : Type 0} (P : A → Type 0) (xs : List A) → AllByRecursion P xs �
 all_in P [] h x i = absurd i
 all_in P (y ∷ ys) h x i = elim i [ inl s ↦ subst P (sym s) h.0 | inr j ↦ all_in P ys h.1 x j ]
 
+-- each name's hash stands in a record of the chain, since no two share one
+pub hashes_are_octets : (hash : Name → List ℕ) (mode : Mode) (apex : Name) (rs : List HandedRr) → NoneShare hash (nsec3_names (zone_with apex rs) (optout_of mode)) → AllByRecursion HasOctets (hashed_links_of hash mode apex rs)
+    → (n : Name) → Contains (nsec3_names (zone_with apex rs) (optout_of mode)) n → AllByRecursion (λ x. x < 256) (hash n)
+hashes_are_octets hash mode apex rs apart made n has =
+    let names : List Name = nsec3_names (zone_with apex rs) (optout_of mode) in
+    let R : Name → Name → Ordering = λ a b. hash_cmp (hash a) (hash b) in
+    let total : IsTotalOrder R = on_total hash nat_list_cmp_total in
+    let there : In n (hashed_names hash (zone_with apex rs) (optout_of mode)) =
+    sort_keeps R total names n (λ a b i j e. apart a b (contained names a i) (contained names b j) (slice_cmp-IsAntisymmetric nat_cmp-IsAntisymmetric (hash a) (hash b) e)) (to_in names n has) in
+    all_in HasOctets (hashed_links_of hash mode apex rs) made (hashed_link_at hash mode apex rs n)
+    (in_map (hashed_link_at hash mode apex rs) (hashed_names hash (zone_with apex rs) (optout_of mode)) n there)
+
 module _ {O S : Type 0} (answers : Hasher) (apex : Name) (rs : List (Record Name (ZoneRecordData O Name))) (c : GenerateNsec3Config S) (iterations : ℕ) (salt : List ℕ) (o : Bool)
     (params : c.params ≡ nsec3param_with 1 (if o then 1 else 0) iterations salt) (dnskeys : c.assume_dnskeys_will_be_added ≡ true) (excluding : c.opt_out_exclude_owner_names_of_unsigned_delegations ≡ true) where
   abbrev mode : Mode
@@ -154,14 +170,15 @@ module _ {O S : Type 0} (answers : Hasher) (apex : Name) (rs : List (Record Name
 
   -- ---- what it asks for
 
-  pub is_made : (s : SoaTtls) → HasNoFault (λ n. n) apex answers c rs s → IsMade answers apex mode rs
-  is_made s f =
+  pub is_made : (s : SoaTtls) → HasNoFault (λ n. n) apex answers c rs s → AllByRecursion HasOctets (hashed_links_of (hash_in answers mode) mode apex (map handed_of rs)) → IsMade answers apex mode rs
+  is_made s f made =
       let k : Chains answers apex p (nsec3_names z o) = subst (Chains answers apex p) names (subst (λ q. Chains answers apex q (nsec3_names (zone_among (λ n. n) apex rs) (leaves_out c))) params (record { hashed = f.hashed; fit = f.fit; apart = f.apart })) in
       record {
         soa = subst IsSome (sym f.soa) refl;
         ttls = ap (λ b. has_unequal_ttls (λ n. n) zone_type (zone_canonical (λ n. n)) apex b rs) (sym leaves) ∙ f.ttls;
         chain = record {
           hashed = all_hashed k.hashed;
+          octets = hashes_are_octets (hash_in answers mode) mode apex (map handed_of rs) k.apart made;
           fit = λ n i. all_in (λ o. FitsName apex (hash_by answers p o)) (nsec3_names z o) k.fit n (to_in (nsec3_names z o) n i);
           apart = k.apart;
         };

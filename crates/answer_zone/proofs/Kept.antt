@@ -98,6 +98,5 @@ module _ (z : Zone) where
 
 -- ---- one record after another
 
-
 pub any_here : (p : HandedRr → Bool) (rs : List HandedRr) (i : ℕ) (r : HandedRr) → i < length rs → r ≡ get_or rs i r → p r ≡ true → list_any p (drop i rs) ≡ true
 any_here p rs i r h e k = ap (list_any p) (ahead_is rs i r h e) ∙ ap (λ b. b || list_any p (drop (i + 1) rs)) k

@@ -1,5 +1,6 @@
 -- Records of a chain that was made, as a zone keeps them.
-use Rattle.std.specs.Prelude.{◌≡◌, ℕ, List, [], ◌∷◌, ◌++◌, IsSome, None, true, false, map}
+use Rattle.std.specs.Prelude.{◌≡◌, ℕ, ◌<◌, List, [], ◌∷◌, ◌++◌, IsSome, None, true, false, map}
+use Rattle.std.specs.List.{AllByRecursion}
 use Rattle.definitions.specs.Name.{Name, wire}
 use Rattle.definitions.specs.ZoneChain.{Mode, Nsec, Nsec3, optout_of}
 use Rattle.plain.specs.ZoneData.{zone_canonical, zone_type}
@@ -29,6 +30,10 @@ link_of r = record { owner = r.owner; next = r.next; octets = wire r.next ++ r.t
 -- a record with the hash of its owner
 abbrev pub hashed_link_of : List ℕ → Record Name Nsec3Data → HashedLink
 hashed_link_of hash r = record { owner = r.owner; hash = hash; next = r.content.next_owner; octets = nsec3_octets r.content }
+
+-- its hash is of octets
+abbrev pub HasOctets : HashedLink → Type 0
+HasOctets l = AllByRecursion (λ x. x < 256) l.hash
 
 -- the hash of each is the next hash of the one before it
 abbrev pub hashed_from : List ℕ → List (Record Name Nsec3Data) → List HashedLink

@@ -428,11 +428,7 @@ impl<'h, H: Nsec3Hasher> ZoneRecords<'h, H> {
     }
 
     /// The hash of each of some names.
-    fn hashes_of(
-        &self,
-        alloc: Global,
-        names: &[&Name<Vec<u8>>],
-    ) -> Result<Vec<Vec<u8>>, HashError>
+    fn hashes_of(&self, alloc: Global, names: &[&Name<Vec<u8>>]) -> Result<Vec<Vec<u8>>, HashError>
         ensures hashes { let hash = hash_in (H.hash_of self.now.hasher) self.now.mode in
             let hashes = map (λ n. hash n.now) names.now in
             IfOk result (λ v. map (λ h. h.items) v.items ≡ hashes) }
@@ -461,7 +457,9 @@ impl<'h, H: Nsec3Hasher> ZoneRecords<'h, H> {
         match &self.mode {
             Mode::Nsec => Ok(Vec::new(alloc)),
             Mode::Nsec3 {
-                iterations, salt, ..
+                iterations,
+                salt,
+                ..
             } => {
                 let mut octets = Vec::new(alloc);
                 name.compose_canonical(&mut octets)?;

@@ -155,11 +155,7 @@ impl<'h, H: Nsec3Hasher> ZoneRecords<'h, H> {
     }
 
     /// The names around one that the chain does not have.
-    pub(super) fn around(
-        &self,
-        alloc: Global,
-        name: &Name<Vec<u8>>,
-    ) -> Result<Around, AllocError>
+    pub(super) fn around(&self, alloc: Global, name: &Name<Vec<u8>>) -> Result<Around, AllocError>
         ensures { let z = zone_with self.now.apex self.now.records in
             IfOk result (IsAround z (optout_of self.now.mode) (low name.now)) }
     {

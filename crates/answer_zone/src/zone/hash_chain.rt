@@ -1,6 +1,7 @@
 //! A chain of hashes, made once: a record for each kept name and each empty non-terminal, in the order of their hashes
 //! (RFC 5155, 7.1).
 ghost use Rattle.std.specs.Prelude.{◌≡◌, ◌||◌, [], map, true, IfErr, IfOk, OnOk, if◌then◌else◌};
+ghost use Rattle.std.specs.List.{AllByRecursion};
 ghost use Rattle.std.specs.Str.{bytes_eq};
 ghost use Rattle.definitions.specs.Covering.{hash_covers, octets_before};
 ghost use Rattle.denial_links.specs.Hashed.{nsec3param_with};
@@ -17,6 +18,7 @@ ghost use Rattle.answer_terms.specs.HashedLinks.{
 ghost use Rattle.answer_terms.specs.Hashing.{hash_in};
 ghost use Rattle.answer_zone.specs.HashParameters.{mode_by};
 ghost use Rattle.answer_zone.specs.MadeLinks.{
+  HasOctets,
   IsMade,
   IsUnmade,
   hashed_around,
@@ -121,7 +123,8 @@ fn config_of<'m>(parameters: &HashParameters<'m>) -> GenerateNsec3Config<&'m [u8
 
 /// The same records, each with the hash that its owner spells: it is the next hash of the record before.
 fn hashed_links(alloc: Global, nsec3s: &[Nsec3Record]) -> Result<Vec<HashedLink>, AllocError>
-    ensures { IfOk result (λ v. v.items ≡ hashed_around nsec3s.now) }
+    ensures links { IfOk result (λ v. v.items ≡ hashed_around nsec3s.now) }
+    ensures octets { IfOk result (λ v. AllByRecursion HasOctets v.items) }
 {
     let mut links = Vec::with_capacity(alloc, nsec3s.len())?;
     let mut hash = next_of_last(nsec3s);
@@ -145,7 +148,8 @@ fn next_of_last(nsec3s: &[Nsec3Record]) -> &[u8]
 
 impl HashedLink {
     fn new(alloc: Global, nsec3: &Nsec3Record, hash: &[u8]) -> Result<Self, AllocError>
-        ensures { IfOk result (λ l. l ≡ hashed_link_of hash.now nsec3.now) }
+        ensures link { IfOk result (λ l. l ≡ hashed_link_of hash.now nsec3.now) }
+        ensures octets { IfOk result HasOctets }
     {
         Ok(HashedLink {
             owner: copy_name(alloc, nsec3.owner())?,

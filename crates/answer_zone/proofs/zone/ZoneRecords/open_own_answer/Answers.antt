@@ -170,4 +170,3 @@ returns-clause-failed g c =
     let z = zone_with apex rs in
     let whole = left_open z (optout_of mode) q t c.requires.open in
     if_err_map _ _ c.open_missing-2.result (λ f h. subst (λ (qs : List Name). IsHashFailure answers_of mode qs f) (sym (ap (spoken s (low q)) whole)) h) c.open_missing-2.ensures.failed
-
