@@ -38,7 +38,7 @@ pub chain_type : (m : List ℕ) (apex : Name) (rs : List Spelled) (t : ℕ) (o :
 chain_type m apex rs t o h = ⊎_elim (λ k. ap is_chain_type k.0) (λ k. ap is_chain_type k.0) (chain_cases t (is_alone pointer_limit m apex rs o) (is_hash_alone pointer_limit m apex rs o) h)
 
 -- where such an RRset stands, and what it holds
-alone_is : (m : List ℕ) (apex : Name) (rs : List Spelled) (t : ℕ) (o : Name) → is_chain_type t ≡ true → stands_alone m apex rs t o ≡ (has_place t apex o && holds_one t (rrset_in pointer_limit m rs o t))
+pub alone_is : (m : List ℕ) (apex : Name) (rs : List Spelled) (t : ℕ) (o : Name) → is_chain_type t ≡ true → stands_alone m apex rs t o ≡ (has_place t apex o && holds_one t (rrset_in pointer_limit m rs o t))
 alone_is m apex rs t o h = ⊎_elim
     (λ a. subst (λ n. stands_alone m apex rs n o ≡ (has_place n apex o && holds_one n (rrset_in pointer_limit m rs o n))) (sym (eqb-true t 47 a)) (or_no (is_alone pointer_limit m apex rs o)))
     (λ b. subst (λ n. stands_alone m apex rs n o ≡ (has_place n apex o && holds_one n (rrset_in pointer_limit m rs o n))) (sym (eqb-true t 50 b)) refl)

@@ -13,11 +13,11 @@ use Rattle.messages.proofs.ZoneNames.{same_labels, labels_eq-same}
 use Rattle.messages.proofs.Lists.{all_more, take_next}
 use Rattle.answer_judge.proofs.JudgeMarks.{or_true, none_like}
 
-any_push : {X : Type 0} (p : X → Bool) (xs : List X) (x : X) → p x ≡ true → list_any p (xs ++ x ∷ []) ≡ true
+pub any_push : {X : Type 0} (p : X → Bool) (xs : List X) (x : X) → p x ≡ true → list_any p (xs ++ x ∷ []) ≡ true
 any_push p [] x h = ap (λ b. b || false) h
 any_push p (y ∷ xs) x h = or_true (p y) (list_any p (xs ++ x ∷ [])) (any_push p xs x h)
 
-any_kept : {X : Type 0} (p : X → Bool) (xs : List X) (x : X) → list_any p xs ≡ true → list_any p (xs ++ x ∷ []) ≡ true
+pub any_kept : {X : Type 0} (p : X → Bool) (xs : List X) (x : X) → list_any p xs ≡ true → list_any p (xs ++ x ∷ []) ≡ true
 any_kept p [] x h = absurd (false≢true h)
 any_kept p (y ∷ xs) x h =
     let go : (b : Bool) → p y ≡ b → (b || list_any p xs) ≡ true → (p y || list_any p (xs ++ x ∷ [])) ≡ true = λ b e. elim b as (λ b. p y ≡ b → (b || list_any p xs) ≡ true → (p y || list_any p (xs ++ x ∷ [])) ≡ true) [
@@ -30,7 +30,7 @@ none_push : {X : Type 0} (p : X → Bool) (xs : List X) (x : X) → list_any p x
 none_push p [] x h e = ap (λ b. b || false) e
 none_push p (y ∷ xs) x h e = let o = or_parts (p y) (list_any p xs) h in (λ i. o.0 i || none_push p xs x o.1 e i)
 
-all_push : {X : Type 0} (P : X → Type 0) (xs : List X) (x : X) → AllByRecursion P xs → P x → AllByRecursion P (xs ++ x ∷ [])
+pub all_push : {X : Type 0} (P : X → Type 0) (xs : List X) (x : X) → AllByRecursion P xs → P x → AllByRecursion P (xs ++ x ∷ [])
 all_push P [] x h k = (k, tt)
 all_push P (y ∷ xs) x h k = (h.0, all_push P xs x h.1 k)
 

@@ -33,3 +33,11 @@ pub mod ZoneSorting
 pub mod HashOwners
 pub mod ShortData
 pub mod JudgeHashes
+pub mod Searching
+pub mod DataOrder
+pub mod Places
+pub mod KeyPlaces
+pub mod ChainRuns
+pub mod GroupPlaces
+pub mod ChainsWhole
+pub mod KeyClashes

@@ -8,3 +8,5 @@ pub mod Counted
 pub mod FirstSignature
 pub mod OwnFacts
 pub mod HashRefusal
+pub mod Ranked
+pub mod KeyOrder
