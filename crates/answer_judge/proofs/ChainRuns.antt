@@ -115,7 +115,7 @@ up_drop (suc n) [] s = s
 up_drop (suc n) (r ∷ rs) s = up_drop n rs (up_tail r rs s)
 
 -- what is alike in front, and what is greater behind
-run_front : (r : Spelled) (rs : List Spelled) → AllByRecursion (λ s. are_alike r s ≡ true) (take (alike_len r rs) rs)
+pub run_front : (r : Spelled) (rs : List Spelled) → AllByRecursion (λ s. are_alike r s ≡ true) (take (alike_len r rs) rs)
 run_front r [] = tt
 run_front r (s ∷ ss) = go (are_alike r s) refl (run_front r ss)
   where
@@ -262,7 +262,7 @@ module _ (m : List ℕ) (apex : Name) (rs : List Spelled) (r : Spelled) (others 
   split_chain : AllByRecursion (λ s. is_chain s ≡ true) (take (alike_len r others) others) × AllByRecursion (λ s. is_chain s ≡ true) behind
   split_chain = all_split (λ s. is_chain s ≡ true) (alike_len r others) others now.chain.1
 
-  whole : now.done ++ run ++ behind ≡ rs
+  whole : now.done ++ (run ++ behind) ≡ rs
   whole = ap (λ ss. now.done ++ r ∷ ss) (take_drop (alike_len r others) others) ∙ now.whole
 
   -- what was done is less than what is left
@@ -295,7 +295,7 @@ module _ (m : List ℕ) (apex : Name) (rs : List Spelled) (r : Spelled) (others 
 
   -- where the run is no RRset that stands alone
   pub run_none : (has_place r.rtype apex r.owner && holds_one r.rtype (run_data m run)) ≡ false → Gathering m apex rs behind gs
-  run_none no = record {
+  run_none fails = record {
     done = now.done ++ run;
     whole = append_assoc now.done run behind ∙ whole;
     sorted = up_drop (alike_len r others) others others_up;
@@ -304,7 +304,7 @@ module _ (m : List ℕ) (apex : Name) (rs : List Spelled) (r : Spelled) (others 
     ranked = now.ranked;
     under = under_less;
     each = now.each;
-    all = all_joined (IsGathered m apex rs gs) now.done run now.all (all_more (λ d. are_alike r d ≡ true) (IsGathered m apex rs gs) run (λ d a c s. absurd (false≢true (sym (stands_is ∙ no) ∙ sym (moved d a) ∙ s))) front);
+    all = all_joined (IsGathered m apex rs gs) now.done run now.all (all_more (λ d. are_alike r d ≡ true) (IsGathered m apex rs gs) run (λ d a c s. absurd (false≢true (sym (stands_is ∙ fails) ∙ sym (moved d a) ∙ s))) front);
   }
     where
       moved : (d : Spelled) → are_alike r d ≡ true → stands_alone m apex rs d.rtype d.owner ≡ stands_alone m apex rs r.rtype r.owner

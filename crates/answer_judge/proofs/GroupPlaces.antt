@@ -1,6 +1,12 @@
 -- Groups in order: the one of an owner and a type is found by a search.
-use Rattle.std.proofs.Common.{◌≡◌, ℕ, zero, suc, ◌<◌, ◌+◌, Bool, true, false, not, ◌&&◌, ◌||◌, ◌==◌, cond, List, [], ◌∷◌, ◌++◌, map, length, get_or, refl, sym, ap, subst, ◌∙◌, arith, inl, inr, ◌⊎◌, ⊎_elim}
-use Rattle.std.specs.Prelude.{Option, is_some}
+use Rattle.std.proofs.Common.{◌≡◌, ℕ, zero, suc, ◌<◌, ◌+◌, Bool, true, false, not, ◌&&◌, ◌||◌, ◌==◌, cond, List, [], ◌∷◌, ◌++◌, map, length, get_or, refl, sym, ap, subst, ◌∙◌, arith, inl, inr, ◌⊎◌, ⊎_elim, Ordering}
+use Rattle.std.specs.Fn.{Called, ComputesKey}
+use Rattle.std.specs.List.Sorted.{IsBinarySearchResult, IsSearchInRange}
+use Rattle.std.specs.Prelude.{Err, IfSome, MatchOption, Ok, Option, Result, is_some}
+use Rattle.std.specs.Result.{result_ok}
+use Rattle.std.proofs.lemmas.Fn.{always_returns_same}
+use denote.Param.Members.{Mut}
+use denote.Ref.{Bor}
 use Rattle.std.specs.declared.cmp.Ordering.TheVariants.{Less, Equal}
 use Rattle.std.specs.Cmp.{nat_cmp_total, tied_itself}
 use Rattle.std.specs.FinMap.{nat_cmp-IsAntisymmetric}
@@ -18,7 +24,7 @@ use Rattle.answer_judge.specs.declared.judging.groups.Group.{Group}
 use Rattle.answer_judge.specs.declared.judging.groups.Signed.{Signed}
 use Rattle.answer_judge.proofs.ChainRuns.{both_equal, sought_total}
 use Rattle.answer_judge.proofs.JudgeFacts.{chain_type}
-use Rattle.answer_judge.proofs.Places.{none_ranked, ranked_push}
+use Rattle.answer_judge.proofs.Places.{none_found, none_ranked, ranked_push}
 use Rattle.answer_judge.proofs.JudgeGathered.{same_swap}
 use Rattle.answer_judge.proofs.JudgeMarks.{any_at, none_like, or_no}
 use Rattle.answer_judge.proofs.JudgeTried.{both_of}
@@ -108,3 +114,18 @@ asked_ranked m apex rs gs x new each s d n = subst AreRanked (sym n) (ranked_pus
 -- one group is in order
 pub one_ranked : (x : Group) → AreRanked (x ∷ [])
 one_ranked x = ranked_push place_of sought_cmp sought_total [] x (none_ranked place_of sought_cmp sought_total) tt
+
+-- ---- a search by a closure
+
+module _ (o : Name) (t : ℕ) (gs : List Group) (ranked : AreRanked gs) where
+  found_or_none : (r : Result ℕ ℕ) → IsBinarySearchResult (λ g. sought_cmp (place_of g) (t, o)) gs r → MatchOption (result_ok r) (list_any (is_of o t) gs ≡ false) (λ i. (g : Group) → g ≡ get_or gs i g → is_of o t g ≡ true)
+  found_or_none (Ok i) h = λ g e. of_place o t g (subst (λ (x : Group). sought_cmp (place_of x) (t, o) ≡ Equal) (sym e) (h g))
+  found_or_none (Err i) h = none_found place_of sought_cmp sought_total (is_of o t) gs (t, o) i ranked (place_of_own o t) h
+
+  pub within : (r : Result ℕ ℕ) → IsSearchInRange r (length gs) → IfSome (result_ok r) (λ i. i < length gs)
+  within (Ok i) h = h
+  within (Err i) h = tt
+
+  pub found_by_closure : {F : Type 0} {call : Mut F (Bor Group × Unit {0}) Ordering} {f : F} → ((a : Bor Group × Unit {0}) (r : Ordering) (f' : F) → Called call f a r f' → (r ≡ sought_cmp (place_of a.0.now) (t, o)) × (f' ≡ f)) → (r : Result ℕ ℕ) → ((ord : Group → Ordering) → ComputesKey call ord f → IsBinarySearchResult ord gs r)
+      → MatchOption (result_ok r) (list_any (is_of o t) gs ≡ false) (λ i. (g : Group) → g ≡ get_or gs i g → is_of o t g ≡ true)
+  found_by_closure {F} {call} {f} gives r h = found_or_none r (h (λ g. sought_cmp (place_of g) (t, o)) (always_returns_same call _ f gives))

@@ -1,14 +1,15 @@
 -- Unlike keys of one tag stand side by side among keys by tag.
-use Rattle.std.proofs.Common.{◌≡◌, ℕ, Bool, true, false, not, ◌&&◌, ◌==◌, List, [], ◌∷◌, inl, inr, eqb, refl, sym, ap, ◌∙◌, Ordering, arith}
+use Rattle.std.proofs.Common.{◌≡◌, ℕ, zero, suc, ◌<◌, ◌≤◌, drop, length, get_or, Bool, true, false, not, ◌&&◌, ◌==◌, ◌||◌, List, [], ◌∷◌, inl, inr, eqb, refl, sym, ap, ◌∙◌, Ordering, arith}
 use Rattle.std.specs.List.{list_any}
 use Rattle.std.specs.List.Sorted.{IsPermutation, IsSortedBy, IsSortedByClosure, IsStableByClosure}
 use Rattle.std.specs.Fn.{Called}
 use Rattle.std.specs.Ordering.{is_lt}
+use Rattle.std.proofs.lemmas.List.Sorted.{Contains-permutation, IsPermutation-sym}
 use Rattle.std.proofs.lemmas.Bool.{and_from, and_parts, eq-eqb, false≢true, not-true}
 use lib.Pointwise.{bytes_decides}
 use denote.Param.Members.{Mut}
 use denote.Ref.{Bor}
-use Rattle.definitions.proofs.Members.{In, any_in, both_ways}
+use Rattle.definitions.proofs.Members.{In, any_in, both_ways, within_contained}
 use Rattle.definitions.specs.Dnskey.{Dnskey, key_tag, same_key}
 use Rattle.definitions.specs.Signing.{Fields}
 use Rattle.answer_judge.specs.KeyOrder.{IsRanking, key_cmp}
@@ -57,6 +58,40 @@ neighbors_all x xs s = both_ways (neighbors clashes x xs) (has_equal_tags (x ∷
     not_false : (b : Bool) → (b ≡ false → ⊥) → b ≡ true
     not_false true f = refl
     not_false false f = absurd (f refl)
+
+-- whether two side by side clash
+abbrev pub row : List Dnskey → Bool
+row [] = false
+row (x ∷ xs) = neighbors clashes x xs
+
+pub row_step : (ks : List Dnskey) (j : ℕ) (a b : Dnskey) → suc j < length ks → a ≡ get_or ks j a → b ≡ get_or ks (suc j) b → row (drop j ks) ≡ (clashes a b || row (drop (suc j) ks))
+row_step [] j a b h e f = absurd (omega arith)
+row_step (x ∷ []) zero a b h e f = absurd (omega arith)
+row_step (x ∷ y ∷ ys) zero a b h e f = (λ i. clashes (sym e i) (sym f i) || neighbors clashes y ys)
+row_step (x ∷ ks) (suc j) a b h e f = row_step ks j a b (omega arith) e f
+
+pub row_end : (ks : List Dnskey) (j : ℕ) → length ks ≤ suc j → row (drop j ks) ≡ false
+row_end [] zero h = refl
+row_end [] (suc j) h = refl
+row_end (x ∷ []) zero h = refl
+row_end (x ∷ y ∷ ys) zero h = absurd (omega arith)
+row_end (x ∷ ks) (suc j) h = row_end ks j (omega arith)
+
+pub row_all : (ks : List Dnskey) → IsSortedBy (λ a b. is_lt (key_cmp a b)) ks → row ks ≡ has_equal_tags ks
+row_all [] s = refl
+row_all (x ∷ xs) s = neighbors_all x xs s
+
+-- the same keys in another order
+pub tags_moved : (ks vs : List Dnskey) → IsPermutation ks vs → has_equal_tags vs ≡ has_equal_tags ks
+tags_moved ks vs moved = both_ways (has_equal_tags vs) (has_equal_tags ks)
+    (λ h. kept vs ks (λ x i. within_contained vs ks (λ y c. Contains-permutation vs ks y (IsPermutation-sym ks vs moved) c) x i) h)
+    (λ h. kept ks vs (λ x i. within_contained ks vs (λ y c. Contains-permutation ks vs y moved c) x i) h)
+  where
+    kept : (xs ys : List Dnskey) → ((x : Dnskey) → In x xs → In x ys) → has_equal_tags xs ≡ true → has_equal_tags ys ≡ true
+    kept xs ys f h =
+        let a = found (λ a. list_any (clashes a) xs) xs h in
+        let b = found (clashes a.0) xs a.2 in
+        any_in (λ a. list_any (clashes a) ys) ys a.0 (f a.0 (to_in xs a.0 a.1)) (any_in (clashes a.0) ys b.0 (f b.0 (to_in xs b.0 b.1)) b.2)
 
 -- what a stable sort by a closure makes of keys
 module _ {F : Type 0} {call : Mut F (Bor Dnskey × (Bor Dnskey × Unit {0})) Ordering} {f : F} (gives : (a : Bor Dnskey × (Bor Dnskey × Unit {0})) (r : Ordering) (f' : F) → Called call f a r f' → (r ≡ key_cmp a.0.now a.1.0.now) × (f' ≡ f)) where

@@ -145,10 +145,30 @@ module _ {X : Type 0} (t g : X → ℕ) where
         let other : g x ≡ n = ⊎_elim (λ (l : g x < n). absurd (false≢true (sym h ∙ before_from x (inr (same, l))))) (λ (l : n ≤ g x). omega (arith, u, l, p.1)) (cases_lt (g x) n) in
         fits_from x same other
 
-    pub searched : (xs : List X) (i : ℕ) → IsSortedBy lt xs → IsPartitionPoint (λ x. before x ≡ true) (λ x. before x ≡ false) xs i → find fits xs ≡ if_passes fits (slice_get xs i)
+    searched : (xs : List X) (i : ℕ) → IsSortedBy lt xs → IsPartitionPoint (λ x. before x ≡ true) (λ x. before x ≡ false) xs i → find fits xs ≡ if_passes fits (slice_get xs i)
     searched xs i s p =
         find_at fits xs i (λ k d a b. before_unfit (get_or xs k d) (p.0 k d (omega arith) a))
         (λ k d a b h. squeezed (get_or xs i d) (get_or xs k d) (p.1 i d (omega arith) (omega arith)) (sorted_far lt (ranks_by pair_total (λ x. x)) xs s i k d (omega arith) b) h)
+
+    slice_at : (xs : List X) (i : ℕ) (x : X) → i < length xs → x ≡ get_or xs i x → slice_get xs i ≡ Some x
+    slice_at [] i x h e = absurd (omega arith)
+    slice_at (y ∷ ys) zero x h e = ap Some (sym e)
+    slice_at (y ∷ ys) (suc i) x h e = slice_at ys i x (omega arith) e
+
+    slice_past : (xs : List X) (i : ℕ) → length xs ≤ i → slice_get xs i ≡ None
+    slice_past [] i h = refl
+    slice_past (y ∷ ys) zero h = absurd (omega arith)
+    slice_past (y ∷ ys) (suc i) h = slice_past ys i (omega arith)
+
+    -- what stands at the place of the search, or nothing
+    pub searched_some : (xs : List X) (i : ℕ) (x : X) → IsSortedBy lt xs → IsPartitionPoint (λ x. before x ≡ true) (λ x. before x ≡ false) xs i → i < length xs → x ≡ get_or xs i x → fits x ≡ true → find fits xs ≡ Some x
+    searched_some xs i x s p h e t = searched xs i s p ∙ ap (if_passes fits) (slice_at xs i x h e) ∙ ap (λ b. cond b (Some x) None) t
+
+    pub searched_other : (xs : List X) (i : ℕ) (x : X) → IsSortedBy lt xs → IsPartitionPoint (λ x. before x ≡ true) (λ x. before x ≡ false) xs i → i < length xs → x ≡ get_or xs i x → fits x ≡ false → find fits xs ≡ None
+    searched_other xs i x s p h e t = searched xs i s p ∙ ap (if_passes fits) (slice_at xs i x h e) ∙ ap (λ b. cond b (Some x) None) t
+
+    pub searched_end : (xs : List X) (i : ℕ) → IsSortedBy lt xs → IsPartitionPoint (λ x. before x ≡ true) (λ x. before x ≡ false) xs i → length xs ≤ i → find fits xs ≡ None
+    searched_end xs i s p h = searched xs i s p ∙ ap (if_passes fits) (slice_past xs i h)
 
   -- ---- neighbors
 

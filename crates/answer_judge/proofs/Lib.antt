@@ -1,4 +1,3 @@
-pub mod JudgeGroups
 pub mod JudgeKeys
 pub mod JudgeCase
 pub mod JudgeMarks
@@ -29,7 +28,6 @@ pub mod JudgeSought
 pub mod JudgeTotals
 pub mod GivenGroups
 pub mod FirstSigns
-pub mod ZoneSorting
 pub mod HashOwners
 pub mod ShortData
 pub mod JudgeHashes
@@ -41,3 +39,4 @@ pub mod ChainRuns
 pub mod GroupPlaces
 pub mod ChainsWhole
 pub mod KeyClashes
+pub mod ChainSteps

@@ -208,32 +208,32 @@ fn judge_messages<C: Checks>(case: &Case, verifier: &mut Verifier<C>) -> Result<
     let alloc = verifier.alloc;
     let messages = read_messages(alloc, case)?;
     let keys = read_keys(alloc, case.apex, case.dnskey, &messages.key_records)?;
-    let ranked = ranked_keys(alloc, &keys)?;
-    if has_equal_tags(&keys, &ranked) {
+    let by_tag = ranked_keys(alloc, &keys)?;
+    if has_equal_tags(&keys, &by_tag) {
         return Err(Refusal::EqualTags);
     }
     verifier.octets.reserve(512)?;
     let trusted = trusted_keys(case.apex, case.ds, &keys, verifier)?;
-    let ranked = ranked_keys(alloc, &trusted)?;
+    let trusted_by_tag = ranked_keys(alloc, &trusted)?;
     let moment = case.moment.timestamp();
     let depth = case.apex.depth();
     let trust = Trust {
         apex: case.apex,
         depth,
         keys: &trusted,
-        ranked: &ranked,
+        ranked: &trusted_by_tag,
         moment,
     };
     if !are_verified(case.dnskey, &messages.key_records, &keys, &trust, verifier)? {
         return Err(Refusal::NoTrustedKey);
     }
     let usable = usable_keys(keys);
-    let ranked = ranked_keys(alloc, &usable)?;
+    let usable_by_tag = ranked_keys(alloc, &usable)?;
     let trust = Trust {
         apex: case.apex,
         depth,
         keys: &usable,
-        ranked: &ranked,
+        ranked: &usable_by_tag,
         moment,
     };
     let question = case.question;

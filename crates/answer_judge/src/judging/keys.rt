@@ -250,7 +250,10 @@ fn searched_key<'k, 'a>(
         option_map (λ k. k.now) result ≡ find fits ranked.now }
 {
     let place = ranked.partition_point(|key| key.is_before(signature));
-    let key = ranked.get(place)?;
+    if place == ranked.len() {
+        return None;
+    }
+    let key = &ranked[place];
     if key.fits(signature) {
         return Some(key);
     }
@@ -273,15 +276,13 @@ fn has_clashing_neighbors(ranked: &[TaggedKey]) -> bool
     requires { IsSortedBy (λ a b. is_lt (key_cmp a b)) ranked.now }
     ensures { result ≡ has_equal_tags ranked.now }
 {
-    let Some((first, others)) = ranked.split_first() else {
-        return false;
-    };
-    let mut before = first;
-    for key in others {
-        if before.clashes(key) {
+    let mut place = 1;
+    while place < ranked.len() {
+        let before = place - 1;
+        if ranked[before].clashes(&ranked[place]) {
             return true;
         }
-        before = key;
+        place += 1;
     }
     false
 }

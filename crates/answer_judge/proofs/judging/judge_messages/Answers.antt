@@ -14,11 +14,24 @@ use Rattle.answer_judge.proofs.JudgeTotals.{key_tries_as, keys_alone, keys_and_a
 use Rattle.answer_judge.proofs.JudgeWhole.{beyond, chained_as, usable_as, untrusted, decided_as, unrefused}
 use Rattle.answer_judge.proofs.JudgeHashes.{facts_hashed, none_hashed, rises_from}
 use Rattle.answer_terms.specs.EqualTags.{has_equal_tags}
+use Rattle.answer_judge.specs.KeyOrder.{Ranks}
 use Rattle.answer_judge.proofs.judging.judge_messages.Goals as goal
+
+pub has_equal_tags-requires : goal.has_equal_tags-requires
+has_equal_tags-requires g c =
+    subst (λ ks. Ranks ks c.deref-4.result.now) (sym c.deref-3.ensures.value)
+    (subst (λ vs. Ranks c.in_ok-keys.keys.items vs) (sym c.deref-4.ensures.value) (subst (λ ks. Ranks ks c.in_ok-by_tag.by_tag.items) c.deref-2.ensures.value c.in_ok-by_tag.ensures))
+
+pub are_verified-requires-clause-index : goal.are_verified-requires-clause-index
+are_verified-requires-clause-index g c =
+    subst (λ ks. Ranks ks c.deref-8.result.now) (sym c.deref-7.ensures.value)
+    (subst (λ vs. Ranks c.in_ok-trusted.trusted.items vs) (sym c.deref-8.ensures.value) (subst (λ ks. Ranks ks c.in_ok-trusted_by_tag.trusted_by_tag.items) c.deref-6.ensures.value c.in_ok-trusted_by_tag.ensures))
 
 pub read_facts-requires : goal.read_facts-requires
 read_facts-requires g c =
     record {
+      index = subst (λ ks. Ranks ks c.deref-13.result.now) (sym c.deref-12.ensures.value)
+      (subst (λ vs. Ranks c.usable_keys-usable.result.items vs) (sym c.deref-13.ensures.value) (subst (λ ks. Ranks ks c.in_ok-usable_by_tag.usable_by_tag.items) c.deref-11.ensures.value c.in_ok-usable_by_tag.ensures));
       room = omega (
         arith,
         c.requires.counts,

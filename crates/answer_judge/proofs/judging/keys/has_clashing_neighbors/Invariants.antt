@@ -1,7 +1,9 @@
-use Rattle.std.proofs.Common.{◌≡◌, drop}
-use Rattle.answer_terms.specs.EqualTags.{clashes}
-use Rattle.answer_judge.proofs.KeyPlaces.{neighbors}
+use Rattle.std.proofs.Common.{◌≡◌, ◌-◌, ◌≤◌, drop, length}
+use Rattle.answer_judge.proofs.KeyClashes.{row}
 use Rattle.answer_judge.proofs.judging.keys.has_clashing_neighbors.Given as goal
 
-abbrev pub invariant-loop-key : goal.invariant-loop-key
-invariant-loop-key l = neighbors clashes l.before (drop l.key-index l.others) ≡ neighbors clashes l.first l.others
+abbrev pub invariant-loop-place : goal.invariant-loop-place
+invariant-loop-place l = (row (drop (l.place - 1) l.ranked) ≡ row l.ranked) × (1 ≤ l.place)
+
+abbrev pub decreases-loop-place : goal.decreases-loop-place
+decreases-loop-place l = length l.ranked - l.place
