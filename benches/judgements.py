@@ -6,7 +6,8 @@ A session is run once as it is and once more with more of the same lines, and th
 an event costs that only says that its place holds nothing is taken off answers and judgements, so that reading a line and
 printing fall away; an owner's set-up has the reading of its line in it. The bench's stand-in for
 signatures and digests, SHA-256, is part of the counts; how much of a judgement it is stands beside it, and how much it takes to
-decide from the facts that were verified. Run it from anywhere; it builds crates/denialbench first.
+decide from the facts that were verified. Zones have a chain of names, of which ten owners are asked and 10,000, or a chain
+of hashes, of which ten are. Run it from anywhere; it builds crates/denialbench first.
 """
 import re
 import subprocess
@@ -30,16 +31,17 @@ OTHERS = (
     "rr *.w.example 3600 1 16 0474657874",
     "rr d.example 3600 1 2 026e73076578616d706c6500",
 )
+CHAINS = {"names": "nsec 0 86400", "hashes": "nsec3 0 - 0 86400"}
 TOOLS = ("callgrind", "memcheck")
 DECIDE = r"decide::decide\b"
 
 
-def opening(owners):
+def opening(owners, chain="names"):
     """A zone of so many owners whose keys have finished their first roll, and its DS set and DNSKEY answer."""
     words = [sys.executable, str(TOP / "benches/session.py"), str(owners)]
     session = subprocess.run(words, capture_output=True, text=True, check=True)
     lines = [line for line in session.stdout.split("\n") if line and line.split()[0] not in ("ask", "judge")]
-    return [*lines[:2], *OTHERS, *lines[2:]]
+    return [f"zone example {CHAINS[chain]}", lines[1], *OTHERS, *lines[2:]]
 
 
 def within(lines, function, *flags):
@@ -56,6 +58,11 @@ def within(lines, function, *flags):
 def stand_in(lines):
     """Instructions within SHA-256."""
     return within(lines, "sha2::")
+
+
+def hashing(lines):
+    """Instructions within SHA-1."""
+    return within(lines, "sha1::")
 
 
 def deciding(lines):
@@ -77,17 +84,18 @@ def main():
     print("| owners | set-up of an owner | blocks |\n|---|---|---|")
     for owners in (1_000, 10_000, 100_000):
         print(row(f"{owners:,}", counts(opening(owners), opening(2 * owners), owners)))
-    for owners in (10, 10_000):
-        start = [*opening(owners), *(f"ask {asked} 7200" for _, asked in ASKED)]
+    for owners, chain in ((10, "names"), (10_000, "names"), (10, "hashes")):
+        start = [*opening(owners, chain), *(f"ask {asked} 7200" for _, asked in ASKED)]
         idle = counts(start, start + ["judge 0 1 9999 7200"] * TIMES, TIMES)
-        print(f"\n| what is asked of {owners:,} owners | an answer | blocks | its judgement | blocks | SHA-256 | deciding |")
-        print("|---|---|---|---|---|---|---|")
+        heads = ("an answer", "blocks", "its judgement", "blocks", "SHA-256", "SHA-1", "deciding")
+        print(f"\n| what is asked of {owners:,} owners of a chain of {chain} | {' | '.join(heads)} |")
+        print("|---" * (len(heads) + 1) + "|")
         for place, (what, asked) in enumerate(ASKED):
             answer = counts(start, start + [f"ask {asked} 7200"] * TIMES, TIMES)
             judged = start + [f"judge 0 1 {place + 2} 7200"] * TIMES
             judgement = counts(start, judged, TIMES)
             cells = [one - none for found in (answer, judgement) for one, none in zip(found, idle)]
-            parts = [(part(judged) - part(start)) / TIMES for part in (stand_in, deciding)]
+            parts = [(part(judged) - part(start)) / TIMES for part in (stand_in, hashing, deciding)]
             print(row(what, [*cells, *parts]), flush=True)
 
 

@@ -38,39 +38,11 @@ pub chain_type : (m : List ℕ) (apex : Name) (rs : List Spelled) (t : ℕ) (o :
 chain_type m apex rs t o h = ⊎_elim (λ k. ap is_chain_type k.0) (λ k. ap is_chain_type k.0) (chain_cases t (is_alone pointer_limit m apex rs o) (is_hash_alone pointer_limit m apex rs o) h)
 
 -- where such an RRset stands, and what it holds
-alone_is : (m : List ℕ) (apex : Name) (rs : List Spelled) (t : ℕ) (o : Name) → is_chain_type t ≡ true → stands_alone m apex rs t o ≡ (has_place t apex o && holds_one t (rrset_in pointer_limit m rs o t))
+pub alone_is : (m : List ℕ) (apex : Name) (rs : List Spelled) (t : ℕ) (o : Name) → is_chain_type t ≡ true → stands_alone m apex rs t o ≡ (has_place t apex o && holds_one t (rrset_in pointer_limit m rs o t))
 alone_is m apex rs t o h = ⊎_elim
     (λ a. subst (λ n. stands_alone m apex rs n o ≡ (has_place n apex o && holds_one n (rrset_in pointer_limit m rs o n))) (sym (eqb-true t 47 a)) (or_no (is_alone pointer_limit m apex rs o)))
     (λ b. subst (λ n. stands_alone m apex rs n o ≡ (has_place n apex o && holds_one n (rrset_in pointer_limit m rs o n))) (sym (eqb-true t 50 b)) refl)
     (or_cases (t == 47) (t == 50) h)
-
-no_second : (b : Bool) → (b && false) ≡ false
-no_second true = refl
-no_second false = refl
-
-pub alone_not_placed : (m : List ℕ) (apex : Name) (rs : List Spelled) (t : ℕ) (o : Name) → is_chain_type t ≡ true → has_place t apex o ≡ false → stands_alone m apex rs t o ≡ false
-alone_not_placed m apex rs t o h p = alone_is m apex rs t o h ∙ ap (λ b. b && holds_one t (rrset_in pointer_limit m rs o t)) p
-
--- an RRset that was read
-held_is : (m : List ℕ) (rs : List Spelled) (t : ℕ) (o x : Name) (g : Group) → x ≡ o → g.rtype ≡ t → data_in g ≡ rrset_in pointer_limit m rs x t → holds_one g.rtype (data_in g) ≡ holds_one t (rrset_in pointer_limit m rs o t)
-held_is m rs t o x g e k d = (λ i. holds_one (k i) (d i)) ∙ ap (λ n. holds_one t (rrset_in pointer_limit m rs n t)) e
-
-pub alone_not_held : (m : List ℕ) (apex : Name) (rs : List Spelled) (t : ℕ) (o x : Name) (g : Group) → is_chain_type t ≡ true → x ≡ o → g.rtype ≡ t → data_in g ≡ rrset_in pointer_limit m rs x t → holds_one g.rtype (data_in g) ≡ false → stands_alone m apex rs t o ≡ false
-alone_not_held m apex rs t o x g h e k d none = alone_is m apex rs t o h ∙ ap (λ b. has_place t apex o && b) (sym (held_is m rs t o x g e k d) ∙ none) ∙ no_second (has_place t apex o)
-
-pub alone_made : (m : List ℕ) (apex : Name) (rs : List Spelled) (t : ℕ) (o x : Name) (g : Group) → is_chain_type t ≡ true → g.owner ≡ x → x ≡ o → g.rtype ≡ t → data_in g ≡ rrset_in pointer_limit m rs x t → g.verified ≡ None
-    → has_place t apex o ≡ true → holds_one g.rtype (data_in g) ≡ true → (g.owner ≡ o) × (g.rtype ≡ t) × IsAlone m apex rs g
-alone_made m apex rs t o x g h own e k d v place held =
-    let owner = own ∙ e in
-    let stands : stands_alone m apex rs t o ≡ true = alone_is m apex rs t o h ∙ (λ i. place i && (sym (held_is m rs t o x g e k d) ∙ held) i) in (
-      owner,
-      k,
-      record {
-        data_are = d ∙ (λ i. rrset_in pointer_limit m rs (sym own i) (sym k i));
-        alone = (λ i. stands_alone m apex rs (k i) (owner i)) ∙ stands;
-        unverified = v;
-      },
-    )
 
 other_type : (x g : Group) → is_chain_type x.rtype ≡ true → is_chain_type g.rtype ≡ false → is_like x g ≡ false
 other_type x g one none = go (x.rtype == g.rtype) refl

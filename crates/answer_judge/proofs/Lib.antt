@@ -1,4 +1,3 @@
-pub mod JudgeGroups
 pub mod JudgeKeys
 pub mod JudgeCase
 pub mod JudgeMarks
@@ -48,3 +47,12 @@ pub mod HonestJudged
 pub mod Timely
 pub mod Spliced
 pub mod ToldShort
+pub mod Searching
+pub mod DataOrder
+pub mod Places
+pub mod KeyPlaces
+pub mod ChainRuns
+pub mod GroupPlaces
+pub mod ChainsWhole
+pub mod KeyClashes
+pub mod ChainSteps

@@ -11,3 +11,5 @@ pub mod HashRefusal
 pub mod BothChains
 pub mod Honest
 pub mod Splices
+pub mod Ranked
+pub mod KeyOrder

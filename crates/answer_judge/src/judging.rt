@@ -9,6 +9,7 @@ ghost use Rattle.messages.specs.Record.{spelled};
 ghost use Rattle.answer_judge.specs.Counted.{Counts, hashes_beyond, hashes_due, keys_sought, tries, tries_beyond, verifications_due};
 ghost use Rattle.answer_judge.specs.Verified.{is_verified};
 ghost use Rattle.answer_judge.specs.Marked.{held_by};
+ghost use Rattle.answer_judge.specs.KeyOrder.{Ranks};
 ghost use Rattle.messages.specs.Message.{Asked, message};
 ghost use Rattle.messages.specs.View.{Gives};
 ghost use Rattle.answer_judge.specs.Facts.{is_signature, RefusesFirst};
@@ -24,6 +25,7 @@ mod facts;
 mod groups;
 mod hash_owner;
 mod keys;
+mod order;
 mod trust;
 pub mod verdict;
 mod verifier;
@@ -32,13 +34,15 @@ use crate::case::Case;
 use crate::judging::deciding::judge_facts;
 use crate::judging::facts::read_facts;
 use crate::judging::groups::{Group, verify_groups};
-use crate::judging::keys::{TaggedKey, has_equal_tags, read_keys, trusted_keys, usable_keys};
+use crate::judging::keys::{
+    TaggedKey, has_equal_tags, ranked_keys, read_keys, trusted_keys, usable_keys,
+};
+use crate::judging::order::sort_data;
 use crate::judging::trust::Trust;
 use crate::judging::verdict::{Judgement, Refusal, Refused, Verdict};
 use crate::judging::verifier::Verifier;
 use answer_scheme::checks::Checks;
 pub use answer_terms::question::is_allowed;
-use answer_terms::ranked::put_cow_data;
 use denial_data::Ds;
 use keyset_keys::UnixTime;
 use messages::error::MessageError;
@@ -178,27 +182,32 @@ fn judge_messages<C: Checks>(
     let alloc = verifier.alloc;
     let messages = read_messages(alloc, case)?;
     let keys = read_keys(alloc, case.apex, case.dnskey, &messages.key_records)?;
-    if has_equal_tags(&keys) {
+    let by_tag = ranked_keys(alloc, &keys)?;
+    if has_equal_tags(&keys, &by_tag) {
         return Err(Refusal::EqualTags);
     }
     verifier.octets.reserve(512)?;
     let trusted = trusted_keys(case.apex, case.ds, &keys, verifier)?;
+    let trusted_by_tag = ranked_keys(alloc, &trusted)?;
     let moment = case.moment.timestamp();
     let depth = case.apex.depth();
     let trust = Trust {
         apex: case.apex,
         depth,
         keys: &trusted,
+        ranked: &trusted_by_tag,
         moment,
     };
     if !are_verified(case.dnskey, &messages.key_records, &keys, &trust, verifier)? {
         return Err(Refusal::NoTrustedKey);
     }
     let usable = usable_keys(keys);
+    let usable_by_tag = ranked_keys(alloc, &usable)?;
     let trust = Trust {
         apex: case.apex,
         depth,
         keys: &usable,
+        ranked: &usable_by_tag,
         moment,
     };
     let question = case.question;
@@ -300,8 +309,9 @@ fn key_group<'a>(
 {
     let mut items = Vec::with_capacity(alloc, keys.len())?;
     for key in keys {
-        put_cow_data(&mut items, CowSlice::Borrowed(key.data()))?;
+        items.push(CowSlice::Borrowed(key.data()))?;
     }
+    sort_data(&mut items);
     Ok(Group {
         owner: cow_name(alloc, apex)?,
         rtype: Rtype::DNSKEY,
@@ -318,7 +328,8 @@ fn are_verified<C: Checks>(
     trust: &Trust,
     verifier: &mut Verifier<C>,
 ) -> Result<bool, AllocError>
-    requires { verifier.old.count + length records.now < 2 ^ 32 }
+    requires index { Ranks trust.now.keys.now trust.now.ranked.now }
+    requires room { verifier.old.count + length records.now < 2 ^ 32 }
     ensures exact { let w = held_by (C.answers verifier.old.checks.now) trust.now in
         let items = sorted_data (map dnskey_data keys.now) in let rs = map spelled records.now in
         IfOk result (λ b. b ≡ is_verified w pointer_limit message.now rs w.apex 48 items) }

@@ -1,4 +1,4 @@
-//! Does work whose instructions are counted: on names, names in messages, sorted records, chains and key sets.
+//! Does work whose instructions are counted: on names, names in messages, sorted records, chains, key sets and judgements.
 //!
 //! A line that begins with `#` says what is done: on what, a task and how often, as in `# names compare 2`. The lines
 //! behind it, up to the next such line, are what is worked on. For each a line is printed, which counts what was found.
@@ -10,6 +10,7 @@ mod message_names;
 mod nsec3_chains;
 mod nsec_chains;
 mod sorted_records;
+mod whole_messages;
 mod zone;
 
 use std::alloc::Global;
@@ -33,6 +34,7 @@ fn counted(alloc: Global, task: &str, lines: &[String]) -> io::Result<u64> {
         "sorted" => sorted_records::counted(alloc, task, rounds, lines),
         "nsec" => nsec_chains::counted(alloc, task, rounds, lines),
         "nsec3" => nsec3_chains::counted(alloc, rounds, lines),
+        "judge" => whole_messages::counted(alloc, rounds, lines),
         _ => key_sets::counted(alloc, task, rounds),
     }
 }

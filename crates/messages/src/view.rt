@@ -55,6 +55,20 @@ impl<'a> ViewRecord<'a> {
         };
         Ok((record, start + length))
     }
+
+    /// The same record again; its name and its data stay in the message.
+    pub fn copied(&self) -> ViewRecord<'a>
+        ensures { spelled result ≡ spelled self.now }
+    {
+        ViewRecord {
+            owner: Owner::new(*self.owner.name()),
+            rtype: self.rtype,
+            class: self.class,
+            ttl: self.ttl,
+            start: self.start,
+            length: self.length,
+        }
+    }
 }
 
 /// A message that has been read. A contract sees what is asked and the records.

@@ -1,28 +1,34 @@
 //! From bytes to verified facts (RFC 4035, 5.3).
-ghost use Rattle.std.specs.Prelude.{◌≡◌, ◌==◌, ◌+◌, ◌<◌, ◌≤◌, ◌^◌, [], true, false, IfOk, MatchOption, length, map, filter};
+ghost use Rattle.std.specs.Prelude.{◌≡◌, ◌&&◌, ◌==◌, ◌+◌, ◌<◌, ◌≤◌, ◌^◌, [], None, true, false, IfOk, MatchOption, length, map, filter};
 ghost use Rattle.std.specs.Cow.{cow_slice_items};
 ghost use Rattle.definitions.specs.Limits.{pointer_limit};
-ghost use Rattle.std.specs.List.{list_any, filter_map};
+ghost use Rattle.std.specs.List.{list_any, filter_map, AllByRecursion};
 ghost use Rattle.messages.specs.Record.{spelled};
 ghost use Rattle.answer_judge.specs.Facts.{is_signature};
 ghost use Rattle.answer_judge.specs.Counted.{answer_sought, tries};
 ghost use Rattle.answer_judge.specs.Verified.{is_known_datum, verified_facts};
-ghost use Rattle.answer_judge.specs.Marked.{held_by, is_of, data_in, is_proved, is_chain_type, is_chain, is_record_of, has_place, holds_one, stands_alone, AreShort, IsAlone, AreGathered, link_by, hash_link_by, hash_link_of, rrset_verified};
+ghost use Rattle.std.specs.List.Sorted.{IsPermutation, IsSortedBy};
+ghost use Rattle.std.specs.Ordering.{is_lt};
+ghost use Rattle.answer_judge.specs.Marked.{held_by, data_in, is_proved, is_chain_type, is_chain, is_record_of, has_place, holds_one, stands_alone, AreShort, IsAlone, AreGathered, link_by, hash_link_by, hash_link_of, rrset_verified};
+ghost use Rattle.answer_judge.specs.KeyOrder.{Ranks};
+ghost use Rattle.answer_judge.specs.Ranked.{AreRanked, IsRun, alike_len, are_alike, chain_cmp, run_data};
 
-use crate::judging::groups::{Group, read_group, verify_groups};
+use crate::judging::groups::{Group, is_chain_type, place_of, read_group, verify_groups};
+use crate::judging::order::sort_data;
 use crate::judging::hash_owner::hash_spelled;
 use crate::judging::trust::Trust;
 use crate::judging::verdict::DataList;
 use crate::judging::verifier::Verifier;
 use answer_rules::decide::{Facts, HashLink, Link, Rrset};
 use answer_scheme::checks::Checks;
-use messages::names::{Name, cow_name, is_at_or_above};
+use messages::names::{Name, ToName, cow_name, is_at_or_above};
 use messages::rdata::read_hashed_link;
 use messages::{Owner, ViewRecord};
 use names_data::rtype::Rtype;
 use numbers::class::Class;
 use std::alloc::{AllocError, Global};
 use std::borrow::CowSlice;
+use std::cmp::Ordering;
 
 /// What signatures of an answer verify: the RRset that was asked for, and records of chains, NSEC and NSEC3.
 pub(crate) fn read_facts<'a, C: Checks>(
@@ -33,6 +39,7 @@ pub(crate) fn read_facts<'a, C: Checks>(
     rtype: Rtype,
     verifier: &mut Verifier<C>,
 ) -> Result<Facts<'a>, AllocError>
+    requires index { Ranks trust.now.keys.now trust.now.ranked.now }
     requires room { verifier.old.count + length records.now < 2 ^ 32 }
     requires other { is_chain_type rtype ≡ false }
     ensures facts { let w = held_by (C.answers verifier.old.checks.now) trust.now in
@@ -52,7 +59,8 @@ pub(crate) fn read_facts<'a, C: Checks>(
     ensures same_checks { verifier.new.checks.ghost_name ≡ verifier.old.checks.ghost_name }
 {
     let alloc = verifier.alloc;
-    let mut groups = read_chain_groups(alloc, trust.apex, message, records)?;
+    let chained = sorted_chain(alloc, records)?;
+    let mut groups = read_chain_groups(alloc, trust.apex, message, &chained)?;
     let owner = cow_name(alloc, name)?;
     groups.push(read_group(alloc, message, records, owner, rtype)?)?;
     verify_groups(message, records, trust, &mut groups, verifier)?;
@@ -96,59 +104,147 @@ fn owned_data(alloc: Global, items: Vec<CowSlice<u8>>) -> Result<Vec<Vec<u8>>, A
     Ok(owned)
 }
 
-/// The RRsets of one record of a chain, each where its chain's records stand, in order of first record.
+/// The records of chains, NSEC and NSEC3, by type and by owner in canonical order.
+fn sorted_chain<'a>(
+    alloc: Global,
+    records: &[ViewRecord<'a>],
+) -> Result<Vec<ViewRecord<'a>>, AllocError>
+    ensures moved { let rs = filter is_chain (map spelled records.now) in
+        IfOk result (λ v. IsPermutation rs (map spelled v.items)) }
+    ensures sorted { IfOk result
+        (λ v. IsSortedBy (λ a b. is_lt (chain_cmp a b)) (map spelled v.items)) }
+{
+    let mut chained = chain_records(alloc, records)?;
+    chained.sort_by(|a, b| chain_cmp(a, b))?;
+    Ok(chained)
+}
+
+/// The records of chains, in the order of the message.
+fn chain_records<'a>(
+    alloc: Global,
+    records: &[ViewRecord<'a>],
+) -> Result<Vec<ViewRecord<'a>>, AllocError>
+    ensures { IfOk result
+        (λ v. map spelled v.items ≡ filter is_chain (map spelled records.now)) }
+{
+    let mut chained = Vec::new(alloc);
+    for record in records {
+        if is_chain(record) {
+            chained.push(record.copied())?;
+        }
+    }
+    Ok(chained)
+}
+
+/// The order of chains' records: by type, and by owner in canonical order.
+fn chain_cmp(a: &ViewRecord, b: &ViewRecord) -> Ordering
+    ensures { result ≡ chain_cmp (spelled a.now) (spelled b.now) }
+{
+    let order = a.rtype.to_int().cmp(&b.rtype.to_int());
+    if order.is_ne() {
+        return order;
+    }
+    a.owner.name().name_cmp(b.owner.name())
+}
+
+/// The RRsets of one record of a chain, each where its chain's records stand, of records that are in order.
 fn read_chain_groups<'r>(
     alloc: Global,
     apex: &Name<Vec<u8>>,
     message: &'r [u8],
-    records: &'r [ViewRecord],
+    chained: &'r [ViewRecord],
 ) -> Result<Vec<Group<'r>>, AllocError>
-    ensures { let rs = map spelled records.now in
+    requires chain { AllByRecursion (λ r. is_chain r ≡ true) (map spelled chained.now) }
+    requires sorted { IsSortedBy (λ a b. is_lt (chain_cmp a b)) (map spelled chained.now) }
+    ensures gathered { let rs = map spelled chained.now in
         IfOk result (λ gs. AreGathered message.now apex.now rs rs gs.items) }
+    ensures ranked { IfOk result (λ gs. AreRanked gs.items) }
 {
     let mut groups: Vec<Group<'r>> = Vec::new(alloc);
-    for record in records {
-        if is_chain(record) && !is_among(&groups, &record.owner, record.rtype) {
-            let found = read_chain_group(
-                alloc,
-                apex,
-                message,
-                records,
-                &record.owner,
-                record.rtype,
-            )?;
-            if let Some(group) = found {
-                groups.push(group)?;
-            }
+    let mut start = 0;
+    while start < chained.len() {
+        let first = &chained[start];
+        let end = start + 1 + alike_len(first, &chained[start + 1..]);
+        let found = read_chain_group(alloc, apex, message, first, &chained[start..end])?;
+        if let Some(group) = found {
+            groups.push(group)?;
         }
+        start = end;
     }
     Ok(groups)
 }
 
-/// The RRset of an owner and a chain's type, if it is one record and stands where the chain's records do.
+/// How many records from the front on have the owner, up to case, and the type of one.
+fn alike_len(first: &ViewRecord, others: &[ViewRecord]) -> usize
+    ensures value { result ≡ alike_len (spelled first.now) (map spelled others.now) }
+    ensures bound { result ≤ length others.now }
+{
+    for (i, other) in others.iter().enumerate() {
+        if !are_alike(first, other) {
+            return i;
+        }
+    }
+    others.len()
+}
+
+/// Whether two records have one type and one owner, up to case.
+fn are_alike(a: &ViewRecord, b: &ViewRecord) -> bool
+    ensures { result ≡ are_alike (spelled a.now) (spelled b.now) }
+{
+    a.rtype == b.rtype && a.owner.name().name_eq(b.owner.name())
+}
+
+/// The RRset of a chain's records of one owner, if it is one record and stands where the chain's records do.
 fn read_chain_group<'r>(
     alloc: Global,
     apex: &Name<Vec<u8>>,
     message: &'r [u8],
-    records: &[ViewRecord],
-    owner: &'r Owner,
-    rtype: Rtype,
+    first: &'r ViewRecord,
+    run: &[ViewRecord],
 ) -> Result<Option<Group<'r>>, AllocError>
-    requires { is_chain_type rtype ≡ true }
-    ensures { let rs = map spelled records.now in
-        let alone = stands_alone message.now apex.now rs rtype owner.now in
-        IfOk result (λ o. MatchOption o (alone ≡ false)
-        (λ g. (g.owner ≡ owner.now) × (g.rtype ≡ rtype) × IsAlone message.now apex.now rs g)) }
+    requires chain { is_chain_type first.now.rtype ≡ true }
+    requires alike { AllByRecursion (λ r. r.rtype ≡ first.now.rtype) run.now }
+    ensures { let r = spelled first.now in
+        let ds = run_data message.now (map spelled run.now) in
+        let stands = has_place r.rtype apex.now r.owner && holds_one r.rtype ds in
+        IfOk result (λ o. MatchOption o (stands ≡ false) (IsRun message.now apex.now r ds)) }
 {
-    if !has_place(alloc, apex, owner, rtype)? {
+    if !has_place(alloc, apex, &first.owner, first.rtype)? {
         return Ok(None);
     }
-    let owner = cow_name(alloc, owner.name())?;
-    let group = read_group(alloc, message, records, owner, rtype)?;
+    let group = read_run(alloc, message, first, run)?;
     if holds_one(&group) {
         return Ok(Some(group));
     }
     Ok(None)
+}
+
+/// The RRset of records of one owner and type.
+fn read_run<'r>(
+    alloc: Global,
+    message: &'r [u8],
+    first: &'r ViewRecord,
+    run: &[ViewRecord],
+) -> Result<Group<'r>, AllocError>
+    ensures owner { IfOk result (λ g. g.owner ≡ first.now.owner) }
+    ensures rtype { IfOk result (λ g. g.rtype ≡ first.now.rtype) }
+    ensures items { IfOk result (λ g. data_in g ≡ run_data message.now (map spelled run.now)) }
+    ensures unverified { IfOk result (λ g. g.verified ≡ None) }
+{
+    let owner = cow_name(alloc, first.owner.name())?;
+    let mut items = Vec::new(alloc);
+    for record in run {
+        if let Some(item) = record.canonical_cow(alloc, message)? {
+            items.push(item)?;
+        }
+    }
+    sort_data(&mut items);
+    Ok(Group {
+        owner,
+        rtype: first.rtype,
+        items,
+        verified: None,
+    })
 }
 
 /// Whether records of a chain's type may have an owner: NSEC at or below the apex, NSEC3 at a hash under it.
@@ -200,7 +296,7 @@ fn is_known(octets: &[u8]) -> bool
 fn is_chain(record: &ViewRecord) -> bool
     ensures { result ≡ is_chain (spelled record.now) }
 {
-    (record.rtype == Rtype::NSEC || record.rtype == Rtype::NSEC3) && record.class == Class::IN
+    is_chain_type(record.rtype) && record.class == Class::IN
 }
 
 /// Whether a record is of a type and of class IN.
@@ -210,28 +306,15 @@ fn is_record_of(record: &ViewRecord, rtype: Rtype) -> bool
     record.rtype == rtype && record.class == Class::IN
 }
 
-/// Whether an owner has one of the groups of a type.
-fn is_among(groups: &[Group], owner: &Owner, rtype: Rtype) -> bool
-    ensures { result ≡ list_any (is_of owner.now rtype) groups.now }
-{
-    for group in groups {
-        if group.is_of(owner, rtype) {
-            return true;
-        }
-    }
-    false
-}
-
 /// Whether an owner has one of the groups of a type, and that is verified.
 fn is_verified(groups: &[Group], owner: &Owner, rtype: Rtype) -> bool
+    requires ranked { AreRanked groups.now }
     ensures { result ≡ list_any (is_proved owner.now rtype) groups.now }
 {
-    for group in groups {
-        if group.verified.is_some() && group.is_of(owner, rtype) {
-            return true;
-        }
+    match place_of(groups, owner, rtype) {
+        None => false,
+        Some(place) => groups[place].verified.is_some(),
     }
-    false
 }
 
 /// The NSEC records of verified groups.
@@ -241,6 +324,7 @@ fn read_links<'a>(
     records: &[ViewRecord<'a>],
     groups: &[Group],
 ) -> Result<Vec<Link<'a>>, AllocError>
+    requires { AreRanked groups.now }
     ensures { IfOk result
         (λ ls. ls.items ≡ filter_map (link_by message.now groups.now) (map spelled records.now)) }
 {
@@ -263,6 +347,7 @@ fn read_hash_links<'a>(
     records: &[ViewRecord<'a>],
     groups: &[Group],
 ) -> Result<Vec<HashLink<'a>>, AllocError>
+    requires { AreRanked groups.now }
     ensures { let link = hash_link_by apex.now message.now groups.now in
         IfOk result (λ ls. ls.items ≡ filter_map link (map spelled records.now)) }
 {

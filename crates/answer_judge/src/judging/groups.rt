@@ -6,7 +6,9 @@ ghost use Rattle.messages.specs.Record.{fields_read, spelled};
 ghost use Rattle.answer_judge.specs.Facts.{is_signature};
 ghost use Rattle.answer_judge.specs.Verified.{datum_of, rrset_in};
 ghost use Rattle.answer_judge.specs.declared.judging.groups.Group.{Group};
-ghost use Rattle.answer_judge.specs.Marked.{held_by, is_of, are_apart, data_in, marked, signed_of, signs_group, is_tried_in, tries_in};
+ghost use Rattle.answer_judge.specs.Marked.{held_by, is_of, are_apart, data_in, marked, signed_of, signs_group, is_chain_type, is_tried_in, tries_in};
+ghost use Rattle.answer_judge.specs.Ranked.{AreRanked, place_of, sought_cmp, type_rank};
+ghost use Rattle.answer_judge.specs.KeyOrder.{Ranks};
 ghost use Rattle.messages.specs.Message.{if_true};
 ghost use Rattle.answer_judge.specs.Counted.{can_try, one_if};
 ghost use Rattle.std.specs.Option.{option_map};
@@ -14,10 +16,10 @@ ghost use Rattle.std.specs.List.{list_any};
 ghost use Rattle.definitions.specs.Name.{same};
 ghost use Rattle.definitions.specs.Signing.{signed_octets};
 
+use crate::judging::order::sort_data;
 use crate::judging::trust::Trust;
 use crate::judging::verifier::Verifier;
 use answer_scheme::checks::Checks;
-use answer_terms::ranked::put_cow_data;
 use denial_data::Rrsig;
 use messages::names::{Name, ParsedName, ToName};
 use messages::signed::compose_signed_octets;
@@ -28,6 +30,10 @@ use numbers::class::Class;
 use numbers::ttl::Ttl;
 use std::alloc::{AllocError, Global};
 use std::borrow::CowSlice;
+use std::cmp::Ordering;
+
+/// So many groups at most are looked through one by one; among more one is searched.
+const FEW: usize = 8;
 
 /// What a signature says beside the RRset that it covers and the name that signs it (RFC 4034, 3.1).
 #[derive(Clone, Copy, Debug)]
@@ -62,6 +68,36 @@ impl<'a> Group<'a> {
     {
         self.rtype == rtype && owner.name().name_eq(&self.owner)
     }
+
+    /// How the group stands to an owner and a type in the order of groups: by type, records of chains first, then by owner
+    /// in canonical order.
+    fn sought_cmp(&self, owner: &Owner, rtype: Rtype) -> Ordering
+        ensures { result ≡ sought_cmp (place_of self.now) (rtype, owner.now) }
+    {
+        let order = type_rank(self.rtype).cmp(&type_rank(rtype));
+        if order.is_ne() {
+            return order;
+        }
+        self.owner.name_cmp(owner.name())
+    }
+}
+
+/// The rank of a type: records of chains come first.
+fn type_rank(rtype: Rtype) -> u32
+    ensures { result ≡ type_rank rtype }
+{
+    let number = u32::from(rtype.to_int());
+    if is_chain_type(rtype) {
+        return number;
+    }
+    number + 65536
+}
+
+/// Whether records of a type are those of a chain, NSEC or NSEC3.
+pub(crate) fn is_chain_type(rtype: Rtype) -> bool
+    ensures { result ≡ is_chain_type rtype }
+{
+    rtype == Rtype::NSEC || rtype == Rtype::NSEC3
 }
 
 /// The RRset of an owner and a type: what reads of the records of class IN.
@@ -81,9 +117,10 @@ pub(crate) fn read_group<'a>(
     let mut items = Vec::new(alloc);
     for record in records {
         if let Some(item) = datum_of(alloc, message, record, &owner, rtype)? {
-            put_cow_data(&mut items, item)?;
+            items.push(item)?;
         }
     }
+    sort_data(&mut items);
     Ok(Group {
         owner,
         rtype,
@@ -117,8 +154,10 @@ pub(crate) fn verify_groups<C: Checks>(
     groups: &mut [Group],
     verifier: &mut Verifier<C>,
 ) -> Result<(), AllocError>
+    requires index { Ranks trust.now.keys.now trust.now.ranked.now }
     requires room { verifier.old.count + length records.now < 2 ^ 32 }
     requires apart { are_apart groups.old ≡ true }
+    requires ranked { AreRanked groups.old }
     ensures marked { let w = held_by (C.answers verifier.old.checks.now) trust.now in
         let rs = map spelled records.now in
         IfOk result (λ _. groups.new ≡ map (marked w message.now rs) groups.old) }
@@ -150,9 +189,11 @@ fn verify_record<C: Checks>(
     groups: &mut [Group],
     verifier: &mut Verifier<C>,
 ) -> Result<(), AllocError>
+    requires index { Ranks trust.now.keys.now trust.now.ranked.now }
     requires room { verifier.old.count + 1 < 2 ^ 32 }
     requires signature { is_signature (spelled record.now) ≡ true }
     requires apart { are_apart groups.old ≡ true }
+    requires ranked { AreRanked groups.old }
     ensures marked { let w = held_by (C.answers verifier.old.checks.now) trust.now in
         let r = spelled record.now in
         IfOk result (λ _. groups.new ≡ map (marked w message.now (r ∷ [])) groups.old) }
@@ -181,8 +222,24 @@ fn verify_record<C: Checks>(
     Ok(())
 }
 
-/// The place of a group of an owner and a type.
-fn place_of(groups: &[Group], owner: &Owner, rtype: Rtype) -> Option<usize>
+/// The place of a group of an owner and a type, among groups in their order.
+pub(crate) fn place_of(groups: &[Group], owner: &Owner, rtype: Rtype) -> Option<usize>
+    requires { AreRanked groups.now }
+    ensures within { IfSome result (λ i. i < length groups.now) }
+    ensures found { let is = is_of owner.now rtype in
+        MatchOption result (list_any is groups.now ≡ false)
+        (λ i. (g : Group) → g ≡ get_or groups.now i g → is g ≡ true) }
+{
+    if groups.len() <= FEW {
+        return first_place(groups, owner, rtype);
+    }
+    groups
+        .binary_search_by(|group| group.sought_cmp(owner, rtype))
+        .ok()
+}
+
+/// The same, of groups that are looked through.
+fn first_place(groups: &[Group], owner: &Owner, rtype: Rtype) -> Option<usize>
     ensures within { IfSome result (λ i. i < length groups.now) }
     ensures found { let is = is_of owner.now rtype in
         MatchOption result (list_any is groups.now ≡ false)
@@ -203,7 +260,8 @@ fn verifies<C: Checks>(
     group: &Group,
     verifier: &mut Verifier<C>,
 ) -> Result<Option<Signed>, AllocError>
-    requires { verifier.old.count + 1 < 2 ^ 32 }
+    requires index { Ranks trust.now.keys.now trust.now.ranked.now }
+    requires room { verifier.old.count + 1 < 2 ^ 32 }
     ensures signs { let w = held_by (C.answers verifier.old.checks.now) trust.now in
         let f = fields_read signature.now in
         let is_signed = signs_group w group.now f signature.now.signature in

@@ -1,13 +1,18 @@
 //! The keys of a DNSKEY answer, and which of them are trusted (RFC 4035, 5.2).
 ghost use Rattle.std.specs.Prelude.{◌≡◌, ◌≤◌, IfOk, filter, length, map};
-ghost use Rattle.std.specs.List.{list_any};
+ghost use Rattle.std.specs.List.{find, list_any};
+ghost use Rattle.std.specs.Option.{option_map};
 ghost use Rattle.definitions.specs.Dnskey.{dnskey_data, key_tag};
-ghost use Rattle.answer_judge.specs.Facts.{is_usable, is_trusted, names_key};
+ghost use Rattle.answer_judge.specs.Facts.{fits_key, is_usable, is_trusted, names_key};
 ghost use Rattle.answer_terms.specs.EqualTags.{clashes, has_equal_tags};
 ghost use Rattle.answer_judge.specs.Judging.{key_at, keys_in};
 ghost use Rattle.messages.specs.Message.{data_of};
-ghost use Rattle.messages.specs.Record.{spelled};
+ghost use Rattle.messages.specs.Record.{fields_read, spelled};
+ghost use Rattle.answer_judge.specs.KeyOrder.{Ranks, is_before, key_cmp};
+ghost use Rattle.std.specs.List.Sorted.{IsSortedBy};
+ghost use Rattle.std.specs.Ordering.{is_lt};
 
+use crate::judging::groups::Signature;
 use crate::judging::verifier::Verifier;
 use answer_scheme::checks::Checks;
 use answer_scheme::error::SchemeError;
@@ -20,7 +25,11 @@ use names_data::rtype::Rtype;
 use numbers::algorithm::SecurityAlgorithm;
 use numbers::class::Class;
 use std::alloc::{AllocError, Global};
+use std::cmp::Ordering;
 use std::marker::Model;
+
+/// So many keys at most are looked through one by one; among more one is searched.
+const FEW: usize = 8;
 
 /// A key with the data that spell it, and its tag, which is summed once. A contract sees the key.
 #[derive(Debug, Drop)]
@@ -96,6 +105,34 @@ impl<'a> TaggedKey<'a> {
         self.dnskey.is_zone_key() && self.dnskey.protocol() == 3
     }
 
+    /// By tag, and then by algorithm.
+    fn key_cmp(&self, other: &TaggedKey) -> Ordering
+        ensures { result ≡ key_cmp self.now other.now }
+    {
+        let order = self.tag.cmp(&other.tag);
+        if order.is_ne() {
+            return order;
+        }
+        let own = self.dnskey.algorithm().to_int();
+        own.cmp(&other.dnskey.algorithm().to_int())
+    }
+
+    /// Whether the key stands before those of a signature's tag and algorithm.
+    fn is_before(&self, signature: &Signature) -> bool
+        ensures { result ≡ is_before (fields_read signature.now) self.now }
+    {
+        let tag = signature.key_tag();
+        let algorithm = signature.algorithm().to_int();
+        self.tag < tag || (self.tag == tag && self.dnskey.algorithm().to_int() < algorithm)
+    }
+
+    /// Whether the key has a signature's tag and algorithm.
+    fn fits(&self, signature: &Signature) -> bool
+        ensures { result ≡ fits_key (fields_read signature.now) self.now }
+    {
+        self.tag == signature.key_tag() && self.dnskey.algorithm() == signature.algorithm()
+    }
+
     /// Whether another key is unlike this one and has its tag.
     fn clashes(&self, other: &TaggedKey) -> bool
         ensures { result ≡ clashes self.now other.now }
@@ -142,8 +179,116 @@ fn read_key<'a>(
     Some(TaggedKey::new(dnskey, data))
 }
 
-/// Whether two unlike keys have one tag.
-pub(crate) fn has_equal_tags(keys: &[TaggedKey]) -> bool
+/// The keys again, by tag and algorithm; none where they are few, since these are looked through.
+pub(crate) fn ranked_keys<'a>(
+    alloc: Global,
+    keys: &[TaggedKey<'a>],
+) -> Result<Vec<TaggedKey<'a>>, AllocError>
+    ensures { IfOk result (λ v. Ranks keys.now v.items) }
+{
+    if keys.len() <= FEW {
+        return Ok(Vec::new(alloc));
+    }
+    let mut ranked = copied_keys(alloc, keys)?;
+    ranked.sort_by(|a, b| a.key_cmp(b))?;
+    Ok(ranked)
+}
+
+/// The same keys over the same octets.
+fn copied_keys<'a>(
+    alloc: Global,
+    keys: &[TaggedKey<'a>],
+) -> Result<Vec<TaggedKey<'a>>, AllocError>
+    ensures { IfOk result (λ v. v.items ≡ keys.now) }
+{
+    let mut copies = Vec::with_capacity(alloc, keys.len())?;
+    for key in keys {
+        copies.push(key.copied())?;
+    }
+    Ok(copies)
+}
+
+/// The first key of a signature's tag and algorithm, of keys that stand by these too where they are many.
+pub(crate) fn key_of<'k, 'a>(
+    keys: &'k [TaggedKey<'a>],
+    ranked: &'k [TaggedKey<'a>],
+    signature: &Signature,
+) -> Option<&'k TaggedKey<'a>>
+    requires { Ranks keys.now ranked.now }
+    ensures { let fits = fits_key (fields_read signature.now) in
+        option_map (λ k. k.now) result ≡ find fits keys.now }
+{
+    if keys.len() <= FEW {
+        return first_key(keys, signature);
+    }
+    searched_key(ranked, signature)
+}
+
+/// The same, of keys that are looked through.
+fn first_key<'k, 'a>(
+    keys: &'k [TaggedKey<'a>],
+    signature: &Signature,
+) -> Option<&'k TaggedKey<'a>>
+    ensures { let fits = fits_key (fields_read signature.now) in
+        option_map (λ k. k.now) result ≡ find fits keys.now }
+{
+    for key in keys {
+        if key.fits(signature) {
+            return Some(key);
+        }
+    }
+    None
+}
+
+/// The same, of keys by tag and algorithm.
+fn searched_key<'k, 'a>(
+    ranked: &'k [TaggedKey<'a>],
+    signature: &Signature,
+) -> Option<&'k TaggedKey<'a>>
+    requires { IsSortedBy (λ a b. is_lt (key_cmp a b)) ranked.now }
+    ensures { let fits = fits_key (fields_read signature.now) in
+        option_map (λ k. k.now) result ≡ find fits ranked.now }
+{
+    let place = ranked.partition_point(|key| key.is_before(signature));
+    if place == ranked.len() {
+        return None;
+    }
+    let key = &ranked[place];
+    if key.fits(signature) {
+        return Some(key);
+    }
+    None
+}
+
+/// Whether two unlike keys have one tag, of keys that stand by tag too where they are many.
+pub(crate) fn has_equal_tags(keys: &[TaggedKey], ranked: &[TaggedKey]) -> bool
+    requires { Ranks keys.now ranked.now }
+    ensures { result ≡ has_equal_tags keys.now }
+{
+    if keys.len() <= FEW {
+        return are_clashing(keys);
+    }
+    has_clashing_neighbors(ranked)
+}
+
+/// Whether two unlike keys side by side have one tag: among keys by tag these are all that do.
+fn has_clashing_neighbors(ranked: &[TaggedKey]) -> bool
+    requires { IsSortedBy (λ a b. is_lt (key_cmp a b)) ranked.now }
+    ensures { result ≡ has_equal_tags ranked.now }
+{
+    let mut place = 1;
+    while place < ranked.len() {
+        let before = place - 1;
+        if ranked[before].clashes(&ranked[place]) {
+            return true;
+        }
+        place += 1;
+    }
+    false
+}
+
+/// Whether two unlike keys have one tag, each beside each.
+fn are_clashing(keys: &[TaggedKey]) -> bool
     ensures { result ≡ has_equal_tags keys.now }
 {
     for key in keys {

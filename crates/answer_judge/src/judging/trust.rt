@@ -5,19 +5,22 @@ ghost use Rattle.std.specs.Option.{option_map};
 ghost use Rattle.definitions.specs.Signing.{in_time};
 ghost use Rattle.messages.specs.Record.{fields_read};
 ghost use Rattle.answer_judge.specs.Facts.{fits_key, is_due, labels_fit, may_expand};
+ghost use Rattle.answer_judge.specs.KeyOrder.{Ranks};
 
 use crate::judging::groups::{GroupOwner, Signature};
-use crate::judging::keys::TaggedKey;
+use crate::judging::keys::{TaggedKey, key_of};
 use denial_data::Timestamp;
 use messages::names::{Name, ToName, ZoneName};
 use names_data::rtype::Rtype;
 
-/// What signatures are held against: the apex and how many labels it has, the keys that may sign, and the moment.
+/// What signatures are held against: the apex and how many labels it has, the keys that may sign, as they stand and where they
+/// are many by tag too, and the moment.
 #[derive(Drop)]
 pub(crate) struct Trust<'a> {
     pub(crate) apex: &'a Name<Vec<u8>>,
     pub(crate) depth: usize,
     pub(crate) keys: &'a [TaggedKey<'a>],
+    pub(crate) ranked: &'a [TaggedKey<'a>],
     pub(crate) moment: u32,
     ghost counted: { depth ≡ length apex.now },
 }
@@ -51,17 +54,11 @@ impl<'a> Trust<'a> {
 
     /// The key of a signature's tag and algorithm.
     pub(crate) fn key(&self, signature: &Signature) -> Option<&TaggedKey<'a>>
+        requires { Ranks self.now.keys.now self.now.ranked.now }
         ensures { let fits = fits_key (fields_read signature.now) in
             option_map (λ k. k.now) result ≡ find fits self.now.keys.now }
     {
-        for key in self.keys {
-            if key.tag() == signature.key_tag()
-                && key.dnskey().algorithm() == signature.algorithm()
-            {
-                return Some(key);
-            }
-        }
-        None
+        key_of(self.keys, self.ranked, signature)
     }
 }
 

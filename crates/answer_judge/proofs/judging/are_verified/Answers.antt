@@ -1,4 +1,4 @@
-use Rattle.std.proofs.Common.{rules, ◌≡◌, false, subst, ◌||◌, [], ◌∷◌, ◌+◌, ◌++◌, map, length, ap, ◌∙◌, arith}
+use Rattle.std.proofs.Common.{rules, ◌≡◌, false, subst, ◌||◌, [], ◌∷◌, ◌+◌, ◌++◌, map, length, sym, ap, ◌∙◌, arith}
 use Rattle.std.specs.Prelude.{MatchOption, Some, is_some}
 use Rattle.definitions.specs.Limits.{pointer_limit}
 use Rattle.answer_judge.specs.declared.judging.groups.Group.{Group}
@@ -10,6 +10,8 @@ use Rattle.answer_judge.specs.Marked.{held_by, marked, tries_in}
 use Rattle.answer_judge.proofs.JudgeCounted.{tries_are}
 use Rattle.answer_judge.proofs.JudgeFacts.{last_of}
 use Rattle.answer_judge.proofs.JudgeSought.{keys_are}
+use Rattle.answer_judge.specs.Ranked.{AreRanked}
+use Rattle.answer_judge.proofs.GroupPlaces.{one_ranked}
 use Rattle.answer_judge.proofs.judging.are_verified.Goals as goal
 
 pub returns-clause-tried : goal.returns-clause-tried
@@ -39,3 +41,9 @@ returns-clause-exact g c =
     let last = c.pop.ensures.value y (omega (arith, len, ap length all)) ∙ ap Some (last_of [] y y c.verify_groups.new.groups c.push.new.self.items c.push.new.self.len all len) in
     subst (λ o. MatchOption o (c.was_verified.result ≡ false) (λ (g : Group). c.was_verified.result ≡ is_some g.verified)) last c.was_verified.ensures ∙ marked_is a m rs x
     ∙ (λ i. is_some (e.unverified i) || is_verified a pointer_limit m rs (e.owner i) (e.rtype i) (e.items i))
+
+pub verify_groups-requires-clause-ranked : goal.verify_groups-requires-clause-ranked
+verify_groups-requires-clause-ranked g c =
+    let x = c.in_ok-key_group.field-0 in
+    let old : c.deref_mut.result.now ≡ x ∷ [] = c.deref_mut.ensures.value ∙ c.in_ok-push.ensures.items ∙ ap (λ gs. gs ++ x ∷ []) c.in_ok-groups.ensures.items in
+    subst AreRanked (sym old) (one_ranked x)

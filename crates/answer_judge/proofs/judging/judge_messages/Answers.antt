@@ -14,11 +14,24 @@ use Rattle.answer_judge.proofs.JudgeTotals.{key_tries_as, keys_alone, keys_and_a
 use Rattle.answer_judge.proofs.JudgeWhole.{beyond, chained_as, usable_as, untrusted, decided_as, unrefused}
 use Rattle.answer_judge.proofs.JudgeHashes.{counts_as, facts_hashed, none_hashed}
 use Rattle.answer_terms.specs.EqualTags.{has_equal_tags}
+use Rattle.answer_judge.specs.KeyOrder.{Ranks}
 use Rattle.answer_judge.proofs.judging.judge_messages.Goals as goal
+
+pub has_equal_tags-requires : goal.has_equal_tags-requires
+has_equal_tags-requires g c =
+    subst (λ ks. Ranks ks c.deref-4.result.now) (sym c.deref-3.ensures.value)
+    (subst (λ vs. Ranks c.in_ok-keys.keys.items vs) (sym c.deref-4.ensures.value) (subst (λ ks. Ranks ks c.in_ok-by_tag.by_tag.items) c.deref-2.ensures.value c.in_ok-by_tag.ensures))
+
+pub are_verified-requires-clause-index : goal.are_verified-requires-clause-index
+are_verified-requires-clause-index g c =
+    subst (λ ks. Ranks ks c.deref-8.result.now) (sym c.deref-7.ensures.value)
+    (subst (λ vs. Ranks c.in_ok-trusted.trusted.items vs) (sym c.deref-8.ensures.value) (subst (λ ks. Ranks ks c.in_ok-trusted_by_tag.trusted_by_tag.items) c.deref-6.ensures.value c.in_ok-trusted_by_tag.ensures))
 
 pub read_facts-requires : goal.read_facts-requires
 read_facts-requires g c =
     record {
+      index = subst (λ ks. Ranks ks c.deref-13.result.now) (sym c.deref-12.ensures.value)
+      (subst (λ vs. Ranks c.usable_keys-usable.result.items vs) (sym c.deref-13.ensures.value) (subst (λ ks. Ranks ks c.in_ok-usable_by_tag.usable_by_tag.items) c.deref-11.ensures.value c.in_ok-usable_by_tag.ensures));
       room = omega (
         arith,
         c.requires.counts,
@@ -41,13 +54,13 @@ returns-then-not-branch-clause-exact g c =
     let answer = c.in_ok-messages.messages.answer in
     let rs = map spelled c.in_ok-messages.messages.key_records.items in
     let ks : c.in_ok-keys.keys.items ≡ keys_in h.dnskey_bytes h.apex rs = c.in_ok-keys.ensures ∙ (λ i. keys_in (is i).dnskey_bytes (is i).apex (map spelled (c.deref.ensures.value i))) in
-    let tags : has_equal_tags (keys_in h.dnskey_bytes h.apex keys.records) ≡ false = sym (c.has_equal_tags.ensures ∙ ap has_equal_tags (c.deref-2.ensures.value ∙ ks ∙ ap (keys_in h.dnskey_bytes h.apex) c.in_ok-messages.ensures.key_records)) ∙ c.if-has_equal_tags.false in
+    let tags : has_equal_tags (keys_in h.dnskey_bytes h.apex keys.records) ≡ false = sym (c.has_equal_tags.ensures ∙ ap has_equal_tags (c.deref-3.ensures.value ∙ ks ∙ ap (keys_in h.dnskey_bytes h.apex) c.in_ok-messages.ensures.key_records)) ∙ c.if-has_equal_tags.false in
     let none : message_refusal pointer_limit h ≡ None = unrefused pointer_limit h keys answer c.in_ok-messages.ensures.keys c.in_ok-messages.ensures.answer c.in_ok-messages.ensures.asks_keys c.in_ok-messages.ensures.asks_answer tags in
-    let trusted : c.in_ok-trusted.trusted.items ≡ filter (is_trusted a h.apex h.ds) c.in_ok-keys.keys.items = c.in_ok-trusted.ensures.trusted ∙ (λ i. filter (is_trusted a (is i).apex (is i).ds) (c.deref-3.ensures.value i)) in
+    let trusted : c.in_ok-trusted.trusted.items ≡ filter (is_trusted a h.apex h.ds) c.in_ok-keys.keys.items = c.in_ok-trusted.ensures.trusted ∙ (λ i. filter (is_trusted a (is i).apex (is i).ds) (c.deref-5.ensures.value i)) in
     let rest = c.in_ok-trusted.ensures.rest in
     let same = ap (λ v. g.C.Checks.answers v.checks.now) rest in
     let chained : c.in_ok-are_verified.field-0 ≡ is_verified (trusting a h c.in_ok-trusted.trusted.items) pointer_limit h.dnskey_bytes rs h.apex 48 (sorted_data (map dnskey_data c.in_ok-keys.keys.items)) =
-    c.in_ok-are_verified.ensures.exact ∙ (λ i. is_verified (record { answers = same i; apex = (is i).apex; keys = c.deref-4.ensures.value i; now = moment i }) pointer_limit (is i).dnskey_bytes (map spelled (c.deref-5.ensures.value i)) (is i).apex 48 (sorted_data (map dnskey_data (c.deref-6.ensures.value i)))) in
+    c.in_ok-are_verified.ensures.exact ∙ (λ i. is_verified (record { answers = same i; apex = (is i).apex; keys = c.deref-7.ensures.value i; now = moment i }) pointer_limit (is i).dnskey_bytes (map spelled (c.deref-9.ensures.value i)) (is i).apex 48 (sorted_data (map dnskey_data (c.deref-10.ensures.value i)))) in
     untrusted a h keys answer (beyond a pointer_limit h keys answer c.in_ok-messages.ensures.keys c.in_ok-messages.ensures.answer none)
     (sym c.if-not-branch.true ∙ chained_as a h keys rs c.in_ok-keys.keys.items c.in_ok-trusted.trusted.items c.in_ok-are_verified.field-0 c.in_ok-messages.ensures.key_records ks trusted chained)
 
@@ -61,18 +74,18 @@ returns-clause-exact g c =
     let answer = c.in_ok-messages.messages.answer in
     let rs = map spelled c.in_ok-messages.messages.key_records.items in
     let ks : c.in_ok-keys.keys.items ≡ keys_in h.dnskey_bytes h.apex rs = c.in_ok-keys.ensures ∙ (λ i. keys_in (is i).dnskey_bytes (is i).apex (map spelled (c.deref.ensures.value i))) in
-    let tags : has_equal_tags (keys_in h.dnskey_bytes h.apex keys.records) ≡ false = sym (c.has_equal_tags.ensures ∙ ap has_equal_tags (c.deref-2.ensures.value ∙ ks ∙ ap (keys_in h.dnskey_bytes h.apex) c.in_ok-messages.ensures.key_records)) ∙ c.if-has_equal_tags.false in
+    let tags : has_equal_tags (keys_in h.dnskey_bytes h.apex keys.records) ≡ false = sym (c.has_equal_tags.ensures ∙ ap has_equal_tags (c.deref-3.ensures.value ∙ ks ∙ ap (keys_in h.dnskey_bytes h.apex) c.in_ok-messages.ensures.key_records)) ∙ c.if-has_equal_tags.false in
     let none : message_refusal pointer_limit h ≡ None = unrefused pointer_limit h keys answer c.in_ok-messages.ensures.keys c.in_ok-messages.ensures.answer c.in_ok-messages.ensures.asks_keys c.in_ok-messages.ensures.asks_answer tags in
-    let trusted : c.in_ok-trusted.trusted.items ≡ filter (is_trusted a h.apex h.ds) c.in_ok-keys.keys.items = c.in_ok-trusted.ensures.trusted ∙ (λ i. filter (is_trusted a (is i).apex (is i).ds) (c.deref-3.ensures.value i)) in
+    let trusted : c.in_ok-trusted.trusted.items ≡ filter (is_trusted a h.apex h.ds) c.in_ok-keys.keys.items = c.in_ok-trusted.ensures.trusted ∙ (λ i. filter (is_trusted a (is i).apex (is i).ds) (c.deref-5.ensures.value i)) in
     let rest = c.in_ok-trusted.ensures.rest in
     let same = ap (λ v. g.C.Checks.answers v.checks.now) rest in
     let chained : c.in_ok-are_verified.field-0 ≡ is_verified (trusting a h c.in_ok-trusted.trusted.items) pointer_limit h.dnskey_bytes rs h.apex 48 (sorted_data (map dnskey_data c.in_ok-keys.keys.items)) =
-    c.in_ok-are_verified.ensures.exact ∙ (λ i. is_verified (record { answers = same i; apex = (is i).apex; keys = c.deref-4.ensures.value i; now = moment i }) pointer_limit (is i).dnskey_bytes (map spelled (c.deref-5.ensures.value i)) (is i).apex 48 (sorted_data (map dnskey_data (c.deref-6.ensures.value i)))) in
+    c.in_ok-are_verified.ensures.exact ∙ (λ i. is_verified (record { answers = same i; apex = (is i).apex; keys = c.deref-7.ensures.value i; now = moment i }) pointer_limit (is i).dnskey_bytes (map spelled (c.deref-9.ensures.value i)) (is i).apex 48 (sorted_data (map dnskey_data (c.deref-10.ensures.value i)))) in
     let usable : c.usable_keys-usable.result.items ≡ filter is_usable (keys_of h keys) = usable_as h keys rs c.in_ok-keys.keys.items c.usable_keys-usable.result.items c.in_ok-messages.ensures.key_records ks c.usable_keys-usable.ensures in
     let later = c.in_ok-are_verified.ensures.same ∙ same in
     let facts = c.in_ok-facts.facts in
     let found : facts ≡ verified_facts (trusting a h c.usable_keys-usable.result.items) pointer_limit h.answer_bytes (map spelled c.in_ok-messages.messages.answer_records.items) h.asked.name h.asked.rtype =
-    c.in_ok-facts.ensures.facts ∙ (λ i. verified_facts (record { answers = later i; apex = (is i).apex; keys = c.deref-7.ensures.value i; now = moment i }) pointer_limit (is i).answer_bytes (map spelled (c.deref-8.ensures.value i)) (is i).asked.name (is i).asked.rtype) in
+    c.in_ok-facts.ensures.facts ∙ (λ i. verified_facts (record { answers = later i; apex = (is i).apex; keys = c.deref-12.ensures.value i; now = moment i }) pointer_limit (is i).answer_bytes (map spelled (c.deref-14.ensures.value i)) (is i).asked.name (is i).asked.rtype) in
     let chain = sym c.if-not-branch.false ∙ chained_as a h keys rs c.in_ok-keys.keys.items c.in_ok-trusted.trusted.items c.in_ok-are_verified.field-0 c.in_ok-messages.ensures.key_records ks trusted chained in
     let all = decided_as a h keys answer c.usable_keys-usable.result.items (map spelled c.in_ok-messages.messages.answer_records.items) facts
     (beyond a pointer_limit h keys answer c.in_ok-messages.ensures.keys c.in_ok-messages.ensures.answer none) chain usable c.in_ok-messages.ensures.answer_records found in
@@ -90,15 +103,15 @@ returns-then-not-branch-clause-counts g c =
     let answer = c.in_ok-messages.messages.answer in
     let rs = map spelled c.in_ok-messages.messages.key_records.items in
     let ks : c.in_ok-keys.keys.items ≡ keys_in h.dnskey_bytes h.apex rs = c.in_ok-keys.ensures ∙ (λ i. keys_in (is i).dnskey_bytes (is i).apex (map spelled (c.deref.ensures.value i))) in
-    let tags : has_equal_tags (keys_in h.dnskey_bytes h.apex keys.records) ≡ false = sym (c.has_equal_tags.ensures ∙ ap has_equal_tags (c.deref-2.ensures.value ∙ ks ∙ ap (keys_in h.dnskey_bytes h.apex) c.in_ok-messages.ensures.key_records)) ∙ c.if-has_equal_tags.false in
+    let tags : has_equal_tags (keys_in h.dnskey_bytes h.apex keys.records) ≡ false = sym (c.has_equal_tags.ensures ∙ ap has_equal_tags (c.deref-3.ensures.value ∙ ks ∙ ap (keys_in h.dnskey_bytes h.apex) c.in_ok-messages.ensures.key_records)) ∙ c.if-has_equal_tags.false in
     let none : message_refusal pointer_limit h ≡ None = unrefused pointer_limit h keys answer c.in_ok-messages.ensures.keys c.in_ok-messages.ensures.answer c.in_ok-messages.ensures.asks_keys c.in_ok-messages.ensures.asks_answer tags in
-    let trusted : c.in_ok-trusted.trusted.items ≡ filter (is_trusted a h.apex h.ds) c.in_ok-keys.keys.items = c.in_ok-trusted.ensures.trusted ∙ (λ i. filter (is_trusted a (is i).apex (is i).ds) (c.deref-3.ensures.value i)) in
+    let trusted : c.in_ok-trusted.trusted.items ≡ filter (is_trusted a h.apex h.ds) c.in_ok-keys.keys.items = c.in_ok-trusted.ensures.trusted ∙ (λ i. filter (is_trusted a (is i).apex (is i).ds) (c.deref-5.ensures.value i)) in
     let rest = c.in_ok-trusted.ensures.rest in
     let same = ap (λ v. g.C.Checks.answers v.checks.now) rest in
     let chained : c.in_ok-are_verified.field-0 ≡ is_verified (trusting a h c.in_ok-trusted.trusted.items) pointer_limit h.dnskey_bytes rs h.apex 48 (sorted_data (map dnskey_data c.in_ok-keys.keys.items)) =
-    c.in_ok-are_verified.ensures.exact ∙ (λ i. is_verified (record { answers = same i; apex = (is i).apex; keys = c.deref-4.ensures.value i; now = moment i }) pointer_limit (is i).dnskey_bytes (map spelled (c.deref-5.ensures.value i)) (is i).apex 48 (sorted_data (map dnskey_data (c.deref-6.ensures.value i)))) in
+    c.in_ok-are_verified.ensures.exact ∙ (λ i. is_verified (record { answers = same i; apex = (is i).apex; keys = c.deref-7.ensures.value i; now = moment i }) pointer_limit (is i).dnskey_bytes (map spelled (c.deref-9.ensures.value i)) (is i).apex 48 (sorted_data (map dnskey_data (c.deref-10.ensures.value i)))) in
     let none_yet = ap (λ v. v.count) rest ∙ c.requires.counts in
-    let tried = c.in_ok-are_verified.ensures.tried ∙ (λ i. none_yet i + tries (record { answers = same i; apex = (is i).apex; keys = c.deref-4.ensures.value i; now = moment i }) pointer_limit (is i).dnskey_bytes (keys_sought (is i).apex (c.deref-6.ensures.value i)) [] (map spelled (c.deref-5.ensures.value i))) in
+    let tried = c.in_ok-are_verified.ensures.tried ∙ (λ i. none_yet i + tries (record { answers = same i; apex = (is i).apex; keys = c.deref-7.ensures.value i; now = moment i }) pointer_limit (is i).dnskey_bytes (keys_sought (is i).apex (c.deref-10.ensures.value i)) [] (map spelled (c.deref-9.ensures.value i))) in
     inr (keys_alone a h keys answer c.are_verified.new.verifier.count none c.in_ok-messages.ensures.keys c.in_ok-messages.ensures.answer
     (sym c.if-not-branch.true ∙ chained_as a h keys rs c.in_ok-keys.keys.items c.in_ok-trusted.trusted.items c.in_ok-are_verified.field-0 c.in_ok-messages.ensures.key_records ks trusted chained)
     (key_tries_as a h keys rs c.in_ok-keys.keys.items c.in_ok-trusted.trusted.items c.are_verified.new.verifier.count c.in_ok-messages.ensures.key_records ks trusted tried))
@@ -114,18 +127,18 @@ returns-clause-counts g c =
     let answer = c.in_ok-messages.messages.answer in
     let rs = map spelled c.in_ok-messages.messages.key_records.items in
     let ks : c.in_ok-keys.keys.items ≡ keys_in h.dnskey_bytes h.apex rs = c.in_ok-keys.ensures ∙ (λ i. keys_in (is i).dnskey_bytes (is i).apex (map spelled (c.deref.ensures.value i))) in
-    let tags : has_equal_tags (keys_in h.dnskey_bytes h.apex keys.records) ≡ false = sym (c.has_equal_tags.ensures ∙ ap has_equal_tags (c.deref-2.ensures.value ∙ ks ∙ ap (keys_in h.dnskey_bytes h.apex) c.in_ok-messages.ensures.key_records)) ∙ c.if-has_equal_tags.false in
+    let tags : has_equal_tags (keys_in h.dnskey_bytes h.apex keys.records) ≡ false = sym (c.has_equal_tags.ensures ∙ ap has_equal_tags (c.deref-3.ensures.value ∙ ks ∙ ap (keys_in h.dnskey_bytes h.apex) c.in_ok-messages.ensures.key_records)) ∙ c.if-has_equal_tags.false in
     let none : message_refusal pointer_limit h ≡ None = unrefused pointer_limit h keys answer c.in_ok-messages.ensures.keys c.in_ok-messages.ensures.answer c.in_ok-messages.ensures.asks_keys c.in_ok-messages.ensures.asks_answer tags in
-    let trusted : c.in_ok-trusted.trusted.items ≡ filter (is_trusted a h.apex h.ds) c.in_ok-keys.keys.items = c.in_ok-trusted.ensures.trusted ∙ (λ i. filter (is_trusted a (is i).apex (is i).ds) (c.deref-3.ensures.value i)) in
+    let trusted : c.in_ok-trusted.trusted.items ≡ filter (is_trusted a h.apex h.ds) c.in_ok-keys.keys.items = c.in_ok-trusted.ensures.trusted ∙ (λ i. filter (is_trusted a (is i).apex (is i).ds) (c.deref-5.ensures.value i)) in
     let rest = c.in_ok-trusted.ensures.rest in
     let same = ap (λ v. g.C.Checks.answers v.checks.now) rest in
     let chained : c.in_ok-are_verified.field-0 ≡ is_verified (trusting a h c.in_ok-trusted.trusted.items) pointer_limit h.dnskey_bytes rs h.apex 48 (sorted_data (map dnskey_data c.in_ok-keys.keys.items)) =
-    c.in_ok-are_verified.ensures.exact ∙ (λ i. is_verified (record { answers = same i; apex = (is i).apex; keys = c.deref-4.ensures.value i; now = moment i }) pointer_limit (is i).dnskey_bytes (map spelled (c.deref-5.ensures.value i)) (is i).apex 48 (sorted_data (map dnskey_data (c.deref-6.ensures.value i)))) in
+    c.in_ok-are_verified.ensures.exact ∙ (λ i. is_verified (record { answers = same i; apex = (is i).apex; keys = c.deref-7.ensures.value i; now = moment i }) pointer_limit (is i).dnskey_bytes (map spelled (c.deref-9.ensures.value i)) (is i).apex 48 (sorted_data (map dnskey_data (c.deref-10.ensures.value i)))) in
     let none_yet = ap (λ v. v.count) rest ∙ c.requires.counts in
-    let tried = c.in_ok-are_verified.ensures.tried ∙ (λ i. none_yet i + tries (record { answers = same i; apex = (is i).apex; keys = c.deref-4.ensures.value i; now = moment i }) pointer_limit (is i).dnskey_bytes (keys_sought (is i).apex (c.deref-6.ensures.value i)) [] (map spelled (c.deref-5.ensures.value i))) in
+    let tried = c.in_ok-are_verified.ensures.tried ∙ (λ i. none_yet i + tries (record { answers = same i; apex = (is i).apex; keys = c.deref-7.ensures.value i; now = moment i }) pointer_limit (is i).dnskey_bytes (keys_sought (is i).apex (c.deref-10.ensures.value i)) [] (map spelled (c.deref-9.ensures.value i))) in
     let usable : c.usable_keys-usable.result.items ≡ filter is_usable (keys_of h keys) = usable_as h keys rs c.in_ok-keys.keys.items c.usable_keys-usable.result.items c.in_ok-messages.ensures.key_records ks c.usable_keys-usable.ensures in
     let later = c.in_ok-are_verified.ensures.same ∙ same in
-    let more = c.in_ok-facts.ensures.tried ∙ (λ i. c.are_verified.new.verifier.count + tries (record { answers = later i; apex = (is i).apex; keys = c.deref-7.ensures.value i; now = moment i }) pointer_limit (is i).answer_bytes (answer_sought pointer_limit (is i).answer_bytes (is i).apex (map spelled (c.deref-8.ensures.value i)) (is i).asked.name (is i).asked.rtype) [] (map spelled (c.deref-8.ensures.value i))) in
+    let more = c.in_ok-facts.ensures.tried ∙ (λ i. c.are_verified.new.verifier.count + tries (record { answers = later i; apex = (is i).apex; keys = c.deref-12.ensures.value i; now = moment i }) pointer_limit (is i).answer_bytes (answer_sought pointer_limit (is i).answer_bytes (is i).apex (map spelled (c.deref-14.ensures.value i)) (is i).asked.name (is i).asked.rtype) [] (map spelled (c.deref-14.ensures.value i))) in
     inr (keys_and_answer a h keys answer c.usable_keys-usable.result.items (map spelled c.in_ok-messages.messages.answer_records.items) c.are_verified.new.verifier.count c.read_facts.new.verifier.count none c.in_ok-messages.ensures.keys c.in_ok-messages.ensures.answer
     (sym c.if-not-branch.false ∙ chained_as a h keys rs c.in_ok-keys.keys.items c.in_ok-trusted.trusted.items c.in_ok-are_verified.field-0 c.in_ok-messages.ensures.key_records ks trusted chained)
     (key_tries_as a h keys rs c.in_ok-keys.keys.items c.in_ok-trusted.trusted.items c.are_verified.new.verifier.count c.in_ok-messages.ensures.key_records ks trusted tried)
@@ -142,13 +155,13 @@ returns-then-not-branch-clause-hash_counts g c =
     let answer = c.in_ok-messages.messages.answer in
     let rs = map spelled c.in_ok-messages.messages.key_records.items in
     let ks : c.in_ok-keys.keys.items ≡ keys_in h.dnskey_bytes h.apex rs = c.in_ok-keys.ensures ∙ (λ i. keys_in (is i).dnskey_bytes (is i).apex (map spelled (c.deref.ensures.value i))) in
-    let tags : has_equal_tags (keys_in h.dnskey_bytes h.apex keys.records) ≡ false = sym (c.has_equal_tags.ensures ∙ ap has_equal_tags (c.deref-2.ensures.value ∙ ks ∙ ap (keys_in h.dnskey_bytes h.apex) c.in_ok-messages.ensures.key_records)) ∙ c.if-has_equal_tags.false in
+    let tags : has_equal_tags (keys_in h.dnskey_bytes h.apex keys.records) ≡ false = sym (c.has_equal_tags.ensures ∙ ap has_equal_tags (c.deref-3.ensures.value ∙ ks ∙ ap (keys_in h.dnskey_bytes h.apex) c.in_ok-messages.ensures.key_records)) ∙ c.if-has_equal_tags.false in
     let none : message_refusal pointer_limit h ≡ None = unrefused pointer_limit h keys answer c.in_ok-messages.ensures.keys c.in_ok-messages.ensures.answer c.in_ok-messages.ensures.asks_keys c.in_ok-messages.ensures.asks_answer tags in
-    let trusted : c.in_ok-trusted.trusted.items ≡ filter (is_trusted a h.apex h.ds) c.in_ok-keys.keys.items = c.in_ok-trusted.ensures.trusted ∙ (λ i. filter (is_trusted a (is i).apex (is i).ds) (c.deref-3.ensures.value i)) in
+    let trusted : c.in_ok-trusted.trusted.items ≡ filter (is_trusted a h.apex h.ds) c.in_ok-keys.keys.items = c.in_ok-trusted.ensures.trusted ∙ (λ i. filter (is_trusted a (is i).apex (is i).ds) (c.deref-5.ensures.value i)) in
     let rest = c.in_ok-trusted.ensures.rest in
     let same = ap (λ v. g.C.Checks.answers v.checks.now) rest in
     let chained : c.in_ok-are_verified.field-0 ≡ is_verified (trusting a h c.in_ok-trusted.trusted.items) pointer_limit h.dnskey_bytes rs h.apex 48 (sorted_data (map dnskey_data c.in_ok-keys.keys.items)) =
-    c.in_ok-are_verified.ensures.exact ∙ (λ i. is_verified (record { answers = same i; apex = (is i).apex; keys = c.deref-4.ensures.value i; now = moment i }) pointer_limit (is i).dnskey_bytes (map spelled (c.deref-5.ensures.value i)) (is i).apex 48 (sorted_data (map dnskey_data (c.deref-6.ensures.value i)))) in
+    c.in_ok-are_verified.ensures.exact ∙ (λ i. is_verified (record { answers = same i; apex = (is i).apex; keys = c.deref-7.ensures.value i; now = moment i }) pointer_limit (is i).dnskey_bytes (map spelled (c.deref-9.ensures.value i)) (is i).apex 48 (sorted_data (map dnskey_data (c.deref-10.ensures.value i)))) in
     let due = none_hashed a h keys answer none c.in_ok-messages.ensures.keys c.in_ok-messages.ensures.answer
     (sym c.if-not-branch.true ∙ chained_as a h keys rs c.in_ok-keys.keys.items c.in_ok-trusted.trusted.items c.in_ok-are_verified.field-0 c.in_ok-messages.ensures.key_records ks trusted chained) in
     inr (c.requires.none_hashed ∙ sym due)
@@ -164,18 +177,18 @@ returns-clause-hash_counts g c =
     let answer = c.in_ok-messages.messages.answer in
     let rs = map spelled c.in_ok-messages.messages.key_records.items in
     let ks : c.in_ok-keys.keys.items ≡ keys_in h.dnskey_bytes h.apex rs = c.in_ok-keys.ensures ∙ (λ i. keys_in (is i).dnskey_bytes (is i).apex (map spelled (c.deref.ensures.value i))) in
-    let tags : has_equal_tags (keys_in h.dnskey_bytes h.apex keys.records) ≡ false = sym (c.has_equal_tags.ensures ∙ ap has_equal_tags (c.deref-2.ensures.value ∙ ks ∙ ap (keys_in h.dnskey_bytes h.apex) c.in_ok-messages.ensures.key_records)) ∙ c.if-has_equal_tags.false in
+    let tags : has_equal_tags (keys_in h.dnskey_bytes h.apex keys.records) ≡ false = sym (c.has_equal_tags.ensures ∙ ap has_equal_tags (c.deref-3.ensures.value ∙ ks ∙ ap (keys_in h.dnskey_bytes h.apex) c.in_ok-messages.ensures.key_records)) ∙ c.if-has_equal_tags.false in
     let none : message_refusal pointer_limit h ≡ None = unrefused pointer_limit h keys answer c.in_ok-messages.ensures.keys c.in_ok-messages.ensures.answer c.in_ok-messages.ensures.asks_keys c.in_ok-messages.ensures.asks_answer tags in
-    let trusted : c.in_ok-trusted.trusted.items ≡ filter (is_trusted a h.apex h.ds) c.in_ok-keys.keys.items = c.in_ok-trusted.ensures.trusted ∙ (λ i. filter (is_trusted a (is i).apex (is i).ds) (c.deref-3.ensures.value i)) in
+    let trusted : c.in_ok-trusted.trusted.items ≡ filter (is_trusted a h.apex h.ds) c.in_ok-keys.keys.items = c.in_ok-trusted.ensures.trusted ∙ (λ i. filter (is_trusted a (is i).apex (is i).ds) (c.deref-5.ensures.value i)) in
     let rest = c.in_ok-trusted.ensures.rest in
     let same = ap (λ v. g.C.Checks.answers v.checks.now) rest in
     let chained : c.in_ok-are_verified.field-0 ≡ is_verified (trusting a h c.in_ok-trusted.trusted.items) pointer_limit h.dnskey_bytes rs h.apex 48 (sorted_data (map dnskey_data c.in_ok-keys.keys.items)) =
-    c.in_ok-are_verified.ensures.exact ∙ (λ i. is_verified (record { answers = same i; apex = (is i).apex; keys = c.deref-4.ensures.value i; now = moment i }) pointer_limit (is i).dnskey_bytes (map spelled (c.deref-5.ensures.value i)) (is i).apex 48 (sorted_data (map dnskey_data (c.deref-6.ensures.value i)))) in
+    c.in_ok-are_verified.ensures.exact ∙ (λ i. is_verified (record { answers = same i; apex = (is i).apex; keys = c.deref-7.ensures.value i; now = moment i }) pointer_limit (is i).dnskey_bytes (map spelled (c.deref-9.ensures.value i)) (is i).apex 48 (sorted_data (map dnskey_data (c.deref-10.ensures.value i)))) in
     let usable : c.usable_keys-usable.result.items ≡ filter is_usable (keys_of h keys) = usable_as h keys rs c.in_ok-keys.keys.items c.usable_keys-usable.result.items c.in_ok-messages.ensures.key_records ks c.usable_keys-usable.ensures in
     let later = c.in_ok-are_verified.ensures.same ∙ same in
     let facts = c.in_ok-facts.facts in
     let found : facts ≡ verified_facts (trusting a h c.usable_keys-usable.result.items) pointer_limit h.answer_bytes (map spelled c.in_ok-messages.messages.answer_records.items) h.asked.name h.asked.rtype =
-    c.in_ok-facts.ensures.facts ∙ (λ i. verified_facts (record { answers = later i; apex = (is i).apex; keys = c.deref-7.ensures.value i; now = moment i }) pointer_limit (is i).answer_bytes (map spelled (c.deref-8.ensures.value i)) (is i).asked.name (is i).asked.rtype) in
+    c.in_ok-facts.ensures.facts ∙ (λ i. verified_facts (record { answers = later i; apex = (is i).apex; keys = c.deref-12.ensures.value i; now = moment i }) pointer_limit (is i).answer_bytes (map spelled (c.deref-14.ensures.value i)) (is i).asked.name (is i).asked.rtype) in
     let chain = sym c.if-not-branch.false ∙ chained_as a h keys rs c.in_ok-keys.keys.items c.in_ok-trusted.trusted.items c.in_ok-are_verified.field-0 c.in_ok-messages.ensures.key_records ks trusted chained in
     let due = facts_hashed a h keys answer c.usable_keys-usable.result.items (map spelled c.in_ok-messages.messages.answer_records.items) facts none c.in_ok-messages.ensures.keys c.in_ok-messages.ensures.answer chain usable c.in_ok-messages.ensures.answer_records found in
     let last = c.in_ok-facts.ensures.same ∙ later in

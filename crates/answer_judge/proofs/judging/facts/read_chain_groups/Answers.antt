@@ -1,39 +1,68 @@
-use Rattle.std.proofs.Common.{◌≡◌, true, false, map, sym, ap, subst, ◌∙◌}
+use Rattle.std.proofs.Common.{◌≡◌, ◌&&◌, ◌+◌, ◌-◌, ◌++◌, ◌∷◌, [], false, length, map, take, drop, subst, sym, ap, ◌∙◌, arith}
 use Rattle.std.specs.Prelude.{MatchOption}
-use Rattle.std.specs.List.{list_any}
-use Rattle.std.proofs.lemmas.Bool.{false≢true}
+use Rattle.std.proofs.lemmas.List.{drop_all, length-take}
 use Rattle.messages.specs.Record.{spelled}
-use Rattle.answer_judge.specs.Marked.{is_of, stands_alone, IsAlone}
-use Rattle.answer_judge.proofs.JudgeGathered.{gathered_more, gathered_same}
+use Rattle.answer_judge.specs.Marked.{has_place, holds_one}
+use Rattle.answer_judge.specs.Ranked.{IsRun, alike_len, run_data}
+use Rattle.answer_judge.proofs.ChainRuns.{Gathering, all_gathered, nothing_yet}
+use Rattle.answer_judge.proofs.ChainSteps.{run_types, step_more, step_none, take_rest}
 use Rattle.answer_judge.proofs.judging.facts.read_chain_groups.Goals as goal
-use Rattle.answer_judge.proofs.judging.facts.read_chain_groups.Goals.{then-is_chain+then-not-is_among+in_ok-found+in-Some+in_ok-push, then-is_chain+then-not-is_among+in_ok-found+in_default, else-is_chain, else-is_chain-via-then-is_chain+else-not-is_among, else-is_chain-via-else-is_chain}
 
-pub loop-record-preserved : goal.loop-record-preserved
-loop-record-preserved c =
+pub loop-start-init : goal.loop-start-init
+loop-start-init c =
     let m = c.args.message.now in
     let apex = c.args.apex.now in
-    let vs = c.args.records.now in
-    let rs = map spelled vs in
-    let i = c.loop-record.record-index in
-    let r = c.record-item.result in
-    let gs = c.loop-record.groups.items in
-    let inv = c.loop-record.invariant in
-    let h = c.loop-record-test.true in
-    let e = c.record-item.is in
-    elim c.if-is_chain.branch [
-      | then-is_chain+then-not-is_among+in_ok-found+in-Some+in_ok-push w ↦
-          let g = w.in-Some.group in
-          let none : list_any (is_of r.owner r.rtype) gs ≡ false = ap (list_any (is_of r.owner r.rtype)) (sym w.deref.ensures.value) ∙ sym w.is_among.ensures ∙ w.if-not-is_among.true in
-          let made : (g.owner ≡ r.owner) × (g.rtype ≡ r.rtype) × IsAlone m apex rs g = subst (λ o. MatchOption o (stands_alone m apex rs r.rtype r.owner ≡ false) (λ g. (g.owner ≡ r.owner) × (g.rtype ≡ r.rtype) × IsAlone m apex rs g)) w.in-Some.is w.in_ok-found.ensures in
-          gathered_more m apex rs vs i r gs c.if-is_chain.groups.items g h e inv none made.0 made.1 made.2 (ap (λ v. v.items) w.groups-is ∙ w.in_ok-push.ensures.items)
-      | then-is_chain+then-not-is_among+in_ok-found+in_default w ↦
-          let other : stands_alone m apex rs r.rtype r.owner ≡ false = subst (λ o. MatchOption o (stands_alone m apex rs r.rtype r.owner ≡ false) (λ g. (g.owner ≡ r.owner) × (g.rtype ≡ r.rtype) × IsAlone m apex rs g)) w.in_default.is w.in_ok-found.ensures in
-          gathered_same m apex rs vs i r gs c.if-is_chain.groups.items h e inv (λ n s. absurd (false≢true (sym other ∙ s))) (ap (λ v. v.items) w.groups-is)
-      | else-is_chain w ↦ elim w.else-is_chain.branch [
-        | else-is_chain-via-then-is_chain+else-not-is_among u ↦
-            let among : list_any (is_of r.owner r.rtype) gs ≡ true = ap (list_any (is_of r.owner r.rtype)) (sym u.deref.ensures.value) ∙ sym u.is_among.ensures ∙ u.if-not-is_among.false in
-            gathered_same m apex rs vs i r gs c.if-is_chain.groups.items h e inv (λ n s. among) (ap (λ v. v.items) w.groups-is)
-        | else-is_chain-via-else-is_chain u ↦
-            gathered_same m apex rs vs i r gs c.if-is_chain.groups.items h e inv (λ n s. absurd (false≢true (sym u.if-is_chain.false ∙ c.is_chain.ensures ∙ n))) (ap (λ v. v.items) w.groups-is)
-      ]
-    ]
+    let rs = map spelled c.args.chained.now in (
+      subst (Gathering m apex rs rs) (sym c.new-groups.ensures.items) (nothing_yet m apex rs c.requires.chain c.requires.sorted),
+      omega arith,
+    )
+
+pub read_chain_group-requires-clause-alike : goal.read_chain_group-requires-clause-alike
+read_chain_group-requires-clause-alike c =
+    let vs = c.args.chained.now in
+    let i = c.loop-start.start in
+    let v = c.index-chained-start.result in
+    let end = i + 1 + c.alike_len.result in
+    let ends : end ≡ i + 1 + alike_len (spelled v) (map spelled (drop (i + 1) vs)) = ap (λ n. i + 1 + n) (c.alike_len.ensures.value ∙ ap (λ ws. alike_len (spelled v) (map spelled ws)) (take_rest (i + 1) vs)) in
+    run_types c.args.message.now c.args.apex.now vs i v c.loop-start.groups.items c.loop-start-test.true c.index-chained-start.is c.loop-start.invariant.0 end ends
+
+pub loop-start-preserved-in_ok-push : goal.loop-start-preserved-in_ok-push
+loop-start-preserved-in_ok-push c =
+    let m = c.args.message.now in
+    let apex = c.args.apex.now in
+    let vs = c.args.chained.now in
+    let i = c.loop-start.start in
+    let v = c.index-chained-start.result in
+    let gs = c.loop-start.groups.items in
+    let g = c.in-Some.group in
+    let end = i + 1 + c.alike_len.result in
+    let ends : end ≡ i + 1 + alike_len (spelled v) (map spelled (drop (i + 1) vs)) = ap (λ n. i + 1 + n) (c.alike_len.ensures.value ∙ ap (λ ws. alike_len (spelled v) (map spelled ws)) (take_rest (i + 1) vs)) in
+    let ds = run_data m (map spelled (take (end - i) (drop i vs))) in
+    let made : IsRun m apex (spelled v) ds g = subst (λ o. MatchOption o ((has_place v.rtype apex v.owner && holds_one v.rtype ds) ≡ false) (IsRun m apex (spelled v) ds)) c.in-Some.is c.in_ok-found.ensures in (
+      subst (Gathering m apex (map spelled vs) (map spelled (drop end vs))) (sym c.in_ok-push.ensures.items) (step_more m apex vs i v gs c.loop-start-test.true c.index-chained-start.is c.loop-start.invariant.0 end ends g made),
+      omega (arith, c.loop-start-test.true, c.alike_len.ensures.bound, length-take (length vs - (i + 1)) (drop (i + 1) vs)),
+    )
+
+pub loop-start-preserved : goal.loop-start-preserved
+loop-start-preserved c =
+    let m = c.args.message.now in
+    let apex = c.args.apex.now in
+    let vs = c.args.chained.now in
+    let i = c.loop-start.start in
+    let v = c.index-chained-start.result in
+    let gs = c.loop-start.groups.items in
+    let end = i + 1 + c.alike_len.result in
+    let ends : end ≡ i + 1 + alike_len (spelled v) (map spelled (drop (i + 1) vs)) = ap (λ n. i + 1 + n) (c.alike_len.ensures.value ∙ ap (λ ws. alike_len (spelled v) (map spelled ws)) (take_rest (i + 1) vs)) in
+    let ds = run_data m (map spelled (take (end - i) (drop i vs))) in
+    let none : (has_place v.rtype apex v.owner && holds_one v.rtype ds) ≡ false = subst (λ o. MatchOption o ((has_place v.rtype apex v.owner && holds_one v.rtype ds) ≡ false) (IsRun m apex (spelled v) ds)) c.in_default.is c.in_ok-found.ensures in (
+      step_none m apex vs i v gs c.loop-start-test.true c.index-chained-start.is c.loop-start.invariant.0 end ends none,
+      omega (arith, c.loop-start-test.true, c.alike_len.ensures.bound, length-take (length vs - (i + 1)) (drop (i + 1) vs)),
+    )
+
+pub returns-clause-gathered : goal.returns-clause-gathered
+returns-clause-gathered c =
+    let m = c.args.message.now in
+    let apex = c.args.apex.now in
+    let vs = c.args.chained.now in
+    let gs = c.loop-start.groups.items in
+    all_gathered m apex (map spelled vs) gs (subst (λ ws. Gathering m apex (map spelled vs) (map spelled ws) gs) (drop_all vs c.loop-start.start (omega arith)) c.loop-start.invariant.0)

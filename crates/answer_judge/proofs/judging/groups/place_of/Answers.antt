@@ -1,7 +1,20 @@
-use Rattle.std.proofs.Common.{sym, ap, ◌∙◌}
+use Rattle.std.proofs.Common.{◌≡◌, true, rules, sym, subst}
+use Rattle.std.specs.List.{list_any}
+use Rattle.std.specs.Prelude.{IfSome, MatchOption, ◌<◌, false, get_or, length}
 use Rattle.answer_judge.specs.Marked.{is_of}
-use Rattle.answer_judge.proofs.JudgeMarks.{item_one}
+use Rattle.answer_judge.specs.declared.judging.groups.Group.{Group}
+use Rattle.answer_judge.proofs.GroupPlaces.{found_by_closure, within}
 use Rattle.answer_judge.proofs.judging.groups.place_of.Goals as goal
 
-pub returns-then-is_of-clause-found : goal.returns-then-is_of-clause-found
-returns-then-is_of-clause-found c = (λ g e. ap (is_of c.args.owner.now c.args.rtype) (item_one c.args.groups.now c.loop-i.i g c.index-groups-i.result c.loop-i-test.true e c.index-groups-i.is) ∙ sym c.is_of.ensures ∙ c.if-is_of.true)
+pub returns-clause-within : goal.returns-clause-within
+returns-clause-within c =
+    let gs = c.args.groups.now in
+    subst (λ r. IfSome r (λ i. i < length gs)) (sym c.ok.ensures.value) (within c.args.owner.now c.args.rtype gs c.requires c.binary_search_by.result c.binary_search_by.ensures.bound)
+
+pub returns-clause-found : goal.returns-clause-found
+returns-clause-found c =
+    let gs = c.args.groups.now in
+    let o = c.args.owner.now in
+    let t = c.args.rtype in
+    subst (λ r. MatchOption r (list_any (is_of o t) gs ≡ false) (λ i. (g : Group) → g ≡ get_or gs i g → is_of o t g ≡ true)) (sym c.ok.ensures.value)
+    (found_by_closure o t gs c.requires (λ a r f k. search rules) c.binary_search_by.result c.binary_search_by.ensures.position)

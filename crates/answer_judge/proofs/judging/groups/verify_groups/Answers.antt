@@ -5,6 +5,7 @@ use Rattle.answer_judge.specs.Marked.{held_by, is_tried_in, marked}
 use Rattle.answer_judge.specs.Counted.{one_if}
 use Rattle.answer_judge.proofs.JudgeCounted.{tries_last, tries_next, tries_unsigned}
 use Rattle.answer_judge.proofs.JudgeTried.{untried, unsigned, after_next, after_last, apart_next, signatures_next, signatures_same}
+use Rattle.answer_judge.proofs.GroupPlaces.{ranked_next}
 use Rattle.answer_judge.proofs.judging.groups.verify_groups.Goals as goal
 use Rattle.answer_judge.proofs.judging.groups.verify_groups.Goals.{then-eq+in_ok-verify_record, else-eq}
 
@@ -29,6 +30,7 @@ loop-record-preserved g c =
             search rules,
             omega (arith, inv.7, ap (λ v. v.count) w.verifier-is, w.in_ok-verify_record.ensures.tried, ap (λ v. one_if (is_tried_in (held_by v c.args.trust.now) m c.loop-record.groups (spelled r))) inv.6, tries_next a m rs i r c.loop-record.groups c.if-eq.groups c.loop-record-test.true c.record-item.is one),
             search rules,
+            ranked_next a m (spelled r ∷ []) c.loop-record.groups c.if-eq.groups one inv.9,
           )
       | else-eq w ↦
           let other : is_signature (spelled r) ≡ false = sym c.eq.ensures ∙ w.if-eq.false in
@@ -42,6 +44,7 @@ loop-record-preserved g c =
             search rules,
             omega (arith, inv.7, ap (λ v. v.count) w.verifier-is, ap one_if (tries_unsigned a m (spelled r) c.loop-record.groups other), tries_next a m rs i r c.loop-record.groups c.if-eq.groups c.loop-record-test.true c.record-item.is one),
             search rules,
+            ranked_next a m (spelled r ∷ []) c.loop-record.groups c.if-eq.groups one inv.9,
           )
     ]
 

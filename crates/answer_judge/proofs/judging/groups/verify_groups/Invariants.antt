@@ -3,6 +3,7 @@ use Rattle.std.specs.List.{filter}
 use Rattle.messages.specs.Record.{spelled}
 use Rattle.answer_judge.specs.Facts.{is_signature}
 use Rattle.answer_judge.specs.Marked.{held_by, are_apart, marked, tries_in}
+use Rattle.answer_judge.specs.Ranked.{AreRanked}
 use Rattle.answer_judge.proofs.judging.groups.verify_groups.Given as goal
 
 abbrev pub invariant-loop-record : goal.invariant-loop-record
@@ -19,3 +20,4 @@ invariant-loop-record g l =
     × (c.hashed v.checks.now ≡ c.hashed old.checks.now) × (c.answers v.checks.now ≡ c.answers old.checks.now)
     × (v.count + tries_in w l.message l.groups (map spelled (drop l.record-index l.records)) ≡ old.count + tries_in w l.message l.fn.groups (map spelled l.records))
     × (v.checks.ghost_name ≡ old.checks.ghost_name)
+    × AreRanked l.groups
