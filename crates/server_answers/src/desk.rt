@@ -1,11 +1,11 @@
 //! What the lines so far handed in.
 
-use crate::judging::{Handed, Outcome, outcome};
+use crate::judging::{Outcome, outcome_of};
 use crate::signatures::{Signatures, Signed};
 use crate::tally::Tally;
 use crate::words::{ds_set, key, moment, nothing, octets_of, text};
 use crate::zone::{Asked, Zone};
-use answer::Dnskey;
+use answer::{Case, Dnskey, Ds, UnixTime};
 use answer_terms::dnskey::ZoneKey;
 use std::alloc::Global;
 
@@ -89,11 +89,13 @@ impl Desk {
     pub fn judge_line(&mut self, alloc: Global, name: &str, words: &[&str]) -> Option<String> {
         if name == "answer" {
             self.hold(alloc, words)?;
-            return self.tell(alloc, "answer", self.as_held(alloc)?);
+            let outcome = self.as_held(alloc)?;
+            return self.tell(alloc, name, outcome);
         }
         let kind = words.first()?;
         let label = format!(in alloc; "{name} {kind}").ok()?;
-        self.tell(alloc, &label, self.altered(alloc, name, words)?)
+        let outcome = self.altered(alloc, name, words)?;
+        self.tell(alloc, &label, outcome)
     }
 
     /// Counts what was said, behind what was judged.
@@ -103,38 +105,49 @@ impl Desk {
         format!(in alloc; "{label}: {text}").ok()
     }
 
-    /// What is judged where nothing is altered.
-    fn handed(&self) -> Option<Handed<'_>> {
-        let zone = self.zone.as_ref()?;
-        Some(Handed {
-            signatures: &self.signatures,
-            zone,
-            asked: self.asked.as_ref()?,
-            ds: &zone.ds,
-            answer: &self.answer,
-            moment: zone.moment,
-        })
+    /// What is said of an answer beside a DS set, at a moment.
+    fn outcome<'a>(
+        &'a self,
+        alloc: Global,
+        ds: &'a [Ds<Vec<u8>>],
+        answer: &'a [u8],
+        moment: UnixTime,
+    ) -> Option<Outcome> {
+        let (zone, asked) = (self.zone.as_ref()?, self.asked.as_ref()?);
+        let case = Case {
+            apex: &zone.apex,
+            ds,
+            dnskey: &zone.keys,
+            answer,
+            question: &asked.question,
+            moment,
+            limit: zone.limit,
+        };
+        outcome_of(alloc, &self.signatures, &case, &asked.verdict)
     }
 
+    /// What is said of the answer that is held.
     fn as_held(&self, alloc: Global) -> Option<Outcome> {
-        outcome(alloc, &self.handed()?)
+        let zone = self.zone.as_ref()?;
+        self.outcome(alloc, &zone.ds, &self.answer, zone.moment)
     }
 
+    /// What is said of it altered.
     fn altered(&self, alloc: Global, name: &str, words: &[&str]) -> Option<Outcome> {
+        let zone = self.zone.as_ref()?;
         match (name, words) {
             ("altered", [_kind, octets]) => {
                 let octets = octets_of(alloc, octets)?;
-                outcome(alloc, &self.handed()?.with_answer(&octets))
+                self.outcome(alloc, &zone.ds, &octets, zone.moment)
             }
             ("cut", [count]) => {
-                let count = count.parse::<usize>().ok()?;
-                let left = self.answer.len().checked_sub(count)?;
-                outcome(alloc, &self.handed()?.with_answer(self.answer.get(..left)?))
+                let left = self.answer.len().checked_sub(count.parse::<usize>().ok()?)?;
+                self.outcome(alloc, &zone.ds, self.answer.get(..left)?, zone.moment)
             }
-            ("at", [now]) => outcome(alloc, &self.handed()?.with_moment(moment(now)?)),
+            ("at", [now]) => self.outcome(alloc, &zone.ds, &self.answer, moment(now)?),
             ("beside", [list]) => {
                 let set = ds_set(alloc, list)?;
-                outcome(alloc, &self.handed()?.with_ds(&set))
+                self.outcome(alloc, &set, &self.answer, zone.moment)
             }
             _ => None,
         }

@@ -4,75 +4,47 @@ ghost use Rattle.std.specs.Prelude.{◌≡◌, ◌<◌};
 use crate::signatures::Signatures;
 use crate::tally::Said;
 use crate::words::text;
-use crate::zone::{Asked, Zone};
-use answer::{DataList, Ds, Judgement, Refused, SchemeChecks, UnixTime, Verdict, judge};
+use answer::{Case, DataList, Judgement, Refused, SchemeChecks, Verdict, judge};
 use nsec3_sha1::hasher::Sha1Hasher;
 use std::alloc::Global;
 use std::marker::Brand;
 use std::sync::ledger::{Blank, Ledger};
 
-/// What is judged: an answer of a zone to a question, beside a DS set and at a moment.
-#[derive(Clone, Copy)]
-pub struct Handed<'a> {
-    pub signatures: &'a Signatures,
-    pub zone: &'a Zone,
-    pub asked: &'a Asked,
-    pub ds: &'a [Ds<Vec<u8>>],
-    pub answer: &'a [u8],
-    pub moment: UnixTime,
+fn by_checks<L: Ledger, M: Ledger>(
+    alloc: Global,
+    signatures: &Signatures,
+    case: &Case,
+    first: Blank,
+    second: Blank,
+) -> Result<Judgement, Refused>
+    requires name { first.name ≡ L.name }
+    requires parts { first.parts ≡ L.parts }
+    requires some { 0 < L.parts }
+    requires second_name { second.name ≡ M.name }
+    requires second_parts { second.parts ≡ M.parts }
+    requires second_some { 0 < M.parts }
+{
+    let mut checks = SchemeChecks::<Signatures, Sha1Hasher, L, M>::new(
+        signatures,
+        &Sha1Hasher,
+        first,
+        second,
+    );
+    judge(
+        alloc,
+        case.apex,
+        case.ds,
+        case.dnskey,
+        case.answer,
+        case.question,
+        &case.moment,
+        &mut checks,
+        case.limit,
+    )
 }
 
-impl<'a> Handed<'a> {
-    /// The same with other octets as the answer.
-    pub fn with_answer(self, answer: &'a [u8]) -> Self {
-        Handed { answer, ..self }
-    }
-
-    /// The same at another moment.
-    pub fn with_moment(self, moment: UnixTime) -> Self {
-        Handed { moment, ..self }
-    }
-
-    /// The same beside another DS set.
-    pub fn with_ds(self, ds: &'a [Ds<Vec<u8>>]) -> Self {
-        Handed { ds, ..self }
-    }
-
-    fn by_checks<L: Ledger, M: Ledger>(
-        &self,
-        alloc: Global,
-        first: Blank,
-        second: Blank,
-    ) -> Result<Judgement, Refused>
-        requires name { first.name ≡ L.name }
-        requires parts { first.parts ≡ L.parts }
-        requires some { 0 < L.parts }
-        requires second_name { second.name ≡ M.name }
-        requires second_parts { second.parts ≡ M.parts }
-        requires second_some { 0 < M.parts }
-    {
-        let mut checks = SchemeChecks::<Signatures, Sha1Hasher, L, M>::new(
-            self.signatures,
-            &Sha1Hasher,
-            first,
-            second,
-        );
-        judge(
-            alloc,
-            &self.zone.apex,
-            self.ds,
-            &self.zone.keys,
-            self.answer,
-            &self.asked.question,
-            &self.moment,
-            &mut checks,
-            self.zone.limit,
-        )
-    }
-
-    fn judged(&self, alloc: Global) -> Result<Judgement, Refused> {
-        self.by_checks::<Brand, Brand>(alloc, Blank::new(1), Blank::new(1))
-    }
+fn judged(alloc: Global, signatures: &Signatures, case: &Case) -> Result<Judgement, Refused> {
+    by_checks::<Brand, Brand>(alloc, signatures, case, Blank::new(1), Blank::new(1))
 }
 
 /// What is said of an answer, and how it is printed.
@@ -82,12 +54,17 @@ pub struct Outcome {
     pub text: String,
 }
 
-/// What the judge says, and how often was verified and hashed.
-pub fn outcome(alloc: Global, handed: &Handed) -> Option<Outcome> {
-    let (said, words, verifications, hashes) = match handed.judged(alloc) {
+/// What the judge says, beside what the zone says, and how often was verified and hashed.
+pub fn outcome_of(
+    alloc: Global,
+    signatures: &Signatures,
+    case: &Case,
+    zone: &str,
+) -> Option<Outcome> {
+    let (said, words, verifications, hashes) = match judged(alloc, signatures, case) {
         Ok(judgement) => {
             let words = verdict(alloc, &judgement.verdict)?;
-            let said = said(&judgement.verdict, &words, &handed.asked.verdict);
+            let said = compared(&judgement.verdict, &words, zone);
             (said, words, judgement.verifications, judgement.hashes)
         }
         Err(answer) => {
@@ -102,7 +79,7 @@ pub fn outcome(alloc: Global, handed: &Handed) -> Option<Outcome> {
 }
 
 /// Whether a verdict is the zone's, data and all.
-fn said(verdict: &Verdict, words: &str, zone: &str) -> Said {
+fn compared(verdict: &Verdict, words: &str, zone: &str) -> Said {
     if let Verdict::Unsigned = verdict {
         return Said::Unsigned;
     }

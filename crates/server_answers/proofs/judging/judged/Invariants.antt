@@ -1,4 +1,4 @@
-use Rattle.server_answers.proofs.judging.Handed.judged.Given as goal
+use Rattle.server_answers.proofs.judging.judged.Given as goal
 
 abbrev pub ghosts-by_checks-L-Ledger : goal.ghosts-by_checks-L-Ledger
 ghosts-by_checks-L-Ledger a = record { name = a.first.name; parts = a.first.parts }
