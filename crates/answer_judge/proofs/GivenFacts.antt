@@ -201,7 +201,7 @@ small_iterations : (a b : ℕ) → nat_lt a b ≡ false → a < 65536 → b < 65
 small_iterations a b h small = let over = ltb-false a b h in omega (arith, over, small)
 
 pub fitting : (hash : Hasher) (z : Zone) (mode : Mode) (limit : ℕ) → limit < 65536 → over_limit mode limit ≡ false → HasChain hash mode z → FitsRecords z mode (hash_in hash mode)
-fitting hash z Nsec limit small within chain = tt
+fitting hash z Nsec limit small within _ = tt
 fitting hash z (Nsec3 iterations salt optout) limit small within chain = (small_iterations limit iterations within small, chain.octets)
 
 -- ---- what an accepted zone gave
