@@ -145,9 +145,9 @@ datum_alike m r s a c =
 datum_other : (m : List ℕ) (r s : Spelled) → are_alike r s ≡ false → datum_of pointer_limit m r.owner r.rtype s ≡ None
 datum_other m r s a =
     let test : ((s.class == 1) && (s.rtype == r.rtype) && same s.owner r.owner) ≡ false = false_from_ne_true _ (λ t.
-        let p = and_parts ((s.class == 1) && (s.rtype == r.rtype)) (same s.owner r.owner) t in
-        let q = and_parts (s.class == 1) (s.rtype == r.rtype) p.0 in
-        false≢true (sym a ∙ and_from _ _ (eq-eqb r.rtype s.rtype (sym (eqb-true s.rtype r.rtype q.1))) (same_swap s.owner r.owner p.1))) in
+    let p = and_parts ((s.class == 1) && (s.rtype == r.rtype)) (same s.owner r.owner) t in
+    let q = and_parts (s.class == 1) (s.rtype == r.rtype) p.0 in
+    false≢true (sym a ∙ and_from _ _ (eq-eqb r.rtype s.rtype (sym (eqb-true s.rtype r.rtype q.1))) (same_swap s.owner r.owner p.1))) in
     ap (λ (b : Bool). elim b as (λ _. Option (List ℕ)) [ true ↦ canonical_data pointer_limit m s | false ↦ None ]) test
 
 data_alike : (m : List ℕ) (r : Spelled) (ss : List Spelled) → AllByRecursion (λ s. are_alike r s ≡ true) ss → AllByRecursion (λ s. is_chain s ≡ true) ss → filter_map (datum_of pointer_limit m r.owner r.rtype) ss ≡ filter_map (canonical_data pointer_limit m) ss
@@ -240,7 +240,6 @@ all_parts P ys zs f [] h = tt
 all_parts P ys zs f (x ∷ xs) h = (f (P x) h.0, all_parts P ys zs f xs h.1)
 
 module _ (m : List ℕ) (apex : Name) (rs : List Spelled) (r : Spelled) (others : List Spelled) (gs : List Group) (now : Gathering m apex rs (r ∷ others) gs) where
-
   abbrev run : List Spelled
   run = r ∷ take (alike_len r others) others
 
@@ -344,6 +343,6 @@ module _ (m : List ℕ) (apex : Name) (rs : List Spelled) (r : Spelled) (others 
       under = all_push (λ (x : Group). AllByRecursion (λ s. sought_cmp (place_of x) (s.rtype, s.owner) ≡ Less) behind) gs g under_less (subst (λ p. AllByRecursion (λ s. sought_cmp p (s.rtype, s.owner) ≡ Less) behind) (sym place_is) (all_less r behind now.chain.0 split_chain.1 greater));
       each = all_push (IsAlone m apex rs) gs g now.each is_alone;
       all = all_joined (IsGathered m apex rs (gs ++ g ∷ [])) now.done run
-      (all_more (IsGathered m apex rs gs) (IsGathered m apex rs (gs ++ g ∷ [])) now.done (λ d f c s. any_kept (is_of d.owner d.rtype) gs g (f c s)) now.all)
-      (all_more (λ d. are_alike r d ≡ true) (IsGathered m apex rs (gs ++ g ∷ [])) run (λ d a c s. any_push (is_of d.owner d.rtype) gs g (own d a)) front);
+          (all_more (IsGathered m apex rs gs) (IsGathered m apex rs (gs ++ g ∷ [])) now.done (λ d f c s. any_kept (is_of d.owner d.rtype) gs g (f c s)) now.all)
+          (all_more (λ d. are_alike r d ≡ true) (IsGathered m apex rs (gs ++ g ∷ [])) run (λ d a c s. any_push (is_of d.owner d.rtype) gs g (own d a)) front);
     }

@@ -35,7 +35,7 @@ drop_drop (suc a) b (v ∷ vs) = let e : suc a + b ≡ suc (a + b) = omega arith
 
 -- what stands from a place to the end
 pub take_rest : (k : ℕ) (vs : List ViewRecord) → take (length vs - k) (drop k vs) ≡ drop k vs
-take_rest k vs = take_long (length vs - k) (drop k vs) (omega (arith, length-drop vs k))
+take_rest k vs = take_long (length vs - k) (drop k vs) (omega (arith, length-drop k vs))
   where
     take_long : (n : ℕ) (ws : List ViewRecord) → length ws ≤ n → take n ws ≡ ws
     take_long zero [] h = refl

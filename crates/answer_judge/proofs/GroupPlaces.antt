@@ -86,7 +86,7 @@ proved_at o t (x ∷ gs) zero g a h e own =
 proved_at o t (x ∷ gs) (suc i) g a h e own =
     let p = and_parts (not (list_any (is_like x) gs)) (are_apart gs) a in
     let first : is_proved o t x ≡ false = false_from_ne_true (is_proved o t x) (λ k.
-        false≢true (sym (not-true _ p.0) ∙ any_at (is_like x) gs i g (omega arith) e (both_of o t x g (and_parts (is_some x.verified) (is_of o t x) k).1 own))) in
+    false≢true (sym (not-true _ p.0) ∙ any_at (is_like x) gs i g (omega arith) e (both_of o t x g (and_parts (is_some x.verified) (is_of o t x) k).1 own))) in
     ap (λ b. b || list_any (is_proved o t) gs) first ∙ proved_at o t gs i g p.1 (omega arith) e own
 
 -- ---- the group that was asked for stands last

@@ -58,7 +58,7 @@ module _ {G K : Type 0} (place : G → K) (R : K → K → Ordering) (o : IsTota
   pub none_found : (is : G → Bool) (gs : List G) (q : K) (i : ℕ) → Ranked gs → ((g : G) → is g ≡ true → R (place g) q ≡ Equal) → IsBinarySearchResult (λ g. R (place g) q) gs (Err i) → list_any is gs ≡ false
   none_found is gs q i s means found =
       let p = found (searchable gs q s) in
-          all_other is gs (λ k d l. false_from_ne_true (is (get_or gs k d)) (λ t. ⊎_elim
+      all_other is gs (λ k d l. false_from_ne_true (is (get_or gs k d)) (λ t. ⊎_elim
       (λ (b : k < i). unlike (R (place (get_or gs k d)) q) (p.0 k d (omega arith) b) (means (get_or gs k d) t))
       (λ (b : i ≤ k). above (R (place (get_or gs k d)) q) (p.1 k d b l) (means (get_or gs k d) t))
       (cases_lt k i)))

@@ -70,7 +70,10 @@ impl Asked {
         let [keys, answer] = lines else {
             return None;
         };
-        let (ecdsa, sha256) = (SecurityAlgorithm::from_int(13), DigestAlgorithm::from_int(2));
+        let (ecdsa, sha256) = (
+            SecurityAlgorithm::from_int(13),
+            DigestAlgorithm::from_int(2),
+        );
         let digest = b"\x07".to_vec(alloc).ok()?;
         let mut set = Vec::new(alloc);
         set.push(Ds::new(1054, ecdsa, sha256, digest).ok()?).ok()?;

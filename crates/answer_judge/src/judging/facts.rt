@@ -14,8 +14,8 @@ ghost use Rattle.answer_judge.specs.KeyOrder.{Ranks};
 ghost use Rattle.answer_judge.specs.Ranked.{AreRanked, IsRun, alike_len, are_alike, chain_cmp, run_data};
 
 use crate::judging::groups::{Group, is_chain_type, place_of, read_group, verify_groups};
-use crate::judging::order::sort_data;
 use crate::judging::hash_owner::hash_spelled;
+use crate::judging::order::sort_data;
 use crate::judging::trust::Trust;
 use crate::judging::verdict::DataList;
 use crate::judging::verifier::Verifier;

@@ -195,10 +195,7 @@ pub(crate) fn ranked_keys<'a>(
 }
 
 /// The same keys over the same octets.
-fn copied_keys<'a>(
-    alloc: Global,
-    keys: &[TaggedKey<'a>],
-) -> Result<Vec<TaggedKey<'a>>, AllocError>
+fn copied_keys<'a>(alloc: Global, keys: &[TaggedKey<'a>]) -> Result<Vec<TaggedKey<'a>>, AllocError>
     ensures { IfOk result (λ v. v.items ≡ keys.now) }
 {
     let mut copies = Vec::with_capacity(alloc, keys.len())?;
@@ -225,10 +222,7 @@ pub(crate) fn key_of<'k, 'a>(
 }
 
 /// The same, of keys that are looked through.
-fn first_key<'k, 'a>(
-    keys: &'k [TaggedKey<'a>],
-    signature: &Signature,
-) -> Option<&'k TaggedKey<'a>>
+fn first_key<'k, 'a>(keys: &'k [TaggedKey<'a>], signature: &Signature) -> Option<&'k TaggedKey<'a>>
     ensures { let fits = fits_key (fields_read signature.now) in
         option_map (λ k. k.now) result ≡ find fits keys.now }
 {

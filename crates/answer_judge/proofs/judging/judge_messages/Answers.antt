@@ -31,7 +31,7 @@ pub read_facts-requires : goal.read_facts-requires
 read_facts-requires g c =
     record {
       index = subst (λ ks. Ranks ks c.deref-13.result.now) (sym c.deref-12.ensures.value)
-      (subst (λ vs. Ranks c.usable_keys-usable.result.items vs) (sym c.deref-13.ensures.value) (subst (λ ks. Ranks ks c.in_ok-usable_by_tag.usable_by_tag.items) c.deref-11.ensures.value c.in_ok-usable_by_tag.ensures));
+          (subst (λ vs. Ranks c.usable_keys-usable.result.items vs) (sym c.deref-13.ensures.value) (subst (λ ks. Ranks ks c.in_ok-usable_by_tag.usable_by_tag.items) c.deref-11.ensures.value c.in_ok-usable_by_tag.ensures));
       room = omega (
         arith,
         c.requires.counts,

@@ -65,4 +65,4 @@ returns-clause-gathered c =
     let apex = c.args.apex.now in
     let vs = c.args.chained.now in
     let gs = c.loop-start.groups.items in
-    all_gathered m apex (map spelled vs) gs (subst (λ ws. Gathering m apex (map spelled vs) (map spelled ws) gs) (drop_all vs c.loop-start.start (omega arith)) c.loop-start.invariant.0)
+    all_gathered m apex (map spelled vs) gs (subst (λ ws. Gathering m apex (map spelled vs) (map spelled ws) gs) (drop_all c.loop-start.start vs (omega arith)) c.loop-start.invariant.0)
