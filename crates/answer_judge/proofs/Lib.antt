@@ -29,7 +29,6 @@ pub mod JudgeTotals
 pub mod GivenGroups
 pub mod FirstSigns
 pub mod BothChains
-pub mod ZoneSorting
 pub mod HashOwners
 pub mod ShortData
 pub mod JudgeHashes
