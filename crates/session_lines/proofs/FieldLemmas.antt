@@ -30,14 +30,15 @@ pub no_fields : (fs : List (List ℕ)) → length fs < 1 → act_line fs ≡ Non
 no_fields [] h = refl
 no_fields (f ∷ fs) h = absurd (omega arith)
 
-pub many_fields : (fs : List (List ℕ)) → 5 < length fs → act_line fs ≡ None
+pub many_fields : (fs : List (List ℕ)) → 6 < length fs → act_line fs ≡ None
 many_fields [] h = refl
 many_fields (a ∷ []) h = absurd (omega arith)
 many_fields (a ∷ b ∷ []) h = absurd (omega arith)
 many_fields (a ∷ b ∷ c ∷ []) h = absurd (omega arith)
 many_fields (a ∷ b ∷ c ∷ d ∷ []) h = absurd (omega arith)
 many_fields (a ∷ b ∷ c ∷ d ∷ e ∷ []) h = absurd (omega arith)
-many_fields (a ∷ b ∷ c ∷ d ∷ e ∷ f ∷ fs) h = refl
+many_fields (a ∷ b ∷ c ∷ d ∷ e ∷ f ∷ []) h = absurd (omega arith)
+many_fields (a ∷ b ∷ c ∷ d ∷ e ∷ f ∷ g ∷ fs) h = refl
 
 pub not_five_or_seven : (fs : List (List ℕ)) → (length fs ≡ 5 → ⊥) → (length fs ≡ 7 → ⊥) → zone_line fs ≡ None
 not_five_or_seven [] h k = refl

@@ -111,12 +111,18 @@ pub record EventLine : Type 0 where
   pub at : ℕ
   pub act : ActLine
 
+-- a question of class IN
+abbrev pub question_fields : List ℕ → List ℕ → Option Asked
+question_fields owner rtype = do
+  name ← name_field owner
+  t ← number_field 16 rtype
+  Some (record { name = name; rtype = t; class = 1 })
+
 -- `ask NAME TYPE`
 abbrev pub ask_line : List ℕ → List ℕ → Option ActLine
 ask_line owner rtype = do
-  name ← name_field owner
-  t ← number_field 16 rtype
-  Some (Ask (record { name = name; rtype = t; class = 1 }))
+  q ← question_fields owner rtype
+  Some (Ask q)
 
 -- `judge DS DNSKEY ANSWER`, three places
 abbrev pub judge_line : List ℕ → List ℕ → List ℕ → Option ActLine
@@ -125,6 +131,15 @@ judge_line ds dnskey answer = do
   k ← number_field 64 dnskey
   a ← number_field 64 answer
   Some (Judge d k a)
+
+-- `bytes DS HEX HEX NAME TYPE`, a place, and a DNSKEY message and an answer of at most 65,535 octets each
+abbrev pub bytes_line : List ℕ → List ℕ → List ℕ → List ℕ → List ℕ → Option ActLine
+bytes_line ds dnskey answer owner rtype = do
+  d ← number_field 64 ds
+  k ← hex_field 65535 dnskey
+  a ← hex_field 65535 answer
+  q ← question_fields owner rtype
+  Some (JudgeBytes d k a q)
 
 abbrev pub kind_field : List ℕ → Option KeyKind
 kind_field field =
@@ -186,6 +201,9 @@ act_line4 w a b c = if bytes_eq w (codes "judge") then judge_line a b c else if 
 abbrev pub act_line5 : List ℕ → List ℕ → List ℕ → List ℕ → List ℕ → Option ActLine
 act_line5 w a b c d = if bytes_eq w (codes "key") then key_line a b c d else None
 
+abbrev pub act_line6 : List ℕ → List ℕ → List ℕ → List ℕ → List ℕ → List ℕ → Option ActLine
+act_line6 w a b c d e = if bytes_eq w (codes "bytes") then bytes_line a b c d e else None
+
 -- an event's line but for its moment
 abbrev pub act_line : List (List ℕ) → Option ActLine
 act_line (w ∷ []) = act_line1 w
@@ -193,6 +211,7 @@ act_line (w ∷ a ∷ []) = act_line2 w a
 act_line (w ∷ a ∷ b ∷ []) = act_line3 w a b
 act_line (w ∷ a ∷ b ∷ c ∷ []) = act_line4 w a b c
 act_line (w ∷ a ∷ b ∷ c ∷ d ∷ []) = act_line5 w a b c d
+act_line (w ∷ a ∷ b ∷ c ∷ d ∷ e ∷ []) = act_line6 w a b c d e
 act_line _ = None
 
 -- an event's line: its moment in whole seconds stands last

@@ -1,11 +1,11 @@
 //! The lines of events.
 ghost use Rattle.std.specs.Prelude.{◌≤◌, IfOk};
 ghost use Rattle.answer_events.specs.Questions.{asked_of};
-ghost use Rattle.session_lines.specs.Grammar.{Ask, ask_line, act_line1, act_line2, act_line3, act_line4, act_line5, act_line, kind_field, roll_field, event_line};
+ghost use Rattle.session_lines.specs.Grammar.{question_fields, act_line1, act_line2, act_line3, act_line4, act_line5, act_line6, act_line, kind_field, roll_field, event_line};
 ghost use Rattle.session_lines.specs.Readings.{Reads, texts, act_view, event_view};
 ghost use Rattle.answer_events.specs.Events.{added_octets, added_by_act};
 
-use crate::fields::{key_octets, name, reference, references};
+use crate::fields::{hex_octets, key_octets, name, reference, references};
 use crate::line_error::LineError;
 use crate::number_fields::{number_u8, number_u16, number_u32, number_u64, place};
 use answer_events::event::{Act, Event, KeyCall};
@@ -17,6 +17,9 @@ use numbers::class::Class;
 use numbers::rtype::Rtype;
 use std::alloc::Global;
 use std::time::Duration;
+
+/// The most octets of a message (RFC 1035, 4.2.2).
+const MAX_MESSAGE: usize = 65_535;
 
 /// Reads a line of an event: a call on the zone's keys, a thing shown, or a judgement.
 pub fn read_event(alloc: Global, fields: &[&str]) -> Result<Event, LineError>
@@ -43,6 +46,9 @@ fn read_act(alloc: Global, fields: &[&str]) -> Result<Act, LineError>
         [word, first, second, third] => read_judging(alloc, word, first, second, third),
         [word, kind, pubref, algorithm, octets] => {
             read_add(alloc, word, kind, pubref, algorithm, octets)
+        }
+        [word, ds, dnskey, answer, owner, rtype] => {
+            read_octets_judging(alloc, word, ds, dnskey, answer, owner, rtype)
         }
         _ => Err(LineError::Unreadable),
     }
@@ -135,9 +141,38 @@ fn read_judging(
     }
 }
 
+/// Reads `bytes DS HEX HEX NAME TYPE`: a DNSKEY message and an answer, judged for a question.
+fn read_octets_judging(
+    alloc: Global,
+    word: &str,
+    ds: &str,
+    dnskey: &str,
+    answer: &str,
+    owner: &str,
+    rtype: &str,
+) -> Result<Act, LineError>
+    ensures small { IfOk result (λ a. added_by_act a ≤ 65531) }
+    ensures read { Reads act_view result
+        (act_line6 word.now ds.now dnskey.now answer.now owner.now rtype.now) }
+{
+    if word != "bytes" {
+        return Err(LineError::Unreadable);
+    }
+    let ds = place(ds)?;
+    let dnskey_bytes = hex_octets(alloc, dnskey, MAX_MESSAGE)?;
+    let answer_bytes = hex_octets(alloc, answer, MAX_MESSAGE)?;
+    let question = read_question(alloc, owner, rtype)?;
+    Ok(Act::JudgeBytes {
+        ds,
+        dnskey_bytes,
+        answer_bytes,
+        question,
+    })
+}
+
 /// A question of class IN.
 fn read_question(alloc: Global, owner: &str, rtype: &str) -> Result<Question, LineError>
-    ensures { Reads (λ q. Ask (asked_of q)) result (ask_line owner.now rtype.now) }
+    ensures { Reads asked_of result (question_fields owner.now rtype.now) }
 {
     let name = name(alloc, owner)?;
     let rtype = Rtype::from_int(number_u16(rtype)?);
