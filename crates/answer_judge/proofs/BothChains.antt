@@ -16,7 +16,8 @@ verdict_of rs apex asked = verdict (zone_of apex rs) false asked.name asked.rtyp
 
 pub chains_say_the_same : ChainsSayTheSame
 chains_say_the_same a b k named hashed rs iterations salt apex_is asked_is w u x y =
-    let one = ap (λ n. verdict_of rs n hashed.asked) apex_is ∙ ap (verdict_of rs named.apex) asked_is in
-    (verdict_of rs named.apex named.asked,
-    x.is.given Nsec rs w,
-    subst (λ v. AnswersAs y.answer (Says v)) one (y.is.given (Nsec3 iterations salt false) rs u))
+    let one = ap (λ n. verdict_of rs n hashed.asked) apex_is ∙ ap (verdict_of rs named.apex) asked_is in (
+      verdict_of rs named.apex named.asked,
+      x.is.given Nsec rs w,
+      subst (λ v. AnswersAs y.answer (Says v)) one (y.is.given (Nsec3 iterations salt false) rs u),
+    )
