@@ -1,14 +1,13 @@
 -- One run of chains' records more, as a loop reads them.
-use Rattle.std.proofs.Common.{◌≡◌, ℕ, zero, suc, ◌<◌, ◌≤◌, ◌+◌, ◌-◌, Bool, true, false, ◌&&◌, List, [], ◌∷◌, ◌++◌, map, take, drop, length, get_or, refl, sym, ap, subst, ◌∙◌, arith}
+use Rattle.std.proofs.Common.{◌≡◌, ℕ, zero, suc, ◌<◌, ◌≤◌, ◌+◌, ◌-◌, true, false, ◌&&◌, List, [], ◌∷◌, ◌++◌, map, take, drop, length, get_or, refl, sym, ap, subst, ◌∙◌, arith}
 use Rattle.std.specs.List.{AllByRecursion}
-use Rattle.std.specs.Prelude.{slice_range}
 use Rattle.std.proofs.lemmas.Bool.{and_parts, eqb-true}
 use Rattle.std.proofs.lemmas.List.{length-drop}
 use Rattle.definitions.specs.Name.{Name, same}
 use Rattle.messages.specs.Message.{Spelled}
 use Rattle.messages.specs.Record.{spelled}
 use Rattle.messages.specs.declared.view.ViewRecord.{ViewRecord}
-use Rattle.answer_judge.specs.Marked.{has_place, holds_one, is_chain, is_chain_type}
+use Rattle.answer_judge.specs.Marked.{has_place, holds_one, is_chain_type}
 use Rattle.answer_judge.specs.Ranked.{IsRun, alike_len, are_alike, run_data}
 use Rattle.answer_judge.specs.declared.judging.groups.Group.{Group}
 use Rattle.answer_judge.proofs.ChainRuns.{Gathering, run_front, run_more, run_none}

@@ -10,7 +10,7 @@ use Rattle.std.specs.Ordering.{nat_cmp}
 use Rattle.std.specs.Prelude.{nat_eq}
 use Rattle.std.proofs.lemmas.List.Kept.{Contains-dedup, Contains-from_dedup, IsStrictlySortedBy-dedup}
 use Rattle.std.proofs.lemmas.List.Sorted.{Contains-permutation, IsPermutation-map, IsPermutation-sym}
-use Rattle.definitions.proofs.Members.{In, Rises, in_contained, rising_same, sort_has, sort_keeps, sort_rises, within_contained}
+use Rattle.definitions.proofs.Members.{In, Rises, rising_same, sort_has, sort_keeps, sort_rises, within_contained}
 use Rattle.definitions.specs.Zone.{sorted_data}
 
 dedup_mapped : {X Y : Type 0} (f : X → Y) (same : Y → Y → Bool) (k : X) (xs : List X) → map f (dedup (λ a b. same (f a) (f b)) (k ∷ xs)) ≡ dedup same (f k ∷ map f xs)

@@ -1,16 +1,12 @@
 -- Lists of RRsets, one RRset more.
-use Rattle.std.proofs.Common.{◌≡◌, ℕ, ◌+◌, ◌<◌, Bool, true, false, ◌&&◌, ◌||◌, ◌==◌, not, List, [], ◌∷◌, ◌++◌, map, take, length, get_or, refl, sym, ap, subst, ◌∙◌}
+use Rattle.std.proofs.Common.{◌≡◌, Bool, true, false, ◌&&◌, ◌||◌, not, List, [], ◌∷◌, ◌++◌, refl, sym, ap}
 use Rattle.std.specs.List.{list_any, AllByRecursion}
-use Rattle.std.proofs.lemmas.Bool.{or_parts, and_parts, and_from, eq-eqb, not-true, false≢true}
-use Rattle.std.proofs.lemmas.List.{map-append}
+use Rattle.std.proofs.lemmas.Bool.{or_parts, and_parts, not-true, false≢true}
 use Rattle.definitions.specs.Name.{Name, low, same}
 use Rattle.answer_judge.specs.declared.judging.groups.Group.{Group}
-use Rattle.messages.specs.declared.view.ViewRecord.{ViewRecord}
-use Rattle.messages.specs.Message.{Spelled}
-use Rattle.answer_judge.specs.Marked.{is_of, is_like, are_apart, IsAlone, IsGathered, AreGathered}
+use Rattle.answer_judge.specs.Marked.{is_like, are_apart}
 use Rattle.messages.proofs.ZoneNames.{same_labels, labels_eq-same}
-use Rattle.messages.proofs.Lists.{all_more, take_next}
-use Rattle.answer_judge.proofs.JudgeMarks.{or_true, none_like}
+use Rattle.answer_judge.proofs.JudgeMarks.{or_true}
 
 pub any_push : {X : Type 0} (p : X → Bool) (xs : List X) (x : X) → p x ≡ true → list_any p (xs ++ x ∷ []) ≡ true
 any_push p [] x h = ap (λ b. b || false) h

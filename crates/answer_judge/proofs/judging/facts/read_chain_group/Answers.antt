@@ -1,6 +1,5 @@
-use Rattle.std.proofs.Common.{◌≤◌, length, map, ap, sym, subst, ◌∙◌}
+use Rattle.std.proofs.Common.{◌≤◌, length, sym, subst, ◌∙◌}
 use Rattle.std.specs.List.{AllByRecursion}
-use Rattle.messages.specs.Record.{spelled}
 use Rattle.answer_judge.proofs.ShortData.{short_run}
 use Rattle.answer_judge.proofs.judging.facts.read_chain_group.Goals as goal
 

@@ -1,4 +1,4 @@
-use Rattle.std.proofs.Common.{◌≡◌, ◌-◌, ◌+◌, ◌||◌, suc, drop, get_or, sym, ap, subst, ◌∙◌, arith, true, false, refl}
+use Rattle.std.proofs.Common.{◌≡◌, ◌-◌, ◌+◌, ◌||◌, suc, drop, get_or, sym, ap, ◌∙◌, arith, false, refl}
 use Rattle.answer_terms.specs.EqualTags.{clashes}
 use Rattle.answer_judge.proofs.KeyClashes.{row, row_all, row_end, row_step}
 use Rattle.answer_judge.proofs.judging.keys.has_clashing_neighbors.Goals as goal

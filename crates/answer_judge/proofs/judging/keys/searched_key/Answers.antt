@@ -1,4 +1,4 @@
-use Rattle.std.proofs.Common.{rules, of_calls, ◌≡◌, ◌∙◌, arith, sym, true}
+use Rattle.std.proofs.Common.{rules, of_calls, ◌∙◌, arith, sym}
 use Rattle.std.proofs.lemmas.Fn.{always_returns_same}
 use Rattle.definitions.specs.Dnskey.{Dnskey, key_tag}
 use Rattle.messages.specs.Record.{fields_read}
