@@ -1,6 +1,6 @@
 //! The owners of NSEC3 records: a hash as a label under the apex (RFC 5155, 3).
 
-ghost use Rattle.std.specs.Prelude.{◌≡◌, ◌∷◌, IfOk, IsErrOf, OnOk};
+ghost use Rattle.std.specs.Prelude.{◌≡◌, ◌∷◌, [], IfErr, IfOk, IsErrOf, OnOk};
 ghost use Rattle.definitions.specs.Name.{IsName};
 ghost use Rattle.denial_hashes.specs.Hashing.{FitsName, hashed_owner};
 
@@ -54,7 +54,8 @@ fn label_under<N: Absolute>(
     if label.is_empty() {
         return Err(HashedOwnerError::DoesNotFit);
     }
-    let mut builder = NameBuilder::new(alloc);
+    let room = 1 + label.len() + usize::from(apex.compose_len());
+    let mut builder = builder_with(alloc, room)?;
     match builder.append_label(label) {
         Ok(()) => {}
         Err(PushError::ShortBuf) => return Err(HashedOwnerError::Memory),
@@ -67,5 +68,16 @@ fn label_under<N: Absolute>(
         }
         Err(PushNameError::LongName) => Err(HashedOwnerError::DoesNotFit),
         Err(PushNameError::ShortBuf) => Err(HashedOwnerError::Memory),
+    }
+}
+
+/// An empty builder with room for so many octets.
+fn builder_with(alloc: Global, room: usize) -> Result<NameBuilder<Vec<u8>>, HashedOwnerError>
+    ensures ok { IfOk result (λ b. b ≡ record { done = []; open_label = [] }) }
+    ensures err { IfErr result (λ e. e ≡ HashedOwnerError.Memory) }
+{
+    match Vec::with_capacity(alloc, room) {
+        Ok(octets) => Ok(NameBuilder::behind(octets)),
+        Err(_) => Err(HashedOwnerError::Memory),
     }
 }

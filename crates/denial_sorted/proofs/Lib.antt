@@ -1,6 +1,16 @@
+pub mod Apart
+pub mod Asked
+pub mod Ended
+pub mod Fewer
+pub mod Found
+pub mod FromFirst
 pub mod Grouped
 pub mod Keyed
+pub mod Moved
+pub mod OneClass
 pub mod Orders
 pub mod Parted
 pub mod Putting
 pub mod Removed
+pub mod Spanned
+pub mod Started

@@ -1,10 +1,15 @@
 pub mod Adding
+pub mod Ends
 pub mod GroupLaws
 pub mod Groups
 pub mod Headed
 pub mod Inserting
 pub mod Keys
+pub mod Kin
+pub mod Owned
 pub mod Partitions
 pub mod Places
 pub mod Removing
 pub mod Slices
+pub mod Spans
+pub mod Starts

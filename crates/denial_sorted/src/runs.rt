@@ -2,7 +2,7 @@
 
 ghost use Rattle.std.specs.Prelude.{◌≡◌, ◌<◌, ◌∷◌, [], Bool, IfSome, MatchOption, length};
 ghost use Rattle.std.specs.Cmp.{IsEquivalence};
-ghost use Rattle.denial_sorted.specs.Groups.{IsGroup, groups, of_one_owner, of_one_set};
+ghost use Rattle.denial_sorted.specs.Groups.{IsGroup, groups, of_one_owner, of_one_set, of_one_type};
 ghost use Rattle.denial_sorted.specs.Slices.{items_of};
 
 use crate::slices::SliceRefsOrOwned;
@@ -47,6 +47,21 @@ impl<N: ToName, D: RecordData> Alike<Record<N, D>> for BySet {
 
     fn are_alike(a: &Record<N, D>, b: &Record<N, D>) -> bool {
         a.rtype() == b.rtype() && a.class() == b.class() && a.owner().name_eq(b.owner())
+    }
+}
+
+/// Records of one type, whatever their owners.
+pub(crate) struct ByType;
+
+impl<N: ToName, D: RecordData> Alike<Record<N, D>> for ByType {
+    ghost use Rattle.denial_sorted.specs.GroupLaws.{one_type_equivalence};
+
+    ghost alike = { of_one_type D.type_of };
+
+    ghost equivalence = { one_type_equivalence D.type_of };
+
+    fn are_alike(a: &Record<N, D>, b: &Record<N, D>) -> bool {
+        a.rtype() == b.rtype()
     }
 }
 

@@ -1,6 +1,6 @@
 //! Records walked group by group.
 
-ghost use Rattle.std.specs.Prelude.{◌≡◌, ◌∷◌, [], MatchOption, map};
+ghost use Rattle.std.specs.Prelude.{◌≡◌, map};
 ghost use Rattle.std.specs.Option.{option_map};
 ghost use Rattle.std.specs.List.{slice_get};
 ghost use Rattle.std.specs.Result.{result_ok};
@@ -8,9 +8,10 @@ ghost use Rattle.std.specs.Iterator.{YieldsFirst, YieldsFirstBy, item_count};
 ghost use Rattle.definitions.specs.Name.{at_or_above};
 ghost use Rattle.denial_sorted.specs.Groups.{from_first, groups, of_one_owner, rrsets_of};
 ghost use Rattle.denial_sorted.specs.Slices.{items_of};
+ghost use Rattle.denial_sorted.specs.Starts.{starts_in};
 
+use crate::ends::{Ends, split_owner, split_set};
 use crate::groups::{MultipleTtlValues, OwnerRrs, Rrset, is_below};
-use crate::runs::{ByOwner, BySet, split_group};
 use crate::slices::SliceRefsOrOwned;
 use names_data::data::RecordData;
 use names_traits::to_name::ToName;
@@ -21,40 +22,51 @@ use std::marker::Model;
 #[derive(Drop)]
 pub struct RecordsIter<'a, N: ToName, D: RecordData> {
     slice: SliceRefsOrOwned<'a, Record<N, D>>,
+    ends: Option<Ends<'a>>,
 }
 
 /// The records that are left.
 impl<'a, N: ToName, D: RecordData> Model for RecordsIter<'a, N, D> {
     ghost use Rattle.std.specs.Prelude.{List};
     ghost use Rattle.plain.specs.declared.record.Record.{Record};
+    ghost use Rattle.denial_sorted.specs.Ends.{AreEnds};
     ghost use Rattle.denial_sorted.specs.Slices.{items_of};
 
     ghost Value = { List (Record N D) };
 
     ghost view = { λ it. items_of it.slice };
+
+    ghost invariant = { λ it. AreEnds N.name it.ends (items_of it.slice) };
 }
 
 impl<'a, N: ToName, D: RecordData> RecordsIter<'a, N, D> {
     pub fn new(slice: SliceRefsOrOwned<'a, Record<N, D>>) -> Self
         ensures { result ≡ items_of slice.entry }
     {
-        RecordsIter { slice }
+        RecordsIter { slice, ends: None }
+    }
+
+    /// Records whose owners begin at these places.
+    pub(crate) fn indexed(slice: &'a [Record<N, D>], starts: &'a [usize]) -> Self
+        requires { starts.now ≡ starts_in (of_one_owner N.name) slice.now }
+        ensures { result ≡ slice.now }
+    {
+        RecordsIter {
+            slice: SliceRefsOrOwned::new_from_owned(slice),
+            ends: Some(Ends::new(starts, slice.len())),
+        }
     }
 
     pub fn new_from_refs(slice: &'a [&'a Record<N, D>]) -> Self
         ensures { result ≡ map (λ r. r.now) slice.now }
     {
-        RecordsIter {
-            slice: SliceRefsOrOwned::new_from_refs(slice),
-        }
+        RecordsIter::new(SliceRefsOrOwned::new_from_refs(slice))
     }
 
     pub fn new_from_owned(slice: &'a [Record<N, D>]) -> Self
         ensures { result ≡ slice.now }
     {
-        RecordsIter {
-            slice: SliceRefsOrOwned::new_from_owned(slice),
-        }
+        RecordsIter::new(SliceRefsOrOwned::new_from_owned(slice))
     }
 
     /// The next record, which stays.
@@ -69,7 +81,12 @@ impl<'a, N: ToName, D: RecordData> RecordsIter<'a, N, D> {
         ensures { let is = λ (r : Record N D). at_or_above (N.name apex.now) (N.name r.owner) in
             self.new ≡ from_first is self.old }
     {
-        self.slice = skip_to(self.slice, apex);
+        let Some(rr) = self.first() else {
+            return;
+        };
+        if !is_below(rr.owner(), apex) {
+            *self = RecordsIter::new(skip_to(self.slice, apex));
+        }
     }
 }
 
@@ -101,9 +118,10 @@ impl<'a, N: ToName, D: RecordData> Iterator for RecordsIter<'a, N, D> {
     ghost remaining = { item_count (groups (of_one_owner N.name)) };
 
     fn next(&mut self) -> Option<OwnerRrs<'a, N, D>> {
-        let (group, behind) = split_group::<Record<N, D>, ByOwner>(self.slice)?;
-        self.slice = behind;
-        Some(OwnerRrs::new(group))
+        let parts = split_owner(self.slice, self.ends)?;
+        self.slice = parts.behind;
+        self.ends = parts.ends;
+        Some(OwnerRrs::new(parts.group))
     }
 }
 
@@ -112,24 +130,39 @@ impl<'a, N: ToName, D: RecordData> Iterator for RecordsIter<'a, N, D> {
 #[derive(Drop)]
 pub struct RrsetIter<'a, N: ToName, D: RecordData> {
     slice: SliceRefsOrOwned<'a, Record<N, D>>,
+    ends: Option<Ends<'a>>,
 }
 
 /// The records that are left.
 impl<'a, N: ToName, D: RecordData> Model for RrsetIter<'a, N, D> {
     ghost use Rattle.std.specs.Prelude.{List};
     ghost use Rattle.plain.specs.declared.record.Record.{Record};
+    ghost use Rattle.denial_sorted.specs.Ends.{AreEnds};
     ghost use Rattle.denial_sorted.specs.Slices.{items_of};
 
     ghost Value = { List (Record N D) };
 
     ghost view = { λ it. items_of it.slice };
+
+    ghost invariant = { λ it. AreEnds N.name it.ends (items_of it.slice) };
 }
 
 impl<'a, N: ToName, D: RecordData> RrsetIter<'a, N, D> {
     pub(crate) fn new(slice: SliceRefsOrOwned<'a, Record<N, D>>) -> Self
         ensures { result ≡ items_of slice.entry }
     {
-        RrsetIter { slice }
+        RrsetIter { slice, ends: None }
+    }
+
+    /// Records whose owners begin at these places.
+    pub(crate) fn indexed(slice: &'a [Record<N, D>], starts: &'a [usize]) -> Self
+        requires { starts.now ≡ starts_in (of_one_owner N.name) slice.now }
+        ensures { result ≡ slice.now }
+    {
+        RrsetIter {
+            slice: SliceRefsOrOwned::new_from_owned(slice),
+            ends: Some(Ends::new(starts, slice.len())),
+        }
     }
 }
 
@@ -143,27 +176,11 @@ impl<'a, N: ToName, D: RecordData> Iterator for RrsetIter<'a, N, D> {
     ghost remaining = { item_count (rrsets_of N.name D.type_of) };
 
     fn next(&mut self) -> Option<Result<Rrset<'a, N, D>, MultipleTtlValues>> {
-        let (set, behind) = split_set(self.slice)?;
-        self.slice = behind;
-        Some(set)
+        let parts = split_set(self.slice, self.ends)?;
+        self.slice = parts.behind;
+        self.ends = parts.ends;
+        Some(Rrset::new(parts.group))
     }
-}
-
-/// The first group as an RRset, and what is behind it.
-fn split_set<'a, N: ToName, D: RecordData>(
-    slice: SliceRefsOrOwned<'a, Record<N, D>>,
-) -> Option<
-    (
-        Result<Rrset<'a, N, D>, MultipleTtlValues>,
-        SliceRefsOrOwned<'a, Record<N, D>>,
-    ),
->
-    ensures { let sets = rrsets_of N.name D.type_of in
-        MatchOption result (items_of slice.entry ≡ [])
-        (λ p. sets (items_of slice.entry) ≡ result_ok p.0 ∷ sets (items_of p.1)) }
-{
-    let (group, behind) = split_group::<Record<N, D>, BySet>(slice)?;
-    Some((Rrset::new(group), behind))
 }
 
 /// The records of one owner in groups by type.
