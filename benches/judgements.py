@@ -33,7 +33,7 @@ OTHERS = (
 )
 CHAINS = {"names": "nsec 0 86400", "hashes": "nsec3 0 - 0 86400"}
 TOOLS = ("callgrind", "memcheck")
-DECIDE = r"decide::decide\b"
+DECIDE = r"deciding::judge_facts\b"
 
 
 def opening(owners, chain="names"):
