@@ -19,7 +19,7 @@ pub record Hashed (hash : Hasher) (iterations : ℕ) (salt : List ℕ) (optout :
   pub octets : List ℕ
   pub has : HasHash hash iterations salt name octets
 
--- each name of the chain has a hash, which a label holds, and a name does
+-- each name of the chain has a hash
 abbrev pub AllHashed : Hasher → ℕ → List ℕ → Bool → Zone → Type 0
 AllHashed hash iterations salt optout z =
     (n : Name) → Contains (nsec3_names z optout) n → (h : List ℕ) × HasHash hash iterations salt n h
