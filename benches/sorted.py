@@ -83,6 +83,8 @@ def main():
     for task, what in (("owners", "`owner_rrs`"), ("sets", "`rrsets`")):
         taken = instructions(task, 2, ordered) - instructions(task, 1, ordered)
         row(f"a pass over `{what[1:-1]}`, a record", taken / count)
+    taken = instructions("found", 2, ordered) - instructions("found", 1, ordered)
+    row("`find_owner`, and a walk over what it finds", taken / len(ordered[::100]))
     row("`find_soa`", instructions("soa", 2, ordered) - instructions("soa", 1, ordered))
 
 

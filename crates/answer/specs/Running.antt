@@ -7,7 +7,7 @@ use Rattle.answer.specs.declared.simulation.results.Thing.{Thing}
 use Rattle.answer.specs.declared.simulation.results.Thing.TheVariants as thing
 use Rattle.answer.specs.declared.simulation.run.Run.{Run}
 use Rattle.answer.specs.Results.{Results}
-use Rattle.answer_publisher.specs.Bindings.{ZoneKeys}
+use Rattle.answer_keys.specs.Bindings.{ZoneKeys}
 use Rattle.answer_publisher.specs.World.{World, world_of}
 use Rattle.answer_life.specs.Simulating.{Shown, OfParent, OfKeys, OfZone, Sofar, StepOf}
 use Rattle.messages.specs.Questions.{asked_of}

@@ -1,8 +1,8 @@
 //! A simulation of a zone's key life: key calls, things shown, and judgements of them.
 ghost use Rattle.std.specs.Prelude.{◌<◌, ◌≤◌, ◌^◌, All, map, IfOk, IfErr};
-ghost use Rattle.answer_zone.specs.Faults.{RefusesZone};
+ghost use Rattle.answer_records.specs.Faults.{RefusesZone};
 ghost use Rattle.messages.specs.HandedRr.{handed_of};
-ghost use Rattle.answer_zone.specs.ModeView.{mode_of};
+ghost use Rattle.answer_records.specs.ModeView.{mode_of};
 ghost use Rattle.answer_events.specs.Events.{added_octets};
 ghost use Rattle.answer_life.specs.Simulations.{IsSimulation};
 ghost use Rattle.answer_publisher.specs.World.{world_by, zone_by};

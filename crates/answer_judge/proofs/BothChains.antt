@@ -8,8 +8,8 @@ use Rattle.messages.specs.Message.{Asked}
 use Rattle.answer_scheme.specs.Answers.{Answers}
 use Rattle.answer_terms.specs.Accepting.{zone_of}
 use Rattle.answer_judge.specs.BothChains.{ChainsSayTheSame, Decision}
-use Rattle.answer_judge.specs.Judged.{AnswersAs}
-use Rattle.answer_judge.specs.Judging.{Handing, Says}
+use Rattle.answer_facts.specs.Judged.{AnswersAs}
+use Rattle.answer_facts.specs.Judging.{Handing, Says}
 
 abbrev verdict_of : List HandedRr → Name → Asked → Verdict
 verdict_of rs apex asked = verdict (zone_of apex rs) false asked.name asked.rtype

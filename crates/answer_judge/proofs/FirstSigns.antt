@@ -8,10 +8,10 @@ use Rattle.definitions.specs.Limits.{pointer_limit}
 use Rattle.definitions.specs.Name.{Name, same}
 use Rattle.definitions.specs.Signing.{Fields, signed_octets}
 use Rattle.messages.specs.Message.{Spelled, rrsig_at}
-use Rattle.answer_judge.specs.Facts.{fits_key, is_due, is_signature, signs}
-use Rattle.answer_judge.specs.Verified.{Trusting, verifies_with, verified_by, verified_with}
+use Rattle.answer_facts.specs.Facts.{fits_key, is_due, is_signature, signs}
+use Rattle.answer_facts.specs.Verified.{Trusting, verifies_with, verified_by, verified_with}
 use Rattle.answer_judge.specs.FirstSignature.{Held, IsFirst}
-use Rattle.answer_judge.proofs.JudgeMarks.{with_is}
+use Rattle.answer_facts.proofs.JudgeMarks.{with_is}
 
 -- what stands behind an open gate
 pub opened : (b c : Bool) → elim b as (λ _. Bool) [ false ↦ false | true ↦ c ] ≡ true → (b ≡ true) × (c ≡ true)

@@ -25,11 +25,11 @@ use Rattle.answer_terms.specs.Told.{TellsGroups, fields_for}
 use Rattle.answer_terms.proofs.AllowedTypes.{unsigned_from}
 use Rattle.answer_terms.proofs.Servable.{asked_inside, servable}
 use Rattle.answer_terms.proofs.ZoneData.{label_count-low}
-use Rattle.answer_judge.specs.Facts.{fits_key, may_expand}
+use Rattle.answer_facts.specs.Facts.{fits_key, may_expand}
 use Rattle.answer_judge.specs.Meeting.{holds}
 use Rattle.answer_terms.specs.FactsCase.{low_facts, low_link}
 use Rattle.answer_judge.specs.OwnFacts.{TellsZone, ToldFactsAreOwn}
-use Rattle.answer_judge.specs.Verified.{Trusting, verified_facts, verified_hash_links, verified_links, verified_rrset}
+use Rattle.answer_facts.specs.Verified.{Trusting, verified_facts, verified_hash_links, verified_links, verified_rrset}
 use Rattle.answer_judge.proofs.GivenGroups.{SameLink}
 use Rattle.answer_judge.proofs.GivenHashes.{verified_hash_links_given}
 use Rattle.answer_judge.proofs.GivenLinks.{IsProof, verified_links_given}

@@ -6,7 +6,7 @@ use Rattle.definitions.specs.Name.{Name, IsLabel, low, same, wire}
 use Rattle.denial_rules.specs.Facts.{HashLink, Link}
 use Rattle.messages.specs.Message.{HashedNext, nsec3_of}
 use Rattle.answer_terms.specs.Served.{Group}
-use Rattle.answer_judge.specs.Verified.{is_known}
+use Rattle.answer_facts.specs.Verified.{is_known}
 
 -- the RRset of an owner, up to case, and a type
 abbrev pub is_rrset : Name → ℕ → Group → Bool

@@ -13,10 +13,10 @@ use Rattle.answer_terms.specs.Told.{TellsGroups, AreRecords, AreSignatures, IsRe
 use Rattle.answer_judge.proofs.GivenGroups.{SameLink, SaysLink, has_twins, is_nsec}
 use Rattle.messages.specs.Message.{Spelled, nsec_at}
 use Rattle.answer_terms.specs.Served.{Group}
-use Rattle.answer_judge.specs.Verified.{Trusting, is_link, is_verified, link_at, link_of, rrset_in, verified_links}
+use Rattle.answer_facts.specs.Verified.{Trusting, is_link, is_verified, link_at, link_of, rrset_in, verified_links}
 use Rattle.answer_judge.proofs.GivenNext.{nsec_given}
 use Rattle.answer_judge.proofs.GivenRecords.{rrset_given}
-use Rattle.answer_judge.proofs.JudgeCase.{above-owner}
+use Rattle.answer_facts.proofs.JudgeCase.{above-owner}
 use Rattle.answer_judge.proofs.GivenSignatures.{IsSignedBy, verified_given}
 use Rattle.messages.proofs.Lists.{Has}
 

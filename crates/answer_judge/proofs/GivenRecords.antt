@@ -13,7 +13,7 @@ use Rattle.answer_terms.specs.Told.{TellsGroups, AreRecords, AreSignatures, IsRe
 use Rattle.answer_judge.proofs.GivenGroups.{has_twins, is_rrset}
 use Rattle.messages.specs.Message.{Spelled, canonical_data}
 use Rattle.answer_terms.specs.Served.{Group}
-use Rattle.answer_judge.specs.Verified.{datum_of, rrset_in}
+use Rattle.answer_facts.specs.Verified.{datum_of, rrset_in}
 use Rattle.messages.proofs.Lists.{Has, any_from}
 
 -- ---- one RRset

@@ -22,10 +22,10 @@ use Rattle.answer_terms.specs.Accepting.{zone_with}
 use Rattle.answer_terms.specs.Served.{chain_record, served_of, spelled_as}
 use Rattle.answer_terms.proofs.ZoneNaming.{chain_named, lower_name, next_name, spelled_name}
 use Rattle.answer_judge.specs.Honest.{AreOctets}
-use Rattle.answer_judge.specs.Verified.{hash_link_with, hash_spelled}
+use Rattle.answer_facts.specs.Verified.{hash_link_with, hash_spelled}
 use Rattle.answer_judge.proofs.GivenGroups.{SaysHashLink, said_of}
 use Rattle.answer_judge.proofs.GivenHashes.{owner_spells}
-use Rattle.answer_judge.proofs.GivenSorted.{has_in}
+use Rattle.answer_facts.proofs.GivenSorted.{has_in}
 use Rattle.answer_judge.proofs.HonestFacts.{IsChainRecord, IsHashRecord, IsNextRecord}
 use Rattle.answer_judge.proofs.HonestMade.{owner_whole}
 use Rattle.answer_judge.proofs.HonestReads.{ReadsNext, link_read}

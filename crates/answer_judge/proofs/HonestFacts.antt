@@ -32,17 +32,17 @@ use Rattle.answer_terms.specs.Made.{HandedOut, WasHandedOut, groups_of, made}
 use Rattle.answer_terms.specs.Served.{Group, Served, chain_names, chain_record, key_group, served_of, spelled_among, spelled_as}
 use Rattle.answer_terms.proofs.ZoneNaming.{lower_name}
 use Rattle.answer_scheme.specs.Answers.{Answers}
-use Rattle.answer_judge.specs.Facts.{is_due, labels_fit, may_expand}
+use Rattle.answer_facts.specs.Facts.{is_due, labels_fit, may_expand}
 use Rattle.answer_judge.specs.Honest.{IsHonest}
-use Rattle.answer_judge.specs.Judged.{facts_in, trusting}
-use Rattle.answer_judge.specs.Judging.{Handing}
-use Rattle.answer_judge.specs.Verified.{Trusting, datum_of, hash_link_at, hash_link_with, hash_spelled, is_hash_alone, is_hash_link, is_link, is_verified, link_at, link_of, one_known, rrset_in, spells_hash, verified_by, verified_hash_links, verified_links, verified_rrset}
+use Rattle.answer_facts.specs.Judged.{facts_in, trusting}
+use Rattle.answer_facts.specs.Judging.{Handing}
+use Rattle.answer_facts.specs.Verified.{Trusting, datum_of, hash_link_at, hash_link_with, hash_spelled, is_hash_alone, is_hash_link, is_link, is_verified, link_at, link_of, one_known, rrset_in, spells_hash, verified_by, verified_hash_links, verified_links, verified_rrset}
 use Rattle.answer_judge.proofs.GivenGroups.{SaysHashLink, said_of}
 use Rattle.answer_judge.proofs.GivenHashes.{owner_spells}
 use Rattle.answer_judge.proofs.GivenHashing.{AreHashedBy, SaysHashing}
 use Rattle.answer_judge.proofs.GivenNext.{canonical_nsec, canonical_nsec3}
-use Rattle.answer_judge.proofs.GivenSorted.{data_has, has_in}
-use Rattle.answer_judge.proofs.JudgeCase.{signed_owner-owner}
+use Rattle.answer_facts.proofs.GivenSorted.{data_has, has_in}
+use Rattle.answer_facts.proofs.JudgeCase.{signed_owner-owner}
 use Rattle.answer_judge.proofs.HonestLists.{kept_has, only_item, when}
 use Rattle.answer_judge.proofs.HonestMade.{ChainFits, IsMade, IsRoomy, IsZoneGroup, Kind, KeyKind, ZoneKind, ChainKind, is_made, kind_of, kind_roomy, owner_whole, signed_has}
 use Rattle.answer_judge.proofs.HonestReads.{IsDatum, IsRead, ReadsNext, ReadsRecord, link_read, message_read, rrset_read}

@@ -19,15 +19,15 @@ use Rattle.answer_terms.specs.Accepting.{record_cmp, soas, sorted_records, zone_
 use Rattle.answer_terms.specs.Chainable.{HasChain}
 use Rattle.answer_terms.specs.Hashing.{Hasher, hash_in}
 use Rattle.answer_terms.proofs.Servable.{asked_inside, servable}
-use Rattle.answer_judge.specs.Facts.{is_usable}
+use Rattle.answer_facts.specs.Facts.{is_usable}
 use Rattle.answer_judge.specs.Honest.{AnswersHonest, AreHonest, SaysAtMost}
-use Rattle.answer_judge.specs.Judged.{AnswersAs, judged, keys_of}
-use Rattle.answer_judge.specs.Judging.{Answer, Handing, Refuses, Says}
-use Rattle.answer_judge.specs.declared.judging.verdict.Refusal.TheVariants as r
+use Rattle.answer_facts.specs.Judged.{AnswersAs, judged, keys_of}
+use Rattle.answer_facts.specs.Judging.{Answer, Handing, Refuses, Says}
+use Rattle.answer_facts.specs.declared.verdict.Refusal.TheVariants as r
 use Rattle.answer_judge.proofs.GivenFacts.{FitsRecords, fitting, soa_has}
 use Rattle.answer_judge.proofs.GivenHashing.{hashes_agree}
 use Rattle.answer_judge.proofs.GivenLists.{contained_has}
-use Rattle.answer_judge.proofs.GivenSorted.{filter_from, sorted_from}
+use Rattle.answer_facts.proofs.GivenSorted.{filter_from, sorted_from}
 use Rattle.answer_judge.proofs.HonestFacts.{IsLife}
 use Rattle.answer_judge.proofs.HonestKeys.{all_published}
 use Rattle.answer_judge.proofs.HonestMade.{ChainFits}
@@ -79,7 +79,7 @@ module _ (a : Answers) (k : ℕ) (h : Handing) (mode : Mode) (rs : List HandedRr
       let said : IsSaid a k h v = judged_says a k h v x.ds_some e in
       let keys : List Dnskey = keys_of h said.keys in
       let usable : List Dnskey = filter is_usable keys in
-      let published = all_published a k h mode hash sorted x.published x.handed_out known x.life said.keys x.keys_honest said.keys_read x.flags_are said.chained in
+      let published = all_published a k h mode hash sorted x.published x.handed_out known x.life said.keys x.keys_honest said.keys_read x.keys_known x.flags_are said.chained in
       let trusted : (key : Dnskey) → Has usable key → Contains x.published key = λ key i. published key (filter_from is_usable keys key i) in
       let asked : is_foreign_type h.asked.rtype ≡ false = plain_type h.asked.rtype (asked_inside h.apex h.asked said.allowed).asked_type in
       let f : Facts = facts_of a k h said.keys said.answer in

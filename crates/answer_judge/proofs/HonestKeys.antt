@@ -23,13 +23,13 @@ use Rattle.answer_terms.specs.Served.{Group, Served, chain_record, key_group, se
 use Rattle.answer_terms.specs.Served as served
 use Rattle.answer_terms.proofs.KeyData.{key_read_back}
 use Rattle.answer_scheme.specs.Answers.{Answers}
-use Rattle.answer_judge.specs.Facts.{digests_to, is_trusted, is_usable, names_key}
-use Rattle.answer_judge.specs.Honest.{AreOctets, IsHonest}
-use Rattle.answer_judge.specs.Judged.{is_chained, keys_of, trusting}
-use Rattle.answer_judge.specs.Judging.{Handing, key_at}
-use Rattle.answer_judge.proofs.GivenKeys.{IsKeyData, data_of_key, key_data}
+use Rattle.answer_facts.specs.Facts.{digests_to, is_trusted, is_usable, names_key}
+use Rattle.answer_judge.specs.Honest.{AreOctets, IsHonest, NoStranger}
+use Rattle.answer_facts.specs.Judged.{is_chained, keys_of, trusting}
+use Rattle.answer_facts.specs.Judging.{Handing, key_at}
+use Rattle.answer_facts.proofs.GivenKeys.{IsKeyData, data_of_key, key_data}
 use Rattle.answer_judge.proofs.GivenLists.{contained_has, has_contained}
-use Rattle.answer_judge.proofs.GivenSorted.{all_has, data_has, sorted_from}
+use Rattle.answer_facts.proofs.GivenSorted.{all_has, data_has, sorted_from}
 use Rattle.answer_judge.proofs.HonestFacts.{IsLife, IsOf, of_found, zone_type}
 use Rattle.answer_judge.proofs.HonestLists.{kept_from, passes_has}
 use Rattle.answer_judge.proofs.HonestMade.{Kind, KeyKind, ZoneKind, ChainKind}
@@ -92,7 +92,8 @@ chain_other apex Nsec hash rs o e = false≢true (ap (λ (n : ℕ). eqb n 48) e)
 chain_other apex (Nsec3 iterations salt optout) hash rs o e = false≢true (ap (λ (n : ℕ). eqb n 48) e)
 
 module _ (a : Answers) (k : ℕ) (h : Handing) (mode : Mode) (hash : Name → List ℕ) (rs : List HandedRr) (published : List Dnskey) (outs : List HandedOut) (known : IsLife h.apex mode hash rs published outs) (life : ℕ) (read : Message)
-    (honest : IsHonest a k h published (made (served_of h.apex mode hash rs) h.apex life outs) h.dnskey_bytes) (reads : message k h.dnskey_bytes ≡ Ok read) (flags_are : AllByRecursion (λ (key : Dnskey). key.flags < 65536) published) where
+    (honest : IsHonest a k h published (made (served_of h.apex mode hash rs) h.apex life outs) h.dnskey_bytes) (reads : message k h.dnskey_bytes ≡ Ok read) (keys_known : NoStranger a k h.apex published h.ds h.dnskey_bytes)
+    (flags_are : AllByRecursion (λ (key : Dnskey). key.flags < 65536) published) where
   abbrev s : Served
   s = served_of h.apex mode hash rs
 
@@ -118,7 +119,7 @@ module _ (a : Answers) (k : ℕ) (h : Handing) (mode : Mode) (hash : Name → Li
       let r : IsKeyRecord h.dnskey_bytes read.records key = here key p.0 in
       let d = found (names_key a h.apex key) h.ds (and_parts (is_usable key) (list_any (names_key a h.apex key) h.ds) p.1).1 in
       let digest = same_digest a h.apex key d.0 (and_parts ((d.0.tag == key_tag key) && (d.0.algorithm == key.algorithm)) (digests_to a h.apex key d.0) d.2).1 in
-      honest.known read r.spelled key d.0 reads (contained_has read.records r.spelled r.there) r.type_is r.reads (contained_has h.ds d.0 d.1) digest
+      keys_known read r.spelled key d.0 reads (contained_has read.records r.spelled r.there) r.type_is r.reads (contained_has h.ds d.0 d.1) digest
 
   abbrev items : List (List ℕ)
   items = sorted_data (map dnskey_data keys)

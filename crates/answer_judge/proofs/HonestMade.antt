@@ -34,7 +34,7 @@ use Rattle.answer_terms.proofs.ZoneCutNames.{cut_name}
 use Rattle.answer_terms.proofs.ZoneData.{label_count-low, low-owner_among}
 use Rattle.answer_terms.proofs.ZoneNaming.{chain_named, first_name, lower_name, owner_name}
 use Rattle.answer_judge.proofs.GivenFacts.{from_joined}
-use Rattle.answer_judge.proofs.GivenSorted.{filter_from, in_has}
+use Rattle.answer_facts.proofs.GivenSorted.{filter_from, in_has}
 use Rattle.answer_judge.proofs.OwnAnswer.{some_data}
 
 -- ---- lists

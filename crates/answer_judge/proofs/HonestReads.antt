@@ -25,7 +25,7 @@ use Rattle.messages.proofs.CountedRecords.{bound}
 use Rattle.messages.proofs.Lists.{Has, all_at, all_sorted, some_is}
 use Rattle.answer_terms.proofs.ZoneNaming.{lower_len, lower_name}
 use Rattle.answer_judge.specs.Honest.{AreOctets}
-use Rattle.answer_judge.specs.Verified.{datum_of, rrset_in}
+use Rattle.answer_facts.specs.Verified.{datum_of, rrset_in}
 use Rattle.answer_judge.proofs.GivenNext.{canonical_by, if_true_some, name_in_at, owner_reads}
 
 -- ---- octets

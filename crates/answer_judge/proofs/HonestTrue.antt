@@ -16,9 +16,9 @@ use Rattle.answer_terms.specs.Made.{HandedOut, made}
 use Rattle.answer_terms.specs.Served.{served_of}
 use Rattle.answer_scheme.specs.Answers.{Answers}
 use Rattle.answer_judge.specs.Honest.{IsHonest}
-use Rattle.answer_judge.specs.Judged.{trusting}
-use Rattle.answer_judge.specs.Judging.{Handing}
-use Rattle.answer_judge.specs.Verified.{hash_link_at, link_at, verified_facts, verified_hash_links}
+use Rattle.answer_facts.specs.Judged.{trusting}
+use Rattle.answer_facts.specs.Judging.{Handing}
+use Rattle.answer_facts.specs.Verified.{hash_link_at, link_at, verified_facts, verified_hash_links}
 use Rattle.answer_judge.proofs.GivenFacts.{FitsRecords}
 use Rattle.answer_judge.proofs.GivenHashing.{AreHashedBy, SaysHashing}
 use Rattle.answer_judge.proofs.GivenLists.{contained_has}

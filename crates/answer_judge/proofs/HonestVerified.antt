@@ -19,15 +19,15 @@ use Rattle.messages.specs.Message.{Message, Spelled, message, rrsig_at}
 use Rattle.messages.proofs.Lists.{Has, all_at, all_more, found, some_is}
 use Rattle.messages.proofs.ZoneNames.{same_labels}
 use Rattle.answer_scheme.specs.Answers.{Answers}
-use Rattle.answer_judge.specs.Facts.{fits_key, is_due, is_signature, labels_fit, may_expand, signs}
+use Rattle.answer_facts.specs.Facts.{fits_key, is_due, is_signature, labels_fit, may_expand, signs}
 use Rattle.answer_judge.specs.Honest.{AreOctets, IsHonest, Signs}
-use Rattle.answer_judge.specs.Judged.{trusting}
-use Rattle.answer_judge.specs.Judging.{Handing}
-use Rattle.answer_judge.specs.Verified.{Trusting, is_verified, rrset_in, verified_by, verified_with, verifies_with}
+use Rattle.answer_facts.specs.Judged.{trusting}
+use Rattle.answer_facts.specs.Judging.{Handing}
+use Rattle.answer_facts.specs.Verified.{Trusting, is_verified, rrset_in, verified_by, verified_with, verifies_with}
 use Rattle.answer_judge.proofs.FirstSigns.{opened, read_of}
 use Rattle.answer_judge.proofs.GivenLists.{contained_has, has_contained}
-use Rattle.answer_judge.proofs.GivenSorted.{in_has}
-use Rattle.answer_judge.proofs.JudgeCase.{signed_octets-owner}
+use Rattle.answer_facts.proofs.GivenSorted.{in_has}
+use Rattle.answer_facts.proofs.JudgeCase.{signed_octets-owner}
 use Rattle.answer_judge.proofs.HonestReads.{IsDatum, IsRead, ReadsFields, ReadsRecord, all_drop, fields_read, lowered_read, message_read, octets_16, octets_32, octets_join, wire_octets}
 
 -- ---- a signature that verifies

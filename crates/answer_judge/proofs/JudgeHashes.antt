@@ -6,11 +6,11 @@ use Rattle.definitions.specs.Limits.{pointer_limit}
 use Rattle.denial_rules.specs.Facts.{Facts}
 use Rattle.messages.specs.Message.{Message, Spelled, message}
 use Rattle.answer_scheme.specs.Answers.{Answers}
-use Rattle.answer_judge.specs.Counted.{Counts, hashes_beyond, hashes_in_bytes, hashes_in_messages, hashes_of_facts}
-use Rattle.answer_judge.specs.Facts.{is_usable}
-use Rattle.answer_judge.specs.Judged.{facts_in, is_chained, keys_of, trusting}
-use Rattle.answer_judge.specs.Judging.{Answer, Handing, message_refusal}
-use Rattle.answer_judge.specs.Verified.{verified_facts}
+use Rattle.answer_facts.specs.Counted.{Counts, hashes_beyond, hashes_in_bytes, hashes_in_messages, hashes_of_facts}
+use Rattle.answer_facts.specs.Facts.{is_usable}
+use Rattle.answer_facts.specs.Judged.{facts_in, is_chained, keys_of, trusting}
+use Rattle.answer_facts.specs.Judging.{Answer, Handing, message_refusal}
+use Rattle.answer_facts.specs.Verified.{verified_facts}
 
 -- both messages were read, and they bring no refusal
 beyond : (a : Answers) (h : Handing) (keys answer : Message) → message_refusal pointer_limit h ≡ None → message pointer_limit h.dnskey_bytes ≡ Ok keys → message pointer_limit h.answer_bytes ≡ Ok answer → hashes_beyond a pointer_limit h ≡ hashes_in_messages a pointer_limit h keys answer

@@ -6,18 +6,18 @@ use Rattle.definitions.specs.Dnskey.{Dnskey, dnskey_data}
 use Rattle.definitions.specs.Zone.{sorted_data}
 use Rattle.definitions.specs.Limits.{pointer_limit}
 use Rattle.answer_scheme.specs.Answers.{Answers}
-use Rattle.answer_judge.specs.Facts.{is_usable, is_trusted, RefusesFirst}
+use Rattle.answer_facts.specs.Facts.{is_usable, is_trusted, RefusesFirst}
 use Rattle.denial_rules.specs.Facts.{Facts}
 use Rattle.answer_rules.specs.declared.verdict.Verdict.{Verdict as CodeVerdict}
-use Rattle.answer_judge.specs.declared.judging.verdict.Refusal.{Refusal}
-use Rattle.answer_judge.specs.declared.judging.verdict.Refusal.TheVariants as r
-use Rattle.answer_judge.specs.Judging.{Answer, Refuses, Handing, first_refusal, message_refusal, keys_in, same_question, AnswersFirst}
+use Rattle.answer_facts.specs.declared.verdict.Refusal.{Refusal}
+use Rattle.answer_facts.specs.declared.verdict.Refusal.TheVariants as r
+use Rattle.answer_facts.specs.Judging.{Answer, Refuses, Handing, first_refusal, message_refusal, keys_in, same_question, AnswersFirst}
 use Rattle.answer_terms.specs.Asking.{is_allowed}
 use Rattle.answer_terms.specs.EqualTags.{has_equal_tags}
 use Rattle.answer_rules.specs.Rules.{verdict_of}
 use Rattle.messages.specs.Message.{Asked, Message, Spelled, message}
-use Rattle.answer_judge.specs.Verified.{is_verified, verified_facts}
-use Rattle.answer_judge.specs.Judged.{trusting, keys_of, is_chained, by_facts, judged_answer, judged_facts, judged_messages, judged_bytes, judged_beyond, said, AnswersAs}
+use Rattle.answer_facts.specs.Verified.{is_verified, verified_facts}
+use Rattle.answer_facts.specs.Judged.{trusting, keys_of, is_chained, by_facts, judged_answer, judged_facts, judged_messages, judged_bytes, judged_beyond, said, AnswersAs}
 
 -- both messages were read, and they bring no refusal
 pub beyond : (a : Answers) (k : ℕ) (h : Handing) (keys answer : Message) → message k h.dnskey_bytes ≡ Ok keys → message k h.answer_bytes ≡ Ok answer → message_refusal k h ≡ None → judged_beyond a k h ≡ judged_messages a k h keys answer

@@ -25,7 +25,7 @@ use Rattle.messages.proofs.Nsec3Read.{chain_reads}
 use Rattle.messages.proofs.ZoneNames.{low-low, same_labels}
 use Rattle.answer_terms.specs.Accepting.{zone_with}
 use Rattle.answer_terms.specs.Served.{Group, chain_record, served_of}
-use Rattle.answer_judge.specs.Verified.{is_known}
+use Rattle.answer_facts.specs.Verified.{is_known}
 use Rattle.answer_judge.proofs.GivenGroups.{SaysHashLink, has_twins, is_rrset}
 use Rattle.answer_judge.proofs.GivenHashes.{first_label}
 use Rattle.answer_judge.proofs.OwnChain.{low-spelled_as}

@@ -18,19 +18,18 @@ use Rattle.answer_terms.specs.Served.{Group, Served, by_tag}
 use Rattle.answer_terms.specs.Told.{AreRecords, AreSignatures, IsRecord, IsSignature, TellsGroups, octets_for}
 use Rattle.answer_judge.proofs.GivenFacts.{from_joined}
 use Rattle.answer_judge.proofs.GivenLists.{contained_has, has_contained, has_left, has_right}
-use Rattle.answer_judge.proofs.GivenSorted.{sorted_from}
+use Rattle.answer_facts.proofs.GivenSorted.{sorted_from}
 use Rattle.answer_judge.proofs.HonestMade.{signed_only}
 use Rattle.answer_judge.specs.Splices.{PassesNowhere, PlainSchemeBinds, ToldIsSpliced, SplicesAreHonest, WasCarried}
 
 pub splices_are_honest : SplicesAreHonest
-splices_are_honest a k h published made m binds octets spliced known = record {
+splices_are_honest a k h published made m binds octets spliced = record {
   octets_are = octets;
   unforged = λ read r f signature signed owner class ds key reads there type_is fields time inside signs passes.
       ⊎_elim
       (λ (c : WasCarried a made signature). subst (Contains made) (binds c.key key c.octets signed signature c.passes passes) c.there)
       (λ (n : PassesNowhere a published signature). absurd (false≢true (sym (n key signed inside) ∙ passes)))
       (spliced read r f signature reads there type_is fields time);
-  known = known;
 }
 
 pub plain_scheme_binds : PlainSchemeBinds

@@ -18,9 +18,9 @@ use Rattle.answer_terms.specs.Accepting.{sorted_records, zone_of}
 use Rattle.answer_terms.specs.Hashing.{hash_in}
 use Rattle.answer_terms.specs.Made.{HandedOut, WasHandedOut, made}
 use Rattle.answer_terms.specs.Served.{Served, served_of}
-use Rattle.answer_judge.specs.Facts.{is_signature}
-use Rattle.answer_judge.specs.Judged.{AnswersAs, judged}
-use Rattle.answer_judge.specs.Judging.{Answer, Says, Refuses, Handing}
+use Rattle.answer_facts.specs.Facts.{is_signature}
+use Rattle.answer_facts.specs.Judged.{AnswersAs, judged}
+use Rattle.answer_facts.specs.Judging.{Answer, Says, Refuses, Handing}
 
 abbrev pub AreOctets : List ℕ → Type 0
 AreOctets xs = AllByRecursion (λ x. x < 256) xs
@@ -52,15 +52,14 @@ NoStranger a k apex published ds m =
 pub record IsHonest (a : Answers) (k : ℕ) (h : Handing) (published : List Dnskey) (made : List (List ℕ)) (m : List ℕ) : Type 0 where
   pub octets_are : AreOctets m
   pub unforged : NothingForged a k h.now published made m
-  pub known : NoStranger a k h.apex published h.ds m
 
 -- how the zone of some records is served, in order
 abbrev pub served_by : Answers → Handing → Mode → List HandedRr → Served
 served_by a h mode rs = served_of h.apex mode (hash_in a.hash mode) (sorted_records rs)
 
 -- What is handed in beside a DS set that isn't empty: two messages that are honest in the life of the zone of these records and
--- this chain. Some keys were published in it, and some messages were handed out, each a DNSKEY answer of published keys or an
--- answer to an allowed question, signed by whatever keys at whatever moments.
+-- this chain, the keys of the first known. Some keys were published in it, and some messages were handed out, each a DNSKEY
+-- answer of published keys or an answer to an allowed question, signed by whatever keys at whatever moments.
 pub record AreHonest (a : Answers) (k : ℕ) (h : Handing) (mode : Mode) (rs : List HandedRr) : Type 0 where
   pub published : List Dnskey
   pub handed_out : List HandedOut
@@ -74,6 +73,7 @@ pub record AreHonest (a : Answers) (k : ℕ) (h : Handing) (mode : Mode) (rs : L
   pub flags_are : AllByRecursion (λ key. key.flags < 65536) published
   pub handed_out_are : AllByRecursion (WasHandedOut (served_by a h mode rs) h.apex published) handed_out
   pub keys_honest : IsHonest a k h published (made (served_by a h mode rs) h.apex life handed_out) h.dnskey_bytes
+  pub keys_known : NoStranger a k h.apex published h.ds h.dnskey_bytes
   pub answer_honest : IsHonest a k h published (made (served_by a h mode rs) h.apex life handed_out) h.answer_bytes
 
 -- no other verdict is said

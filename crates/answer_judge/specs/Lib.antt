@@ -1,15 +1,6 @@
-pub mod Judging
-pub mod Facts
-pub mod Verified
-pub mod Marked
-pub mod Judged
 pub mod Meeting
-pub mod Counted
 pub mod FirstSignature
 pub mod OwnFacts
-pub mod HashRefusal
 pub mod BothChains
 pub mod Honest
 pub mod Splices
-pub mod Ranked
-pub mod KeyOrder

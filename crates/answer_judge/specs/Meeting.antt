@@ -9,18 +9,18 @@ use Rattle.definitions.specs.ZoneChain.{Mode, optout_of}
 use Rattle.messages.specs.HandedRr.{HandedRr}
 use Rattle.answer_terms.specs.Accepting.{sorted_records, zone_of}
 use Rattle.answer_scheme.specs.Answers.{Answers}
-use Rattle.answer_judge.specs.Facts.{is_usable}
+use Rattle.answer_facts.specs.Facts.{is_usable}
 use Rattle.answer_terms.specs.Told.{TellsKeys, TellsAnswer}
 use Rattle.messages.specs.Handed.{IsHanded}
-use Rattle.answer_judge.specs.Judging.{Answer, Says, Handing, Judges, answer_of, verifications_of, hashes_of}
+use Rattle.answer_facts.specs.Judging.{Answer, Says, Handing, Judges, answer_of, verifications_of, hashes_of}
 use Rattle.answer_terms.specs.Accepted.{IsAccepted}
 use Rattle.answer_terms.specs.Asking.{is_allowed}
 use Rattle.answer_terms.specs.EqualTags.{has_equal_tags}
-use Rattle.answer_judge.specs.declared.judging.verdict.Judgement.{Judgement}
-use Rattle.answer_judge.specs.declared.judging.verdict.Refused.{Refused}
+use Rattle.answer_facts.specs.declared.verdict.Judgement.{Judgement}
+use Rattle.answer_facts.specs.declared.verdict.Refused.{Refused}
 use Rattle.answer_judge.specs.Honest.{AnswersHonest, RefusesUntimely}
-use Rattle.answer_judge.specs.Judged.{AnswersAs, judged}
-use Rattle.answer_judge.specs.Counted.{Counts, hashes_due, verifications_due}
+use Rattle.answer_facts.specs.Judged.{AnswersAs, judged}
+use Rattle.answer_facts.specs.Counted.{Counts, hashes_due, verifications_due}
 use Rattle.answer_terms.specs.Hashing.{HashesHold, served}
 use Rattle.answer_terms.specs.Served.{Served}
 use Rattle.messages.specs.WrittenLaws.{IsQuestion}

@@ -16,7 +16,7 @@ use Rattle.answer_terms.specs.FactsCase.{low_facts}
 use Rattle.answer_terms.specs.Served.{answer_groups, served_of}
 use Rattle.answer_terms.specs.Told.{Tells}
 use Rattle.answer_judge.specs.Meeting.{holds}
-use Rattle.answer_judge.specs.Verified.{Trusting, verified_facts}
+use Rattle.answer_facts.specs.Verified.{Trusting, verified_facts}
 
 -- a key has the tag and the algorithm of another
 abbrev pub passes_for : Dnskey → Dnskey → Bool

@@ -11,8 +11,8 @@ use Rattle.answer_terms.specs.Made.{HandedOut, groups_of, made}
 use Rattle.answer_terms.specs.Served.{Served, by_tag}
 use Rattle.answer_terms.specs.Told.{Tells}
 use Rattle.answer_scheme.specs.Answers.{Answers}
-use Rattle.answer_judge.specs.Honest.{AreOctets, IsHonest, NoStranger}
-use Rattle.answer_judge.specs.Judging.{Handing}
+use Rattle.answer_judge.specs.Honest.{AreOctets, IsHonest}
+use Rattle.answer_facts.specs.Judging.{Handing}
 
 -- a signature passes over one string of octets alone, whatever the key
 abbrev pub Binds : Answers → Type 0
@@ -40,7 +40,7 @@ IsSpliced a k now published made m =
 abbrev pub SplicesAreHonest : Type 0
 SplicesAreHonest =
     (a : Answers) (k : ℕ) (h : Handing) (published : List Dnskey) (made : List (List ℕ)) (m : List ℕ)
-    → Binds a → AreOctets m → IsSpliced a k h.now published made m → NoStranger a k h.apex published h.ds m → IsHonest a k h published made m
+    → Binds a → AreOctets m → IsSpliced a k h.now published made m → IsHonest a k h published made m
 
 -- a scheme whose signatures are the tag of the key and the octets themselves
 abbrev pub plain_verifies : Dnskey → List ℕ → List ℕ → Bool

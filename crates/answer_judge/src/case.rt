@@ -28,7 +28,7 @@ pub struct Case<'a> {
 
 impl<'a> Model for Case<'a> {
     ghost use Rattle.messages.specs.Questions.{asked_of};
-    ghost use Rattle.answer_judge.specs.Judging.{Handing, handed};
+    ghost use Rattle.answer_facts.specs.Judging.{Handing, handed};
 
     ghost Value = { Handing };
 

@@ -6,41 +6,33 @@ ghost use Rattle.definitions.specs.Dnskey.{dnskey_data};
 ghost use Rattle.definitions.specs.Zone.{sorted_data};
 ghost use Rattle.messages.specs.Questions.{asked_of};
 ghost use Rattle.messages.specs.Record.{spelled};
-ghost use Rattle.answer_judge.specs.Counted.{Counts, hashes_beyond, hashes_due, keys_sought, tries, tries_beyond, verifications_due};
-ghost use Rattle.answer_judge.specs.Verified.{is_verified};
-ghost use Rattle.answer_judge.specs.Marked.{held_by};
-ghost use Rattle.answer_judge.specs.KeyOrder.{Ranks};
+ghost use Rattle.answer_facts.specs.Counted.{Counts, hashes_beyond, hashes_due, keys_sought, tries, tries_beyond, verifications_due};
+ghost use Rattle.answer_facts.specs.Verified.{is_verified};
+ghost use Rattle.answer_facts.specs.Marked.{held_by};
+ghost use Rattle.answer_facts.specs.KeyOrder.{Ranks};
 ghost use Rattle.messages.specs.Message.{Asked, message};
 ghost use Rattle.messages.specs.View.{Gives};
-ghost use Rattle.answer_judge.specs.Facts.{is_signature, RefusesFirst};
+ghost use Rattle.answer_facts.specs.Facts.{is_signature, RefusesFirst};
 ghost use Rattle.answer_judge.specs.Honest.{AnswersHonest, RefusesUntimely};
-ghost use Rattle.answer_judge.specs.Judged.{judged, judged_beyond, said, AnswersAs};
+ghost use Rattle.answer_facts.specs.Judged.{judged, judged_beyond, said, AnswersAs};
 ghost use Rattle.answer_judge.specs.Meeting.{AnswersGiven, JudgesSo};
-ghost use Rattle.answer_judge.specs.Judging.{Judges, answer_of, handed, verifications_of, hashes_of, is_first, message_refusal, same_question, hash_bound, verification_bound};
+ghost use Rattle.answer_facts.specs.Judging.{Judges, answer_of, handed, verifications_of, hashes_of, is_first, message_refusal, same_question, hash_bound, verification_bound};
 ghost use Rattle.answer_terms.specs.Asking.{is_allowed};
 
 pub mod by_scheme;
 mod deciding;
-mod facts;
-mod groups;
-mod hash_owner;
-mod keys;
-mod order;
-mod trust;
-pub mod verdict;
-mod verifier;
 
 use crate::case::Case;
 use crate::judging::deciding::judge_facts;
-use crate::judging::facts::read_facts;
-use crate::judging::groups::{Group, verify_groups};
-use crate::judging::keys::{
+use answer_facts::facts::read_facts;
+use answer_facts::groups::{Group, verify_groups};
+use answer_facts::keys::{
     TaggedKey, has_equal_tags, ranked_keys, read_keys, trusted_keys, usable_keys,
 };
-use crate::judging::order::sort_data;
-use crate::judging::trust::Trust;
-use crate::judging::verdict::{Judgement, Refusal, Refused, Verdict};
-use crate::judging::verifier::Verifier;
+use answer_facts::order::sort_data;
+use answer_facts::trust::Trust;
+use answer_facts::verdict::{Judgement, Refusal, Refused, Verdict};
+use answer_facts::verifier::Verifier;
 use answer_scheme::checks::Checks;
 pub use answer_terms::question::is_allowed;
 use denial_data::Ds;
@@ -91,8 +83,8 @@ impl<'a> Case<'a> {
     ///
     /// Whatever one zone gives under keys that meet, within the times of its signatures, gets the zone's verdict. No two messages
     /// get another verdict in which nothing is forged: no signature that holds at the moment and passes under a key that the
-    /// zone published is over octets that were not signed, and each key that the DS set names is one that the zone published.
-    /// Where no signature of the one message holds at the moment, or none of the other, they are refused.
+    /// zone published is over octets that were not signed, and each key of the DNSKEY answer that the DS set names is one that the
+    /// zone published. Where no signature of the one message holds at the moment, or none of the other, they are refused.
     pub fn judge<C: Checks>(&self, alloc: Global, checks: &mut C) -> Result<Judgement, Refused>
         ensures judges { let answer = answer_of result in
             Judges pointer_limit self.now answer (verifications_of result) (hashes_of result) }

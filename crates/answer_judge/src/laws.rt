@@ -31,10 +31,10 @@ pub fn chains_say_the_same()
 /// Of messages in which nothing is forged a judge says the zone's verdict, or refuses, beside any DS set that isn't empty.
 ///
 /// Nothing is forged where each signature that holds at the moment and passes under a key that the zone published, over
-/// whichever octets, is over octets that were signed in the zone's life, and where each key that the DS set names is one that
-/// the zone published. So messages may be spliced of any answers that the zone gave, under any of its keys; signatures may be
-/// moved to other owners and made by strangers; keys of strangers may stand in the DNSKEY answer, and sign it; what is out of
-/// its times may be forged (RFC 4035, 5; RFC 5155, 8).
+/// whichever octets, is over octets that were signed in the zone's life, and where each key of the DNSKEY answer that the DS set
+/// names is one that the zone published. So messages may be spliced of any answers that the zone gave, under any of its keys;
+/// signatures may be moved to other owners and made by strangers; keys of strangers may stand in the DNSKEY answer, and sign it;
+/// what is out of its times may be forged (RFC 4035, 5; RFC 5155, 8).
 pub fn no_bytes_bring_a_false_verdict()
     ensures { NoFalseVerdict }
 {}

@@ -8,4 +8,4 @@ pub mod laws;
 pub use crate::case::Case;
 pub use crate::judging::by_scheme::judge_with;
 pub use crate::judging::judge;
-pub use crate::judging::verdict::{DataList, Judgement, Refusal, Refused, Verdict};
+pub use answer_facts::verdict::{DataList, Judgement, Refusal, Refused, Verdict};

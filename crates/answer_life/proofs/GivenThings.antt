@@ -6,10 +6,10 @@ use Rattle.std.specs.declared.cmp.Ordering.TheVariants.{Equal}
 use Rattle.std.specs.FinMap.{nat_cmp-IsAntisymmetric}
 use Rattle.definitions.specs.Dnskey.{Dnskey, Ds, key_tag}
 use Rattle.definitions.specs.Limits.{pointer_limit}
-use Rattle.answer_publisher.specs.declared.keys.Publication.TheVariants as publication
+use Rattle.answer_keys.specs.declared.keys.Publication.TheVariants as publication
 use Rattle.messages.specs.HandedRr.{HandedRr}
 use Rattle.answer_terms.specs.Accepting.{zone_of}
-use Rattle.answer_publisher.specs.Bindings.{BoundKey, ZoneKeys, dnskeys, ds_cmp, ds_of, ds_set, published}
+use Rattle.answer_keys.specs.Bindings.{BoundKey, ZoneKeys, dnskeys, ds_cmp, ds_of, ds_set, published}
 use Rattle.answer_terms.specs.Told as told
 use Rattle.answer_terms.specs.EqualTags.{has_equal_tags}
 use Rattle.answer_terms.specs.Asking.{is_allowed}
@@ -23,13 +23,13 @@ use Rattle.answer_life.specs.Simulations.{IsZoneOf}
 use Rattle.answer_publisher.specs.World.{TellsAnswer, TellsKeys, World}
 use Rattle.messages.specs.WrittenLaws.{IsQuestion}
 use Rattle.answer_terms.specs.ZoneView.{AcceptedZone}
-use Rattle.answer_judge.proofs.GivenKeys.{one_of_tag}
+use Rattle.answer_facts.proofs.GivenKeys.{one_of_tag}
 use Rattle.answer_judge.proofs.GivenLists.{contained_has}
-use Rattle.answer_judge.proofs.GivenSorted.{all_has, sorted_has}
+use Rattle.answer_facts.proofs.GivenSorted.{all_has, sorted_has}
 use Rattle.answer_life.proofs.KeyLife.{AreBound, IsBound, all_published, published_sign}
-use Rattle.answer_publisher.proofs.KeyTags.{HasOwnTags}
+use Rattle.answer_keys.proofs.KeyTags.{HasOwnTags}
 use Rattle.answer_life.proofs.KeysMeet.{KeysMeet}
-use Rattle.answer_publisher.proofs.KeyTagsPublished.{equal_tags}
+use Rattle.answer_keys.proofs.KeyTagsPublished.{equal_tags}
 use Rattle.messages.proofs.Lists.{Has, all_at, some_is}
 
 -- keys that calls have left

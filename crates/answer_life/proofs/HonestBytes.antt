@@ -26,18 +26,18 @@ use Rattle.answer_events.specs.declared.event.Act.TheVariants as act
 use Rattle.answer_events.specs.Calls.{call_of}
 use Rattle.answer_scheme.specs.Moments.{second_of}
 use Rattle.answer_judge.specs.Honest.{AreHonest, IsHonest, SaysAtMost, served_by}
-use Rattle.answer_judge.specs.Judging.{Handing, answer_of, hashes_of, verifications_of}
+use Rattle.answer_facts.specs.Judging.{Handing, answer_of, hashes_of, verifications_of}
 use Rattle.answer_judge.specs.Meeting.{IsJudgement, IsZoneKey}
-use Rattle.answer_judge.specs.declared.judging.verdict.Judgement.{Judgement}
-use Rattle.answer_judge.specs.declared.judging.verdict.Refused.{Refused}
+use Rattle.answer_facts.specs.declared.verdict.Judgement.{Judgement}
+use Rattle.answer_facts.specs.declared.verdict.Refused.{Refused}
 use Rattle.answer_judge.proofs.GivenLists.{contained_has, has_contained, has_left, has_right}
 use Rattle.answer_judge.proofs.GivenRrset.{all_joined}
-use Rattle.answer_judge.proofs.GivenSorted.{all_has}
+use Rattle.answer_facts.proofs.GivenSorted.{all_has}
 use Rattle.answer_judge.proofs.ToldShort.{short_told}
-use Rattle.answer_publisher.specs.Bindings.{Call, ZoneKeys, apply, dnskeys, no_keys, published}
+use Rattle.answer_keys.specs.Bindings.{Call, ZoneKeys, apply, dnskeys, no_keys, published}
 use Rattle.answer_publisher.specs.Publishing.{digest_at}
 use Rattle.answer_publisher.specs.World.{World, present_keys, served_in}
-use Rattle.answer_publisher.specs.declared.keys.Publication.TheVariants as publication
+use Rattle.answer_keys.specs.declared.keys.Publication.TheVariants as publication
 use Rattle.keyset_rolls.specs.declared.rolls.Action.{Action}
 use Rattle.answer_life.specs.declared.outcome.Outcome.{Outcome}
 use Rattle.answer_life.specs.declared.outcome.Outcome.TheVariants as outcome
@@ -189,7 +189,7 @@ Judges w at ds keys bytes asked j = IsJudgement pointer_limit w.answers (handing
 
 honestly : (w : World) (rs : List HandedRr) (outs : List HandedOut) (past : List ZoneKeys) (s : Sofar) (at : ℕ) (set : List Ds) (keys bytes : List ℕ) (asked : Asked) (j : Result Judgement Refused) → IsZoneOf w rs → IsSo w outs past s → IsQuestion asked
     → Judges w at set keys bytes asked j → SaysHonestly w rs outs past s at set keys bytes asked (answer_of j)
-honestly w rs outs past s at set keys bytes asked j zone known question judges some first second apart =
+honestly w rs outs past s at set keys bytes asked j zone known question judges some first second strangers apart =
     let h : Handing = handing w set keys bytes asked at in
     let served : served_in w ≡ served_by w.answers h w.zone.mode rs = ap (λ (z : AcceptedZone). served_of w.zone.apex w.zone.mode (hash_in w.answers.hash w.zone.mode) z.records) zone.zone_is in
     let ks : List Dnskey = published_by past s.keys in
@@ -205,6 +205,7 @@ honestly w rs outs past s at set keys bytes asked j zone known question judges s
       ds_some = some;
       flags_are = all_flags w (past ++ s.keys ∷ []) known.bound;
       handed_out_are = subst (λ (x : Served). AllByRecursion (WasHandedOut x w.zone.apex ks) outs) served known.outs_are;
+      keys_known = strangers;
       keys_honest = subst (λ (x : Served). IsHonest w.answers pointer_limit h ks (made x w.zone.apex w.life outs) keys) served first;
       answer_honest = subst (λ (x : Served). IsHonest w.answers pointer_limit h ks (made x w.zone.apex w.life outs) bytes) served second;
     })

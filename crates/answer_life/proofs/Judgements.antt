@@ -12,8 +12,8 @@ use Rattle.answer_events.specs.declared.event.Act.{Act}
 use Rattle.answer_events.specs.declared.event.Act.TheVariants as act
 use Rattle.answer_life.specs.declared.outcome.Outcome.{Outcome}
 use Rattle.answer_life.specs.declared.outcome.Outcome.TheVariants as outcome
-use Rattle.answer_judge.specs.declared.judging.verdict.Judgement.{Judgement}
-use Rattle.answer_judge.specs.declared.judging.verdict.Refused.{Refused}
+use Rattle.answer_facts.specs.declared.verdict.Judgement.{Judgement}
+use Rattle.answer_facts.specs.declared.verdict.Refused.{Refused}
 use Rattle.keyset_rolls.specs.declared.rolls.Action.{Action}
 use Rattle.std.specs.List.{AllByRecursion}
 use Rattle.definitions.specs.Name.{IsName, Name}
@@ -24,11 +24,11 @@ use Rattle.messages.specs.HandedRr.{HandedRr}
 use Rattle.answer_terms.specs.Accepted.{IsAccepted}
 use Rattle.answer_terms.specs.Accepting.{sorted_records, zone_of}
 use Rattle.answer_terms.specs.Hashing.{HashesHold}
-use Rattle.answer_publisher.specs.Bindings as bindings
-use Rattle.answer_publisher.specs.Bindings.{ZoneKeys, apply, ds_set, set_call}
-use Rattle.answer_judge.specs.Judging.{Says, answer_of, hashes_of, verifications_of}
+use Rattle.answer_keys.specs.Bindings as bindings
+use Rattle.answer_keys.specs.Bindings.{ZoneKeys, apply, ds_set, set_call}
+use Rattle.answer_facts.specs.Judging.{Says, answer_of, hashes_of, verifications_of}
 use Rattle.answer_terms.specs.Asking.{is_allowed}
-use Rattle.answer_judge.specs.Judged.{AnswersAs}
+use Rattle.answer_facts.specs.Judged.{AnswersAs}
 use Rattle.answer_judge.specs.Meeting.{IsJudgement, holds}
 use Rattle.messages.specs.Message.{Asked}
 use Rattle.answer_life.specs.OneState.{Moment, VerdictAt, VerdictsAlong, moment, moments_with}
@@ -42,7 +42,7 @@ use Rattle.answer_publisher.specs.World.{TellsAnswer, TellsKeys, World}
 use Rattle.messages.specs.WrittenLaws.{IsQuestion}
 use Rattle.answer_life.proofs.KeyLife.{apply_binds}
 use Rattle.answer_terms.proofs.GivenTold.{told}
-use Rattle.answer_publisher.proofs.KeyTags.{apply_own, none_own, own_of}
+use Rattle.answer_keys.proofs.KeyTags.{apply_own, none_own, own_of}
 use Rattle.answer_life.specs.Simulations.{IsZoneOf}
 use Rattle.answer_life.proofs.GivenThings.{AreLeft, given}
 use Rattle.answer_life.proofs.KeyHistory.{Reach, accepted_did, reach_more, reached_at, state_stays, stay_here, stay_on}

@@ -13,12 +13,12 @@ use Rattle.keyset.specs.KeyRuns.{Call}
 use Rattle.keyset.proofs.KeyFinds.{is_itself, is_same}
 use Rattle.keyset_life.specs.KeyLife.{accepted, states}
 use Rattle.keyset_life.proofs.Meets.{accepted_ok}
-use Rattle.answer_publisher.specs.Bindings as bindings
-use Rattle.answer_publisher.specs.Bindings.{BoundKey, Outcome, ZoneKeys, apply, bind, bound_at, dnskey_at, dnskey_for, is_bound_away, lifted, on_state}
-use Rattle.answer_publisher.specs.KeyTags.{behind, left}
+use Rattle.answer_keys.specs.Bindings as bindings
+use Rattle.answer_keys.specs.Bindings.{BoundKey, Outcome, ZoneKeys, apply, bind, bound_at, dnskey_at, dnskey_for, is_bound_away, lifted, on_state}
+use Rattle.answer_keys.specs.KeyTags.{behind, left}
 use Rattle.answer_life.specs.StaysBound.{AddsBind, ReferencesStayBound}
-use Rattle.answer_judge.proofs.GivenKeys.{same_key-is}
-use Rattle.answer_publisher.proofs.BoundAll.{bound_by, by_digest}
+use Rattle.answer_facts.proofs.GivenKeys.{same_key-is}
+use Rattle.answer_keys.proofs.BoundAll.{bound_by, by_digest}
 use Rattle.messages.proofs.Lists.{some_is}
 
 -- ---- a reference stays bound to its key

@@ -2,14 +2,14 @@
 use Rattle.std.proofs.Common.{◌≡◌, ℕ, Bool, true, false, cond, List, [], ◌∷◌, map, Option, Some, Ok, refl, lit<}
 use Rattle.std.specs.List.{AllByRecursion, filter}
 use Rattle.definitions.specs.Dnskey.{Dnskey}
-use Rattle.answer_publisher.specs.Bindings.{BoundKey, Call, ZoneKeys, apply, dnskey_for, dnskeys, is_published, published}
-use Rattle.answer_publisher.proofs.BoundAll.{apply_all}
+use Rattle.answer_keys.specs.Bindings.{BoundKey, Call, ZoneKeys, apply, dnskey_for, dnskeys, is_published, published}
+use Rattle.answer_keys.proofs.BoundAll.{apply_all}
 use Rattle.keyset.specs.KeyState.{Reference}
 use Rattle.answer_judge.specs.Meeting.{IsZoneKey}
 use Rattle.keyset_rolls.specs.declared.rolls.Action.{Action}
 use Rattle.answer_events.specs.declared.key_kind.KeyKind.{KeyKind}
 use Rattle.answer_events.specs.declared.key_kind.KeyKind.TheVariants.{Ksk, Zsk, Csk, Include}
-use Rattle.answer_publisher.specs.declared.keys.Publication.{Publication}
+use Rattle.answer_keys.specs.declared.keys.Publication.{Publication}
 
 -- a zone's key beside its digest
 pub record IsBound (digest : Dnskey → Option (List ℕ)) (b : BoundKey) : Type 0 where

@@ -14,14 +14,14 @@ use Rattle.keyset.proofs.KeyFinds.{first_found, is_same, later, sorted_rest}
 use Rattle.keyset_life.specs.KeyLife.{differ, meet, tags_of}
 use Rattle.keyset_life.specs.Sides.{is_empty}
 use Rattle.keyset_life.proofs.Contents.{found_named}
-use Rattle.answer_publisher.specs.declared.keys.Publication.{Publication}
-use Rattle.answer_publisher.specs.declared.keys.Publication.TheVariants as publication
-use Rattle.answer_publisher.specs.Bindings.{BoundKey, ZoneKeys, bound_at, dnskeys, ds_cmp, ds_of, ds_set, has_role, is_published, published}
+use Rattle.answer_keys.specs.declared.keys.Publication.{Publication}
+use Rattle.answer_keys.specs.declared.keys.Publication.TheVariants as publication
+use Rattle.answer_keys.specs.Bindings.{BoundKey, ZoneKeys, bound_at, dnskeys, ds_cmp, ds_of, ds_set, has_role, is_published, published}
 use Rattle.definitions.specs.Sorting.{sort_by}
 use Rattle.answer_judge.specs.Meeting.{Meet}
 use Rattle.answer_judge.proofs.GivenLists.{contained_has}
 use Rattle.answer_life.proofs.KeyHistory.{StayBound}
-use Rattle.answer_publisher.proofs.KeyTags.{HasOwnTags}
+use Rattle.answer_keys.proofs.KeyTags.{HasOwnTags}
 use Rattle.messages.proofs.Lists.{Has, found, some_is}
 
 -- the keys of three states meet

@@ -16,10 +16,10 @@ use Rattle.answer_events.specs.declared.event.Event.{Event}
 use Rattle.answer_events.specs.declared.event.Act.{Act}
 use Rattle.answer_events.specs.declared.event.Act.TheVariants as act
 use Rattle.answer_scheme.specs.Moments.{second_of}
-use Rattle.answer_judge.specs.Honest.{IsHonest, SaysAtMost}
-use Rattle.answer_judge.specs.Judging.{Answer, Handing, answer_of}
-use Rattle.answer_publisher.specs.Bindings.{ZoneKeys, dnskeys, published}
-use Rattle.answer_publisher.specs.declared.keys.Publication.TheVariants as publication
+use Rattle.answer_judge.specs.Honest.{IsHonest, NoStranger, SaysAtMost}
+use Rattle.answer_facts.specs.Judging.{Answer, Handing, answer_of}
+use Rattle.answer_keys.specs.Bindings.{ZoneKeys, dnskeys, published}
+use Rattle.answer_keys.specs.declared.keys.Publication.TheVariants as publication
 use Rattle.answer_publisher.specs.World.{World, present_keys, served_in}
 use Rattle.answer_life.specs.declared.outcome.Outcome.{Outcome}
 use Rattle.answer_life.specs.declared.outcome.Outcome.TheVariants as outcome
@@ -51,12 +51,13 @@ made_by w outs = made (served_in w) w.zone.apex w.life outs
 abbrev pub IsHonestSo : World → List HandedOut → List ZoneKeys → Sofar → Handing → List ℕ → Type 0
 IsHonestSo w outs past s h m = IsHonest w.answers pointer_limit h (published_by past s.keys) (made_by w outs) m
 
--- Beside a DS set that isn't empty a judgement of two such messages says the zone's verdict, or refuses; of NSEC3 where
--- the names that the question concerns share no hash.
+-- Beside a DS set that isn't empty a judgement of two such messages, each key of the first that the DS set names a published
+-- one, says the zone's verdict, or refuses; of NSEC3 where the names that the question concerns share no hash.
 abbrev pub SaysHonestly : World → List HandedRr → List HandedOut → List ZoneKeys → Sofar → ℕ → List Ds → List ℕ → List ℕ → Asked → Answer → Type 0
 SaysHonestly w rs outs past s at set dnskey bytes asked answer =
     (set ≡ [] → ⊥)
     → IsHonestSo w outs past s (handing w set dnskey bytes asked at) dnskey → IsHonestSo w outs past s (handing w set dnskey bytes asked at) bytes
+    → NoStranger w.answers pointer_limit w.zone.apex (published_by past s.keys) set dnskey
     → NoSharedHash (zone_of w.zone.apex rs) (hash_in w.answers.hash w.zone.mode) w.zone.mode asked.name
     → SaysAtMost (verdict (zone_of w.zone.apex rs) (optout_of w.zone.mode) asked.name asked.rtype) answer
 

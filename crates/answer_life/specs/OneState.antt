@@ -7,13 +7,13 @@ use Rattle.answer_events.specs.declared.event.Act.{Act}
 use Rattle.answer_events.specs.declared.event.Act.TheVariants as act
 use Rattle.answer_life.specs.declared.outcome.Outcome.{Outcome}
 use Rattle.answer_life.specs.declared.outcome.Outcome.TheVariants as outcome
-use Rattle.answer_publisher.specs.declared.keys.Publication.TheVariants as publication
+use Rattle.answer_keys.specs.declared.keys.Publication.TheVariants as publication
 use Rattle.messages.specs.HandedRr.{HandedRr}
 use Rattle.answer_terms.specs.Accepting.{zone_of}
 use Rattle.answer_terms.specs.Hashing.{HashesHold}
-use Rattle.answer_publisher.specs.Bindings.{ZoneKeys, dnskeys, published}
-use Rattle.answer_judge.specs.Judged.{AnswersAs}
-use Rattle.answer_judge.specs.Judging.{Says, answer_of}
+use Rattle.answer_keys.specs.Bindings.{ZoneKeys, dnskeys, published}
+use Rattle.answer_facts.specs.Judged.{AnswersAs}
+use Rattle.answer_facts.specs.Judging.{Says, answer_of}
 use Rattle.answer_judge.specs.Meeting.{Meet, holds}
 use Rattle.messages.specs.Message.{Asked}
 use Rattle.messages.specs.Questions.{asked_of}

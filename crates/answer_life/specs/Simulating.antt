@@ -13,14 +13,14 @@ use Rattle.answer_publisher.specs.declared.fault.AnswerFault.{AnswerFault}
 use Rattle.answer_publisher.specs.declared.fault.AnswerFault.TheVariants as refusal
 use Rattle.messages.specs.Message.{Asked}
 use Rattle.messages.specs.Questions.{asked_of}
-use Rattle.answer_publisher.specs.Bindings.{ZoneKeys, apply, no_keys, ds_set}
-use Rattle.answer_publisher.specs.KeyCalls.{Gives, RanOutCopying}
+use Rattle.answer_keys.specs.Bindings.{ZoneKeys, apply, no_keys, ds_set}
+use Rattle.answer_keys.specs.KeyCalls.{Gives, RanOutCopying}
 use Rattle.answer_publisher.specs.Publishing.{digest_at}
 use Rattle.answer_scheme.specs.Moments.{second_of}
 use Rattle.answer_publisher.specs.World.{World, AnswersKeysQuestion, AnswersQuestion, RefusesKeysQuestion, RefusesQuestion, SpellsAnswer, SpellsKeys}
 use Rattle.answer_judge.specs.Meeting.{IsJudgement}
 use Rattle.messages.specs.WrittenLaws.{IsQuestion}
-use Rattle.answer_judge.specs.Judging.{Handing, answer_of, handed, verifications_of, hashes_of}
+use Rattle.answer_facts.specs.Judging.{Handing, answer_of, handed, verifications_of, hashes_of}
 use Rattle.answer_terms.specs.Asking.{is_allowed}
 
 -- what was shown

@@ -4,8 +4,8 @@ use Rattle.definitions.specs.Dnskey.{Dnskey}
 use Rattle.answer_events.specs.declared.key_kind.KeyKind.{KeyKind}
 use Rattle.keyset.specs.KeyState.{Reference}
 use Rattle.keyset_rolls.specs.declared.rolls.Action.{Action}
-use Rattle.answer_publisher.specs.Bindings.{Add, Call, ZoneKeys, apply, dnskey_at, dnskey_for}
-use Rattle.answer_publisher.specs.KeyTags.{behind}
+use Rattle.answer_keys.specs.Bindings.{Add, Call, ZoneKeys, apply, dnskey_at, dnskey_for}
+use Rattle.answer_keys.specs.KeyTags.{behind}
 
 -- an accepted add binds its reference to its key
 abbrev pub AddsBind : Type 0

@@ -22,11 +22,11 @@ use Rattle.keyset_life.specs.Meeting.{algorithm_first, by_then}
 use Rattle.keyset_life.specs.Sides.{is_empty}
 use Rattle.answer_terms.specs.Accepting.{zone_of}
 use Rattle.answer_terms.specs.Hashing.{HashesHold}
-use Rattle.answer_judge.specs.Judged.{AnswersAs}
-use Rattle.answer_judge.specs.Judging.{Says, answer_of}
+use Rattle.answer_facts.specs.Judged.{AnswersAs}
+use Rattle.answer_facts.specs.Judging.{Says, answer_of}
 use Rattle.answer_judge.specs.Meeting.{holds}
-use Rattle.answer_publisher.specs.Bindings as bindings
-use Rattle.answer_publisher.specs.Bindings.{ZoneKeys, set_call}
+use Rattle.answer_keys.specs.Bindings as bindings
+use Rattle.answer_keys.specs.Bindings.{ZoneKeys, set_call}
 use Rattle.answer_scheme.specs.Moments.{second_of}
 use Rattle.answer_life.specs.Simulating.{OfParent, OfZone, Simulates, Sofar, begin}
 use Rattle.answer_publisher.specs.World.{TellsAnswer, TellsKeys, World}

@@ -6,7 +6,7 @@ use Rattle.keyset.specs.KeyState.{Reference}
 use Rattle.keyset.specs.KeyRows.{second}
 use Rattle.keyset_life.specs.KeyLife.{DnskeyAnswer}
 use Rattle.definitions.specs.Name.{Name}
-use Rattle.answer_publisher.specs.Bindings.{Add, Finish, Report1, Report2, Start, Wait1, Wait2}
+use Rattle.answer_keys.specs.Bindings.{Add, Finish, Report1, Report2, Start, Wait1, Wait2}
 use Rattle.answer_life.specs.ThroughRolls.{History, Unretired, is_retired, no_history, steps, with_call, with_thing}
 
 abbrev apex : Name

@@ -5,6 +5,7 @@ use answer::keyset::Error;
 use answer::names::LongRecordData;
 use answer::{AnswerFault, HashError, KeyFault, KeyKind, Refusal, SchemeError, ZoneFault};
 use messages::MessageError;
+use session_lines::line_error::LineFault;
 use session_lines::session::SessionError;
 use std::alloc::Global;
 use std::fmt::Display;
@@ -33,7 +34,7 @@ pub fn faults(alloc: Global, kind: &str) -> Option<String> {
         "key" => texts(alloc, &key_faults()),
         "judge" => texts(alloc, &refusals()),
         "message" => texts(alloc, &message_errors()),
-        "session" => texts(alloc, &[SessionError::Line(7), SessionError::Memory]),
+        "session" => texts(alloc, &session_errors()),
         _ => None,
     }
 }
@@ -104,6 +105,11 @@ fn message_errors() -> [MessageError; 3] {
         MessageError::Form,
         MessageError::NotOneQuestion,
     ]
+}
+
+fn session_errors() -> [SessionError; 2] {
+    let (number, fault) = (7, LineFault::Word);
+    [SessionError::Line { number, fault }, SessionError::Memory]
 }
 
 /// The flags of a key signing key, of a zone signing key, of a key that signs both and of one of another owner.

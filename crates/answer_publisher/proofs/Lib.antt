@@ -1,5 +1,3 @@
-pub mod BoundKeys
-pub mod AddProofs
 pub mod SignAnswer
 pub mod Refusals
 pub mod WritesRecords
@@ -9,9 +7,5 @@ pub mod WritesData
 pub mod WritesHashes
 pub mod WritesZone
 pub mod WritesGiven
-pub mod KeyTags
-pub mod KeyTagsPublished
 pub mod SignRecords
 pub mod SignMade
-pub mod BoundAll
-pub mod PublishedKeys

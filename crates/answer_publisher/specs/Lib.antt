@@ -1,11 +1,5 @@
-pub mod Bindings
-pub mod KeyCalls
-pub mod BoundView
-pub mod NewKeys
-pub mod KeyTags
 pub mod Publishing
 pub mod Composed
 pub mod AnswerFaults
 pub mod Answering
 pub mod World
-pub mod PublishedKeys

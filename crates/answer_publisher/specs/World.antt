@@ -16,8 +16,8 @@ use Rattle.answer_terms.specs.Given as spelled
 use Rattle.answer_terms.specs.Told as told
 use Rattle.answer_publisher.specs.declared.publishing.Publisher.{Publisher}
 use Rattle.answer_publisher.specs.declared.fault.AnswerFault.{AnswerFault}
-use Rattle.answer_publisher.specs.declared.keys.Publication.TheVariants as publication
-use Rattle.answer_publisher.specs.Bindings.{ZoneKeys, published, dnskeys, keys_by_tag}
+use Rattle.answer_keys.specs.declared.keys.Publication.TheVariants as publication
+use Rattle.answer_keys.specs.Bindings.{ZoneKeys, published, dnskeys, keys_by_tag}
 use Rattle.answer_publisher.specs.Publishing.{digest_at}
 use Rattle.answer_scheme.specs.Moments.{second_of}
 use Rattle.answer_publisher.specs.Answering.{AnswersKeys, AnswersZone, RefusesAnswer, RefusesKeys}

@@ -3,7 +3,5 @@
 
 pub mod compose;
 pub mod fault;
-pub mod keys;
-pub mod laws;
 pub mod publishing;
 pub mod signing;

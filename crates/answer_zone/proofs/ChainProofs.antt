@@ -1,11 +1,11 @@
 -- Records of the kept chain that are said of names are the proofs of the definitions.
-use Rattle.std.proofs.Common.{◌≡◌, ℕ, Bool, List, [], ◌∷◌, map, refl, sym, ap, subst, ◌∙◌}
+use Rattle.std.proofs.Common.{◌≡◌, List, [], ◌∷◌, map, refl, sym, ap, subst, ◌∙◌}
 use Rattle.std.specs.Prelude.{IfErr, Result, Ok, Err, Vec, unwrap_or}
 use Rattle.std.specs.declared.alloc.Global.{Global}
 use Rattle.definitions.specs.Name.{Name, low, wire}
 use Rattle.definitions.specs.ZoneChain.{Mode, Nsec, Nsec3}
 use Rattle.denial_hashes.specs.declared.hasher.HashError.{HashError}
-use Rattle.denial_hashes.specs.declared.hasher.HashError.TheVariants.{Failed, Memory}
+use Rattle.denial_hashes.specs.declared.hasher.HashError.TheVariants.{Memory}
 use Rattle.messages.specs.HandedRr.{HandedRr}
 use Rattle.messages.proofs.ZoneNames.{low-low}
 use Rattle.answer_terms.specs.GroupView.{Adds, GroupView}
@@ -15,9 +15,11 @@ use Rattle.answer_terms.specs.Links.{ChainLink, said_of}
 use Rattle.answer_terms.specs.Served.{chain_ttl, proofs_of, served_of}
 use Rattle.answer_terms.proofs.HashedLinks.{proofs_are_hashed}
 use Rattle.answer_zone.specs.HashedZone.{IsHashFailure}
-use Rattle.answer_zone.specs.MadeLinks.{IsChain}
-use Rattle.answer_zone.specs.declared.zone.chains.Chain.TheVariants.{Names, Hashes}
-use Rattle.answer_zone.proofs.ZoneLinks.{proofs_are_said}
+use Rattle.answer_records.specs.MadeLinks.{IsChain}
+use Rattle.answer_records.specs.declared.chains.Chain.TheVariants.{Names, Hashes}
+use Rattle.answer_records.specs.Round.{IsCircle, IsRound}
+use Rattle.answer_records.proofs.Led.{chain_circle, chain_round}
+use Rattle.answer_records.proofs.ZoneLinks.{proofs_are_said}
 
 pub named_proofs : (hash : Hasher) (apex : Name) (mode : Mode) (rs : List HandedRr) (qs : List Name) (old new : List GroupView) (ls : Vec ChainLink Global) → IsChain hash apex mode rs (Names ls)
     → Adds old new (said_of apex (chain_ttl apex rs) qs ls.items) → Adds old new (proofs_of (served_of apex mode (hash_in hash mode) rs) qs)
@@ -46,3 +48,13 @@ memory_is hash mode ns e is = subst (IsHashFailure hash mode ns) (sym is) tt
 pub memory_only : {T : Type 0} (hash : Hasher) (mode : Mode) (ns : List Name) (r : Result T HashError) → IfErr r (λ e. e ≡ Memory) → IfErr r (IsHashFailure hash mode ns)
 memory_only hash mode ns (Ok x) h = tt
 memory_only hash mode ns (Err e) h = memory_is hash mode ns e h
+
+-- ---- each record leads to the next
+
+pub named_round : (hash : Hasher) (apex : Name) (mode : Mode) (rs : List HandedRr) (ls : Vec ChainLink Global) → IsChain hash apex mode rs (Names ls) → IsRound apex ls.items
+named_round hash apex Nsec rs ls k = subst (IsRound apex) (sym k) (chain_round apex rs)
+named_round hash apex (Nsec3 i s o) rs ls k = absurd k
+
+pub hashed_circle : (hash : Hasher) (apex : Name) (mode : Mode) (rs : List HandedRr) (ls : Vec HashedLink Global) → IsChain hash apex mode rs (Hashes ls) → IsCircle ls.items
+hashed_circle hash apex Nsec rs ls k = absurd k
+hashed_circle hash apex (Nsec3 i s o) rs ls k = subst IsCircle (sym k) (chain_circle (hash_in hash (Nsec3 i s o)) (Nsec3 i s o) apex rs)

@@ -1,14 +1,14 @@
 -- The names that the proof of a verdict speaks of are among those that the question concerns.
-use Rattle.std.proofs.Common.{◌≡◌, ℕ, ◌≤◌, Bool, true, false, ◌&&◌, not, List, [], ◌∷◌, length, Option, Some, None, inl, inr, refl, sym, ap, subst, ◌∙◌, ◌⊎◌, arith}
+use Rattle.std.proofs.Common.{◌≡◌, ℕ, Bool, true, false, ◌&&◌, not, List, [], ◌∷◌, Option, Some, None, inl, inr, refl, sym, ap, subst, ◌∙◌, ◌⊎◌}
 use Rattle.std.specs.Prelude.{if◌then◌else◌}
 use Rattle.std.proofs.lemmas.Bool.{and_parts, false≢true}
 use Rattle.std.specs.List.{Contains}
 use Rattle.definitions.specs.Name.{Name, low, at_or_above, strictly_above}
-use Rattle.definitions.specs.Zone.{Zone, Verdict, Records, NoType, NoName, StarRecords, StarNoType, Delegated, Open, Unsigned, apex_of, at_existing, cut, data_at, exists, has, is_open, kept, kept_cut_above, owners, star_under, verdict}
+use Rattle.definitions.specs.Zone.{Zone, Verdict, Records, NoType, NoName, StarRecords, StarNoType, Delegated, Open, Unsigned, apex_of, at_existing, cut, data_at, has, kept, kept_cut_above, owners, star_under, verdict}
 use Rattle.definitions.specs.ZoneChain.{Mode, Nsec, Nsec3, optout_of}
 use Rattle.definitions.proofs.Members.{In, in_contained}
 use Rattle.definitions.proofs.VerdictCases.{verdict-exists}
-use Rattle.definitions.proofs.ZoneNames.{above_itself, above_longer, apex_in_chain, low-low, same_lowered}
+use Rattle.definitions.proofs.ZoneNames.{above_itself, apex_in_chain, low-low, same_lowered}
 use Rattle.denial_rules.specs.OwnFacts.{kept_ancestor, next_closer, spoken}
 use Rattle.denial_rules.specs.Truth.{concerned}
 use Rattle.denial_rules.proofs.HashChain.{concerns_name, concerns_star}

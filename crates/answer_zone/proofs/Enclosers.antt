@@ -1,51 +1,59 @@
 -- The closest encloser, sought label by label.
-use Rattle.std.proofs.Common.{◌≡◌, ℕ, zero, suc, ◌+◌, ◌-◌, ◌<◌, ◌≤◌, Bool, true, false, List, [], ◌∷◌, length, drop, drop-cons, get_or, refl, sym, ap, ◌∙◌, arith}
+use Rattle.std.proofs.Common.{◌≡◌, ℕ, zero, suc, ◌+◌, ◌-◌, ◌<◌, ◌≤◌, Bool, true, false, ◌&&◌, List, [], ◌∷◌, length, drop, drop-cons, get_or, refl, sym, ap, ◌∙◌, arith}
 use Rattle.std.specs.Prelude.{if◌then◌else◌}
 use Rattle.std.proofs.lemmas.Bool.{false_from_ne_true, or_right}
 use Rattle.std.specs.Str.{str_to_ascii_lowercase}
 use Rattle.std.proofs.lemmas.List.{drop_all, drop-map, length-drop, length-map}
-use Rattle.definitions.specs.Name.{Name, at_or_above, labels_eq, low, same}
+use Rattle.definitions.specs.Name.{Name, at_or_above, labels_eq, low, same, strictly_above}
 use Rattle.definitions.specs.Zone.{Zone, kept}
 use Rattle.definitions.proofs.NameLaws.{labels_decide}
 use Rattle.definitions.proofs.ZoneNames.{above_itself}
 use Rattle.denial_rules.specs.OwnFacts.{kept_ancestor, next_closer}
+use Rattle.answer_records.specs.Near.{shows}
+use Rattle.answer_records.specs.declared.near.Neighbours.{Neighbours}
+use Rattle.answer_zone.specs.Placed.{shown_ancestor}
 use Rattle.denial_rules.proofs.NameFacts.{strictly_at}
-
--- one label further up
-ancestor_step : (z : Zone) (ex : Bool) (m : Name) (k : ℕ) → k < length m → kept_ancestor z ex (drop k m) ≡ (if kept z ex (drop (suc k) m) then drop (suc k) m else kept_ancestor z ex (drop (suc k) m))
-ancestor_step z ex m k h = ap (kept_ancestor z ex) (drop-cons m k [] h)
 
 low-drop : (k : ℕ) (n : Name) → low (drop k n) ≡ drop k (low n)
 low-drop k n = sym (drop-map str_to_ascii_lowercase k n)
 
--- what is looked at next, after so many labels are left
-next_up : (z : Zone) (ex : Bool) (name : Name) (count : ℕ) → 0 < count → count ≤ length name
-    → kept_ancestor z ex (drop (length name - count) (low name)) ≡ (if kept z ex (drop (length name - (count - 1)) (low name)) then drop (length name - (count - 1)) (low name) else kept_ancestor z ex (drop (length name - (count - 1)) (low name)))
-next_up z ex name count a b =
-    let n = length-map name str_to_ascii_lowercase in
-    let inside : length name - count < length (low name) = omega (arith, n) in
-    let k : suc (length name - count) ≡ length name - (count - 1) = omega arith in
-    ancestor_step z ex (low name) (length name - count) inside
-    ∙ ap (λ j. if kept z ex (drop j (low name)) then drop j (low name) else kept_ancestor z ex (drop j (low name))) k
+-- ---- the longest ancestor that neighbours show
 
-pub encloser_here : (z : Zone) (ex : Bool) (name a : Name) (count : ℕ) → 0 < count → count ≤ length name → a ≡ drop (length name - (count - 1)) name
-    → kept_ancestor z ex (low name) ≡ kept_ancestor z ex (drop (length name - count) (low name)) → kept z ex (low a) ≡ true → low a ≡ kept_ancestor z ex (low name)
-encloser_here z ex name a count h k is so e =
-    let j = length name - (count - 1) in
-    let lowered : low a ≡ drop j (low name) = ap low is ∙ low-drop j name in
-    lowered ∙ sym (so ∙ next_up z ex name count h k ∙ ap (λ b. if b then drop j (low name) else kept_ancestor z ex (drop j (low name))) (ap (kept z ex) (sym lowered) ∙ e))
+module _ (apex : Name) (near : Neighbours) where
+  abbrev shown : Name → Bool
+  shown a = at_or_above apex a && shows near a
 
-pub encloser_past : (z : Zone) (ex : Bool) (name a : Name) (count : ℕ) → 0 < count → count ≤ length name → a ≡ drop (length name - (count - 1)) name
-    → kept_ancestor z ex (low name) ≡ kept_ancestor z ex (drop (length name - count) (low name)) → kept z ex (low a) ≡ false → kept_ancestor z ex (low name) ≡ kept_ancestor z ex (drop (length name - (count - 1)) (low name))
-encloser_past z ex name a count h k is so e =
-    let j = length name - (count - 1) in
-    let lowered : low a ≡ drop j (low name) = ap low is ∙ low-drop j name in
-    so ∙ next_up z ex name count h k ∙ ap (λ b. if b then drop j (low name) else kept_ancestor z ex (drop j (low name))) (ap (kept z ex) (sym lowered) ∙ e)
+  -- what is looked at next, after so many labels are left
+  next_up : (name : Name) (count : ℕ) → 0 < count → count ≤ length name
+      → shown_ancestor apex near (drop (length name - count) name) ≡ (if shown (drop (length name - (count - 1)) name) then drop (length name - (count - 1)) name else shown_ancestor apex near (drop (length name - (count - 1)) name))
+  next_up name count a b =
+      let k : suc (length name - count) ≡ length name - (count - 1) = omega arith in
+      ap (shown_ancestor apex near) (drop-cons name (length name - count) [] (omega arith))
+      ∙ ap (λ j. if shown (drop j name) then drop j name else shown_ancestor apex near (drop j name)) k
 
-pub encloser_none : (z : Zone) (ex : Bool) (name : Name) (count : ℕ) → count ≡ 0 → kept_ancestor z ex (low name) ≡ kept_ancestor z ex (drop (length name - count) (low name)) → [] ≡ kept_ancestor z ex (low name)
-encloser_none z ex name count e so =
-    let all : length (low name) ≤ length name - count = omega (arith, length-map name str_to_ascii_lowercase) in
-    sym (so ∙ ap (kept_ancestor z ex) (drop_all (length name - count) (low name) all))
+  pub encloser_here : (name a : Name) (count : ℕ) → 0 < count → count ≤ length name → a ≡ drop (length name - (count - 1)) name
+      → shown_ancestor apex near name ≡ shown_ancestor apex near (drop (length name - count) name) → shown a ≡ true → a ≡ shown_ancestor apex near name
+  encloser_here name a count h k is so e =
+      let j = length name - (count - 1) in
+      is ∙ sym (so ∙ next_up name count h k ∙ ap (λ b. if b then drop j name else shown_ancestor apex near (drop j name)) (ap shown (sym is) ∙ e))
+
+  pub encloser_past : (name a : Name) (count : ℕ) → 0 < count → count ≤ length name → a ≡ drop (length name - (count - 1)) name
+      → shown_ancestor apex near name ≡ shown_ancestor apex near (drop (length name - count) name) → shown a ≡ false → shown_ancestor apex near name ≡ shown_ancestor apex near (drop (length name - (count - 1)) name)
+  encloser_past name a count h k is so e =
+      let j = length name - (count - 1) in
+      so ∙ next_up name count h k ∙ ap (λ b. if b then drop j name else shown_ancestor apex near (drop j name)) (ap shown (sym is) ∙ e)
+
+  pub encloser_none : (name : Name) (count : ℕ) → count ≡ 0 → shown_ancestor apex near name ≡ shown_ancestor apex near (drop (length name - count) name) → [] ≡ shown_ancestor apex near name
+  encloser_none name count e so = sym (so ∙ ap (shown_ancestor apex near) (drop_all (length name - count) name (omega (arith, e))))
+
+  -- of neighbours that show what is kept, the longest kept ancestor
+  pub shown_is_kept : (z : Zone) (ex : Bool) (name : Name) → ((a : Name) → strictly_above a name ≡ true → kept z ex (low a) ≡ shown a) → low (shown_ancestor apex near name) ≡ kept_ancestor z ex (low name)
+  shown_is_kept z ex [] f = refl
+  shown_is_kept z ex (l ∷ q) f = go (shown q) (f q (above_itself q)) (shown_is_kept z ex q (λ a s. f a (strictly_at a q s)))
+    where
+      go : (b : Bool) → kept z ex (low q) ≡ b → low (shown_ancestor apex near q) ≡ kept_ancestor z ex (low q) → low (if b then q else shown_ancestor apex near q) ≡ (if kept z ex (low q) then low q else kept_ancestor z ex (low q))
+      go true e later = sym (ap (λ b. if b then low q else kept_ancestor z ex (low q)) e)
+      go false e later = later ∙ sym (ap (λ b. if b then low q else kept_ancestor z ex (low q)) e)
 
 -- ---- the next closer name
 

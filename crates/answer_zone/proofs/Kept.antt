@@ -1,18 +1,13 @@
--- Names that opt-out keeps, sought among a zone's records.
-use Rattle.std.proofs.Common.{◌≡◌, ℕ, ◌+◌, ◌<◌, ◌≤◌, Bool, true, false, ◌&&◌, ◌||◌, not, cond, List, [], ◌∷◌, map, length, drop, get_or, Option, Some, None, inl, inr, refl, sym, ap, subst, ◌∙◌, arith}
+-- Delegations above a name, and those that opt-out keeps.
+use Rattle.std.proofs.Common.{◌≡◌, ℕ, ◌≤◌, Bool, true, false, ◌&&◌, not, cond, List, [], ◌∷◌, length, Option, Some, None, inl, inr, refl, sym, ap, subst, ◌∙◌, arith}
 use Rattle.std.specs.Option.{is_none}
-use Rattle.std.specs.List.{filter, list_any}
 use Rattle.std.proofs.lemmas.Bool.{and_parts, false≢true, false_from_ne_true}
-use Rattle.definitions.specs.Name.{Name, low, labels_eq, at_or_above, strictly_above}
-use Rattle.definitions.specs.Zone.{Zone, owner_of, has, is_delegation, is_live, is_kept, kept_owners, cut, cut_above, kept_cut_above}
+use Rattle.definitions.specs.Name.{Name, low, labels_eq, strictly_above}
+use Rattle.definitions.specs.Zone.{Zone, has, is_delegation, is_live, cut, cut_above, kept_cut_above}
 use Rattle.definitions.proofs.NameLaws.{labels_decide}
-use Rattle.definitions.proofs.ZoneNames.{above_itself, above_longer, low-low, same_lowered}
-use Rattle.denial_rules.proofs.NameFacts.{above-low, above_cases, names_same, strictly_at}
+use Rattle.definitions.proofs.ZoneNames.{above_longer, same_lowered}
+use Rattle.denial_rules.proofs.NameFacts.{above_cases, strictly_at}
 use Rattle.denial_rules.proofs.ZoneCuts.{IsBelowKeptCut, IsCut, NoneStrictlyAbove, below_cut, cut_below, cut_from, cut_is, cut_live, delegation_low, kept_live, live_kept, live_uncut, tail_low, uncut}
-use Rattle.messages.specs.HandedRr.{HandedRr}
-use Rattle.answer_terms.specs.Accepting.{rr_of, zone_with}
-use Rattle.answer_terms.proofs.ZoneServed.{ahead_is}
-use Rattle.answer_zone.specs.Around.{keeps_below}
 use Rattle.answer_zone.specs.Cuts.{is_cut_off}
 
 and_true : (b : Bool) → (b && true) ≡ b
@@ -22,21 +17,6 @@ and_true false = refl
 and_false : (b : Bool) → (b && false) ≡ false
 and_false true = refl
 and_false false = refl
-
--- ---- owners
-
-any_kept : (K : Name → Bool) (q : Name) (rs : List HandedRr) → list_any (at_or_above (low q)) (filter K (map owner_of (map rr_of rs))) ≡ list_any (λ r. at_or_above q r.owner && K (low r.owner)) rs
-any_kept K q [] = refl
-any_kept K q (r ∷ rs) =
-    let rest : List Name = filter K (map owner_of (map rr_of rs)) in
-    let later = any_kept K q rs in
-    elim (K (low r.owner)) as (λ b. list_any (at_or_above (low q)) (cond b (low r.owner ∷ rest) rest) ≡ ((at_or_above q r.owner && b) || list_any (λ r. at_or_above q r.owner && K (low r.owner)) rs)) [
-      | true ↦ (λ i. (above-low q r.owner ∙ sym (and_true (at_or_above q r.owner))) i || later i)
-      | false ↦ later ∙ ap (λ b. b || list_any (λ r. at_or_above q r.owner && K (low r.owner)) rs) (sym (and_false (at_or_above q r.owner)))
-    ]
-
-pub any_kept_is : (apex : Name) (rs : List HandedRr) (q : Name) → list_any (keeps_below apex rs q) rs ≡ list_any (at_or_above (low q)) (kept_owners (zone_with apex rs) true)
-any_kept_is apex rs q = sym (any_kept (is_kept (zone_with apex rs) true) q rs)
 
 -- ---- below a delegation
 
@@ -55,13 +35,9 @@ module _ (z : Zone) where
       let unlike : labels_eq c n ≡ false = false_from_ne_true (labels_eq c n) (λ s. let same : length c ≡ length n = ap length ((labels_decide c n).0 s) in omega arith) in
       sym (ap tested (ap (λ o. elim o as (λ _. Option Name) [ None ↦ (cond (is_delegation z n) (Some n) None) | Some c ↦ Some c ]) e) ∙ ap (λ b. not (not b)) unlike)
 
-  live_is : (q : Name) → low q ≡ q → is_none (cut_above z q) ≡ not (is_cut_off z q)
+  pub live_is : (q : Name) → low q ≡ q → is_none (cut_above z q) ≡ not (is_cut_off z q)
   live_is [] lq = refl
   live_is (l ∷ q) lq = live_from l q (tail_low l q lq) (cut z q) refl
-
-  -- what an owner that is kept under opt-out is
-  pub kept_owner_is : (q : Name) → low q ≡ q → is_kept z true q ≡ ((at_or_above (low z.name) q && not (is_cut_off z q)) && not (is_delegation z q && not (has z q 43)))
-  kept_owner_is q lq = ap (λ b. (at_or_above (low z.name) q && b) && not (is_delegation z q && not (has z q 43))) (live_is q lq)
 
   -- ---- kept delegations
 
@@ -95,8 +71,3 @@ module _ (z : Zone) where
       go : (o : Option Name) → cut z q ≡ o → kept_cut_above z true q ≡ by_cut q o
       go None e = false_from_ne_true (kept_cut_above z true q) (λ y. let b : IsBelowKeptCut z true q = below_cut z true q y in uncut z q lq e b.cut b.delegation (strictly_at b.cut q b.above))
       go (Some c) e = at_cut q c lq e (labels_eq c q) refl (has z c 43) refl
-
--- ---- one record after another
-
-pub any_here : (p : HandedRr → Bool) (rs : List HandedRr) (i : ℕ) (r : HandedRr) → i < length rs → r ≡ get_or rs i r → p r ≡ true → list_any p (drop i rs) ≡ true
-any_here p rs i r h e k = ap (list_any p) (ahead_is rs i r h e) ∙ ap (λ b. b || list_any p (drop (i + 1) rs)) k

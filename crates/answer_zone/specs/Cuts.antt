@@ -1,12 +1,7 @@
 -- Delegations among a zone's records, and which questions they refer away.
 use Rattle.std.specs.Prelude.{◌≡◌, ℕ, Bool, true, false, not, ◌&&◌, ◌==◌, Some, None}
-use Rattle.definitions.specs.Name.{Name, labels_eq, at_or_above, strictly_above}
+use Rattle.definitions.specs.Name.{Name, labels_eq}
 use Rattle.definitions.specs.Zone.{Zone, cut}
-use Rattle.messages.specs.HandedRr.{HandedRr}
-
--- NS of a delegation at or above a name (RFC 1034, 4.2)
-abbrev pub delegates : Name → Name → HandedRr → Bool
-delegates apex q r = (r.rtype == 2) && strictly_above apex r.owner && at_or_above r.owner q
 
 -- the topmost delegation at or above a name is not the name itself
 abbrev pub is_cut_off : Zone → Name → Bool

@@ -1,9 +1,5 @@
-pub mod ModeView
 pub mod HashedZone
-pub mod Faults
-pub mod HashParameters
-pub mod MadeLinks
 pub mod Around
 pub mod Cuts
-pub mod GroupRecords
 pub mod ZoneAnswers
+pub mod Placed

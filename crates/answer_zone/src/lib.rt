@@ -1,6 +1,6 @@
-//! A zone's records in canonical order, whether they are accepted, and the RRsets of the zone's answers.
+//! A zone's records in canonical order, and the RRsets of the zone's answers.
 #![tactic(auto)]
 
-pub mod fault;
-pub mod group;
+pub use answer_records::{fault, group};
+
 pub mod zone;

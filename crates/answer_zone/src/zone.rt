@@ -1,40 +1,38 @@
 //! A zone's records in canonical order, and the RRsets of its answers. Keys are not known here.
-ghost use Rattle.std.specs.Prelude.{◌≡◌, map, IfOk, IfErr};
+ghost use Rattle.std.specs.Prelude.{◌≡◌, true, map, IfOk, IfErr};
 ghost use Rattle.answer_terms.specs.Accepted.{IsAccepted};
 ghost use Rattle.answer_terms.specs.Accepting.{sorted_records};
-ghost use Rattle.answer_zone.specs.Faults.{RefusesZone, zone_fault};
+ghost use Rattle.answer_records.specs.Faults.{RefusesZone, zone_fault};
 ghost use Rattle.answer_terms.specs.ZoneView.{IsPublished};
-ghost use Rattle.answer_zone.specs.ModeView.{mode_of};
+ghost use Rattle.answer_records.specs.ModeView.{mode_of};
 ghost use Rattle.messages.specs.HandedRr.{handed_of};
 ghost use Rattle.messages.specs.Handed.{AreHanded, IsHanded};
 ghost use Rattle.definitions.specs.Name.{IsName};
+ghost use Rattle.definitions.specs.ZoneChain.{optout_of};
+ghost use Rattle.answer_records.specs.KeptNames.{KeepsNames};
+ghost use Rattle.answer_records.specs.OwnedRecords.{IsInternet};
 ghost use Rattle.std.specs.List.{AllByRecursion};
 
-use crate::fault::{Mode, ZoneFault};
-use crate::zone::chains::{Chain, made_chain};
-use crate::zone::composed_record::ComposedRecord;
-use crate::zone::faults::first_fault;
-use crate::zone::lookups::chain_ttl_among;
+use answer_records::chains::{Chain, made_chain};
+use answer_records::fault::{Mode, ZoneFault};
+use answer_records::faults::first_fault;
+use answer_records::kept::kept_names;
+use answer_records::owned::chain_ttl;
 use denial_hashes::hasher::Nsec3Hasher;
 use denial_owners::error::SigningError;
 use denial_sorted::laws::zone_data_order_is_total;
 use denial_sorted::sorted::SortedRecords;
 use messages::names::{Name, ZoneName};
-use messages::record::{ZoneRecord, keeps};
+use messages::record::{ZoneData, ZoneRecord, keeps};
 use plain::Ttl;
 use std::alloc::{AllocError, Global};
 use std::marker::Model;
 
 pub mod answers;
 mod around;
-mod chain;
-mod chains;
-mod composed_record;
-mod faults;
-mod hash_chain;
+mod asked;
 mod lookups;
 mod open_answers;
-mod record_faults;
 
 /// The records of an accepted zone in canonical order, and its chain with the TTL of its records. The chain is that of one
 /// hasher, which is borrowed for as long as the zone is kept: names of questions are hashed by no other.
@@ -43,7 +41,8 @@ pub struct ZoneRecords<'h, H: Nsec3Hasher> {
     apex: Name<Vec<u8>>,
     mode: Mode,
     limit: u16,
-    records: Vec<ComposedRecord>,
+    records: SortedRecords<Name<Vec<u8>>, ZoneData>,
+    kept: Vec<Name<Vec<u8>>>,
     chain: Chain,
     link_ttl: Ttl,
     hasher: &'h H,
@@ -51,12 +50,17 @@ pub struct ZoneRecords<'h, H: Nsec3Hasher> {
 
 impl<'h, H: Nsec3Hasher> Model for ZoneRecords<'h, H> {
     ghost use Rattle.messages.specs.Handed.{AreHanded};
-    ghost use Rattle.std.specs.Prelude.{◌≡◌};
+    ghost use Rattle.std.specs.Prelude.{◌≡◌, true, map};
+    ghost use Rattle.std.specs.List.{AllByRecursion};
+    ghost use Rattle.definitions.specs.ZoneChain.{optout_of};
+    ghost use Rattle.messages.specs.HandedRr.{handed_of};
     ghost use Rattle.answer_terms.specs.Served.{chain_ttl};
     ghost use Rattle.answer_terms.specs.ZoneView.{IsPublished};
     ghost use Rattle.answer_zone.specs.HashedZone.{HashedZone};
-    ghost use Rattle.answer_zone.specs.MadeLinks.{IsChain};
-    ghost use Rattle.answer_zone.specs.ModeView.{mode_of};
+    ghost use Rattle.answer_records.specs.MadeLinks.{IsChain};
+    ghost use Rattle.answer_records.specs.ModeView.{mode_of};
+    ghost use Rattle.answer_records.specs.KeptNames.{KeepsNames};
+    ghost use Rattle.answer_records.specs.OwnedRecords.{IsInternet};
 
     ghost Value = { HashedZone H };
 
@@ -64,14 +68,17 @@ impl<'h, H: Nsec3Hasher> Model for ZoneRecords<'h, H> {
       apex = z.apex;
       mode = mode_of z.mode;
       limit = z.limit;
-      records = z.records.items;
+      records = map handed_of z.records;
       hasher = z.hasher.now;
     } };
 
-    ghost invariant = { λ z. IsPublished z.apex z.records.items
-        × AreHanded z.apex z.records.items
-        × IsChain (H.hash_of z.hasher.now) z.apex (mode_of z.mode) z.records.items z.chain
-        × (z.link_ttl ≡ chain_ttl z.apex z.records.items) };
+    ghost invariant = { λ z. IsPublished z.apex (map handed_of z.records)
+        × AreHanded z.apex (map handed_of z.records)
+        × IsChain (H.hash_of z.hasher.now) z.apex (mode_of z.mode) (map handed_of z.records) z.chain
+        × (z.link_ttl ≡ chain_ttl z.apex (map handed_of z.records))
+        × AllByRecursion IsInternet z.records
+        × (optout_of (mode_of z.mode) ≡ true
+        → KeepsNames z.apex (map handed_of z.records) z.kept.items) };
 }
 
 impl<'h, H: Nsec3Hasher> ZoneRecords<'h, H> {
@@ -113,15 +120,18 @@ impl<'h, H: Nsec3Hasher> ZoneRecords<'h, H> {
             Ok(chain) => chain,
             Err(error) => return Err(fault_of(error)),
         };
-        let Ok(records) = composed(alloc, sorted.into_inner()) else {
+        let Ok(kept) = kept_under(alloc, &apex, &sorted, &mode) else {
             return Err(ZoneFault::Memory);
         };
-        let link_ttl = chain_ttl_among(&apex, &records);
+        let Ok(link_ttl) = chain_ttl(alloc, &apex, &sorted) else {
+            return Err(ZoneFault::Memory);
+        };
         Ok(ZoneRecords {
             apex,
             mode,
             limit,
-            records,
+            records: sorted,
+            kept,
             chain,
             link_ttl,
             hasher,
@@ -151,16 +161,32 @@ impl<'h, H: Nsec3Hasher> ZoneRecords<'h, H> {
     }
 }
 
-/// The records with their data composed.
-fn composed(alloc: Global, records: Vec<ZoneRecord>) -> Result<Vec<ComposedRecord>, AllocError>
-    ensures views { IfOk result (λ v. v.items ≡ map handed_of records.items) }
-    ensures handed { IfOk result (λ v. AllByRecursion IsHanded v.items) }
+/// The owners that opt-out keeps, none without it.
+fn kept_under(
+    alloc: Global,
+    apex: &Name<Vec<u8>>,
+    records: &SortedRecords<Name<Vec<u8>>, ZoneData>,
+    mode: &Mode,
+) -> Result<Vec<Name<Vec<u8>>>, AllocError>
+    requires { AllByRecursion IsInternet records.now }
+    ensures { let rs = map handed_of records.now in
+        IfOk result (λ v. optout_of (mode_of mode.now) ≡ true → KeepsNames apex.now rs v.items) }
 {
-    let mut composed = Vec::with_capacity(alloc, records.len())?;
-    for record in records {
-        composed.push(ComposedRecord::new(alloc, record)?)?;
+    if opts_out(mode) {
+        kept_names(alloc, apex, records)
+    } else {
+        Ok(Vec::new(alloc))
     }
-    Ok(composed)
+}
+
+/// Whether delegations without DS are left out of the chain (RFC 5155, 6).
+fn opts_out(mode: &Mode) -> bool
+    ensures { result ≡ optout_of (mode_of mode.now) }
+{
+    match mode {
+        Mode::Nsec => false,
+        Mode::Nsec3 { opt_out, .. } => *opt_out,
+    }
 }
 
 /// What all records keep. It does nothing.

@@ -4,6 +4,7 @@ use crate::links::{OPT_OUT_HASHES, ZONE_HASHES, ZONE_LINKS, is_hashed_link, is_l
 use crate::zones::{A, D, EXAMPLE, Line, Owner, Sorted, ZONE, in_order, name};
 use denial_bitmap::builder::RtypeBitmapBuilder;
 use denial_fields::salt::Nsec3Salt;
+use denial_groups::walks::RecordsIter;
 use denial_hashes::config::GenerateNsec3Config;
 use denial_hashes::hasher::{HashError, Nsec3Hasher};
 use denial_hashes::owner_name::{HashedOwnerError, hashed_owner};
@@ -19,7 +20,6 @@ use denial_owners::kept::kept_owners;
 use denial_owners::owners::chain_owners;
 use denial_owners::types::add_types;
 use denial_sorted::laws::zone_data_order_is_total;
-use denial_sorted::walks::RecordsIter;
 use names::{Rtype, ShortBuf};
 use nsec3_sha1::hasher::Sha1Hasher;
 use std::alloc::{AllocError, Global};

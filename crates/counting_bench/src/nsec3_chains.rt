@@ -2,6 +2,7 @@
 
 use crate::zone::{Data, Owner, Rr, records};
 use denial_fields::salt::Nsec3Salt;
+use denial_groups::walks::RecordsIter;
 use denial_hashes::config::GenerateNsec3Config;
 use denial_links::nsec3param::Nsec3param;
 use denial_nsec3::generate::generate_nsec3s;
@@ -9,7 +10,6 @@ use denial_owners::conditions::{is_canonical_order, is_one_class};
 use denial_sorted::laws::zone_data_order_is_total;
 use denial_sorted::sorted::SortedRecords;
 use denial_sorted::sorter::DefaultSorter;
-use denial_sorted::walks::RecordsIter;
 use names::Name;
 use nsec3_sha1::hasher::Sha1Hasher;
 use std::alloc::Global;

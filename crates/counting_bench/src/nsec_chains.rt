@@ -1,6 +1,7 @@
 //! Makes NSEC chains of a zone, or keeps the owners of one.
 
 use crate::zone::{Data, Owner, Rr, records};
+use denial_groups::walks::RecordsIter;
 use denial_nsec::config::GenerateNsecConfig;
 use denial_nsec::generate::generate_nsecs;
 use denial_owners::conditions::{is_canonical_order, is_one_class};
@@ -8,7 +9,6 @@ use denial_owners::kept::kept_owners;
 use denial_sorted::laws::zone_data_order_is_total;
 use denial_sorted::sorted::SortedRecords;
 use denial_sorted::sorter::DefaultSorter;
-use denial_sorted::walks::RecordsIter;
 use names::Name;
 use std::alloc::Global;
 use std::io;

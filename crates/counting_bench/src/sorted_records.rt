@@ -70,6 +70,19 @@ fn soa(sorted: &Sorted) -> u64 {
     }
 }
 
+/// How many records are found with each hundredth record, by its owner.
+fn found(sorted: &Sorted) -> u64 {
+    let mut count = 0u64;
+    for (index, rr) in sorted.as_slice().iter().enumerate() {
+        if index % 100 == 0 {
+            if let Some(group) = sorted.find_owner(rr.class(), rr.owner()) {
+                count = count.wrapping_add(group.records().count() as u64);
+            }
+        }
+    }
+    count
+}
+
 /// What the task counts, done so often.
 fn work(alloc: Global, task: &str, rounds: u64, records: Vec<Rr>) -> u64 {
     match task {
@@ -86,6 +99,7 @@ fn work(alloc: Global, task: &str, rounds: u64, records: Vec<Rr>) -> u64 {
         let more = match task {
             "owners" => owners(&sorted),
             "sets" => sets(&sorted),
+            "found" => found(&sorted),
             _ => soa(&sorted),
         };
         count = count.wrapping_add(more);

@@ -12,6 +12,9 @@ pub use denial_data::{
     ProtoRrsig, Rrsig, RtypeBitmap, RtypeBitmapBuilder, RtypeBitmapError, RtypeBitmapIter,
     Timestamp,
 };
+pub use denial_groups::groups::{MultipleTtlValues, OwnerRrs, Rrset};
+pub use denial_groups::slices::{SliceRefs, SliceRefsOrOwned, SliceRefsOrOwnedIterator};
+pub use denial_groups::walks::{OwnerRrsIter, RecordsIter, RrsetIter};
 pub use denial_hashes::config::{GenerateNsec3Config, Nsec3ParamTtlMode};
 pub use denial_hashes::hasher::{HashError, Nsec3Hasher};
 pub use denial_hashes::records::Nsec3Records;
@@ -21,8 +24,5 @@ pub use denial_nsec3::generate::generate_nsec3s;
 pub use denial_nsec3::owner_name::mk_hashed_nsec3_owner_name;
 pub use denial_owners::conditions::{is_canonical_order, is_one_class};
 pub use denial_owners::error::SigningError;
-pub use denial_sorted::groups::{MultipleTtlValues, OwnerRrs, Rrset};
-pub use denial_sorted::slices::{SliceRefs, SliceRefsOrOwned, SliceRefsOrOwnedIterator};
 pub use denial_sorted::sorted::{InsertError, SortedRecords};
 pub use denial_sorted::sorter::{DefaultSorter, Sorter};
-pub use denial_sorted::walks::{OwnerRrsIter, RecordsIter, RrsetIter};

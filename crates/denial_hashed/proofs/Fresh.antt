@@ -1,10 +1,9 @@
 -- How many names are fresh, by the labels that differ.
-use Rattle.std.proofs.Common.{◌≡◌, ℕ, zero, suc, ◌+◌, ◌-◌, ◌≤◌, ◌<◌, Bool, true, false, ◌&&◌, ◌||◌, cond, min, List, [], ◌∷◌, ◌++◌, length, drop, map, refl, sym, ap, ◌∙◌, ◌⊎◌, inl, inr, arith, length-drop}
-use Rattle.std.specs.Prelude.{if◌then◌else◌}
+use Rattle.std.proofs.Common.{◌≡◌, ℕ, zero, suc, ◌+◌, ◌-◌, ◌≤◌, ◌<◌, Bool, true, false, ◌&&◌, ◌||◌, cond, List, [], ◌∷◌, ◌++◌, length, drop, refl, sym, ap, ◌∙◌, arith, length-drop}
 use Rattle.std.specs.Str.{bytes_eq, str_to_ascii_lowercase}
 use Rattle.definitions.specs.Name.{Name, low, same, at_or_above}
 use Rattle.definitions.proofs.ZoneNames.{above_lowered, lowered_above}
-use Rattle.denial_hashes.proofs.Skipped.{skip_rooted, past_end}
+use Rattle.denial_hashes.proofs.Skipped.{skip_rooted}
 use Rattle.denial_hashed.specs.Differing.{one_more, differing}
 use Rattle.denial_hashed.specs.Walk.{fresh_count}
 use Rattle.definitions.proofs.ZoneNames.{above_longer, same-length}
@@ -113,3 +112,15 @@ fresh_by_labels p o ps os longer back ep eo l b =
         go m (suc n) em en =
             let z : longer ≡ 0 = omega arith in
             (λ i. z i + differing (drop (z i) o) (drop back p)) ∙ zero_plus (differing o (drop back p)) ∙ sym (longer_before back p o (omega arith))
+
+-- names that have the same labels behind their first ones
+pub beside : (ls os x y : Name) (a b : List ℕ) (t : Bool) → ls ≡ a ∷ x → os ≡ b ∷ y → same x y ≡ true → bytes_eq (str_to_ascii_lowercase a) (str_to_ascii_lowercase b) ≡ t
+    → (length ls ≡ length os) × (cond t 0 1 ≡ differing ls os)
+beside ls os x y a b t el eo s e = (
+  ap length el ∙ ap suc (same-length x y s) ∙ sym (ap length eo),
+  sym ((λ i. differing (el i) (eo i)) ∙ (λ i. one_more (e i) (none_differs x y (same-length x y s) s i)) ∙ first t),
+)
+  where
+    first : (t : Bool) → one_more t 0 ≡ cond t 0 1
+    first true = refl
+    first false = refl

@@ -1,5 +1,5 @@
 -- Owners and names in lower case; names that are added one by one.
-use Rattle.std.proofs.Common.{◌≡◌, ℕ, zero, suc, ◌+◌, ◌<◌, Bool, true, List, [], ◌∷◌, ◌++◌, length, drop, get_or, map, Option, Some, None, refl, sym, ap, ◌∙◌, arith, append_assoc}
+use Rattle.std.proofs.Common.{◌≡◌, ℕ, zero, suc, ◌+◌, ◌<◌, Bool, true, List, [], ◌∷◌, ◌++◌, length, drop, get_or, map, Some, refl, sym, ap, ◌∙◌, arith, append_assoc}
 use Rattle.std.proofs.lemmas.List.{map-append}
 use Rattle.std.specs.List.{list_any, slice_get}
 use Rattle.std.specs.Option.{option_map}
@@ -8,7 +8,7 @@ use Rattle.definitions.proofs.Members.{in_contained, in_map, any_in}
 use Rattle.definitions.proofs.ZoneNames.{low-low}
 use Rattle.plain.specs.declared.record.Record.{Record}
 use Rattle.denial_hashed.specs.Walk.{spot, last_spots}
-use Rattle.denial_sorted.specs.Groups.{group_owner}
+use Rattle.denial_groups.specs.Groups.{group_owner}
 
 -- the owner is that of the first record
 pub owner_spelled : {N D : Type 0} (name : N → Name) (g : List (Record N D)) (n : N) → Some n ≡ option_map (λ r. r.owner) (slice_get g 0) → group_owner name g ≡ low (name n)

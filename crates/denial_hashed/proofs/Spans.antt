@@ -1,5 +1,5 @@
 -- Counting up to the last label that differs.
-use Rattle.std.proofs.Common.{◌≡◌, ℕ, zero, suc, ◌+◌, Bool, true, false, refl, arith}
+use Rattle.std.proofs.Common.{◌≡◌, ℕ, zero, suc, ◌+◌, true, false, refl, arith}
 use Rattle.denial_hashed.specs.Differing.{one_more}
 
 -- behind so many labels, of which so many are up to the last that differs, with so many more up to the last

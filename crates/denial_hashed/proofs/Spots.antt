@@ -1,13 +1,13 @@
 -- The places of a chain's names among owners in order.
-use Rattle.std.proofs.Common.{◌≡◌, ℕ, zero, suc, ◌+◌, ◌-◌, ◌≤◌, ◌<◌, Bool, true, false, cond, List, [], ◌∷◌, ◌++◌, length, drop, map, refl, sym, ap, subst, ◌∙◌, ◌⊎◌, inl, inr, arith, length-drop}
+use Rattle.std.proofs.Common.{◌≡◌, ℕ, zero, suc, ◌-◌, ◌≤◌, ◌<◌, Bool, true, false, cond, List, [], ◌∷◌, ◌++◌, length, drop, map, refl, sym, ap, subst, ◌∙◌, ◌⊎◌, inl, inr, arith, length-drop}
 use Rattle.std.proofs.lemmas.List.{map-append}
 use Rattle.std.proofs.lemmas.Cmp.{tied_itself}
 use Rattle.std.specs.declared.cmp.Ordering.TheVariants.{Less, Equal, Greater}
 use Rattle.definitions.specs.Name.{Name, name_cmp, at_or_above}
-use Rattle.definitions.proofs.Members.{append_in, In, map_in, in_map, not_less, Rises}
+use Rattle.definitions.proofs.Members.{append_in, In, in_map, not_less}
 use Rattle.definitions.proofs.NameLaws.{name_cmp_total, interval, equal_is_same, apex_first}
 use Rattle.definitions.proofs.ZoneNames.{same-length, above_itself}
-use Rattle.denial_hashed.specs.Walk.{Spot, spot, spot_name, last_spots, spots_behind, spots_of, fresh_count}
+use Rattle.denial_hashed.specs.Walk.{Spot, spot_name, last_spots, spots_behind, spots_of, fresh_count}
 use Rattle.denial_hashed.proofs.WalkNames.{Climbs, IsFresh, fresh_names, fresh_is, names_behind, names_of, less_not_greater, upto_less}
 
 -- names that an owner and what it stands under have, so many

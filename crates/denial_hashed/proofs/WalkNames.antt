@@ -1,5 +1,5 @@
 -- The names that kept owners in canonical order give one by one are the names of the chain.
-use Rattle.std.proofs.Common.{◌≡◌, ℕ, zero, suc, ◌≤◌, Bool, true, false, ◌&&◌, ◌||◌, cond, List, [], ◌∷◌, ◌++◌, length, drop, map, refl, sym, ap, subst, ◌∙◌, ◌⊎◌, inl, inr, arith}
+use Rattle.std.proofs.Common.{◌≡◌, ℕ, ◌≤◌, Bool, true, false, ◌||◌, cond, List, [], ◌∷◌, ◌++◌, length, drop, refl, sym, ap, subst, ◌∙◌, ◌⊎◌, inl, inr, arith}
 use Rattle.std.specs.Prelude.{filter, if◌then◌else◌}
 use Rattle.std.specs.List.{list_any, flat_map, Contains}
 use Rattle.std.specs.declared.cmp.Ordering.{Ordering}
@@ -10,7 +10,7 @@ use Rattle.definitions.specs.Name.{Name, low, same, name_cmp, at_or_above, from_
 use Rattle.definitions.specs.Zone.{Zone, apex_of, owners, is_live, is_kept, kept_owners, kept}
 use Rattle.definitions.specs.ZoneChain.{with_parents, nsec3_names}
 use Rattle.definitions.proofs.Members.{either, append_in, In, Within, Rises, in_contained, in_filter, filter_in, in_append_left, in_append_right, any_of, any_in, rising_same, sort_rises}
-use Rattle.definitions.proofs.NameLaws.{Begins, name_cmp_total, equal_is_same, labels_decide, above_begins, begins_above, interval, apex_first}
+use Rattle.definitions.proofs.NameLaws.{Begins, name_cmp_total, equal_is_same, above_begins, begins_above, interval, apex_first}
 use Rattle.definitions.proofs.ZoneNames.{same-length, above_longer, low-low, apex_kept, above_itself, and_parts, and_from, same_lowered, chain_lowered, chain_kept, kept_in_chain, kept_owner_lowered, apex_in_chain}
 
 -- what an owner adds behind the one before it: itself and what it stands under, the shortest first, but for what the one

@@ -10,7 +10,7 @@ use Rattle.plain.specs.declared.record.Record.{Record}
 use Rattle.denial_links.specs.Hashed.{Nsec3paramData}
 use Rattle.denial_hashes.specs.Hashing.{Answers, answered}
 use Rattle.denial_hashed.specs.Walk.{Spot, spot, spot_name, spots_of}
-use Rattle.denial_sorted.specs.Groups.{group_owner}
+use Rattle.denial_groups.specs.Groups.{group_owner}
 use Rattle.denial_hashed.specs.declared.names.ChainName.{ChainName}
 use Rattle.denial_hashed.specs.declared.hashed.HashedName.{HashedName}
 use Rattle.denial_hashed.specs.declared.hashed.HashedChainError.{HashedChainError}

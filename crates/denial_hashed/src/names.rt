@@ -4,11 +4,11 @@ ghost use Rattle.std.specs.Prelude.{◌≡◌, ◌++◌, ◌<◌, map, IfOk, Mat
 ghost use Rattle.definitions.specs.Name.{low, wire};
 ghost use Rattle.denial_hashed.specs.Chained.{chain_name, spot_of};
 ghost use Rattle.denial_hashed.specs.Walk.{last_spots, spots_of};
-ghost use Rattle.denial_sorted.specs.Groups.{group_owner};
+ghost use Rattle.denial_groups.specs.Groups.{group_owner};
 
 use crate::labels::fresh_labels;
+use denial_groups::groups::OwnerRrs;
 use denial_hashes::wire_form::write_lower_wire;
-use denial_sorted::groups::OwnerRrs;
 use names_data::data::RecordData;
 use names_traits::to_name::ToName;
 use names_wire::builder::ShortBuf;

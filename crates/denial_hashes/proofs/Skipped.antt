@@ -1,8 +1,8 @@
 -- Names without their first labels.
-use Rattle.std.proofs.Common.{◌≡◌, ℕ, zero, suc, ◌+◌, ◌-◌, ◌<◌, ◌≤◌, min, List, [], ◌∷◌, ◌++◌, length, drop, map, refl, sym, ap, ◌∙◌, inl, inr, arith}
+use Rattle.std.proofs.Common.{◌≡◌, ℕ, zero, suc, ◌+◌, ◌≤◌, min, List, [], ◌∷◌, ◌++◌, length, drop, refl, sym, ap, ◌∙◌, arith}
 use Rattle.std.proofs.lemmas.List.{map-append}
 use Rattle.std.specs.Str.{str_to_ascii_lowercase}
-use Rattle.definitions.specs.Name.{Name, IsName, low, wire}
+use Rattle.definitions.specs.Name.{Name, low, wire}
 use Rattle.names_labels.specs.Flat.{spelled}
 use Rattle.names_labels.proofs.Runs.{wire-spelled}
 

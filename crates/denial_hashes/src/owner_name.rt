@@ -1,13 +1,13 @@
 //! The owners of NSEC3 records: a hash as a label under the apex (RFC 5155, 3).
 
-ghost use Rattle.std.specs.Prelude.{◌≡◌, ◌∷◌, IfOk, IsErrOf, OnOk};
-ghost use Rattle.definitions.specs.Name.{IsName};
+ghost use Rattle.std.specs.Prelude.{◌≡◌, ◌≤◌, ◌++◌, ◌∷◌, length, IfOk, IsErrOf, OnOk};
+ghost use Rattle.definitions.specs.Name.{IsName, wire};
 ghost use Rattle.denial_hashes.specs.Hashing.{FitsName, hashed_owner};
 
-use names_builder::push_error::{PushError, PushNameError};
-use names_flat::builder::{Finish, NameBuilder};
+use names_data::composer::compose_name;
 use names_flat::name::Name;
 use names_labels::traits::Absolute;
+use names_wire::builder::{OctetsBuilder, ShortBuf};
 use plain::base32hex;
 use std::alloc::Global;
 use thiserror::Error;
@@ -51,21 +51,29 @@ fn label_under<N: Absolute>(
     ensures refused { IsErrOf result HashedOwnerError.DoesNotFit →
         IsName (label.now ∷ N.name apex.now) → ⊥ }
 {
-    if label.is_empty() {
+    if label.len() > 63 {
         return Err(HashedOwnerError::DoesNotFit);
     }
-    let mut builder = NameBuilder::new(alloc);
-    match builder.append_label(label) {
-        Ok(()) => {}
-        Err(PushError::ShortBuf) => return Err(HashedOwnerError::Memory),
-        Err(_) => return Err(HashedOwnerError::DoesNotFit),
+    let room = 1 + label.len() + usize::from(apex.compose_len());
+    let Ok(mut octets) = Vec::with_capacity(alloc, room) else {
+        return Err(HashedOwnerError::Memory);
+    };
+    let Ok(()) = write_under(&mut octets, label, apex) else {
+        return Err(HashedOwnerError::Memory);
+    };
+    match Name::from_octets(octets) {
+        Ok(name) => Ok(name),
+        Err(_) => Err(HashedOwnerError::DoesNotFit),
     }
-    match builder.append_origin(apex) {
-        Ok(name) => {
-            let _octets = name.as_slice();
-            Ok(name)
-        }
-        Err(PushNameError::LongName) => Err(HashedOwnerError::DoesNotFit),
-        Err(PushNameError::ShortBuf) => Err(HashedOwnerError::Memory),
-    }
+}
+
+/// Writes a label and the apex behind it in wire form.
+fn write_under<N: Absolute>(octets: &mut Vec<u8>, label: &[u8], apex: &N) -> Result<(), ShortBuf>
+    requires { length label.now ≤ 63 }
+    ensures { let name = label.now ∷ N.name apex.now in
+        OnOk result (octets.new.items ≡ octets.old.items ++ wire name) }
+{
+    octets.append_slice(&[label.len() as u8])?;
+    octets.append_slice(label)?;
+    compose_name(apex, octets)
 }

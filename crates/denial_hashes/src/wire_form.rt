@@ -4,7 +4,7 @@ ghost use Rattle.std.specs.Prelude.{◌≡◌, OnOk, drop};
 ghost use Rattle.definitions.specs.Name.{low, wire};
 ghost use Rattle.names_labels.specs.Flat.{spelled};
 
-use names_data::composer::compose_labels;
+use names_data::composer::{compose_canonical_name, compose_labels};
 use names_labels::order::Case;
 use names_labels::traits::{Absolute, LabelIter};
 use names_wire::builder::ShortBuf;
@@ -18,8 +18,19 @@ pub fn write_lower_wire<N: Absolute>(
 ) -> Result<(), ShortBuf>
     ensures { OnOk result (buffer.new.items ≡ wire (low (drop skipped (N.name name.now)))) }
 {
+    if skipped == 0 {
+        return write_whole(buffer, name);
+    }
     let most = name.label_count().saturating_sub(1);
     write_labels(buffer, without_first(name.iter_labels(), skipped.min(most)))
+}
+
+/// Writes a name in lower-case wire form over what a buffer held.
+fn write_whole<N: Absolute>(buffer: &mut Vec<u8>, name: &N) -> Result<(), ShortBuf>
+    ensures { OnOk result (buffer.new.items ≡ wire (low (N.name name.now))) }
+{
+    buffer.clear();
+    compose_canonical_name(name, buffer)
 }
 
 /// Writes labels in lower case, each behind its length, over what a buffer held.

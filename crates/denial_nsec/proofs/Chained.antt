@@ -19,7 +19,7 @@ use Rattle.definitions.specs.Zone.{kept_owners}
 use Rattle.plain.specs.ZoneData.{zone_canonical, zone_type}
 use Rattle.plain.specs.declared.record.Record.{Record}
 use Rattle.plain.specs.declared.zone_data.ZoneRecordData.{ZoneRecordData}
-use Rattle.denial_sorted.specs.Groups.{groups, is_at, of_one_owner, zone_cut, group_owner}
+use Rattle.denial_groups.specs.Groups.{groups, is_at, of_one_owner, zone_cut, group_owner}
 use Rattle.denial_owners.specs.Conditions.{IsOneClass, IsZoneOrder}
 use Rattle.denial_owners.specs.Kept.{kept_groups}
 use Rattle.denial_owners.specs.Soa.{chain_ttl, soa_ttls, ttls_of_one}

@@ -12,10 +12,10 @@ ghost use Rattle.denial_nsec.specs.Chain.{nsec_chain, record_of};
 
 use crate::config::GenerateNsecConfig;
 use crate::records::nsecs_of;
+use denial_groups::walks::RecordsIter;
 use denial_links::nsec::Nsec;
 use denial_owners::error::SigningError;
 use denial_owners::owners::chain_owners;
-use denial_sorted::walks::RecordsIter;
 use names_traits::to_name::ToName;
 use names_wire::octets::Octets;
 use plain::record::Record;

@@ -1,9 +1,8 @@
 -- The records that are made are the chain of the zone.
-use Rattle.std.proofs.Common.{◌≡◌, ℕ, zero, suc, ◌<◌, ◌≤◌, Bool, true, false, ◌&&◌, ◌||◌, cond, List, [], ◌∷◌, ◌++◌, drop, length, map, Option, Some, None, refl, sym, ap, subst, ◌∙◌, ◌⊎◌, inl, inr, arith}
-use Rattle.std.proofs.lemmas.List.{append-nil}
+use Rattle.std.proofs.Common.{◌≡◌, ℕ, zero, suc, ◌<◌, Bool, true, false, ◌&&◌, ◌||◌, List, [], ◌∷◌, ◌++◌, drop, length, map, Option, Some, None, refl, sym, ap, subst, ◌∙◌, inl, inr, arith}
 use Rattle.std.specs.Str.{bytes_eq}
-use Rattle.std.specs.Prelude.{nat_eq, filter, not, ◌==◌, if◌then◌else◌}
-use Rattle.std.specs.List.{AllByRecursion, list_any, flat_map, Contains}
+use Rattle.std.specs.Prelude.{filter, not, ◌==◌, if◌then◌else◌}
+use Rattle.std.specs.List.{AllByRecursion, Contains}
 use Rattle.std.specs.List.Sorted.{IsStrictlySortedBy}
 use Rattle.std.specs.Option.{is_none, unwrap_or}
 use Rattle.std.specs.declared.cmp.Ordering.{Ordering}
@@ -11,7 +10,6 @@ use Rattle.std.specs.declared.cmp.Ordering.TheVariants.{Less, Equal, Greater}
 use Rattle.std.specs.Ordering.{nat_cmp, ordering_reverse}
 use Rattle.std.specs.Cmp.{IsTotalOrder, on_total}
 use Rattle.std.specs.Cmp.Lexicographic.{slice_cmp}
-use Rattle.std.specs.FinMap.{nat_cmp-IsAntisymmetric, slice_cmp-IsAntisymmetric}
 use Rattle.std.proofs.lemmas.Cmp.{nat_list_cmp_total, tied_itself}
 use Rattle.definitions.specs.Bitmap.{bitmap}
 use Rattle.definitions.specs.Laws.{IsNsec3Chain, NoneShare}
@@ -19,34 +17,34 @@ use Rattle.definitions.specs.Name.{Name, low, same, labels_eq, name_cmp, at_or_a
 use Rattle.definitions.specs.Zone.{Zone, apex_of, owners, owner_of, has, is_of, is_delegation, cut, cut_above, is_kept, is_live, kept_owners, kept}
 use Rattle.definitions.specs.ZoneChain.{at_apex, hash_cmp, hashed_names, hashes, links, head_or, behind, nsec3_names, nsec3_next, nsec3_types, of_keys, types_at}
 use Rattle.definitions.proofs.Members.{In, Rises, Within, ExactAmong, contained, in_contained, filter_in, in_filter, in_map, map_in, rising_same, sort_has, sort_keeps, sort_rises}
-use Rattle.definitions.proofs.NameLaws.{labels_decide, name_cmp_total}
+use Rattle.definitions.proofs.NameLaws.{labels_decide}
 use Rattle.definitions.proofs.OwnChains.{one_nsec3_record_speaks}
 use Rattle.definitions.proofs.ChainSpeaks.{all_from}
-use Rattle.definitions.proofs.ZoneNames.{and_parts, and_from, low-low, chain_kept, chain_lowered}
+use Rattle.definitions.proofs.ZoneNames.{and_parts, and_from, chain_kept, chain_lowered}
 use Rattle.plain.specs.ZoneData.{zone_canonical, zone_type}
 use Rattle.plain.specs.declared.record.Record.{Record}
 use Rattle.plain.specs.declared.zone_data.ZoneRecordData.{ZoneRecordData}
-use Rattle.denial_sorted.specs.Groups.{groups, is_at, of_one_owner, zone_cut, group_owner}
+use Rattle.denial_groups.specs.Groups.{groups, is_at, of_one_owner, zone_cut, group_owner}
 use Rattle.denial_hashes.specs.Hashing.{Answers, answered, hash_by, FitsName}
 use Rattle.denial_hashes.specs.declared.config.GenerateNsec3Config.{GenerateNsec3Config}
-use Rattle.denial_hashed.specs.Chained.{spot_of, chain_name, chain_names_of, some_fails, IsHashed, IsHashedChain}
+use Rattle.denial_hashed.specs.Chained.{spot_of, chain_name, chain_names_of, IsHashed, IsHashedChain}
 use Rattle.denial_hashed.specs.Walk.{Spot, spot_name, spots_of}
 use Rattle.denial_hashed.specs.declared.hashed.HashedName.{HashedName}
-use Rattle.denial_hashed.proofs.WalkNames.{Climbs, AreKeptOwners, names_are_chain, names_of}
+use Rattle.denial_hashed.proofs.WalkNames.{Climbs, AreKeptOwners, names_are_chain}
 use Rattle.denial_hashed.proofs.Spots.{IsSpot, spots_are, spots_named}
-use Rattle.denial_hashed.proofs.Assembled.{all_in, map_map}
+use Rattle.denial_hashed.proofs.Assembled.{all_in}
 use Rattle.denial_owners.specs.Conditions.{IsOneClass, IsZoneOrder}
 use Rattle.denial_owners.specs.Kept.{kept_groups}
 use Rattle.denial_owners.specs.Soa.{soa_ttls, ttls_of_one}
-use Rattle.denial_owners.specs.Types.{has_type, own_types}
+use Rattle.denial_owners.specs.Types.{has_type}
 use Rattle.denial_owners.specs.declared.soa.SoaTtls.{SoaTtls}
 use Rattle.denial_owners.proofs.AtOwner.{delegates_at, group_owns, has_at, owner_of_group, types_of_group}
 use Rattle.denial_owners.proofs.ByOwner.{ByOwner, by_owner, whole_of}
 use Rattle.denial_owners.proofs.Walked.{rises_kept}
-use Rattle.denial_nsec3.specs.Bits.{apex_types, first_owner, group_types, is_signed, signed_types, spot_types, types_at_skipped}
-use Rattle.denial_nsec3.specs.Chain.{leaves_out, making, nsec3_chain, zone_among}
-use Rattle.denial_nsec3.specs.Linked.{linked, links_around, nsec3_record}
-use Rattle.denial_nsec3.proofs.Linking.{behind_each, firsts, links_map, made_each, octets_rise}
+use Rattle.denial_nsec3.specs.Bits.{apex_types, group_types, signed_types, spot_types, types_at_skipped}
+use Rattle.denial_nsec3.specs.Chain.{making, zone_among}
+use Rattle.denial_nsec3.specs.Linked.{linked, nsec3_record}
+use Rattle.denial_nsec3.proofs.Linking.{octets_rise}
 
 not_true : (b : Bool) → (b ≡ true → ⊥) → b ≡ false
 not_true true f = absurd (f refl)

@@ -3,10 +3,10 @@ use Rattle.std.proofs.Common.{◌≡◌, Bool, true, false, List, [], ◌∷◌,
 use Rattle.std.specs.List.{AllByRecursion, Contains}
 use Rattle.std.specs.List.Sorted.{IsStrictlySortedBy}
 use Rattle.std.specs.Str.{bytes_eq}
-use Rattle.definitions.specs.Laws.{IsNsec3Chain, NoneShare}
+use Rattle.definitions.specs.Laws.{IsNsec3Chain}
 use Rattle.definitions.specs.Name.{Name, name_cmp}
 use Rattle.definitions.specs.Zone.{Zone, apex_of, owners}
-use Rattle.definitions.specs.ZoneChain.{behind, head_or, links, hashed_names, nsec3_names, nsec3_next, nsec3_types}
+use Rattle.definitions.specs.ZoneChain.{behind, head_or, links, nsec3_names, nsec3_next, nsec3_types}
 use Rattle.definitions.proofs.Members.{In, in_map, map_in, contained, in_contained}
 use Rattle.definitions.proofs.ChainSpeaks.{all_from}
 use Rattle.plain.specs.ZoneData.{zone_canonical, zone_type}
@@ -17,7 +17,7 @@ use Rattle.denial_hashes.specs.Hashing.{Answers, hash_by, FitsName}
 use Rattle.denial_hashes.specs.declared.config.GenerateNsec3Config.{GenerateNsec3Config}
 use Rattle.denial_hashed.specs.Chained.{chain_name, chain_names_of, some_fails, IsHashed, IsHashedChain}
 use Rattle.denial_hashed.specs.Walk.{spots_of}
-use Rattle.denial_sorted.specs.Groups.{group_owner}
+use Rattle.denial_groups.specs.Groups.{group_owner}
 use Rattle.denial_hashed.specs.declared.hashed.HashedName.{HashedName}
 use Rattle.denial_hashed.proofs.Assembled.{all_in, map_map}
 use Rattle.denial_owners.specs.Conditions.{IsOneClass, IsZoneOrder}

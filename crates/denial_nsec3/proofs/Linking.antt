@@ -1,22 +1,27 @@
 -- Links of names and of their hashes.
-use Rattle.std.proofs.Common.{◌≡◌, ℕ, suc, ◌+◌, ◌<◌, Bool, true, false, List, [], ◌∷◌, ◌++◌, length, drop, get_or, map, Some, refl, sym, ap, subst, ◌∙◌, inl, inr, append_assoc, add-one, drop-cons}
+use Rattle.std.proofs.Common.{◌≡◌, ℕ, Bool, true, false, List, [], ◌∷◌, ◌++◌, map, Some, refl, sym, ap, subst, ◌∙◌, inl, inr, append_assoc}
 use Rattle.std.specs.Prelude.{if◌then◌else◌}
 use Rattle.std.specs.Str.{bytes_eq}
-use Rattle.std.specs.List.{AllByRecursion, Contains}
+use Rattle.std.specs.List.{AllByRecursion}
 use Rattle.std.specs.declared.cmp.Ordering.{Ordering}
 use Rattle.std.specs.declared.cmp.Ordering.TheVariants.{Less, Equal, Greater}
-use Rattle.std.specs.Ordering.{is_lt, nat_cmp, ordering_reverse}
+use Rattle.std.specs.Ordering.{is_lt, nat_cmp}
 use Rattle.std.specs.Cmp.Lexicographic.{slice_cmp, bytes_decides}
 use Rattle.std.proofs.lemmas.Cmp.{nat_list_cmp_total, tied_itself}
 use Rattle.definitions.specs.Covering.{octets_before}
 use Rattle.definitions.specs.Signing.{ascending}
-use Rattle.definitions.specs.ZoneChain.{behind, head_or, links}
+use Rattle.definitions.specs.ZoneChain.{behind, links}
 use Rattle.definitions.specs.Name.{Name}
 use Rattle.definitions.proofs.Members.{In, Rises, contained, in_contained, in_map, in_append_right}
-use Rattle.denial_hashes.specs.Hashing.{FitsName}
 use Rattle.denial_owners.specs.declared.error.SigningError.{SigningError}
 use Rattle.denial_owners.specs.declared.error.SigningError.TheVariants.{NoSingleSoa, MultipleTtlValues, HashFailed, HashTooLong, HashCollision, Memory}
-use Rattle.denial_nsec3.specs.Linked.{links_around, IsLinkFault}
+use Rattle.denial_hashed.specs.Chained.{spot_of}
+use Rattle.denial_hashed.specs.declared.hashed.HashedName.{HashedName}
+use Rattle.definitions.specs.Bitmap.{bitmap}
+use Rattle.denial_nsec3.specs.Bits.{spot_types}
+use Rattle.denial_nsec3.specs.Linked.{linked, IsLinkFault, Making}
+use Rattle.denial_nsec3.specs.Made.{ended, IsBegun}
+use Rattle.denial_nsec3.specs.declared.links.Begun.{Begun}
 use Rattle.denial_nsec3.specs.Owner.{IsOwnerFault}
 
 abbrev by_octets : List ℕ → List ℕ → Ordering
@@ -117,15 +122,8 @@ module _ {A : Type 0} (P : A → Type 0) where
   pub fitting_more : (all left : List A) (x : A) → Fitting P all (x ∷ left) → P x → Fitting P all left
   fitting_more all left x f p = record { done = f.done ++ x ∷ []; parts = f.parts ∙ sym (append_assoc f.done (x ∷ []) left); are = all_append f.done x f.are p }
 
-  pub fitting_all : (all left : List A) (x : A) → left ≡ [] → Fitting P all (x ∷ left) → P x → AllByRecursion P all
-  fitting_all all left x e f p = subst (AllByRecursion P) (sym (f.parts ∙ ap (λ l. f.done ++ x ∷ l) e)) (all_append f.done x f.are p)
-
   pub fitting_in : (all left : List A) (x : A) → Fitting P all left → In x left → In x all
   fitting_in all left x f i = subst (In x) (sym f.parts) (in_append_right f.done left x i)
-
--- the first of what is left
-pub next_left : {A : Type 0} (xs : List A) (k : ℕ) (x : A) → k < length xs → x ≡ get_or xs k x → drop k xs ≡ x ∷ drop (k + 1) xs
-next_left xs k x h e = rw (add-one) (drop-cons xs k x h ∙ ap (λ y. y ∷ drop (suc k) xs) (sym e))
 
 -- a link more
 pub link_more : {A B : Type 0} (made : A × A → B) (first owner next : A) (left rest : List A) (records new all : List B) → left ≡ next ∷ rest → new ≡ records ++ made (owner, next) ∷ []
@@ -135,35 +133,37 @@ link_more made first owner next left rest records new all l n h =
     ∙ append_assoc records (made (owner, next) ∷ []) (map made (links first (next ∷ rest)))
     ∙ ap (λ r. records ++ map made (links first (owner ∷ r))) (sym l) ∙ h
 
--- the last link
-pub link_last : {A B : Type 0} (made : A × A → B) (first owner : A) (left : List A) (records new all : List B) → left ≡ [] → new ≡ records ++ made (owner, first) ∷ []
-    → records ++ map made (links first (owner ∷ left)) ≡ all → new ≡ all
-link_last made first owner left records new all l n h = n ∙ ap (λ r. records ++ map made (links first (owner ∷ r))) (sym l) ∙ h
+-- a record that was begun ends as the link of its name
+pub ended_linked : {N D : Type 0} (name : N → Name) (rtype : D → ℕ) (apex : Name) (m : Making) (h next : HashedName N D) (b : Begun N D) → IsBegun apex h b
+    → ended name rtype apex m b next.hash.items ≡ linked name rtype apex m (h, next)
+ended_linked name rtype apex m h next b is = λ i. record {
+  owner = is.owner i;
+  class = 1;
+  ttl = m.ttl;
+  content = record { params = m.params; next_owner = next.hash.items; types = bitmap (spot_types name rtype apex m.dnskey (spot_of (is.name i))) };
+}
 
 -- why a hash is no owner is why its link is refused
-pub owner_links : (apex : Name) (hash next : List ℕ) (e : SigningError) → IsOwnerFault apex (Some hash) e → IsLinkFault apex (hash ∷ next ∷ []) e
-owner_links apex hash next HashTooLong f = (hash, (contained (hash ∷ next ∷ []) hash (inl refl), f))
-owner_links apex hash next Memory f = tt
-owner_links apex hash next HashFailed f = cc
-owner_links apex hash next NoSingleSoa f = absurd f
-owner_links apex hash next MultipleTtlValues f = absurd f
-owner_links apex hash next HashCollision f = absurd f
+pub owner_links : (apex : Name) (hash : List ℕ) (e : SigningError) → IsOwnerFault apex (Some hash) e → IsLinkFault apex (hash ∷ []) e
+owner_links apex hash HashTooLong f = (hash, (contained (hash ∷ []) hash (inl refl), f))
+owner_links apex hash Memory f = tt
+owner_links apex hash HashFailed f = cc
+owner_links apex hash NoSingleSoa f = absurd f
+owner_links apex hash MultipleTtlValues f = absurd f
+owner_links apex hash HashCollision f = absurd f
 
 -- what fits no name is one of more hashes
-pub wider_fault : {A : Type 0} (hash : A → List ℕ) (apex : Name) (all : List A) (a b : A) (e : SigningError) → In a all → In b all → IsLinkFault apex (hash a ∷ hash b ∷ []) e → IsLinkFault apex (map hash all) e
-wider_fault hash apex all a b HashTooLong i j f =
-    (f.0, (contained (map hash all) f.0 (go (in_contained (hash a ∷ hash b ∷ []) f.0 f.1.0.0 f.1.0.1 f.1.0.2)), f.1.1))
+pub wider_fault : {A : Type 0} (hash : A → List ℕ) (apex : Name) (all : List A) (a : A) (e : SigningError) → In a all → IsLinkFault apex (hash a ∷ []) e → IsLinkFault apex (map hash all) e
+wider_fault hash apex all a HashTooLong i f =
+    (f.0, (contained (map hash all) f.0 (go (in_contained (hash a ∷ []) f.0 f.1.0.0 f.1.0.1 f.1.0.2)), f.1.1))
   where
-    go : In f.0 (hash a ∷ hash b ∷ []) → In f.0 (map hash all)
+    go : In f.0 (hash a ∷ []) → In f.0 (map hash all)
     go k = elim k [
       | inl e ↦ let Q : List ℕ → Type 0 = λ h. In h (map hash all) in subst Q (sym e) (in_map hash all a i)
-      | inr l ↦ elim l [
-        | inl e ↦ let Q : List ℕ → Type 0 = λ h. In h (map hash all) in subst Q (sym e) (in_map hash all b j)
-        | inr m ↦ absurd m
-      ]
+      | inr m ↦ absurd m
     ]
-wider_fault hash apex all a b Memory i j f = tt
-wider_fault hash apex all a b NoSingleSoa i j f = absurd f
-wider_fault hash apex all a b MultipleTtlValues i j f = absurd f
-wider_fault hash apex all a b HashFailed i j f = absurd f
-wider_fault hash apex all a b HashCollision i j f = absurd f
+wider_fault hash apex all a Memory i f = tt
+wider_fault hash apex all a NoSingleSoa i f = absurd f
+wider_fault hash apex all a MultipleTtlValues i f = absurd f
+wider_fault hash apex all a HashFailed i f = absurd f
+wider_fault hash apex all a HashCollision i f = absurd f

@@ -1,5 +1,5 @@
 -- How many octets the parts of an NSEC3 record have at most.
-use Rattle.std.proofs.Common.{◌≡◌, ℕ, suc, ◌+◌, ◌*◌, ◌<◌, ◌≤◌, Bool, true, false, List, [], ◌∷◌, ◌++◌, length, refl, ap, arith, length-append}
+use Rattle.std.proofs.Common.{ℕ, ◌*◌, ◌≤◌, Bool, true, false, List, [], ◌∷◌, ◌++◌, length, arith, length-append}
 use Rattle.std.specs.Prelude.{◌==◌, if◌then◌else◌}
 use Rattle.std.specs.List.{flat_map}
 use Rattle.definitions.specs.Base32hex.{base32hex}
@@ -35,8 +35,8 @@ digits_long (a ∷ b ∷ c ∷ d ∷ []) = omega arith
 digits_long (a ∷ b ∷ c ∷ d ∷ e ∷ rest) = let r : length rest ≤ length (base32hex rest) = digits_long rest in omega arith
 
 -- a hash that fits a name is short
-pub long_fits_none : (apex : Name) (h : List ℕ) → (length h ≤ 255 → ⊥) → FitsName apex h → ⊥
-long_fits_none apex h f n = f (omega (arith, digits_long h, n.labels.0.short))
+pub fitting_short : (apex : Name) (h : List ℕ) → FitsName apex h → length h ≤ 255
+fitting_short apex h n = omega (arith, digits_long h, n.labels.0.short)
 
 pub data_short : (salt next types : List ℕ) → length salt ≤ 255 → length next ≤ 255 → length types ≤ 8704 → length (nsec3_octets (nsec3_with 0 0 0 salt next types)) ≤ 65535
 data_short salt next types s n t = omega (arith, length-append salt (length next ∷ next ++ types), length-append next types)

@@ -3,7 +3,7 @@ use Rattle.std.specs.Prelude.{ℕ, zero, suc, Bool, not, ◌||◌, List, [], ◌
 use Rattle.definitions.specs.Name.{Name, same}
 use Rattle.definitions.specs.ZoneChain.{of_keys}
 use Rattle.plain.specs.declared.record.Record.{Record}
-use Rattle.denial_sorted.specs.Groups.{zone_cut}
+use Rattle.denial_groups.specs.Groups.{zone_cut}
 use Rattle.denial_owners.specs.Types.{has_type, own_types}
 use Rattle.denial_hashed.specs.Walk.{Spot}
 

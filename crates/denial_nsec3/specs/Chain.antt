@@ -10,7 +10,7 @@ use Rattle.denial_links.specs.Hashed.{Nsec3Data, Nsec3paramData, nsec3param_with
 use Rattle.denial_hashes.specs.Hashing.{Answers, hash_by}
 use Rattle.denial_hashes.specs.Configured.{parameters, parameter_ttl}
 use Rattle.denial_hashes.specs.declared.config.GenerateNsec3Config.{GenerateNsec3Config}
-use Rattle.denial_owners.specs.Soa.{soa_ttls, chain_ttl}
+use Rattle.denial_owners.specs.Soa.{chain_ttl}
 use Rattle.denial_owners.specs.Zones.{zone_of}
 use Rattle.denial_owners.specs.declared.soa.SoaTtls.{SoaTtls}
 use Rattle.denial_nsec3.specs.Linked.{Making, nsec3_record}

@@ -1,5 +1,5 @@
 -- Records made of names with their hashes, each with the next hash.
-use Rattle.std.specs.Prelude.{◌≡◌, ℕ, Bool, List, [], ◌∷◌, map}
+use Rattle.std.specs.Prelude.{ℕ, Bool, List, [], ◌∷◌}
 use Rattle.std.specs.List.{Contains}
 use Rattle.definitions.specs.Bitmap.{bitmap}
 use Rattle.definitions.specs.Name.{Name}

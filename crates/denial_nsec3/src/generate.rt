@@ -9,6 +9,7 @@ ghost use Rattle.denial_owners.specs.Conditions.{IsOneClass, IsZoneOrder};
 ghost use Rattle.denial_owners.specs.declared.soa.SoaTtls.{SoaTtls as Ttls};
 
 use crate::links::{Settings, copied_salt, nsec3s_of};
+use denial_groups::walks::RecordsIter;
 use denial_hashed::hashed::{HashedChainError, hashed_chain};
 use denial_hashes::config::GenerateNsec3Config;
 use denial_hashes::hasher::Nsec3Hasher;
@@ -17,7 +18,6 @@ use denial_links::nsec3param::Nsec3param;
 use denial_owners::error::SigningError;
 use denial_owners::owners::chain_owners;
 use denial_owners::soa::SoaTtls;
-use denial_sorted::walks::RecordsIter;
 use names_flat::name::Name;
 use names_traits::to_name::ToName;
 use names_wire::octets::Octets;
@@ -67,7 +67,7 @@ pub fn generate_nsec3s<'a, Octs: Octets, N: ToName, S: Octets, H: Nsec3Hasher>(
         dnskey: config.assume_dnskeys_will_be_added,
         ttl: chain.soa.chain_ttl(),
     };
-    let nsec3s = match nsec3s_of(alloc, apex, &settings, &hashed) {
+    let nsec3s = match nsec3s_of(alloc, apex, &settings, hashed) {
         Ok(nsec3s) => nsec3s,
         Err(error) => return Err(error),
     };

@@ -5,7 +5,7 @@ ghost use Rattle.std.specs.List.{AllByRecursion};
 ghost use Rattle.denial_hashes.specs.Hashing.{FitsName};
 ghost use Rattle.denial_links.specs.Hashed.{nsec3_with};
 ghost use Rattle.denial_nsec3.specs.Linked.{IsLinkFault, linked, links_around};
-ghost use Rattle.denial_nsec3.specs.Made.{making_of};
+ghost use Rattle.denial_nsec3.specs.Made.{IsBegun, ended, making_of};
 
 use crate::owner_name::owner_of_hash;
 use crate::types::types_of;
@@ -13,6 +13,7 @@ use denial_bitmap::bitmap::RtypeBitmap;
 use denial_fields::hash::OwnerHash;
 use denial_fields::salt::Nsec3Salt;
 use denial_hashed::hashed::HashedName;
+use denial_hashed::names::ChainName;
 use denial_links::nsec3::Nsec3;
 use denial_links::nsec3param::Nsec3param;
 use denial_owners::error::SigningError;
@@ -34,85 +35,91 @@ pub(crate) struct Settings<'c, S: Octets> {
     pub(crate) ttl: Ttl,
 }
 
+/// What is known of a record before the next hash is: its owner, and the name whose types it has.
+#[derive(Drop)]
+struct Begun<'g, 'a, N: ToName, D> {
+    owner: Name<Vec<u8>>,
+    name: ChainName<'g, 'a, N, D>,
+}
+
 /// A record for each name, which leads to the next one, the last to the first.
 pub(crate) fn nsec3s_of<'g, 'a, 'c, N: ToName, D: RecordData, S: Octets>(
     alloc: Global,
     apex: &N,
     settings: &Settings<'c, S>,
-    hashed: &[HashedName<'g, 'a, N, D>],
+    hashed: Vec<HashedName<'g, 'a, N, D>>,
 ) -> Result<Vec<Record<Name<Vec<u8>>, Nsec3<Vec<u8>>>>, SigningError>
     ensures ok { let made = linked N.name D.type_of (N.name apex.now) (making_of settings.now) in
-        IfOk result (λ v. v.items ≡ map made (links_around hashed.now)) }
+        IfOk result (λ v. v.items ≡ map made (links_around hashed.entry.items)) }
     ensures fit { let fits = FitsName (N.name apex.now) in
-        OnOk result (AllByRecursion (λ h. fits h.hash.items) hashed.now) }
-    ensures refused { let hashes = map (λ h. h.hash.items) hashed.now in
+        OnOk result (AllByRecursion (λ h. fits h.hash.items) hashed.entry.items) }
+    ensures refused { let hashes = map (λ h. h.hash.items) hashed.entry.items in
         IfErr result (IsLinkFault (N.name apex.now) hashes) }
 {
     let mut records = Vec::with_capacity(alloc, hashed.len())?;
-    let Some((first, behind)) = hashed.split_first() else {
+    let mut rest = hashed.into_iter();
+    let Some(first) = rest.next() else {
         return Ok(records);
     };
-    let mut owner = first;
-    for next in behind {
-        if let Err(error) = push_link(alloc, &mut records, apex, settings, owner, next) {
-            return Err(error);
-        }
-        owner = next;
+    let mut last = match begin(alloc, apex, &first) {
+        Ok(begun) => begun,
+        Err(error) => return Err(error),
+    };
+    while let Some(next) = rest.next() {
+        let behind = match begin(alloc, apex, &next) {
+            Ok(begun) => begun,
+            Err(error) => return Err(error),
+        };
+        push_link(alloc, &mut records, apex, settings, last, next.hash)?;
+        last = behind;
     }
-    match push_link(alloc, &mut records, apex, settings, owner, first) {
-        Ok(()) => Ok(records),
+    push_link(alloc, &mut records, apex, settings, last, first.hash)?;
+    Ok(records)
+}
+
+/// What is known of the record of a name.
+fn begin<'g, 'a, N: ToName, D: RecordData>(
+    alloc: Global,
+    apex: &N,
+    hashed: &HashedName<'g, 'a, N, D>,
+) -> Result<Begun<'g, 'a, N, D>, SigningError>
+    ensures ok { IfOk result (λ b. IsBegun (N.name apex.now) hashed.now b) }
+    ensures fits { OnOk result (FitsName (N.name apex.now) hashed.now.hash.items) }
+    ensures refused { let hash = hashed.now.hash.items in
+        IfErr result (IsLinkFault (N.name apex.now) (hash ∷ [])) }
+{
+    match owner_of_hash(alloc, &hashed.hash, apex) {
+        Ok(owner) => Ok(Begun {
+            owner,
+            name: hashed.name,
+        }),
         Err(error) => Err(error),
     }
 }
 
-/// Adds the record of a name that leads to another.
+/// Adds a record that was begun and leads to a hash.
 fn push_link<'g, 'a, 'c, N: ToName, D: RecordData, S: Octets>(
     alloc: Global,
     records: &mut Vec<Record<Name<Vec<u8>>, Nsec3<Vec<u8>>>>,
     apex: &N,
     settings: &Settings<'c, S>,
-    owner: &HashedName<'g, 'a, N, D>,
-    next: &HashedName<'g, 'a, N, D>,
+    begun: Begun<'g, 'a, N, D>,
+    next: Vec<u8>,
 ) -> Result<(), SigningError>
-    ensures ok { let made = linked N.name D.type_of (N.name apex.now) (making_of settings.now) in
-        OnOk result (records.new.items ≡ records.old.items ++ made (owner.now, next.now) ∷ []) }
-    ensures fits { OnOk result (FitsName (N.name apex.now) owner.now.hash.items) }
-    ensures refused { let hashes = owner.now.hash.items ∷ next.now.hash.items ∷ [] in
-        IfErr result (IsLinkFault (N.name apex.now) hashes) }
+    requires { length next.items ≤ 255 }
+    ensures ok { let made = ended N.name D.type_of (N.name apex.now) (making_of settings.now) in
+        OnOk result (records.new.items ≡ records.old.items ++ made begun.entry next.items ∷ []) }
+    ensures refused { IfErr result (λ e. e ≡ SigningError.Memory) }
 {
-    let record = link(alloc, apex, settings, owner, next)?;
+    let types = types_of(alloc, apex, settings.dnskey, &begun.name)?;
+    let salt = copied_salt(alloc, settings.params.salt())?;
+    let content = data_of(settings.params, salt, hash_of(next), types);
+    let Begun { owner, name: _ } = begun;
+    let record = Record::new(owner, Class::IN, settings.ttl, content);
     if let Err(error) = records.push(record) {
         return Err(AllocError::from(error).into());
     }
     Ok(())
-}
-
-/// The record of a name that leads to another.
-fn link<'g, 'a, 'c, N: ToName, D: RecordData, S: Octets>(
-    alloc: Global,
-    apex: &N,
-    settings: &Settings<'c, S>,
-    owner: &HashedName<'g, 'a, N, D>,
-    next: &HashedName<'g, 'a, N, D>,
-) -> Result<Record<Name<Vec<u8>>, Nsec3<Vec<u8>>>, SigningError>
-    ensures ok { let made = linked N.name D.type_of (N.name apex.now) (making_of settings.now) in
-        IfOk result (λ r. r ≡ made (owner.now, next.now)) }
-    ensures fits { OnOk result (FitsName (N.name apex.now) owner.now.hash.items) }
-    ensures refused { let hashes = owner.now.hash.items ∷ next.now.hash.items ∷ [] in
-        IfErr result (IsLinkFault (N.name apex.now) hashes) }
-{
-    let name = match owner_of_hash(alloc, &owner.hash, apex) {
-        Ok(name) => name,
-        Err(error) => return Err(error),
-    };
-    let types = types_of(alloc, apex, settings.dnskey, &owner.name)?;
-    let salt = copied_salt(alloc, settings.params.salt())?;
-    if next.hash.len() > 255 {
-        return Err(SigningError::HashTooLong);
-    }
-    let hash = copied_hash(alloc, &next.hash)?;
-    let content = data_of(settings.params, salt, hash, types);
-    Ok(Record::new(name, Class::IN, settings.ttl, content))
 }
 
 /// The data of a record: at most 8,704 octets are types.
@@ -154,14 +161,13 @@ pub(crate) fn copied_salt<S: Octets>(
     }
 }
 
-/// A hash with octets of its own.
-fn copied_hash(alloc: Global, hash: &[u8]) -> Result<OwnerHash<Vec<u8>>, AllocError>
-    requires { length hash.now ≤ 255 }
-    ensures { IfOk result (λ h. h ≡ hash.now) }
+/// The hash of octets.
+fn hash_of(octets: Vec<u8>) -> OwnerHash<Vec<u8>>
+    requires { length octets.items ≤ 255 }
+    ensures { result ≡ octets.items }
 {
-    let octets = Vec::from_slice(alloc, hash)?;
     match OwnerHash::from_octets(octets) {
-        Ok(hash) => Ok(hash),
+        Ok(hash) => hash,
         Err(_) => unreachable!(),
     }
 }

@@ -2,39 +2,26 @@
 
 ghost use Rattle.std.specs.Prelude.{◌≡◌, ◌≤◌, [], length, IfOk, OnOk};
 ghost use Rattle.definitions.specs.Bitmap.{bitmap};
-ghost use Rattle.denial_owners.specs.Types.{has_type};
 ghost use Rattle.denial_hashed.specs.Chained.{spot_of};
 ghost use Rattle.denial_nsec3.specs.Bits.{apex_types, group_types, is_signed, spot_types};
 
 use denial_bitmap::bitmap::RtypeBitmap;
 use denial_bitmap::builder::RtypeBitmapBuilder;
+use denial_groups::groups::OwnerRrs;
 use denial_hashed::names::ChainName;
+use denial_owners::kept::{has_type, is_cut};
 use denial_owners::types::add_types;
-use denial_sorted::groups::OwnerRrs;
 use names_data::data::RecordData;
 use names_data::rtype::Rtype;
 use names_traits::to_name::ToName;
 use names_wire::builder::ShortBuf;
 use std::alloc::Global;
 
-/// Whether one of the records is a DS record.
-fn has_ds<'a, N: ToName, D: RecordData>(owner: &OwnerRrs<'a, N, D>) -> bool
-    ensures { result ≡ has_type D.type_of 43 owner.now }
-{
-    let mut records = owner.records();
-    while let Some(rr) = records.next() {
-        if rr.rtype() == Rtype::DS {
-            return true;
-        }
-    }
-    false
-}
-
 /// Whether the zone signs records of an owner: at a delegation DS records alone (RFC 4035, 2.2).
 fn is_signed<'a, N: ToName, D: RecordData>(apex: &N, owner: &OwnerRrs<'a, N, D>) -> bool
     ensures { result ≡ is_signed N.name D.type_of (N.name apex.now) owner.now }
 {
-    !owner.is_zone_cut(apex) || has_ds(owner)
+    !is_cut(apex, owner) || has_type(owner, Rtype::DS)
 }
 
 /// Adds what signing adds at the apex.

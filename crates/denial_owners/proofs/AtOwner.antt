@@ -12,7 +12,7 @@ use Rattle.definitions.proofs.NameLaws.{name_cmp_total, labels_decide}
 use Rattle.definitions.proofs.ChainSpeaks.{filter_map}
 use Rattle.definitions.proofs.ZoneNames.{low-low, above_lowered, lowered_above}
 use Rattle.plain.specs.declared.record.Record.{Record}
-use Rattle.denial_sorted.specs.Groups.{in_zone, zone_cut, group_owner}
+use Rattle.denial_groups.specs.Groups.{in_zone, zone_cut, group_owner}
 use Rattle.denial_owners.specs.Zones.{rr_of, zone_of}
 use Rattle.denial_owners.specs.Types.{has_type}
 use Rattle.denial_owners.proofs.ByOwner.{ByOwner}

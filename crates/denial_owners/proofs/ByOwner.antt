@@ -17,10 +17,10 @@ use Rattle.definitions.proofs.NameLaws.{name_cmp_total, labels_decide, equal_is_
 use Rattle.definitions.proofs.ZoneNames.{low-low, and_parts, and_from}
 use Rattle.plain.specs.Records.{record_canonical_cmp}
 use Rattle.plain.specs.declared.record.Record.{Record}
-use Rattle.denial_sorted.specs.GroupLaws.{one_owner_equivalence}
-use Rattle.denial_sorted.specs.Groups.{IsGroup, groups, of_one_owner, group_owner}
-use Rattle.denial_sorted.specs.Partitions.{AreApart, AreUnlike}
-use Rattle.denial_sorted.proofs.Grouped.{all_groups}
+use Rattle.denial_groups.specs.GroupLaws.{one_owner_equivalence}
+use Rattle.denial_groups.specs.Groups.{IsGroup, groups, of_one_owner, group_owner}
+use Rattle.denial_groups.specs.Partitions.{AreApart, AreUnlike}
+use Rattle.denial_groups.proofs.Grouped.{all_groups}
 use Rattle.denial_sorted.proofs.Parted.{joined, owners_parted}
 use Rattle.denial_owners.specs.Conditions.{IsCanonicalOrder, IsOneClass}
 

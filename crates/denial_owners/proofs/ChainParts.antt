@@ -12,7 +12,7 @@ use Rattle.denial_owners.specs.Conditions.{IsOneClass, IsZoneOrder}
 use Rattle.denial_owners.specs.Kept.{kept_groups}
 use Rattle.denial_owners.specs.Soa.{soa_ttls, ttls_of_one}
 use Rattle.denial_owners.specs.Ttls.{has_unequal_ttls, unlike_ttls}
-use Rattle.denial_sorted.specs.Groups.{neighbours}
+use Rattle.denial_groups.specs.Groups.{neighbours}
 use Rattle.denial_owners.proofs.SoaFound.{apex_records_kept}
 use Rattle.denial_owners.proofs.TtlPairs.{unequal_ttls_are}
 

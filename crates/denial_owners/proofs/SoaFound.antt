@@ -11,7 +11,7 @@ use Rattle.definitions.proofs.NameLaws.{labels_decide}
 use Rattle.definitions.proofs.ZoneNames.{and_parts, apex_kept}
 use Rattle.plain.specs.declared.record.Record.{Record}
 use Rattle.plain.specs.declared.zone_data.ZoneRecordData.{ZoneRecordData}
-use Rattle.denial_sorted.specs.Groups.{groups, is_at, of_one_owner, group_owner}
+use Rattle.denial_groups.specs.Groups.{groups, is_at, of_one_owner, group_owner}
 use Rattle.denial_owners.specs.Conditions.{IsCanonicalOrder, IsOneClass}
 use Rattle.denial_owners.specs.Kept.{kept_groups}
 use Rattle.denial_owners.specs.Soa.{and_ttls, seen_from, ttls_of, ttls_of_one}

@@ -8,7 +8,7 @@ use Rattle.std.proofs.lemmas.List.{append-nil}
 use Rattle.definitions.specs.Name.{Name, low}
 use Rattle.definitions.specs.Zone.{Zone, has, is_delegation, is_live, is_kept}
 use Rattle.plain.specs.declared.record.Record.{Record}
-use Rattle.denial_sorted.specs.Groups.{groups, in_zone, of_one_owner, zone_cut, group_owner}
+use Rattle.denial_groups.specs.Groups.{groups, in_zone, of_one_owner, zone_cut, group_owner}
 use Rattle.denial_owners.specs.Conditions.{IsCanonicalOrder, IsOneClass}
 use Rattle.denial_owners.specs.Kept.{below_cut, kept_groups}
 use Rattle.denial_owners.specs.Types.{has_type}

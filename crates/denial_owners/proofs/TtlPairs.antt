@@ -18,7 +18,7 @@ use Rattle.definitions.proofs.NameLaws.{labels_decide, same_is_equal}
 use Rattle.definitions.proofs.ZoneNames.{and_parts}
 use Rattle.plain.specs.Records.{record_canonical_cmp}
 use Rattle.plain.specs.declared.record.Record.{Record}
-use Rattle.denial_sorted.specs.Groups.{groups, of_one_owner, group_owner, neighbours}
+use Rattle.denial_groups.specs.Groups.{groups, of_one_owner, group_owner, neighbours}
 use Rattle.denial_owners.specs.Conditions.{IsCanonicalOrder, IsOneClass}
 use Rattle.denial_owners.specs.Kept.{kept_groups}
 use Rattle.denial_owners.specs.Ttls.{has_unequal_ttls, unlike_ttls}

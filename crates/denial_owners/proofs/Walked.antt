@@ -13,7 +13,7 @@ use Rattle.definitions.proofs.Members.{append_in, In, in_map, map_in, in_append_
 use Rattle.definitions.proofs.NameLaws.{name_cmp_total, labels_decide, interval}
 use Rattle.definitions.proofs.ZoneNames.{above_itself, and_parts, and_from}
 use Rattle.plain.specs.declared.record.Record.{Record}
-use Rattle.denial_sorted.specs.Groups.{in_zone, zone_cut, group_owner}
+use Rattle.denial_groups.specs.Groups.{in_zone, zone_cut, group_owner}
 use Rattle.denial_owners.specs.Zones.{zone_of}
 use Rattle.denial_owners.specs.Kept.{below_cut}
 use Rattle.denial_owners.specs.Types.{has_type}

@@ -3,7 +3,7 @@ use Rattle.std.specs.Prelude.{ℕ, Bool, false, List, filter, Option, Some, None
 use Rattle.std.specs.Borrow.{Bor}
 use Rattle.definitions.specs.Name.{Name}
 use Rattle.definitions.specs.Zone.{is_kept}
-use Rattle.denial_sorted.specs.Groups.{group_owner, groups, in_zone, of_one_owner}
+use Rattle.denial_groups.specs.Groups.{group_owner, groups, in_zone, of_one_owner}
 use Rattle.denial_owners.specs.Zones.{zone_of}
 use Rattle.plain.specs.declared.record.Record.{Record}
 

@@ -2,7 +2,7 @@
 use Rattle.std.specs.Prelude.{ℕ, List, [], ◌∷◌, filter, min, Option, Some, None}
 use Rattle.std.specs.Option.{option_map}
 use Rattle.definitions.specs.Name.{Name}
-use Rattle.denial_sorted.specs.Groups.{is_at}
+use Rattle.denial_groups.specs.Groups.{is_at}
 use Rattle.plain.specs.ZoneData.{zone_type}
 use Rattle.plain.specs.declared.record.Record.{Record}
 use Rattle.plain.specs.declared.zone_data.ZoneRecordData.{ZoneRecordData}

@@ -2,7 +2,7 @@
 use Rattle.std.specs.Prelude.{ℕ, Bool, false, nat_eq, List, [], ◌∷◌, map, Option, Some, None, if◌then◌else◌}
 use Rattle.std.specs.List.{list_any}
 use Rattle.definitions.specs.Name.{Name}
-use Rattle.denial_sorted.specs.Groups.{zone_cut}
+use Rattle.denial_groups.specs.Groups.{zone_cut}
 use Rattle.plain.specs.declared.record.Record.{Record}
 
 -- records of a type are among some

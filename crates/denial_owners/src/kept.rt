@@ -1,13 +1,13 @@
 //! The owners that have records of a chain.
 
 ghost use Rattle.std.specs.Prelude.{◌≡◌, ◌&&◌, not, IfOk};
-ghost use Rattle.denial_sorted.specs.Groups.{in_zone, zone_cut};
+ghost use Rattle.denial_groups.specs.Groups.{in_zone, zone_cut};
 ghost use Rattle.denial_owners.specs.Conditions.{IsCanonicalOrder, IsOneClass};
 ghost use Rattle.denial_owners.specs.Kept.{below_cut, kept_groups};
 ghost use Rattle.denial_owners.specs.Types.{has_type};
 
-use denial_sorted::groups::OwnerRrs;
-use denial_sorted::walks::RecordsIter;
+use denial_groups::groups::OwnerRrs;
+use denial_groups::walks::RecordsIter;
 use names_data::canonical::CanonicalOrd;
 use names_data::data::RecordData;
 use names_data::rtype::Rtype;
@@ -32,11 +32,8 @@ fn is_within<'a, N: ToName, D: RecordData>(
     }
 }
 
-/// Whether a record is of a type.
-pub(crate) fn has_type<'a, N: ToName, D: RecordData>(
-    owner: &OwnerRrs<'a, N, D>,
-    rtype: Rtype,
-) -> bool
+/// Whether a record of an owner is of a type.
+pub fn has_type<'a, N: ToName, D: RecordData>(owner: &OwnerRrs<'a, N, D>, rtype: Rtype) -> bool
     ensures { result ≡ has_type D.type_of rtype owner.now }
 {
     let mut records = owner.records();
@@ -49,7 +46,8 @@ pub(crate) fn has_type<'a, N: ToName, D: RecordData>(
 }
 
 /// Whether an owner is a delegation. Its types are looked at first, since most owners have no NS record.
-pub(crate) fn is_cut<'a, N: ToName, D: RecordData>(apex: &N, owner: &OwnerRrs<'a, N, D>) -> bool
+#[inline(always)]
+pub fn is_cut<'a, N: ToName, D: RecordData>(apex: &N, owner: &OwnerRrs<'a, N, D>) -> bool
     ensures { result ≡ zone_cut N.name D.type_of (N.name apex.now) owner.now }
 {
     has_type(owner, Rtype::NS) && owner.is_zone_cut(apex)

@@ -2,12 +2,12 @@
 
 ghost use Rattle.std.specs.Prelude.{◌≡◌, filter};
 ghost use Rattle.std.specs.List.{flat_map};
-ghost use Rattle.denial_sorted.specs.Groups.{is_at};
+ghost use Rattle.denial_groups.specs.Groups.{is_at};
 ghost use Rattle.plain.specs.ZoneData.{zone_type};
 ghost use Rattle.denial_owners.specs.Soa.{and_ttls, chain_ttl, seen_from, soa_ttls, ttls_of};
 
-use denial_sorted::groups::OwnerRrs;
-use denial_sorted::slices::SliceRefsOrOwnedIterator;
+use denial_groups::groups::OwnerRrs;
+use denial_groups::slices::SliceRefsOrOwnedIterator;
 use names_data::rtype::Rtype;
 use names_traits::to_name::ToName;
 use names_wire::octets::Octets;

@@ -3,10 +3,10 @@
 ghost use Rattle.std.specs.Prelude.{◌≡◌};
 ghost use Rattle.std.specs.List.{list_any};
 ghost use Rattle.denial_owners.specs.Ttls.{unlike_ttls};
-ghost use Rattle.denial_sorted.specs.Groups.{neighbours};
+ghost use Rattle.denial_groups.specs.Groups.{neighbours};
 
-use denial_sorted::groups::OwnerRrs;
-use denial_sorted::slices::SliceRefsOrOwnedIterator;
+use denial_groups::groups::OwnerRrs;
+use denial_groups::slices::SliceRefsOrOwnedIterator;
 use names_data::data::RecordData;
 use names_data::rtype::Rtype;
 use names_traits::to_name::ToName;

@@ -6,8 +6,8 @@ ghost use Rattle.denial_owners.specs.Types.{last_is, own_types};
 
 use crate::kept::{has_type, is_cut};
 use denial_bitmap::builder::RtypeBitmapBuilder;
-use denial_sorted::groups::OwnerRrs;
-use denial_sorted::slices::SliceRefsOrOwnedIterator;
+use denial_groups::groups::OwnerRrs;
+use denial_groups::slices::SliceRefsOrOwnedIterator;
 use names_data::data::RecordData;
 use names_data::rtype::Rtype;
 use names_traits::to_name::ToName;

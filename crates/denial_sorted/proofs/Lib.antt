@@ -1,6 +1,12 @@
-pub mod Grouped
+pub mod Apart
+pub mod Asked
+pub mod Fewer
+pub mod Found
 pub mod Keyed
+pub mod Moved
+pub mod OneClass
 pub mod Orders
 pub mod Parted
 pub mod Putting
 pub mod Removed
+pub mod Spanned

@@ -12,11 +12,11 @@ use Rattle.definitions.specs.Name.{Name, name_cmp, same}
 use Rattle.names_labels.specs.Laws.{name_cmp_ties, name_cmp_total}
 use Rattle.plain.specs.Records.{record_canonical_cmp}
 use Rattle.plain.specs.declared.record.Record.{Record}
-use Rattle.denial_sorted.specs.GroupLaws.{one_owner_equivalence, one_set_equivalence}
-use Rattle.denial_sorted.specs.Groups.{groups, of_one_owner, of_one_set}
-use Rattle.denial_sorted.specs.Partitions.{AreApart, AreUnlike, IsPartition}
-use Rattle.denial_sorted.proofs.Grouped.{Headed, all_groups, headed}
-use Rattle.denial_sorted.proofs.Putting.{all_more}
+use Rattle.denial_groups.specs.GroupLaws.{one_owner_equivalence, one_set_equivalence}
+use Rattle.denial_groups.specs.Groups.{groups, of_one_owner, of_one_set}
+use Rattle.denial_groups.specs.Partitions.{AreApart, AreUnlike, IsPartition}
+use Rattle.denial_groups.proofs.Grouped.{Headed, all_groups, headed}
+use Rattle.denial_groups.proofs.Grouped.{all_more}
 
 all_parted : {A : Type 0} (P : A → Type 0) (xs ys : List A) → AllByRecursion P (xs ++ ys) → AllByRecursion P xs × AllByRecursion P ys
 all_parted P [] ys h = (tt, h)
@@ -83,7 +83,7 @@ module _ {A : Type 0} (alike : A → A → Bool) (o : IsEquivalence alike) where
         go Less p Equal q = let w : Less ≡ Equal = sym p ∙ alike_right total y z x q ∙ e in absurd cc
         go Less p Greater q = absurd (weaker y z m q)
 
-    still_unlike : (x y z : A) → cmp x y ≡ Less → cmp y z ≡ Less → alike x y ≡ false → alike x z ≡ false
+    pub still_unlike : (x y z : A) → cmp x y ≡ Less → cmp y z ≡ Less → alike x y ≡ false → alike x z ≡ false
     still_unlike x y z l m n = go (R x z) refl
       where
         go : (r : Ordering) → R x z ≡ r → alike x z ≡ false
@@ -116,13 +116,13 @@ partition_at {A} alike xs ys zs e f h =
 -- ---- records
 
 module _ {N D : Type 0} (name : N → Name) (rtype : D → ℕ) (by_data : D → D → Ordering) where
-  abbrev by_owner : Record N D → Record N D → Ordering
+  abbrev pub by_owner : Record N D → Record N D → Ordering
   by_owner a b = ordering_then (nat_cmp a.class b.class) (name_cmp (name a.owner) (name b.owner))
 
   abbrev by_set : Record N D → Record N D → Ordering
   by_set a b = ordering_then (by_owner a b) (nat_cmp (rtype a.content) (rtype b.content))
 
-  by_owner_total : IsTotalOrder by_owner
+  pub by_owner_total : IsTotalOrder by_owner
   by_owner_total =
       let class : Record N D → ℕ = λ r. r.class in
       let owner : Record N D → Name = λ r. name r.owner in
@@ -131,7 +131,7 @@ module _ {N D : Type 0} (name : N → Name) (rtype : D → ℕ) (by_data : D →
   by_set_total : IsTotalOrder by_set
   by_set_total = let type : Record N D → ℕ = λ r. rtype r.content in then_total by_owner_total (on_total type nat_cmp_total)
 
-  owner_ties : (a b : Record N D) → of_one_owner name a b ≡ is_eq (by_owner a b)
+  pub owner_ties : (a b : Record N D) → of_one_owner name a b ≡ is_eq (by_owner a b)
   owner_ties a b = both_tied (nat_eq a.class b.class) (same (name a.owner) (name b.owner)) (nat_cmp a.class b.class) (name_cmp (name a.owner) (name b.owner)) (unsigned_ties a.class b.class) (name_cmp_ties (name a.owner) (name b.owner))
 
   and_turned : (s t : Bool) → (s && t) ≡ (t && s)
@@ -145,7 +145,7 @@ module _ {N D : Type 0} (name : N → Name) (rtype : D → ℕ) (by_data : D →
       and_turned (nat_eq (rtype a.content) (rtype b.content)) (of_one_owner name a b)
       ∙ both_tied (of_one_owner name a b) (nat_eq (rtype a.content) (rtype b.content)) (by_owner a b) (nat_cmp (rtype a.content) (rtype b.content)) (owner_ties a b) (unsigned_ties (rtype a.content) (rtype b.content))
 
-  owner_weaker : (c n t : Ordering) → ordering_then c (ordering_then n t) ≡ Less → ordering_then c n ≢ Greater
+  pub owner_weaker : (c n t : Ordering) → ordering_then c (ordering_then n t) ≡ Less → ordering_then c n ≢ Greater
   owner_weaker Less n t h e = cc
   owner_weaker Equal Less t h e = cc
   owner_weaker Equal Equal t h e = cc
@@ -166,3 +166,7 @@ module _ {N D : Type 0} (name : N → Name) (rtype : D → ℕ) (by_data : D →
 
   pub sets_parted : (rs : List (Record N D)) → IsStrictlySortedBy (record_canonical_cmp name rtype by_data) rs → IsPartition (of_one_set name rtype) rs (groups (of_one_set name rtype) rs)
   sets_parted = partition_sorted (of_one_set name rtype) (one_set_equivalence name rtype) (record_canonical_cmp name rtype by_data) by_set by_set_total set_ties (λ a b h. set_weaker (nat_cmp a.class b.class) (name_cmp (name a.owner) (name b.owner)) (nat_cmp (rtype a.content) (rtype b.content)) (by_data a.content b.content) h)
+
+  -- what is not of one owner with the next record is not with a later one
+  pub still_apart : (x y z : Record N D) → record_canonical_cmp name rtype by_data x y ≡ Less → record_canonical_cmp name rtype by_data y z ≡ Less → of_one_owner name x y ≡ false → of_one_owner name x z ≡ false
+  still_apart = still_unlike (of_one_owner name) (one_owner_equivalence name) (record_canonical_cmp name rtype by_data) by_owner by_owner_total owner_ties (λ a b h. owner_weaker (nat_cmp a.class b.class) (name_cmp (name a.owner) (name b.owner)) (ordering_then (nat_cmp (rtype a.content) (rtype b.content)) (by_data a.content b.content)) h)

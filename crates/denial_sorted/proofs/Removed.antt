@@ -1,5 +1,5 @@
 -- Lists without some of their items.
-use Rattle.std.proofs.Common.{inl, inr, subst, ◌≡◌, ℕ, zero, get_or, suc, ◌+◌, ◌<◌, Bool, true, false, ◌||◌, if◌then◌else◌, List, [], ◌∷◌, length, refl, sym, ap, ◌∙◌, Some, arith}
+use Rattle.std.proofs.Common.{inl, inr, subst, ◌≡◌, ℕ, zero, get_or, suc, ◌+◌, ◌<◌, Bool, true, false, cond, not, filter, ◌||◌, if◌then◌else◌, List, [], ◌∷◌, length, refl, sym, ap, ◌∙◌, Some, arith}
 use Rattle.std.specs.declared.cmp.Ordering.{Ordering}
 use Rattle.std.specs.declared.cmp.Ordering.TheVariants.{Less}
 use Rattle.std.specs.List.{AllByRecursion, list_any, remove}
@@ -46,3 +46,12 @@ module _ {A : Type 0} (p : A → Bool) where
 
   pub removed_at : (ys xs : List A) (i : ℕ) → ys ≡ xs → IsFirstOf p ys (Some i) → remove xs i ≡ without_first p xs
   removed_at ys xs i e h = ap (λ zs. remove zs i) (sym e) ∙ h.2 ∙ ap (without_first p) e
+
+  -- where none passes, all are kept
+  pub kept_all : (xs : List A) → list_any p xs ≡ false → xs ≡ filter (λ x. not (p x)) xs
+  kept_all [] h = refl
+  kept_all (x ∷ xs) h = go (p x) (λ e. kept_all xs e) h
+    where
+      go : (t : Bool) → (list_any p xs ≡ false → xs ≡ filter (λ x. not (p x)) xs) → (t || list_any p xs) ≡ false → x ∷ xs ≡ cond (not t) (x ∷ filter (λ x. not (p x)) xs) (filter (λ x. not (p x)) xs)
+      go true f e = absurd cc
+      go false f e = ap (λ ys. x ∷ ys) (f e)

@@ -1,10 +1,9 @@
 pub mod Adding
-pub mod GroupLaws
-pub mod Groups
 pub mod Headed
 pub mod Inserting
 pub mod Keys
-pub mod Partitions
+pub mod Kin
+pub mod Owned
 pub mod Places
 pub mod Removing
-pub mod Slices
+pub mod Spans

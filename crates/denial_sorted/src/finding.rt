@@ -1,21 +1,27 @@
 //! Sorted records in groups, and RRsets found among them.
 
-ghost use Rattle.std.specs.Prelude.{◌≡◌};
+ghost use Rattle.std.specs.Prelude.{◌≡◌, [], MatchOption, Some};
+ghost use Rattle.std.specs.List.{filter};
 ghost use Rattle.std.specs.Result.{result_ok};
-ghost use Rattle.denial_sorted.specs.Groups.{found_set, groups, is_at, is_of_type, of_one_owner, of_one_set};
-ghost use Rattle.denial_sorted.specs.Partitions.{IsPartition};
-ghost use Rattle.denial_sorted.specs.Slices.{items_of};
+ghost use Rattle.denial_groups.specs.Ends.{AreEnds};
+ghost use Rattle.denial_groups.specs.Groups.{found_set, groups, is_at, is_of_type, of_one_owner, of_one_set};
+ghost use Rattle.denial_sorted.specs.Owned.{is_owned};
+ghost use Rattle.denial_groups.specs.Partitions.{IsPartition};
+ghost use Rattle.denial_groups.specs.Slices.{items_of};
 
-use crate::groups::{MultipleTtlValues, Rrset, first};
-use crate::runs::{BySet, split_group};
-use crate::slices::SliceRefsOrOwned;
+use crate::search::{only_class, span_of};
 use crate::sorted::SortedRecords;
 use crate::sorter::Sorter;
-use crate::walks::{RecordsIter, RrsetIter};
+use denial_groups::ends::{Ends, split_set};
+use denial_groups::groups::{MultipleTtlValues, OwnerRrs, Rrset, first};
+use denial_groups::runs::{BySet, split_group};
+use denial_groups::slices::SliceRefsOrOwned;
+use denial_groups::walks::{RecordsIter, RrsetIter};
 use names_data::canonical::CanonicalOrd;
 use names_data::data::RecordData;
 use names_data::rtype::Rtype;
 use names_traits::to_name::ToName;
+use plain::Class;
 use plain::record::Record;
 
 impl<N: ToName + Drop, D: RecordData + CanonicalOrd + Drop, S: Sorter> SortedRecords<N, D, S> {
@@ -25,7 +31,7 @@ impl<N: ToName + Drop, D: RecordData + CanonicalOrd + Drop, S: Sorter> SortedRec
         ensures partition { let alike = of_one_owner N.name in
             IsPartition alike self.now (groups alike result) }
     {
-        RecordsIter::new_from_owned(&self.records)
+        RecordsIter::indexed(&self.records, &self.starts)
     }
 
     /// The records in groups by owner, class and type.
@@ -34,7 +40,7 @@ impl<N: ToName + Drop, D: RecordData + CanonicalOrd + Drop, S: Sorter> SortedRec
         ensures partition { let alike = of_one_set N.name D.type_of in
             IsPartition alike self.now (groups alike result) }
     {
-        RrsetIter::new(SliceRefsOrOwned::new_from_owned(&self.records))
+        RrsetIter::indexed(&self.records, &self.starts)
     }
 
     /// The first SOA record, with those of its owner and class. Only the TTLs of what is found matter.
@@ -42,7 +48,10 @@ impl<N: ToName + Drop, D: RecordData + CanonicalOrd + Drop, S: Sorter> SortedRec
         ensures { let sets = groups (of_one_set N.name D.type_of) self.now in
             result_ok result ≡ found_set D.type_of (is_of_type D.type_of 6) sets }
     {
-        first_soa(SliceRefsOrOwned::new_from_owned(&self.records))
+        first_soa(
+            SliceRefsOrOwned::new_from_owned(&self.records),
+            Ends::new(&self.starts, self.records.len()),
+        )
     }
 
     /// The RRset of a type at an owner, the apex of a zone; of the least class where there are several. Only the TTLs
@@ -56,24 +65,48 @@ impl<N: ToName + Drop, D: RecordData + CanonicalOrd + Drop, S: Sorter> SortedRec
             result_ok result
             ≡ found_set D.type_of (is_at N.name D.type_of (N.name apex.now) rtype) sets }
     {
-        first_at(SliceRefsOrOwned::new_from_owned(&self.records), apex, rtype)
+        let records = self.records.as_slice();
+        let Some(class) = only_class(records) else {
+            return first_at(SliceRefsOrOwned::new_from_owned(records), apex, rtype);
+        };
+        let Some(span) = span_of(records, &self.starts, class, apex) else {
+            return Ok(None);
+        };
+        let owned = &records[span.start..span.end];
+        first_at(SliceRefsOrOwned::new_from_owned(owned), apex, rtype)
+    }
+
+    /// The records of a class and an owner, up to ASCII case. It takes no memory.
+    pub fn find_owner<O: ToName>(&self, class: Class, owner: &O) -> Option<OwnerRrs<'_, N, D>>
+        ensures { let owned = filter (is_owned N.name class (O.name owner.now)) self.now in
+            MatchOption result (owned ≡ []) (λ g. g ≡ owned) }
+    {
+        let records = self.records.as_slice();
+        let Some(span) = span_of(records, &self.starts, class, owner) else {
+            return None;
+        };
+        let owned = &records[span.start..span.end];
+        Some(OwnerRrs::new(SliceRefsOrOwned::new_from_owned(owned)))
     }
 }
 
 /// The first group of SOA records.
 fn first_soa<'a, N: ToName, D: RecordData>(
     slice: SliceRefsOrOwned<'a, Record<N, D>>,
+    ends: Ends<'a>,
 ) -> Result<Option<Rrset<'a, N, D>>, MultipleTtlValues>
+    requires { AreEnds N.name (Some ends) (items_of slice) }
     ensures { let sets = groups (of_one_set N.name D.type_of) (items_of slice.entry) in
         result_ok result ≡ found_set D.type_of (is_of_type D.type_of 6) sets }
 {
-    let mut rest = slice;
-    while let Some((group, behind)) = split_group::<Record<N, D>, BySet>(rest) {
-        if first(group).rtype() == Rtype::SOA {
-            let set = Rrset::new(group)?;
+    let (mut rest, mut left) = (slice, Some(ends));
+    while let Some(parts) = split_set(rest, left) {
+        if first(parts.group).rtype() == Rtype::SOA {
+            let set = Rrset::new(parts.group)?;
             return Ok(Some(set));
         }
-        rest = behind;
+        rest = parts.behind;
+        left = parts.ends;
     }
     Ok(None)
 }

@@ -2,12 +2,10 @@
 #![tactic(auto)]
 
 pub mod finding;
-pub mod groups;
 mod keys;
 pub mod laws;
 pub mod removal;
-mod runs;
-pub mod slices;
+mod search;
 pub mod sorted;
 pub mod sorter;
-pub mod walks;
+mod starts;

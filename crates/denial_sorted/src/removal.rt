@@ -1,11 +1,19 @@
 //! Records taken out of sorted ones.
 
-ghost use Rattle.std.specs.Prelude.{◌≡◌, not};
+ghost use Rattle.std.specs.Prelude.{◌≡◌, None, Some, not};
 ghost use Rattle.std.specs.List.{filter, list_any};
+ghost use Rattle.std.specs.List.Sorted.{IsStrictlySortedBy};
+ghost use Rattle.plain.specs.Records.{record_canonical_cmp};
+ghost use Rattle.denial_groups.specs.Groups.{of_one_owner};
 ghost use Rattle.denial_sorted.specs.Removing.{IsFirstOf, is_asked, without_first};
+ghost use Rattle.denial_sorted.specs.Spans.{HoldsAll};
+ghost use Rattle.denial_groups.specs.Starts.{starts_in};
 
+use crate::search::{Span, only_class, span_of};
 use crate::sorted::SortedRecords;
 use crate::sorter::Sorter;
+use crate::starts::fill;
+use denial_groups::runs::ByOwner;
 use names_data::canonical::CanonicalOrd;
 use names_data::data::RecordData;
 use names_data::rtype::Rtype;
@@ -26,12 +34,12 @@ impl<N: ToName + Drop, D: RecordData + CanonicalOrd + Drop, S: Sorter> SortedRec
         ensures left { let asked = is_asked N.name D.type_of (N.name name.now) class rtype in
             self.new ≡ filter (λ r. not (asked r)) self.old }
     {
-        let found = self
-            .records
-            .iter()
-            .any(|rr| is_of(rr, name, &class, &rtype));
+        let Some(_first) = first_of(&self.records, &self.starts, name, &class, &rtype) else {
+            return false;
+        };
         self.records.retain(|rr| !is_of(rr, name, &class, &rtype));
-        found
+        fill::<Record<N, D>, ByOwner>(&mut self.starts, &self.records);
+        true
     }
 
     /// Takes out the first record of an owner, of the class and type that are given, and says whether there was one.
@@ -46,10 +54,11 @@ impl<N: ToName + Drop, D: RecordData + CanonicalOrd + Drop, S: Sorter> SortedRec
         ensures left { let asked = is_asked N.name D.type_of (N.name name.now) class rtype in
             self.new ≡ without_first asked self.old }
     {
-        let Some(place) = first_of(&self.records, name, &class, &rtype) else {
+        let Some(place) = first_of(&self.records, &self.starts, name, &class, &rtype) else {
             return false;
         };
         self.records.remove(place);
+        fill::<Record<N, D>, ByOwner>(&mut self.starts, &self.records);
         true
     }
 }
@@ -74,18 +83,84 @@ fn is_of<N: ToName, D: RecordData>(
     of_class && of_type && rr.owner().name_eq(name)
 }
 
-/// The place of the first record of an owner, of the class and type that are given.
-fn first_of<N: ToName, D: RecordData>(
+/// The place of the first record of an owner, of the class and type that are given. It is sought by where owners begin,
+/// unless there are several classes and none is given.
+fn first_of<N: ToName, D: RecordData + CanonicalOrd>(
     records: &[Record<N, D>],
+    starts: &[usize],
     name: &N,
     class: &Option<Class>,
     rtype: &Option<Rtype>,
 ) -> Option<usize>
+    requires order { let by = record_canonical_cmp N.name D.type_of D.canonical in
+        IsStrictlySortedBy by records.now }
+    requires starts { starts.now ≡ starts_in (of_one_owner N.name) records.now }
     ensures { let asked = is_asked N.name D.type_of (N.name name.now) class.now rtype.now in
         IsFirstOf asked records.now result }
 {
-    for (place, rr) in records.iter().enumerate() {
-        if is_of(rr, name, class, rtype) {
+    let Some(span) = span_sought(records, starts, name, class) else {
+        return None;
+    };
+    first_in(records, span, name, class, rtype)
+}
+
+/// Where the records of an owner and of the class that is given stand, and maybe others: all of them, where no class is
+/// given and there are several.
+fn span_sought<N: ToName, D: RecordData + CanonicalOrd>(
+    records: &[Record<N, D>],
+    starts: &[usize],
+    name: &N,
+    class: &Option<Class>,
+) -> Option<Span>
+    requires order { let by = record_canonical_cmp N.name D.type_of D.canonical in
+        IsStrictlySortedBy by records.now }
+    requires starts { starts.now ≡ starts_in (of_one_owner N.name) records.now }
+    ensures { let asked = is_asked N.name D.type_of (N.name name.now) class.now None in
+        HoldsAll asked records.now result }
+{
+    match class {
+        Some(class) => span_of(records, starts, *class, name),
+        None => span_of_any(records, starts, name),
+    }
+}
+
+/// The same for records of any class: of that of all records, if they are of one.
+fn span_of_any<N: ToName, D: RecordData + CanonicalOrd>(
+    records: &[Record<N, D>],
+    starts: &[usize],
+    name: &N,
+) -> Option<Span>
+    requires order { let by = record_canonical_cmp N.name D.type_of D.canonical in
+        IsStrictlySortedBy by records.now }
+    requires starts { starts.now ≡ starts_in (of_one_owner N.name) records.now }
+    ensures { let asked = is_asked N.name D.type_of (N.name name.now) None None in
+        HoldsAll asked records.now result }
+{
+    match only_class(records) {
+        Some(class) => span_of(records, starts, class, name),
+        None => Some(Span {
+            start: 0,
+            end: records.len(),
+        }),
+    }
+}
+
+/// The place of the first record of an owner, of the class and type that are given, where no others of this owner and
+/// class stand.
+fn first_in<N: ToName, D: RecordData>(
+    records: &[Record<N, D>],
+    span: Span,
+    name: &N,
+    class: &Option<Class>,
+    rtype: &Option<Rtype>,
+) -> Option<usize>
+    requires { let asked = is_asked N.name D.type_of (N.name name.now) class.now None in
+        HoldsAll asked records.now (Some span) }
+    ensures { let asked = is_asked N.name D.type_of (N.name name.now) class.now rtype.now in
+        IsFirstOf asked records.now result }
+{
+    for place in span.start..span.end {
+        if is_of(&records[place], name, class, rtype) {
             return Some(place);
         }
     }

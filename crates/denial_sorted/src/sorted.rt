@@ -1,19 +1,25 @@
 //! Records in canonical order.
 
-ghost use Rattle.std.specs.Prelude.{◌≡◌, ◌<◌, ◌↔◌, List, [], length, IsTrue, IfOk, OnOk, OnErr};
+ghost use Rattle.std.specs.Prelude.{◌≡◌, ◌<◌, ◌≤◌, ◌↔◌, List, [], length, IsTrue, IfErr, IfOk, OnOk, OnErr, if◌then◌else◌, is_ok};
 ghost use Rattle.std.specs.Cmp.{IsTotalOrder};
 ghost use Rattle.std.specs.Ordering.{eq_by_cmp};
 ghost use Rattle.std.specs.Iterator.{IsFinite, Drains};
+ghost use Rattle.std.specs.List.{insert};
 ghost use Rattle.std.specs.List.Sorted.{IsStrictlySortedBy};
 ghost use Rattle.definitions.specs.Sorting.{put_by, put_all_by, sort_by};
 ghost use Rattle.plain.specs.Records.{record_canonical_cmp};
 ghost use Rattle.plain.specs.declared.record.Record.{Record};
 ghost use Rattle.std.specs.Slice.Iter.{iter_rest};
+ghost use Rattle.denial_groups.specs.Groups.{of_one_owner};
 ghost use Rattle.denial_sorted.specs.Inserting.{Inserts};
+ghost use Rattle.denial_sorted.specs.Kin.{IsApartAt};
 ghost use Rattle.denial_sorted.specs.Places.{Places};
+ghost use Rattle.denial_groups.specs.Starts.{starts_in};
 
 use crate::keys::near_order;
 use crate::sorter::{DefaultSorter, Sorter};
+use crate::starts::{count_before, fill, kin_at, move_behind, starts_of};
+use denial_groups::runs::ByOwner;
 use names_data::canonical::CanonicalOrd;
 use names_data::data::RecordData;
 use names_traits::to_name::ToName;
@@ -33,26 +39,32 @@ pub enum InsertError<N, D> {
     Memory(Record<N, D>),
 }
 
-/// Records in canonical order, no two of them equal, whatever their TTLs (RFC 4034, 6). A contract sees the records.
+/// Records in canonical order, no two of them equal, whatever their TTLs (RFC 4034, 6). A contract sees the records. An
+/// owner is found among them by binary search over the places at which owners begin.
 #[derive(Drop)]
 pub struct SortedRecords<N: ToName, D: RecordData + CanonicalOrd, S = DefaultSorter> {
     pub(crate) records: Vec<Record<N, D>>,
+    /// The places at which another pair of class and owner begins, ascending.
+    pub(crate) starts: Vec<usize>,
     sorter: PhantomData<S>,
 }
 
 impl<N: ToName, D: RecordData + CanonicalOrd, S> Model for SortedRecords<N, D, S> {
-    ghost use Rattle.std.specs.Prelude.{List};
+    ghost use Rattle.std.specs.Prelude.{◌≡◌, List};
     ghost use Rattle.std.specs.Cmp.{IsTotalOrder};
     ghost use Rattle.std.specs.List.Sorted.{IsStrictlySortedBy};
     ghost use Rattle.plain.specs.declared.record.Record.{Record};
     ghost use Rattle.plain.specs.Records.{record_canonical_cmp};
+    ghost use Rattle.denial_groups.specs.Groups.{of_one_owner};
+    ghost use Rattle.denial_groups.specs.Starts.{starts_in};
 
     ghost Value = { List (Record N D) };
 
     ghost view = { λ s. s.records.items };
 
     ghost invariant = { λ s. IsTotalOrder D.canonical
-        × IsStrictlySortedBy (record_canonical_cmp N.name D.type_of D.canonical) s.records.items };
+        × IsStrictlySortedBy (record_canonical_cmp N.name D.type_of D.canonical) s.records.items
+        × (s.starts.items ≡ starts_in (of_one_owner N.name) s.records.items) };
 }
 
 impl<N: ToName + Drop, D: RecordData + CanonicalOrd + Drop, S: Sorter> SortedRecords<N, D, S> {
@@ -62,6 +74,7 @@ impl<N: ToName + Drop, D: RecordData + CanonicalOrd + Drop, S: Sorter> SortedRec
     {
         SortedRecords {
             records: Vec::new(alloc),
+            starts: Vec::new(alloc),
             sorter: PhantomData,
         }
     }
@@ -74,8 +87,10 @@ impl<N: ToName + Drop, D: RecordData + CanonicalOrd + Drop, S: Sorter> SortedRec
     {
         let mut records = near_order(records)?;
         order_all::<N, D, S>(&mut records)?;
+        let starts = starts_of::<Record<N, D>, ByOwner>(*records.allocator(), &records)?;
         Ok(SortedRecords {
             records,
+            starts,
             sorter: PhantomData,
         })
     }
@@ -111,7 +126,7 @@ impl<N: ToName + Drop, D: RecordData + CanonicalOrd + Drop, S: Sorter> SortedRec
             × Drains U.IntoIter.next_gives it xs × (self.new ≡ put_all_by by self.old xs)) }
         ensures err { OnErr result (self.new ≡ self.old) }
     {
-        add_all::<N, D, S, U>(&mut self.records, records)
+        add_all::<N, D, S, U>(&mut self.records, &mut self.starts, records)
     }
 
     /// Puts a record in its place, unless an equal one is there: then, and where there is no memory, all is as it was.
@@ -121,9 +136,9 @@ impl<N: ToName + Drop, D: RecordData + CanonicalOrd + Drop, S: Sorter> SortedRec
     {
         match place_for(&self.records, &rr) {
             Ok(_) => Err(InsertError::Present(rr)),
-            Err(place) => match self.records.insert(place, rr) {
+            Err(place) => match put_at(&mut self.records, &mut self.starts, place, rr) {
                 Ok(()) => Ok(()),
-                Err(refused) => Err(InsertError::Memory(refused.value)),
+                Err(refused) => Err(InsertError::Memory(refused)),
             },
         }
     }
@@ -158,7 +173,7 @@ impl<N: ToName + Drop, D: RecordData + CanonicalOrd + Drop, S: Sorter> SortedRec
     pub fn into_inner(self) -> Vec<Record<N, D>>
         ensures { result.items ≡ self }
     {
-        let SortedRecords { records, sorter: _ } = self;
+        let SortedRecords { records, .. } = self;
         records
     }
 }
@@ -194,16 +209,46 @@ fn are_equal<N: ToName, D: RecordData + CanonicalOrd>(a: &Record<N, D>, b: &Reco
     a.owner().name_eq(b.owner())
 }
 
-/// Adds records to ordered ones. Where it is refused, none is added.
+/// Puts a record at its place, and moves the places at which owners begin. All is as it was where there is no memory:
+/// then the record is handed back.
+fn put_at<N: ToName, D: RecordData>(
+    records: &mut Vec<Record<N, D>>,
+    starts: &mut Vec<usize>,
+    place: usize,
+    rr: Record<N, D>,
+) -> Result<(), Record<N, D>>
+    requires within { place ≤ length records.old.items }
+    requires apart { IsApartAt (of_one_owner N.name) records.old.items place rr }
+    requires starts { starts.old.items ≡ starts_in (of_one_owner N.name) records.old.items }
+    ensures items { records.new.items
+        ≡ (if is_ok result then insert records.old.items place rr else records.old.items) }
+    ensures back { IfErr result (λ r. r ≡ rr) }
+    ensures starts { starts.new.items ≡ starts_in (of_one_owner N.name) records.new.items }
+{
+    if starts.reserve(1).is_err() {
+        return Err(rr);
+    }
+    let kin = kin_at::<Record<N, D>, ByOwner>(records.as_slice(), place, &rr);
+    match records.insert(place, rr) {
+        Ok(()) => {}
+        Err(refused) => return Err(refused.value),
+    }
+    let at = count_before(starts.as_slice(), place);
+    move_behind(starts, at, place, kin);
+    Ok(())
+}
+
+/// Adds records to ordered ones, and leaves the places at which owners begin then. Where it is refused, none is added.
 fn add_all<
     N: ToName + Drop,
     D: RecordData + CanonicalOrd + Drop,
     S: Sorter,
     U: IntoIterator<Item = Record<N, D>>,
->(held: &mut Vec<Record<N, D>>, records: U) -> Result<(), AllocError>
+>(held: &mut Vec<Record<N, D>>, starts: &mut Vec<usize>, records: U) -> Result<(), AllocError>
     requires total { IsTotalOrder D.canonical }
     requires order { let by = record_canonical_cmp N.name D.type_of D.canonical in
         IsStrictlySortedBy by held.old.items }
+    requires starts { starts.old.items ≡ starts_in (of_one_owner N.name) held.old.items }
     requires ends { (it : U.IntoIter) → U.into_iter_gives records it →
         U.IntoIter.can_next it × IsFinite (U.IntoIter.remaining it) }
     ensures ok { let by = record_canonical_cmp N.name D.type_of D.canonical in
@@ -212,15 +257,19 @@ fn add_all<
     ensures err { OnErr result (held.new.items ≡ held.old.items) }
     ensures order { let by = record_canonical_cmp N.name D.type_of D.canonical in
         IsStrictlySortedBy by held.new.items }
+    ensures starts { starts.new.items ≡ starts_in (of_one_owner N.name) held.new.items }
 {
     let len = held.len();
     let handed = Vec::from_iter(*held.allocator(), records)?;
     let mut more = near_order(handed)?;
+    let room = len - starts.len() + more.len();
+    starts.reserve(room)?;
     held.append(&mut more)?;
     if let Err(error) = order_all::<N, D, S>(held) {
         held.truncate(len);
         return Err(error);
     }
+    fill::<Record<N, D>, ByOwner>(starts, held);
     Ok(())
 }
 

@@ -1,4 +1,3 @@
 pub mod InputLemmas
-pub mod PrintLemmas
 pub mod RunLemmas
 pub mod RunStatus

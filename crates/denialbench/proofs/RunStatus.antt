@@ -1,6 +1,6 @@
 -- A run that answers refuses exactly an input with a line that can't be read.
-use Rattle.std.proofs.Common.{◌≡◌, ℕ, List, Some, None, refl, sym, subst}
-use Rattle.std.specs.Prelude.{◌↔◌, Option, Ok, Err, IfSome}
+use Rattle.std.proofs.Common.{◌≡◌, ℕ, List, Some, None, refl, subst}
+use Rattle.std.specs.Prelude.{◌↔◌, Option, IfSome}
 use Rattle.denialbench.specs.Responses.{IsUnreadable, Responds}
 use Rattle.denialbench.specs.declared.status.Status.{Status}
 use Rattle.denialbench.specs.declared.status.Status.TheVariants.{Done, BadLine, Fault}

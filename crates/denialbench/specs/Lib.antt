@@ -1,5 +1,3 @@
 pub mod Input
-pub mod Names
-pub mod Printed
 pub mod Responses
 pub mod Status

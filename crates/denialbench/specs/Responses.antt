@@ -1,23 +1,24 @@
 -- What a run writes.
-use Rattle.std.specs.Prelude.{◌≡◌, ◌⊎◌, ℕ, List, [], ◌∷◌, ◌++◌, map, codes, decimal, nat_eq, if◌then◌else◌, Some, None, Ok, Err}
+use Rattle.std.specs.Prelude.{◌≡◌, ◌⊎◌, ℕ, List, [], ◌∷◌, ◌++◌, map, codes, decimal, nat_eq, if◌then◌else◌, Option, Some, None, IfSome, Ok, Err}
 use Rattle.std.specs.List.{flat_map}
 use Rattle.std.specs.Str.{bytes_eq}
+use Rattle.std.specs.Io.KnownBytes.{Appends}
 use Rattle.sha2.specs.Sha256.{sha256}
 use Rattle.definitions.specs.Dnskey.{Dnskey, dnskey_data}
 use Rattle.messages.specs.HandedRr.{HandedRr}
 use Rattle.nsec3_sha1.specs.Iterated.{answered}
 use Rattle.answer_terms.specs.Accepting.{sorted_records}
-use Rattle.answer_zone.specs.Faults.{IsFault}
+use Rattle.answer_records.specs.Faults.{IsFault}
 use Rattle.answer_life.specs.Simulations.{IsSimulation}
 use Rattle.answer_publisher.specs.World.{World, world}
 use Rattle.answer_events.specs.declared.event.Event.{Event}
 use Rattle.answer_life.specs.declared.outcome.Outcome.{Outcome}
-use Rattle.answer_zone.specs.declared.fault.ZoneFault.{ZoneFault}
+use Rattle.answer_records.specs.declared.fault.ZoneFault.{ZoneFault}
 use Rattle.session_lines.specs.Grammar.{ZoneLine, EventLine}
 use Rattle.session_lines.specs.Readings.{event_view}
 use Rattle.session_lines.specs.Sessions.{Session, session_of}
-use Rattle.denialbench.specs.Names.{zone_fault_name}
-use Rattle.denialbench.specs.Printed.{outcome_text}
+use Rattle.bench.specs.Names.{zone_fault_name}
+use Rattle.bench.specs.Printed.{outcome_text}
 use Rattle.denialbench.specs.declared.status.Status.{Status}
 use Rattle.denialbench.specs.declared.status.Status.TheVariants.{Done, BadLine, Fault}
 
@@ -56,6 +57,14 @@ abbrev pub Responds : List ℕ → Status → List ℕ → Type 0
 Responds input Done text = (s : Session) × (session_of input ≡ Ok s) × PrintsSession s.zone s.records s.events text
 Responds input BadLine text = (n : ℕ) × (session_of input ≡ Err n) × (text ≡ refused_line n)
 Responds input Fault text = ⊥
+
+-- An input is answered, the whole of what the reader had where that is known: a text for it is written.
+pub record Answers (known : Option (List ℕ)) (status : Status) (before after : Option (List ℕ)) : Type 0 where
+  pub input : List ℕ
+  pub whole : IfSome known (λ xs. input ≡ xs)
+  pub text : List ℕ
+  pub responds : Responds input status text
+  pub written : Appends before after text
 
 -- some line can't be read
 abbrev pub IsUnreadable : List ℕ → Type 0

@@ -40,6 +40,7 @@ impl From<AllocError> for InputError {
 /// fails is not made again.
 pub fn read_all<R: Read>(alloc: Global, reader: &mut R) -> Result<Vec<u8>, InputError>
     ensures whole { IfOk result (λ v. IfSome (R.remaining reader.old) (λ xs. v.items ≡ xs)) }
+    ensures end { IfOk result (λ _. IsAtEnd (R.remaining reader.new)) }
     ensures endless { result ≡ Err InputError.Endless
         → IfSome (R.remaining reader.old) (λ xs. 1048576 ≤ length xs) }
 {

@@ -5,10 +5,7 @@
 #![tactic(auto)]
 
 mod input;
-mod named;
-mod print;
 mod run;
-mod scheme;
 mod status;
 
 use std::io;

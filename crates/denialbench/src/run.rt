@@ -1,19 +1,19 @@
 //! A run of the bench: from what a reader gives to what a writer takes.
 ghost use Rattle.std.specs.Prelude.{◌≡◌, ◌≢◌, ◌↔◌, ℕ, List, [], ◌∷◌, ◌++◌, map, codes, OnOk, IfOk, IfSome, string_bytes};
 ghost use Rattle.std.specs.List.{flat_map};
-ghost use Rattle.std.specs.Io.KnownBytes.{Appends};
+ghost use Rattle.std.specs.Io.KnownBytes.{Appends, IsAtEnd};
 ghost use Rattle.messages.specs.HandedRr.{handed_of};
 ghost use Rattle.session_lines.specs.Readings.{zone_view, event_view};
-ghost use Rattle.denialbench.specs.Names.{zone_fault_name};
-ghost use Rattle.denialbench.specs.Printed.{outcome_text};
-ghost use Rattle.denialbench.specs.Responses.{IsUnreadable, Responds, PrintsSession, refused_line};
+ghost use Rattle.bench.specs.Names.{zone_fault_name};
+ghost use Rattle.bench.specs.Printed.{outcome_text};
+ghost use Rattle.denialbench.specs.Responses.{Answers, IsUnreadable, Responds, PrintsSession, refused_line};
 
 use crate::input::read_all;
-use crate::named::Named;
-use crate::print::push_outcomes;
-use crate::scheme::BenchScheme;
 use crate::status::Status;
 use answer::{Outcome, ZoneFault, simulate};
+use bench::named::Named;
+use bench::print::push_outcomes;
+use bench::scheme::BenchScheme;
 use nsec3_sha1::hasher::Sha1Hasher;
 use session_lines::session::{Session, SessionError, read_session};
 use std::alloc::{AllocError, Global};
@@ -34,8 +34,8 @@ pub struct Response {
 #[tactic(auto, using(crate::proofs::RunStatus::told_of))]
 pub fn run<R: Read, W: Write>(alloc: Global, reader: &mut R, writer: &mut W) -> Status
     ensures writes { result ≢ Status.Fault
-        → IfSome (R.remaining reader.old) (λ input. (text : List ℕ) × Responds input result text
-        × Appends (W.contents writer.old) (W.contents writer.new) text) }
+        → Answers (R.remaining reader.old) result (W.contents writer.old) (W.contents writer.new) }
+    ensures whole { result ≢ Status.Fault → IsAtEnd (R.remaining reader.new) }
     ensures lines { result ≢ Status.Fault → IfSome (R.remaining reader.old)
         (λ input. (result ≡ Status.BadLine) ↔ IsUnreadable input) }
 {
@@ -67,7 +67,7 @@ pub fn respond(alloc: Global, input: &[u8]) -> Result<Response, AllocError>
             status: Status::Done,
             text: replay(alloc, session)?,
         }),
-        Err(SessionError::Line(number)) => Ok(Response {
+        Err(SessionError::Line { number, .. }) => Ok(Response {
             status: Status::BadLine,
             text: refusal(alloc, number)?,
         }),

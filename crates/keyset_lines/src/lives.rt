@@ -90,8 +90,9 @@ fn state_of(set: &KeySet) -> Shown {
     }
 }
 
+/// What is handed out of a zone.
 #[derive(Clone, Copy, PartialEq, Eq)]
-enum Thing {
+pub enum Thing {
     DsSet,
     DnskeyAnswer,
     ZoneAnswer,
@@ -173,7 +174,7 @@ fn is_accepted(set: &mut KeySet, made: Made) -> bool {
 }
 
 /// The things of which a roll's first report says that they are everywhere.
-fn in_report1(roll: RollType, thing: Thing) -> bool {
+pub fn in_report1(roll: RollType, thing: Thing) -> bool {
     match roll {
         RollType::KskRoll | RollType::ZskRoll | RollType::CskRoll => thing == Thing::DnskeyAnswer,
         RollType::KskDoubleDsRoll => thing == Thing::DsSet,
@@ -181,7 +182,8 @@ fn in_report1(roll: RollType, thing: Thing) -> bool {
     }
 }
 
-fn in_report2(roll: RollType, thing: Thing) -> bool {
+/// The same of its second report.
+pub fn in_report2(roll: RollType, thing: Thing) -> bool {
     match roll {
         RollType::KskRoll | RollType::AlgorithmRoll => thing == Thing::DsSet,
         RollType::KskDoubleDsRoll => thing == Thing::DnskeyAnswer,

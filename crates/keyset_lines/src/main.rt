@@ -21,6 +21,7 @@
 //!   record and its signatures are seen; its private reference, and whether it is decoupled. `alone KEY`: the same, and that
 //!   of a copy that is decoupled.
 //! - `phase ROLL`, `owed ROLL`: how far a roll is, and what its last step asked for; `counts`: of keys and rolls.
+//! - `drawing`: the last roll drawn against time, in SVG.
 //! - `copy`: puts a copy of the set aside; `swap`: takes that and puts the set aside.
 //! - `elapsed MOMENT MOMENT`, `later MOMENT SECONDS`, `before MOMENT MOMENT`, `timestamp MOMENT`, `from-timestamp NUMBER`:
 //!   of moments; `roll NAME`: the roll of a name; `errors`: the texts of all errors, in the order of the enum.
@@ -30,6 +31,7 @@
 
 mod answer;
 mod calls;
+mod drawing;
 mod lives;
 mod moments;
 mod rows;
@@ -73,6 +75,7 @@ fn of_set(alloc: Global, zone: &mut Zone, name: &str, rest: &str) -> Option<Stri
     match name {
         "key" | "alone" | "phase" | "owed" => shown(alloc, zone.set(), name, rest),
         "counts" => counts(alloc, zone.set()),
+        "drawing" => zone.drawing(alloc),
         "copy" => zone.copy(alloc),
         "swap" => zone.swap(alloc),
         _ => zone.called(alloc, name, rest),

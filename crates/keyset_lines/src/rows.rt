@@ -97,7 +97,8 @@ impl Cell {
     }
 }
 
-fn keys_in(
+/// The shown keys that are in a column.
+pub fn keys_in(
     alloc: Global,
     set: &KeySet,
     shown: &[String],

@@ -2,8 +2,9 @@
 
 use crate::answer::Answer;
 use crate::calls::call;
+use crate::drawing::{Scene, drawing};
 use crate::rows::row;
-use crate::words::{keys_of, words};
+use crate::words::{keys_of, roll, words};
 use keyset::KeySet;
 use names_flat::name::Name;
 use std::alloc::Global;
@@ -14,6 +15,8 @@ pub struct Zone {
     /// A copy of the set that was put aside.
     aside: Option<KeySet>,
     shown: Vec<String>,
+    /// What was shown behind each call of a roll whose moment is said.
+    scenes: Vec<Scene>,
 }
 
 /// A name of its text (RFC 1035, 5.1).
@@ -37,6 +40,7 @@ impl Zone {
             set: KeySet::new(alloc, read_name(alloc, name)?),
             aside: None,
             shown: keys_of(alloc, keys)?,
+            scenes: Vec::new(alloc),
         })
     }
 
@@ -69,10 +73,27 @@ impl Zone {
     pub fn called(&mut self, alloc: Global, name: &str, rest: &str) -> Option<String> {
         match call(alloc, &mut self.set, name, rest)? {
             Answer::Rolled(step, actions) => {
+                self.keep_scene(alloc, step, rest)?;
                 row(alloc, &self.set, &self.shown, step, actions.as_slice()).ok()
             }
             Answer::Made => String::from_str(alloc, "ok").ok(),
             Answer::Refused(error) => format!(in alloc; "refused: {error}").ok(),
         }
+    }
+
+    /// Keeps what is shown behind a call of a roll, unless its line ends without a moment.
+    fn keep_scene(&mut self, alloc: Global, step: &'static str, rest: &str) -> Option<()> {
+        let words = words(alloc, rest)?;
+        let Ok(now) = words.last()?.parse::<u64>() else {
+            return Some(());
+        };
+        let roll = roll(words.first()?)?;
+        let scene = Scene::new(alloc, &self.set, &self.shown, roll, step, now).ok()?;
+        self.scenes.push(scene).ok()
+    }
+
+    /// A drawing of the last roll.
+    pub fn drawing(&self, alloc: Global) -> Option<String> {
+        drawing(alloc, &self.scenes)
     }
 }

@@ -16,5 +16,6 @@ pub mod NameWritten
 pub mod ZoneNames
 pub mod Lists
 pub mod HandedData
+pub mod InFull
 pub mod SignOctets
 pub mod SpelledFields

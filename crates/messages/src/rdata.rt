@@ -1,5 +1,6 @@
 //! The data of records within a message (RFC 1035, 3.3; RFC 4034, 3.1 and 4.1; RFC 5155, 3.2), read in place.
-ghost use Rattle.std.specs.Prelude.{◌≡◌, ◌+◌, ◌<◌, ◌≤◌, length, IfOk, IfSome, IfNone};
+ghost use Rattle.std.specs.Prelude.{◌≡◌, ◌+◌, ◌++◌, ◌<◌, ◌≤◌, length, true, IfOk, IfSome, IfNone, Some};
+ghost use Rattle.definitions.specs.Name.{wire};
 ghost use Rattle.definitions.specs.Limits.{pointer_limit};
 ghost use Rattle.std.specs.Cow.{cow_slice_items};
 ghost use Rattle.std.specs.Option.{option_map};
@@ -11,12 +12,12 @@ ghost use Rattle.names_parsed.specs.Parsed.{parsed_name};
 ghost use Rattle.plain.specs.Ns.{ns_canonical};
 ghost use Rattle.plain.specs.Soa.{soa_canonical};
 
-use crate::octets::clipped;
+use crate::octets::{clipped, u16_at};
 use crate::view::ViewRecord;
 use denial_data::{Nsec, Nsec3, Rrsig};
 use names_data::data::ComposeRecordData;
 use names_data::rtype::Rtype;
-use names_labels::traits::Labels;
+use names_labels::traits::{Absolute, Labels};
 use names_parsed::parsed::ParsedName;
 use names_parser::parser::Parser;
 use plain::ns::Ns;
@@ -48,6 +49,16 @@ impl<'a> ViewRecord<'a> {
             }
             Err(_) => None,
         }
+    }
+
+    /// The type that the data begin with as those of a signature (RFC 4034, 3.1.1), for callers who need no more of most
+    /// signatures. Where the data do not read as a signature's it may be any.
+    pub fn covered_type(&self, message: &[u8]) -> Option<Rtype>
+        ensures { IfSome (rrsig_at pointer_limit message.now (spelled self.now))
+            (λ f. result ≡ Some f.0.covered) }
+    {
+        let covered = u16_at(message, self.start).ok()?;
+        Some(Rtype::from_int(covered))
     }
 
     /// The link of the chain of names that the data spell (RFC 4034, 4.1).
@@ -103,10 +114,11 @@ impl<'a> ViewRecord<'a> {
             ≡ canonical_data pointer_limit message.now (spelled self.now)) }
     {
         match self.rtype {
-            Rtype::NS | Rtype::SOA | Rtype::NSEC => match self.canonical_data(alloc, message)? {
+            Rtype::NS | Rtype::SOA => match self.canonical_data(alloc, message)? {
                 None => Ok(None),
                 Some(octets) => Ok(Some(CowSlice::Owned(octets))),
             },
+            Rtype::NSEC => self.nsec_cow(alloc, message),
             Rtype::NSEC3 => match self.nsec3_data(message) {
                 None => Ok(None),
                 Some(octets) => Ok(Some(CowSlice::Borrowed(octets))),
@@ -146,6 +158,25 @@ impl<'a> ViewRecord<'a> {
             None => Ok(None),
             Some(link) => Ok(Some(canonical_octets(alloc, &link)?)),
         }
+    }
+
+    /// As `nsec_data`; where the next name stands in full they are borrowed.
+    fn nsec_cow<'m>(
+        &self,
+        alloc: Global,
+        message: &'m [u8],
+    ) -> Result<Option<CowSlice<'m, u8>>, AllocError>
+        ensures { IfOk result (λ o. option_map cow_slice_items o
+            ≡ nsec_data pointer_limit message.now (spelled self.now)) }
+    {
+        let Some(link) = self.link(message) else {
+            return Ok(None);
+        };
+        let octets = self.octets(message);
+        if is_in_full(octets, &link) {
+            return Ok(Some(CowSlice::Borrowed(octets)));
+        }
+        Ok(Some(CowSlice::Owned(canonical_octets(alloc, &link)?)))
     }
 
     /// The canonical data of an NSEC3 record: they have no names, so they are the octets themselves.
@@ -196,6 +227,17 @@ impl<'a> ViewRecord<'a> {
         let mut parser = Parser::from_ref(message);
         parser.seek(self.start).ok()?;
         parser.parse_parser(self.length).ok()
+    }
+}
+
+/// Whether data are as long as a link's next name in full, without pointers, and its types.
+fn is_in_full(octets: &[u8], link: &Nsec<&[u8], ParsedName>) -> bool
+    ensures { let next = wire (parsed_name link.now.next_name) in
+        result ≡ true → length octets.now ≡ length next + length link.now.types }
+{
+    match link.next_name().label_row() {
+        None => false,
+        Some(row) => { octets.len().checked_sub(row.len()) == Some(link.types().as_slice().len()) }
     }
 }
 

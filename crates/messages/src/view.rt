@@ -8,7 +8,7 @@ ghost use Rattle.messages.specs.View.{Gives, head_at, headed, placed, records_re
 
 use crate::error::MessageError;
 use crate::names::{ParsedName, read_name};
-use crate::octets::{u16_at, u32_at};
+use crate::octets::{record_numbers_at, u16_at};
 use crate::owner::Owner;
 use crate::question::Question;
 use names_data::rtype::Rtype;
@@ -37,19 +37,16 @@ impl<'a> ViewRecord<'a> {
             Gives (λ r. placed (spelled r.0) r.1) result is }
     {
         let (name, end) = read_name(bytes, at)?;
-        let rtype = u16_at(bytes, end)?;
-        let class = u16_at(bytes, end + 2)?;
-        let ttl = u32_at(bytes, end + 4)?;
-        let length = u16_at(bytes, end + 8)? as usize;
-        let start = end + 10;
+        let numbers = record_numbers_at(bytes, end)?;
+        let (start, length) = (end + 10, usize::from(numbers.length));
         if bytes.len() - start < length {
             return Err(MessageError::ShortInput);
         }
         let record = ViewRecord {
             owner: Owner::new(name),
-            rtype: Rtype::from_int(rtype),
-            class: Class::from_int(class),
-            ttl: Ttl::from_secs(ttl),
+            rtype: Rtype::from_int(numbers.rtype),
+            class: Class::from_int(numbers.class),
+            ttl: Ttl::from_secs(numbers.ttl),
             start,
             length,
         };

@@ -1,8 +1,7 @@
 -- What is decoded of the digits of octets are these octets.
-use Rattle.std.proofs.Common.{◌≡◌, ℕ, ◌+◌, ◌-◌, ◌*◌, ◌/◌, ◌%◌, ◌<◌, ◌≤◌, Bool, true, false, cond, List, [], ◌∷◌, ◌++◌, length, take, drop, refl, sym, ap, ◌∙◌, arith, append_assoc, length-take-le, get_or, ltb}
+use Rattle.std.proofs.Common.{◌≡◌, ℕ, ◌+◌, ◌-◌, ◌*◌, ◌/◌, ◌%◌, ◌<◌, ◌≤◌, Bool, true, false, cond, List, [], ◌∷◌, refl, ap, ◌∙◌, arith, ltb}
 use Rattle.std.specs.List.{AllByRecursion}
 use Rattle.std.proofs.lemmas.Bool.{le-leb, lt-leb, ltb-true, ltb-false}
-use Rattle.std.proofs.lemmas.List.{take-append-drop}
 use Rattle.definitions.specs.Base32hex.{base32hex, digit}
 use Rattle.numbers.specs.Decoding.{value, octet_one, octet_two, octet_three, octet_four, octet_five, decoded}
 
@@ -82,49 +81,3 @@ decodes (a ∷ b ∷ c ∷ d ∷ []) h = λ i.
 decodes (a ∷ b ∷ c ∷ d ∷ e ∷ rest) h = λ i.
     first_of a b h.0 h.1.0 i ∷ second_of a b c h.1.0 h.1.1.0 i ∷ third_of b c d h.1.1.0 h.1.1.1.0 i
     ∷ fourth_of c d e h.1.1.1.0 h.1.1.1.1.0 i ∷ fifth_of d e h.1.1.1.1.0 i ∷ decodes rest h.1.1.1.1.1 i
-
--- ---- block by block
-
--- eight digits in front of others
-block_first : (xs rest : List ℕ) → length xs ≡ 8 → decoded (xs ++ rest) ≡ decoded xs ++ decoded rest
-block_first [] rest h = absurd (omega (arith, h))
-block_first (a ∷ []) rest h = absurd (omega (arith, h))
-block_first (a ∷ b ∷ []) rest h = absurd (omega (arith, h))
-block_first (a ∷ b ∷ c ∷ []) rest h = absurd (omega (arith, h))
-block_first (a ∷ b ∷ c ∷ d ∷ []) rest h = absurd (omega (arith, h))
-block_first (a ∷ b ∷ c ∷ d ∷ e ∷ []) rest h = absurd (omega (arith, h))
-block_first (a ∷ b ∷ c ∷ d ∷ e ∷ f ∷ []) rest h = absurd (omega (arith, h))
-block_first (a ∷ b ∷ c ∷ d ∷ e ∷ f ∷ g ∷ []) rest h = absurd (omega (arith, h))
-block_first (a ∷ b ∷ c ∷ d ∷ e ∷ f ∷ g ∷ k ∷ []) rest h = refl
-block_first (a ∷ b ∷ c ∷ d ∷ e ∷ f ∷ g ∷ k ∷ x ∷ xs) rest h = absurd (omega (arith, h))
-
-pub one_block : (old new : List ℕ) (rest block behind all : List ℕ) → 8 ≤ length rest → block ≡ take 8 rest → behind ≡ drop 8 rest → new ≡ old ++ decoded block → old ++ decoded rest ≡ all → new ++ decoded behind ≡ all
-one_block old new rest block behind all some b d n h =
-    let len : length block ≡ 8 = ap length b ∙ length-take-le 8 rest some in
-    let whole : block ++ behind ≡ rest = (λ i. b i ++ d i) ∙ take-append-drop 8 rest in
-    ap (λ t. t ++ decoded behind) n ∙ append_assoc old (decoded block) (decoded behind)
-    ∙ ap (λ t. old ++ t) (sym (block_first block behind len) ∙ ap decoded whole) ∙ h
-
--- the fifth octet behind the first four
-pub five_octets : (xs : List ℕ) → length xs ≡ 8 → decoded xs ≡ decoded (take 7 xs) ++ octet_five (get_or xs 6 0) (get_or xs 7 0) ∷ []
-five_octets [] h = absurd (omega (arith, h))
-five_octets (a ∷ []) h = absurd (omega (arith, h))
-five_octets (a ∷ b ∷ []) h = absurd (omega (arith, h))
-five_octets (a ∷ b ∷ c ∷ []) h = absurd (omega (arith, h))
-five_octets (a ∷ b ∷ c ∷ d ∷ []) h = absurd (omega (arith, h))
-five_octets (a ∷ b ∷ c ∷ d ∷ e ∷ []) h = absurd (omega (arith, h))
-five_octets (a ∷ b ∷ c ∷ d ∷ e ∷ f ∷ []) h = absurd (omega (arith, h))
-five_octets (a ∷ b ∷ c ∷ d ∷ e ∷ f ∷ g ∷ []) h = absurd (omega (arith, h))
-five_octets (a ∷ b ∷ c ∷ d ∷ e ∷ f ∷ g ∷ k ∷ []) h = refl
-five_octets (a ∷ b ∷ c ∷ d ∷ e ∷ f ∷ g ∷ k ∷ x ∷ xs) h = absurd (omega (arith, h))
-
-pub behind_four : (old mid new : List ℕ) (front xs : List ℕ) → length xs ≡ 8 → front ≡ take 7 xs → mid ≡ old ++ decoded front → new ≡ mid ++ octet_five (get_or xs 6 0) (get_or xs 7 0) ∷ [] → new ≡ old ++ decoded xs
-behind_four old mid new front xs h f m n =
-    let last : List ℕ = octet_five (get_or xs 6 0) (get_or xs 7 0) ∷ [] in
-    n ∙ ap (λ t. t ++ last) (m ∙ ap (λ t. old ++ decoded t) f) ∙ append_assoc old (decoded (take 7 xs)) last ∙ ap (λ t. old ++ t) (sym (five_octets xs h))
-
--- no octets have these digits where those that are decoded of them have not
-pub trailing : (digits octets : List ℕ) → octets ≡ decoded digits → (base32hex octets ≡ digits → ⊥) → (o : List ℕ) → AllByRecursion (λ x. x < 256) o → base32hex o ≡ digits → ⊥
-trailing digits octets e not o h s =
-    let same : octets ≡ o = e ∙ ap decoded (sym s) ∙ decodes o h in
-    not (ap base32hex same ∙ s)

@@ -1,7 +1,6 @@
 -- base32hex, block by block.
 use Rattle.std.proofs.lemmas.List.{take-append-drop}
-use Rattle.std.specs.Prelude.{OnOk}
-use Rattle.std.proofs.Common.{◌≡◌, ℕ, ◌≤◌, Result, Ok, Err, List, [], ◌∷◌, ◌++◌, length, take, drop, refl, sym, ap, ◌∙◌, arith, get_or, append_assoc, length-take-le}
+use Rattle.std.proofs.Common.{◌≡◌, ℕ, ◌≤◌, List, [], ◌∷◌, ◌++◌, length, take, drop, refl, sym, ap, ◌∙◌, arith, get_or, append_assoc, length-take-le}
 use Rattle.definitions.specs.Base32hex.{base32hex}
 use Rattle.numbers.specs.Blocks.{front_digits, back_digits, block_text}
 
@@ -33,15 +32,6 @@ block_first (a ∷ b ∷ c ∷ []) rest h = absurd (omega (arith, h))
 block_first (a ∷ b ∷ c ∷ d ∷ []) rest h = absurd (omega (arith, h))
 block_first (a ∷ b ∷ c ∷ d ∷ e ∷ []) rest h = refl
 block_first (a ∷ b ∷ c ∷ d ∷ e ∷ f ∷ xs) rest h = absurd (omega (arith, h))
-
--- what holds of a call that goes well
-pub on_ok_more : {A E : Type 0} (r : Result A E) (P Q : Type 0) → (P → Q) → OnOk r P → OnOk r Q
-on_ok_more (Ok x) P Q f h = f h
-on_ok_more (Err e) P Q f h = tt
-
--- both halves of a block
-pub both_halves : (old mid new front back : List ℕ) (xs : List ℕ) → mid ≡ old ++ front → base32hex xs ≡ front ++ back → new ≡ mid ++ back → new ≡ old ++ base32hex xs
-both_halves old mid new front back xs m b n = n ∙ ap (λ t. t ++ back) m ∙ append_assoc old front back ∙ ap (λ t. old ++ t) (sym b)
 
 -- a block more
 pub one_block : (old new : List ℕ) (rest block behind all : List ℕ) → 5 ≤ length rest → block ≡ take 5 rest → behind ≡ drop 5 rest → new ≡ old ++ base32hex block → old ++ base32hex rest ≡ all → new ++ base32hex behind ≡ all

@@ -1,2 +1,3 @@
 pub mod Decodes
 pub mod Digits
+pub mod Spelling

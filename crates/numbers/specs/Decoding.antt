@@ -1,5 +1,8 @@
 -- Octets of base32hex digits (RFC 4648, 7).
-use Rattle.std.specs.Prelude.{ℕ, ◌+◌, ◌-◌, ◌*◌, ◌/◌, ◌%◌, Bool, ◌&&◌, ◌||◌, not, List, [], ◌∷◌, Option, position, if◌then◌else◌, nat_le}
+use Rattle.std.specs.Prelude.{◌≡◌, ℕ, ◌+◌, ◌-◌, ◌*◌, ◌/◌, ◌%◌, ◌<◌, Bool, ◌&&◌, ◌||◌, not, List, [], ◌∷◌, ◌++◌, Option, position, slice_index_or, if◌then◌else◌, nat_le}
+use Rattle.std.specs.List.{AllByRecursion}
+use Rattle.std.specs.Str.{str_to_ascii_lowercase}
+use Rattle.definitions.specs.Base32hex.{base32hex}
 
 -- 0 to 9 and a to v
 abbrev pub is_digit : ℕ → Bool
@@ -40,3 +43,21 @@ decoded (a ∷ b ∷ c ∷ d ∷ e ∷ []) = octet_one a b ∷ octet_two b c d �
 decoded (a ∷ b ∷ c ∷ d ∷ e ∷ f ∷ []) = octet_one a b ∷ octet_two b c d ∷ octet_three d e ∷ []
 decoded (a ∷ b ∷ c ∷ d ∷ e ∷ f ∷ g ∷ []) = octet_one a b ∷ octet_two b c d ∷ octet_three d e ∷ octet_four e f g ∷ []
 decoded (a ∷ b ∷ c ∷ d ∷ e ∷ f ∷ g ∷ h ∷ rest) = octet_one a b ∷ octet_two b c d ∷ octet_three d e ∷ octet_four e f g ∷ octet_five g h ∷ decoded rest
+
+-- the digits in either case are those of the octets
+abbrev pub Spells : List ℕ → List ℕ → Type 0
+Spells octets digits = base32hex octets ≡ str_to_ascii_lowercase digits
+
+-- no octets have these digits
+abbrev pub SpellsNothing : List ℕ → Type 0
+SpellsNothing digits = (octets : List ℕ) → AllByRecursion (λ o. o < 256) octets → Spells octets digits → ⊥
+
+-- the octets of digits stand behind older ones
+abbrev pub Appends : List ℕ → List ℕ → List ℕ → Type 0
+Appends old new digits = (octets : List ℕ) × ((new ≡ old ++ octets) × Spells octets digits)
+
+-- fewer than eight digits, and zeros behind them
+abbrev pub filled : List ℕ → List ℕ
+filled digits =
+    slice_index_or digits 0 48 ∷ slice_index_or digits 1 48 ∷ slice_index_or digits 2 48 ∷ slice_index_or digits 3 48
+    ∷ slice_index_or digits 4 48 ∷ slice_index_or digits 5 48 ∷ slice_index_or digits 6 48 ∷ slice_index_or digits 7 48 ∷ []

@@ -1,16 +1,17 @@
 //! base32hex: unpadded and in lower case, eight digits for five octets (RFC 4648, 7; RFC 5155, 3.3).
 
-ghost use Rattle.std.specs.Prelude.{◌≡◌, ◌<◌, ◌++◌, ◌∷◌, [], length, IsTrue, OnOk, IfOk, IfErr, ◌↔◌};
+ghost use Rattle.std.specs.Prelude.{◌≡◌, ◌==◌, ◌<◌, ◌++◌, ◌∷◌, [], length, not, position, slice_index_or, IsTrue, OnOk, IfOk, IfErr, MatchBool, MatchOption, ◌↔◌};
+ghost use Rattle.std.specs.Char.{to_ascii_lowercase};
+ghost use Rattle.std.specs.List.{AllByRecursion, list_all};
 ghost use Rattle.std.specs.Str.{str_to_ascii_lowercase};
-ghost use Rattle.numbers.specs.Decoding.{is_digit, first_no_digit, value, octet_five, decoded};
-ghost use Rattle.numbers.specs.Refusing.{IsBadLength, RefusedDigits, RefusedText};
+ghost use Rattle.numbers.specs.Decoding.{is_digit, filled, Spells, SpellsNothing, Appends};
+ghost use Rattle.numbers.specs.Refusing.{IsBadLength, RefusedText};
 ghost use Rattle.std.specs.String.{string_bytes};
 ghost use Rattle.definitions.specs.Base32hex.{base32hex, digit};
-ghost use Rattle.numbers.specs.Blocks.{front_digits, back_digits};
 
 pub mod digits;
 
-use crate::base32hex::digits::digit;
+use crate::base32hex::digits::{digit_octet, value};
 use std::alloc::{AllocError, Global};
 use thiserror::Error;
 
@@ -18,80 +19,71 @@ use thiserror::Error;
 pub fn encode(alloc: Global, octets: &[u8]) -> Result<String, AllocError>
     ensures { IfOk result (λ text. string_bytes text ≡ base32hex octets.now) }
 {
-    let mut text = String::new(alloc);
+    let mut digits = Vec::with_capacity(alloc, octets.len().div_ceil(5).saturating_mul(8))?;
     let mut rest = octets;
     while rest.len() >= 5 {
         let (block, behind) = rest.split_at(5);
-        push_block(&mut text, block)?;
+        digits.extend_from_slice(&block_digits(block))?;
         rest = behind;
     }
-    push_tail(&mut text, rest)?;
-    Ok(text)
-}
-
-fn push_digit(text: &mut String, value: u8) -> Result<(), AllocError>
-    requires { value < 32 }
-    ensures { OnOk result (string_bytes text.new ≡ string_bytes text.old ++ digit value ∷ []) }
-{
-    text.push(digit(value))
+    push_tail(&mut digits, rest)?;
+    // Each is an ASCII one.
+    Ok(unsafe { String::from_utf8_unchecked(digits) })
 }
 
 /// The eight digits of five octets.
-fn push_block(text: &mut String, octets: &[u8]) -> Result<(), AllocError>
+fn block_digits(octets: &[u8]) -> [u8; 8]
     requires { length octets.now ≡ 5 }
-    ensures { OnOk result (string_bytes text.new ≡ string_bytes text.old ++ base32hex octets.now) }
+    ensures { result ≡ base32hex octets.now }
 {
-    push_front(text, octets[0], octets[1], octets[2])?;
-    push_back(text, octets[2], octets[3], octets[4])
+    let (a, b, c, d, e) = (octets[0], octets[1], octets[2], octets[3], octets[4]);
+    [
+        digit_octet(a / 8),
+        digit_octet(a % 8 * 4 + b / 64),
+        digit_octet(b / 2 % 32),
+        digit_octet(b % 2 * 16 + c / 16),
+        digit_octet(c % 16 * 2 + d / 128),
+        digit_octet(d / 4 % 32),
+        digit_octet(d % 4 * 8 + e / 32),
+        digit_octet(e % 32),
+    ]
 }
 
-/// The first four digits of five octets.
-fn push_front(text: &mut String, a: u8, b: u8, c: u8) -> Result<(), AllocError>
-    ensures { OnOk result (string_bytes text.new ≡ string_bytes text.old ++ front_digits a b c) }
+fn push_digit(digits: &mut Vec<u8>, value: u8) -> Result<(), AllocError>
+    requires { value < 32 }
+    ensures { OnOk result (digits.new.items ≡ digits.old.items ++ digit value ∷ []) }
 {
-    push_digit(text, a / 8)?;
-    push_digit(text, a % 8 * 4 + b / 64)?;
-    push_digit(text, b / 2 % 32)?;
-    push_digit(text, b % 2 * 16 + c / 16)
-}
-
-/// The last four.
-fn push_back(text: &mut String, c: u8, d: u8, e: u8) -> Result<(), AllocError>
-    ensures { OnOk result (string_bytes text.new ≡ string_bytes text.old ++ back_digits c d e) }
-{
-    push_digit(text, c % 16 * 2 + d / 128)?;
-    push_digit(text, d / 4 % 32)?;
-    push_digit(text, d % 4 * 8 + e / 32)?;
-    push_digit(text, e % 32)
+    digits.push(digit_octet(value))?;
+    Ok(())
 }
 
 /// The digits of fewer than five octets: a last digit is filled with zero bits.
-fn push_tail(text: &mut String, octets: &[u8]) -> Result<(), AllocError>
+fn push_tail(digits: &mut Vec<u8>, octets: &[u8]) -> Result<(), AllocError>
     requires { length octets.now < 5 }
-    ensures { OnOk result (string_bytes text.new ≡ string_bytes text.old ++ base32hex octets.now) }
+    ensures { OnOk result (digits.new.items ≡ digits.old.items ++ base32hex octets.now) }
 {
     let Some(&a) = octets.first() else {
         return Ok(());
     };
-    push_digit(text, a / 8)?;
+    push_digit(digits, a / 8)?;
     if octets.len() == 1 {
-        return push_digit(text, a % 8 * 4);
+        return push_digit(digits, a % 8 * 4);
     }
     let b = octets[1];
-    push_digit(text, a % 8 * 4 + b / 64)?;
-    push_digit(text, b / 2 % 32)?;
+    push_digit(digits, a % 8 * 4 + b / 64)?;
+    push_digit(digits, b / 2 % 32)?;
     if octets.len() == 2 {
-        return push_digit(text, b % 2 * 16);
+        return push_digit(digits, b % 2 * 16);
     }
     let c = octets[2];
-    push_digit(text, b % 2 * 16 + c / 16)?;
+    push_digit(digits, b % 2 * 16 + c / 16)?;
     if octets.len() == 3 {
-        return push_digit(text, c % 16 * 2);
+        return push_digit(digits, c % 16 * 2);
     }
     let d = octets[3];
-    push_digit(text, c % 16 * 2 + d / 128)?;
-    push_digit(text, d / 4 % 32)?;
-    push_digit(text, d % 4 * 8)
+    push_digit(digits, c % 16 * 2 + d / 128)?;
+    push_digit(digits, d / 4 % 32)?;
+    push_digit(digits, d % 4 * 8)
 }
 
 /// Why text is not base32hex: the first of these that holds.
@@ -126,33 +118,40 @@ pub fn decode(alloc: Global, text: &str) -> Result<Vec<u8>, DecodeError>
     ensures ok { IfOk result (λ octets. base32hex octets.items ≡ str_to_ascii_lowercase text.now) }
     ensures refused { IfErr result (RefusedText text.now) }
 {
-    let digits = text.to_ascii_lowercase(alloc)?;
-    decode_lower(alloc, digits.as_bytes())
+    let digits = text.as_bytes();
+    match decoded(alloc, digits)? {
+        Some(octets) => Ok(octets),
+        None => Err(refusal(digits)),
+    }
 }
 
-/// The octets of digits in lower case.
-fn decode_lower(alloc: Global, digits: &[u8]) -> Result<Vec<u8>, DecodeError>
-    ensures ok { IfOk result (λ octets. base32hex octets.items ≡ digits.now) }
-    ensures refused { IfErr result (RefusedDigits digits.now) }
+/// Why no octets have these digits.
+fn refusal(digits: &[u8]) -> DecodeError
+    requires { SpellsNothing digits.now }
+    ensures { RefusedText digits.now result }
 {
     if let Some(place) = first_no_digit(digits) {
-        return Err(DecodeError::BadChar(place));
+        return DecodeError::BadChar(place);
     }
     if is_bad_length(digits.len()) {
-        return Err(DecodeError::BadLength);
+        return DecodeError::BadLength;
     }
-    let octets = decoded(alloc, digits)?;
-    if !spells(alloc, &octets, digits)? {
-        return Err(DecodeError::TrailingBits);
-    }
-    Ok(octets)
+    DecodeError::TrailingBits
 }
 
-/// The place of the first that is no digit.
+/// The place of the first that is no digit in either case.
 fn first_no_digit(digits: &[u8]) -> Option<usize>
-    ensures { result ≡ first_no_digit digits.now }
+    ensures { result ≡ position (λ c. not (is_digit (to_ascii_lowercase c))) digits.now }
 {
-    digits.iter().position(|c| !is_digit(*c))
+    digits
+        .iter()
+        .position(|c| !is_digit(c.to_ascii_lowercase()))
+}
+
+fn is_digit(octet: u8) -> bool
+    ensures { result ≡ is_digit octet }
+{
+    (48 <= octet && octet <= 57) || (97 <= octet && octet <= 118)
 }
 
 /// Whether no octets have so many digits.
@@ -163,90 +162,91 @@ fn is_bad_length(len: usize) -> bool
     last == 1 || last == 3 || last == 6
 }
 
-/// Whether these are the digits of the octets.
-fn spells(alloc: Global, octets: &[u8], digits: &[u8]) -> Result<bool, AllocError>
-    ensures { IfOk result (λ b. IsTrue b ↔ (base32hex octets.now ≡ digits.now)) }
+/// The octets whose digits these are, where there are such.
+fn decoded(alloc: Global, digits: &[u8]) -> Result<Option<Vec<u8>>, AllocError>
+    ensures { IfOk result (λ found.
+        MatchOption found (SpellsNothing digits.now) (λ octets. Spells octets.items digits.now)) }
 {
-    let text = encode(alloc, octets)?;
-    Ok(text.as_bytes() == digits)
-}
-
-fn is_digit(octet: u8) -> bool
-    ensures { result ≡ is_digit octet }
-{
-    (48 <= octet && octet <= 57) || (97 <= octet && octet <= 118)
-}
-
-/// What a digit stands for.
-fn value(octet: u8) -> u8
-    ensures value { result ≡ value octet }
-    ensures small { result < 32 }
-{
-    if octet <= 57 {
-        octet.saturating_sub(48) % 32
-    } else {
-        octet.saturating_sub(87) % 32
-    }
-}
-
-/// The whole octets of digits.
-fn decoded(alloc: Global, digits: &[u8]) -> Result<Vec<u8>, AllocError>
-    ensures { IfOk result (λ octets. octets.items ≡ decoded digits.now) }
-{
-    let mut octets = Vec::new(alloc);
+    let mut octets = Vec::with_capacity(alloc, digits.len().div_ceil(8).saturating_mul(5))?;
     let mut rest = digits;
     while rest.len() >= 8 {
         let (block, behind) = rest.split_at(8);
-        push_octets(&mut octets, block)?;
+        let Some(five) = block_octets(block) else {
+            return Ok(None);
+        };
+        octets.extend_from_slice(&five)?;
         rest = behind;
     }
-    push_rest(&mut octets, rest)?;
-    Ok(octets)
+    if push_rest(&mut octets, rest)? {
+        Ok(Some(octets))
+    } else {
+        Ok(None)
+    }
 }
 
-/// The five octets of eight digits.
-fn push_octets(octets: &mut Vec<u8>, digits: &[u8]) -> Result<(), AllocError>
+/// The five octets of eight digits, where all are digits.
+fn block_octets(digits: &[u8]) -> Option<[u8; 5]>
     requires { length digits.now ≡ 8 }
-    ensures { OnOk result (octets.new.items ≡ octets.old.items ++ decoded digits.now) }
+    ensures { MatchOption result (SpellsNothing digits.now)
+        (λ five. (length five ≡ 5) × AllByRecursion (λ o. o < 256) five × Spells five digits.now) }
 {
-    let (front, _) = digits.split_at(7);
-    push_rest(octets, front)?;
-    push_fifth(octets, digits[6], digits[7])
+    let (a, b) = (value(digits[0])?, value(digits[1])?);
+    let (c, d) = (value(digits[2])?, value(digits[3])?);
+    let (e, f) = (value(digits[4])?, value(digits[5])?);
+    let (g, h) = (value(digits[6])?, value(digits[7])?);
+    Some([
+        a * 8 + b / 4,
+        b % 4 * 64 + c * 2 + d / 16,
+        d % 16 * 16 + e / 2,
+        e % 2 * 128 + f * 4 + g / 8,
+        g % 8 * 32 + h,
+    ])
 }
 
-/// The fifth octet of a block.
-fn push_fifth(octets: &mut Vec<u8>, g: u8, h: u8) -> Result<(), AllocError>
-    ensures { OnOk result (octets.new.items ≡ octets.old.items ++ octet_five g h ∷ []) }
-{
-    octets.push(value(g) % 8 * 32 + value(h))?;
-    Ok(())
-}
-
-/// The whole octets of fewer than eight digits.
-fn push_rest(octets: &mut Vec<u8>, digits: &[u8]) -> Result<(), AllocError>
+/// Appends the octets of fewer than eight digits, and returns whether there are such.
+fn push_rest(octets: &mut Vec<u8>, digits: &[u8]) -> Result<bool, AllocError>
     requires { length digits.now < 8 }
-    ensures { OnOk result (octets.new.items ≡ octets.old.items ++ decoded digits.now) }
+    ensures { IfOk result (λ found. MatchBool found
+        (Appends octets.old.items octets.new.items digits.now) (SpellsNothing digits.now)) }
 {
-    let count = digits.len();
-    if count < 2 {
-        return Ok(());
+    if is_bad_length(digits.len()) {
+        return Ok(false);
     }
-    let (a, b) = (value(digits[0]), value(digits[1]));
-    octets.push(a * 8 + b / 4)?;
-    if count < 4 {
-        return Ok(());
+    let Some(five) = block_octets(&filled(digits)) else {
+        return Ok(false);
+    };
+    let (whole, behind) = five.split_at(digits.len() * 5 / 8);
+    if !are_zeros(behind) {
+        return Ok(false);
     }
-    let (c, d) = (value(digits[2]), value(digits[3]));
-    octets.push(b % 4 * 64 + c * 2 + d / 16)?;
-    if count < 5 {
-        return Ok(());
-    }
-    let e = value(digits[4]);
-    octets.push(d % 16 * 16 + e / 2)?;
-    if count < 7 {
-        return Ok(());
-    }
-    let (f, g) = (value(digits[5]), value(digits[6]));
-    octets.push(e % 2 * 128 + f * 4 + g / 8)?;
-    Ok(())
+    octets.extend_from_slice(whole)?;
+    Ok(true)
+}
+
+/// Fewer than eight digits, and zeros behind them.
+fn filled(digits: &[u8]) -> [u8; 8]
+    ensures { result ≡ filled digits.now }
+{
+    [
+        digit_or_zero(digits, 0),
+        digit_or_zero(digits, 1),
+        digit_or_zero(digits, 2),
+        digit_or_zero(digits, 3),
+        digit_or_zero(digits, 4),
+        digit_or_zero(digits, 5),
+        digit_or_zero(digits, 6),
+        digit_or_zero(digits, 7),
+    ]
+}
+
+fn digit_or_zero(digits: &[u8], place: usize) -> u8
+    ensures { result ≡ slice_index_or digits.now place 48 }
+{
+    digits.get(place).copied().unwrap_or(b'0')
+}
+
+fn are_zeros(octets: &[u8]) -> bool
+    ensures { result ≡ list_all (λ o. o == 0) octets.now }
+{
+    octets.iter().all(|o| *o == 0)
 }

@@ -3,9 +3,9 @@
 use crate::octets::{octets_of, push_word, text_of};
 use crate::records::{Rr, shown};
 use crate::sorted::sorted_of;
-use denial_sorted::groups::{MultipleTtlValues, OwnerRrs, Rrset};
-use denial_sorted::slices::SliceRefsOrOwned;
-use denial_sorted::walks::RecordsIter;
+use denial_groups::groups::{MultipleTtlValues, OwnerRrs, Rrset};
+use denial_groups::slices::SliceRefsOrOwned;
+use denial_groups::walks::RecordsIter;
 use names::{Name, Rtype, UnknownRecordData};
 use std::alloc::Global;
 

@@ -1,19 +1,16 @@
 //! What the lines so far handed in.
 
-use crate::judging::{Outcome, outcome_of};
-use crate::signatures::{Signatures, Signed};
+use crate::judging::{IN, Outcome, outcome_of};
+use crate::signatures::Signatures;
 use crate::tally::Tally;
-use crate::words::{ds_set, key, moment, nothing, octets_of, text};
+use crate::words::{ds_set, nothing, octets_of, text};
 use crate::zone::{Asked, Zone};
-use answer::{Case, Dnskey, Ds, UnixTime};
-use answer_terms::dnskey::ZoneKey;
+use answer_table::OctetCase;
 use std::alloc::Global;
 
 #[derive(Drop)]
 pub struct Desk {
     signatures: Signatures,
-    /// The key whose signatures are handed in.
-    signer: Option<Dnskey<Vec<u8>>>,
     zone: Option<Zone>,
     asked: Option<Asked>,
     /// The answer that is held.
@@ -25,7 +22,6 @@ impl Desk {
     pub fn new(alloc: Global) -> Desk {
         Desk {
             signatures: Signatures::new(alloc),
-            signer: None,
             zone: None,
             asked: None,
             answer: Vec::new(alloc),
@@ -35,16 +31,9 @@ impl Desk {
 
     /// A line of the table of signatures.
     pub fn take_signature(&mut self, alloc: Global, name: &str, words: &[&str]) -> Option<String> {
-        match (name, words) {
-            ("key", words) => self.signer = Some(key(alloc, words)?),
-            (_, [signature, octets]) => {
-                let signed = Signed {
-                    key: self.signer.as_ref()?.for_ref().try_clone(alloc).ok()?,
-                    octets: octets_of(alloc, octets)?,
-                };
-                self.signatures.put(octets_of(alloc, signature)?, signed)?
-            }
-            _ => return None,
+        match name {
+            "key" => self.signatures.take_key(alloc, words)?,
+            _ => self.signatures.take_signature(alloc, words)?,
         }
         nothing(alloc)
     }
@@ -106,21 +95,18 @@ impl Desk {
     }
 
     /// What is said of an answer beside a DS set, at a moment.
-    fn outcome<'a>(
-        &'a self,
-        alloc: Global,
-        ds: &'a [Ds<Vec<u8>>],
-        answer: &'a [u8],
-        moment: UnixTime,
-    ) -> Option<Outcome> {
+    fn outcome(&self, alloc: Global, ds: &[u8], answer: &[u8], moment: u64) -> Option<Outcome> {
         let (zone, asked) = (self.zone.as_ref()?, self.asked.as_ref()?);
-        let case = Case {
+        let case = OctetCase {
             apex: &zone.apex,
             ds,
             dnskey: &zone.keys,
             answer,
-            question: &asked.question,
+            name: &asked.name,
+            checked: &[],
             moment,
+            rtype: asked.rtype,
+            class: IN,
             limit: zone.limit,
         };
         outcome_of(alloc, &self.signatures, &case, &asked.verdict)
@@ -144,7 +130,9 @@ impl Desk {
                 let left = self.answer.len().checked_sub(count.parse::<usize>().ok()?)?;
                 self.outcome(alloc, &zone.ds, self.answer.get(..left)?, zone.moment)
             }
-            ("at", [now]) => self.outcome(alloc, &zone.ds, &self.answer, moment(now)?),
+            ("at", [now]) => {
+                self.outcome(alloc, &zone.ds, &self.answer, now.parse::<u64>().ok()?)
+            }
             ("beside", [list]) => {
                 let set = ds_set(alloc, list)?;
                 self.outcome(alloc, &set, &self.answer, zone.moment)

@@ -1,50 +1,82 @@
-//! Judgements.
-ghost use Rattle.std.specs.Prelude.{◌≡◌, ◌<◌};
+//! Judgements, their signatures looked up as they are asked for.
 
 use crate::signatures::Signatures;
 use crate::tally::Said;
 use crate::words::text;
-use answer::{Case, DataList, Judgement, Refused, SchemeChecks, Verdict, judge};
-use nsec3_sha1::hasher::Sha1Hasher;
+use answer_table::{OctetCase, ReplyCode, Report, judge_octets};
 use std::alloc::Global;
-use std::marker::Brand;
-use std::sync::ledger::{Blank, Ledger};
 
-fn by_checks<L: Ledger, M: Ledger>(
-    alloc: Global,
-    signatures: &Signatures,
-    case: &Case,
-    first: Blank,
-    second: Blank,
-) -> Result<Judgement, Refused>
-    requires name { first.name ≡ L.name }
-    requires parts { first.parts ≡ L.parts }
-    requires some { 0 < L.parts }
-    requires second_name { second.name ≡ M.name }
-    requires second_parts { second.parts ≡ M.parts }
-    requires second_some { 0 < M.parts }
-{
-    let mut checks = SchemeChecks::<Signatures, Sha1Hasher, L, M>::new(
-        signatures,
-        &Sha1Hasher,
-        first,
-        second,
-    );
-    judge(
-        alloc,
-        case.apex,
-        case.ds,
-        case.dnskey,
-        case.answer,
-        case.question,
-        &case.moment,
-        &mut checks,
-        case.limit,
-    )
+/// The class IN (RFC 1035, 3.2.4).
+pub const IN: u16 = 1;
+
+/// A buffer of so many octets is handed in at first, and a larger one where it is too small.
+const ROOM: usize = 64;
+
+/// A reply that asks for nothing more.
+#[derive(Drop)]
+struct LastReply {
+    code: ReplyCode,
+    octets: Vec<u8>,
+    verifications: u32,
+    hashes: u32,
 }
 
-fn judged(alloc: Global, signatures: &Signatures, case: &Case) -> Result<Judgement, Refused> {
-    by_checks::<Brand, Brand>(alloc, signatures, case, Blank::new(1), Blank::new(1))
+/// The reply to a case, once each signature that was asked for was looked up; `checked` of the case is not looked at.
+fn last_reply(alloc: Global, signatures: &Signatures, case: &OctetCase) -> Option<LastReply> {
+    let mut checked = Vec::new(alloc);
+    let mut out = Vec::from_elem(alloc, 0, ROOM).ok()?;
+    for _ in 0..u64::MAX {
+        let (code, report) = reply_to(alloc, case, &checked, &mut out);
+        let octets = out.get(..report.len);
+        match code {
+            ReplyCode::BufferTooSmall => out = Vec::from_elem(alloc, 0, report.len).ok()?,
+            ReplyCode::Ask => put_answered(&mut checked, signatures, octets?)?,
+            _ => {
+                return Some(LastReply {
+                    code,
+                    octets: octets?.to_vec(alloc).ok()?,
+                    verifications: report.verifications,
+                    hashes: report.hashes,
+                });
+            }
+        }
+    }
+    None
+}
+
+/// One reply to a case with these signatures.
+fn reply_to(
+    alloc: Global,
+    case: &OctetCase,
+    checked: &[u8],
+    out: &mut [u8],
+) -> (ReplyCode, Report) {
+    let mut report = Report {
+        len: 0,
+        verifications: 0,
+        hashes: 0,
+    };
+    let case = OctetCase {
+        apex: case.apex,
+        ds: case.ds,
+        dnskey: case.dnskey,
+        answer: case.answer,
+        name: case.name,
+        checked,
+        moment: case.moment,
+        rtype: case.rtype,
+        class: case.class,
+        limit: case.limit,
+    };
+    let code = judge_octets(alloc, &case, out, &mut report);
+    (code, report)
+}
+
+/// Puts an entry that was asked for at the end, its last octet set where the signature passes.
+fn put_answered(checked: &mut Vec<u8>, signatures: &Signatures, entry: &[u8]) -> Option<()> {
+    let (_unset, head) = entry.split_last()?;
+    checked.extend_from_slice(head).ok()?;
+    checked.push(u8::from(signatures.passes(entry))).ok()
 }
 
 /// What is said of an answer, and how it is printed.
@@ -58,31 +90,30 @@ pub struct Outcome {
 pub fn outcome_of(
     alloc: Global,
     signatures: &Signatures,
-    case: &Case,
+    case: &OctetCase,
     zone: &str,
 ) -> Option<Outcome> {
-    let (said, words, verifications, hashes) = match judged(alloc, signatures, case) {
-        Ok(judgement) => {
-            let words = verdict(alloc, &judgement.verdict)?;
-            let said = compared(&judgement.verdict, &words, zone);
-            (said, words, judgement.verifications, judgement.hashes)
-        }
-        Err(answer) => {
-            let refusal = answer.refusal;
-            let words = format!(in alloc; "{refusal:?}").ok()?;
-            (Said::Refused, words, answer.verifications, answer.hashes)
-        }
-    };
+    let replied = last_reply(alloc, signatures, case)?;
+    let words = words_of(alloc, &replied)?;
+    let said = compared(replied.code, &words, zone);
     let words = told(alloc, said, &words)?;
+    let (verifications, hashes) = (replied.verifications, replied.hashes);
     let text = format!(in alloc; "{words}; {verifications} verified, {hashes} hashed").ok()?;
     Some(Outcome { said, text })
 }
 
 /// Whether a verdict is the zone's, data and all.
-fn compared(verdict: &Verdict, words: &str, zone: &str) -> Said {
-    if let Verdict::Unsigned = verdict {
-        return Said::Unsigned;
+fn compared(code: ReplyCode, words: &str, zone: &str) -> Said {
+    match code {
+        ReplyCode::Unsigned => Said::Unsigned,
+        ReplyCode::Records | ReplyCode::NoType | ReplyCode::NoName => as_zone(words, zone),
+        ReplyCode::StarRecords | ReplyCode::StarNoType => as_zone(words, zone),
+        ReplyCode::Delegated | ReplyCode::Open => as_zone(words, zone),
+        _ => Said::Refused,
     }
+}
+
+fn as_zone(words: &str, zone: &str) -> Said {
     if words == zone {
         Said::AsZone
     } else {
@@ -101,27 +132,18 @@ fn told(alloc: Global, said: Said, words: &str) -> Option<String> {
     }
 }
 
-fn verdict(alloc: Global, verdict: &Verdict) -> Option<String> {
-    match verdict {
-        Verdict::Records(list) => with_data(alloc, "Records", list),
-        Verdict::NoType => text(alloc, "NoType"),
-        Verdict::NoName => text(alloc, "NoName"),
-        Verdict::StarRecords(list) => with_data(alloc, "StarRecords", list),
-        Verdict::StarNoType => text(alloc, "StarNoType"),
-        Verdict::Delegated => text(alloc, "Delegated"),
-        Verdict::Open => text(alloc, "Open"),
-        Verdict::Unsigned => text(alloc, "Unsigned"),
-    }
-}
-
-/// A word, and data joined by commas.
-fn with_data(alloc: Global, word: &str, list: &DataList) -> Option<String> {
-    let mut text = text(alloc, word)?;
+/// A code, and the data of its octets joined by commas.
+fn words_of(alloc: Global, replied: &LastReply) -> Option<String> {
+    let code = replied.code;
+    let mut text = format!(in alloc; "{code:?}").ok()?;
+    let mut rest = replied.octets.as_slice();
     let mut separator = ' ';
-    for octets in list.as_slice() {
+    while let Some((len, behind)) = rest.split_first_chunk::<2>() {
+        let (datum, behind) = behind.split_at_checked(usize::from(u16::from_be_bytes(*len)))?;
         text.push(separator).ok()?;
-        text.push_str(&hex::encode(alloc, octets).ok()?).ok()?;
+        text.push_str(&hex::encode(alloc, datum).ok()?).ok()?;
         separator = ',';
+        rest = behind;
     }
     Some(text)
 }

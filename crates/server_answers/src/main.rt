@@ -2,7 +2,8 @@
 //! the rules say of it by a program in another language, and with what the zone says.
 //!
 //! Names are texts, octets hexadecimal digits, numbers decimal, lists joined by commas, moments seconds since 1970. A signature
-//! passes where it is in the table that the first lines make, digests are those of SHA-256, and names are hashed by SHA-1.
+//! that the judge asks for passes where it is in the table that the first lines make. All is judged from octets to octets, as
+//! callers in other languages do.
 //!
 //! - `key FLAGS PROTOCOL ALGORITHM OCTETS`: a key; `passes SIGNATURE OCTETS`: a signature of these octets that passes under it.
 //! - `zone APEX LIMIT MOMENT`: begins a zone, whose answers are judged at that moment with that limit of iterations; `ds LIST`: its

@@ -1,28 +1,25 @@
-//! Words of a line.
+//! Words of a line, and octets as they are handed in.
 
-use answer::{DigestAlgorithm, Dnskey, Ds, Name, SecurityAlgorithm, UnixTime};
+use names::Name;
 use std::alloc::Global;
-use std::time::Duration;
 
 /// The words of a line, between blanks.
 pub fn words(alloc: Global, line: &str) -> Option<Vec<&str>> {
     line.split(' ').collect(alloc).ok()
 }
 
-/// A name of its text (RFC 1035, 5.1).
-pub fn name_of(alloc: Global, text: &str) -> Option<Name<Vec<u8>>> {
-    Name::vec_from_str(alloc, text).ok()
+/// The wire form of the name of a text (RFC 1035, 3.1 and 5.1).
+pub fn name_of(alloc: Global, text: &str) -> Option<Vec<u8>> {
+    Name::vec_from_str(alloc, text)
+        .ok()?
+        .as_slice()
+        .to_vec(alloc)
+        .ok()
 }
 
 /// The octets of hexadecimal digits.
 pub fn octets_of(alloc: Global, digits: &str) -> Option<Vec<u8>> {
     hex::decode(alloc, digits).ok()
-}
-
-/// A moment of whole seconds since 1970.
-pub fn moment(word: &str) -> Option<UnixTime> {
-    let seconds = word.parse::<u64>().ok()?;
-    Some(UnixTime::new(Duration::from_secs(seconds)))
 }
 
 /// A text of the program's own.
@@ -35,36 +32,36 @@ pub fn nothing(alloc: Global) -> Option<String> {
     Some(String::new(alloc))
 }
 
-/// DS records, joined by commas; of `-` none.
-pub fn ds_set(alloc: Global, list: &str) -> Option<Vec<Ds<Vec<u8>>>> {
+/// Puts a part behind its length in so many octets, at most four, at the end.
+pub fn put_part(octets: &mut Vec<u8>, width: usize, part: &[u8]) -> Option<()> {
+    let len = u32::try_from(part.len()).ok()?.to_be_bytes();
+    octets
+        .extend_from_slice(len.get(4_usize.checked_sub(width)?..)?)
+        .ok()?;
+    octets.extend_from_slice(part).ok()
+}
+
+/// DS records, joined by commas, each behind its length; of `-` none.
+pub fn ds_set(alloc: Global, list: &str) -> Option<Vec<u8>> {
     let mut set = Vec::new(alloc);
     if list == "-" {
         return Some(set);
     }
     for word in list.split(',') {
-        set.push(ds(alloc, word)?).ok()?;
+        put_part(&mut set, 2, &ds(alloc, word)?)?;
     }
     Some(set)
 }
 
-/// A DS record of its tag, algorithm, type of digest and digest.
-fn ds(alloc: Global, word: &str) -> Option<Ds<Vec<u8>>> {
+/// A DS record's data of its tag, algorithm, type of digest and digest.
+fn ds(alloc: Global, word: &str) -> Option<Vec<u8>> {
     let fields: Vec<&str> = word.split(':').collect(alloc).ok()?;
     let [tag, algorithm, digest_type, digest] = fields.as_slice() else {
         return None;
     };
-    let algorithm = SecurityAlgorithm::from_int(algorithm.parse::<u8>().ok()?);
-    let digest_type = DigestAlgorithm::from_int(digest_type.parse::<u8>().ok()?);
-    let digest = octets_of(alloc, digest)?;
-    Ds::new(tag.parse::<u16>().ok()?, algorithm, digest_type, digest).ok()
-}
-
-/// A key of its flags, protocol, algorithm and octets.
-pub fn key(alloc: Global, words: &[&str]) -> Option<Dnskey<Vec<u8>>> {
-    let [flags, protocol, algorithm, octets] = words else {
-        return None;
-    };
-    let algorithm = SecurityAlgorithm::from_int(algorithm.parse::<u8>().ok()?);
-    let (flags, protocol) = (flags.parse::<u16>().ok()?, protocol.parse::<u8>().ok()?);
-    Dnskey::new(flags, protocol, algorithm, octets_of(alloc, octets)?).ok()
+    let mut rdata = tag.parse::<u16>().ok()?.to_be_bytes().to_vec(alloc).ok()?;
+    rdata.push(algorithm.parse::<u8>().ok()?).ok()?;
+    rdata.push(digest_type.parse::<u8>().ok()?).ok()?;
+    rdata.extend_from_slice(&octets_of(alloc, digest)?).ok()?;
+    Some(rdata)
 }

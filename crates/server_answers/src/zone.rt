@@ -1,16 +1,17 @@
 //! A zone whose answers are judged, and a question that it was asked.
 
-use crate::words::{ds_set, moment, name_of, octets_of, text};
-use answer::{Class, Ds, Name, Question, Rtype, UnixTime};
+use crate::words::{ds_set, name_of, octets_of, text};
 use std::alloc::Global;
 
 /// A zone, its DS set and its DNSKEY answer, and what its answers are judged with.
 #[derive(Drop)]
 pub struct Zone {
-    pub apex: Name<Vec<u8>>,
+    /// The name in wire form.
+    pub apex: Vec<u8>,
     pub limit: u16,
-    pub moment: UnixTime,
-    pub ds: Vec<Ds<Vec<u8>>>,
+    pub moment: u64,
+    /// Each record's data behind its length.
+    pub ds: Vec<u8>,
     pub keys: Vec<u8>,
 }
 
@@ -23,7 +24,7 @@ impl Zone {
         Some(Zone {
             apex: name_of(alloc, apex)?,
             limit: limit.parse::<u16>().ok()?,
-            moment: moment(now)?,
+            moment: now.parse::<u64>().ok()?,
             ds: Vec::new(alloc),
             keys: Vec::new(alloc),
         })
@@ -49,7 +50,9 @@ impl Zone {
 /// A question, and the verdict of the zone as it is printed.
 #[derive(Drop)]
 pub struct Asked {
-    pub question: Question,
+    /// The name in wire form.
+    pub name: Vec<u8>,
+    pub rtype: u16,
     pub verdict: String,
 }
 
@@ -63,11 +66,8 @@ impl Asked {
             _ => return None,
         };
         Some(Asked {
-            question: Question {
-                name: name_of(alloc, name)?,
-                rtype: Rtype::from_int(rtype.parse::<u16>().ok()?),
-                class: Class::IN,
-            },
+            name: name_of(alloc, name)?,
+            rtype: rtype.parse::<u16>().ok()?,
             verdict,
         })
     }

@@ -2,7 +2,7 @@
 use Rattle.std.proofs.Common.{◌≡◌, ℕ, ◌-◌, ◌<◌, Bool, true, false, List, [], ◌∷◌, length, ◌++◌, take, get_or, Option, Some, None, refl, sym, ap, subst, ◌∙◌, length-append, arith}
 use Rattle.std.specs.Prelude.{slice_get, codes, cond, ◌==◌, ◌*◌, Result, Ok, Err, if◌then◌else◌}
 use Rattle.std.specs.List.{list_all, slice_split}
-use Rattle.std.specs.Result.{IsErr, IsErrAnd, result_ok}
+use Rattle.std.specs.Result.{IsErr, IsErrAnd}
 use Rattle.std.proofs.lemmas.List.Folds.{list_all_at}
 use Rattle.std.proofs.Math.Seq.{take-append_seam}
 use Rattle.std.specs.Bool.{Decides}
@@ -10,9 +10,10 @@ use Rattle.std.specs.Str.{bytes_eq}
 use Rattle.std.proofs.lemmas.Slice.Eq.{bytes_eq-Decides}
 use Rattle.session_lines.specs.declared.line_error.LineError.{LineError}
 use Rattle.session_lines.specs.declared.line_error.LineError.TheVariants.{Unreadable, Memory}
+use Rattle.session_lines.specs.declared.line_error.LineFault.{LineFault}
 use Rattle.session_lines.specs.Fields.{is_nothing, is_reference}
-use Rattle.session_lines.specs.Grammar.{◌>>=◌, ActLine, EventLine, act_line, act_line3, event_line, number_field, zone_line, record_line, references_field}
-use Rattle.session_lines.specs.Numbers.{number_of}
+use Rattle.session_lines.specs.Grammar.{◌>>=◌, ActLine, EventLine, act_line, act_line3, event_line, zone_line, record_line, reference_field, references_field}
+use Rattle.session_lines.specs.Numbers.{number_field}
 use Rattle.session_lines.specs.Readings.{Reads}
 
 ne_of : (b : Bool) (xs ys : List ℕ) → Decides b (xs ≡ ys) → (xs ≡ ys → ⊥) → b ≡ false
@@ -73,10 +74,24 @@ split_reads view r field parts n e h =
     subst P (ap each_of e ∙ sym (ap (λ b. cond b (Some []) whole) n)) h
 
 -- a refusal that the grammar shares
-pub refused : {X Y : Type 0} (view : X → Y) (r : Result X LineError) (e : LineError) (read : Option Y) → IsErr r → IsErrAnd r (λ x. x ≡ e) → (e ≡ Unreadable → read ≡ None) → Reads view r read
+pub refused : {X Y : Type 0} (view : X → Y) (r : Result X LineError) (e : LineError) (read : Option Y) → IsErr r → IsErrAnd r (λ x. x ≡ e) → ((f : LineFault) → e ≡ Unreadable f → read ≡ None) → Reads view r read
 refused view (Ok x) e read h k n = cc
-refused view (Err Unreadable) e read h k n = n (sym k)
+refused view (Err (Unreadable f)) e read h k n = n f (sym k)
 refused view (Err Memory) e read h k n = tt
+
+refuted_reference : (b : Bool) (field : List ℕ) → (if b then Some field else None) ≡ None → b ≡ false
+refuted_reference true field e = cc
+refuted_reference false field e = refl
+
+-- what a field that is no reference is refused for
+pub no_reference_field : (field : List ℕ) → reference_field field ≡ None → is_reference field ≡ false
+no_reference_field field e = refuted_reference (is_reference field) field e
+
+-- such a field where a reading was refused for what stands there
+pub refused_reference : {X : Type 0} (view : X → List ℕ) (e : LineError) (f : LineFault) (field : List ℕ) → Reads view (Err e) (reference_field field) → e ≡ Unreadable f → is_reference field ≡ false
+refused_reference view e f field h is =
+    let P : LineError → Type 0 = λ x. Reads view (Err x) (reference_field field) in
+    no_reference_field field (subst P is h)
 
 pub no_reference : (parts : List (List ℕ)) (i : ℕ) (d : List ℕ) → i < length parts → is_reference (get_or parts i d) ≡ false → each_of parts ≡ None
 no_reference parts i d lt h = ap (λ b. cond b (Some parts) None) (list_all_at is_reference parts i d lt h)
@@ -94,7 +109,7 @@ moment_read fields rest last e =
     let front : take (length fields - 1) fields ≡ rest = (λ i. take (size i) (e i)) ∙ take-append_seam rest (last ∷ []) in
     (λ i. there i >>= λ l. number_field 64 l >>= λ n. act_line (front i) >>= λ a. Some (record { at = n * 1000000000; act = a }))
 
-pub event_read : (fields rest : List (List ℕ)) (last : List ℕ) (n at : ℕ) (a : ActLine) → fields ≡ rest ++ last ∷ [] → Ok n ≡ number_of 64 last → act_line rest ≡ Some a → at ≡ n * 1000000000 → event_line fields ≡ Some (record { at = at; act = a })
+pub event_read : (fields rest : List (List ℕ)) (last : List ℕ) (n at : ℕ) (a : ActLine) → fields ≡ rest ++ last ∷ [] → number_field 64 last ≡ Some n → act_line rest ≡ Some a → at ≡ n * 1000000000 → event_line fields ≡ Some (record { at = at; act = a })
 event_read fields rest last n at a e number act is =
     let with_act : ℕ → Option ActLine → Option EventLine = λ k o. o >>= λ b. Some (record { at = k * 1000000000; act = b }) in
-    moment_read fields rest last e ∙ ap (λ r. result_ok r >>= λ k. with_act k (act_line rest)) (sym number) ∙ ap (with_act n) act ∙ ap (λ t. Some (record { at = t; act = a })) (sym is)
+    moment_read fields rest last e ∙ ap (λ r. r >>= λ k. with_act k (act_line rest)) number ∙ ap (with_act n) act ∙ ap (λ t. Some (record { at = t; act = a })) (sym is)

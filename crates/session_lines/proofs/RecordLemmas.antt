@@ -1,5 +1,5 @@
 -- Records that are read from a line.
-use Rattle.std.proofs.Common.{◌≡◌, ℕ, ◌+◌, ◌-◌, ◌≤◌, List, ◌++◌, length, take, drop, Option, Some, None, Ok, refl, sym, ap, ◌∙◌, append_assoc, take_all, length-drop, arith, Bool, true, false, not}
+use Rattle.std.proofs.Common.{◌≡◌, ℕ, ◌+◌, ◌-◌, ◌≤◌, List, ◌++◌, length, take, drop, Option, Some, None, refl, sym, ap, ◌∙◌, append_assoc, take_all, length-drop, arith, Bool, true, false, not}
 use Rattle.std.specs.Prelude.{codes, cond}
 use Rattle.std.specs.Int.{w32, to_be_bytes}
 use Rattle.std.specs.Result.{result_ok}
@@ -12,8 +12,8 @@ use Rattle.plain.specs.Soa.{times_octets}
 use Rattle.plain.specs.declared.soa.Soa.{Soa}
 use Rattle.plain.specs.declared.soa.Times.{Times}
 use Rattle.session_lines.specs.Fields.{hex_field}
-use Rattle.session_lines.specs.Grammar.{◌>>=◌, DataField, name_field, number_field, data_octets, soa_octets, soa_field, record_fields}
-use Rattle.session_lines.specs.Numbers.{number_of}
+use Rattle.session_lines.specs.Grammar.{◌>>=◌, DataField, name_field, data_octets, soa_octets, soa_field, record_fields}
+use Rattle.session_lines.specs.Numbers.{number_field}
 use Rattle.session_lines.specs.Readings.{soa_view}
 
 pub bind_some : {A B : Type 0} (o : Option A) (x : A) (f : A → Option B) (y : Option B) → o ≡ Some x → f x ≡ y → (o >>= f) ≡ y
@@ -65,7 +65,7 @@ is_word word other e = negated (bytes_eq word other) e
 
 -- what a record is made of, where its data are known
 pub record_read : (word owner ttl class rtype octets : List ℕ) (n own : Name) (s s' c c' t t' kind : ℕ) (o : List ℕ) (d : DataField)
-    → bytes_eq word (codes "rr") ≡ true → name_field owner ≡ Some n → Ok s ≡ number_of 32 ttl → Ok c ≡ number_of 16 class → Ok t ≡ number_of 16 rtype → hex_field 65535 octets ≡ Some o → data_octets t' o ≡ Some d
+    → bytes_eq word (codes "rr") ≡ true → name_field owner ≡ Some n → number_field 32 ttl ≡ Some s → number_field 16 class ≡ Some c → number_field 16 rtype ≡ Some t → hex_field 65535 octets ≡ Some o → data_octets t' o ≡ Some d
     → own ≡ n → s' ≡ s → c' ≡ c → t' ≡ t → kind ≡ t'
     → record_fields word owner ttl class rtype octets ≡ Some (record { owner = own; class = c'; ttl = s'; rtype = kind; is_unknown = d.is_unknown; written = d.written; bytes = d.bytes })
 record_read word owner ttl class rtype octets n own s s' c c' t t' kind o d w e es ec et eo ed same_name same_ttl same_class same_type same_kind =
@@ -73,8 +73,8 @@ record_read word owner ttl class rtype octets n own s s' c c' t t' kind o d w e 
     sym (λ i. Some (record { owner = same_name i; class = same_class i; ttl = same_ttl i; rtype = (same_kind ∙ same_type) i; is_unknown = d.is_unknown; written = d.written; bytes = d.bytes })) in
     ap (λ b. cond b (record_fields (codes "rr") owner ttl class rtype octets) None) w
     ∙ bind_some (name_field owner) n _ _ e
-    (bind_some (number_field 32 ttl) s _ _ (ap result_ok (sym es))
-    (bind_some (number_field 16 class) c _ _ (ap result_ok (sym ec))
-    (bind_some (number_field 16 rtype) t _ _ (ap result_ok (sym et))
+    (bind_some (number_field 32 ttl) s _ _ es
+    (bind_some (number_field 16 class) c _ _ ec
+    (bind_some (number_field 16 rtype) t _ _ et
     (bind_some (hex_field 65535 octets) o _ _ eo
     (bind_some (data_octets t o) d (λ x. Some (record { owner = n; class = c; ttl = s; rtype = t; is_unknown = x.is_unknown; written = x.written; bytes = x.bytes })) _ (ap (λ k. data_octets k o) (sym same_type) ∙ ed) made)))))

@@ -3,7 +3,8 @@ use Rattle.std.proofs.Common.{◌≡◌, ℕ, Bool, true, false, List, Option, S
 use Rattle.std.specs.Prelude.{cond}
 use Rattle.std.specs.Str.{IsUtf8, is_utf8}
 use Rattle.std.proofs.lemmas.Str.{IsUtf8-from_is_utf8, is_utf8-from_IsUtf8}
-use Rattle.session_lines.specs.Sessions.{Lines, is_passed_over, fields_of, with_fields, with_line}
+use Rattle.session_lines.specs.Sessions.{Lines, fields_of, with_fields, with_line}
+use Rattle.session_lines.specs.Lines.{is_passed_over}
 
 abbrev read_text : Lines → List ℕ → Bool → Option Lines
 read_text s line b = cond b (with_fields s (fields_of line)) None

@@ -15,7 +15,7 @@ use Rattle.answer_events.specs.RollType.{RollType}
 use Rattle.answer_events.specs.declared.key_kind.KeyKind.{KeyKind}
 use Rattle.answer_events.specs.declared.key_kind.KeyKind.TheVariants.{Ksk, Zsk, Csk, Include}
 use Rattle.session_lines.specs.Fields.{is_nothing, hex_field, key_field, is_reference}
-use Rattle.session_lines.specs.Numbers.{number_of}
+use Rattle.session_lines.specs.Numbers.{number_field}
 
 infixl 10 ◌>>=◌
 abbrev pub ◌>>=◌ : {A B : Type 0} → Option A → (A → Option B) → Option B
@@ -27,9 +27,6 @@ None >>= f = None
 -- a name as its text (RFC 1035, 5.1)
 abbrev pub name_field : List ℕ → Option Name
 name_field field = name_of_text (chars field)
-
-abbrev pub number_field : ℕ → List ℕ → Option ℕ
-number_field bits field = result_ok (number_of bits field)
 
 abbrev pub reference_field : List ℕ → Option (List ℕ)
 reference_field field = if is_reference field then Some field else None

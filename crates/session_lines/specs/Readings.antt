@@ -3,7 +3,7 @@ use Rattle.std.specs.Prelude.{◌≡◌, ℕ, false, List, map, Option, Some, No
 use Rattle.std.specs.Borrow.{Bor}
 use Rattle.std.specs.Option.{option_map}
 use Rattle.answer_events.specs.Questions.{asked_of}
-use Rattle.answer_zone.specs.ModeView.{mode_of}
+use Rattle.answer_records.specs.ModeView.{mode_of}
 use Rattle.answer_events.specs.Calls.{call_of}
 use Rattle.answer_events.specs.declared.event.Event.{Event}
 use Rattle.answer_events.specs.declared.event.Act.{Act}
@@ -25,7 +25,7 @@ use Rattle.session_lines.specs.Sessions.{Lines, session_of}
 -- What a reading returned, seen by view, is what the grammar reads; it is refused where the grammar reads nothing.
 abbrev pub Reads : {X Y : Type 0} → (X → Y) → Result X LineError → Option Y → Type 0
 Reads view (Ok x) read = read ≡ Some (view x)
-Reads view (Err Unreadable) read = read ≡ None
+Reads view (Err (Unreadable fault)) read = read ≡ None
 Reads view (Err Memory) read = Unit {0}
 
 -- fields, as their octets
@@ -58,5 +58,5 @@ session_view zone records events = record { zone = option_map zone_view zone; re
 
 -- the first line that can't be read, counted from 1 on, or want of memory
 abbrev pub IsSessionError : List ℕ → SessionError → Type 0
-IsSessionError input (session_error.Line n) = session_of input ≡ Err n
+IsSessionError input (session_error.Line n fault) = session_of input ≡ Err n
 IsSessionError input session_error.Memory = Unit {0}

@@ -1,10 +1,10 @@
 -- Sessions: the zone's line first, then those of its records, then events.
-use Rattle.std.specs.Prelude.{ℕ, ◌+◌, ◌==◌, ◌&&◌, Bool, true, false, List, [], ◌∷◌, ◌++◌, length, codes, if◌then◌else◌, Option, Some, None, Result, Ok, Err}
+use Rattle.std.specs.Prelude.{ℕ, ◌+◌, ◌==◌, ◌&&◌, Bool, false, List, [], ◌∷◌, ◌++◌, length, codes, if◌then◌else◌, Option, Some, None, Result, Ok, Err}
 use Rattle.std.specs.List.{slice_split}
 use Rattle.std.specs.Str.{bytes_eq, is_utf8}
 use Rattle.answer_events.specs.HandedRr.{HandedRr}
 use Rattle.session_lines.specs.Grammar.{◌>>=◌, ZoneLine, EventLine, zone_line, record_line, event_line}
-use Rattle.session_lines.specs.Lines.{lines_of}
+use Rattle.session_lines.specs.Lines.{is_passed_over, lines_of}
 
 -- what lines say
 pub record Lines : Type 0 where
@@ -14,11 +14,6 @@ pub record Lines : Type 0 where
 
 abbrev pub no_lines : Lines
 no_lines = record { zone = None; records = []; events = [] }
-
--- an empty line or a comment
-abbrev pub is_passed_over : List ℕ → Bool
-is_passed_over [] = true
-is_passed_over (c ∷ cs) = c == 35
 
 -- the fields of a line, separated by one blank
 abbrev pub fields_of : List ℕ → List (List ℕ)

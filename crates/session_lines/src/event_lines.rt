@@ -6,7 +6,8 @@ ghost use Rattle.session_lines.specs.Readings.{Reads, texts, act_view, event_vie
 ghost use Rattle.answer_events.specs.Events.{added_octets, added_by_act};
 
 use crate::fields::{hex_octets, key_octets, name, reference, references};
-use crate::line_error::LineError;
+use crate::form::{Field, Form};
+use crate::line_error::{FieldFault, LineError, LineFault};
 use crate::number_fields::{number_u8, number_u16, number_u32, number_u64, place};
 use answer_events::event::{Act, Event, KeyCall};
 use answer_events::key_kind::KeyKind;
@@ -26,12 +27,35 @@ pub fn read_event(alloc: Global, fields: &[&str]) -> Result<Event, LineError>
     ensures small { IfOk result (λ e. added_octets e ≤ 65531) }
     ensures read { Reads event_view result (event_line (texts fields.now)) }
 {
-    let Some((last, fields)) = fields.split_last() else {
-        return Err(LineError::Unreadable);
+    let Some((last, others)) = fields.split_last() else {
+        return Err(LineError::Unreadable(LineFault::Word));
     };
-    let at = UnixTime::new(Duration::from_secs(number_u64(last)?));
-    let act = read_act(alloc, fields)?;
+    let Some(seconds) = number_u64(last) else {
+        return Err(LineError::Unreadable(moment_fault(fields)));
+    };
+    let at = UnixTime::new(Duration::from_secs(seconds));
+    let act = read_act(alloc, others)?;
     Ok(Event { at, act })
+}
+
+/// What is said of a line whose last field is no moment.
+fn moment_fault(fields: &[&str]) -> LineFault {
+    let word = fields.first().copied().unwrap_or("");
+    match Form::of_event(word) {
+        Some(form) if form.fields().len() == fields.len() => {
+            LineFault::At(form.field(fields.len()), FieldFault::Number(64))
+        }
+        _ => other_line(word),
+    }
+}
+
+/// What is said of a line with a moment whose word is none that stands before so many fields.
+fn other_line(word: &str) -> LineFault {
+    match (Form::of_event(word), word) {
+        (Some(form), _) => LineFault::Fields(form),
+        (None, "zone" | "rr") => LineFault::Late,
+        (None, _) => LineFault::Word,
+    }
 }
 
 /// Reads a line but for its moment.
@@ -50,7 +74,7 @@ fn read_act(alloc: Global, fields: &[&str]) -> Result<Act, LineError>
         [word, ds, dnskey, answer, owner, rtype] => {
             read_octets_judging(alloc, word, ds, dnskey, answer, owner, rtype)
         }
-        _ => Err(LineError::Unreadable),
+        _ => Err(LineError::Unreadable(other_line(fields.first().copied().unwrap_or("")))),
     }
 }
 
@@ -62,7 +86,7 @@ fn read_showing(word: &str) -> Result<Act, LineError>
     match word {
         "ds" => Ok(Act::ShowDs),
         "dnskey" => Ok(Act::ShowDnskey),
-        _ => Err(LineError::Unreadable),
+        _ => Err(LineError::Unreadable(other_line(word))),
     }
 }
 
@@ -73,22 +97,22 @@ fn read_step(alloc: Global, word: &str, field: &str) -> Result<Act, LineError>
 {
     match word {
         "wait1" => {
-            let rolltype = read_roll(field)?;
+            let rolltype = read_roll(Form::Wait1, field)?;
             Ok(Act::Key(KeyCall::CacheExpired1 { rolltype }))
         }
         "wait2" => {
-            let rolltype = read_roll(field)?;
+            let rolltype = read_roll(Form::Wait2, field)?;
             Ok(Act::Key(KeyCall::CacheExpired2 { rolltype }))
         }
         "done" => {
-            let rolltype = read_roll(field)?;
+            let rolltype = read_roll(Form::Done, field)?;
             Ok(Act::Key(KeyCall::RollDone { rolltype }))
         }
         "delete" => {
-            let pubref = reference(alloc, field)?;
+            let pubref = reference(alloc, Form::Delete.field(2), field)?;
             Ok(Act::Key(KeyCall::DeleteKey { pubref }))
         }
-        _ => Err(LineError::Unreadable),
+        _ => Err(LineError::Unreadable(other_line(word))),
     }
 }
 
@@ -98,18 +122,21 @@ fn read_asking(alloc: Global, word: &str, first: &str, second: &str) -> Result<A
     ensures read { Reads act_view result (act_line3 word.now first.now second.now) }
 {
     match word {
-        "ask" => Ok(Act::Ask(read_question(alloc, first, second)?)),
+        "ask" => {
+            let (name, rtype) = (Form::Ask.field(2), Form::Ask.field(3));
+            Ok(Act::Ask(read_question(alloc, name, first, rtype, second)?))
+        }
         "report1" => {
-            let rolltype = read_roll(first)?;
-            let ttl = number_u32(second)?;
+            let rolltype = read_roll(Form::Report1, first)?;
+            let ttl = number_u32(Form::Report1.field(3), second)?;
             Ok(Act::Key(KeyCall::Propagation1Complete { rolltype, ttl }))
         }
         "report2" => {
-            let rolltype = read_roll(first)?;
-            let ttl = number_u32(second)?;
+            let rolltype = read_roll(Form::Report2, first)?;
+            let ttl = number_u32(Form::Report2.field(3), second)?;
             Ok(Act::Key(KeyCall::Propagation2Complete { rolltype, ttl }))
         }
-        _ => Err(LineError::Unreadable),
+        _ => Err(LineError::Unreadable(other_line(word))),
     }
 }
 
@@ -126,18 +153,18 @@ fn read_judging(
 {
     match word {
         "judge" => {
-            let ds = place(first)?;
-            let dnskey = place(second)?;
-            let answer = place(third)?;
+            let ds = place(Form::Judge.field(2), first)?;
+            let dnskey = place(Form::Judge.field(3), second)?;
+            let answer = place(Form::Judge.field(4), third)?;
             Ok(Act::Judge { ds, dnskey, answer })
         }
         "start" => {
-            let rolltype = read_roll(first)?;
-            let old = references(alloc, second)?;
-            let new = references(alloc, third)?;
+            let rolltype = read_roll(Form::Start, first)?;
+            let old = references(alloc, Form::Start.field(3), second)?;
+            let new = references(alloc, Form::Start.field(4), third)?;
             Ok(Act::Key(KeyCall::StartRoll { rolltype, old, new }))
         }
-        _ => Err(LineError::Unreadable),
+        _ => Err(LineError::Unreadable(other_line(word))),
     }
 }
 
@@ -156,12 +183,13 @@ fn read_octets_judging(
         (act_line6 word.now ds.now dnskey.now answer.now owner.now rtype.now) }
 {
     if word != "bytes" {
-        return Err(LineError::Unreadable);
+        return Err(LineError::Unreadable(other_line(word)));
     }
-    let ds = place(ds)?;
-    let dnskey_bytes = hex_octets(alloc, dnskey, MAX_MESSAGE)?;
-    let answer_bytes = hex_octets(alloc, answer, MAX_MESSAGE)?;
-    let question = read_question(alloc, owner, rtype)?;
+    let form = Form::Bytes;
+    let ds = place(form.field(2), ds)?;
+    let dnskey_bytes = hex_octets(alloc, form.field(3), dnskey, MAX_MESSAGE)?;
+    let answer_bytes = hex_octets(alloc, form.field(4), answer, MAX_MESSAGE)?;
+    let question = read_question(alloc, form.field(5), owner, form.field(6), rtype)?;
     Ok(Act::JudgeBytes {
         ds,
         dnskey_bytes,
@@ -171,11 +199,17 @@ fn read_octets_judging(
 }
 
 /// A question of class IN.
-fn read_question(alloc: Global, owner: &str, rtype: &str) -> Result<Question, LineError>
+fn read_question(
+    alloc: Global,
+    owner_field: Field,
+    owner: &str,
+    type_field: Field,
+    rtype: &str,
+) -> Result<Question, LineError>
     ensures { Reads asked_of result (question_fields owner.now rtype.now) }
 {
-    let name = name(alloc, owner)?;
-    let rtype = Rtype::from_int(number_u16(rtype)?);
+    let name = name(alloc, owner_field, owner)?;
+    let rtype = Rtype::from_int(number_u16(type_field, rtype)?);
     Ok(Question {
         name,
         rtype,
@@ -197,28 +231,32 @@ fn read_add(
         (act_line5 word.now kind.now pubref.now algorithm.now octets.now) }
 {
     if word != "key" {
-        return Err(LineError::Unreadable);
+        return Err(LineError::Unreadable(other_line(word)));
     }
-    let pubref = reference(alloc, pubref)?;
-    let algorithm = SecurityAlgorithm::from_int(number_u8(algorithm)?);
-    let public_key = key_octets(alloc, octets)?;
+    let pubref = reference(alloc, Form::Key.field(3), pubref)?;
+    let algorithm = SecurityAlgorithm::from_int(number_u8(Form::Key.field(4), algorithm)?);
+    let public_key = key_octets(alloc, Form::Key.field(5), octets)?;
     Ok(Act::Key(KeyCall::add(read_kind(kind)?, pubref, algorithm, public_key)))
 }
 
-fn read_kind(field: &str) -> Result<KeyKind, LineError>
-    ensures { Reads (λ k. k) result (kind_field field.now) }
+fn read_kind(text: &str) -> Result<KeyKind, LineError>
+    ensures { Reads (λ k. k) result (kind_field text.now) }
 {
-    match field {
+    match text {
         "ksk" => Ok(KeyKind::Ksk),
         "zsk" => Ok(KeyKind::Zsk),
         "csk" => Ok(KeyKind::Csk),
         "include" => Ok(KeyKind::Include),
-        _ => Err(LineError::Unreadable),
+        _ => Err(Form::Key.field(2).fault(FieldFault::Kind)),
     }
 }
 
-fn read_roll(field: &str) -> Result<RollType, LineError>
-    ensures { Reads (λ r. r) result (roll_field field.now) }
+/// The roll of such a line, its second field.
+fn read_roll(form: Form, text: &str) -> Result<RollType, LineError>
+    ensures { Reads (λ r. r) result (roll_field text.now) }
 {
-    field.parse::<RollType>().map_err(|_| LineError::Unreadable)
+    match text.parse::<RollType>() {
+        Ok(rolltype) => Ok(rolltype),
+        Err(_) => Err(form.field(2).fault(FieldFault::Roll)),
+    }
 }

@@ -4,8 +4,9 @@
 
 mod event_lines;
 mod fields;
-mod line_error;
-mod lines;
+pub mod form;
+pub mod line_error;
+pub mod lines;
 mod number_fields;
 pub mod session;
 pub mod zone;

@@ -1,7 +1,7 @@
 //! The lines of an input.
 ghost use Rattle.std.specs.Prelude.{◌≡◌, ◌+◌, ◌<◌, ◌^◌, length, [], ◌∷◌, OnSome, MatchOption, is_some, if◌then◌else◌, ◌==◌};
 ghost use Rattle.std.specs.List.{position};
-ghost use Rattle.session_lines.specs.Lines.{lines_of};
+ghost use Rattle.session_lines.specs.Lines.{is_passed_over, lines_of};
 
 /// Octets cut into lines at each line feed, which may be missing at the last.
 #[derive(Debug, Drop)]
@@ -65,5 +65,15 @@ impl<'a> Lines<'a> {
             number: self.number + 1,
         };
         Some(line)
+    }
+}
+
+/// Whether a line says nothing: it is empty, or a comment.
+pub fn is_passed_over(line: &[u8]) -> bool
+    ensures { result ≡ is_passed_over line.now }
+{
+    match line.first() {
+        None => true,
+        Some(octet) => *octet == b'#',
     }
 }

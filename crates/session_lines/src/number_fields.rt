@@ -2,63 +2,67 @@
 ghost use Rattle.std.specs.Prelude.{◌≡◌};
 ghost use Rattle.std.specs.List.{list_all};
 ghost use Rattle.std.specs.Char.{is_ascii_digit};
-ghost use Rattle.session_lines.specs.Numbers.{number_of};
+ghost use Rattle.session_lines.specs.Numbers.{number_field};
+ghost use Rattle.session_lines.specs.Readings.{Reads};
 
-use crate::line_error::LineError;
+use crate::form::Field;
+use crate::line_error::{FieldFault, LineError};
 
-fn is_digits(field: &str) -> bool
-    ensures { result ≡ list_all is_ascii_digit field.now }
+fn is_digits(text: &str) -> bool
+    ensures { result ≡ list_all is_ascii_digit text.now }
 {
-    field.as_bytes().iter().all(|octet| octet.is_ascii_digit())
+    text.as_bytes().iter().all(|octet| octet.is_ascii_digit())
 }
 
 /// A number of 64 bits.
-pub fn number_u64(field: &str) -> Result<u64, LineError>
-    ensures { result ≡ number_of 64 field.now }
+pub fn number_u64(text: &str) -> Option<u64>
+    ensures { result ≡ number_field 64 text.now }
 {
-    if !is_digits(field) {
-        return Err(LineError::Unreadable);
+    if !is_digits(text) {
+        return None;
     }
-    match field.parse::<u64>() {
-        Ok(number) => Ok(number),
-        Err(_) => Err(LineError::Unreadable),
+    match text.parse::<u64>() {
+        Ok(number) => Some(number),
+        Err(_) => None,
     }
 }
 
 /// A number of 32 bits.
-pub fn number_u32(field: &str) -> Result<u32, LineError>
-    ensures { result ≡ number_of 32 field.now }
+pub fn number_u32(field: Field, text: &str) -> Result<u32, LineError>
+    ensures { Reads (λ n. n) result (number_field 32 text.now) }
 {
-    match u32::try_from(number_u64(field)?) {
-        Ok(number) => Ok(number),
-        Err(_) => Err(LineError::Unreadable),
+    match number_u64(text) {
+        Some(number) if number < 1 << 32 => Ok(number as u32),
+        _ => Err(field.fault(FieldFault::Number(32))),
     }
 }
 
 /// A number of 16 bits.
-pub fn number_u16(field: &str) -> Result<u16, LineError>
-    ensures { result ≡ number_of 16 field.now }
+pub fn number_u16(field: Field, text: &str) -> Result<u16, LineError>
+    ensures { Reads (λ n. n) result (number_field 16 text.now) }
 {
-    match u16::try_from(number_u64(field)?) {
-        Ok(number) => Ok(number),
-        Err(_) => Err(LineError::Unreadable),
+    match number_u64(text) {
+        Some(number) if number < 1 << 16 => Ok(number as u16),
+        _ => Err(field.fault(FieldFault::Number(16))),
     }
 }
 
 /// A number of 8 bits.
-pub fn number_u8(field: &str) -> Result<u8, LineError>
-    ensures { result ≡ number_of 8 field.now }
+pub fn number_u8(field: Field, text: &str) -> Result<u8, LineError>
+    ensures { Reads (λ n. n) result (number_field 8 text.now) }
 {
-    match u8::try_from(number_u64(field)?) {
-        Ok(number) => Ok(number),
-        Err(_) => Err(LineError::Unreadable),
+    match number_u64(text) {
+        Some(number) if number < 1 << 8 => Ok(number as u8),
+        _ => Err(field.fault(FieldFault::Number(8))),
     }
 }
 
 /// A place of something shown.
-pub fn place(field: &str) -> Result<usize, LineError>
-    ensures { result ≡ number_of 64 field.now }
+pub fn place(field: Field, text: &str) -> Result<usize, LineError>
+    ensures { Reads (λ n. n) result (number_field 64 text.now) }
 {
-    let number = number_u64(field)?;
-    Ok(number as usize)
+    match number_u64(text) {
+        Some(number) => Ok(number as usize),
+        None => Err(field.fault(FieldFault::Number(64))),
+    }
 }

@@ -3,11 +3,11 @@ ghost use Rattle.std.specs.Prelude.{◌≡◌, ◌≤◌, All, map, IfOk, IfErr,
 ghost use Rattle.answer_events.specs.Events.{added_octets};
 ghost use Rattle.answer_events.specs.HandedRr.{handed_of};
 ghost use Rattle.session_lines.specs.Readings.{Reads, texts, zone_view, event_view, session_view, IsSessionError};
-ghost use Rattle.session_lines.specs.Sessions.{session_of, no_lines, is_passed_over, is_record_line, fields_of, with_fields, with_line};
+ghost use Rattle.session_lines.specs.Sessions.{session_of, no_lines, is_record_line, fields_of, with_fields, with_line};
 
 use crate::event_lines::read_event;
-use crate::line_error::LineError;
-use crate::lines::Lines;
+use crate::line_error::{LineError, LineFault};
+use crate::lines::{Lines, is_passed_over};
 use crate::zone::Zone;
 use crate::zone_lines::{read_record, read_zone};
 use answer_events::event::Event;
@@ -27,9 +27,9 @@ pub struct Session {
 /// Why an input is no session.
 #[derive(Clone, Copy, Debug, PartialEq, Eq, Drop, Error)]
 pub enum SessionError {
-    /// The first line that cannot be read, counted from 1 on.
-    #[error("line {0}: cannot be read")]
-    Line(usize),
+    /// The first line that cannot be read, counted from 1 on, and why.
+    #[error("line {number}: {fault}")]
+    Line { number: usize, fault: LineFault },
     #[error("out of memory")]
     Memory,
 }
@@ -48,7 +48,10 @@ pub fn read_session(alloc: Global, input: &[u8]) -> Result<Session, SessionError
     while let Some(line) = lines.next_line() {
         if let Err(error) = reading.read_line(alloc, line) {
             return Err(match error {
-                LineError::Unreadable => SessionError::Line(lines.number()),
+                LineError::Unreadable(fault) => {
+                    let number = lines.number();
+                    SessionError::Line { number, fault }
+                }
                 LineError::Memory => SessionError::Memory,
             });
         }
@@ -64,7 +67,10 @@ pub fn read_session(alloc: Global, input: &[u8]) -> Result<Session, SessionError
             records,
             events,
         }),
-        None => Err(SessionError::Line(lines.number() + 1)),
+        None => {
+            let (number, fault) = (lines.number() + 1, LineFault::NoZone);
+            Err(SessionError::Line { number, fault })
+        }
     }
 }
 
@@ -103,7 +109,7 @@ impl Reading {
                 let fields = fields_of(alloc, text)?;
                 self.read_fields(alloc, &fields)
             }
-            Err(_) => Err(LineError::Unreadable),
+            Err(_) => Err(LineError::Unreadable(LineFault::NotText)),
         }
     }
 
@@ -124,16 +130,6 @@ impl Reading {
             self.events.push(read_event(alloc, fields)?)?;
         }
         Ok(())
-    }
-}
-
-/// Whether a line is empty or a comment.
-fn is_passed_over(line: &[u8]) -> bool
-    ensures { result ≡ is_passed_over line.now }
-{
-    match line.first() {
-        None => true,
-        Some(octet) => *octet == b'#',
     }
 }
 

@@ -7,8 +7,9 @@ ghost use Rattle.session_lines.specs.Grammar.{zone_line, zone_fields, hashed_fie
 ghost use Rattle.session_lines.specs.Grammar.{record_line, record_fields, data_octets, soa_octets};
 ghost use Rattle.session_lines.specs.Readings.{Reads, texts, zone_view, data_view, soa_view};
 
-use crate::fields::{hex_octets, name, name_at, wire_name};
-use crate::line_error::LineError;
+use crate::fields::{hex_octets, name, name_of_ns, name_of_soa};
+use crate::form::{Field, Form};
+use crate::line_error::{FieldFault, LineError, LineFault};
 use crate::number_fields::{number_u16, number_u32};
 use crate::zone::Zone;
 use answer_events::names::{Name, Serial, UnknownRecordData};
@@ -42,7 +43,16 @@ pub fn read_zone(alloc: Global, fields: &[&str]) -> Result<Zone, LineError>
         [word, apex, mode, iterations, salt, limit, life] => {
             hashed_zone(alloc, word, apex, mode, iterations, salt, limit, life)
         }
-        _ => Err(LineError::Unreadable),
+        _ => Err(LineError::Unreadable(other_zone(fields))),
+    }
+}
+
+/// What is said of a line whose fields are not as many as those of a zone's line.
+fn other_zone(fields: &[&str]) -> LineFault {
+    match (fields.first().copied(), fields.get(2).copied()) {
+        (Some("zone"), Some("nsec3" | "nsec3optout")) => LineFault::Fields(Form::HashedZone),
+        (Some("zone"), _) => LineFault::Fields(Form::Zone),
+        _ => LineFault::NotZone,
     }
 }
 
@@ -57,15 +67,27 @@ fn zone_of(
 ) -> Result<Zone, LineError>
     ensures { Reads zone_view result (zone_fields word.now apex.now mode.now limit.now life.now) }
 {
-    if word != "zone" || mode != "nsec" {
-        return Err(LineError::Unreadable);
+    if word != "zone" {
+        return Err(LineError::Unreadable(LineFault::NotZone));
     }
+    if mode != "nsec" {
+        return Err(LineError::Unreadable(other_mode(mode)));
+    }
+    let form = Form::Zone;
     Ok(Zone {
-        apex: name(alloc, apex)?,
+        apex: name(alloc, form.field(2), apex)?,
         mode: Mode::Nsec,
-        limit: number_u16(limit)?,
-        life: read_life(life)?,
+        limit: number_u16(form.field(4), limit)?,
+        life: read_life(form.field(5), life)?,
     })
+}
+
+/// What is said of another mode than `nsec` where that has its number of fields.
+fn other_mode(mode: &str) -> LineFault {
+    match mode {
+        "nsec3" | "nsec3optout" => LineFault::Fields(Form::HashedZone),
+        _ => LineFault::At(Form::Zone.field(3), FieldFault::Mode),
+    }
 }
 
 /// A zone with a chain of hashes.
@@ -83,49 +105,51 @@ fn hashed_zone(
         (hashed_fields word.now apex.now mode.now iterations.now salt.now limit.now life.now) }
 {
     if word != "zone" {
-        return Err(LineError::Unreadable);
+        return Err(LineError::Unreadable(LineFault::NotZone));
     }
     let opt_out = read_opt_out(mode)?;
+    let form = Form::HashedZone;
     Ok(Zone {
-        apex: name(alloc, apex)?,
+        apex: name(alloc, form.field(2), apex)?,
         mode: Mode::Nsec3 {
-            iterations: number_u16(iterations)?,
-            salt: read_salt(alloc, salt)?,
+            iterations: number_u16(form.field(4), iterations)?,
+            salt: read_salt(alloc, form.field(5), salt)?,
             opt_out,
         },
-        limit: number_u16(limit)?,
-        life: read_life(life)?,
+        limit: number_u16(form.field(6), limit)?,
+        life: read_life(form.field(7), life)?,
     })
 }
 
 /// Whether a chain of hashes opts out (RFC 5155, 6).
-fn read_opt_out(field: &str) -> Result<bool, LineError>
-    ensures { Reads (λ b. b) result (opt_out_field field.now) }
+fn read_opt_out(mode: &str) -> Result<bool, LineError>
+    ensures { Reads (λ b. b) result (opt_out_field mode.now) }
 {
-    match field {
+    match mode {
         "nsec3" => Ok(false),
         "nsec3optout" => Ok(true),
-        _ => Err(LineError::Unreadable),
+        "nsec" => Err(LineError::Unreadable(LineFault::Fields(Form::Zone))),
+        _ => Err(Form::HashedZone.field(3).fault(FieldFault::Mode)),
     }
 }
 
 /// A salt in hexadecimal; `-` for the empty one (RFC 5155, 3.3).
-fn read_salt(alloc: Global, field: &str) -> Result<Nsec3Salt<Vec<u8>>, LineError>
-    ensures { Reads (λ s. s) result (salt_field field.now) }
+fn read_salt(alloc: Global, field: Field, text: &str) -> Result<Nsec3Salt<Vec<u8>>, LineError>
+    ensures { Reads (λ s. s) result (salt_field text.now) }
 {
-    match Nsec3Salt::from_octets(hex_octets(alloc, field, MAX_SALT)?) {
+    match Nsec3Salt::from_octets(hex_octets(alloc, field, text, MAX_SALT)?) {
         Ok(salt) => Ok(salt),
-        Err(_) => Err(LineError::Unreadable),
+        Err(_) => Err(field.fault(FieldFault::TooLong(MAX_SALT))),
     }
 }
 
-fn read_life(field: &str) -> Result<u32, LineError>
+fn read_life(field: Field, text: &str) -> Result<u32, LineError>
     ensures small { IfOk result (λ life. life ≤ 2147483647) }
-    ensures read { Reads (λ life. life) result (life_field field.now) }
+    ensures read { Reads (λ life. life) result (life_field text.now) }
 {
-    let life = number_u32(field)?;
+    let life = number_u32(field, text)?;
     if life > MAX_LIFE {
-        return Err(LineError::Unreadable);
+        return Err(field.fault(FieldFault::Life));
     }
     Ok(life)
 }
@@ -138,7 +162,7 @@ pub fn read_record(alloc: Global, fields: &[&str]) -> Result<ZoneRecord, LineErr
         [word, owner, ttl, class, rtype, octets] => {
             record_of(alloc, word, owner, ttl, class, rtype, octets)
         }
-        _ => Err(LineError::Unreadable),
+        _ => Err(LineError::Unreadable(LineFault::Fields(Form::Record))),
     }
 }
 
@@ -155,42 +179,48 @@ fn record_of(
         (record_fields word.now owner.now ttl.now class.now rtype.now octets.now) }
 {
     if word != "rr" {
-        return Err(LineError::Unreadable);
+        return Err(LineError::Unreadable(LineFault::Word));
     }
-    let owner = name(alloc, owner)?;
-    let ttl = Ttl::from_secs(number_u32(ttl)?);
-    let class = Class::from_int(number_u16(class)?);
-    let rtype = Rtype::from_int(number_u16(rtype)?);
-    let octets = hex_octets(alloc, octets, MAX_DATA)?;
-    let data = read_rdata(alloc, rtype, octets)?;
+    let form = Form::Record;
+    let owner = name(alloc, form.field(2), owner)?;
+    let ttl = Ttl::from_secs(number_u32(form.field(3), ttl)?);
+    let class = Class::from_int(number_u16(form.field(4), class)?);
+    let rtype = Rtype::from_int(number_u16(form.field(5), rtype)?);
+    let octets = hex_octets(alloc, form.field(6), octets, MAX_DATA)?;
+    let data = read_rdata(alloc, form.field(6), rtype, octets)?;
     Ok(Record::new(owner, class, ttl, data))
 }
 
-fn read_rdata(alloc: Global, rtype: Rtype, octets: Vec<u8>) -> Result<ZoneData, LineError>
+fn read_rdata(
+    alloc: Global,
+    field: Field,
+    rtype: Rtype,
+    octets: Vec<u8>,
+) -> Result<ZoneData, LineError>
     ensures rtype { IfOk result (λ d. zone_type d ≡ rtype) }
     ensures read { Reads data_view result (data_octets rtype octets.items) }
 {
     if rtype == Rtype::SOA {
-        return Ok(ZoneRecordData::Soa(read_soa(alloc, &octets)?));
+        return Ok(ZoneRecordData::Soa(read_soa(alloc, field, &octets)?));
     }
     if rtype == Rtype::NS {
-        return Ok(ZoneRecordData::Ns(Ns::new(wire_name(alloc, &octets)?)));
+        return Ok(ZoneRecordData::Ns(Ns::new(name_of_ns(alloc, field, &octets)?)));
     }
     match UnknownRecordData::from_octets(rtype, octets) {
         Ok(rdata) => Ok(ZoneRecordData::Unknown(rdata)),
-        Err(_) => Err(LineError::Unreadable),
+        Err(_) => Err(field.fault(FieldFault::TooLong(MAX_DATA))),
     }
 }
 
 /// Two names and five numbers of 32 bits (RFC 1035, 3.3.13).
-fn read_soa(alloc: Global, octets: &[u8]) -> Result<Soa<Name<Vec<u8>>>, LineError>
+fn read_soa(alloc: Global, field: Field, octets: &[u8]) -> Result<Soa<Name<Vec<u8>>>, LineError>
     ensures { Reads soa_view result (soa_octets octets.now) }
 {
-    let (mname, behind) = name_at(alloc, octets, 0)?;
-    let (rname, front) = name_at(alloc, octets, behind)?;
+    let (mname, behind) = name_of_soa(alloc, field, octets, 0)?;
+    let (rname, front) = name_of_soa(alloc, field, octets, behind)?;
     let numbers = &octets[front..];
     if numbers.len() != 20 {
-        return Err(LineError::Unreadable);
+        return Err(field.fault(FieldFault::SoaData));
     }
     Ok(Soa::new(
         mname,

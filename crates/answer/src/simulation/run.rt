@@ -1,11 +1,11 @@
 //! A run of events, one at a time.
 ghost use Rattle.std.specs.Prelude.{◌≡◌, ◌≤◌, [], ℕ, IfOk, IfErr, OnOk, length, map, slice_get, string_bytes};
 ghost use Rattle.definitions.specs.Limits.{pointer_limit};
-ghost use Rattle.answer_publisher.specs.Bindings.{Add, apply, dnskey_for, is_bound_away};
+ghost use Rattle.answer_keys.specs.Bindings.{Add, apply, dnskey_for, is_bound_away};
 ghost use Rattle.answer_events.specs.Calls.{call_of};
 ghost use Rattle.answer_events.specs.Events.{added_octets, added_by_call};
 ghost use Rattle.answer_judge.specs.Meeting.{JudgesSo};
-ghost use Rattle.answer_publisher.specs.KeyCalls.{Gives, RanOutCopying, RefusesAhead};
+ghost use Rattle.answer_keys.specs.KeyCalls.{Gives, RanOutCopying, RefusesAhead};
 ghost use Rattle.keyset.specs.KeyState as key_state;
 ghost use Rattle.answer_publisher.specs.World.{digests};
 ghost use Rattle.messages.specs.Questions.{asked_of};

@@ -1,13 +1,13 @@
 //! What verified facts prove, beside links that were hashed alike and within a limit.
 ghost use Rattle.std.specs.Prelude.{◌≡◌, ◌≤◌, ◌+◌, not, IfErr, None};
 ghost use Rattle.std.specs.List.{list_any};
-ghost use Rattle.answer_judge.specs.Facts.{RefusesFirst};
-ghost use Rattle.answer_judge.specs.Judging.{hash_bound};
-ghost use Rattle.answer_judge.specs.Judged.{are_alike, are_mixed, are_over, judged_facts, said, AnswersAs};
-ghost use Rattle.answer_judge.specs.Counted.{hashes_of_facts, Counts};
+ghost use Rattle.answer_facts.specs.Facts.{RefusesFirst};
+ghost use Rattle.answer_facts.specs.Judging.{hash_bound};
+ghost use Rattle.answer_facts.specs.Judged.{are_alike, are_mixed, are_over, judged_facts, said, AnswersAs};
+ghost use Rattle.answer_facts.specs.Counted.{hashes_of_facts, Counts};
 
 use crate::case::Case;
-use crate::judging::verdict::{Refusal, Verdict};
+use answer_facts::verdict::{Refusal, Verdict};
 use answer_rules::decide::{Facts, HashLink, decide};
 use answer_scheme::checks::Checks;
 use std::alloc::Global;

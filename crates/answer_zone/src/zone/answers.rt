@@ -1,8 +1,8 @@
 //! The RRsets of an answer.
-ghost use Rattle.std.specs.Prelude.{◌≡◌, ℕ, [], ◌∷◌, ◌++◌, ◌&&◌, ◌||◌, ◌==◌, List, true, false, map, IfErr, IfOk, IfSome, IsNone, OnOk};
+ghost use Rattle.std.specs.Prelude.{◌≡◌, ℕ, [], ◌∷◌, ◌++◌, ◌&&◌, ◌||◌, ◌==◌, List, None, true, false, map, IfErr, IfOk, OnOk};
 ghost use Rattle.std.specs.List.{AllZip};
 ghost use Rattle.definitions.specs.Name.{at_or_above, low};
-ghost use Rattle.definitions.specs.Zone.{NoName, StarRecords, exists, has, is_open, star_under};
+ghost use Rattle.definitions.specs.Zone.{NoName, StarRecords, cut_above, exists, has, is_open};
 ghost use Rattle.definitions.specs.ZoneChain.{optout_of};
 ghost use Rattle.denial_rules.specs.OwnFacts.{spoken};
 ghost use Rattle.denial_rules.specs.Truth.{concerned};
@@ -13,19 +13,24 @@ ghost use Rattle.answer_terms.specs.Hashing.{hash_in};
 ghost use Rattle.answer_terms.specs.Links.{said_of};
 ghost use Rattle.answer_terms.specs.Served.{chain_ttl, expanded, if_any, proofs_of, rrset, soa, under, unsigned_ns};
 ghost use Rattle.answer_zone.specs.Around.{IsAround};
-ghost use Rattle.answer_zone.specs.Cuts.{NoneRefers, Refers};
-ghost use Rattle.answer_zone.specs.GroupRecords.{rrset_from};
+ghost use Rattle.answer_zone.specs.Cuts.{NoneRefers};
+ghost use Rattle.answer_records.specs.OwnedRecords.{owned_by};
+ghost use Rattle.answer_records.specs.Round.{IsCircle, IsRound};
+ghost use Rattle.answer_zone.specs.Placed.{IsCutRecords, IsNear};
+ghost use Rattle.answer_records.specs.GroupRecords.{rrset_from};
 ghost use Rattle.answer_zone.specs.HashedZone.{FailsFor, IsHashFailure, served_by};
 ghost use Rattle.answer_zone.specs.ZoneAnswers.{AnswersAs, Holds};
 
-use crate::fault::Mode;
-use crate::group::RrGroup;
 use crate::zone::ZoneRecords;
 use crate::zone::around::Around;
-use crate::zone::chain::{ChainLink, push_links};
-use crate::zone::chains::Chain;
-use crate::zone::hash_chain::{HashedLink, push_hashed_links};
-use crate::zone::lookups::{data_among, owner_among};
+use crate::zone::asked::Asked;
+use answer_records::chain::{ChainLink, push_links};
+use answer_records::chains::Chain;
+use answer_records::fault::Mode;
+use answer_records::group::RrGroup;
+use answer_records::hash_chain::{HashedLink, push_hashed_links};
+use answer_records::near::Neighbours;
+use answer_records::owned::{Cut, Owned};
 use denial_hashes::hasher::{HashError, Nsec3Hasher};
 use messages::names::{Name, ToName, ZoneName, copy_name, is_at_or_above};
 use names_data::rtype::Rtype;
@@ -68,10 +73,11 @@ impl<'h, H: Nsec3Hasher> ZoneRecords<'h, H> {
             (concerned (low self.now.apex) (low name.now))) }
     {
         self.keeps();
-        if self.leaves_open(name) {
-            self.open_answer(alloc, name, rtype)
+        let near = self.near(name);
+        if self.leaves_open(name, &near) {
+            self.open_answer(alloc, name, &near, rtype)
         } else {
-            self.told_answer(alloc, name, rtype)
+            self.told_answer(alloc, name, &near, rtype)
         }
     }
 
@@ -80,48 +86,36 @@ impl<'h, H: Nsec3Hasher> ZoneRecords<'h, H> {
         &self,
         alloc: Global,
         name: &Name<Vec<u8>>,
+        near: &Neighbours<'_>,
         rtype: Rtype,
     ) -> Result<ZoneAnswer, HashError>
         requires plain { ((rtype == 47) || (rtype == 50)) ≡ false }
+        requires near { IsNear name.now self.now.records near.now }
         requires told { let z = zone_with self.now.apex self.now.records in
             is_open z (optout_of self.now.mode) (low name.now) ≡ false }
         ensures answer { IfOk result (AnswersAs (served_by H.hash_of self.now) name.now rtype) }
         ensures failed { IfErr result (FailsFor H.hash_of self.now name.now rtype) }
     {
-        match self.referring(name, rtype) {
-            Some(cut) => self.referral(alloc, cut),
-            None => self.own_answer(alloc, name, rtype),
-        }
-    }
-
-    /// The topmost delegation at or above a name, unless its DS record is asked for, which stands in this zone
-    /// (RFC 4035, 3.1.4.1).
-    pub(super) fn referring(&self, name: &Name<Vec<u8>>, rtype: Rtype) -> Option<&Name<Vec<u8>>>
-        ensures some { let z = zone_with self.now.apex self.now.records in
-            IfSome result (λ c. Refers z (low name.now) rtype (low c.now)) }
-        ensures none { let z = zone_with self.now.apex self.now.records in
-            IsNone result → NoneRefers z (low name.now) rtype }
-    {
-        let cut = self.cut(name)?;
-        if cut.name_eq(name) && rtype == Rtype::DS {
-            None
-        } else {
-            Some(cut)
+        match self.asked(name, near, rtype) {
+            Asked::Away(cut) => self.referral(alloc, &cut),
+            Asked::Here(owned) => self.own_answer(alloc, name, near, &owned, rtype),
         }
     }
 
     /// A referral: the name servers of a delegation without signatures, its DS records if it has any, and its record of
     /// the chain, which shows whether it has (RFC 4035, 3.1.4; RFC 5155, 7.2.7).
-    fn referral(&self, alloc: Global, cut: &Name<Vec<u8>>) -> Result<ZoneAnswer, HashError>
-        requires delegation { has (zone_with self.now.apex self.now.records) (low cut.now) 2 ≡ true }
-        ensures answer { let s = served_by H.hash_of self.now in let c = low cut.now in
+    fn referral(&self, alloc: Global, cut: &Cut<'_>) -> Result<ZoneAnswer, HashError>
+        requires delegation { has (zone_with self.now.apex self.now.records) (low cut.now.name.now) 2
+            ≡ true }
+        requires records { IsCutRecords self.now.records cut.now }
+        ensures answer { let s = served_by H.hash_of self.now in let c = low cut.now.name.now in
             IfOk result (Holds 32768 [] (unsigned_ns s c ++ if_any s c 43 ++ proofs_of s (c ∷ []))) }
         ensures failed { let hash = H.hash_of self.now.hasher in
-            IfErr result (IsHashFailure hash self.now.mode (low cut.now ∷ [])) }
+            IfErr result (IsHashFailure hash self.now.mode (low cut.now.name.now ∷ [])) }
     {
         let mut authority = self.name_servers(alloc, cut)?;
         self.push_ds(alloc, &mut authority, cut)?;
-        self.push_proofs(alloc, &mut authority, &[cut])?;
+        self.push_proofs(alloc, &mut authority, &[cut.name])?;
         Ok(ZoneAnswer {
             flags: REFERRAL,
             answer: Vec::new(alloc),
@@ -133,14 +127,17 @@ impl<'h, H: Nsec3Hasher> ZoneRecords<'h, H> {
     pub(super) fn name_servers(
         &self,
         alloc: Global,
-        cut: &Name<Vec<u8>>,
+        cut: &Cut<'_>,
     ) -> Result<Vec<RrGroup>, AllocError>
-        requires delegation { has (zone_with self.now.apex self.now.records) (low cut.now) 2 ≡ true }
+        requires delegation { has (zone_with self.now.apex self.now.records) (low cut.now.name.now) 2
+            ≡ true }
+        requires records { IsCutRecords self.now.records cut.now }
         ensures { let s = served_by H.hash_of self.now in
-            IfOk result (λ v. AllZip Presents v.items (unsigned_ns s (low cut.now))) }
+            IfOk result (λ v. AllZip Presents v.items (unsigned_ns s (low cut.now.name.now))) }
     {
         let mut groups = Vec::new(alloc);
-        groups.push(self.spelled_rrset(alloc, cut, Rtype::NS)?.unsigned())?;
+        let servers = self.spelled_rrset(alloc, cut.name, &cut.owned, Rtype::NS)?;
+        groups.push(servers.unsigned())?;
         Ok(groups)
     }
 
@@ -149,15 +146,16 @@ impl<'h, H: Nsec3Hasher> ZoneRecords<'h, H> {
         &self,
         alloc: Global,
         groups: &mut Vec<RrGroup>,
-        cut: &Name<Vec<u8>>,
+        cut: &Cut<'_>,
     ) -> Result<(), AllocError>
-        ensures { let s = served_by H.hash_of self.now in
-            OnOk result (Adds groups.old.items groups.new.items (if_any s (low cut.now) 43)) }
+        requires { IsCutRecords self.now.records cut.now }
+        ensures { let s = served_by H.hash_of self.now in let c = low cut.now.name.now in
+            OnOk result (Adds groups.old.items groups.new.items (if_any s c 43)) }
     {
-        if !self.has(cut, Rtype::DS) {
+        if !cut.owned.has(Rtype::DS) {
             return Ok(());
         }
-        groups.push(self.spelled_rrset(alloc, cut, Rtype::DS)?)?;
+        groups.push(self.spelled_rrset(alloc, cut.name, &cut.owned, Rtype::DS)?)?;
         Ok(())
     }
 
@@ -167,24 +165,30 @@ impl<'h, H: Nsec3Hasher> ZoneRecords<'h, H> {
         &self,
         alloc: Global,
         name: &Name<Vec<u8>>,
+        near: &Neighbours<'_>,
+        owned: &Owned<'_>,
         rtype: Rtype,
     ) -> Result<ZoneAnswer, HashError>
         requires plain { ((rtype == 47) || (rtype == 50)) ≡ false }
+        requires near { IsNear name.now self.now.records near.now }
+        requires owned { owned.now ≡ owned_by name.now self.now.records }
         requires told { let z = zone_with self.now.apex self.now.records in
             is_open z (optout_of self.now.mode) (low name.now) ≡ false }
         requires own { let z = zone_with self.now.apex self.now.records in
             NoneRefers z (low name.now) rtype }
+        requires uncut { let z = zone_with self.now.apex self.now.records in
+            cut_above z (low name.now) ≡ None }
         ensures answer { IfOk result (AnswersAs (served_by H.hash_of self.now) name.now rtype) }
         ensures failed { IfErr result (FailsFor H.hash_of self.now name.now rtype) }
     {
         self.keeps();
-        if self.has(name, rtype) {
-            return Ok(self.found(alloc, name, rtype)?);
+        if owned.has(rtype) {
+            return Ok(self.found(alloc, name, owned, rtype)?);
         }
-        if self.exists(name) {
+        if self.stands(name, near) {
             return self.missing(alloc, AUTHORITATIVE, &[name]);
         }
-        self.answer_without_name(alloc, name, rtype)
+        self.answer_without_name(alloc, name, near, rtype)
     }
 
     /// The answer for a name that does not exist: that of the wildcard under its closest encloser, with the record that
@@ -194,35 +198,48 @@ impl<'h, H: Nsec3Hasher> ZoneRecords<'h, H> {
         &self,
         alloc: Global,
         name: &Name<Vec<u8>>,
+        near: &Neighbours<'_>,
         rtype: Rtype,
     ) -> Result<ZoneAnswer, HashError>
         requires plain { ((rtype == 47) || (rtype == 50)) ≡ false }
+        requires near { IsNear name.now self.now.records near.now }
         requires told { let z = zone_with self.now.apex self.now.records in
             is_open z (optout_of self.now.mode) (low name.now) ≡ false }
         requires own { let z = zone_with self.now.apex self.now.records in
             NoneRefers z (low name.now) rtype }
+        requires uncut { let z = zone_with self.now.apex self.now.records in
+            cut_above z (low name.now) ≡ None }
         requires gone { let z = zone_with self.now.apex self.now.records in
             exists z (low name.now) ≡ false }
         ensures answer { IfOk result (AnswersAs (served_by H.hash_of self.now) name.now rtype) }
         ensures failed { IfErr result (FailsFor H.hash_of self.now name.now rtype) }
     {
         self.keeps();
-        let around = self.around(alloc, name)?;
-        if !self.expands(name, &around.star) {
+        let around = self.around(alloc, name, near)?;
+        let wild = self.owned(&around.star);
+        if !self.expands(name, &around.star, &wild) {
             return self.denied(alloc, NO_SUCH_NAME, name, &around);
         }
-        if self.has(&around.star, rtype) {
-            return self.expanded(alloc, name, &around, rtype);
+        if wild.has(rtype) {
+            return self.expanded(alloc, name, &around, &wild, rtype);
         }
         self.denied(alloc, AUTHORITATIVE, name, &around)
     }
 
-    /// Whether a wildcard name exists, and the name is one of the zone.
-    pub(super) fn expands(&self, name: &Name<Vec<u8>>, star: &Name<Vec<u8>>) -> bool
+    /// Whether a wildcard name above which no delegation stands exists, and the name is one of the zone.
+    pub(super) fn expands(
+        &self,
+        name: &Name<Vec<u8>>,
+        star: &Name<Vec<u8>>,
+        wild: &Owned<'_>,
+    ) -> bool
+        requires owned { wild.now ≡ owned_by star.now self.now.records }
+        requires uncut { let z = zone_with self.now.apex self.now.records in
+            at_or_above self.now.apex name.now ≡ true → cut_above z (low star.now) ≡ None }
         ensures { result ≡ (at_or_above self.now.apex name.now
             && exists (zone_with self.now.apex self.now.records) (low star.now)) }
     {
-        is_at_or_above(&self.apex, name) && self.exists(star)
+        is_at_or_above(&self.apex, name) && self.stands_with(star, wild)
     }
 
     /// The RRset asked for, and nothing else.
@@ -230,15 +247,17 @@ impl<'h, H: Nsec3Hasher> ZoneRecords<'h, H> {
         &self,
         alloc: Global,
         name: &Name<Vec<u8>>,
+        owned: &Owned<'_>,
         rtype: Rtype,
     ) -> Result<ZoneAnswer, AllocError>
         requires plain { ((rtype == 47) || (rtype == 50)) ≡ false }
+        requires owned { owned.now ≡ owned_by name.now self.now.records }
         ensures { let s = served_by H.hash_of self.now in
             IfOk result (Holds 33792 (under name.now (rrset s (low name.now) rtype) ∷ []) []) }
     {
         Ok(ZoneAnswer {
             flags: AUTHORITATIVE,
-            answer: self.under_name(alloc, name, name, rtype)?,
+            answer: self.under_name(alloc, name, name, owned, rtype)?,
             authority: Vec::new(alloc),
         })
     }
@@ -250,9 +269,11 @@ impl<'h, H: Nsec3Hasher> ZoneRecords<'h, H> {
         alloc: Global,
         name: &Name<Vec<u8>>,
         around: &Around,
+        wild: &Owned<'_>,
         rtype: Rtype,
     ) -> Result<ZoneAnswer, HashError>
         requires plain { ((rtype == 47) || (rtype == 50)) ≡ false }
+        requires owned { wild.now ≡ owned_by around.now.star self.now.records }
         requires around { let z = zone_with self.now.apex self.now.records in
             IsAround z (optout_of self.now.mode) (low name.now) around.now }
         ensures answer { let s = served_by H.hash_of self.now in let q = low name.now in
@@ -269,7 +290,7 @@ impl<'h, H: Nsec3Hasher> ZoneRecords<'h, H> {
         self.push_proofs(alloc, &mut authority, &[covered])?;
         Ok(ZoneAnswer {
             flags: AUTHORITATIVE,
-            answer: self.under_name(alloc, name, &around.star, rtype)?,
+            answer: self.under_name(alloc, name, &around.star, wild, rtype)?,
             authority,
         })
     }
@@ -293,15 +314,18 @@ impl<'h, H: Nsec3Hasher> ZoneRecords<'h, H> {
         alloc: Global,
         name: &Name<Vec<u8>>,
         source: &Name<Vec<u8>>,
+        owned: &Owned<'_>,
         rtype: Rtype,
     ) -> Result<Vec<RrGroup>, AllocError>
         requires plain { ((rtype == 47) || (rtype == 50)) ≡ false }
+        requires owned { owned.now ≡ owned_by source.now self.now.records }
         ensures { let s = served_by H.hash_of self.now in
             let there = rrset s (low source.now) rtype in
             IfOk result (λ v. AllZip Presents v.items (under name.now there ∷ [])) }
     {
         let mut groups = Vec::new(alloc);
-        groups.push(self.rrset(alloc, source, copy_name(alloc, name)?, rtype, false)?)?;
+        let owner = copy_name(alloc, name)?;
+        groups.push(self.rrset(alloc, source, owned, owner, rtype, false)?)?;
         Ok(groups)
     }
 
@@ -397,6 +421,7 @@ impl<'h, H: Nsec3Hasher> ZoneRecords<'h, H> {
         links: &Vec<ChainLink>,
         names: &[&Name<Vec<u8>>],
     ) -> Result<(), HashError>
+        requires { IsRound self.now.apex links.now.items }
         ensures adds { let ttl = chain_ttl self.now.apex self.now.records in
             let said = said_of self.now.apex ttl (map (λ n. low n.now) names.now) links.now.items in
             OnOk result (Adds groups.old.items groups.new.items said) }
@@ -414,6 +439,7 @@ impl<'h, H: Nsec3Hasher> ZoneRecords<'h, H> {
         links: &Vec<HashedLink>,
         names: &[&Name<Vec<u8>>],
     ) -> Result<(), HashError>
+        requires { IsCircle links.now.items }
         ensures adds { let ttl = chain_ttl self.now.apex self.now.records in
             let hash = hash_in (H.hash_of self.now.hasher) self.now.mode in
             let said = hashed_said_of ttl (map (λ n. hash n.now) names.now) links.now.items in
@@ -484,7 +510,7 @@ impl<'h, H: Nsec3Hasher> ZoneRecords<'h, H> {
         ensures { let s = served_by H.hash_of self.now in
             IfOk result (λ g. Presents g (soa s)) }
     {
-        self.spelled_rrset(alloc, &self.apex, Rtype::SOA)
+        self.spelled_rrset(alloc, &self.apex, &self.owned(&self.apex), Rtype::SOA)
     }
 
     /// An RRset that the zone has, its owner as spelled there.
@@ -492,18 +518,20 @@ impl<'h, H: Nsec3Hasher> ZoneRecords<'h, H> {
         &self,
         alloc: Global,
         name: &Name<Vec<u8>>,
+        owned: &Owned<'_>,
         rtype: Rtype,
     ) -> Result<RrGroup, AllocError>
         requires plain { ((rtype == 47) || (rtype == 50)) ≡ false }
+        requires owned { owned.now ≡ owned_by name.now self.now.records }
         requires there { has (zone_with self.now.apex self.now.records) (low name.now) rtype ≡ true }
         ensures { let s = served_by H.hash_of self.now in
             IfOk result (λ g. Presents g (rrset s (low name.now) rtype)) }
     {
-        let owner = match owner_among(&self.records, name, rtype) {
-            Some(owner) => owner,
+        let owner = match owned.first(rtype) {
+            Some(rr) => rr.owner(),
             None => name,
         };
-        self.rrset(alloc, name, copy_name(alloc, owner)?, rtype, true)
+        self.rrset(alloc, name, owned, copy_name(alloc, owner)?, rtype, true)
     }
 
     /// The RRset of an owner and a type, written under another name, or each record as it spells its owner itself. Its
@@ -512,15 +540,18 @@ impl<'h, H: Nsec3Hasher> ZoneRecords<'h, H> {
         &self,
         alloc: Global,
         source: &Name<Vec<u8>>,
+        owned: &Owned<'_>,
         owner: Name<Vec<u8>>,
         rtype: Rtype,
         own: bool,
     ) -> Result<RrGroup, AllocError>
+        requires { owned.now ≡ owned_by source.now self.now.records }
         ensures { IfOk result (λ g. Presents g
             (rrset_from own self.now.apex self.now.records source.now owner rtype)) }
     {
-        let data = data_among(alloc, &self.records, source, rtype, own)?;
-        let ttl = self.ttl_at(source, rtype);
+        self.keeps();
+        let data = owned.rrset(alloc, rtype, own)?;
+        let ttl = owned.ttl(rtype);
         let count = source.rrsig_label_count();
         Ok(RrGroup::new(owner, count, rtype, ttl, data.records, data.canonical, true))
     }

@@ -1,19 +1,24 @@
 //! Answers that opt-out leaves open (RFC 5155, 6, 7.2.4 and 7.2.7).
-ghost use Rattle.std.specs.Prelude.{◌≡◌, [], ◌∷◌, ◌++◌, ◌||◌, ◌==◌, true, false, IfErr, IfOk, OnOk};
+ghost use Rattle.std.specs.Prelude.{◌≡◌, [], ◌∷◌, ◌++◌, ◌||◌, ◌==◌, None, true, false, IfErr, IfOk, OnOk};
 ghost use Rattle.definitions.specs.Name.{low};
-ghost use Rattle.definitions.specs.Zone.{Open, has, is_open};
+ghost use Rattle.definitions.specs.Zone.{Open, cut_above, has, is_open};
 ghost use Rattle.definitions.specs.ZoneChain.{optout_of};
 ghost use Rattle.denial_rules.specs.OwnFacts.{spoken};
 ghost use Rattle.answer_terms.specs.Accepting.{zone_with};
 ghost use Rattle.answer_terms.specs.GroupView.{Adds};
 ghost use Rattle.answer_terms.specs.Served.{expanded, proofs_of, soa, unsigned_ns};
+ghost use Rattle.answer_records.specs.OwnedRecords.{owned_by};
 ghost use Rattle.answer_zone.specs.Cuts.{NoneRefers};
 ghost use Rattle.answer_zone.specs.HashedZone.{FailsFor, IsHashFailure, served_by};
+ghost use Rattle.answer_zone.specs.Placed.{IsCutRecords, IsNear};
 ghost use Rattle.answer_zone.specs.ZoneAnswers.{AnswersAs, Holds};
 
-use crate::group::RrGroup;
 use crate::zone::ZoneRecords;
 use crate::zone::answers::{AUTHORITATIVE, NO_SUCH_NAME, REFERRAL, ZoneAnswer};
+use crate::zone::asked::Asked;
+use answer_records::group::RrGroup;
+use answer_records::near::Neighbours;
+use answer_records::owned::{Cut, Owned};
 use denial_hashes::hasher::{HashError, Nsec3Hasher};
 use messages::names::Name;
 use names_data::rtype::Rtype;
@@ -26,17 +31,19 @@ impl<'h, H: Nsec3Hasher> ZoneRecords<'h, H> {
         &self,
         alloc: Global,
         name: &Name<Vec<u8>>,
+        near: &Neighbours<'_>,
         rtype: Rtype,
     ) -> Result<ZoneAnswer, HashError>
         requires plain { ((rtype == 47) || (rtype == 50)) ≡ false }
+        requires near { IsNear name.now self.now.records near.now }
         requires open { let z = zone_with self.now.apex self.now.records in
             is_open z (optout_of self.now.mode) (low name.now) ≡ true }
         ensures answer { IfOk result (AnswersAs (served_by H.hash_of self.now) name.now rtype) }
         ensures failed { IfErr result (FailsFor H.hash_of self.now name.now rtype) }
     {
-        match self.referring(name, rtype) {
-            Some(cut) => self.open_referral(alloc, name, cut),
-            None => self.open_own_answer(alloc, name, rtype),
+        match self.asked(name, near, rtype) {
+            Asked::Away(cut) => self.open_referral(alloc, name, near, &cut),
+            Asked::Here(_) => self.open_own_answer(alloc, name, near, rtype),
         }
     }
 
@@ -45,18 +52,23 @@ impl<'h, H: Nsec3Hasher> ZoneRecords<'h, H> {
         &self,
         alloc: Global,
         name: &Name<Vec<u8>>,
-        cut: &Name<Vec<u8>>,
+        near: &Neighbours<'_>,
+        cut: &Cut<'_>,
     ) -> Result<ZoneAnswer, HashError>
-        requires delegation { has (zone_with self.now.apex self.now.records) (low cut.now) 2 ≡ true }
+        requires near { IsNear name.now self.now.records near.now }
+        requires opted { optout_of self.now.mode ≡ true }
+        requires delegation { has (zone_with self.now.apex self.now.records) (low cut.now.name.now) 2
+            ≡ true }
+        requires records { IsCutRecords self.now.records cut.now }
         ensures answer { let s = served_by H.hash_of self.now in
             let said = spoken s.zone s.mode (low name.now) Open in
-            IfOk result (Holds 32768 [] (unsigned_ns s (low cut.now) ++ proofs_of s said)) }
+            IfOk result (Holds 32768 [] (unsigned_ns s (low cut.now.name.now) ++ proofs_of s said)) }
         ensures failed { let hash = H.hash_of self.now.hasher in let mode = self.now.mode in
             let z = zone_with self.now.apex self.now.records in
             IfErr result (IsHashFailure hash mode (spoken z mode (low name.now) Open)) }
     {
         let mut authority = self.name_servers(alloc, cut)?;
-        self.push_open_proofs(alloc, &mut authority, name)?;
+        self.push_open_proofs(alloc, &mut authority, name, near)?;
         Ok(ZoneAnswer {
             flags: REFERRAL,
             answer: Vec::new(alloc),
@@ -69,28 +81,33 @@ impl<'h, H: Nsec3Hasher> ZoneRecords<'h, H> {
         &self,
         alloc: Global,
         name: &Name<Vec<u8>>,
+        near: &Neighbours<'_>,
         rtype: Rtype,
     ) -> Result<ZoneAnswer, HashError>
         requires plain { ((rtype == 47) || (rtype == 50)) ≡ false }
+        requires near { IsNear name.now self.now.records near.now }
         requires open { let z = zone_with self.now.apex self.now.records in
             is_open z (optout_of self.now.mode) (low name.now) ≡ true }
         requires own { let z = zone_with self.now.apex self.now.records in
             NoneRefers z (low name.now) rtype }
+        requires uncut { let z = zone_with self.now.apex self.now.records in
+            cut_above z (low name.now) ≡ None }
         ensures answer { IfOk result (AnswersAs (served_by H.hash_of self.now) name.now rtype) }
         ensures failed { IfErr result (FailsFor H.hash_of self.now name.now rtype) }
     {
         self.keeps();
-        if self.exists(name) {
-            return self.open_missing(alloc, AUTHORITATIVE, name);
+        if self.stands(name, near) {
+            return self.open_missing(alloc, AUTHORITATIVE, name, near);
         }
-        let star = self.closest_wildcard(alloc, name)?;
-        if !self.expands(name, &star) {
-            return self.open_missing(alloc, NO_SUCH_NAME, name);
+        let star = self.closest_wildcard(alloc, name, near)?;
+        let wild = self.owned(&star);
+        if !self.expands(name, &star, &wild) {
+            return self.open_missing(alloc, NO_SUCH_NAME, name, near);
         }
-        if self.has(&star, rtype) {
-            return self.open_expanded(alloc, name, &star, rtype);
+        if wild.has(rtype) {
+            return self.open_expanded(alloc, name, near, &star, &wild, rtype);
         }
-        self.open_missing(alloc, AUTHORITATIVE, name)
+        self.open_missing(alloc, AUTHORITATIVE, name, near)
     }
 
     /// The SOA record, and what shows that opt-out leaves the name open.
@@ -99,7 +116,10 @@ impl<'h, H: Nsec3Hasher> ZoneRecords<'h, H> {
         alloc: Global,
         flags: u16,
         name: &Name<Vec<u8>>,
+        near: &Neighbours<'_>,
     ) -> Result<ZoneAnswer, HashError>
+        requires near { IsNear name.now self.now.records near.now }
+        requires opted { optout_of self.now.mode ≡ true }
         ensures answer { let s = served_by H.hash_of self.now in
             let said = spoken s.zone s.mode (low name.now) Open in
             IfOk result (Holds flags [] (soa s ∷ proofs_of s said)) }
@@ -108,7 +128,7 @@ impl<'h, H: Nsec3Hasher> ZoneRecords<'h, H> {
             IfErr result (IsHashFailure hash mode (spoken z mode (low name.now) Open)) }
     {
         let mut authority = self.soa_alone(alloc)?;
-        self.push_open_proofs(alloc, &mut authority, name)?;
+        self.push_open_proofs(alloc, &mut authority, name, near)?;
         Ok(ZoneAnswer {
             flags,
             answer: Vec::new(alloc),
@@ -121,10 +141,15 @@ impl<'h, H: Nsec3Hasher> ZoneRecords<'h, H> {
         &self,
         alloc: Global,
         name: &Name<Vec<u8>>,
+        near: &Neighbours<'_>,
         star: &Name<Vec<u8>>,
+        wild: &Owned<'_>,
         rtype: Rtype,
     ) -> Result<ZoneAnswer, HashError>
         requires plain { ((rtype == 47) || (rtype == 50)) ≡ false }
+        requires near { IsNear name.now self.now.records near.now }
+        requires opted { optout_of self.now.mode ≡ true }
+        requires owned { wild.now ≡ owned_by star.now self.now.records }
         ensures answer { let s = served_by H.hash_of self.now in
             let said = spoken s.zone s.mode (low name.now) Open in
             let there = expanded s (low star.now) name.now rtype in
@@ -134,10 +159,10 @@ impl<'h, H: Nsec3Hasher> ZoneRecords<'h, H> {
             IfErr result (IsHashFailure hash mode (spoken z mode (low name.now) Open)) }
     {
         let mut authority = Vec::new(alloc);
-        self.push_open_proofs(alloc, &mut authority, name)?;
+        self.push_open_proofs(alloc, &mut authority, name, near)?;
         Ok(ZoneAnswer {
             flags: AUTHORITATIVE,
-            answer: self.under_name(alloc, name, star, rtype)?,
+            answer: self.under_name(alloc, name, star, wild, rtype)?,
             authority,
         })
     }
@@ -148,7 +173,10 @@ impl<'h, H: Nsec3Hasher> ZoneRecords<'h, H> {
         alloc: Global,
         groups: &mut Vec<RrGroup>,
         name: &Name<Vec<u8>>,
+        near: &Neighbours<'_>,
     ) -> Result<(), HashError>
+        requires near { IsNear name.now self.now.records near.now }
+        requires opted { optout_of self.now.mode ≡ true }
         ensures adds { let s = served_by H.hash_of self.now in
             let said = spoken s.zone s.mode (low name.now) Open in
             OnOk result (Adds groups.old.items groups.new.items (proofs_of s said)) }
@@ -156,7 +184,7 @@ impl<'h, H: Nsec3Hasher> ZoneRecords<'h, H> {
             let z = zone_with self.now.apex self.now.records in
             IfErr result (IsHashFailure hash mode (spoken z mode (low name.now) Open)) }
     {
-        let around = self.around(alloc, name)?;
+        let around = self.around(alloc, name, near)?;
         self.push_proofs(alloc, groups, &[&around.encloser, &around.closer])
     }
 }

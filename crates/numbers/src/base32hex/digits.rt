@@ -1,7 +1,9 @@
-//! The digits of octets, printed without memory.
+//! The digits of octets, printed without memory, and what a digit stands for.
 
-ghost use Rattle.std.specs.Prelude.{◌≡◌, ◌<◌, Some};
+ghost use Rattle.std.specs.Prelude.{◌≡◌, ◌<◌, false, MatchOption, Some};
+ghost use Rattle.std.specs.Char.{to_ascii_lowercase};
 ghost use Rattle.definitions.specs.Base32hex.{base32hex, digit};
+ghost use Rattle.numbers.specs.Decoding.{is_digit};
 
 use std::fmt;
 
@@ -116,14 +118,50 @@ impl fmt::Display for Back {
     }
 }
 
+/// The digits of 0 to 31, in lower case.
+static DIGITS: [u8; 32] = *b"0123456789abcdefghijklmnopqrstuv";
+
 /// A digit of base32hex, in lower case.
-pub(crate) fn digit(value: u8) -> char
+pub(crate) fn digit_octet(value: u8) -> u8
     requires { value < 32 }
     ensures { result ≡ digit value }
 {
-    if value < 10 {
-        (b'0' + value) as char
-    } else {
-        (b'a' - 10 + value) as char
-    }
+    DIGITS[value as usize]
+}
+
+fn digit(value: u8) -> char
+    requires { value < 32 }
+    ensures { result ≡ digit value }
+{
+    digit_octet(value) as char
+}
+
+/// What each octet stands for as a digit in either case, and 255 where it is none.
+#[rattlefmt::skip]
+static VALUES: [u8; 256] = [
+    255, 255, 255, 255, 255, 255, 255, 255, 255, 255, 255, 255, 255, 255, 255, 255,
+    255, 255, 255, 255, 255, 255, 255, 255, 255, 255, 255, 255, 255, 255, 255, 255,
+    255, 255, 255, 255, 255, 255, 255, 255, 255, 255, 255, 255, 255, 255, 255, 255,
+      0,   1,   2,   3,   4,   5,   6,   7,   8,   9, 255, 255, 255, 255, 255, 255,
+    255,  10,  11,  12,  13,  14,  15,  16,  17,  18,  19,  20,  21,  22,  23,  24,
+     25,  26,  27,  28,  29,  30,  31, 255, 255, 255, 255, 255, 255, 255, 255, 255,
+    255,  10,  11,  12,  13,  14,  15,  16,  17,  18,  19,  20,  21,  22,  23,  24,
+     25,  26,  27,  28,  29,  30,  31, 255, 255, 255, 255, 255, 255, 255, 255, 255,
+    255, 255, 255, 255, 255, 255, 255, 255, 255, 255, 255, 255, 255, 255, 255, 255,
+    255, 255, 255, 255, 255, 255, 255, 255, 255, 255, 255, 255, 255, 255, 255, 255,
+    255, 255, 255, 255, 255, 255, 255, 255, 255, 255, 255, 255, 255, 255, 255, 255,
+    255, 255, 255, 255, 255, 255, 255, 255, 255, 255, 255, 255, 255, 255, 255, 255,
+    255, 255, 255, 255, 255, 255, 255, 255, 255, 255, 255, 255, 255, 255, 255, 255,
+    255, 255, 255, 255, 255, 255, 255, 255, 255, 255, 255, 255, 255, 255, 255, 255,
+    255, 255, 255, 255, 255, 255, 255, 255, 255, 255, 255, 255, 255, 255, 255, 255,
+    255, 255, 255, 255, 255, 255, 255, 255, 255, 255, 255, 255, 255, 255, 255, 255,
+];
+
+/// What a digit in either case stands for.
+pub(crate) fn value(octet: u8) -> Option<u8>
+    ensures { MatchOption result (is_digit (to_ascii_lowercase octet) ≡ false)
+        (λ v. (v < 32) × (digit v ≡ to_ascii_lowercase octet)) }
+{
+    let value = VALUES[octet as usize];
+    if value < 32 { Some(value) } else { None }
 }

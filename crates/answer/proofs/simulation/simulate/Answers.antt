@@ -1,6 +1,6 @@
 use Rattle.std.proofs.Common.{rules, map, subst, sym}
 use Rattle.answer_terms.specs.Accepting.{sorted_records}
-use Rattle.answer_zone.specs.ModeView.{mode_of}
+use Rattle.answer_records.specs.ModeView.{mode_of}
 use Rattle.messages.specs.HandedRr.{handed_of}
 use Rattle.answer.specs.Running.{sofar}
 use Rattle.answer_life.specs.Simulating.{begin}

@@ -1,17 +1,17 @@
 use Rattle.std.proofs.Common.{rules, ◌≡◌, false, subst, ◌||◌, [], ◌∷◌, ◌+◌, ◌++◌, map, length, sym, ap, ◌∙◌, arith}
 use Rattle.std.specs.Prelude.{MatchOption, Some, is_some}
 use Rattle.definitions.specs.Limits.{pointer_limit}
-use Rattle.answer_judge.specs.declared.judging.groups.Group.{Group}
-use Rattle.answer_judge.specs.Verified.{is_verified}
-use Rattle.answer_judge.proofs.JudgeMarks.{marked_is}
+use Rattle.answer_facts.specs.declared.groups.Group.{Group}
+use Rattle.answer_facts.specs.Verified.{is_verified}
+use Rattle.answer_facts.proofs.JudgeMarks.{marked_is}
 use Rattle.messages.specs.Record.{spelled}
-use Rattle.answer_judge.specs.Counted.{keys_sought}
-use Rattle.answer_judge.specs.Marked.{held_by, marked, tries_in}
-use Rattle.answer_judge.proofs.JudgeCounted.{tries_are}
-use Rattle.answer_judge.proofs.JudgeFacts.{last_of}
-use Rattle.answer_judge.proofs.JudgeSought.{keys_are}
-use Rattle.answer_judge.specs.Ranked.{AreRanked}
-use Rattle.answer_judge.proofs.GroupPlaces.{one_ranked}
+use Rattle.answer_facts.specs.Counted.{keys_sought}
+use Rattle.answer_facts.specs.Marked.{held_by, marked, tries_in}
+use Rattle.answer_facts.proofs.JudgeCounted.{tries_are}
+use Rattle.answer_facts.proofs.JudgeFacts.{last_of}
+use Rattle.answer_facts.proofs.JudgeSought.{keys_are}
+use Rattle.answer_facts.specs.Ranked.{AreRanked}
+use Rattle.answer_facts.proofs.GroupPlaces.{one_ranked}
 use Rattle.answer_judge.proofs.judging.are_verified.Goals as goal
 
 pub returns-clause-tried : goal.returns-clause-tried

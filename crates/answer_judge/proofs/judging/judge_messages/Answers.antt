@@ -3,18 +3,18 @@ use Rattle.std.specs.Prelude.{None, nat_eq}
 use Rattle.definitions.specs.Dnskey.{dnskey_data}
 use Rattle.definitions.specs.Zone.{sorted_data}
 use Rattle.definitions.specs.Limits.{pointer_limit}
-use Rattle.answer_judge.specs.Facts.{is_usable, is_trusted}
-use Rattle.answer_judge.specs.Judging.{Handing, message_refusal, keys_in}
-use Rattle.answer_judge.specs.Judged.{trusting, keys_of, judged_facts, said, AnswersAs}
+use Rattle.answer_facts.specs.Facts.{is_usable, is_trusted}
+use Rattle.answer_facts.specs.Judging.{Handing, message_refusal, keys_in}
+use Rattle.answer_facts.specs.Judged.{trusting, keys_of, judged_facts, said, AnswersAs}
 use Rattle.messages.specs.Record.{spelled}
-use Rattle.answer_judge.specs.Verified.{is_verified, verified_facts}
+use Rattle.answer_facts.specs.Verified.{is_verified, verified_facts}
 use Rattle.messages.proofs.CountedRecords.{same_count}
-use Rattle.answer_judge.specs.Counted.{answer_sought, hashes_beyond, hashes_of_facts, keys_sought, tries}
+use Rattle.answer_facts.specs.Counted.{answer_sought, hashes_beyond, hashes_of_facts, keys_sought, tries}
 use Rattle.answer_judge.proofs.JudgeTotals.{key_tries_as, keys_alone, keys_and_answer}
 use Rattle.answer_judge.proofs.JudgeWhole.{beyond, chained_as, usable_as, untrusted, decided_as, unrefused}
 use Rattle.answer_judge.proofs.JudgeHashes.{counts_as, facts_hashed, none_hashed}
 use Rattle.answer_terms.specs.EqualTags.{has_equal_tags}
-use Rattle.answer_judge.specs.KeyOrder.{Ranks}
+use Rattle.answer_facts.specs.KeyOrder.{Ranks}
 use Rattle.answer_judge.proofs.judging.judge_messages.Goals as goal
 
 pub has_equal_tags-requires : goal.has_equal_tags-requires

@@ -1,5 +1,5 @@
 use Rattle.std.proofs.Common.{sym}
-use Rattle.answer_judge.proofs.JudgeMarks.{by_is}
+use Rattle.answer_facts.proofs.JudgeMarks.{by_is}
 use Rattle.answer_judge.proofs.FirstSigns.{first_of}
 use Rattle.answer_judge.proofs.laws.first_signature_says.Goals as goal
 

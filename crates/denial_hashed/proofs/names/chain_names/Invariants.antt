@@ -1,7 +1,7 @@
-use Rattle.std.proofs.Common.{◌≡◌, ◌++◌, ◌≤◌, map, length, drop}
+use Rattle.std.proofs.Common.{◌≡◌, ◌++◌, map, drop}
 use Rattle.denial_hashed.specs.Chained.{spot_of}
 use Rattle.denial_hashed.specs.Walk.{spots_behind, spots_of}
-use Rattle.denial_sorted.specs.Groups.{group_owner}
+use Rattle.denial_groups.specs.Groups.{group_owner}
 use Rattle.denial_hashed.proofs.names.chain_names.Given as goal
 
 abbrev pub invariant-loop-owner : goal.invariant-loop-owner

@@ -1,4 +1,4 @@
-use Rattle.std.proofs.Common.{◌++◌, ◌-◌, arith}
+use Rattle.std.proofs.Common.{◌-◌, arith}
 use Rattle.denial_hashed.specs.Chained.{spot_of}
 use Rattle.denial_hashed.specs.Walk.{last_spots}
 use Rattle.denial_hashed.proofs.Named.{last_step, pushed}

@@ -1,7 +1,15 @@
-use Rattle.std.proofs.Common.{◌≡◌, Err}
-use Rattle.denial_hashes.proofs.Fits.{over_fits}
+use Rattle.std.proofs.Common.{◌≡◌, ◌++◌, ◌∷◌, ◌∙◌, sym, ap, subst}
+use Rattle.definitions.specs.Name.{Name, IsName, wire}
+use Rattle.names_labels.specs.Flat.{name_in}
+use Rattle.names_labels.proofs.Runs.{name_in-wire}
 use Rattle.denial_hashes.proofs.owner_name.label_under.Goals as goal
 
-pub returns-in-Err-LongName-clause-refused : goal.returns-in-Err-LongName-clause-refused
-returns-in-Err-LongName-clause-refused g c = λ _ n.
-    over_fits c.new-builder.result c.append_label.new.self c.args.label.now (g.N.Labels.name c.args.apex.now) c.new-builder.ensures c.in-Ok.ensures.ok (c.in-Err-LongName.ensures.long_name.0 (cc (c.in-Err-LongName.field-0-is))) n
+pub returns-in-Ok-from_octets-clause-ok : goal.returns-in-Ok-from_octets-clause-ok
+returns-in-Ok-from_octets-clause-ok g c =
+    let name : Name = c.args.label.now ∷ g.N.Labels.name c.args.apex.now in
+    let written : c.write_under.new.octets.items ≡ wire name = c.in-Ok-write_under.ensures ∙ ap (λ t. t ++ wire name) c.in-Ok.ensures.items in
+    sym (name_in-wire c.in-Ok-from_octets.name) ∙ ap name_in (c.in-Ok-from_octets.ensures.ok.octets ∙ written) ∙ name_in-wire name
+
+pub returns-in-Ok-from_octets-clause-fits : goal.returns-in-Ok-from_octets-clause-fits
+returns-in-Ok-from_octets-clause-fits g c =
+    subst IsName (returns-in-Ok-from_octets-clause-ok g c) c.in-Ok-from_octets.ensures.ok.name

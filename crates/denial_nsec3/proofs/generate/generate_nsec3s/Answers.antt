@@ -1,16 +1,11 @@
-use Rattle.std.proofs.Common.{◌≡◌, Bool, List, map, subst, sym, ap, ◌∙◌}
-use Rattle.std.specs.List.{AllByRecursion}
+use Rattle.std.proofs.Common.{Bool, List, map, subst, sym, ap, ◌∙◌}
 use Rattle.definitions.specs.Name.{Name}
 use Rattle.plain.specs.ZoneData.{zone_canonical, zone_type}
-use Rattle.plain.specs.declared.record.Record.{Record}
-use Rattle.plain.specs.declared.zone_data.ZoneRecordData.{ZoneRecordData}
-use Rattle.denial_hashes.specs.Hashing.{FitsName}
 use Rattle.denial_hashed.specs.Chained.{some_fails, TwoShare}
-use Rattle.denial_hashed.specs.declared.hashed.HashedName.{HashedName}
 use Rattle.denial_owners.specs.Kept.{kept_groups}
 use Rattle.denial_owners.specs.Refused.{IsOwnersFault}
 use Rattle.denial_owners.specs.Ttls.{has_unequal_ttls}
-use Rattle.denial_nsec3.specs.Linked.{linked, links_around, IsLinkFault}
+use Rattle.denial_nsec3.specs.Linked.{linked, links_around}
 use Rattle.denial_nsec3.proofs.Generated.{chain_made, in_order, link_fault, names_listed, no_fault, owners_fault, speaks_now}
 use Rattle.denial_nsec3.proofs.generate.generate_nsec3s.Goals as goal
 
@@ -55,7 +50,7 @@ returns-in-Err-nsec3s_of-clause-refused g c =
     let are = c.deref.ensures.value ∙ c.in-Ok.ensures.owners ∙ ap (λ b. kept_groups name zone_type (zone_canonical name) apex b c.args.records) c.excludes.ensures in
     let f = c.in-Err-nsec3s_of.error in
     link_fault name apex answers c.args.config.now c.args.records c.requires.class c.requires.order c.deref.result.now are c.in-Ok.chain.soa c.in-Ok.ensures.soa c.in-Ok-hashed_chain.hashed.items c.in-Ok-hashed_chain.ensures.chain c.in-Ok-hashed_chain.ensures.hashed f
-    (subst (λ (hs : List (HashedName g.row.N.Denot (ZoneRecordData g.row.Octs.Denot g.row.N.Denot))). IsLinkFault apex (map (λ h. h.hash.items) hs) f) c.deref-2.ensures.value c.in-Err-nsec3s_of.ensures.refused)
+    c.in-Err-nsec3s_of.ensures.refused
 
 pub returns-clause-chain : goal.returns-clause-chain
 returns-clause-chain g c =
@@ -67,12 +62,11 @@ returns-clause-chain g c =
     let are = c.deref.ensures.value ∙ c.in-Ok.ensures.owners ∙ ap (λ b. kept_groups name zone_type (zone_canonical name) apex b c.args.records) c.excludes.ensures in
     let s = c.in-Ok.chain.soa in
     let hs = c.in-Ok-hashed_chain.hashed.items in
-    let fit = subst (λ (hs : List (HashedName g.row.N.Denot (ZoneRecordData g.row.Octs.Denot g.row.N.Denot))). AllByRecursion (λ h. FitsName apex h.hash.items) hs) c.deref-2.ensures.value c.in-Ok-nsec3s_of.ensures.fit in
     let ttls = ap (λ b. has_unequal_ttls name zone_type (zone_canonical name) apex b rs) (sym c.excludes.ensures) ∙ c.in-Ok.ensures.ttls in (
       s,
-      no_fault name apex answers cfg rs c.requires.class c.requires.order c.deref.result.now are s c.in-Ok.ensures.soa hs c.in-Ok-hashed_chain.ensures.chain ttls c.in-Ok-hashed_chain.ensures.hashed fit,
+      no_fault name apex answers cfg rs c.requires.class c.requires.order c.deref.result.now are s c.in-Ok.ensures.soa hs c.in-Ok-hashed_chain.ensures.chain ttls c.in-Ok-hashed_chain.ensures.hashed c.in-Ok-nsec3s_of.ensures.fit,
       ap (λ v. v.items) c.new.ensures.chain ∙ c.in-Ok-nsec3s_of.ensures.ok
-          ∙ (λ i. map (linked name zone_type apex (record { params = cfg.params; dnskey = cfg.assume_dnskeys_will_be_added; ttl = c.chain_ttl.ensures i })) (links_around (c.deref-2.ensures.value i)))
+          ∙ (λ i. map (linked name zone_type apex (record { params = cfg.params; dnskey = cfg.assume_dnskeys_will_be_added; ttl = c.chain_ttl.ensures i })) (links_around hs))
           ∙ chain_made name apex answers cfg rs c.requires.class c.requires.order c.deref.result.now are s c.in-Ok.ensures.soa hs c.in-Ok-hashed_chain.ensures.chain,
       c.new.ensures.param ∙ c.in_ok-nsec3param.ensures.ok,
     )

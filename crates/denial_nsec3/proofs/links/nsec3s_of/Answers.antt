@@ -1,53 +1,75 @@
-use Rattle.std.proofs.Common.{◌+◌, ◌∷◌, drop, map, subst, sym, refl, inl, inr, List}
+use Rattle.std.proofs.Common.{◌≡◌, ◌++◌, ◌∷◌, [], ◌∙◌, List, ℕ, map, subst, sym, ap, refl, inl}
+use Rattle.std.specs.Vec.Iter.{into_iter_items}
 use Rattle.definitions.proofs.Members.{In}
+use Rattle.definitions.specs.ZoneChain.{links}
 use Rattle.denial_hashes.specs.Hashing.{FitsName}
-use Rattle.denial_nsec3.specs.Linked.{linked, links_around}
 use Rattle.denial_hashed.specs.declared.hashed.HashedName.{HashedName}
+use Rattle.denial_nsec3.specs.Linked.{linked, links_around}
 use Rattle.denial_nsec3.specs.Made.{making_of}
-use Rattle.denial_nsec3.proofs.Linking.{Fitting, fitting_in, fitting_more, link_more, next_left, wider_fault}
+use Rattle.denial_nsec3.proofs.Linking.{Fitting, ended_linked, fitting_in, fitting_more, link_more, wider_fault}
+use Rattle.denial_nsec3.proofs.Short.{fitting_short}
 use Rattle.denial_nsec3.proofs.links.nsec3s_of.Goals as goal
 
 pub returns-in-Err-clause-refused : goal.returns-in-Err-clause-refused
 returns-in-Err-clause-refused g c =
+    let hash : HashedName g.row.N.Denot g.row.D.Denot → List ℕ = λ h. h.hash.items in
+    let all = c.args.hashed.items in
+    let first = c.in-Some.first in
+    let whole : all ≡ first ∷ into_iter_items c.next.new.self = sym c.into_iter-rest.ensures.rest ∙ c.in-Some.ensures.items in
+    wider_fault hash (g.N.Labels.name c.args.apex.now) all first c.in-Err.error (subst (In first) (sym whole) (inl refl)) c.in-Err.ensures.refused
+
+pub loop-next-init : goal.loop-next-init
+loop-next-init g c =
     let apex = g.N.Labels.name c.args.apex.now in
-    let hashed = c.args.hashed.now in
-    let behind = c.in-Some.behind.now in
-    let k = c.loop-next.next-index in
-    let owner = c.loop-next.owner.now in
-    let next = c.next-item.result in
-    let left = next_left behind k next c.loop-next-test.true c.next-item.is in
-    let fits = λ (h : HashedName g.row.N.Denot g.row.D.Denot). FitsName apex h.hash.items in
-    wider_fault (λ (h : HashedName g.row.N.Denot g.row.D.Denot). h.hash.items) apex hashed owner next c.in-Err.error
-    (fitting_in fits hashed (owner ∷ drop k behind) owner c.loop-next.invariant.fit (inl refl))
-    (fitting_in fits hashed (owner ∷ drop k behind) next c.loop-next.invariant.fit (inr (subst (In next) (sym left) (inl refl))))
-    c.in-Err.ensures.refused
+    let made = linked g.N.Labels.name g.D.RecordData.type_of apex (making_of c.args.settings.now) in
+    let all = c.args.hashed.items in
+    let first = c.in-Some.first in
+    let rest = into_iter_items c.next.new.self in
+    let whole : all ≡ first ∷ rest = sym c.into_iter-rest.ensures.rest ∙ c.in-Some.ensures.items in (
+      first,
+      record {
+        begun = c.in-Ok.ensures.ok;
+        records = ap (λ r. r ++ map made (links first (first ∷ rest))) c.in_ok-records.ensures.items ∙ ap (λ a. map made (links_around a)) (sym whole);
+        fit = record { done = first ∷ []; parts = whole; are = (c.in-Ok.ensures.fits, tt) };
+        short = fitting_short apex first.hash.items c.in-Ok.ensures.fits;
+      },
+    )
+
+pub returns-in-Err-begin-clause-refused : goal.returns-in-Err-begin-clause-refused
+returns-in-Err-begin-clause-refused g c =
+    let apex = g.N.Labels.name c.args.apex.now in
+    let hash : HashedName g.row.N.Denot g.row.D.Denot → List ℕ = λ h. h.hash.items in
+    let all = c.args.hashed.items in
+    let next = c.in-Some-next.next in
+    let left = into_iter_items c.loop-next.rest in
+    wider_fault hash apex all next c.in-Err-begin.error
+    (fitting_in (λ h. FitsName apex (hash h)) all left next c.loop-next.invariant.1.fit (subst (In next) (sym c.in-Some-next.ensures.items) (inl refl)))
+    c.in-Err-begin.ensures.refused
+
+pub push_link-requires : goal.push_link-requires
+push_link-requires g c = fitting_short (g.N.Labels.name c.args.apex.now) c.in-Some-next.next.hash.items c.in-Ok-begin.ensures.fits
 
 pub loop-next-preserved : goal.loop-next-preserved
 loop-next-preserved g c =
     let apex = g.N.Labels.name c.args.apex.now in
-    let made = linked g.N.Labels.name g.D.RecordData.type_of apex (making_of c.args.settings.now) in
-    let hashed = c.args.hashed.now in
-    let behind = c.in-Some.behind.now in
-    let k = c.loop-next.next-index in
-    let owner = c.loop-next.owner.now in
-    let next = c.next-item.result in
-    let left = next_left behind k next c.loop-next-test.true c.next-item.is in
-    let fits = λ (h : HashedName g.row.N.Denot g.row.D.Denot). FitsName apex h.hash.items in
-    record {
-      all = c.loop-next.invariant.all;
-      records = link_more made c.in-Some.first.now owner next (drop k behind) (drop (k + 1) behind) c.loop-next.records.items c.push_link.new.records.items (map made (links_around hashed)) left c.in_default-push_link.ensures.ok c.loop-next.invariant.records;
-      fit = fitting_more fits hashed (next ∷ drop (k + 1) behind) owner (subst (λ l. Fitting fits hashed (owner ∷ l)) left c.loop-next.invariant.fit) c.in_default-push_link.ensures.fits;
-    }
-
-pub returns-in-Err-push_link-clause-refused : goal.returns-in-Err-push_link-clause-refused
-returns-in-Err-push_link-clause-refused g c =
-    let apex = g.N.Labels.name c.args.apex.now in
-    let hashed = c.args.hashed.now in
-    let behind = c.in-Some.behind.now in
-    let owner = c.loop-next.owner.now in
-    let first = c.in-Some.first.now in
-    let fits = λ (h : HashedName g.row.N.Denot g.row.D.Denot). FitsName apex h.hash.items in
-    wider_fault (λ (h : HashedName g.row.N.Denot g.row.D.Denot). h.hash.items) apex hashed owner first c.in-Err-push_link.error
-    (fitting_in fits hashed (owner ∷ drop c.loop-next.next-index behind) owner c.loop-next.invariant.fit (inl refl))
-    (subst (In first) (sym c.loop-next.invariant.all) (inl refl))
-    c.in-Err-push_link.ensures.refused
+    let making = making_of c.args.settings.now in
+    let made = linked g.N.Labels.name g.D.RecordData.type_of apex making in
+    let fits : HashedName g.row.N.Denot g.row.D.Denot → Type 0 = λ h. FitsName apex h.hash.items in
+    let all = c.args.hashed.items in
+    let prev = c.loop-next.invariant.0 in
+    let next = c.in-Some-next.next in
+    let left = into_iter_items c.loop-next.rest in
+    let rest = into_iter_items c.next-in-loop-next.new.self in
+    let old = c.loop-next.records.items in
+    let e : left ≡ next ∷ rest = c.in-Some-next.ensures.items in
+    let pushed : c.push_link.new.records.items ≡ old ++ made (prev, next) ∷ [] =
+    c.in_ok-push_link.ensures.ok
+    ∙ ap (λ r. old ++ r ∷ []) (ended_linked g.N.Labels.name g.D.RecordData.type_of apex making prev next c.loop-next.last c.loop-next.invariant.1.begun) in (
+      next,
+      record {
+        begun = c.in-Ok-begin.ensures.ok;
+        records = link_more made c.in-Some.first prev next left rest old c.push_link.new.records.items (map made (links_around all)) e pushed c.loop-next.invariant.1.records;
+        fit = fitting_more fits all rest next (subst (Fitting fits all) e c.loop-next.invariant.1.fit) c.in-Ok-begin.ensures.fits;
+        short = c.loop-next.invariant.1.short;
+      },
+    )

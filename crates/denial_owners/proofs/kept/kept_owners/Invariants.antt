@@ -1,5 +1,5 @@
 use Rattle.std.proofs.Common.{length}
-use Rattle.denial_sorted.specs.Groups.{groups, of_one_owner}
+use Rattle.denial_groups.specs.Groups.{groups, of_one_owner}
 use Rattle.denial_owners.proofs.Steps.{Walks}
 use Rattle.denial_owners.proofs.kept.kept_owners.Given as goal
 

@@ -1,6 +1,6 @@
 use Rattle.std.proofs.Common.{◌≡◌}
 use Rattle.std.specs.Prelude.{filter}
-use Rattle.denial_sorted.specs.Groups.{is_at}
+use Rattle.denial_groups.specs.Groups.{is_at}
 use Rattle.plain.specs.ZoneData.{zone_type}
 use Rattle.denial_owners.specs.Soa.{seen_from}
 use Rattle.denial_owners.proofs.soa.seen_among.Given as goal

@@ -1,7 +1,7 @@
 use Rattle.std.proofs.Common.{◌∙◌, sym, ap}
 use Rattle.std.specs.Prelude.{filter}
 use Rattle.std.specs.List.{flat_map}
-use Rattle.denial_sorted.specs.Groups.{is_at}
+use Rattle.denial_groups.specs.Groups.{is_at}
 use Rattle.plain.specs.ZoneData.{zone_type}
 use Rattle.denial_owners.specs.Soa.{seen_from}
 use Rattle.denial_owners.specs.declared.soa.Seen.TheVariants.{Nothing}

@@ -1,6 +1,6 @@
 use Rattle.std.proofs.Common.{◌≡◌, ◌∷◌}
 use Rattle.denial_owners.specs.Ttls.{unlike_ttls}
-use Rattle.denial_sorted.specs.Groups.{neighbours}
+use Rattle.denial_groups.specs.Groups.{neighbours}
 use Rattle.denial_owners.proofs.ttls.has_unlike_neighbours.Given as goal
 
 abbrev pub invariant-loop-rr : goal.invariant-loop-rr

@@ -6,7 +6,7 @@ use Rattle.answer_life.specs.Simulations.{IsSimulation}
 use Rattle.answer_events.specs.declared.event.Event.{Event}
 use Rattle.answer_life.specs.declared.outcome.Outcome.{Outcome}
 use Rattle.session_lines.specs.Readings.{zone_view}
-use Rattle.denialbench.specs.Printed.{outcome_text}
+use Rattle.bench.specs.Printed.{outcome_text}
 use Rattle.denialbench.specs.Responses.{bench}
 use Rattle.denialbench.proofs.RunLemmas.{outcomes_printed}
 use Rattle.denialbench.proofs.run.replay.Goals as goal

@@ -1,7 +1,7 @@
 use Rattle.std.proofs.Common.{◌<◌, arith, rules}
 use Rattle.answer_scheme.specs.Answers.{Answers}
-use Rattle.answer_judge.specs.Judged.{AnswersAs, judged}
-use Rattle.answer_judge.specs.Judging.{Handing, Refuses, Says}
+use Rattle.answer_facts.specs.Judged.{AnswersAs, judged}
+use Rattle.answer_facts.specs.Judging.{Handing, Refuses, Says}
 use Rattle.answer_rules.specs.Rules.{verdict_of}
 use Rattle.answer_judge.proofs.GivenAnswers.{answers_given}
 use Rattle.answer_judge.proofs.HonestJudged.{answers_honest}

@@ -11,9 +11,9 @@ use Rattle.answer_zone.specs.HashedZone.{accepted_zone}
 use Rattle.answer_scheme.specs.Moments.{second_of}
 use Rattle.messages.specs.Questions.{asked_of}
 use Rattle.answer_publisher.specs.Answering.{AnswersZone, RefusesAnswer, ahead_of_records}
-use Rattle.answer_publisher.specs.Bindings.{dnskeys, keys_by_tag, published}
+use Rattle.answer_keys.specs.Bindings.{dnskeys, keys_by_tag, published}
 use Rattle.answer_publisher.specs.Composed.{IsAnswer, RefusesGroups}
-use Rattle.answer_publisher.specs.declared.keys.Publication.TheVariants.{SignsZone}
+use Rattle.answer_keys.specs.declared.keys.Publication.TheVariants.{SignsZone}
 use Rattle.answer_publisher.proofs.Refusals.{answer_refused, if_err_map}
 use Rattle.answer_publisher.proofs.WritesGiven.{NamedView, answer_given}
 use Rattle.answer_publisher.proofs.publishing.Publisher.answer.Goals as goal

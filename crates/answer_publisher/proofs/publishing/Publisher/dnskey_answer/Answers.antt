@@ -1,7 +1,7 @@
 use Rattle.std.proofs.Common.{[], ◌∷◌, rules}
 use Rattle.std.specs.Prelude.{IfErr, IfOk}
 use Rattle.answer_publisher.specs.Answering.{RefusesKeys, ahead_of_records}
-use Rattle.answer_publisher.specs.Bindings.{dnskeys, keys_by_tag, published}
+use Rattle.answer_keys.specs.Bindings.{dnskeys, keys_by_tag, published}
 use Rattle.answer_publisher.specs.Composed.{IsAnswer, RefusesGroups}
 use Rattle.answer_terms.specs.Given.{GivesKeys}
 use Rattle.answer_terms.specs.Served.{by_tag}
@@ -10,7 +10,7 @@ use Rattle.answer_terms.proofs.ZoneData.{if_ok_map}
 use Rattle.answer_scheme.specs.Moments.{second_of}
 use Rattle.answer_terms.specs.Hashing.{served}
 use Rattle.answer_zone.specs.HashedZone.{accepted_zone}
-use Rattle.answer_publisher.specs.declared.keys.Publication.TheVariants.{Present, SignsKeys}
+use Rattle.answer_keys.specs.declared.keys.Publication.TheVariants.{Present, SignsKeys}
 use Rattle.answer_publisher.proofs.Refusals.{if_err_map, keys_refused}
 use Rattle.answer_publisher.proofs.publishing.Publisher.dnskey_answer.Goals as goal
 use Rattle.definitions.specs.Limits.{pointer_limit}

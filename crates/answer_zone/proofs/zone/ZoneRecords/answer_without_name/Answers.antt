@@ -1,20 +1,23 @@
-use Rattle.std.proofs.Common.{◌≡◌, ℕ, [], ◌∷◌, ◌++◌, ◌&&◌, List, Some, None, true, false, refl, sym, ap, subst, ◌∙◌}
-use Rattle.std.proofs.lemmas.Bool.{and_parts, false_from_ne_true}
-use Rattle.definitions.specs.Name.{Name, at_or_above, low, strictly_above}
-use Rattle.definitions.specs.Zone.{Delegated, NoName, NoType, Open, Records, StarNoType, StarRecords, cut, data_at, exists, has, star_under}
+use Rattle.std.proofs.Common.{◌≡◌, [], ◌∷◌, ◌&&◌, List, true, false, refl, sym, ap, subst, ◌∙◌}
+use Rattle.std.proofs.lemmas.Bool.{and_parts}
+use Rattle.definitions.specs.Name.{Name, at_or_above, low}
+use Rattle.definitions.specs.Zone.{NoName, StarNoType, StarRecords, cut_above, data_at, exists, has, star_under}
 use Rattle.definitions.specs.ZoneChain.{optout_of}
 use Rattle.denial_rules.specs.OwnFacts.{kept_ancestor}
 use Rattle.denial_rules.specs.OwnFacts as own
 use Rattle.denial_rules.proofs.NameFacts.{above-low}
 use Rattle.answer_terms.specs.Accepting.{zone_with}
 use Rattle.answer_terms.specs.Hashing.{hash_in}
-use Rattle.answer_terms.specs.Served.{expanded, if_any, proofs_of, rrset, served_of, soa, spoken, under, unsigned_ns}
-use Rattle.answer_terms.proofs.ZoneAnswers.{groups_delegated, groups_expanded, groups_found, groups_open_delegated, groups_open_expanded, groups_open_missing, groups_without_name, groups_without_star_type, groups_without_type}
+use Rattle.answer_terms.specs.Served.{expanded, proofs_of, served_of, soa, spoken}
+use Rattle.answer_terms.proofs.ZoneAnswers.{groups_expanded, groups_without_name, groups_without_star_type}
 use Rattle.answer_terms.proofs.ZoneData.{if_ok_map}
 use Rattle.answer_zone.specs.HashedZone.{IsHashFailure}
 use Rattle.answer_zone.specs.ZoneAnswers.{AnswersAs, Holds}
 use Rattle.answer_zone.proofs.Failures.{if_err_map}
-use Rattle.answer_zone.proofs.Verdicts.{answers, apex_exists, below_none, closed, delegation_of, encloser_there, has_type, lacks_type, left_open, no_name, no_record, not_referred, owner_inside, plain_zone, referred, star_no_type, star_records}
+use Rattle.std.specs.List.{list_any}
+use Rattle.answer_records.specs.OwnedRecords.{is_of_type}
+use Rattle.answer_zone.proofs.Placing.{has_owned, uncut_encloser}
+use Rattle.answer_zone.proofs.Verdicts.{answers, apex_exists, below_none, closed, encloser_there, no_name, plain_zone, star_no_type, star_records}
 use Rattle.answer_zone.proofs.zone.ZoneRecords.answer_without_name.Goals as goal
 
 pub returns-then-not-expands-clause-answer : goal.returns-then-not-expands-clause-answer
@@ -76,7 +79,7 @@ returns-then-has-clause-answer g c =
     let is : low c.in_ok-around.around.star ≡ star = c.in_ok-around.ensures.star ∙ ap (λ b. star_under (kept_ancestor z b (low q))) plain in
     let x = apex_exists apex rs c.keeps.ensures.published.soa in
     let both = and_parts (at_or_above (low apex) (low q)) (exists z star) ((λ i. above-low apex q i && exists z (sym is i)) ∙ sym c.expands.ensures ∙ c.if-not-expands.false) in
-    let there : has z star t ≡ true = ap (λ n. has z n t) (sym is) ∙ sym c.has.ensures ∙ c.if-has.true in
+    let there : has z star t ≡ true = ap (λ n. has z n t) (sym is) ∙ sym (c.has.ensures ∙ ap (list_any (is_of_type t)) c.owned-wild.ensures ∙ has_owned apex rs c.in_ok-around.around.star t) ∙ c.if-has.true in
     let ds = data_at z star t in
     let said = star_records z x q t c.requires.own c.requires.gone both.0 both.1 there in
     let e = encloser_there z x q t c.requires.own c.requires.gone both.0 in
@@ -103,7 +106,7 @@ returns-then-has-clause-failed g c =
     let is : low c.in_ok-around.around.star ≡ star = c.in_ok-around.ensures.star ∙ ap (λ b. star_under (kept_ancestor z b (low q))) plain in
     let x = apex_exists apex rs c.keeps.ensures.published.soa in
     let both = and_parts (at_or_above (low apex) (low q)) (exists z star) ((λ i. above-low apex q i && exists z (sym is i)) ∙ sym c.expands.ensures ∙ c.if-not-expands.false) in
-    let there : has z star t ≡ true = ap (λ n. has z n t) (sym is) ∙ sym c.has.ensures ∙ c.if-has.true in
+    let there : has z star t ≡ true = ap (λ n. has z n t) (sym is) ∙ sym (c.has.ensures ∙ ap (list_any (is_of_type t)) c.owned-wild.ensures ∙ has_owned apex rs c.in_ok-around.around.star t) ∙ c.if-has.true in
     let ds = data_at z star t in
     let said = star_records z x q t c.requires.own c.requires.gone both.0 both.1 there in
     let e = encloser_there z x q t c.requires.own c.requires.gone both.0 in
@@ -126,7 +129,7 @@ returns-clause-answer g c =
     let is : low c.in_ok-around.around.star ≡ star = c.in_ok-around.ensures.star ∙ ap (λ b. star_under (kept_ancestor z b (low q))) plain in
     let x = apex_exists apex rs c.keeps.ensures.published.soa in
     let both = and_parts (at_or_above (low apex) (low q)) (exists z star) ((λ i. above-low apex q i && exists z (sym is i)) ∙ sym c.expands.ensures ∙ c.if-not-expands.false) in
-    let none : has z star t ≡ false = ap (λ n. has z n t) (sym is) ∙ sym c.has.ensures ∙ c.if-has.false in
+    let none : has z star t ≡ false = ap (λ n. has z n t) (sym is) ∙ sym (c.has.ensures ∙ ap (list_any (is_of_type t)) c.owned-wild.ensures ∙ has_owned apex rs c.in_ok-around.around.star t) ∙ c.if-has.false in
     let said = star_no_type z x q t c.requires.own c.requires.gone both.0 both.1 none in
     let whole = closed z (optout_of mode) q t c.requires.told ∙ said in
     let names = own.spoken z mode (low q) NoName in
@@ -150,7 +153,13 @@ returns-clause-failed g c =
     let is : low c.in_ok-around.around.star ≡ star = c.in_ok-around.ensures.star ∙ ap (λ b. star_under (kept_ancestor z b (low q))) plain in
     let x = apex_exists apex rs c.keeps.ensures.published.soa in
     let both = and_parts (at_or_above (low apex) (low q)) (exists z star) ((λ i. above-low apex q i && exists z (sym is i)) ∙ sym c.expands.ensures ∙ c.if-not-expands.false) in
-    let none : has z star t ≡ false = ap (λ n. has z n t) (sym is) ∙ sym c.has.ensures ∙ c.if-has.false in
+    let none : has z star t ≡ false = ap (λ n. has z n t) (sym is) ∙ sym (c.has.ensures ∙ ap (list_any (is_of_type t)) c.owned-wild.ensures ∙ has_owned apex rs c.in_ok-around.around.star t) ∙ c.if-has.false in
     let said = star_no_type z x q t c.requires.own c.requires.gone both.0 both.1 none in
     let whole = closed z (optout_of mode) q t c.requires.told ∙ said in
     if_err_map _ _ c.denied-2.result (λ f h. subst (λ (qs : List Name). IsHashFailure answers_of mode qs f) (sym (ap (spoken s (low q)) whole)) h) c.denied-2.ensures.failed
+
+pub expands-requires-clause-uncut : goal.expands-requires-clause-uncut
+expands-requires-clause-uncut g c = λ inside.
+    let z = zone_with c.args.self.now.apex c.args.self.now.records in
+    let q = low c.args.name.now in
+    ap (cut_above z) c.in_ok-around.ensures.star ∙ uncut_encloser z (optout_of c.args.self.now.mode) q c.requires.uncut

@@ -1,4 +1,4 @@
-use Rattle.std.proofs.Common.{◌≡◌, ◌+◌, ◌<◌, length, sym, ap, ◌∙◌, arith}
+use Rattle.std.proofs.Common.{◌≡◌, ◌+◌, ◌<◌, length, ap, ◌∙◌, arith}
 use Rattle.definitions.specs.Name.{low}
 use Rattle.definitions.specs.Zone.{star_under}
 use Rattle.definitions.specs.ZoneChain.{optout_of}
@@ -14,7 +14,7 @@ returns g c =
     let q = low c.args.name.now in
     let n = c.args.name.now in
     let e = c.in_ok-encloser.encloser in
-    let encloser : low e ≡ kept_ancestor zone (optout_of z.mode) q = c.in_ok-encloser.ensures.ancestor ∙ ap (λ b. kept_ancestor zone b q) c.opts_out.ensures in
+    let encloser : low e ≡ kept_ancestor zone (optout_of z.mode) q = c.in_ok-encloser.ensures.ancestor in
     let count = c.one_more-count.result in
     let few : length e < length n → count ≡ length e + 1 = λ h. c.one_more-count.ensures.fewer (omega (arith, h, c.depth.ensures, c.depth-2.ensures)) ∙ ap (λ k. k + 1) c.depth.ensures in
     record {

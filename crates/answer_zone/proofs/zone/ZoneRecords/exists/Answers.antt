@@ -1,21 +1,31 @@
 use Rattle.std.proofs.Common.{◌≡◌, ◌&&◌, not, true, false, sym, ap, ◌∙◌}
+use Rattle.std.specs.Prelude.{Some}
 use Rattle.std.specs.List.{list_any}
-use Rattle.definitions.specs.Name.{low, at_or_above}
+use Rattle.definitions.specs.Name.{at_or_above, low}
+use Rattle.definitions.specs.Zone.{cut_above}
+use Rattle.definitions.proofs.ZoneNames.{low-low}
 use Rattle.answer_terms.specs.Accepting.{zone_with}
+use Rattle.answer_records.specs.declared.owned.Cut.{Cut}
 use Rattle.answer_zone.specs.Cuts.{is_cut_off}
+use Rattle.answer_zone.specs.Placed.{IsCutRecords}
 use Rattle.answer_zone.proofs.Cuts.{exists_is}
+use Rattle.answer_zone.proofs.Kept.{live_is}
+use Rattle.answer_zone.proofs.Placing.{if_some_first, is_none_by}
 use Rattle.answer_zone.proofs.zone.ZoneRecords.exists.Goals as goal
 
-pub returns-then-has_at_or_below : goal.returns-then-has_at_or_below
-returns-then-has_at_or_below g c =
+pub returns-then-stands : goal.returns-then-stands
+returns-then-stands g c =
     let z = c.args.self.now in
     let q = c.args.name.now in
-    let owned : (at_or_above z.apex q && list_any (λ r. at_or_above q r.owner) z.records) ≡ true = sym c.has_at_or_below.ensures ∙ c.if-has_at_or_below.true in
-    ap not c.is_below_cut.ensures ∙ sym (ap (λ b. b && not (is_cut_off (zone_with z.apex z.records) (low q))) owned) ∙ sym (exists_is z.apex z.records q)
+    let zone = zone_with z.apex z.records in
+    let stood : (at_or_above z.apex q && list_any (λ r. at_or_above q r.owner) z.records) ≡ true = sym c.stands.ensures ∙ c.if-stands.true in
+    is_none_by c.cut_above.result (cut_above zone (low q)) c.is_none.result c.is_none.ensures (if_some_first (λ (k : Cut). cut_above zone (low q) ≡ Some (low k.name.now)) (λ (k : Cut). IsCutRecords z.records k) c.cut_above.result c.cut_above.ensures.some) c.cut_above.ensures.none
+    ∙ live_is zone (low q) (low-low q)
+    ∙ sym (ap (λ b. b && not (is_cut_off zone (low q))) stood) ∙ sym (exists_is z.apex z.records q)
 
-pub returns-else-has_at_or_below : goal.returns-else-has_at_or_below
-returns-else-has_at_or_below g c =
+pub returns-else-stands : goal.returns-else-stands
+returns-else-stands g c =
     let z = c.args.self.now in
     let q = c.args.name.now in
-    let owned : (at_or_above z.apex q && list_any (λ r. at_or_above q r.owner) z.records) ≡ false = sym c.has_at_or_below.ensures ∙ c.if-has_at_or_below.false in
-    c.if-has_at_or_below.false ∙ sym (ap (λ b. b && not (is_cut_off (zone_with z.apex z.records) (low q))) owned) ∙ sym (exists_is z.apex z.records q)
+    let stood : (at_or_above z.apex q && list_any (λ r. at_or_above q r.owner) z.records) ≡ false = sym c.stands.ensures ∙ c.if-stands.false in
+    c.if-stands.false ∙ sym (ap (λ b. b && not (is_cut_off (zone_with z.apex z.records) (low q))) stood) ∙ sym (exists_is z.apex z.records q)

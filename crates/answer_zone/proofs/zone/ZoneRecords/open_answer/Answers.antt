@@ -1,30 +1,29 @@
-use Rattle.std.proofs.Common.{◌≡◌, ℕ, [], ◌∷◌, ◌++◌, ◌&&◌, List, Some, None, true, false, refl, sym, ap, subst, ◌∙◌}
-use Rattle.std.proofs.lemmas.Bool.{and_parts, false_from_ne_true}
-use Rattle.definitions.specs.Name.{Name, at_or_above, low, strictly_above}
-use Rattle.definitions.specs.Zone.{Delegated, NoName, NoType, Open, Records, StarNoType, StarRecords, cut, data_at, exists, has, star_under}
+use Rattle.std.proofs.Common.{[], ◌++◌, List, refl, sym, ap, subst}
+use Rattle.std.proofs.lemmas.Bool.{and_parts}
+use Rattle.definitions.specs.Name.{Name, low, strictly_above}
+use Rattle.definitions.specs.Zone.{Delegated, Open, has}
 use Rattle.definitions.specs.ZoneChain.{optout_of}
 use Rattle.denial_rules.specs.OwnFacts.{kept_ancestor}
 use Rattle.denial_rules.specs.OwnFacts as own
-use Rattle.denial_rules.proofs.NameFacts.{above-low}
 use Rattle.answer_terms.specs.Accepting.{zone_with}
 use Rattle.answer_terms.specs.Hashing.{hash_in}
-use Rattle.answer_terms.specs.Served.{expanded, if_any, proofs_of, rrset, served_of, soa, spoken, under, unsigned_ns}
-use Rattle.answer_terms.proofs.ZoneAnswers.{groups_delegated, groups_expanded, groups_found, groups_open_delegated, groups_open_expanded, groups_open_missing, groups_without_name, groups_without_star_type, groups_without_type}
+use Rattle.answer_terms.specs.Served.{proofs_of, served_of, spoken, unsigned_ns}
+use Rattle.answer_terms.proofs.ZoneAnswers.{groups_open_delegated}
 use Rattle.answer_terms.proofs.ZoneData.{if_ok_map}
 use Rattle.answer_zone.specs.HashedZone.{IsHashFailure}
 use Rattle.answer_zone.specs.ZoneAnswers.{AnswersAs, Holds}
 use Rattle.answer_zone.proofs.Failures.{if_err_map}
-use Rattle.answer_zone.proofs.Verdicts.{answers, apex_exists, below_none, closed, delegation_of, encloser_there, has_type, lacks_type, left_open, no_name, no_record, not_referred, owner_inside, plain_zone, referred, star_no_type, star_records}
+use Rattle.answer_zone.proofs.Verdicts.{answers, delegation_of, left_open, referred}
 use Rattle.answer_zone.proofs.zone.ZoneRecords.open_answer.Goals as goal
 
-pub open_referral-requires : goal.open_referral-requires
-open_referral-requires g c =
+pub open_referral-requires-clause-delegation : goal.open_referral-requires-clause-delegation
+open_referral-requires-clause-delegation g c =
     let z = zone_with c.args.self.now.apex c.args.self.now.records in
-    let n = low c.in-Some.cut.now in
-    record { delegation = (and_parts (has z n 2) (strictly_above (low c.args.self.now.apex) n) (delegation_of z c.args.name.now c.args.rtype n c.in-Some.ensures.some)).0 }
+    let n = low c.in-Away.cut.name.now in
+    (and_parts (has z n 2) (strictly_above (low c.args.self.now.apex) n) (delegation_of z c.args.name.now c.args.rtype n c.in-Away.ensures.0)).0
 
-pub returns-in-Some-clause-answer : goal.returns-in-Some-clause-answer
-returns-in-Some-clause-answer g c =
+pub returns-in-Away-clause-answer : goal.returns-in-Away-clause-answer
+returns-in-Away-clause-answer g c =
     let apex = c.args.self.now.apex in
     let rs = c.args.self.now.records in
     let mode = c.args.self.now.mode in
@@ -34,8 +33,8 @@ returns-in-Some-clause-answer g c =
     let q = c.args.name.now in
     let t = c.args.rtype in
     let z = zone_with apex rs in
-    let n = low c.in-Some.cut.now in
-    let r = c.in-Some.ensures.some in
+    let n = low c.in-Away.cut.name.now in
+    let r = c.in-Away.ensures.0 in
     let said = referred z q t n r in
     let whole = left_open z (optout_of mode) q t c.requires.open in
     let rest = unsigned_ns s n ++ proofs_of s (own.spoken z mode (low q) Open) in
@@ -43,8 +42,8 @@ returns-in-Some-clause-answer g c =
     (λ a h. answers s q t Delegated [] rest a said refl (groups_open_delegated apex mode hash rs q t n whole said r.topmost r.away) h)
     c.open_referral.ensures.answer
 
-pub returns-in-Some-clause-failed : goal.returns-in-Some-clause-failed
-returns-in-Some-clause-failed g c =
+pub returns-in-Away-clause-failed : goal.returns-in-Away-clause-failed
+returns-in-Away-clause-failed g c =
     let apex = c.args.self.now.apex in
     let rs = c.args.self.now.records in
     let mode = c.args.self.now.mode in
@@ -56,6 +55,3 @@ returns-in-Some-clause-failed g c =
     let z = zone_with apex rs in
     let whole = left_open z (optout_of mode) q t c.requires.open in
     if_err_map _ _ c.open_referral.result (λ f h. subst (λ (qs : List Name). IsHashFailure answers_of mode qs f) (sym (ap (spoken s (low q)) whole)) h) c.open_referral.ensures.failed
-
-pub open_own_answer-requires-clause-own : goal.open_own_answer-requires-clause-own
-open_own_answer-requires-clause-own g c = c.in-None.ensures.none refl

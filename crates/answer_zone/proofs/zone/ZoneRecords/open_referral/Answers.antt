@@ -1,4 +1,4 @@
-use Rattle.std.proofs.Common.{[], ◌∷◌, ◌++◌, refl, sym, subst}
+use Rattle.std.proofs.Common.{[], refl, sym, subst}
 use Rattle.std.specs.List.{AllZip}
 use Rattle.definitions.specs.Name.{low}
 use Rattle.definitions.specs.Zone.{Open}
@@ -7,7 +7,7 @@ use Rattle.answer_terms.specs.Accepting.{zone_with}
 use Rattle.answer_terms.specs.GroupView.{Presents}
 use Rattle.answer_terms.specs.Served.{proofs_of, unsigned_ns}
 use Rattle.answer_zone.specs.HashedZone.{served_by}
-use Rattle.answer_zone.proofs.ZoneLinks.{added}
+use Rattle.answer_records.proofs.ZoneLinks.{added}
 use Rattle.answer_zone.proofs.zone.ZoneRecords.open_referral.Goals as goal
 
 pub returns-clause-answer : goal.returns-clause-answer
@@ -18,5 +18,5 @@ returns-clause-answer g c =
     record {
       flags_are = refl;
       found_are = subst (λ gs. AllZip Presents gs []) (sym c.new.ensures.items) tt;
-      rest_are = added c.in_ok-authority.authority.items c.push_open_proofs.new.groups.items (unsigned_ns s (low c.args.cut.now)) (proofs_of s said) c.in_ok-authority.ensures c.in_ok-push_open_proofs.ensures.adds;
+      rest_are = added c.in_ok-authority.authority.items c.push_open_proofs.new.groups.items (unsigned_ns s (low c.args.cut.now.name.now)) (proofs_of s said) c.in_ok-authority.ensures c.in_ok-push_open_proofs.ensures.adds;
     }

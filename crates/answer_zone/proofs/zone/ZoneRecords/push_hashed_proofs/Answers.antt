@@ -1,10 +1,13 @@
-use Rattle.std.proofs.Common.{◌≡◌, ℕ, List, map, ap, subst, ◌∙◌}
-use Rattle.definitions.specs.Name.{Name}
+use Rattle.std.proofs.Common.{◌≡◌, List, map, sym, ap, subst, ◌∙◌}
 use Rattle.answer_terms.specs.GroupView.{Adds}
-use Rattle.answer_terms.specs.HashedLinks.{hashed_said_of}
+use Rattle.answer_terms.specs.HashedLinks.{HashedLink, hashed_said_of}
+use Rattle.answer_records.specs.Round.{IsCircle}
 use Rattle.answer_terms.specs.Hashing.{hash_in}
 use Rattle.answer_terms.specs.Served.{chain_ttl}
 use Rattle.answer_zone.proofs.zone.ZoneRecords.push_hashed_proofs.Goals as goal
+
+pub push_hashed_links-requires : goal.push_hashed_links-requires
+push_hashed_links-requires g c = subst (λ (ls : List HashedLink). IsCircle ls) (sym c.deref.ensures.value) c.requires
 
 pub returns-clause-adds : goal.returns-clause-adds
 returns-clause-adds g c =

@@ -1,9 +1,15 @@
-use Rattle.std.proofs.Common.{◌≡◌, List, map, ap, subst, ◌∙◌}
+use Rattle.std.proofs.Common.{◌≡◌, List, map, sym, ap, subst, ◌∙◌}
 use Rattle.definitions.specs.Name.{Name, low}
 use Rattle.answer_terms.specs.GroupView.{Adds}
-use Rattle.answer_terms.specs.Links.{said_of}
+use Rattle.answer_terms.specs.Links.{ChainLink, said_of}
+use Rattle.answer_records.specs.Round.{IsRound}
 use Rattle.answer_terms.specs.Served.{chain_ttl}
 use Rattle.answer_zone.proofs.zone.ZoneRecords.push_named_proofs.Goals as goal
+
+pub push_links-requires : goal.push_links-requires
+push_links-requires g c =
+    let name : c.self.inside.apex ≡ c.args.self.now.apex = ap (λ z. z.apex) c.self.view_is in
+    subst (λ (ls : List ChainLink). IsRound c.self.inside.apex ls) (sym c.deref.ensures.value) (subst (λ (n : Name). IsRound n c.args.links.now.items) (sym name) c.requires)
 
 pub returns-clause-adds : goal.returns-clause-adds
 returns-clause-adds g c =

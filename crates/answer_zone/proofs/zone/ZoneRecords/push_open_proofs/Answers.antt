@@ -1,9 +1,9 @@
-use Rattle.std.proofs.Common.{◌≡◌, sym, ap, subst, ◌∙◌}
+use Rattle.std.proofs.Common.{subst}
 use Rattle.definitions.specs.Name.{low}
 use Rattle.answer_terms.specs.Accepting.{zone_with}
 use Rattle.answer_terms.specs.GroupView.{Adds}
 use Rattle.answer_terms.specs.Served.{proofs_of}
-use Rattle.answer_zone.specs.HashedZone.{IsHashFailure, served_by}
+use Rattle.answer_zone.specs.HashedZone.{served_by}
 use Rattle.answer_zone.proofs.Spoken.{open_names}
 use Rattle.std.proofs.lemmas.Result.{on_ok_weaker}
 use Rattle.answer_zone.proofs.zone.ZoneRecords.push_open_proofs.Goals as goal

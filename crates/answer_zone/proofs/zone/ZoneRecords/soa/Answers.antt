@@ -1,5 +1,5 @@
-use Rattle.std.proofs.Common.{◌≡◌, ℕ, List, ap, subst, ◌∙◌}
-use Rattle.definitions.specs.Name.{Name, low}
+use Rattle.std.proofs.Common.{◌≡◌, ap, subst, ◌∙◌}
+use Rattle.definitions.specs.Name.{low}
 use Rattle.definitions.specs.Zone.{has}
 use Rattle.answer_terms.specs.Accepting.{zone_with}
 use Rattle.answer_terms.specs.GroupView.{Presents}

@@ -1,16 +1,18 @@
-use Rattle.std.proofs.Common.{◌≡◌, ℕ, List, true, refl, sym, ap, subst, ◌∙◌}
+use Rattle.std.proofs.Common.{◌≡◌, ℕ, true, None, sym, ap, subst, ◌∙◌}
 use Rattle.std.specs.Prelude.{if◌then◌else◌}
-use Rattle.std.specs.List.{list_any}
+use Rattle.std.specs.List.{find, list_any}
 use Rattle.std.proofs.lemmas.Bool.{false≢true}
 use Rattle.definitions.specs.Name.{Name, low}
 use Rattle.definitions.specs.Zone.{data_at}
 use Rattle.answer_terms.specs.Accepting.{zone_with}
 use Rattle.answer_terms.specs.GroupView.{Presents}
 use Rattle.answer_terms.specs.Served.{Group, chain_ttl, owner_among, rrset, spelled_among, ttl_among, written_among}
-use Rattle.answer_terms.specs.ZoneView.{is_of}
 use Rattle.answer_terms.proofs.ZoneData.{if_ok_map}
-use Rattle.answer_terms.proofs.ZoneServed.{has_is}
-use Rattle.answer_zone.specs.GroupRecords.{rrset_from}
+use Rattle.messages.specs.HandedRr.{HandedRr}
+use Rattle.answer_records.specs.OwnedRecords.{is_of_type}
+use Rattle.answer_records.proofs.OwnedFacts.{has_first, owner_or, owner_owned}
+use Rattle.answer_zone.proofs.Placing.{has_owned}
+use Rattle.answer_records.specs.GroupRecords.{rrset_from}
 use Rattle.answer_zone.specs.HashedZone.{served_by}
 use Rattle.answer_zone.proofs.zone.ZoneRecords.spelled_rrset.Goals as goal
 use Rattle.answer_zone.proofs.zone.ZoneRecords.spelled_rrset.Goals.{in-Some, in-None}
@@ -22,10 +24,9 @@ returns g c =
     let n = c.args.name.now in
     let t = c.args.rtype in
     let copied = c.in_ok-copy_name.field-0 in
-    let items : c.deref.result.now ≡ rs = c.deref.ensures.value ∙ ap (λ z. z.records) c.self.view_is in
-    let there : c.match-owner_among.owner.now ≡ owner_among rs (low n) t = elim c.match-owner_among.branch [
-      | in-Some w ↦ ap (λ o. o.now) w.owner-is ∙ w.in-Some.ensures.some ∙ ap (λ xs. owner_among xs (low n) t) items
-      | in-None w ↦ absurd (false≢true (sym (ap (list_any (is_of n t)) (sym items) ∙ w.in-None.ensures.none refl) ∙ sym (has_is apex rs n t) ∙ c.requires.there))
+    let there : c.match-first.owner.now ≡ owner_among rs (low n) t = elim c.match-first.branch [
+      | in-Some w ↦ ap (λ o. o.now) w.owner-is ∙ w.owner-owner.ensures ∙ ap (owner_or (low n)) (w.in-Some.ensures ∙ ap (find (is_of_type t)) c.requires.owned) ∙ owner_owned n t rs
+      | in-None w ↦ absurd (false≢true (has_first {A = HandedRr} (λ r. r) (is_of_type t) c.args.owned.now None w.in-None.ensures ∙ ap (list_any (is_of_type t)) c.requires.owned ∙ has_owned apex rs n t ∙ c.requires.there))
     ] in
     let G : Name → ℕ → Group = λ o m. record { owner = o; source = low n; rtype = t; ttl = m; written = written_among rs (low n) t; datas = data_at (zone_with apex rs) (low n) t; signed = true } in
     let owned = c.in_ok-copy_name.ensures ∙ there ∙ sym (ap (λ b. if b then spelled_among rs (low n) else owner_among rs (low n) t) c.requires.plain) in

@@ -19,7 +19,7 @@ returns g c =
     let s = served_by g.H.Nsec3Hasher.hash_of c.args.self.now in
     let one : c.push.new.self.items ≡ v ∷ [] = c.in_ok-push.ensures.items ∙ ap (λ x. x ++ v ∷ []) c.new-groups.ensures.items in
     let G : Name → ℕ → Group = λ n m. record { owner = n; source = o; rtype = t; ttl = m; written = map (owned_by n) (written_among rs o t); datas = data_at (zone_with apex rs) o t; signed = true } in
-    let name = c.in_ok-copy_name.ensures in
+    let name = c.in_ok-owner.ensures in
     let ttl = sym (ap (λ b. if b then chain_ttl apex rs else ttl_among rs o t) c.requires.plain) in
     let is : Presents v (under c.args.name.now (rrset s o t)) = subst (Presents v) (λ i. G (name i) (ttl i)) c.in_ok-rrset.ensures in
     subst (λ gs. AllZip Presents gs (under c.args.name.now (rrset s o t) ∷ [])) (sym one) (is, tt)

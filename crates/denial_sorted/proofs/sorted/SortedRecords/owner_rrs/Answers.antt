@@ -1,11 +1,11 @@
 use Rattle.std.proofs.Common.{sym, ◌∙◌}
-use Rattle.denial_sorted.specs.Groups.{of_one_owner}
+use Rattle.denial_groups.specs.Groups.{of_one_owner}
 use Rattle.denial_sorted.proofs.Parted.{owners_parted, partition_at}
 use Rattle.denial_sorted.proofs.sorted.SortedRecords.owner_rrs.Goals as goal
 
 pub returns-clause-partition : goal.returns-clause-partition
 returns-clause-partition g c =
     let held = c.self.inside.records.items in
-    let given = sym (c.new_from_owned.ensures ∙ c.deref.ensures.value) in
-    partition_at (of_one_owner g.N.Labels.name) held c.args.self.now c.new_from_owned.result c.self.view_is given
+    let given = sym (c.indexed.ensures ∙ c.deref.ensures.value) in
+    partition_at (of_one_owner g.N.Labels.name) held c.args.self.now c.indexed.result c.self.view_is given
     (owners_parted g.N.Labels.name g.D.RecordData.type_of g.D.CanonicalOrd.canonical held c.self.invariant.1)

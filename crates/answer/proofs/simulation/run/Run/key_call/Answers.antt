@@ -1,10 +1,10 @@
 use Rattle.std.proofs.Common.{◌≡◌, rules, subst}
 use Rattle.keyset.specs.KeyState.{texts}
-use Rattle.answer_publisher.specs.Bindings.{Call, Start, apply}
-use Rattle.answer_publisher.specs.KeyCalls.{Gives, RanOutCopying}
+use Rattle.answer_keys.specs.Bindings.{Call, Start, apply}
+use Rattle.answer_keys.specs.KeyCalls.{Gives, RanOutCopying}
 use Rattle.answer_publisher.specs.World.{digests}
 use Rattle.answer_events.specs.Calls.{call_of}
-use Rattle.answer_publisher.proofs.AddProofs.{copied}
+use Rattle.answer_keys.proofs.AddProofs.{copied}
 use Rattle.answer.proofs.simulation.run.Run.key_call.Goals as goal
 
 -- a start of the references that were copied

@@ -1,0 +1,6 @@
+pub mod AddProofs
+pub mod BoundAll
+pub mod BoundKeys
+pub mod KeyTags
+pub mod KeyTagsPublished
+pub mod PublishedKeys

@@ -1,0 +1,6 @@
+pub mod Bindings
+pub mod BoundView
+pub mod KeyCalls
+pub mod KeyTags
+pub mod NewKeys
+pub mod PublishedKeys

@@ -1,0 +1,16 @@
+pub mod ZoneOrder
+pub mod ZoneTtls
+pub mod ZoneFaults
+pub mod ZoneWords
+pub mod ZoneMade
+pub mod HashedMade
+pub mod ZoneLinks
+pub mod ZoneGroups
+pub mod OwnedFacts
+pub mod Rrsets
+pub mod Neighboured
+pub mod Picked
+pub mod Rounds
+pub mod Led
+pub mod KeptNames
+pub mod ChainSpoken

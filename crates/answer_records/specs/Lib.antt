@@ -1,0 +1,10 @@
+pub mod ModeView
+pub mod Faults
+pub mod HashParameters
+pub mod MadeLinks
+pub mod GroupRecords
+pub mod Near
+pub mod OwnedRecords
+pub mod ChainPlaces
+pub mod Round
+pub mod KeptNames

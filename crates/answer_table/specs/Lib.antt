@@ -1,0 +1,8 @@
+pub mod Table
+pub mod Asking
+pub mod Outcomes
+pub mod Written
+pub mod Replying
+pub mod ReadCases
+pub mod EntryLaws
+pub mod Laws

@@ -1,0 +1,165 @@
+//! A judgement from octets to octets, for callers in other languages.
+ghost use Rattle.std.specs.Prelude.{◌≡◌, ◌⊎◌, Some, None, IfOk, IfErr};
+ghost use Rattle.messages.specs.NameOctets.{name_of_octets};
+ghost use Rattle.answer_table.specs.Replying.{Answers, Replies, SaysOutcome, Spells, Unread, reply_seen};
+ghost use Rattle.answer_table.specs.ReadCases.{handing_of};
+
+use crate::checked::CheckedSignature;
+use crate::judging::judge_by_table;
+use crate::list::read_list;
+use crate::reply::{Reply, ReplyCode, reply_of};
+use answer_judge::Case;
+use denial_data::Ds;
+use keyset_keys::UnixTime;
+use messages::names::{Name, name_from_octets};
+use messages::question::Question;
+use names_data::rtype::Rtype;
+use numbers::class::Class;
+use std::alloc::{AllocError, Global};
+use std::time::Duration;
+
+/// What a judge is handed, in octets. Names are in wire form, without pointers (RFC 1035, 3.1).
+#[repr(C)]
+#[derive(Drop)]
+pub struct OctetCase<'a> {
+    /// The name of the zone.
+    pub apex: &'a [u8],
+    /// The DS set of the parent: each record's data behind its length in two octets (RFC 4034, 5.1).
+    pub ds: &'a [u8],
+    /// The answer for the DNSKEY RRset, a message.
+    pub dnskey: &'a [u8],
+    /// The answer to the question, a message.
+    pub answer: &'a [u8],
+    /// The name that was asked for.
+    pub name: &'a [u8],
+    /// The signatures that were asked for so far, in their order, each with its last octet 1 where it passes, and else 0.
+    pub checked: &'a [u8],
+    /// The moment at which signatures are to hold, in seconds since 1970.
+    pub moment: u64,
+    /// The type that was asked for.
+    pub rtype: u16,
+    /// The class that was asked for.
+    pub class: u16,
+    /// How many iterations of a name's hash are allowed (RFC 5155, 10.3).
+    pub limit: u16,
+}
+
+/// How long a reply is, and how often was verified and hashed for it.
+#[repr(C)]
+#[derive(Clone, Copy, Debug)]
+pub struct Report {
+    /// How many octets the reply has.
+    pub len: usize,
+    pub verifications: u32,
+    pub hashes: u32,
+}
+
+/// What the octets of a case spell.
+#[derive(Drop)]
+struct ReadCase<'a> {
+    apex: Name<Vec<u8>>,
+    ds: Vec<Ds<Vec<u8>>>,
+    question: Question,
+    table: Vec<CheckedSignature<'a>>,
+}
+
+/// Judges as [`judge_by_table`] does, from octets. The reply's octets are written to the front of `out` where there is room for them:
+/// of records their data, each behind its length in two octets; of a signature that is asked for its entry, which belongs at
+/// the end of the list, its last octet set.
+pub fn judge_octets(
+    alloc: Global,
+    case: &OctetCase,
+    out: &mut [u8],
+    report: &mut Report,
+) -> ReplyCode
+    ensures { Answers case.now out.old out.new report.new result }
+{
+    let reply = reply(alloc, case);
+    report.len = reply.octets.len();
+    report.verifications = reply.verifications;
+    report.hashes = reply.hashes;
+    if reply.octets.len() > out.len() {
+        return ReplyCode::BufferTooSmall;
+    }
+    out[..reply.octets.len()].copy_from_slice(&reply.octets);
+    reply.code
+}
+
+/// The reply to a case.
+fn reply(alloc: Global, case: &OctetCase) -> Reply
+    ensures { Replies case.now (reply_seen result) }
+{
+    let read = match read_case(alloc, case) {
+        Ok(read) => read,
+        Err(code) => return Reply::of_code(alloc, code),
+    };
+    match judged(alloc, case, &read) {
+        Ok(reply) => reply,
+        Err(_) => Reply::of_code(alloc, ReplyCode::OutOfMemory),
+    }
+}
+
+/// The reply to what a case spells.
+fn judged(alloc: Global, case: &OctetCase, read: &ReadCase) -> Result<Reply, AllocError>
+    ensures { let h = handing_of case.now read.now in let table = read.now.table.items in
+        IfOk result (λ r. SaysOutcome h table (reply_seen r)) }
+{
+    let handed = Case {
+        apex: &read.apex,
+        ds: &read.ds,
+        dnskey: case.dnskey,
+        answer: case.answer,
+        question: &read.question,
+        moment: UnixTime::new(Duration::from_secs(case.moment)),
+        limit: case.limit,
+    };
+    reply_of(alloc, &judge_by_table(alloc, &handed, &read.table)?)
+}
+
+/// Reads the names and lists of a case.
+fn read_case<'a>(alloc: Global, case: &OctetCase<'a>) -> Result<ReadCase<'a>, ReplyCode>
+    ensures ok { IfOk result (λ r. Spells case.now (handing_of case.now r) r.table.items) }
+    ensures unread { IfErr result
+        (λ c. (c ≡ ReplyCode.OutOfMemory) ⊎ Unread case.now c) }
+{
+    let apex = read_name(alloc, case.apex, ReplyCode::BadApex)?;
+    let Some(ds) = read_list(alloc, case.ds)? else {
+        return Err(ReplyCode::BadDsSet);
+    };
+    let name = read_name(alloc, case.name, ReplyCode::BadName)?;
+    let Some(table) = read_list(alloc, case.checked)? else {
+        return Err(ReplyCode::BadSignatures);
+    };
+    Ok(ReadCase {
+        apex,
+        ds,
+        question: Question {
+            name,
+            rtype: Rtype::from_int(case.rtype),
+            class: Class::from_int(case.class),
+        },
+        table,
+    })
+}
+
+/// Reads a name, or says which is none.
+fn read_name(alloc: Global, octets: &[u8], bad: ReplyCode) -> Result<Name<Vec<u8>>, ReplyCode>
+    ensures ok { IfOk result (λ n. name_of_octets octets.now ≡ Some n) }
+    ensures unread { IfErr result (λ c. (c ≡ ReplyCode.OutOfMemory)
+        ⊎ ((c ≡ bad) × (name_of_octets octets.now ≡ None))) }
+{
+    match name_from_octets(alloc, octets)? {
+        Some(name) => Ok(name),
+        None => Err(bad),
+    }
+}
+
+impl From<AllocError> for ReplyCode {
+    ghost use Rattle.answer_table.specs.declared.reply.ReplyCode.TheVariants.{OutOfMemory};
+
+    ghost from_gives = { λ _ c. c ≡ OutOfMemory };
+
+    fn from(_error: AllocError) -> ReplyCode {
+        ReplyCode::OutOfMemory
+    }
+}

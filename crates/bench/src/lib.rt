@@ -1,0 +1,6 @@
+//! What the bench and its explanations share: stand-ins for signatures and digests, and what is printed of outcomes.
+#![tactic(auto)]
+
+pub mod named;
+pub mod print;
+pub mod scheme;

@@ -1,0 +1,4 @@
+pub mod Ended
+pub mod FromFirst
+pub mod Grouped
+pub mod Started

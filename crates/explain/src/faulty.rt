@@ -1,0 +1,167 @@
+//! The records by which a zone is refused.
+
+use crate::session::{next_counting, push_line};
+use answer::denial::{OwnerRrs, SigningError, SortedRecords, is_canonical_order, is_one_class};
+use answer::names::{Rtype, ToName};
+use answer::{Mode, Name, ZoneData, ZoneFault, ZoneRecord, simulate};
+use bench::named::Named;
+use bench::scheme::BenchScheme;
+use denial_owners::kept::kept_owners;
+use denial_sorted::laws::zone_data_order_is_total;
+use nsec3_sha1::hasher::Sha1Hasher;
+use session_lines::lines::Lines;
+use session_lines::session::{Session, read_session};
+use std::alloc::{AllocError, Global};
+
+/// Why the zone of an input is refused, and which of its lines say so.
+pub fn push_refused(
+    alloc: Global,
+    out: &mut String,
+    input: &[u8],
+    fault: ZoneFault,
+) -> Result<(), AllocError> {
+    let mut lines = Lines::new(input);
+    if let Some((number, line)) = next_counting(&mut lines) {
+        push_line(out, number, line)?;
+    }
+    let name = fault.name();
+    writeln!(out, "  > refused {name}")?;
+    writeln!(out, "  {fault}")?;
+    let Ok(session) = read_session(alloc, input) else {
+        return Err(AllocError);
+    };
+    for is_faulty in &faulty_records(alloc, session, input, fault)? {
+        if let Some((number, line)) = next_counting(&mut lines) {
+            if *is_faulty {
+                push_line(out, number, line)?;
+            }
+        }
+    }
+    Ok(())
+}
+
+/// Of each record of a session whether its zone is refused for it.
+fn faulty_records(
+    alloc: Global,
+    session: Session,
+    input: &[u8],
+    fault: ZoneFault,
+) -> Result<Vec<bool>, AllocError> {
+    match fault {
+        ZoneFault::WrongClass
+        | ZoneFault::OutsideApex
+        | ZoneFault::SignedType
+        | ZoneFault::Alias
+        | ZoneFault::MetaType
+        | ZoneFault::StarNs => faulty_alone(alloc, session, fault),
+        ZoneFault::Chain(SigningError::NoSingleSoa) => soas_at_the_apex(alloc, &session),
+        ZoneFault::Chain(SigningError::MultipleTtlValues) => {
+            of_unequal_ttls(alloc, session, input)
+        }
+        _ => Ok(Vec::new(alloc)),
+    }
+}
+
+/// Of each record whether a zone that holds it alone is refused for the same.
+fn faulty_alone(
+    alloc: Global,
+    session: Session,
+    fault: ZoneFault,
+) -> Result<Vec<bool>, AllocError> {
+    let Session {
+        zone,
+        records,
+        events: _,
+    } = session;
+    let mut faulty = Vec::new(alloc);
+    for record in records {
+        let Ok(apex) = zone.apex.to_vec(alloc) else {
+            return Err(AllocError);
+        };
+        let refused = simulate(
+            alloc,
+            apex,
+            vec![in alloc; record]?,
+            Mode::Nsec,
+            &BenchScheme,
+            &Sha1Hasher,
+            zone.limit,
+            zone.life,
+            &[],
+        );
+        faulty.push(refused.is_err_and(|other| other == fault))?;
+    }
+    Ok(faulty)
+}
+
+/// Of each record whether it is an SOA record of the zone.
+fn soas_at_the_apex(alloc: Global, session: &Session) -> Result<Vec<bool>, AllocError> {
+    let mut faulty = Vec::new(alloc);
+    for record in &session.records {
+        faulty.push(record.rtype() == Rtype::SOA && record.owner().name_eq(&session.zone.apex))?;
+    }
+    Ok(faulty)
+}
+
+/// Of each record whether it is of an RRset of several TTLs that belongs to the zone.
+fn of_unequal_ttls(alloc: Global, session: Session, input: &[u8]) -> Result<Vec<bool>, AllocError> {
+    let Session {
+        zone,
+        records,
+        events: _,
+    } = session;
+    let excluding = matches!(zone.mode, Mode::Nsec3 { opt_out: true, .. });
+    zone_data_order_is_total::<Vec<u8>, Name<Vec<u8>>>();
+    let sorted = SortedRecords::from_vec(records)?;
+    let unequal = records_of_unequal_ttls(alloc, &zone.apex, &sorted, excluding)?;
+    let Ok(again) = read_session(alloc, input) else {
+        return Err(AllocError);
+    };
+    let mut faulty = Vec::new(alloc);
+    for record in &again.records {
+        faulty.push(is_among(record, &unequal))?;
+    }
+    Ok(faulty)
+}
+
+/// Whether others have the owner and the type of a record.
+fn is_among(record: &ZoneRecord, others: &[&ZoneRecord]) -> bool {
+    others.iter().any(|other| other.rtype() == record.rtype()
+        && other.owner().name_eq(record.owner()))
+}
+
+/// The records of RRsets of several TTLs, at the owners that a chain is made of.
+fn records_of_unequal_ttls<'a>(
+    alloc: Global,
+    apex: &Name<Vec<u8>>,
+    sorted: &'a SortedRecords<Name<Vec<u8>>, ZoneData>,
+    excluding: bool,
+) -> Result<Vec<&'a ZoneRecord>, AllocError> {
+    let mut unequal = Vec::new(alloc);
+    zone_data_order_is_total::<Vec<u8>, Name<Vec<u8>>>();
+    if !is_one_class(sorted.as_slice()) || !is_canonical_order(sorted.as_slice()) {
+        return Ok(unequal);
+    }
+    for owner in &kept_owners(alloc, apex, sorted.owner_rrs(), excluding)? {
+        for record in owner.records() {
+            if has_unequal_ttls(owner, record.rtype()) {
+                unequal.push(record)?;
+            }
+        }
+    }
+    Ok(unequal)
+}
+
+/// Whether the records of a type at an owner have several TTLs.
+fn has_unequal_ttls(owner: &OwnerRrs<'_, Name<Vec<u8>>, ZoneData>, rtype: Rtype) -> bool {
+    let mut found = None;
+    for record in owner.records() {
+        if record.rtype() == rtype {
+            match found {
+                Some(ttl) if ttl != record.ttl() => return true,
+                _ => found = Some(record.ttl()),
+            }
+        }
+    }
+    false
+}

@@ -1,0 +1,4 @@
+pub mod Premises
+pub mod Quoted
+pub mod Rows
+pub mod World

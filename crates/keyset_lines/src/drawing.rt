@@ -1,0 +1,304 @@
+//! A roll drawn against time (SVG 1.1): what is shown behind each call, how long it may be in use once it is replaced, and
+//! the waits.
+
+use crate::lives::{Thing, in_report1, in_report2};
+use crate::rows::{Column, keys_in};
+use crate::words::at;
+use keyset::{Error, KeySet, RollState, RollType};
+use std::alloc::{AllocError, Global};
+use std::fmt::Display;
+
+/// What is shown behind a call of a roll.
+#[derive(Drop)]
+pub struct Scene {
+    roll: RollType,
+    step: &'static str,
+    now: u64,
+    /// Behind a report.
+    wait: Option<Wait>,
+    ds: String,
+    dnskey: String,
+    signatures: String,
+}
+
+/// A wait for what caches may hold.
+#[derive(Clone, Copy, Debug)]
+struct Wait {
+    ttl: u64,
+    /// From when on the key set accepts that it is over.
+    end: u64,
+}
+
+impl Scene {
+    /// What a set shows behind an accepted call of a roll.
+    pub fn new(
+        alloc: Global,
+        set: &KeySet,
+        keys: &[String],
+        roll: RollType,
+        step: &'static str,
+        now: u64,
+    ) -> Result<Scene, AllocError> {
+        let present = keys_in(alloc, set, keys, Column::Present)?;
+        let signers = keys_in(alloc, set, keys, Column::SignsKeys)?;
+        Ok(Scene {
+            roll,
+            step,
+            now,
+            wait: wait_of(set, roll, now)?,
+            ds: keys_in(alloc, set, keys, Column::AtParent)?,
+            dnskey: format!(in alloc; "{present}, signed by {signers}")?,
+            signatures: keys_in(alloc, set, keys, Column::SignsZone)?,
+        })
+    }
+
+    fn content(&self, thing: Thing) -> &str {
+        match thing {
+            Thing::DsSet => self.ds.as_str(),
+            Thing::DnskeyAnswer => self.dnskey.as_str(),
+            Thing::ZoneAnswer => self.signatures.as_str(),
+        }
+    }
+}
+
+/// The wait that a roll is in at a moment: a copy of the set is asked how long it still is.
+fn wait_of(set: &KeySet, roll: RollType, now: u64) -> Result<Option<Wait>, AllocError> {
+    let mut copy = set.clone()?;
+    let (ttl, ended) = match set.rollstates().get(&roll) {
+        Some(RollState::CacheExpire1(ttl)) => (*ttl, copy.cache_expired1(roll, &at(now))),
+        Some(RollState::CacheExpire2(ttl)) => (*ttl, copy.cache_expired2(roll, &at(now))),
+        _ => return Ok(None),
+    };
+    let rest = match ended {
+        Err(Error::Wait(rest)) => rest.as_secs(),
+        _ => 0,
+    };
+    Ok(Some(Wait {
+        ttl: u64::from(ttl),
+        end: now.saturating_add(rest),
+    }))
+}
+
+/// Draws the last roll of some scenes; the one before its start is what was shown until then.
+pub fn drawing(alloc: Global, scenes: &[Scene]) -> Option<String> {
+    let mut before = None;
+    let mut begun = None;
+    for (place, scene) in scenes.iter().enumerate() {
+        if scene.step == "start" {
+            begun = before.map(|last| (last, place));
+        }
+        before = Some(scene);
+    }
+    let (before, start) = begun?;
+    let (_, steps) = scenes.split_at_checked(start)?;
+    let mut sheet = Sheet::new(alloc, steps.last()?.now);
+    sheet.draw(before, steps).ok()?;
+    Some(sheet.text)
+}
+
+/// How many pixels a second is wide.
+const SECOND: u64 = 3;
+/// How many seconds are drawn before the start and behind the last call.
+const MARGIN: u64 = 66;
+/// How many pixels stand left of all moments.
+const LEFT: u64 = 90;
+/// Where the first lane begins, how high a row is, and how far one lane is from the next.
+const TOP: u64 = 44;
+
+const ROW: u64 = 22;
+
+const LANE: u64 = 62;
+/// Where the lanes end, and the height of the whole.
+const BOTTOM: u64 = 248;
+
+const HEIGHT: u64 = 284;
+
+const LANES: [(Thing, &str, u64); 3] = [
+    (Thing::DsSet, "DS set", TOP),
+    (Thing::DnskeyAnswer, "DNSKEY set", TOP + LANE),
+    (Thing::ZoneAnswer, "signatures", TOP + 2 * LANE),
+];
+
+const STYLE: &str =
+    "<style>text { font: 12px sans-serif; fill: #222 } .middle { text-anchor: middle } \
+    .shown { fill: #d3e6f8; stroke: #2f6296 } \
+    .replaced { fill: #fdebd0; stroke: #b5772a; stroke-dasharray: 4 3 } \
+    .wait { fill: #edf2dc } .call { stroke: #777; stroke-dasharray: 2 3 }</style>\n";
+
+/// The place of a moment.
+fn place(now: u64) -> u64 {
+    LEFT.saturating_add(now.saturating_add(MARGIN).saturating_mul(SECOND))
+}
+
+/// Until when what a call replaced may be in use: a report says that all servers have what came then, and its TTL passes.
+fn replaced_until(steps: &[Scene], call: &Scene, thing: Thing) -> Option<u64> {
+    let report = match call.step {
+        "start" if in_report1(call.roll, thing) => "report 1",
+        "start" | "wait 1" if in_report2(call.roll, thing) => "report 2",
+        _ => return None,
+    };
+    let reported = steps.iter().find(|scene| scene.step == report)?;
+    Some(reported.now.saturating_add(reported.wait?.ttl))
+}
+
+/// A drawing as far as it is written.
+#[derive(Drop)]
+struct Sheet {
+    text: String,
+    width: u64,
+}
+
+impl Sheet {
+    fn new(alloc: Global, last: u64) -> Sheet {
+        Sheet {
+            text: String::new(alloc),
+            width: place(last.saturating_add(MARGIN)),
+        }
+    }
+
+    fn draw<'s>(&mut self, before: &'s Scene, steps: &'s [Scene]) -> Result<(), AllocError> {
+        self.begin()?;
+        for step in steps {
+            self.draw_wait(step)?;
+        }
+        for step in steps {
+            self.draw_call(step)?;
+        }
+        for (thing, name, top) in LANES {
+            self.write(8, top.saturating_add(15), name)?;
+            self.draw_lane(before, steps, thing, top)?;
+        }
+        self.draw_legend()?;
+        self.text.push_str("</svg>")
+    }
+
+    fn begin(&mut self) -> Result<(), AllocError> {
+        let width = self.width.saturating_add(8);
+        let out = &mut self.text;
+        write!(
+            out,
+            "<svg xmlns=\"http://www.w3.org/2000/svg\" width=\"{width}\" height=\"{HEIGHT}\" "
+        )?;
+        writeln!(out, "viewBox=\"0 0 {width} {HEIGHT}\">")?;
+        out.push_str(STYLE)?;
+        writeln!(
+            out,
+            "<rect width=\"{width}\" height=\"{HEIGHT}\" fill=\"#fff\"/>"
+        )
+    }
+
+    /// Writes a text from a place on, its letters standing on a line.
+    fn write(&mut self, x: u64, line: u64, text: &str) -> Result<(), AllocError> {
+        writeln!(self.text, "<text x=\"{x}\" y=\"{line}\">{text}</text>")
+    }
+
+    /// Writes a text on both sides of a place.
+    fn write_about(
+        &mut self,
+        x: u64,
+        line: u64,
+        text: impl Display + Drop,
+    ) -> Result<(), AllocError> {
+        let out = &mut self.text;
+        writeln!(
+            out,
+            "<text class=\"middle\" x=\"{x}\" y=\"{line}\">{text}</text>"
+        )
+    }
+
+    /// Draws a rectangle between two places, so many pixels high.
+    fn bar(
+        &mut self,
+        class: &str,
+        (from, to): (u64, u64),
+        top: u64,
+        height: u64,
+    ) -> Result<(), AllocError> {
+        let width = to.saturating_sub(from);
+        let out = &mut self.text;
+        write!(out, "<rect class=\"{class}\" x=\"{from}\" y=\"{top}\" ")?;
+        writeln!(out, "width=\"{width}\" height=\"{height}\"/>")
+    }
+
+    /// A wait, behind all lanes.
+    fn draw_wait(&mut self, step: &Scene) -> Result<(), AllocError> {
+        let Some(wait) = step.wait else {
+            return Ok(());
+        };
+        if wait.end <= step.now {
+            return Ok(());
+        }
+        let (from, to, ttl) = (place(step.now), place(wait.end), wait.ttl);
+        self.bar("wait", (from, to), 34, BOTTOM.saturating_sub(34))?;
+        let x = from.saturating_add(to) / 2;
+        let line = BOTTOM.saturating_sub(6);
+        self.write_about(x, line, format_args!("wait, TTL {ttl}"))
+    }
+
+    /// A call with its moment.
+    fn draw_call(&mut self, step: &Scene) -> Result<(), AllocError> {
+        let (x, now) = (place(step.now), step.now);
+        self.write_about(x, 14, step.step)?;
+        self.write_about(x, 29, format_args!("at {now}"))?;
+        writeln!(
+            self.text,
+            "<line class=\"call\" x1=\"{x}\" y1=\"34\" x2=\"{x}\" y2=\"{BOTTOM}\"/>"
+        )
+    }
+
+    /// A lane: above what is shown, below what was replaced and may be in use.
+    fn draw_lane<'s>(
+        &mut self,
+        before: &'s Scene,
+        steps: &'s [Scene],
+        thing: Thing,
+        top: u64,
+    ) -> Result<(), AllocError> {
+        let below = top.saturating_add(ROW).saturating_add(3);
+        let mut shown = before.content(thing);
+        let mut from = LEFT;
+        for step in steps {
+            if step.content(thing) != shown {
+                let now = place(step.now);
+                let end = match replaced_until(steps, step, thing) {
+                    Some(moment) => place(moment),
+                    None => self.width,
+                };
+                self.draw_content("shown", (from, now), top, shown)?;
+                self.draw_content("replaced", (now, end), below, shown)?;
+                from = now;
+                shown = step.content(thing);
+            }
+        }
+        let end = self.width;
+        self.draw_content("shown", (from, end), top, shown)
+    }
+
+    fn draw_content(
+        &mut self,
+        class: &str,
+        (from, to): (u64, u64),
+        top: u64,
+        content: &str,
+    ) -> Result<(), AllocError> {
+        self.bar(class, (from, to), top, ROW)?;
+        self.write(from.saturating_add(5), top.saturating_add(15), content)
+    }
+
+    fn draw_legend(&mut self) -> Result<(), AllocError> {
+        let (top, line) = (BOTTOM.saturating_add(12), BOTTOM.saturating_add(25));
+        for (class, x, text) in [
+            ("shown", LEFT, "shown"),
+            (
+                "replaced",
+                LEFT.saturating_add(90),
+                "replaced, and perhaps in use",
+            ),
+            ("wait", LEFT.saturating_add(300), "a wait"),
+        ] {
+            self.bar(class, (x, x.saturating_add(16)), top, 16)?;
+            self.write(x.saturating_add(22), line, text)?;
+        }
+        Ok(())
+    }
+}
