@@ -40,6 +40,15 @@ fn found(rt: &impl Abort, held: &Sorted<'_>, owner: &[u8], class: u16) -> usize 
     }
 }
 
+/// How many pairs of class and owner have records.
+fn owners(held: &Sorted<'_>) -> usize {
+    let mut owners = 0usize;
+    for _ in held.owner_rrs() {
+        owners = owners.saturating_add(1);
+    }
+    owners
+}
+
 #[test]
 fn owners_are_found_in_their_class(rt: HostRuntime) {
     unknown_data_order_is_total::<&[u8]>();
@@ -53,7 +62,7 @@ fn owners_are_found_in_their_class(rt: HostRuntime) {
     assert!(rt; found(&rt, &held, A, 3) == 1);
     assert!(rt; found(&rt, &held, B, 1) == 1);
     assert!(rt; found(&rt, &held, B, 3) == 0);
-    assert!(rt; held.owner_rrs().count() == 3);
+    assert!(rt; owners(&held) == 3);
 }
 
 #[test]
@@ -70,5 +79,5 @@ fn owners_are_gone_with_their_records(rt: HostRuntime) {
     assert!(rt; held.remove_all_by_name_class_rtype(&name(&rt, A), None, Some(Rtype::A)));
     assert!(rt; !held.remove_all_by_name_class_rtype(&name(&rt, A), None, None));
     assert!(rt; found(&rt, &held, A, 3) == 0);
-    assert!(rt; held.owner_rrs().count() == 1);
+    assert!(rt; owners(&held) == 1);
 }
