@@ -1,5 +1,5 @@
 -- Words of lines and of answers, as lists of byte values.
-use Rattle.std.specs.Prelude.{ℕ, ◌==◌, ◌++◌, List, [], ◌∷◌, codes, Bool, true, if◌then◌else◌, elim}
+use Rattle.std.specs.Prelude.{ℕ, ◌==◌, ◌++◌, List, [], ◌∷◌, length, codes, Bool, true, if◌then◌else◌}
 use Rattle.std.specs.List.{slice_split}
 use Rattle.std.specs.Str.{bytes_eq}
 use Rattle.std.specs.declared.cmp.Ordering.{Ordering}
@@ -9,8 +9,7 @@ use Rattle.hex.specs.Hex.{encode_lower}
 
 -- the words of a line, between blanks; of an empty line none
 abbrev pub words_of : List ℕ → List (List ℕ)
-words_of [] = []
-words_of (c ∷ cs) = slice_split (λ b. b == 32) (c ∷ cs)
+words_of bs = if length bs == 0 then [] else slice_split (λ b. b == 32) bs
 
 -- the words of a list, between commas; of `-` none
 abbrev pub list_of : List ℕ → List (List ℕ)

@@ -1,12 +1,24 @@
 //! Words as they stand in a line.
 
-ghost use Rattle.std.specs.Prelude.{◌≡◌, ◌==◌, [], true, false, Some, None, Ok, IfSome, map, codes, if◌then◌else◌};
-ghost use Rattle.std.specs.List.{before_first, after_first};
+ghost use Rattle.std.specs.Prelude.{◌≡◌, ◌==◌, [], true, false, Some, None, Ok, IfOk, IfSome, map, codes, if◌then◌else◌};
+ghost use Rattle.std.specs.List.{before_first, after_first, slice_split};
 ghost use Rattle.std.specs.Str.{bytes_eq};
 ghost use Rattle.hex.specs.Hex.{decode_of};
 ghost use Rattle.line_words.specs.Words.{list_of, number_of, says_nothing, words_of};
 
-use std::alloc::Global;
+use std::alloc::{AllocError, Global};
+
+fn cut_at_blanks(alloc: Global, line: &str) -> Result<Vec<&str>, AllocError>
+    ensures { IfOk result (λ v. map (λ w. w.now) v.items ≡ slice_split (λ b. b == 32) line.now) }
+{
+    line.split(' ').collect(alloc)
+}
+
+fn cut_at_commas(alloc: Global, list: &str) -> Result<Vec<&str>, AllocError>
+    ensures { IfOk result (λ v. map (λ w. w.now) v.items ≡ slice_split (λ b. b == 44) list.now) }
+{
+    list.split(',').collect(alloc)
+}
 
 /// The words of a line, between blanks; of an empty line none.
 pub fn words(alloc: Global, line: &str) -> Option<Vec<&str>>
@@ -15,7 +27,7 @@ pub fn words(alloc: Global, line: &str) -> Option<Vec<&str>>
     if line.is_empty() {
         return Some(Vec::new(alloc));
     }
-    line.split(' ').collect(alloc).ok()
+    cut_at_blanks(alloc, line).ok()
 }
 
 /// The words of a list, between commas; of `-` none.
@@ -25,15 +37,16 @@ pub fn listed(alloc: Global, list: &str) -> Option<Vec<&str>>
     if list == "-" {
         return Some(Vec::new(alloc));
     }
-    list.split(',').collect(alloc).ok()
+    cut_at_commas(alloc, list).ok()
 }
 
 /// The numbers of a list, between commas; of `-` none.
 pub fn numbers_of(alloc: Global, list: &str) -> Option<Vec<u16>>
     ensures { IfSome result (λ v. v.items ≡ map number_of (list_of list.now)) }
 {
+    let words = listed(alloc, list)?;
     let mut numbers = Vec::new(alloc);
-    for word in &listed(alloc, list)? {
+    for word in &words {
         numbers.push(word.parse::<u16>().ok()?).ok()?;
     }
     Some(numbers)
