@@ -1,33 +1,22 @@
 //! Bitmaps of types.
 
 use crate::data::push_range;
-use crate::octets::{octets_of, text_of};
-use crate::words::{compared, refused, yes_or_no};
+use crate::words::compared;
 use denial_data::{RtypeBitmap, RtypeBitmapBuilder};
+use line_words::{joined, numbers_of, octets_of, printed, refused, yes_or_no};
 use names::Rtype;
 use std::alloc::Global;
 
 /// The bitmap of types and the types that it gives, where it is the same built from the last type on.
 pub fn bitmap_of(alloc: Global, text: &str) -> Option<String> {
-    let types = types_in(alloc, text)?;
+    let types = numbers_of(alloc, text)?;
     let bitmap = built(alloc, &types)?;
     if built_backwards(alloc, &types)? != bitmap || !has_exactly(&bitmap, &types) {
         return None;
     }
-    let octets = text_of(alloc, bitmap.as_slice())?;
+    let octets = printed(alloc, bitmap.as_slice())?;
     let given = given_types(alloc, &bitmap)?;
     format!(in alloc; "{octets} {given}").ok()
-}
-
-/// The numbers of types that are joined by commas.
-fn types_in(alloc: Global, text: &str) -> Option<Vec<u16>> {
-    let mut types = Vec::new(alloc);
-    if text != "-" {
-        for number in text.split(',') {
-            types.push(number.parse().ok()?).ok()?;
-        }
-    }
-    Some(types)
 }
 
 fn built(alloc: Global, types: &[u16]) -> Option<RtypeBitmap<Vec<u8>>> {
@@ -62,17 +51,11 @@ fn has_exactly(bitmap: &RtypeBitmap<Vec<u8>>, types: &[u16]) -> bool {
 
 /// The types that a bitmap gives, joined by commas; `-` where it gives none.
 fn given_types(alloc: Global, bitmap: &RtypeBitmap<Vec<u8>>) -> Option<String> {
-    let mut text = String::new(alloc);
+    let mut types = Vec::new(alloc);
     for rtype in bitmap.iter() {
-        if !text.is_empty() {
-            text.push(',').ok()?;
-        }
-        text.push_str(&rtype.to_int().to_string(alloc).ok()?).ok()?;
+        types.push(rtype.to_int()).ok()?;
     }
-    if text.is_empty() {
-        text.push('-').ok()?;
-    }
-    Some(text)
+    joined(alloc, &types, ",")
 }
 
 /// The types of a bitmap as text, how many octets it has, whether data may hold them and whether they are none.
@@ -94,15 +77,12 @@ pub fn has_types(alloc: Global, line: &str) -> Option<String> {
     let (octets, types) = line.split_once(' ')?;
     let octets = octets_of(alloc, octets)?;
     let bitmap = RtypeBitmap::from_octets(octets.as_slice()).ok()?;
-    let mut text = String::new(alloc);
-    for rtype in &types_in(alloc, types)? {
-        if !text.is_empty() {
-            text.push(',').ok()?;
-        }
-        text.push_str(yes_or_no(bitmap.contains(Rtype::from_int(*rtype))))
-            .ok()?;
+    let mut found = Vec::new(alloc);
+    for rtype in &numbers_of(alloc, types)? {
+        let has_type = bitmap.contains(Rtype::from_int(*rtype));
+        found.push(yes_or_no(has_type)).ok()?;
     }
-    Some(text)
+    joined(alloc, &found, ",")
 }
 
 /// How many octets from the front on are a bitmap: ranges, joined by commas.
@@ -137,5 +117,5 @@ pub fn bitmap_of_each(alloc: Global, step: &str) -> Option<String> {
         builder.add(Rtype::from_int(number)).ok()?;
         rtype = number.checked_add(step);
     }
-    text_of(alloc, builder.finalize().as_slice())
+    printed(alloc, builder.finalize().as_slice())
 }

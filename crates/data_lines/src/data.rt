@@ -1,7 +1,7 @@
 //! Record data, read and written again.
 
-use crate::octets::{octets_of, text_of};
 use denial_data::{Dnskey, Ds, Nsec, Nsec3, Nsec3param, Rrsig};
+use line_words::{octets_of, printed};
 use names::{ComposeRecordData, ParseRecordData, ParsedName, Parser, Rtype};
 use std::alloc::Global;
 
@@ -11,7 +11,7 @@ pub fn written_again(alloc: Global, line: &str) -> Option<String> {
     let (rtype, octets) = line.split_once(' ')?;
     let rtype = Rtype::from_int(rtype.parse().ok()?);
     let mut octets = octets_of(alloc, octets)?;
-    let written = text_of(alloc, &written(alloc, rtype, &octets)?)?;
+    let written = printed(alloc, &written(alloc, rtype, &octets)?)?;
     octets.push(0).ok()?;
     let lengths = read_lengths(alloc, rtype, &octets)?;
     format!(in alloc; "{written} {lengths}").ok()

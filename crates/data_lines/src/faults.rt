@@ -4,20 +4,20 @@ use denial_data::{
     IllegalSignatureTime, Nsec3SaltError, Nsec3SaltFromStrError, OwnerHashError,
     OwnerHashFromStrError, RtypeBitmapError,
 };
+use line_words::joined;
 use plain::base32hex::DecodeError;
 use std::alloc::Global;
-use std::fmt::Display;
 
 /// The texts of the faults of a kind, one behind another.
 pub fn faults(alloc: Global, kind: &str) -> Option<String> {
     match kind {
-        "time" => texts(alloc, &[IllegalSignatureTime]),
-        "salt" => texts(alloc, &[Nsec3SaltError]),
-        "hash" => texts(alloc, &[OwnerHashError]),
-        "bitmap" => texts(alloc, &bitmap_errors()),
-        "salt-text" => texts(alloc, &salt_errors()),
-        "hash-text" => texts(alloc, &hash_errors()),
-        "digits" => texts(alloc, &[DecodeError::BadChar(2), DecodeError::Memory]),
+        "time" => joined(alloc, &[IllegalSignatureTime], "; "),
+        "salt" => joined(alloc, &[Nsec3SaltError], "; "),
+        "hash" => joined(alloc, &[OwnerHashError], "; "),
+        "bitmap" => joined(alloc, &bitmap_errors(), "; "),
+        "salt-text" => joined(alloc, &salt_errors(), "; "),
+        "hash-text" => joined(alloc, &hash_errors(), "; "),
+        "digits" => joined(alloc, &[DecodeError::BadChar(2), DecodeError::Memory], "; "),
         _ => None,
     }
 }
@@ -42,15 +42,4 @@ fn hash_errors() -> [OwnerHashFromStrError; 3] {
         OwnerHashFromStrError::OwnerHashError(OwnerHashError),
         OwnerHashFromStrError::Memory,
     ]
-}
-
-fn texts<F: Display>(alloc: Global, faults: &[F]) -> Option<String> {
-    let mut text = String::new(alloc);
-    for fault in faults {
-        if !text.is_empty() {
-            text.push_str("; ").ok()?;
-        }
-        text.push_str(&fault.to_string(alloc).ok()?).ok()?;
-    }
-    Some(text)
 }

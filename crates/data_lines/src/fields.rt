@@ -1,8 +1,8 @@
 //! Times, salts, hashes, and texts in base32hex.
 
-use crate::octets::{octets_of, text_of};
-use crate::words::{compared, refused, said, word};
+use crate::words::compared;
 use denial_data::{Nsec3Salt, OwnerHash, Timestamp};
+use line_words::{octets_of, order_word, printed, refused, text};
 use names::{CanonicalOrd, Parser};
 use plain::base32hex;
 use std::alloc::Global;
@@ -14,7 +14,7 @@ pub fn near(alloc: Global, line: &str) -> Option<String> {
     let time = Timestamp::from(seconds.parse::<u32>().ok()?);
     match time.to_system_time(reference.parse::<u64>().ok()?) {
         Some(moment) => moment.to_string(alloc).ok(),
-        None => said(alloc, "none"),
+        None => text(alloc, "none"),
     }
 }
 
@@ -38,7 +38,7 @@ pub fn time_from(alloc: Global, text: &str) -> Option<String> {
 fn time_text(alloc: Global, time: Timestamp) -> Option<String> {
     let mut octets = Vec::new(alloc);
     time.compose(&mut octets).ok()?;
-    let (octets, number) = (text_of(alloc, &octets)?, time.into_int());
+    let (octets, number) = (printed(alloc, &octets)?, time.into_int());
     let len = Timestamp::COMPOSE_LEN;
     format!(in alloc; "{time} {number} {octets} of {len}").ok()
 }
@@ -48,8 +48,8 @@ pub fn times(alloc: Global, line: &str) -> Option<String> {
     let (first, second) = line.split_once(' ')?;
     let first = Timestamp::from(first.parse::<u32>().ok()?);
     let second = Timestamp::from(second.parse::<u32>().ok()?);
-    let order = first.partial_cmp(&second).map_or("none", word);
-    let canonical = word(first.canonical_cmp(&second));
+    let order = first.partial_cmp(&second).map_or("none", order_word);
+    let canonical = order_word(first.canonical_cmp(&second));
     format!(in alloc; "{order} {canonical}").ok()
 }
 
@@ -57,7 +57,7 @@ pub fn times(alloc: Global, line: &str) -> Option<String> {
 pub fn salt_from(alloc: Global, text: &str) -> Option<String> {
     match Nsec3Salt::from_str(alloc, text) {
         Ok(salt) => {
-            let octets = text_of(alloc, salt.as_slice())?;
+            let octets = printed(alloc, salt.as_slice())?;
             let empty = if salt == Nsec3Salt::empty(alloc) {
                 ", empty"
             } else {
@@ -93,9 +93,9 @@ pub fn salts(alloc: Global, line: &str) -> Option<String> {
 pub fn hash_from(alloc: Global, text: &str) -> Option<String> {
     match OwnerHash::from_str(alloc, text) {
         Ok(hash) => {
-            let printed = hash.to_string(alloc).ok()?;
-            let octets = text_of(alloc, &hash.into_octets())?;
-            format!(in alloc; "{printed} {octets}").ok()
+            let digits = hash.to_string(alloc).ok()?;
+            let octets = printed(alloc, &hash.into_octets())?;
+            format!(in alloc; "{digits} {octets}").ok()
         }
         Err(error) => refused(alloc, &error),
     }
@@ -124,7 +124,7 @@ pub fn hashes(alloc: Global, line: &str) -> Option<String> {
 /// The octets of text in base32hex.
 pub fn digits(alloc: Global, text: &str) -> Option<String> {
     match base32hex::decode(alloc, text) {
-        Ok(octets) => text_of(alloc, &octets),
+        Ok(octets) => printed(alloc, &octets),
         Err(error) => refused(alloc, &error),
     }
 }

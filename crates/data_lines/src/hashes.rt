@@ -1,8 +1,8 @@
 //! Hashes of names.
 
-use crate::octets::octets_of;
 use denial_data::Nsec3Salt;
 use denial_nsec3::owner_name::mk_hashed_nsec3_owner_name;
+use line_words::octets_of;
 use names::Name;
 use nsec3_sha1::hasher::Sha1Hasher;
 use std::alloc::Global;

@@ -1,7 +1,7 @@
 //! Key tags, and digests of keys.
 
-use crate::octets::{octets_of, text_of};
 use denial_data::Dnskey;
+use line_words::{octets_of, printed};
 use names::{ComposeRecordData, Name, Parser, compose_canonical_name};
 use sha2::{Digest, Sha256};
 use std::alloc::Global;
@@ -22,5 +22,5 @@ pub fn digest_of(alloc: Global, line: &str) -> Option<String> {
     let mut digested = Vec::new(alloc);
     compose_canonical_name(&owner, &mut digested).ok()?;
     key.compose_canonical_rdata(&mut digested).ok()?;
-    text_of(alloc, Sha256::digest(digested.as_slice()).as_slice())
+    printed(alloc, Sha256::digest(digested.as_slice()).as_slice())
 }

@@ -1,8 +1,7 @@
 //! Links and parameters of chains, made and changed.
 
-use crate::octets::{octets_of, text_of};
-use crate::words::{refused, word, yes_or_no};
 use denial_data::{Nsec, Nsec3, Nsec3Salt, Nsec3param, OwnerHash, RtypeBitmap};
+use line_words::{octets_of, order_word, printed, refused, words, yes_or_no};
 use names::{CanonicalOrd, ComposeRecordData, ParsedName, Parser};
 use std::alloc::Global;
 
@@ -23,7 +22,7 @@ fn renamed_to<'a>(alloc: Global, octets: &'a [u8], name: &'a [u8]) -> Option<Str
         return None;
     }
     nsec.set_next_name(name);
-    let (order, len) = (word(nsec.cmp(&before)), nsec.rdlen(false)?);
+    let (order, len) = (order_word(nsec.cmp(&before)), nsec.rdlen(false)?);
     format!(in alloc; "{nsec}, {len} {order}").ok()
 }
 
@@ -36,12 +35,12 @@ pub fn nsec_at(alloc: Global, line: &str) -> Option<String> {
     let nsec: ReadNsec<'_> = Nsec::parse(&mut parser).ok()?;
     let mut written = Vec::new(alloc);
     nsec.compose_rdata(&mut written).ok()?;
-    text_of(alloc, &written)
+    printed(alloc, &written)
 }
 
 /// NSEC3 data of their fields: salt and hash as text, types as octets.
 pub fn nsec3_of(alloc: Global, line: &str) -> Option<String> {
-    let fields: Vec<&str> = line.split(' ').collect(alloc).ok()?;
+    let fields = words(alloc, line)?;
     let [algorithm, flags, iterations, salt, hash, types] = fields.as_slice() else {
         return None;
     };
@@ -66,7 +65,7 @@ pub fn nsec3_of(alloc: Global, line: &str) -> Option<String> {
 fn nsec3_text(alloc: Global, nsec3: &Nsec3<Vec<u8>>) -> Option<String> {
     let mut octets = Vec::new(alloc);
     nsec3.compose_rdata(&mut octets).ok()?;
-    let (octets, len) = (text_of(alloc, &octets)?, nsec3.rdlen(false)?);
+    let (octets, len) = (printed(alloc, &octets)?, nsec3.rdlen(false)?);
     let opt_out = yes_or_no(nsec3.opt_out());
     format!(in alloc; "{octets} {len}, opt-out {opt_out}").ok()
 }
@@ -86,7 +85,10 @@ fn rehashed_to<'a>(alloc: Global, octets: &'a [u8], hash: &'a [u8]) -> Option<St
         return None;
     }
     nsec3.set_next_owner(hash);
-    let (order, canonical) = (word(nsec3.cmp(&before)), word(nsec3.canonical_cmp(&before)));
+    let (order, canonical) = (
+        order_word(nsec3.cmp(&before)),
+        order_word(nsec3.canonical_cmp(&before)),
+    );
     let text = untyped(alloc, nsec3)?;
     format!(in alloc; "{order} {canonical}, {text}").ok()
 }

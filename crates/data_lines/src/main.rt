@@ -37,12 +37,12 @@ mod hashes;
 mod keys;
 mod links;
 mod longest;
-mod octets;
 mod parts;
 mod signed;
 mod typed;
 mod words;
 
+use line_words::answer_each_line;
 use std::alloc::Global;
 use std::io;
 
@@ -123,16 +123,5 @@ fn of_fields(alloc: Global, asked: &str, rest: &str) -> Option<String> {
 }
 
 fn main(rt: HostRuntime) -> io::Result<()> {
-    for line in rt.lines(rt.alloc()) {
-        let line = line?;
-        if line.starts_with('#') {
-            println!(rt; "{line}")?;
-            continue;
-        }
-        match answer(rt.alloc(), line.as_str()) {
-            Some(answer) => println!(rt; "{line} {answer}")?,
-            None => println!(rt; "{line} cannot be read")?,
-        }
-    }
-    Ok(())
+    answer_each_line(&rt, rt.alloc(), answer)
 }

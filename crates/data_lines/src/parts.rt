@@ -1,9 +1,8 @@
 //! Parts of keys, digests, parameters and signatures.
 
-use crate::octets::{octets_of, text_of};
 use crate::signed::{ReadRrsig, proto_of};
-use crate::words::{said, word, yes_or_no};
 use denial_data::{Dnskey, Ds, Nsec3param, Rrsig};
+use line_words::{octets_of, order_word, printed, text, yes_or_no};
 use names::{ComposeRecordData, Parser};
 use std::alloc::Global;
 
@@ -23,12 +22,12 @@ pub fn taken_out(alloc: Global, line: &str) -> Option<String> {
     let octets = octets_of(alloc, octets)?;
     let mut parser = Parser::from_ref(&octets);
     match rtype {
-        "43" => text_of(alloc, Ds::parse(&mut parser).ok()?.into_digest()),
+        "43" => printed(alloc, Ds::parse(&mut parser).ok()?.into_digest()),
         "48" => {
             let key: Dnskey<&[u8]> = Dnskey::parse(&mut parser).ok()?.convert();
-            text_of(alloc, key.into_public_key())
+            printed(alloc, key.into_public_key())
         }
-        "51" => text_of(
+        "51" => printed(
             alloc,
             Nsec3param::parse(&mut parser)
                 .ok()?
@@ -50,7 +49,7 @@ pub fn fields_of(alloc: Global, octets: &str) -> Option<String> {
     let (mut spelled, mut canonical) = (Vec::new(alloc), Vec::new(alloc));
     proto.compose(&mut spelled).ok()?;
     proto.compose_canonical(&mut canonical).ok()?;
-    let (spelled, canonical) = (text_of(alloc, &spelled)?, text_of(alloc, &canonical)?);
+    let (spelled, canonical) = (printed(alloc, &spelled)?, printed(alloc, &canonical)?);
     format!(in alloc; "{spelled} {canonical}").ok()
 }
 
@@ -59,7 +58,7 @@ pub fn are_equal_fields(alloc: Global, line: &str) -> Option<String> {
     let (first, second) = line.split_once(' ')?;
     let (first, second) = (octets_of(alloc, first)?, octets_of(alloc, second)?);
     let is_equal = proto_of(&rrsig_of(&first)?) == proto_of(&rrsig_of(&second)?);
-    said(alloc, yes_or_no(is_equal))
+    text(alloc, yes_or_no(is_equal))
 }
 
 /// Data of the same fields with other octets as the signature: how many octets they have, how they stand to the data,
@@ -69,7 +68,7 @@ pub fn resigned(alloc: Global, line: &str) -> Option<String> {
     let (octets, signature) = (octets_of(alloc, octets)?, octets_of(alloc, signature)?);
     let rrsig = rrsig_of(&octets)?;
     let mut other = proto_of(&rrsig).into_rrsig(signature.as_slice()).ok()?;
-    let (len, order) = (other.rdlen(false)?, word(other.cmp(&rrsig)));
+    let (len, order) = (other.rdlen(false)?, order_word(other.cmp(&rrsig)));
     if !Rrsig::fits_rdlen(other.signer_name(), rrsig.signature()) {
         return None;
     }

@@ -1,7 +1,7 @@
 //! The octets that a signature is made over (RFC 4034, 3.1.8.1; RFC 4035, 5.3.2).
 
-use crate::octets::{octets_of, text_of};
 use denial_data::{ProtoRrsig, Rrsig};
+use line_words::{octets_of, printed};
 use names::{
     Labels, Name, ParsedName, Parser, RelativeName, ToName, ToRelativeName, UnknownRecordData,
 };
@@ -21,7 +21,7 @@ pub fn signed_octets(alloc: Global, line: &str) -> Option<String> {
     let mut target = Vec::new(alloc);
     proto_of(&rrsig).compose_canonical(&mut target).ok()?;
     append_rrset(alloc, &rrsig, &owner, data, &mut target)?;
-    text_of(alloc, &target)
+    printed(alloc, &target)
 }
 
 /// What a signature says of itself, without its octets.

@@ -1,8 +1,8 @@
 //! What is asked of record data of any type.
 
-use crate::octets::{octets_of, text_of};
-use crate::words::{compared, said};
+use crate::words::compared;
 use denial_data::{Dnskey, Ds, Nsec, Nsec3, Nsec3param, Rrsig};
+use line_words::{octets_of, printed, text};
 use names::{CanonicalOrd, ComposeRecordData, ParseRecordData, ParsedName, Parser, Rtype};
 use std::alloc::Global;
 use std::fmt::Display;
@@ -81,7 +81,7 @@ fn answered_as<
             compared(alloc, &data, &other)
         }
         (Err(error), Asked::Fault) => format!(in alloc; "{error} at {place}").ok(),
-        (Ok(_), Asked::Fault) => said(alloc, "no fault"),
+        (Ok(_), Asked::Fault) => text(alloc, "no fault"),
         _ => None,
     }
 }
@@ -89,5 +89,5 @@ fn answered_as<
 fn canonical_text<D: ComposeRecordData>(alloc: Global, data: &D) -> Option<String> {
     let mut canonical = Vec::new(alloc);
     data.compose_canonical_rdata(&mut canonical).ok()?;
-    text_of(alloc, &canonical)
+    printed(alloc, &canonical)
 }

@@ -1,7 +1,7 @@
 //! Bitmaps of types.
 
-use crate::words::{numbers, octets_of, printed, text};
 use definitions::reference::bitmap::{bitmap, bitmap_has, is_bitmap};
+use line_words::{joined, numbers_of, octets_of, printed, text};
 use std::alloc::Global;
 
 /// The types below this are looked for.
@@ -9,12 +9,7 @@ const TYPES: u16 = 2000;
 
 /// The bitmap of types, joined by commas.
 pub fn bitmap_of(alloc: Global, list: &str) -> Option<String> {
-    let mut types = Vec::new(alloc);
-    if list != "-" {
-        for number in list.split(',') {
-            types.push(number.parse::<u16>().ok()?).ok()?;
-        }
-    }
+    let types = numbers_of(alloc, list)?;
     printed(alloc, &bitmap(alloc, &types).ok()?)
 }
 
@@ -30,5 +25,5 @@ pub fn types_of(alloc: Global, word: &str) -> Option<String> {
             types.push(rtype).ok()?;
         }
     }
-    numbers(alloc, &types)
+    joined(alloc, &types, ",")
 }

@@ -20,13 +20,14 @@ mod words;
 mod zone;
 
 use bitmaps::{bitmap_of, types_of};
+use line_words::{first_word, reply_to_each_line};
 use std::alloc::Global;
 use std::io;
 use zone::Section;
 
 /// What is printed behind a line, if it can be read.
 fn reply(alloc: Global, section: &mut Section, line: &str) -> Option<String> {
-    let (name, rest) = line.split_once(' ').unwrap_or((line, ""));
+    let (name, rest) = first_word(line);
     match name {
         "bitmap" => bitmap_of(alloc, rest),
         "types" => types_of(alloc, rest),
@@ -37,16 +38,7 @@ fn reply(alloc: Global, section: &mut Section, line: &str) -> Option<String> {
 
 fn main(rt: HostRuntime) -> io::Result<()> {
     let mut section = Section::new(rt.alloc());
-    for line in rt.lines(rt.alloc()) {
-        let line = line?;
-        println!(rt; "{line}")?;
-        if line.is_empty() || line.starts_with('#') {
-            continue;
-        }
-        match reply(rt.alloc(), &mut section, line.as_str()) {
-            Some(said) => println!(rt; "{said}")?,
-            None => println!(rt; "cannot be read")?,
-        }
-    }
-    Ok(())
+    reply_to_each_line(&rt, rt.alloc(), |alloc, line| {
+        reply(alloc, &mut section, line)
+    })
 }

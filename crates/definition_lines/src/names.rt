@@ -1,11 +1,11 @@
 //! Names: their order, what covers them, and how they are read.
 
-use crate::words::{labels_of, octets_of, printed, text, words, yes_or_no};
+use crate::words::labels_of;
 use definitions::reference::Octets;
 use definitions::reference::names::{at_or_above, covers, hash_covers, name_cmp, same};
 use definitions::reference::reading::{ReadError, name_at};
+use line_words::{octets_of, order_word, printed, push_word, text, words, yes_or_no};
 use std::alloc::Global;
-use std::cmp::Ordering;
 
 /// What a line asks of names.
 pub fn reply(alloc: Global, name: &str, rest: &str) -> Option<String> {
@@ -22,11 +22,7 @@ pub fn reply(alloc: Global, name: &str, rest: &str) -> Option<String> {
 /// How a name stands to another, and whether it is at or above it.
 fn order(alloc: Global, first: &str, second: &str) -> Option<String> {
     let (first, second) = (labels_of(alloc, first)?, labels_of(alloc, second)?);
-    let order = match name_cmp(&first, &second) {
-        Ordering::Less => "less",
-        Ordering::Equal => "equal",
-        Ordering::Greater => "greater",
-    };
+    let order = order_word(name_cmp(&first, &second));
     let same = yes_or_no(same(&first, &second));
     let above = yes_or_no(at_or_above(&first, &second));
     format!(in alloc; "{order}, same {same}, at or above {above}").ok()
@@ -64,8 +60,7 @@ fn read(alloc: Global, octets: &str, place: &str, pointers: &str) -> Option<Stri
 fn labels_read(alloc: Global, labels: &[Octets], behind: usize) -> Option<String> {
     let mut text = format!(in alloc; "to {behind}").ok()?;
     for label in labels {
-        text.push(' ').ok()?;
-        text.push_str(&printed(alloc, label.as_slice())?).ok()?;
+        push_word(&mut text, &printed(alloc, label.as_slice())?)?;
     }
     Some(text)
 }

@@ -1,9 +1,10 @@
 //! A zone, and what it says.
 
-use crate::words::{labels_of, numbers, octets_of, printed, text, words, yes_or_no};
+use crate::words::labels_of;
 use definitions::reference::Octets;
 use definitions::reference::verdict::PlainVerdict;
 use definitions::reference::zone::{PlainRecord, PlainZone};
+use line_words::{joined, octets_of, printed, push_word, text, words, yes_or_no};
 use std::alloc::Global;
 
 /// The records of a zone while its lines are read, and the zone.
@@ -80,14 +81,14 @@ impl Section {
     fn nsec_types(&self, alloc: Global, with_keys: bool, name: &str) -> Option<String> {
         let labels = labels_of(alloc, name)?;
         let types = self.zone.as_ref()?.nsec_types(alloc, with_keys, &labels);
-        numbers(alloc, &types.ok()?)
+        joined(alloc, &types.ok()?, ",")
     }
 
     /// The types that the NSEC3 record of a name tells of.
     fn nsec3_types(&self, alloc: Global, with_keys: bool, name: &str) -> Option<String> {
         let labels = labels_of(alloc, name)?;
         let types = self.zone.as_ref()?.nsec3_types(alloc, with_keys, &labels);
-        numbers(alloc, &types.ok()?)
+        joined(alloc, &types.ok()?, ",")
     }
 }
 
@@ -104,10 +105,9 @@ fn verdict(alloc: Global, verdict: &PlainVerdict) -> Option<String> {
 }
 
 fn with_data(alloc: Global, word: &str, list: &[Octets]) -> Option<String> {
-    let mut text = String::from_str(alloc, word).ok()?;
+    let mut said = text(alloc, word)?;
     for octets in list {
-        text.push(' ').ok()?;
-        text.push_str(&printed(alloc, octets.as_slice())?).ok()?;
+        push_word(&mut said, &printed(alloc, octets.as_slice())?)?;
     }
-    Some(text)
+    Some(said)
 }

@@ -2,8 +2,9 @@
 
 use crate::answer::Answer;
 use crate::settings::set_by_hand;
-use crate::words::{at, flag, keys_of, moment, roll, texts, words};
+use crate::words::{at, keys_of, moment, roll, texts};
 use keyset::{Available, Error, KeySet, UnixTime};
+use line_words::{is_yes, text, words};
 use numbers::algorithm::SecurityAlgorithm;
 use std::alloc::Global;
 
@@ -69,7 +70,7 @@ fn add(alloc: Global, set: &mut KeySet, kind: &str, words: &[&str]) -> Option<An
     let [reference, key_tag] = words else {
         return None;
     };
-    let reference = String::from_str(alloc, reference).ok()?;
+    let reference = text(alloc, reference)?;
     let key = NewKey::plain(reference, key_tag.parse::<u16>().ok()?);
     Some(Answer::made(put_key(set, kind, key)))
 }
@@ -80,12 +81,12 @@ fn add_whole(alloc: Global, set: &mut KeySet, words: &[&str]) -> Option<Answer> 
         return None;
     };
     let key = NewKey {
-        reference: String::from_str(alloc, reference).ok()?,
-        private: Some(String::from_str(alloc, private).ok()?),
+        reference: text(alloc, reference)?,
+        private: Some(text(alloc, private)?),
         algorithm: SecurityAlgorithm::from_int(algorithm.parse::<u8>().ok()?),
         key_tag: key_tag.parse::<u16>().ok()?,
         made: moment(made)?,
-        is_there: if flag(is_there)? {
+        is_there: if is_yes(is_there)? {
             Available::Available
         } else {
             Available::NotAvailable
@@ -99,7 +100,7 @@ fn include(alloc: Global, set: &mut KeySet, words: &[&str]) -> Option<Answer> {
     let [reference, algorithm, key_tag, made] = words else {
         return None;
     };
-    let reference = String::from_str(alloc, reference).ok()?;
+    let reference = text(alloc, reference)?;
     let algorithm = SecurityAlgorithm::from_int(algorithm.parse::<u8>().ok()?);
     let key_tag = key_tag.parse::<u16>().ok()?;
     let added = set.add_public_key(reference, algorithm, key_tag, moment(made)?, true);

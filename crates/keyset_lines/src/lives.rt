@@ -2,8 +2,9 @@
 
 use crate::calls::{NewKey, put_key};
 use crate::rows::Column;
-use crate::words::{at, listed, roll};
+use crate::words::{at, roll};
 use keyset::{Error, KeySet, RollType};
+use line_words::{listed, text};
 use names_flat::name::Name;
 use std::alloc::{AllocError, AllocFailed, Global};
 use thiserror::Error;
@@ -49,8 +50,8 @@ pub fn lives_of(alloc: Global, words: &[&str]) -> Option<String> {
         rolls.push(roll(name)?).ok()?;
     }
     match lives(alloc, &rolls, calls.parse::<usize>().ok()?) {
-        Ok(0) => String::from_str(alloc, "no list of so many calls").ok(),
-        Ok(_) => String::from_str(alloc, "all meet").ok(),
+        Ok(0) => text(alloc, "no list of so many calls"),
+        Ok(_) => text(alloc, "all meet"),
         Err(fault) => fault.to_string(alloc).ok(),
     }
 }

@@ -40,17 +40,17 @@ mod shown;
 mod words;
 mod zone;
 
+use line_words::{first_word, reply_to_each_line, words};
 use lives::lives_of;
 use moments::{errors, of_moments, roll_named};
 use shown::{counts, shown};
 use std::alloc::Global;
 use std::io;
-use words::words;
 use zone::Zone;
 
 /// What is printed behind a line, if it can be read.
 fn reply(alloc: Global, zone: &mut Option<Zone>, line: &str) -> Option<String> {
-    let (name, rest) = line.split_once(' ').unwrap_or((line, ""));
+    let (name, rest) = first_word(line);
     match name {
         "zone" => begin(alloc, zone, rest),
         "elapsed" | "later" | "before" | "timestamp" | "from-timestamp" => {
@@ -84,16 +84,7 @@ fn of_set(alloc: Global, zone: &mut Zone, name: &str, rest: &str) -> Option<Stri
 
 fn main(rt: HostRuntime) -> io::Result<()> {
     let mut zone = None;
-    for line in rt.lines(rt.alloc()) {
-        let line = line?;
-        println!(rt; "{line}")?;
-        if line.is_empty() || line.starts_with('#') {
-            continue;
-        }
-        match reply(rt.alloc(), &mut zone, line.as_str()) {
-            Some(said) => println!(rt; "{said}")?,
-            None => println!(rt; "cannot be read")?,
-        }
-    }
-    Ok(())
+    reply_to_each_line(&rt, rt.alloc(), |alloc, line| {
+        reply(alloc, &mut zone, line)
+    })
 }

@@ -1,8 +1,9 @@
 //! Moments, rolls by name, and the texts of errors.
 
-use crate::words::{at, moment, words};
+use crate::words::{at, moment};
 use denial_fields::timestamp::Timestamp;
 use keyset::{Error, RollType, UnixTime};
+use line_words::{joined, refused, text, words, yes_or_no};
 use std::alloc::Global;
 use std::time::Duration;
 
@@ -24,7 +25,7 @@ pub fn of_moments(alloc: Global, name: &str, rest: &str) -> Option<String> {
         ("later", [first, second]) => seconds(alloc, later(first, second)?),
         ("before", [first, second]) => {
             let is_before = moment(first)? < moment(second)?;
-            String::from_str(alloc, if is_before { "yes" } else { "no" }).ok()
+            text(alloc, yes_or_no(is_before))
         }
         _ => None,
     }
@@ -45,20 +46,15 @@ fn seconds(alloc: Global, time: UnixTime) -> Option<String> {
 pub fn roll_named(alloc: Global, name: &str) -> Option<String> {
     match name.parse::<RollType>() {
         Ok(roll) => format!(in alloc; "{roll:?}").ok(),
-        Err(error) => format!(in alloc; "refused: {error}").ok(),
+        Err(error) => refused(alloc, &error),
     }
 }
 
 /// The texts of all errors.
 pub fn errors(alloc: Global) -> Option<String> {
-    let mut text = String::new(alloc);
-    for error in [first_errors(), last_errors()].iter().flatten() {
-        if !text.is_empty() {
-            text.push_str("; ").ok()?;
-        }
-        text.push_str(&error.to_string(alloc).ok()?).ok()?;
-    }
-    Some(text)
+    let first = joined(alloc, &first_errors(), "; ")?;
+    let last = joined(alloc, &last_errors(), "; ")?;
+    format!(in alloc; "{first}; {last}").ok()
 }
 
 fn first_errors() -> [Error; 7] {

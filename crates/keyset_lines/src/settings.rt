@@ -1,8 +1,9 @@
 //! What is set of keys by hand, as lines say it.
 
 use crate::answer::Answer;
-use crate::words::{flag, moment};
+use crate::words::moment;
 use keyset::KeySet;
+use line_words::is_yes;
 
 /// Makes the call of this name.
 pub fn set_by_hand(set: &mut KeySet, name: &str, words: &[&str]) -> Option<Answer> {
@@ -22,7 +23,7 @@ fn put(set: &mut KeySet, reference: &str, words: &[&str]) -> Option<Answer> {
     let [value, now] = words else {
         return None;
     };
-    let (is_present, now) = (flag(value)?, moment(now)?);
+    let (is_present, now) = (is_yes(value)?, moment(now)?);
     Some(Answer::made(set.set_present(reference, is_present, &now)))
 }
 
@@ -30,7 +31,7 @@ fn turn(set: &mut KeySet, name: &str, reference: &str, words: &[&str]) -> Option
     let [value] = words else {
         return None;
     };
-    let value = flag(value)?;
+    let value = is_yes(value)?;
     Some(Answer::made(match name {
         "decoupled" => set.set_decoupled(reference, value),
         "signer" => set.set_signer(reference, value),

@@ -3,6 +3,7 @@
 use crate::rows::named;
 use crate::words::roll;
 use keyset::{Key, KeySet, KeyTimestamps, KeyType, RollState, UnixTime};
+use line_words::{refused, text};
 use std::alloc::Global;
 use std::time::Duration;
 
@@ -11,13 +12,13 @@ pub fn shown(alloc: Global, set: &KeySet, name: &str, word: &str) -> Option<Stri
     match name {
         "key" => match set.key(word) {
             Some(key) => whole(alloc, key),
-            None => String::from_str(alloc, "no key").ok(),
+            None => text(alloc, "no key"),
         },
         "alone" => alone(alloc, set.key(word)?),
         "phase" => phase(alloc, set.rollstates().get(&roll(word)?).copied()),
         "owed" => match set.actions(roll(word)?) {
             Ok(actions) => named(alloc, &actions).ok(),
-            Err(error) => format!(in alloc; "refused: {error}").ok(),
+            Err(error) => refused(alloc, &error),
         },
         _ => None,
     }
@@ -68,19 +69,19 @@ fn stamps(alloc: Global, stamps: &KeyTimestamps) -> Option<String> {
 fn seconds(alloc: Global, stamp: Option<UnixTime>) -> Option<String> {
     match stamp {
         Some(time) => Duration::from(time).as_secs().to_string(alloc).ok(),
-        None => String::from_str(alloc, "-").ok(),
+        None => text(alloc, "-"),
     }
 }
 
 /// How far a roll is.
 fn phase(alloc: Global, state: Option<RollState>) -> Option<String> {
     match state {
-        None => String::from_str(alloc, "none").ok(),
-        Some(RollState::Propagation1) => String::from_str(alloc, "first changes").ok(),
+        None => text(alloc, "none"),
+        Some(RollState::Propagation1) => text(alloc, "first changes"),
         Some(RollState::CacheExpire1(ttl)) => format!(in alloc; "first wait for {ttl}").ok(),
-        Some(RollState::Propagation2) => String::from_str(alloc, "second changes").ok(),
+        Some(RollState::Propagation2) => text(alloc, "second changes"),
         Some(RollState::CacheExpire2(ttl)) => format!(in alloc; "second wait for {ttl}").ok(),
-        Some(RollState::Done) => String::from_str(alloc, "last actions").ok(),
+        Some(RollState::Done) => text(alloc, "last actions"),
     }
 }
 

@@ -1,21 +1,9 @@
-//! Words of a line.
+//! Keys, rolls and moments as they stand in a line.
 
 use keyset::{RollType, UnixTime};
+use line_words::{listed, text};
 use std::alloc::Global;
 use std::time::Duration;
-
-/// The words of a line, between blanks.
-pub fn words(alloc: Global, line: &str) -> Option<Vec<&str>> {
-    line.split(' ').collect(alloc).ok()
-}
-
-/// The words of a list, between commas; of `-` none.
-pub fn listed(alloc: Global, list: &str) -> Option<Vec<&str>> {
-    match list {
-        "-" => Some(Vec::new(alloc)),
-        list => list.split(',').collect(alloc).ok(),
-    }
-}
 
 /// The keys of a list: `old*2` for `old0,old1`.
 pub fn keys_of(alloc: Global, list: &str) -> Option<Vec<String>> {
@@ -23,7 +11,7 @@ pub fn keys_of(alloc: Global, list: &str) -> Option<Vec<String>> {
     for word in &listed(alloc, list)? {
         match word.split_once('*') {
             Some((letters, count)) => push_numbered(alloc, &mut keys, letters, count)?,
-            None => keys.push(String::from_str(alloc, word).ok()?).ok()?,
+            None => keys.push(text(alloc, word)?).ok()?,
         }
     }
     Some(keys)
@@ -59,13 +47,4 @@ pub fn at(seconds: u64) -> UnixTime {
 /// A roll by its name.
 pub fn roll(word: &str) -> Option<RollType> {
     word.parse::<RollType>().ok()
-}
-
-/// `yes` or `no`.
-pub fn flag(word: &str) -> Option<bool> {
-    match word {
-        "yes" => Some(true),
-        "no" => Some(false),
-        _ => None,
-    }
 }

@@ -4,8 +4,9 @@ use crate::answer::Answer;
 use crate::calls::call;
 use crate::drawing::{Scene, drawing};
 use crate::rows::row;
-use crate::words::{keys_of, roll, words};
+use crate::words::{keys_of, roll};
 use keyset::KeySet;
+use line_words::{refused, text, words};
 use names_flat::name::Name;
 use std::alloc::Global;
 
@@ -59,14 +60,14 @@ impl Zone {
         let copy = self.set.clone().ok()?;
         let has_name = copy.name() == self.set.name();
         self.aside = Some(copy);
-        String::from_str(alloc, if has_name { "ok" } else { "another name" }).ok()
+        text(alloc, if has_name { "ok" } else { "another name" })
     }
 
     /// Takes the copy that is put aside, and puts the set there.
     pub fn swap(&mut self, alloc: Global) -> Option<String> {
         let copy = self.aside.take()?;
         self.aside = Some(std::mem::replace(&mut self.set, copy));
-        String::from_str(alloc, "ok").ok()
+        text(alloc, "ok")
     }
 
     /// Makes a call, and says what is printed behind it.
@@ -76,8 +77,8 @@ impl Zone {
                 self.keep_scene(alloc, step, rest)?;
                 row(alloc, &self.set, &self.shown, step, actions.as_slice()).ok()
             }
-            Answer::Made => String::from_str(alloc, "ok").ok(),
-            Answer::Refused(error) => format!(in alloc; "refused: {error}").ok(),
+            Answer::Made => text(alloc, "ok"),
+            Answer::Refused(error) => refused(alloc, &error),
         }
     }
 

@@ -1,9 +1,10 @@
 //! Keys, lists in order, and what is signed.
 
-use crate::words::{joined, list_of, name_of, octets_of, printed, text, yes_or_no};
+use crate::words::{list_of, name_of};
 use answer_terms::dnskey::{Dnskey, ZoneKey, key_of_data};
 use answer_terms::ranked::{put_data, put_ranked};
 use denial_data::{Ds, Rrsig};
+use line_words::{joined, octets_of, printed, text, yes_or_no};
 use messages::signed::{compose_fields, signed_octets};
 use names::{ParsedName, Parser};
 use plain::{Class, DigestAlgorithm, SecurityAlgorithm};
@@ -52,7 +53,7 @@ pub fn ranked(alloc: Global, list: &str) -> Option<String> {
     for octets in &ranked {
         texts.push(printed(alloc, octets)?).ok()?;
     }
-    joined(alloc, &texts)
+    joined(alloc, &texts, ", ")
 }
 
 /// DS records of algorithm 5 and these tags in order, each once.
@@ -61,7 +62,7 @@ pub fn digests(alloc: Global, list: &str) -> Option<String> {
     for tag in list.split(',') {
         put_ranked(&mut set, digest(alloc, tag)?).ok()?;
     }
-    joined(alloc, &set)
+    joined(alloc, &set, ", ")
 }
 
 fn digest(alloc: Global, tag: &str) -> Option<Ds<Vec<u8>>> {

@@ -30,15 +30,15 @@ mod records;
 mod words;
 mod zone;
 
+use line_words::{first_word, reply_to_each_line, words};
 use nsec3_sha1::hasher::Sha1Hasher;
 use std::alloc::Global;
 use std::io;
-use words::words;
 use zone::Section;
 
 /// What is printed behind a line, if it can be read.
 fn reply(alloc: Global, section: &mut Section<'_>, line: &str) -> Option<String> {
-    let (name, rest) = line.split_once(' ').unwrap_or((line, ""));
+    let (name, rest) = first_word(line);
     match name {
         "name" | "is" | "flat" | "whole" | "compare" | "parts" => of_names(alloc, name, rest),
         "message" | "data" | "write" | "numbers" => of_messages(alloc, name, rest),
@@ -89,16 +89,7 @@ fn of_keys(alloc: Global, name: &str, rest: &str) -> Option<String> {
 fn main(rt: HostRuntime) -> io::Result<()> {
     let hasher = Sha1Hasher;
     let mut section = Section::new(rt.alloc(), &hasher);
-    for line in rt.lines(rt.alloc()) {
-        let line = line?;
-        println!(rt; "{line}")?;
-        if line.is_empty() || line.starts_with('#') {
-            continue;
-        }
-        match reply(rt.alloc(), &mut section, line.as_str()) {
-            Some(said) => println!(rt; "{said}")?,
-            None => println!(rt; "cannot be read")?,
-        }
-    }
-    Ok(())
+    reply_to_each_line(&rt, rt.alloc(), |alloc, line| {
+        reply(alloc, &mut section, line)
+    })
 }

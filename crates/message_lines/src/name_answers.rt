@@ -1,25 +1,17 @@
 //! Names, and their parts.
 
-use crate::words::{name_of, printed, wire_of, yes_or_no};
+use crate::words::{name_of, wire_of};
+use line_words::{order_word, printed, text, yes_or_no};
 use messages::names::{Name, ToName, ZoneName, copy_name, is_above, is_at_or_above};
 use std::alloc::Global;
-use std::cmp::Ordering;
-
-fn word(order: Ordering) -> &'static str {
-    match order {
-        Ordering::Less => "less",
-        Ordering::Equal => "equal",
-        Ordering::Greater => "greater",
-    }
-}
 
 /// How a name stands to another, how the other way round, and how the second to its copy; and what is above what.
 pub fn compare(alloc: Global, first: &str, second: &str) -> Option<String> {
     let (first, second) = (name_of(alloc, first)?, name_of(alloc, second)?);
     let copy = copy_name(alloc, &second).ok()?;
-    let there = word(first.name_cmp(&second));
-    let back = word(second.name_cmp(&first));
-    let own = word(second.name_cmp(&copy));
+    let there = order_word(first.name_cmp(&second));
+    let back = order_word(second.name_cmp(&first));
+    let own = order_word(second.name_cmp(&copy));
     let above = above(&first, &second);
     format!(in alloc; "{there} {back} {own}, {above}").ok()
 }
@@ -56,7 +48,7 @@ fn stars(alloc: Global, name: &Name<Vec<u8>>) -> Option<String> {
     let (first, any) = (yes_or_no(name.is_wildcard()), yes_or_no(name.has_star()));
     let child = match name.wildcard_child(alloc).ok()? {
         Some(child) => wire_of(alloc, &child)?,
-        None => String::from_str(alloc, "no room").ok()?,
+        None => text(alloc, "no room")?,
     };
     format!(in alloc; "{first} {any} {child}").ok()
 }

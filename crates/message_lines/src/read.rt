@@ -1,6 +1,7 @@
 //! Names as octets spell them.
 
-use crate::words::{name_of, octets_of, printed, refused, text, wire_of, yes_or_no};
+use crate::words::{name_of, wire_of};
+use line_words::{octets_of, printed, refused, text, yes_or_no};
 use messages::names::{
     ParsedName, ToName, ZoneName, copy_name, cow_name, name_at_place, name_from_octets, read_name,
 };

@@ -1,6 +1,7 @@
 //! Messages and their records.
 
-use crate::words::{name_of, octets_of, printed, refused, wire_of};
+use crate::words::{name_of, wire_of};
+use line_words::{octets_of, printed, refused};
 use messages::write::{push_header, push_question, push_record, push_u16, push_u32};
 use messages::{MessageView, ViewRecord, read_message};
 use names::Rtype;

@@ -1,11 +1,12 @@
 //! Zones that are accepted or refused, and their answers.
 
-use crate::words::{name_of, octets_of, printed, refused, text, wire_of, words, yes_or_no};
+use crate::words::{name_of, wire_of};
 use answer_zone::fault::Mode;
 use answer_zone::group::RrGroup;
 use answer_zone::zone::ZoneRecords;
 use answer_zone::zone::answers::ZoneAnswer;
 use denial_fields::salt::Nsec3Salt;
+use line_words::{octets_of, printed, push_word, refused, text, words, yes_or_no};
 use messages::names::{Name, copy_name};
 use messages::record::ZoneRecord;
 use names::{Rtype, Serial, UnknownRecordData};
@@ -232,6 +233,5 @@ fn push_group(alloc: Global, text: &mut String, group: &RrGroup) -> Option<()> {
 }
 
 fn push_octets(alloc: Global, text: &mut String, octets: &[u8]) -> Option<()> {
-    text.push(' ').ok()?;
-    text.push_str(&printed(alloc, octets)?).ok()
+    push_word(text, &printed(alloc, octets)?)
 }

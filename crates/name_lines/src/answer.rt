@@ -1,5 +1,6 @@
 //! An answer while it is made.
 
+use line_words::{order_word, printed, push_word, yes_or_no};
 use names::Label;
 use std::alloc::{AllocError, Global};
 use std::cmp::Ordering;
@@ -21,23 +22,17 @@ impl Answer {
     }
 
     pub fn word(&mut self, word: &str) -> Option<()> {
-        if !self.text.is_empty() {
-            self.text.push(' ').ok()?;
-        }
-        self.text.push_str(word).ok()
+        push_word(&mut self.text, word)
     }
 
     /// What is printed of a value.
     pub fn value<D: Display>(&mut self, value: &D) -> Option<()> {
-        self.word(&printed(self.alloc, value)?)
+        self.word(&text_of(self.alloc, value)?)
     }
 
     /// Hexadecimal digits; `-` for no octets.
     pub fn octets(&mut self, octets: &[u8]) -> Option<()> {
-        match octets {
-            [] => self.word("-"),
-            octets => self.word(&hex::encode(self.alloc, octets).ok()?),
-        }
+        self.word(&printed(self.alloc, octets)?)
     }
 
     /// The octets of a label, if there is one.
@@ -49,15 +44,11 @@ impl Answer {
     }
 
     pub fn order(&mut self, order: Ordering) -> Option<()> {
-        self.word(match order {
-            Ordering::Less => "less",
-            Ordering::Equal => "equal",
-            Ordering::Greater => "greater",
-        })
+        self.word(order_word(order))
     }
 
     pub fn yes(&mut self, holds: bool) -> Option<()> {
-        self.word(if holds { "yes" } else { "no" })
+        self.word(yes_or_no(holds))
     }
 
     pub fn done(self) -> Option<String> {
@@ -67,7 +58,7 @@ impl Answer {
 }
 
 /// What is printed of a value.
-pub fn printed<D: Display>(alloc: Global, value: &D) -> Option<String> {
+pub fn text_of<D: Display>(alloc: Global, value: &D) -> Option<String> {
     let text: Result<String, AllocError> = value.to_string(alloc);
     text.ok()
 }

@@ -5,10 +5,10 @@
 //! - `name=OCTETS`: a relative name. `dec=NUMBER`, `hex=NUMBER`: a label of the number's digits.
 //! - `chars=TEXT`, `symbols=SYMBOLS`: a text, or symbols joined by commas.
 
-use crate::answer::{Answer, printed};
-use crate::octets::octets_of;
+use crate::answer::{Answer, text_of};
 use crate::texts::symbols_of;
 use arrayvec::ArrayVec;
+use line_words::octets_of;
 use names::{BuiltOctets, Finish, Name, NameBuilder, PushError, PushNameError, RelativeName};
 use std::alloc::Global;
 use std::fmt::Display;
@@ -19,7 +19,7 @@ type Done = Option<String>;
 fn done<E: Display + Drop>(alloc: Global, step: Result<(), E>) -> Option<Done> {
     match step {
         Ok(()) => Some(None),
-        Err(error) => Some(Some(printed(alloc, &error)?)),
+        Err(error) => Some(Some(text_of(alloc, &error)?)),
     }
 }
 

@@ -1,7 +1,8 @@
 //! Names over flat octets: what is told of them, copied and printed.
 
-use crate::answer::{Answer, printed};
-use crate::octets::{octets_of, two_of};
+use crate::answer::{Answer, text_of};
+use crate::octets::two_of;
+use line_words::octets_of;
 use names::{
     FlattenInto, Labels, Name, ParsedName, Parser, RelativeName, ToLabelIter, ToName,
     ToRelativeName,
@@ -14,7 +15,7 @@ pub fn name(alloc: Global, line: &str) -> Option<String> {
     let octets = octets_of(alloc, line)?;
     let name = match Name::from_slice(&octets) {
         Ok(name) => name,
-        Err(error) => return printed(alloc, &error),
+        Err(error) => return text_of(alloc, &error),
     };
     let told = told(alloc, &name)?;
     let read = ParsedName::parse(&mut Parser::from_ref(&octets)).ok()?;
@@ -61,8 +62,8 @@ fn lowered<N: ToName>(alloc: Global, name: &N) -> Option<Vec<u8>> {
 
 /// The text of a name with its last dot; without it the text is the same, and of the root a dot.
 fn text<N: ToName + Display>(alloc: Global, name: &N) -> Option<String> {
-    let dotted = printed(alloc, &name.fmt_with_dot())?;
-    let plain = printed(alloc, name)?;
+    let dotted = text_of(alloc, &name.fmt_with_dot())?;
+    let plain = text_of(alloc, name)?;
     let is_same = match dotted.as_str() {
         "." => plain.as_str() == ".",
         dotted => dotted.strip_suffix('.') == Some(plain.as_str()),
@@ -88,7 +89,7 @@ pub fn relative(alloc: Global, line: &str) -> Option<String> {
     let octets = octets_of(alloc, line)?;
     let name = match RelativeName::from_slice(&octets) {
         Ok(name) => name,
-        Err(error) => return printed(alloc, &error),
+        Err(error) => return text_of(alloc, &error),
     };
     let mut answer = Answer::new(alloc);
     answer.value(&name.label_count())?;
@@ -128,7 +129,7 @@ pub fn chain(alloc: Global, line: &str) -> Option<String> {
     let rooted = front.for_ref().chain_root().to_vec(alloc).ok()?;
     let chain = match front.chain(end) {
         Ok(chain) => chain,
-        Err(error) => return printed(alloc, &error),
+        Err(error) => return text_of(alloc, &error),
     };
     let flat = chain.to_vec(alloc).ok()?;
     if !chain.name_eq(&flat) || is_root != (flat == rooted) {

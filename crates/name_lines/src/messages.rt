@@ -1,6 +1,6 @@
 //! Names in messages (RFC 1035, 4.1.4).
 
-use crate::answer::{Answer, printed};
+use crate::answer::{Answer, text_of};
 use crate::flat::{flattened, told};
 use crate::octets::message_of;
 use names::{Labels, ParseError, ParsedName, Parser, ToName};
@@ -83,8 +83,8 @@ pub fn message(alloc: Global, line: &str) -> Option<String> {
 /// The place behind what is passed over, or the fault.
 fn passed(alloc: Global, message: &[u8], place: usize) -> Option<String> {
     match skip(message, place) {
-        Ok(end) => printed(alloc, &end),
-        Err(error) => printed(alloc, &error),
+        Ok(end) => text_of(alloc, &end),
+        Err(error) => text_of(alloc, &error),
     }
 }
 

@@ -1,14 +1,7 @@
 //! Octets and numbers as they stand in a line.
 
+use line_words::octets_of;
 use std::alloc::Global;
-
-/// The octets of hexadecimal digits; `-` is no octet.
-pub fn octets_of(alloc: Global, text: &str) -> Option<Vec<u8>> {
-    match text {
-        "-" => Some(Vec::new(alloc)),
-        digits => hex::decode(alloc, digits).ok(),
-    }
-}
 
 /// The octets of two fields, one blank apart.
 pub fn two_of(alloc: Global, line: &str) -> Option<(Vec<u8>, Vec<u8>)> {

@@ -1,7 +1,8 @@
 //! How two names or labels stand to one another.
 
 use crate::answer::Answer;
-use crate::octets::{message_of, octets_of, two_of};
+use crate::octets::{message_of, two_of};
+use line_words::octets_of;
 use names::{Label, Name, OwnedLabel, ParsedName, Parser, RelativeName, ToName, ToRelativeName};
 use std::alloc::Global;
 use std::hash::{DefaultHasher, Hash, Hasher};

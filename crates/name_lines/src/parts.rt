@@ -1,7 +1,8 @@
 //! The labels and parts of names.
 
-use crate::answer::{Answer, printed};
-use crate::octets::{message_of, octets_of};
+use crate::answer::{Answer, text_of};
+use crate::octets::message_of;
+use line_words::octets_of;
 use names::{Label, Name, ParsedName, Parser, RelativeName, ToLabelIter};
 use std::alloc::Global;
 
@@ -80,7 +81,7 @@ pub fn cut(alloc: Global, line: &str) -> Option<String> {
     let (octets, begin, end) = cut_fields(alloc, line)?;
     let name = Name::from_octets(octets).ok()?;
     if begin > end || !name.is_label_start(begin) || !name.is_label_start(end) {
-        return printed(alloc, &"no labels there");
+        return text_of(alloc, &"no labels there");
     }
     let mut answer = Answer::new(alloc);
     answer.octets(name.range(begin, end).as_slice())?;
@@ -98,7 +99,7 @@ pub fn relative_cut(alloc: Global, line: &str) -> Option<String> {
     let (octets, begin, end) = cut_fields(alloc, line)?;
     let mut name = RelativeName::from_octets(octets).ok()?;
     if begin > end || !name.is_label_start(begin) || !name.is_label_start(end) {
-        return printed(alloc, &"no labels there");
+        return text_of(alloc, &"no labels there");
     }
     let mut answer = Answer::new(alloc);
     answer.octets(name.range(begin, end).as_slice())?;
@@ -203,7 +204,7 @@ pub fn split(alloc: Global, line: &str) -> Option<String> {
 pub fn label_of(alloc: Global, line: &str) -> Option<String> {
     let octets = octets_of(alloc, line)?;
     match Label::from_slice(&octets) {
-        Ok(label) => printed(alloc, &label),
-        Err(error) => printed(alloc, &error),
+        Ok(label) => text_of(alloc, &label),
+        Err(error) => text_of(alloc, &error),
     }
 }

@@ -1,6 +1,7 @@
 //! Texts of names, of labels and of symbols (RFC 1035, 5.1).
 
-use crate::answer::{Answer, printed};
+use crate::answer::{Answer, text_of};
+use line_words::printed;
 use names::{
     FromStrError, LabelFromStrError, Name, OwnedLabel, RelativeFromStrError, RelativeName, Symbol,
 };
@@ -16,8 +17,8 @@ pub fn text(alloc: Global, text: &str) -> Option<String> {
 
 fn name_or_fault(alloc: Global, read: Result<Name<Vec<u8>>, FromStrError>) -> Option<String> {
     match read {
-        Ok(name) => hex::encode(alloc, name.as_slice()).ok(),
-        Err(error) => printed(alloc, &error),
+        Ok(name) => printed(alloc, name.as_slice()),
+        Err(error) => text_of(alloc, &error),
     }
 }
 
@@ -88,8 +89,8 @@ fn label_or_fault(alloc: Global, read: Result<OwnedLabel, LabelFromStrError>) ->
 /// The octet of a character that is a symbol, or its fault.
 pub fn symbol(alloc: Global, text: &str) -> Option<String> {
     match Symbol::Char(text.chars().next()?).into_octet() {
-        Ok(octet) => printed(alloc, &octet),
-        Err(error) => printed(alloc, &error),
+        Ok(octet) => text_of(alloc, &octet),
+        Err(error) => text_of(alloc, &error),
     }
 }
 
@@ -100,11 +101,11 @@ pub fn octet(alloc: Global, text: &str) -> Option<String> {
     if symbol.into_octet() != Ok(octet) {
         return None;
     }
-    printed(alloc, &symbol)
+    text_of(alloc, &symbol)
 }
 
 /// The name of an address.
 pub fn address(alloc: Global, text: &str) -> Option<String> {
     let name = Name::reverse_from_addr(alloc, text.parse::<IpAddr>().ok()?);
-    printed(alloc, &name.ok()?)
+    text_of(alloc, &name.ok()?)
 }

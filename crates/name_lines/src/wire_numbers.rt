@@ -1,7 +1,7 @@
 //! Numbers in wire form, and serial numbers (RFC 1982).
 
-use crate::answer::{Answer, printed};
-use crate::octets::octets_of;
+use crate::answer::{Answer, text_of};
+use line_words::octets_of;
 use names::{Compose, Parse, ParseError, Parser, Serial};
 use std::alloc::Global;
 
@@ -88,5 +88,5 @@ pub fn later(alloc: Global, line: &str) -> Option<String> {
     if count > 0x7fff_ffff {
         return None;
     }
-    printed(alloc, &number.parse::<Serial>().ok()?.add(count))
+    text_of(alloc, &number.parse::<Serial>().ok()?.add(count))
 }

@@ -1,6 +1,6 @@
 //! Record data of zones: SOA and NS data, and any other as its octets.
 
-use crate::octets::{octets_of, push_word, text_of};
+use line_words::{first_word, octets_of, order_word, printed, push_word};
 use names::{
     CanonicalOrd, ComposeRecordData, Composer, ParseAnyRecordData, ParseError, ParseRecordData,
     ParsedName, Parser, RecordData, Rtype, ToName, UnknownRecordData,
@@ -9,7 +9,6 @@ use plain::ns::Ns;
 use plain::soa::Soa;
 use plain::zone_data::ZoneRecordData;
 use std::alloc::Global;
-use std::cmp::Ordering;
 
 pub type Data<'a> = ZoneRecordData<&'a [u8], ParsedName<'a>>;
 
@@ -26,7 +25,7 @@ impl Place {
     fn read<'a>(alloc: Global, line: &'a str) -> Option<(Place, &'a str)> {
         let (rtype, rest) = line.split_once(' ')?;
         let (message, rest) = rest.split_once(' ')?;
-        let (place, rest) = rest.split_once(' ').unwrap_or((rest, ""));
+        let (place, rest) = first_word(rest);
         let place = Place {
             rtype: Rtype::from_int(rtype.parse().ok()?),
             message: octets_of(alloc, message)?,
@@ -109,7 +108,7 @@ fn written<D: ComposeRecordData>(alloc: Global, data: &D) -> Option<String> {
     if behind.strip_prefix(&len) != Some(alone.as_slice()) || behind.can_compress() {
         return None;
     }
-    text_of(alloc, &alone)
+    printed(alloc, &alone)
 }
 
 /// As `written`, in canonical form.
@@ -121,7 +120,7 @@ fn canonical<D: ComposeRecordData>(alloc: Global, data: &D) -> Option<String> {
     if behind.strip_prefix(&len) != Some(alone.as_slice()) {
         return None;
     }
-    text_of(alloc, &alone)
+    printed(alloc, &alone)
 }
 
 /// The fields of SOA data, which are none of NS data.
@@ -191,14 +190,6 @@ pub fn ordered<D: CanonicalOrd + Ord>(alloc: Global, value: &D, other: &D) -> Op
         return None;
     }
     format!(in alloc; "{} {}", order_word(order), order_word(own)).ok()
-}
-
-fn order_word(order: Ordering) -> &'static str {
-    match order {
-        Ordering::Less => "less",
-        Ordering::Equal => "equal",
-        Ordering::Greater => "greater",
-    }
 }
 
 /// What is printed of octets as data of a type that is not known (RFC 3597, 5).

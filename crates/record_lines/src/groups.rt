@@ -1,11 +1,11 @@
 //! Groups of sorted records, by owner and by type.
 
-use crate::octets::{octets_of, push_word, text_of};
 use crate::records::{Rr, shown};
 use crate::sorted::sorted_of;
 use denial_groups::groups::{MultipleTtlValues, OwnerRrs, Rrset};
 use denial_groups::slices::SliceRefsOrOwned;
 use denial_groups::walks::RecordsIter;
+use line_words::{octets_of, printed, push_word, text};
 use names::{Name, Rtype, UnknownRecordData};
 use std::alloc::Global;
 
@@ -36,7 +36,7 @@ pub fn owners(alloc: Global, line: &str) -> Option<String> {
 fn walked(alloc: Global, owners: RecordsIter<'_, Owner, Data>) -> Option<String> {
     let mut answer = String::new(alloc);
     for group in owners {
-        let owner = text_of(alloc, group.owner().as_slice())?;
+        let owner = printed(alloc, group.owner().as_slice())?;
         let (class, count) = (group.class().to_int(), group.records().count());
         push_word(
             &mut answer,
@@ -67,7 +67,7 @@ fn told(alloc: Global, set: Set<'_>) -> Option<String> {
         Ok(set) => set,
         Err(error) => return format!(in alloc; "({error})").ok(),
     };
-    let owner = text_of(alloc, set.owner().as_slice())?;
+    let owner = printed(alloc, set.owner().as_slice())?;
     let (class, rtype) = (set.class().to_int(), set.rtype().to_int());
     let (ttl, len, first) = (set.ttl(), set.len(), shown(alloc, set.first())?);
     if set.iter().count() != len || set.into_inner().iter().count() != len {
@@ -84,7 +84,7 @@ pub fn find(alloc: Global, line: &str) -> Option<String> {
     let sorted = sorted_of(alloc, rest)?;
     match sorted.find_apex_rtype(&owner, Rtype::from_int(rtype.parse().ok()?)) {
         Ok(Some(set)) => told(alloc, Ok(set)),
-        Ok(None) => String::from_str(alloc, "none").ok(),
+        Ok(None) => text(alloc, "none"),
         Err(error) => told(alloc, Err(error)),
     }
 }
@@ -94,7 +94,7 @@ pub fn find_soa(alloc: Global, line: &str) -> Option<String> {
     let sorted = sorted_of(alloc, line)?;
     match sorted.find_soa() {
         Ok(Some(set)) => told(alloc, Ok(set)),
-        Ok(None) => String::from_str(alloc, "none").ok(),
+        Ok(None) => text(alloc, "none"),
         Err(error) => told(alloc, Err(error)),
     }
 }
@@ -114,7 +114,7 @@ pub fn zone(alloc: Global, line: &str) -> Option<String> {
 }
 
 fn place_in_zone(alloc: Global, group: &OwnerRrs<'_, Owner, Data>, apex: &Owner) -> Option<String> {
-    let owner = text_of(alloc, group.owner().as_slice())?;
+    let owner = printed(alloc, group.owner().as_slice())?;
     let place = match (group.is_in_zone(apex), group.is_zone_cut(apex)) {
         (true, false) => "inside",
         (true, true) => "cut",

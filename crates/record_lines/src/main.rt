@@ -10,16 +10,16 @@
 mod data;
 mod groups;
 mod named_numbers;
-mod octets;
 mod records;
 mod sorted;
 
+use line_words::{answer_each_line, first_word};
 use std::alloc::Global;
 use std::io;
 
 /// What is printed behind a line, if it can be read.
 fn answer_to(alloc: Global, line: &str) -> Option<String> {
-    let (word, rest) = line.split_once(' ').unwrap_or((line, ""));
+    let (word, rest) = first_word(line);
     match word {
         "constants" => named_numbers::constants(alloc),
         "encode" => named_numbers::encode(alloc, rest),
@@ -56,16 +56,5 @@ fn answer_of_many(alloc: Global, word: &str, rest: &str) -> Option<String> {
 }
 
 fn main(rt: HostRuntime) -> io::Result<()> {
-    for line in rt.lines(rt.alloc()) {
-        let line = line?;
-        if line.starts_with('#') {
-            println!(rt; "{line}")?;
-            continue;
-        }
-        match answer_to(rt.alloc(), line.as_str()) {
-            Some(answer) => println!(rt; "{line} {answer}")?,
-            None => println!(rt; "{line} cannot be read")?,
-        }
-    }
-    Ok(())
+    answer_each_line(&rt, rt.alloc(), answer_to)
 }

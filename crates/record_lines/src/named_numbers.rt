@@ -1,6 +1,6 @@
 //! Numbers with names of their own, and octets as base32hex.
 
-use crate::octets::{octets_of, text_of};
+use line_words::{octets_of, printed, text};
 use names::LongRecordData;
 use plain::{Class, DigestAlgorithm, Rtype, SecurityAlgorithm, Ttl, base32hex};
 use std::alloc::Global;
@@ -62,21 +62,21 @@ pub fn constants(alloc: Global) -> Option<String> {
 /// Octets as base32hex, which are read as these again.
 pub fn encode(alloc: Global, line: &str) -> Option<String> {
     let octets = octets_of(alloc, line)?;
-    let text = base32hex::encode(alloc, &octets).ok()?;
-    if base32hex::decode(alloc, &text).ok()?.as_slice() != octets.as_slice() {
+    let digits = base32hex::encode(alloc, &octets).ok()?;
+    if base32hex::decode(alloc, &digits).ok()?.as_slice() != octets.as_slice() {
         return None;
     }
-    if text.is_empty() {
-        String::from_str(alloc, "-").ok()
+    if digits.is_empty() {
+        text(alloc, "-")
     } else {
-        Some(text)
+        Some(digits)
     }
 }
 
 /// The octets of base32hex, or the fault of the text.
 pub fn decode(alloc: Global, line: &str) -> Option<String> {
     match base32hex::decode(alloc, line) {
-        Ok(octets) => text_of(alloc, &octets),
+        Ok(octets) => printed(alloc, &octets),
         Err(error) => format!(in alloc; "{error}").ok(),
     }
 }
@@ -97,7 +97,7 @@ pub fn lengths(alloc: Global, line: &str) -> Option<String> {
         Ok(()) => "fits",
         Err(error) => error.as_str(),
     };
-    String::from_str(alloc, said).ok()
+    text(alloc, said)
 }
 
 /// What two functions say of two lengths, where they agree.

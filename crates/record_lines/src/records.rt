@@ -1,7 +1,7 @@
 //! Records, `OWNER,CLASS,TTL,TYPE,DATA` in a line.
 
 use crate::data::{Data, ordered};
-use crate::octets::{octets_of, text_of};
+use line_words::{octets_of, printed};
 use names::{Name, Parser, Rtype, UnknownRecordData};
 use plain::record::Record;
 use plain::zone_data::ZoneRecordData;
@@ -63,8 +63,8 @@ pub fn record_of(alloc: Global, text: &str) -> Option<Rr> {
 
 /// A record as it stands in a line.
 pub fn shown(alloc: Global, rr: &Rr) -> Option<String> {
-    let owner = text_of(alloc, rr.owner().as_slice())?;
-    let content = text_of(alloc, rr.data().as_slice())?;
+    let owner = printed(alloc, rr.owner().as_slice())?;
+    let content = printed(alloc, rr.data().as_slice())?;
     let (class, ttl, rtype) = (rr.class().to_int(), rr.ttl(), rr.rtype().to_int());
     format!(in alloc; "{owner},{class},{ttl},{rtype},{content}").ok()
 }
@@ -76,7 +76,7 @@ pub fn record(alloc: Global, line: &str) -> Option<String> {
     let (mut written, mut canonical) = (Vec::new(alloc), Vec::new(alloc));
     rr.compose(&mut written).ok()?;
     rr.compose_canonical(&mut canonical).ok()?;
-    let (written, canonical) = (text_of(alloc, &written)?, text_of(alloc, &canonical)?);
+    let (written, canonical) = (printed(alloc, &written)?, printed(alloc, &canonical)?);
     format!(in alloc; "{written} {canonical}").ok()
 }
 

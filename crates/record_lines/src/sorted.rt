@@ -1,10 +1,10 @@
 //! Records put in order, added and taken out.
 
-use crate::octets::{octets_of, push_word};
 use crate::records::{Rr, record_of, shown};
 use denial_sorted::laws::unknown_data_order_is_total;
 use denial_sorted::sorted::{InsertError, SortedRecords};
 use denial_sorted::sorter::DefaultSorter;
+use line_words::{octets_of, push_word, yes_or_no};
 use names::{Name, Rtype, UnknownRecordData};
 use plain::Class;
 use std::alloc::Global;
@@ -102,9 +102,6 @@ pub fn remove(alloc: Global, which: &str, line: &str) -> Option<String> {
         "remove-all" => sorted.remove_all_by_name_class_rtype(&owner, class, rtype),
         _ => sorted.remove_first_by_name_class_rtype(&owner, class, rtype),
     };
-    let (found, left) = (
-        if found { "yes" } else { "no" },
-        held(alloc, sorted.as_slice())?,
-    );
+    let (found, left) = (yes_or_no(found), held(alloc, sorted.as_slice())?);
     format!(in alloc; "{found} {left}").ok()
 }

@@ -3,9 +3,10 @@
 use crate::judging::{IN, Outcome, outcome_of};
 use crate::signatures::Signatures;
 use crate::tally::Tally;
-use crate::words::{ds_set, nothing, octets_of, text};
+use crate::words::{ds_set, nothing};
 use crate::zone::{Asked, Zone};
 use answer_table::OctetCase;
+use line_words::{octets_of, text};
 use std::alloc::Global;
 
 #[derive(Drop)]

@@ -2,8 +2,8 @@
 
 use crate::signatures::Signatures;
 use crate::tally::Said;
-use crate::words::text;
 use answer_table::{OctetCase, ReplyCode, Report, judge_octets};
+use line_words::{first_word, text};
 use std::alloc::Global;
 
 /// The class IN (RFC 1035, 3.2.4).
@@ -123,7 +123,7 @@ fn as_zone(words: &str, zone: &str) -> Said {
 
 /// What was said in print; of the zone's verdict its name alone.
 fn told(alloc: Global, said: Said, words: &str) -> Option<String> {
-    let (name, _data) = words.split_once(' ').unwrap_or((words, ""));
+    let (name, _data) = first_word(words);
     match said {
         Said::AsZone => format!(in alloc; "{name} as the zone says").ok(),
         Said::Otherwise => format!(in alloc; "{words}, not as the zone says").ok(),

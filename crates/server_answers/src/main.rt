@@ -26,16 +26,16 @@ mod words;
 mod zone;
 
 use desk::Desk;
+use line_words::{first_word, is_comment, text, words};
 use std::alloc::Global;
 use std::io;
-use words::words;
 
 /// What is printed of a line, if it can be read; of one that hands in octets nothing.
 fn reply(alloc: Global, desk: &mut Desk, line: &str) -> Option<String> {
-    if line.is_empty() || line.starts_with('#') {
-        return String::from_str(alloc, line).ok();
+    if is_comment(line) {
+        return text(alloc, line);
     }
-    let (name, rest) = line.split_once(' ').unwrap_or((line, ""));
+    let (name, rest) = first_word(line);
     let words = words(alloc, rest)?;
     match name {
         "key" | "passes" => desk.take_signature(alloc, name, &words),
@@ -49,7 +49,7 @@ fn reply(alloc: Global, desk: &mut Desk, line: &str) -> Option<String> {
 
 /// Whether a line hands in octets alone, so that nothing is printed of it.
 fn is_silent(line: &str) -> bool {
-    let (name, _rest) = line.split_once(' ').unwrap_or((line, ""));
+    let (name, _rest) = first_word(line);
     match name {
         "key" | "passes" | "ds" | "keys" | "message" => true,
         _ => false,

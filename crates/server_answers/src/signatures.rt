@@ -1,6 +1,7 @@
 //! Signatures that pass.
 
-use crate::words::{octets_of, put_part};
+use crate::words::put_part;
+use line_words::octets_of;
 use std::alloc::Global;
 use std::collections::HashSet;
 

@@ -1,12 +1,8 @@
-//! Words of a line, and octets as they are handed in.
+//! Octets as they are handed in.
 
+use line_words::{listed, octets_of};
 use names::Name;
 use std::alloc::Global;
-
-/// The words of a line, between blanks.
-pub fn words(alloc: Global, line: &str) -> Option<Vec<&str>> {
-    line.split(' ').collect(alloc).ok()
-}
 
 /// The wire form of the name of a text (RFC 1035, 3.1 and 5.1).
 pub fn name_of(alloc: Global, text: &str) -> Option<Vec<u8>> {
@@ -15,16 +11,6 @@ pub fn name_of(alloc: Global, text: &str) -> Option<Vec<u8>> {
         .as_slice()
         .to_vec(alloc)
         .ok()
-}
-
-/// The octets of hexadecimal digits.
-pub fn octets_of(alloc: Global, digits: &str) -> Option<Vec<u8>> {
-    hex::decode(alloc, digits).ok()
-}
-
-/// A text of the program's own.
-pub fn text(alloc: Global, text: &str) -> Option<String> {
-    String::from_str(alloc, text).ok()
 }
 
 /// What is said where nothing is to be printed.
@@ -44,10 +30,7 @@ pub fn put_part(octets: &mut Vec<u8>, width: usize, part: &[u8]) -> Option<()> {
 /// DS records, joined by commas, each behind its length; of `-` none.
 pub fn ds_set(alloc: Global, list: &str) -> Option<Vec<u8>> {
     let mut set = Vec::new(alloc);
-    if list == "-" {
-        return Some(set);
-    }
-    for word in list.split(',') {
+    for word in &listed(alloc, list)? {
         put_part(&mut set, 2, &ds(alloc, word)?)?;
     }
     Some(set)

@@ -1,6 +1,7 @@
 //! A zone whose answers are judged, and a question that it was asked.
 
-use crate::words::{ds_set, name_of, octets_of, text};
+use crate::words::{ds_set, name_of};
+use line_words::{octets_of, text};
 use std::alloc::Global;
 
 /// A zone, its DS set and its DNSKEY answer, and what its answers are judged with.
