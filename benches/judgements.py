@@ -7,7 +7,8 @@ an event costs that only says that its place holds nothing is taken off answers 
 printing fall away; an owner's set-up has the reading of its line in it. The bench's stand-in for
 signatures and digests, SHA-256, is part of the counts; how much of a judgement it is stands beside it, and how much it takes to
 decide from the facts that were verified. Zones have a chain of names, of which ten owners are asked and 10,000, or a chain
-of hashes, of which ten are. Run it from anywhere; it builds crates/denialbench first.
+of hashes, of which ten are. Numbers behind the command ask zones of so many owners for answers alone, with both chains:
+judgements.py 10 100000. Run it from anywhere; it builds crates/denialbench first.
 """
 import re
 import subprocess
@@ -79,8 +80,26 @@ def row(what, cells):
     return f"| {what} | " + " | ".join(f"{cell:,.0f}" for cell in cells) + " |"
 
 
+def answers(owners, chain):
+    """Instructions of an answer to each question."""
+    start = [*opening(owners, chain), *(f"ask {asked} 7200" for _, asked in ASKED)]
+    idle = counted(BENCH, start + ["judge 0 1 9999 7200"] * TIMES)[0]
+    return [(counted(BENCH, start + [f"ask {asked} 7200"] * TIMES)[0] - idle) / TIMES for _, asked in ASKED]
+
+
+def grown(sizes):
+    """Prints what answers take in zones of so many owners."""
+    for chain in CHAINS:
+        print(f"\n| an answer, with a chain of {chain}, of | " + " | ".join(f"{owners:,} owners" for owners in sizes) + " |")
+        print("|---" * (len(sizes) + 1) + "|")
+        for (what, _), cells in zip(ASKED, zip(*(answers(owners, chain) for owners in sizes))):
+            print(row(what, cells), flush=True)
+
+
 def main():
     build(BENCH, (TOP / "sessions/first_wait").read_text(encoding="utf-8").split("\n"))
+    if len(sys.argv) > 1:
+        return grown([int(it) for it in sys.argv[1:]])
     print("| owners | set-up of an owner | blocks |\n|---|---|---|")
     for owners in (1_000, 10_000, 100_000):
         print(row(f"{owners:,}", counts(opening(owners), opening(2 * owners), owners)))

@@ -35,10 +35,10 @@ pub(crate) fn span_of<N: ToName, D: RecordData + CanonicalOrd, O: ToName>(
     requires starts { starts.now ≡ starts_in (of_one_owner N.name) records.now }
     ensures { IsSpan (is_owned N.name class (O.name owner.now)) records.now result }
 {
-    span_by(records, starts, class, owner, starts.len())
+    span_by(records, starts, class, owner, usize::MAX)
 }
 
-/// As `span_of`. Owners are looked at from an index down, at one and then at ever farther ones.
+/// As `span_of`, by a guess how many owners come before. One of more than there are says nothing.
 pub(crate) fn span_by<N: ToName, D: RecordData + CanonicalOrd, O: ToName>(
     records: &[Record<N, D>],
     starts: &[usize],
