@@ -3,8 +3,8 @@
 //!
 //! Names are texts, octets hexadecimal digits (`07*3` for `070707`, `-` for none), lists are joined by commas, moments are
 //! seconds. A signature is a copy of the octets that it is made over, and a digest of type 2 the octet 7. The scheme `well`
-//! signs, digests and hashes no name; `no-digest`, `no-signature` fail at that, `one-hash` hashes each name to the octet 7, and
-//! of `keyed`, which signs nothing, signatures pass that stand behind the octets of their key.
+//! signs, digests, and hashes no name. `no-digest` and `no-signature` fail at that too, `one-hash` hashes each name to the
+//! octet 7, and with `keyed` the octets of a signature's key stand before the copy.
 //!
 //! - `zone NAME`: begins a zone; `soa OWNER SERIAL`, `rr OWNER CLASS TTL TYPE OCTETS`: its records; `addresses COUNT`: so many
 //!   addresses, at owners whose first label is the four octets of their number.

@@ -1,13 +1,15 @@
 //! A scheme and a hasher that fail as they are told to.
+ghost use Rattle.std.specs.Prelude.{◌≡◌, ◌++◌, IfOk};
+
 use answer::{DigestAlgorithm, Dnskey, HashError, Nsec3Hasher, Scheme, SchemeError};
-use std::alloc::Global;
+use std::alloc::{AllocError, Global};
 
 /// A signature is a copy of the octets that it is made over, the digest of the one known type is the octet 7, and so is each
 /// hash.
 #[derive(Drop)]
 pub struct TestScheme {
     pub signs: bool,
-    /// Signatures that pass stand behind the octets of their key.
+    /// In a signature the octets of its key stand before the copy.
     pub is_keyed: bool,
     pub digest_type: u8,
     pub hashes: bool,
@@ -37,9 +39,9 @@ const NO_SIGNATURE: &TestScheme = &TestScheme {
     hashes: false,
 };
 
-/// Makes no signature, and tells those of one key from those of another.
+/// Signs, tells the signatures of one key from those of another, and digests by type 2.
 const KEYED: &TestScheme = &TestScheme {
-    signs: false,
+    signs: true,
     is_keyed: true,
     digest_type: 2,
     hashes: false,
@@ -65,28 +67,40 @@ pub fn scheme_of(word: &str) -> Option<&'static TestScheme> {
     }
 }
 
+/// The octets of a key, and others behind them.
+fn behind(alloc: Global, key: &[u8], octets: &[u8]) -> Result<Vec<u8>, AllocError>
+    ensures { IfOk result (λ s. s.items ≡ key.now ++ octets.now) }
+{
+    let mut signature = key.to_vec(alloc)?;
+    signature.extend_from_slice(octets)?;
+    Ok(signature)
+}
+
 impl Scheme for TestScheme {
-    ghost use Rattle.std.specs.Prelude.{[], ◌∷◌, ◌&&◌, Some, None, nat_eq, take, drop, length, if◌then◌else◌};
+    ghost use Rattle.std.specs.Prelude.{[], ◌∷◌, ◌++◌, ◌&&◌, Some, None, nat_eq, take, drop, length, if◌then◌else◌};
     ghost use Rattle.std.specs.Str.{bytes_eq};
 
     ghost verifies = { λ s key octets signature. if s.is_keyed
         then bytes_eq (take (length key.octets) signature) key.octets && bytes_eq octets (drop (length key.octets) signature)
         else bytes_eq octets signature };
 
-    ghost signature_of = { λ s _ octets. if s.is_keyed
-        then None
-        else if s.signs then Some octets else None };
+    ghost signature_of = { λ s key octets. if s.signs
+        then (if s.is_keyed then Some (key.octets ++ octets) else Some octets)
+        else None };
 
     ghost digest_of = { λ s t _. if nat_eq t s.digest_type then Some (7 ∷ []) else None };
 
     fn sign(
         &self,
         alloc: Global,
-        _key: &Dnskey<&[u8]>,
+        key: &Dnskey<&[u8]>,
         octets: &[u8],
     ) -> Result<Vec<u8>, SchemeError> {
-        if self.is_keyed || !self.signs {
+        if !self.signs {
             return Err(SchemeError::Failed);
+        }
+        if self.is_keyed {
+            return Ok(behind(alloc, key.public_key(), octets)?);
         }
         Ok(octets.to_vec(alloc)?)
     }
