@@ -1,7 +1,8 @@
 //! The owners of NSEC3 records: a hash as a label under the apex (RFC 5155, 3).
 
-ghost use Rattle.std.specs.Prelude.{◌≡◌, ◌≤◌, ◌++◌, ◌∷◌, length, IfOk, IsErrOf, OnOk};
-ghost use Rattle.definitions.specs.Name.{IsName, wire};
+ghost use Rattle.std.specs.Prelude.{◌≡◌, ◌≤◌, ◌++◌, length, IfOk, IsErrOf, OnOk};
+ghost use Rattle.definitions.specs.Base32hex.{base32hex};
+ghost use Rattle.definitions.specs.Name.{wire};
 ghost use Rattle.denial_hashes.specs.Hashing.{FitsName, hashed_owner};
 
 use names_data::composer::compose_name;
@@ -34,31 +35,14 @@ pub fn hashed_owner<N: Absolute>(
     ensures refused { IsErrOf result HashedOwnerError.DoesNotFit →
         FitsName (N.name apex.now) hash.now → ⊥ }
 {
-    match base32hex::encode(alloc, hash) {
-        Ok(digits) => label_under(alloc, digits.as_bytes(), apex),
-        Err(_) => Err(HashedOwnerError::Memory),
-    }
-}
-
-/// A label under the apex.
-fn label_under<N: Absolute>(
-    alloc: Global,
-    label: &[u8],
-    apex: &N,
-) -> Result<Name<Vec<u8>>, HashedOwnerError>
-    ensures ok { IfOk result (λ n. n ≡ label.now ∷ N.name apex.now) }
-    ensures fits { OnOk result (IsName (label.now ∷ N.name apex.now)) }
-    ensures refused { IsErrOf result HashedOwnerError.DoesNotFit →
-        IsName (label.now ∷ N.name apex.now) → ⊥ }
-{
-    if label.len() > 63 {
+    if hash.len() > 39 {
         return Err(HashedOwnerError::DoesNotFit);
     }
-    let room = 1 + label.len() + usize::from(apex.compose_len());
+    let room = 1 + usize::from(digit_count(hash)) + usize::from(apex.compose_len());
     let Ok(mut octets) = Vec::with_capacity(alloc, room) else {
         return Err(HashedOwnerError::Memory);
     };
-    let Ok(()) = write_under(&mut octets, label, apex) else {
+    let Ok(()) = write_owner(&mut octets, hash, apex) else {
         return Err(HashedOwnerError::Memory);
     };
     match Name::from_octets(octets) {
@@ -67,13 +51,21 @@ fn label_under<N: Absolute>(
     }
 }
 
-/// Writes a label and the apex behind it in wire form.
-fn write_under<N: Absolute>(octets: &mut Vec<u8>, label: &[u8], apex: &N) -> Result<(), ShortBuf>
-    requires { length label.now ≤ 63 }
-    ensures { let name = label.now ∷ N.name apex.now in
+/// How many digits a hash has that a label holds.
+fn digit_count(hash: &[u8]) -> u8
+    requires { length hash.now ≤ 39 }
+    ensures { result ≡ length (base32hex hash.now) }
+{
+    (hash.len() * 8).div_ceil(5) as u8
+}
+
+/// Writes a hash as a label and the apex behind it in wire form.
+fn write_owner<N: Absolute>(octets: &mut Vec<u8>, hash: &[u8], apex: &N) -> Result<(), ShortBuf>
+    requires { length hash.now ≤ 39 }
+    ensures { let name = hashed_owner (N.name apex.now) hash.now in
         OnOk result (octets.new.items ≡ octets.old.items ++ wire name) }
 {
-    octets.append_slice(&[label.len() as u8])?;
-    octets.append_slice(label)?;
+    octets.append_slice(&[digit_count(hash)])?;
+    base32hex::append(octets, hash).map_err(|_| ShortBuf)?;
     compose_name(apex, octets)
 }

@@ -20,15 +20,22 @@ pub fn encode(alloc: Global, octets: &[u8]) -> Result<String, AllocError>
     ensures { IfOk result (λ text. string_bytes text ≡ base32hex octets.now) }
 {
     let mut digits = Vec::with_capacity(alloc, octets.len().div_ceil(5).saturating_mul(8))?;
+    append(&mut digits, octets)?;
+    // Each is an ASCII one.
+    Ok(unsafe { String::from_utf8_unchecked(digits) })
+}
+
+/// Appends the digits of octets. Where memory is wanting, the first of them may stand there.
+pub fn append(digits: &mut Vec<u8>, octets: &[u8]) -> Result<(), AllocError>
+    ensures { OnOk result (digits.new.items ≡ digits.old.items ++ base32hex octets.now) }
+{
     let mut rest = octets;
     while rest.len() >= 5 {
         let (block, behind) = rest.split_at(5);
         digits.extend_from_slice(&block_digits(block))?;
         rest = behind;
     }
-    push_tail(&mut digits, rest)?;
-    // Each is an ASCII one.
-    Ok(unsafe { String::from_utf8_unchecked(digits) })
+    push_tail(digits, rest)
 }
 
 /// The eight digits of five octets.

@@ -1,3 +1,3 @@
 //! base32hex: that of the crate `numbers`.
 
-pub use numbers::base32hex::{DecodeError, decode, digits, encode};
+pub use numbers::base32hex::{DecodeError, append, decode, digits, encode};

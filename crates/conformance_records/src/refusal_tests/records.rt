@@ -1,8 +1,6 @@
 //! Records and record data composed to a target that is refused memory: the target stays as it was, and the call succeeds
 //! when it is made again.
 
-mod sorted;
-
 use names::{ComposeRecordData, Composer, Name, Serial, ShortBuf, compose_canonical_name};
 use plain::record::Record;
 use plain::soa::Soa;

@@ -1,13 +1,15 @@
-use Rattle.std.proofs.Common.{◌≡◌, ◌++◌, ◌∷◌, ◌∙◌, sym, ap, subst}
+use Rattle.std.proofs.Common.{◌≡◌, ◌++◌, ◌∙◌, sym, ap, subst, arith}
 use Rattle.definitions.specs.Name.{Name, IsName, wire}
 use Rattle.names_labels.specs.Flat.{name_in}
 use Rattle.names_labels.proofs.Runs.{name_in-wire}
-use Rattle.denial_hashes.proofs.owner_name.label_under.Goals as goal
+use Rattle.denial_hashes.specs.Hashing.{hashed_owner}
+use Rattle.denial_hashes.proofs.Digits.{fitting_few}
+use Rattle.denial_hashes.proofs.owner_name.hashed_owner.Goals as goal
 
 pub returns-in-Ok-from_octets-clause-ok : goal.returns-in-Ok-from_octets-clause-ok
 returns-in-Ok-from_octets-clause-ok g c =
-    let name : Name = c.args.label.now ∷ g.N.Labels.name c.args.apex.now in
-    let written : c.write_under.new.octets.items ≡ wire name = c.in-Ok-write_under.ensures ∙ ap (λ t. t ++ wire name) c.in-Ok.ensures.items in
+    let name : Name = hashed_owner (g.N.Labels.name c.args.apex.now) c.args.hash.now in
+    let written : c.write_owner.new.octets.items ≡ wire name = c.in-Ok-write_owner.ensures ∙ ap (λ t. t ++ wire name) c.in-Ok.ensures.items in
     sym (name_in-wire c.in-Ok-from_octets.name) ∙ ap name_in (c.in-Ok-from_octets.ensures.ok.octets ∙ written) ∙ name_in-wire name
 
 pub returns-in-Ok-from_octets-clause-fits : goal.returns-in-Ok-from_octets-clause-fits

@@ -2,7 +2,7 @@
 //!
 //! With memory each call succeeds at once. `rt try --test --fail-alloc N` refuses the Nth growth.
 
-use crate::calls::Calls;
+use crate::key_calls::Calls;
 use crate::moments::at;
 use keyset::{Available, Error, KeySet, KeyType, RollState, RollType};
 use names_flat::name::Name;
