@@ -90,6 +90,7 @@ impl Scheme for TestScheme {
 
     ghost digest_of = { λ s t _. if nat_eq t s.digest_type then Some (7 ∷ []) else None };
 
+    #[tactic(auto, using(crate::proofs::Keyed::passes))]
     fn sign(
         &self,
         alloc: Global,

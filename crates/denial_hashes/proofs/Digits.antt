@@ -1,5 +1,5 @@
 -- How many digits octets have: eight for five.
-use Rattle.std.proofs.Common.{◌≡◌, ℕ, ◌+◌, ◌*◌, ◌≤◌, List, [], ◌∷◌, length, arith}
+use Rattle.std.proofs.Common.{ℕ, ◌+◌, ◌*◌, ◌≤◌, List, [], ◌∷◌, length, arith}
 use Rattle.definitions.specs.Base32hex.{base32hex}
 use Rattle.definitions.specs.Name.{Name}
 use Rattle.denial_hashes.specs.Hashing.{FitsName}

@@ -15,3 +15,6 @@ returns-in-Ok-from_octets-clause-ok g c =
 pub returns-in-Ok-from_octets-clause-fits : goal.returns-in-Ok-from_octets-clause-fits
 returns-in-Ok-from_octets-clause-fits g c =
     subst IsName (returns-in-Ok-from_octets-clause-ok g c) c.in-Ok-from_octets.ensures.ok.name
+
+pub returns-then-hash-gt39-clause-refused : goal.returns-then-hash-gt39-clause-refused
+returns-then-hash-gt39-clause-refused g c = λ e fits. omega (arith, fitting_few (g.N.Labels.name c.args.apex.now) c.args.hash.now fits, c.if-hash-gt39.true)
