@@ -152,11 +152,12 @@ pub fn cuts(alloc: Global, desk: &Desk, words: &[&str]) -> Option<String> {
 
 /// The first of some texts, and how many of all are like it.
 fn together(alloc: Global, texts: &[String]) -> Option<String> {
-    let (first, all) = (texts.first()?, texts.len());
-    let like = texts
-        .iter()
-        .filter(|text| text.as_str() == first.as_str())
-        .count();
+    let (first, all, mut like) = (texts.first()?, texts.len(), 0usize);
+    for text in texts {
+        if text.as_str() == first.as_str() {
+            like = like.saturating_add(1);
+        }
+    }
     format!(in alloc; "{like} of {all} {first}").ok()
 }
 
