@@ -20,8 +20,8 @@
 //! - `keys OCTETS`, `message OCTETS`: holds these messages in their place.
 //! - `judge APEX DS NAME TYPE MOMENT`: what is said of the messages that are held, beside a list of DS records, each a tag
 //!   and a type of digest, as `1054:2`; `judge-by SCHEME APEX DS NAME TYPE MOMENT`: by another scheme than `well`;
-//!   `cuts APEX DS NAME TYPE MOMENT`: of the first that is held without its last octet, without its last two, and so on, then
-//!   of the second: how many of them what is said of no octets is said of.
+//!   `cuts APEX DS NAME TYPE MOMENT`: what is said of no octets in place of the DNSKEY answer, and how many of its beginnings
+//!   that is said of; then the same of the zone answer.
 //! - `allowed APEX NAME TYPE CLASS`: whether a question is.
 //! - `session LINE`, `session-octets OCTETS`: reads a session of the zone `example` and a line; `sessions COUNT LINE`: makes
 //!   one with so many times the line.
