@@ -41,9 +41,18 @@ impl Named for ZoneRecord {
 pub struct Neighbours<'a> {
     before: Option<&'a Name<Vec<u8>>>,
     from: Option<&'a Name<Vec<u8>>>,
+    /// How many of the others come before the name.
+    place: usize,
 }
 
 impl Neighbours<'_> {
+    /// Where the name stands, or would stand, among the others.
+    pub fn place(&self) -> usize
+        ensures { result ≡ self.now.place }
+    {
+        self.place
+    }
+
     /// Whether one of them is at or below a name.
     pub fn shows<O: ToName>(&self, ancestor: &O) -> bool
         ensures { result ≡ shows self.now (O.name ancestor.now) }
@@ -88,6 +97,7 @@ pub fn neighbours_of<'a, T: Named>(items: &'a [T], name: &Name<Vec<u8>>) -> Neig
     Neighbours {
         before,
         from: name_at(items, place),
+        place,
     }
 }
 

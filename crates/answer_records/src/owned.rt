@@ -65,6 +65,20 @@ impl<'a> Owned<'a> {
         }
     }
 
+    /// The same, and soon where they stand at a place or not far before it.
+    pub fn found_near<O: ToName>(
+        records: &'a SortedRecords<Name<Vec<u8>>, ZoneData>,
+        name: &O,
+        place: usize,
+    ) -> Owned<'a>
+        requires { AllByRecursion IsInternet records.now }
+        ensures { result ≡ owned_by (O.name name.now) (map handed_of records.now) }
+    {
+        Owned {
+            records: records.find_owner_near(Class::IN, name, place),
+        }
+    }
+
     /// No records.
     pub fn none() -> Self
         ensures { result ≡ [] }

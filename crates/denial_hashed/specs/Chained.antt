@@ -37,6 +37,9 @@ have_one_hash a b = bytes_eq a.hash.items b.hash.items
 abbrev pub has_lesser_hash : {N D : Type 0} → HashedName N D → HashedName N D → Bool
 has_lesser_hash a b = octets_before a.hash.items b.hash.items
 
+abbrev pub has_greater_hash : {N D : Type 0} → HashedName N D → HashedName N D → Bool
+has_greater_hash a b = has_lesser_hash b a
+
 -- the names of the chain of some owners
 abbrev pub chain_names_of : {N D : Type 0} → (N → Name) → List (List (Record N D)) → List Name
 chain_names_of name gs = map (spot_name (group_owner name)) (spots_of (group_owner name) gs)

@@ -24,3 +24,11 @@ IsParting p starts xs count =
     (count ≤ length starts)
     × AllByRecursion (λ x. p x ≡ true) (take (slice_index_or starts count (length xs)) xs)
     × AllByRecursion (λ x. p x ≡ false) (drop (slice_index_or starts count (length xs)) xs)
+
+-- so many groups at least and so many at most: those before the first bound pass, and none from the second on
+abbrev pub AreBounds : {A : Type 0} → (A → Bool) → List ℕ → List A → ℕ → ℕ → Type 0
+AreBounds p starts xs low high =
+    (low ≤ high)
+    × (high ≤ length starts)
+    × AllByRecursion (λ x. p x ≡ true) (take (slice_index_or starts low (length xs)) xs)
+    × AllByRecursion (λ x. p x ≡ false) (drop (slice_index_or starts high (length xs)) xs)

@@ -9,9 +9,10 @@ ghost use Rattle.denial_sorted.specs.Owned.{is_owned};
 ghost use Rattle.denial_groups.specs.Partitions.{IsPartition};
 ghost use Rattle.denial_groups.specs.Slices.{items_of};
 
-use crate::search::{only_class, span_of};
+use crate::search::{only_class, span_by, span_of};
 use crate::sorted::SortedRecords;
 use crate::sorter::Sorter;
+use crate::starts::count_before;
 use denial_groups::ends::{Ends, split_set};
 use denial_groups::groups::{MultipleTtlValues, OwnerRrs, Rrset, first};
 use denial_groups::runs::{BySet, split_group};
@@ -83,6 +84,26 @@ impl<N: ToName + Drop, D: RecordData + CanonicalOrd + Drop, S: Sorter> SortedRec
     {
         let records = self.records.as_slice();
         let Some(span) = span_of(records, &self.starts, class, owner) else {
+            return None;
+        };
+        let owned = &records[span.start..span.end];
+        Some(OwnerRrs::new(SliceRefsOrOwned::new_from_owned(owned)))
+    }
+
+    /// As `find_owner`, and soon where the owner's records stand at a place or not far before it.
+    pub fn find_owner_near<O: ToName>(
+        &self,
+        class: Class,
+        owner: &O,
+        place: usize,
+    ) -> Option<OwnerRrs<'_, N, D>>
+        ensures { let owned = filter (is_owned N.name class (O.name owner.now)) self.now in
+            MatchOption result (owned ≡ []) (λ g. g ≡ owned) }
+    {
+        let records = self.records.as_slice();
+        let starts = self.starts.as_slice();
+        let guess = count_before(starts, place.min(records.len()));
+        let Some(span) = span_by(records, starts, class, owner, guess) else {
             return None;
         };
         let owned = &records[span.start..span.end];

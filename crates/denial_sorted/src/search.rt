@@ -1,12 +1,12 @@
 //! The records of a class and an owner, found by the places at which owners begin.
 
-ghost use Rattle.std.specs.Prelude.{◌≡◌, slice_index_or, IfSome};
+ghost use Rattle.std.specs.Prelude.{◌≡◌, ◌<◌, ◌≤◌, slice_index_or, IfSome};
 ghost use Rattle.std.specs.List.{AllByRecursion};
 ghost use Rattle.std.specs.List.Sorted.{IsStrictlySortedBy};
 ghost use Rattle.plain.specs.Records.{record_canonical_cmp};
 ghost use Rattle.denial_groups.specs.Groups.{of_one_owner};
 ghost use Rattle.denial_sorted.specs.Owned.{is_before, is_owned};
-ghost use Rattle.denial_sorted.specs.Spans.{IsParting, IsSpan};
+ghost use Rattle.denial_sorted.specs.Spans.{AreBounds, IsParting, IsSpan};
 ghost use Rattle.denial_groups.specs.Starts.{starts_in};
 
 use names_data::canonical::CanonicalOrd;
@@ -35,7 +35,23 @@ pub(crate) fn span_of<N: ToName, D: RecordData + CanonicalOrd, O: ToName>(
     requires starts { starts.now ≡ starts_in (of_one_owner N.name) records.now }
     ensures { IsSpan (is_owned N.name class (O.name owner.now)) records.now result }
 {
-    let at = count_before(records, starts, class, owner);
+    span_by(records, starts, class, owner, starts.len())
+}
+
+/// As `span_of`. Owners are looked at from an index down, at one and then at ever farther ones.
+pub(crate) fn span_by<N: ToName, D: RecordData + CanonicalOrd, O: ToName>(
+    records: &[Record<N, D>],
+    starts: &[usize],
+    class: Class,
+    owner: &O,
+    guess: usize,
+) -> Option<Span>
+    requires order { let by = record_canonical_cmp N.name D.type_of D.canonical in
+        IsStrictlySortedBy by records.now }
+    requires starts { starts.now ≡ starts_in (of_one_owner N.name) records.now }
+    ensures { IsSpan (is_owned N.name class (O.name owner.now)) records.now result }
+{
+    let at = count_before(records, starts, class, owner, guess);
     if at >= starts.len() {
         return None;
     }
@@ -64,12 +80,14 @@ fn is_owned<N: ToName, D, O: ToName>(rr: &Record<N, D>, class: Class, owner: &O)
     rr.class() == class && rr.owner().name_eq(owner)
 }
 
-/// How many owners come before a class and an owner.
+/// How many owners come before a class and an owner, by a guess. Where it is too high, what is looked at moves away from
+/// it in steps that double, until it is past the place; then, and where the guess is too low, the rest is halved.
 fn count_before<N: ToName, D: RecordData + CanonicalOrd, O: ToName>(
     records: &[Record<N, D>],
     starts: &[usize],
     class: Class,
     owner: &O,
+    guess: usize,
 ) -> usize
     requires order { let by = record_canonical_cmp N.name D.type_of D.canonical in
         IsStrictlySortedBy by records.now }
@@ -77,16 +95,52 @@ fn count_before<N: ToName, D: RecordData + CanonicalOrd, O: ToName>(
     ensures { let before = is_before N.name class (O.name owner.now) in
         IsParting before starts.now records.now result }
 {
-    let (mut low, mut high) = (0, starts.len());
+    let (mut low, mut high) = bounds_by(records, starts, class, owner, guess);
+    let mut step = if high == guess { 1 } else { usize::MAX };
     while low < high {
-        let middle = low + (high - low) / 2;
+        let middle = probe(low, high, step);
         if is_before(&records[starts[middle]], class, owner) {
             low = middle + 1;
         } else {
             high = middle;
+            step = step.saturating_mul(2);
         }
     }
     low
+}
+
+/// How many owners come before at least and at most, as a look at the one at an index tells.
+fn bounds_by<N: ToName, D: RecordData + CanonicalOrd, O: ToName>(
+    records: &[Record<N, D>],
+    starts: &[usize],
+    class: Class,
+    owner: &O,
+    guess: usize,
+) -> (usize, usize)
+    requires order { let by = record_canonical_cmp N.name D.type_of D.canonical in
+        IsStrictlySortedBy by records.now }
+    requires starts { starts.now ≡ starts_in (of_one_owner N.name) records.now }
+    ensures { let before = is_before N.name class (O.name owner.now) in
+        AreBounds before starts.now records.now result.0 result.1 }
+{
+    if guess >= starts.len() {
+        return (0, starts.len());
+    }
+    if is_before(&records[starts[guess]], class, owner) {
+        return (guess + 1, starts.len());
+    }
+    (0, guess)
+}
+
+/// An index within bounds: by a step below the upper one, or half way where that is nearer.
+fn probe(low: usize, high: usize, step: usize) -> usize
+    requires some { low < high }
+    requires step { 0 < step }
+    ensures from { low ≤ result }
+    ensures below { result < high }
+{
+    let left = high - low;
+    high - step.min(left - left / 2)
 }
 
 /// Whether a record is of a lesser class, or of this class and an owner that comes before.

@@ -505,12 +505,17 @@ impl<'h, H: Nsec3Hasher> ZoneRecords<'h, H> {
         Ok(groups)
     }
 
-    /// The SOA record of the zone.
+    /// The SOA record of the zone, whose owner comes first.
     fn soa(&self, alloc: Global) -> Result<RrGroup, AllocError>
         ensures { let s = served_by H.hash_of self.now in
             IfOk result (λ g. Presents g (soa s)) }
     {
-        self.spelled_rrset(alloc, &self.apex, &self.owned(&self.apex), Rtype::SOA)
+        self.spelled_rrset(
+            alloc,
+            &self.apex,
+            &self.owned_from(&self.apex, 0),
+            Rtype::SOA,
+        )
     }
 
     /// An RRset that the zone has, its owner as spelled there.

@@ -54,13 +54,20 @@ impl<'h, H: Nsec3Hasher> ZoneRecords<'h, H> {
         Owned::found(&self.records, name)
     }
 
+    /// The same, and soon where they stand at a place or not far before it.
+    pub(super) fn owned_from<O: ToName>(&self, name: &O, place: usize) -> Owned<'_>
+        ensures { result ≡ owned_by (O.name name.now) self.now.records }
+    {
+        Owned::found_near(&self.records, name, place)
+    }
+
     /// The same, by what stands around the name: where it is no owner nothing is sought.
     pub(super) fn owned_near(&self, name: &Name<Vec<u8>>, near: &Neighbours<'_>) -> Owned<'_>
         requires { IsNear name.now self.now.records near.now }
         ensures { result ≡ owned_by name.now self.now.records }
     {
         if near.owns(name) {
-            self.owned(name)
+            self.owned_from(name, near.place())
         } else {
             Owned::none()
         }
@@ -132,7 +139,7 @@ impl<'h, H: Nsec3Hasher> ZoneRecords<'h, H> {
         if !near.shows(ancestor) {
             return None;
         }
-        match self.owned(ancestor).into_delegation() {
+        match self.owned_from(ancestor, near.place()).into_delegation() {
             Ok(cut) => Some(cut),
             Err(_) => None,
         }

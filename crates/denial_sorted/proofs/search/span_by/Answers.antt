@@ -1,6 +1,6 @@
 use Rattle.std.proofs.Common.{get_or, sym, refl, arith}
 use Rattle.denial_sorted.proofs.Spanned.{nowhere_at_end, nowhere_there, search_place, spans_there}
-use Rattle.denial_sorted.proofs.search.span_of.Goals as goal
+use Rattle.denial_sorted.proofs.search.span_by.Goals as goal
 
 pub returns-then-at-starts : goal.returns-then-at-starts
 returns-then-at-starts g c = nowhere_at_end g.N.Labels.name g.D.RecordData.type_of g.D.CanonicalOrd.canonical c.args.class (g.O.Labels.name c.args.owner.now) c.args.records.now c.args.starts.now c.requires.starts c.count_before-at.result (omega arith) c.count_before-at.ensures.1
