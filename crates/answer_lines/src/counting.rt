@@ -7,15 +7,15 @@ use std::cell::Cell;
 /// Answers as a scheme does, which is its hasher too, and counts how often it is asked to verify and to hash.
 #[derive(Drop)]
 pub struct Counting {
-    scheme: &'static TestScheme,
+    scheme: TestScheme,
     verified: Cell<u32>,
     hashed: Cell<u32>,
 }
 
 impl Counting {
-    pub fn new(scheme: &'static TestScheme) -> Counting {
+    pub fn new(scheme: &TestScheme) -> Counting {
         Counting {
-            scheme,
+            scheme: *scheme,
             verified: Cell::new(0),
             hashed: Cell::new(0),
         }
@@ -32,11 +32,11 @@ fn count(calls: &Cell<u32>) {
 }
 
 impl Scheme for Counting {
-    ghost verifies = { λ c. ⟦<TestScheme as Scheme>⟧.verifies c.scheme.now };
+    ghost verifies = { λ c. ⟦<TestScheme as Scheme>⟧.verifies c.scheme };
 
-    ghost signature_of = { λ c. ⟦<TestScheme as Scheme>⟧.signature_of c.scheme.now };
+    ghost signature_of = { λ c. ⟦<TestScheme as Scheme>⟧.signature_of c.scheme };
 
-    ghost digest_of = { λ c. ⟦<TestScheme as Scheme>⟧.digest_of c.scheme.now };
+    ghost digest_of = { λ c. ⟦<TestScheme as Scheme>⟧.digest_of c.scheme };
 
     fn sign(
         &self,
@@ -63,7 +63,7 @@ impl Scheme for Counting {
 }
 
 impl Nsec3Hasher for Counting {
-    ghost hash_of = { λ c. ⟦<TestScheme as Nsec3Hasher>⟧.hash_of c.scheme.now };
+    ghost hash_of = { λ c. ⟦<TestScheme as Nsec3Hasher>⟧.hash_of c.scheme };
 
     fn hash(
         &self,

@@ -93,7 +93,7 @@ fn by_checks<L: Ledger, M: Ledger>(
 }
 
 /// What `judge` says.
-fn counted(alloc: Global, case: &Case, scheme: &'static TestScheme) -> Option<String> {
+fn counted(alloc: Global, case: &Case, scheme: &TestScheme) -> Option<String> {
     let counting = Counting::new(scheme);
     let (first, second) = (Blank::new(1), Blank::new(1));
     let judged = by_checks::<Brand, Brand>(alloc, case, &counting, first, second);
@@ -101,14 +101,14 @@ fn counted(alloc: Global, case: &Case, scheme: &'static TestScheme) -> Option<St
 }
 
 /// What `judge_with` says.
-fn by_scheme(alloc: Global, case: &Case, scheme: &'static TestScheme) -> Option<String> {
+fn by_scheme(alloc: Global, case: &Case, scheme: &TestScheme) -> Option<String> {
     let counting = Counting::new(scheme);
     let judged = judge_with(alloc, &counting, &counting, case);
     outcome(alloc, &judged, counting.calls())
 }
 
 /// What both say, where they say the same.
-fn said(alloc: Global, case: &Case, scheme: &'static TestScheme) -> Option<String> {
+fn said(alloc: Global, case: &Case, scheme: &TestScheme) -> Option<String> {
     let said = by_scheme(alloc, case, scheme)?;
     let other = counted(alloc, case, scheme)?;
     if said.as_str() != other.as_str() {

@@ -6,7 +6,7 @@ use std::alloc::{AllocError, Global};
 
 /// A signature is a copy of the octets that it is made over, the digest of the one known type is the octet 7, and so is each
 /// hash.
-#[derive(Drop)]
+#[derive(Clone, Copy)]
 pub struct TestScheme {
     pub signs: bool,
     /// In a signature the octets of its key stand before the copy.
