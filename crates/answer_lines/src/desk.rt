@@ -3,6 +3,7 @@
 use crate::scheme::{TestScheme, scheme_of};
 use crate::words::{done, name_of, printed, refused};
 use crate::zone::{numbered, record, soa};
+use answer::denial::Nsec3Salt;
 use answer::{AnswerFault, Mode, Name, Publisher, ZoneFault, ZoneRecord};
 use std::alloc::Global;
 
@@ -37,7 +38,8 @@ impl Desk {
             "soa" => self.records.push(soa(alloc, words)?).ok()?,
             "rr" => self.records.push(record(alloc, words)?).ok()?,
             "addresses" => self.put_addresses(alloc, words)?,
-            _ => return self.publish(alloc, words),
+            "publish" => return self.publish(alloc, Mode::Nsec, words),
+            _ => return self.publish(alloc, by_hashes(alloc)?, words),
         }
         done(alloc)
     }
@@ -65,14 +67,15 @@ impl Desk {
         Some(())
     }
 
-    /// Publishes the zone.
-    fn publish(&mut self, alloc: Global, words: &[&str]) -> Option<String> {
+    /// Publishes the zone with a chain.
+    fn publish(&mut self, alloc: Global, mode: Mode, words: &[&str]) -> Option<String> {
         let [life, scheme] = words else {
             return None;
         };
         let life = life.parse::<u32>().ok()?;
         let records = std::mem::replace(&mut self.records, Vec::new(alloc));
-        match published(alloc, self.apex.take()?, records, life, scheme_of(scheme)?)? {
+        let scheme = scheme_of(scheme)?;
+        match published(alloc, self.apex.take()?, records, mode, life, scheme)? {
             Ok(publisher) => {
                 self.publisher = Some(publisher);
                 done(alloc)
@@ -112,16 +115,26 @@ impl Desk {
     }
 }
 
+/// A chain of hashes, without salt and further iterations.
+fn by_hashes(alloc: Global) -> Option<Mode> {
+    Some(Mode::Nsec3 {
+        iterations: 0,
+        salt: Nsec3Salt::from_octets(Vec::new(alloc)).ok()?,
+        opt_out: false,
+    })
+}
+
 /// The publisher of a zone; none for signatures whose end could not be told from their beginning.
 fn published(
     alloc: Global,
     apex: Name<Vec<u8>>,
     records: Vec<ZoneRecord>,
+    mode: Mode,
     life: u32,
     scheme: &'static TestScheme,
 ) -> Option<Result<TestPublisher, ZoneFault>> {
     if life > 0x7fff_ffff {
         return None;
     }
-    Some(Publisher::new(alloc, apex, records, Mode::Nsec, scheme, scheme, 0, life))
+    Some(Publisher::new(alloc, apex, records, mode, scheme, scheme, 0, life))
 }

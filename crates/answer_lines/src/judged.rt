@@ -1,10 +1,11 @@
 //! Judgements.
 ghost use Rattle.std.specs.Prelude.{◌≡◌, ◌<◌};
 
+use crate::counting::Counting;
 use crate::desk::Desk;
-use crate::scheme::{TestScheme, WELL};
+use crate::scheme::{TestScheme, WELL, scheme_of};
 use crate::shown::question;
-use crate::words::{listed, moment, name_of, printed, refused, yes_or_no};
+use crate::words::{listed, moment, name_of, printed, refused, words, yes_or_no};
 use answer::{
     Case, Class, DataList, DigestAlgorithm, Ds, Judgement, Name, Question, Refused, Rtype,
     SchemeChecks, SecurityAlgorithm, UnixTime, Verdict, is_allowed, judge, judge_with,
@@ -35,13 +36,13 @@ impl Asked {
         })
     }
 
-    /// The same beside the messages that are held.
-    fn beside<'a>(&'a self, desk: &'a Desk) -> Case<'a> {
+    /// The same beside two messages.
+    fn of<'a>(&'a self, dnskey: &'a [u8], answer: &'a [u8]) -> Case<'a> {
         Case {
             apex: &self.apex,
             ds: &self.set,
-            dnskey: &desk.keys,
-            answer: &desk.answer,
+            dnskey,
+            answer,
             question: &self.question,
             moment: self.now,
             limit: 0,
@@ -63,13 +64,10 @@ fn ds_set(alloc: Global, list: &str) -> Option<Vec<Ds<Vec<u8>>>> {
     Some(set)
 }
 
-fn by_scheme(alloc: Global, case: &Case) -> Result<Judgement, Refused> {
-    judge_with(alloc, WELL, WELL, case)
-}
-
 fn by_checks<L: Ledger, M: Ledger>(
     alloc: Global,
     case: &Case,
+    scheme: &Counting,
     first: Blank,
     second: Blank,
 ) -> Result<Judgement, Refused>
@@ -80,7 +78,7 @@ fn by_checks<L: Ledger, M: Ledger>(
     requires second_parts { second.parts ≡ M.parts }
     requires second_some { 0 < M.parts }
 {
-    let mut checks = SchemeChecks::<TestScheme, TestScheme, L, M>::new(WELL, WELL, first, second);
+    let mut checks = SchemeChecks::<Counting, Counting, L, M>::new(scheme, scheme, first, second);
     judge(
         alloc,
         case.apex,
@@ -94,24 +92,81 @@ fn by_checks<L: Ledger, M: Ledger>(
     )
 }
 
-fn counted(alloc: Global, case: &Case) -> Result<Judgement, Refused> {
-    by_checks::<Brand, Brand>(alloc, case, Blank::new(1), Blank::new(1))
+/// What `judge` says.
+fn counted(alloc: Global, case: &Case, scheme: &TestScheme) -> Option<String> {
+    let counting = Counting::new(scheme);
+    let (first, second) = (Blank::new(1), Blank::new(1));
+    let judged = by_checks::<Brand, Brand>(alloc, case, &counting, first, second);
+    outcome(alloc, &judged, counting.calls())
 }
 
-/// What `judge_with` and `judge` say of the messages that are held, where they say the same.
-pub fn judged(alloc: Global, desk: &Desk, words: &[&str]) -> Option<String> {
-    let asked = Asked::read(alloc, words)?;
-    let case = asked.beside(desk);
-    let said = outcome(alloc, &by_scheme(alloc, &case))?;
-    let other = outcome(alloc, &counted(alloc, &case))?;
+/// What `judge_with` says.
+fn by_scheme(alloc: Global, case: &Case, scheme: &TestScheme) -> Option<String> {
+    let counting = Counting::new(scheme);
+    let judged = judge_with(alloc, &counting, &counting, case);
+    outcome(alloc, &judged, counting.calls())
+}
+
+/// What both say, where they say the same.
+fn said(alloc: Global, case: &Case, scheme: &TestScheme) -> Option<String> {
+    let said = by_scheme(alloc, case, scheme)?;
+    let other = counted(alloc, case, scheme)?;
     if said.as_str() != other.as_str() {
-        return format!(in alloc; "{said}, but by counts {other}").ok();
+        return format!(in alloc; "{said}, but by checks {other}").ok();
     }
     Some(said)
 }
 
-/// What was answered, and how often was verified and hashed.
-fn outcome(alloc: Global, judged: &Result<Judgement, Refused>) -> Option<String> {
+/// What is said of the messages that are held.
+pub fn judged(alloc: Global, desk: &Desk, words: &[&str]) -> Option<String> {
+    let asked = Asked::read(alloc, words)?;
+    said(alloc, &asked.of(&desk.keys, &desk.answer), WELL)
+}
+
+/// The same by the scheme of the first word.
+pub fn judged_by(alloc: Global, desk: &Desk, rest: &str) -> Option<String> {
+    let (scheme, rest) = rest.split_once(' ')?;
+    let asked = Asked::read(alloc, &words(alloc, rest)?)?;
+    said(
+        alloc,
+        &asked.of(&desk.keys, &desk.answer),
+        scheme_of(scheme)?,
+    )
+}
+
+/// What is said of each proper beginning of the DNSKEY answer that is held, then of the zone answer.
+pub fn cuts(alloc: Global, desk: &Desk, words: &[&str]) -> Option<String> {
+    let asked = Asked::read(alloc, words)?;
+    let (mut of_keys, mut of_answers) = (Vec::new(alloc), Vec::new(alloc));
+    for length in 0..desk.keys.len() {
+        let case = asked.of(desk.keys.get(..length)?, &desk.answer);
+        of_keys.push(said(alloc, &case, WELL)?).ok()?;
+    }
+    for length in 0..desk.answer.len() {
+        let case = asked.of(&desk.keys, desk.answer.get(..length)?);
+        of_answers.push(said(alloc, &case, WELL)?).ok()?;
+    }
+    let (of_keys, of_answers) = (together(alloc, &of_keys)?, together(alloc, &of_answers)?);
+    format!(in alloc; "{of_keys} | {of_answers}").ok()
+}
+
+/// The first of some texts, and how many of all are like it.
+fn together(alloc: Global, texts: &[String]) -> Option<String> {
+    let (first, all, mut like) = (texts.first()?, texts.len(), 0usize);
+    for text in texts {
+        if text.as_str() == first.as_str() {
+            like = like.saturating_add(1);
+        }
+    }
+    format!(in alloc; "{like} of {all} {first}").ok()
+}
+
+/// What was answered, and how often was verified and hashed, as it was answered and, where that is otherwise, counted.
+fn outcome(
+    alloc: Global,
+    judged: &Result<Judgement, Refused>,
+    calls: (u32, u32),
+) -> Option<String> {
     let (said, verifications, hashes) = match judged {
         Ok(judgement) => (
             verdict(alloc, &judgement.verdict)?,
@@ -124,6 +179,10 @@ fn outcome(alloc: Global, judged: &Result<Judgement, Refused>) -> Option<String>
             answer.hashes,
         ),
     };
+    let (verified, hashed) = calls;
+    if verified != verifications || hashed != hashes {
+        return format!(in alloc; "{said}; {verified} verified, {hashed} hashed by count").ok();
+    }
     format!(in alloc; "{said}; {verifications} verified, {hashes} hashed").ok()
 }
 

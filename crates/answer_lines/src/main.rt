@@ -2,12 +2,14 @@
 //! with what was worked out by hand.
 //!
 //! Names are texts, octets hexadecimal digits (`07*3` for `070707`, `-` for none), lists are joined by commas, moments are
-//! seconds. A signature is a copy of the octets that it is made over, and a digest of type 2 the octet 7.
+//! seconds. A signature is a copy of the octets that it is made over, and a digest of type 2 the octet 7. The scheme `well`
+//! signs, digests, and hashes no name. `no-digest` and `no-signature` fail at that too, `one-hash` hashes each name to the
+//! octet 7, and with `keyed` the octets of a signature's key stand before the copy.
 //!
 //! - `zone NAME`: begins a zone; `soa OWNER SERIAL`, `rr OWNER CLASS TTL TYPE OCTETS`: its records; `addresses COUNT`: so many
 //!   addresses, at owners whose first label is the four octets of their number.
-//! - `publish LIFE SCHEME`: publishes the zone, signatures living so long; `well` signs and digests, `no-digest` and
-//!   `no-signature` fail at that.
+//! - `publish LIFE SCHEME`: publishes the zone with a chain of names, signatures living so long; `publish-hashed LIFE SCHEME`:
+//!   with one of hashes.
 //! - `ksk KEY PRIVATE OCTETS`, `zsk KEY PRIVATE OCTETS`, `start ROLL OLD NEW MOMENT`, `report1 ROLL TTL MOMENT`,
 //!   `wait1 ROLL MOMENT`, `report2 ROLL TTL MOMENT`, `wait2 ROLL MOMENT`, `done ROLL`: calls on its keys; `owed ROLL`: the
 //!   actions of its last step; `key KEY`: whether a key is there; `apex`: whose keys they are.
@@ -17,7 +19,9 @@
 //! - `ds`, `dnskey MOMENT`, `answer NAME TYPE MOMENT`: what is handed out; both answers are held, and are judged.
 //! - `keys OCTETS`, `message OCTETS`: holds these messages in their place.
 //! - `judge APEX DS NAME TYPE MOMENT`: what is said of the messages that are held, beside a list of DS records, each a tag
-//!   and a type of digest, as `1054:2`.
+//!   and a type of digest, as `1054:2`; `judge-by SCHEME APEX DS NAME TYPE MOMENT`: by another scheme than `well`;
+//!   `cuts APEX DS NAME TYPE MOMENT`: what is said of no octets in place of the DNSKEY answer, and how many of its beginnings
+//!   that is said of; then the same of the zone answer.
 //! - `allowed APEX NAME TYPE CLASS`: whether a question is.
 //! - `session LINE`, `session-octets OCTETS`: reads a session of the zone `example` and a line; `sessions COUNT LINE`: makes
 //!   one with so many times the line.
@@ -28,6 +32,7 @@
 #![tactic(auto)]
 
 mod calls;
+mod counting;
 mod desk;
 mod faults;
 mod given;
@@ -53,7 +58,7 @@ fn reply(alloc: Global, desk: &mut Desk, line: &str) -> Option<String> {
         "sessions" => sessions::many(alloc, rest),
         "faults" => faults::faults(alloc, rest),
         "flags" => faults::flags(alloc),
-        "zone" | "soa" | "rr" | "addresses" | "publish" => {
+        "zone" | "soa" | "rr" | "addresses" | "publish" | "publish-hashed" => {
             desk.zone_line(alloc, name, &words(alloc, rest)?)
         }
         "keys" => desk.take_keys(alloc, &words(alloc, rest)?),
@@ -61,6 +66,8 @@ fn reply(alloc: Global, desk: &mut Desk, line: &str) -> Option<String> {
         "dnskey" => desk.dnskey(alloc, &words(alloc, rest)?),
         "answer" => desk.ask(alloc, &words(alloc, rest)?),
         "judge" => judged::judged(alloc, desk, &words(alloc, rest)?),
+        "judge-by" => judged::judged_by(alloc, desk, rest),
+        "cuts" => judged::cuts(alloc, desk, &words(alloc, rest)?),
         "allowed" => judged::allowed(alloc, &words(alloc, rest)?),
         _ => on_keys(alloc, desk, name, &words(alloc, rest)?),
     }
