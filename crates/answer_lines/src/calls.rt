@@ -1,8 +1,9 @@
 //! Calls on the keys of a publisher.
 
 use crate::desk::TestPublisher;
-use crate::words::{done, listed, moment, octets_of, refused, text_of};
+use crate::words::{moment, octets_of, text_of};
 use answer::{Action, Available, KeyFault, RollType, SecurityAlgorithm, UnixTime};
+use line_words::{listed, refused, text};
 use std::alloc::Global;
 use std::time::Duration;
 
@@ -16,14 +17,14 @@ pub fn add(
     let [reference, private, octets] = words else {
         return None;
     };
-    let reference = String::from_str(alloc, reference).ok()?;
+    let reference = text(alloc, reference)?;
     let private = match *private {
         "-" => None,
         private => Some(text_of(alloc, private)?),
     };
     let octets = octets_of(alloc, octets)?;
     match added(publisher, kind, reference, private, octets)? {
-        Ok(()) => done(alloc),
+        Ok(()) => text(alloc, "ok"),
         Err(fault) => refused(alloc, &fault),
     }
 }
@@ -130,7 +131,7 @@ pub fn key(alloc: Global, publisher: &TestPublisher, words: &[&str]) -> Option<S
         return None;
     };
     let Some(key) = publisher.key_set().key(reference) else {
-        return String::from_str(alloc, "no key").ok();
+        return text(alloc, "no key");
     };
     let (tag, private) = (key.key_tag(), key.privref().map_or(0, |text| text.len()));
     format!(in alloc; "tag {tag}, private reference of {private} letters").ok()

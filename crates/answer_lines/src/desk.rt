@@ -1,10 +1,11 @@
 //! What the lines so far made: the records of a zone, its publisher, and what was handed out last.
 
 use crate::scheme::{TestScheme, scheme_of};
-use crate::words::{done, name_of, printed, refused};
+use crate::words::{name_of, printed};
 use crate::zone::{numbered, record, soa};
 use answer::denial::Nsec3Salt;
 use answer::{AnswerFault, Mode, Name, Publisher, ZoneFault, ZoneRecord};
+use line_words::{refused, text};
 use std::alloc::Global;
 
 pub type TestPublisher = Publisher<'static, TestScheme, TestScheme>;
@@ -41,7 +42,7 @@ impl Desk {
             "publish" => return self.publish(alloc, Mode::Nsec, words),
             _ => return self.publish(alloc, by_hashes(alloc)?, words),
         }
-        done(alloc)
+        text(alloc, "ok")
     }
 
     /// Begins a zone without records.
@@ -78,7 +79,7 @@ impl Desk {
         match published(alloc, self.apex.take()?, records, mode, life, scheme)? {
             Ok(publisher) => {
                 self.publisher = Some(publisher);
-                done(alloc)
+                text(alloc, "ok")
             }
             Err(fault) => refused(alloc, &fault),
         }

@@ -4,37 +4,25 @@ use answer::denial::SigningError;
 use answer::keyset::Error;
 use answer::names::LongRecordData;
 use answer::{AnswerFault, HashError, KeyFault, KeyKind, Refusal, SchemeError, ZoneFault};
+use line_words::joined;
 use messages::MessageError;
 use session_lines::line_error::LineFault;
 use session_lines::session::SessionError;
 use std::alloc::Global;
-use std::fmt::Display;
-
-/// The texts of faults, one behind another.
-fn texts<F: Display>(alloc: Global, faults: &[F]) -> Option<String> {
-    let mut text = String::new(alloc);
-    for fault in faults {
-        if !text.is_empty() {
-            text.push_str("; ").ok()?;
-        }
-        text.push_str(&fault.to_string(alloc).ok()?).ok()?;
-    }
-    Some(text)
-}
 
 /// The texts of the faults of a kind, in the order in which its enum has them.
 pub fn faults(alloc: Global, kind: &str) -> Option<String> {
     match kind {
-        "zone" => texts(alloc, &zone_faults()),
-        "chain" => texts(alloc, &chain_faults()),
-        "hash" => texts(alloc, &[HashError::Failed, HashError::Memory]),
-        "scheme" => texts(alloc, &[SchemeError::Failed, SchemeError::Memory]),
-        "data" => texts(alloc, &[LongRecordData]),
-        "answer" => texts(alloc, &answer_faults()),
-        "key" => texts(alloc, &key_faults()),
-        "judge" => texts(alloc, &refusals()),
-        "message" => texts(alloc, &message_errors()),
-        "session" => texts(alloc, &session_errors()),
+        "zone" => joined(alloc, &zone_faults(), "; "),
+        "chain" => joined(alloc, &chain_faults(), "; "),
+        "hash" => joined(alloc, &[HashError::Failed, HashError::Memory], "; "),
+        "scheme" => joined(alloc, &[SchemeError::Failed, SchemeError::Memory], "; "),
+        "data" => joined(alloc, &[LongRecordData], "; "),
+        "answer" => joined(alloc, &answer_faults(), "; "),
+        "key" => joined(alloc, &key_faults(), "; "),
+        "judge" => joined(alloc, &refusals(), "; "),
+        "message" => joined(alloc, &message_errors(), "; "),
+        "session" => joined(alloc, &session_errors(), "; "),
         _ => None,
     }
 }

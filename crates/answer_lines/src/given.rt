@@ -1,7 +1,8 @@
 //! Messages that a line spells.
 
 use crate::desk::Desk;
-use crate::words::{done, octets_of, refused};
+use crate::words::octets_of;
+use line_words::{refused, text};
 use messages::read_message;
 use std::alloc::Global;
 
@@ -12,7 +13,7 @@ impl Desk {
             return None;
         };
         self.keys = octets_of(alloc, octets)?;
-        done(alloc)
+        text(alloc, "ok")
     }
 
     /// Takes a zone answer, and says how many records it has.

@@ -5,11 +5,12 @@ use crate::counting::Counting;
 use crate::desk::Desk;
 use crate::scheme::{TestScheme, WELL, scheme_of};
 use crate::shown::question;
-use crate::words::{listed, moment, name_of, printed, refused, words, yes_or_no};
+use crate::words::{moment, name_of, printed};
 use answer::{
     Case, Class, DataList, DigestAlgorithm, Ds, Judgement, Name, Question, Refused, Rtype,
     SchemeChecks, SecurityAlgorithm, UnixTime, Verdict, is_allowed, judge, judge_with,
 };
+use line_words::{listed, refused, text, words, yes_or_no};
 use std::alloc::Global;
 use std::marker::Brand;
 use std::sync::ledger::{Blank, Ledger};
@@ -189,23 +190,23 @@ fn outcome(
 fn verdict(alloc: Global, verdict: &Verdict) -> Option<String> {
     match verdict {
         Verdict::Records(list) => with_data(alloc, "records", list),
-        Verdict::NoType => String::from_str(alloc, "no type").ok(),
-        Verdict::NoName => String::from_str(alloc, "no name").ok(),
+        Verdict::NoType => text(alloc, "no type"),
+        Verdict::NoName => text(alloc, "no name"),
         Verdict::StarRecords(list) => with_data(alloc, "records of a wildcard", list),
-        Verdict::StarNoType => String::from_str(alloc, "no type at a wildcard").ok(),
-        Verdict::Delegated => String::from_str(alloc, "delegated").ok(),
-        Verdict::Open => String::from_str(alloc, "open").ok(),
-        Verdict::Unsigned => String::from_str(alloc, "unsigned").ok(),
+        Verdict::StarNoType => text(alloc, "no type at a wildcard"),
+        Verdict::Delegated => text(alloc, "delegated"),
+        Verdict::Open => text(alloc, "open"),
+        Verdict::Unsigned => text(alloc, "unsigned"),
     }
 }
 
 fn with_data(alloc: Global, word: &str, list: &DataList) -> Option<String> {
-    let mut text = String::from_str(alloc, word).ok()?;
+    let mut said = text(alloc, word)?;
     for octets in list.as_slice() {
-        text.push(' ').ok()?;
-        text.push_str(&printed(alloc, octets)?).ok()?;
+        said.push(' ').ok()?;
+        said.push_str(&printed(alloc, octets)?).ok()?;
     }
-    Some(text)
+    Some(said)
 }
 
 /// Whether a question is allowed.
@@ -218,5 +219,6 @@ pub fn allowed(alloc: Global, words: &[&str]) -> Option<String> {
         rtype: Rtype::from_int(rtype.parse::<u16>().ok()?),
         class: Class::from_int(class.parse::<u16>().ok()?),
     };
-    yes_or_no(alloc, is_allowed(&name_of(alloc, apex)?, &question))
+    let is_so = is_allowed(&name_of(alloc, apex)?, &question);
+    text(alloc, yes_or_no(is_so))
 }

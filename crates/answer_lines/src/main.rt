@@ -45,9 +45,9 @@ mod words;
 mod zone;
 
 use desk::Desk;
+use line_words::words;
 use std::alloc::Global;
 use std::io;
-use words::words;
 
 /// What is printed behind a line, if it can be read.
 fn reply(alloc: Global, desk: &mut Desk, line: &str) -> Option<String> {

@@ -1,8 +1,9 @@
 //! Sessions of a few lines, and of many.
 
 use crate::scheme::WELL;
-use crate::words::{octets_of, refused};
+use crate::words::octets_of;
 use answer::{Act, Event, Outcome, simulate};
+use line_words::{refused, text};
 use session_lines::session::{Session, read_session};
 use std::alloc::Global;
 use std::time::Duration;
@@ -34,7 +35,7 @@ fn read(alloc: Global, line: &[u8]) -> Option<String> {
 /// The one event of a session.
 fn event(alloc: Global, events: &[Event]) -> Option<String> {
     let [event] = events else {
-        return String::from_str(alloc, "not one event").ok();
+        return text(alloc, "not one event");
     };
     let seconds = Duration::from(event.at).as_secs();
     match &event.act {

@@ -1,23 +1,16 @@
 //! What is set of a publisher's keys by hand, and what its references are bound to.
 
 use crate::desk::TestPublisher;
-use crate::words::{done, moment, octets_of, refused};
+use crate::words::{moment, octets_of};
 use answer::{KeyFault, SecurityAlgorithm, UnixTime};
+use line_words::{is_yes, refused, text};
 use std::alloc::Global;
 use std::time::Duration;
 
 fn answered(alloc: Global, answered: Result<(), KeyFault>) -> Option<String> {
     match answered {
-        Ok(()) => done(alloc),
+        Ok(()) => text(alloc, "ok"),
         Err(fault) => refused(alloc, &fault),
-    }
-}
-
-fn is_yes(word: &str) -> Option<bool> {
-    match word {
-        "yes" => Some(true),
-        "no" => Some(false),
-        _ => None,
     }
 }
 
@@ -26,7 +19,7 @@ pub fn include(alloc: Global, publisher: &mut TestPublisher, words: &[&str]) -> 
     let [reference, octets, available] = words else {
         return None;
     };
-    let reference = String::from_str(alloc, reference).ok()?;
+    let reference = text(alloc, reference)?;
     let octets = octets_of(alloc, octets)?;
     if octets.len() > 65_531 {
         return None;
@@ -110,6 +103,6 @@ pub fn bound(alloc: Global, publisher: &TestPublisher, words: &[&str]) -> Option
     };
     match publisher.dnskey_of(reference) {
         Some(key) => key.to_string(alloc).ok(),
-        None => String::from_str(alloc, "no key").ok(),
+        None => text(alloc, "no key"),
     }
 }

@@ -3,6 +3,7 @@
 use crate::desk::{Desk, TestPublisher};
 use crate::words::{moment, name_of};
 use answer::{Class, Question, Rtype};
+use line_words::joined;
 use std::alloc::Global;
 
 /// A question of class IN.
@@ -16,17 +17,7 @@ pub fn question(alloc: Global, name: &str, rtype: &str) -> Option<Question> {
 
 /// The DS set, as its records are printed.
 pub fn ds_set(alloc: Global, publisher: &TestPublisher) -> Option<String> {
-    let mut text = String::new(alloc);
-    for ds in &publisher.ds_set().ok()? {
-        if !text.is_empty() {
-            text.push_str(", ").ok()?;
-        }
-        text.push_str(&ds.to_string(alloc).ok()?).ok()?;
-    }
-    if text.is_empty() {
-        text.push('-').ok()?;
-    }
-    Some(text)
+    joined(alloc, &publisher.ds_set().ok()?, ", ")
 }
 
 impl Desk {

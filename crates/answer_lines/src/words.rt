@@ -7,22 +7,6 @@ use std::time::Duration;
 /// The most octets that are printed each; of more, only how many they are.
 const MOST_PRINTED: usize = 1000;
 
-/// The words of a line, between blanks.
-pub fn words(alloc: Global, line: &str) -> Option<Vec<&str>> {
-    if line.is_empty() {
-        return Some(Vec::new(alloc));
-    }
-    line.split(' ').collect(alloc).ok()
-}
-
-/// The words of a list, between commas; of `-` none.
-pub fn listed(alloc: Global, list: &str) -> Option<Vec<&str>> {
-    match list {
-        "-" => Some(Vec::new(alloc)),
-        list => list.split(',').collect(alloc).ok(),
-    }
-}
-
 /// A name of its text (RFC 1035, 5.1).
 pub fn name_of(alloc: Global, text: &str) -> Option<Name<Vec<u8>>> {
     Name::vec_from_str(alloc, text).ok()
@@ -54,12 +38,9 @@ pub fn text_of(alloc: Global, word: &str) -> Option<String> {
 
 /// The octets of hexadecimal digits, `07*3` for `070707`; `-` is no octet.
 pub fn octets_of(alloc: Global, word: &str) -> Option<Vec<u8>> {
-    let mut octets = Vec::new(alloc);
-    if word == "-" {
-        return Some(octets);
-    }
     let (digits, count) = repeated(word)?;
-    let part = hex::decode(alloc, digits).ok()?;
+    let part = line_words::octets_of(alloc, digits)?;
+    let mut octets = Vec::new(alloc);
     for _ in 0..count {
         octets.extend_from_slice(&part).ok()?;
     }
@@ -69,26 +50,8 @@ pub fn octets_of(alloc: Global, word: &str) -> Option<Vec<u8>> {
 /// The hexadecimal digits of octets; of none `-`, of many how many they are.
 pub fn printed(alloc: Global, octets: &[u8]) -> Option<String> {
     let count = octets.len();
-    if count == 0 {
-        return String::from_str(alloc, "-").ok();
-    }
     if count > MOST_PRINTED {
         return format!(in alloc; "{count} octets").ok();
     }
-    hex::encode(alloc, octets).ok()
-}
-
-/// `yes` or `no`.
-pub fn yes_or_no(alloc: Global, is_so: bool) -> Option<String> {
-    String::from_str(alloc, if is_so { "yes" } else { "no" }).ok()
-}
-
-/// What is printed where nothing is to be said.
-pub fn done(alloc: Global) -> Option<String> {
-    String::from_str(alloc, "ok").ok()
-}
-
-/// Why something was refused.
-pub fn refused<F: std::fmt::Display>(alloc: Global, fault: &F) -> Option<String> {
-    format!(in alloc; "refused: {fault}").ok()
+    line_words::printed(alloc, octets)
 }
