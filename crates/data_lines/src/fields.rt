@@ -48,7 +48,10 @@ pub fn times(alloc: Global, line: &str) -> Option<String> {
     let (first, second) = line.split_once(' ')?;
     let first = Timestamp::from(first.parse::<u32>().ok()?);
     let second = Timestamp::from(second.parse::<u32>().ok()?);
-    let order = first.partial_cmp(&second).map_or("none", order_word);
+    let order = match first.partial_cmp(&second) {
+        Some(order) => order_word(order),
+        None => "none",
+    };
     let canonical = order_word(first.canonical_cmp(&second));
     format!(in alloc; "{order} {canonical}").ok()
 }
