@@ -1,5 +1,5 @@
 -- The names of a chain with their hashes (RFC 5155, 7.1).
-use Rattle.std.specs.Prelude.{◌≡◌, ◌↔◌, ℕ, Bool, true, false, List, map, Some, IsTrue}
+use Rattle.std.specs.Prelude.{◌≡◌, ◌↔◌, ℕ, Bool, true, false, List, map, not, Some, IsTrue}
 use Rattle.std.specs.Str.{bytes_eq}
 use Rattle.std.specs.List.{AllByRecursion, Contains, list_any}
 use Rattle.std.specs.Option.{is_none}
@@ -39,6 +39,9 @@ has_lesser_hash a b = octets_before a.hash.items b.hash.items
 
 abbrev pub has_greater_hash : {N D : Type 0} → HashedName N D → HashedName N D → Bool
 has_greater_hash a b = has_lesser_hash b a
+
+abbrev pub is_not_lesser : {N D : Type 0} → HashedName N D → HashedName N D → Bool
+is_not_lesser a b = not (has_lesser_hash a b)
 
 -- the names of the chain of some owners
 abbrev pub chain_names_of : {N D : Type 0} → (N → Name) → List (List (Record N D)) → List Name

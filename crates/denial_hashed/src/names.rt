@@ -54,6 +54,7 @@ impl<'g, 'a, N: ToName, D: RecordData> ChainName<'g, 'a, N, D> {
 
 /// The names of the chain of owners in canonical order, of which the apex is the first: each owner, and before it the
 /// names that it stands under and the owner before it doesn't, the shortest first.
+#[inline(never)]
 pub fn chain_names<'g, 'a, N: ToName, D: RecordData>(
     alloc: Global,
     owners: &'g [OwnerRrs<'a, N, D>],

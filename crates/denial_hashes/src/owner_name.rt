@@ -38,7 +38,11 @@ pub fn hashed_owner<N: Absolute>(
     if hash.len() > 39 {
         return Err(HashedOwnerError::DoesNotFit);
     }
-    let room = 1 + usize::from(digit_count(hash)) + usize::from(apex.compose_len());
+    let digits = usize::from(digit_count(hash));
+    let room = match apex.label_row() {
+        Some(row) => 1 + digits + row.len(),
+        None => 1 + digits + usize::from(apex.compose_len()),
+    };
     let Ok(mut octets) = Vec::with_capacity(alloc, room) else {
         return Err(HashedOwnerError::Memory);
     };

@@ -43,6 +43,7 @@ struct Begun<'g, 'a, N: ToName, D> {
 }
 
 /// A record for each name, which leads to the next one, the last to the first.
+#[inline(never)]
 pub(crate) fn nsec3s_of<'g, 'a, 'c, N: ToName, D: RecordData, S: Octets>(
     alloc: Global,
     apex: &N,
@@ -78,6 +79,7 @@ pub(crate) fn nsec3s_of<'g, 'a, 'c, N: ToName, D: RecordData, S: Octets>(
 }
 
 /// What is known of the record of a name.
+#[inline(always)]
 fn begin<'g, 'a, N: ToName, D: RecordData>(
     alloc: Global,
     apex: &N,
@@ -98,6 +100,7 @@ fn begin<'g, 'a, N: ToName, D: RecordData>(
 }
 
 /// Adds a record that was begun and leads to a hash.
+#[inline(always)]
 fn push_link<'g, 'a, 'c, N: ToName, D: RecordData, S: Octets>(
     alloc: Global,
     records: &mut Vec<Record<Name<Vec<u8>>, Nsec3<Vec<u8>>>>,
@@ -154,6 +157,9 @@ pub(crate) fn copied_salt<S: Octets>(
 ) -> Result<Nsec3Salt<Vec<u8>>, AllocError>
     ensures { IfOk result (λ s. s ≡ salt.now) }
 {
+    if salt.as_slice().is_empty() {
+        return Ok(Nsec3Salt::empty(alloc));
+    }
     let octets = Vec::from_slice(alloc, salt.as_slice())?;
     match Nsec3Salt::from_octets(octets) {
         Ok(salt) => Ok(salt),

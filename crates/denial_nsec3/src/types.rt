@@ -62,6 +62,16 @@ fn add_group<'a, N: ToName, D: RecordData>(
     add_types(types, apex, owner)
 }
 
+/// No types, with room for those of most owners: RRSIG is the highest of them.
+fn none_with_room(alloc: Global) -> Result<RtypeBitmapBuilder<Vec<u8>>, ShortBuf>
+    ensures { IfOk result (λ types. types ≡ bitmap []) }
+{
+    match Vec::with_capacity(alloc, 8) {
+        Ok(octets) => Ok(RtypeBitmapBuilder::with_builder(octets)),
+        Err(_) => Err(ShortBuf),
+    }
+}
+
 /// The bits of a name of the chain: none where it is no owner of records.
 pub(crate) fn types_of<'g, 'a, N: ToName, D: RecordData>(
     alloc: Global,
@@ -76,6 +86,7 @@ pub(crate) fn types_of<'g, 'a, N: ToName, D: RecordData>(
 {
     let mut types = RtypeBitmapBuilder::new(alloc);
     if let Some(owner) = name.records() {
+        types = none_with_room(alloc)?;
         add_group(&mut types, apex, dnskey, owner)?;
     }
     Ok(types.finalize())
