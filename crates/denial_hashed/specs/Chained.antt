@@ -37,9 +37,6 @@ have_one_hash a b = bytes_eq a.hash.items b.hash.items
 abbrev pub has_lesser_hash : {N D : Type 0} → HashedName N D → HashedName N D → Bool
 has_lesser_hash a b = octets_before a.hash.items b.hash.items
 
-abbrev pub has_greater_hash : {N D : Type 0} → HashedName N D → HashedName N D → Bool
-has_greater_hash a b = has_lesser_hash b a
-
 abbrev pub is_not_lesser : {N D : Type 0} → HashedName N D → HashedName N D → Bool
 is_not_lesser a b = not (has_lesser_hash a b)
 
