@@ -117,10 +117,10 @@ module _ (apex q : Name) (hash : Name → List ℕ) where
     where
       go : (o : Option Verdict) → AllByRecursion Concerns (elim o as (λ _. List Name) [
         | Some v ↦ []
-        | None ↦ elim (list_any (encloses (hash (low p))) fs && asks_star (hash (low closer)) fs && not (same (star_under p) closer)) [ true ↦ star_under p ∷ [] | false ↦ [] ]
+        | None ↦ elim (list_any (encloses (hash (low p))) fs && asks_star (hash (low closer)) fs) [ true ↦ star_under p ∷ [] | false ↦ [] ]
       ])
       go (Some v) = tt
-      go None = star_or_none p (list_any (encloses (hash (low p))) fs && asks_star (hash (low closer)) fs && not (same (star_under p) closer)) (star_concerns p i a)
+      go None = star_or_none p (list_any (encloses (hash (low p))) fs && asks_star (hash (low closer)) fs) (star_concerns p i a)
 
   climbing_concerns : (m : Name) (fs : List HashLink) → at_or_above apex m ≡ true → at_or_above m q ≡ true → AllByRecursion Concerns (hashed_climbing apex hash m fs)
   climbing_concerns [] fs i a = tt

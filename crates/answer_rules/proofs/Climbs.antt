@@ -1,6 +1,6 @@
 -- Going up from a name that no record matches.
 use Rattle.std.proofs.Common.{◌≡◌, ℕ, Bool, true, false, ◌&&◌, List, [], ◌∷◌, drop, refl, sym, ap, ◌∙◌}
-use Rattle.std.specs.Prelude.{Option, Some, None, not}
+use Rattle.std.specs.Prelude.{Option, Some, None}
 use Rattle.std.specs.List.{list_any}
 use Rattle.definitions.specs.Name.{Name, low, same}
 use Rattle.definitions.specs.Zone.{Verdict, star_under}
@@ -54,23 +54,21 @@ module _ (apex : Name) (hash : Name → List ℕ) (fs : List HashLink) where
       → enclosed apex hash closer e t fs ≡ or_else cut (elim m as (λ _. Option Verdict) [ true ↦ first_some (beyond hash e t fs (hash (low closer))) fs | false ↦ None ])
   enclosed_so closer e t cut m c h = λ i. or_else (c i) (elim (h i) as (λ _. Option Verdict) [ true ↦ first_some (beyond hash e t fs (hash (low closer))) fs | false ↦ None ])
 
-  starred : (m asks known : Bool) (s : List Name)
-      → (elim (m && asks && not known) as (λ _. List Name) [ true ↦ s | false ↦ [] ])
-      ≡ (elim m as (λ _. List Name) [ true ↦ elim asks [ true ↦ elim known [ true ↦ [] | false ↦ s ] | false ↦ [] ] | false ↦ [] ])
-  starred false asks known s = refl
-  starred true false known s = refl
-  starred true true false s = refl
-  starred true true true s = refl
+  starred : (m asks : Bool) (s : List Name)
+      → (elim (m && asks) as (λ _. List Name) [ true ↦ s | false ↦ [] ])
+      ≡ (elim m as (λ _. List Name) [ true ↦ elim asks [ true ↦ s | false ↦ [] ] | false ↦ [] ])
+  starred false asks s = refl
+  starred true asks s = refl
 
   pub hashed_enclosed_so : (closer e : Name) (cut : Option Verdict) (m : Bool)
       → first_some (cut_above apex e (hash (low e))) fs ≡ cut → list_any (encloses (hash (low e))) fs ≡ m
-      → hashed_enclosed apex hash closer e fs ≡ (elim cut as (λ _. List Name) [ Some v ↦ [] | None ↦ elim m [ true ↦ hashed_beyond (hash (low closer)) closer e fs | false ↦ [] ] ])
+      → hashed_enclosed apex hash closer e fs ≡ (elim cut as (λ _. List Name) [ Some v ↦ [] | None ↦ elim m [ true ↦ hashed_beyond (hash (low closer)) e fs | false ↦ [] ] ])
   hashed_enclosed_so closer e cut m c h =
       (λ i. elim (c i) as (λ _. List Name) [
         | Some v ↦ []
-        | None ↦ elim (h i && asks_star (hash (low closer)) fs && not (same (star_under e) closer)) [ true ↦ star_under e ∷ [] | false ↦ [] ]
+        | None ↦ elim (h i && asks_star (hash (low closer)) fs) [ true ↦ star_under e ∷ [] | false ↦ [] ]
       ])
-      ∙ ap (λ ns. elim cut as (λ _. List Name) [ Some v ↦ [] | None ↦ ns ]) (starred m (asks_star (hash (low closer)) fs) (same (star_under e) closer) (star_under e ∷ []))
+      ∙ ap (λ ns. elim cut as (λ _. List Name) [ Some v ↦ [] | None ↦ ns ]) (starred m (asks_star (hash (low closer)) fs) (star_under e ∷ []))
 
 -- ---- the name itself
 

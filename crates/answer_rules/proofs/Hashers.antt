@@ -1,20 +1,15 @@
 -- One name that is hashed, and the wildcard under a name.
 use Rattle.std.proofs.Common.{◌≡◌, ℕ, ◌+◌, Bool, true, false, List, [], ◌∷◌, ◌++◌, length, refl, sym, ap, ◌∙◌, arith}
 use Rattle.std.specs.Prelude.{Option, Some, None, Result, Ok, Err, IfOk, IsErrOf, is_none, unwrap_or}
-use Rattle.std.specs.Char.{to_ascii_lowercase}
-use Rattle.std.specs.Str.{str_to_ascii_lowercase}
-use Rattle.std.specs.Cmp.Lexicographic.{bytes_decides}
-use Rattle.std.proofs.lemmas.Bool.{false_from_ne_true, or_from, or_left, true≢false}
-use Rattle.definitions.specs.Name.{Name, low, same, wire}
+use Rattle.std.proofs.lemmas.Bool.{or_from, or_left}
+use Rattle.definitions.specs.Name.{Name, low, wire}
 use Rattle.definitions.specs.Zone.{star_under}
-use Rattle.definitions.proofs.NameLaws.{labels_decide}
 use Rattle.definitions.proofs.ZoneNames.{low-low}
-use Rattle.messages.specs.Star.{begins_with_star}
 use Rattle.denial_hashes.specs.declared.hasher.HashError.{HashError}
 use Rattle.denial_hashes.specs.declared.hasher.HashError.TheVariants.{Failed, Memory}
 use Rattle.denial_rules.specs.Facts.{HashLink}
 use Rattle.answer_rules.specs.Hashes.{up_to}
-use Rattle.answer_rules.specs.Hashing.{fails_as, hash_as, hashed_star, Hashes}
+use Rattle.answer_rules.specs.Hashing.{fails_as, hash_as, Hashes}
 
 -- what is answered for a name in lower case is its hash
 pub hash_is : (hash : List ℕ → ℕ → ℕ → List ℕ → Option (List ℕ)) (l : HashLink) (n : Name) (octets h : List ℕ) → octets ≡ wire (low n) → hash octets 1 l.iterations l.salt ≡ Some h → h ≡ hash_as hash l (low n)
@@ -52,44 +47,6 @@ one_hashed items hash l n octets before after (Err Memory) e ok failed count =
     (omega arith, omega arith)
 
 -- ---- the wildcard
-
-lower_star : (c : ℕ) → to_ascii_lowercase c ≡ 42 → c ≡ 42
-lower_star c e = grind arith
-
-star_from : (l : List ℕ) → str_to_ascii_lowercase l ≡ 42 ∷ [] → l ≡ 42 ∷ []
-star_from [] e = cc
-star_from (c ∷ []) e = let h : to_ascii_lowercase c ≡ 42 = cc in ap (λ x. x ∷ []) (lower_star c h)
-star_from (c ∷ d ∷ l) e = cc
-
--- a name is the wildcard under its parent where its first label is a star
-pub star_itself : (l : List ℕ) (e : Name) → begins_with_star (l ∷ e) ≡ true → star_under e ≡ l ∷ e
-star_itself l e h = ap (λ k. k ∷ e) (sym ((bytes_decides l (42 ∷ [])).0 h))
-
-pub star_same : (l : List ℕ) (e : Name) → begins_with_star (l ∷ e) ≡ true → same (star_under e) (l ∷ e) ≡ true
-star_same l e h = (labels_decide (low (star_under e)) (low (l ∷ e))).1 (ap low (star_itself l e h))
-
-pub star_other : (l : List ℕ) (e : Name) → begins_with_star (l ∷ e) ≡ false → same (star_under e) (l ∷ e) ≡ false
-star_other l e h = false_from_ne_true (same (star_under e) (l ∷ e)) (λ s.
-    let even : low (star_under e) ≡ low (l ∷ e) = (labels_decide (low (star_under e)) (low (l ∷ e))).0 s in
-    let first : str_to_ascii_lowercase l ≡ 42 ∷ [] = star_first l e even in
-    true≢false (sym ((bytes_decides l (42 ∷ [])).1 (star_from l first)) ∙ h))
-  where
-    star_first : (l : List ℕ) (e : Name) → low (star_under e) ≡ low (l ∷ e) → str_to_ascii_lowercase l ≡ 42 ∷ []
-    star_first l e even = let lowered : (42 ∷ []) ∷ low e ≡ str_to_ascii_lowercase l ∷ low e = even in cc
-
--- what is hashed of it, by its first label
-pub star_unhashed : (closer e : Name) (l : List ℕ) → closer ≡ l ∷ e → begins_with_star closer ≡ true → hashed_star closer e ≡ []
-star_unhashed closer e l c h =
-    ap (λ n. hashed_star n e) c
-    ∙ ap (λ (b : Bool). elim b as (λ _. List Name) [ true ↦ [] | false ↦ star_under e ∷ [] ]) (star_same l e (ap begins_with_star (sym c) ∙ h))
-
-pub star_hashed : (closer e : Name) (l : List ℕ) → closer ≡ l ∷ e → begins_with_star closer ≡ false → hashed_star closer e ≡ star_under e ∷ []
-star_hashed closer e l c h =
-    ap (λ n. hashed_star n e) c
-    ∙ ap (λ (b : Bool). elim b as (λ _. List Name) [ true ↦ [] | false ↦ star_under e ∷ [] ]) (star_other l e (ap begins_with_star (sym c) ∙ h))
-
-pub star_is_closer : (closer e : Name) (l : List ℕ) → closer ≡ l ∷ e → begins_with_star closer ≡ true → closer ≡ star_under e
-star_is_closer closer e l c h = c ∙ sym (star_itself l e (ap begins_with_star (sym c) ∙ h))
 
 -- the octets that are written for it
 pub star_wire : (start mid octets : List ℕ) (e : Name) → start ≡ [] → mid ≡ start ++ 1 ∷ 42 ∷ [] → octets ≡ mid ++ wire (low e) → octets ≡ wire (low (star_under e))

@@ -5,19 +5,17 @@ use Rattle.std.specs.List.{list_any}
 use Rattle.std.specs.Option.{option_map}
 use Rattle.definitions.specs.Name.{Name, low, same}
 use Rattle.definitions.specs.Zone.{Verdict, star_under}
-use Rattle.messages.specs.Star.{begins_with_star}
 use Rattle.denial_hashes.specs.declared.hasher.HashError.{HashError}
 use Rattle.denial_rules.specs.Facts.{HashLink}
 use Rattle.denial_rules.specs.NsecRules.{first_some, or_else}
 use Rattle.denial_rules.specs.Nsec3Rules.{asks_star, at_hash, beyond, climbed, cut_above, enclosed, encloses, hash_denied, hashed_climbing, hashed_denied, hashed_enclosed, is_matched, star_at}
 use Rattle.answer_scheme.specs.Answers.{Answers}
-use Rattle.answer_rules.specs.Hashing.{fails_as, hash_as, hashed_beyond, hashed_star, Hashes, open_among}
+use Rattle.answer_rules.specs.Hashing.{fails_as, hash_as, hashed_beyond, Hashes, open_among}
 use Rattle.answer_rules.specs.Rules.{verdict_of}
 use Rattle.answer_rules.specs.declared.verdict.Verdict.{Verdict as CodeVerdict}
 use Rattle.answer_rules.proofs.Climbs.{climbed_to, enclosed_so, hashed_enclosed_so, hashed_out, hashed_to}
 use Rattle.answer_rules.proofs.Gaps.{beyond_gaps, said_asked, said_unasked}
-use Rattle.answer_rules.proofs.Hashers.{star_hashed, star_unhashed}
-use Rattle.answer_rules.proofs.InTurn.{behind, err_passed, err_stopped, none}
+use Rattle.answer_rules.proofs.InTurn.{behind, err_stopped, none}
 
 abbrev pub Answered : Type 0
 Answered = Result (Option CodeVerdict) HashError
@@ -145,9 +143,9 @@ module _ (apex : Name) (hash : Name → List ℕ) (fs : List HashLink) (closer e
       (ap (λ x. first_some (beyond hash e t fs x) fs) is ∙ sym (enclosed_so apex hash fs closer e t None true (cut_at None c) (enclosed_at true m))) s
 
   pub hashed_went_beyond : (fails : Name → Bool) (before after : ℕ) (r : Answered) → first_some (cut_above apex e k) fs ≡ None → list_any (encloses k) fs ≡ true
-      → Hashes fails (hashed_beyond h closer e fs) before after r → Hashes fails (hashed_enclosed apex hash closer e fs) before after r
+      → Hashes fails (hashed_beyond h e fs) before after r → Hashes fails (hashed_enclosed apex hash closer e fs) before after r
   hashed_went_beyond fails before after r c m s = subst (λ ns. Hashes fails ns before after r)
-      (ap (λ x. hashed_beyond x closer e fs) is ∙ sym (hashed_enclosed_so apex hash fs closer e None true (cut_at None c) (enclosed_at true m))) s
+      (ap (λ x. hashed_beyond x e fs) is ∙ sym (hashed_enclosed_so apex hash fs closer e None true (cut_at None c) (enclosed_at true m))) s
 
 -- ---- the gap of the next closer name, whose hash is h
 
@@ -155,16 +153,16 @@ module _ (hash : Name → List ℕ) (fs : List HashLink) (closer e : Name) (h : 
   pub unasked : (t : ℕ) → asks_star h fs ≡ false → open_among h fs ≡ first_some (beyond hash e t fs h) fs
   unasked t m = sym (beyond_gaps hash e t fs h fs ∙ said_unasked (first_some (star_at (hash (low (star_under e))) t) fs) h fs m)
 
-  pub hashed_unasked : (fails : Name → Bool) (n : ℕ) (o : Option CodeVerdict) → asks_star h fs ≡ false → Hashes fails (hashed_beyond h closer e fs) n n (Ok o)
+  pub hashed_unasked : (fails : Name → Bool) (n : ℕ) (o : Option CodeVerdict) → asks_star h fs ≡ false → Hashes fails (hashed_beyond h e fs) n n (Ok o)
   hashed_unasked fails n o m = subst (λ ns. Hashes fails ns n n (Ok o))
-      (sym (ap (λ (x : Bool). elim x as (λ _. List Name) [ true ↦ hashed_star closer e | false ↦ [] ]) m)) (none fails n o)
+      (sym (ap (λ (x : Bool). elim x as (λ _. List Name) [ true ↦ star_under e ∷ [] | false ↦ [] ]) m)) (none fails n o)
 
   pub asked : (t : ℕ) (s : Option Verdict) → asks_star h fs ≡ true → s ≡ first_some (star_at (hash (low (star_under e))) t) fs → or_else s (open_among h fs) ≡ first_some (beyond hash e t fs h) fs
   asked t s m i = ap (λ x. or_else x (open_among h fs)) i ∙ sym (beyond_gaps hash e t fs h fs ∙ said_asked (first_some (star_at (hash (low (star_under e))) t) fs) h fs m)
 
-  pub hashed_asked : (fails : Name → Bool) (before after : ℕ) (r : Answered) → asks_star h fs ≡ true → Hashes fails (hashed_star closer e) before after r → Hashes fails (hashed_beyond h closer e fs) before after r
+  pub hashed_asked : (fails : Name → Bool) (before after : ℕ) (r : Answered) → asks_star h fs ≡ true → Hashes fails (star_under e ∷ []) before after r → Hashes fails (hashed_beyond h e fs) before after r
   hashed_asked fails before after r m s = subst (λ ns. Hashes fails ns before after r)
-      (sym (ap (λ (x : Bool). elim x as (λ _. List Name) [ true ↦ hashed_star closer e | false ↦ [] ]) m)) s
+      (sym (ap (λ (x : Bool). elim x as (λ _. List Name) [ true ↦ star_under e ∷ [] | false ↦ [] ]) m)) s
 
   pub asked_found : (t : ℕ) (o : Option CodeVerdict) → asks_star h fs ≡ true → (o ≡ None → ⊥) → option_map verdict_of o ≡ first_some (star_at (hash (low (star_under e))) t) fs → option_map verdict_of o ≡ first_some (beyond hash e t fs h) fs
   asked_found t None m n i = absurd (n refl)
@@ -172,14 +170,3 @@ module _ (hash : Name → List ℕ) (fs : List HashLink) (closer e : Name) (h : 
 
   pub asked_left : (t : ℕ) (o : Option CodeVerdict) → asks_star h fs ≡ true → o ≡ None → option_map verdict_of o ≡ first_some (star_at (hash (low (star_under e))) t) fs → open_among h fs ≡ first_some (beyond hash e t fs h) fs
   asked_left t o m n i = asked t None m (sym (ap (option_map verdict_of) n) ∙ i)
-
--- ---- the wildcard
-
-pub star_known : (fails : Name → Bool) (closer e : Name) (l : List ℕ) (n : ℕ) (o : Option CodeVerdict) → closer ≡ l ∷ e → begins_with_star closer ≡ true → Hashes fails (hashed_star closer e) n n (Ok o)
-star_known fails closer e l n o c s = subst (λ ns. Hashes fails ns n n (Ok o)) (sym (star_unhashed closer e l c s)) (none fails n o)
-
-pub star_asked : {T : Type 0} (fails : Name → Bool) (closer e : Name) (l : List ℕ) (before after : ℕ) (star : T) (o : Option CodeVerdict) → closer ≡ l ∷ e → begins_with_star closer ≡ false → Hashes fails (star_under e ∷ []) before after (Ok star) → Hashes fails (hashed_star closer e) before after (Ok o)
-star_asked fails closer e l before after star o c s h = subst (λ ns. Hashes fails ns before after (Ok o)) (sym (star_hashed closer e l c s)) h
-
-pub star_stopped : {T : Type 0} (like : Result T HashError) (fails : Name → Bool) (closer e : Name) (l : List ℕ) (before after : ℕ) (x y : HashError) (r : Answered) → closer ≡ l ∷ e → begins_with_star closer ≡ false → r ≡ Err y → y ≡ x → Hashes {T = T} fails (star_under e ∷ []) before after (Err x) → Hashes fails (hashed_star closer e) before after r
-star_stopped like fails closer e l before after x y r c s a b h = subst (λ ns. Hashes fails ns before after r) (sym (star_hashed closer e l c s)) (err_passed like fails (star_under e ∷ []) before after x y r a b h)

@@ -33,13 +33,9 @@ opens h f = covers_hash h f && f.opt_out
 abbrev pub open_among : List ℕ → List HashLink → Option Verdict
 open_among h fs = elim (list_any (opens h) fs) [ true ↦ Some Open | false ↦ None ]
 
--- the wildcard under the closest encloser, unless it is the next closer name
-abbrev pub hashed_star : Name → Name → List Name
-hashed_star closer e = elim (same (star_under e) closer) [ true ↦ [] | false ↦ star_under e ∷ [] ]
-
--- where a record without opt-out covers the next closer name first
-abbrev pub hashed_beyond : List ℕ → Name → Name → List HashLink → List Name
-hashed_beyond h closer e fs = elim (asks_star h fs) [ true ↦ hashed_star closer e | false ↦ [] ]
+-- the wildcard under the closest encloser, where a record without opt-out covers the next closer name first
+abbrev pub hashed_beyond : List ℕ → Name → List HashLink → List Name
+hashed_beyond h e fs = elim (asks_star h fs) [ true ↦ star_under e ∷ [] | false ↦ [] ]
 
 -- ---- what facts decide inside a zone, by either chain
 

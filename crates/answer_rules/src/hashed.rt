@@ -5,7 +5,7 @@ ghost use Rattle.definitions.specs.Name.{low};
 ghost use Rattle.definitions.specs.Zone.{star_under};
 ghost use Rattle.denial_rules.specs.NsecRules.{first_some};
 ghost use Rattle.denial_rules.specs.Nsec3Rules.{star_at, beyond, enclosed, climbed, hash_denied, hash_expanded_by, hash_expanded, last_labels, hashed_enclosed, hashed_climbing, hashed_denied};
-ghost use Rattle.answer_rules.specs.Hashing.{fails_as, hash_as, hashed_star, hashed_beyond, Hashes};
+ghost use Rattle.answer_rules.specs.Hashing.{fails_as, hash_as, hashed_beyond, Hashes};
 ghost use Rattle.answer_rules.specs.Rules.{verdict_of};
 
 use crate::facts::{HashLink, Rrset};
@@ -30,7 +30,7 @@ pub(crate) struct HashChain<'a> {
     pub(crate) rtype: Rtype,
 }
 
-/// What links say of the wildcard under a closest encloser. Where that is the next closer name, its hash is known.
+/// What links say of the wildcard under a closest encloser, which is hashed for it.
 ///
 /// Without a look at the wildcard a name that it stands for would pass for one that does not exist (RFC 5155, 8.4 and 8.7).
 fn at_wildcard<C: Checks>(
@@ -38,27 +38,20 @@ fn at_wildcard<C: Checks>(
     checks: &mut C,
     count: &mut u32,
     octets: &mut Vec<u8>,
-    closer: &HashedName,
     encloser: &Name<&[u8]>,
 ) -> Result<Option<Verdict>, HashError>
     requires room { count.old + 1 < 2 ^ 32 }
-    requires child { (l : List ℕ) × (closer.now.name ≡ l ∷ encloser.now) }
-    requires hash { let hash = hash_as (C.answers checks.old).hash chain.now.first.now in
-        closer.now.hash.items ≡ hash (low closer.now.name) }
     ensures verdict { let hash = hash_as (C.answers checks.old).hash chain.now.first.now in
         let star = hash (low (star_under encloser.now)) in
         IfOk result (λ v. option_map verdict_of v
         ≡ first_some (star_at star chain.now.rtype) chain.now.links.now) }
     ensures hashes { let fails = fails_as (C.answers checks.old).hash chain.now.first.now in
-        let names = hashed_star closer.now.name encloser.now in
+        let names = star_under encloser.now ∷ [] in
         Hashes fails names (C.hashed checks.old) (C.hashed checks.new) result }
     ensures alike { C.hashed checks.new + count.old ≡ C.hashed checks.old + count.new }
     ensures others { C.verified checks.new ≡ C.verified checks.old }
     ensures same { C.answers checks.new ≡ C.answers checks.old }
 {
-    if closer.name.is_wildcard() {
-        return Ok(first_star_at(chain.links, &closer.hash, chain.rtype));
-    }
     let star = hash_wildcard(chain.alloc, chain.first, checks, count, octets, encloser)?;
     Ok(first_star_at(chain.links, &star, chain.rtype))
 }
@@ -76,7 +69,6 @@ fn beyond_encloser<C: Checks>(
     encloser: &Name<&[u8]>,
 ) -> Result<Option<Verdict>, HashError>
     requires room { count.old + 1 < 2 ^ 32 }
-    requires child { (l : List ℕ) × (closer.now.name ≡ l ∷ encloser.now) }
     requires hash { let hash = hash_as (C.answers checks.old).hash chain.now.first.now in
         closer.now.hash.items ≡ hash (low closer.now.name) }
     ensures verdict { let hash = hash_as (C.answers checks.old).hash chain.now.first.now in
@@ -85,7 +77,7 @@ fn beyond_encloser<C: Checks>(
         (beyond hash encloser.now chain.now.rtype links closer.now.hash.items) links) }
     ensures hashes { let fails = fails_as (C.answers checks.old).hash chain.now.first.now in
         let links = chain.now.links.now in
-        let names = hashed_beyond closer.now.hash.items closer.now.name encloser.now links in
+        let names = hashed_beyond closer.now.hash.items encloser.now links in
         Hashes fails names (C.hashed checks.old) (C.hashed checks.new) result }
     ensures alike { C.hashed checks.new + count.old ≡ C.hashed checks.old + count.new }
     ensures others { C.verified checks.new ≡ C.verified checks.old }
@@ -94,7 +86,7 @@ fn beyond_encloser<C: Checks>(
     if !is_denied(chain.links, &closer.hash) {
         return Ok(left_open(chain.links, &closer.hash));
     }
-    match at_wildcard(chain, checks, count, octets, closer, encloser)? {
+    match at_wildcard(chain, checks, count, octets, encloser)? {
         None => Ok(left_open(chain.links, &closer.hash)),
         found => Ok(found),
     }
@@ -110,7 +102,6 @@ fn from_encloser<C: Checks>(
     encloser: &HashedName,
 ) -> Result<Option<Verdict>, HashError>
     requires room { count.old + 1 < 2 ^ 32 }
-    requires child { (l : List ℕ) × (closer.now.name ≡ l ∷ encloser.now.name) }
     requires closer { let hash = hash_as (C.answers checks.old).hash chain.now.first.now in
         closer.now.hash.items ≡ hash (low closer.now.name) }
     requires encloser { let hash = hash_as (C.answers checks.old).hash chain.now.first.now in

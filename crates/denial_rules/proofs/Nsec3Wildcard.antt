@@ -26,7 +26,7 @@ use Rattle.denial_rules.proofs.ZoneCuts.{has_owner, live_kept, kept_up, kept_low
 
 -- ---- the last labels of a name
 
-drop_above : (n : ℕ) (q : Name) → at_or_above (drop n q) q ≡ true
+pub drop_above : (n : ℕ) (q : Name) → at_or_above (drop n q) q ≡ true
 drop_above zero q = above_itself q
 drop_above (suc n) [] = refl
 drop_above (suc n) (l ∷ q) = or_right (same (drop n q) (l ∷ q)) (at_or_above (drop n q) q) (drop_above n q)

@@ -1,8 +1,8 @@
 -- Laws of denial.
-use Rattle.std.specs.Prelude.{◌≡◌, ◌↔◌, ℕ, ◌+◌, ◌<◌, ◌≤◌, Bool, true, false, not, ◌&&◌, ◌||◌, List, [], ◌∷◌, map, length, Option, Some, None, nat_le, nat_eq}
-use Rattle.std.specs.List.{list_any}
+use Rattle.std.specs.Prelude.{◌≡◌, ◌↔◌, ℕ, ◌+◌, ◌<◌, ◌≤◌, Bool, true, false, not, ◌&&◌, ◌||◌, List, [], ◌∷◌, ◌++◌, map, length, Option, Some, None, nat_le, nat_eq}
+use Rattle.std.specs.List.{AllByRecursion, list_any}
 use Rattle.definitions.specs.Name.{Name, low, labels_eq, at_or_above}
-use Rattle.definitions.specs.Zone.{Zone, Verdict, verdict, apex_of}
+use Rattle.definitions.specs.Zone.{Zone, Verdict, verdict, apex_of, star_under}
 use Rattle.definitions.specs.ZoneChain.{Mode, Nsec, Nsec3, optout_of}
 use Rattle.denial_rules.specs.Facts.{Facts}
 use Rattle.denial_rules.specs.Deciding.{decided, hashed}
@@ -53,10 +53,21 @@ abbrev pub each_once : List Name → Bool
 each_once [] = true
 each_once (n ∷ ns) = not (list_any (labels_eq n) ns) && each_once ns
 
--- At most the labels of the name, the root's counted, and one are hashed, each once.
+-- at most the wildcard under the last of names
+abbrev pub WildcardUnderLast : List Name → List Name → Type 0
+WildcardUnderLast ns [] = Unit {0}
+WildcardUnderLast ns (s ∷ more) = (more ≡ []) × (before : List Name) × (n : Name) × (ns ≡ before ++ n ∷ []) × (s ≡ star_under n)
+
+-- At most the labels of the name, the root's counted, and one are hashed: the name and ancestors of it, each once, and behind
+-- them at most the wildcard under the last.
 pub record HashesFew (apex : Name) (hash : Name → List ℕ) (f : Facts) (q : Name) : Type 0 where
   pub few : length (hashed apex hash f q) ≤ length q + 2
-  pub once : each_once (map low (hashed apex hash f q)) ≡ true
+  pub up : List Name
+  pub wildcard : List Name
+  pub parts : hashed apex hash f q ≡ up ++ wildcard
+  pub above : AllByRecursion (λ n. at_or_above n q ≡ true) up
+  pub once : each_once (map low up) ≡ true
+  pub under : WildcardUnderLast up wildcard
 
 abbrev pub FewHashes : Type 0
 FewHashes = (apex : Name) (hash : Name → List ℕ) (f : Facts) (q : Name) → HashesFew apex hash f q

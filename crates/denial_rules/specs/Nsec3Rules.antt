@@ -84,20 +84,20 @@ hash_expanded_by h r f = elim (covers_hash h f) [
 abbrev pub hash_expanded : (Name → List ℕ) → Name → Rrset → List HashLink → Option Verdict
 hash_expanded hash q r fs = first_some (hash_expanded_by (hash (low (last_labels (r.labels + 1) q))) r) fs
 
--- ---- which names are hashed, in order, each once
+-- ---- which names are hashed, in order
 
 -- the first record that covers the next closer name asks for the wildcard, unless it opts out
 abbrev pub asks_star : List ℕ → List HashLink → Bool
 asks_star h [] = false
 asks_star h (f ∷ fs) = elim (covers_hash h f) [ true ↦ not f.opt_out | false ↦ asks_star h fs ]
 
--- the wildcard under the closest encloser, unless it is the next closer name, which was hashed on the way up
+-- the wildcard under the closest encloser, though it may be a name that was hashed on the way up
 abbrev pub hashed_enclosed : Name → (Name → List ℕ) → Name → Name → List HashLink → List Name
 hashed_enclosed apex hash closer e fs =
     let h = hash (low e) in
     elim (first_some (cut_above apex e h) fs) [
       | Some v ↦ []
-      | None ↦ elim (list_any (encloses h) fs && asks_star (hash (low closer)) fs && not (same (star_under e) closer)) [ true ↦ star_under e ∷ [] | false ↦ [] ]
+      | None ↦ elim (list_any (encloses h) fs && asks_star (hash (low closer)) fs) [ true ↦ star_under e ∷ [] | false ↦ [] ]
     ]
 
 abbrev pub hashed_climbing : Name → (Name → List ℕ) → Name → List HashLink → List Name

@@ -23,7 +23,8 @@ pub fn both_chains_say_the_same()
     ensures { BothChainsSayTheSame }
 {}
 
-/// No more names are hashed for a question than its name has labels, the root's counted, and one, and each once.
+/// No more names are hashed for a question than its name has labels, the root's counted, and one: the name and its ancestors
+/// each once, and behind them at most the wildcard under the last.
 pub fn few_hashes()
     ensures { FewHashes }
 {}
