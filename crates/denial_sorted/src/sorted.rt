@@ -229,12 +229,26 @@ fn put_at<N: ToName, D: RecordData>(
         return Err(rr);
     }
     let kin = kin_at::<Record<N, D>, ByOwner>(records.as_slice(), place, &rr);
-    match records.insert(place, rr) {
-        Ok(()) => {}
-        Err(refused) => return Err(refused.value),
+    if let Err(refused) = insert_at(records, place, rr) {
+        return Err(refused);
     }
     let at = count_before(starts.as_slice(), place);
     move_behind(starts, at, place, kin);
+    Ok(())
+}
+
+/// Puts an item in at a place, or hands it back where there is no memory. It goes to the end, and the items from the
+/// place on are turned by one: a move of memory as a whole, where `Vec::insert` goes from item to item.
+fn insert_at<T>(items: &mut Vec<T>, place: usize, item: T) -> Result<(), T>
+    requires { place ≤ length items.old.items }
+    ensures items { items.new.items
+        ≡ (if is_ok result then insert items.old.items place item else items.old.items) }
+    ensures back { IfErr result (λ x. x ≡ item) }
+{
+    if let Err(refused) = items.push(item) {
+        return Err(refused.value);
+    }
+    items[place..].rotate_right(1);
     Ok(())
 }
 
