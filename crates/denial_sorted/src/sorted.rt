@@ -229,9 +229,7 @@ fn put_at<N: ToName, D: RecordData>(
         return Err(rr);
     }
     let kin = kin_at::<Record<N, D>, ByOwner>(records.as_slice(), place, &rr);
-    if let Err(refused) = insert_at(records, place, rr) {
-        return Err(refused);
-    }
+    insert_at(records, place, rr)?;
     let at = count_before(starts.as_slice(), place);
     move_behind(starts, at, place, kin);
     Ok(())

@@ -35,4 +35,4 @@ returns-clause-starts g c =
     ∙ ap (λ k. moved k p (take at c.reserve.new.self.items) (drop at c.reserve.new.self.items)) kin
     ∙ ap (λ zs. moved (joins alike rs p c.args.rr) p (take at zs) (drop at zs)) (sym c.as_slice-2.ensures.value)
     ∙ after_insert alike (one_owner_equivalence g.N.Labels.name) rs p c.requires.within c.as_slice-2.result.now (c.as_slice-2.ensures.value ∙ c.reserve.ensures.items ∙ c.requires.starts) at c.count_before-at.ensures.bound c.count_before-at.ensures.cut c.args.rr c.requires.apart
-    ∙ ap (starts_in alike) (sym c.in_default.ensures.items)
+    ∙ ap (starts_in alike) (sym c.in_ok-insert_at.ensures.items)
