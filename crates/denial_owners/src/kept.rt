@@ -50,7 +50,7 @@ pub fn has_type<'a, N: ToName, D: RecordData>(owner: &OwnerRrs<'a, N, D>, rtype:
 pub fn is_cut<'a, N: ToName, D: RecordData>(apex: &N, owner: &OwnerRrs<'a, N, D>) -> bool
     ensures { result ≡ zone_cut N.name D.type_of (N.name apex.now) owner.now }
 {
-    has_type(owner, Rtype::NS) && owner.is_zone_cut(apex)
+    has_type(owner, Rtype::NS) && !owner.owner().name_eq(apex)
 }
 
 /// Whether a delegation is left out: it has no DS, and such are excluded.
