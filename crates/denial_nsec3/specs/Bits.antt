@@ -23,6 +23,10 @@ apex_types apex dnskey o = if same o apex then of_keys dnskey ++ 51 ∷ [] else 
 abbrev pub signed_types : Bool → List ℕ
 signed_types signed = if signed then 46 ∷ [] else []
 
+-- those of a delegation, which has a DS record or none
+abbrev pub cut_types : Bool → List ℕ
+cut_types signed = 2 ∷ (if signed then 43 ∷ 46 ∷ [] else [])
+
 -- those of an owner
 abbrev pub group_types : {N D : Type 0} → (N → Name) → (D → ℕ) → Name → Bool → List (Record N D) → List ℕ
 group_types name rtype apex dnskey g =

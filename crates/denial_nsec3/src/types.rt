@@ -1,9 +1,10 @@
 //! The bits of NSEC3 records (RFC 5155, 7.1).
 
-ghost use Rattle.std.specs.Prelude.{◌≡◌, ◌≤◌, [], length, IfOk, OnOk};
+ghost use Rattle.std.specs.Prelude.{◌≡◌, ◌≤◌, ◌++◌, [], ℕ, List, length, IfOk, OnOk};
 ghost use Rattle.definitions.specs.Bitmap.{bitmap};
 ghost use Rattle.denial_hashed.specs.Chained.{spot_of};
-ghost use Rattle.denial_nsec3.specs.Bits.{apex_types, group_types, is_signed, spot_types};
+ghost use Rattle.denial_owners.specs.Types.{has_type};
+ghost use Rattle.denial_nsec3.specs.Bits.{apex_types, cut_types, group_types, spot_types};
 
 use denial_bitmap::bitmap::RtypeBitmap;
 use denial_bitmap::builder::RtypeBitmapBuilder;
@@ -16,13 +17,6 @@ use names_data::rtype::Rtype;
 use names_traits::to_name::ToName;
 use names_wire::builder::ShortBuf;
 use std::alloc::Global;
-
-/// Whether the zone signs records of an owner: at a delegation DS records alone (RFC 4035, 2.2).
-fn is_signed<'a, N: ToName, D: RecordData>(apex: &N, owner: &OwnerRrs<'a, N, D>) -> bool
-    ensures { result ≡ is_signed N.name D.type_of (N.name apex.now) owner.now }
-{
-    !is_cut(apex, owner) || has_type(owner, Rtype::DS)
-}
 
 /// Adds what signing adds at the apex.
 fn add_apex_types<N: ToName>(
@@ -44,6 +38,22 @@ fn add_apex_types<N: ToName>(
     Ok(())
 }
 
+/// Adds the types at a delegation: NS, and where it is there DS, which alone is signed (RFC 4035, 2.2).
+fn add_cut_types<'a, N: ToName, D: RecordData>(
+    types: &mut RtypeBitmapBuilder<Vec<u8>>,
+    owner: &OwnerRrs<'a, N, D>,
+) -> Result<(), ShortBuf>
+    ensures { let signed = has_type D.type_of 43 owner.now in
+        (ts : List ℕ) → types.old ≡ bitmap ts
+        → OnOk result (types.new ≡ bitmap (cut_types signed ++ ts)) }
+{
+    if has_type(owner, Rtype::DS) {
+        types.add(Rtype::RRSIG)?;
+        types.add(Rtype::DS)?;
+    }
+    types.add(Rtype::NS)
+}
+
 /// Adds the types at an owner to none.
 fn add_group<'a, N: ToName, D: RecordData>(
     types: &mut RtypeBitmapBuilder<Vec<u8>>,
@@ -56,9 +66,10 @@ fn add_group<'a, N: ToName, D: RecordData>(
         OnOk result (types.new ≡ bitmap found) }
 {
     add_apex_types(types, apex, dnskey, owner.owner())?;
-    if is_signed(apex, owner) {
-        types.add(Rtype::RRSIG)?;
+    if is_cut(apex, owner) {
+        return add_cut_types(types, owner);
     }
+    types.add(Rtype::RRSIG)?;
     add_types(types, apex, owner)
 }
 
