@@ -8,6 +8,7 @@ ghost use Rattle.std.specs.Result.{result_ok};
 ghost use Rattle.denial_groups.specs.Groups.{IsGroup, in_zone, of_one_owner, of_one_set, rrset_of, ttls_differ, zone_cut};
 ghost use Rattle.denial_groups.specs.Slices.{items_of};
 
+use crate::rows::row_ends_with;
 use crate::slices::{SliceRefsOrOwned, SliceRefsOrOwnedIterator};
 use crate::walks::{OwnerRrsIter, RrsetIter};
 use names_data::data::RecordData;
@@ -214,6 +215,9 @@ pub fn first<'a, T>(slice: SliceRefsOrOwned<'a, T>) -> &'a T
 pub(crate) fn is_below<N: ToName>(name: &N, apex: &N) -> bool
     ensures { result ≡ at_or_above (N.name apex.now) (N.name name.now) }
 {
+    if let (Some(run), Some(tail)) = (name.label_row(), apex.label_row()) {
+        return row_ends_with(run, tail);
+    }
     name.ends_with(apex)
 }
 

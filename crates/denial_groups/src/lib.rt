@@ -3,6 +3,7 @@
 
 pub mod ends;
 pub mod groups;
+mod rows;
 pub mod runs;
 pub mod slices;
 pub mod walks;
