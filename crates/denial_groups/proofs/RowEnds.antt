@@ -73,3 +73,36 @@ ends_where run tail count b r t have e is = go b (at_or_above (labels_in tail) (
     go true u is h = sym (ends_so run tail r t all (is.0 refl)) ∙ h
     go false true is h = is.1 (ends_found run tail r t h).starts
     go false false is h = refl
+
+lowered_length : (run other : List ℕ) → str_to_ascii_lowercase run ≡ str_to_ascii_lowercase other → length run ≡ length other
+lowered_length run other e = sym (length-map run to_ascii_lowercase) ∙ ap length e ∙ length-map other to_ascii_lowercase
+
+-- rows of unlike lengths
+pub same_not : (run other : List ℕ) → IsRun run → IsRun other → (length run ≡ length other → ⊥) → false ≡ same (labels_in run) (labels_in other)
+same_not run other r t apart = go (same (labels_in run) (labels_in other)) refl
+  where
+    go : (b : Bool) → same (labels_in run) (labels_in other) ≡ b → false ≡ b
+    go false e = refl
+    go true e = absurd (apart (lowered_length run other (same_lowered run other r t e)))
+
+-- rows as long as each other are the same where they have all in common
+pub same_where : (run other : List ℕ) (count : ℕ) (b : Bool) → IsRun run → IsRun other → HaveTail run other count → length run ≡ length other → IsTrue b ↔ (count ≡ length run) → b ≡ same (labels_in run) (labels_in other)
+same_where run other count b r t have long is = go b (same (labels_in run) (labels_in other)) is refl
+  where
+    whole : (n : ℕ) → SameEnds run other n → n ≡ length run → str_to_ascii_lowercase run ≡ str_to_ascii_lowercase other
+    whole n s e =
+        let left : length run - n ≡ 0 = omega (arith, e) in
+        let right : length other - n ≡ 0 = omega (arith, e, long) in
+        ap (λ d. str_to_ascii_lowercase (drop d run)) (sym left) ∙ s.2 ∙ ap (λ d. str_to_ascii_lowercase (drop d other)) right
+
+    ends : str_to_ascii_lowercase run ≡ str_to_ascii_lowercase other → SameEnds run other (length run)
+    ends e =
+        let left : length run - length run ≡ 0 = omega arith in
+        let right : length other - length run ≡ 0 = omega (arith, long) in
+        (omega arith, omega (arith, long), ap (λ d. str_to_ascii_lowercase (drop d run)) left ∙ e ∙ ap (λ d. str_to_ascii_lowercase (drop d other)) (sym right))
+
+    go : (b u : Bool) → IsTrue b ↔ (count ≡ length run) → same (labels_in run) (labels_in other) ≡ u → b ≡ u
+    go true u is h = sym (lowered_same run other r t (whole count have.same (is.0 refl))) ∙ h
+    go false true is h =
+        let m = have.most (length run) (ends (same_lowered run other r t h)) in is.1 (omega (arith, m, have.same.0))
+    go false false is h = refl

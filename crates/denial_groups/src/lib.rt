@@ -3,7 +3,7 @@
 
 pub mod ends;
 pub mod groups;
-mod rows;
+pub mod rows;
 pub mod runs;
 pub mod slices;
 pub mod walks;

@@ -5,6 +5,7 @@ ghost use Rattle.std.specs.Cmp.{IsEquivalence};
 ghost use Rattle.denial_groups.specs.Groups.{IsGroup, groups, of_one_owner, of_one_set, of_one_type};
 ghost use Rattle.denial_groups.specs.Slices.{items_of};
 
+use crate::rows::names_eq;
 use crate::slices::SliceRefsOrOwned;
 use names_data::data::RecordData;
 use names_traits::to_name::ToName;
@@ -31,7 +32,7 @@ impl<N: ToName, D: RecordData> Alike<Record<N, D>> for ByOwner {
     ghost equivalence = { one_owner_equivalence N.name };
 
     fn are_alike(a: &Record<N, D>, b: &Record<N, D>) -> bool {
-        a.class() == b.class() && a.owner().name_eq(b.owner())
+        a.class() == b.class() && names_eq(a.owner(), b.owner())
     }
 }
 
@@ -46,7 +47,7 @@ impl<N: ToName, D: RecordData> Alike<Record<N, D>> for BySet {
     ghost equivalence = { one_set_equivalence N.name D.type_of };
 
     fn are_alike(a: &Record<N, D>, b: &Record<N, D>) -> bool {
-        a.rtype() == b.rtype() && a.class() == b.class() && a.owner().name_eq(b.owner())
+        a.rtype() == b.rtype() && a.class() == b.class() && names_eq(a.owner(), b.owner())
     }
 }
 
