@@ -124,3 +124,13 @@ beside ls os x y a b t el eo s e = (
     first : (t : Bool) → one_more t 0 ≡ cond t 0 1
     first true = refl
     first false = refl
+
+-- the first ones are the same where all are, the others being so
+pub first_same : (ls os x y : Name) (a b : List ℕ) (t : Bool) → ls ≡ a ∷ x → os ≡ b ∷ y → same x y ≡ true → t ≡ same ls os → bytes_eq (str_to_ascii_lowercase a) (str_to_ascii_lowercase b) ≡ t
+first_same ls os x y a b t el eo s e =
+    let c = bytes_eq (str_to_ascii_lowercase a) (str_to_ascii_lowercase b) in
+    sym (e ∙ (λ i. same (el i) (eo i)) ∙ ap (λ u. c && u) s ∙ and_true c)
+  where
+    and_true : (u : Bool) → (u && true) ≡ u
+    and_true true = refl
+    and_true false = refl

@@ -6,6 +6,7 @@ ghost use Rattle.names_labels.specs.Flat.{IsRun, labels_in};
 ghost use Rattle.denial_hashed.specs.Differing.{differing};
 ghost use Rattle.denial_hashed.specs.Walk.{fresh_count};
 
+use denial_groups::rows::rows_eq;
 use denial_hashes::wire_form::without_first;
 use names_labels::flat::{runs_eq, split_label};
 use names_labels::traits::{Absolute, LabelIter};
@@ -33,12 +34,12 @@ fn fresh_beside(run: &[u8], other: &[u8]) -> Option<usize>
     ensures { let labels = labels_in run.now in let others = labels_in other.now in
         IfSome result (λ n. (length labels ≡ length others) × (n ≡ differing labels others)) }
 {
-    let (label, behind) = split_label(run)?;
-    let (beside, rest) = split_label(other)?;
+    let (_label, behind) = split_label(run)?;
+    let (_beside, rest) = split_label(other)?;
     if !runs_eq(behind, rest) {
         return None;
     }
-    Some(if label == beside { 0 } else { 1 })
+    Some(if rows_eq(run, other) { 0 } else { 1 })
 }
 
 /// How many labels there are up to the last one that differs from its counterpart, among as many others.
