@@ -3,7 +3,7 @@
 
 pub mod ends;
 pub mod groups;
-pub mod rows;
+mod rows;
 pub mod runs;
 pub mod slices;
 pub mod walks;

@@ -22,7 +22,7 @@ pub(crate) fn row_ends_with(run: &[u8], tail: &[u8]) -> bool
 }
 
 /// Whether two rows have the same labels, up to ASCII case. Octets are compared as `row_ends_with` does.
-pub fn rows_eq(run: &[u8], other: &[u8]) -> bool
+fn rows_eq(run: &[u8], other: &[u8]) -> bool
     requires run { IsRun run.now }
     requires other { IsRun other.now }
     ensures { result ≡ same (labels_in run.now) (labels_in other.now) }

@@ -1,4 +1,5 @@
 pub mod Assembled
+pub mod Beside
 pub mod Eights
 pub mod Fresh
 pub mod Named

@@ -6,9 +6,9 @@ ghost use Rattle.names_labels.specs.Flat.{IsRun, labels_in};
 ghost use Rattle.denial_hashed.specs.Differing.{differing};
 ghost use Rattle.denial_hashed.specs.Walk.{fresh_count};
 
-use denial_groups::rows::rows_eq;
 use denial_hashes::wire_form::without_first;
-use names_labels::flat::{runs_eq, split_label};
+use names_labels::flat::split_label;
+use names_labels::order::common_tail;
 use names_labels::traits::{Absolute, LabelIter};
 
 /// How many of an owner and the names that it stands under another name neither is nor stands under.
@@ -36,10 +36,14 @@ fn fresh_beside(run: &[u8], other: &[u8]) -> Option<usize>
 {
     let (_label, behind) = split_label(run)?;
     let (_beside, rest) = split_label(other)?;
-    if !runs_eq(behind, rest) {
+    let tail = common_tail(run, other);
+    if behind.len() != rest.len() || tail < behind.len() {
         return None;
     }
-    Some(if rows_eq(run, other) { 0 } else { 1 })
+    if run.len() != other.len() {
+        return Some(1);
+    }
+    Some(if tail == run.len() { 0 } else { 1 })
 }
 
 /// How many labels there are up to the last one that differs from its counterpart, among as many others.
