@@ -1,4 +1,5 @@
 pub mod Chained
+pub mod Cut
 pub mod Generated
 pub mod Linking
 pub mod Short

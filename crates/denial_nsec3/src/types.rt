@@ -65,10 +65,10 @@ fn add_group<'a, N: ToName, D: RecordData>(
     ensures { let found = group_types N.name D.type_of (N.name apex.now) dnskey owner.now in
         OnOk result (types.new ≡ bitmap found) }
 {
-    add_apex_types(types, apex, dnskey, owner.owner())?;
     if is_cut(apex, owner) {
         return add_cut_types(types, owner);
     }
+    add_apex_types(types, apex, dnskey, owner.owner())?;
     types.add(Rtype::RRSIG)?;
     add_types(types, apex, owner)
 }
