@@ -1,4 +1,4 @@
-//! Names that are hashed for a question, each once (RFC 5155, 5).
+//! Names that are hashed for a question (RFC 5155, 5).
 ghost use Rattle.std.specs.Prelude.{◌≡◌, ◌+◌, ◌<◌, ◌^◌, ◌∷◌, [], Some, None, IfOk, IsErrOf, OnOk, drop};
 ghost use Rattle.definitions.specs.Name.{low, wire};
 ghost use Rattle.definitions.specs.Zone.{star_under};

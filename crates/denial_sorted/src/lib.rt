@@ -1,4 +1,4 @@
-//! Records in canonical order, and the groups that they form by owner and by type.
+//! Records in canonical order, and where their owners begin.
 #![tactic(auto)]
 
 pub mod finding;
