@@ -1,5 +1,5 @@
 -- Rows that have the octets behind their first labels in common.
-use Rattle.std.proofs.Common.{◌≡◌, ℕ, ◌+◌, ◌-◌, ◌≤◌, true, List, ◌∷◌, ◌++◌, length, drop, refl, sym, ap, ◌∙◌, arith, length-append}
+use Rattle.std.proofs.Common.{◌≡◌, ℕ, ◌+◌, ◌-◌, ◌≤◌, Bool, true, cond, List, ◌∷◌, ◌++◌, length, drop, refl, sym, ap, ◌∙◌, arith, length-append}
 use Rattle.std.specs.Char.{to_ascii_lowercase}
 use Rattle.std.specs.Str.{str_to_ascii_lowercase}
 use Rattle.std.proofs.lemmas.List.{drop_at, drop-drop, drop-map}
@@ -7,6 +7,8 @@ use Rattle.definitions.specs.Name.{Label, same}
 use Rattle.names_labels.specs.Flat.{spelled, labels_in, IsRun, SplitsLabel}
 use Rattle.names_labels.specs.Order.{SameEnds}
 use Rattle.names_labels.proofs.Lowered.{lowered_same}
+use Rattle.denial_hashed.specs.Differing.{differing}
+use Rattle.denial_hashed.proofs.Fresh.{beside, first_same}
 
 split : (run rest : List ℕ) (l : Label) → IsRun run → SplitsLabel run l rest → run ≡ (length l ∷ l) ++ rest
 split run rest l r s = r.whole ∙ ap spelled s.first ∙ ap (λ x. (length l ∷ l) ++ x) (sym s.behind.whole)
@@ -37,3 +39,12 @@ rests_same run other x y a b count r t s w ends e h =
     ∙ sym (last_of other count (length x) ends.1 h)
     ∙ ap (λ n. str_to_ascii_lowercase (drop (length other - n) other)) e
     ∙ ap str_to_ascii_lowercase (rest_is other y b t w))
+
+-- how many labels differ where those behind the first ones are the same
+pub rows_beside : (run other x y : List ℕ) (a b : Label) (count : ℕ) (t : Bool) → IsRun run → IsRun other → SplitsLabel run a x → SplitsLabel other b y → SameEnds run other count → length x ≡ length y → length x ≤ count
+    → t ≡ same (labels_in run) (labels_in other)
+    → (length (labels_in run) ≡ length (labels_in other)) × (cond t 0 1 ≡ differing (labels_in run) (labels_in other))
+rows_beside run other x y a b count t r w s v ends e h is =
+    let rest = rests_same run other x y a b count r w s v ends e h in
+    beside (labels_in run) (labels_in other) (labels_in x) (labels_in y) a b t s.first v.first rest
+    (first_same (labels_in run) (labels_in other) (labels_in x) (labels_in y) a b t s.first v.first rest is)
