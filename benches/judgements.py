@@ -97,7 +97,7 @@ def grown(sizes):
 
 
 def main():
-    build(BENCH, (TOP / "sessions/first_wait").read_text(encoding="utf-8").split("\n"))
+    build(BENCH, (TOP / "examples/sessions/first_wait").read_text(encoding="utf-8").split("\n"))
     if len(sys.argv) > 1:
         return grown([int(it) for it in sys.argv[1:]])
     print("| owners | set-up of an owner | blocks |\n|---|---|---|")

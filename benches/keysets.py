@@ -2,13 +2,13 @@
 """Counts the instructions of the calls of a roll on large key sets, with callgrind.
 
 The calls are made up to one and up to the one before, and the difference is divided by the keys. Run it from anywhere; it
-builds crates/counting_bench first.
+builds crates/bench_counts first.
 """
 import sys
 
 from counting import build, counted
 
-BENCH = "counting_bench"
+BENCH = "bench_counts"
 SIZES = (100, 1000, 4000)
 CALLS = (
     "`start_roll`, each key listed",

@@ -2,11 +2,11 @@
 """Counts the instructions of calls on names in messages, with callgrind.
 
 A task is done once and once more on the same names, and the difference is divided by the names, so that reading the input
-and starting the program fall away. Run it from anywhere; it builds crates/counting_bench first.
+and starting the program fall away. Run it from anywhere; it builds crates/bench_counts first.
 """
 from counting import build, counted
 
-BENCH = "counting_bench"
+BENCH = "bench_counts"
 
 
 def wire(name):

@@ -2,14 +2,14 @@
 """Counts the instructions of calls on names, with callgrind, and the blocks of memory that comparing takes.
 
 A task is done once and once more on the same names, and the difference is divided by the calls of one time, so that
-reading the input and starting the program fall away. Run it from anywhere; it builds crates/counting_bench first.
+reading the input and starting the program fall away. Run it from anywhere; it builds crates/bench_counts first.
 """
 import random
 import re
 
 from counting import TOP, build, counted
 
-BENCH = "counting_bench"
+BENCH = "bench_counts"
 PLAIN = "abcdefghijklmnopqrstuvwxyz0123456789"
 
 
@@ -24,7 +24,7 @@ def text(wire):
 
 def order_names():
     """The names of the table of canonical order: pairs of neighbours, a line each behind lines that say so."""
-    lines = (TOP / "crates/name_lines/stdin").read_text(encoding="utf-8")
+    lines = (TOP / "crates/test_names/stdin").read_text(encoding="utf-8")
     pairs = re.search(r"^# names in canonical order.*\n(?:#.*\n)*((?:pair .*\n)+)", lines, re.MULTILINE)[1]
     return [text(bytes.fromhex(it)) for it in dict.fromkeys(re.findall(r"\b(?:[0-9a-f]{2})+\b", pairs))]
 

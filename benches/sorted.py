@@ -2,14 +2,14 @@
 """Counts the instructions of calls on sorted records, with callgrind.
 
 A pass is done once and once more on the same records, and the difference is divided by them, so that reading the input
-and starting the program fall away. Run it from anywhere; it builds crates/counting_bench first.
+and starting the program fall away. Run it from anywhere; it builds crates/bench_counts first.
 """
 import random
 import sys
 
 from counting import build, counted
 
-BENCH = "counting_bench"
+BENCH = "bench_counts"
 PLAIN = "abcdefghijklmnopqrstuvwxyz0123456789"
 OWNERS = 12_581
 

@@ -1,95 +1,236 @@
 /*
- * Judging what a signed DNS zone says of a name, from messages alone (RFC 4035, 5). docs/CALLING.md says how a call is made.
+ * What a signed DNS zone says of a name, judged from messages alone (RFC 4035, 5). zermuita_judge(3) and docs/use/CALLING.md say how a
+ * call is made.
  *
- * The library checks no signature. It is handed those that its caller has checked so far, and either answers or asks for one
- * more. It keeps nothing between calls, and nothing that it takes memory for outlives a call.
+ * The library checks no signature. It is handed those that its caller has checked, and gives a verdict, a refusal, or all
+ * signatures that are still to be checked. It keeps nothing between calls, calls nothing back but malloc, realloc and free,
+ * and has given back all memory when a call returns. It is thread-safe: it has no state, so any number of calls may run at once,
+ * on the same octets too, where no octets change meanwhile.
  */
 #ifndef ZERMUITA_H
 #define ZERMUITA_H
 
 #include <stddef.h>
 #include <stdint.h>
+#include <string.h>
+
+#define ZERMUITA_VERSION_MAJOR 0
+#define ZERMUITA_VERSION_MINOR 1
+#define ZERMUITA_VERSION_PATCH 0
+#define ZERMUITA_VERSION "0.1.0"
+/* As zermuita_version() gives it. */
+#define ZERMUITA_VERSION_NUMBER (ZERMUITA_VERSION_MAJOR << 16 | ZERMUITA_VERSION_MINOR << 8 | ZERMUITA_VERSION_PATCH)
 
 #ifdef __cplusplus
 extern "C" {
 #endif
 
-/* What a call answers. */
+/* What a call answers. Behind each stands what zermuita_strerror says of it. */
 enum zermuita_reply {
-    /* Verdicts. Of the first and the fourth the data of the records are written, each behind its length in two octets. */
-    ZERMUITA_RECORDS = 0,      /* the name has these records of the type */
-    ZERMUITA_NO_TYPE = 1,      /* the name has no record of the type */
-    ZERMUITA_NO_NAME = 2,      /* there is no such name */
-    ZERMUITA_STAR_RECORDS = 3, /* a wildcard stands for the name, with these records */
-    ZERMUITA_STAR_NO_TYPE = 4, /* a wildcard stands for the name, and has no record of the type */
-    ZERMUITA_DELEGATED = 5,    /* the name is at or below a delegation */
-    ZERMUITA_OPEN = 6,         /* an opt-out chain leaves open what is there */
-    ZERMUITA_UNSIGNED = 7,     /* the DS set is empty: nothing in the zone is signed */
+    /* Verdicts: secure, but for the last two. Of ZERMUITA_RECORDS and ZERMUITA_WILDCARD the records' data are written. */
+    ZERMUITA_RECORDS = 0,         /* the name has records of the type */
+    ZERMUITA_NODATA = 1,          /* the name has no records of the type */
+    ZERMUITA_NXDOMAIN = 2,        /* there is no such name */
+    ZERMUITA_WILDCARD = 3,        /* a wildcard stands for the name and has records of the type */
+    ZERMUITA_WILDCARD_NODATA = 4, /* a wildcard stands for the name and has no records of the type */
+    ZERMUITA_DELEGATED = 5,       /* the name is at or below a delegation */
+    ZERMUITA_OPTOUT = 6,          /* an opt-out chain leaves open what is there */
+    ZERMUITA_INSECURE = 7,        /* the DS set is empty, so nothing in the zone is signed */
 
-    /* Why there is no verdict. */
-    ZERMUITA_QUESTION_NOT_ALLOWED = 16,   /* name not at or below the apex, class not IN, or a type that is not judged */
+    /* Refusals: why there is no verdict. */
+    ZERMUITA_QUESTION_NOT_ALLOWED = 16,   /* the name is not in the zone, the class is not IN, or the type is not judged */
     ZERMUITA_BAD_DNSKEY_MESSAGE = 17,     /* the DNSKEY answer is not a message */
     ZERMUITA_BAD_ANSWER_MESSAGE = 18,     /* the answer is not a message */
     ZERMUITA_QUESTION_MISMATCH = 19,      /* a message answers another question */
     ZERMUITA_EQUAL_TAGS = 20,             /* two unlike keys have one tag */
-    ZERMUITA_NO_TRUSTED_KEY = 21,         /* no key that a DS record names signs the keys */
-    ZERMUITA_MIXED_NSEC3_PARAMETERS = 22, /* NSEC3 records of unlike parameters */
-    ZERMUITA_ITERATIONS_OVER_LIMIT = 23,  /* their iterations are over the limit */
+    ZERMUITA_NO_TRUSTED_KEY = 21,         /* no key that a DS record names signs the DNSKEY set */
+    ZERMUITA_MIXED_NSEC3_PARAMETERS = 22, /* NSEC3 records have unlike parameters */
+    ZERMUITA_ITERATIONS_OVER_LIMIT = 23,  /* the NSEC3 iterations are over the limit */
     ZERMUITA_HASH_FAILED = 24,            /* a name was not hashed */
-    ZERMUITA_NOT_PROVEN = 25,             /* the records prove no verdict */
-    ZERMUITA_OUT_OF_MEMORY = 26,
+    ZERMUITA_NOT_PROVEN = 25,             /* the signed records prove no verdict */
+    ZERMUITA_OUT_OF_MEMORY = 26,          /* memory ran out */
+    ZERMUITA_MIXED_VERSIONS = 27,         /* signatures are of unlike times, and one moment is asked for */
+    ZERMUITA_MESSAGE_TOO_LONG = 28,       /* a message is too long in canonical form */
 
     /* What the library wants. */
-    ZERMUITA_ASK = 32,              /* a signature is to be checked: its entry is written */
-    ZERMUITA_OTHER_SIGNATURES = 33, /* the entries are not those that this judgement asked for, in their order */
-    ZERMUITA_BUFFER_TOO_SMALL = 34, /* the reply has `len` octets, and was not written */
+    ZERMUITA_ASK = 32,              /* signatures are to be checked */
+    ZERMUITA_BUFFER_TOO_SMALL = 34, /* the reply has more octets than there is room for */
 
     /* What cannot be read. */
-    ZERMUITA_BAD_APEX = 35,      /* not a name in wire form */
-    ZERMUITA_BAD_DS_SET = 36,    /* not DS records behind their lengths */
-    ZERMUITA_BAD_NAME = 37,      /* not a name in wire form */
-    ZERMUITA_BAD_SIGNATURES = 38 /* not entries of checked signatures */
+    ZERMUITA_BAD_APEX = 35,       /* the name of the zone is not a name in wire form */
+    ZERMUITA_BAD_DS_SET = 36,     /* the DS set is not DS records behind their lengths */
+    ZERMUITA_BAD_NAME = 37,       /* the name that was asked for is not a name in wire form */
+    ZERMUITA_BAD_SIGNATURES = 38, /* the checked signatures are not entries */
+    ZERMUITA_BAD_CASE = 39        /* the case has an unknown size, a flag is not 0 or 1, or octets are null */
 };
 
-/* Octets that a call reads. `at` is never null, even for no octets. */
+/* Octets. Where `data` is null there are none, and `len` is 0. */
 struct zermuita_octets {
-    const uint8_t *at;
+    const uint8_t *data;
     size_t len;
 };
 
-/* What is judged. Names are in wire form, without pointers (RFC 1035, 3.1). */
+/*
+ * What is judged. Names are in wire form, without pointers (RFC 1035, 3.1). A case of an older header, which is smaller, is read
+ * as if what it lacks were 0.
+ */
 struct zermuita_case {
-    struct zermuita_octets apex;   /* the name of the zone */
-    struct zermuita_octets ds;     /* the DS set of the parent: each record's data behind its length in two octets */
-    struct zermuita_octets dnskey; /* the zone's answer for its DNSKEY records, a whole message */
-    struct zermuita_octets answer; /* its answer to the question, a whole message */
-    struct zermuita_octets name;   /* the name that was asked for */
-    /*
-     * The entries that were asked for so far, in their order. An entry has a DNSKEY record's data behind their length in two
-     * octets, the octets that the signature is made over behind their length in four, the signature behind its length in two,
-     * and one octet: 1 where the signature passes, else 0. Numbers have their highest octet first.
-     */
-    struct zermuita_octets checked;
-    uint64_t moment; /* at which signatures are to hold, in seconds since 1970 */
-    uint16_t rtype;  /* the type that was asked for */
-    uint16_t rclass; /* the class that was asked for: 1 */
-    uint16_t limit;  /* how many iterations of a name's hash are allowed (RFC 5155, 10.3) */
+    size_t size;                    /* sizeof(struct zermuita_case) */
+    struct zermuita_octets apex;    /* the name of the zone */
+    struct zermuita_octets ds;      /* the DS set of the parent: each record's data behind its length in two octets */
+    struct zermuita_octets dnskey;  /* the zone's answer for its DNSKEY records, a whole message */
+    struct zermuita_octets answer;  /* its answer to the question, a whole message */
+    struct zermuita_octets name;    /* the name that was asked for */
+    struct zermuita_octets checked; /* the signatures that were checked so far, as entries back to back, in any order */
+    uint64_t now;                   /* when signatures are to hold, in seconds since 1970 */
+    uint16_t rtype;                 /* the type that was asked for */
+    uint16_t rclass;                /* the class that was asked for: 1 */
+    uint16_t max_nsec3_iterations;  /* how many iterations of a name's hash are allowed (RFC 9276, 3.2) */
+    uint32_t one_moment;            /* 1: the answer's signatures are to be of one inception and one expiration; 0: of any */
+    uint32_t as_received;           /* 1: messages are judged as their octets stand; 0: names in data in canonical form first */
 };
 
 struct zermuita_report {
     size_t len;             /* how many octets the reply has */
-    uint32_t verifications; /* with a verdict or a refusal: how many signatures were looked up, each entry that is due */
+    uint32_t verifications; /* with a verdict or a refusal: how many signatures were looked up in `checked` */
     uint32_t hashes;        /* and how many names were hashed */
 };
 
+/* Of the library. These take no null pointer; call zermuita_judge and zermuita_strerror, which are written over them below. */
+uint32_t zermuita_judge_case(const struct zermuita_case *handed, uint8_t *out, size_t out_len, struct zermuita_report *report);
+void zermuita_reply_text(uint32_t reply, struct zermuita_octets *text);
+
+/* The version of the library that runs: 65,536 times major and 256 times minor and patch. */
+uint32_t zermuita_version(void);
+
+/* Whether a reply is a verdict. */
+static inline int zermuita_is_verdict(enum zermuita_reply reply) {
+    return reply <= ZERMUITA_INSECURE;
+}
+
+/* Whether a reply says why there is no verdict. */
+static inline int zermuita_is_refusal(enum zermuita_reply reply) {
+    return ZERMUITA_QUESTION_NOT_ALLOWED <= reply && reply <= ZERMUITA_MESSAGE_TOO_LONG;
+}
+
+/* A reply's name and a sentence. The text stands as long as the program runs. */
+static inline const char *zermuita_strerror(enum zermuita_reply reply) {
+    static const uint8_t none[1] = {0};
+    struct zermuita_octets text = {none, 0};
+    zermuita_reply_text((uint32_t)reply, &text);
+    return (const char *)text.data;
+}
+
+/* Puts a pointer in the place of null where there are no octets. 0 where null has a length. */
+static inline int zermuita_octets_are(struct zermuita_octets *octets) {
+    static const uint8_t none[1] = {0};
+    if (octets->data == NULL && octets->len == 0) {
+        octets->data = none;
+    }
+    return octets->data != NULL;
+}
+
+/* The octets that the library may read of a case, whatever the size of the caller's. */
+#define ZERMUITA_CASE_ROOM 256
+
 /*
- * Judges, and returns one of enum zermuita_reply. Where the reply's `len` octets are at most `out_len`, they are written to the front
- * of `out`; else nothing is. No pointer is null, and nothing that is read overlaps `out` or `report`.
+ * Judges. Where the reply's `report->len` octets are at most `out_len`, they are written to the front of `out`; else nothing is, and
+ * the reply is ZERMUITA_BUFFER_TOO_SMALL. `out` may be null where `out_len` is 0, and `report` where it is not wanted. Nothing that
+ * is read overlaps `out` or `report`.
  *
- * On ZERMUITA_ASK, check the signature of the entry, set the entry's last octet to 1 if it passes, put the entry at the end of
- * `checked`, and call again. A judgement that began with no entry asks at most once for each RRSIG record of both messages.
+ * On ZERMUITA_ASK `out` has all signatures that are to be checked: check each (zermuita_next_ask), put the octets of `out` at
+ * the end of `checked`, and call again. An answer whose signatures pass takes two calls.
  */
-uint32_t zermuita_judge(const struct zermuita_case *handed, uint8_t *out, size_t out_len, struct zermuita_report *report);
+static inline enum zermuita_reply zermuita_judge(const struct zermuita_case *handed, uint8_t *out, size_t out_len,
+                                                 struct zermuita_report *report) {
+    union {
+        struct zermuita_case handed;
+        uint8_t octets[ZERMUITA_CASE_ROOM];
+    } room;
+    struct zermuita_report unread;
+    uint8_t nowhere[1];
+    report = report != NULL ? report : &unread;
+    memset(report, 0, sizeof *report);
+    memset(&room, 0, sizeof room);
+    memcpy(&room, handed, handed->size < sizeof *handed ? handed->size : sizeof *handed);
+    if (!zermuita_octets_are(&room.handed.apex) || !zermuita_octets_are(&room.handed.ds)
+        || !zermuita_octets_are(&room.handed.dnskey) || !zermuita_octets_are(&room.handed.answer)
+        || !zermuita_octets_are(&room.handed.name) || !zermuita_octets_are(&room.handed.checked)) {
+        return ZERMUITA_BAD_CASE;
+    }
+    if (out == NULL) {
+        out = nowhere;
+        out_len = 0;
+    }
+    return (enum zermuita_reply)zermuita_judge_case(&room.handed, out, out_len, report);
+}
+
+/* A number of so many octets, the highest first. */
+static inline size_t zermuita_number(const uint8_t *octets, size_t width) {
+    size_t number = 0;
+    for (size_t i = 0; i < width; i++) {
+        number = number << 8 | octets[i];
+    }
+    return number;
+}
+
+/* Takes a part behind its length in so many octets off the front of `rest`. 0 where there is none. */
+static inline int zermuita_next_part(struct zermuita_octets *rest, size_t width, struct zermuita_octets *part) {
+    size_t len = rest->len < width ? 0 : zermuita_number(rest->data, width);
+    if (rest->len < width || rest->len - width < len) {
+        return 0;
+    }
+    part->data = rest->data + width;
+    part->len = len;
+    rest->data += width + len;
+    rest->len -= width + len;
+    return 1;
+}
+
+/*
+ * Takes the data of one record off the front of `rest`, which begins as the octets of a reply that is ZERMUITA_RECORDS or
+ * ZERMUITA_WILDCARD. 0 where there are no more. They come in canonical order.
+ */
+static inline int zermuita_next_record(struct zermuita_octets *rest, struct zermuita_octets *rdata) {
+    return zermuita_next_part(rest, 2, rdata);
+}
+
+/* A signature that is to be checked. All of it points into the reply. */
+struct zermuita_ask {
+    struct zermuita_octets dnskey;    /* the data of the DNSKEY record: flags, protocol, algorithm and key (RFC 4034, 2.1) */
+    struct zermuita_octets key;       /* the key alone, as its algorithm writes it */
+    struct zermuita_octets octets;    /* what the signature is made over */
+    struct zermuita_octets signature; /* as the RRSIG record has it */
+    uint8_t algorithm;                /* of the key and the signature (RFC 4034, appendix A.1) */
+    uint8_t *passes;                  /* where zermuita_answer writes */
+};
+
+/*
+ * Takes an entry off the front of `len` octets at `*next`, and moves both behind it. 0 where there is no more. An entry is a DNSKEY
+ * record's data behind their length in two octets, the octets that the signature is made over behind their length in four, the
+ * signature behind its length in two, and one octet: 1 where the signature passes, else 0.
+ */
+static inline int zermuita_next_ask(uint8_t **next, size_t *len, struct zermuita_ask *ask) {
+    struct zermuita_octets rest;
+    rest.data = *next;
+    rest.len = *len;
+    if (!zermuita_next_part(&rest, 2, &ask->dnskey) || !zermuita_next_part(&rest, 4, &ask->octets)
+        || !zermuita_next_part(&rest, 2, &ask->signature) || rest.len == 0 || ask->dnskey.len < 4) {
+        return 0;
+    }
+    ask->algorithm = ask->dnskey.data[3];
+    ask->key.data = ask->dnskey.data + 4;
+    ask->key.len = ask->dnskey.len - 4;
+    ask->passes = *next + (*len - rest.len);
+    *next = ask->passes + 1;
+    *len = rest.len - 1;
+    return 1;
+}
+
+/* Writes into an entry whether its signature passes. */
+static inline void zermuita_answer(const struct zermuita_ask *ask, int passes) {
+    *ask->passes = passes != 0;
+}
 
 #ifdef __cplusplus
 }

@@ -135,7 +135,7 @@ __attribute__((noinline)) static bool denies(dns_message_t *message, dns_rdataty
 static dns_message_t *message_of(const struct buffer *octets) {
     isc_buffer_t source;
     dns_message_t *message = NULL;
-    isc_buffer_init(&source, octets->at, (unsigned int)octets->len);
+    isc_buffer_init(&source, octets->data, (unsigned int)octets->len);
     isc_buffer_add(&source, (unsigned int)octets->len);
     dns_message_create(memory, DNS_MESSAGE_INTENTPARSE, &message);
     if (dns_message_parse(message, &source, 0) != ISC_R_SUCCESS) {

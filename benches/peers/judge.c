@@ -1,43 +1,46 @@
-/* Judges answers by zermuita_judge: once for the signatures that it asks for, then with one of them more at each counted call. */
+/* Judges answers by zermuita_judge: once for the signatures that it asks for, then call by call from an empty list, counted. */
 #include "asked.h"
 
 #include "judgement.h"
 
-static struct zermuita_octets octets_of(const struct buffer *buffer) {
-    return (struct zermuita_octets){buffer->at, buffer->len};
-}
+#include "../../examples/c/signature.h"
 
 static struct zermuita_case case_of(const struct asked *asked) {
     return (struct zermuita_case){
+        .size = sizeof(struct zermuita_case),
         .apex = octets_of(&asked->apex),
         .ds = octets_of(&asked->ds),
         .dnskey = octets_of(&asked->dnskey),
         .answer = octets_of(&asked->answer),
         .name = octets_of(&asked->name),
-        .moment = asked->moment,
+        .now = asked->moment,
         .rtype = asked->rtype,
         .rclass = 1,
-        .limit = asked->limit,
+        .max_nsec3_iterations = asked->limit,
     };
+}
+
+static bool passes(const struct zermuita_ask *ask) {
+    return signature_passes(ask);
 }
 
 /* What is handed in and what was replied. */
 static struct zermuita_case handed;
 static struct judgement judgement;
-static uint32_t reply;
+static enum zermuita_reply reply;
 
 static bool call(const struct asked *asked) {
     (void)asked;
-    reply = zermuita_judge(&handed, judgement.octets.at, judgement.octets.room, &judgement.report);
-    return reply == ZERMUITA_ASK || reply == ZERMUITA_RECORDS || reply == ZERMUITA_NO_NAME;
+    reply = zermuita_judge(&handed, judgement.octets.data, judgement.octets.room, &judgement.report);
+    return reply == ZERMUITA_ASK || reply == ZERMUITA_RECORDS || reply == ZERMUITA_NXDOMAIN;
 }
 
 int main(void) {
     struct asked asked = {0};
     while (next_asked(&asked)) {
         handed = case_of(&asked);
-        judge(handed, &judgement);
-        handed.checked = (struct zermuita_octets){judgement.checked.at, 0};
+        judge(handed, passes, &judgement);
+        handed.checked = (struct zermuita_octets){judgement.checked.data, 0};
         for (reply = ZERMUITA_ASK; reply == ZERMUITA_ASK;) {
             count(&asked, "judge", call);
             if (reply == ZERMUITA_ASK) {

@@ -6,7 +6,7 @@
 
 static bool reads(const struct buffer *octets) {
     ldns_pkt *message = NULL;
-    bool is_read = ldns_wire2pkt(&message, octets->at, octets->len) == LDNS_STATUS_OK;
+    bool is_read = ldns_wire2pkt(&message, octets->data, octets->len) == LDNS_STATUS_OK;
     ldns_pkt_free(message);
     return is_read;
 }
@@ -49,7 +49,7 @@ __attribute__((noinline)) static bool denies(const ldns_pkt *message) {
 
 static bool read_and_check(const struct asked *asked) {
     ldns_pkt *message = NULL;
-    bool is_done = ldns_wire2pkt(&message, asked->answer.at, asked->answer.len) == LDNS_STATUS_OK && denies(message);
+    bool is_done = ldns_wire2pkt(&message, asked->answer.data, asked->answer.len) == LDNS_STATUS_OK && denies(message);
     ldns_pkt_free(message);
     return is_done;
 }

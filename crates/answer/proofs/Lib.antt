@@ -1,2 +1,3 @@
 pub mod SimulateLoop
 pub mod ShownThings
+mod RefusedAhead

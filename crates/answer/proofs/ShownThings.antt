@@ -7,11 +7,11 @@ use Rattle.definitions.specs.Dnskey.{Ds}
 use Rattle.definitions.specs.Name.{Name}
 use Rattle.messages.specs.declared.question.Question.{Question}
 use Rattle.messages.specs.Questions.{asked_of}
-use Rattle.answer_life.specs.declared.outcome.Outcome.{Outcome}
+use Rattle.answer_laws.specs.declared.outcome.Outcome.{Outcome}
 use Rattle.answer.specs.declared.simulation.results.Shown.{Shown as CodeShown}
 use Rattle.answer.specs.declared.simulation.results.Shown.TheVariants as code
 use Rattle.answer.specs.Results.{IsThere, Results, octets_of, results, set_of, shown_of}
-use Rattle.answer_life.specs.Simulating.{Shown, OfParent, OfKeys, OfZone}
+use Rattle.answer_laws.specs.Simulating.{Shown, OfParent, OfKeys, OfZone}
 
 -- what stands at a place stays there
 stays : {X : Type 0} (of : Option Outcome → Option X) → of None ≡ None → (os more : List Outcome) (n : ℕ) → IsSome (of (slice_get os n)) → slice_get (os ++ more) n ≡ slice_get os n

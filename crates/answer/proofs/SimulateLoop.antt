@@ -2,8 +2,13 @@
 use Rattle.std.proofs.Common.{◌≡◌, ℕ, ◌+◌, ◌<◌, ◌≤◌, length, drop, List, [], ◌∷◌, ◌++◌, get_or, subst, sym, append_assoc, ap, ◌∙◌}
 use Rattle.std.proofs.lemmas.List.{drop_more, drop_all, append-nil}
 use Rattle.answer_events.specs.declared.event.Event.{Event}
-use Rattle.answer_life.specs.declared.outcome.Outcome.{Outcome}
-use Rattle.answer_life.specs.Simulating.{Sofar, StepOf, Simulates}
+use Rattle.answer_laws.specs.declared.outcome.Outcome.{Outcome}
+use Rattle.std.specs.Prelude.{Ok, Err}
+use Rattle.answer_events.specs.declared.event.Act.{Act}
+use Rattle.answer_events.specs.declared.event.Act.TheVariants as act
+use Rattle.answer_laws.specs.declared.outcome.Outcome.TheVariants as outcome
+use Rattle.answer_publisher.specs.declared.fault.ReplaceFault.TheVariants.{TooSoon, Zone}
+use Rattle.answer_laws.specs.Simulating.{Sofar, StepOf, Simulates, now_in}
 use Rattle.answer_publisher.specs.World.{World}
 
 -- the outcomes so far begin every simulation that goes on from here
@@ -22,9 +27,28 @@ at_end w first es outs i s h on =
     let Q : List Outcome → Type 0 = λ os. Simulates w first es os s in
     (s, subst Q (append-nil outs) (on [] s (subst P (sym (drop_all i es h)) (λ _. s))))
 
--- a step of the event at a place, in the same world
-pub step_at : (v w : World) (s t : Sofar) (es : List Event) (i : ℕ) (d : Event) (o : Outcome) → v ≡ w → d ≡ get_or es i d → StepOf v s d.at d.act o t → StepOf w s (get_or es i d).at (get_or es i d).act o t
+-- a step knows of the zone's records those of now alone
+now_step : (w : World) (s t : Sofar) (at : ℕ) (a : Act) (o : Outcome) → StepOf (now_in w s) s at a o t → StepOf w s at a o t
+now_step w s t at (act.Key c) (outcome.Key r) h = h
+now_step w s t at (act.Key c) _ h = absurd h
+now_step w s t at (act.Replace records) (outcome.Replaced (Ok u)) h = h
+now_step w s t at (act.Replace records) (outcome.Replaced (Err TooSoon)) h = h
+now_step w s t at (act.Replace records) (outcome.Replaced (Err (Zone f))) h = h
+now_step w s t at (act.Replace records) _ h = absurd h
+now_step w s t at act.ShowDs (outcome.Ds place set) h = h
+now_step w s t at act.ShowDs _ h = absurd h
+now_step w s t at act.ShowDnskey (outcome.Message place octets) h = h
+now_step w s t at act.ShowDnskey (outcome.Refused e) h = h
+now_step w s t at act.ShowDnskey _ h = absurd h
+now_step w s t at (act.Ask q) (outcome.Message place octets) h = h
+now_step w s t at (act.Ask q) (outcome.Refused e) h = h
+now_step w s t at (act.Ask q) _ h = absurd h
+now_step w s t at (act.Judge ds dnskey answer) o h = h
+now_step w s t at (act.JudgeBytes ds dnskey answer q) o h = h
+
+-- a step of the event at a place, in the same world, whose zone has these records now
+pub step_at : (v w : World) (s t : Sofar) (es : List Event) (i : ℕ) (d : Event) (o : Outcome) → v ≡ now_in w s → d ≡ get_or es i d → StepOf v s d.at d.act o t → StepOf w s (get_or es i d).at (get_or es i d).act o t
 step_at v w s t es i d o e f h =
     let P : Event → Type 0 = λ x. StepOf v s x.at x.act o t in
     let Q : World → Type 0 = λ x. StepOf x s (get_or es i d).at (get_or es i d).act o t in
-    subst Q e (subst P f h)
+    now_step w s t (get_or es i d).at (get_or es i d).act o (subst Q e (subst P f h))

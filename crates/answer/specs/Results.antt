@@ -1,11 +1,11 @@
 -- Outcomes of a run, and what was shown, each thing by the place of its outcome.
 use Rattle.std.specs.Prelude.{ℕ, List, [], Option, Some, None, IsSome, map, slice_get, unwrap_or}
 use Rattle.definitions.specs.Dnskey.{Ds}
-use Rattle.answer_life.specs.declared.outcome.Outcome.{Outcome}
-use Rattle.answer_life.specs.declared.outcome.Outcome.TheVariants as outcome
+use Rattle.answer_laws.specs.declared.outcome.Outcome.{Outcome}
+use Rattle.answer_laws.specs.declared.outcome.Outcome.TheVariants as outcome
 use Rattle.answer.specs.declared.simulation.results.Shown.{Shown as CodeShown}
 use Rattle.answer.specs.declared.simulation.results.Shown.TheVariants as code
-use Rattle.answer_life.specs.Simulating.{Shown, OfParent, OfKeys, OfZone}
+use Rattle.answer_laws.specs.Simulating.{Shown, OfParent, OfKeys, OfZone}
 use Rattle.messages.specs.Questions.{asked_of}
 
 -- the DS set of an outcome, if there is one

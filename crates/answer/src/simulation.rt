@@ -1,30 +1,31 @@
 //! A simulation of a zone's key life: key calls, things shown, and judgements of them.
 ghost use Rattle.std.specs.Prelude.{◌<◌, ◌≤◌, ◌^◌, All, map, IfOk, IfErr};
-ghost use Rattle.answer_records.specs.Faults.{RefusesZone};
+ghost use Rattle.answer_zone_records.specs.Faults.{RefusesZone};
 ghost use Rattle.messages.specs.HandedRr.{handed_of};
-ghost use Rattle.answer_records.specs.ModeView.{mode_of};
+ghost use Rattle.answer_zone_records.specs.ModeView.{mode_of};
 ghost use Rattle.answer_events.specs.Events.{added_octets};
-ghost use Rattle.answer_life.specs.Simulations.{IsSimulation};
+ghost use Rattle.answer_laws.specs.Simulations.{IsSimulation};
 ghost use Rattle.answer_publisher.specs.World.{world_by, zone_by};
 
 use crate::simulation::run::Run;
 use answer_events::event::Event;
-use answer_life::outcome::Outcome;
+use answer_laws::outcome::Outcome;
 use answer_publisher::fault::{Mode, ZoneFault};
 use answer_publisher::publishing::Publisher;
 use answer_scheme::scheme::Scheme;
-use denial_hashes::hasher::Nsec3Hasher;
+use denial_nsec3_hash::hasher::Nsec3Hasher;
 use messages::names::Name;
 use messages::record::ZoneRecord;
 use std::alloc::Global;
 
+mod copies;
 mod results;
 mod run;
 
 /// Runs events over a zone, one outcome an event.
 ///
 /// A thing that is shown takes the next place, from 0 on; a judgement names the places of what it judges. A refused
-/// key call or showing is an outcome of its own. The whole is refused as [`Publisher::new`] refuses the zone, and
+/// key call, replacement or showing is an outcome of its own. The whole is refused as [`Publisher::new`] refuses the zone, and
 /// with `Memory` where the run's own lists cannot grow.
 pub fn simulate<S: Scheme, H: Nsec3Hasher>(
     alloc: Global,

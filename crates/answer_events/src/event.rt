@@ -6,7 +6,9 @@ ghost use Rattle.answer_events.specs.Events.{added_by_call};
 use crate::key_kind::KeyKind;
 use keyset::{Available, RollType, UnixTime};
 use messages::question::Question;
+use messages::record::ZoneRecord;
 use numbers::algorithm::SecurityAlgorithm;
+use std::fmt;
 
 /// An act at a moment. A key call takes the moment as its present, and an added key as its creation.
 #[derive(Debug, Drop)]
@@ -18,10 +20,12 @@ pub struct Event {
 /// What a zone's keeper, a resolver or a stranger does.
 ///
 /// A place counts the things shown so far, from 0 on.
-#[derive(Debug, Drop)]
+#[derive(Drop)]
 pub enum Act {
     /// A call on the keys of the zone.
     Key(KeyCall),
+    /// Publishes other records in the place of the zone's.
+    Replace(Vec<ZoneRecord>),
     /// Shows the DS set of the parent (RFC 4034, 5).
     ShowDs,
     /// Shows the answer for the DNSKEY RRset.
@@ -41,6 +45,37 @@ pub enum Act {
         answer_bytes: Vec<u8>,
         question: Question,
     },
+}
+
+/// Of records it says how many there are.
+impl fmt::Debug for Act {
+    fn fmt<W: fmt::Write>(&self, f: &mut fmt::Formatter<W>) -> fmt::Result {
+        match self {
+            Act::Key(call) => f.debug_tuple("Key").field(call).finish(),
+            Act::Replace(records) => f.debug_tuple("Replace").field(&records.len()).finish(),
+            Act::ShowDs => f.write_str("ShowDs"),
+            Act::ShowDnskey => f.write_str("ShowDnskey"),
+            Act::Ask(question) => f.debug_tuple("Ask").field(question).finish(),
+            Act::Judge { ds, dnskey, answer } => f
+                .debug_struct("Judge")
+                .field("ds", ds)
+                .field("dnskey", dnskey)
+                .field("answer", answer)
+                .finish(),
+            Act::JudgeBytes {
+                ds,
+                dnskey_bytes,
+                answer_bytes,
+                question,
+            } => f
+                .debug_struct("JudgeBytes")
+                .field("ds", ds)
+                .field("dnskey_bytes", dnskey_bytes)
+                .field("answer_bytes", answer_bytes)
+                .field("question", question)
+                .finish(),
+        }
+    }
 }
 
 /// A call on the keys of a zone, with its arguments. A key's octets are at most 65,531.

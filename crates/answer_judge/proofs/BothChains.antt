@@ -1,15 +1,14 @@
 -- One zone with either chain has one verdict of a question.
-use Rattle.std.proofs.Common.{◌≡◌, ℕ, false, List, ap, ◌∙◌, subst}
+use Rattle.std.proofs.Common.{false, List, ap, ◌∙◌, subst}
 use Rattle.definitions.specs.Name.{Name}
 use Rattle.definitions.specs.Zone.{Verdict, verdict}
-use Rattle.definitions.specs.ZoneChain.{Nsec, Nsec3, optout_of}
+use Rattle.definitions.specs.ZoneChain.{Nsec, Nsec3}
 use Rattle.messages.specs.HandedRr.{HandedRr}
 use Rattle.messages.specs.Message.{Asked}
-use Rattle.answer_scheme.specs.Answers.{Answers}
-use Rattle.answer_terms.specs.Accepting.{zone_of}
-use Rattle.answer_judge.specs.BothChains.{ChainsSayTheSame, Decision}
-use Rattle.answer_facts.specs.Judged.{AnswersAs}
-use Rattle.answer_facts.specs.Judging.{Handing, Says}
+use Rattle.answer_shared.specs.Accepting.{zone_of}
+use Rattle.answer_judge.specs.BothChains.{ChainsSayTheSame}
+use Rattle.answer_judge_facts.specs.Judged.{AnswersAs}
+use Rattle.answer_judge_facts.specs.Judging.{Says}
 
 abbrev verdict_of : List HandedRr → Name → Asked → Verdict
 verdict_of rs apex asked = verdict (zone_of apex rs) false asked.name asked.rtype

@@ -8,10 +8,10 @@ use Rattle.definitions.specs.Limits.{pointer_limit}
 use Rattle.definitions.specs.Name.{Name, same}
 use Rattle.definitions.specs.Signing.{Fields, signed_octets}
 use Rattle.messages.specs.Message.{Spelled, rrsig_at}
-use Rattle.answer_facts.specs.Facts.{fits_key, is_due, is_signature, signs}
-use Rattle.answer_facts.specs.Verified.{Trusting, verifies_with, verified_by, verified_with}
+use Rattle.answer_judge_facts.specs.Facts.{fits_key, is_due, is_signature, signs}
+use Rattle.answer_judge_facts.specs.Verified.{Trusting, verifies_with, verified_by, verified_with}
 use Rattle.answer_judge.specs.FirstSignature.{Held, IsFirst}
-use Rattle.answer_facts.proofs.JudgeMarks.{with_is}
+use Rattle.answer_judge_facts.proofs.JudgeMarks.{with_is}
 
 -- what stands behind an open gate
 pub opened : (b c : Bool) → elim b as (λ _. Bool) [ false ↦ false | true ↦ c ] ≡ true → (b ≡ true) × (c ≡ true)
@@ -58,7 +58,7 @@ module _ (w : Trusting) (m : List ℕ) (o : Name) (t : ℕ) (items : List (List 
   -- one behind a record that doesn't
   behind : (r : Spelled) (rs : List Spelled) (f : Fields) → verified_with w pointer_limit m o t items r ≡ None → IsFirst w (held rs) f → IsFirst w (held (r ∷ rs)) f
   behind r rs f e first =
-      let no : verifies_with w pointer_limit m o t items r ≡ false = sym (with_is w m o t items r) ∙ ap is_some e in
+      let no : verifies_with w pointer_limit m o t items r ≡ false = sym (with_is w pointer_limit m o t items r) ∙ ap is_some e in
       record {
         before = r ∷ first.before;
         found = first.found;

@@ -1,31 +1,36 @@
 -- A judge of what one zone gave under keys that meet says the zone's verdict.
-use Rattle.std.proofs.Common.{◌≡◌, ℕ, ◌<◌, Bool, true, false, List, [], ◌∷◌, map, Option, Some, refl, sym, ap, ◌∙◌, inl, inr, ⊎_elim}
+use Rattle.std.proofs.Common.{◌≡◌, ℕ, ◌<◌, ◌&&◌, Bool, true, false, List, [], ◌∷◌, map, Option, Some, refl, sym, ap, ◌∙◌, inl, inr, ⊎_elim}
 use Rattle.std.specs.Prelude.{IfSome, if◌then◌else◌}
 use Rattle.std.specs.List.{AllByRecursion, filter, list_any}
 use Rattle.definitions.specs.Name.{Name, at_or_above, low}
 use Rattle.definitions.specs.Zone.{Verdict, Zone, verdict}
 use Rattle.definitions.specs.ZoneChain.{Mode, Nsec, Nsec3, hashed_names, optout_of}
 use Rattle.definitions.proofs.ZoneNames.{lowered_above}
-use Rattle.denial_rules.specs.Facts.{Facts, HashLink, Link, Rrset}
-use Rattle.denial_rules.specs.OwnFacts.{hash_link_of, hash_link_speaks, own_facts, own_hash_links, own_links, own_rrset, spoken}
+use Rattle.denial_laws.specs.Facts.{Facts, HashLink, Link, Rrset}
+use Rattle.denial_laws.specs.OwnFacts.{hash_link_of, hash_link_speaks, own_facts, own_hash_links, own_links, own_rrset, spoken}
 use Rattle.messages.specs.HandedRr.{HandedRr}
-use Rattle.answer_rules.specs.Hashes.{hash_among}
-use Rattle.answer_terms.specs.Accepting.{zone_of}
-use Rattle.answer_terms.specs.FactsCase.{low_facts}
-use Rattle.answer_terms.specs.Hashing.{hash_in}
-use Rattle.answer_terms.specs.Served.{by_tag}
-use Rattle.answer_terms.proofs.FactsCase.{links_lowered}
-use Rattle.answer_terms.proofs.Servable.{allowed_answers_decide, asked_inside}
+use Rattle.answer_judge_rules.specs.Hashes.{hash_among}
+use Rattle.answer_shared.specs.Accepting.{zone_of}
+use Rattle.answer_shared.specs.FactsCase.{low_facts}
+use Rattle.answer_shared.specs.Hashing.{hash_in}
+use Rattle.answer_shared.specs.Served.{by_tag}
+use Rattle.answer_shared.proofs.FactsCase.{links_lowered}
+use Rattle.answer_shared.proofs.Servable.{allowed_answers_decide, asked_inside}
 use Rattle.answer_scheme.specs.Answers.{Answers}
-use Rattle.answer_facts.specs.Judged.{AnswersAs, are_mixed, are_over, by_facts, decided_by, facts_in, is_unhashed, judged, judged_facts, trusting}
-use Rattle.answer_facts.specs.Judging.{Answer, Handing, Refuses, Says}
+use Rattle.answer_judge_facts.specs.Judged.{AnswersAs, are_mixed, are_over, by_facts, decided_by, facts_in, is_unhashed, judged, judged_facts, judged_proof, trusting}
+use Rattle.answer_judge_facts.specs.Judging.{Answer, Handing, Refuses, Says}
 use Rattle.answer_judge.specs.Meeting.{AnswersGiven, WasGiven}
 use Rattle.answer_judge.specs.OwnFacts.{TellsZone}
-use Rattle.answer_facts.specs.declared.verdict.Refusal.TheVariants as r
+use Rattle.answer_judge_facts.specs.declared.verdict.Refusal.TheVariants as r
 use Rattle.answer_judge.proofs.GivenFacts.{rrset_inside, told_facts_are_own}
 use Rattle.answer_judge.proofs.GivenHashing.{AreHashedBy, ExpandsInside, SaysHashing, hashes_agree, none_fails, not_mixed, not_over}
 use Rattle.answer_judge.proofs.GivenJudged.{judged_given, signer_found, signer_signs, usable_keys}
 use Rattle.answer_judge.proofs.GivenLists.{contained_has}
+use Rattle.answer_judge.proofs.GivenMoments.{zone_alike}
+
+and_no : (b : Bool) → (b && false) ≡ false
+and_no true = refl
+and_no false = refl
 
 -- ---- facts by the tests in order
 
@@ -119,7 +124,9 @@ module _ (a : Answers) (k : ℕ) (h : Handing) (mode : Mode) (rs : List HandedRr
   judged_as_zone =
       let f : Facts = facts_in a k h (usable_keys a k h mode rs given) given.answer_told.read in
       let told = told_facts_are_own (trusting a h (usable_keys a k h mode rs given)) k mode rs h.asked h.answer_bytes (tells_zone a k h mode rs short given) in
-      judged_given a k h mode rs given ∙ sym (judged_lowered a h f) ∙ ap (judged_facts a h) told ∙ own_judged
+      let alike = zone_alike (trusting a h (usable_keys a k h mode rs given)) k mode rs h.asked h.answer_bytes (tells_zone a k h mode rs short given) in
+      judged_given a k h mode rs given ∙ ap (judged_proof a h f) alike ∙ ap (λ b. if b then Refuses r.MixedVersions else judged_facts a h f) (and_no h.one_moment)
+      ∙ sym (judged_lowered a h f) ∙ ap (judged_facts a h) told ∙ own_judged
 
 -- an answer that is exact says the zone's verdict; limits are numbers of 16 bits
 pub answers_given : (a : Answers) (k : ℕ) (h : Handing) (answer : Answer) → h.limit < 65536 → AnswersAs answer (judged a k h) → AnswersGiven a k h answer

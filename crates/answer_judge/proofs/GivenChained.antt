@@ -9,24 +9,24 @@ use Rattle.std.proofs.lemmas.List.Elements.{filter_map-append}
 use lib.Pointwise.{bytes_decides}
 use Rattle.definitions.specs.Name.{Name, low, same}
 use Rattle.definitions.specs.Dnskey.{Dnskey, Ds, dnskey_data, dnskey_of_data, key_tag}
-use Rattle.definitions.specs.Zone.{apex_of, sorted_data}
+use Rattle.definitions.specs.Zone.{sorted_data}
 use Rattle.definitions.specs.ZoneChain.{Mode}
 use Rattle.messages.specs.HandedRr.{HandedRr}
 use Rattle.answer_scheme.specs.Answers.{Answers}
-use Rattle.answer_facts.specs.Facts.{digests_to, is_trusted, is_usable, names_key}
-use Rattle.answer_terms.specs.Told.{TellsGroups, AreRecords, AreSignatures, TellsKeys, IsRecord, IsSignature, fields_for}
-use Rattle.answer_facts.specs.Judged.{is_chained, keys_of, trusting}
-use Rattle.answer_facts.specs.Judging.{Handing, key_at, keys_in}
-use Rattle.answer_terms.specs.EqualTags.{has_equal_tags}
-use Rattle.answer_judge.specs.Meeting.{HasDs, IsZoneKey, WasGiven, served_from}
+use Rattle.answer_judge_facts.specs.Facts.{digests_to, is_trusted, is_usable, names_key}
+use Rattle.answer_shared.specs.Told.{TellsGroups, AreRecords, AreSignatures, TellsKeys, IsRecord, IsSignature, fields_for}
+use Rattle.answer_judge_facts.specs.Judged.{is_chained, keys_of, trusting}
+use Rattle.answer_judge_facts.specs.Judging.{Handing, key_at, keys_in}
+use Rattle.answer_shared.specs.EqualTags.{has_equal_tags}
+use Rattle.answer_judge.specs.Meeting.{HasDs, IsZoneKey, WasGiven}
 use Rattle.messages.specs.Message.{Spelled, data_of}
-use Rattle.answer_terms.specs.Served.{Group, Served, by_tag, key_group}
-use Rattle.answer_facts.specs.Verified.{Trusting, is_verified}
-use Rattle.answer_facts.proofs.GivenKeys.{IsKeyData, by_tag-has, data_of_key, find_kept, key_data, read_all, read_from, read_has, tags_within}
+use Rattle.answer_shared.specs.Served.{Group, by_tag, key_group}
+use Rattle.answer_judge_facts.specs.Verified.{Trusting, is_verified}
+use Rattle.answer_judge_facts.proofs.GivenKeys.{IsKeyData, by_tag-has, data_of_key, find_kept, key_data, read_all, read_from, read_has, tags_within}
 use Rattle.answer_judge.proofs.GivenLists.{has_contained}
 use Rattle.answer_judge.proofs.GivenNext.{canonical_octets}
 use Rattle.answer_judge.proofs.GivenSignatures.{IsSignedBy, fits_equal, verified_given}
-use Rattle.answer_facts.proofs.GivenSorted.{all_has, data_has, some_length, sorted_from, sorted_twice}
+use Rattle.answer_judge_facts.proofs.GivenSorted.{all_has, data_has, some_length, sorted_from, sorted_twice}
 use Rattle.messages.proofs.Lists.{Has, all_at, all_more, any_from}
 use Rattle.messages.proofs.ZoneNames.{labels_eq-same}
 
@@ -84,16 +84,16 @@ are_data : (ks : List Dnskey) → Small ks → AllByRecursion (IsKeyData ks) (pr
 are_data ks small = all_has (IsKeyData ks) (present_data ks) (λ d h. key_data ks d small (sorted_from _ (map dnskey_data ks) d h))
 
 -- the keys of the answer are those that are present, in order of their data
-pub keys_given : (v : Dnskey → List ℕ → List ℕ → Bool) (k : ℕ) (s : Served) (apex : Name) (present signers : List Dnskey) (at life : ℕ) (bytes : List ℕ) → (g : TellsKeys v k s apex present signers at life bytes) → keys_in bytes apex g.read.records ≡ filter_map dnskey_of_data (present_data present)
-keys_given v k s apex present signers at life bytes g =
-    keys_among v k bytes g.read.records apex at life (by_tag signers) (key_group apex (s.ttl_of (apex_of s.zone) 6) present) refl refl g.groups_are
+pub keys_given : (v : Dnskey → List ℕ → List ℕ → Bool) (k ttl : ℕ) (apex : Name) (present signers : List Dnskey) (at life : ℕ) (bytes : List ℕ) → (g : TellsKeys v k ttl apex present signers at life bytes) → keys_in bytes apex g.read.records ≡ filter_map dnskey_of_data (present_data present)
+keys_given v k ttl apex present signers at life bytes g =
+    keys_among v k bytes g.read.records apex at life (by_tag signers) (key_group apex ttl present) refl refl g.groups_are
 
-module _ (v : Dnskey → List ℕ → List ℕ → Bool) (k : ℕ) (s : Served) (apex : Name) (present signers : List Dnskey) (at life : ℕ) (bytes : List ℕ) (g : TellsKeys v k s apex present signers at life bytes) (small : Small present) where
+module _ (v : Dnskey → List ℕ → List ℕ → Bool) (k ttl : ℕ) (apex : Name) (present signers : List Dnskey) (at life : ℕ) (bytes : List ℕ) (g : TellsKeys v k ttl apex present signers at life bytes) (small : Small present) where
   abbrev read_keys : List Dnskey
   read_keys = keys_in bytes apex g.read.records
 
   read_are : read_keys ≡ filter_map dnskey_of_data (present_data present)
-  read_are = keys_given v k s apex present signers at life bytes g
+  read_are = keys_given v k ttl apex present signers at life bytes g
 
   -- their data
   pub keys_data : map dnskey_data read_keys ≡ present_data present
@@ -129,7 +129,7 @@ small_flags ks h = all_more IsZoneKey (λ (k : Dnskey). k.flags < 65536) ks (λ 
 pub chained_given : (a : Answers) (k : ℕ) (h : Handing) (mode : Mode) (rs : List HandedRr) → (given : WasGiven a k h mode rs) → is_chained a k h given.keys_told.read ≡ true
 chained_given a k h mode rs given =
     let gives = given.keys_told in
-    let s : Served = served_from a h mode rs in
+    let ttl : ℕ = given.keys_ttl in
     let anchor : Dnskey = given.meet.anchor in
     let present : List Dnskey = given.present in
     let small : Small present = small_flags present given.keys_are in
@@ -138,11 +138,11 @@ chained_given a k h mode rs given =
     let usable : is_usable anchor ≡ true = (all_at IsZoneKey present anchor given.keys_are there).usable in
     let ds : HasDs a h.apex h.ds anchor = all_at (HasDs a h.apex h.ds) given.parents anchor given.ds_is (has_contained given.parents anchor given.meet.at_parent) in
     let trusted : is_trusted a h.apex h.ds anchor ≡ true = trusted_given a h.apex h.ds anchor usable ds in
-    let apart : has_equal_tags keys ≡ false = keys_apart a.verifies k s h.apex present given.keysigners given.keys_at given.life h.dnskey_bytes gives small given.present_tags in
-    let kept : Has keys anchor = keys_has a.verifies k s h.apex present given.keysigners given.keys_at given.life h.dnskey_bytes gives small anchor there in
-    let datas : map dnskey_data keys ≡ present_data present = keys_data a.verifies k s h.apex present given.keysigners given.keys_at given.life h.dnskey_bytes gives small in
+    let apart : has_equal_tags keys ≡ false = keys_apart a.verifies k ttl h.apex present given.keysigners given.keys_at given.life h.dnskey_bytes gives small given.present_tags in
+    let kept : Has keys anchor = keys_has a.verifies k ttl h.apex present given.keysigners given.keys_at given.life h.dnskey_bytes gives small anchor there in
+    let datas : map dnskey_data keys ≡ present_data present = keys_data a.verifies k ttl h.apex present given.keysigners given.keys_at given.life h.dnskey_bytes gives small in
     let w : Trusting = trusting a h (filter (is_trusted a h.apex h.ds) keys) in
-    let g : Group = key_group h.apex (s.ttl_of (apex_of s.zone) 6) present in
+    let g : Group = key_group h.apex ttl present in
     let some : 0 < length (present_data present) = some_length (present_data present) (dnskey_data anchor) (data_has (map dnskey_data present) (dnskey_data anchor) (data_of_key present anchor there)) in
     let by : IsSignedBy w h.apex given.keys_at given.life (by_tag given.keysigners) (g ∷ []) g anchor = record {
       apex_is = refl;

@@ -10,26 +10,26 @@ use Rattle.definitions.specs.Signing.{label_count}
 use Rattle.definitions.specs.Zone.{Zone, Verdict, apex_of, has, verdict}
 use Rattle.definitions.specs.ZoneChain.{Mode, Nsec, Nsec3, nsec3_names, optout_of}
 use Rattle.definitions.proofs.ZoneNames.{above_lowered}
-use Rattle.denial_rules.specs.Facts.{Link, Rrset, is_expanded}
-use Rattle.denial_rules.specs.OwnFacts.{own_facts, own_hash_links, own_links, own_rrset, spoken}
-use Rattle.denial_rules.specs.Truth.{IsServable}
+use Rattle.denial_laws.specs.Facts.{Link, Rrset, is_expanded}
+use Rattle.denial_laws.specs.OwnFacts.{own_facts, own_hash_links, own_links, own_rrset, spoken}
+use Rattle.denial_laws.specs.Truth.{IsServable}
 use Rattle.messages.specs.HandedRr.{HandedRr}
 use Rattle.messages.specs.Handed.{IsHanded}
 use Rattle.messages.specs.Message.{Asked, Spelled}
 use Rattle.messages.proofs.Lists.{Has, all_at, all_more, all_sorted, eqb-back}
-use Rattle.answer_terms.specs.Accepting.{over_limit, record_cmp, soas, sorted_records, zone_of, zone_with}
-use Rattle.answer_terms.specs.Chainable.{HasChain}
-use Rattle.answer_terms.specs.Hashing.{Hasher, hash_in}
-use Rattle.answer_terms.specs.Served.{Group, Served, ahead, answer_groups, proofs_of, served_of}
-use Rattle.answer_terms.specs.Told.{TellsGroups, fields_for}
-use Rattle.answer_terms.proofs.AllowedTypes.{unsigned_from}
-use Rattle.answer_terms.proofs.Servable.{asked_inside, servable}
-use Rattle.answer_terms.proofs.ZoneData.{label_count-low}
-use Rattle.answer_facts.specs.Facts.{fits_key, may_expand}
+use Rattle.answer_shared.specs.Accepting.{over_limit, record_cmp, soas, sorted_records, zone_of, zone_with}
+use Rattle.answer_shared.specs.Chainable.{HasChain}
+use Rattle.answer_shared.specs.Hashing.{Hasher, hash_in}
+use Rattle.answer_shared.specs.Served.{Group, Served, ahead, answer_groups, proofs_of, served_of}
+use Rattle.answer_shared.specs.Told.{TellsGroups, fields_for}
+use Rattle.answer_shared.proofs.AllowedTypes.{unsigned_from}
+use Rattle.answer_shared.proofs.Servable.{asked_inside, servable}
+use Rattle.answer_shared.proofs.ZoneData.{label_count-low}
+use Rattle.answer_judge_facts.specs.Facts.{fits_key, may_expand}
 use Rattle.answer_judge.specs.Meeting.{holds}
-use Rattle.answer_terms.specs.FactsCase.{low_facts, low_link}
+use Rattle.answer_shared.specs.FactsCase.{low_facts, low_link}
 use Rattle.answer_judge.specs.OwnFacts.{TellsZone, ToldFactsAreOwn}
-use Rattle.answer_facts.specs.Verified.{Trusting, verified_facts, verified_hash_links, verified_links, verified_rrset}
+use Rattle.answer_judge_facts.specs.Verified.{Trusting, verified_facts, verified_hash_links, verified_links, verified_rrset}
 use Rattle.answer_judge.proofs.GivenGroups.{SameLink}
 use Rattle.answer_judge.proofs.GivenHashes.{verified_hash_links_given}
 use Rattle.answer_judge.proofs.GivenLinks.{IsProof, verified_links_given}
@@ -181,6 +181,18 @@ facts_told w k m records apex (Nsec3 iterations salt optout) hash rs q t told fi
     facts_behind w k m records apex mode hash rs q t told
     (hashes_behind apex rs q t hash (names w k m records apex mode hash rs q t told) (front w k m records apex mode hash rs q t told) f.beside f.unhashed f.alone iterations salt optout fits.1 fits.0 told.not_nsec3)
 
+-- no RRset of the answer is one of signatures
+pub groups_ordinary : (w : Trusting) (k : ℕ) (m : List ℕ) (records : List Spelled) (apex : Name) (mode : Mode) (hash : Name → List ℕ) (rs : List HandedRr) (q : Name) (t : ℕ) → IsToldBy w k m records apex mode hash rs q t → FitsRecords (zone_with apex rs) mode hash → AllByRecursion is_ordinary (answer_groups (served_of apex mode hash rs) q t)
+groups_ordinary w k m records apex Nsec hash rs q t told fits =
+    let f = is_front w k m records apex Nsec hash rs q t told in
+    ordinary w k m records apex Nsec hash rs q t told
+    (names_behind apex rs q t hash (names w k m records apex Nsec hash rs q t told) (front w k m records apex Nsec hash rs q t told) f.beside f.unhashed f.alone told.servable told.apex_is told.named told.not_nsec)
+groups_ordinary w k m records apex (Nsec3 iterations salt optout) hash rs q t told fits =
+    let mode : Mode = Nsec3 iterations salt optout in
+    let f = is_front w k m records apex mode hash rs q t told in
+    ordinary w k m records apex mode hash rs q t told
+    (hashes_behind apex rs q t hash (names w k m records apex mode hash rs q t told) (front w k m records apex mode hash rs q t told) f.beside f.unhashed f.alone iterations salt optout fits.1 fits.0 told.not_nsec3)
+
 -- ---- an accepted zone
 
 -- an SOA record stands at the apex
@@ -206,7 +218,7 @@ fitting hash z (Nsec3 iterations salt optout) limit small within chain = (small_
 
 -- ---- what an accepted zone gave
 
-told_by : (w : Trusting) (k : ℕ) (mode : Mode) (rs : List HandedRr) (asked : Asked) (bytes : List ℕ) → (t : TellsZone w k mode rs asked bytes) → IsToldBy w k bytes t.told.read.records w.apex mode (hash_in w.answers.hash mode) (sorted_records rs) asked.name asked.rtype
+pub told_by : (w : Trusting) (k : ℕ) (mode : Mode) (rs : List HandedRr) (asked : Asked) (bytes : List ℕ) → (t : TellsZone w k mode rs asked bytes) → IsToldBy w k bytes t.told.read.records w.apex mode (hash_in w.answers.hash mode) (sorted_records rs) asked.name asked.rtype
 told_by w k mode rs asked bytes t =
     let types = unsigned_from w.apex asked t.allowed in
     let one : length (soas w.apex (sorted_records rs)) ≡ 1 = t.accepted.soa in

@@ -3,10 +3,10 @@ use Rattle.std.specs.Prelude.{◌≡◌, ℕ, ◌<◌, Bool, true, false, ◌&&�
 use Rattle.std.specs.List.{AllByRecursion, list_any}
 use Rattle.definitions.specs.Base32hex.{base32hex}
 use Rattle.definitions.specs.Name.{Name, IsLabel, low, same, wire}
-use Rattle.denial_rules.specs.Facts.{HashLink, Link}
+use Rattle.denial_laws.specs.Facts.{HashLink, Link}
 use Rattle.messages.specs.Message.{HashedNext, nsec3_of}
-use Rattle.answer_terms.specs.Served.{Group}
-use Rattle.answer_facts.specs.Verified.{is_known}
+use Rattle.answer_shared.specs.Served.{Group}
+use Rattle.answer_judge_facts.specs.Verified.{is_known}
 
 -- the RRset of an owner, up to case, and a type
 abbrev pub is_rrset : Name → ℕ → Group → Bool

@@ -10,19 +10,19 @@ use Rattle.std.proofs.lemmas.List.Elements.{filter_map-append}
 use Rattle.definitions.specs.Base32hex.{base32hex}
 use Rattle.definitions.specs.Name.{Name, low}
 use Rattle.definitions.specs.Dnskey.{Dnskey}
-use Rattle.denial_rules.specs.Facts.{HashLink}
+use Rattle.denial_laws.specs.Facts.{HashLink}
 use Rattle.messages.specs.Message.{HashedNext, Spelled, canonical_data, data_of, nsec3_at, nsec3_of}
 use Rattle.messages.proofs.Lists.{Has, some_is}
 use Rattle.messages.proofs.ZoneNames.{labels_eq-same}
-use Rattle.answer_terms.specs.Served.{Group}
-use Rattle.answer_terms.specs.Told.{AreRecords, AreSignatures, IsRecord, IsSignature, TellsGroups}
-use Rattle.answer_facts.specs.Verified.{Trusting, hash_link_at, hash_link_with, hash_spelled, is_hash_alone, is_hash_link, is_known, is_verified, one_known, rrset_in, spells_hash, verified_hash_links}
+use Rattle.answer_shared.specs.Served.{Group}
+use Rattle.answer_shared.specs.Told.{AreRecords, AreSignatures, IsRecord, IsSignature, TellsGroups}
+use Rattle.answer_judge_facts.specs.Verified.{Trusting, hash_link_at, hash_link_with, hash_spelled, is_hash_alone, is_hash_link, is_known, is_verified, one_known, rrset_in, spells_hash, verified_hash_links}
 use Rattle.answer_judge.proofs.GivenGroups.{SaysHashLink, has_twins, is_nsec3, said_of}
 use Rattle.answer_judge.proofs.GivenLinks.{OneRecord, one_record, sorted_one}
 use Rattle.answer_judge.proofs.GivenNext.{canonical_nsec3}
 use Rattle.answer_judge.proofs.GivenRecords.{rrset_given}
 use Rattle.answer_judge.proofs.GivenSignatures.{IsSignedBy, verified_given}
-use Rattle.answer_facts.proofs.HashOwners.{label_spells}
+use Rattle.answer_judge_facts.proofs.HashOwners.{label_spells}
 
 -- ---- owners
 

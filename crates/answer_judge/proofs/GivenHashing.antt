@@ -5,23 +5,23 @@ use Rattle.std.specs.List.{AllByRecursion, list_any}
 use Rattle.std.specs.Str.{bytes_eq}
 use Rattle.std.proofs.lemmas.Bool.{and_from, eq-eqb, false≢true, ltb-true, or_from}
 use lib.Pointwise.{bytes_decides}
-use Rattle.definitions.specs.Name.{Name, at_or_above, low, same, wire}
+use Rattle.definitions.specs.Name.{Name, at_or_above, low, same, strictly_above, wire}
 use Rattle.definitions.specs.Signing.{label_count}
 use Rattle.definitions.specs.Zone.{Verdict, star_under}
 use Rattle.definitions.specs.ZoneChain.{Mode, Nsec, Nsec3}
 use Rattle.definitions.proofs.ZoneNames.{above_itself, lowered_above}
-use Rattle.denial_rules.specs.Deciding.{decided, hashed, hashed_by_chain, hashed_by_wildcard, hashed_inside}
-use Rattle.denial_rules.specs.Facts.{Facts, HashLink, Link, Rrset, is_expanded}
-use Rattle.denial_rules.specs.Nsec3Rules.{asks_star, cut_above, encloses, hashed_climbing, hashed_denied, hashed_enclosed, is_matched, last_labels}
-use Rattle.denial_rules.specs.NsecRules.{first_some}
-use Rattle.denial_rules.specs.Truth.{concerned}
-use Rattle.denial_rules.proofs.HashChain.{concerns_name, concerns_star}
-use Rattle.denial_rules.proofs.NameFacts.{above_cases, names_same, same_names, shorter_above, strictly_above_at, strictly_at}
-use Rattle.denial_rules.proofs.Nsec3Wildcard.{last_labels_are}
-use Rattle.answer_rules.specs.Hashes.{answered_among, fails_among, hash_among, up_to}
-use Rattle.answer_terms.specs.Accepting.{over_limit}
-use Rattle.answer_terms.specs.Hashing.{HaveHashes, Hasher, hash_in}
-use Rattle.answer_facts.specs.Judged.{are_alike, are_mixed, are_over}
+use Rattle.denial_laws.specs.Deciding.{decided, hashed, hashed_by_chain, hashed_by_wildcard, hashed_inside}
+use Rattle.denial_laws.specs.Facts.{Facts, HashLink, Link, Rrset, is_expanded}
+use Rattle.denial_laws.specs.Nsec3Rules.{asks_star, cut_above, encloses, hashed_climbing, hashed_denied, hashed_enclosed, is_matched, last_labels}
+use Rattle.denial_laws.specs.NsecRules.{first_some}
+use Rattle.denial_laws.specs.Truth.{concerned}
+use Rattle.denial_laws.proofs.HashChain.{concerns_name, concerns_star}
+use Rattle.denial_laws.proofs.NameFacts.{above_cases, names_same, same_names, shorter_above, strictly_above_at, strictly_at}
+use Rattle.denial_laws.proofs.Nsec3Wildcard.{last_labels_are}
+use Rattle.answer_judge_rules.specs.Hashes.{answered_among, fails_among, hash_among, up_to}
+use Rattle.answer_shared.specs.Accepting.{over_limit}
+use Rattle.answer_shared.specs.Hashing.{HaveHashes, Hasher, hash_in}
+use Rattle.answer_judge_facts.specs.Judged.{are_alike, are_mixed, are_over}
 
 -- facts by their parts
 abbrev pub facts : Option Rrset → List Link → List HashLink → Facts
@@ -95,11 +95,11 @@ module _ (apex q : Name) (hash : Name → List ℕ) where
   name_concerns : (p : Name) → at_or_above apex p ≡ true → at_or_above p q ≡ true → Concerns p
   name_concerns p i a = concerns_name (low apex) p q (lowered_above apex p ∙ i) a
 
-  star_concerns : (p : Name) → at_or_above apex p ≡ true → at_or_above p q ≡ true → Concerns (star_under p)
+  star_concerns : (p : Name) → at_or_above apex p ≡ true → strictly_above p q ≡ true → Concerns (star_under p)
   star_concerns p i a = concerns_star (low apex) p q (lowered_above apex p ∙ i) a
 
-  parent_above : (l : List ℕ) (p : Name) → at_or_above (l ∷ p) q ≡ true → at_or_above p q ≡ true
-  parent_above l p a = strictly_at p q (strictly_above_at p (l ∷ p) q (above_itself p) a)
+  parent_above : (l : List ℕ) (p : Name) → at_or_above (l ∷ p) q ≡ true → strictly_above p q ≡ true
+  parent_above l p a = strictly_above_at p (l ∷ p) q (above_itself p) a
 
   -- the parent of a name below the apex
   parent_inside : (l : List ℕ) (p : Name) → at_or_above apex (l ∷ p) ≡ true → same (l ∷ p) apex ≡ false → at_or_above apex p ≡ true
@@ -112,7 +112,7 @@ module _ (apex q : Name) (hash : Name → List ℕ) where
   star_or_none p true c = (c, tt)
   star_or_none p false c = tt
 
-  enclosed_concerns : (closer p : Name) (fs : List HashLink) → at_or_above apex p ≡ true → at_or_above p q ≡ true → AllByRecursion Concerns (hashed_enclosed apex hash closer p fs)
+  enclosed_concerns : (closer p : Name) (fs : List HashLink) → at_or_above apex p ≡ true → strictly_above p q ≡ true → AllByRecursion Concerns (hashed_enclosed apex hash closer p fs)
   enclosed_concerns closer p fs i a = go (first_some (cut_above apex p (hash (low p))) fs)
     where
       go : (o : Option Verdict) → AllByRecursion Concerns (elim o as (λ _. List Name) [
@@ -132,11 +132,11 @@ module _ (apex q : Name) (hash : Name → List ℕ) where
       go false true e later =
           let inside = parent_inside l p i e in
           let up = parent_above l p a in
-          (name_concerns p inside up, enclosed_concerns (l ∷ p) p fs inside up)
+          (name_concerns p inside (strictly_at p q up), enclosed_concerns (l ∷ p) p fs inside up)
       go false false e later =
           let inside = parent_inside l p i e in
           let up = parent_above l p a in
-          (name_concerns p inside up, later inside up)
+          (name_concerns p inside (strictly_at p q up), later inside (strictly_at p q up))
 
   denied_concerns : (fs : List HashLink) → at_or_above apex q ≡ true → AllByRecursion Concerns (hashed_denied apex hash q fs)
   denied_concerns fs i = go (is_matched fs (hash (low q)))

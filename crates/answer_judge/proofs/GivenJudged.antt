@@ -9,19 +9,19 @@ use Rattle.definitions.specs.Zone.{Unsigned}
 use Rattle.definitions.specs.ZoneChain.{Mode}
 use Rattle.messages.specs.HandedRr.{HandedRr}
 use Rattle.answer_scheme.specs.Answers.{Answers}
-use Rattle.answer_facts.specs.Facts.{is_usable}
+use Rattle.answer_judge_facts.specs.Facts.{is_usable}
 use Rattle.answer_judge.specs.OwnFacts.{passes_for}
-use Rattle.answer_facts.specs.declared.verdict.Refusal.{Refusal}
-use Rattle.answer_facts.specs.declared.verdict.Refusal.TheVariants as r
+use Rattle.answer_judge_facts.specs.declared.verdict.Refusal.{Refusal}
+use Rattle.answer_judge_facts.specs.declared.verdict.Refusal.TheVariants as r
 use Rattle.messages.specs.declared.error.MessageError.{MessageError}
-use Rattle.answer_facts.specs.Judged.{judged, judged_answer, judged_messages, keys_of}
-use Rattle.answer_facts.specs.Judging.{Answer, Handing, Refuses, Says, first_refusal, message_refusal, same_question}
-use Rattle.answer_terms.specs.EqualTags.{has_equal_tags}
-use Rattle.answer_judge.specs.Meeting.{HasDs, IsZoneKey, WasGiven, served_from}
+use Rattle.answer_judge_facts.specs.Judged.{judged, judged_answer, judged_messages, keys_of}
+use Rattle.answer_judge_facts.specs.Judging.{Answer, Handing, Refuses, Says, first_refusal, message_refusal, same_question}
+use Rattle.answer_shared.specs.EqualTags.{has_equal_tags}
+use Rattle.answer_judge.specs.Meeting.{HasDs, IsZoneKey, WasGiven}
 use Rattle.messages.specs.Message.{Asked, Message}
-use Rattle.answer_terms.specs.Served.{by_tag}
+use Rattle.answer_shared.specs.Served.{by_tag}
 use Rattle.answer_judge.proofs.GivenChained.{chained_given, keys_apart, keys_has, small_flags}
-use Rattle.answer_facts.proofs.GivenKeys.{by_tag-has, find_kept}
+use Rattle.answer_judge_facts.proofs.GivenKeys.{by_tag-has, find_kept}
 use Rattle.answer_judge.proofs.GivenLists.{has_contained}
 use Rattle.messages.proofs.Lists.{Has, all_at}
 use Rattle.messages.proofs.ZoneNames.{labels_eq-same}
@@ -69,7 +69,7 @@ module _ (a : Answers) (k : ℕ) (h : Handing) (mode : Mode) (rs : List HandedRr
   usable_keys = filter is_usable read_keys
 
   apart : has_equal_tags read_keys ≡ false
-  apart = keys_apart a.verifies k (served_from a h mode rs) h.apex given.present given.keysigners given.keys_at given.life h.dnskey_bytes given.keys_told (small_flags given.present given.keys_are) given.present_tags
+  apart = keys_apart a.verifies k given.keys_ttl h.apex given.present given.keysigners given.keys_at given.life h.dnskey_bytes given.keys_told (small_flags given.present given.keys_are) given.present_tags
 
   asked : (same_question given.keys_told.read.asked (question_of h.apex) && same_question given.answer_told.read.asked h.asked) ≡ true
   asked = and_from _ _ (same_asked given.keys_told.read.asked (question_of h.apex) given.keys_told.name_is given.keys_told.rtype_is given.keys_told.class_is) (same_asked given.answer_told.read.asked h.asked given.answer_told.name_is given.answer_told.rtype_is given.answer_told.class_is)
@@ -107,7 +107,7 @@ module _ (a : Answers) (k : ℕ) (h : Handing) (mode : Mode) (rs : List HandedRr
       let there : Has given.present signer = has_contained given.present signer given.meet.signer_present in
       let named : Fields = record { covered = 0; algorithm = signer.algorithm; labels = 0; ttl = 0; expiration = 0; inception = 0; tag = key_tag signer; signer = h.apex } in
       find_kept is_usable read_keys signer named apart
-      (keys_has a.verifies k (served_from a h mode rs) h.apex given.present given.keysigners given.keys_at given.life h.dnskey_bytes given.keys_told (small_flags given.present given.keys_are) signer there)
+      (keys_has a.verifies k given.keys_ttl h.apex given.present given.keysigners given.keys_at given.life h.dnskey_bytes given.keys_told (small_flags given.present given.keys_are) signer there)
       (all_at IsZoneKey given.present signer given.keys_are there).usable refl refl
 
   pub signer_signs : Has (by_tag given.zonesigners) given.meet.signer

@@ -8,15 +8,15 @@ use Rattle.std.proofs.lemmas.List.Elements.{filter_map-append}
 use Rattle.definitions.specs.Name.{Name, at_or_above, wire}
 use Rattle.definitions.specs.Dnskey.{Dnskey}
 use Rattle.definitions.specs.Zone.{sorted_data}
-use Rattle.denial_rules.specs.Facts.{Link}
-use Rattle.answer_terms.specs.Told.{TellsGroups, AreRecords, AreSignatures, IsRecord, IsSignature}
+use Rattle.denial_laws.specs.Facts.{Link}
+use Rattle.answer_shared.specs.Told.{TellsGroups, AreRecords, AreSignatures, IsRecord, IsSignature}
 use Rattle.answer_judge.proofs.GivenGroups.{SameLink, SaysLink, has_twins, is_nsec}
 use Rattle.messages.specs.Message.{Spelled, nsec_at}
-use Rattle.answer_terms.specs.Served.{Group}
-use Rattle.answer_facts.specs.Verified.{Trusting, is_link, is_verified, link_at, link_of, rrset_in, verified_links}
+use Rattle.answer_shared.specs.Served.{Group}
+use Rattle.answer_judge_facts.specs.Verified.{Trusting, is_link, is_verified, link_at, link_of, rrset_in, verified_links}
 use Rattle.answer_judge.proofs.GivenNext.{nsec_given}
 use Rattle.answer_judge.proofs.GivenRecords.{rrset_given}
-use Rattle.answer_facts.proofs.JudgeCase.{above-owner}
+use Rattle.answer_judge_facts.proofs.JudgeCase.{above-owner}
 use Rattle.answer_judge.proofs.GivenSignatures.{IsSignedBy, verified_given}
 use Rattle.messages.proofs.Lists.{Has}
 

@@ -9,11 +9,11 @@ use Rattle.std.proofs.lemmas.List.Elements.{filter_map-append}
 use Rattle.definitions.specs.Name.{Name, labels_eq, low, same}
 use Rattle.definitions.specs.Dnskey.{Dnskey}
 use Rattle.definitions.specs.Zone.{sorted_data}
-use Rattle.answer_terms.specs.Told.{TellsGroups, AreRecords, AreSignatures, IsRecord, IsSignature}
+use Rattle.answer_shared.specs.Told.{TellsGroups, AreRecords, AreSignatures, IsRecord, IsSignature}
 use Rattle.answer_judge.proofs.GivenGroups.{has_twins, is_rrset}
 use Rattle.messages.specs.Message.{Spelled, canonical_data}
-use Rattle.answer_terms.specs.Served.{Group}
-use Rattle.answer_facts.specs.Verified.{datum_of, rrset_in}
+use Rattle.answer_shared.specs.Served.{Group}
+use Rattle.answer_judge_facts.specs.Verified.{datum_of, rrset_in}
 use Rattle.messages.proofs.Lists.{Has, any_from}
 
 -- ---- one RRset

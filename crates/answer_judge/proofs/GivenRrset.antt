@@ -9,14 +9,14 @@ use Rattle.definitions.specs.Name.{Name, labels_eq, low, same}
 use Rattle.definitions.specs.Dnskey.{Dnskey}
 use Rattle.definitions.specs.Signing.{Fields, label_count}
 use Rattle.definitions.specs.Zone.{sorted_data}
-use Rattle.denial_rules.specs.Facts.{Rrset}
+use Rattle.denial_laws.specs.Facts.{Rrset}
 use Rattle.messages.specs.Message.{Spelled, rrsig_at}
 use Rattle.messages.proofs.Lists.{Has, all_fail, all_at}
 use Rattle.messages.proofs.ZoneNames.{same_labels}
-use Rattle.answer_terms.specs.Told.{TellsGroups, AreRecords, AreSignatures, IsRecord, IsSignature, fields_for}
-use Rattle.answer_terms.specs.Served.{Group}
-use Rattle.answer_facts.specs.Facts.{is_signature, signs}
-use Rattle.answer_facts.specs.Verified.{Trusting, is_verified, rrset_in, verified_by, verified_rrset, verifies_with}
+use Rattle.answer_shared.specs.Told.{TellsGroups, AreRecords, AreSignatures, IsRecord, IsSignature, fields_for}
+use Rattle.answer_shared.specs.Served.{Group}
+use Rattle.answer_judge_facts.specs.Facts.{is_signature, signs}
+use Rattle.answer_judge_facts.specs.Verified.{Trusting, is_verified, rrset_in, verified_by, verified_rrset, verifies_with}
 use Rattle.answer_judge.proofs.GivenGroups.{has_twins, is_rrset}
 use Rattle.answer_judge.proofs.GivenRecords.{rrset_given, rrset_here}
 use Rattle.answer_judge.proofs.GivenSignatures.{IsSignedBy, verified_given}

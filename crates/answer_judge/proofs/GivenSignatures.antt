@@ -6,14 +6,14 @@ use Rattle.std.proofs.lemmas.Bool.{and_from, eq-eqb, ne_eqb, or_left}
 use Rattle.definitions.specs.Name.{Name, low}
 use Rattle.definitions.specs.Dnskey.{Dnskey}
 use Rattle.definitions.specs.Signing.{Fields, label_count}
-use Rattle.answer_facts.specs.Facts.{fits_key, is_due, may_expand, signs}
-use Rattle.answer_terms.specs.Told.{TellsGroups, AreSignatures, IsSignature, fields_for, octets_for}
+use Rattle.answer_judge_facts.specs.Facts.{fits_key, is_due, may_expand, signs}
+use Rattle.answer_shared.specs.Told.{TellsGroups, AreSignatures, IsSignature, fields_for, octets_for}
 use Rattle.answer_judge.specs.Meeting.{holds}
 use Rattle.messages.specs.Message.{Spelled}
-use Rattle.answer_terms.specs.Served.{Group}
-use Rattle.answer_facts.specs.Verified.{Trusting, is_verified, verifies_with}
+use Rattle.answer_shared.specs.Served.{Group}
+use Rattle.answer_judge_facts.specs.Verified.{Trusting, is_verified, verifies_with}
 use Rattle.answer_judge.proofs.GivenLists.{has_left, has_right}
-use Rattle.answer_facts.proofs.JudgeCase.{is_verified-owner}
+use Rattle.answer_judge_facts.proofs.JudgeCase.{is_verified-owner}
 use Rattle.messages.proofs.Lists.{Has, any_from}
 use Rattle.messages.proofs.ZoneNames.{labels_eq-same, low-low}
 

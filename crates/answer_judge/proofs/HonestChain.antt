@@ -1,32 +1,32 @@
 -- Records of a zone's chain that are verified say true links.
-use Rattle.std.proofs.Common.{◌≡◌, ℕ, ◌<◌, Bool, true, List, [], ◌∷◌, ◌++◌, Some, None, eqb, refl, sym, ap, subst, ◌∙◌}
+use Rattle.std.proofs.Common.{◌≡◌, ℕ, ◌<◌, Bool, true, List, ◌∷◌, ◌++◌, eqb, refl, sym, ap, subst, ◌∙◌}
 use Rattle.std.specs.List.{AllByRecursion, Contains}
 use Rattle.std.proofs.lemmas.Bool.{false≢true}
 use Rattle.definitions.specs.Base32hex.{base32hex}
 use Rattle.definitions.specs.Bitmap.{bitmap}
 use Rattle.definitions.specs.Name.{Name, IsName, low, wire}
-use Rattle.definitions.specs.Signing.{label_count, signed_owner}
+use Rattle.definitions.specs.Signing.{label_count}
 use Rattle.definitions.specs.Zone.{Zone}
-use Rattle.definitions.specs.ZoneChain.{Mode, Nsec, Nsec3, hashed_names, nsec_names, nsec_next, nsec_types, nsec3_data, nsec3_names, parameters_of}
+use Rattle.definitions.specs.ZoneChain.{Mode, Nsec, Nsec3, hashed_names, nsec_names, nsec_next, nsec_types, nsec3_names}
 use Rattle.definitions.proofs.Members.{In, contained, sort_has}
-use Rattle.definitions.proofs.SignedLaws.{Labelled, wire_of}
-use Rattle.denial_rules.specs.Facts.{HashLink, Link}
-use Rattle.denial_rules.specs.OwnFacts.{hash_link_of}
-use Rattle.denial_rules.specs.Truth.{IsServable, IsTrueHashLink, IsTrueLink}
+use Rattle.definitions.proofs.SignedLaws.{wire_of}
+use Rattle.denial_laws.specs.Facts.{HashLink, Link}
+use Rattle.denial_laws.specs.OwnFacts.{hash_link_of}
+use Rattle.denial_laws.specs.Truth.{IsServable, IsTrueLink}
 use Rattle.messages.specs.Handed.{IsHanded}
 use Rattle.messages.specs.HandedRr.{HandedRr}
-use Rattle.messages.specs.Message.{HashedNext, Spelled, data_of, nsec3_of}
+use Rattle.messages.specs.Message.{Spelled, data_of, nsec3_of}
 use Rattle.messages.proofs.Lists.{Has, some_is}
 use Rattle.messages.proofs.ReadNames.{labelled}
-use Rattle.answer_terms.specs.Accepting.{zone_with}
-use Rattle.answer_terms.specs.Served.{chain_record, served_of, spelled_as}
-use Rattle.answer_terms.proofs.ZoneNaming.{chain_named, lower_name, next_name, spelled_name}
+use Rattle.answer_shared.specs.Accepting.{zone_with}
+use Rattle.answer_shared.specs.Served.{served_of, spelled_as}
+use Rattle.answer_shared.proofs.ZoneNaming.{chain_named, lower_name, next_name, spelled_name}
 use Rattle.answer_judge.specs.Honest.{AreOctets}
-use Rattle.answer_facts.specs.Verified.{hash_link_with, hash_spelled}
+use Rattle.answer_judge_facts.specs.Verified.{hash_spelled}
 use Rattle.answer_judge.proofs.GivenGroups.{SaysHashLink, said_of}
 use Rattle.answer_judge.proofs.GivenHashes.{owner_spells}
-use Rattle.answer_facts.proofs.GivenSorted.{has_in}
-use Rattle.answer_judge.proofs.HonestFacts.{IsChainRecord, IsHashRecord, IsNextRecord}
+use Rattle.answer_judge_facts.proofs.GivenSorted.{has_in}
+use Rattle.answer_judge.proofs.HonestFacts.{IsHashRecord, IsNextRecord}
 use Rattle.answer_judge.proofs.HonestMade.{owner_whole}
 use Rattle.answer_judge.proofs.HonestReads.{ReadsNext, link_read}
 use Rattle.answer_judge.proofs.OwnChain.{chain_group, chain_labels, low-chain_owner, read_low}

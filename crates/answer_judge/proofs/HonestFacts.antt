@@ -1,61 +1,47 @@
 -- What is verified in an honest answer are true facts of the zone.
-use Rattle.std.proofs.Common.{◌≡◌, ℕ, ◌<◌, ◌≤◌, Bool, true, false, not, ◌&&◌, ◌||◌, List, [], ◌∷◌, ◌++◌, length, map, Option, Some, None, Ok, eqb, refl, sym, ap, subst, ◌∙◌, inl, inr, ⊎_elim, arith}
-use Rattle.std.specs.Prelude.{◌==◌, Contains, IfSome, nat_eq, nat_le, nat_lt}
-use Rattle.std.specs.List.{AllByRecursion, filter_map, list_any}
+use Rattle.std.proofs.Common.{◌≡◌, ℕ, ◌<◌, ◌≤◌, true, false, ◌&&◌, List, [], ◌∷◌, ◌++◌, length, Option, Some, None, Ok, eqb, refl, sym, ap, subst, ◌∙◌, inl, inr, arith}
+use Rattle.std.specs.Prelude.{◌%◌, ◌==◌, Contains, IfSome, nat_le, nat_lt}
+use Rattle.std.specs.List.{AllByRecursion, filter_map}
 use Rattle.std.specs.Option.{option_map}
-use Rattle.std.proofs.lemmas.Bool.{and_from, and_parts, eq-eqb, eqb-true, false≢true, leb-true, ltb-true, or_cases}
+use Rattle.std.proofs.lemmas.Bool.{and_from, and_parts, eqb-true, false≢true, leb-true, ltb-true, or_cases}
 use Rattle.std.proofs.lemmas.List.{length-map}
 use Rattle.std.specs.Str.{str_to_ascii_lowercase}
-use Rattle.definitions.specs.Base32hex.{base32hex}
-use Rattle.definitions.specs.Bitmap.{bitmap}
 use Rattle.definitions.specs.Dnskey.{Dnskey}
 use Rattle.definitions.specs.Name.{Name, IsName, low, same, wire, at_or_above}
 use Rattle.definitions.specs.Signing.{Fields, label_count, signed_owner}
-use Rattle.definitions.specs.Zone.{Zone, Rr, apex_of, has, data_at, is_of}
-use Rattle.definitions.specs.ZoneChain.{Mode, Nsec, Nsec3, hashed_names, nsec_data, nsec_names, nsec_next, nsec_types, optout_of, parameters_of}
-use Rattle.definitions.proofs.Members.{any_of, contained}
-use Rattle.definitions.proofs.SignedLaws.{wire_of}
-use Rattle.denial_rules.specs.Facts.{Facts, HashLink, Link, Rrset, is_expanded}
-use Rattle.denial_rules.specs.OwnFacts.{hash_link_of}
-use Rattle.denial_rules.specs.Truth.{AreChain, AreTrue, IsServable, IsTrueHashLink, IsTrueLink, IsTrueRrset, is_foreign_type, is_signed}
-use Rattle.denial_rules.proofs.ChainBits.{all_at}
+use Rattle.definitions.specs.Zone.{Zone, Rr, has, data_at, is_of}
+use Rattle.definitions.specs.ZoneChain.{Mode, Nsec, Nsec3}
+use Rattle.definitions.proofs.Members.{any_of}
+use Rattle.denial_laws.specs.Facts.{HashLink, Link, Rrset}
+use Rattle.denial_laws.specs.Truth.{IsServable, IsTrueRrset, is_foreign_type, is_signed}
+use Rattle.denial_laws.proofs.ChainBits.{all_at}
 use Rattle.messages.specs.HandedRr.{HandedRr}
 use Rattle.messages.specs.Handed.{IsHanded}
 use Rattle.messages.specs.Message.{HashedNext, Message, Spelled, canonical_data, data_of, message, nsec3_at, nsec3_of, nsec_at}
-use Rattle.messages.specs.Message as message
 use Rattle.messages.proofs.Lists.{Has, some_is}
 use Rattle.messages.proofs.Lists as lists
-use Rattle.messages.proofs.ReadNames.{labelled}
 use Rattle.messages.proofs.ZoneNames.{labels_eq-same}
-use Rattle.answer_terms.specs.Accepting.{zone_with}
-use Rattle.answer_terms.specs.Made.{HandedOut, WasHandedOut, groups_of, made}
-use Rattle.answer_terms.specs.Served.{Group, Served, chain_names, chain_record, key_group, served_of, spelled_among, spelled_as}
-use Rattle.answer_terms.proofs.ZoneNaming.{lower_name}
+use Rattle.answer_shared.specs.Accepting.{sorted_records, zone_with}
+use Rattle.answer_shared.specs.Made.{Content, HandedOut, OfKeys, OfZone, WasHandedOut, groups_of, made}
+use Rattle.answer_shared.specs.Served.{Group, Served, chain_names, chain_record, served_of}
 use Rattle.answer_scheme.specs.Answers.{Answers}
-use Rattle.answer_facts.specs.Facts.{is_due, labels_fit, may_expand}
-use Rattle.answer_judge.specs.Honest.{IsHonest}
-use Rattle.answer_facts.specs.Judged.{facts_in, trusting}
-use Rattle.answer_facts.specs.Judging.{Handing}
-use Rattle.answer_facts.specs.Verified.{Trusting, datum_of, hash_link_at, hash_link_with, hash_spelled, is_hash_alone, is_hash_link, is_link, is_verified, link_at, link_of, one_known, rrset_in, spells_hash, verified_by, verified_hash_links, verified_links, verified_rrset}
-use Rattle.answer_judge.proofs.GivenGroups.{SaysHashLink, said_of}
-use Rattle.answer_judge.proofs.GivenHashes.{owner_spells}
-use Rattle.answer_judge.proofs.GivenHashing.{AreHashedBy, SaysHashing}
+use Rattle.answer_judge_facts.specs.Facts.{labels_fit, may_expand}
+use Rattle.answer_judge.specs.Honest.{IsHonest, IsOfZone}
+use Rattle.answer_judge_facts.specs.Judged.{trusting}
+use Rattle.answer_judge_facts.specs.Judging.{Handing}
+use Rattle.answer_judge_facts.specs.Sought.{answer_sought}
+use Rattle.answer_judge_facts.specs.Times.{proof_times, times_of}
+use Rattle.answer_judge_facts.specs.Verified.{Trusting, datum_of, hash_link_at, hash_link_with, is_hash_alone, is_hash_link, is_link, is_verified, link_at, link_of, rrset_in, verified_by, verified_rrset}
 use Rattle.answer_judge.proofs.GivenNext.{canonical_nsec, canonical_nsec3}
-use Rattle.answer_facts.proofs.GivenSorted.{data_has, has_in}
-use Rattle.answer_facts.proofs.JudgeCase.{signed_owner-owner}
-use Rattle.answer_judge.proofs.HonestLists.{kept_has, only_item, when}
+use Rattle.answer_judge_facts.proofs.GivenSorted.{data_has}
+use Rattle.answer_judge_facts.proofs.JudgeCase.{signed_owner-owner}
+use Rattle.answer_judge_facts.proofs.JudgeTimes.{first_used}
+use Rattle.answer_judge_facts.proofs.KeptItems.{kept_has, mapped, only_item, when}
 use Rattle.answer_judge.proofs.HonestMade.{ChainFits, IsMade, IsRoomy, IsZoneGroup, Kind, KeyKind, ZoneKind, ChainKind, is_made, kind_of, kind_roomy, owner_whole, signed_has}
-use Rattle.answer_judge.proofs.HonestReads.{IsDatum, IsRead, ReadsNext, ReadsRecord, link_read, message_read, rrset_read}
-use Rattle.answer_judge.proofs.HonestSpelled.{Spells, spells}
-use Rattle.answer_judge.proofs.HonestVerified.{Found, IsOver, due_labels, first_verifying, found_verifying, over_made, sorted_ascend}
-use Rattle.answer_judge.proofs.OwnChain.{chain_group, low-chain_owner, read_link, read_low}
-use Rattle.answer_judge.proofs.OwnHashed.{hashed_group, low-hashed_owner, says}
-
--- ---- options
-
-mapped : {A B : Type 0} (f : A → B) (o : Option A) (y : B) → option_map f o ≡ Some y → (x : A) × (o ≡ Some x) × (f x ≡ y)
-mapped f None y e = cc
-mapped f (Some x) y e = (x, refl, some_is (f x) y e)
+use Rattle.answer_judge.proofs.HonestReads.{IsDatum, message_read, rrset_read}
+use Rattle.answer_judge.proofs.HonestSpelled.{Spells, spells, spells_moment}
+use Rattle.answer_judge.proofs.HonestUsed.{asked_sought, first_there, hash_sought, link_sought, not_keys}
+use Rattle.answer_judge.proofs.HonestVerified.{Found, IsOver, due_labels, first_verifying, over_made, sorted_ascend}
 
 -- ---- labels
 
@@ -78,14 +64,23 @@ expanded_labels apex owner f fewer e = elim (or_cases (f.labels == label_count o
 
 -- ---- the zone and its messages
 
--- a zone's life, and an honest message of it
-pub record IsLife (apex : Name) (mode : Mode) (hash : Name → List ℕ) (rs : List HandedRr) (published : List Dnskey) (outs : List HandedOut) : Type 0 where
+-- how the zone of some records is served
+abbrev pub serve_by : Name → Mode → (Name → List ℕ) → List HandedRr → Served
+serve_by apex mode hash rs = served_of apex mode hash (sorted_records rs)
+
+-- a version of a zone, its records in order
+pub record IsKnown (apex : Name) (mode : Mode) (hash : Name → List ℕ) (rs : List HandedRr) : Type 0 where
   pub servable : IsServable (zone_with apex rs)
   pub soa_there : has (zone_with apex rs) (low apex) 6 ≡ true
   pub apex_is : IsName apex
   pub handed : AllByRecursion IsHanded rs
   pub fits : ChainFits apex mode hash rs
-  pub outs_are : AllByRecursion (WasHandedOut (served_of apex mode hash rs) apex published) outs
+
+-- a zone's life: what was handed out is of versions that are known
+pub record IsLife (apex : Name) (mode : Mode) (hash : Name → List ℕ) (published : List Dnskey) (outs : List HandedOut) : Type 0 where
+  pub apex_is : IsName apex
+  pub outs_are : AllByRecursion (WasHandedOut (serve_by apex mode hash) apex published) outs
+  pub versions : (out : HandedOut) → Has outs out → IsKnown apex mode hash (sorted_records out.records)
 
 -- what was signed, and what its octets tell
 pub record IsOf (s : Served) (apex : Name) (published : List Dnskey) (f : Fields) (owner : Name) (items : List (List ℕ)) : Type 0 where
@@ -93,21 +88,45 @@ pub record IsOf (s : Served) (apex : Name) (published : List Dnskey) (f : Fields
   pub kind : Kind s apex published group
   pub spells : Spells f owner items group
 
-module _ (apex : Name) (mode : Mode) (hash : Name → List ℕ) (rs : List HandedRr) (published : List Dnskey) (outs : List HandedOut) (known : IsLife apex mode hash rs published outs) where
+-- in which message
+pub record WasMade (apex : Name) (mode : Mode) (hash : Name → List ℕ) (published : List Dnskey) (outs : List HandedOut) (f : Fields) (owner : Name) (items : List (List ℕ)) : Type 0 where
+  pub out : HandedOut
+  pub there : Has outs out
+  pub is : IsOf (serve_by apex mode hash out.records) apex published f owner items
+  pub began : f.inception ≡ out.at % 4294967296
+  pub of_zone : eqb f.covered 48 ≡ false → IsOfZone out.content
+
+-- an RRset of another type than DNSKEY is of a zone's answer
+content_of : (s : Served) (apex : Name) (c : Content) (g : Group) → Has (groups_of s apex c) g → eqb g.rtype 48 ≡ false → IsOfZone c
+content_of s apex (OfZone asked) g h n = tt
+content_of s apex (OfKeys present) g h n = elim h [
+  | inl e ↦ absurd (false≢true (sym n ∙ ap (λ (x : Group). eqb x.rtype 48) e))
+  | inr none ↦ absurd none
+]
+
+module _ (apex : Name) (mode : Mode) (hash : Name → List ℕ) (published : List Dnskey) (outs : List HandedOut) (known : IsLife apex mode hash published outs) where
+  pub of_made : (life : ℕ) (f : Fields) (owner : Name) (items : List (List ℕ)) → IsOver (made (serve_by apex mode hash) apex life outs) f owner items → WasMade apex mode hash published outs f owner items
+  of_made life f owner items over =
+      let m : IsMade (serve_by apex mode hash) apex life outs (Rattle.definitions.specs.Signing.signed_octets f owner 1 items) = is_made (serve_by apex mode hash) apex life outs _ over.there in
+      let rs : List HandedRr = sorted_records m.out.records in
+      let s : Served = served_of apex mode hash rs in
+      let out = lists.all_at (WasHandedOut (serve_by apex mode hash) apex published) outs m.out known.outs_are m.there in
+      let is : IsKnown apex mode hash rs = known.versions m.out m.there in
+      let kind : Kind s apex published m.group = kind_of apex mode hash rs is.servable is.soa_there known.apex_is is.handed published m.out.content m.group out.of m.inside m.signed in
+      let roomy : IsRoomy m.group = kind_roomy apex mode hash rs known.apex_is is.handed is.fits published m.group m.signed kind in
+      let short = lists.all_at Rattle.answer_shared.specs.Made.IsShortGroup (groups_of s apex m.out.content) m.group out.short m.inside in
+      let told : Spells f owner items m.group = spells f owner items apex m.out.at life m.group m.key over.fits known.apex_is roomy short m.is in
+      record {
+        out = m.out;
+        there = m.there;
+        is = record { group = m.group; kind = kind; spells = told };
+        began = spells_moment f owner items apex m.out.at life m.group m.key over.fits known.apex_is roomy short m.is;
+        of_zone = λ n. content_of s apex m.out.content m.group m.inside (ap (λ u. eqb u 48) (sym told.covered) ∙ n);
+      }
+
+module _ (apex : Name) (mode : Mode) (hash : Name → List ℕ) (rs : List HandedRr) (known : IsKnown apex mode hash rs) where
   abbrev z : Zone
   z = zone_with apex rs
-
-  abbrev s : Served
-  s = served_of apex mode hash rs
-
-  pub of_made : (life : ℕ) (f : Fields) (owner : Name) (items : List (List ℕ)) → IsOver (made s apex life outs) f owner items → IsOf s apex published f owner items
-  of_made life f owner items over =
-      let m : IsMade s apex life outs (Rattle.definitions.specs.Signing.signed_octets f owner 1 items) = is_made s apex life outs _ over.there in
-      let out = lists.all_at (WasHandedOut s apex published) outs m.out known.outs_are m.there in
-      let kind : Kind s apex published m.group = kind_of apex mode hash rs known.servable known.soa_there known.apex_is known.handed published m.out.content m.group out.of m.inside m.signed in
-      let roomy : IsRoomy m.group = kind_roomy apex mode hash rs known.apex_is known.handed known.fits published m.group m.signed kind in
-      let short = lists.all_at Rattle.answer_terms.specs.Made.IsShortGroup (groups_of s apex m.out.content) m.group out.short m.inside in
-      record { group = m.group; kind = kind; spells = spells f owner items apex m.out.at life m.group m.key over.fits known.apex_is roomy short m.is }
 
   -- no zone has a type that signing adds
   pub not_foreign : (o : Name) (t : ℕ) → is_foreign_type t ≡ true → has z o t ≡ true → ⊥
@@ -126,7 +145,7 @@ chain_type apex (Nsec3 iterations salt optout) hash rs o = refl
 
 -- ---- the RRset of the question
 
-module _ (apex : Name) (mode : Mode) (hash : Name → List ℕ) (rs : List HandedRr) (published : List Dnskey) (outs : List HandedOut) (known : IsLife apex mode hash rs published outs) (q : Name) (t : ℕ) (asked : is_foreign_type t ≡ false) where
+module _ (apex : Name) (mode : Mode) (hash : Name → List ℕ) (rs : List HandedRr) (published : List Dnskey) (q : Name) (t : ℕ) (asked : is_foreign_type t ≡ false) where
   abbrev zone : Zone
   zone = zone_with apex rs
 
@@ -173,8 +192,41 @@ pub record IsHashRecord (s : Served) (m : List ℕ) (r : Spelled) (l : HashLink)
 
 -- ---- what is found in an honest message
 
-module _ (a : Answers) (k : ℕ) (h : Handing) (mode : Mode) (hash : Name → List ℕ) (rs : List HandedRr) (published : List Dnskey) (outs : List HandedOut) (known : IsLife h.apex mode hash rs published outs) (life : ℕ) (m : List ℕ) (read : Message)
-    (honest : IsHonest a k h published (made (served_of h.apex mode hash rs) h.apex life outs) m) (reads : message k m ≡ Ok read) (keys : List Dnskey) (trusted : (key : Dnskey) → Has keys key → Contains published key) where
+module _ (a : Answers) (k : ℕ) (h : Handing) (mode : Mode) (hash : Name → List ℕ) (published : List Dnskey) (outs : List HandedOut) (known : IsLife h.apex mode hash published outs) (life : ℕ) (m : List ℕ) (read : Message)
+    (honest : IsHonest a k h published (made (serve_by h.apex mode hash) h.apex life outs) m) (reads : message k m ≡ Ok read) (keys : List Dnskey) (trusted : (key : Dnskey) → Has keys key → Contains published key) where
+  pub of_found : (owner : Name) (t : ℕ) (items : List (List ℕ)) → AllByRecursion IsDatum items → Rattle.definitions.specs.Signing.ascending items ≡ true → (x : Found (trusting a h keys) k m read.records owner t items) → WasMade h.apex mode hash published outs x.by.fields owner items
+  of_found owner t items data_are rising x =
+      let was = of_made h.apex mode hash published outs known life x.by.fields x.spelled.owner items (over_made a k h published (made (serve_by h.apex mode hash) h.apex life outs) m read honest reads keys trusted owner t items data_are rising x) in
+      let spells : Spells x.by.fields x.spelled.owner items was.is.group = was.is.spells in
+      record {
+        out = was.out;
+        there = was.there;
+        is = record {
+          group = was.is.group;
+          kind = was.is.kind;
+          spells = record {
+            covered = spells.covered;
+            labels = spells.labels;
+            owners = signed_owner-owner x.by.fields.labels owner x.spelled.owner (sym x.by.owner_is) ∙ spells.owners;
+            contents = spells.contents;
+          };
+        };
+        began = was.began;
+        of_zone = was.of_zone;
+      }
+
+  pub of_rrset : (owner : Name) (t : ℕ) → (x : Found (trusting a h keys) k m read.records owner t (rrset_in k m read.records owner t)) → WasMade h.apex mode hash published outs x.by.fields owner (rrset_in k m read.records owner t)
+  of_rrset owner t x = of_found owner t (rrset_in k m read.records owner t) (rrset_read k m read.records owner t honest.octets_are (message_read k m read honest.octets_are reads)) (sorted_ascend (filter_map (datum_of k m owner t) read.records)) x
+
+-- What is used of a message for a question is of one version: each RRset that is sought, as its first signature verifies it.
+abbrev pub IsOfVersion : Answers → ℕ → Handing → Mode → (Name → List ℕ) → List HandedRr → List Dnskey → List ℕ → Message → List Dnskey → Name → ℕ → Type 0
+IsOfVersion a k h mode hash rs published m read keys q t =
+    (owner : Name) (u : ℕ) (x : Found (trusting a h keys) k m read.records owner u (rrset_in k m read.records owner u))
+    → Has (proof_times (trusting a h keys) k m read.records q t) (times_of x.by.fields) → eqb u 48 ≡ false
+    → IsOf (served_of h.apex mode hash rs) h.apex published x.by.fields owner (rrset_in k m read.records owner u)
+
+module _ (a : Answers) (k : ℕ) (h : Handing) (mode : Mode) (hash : Name → List ℕ) (rs : List HandedRr) (known : IsKnown h.apex mode hash rs) (published : List Dnskey) (m : List ℕ) (read : Message) (keys : List Dnskey)
+    (q : Name) (t : ℕ) (asked : is_foreign_type t ≡ false) (is_of : IsOfVersion a k h mode hash rs published m read keys q t) where
   abbrev zone_here : Zone
   zone_here = zone_with h.apex rs
 
@@ -185,77 +237,73 @@ module _ (a : Answers) (k : ℕ) (h : Handing) (mode : Mode) (hash : Name → Li
   w = trusting a h keys
 
   abbrev rrset : Name → ℕ → List (List ℕ)
-  rrset owner t = rrset_in k m read.records owner t
+  rrset owner u = rrset_in k m read.records owner u
 
-  pub of_found : (owner : Name) (t : ℕ) (items : List (List ℕ)) → AllByRecursion IsDatum items → Rattle.definitions.specs.Signing.ascending items ≡ true → (x : Found w k m read.records owner t items) → IsOf served h.apex published x.by.fields owner items
-  of_found owner t items data_are rising x =
-      let is = of_made h.apex mode hash rs published outs known life x.by.fields x.spelled.owner items (over_made a k h published (made served h.apex life outs) m read honest reads keys trusted owner t items data_are rising x) in
-      record {
-        group = is.group;
-        kind = is.kind;
-        spells = record {
-          covered = is.spells.covered;
-          labels = is.spells.labels;
-          owners = signed_owner-owner x.by.fields.labels owner x.spelled.owner (sym x.by.owner_is) ∙ is.spells.owners;
-          contents = is.spells.contents;
-        };
-      }
-
-  of_rrset : (owner : Name) (t : ℕ) → (x : Found w k m read.records owner t (rrset owner t)) → IsOf served h.apex published x.by.fields owner (rrset owner t)
-  of_rrset owner t x = of_found owner t (rrset owner t) (rrset_read k m read.records owner t honest.octets_are (message_read k m read honest.octets_are reads)) (sorted_ascend (filter_map (datum_of k m owner t) read.records)) x
+  -- a first signature of an RRset that is sought is used
+  used : (owner : Name) (u : ℕ) → (answer_sought k m h.apex read.records q t).is owner u ≡ true → eqb u 48 ≡ false → (f : Fields) (e : verified_by w k m read.records owner u (rrset owner u) ≡ Some f)
+      → (x : Found w k m read.records owner u (rrset owner u)) × IsOf served h.apex published x.by.fields owner (rrset owner u) × (x.by.fields ≡ f)
+  used owner u sought other f e =
+      let first = first_verifying w k m read.records owner u (rrset owner u) f e in
+      (first.0, is_of owner u first.0 (subst (λ (y : Fields). Has (proof_times w k m read.records q t) (times_of y)) (sym first.1) (first_used w k m read.records q t owner u sought f e)) other, first.1)
 
   -- ---- the RRset of the question
 
-  rrset_true : (q : Name) (t : ℕ) → is_foreign_type t ≡ false → (x : Rrset) → verified_rrset w k m read.records q t ≡ Some x → IsTrueRrset zone_here q t x
-  rrset_true q t asked x e =
+  rrset_true : (x : Rrset) → verified_rrset w k m read.records q t ≡ Some x → IsTrueRrset zone_here q t x
+  rrset_true x e =
       let f = mapped (λ (f : Fields). record { datas = rrset q t; labels = f.labels }) (verified_by w k m read.records q t (rrset q t)) x e in
-      let first = first_verifying w k m read.records q t (rrset q t) f.0 f.1 in
+      let first = used q t (asked_sought k m h.apex read.records q t) (not_keys t asked) f.0 f.1 in
       let by = first.0.by in
       let is : IsTrueRrset zone_here q t (record { datas = rrset q t; labels = by.fields.labels }) =
-      rrset_of h.apex mode hash rs published outs known q t asked by.fields (rrset q t) by.covered (due_labels h.apex h.now q by.fields by.due) (of_rrset q t first.0) in
-      subst (IsTrueRrset zone_here q t) ((λ i. record { datas = rrset q t; labels = (first.1 i).labels }) ∙ f.2) is
+      rrset_of h.apex mode hash rs published q t asked by.fields (rrset q t) by.covered (due_labels h.apex h.now q by.fields by.due) first.1 in
+      subst (IsTrueRrset zone_here q t) ((λ i. record { datas = rrset q t; labels = (first.2 i).labels }) ∙ f.2) is
 
-  pub question_true : (q : Name) (t : ℕ) → is_foreign_type t ≡ false → IfSome (verified_rrset w k m read.records q t) (IsTrueRrset zone_here q t)
-  question_true q t asked = go (verified_rrset w k m read.records q t) refl
+  pub question_true : IfSome (verified_rrset w k m read.records q t) (IsTrueRrset zone_here q t)
+  question_true = go (verified_rrset w k m read.records q t) refl
     where
       go : (o : Option Rrset) → verified_rrset w k m read.records q t ≡ o → IfSome o (IsTrueRrset zone_here q t)
       go None e = tt
-      go (Some x) e = rrset_true q t asked x e
+      go (Some x) e = rrset_true x e
 
   -- ---- records of a chain
 
   -- the RRset of a record that stands alone
-  chain_datum : (t : ℕ) (r : Spelled) (d : List ℕ) → Has read.records r → (r.class == 1) ≡ true → (r.rtype == t) ≡ true → canonical_data k m r ≡ Some d → Has (rrset r.owner t) d
-  chain_datum t r d i class kind e =
-      let open_gate : ((r.class == 1) && (r.rtype == t) && same r.owner r.owner) ≡ true = and_from _ _ (and_from _ _ class kind) (labels_eq-same (low r.owner) (low r.owner) refl) in
-      data_has (filter_map (datum_of k m r.owner t) read.records) d
-      (kept_has (datum_of k m r.owner t) read.records r d i (ap (λ b. elim b as (λ _. Option (List ℕ)) [ true ↦ canonical_data k m r | false ↦ None ]) open_gate ∙ e))
+  chain_datum : (u : ℕ) (r : Spelled) (d : List ℕ) → Has read.records r → (r.class == 1) ≡ true → (r.rtype == u) ≡ true → canonical_data k m r ≡ Some d → Has (rrset r.owner u) d
+  chain_datum u r d i class kind e =
+      let open_gate : ((r.class == 1) && (r.rtype == u) && same r.owner r.owner) ≡ true = and_from _ _ (and_from _ _ class kind) (labels_eq-same (low r.owner) (low r.owner) refl) in
+      data_has (filter_map (datum_of k m r.owner u) read.records) d
+      (kept_has (datum_of k m r.owner u) read.records r d i (ap (λ b. elim b as (λ _. Option (List ℕ)) [ true ↦ canonical_data k m r | false ↦ None ]) open_gate ∙ e))
 
-  chain_found : (t : ℕ) (r : Spelled) (d : List ℕ) → is_foreign_type t ≡ true → eqb t 48 ≡ false → may_expand t ≡ false → Has read.records r → (r.class == 1) ≡ true → (r.rtype == t) ≡ true → canonical_data k m r ≡ Some d
-      → is_verified w k m read.records r.owner t (rrset r.owner t) ≡ true → IsChainRecord served t r d
-  chain_found t r d foreign not_keys whole i class kind e verified = go x.by.fields x.by.covered labels is.group is.kind is.spells
+  chain_found : (u : ℕ) (r : Spelled) (d : List ℕ) → is_foreign_type u ≡ true → eqb u 48 ≡ false → may_expand u ≡ false → (answer_sought k m h.apex read.records q t).is r.owner u ≡ true → Has read.records r → (r.class == 1) ≡ true → (r.rtype == u) ≡ true → canonical_data k m r ≡ Some d
+      → is_verified w k m read.records r.owner u (rrset r.owner u) ≡ true → IsChainRecord served u r d
+  chain_found u r d foreign not_keys whole sought i class kind e verified = go x.by.fields x.by.covered labels is.group is.kind is.spells
     where
-      x : Found w k m read.records r.owner t (rrset r.owner t)
-      x = found_verifying w k m read.records r.owner t (rrset r.owner t) verified
+      f : (f : Fields) × (verified_by w k m read.records r.owner u (rrset r.owner u) ≡ Some f)
+      f = first_there w k m read.records r.owner u (rrset r.owner u) verified
 
-      is : IsOf served h.apex published x.by.fields r.owner (rrset r.owner t)
-      is = of_rrset r.owner t x
+      first : (x : Found w k m read.records r.owner u (rrset r.owner u)) × IsOf served h.apex published x.by.fields r.owner (rrset r.owner u) × (x.by.fields ≡ f.0)
+      first = used r.owner u sought not_keys f.0 f.1
+
+      x : Found w k m read.records r.owner u (rrset r.owner u)
+      x = first.0
+
+      is : IsOf served h.apex published x.by.fields r.owner (rrset r.owner u)
+      is = first.1
 
       labels : x.by.fields.labels ≡ label_count r.owner
       labels = whole_labels h.apex r.owner x.by.fields (ap may_expand x.by.covered ∙ whole) (due_labels h.apex h.now r.owner x.by.fields x.by.due)
 
-      inside : Has (rrset r.owner t) d
-      inside = chain_datum t r d i class kind e
+      inside : Has (rrset r.owner u) d
+      inside = chain_datum u r d i class kind e
 
-      go : (f : Fields) → f.covered ≡ t → f.labels ≡ label_count r.owner → (g : Group) → Kind served h.apex published g → Spells f r.owner (rrset r.owner t) g → IsChainRecord served t r d
+      go : (f : Fields) → f.covered ≡ u → f.labels ≡ label_count r.owner → (g : Group) → Kind served h.apex published g → Spells f r.owner (rrset r.owner u) g → IsChainRecord served u r d
       go f c l g (KeyKind present of s) y = absurd (false≢true (sym not_keys ∙ ap (λ n. eqb n 48) (sym c ∙ y.covered ∙ ap (λ (v : Group). v.rtype) s)))
-      go f c l g (ZoneKind z) y = absurd (zone_type h.apex mode hash rs published outs known g z (ap is_foreign_type (sym y.covered ∙ c) ∙ foreign))
+      go f c l g (ZoneKind z) y = absurd (zone_type h.apex mode hash rs known g z (ap is_foreign_type (sym y.covered ∙ c) ∙ foreign))
       go f c l g (ChainKind o j s) y = record {
         name = o;
         there = j;
         type_is = ap (λ (v : Group). v.rtype) (sym s) ∙ sym y.covered ∙ c;
         owner_is = sym (owner_whole f.labels r.owner l) ∙ y.owners ∙ (λ n. signed_owner (label_count (s n).source) (s n).owner);
-        data_is = λ e one. only_item (rrset r.owner t) e d (y.contents ∙ ap (λ (v : Group). v.datas) s ∙ one) inside;
+        data_is = λ e one. only_item (rrset r.owner u) e d (y.contents ∙ ap (λ (v : Group). v.datas) s ∙ one) inside;
       }
 
   -- ---- NSEC
@@ -268,9 +316,9 @@ module _ (a : Answers) (k : ℕ) (h : Handing) (mode : Mode) (hash : Name → Li
       let v = and_parts ((r.rtype == 47) && (r.class == 1) && at_or_above h.apex r.owner && (length items == 1)) (is_verified w k m read.records r.owner 47 items) gate.0 in
       let o = and_parts ((r.rtype == 47) && (r.class == 1) && at_or_above h.apex r.owner) (length items == 1) v.0 in
       let b = and_parts ((r.rtype == 47) && (r.class == 1)) (at_or_above h.apex r.owner) o.0 in
-      let t = and_parts (r.rtype == 47) (r.class == 1) b.0 in
-      let d : canonical_data k m r ≡ Some (wire n.0.0 ++ n.0.1) = canonical_nsec k m r (eqb-true r.rtype 47 t.0) ∙ ap (λ (x : Option (Name × List ℕ)). elim x as (λ _. Option (List ℕ)) [ None ↦ None | Some n ↦ Some (wire n.0 ++ n.1) ]) n.1 in
-      record { next = n.0; reads = n.1; is = n.2; chain = chain_found 47 r (wire n.0.0 ++ n.0.1) refl refl refl i t.1 t.0 d v.1 }
+      let c = and_parts (r.rtype == 47) (r.class == 1) b.0 in
+      let d : canonical_data k m r ≡ Some (wire n.0.0 ++ n.0.1) = canonical_nsec k m r (eqb-true r.rtype 47 c.0) ∙ ap (λ (x : Option (Name × List ℕ)). elim x as (λ _. Option (List ℕ)) [ None ↦ None | Some n ↦ Some (wire n.0 ++ n.1) ]) n.1 in
+      record { next = n.0; reads = n.1; is = n.2; chain = chain_found 47 r (wire n.0.0 ++ n.0.1) refl refl refl (link_sought k m h.apex read.records q t r.owner b.1 o.1) i c.1 c.0 d v.1 }
 
   -- ---- NSEC3
 
@@ -281,6 +329,6 @@ module _ (a : Answers) (k : ℕ) (h : Handing) (mode : Mode) (hash : Name → Li
       let items = rrset r.owner 50 in
       let v = and_parts ((r.rtype == 50) && (r.class == 1) && is_hash_alone k m h.apex read.records r.owner) (is_verified w k m read.records r.owner 50 items) gate.0 in
       let o = and_parts ((r.rtype == 50) && (r.class == 1)) (is_hash_alone k m h.apex read.records r.owner) v.0 in
-      let t = and_parts (r.rtype == 50) (r.class == 1) o.0 in
-      let d : canonical_data k m r ≡ Some (data_of m r) = canonical_nsec3 k m r (eqb-true r.rtype 50 t.0) ∙ ap (λ (x : Option HashedNext). elim x as (λ _. Option (List ℕ)) [ None ↦ None | Some n ↦ Some (data_of m r) ]) n.1 in
-      record { next = n.0; reads = n.1; is = n.2; chain = chain_found 50 r (data_of m r) refl refl refl i t.1 t.0 d v.1 }
+      let c = and_parts (r.rtype == 50) (r.class == 1) o.0 in
+      let d : canonical_data k m r ≡ Some (data_of m r) = canonical_nsec3 k m r (eqb-true r.rtype 50 c.0) ∙ ap (λ (x : Option HashedNext). elim x as (λ _. Option (List ℕ)) [ None ↦ None | Some n ↦ Some (data_of m r) ]) n.1 in
+      record { next = n.0; reads = n.1; is = n.2; chain = chain_found 50 r (data_of m r) refl refl refl (hash_sought k m h.apex read.records q t r.owner o.1) i c.1 c.0 d v.1 }

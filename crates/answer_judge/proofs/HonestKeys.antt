@@ -1,5 +1,5 @@
 -- The keys of an honest DNSKEY answer that a trusted key signs are published.
-use Rattle.std.proofs.Common.{◌≡◌, ℕ, ◌+◌, ◌*◌, ◌<◌, Bool, true, false, not, ◌&&◌, List, [], ◌∷◌, ◌++◌, length, map, Option, Some, None, Ok, eqb, refl, sym, ap, subst, ◌∙◌, inl, inr, arith}
+use Rattle.std.proofs.Common.{◌≡◌, ℕ, ◌+◌, ◌*◌, ◌<◌, Bool, true, false, ◌&&◌, List, [], ◌∷◌, map, Option, Some, None, Ok, eqb, refl, sym, ap, subst, ◌∙◌, inl, inr, arith}
 use Rattle.std.specs.Prelude.{◌==◌, Contains, if◌then◌else◌}
 use Rattle.std.specs.List.{AllByRecursion, filter, list_any}
 use Rattle.std.specs.Int.{w16, to_be_bytes}
@@ -11,27 +11,27 @@ use lib.Pointwise.{bytes_decides}
 use Rattle.definitions.specs.Dnskey.{Dnskey, Ds, digested, dnskey_data, dnskey_of_data, key_tag}
 use Rattle.definitions.specs.Name.{Name, same}
 use Rattle.definitions.specs.Signing.{Fields}
-use Rattle.definitions.specs.Zone.{apex_of, sorted_data}
+use Rattle.definitions.specs.Zone.{sorted_data}
 use Rattle.definitions.specs.ZoneChain.{Mode, Nsec, Nsec3}
-use Rattle.denial_rules.specs.Truth.{is_foreign_type}
+use Rattle.denial_laws.specs.Truth.{is_foreign_type}
 use Rattle.messages.specs.HandedRr.{HandedRr}
 use Rattle.messages.specs.Message.{Message, Spelled, data_of, message}
 use Rattle.messages.proofs.Lists.{Has, all_at, all_more, all_sorted, found, some_is}
-use Rattle.answer_terms.specs.Accepting.{zone_with}
-use Rattle.answer_terms.specs.Made.{HandedOut, made}
-use Rattle.answer_terms.specs.Served.{Group, Served, chain_record, key_group, served_of}
-use Rattle.answer_terms.specs.Served as served
-use Rattle.answer_terms.proofs.KeyData.{key_read_back}
+use Rattle.answer_shared.specs.Accepting.{sorted_records}
+use Rattle.answer_shared.specs.Made.{HandedOut, made}
+use Rattle.answer_shared.specs.Served.{Group, Served, chain_record, key_group, served_of}
+use Rattle.answer_shared.specs.Served as served
+use Rattle.answer_shared.proofs.KeyData.{key_read_back}
 use Rattle.answer_scheme.specs.Answers.{Answers}
-use Rattle.answer_facts.specs.Facts.{digests_to, is_trusted, is_usable, names_key}
-use Rattle.answer_judge.specs.Honest.{AreOctets, IsHonest, NoStranger}
-use Rattle.answer_facts.specs.Judged.{is_chained, keys_of, trusting}
-use Rattle.answer_facts.specs.Judging.{Handing, key_at}
-use Rattle.answer_facts.proofs.GivenKeys.{IsKeyData, data_of_key, key_data}
+use Rattle.answer_judge_facts.specs.Facts.{digests_to, is_trusted, is_usable, names_key}
+use Rattle.answer_judge.specs.Honest.{IsHonest, NoStranger}
+use Rattle.answer_judge_facts.specs.Judged.{is_chained, keys_of, trusting}
+use Rattle.answer_judge_facts.specs.Judging.{Handing, key_at}
+use Rattle.answer_judge_facts.proofs.GivenKeys.{IsKeyData, data_of_key, key_data}
 use Rattle.answer_judge.proofs.GivenLists.{contained_has, has_contained}
-use Rattle.answer_facts.proofs.GivenSorted.{all_has, data_has, sorted_from}
-use Rattle.answer_judge.proofs.HonestFacts.{IsLife, IsOf, of_found, zone_type}
-use Rattle.answer_judge.proofs.HonestLists.{kept_from, passes_has}
+use Rattle.answer_judge_facts.proofs.GivenSorted.{data_has, sorted_from}
+use Rattle.answer_judge.proofs.HonestFacts.{IsLife, WasMade, of_found, serve_by, zone_type}
+use Rattle.answer_judge_facts.proofs.KeptItems.{kept_from, passes_has}
 use Rattle.answer_judge.proofs.HonestMade.{Kind, KeyKind, ZoneKind, ChainKind}
 use Rattle.answer_judge.proofs.HonestReads.{IsDatum, ReadsRecord, data_read, message_read, octets_16, octets_join}
 use Rattle.answer_judge.proofs.HonestSpelled.{Spells}
@@ -91,12 +91,9 @@ chain_other : (apex : Name) (mode : Mode) (hash : Name → List ℕ) (rs : List 
 chain_other apex Nsec hash rs o e = false≢true (ap (λ (n : ℕ). eqb n 48) e)
 chain_other apex (Nsec3 iterations salt optout) hash rs o e = false≢true (ap (λ (n : ℕ). eqb n 48) e)
 
-module _ (a : Answers) (k : ℕ) (h : Handing) (mode : Mode) (hash : Name → List ℕ) (rs : List HandedRr) (published : List Dnskey) (outs : List HandedOut) (known : IsLife h.apex mode hash rs published outs) (life : ℕ) (read : Message)
-    (honest : IsHonest a k h published (made (served_of h.apex mode hash rs) h.apex life outs) h.dnskey_bytes) (reads : message k h.dnskey_bytes ≡ Ok read) (keys_known : NoStranger a k h.apex published h.ds h.dnskey_bytes)
+module _ (a : Answers) (k : ℕ) (h : Handing) (mode : Mode) (hash : Name → List ℕ) (published : List Dnskey) (outs : List HandedOut) (known : IsLife h.apex mode hash published outs) (life : ℕ) (read : Message)
+    (honest : IsHonest a k h published (made (serve_by h.apex mode hash) h.apex life outs) h.dnskey_bytes) (reads : message k h.dnskey_bytes ≡ Ok read) (keys_known : NoStranger a k h.apex published h.ds h.dnskey_bytes)
     (flags_are : AllByRecursion (λ (key : Dnskey). key.flags < 65536) published) where
-  abbrev s : Served
-  s = served_of h.apex mode hash rs
-
   abbrev keys : List Dnskey
   keys = keys_of h read
 
@@ -116,10 +113,9 @@ module _ (a : Answers) (k : ℕ) (h : Handing) (mode : Mode) (hash : Name → Li
   trusted_published : (key : Dnskey) → Has trusted key → Contains published key
   trusted_published key i =
       let p = passes_has (is_trusted a h.apex h.ds) keys key i in
-      let r : IsKeyRecord h.dnskey_bytes read.records key = here key p.0 in
       let d = found (names_key a h.apex key) h.ds (and_parts (is_usable key) (list_any (names_key a h.apex key) h.ds) p.1).1 in
       let digest = same_digest a h.apex key d.0 (and_parts ((d.0.tag == key_tag key) && (d.0.algorithm == key.algorithm)) (digests_to a h.apex key d.0) d.2).1 in
-      keys_known read r.spelled key d.0 reads (contained_has read.records r.spelled r.there) r.type_is r.reads (contained_has h.ds d.0 d.1) digest
+      keys_known read key d.0 reads (contained_has keys key p.0) (contained_has h.ds d.0 d.1) digest
 
   abbrev items : List (List ℕ)
   items = sorted_data (map dnskey_data keys)
@@ -142,16 +138,24 @@ module _ (a : Answers) (k : ℕ) (h : Handing) (mode : Mode) (hash : Name → Li
       let one : p.key ≡ key = some_is p.key key (sym p.reads ∙ key_read_back key (is_read key i).small) in
       subst (Contains published) one (all_at (Contains published) present p.key of p.inside)
 
-  pub all_published : is_chained a k h read ≡ true → (key : Dnskey) → Has keys key → Contains published key
-  all_published chained = go x.by.fields x.by.covered is.group is.kind is.spells
-    where
-      x : Found (trusting a h trusted) k h.dnskey_bytes read.records h.apex 48 items
-      x = found_verifying (trusting a h trusted) k h.dnskey_bytes read.records h.apex 48 items chained
+  module _ (chained : is_chained a k h read ≡ true) where
+    abbrev x : Found (trusting a h trusted) k h.dnskey_bytes read.records h.apex 48 items
+    x = found_verifying (trusting a h trusted) k h.dnskey_bytes read.records h.apex 48 items chained
 
-      is : IsOf s h.apex published x.by.fields h.apex items
-      is = of_found a k h mode hash rs published outs known life h.dnskey_bytes read honest reads trusted trusted_published h.apex 48 items data_are (sorted_ascend (map dnskey_data keys)) x
+    abbrev was : WasMade h.apex mode hash published outs x.by.fields h.apex items
+    was = of_found a k h mode hash published outs known life h.dnskey_bytes read honest reads trusted trusted_published h.apex 48 items data_are (sorted_ascend (map dnskey_data keys)) x
 
-      go : (f : Fields) → f.covered ≡ 48 → (g : Group) → Kind s h.apex published g → Spells f h.apex items g → (key : Dnskey) → Has keys key → Contains published key
-      go f c g (KeyKind present of e) y = from_present present of (y.contents ∙ ap (λ (v : Group). v.datas) e)
-      go f c g (ZoneKind z) y = absurd (zone_type h.apex mode hash rs published outs known g z (ap is_foreign_type (sym y.covered ∙ c)))
-      go f c g (ChainKind o j e) y = absurd (chain_other h.apex mode hash rs o (ap (λ (v : Group). v.rtype) (sym e) ∙ sym y.covered ∙ c))
+    -- the message that they were signed for
+    pub signed_in : (out : HandedOut) × Has outs out
+    signed_in = (was.out, was.there)
+
+    abbrev rs : List HandedRr
+    rs = sorted_records was.out.records
+
+    pub all_published : (key : Dnskey) → Has keys key → Contains published key
+    all_published = go x.by.fields x.by.covered was.is.group was.is.kind was.is.spells
+      where
+        go : (f : Fields) → f.covered ≡ 48 → (g : Group) → Kind (served_of h.apex mode hash rs) h.apex published g → Spells f h.apex items g → (key : Dnskey) → Has keys key → Contains published key
+        go f c g (KeyKind present of e) y = from_present present of (y.contents ∙ ap (λ (v : Group). v.datas) e)
+        go f c g (ZoneKind z) y = absurd (zone_type h.apex mode hash rs (known.versions was.out was.there) g z (ap is_foreign_type (sym y.covered ∙ c)))
+        go f c g (ChainKind o j e) y = absurd (chain_other h.apex mode hash rs o (ap (λ (v : Group). v.rtype) (sym e) ∙ sym y.covered ∙ c))

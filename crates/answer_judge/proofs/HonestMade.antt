@@ -1,50 +1,41 @@
 -- What was signed in a zone's life: the RRset of its keys, one of its RRsets, or one of its chain.
-use Rattle.std.proofs.Common.{◌≡◌, ℕ, ◌<◌, ◌≤◌, Bool, true, false, ◌&&◌, ◌||◌, not, cond, List, [], ◌∷◌, ◌++◌, map, length, Option, Some, None, eqb, refl, sym, ap, subst, ◌∙◌, inl, inr, ⊎_elim, arith, lit<}
-use Rattle.std.specs.Prelude.{◌==◌, Contains, nat_lt, if◌then◌else◌}
+use Rattle.std.proofs.Common.{◌≡◌, ℕ, ◌<◌, Bool, true, false, ◌&&◌, ◌||◌, not, List, [], ◌∷◌, ◌++◌, map, length, Option, Some, None, refl, sym, ap, subst, ◌∙◌, inl, inr, arith, lit<}
+use Rattle.std.specs.Prelude.{◌==◌, Contains, if◌then◌else◌}
 use Rattle.std.specs.List.{AllByRecursion, filter, flat_map, list_any}
 use Rattle.std.proofs.lemmas.Bool.{and_from, and_parts, eqb-true, false_from_ne_true, false≢true, le-ltb, ltb-true, or_right}
 use Rattle.definitions.specs.Base32hex.{base32hex}
 use Rattle.definitions.specs.Dnskey.{Dnskey}
 use Rattle.definitions.specs.Name.{Name, IsName, labels_eq, low, at_or_above, strictly_above}
 use Rattle.definitions.specs.Signing.{label_count, signed_owner}
-use Rattle.definitions.specs.Zone.{Zone, Rr, Verdict, Records, NoType, StarRecords, Delegated, Open, apex_of, has, is_of, is_delegation, is_live, exists, is_open, ce, cut, data_at, star_under, verdict}
-use Rattle.definitions.specs.ZoneChain.{Mode, Nsec, Nsec3, hashed_names, nsec3_names, nsec_names, optout_of}
+use Rattle.definitions.specs.Zone.{Zone, Rr, Verdict, Records, StarRecords, Delegated, Open, apex_of, has, is_of, is_delegation, is_live, exists, is_open, ce, cut, data_at, star_under, verdict}
+use Rattle.definitions.specs.ZoneChain.{Mode, Nsec, Nsec3, hashed_names, nsec_names, optout_of}
 use Rattle.definitions.proofs.Members.{any_of}
 use Rattle.definitions.proofs.ZoneNames.{above_itself, above_lowered, low-low}
-use Rattle.denial_hashes.specs.Hashing.{FitsName}
-use Rattle.denial_rules.specs.Truth.{IsServable, is_signed}
-use Rattle.denial_rules.proofs.NameFacts.{strictly_shorter}
-use Rattle.denial_rules.proofs.OwnRrset.{own_records_true, own_star_true}
-use Rattle.denial_rules.proofs.SignedNames.{whole_owner}
-use Rattle.denial_rules.proofs.VerdictView.{View, Signed, Missing, Cut, Starred, Unstarred, Gone, view}
-use Rattle.denial_rules.proofs.ZoneCuts.{IsCut, cut_is, cut_live, delegation_low, uncut_live}
+use Rattle.denial_nsec3_hash.specs.Hashing.{FitsName}
+use Rattle.denial_laws.specs.Truth.{IsServable, is_signed}
+use Rattle.denial_laws.proofs.NameFacts.{strictly_shorter}
+use Rattle.denial_laws.proofs.OwnRrset.{own_records_true, own_star_true}
+use Rattle.denial_laws.proofs.SignedNames.{whole_owner}
+use Rattle.denial_laws.proofs.VerdictView.{View, Signed, Missing, Cut, Starred, Unstarred, Gone, view}
+use Rattle.denial_laws.proofs.ZoneCuts.{IsCut, cut_is, cut_live, delegation_low, uncut_live}
 use Rattle.messages.specs.Handed.{IsHanded}
 use Rattle.messages.specs.HandedRr.{HandedRr}
-use Rattle.messages.specs.Message.{Asked}
-use Rattle.messages.specs.WrittenLaws.{IsQuestion}
 use Rattle.messages.proofs.Lists.{Has, all_at}
-use Rattle.answer_terms.specs.Accepting.{rr_of, zone_with}
-use Rattle.answer_terms.specs.Asking.{is_allowed}
-use Rattle.answer_terms.specs.Made.{Content, OfKeys, OfZone, HandedOut, IsOf, groups_of, made, made_in, made_of}
-use Rattle.answer_terms.specs.Served.{Group, Served, ahead, ahead_open, answer_groups, chain_names, chain_record, expanded, if_any, key_group, owner_among, proofs_of, rrset, served_of, served_owner, soa, speaks_for, spelled_as, spoken, under, unsigned_ns}
-use Rattle.answer_terms.specs.Told.{octets_for}
-use Rattle.answer_terms.proofs.HashedLinks.{apex_spelled}
-use Rattle.answer_terms.proofs.Servable.{asked_inside}
-use Rattle.answer_terms.proofs.ZoneCutNames.{cut_name}
-use Rattle.answer_terms.proofs.ZoneData.{label_count-low, low-owner_among}
-use Rattle.answer_terms.proofs.ZoneNaming.{chain_named, first_name, lower_name, owner_name}
+use Rattle.answer_shared.specs.Accepting.{rr_of, zone_with}
+use Rattle.answer_shared.specs.Made.{Content, OfKeys, OfZone, HandedOut, IsOf, groups_in, groups_of, made, made_in, made_of}
+use Rattle.answer_shared.specs.Served.{Group, Served, ahead, ahead_open, chain_names, chain_record, expanded, if_any, key_group, keys_ttl, owner_among, proofs_of, rrset, served_of, served_owner, soa, speaks_for, spoken, under, unsigned_ns}
+use Rattle.answer_shared.specs.Told.{octets_for}
+use Rattle.answer_shared.proofs.HashedLinks.{apex_spelled}
+use Rattle.answer_shared.proofs.Servable.{asked_inside}
+use Rattle.answer_shared.proofs.ZoneCutNames.{cut_name}
+use Rattle.answer_shared.proofs.ZoneData.{label_count-low, low-owner_among}
+use Rattle.answer_shared.proofs.ZoneNaming.{chain_named, first_name, lower_name, owner_name}
 use Rattle.answer_judge.proofs.GivenFacts.{from_joined}
-use Rattle.answer_facts.proofs.GivenSorted.{filter_from, in_has}
+use Rattle.answer_judge_facts.proofs.GivenSorted.{filter_from, in_has}
+use Rattle.answer_judge_facts.proofs.KeptItems.{has_from_map}
 use Rattle.answer_judge.proofs.OwnAnswer.{some_data}
 
 -- ---- lists
-
-has_from_map : {A B : Type 0} (f : A → B) (xs : List A) (y : B) → Has (map f xs) y → (x : A) × Has xs x × (y ≡ f x)
-has_from_map f [] y h = absurd h
-has_from_map f (x ∷ xs) y h = elim h [
-  | inl e ↦ (x, inl refl, e)
-  | inr later ↦ let r = has_from_map f xs y later in (r.0, inr r.1, r.2)
-]
 
 has_from_parts : {A B : Type 0} (f : A → List B) (xs : List A) (y : B) → Has (flat_map f xs) y → (x : A) × Has xs x × Has (f x) y
 has_from_parts f [] y h = absurd h
@@ -56,11 +47,11 @@ has_from_parts f (x ∷ xs) y h = elim (from_joined (f x) (flat_map f xs) y h) [
 -- ---- what was made
 
 -- octets of a signature over an RRset of a message that was handed out
-pub record IsMade (s : Served) (apex : Name) (life : ℕ) (outs : List HandedOut) (octets : List ℕ) : Type 0 where
+pub record IsMade (serve : List HandedRr → Served) (apex : Name) (life : ℕ) (outs : List HandedOut) (octets : List ℕ) : Type 0 where
   pub out : HandedOut
   pub there : Has outs out
   pub group : Group
-  pub inside : Has (groups_of s apex out.content) group
+  pub inside : Has (groups_in serve apex out) group
   pub signed : group.signed ≡ true
   pub key : Dnskey
   pub is : octets ≡ octets_for apex out.at life group key
@@ -69,10 +60,10 @@ pub signed_only : {A : Type 0} (b : Bool) (xs : List A) (x : A) → Has (if b th
 signed_only true xs x h = (refl, h)
 signed_only false xs x h = absurd h
 
-pub is_made : (s : Served) (apex : Name) (life : ℕ) (outs : List HandedOut) (octets : List ℕ) → Has (made s apex life outs) octets → IsMade s apex life outs octets
-is_made s apex life outs octets h =
-    let o = has_from_parts (made_in s apex life) outs octets h in
-    let g = has_from_parts (made_of apex o.0.at life o.0.signers) (groups_of s apex o.0.content) octets o.2 in
+pub is_made : (serve : List HandedRr → Served) (apex : Name) (life : ℕ) (outs : List HandedOut) (octets : List ℕ) → Has (made serve apex life outs) octets → IsMade serve apex life outs octets
+is_made serve apex life outs octets h =
+    let o = has_from_parts (made_in serve apex life) outs octets h in
+    let g = has_from_parts (made_of apex o.0.at life o.0.signers) (groups_in serve apex o.0) octets o.2 in
     let k = signed_only g.0.signed (map (octets_for apex o.0.at life g.0) o.0.signers) octets g.2 in
     let x = has_from_map (octets_for apex o.0.at life g.0) o.0.signers octets k.1 in
     record { out = o.0; there = o.1; group = g.0; inside = g.1; signed = k.0; key = x.0; is = x.2 }
@@ -86,7 +77,7 @@ pub record IsZoneGroup (z : Zone) (g : Group) : Type 0 where
   pub datas : g.datas ≡ data_at z (signed_owner (label_count g.source) g.owner) g.rtype
 
 pub data Kind (s : Served) (apex : Name) (published : List Dnskey) (g : Group) : Type 0 where
-  KeyKind : (present : List Dnskey) → AllByRecursion (Contains published) present → g ≡ key_group apex (s.ttl_of (apex_of s.zone) 6) present → Kind s apex published g
+  KeyKind : (present : List Dnskey) → AllByRecursion (Contains published) present → g ≡ key_group apex (keys_ttl s) present → Kind s apex published g
   ZoneKind : IsZoneGroup s.zone g → Kind s apex published g
   ChainKind : (o : Name) → Has (chain_names s) o → g ≡ chain_record s o → Kind s apex published g
 

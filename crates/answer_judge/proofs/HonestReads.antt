@@ -1,31 +1,29 @@
 -- What is read of a message of octets: names, numbers that fit, and short data of octets.
-use Rattle.std.proofs.Common.{◌≡◌, ℕ, zero, suc, ◌+◌, ◌-◌, ◌*◌, ◌<◌, ◌≤◌, ◌^◌, Bool, true, false, ◌&&◌, List, [], ◌∷◌, ◌++◌, length, take, drop, map, get_or, Option, Some, None, Result, Ok, Err, cond, eqb, leb, refl, sym, ap, subst, ◌∙◌, inl, inr, arith}
-use Rattle.std.specs.Prelude.{slice_range, slice_index, nat_eq, nat_le, min}
+use Rattle.std.proofs.Common.{◌≡◌, ℕ, zero, suc, ◌+◌, ◌-◌, ◌*◌, ◌<◌, ◌≤◌, ◌^◌, Bool, true, false, ◌&&◌, List, [], ◌∷◌, ◌++◌, length, take, drop, get_or, Option, Some, None, Result, Ok, Err, eqb, leb, refl, sym, ap, subst, ◌∙◌, inl, inr, arith}
+use Rattle.std.specs.Prelude.{slice_range, slice_index, nat_eq}
 use Rattle.std.specs.Int.{w16, w32, to_be_bytes}
 use Rattle.std.specs.List.{AllByRecursion, cons_option, filter_map, flat_map}
 use Rattle.std.specs.Char.{to_ascii_lowercase}
 use Rattle.std.specs.Ordering.{nat_cmp}
 use Rattle.std.specs.Cmp.Lexicographic.{slice_cmp}
 use Rattle.std.specs.Str.{str_to_ascii_lowercase}
-use Rattle.std.proofs.Math.Nat.{mod-lt}
 use Rattle.std.proofs.lemmas.Bool.{and_parts, eqb-true, leb-true}
 use Rattle.std.proofs.lemmas.List.{length-append, length-take}
 use Rattle.std.proofs.lemmas.Option.{slice_get_cases, get_or_from_slice_get}
 use Rattle.definitions.specs.Bitmap.{is_bitmap}
 use Rattle.definitions.specs.Name.{Name, IsLabel, IsName, low, same, wire, wire_len}
 use Rattle.definitions.specs.Reading.{Reads, root, label, pointer, name_at}
-use Rattle.definitions.specs.Signing.{Fields, canonical_record, fields_data, label_count, signed_owner, signed_octets}
-use Rattle.definitions.specs.Zone.{sorted_data}
+use Rattle.definitions.specs.Signing.{Fields}
 use Rattle.definitions.proofs.ReadingLaws.{length-range, reads_exactly, wire_len-cons}
 use Rattle.messages.specs.declared.error.MessageError.{MessageError}
 use Rattle.messages.specs.declared.error.MessageError.TheVariants.{ShortInput}
 use Rattle.messages.specs.Message.{◌>>=◌, Asked, Message, Spelled, HashedNext, asked_at, canonical_data, data_of, fits, if_true, message, name_in, name_upto, ns_data, nsec3_at, nsec3_data, nsec_at, nsec_data, octet_at, one_question, owner_at, pair, quad, record_at, records_at, rrsig_at, rrsig_fields, soa_data, u16_at, u32_at, within}
 use Rattle.messages.specs.Message as message
 use Rattle.messages.proofs.CountedRecords.{bound}
-use Rattle.messages.proofs.Lists.{Has, all_at, all_sorted, some_is}
-use Rattle.answer_terms.proofs.ZoneNaming.{lower_len, lower_name}
+use Rattle.messages.proofs.Lists.{all_sorted, some_is}
+use Rattle.answer_shared.proofs.ZoneNaming.{lower_len, lower_name}
 use Rattle.answer_judge.specs.Honest.{AreOctets}
-use Rattle.answer_facts.specs.Verified.{datum_of, rrset_in}
+use Rattle.answer_judge_facts.specs.Verified.{datum_of, rrset_in}
 use Rattle.answer_judge.proofs.GivenNext.{canonical_by, if_true_some, name_in_at, owner_reads}
 
 -- ---- octets

@@ -1,18 +1,18 @@
 -- Octets of a signature over an RRset that was signed tell that RRset.
-use Rattle.std.proofs.Common.{◌≡◌, ℕ, zero, suc, ◌/◌, ◌<◌, ◌^◌, List, ◌∷◌, ◌++◌, length, get_or, refl, sym, ap, ◌∙◌, arith, lit<}
+use Rattle.std.proofs.Common.{◌≡◌, ℕ, zero, suc, ◌/◌, ◌%◌, ◌<◌, ◌^◌, List, ◌∷◌, ◌++◌, length, get_or, refl, sym, ◌∙◌, arith, lit<}
 use Rattle.std.specs.Int.{w16, w32, from_be_bytes, to_be_bytes}
-use Rattle.std.specs.List.{AllByRecursion, flat_map}
+use Rattle.std.specs.List.{flat_map}
 use Rattle.std.proofs.Math.Nat.{mod-lt}
-use Rattle.std.proofs.lemmas.Nat.{be_bytes_2, be_bytes_4}
+use Rattle.std.proofs.lemmas.Nat.{be_bytes_2, be_bytes_4, from_be_bytes-to_be_bytes_4}
 use Rattle.definitions.specs.Dnskey.{Dnskey, key_tag}
 use Rattle.definitions.specs.Laws.{IsSignable, SignsSame}
 use Rattle.definitions.specs.Name.{Name, IsName, low, wire}
 use Rattle.definitions.specs.Signing.{Fields, label_count, signed_octets, signed_owner}
 use Rattle.definitions.proofs.SignedLaws.{signed_octets_spell}
-use Rattle.answer_terms.specs.Made.{IsShortGroup}
-use Rattle.answer_terms.specs.Served.{Group}
-use Rattle.answer_terms.specs.Told.{fields_for, octets_for}
-use Rattle.answer_terms.proofs.ZoneNaming.{lower_name}
+use Rattle.answer_shared.specs.Made.{IsShortGroup}
+use Rattle.answer_shared.specs.Served.{Group}
+use Rattle.answer_shared.specs.Told.{fields_for, octets_for}
+use Rattle.answer_shared.proofs.ZoneNaming.{lower_name}
 use Rattle.answer_judge.proofs.HonestMade.{IsRoomy}
 
 -- ---- numbers as their octets say them
@@ -51,6 +51,10 @@ fits_32 : (n : ℕ) → said_32 n < 2 ^ 32
 unfolding said_32
 fits_32 n = omega (arith, small_32 n 0, small_32 n 1, small_32 n 2, small_32 n 3)
 
+kept_32 : (n : ℕ) → n < 2 ^ 32 → said_32 n ≡ n
+unfolding said_32
+kept_32 n h = from_be_bytes-to_be_bytes_4 n h
+
 -- ---- fields with such numbers
 
 abbrev tidied : Fields → Fields
@@ -73,8 +77,8 @@ pub record Spells (f : Fields) (owner : Name) (items : List (List ℕ)) (g : Gro
   pub owners : signed_owner f.labels owner ≡ signed_owner (label_count g.source) g.owner
   pub contents : items ≡ g.datas
 
-pub spells : (f : Fields) (owner : Name) (items : List (List ℕ)) (apex : Name) (at life : ℕ) (g : Group) (key : Dnskey) → IsSignable f owner 1 items → IsName apex → IsRoomy g → IsShortGroup g → signed_octets f owner 1 items ≡ octets_for apex at life g key → Spells f owner items g
-spells f owner items apex at life g key p apex_is roomy short e =
+signs_same : (f : Fields) (owner : Name) (items : List (List ℕ)) (apex : Name) (at life : ℕ) (g : Group) (key : Dnskey) → IsSignable f owner 1 items → IsName apex → IsRoomy g → IsShortGroup g → signed_octets f owner 1 items ≡ octets_for apex at life g key → SignsSame f (tidied (fields_for apex at life g key)) owner g.owner 1 1 items g.datas
+signs_same f owner items apex at life g key p apex_is roomy short e =
     let made : Fields = tidied (fields_for apex at life g key) in
     let q : IsSignable made g.owner 1 g.datas = record {
       covered = roomy.small;
@@ -88,5 +92,14 @@ spells f owner items apex at life g key p apex_is roomy short e =
       some = roomy.some;
       short = short;
     } in
-    let same : SignsSame f made owner g.owner 1 1 items g.datas = signed_octets_spell f made owner g.owner 1 1 items g.datas p q (e ∙ sym (tidied_octets (fields_for apex at life g key) g.owner g.datas)) in
+    signed_octets_spell f made owner g.owner 1 1 items g.datas p q (e ∙ sym (tidied_octets (fields_for apex at life g key) g.owner g.datas))
+
+pub spells : (f : Fields) (owner : Name) (items : List (List ℕ)) (apex : Name) (at life : ℕ) (g : Group) (key : Dnskey) → IsSignable f owner 1 items → IsName apex → IsRoomy g → IsShortGroup g → signed_octets f owner 1 items ≡ octets_for apex at life g key → Spells f owner items g
+spells f owner items apex at life g key p apex_is roomy short e =
+    let same = signs_same f owner items apex at life g key p apex_is roomy short e in
     record { covered = same.covered; labels = same.labels; owners = same.owners; contents = same.contents }
+
+-- and the moment that it was signed at
+pub spells_moment : (f : Fields) (owner : Name) (items : List (List ℕ)) (apex : Name) (at life : ℕ) (g : Group) (key : Dnskey) → IsSignable f owner 1 items → IsName apex → IsRoomy g → IsShortGroup g → signed_octets f owner 1 items ≡ octets_for apex at life g key → f.inception ≡ at % 4294967296
+spells_moment f owner items apex at life g key p apex_is roomy short e =
+    (signs_same f owner items apex at life g key p apex_is roomy short e).inception ∙ kept_32 (at % 4294967296) (mod-lt at (lit< tt))

@@ -1,62 +1,58 @@
 -- All that is verified in an honest answer is true of the zone, whichever chain it has.
-use Rattle.std.proofs.Common.{◌≡◌, ℕ, ◌<◌, List, Ok, refl, subst}
-use Rattle.std.specs.Prelude.{Bool, Contains, false}
-use Rattle.std.specs.List.{AllByRecursion}
+use Rattle.std.proofs.Common.{◌≡◌, ℕ, List, refl, subst}
+use Rattle.std.specs.Prelude.{false}
 use Rattle.definitions.specs.Dnskey.{Dnskey}
 use Rattle.definitions.specs.Name.{Name}
 use Rattle.definitions.specs.ZoneChain.{Mode, Nsec, Nsec3, hashed_names}
-use Rattle.denial_rules.specs.Facts.{HashLink, Link}
-use Rattle.denial_rules.specs.OwnFacts.{hash_link_of}
-use Rattle.denial_rules.specs.Truth.{AreTrue, IsTrueHashLink, IsTrueLink, is_foreign_type}
+use Rattle.denial_laws.specs.Facts.{HashLink, Link}
+use Rattle.denial_laws.specs.Truth.{AreTrue, IsTrueHashLink, IsTrueLink, is_foreign_type}
 use Rattle.messages.specs.HandedRr.{HandedRr}
-use Rattle.messages.specs.Message.{Message, message}
+use Rattle.messages.specs.Message.{Message}
 use Rattle.messages.proofs.Lists.{Has}
-use Rattle.answer_terms.specs.Accepting.{zone_with}
-use Rattle.answer_terms.specs.Made.{HandedOut, made}
-use Rattle.answer_terms.specs.Served.{served_of}
+use Rattle.answer_shared.specs.Accepting.{zone_with}
 use Rattle.answer_scheme.specs.Answers.{Answers}
-use Rattle.answer_judge.specs.Honest.{IsHonest}
-use Rattle.answer_facts.specs.Judged.{trusting}
-use Rattle.answer_facts.specs.Judging.{Handing}
-use Rattle.answer_facts.specs.Verified.{hash_link_at, link_at, verified_facts, verified_hash_links}
+use Rattle.answer_judge.specs.Honest.{AreOctets}
+use Rattle.answer_judge_facts.specs.Judged.{trusting}
+use Rattle.answer_judge_facts.specs.Judging.{Handing}
+use Rattle.answer_judge_facts.specs.Verified.{hash_link_at, link_at, verified_facts}
 use Rattle.answer_judge.proofs.GivenFacts.{FitsRecords}
 use Rattle.answer_judge.proofs.GivenHashing.{AreHashedBy, SaysHashing}
 use Rattle.answer_judge.proofs.GivenLists.{contained_has}
 use Rattle.answer_judge.proofs.HonestChain.{IsHashOf, hash_of, next_true, no_hashes, no_names}
-use Rattle.answer_judge.proofs.HonestFacts.{IsLife, hash_record, next_record, question_true}
-use Rattle.answer_judge.proofs.HonestLists.{all_kept_of, none_kept_of}
+use Rattle.answer_judge.proofs.HonestFacts.{IsKnown, IsOfVersion, hash_record, next_record, question_true}
+use Rattle.answer_judge_facts.proofs.KeptItems.{all_kept_of, none_kept_of}
 
 -- true, and hashed as the zone hashes
-pub record AreTrueHere (apex : Name) (mode : Mode) (hash : Name → List ℕ) (rs : List HandedRr) (q : Name) (t : ℕ) (f : Rattle.denial_rules.specs.Facts.Facts) : Type 0 where
+pub record AreTrueHere (apex : Name) (mode : Mode) (hash : Name → List ℕ) (rs : List HandedRr) (q : Name) (t : ℕ) (f : Rattle.denial_laws.specs.Facts.Facts) : Type 0 where
   pub true_facts : AreTrue (zone_with apex rs) hash mode q t f
   pub hashed : AreHashedBy mode f.hash_links
 
-pub true_here : (a : Answers) (k : ℕ) (h : Handing) (mode : Mode) (hash : Name → List ℕ) (rs : List HandedRr) (published : List Dnskey) (outs : List HandedOut) (known : IsLife h.apex mode hash rs published outs) (life : ℕ) (m : List ℕ) (read : Message)
-    (honest : IsHonest a k h published (made (served_of h.apex mode hash rs) h.apex life outs) m) (reads : message k m ≡ Ok read) (keys : List Dnskey) (trusted : (key : Dnskey) → Has keys key → Contains published key)
-    → FitsRecords (zone_with h.apex rs) mode hash → (q : Name) (t : ℕ) → is_foreign_type t ≡ false → AreTrueHere h.apex mode hash rs q t (verified_facts (trusting a h keys) k m read.records q t)
-true_here a k h Nsec hash rs published outs known life m read honest reads keys trusted fits q t asked =
-    let hashes = none_kept_of (hash_link_at (trusting a h keys) k m read.records) read.records (λ r l i e. no_hashes h.apex hash rs known.servable known.apex_is known.handed m r l (hash_record a k h Nsec hash rs published outs known life m read honest reads keys trusted r l i e)) in
+pub true_here : (a : Answers) (k : ℕ) (h : Handing) (mode : Mode) (hash : Name → List ℕ) (rs : List HandedRr) (known : IsKnown h.apex mode hash rs) (published : List Dnskey) (m : List ℕ) (read : Message) (keys : List Dnskey)
+    (q : Name) (t : ℕ) (asked : is_foreign_type t ≡ false) (is_of : IsOfVersion a k h mode hash rs published m read keys q t) → AreOctets m
+    → FitsRecords (zone_with h.apex rs) mode hash → AreTrueHere h.apex mode hash rs q t (verified_facts (trusting a h keys) k m read.records q t)
+true_here a k h Nsec hash rs known published m read keys q t asked is_of octets fits =
+    let hashes = none_kept_of (hash_link_at (trusting a h keys) k m read.records) read.records (λ r l i e. no_hashes h.apex hash rs known.servable known.apex_is known.handed m r l (hash_record a k h Nsec hash rs known published m read keys q t asked is_of r l i e)) in
     record {
       true_facts = record {
-        rrset = question_true a k h Nsec hash rs published outs known life m read honest reads keys trusted q t asked;
+        rrset = question_true a k h Nsec hash rs known published m read keys q t asked is_of;
         chain = (
           all_kept_of (IsTrueLink (zone_with h.apex rs)) (link_at (trusting a h keys) k m read.records) read.records
-              (λ r l i e. next_true h.apex hash rs known.servable known.apex_is known.handed k m r l honest.octets_are (next_record a k h Nsec hash rs published outs known life m read honest reads keys trusted r l i e)),
+              (λ r l i e. next_true h.apex hash rs known.servable known.apex_is known.handed k m r l octets (next_record a k h Nsec hash rs known published m read keys q t asked is_of r l i e)),
           hashes,
         );
       };
       hashed = hashes;
     }
-true_here a k h (Nsec3 iterations salt optout) hash rs published outs known life m read honest reads keys trusted fits q t asked =
+true_here a k h (Nsec3 iterations salt optout) hash rs known published m read keys q t asked is_of octets fits =
     let mode : Mode = Nsec3 iterations salt optout in
     let z = zone_with h.apex rs in
     let of : (r : Rattle.messages.specs.Message.Spelled) (l : HashLink) → Has read.records r → hash_link_at (trusting a h keys) k m read.records r ≡ Rattle.std.proofs.Common.Some l → IsHashOf h.apex hash rs iterations salt optout fits.1 fits.0 l =
-    λ r l i e. hash_of h.apex hash rs iterations salt optout fits.1 fits.0 m r l (hash_record a k h mode hash rs published outs known life m read honest reads keys trusted r l i e) in
+    λ r l i e. hash_of h.apex hash rs iterations salt optout fits.1 fits.0 m r l (hash_record a k h mode hash rs known published m read keys q t asked is_of r l i e) in
     record {
       true_facts = record {
-        rrset = question_true a k h mode hash rs published outs known life m read honest reads keys trusted q t asked;
+        rrset = question_true a k h mode hash rs known published m read keys q t asked is_of;
         chain = (
-          none_kept_of (link_at (trusting a h keys) k m read.records) read.records (λ r l i e. no_names h.apex hash rs iterations salt optout fits.1 fits.0 k m r l (next_record a k h mode hash rs published outs known life m read honest reads keys trusted r l i e)),
+          none_kept_of (link_at (trusting a h keys) k m read.records) read.records (λ r l i e. no_names h.apex hash rs iterations salt optout fits.1 fits.0 k m r l (next_record a k h mode hash rs known published m read keys q t asked is_of r l i e)),
           all_kept_of (IsTrueHashLink z hash optout) (hash_link_at (trusting a h keys) k m read.records) read.records (λ r l i e.
               let x = of r l i e in
               subst (IsTrueHashLink z hash optout) x.is (record { name = x.name; named = contained_has (hashed_names hash z optout) x.name x.there; owner = refl; next = refl; bits = refl; opts = refl })),

@@ -1,16 +1,17 @@
 -- How many names a judge hashes, of both messages.
-use Rattle.std.proofs.Common.{◌≡◌, ℕ, true, false, List, filter, inl, inr, ⊎_elim, sym, ap, ◌∙◌}
+use Rattle.std.proofs.Common.{◌≡◌, ℕ, Bool, true, false, List, filter, inl, inr, ⊎_elim, sym, ap, ◌∙◌}
 use Rattle.std.specs.Prelude.{Some, None, Ok, Err}
 use Rattle.definitions.specs.Dnskey.{Dnskey}
 use Rattle.definitions.specs.Limits.{pointer_limit}
-use Rattle.denial_rules.specs.Facts.{Facts}
+use Rattle.denial_laws.specs.Facts.{Facts}
 use Rattle.messages.specs.Message.{Message, Spelled, message}
 use Rattle.answer_scheme.specs.Answers.{Answers}
-use Rattle.answer_facts.specs.Counted.{Counts, hashes_beyond, hashes_in_bytes, hashes_in_messages, hashes_of_facts}
-use Rattle.answer_facts.specs.Facts.{is_usable}
-use Rattle.answer_facts.specs.Judged.{facts_in, is_chained, keys_of, trusting}
-use Rattle.answer_facts.specs.Judging.{Answer, Handing, message_refusal}
-use Rattle.answer_facts.specs.Verified.{verified_facts}
+use Rattle.answer_judge_facts.specs.Counted.{Counts, hashes_beyond, hashes_in_bytes, hashes_in_messages, hashes_of_answer, hashes_of_proof}
+use Rattle.answer_judge_facts.specs.Times.{are_unlike, proof_times}
+use Rattle.answer_judge_facts.specs.Facts.{is_usable}
+use Rattle.answer_judge_facts.specs.Judged.{is_chained, keys_of, trusting}
+use Rattle.answer_judge_facts.specs.Judging.{Answer, Handing, message_refusal}
+use Rattle.answer_judge_facts.specs.Verified.{verified_facts}
 
 -- both messages were read, and they bring no refusal
 beyond : (a : Answers) (h : Handing) (keys answer : Message) → message_refusal pointer_limit h ≡ None → message pointer_limit h.dnskey_bytes ≡ Ok keys → message pointer_limit h.answer_bytes ≡ Ok answer → hashes_beyond a pointer_limit h ≡ hashes_in_messages a pointer_limit h keys answer
@@ -18,23 +19,23 @@ beyond a h keys answer none d z =
     (λ i. elim (none i) as (λ _. ℕ) [ Some e ↦ 0 | None ↦ hashes_in_bytes a pointer_limit h ])
     ∙ (λ i. elim (d i) as (λ _. ℕ) [ Err e ↦ 0 | Ok keys ↦ elim (z i) as (λ _. ℕ) [ Err e ↦ 0 | Ok answer ↦ hashes_in_messages a pointer_limit h keys answer ] ])
 
-abbrev usable_facts : Answers → Handing → Message → Message → Facts
-usable_facts a h keys answer = facts_in a pointer_limit h (filter is_usable (keys_of h keys)) answer
+abbrev usable_hashes : Answers → Handing → Message → Message → ℕ
+usable_hashes a h keys answer = hashes_of_answer a pointer_limit h (filter is_usable (keys_of h keys)) answer
 
 -- the keys aren't signed
 pub none_hashed : (a : Answers) (h : Handing) (keys answer : Message) → message_refusal pointer_limit h ≡ None → message pointer_limit h.dnskey_bytes ≡ Ok keys → message pointer_limit h.answer_bytes ≡ Ok answer
     → false ≡ is_chained a pointer_limit h keys → hashes_beyond a pointer_limit h ≡ 0
 none_hashed a h keys answer none d z chained =
-    beyond a h keys answer none d z ∙ ap (λ b. elim b as (λ _. ℕ) [ true ↦ hashes_of_facts a h (usable_facts a h keys answer) | false ↦ 0 ]) (sym chained)
+    beyond a h keys answer none d z ∙ ap (λ b. elim b as (λ _. ℕ) [ true ↦ usable_hashes a h keys answer | false ↦ 0 ]) (sym chained)
 
 -- they are
-pub facts_hashed : (a : Answers) (h : Handing) (keys answer : Message) (usable : List Dnskey) (rs : List Spelled) (facts : Facts) → message_refusal pointer_limit h ≡ None → message pointer_limit h.dnskey_bytes ≡ Ok keys → message pointer_limit h.answer_bytes ≡ Ok answer
+pub facts_hashed : (a : Answers) (h : Handing) (keys answer : Message) (usable : List Dnskey) (rs : List Spelled) (facts : Facts) (of_moments : Bool) → message_refusal pointer_limit h ≡ None → message pointer_limit h.dnskey_bytes ≡ Ok keys → message pointer_limit h.answer_bytes ≡ Ok answer
     → true ≡ is_chained a pointer_limit h keys → usable ≡ filter is_usable (keys_of h keys) → rs ≡ answer.records
-    → facts ≡ verified_facts (trusting a h usable) pointer_limit h.answer_bytes rs h.asked.name h.asked.rtype → hashes_of_facts a h facts ≡ hashes_beyond a pointer_limit h
-facts_hashed a h keys answer usable rs facts none d z chained u s f =
-    ap (hashes_of_facts a h) f
-    ∙ (λ i. hashes_of_facts a h (verified_facts (trusting a h (u i)) pointer_limit h.answer_bytes (s i) h.asked.name h.asked.rtype))
-    ∙ ap (λ b. elim b as (λ _. ℕ) [ true ↦ hashes_of_facts a h (usable_facts a h keys answer) | false ↦ 0 ]) chained
+    → facts ≡ verified_facts (trusting a h usable) pointer_limit h.answer_bytes rs h.asked.name h.asked.rtype → of_moments ≡ are_unlike (proof_times (trusting a h usable) pointer_limit h.answer_bytes rs h.asked.name h.asked.rtype) → hashes_of_proof a h facts of_moments ≡ hashes_beyond a pointer_limit h
+facts_hashed a h keys answer usable rs facts of_moments none d z chained u s f t =
+    (λ i. hashes_of_proof a h (f i) (t i))
+    ∙ (λ i. hashes_of_proof a h (verified_facts (trusting a h (u i)) pointer_limit h.answer_bytes (s i) h.asked.name h.asked.rtype) (are_unlike (proof_times (trusting a h (u i)) pointer_limit h.answer_bytes (s i) h.asked.name h.asked.rtype)))
+    ∙ ap (λ b. elim b as (λ _. ℕ) [ true ↦ usable_hashes a h keys answer | false ↦ 0 ]) chained
     ∙ sym (beyond a h keys answer none d z)
 
 -- from a number that is the same

@@ -5,10 +5,11 @@ use Rattle.definitions.specs.Dnskey.{Dnskey}
 use Rattle.definitions.specs.Limits.{pointer_limit}
 use Rattle.messages.specs.Message.{Message, Spelled, message}
 use Rattle.answer_scheme.specs.Answers.{Answers}
-use Rattle.answer_facts.specs.Counted.{answer_sought, answer_tries, key_tries, keys_sought, tries, tries_beyond, tries_in_bytes, tries_in_messages}
-use Rattle.answer_facts.specs.Facts.{is_trusted, is_usable}
-use Rattle.answer_facts.specs.Judged.{is_chained, keys_of, trusting}
-use Rattle.answer_facts.specs.Judging.{Handing, keys_in, message_refusal}
+use Rattle.answer_judge_facts.specs.Counted.{answer_tries, key_tries, tries, tries_beyond, tries_in_bytes, tries_in_messages}
+use Rattle.answer_judge_facts.specs.Sought.{answer_sought, keys_sought}
+use Rattle.answer_judge_facts.specs.Facts.{is_trusted, is_usable}
+use Rattle.answer_judge_facts.specs.Judged.{is_chained, keys_of, trusting}
+use Rattle.answer_judge_facts.specs.Judging.{Handing, keys_in, message_refusal}
 
 -- both messages were read, and they bring no refusal
 beyond : (a : Answers) (h : Handing) (keys answer : Message) → message_refusal pointer_limit h ≡ None → message pointer_limit h.dnskey_bytes ≡ Ok keys → message pointer_limit h.answer_bytes ≡ Ok answer → tries_beyond a pointer_limit h ≡ tries_in_messages a pointer_limit h keys answer

@@ -6,18 +6,19 @@ use Rattle.definitions.specs.Dnskey.{Dnskey, dnskey_data}
 use Rattle.definitions.specs.Zone.{sorted_data}
 use Rattle.definitions.specs.Limits.{pointer_limit}
 use Rattle.answer_scheme.specs.Answers.{Answers}
-use Rattle.answer_facts.specs.Facts.{is_usable, is_trusted, RefusesFirst}
-use Rattle.denial_rules.specs.Facts.{Facts}
-use Rattle.answer_rules.specs.declared.verdict.Verdict.{Verdict as CodeVerdict}
-use Rattle.answer_facts.specs.declared.verdict.Refusal.{Refusal}
-use Rattle.answer_facts.specs.declared.verdict.Refusal.TheVariants as r
-use Rattle.answer_facts.specs.Judging.{Answer, Refuses, Handing, first_refusal, message_refusal, keys_in, same_question, AnswersFirst}
-use Rattle.answer_terms.specs.Asking.{is_allowed}
-use Rattle.answer_terms.specs.EqualTags.{has_equal_tags}
-use Rattle.answer_rules.specs.Rules.{verdict_of}
+use Rattle.answer_judge_facts.specs.Facts.{is_usable, is_trusted, RefusesFirst}
+use Rattle.denial_laws.specs.Facts.{Facts}
+use Rattle.answer_judge_rules.specs.declared.verdict.Verdict.{Verdict as CodeVerdict}
+use Rattle.answer_judge_facts.specs.declared.verdict.Refusal.{Refusal}
+use Rattle.answer_judge_facts.specs.declared.verdict.Refusal.TheVariants as r
+use Rattle.answer_judge_facts.specs.Judging.{Answer, Refuses, Handing, first_refusal, message_refusal, keys_in, same_question, AnswersFirst}
+use Rattle.answer_shared.specs.Asking.{is_allowed}
+use Rattle.answer_shared.specs.EqualTags.{has_equal_tags}
+use Rattle.answer_judge_rules.specs.Rules.{verdict_of}
 use Rattle.messages.specs.Message.{Asked, Message, Spelled, message}
-use Rattle.answer_facts.specs.Verified.{is_verified, verified_facts}
-use Rattle.answer_facts.specs.Judged.{trusting, keys_of, is_chained, by_facts, judged_answer, judged_facts, judged_messages, judged_bytes, judged_beyond, said, AnswersAs}
+use Rattle.answer_judge_facts.specs.Verified.{is_verified, verified_facts}
+use Rattle.answer_judge_facts.specs.Times.{are_unlike, proof_times}
+use Rattle.answer_judge_facts.specs.Judged.{trusting, keys_of, is_chained, by_facts, judged_answer, judged_proof, judged_messages, judged_bytes, judged_beyond, said, AnswersAs}
 
 -- both messages were read, and they bring no refusal
 pub beyond : (a : Answers) (k : ℕ) (h : Handing) (keys answer : Message) → message k h.dnskey_bytes ≡ Ok keys → message k h.answer_bytes ≡ Ok answer → message_refusal k h ≡ None → judged_beyond a k h ≡ judged_messages a k h keys answer
@@ -68,11 +69,12 @@ untrusted a h keys answer e chained =
     inr (sym (e ∙ ap (λ b. elim b as (λ _. Answer) [ true ↦ judged_answer a pointer_limit h (filter is_usable (keys_of h keys)) answer | false ↦ Refuses r.NoTrustedKey ]) (sym chained)))
 
 -- they are, and what was verified of the answer decides
-pub decided_as : (a : Answers) (h : Handing) (keys answer : Message) (usable : List Dnskey) (rs : List Spelled) (facts : Facts) → judged_beyond a pointer_limit h ≡ judged_messages a pointer_limit h keys answer → true ≡ is_chained a pointer_limit h keys
-    → usable ≡ filter is_usable (keys_of h keys) → rs ≡ answer.records → facts ≡ verified_facts (trusting a h usable) pointer_limit h.answer_bytes rs h.asked.name h.asked.rtype → judged_facts a h facts ≡ judged_beyond a pointer_limit h
-decided_as a h keys answer usable rs facts e chained u s f =
-    ap (judged_facts a h) f
-    ∙ (λ i. judged_facts a h (verified_facts (trusting a h (u i)) pointer_limit h.answer_bytes (s i) h.asked.name h.asked.rtype))
+pub decided_as : (a : Answers) (h : Handing) (keys answer : Message) (usable : List Dnskey) (rs : List Spelled) (facts : Facts) (of_moments : Bool) → judged_beyond a pointer_limit h ≡ judged_messages a pointer_limit h keys answer → true ≡ is_chained a pointer_limit h keys
+    → usable ≡ filter is_usable (keys_of h keys) → rs ≡ answer.records → facts ≡ verified_facts (trusting a h usable) pointer_limit h.answer_bytes rs h.asked.name h.asked.rtype
+    → of_moments ≡ are_unlike (proof_times (trusting a h usable) pointer_limit h.answer_bytes rs h.asked.name h.asked.rtype) → judged_proof a h facts of_moments ≡ judged_beyond a pointer_limit h
+decided_as a h keys answer usable rs facts of_moments e chained u s f t =
+    (λ i. judged_proof a h (f i) (t i))
+    ∙ (λ i. judged_proof a h (verified_facts (trusting a h (u i)) pointer_limit h.answer_bytes (s i) h.asked.name h.asked.rtype) (are_unlike (proof_times (trusting a h (u i)) pointer_limit h.answer_bytes (s i) h.asked.name h.asked.rtype)))
     ∙ ap (λ b. elim b as (λ _. Answer) [ true ↦ judged_answer a pointer_limit h (filter is_usable (keys_of h keys)) answer | false ↦ Refuses r.NoTrustedKey ]) chained
     ∙ sym e
 
@@ -96,6 +98,7 @@ first_kept r.IterationsOverLimit m h = h
 first_kept r.HashFailed m h = h
 first_kept r.NotProven m h = h
 first_kept r.Memory m h = h
+first_kept r.MixedVersions m h = h
 
 pub refuses_first : (k : ℕ) (h : Handing) (e : Refusal) → is_allowed h.apex h.asked ≡ true → nat_eq (length h.ds) 0 ≡ false → RefusesFirst e (message_refusal k h) → AnswersFirst (Refuses e) (first_refusal k h)
 refuses_first k h e allowed some first =

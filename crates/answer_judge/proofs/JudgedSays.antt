@@ -5,17 +5,16 @@ use Rattle.std.specs.Prelude.{nat_eq, if◌then◌else◌}
 use Rattle.std.proofs.lemmas.Bool.{ne_eqb}
 use Rattle.definitions.specs.Dnskey.{Ds}
 use Rattle.definitions.specs.Zone.{Verdict}
-use Rattle.denial_rules.specs.Facts.{Facts}
+use Rattle.denial_laws.specs.Facts.{Facts}
 use Rattle.messages.specs.declared.error.MessageError.{MessageError}
 use Rattle.messages.specs.Message.{Message, message}
-use Rattle.messages.proofs.Lists.{some_is}
 use Rattle.answer_scheme.specs.Answers.{Answers}
-use Rattle.answer_terms.specs.Asking.{is_allowed}
-use Rattle.answer_facts.specs.declared.verdict.Refusal.{Refusal}
-use Rattle.answer_facts.specs.declared.verdict.Refusal.TheVariants as r
-use Rattle.answer_facts.specs.Facts.{is_usable}
-use Rattle.answer_facts.specs.Judged.{are_mixed, are_over, by_facts, decided_by, facts_in, is_chained, is_unhashed, judged, judged_answer, judged_bytes, judged_facts, judged_messages, keys_of}
-use Rattle.answer_facts.specs.Judging.{Answer, Handing, Refuses, Says, first_refusal, message_refusal}
+use Rattle.answer_shared.specs.Asking.{is_allowed}
+use Rattle.answer_judge_facts.specs.declared.verdict.Refusal.{Refusal}
+use Rattle.answer_judge_facts.specs.declared.verdict.Refusal.TheVariants as r
+use Rattle.answer_judge_facts.specs.Facts.{is_usable}
+use Rattle.answer_judge_facts.specs.Judged.{are_mixed, are_of_moments, are_over, by_facts, decided_by, facts_in, is_chained, is_unhashed, judged, judged_answer, judged_bytes, judged_facts, judged_messages, keys_of}
+use Rattle.answer_judge_facts.specs.Judging.{Answer, Handing, Refuses, Says, first_refusal}
 
 -- the facts of the answer, under the usable keys
 abbrev pub facts_of : Answers → ℕ → Handing → Message → Message → Facts
@@ -28,6 +27,7 @@ pub record IsSaid (a : Answers) (k : ℕ) (h : Handing) (v : Verdict) : Type 0 w
   pub answer_read : message k h.answer_bytes ≡ Ok answer
   pub allowed : is_allowed h.apex h.asked ≡ true
   pub chained : is_chained a k h keys ≡ true
+  pub of_one_moment : (h.one_moment && are_of_moments a k h (filter is_usable (keys_of h keys)) answer) ≡ false
   pub decided : decided_by a h (facts_of a k h keys answer) ≡ Some v
 
 said_is : (v w : Verdict) → Says v ≡ Says w → v ≡ w
@@ -39,6 +39,10 @@ not_refused e v h = cc
 unless : (b : Bool) (e : Refusal) (x : Answer) (v : Verdict) → (if b then Refuses e else x) ≡ Says v → x ≡ Says v
 unless true e x v h = absurd (not_refused e v h)
 unless false e x v h = h
+
+not_so : (b : Bool) (e : Refusal) (x : Answer) (v : Verdict) → (if b then Refuses e else x) ≡ Says v → b ≡ false
+not_so true e x v h = absurd (not_refused e v h)
+not_so false e x v h = refl
 
 by_some : (o : Option Verdict) (v : Verdict) → by_facts o ≡ Says v → o ≡ Some v
 by_some None v h = absurd (not_refused r.NotProven v h)
@@ -69,8 +73,20 @@ module _ (a : Answers) (k : ℕ) (h : Handing) (v : Verdict) (allowed : is_allow
 
   messages_say : (keys answer : Message) → message k h.dnskey_bytes ≡ Ok keys → message k h.answer_bytes ≡ Ok answer → judged_messages a k h keys answer ≡ Says v → IsSaid a k h v
   messages_say keys answer i j e =
-      let c = chained_says (is_chained a k h keys) (judged_answer a k h (filter is_usable (keys_of h keys)) answer) e in
-      record { keys = keys; answer = answer; keys_read = i; answer_read = j; allowed = allowed; chained = c.0; decided = facts_decide a h (facts_of a k h keys answer) v c.1 }
+      let usable = filter is_usable (keys_of h keys) in
+      let c = chained_says (is_chained a k h keys) (judged_answer a k h usable answer) e in
+      let mixed : Bool = h.one_moment && are_of_moments a k h usable answer in
+      let facts : Facts = facts_of a k h keys answer in
+      record {
+        keys = keys;
+        answer = answer;
+        keys_read = i;
+        answer_read = j;
+        allowed = allowed;
+        chained = c.0;
+        of_one_moment = not_so mixed r.MixedVersions (judged_facts a h facts) v c.1;
+        decided = facts_decide a h facts v (unless mixed r.MixedVersions (judged_facts a h facts) v c.1);
+      }
 
   answer_says : (keys : Message) → message k h.dnskey_bytes ≡ Ok keys → (o : Result Message MessageError) → message k h.answer_bytes ≡ o
       → elim o as (λ _. Answer) [ Err e ↦ Refuses r.BadAnswerMessage | Ok answer ↦ judged_messages a k h keys answer ] ≡ Says v → IsSaid a k h v

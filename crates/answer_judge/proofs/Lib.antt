@@ -15,6 +15,7 @@ pub mod GivenHashing
 pub mod GivenAnswers
 pub mod GivenChained
 pub mod GivenJudged
+pub mod GivenMoments
 pub mod JudgeTotals
 pub mod GivenGroups
 pub mod FirstSigns
@@ -24,12 +25,13 @@ pub mod HonestReads
 pub mod HonestMade
 pub mod HonestSpelled
 pub mod HonestVerified
-pub mod HonestLists
+pub mod HonestUsed
 pub mod HonestFacts
 pub mod HonestChain
 pub mod HonestTrue
 pub mod HonestKeys
 pub mod JudgedSays
+pub mod HonestVersions
 pub mod HonestJudged
 pub mod Timely
 pub mod Spliced

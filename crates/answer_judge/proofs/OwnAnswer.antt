@@ -12,23 +12,23 @@ use Rattle.definitions.specs.Zone.{Zone, Rr, Verdict, Records, NoType, StarRecor
 use Rattle.definitions.specs.ZoneChain.{Mode, optout_of}
 use Rattle.definitions.proofs.Members.{any_of, in_filter, in_map}
 use Rattle.definitions.proofs.ZoneNames.{apex_in_chain, low-low}
-use Rattle.denial_rules.specs.Facts.{Rrset}
-use Rattle.denial_rules.specs.OwnFacts.{own_rrset, own_star}
-use Rattle.denial_rules.specs.Truth.{IsServable, is_signed}
-use Rattle.denial_rules.proofs.OwnRrset.{starred, own_expanded, own_star_true}
-use Rattle.denial_rules.proofs.VerdictView.{View, Signed, Missing, Cut, Starred, Unstarred, Gone, view}
-use Rattle.denial_rules.proofs.ZoneCuts.{cut_is, delegation_low}
+use Rattle.denial_laws.specs.Facts.{Rrset}
+use Rattle.denial_laws.specs.OwnFacts.{own_rrset, own_star}
+use Rattle.denial_laws.specs.Truth.{IsServable, is_signed}
+use Rattle.denial_laws.proofs.OwnRrset.{starred, own_expanded, own_star_true}
+use Rattle.denial_laws.proofs.VerdictView.{View, Signed, Missing, Cut, Starred, Unstarred, Gone, view}
+use Rattle.denial_laws.proofs.ZoneCuts.{cut_is, delegation_low}
 use Rattle.messages.specs.HandedRr.{HandedRr}
 use Rattle.messages.proofs.Lists.{Has, eqb-back}
 use Rattle.messages.proofs.ZoneNames.{same_labels}
-use Rattle.answer_terms.specs.Accepting.{zone_with}
-use Rattle.answer_terms.specs.Served.{Group, Served, ahead, ahead_open, expanded, if_any, owner_among, rrset, served_of, soa, under, unsigned_ns}
-use Rattle.answer_terms.proofs.ZoneData.{label_count-low, low-owner_among}
-use Rattle.answer_facts.specs.Facts.{may_expand}
+use Rattle.answer_shared.specs.Accepting.{zone_with}
+use Rattle.answer_shared.specs.Served.{Group, Served, ahead, ahead_open, expanded, if_any, owner_among, rrset, served_of, soa, under, unsigned_ns}
+use Rattle.answer_shared.proofs.ZoneData.{label_count-low, low-owner_among}
+use Rattle.answer_judge_facts.specs.Facts.{may_expand}
 use Rattle.answer_judge.proofs.GivenGroups.{has_twins, is_nsec, is_nsec3, is_rrset}
 use Rattle.answer_judge.proofs.GivenRrset.{is_ordinary, is_signed_rrset}
 use Rattle.answer_judge.proofs.GivenSignatures.{fits_equal, fits_owner}
-use Rattle.answer_facts.proofs.GivenSorted.{data_has, in_has, some_length, sorted_twice}
+use Rattle.answer_judge_facts.proofs.GivenSorted.{data_has, in_has, some_length, sorted_twice}
 
 -- the RRset of the question, signed, and what it proves
 pub record IsRrsetOf (apex q : Name) (t : ℕ) (g : Group) (r : Rrset) : Type 0 where

@@ -7,14 +7,14 @@ use Rattle.definitions.specs.Zone.{Zone, kept_owners}
 use Rattle.definitions.specs.ZoneChain.{Mode, Nsec, Nsec3, hashed_names, nsec3_names, nsec_names}
 use Rattle.definitions.proofs.Members.{In, contained, filter_in, sort_has, sort_rises}
 use Rattle.definitions.proofs.NameLaws.{name_cmp_total}
-use Rattle.denial_rules.specs.Facts.{HashLink, Link}
-use Rattle.denial_rules.specs.OwnFacts.{hash_link_speaks, link_speaks, own_hash_links, own_links}
-use Rattle.denial_rules.specs.Truth.{IsServable}
+use Rattle.denial_laws.specs.Facts.{HashLink, Link}
+use Rattle.denial_laws.specs.OwnFacts.{hash_link_speaks, link_speaks, own_hash_links, own_links}
+use Rattle.denial_laws.specs.Truth.{IsServable}
 use Rattle.messages.specs.HandedRr.{HandedRr}
 use Rattle.messages.proofs.Lists.{eqb-back}
-use Rattle.answer_terms.specs.Accepting.{zone_with}
-use Rattle.answer_terms.specs.FactsCase.{low_link}
-use Rattle.answer_terms.specs.Served.{Group, proofs_of, served_of}
+use Rattle.answer_shared.specs.Accepting.{zone_with}
+use Rattle.answer_shared.specs.FactsCase.{low_link}
+use Rattle.answer_shared.specs.Served.{Group, proofs_of, served_of}
 use Rattle.answer_judge.proofs.GivenGroups.{SaysHashLink, SaysLink, has_twins, is_nsec, is_nsec3}
 use Rattle.answer_judge.proofs.GivenRrset.{all_joined, is_ordinary, is_signed_rrset}
 use Rattle.answer_judge.proofs.GivenSignatures.{fits_equal, fits_owner}

@@ -15,17 +15,17 @@ use Rattle.definitions.specs.ZoneChain.{Nsec, nsec_names, nsec_next, nsec_types}
 use Rattle.definitions.proofs.Members.{In, Rises, filter_in}
 use Rattle.definitions.proofs.NameLaws.{name_cmp_total, labels_decide, same_is_equal}
 use Rattle.definitions.proofs.ZoneNames.{above_lowered, live_owner, lowered_above, owner_lowered}
-use Rattle.denial_rules.specs.Facts.{Link}
-use Rattle.denial_rules.specs.OwnFacts.{link_of}
-use Rattle.denial_rules.specs.Truth.{IsServable}
-use Rattle.denial_rules.proofs.Adjacent.{chain_inside, next_in}
+use Rattle.denial_laws.specs.Facts.{Link}
+use Rattle.denial_laws.specs.OwnFacts.{link_of}
+use Rattle.denial_laws.specs.Truth.{IsServable}
+use Rattle.denial_laws.proofs.Adjacent.{chain_inside, next_in}
 use Rattle.messages.specs.HandedRr.{HandedRr}
 use Rattle.messages.proofs.Lists.{eqb-back}
 use Rattle.messages.proofs.ZoneNames.{labels_eq-same, same_labels}
-use Rattle.answer_terms.specs.Accepting.{rr_of, zone_with}
-use Rattle.answer_terms.specs.Served.{Group, chain_record, served_of, spelled_among, spelled_as}
-use Rattle.answer_terms.proofs.ZoneData.{label_count-low, low-spelled_among}
-use Rattle.answer_terms.specs.FactsCase.{low_link}
+use Rattle.answer_shared.specs.Accepting.{rr_of, zone_with}
+use Rattle.answer_shared.specs.Served.{Group, chain_record, served_of, spelled_among, spelled_as}
+use Rattle.answer_shared.proofs.ZoneData.{label_count-low, low-spelled_among}
+use Rattle.answer_shared.specs.FactsCase.{low_link}
 use Rattle.answer_judge.proofs.GivenGroups.{SaysLink, has_twins, is_rrset}
 
 -- the labels of each owner are labels

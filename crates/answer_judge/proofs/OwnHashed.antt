@@ -17,15 +17,15 @@ use Rattle.definitions.specs.ZoneChain.{ChainParameters, Mode, Nsec3, hash_cmp, 
 use Rattle.definitions.proofs.Members.{In, Rises}
 use Rattle.numbers.specs.Decoding.{decoded}
 use Rattle.numbers.proofs.Decodes.{decodes}
-use Rattle.denial_rules.specs.Facts.{HashLink}
-use Rattle.denial_rules.specs.OwnFacts.{hash_link_of}
+use Rattle.denial_laws.specs.Facts.{HashLink}
+use Rattle.denial_laws.specs.OwnFacts.{hash_link_of}
 use Rattle.messages.specs.HandedRr.{HandedRr}
 use Rattle.messages.specs.Message.{HashedNext}
 use Rattle.messages.proofs.Nsec3Read.{chain_reads}
 use Rattle.messages.proofs.ZoneNames.{low-low, same_labels}
-use Rattle.answer_terms.specs.Accepting.{zone_with}
-use Rattle.answer_terms.specs.Served.{Group, chain_record, served_of}
-use Rattle.answer_facts.specs.Verified.{is_known}
+use Rattle.answer_shared.specs.Accepting.{zone_with}
+use Rattle.answer_shared.specs.Served.{Group, chain_record, served_of}
+use Rattle.answer_judge_facts.specs.Verified.{is_known}
 use Rattle.answer_judge.proofs.GivenGroups.{SaysHashLink, has_twins, is_rrset}
 use Rattle.answer_judge.proofs.GivenHashes.{first_label}
 use Rattle.answer_judge.proofs.OwnChain.{low-spelled_as}

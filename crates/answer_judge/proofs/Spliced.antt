@@ -11,14 +11,16 @@ use Rattle.definitions.specs.Signing.{Fields}
 use Rattle.definitions.proofs.SignedLaws.{pieces}
 use Rattle.std.specs.Ordering.{nat_cmp}
 use Rattle.messages.specs.declared.error.MessageError.{MessageError}
-use Rattle.messages.specs.Message.{Message, Spelled, message, rrsig_at}
-use Rattle.messages.proofs.Lists.{Has, all_at, some_is}
-use Rattle.answer_terms.specs.Made.{HandedOut, groups_of, made, made_in, made_of}
-use Rattle.answer_terms.specs.Served.{Group, Served, by_tag}
-use Rattle.answer_terms.specs.Told.{AreRecords, AreSignatures, IsRecord, IsSignature, TellsGroups, octets_for}
+use Rattle.messages.specs.HandedRr.{HandedRr}
+use Rattle.messages.specs.Message.{Message, Spelled}
+use Rattle.messages.proofs.Lists.{Has, some_is}
+use Rattle.answer_shared.specs.Made.{HandedOut, groups_in, made, made_in, made_of}
+use Rattle.answer_shared.specs.Served.{Group, Served, by_tag}
+use Rattle.answer_shared.specs.Told.{AreRecords, AreSignatures, IsRecord, IsSignature, TellsGroups, octets_for}
 use Rattle.answer_judge.proofs.GivenFacts.{from_joined}
 use Rattle.answer_judge.proofs.GivenLists.{contained_has, has_contained, has_left, has_right}
-use Rattle.answer_facts.proofs.GivenSorted.{sorted_from}
+use Rattle.answer_judge_facts.proofs.GivenSorted.{sorted_from}
+use Rattle.answer_judge_facts.proofs.KeptItems.{has_map}
 use Rattle.answer_judge.proofs.HonestMade.{signed_only}
 use Rattle.answer_judge.specs.Splices.{PassesNowhere, PlainSchemeBinds, ToldIsSpliced, SplicesAreHonest, WasCarried}
 
@@ -40,10 +42,6 @@ plain_scheme_binds digest hash j k octets others signature p q =
 
 -- ---- what was handed out
 
-in_map : {A B : Type 0} (f : A → B) (xs : List A) (x : A) → Has xs x → Has (map f xs) (f x)
-in_map f [] x h = absurd h
-in_map f (y ∷ xs) x h = elim h [ inl e ↦ inl (ap f e) | inr i ↦ inr (in_map f xs x i) ]
-
 in_parts : {A B : Type 0} (f : A → List B) (xs : List A) (x : A) (y : B) → Has xs x → Has (f x) y → Has (flat_map f xs) y
 in_parts f [] x y h i = absurd h
 in_parts {A} {B} f (z ∷ xs) x y h i = elim h [
@@ -56,11 +54,11 @@ if_signed true xs x e h = h
 if_signed false xs x e h = absurd (false≢true e)
 
 -- what a key signed of an RRset of it was made
-signed_made : (s : Served) (apex : Name) (life : ℕ) (outs : List HandedOut) (out : HandedOut) (g : Group) (key : Dnskey) → Has outs out → Has (groups_of s apex out.content) g → g.signed ≡ true → Has out.signers key → Has (made s apex life outs) (octets_for apex out.at life g key)
-signed_made s apex life outs out g key there inside signed signs =
-    in_parts (made_in s apex life) outs out (octets_for apex out.at life g key) there
-    (in_parts (made_of apex out.at life out.signers) (groups_of s apex out.content) g (octets_for apex out.at life g key) inside
-    (if_signed g.signed (map (octets_for apex out.at life g) out.signers) (octets_for apex out.at life g key) signed (in_map (octets_for apex out.at life g) out.signers key signs)))
+signed_made : (serve : List HandedRr → Served) (apex : Name) (life : ℕ) (outs : List HandedOut) (out : HandedOut) (g : Group) (key : Dnskey) → Has outs out → Has (groups_in serve apex out) g → g.signed ≡ true → Has out.signers key → Has (made serve apex life outs) (octets_for apex out.at life g key)
+signed_made serve apex life outs out g key there inside signed signs =
+    in_parts (made_in serve apex life) outs out (octets_for apex out.at life g key) there
+    (in_parts (made_of apex out.at life out.signers) (groups_in serve apex out) g (octets_for apex out.at life g key) inside
+    (if_signed g.signed (map (octets_for apex out.at life g) out.signers) (octets_for apex out.at life g key) signed (has_map (octets_for apex out.at life g) out.signers key signs)))
 
 -- ---- signatures of a message that tells it
 
@@ -71,13 +69,13 @@ abbrev f_and : Fields × List ℕ → Option (Fields × List ℕ)
 f_and x = Some x
 
 -- a record is a signature of one of the RRsets by one of the keys
-record IsSignatureOf (v : Dnskey → List ℕ → List ℕ → Bool) (k : ℕ) (m : List ℕ) (r : Spelled) (apex : Name) (at life : ℕ) (keys : List Dnskey) (gs : List Group) : Type 0 where
-  group : Group
-  inside : Has gs group
-  signed : group.signed ≡ true
-  key : Dnskey
-  signs : Has keys key
-  is : IsSignature v k m r apex at life group key
+pub record IsSignatureOf (v : Dnskey → List ℕ → List ℕ → Bool) (k : ℕ) (m : List ℕ) (r : Spelled) (apex : Name) (at life : ℕ) (keys : List Dnskey) (gs : List Group) : Type 0 where
+  pub group : Group
+  pub inside : Has gs group
+  pub signed : group.signed ≡ true
+  pub key : Dnskey
+  pub signs : Has keys key
+  pub is : IsSignature v k m r apex at life group key
 
 own_type : (k : ℕ) (m : List ℕ) (rs : List Spelled) (g : Group) (ds : List (List ℕ)) (r : Spelled) → AreRecords k m rs g ds → Has rs r → r.rtype ≡ g.rtype
 own_type k m [] g ds r h i = absurd i
@@ -95,7 +93,7 @@ its_signature v k m (x ∷ rs) apex at life g (key ∷ keys) r h i = elim i [
   | inr j ↦ let s = its_signature v k m rs apex at life g keys r h.1 j in (s.0, inr s.1, s.2)
 ]
 
-signature_of : (v : Dnskey → List ℕ → List ℕ → Bool) (k : ℕ) (m : List ℕ) (rs : List Spelled) (apex : Name) (at life : ℕ) (keys : List Dnskey) (gs : List Group) (r : Spelled) → AllByRecursion (λ (g : Group). g.rtype ≡ 46 → ⊥) gs → TellsGroups v k m rs apex at life keys gs → Has rs r → r.rtype ≡ 46
+pub signature_of : (v : Dnskey → List ℕ → List ℕ → Bool) (k : ℕ) (m : List ℕ) (rs : List Spelled) (apex : Name) (at life : ℕ) (keys : List Dnskey) (gs : List Group) (r : Spelled) → AllByRecursion (λ (g : Group). g.rtype ≡ 46 → ⊥) gs → TellsGroups v k m rs apex at life keys gs → Has rs r → r.rtype ≡ 46
     → IsSignatureOf v k m r apex at life keys gs
 signature_of v k m rs apex at life keys [] r types tells i e = absurd (subst (λ xs. Has xs r) tells i)
 signature_of v k m rs apex at life keys (g ∷ gs) r types (own, signatures, rest, split, records, signs, more) i e =
@@ -116,16 +114,16 @@ ok_is : (x y : Message) → message_ok x ≡ message_ok y → x ≡ y
 ok_is x y e = cc
 
 pub told_is_spliced : ToldIsSpliced
-told_is_spliced a k now s apex life published outs out asked m there types tells read r f signature reads inside kind fields time =
+told_is_spliced a k now serve apex life published outs out asked m there types tells read r f signature reads inside kind fields time =
     let same : read ≡ tells.read = ok_is read tells.read (sym reads ∙ tells.reads) in
     let here : Has tells.read.records r = subst (λ (x : Message). Has x.records r) same (has_contained read.records r inside) in
-    let x = signature_of a.verifies k m tells.read.records apex out.at life (by_tag out.signers) (groups_of s apex out.content) r types tells.groups_are here kind in
-    let one : f_and (f, signature) ≡ f_and (Rattle.answer_terms.specs.Told.fields_for apex out.at life x.group x.key, x.is.signature) = sym fields ∙ x.is.fields_are in
+    let x = signature_of a.verifies k m tells.read.records apex out.at life (by_tag out.signers) (groups_in serve apex out) r types tells.groups_are here kind in
+    let one : f_and (f, signature) ≡ f_and (Rattle.answer_shared.specs.Told.fields_for apex out.at life x.group x.key, x.is.signature) = sym fields ∙ x.is.fields_are in
     let octets : signature ≡ x.is.signature = ap (λ (y : Fields × List ℕ). y.1) (some_is _ _ one) in
     let signer : Has out.signers x.key = sorted_from (λ b c. nat_cmp (key_tag b) (key_tag c)) out.signers x.key x.signs in
     inl (record {
       key = x.key;
       octets = octets_for apex out.at life x.group x.key;
-      there = contained_has (made s apex life outs) (octets_for apex out.at life x.group x.key) (signed_made s apex life outs out x.group x.key (has_contained outs out there) x.inside x.signed signer);
+      there = contained_has (made serve apex life outs) (octets_for apex out.at life x.group x.key) (signed_made serve apex life outs out x.group x.key (has_contained outs out there) x.inside x.signed signer);
       passes = ap (a.verifies x.key (octets_for apex out.at life x.group x.key)) octets ∙ x.is.passes;
     })

@@ -1,5 +1,5 @@
 -- A judge that says a verdict beside a DS set that isn't empty has found a signature that holds in each message.
-use Rattle.std.proofs.Common.{◌≡◌, ℕ, Bool, true, false, ◌&&◌, List, [], ◌∷◌, length, map, filter, Option, Some, None, Ok, Err, refl, sym, ap, subst, ◌∙◌, ⊎_elim}
+use Rattle.std.proofs.Common.{◌≡◌, ℕ, Bool, true, false, ◌&&◌, List, [], length, map, filter, Option, Some, None, Ok, Err, refl, sym, ap, subst, ◌∙◌, ⊎_elim}
 use Rattle.std.specs.Prelude.{◌==◌}
 use Rattle.std.specs.List.{list_any}
 use Rattle.std.specs.Option.{option_map}
@@ -8,21 +8,21 @@ use Rattle.definitions.specs.Dnskey.{Dnskey, dnskey_data}
 use Rattle.definitions.specs.Name.{Name, at_or_above}
 use Rattle.definitions.specs.Signing.{Fields, in_time}
 use Rattle.definitions.specs.Zone.{Verdict, sorted_data}
-use Rattle.denial_rules.specs.Deciding.{decided}
-use Rattle.denial_rules.specs.Facts.{Facts, HashLink, Link, Rrset}
-use Rattle.messages.specs.Message.{Message, Spelled, message, rrsig_at}
-use Rattle.messages.proofs.Lists.{Has, any_from}
-use Rattle.answer_rules.specs.Hashes.{hash_among}
+use Rattle.denial_laws.specs.Deciding.{decided}
+use Rattle.denial_laws.specs.Facts.{Facts, Rrset}
+use Rattle.messages.specs.Message.{Message, message}
+use Rattle.messages.proofs.Lists.{any_from}
+use Rattle.answer_judge_rules.specs.Hashes.{hash_among}
 use Rattle.answer_scheme.specs.Answers.{Answers}
-use Rattle.answer_facts.specs.Facts.{is_signature, is_trusted, is_usable}
-use Rattle.answer_judge.specs.Honest.{IsRefused, RefusesUntimely, has_timely, holds_now}
-use Rattle.answer_facts.specs.Judged.{AnswersAs, decided_by, judged, keys_of, trusting}
-use Rattle.answer_facts.specs.Judging.{Answer, Handing, Refuses, Says}
-use Rattle.answer_facts.specs.Verified.{Trusting, hash_link_at, is_hash_alone, is_hash_link, is_link, is_verified, link_at, rrset_in, verified_by, verified_facts, verified_hash_links, verified_links, verified_rrset}
-use Rattle.answer_facts.specs.declared.verdict.Refusal.TheVariants as r
-use Rattle.answer_judge.proofs.HonestLists.{none_kept_of, when}
+use Rattle.answer_judge_facts.specs.Facts.{is_signature, is_trusted, is_usable}
+use Rattle.answer_judge.specs.Honest.{RefusesUntimely, has_timely, holds_now}
+use Rattle.answer_judge_facts.specs.Judged.{AnswersAs, decided_by, judged, keys_of, trusting}
+use Rattle.answer_judge_facts.specs.Judging.{Answer, Handing, Refuses, Says}
+use Rattle.answer_judge_facts.specs.Verified.{Trusting, hash_link_at, is_hash_alone, is_hash_link, is_link, is_verified, link_at, rrset_in, verified_by, verified_facts, verified_hash_links, verified_links, verified_rrset}
+use Rattle.answer_judge_facts.specs.declared.verdict.Refusal.TheVariants as r
+use Rattle.answer_judge_facts.proofs.KeptItems.{none_kept_of, when}
 use Rattle.answer_judge.proofs.HonestVerified.{Found, first_verifying, found_verifying, timely}
-use Rattle.answer_judge.proofs.JudgedSays.{IsSaid, facts_of, judged_says}
+use Rattle.answer_judge.proofs.JudgedSays.{IsSaid, judged_says}
 
 -- what verifies an RRset holds
 module _ (a : Answers) (k : ℕ) (h : Handing) (m : List ℕ) (read : Message) (reads : message k m ≡ Ok read) (keys : List Dnskey) where

@@ -1,13 +1,13 @@
 -- Data of RRsets that a message tells are no longer than a record can say.
-use Rattle.std.proofs.Common.{◌≡◌, ℕ, ◌+◌, ◌-◌, ◌<◌, ◌≤◌, Bool, List, [], ◌∷◌, drop, length, arith}
+use Rattle.std.proofs.Common.{ℕ, ◌+◌, ◌-◌, ◌≤◌, Bool, List, [], ◌∷◌, drop, length, arith}
 use Rattle.std.specs.List.{AllByRecursion}
 use Rattle.std.proofs.lemmas.List.{length-drop, length-take}
 use Rattle.definitions.specs.Dnskey.{Dnskey}
 use Rattle.definitions.specs.Name.{Name}
 use Rattle.messages.specs.Message.{Spelled, data_of}
-use Rattle.answer_terms.specs.Made.{IsShortGroup}
-use Rattle.answer_terms.specs.Served.{Group}
-use Rattle.answer_terms.specs.Told.{AreRecords, IsRecord, TellsGroups}
+use Rattle.answer_shared.specs.Made.{IsShortGroup}
+use Rattle.answer_shared.specs.Served.{Group}
+use Rattle.answer_shared.specs.Told.{AreRecords, IsRecord, TellsGroups}
 use Rattle.answer_judge.proofs.HonestReads.{IsShort, canonical_short}
 
 within : (m : List ℕ) (r : Spelled) → length m ≤ 65535 → IsShort (data_of m r)

@@ -4,8 +4,8 @@ use Rattle.definitions.specs.Limits.{pointer_limit}
 use Rattle.definitions.specs.Name.{Name}
 use Rattle.definitions.specs.Signing.{Fields}
 use Rattle.messages.specs.Message.{Spelled, rrsig_at}
-use Rattle.answer_facts.specs.Facts.{is_due, is_signature, signs}
-use Rattle.answer_facts.specs.Verified.{Trusting, is_verified, verified_by}
+use Rattle.answer_judge_facts.specs.Facts.{is_due, is_signature, signs}
+use Rattle.answer_judge_facts.specs.Verified.{Trusting, is_verified, verified_by}
 
 -- an RRset and the message that it stands in
 pub record Held : Type 0 where

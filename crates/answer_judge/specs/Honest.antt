@@ -1,26 +1,26 @@
 -- Messages in which nothing is forged, and what a judge says of them.
-use Rattle.std.specs.Prelude.{◌≡◌, ℕ, ◌<◌, Bool, true, false, ◌&&◌, List, [], Contains, Some, None, Ok, Err}
+use Rattle.std.specs.Prelude.{◌≡◌, ◌⊎◌, ℕ, ◌%◌, ◌<◌, Bool, true, false, ◌&&◌, List, [], ◌∷◌, Contains, Some, None, Ok, Err, length, map}
 use Rattle.std.specs.List.{AllByRecursion, list_any}
 use Rattle.definitions.specs.Name.{Name, IsName}
-use Rattle.definitions.specs.Dnskey.{Dnskey, Ds, digested, dnskey_of_data}
+use Rattle.definitions.specs.Dnskey.{Dnskey, Ds, digested}
 use Rattle.definitions.specs.Laws.{IsSignable}
 use Rattle.definitions.specs.Signing.{Fields, ascending, in_time, signed_octets}
 use Rattle.definitions.specs.Zone.{Verdict, verdict}
 use Rattle.definitions.specs.ZoneChain.{Mode, optout_of}
-use Rattle.denial_rules.specs.Truth.{NoSharedHash}
+use Rattle.denial_laws.specs.Truth.{NoSharedHash}
 use Rattle.messages.specs.Handed.{IsHanded}
 use Rattle.messages.specs.HandedRr.{HandedRr}
-use Rattle.messages.specs.Message.{Message, Spelled, data_of, message, rrsig_at}
+use Rattle.messages.specs.Message.{Message, Spelled, message, rrsig_at}
 use Rattle.messages.specs.WrittenLaws.{IsQuestion}
 use Rattle.answer_scheme.specs.Answers.{Answers}
-use Rattle.answer_terms.specs.Accepted.{IsAccepted}
-use Rattle.answer_terms.specs.Accepting.{sorted_records, zone_of}
-use Rattle.answer_terms.specs.Hashing.{hash_in}
-use Rattle.answer_terms.specs.Made.{HandedOut, WasHandedOut, made}
-use Rattle.answer_terms.specs.Served.{Served, served_of}
-use Rattle.answer_facts.specs.Facts.{is_signature}
-use Rattle.answer_facts.specs.Judged.{AnswersAs, judged}
-use Rattle.answer_facts.specs.Judging.{Answer, Says, Refuses, Handing}
+use Rattle.answer_shared.specs.Accepted.{IsAccepted}
+use Rattle.answer_shared.specs.Accepting.{sorted_records, zone_of}
+use Rattle.answer_shared.specs.Hashing.{hash_in}
+use Rattle.answer_shared.specs.Made.{Content, HandedOut, OfKeys, OfZone, WasHandedOut, made}
+use Rattle.answer_shared.specs.Served.{Served, served_of}
+use Rattle.answer_judge_facts.specs.Facts.{is_signature}
+use Rattle.answer_judge_facts.specs.Judged.{AnswersAs, judged}
+use Rattle.answer_judge_facts.specs.Judging.{Answer, Says, Refuses, Handing, keys_in}
 
 abbrev pub AreOctets : List ℕ → Type 0
 AreOctets xs = AllByRecursion (λ x. x < 256) xs
@@ -41,11 +41,11 @@ NothingForged a k now published made m =
     → message k m ≡ Ok read → Contains read.records r → r.rtype ≡ 46 → rrsig_at k m r ≡ Some (f, signature) → in_time f now ≡ true
     → Contains published key → Signs octets f owner class ds → a.verifies key octets signature ≡ true → Contains made octets
 
--- Each key of a message whose digest is that of one of some DS records is published.
+-- Each key of the apex in a message, class IN, whose digest some DS records have, is published.
 abbrev pub NoStranger : Answers → ℕ → Name → List Dnskey → List Ds → List ℕ → Type 0
 NoStranger a k apex published ds m =
-    (read : Message) (r : Spelled) (key : Dnskey) (d : Ds)
-    → message k m ≡ Ok read → Contains read.records r → r.rtype ≡ 48 → dnskey_of_data (data_of m r) ≡ Some key
+    (read : Message) (key : Dnskey) (d : Ds)
+    → message k m ≡ Ok read → Contains (keys_in m apex read.records) key
     → Contains ds d → a.digest d.digest_type (digested apex key) ≡ Some d.digest → Contains published key
 
 -- octets of a message, in which nothing is forged
@@ -57,41 +57,88 @@ pub record IsHonest (a : Answers) (k : ℕ) (h : Handing) (published : List Dnsk
 abbrev pub served_by : Answers → Handing → Mode → List HandedRr → Served
 served_by a h mode rs = served_of h.apex mode (hash_in a.hash mode) (sorted_records rs)
 
--- What is handed in beside a DS set that isn't empty: two messages that are honest in the life of the zone of these records and
--- this chain, the keys of the first known. Some keys were published in it, and some messages were handed out, each a DNSKEY
--- answer of published keys or an answer to an allowed question, signed by whatever keys at whatever moments.
-pub record AreHonest (a : Answers) (k : ℕ) (h : Handing) (mode : Mode) (rs : List HandedRr) : Type 0 where
+-- Records that the zone had. The names of their chain have different hashes, and no name of the chain shares its hash with
+-- another name that the question concerns.
+pub record IsVersion (a : Answers) (h : Handing) (mode : Mode) (rs : List HandedRr) : Type 0 where
+  pub records_are : AllByRecursion IsHanded rs
+  pub accepted : IsAccepted a.hash h.apex mode h.limit rs
+  pub apart : NoSharedHash (zone_of h.apex rs) (hash_in a.hash mode) mode h.asked.name
+
+-- an answer to a question, not one of keys
+abbrev pub IsOfZone : Content → Type 0
+IsOfZone (OfKeys present) = ⊥
+IsOfZone (OfZone asked) = Unit {0}
+
+-- Answers whose signatures begin to hold in one second, modulo 2^32, are of one version.
+abbrev pub OneAtATime : List HandedOut → Type 0
+OneAtATime outs =
+    (x y : HandedOut) → Contains outs x → Contains outs y → IsOfZone x.content → IsOfZone y.content
+    → x.at % 4294967296 ≡ y.at % 4294967296 → x.records ≡ y.records
+
+-- The zone never changed, or signatures must be of one moment, and at one moment there was one version.
+abbrev pub Settled : Bool → List (List HandedRr) → List HandedOut → Type 0
+Settled one_moment versions outs = (length versions ≡ 1) ⊎ ((one_moment ≡ true) × OneAtATime outs)
+
+-- What is handed in beside a DS set that isn't empty: two messages that are honest in the life of a zone of this chain, which
+-- had these records in turn, the keys of the first known. Some keys were published in it, and some messages were handed out,
+-- each a DNSKEY answer of published keys or a version's answer to an allowed question, signed by whatever keys at whatever
+-- moments.
+pub record AreHonest (a : Answers) (k : ℕ) (h : Handing) (mode : Mode) (versions : List (List HandedRr)) : Type 0 where
   pub published : List Dnskey
   pub handed_out : List HandedOut
   pub life : ℕ
   pub apex_is : IsName h.apex
-  pub records_are : AllByRecursion IsHanded rs
-  pub accepted : IsAccepted a.hash h.apex mode h.limit rs
-  pub apart : NoSharedHash (zone_of h.apex rs) (hash_in a.hash mode) mode h.asked.name
+  pub versions_are : AllByRecursion (IsVersion a h mode) versions
   pub asked_is : IsQuestion h.asked
   pub ds_some : h.ds ≡ [] → ⊥
   pub flags_are : AllByRecursion (λ key. key.flags < 65536) published
-  pub handed_out_are : AllByRecursion (WasHandedOut (served_by a h mode rs) h.apex published) handed_out
-  pub keys_honest : IsHonest a k h published (made (served_by a h mode rs) h.apex life handed_out) h.dnskey_bytes
+  pub handed_out_are : AllByRecursion (WasHandedOut (served_by a h mode) h.apex published) handed_out
+  pub of_versions : AllByRecursion (λ out. Contains versions out.records) handed_out
+  pub settled : Settled h.one_moment versions handed_out
+  pub keys_honest : IsHonest a k h published (made (served_by a h mode) h.apex life handed_out) h.dnskey_bytes
   pub keys_known : NoStranger a k h.apex published h.ds h.dnskey_bytes
-  pub answer_honest : IsHonest a k h published (made (served_by a h mode rs) h.apex life handed_out) h.answer_bytes
+  pub answer_honest : IsHonest a k h published (made (served_by a h mode) h.apex life handed_out) h.answer_bytes
+
+-- the verdict of the zone of some records
+abbrev pub verdict_of : Handing → Mode → List HandedRr → Verdict
+verdict_of h mode rs = verdict (zone_of h.apex rs) (optout_of mode) h.asked.name h.asked.rtype
+
+-- no other verdict than one of these is said
+abbrev pub SaysOneOf : List Verdict → Answer → Type 0
+SaysOneOf vs (Says w) = Contains vs w
+SaysOneOf vs (Refuses e) = Unit {0}
+
+-- Of honest messages a judge says the verdict of one version, or refuses: never one that a mixture of them brings.
+abbrev pub AnswersHonest : Answers → ℕ → Handing → Answer → Type 0
+AnswersHonest a k h answer =
+    (mode : Mode) (versions : List (List HandedRr)) → AreHonest a k h mode versions → SaysOneOf (map (verdict_of h mode) versions) answer
+
+-- ---- a zone that doesn't change
 
 -- no other verdict is said
 abbrev pub SaysAtMost : Verdict → Answer → Type 0
 SaysAtMost v (Says w) = w ≡ v
 SaysAtMost v (Refuses e) = Unit {0}
 
--- of honest messages a judge says the zone's verdict, or refuses
-abbrev pub AnswersHonest : Answers → ℕ → Handing → Answer → Type 0
-AnswersHonest a k h answer =
-    (mode : Mode) (rs : List HandedRr) → AreHonest a k h mode rs
-    → SaysAtMost (verdict (zone_of h.apex rs) (optout_of mode) h.asked.name h.asked.rtype) answer
+-- all that was handed out is of the zone of these records
+abbrev pub AreHonestOf : Answers → ℕ → Handing → Mode → List HandedRr → Type 0
+AreHonestOf a k h mode rs = AreHonest a k h mode (rs ∷ [])
+
+-- of honest messages a judge says the zone's verdict, or refuses, whether or not signatures must be of one moment
+abbrev pub AnswersHonestOf : Answers → ℕ → Handing → Answer → Type 0
+AnswersHonestOf a k h answer =
+    (mode : Mode) (rs : List HandedRr) → AreHonestOf a k h mode rs → SaysAtMost (verdict_of h mode rs) answer
 
 -- Whatever is exact, memory aside, is this. The limit is a number of 16 bits (RFC 5155, 3.1.3).
 abbrev pub NoFalseVerdict : Type 0
 NoFalseVerdict =
     (a : Answers) (k : ℕ) (h : Handing) (answer : Answer)
     → h.limit < 65536 → AnswersAs answer (judged a k h) → AnswersHonest a k h answer
+
+-- of a zone that doesn't change it says the verdict, or refuses
+abbrev pub HonestOfOneZone : Type 0
+HonestOfOneZone =
+    (a : Answers) (k : ℕ) (h : Handing) (answer : Answer) → AnswersHonest a k h answer → AnswersHonestOf a k h answer
 
 -- ---- times
 

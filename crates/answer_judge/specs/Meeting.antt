@@ -7,24 +7,24 @@ use Rattle.definitions.specs.Serial.{serial_le}
 use Rattle.definitions.specs.Zone.{verdict}
 use Rattle.definitions.specs.ZoneChain.{Mode, optout_of}
 use Rattle.messages.specs.HandedRr.{HandedRr}
-use Rattle.answer_terms.specs.Accepting.{sorted_records, zone_of}
+use Rattle.answer_shared.specs.Accepting.{sorted_records, zone_of}
 use Rattle.answer_scheme.specs.Answers.{Answers}
-use Rattle.answer_facts.specs.Facts.{is_usable}
-use Rattle.answer_terms.specs.Told.{TellsKeys, TellsAnswer}
+use Rattle.answer_judge_facts.specs.Facts.{is_usable}
+use Rattle.answer_shared.specs.Told.{TellsKeys, TellsAnswer}
 use Rattle.messages.specs.Handed.{IsHanded}
-use Rattle.answer_facts.specs.Judging.{Answer, Says, Handing, Judges, answer_of, verifications_of, hashes_of}
-use Rattle.answer_terms.specs.Accepted.{IsAccepted}
-use Rattle.answer_terms.specs.Asking.{is_allowed}
-use Rattle.answer_terms.specs.EqualTags.{has_equal_tags}
-use Rattle.answer_facts.specs.declared.verdict.Judgement.{Judgement}
-use Rattle.answer_facts.specs.declared.verdict.Refused.{Refused}
+use Rattle.answer_judge_facts.specs.Judging.{Answer, Says, Handing, Judges, answer_of, verifications_of, hashes_of}
+use Rattle.answer_shared.specs.Accepted.{IsAccepted}
+use Rattle.answer_shared.specs.Asking.{is_allowed}
+use Rattle.answer_shared.specs.EqualTags.{has_equal_tags}
+use Rattle.answer_judge_facts.specs.declared.verdict.Judgement.{Judgement}
+use Rattle.answer_judge_facts.specs.declared.verdict.Refused.{Refused}
 use Rattle.answer_judge.specs.Honest.{AnswersHonest, RefusesUntimely}
-use Rattle.answer_facts.specs.Judged.{AnswersAs, judged}
-use Rattle.answer_facts.specs.Counted.{Counts, hashes_due, verifications_due}
-use Rattle.answer_terms.specs.Hashing.{HashesHold, served}
-use Rattle.answer_terms.specs.Served.{Served}
+use Rattle.answer_judge_facts.specs.Judged.{AnswersAs, judged}
+use Rattle.answer_judge_facts.specs.Counted.{Counts, hashes_due, verifications_due}
+use Rattle.answer_shared.specs.Hashing.{HashesHold, served}
+use Rattle.answer_shared.specs.Served.{Served}
 use Rattle.messages.specs.WrittenLaws.{IsQuestion}
-use Rattle.answer_terms.specs.ZoneView.{AcceptedZone}
+use Rattle.answer_shared.specs.ZoneView.{AcceptedZone}
 
 -- a DS record of type 2 names the key (RFC 4034, 5.1; RFC 4509)
 pub record HasDs (a : Answers) (apex : Name) (ds : List Ds) (k : Dnskey) : Type 0 where
@@ -60,13 +60,14 @@ abbrev pub served_from : Answers → Handing → Mode → List HandedRr → Serv
 served_from a h mode rs = served a.hash (zone_from h.apex mode h.limit rs)
 
 -- What is handed in was given by the zone of these records and this chain: the DS set of the keys at the parent, a DNSKEY
--- answer and a zone answer of keys that meet, whose signatures hold.
+-- answer, which has of the zone's records a TTL alone, and a zone answer, of keys that meet, whose signatures hold.
 pub record WasGiven (a : Answers) (k : ℕ) (h : Handing) (mode : Mode) (rs : List HandedRr) : Type 0 where
   pub parents : List Dnskey
   pub present : List Dnskey
   pub keysigners : List Dnskey
   pub zonesigners : List Dnskey
   pub life : ℕ
+  pub keys_ttl : ℕ
   pub keys_at : ℕ
   pub answer_at : ℕ
   pub apex_is : IsName h.apex
@@ -81,7 +82,7 @@ pub record WasGiven (a : Answers) (k : ℕ) (h : Handing) (mode : Mode) (rs : Li
   pub present_tags : has_equal_tags present ≡ false
   pub keysigner_tags : has_equal_tags keysigners ≡ false
   pub zonesigner_tags : has_equal_tags zonesigners ≡ false
-  pub keys_told : TellsKeys a.verifies k (served_from a h mode rs) h.apex present keysigners keys_at life h.dnskey_bytes
+  pub keys_told : TellsKeys a.verifies k keys_ttl h.apex present keysigners keys_at life h.dnskey_bytes
   pub answer_told : TellsAnswer a.verifies k (served_from a h mode rs) h.apex zonesigners answer_at life h.asked h.answer_bytes
   pub keys_hold : holds keys_at life h.now ≡ true
   pub answer_holds : holds answer_at life h.now ≡ true

@@ -6,13 +6,14 @@ use Rattle.definitions.specs.Dnskey.{Dnskey, key_tag}
 use Rattle.definitions.specs.Signing.{Fields, in_time}
 use Rattle.definitions.specs.Name.{Name}
 use Rattle.std.specs.List.{AllByRecursion}
+use Rattle.messages.specs.HandedRr.{HandedRr}
 use Rattle.messages.specs.Message.{Asked, Message, Spelled, message, rrsig_at}
-use Rattle.answer_terms.specs.Made.{HandedOut, groups_of, made}
-use Rattle.answer_terms.specs.Served.{Served, by_tag}
-use Rattle.answer_terms.specs.Told.{Tells}
+use Rattle.answer_shared.specs.Made.{HandedOut, groups_in, made}
+use Rattle.answer_shared.specs.Served.{Served, by_tag}
+use Rattle.answer_shared.specs.Told.{Tells}
 use Rattle.answer_scheme.specs.Answers.{Answers}
 use Rattle.answer_judge.specs.Honest.{AreOctets, IsHonest}
-use Rattle.answer_facts.specs.Judging.{Handing}
+use Rattle.answer_judge_facts.specs.Judging.{Handing}
 
 -- a signature passes over one string of octets alone, whatever the key
 abbrev pub Binds : Answers → Type 0
@@ -57,7 +58,7 @@ PlainSchemeBinds = (digest : ℕ → List ℕ → Option (List ℕ)) (hash : Lis
 -- it is one of signatures.
 abbrev pub ToldIsSpliced : Type 0
 ToldIsSpliced =
-    (a : Answers) (k now : ℕ) (s : Served) (apex : Name) (life : ℕ) (published : List Dnskey) (outs : List HandedOut) (out : HandedOut) (asked : Asked) (m : List ℕ)
-    → Contains outs out → AllByRecursion (λ g. g.rtype ≡ 46 → ⊥) (groups_of s apex out.content)
-    → Tells a.verifies k apex out.at life (by_tag out.signers) asked (groups_of s apex out.content) m
-    → IsSpliced a k now published (made s apex life outs) m
+    (a : Answers) (k now : ℕ) (serve : List HandedRr → Served) (apex : Name) (life : ℕ) (published : List Dnskey) (outs : List HandedOut) (out : HandedOut) (asked : Asked) (m : List ℕ)
+    → Contains outs out → AllByRecursion (λ g. g.rtype ≡ 46 → ⊥) (groups_in serve apex out)
+    → Tells a.verifies k apex out.at life (by_tag out.signers) asked (groups_in serve apex out) m
+    → IsSpliced a k now published (made serve apex life outs) m

@@ -1,6 +1,6 @@
 //! What a judge is handed.
 use denial_data::Ds;
-use keyset_keys::UnixTime;
+use denial_fields::unix_time::UnixTime;
 use messages::names::Name;
 use messages::question::Question;
 use std::marker::Model;
@@ -24,13 +24,19 @@ pub struct Case<'a> {
     pub moment: UnixTime,
     /// How many iterations of a name's hash are allowed (RFC 5155, 10.3).
     pub limit: u16,
+    /// Whether the signatures by which the answer is verified must all be of one inception and one expiration.
+    ///
+    /// Where a zone changes, records of two versions together may prove what neither says; with this they are refused, if each
+    /// answer is signed anew. Signers that sign as records change give unlike times at any moment: who judges these leaves
+    /// this out, and has the promise for a zone that does not change.
+    pub one_moment: bool,
 }
 
 impl<'a> Model for Case<'a> {
     ghost use Rattle.messages.specs.Questions.{asked_of};
-    ghost use Rattle.answer_facts.specs.Judging.{Handing, handed};
+    ghost use Rattle.answer_judge_facts.specs.Judging.{Handing, handed};
 
     ghost Value = { Handing };
 
-    ghost view = { λ c. handed c.apex.now c.ds.now c.dnskey.now c.answer.now (asked_of c.question.now) c.moment c.limit };
+    ghost view = { λ c. handed c.apex.now c.ds.now c.dnskey.now c.answer.now (asked_of c.question.now) c.moment c.limit c.one_moment };
 }

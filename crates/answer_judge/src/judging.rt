@@ -1,53 +1,43 @@
 //! Judging a zone answer from bytes alone (RFC 4035, 5).
-ghost use Rattle.std.specs.Prelude.{◌≡◌, ◌==◌, ◌+◌, ◌++◌, ◌<◌, ◌≤◌, ◌^◌, ◌⊎◌, [], IfOk, IfErr, MatchOption, OnOk, is_some, length, map, filter, true, false};
-ghost use Rattle.std.specs.Cow.{cow_slice_items};
+ghost use Rattle.std.specs.Prelude.{◌≡◌, ◌==◌, ◌+◌, ◌++◌, ◌<◌, ◌≤◌, ◌⊎◌, IfOk, IfErr, OnOk, length, map, true, false};
 ghost use Rattle.definitions.specs.Limits.{pointer_limit};
-ghost use Rattle.definitions.specs.Dnskey.{dnskey_data};
-ghost use Rattle.definitions.specs.Zone.{sorted_data};
 ghost use Rattle.messages.specs.Questions.{asked_of};
 ghost use Rattle.messages.specs.Record.{spelled};
-ghost use Rattle.answer_facts.specs.Counted.{Counts, hashes_beyond, hashes_due, keys_sought, tries, tries_beyond, verifications_due};
-ghost use Rattle.answer_facts.specs.Verified.{is_verified};
-ghost use Rattle.answer_facts.specs.Marked.{held_by};
-ghost use Rattle.answer_facts.specs.KeyOrder.{Ranks};
+ghost use Rattle.answer_judge_facts.specs.Counted.{Counts, hashes_beyond, hashes_due, tries_beyond, verifications_due};
 ghost use Rattle.messages.specs.Message.{Asked, message};
 ghost use Rattle.messages.specs.View.{Gives};
-ghost use Rattle.answer_facts.specs.Facts.{is_signature, RefusesFirst};
+ghost use Rattle.answer_judge_facts.specs.Facts.{RefusesFirst};
 ghost use Rattle.answer_judge.specs.Honest.{AnswersHonest, RefusesUntimely};
-ghost use Rattle.answer_facts.specs.Judged.{judged, judged_beyond, said, AnswersAs};
+ghost use Rattle.answer_judge_facts.specs.Judged.{judged, judged_beyond, said, AnswersAs};
 ghost use Rattle.answer_judge.specs.Meeting.{AnswersGiven, JudgesSo};
-ghost use Rattle.answer_facts.specs.Judging.{Judges, answer_of, handed, verifications_of, hashes_of, is_first, message_refusal, same_question, hash_bound, verification_bound};
-ghost use Rattle.answer_terms.specs.Asking.{is_allowed};
+ghost use Rattle.answer_judge_facts.specs.Judging.{Judges, answer_of, handed, verifications_of, hashes_of, is_first, message_refusal, same_question, hash_bound, verification_bound};
+ghost use Rattle.answer_shared.specs.Asking.{is_allowed};
 
 pub mod by_scheme;
 mod deciding;
 
 use crate::case::Case;
-use crate::judging::deciding::judge_facts;
-use answer_facts::facts::read_facts;
-use answer_facts::groups::{Group, verify_groups};
-use answer_facts::keys::{
-    TaggedKey, has_equal_tags, ranked_keys, read_keys, trusted_keys, usable_keys,
-};
-use answer_facts::order::sort_data;
-use answer_facts::trust::Trust;
-use answer_facts::verdict::{Judgement, Refusal, Refused, Verdict};
-use answer_facts::verifier::Verifier;
+use crate::judging::deciding::judge_proof;
+use answer_judge_facts::facts::read_facts;
+use answer_judge_facts::keys::{has_equal_tags, ranked_keys, read_keys, trusted_keys, usable_keys};
+use answer_judge_facts::signed_keys::are_verified;
+use answer_judge_facts::trust::Trust;
+use answer_judge_facts::verdict::{Judgement, Refusal, Refused, Verdict};
+use answer_judge_facts::verifier::Verifier;
 use answer_scheme::checks::Checks;
-pub use answer_terms::question::is_allowed;
+pub use answer_shared::question::is_allowed;
 use denial_data::Ds;
-use keyset_keys::UnixTime;
+use denial_fields::unix_time::UnixTime;
 use messages::error::MessageError;
-use messages::names::{Name, ToName, ZoneName, cow_name};
+use messages::names::{Name, ToName, ZoneName};
 use messages::question::Question;
 use messages::{MessageView, ViewRecord, read_message_into};
-use names_data::rtype::Rtype;
+use names_rdata::rtype::Rtype;
 use numbers::class::Class;
 use std::alloc::{AllocError, Global};
-use std::borrow::CowSlice;
 
 /// Judges what a zone says of a question, from a DS set, a DNSKEY answer and a zone answer (RFC 4035, 5), as [`Case::judge`]
-/// does.
+/// does where the signatures by which the answer is verified must be of one moment.
 pub fn judge<C: Checks>(
     alloc: Global,
     apex: &Name<Vec<u8>>,
@@ -60,7 +50,7 @@ pub fn judge<C: Checks>(
     limit: u16,
 ) -> Result<Judgement, Refused>
     ensures judgement { let asked = asked_of question.now in
-        let h = handed apex.now ds.now dnskey_bytes.now answer_bytes.now asked now.now limit in
+        let h = handed apex.now ds.now dnskey_bytes.now answer_bytes.now asked now.now limit true in
         JudgesSo pointer_limit (C.answers checks.old) h result }
     ensures verified { C.verified checks.new ≡ C.verified checks.old + verifications_of result }
     ensures hashed { C.hashed checks.new ≡ C.hashed checks.old + hashes_of result }
@@ -74,6 +64,7 @@ pub fn judge<C: Checks>(
         question,
         moment: *now,
         limit,
+        one_moment: true,
     };
     case.judge(alloc, checks)
 }
@@ -81,10 +72,11 @@ pub fn judge<C: Checks>(
 impl<'a> Case<'a> {
     /// Judges what the zone says of the question.
     ///
-    /// Whatever one zone gives under keys that meet, within the times of its signatures, gets the zone's verdict. No two messages
-    /// get another verdict in which nothing is forged: no signature that holds at the moment and passes under a key that the
-    /// zone published is over octets that were not signed, and each key of the DNSKEY answer that the DS set names is one that the
-    /// zone published. Where no signature of the one message holds at the moment, or none of the other, they are refused.
+    /// Whatever one version of a zone gives under keys that meet, within the times of its signatures, gets its verdict. No two
+    /// messages get a verdict that no version has in which nothing is forged: no signature that holds at the moment and passes
+    /// under a key that the zone published is over octets that were not signed, and each key of the DNSKEY answer whose digest
+    /// the DS set has is one that the zone published. For a zone that changes this asks that signatures must be of one moment.
+    /// Where no signature of the one message holds at the moment, or none of the other, they are refused.
     pub fn judge<C: Checks>(&self, alloc: Global, checks: &mut C) -> Result<Judgement, Refused>
         ensures judges { let answer = answer_of result in
             Judges pointer_limit self.now answer (verifications_of result) (hashes_of result) }
@@ -203,7 +195,7 @@ fn judge_messages<C: Checks>(
         moment,
     };
     let question = case.question;
-    let facts = read_facts(
+    let proof = read_facts(
         case.answer,
         &messages.answer_records,
         &trust,
@@ -211,7 +203,7 @@ fn judge_messages<C: Checks>(
         question.rtype,
         verifier,
     )?;
-    judge_facts(alloc, case, facts, verifier.checks, hashes)
+    judge_proof(alloc, case, proof, verifier.checks, hashes)
 }
 
 /// Both messages, and the records of each.
@@ -285,72 +277,4 @@ fn asks(view: &MessageView, name: &Name<Vec<u8>>, rtype: Rtype, class: Class) ->
 {
     let asked = view.question();
     asked.name.name_eq(name) && asked.rtype == rtype && asked.class == class
-}
-
-/// The RRset of the keys at the apex.
-fn key_group<'a>(
-    alloc: Global,
-    apex: &'a Name<Vec<u8>>,
-    keys: &[TaggedKey<'a>],
-) -> Result<Group<'a>, AllocError>
-    ensures owner { IfOk result (λ g. g.owner ≡ apex.now) }
-    ensures rtype { IfOk result (λ g. g.rtype ≡ 48) }
-    ensures items { IfOk result
-        (λ g. map cow_slice_items g.items.items ≡ sorted_data (map dnskey_data keys.now)) }
-    ensures unverified { IfOk result (λ g. g.verified ≡ None) }
-{
-    let mut items = Vec::with_capacity(alloc, keys.len())?;
-    for key in keys {
-        items.push(CowSlice::Borrowed(key.data()))?;
-    }
-    sort_data(&mut items);
-    Ok(Group {
-        owner: cow_name(alloc, apex)?,
-        rtype: Rtype::DNSKEY,
-        items,
-        verified: None,
-    })
-}
-
-/// Whether a trusted key signs the keys.
-fn are_verified<C: Checks>(
-    message: &[u8],
-    records: &[ViewRecord],
-    keys: &[TaggedKey],
-    trust: &Trust,
-    verifier: &mut Verifier<C>,
-) -> Result<bool, AllocError>
-    requires index { Ranks trust.now.keys.now trust.now.ranked.now }
-    requires room { verifier.old.count + length records.now < 2 ^ 32 }
-    ensures exact { let w = held_by (C.answers verifier.old.checks.now) trust.now in
-        let items = sorted_data (map dnskey_data keys.now) in let rs = map spelled records.now in
-        IfOk result (λ b. b ≡ is_verified w pointer_limit message.now rs w.apex 48 items) }
-    ensures tried { let w = held_by (C.answers verifier.old.checks.now) trust.now in
-        let sought = keys_sought w.apex keys.now in let rs = map spelled records.now in
-        let count = verifier.old.count + tries w pointer_limit message.now sought [] rs in
-        IfOk result (λ _. verifier.new.count ≡ count) }
-    ensures counted { C.verified verifier.new.checks.now + verifier.old.count
-        ≡ C.verified verifier.old.checks.now + verifier.new.count }
-    ensures bound { let rs = map spelled records.now in
-        verifier.new.count ≤ verifier.old.count + length (filter is_signature rs) }
-    ensures few { verifier.new.count ≤ verifier.old.count + length records.now }
-    ensures hashed { C.hashed verifier.new.checks.now ≡ C.hashed verifier.old.checks.now }
-    ensures same { C.answers verifier.new.checks.now ≡ C.answers verifier.old.checks.now }
-    ensures same_checks { verifier.new.checks.ghost_name ≡ verifier.old.checks.ghost_name }
-{
-    let alloc = verifier.alloc;
-    let mut groups = Vec::with_capacity(alloc, 1)?;
-    groups.push(key_group(alloc, trust.apex, keys)?)?;
-    verify_groups(message, records, trust, &mut groups, verifier)?;
-    Ok(was_verified(groups.pop()))
-}
-
-/// Whether there is an RRset, and a signature verified it.
-fn was_verified(group: Option<Group>) -> bool
-    ensures { MatchOption group.entry (result ≡ false) (λ g. result ≡ is_some g.verified) }
-{
-    match group {
-        None => false,
-        Some(group) => group.verified.is_some(),
-    }
 }

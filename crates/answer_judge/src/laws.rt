@@ -2,7 +2,7 @@
 
 ghost use Rattle.answer_judge.specs.BothChains.{ChainsSayTheSame};
 ghost use Rattle.answer_judge.specs.FirstSignature.{SaysFirst};
-ghost use Rattle.answer_judge.specs.Honest.{NoFalseVerdict, UntimelyIsRefused};
+ghost use Rattle.answer_judge.specs.Honest.{HonestOfOneZone, NoFalseVerdict, UntimelyIsRefused};
 ghost use Rattle.answer_judge.specs.OwnFacts.{ToldFactsAreOwn};
 ghost use Rattle.answer_judge.specs.Splices.{PlainSchemeBinds, SplicesAreHonest, ToldIsSpliced};
 
@@ -28,15 +28,22 @@ pub fn chains_say_the_same()
     ensures { ChainsSayTheSame }
 {}
 
-/// Of messages in which nothing is forged a judge says the zone's verdict, or refuses, beside any DS set that isn't empty.
+/// Of messages in which nothing is forged a judge says the verdict of a version that the zone had, or refuses, beside any DS set
+/// that isn't empty. The zone never changed, or signatures must be of one moment and at one moment the zone had one version: of
+/// records of two versions no verdict is made that neither has.
 ///
 /// Nothing is forged where each signature that holds at the moment and passes under a key that the zone published, over
-/// whichever octets, is over octets that were signed in the zone's life, and where each key of the DNSKEY answer that the DS set
-/// names is one that the zone published. So messages may be spliced of any answers that the zone gave, under any of its keys;
+/// whichever octets, is over octets that were signed in the zone's life, and where each key of the DNSKEY answer whose digest the DS
+/// set has is one that the zone published. So messages may be spliced of any answers that the zone gave, under any of its keys;
 /// signatures may be moved to other owners and made by strangers; keys of strangers may stand in the DNSKEY answer, and sign it;
 /// what is out of its times may be forged (RFC 4035, 5; RFC 5155, 8).
 pub fn no_bytes_bring_a_false_verdict()
     ensures { NoFalseVerdict }
+{}
+
+/// Of a zone that does not change it says the verdict, or refuses, whether or not signatures must be of one moment.
+pub fn of_one_zone_its_verdict()
+    ensures { HonestOfOneZone }
 {}
 
 /// Beside a DS set that isn't empty a judge refuses where no signature of the one message holds at the moment, or none of the

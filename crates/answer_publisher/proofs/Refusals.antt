@@ -9,18 +9,17 @@ use Rattle.std.proofs.lemmas.List.{append-nil, take-append-drop}
 use Rattle.std.specs.Int.{w16, w32, to_be_bytes}
 use Rattle.definitions.specs.Name.{Name, wire, wire_len}
 use Rattle.definitions.specs.Dnskey.{Dnskey}
-use Rattle.definitions.specs.Zone.{apex_of}
 use Rattle.answer_publisher.specs.declared.fault.AnswerFault.{AnswerFault}
 use Rattle.answer_publisher.specs.declared.fault.AnswerFault.TheVariants as fault
 use Rattle.answer_scheme.specs.declared.error.SchemeError.{SchemeError}
 use Rattle.answer_scheme.specs.declared.error.SchemeError.TheVariants as error
-use Rattle.answer_terms.specs.Hashing.{Hasher}
+use Rattle.answer_shared.specs.Hashing.{Hasher}
 use Rattle.answer_publisher.specs.AnswerFaults.{fault_of}
 use Rattle.answer_publisher.specs.Answering.{RefusesAnswer, RefusesKeys, ahead_of_records}
 use Rattle.answer_publisher.specs.Composed.{HasRoom, IsSection, IsTooLong, IsWritten, RefusesGroups, RefusesRecords, joined, rrsig_of}
-use Rattle.answer_terms.specs.GroupView.{FailsFor, GroupView, IsRrsigData, Presents}
+use Rattle.answer_shared.specs.GroupView.{FailsFor, GroupView, IsRrsigData, Presents}
 use Rattle.messages.specs.Message.{Asked}
-use Rattle.answer_terms.specs.Served.{Served, answer_groups, key_group}
+use Rattle.answer_shared.specs.Served.{Served, answer_groups, key_group, keys_ttl}
 use Rattle.messages.specs.Written.{Written, header_octets, question_octets, record_octets}
 use Rattle.messages.proofs.MessageWritten.{record_parts, wire-length}
 use Rattle.messages.proofs.NameLaws.{wire_len-some}
@@ -181,7 +180,7 @@ answer_refused sign verifies hash s apex at life keys asked gs fault.SignFailed 
 answer_refused sign verifies hash s apex at life keys asked gs fault.TooLong z r = (gs, z, r)
 
 pub keys_refused : (sign : Dnskey → List ℕ → Option (List ℕ)) (verifies : Dnskey → List ℕ → List ℕ → Bool) (s : Served) (apex : Name) (at life : ℕ) (present keys : List Dnskey) (g : GroupView) (f : AnswerFault)
-    → Presents g (key_group apex (s.ttl_of (apex_of s.zone) 6) present) → RefusesGroups sign verifies apex at life keys (ahead_of_records (record { name = apex; rtype = 48; class = 1 })) (g ∷ []) f → RefusesKeys sign verifies s apex at life present keys f
+    → Presents g (key_group apex (keys_ttl s) present) → RefusesGroups sign verifies apex at life keys (ahead_of_records (record { name = apex; rtype = 48; class = 1 })) (g ∷ []) f → RefusesKeys sign verifies s apex at life present keys f
 keys_refused sign verifies s apex at life present keys g fault.Memory z r = tt
 keys_refused sign verifies s apex at life present keys g fault.QuestionNotAllowed z r = (g, z, r)
 keys_refused sign verifies s apex at life present keys g fault.HashFailed z r = (g, z, r)

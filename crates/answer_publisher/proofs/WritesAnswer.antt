@@ -6,9 +6,9 @@ use Rattle.definitions.specs.Limits.{pointer_limit}
 use Rattle.definitions.specs.Name.{Name, IsName}
 use Rattle.definitions.specs.Dnskey.{Dnskey}
 use Rattle.messages.specs.Message.{Asked}
-use Rattle.answer_terms.specs.Served.{Group}
-use Rattle.answer_terms.specs.Given.{AreGroups, Gives}
-use Rattle.answer_terms.specs.GroupView.{GroupView, Presents, view_of}
+use Rattle.answer_shared.specs.Served.{Group}
+use Rattle.answer_shared.specs.Given.{AreGroups, Gives}
+use Rattle.answer_shared.specs.GroupView.{GroupView, Presents, view_of}
 use Rattle.answer_publisher.specs.Composed.{IsAnswer, IsWritten, joined}
 use Rattle.messages.specs.Written.{Written, record_octets}
 use Rattle.messages.specs.WrittenLaws.{IsQuestion, IsRecord, first_place, spelled_from}

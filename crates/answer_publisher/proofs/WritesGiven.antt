@@ -3,18 +3,17 @@ use Rattle.std.proofs.Common.{◌≡◌, ℕ, Bool, false, List, [], ◌∷◌, 
 use Rattle.std.specs.List.{AllByRecursion, AllZip}
 use Rattle.definitions.specs.Name.{IsName}
 use Rattle.definitions.specs.Dnskey.{Dnskey}
-use Rattle.definitions.specs.Zone.{apex_of}
 use Rattle.definitions.specs.Limits.{pointer_limit}
 use Rattle.answer_publisher.specs.Answering.{AnswersKeys}
 use Rattle.answer_publisher.specs.Composed.{IsAnswer}
-use Rattle.answer_terms.specs.Given.{GivesAnswer, GivesKeys}
+use Rattle.answer_shared.specs.Given.{GivesAnswer, GivesKeys}
 use Rattle.messages.specs.Handed.{AreHanded}
 use Rattle.messages.specs.Message.{Asked}
-use Rattle.answer_terms.specs.GroupView.{GroupView, Presents}
-use Rattle.answer_terms.specs.Hashing.{Hasher, hash_in, served}
-use Rattle.answer_terms.specs.Served.{Group, answer_groups, by_tag, key_group}
+use Rattle.answer_shared.specs.GroupView.{GroupView, Presents}
+use Rattle.answer_shared.specs.Hashing.{Hasher, hash_in, served}
+use Rattle.answer_shared.specs.Served.{Group, answer_groups, by_tag, key_group, keys_ttl}
 use Rattle.messages.specs.WrittenLaws.{IsQuestion}
-use Rattle.answer_terms.specs.ZoneView.{AcceptedZone, IsPublished}
+use Rattle.answer_shared.specs.ZoneView.{AcceptedZone, IsPublished}
 use Rattle.answer_publisher.proofs.WritesAnswer.{answer_gives}
 use Rattle.answer_publisher.proofs.WritesGroups.{IsFormed}
 use Rattle.answer_publisher.proofs.WritesData.{of_chain}
@@ -47,9 +46,9 @@ answer_given sign verifies hash z at life flags signers asked answer authority m
 
 -- the DNSKEY answer
 pub keys_given : (sign : Dnskey → List ℕ → Option (List ℕ)) (verifies : Dnskey → List ℕ → List ℕ → Bool) (hash : List ℕ → ℕ → ℕ → List ℕ → Option (List ℕ)) (z : AcceptedZone) (at life : ℕ) (present signers : List Dnskey) (m : List ℕ)
-    → AreHanded z.apex z.records → AnswersKeys sign verifies (served hash z) z.apex at life present (by_tag signers) m → GivesKeys verifies pointer_limit (served hash z) z.apex present signers at life m
+    → AreHanded z.apex z.records → AnswersKeys sign verifies (served hash z) z.apex at life present (by_tag signers) m → GivesKeys verifies pointer_limit (keys_ttl (served hash z)) z.apex present signers at life m
 keys_given sign verifies hash z at life present signers m handed w =
     let asked : Asked = record { name = z.apex; rtype = 48; class = 1 } in
     let s = served hash z in
-    answer_gives sign verifies z.apex at life (by_tag signers) 33792 asked (w.group ∷ []) [] (key_group z.apex (s.ttl_of (apex_of s.zone) 6) present ∷ []) m
+    answer_gives sign verifies z.apex at life (by_tag signers) 33792 asked (w.group ∷ []) [] (key_group z.apex (keys_ttl s) present ∷ []) m
     handed.apex_is (record { name = handed.apex_is; rtype = lit< tt; class = lit< tt }) (keys_formed z.apex z.records handed present, tt) (w.presents, tt) w.written

@@ -6,9 +6,9 @@ use Rattle.std.proofs.lemmas.List.Concat.{flat_map-append}
 use Rattle.definitions.specs.Limits.{pointer_limit}
 use Rattle.definitions.specs.Name.{Name, IsName}
 use Rattle.definitions.specs.Dnskey.{Dnskey}
-use Rattle.answer_terms.specs.GroupView.{view_of}
-use Rattle.answer_terms.specs.Served.{Group}
-use Rattle.answer_terms.specs.Given.{AreGroups}
+use Rattle.answer_shared.specs.GroupView.{view_of}
+use Rattle.answer_shared.specs.Served.{Group}
+use Rattle.answer_shared.specs.Given.{AreGroups}
 use Rattle.answer_publisher.specs.Composed.{IsWritten, joined, rrsig_of}
 use Rattle.messages.specs.Written.{Written, record_octets}
 use Rattle.messages.specs.WrittenLaws.{IsRecord, spelled_at, spelled_from}

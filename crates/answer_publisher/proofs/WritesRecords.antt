@@ -8,10 +8,10 @@ use Rattle.definitions.specs.Dnskey.{Dnskey, key_tag}
 use Rattle.definitions.specs.Signing.{Fields, canonical_record, signed_octets, signed_owner}
 use Rattle.definitions.specs.Limits.{pointer_limit}
 use Rattle.messages.specs.Message.{Spelled, canonical_data}
-use Rattle.answer_terms.specs.Served.{Group}
-use Rattle.answer_terms.specs.Given.{HasTtl, KeepsOwn}
-use Rattle.answer_terms.specs.Told.{AreRecords, AreSignatures, IsSignature}
-use Rattle.answer_terms.specs.GroupView.{GroupView, IsRrsigData, fields_of, view_of}
+use Rattle.answer_shared.specs.Served.{Group}
+use Rattle.answer_shared.specs.Given.{HasTtl, KeepsOwn}
+use Rattle.answer_shared.specs.Told.{AreRecords, AreSignatures, IsSignature}
+use Rattle.answer_shared.specs.GroupView.{GroupView, IsRrsigData, fields_of, view_of}
 use Rattle.answer_publisher.specs.Composed.{rrsig_of}
 use Rattle.messages.specs.Written.{Written, record_octets}
 use Rattle.messages.specs.Rrsig.{rrsig_data}

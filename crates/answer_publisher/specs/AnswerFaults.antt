@@ -3,8 +3,8 @@ use Rattle.answer_publisher.specs.declared.fault.AnswerFault.{AnswerFault}
 use Rattle.answer_publisher.specs.declared.fault.AnswerFault.TheVariants as fault
 use Rattle.answer_scheme.specs.declared.error.SchemeError.{SchemeError}
 use Rattle.answer_scheme.specs.declared.error.SchemeError.TheVariants.{Failed, Memory}
-use Rattle.denial_hashes.specs.declared.hasher.HashError.{HashError}
-use Rattle.denial_hashes.specs.declared.hasher.HashError.TheVariants as hash_error
+use Rattle.denial_nsec3_hash.specs.declared.hasher.HashError.{HashError}
+use Rattle.denial_nsec3_hash.specs.declared.hasher.HashError.TheVariants as hash_error
 
 abbrev pub fault_of : SchemeError → AnswerFault
 fault_of Failed = fault.SignFailed

@@ -3,17 +3,17 @@ use Rattle.std.specs.Prelude.{◌≡◌, ℕ, ◌+◌, Bool, false, List, [], �
 use Rattle.std.specs.List.{AllZip}
 use Rattle.definitions.specs.Name.{Name, low}
 use Rattle.definitions.specs.Dnskey.{Dnskey}
-use Rattle.definitions.specs.Zone.{apex_of, verdict}
-use Rattle.denial_rules.specs.Truth.{concerned}
+use Rattle.definitions.specs.Zone.{verdict}
+use Rattle.denial_laws.specs.Truth.{concerned}
 use Rattle.messages.specs.Message.{Asked}
-use Rattle.answer_terms.specs.GroupView.{GroupView, Presents}
+use Rattle.answer_shared.specs.GroupView.{GroupView, Presents}
 use Rattle.answer_publisher.specs.Composed.{IsAnswer, RefusesGroups}
-use Rattle.answer_terms.specs.Asking.{is_allowed}
-use Rattle.answer_terms.specs.Hashing.{Hasher}
+use Rattle.answer_shared.specs.Asking.{is_allowed}
+use Rattle.answer_shared.specs.Hashing.{Hasher}
 use Rattle.messages.specs.Written.{question_octets}
 use Rattle.answer_publisher.specs.declared.fault.AnswerFault.{AnswerFault}
 use Rattle.answer_publisher.specs.declared.fault.AnswerFault.TheVariants as fault
-use Rattle.answer_terms.specs.Served.{Served, answer_groups, key_group}
+use Rattle.answer_shared.specs.Served.{Served, answer_groups, key_group, keys_ttl}
 use Rattle.answer_zone.specs.HashedZone.{FailsOn}
 use Rattle.answer_zone.specs.ZoneAnswers.{flags_for, answered}
 
@@ -28,7 +28,7 @@ pub record AnswersZone (sign : Dnskey → List ℕ → Option (List ℕ)) (verif
 -- the DNSKEY answer: the keys that are present, their data written in canonical form and order
 pub record AnswersKeys (sign : Dnskey → List ℕ → Option (List ℕ)) (verifies : Dnskey → List ℕ → List ℕ → Bool) (s : Served) (apex : Name) (at life : ℕ) (present keys : List Dnskey) (m : List ℕ) : Type 0 where
   pub group : GroupView
-  pub presents : Presents group (key_group apex (s.ttl_of (apex_of s.zone) 6) present)
+  pub presents : Presents group (key_group apex (keys_ttl s) present)
   pub written : IsAnswer sign verifies apex at life keys 33792 (record { name = apex; rtype = 48; class = 1 }) (group ∷ []) [] m
 
 -- octets of a message ahead of its records: the header and the question (RFC 1035, 4.1.1 and 4.1.2)
@@ -49,5 +49,5 @@ RefusesAnswer sign verifies hash s apex at life keys asked f =
 abbrev pub RefusesKeys : (Dnskey → List ℕ → Option (List ℕ)) → (Dnskey → List ℕ → List ℕ → Bool) → Served → Name → ℕ → ℕ → List Dnskey → List Dnskey → AnswerFault → Type 0
 RefusesKeys sign verifies s apex at life present keys fault.Memory = Unit {0}
 RefusesKeys sign verifies s apex at life present keys f =
-    (group : GroupView) × Presents group (key_group apex (s.ttl_of (apex_of s.zone) 6) present)
+    (group : GroupView) × Presents group (key_group apex (keys_ttl s) present)
     × RefusesGroups sign verifies apex at life keys (ahead_of_records (record { name = apex; rtype = 48; class = 1 })) (group ∷ []) f

@@ -1,4 +1,5 @@
 pub mod Publishing
+pub mod Replacing
 pub mod Composed
 pub mod AnswerFaults
 pub mod Answering

@@ -6,18 +6,18 @@ use Rattle.definitions.specs.Limits.{pointer_limit}
 use Rattle.definitions.specs.ZoneChain.{Mode}
 use Rattle.messages.specs.HandedRr.{HandedRr}
 use Rattle.messages.specs.Message.{Asked}
-use Rattle.answer_terms.specs.Accepting.{sorted_records}
-use Rattle.answer_terms.specs.ZoneView.{AcceptedZone}
-use Rattle.answer_terms.specs.Hashing.{served}
-use Rattle.answer_terms.specs.Served.{Served}
+use Rattle.answer_shared.specs.Accepting.{sorted_records}
+use Rattle.answer_shared.specs.ZoneView.{AcceptedZone}
+use Rattle.answer_shared.specs.Hashing.{served}
+use Rattle.answer_shared.specs.Served.{Served, keys_ttl}
 use Rattle.answer_zone.specs.HashedZone.{accepted_zone}
 use Rattle.answer_scheme.specs.Answers.{Answers}
-use Rattle.answer_terms.specs.Given as spelled
-use Rattle.answer_terms.specs.Told as told
+use Rattle.answer_shared.specs.Given as spelled
+use Rattle.answer_shared.specs.Told as told
 use Rattle.answer_publisher.specs.declared.publishing.Publisher.{Publisher}
 use Rattle.answer_publisher.specs.declared.fault.AnswerFault.{AnswerFault}
-use Rattle.answer_keys.specs.declared.keys.Publication.TheVariants as publication
-use Rattle.answer_keys.specs.Bindings.{ZoneKeys, published, dnskeys, keys_by_tag}
+use Rattle.answer_publisher_keys.specs.declared.keys.Publication.TheVariants as publication
+use Rattle.answer_publisher_keys.specs.Bindings.{ZoneKeys, published, dnskeys, keys_by_tag}
 use Rattle.answer_publisher.specs.Publishing.{digest_at}
 use Rattle.answer_scheme.specs.Moments.{second_of}
 use Rattle.answer_publisher.specs.Answering.{AnswersKeys, AnswersZone, RefusesAnswer, RefusesKeys}
@@ -62,7 +62,7 @@ abbrev pub AnswersKeysQuestion : World → ZoneKeys → ℕ → List ℕ → Typ
 AnswersKeysQuestion w keys at m = AnswersKeys w.sign w.answers.verifies (served_in w) w.zone.apex (second_of at) w.life (present_keys keys) (keys_by_tag keys publication.SignsKeys) m
 
 abbrev pub SpellsKeys : World → ZoneKeys → ℕ → List ℕ → Type 0
-SpellsKeys w keys at m = spelled.GivesKeys w.answers.verifies pointer_limit (served_in w) w.zone.apex (present_keys keys) (dnskeys (published keys publication.SignsKeys)) (second_of at) w.life m
+SpellsKeys w keys at m = spelled.GivesKeys w.answers.verifies pointer_limit (keys_ttl (served_in w)) w.zone.apex (present_keys keys) (dnskeys (published keys publication.SignsKeys)) (second_of at) w.life m
 
 abbrev pub RefusesKeysQuestion : World → ZoneKeys → ℕ → AnswerFault → Type 0
 RefusesKeysQuestion w keys at f = RefusesKeys w.sign w.answers.verifies (served_in w) w.zone.apex (second_of at) w.life (present_keys keys) (keys_by_tag keys publication.SignsKeys) f
@@ -80,9 +80,9 @@ RefusesQuestion w keys at asked f = RefusesAnswer w.sign w.answers.verifies w.an
 
 -- ---- what any bytes tell a judge
 
--- the DNSKEY answer of these keys at a moment
+-- the DNSKEY answer of these keys at a moment, with whatever TTL: of the records of the zone it has no more
 abbrev pub TellsKeys : World → ZoneKeys → ℕ → List ℕ → Type 0
-TellsKeys w keys at m = told.TellsKeys w.answers.verifies pointer_limit (served_in w) w.zone.apex (present_keys keys) (dnskeys (published keys publication.SignsKeys)) (second_of at) w.life m
+TellsKeys w keys at m = (ttl : ℕ) × told.TellsKeys w.answers.verifies pointer_limit ttl w.zone.apex (present_keys keys) (dnskeys (published keys publication.SignsKeys)) (second_of at) w.life m
 
 -- the zone's answer to a question at a moment, signed by these keys
 abbrev pub TellsAnswer : World → ZoneKeys → ℕ → Asked → List ℕ → Type 0

@@ -1,8 +1,8 @@
 //! Why a publisher refuses.
-pub use answer_keys::fault::KeyFault;
+pub use answer_publisher_keys::fault::KeyFault;
 use answer_scheme::error::SchemeError;
 pub use answer_zone::fault::{Mode, ZoneFault};
-use denial_hashes::hasher::HashError;
+use denial_nsec3_hash::hasher::HashError;
 use std::alloc::AllocError;
 use thiserror::Error;
 
@@ -23,6 +23,28 @@ pub enum AnswerFault {
     TooLong,
     #[error("out of memory")]
     Memory,
+}
+
+/// Why a zone's records are not replaced.
+#[derive(Clone, Copy, Debug, PartialEq, Eq, Drop, Error)]
+pub enum ReplaceFault {
+    /// An answer was given in the second of the replacement, or in a later one.
+    #[error("an answer was given in this second, or in a later one")]
+    TooSoon,
+    /// The records make no zone.
+    #[error("{0}")]
+    Zone(ZoneFault),
+}
+
+impl From<ZoneFault> for ReplaceFault {
+    ghost use Rattle.std.specs.Prelude.{◌≡◌};
+    ghost use Rattle.answer_publisher.specs.declared.fault.ReplaceFault.TheVariants.{Zone};
+
+    ghost from_gives = { λ fault e. e ≡ Zone fault };
+
+    fn from(fault: ZoneFault) -> ReplaceFault {
+        ReplaceFault::Zone(fault)
+    }
 }
 
 impl From<AllocError> for AnswerFault {

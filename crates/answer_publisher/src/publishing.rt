@@ -1,22 +1,23 @@
 //! The publisher.
-ghost use Rattle.std.specs.Prelude.{◌≡◌, ◌⊎◌, ◌<◌, ◌≤◌, ◌^◌, ◌↔◌, [], map, length, string_bytes, IfOk, IfErr, IsErrOf, OnOk, Some, None, option_copied, false};
+ghost use Rattle.std.specs.Prelude.{◌≡◌, ◌⊎◌, ◌<◌, ◌≤◌, ◌^◌, ◌↔◌, [], map, length, string_bytes, IfOk, IfErr, IsErrOf, OnErr, OnOk, Some, None, option_copied, false};
 ghost use Rattle.std.specs.List.{AllByRecursion};
 ghost use Rattle.definitions.specs.Name.{IsName, low};
 ghost use Rattle.messages.specs.Handed.{IsHanded};
-ghost use Rattle.answer_terms.specs.Asking.{is_allowed};
+ghost use Rattle.answer_shared.specs.Asking.{is_allowed};
 ghost use Rattle.messages.specs.Questions.{asked_of};
-ghost use Rattle.answer_terms.specs.Served.{key_group, ttl_among};
-ghost use Rattle.answer_terms.specs.GroupView.{Presents};
-ghost use Rattle.answer_terms.specs.Accepted.{IsAccepted};
-ghost use Rattle.answer_records.specs.Faults.{RefusesZone};
+ghost use Rattle.answer_shared.specs.Served.{key_group, ttl_among};
+ghost use Rattle.answer_shared.specs.GroupView.{Presents};
+ghost use Rattle.answer_shared.specs.Accepted.{IsAccepted};
+ghost use Rattle.answer_zone_records.specs.Faults.{RefusesZone};
 ghost use Rattle.answer_zone.specs.HashedZone.{accepted_zone};
-ghost use Rattle.answer_records.specs.ModeView.{mode_of};
+ghost use Rattle.answer_zone_records.specs.ModeView.{mode_of};
 ghost use Rattle.messages.specs.HandedRr.{handed_of};
 ghost use Rattle.keyset.specs.KeyState.{text_of, is_available, texts};
 ghost use Rattle.answer_events.specs.Calls.{Decoupled, Present, Signer, AtParent, Visible, DsVisible, RrsigVisible, Stale};
-ghost use Rattle.answer_keys.specs.Bindings.{no_keys, dnskey_at, dnskey_for, ds_set, is_bound_away, published, dnskeys, keys_by_tag, Add, Set, Delete, Start, Report1, Wait1, Report2, Wait2, Finish};
-ghost use Rattle.answer_keys.specs.KeyCalls.{Acts, Changes};
+ghost use Rattle.answer_publisher_keys.specs.Bindings.{no_keys, dnskey_at, dnskey_for, ds_set, is_bound_away, published, dnskeys, keys_by_tag, Add, Set, Delete, Start, Report1, Wait1, Report2, Wait2, Finish};
+ghost use Rattle.answer_publisher_keys.specs.KeyCalls.{Acts, Changes};
 ghost use Rattle.answer_publisher.specs.Publishing.{digest_at};
+ghost use Rattle.answer_publisher.specs.Replacing.{later, noted, whole_second};
 ghost use Rattle.answer_scheme.specs.Moments.{second_of};
 ghost use Rattle.answer_publisher.specs.World.{AnswersKeysQuestion, AnswersQuestion, RefusesKeysQuestion, RefusesQuestion, SpellsAnswer, SpellsKeys, digests, present_keys, world_of, zone_by};
 
@@ -24,26 +25,30 @@ use crate::compose::compose_answer;
 use crate::fault::{AnswerFault, KeyFault, Mode, ZoneFault};
 use crate::signing::SignatureTerms;
 use answer_events::key_kind::availability;
-use answer_keys::keys::{KeyKind, NewKey, Publication, ZoneKeys};
+use answer_publisher_keys::keys::{KeyKind, NewKey, Publication, ZoneKeys};
 use answer_scheme::error::SchemeError;
 use answer_scheme::scheme::Scheme;
-use answer_terms::dnskey::{Dnskey, ZoneKey};
-use answer_terms::question::is_allowed;
+use answer_shared::dnskey::{Dnskey, ZoneKey};
+use answer_shared::question::is_allowed;
 use answer_zone::group::RrGroup;
 use answer_zone::zone::ZoneRecords;
 use answer_zone::zone::answers::AUTHORITATIVE;
 use denial_data::Ds;
-use denial_hashes::hasher::Nsec3Hasher;
+use denial_nsec3_hash::hasher::Nsec3Hasher;
 use keyset::set::KeySet;
 use keyset::{Action, Available, Error, RollType, UnixTime};
 use messages::names::{Name, ZoneName, copy_name};
 use messages::question::Question;
 use messages::record::ZoneRecord;
-use names_data::rtype::Rtype;
+use names_rdata::rtype::Rtype;
 use numbers::algorithm::{DigestAlgorithm, SecurityAlgorithm};
 use numbers::class::Class;
 use std::alloc::{AllocError, Global};
 use std::slice;
+use std::time::Duration;
+
+mod calls;
+mod replacing;
 
 /// Publishes one signed zone while its keys roll (RFC 4035, 2 and 3; RFC 6781, 4.1).
 ///
@@ -56,6 +61,8 @@ pub struct Publisher<'a, S: Scheme, H: Nsec3Hasher> {
     keys: ZoneKeys,
     scheme: &'a S,
     life: u32,
+    /// The greatest whole second at which an answer was given.
+    latest: Option<u64>,
 }
 
 impl<'a, S: Scheme, H: Nsec3Hasher> Publisher<'a, S, H> {
@@ -79,6 +86,7 @@ impl<'a, S: Scheme, H: Nsec3Hasher> Publisher<'a, S, H> {
         ensures scheme { IfOk result (λ p. p.scheme.now ≡ scheme.now) }
         ensures hasher { IfOk result (λ p. p.zone.hasher ≡ hasher.now) }
         ensures life { IfOk result (λ p. p.life ≡ life) }
+        ensures unanswered { IfOk result (λ p. p.latest ≡ None) }
         ensures accepted { let rs = map handed_of records.items in
             IfOk result (λ p. IsAccepted (H.hash_of hasher.now) apex (mode_of mode) limit rs) }
         ensures handed { IfOk result
@@ -96,6 +104,7 @@ impl<'a, S: Scheme, H: Nsec3Hasher> Publisher<'a, S, H> {
             keys: ZoneKeys::new(alloc, name),
             scheme,
             life,
+            latest: None,
         })
     }
 
@@ -160,8 +169,32 @@ impl<'a, S: Scheme, H: Nsec3Hasher> Publisher<'a, S, H> {
         }
     }
 
-    /// The zone's answer to a question at a moment, signed by each key that signs the zone.
-    pub fn answer(&self, question: &Question, now: &UnixTime) -> Result<Vec<u8>, AnswerFault>
+    /// The zone's answer to a question at a moment, signed by each key that signs the zone. Its second is noted, also where no
+    /// key signs: in it, and before, the zone's records are not replaced. A refused call changes nothing.
+    pub fn answer(&mut self, question: &Question, now: &UnixTime) -> Result<Vec<u8>, AnswerFault>
+        ensures allowed { let asked = asked_of question.now in
+            let allowed = is_allowed self.old.zone.apex asked in
+            IsErrOf result AnswerFault.QuestionNotAllowed ↔ (allowed ≡ false) }
+        ensures fault { let w = world_of S.signature_of S.verifies S.digest_of H.hash_of self.old in
+            let asked = asked_of question.now in
+            IfErr result (RefusesQuestion w self.old.keys now.now asked) }
+        ensures bytes { let w = world_of S.signature_of S.verifies S.digest_of H.hash_of self.old in
+            let asked = asked_of question.now in
+            IfOk result (λ m. AnswersQuestion w self.old.keys now.now asked m.items) }
+        ensures given { let w = world_of S.signature_of S.verifies S.digest_of H.hash_of self.old in
+            let asked = asked_of question.now in
+            IfOk result (λ m. SpellsAnswer w self.old.keys now.now asked m.items) }
+        ensures noted { let latest = noted self.old.latest now.now in
+            OnOk result (self.new ≡ record self.old { latest = latest }) }
+        ensures refused { OnErr result (self.new ≡ self.old) }
+    {
+        let message = self.message(question, now)?;
+        self.latest = Some(later(self.latest, whole_second(now)));
+        Ok(message)
+    }
+
+    /// The message of an answer.
+    fn message(&self, question: &Question, now: &UnixTime) -> Result<Vec<u8>, AnswerFault>
         ensures allowed { let asked = asked_of question.now in
             let allowed = is_allowed self.now.zone.apex asked in
             IsErrOf result AnswerFault.QuestionNotAllowed ↔ (allowed ≡ false) }
@@ -575,6 +608,23 @@ impl<'a, S: Scheme, H: Nsec3Hasher> Publisher<'a, S, H> {
         ensures rest { self.new ≡ record self.old { keys = self.new.keys } }
     {
         self.keys.roll_done(rolltype)
+    }
+}
+
+/// The whole seconds of a moment.
+fn whole_second(now: &UnixTime) -> u64
+    ensures { result ≡ whole_second now.now }
+{
+    UnixTime::new(Duration::from_secs(0)).elapsed(now).as_secs()
+}
+
+/// The later of two seconds, the first of which may be missing.
+fn later(latest: Option<u64>, second: u64) -> u64
+    ensures { Some result ≡ later latest second }
+{
+    match latest {
+        None => second,
+        Some(latest) => latest.max(second),
     }
 }
 

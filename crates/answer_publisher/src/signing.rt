@@ -4,14 +4,14 @@ ghost use Rattle.std.specs.List.{AllZip};
 ghost use Rattle.definitions.specs.Name.{wire};
 ghost use Rattle.definitions.specs.Dnskey.{key_tag};
 ghost use Rattle.definitions.specs.Signing.{signed_octets, signed_owner};
-ghost use Rattle.answer_terms.specs.GroupView.{FailsFor, IsRrsigData, fields_of, octets_of};
+ghost use Rattle.answer_shared.specs.GroupView.{FailsFor, IsRrsigData, fields_of, octets_of};
 ghost use Rattle.denial_data.specs.Protos as protos;
 ghost use Rattle.messages.specs.Rrsig.{record_head, with_length};
 ghost use Rattle.answer_scheme.specs.declared.error.SchemeError.TheVariants as error;
 
 use answer_scheme::error::SchemeError;
 use answer_scheme::scheme::Scheme;
-use answer_terms::dnskey::{Dnskey, ZoneKey};
+use answer_shared::dnskey::{Dnskey, ZoneKey};
 use answer_zone::group::RrGroup;
 use denial_data::{ProtoRrsig, Timestamp};
 use messages::names::{Name, Octets};

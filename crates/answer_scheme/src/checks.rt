@@ -3,8 +3,8 @@ ghost use Rattle.std.specs.Prelude.{◌≡◌, ℕ, ◌+◌, Some, None, IfOk, I
 ghost use Rattle.answer_scheme.specs.Answers.{Answers};
 
 use crate::error::SchemeError;
-use denial_hashes::hasher::HashError;
 use denial_keys::dnskey::Dnskey;
+use denial_nsec3_hash::hasher::HashError;
 use numbers::algorithm::DigestAlgorithm;
 use std::alloc::Global;
 

@@ -4,22 +4,22 @@ use Rattle.std.specs.Prelude.{IfErr, Result, Ok, Err, Vec, unwrap_or}
 use Rattle.std.specs.declared.alloc.Global.{Global}
 use Rattle.definitions.specs.Name.{Name, low, wire}
 use Rattle.definitions.specs.ZoneChain.{Mode, Nsec, Nsec3}
-use Rattle.denial_hashes.specs.declared.hasher.HashError.{HashError}
-use Rattle.denial_hashes.specs.declared.hasher.HashError.TheVariants.{Memory}
+use Rattle.denial_nsec3_hash.specs.declared.hasher.HashError.{HashError}
+use Rattle.denial_nsec3_hash.specs.declared.hasher.HashError.TheVariants.{Memory}
 use Rattle.messages.specs.HandedRr.{HandedRr}
 use Rattle.messages.proofs.ZoneNames.{low-low}
-use Rattle.answer_terms.specs.GroupView.{Adds, GroupView}
-use Rattle.answer_terms.specs.HashedLinks.{HashedLink, hashed_said_of}
-use Rattle.answer_terms.specs.Hashing.{Hasher, hash_in}
-use Rattle.answer_terms.specs.Links.{ChainLink, said_of}
-use Rattle.answer_terms.specs.Served.{chain_ttl, proofs_of, served_of}
-use Rattle.answer_terms.proofs.HashedLinks.{proofs_are_hashed}
+use Rattle.answer_shared.specs.GroupView.{Adds, GroupView}
+use Rattle.answer_shared.specs.HashedLinks.{HashedLink, hashed_said_of}
+use Rattle.answer_shared.specs.Hashing.{Hasher, hash_in}
+use Rattle.answer_shared.specs.Links.{ChainLink, said_of}
+use Rattle.answer_shared.specs.Served.{chain_ttl, proofs_of, served_of}
+use Rattle.answer_shared.proofs.HashedLinks.{proofs_are_hashed}
 use Rattle.answer_zone.specs.HashedZone.{IsHashFailure}
-use Rattle.answer_records.specs.MadeLinks.{IsChain}
-use Rattle.answer_records.specs.declared.chains.Chain.TheVariants.{Names, Hashes}
-use Rattle.answer_records.specs.Round.{IsCircle, IsRound}
-use Rattle.answer_records.proofs.Led.{chain_circle, chain_round}
-use Rattle.answer_records.proofs.ZoneLinks.{proofs_are_said}
+use Rattle.answer_zone_records.specs.MadeLinks.{IsChain}
+use Rattle.answer_zone_records.specs.declared.chains.Chain.TheVariants.{Names, Hashes}
+use Rattle.answer_zone_records.specs.Round.{IsCircle, IsRound}
+use Rattle.answer_zone_records.proofs.Led.{chain_circle, chain_round}
+use Rattle.answer_zone_records.proofs.ZoneLinks.{proofs_are_said}
 
 pub named_proofs : (hash : Hasher) (apex : Name) (mode : Mode) (rs : List HandedRr) (qs : List Name) (old new : List GroupView) (ls : Vec ChainLink Global) → IsChain hash apex mode rs (Names ls)
     → Adds old new (said_of apex (chain_ttl apex rs) qs ls.items) → Adds old new (proofs_of (served_of apex mode (hash_in hash mode) rs) qs)

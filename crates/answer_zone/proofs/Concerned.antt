@@ -9,12 +9,12 @@ use Rattle.definitions.specs.ZoneChain.{Mode, Nsec, Nsec3, optout_of}
 use Rattle.definitions.proofs.Members.{In, in_contained}
 use Rattle.definitions.proofs.VerdictCases.{verdict-exists}
 use Rattle.definitions.proofs.ZoneNames.{above_itself, apex_in_chain, low-low, same_lowered}
-use Rattle.denial_rules.specs.OwnFacts.{kept_ancestor, next_closer, spoken}
-use Rattle.denial_rules.specs.Truth.{concerned}
-use Rattle.denial_rules.proofs.HashChain.{concerns_name, concerns_star}
-use Rattle.denial_rules.proofs.KeptAncestor.{IsKeptParent, ancestor_lowered, kept_parent}
-use Rattle.denial_rules.proofs.NameFacts.{above_both, above_cases, names_same, strictly_at, strictly_unlike}
-use Rattle.denial_rules.proofs.ZoneCuts.{IsCut, cut_is, delegation_low, kept_exists, kept_inside, uncut_from}
+use Rattle.denial_laws.specs.OwnFacts.{kept_ancestor, next_closer, spoken}
+use Rattle.denial_laws.specs.Truth.{concerned}
+use Rattle.denial_laws.proofs.HashChain.{concerns_name, concerns_star}
+use Rattle.denial_laws.proofs.KeptAncestor.{IsKeptParent, ancestor_lowered, kept_parent}
+use Rattle.denial_laws.proofs.NameFacts.{above_both, above_cases, names_same, strictly_at, strictly_unlike}
+use Rattle.denial_laws.proofs.ZoneCuts.{IsCut, cut_is, delegation_low, kept_exists, kept_inside, uncut_from}
 use Rattle.answer_zone.proofs.Enclosers.{IsCloser, closer_there}
 
 to_in : {X : Type 0} (xs : List X) (x : X) → Contains xs x → In x xs
@@ -40,7 +40,7 @@ module _ (z : Zone) (there : Contains (owners z) (apex_of z)) (mode : Mode) (q :
       let k = concerns_name (apex_of z) p (low q) i a in
       to_in (concerned (apex_of z) (low q)) p (subst (Contains (concerned (apex_of z) (low q))) lp (subst (λ m. Contains (concerned (apex_of z) m) (low p)) (low-low q) k))
 
-  starred : (p : Name) → low p ≡ p → at_or_above (apex_of z) p ≡ true → at_or_above p (low q) ≡ true → Concerned (star_under p)
+  starred : (p : Name) → low p ≡ p → at_or_above (apex_of z) p ≡ true → strictly_above p (low q) ≡ true → Concerned (star_under p)
   starred p lp i a =
       let k = concerns_star (apex_of z) p (low q) i a in
       to_in (concerned (apex_of z) (low q)) (star_under p) (subst (Contains (concerned (apex_of z) (low q))) (ap star_under lp) (subst (λ m. Contains (concerned (apex_of z) m) (low (star_under p))) (low-low q) k))
@@ -67,7 +67,7 @@ module _ (z : Zone) (there : Contains (owners z) (apex_of z)) (mode : Mode) (q :
     ancestor = named e e_lowered e_inside e_above
 
     star : Concerned (star_under e)
-    star = starred e e_lowered e_inside e_above
+    star = starred e e_lowered e_inside parent.above
 
     closer : Concerned (next_closer e (low q))
     closer = go (low q) refl (low-low q)

@@ -8,11 +8,11 @@ use Rattle.definitions.specs.Name.{Name, at_or_above, labels_eq, low, same, stri
 use Rattle.definitions.specs.Zone.{Zone, kept}
 use Rattle.definitions.proofs.NameLaws.{labels_decide}
 use Rattle.definitions.proofs.ZoneNames.{above_itself}
-use Rattle.denial_rules.specs.OwnFacts.{kept_ancestor, next_closer}
-use Rattle.answer_records.specs.Near.{shows}
-use Rattle.answer_records.specs.declared.near.Neighbours.{Neighbours}
+use Rattle.denial_laws.specs.OwnFacts.{kept_ancestor, next_closer}
+use Rattle.answer_zone_records.specs.Near.{shows}
+use Rattle.answer_zone_records.specs.declared.near.Neighbours.{Neighbours}
 use Rattle.answer_zone.specs.Placed.{shown_ancestor}
-use Rattle.denial_rules.proofs.NameFacts.{strictly_at}
+use Rattle.denial_laws.proofs.NameFacts.{strictly_at}
 
 low-drop : (k : ℕ) (n : Name) → low (drop k n) ≡ drop k (low n)
 low-drop k n = sym (drop-map str_to_ascii_lowercase k n)

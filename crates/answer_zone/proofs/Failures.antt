@@ -5,9 +5,9 @@ use Rattle.std.specs.List.{Contains}
 use Rattle.definitions.specs.Name.{Name}
 use Rattle.definitions.specs.ZoneChain.{Mode, Nsec, Nsec3}
 use Rattle.definitions.proofs.Members.{In, contained, in_contained, in_map}
-use Rattle.denial_hashes.specs.declared.hasher.HashError.{HashError}
-use Rattle.denial_hashes.specs.declared.hasher.HashError.TheVariants.{Failed, Memory}
-use Rattle.answer_terms.specs.Hashing.{Hasher}
+use Rattle.denial_nsec3_hash.specs.declared.hasher.HashError.{HashError}
+use Rattle.denial_nsec3_hash.specs.declared.hasher.HashError.TheVariants.{Failed, Memory}
+use Rattle.answer_shared.specs.Hashing.{Hasher}
 use Rattle.answer_zone.specs.HashedZone.{FailsOn, IsHashFailure}
 
 to_in : {X : Type 0} (xs : List X) (x : X) → Contains xs x → In x xs

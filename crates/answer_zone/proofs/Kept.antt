@@ -6,8 +6,8 @@ use Rattle.definitions.specs.Name.{Name, low, labels_eq, strictly_above}
 use Rattle.definitions.specs.Zone.{Zone, has, is_delegation, is_live, cut, cut_above, kept_cut_above}
 use Rattle.definitions.proofs.NameLaws.{labels_decide}
 use Rattle.definitions.proofs.ZoneNames.{above_longer, same_lowered}
-use Rattle.denial_rules.proofs.NameFacts.{above_cases, strictly_at}
-use Rattle.denial_rules.proofs.ZoneCuts.{IsBelowKeptCut, IsCut, NoneStrictlyAbove, below_cut, cut_below, cut_from, cut_is, cut_live, delegation_low, kept_live, live_kept, live_uncut, tail_low, uncut}
+use Rattle.denial_laws.proofs.NameFacts.{above_cases, strictly_at}
+use Rattle.denial_laws.proofs.ZoneCuts.{IsBelowKeptCut, IsCut, NoneStrictlyAbove, below_cut, cut_below, cut_from, cut_is, cut_live, delegation_low, kept_live, live_kept, live_uncut, tail_low, uncut}
 use Rattle.answer_zone.specs.Cuts.{is_cut_off}
 
 and_true : (b : Bool) → (b && true) ≡ b

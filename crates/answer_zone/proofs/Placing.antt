@@ -10,17 +10,17 @@ use Rattle.definitions.specs.Zone.{Zone, apex_of, cut, cut_above, exists, has, i
 use Rattle.definitions.proofs.Members.{any_in, any_of}
 use Rattle.definitions.proofs.NameLaws.{labels_decide}
 use Rattle.definitions.proofs.ZoneNames.{above_itself, above_longer, lowered_above}
-use Rattle.denial_rules.specs.OwnFacts.{kept_ancestor}
-use Rattle.denial_rules.proofs.NameFacts.{above-low, above_trans, names_same, same_above, same_names, strictly_above_at, strictly_at}
-use Rattle.denial_rules.proofs.ZoneCuts.{IsCut, NoneStrictlyAbove, cut_is, tail_low, uncut, uncut_from}
+use Rattle.denial_laws.specs.OwnFacts.{kept_ancestor}
+use Rattle.denial_laws.proofs.NameFacts.{above-low, above_trans, names_same, same_above, same_names, strictly_above_at, strictly_at}
+use Rattle.denial_laws.proofs.ZoneCuts.{IsCut, NoneStrictlyAbove, cut_is, tail_low, uncut, uncut_from}
 use Rattle.names_labels.specs.Suffixes.{suffixes}
 use Rattle.messages.specs.HandedRr.{HandedRr}
-use Rattle.answer_terms.specs.Accepting.{zone_with}
-use Rattle.answer_terms.specs.ZoneView.{is_of}
-use Rattle.answer_terms.proofs.ZoneServed.{has_is}
-use Rattle.answer_records.specs.OwnedRecords.{is_of_type, owned_by}
-use Rattle.answer_records.specs.declared.owned.Cut.{Cut}
-use Rattle.answer_records.proofs.OwnedFacts.{all_owned, any_owned}
+use Rattle.answer_shared.specs.Accepting.{zone_with}
+use Rattle.answer_shared.specs.ZoneView.{is_of}
+use Rattle.answer_shared.proofs.ZoneServed.{has_is}
+use Rattle.answer_zone_records.specs.OwnedRecords.{is_of_type, owned_by}
+use Rattle.answer_zone_records.specs.declared.owned.Cut.{Cut}
+use Rattle.answer_zone_records.proofs.OwnedFacts.{all_owned, any_owned}
 use Rattle.answer_zone.specs.Cuts.{NoneRefers, Refers, is_parents}
 use Rattle.answer_zone.specs.Placed.{IsCutRecords}
 use Rattle.answer_zone.proofs.Cuts.{any_owner, exists_uncut}

@@ -3,7 +3,7 @@ use Rattle.std.proofs.Common.{◌≡◌, ℕ, Bool, List, [], ◌∷◌, refl, s
 use Rattle.definitions.specs.Name.{Name, low}
 use Rattle.definitions.specs.Zone.{Zone, NoName, Open, StarRecords}
 use Rattle.definitions.specs.ZoneChain.{Mode, Nsec, Nsec3, optout_of}
-use Rattle.denial_rules.specs.OwnFacts.{spoken}
+use Rattle.denial_laws.specs.OwnFacts.{spoken}
 use Rattle.answer_zone.specs.Around.{IsAround}
 use Rattle.answer_zone.specs.declared.zone.around.Around.{Around}
 

@@ -11,20 +11,20 @@ use Rattle.definitions.proofs.NameLaws.{labels_decide}
 use Rattle.definitions.proofs.VerdictCases.{said, verdict-alone, verdict-open, verdict-said}
 use Rattle.definitions.proofs.ZoneNames.{above_itself, apex_in_chain, kept-live, low-low}
 use Rattle.definitions.proofs.Members.{any_of, contained}
-use Rattle.denial_rules.specs.OwnFacts.{kept_ancestor}
-use Rattle.denial_rules.specs.Truth.{is_signed}
-use Rattle.denial_rules.proofs.ChainBits.{all_at}
-use Rattle.denial_rules.proofs.NameFacts.{above-low, above_trans, same_names, strictly_at, strictly_from}
-use Rattle.denial_rules.proofs.ZoneCuts.{IsBelowKeptCut, IsCut, IsEncloser, NoneAbove, below_cut, kept_exists, live_kept, ce_encloses, cut_is, cut_live, delegation_owner, has_owner, kept_inside, kept_lowered, owner_kept, uncut, uncut_live}
-use Rattle.denial_rules.proofs.Verdicts.{lacking, verdict_by_star, verdict_delegated, verdict_ds, verdict_existing, verdict_signed}
+use Rattle.denial_laws.specs.OwnFacts.{kept_ancestor}
+use Rattle.denial_laws.specs.Truth.{is_signed}
+use Rattle.denial_laws.proofs.ChainBits.{all_at}
+use Rattle.denial_laws.proofs.NameFacts.{above-low, above_trans, same_names, strictly_at, strictly_from}
+use Rattle.denial_laws.proofs.ZoneCuts.{IsBelowKeptCut, IsCut, IsEncloser, NoneAbove, below_cut, kept_exists, live_kept, ce_encloses, cut_is, cut_live, delegation_owner, has_owner, kept_inside, kept_lowered, owner_kept, uncut, uncut_live}
+use Rattle.denial_laws.proofs.Verdicts.{lacking, verdict_by_star, verdict_delegated, verdict_ds, verdict_existing, verdict_signed}
 use Rattle.messages.specs.HandedRr.{HandedRr}
 use Rattle.messages.proofs.Lists.{zip_append}
-use Rattle.answer_terms.specs.Accepting.{soas, zone_with}
-use Rattle.answer_terms.specs.GroupView.{GroupView, Presents}
-use Rattle.answer_terms.specs.Served.{Group, Served, answer_groups}
-use Rattle.answer_terms.specs.ZoneView.{is_of}
-use Rattle.answer_terms.proofs.ZoneData.{soa_there}
-use Rattle.answer_terms.proofs.ZoneServed.{has_is}
+use Rattle.answer_shared.specs.Accepting.{soas, zone_with}
+use Rattle.answer_shared.specs.GroupView.{GroupView, Presents}
+use Rattle.answer_shared.specs.Served.{Group, Served, answer_groups}
+use Rattle.answer_shared.specs.ZoneView.{is_of}
+use Rattle.answer_shared.proofs.ZoneData.{soa_there}
+use Rattle.answer_shared.proofs.ZoneServed.{has_is}
 use Rattle.answer_zone.specs.Cuts.{NoneRefers, Refers}
 use Rattle.answer_zone.specs.ZoneAnswers.{AnswersAs, Holds, answered, flags_for}
 use Rattle.answer_zone.specs.declared.zone.answers.ZoneAnswer.{ZoneAnswer}

@@ -2,7 +2,7 @@
 use Rattle.std.specs.Prelude.{◌≡◌, Bool}
 use Rattle.definitions.specs.Name.{Name, low}
 use Rattle.definitions.specs.Zone.{Zone, star_under}
-use Rattle.denial_rules.specs.OwnFacts.{kept_ancestor, next_closer}
+use Rattle.denial_laws.specs.OwnFacts.{kept_ancestor, next_closer}
 use Rattle.answer_zone.specs.declared.zone.around.Around.{Around}
 
 -- the closest kept ancestor of a name in lower case, the next closer name, and the wildcard under the ancestor, up to case

@@ -1,4 +1,5 @@
 pub mod HashedZone
+pub mod Contents
 pub mod Around
 pub mod Cuts
 pub mod ZoneAnswers

@@ -3,8 +3,8 @@ use Rattle.std.specs.Prelude.{◌≡◌, ℕ, false, List, ◌++◌, length}
 use Rattle.std.specs.List.{AllZip}
 use Rattle.definitions.specs.Name.{Name}
 use Rattle.definitions.specs.Zone.{Verdict, verdict, Records, NoName, StarRecords, Delegated}
-use Rattle.answer_terms.specs.GroupView.{Presents}
-use Rattle.answer_terms.specs.Served.{Group, Served, answer_groups}
+use Rattle.answer_shared.specs.GroupView.{Presents}
+use Rattle.answer_shared.specs.Served.{Group, Served, answer_groups}
 use Rattle.answer_zone.specs.declared.zone.answers.ZoneAnswer.{ZoneAnswer}
 
 -- an authoritative answer, one that no such name exists, or a referral (RFC 1035, 4.1.1)

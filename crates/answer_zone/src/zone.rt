@@ -1,36 +1,31 @@
 //! A zone's records in canonical order, and the RRsets of its answers. Keys are not known here.
-ghost use Rattle.std.specs.Prelude.{◌≡◌, true, map, IfOk, IfErr};
-ghost use Rattle.answer_terms.specs.Accepted.{IsAccepted};
-ghost use Rattle.answer_terms.specs.Accepting.{sorted_records};
-ghost use Rattle.answer_records.specs.Faults.{RefusesZone, zone_fault};
-ghost use Rattle.answer_terms.specs.ZoneView.{IsPublished};
-ghost use Rattle.answer_records.specs.ModeView.{mode_of};
-ghost use Rattle.messages.specs.HandedRr.{handed_of};
-ghost use Rattle.messages.specs.Handed.{AreHanded, IsHanded};
-ghost use Rattle.definitions.specs.Name.{IsName};
-ghost use Rattle.definitions.specs.ZoneChain.{optout_of};
-ghost use Rattle.answer_records.specs.KeptNames.{KeepsNames};
-ghost use Rattle.answer_records.specs.OwnedRecords.{IsInternet};
+ghost use Rattle.std.specs.Prelude.{◌≡◌, map, IfErr, IfOk, OnErr, OnOk};
 ghost use Rattle.std.specs.List.{AllByRecursion};
+ghost use Rattle.definitions.specs.Name.{IsName};
+ghost use Rattle.messages.specs.Handed.{AreHanded, IsHanded};
+ghost use Rattle.messages.specs.HandedRr.{handed_of};
+ghost use Rattle.answer_shared.specs.Accepted.{IsAccepted};
+ghost use Rattle.answer_shared.specs.Accepting.{sorted_records};
+ghost use Rattle.answer_shared.specs.ZoneView.{IsPublished};
+ghost use Rattle.answer_zone_records.specs.Faults.{RefusesZone, first_fault};
+ghost use Rattle.answer_zone_records.specs.ModeView.{mode_of};
 
-use answer_records::chains::{Chain, made_chain};
-use answer_records::fault::{Mode, ZoneFault};
-use answer_records::faults::first_fault;
-use answer_records::kept::kept_names;
-use answer_records::owned::chain_ttl;
-use denial_hashes::hasher::Nsec3Hasher;
-use denial_owners::error::SigningError;
-use denial_sorted::laws::zone_data_order_is_total;
+use crate::zone::contents::contents_of;
+use answer_zone_records::chains::Chain;
+use answer_zone_records::fault::{Mode, ZoneFault};
+use answer_zone_records::faults::first_fault;
+use denial_nsec3_hash::hasher::Nsec3Hasher;
 use denial_sorted::sorted::SortedRecords;
-use messages::names::{Name, ZoneName};
-use messages::record::{ZoneData, ZoneRecord, keeps};
+use messages::names::Name;
+use messages::record::{ZoneData, ZoneRecord};
 use plain::Ttl;
-use std::alloc::{AllocError, Global};
+use std::alloc::Global;
 use std::marker::Model;
 
 pub mod answers;
 mod around;
 mod asked;
+mod contents;
 mod lookups;
 mod open_answers;
 
@@ -54,13 +49,13 @@ impl<'h, H: Nsec3Hasher> Model for ZoneRecords<'h, H> {
     ghost use Rattle.std.specs.List.{AllByRecursion};
     ghost use Rattle.definitions.specs.ZoneChain.{optout_of};
     ghost use Rattle.messages.specs.HandedRr.{handed_of};
-    ghost use Rattle.answer_terms.specs.Served.{chain_ttl};
-    ghost use Rattle.answer_terms.specs.ZoneView.{IsPublished};
+    ghost use Rattle.answer_shared.specs.Served.{chain_ttl};
+    ghost use Rattle.answer_shared.specs.ZoneView.{IsPublished};
     ghost use Rattle.answer_zone.specs.HashedZone.{HashedZone};
-    ghost use Rattle.answer_records.specs.MadeLinks.{IsChain};
-    ghost use Rattle.answer_records.specs.ModeView.{mode_of};
-    ghost use Rattle.answer_records.specs.KeptNames.{KeepsNames};
-    ghost use Rattle.answer_records.specs.OwnedRecords.{IsInternet};
+    ghost use Rattle.answer_zone_records.specs.MadeLinks.{IsChain};
+    ghost use Rattle.answer_zone_records.specs.ModeView.{mode_of};
+    ghost use Rattle.answer_zone_records.specs.KeptNames.{KeepsNames};
+    ghost use Rattle.answer_zone_records.specs.OwnedRecords.{IsInternet};
 
     ghost Value = { HashedZone H };
 
@@ -107,35 +102,57 @@ impl<'h, H: Nsec3Hasher> ZoneRecords<'h, H> {
         ensures fault { let hash = H.hash_of hasher.now in IfErr result
             (RefusesZone hash apex (mode_of mode) limit (map handed_of records.items)) }
     {
-        apex.keeps();
-        all_keep(&records);
-        if let Some(fault) = first_fault(&apex, &mode, limit, &records) {
-            return Err(fault);
-        }
-        zone_data_order_is_total::<Vec<u8>, Name<Vec<u8>>>();
-        let Ok(sorted) = SortedRecords::from_vec(records) else {
-            return Err(ZoneFault::Memory);
-        };
-        let chain = match made_chain(alloc, &apex, &sorted, &mode, hasher) {
-            Ok(chain) => chain,
-            Err(error) => return Err(fault_of(error)),
-        };
-        let Ok(kept) = kept_under(alloc, &apex, &sorted, &mode) else {
-            return Err(ZoneFault::Memory);
-        };
-        let Ok(link_ttl) = chain_ttl(alloc, &apex, &sorted) else {
-            return Err(ZoneFault::Memory);
-        };
+        let contents = contents_of(alloc, &apex, records, &mode, limit, hasher)?;
         Ok(ZoneRecords {
             apex,
             mode,
             limit,
-            records: sorted,
-            kept,
-            chain,
-            link_ttl,
+            records: contents.records,
+            kept: contents.kept,
+            chain: contents.chain,
+            link_ttl: contents.link_ttl,
             hasher,
         })
+    }
+
+    /// Makes the zone anew of other records, with the same apex, chain, limit and hasher. It is refused as a new zone would
+    /// be, and then stays as it was.
+    pub fn replace_records(
+        &mut self,
+        alloc: Global,
+        records: Vec<ZoneRecord>,
+    ) -> Result<(), ZoneFault>
+        ensures replaced { OnOk result (self.new ≡ record self.old {
+          records = sorted_records (map handed_of records.items);
+        }) }
+        ensures accepted { let z = self.old in let rs = map handed_of records.items in
+            OnOk result (IsAccepted (H.hash_of z.hasher) z.apex z.mode z.limit rs) }
+        ensures handed { OnOk result (AllByRecursion IsHanded (map handed_of records.items)) }
+        ensures refused { OnErr result (self.new ≡ self.old) }
+        ensures fault { let z = self.old in let rs = map handed_of records.items in
+            IfErr result (RefusesZone (H.hash_of z.hasher) z.apex z.mode z.limit rs) }
+    {
+        let contents = contents_of(
+            alloc,
+            &self.apex,
+            records,
+            &self.mode,
+            self.limit,
+            self.hasher,
+        )?;
+        self.records = contents.records;
+        self.kept = contents.kept;
+        self.chain = contents.chain;
+        self.link_ttl = contents.link_ttl;
+        Ok(())
+    }
+
+    /// The first fault of a list by itself, for which it would not replace the zone's records.
+    pub fn fault_of_list(&self, records: &[ZoneRecord]) -> Option<ZoneFault>
+        ensures { let z = self.now in
+            result ≡ first_fault z.apex z.mode z.limit (map handed_of records.now) }
+    {
+        first_fault(&self.apex, &self.mode, self.limit, records)
     }
 
     /// The name of the zone.
@@ -158,52 +175,5 @@ impl<'h, H: Nsec3Hasher> ZoneRecords<'h, H> {
         ensures handed { AreHanded self.now.apex self.now.records }
     {
         let _ = &self.apex;
-    }
-}
-
-/// The owners that opt-out keeps, none without it.
-fn kept_under(
-    alloc: Global,
-    apex: &Name<Vec<u8>>,
-    records: &SortedRecords<Name<Vec<u8>>, ZoneData>,
-    mode: &Mode,
-) -> Result<Vec<Name<Vec<u8>>>, AllocError>
-    requires { AllByRecursion IsInternet records.now }
-    ensures { let rs = map handed_of records.now in
-        IfOk result (λ v. optout_of (mode_of mode.now) ≡ true → KeepsNames apex.now rs v.items) }
-{
-    if opts_out(mode) {
-        kept_names(alloc, apex, records)
-    } else {
-        Ok(Vec::new(alloc))
-    }
-}
-
-/// Whether delegations without DS are left out of the chain (RFC 5155, 6).
-fn opts_out(mode: &Mode) -> bool
-    ensures { result ≡ optout_of (mode_of mode.now) }
-{
-    match mode {
-        Mode::Nsec => false,
-        Mode::Nsec3 { opt_out, .. } => *opt_out,
-    }
-}
-
-/// What all records keep. It does nothing.
-fn all_keep(records: &[ZoneRecord])
-    ensures { AllByRecursion IsHanded (map handed_of records.now) }
-{
-    for record in records {
-        keeps(record);
-    }
-}
-
-/// A fault of the chain as one of the zone. Want of memory is none of the chain.
-fn fault_of(error: SigningError) -> ZoneFault
-    ensures { result ≡ zone_fault error }
-{
-    match error {
-        SigningError::Memory => ZoneFault::Memory,
-        error => ZoneFault::Chain(error),
     }
 }

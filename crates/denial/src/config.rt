@@ -1,7 +1,7 @@
 //! How a zone's gaps are to be denied.
 
-use denial_hashes::config::GenerateNsec3Config;
-use denial_nsec::config::GenerateNsecConfig;
+use denial_nsec_chain::config::GenerateNsecConfig;
+use denial_nsec3_hash::config::GenerateNsec3Config;
 use names_wire::octets::Octets;
 
 /// How a zone's gaps are to be denied.

@@ -7,7 +7,7 @@ ghost use Rattle.denial_bitmap.specs.Faults.{BreaksOff};
 use crate::builder::RtypeBitmapBuilder;
 use crate::error::RtypeBitmapError;
 use crate::window::{has_bit, split_window};
-use names_data::octets::FieldOctets;
+use names_rdata::octets::FieldOctets;
 use names_wire::octets::Octets;
 use numbers::rtype::Rtype;
 use std::alloc::Global;

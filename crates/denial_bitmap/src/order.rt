@@ -4,7 +4,7 @@ ghost use Rattle.std.specs.Ordering.{nat_cmp};
 ghost use Rattle.std.specs.Cmp.Lexicographic.{slice_cmp};
 
 use crate::bitmap::RtypeBitmap;
-use names_data::canonical::CanonicalOrd;
+use names_rdata::canonical::CanonicalOrd;
 use names_wire::octets::Octets;
 use std::cmp::Ordering;
 

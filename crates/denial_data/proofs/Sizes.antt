@@ -6,9 +6,9 @@ use Rattle.std.specs.Cmp.Lexicographic.{slice_cmp}
 use Rattle.definitions.specs.Name.{Name, IsLabel, wire, low}
 use Rattle.std.proofs.lemmas.Bool.{le-leb, lt-leb}
 use Rattle.definitions.specs.Reading.{Malformed}
-use Rattle.names_data.specs.Reading.{Part, if_short, limited}
+use Rattle.names_rdata.specs.Reading.{Part, if_short, limited}
 use Rattle.names_parsed.proofs.Parsing.{below_not}
-use Rattle.names_data.proofs.WireOrder.{no_root, wire_then}
+use Rattle.names_rdata.proofs.WireOrder.{no_root, wire_then}
 use Rattle.denial_fields.proofs.TwoParts.{then_assoc, parts_then}
 use Rattle.denial_data.specs.declared.proto_rrsig.Numbers.{Numbers}
 use Rattle.denial_data.specs.Protos.{numbers_octets, IsSignedOver}

@@ -5,7 +5,7 @@ use Rattle.std.proofs.lemmas.Nat.{from_be_bytes-to_be_bytes_2, from_be_bytes-to_
 use Rattle.definitions.specs.Name.{wire}
 use Rattle.definitions.proofs.SignedLaws.{wire_spells}
 use Rattle.denial_fields.specs.Counted.{counted}
-use Rattle.denial_links.specs.Hashed.{Nsec3paramData, nsec3param_octets}
+use Rattle.denial_nsec_data.specs.Hashed.{Nsec3paramData, nsec3param_octets}
 use Rattle.denial_data.specs.declared.proto_rrsig.Numbers.{Numbers}
 use Rattle.denial_data.specs.Protos.{numbers_octets}
 use Rattle.denial_data.specs.EqualData.{KeysAreTold, DigestsAreTold, NumbersFit, SignaturesAreTold, LinksAreTold, ParametersAreTold, HashedLinksAreTold}

@@ -3,16 +3,16 @@ use Rattle.std.proofs.Common.{◌≡◌, ◌≤◌, true, List, ℕ, ◌++◌, l
 use Rattle.definitions.specs.Name.{Name, IsName, wire}
 use Rattle.definitions.specs.Bitmap.{is_bitmap}
 use Rattle.definitions.specs.Dnskey.{Dnskey, Ds, dnskey_data}
-use Rattle.names_data.specs.Reading.{name_part, octets_part, rest_part, two_parts}
-use Rattle.names_data.specs.ReadBack.{IsReadBack}
-use Rattle.names_data.proofs.WrittenParts.{written_name, written_octets, written_two, written_data}
+use Rattle.names_rdata.specs.Reading.{name_part, octets_part, rest_part, two_parts}
+use Rattle.names_rdata.specs.ReadBack.{IsReadBack}
+use Rattle.names_rdata.proofs.WrittenParts.{written_name, written_octets, written_two, written_data}
 use Rattle.denial_fields.specs.Counted.{counted, counted_part}
 use Rattle.denial_fields.specs.Ended.{ended_part}
 use Rattle.denial_keys.specs.Keys.{dnskey_head, ds_head, ds_data}
-use Rattle.denial_links.specs.Bitmaps.{bitmap_part}
-use Rattle.denial_links.specs.Hashed.{Nsec3Data, Nsec3paramData, nsec3param_head, nsec3_octets, nsec3_part, nsec3param_octets, nsec3param_part, tail_part}
-use Rattle.denial_links.specs.Nsec.{nsec_part}
-use Rattle.denial_links.specs.NsecData.{NsecData, nsec_octets}
+use Rattle.denial_nsec_data.specs.Bitmaps.{bitmap_part}
+use Rattle.denial_nsec_data.specs.Hashed.{Nsec3Data, Nsec3paramData, nsec3param_head, nsec3_octets, nsec3_part, nsec3param_octets, nsec3param_part, tail_part}
+use Rattle.denial_nsec_data.specs.Nsec.{nsec_part}
+use Rattle.denial_nsec_data.specs.NsecData.{NsecData, nsec_octets}
 use Rattle.denial_data.specs.Protos.{numbers_octets}
 use Rattle.denial_data.specs.RrsigData.{RrsigData, rrsig_octets}
 use Rattle.denial_data.specs.Signatures.{rrsig_part, signer_part}

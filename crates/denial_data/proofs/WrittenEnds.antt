@@ -5,12 +5,12 @@ use Rattle.std.proofs.Math.Seq.{take-append_seam, drop-append_seam}
 use Rattle.std.proofs.lemmas.Bool.{le-leb, eq-eqb}
 use Rattle.definitions.specs.Bitmap.{is_bitmap}
 use Rattle.definitions.specs.Reading.{ReadFault}
-use Rattle.names_data.specs.Reading.{Part, octets_part, behind_octets, rest_part, two_parts, if_short, limited, ended}
-use Rattle.names_data.specs.ReadBack.{IsReadBack}
-use Rattle.names_data.proofs.Parts.{two_ok}
-use Rattle.names_data.proofs.WrittenParts.{Written, written_octets}
+use Rattle.names_rdata.specs.Reading.{Part, octets_part, behind_octets, rest_part, two_parts, if_short, limited, ended}
+use Rattle.names_rdata.specs.ReadBack.{IsReadBack}
+use Rattle.names_rdata.proofs.Parts.{two_ok}
+use Rattle.names_rdata.proofs.WrittenParts.{Written, written_octets}
 use Rattle.denial_fields.specs.Counted.{counted, counted_by, counted_part}
-use Rattle.denial_links.specs.Bitmaps.{bitmap_part, bitmap_fault}
+use Rattle.denial_nsec_data.specs.Bitmaps.{bitmap_part, bitmap_fault}
 
 -- the part is read as these octets where they stand at the end of the data
 abbrev pub WrittenLast : Part → List ℕ → Type 0

@@ -3,8 +3,8 @@ use Rattle.std.specs.Prelude.{◌≡◌, ◌<◌}
 use Rattle.definitions.specs.Name.{Name, IsName}
 use Rattle.definitions.specs.Dnskey.{Dnskey, Ds, dnskey_data}
 use Rattle.denial_keys.specs.Keys.{ds_data}
-use Rattle.denial_links.specs.Hashed.{Nsec3Data, Nsec3paramData, nsec3_octets, nsec3param_octets}
-use Rattle.denial_links.specs.NsecData.{NsecData, nsec_octets}
+use Rattle.denial_nsec_data.specs.Hashed.{Nsec3Data, Nsec3paramData, nsec3_octets, nsec3param_octets}
+use Rattle.denial_nsec_data.specs.NsecData.{NsecData, nsec_octets}
 use Rattle.denial_data.specs.declared.proto_rrsig.Numbers.{Numbers}
 use Rattle.denial_data.specs.RrsigData.{RrsigData, rrsig_octets}
 

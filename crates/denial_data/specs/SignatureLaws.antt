@@ -1,7 +1,7 @@
 -- Lower case changes no length of RRSIG data.
 use Rattle.std.proofs.Common.{◌≡◌, ◌++◌, length, length-append, arith}
 use Rattle.definitions.specs.Name.{Name, wire, low}
-use Rattle.names_data.proofs.Lengths.{lower_as_long}
+use Rattle.names_rdata.proofs.Lengths.{lower_as_long}
 use Rattle.denial_data.specs.Protos.{numbers_octets}
 use Rattle.denial_data.specs.RrsigData.{RrsigData, rrsig_octets, rrsig_canonical}
 

@@ -1,8 +1,8 @@
 -- RRSIG data, read in a message and as text (RFC 4034, 3.1 and 3.2).
 use Rattle.std.specs.Prelude.{ℕ, List, ◌∷◌, ◌++◌, Option, Some, None}
-use Rattle.names_data.specs.Reading.{Part, octets_part, name_part, rest_part, two_parts, limited}
+use Rattle.names_rdata.specs.Reading.{Part, octets_part, name_part, rest_part, two_parts, limited}
 use Rattle.denial_fields.specs.Fields.{base64_field}
-use Rattle.denial_links.specs.Nsec.{named_text}
+use Rattle.denial_nsec_data.specs.Nsec.{named_text}
 use Rattle.denial_data.specs.NumbersText.{numbers_text}
 use Rattle.denial_data.specs.RrsigData.{RrsigData}
 

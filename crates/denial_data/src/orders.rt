@@ -6,10 +6,10 @@ ghost use Rattle.std.specs.Cmp.{IsTotalOrder};
 use crate::rrsig::Rrsig;
 use denial_keys::dnskey::Dnskey;
 use denial_keys::ds::Ds;
-use denial_links::nsec::Nsec;
-use denial_links::nsec3::Nsec3;
-use denial_links::nsec3param::Nsec3param;
-use names_data::canonical::CanonicalOrd;
+use denial_nsec_data::nsec::Nsec;
+use denial_nsec_data::nsec3::Nsec3;
+use denial_nsec_data::nsec3param::Nsec3param;
+use names_rdata::canonical::CanonicalOrd;
 use names_traits::to_name::ToName;
 use names_wire::octets::Octets;
 

@@ -3,8 +3,8 @@ use Rattle.std.proofs.Common.{◌≡◌, ℕ, Bool, true, false, List, length, O
 use Rattle.definitions.specs.Reading.{ReadFault, Malformed}
 use Rattle.names_parser.specs.Reader.{Reader}
 use Rattle.names_parser.specs.declared.error.ParseError.{ParseError}
-use Rattle.names_data.specs.Reading.{Part, behind_octets, followed_by, two_parts, rest_part, if_short, limited, data_at, ReadsPart, ReadsData}
-use Rattle.names_data.proofs.Parts.{reads_whole}
+use Rattle.names_rdata.specs.Reading.{Part, behind_octets, followed_by, two_parts, rest_part, if_short, limited, data_at, ReadsPart, ReadsData}
+use Rattle.names_rdata.proofs.Parts.{reads_whole}
 
 -- what is read goes to the end
 abbrev pub EndsThere : Part → Type 0

@@ -5,7 +5,7 @@ use Rattle.std.specs.List.{AllByRecursion}
 use Rattle.std.proofs.lemmas.Bool.{and_parts, cases_lt, eqb-true}
 use Rattle.hex.specs.Hex.{decode_of, decode_pairs, encode_with, encode_lower, lower_digits, IsBytes}
 use Rattle.hex.proofs.HexLemmas.{decode_of-encode_lower}
-use Rattle.names_data.specs.Unknown.{hex, hex_digit}
+use Rattle.names_rdata.specs.Unknown.{hex, hex_digit}
 use Rattle.denial_fields.specs.Texts.{salt_text, salt_digits}
 use Rattle.denial_fields.specs.TextLaws.{SaltsAreReadBack}
 use Rattle.denial_fields.specs.declared.error.Nsec3SaltFromStrError.TheVariants.{DecodeError, Nsec3SaltError, Memory}

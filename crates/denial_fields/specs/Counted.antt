@@ -1,7 +1,7 @@
 -- Octets behind their number in one octet (RFC 5155, 3.2).
 use Rattle.std.specs.Prelude.{ℕ, List, ◌∷◌, length, Result, Ok, Err, slice_index}
 use Rattle.definitions.specs.Reading.{ReadFault}
-use Rattle.names_data.specs.Reading.{Part, octets_part, behind_octets}
+use Rattle.names_rdata.specs.Reading.{Part, octets_part, behind_octets}
 
 abbrev pub counted : List ℕ → List ℕ
 counted octets = length octets ∷ octets

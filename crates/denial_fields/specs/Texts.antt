@@ -3,7 +3,7 @@ use Rattle.std.specs.Prelude.{◌≡◌, ℕ, ◌<◌, ◌≤◌, List, [], ◌�
 use Rattle.std.specs.Str.{bytes_eq, str_to_ascii_lowercase}
 use Rattle.hex.specs.Hex.{decode_of}
 use Rattle.definitions.specs.Base32hex.{base32hex}
-use Rattle.names_data.specs.Unknown.{hex}
+use Rattle.names_rdata.specs.Unknown.{hex}
 use Rattle.numbers.specs.Refusing.{RefusedText}
 use Rattle.denial_fields.specs.declared.error.Nsec3SaltFromStrError.{Nsec3SaltFromStrError}
 use Rattle.denial_fields.specs.declared.error.Nsec3SaltFromStrError.TheVariants as salt

@@ -1,13 +1,13 @@
 //! Octets behind their number in one octet, as record data have salts and hashes (RFC 5155, 3.2).
 
 ghost use Rattle.std.specs.Prelude.{◌≡◌, ◌≤◌, ◌++◌, length, take, IfOk, OnOk, OnErr};
-ghost use Rattle.names_data.specs.Reading.{ReadsPart};
+ghost use Rattle.names_rdata.specs.Reading.{ReadsPart};
 ghost use Rattle.denial_fields.specs.Counted.{counted, counted_part};
 
-use names_data::composer::or_undone;
-use names_data::reading::parse_array;
 use names_parser::error::ParseError;
 use names_parser::parser::Parser;
+use names_rdata::composer::or_undone;
+use names_rdata::reading::parse_array;
 use names_wire::builder::{OctetsBuilder, ShortBuf};
 
 /// Reads octets behind their number. A refused call leaves the parser where it was.

@@ -4,14 +4,14 @@ ghost use Rattle.std.specs.Prelude.{◌≡◌, ◌++◌, length, take, OnOk, OnE
 ghost use Rattle.std.specs.Int.{w16, w32, to_be_bytes};
 ghost use Rattle.std.specs.Ordering.{nat_cmp};
 ghost use Rattle.std.specs.Cmp.Lexicographic.{slice_cmp};
-ghost use Rattle.names_data.specs.Reading.{ReadsPart, ReadsData, data_at};
+ghost use Rattle.names_rdata.specs.Reading.{ReadsPart, ReadsData, data_at};
 ghost use Rattle.denial_fields.specs.Ended.{ended_part};
 
-use names_data::composer::or_undone;
-use names_data::long::LongRecordData;
-use names_data::reading::{closed, parse_array, parse_rest};
 use names_parser::error::ParseError;
 use names_parser::parser::Parser;
+use names_rdata::composer::or_undone;
+use names_rdata::long::LongRecordData;
+use names_rdata::reading::{closed, parse_array, parse_rest};
 use names_wire::builder::{OctetsBuilder, ShortBuf};
 use std::cmp::Ordering;
 

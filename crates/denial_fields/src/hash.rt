@@ -9,8 +9,8 @@ ghost use Rattle.denial_fields.specs.Texts.{ReadsHash};
 
 use crate::counted::compose_counted;
 use crate::error::{OwnerHashError, OwnerHashFromStrError};
-use names_data::canonical::CanonicalOrd;
-use names_data::octets::FieldOctets;
+use names_rdata::canonical::CanonicalOrd;
+use names_rdata::octets::FieldOctets;
 use names_wire::builder::{OctetsBuilder, ShortBuf};
 use names_wire::octets::Octets;
 use numbers::base32hex::digits::Base32hexDigits;

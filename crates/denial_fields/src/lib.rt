@@ -1,4 +1,4 @@
-//! Fields of DNSSEC record data: times of signatures, salts and hashes.
+//! Fields of DNSSEC record data: moments, times of signatures, salts and hashes.
 #![tactic(auto)]
 
 pub mod counted;
@@ -9,3 +9,4 @@ pub mod hash;
 pub mod laws;
 pub mod salt;
 pub mod timestamp;
+pub mod unix_time;

@@ -3,18 +3,18 @@
 ghost use Rattle.std.specs.Prelude.{◌≡◌, ◌↔◌, ◌≤◌, ◌++◌, [], length, Some, IsOk, IfOk, IfErr, OnOk, OnErr};
 ghost use Rattle.std.specs.Ordering.{nat_cmp};
 ghost use Rattle.std.specs.Cmp.Lexicographic.{slice_cmp};
-ghost use Rattle.names_data.specs.Reading.{ReadsPart};
+ghost use Rattle.names_rdata.specs.Reading.{ReadsPart};
 ghost use Rattle.denial_fields.specs.Counted.{counted, counted_part};
 ghost use Rattle.denial_fields.specs.Texts.{salt_text, ReadsSalt};
 
 use crate::counted::{compose_counted, parse_counted};
 use crate::error::{Nsec3SaltError, Nsec3SaltFromStrError};
 use hex::FromHexError;
-use names_data::canonical::CanonicalOrd;
-use names_data::digits::HexDigits;
-use names_data::octets::FieldOctets;
 use names_parser::error::ParseError;
 use names_parser::parser::Parser;
+use names_rdata::canonical::CanonicalOrd;
+use names_rdata::digits::HexDigits;
+use names_rdata::octets::FieldOctets;
 use names_wire::builder::{OctetsBuilder, ShortBuf};
 use names_wire::octets::Octets;
 use std::alloc::Global;

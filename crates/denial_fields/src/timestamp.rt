@@ -10,10 +10,10 @@ ghost use Rattle.names_parser.specs.Serials.{serial_cmp};
 ghost use Rattle.denial_fields.specs.Times.{IsTimeNear};
 
 use crate::error::IllegalSignatureTime;
-use names_data::canonical::CanonicalOrd;
 use names_parser::error::ParseError;
 use names_parser::parser::Parser;
 use names_parser::serial::Serial;
+use names_rdata::canonical::CanonicalOrd;
 use names_wire::builder::{OctetsBuilder, ShortBuf};
 use std::cmp::Ordering;
 use std::fmt;

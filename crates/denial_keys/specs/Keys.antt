@@ -3,7 +3,7 @@ use Rattle.std.specs.Prelude.{ℕ, List, [], ◌∷◌, ◌++◌}
 use Rattle.std.specs.Int.{w16, to_be_bytes}
 use Rattle.std.specs.Fmt.{decimal}
 use Rattle.definitions.specs.Dnskey.{Dnskey, Ds}
-use Rattle.names_data.specs.Unknown.{hex_field}
+use Rattle.names_rdata.specs.Unknown.{hex_field}
 use Rattle.denial_fields.specs.Fields.{base64_field}
 
 -- of these fields

@@ -4,21 +4,21 @@ ghost use Rattle.std.specs.Prelude.{◌≡◌, ◌↔◌, ◌+◌, ◌≤◌, �
 ghost use Rattle.std.specs.Ordering.{nat_cmp};
 ghost use Rattle.std.specs.Cmp.Lexicographic.{slice_cmp};
 ghost use Rattle.definitions.specs.Dnskey.{dnskey_data, key_tag};
-ghost use Rattle.names_data.specs.Reading.{ReadsData, data_at};
+ghost use Rattle.names_rdata.specs.Reading.{ReadsData, data_at};
 ghost use Rattle.denial_fields.specs.Ended.{ended_part};
 ghost use Rattle.denial_keys.specs.Keys.{dnskey_with, dnskey_head, dnskey_text};
 
 use crate::key_tag::{rsamd5_tag, sum_of, tag_of_sum};
 use denial_fields::digits::Base64Field;
 use denial_fields::ended::{cmp_ended, compose_ended, number_16, parse_ended};
-use names_data::canonical::CanonicalOrd;
-use names_data::composer::Composer;
-use names_data::data::{ComposeRecordData, ParseRecordData, RecordData};
-use names_data::long::LongRecordData;
-use names_data::octets::FieldOctets;
-use names_data::rtype::Rtype;
 use names_parser::error::ParseError;
 use names_parser::parser::Parser;
+use names_rdata::canonical::CanonicalOrd;
+use names_rdata::composer::Composer;
+use names_rdata::data::{ComposeRecordData, ParseRecordData, RecordData};
+use names_rdata::long::LongRecordData;
+use names_rdata::octets::FieldOctets;
+use names_rdata::rtype::Rtype;
 use names_wire::builder::ShortBuf;
 use names_wire::octets::Octets;
 use numbers::algorithm::SecurityAlgorithm;

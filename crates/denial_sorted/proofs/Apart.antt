@@ -11,9 +11,9 @@ use Rattle.definitions.specs.Name.{Name}
 use Rattle.plain.specs.Records.{record_canonical_cmp}
 use Rattle.plain.specs.declared.record.Record.{Record}
 use Rattle.denial_sorted.specs.declared.starts.Kin.TheVariants.{Before, Behind, Neither}
-use Rattle.denial_groups.specs.Groups.{of_one_owner}
+use Rattle.denial_rrsets.specs.Groups.{of_one_owner}
 use Rattle.denial_sorted.specs.Kin.{IsApartAt, are_kin, leads}
-use Rattle.denial_groups.specs.Starts.{follows}
+use Rattle.denial_rrsets.specs.Starts.{follows}
 use Rattle.denial_sorted.proofs.Parted.{still_apart}
 
 module _ {N D : Type 0} (name : N → Name) (rtype : D → ℕ) (by_data : D → D → Ordering) where

@@ -8,7 +8,7 @@ use Rattle.denial_sorted.specs.declared.search.Span.{Span}
 use Rattle.denial_sorted.specs.Owned.{is_owned}
 use Rattle.denial_sorted.specs.Removing.{is_asked, is_wanted}
 use Rattle.denial_sorted.specs.Spans.{HoldsAll, IsSpan}
-use Rattle.denial_groups.proofs.Grouped.{all_more}
+use Rattle.denial_rrsets.proofs.Grouped.{all_more}
 use Rattle.denial_sorted.proofs.Spanned.{all_dropped}
 
 in_front : {A : Type 0} (P : A → Type 0) (s : ℕ) (xs : List A) → AllByRecursion P (take s xs) → (k : ℕ) (d : A) → k < s → k < length xs → P (get_or xs k d)

@@ -2,7 +2,7 @@
 use Rattle.std.proofs.Common.{◌≡◌, ℕ, ◌+◌, ◌≤◌, Bool, true, false, cond, if◌then◌else◌, List, [], ◌∷◌, length, filter, refl, ap, Option, Some, None, arith}
 use Rattle.std.specs.Cmp.{IsEquivalence}
 use Rattle.denial_sorted.specs.Removing.{without_first}
-use Rattle.denial_groups.specs.Starts.{follows, starts_behind, starts_in}
+use Rattle.denial_rrsets.specs.Starts.{follows, starts_behind, starts_in}
 
 abbrev step : Bool → ℕ
 step true = 0

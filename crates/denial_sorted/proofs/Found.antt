@@ -8,12 +8,12 @@ use Rattle.definitions.specs.Name.{Name, same}
 use Rattle.names_labels.specs.Laws.{same_equivalence}
 use Rattle.plain.specs.declared.record.Record.{Record}
 use Rattle.denial_sorted.specs.declared.search.Span.{Span}
-use Rattle.denial_groups.specs.Groups.{found_set, groups, is_at, is_of_type, of_one_set, rrset_of}
+use Rattle.denial_rrsets.specs.Groups.{found_set, groups, is_at, is_of_type, of_one_set, rrset_of}
 use Rattle.denial_sorted.specs.Owned.{is_owned}
 use Rattle.denial_sorted.specs.Spans.{IsSpan}
 use Rattle.denial_sorted.proofs.Asked.{all_front}
 use Rattle.denial_sorted.proofs.Spanned.{all_dropped}
-use Rattle.denial_groups.proofs.Started.{first_is, more}
+use Rattle.denial_rrsets.proofs.Started.{first_is, more}
 
 module _ {N D : Type 0} (rtype : D → ℕ) (alike : Record N D → Record N D → Bool) (asked : Record N D → Bool) (same : (a b : Record N D) → alike a b ≡ true → asked a ≡ asked b) where
   abbrev found_from : List (Record N D) → Option (Option (List (Record N D)))

@@ -7,8 +7,8 @@ use Rattle.std.specs.List.{AllByRecursion, slice_get}
 use Rattle.std.specs.List.Sorted.{IsPartitionedBy, IsPartitionPoint}
 use Rattle.denial_sorted.specs.declared.starts.Kin.TheVariants.{Before, Behind, Neither}
 use Rattle.denial_sorted.specs.Kin.{IsApartAt, are_kin, before_at, joins, leads, moved}
-use Rattle.denial_groups.specs.Starts.{follows, starts_behind, starts_in}
-use Rattle.denial_groups.proofs.Grouped.{all_more}
+use Rattle.denial_rrsets.specs.Starts.{follows, starts_behind, starts_in}
+use Rattle.denial_rrsets.proofs.Grouped.{all_more}
 
 -- the last of some items, or else what stands before them
 abbrev last_of : {A : Type 0} → Option A → List A → Option A

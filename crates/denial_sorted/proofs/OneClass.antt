@@ -11,7 +11,7 @@ use Rattle.std.specs.Ordering.{nat_cmp, ordering_then}
 use Rattle.definitions.specs.Name.{Name, name_cmp}
 use Rattle.plain.specs.Records.{record_canonical_cmp}
 use Rattle.plain.specs.declared.record.Record.{Record}
-use Rattle.denial_groups.proofs.Grouped.{all_more}
+use Rattle.denial_rrsets.proofs.Grouped.{all_more}
 
 module _ {N D : Type 0} (name : N → Name) (rtype : D → ℕ) (by_data : D → D → Ordering) where
   abbrev by : Record N D → Record N D → Ordering

@@ -12,11 +12,11 @@ use Rattle.definitions.specs.Name.{Name, name_cmp, same}
 use Rattle.names_labels.specs.Laws.{name_cmp_ties, name_cmp_total}
 use Rattle.plain.specs.Records.{record_canonical_cmp}
 use Rattle.plain.specs.declared.record.Record.{Record}
-use Rattle.denial_groups.specs.GroupLaws.{one_owner_equivalence, one_set_equivalence}
-use Rattle.denial_groups.specs.Groups.{groups, of_one_owner, of_one_set}
-use Rattle.denial_groups.specs.Partitions.{AreApart, AreUnlike, IsPartition}
-use Rattle.denial_groups.proofs.Grouped.{Headed, all_groups, headed}
-use Rattle.denial_groups.proofs.Grouped.{all_more}
+use Rattle.denial_rrsets.specs.GroupLaws.{one_owner_equivalence, one_set_equivalence}
+use Rattle.denial_rrsets.specs.Groups.{groups, of_one_owner, of_one_set}
+use Rattle.denial_rrsets.specs.Partitions.{AreApart, AreUnlike, IsPartition}
+use Rattle.denial_rrsets.proofs.Grouped.{Headed, all_groups, headed}
+use Rattle.denial_rrsets.proofs.Grouped.{all_more}
 
 all_parted : {A : Type 0} (P : A → Type 0) (xs ys : List A) → AllByRecursion P (xs ++ ys) → AllByRecursion P xs × AllByRecursion P ys
 all_parted P [] ys h = (tt, h)

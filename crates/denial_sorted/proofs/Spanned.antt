@@ -15,16 +15,16 @@ use Rattle.names_labels.specs.Laws.{name_cmp_ties, name_cmp_total, same_equivale
 use Rattle.plain.specs.Records.{record_canonical_cmp}
 use Rattle.plain.specs.declared.record.Record.{Record}
 use Rattle.denial_sorted.specs.declared.search.Span.{Span}
-use Rattle.denial_groups.specs.GroupLaws.{one_owner_equivalence}
-use Rattle.denial_groups.specs.Groups.{IsGroup, groups, of_one_owner}
+use Rattle.denial_rrsets.specs.GroupLaws.{one_owner_equivalence}
+use Rattle.denial_rrsets.specs.Groups.{IsGroup, groups, of_one_owner}
 use Rattle.denial_sorted.specs.Owned.{is_before, is_owned}
-use Rattle.denial_groups.specs.Partitions.{AreApart, AreUnlike}
+use Rattle.denial_rrsets.specs.Partitions.{AreApart, AreUnlike}
 use Rattle.denial_sorted.specs.Spans.{IsSpan}
-use Rattle.denial_groups.specs.Starts.{later_starts, starts_in}
+use Rattle.denial_rrsets.specs.Starts.{later_starts, starts_in}
 use Rattle.denial_sorted.proofs.Parted.{owner_ties, owner_weaker, owners_parted, joined}
-use Rattle.denial_groups.proofs.Grouped.{all_more}
+use Rattle.denial_rrsets.proofs.Grouped.{all_more}
 use Rattle.denial_sorted.proofs.Putting.{turned}
-use Rattle.denial_groups.proofs.Started.{few_more, first_is, more, next_is, start_at}
+use Rattle.denial_rrsets.proofs.Started.{few_more, first_is, more, next_is, start_at}
 
 pub all_taken : {A : Type 0} (P : A → Type 0) (n k r : ℕ) (xs : List A) → n ≡ k + r → AllByRecursion P (take k xs) → AllByRecursion P (take r (drop k xs)) → AllByRecursion P (take n xs)
 all_taken P n zero r xs e f h = let e' : r ≡ n = omega arith in let Q : ℕ → Type 0 = λ m. AllByRecursion P (take m xs) in subst Q e' h

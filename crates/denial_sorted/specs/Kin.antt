@@ -4,7 +4,7 @@ use Rattle.std.specs.declared.option.Option.TheVariants.{None, Some}
 use Rattle.std.specs.List.{slice_get}
 use Rattle.denial_sorted.specs.declared.starts.Kin.{Kin}
 use Rattle.denial_sorted.specs.declared.starts.Kin.TheVariants.{Before, Behind, Neither}
-use Rattle.denial_groups.specs.Starts.{follows}
+use Rattle.denial_rrsets.specs.Starts.{follows}
 
 -- the item before a place, if there is one
 abbrev pub before_at : {A : Type 0} → List A → ℕ → Option A

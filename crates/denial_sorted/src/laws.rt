@@ -7,9 +7,9 @@ ghost use Rattle.plain.specs.Records.{record_canonical_cmp};
 ghost use Rattle.plain.specs.declared.record.Record.{Record};
 ghost use Rattle.denial_sorted.specs.Adding.{AddsFirsts};
 
-use names_data::canonical::CanonicalOrd;
-use names_data::data::RecordData;
-use names_data::unknown::UnknownRecordData;
+use names_rdata::canonical::CanonicalOrd;
+use names_rdata::data::RecordData;
+use names_rdata::unknown::UnknownRecordData;
 use names_traits::to_name::ToName;
 use names_wire::octets::Octets;
 use plain::zone_data::ZoneRecordData;

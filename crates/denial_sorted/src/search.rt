@@ -4,13 +4,13 @@ ghost use Rattle.std.specs.Prelude.{◌≡◌, ◌<◌, ◌≤◌, slice_index_o
 ghost use Rattle.std.specs.List.{AllByRecursion};
 ghost use Rattle.std.specs.List.Sorted.{IsStrictlySortedBy};
 ghost use Rattle.plain.specs.Records.{record_canonical_cmp};
-ghost use Rattle.denial_groups.specs.Groups.{of_one_owner};
+ghost use Rattle.denial_rrsets.specs.Groups.{of_one_owner};
 ghost use Rattle.denial_sorted.specs.Owned.{is_before, is_owned};
 ghost use Rattle.denial_sorted.specs.Spans.{AreBounds, IsParting, IsSpan};
-ghost use Rattle.denial_groups.specs.Starts.{starts_in};
+ghost use Rattle.denial_rrsets.specs.Starts.{starts_in};
 
-use names_data::canonical::CanonicalOrd;
-use names_data::data::RecordData;
+use names_rdata::canonical::CanonicalOrd;
+use names_rdata::data::RecordData;
 use names_traits::to_name::ToName;
 use plain::Class;
 use plain::record::Record;

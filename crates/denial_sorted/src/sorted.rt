@@ -10,18 +10,18 @@ ghost use Rattle.definitions.specs.Sorting.{put_by, put_all_by, sort_by};
 ghost use Rattle.plain.specs.Records.{record_canonical_cmp};
 ghost use Rattle.plain.specs.declared.record.Record.{Record};
 ghost use Rattle.std.specs.Slice.Iter.{iter_rest};
-ghost use Rattle.denial_groups.specs.Groups.{of_one_owner};
+ghost use Rattle.denial_rrsets.specs.Groups.{of_one_owner};
 ghost use Rattle.denial_sorted.specs.Inserting.{Inserts};
 ghost use Rattle.denial_sorted.specs.Kin.{IsApartAt};
 ghost use Rattle.denial_sorted.specs.Places.{Places};
-ghost use Rattle.denial_groups.specs.Starts.{starts_in};
+ghost use Rattle.denial_rrsets.specs.Starts.{starts_in};
 
 use crate::keys::near_order;
 use crate::sorter::{DefaultSorter, Sorter};
 use crate::starts::{count_before, fill, kin_at, move_behind, starts_of};
-use denial_groups::runs::ByOwner;
-use names_data::canonical::CanonicalOrd;
-use names_data::data::RecordData;
+use denial_rrsets::runs::ByOwner;
+use names_rdata::canonical::CanonicalOrd;
+use names_rdata::data::RecordData;
 use names_traits::to_name::ToName;
 use plain::record::Record;
 use std::alloc::{AllocError, Global};
@@ -55,8 +55,8 @@ impl<N: ToName, D: RecordData + CanonicalOrd, S> Model for SortedRecords<N, D, S
     ghost use Rattle.std.specs.List.Sorted.{IsStrictlySortedBy};
     ghost use Rattle.plain.specs.declared.record.Record.{Record};
     ghost use Rattle.plain.specs.Records.{record_canonical_cmp};
-    ghost use Rattle.denial_groups.specs.Groups.{of_one_owner};
-    ghost use Rattle.denial_groups.specs.Starts.{starts_in};
+    ghost use Rattle.denial_rrsets.specs.Groups.{of_one_owner};
+    ghost use Rattle.denial_rrsets.specs.Starts.{starts_in};
 
     ghost Value = { List (Record N D) };
 

@@ -4,9 +4,9 @@ ghost use Rattle.std.specs.Prelude.{◌≡◌, ◌++◌, ◌∷◌, [], ◌+◌,
 ghost use Rattle.std.specs.List.{AllByRecursion};
 ghost use Rattle.std.specs.List.Sorted.{IsPartitionPoint, IsPartitionedBy};
 ghost use Rattle.denial_sorted.specs.Kin.{joins, moved};
-ghost use Rattle.denial_groups.specs.Starts.{starts_in};
+ghost use Rattle.denial_rrsets.specs.Starts.{starts_in};
 
-use denial_groups::runs::Alike;
+use denial_rrsets::runs::Alike;
 use std::alloc::{AllocError, Global};
 
 /// The places at which a group begins.

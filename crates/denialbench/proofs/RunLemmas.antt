@@ -2,17 +2,17 @@
 use Rattle.std.proofs.Common.{◌≡◌, ℕ, List, [], ◌∷◌, refl, inl, inr}
 use Rattle.std.specs.Prelude.{map, codes, ◌++◌}
 use Rattle.std.specs.List.{flat_map}
-use Rattle.nsec3_sha1.specs.Iterated.{answered}
+use Rattle.denial_nsec3_sha1.specs.Iterated.{answered}
 use Rattle.messages.specs.HandedRr.{HandedRr}
-use Rattle.answer_records.specs.Faults.{IsFault}
-use Rattle.answer_records.specs.declared.fault.ZoneFault.{ZoneFault}
-use Rattle.answer_life.specs.Simulations.{IsSimulation}
+use Rattle.answer_zone_records.specs.Faults.{IsFault}
+use Rattle.answer_zone_records.specs.declared.fault.ZoneFault.{ZoneFault}
+use Rattle.answer_laws.specs.Simulations.{IsSimulation}
 use Rattle.answer_events.specs.declared.event.Event.{Event}
-use Rattle.answer_life.specs.declared.outcome.Outcome.{Outcome}
-use Rattle.session_lines.specs.Grammar.{ZoneLine}
-use Rattle.session_lines.specs.Readings.{event_view}
-use Rattle.bench.specs.Names.{zone_fault_name}
-use Rattle.bench.specs.Printed.{outcome_text}
+use Rattle.answer_laws.specs.declared.outcome.Outcome.{Outcome}
+use Rattle.denialbench_session.specs.Grammar.{ZoneLine}
+use Rattle.denialbench_session.specs.Readings.{event_view}
+use Rattle.denialbench_print.specs.Names.{zone_fault_name}
+use Rattle.denialbench_print.specs.Printed.{outcome_text}
 use Rattle.denialbench.specs.Responses.{PrintsSession, bench}
 
 pub outcomes_printed : (zone : ZoneLine) (records : List HandedRr) (acted : List Event) (outcomes : List Outcome) → IsSimulation (bench zone records) records acted outcomes

@@ -6,19 +6,19 @@ use Rattle.std.specs.Io.KnownBytes.{Appends}
 use Rattle.sha2.specs.Sha256.{sha256}
 use Rattle.definitions.specs.Dnskey.{Dnskey, dnskey_data}
 use Rattle.messages.specs.HandedRr.{HandedRr}
-use Rattle.nsec3_sha1.specs.Iterated.{answered}
-use Rattle.answer_terms.specs.Accepting.{sorted_records}
-use Rattle.answer_records.specs.Faults.{IsFault}
-use Rattle.answer_life.specs.Simulations.{IsSimulation}
+use Rattle.denial_nsec3_sha1.specs.Iterated.{answered}
+use Rattle.answer_shared.specs.Accepting.{sorted_records}
+use Rattle.answer_zone_records.specs.Faults.{IsFault}
+use Rattle.answer_laws.specs.Simulations.{IsSimulation}
 use Rattle.answer_publisher.specs.World.{World, world}
 use Rattle.answer_events.specs.declared.event.Event.{Event}
-use Rattle.answer_life.specs.declared.outcome.Outcome.{Outcome}
-use Rattle.answer_records.specs.declared.fault.ZoneFault.{ZoneFault}
-use Rattle.session_lines.specs.Grammar.{ZoneLine, EventLine}
-use Rattle.session_lines.specs.Readings.{event_view}
-use Rattle.session_lines.specs.Sessions.{Session, session_of}
-use Rattle.bench.specs.Names.{zone_fault_name}
-use Rattle.bench.specs.Printed.{outcome_text}
+use Rattle.answer_laws.specs.declared.outcome.Outcome.{Outcome}
+use Rattle.answer_zone_records.specs.declared.fault.ZoneFault.{ZoneFault}
+use Rattle.denialbench_session.specs.Grammar.{ZoneLine, EventLine}
+use Rattle.denialbench_session.specs.Readings.{event_view}
+use Rattle.denialbench_session.specs.Sessions.{Session, session_of}
+use Rattle.denialbench_print.specs.Names.{zone_fault_name}
+use Rattle.denialbench_print.specs.Printed.{outcome_text}
 use Rattle.denialbench.specs.declared.status.Status.{Status}
 use Rattle.denialbench.specs.declared.status.Status.TheVariants.{Done, BadLine, Fault}
 

@@ -3,19 +3,19 @@ ghost use Rattle.std.specs.Prelude.{◌≡◌, ◌≢◌, ◌↔◌, ℕ, List, 
 ghost use Rattle.std.specs.List.{flat_map};
 ghost use Rattle.std.specs.Io.KnownBytes.{Appends, IsAtEnd};
 ghost use Rattle.messages.specs.HandedRr.{handed_of};
-ghost use Rattle.session_lines.specs.Readings.{zone_view, event_view};
-ghost use Rattle.bench.specs.Names.{zone_fault_name};
-ghost use Rattle.bench.specs.Printed.{outcome_text};
+ghost use Rattle.denialbench_session.specs.Readings.{zone_view, event_view};
+ghost use Rattle.denialbench_print.specs.Names.{zone_fault_name};
+ghost use Rattle.denialbench_print.specs.Printed.{outcome_text};
 ghost use Rattle.denialbench.specs.Responses.{Answers, IsUnreadable, Responds, PrintsSession, refused_line};
 
 use crate::input::read_all;
 use crate::status::Status;
 use answer::{Outcome, ZoneFault, simulate};
-use bench::named::Named;
-use bench::print::push_outcomes;
-use bench::scheme::BenchScheme;
-use nsec3_sha1::hasher::Sha1Hasher;
-use session_lines::session::{Session, SessionError, read_session};
+use denial_nsec3_sha1::hasher::Sha1Hasher;
+use denialbench_print::named::Named;
+use denialbench_print::print::push_outcomes;
+use denialbench_print::scheme::BenchScheme;
+use denialbench_session::session::{Session, SessionError, read_session};
 use std::alloc::{AllocError, Global};
 use std::io;
 use std::io::{Read, Write};

@@ -3,8 +3,8 @@
 use crate::keys::Keys;
 use crate::session::{next_counting, push_line};
 use answer::{Act, Ds, Event, Outcome};
-use bench::print::push_outcome;
-use session_lines::lines::Lines;
+use denialbench_print::print::push_outcome;
+use denialbench_session::lines::Lines;
 use std::alloc::AllocError;
 
 /// The line of each event, what is printed of it, and what that is about.
@@ -16,9 +16,7 @@ pub fn push_events(
     outcomes: &[Outcome],
 ) -> Result<(), AllocError> {
     for (event, outcome) in events.iter().zip(outcomes) {
-        if let Some((number, line)) = next_counting(lines) {
-            push_line(out, number, line)?;
-        }
+        push_event_lines(out, lines)?;
         out.push_str("  > ")?;
         push_outcome(out, outcome)?;
         out.push_str("\n")?;
@@ -27,7 +25,22 @@ pub fn push_events(
     Ok(())
 }
 
-/// Behind a key call the rolls that run; of a thing shown its octets.
+/// The line of an event, and before it those of the records that are gathered there.
+fn push_event_lines(out: &mut String, lines: &mut Lines<'_>) -> Result<(), AllocError> {
+    for _ in 0..u64::MAX {
+        let Some((number, line)) = next_counting(lines) else {
+            break;
+        };
+        push_line(out, number, line)?;
+        if !line.starts_with(b"rr ") {
+            break;
+        }
+    }
+    Ok(())
+}
+
+/// Behind a key call the rolls that run; of a replacement how many records there are, or why it is refused; of a thing shown its
+/// octets.
 fn push_details(
     out: &mut String,
     keys: &mut Keys,
@@ -41,6 +54,11 @@ fn push_details(
             }
             keys.push_rolls(out)
         }
+        (Act::Replace(records), Outcome::Replaced(Ok(()))) => {
+            let count = records.len();
+            writeln!(out, "  the zone is made anew of {count} records")
+        }
+        (Act::Replace(_), Outcome::Replaced(Err(fault))) => writeln!(out, "  {fault}"),
         (_, Outcome::Ds { set, .. }) => push_ds_set(out, set),
         (_, Outcome::Message { octets, .. }) => push_octets(out, octets),
         _ => Ok(()),

@@ -4,13 +4,13 @@ use crate::session::{next_counting, push_line};
 use answer::denial::{OwnerRrs, SigningError, SortedRecords, is_canonical_order, is_one_class};
 use answer::names::{Rtype, ToName};
 use answer::{Mode, Name, ZoneData, ZoneFault, ZoneRecord, simulate};
-use bench::named::Named;
-use bench::scheme::BenchScheme;
-use denial_owners::kept::kept_owners;
+use denial_chain_owners::kept::kept_owners;
+use denial_nsec3_sha1::hasher::Sha1Hasher;
 use denial_sorted::laws::zone_data_order_is_total;
-use nsec3_sha1::hasher::Sha1Hasher;
-use session_lines::lines::Lines;
-use session_lines::session::{Session, read_session};
+use denialbench_print::named::Named;
+use denialbench_print::scheme::BenchScheme;
+use denialbench_session::lines::Lines;
+use denialbench_session::session::{Session, read_session};
 use std::alloc::{AllocError, Global};
 
 /// Why the zone of an input is refused, and which of its lines say so.

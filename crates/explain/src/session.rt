@@ -4,11 +4,11 @@ use crate::events::push_events;
 use crate::faulty::push_refused;
 use crate::keys::Keys;
 use answer::{ZoneFault, simulate};
-use bench::scheme::BenchScheme;
-use nsec3_sha1::hasher::Sha1Hasher;
-use session_lines::line_error::LineFault;
-use session_lines::lines::{Lines, is_passed_over};
-use session_lines::session::{Session, SessionError, read_session};
+use denial_nsec3_sha1::hasher::Sha1Hasher;
+use denialbench_print::scheme::BenchScheme;
+use denialbench_session::line_error::LineFault;
+use denialbench_session::lines::{Lines, is_passed_over};
+use denialbench_session::session::{Session, SessionError, read_session};
 use std::alloc::{AllocError, Global};
 
 /// Explains the session of an input. Its only error is out of memory.

@@ -9,11 +9,11 @@ use Rattle.keyset_rolls.specs.declared.rolls.Turn.TheVariants.{First, Second}
 use Rattle.keyset_rolls.specs.Rolls.{touches, reported1, reported2, waited1, waited2}
 use Rattle.keyset.specs.KeyState.{Answer, Key, KeySetState, Reference, Refusal, enter, entered, kind_cmp, on_keys, phase_of, report1, report2, unless_fault, wait1, wait2, wait_fault, when}
 use Rattle.keyset.specs.KeyRuns.{Call, Report1, Report2, Wait1, Wait2, is_accepted, left}
-use Rattle.keyset.specs.KeyRunLaws.{Reports, keeps_roles, moment_of, noted, noted_if, same_roll}
+use Rattle.keyset.specs.KeyRunLaws.{Reports, keeps_roles, noted, noted_if, same_roll}
 use Rattle.keyset.proofs.KeyFinds.{is_equal}
 use Rattle.keyset.proofs.KeyKinds.{kind_of, kind_wait1, kind_wait2}
 use Rattle.keyset.proofs.KeyMaps.{kind_same}
-use Rattle.keyset.proofs.KeyRunSteps.{AllTouched, At, Carried, Holds, Kept, Moves, Stamped1, Stamped2, carries, counted_first, counted_second, is_double, other_roll, own, roll_itself, running_holds, stamps1, stamps2, stamps2_double}
+use Rattle.keyset.proofs.KeyRunSteps.{AllTouched, At, Holds, Kept, Moves, Stamped1, Stamped2, other_roll, own, roll_itself, running_holds, stamps1, stamps2}
 use Rattle.keyset.proofs.KeyTables.{wait1_keeps, wait2_keeps}
 
 -- ---- what each step does to one key
@@ -85,23 +85,12 @@ module _ (r : RollType) (p : Reports) (s : KeySetState) (h : Holds r s p) (a : R
   at_report1 ttl (Some (CacheExpire2 t)) e = rw (e, report1) h
   at_report1 ttl (Some Done) e = rw (e, report1) h
 
-  kept2 : (ttl : ℕ) → Kept a p s.keys (Some Propagation2) → Kept a (record p { second = Some (now, ttl) }) (on_keys a (reported2 a now) s.keys) (Some (CacheExpire2 ttl))
-  kept2 ttl before = at (is_double a) refl
-    where
-      at : (d : Bool) → is_double a ≡ d → Kept a (record p { second = Some (now, ttl) }) (on_keys a (reported2 a now) s.keys) (Some (CacheExpire2 ttl))
-      at true d =
-          let c = before d in (
-            refl,
-            c.0,
-            ap moment_of (counted_first a (record p { second = Some (now, ttl) }) d) ∙ c.1,
-            own_when a (reported2 a now) s.keys moves_report2 (Stamped2 a c.0) (λ q k f t. stamps2_double a c.0 now k d (c.2 q k f t)),
-          )
-      at false d = (
-        refl,
-        now,
-        ap moment_of (counted_second a (record p { second = Some (now, ttl) }) d),
-        own_when a (reported2 a now) s.keys moves_report2 (Stamped2 a now) (λ q k f t. stamps2 a now k d (h.keeps q k f)),
-      )
+  kept2 : (ttl : ℕ) → Kept a (cond (same_roll a a) (record p { second = Some (now, ttl) }) p) (on_keys a (reported2 a now) s.keys) (Some (CacheExpire2 ttl))
+  kept2 ttl = (
+    now,
+    ap (λ b. (cond b (record p { second = Some (now, ttl) }) p).second) (roll_itself a),
+    own_when a (reported2 a now) s.keys moves_report2 (Stamped2 a now) (λ q k f t. stamps2 a now k (h.keeps q k f)),
+  )
 
   at_report2 : (ttl : ℕ) (o : Option RollState) → phase_of s a ≡ o → Next r p (Report2 a ttl) now s (report2 a ttl now s)
   at_report2 ttl None e = rw (e, report2) h
@@ -109,12 +98,7 @@ module _ (r : RollType) (p : Reports) (s : KeySetState) (h : Holds r s p) (a : R
   at_report2 ttl (Some (CacheExpire1 t)) e = rw (e, report2) h
   at_report2 ttl (Some Propagation2) e = rw (e, report2)
       (running_holds r s p h a (λ _ k. when (touches a k.roles) (reported2 a now) k) (CacheExpire2 ttl) moves_report2 (noted r (Report2 a ttl) now p) (runs Propagation2 e)
-      (λ same.
-      (let b : a ≡ r = same_kind a r same in
-      let before : Kept a p s.keys (Some Propagation2) = subst (Kept a p s.keys) e (subst (λ b. Kept b p s.keys (phase_of s b)) (sym b) h.kept) in
-      let noted_so : record p { second = Some (now, ttl) } ≡ noted a (Report2 a ttl) now p = ap (λ t. cond t (record p { second = Some (now, ttl) }) p) (sym (roll_itself a)) in
-      subst (λ b. Kept b (noted b (Report2 a ttl) now p) (on_keys a (reported2 a now) s.keys) (Some (CacheExpire2 ttl))) b
-      (subst (λ q. Kept a q (on_keys a (reported2 a now) s.keys) (Some (CacheExpire2 ttl))) noted_so (kept2 ttl before))))
+      (λ same. at_roll a r (λ b. Kept b (noted b (Report2 a ttl) now p) (on_keys a (reported2 a now) s.keys) (Some (CacheExpire2 ttl))) same (kept2 ttl))
       (λ other. not_noted (record p { second = Some (now, ttl) }) p other))
   at_report2 ttl (Some (CacheExpire2 t)) e = rw (e, report2) h
   at_report2 ttl (Some Done) e = rw (e, report2) h
@@ -127,24 +111,12 @@ module _ (r : RollType) (p : Reports) (s : KeySetState) (h : Holds r s p) (a : R
   moves_wait2 : Moves a (λ _ k. when (touches a k.roles) (waited2 a now) k) s.keys
   moves_wait2 = moves_when a (waited2 a now) s.keys (λ k. kind_wait2 a k.roles) (λ k t w. wait2_keeps a k.roles t w)
 
-  kept3 : (ttl : ℕ) → Kept a p s.keys (Some (CacheExpire1 ttl)) → Kept a p (on_keys a (waited1 a now) s.keys) (Some Propagation2)
-  kept3 ttl before = λ d. (
-    before.0,
-    ap moment_of before.1,
-    own_when a (waited1 a now) s.keys moves_wait1 (Carried a before.0) (λ q k f t. carries a before.0 now k d t (h.keeps q k f) (before.2 q k f t)),
-  )
-
   at_wait1 : (o : Option RollState) → phase_of s a ≡ o → Next r p (Wait1 a) now s (wait1 a now s)
   at_wait1 None e = rw (e, wait1) h
   at_wait1 (Some Propagation1) e = rw (e, wait1) h
   at_wait1 (Some (CacheExpire1 ttl)) e = rw (e, wait1)
       (unless_next r p (Wait1 a) now s (wait_fault a First ttl now s.keys) Propagation2 a (on_keys a (waited1 a now) s.keys) h (λ _.
-      running_holds r s p h a (λ _ k. when (touches a k.roles) (waited1 a now) k) Propagation2 moves_wait1 p (runs (CacheExpire1 ttl) e)
-      (λ same.
-      (let b : a ≡ r = same_kind a r same in
-      let before : Kept a p s.keys (Some (CacheExpire1 ttl)) = subst (Kept a p s.keys) e (subst (λ b. Kept b p s.keys (phase_of s b)) (sym b) h.kept) in
-      subst (λ b. Kept b p (on_keys a (waited1 a now) s.keys) (Some Propagation2)) b (kept3 ttl before)))
-      (λ _. refl)))
+      running_holds r s p h a (λ _ k. when (touches a k.roles) (waited1 a now) k) Propagation2 moves_wait1 p (runs (CacheExpire1 ttl) e) (λ _. tt) (λ _. refl)))
   at_wait1 (Some Propagation2) e = rw (e, wait1) h
   at_wait1 (Some (CacheExpire2 t)) e = rw (e, wait1) h
   at_wait1 (Some Done) e = rw (e, wait1) h

@@ -11,7 +11,7 @@ use Rattle.keyset_rolls.specs.Rolls.{awaited, stamp_read, touches, waited1, wait
 use Rattle.keyset.specs.KeyState.{Key, KeySetState, Reference, Refusal, enter, key_of, on_keys, phase_of, unless_fault, wait1, wait2, wait_fault}
 use Rattle.keyset.specs.KeyLaws.{HasPassed}
 use Rattle.keyset.specs.KeyRuns.{Add, Call, Delete, Finish, Report1, Report2, SetAtParent, SetDecoupled, SetDsVisible, SetPresent, SetRrsigVisible, SetSigner, SetStale, SetVisible, Start, Wait1, Wait2, behind, is_accepted, left, no_keys, on_state, sets_by_hand}
-use Rattle.keyset.specs.KeyRunLaws.{Reports, RolesKeep, RollsRunTogether, WaitsCountFromReports, by_rolls_alone, counted_from, is_awaited, moment_of, no_reports, noted_if, reports_behind, some_awaited, ttl_of}
+use Rattle.keyset.specs.KeyRunLaws.{Reports, RolesKeep, RollsRunTogether, WaitsCountFromReports, by_rolls_alone, is_awaited, no_reports, noted_if, reports_behind, some_awaited}
 use Rattle.keyset.proofs.KeyFinds.{entries_all}
 use Rattle.keyset.proofs.KeyRunCalls.{Next, report1_next, report2_next, wait1_next, wait2_next}
 use Rattle.keyset.proofs.KeyRunStarts.{add_next, decouple_next, delete_next, done_next, start_next}
@@ -120,22 +120,20 @@ waits_count name cs r ttl now e =
       λ at. second s p h at,
     )
   where
-    first : (s : KeySetState) (p : Reports) → Holds r s p → phase_of s r ≡ Some (CacheExpire1 ttl) → (ttl_of p.first ≡ Some ttl) × (since : ℕ) × (moment_of p.first ≡ Some since) × ((is_accepted (wait1 r now s) ≡ true) ↔ (some_awaited First r s ≡ true → ttl * 1000000000 ≤ now - since))
+    first : (s : KeySetState) (p : Reports) → Holds r s p → phase_of s r ≡ Some (CacheExpire1 ttl) → (since : ℕ) × (p.first ≡ Some (since, ttl)) × ((is_accepted (wait1 r now s) ≡ true) ↔ (some_awaited First r s ≡ true → ttl * 1000000000 ≤ now - since))
     first s p h at =
         let k : Kept r p s.keys (Some (CacheExpire1 ttl)) = subst (Kept r p s.keys) at h.kept in (
-          ap ttl_of k.1,
           k.0,
-          ap moment_of k.1,
-          subst (λ a. (is_accepted a ≡ true) ↔ (some_awaited First r s ≡ true → ttl * 1000000000 ≤ now - k.0)) (sym (wait1_in r ttl now s at)) (exact First r Propagation2 ttl now k.0 (on_keys r (waited1 r now) s.keys) s h.sorted (λ q l f t w. (k.2 q l f t).0 w)),
+          k.1,
+          subst (λ a. (is_accepted a ≡ true) ↔ (some_awaited First r s ≡ true → ttl * 1000000000 ≤ now - k.0)) (sym (wait1_in r ttl now s at)) (exact First r Propagation2 ttl now k.0 (on_keys r (waited1 r now) s.keys) s h.sorted (λ q l f t w. k.2 q l f t w)),
         )
 
-    second : (s : KeySetState) (p : Reports) → Holds r s p → phase_of s r ≡ Some (CacheExpire2 ttl) → (ttl_of p.second ≡ Some ttl) × (since : ℕ) × (moment_of (counted_from r p) ≡ Some since) × ((is_accepted (wait2 r now s) ≡ true) ↔ (some_awaited Second r s ≡ true → ttl * 1000000000 ≤ now - since))
+    second : (s : KeySetState) (p : Reports) → Holds r s p → phase_of s r ≡ Some (CacheExpire2 ttl) → (since : ℕ) × (p.second ≡ Some (since, ttl)) × ((is_accepted (wait2 r now s) ≡ true) ↔ (some_awaited Second r s ≡ true → ttl * 1000000000 ≤ now - since))
     second s p h at =
         let k : Kept r p s.keys (Some (CacheExpire2 ttl)) = subst (Kept r p s.keys) at h.kept in (
           k.0,
           k.1,
-          k.2,
-          subst (λ a. (is_accepted a ≡ true) ↔ (some_awaited Second r s ≡ true → ttl * 1000000000 ≤ now - k.1)) (sym (wait2_in r ttl now s at)) (exact Second r Done ttl now k.1 (on_keys r (waited2 r now) s.keys) s h.sorted (λ q l f t w. k.3 q l f t w)),
+          subst (λ a. (is_accepted a ≡ true) ↔ (some_awaited Second r s ≡ true → ttl * 1000000000 ≤ now - k.0)) (sym (wait2_in r ttl now s at)) (exact Second r Done ttl now k.0 (on_keys r (waited2 r now) s.keys) s h.sorted (λ q l f t w. k.2 q l f t w)),
         )
 
 pub roles_keep : RolesKeep

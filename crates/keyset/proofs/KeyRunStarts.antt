@@ -20,7 +20,7 @@ use Rattle.keyset.proofs.KeyFinds.{is_equal, is_same}
 use Rattle.keyset.proofs.KeyKinds.{conflicts_both, kind_started}
 use Rattle.keyset.proofs.KeyMaps.{kind_same, kind_total}
 use Rattle.keyset.proofs.KeyRunCalls.{Next, unless_next}
-use Rattle.keyset.proofs.KeyRunSteps.{AllTouched, At, Carried, Holds, Kept, Moves, Stamped1, Stamped2, Together, step_holds}
+use Rattle.keyset.proofs.KeyRunSteps.{AllTouched, At, Holds, Kept, Moves, Stamped1, Stamped2, Together, step_holds}
 use Rattle.keyset.proofs.KeyTables.{fresh_keeps, fresh_unwatched1, fresh_unwatched2, new_keeps, old_keeps}
 
 -- ---- why a start isn't refused
@@ -228,30 +228,29 @@ module _ (r : RollType) (p : Reports) (s : KeySetState) (h : Holds r s p) (q : R
   put_touched : (F : Key → Type 0) → (touches r n.roles ≡ true → F n) → AllTouched r F s.keys → AllTouched r F (put reference_cmp q n s.keys)
   put_touched F one all = put_all (λ k. touches r k.roles ≡ true → F k) one all
 
-  put_kept : (o : Option RollState) → ((since : ℕ) → AllTouched r (Stamped1 r since) s.keys → touches r n.roles ≡ true → Stamped1 r since n) → ((since : ℕ) → AllTouched r (Carried r since) s.keys → touches r n.roles ≡ true → Carried r since n)
+  put_kept : (o : Option RollState) → ((since : ℕ) → AllTouched r (Stamped1 r since) s.keys → touches r n.roles ≡ true → Stamped1 r since n)
       → ((since : ℕ) → AllTouched r (Stamped2 r since) s.keys → touches r n.roles ≡ true → Stamped2 r since n) → Kept r p s.keys o → Kept r p (put reference_cmp q n s.keys) o
-  put_kept None f g e k = tt
-  put_kept (Some Propagation1) f g e k = tt
-  put_kept (Some (CacheExpire1 ttl)) f g e k = (k.0, k.1, put_touched (Stamped1 r k.0) (f k.0 k.2) k.2)
-  put_kept (Some Propagation2) f g e k = λ d. (let w = k d in (w.0, w.1, put_touched (Carried r w.0) (g w.0 w.2) w.2))
-  put_kept (Some (CacheExpire2 ttl)) f g e k = (k.0, k.1, k.2, put_touched (Stamped2 r k.1) (e k.1 k.3) k.3)
-  put_kept (Some Done) f g e k = tt
+  put_kept None f e k = tt
+  put_kept (Some Propagation1) f e k = tt
+  put_kept (Some (CacheExpire1 ttl)) f e k = (k.0, k.1, put_touched (Stamped1 r k.0) (f k.0 k.2) k.2)
+  put_kept (Some Propagation2) f e k = tt
+  put_kept (Some (CacheExpire2 ttl)) f e k = (k.0, k.1, put_touched (Stamped2 r k.0) (e k.0 k.2) k.2)
+  put_kept (Some Done) f e k = tt
 
-  put_holds : keeps_roles n.roles ≡ true → ((since : ℕ) → AllTouched r (Stamped1 r since) s.keys → touches r n.roles ≡ true → Stamped1 r since n) → ((since : ℕ) → AllTouched r (Carried r since) s.keys → touches r n.roles ≡ true → Carried r since n)
+  put_holds : keeps_roles n.roles ≡ true → ((since : ℕ) → AllTouched r (Stamped1 r since) s.keys → touches r n.roles ≡ true → Stamped1 r since n)
       → ((since : ℕ) → AllTouched r (Stamped2 r since) s.keys → touches r n.roles ≡ true → Stamped2 r since n) → Holds r (added q n s) p
-  put_holds keeps f g e = record {
+  put_holds keeps f e = record {
     sorted = is_sorted-put reference_cmp nat_list_cmp_total q n s.keys h.sorted;
     keeps = put_all (λ k. keeps_roles k.roles ≡ true) keeps h.keeps;
     together = h.together;
-    kept = put_kept (phase_of s r) f g e h.kept;
+    kept = put_kept (phase_of s r) f e h.kept;
   }
 
 -- a fresh key
 fresh_holds : (r : RollType) (p : Reports) (s : KeySetState) → Holds r s p → (q : Reference) (n : NewKey) → Holds r (added q (new_key n.private (roles_of n.kind n.available) n.algorithm n.tag n.created) s) p
 fresh_holds r p s h q n =
     put_holds r p s h q (new_key n.private (roles_of n.kind n.available) n.algorithm n.tag n.created) (fresh_keeps n.kind n.available)
-    (λ since _ _. (λ w. absurd (false≢true (sym (fresh_unwatched1 r n.kind n.available) ∙ w)), λ _ w. absurd (false≢true (sym (fresh_unwatched1 r n.kind n.available) ∙ w))))
-    (λ since _ _ w. absurd (false≢true (sym (fresh_unwatched2 r n.kind n.available) ∙ w)))
+    (λ since _ _ w. absurd (false≢true (sym (fresh_unwatched1 r n.kind n.available) ∙ w)))
     (λ since _ _ w. absurd (false≢true (sym (fresh_unwatched2 r n.kind n.available) ∙ w)))
 
 pub add_next : (r : RollType) (p : Reports) (s : KeySetState) → Holds r s p → (q : Reference) (n : NewKey) (now : ℕ) → Next r p (Add q n) now s (add q (new_key n.private (roles_of n.kind n.available) n.algorithm n.tag n.created) s)
@@ -270,7 +269,7 @@ decouple_next r p s h q b now = at (key_of s q) refl
   where
     at : (o : Option Key) → key_of s q ≡ o → Next r p (SetDecoupled q b) now s (elim o [ None ↦ Err KeyNotFound | Some k ↦ elim (decoupled_to b k) [ Err e ↦ Err e | Ok l ↦ Ok (added q l s, []) ] ])
     at None e = h
-    at (Some k) e = put_holds r p s h q (record k { decoupled = b }) (h.keeps q k e) (λ since all t. all q k e t) (λ since all t. all q k e t) (λ since all t. all q k e t)
+    at (Some k) e = put_holds r p s h q (record k { decoupled = b }) (h.keeps q k e) (λ since all t. all q k e t) (λ since all t. all q k e t)
 
 -- ---- one key taken out
 
@@ -292,8 +291,8 @@ module _ (r : RollType) (p : Reports) (s : KeySetState) (h : Holds r s p) (q : R
   fewer_kept None k = tt
   fewer_kept (Some Propagation1) k = tt
   fewer_kept (Some (CacheExpire1 ttl)) k = (k.0, k.1, fewer (Stamped1 r k.0) k.2)
-  fewer_kept (Some Propagation2) k = λ d. (let w = k d in (w.0, w.1, fewer (Carried r w.0) w.2))
-  fewer_kept (Some (CacheExpire2 ttl)) k = (k.0, k.1, k.2, fewer (Stamped2 r k.1) k.3)
+  fewer_kept (Some Propagation2) k = tt
+  fewer_kept (Some (CacheExpire2 ttl)) k = (k.0, k.1, fewer (Stamped2 r k.0) k.2)
   fewer_kept (Some Done) k = tt
 
   removed_holds : Holds r (deleted q s) p

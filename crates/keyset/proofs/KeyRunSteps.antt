@@ -11,14 +11,14 @@ use Rattle.keyset_rolls.specs.declared.rolls.RollType.TheVariants.{KskRoll, KskD
 use Rattle.keyset_rolls.specs.declared.rolls.Turn.TheVariants.{First, Second}
 use Rattle.keyset_keys.specs.declared.keys.KeyType.{KeyType}
 use Rattle.keyset_keys.specs.declared.keys.KeyTimestamps.{KeyTimestamps}
-use Rattle.keyset_rolls.specs.Rolls.{touches, conflicts, watched, stamp_read, report1_stamps, reported1, reported2, waited1}
-use Rattle.keyset.specs.KeyState.{Key, KeySetState, Reference, current, entered, index_of, is_old, is_present, kind_cmp, ksk_is, phase_of, reference_cmp, see, see_ds, see_rrsig, withdraw, zsk_is}
-use Rattle.keyset.specs.KeyRunLaws.{Reports, counted_from, keeps_roles, moment_of, same_roll, ttl_of}
+use Rattle.keyset_rolls.specs.Rolls.{touches, conflicts, watched, stamp_read, report1_stamps, reported1, reported2}
+use Rattle.keyset.specs.KeyState.{Key, KeySetState, Reference, current, entered, index_of, is_present, kind_cmp, ksk_is, phase_of, reference_cmp, see, see_ds, see_rrsig, zsk_is}
+use Rattle.keyset.specs.KeyRunLaws.{Reports, keeps_roles, same_roll}
 use Rattle.keyset.proofs.KeyFinds.{changed, from_before, is_equal, sorted_changed}
 use Rattle.keyset.proofs.KeyKinds.{apart, conflicts_both, kind_of, touches_alike}
 use Rattle.keyset.proofs.KeyMaps.{index_same, kind_same, kind_total}
 use Rattle.keyset.proofs.KeyWaits.{kind_itself}
-use Rattle.keyset.proofs.KeyTables.{double_watched, signing_is_present}
+use Rattle.keyset.proofs.KeyTables.{signing_is_present}
 
 -- ---- keys that a roll touches
 
@@ -28,17 +28,9 @@ At es q k = find reference_cmp q es ≡ Some k
 abbrev pub AllTouched : RollType → (Key → Type 0) → List (Reference × Key) → Type 0
 AllTouched r F es = (q : Reference) (k : Key) → At es q k → touches r k.roles ≡ true → F k
 
-abbrev pub is_double : RollType → Bool
-is_double ZskDoubleSignatureRoll = true
-is_double _ = false
-
--- behind a first report: the stamp that the first wait reads, and of the double signatures also that of the second
+-- behind a first report
 abbrev pub Stamped1 : RollType → ℕ → Key → Type 0
-Stamped1 r since k = (watched First r k.roles ≡ true → stamp_read First r k.stamps ≡ Some since) × (is_double r ≡ true → watched First r k.roles ≡ true → k.stamps.rrsig_visible ≡ Some since)
-
--- what the double signatures carry over to their second wait
-abbrev pub Carried : RollType → ℕ → Key → Type 0
-Carried r since k = watched Second r k.roles ≡ true → k.stamps.rrsig_visible ≡ Some since
+Stamped1 r since k = watched First r k.roles ≡ true → stamp_read First r k.stamps ≡ Some since
 
 -- behind a second report
 abbrev pub Stamped2 : RollType → ℕ → Key → Type 0
@@ -49,8 +41,8 @@ abbrev pub Kept : RollType → Reports → List (Reference × Key) → Option Ro
 Kept r p es None = Unit {0}
 Kept r p es (Some Propagation1) = Unit {0}
 Kept r p es (Some (CacheExpire1 ttl)) = (since : ℕ) × (p.first ≡ Some (since, ttl)) × AllTouched r (Stamped1 r since) es
-Kept r p es (Some Propagation2) = is_double r ≡ true → (since : ℕ) × (moment_of p.first ≡ Some since) × AllTouched r (Carried r since) es
-Kept r p es (Some (CacheExpire2 ttl)) = (ttl_of p.second ≡ Some ttl) × (since : ℕ) × (moment_of (counted_from r p) ≡ Some since) × AllTouched r (Stamped2 r since) es
+Kept r p es (Some Propagation2) = Unit {0}
+Kept r p es (Some (CacheExpire2 ttl)) = (since : ℕ) × (p.second ≡ Some (since, ttl)) × AllTouched r (Stamped2 r since) es
 Kept r p es (Some Done) = Unit {0}
 
 abbrev pub AllKeep : List (Reference × Key) → Type 0
@@ -95,8 +87,8 @@ module _ (a : RollType) (g : Reference → Key → Key) (es : List (Reference ×
   kept_by_others r p None c h = tt
   kept_by_others r p (Some Propagation1) c h = tt
   kept_by_others r p (Some (CacheExpire1 ttl)) c h = (h.0, h.1, others r (Stamped1 r h.0) (c refl) h.2)
-  kept_by_others r p (Some Propagation2) c h = λ d. (let w = h d in (w.0, w.1, others r (Carried r w.0) (c refl) w.2))
-  kept_by_others r p (Some (CacheExpire2 ttl)) c h = (h.0, h.1, h.2, others r (Stamped2 r h.1) (c refl) h.3)
+  kept_by_others r p (Some Propagation2) c h = tt
+  kept_by_others r p (Some (CacheExpire2 ttl)) c h = (h.0, h.1, others r (Stamped2 r h.0) (c refl) h.2)
   kept_by_others r p (Some Done) c h = tt
 
   -- the keys of the roll itself
@@ -116,42 +108,16 @@ read1 ZskDoubleSignatureRoll now t s = refl
 read1 CskRoll now t s = refl
 read1 AlgorithmRoll now t s = elim (zsk_is (λ _. true) t) as (λ b. (cond b (see_rrsig now (see now s)) (see now s)).visible ≡ Some now) [ true ↦ refl | false ↦ refl ]
 
-signed1 : (r : RollType) (now : ℕ) (t : KeyType) (s : KeyTimestamps) → is_double r ≡ true → (report1_stamps r now t s).rrsig_visible ≡ Some now
-signed1 ZskDoubleSignatureRoll now t s d = refl
-signed1 _ now t s d = cc
-
 pub stamps1 : (r : RollType) (now : ℕ) (k : Key) → Stamped1 r now (reported1 r now k)
-stamps1 r now k = (
-  λ w. ap (λ b. stamp_read First r (cond b (report1_stamps r now k.roles k.stamps) k.stamps)) w ∙ read1 r now k.roles k.stamps,
-  λ d w. ap (λ b. (cond b (report1_stamps r now k.roles k.stamps) k.stamps).rrsig_visible) w ∙ signed1 r now k.roles k.stamps d,
-)
+stamps1 r now k = λ w. ap (λ b. stamp_read First r (cond b (report1_stamps r now k.roles k.stamps) k.stamps)) w ∙ read1 r now k.roles k.stamps
 
-pub carries : (r : RollType) (since now : ℕ) (k : Key) → is_double r ≡ true → touches r k.roles ≡ true → keeps_roles k.roles ≡ true → Stamped1 r since k → Carried r since (waited1 r now k)
-carries ZskDoubleSignatureRoll since now k d t h s = λ w.
-    (elim (zsk_is is_old k.roles) as (λ b. (cond b (withdraw now k.stamps) k.stamps).rrsig_visible ≡ k.stamps.rrsig_visible) [ true ↦ refl | false ↦ refl ])
-    ∙ s.1 d (double_watched k.roles t h w)
-carries _ since now k d t h s = cc
-
-pub stamps2 : (r : RollType) (now : ℕ) (k : Key) → is_double r ≡ false → keeps_roles k.roles ≡ true → Stamped2 r now (reported2 r now k)
-stamps2 KskRoll now k d h = λ w. ap (λ b. (cond b (see_ds now k.stamps) k.stamps).ds_visible) w
-stamps2 KskDoubleDsRoll now k d h = λ w. ap (λ b. (cond b (see now k.stamps) k.stamps).visible) w
-stamps2 ZskRoll now k d h = λ w. ap (λ b. (cond b (see_rrsig now k.stamps) k.stamps).rrsig_visible) w
-stamps2 ZskDoubleSignatureRoll now k d h = cc
-stamps2 CskRoll now k d h = λ w. (let before : KeyTimestamps = cond (ksk_is (current is_present) k.roles) (see_ds now k.stamps) k.stamps in ap (λ b. (cond b (see_rrsig now before) before).rrsig_visible) w)
-stamps2 AlgorithmRoll now k d h = λ w. ap (λ b. (cond b (see_ds now k.stamps) k.stamps).ds_visible) (signing_is_present k.roles h w)
-
--- the second report of the double signatures leaves what was carried over
-pub stamps2_double : (r : RollType) (since now : ℕ) (k : Key) → is_double r ≡ true → Carried r since k → Stamped2 r since (reported2 r now k)
-stamps2_double ZskDoubleSignatureRoll since now k d c = c
-stamps2_double _ since now k d c = cc
-
-pub counted_second : (r : RollType) (p : Reports) → is_double r ≡ false → counted_from r p ≡ p.second
-counted_second ZskDoubleSignatureRoll p d = cc
-counted_second _ p d = refl
-
-pub counted_first : (r : RollType) (p : Reports) → is_double r ≡ true → counted_from r p ≡ p.first
-counted_first ZskDoubleSignatureRoll p d = refl
-counted_first _ p d = cc
+pub stamps2 : (r : RollType) (now : ℕ) (k : Key) → keeps_roles k.roles ≡ true → Stamped2 r now (reported2 r now k)
+stamps2 KskRoll now k h = λ w. ap (λ b. (cond b (see_ds now k.stamps) k.stamps).ds_visible) w
+stamps2 KskDoubleDsRoll now k h = λ w. ap (λ b. (cond b (see now k.stamps) k.stamps).visible) w
+stamps2 ZskRoll now k h = λ w. ap (λ b. (cond b (see_rrsig now k.stamps) k.stamps).rrsig_visible) w
+stamps2 ZskDoubleSignatureRoll now k h = λ w. ap (λ b. (cond b (see_rrsig now k.stamps) k.stamps).rrsig_visible) w
+stamps2 CskRoll now k h = λ w. (let before : KeyTimestamps = cond (ksk_is (current is_present) k.roles) (see_ds now k.stamps) k.stamps in ap (λ b. (cond b (see_rrsig now before) before).rrsig_visible) w)
+stamps2 AlgorithmRoll now k h = λ w. ap (λ b. (cond b (see_ds now k.stamps) k.stamps).ds_visible) (signing_is_present k.roles h w)
 
 -- ---- a step of one roll
 

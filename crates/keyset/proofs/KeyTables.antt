@@ -144,17 +144,6 @@ signing_is_present t h k =
     (of_all signing_test (record { ksk = λ _. refl; zsk = λ _. refl; csk = λ _ _. refl; other = λ _. refl }) t)
     (join (keeps_roles t) (ksk_is (current (λ f. f.signer)) t) h k)
 
--- a key that signs behind the first wait of the double signatures was looked at by it
-double_test : KeyType → Bool
-double_test t = implies (touches ZskDoubleSignatureRoll t && keeps_roles t && watched Second ZskDoubleSignatureRoll (wait1_roles ZskDoubleSignatureRoll t)) (watched First ZskDoubleSignatureRoll t)
-
-pub double_watched : (t : KeyType) → touches ZskDoubleSignatureRoll t ≡ true → keeps_roles t ≡ true → watched Second ZskDoubleSignatureRoll (wait1_roles ZskDoubleSignatureRoll t) ≡ true → watched First ZskDoubleSignatureRoll t ≡ true
-unfolding double_test
-double_watched t h k w =
-    from_implies (touches ZskDoubleSignatureRoll t && keeps_roles t && watched Second ZskDoubleSignatureRoll (wait1_roles ZskDoubleSignatureRoll t)) (watched First ZskDoubleSignatureRoll t)
-    (of_all double_test (record { ksk = λ _. refl; zsk = λ _. refl; csk = λ _ _. refl; other = λ _. refl }) t)
-    (join (touches ZskDoubleSignatureRoll t && keeps_roles t) (watched Second ZskDoubleSignatureRoll (wait1_roles ZskDoubleSignatureRoll t)) (join (touches ZskDoubleSignatureRoll t) (keeps_roles t) h k) w)
-
 -- no wait looks at a key that was added and not used
 pub fresh_unwatched1 : (r : RollType) (kind : Kind) (a : Bool) → watched First r (roles_of kind a) ≡ false
 fresh_unwatched1 KskRoll OfKsk a = refl

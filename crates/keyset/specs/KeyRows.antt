@@ -124,6 +124,14 @@ started1 = behind set1 (start_of AlgorithmRoll [] (K1 ∷ Z1 ∷ []))
 abbrev double_ds : List (ℕ × Call)
 double_ds = (0, Start KskDoubleDsRoll (K1 ∷ []) (K2 ∷ [])) ∷ (0, Report1 KskDoubleDsRoll 10) ∷ (10 * second, Wait1 KskDoubleDsRoll) ∷ (11 * second, Report2 KskDoubleDsRoll 3600) ∷ []
 
+abbrev double_signatures : List (ℕ × Call)
+double_signatures =
+    (0, Start ZskDoubleSignatureRoll (Z1 ∷ []) (Z2 ∷ []))
+    ∷ (0, Report1 ZskDoubleSignatureRoll 3600)
+    ∷ (3600 * second, Wait1 ZskDoubleSignatureRoll)
+    ∷ (3600 * second, Report2 ZskDoubleSignatureRoll 3600)
+    ∷ []
+
 -- a KSK roll beside a future KSK that no list names
 abbrev future_beside : KeySetState
 future_beside = behind set2 (fresh OfKsk K3 5 ∷ (0, Start KskRoll (K1 ∷ []) (K2 ∷ [])) ∷ (0, Report1 KskRoll 10) ∷ [])
@@ -151,6 +159,8 @@ pub record RefusesOnTheWay : Type 0 where
   pub same_reference : on_state ((fresh OfKsk K1 2).1) 0 set1 ≡ Err KeyExists
   pub double_ds_too_early : on_state (Wait2 KskDoubleDsRoll) (3605 * second) (behind set2 double_ds) ≡ Err (Wait (6 * second))
   pub double_ds_accepted : all_accepted set2 (double_ds ++ (3611 * second, Wait2 KskDoubleDsRoll) ∷ []) ≡ true
+  pub double_signatures_too_early : on_state (Wait2 ZskDoubleSignatureRoll) (3600 * second) (behind set2 double_signatures) ≡ Err (Wait (3600 * second))
+  pub double_signatures_accepted : all_accepted set2 (double_signatures ++ (7200 * second, Wait2 ZskDoubleSignatureRoll) ∷ []) ≡ true
   pub future_key_is_passed_over : all_accepted future_beside ((10 * second, Wait1 KskRoll) ∷ []) ≡ true
   pub unseen_key_is_missed : on_state (Wait1 KskRoll) (10 * second) (behind future_beside ((0, SetPresent K3 true) ∷ [])) ≡ Err MissingTimestamp
   pub greatest_rest : on_state (Wait1 KskRoll) (8 * second) later_seen ≡ Err (Wait (7 * second))

@@ -6,7 +6,6 @@ use Rattle.keyset_keys.specs.declared.keys.KeyType.{KeyType}
 use Rattle.keyset_keys.specs.declared.keys.KeyType.TheVariants.{Ksk, Zsk, Csk, Include}
 use Rattle.keyset_rolls.specs.declared.rolls.RollState.TheVariants as state
 use Rattle.keyset_rolls.specs.declared.rolls.RollType.{RollType}
-use Rattle.keyset_rolls.specs.declared.rolls.RollType.TheVariants as roll
 use Rattle.keyset_rolls.specs.declared.rolls.Turn.{Turn}
 use Rattle.keyset_rolls.specs.declared.rolls.Turn.TheVariants as turn
 use Rattle.keyset_rolls.specs.Rolls.{conflicts, touches, watched}
@@ -40,19 +39,6 @@ reports_behind r s (c ∷ cs) p = reports_behind r (left s (on_state c.1 c.0 s))
 abbrev pub by_rolls_alone : List (ℕ × Call) → Bool
 by_rolls_alone cs = not (list_any (λ c. sets_by_hand c.1) cs)
 
--- the report from which a second wait counts: the second, but for the double signatures the first
-abbrev pub counted_from : RollType → Reports → Option (ℕ × ℕ)
-counted_from roll.ZskDoubleSignatureRoll p = p.first
-counted_from _ p = p.second
-
-abbrev pub moment_of : Option (ℕ × ℕ) → Option ℕ
-moment_of None = None
-moment_of (Some p) = Some p.0
-
-abbrev pub ttl_of : Option (ℕ × ℕ) → Option ℕ
-ttl_of None = None
-ttl_of (Some p) = Some p.1
-
 -- whether a wait looks at a key, and at some key
 abbrev pub is_awaited : Turn → RollType → Key → Bool
 is_awaited t r k = touches r k.roles && watched t r k.roles
@@ -66,8 +52,8 @@ abbrev pub WaitsCountFromReports : Type 0
 WaitsCountFromReports = (name : List (List ℕ)) (cs : List (ℕ × Call)) (r : RollType) (ttl now : ℕ) → by_rolls_alone cs ≡ true →
     let s = behind (no_keys name) cs in
     let p = reports_behind r (no_keys name) cs no_reports in
-    (phase_of s r ≡ Some (state.CacheExpire1 ttl) → (ttl_of p.first ≡ Some ttl) × (since : ℕ) × (moment_of p.first ≡ Some since) × ((is_accepted (wait1 r now s) ≡ true) ↔ (some_awaited turn.First r s ≡ true → ttl * 1000000000 ≤ now - since)))
-    × (phase_of s r ≡ Some (state.CacheExpire2 ttl) → (ttl_of p.second ≡ Some ttl) × (since : ℕ) × (moment_of (counted_from r p) ≡ Some since) × ((is_accepted (wait2 r now s) ≡ true) ↔ (some_awaited turn.Second r s ≡ true → ttl * 1000000000 ≤ now - since)))
+    (phase_of s r ≡ Some (state.CacheExpire1 ttl) → (since : ℕ) × (p.first ≡ Some (since, ttl)) × ((is_accepted (wait1 r now s) ≡ true) ↔ (some_awaited turn.First r s ≡ true → ttl * 1000000000 ≤ now - since)))
+    × (phase_of s r ≡ Some (state.CacheExpire2 ttl) → (since : ℕ) × (p.second ≡ Some (since, ttl)) × ((is_accepted (wait2 r now s) ≡ true) ↔ (some_awaited turn.Second r s ≡ true → ttl * 1000000000 ≤ now - since)))
 
 -- what the flags of each role keep: a KSK role signs exactly where it is present; a ZSK role that signs is present, and isn't
 -- at the parent; a key of another owner is never used

@@ -9,7 +9,7 @@ pub mod set;
 mod settings;
 
 pub use keyset_keys::{
-    Available, Error, Key, KeyState, KeyTimestamps, KeyType, UnixTime, errors, keys, time,
+    Available, Error, Key, KeyState, KeyTimestamps, KeyType, UnixTime, errors, keys,
 };
 pub use keyset_rolls::{Action, RollState, RollType, rolls};
 pub use set::KeySet;

@@ -2,7 +2,7 @@
 ghost use Rattle.keyset_keys.specs.KeyTexts.{stage};
 ghost use Rattle.std.specs.Prelude.{[], if◌then◌else◌, ◌≡◌, option_copied, Some};
 
-use crate::time::UnixTime;
+use denial_fields::unix_time::UnixTime;
 use numbers::algorithm::SecurityAlgorithm;
 use std::alloc::AllocError;
 use std::fmt;

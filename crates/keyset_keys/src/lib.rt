@@ -4,8 +4,7 @@
 
 pub mod errors;
 pub mod keys;
-pub mod time;
 
+pub use denial_fields::unix_time::UnixTime;
 pub use errors::Error;
 pub use keys::{Available, Key, KeyState, KeyTimestamps, KeyType};
-pub use time::UnixTime;

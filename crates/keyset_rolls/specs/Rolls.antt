@@ -100,12 +100,12 @@ report1_stamps roll.AlgorithmRoll now r s = if zsk_is (λ _. true) r then see_rr
 abbrev pub reported1 : RollType → ℕ → Key → Key
 reported1 t now k = record k { stamps = if watched turn.First t k.roles then report1_stamps t now k.roles k.stamps else k.stamps }
 
--- the second report stamps by columns of its own; that of the double signatures stamps nothing
+-- the second report stamps by columns of its own
 abbrev pub report2_stamps : RollType → ℕ → KeyType → KeyTimestamps → KeyTimestamps
 report2_stamps roll.KskRoll now r s = if main_is (current is_at_parent) r then see_ds now s else s
 report2_stamps roll.KskDoubleDsRoll now r s = if main_is (current is_present) r then see now s else s
 report2_stamps roll.ZskRoll now r s = if main_is (current signs) r then see_rrsig now s else s
-report2_stamps roll.ZskDoubleSignatureRoll now r s = s
+report2_stamps roll.ZskDoubleSignatureRoll now r s = if main_is (current signs) r then see_rrsig now s else s
 report2_stamps roll.CskRoll now r s =
     let t : KeyTimestamps = if ksk_is (current is_present) r then see_ds now s else s in
     if zsk_is (current signs) r then see_rrsig now t else t

@@ -434,12 +434,11 @@ impl RollType {
             key.set_visible(*now);
         }
         let sees_rrsig = match self {
-            RollType::ZskRoll => !keytype.main_role().old() && keytype.main_role().signer(),
+            RollType::ZskRoll | RollType::ZskDoubleSignatureRoll => {
+                !keytype.main_role().old() && keytype.main_role().signer()
+            }
             RollType::CskRoll => has_signing_zsk(keytype),
-            RollType::KskRoll
-            | RollType::KskDoubleDsRoll
-            | RollType::ZskDoubleSignatureRoll
-            | RollType::AlgorithmRoll => false,
+            RollType::KskRoll | RollType::KskDoubleDsRoll | RollType::AlgorithmRoll => false,
         };
         if sees_rrsig {
             key.set_rrsig_visible(*now);

@@ -7,15 +7,15 @@ use Rattle.definitions.specs.Limits.{pointer_limit}
 use Rattle.definitions.specs.Reading.{ReadFault}
 use Rattle.definitions.proofs.SignedLaws.{wire_of}
 use Rattle.messages.proofs.ReadNames.{labelled}
-use Rattle.names_data.specs.Reading.{data_at, name_part}
+use Rattle.names_rdata.specs.Reading.{data_at, name_part}
 use Rattle.names_parsed.specs.Parsed.{parsed_name}
 use Rattle.names_parsed.specs.declared.parsed.ParsedName.{ParsedName}
 use Rattle.plain.specs.declared.ns.Ns.{Ns}
 use Rattle.plain.specs.declared.soa.Soa.{Soa}
 use Rattle.plain.specs.Ns.{ns_octets, ns_canonical}
 use Rattle.plain.specs.Soa.{soa_part, soa_octets, soa_canonical, times_octets}
-use Rattle.denial_links.specs.Nsec.{nsec_part}
-use Rattle.denial_links.specs.NsecData.{NsecData, nsec_octets}
+use Rattle.denial_nsec_data.specs.Nsec.{nsec_part}
+use Rattle.denial_nsec_data.specs.NsecData.{NsecData, nsec_octets}
 use Rattle.denial_data.specs.EqualData.{NumbersFit}
 use Rattle.denial_data.specs.Protos.{numbers_octets}
 use Rattle.denial_data.specs.RrsigData.{rrsig_octets}

@@ -6,10 +6,10 @@ ghost use Rattle.definitions.specs.Zone.{star_under};
 ghost use Rattle.messages.specs.HandedRr.{has_star};
 ghost use Rattle.messages.specs.Star.{begins_with_star};
 
-use names_data::composer::compose_canonical_name;
 pub use names_flat::name::Name;
 use names_labels::flat::{behind, split_label};
 use names_labels::traits::{Labels, ToLabelIter};
+use names_rdata::composer::compose_canonical_name;
 pub use names_traits::to_name::ToName;
 pub use names_wire::octets::Octets;
 use std::alloc::{AllocError, Global};

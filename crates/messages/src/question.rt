@@ -2,7 +2,7 @@
 ghost use Rattle.messages.specs.WrittenLaws.{IsQuestion};
 
 use crate::names::{Name, ZoneName};
-use names_data::rtype::Rtype;
+use names_rdata::rtype::Rtype;
 use plain::Class;
 
 /// What is asked for.

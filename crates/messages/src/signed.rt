@@ -1,5 +1,5 @@
 //! The octets that a signature is made over (RFC 4034, 3.1.8.1).
-ghost use Rattle.std.specs.Prelude.{◌≡◌, ◌++◌, map, IfOk, OnOk};
+ghost use Rattle.std.specs.Prelude.{◌≡◌, ◌++◌, map, IfOk, OnOk, OnErr};
 ghost use Rattle.definitions.specs.Name.{wire};
 ghost use Rattle.denial_data.specs.Protos.{fields_of};
 ghost use Rattle.messages.specs.Items.{items_of};
@@ -8,7 +8,7 @@ ghost use Rattle.messages.specs.Rrsig.{record_head, record_numbers, spelled_fiel
 
 use crate::names::{Name, Octets, ToName, ZoneName};
 use denial_data::ProtoRrsig;
-use names_data::rtype::Rtype;
+use names_rdata::rtype::Rtype;
 use plain::{Class, Ttl};
 use std::alloc::{AllocError, Global};
 
@@ -32,7 +32,7 @@ pub fn signed_octets<N: ToName, Octs: Octets>(
 }
 
 /// Writes what [`signed_octets`] gives at the end, of data however they are stored. Callers with many signatures reuse
-/// one vector.
+/// one vector. Where memory is wanting a part may stand there, and callers drop the vector.
 pub fn compose_signed_octets<N: ToName, Octs: Octets, Data: Octets>(
     alloc: Global,
     fields: &ProtoRrsig<N>,
@@ -79,13 +79,15 @@ fn compose_signed_fields<N: ToName>(
     }
 }
 
-/// Writes the fields as a record has them, the signer as spelled (RFC 4034, 3.1).
+/// Writes the fields as a record has them, the signer as spelled (RFC 4034, 3.1). A refused call leaves the target as it
+/// was.
 pub fn compose_fields<N: ToName>(
     fields: &ProtoRrsig<N>,
     out: &mut Vec<u8>,
 ) -> Result<(), AllocError>
     ensures ok { let octets = spelled_fields (fields_of N.name fields.now) in
         OnOk result (out.new.items ≡ out.old.items ++ octets) }
+    ensures err { OnErr result (out.new.items ≡ out.old.items) }
 {
     match fields.compose(out) {
         Ok(()) => Ok(()),

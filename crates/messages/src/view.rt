@@ -11,7 +11,7 @@ use crate::names::{ParsedName, read_name};
 use crate::octets::{record_numbers_at, u16_at};
 use crate::owner::Owner;
 use crate::question::Question;
-use names_data::rtype::Rtype;
+use names_rdata::rtype::Rtype;
 use plain::{Class, Ttl};
 use std::marker::Model;
 

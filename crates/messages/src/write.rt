@@ -1,10 +1,12 @@
 //! Messages as they are written (RFC 1035, 4.1), without compression.
-ghost use Rattle.std.specs.Prelude.{◌≡◌, ◌<◌, ◌^◌, ◌++◌, length, OnOk};
+//!
+//! A header, a question or a record that memory was wanting for may stand there in part: callers drop the message then.
+ghost use Rattle.std.specs.Prelude.{◌≡◌, ◌<◌, ◌^◌, ◌++◌, length, OnOk, OnErr};
 ghost use Rattle.std.specs.Int.{w16, w32, to_be_bytes};
 ghost use Rattle.messages.specs.Written.{written, header_octets, question_octets, record_octets};
 
 use crate::names::{Name, ZoneName};
-use names_data::rtype::Rtype;
+use names_rdata::rtype::Rtype;
 use plain::{Class, Ttl};
 use std::alloc::AllocError;
 
@@ -66,16 +68,18 @@ pub fn push_record(
     out.extend_from_slice(data)
 }
 
-/// Writes a 16-bit number at the end, the highest octet first (RFC 1035, 2.3.2).
+/// Writes a 16-bit number at the end, the highest octet first (RFC 1035, 2.3.2), or nothing.
 pub fn push_u16(out: &mut Vec<u8>, number: u16) -> Result<(), AllocError>
-    ensures { OnOk result (out.new.items ≡ out.old.items ++ to_be_bytes w16 number) }
+    ensures ok { OnOk result (out.new.items ≡ out.old.items ++ to_be_bytes w16 number) }
+    ensures err { OnErr result (out.new.items ≡ out.old.items) }
 {
     out.extend_from_slice(&number.to_be_bytes())
 }
 
-/// Writes a 32-bit number at the end, the highest octet first (RFC 1035, 2.3.2).
+/// Writes a 32-bit number at the end, the highest octet first (RFC 1035, 2.3.2), or nothing.
 pub fn push_u32(out: &mut Vec<u8>, number: u32) -> Result<(), AllocError>
-    ensures { OnOk result (out.new.items ≡ out.old.items ++ to_be_bytes w32 number) }
+    ensures ok { OnOk result (out.new.items ≡ out.old.items ++ to_be_bytes w32 number) }
+    ensures err { OnErr result (out.new.items ≡ out.old.items) }
 {
     out.extend_from_slice(&number.to_be_bytes())
 }

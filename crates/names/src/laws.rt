@@ -3,9 +3,9 @@
 ghost use Rattle.std.specs.Prelude.{◌≡◌, ◌^◌, ◌<◌, ℕ};
 ghost use Rattle.std.specs.Int.{w16, w32, w64, to_be_bytes, from_be_bytes};
 
-pub use names_data::laws::{names_are_read_back, unknown_data_are_read_back};
 pub use names_flat::laws::{canonical_order_is_total, names_below_an_apex_are_an_interval};
 pub use names_parsed::laws::what_is_read_is_passed_over;
+pub use names_rdata::laws::{names_are_read_back, unknown_data_are_read_back};
 
 /// What is composed of a number is read as that number (RFC 1035, 2.3.2).
 pub fn numbers_are_read_back()

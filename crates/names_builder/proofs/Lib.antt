@@ -1,5 +1,6 @@
 pub mod Builds
 pub mod FromTexts
+pub mod Fronts
 pub mod Numbers
 pub mod OneFault
 pub mod PartText

@@ -25,7 +25,7 @@ use Rattle.names_builder.specs.declared.text_error.Fault.{Fault}
 use Rattle.names_builder.specs.declared.text_error.Fault.TheVariants.{EmptyLabel}
 use Rattle.names_builder.specs.declared.text_error.FromStrError.{FromStrError}
 use Rattle.names_builder.specs.declared.text_error.FromStrError.TheVariants.{Presentation, ShortBuf}
-use Rattle.names_builder.specs.FromText.{standing, continued, symbols_behind, text_behind, AddsChar, StopsInText, FirstFault, NameFault, RelativeFault, StopsAtSymbol, FirstSymbolFault, SymbolsFault, IsAbsolute}
+use Rattle.names_builder.specs.FromText.{standing, continued, symbols_behind, text_behind, AddsChar, StopsInText, FirstFault, FaultBehind, NameFault, RelativeFault, StopsAtSymbol, FirstSymbolFault, SymbolsFault, IsAbsolute}
 use Rattle.names_builder.proofs.FromTexts.{text_step, without_last}
 
 pub all_standing : (b : Building) → without_empty (standing b) ≡ all_labels b
@@ -270,9 +270,9 @@ fault_behind steps s t c b now new reader later ShortBuf h i r a o = tt
 fault_behind steps s t c b now new reader later (Presentation p) h i r a o =
     inr (new, behind_first steps s t c now new later (named p) h (subst (λ x. AddsChar x [] c now later) i (subst (λ x. AddsChar b x c now later) r a)) o)
 
-pub relative_fault : {S : Type 0} (steps : S → Option ℕ → S → Type 0) (s : S) (b new : Building) (e : FromStrError) → b ≡ nothing → IfSome (fault_of e) (FirstFault steps s [] b new) → IfSome (fault_of e) (RelativeFault steps s)
-relative_fault steps s b new ShortBuf i o = tt
-relative_fault steps s b new (Presentation p) i o = (new, subst (λ x. FirstFault steps s [] x new (named p)) i o)
+pub relative_fault : {S : Type 0} (steps : S → Option ℕ → S → Type 0) (s : S) (b : Building) (e : FromStrError) → b ≡ nothing → IfSome (fault_of e) (FaultBehind steps s b) → IfSome (fault_of e) (RelativeFault steps s)
+relative_fault steps s b ShortBuf i o = tt
+relative_fault steps s b (Presentation p) i o = (o.0, subst (λ x. FirstFault steps s [] x o.0 (named p)) i o.1)
 
 -- a dot in front of all symbols
 pub dot_symbol : {S : Type 0} (steps : S → Option WireSymbol → S → Type 0) (s t : S) (c : WireSymbol) (f : Fault) → steps s (Some c) t → is_dot (symbol_of c) ≡ true → f ≡ EmptyLabel → FirstSymbolFault steps s nothing nothing f

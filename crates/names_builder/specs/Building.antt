@@ -73,6 +73,12 @@ pub record IsShort (b : Building) : Type 0 where
   pub open_label : length b.open_label ≤ 63
   pub name : length (octets_of_building b) ≤ 254
 
+-- A builder held this before more was added: so many octets in front, where a label is open at this place.
+pub record IsFront (before : Building) (len : ℕ) (head : Option ℕ) (now : Building) : Type 0 where
+  pub octets : closed (take len (octets_of_building now)) head 0 ≡ octets_of_building before
+  pub place : head ≡ head_of before.open_label (length (spelled before.done))
+  pub short : IsShort before
+
 -- the buffer holds this
 pub record Holds (bs : List ℕ) (head : Option ℕ) (b : Building) : Type 0 where
   pub octets : bs ≡ octets_of_building b

@@ -113,10 +113,14 @@ pub record FirstFault {S : Type 0} (steps : S → Option ℕ → S → Type 0) (
       ((ch : ℕ) × (t : S) × steps stop.after (Some ch) t × CharFault new stop.unfinished ch f)
       ⊎ ((t : S) × steps stop.after None t × (symbols_of stop.unfinished ≡ None) × (f ≡ BadText ShortInput))
 
+-- the first fault of the characters that an iterator gives behind what a builder has
+abbrev pub FaultBehind : {S : Type 0} → (S → Option ℕ → S → Type 0) → S → Building → Fault → Type 0
+FaultBehind {S} steps s old f = (at : Building) × FirstFault steps s [] old at f
+
 -- The first fault of the characters that an iterator gives as a name: there are none, or that of the first refused one.
 abbrev pub NameFault : {S : Type 0} → (S → Option ℕ → S → Type 0) → S → Fault → Type 0
 NameFault {S} steps s f =
-    ((t : S) × steps s None t × (f ≡ EmptyLabel)) ⊎ ((new : Building) × FirstFault steps s [] nothing new f)
+    ((t : S) × steps s None t × (f ≡ EmptyLabel)) ⊎ FaultBehind steps s nothing f
 
 -- ---- symbols that an iterator gives
 
@@ -146,7 +150,7 @@ SymbolsFault {S} steps s f =
 
 -- the first fault of the characters that an iterator gives as a relative name
 abbrev pub RelativeFault : {S : Type 0} → (S → Option ℕ → S → Type 0) → S → Fault → Type 0
-RelativeFault {S} steps s f = (new : Building) × FirstFault steps s [] nothing new f
+RelativeFault {S} steps s f = FaultBehind steps s nothing f
 
 -- The text spells an absolute name that has a label. The text of the root alone is refused as one with an empty label.
 abbrev pub IsAbsolute : List ℕ → Type 0

@@ -9,9 +9,9 @@ ghost use Rattle.definitions.specs.Text.{Symbol as TextSymbol};
 ghost use Rattle.names_wire.specs.Symbols.{symbol_of, is_begun};
 ghost use Rattle.names_wire.specs.Spelled.{CharsSpell, SpellsNothing};
 ghost use Rattle.names_labels.specs.Open.{if_open_short};
-ghost use Rattle.names_builder.specs.FromText.{is_text, continued, standing, text_behind, AddsChar, ReadsSymbols, StopsAtSymbol, StopsInText, FirstFault};
+ghost use Rattle.names_builder.specs.FromText.{is_text, continued, standing, text_behind, AddsChar, ReadsSymbols, StopsAtSymbol, StopsInText, FirstFault, FaultBehind};
 ghost use Rattle.names_builder.specs.Fault.{CharFault, FaultAt, fault_of};
-ghost use Rattle.names_builder.specs.Building.{Building, IsShort, octets_of_building, IsLongLabel, IsLongName, IsOver, with_octets, closed, ended, labels_with, with_labels, all_labels};
+ghost use Rattle.names_builder.specs.Building.{Building, IsShort, IsFront, octets_of_building, IsLongLabel, IsLongName, IsOver, with_octets, closed, ended, labels_with, with_labels, all_labels};
 
 use crate::push_error::{PushError, PushNameError};
 use crate::text::octet_of;
@@ -281,10 +281,29 @@ impl<B: OctetsBuilder> NameBuilder<B> {
         Ok(())
     }
 
-    /// Adds symbols: octets to the open label, and at each dot a label's end.
-    ///
-    /// At a symbol that is refused it stops, with the fault of that symbol; what those before it made stands.
+    /// Adds symbols: octets to the open label, and at each dot a label's end. A symbol that is refused, with those before
+    /// it added, gives its fault.
     pub fn append_symbols<S: Iterator<Item = Symbol> + Drop>(
+        &mut self,
+        symbols: S,
+    ) -> Result<(), FromStrError>
+        requires can { S.can_next symbols }
+        requires ends { IsFinite (S.remaining symbols) }
+        ensures ok { OnOk result (ReadsSymbols S.next_gives symbols self.old self.new) }
+        ensures refused { let stops = StopsAtSymbol S.next_gives symbols self.old in
+            IfErr result (λ e. (at : Building) × stops at e) }
+        ensures err { OnErr result (self.new ≡ self.old) }
+    {
+        let (len, head) = (self.len(), self.head);
+        let done = self.add_symbols(symbols);
+        if done.is_err() {
+            self.put_back(len, head);
+        }
+        done
+    }
+
+    /// As `append_symbols`; at a symbol that is refused it stops, and what those before it made stands.
+    pub(crate) fn add_symbols<S: Iterator<Item = Symbol> + Drop>(
         &mut self,
         symbols: S,
     ) -> Result<(), FromStrError>
@@ -298,6 +317,16 @@ impl<B: OctetsBuilder> NameBuilder<B> {
             self.push_symbol(symbol)?;
         }
         Ok(())
+    }
+
+    /// Takes back all behind so many octets: where a label was open there, it is open again.
+    fn put_back(&mut self, len: usize, head: Option<usize>)
+        requires { (before : Building) × IsFront before len head self.old }
+        ensures { (before : Building) → IsFront before len head self.old → self.new ≡ before }
+    {
+        self.builder.truncate(len);
+        close(&mut self.builder, head, 0);
+        self.head = head;
     }
 
     /// Adds a character behind those that a reader has of a symbol.
@@ -326,10 +355,8 @@ impl<B: OctetsBuilder> NameBuilder<B> {
         Ok(())
     }
 
-    /// Adds the symbols that characters spell: octets to the open label, and at each dot a label's end.
-    ///
-    /// At a character behind which no name can come it stops, with the fault of that character; what the whole symbols
-    /// before it made stands.
+    /// Adds the symbols that characters spell: octets to the open label, and at each dot a label's end. The first
+    /// character behind which no name can come gives its fault.
     pub fn append_chars<C: Iterator<Item = char> + Drop>(
         &mut self,
         chars: C,
@@ -340,14 +367,20 @@ impl<B: OctetsBuilder> NameBuilder<B> {
             OnOk result (spell (standing self.new)) }
         ensures refused { IfErr result (λ e. is_text e ≡ true
             → SpellsNothing C.next_gives chars (text_behind self.old)) }
-        ensures stands { OnErr result (StopsInText C.next_gives chars [] self.old self.new) }
-        ensures fault { let is = FirstFault C.next_gives chars [] self.old self.new in
+        ensures err { OnErr result (self.new ≡ self.old) }
+        ensures fault { let is = FaultBehind C.next_gives chars self.old in
             IfErr result (λ e. IfSome (fault_of e) is) }
     {
-        self.append_text(SymbolReader::new(), chars)
+        let (len, head) = (self.len(), self.head);
+        let done = self.append_text(SymbolReader::new(), chars);
+        if done.is_err() {
+            self.put_back(len, head);
+        }
+        done
     }
 
-    /// Adds the symbols that characters spell behind those that a reader has of one.
+    /// Adds the symbols that characters spell behind those that a reader has of one. At a character behind which no name
+    /// can come it stops; what the whole symbols before it made stands.
     pub(crate) fn append_text<C: Iterator<Item = char> + Drop>(
         &mut self,
         reader: SymbolReader,

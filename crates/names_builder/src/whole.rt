@@ -42,7 +42,7 @@ pub fn read_symbols<S: Iterator<Item = Symbol> + Drop>(
     }
     let mut builder = NameBuilder::new(alloc);
     builder.push_symbol(first)?;
-    builder.append_symbols(symbols)?;
+    builder.add_symbols(symbols)?;
     Ok(builder)
 }
 

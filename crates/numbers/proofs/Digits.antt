@@ -1,5 +1,6 @@
 -- base32hex, block by block.
 use Rattle.std.proofs.lemmas.List.{take-append-drop}
+use Rattle.std.proofs.Math.Seq.{take-append_seam}
 use Rattle.std.proofs.Common.{◌≡◌, ℕ, ◌≤◌, List, [], ◌∷◌, ◌++◌, length, take, drop, refl, sym, ap, ◌∙◌, arith, get_or, append_assoc, length-take-le}
 use Rattle.definitions.specs.Base32hex.{base32hex}
 use Rattle.numbers.specs.Blocks.{front_digits, back_digits, block_text}
@@ -40,3 +41,10 @@ one_block old new rest block behind all some b d n h =
     let whole : block ++ behind ≡ rest = (λ i. b i ++ d i) ∙ take-append-drop 5 rest in
     ap (λ t. t ++ base32hex behind) n ∙ append_assoc old (base32hex block) (base32hex behind)
     ∙ ap (λ t. old ++ t) (sym (block_first block behind len) ∙ ap base32hex whole) ∙ h
+
+-- what stands in front stays there when more is appended
+pub kept : (old xs ys : List ℕ) → take (length old) xs ≡ old → take (length old) (xs ++ ys) ≡ old
+kept old xs ys h =
+    let rest = drop (length old) xs in
+    let whole : old ++ rest ≡ xs = (λ i. sym h i ++ rest) ∙ take-append-drop (length old) xs in
+    ap (λ t. take (length old) (t ++ ys)) (sym whole) ∙ ap (take (length old)) (append_assoc old rest ys) ∙ take-append_seam old (rest ++ ys)

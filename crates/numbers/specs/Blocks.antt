@@ -1,5 +1,5 @@
 -- The digits of at most five octets (RFC 4648, 7).
-use Rattle.std.specs.Prelude.{ℕ, ◌+◌, ◌*◌, ◌/◌, ◌%◌, List, [], ◌∷◌, take}
+use Rattle.std.specs.Prelude.{ℕ, ◌+◌, ◌*◌, ◌/◌, ◌%◌, List, [], ◌∷◌, take, slice_index_or}
 use Rattle.definitions.specs.Base32hex.{base32hex, digit}
 
 abbrev pub front_digits : ℕ → ℕ → ℕ → List ℕ
@@ -15,3 +15,8 @@ three_digits c d = digit (c % 16 * 2 + d / 128) ∷ digit (d / 4 % 32) ∷ digit
 -- the digits of the first five octets
 abbrev pub block_text : List ℕ → List ℕ
 block_text octets = base32hex (take 5 octets)
+
+-- fewer than five octets, and zeros behind them
+abbrev pub padded : List ℕ → List ℕ
+padded octets =
+    slice_index_or octets 0 0 ∷ slice_index_or octets 1 0 ∷ slice_index_or octets 2 0 ∷ slice_index_or octets 3 0 ∷ slice_index_or octets 4 0 ∷ []

@@ -1,9 +1,10 @@
 //! base32hex: unpadded and in lower case, eight digits for five octets (RFC 4648, 7; RFC 5155, 3.3).
 
-ghost use Rattle.std.specs.Prelude.{◌≡◌, ◌==◌, ◌<◌, ◌++◌, ◌∷◌, [], length, not, position, slice_index_or, IsTrue, OnOk, IfOk, IfErr, MatchBool, MatchOption, ◌↔◌};
+ghost use Rattle.std.specs.Prelude.{◌≡◌, ◌==◌, ◌<◌, ◌++◌, ◌∷◌, [], length, not, position, slice_index_or, take, IsTrue, OnOk, OnErr, IfOk, IfErr, MatchBool, MatchOption, ◌↔◌};
 ghost use Rattle.std.specs.Char.{to_ascii_lowercase};
 ghost use Rattle.std.specs.List.{AllByRecursion, list_all};
 ghost use Rattle.std.specs.Str.{str_to_ascii_lowercase};
+ghost use Rattle.numbers.specs.Blocks.{padded};
 ghost use Rattle.numbers.specs.Decoding.{is_digit, filled, Spells, SpellsNothing, Appends};
 ghost use Rattle.numbers.specs.Refusing.{IsBadLength, RefusedText};
 ghost use Rattle.std.specs.String.{string_bytes};
@@ -25,9 +26,24 @@ pub fn encode(alloc: Global, octets: &[u8]) -> Result<String, AllocError>
     Ok(unsafe { String::from_utf8_unchecked(digits) })
 }
 
-/// Appends the digits of octets. Where memory is wanting, the first of them may stand there.
+/// Appends the digits of octets. A refused call leaves the digits as they were.
 pub fn append(digits: &mut Vec<u8>, octets: &[u8]) -> Result<(), AllocError>
-    ensures { OnOk result (digits.new.items ≡ digits.old.items ++ base32hex octets.now) }
+    ensures ok { OnOk result (digits.new.items ≡ digits.old.items ++ base32hex octets.now) }
+    ensures err { OnErr result (digits.new.items ≡ digits.old.items) }
+{
+    let len = digits.len();
+    let done = append_blocks(digits, octets);
+    if done.is_err() {
+        digits.truncate(len);
+    }
+    done
+}
+
+/// As `append`, which takes back what there was memory for.
+fn append_blocks(digits: &mut Vec<u8>, octets: &[u8]) -> Result<(), AllocError>
+    ensures ok { OnOk result (digits.new.items ≡ digits.old.items ++ base32hex octets.now) }
+    ensures err { let old = digits.old.items in
+        OnErr result (take (length old) digits.new.items ≡ old) }
 {
     let mut rest = octets;
     while rest.len() >= 5 {
@@ -35,7 +51,7 @@ pub fn append(digits: &mut Vec<u8>, octets: &[u8]) -> Result<(), AllocError>
         digits.extend_from_slice(&block_digits(block))?;
         rest = behind;
     }
-    push_tail(digits, rest)
+    append_tail(digits, rest)
 }
 
 /// The eight digits of five octets.
@@ -56,41 +72,28 @@ fn block_digits(octets: &[u8]) -> [u8; 8]
     ]
 }
 
-fn push_digit(digits: &mut Vec<u8>, value: u8) -> Result<(), AllocError>
-    requires { value < 32 }
-    ensures { OnOk result (digits.new.items ≡ digits.old.items ++ digit value ∷ []) }
+/// Appends the digits of fewer than five octets, or nothing. A last digit is filled with zero bits.
+fn append_tail(digits: &mut Vec<u8>, octets: &[u8]) -> Result<(), AllocError>
+    requires { length octets.now < 5 }
+    ensures ok { OnOk result (digits.new.items ≡ digits.old.items ++ base32hex octets.now) }
+    ensures err { OnErr result (digits.new.items ≡ digits.old.items) }
 {
-    digits.push(digit_octet(value))?;
+    let block = block_digits(&padded(octets));
+    digits.extend_from_slice(&block[..(octets.len() * 8).div_ceil(5)])?;
     Ok(())
 }
 
-/// The digits of fewer than five octets: a last digit is filled with zero bits.
-fn push_tail(digits: &mut Vec<u8>, octets: &[u8]) -> Result<(), AllocError>
-    requires { length octets.now < 5 }
-    ensures { OnOk result (digits.new.items ≡ digits.old.items ++ base32hex octets.now) }
+/// Fewer than five octets, and zeros behind them.
+fn padded(octets: &[u8]) -> [u8; 5]
+    ensures { result ≡ padded octets.now }
 {
-    let Some(&a) = octets.first() else {
-        return Ok(());
-    };
-    push_digit(digits, a / 8)?;
-    if octets.len() == 1 {
-        return push_digit(digits, a % 8 * 4);
-    }
-    let b = octets[1];
-    push_digit(digits, a % 8 * 4 + b / 64)?;
-    push_digit(digits, b / 2 % 32)?;
-    if octets.len() == 2 {
-        return push_digit(digits, b % 2 * 16);
-    }
-    let c = octets[2];
-    push_digit(digits, b % 2 * 16 + c / 16)?;
-    if octets.len() == 3 {
-        return push_digit(digits, c % 16 * 2);
-    }
-    let d = octets[3];
-    push_digit(digits, c % 16 * 2 + d / 128)?;
-    push_digit(digits, d / 4 % 32)?;
-    push_digit(digits, d % 4 * 8)
+    [
+        octet_or(octets, 0, 0),
+        octet_or(octets, 1, 0),
+        octet_or(octets, 2, 0),
+        octet_or(octets, 3, 0),
+        octet_or(octets, 4, 0),
+    ]
 }
 
 /// Why text is not base32hex: the first of these that holds.
@@ -235,21 +238,22 @@ fn filled(digits: &[u8]) -> [u8; 8]
     ensures { result ≡ filled digits.now }
 {
     [
-        digit_or_zero(digits, 0),
-        digit_or_zero(digits, 1),
-        digit_or_zero(digits, 2),
-        digit_or_zero(digits, 3),
-        digit_or_zero(digits, 4),
-        digit_or_zero(digits, 5),
-        digit_or_zero(digits, 6),
-        digit_or_zero(digits, 7),
+        octet_or(digits, 0, b'0'),
+        octet_or(digits, 1, b'0'),
+        octet_or(digits, 2, b'0'),
+        octet_or(digits, 3, b'0'),
+        octet_or(digits, 4, b'0'),
+        octet_or(digits, 5, b'0'),
+        octet_or(digits, 6, b'0'),
+        octet_or(digits, 7, b'0'),
     ]
 }
 
-fn digit_or_zero(digits: &[u8], place: usize) -> u8
-    ensures { result ≡ slice_index_or digits.now place 48 }
+/// The octet at a place, or another where there is none.
+fn octet_or(octets: &[u8], place: usize, other: u8) -> u8
+    ensures { result ≡ slice_index_or octets.now place other }
 {
-    digits.get(place).copied().unwrap_or(b'0')
+    octets.get(place).copied().unwrap_or(other)
 }
 
 fn are_zeros(octets: &[u8]) -> bool

@@ -7,8 +7,8 @@ use Rattle.definitions.specs.Name.{Name, wire}
 use Rattle.definitions.specs.Reading.{ReadFault, Short, Malformed, name_at}
 use Rattle.definitions.proofs.ReadingLaws.{reads_exactly, ends_within}
 use Rattle.names_parsed.specs.Standing.{Stands}
-use Rattle.names_data.specs.Reading.{Part, name_inside, name_part, octets_part, behind_octets, followed_by, two_parts, ended, data_at}
-use Rattle.names_data.proofs.Parts.{two_ok}
+use Rattle.names_rdata.specs.Reading.{Part, name_inside, name_part, octets_part, behind_octets, followed_by, two_parts, ended, data_at}
+use Rattle.names_rdata.proofs.Parts.{two_ok}
 use Rattle.plain.specs.Soa.{soa_part}
 use Rattle.plain.specs.Spelling.{StandsAsSoa, SoaIsNamesAndNumbers, NsIsName}
 

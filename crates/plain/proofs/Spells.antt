@@ -11,7 +11,7 @@ use Rattle.plain.specs.Soa.{times_octets, soa_octets, soa_canonical}
 use Rattle.plain.specs.Ns.{ns_octets, ns_canonical}
 use Rattle.plain.specs.Records.{head_octets, spelled}
 use Rattle.plain.specs.Spelling.{IsSoa, itself, SameSoa, SoaOctetsSpell, NsOctetsSpell, FitsRecord, SameParts, RecordOctetsSpell}
-use Rattle.names_data.specs.Composing.{with_length}
+use Rattle.names_rdata.specs.Composing.{with_length}
 use Rattle.plain.specs.declared.soa.Soa.{Soa}
 use Rattle.plain.specs.declared.soa.Times.{Times}
 use Rattle.plain.specs.declared.ns.Ns.{Ns}

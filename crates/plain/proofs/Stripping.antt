@@ -17,7 +17,7 @@ use Rattle.names_labels.specs.Order.{in_case}
 use Rattle.names_labels.specs.declared.order.Case.TheVariants.{Lowered}
 use Rattle.names_labels.proofs.Checks.{spelled-push}
 use Rattle.names_labels.proofs.Runs.{spelled-append}
-use Rattle.names_data.proofs.Names.{lowered_is_wire}
+use Rattle.names_rdata.proofs.Names.{lowered_is_wire}
 use lib.Pointwise.{pointwise}
 
 -- the same octets in front of both decide nothing

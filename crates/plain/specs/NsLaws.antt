@@ -1,7 +1,7 @@
 -- Lower case changes no length of NS data.
 use Rattle.std.proofs.Common.{◌≡◌, length}
 use Rattle.definitions.specs.Name.{Name}
-use Rattle.names_data.proofs.Lengths.{lower_as_long}
+use Rattle.names_rdata.proofs.Lengths.{lower_as_long}
 use Rattle.plain.specs.Ns.{ns_octets, ns_canonical}
 use Rattle.plain.specs.declared.ns.Ns.{Ns}
 

@@ -4,7 +4,7 @@ use Rattle.std.specs.Int.{w16, w32, to_be_bytes}
 use Rattle.std.specs.Ordering.{nat_cmp, ordering_then}
 use Rattle.std.specs.declared.cmp.Ordering.{Ordering}
 use Rattle.definitions.specs.Name.{Name, wire, low, name_cmp}
-use Rattle.names_data.specs.Composing.{with_length}
+use Rattle.names_rdata.specs.Composing.{with_length}
 use Rattle.plain.specs.declared.record.Record.{Record}
 
 -- type, class and TTL

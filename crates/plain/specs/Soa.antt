@@ -2,7 +2,7 @@
 use Rattle.std.specs.Prelude.{ℕ, List, ◌++◌}
 use Rattle.std.specs.Int.{w32, to_be_bytes}
 use Rattle.definitions.specs.Name.{Name, wire, low}
-use Rattle.names_data.specs.Reading.{Part, name_part, octets_part, two_parts}
+use Rattle.names_rdata.specs.Reading.{Part, name_part, octets_part, two_parts}
 use Rattle.plain.specs.declared.soa.Soa.{Soa}
 use Rattle.plain.specs.declared.soa.Times.{Times}
 

@@ -1,7 +1,7 @@
 -- Lower case changes no length of SOA data.
 use Rattle.std.proofs.Common.{◌≡◌, ◌++◌, length, length-append, arith}
 use Rattle.definitions.specs.Name.{Name, wire, low}
-use Rattle.names_data.proofs.Lengths.{lower_as_long}
+use Rattle.names_rdata.proofs.Lengths.{lower_as_long}
 use Rattle.plain.specs.Soa.{soa_octets, soa_canonical, times_octets}
 use Rattle.plain.specs.declared.soa.Soa.{Soa}
 

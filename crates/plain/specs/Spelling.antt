@@ -3,8 +3,8 @@ use Rattle.std.specs.Prelude.{◌≡◌, ◌↔◌, ℕ, ◌+◌, ◌^◌, ◌<�
 use Rattle.definitions.specs.Name.{Name, IsName, wire, low, same}
 use Rattle.names_parser.specs.Reader.{Reader}
 use Rattle.names_parsed.specs.Standing.{Stands}
-use Rattle.names_data.specs.Reading.{data_at, name_part}
-use Rattle.names_data.specs.ReadBack.{IsReadBack}
+use Rattle.names_rdata.specs.Reading.{data_at, name_part}
+use Rattle.names_rdata.specs.ReadBack.{IsReadBack}
 use Rattle.plain.specs.Soa.{soa_part, soa_octets, soa_canonical}
 use Rattle.plain.specs.Ns.{ns_octets, ns_canonical}
 use Rattle.plain.specs.Records.{spelled}

@@ -1,7 +1,7 @@
 -- The data of a zone's records: SOA, NS, and other types as octets.
 use Rattle.std.specs.Prelude.{ℕ, Bool, true, false, List, if◌then◌else◌, nat_eq}
 use Rattle.definitions.specs.Name.{Name}
-use Rattle.names_data.specs.Reading.{Part, name_part, rest_part, limited}
+use Rattle.names_rdata.specs.Reading.{Part, name_part, rest_part, limited}
 use Rattle.plain.specs.Soa.{soa_octets, soa_canonical, soa_part}
 use Rattle.plain.specs.Ns.{ns_octets, ns_canonical}
 use Rattle.plain.specs.declared.zone_data.ZoneRecordData.{ZoneRecordData}

@@ -1,8 +1,8 @@
 //! Laws of record data and records. Each is a function without a parameter, whose contract is the law.
 
 ghost use Rattle.definitions.specs.Name.{Name, IsName, wire};
-ghost use Rattle.names_data.specs.Reading.{name_part};
-ghost use Rattle.names_data.specs.ReadBack.{IsReadBack};
+ghost use Rattle.names_rdata.specs.Reading.{name_part};
+ghost use Rattle.names_rdata.specs.ReadBack.{IsReadBack};
 ghost use Rattle.plain.specs.Spelling.{SoaIsReadBack, SoaIsNamesAndNumbers, NsIsName, SoaOctetsSpell, NsOctetsSpell, RecordOctetsSpell};
 
 /// SOA data are read as the octets that were written, wherever they stand in a message (RFC 1035, 3.3.13).

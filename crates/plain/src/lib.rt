@@ -9,7 +9,7 @@ pub mod soa;
 pub mod zone_data;
 pub mod zone_order;
 
-pub use names_data::rtype::Rtype;
+pub use names_rdata::rtype::Rtype;
 pub use numbers::algorithm::{DigestAlgorithm, SecurityAlgorithm};
 pub use numbers::class::Class;
 pub use numbers::ttl::Ttl;

@@ -5,19 +5,19 @@ ghost use Rattle.std.specs.Ordering.{nat_cmp};
 ghost use Rattle.std.specs.Cmp.Lexicographic.{slice_cmp};
 ghost use Rattle.definitions.specs.Name.{wire, low};
 ghost use Rattle.names_parsed.specs.Parsed.{parsed_name};
-ghost use Rattle.names_data.specs.Reading.{ReadsPart, ReadsData, data_at, name_part};
+ghost use Rattle.names_rdata.specs.Reading.{ReadsPart, ReadsData, data_at, name_part};
 ghost use Rattle.plain.specs.Ns.{ns_octets, ns_canonical};
 
-use names_data::canonical::CanonicalOrd;
-use names_data::composer::{Composer, compose_canonical_name};
-use names_data::data::{ComposeRecordData, ParseRecordData, RecordData};
-use names_data::reading::{closed, parse_name};
-use names_data::rtype::Rtype;
 use names_labels::order::lowercase_composed_cmp;
 use names_labels::traits::{Absolute, ToLabelIter};
 use names_parsed::parsed::ParsedName;
 use names_parser::error::ParseError;
 use names_parser::parser::Parser;
+use names_rdata::canonical::CanonicalOrd;
+use names_rdata::composer::{Composer, compose_canonical_name};
+use names_rdata::data::{ComposeRecordData, ParseRecordData, RecordData};
+use names_rdata::reading::{closed, parse_name};
+use names_rdata::rtype::Rtype;
 use names_wire::builder::ShortBuf;
 use std::cmp::Ordering;
 

@@ -3,12 +3,12 @@
 ghost use Rattle.std.specs.Prelude.{◌≡◌, ◌++◌, length, take, OnOk, OnErr};
 ghost use Rattle.plain.specs.Records.{head_octets, record_octets, record_canonical};
 
-use names_data::canonical::CanonicalOrd;
-use names_data::composer::{Composer, compose_canonical_name, or_undone};
-use names_data::data::{ComposeRecordData, RecordData};
-use names_data::rtype::Rtype;
 use names_labels::order::name_cmp;
 use names_labels::traits::Absolute;
+use names_rdata::canonical::CanonicalOrd;
+use names_rdata::composer::{Composer, compose_canonical_name, or_undone};
+use names_rdata::data::{ComposeRecordData, RecordData};
+use names_rdata::rtype::Rtype;
 use names_wire::builder::{OctetsBuilder, ShortBuf};
 use numbers::class::Class;
 use numbers::ttl::Ttl;

@@ -4,19 +4,19 @@ ghost use Rattle.std.specs.Prelude.{◌≡◌, IfOk};
 ghost use Rattle.std.specs.Ordering.{nat_cmp};
 ghost use Rattle.std.specs.Cmp.Lexicographic.{slice_cmp};
 ghost use Rattle.names_parsed.specs.Parsed.{parsed_name};
-ghost use Rattle.names_data.specs.Reading.{ReadsData, data_at};
+ghost use Rattle.names_rdata.specs.Reading.{ReadsData, data_at};
 ghost use Rattle.plain.specs.ZoneData.{zone_type, zone_octets, zone_canonical, zone_part, zone_compressible};
 
 use crate::ns::Ns;
 use crate::soa::Soa;
-use names_data::composer::Composer;
-use names_data::data::{ComposeRecordData, ParseAnyRecordData, ParseRecordData, RecordData};
-use names_data::rtype::Rtype;
-use names_data::unknown::UnknownRecordData;
 use names_labels::traits::Absolute;
 use names_parsed::parsed::ParsedName;
 use names_parser::error::ParseError;
 use names_parser::parser::Parser;
+use names_rdata::composer::Composer;
+use names_rdata::data::{ComposeRecordData, ParseAnyRecordData, ParseRecordData, RecordData};
+use names_rdata::rtype::Rtype;
+use names_rdata::unknown::UnknownRecordData;
 use names_wire::builder::ShortBuf;
 use names_wire::octets::Octets;
 

@@ -2,10 +2,10 @@
 ghost use Rattle.std.specs.Prelude.{◌≡◌, ◌++◌, ◌∷◌, [], OnOk, length, slice_get};
 ghost use Rattle.std.specs.Option.{option_map};
 ghost use Rattle.answer.specs.Results.{octets_of, set_of};
-ghost use Rattle.answer_life.specs.Simulating.{OfParent, OfKeys, OfZone};
+ghost use Rattle.answer_laws.specs.Simulating.{OfParent, OfKeys, OfZone};
 ghost use Rattle.messages.specs.Questions.{asked_of};
 
-use answer_life::outcome::Outcome;
+use answer_laws::outcome::Outcome;
 use denial_data::Ds;
 use messages::question::Question;
 use std::alloc::{AllocError, Global};

@@ -1,41 +1,29 @@
 //! A run of events, one at a time.
-ghost use Rattle.std.specs.Prelude.{◌≡◌, ◌≤◌, [], ℕ, IfOk, IfErr, OnOk, length, map, slice_get, string_bytes};
+ghost use Rattle.std.specs.Prelude.{◌≡◌, ◌≤◌, [], ℕ, OnOk, map, slice_get};
 ghost use Rattle.definitions.specs.Limits.{pointer_limit};
-ghost use Rattle.answer_keys.specs.Bindings.{Add, apply, dnskey_for, is_bound_away};
-ghost use Rattle.answer_events.specs.Calls.{call_of};
-ghost use Rattle.answer_events.specs.Events.{added_octets, added_by_call};
+ghost use Rattle.answer_events.specs.Events.{added_octets};
 ghost use Rattle.answer_judge.specs.Meeting.{JudgesSo};
-ghost use Rattle.answer_keys.specs.KeyCalls.{Gives, RanOutCopying, RefusesAhead};
-ghost use Rattle.keyset.specs.KeyState as key_state;
-ghost use Rattle.answer_publisher.specs.World.{digests};
+ghost use Rattle.messages.specs.HandedRr.{handed_of};
 ghost use Rattle.messages.specs.Questions.{asked_of};
 ghost use Rattle.messages.specs.WrittenLaws.{IsQuestion};
 ghost use Rattle.answer.specs.Running.{sofar_in, world_in, Serves};
-ghost use Rattle.answer_life.specs.Simulating.{handing, JudgesThings, JudgesBytes};
+ghost use Rattle.answer_laws.specs.Simulating.{handing, JudgesThings, JudgesBytes, Replaces};
 
+use crate::simulation::copies::copy_records;
 use crate::simulation::results::{Results, Thing};
-use answer_events::event::{Act, Event, KeyCall};
-use answer_events::key_kind::{KeyKind, availability};
+use answer_events::event::{Act, Event};
 use answer_judge::{Case, Judgement, Refused, judge_with};
-use answer_life::outcome::Outcome;
-use answer_publisher::fault::KeyFault;
+use answer_laws::outcome::Outcome;
+use answer_publisher::fault::{ReplaceFault, ZoneFault};
 use answer_publisher::publishing::Publisher;
 use answer_scheme::scheme::Scheme;
 use denial_data::Ds;
-use denial_hashes::hasher::Nsec3Hasher;
-use keyset::{Action, Available, UnixTime};
+use denial_nsec3_hash::hasher::Nsec3Hasher;
+use keyset::UnixTime;
 use messages::names::ZoneName;
 use messages::question::Question;
-use numbers::algorithm::SecurityAlgorithm;
+use messages::record::ZoneRecord;
 use std::alloc::{AllocError, Global};
-
-/// A key that is to be added, copied from its event.
-#[derive(Drop)]
-struct KeyCopy {
-    pubref: String,
-    privref: Option<String>,
-    public_key: Vec<u8>,
-}
 
 /// A run so far: the publisher, and what came of the events.
 #[derive(Drop)]
@@ -75,16 +63,22 @@ impl<'a, S: Scheme, H: Nsec3Hasher> Run<'a, S, H> {
         ensures step { let w = world_in S.signature_of S.verifies S.digest_of H.hash_of self.old in
             let e = event.now in
             OnOk result (Serves w self.old e.at e.act self.new) }
-        ensures rest { self.new ≡ record self.old {
+        ensures rest { let p = self.new.publisher in self.new ≡ record self.old {
           publisher = record self.old.publisher {
-            keys = self.new.publisher.keys;
+            zone = record self.old.publisher.zone { records = p.zone.records };
+            keys = p.keys;
+            latest = p.latest;
           };
           results = self.new.results;
         } }
     {
         match &event.act {
             Act::Key(call) => {
-                let outcome = Outcome::Key(self.key_call(call, &event.at));
+                let outcome = Outcome::Key(self.publisher.apply(call, &event.at));
+                self.results.add(outcome)
+            }
+            Act::Replace(records) => {
+                let outcome = Outcome::Replaced(self.replace(records, &event.at));
                 self.results.add(outcome)
             }
             Act::ShowDs => self.show_ds(),
@@ -112,194 +106,25 @@ impl<'a, S: Scheme, H: Nsec3Hasher> Run<'a, S, H> {
         }
     }
 
-    fn key_call(&mut self, call: &KeyCall, at: &UnixTime) -> Result<Vec<Action>, KeyFault>
-        requires { added_by_call call.now ≤ 65531 }
-        ensures keys { let old = self.old.publisher.keys in
-            let digests = digests S.digest_of self.old.publisher in
-            let c = call_of call.now in
-            Gives (RanOutCopying c) (λ v. v.items) old self.new.publisher.keys result
-            (apply digests c at.now old) }
+    /// Publishes copies of other records in the place of the zone's. Whether it is refused is known before any memory is taken,
+    /// as far as that can be.
+    fn replace(&mut self, records: &[ZoneRecord], at: &UnixTime) -> Result<(), ReplaceFault>
+        ensures replaces { let w = world_in S.signature_of S.verifies S.digest_of H.hash_of self.old in
+            let rs = map handed_of records.now in
+            Replaces w (sofar_in self.old) at.now rs result (sofar_in self.new) }
         ensures rest { self.new ≡ record self.old {
-          publisher = record self.old.publisher { keys = self.new.publisher.keys };
+          publisher = record self.old.publisher {
+            zone = record self.old.publisher.zone { records = self.new.publisher.zone.records };
+          };
         } }
     {
-        match call {
-            KeyCall::AddKeyKsk {
-                pubref,
-                privref,
-                algorithm,
-                public_key,
-                available,
-            } => self.add_key(
-                KeyKind::Ksk,
-                pubref.as_str(),
-                privref,
-                *algorithm,
-                public_key,
-                *available,
-                at,
-            ),
-            KeyCall::AddKeyZsk {
-                pubref,
-                privref,
-                algorithm,
-                public_key,
-                available,
-            } => self.add_key(
-                KeyKind::Zsk,
-                pubref.as_str(),
-                privref,
-                *algorithm,
-                public_key,
-                *available,
-                at,
-            ),
-            KeyCall::AddKeyCsk {
-                pubref,
-                privref,
-                algorithm,
-                public_key,
-                available,
-            } => self.add_key(
-                KeyKind::Csk,
-                pubref.as_str(),
-                privref,
-                *algorithm,
-                public_key,
-                *available,
-                at,
-            ),
-            KeyCall::AddPublicKey {
-                pubref,
-                algorithm,
-                public_key,
-                available,
-            } => self.add_key(
-                KeyKind::Include,
-                pubref.as_str(),
-                &None,
-                *algorithm,
-                public_key,
-                availability(*available),
-                at,
-            ),
-            KeyCall::SetDecoupled { pubref, value } => {
-                self.publisher.set_decoupled(pubref, *value)?;
-                Ok(Vec::new(self.alloc))
-            }
-            KeyCall::SetPresent { pubref, value } => {
-                self.publisher.set_present(pubref, *value, at)?;
-                Ok(Vec::new(self.alloc))
-            }
-            KeyCall::SetSigner { pubref, value } => {
-                self.publisher.set_signer(pubref, *value)?;
-                Ok(Vec::new(self.alloc))
-            }
-            KeyCall::SetAtParent { pubref, value } => {
-                self.publisher.set_at_parent(pubref, *value)?;
-                Ok(Vec::new(self.alloc))
-            }
-            KeyCall::SetVisible { pubref, time } => {
-                self.publisher.set_visible(pubref, *time)?;
-                Ok(Vec::new(self.alloc))
-            }
-            KeyCall::SetDsVisible { pubref, time } => {
-                self.publisher.set_ds_visible(pubref, *time)?;
-                Ok(Vec::new(self.alloc))
-            }
-            KeyCall::SetRrsigVisible { pubref, time } => {
-                self.publisher.set_rrsig_visible(pubref, *time)?;
-                Ok(Vec::new(self.alloc))
-            }
-            KeyCall::SetStale { pubref } => {
-                self.publisher.set_stale(pubref)?;
-                Ok(Vec::new(self.alloc))
-            }
-            KeyCall::DeleteKey { pubref } => {
-                self.publisher.delete_key(pubref)?;
-                Ok(Vec::new(self.alloc))
-            }
-            KeyCall::StartRoll { rolltype, old, new } => {
-                let old = texts(self.alloc, old)?;
-                let new = texts(self.alloc, new)?;
-                self.publisher.start_roll(*rolltype, &old, &new, at)
-            }
-            KeyCall::Propagation1Complete { rolltype, ttl } => {
-                self.publisher.propagation1_complete(*rolltype, *ttl, at)
-            }
-            KeyCall::CacheExpired1 { rolltype } => self.publisher.cache_expired1(*rolltype, at),
-            KeyCall::Propagation2Complete { rolltype, ttl } => {
-                self.publisher.propagation2_complete(*rolltype, *ttl, at)
-            }
-            KeyCall::CacheExpired2 { rolltype } => self.publisher.cache_expired2(*rolltype, at),
-            KeyCall::RollDone { rolltype } => self.publisher.roll_done(*rolltype),
+        if let Some(fault) = self.publisher.refused_ahead(records, at) {
+            return Err(fault);
         }
-    }
-
-    /// Adds a copy of a key.
-    fn add_key(
-        &mut self,
-        kind: KeyKind,
-        pubref: &str,
-        privref: &Option<String>,
-        algorithm: SecurityAlgorithm,
-        public_key: &[u8],
-        available: Available,
-        at: &UnixTime,
-    ) -> Result<Vec<Action>, KeyFault>
-        requires { length public_key.now ≤ 65531 }
-        ensures keys { let old = self.old.publisher.keys in
-            let digests = digests S.digest_of self.old.publisher in
-            let at_hand = key_state.is_available available in
-            let private = key_state.text_of privref.now in
-            let c = Add kind pubref.now private algorithm public_key.now at_hand in
-            Gives (RanOutCopying c) (λ v. v.items) old self.new.publisher.keys result
-            (apply digests c at.now old) }
-        ensures rest { self.new ≡ record self.old {
-          publisher = record self.old.publisher { keys = self.new.publisher.keys };
-        } }
-    {
-        let copy = self.copied_key(kind, pubref, privref, algorithm, public_key)?;
-        self.publisher.add_key(
-            kind,
-            copy.pubref,
-            copy.privref,
-            algorithm,
-            copy.public_key,
-            *at,
-            available,
-        )?;
-        Ok(Vec::new(self.alloc))
-    }
-
-    /// Copies the references and the octets of a key that is to be added. Whether its reference is bound to another key
-    /// is known before any memory is taken.
-    fn copied_key(
-        &self,
-        kind: KeyKind,
-        pubref: &str,
-        privref: &Option<String>,
-        algorithm: SecurityAlgorithm,
-        public_key: &[u8],
-    ) -> Result<KeyCopy, KeyFault>
-        requires { length public_key.now ≤ 65531 }
-        ensures pubref { IfOk result (λ k. string_bytes k.pubref ≡ pubref.now) }
-        ensures privref { IfOk result
-            (λ k. key_state.text_of k.privref ≡ key_state.text_of privref.now) }
-        ensures public_key { IfOk result (λ k. k.public_key.items ≡ public_key.now) }
-        ensures err { let key = dnskey_for kind algorithm public_key.now in
-            let bound = self.now.publisher.keys.bound in
-            IfErr result (RefusesAhead (is_bound_away bound pubref.now key)) }
-    {
-        let publisher = &self.publisher;
-        if publisher.is_bound_away(pubref, kind, algorithm, public_key) {
-            return Err(KeyFault::ReferenceBound);
-        }
-        Ok(KeyCopy {
-            pubref: String::from_str(self.alloc, pubref)?,
-            privref: privref.as_ref().cloned()?,
-            public_key: public_key.to_vec(self.alloc)?,
-        })
+        let Ok(copies) = copy_records(self.alloc, records) else {
+            return Err(ReplaceFault::Zone(ZoneFault::Memory));
+        };
+        self.publisher.replace_zone(copies, at)
     }
 
     /// Shows the DS set at the next place.
@@ -328,7 +153,10 @@ impl<'a, S: Scheme, H: Nsec3Hasher> Run<'a, S, H> {
     fn ask(&mut self, question: &'a Question, at: &UnixTime) -> Result<(), AllocError>
         ensures step { let w = world_in S.signature_of S.verifies S.digest_of H.hash_of self.old in
             OnOk result (Serves w self.old at.now (Act.Ask question.now) self.new) }
-        ensures rest { self.new ≡ record self.old { results = self.new.results } }
+        ensures rest { self.new ≡ record self.old {
+          publisher = record self.old.publisher { latest = self.new.publisher.latest };
+          results = self.new.results;
+        } }
     {
         question.keeps();
         match self.publisher.answer(question, at) {
@@ -406,6 +234,7 @@ impl<'a, S: Scheme, H: Nsec3Hasher> Run<'a, S, H> {
             question,
             moment: *at,
             limit: self.limit,
+            one_moment: true,
         };
         judge_with(
             self.alloc,
@@ -414,15 +243,4 @@ impl<'a, S: Scheme, H: Nsec3Hasher> Run<'a, S, H> {
             &case,
         )
     }
-}
-
-/// Texts by reference.
-fn texts(alloc: Global, references: &[String]) -> Result<Vec<&str>, AllocError>
-    ensures { IfOk result (λ v. key_state.texts v.items ≡ map string_bytes references.now) }
-{
-    let mut texts = Vec::with_capacity(alloc, references.len())?;
-    for reference in references {
-        texts.push(reference.as_str())?;
-    }
-    Ok(texts)
 }

@@ -1,19 +1,49 @@
-//! What verified facts prove, beside links that were hashed alike and within a limit.
+//! What verified facts prove, beside signatures of one moment and links that were hashed alike and within a limit.
 ghost use Rattle.std.specs.Prelude.{◌≡◌, ◌≤◌, ◌+◌, not, IfErr, None};
 ghost use Rattle.std.specs.List.{list_any};
-ghost use Rattle.answer_facts.specs.Facts.{RefusesFirst};
-ghost use Rattle.answer_facts.specs.Judging.{hash_bound};
-ghost use Rattle.answer_facts.specs.Judged.{are_alike, are_mixed, are_over, judged_facts, said, AnswersAs};
-ghost use Rattle.answer_facts.specs.Counted.{hashes_of_facts, Counts};
+ghost use Rattle.answer_judge_facts.specs.Facts.{RefusesFirst};
+ghost use Rattle.answer_judge_facts.specs.Judging.{hash_bound};
+ghost use Rattle.answer_judge_facts.specs.Judged.{are_alike, are_mixed, are_over, judged_facts, judged_proof, said, AnswersAs};
+ghost use Rattle.answer_judge_facts.specs.Counted.{hashes_of_facts, hashes_of_proof, Counts};
 
 use crate::case::Case;
-use answer_facts::verdict::{Refusal, Verdict};
-use answer_rules::decide::{Facts, HashLink, decide};
+use answer_judge_facts::facts::Proof;
+use answer_judge_facts::verdict::{Refusal, Verdict};
+use answer_judge_rules::decide::{Facts, HashLink, decide};
 use answer_scheme::checks::Checks;
 use std::alloc::Global;
 
+/// The verdict of an answer's proof, and how many names are hashed for it.
+///
+/// Where signatures must be of one moment, those of unlike times are refused before anything is hashed.
+pub(crate) fn judge_proof<C: Checks>(
+    alloc: Global,
+    case: &Case,
+    proof: Proof,
+    checks: &mut C,
+    hashes: &mut u32,
+) -> Result<Verdict, Refusal>
+    requires { hashes.old ≡ 0 }
+    ensures exact { let a = C.answers checks.old in
+        let judged = judged_proof a case.now proof.entry.facts proof.entry.is_of_moments in
+        AnswersAs (said result) judged }
+    ensures hash_counts { let a = C.answers checks.old in
+        let due = hashes_of_proof a case.now proof.entry.facts proof.entry.is_of_moments in
+        Counts (said result) hashes.new due }
+    ensures hash_bound { hashes.new ≤ hash_bound case.now }
+    ensures hashed { C.hashed checks.new ≡ C.hashed checks.old + hashes.new }
+    ensures refusal { IfErr result (λ e. RefusesFirst e None) }
+    ensures verified { C.verified checks.new ≡ C.verified checks.old }
+    ensures same { C.answers checks.new ≡ C.answers checks.old }
+{
+    if case.one_moment && proof.is_of_moments {
+        return Err(Refusal::MixedVersions);
+    }
+    judge_facts(alloc, case, proof.facts, checks, hashes)
+}
+
 /// The verdict that facts prove, and how many names are hashed for it.
-pub(crate) fn judge_facts<C: Checks>(
+fn judge_facts<C: Checks>(
     alloc: Global,
     case: &Case,
     facts: Facts,

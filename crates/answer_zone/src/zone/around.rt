@@ -11,18 +11,19 @@ ghost use Rattle.definitions.specs.Zone.{
   star_under,
 };
 ghost use Rattle.definitions.specs.ZoneChain.{optout_of};
-ghost use Rattle.denial_rules.specs.OwnFacts.{kept_ancestor};
-ghost use Rattle.answer_terms.specs.Accepting.{zone_with};
-ghost use Rattle.answer_records.specs.Near.{shows};
+ghost use Rattle.denial_laws.specs.OwnFacts.{kept_ancestor};
+ghost use Rattle.answer_shared.specs.Accepting.{zone_with};
+ghost use Rattle.answer_zone_records.specs.Near.{shows};
 ghost use Rattle.answer_zone.specs.Around.{IsAround};
 ghost use Rattle.answer_zone.specs.Placed.{IsNear, shown_ancestor};
 
+use crate::zone::ZoneRecords;
+use crate::zone::contents::opts_out;
 use crate::zone::lookups::is_shown;
-use crate::zone::{ZoneRecords, opts_out};
-use answer_records::near::{Neighbours, neighbours_of};
-use denial_hashes::hasher::Nsec3Hasher;
+use answer_zone_records::near::{Neighbours, neighbours_of};
+use denial_nsec3_hash::hasher::Nsec3Hasher;
 use messages::names::{Name, ZoneName};
-use names_data::rtype::Rtype;
+use names_rdata::rtype::Rtype;
 use std::alloc::{AllocError, Global};
 
 /// The closest ancestor of a name that the chain has, the next closer name below it, and the wildcard under it

@@ -4,11 +4,11 @@ ghost use Rattle.definitions.specs.Name.{strictly_above};
 ghost use Rattle.answer_zone.specs.Placed.{IsAsked, IsNear};
 
 use crate::zone::ZoneRecords;
-use answer_records::near::Neighbours;
-use answer_records::owned::{Cut, Owned};
-use denial_hashes::hasher::Nsec3Hasher;
+use answer_zone_records::near::Neighbours;
+use answer_zone_records::owned::{Cut, Owned};
+use denial_nsec3_hash::hasher::Nsec3Hasher;
 use messages::names::{Name, is_above};
-use names_data::rtype::Rtype;
+use names_rdata::rtype::Rtype;
 
 /// Where a question is answered.
 #[derive(Drop)]

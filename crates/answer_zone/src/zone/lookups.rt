@@ -3,18 +3,18 @@ ghost use Rattle.std.specs.Prelude.{◌≡◌, ◌&&◌, false, true, IfSome, Is
 ghost use Rattle.std.specs.List.{list_any};
 ghost use Rattle.definitions.specs.Name.{low, at_or_above};
 ghost use Rattle.definitions.specs.Zone.{cut_above, has, exists};
-ghost use Rattle.answer_terms.specs.Accepting.{zone_with};
-ghost use Rattle.answer_terms.specs.Served.{ttl_among};
-ghost use Rattle.answer_records.specs.Near.{shows};
-ghost use Rattle.answer_records.specs.OwnedRecords.{owned_by};
+ghost use Rattle.answer_shared.specs.Accepting.{zone_with};
+ghost use Rattle.answer_shared.specs.Served.{ttl_among};
+ghost use Rattle.answer_zone_records.specs.Near.{shows};
+ghost use Rattle.answer_zone_records.specs.OwnedRecords.{owned_by};
 ghost use Rattle.answer_zone.specs.Placed.{IsCutRecords, IsNear};
 
 use crate::zone::ZoneRecords;
-use answer_records::near::{Neighbours, neighbours_of};
-use answer_records::owned::{Cut, Owned};
-use denial_hashes::hasher::Nsec3Hasher;
+use answer_zone_records::near::{Neighbours, neighbours_of};
+use answer_zone_records::owned::{Cut, Owned};
+use denial_nsec3_hash::hasher::Nsec3Hasher;
 use messages::names::{Name, ToName, is_above, is_at_or_above};
-use names_data::rtype::Rtype;
+use names_rdata::rtype::Rtype;
 use plain::Ttl;
 
 impl<'h, H: Nsec3Hasher> ZoneRecords<'h, H> {

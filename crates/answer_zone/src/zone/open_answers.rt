@@ -3,11 +3,11 @@ ghost use Rattle.std.specs.Prelude.{◌≡◌, [], ◌∷◌, ◌++◌, ◌||◌
 ghost use Rattle.definitions.specs.Name.{low};
 ghost use Rattle.definitions.specs.Zone.{Open, cut_above, has, is_open};
 ghost use Rattle.definitions.specs.ZoneChain.{optout_of};
-ghost use Rattle.denial_rules.specs.OwnFacts.{spoken};
-ghost use Rattle.answer_terms.specs.Accepting.{zone_with};
-ghost use Rattle.answer_terms.specs.GroupView.{Adds};
-ghost use Rattle.answer_terms.specs.Served.{expanded, proofs_of, soa, unsigned_ns};
-ghost use Rattle.answer_records.specs.OwnedRecords.{owned_by};
+ghost use Rattle.denial_laws.specs.OwnFacts.{spoken};
+ghost use Rattle.answer_shared.specs.Accepting.{zone_with};
+ghost use Rattle.answer_shared.specs.GroupView.{Adds};
+ghost use Rattle.answer_shared.specs.Served.{expanded, proofs_of, soa, unsigned_ns};
+ghost use Rattle.answer_zone_records.specs.OwnedRecords.{owned_by};
 ghost use Rattle.answer_zone.specs.Cuts.{NoneRefers};
 ghost use Rattle.answer_zone.specs.HashedZone.{FailsFor, IsHashFailure, served_by};
 ghost use Rattle.answer_zone.specs.Placed.{IsCutRecords, IsNear};
@@ -16,12 +16,12 @@ ghost use Rattle.answer_zone.specs.ZoneAnswers.{AnswersAs, Holds};
 use crate::zone::ZoneRecords;
 use crate::zone::answers::{AUTHORITATIVE, NO_SUCH_NAME, REFERRAL, ZoneAnswer};
 use crate::zone::asked::Asked;
-use answer_records::group::RrGroup;
-use answer_records::near::Neighbours;
-use answer_records::owned::{Cut, Owned};
-use denial_hashes::hasher::{HashError, Nsec3Hasher};
+use answer_zone_records::group::RrGroup;
+use answer_zone_records::near::Neighbours;
+use answer_zone_records::owned::{Cut, Owned};
+use denial_nsec3_hash::hasher::{HashError, Nsec3Hasher};
 use messages::names::Name;
-use names_data::rtype::Rtype;
+use names_rdata::rtype::Rtype;
 use std::alloc::Global;
 
 impl<'h, H: Nsec3Hasher> ZoneRecords<'h, H> {

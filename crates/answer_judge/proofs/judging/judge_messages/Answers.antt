@@ -3,18 +3,20 @@ use Rattle.std.specs.Prelude.{None, nat_eq}
 use Rattle.definitions.specs.Dnskey.{dnskey_data}
 use Rattle.definitions.specs.Zone.{sorted_data}
 use Rattle.definitions.specs.Limits.{pointer_limit}
-use Rattle.answer_facts.specs.Facts.{is_usable, is_trusted}
-use Rattle.answer_facts.specs.Judging.{Handing, message_refusal, keys_in}
-use Rattle.answer_facts.specs.Judged.{trusting, keys_of, judged_facts, said, AnswersAs}
+use Rattle.answer_judge_facts.specs.Facts.{is_usable, is_trusted}
+use Rattle.answer_judge_facts.specs.Judging.{Handing, message_refusal, keys_in}
+use Rattle.answer_judge_facts.specs.Judged.{trusting, keys_of, judged_proof, said, AnswersAs}
 use Rattle.messages.specs.Record.{spelled}
-use Rattle.answer_facts.specs.Verified.{is_verified, verified_facts}
+use Rattle.answer_judge_facts.specs.Verified.{is_verified, verified_facts}
 use Rattle.messages.proofs.CountedRecords.{same_count}
-use Rattle.answer_facts.specs.Counted.{answer_sought, hashes_beyond, hashes_of_facts, keys_sought, tries}
+use Rattle.answer_judge_facts.specs.Counted.{hashes_beyond, hashes_of_proof, tries}
+use Rattle.answer_judge_facts.specs.Sought.{answer_sought, keys_sought}
+use Rattle.answer_judge_facts.specs.Times.{are_unlike, proof_times}
 use Rattle.answer_judge.proofs.JudgeTotals.{key_tries_as, keys_alone, keys_and_answer}
 use Rattle.answer_judge.proofs.JudgeWhole.{beyond, chained_as, usable_as, untrusted, decided_as, unrefused}
 use Rattle.answer_judge.proofs.JudgeHashes.{counts_as, facts_hashed, none_hashed}
-use Rattle.answer_terms.specs.EqualTags.{has_equal_tags}
-use Rattle.answer_facts.specs.KeyOrder.{Ranks}
+use Rattle.answer_shared.specs.EqualTags.{has_equal_tags}
+use Rattle.answer_judge_facts.specs.KeyOrder.{Ranks}
 use Rattle.answer_judge.proofs.judging.judge_messages.Goals as goal
 
 pub has_equal_tags-requires : goal.has_equal_tags-requires
@@ -83,14 +85,17 @@ returns-clause-exact g c =
     c.in_ok-are_verified.ensures.exact ∙ (λ i. is_verified (record { answers = same i; apex = (is i).apex; keys = c.deref-7.ensures.value i; now = moment i }) pointer_limit (is i).dnskey_bytes (map spelled (c.deref-9.ensures.value i)) (is i).apex 48 (sorted_data (map dnskey_data (c.deref-10.ensures.value i)))) in
     let usable : c.usable_keys-usable.result.items ≡ filter is_usable (keys_of h keys) = usable_as h keys rs c.in_ok-keys.keys.items c.usable_keys-usable.result.items c.in_ok-messages.ensures.key_records ks c.usable_keys-usable.ensures in
     let later = c.in_ok-are_verified.ensures.same ∙ same in
-    let facts = c.in_ok-facts.facts in
+    let facts = c.in_ok-proof.proof.facts in
+    let of_moments = c.in_ok-proof.proof.is_of_moments in
     let found : facts ≡ verified_facts (trusting a h c.usable_keys-usable.result.items) pointer_limit h.answer_bytes (map spelled c.in_ok-messages.messages.answer_records.items) h.asked.name h.asked.rtype =
-    c.in_ok-facts.ensures.facts ∙ (λ i. verified_facts (record { answers = later i; apex = (is i).apex; keys = c.deref-12.ensures.value i; now = moment i }) pointer_limit (is i).answer_bytes (map spelled (c.deref-14.ensures.value i)) (is i).asked.name (is i).asked.rtype) in
+    c.in_ok-proof.ensures.facts ∙ (λ i. verified_facts (record { answers = later i; apex = (is i).apex; keys = c.deref-12.ensures.value i; now = moment i }) pointer_limit (is i).answer_bytes (map spelled (c.deref-14.ensures.value i)) (is i).asked.name (is i).asked.rtype) in
+    let timed : of_moments ≡ are_unlike (proof_times (trusting a h c.usable_keys-usable.result.items) pointer_limit h.answer_bytes (map spelled c.in_ok-messages.messages.answer_records.items) h.asked.name h.asked.rtype) =
+    c.in_ok-proof.ensures.moments ∙ (λ i. are_unlike (proof_times (record { answers = later i; apex = (is i).apex; keys = c.deref-12.ensures.value i; now = moment i }) pointer_limit (is i).answer_bytes (map spelled (c.deref-14.ensures.value i)) (is i).asked.name (is i).asked.rtype)) in
     let chain = sym c.if-not-branch.false ∙ chained_as a h keys rs c.in_ok-keys.keys.items c.in_ok-trusted.trusted.items c.in_ok-are_verified.field-0 c.in_ok-messages.ensures.key_records ks trusted chained in
-    let all = decided_as a h keys answer c.usable_keys-usable.result.items (map spelled c.in_ok-messages.messages.answer_records.items) facts
-    (beyond a pointer_limit h keys answer c.in_ok-messages.ensures.keys c.in_ok-messages.ensures.answer none) chain usable c.in_ok-messages.ensures.answer_records found in
-    let last = c.in_ok-facts.ensures.same ∙ later in
-    subst (AnswersAs (said c.judge_facts.result)) (ap (λ v. judged_facts v h facts) last ∙ all) c.judge_facts.ensures.exact
+    let all = decided_as a h keys answer c.usable_keys-usable.result.items (map spelled c.in_ok-messages.messages.answer_records.items) facts of_moments
+    (beyond a pointer_limit h keys answer c.in_ok-messages.ensures.keys c.in_ok-messages.ensures.answer none) chain usable c.in_ok-messages.ensures.answer_records found timed in
+    let last = c.in_ok-proof.ensures.same ∙ later in
+    subst (AnswersAs (said c.judge_proof.result)) (ap (λ v. judged_proof v h facts of_moments) last ∙ all) c.judge_proof.ensures.exact
 
 -- the signatures that were tried on the keys
 pub returns-then-not-branch-clause-counts : goal.returns-then-not-branch-clause-counts
@@ -138,7 +143,7 @@ returns-clause-counts g c =
     let tried = c.in_ok-are_verified.ensures.tried ∙ (λ i. none_yet i + tries (record { answers = same i; apex = (is i).apex; keys = c.deref-7.ensures.value i; now = moment i }) pointer_limit (is i).dnskey_bytes (keys_sought (is i).apex (c.deref-10.ensures.value i)) [] (map spelled (c.deref-9.ensures.value i))) in
     let usable : c.usable_keys-usable.result.items ≡ filter is_usable (keys_of h keys) = usable_as h keys rs c.in_ok-keys.keys.items c.usable_keys-usable.result.items c.in_ok-messages.ensures.key_records ks c.usable_keys-usable.ensures in
     let later = c.in_ok-are_verified.ensures.same ∙ same in
-    let more = c.in_ok-facts.ensures.tried ∙ (λ i. c.are_verified.new.verifier.count + tries (record { answers = later i; apex = (is i).apex; keys = c.deref-12.ensures.value i; now = moment i }) pointer_limit (is i).answer_bytes (answer_sought pointer_limit (is i).answer_bytes (is i).apex (map spelled (c.deref-14.ensures.value i)) (is i).asked.name (is i).asked.rtype) [] (map spelled (c.deref-14.ensures.value i))) in
+    let more = c.in_ok-proof.ensures.tried ∙ (λ i. c.are_verified.new.verifier.count + tries (record { answers = later i; apex = (is i).apex; keys = c.deref-12.ensures.value i; now = moment i }) pointer_limit (is i).answer_bytes (answer_sought pointer_limit (is i).answer_bytes (is i).apex (map spelled (c.deref-14.ensures.value i)) (is i).asked.name (is i).asked.rtype) [] (map spelled (c.deref-14.ensures.value i))) in
     inr (keys_and_answer a h keys answer c.usable_keys-usable.result.items (map spelled c.in_ok-messages.messages.answer_records.items) c.are_verified.new.verifier.count c.read_facts.new.verifier.count none c.in_ok-messages.ensures.keys c.in_ok-messages.ensures.answer
     (sym c.if-not-branch.false ∙ chained_as a h keys rs c.in_ok-keys.keys.items c.in_ok-trusted.trusted.items c.in_ok-are_verified.field-0 c.in_ok-messages.ensures.key_records ks trusted chained)
     (key_tries_as a h keys rs c.in_ok-keys.keys.items c.in_ok-trusted.trusted.items c.are_verified.new.verifier.count c.in_ok-messages.ensures.key_records ks trusted tried)
@@ -186,11 +191,14 @@ returns-clause-hash_counts g c =
     c.in_ok-are_verified.ensures.exact ∙ (λ i. is_verified (record { answers = same i; apex = (is i).apex; keys = c.deref-7.ensures.value i; now = moment i }) pointer_limit (is i).dnskey_bytes (map spelled (c.deref-9.ensures.value i)) (is i).apex 48 (sorted_data (map dnskey_data (c.deref-10.ensures.value i)))) in
     let usable : c.usable_keys-usable.result.items ≡ filter is_usable (keys_of h keys) = usable_as h keys rs c.in_ok-keys.keys.items c.usable_keys-usable.result.items c.in_ok-messages.ensures.key_records ks c.usable_keys-usable.ensures in
     let later = c.in_ok-are_verified.ensures.same ∙ same in
-    let facts = c.in_ok-facts.facts in
+    let facts = c.in_ok-proof.proof.facts in
+    let of_moments = c.in_ok-proof.proof.is_of_moments in
     let found : facts ≡ verified_facts (trusting a h c.usable_keys-usable.result.items) pointer_limit h.answer_bytes (map spelled c.in_ok-messages.messages.answer_records.items) h.asked.name h.asked.rtype =
-    c.in_ok-facts.ensures.facts ∙ (λ i. verified_facts (record { answers = later i; apex = (is i).apex; keys = c.deref-12.ensures.value i; now = moment i }) pointer_limit (is i).answer_bytes (map spelled (c.deref-14.ensures.value i)) (is i).asked.name (is i).asked.rtype) in
+    c.in_ok-proof.ensures.facts ∙ (λ i. verified_facts (record { answers = later i; apex = (is i).apex; keys = c.deref-12.ensures.value i; now = moment i }) pointer_limit (is i).answer_bytes (map spelled (c.deref-14.ensures.value i)) (is i).asked.name (is i).asked.rtype) in
+    let timed : of_moments ≡ are_unlike (proof_times (trusting a h c.usable_keys-usable.result.items) pointer_limit h.answer_bytes (map spelled c.in_ok-messages.messages.answer_records.items) h.asked.name h.asked.rtype) =
+    c.in_ok-proof.ensures.moments ∙ (λ i. are_unlike (proof_times (record { answers = later i; apex = (is i).apex; keys = c.deref-12.ensures.value i; now = moment i }) pointer_limit (is i).answer_bytes (map spelled (c.deref-14.ensures.value i)) (is i).asked.name (is i).asked.rtype)) in
     let chain = sym c.if-not-branch.false ∙ chained_as a h keys rs c.in_ok-keys.keys.items c.in_ok-trusted.trusted.items c.in_ok-are_verified.field-0 c.in_ok-messages.ensures.key_records ks trusted chained in
-    let due = facts_hashed a h keys answer c.usable_keys-usable.result.items (map spelled c.in_ok-messages.messages.answer_records.items) facts none c.in_ok-messages.ensures.keys c.in_ok-messages.ensures.answer chain usable c.in_ok-messages.ensures.answer_records found in
-    let last = c.in_ok-facts.ensures.same ∙ later in
-    counts_as (said c.judge_facts.result) c.judge_facts.new.hashes (hashes_of_facts (g.C.Checks.answers c.read_facts.new.verifier.checks.now) h facts) (hashes_beyond a pointer_limit h)
-    (ap (λ v. hashes_of_facts v h facts) last ∙ due) c.judge_facts.ensures.hash_counts
+    let due = facts_hashed a h keys answer c.usable_keys-usable.result.items (map spelled c.in_ok-messages.messages.answer_records.items) facts of_moments none c.in_ok-messages.ensures.keys c.in_ok-messages.ensures.answer chain usable c.in_ok-messages.ensures.answer_records found timed in
+    let last = c.in_ok-proof.ensures.same ∙ later in
+    counts_as (said c.judge_proof.result) c.judge_proof.new.hashes (hashes_of_proof (g.C.Checks.answers c.read_facts.new.verifier.checks.now) h facts of_moments) (hashes_beyond a pointer_limit h)
+    (ap (λ v. hashes_of_proof v h facts of_moments) last ∙ due) c.judge_proof.ensures.hash_counts

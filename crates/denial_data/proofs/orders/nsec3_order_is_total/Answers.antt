@@ -1,5 +1,5 @@
 use Rattle.std.proofs.lemmas.Cmp.{on_total, nat_list_cmp_total}
-use Rattle.denial_links.specs.Hashed.{nsec3_octets}
+use Rattle.denial_nsec_data.specs.Hashed.{nsec3_octets}
 use Rattle.denial_data.proofs.orders.nsec3_order_is_total.Goals as goal
 
 pub returns : goal.returns

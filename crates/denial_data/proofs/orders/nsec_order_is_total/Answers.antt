@@ -1,5 +1,5 @@
 use Rattle.std.proofs.lemmas.Cmp.{on_total, nat_list_cmp_total}
-use Rattle.denial_links.specs.NsecData.{nsec_octets}
+use Rattle.denial_nsec_data.specs.NsecData.{nsec_octets}
 use Rattle.denial_data.proofs.orders.nsec_order_is_total.Goals as goal
 
 pub returns : goal.returns

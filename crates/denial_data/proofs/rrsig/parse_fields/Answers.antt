@@ -4,9 +4,9 @@ use Rattle.std.proofs.lemmas.Result.{err_from_is_err_and}
 use Rattle.definitions.specs.Name.{wire}
 use Rattle.names_parsed.specs.Heads.{fault_of}
 use Rattle.names_parsed.specs.Parsed.{parsed_name}
-use Rattle.names_data.specs.Reading.{octets_part, if_short, two_parts}
-use Rattle.names_data.proofs.Parts.{then_ok, then_err, went_on}
-use Rattle.names_data.proofs.PartCalls.{has_text}
+use Rattle.names_rdata.specs.Reading.{octets_part, if_short, two_parts}
+use Rattle.names_rdata.proofs.Parts.{then_ok, then_err, went_on}
+use Rattle.names_rdata.proofs.PartCalls.{has_text}
 use Rattle.denial_data.specs.declared.proto_rrsig.Numbers.{Numbers}
 use Rattle.denial_data.specs.declared.proto_rrsig.ProtoRrsig.{ProtoRrsig}
 use Rattle.denial_data.specs.RrsigData.{rrsig_with, rrsig_octets}

@@ -1,6 +1,6 @@
 use Rattle.std.proofs.Common.{◌≡◌, length}
-use Rattle.denial_groups.specs.Groups.{found_set, groups, is_at, of_one_set}
-use Rattle.denial_groups.specs.Slices.{items_of}
+use Rattle.denial_rrsets.specs.Groups.{found_set, groups, is_at, of_one_set}
+use Rattle.denial_rrsets.specs.Slices.{items_of}
 use Rattle.denial_sorted.proofs.finding.first_at.Given as goal
 
 abbrev pub invariant-loop-group : goal.invariant-loop-group

@@ -1,7 +1,7 @@
 use Rattle.std.proofs.Common.{◌≡◌, length}
-use Rattle.denial_groups.specs.Ends.{AreEnds}
-use Rattle.denial_groups.specs.Groups.{found_set, groups, is_of_type, of_one_set}
-use Rattle.denial_groups.specs.Slices.{items_of}
+use Rattle.denial_rrsets.specs.Ends.{AreEnds}
+use Rattle.denial_rrsets.specs.Groups.{found_set, groups, is_of_type, of_one_set}
+use Rattle.denial_rrsets.specs.Slices.{items_of}
 use Rattle.denial_sorted.proofs.finding.first_soa.Given as goal
 
 abbrev pub invariant-loop-parts : goal.invariant-loop-parts

@@ -1,8 +1,8 @@
 use Rattle.std.proofs.Common.{None, ◌≤◌, length, vec_capacity, ap, ◌∙◌, arith, length-append}
 use Rattle.plain.specs.Records.{record_canonical_cmp}
 use Rattle.definitions.specs.Sorting.{sort_by, put_all_by}
-use Rattle.denial_groups.specs.Groups.{of_one_owner}
-use Rattle.denial_groups.specs.Starts.{starts_in}
+use Rattle.denial_rrsets.specs.Groups.{of_one_owner}
+use Rattle.denial_rrsets.specs.Starts.{starts_in}
 use Rattle.denial_sorted.proofs.Keyed.{same_added}
 use Rattle.denial_sorted.proofs.Moved.{few_starts}
 use Rattle.denial_sorted.proofs.Orders.{record_total}

@@ -1,9 +1,9 @@
 use Rattle.std.proofs.Common.{◌<◌, ℕ, List, None, length, take, drop, sym, ap, ◌∙◌, subst, arith}
 use Rattle.std.specs.List.{AllByRecursion}
-use Rattle.denial_groups.specs.GroupLaws.{one_owner_equivalence}
-use Rattle.denial_groups.specs.Groups.{of_one_owner}
+use Rattle.denial_rrsets.specs.GroupLaws.{one_owner_equivalence}
+use Rattle.denial_rrsets.specs.Groups.{of_one_owner}
 use Rattle.denial_sorted.specs.Kin.{joins, moved}
-use Rattle.denial_groups.specs.Starts.{starts_in}
+use Rattle.denial_rrsets.specs.Starts.{starts_in}
 use Rattle.denial_sorted.proofs.Moved.{after_insert, parted_at, some_behind, starts_below}
 use Rattle.denial_sorted.proofs.sorted.put_at.Goals as goal
 

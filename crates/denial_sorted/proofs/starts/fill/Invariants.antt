@@ -1,5 +1,5 @@
 use Rattle.std.proofs.Common.{◌≡◌, ◌≤◌, ◌+◌, ◌++◌, Some, drop, length, vec_capacity}
-use Rattle.denial_groups.specs.Starts.{starts_behind, starts_in}
+use Rattle.denial_rrsets.specs.Starts.{starts_behind, starts_in}
 use Rattle.denial_sorted.proofs.starts.fill.Given as goal
 
 abbrev pub invariant-loop-index : goal.invariant-loop-index

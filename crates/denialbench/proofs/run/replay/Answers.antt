@@ -2,11 +2,11 @@ use Rattle.std.proofs.Common.{List, ap, map, subst, string_bytes, ◌∙◌, ◌
 use Rattle.std.specs.List.{flat_map}
 use Rattle.std.proofs.lemmas.Result.{IfOk-weaker}
 use Rattle.messages.specs.HandedRr.{handed_of}
-use Rattle.answer_life.specs.Simulations.{IsSimulation}
+use Rattle.answer_laws.specs.Simulations.{IsSimulation}
 use Rattle.answer_events.specs.declared.event.Event.{Event}
-use Rattle.answer_life.specs.declared.outcome.Outcome.{Outcome}
-use Rattle.session_lines.specs.Readings.{zone_view}
-use Rattle.bench.specs.Printed.{outcome_text}
+use Rattle.answer_laws.specs.declared.outcome.Outcome.{Outcome}
+use Rattle.denialbench_session.specs.Readings.{zone_view}
+use Rattle.denialbench_print.specs.Printed.{outcome_text}
 use Rattle.denialbench.specs.Responses.{bench}
 use Rattle.denialbench.proofs.RunLemmas.{outcomes_printed}
 use Rattle.denialbench.proofs.run.replay.Goals as goal

@@ -52,4 +52,4 @@ returns-else-is_empty-clause-absolute g c = λ h.
 pub returns-in_err-append_chars-clause-fault : goal.returns-in_err-append_chars-clause-fault
 returns-in_err-append_chars-clause-fault g c =
     let p = err_from_is_err_and c.from_residual.result c.from_residual.ensures.1 in
-    rw (p.1, p.2) (relative_fault g.C.Iterator.next_gives c.args.chars c.in-Ok.builder c.append_chars.new.self c.in_err-append_chars.field-0.0 c.in-Ok.ensures c.in_err-append_chars.ensures.fault)
+    rw (p.1, p.2) (relative_fault g.C.Iterator.next_gives c.args.chars c.in-Ok.builder c.in_err-append_chars.field-0.0 c.in-Ok.ensures c.in_err-append_chars.ensures.fault)

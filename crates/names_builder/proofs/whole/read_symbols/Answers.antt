@@ -34,10 +34,10 @@ returns-in_err-push_symbol-clause-refused g c =
       no_symbols c.new-builder.result (symbol_of c.in-Some.first) (sym c.separates.ensures ∙ c.if-separates.false) c.new-builder.ensures (c.in_err-push_symbol.ensures.refused h),
     ))
 
-pub returns-in_err-append_symbols-clause-refused : goal.returns-in_err-append_symbols-clause-refused
-returns-in_err-append_symbols-clause-refused g c =
-    let p = err_from_is_err_and c.from_residual-in_err-append_symbols.result c.from_residual-in_err-append_symbols.ensures.1 in
-    let st = c.in_err-append_symbols.ensures.refused in
+pub returns-in_err-add_symbols-clause-refused : goal.returns-in_err-add_symbols-clause-refused
+returns-in_err-add_symbols-clause-refused g c =
+    let p = err_from_is_err_and c.from_residual-in_err-add_symbols.result c.from_residual-in_err-add_symbols.ensures.1 in
+    let st = c.in_err-add_symbols.ensures.refused in
     rw (p.1, p.2) (λ h. inl (
       c.in-Some.first ∷ (st.read ++ st.refused ∷ []),
       st.after,
@@ -49,11 +49,11 @@ returns-in_err-append_symbols-clause-refused g c =
 
 pub returns-clause-ok : goal.returns-clause-ok
 returns-clause-ok g c =
-    let r = c.in_ok-append_symbols.ensures.ok in (
+    let r = c.in_ok-add_symbols.ensures.ok in (
       c.in-Some.first ∷ r.0,
       drains_first g.S.Iterator.next_gives c.args.symbols c.next.new.self c.in-Some.first r.0 c.in-Some.ensures.steps r.1,
       of_symbols c.new-builder.result c.push_symbol.new.self (symbol_of c.in-Some.first) (map symbol_of r.0) (sym c.separates.ensures ∙ c.if-separates.false) c.new-builder.ensures c.in_ok-push_symbol.ensures.ok
-          ∙ ap (option_map without_empty) r.2 ∙ ap Some (all_standing c.append_symbols.new.self),
+          ∙ ap (option_map without_empty) r.2 ∙ ap Some (all_standing c.add_symbols.new.self),
     )
 
 pub returns-in-Some-next-clause-fault : goal.returns-in-Some-next-clause-fault
@@ -65,7 +65,7 @@ returns-in_err-push_symbol-clause-fault g c =
     let p = err_from_is_err_and c.from_residual.result c.from_residual.ensures.1 in
     rw (p.1, p.2) (symbol_first g.S.Iterator.next_gives c.args.symbols c.next.new.self c.in-Some.first c.new-builder.result c.in_err-push_symbol.field-0.0 c.in-Some.ensures.steps c.new-builder.ensures c.in_err-push_symbol.ensures.fault)
 
-pub returns-in_err-append_symbols-clause-fault : goal.returns-in_err-append_symbols-clause-fault
-returns-in_err-append_symbols-clause-fault g c =
-    let p = err_from_is_err_and c.from_residual-in_err-append_symbols.result c.from_residual-in_err-append_symbols.ensures.1 in
-    rw (p.1, p.2) (symbol_behind g.S.Iterator.next_gives c.args.symbols c.next.new.self c.in-Some.first c.new-builder.result c.push_symbol.new.self c.append_symbols.new.self c.in_err-append_symbols.field-0.0 c.in-Some.ensures.steps c.new-builder.ensures c.in_ok-push_symbol.ensures.ok c.in_err-append_symbols.ensures.refused)
+pub returns-in_err-add_symbols-clause-fault : goal.returns-in_err-add_symbols-clause-fault
+returns-in_err-add_symbols-clause-fault g c =
+    let p = err_from_is_err_and c.from_residual-in_err-add_symbols.result c.from_residual-in_err-add_symbols.ensures.1 in
+    rw (p.1, p.2) (symbol_behind g.S.Iterator.next_gives c.args.symbols c.next.new.self c.in-Some.first c.new-builder.result c.push_symbol.new.self c.add_symbols.new.self c.in_err-add_symbols.field-0.0 c.in-Some.ensures.steps c.new-builder.ensures c.in_ok-push_symbol.ensures.ok c.in_err-add_symbols.ensures.refused)

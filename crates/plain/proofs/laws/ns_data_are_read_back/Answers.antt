@@ -1,6 +1,6 @@
 use Rattle.definitions.specs.Name.{wire}
-use Rattle.names_data.specs.Reading.{name_part}
-use Rattle.names_data.proofs.WrittenParts.{written_name, written_data}
+use Rattle.names_rdata.specs.Reading.{name_part}
+use Rattle.names_rdata.proofs.WrittenParts.{written_name, written_data}
 use Rattle.plain.proofs.laws.ns_data_are_read_back.Goals as goal
 
 pub returns : goal.returns

@@ -1,7 +1,7 @@
 use Rattle.std.proofs.Common.{◌++◌}
 use Rattle.definitions.specs.Name.{wire}
-use Rattle.names_data.specs.Reading.{name_part, octets_part, two_parts}
-use Rattle.names_data.proofs.WrittenParts.{written_name, written_octets, written_two, written_data}
+use Rattle.names_rdata.specs.Reading.{name_part, octets_part, two_parts}
+use Rattle.names_rdata.proofs.WrittenParts.{written_name, written_octets, written_two, written_data}
 use Rattle.plain.specs.Soa.{soa_part}
 use Rattle.plain.proofs.laws.soa_data_are_read_back.Goals as goal
 

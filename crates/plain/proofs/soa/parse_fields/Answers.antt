@@ -3,8 +3,8 @@ use Rattle.std.proofs.lemmas.Result.{err_from_is_err_and}
 use Rattle.definitions.specs.Name.{wire}
 use Rattle.names_parsed.specs.Heads.{fault_of}
 use Rattle.names_parsed.specs.Parsed.{parsed_name}
-use Rattle.names_data.specs.Reading.{name_part, octets_part, two_parts}
-use Rattle.names_data.proofs.Parts.{first_err, then_ok, then_err, went_on}
+use Rattle.names_rdata.specs.Reading.{name_part, octets_part, two_parts}
+use Rattle.names_rdata.proofs.Parts.{first_err, then_ok, then_err, went_on}
 use Rattle.plain.proofs.soa.parse_fields.Goals as goal
 
 pub returns-in_err-rname : goal.returns-in_err-rname

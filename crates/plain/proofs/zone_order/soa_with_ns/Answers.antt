@@ -4,7 +4,7 @@ use Rattle.std.specs.Cmp.Lexicographic.{slice_cmp}
 use Rattle.definitions.specs.Name.{low, wire}
 use Rattle.plain.specs.Soa.{times_octets}
 use Rattle.plain.proofs.Stripping.{some_behind}
-use Rattle.names_data.proofs.WireOrder.{HasNoRoot, no_root, wire_then}
+use Rattle.names_rdata.proofs.WireOrder.{HasNoRoot, no_root, wire_then}
 use Rattle.plain.proofs.zone_order.soa_with_ns.Goals as goal
 
 pub returns : goal.returns

@@ -8,7 +8,7 @@ use Rattle.names_labels.specs.Flat.{spelled}
 use Rattle.names_labels.specs.Order.{in_case}
 use Rattle.names_labels.specs.declared.order.Case.TheVariants.{Lowered}
 use Rattle.names_labels.proofs.Runs.{moved}
-use Rattle.names_data.proofs.Names.{lowered_is_wire}
+use Rattle.names_rdata.proofs.Names.{lowered_is_wire}
 use Rattle.plain.proofs.Stripping.{same_front, not_in_front, in_front, split_at, one_more}
 use Rattle.plain.proofs.zone_order.strip_canonical_name.Goals as goal
 use lib.Pointwise.{pointwise}

@@ -1,8 +1,8 @@
 use Rattle.std.proofs.Common.{◌<◌, arith, rules}
 use Rattle.answer_scheme.specs.Answers.{Answers}
-use Rattle.answer_facts.specs.Judged.{AnswersAs, judged}
-use Rattle.answer_facts.specs.Judging.{Handing, Refuses, Says}
-use Rattle.answer_rules.specs.Rules.{verdict_of}
+use Rattle.answer_judge_facts.specs.Judged.{AnswersAs, judged}
+use Rattle.answer_judge_facts.specs.Judging.{Handing, Refuses, Says}
+use Rattle.answer_judge_rules.specs.Rules.{verdict_of}
 use Rattle.answer_judge.proofs.GivenAnswers.{answers_given}
 use Rattle.answer_judge.proofs.HonestJudged.{answers_honest}
 use Rattle.answer_judge.proofs.Timely.{refuses_untimely}

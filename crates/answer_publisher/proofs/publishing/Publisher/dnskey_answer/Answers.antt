@@ -1,16 +1,16 @@
 use Rattle.std.proofs.Common.{[], ◌∷◌, rules}
 use Rattle.std.specs.Prelude.{IfErr, IfOk}
 use Rattle.answer_publisher.specs.Answering.{RefusesKeys, ahead_of_records}
-use Rattle.answer_keys.specs.Bindings.{dnskeys, keys_by_tag, published}
+use Rattle.answer_publisher_keys.specs.Bindings.{dnskeys, keys_by_tag, published}
 use Rattle.answer_publisher.specs.Composed.{IsAnswer, RefusesGroups}
-use Rattle.answer_terms.specs.Given.{GivesKeys}
-use Rattle.answer_terms.specs.Served.{by_tag}
+use Rattle.answer_shared.specs.Given.{GivesKeys}
+use Rattle.answer_shared.specs.Served.{by_tag, keys_ttl}
 use Rattle.answer_publisher.proofs.WritesGiven.{keys_given}
-use Rattle.answer_terms.proofs.ZoneData.{if_ok_map}
+use Rattle.answer_shared.proofs.ZoneData.{if_ok_map}
 use Rattle.answer_scheme.specs.Moments.{second_of}
-use Rattle.answer_terms.specs.Hashing.{served}
+use Rattle.answer_shared.specs.Hashing.{served}
 use Rattle.answer_zone.specs.HashedZone.{accepted_zone}
-use Rattle.answer_keys.specs.declared.keys.Publication.TheVariants.{Present, SignsKeys}
+use Rattle.answer_publisher_keys.specs.declared.keys.Publication.TheVariants.{Present, SignsKeys}
 use Rattle.answer_publisher.proofs.Refusals.{if_err_map, keys_refused}
 use Rattle.answer_publisher.proofs.publishing.Publisher.dnskey_answer.Goals as goal
 use Rattle.definitions.specs.Limits.{pointer_limit}
@@ -29,7 +29,7 @@ returns-clause-given g c =
     let written : IfOk c.compose_answer.result (λ m. IsAnswer sign verifies z.apex at life (by_tag signers) 33792 (record { name = z.apex; rtype = 48; class = 1 }) (group ∷ []) [] m.items) = search rules in
     if_ok_map
     (λ m. IsAnswer sign verifies z.apex at life (by_tag signers) 33792 (record { name = z.apex; rtype = 48; class = 1 }) (group ∷ []) [] m.items)
-    (λ m. GivesKeys verifies pointer_limit (served hash z) z.apex present signers at life m.items)
+    (λ m. GivesKeys verifies pointer_limit (keys_ttl (served hash z)) z.apex present signers at life m.items)
     c.compose_answer.result
     (λ m w. keys_given sign verifies hash z at life present signers m.items c.keeps.ensures.handed (record { group = group; presents = c.in_ok-group.ensures.presents; written = w }))
     written

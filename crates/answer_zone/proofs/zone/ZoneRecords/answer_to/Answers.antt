@@ -3,10 +3,10 @@ use Rattle.definitions.specs.Name.{low}
 use Rattle.definitions.specs.Zone.{owners, verdict}
 use Rattle.definitions.specs.ZoneChain.{optout_of}
 use Rattle.definitions.proofs.Members.{contained}
-use Rattle.denial_rules.specs.Truth.{concerned}
-use Rattle.denial_rules.proofs.NameFacts.{above-low}
-use Rattle.denial_rules.proofs.ZoneCuts.{has_owner}
-use Rattle.answer_terms.specs.Accepting.{zone_with}
+use Rattle.denial_laws.specs.Truth.{concerned}
+use Rattle.denial_laws.proofs.NameFacts.{above-low}
+use Rattle.denial_laws.proofs.ZoneCuts.{has_owner}
+use Rattle.answer_shared.specs.Accepting.{zone_with}
 use Rattle.answer_zone.proofs.Concerned.{all_concerned}
 use Rattle.answer_zone.proofs.Failures.{fails_among, if_err_map}
 use Rattle.answer_zone.proofs.Verdicts.{has_soa}

@@ -2,8 +2,8 @@ use Rattle.std.proofs.Common.{◌≡◌, ◌+◌, ◌<◌, length, ap, ◌∙◌
 use Rattle.definitions.specs.Name.{low}
 use Rattle.definitions.specs.Zone.{star_under}
 use Rattle.definitions.specs.ZoneChain.{optout_of}
-use Rattle.denial_rules.specs.OwnFacts.{kept_ancestor}
-use Rattle.answer_terms.specs.Accepting.{zone_with}
+use Rattle.denial_laws.specs.OwnFacts.{kept_ancestor}
+use Rattle.answer_shared.specs.Accepting.{zone_with}
 use Rattle.answer_zone.proofs.Enclosers.{closer_found}
 use Rattle.answer_zone.proofs.zone.ZoneRecords.around.Goals as goal
 

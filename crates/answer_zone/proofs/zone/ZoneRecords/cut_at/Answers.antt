@@ -2,7 +2,7 @@ use Rattle.std.proofs.Common.{◌≡◌, List, Some, sym, ap, subst, ◌∙◌}
 use Rattle.std.specs.List.{list_any, slice_get}
 use Rattle.std.specs.Option.{option_map}
 use Rattle.messages.specs.HandedRr.{HandedRr}
-use Rattle.answer_records.specs.OwnedRecords.{is_of_type}
+use Rattle.answer_zone_records.specs.OwnedRecords.{is_of_type}
 use Rattle.answer_zone.proofs.Placing.{cut_owned, has_owned, nothing_owned}
 use Rattle.answer_zone.proofs.zone.ZoneRecords.cut_at.Goals as goal
 

@@ -1,6 +1,6 @@
 use Rattle.std.proofs.Common.{ap, ◌∙◌}
 use Rattle.std.specs.List.{list_any}
-use Rattle.answer_records.specs.OwnedRecords.{is_of_type}
+use Rattle.answer_zone_records.specs.OwnedRecords.{is_of_type}
 use Rattle.answer_zone.proofs.Placing.{has_owned}
 use Rattle.answer_zone.proofs.zone.ZoneRecords.has.Goals as goal
 

@@ -1,8 +1,8 @@
 use Rattle.std.proofs.Common.{ℕ, List, Vec, Global, arith}
 use Rattle.definitions.specs.Name.{low}
-use Rattle.answer_terms.specs.Hashing.{hash_in}
+use Rattle.answer_shared.specs.Hashing.{hash_in}
 use Rattle.answer_zone.proofs.Failures.{fails_one}
-use Rattle.answer_records.proofs.ZoneGroups.{written_more}
+use Rattle.answer_zone_records.proofs.ZoneGroups.{written_more}
 use Rattle.answer_zone.proofs.zone.ZoneRecords.hashes_of.Goals as goal
 
 pub loop-name-preserved : goal.loop-name-preserved

@@ -1,5 +1,5 @@
 use Rattle.std.proofs.Common.{◌≡◌, map, take}
-use Rattle.answer_terms.specs.Hashing.{hash_in}
+use Rattle.answer_shared.specs.Hashing.{hash_in}
 use Rattle.answer_zone.proofs.zone.ZoneRecords.hashes_of.Given as goal
 
 abbrev pub invariant-loop-name : goal.invariant-loop-name

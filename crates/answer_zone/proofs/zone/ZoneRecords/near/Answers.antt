@@ -3,8 +3,8 @@ use Rattle.std.specs.List.{list_any}
 use Rattle.definitions.specs.Name.{at_or_above, same}
 use Rattle.messages.specs.HandedRr.{HandedRr, handed_of}
 use Rattle.messages.proofs.Lists.{list_any-map}
-use Rattle.answer_records.specs.Near.{AreRising}
-use Rattle.answer_records.proofs.KeptNames.{handed_rise}
+use Rattle.answer_zone_records.specs.Near.{AreRising}
+use Rattle.answer_zone_records.proofs.KeptNames.{handed_rise}
 use Rattle.answer_zone.proofs.zone.ZoneRecords.near.Goals as goal
 
 pub neighbours_of-requires : goal.neighbours_of-requires

@@ -3,13 +3,13 @@ use Rattle.std.proofs.lemmas.Bool.{and_parts}
 use Rattle.definitions.specs.Name.{Name, low, strictly_above}
 use Rattle.definitions.specs.Zone.{Delegated, Open, has}
 use Rattle.definitions.specs.ZoneChain.{optout_of}
-use Rattle.denial_rules.specs.OwnFacts.{kept_ancestor}
-use Rattle.denial_rules.specs.OwnFacts as own
-use Rattle.answer_terms.specs.Accepting.{zone_with}
-use Rattle.answer_terms.specs.Hashing.{hash_in}
-use Rattle.answer_terms.specs.Served.{proofs_of, served_of, spoken, unsigned_ns}
-use Rattle.answer_terms.proofs.ZoneAnswers.{groups_open_delegated}
-use Rattle.answer_terms.proofs.ZoneData.{if_ok_map}
+use Rattle.denial_laws.specs.OwnFacts.{kept_ancestor}
+use Rattle.denial_laws.specs.OwnFacts as own
+use Rattle.answer_shared.specs.Accepting.{zone_with}
+use Rattle.answer_shared.specs.Hashing.{hash_in}
+use Rattle.answer_shared.specs.Served.{proofs_of, served_of, spoken, unsigned_ns}
+use Rattle.answer_shared.proofs.ZoneAnswers.{groups_open_delegated}
+use Rattle.answer_shared.proofs.ZoneData.{if_ok_map}
 use Rattle.answer_zone.specs.HashedZone.{IsHashFailure}
 use Rattle.answer_zone.specs.ZoneAnswers.{AnswersAs, Holds}
 use Rattle.answer_zone.proofs.Failures.{if_err_map}

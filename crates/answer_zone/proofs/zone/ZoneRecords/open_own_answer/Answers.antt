@@ -3,20 +3,20 @@ use Rattle.std.proofs.lemmas.Bool.{and_parts, false_from_ne_true}
 use Rattle.definitions.specs.Name.{Name, at_or_above, low}
 use Rattle.definitions.specs.Zone.{NoName, NoType, Open, StarNoType, StarRecords, cut, cut_above, data_at, exists, has, star_under}
 use Rattle.definitions.specs.ZoneChain.{optout_of}
-use Rattle.denial_rules.specs.OwnFacts.{kept_ancestor}
-use Rattle.denial_rules.specs.OwnFacts as own
-use Rattle.denial_rules.proofs.NameFacts.{above-low}
-use Rattle.answer_terms.specs.Accepting.{zone_with}
-use Rattle.answer_terms.specs.Hashing.{hash_in}
-use Rattle.answer_terms.specs.Served.{expanded, proofs_of, served_of, soa, spoken, unsigned_ns}
-use Rattle.answer_terms.proofs.ZoneAnswers.{groups_open_expanded, groups_open_missing}
-use Rattle.answer_terms.proofs.ZoneData.{if_ok_map}
+use Rattle.denial_laws.specs.OwnFacts.{kept_ancestor}
+use Rattle.denial_laws.specs.OwnFacts as own
+use Rattle.denial_laws.proofs.NameFacts.{above-low}
+use Rattle.answer_shared.specs.Accepting.{zone_with}
+use Rattle.answer_shared.specs.Hashing.{hash_in}
+use Rattle.answer_shared.specs.Served.{expanded, proofs_of, served_of, soa, spoken, unsigned_ns}
+use Rattle.answer_shared.proofs.ZoneAnswers.{groups_open_expanded, groups_open_missing}
+use Rattle.answer_shared.proofs.ZoneData.{if_ok_map}
 use Rattle.answer_zone.specs.HashedZone.{IsHashFailure}
 use Rattle.answer_zone.specs.ZoneAnswers.{AnswersAs, Holds}
 use Rattle.answer_zone.proofs.Failures.{if_err_map}
 use Rattle.std.specs.List.{list_any}
 use Rattle.definitions.proofs.ZoneNames.{low-low}
-use Rattle.answer_records.specs.OwnedRecords.{is_of_type}
+use Rattle.answer_zone_records.specs.OwnedRecords.{is_of_type}
 use Rattle.answer_zone.proofs.Placing.{exists_here, has_owned, none_strictly, uncut_encloser}
 use Rattle.answer_zone.proofs.Verdicts.{answers, apex_exists, encloser_there, lacks_type, left_open, no_name, no_record, not_referred, owner_inside, star_no_type, star_records}
 use Rattle.answer_zone.proofs.zone.ZoneRecords.open_own_answer.Goals as goal

@@ -2,17 +2,17 @@ use Rattle.std.proofs.Common.{◌≡◌, [], ◌∷◌, List, true, false, refl,
 use Rattle.definitions.specs.Name.{Name, low}
 use Rattle.definitions.specs.Zone.{NoType, Records, data_at, exists, has}
 use Rattle.definitions.specs.ZoneChain.{optout_of}
-use Rattle.answer_terms.specs.Accepting.{zone_with}
-use Rattle.answer_terms.specs.Hashing.{hash_in}
-use Rattle.answer_terms.specs.Served.{proofs_of, rrset, served_of, soa, spoken, under}
-use Rattle.answer_terms.proofs.ZoneAnswers.{groups_found, groups_without_type}
-use Rattle.answer_terms.proofs.ZoneData.{if_ok_map}
+use Rattle.answer_shared.specs.Accepting.{zone_with}
+use Rattle.answer_shared.specs.Hashing.{hash_in}
+use Rattle.answer_shared.specs.Served.{proofs_of, rrset, served_of, soa, spoken, under}
+use Rattle.answer_shared.proofs.ZoneAnswers.{groups_found, groups_without_type}
+use Rattle.answer_shared.proofs.ZoneData.{if_ok_map}
 use Rattle.answer_zone.specs.HashedZone.{IsHashFailure}
 use Rattle.answer_zone.specs.ZoneAnswers.{AnswersAs, Holds}
 use Rattle.answer_zone.proofs.Failures.{if_err_map}
 use Rattle.std.specs.List.{list_any}
 use Rattle.definitions.proofs.ZoneNames.{low-low}
-use Rattle.answer_records.specs.OwnedRecords.{is_of_type}
+use Rattle.answer_zone_records.specs.OwnedRecords.{is_of_type}
 use Rattle.answer_zone.proofs.Placing.{exists_here, has_owned, none_strictly}
 use Rattle.answer_zone.proofs.Verdicts.{answers, closed, has_type, lacks_type, owner_inside}
 use Rattle.answer_zone.proofs.zone.ZoneRecords.own_answer.Goals as goal

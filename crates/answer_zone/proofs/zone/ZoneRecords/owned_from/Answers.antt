@@ -1,5 +1,5 @@
 use Rattle.std.proofs.Common.{ap, ◌∙◌}
-use Rattle.answer_records.specs.OwnedRecords.{owned_by}
+use Rattle.answer_zone_records.specs.OwnedRecords.{owned_by}
 use Rattle.answer_zone.proofs.zone.ZoneRecords.owned_from.Goals as goal
 
 pub returns : goal.returns

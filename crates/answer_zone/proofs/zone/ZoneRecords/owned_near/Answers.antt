@@ -1,5 +1,5 @@
 use Rattle.std.proofs.Common.{sym, ◌∙◌}
-use Rattle.answer_records.proofs.OwnedFacts.{none_owned}
+use Rattle.answer_zone_records.proofs.OwnedFacts.{none_owned}
 use Rattle.answer_zone.proofs.zone.ZoneRecords.owned_near.Goals as goal
 
 pub returns-else-owns : goal.returns-else-owns

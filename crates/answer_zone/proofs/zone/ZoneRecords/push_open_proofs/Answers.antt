@@ -1,8 +1,8 @@
 use Rattle.std.proofs.Common.{subst}
 use Rattle.definitions.specs.Name.{low}
-use Rattle.answer_terms.specs.Accepting.{zone_with}
-use Rattle.answer_terms.specs.GroupView.{Adds}
-use Rattle.answer_terms.specs.Served.{proofs_of}
+use Rattle.answer_shared.specs.Accepting.{zone_with}
+use Rattle.answer_shared.specs.GroupView.{Adds}
+use Rattle.answer_shared.specs.Served.{proofs_of}
 use Rattle.answer_zone.specs.HashedZone.{served_by}
 use Rattle.answer_zone.proofs.Spoken.{open_names}
 use Rattle.std.proofs.lemmas.Result.{on_ok_weaker}

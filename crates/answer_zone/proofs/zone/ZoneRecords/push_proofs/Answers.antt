@@ -1,7 +1,7 @@
 use Rattle.std.proofs.Common.{List, map, subst}
 use Rattle.std.proofs.lemmas.Result.{on_ok_weaker}
 use Rattle.definitions.specs.Name.{Name, low}
-use Rattle.answer_records.specs.MadeLinks.{IsChain}
+use Rattle.answer_zone_records.specs.MadeLinks.{IsChain}
 use Rattle.answer_zone.proofs.ChainProofs.{hashed_circle, hashed_proofs, memory_only, named_proofs, named_round}
 use Rattle.answer_zone.proofs.zone.ZoneRecords.push_proofs.Goals as goal
 

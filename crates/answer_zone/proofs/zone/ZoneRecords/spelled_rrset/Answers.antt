@@ -4,15 +4,15 @@ use Rattle.std.specs.List.{find, list_any}
 use Rattle.std.proofs.lemmas.Bool.{false≢true}
 use Rattle.definitions.specs.Name.{Name, low}
 use Rattle.definitions.specs.Zone.{data_at}
-use Rattle.answer_terms.specs.Accepting.{zone_with}
-use Rattle.answer_terms.specs.GroupView.{Presents}
-use Rattle.answer_terms.specs.Served.{Group, chain_ttl, owner_among, rrset, spelled_among, ttl_among, written_among}
-use Rattle.answer_terms.proofs.ZoneData.{if_ok_map}
+use Rattle.answer_shared.specs.Accepting.{zone_with}
+use Rattle.answer_shared.specs.GroupView.{Presents}
+use Rattle.answer_shared.specs.Served.{Group, chain_ttl, owner_among, rrset, spelled_among, ttl_among, written_among}
+use Rattle.answer_shared.proofs.ZoneData.{if_ok_map}
 use Rattle.messages.specs.HandedRr.{HandedRr}
-use Rattle.answer_records.specs.OwnedRecords.{is_of_type}
-use Rattle.answer_records.proofs.OwnedFacts.{has_first, owner_or, owner_owned}
+use Rattle.answer_zone_records.specs.OwnedRecords.{is_of_type}
+use Rattle.answer_zone_records.proofs.OwnedFacts.{has_first, owner_or, owner_owned}
 use Rattle.answer_zone.proofs.Placing.{has_owned}
-use Rattle.answer_records.specs.GroupRecords.{rrset_from}
+use Rattle.answer_zone_records.specs.GroupRecords.{rrset_from}
 use Rattle.answer_zone.specs.HashedZone.{served_by}
 use Rattle.answer_zone.proofs.zone.ZoneRecords.spelled_rrset.Goals as goal
 use Rattle.answer_zone.proofs.zone.ZoneRecords.spelled_rrset.Goals.{in-Some, in-None}

@@ -1,7 +1,7 @@
 use Rattle.std.proofs.Common.{◌&&◌, sym, ap, ◌∙◌}
 use Rattle.definitions.specs.Name.{at_or_above}
 use Rattle.definitions.proofs.ZoneNames.{above_itself}
-use Rattle.answer_records.specs.Near.{shows}
+use Rattle.answer_zone_records.specs.Near.{shows}
 use Rattle.answer_zone.proofs.zone.ZoneRecords.stands.Goals as goal
 
 pub returns : goal.returns

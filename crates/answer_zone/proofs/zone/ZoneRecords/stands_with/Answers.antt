@@ -1,7 +1,7 @@
 use Rattle.std.proofs.Common.{◌≡◌, ◌&&◌, Bool, true, false, [], refl, sym, ap, ◌∙◌}
 use Rattle.std.proofs.lemmas.Bool.{false≢true}
 use Rattle.definitions.specs.Name.{at_or_above}
-use Rattle.answer_records.specs.OwnedRecords.{owned_by}
+use Rattle.answer_zone_records.specs.OwnedRecords.{owned_by}
 use Rattle.answer_zone.proofs.Placing.{owned_below}
 use Rattle.answer_zone.proofs.zone.ZoneRecords.stands_with.Goals as goal
 

@@ -3,11 +3,11 @@ use Rattle.std.proofs.lemmas.Bool.{and_parts}
 use Rattle.definitions.specs.Name.{Name, low, strictly_above}
 use Rattle.definitions.specs.Zone.{Delegated, has}
 use Rattle.definitions.specs.ZoneChain.{optout_of}
-use Rattle.answer_terms.specs.Accepting.{zone_with}
-use Rattle.answer_terms.specs.Hashing.{hash_in}
-use Rattle.answer_terms.specs.Served.{if_any, proofs_of, served_of, spoken, unsigned_ns}
-use Rattle.answer_terms.proofs.ZoneAnswers.{groups_delegated}
-use Rattle.answer_terms.proofs.ZoneData.{if_ok_map}
+use Rattle.answer_shared.specs.Accepting.{zone_with}
+use Rattle.answer_shared.specs.Hashing.{hash_in}
+use Rattle.answer_shared.specs.Served.{if_any, proofs_of, served_of, spoken, unsigned_ns}
+use Rattle.answer_shared.proofs.ZoneAnswers.{groups_delegated}
+use Rattle.answer_shared.proofs.ZoneData.{if_ok_map}
 use Rattle.answer_zone.specs.HashedZone.{IsHashFailure}
 use Rattle.answer_zone.specs.ZoneAnswers.{AnswersAs, Holds}
 use Rattle.answer_zone.proofs.Failures.{if_err_map}

@@ -1,7 +1,7 @@
 use Rattle.std.proofs.Common.{ap, ◌∙◌}
 use Rattle.std.specs.List.{find}
-use Rattle.answer_records.specs.OwnedRecords.{is_of_type, ttl_in}
-use Rattle.answer_records.proofs.OwnedFacts.{ttl_owned}
+use Rattle.answer_zone_records.specs.OwnedRecords.{is_of_type, ttl_in}
+use Rattle.answer_zone_records.proofs.OwnedFacts.{ttl_owned}
 use Rattle.answer_zone.proofs.zone.ZoneRecords.ttl_at.Goals as goal
 
 pub returns : goal.returns

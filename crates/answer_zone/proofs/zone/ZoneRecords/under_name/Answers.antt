@@ -3,9 +3,9 @@ use Rattle.std.specs.Prelude.{if◌then◌else◌}
 use Rattle.std.specs.List.{AllZip}
 use Rattle.definitions.specs.Name.{Name, low}
 use Rattle.definitions.specs.Zone.{data_at}
-use Rattle.answer_terms.specs.Accepting.{zone_with}
-use Rattle.answer_terms.specs.GroupView.{Presents}
-use Rattle.answer_terms.specs.Served.{Group, chain_ttl, owned_by, rrset, ttl_among, under, written_among}
+use Rattle.answer_shared.specs.Accepting.{zone_with}
+use Rattle.answer_shared.specs.GroupView.{Presents}
+use Rattle.answer_shared.specs.Served.{Group, chain_ttl, owned_by, rrset, ttl_among, under, written_among}
 use Rattle.answer_zone.specs.HashedZone.{served_by}
 use Rattle.answer_zone.proofs.zone.ZoneRecords.under_name.Goals as goal
 

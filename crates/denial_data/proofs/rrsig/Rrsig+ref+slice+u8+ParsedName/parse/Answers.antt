@@ -1,5 +1,5 @@
 use Rattle.names_parsed.specs.Parsed.{parsed_name}
-use Rattle.names_data.specs.Reading.{name_part, octets_part, rest_part, two_parts}
+use Rattle.names_rdata.specs.Reading.{name_part, octets_part, rest_part, two_parts}
 use Rattle.denial_fields.proofs.Ending.{whole_read, two_end, limited_ends, rest_ends}
 use Rattle.denial_data.specs.RrsigData.{rrsig_octets}
 use Rattle.denial_data.specs.Signatures.{rrsig_part, signer_part}

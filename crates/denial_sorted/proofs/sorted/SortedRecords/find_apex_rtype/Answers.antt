@@ -1,6 +1,6 @@
 use Rattle.std.proofs.Common.{List, sym, ap, ◌∙◌}
 use Rattle.plain.specs.declared.record.Record.{Record}
-use Rattle.denial_groups.specs.Groups.{found_set, groups, is_at, of_one_set}
+use Rattle.denial_rrsets.specs.Groups.{found_set, groups, is_at, of_one_set}
 use Rattle.denial_sorted.proofs.Found.{found_in_span, found_nowhere}
 use Rattle.denial_sorted.proofs.sorted.SortedRecords.find_apex_rtype.Goals as goal
 

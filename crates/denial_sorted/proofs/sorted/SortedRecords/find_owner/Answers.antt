@@ -1,6 +1,6 @@
 use Rattle.std.proofs.Common.{List, filter, sym, ap, ◌∙◌, subst}
 use Rattle.plain.specs.declared.record.Record.{Record}
-use Rattle.denial_groups.specs.Groups.{IsGroup, of_one_owner}
+use Rattle.denial_rrsets.specs.Groups.{IsGroup, of_one_owner}
 use Rattle.denial_sorted.specs.Owned.{is_owned}
 use Rattle.denial_sorted.proofs.Asked.{filter_no_span, filter_span}
 use Rattle.denial_sorted.proofs.Spanned.{span_group}

@@ -1,8 +1,8 @@
 use Rattle.std.proofs.Common.{List, filter, sym, ap, ◌∙◌, subst, arith}
 use Rattle.plain.specs.declared.record.Record.{Record}
-use Rattle.denial_groups.specs.GroupLaws.{one_owner_equivalence}
-use Rattle.denial_groups.specs.Groups.{IsGroup, of_one_owner}
-use Rattle.denial_groups.specs.Starts.{starts_in}
+use Rattle.denial_rrsets.specs.GroupLaws.{one_owner_equivalence}
+use Rattle.denial_rrsets.specs.Groups.{IsGroup, of_one_owner}
+use Rattle.denial_rrsets.specs.Starts.{starts_in}
 use Rattle.denial_sorted.specs.Owned.{is_owned}
 use Rattle.denial_sorted.proofs.Asked.{filter_no_span, filter_span}
 use Rattle.denial_sorted.proofs.Moved.{parted_at}

@@ -1,7 +1,7 @@
 use Rattle.std.proofs.Common.{ap, ◌∙◌}
 use Rattle.plain.specs.Records.{record_canonical_cmp}
-use Rattle.denial_groups.specs.Groups.{of_one_owner}
-use Rattle.denial_groups.specs.Starts.{starts_in}
+use Rattle.denial_rrsets.specs.Groups.{of_one_owner}
+use Rattle.denial_rrsets.specs.Starts.{starts_in}
 use Rattle.denial_sorted.proofs.Keyed.{same_sorted}
 use Rattle.denial_sorted.proofs.Orders.{record_total}
 use Rattle.denial_sorted.proofs.Putting.{sort_rises}

@@ -1,7 +1,7 @@
 use Rattle.std.proofs.Common.{ap, sym, ◌∙◌}
 use Rattle.plain.specs.Records.{record_canonical_cmp}
-use Rattle.denial_groups.specs.Groups.{of_one_owner}
-use Rattle.denial_groups.specs.Starts.{starts_in}
+use Rattle.denial_rrsets.specs.Groups.{of_one_owner}
+use Rattle.denial_rrsets.specs.Starts.{starts_in}
 use Rattle.denial_sorted.proofs.Orders.{record_total}
 use Rattle.denial_sorted.proofs.Putting.{rising_none}
 use Rattle.denial_sorted.proofs.sorted.SortedRecords.new.Goals as goal

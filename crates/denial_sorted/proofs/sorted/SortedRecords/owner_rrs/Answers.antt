@@ -1,5 +1,5 @@
 use Rattle.std.proofs.Common.{sym, ◌∙◌}
-use Rattle.denial_groups.specs.Groups.{of_one_owner}
+use Rattle.denial_rrsets.specs.Groups.{of_one_owner}
 use Rattle.denial_sorted.proofs.Parted.{owners_parted, partition_at}
 use Rattle.denial_sorted.proofs.sorted.SortedRecords.owner_rrs.Goals as goal
 

@@ -3,10 +3,10 @@ use Rattle.std.specs.List.{filter, list_any}
 use Rattle.std.proofs.lemmas.Fn.{filter_same}
 use Rattle.std.proofs.lemmas.List.Kept.{IsStrictlySortedBy-filter}
 use Rattle.plain.specs.Records.{record_canonical_cmp}
-use Rattle.denial_groups.specs.GroupLaws.{one_owner_equivalence}
-use Rattle.denial_groups.specs.Groups.{of_one_owner}
+use Rattle.denial_rrsets.specs.GroupLaws.{one_owner_equivalence}
+use Rattle.denial_rrsets.specs.Groups.{of_one_owner}
 use Rattle.denial_sorted.specs.Removing.{is_asked}
-use Rattle.denial_groups.specs.Starts.{starts_in}
+use Rattle.denial_rrsets.specs.Starts.{starts_in}
 use Rattle.denial_sorted.proofs.Fewer.{fewer_kept}
 use Rattle.denial_sorted.proofs.Removed.{kept_all}
 use Rattle.denial_sorted.proofs.sorted.SortedRecords.remove_all_by_name_class_rtype.Goals as goal

@@ -1,10 +1,10 @@
 use Rattle.std.proofs.Common.{◌∙◌, ap, sym, length, arith}
 use Rattle.plain.specs.Records.{record_canonical_cmp}
 use Rattle.std.specs.List.{list_any}
-use Rattle.denial_groups.specs.GroupLaws.{one_owner_equivalence}
-use Rattle.denial_groups.specs.Groups.{of_one_owner}
+use Rattle.denial_rrsets.specs.GroupLaws.{one_owner_equivalence}
+use Rattle.denial_rrsets.specs.Groups.{of_one_owner}
 use Rattle.denial_sorted.specs.Removing.{is_asked}
-use Rattle.denial_groups.specs.Starts.{starts_in}
+use Rattle.denial_rrsets.specs.Starts.{starts_in}
 use Rattle.denial_sorted.proofs.Fewer.{fewer_left}
 use Rattle.denial_sorted.proofs.Removed.{without_rises, without_none, removed_at}
 use Rattle.denial_sorted.proofs.sorted.SortedRecords.remove_first_by_name_class_rtype.Goals as goal

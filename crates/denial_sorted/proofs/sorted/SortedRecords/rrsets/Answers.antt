@@ -1,5 +1,5 @@
 use Rattle.std.proofs.Common.{sym, ◌∙◌}
-use Rattle.denial_groups.specs.Groups.{of_one_set}
+use Rattle.denial_rrsets.specs.Groups.{of_one_set}
 use Rattle.denial_sorted.proofs.Parted.{partition_at, sets_parted}
 use Rattle.denial_sorted.proofs.sorted.SortedRecords.rrsets.Goals as goal
 

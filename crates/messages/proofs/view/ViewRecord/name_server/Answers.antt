@@ -1,6 +1,6 @@
 use Rattle.std.proofs.Common.{◌∙◌, ap, subst, sym}
 use Rattle.definitions.specs.Name.{IsName}
-use Rattle.names_data.specs.Reading.{data_at, name_part}
+use Rattle.names_rdata.specs.Reading.{data_at, name_part}
 use Rattle.names_parsed.specs.Parsed.{parsed_name}
 use Rattle.messages.specs.Record.{spelled}
 use Rattle.messages.proofs.DataRead.{ns_found, ns_unread}

@@ -1,5 +1,5 @@
 use Rattle.std.proofs.Common.{◌∙◌, ap, sym}
-use Rattle.names_data.specs.Reading.{data_at}
+use Rattle.names_rdata.specs.Reading.{data_at}
 use Rattle.denial_data.specs.Signatures.{rrsig_part}
 use Rattle.messages.specs.Record.{spelled}
 use Rattle.messages.proofs.DataRead.{signature_found, signature_unread}

@@ -4,7 +4,7 @@ use Rattle.std.specs.Cmp.Lexicographic.{slice_cmp}
 use Rattle.definitions.specs.Name.{low, wire}
 use Rattle.names_labels.proofs.Orders.{stops_here, goes_on}
 use Rattle.plain.specs.Soa.{times_octets}
-use Rattle.names_data.proofs.WireOrder.{no_root, wire_then}
+use Rattle.names_rdata.proofs.WireOrder.{no_root, wire_then}
 use Rattle.plain.proofs.soa.SoaCanonicalOrd.canonical_cmp.Goals as goal
 
 pub returns-then-is_ne : goal.returns-then-is_ne

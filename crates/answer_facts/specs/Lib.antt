@@ -1,9 +1,0 @@
-pub mod Counted
-pub mod Facts
-pub mod HashRefusal
-pub mod Judged
-pub mod Judging
-pub mod KeyOrder
-pub mod Marked
-pub mod Ranked
-pub mod Verified

@@ -1,0 +1,115 @@
+-- How many signatures a judge verifies (RFC 4035, 5.3): those that are due and have a key, each on an RRset that no
+-- earlier one verified.
+use Rattle.std.specs.Prelude.{◌≡◌, ◌⊎◌, ℕ, ◌+◌, Bool, true, false, not, ◌&&◌, ◌||◌, ◌==◌, List, [], ◌∷◌, ◌++◌, filter, length, Some, None, Ok, Err, is_some, nat_eq, if◌then◌else◌}
+use Rattle.std.specs.List.{find}
+use Rattle.definitions.specs.Name.{Name}
+use Rattle.definitions.specs.Dnskey.{Dnskey}
+use Rattle.definitions.specs.Signing.{Fields}
+use Rattle.messages.specs.Message.{Message, Spelled, message, rrsig_at}
+use Rattle.answer_scheme.specs.Answers.{Answers}
+use Rattle.answer_judge_facts.specs.Facts.{fits_key, is_due, is_signature, is_trusted, is_usable}
+use Rattle.denial_laws.specs.Facts.{Facts}
+use Rattle.answer_judge_rules.specs.Hashes.{hashed_for}
+use Rattle.answer_judge_facts.specs.Judged.{are_mixed, are_of_moments, are_over, facts_in, is_chained, keys_of, trusting}
+use Rattle.answer_judge_facts.specs.Judging.{Answer, Handing, Refuses, first_refusal, message_refusal}
+use Rattle.answer_judge_facts.specs.declared.verdict.Refusal.TheVariants as r
+use Rattle.answer_judge_facts.specs.Sought.{Sought, answer_sought, keys_sought}
+use Rattle.answer_judge_facts.specs.Verified.{Trusting, is_verified}
+
+abbrev pub one_if : Bool → ℕ
+one_if b = if b then 1 else 0
+
+-- data that aren't empty, a signature that is due, and a key of its tag and algorithm
+abbrev pub can_try : Trusting → Name → List (List ℕ) → Fields → Bool
+can_try w owner items f = elim (not (length items == 0) && is_due w.apex w.now owner f) [
+  | false ↦ false
+  | true ↦ is_some (find (fits_key f) w.keys)
+]
+
+-- a signature of an RRset that is sought, behind some records of which none verifies that
+abbrev pub tries_fields : Trusting → ℕ → List ℕ → Sought → List Spelled → Name → Fields → Bool
+tries_fields w k m s earlier owner f =
+    let items = s.datas owner f.covered in
+    s.is owner f.covered && (not (is_verified w k m earlier owner f.covered items) && can_try w owner items f)
+
+abbrev pub is_tried : Trusting → ℕ → List ℕ → Sought → List Spelled → Spelled → Bool
+is_tried w k m s earlier r = elim (is_signature r && (r.class == 1)) [
+  | false ↦ false
+  | true ↦ elim (rrsig_at k m r) [ None ↦ false | Some f ↦ tries_fields w k m s earlier r.owner f.0 ]
+]
+
+-- of some records behind others
+abbrev pub tries : Trusting → ℕ → List ℕ → Sought → List Spelled → List Spelled → ℕ
+tries w k m s earlier [] = 0
+tries w k m s earlier (r ∷ rs) = one_if (is_tried w k m s earlier r) + tries w k m s (earlier ++ r ∷ []) rs
+
+-- those of the DNSKEY answer, under the keys that DS records name
+abbrev pub key_tries : Answers → ℕ → Handing → Message → ℕ
+key_tries a k h keys =
+    let ks = keys_of h keys in
+    tries (trusting a h (filter (is_trusted a h.apex h.ds) ks)) k h.dnskey_bytes (keys_sought h.apex ks) [] keys.records
+
+-- those of the zone answer, under the usable keys
+abbrev pub answer_tries : Answers → ℕ → Handing → Message → Message → ℕ
+answer_tries a k h keys answer =
+    tries (trusting a h (filter is_usable (keys_of h keys))) k h.answer_bytes
+    (answer_sought k h.answer_bytes h.apex answer.records h.asked.name h.asked.rtype) [] answer.records
+
+-- the zone answer is looked at only where the keys are verified
+abbrev pub tries_in_messages : Answers → ℕ → Handing → Message → Message → ℕ
+tries_in_messages a k h keys answer =
+    key_tries a k h keys + elim (is_chained a k h keys) [ true ↦ answer_tries a k h keys answer | false ↦ 0 ]
+
+abbrev pub tries_in_bytes : Answers → ℕ → Handing → ℕ
+tries_in_bytes a k h = elim (message k h.dnskey_bytes) [
+  | Err e ↦ 0
+  | Ok keys ↦ elim (message k h.answer_bytes) [ Err e ↦ 0 | Ok answer ↦ tries_in_messages a k h keys answer ]
+]
+
+-- beside a DS set that isn't empty
+abbrev pub tries_beyond : Answers → ℕ → Handing → ℕ
+tries_beyond a k h = elim (message_refusal k h) [ Some e ↦ 0 | None ↦ tries_in_bytes a k h ]
+
+-- the signatures that a judgement verifies, memory aside
+abbrev pub verifications_due : Answers → ℕ → Handing → ℕ
+verifications_due a k h = elim (first_refusal k h) [
+  | Some e ↦ 0
+  | None ↦ if nat_eq (length h.ds) 0 then 0 else tries_in_bytes a k h
+]
+
+-- ---- names that are hashed: until one fails, beside signatures of one moment, links of one kind and within the limit
+
+abbrev pub hashes_of_facts : Answers → Handing → Facts → ℕ
+hashes_of_facts a h f = if are_mixed f.hash_links || are_over h.limit f.hash_links then 0 else length (hashed_for a.hash h.apex f h.asked.name)
+
+abbrev pub hashes_of_proof : Answers → Handing → Facts → Bool → ℕ
+hashes_of_proof a h f of_moments = if h.one_moment && of_moments then 0 else hashes_of_facts a h f
+
+abbrev pub hashes_of_answer : Answers → ℕ → Handing → List Dnskey → Message → ℕ
+hashes_of_answer a k h usable answer = hashes_of_proof a h (facts_in a k h usable answer) (are_of_moments a k h usable answer)
+
+abbrev pub hashes_in_messages : Answers → ℕ → Handing → Message → Message → ℕ
+hashes_in_messages a k h keys answer = elim (is_chained a k h keys) [
+  | true ↦ hashes_of_answer a k h (filter is_usable (keys_of h keys)) answer
+  | false ↦ 0
+]
+
+abbrev pub hashes_in_bytes : Answers → ℕ → Handing → ℕ
+hashes_in_bytes a k h = elim (message k h.dnskey_bytes) [
+  | Err e ↦ 0
+  | Ok keys ↦ elim (message k h.answer_bytes) [ Err e ↦ 0 | Ok answer ↦ hashes_in_messages a k h keys answer ]
+]
+
+abbrev pub hashes_beyond : Answers → ℕ → Handing → ℕ
+hashes_beyond a k h = elim (message_refusal k h) [ Some e ↦ 0 | None ↦ hashes_in_bytes a k h ]
+
+-- the names that a judgement hashes, memory aside
+abbrev pub hashes_due : Answers → ℕ → Handing → ℕ
+hashes_due a k h = elim (first_refusal k h) [
+  | Some e ↦ 0
+  | None ↦ if nat_eq (length h.ds) 0 then 0 else hashes_in_bytes a k h
+]
+
+-- this is the count, or memory ran out
+abbrev pub Counts : Answer → ℕ → ℕ → Type 0
+Counts answer count due = (answer ≡ Refuses r.Memory) ⊎ (count ≡ due)

@@ -1,0 +1,11 @@
+pub mod Counted
+pub mod Facts
+pub mod HashRefusal
+pub mod Judged
+pub mod Judging
+pub mod KeyOrder
+pub mod Marked
+pub mod Ranked
+pub mod Sought
+pub mod Times
+pub mod Verified

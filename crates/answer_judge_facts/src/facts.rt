@@ -1,0 +1,395 @@
+//! From bytes to verified facts (RFC 4035, 5.3).
+ghost use Rattle.std.specs.Prelude.{◌≡◌, ◌&&◌, ◌==◌, ◌+◌, ◌<◌, ◌≤◌, ◌^◌, [], None, true, false, IfOk, MatchOption, length, map, filter};
+ghost use Rattle.std.specs.Cow.{cow_slice_items};
+ghost use Rattle.definitions.specs.Limits.{pointer_limit};
+ghost use Rattle.std.specs.List.{list_any, filter_map, AllByRecursion};
+ghost use Rattle.messages.specs.Record.{spelled};
+ghost use Rattle.answer_judge_facts.specs.Facts.{is_signature};
+ghost use Rattle.answer_judge_facts.specs.Counted.{tries};
+ghost use Rattle.answer_judge_facts.specs.Sought.{answer_sought};
+ghost use Rattle.answer_judge_facts.specs.Times.{are_unlike, proof_times};
+ghost use Rattle.answer_judge_facts.specs.Verified.{is_known_datum, verified_facts};
+ghost use Rattle.std.specs.List.Sorted.{IsPermutation, IsSortedBy};
+ghost use Rattle.std.specs.Ordering.{is_lt};
+ghost use Rattle.answer_judge_facts.specs.Marked.{held_by, data_in, is_proved, is_chain_type, is_chain, is_record_of, has_place, holds_one, stands_alone, AreShort, IsAlone, AreGathered, link_by, hash_link_by, hash_link_of, rrset_verified};
+ghost use Rattle.answer_judge_facts.specs.KeyOrder.{Ranks};
+ghost use Rattle.answer_judge_facts.specs.Ranked.{AreRanked, IsRun, alike_len, are_alike, chain_cmp, run_data};
+
+use crate::groups::{Group, is_chain_type, place_of, read_group, verify_groups};
+use crate::hash_owner::{hash_spelled, spells_hash};
+use crate::order::sort_data;
+use crate::times::are_unlike;
+use crate::trust::Trust;
+use crate::verdict::DataList;
+use crate::verifier::Verifier;
+use answer_judge_rules::decide::{Facts, HashLink, Link, Rrset};
+use answer_scheme::checks::Checks;
+use messages::names::{Name, ToName, cow_name, is_at_or_above};
+use messages::rdata::read_hashed_link;
+use messages::{Owner, ViewRecord};
+use names_rdata::rtype::Rtype;
+use numbers::class::Class;
+use std::alloc::{AllocError, Global};
+use std::borrow::CowSlice;
+use std::cmp::Ordering;
+
+/// What signatures of an answer verify: facts, and whether these signatures are not all of one inception and one expiration.
+#[derive(Drop)]
+pub struct Proof<'a> {
+    pub facts: Facts<'a>,
+    pub is_of_moments: bool,
+}
+
+/// What signatures of an answer verify: the RRset that was asked for, and records of chains, NSEC and NSEC3.
+pub fn read_facts<'a, C: Checks>(
+    message: &'a [u8],
+    records: &[ViewRecord<'a>],
+    trust: &Trust,
+    name: &Name<Vec<u8>>,
+    rtype: Rtype,
+    verifier: &mut Verifier<C>,
+) -> Result<Proof<'a>, AllocError>
+    requires index { Ranks trust.now.keys.now trust.now.ranked.now }
+    requires room { verifier.old.count + length records.now < 2 ^ 32 }
+    requires other { is_chain_type rtype ≡ false }
+    ensures facts { let w = held_by (C.answers verifier.old.checks.now) trust.now in
+        let m = message.now in let rs = map spelled records.now in
+        IfOk result (λ p. p.facts ≡ verified_facts w pointer_limit m rs name.now rtype) }
+    ensures moments { let w = held_by (C.answers verifier.old.checks.now) trust.now in
+        let m = message.now in let rs = map spelled records.now in
+        let times = proof_times w pointer_limit m rs name.now rtype in
+        IfOk result (λ p. p.is_of_moments ≡ are_unlike times) }
+    ensures tried { let w = held_by (C.answers verifier.old.checks.now) trust.now in
+        let m = message.now in let rs = map spelled records.now in
+        let sought = answer_sought pointer_limit m w.apex rs name.now rtype in
+        let count = verifier.old.count + tries w pointer_limit m sought [] rs in
+        IfOk result (λ _. verifier.new.count ≡ count) }
+    ensures counted { C.verified verifier.new.checks.now + verifier.old.count
+        ≡ C.verified verifier.old.checks.now + verifier.new.count }
+    ensures bound { let rs = map spelled records.now in
+        verifier.new.count ≤ verifier.old.count + length (filter is_signature rs) }
+    ensures hashed { C.hashed verifier.new.checks.now ≡ C.hashed verifier.old.checks.now }
+    ensures same { C.answers verifier.new.checks.now ≡ C.answers verifier.old.checks.now }
+    ensures same_checks { verifier.new.checks.ghost_name ≡ verifier.old.checks.ghost_name }
+{
+    let alloc = verifier.alloc;
+    let chained = sorted_chain(alloc, records)?;
+    let mut groups = read_chain_groups(alloc, trust.apex, message, &chained)?;
+    let owner = cow_name(alloc, name)?;
+    groups.push(read_group(alloc, message, records, owner, rtype)?)?;
+    verify_groups(message, records, trust, &mut groups, verifier)?;
+    let is_of_moments = are_unlike(&groups);
+    let rrset = rrset_of(alloc, groups.pop())?;
+    let links = read_links(alloc, message, records, &groups)?;
+    let hash_links = read_hash_links(alloc, trust.apex, message, records, &groups)?;
+    let facts = Facts::new(rrset, links, hash_links);
+    Ok(Proof {
+        facts,
+        is_of_moments,
+    })
+}
+
+/// The data of a group and the label count of its signature, if one verified it.
+///
+/// The owner's count in its place would let a wildcard's RRset pass for one of the name, with no proof that the name does not
+/// exist (RFC 4035, 5.3.4).
+fn rrset_of(alloc: Global, group: Option<Group>) -> Result<Option<Rrset>, AllocError>
+    ensures { IfOk result (λ found. found ≡ rrset_verified group.entry) }
+{
+    let Some(group) = group else {
+        return Ok(None);
+    };
+    let Group {
+        items,
+        verified,
+        ..
+    } = group;
+    let Some(signed) = verified else {
+        return Ok(None);
+    };
+    let datas = DataList::new(owned_data(alloc, items)?);
+    Ok(Some(Rrset::new(datas, signed.labels)))
+}
+
+/// Data with octets of their own.
+fn owned_data(alloc: Global, items: Vec<CowSlice<u8>>) -> Result<Vec<Vec<u8>>, AllocError>
+    ensures { IfOk result (λ v. map (λ d. d.items) v.items
+        ≡ map cow_slice_items items.entry.items) }
+{
+    let mut owned = Vec::with_capacity(alloc, items.len())?;
+    for item in items {
+        owned.push(item.into_owned(alloc)?)?;
+    }
+    Ok(owned)
+}
+
+/// The records of chains, NSEC and NSEC3, by type and by owner in canonical order.
+fn sorted_chain<'a>(
+    alloc: Global,
+    records: &[ViewRecord<'a>],
+) -> Result<Vec<ViewRecord<'a>>, AllocError>
+    ensures moved { let rs = filter is_chain (map spelled records.now) in
+        IfOk result (λ v. IsPermutation rs (map spelled v.items)) }
+    ensures sorted { IfOk result
+        (λ v. IsSortedBy (λ a b. is_lt (chain_cmp a b)) (map spelled v.items)) }
+{
+    let mut chained = chain_records(alloc, records)?;
+    chained.sort_by(|a, b| chain_cmp(a, b))?;
+    Ok(chained)
+}
+
+/// The records of chains, in the order of the message.
+fn chain_records<'a>(
+    alloc: Global,
+    records: &[ViewRecord<'a>],
+) -> Result<Vec<ViewRecord<'a>>, AllocError>
+    ensures { IfOk result
+        (λ v. map spelled v.items ≡ filter is_chain (map spelled records.now)) }
+{
+    let mut chained = Vec::new(alloc);
+    for record in records {
+        if is_chain(record) {
+            chained.push(record.copied())?;
+        }
+    }
+    Ok(chained)
+}
+
+/// The order of chains' records: by type, and by owner in canonical order.
+fn chain_cmp(a: &ViewRecord, b: &ViewRecord) -> Ordering
+    ensures { result ≡ chain_cmp (spelled a.now) (spelled b.now) }
+{
+    let order = a.rtype.to_int().cmp(&b.rtype.to_int());
+    if order.is_ne() {
+        return order;
+    }
+    a.owner.name().name_cmp(b.owner.name())
+}
+
+/// The RRsets of one record of a chain, each where its chain's records stand, of records that are in order.
+fn read_chain_groups<'r>(
+    alloc: Global,
+    apex: &Name<Vec<u8>>,
+    message: &'r [u8],
+    chained: &'r [ViewRecord],
+) -> Result<Vec<Group<'r>>, AllocError>
+    requires chain { AllByRecursion (λ r. is_chain r ≡ true) (map spelled chained.now) }
+    requires sorted { IsSortedBy (λ a b. is_lt (chain_cmp a b)) (map spelled chained.now) }
+    ensures gathered { let rs = map spelled chained.now in
+        IfOk result (λ gs. AreGathered message.now apex.now rs rs gs.items) }
+    ensures ranked { IfOk result (λ gs. AreRanked gs.items) }
+{
+    let mut groups: Vec<Group<'r>> = Vec::new(alloc);
+    let mut start = 0;
+    while start < chained.len() {
+        let first = &chained[start];
+        let end = start + 1 + alike_len(first, &chained[start + 1..]);
+        let found = read_chain_group(alloc, apex, message, first, &chained[start..end])?;
+        if let Some(group) = found {
+            groups.push(group)?;
+        }
+        start = end;
+    }
+    Ok(groups)
+}
+
+/// How many records from the front on have the owner, up to case, and the type of one.
+fn alike_len(first: &ViewRecord, others: &[ViewRecord]) -> usize
+    ensures value { result ≡ alike_len (spelled first.now) (map spelled others.now) }
+    ensures bound { result ≤ length others.now }
+{
+    for (i, other) in others.iter().enumerate() {
+        if !are_alike(first, other) {
+            return i;
+        }
+    }
+    others.len()
+}
+
+/// Whether two records have one type and one owner, up to case.
+fn are_alike(a: &ViewRecord, b: &ViewRecord) -> bool
+    ensures { result ≡ are_alike (spelled a.now) (spelled b.now) }
+{
+    a.rtype == b.rtype && a.owner.name().name_eq(b.owner.name())
+}
+
+/// The RRset of a chain's records of one owner, if it is one record and stands where the chain's records do.
+fn read_chain_group<'r>(
+    alloc: Global,
+    apex: &Name<Vec<u8>>,
+    message: &'r [u8],
+    first: &'r ViewRecord,
+    run: &[ViewRecord],
+) -> Result<Option<Group<'r>>, AllocError>
+    requires chain { is_chain_type first.now.rtype ≡ true }
+    requires alike { AllByRecursion (λ r. r.rtype ≡ first.now.rtype) run.now }
+    ensures { let r = spelled first.now in
+        let ds = run_data message.now (map spelled run.now) in
+        let stands = has_place r.rtype apex.now r.owner && holds_one r.rtype ds in
+        IfOk result (λ o. MatchOption o (stands ≡ false) (IsRun message.now apex.now r ds)) }
+{
+    if !has_place(apex, &first.owner, first.rtype) {
+        return Ok(None);
+    }
+    let group = read_run(alloc, message, first, run)?;
+    if holds_one(&group) {
+        return Ok(Some(group));
+    }
+    Ok(None)
+}
+
+/// The RRset of records of one owner and type.
+fn read_run<'r>(
+    alloc: Global,
+    message: &'r [u8],
+    first: &'r ViewRecord,
+    run: &[ViewRecord],
+) -> Result<Group<'r>, AllocError>
+    ensures owner { IfOk result (λ g. g.owner ≡ first.now.owner) }
+    ensures rtype { IfOk result (λ g. g.rtype ≡ first.now.rtype) }
+    ensures items { IfOk result (λ g. data_in g ≡ run_data message.now (map spelled run.now)) }
+    ensures unverified { IfOk result (λ g. g.verified ≡ None) }
+{
+    let owner = cow_name(alloc, first.owner.name())?;
+    let mut items = Vec::new(alloc);
+    for record in run {
+        if let Some(item) = record.canonical_cow(alloc, message)? {
+            items.push(item)?;
+        }
+    }
+    sort_data(&mut items);
+    Ok(Group {
+        owner,
+        rtype: first.rtype,
+        items,
+        verified: None,
+    })
+}
+
+/// Whether records of a chain's type may have an owner: NSEC at or below the apex, NSEC3 at a hash under it.
+///
+/// A record of another zone, replayed, would speak for names that are not its own (RFC 4034, 4; RFC 5155, 3).
+fn has_place(apex: &Name<Vec<u8>>, owner: &Owner, rtype: Rtype) -> bool
+    ensures { result ≡ has_place rtype apex.now owner.now }
+{
+    if rtype == Rtype::NSEC3 {
+        return spells_hash(apex, owner);
+    }
+    is_at_or_above(apex, owner.name())
+}
+
+/// Whether a group of a chain's type is one record, for NSEC3 one that is known.
+fn holds_one(group: &Group) -> bool
+    requires { AreShort group.now }
+    ensures { result ≡ holds_one group.now.rtype (data_in group.now) }
+{
+    if group.rtype != Rtype::NSEC3 {
+        return group.items.len() == 1;
+    }
+    match group.items.as_slice() {
+        [item] => is_known(item),
+        _ => false,
+    }
+}
+
+/// Whether octets are data of an NSEC3 record whose algorithm is SHA-1 and whose flags are none but opt-out.
+///
+/// Of another algorithm or flag a judge doesn't know what it says: taken as known, it would deny names by a meaning that
+/// the zone did not sign (RFC 5155, 8.1 and 8.2).
+fn is_known(octets: &[u8]) -> bool
+    requires { length octets.now ≤ 65535 }
+    ensures { result ≡ is_known_datum octets.now }
+{
+    match read_hashed_link(octets) {
+        None => false,
+        Some(link) => link.hash_algorithm() == 1 && link.flags() < 2,
+    }
+}
+
+/// Whether a record is one of a chain, NSEC or NSEC3, of class IN.
+fn is_chain(record: &ViewRecord) -> bool
+    ensures { result ≡ is_chain (spelled record.now) }
+{
+    is_chain_type(record.rtype) && record.class == Class::IN
+}
+
+/// Whether a record is of a type and of class IN.
+fn is_record_of(record: &ViewRecord, rtype: Rtype) -> bool
+    ensures { result ≡ is_record_of rtype (spelled record.now) }
+{
+    record.rtype == rtype && record.class == Class::IN
+}
+
+/// Whether an owner has one of the groups of a type, and that is verified.
+fn is_verified(groups: &[Group], owner: &Owner, rtype: Rtype) -> bool
+    requires ranked { AreRanked groups.now }
+    ensures { result ≡ list_any (is_proved owner.now rtype) groups.now }
+{
+    match place_of(groups, owner, rtype) {
+        None => false,
+        Some(place) => groups[place].verified.is_some(),
+    }
+}
+
+/// The NSEC records of verified groups.
+fn read_links<'a>(
+    alloc: Global,
+    message: &'a [u8],
+    records: &[ViewRecord<'a>],
+    groups: &[Group],
+) -> Result<Vec<Link<'a>>, AllocError>
+    requires { AreRanked groups.now }
+    ensures { IfOk result
+        (λ ls. ls.items ≡ filter_map (link_by message.now groups.now) (map spelled records.now)) }
+{
+    let mut links = Vec::new(alloc);
+    for record in records {
+        if is_record_of(record, Rtype::NSEC) && is_verified(groups, &record.owner, Rtype::NSEC) {
+            if let Some(data) = record.link(message) {
+                links.push(Link::new(*record.owner.name(), data))?;
+            }
+        }
+    }
+    Ok(links)
+}
+
+/// The NSEC3 records of verified groups.
+fn read_hash_links<'a>(
+    alloc: Global,
+    apex: &Name<Vec<u8>>,
+    message: &'a [u8],
+    records: &[ViewRecord<'a>],
+    groups: &[Group],
+) -> Result<Vec<HashLink<'a>>, AllocError>
+    requires { AreRanked groups.now }
+    ensures { let link = hash_link_by apex.now message.now groups.now in
+        IfOk result (λ ls. ls.items ≡ filter_map link (map spelled records.now)) }
+{
+    let mut links = Vec::new(alloc);
+    for record in records {
+        if is_record_of(record, Rtype::NSEC3) && is_verified(groups, &record.owner, Rtype::NSEC3) {
+            if let Some(link) = read_hash_link(alloc, apex, message, record)? {
+                links.push(link)?;
+            }
+        }
+    }
+    Ok(links)
+}
+
+/// The link of an NSEC3 record: the hash that its owner spells, and its data.
+fn read_hash_link<'a>(
+    alloc: Global,
+    apex: &Name<Vec<u8>>,
+    message: &'a [u8],
+    record: &ViewRecord<'a>,
+) -> Result<Option<HashLink<'a>>, AllocError>
+    ensures { IfOk result (λ o. o ≡ hash_link_of apex.now message.now (spelled record.now)) }
+{
+    let Some(hash) = hash_spelled(alloc, apex, &record.owner)? else {
+        return Ok(None);
+    };
+    match record.hashed_link(message) {
+        None => Ok(None),
+        Some(data) => Ok(Some(HashLink::new(hash, data))),
+    }
+}

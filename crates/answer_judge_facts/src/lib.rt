@@ -1,0 +1,13 @@
+//! What of two messages is verified under the keys that a DS set trusts: the facts from which a verdict is decided.
+#![tactic(auto)]
+
+pub mod facts;
+pub mod groups;
+pub mod hash_owner;
+pub mod keys;
+pub mod order;
+pub mod signed_keys;
+pub mod times;
+pub mod trust;
+pub mod verdict;
+pub mod verifier;

@@ -1,0 +1,93 @@
+//! Whether a trusted key signs the keys of a DNSKEY answer (RFC 4035, 5.2).
+ghost use Rattle.std.specs.Prelude.{◌≡◌, ◌+◌, ◌<◌, ◌≤◌, ◌^◌, [], IfOk, MatchOption, None, is_some, length, map, filter, false};
+ghost use Rattle.std.specs.Cow.{cow_slice_items};
+ghost use Rattle.definitions.specs.Limits.{pointer_limit};
+ghost use Rattle.definitions.specs.Dnskey.{dnskey_data};
+ghost use Rattle.definitions.specs.Zone.{sorted_data};
+ghost use Rattle.messages.specs.Record.{spelled};
+ghost use Rattle.answer_judge_facts.specs.Counted.{tries};
+ghost use Rattle.answer_judge_facts.specs.Facts.{is_signature};
+ghost use Rattle.answer_judge_facts.specs.KeyOrder.{Ranks};
+ghost use Rattle.answer_judge_facts.specs.Marked.{held_by};
+ghost use Rattle.answer_judge_facts.specs.Sought.{keys_sought};
+ghost use Rattle.answer_judge_facts.specs.Verified.{is_verified};
+
+use crate::groups::{Group, verify_groups};
+use crate::keys::TaggedKey;
+use crate::order::sort_data;
+use crate::trust::Trust;
+use crate::verifier::Verifier;
+use answer_scheme::checks::Checks;
+use messages::ViewRecord;
+use messages::names::{Name, cow_name};
+use names_rdata::rtype::Rtype;
+use std::alloc::{AllocError, Global};
+use std::borrow::CowSlice;
+
+/// Whether a trusted key signs the keys.
+pub fn are_verified<C: Checks>(
+    message: &[u8],
+    records: &[ViewRecord],
+    keys: &[TaggedKey],
+    trust: &Trust,
+    verifier: &mut Verifier<C>,
+) -> Result<bool, AllocError>
+    requires index { Ranks trust.now.keys.now trust.now.ranked.now }
+    requires room { verifier.old.count + length records.now < 2 ^ 32 }
+    ensures exact { let w = held_by (C.answers verifier.old.checks.now) trust.now in
+        let items = sorted_data (map dnskey_data keys.now) in let rs = map spelled records.now in
+        IfOk result (λ b. b ≡ is_verified w pointer_limit message.now rs w.apex 48 items) }
+    ensures tried { let w = held_by (C.answers verifier.old.checks.now) trust.now in
+        let sought = keys_sought w.apex keys.now in let rs = map spelled records.now in
+        let count = verifier.old.count + tries w pointer_limit message.now sought [] rs in
+        IfOk result (λ _. verifier.new.count ≡ count) }
+    ensures counted { C.verified verifier.new.checks.now + verifier.old.count
+        ≡ C.verified verifier.old.checks.now + verifier.new.count }
+    ensures bound { let rs = map spelled records.now in
+        verifier.new.count ≤ verifier.old.count + length (filter is_signature rs) }
+    ensures few { verifier.new.count ≤ verifier.old.count + length records.now }
+    ensures hashed { C.hashed verifier.new.checks.now ≡ C.hashed verifier.old.checks.now }
+    ensures same { C.answers verifier.new.checks.now ≡ C.answers verifier.old.checks.now }
+    ensures same_checks { verifier.new.checks.ghost_name ≡ verifier.old.checks.ghost_name }
+{
+    let alloc = verifier.alloc;
+    let mut groups = Vec::with_capacity(alloc, 1)?;
+    groups.push(key_group(alloc, trust.apex, keys)?)?;
+    verify_groups(message, records, trust, &mut groups, verifier)?;
+    Ok(was_verified(groups.pop()))
+}
+
+/// The RRset of the keys at the apex.
+fn key_group<'a>(
+    alloc: Global,
+    apex: &'a Name<Vec<u8>>,
+    keys: &[TaggedKey<'a>],
+) -> Result<Group<'a>, AllocError>
+    ensures owner { IfOk result (λ g. g.owner ≡ apex.now) }
+    ensures rtype { IfOk result (λ g. g.rtype ≡ 48) }
+    ensures items { IfOk result
+        (λ g. map cow_slice_items g.items.items ≡ sorted_data (map dnskey_data keys.now)) }
+    ensures unverified { IfOk result (λ g. g.verified ≡ None) }
+{
+    let mut items = Vec::with_capacity(alloc, keys.len())?;
+    for key in keys {
+        items.push(CowSlice::Borrowed(key.data()))?;
+    }
+    sort_data(&mut items);
+    Ok(Group {
+        owner: cow_name(alloc, apex)?,
+        rtype: Rtype::DNSKEY,
+        items,
+        verified: None,
+    })
+}
+
+/// Whether there is an RRset, and a signature verified it.
+fn was_verified(group: Option<Group>) -> bool
+    ensures { MatchOption group.entry (result ≡ false) (λ g. result ≡ is_some g.verified) }
+{
+    match group {
+        None => false,
+        Some(group) => group.verified.is_some(),
+    }
+}

@@ -1,0 +1,74 @@
+-- Signatures that are asked for, one after another.
+use Rattle.std.proofs.Common.{◌≡◌, ℕ, ◌+◌, ◌<◌, Bool, true, false, List, [], ◌∷◌, ◌++◌, length, map, take, get_or, Option, Some, None, refl, sym, ap, subst, ◌∙◌}
+use Rattle.std.specs.Prelude.{◌&&◌, ◌||◌, is_none, if◌then◌else◌}
+use Rattle.std.specs.List.{AllByRecursion, find, flat_map, list_any}
+use Rattle.std.specs.Option.{option_map}
+use Rattle.std.proofs.lemmas.Bool.{and_parts}
+use Rattle.std.proofs.lemmas.Grind.{flat_map-append}
+use Rattle.std.proofs.lemmas.List.{append-nil, map-append}
+use Rattle.messages.proofs.Lists.{take_next}
+use Rattle.answer_judge_octets.specs.Asking.{KeepsNew, are_new, unchecked}
+use Rattle.answer_judge_octets.specs.Replying.{entries_of}
+use Rattle.answer_judge_octets.specs.Table.{Checked, Tried, is_entry_of, is_same_try, told}
+use Rattle.answer_judge_octets.specs.Written.{FitsChecked, checked_octets}
+
+either_false : (a b : Bool) → (a || b) ≡ false → (a ≡ false) × (b ≡ false)
+either_false false b h = (refl, h)
+either_false true b h = cc
+
+both_true : (a b : Bool) → a ≡ true → b ≡ true → (a && b) ≡ true
+both_true true b h k = k
+both_true false b h k = cc
+
+none_is : (o : Option Bool) → is_none o ≡ true → o ≡ None
+none_is None h = refl
+none_is (Some b) h = cc
+
+is_none_of : (o : Option Bool) → o ≡ None → is_none o ≡ true
+is_none_of o h = ap is_none h
+
+-- what a first entry leaves to those behind it
+behind_one : (t : Tried) (c : Checked) (a : Tried) (table : List Checked) (b : Bool) → option_map (λ (e : Checked). e.passes) (if b then Some c else find (is_entry_of t) table) ≡ None
+    → (told table t ≡ None → told (table ++ unchecked a ∷ []) t ≡ None) → option_map (λ (e : Checked). e.passes) (if b then Some c else find (is_entry_of t) (table ++ unchecked a ∷ [])) ≡ None
+behind_one t c a table true e rest = cc
+behind_one t c a table false e rest = rest e
+
+-- one more entry, which is of another signature
+told_behind : (table : List Checked) (a t : Tried) → told table t ≡ None → is_same_try t a ≡ false → told (table ++ unchecked a ∷ []) t ≡ None
+told_behind [] a t h other = ap (λ (b : Bool). option_map (λ (c : Checked). c.passes) (if b then Some (unchecked a) else None)) other
+told_behind (c ∷ table) a t h other = behind_one t c a table (is_entry_of t c) h (λ k. told_behind table a t k other)
+
+-- one more that neither the table has nor was asked for
+pub one_more : (table : List Checked) (asks : List Tried) (t : Tried) → are_new table asks ≡ true → told table t ≡ None → list_any (is_same_try t) asks ≡ false → are_new table (asks ++ t ∷ []) ≡ true
+one_more table [] t h none other = both_true (is_none (told table t)) true (is_none_of (told table t) none) refl
+one_more table (a ∷ asks) t h none other =
+    let parts = and_parts (is_none (told table a)) (are_new (table ++ unchecked a ∷ []) asks) h in
+    let others = either_false (is_same_try t a) (list_any (is_same_try t) asks) other in
+    both_true (is_none (told table a)) (are_new (table ++ unchecked a ∷ []) (asks ++ t ∷ [])) parts.0
+    (one_more (table ++ unchecked a ∷ []) asks t parts.1 (told_behind table a t none others.0) others.1)
+
+-- a list that grows by one, all of one kind
+pub all_more : {X : Type 0} (P : X → Type 0) (xs : List X) (x : X) → AllByRecursion P xs → P x → AllByRecursion P (xs ++ x ∷ [])
+all_more P [] x h k = (k, tt)
+all_more P (y ∷ xs) x h k = (h.0, all_more P xs x h.1 k)
+
+-- ---- signatures that are noted
+
+pub keeps_more : (t : Tried) (old new : List Tried) → list_any (is_same_try t) old ≡ false → new ≡ old ++ t ∷ [] → KeepsNew t old new
+keeps_more t old new other is table none h = ap (are_new table) is ∙ one_more table old t h none other
+
+-- ---- entries
+
+pub entries_more : (asks : List Tried) (i : ℕ) (t : Tried) (a b : List ℕ) → i < length asks → t ≡ get_or asks i t → a ≡ entries_of (take i asks) → b ≡ a ++ checked_octets (unchecked t) → b ≡ entries_of (take (i + 1) asks)
+entries_more asks i t a b inside is p q =
+    let before = take i asks in
+    let more : entries_of (take (i + 1) asks) ≡ entries_of before ++ checked_octets (unchecked t) =
+    ap entries_of (take_next asks i t inside is) ∙ ap (flat_map checked_octets) (map-append unchecked before (t ∷ [])) ∙ flat_map-append checked_octets (map unchecked before) (unchecked t ∷ [])
+    ∙ ap (λ (l : List ℕ). entries_of before ++ l) (append-nil (checked_octets (unchecked t))) in
+    q ∙ ap (λ (l : List ℕ). l ++ checked_octets (unchecked t)) p ∙ sym more
+
+pub entries_fit_more : (asks : List Tried) (i : ℕ) (t : Tried) → i < length asks → t ≡ get_or asks i t → AllByRecursion FitsChecked (map unchecked (take i asks)) → FitsChecked (unchecked t) → AllByRecursion FitsChecked (map unchecked (take (i + 1) asks))
+entries_fit_more asks i t inside is fit one =
+    let before = take i asks in
+    let more : map unchecked (take (i + 1) asks) ≡ map unchecked before ++ unchecked t ∷ [] = ap (map unchecked) (take_next asks i t inside is) ∙ map-append unchecked before (t ∷ []) in
+    subst (AllByRecursion FitsChecked) (sym more) (all_more FitsChecked (map unchecked before) (unchecked t) fit one)

@@ -1,0 +1,6 @@
+pub mod PartsSplit
+pub mod ListsRead
+pub mod EntriesSplit
+pub mod HonestTable
+pub mod SpelledCases
+pub mod AsksGrow

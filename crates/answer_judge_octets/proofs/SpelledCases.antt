@@ -1,0 +1,116 @@
+-- What a case in octets spells.
+use Rattle.std.proofs.Common.{◌≡◌, ℕ, ◌+◌, ◌-◌, Bool, true, false, List, [], ◌∷◌, ◌++◌, length, Some, Ok, Result, sym, ap, subst, ◌∙◌, inl, inr, length-append, arith}
+use Rattle.std.specs.Prelude.{IsErr, Option}
+use Rattle.std.specs.Result.{is_err}
+use Rattle.std.proofs.lemmas.Bool.{false≢true}
+use Rattle.definitions.specs.Limits.{pointer_limit}
+use Rattle.messages.specs.Message.{Message, message}
+use Rattle.messages.specs.declared.error.MessageError.{MessageError}
+use Rattle.messages_canonical.specs.Canonical.{IsCanonical, canonical_octets}
+use Rattle.std.specs.List.{AllByRecursion, flat_map}
+use Rattle.std.specs.Option.{unwrap_or}
+use Rattle.std.proofs.lemmas.List.{append-nil, take_at}
+use Rattle.std.proofs.lemmas.Grind.{flat_map-append}
+use Rattle.definitions.specs.Name.{Name}
+use Rattle.names_rdata.specs.Composing.{with_length}
+use Rattle.definitions.specs.Dnskey.{dnskey_data}
+use Rattle.answer_judge_facts.specs.Judging.{Handing}
+use Rattle.answer_judge_octets.specs.declared.octets.OctetCase.{OctetCase}
+use Rattle.answer_judge_octets.specs.EntryLaws.{once_checked, once_ds, some_checked, some_ds}
+use Rattle.answer_judge_octets.specs.Laws.{ListsGrow, OctetsSpellOneCase, answered_entry}
+use Rattle.answer_judge_octets.specs.Replying.{IsJudged, Spells, flag_in}
+use Rattle.answer_judge_octets.specs.Table.{Checked, Tried, checked}
+use Rattle.answer_judge_octets.specs.Written.{FitsChecked, FitsDs, checked_octets, ds_octets, passes_octets, with_long_length}
+use Rattle.answer_judge_octets.proofs.ListsRead.{spelled_once}
+
+one_some : (n m : Name) (o : Option Name) → o ≡ Some n → o ≡ Some m → n ≡ m
+one_some n m o p q = ap (λ s. unwrap_or s n) (sym p ∙ q)
+
+one_flag : (a b : Bool) (o : Option Bool) → o ≡ Some a → o ≡ Some b → a ≡ b
+one_flag a b o p q = ap (λ s. unwrap_or s a) (sym p ∙ q)
+
+abbrev found : Message → Result Message MessageError
+found r = Ok r
+
+found_once : (r s : Message) → found r ≡ found s → r ≡ s
+found_once r s e = cc
+
+-- a message has one canonical form
+one_canonical : (m x y : List ℕ) → IsCanonical m x → IsCanonical m y → x ≡ y
+one_canonical m x y p q =
+    let same : p.read ≡ q.read = found_once p.read q.read (sym p.reads ∙ q.reads) in
+    p.octets_are ∙ ap (canonical_octets pointer_limit m) same ∙ sym q.octets_are
+
+not_both : (m x : List ℕ) → IsCanonical m x → IsErr (message pointer_limit m) → ⊥
+not_both m x p is = false≢true (sym (ap is_err p.reads) ∙ is)
+
+one_of : (m x y : List ℕ) (a : Bool) → IsJudged a m x → IsJudged a m y → x ≡ y
+one_of m x y true p q = p ∙ sym q
+one_of m x y false (inl p) (inl q) = one_canonical m x y p q
+one_of m x y false (inl p) (inr q) = absurd (not_both m x p q.1)
+one_of m x y false (inr p) (inl q) = absurd (not_both m y q p.1)
+one_of m x y false (inr p) (inr q) = p.0 ∙ sym q.0
+
+one_judged : (m x y : List ℕ) (a b : Bool) → a ≡ b → IsJudged a m x → IsJudged b m y → x ≡ y
+one_judged m x y a b e p q = one_of m x y b (subst (λ f. IsJudged f m x) e p) q
+
+one_handing : (case : OctetCase) (h j : Handing) (table others : List Checked) → Spells case h table → Spells case j others → h ≡ j
+one_handing case h j table others p q =
+    let apex = one_some h.apex j.apex _ p.apex q.apex in
+    let ds = spelled_once FitsDs ds_octets once_ds some_ds h.ds j.ds p.ds.fit q.ds.fit (sym p.ds.octets_are ∙ q.ds.octets_are) in
+    let received = one_flag p.as_received q.as_received (flag_in case case.as_received) p.flag q.flag in
+    let dnskey_bytes = one_judged case.dnskey.now h.dnskey_bytes j.dnskey_bytes p.as_received q.as_received received p.dnskey_bytes q.dnskey_bytes in
+    let answer_bytes = one_judged case.answer.now h.answer_bytes j.answer_bytes p.as_received q.as_received received p.answer_bytes q.answer_bytes in
+    let one_moment = one_flag h.one_moment j.one_moment (flag_in case case.one_moment) p.one_moment q.one_moment in
+    let name = one_some h.asked.name j.asked.name _ p.name q.name in
+    let rtype = p.rtype ∙ sym q.rtype in
+    let class = p.class ∙ sym q.class in
+    let now = p.now ∙ sym q.now in
+    let limit = p.limit ∙ sym q.limit in
+    λ i. record {
+      apex = apex i;
+      ds = ds i;
+      dnskey_bytes = dnskey_bytes i;
+      answer_bytes = answer_bytes i;
+      asked = record { name = name i; rtype = rtype i; class = class i };
+      now = now i;
+      limit = limit i;
+      one_moment = one_moment i;
+    }
+
+pub one_case : OctetsSpellOneCase
+one_case case h j table others p q = (
+  one_handing case h j table others p q,
+  spelled_once FitsChecked checked_octets once_checked some_checked table others p.entries.fit q.entries.fit (sym p.entries.octets_are ∙ q.entries.octets_are),
+)
+
+-- ---- a list that grows
+
+fit_behind : (table : List Checked) (c : Checked) → AllByRecursion FitsChecked table → FitsChecked c → AllByRecursion FitsChecked (table ++ c ∷ [])
+fit_behind [] c fit fits = (fits, tt)
+fit_behind (d ∷ table) c fit fits = (fit.0, fit_behind table c fit.1 fits)
+
+-- all but the last octet
+front : Tried → List ℕ
+front t = with_length (dnskey_data t.key) ++ with_long_length t.octets ++ with_length t.signature
+
+fronted : (t : Tried) (passes : Bool) → answered_entry (checked_octets (checked t false)) passes ≡ checked_octets (checked t passes)
+unfolding front
+fronted t passes =
+    let f = front t in
+    let long : length (f ++ passes_octets false) ≡ length f + 1 = length-append f (passes_octets false) in
+    let but_one : length (f ++ passes_octets false) - 1 ≡ length f = omega (arith, long) in
+    ap (λ (l : List ℕ). l ++ passes_octets passes) (take_at f (passes_octets false) (length (f ++ passes_octets false) - 1) (sym but_one))
+
+fits_said : (t : Tried) (passes : Bool) → FitsChecked (checked t false) → FitsChecked (checked t passes)
+fits_said t passes fits = record { flags = fits.flags; short = fits.short; octets = fits.octets; signature = fits.signature }
+
+pub lists_grow : ListsGrow
+lists_grow octets table t passes is fits =
+    let c = checked t passes in
+    record {
+      fit = fit_behind table c is.fit (fits_said t passes fits);
+      octets_are =
+          ap (λ (l : List ℕ). l ++ answered_entry (checked_octets (checked t false)) passes) is.octets_are ∙ ap (λ (l : List ℕ). flat_map checked_octets table ++ l) (fronted t passes)
+          ∙ ap (λ (l : List ℕ). flat_map checked_octets table ++ l) (sym (append-nil (checked_octets c))) ∙ sym (flat_map-append checked_octets table (c ∷ []));
+    }

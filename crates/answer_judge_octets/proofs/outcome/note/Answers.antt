@@ -1,0 +1,12 @@
+use Rattle.std.proofs.Common.{[], ◌∷◌, ◌++◌, ap, sym, ◌∙◌}
+use Rattle.std.specs.List.{list_any}
+use Rattle.answer_judge_octets.specs.Table.{is_same_try, tried}
+use Rattle.answer_judge_octets.proofs.AsksGrow.{keeps_more}
+use Rattle.answer_judge_octets.proofs.outcome.note.Goals as goal
+
+pub returns-clause-new : goal.returns-clause-new
+returns-clause-new c =
+    let t = tried c.args.key.now c.args.octets.now c.args.signature.now in
+    keeps_more t c.args.asks.now.items c.push.new.self.items
+    (ap (list_any (is_same_try t)) (sym c.deref.ensures.value) ∙ sym c.is_among.ensures ∙ c.if-is_among.false)
+    (c.in_ok-push.ensures.items ∙ ap (λ a. c.args.asks.now.items ++ a ∷ []) c.in_ok-ask.ensures)

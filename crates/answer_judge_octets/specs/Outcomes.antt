@@ -1,0 +1,23 @@
+-- What an outcome is.
+use Rattle.std.specs.Prelude.{Bool, List, Result}
+use Rattle.definitions.specs.Limits.{pointer_limit}
+use Rattle.answer_judge_facts.specs.Judging.{Handing, answer_of}
+use Rattle.answer_judge_facts.specs.declared.verdict.Judgement.{Judgement}
+use Rattle.answer_judge_facts.specs.declared.verdict.Refused.{Refused}
+use Rattle.answer_judge.specs.Honest.{AnswersHonest}
+use Rattle.answer_judge.specs.Meeting.{JudgesSo}
+use Rattle.answer_judge_octets.specs.declared.outcome.Outcome.{Outcome}
+use Rattle.answer_judge_octets.specs.declared.outcome.Outcome.TheVariants as o
+use Rattle.answer_judge_octets.specs.Asking.{AreAsked}
+use Rattle.answer_judge_octets.specs.Table.{AreTrue, Checked, Tried, answers_of, answers_with, passes_in}
+
+-- What is said is a judgement by the table. Whatever signatures truly pass, those that pass in the table among them, of honest
+-- messages no verdict is said but the zone's.
+pub record IsJudgedBy (table : List Checked) (h : Handing) (said : Result Judgement Refused) : Type 0 where
+  pub by_table : JudgesSo pointer_limit (answers_of table) h said
+  pub honest : (passes : Tried → Bool) → AreTrue (passes_in table) passes → AnswersHonest (answers_with passes) pointer_limit h (answer_of said)
+
+-- what comes of a judgement by a table
+abbrev pub IsOutcome : List Checked → Handing → Outcome → Type 0
+IsOutcome table h (o.Judged said) = IsJudgedBy table h said
+IsOutcome table h (o.Asks asks) = AreAsked table h asks.items

@@ -1,0 +1,14 @@
+//! Laws of cases in octets.
+
+ghost use Rattle.answer_judge_octets.specs.Laws.{ListsGrow, OctetsSpellOneCase};
+
+/// The octets of a case spell one thing to be judged, and one table of signatures, if any.
+pub fn octets_spell_one_case()
+    ensures { OctetsSpellOneCase }
+{}
+
+/// A list of checked signatures with an entry at its end that was asked for, the last octet set, is the list that has that
+/// signature too.
+pub fn lists_grow_by_entries()
+    ensures { ListsGrow }
+{}

@@ -1,0 +1,21 @@
+//! Judging by a table of signatures that a caller has checked, for callers whose library of signatures a judge cannot call: where
+//! the table does not have signatures, they are asked for, all at once (RFC 4035, 5).
+#![tactic(auto)]
+
+pub mod checked;
+mod digests;
+mod entries;
+pub mod judging;
+pub mod laws;
+mod list;
+pub mod octets;
+pub mod outcome;
+mod parts;
+pub mod reply;
+mod table_checks;
+
+pub use crate::checked::CheckedSignature;
+pub use crate::judging::judge_by_table;
+pub use crate::octets::{OctetCase, Report, judge_octets};
+pub use crate::outcome::{Ask, Outcome};
+pub use crate::reply::ReplyCode;

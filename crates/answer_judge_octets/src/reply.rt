@@ -1,0 +1,226 @@
+//! What is replied to a caller in octets.
+ghost use Rattle.std.specs.Prelude.{◌≡◌, ◌++◌, [], length, map, IfOk, OnOk};
+ghost use Rattle.std.specs.List.{AllByRecursion, flat_map};
+ghost use Rattle.names_rdata.specs.Composing.{with_length};
+ghost use Rattle.answer_judge_octets.specs.Asking.{unchecked};
+ghost use Rattle.answer_judge_octets.specs.Written.{FitsChecked, IsLong, IsShort, checked_octets, with_long_length};
+ghost use Rattle.answer_judge_octets.specs.Replying.{EntriesFit, code_of_refusal, code_of_verdict, entries_of, number_of, octets_of_verdict, replied, reply_seen};
+
+use crate::outcome::{Ask, Outcome};
+use answer_judge::{DataList, Refusal, Verdict};
+use answer_shared::dnskey::ZoneKey;
+use std::alloc::{AllocError, Global};
+
+/// What a caller in octets is told: a verdict, why there is none, or what is wanted.
+#[derive(Clone, Copy, Debug, PartialEq, Eq)]
+pub enum ReplyCode {
+    /// The name has records of the type: their data.
+    Records = 0,
+    /// The name has no record of the type.
+    NoType = 1,
+    /// There is no such name.
+    NoName = 2,
+    /// A wildcard stands for the name: the data of its records.
+    StarRecords = 3,
+    /// A wildcard stands for the name, and has no record of the type.
+    StarNoType = 4,
+    /// The name is at or below a delegation.
+    Delegated = 5,
+    /// An opt-out chain leaves open what is there.
+    Open = 6,
+    /// The zone has no DS record.
+    Unsigned = 7,
+    QuestionNotAllowed = 16,
+    BadDnskeyMessage = 17,
+    BadAnswerMessage = 18,
+    QuestionMismatch = 19,
+    EqualTags = 20,
+    NoTrustedKey = 21,
+    MixedNsec3Parameters = 22,
+    IterationsOverLimit = 23,
+    HashFailed = 24,
+    NotProven = 25,
+    OutOfMemory = 26,
+    /// Signatures are of unlike times where the case asks for one moment.
+    MixedVersions = 27,
+    /// A message has more than 65,535 octets in canonical form.
+    MessageTooLong = 28,
+    /// These signatures are to be checked: entries of the list.
+    Ask = 32,
+    /// The reply has more octets than there is room for.
+    BufferTooSmall = 34,
+    /// The name of the zone is no name in wire form.
+    BadApex = 35,
+    /// The DS set is no list of DS records.
+    BadDsSet = 36,
+    /// The name that was asked for is no name in wire form.
+    BadName = 37,
+    /// The signatures are no list of checked signatures.
+    BadSignatures = 38,
+    /// The case has another size, or a flag that is neither 0 nor 1.
+    BadCase = 39,
+}
+
+impl ReplyCode {
+    /// The number of it.
+    pub fn number(self) -> u32
+        ensures { result ≡ number_of self }
+    {
+        self as u32
+    }
+}
+
+/// What is replied: its code and its octets, and how often was verified and hashed.
+#[derive(Debug, Drop)]
+pub(crate) struct Reply {
+    pub(crate) code: ReplyCode,
+    pub(crate) octets: Vec<u8>,
+    pub(crate) verifications: u32,
+    pub(crate) hashes: u32,
+}
+
+impl Reply {
+    /// A code alone.
+    pub(crate) fn of_code(alloc: Global, code: ReplyCode) -> Self
+        ensures code { result.code ≡ code }
+        ensures octets { result.octets.items ≡ [] }
+        ensures verifications { result.verifications ≡ 0 }
+        ensures hashes { result.hashes ≡ 0 }
+    {
+        Reply {
+            code,
+            octets: Vec::new(alloc),
+            verifications: 0,
+            hashes: 0,
+        }
+    }
+}
+
+/// The reply of an outcome.
+pub(crate) fn reply_of(alloc: Global, outcome: &Outcome) -> Result<Reply, AllocError>
+    ensures reply { IfOk result (λ r. reply_seen r ≡ replied outcome.now) }
+    ensures entries_fit { OnOk result (EntriesFit outcome.now) }
+{
+    match outcome {
+        Outcome::Judged(Ok(judgement)) => Ok(Reply {
+            code: code_of_verdict(&judgement.verdict),
+            octets: octets_of_verdict(alloc, &judgement.verdict)?,
+            verifications: judgement.verifications,
+            hashes: judgement.hashes,
+        }),
+        Outcome::Judged(Err(refused)) => Ok(Reply {
+            code: code_of_refusal(refused.refusal),
+            octets: Vec::new(alloc),
+            verifications: refused.verifications,
+            hashes: refused.hashes,
+        }),
+        Outcome::Asks(asks) => Ok(Reply {
+            code: ReplyCode::Ask,
+            octets: octets_of_asks(alloc, asks)?,
+            verifications: 0,
+            hashes: 0,
+        }),
+    }
+}
+
+fn code_of_verdict(verdict: &Verdict) -> ReplyCode
+    ensures { result ≡ code_of_verdict verdict.now }
+{
+    match verdict {
+        Verdict::Records(_) => ReplyCode::Records,
+        Verdict::NoType => ReplyCode::NoType,
+        Verdict::NoName => ReplyCode::NoName,
+        Verdict::StarRecords(_) => ReplyCode::StarRecords,
+        Verdict::StarNoType => ReplyCode::StarNoType,
+        Verdict::Delegated => ReplyCode::Delegated,
+        Verdict::Open => ReplyCode::Open,
+        Verdict::Unsigned => ReplyCode::Unsigned,
+    }
+}
+
+fn code_of_refusal(refusal: Refusal) -> ReplyCode
+    ensures { result ≡ code_of_refusal refusal }
+{
+    match refusal {
+        Refusal::QuestionNotAllowed => ReplyCode::QuestionNotAllowed,
+        Refusal::BadDnskeyMessage => ReplyCode::BadDnskeyMessage,
+        Refusal::BadAnswerMessage => ReplyCode::BadAnswerMessage,
+        Refusal::QuestionMismatch => ReplyCode::QuestionMismatch,
+        Refusal::EqualTags => ReplyCode::EqualTags,
+        Refusal::NoTrustedKey => ReplyCode::NoTrustedKey,
+        Refusal::MixedNsec3Parameters => ReplyCode::MixedNsec3Parameters,
+        Refusal::IterationsOverLimit => ReplyCode::IterationsOverLimit,
+        Refusal::HashFailed => ReplyCode::HashFailed,
+        Refusal::NotProven => ReplyCode::NotProven,
+        Refusal::MixedVersions => ReplyCode::MixedVersions,
+        Refusal::Memory => ReplyCode::OutOfMemory,
+    }
+}
+
+/// The data of a verdict, each behind its length; of other verdicts no octets.
+fn octets_of_verdict(alloc: Global, verdict: &Verdict) -> Result<Vec<u8>, AllocError>
+    ensures { IfOk result (λ v. v.items ≡ octets_of_verdict verdict.now) }
+{
+    match verdict {
+        Verdict::Records(data) | Verdict::StarRecords(data) => octets_of_data(alloc, data),
+        _ => Ok(Vec::new(alloc)),
+    }
+}
+
+fn octets_of_data(alloc: Global, data: &DataList) -> Result<Vec<u8>, AllocError>
+    ensures { IfOk result (λ v. v.items ≡ flat_map with_length data.now) }
+{
+    let mut octets = Vec::new(alloc);
+    for datum in data.as_slice() {
+        put_short(&mut octets, datum)?;
+    }
+    Ok(octets)
+}
+
+/// Signatures that are asked for, as entries that don't pass.
+fn octets_of_asks(alloc: Global, asks: &[Ask]) -> Result<Vec<u8>, AllocError>
+    ensures octets { IfOk result (λ v. v.items ≡ entries_of asks.now) }
+    ensures fit { OnOk result (AllByRecursion FitsChecked (map unchecked asks.now)) }
+{
+    let mut octets = Vec::new(alloc);
+    for ask in asks {
+        put_ask(alloc, ask, &mut octets)?;
+    }
+    Ok(octets)
+}
+
+/// Puts a signature that is asked for at the end, as an entry that doesn't pass.
+fn put_ask(alloc: Global, ask: &Ask, octets: &mut Vec<u8>) -> Result<(), AllocError>
+    ensures octets { let entry = checked_octets (unchecked ask.now) in
+        OnOk result (octets.new.items ≡ octets.old.items ++ entry) }
+    ensures fits { OnOk result (FitsChecked (unchecked ask.now)) }
+{
+    let _flags = ask.key.flags();
+    let mut rdata = Vec::new(alloc);
+    ask.key.compose(&mut rdata)?;
+    put_short(octets, &rdata)?;
+    put_long(octets, &ask.octets)?;
+    put_short(octets, &ask.signature)?;
+    octets.push(0)?;
+    Ok(())
+}
+
+/// Puts a part behind its length in two octets at the end. A longer one is refused as out of memory.
+fn put_short(octets: &mut Vec<u8>, part: &[u8]) -> Result<(), AllocError>
+    ensures octets { OnOk result (octets.new.items ≡ octets.old.items ++ with_length part.now) }
+    ensures short { OnOk result (IsShort part.now) }
+{
+    let len = u16::try_from(part.len()).map_err(|_| AllocError)?;
+    octets.extend_from_slice(&len.to_be_bytes())?;
+    octets.extend_from_slice(part)
+}
+
+/// The same in four octets.
+fn put_long(octets: &mut Vec<u8>, part: &[u8]) -> Result<(), AllocError>
+    ensures octets { OnOk result (octets.new.items ≡ octets.old.items ++ with_long_length part.now) }
+    ensures long { OnOk result (IsLong part.now) }
+{
+    let len = u32::try_from(part.len()).map_err(|_| AllocError)?;
+    octets.extend_from_slice(&len.to_be_bytes())?;
+    octets.extend_from_slice(part)
+}

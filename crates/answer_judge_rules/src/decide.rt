@@ -1,0 +1,164 @@
+//! What follows from verified facts (RFC 4035, 5; RFC 4592; RFC 5155, 8).
+ghost use Rattle.std.specs.Prelude.{◌≡◌, ◌⊎◌, ◌+◌, ◌<◌, ◌≤◌, ◌^◌, length, true, false, IfOk, OnOk, IsErrOf};
+ghost use Rattle.std.specs.List.{list_any};
+ghost use Rattle.std.specs.Option.{option_map};
+ghost use Rattle.denial_laws.specs.Deciding.{decided, hashed};
+ghost use Rattle.answer_judge_rules.specs.Hashes.{fails_among, hash_among, hashed_for};
+ghost use Rattle.answer_judge_rules.specs.Hashing.{by_hashes, by_names, fails_as, hash_as, hashed_by, Hashes};
+ghost use Rattle.answer_judge_rules.specs.Rules.{verdict_of};
+
+use crate::expanded::expanded;
+pub use crate::facts::{Facts, HashLink, Link, Rrset};
+use crate::hashed::{HashChain, hash_denied, hash_expanded};
+use crate::links::denied;
+use crate::verdict::Verdict;
+use answer_scheme::checks::Checks;
+use denial_nsec3_hash::hasher::HashError;
+use messages::names::{Name, ZoneName, is_at_or_above};
+use names_rdata::rtype::Rtype;
+use std::alloc::{AllocError, Global};
+
+/// The verdict on a name and a type that verified facts prove; None where they prove none.
+///
+/// Of names outside the zone they prove none: beside an apex that is a wildcard name the last record would cover them.
+/// A verified RRset answers at once, or, expanded, beside a link alone: no other rule is tried then (RFC 4035, 5.3.4).
+/// Names are hashed beside links of a chain of hashes alone, in order, until one fails; such a link is in use wherever there
+/// is one. `hashes` becomes how many were hashed, whatever comes of it.
+pub fn decide<C: Checks>(
+    alloc: Global,
+    apex: &Name<Vec<u8>>,
+    facts: Facts,
+    name: &Name<Vec<u8>>,
+    rtype: Rtype,
+    checks: &mut C,
+    hashes: &mut u32,
+) -> Result<Option<Verdict>, HashError>
+    ensures verdict { let hash = (C.answers checks.old).hash in let f = facts.entry in
+        IfOk result (λ v. option_map verdict_of v
+        ≡ decided apex.now (hash_among hash f.hash_links) f name.now rtype) }
+    ensures hashed { let hash = (C.answers checks.old).hash in let f = facts.entry in
+        let fails = fails_among hash f.hash_links in
+        OnOk result (list_any fails (hashed_for hash apex.now f name.now) ≡ false) }
+    ensures failed { let hash = (C.answers checks.old).hash in let f = facts.entry in
+        let fails = fails_among hash f.hash_links in
+        IsErrOf result HashError.Failed
+        → list_any fails (hashed_for hash apex.now f name.now) ≡ true }
+    ensures counted { let hash = (C.answers checks.old).hash in let f = facts.entry in
+        let names = hashed_for hash apex.now f name.now in
+        IsErrOf result HashError.Memory
+        ⊎ (C.hashed checks.new ≡ C.hashed checks.old + length names) }
+    ensures most { let hash = (C.answers checks.old).hash in let f = facts.entry in
+        let names = hashed_for hash apex.now f name.now in
+        C.hashed checks.new ≤ C.hashed checks.old + length names }
+    ensures least { C.hashed checks.old ≤ C.hashed checks.new }
+    ensures few { C.hashed checks.new ≤ C.hashed checks.old + length name.now + 2 }
+    ensures told { C.hashed checks.new ≡ C.hashed checks.old + hashes.new }
+    ensures others { C.verified checks.new ≡ C.verified checks.old }
+    ensures same { C.answers checks.new ≡ C.answers checks.old }
+{
+    name.keeps();
+    *hashes = 0;
+    by_rules(alloc, apex, facts, name, rtype, checks, hashes)
+}
+
+/// By the rules, which say nothing of names outside the zone.
+fn by_rules<C: Checks>(
+    alloc: Global,
+    apex: &Name<Vec<u8>>,
+    facts: Facts,
+    name: &Name<Vec<u8>>,
+    rtype: Rtype,
+    checks: &mut C,
+    count: &mut u32,
+) -> Result<Option<Verdict>, HashError>
+    requires room { count.old + length name.now + 2 < 2 ^ 32 }
+    ensures verdict { let f = facts.entry in
+        let hash = hash_among (C.answers checks.old).hash f.hash_links in
+        IfOk result (λ v. option_map verdict_of v ≡ decided apex.now hash f name.now rtype) }
+    ensures hashes { let f = facts.entry in let answers = (C.answers checks.old).hash in
+        let names = hashed apex.now (hash_among answers f.hash_links) f name.now in
+        let fails = fails_among answers f.hash_links in
+        Hashes fails names (C.hashed checks.old) (C.hashed checks.new) result }
+    ensures alike { C.hashed checks.new + count.old ≡ C.hashed checks.old + count.new }
+    ensures others { C.verified checks.new ≡ C.verified checks.old }
+    ensures same { C.answers checks.new ≡ C.answers checks.old }
+{
+    if !is_at_or_above(apex, name) {
+        return Ok(None);
+    }
+    let Facts {
+        rrset,
+        links,
+        hash_links,
+    } = facts;
+    let Some((first, _)) = hash_links.split_first() else {
+        return Ok(by_links(alloc, apex, rrset, &links, name, rtype)?);
+    };
+    let chain = HashChain {
+        alloc,
+        apex,
+        first,
+        links: &hash_links,
+        rtype,
+    };
+    by_hash_links(&chain, checks, count, rrset, name)
+}
+
+/// By links of names alone.
+fn by_links(
+    alloc: Global,
+    apex: &Name<Vec<u8>>,
+    rrset: Option<Rrset>,
+    links: &[Link],
+    name: &Name<Vec<u8>>,
+    rtype: Rtype,
+) -> Result<Option<Verdict>, AllocError>
+    ensures { IfOk result (λ v. option_map verdict_of v
+        ≡ by_names apex.now rrset links.now name.now rtype) }
+{
+    match rrset {
+        None => denied(alloc, apex, links, name, rtype),
+        Some(rrset) => {
+            if rrset.is_expanded(name) {
+                Ok(expanded(apex, links, rrset, name))
+            } else {
+                Ok(Some(Verdict::Records(rrset.items)))
+            }
+        }
+    }
+}
+
+/// By links of hashes, of which there is one.
+fn by_hash_links<C: Checks>(
+    chain: &HashChain,
+    checks: &mut C,
+    count: &mut u32,
+    rrset: Option<Rrset>,
+    name: &Name<Vec<u8>>,
+) -> Result<Option<Verdict>, HashError>
+    requires room { count.old + length name.now + 2 < 2 ^ 32 }
+    ensures verdict { let hash = hash_as (C.answers checks.old).hash chain.now.first.now in
+        let apex = chain.now.apex.now in let links = chain.now.links.now in
+        IfOk result (λ v. option_map verdict_of v
+        ≡ by_hashes apex hash rrset links name.now chain.now.rtype) }
+    ensures hashes { let answers = (C.answers checks.old).hash in
+        let hash = hash_as answers chain.now.first.now in
+        let fails = fails_as answers chain.now.first.now in
+        let names = hashed_by chain.now.apex.now hash rrset chain.now.links.now name.now in
+        Hashes fails names (C.hashed checks.old) (C.hashed checks.new) result }
+    ensures alike { C.hashed checks.new + count.old ≡ C.hashed checks.old + count.new }
+    ensures others { C.verified checks.new ≡ C.verified checks.old }
+    ensures same { C.answers checks.new ≡ C.answers checks.old }
+{
+    let mut octets = Vec::with_capacity(chain.alloc, 255)?;
+    match rrset {
+        None => hash_denied(chain, checks, count, &mut octets, name),
+        Some(rrset) => {
+            if rrset.is_expanded(name) {
+                hash_expanded(chain, checks, count, &mut octets, rrset, name)
+            } else {
+                Ok(Some(Verdict::Records(rrset.items)))
+            }
+        }
+    }
+}

@@ -1,0 +1,150 @@
+//! Names that are hashed for a question (RFC 5155, 5).
+ghost use Rattle.std.specs.Prelude.{◌≡◌, ◌+◌, ◌<◌, ◌^◌, ◌∷◌, [], Some, None, IfOk, IsErrOf, OnOk, drop};
+ghost use Rattle.definitions.specs.Name.{low, wire};
+ghost use Rattle.definitions.specs.Zone.{star_under};
+ghost use Rattle.answer_judge_rules.specs.Hashing.{fails_as, hash_as, Hashes};
+
+use crate::facts::HashLink;
+use answer_scheme::checks::Checks;
+use denial_nsec3_hash::hasher::HashError;
+use denial_nsec3_hash::wire_form::write_lower_wire;
+use messages::names::{Name, ToName, ZoneName};
+use std::alloc::{AllocError, Global};
+
+/// A name and its hash.
+#[derive(Drop)]
+pub(crate) struct HashedName<'n> {
+    pub(crate) name: Name<&'n [u8]>,
+    pub(crate) hash: Vec<u8>,
+}
+
+/// The hash of octets, as a link says, and a count of hashes that rises by one.
+fn hash_octets<C: Checks>(
+    alloc: Global,
+    link: &HashLink,
+    checks: &mut C,
+    count: &mut u32,
+    octets: &[u8],
+) -> Result<Vec<u8>, HashError>
+    requires room { count.old + 1 < 2 ^ 32 }
+    ensures answer { let l = link.now in let hash = (C.answers checks.old).hash in
+        IfOk result (λ h. hash octets.now 1 l.iterations l.salt ≡ Some h.items) }
+    ensures failed { let l = link.now in let hash = (C.answers checks.old).hash in
+        IsErrOf result HashError.Failed → hash octets.now 1 l.iterations l.salt ≡ None }
+    ensures counted { C.hashed checks.new ≡ C.hashed checks.old + 1 }
+    ensures alike { C.hashed checks.new + count.old ≡ C.hashed checks.old + count.new }
+    ensures others { C.verified checks.new ≡ C.verified checks.old }
+    ensures same { C.answers checks.new ≡ C.answers checks.old }
+{
+    *count += 1;
+    checks.hash(alloc, octets, 1, link.iterations(), link.salt())
+}
+
+/// The hash of a name without its first labels, so many, which is written to the buffer.
+pub(crate) fn hash_behind<N: ToName, C: Checks>(
+    alloc: Global,
+    link: &HashLink,
+    checks: &mut C,
+    count: &mut u32,
+    octets: &mut Vec<u8>,
+    name: &N,
+    skipped: usize,
+) -> Result<Vec<u8>, HashError>
+    requires room { count.old + 1 < 2 ^ 32 }
+    ensures hash { let hash = hash_as (C.answers checks.old).hash link.now in
+        IfOk result (λ h. h.items ≡ hash (low (drop skipped (N.name name.now)))) }
+    ensures hashes { let fails = fails_as (C.answers checks.old).hash link.now in
+        let names = drop skipped (N.name name.now) ∷ [] in
+        Hashes fails names (C.hashed checks.old) (C.hashed checks.new) result }
+    ensures alike { C.hashed checks.new + count.old ≡ C.hashed checks.old + count.new }
+    ensures others { C.verified checks.new ≡ C.verified checks.old }
+    ensures same { C.answers checks.new ≡ C.answers checks.old }
+{
+    write_lower_wire(octets, name, skipped)?;
+    hash_octets(alloc, link, checks, count, octets)
+}
+
+/// Writes a name in lower-case wire form, over what a buffer held.
+fn write_name(octets: &mut Vec<u8>, name: &Name<&[u8]>) -> Result<(), AllocError>
+    ensures { OnOk result (octets.new.items ≡ wire (low name.now)) }
+{
+    octets.clear();
+    name.compose_canonical(octets)
+}
+
+/// The hash of a name, which is written to the buffer.
+fn hash_whole<C: Checks>(
+    alloc: Global,
+    link: &HashLink,
+    checks: &mut C,
+    count: &mut u32,
+    octets: &mut Vec<u8>,
+    name: &Name<&[u8]>,
+) -> Result<Vec<u8>, HashError>
+    requires room { count.old + 1 < 2 ^ 32 }
+    ensures hash { let hash = hash_as (C.answers checks.old).hash link.now in
+        IfOk result (λ h. h.items ≡ hash (low name.now)) }
+    ensures hashes { let fails = fails_as (C.answers checks.old).hash link.now in
+        Hashes fails (name.now ∷ []) (C.hashed checks.old) (C.hashed checks.new) result }
+    ensures alike { C.hashed checks.new + count.old ≡ C.hashed checks.old + count.new }
+    ensures others { C.verified checks.new ≡ C.verified checks.old }
+    ensures same { C.answers checks.new ≡ C.answers checks.old }
+{
+    write_name(octets, name)?;
+    hash_octets(alloc, link, checks, count, octets)
+}
+
+/// A name with its hash.
+pub(crate) fn hash_name<'n, C: Checks>(
+    alloc: Global,
+    link: &HashLink,
+    checks: &mut C,
+    count: &mut u32,
+    octets: &mut Vec<u8>,
+    name: Name<&'n [u8]>,
+) -> Result<HashedName<'n>, HashError>
+    requires room { count.old + 1 < 2 ^ 32 }
+    ensures name { IfOk result (λ h. h.name ≡ name.entry) }
+    ensures hash { let hash = hash_as (C.answers checks.old).hash link.now in
+        IfOk result (λ h. h.hash.items ≡ hash (low h.name)) }
+    ensures hashes { let fails = fails_as (C.answers checks.old).hash link.now in
+        Hashes fails (name.entry ∷ []) (C.hashed checks.old) (C.hashed checks.new) result }
+    ensures alike { C.hashed checks.new + count.old ≡ C.hashed checks.old + count.new }
+    ensures others { C.verified checks.new ≡ C.verified checks.old }
+    ensures same { C.answers checks.new ≡ C.answers checks.old }
+{
+    let hash = hash_whole(alloc, link, checks, count, octets, &name)?;
+    Ok(HashedName { name, hash })
+}
+
+/// Writes the wildcard under a name in lower-case wire form, over what a buffer held.
+fn write_wildcard(octets: &mut Vec<u8>, name: &Name<&[u8]>) -> Result<(), AllocError>
+    ensures { OnOk result (octets.new.items ≡ wire (low (star_under name.now))) }
+{
+    octets.clear();
+    octets.extend_from_slice(b"\x01*")?;
+    name.compose_canonical(octets)
+}
+
+/// The hash of the wildcard under a name, which is written to the buffer.
+pub(crate) fn hash_wildcard<C: Checks>(
+    alloc: Global,
+    link: &HashLink,
+    checks: &mut C,
+    count: &mut u32,
+    octets: &mut Vec<u8>,
+    name: &Name<&[u8]>,
+) -> Result<Vec<u8>, HashError>
+    requires room { count.old + 1 < 2 ^ 32 }
+    ensures hash { let hash = hash_as (C.answers checks.old).hash link.now in
+        IfOk result (λ h. h.items ≡ hash (low (star_under name.now))) }
+    ensures hashes { let fails = fails_as (C.answers checks.old).hash link.now in
+        let names = star_under name.now ∷ [] in
+        Hashes fails names (C.hashed checks.old) (C.hashed checks.new) result }
+    ensures alike { C.hashed checks.new + count.old ≡ C.hashed checks.old + count.new }
+    ensures others { C.verified checks.new ≡ C.verified checks.old }
+    ensures same { C.answers checks.new ≡ C.answers checks.old }
+{
+    write_wildcard(octets, name)?;
+    hash_octets(alloc, link, checks, count, octets)
+}

@@ -1,0 +1,240 @@
+//! What links prove of a name and a type (RFC 4035, 5.4; RFC 4592; RFC 6840, 4.1 and 4.3).
+ghost use Rattle.std.specs.Prelude.{◌≡◌, ◌||◌, IfOk};
+ghost use Rattle.std.specs.Option.{option_map};
+ghost use Rattle.definitions.specs.Name.{at_or_above};
+ghost use Rattle.definitions.specs.Zone.{star_under};
+ghost use Rattle.denial_laws.specs.NsecRules.{first_some, at_owner, below_cut, redirects, link_covers, closest, at_star, covered, denied};
+ghost use Rattle.answer_judge_rules.specs.Rules.{verdict_of};
+
+use crate::facts::Link;
+use crate::types::{at_name, is_cut, lacks};
+use crate::verdict::Verdict;
+use messages::names::{Name, Octets, ToName, ZoneName, is_above, is_at_or_above};
+use names_rdata::rtype::Rtype;
+use std::alloc::{AllocError, Global};
+
+impl<'a> Link<'a> {
+    /// Whether the owner stands above a name and has DNAME.
+    ///
+    /// What is below it is redirected: taken as proof, its record would deny names that exist where it leads (RFC 6840, 4.1).
+    fn redirects(&self, name: &Name<Vec<u8>>) -> bool
+        ensures { result ≡ redirects name.now self.now }
+    {
+        is_above(&self.owner, name) && self.has(Rtype::DNAME)
+    }
+
+    /// Whether a name lies strictly between owner and next name; the apex as next name ends the order.
+    ///
+    /// The record is silent on its owner and its next name: both exist, and a wider gap would deny them (RFC 4034, 4.1.1).
+    pub(crate) fn covers(&self, apex: &Name<Vec<u8>>, name: &Name<Vec<u8>>) -> bool
+        ensures { result ≡ link_covers apex.now self.now name.now }
+    {
+        self.owner.name_cmp(name).is_lt()
+            && (self.next().name_eq(apex) || name.name_cmp(self.next()).is_lt())
+            && !self.redirects(name)
+    }
+
+    /// What the link says of its own name.
+    ///
+    /// A record at another name says nothing of this one: replayed, it would deny what that name lacks (RFC 4035, 5.4).
+    fn at_owner(&self, apex: &Name<Vec<u8>>, name: &Name<Vec<u8>>, rtype: Rtype) -> Option<Verdict>
+        ensures { option_map verdict_of result ≡ at_owner apex.now name.now rtype self.now }
+    {
+        if self.owner.name_eq(name) {
+            at_name(self.types(), apex, name, rtype)
+        } else {
+            None
+        }
+    }
+
+    /// Whether the owner is a delegation above a name.
+    ///
+    /// What lies below it is the child zone's: as a covering record this one would deny what is there (RFC 6840, 4.1).
+    fn below_cut(&self, apex: &Name<Vec<u8>>, name: &Name<Vec<u8>>) -> Option<Verdict>
+        ensures { option_map verdict_of result ≡ below_cut apex.now name.now self.now }
+    {
+        if is_cut(self.types(), apex, &self.owner)
+            && is_above(&self.owner, name)
+            && !self.has(Rtype::DNAME)
+        {
+            return Some(Verdict::Delegated);
+        }
+        None
+    }
+
+    /// Whether owner or next name shows that an ancestor exists.
+    fn shows<Octs: Octets>(&self, ancestor: &Name<Octs>) -> bool
+        ensures { result
+            ≡ (at_or_above ancestor.now self.now.owner || at_or_above ancestor.now self.now.next) }
+    {
+        is_at_or_above(ancestor, &self.owner) || is_at_or_above(ancestor, self.next())
+    }
+
+    /// The closest encloser of a name that the link covers.
+    ///
+    /// An ancestor further up would let another wildcard than the name's speak for it (RFC 4592, 3.3.1).
+    pub(crate) fn closest<'n>(&self, name: &'n Name<Vec<u8>>) -> Option<Name<&'n [u8]>>
+        ensures { result ≡ closest self.now name.now }
+    {
+        let mut ancestors = name.iter_suffixes();
+        let _itself = ancestors.next();
+        for ancestor in ancestors {
+            if self.shows(&ancestor) {
+                return Some(ancestor);
+            }
+        }
+        None
+    }
+
+    /// The wildcard under the closest encloser of a name. There is room for it: the encloser is at least one label shorter
+    /// than the name.
+    fn wildcard(
+        &self,
+        alloc: Global,
+        name: &Name<Vec<u8>>,
+    ) -> Result<Option<Name<Vec<u8>>>, AllocError>
+        ensures { IfOk result (λ o. o ≡ option_map star_under (closest self.now name.now)) }
+    {
+        name.keeps();
+        match self.closest(name) {
+            None => Ok(None),
+            Some(encloser) => encloser.wildcard_child(alloc),
+        }
+    }
+
+    /// What the link says of a wildcard.
+    ///
+    /// Without a look at the wildcard a name that it stands for would pass for one that does not exist (RFC 4035, 5.4).
+    fn at_star(&self, apex: &Name<Vec<u8>>, star: &Name<Vec<u8>>, rtype: Rtype) -> Option<Verdict>
+        ensures { option_map verdict_of result ≡ at_star apex.now star.now rtype self.now }
+    {
+        if self.owner.name_eq(star) {
+            return if lacks(self.types(), rtype) {
+                Some(Verdict::StarNoType)
+            } else {
+                None
+            };
+        }
+        if !self.covers(apex, star) {
+            return None;
+        }
+        Some(if is_above(star, self.next()) {
+            Verdict::StarNoType
+        } else {
+            Verdict::NoName
+        })
+    }
+
+    /// What the link, with the others, says of a name that it covers.
+    ///
+    /// A next name below the name shows that the name exists: its absence would deny what stands under it (RFC 4592, 2.2.2).
+    fn covered(
+        &self,
+        alloc: Global,
+        apex: &Name<Vec<u8>>,
+        links: &[Link],
+        name: &Name<Vec<u8>>,
+        rtype: Rtype,
+    ) -> Result<Option<Verdict>, AllocError>
+        ensures { IfOk result
+            (λ v. option_map verdict_of v ≡ covered apex.now name.now rtype links.now self.now) }
+    {
+        if !self.covers(apex, name) {
+            return Ok(None);
+        }
+        if is_above(name, self.next()) {
+            return Ok(Some(Verdict::NoType));
+        }
+        match self.wildcard(alloc, name)? {
+            None => Ok(None),
+            Some(star) => Ok(first_at_star(apex, links, &star, rtype)),
+        }
+    }
+}
+
+/// What the first link that tells of a wildcard says.
+fn first_at_star(
+    apex: &Name<Vec<u8>>,
+    links: &[Link],
+    star: &Name<Vec<u8>>,
+    rtype: Rtype,
+) -> Option<Verdict>
+    ensures { option_map verdict_of result
+        ≡ first_some (at_star apex.now star.now rtype) links.now }
+{
+    for link in links {
+        if let Some(verdict) = link.at_star(apex, star, rtype) {
+            return Some(verdict);
+        }
+    }
+    None
+}
+
+/// What the first link that tells of its own name says of it.
+fn first_at_owner(
+    apex: &Name<Vec<u8>>,
+    links: &[Link],
+    name: &Name<Vec<u8>>,
+    rtype: Rtype,
+) -> Option<Verdict>
+    ensures { option_map verdict_of result
+        ≡ first_some (at_owner apex.now name.now rtype) links.now }
+{
+    for link in links {
+        if let Some(verdict) = link.at_owner(apex, name, rtype) {
+            return Some(verdict);
+        }
+    }
+    None
+}
+
+/// Whether a link stands at a delegation above a name.
+fn first_below_cut(apex: &Name<Vec<u8>>, links: &[Link], name: &Name<Vec<u8>>) -> Option<Verdict>
+    ensures { option_map verdict_of result ≡ first_some (below_cut apex.now name.now) links.now }
+{
+    for link in links {
+        if let Some(verdict) = link.below_cut(apex, name) {
+            return Some(verdict);
+        }
+    }
+    None
+}
+
+/// What the first link that covers a name and tells of it says.
+fn first_covered(
+    alloc: Global,
+    apex: &Name<Vec<u8>>,
+    links: &[Link],
+    name: &Name<Vec<u8>>,
+    rtype: Rtype,
+) -> Result<Option<Verdict>, AllocError>
+    ensures { IfOk result (λ v. option_map verdict_of v
+        ≡ first_some (covered apex.now name.now rtype links.now) links.now) }
+{
+    for link in links {
+        if let Some(verdict) = link.covered(alloc, apex, links, name, rtype)? {
+            return Ok(Some(verdict));
+        }
+    }
+    Ok(None)
+}
+
+/// What links prove of a name and a type. Each rule is tried on the links in turn, before the next rule is.
+pub(crate) fn denied(
+    alloc: Global,
+    apex: &Name<Vec<u8>>,
+    links: &[Link],
+    name: &Name<Vec<u8>>,
+    rtype: Rtype,
+) -> Result<Option<Verdict>, AllocError>
+    ensures { IfOk result
+        (λ v. option_map verdict_of v ≡ denied apex.now name.now rtype links.now) }
+{
+    if let Some(verdict) = first_at_owner(apex, links, name, rtype) {
+        return Ok(Some(verdict));
+    }
+    if let Some(verdict) = first_below_cut(apex, links, name) {
+        return Ok(Some(verdict));
+    }
+    first_covered(alloc, apex, links, name, rtype)
+}

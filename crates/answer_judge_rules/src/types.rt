@@ -1,0 +1,47 @@
+//! What the types of a record of a chain say where it stands, by names or by hashes (RFC 6840, 4.1 and 4.3).
+ghost use Rattle.std.specs.Prelude.{◌≡◌};
+ghost use Rattle.std.specs.Option.{option_map};
+ghost use Rattle.denial_laws.specs.NsecRules.{is_cut, lacks, at_name};
+ghost use Rattle.answer_judge_rules.specs.Rules.{verdict_of};
+
+use crate::verdict::Verdict;
+use denial_bitmap::bitmap::RtypeBitmap;
+use messages::names::{Name, ToName};
+use names_rdata::rtype::Rtype;
+
+/// Whether they prove that a type is missing: they have neither the type nor CNAME.
+///
+/// An alias answers for all types: taken as proof, its record would hide where it leads (RFC 6840, 4.3).
+pub(crate) fn lacks(types: &RtypeBitmap<&[u8]>, rtype: Rtype) -> bool
+    ensures { result ≡ lacks types.now rtype }
+{
+    !types.contains(rtype) && !types.contains(Rtype::CNAME)
+}
+
+/// Whether they are those of a delegation, if they stand at a name: NS below the apex.
+pub(crate) fn is_cut<N: ToName>(types: &RtypeBitmap<&[u8]>, apex: &Name<Vec<u8>>, owner: &N) -> bool
+    ensures { result ≡ is_cut apex.now (N.name owner.now) types.now }
+{
+    types.contains(Rtype::NS) && !owner.name_eq(apex)
+}
+
+/// What they say of the name where they stand.
+///
+/// At a delegation the parent tells of DS alone: its record, replayed, would deny what the child holds (RFC 6840, 4.1).
+pub(crate) fn at_name<N: ToName>(
+    types: &RtypeBitmap<&[u8]>,
+    apex: &Name<Vec<u8>>,
+    name: &N,
+    rtype: Rtype,
+) -> Option<Verdict>
+    ensures { option_map verdict_of result ≡ at_name apex.now (N.name name.now) rtype types.now }
+{
+    if is_cut(types, apex, name) && rtype != Rtype::DS {
+        return Some(Verdict::Delegated);
+    }
+    if lacks(types, rtype) {
+        Some(Verdict::NoType)
+    } else {
+        None
+    }
+}

@@ -1,0 +1,9 @@
+pub mod KeyLife
+pub mod KeyHistory
+pub mod KeysMeet
+pub mod GivenThings
+pub mod Judgements
+pub mod HonestBytes
+pub mod OneAtATime
+pub mod VersionsAlong
+pub mod Simulations

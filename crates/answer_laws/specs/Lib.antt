@@ -1,0 +1,9 @@
+pub mod StaysBound
+pub mod PublishedKeys
+pub mod Simulating
+pub mod OneState
+pub mod ThroughRolls
+pub mod ThroughRollsRows
+pub mod HonestBytes
+pub mod Versions
+pub mod Simulations

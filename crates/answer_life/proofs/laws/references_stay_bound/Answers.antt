@@ -1,5 +1,0 @@
-use Rattle.answer_life.proofs.KeyHistory.{adds_bind, stay_bound}
-use Rattle.answer_life.proofs.laws.references_stay_bound.Goals as goal
-
-pub returns : goal.returns
-returns c = record { bind = adds_bind; stay = stay_bound }

@@ -1,0 +1,90 @@
+use Rattle.std.proofs.Common.{◌++◌, subst, rules}
+use Rattle.std.specs.Prelude.{IfErr, IfOk}
+use Rattle.std.specs.List.{AllByRecursion}
+use Rattle.definitions.specs.Limits.{pointer_limit}
+use Rattle.answer_shared.specs.Given.{GivesAnswer}
+use Rattle.answer_shared.specs.Hashing.{served}
+use Rattle.answer_shared.specs.Served.{by_tag}
+use Rattle.answer_shared.proofs.AllowedTypes.{allowed_plain}
+use Rattle.answer_shared.proofs.ZoneData.{if_ok_map}
+use Rattle.answer_zone.specs.HashedZone.{accepted_zone}
+use Rattle.answer_scheme.specs.Moments.{second_of}
+use Rattle.messages.specs.Questions.{asked_of}
+use Rattle.answer_publisher.specs.Answering.{AnswersZone, RefusesAnswer, ahead_of_records}
+use Rattle.answer_publisher_keys.specs.Bindings.{dnskeys, keys_by_tag, published}
+use Rattle.answer_publisher.specs.Composed.{IsAnswer, RefusesGroups}
+use Rattle.answer_publisher_keys.specs.declared.keys.Publication.TheVariants.{SignsZone}
+use Rattle.answer_publisher.proofs.Refusals.{answer_refused, if_err_map}
+use Rattle.answer_publisher.proofs.WritesGiven.{NamedView, answer_given}
+use Rattle.answer_publisher.proofs.publishing.Publisher.message.Goals as goal
+
+pub answer_to-requires : goal.answer_to-requires
+answer_to-requires g c = allowed_plain c.args.self.now.zone.apex (asked_of c.args.question.now) (search rules)
+
+pub returns-clause-bytes : goal.returns-clause-bytes
+returns-clause-bytes g c =
+    let z = accepted_zone c.args.self.now.zone in
+    let sign = g.S.Scheme.signature_of c.args.self.now.scheme.now in
+    let verifies = g.S.Scheme.verifies c.args.self.now.scheme.now in
+    let made = c.in_ok-found.ensures.answer in
+    let found = c.in_ok-found.found in
+    let keys = keys_by_tag c.args.self.now.keys SignsZone in
+    let written : IfOk c.compose_answer.result (λ m. IsAnswer sign verifies z.apex (second_of c.args.now.now) c.args.self.now.life keys found.flags (asked_of c.args.question.now) found.answer.items found.authority.items m.items) = search rules in
+    let served_as = served (g.H.Nsec3Hasher.hash_of c.args.self.now.zone.hasher) z in
+    if_ok_map
+    (λ m. IsAnswer sign verifies z.apex (second_of c.args.now.now) c.args.self.now.life keys found.flags (asked_of c.args.question.now) found.answer.items found.authority.items m.items)
+    (λ m. AnswersZone sign verifies served_as z.apex (second_of c.args.now.now) c.args.self.now.life keys (asked_of c.args.question.now) m.items)
+    c.compose_answer.result
+    (λ m w. record {
+      answer = found.answer.items;
+      authority = found.authority.items;
+      groups_are = made.groups_are;
+      split = made.split;
+      written = subst (λ f. IsAnswer sign verifies z.apex (second_of c.args.now.now) c.args.self.now.life keys f (asked_of c.args.question.now) found.answer.items found.authority.items m.items) made.flags_are w;
+    })
+    written
+
+pub returns-clause-given : goal.returns-clause-given
+returns-clause-given g c =
+    let z = accepted_zone c.args.self.now.zone in
+    let sign = g.S.Scheme.signature_of c.args.self.now.scheme.now in
+    let verifies = g.S.Scheme.verifies c.args.self.now.scheme.now in
+    let hash = g.H.Nsec3Hasher.hash_of c.args.self.now.zone.hasher in
+    let made = c.in_ok-found.ensures.answer in
+    let found = c.in_ok-found.found in
+    let signers = dnskeys (published c.args.self.now.keys SignsZone) in
+    let asked = asked_of c.args.question.now in
+    let at = second_of c.args.now.now in
+    let life = c.args.self.now.life in
+    let plain = allowed_plain z.apex asked (search rules) in
+    let owners : AllByRecursion NamedView found.answer.items = subst (AllByRecursion NamedView) c.deref.ensures.value c.owners_keep.ensures in
+    let others : AllByRecursion NamedView found.authority.items = subst (AllByRecursion NamedView) c.deref-2.ensures.value c.owners_keep-2.ensures in
+    let written : IfOk c.compose_answer.result (λ m. IsAnswer sign verifies z.apex at life (by_tag signers) found.flags asked found.answer.items found.authority.items m.items) = search rules in
+    if_ok_map
+    (λ m. IsAnswer sign verifies z.apex at life (by_tag signers) found.flags asked found.answer.items found.authority.items m.items)
+    (λ m. GivesAnswer verifies pointer_limit (served hash z) z.apex signers at life asked m.items)
+    c.compose_answer.result
+    (λ m w. answer_given sign verifies hash z at life found.flags signers asked found.answer.items found.authority.items m.items c.keeps.ensures.published c.keeps.ensures.handed
+    c.keeps-2.ensures plain owners others made.groups_are w)
+    written
+
+pub returns-clause-fault : goal.returns-clause-fault
+returns-clause-fault g c =
+    let z = accepted_zone c.args.self.now.zone in
+    let sign = g.S.Scheme.signature_of c.args.self.now.scheme.now in
+    let verifies = g.S.Scheme.verifies c.args.self.now.scheme.now in
+    let hash = g.H.Nsec3Hasher.hash_of c.args.self.now.zone.hasher in
+    let made = c.in_ok-found.ensures.answer in
+    let found = c.in_ok-found.found in
+    let keys = keys_by_tag c.args.self.now.keys SignsZone in
+    let asked = asked_of c.args.question.now in
+    let at = second_of c.args.now.now in
+    let life = c.args.self.now.life in
+    let groups = found.answer.items ++ found.authority.items in
+    let refused : IfErr c.compose_answer.result (RefusesGroups sign verifies z.apex at life keys (ahead_of_records asked) groups) = search rules in
+    if_err_map
+    (RefusesGroups sign verifies z.apex at life keys (ahead_of_records asked) groups)
+    (RefusesAnswer sign verifies hash (served hash z) z.apex at life keys asked)
+    c.compose_answer.result
+    (λ f h. answer_refused sign verifies hash (served hash z) z.apex at life keys asked groups f made.groups_are h)
+    refused

@@ -1,6 +1,0 @@
-use Rattle.std.proofs.Common.{◌≡◌, drop}
-use Rattle.denial_rules.specs.NsecRules.{first_some, at_owner}
-use Rattle.answer_rules.proofs.links.first_at_owner.Given as goal
-
-abbrev pub invariant-loop-link : goal.invariant-loop-link
-invariant-loop-link l = first_some (at_owner l.apex l.name l.rtype) (drop l.link-index l.links) ≡ first_some (at_owner l.apex l.name l.rtype) l.links

@@ -1,6 +1,0 @@
-use Rattle.std.proofs.Common.{◌≡◌, drop}
-use Rattle.denial_rules.specs.NsecRules.{first_some, below_cut}
-use Rattle.answer_rules.proofs.links.first_below_cut.Given as goal
-
-abbrev pub invariant-loop-link : goal.invariant-loop-link
-invariant-loop-link l = first_some (below_cut l.apex l.name) (drop l.link-index l.links) ≡ first_some (below_cut l.apex l.name) l.links

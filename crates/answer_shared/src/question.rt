@@ -1,0 +1,24 @@
+//! Which questions a zone answers.
+ghost use Rattle.std.specs.Prelude.{◌≡◌};
+ghost use Rattle.messages.specs.Questions.{asked_of};
+ghost use Rattle.answer_shared.specs.Asking.{is_allowed};
+
+use messages::names::{Name, is_at_or_above};
+use messages::question::Question;
+use names_rdata::rtype::Rtype;
+use numbers::class::Class;
+
+/// Whether a question is answered and judged: class IN, at or below the apex, and none of the types that signing
+/// adds, of aliases, or that no zone holds (RFC 6895, 3.1).
+pub fn is_allowed(apex: &Name<Vec<u8>>, question: &Question) -> bool
+    ensures { result ≡ is_allowed apex.now (asked_of question.now) }
+{
+    question.class == Class::IN
+        && is_at_or_above(apex, &question.name)
+        && !matches!(
+            question.rtype,
+            Rtype::RRSIG | Rtype::NSEC | Rtype::DNSKEY | Rtype::NSEC3 | Rtype::NSEC3PARAM
+        )
+        && !matches!(question.rtype, Rtype::CNAME | Rtype::DNAME | Rtype::OPT)
+        && !matches!(question.rtype.to_int(), 0 | 128..=255)
+}

@@ -1,5 +1,0 @@
-pub mod PartsSplit
-pub mod ListsRead
-pub mod EntriesSplit
-pub mod HonestTable
-pub mod SpelledCases

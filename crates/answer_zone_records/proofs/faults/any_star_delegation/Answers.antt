@@ -1,0 +1,13 @@
+use Rattle.std.proofs.Common.{◌∙◌, sym, rules, tests, eqb, ◌&&◌}
+use Rattle.std.proofs.lemmas.Iterator.{YieldsList-from_slice}
+use Rattle.std.proofs.lemmas.Iterator.Search.{any_from_yields_List}
+use Rattle.messages.specs.Star.{begins_with_star}
+use Rattle.messages.specs.HandedRr.{HandedRr, handed_of}
+use Rattle.messages.proofs.Lists.{list_any-map}
+use Rattle.answer_zone_records.proofs.faults.any_star_delegation.Goals as goal
+
+pub returns : goal.returns
+returns c =
+    let test = λ (r : HandedRr). (eqb r.rtype 2) && begins_with_star r.owner in
+    any_from_yields_List (λ r. test (handed_of r)) _ _ _ c.any.ensures.ran (YieldsList-from_slice c.args.records.now cc) (λ x b q k. search (rules, tests))
+    ∙ sym (list_any-map test handed_of c.args.records.now)

@@ -1,0 +1,42 @@
+-- The choices that a rule of denial makes: each can be made rightly or not.
+use Rattle.std.specs.Prelude.{ℕ, Bool, true, List, Option}
+use Rattle.definitions.specs.Name.{Name}
+use Rattle.definitions.specs.Zone.{Verdict}
+use Rattle.denial_laws.specs.Facts.{Facts}
+
+-- what is made of facts: beside an apex and a hash, of a name and a type
+abbrev pub Rule : Type 0
+Rule = Name → (Name → List ℕ) → Facts → Name → ℕ → Option Verdict
+
+-- Each is made rightly where it is true.
+pub record Choices : Type 0 where
+  -- the facts are looked at; otherwise every name is left open
+  pub facts : Bool
+  -- a delegation above a name decides before what covers the name (RFC 6840, 4.1); otherwise it is passed over
+  pub delegations : Bool
+  -- a delegation's record proves of its own name nothing but of DS (RFC 6840, 4.1); otherwise that any type is missing
+  pub child_types : Bool
+  -- the wildcard decides of a name that is covered (RFC 4035, 5.4; RFC 5155, 8.4); otherwise the name is missing at once
+  pub wildcards : Bool
+  -- A wildcard's RRset speaks from the closest encloser alone: the label count is compared (RFC 4035, 5.3.4; RFC 5155, 8.8);
+  -- otherwise it speaks for each name that is covered.
+  pub label_counts : Bool
+  -- an NSEC record covers what lies between its names in canonical order (RFC 4034, 6.1); otherwise in that of wire octets
+  pub canonical_order : Bool
+  -- a name that an NSEC record covers exists where the next name is below it (RFC 4592, 2.2.2); otherwise it is missing too
+  pub non_terminals : Bool
+  -- a gap under opt-out proves nothing (RFC 5155, 6); otherwise the flag is passed over
+  pub opt_out : Bool
+
+-- all made rightly
+abbrev pub right : Choices
+right = record {
+  facts = true;
+  delegations = true;
+  child_types = true;
+  wildcards = true;
+  label_counts = true;
+  canonical_order = true;
+  non_terminals = true;
+  opt_out = true;
+}

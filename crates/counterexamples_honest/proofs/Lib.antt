@@ -1,0 +1,10 @@
+pub mod Dealt
+pub mod FalseRows
+pub mod Handed
+pub mod HonestRows
+pub mod Known
+pub mod Mixtures
+pub mod OwnKeys
+pub mod Premises
+pub mod Quoted
+pub mod Row

@@ -1,0 +1,48 @@
+-- Messages that are put together from any number of messages which were handed out.
+use Rattle.std.specs.Prelude.{◌≡◌, ◌⊎◌, ℕ, true, List, Contains, Some, Ok}
+use Rattle.std.specs.List.{AllByRecursion}
+use Rattle.definitions.specs.Dnskey.{Dnskey}
+use Rattle.definitions.specs.Name.{Name}
+use Rattle.definitions.specs.Signing.{Fields, in_time}
+use Rattle.messages.specs.HandedRr.{HandedRr}
+use Rattle.messages.specs.Message.{Asked, Message, Spelled, message, rrsig_at}
+use Rattle.answer_shared.specs.Made.{HandedOut, groups_in, made}
+use Rattle.answer_shared.specs.Served.{Served, by_tag}
+use Rattle.answer_shared.specs.Told.{Tells}
+use Rattle.answer_scheme.specs.Answers.{Answers}
+use Rattle.answer_judge_facts.specs.Judging.{Handing}
+use Rattle.answer_judge.specs.Honest.{AreOctets, IsHonest}
+use Rattle.answer_judge.specs.Splices.{Binds, PassesNowhere}
+
+-- A signature stands in bytes that tell a message which was handed out, in a record that held at some moment. No RRset of that
+-- message is one of signatures.
+pub record IsQuoted (a : Answers) (k : ℕ) (serve : List HandedRr → Served) (apex : Name) (life : ℕ) (outs : List HandedOut) (signature : List ℕ) : Type 0 where
+  pub out : HandedOut
+  pub was : Contains outs out
+  pub others : AllByRecursion (λ g. g.rtype ≡ 46 → ⊥) (groups_in serve apex out)
+  pub asked : Asked
+  pub bytes : List ℕ
+  pub tells : Tells a.verifies k apex out.at life (by_tag out.signers) asked (groups_in serve apex out) bytes
+  pub read : Message
+  pub reads : message k bytes ≡ Ok read
+  pub spelled : Spelled
+  pub inside : Contains read.records spelled
+  pub kind : spelled.rtype ≡ 46
+  pub fields : Fields
+  pub says : rrsig_at k bytes spelled ≡ Some (fields, signature)
+  pub moment : ℕ
+  pub holds : in_time fields moment ≡ true
+
+-- each signature of a message that holds at the moment is quoted, under whatever owner and with whatever fields, or passes
+-- under no published key
+abbrev pub AreQuotes : Answers → ℕ → ℕ → List Dnskey → (List HandedRr → Served) → Name → ℕ → List HandedOut → List ℕ → Type 0
+AreQuotes a k now published serve apex life outs m =
+    (read : Message) (r : Spelled) (f : Fields) (signature : List ℕ)
+    → message k m ≡ Ok read → Contains read.records r → r.rtype ≡ 46 → rrsig_at k m r ≡ Some (f, signature) → in_time f now ≡ true
+    → IsQuoted a k serve apex life outs signature ⊎ PassesNowhere a published signature
+
+-- such a message is honest, where a signature passes over one string of octets alone
+abbrev pub QuotesAreHonest : Type 0
+QuotesAreHonest =
+    (a : Answers) (k : ℕ) (h : Handing) (published : List Dnskey) (serve : List HandedRr → Served) (apex : Name) (life : ℕ) (outs : List HandedOut) (m : List ℕ)
+    → Binds a → AreOctets m → AreQuotes a k h.now published serve apex life outs m → IsHonest a k h published (made serve apex life outs) m

@@ -1,0 +1,147 @@
+-- What is handed to a judge at second 1500, of small zones whose one key signs for seconds 1000 to 2000.
+use Rattle.std.specs.Prelude.{ℕ, ◌+◌, true, List, [], ◌∷◌, ◌++◌, length, codes}
+use Rattle.std.specs.List.{flat_map}
+use Rattle.definitions.specs.Bitmap.{bitmap}
+use Rattle.definitions.specs.Dnskey.{Dnskey, Ds, dnskey_data}
+use Rattle.definitions.specs.Name.{Name, wire}
+use Rattle.messages.specs.HandedRr.{HandedRr}
+use Rattle.answer_judge_facts.specs.Judging.{Handing}
+use Rattle.counterexamples_honest.specs.World.{a, address, address_of, b, ds, example, false_address, fields, message_of, other, own_key, rr, rrsig, soa, star, stranger, text_of, twin, x, x_b}
+
+-- ---- zones
+
+-- an address
+abbrev pub small : List HandedRr
+small = soa ∷ address_of a ∷ []
+
+-- a wildcard's address, and that of a name beside it
+abbrev pub starred : List HandedRr
+starred = soa ∷ address_of star ∷ address_of b ∷ []
+
+-- the apex alone
+abbrev pub bare : List HandedRr
+bare = soa ∷ []
+
+-- a wildcard's text beside an address, and later a text of a name's own
+abbrev pub first_version : List HandedRr
+first_version = soa ∷ text_of star ∷ address_of b ∷ []
+
+abbrev pub second_version : List HandedRr
+second_version = soa ∷ text_of x ∷ []
+
+-- ---- DNSKEY answers
+
+-- one of some keys, their data in order, signed by a key
+abbrev pub keys_by : Dnskey → List (List ℕ) → List ℕ
+keys_by signer datas =
+    message_of example 48 (length datas + 1)
+    (flat_map (rr example 48) datas ++ rrsig example (fields 48 1 3600 1000 2000 signer) signer example datas)
+
+abbrev pub own_keys : List ℕ
+own_keys = keys_by own_key (dnskey_data own_key ∷ [])
+
+-- the zone's key beside a stranger's, signed by the first
+abbrev pub mixed_keys : List ℕ
+mixed_keys = keys_by own_key (dnskey_data other ∷ dnskey_data own_key ∷ [])
+
+-- a stranger's key, signed by itself
+abbrev pub stranger_keys : Dnskey → List ℕ
+stranger_keys k = keys_by k (dnskey_data k ∷ [])
+
+-- ---- answers
+
+-- an address of `a`, signed by a key from one second to another
+abbrev pub address_by : Dnskey → List ℕ → ℕ → ℕ → List ℕ
+address_by signer octets first last = message_of a 1 2 (rr a 1 octets ++ rrsig a (fields 1 2 3600 first last signer) signer a (octets ∷ []))
+
+-- the wildcard's address under a name below `b`, and the record of the chain of `b`, which leads to the apex
+abbrev pub next_of_b : List ℕ
+next_of_b = wire example ++ bitmap (1 ∷ 46 ∷ 47 ∷ [])
+
+abbrev pub spliced_answer : List ℕ
+spliced_answer =
+    message_of x_b 1 4
+    (rr x_b 1 address ++ rrsig x_b (fields 1 1 3600 1000 2000 own_key) own_key star (address ∷ [])
+    ++ rr b 47 next_of_b ++ rrsig b (fields 47 2 0 1000 2000 own_key) own_key b (next_of_b ∷ []))
+
+-- the record of the chain of `b` in the first version, and that of the apex in the second, which leads to `x`: together they deny
+-- `x` and the wildcard
+abbrev pub next_of_apex_later : List ℕ
+next_of_apex_later = wire x ++ bitmap (6 ∷ 46 ∷ 47 ∷ 48 ∷ [])
+
+abbrev pub mixed_answer : ℕ → List ℕ
+mixed_answer later =
+    message_of x 16 4
+    (rr b 47 next_of_b ++ rrsig b (fields 47 2 0 1000 2000 own_key) own_key b (next_of_b ∷ [])
+    ++ rr example 47 next_of_apex_later ++ rrsig example (fields 47 1 0 later (later + 1000) own_key) own_key example (next_of_apex_later ∷ []))
+
+-- the record of the one name of a chain of hashes: each hash is the octet 5
+abbrev pub hashed_apex : Name
+hashed_apex = codes "0k" ∷ example
+
+abbrev pub next_of_apex : List ℕ
+next_of_apex = 1 ∷ 0 ∷ 0 ∷ 0 ∷ 0 ∷ 1 ∷ 5 ∷ bitmap (6 ∷ 46 ∷ 48 ∷ 51 ∷ [])
+
+abbrev pub hashed_answer : List ℕ
+hashed_answer =
+    message_of a 16 2
+    (rr hashed_apex 50 next_of_apex ++ rrsig hashed_apex (fields 50 2 0 1000 2000 own_key) own_key hashed_apex (next_of_apex ∷ []))
+
+-- ---- what is handed in
+
+abbrev pub handing : List Ds → List ℕ → List ℕ → Name → ℕ → Handing
+handing set keys answer name t = record {
+  apex = example;
+  ds = set;
+  dnskey_bytes = keys;
+  answer_bytes = answer;
+  asked = record { name = name; rtype = t; class = 1 };
+  now = 1500;
+  limit = 0;
+  one_moment = true;
+}
+
+-- beside the DS record of the zone's key, for the address of `a`
+abbrev pub address_handed : List ℕ → List ℕ → Handing
+address_handed keys answer = handing (ds ∷ []) keys answer a 1
+
+-- ---- honest rows
+
+abbrev pub own : Handing
+own = address_handed own_keys (address_by own_key address 1000 2000)
+
+abbrev pub spliced : Handing
+spliced = handing (ds ∷ []) own_keys spliced_answer x_b 1
+
+abbrev pub of_strangers : Handing
+of_strangers = address_handed (stranger_keys stranger) (address_by stranger false_address 1000 2000)
+
+-- the last second of the forged signature is over
+abbrev pub forged_late : Handing
+forged_late = address_handed own_keys (address_by own_key false_address 1000 1499)
+
+-- of two versions, the second signed a hundred seconds behind the first
+abbrev pub mixed : Handing
+mixed = handing (ds ∷ []) own_keys (mixed_answer 1100) x 16
+
+-- ---- rows that are not
+
+abbrev pub no_ds : Handing
+no_ds = handing [] [] [] a 1
+
+-- the zone's key did not sign this set
+abbrev pub forged_keys : Handing
+forged_keys = address_handed mixed_keys (address_by other false_address 1000 2000)
+
+abbrev pub twin_keys : Handing
+twin_keys = address_handed (stranger_keys twin) (address_by twin false_address 1000 2000)
+
+abbrev pub forged_answer : Handing
+forged_answer = address_handed own_keys (address_by own_key false_address 1000 2000)
+
+abbrev pub shared_hash : Handing
+shared_hash = handing (ds ∷ []) own_keys hashed_answer a 16
+
+-- of two versions at one moment
+abbrev pub mixed_at_once : Handing
+mixed_at_once = handing (ds ∷ []) own_keys (mixed_answer 1000) x 16

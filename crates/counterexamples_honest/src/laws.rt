@@ -1,0 +1,85 @@
+//! What the premises on honest messages are met by, and what each is needed for. Each law is the contract of a function that does
+//! nothing.
+ghost use Rattle.std.specs.Prelude.{[], ◌∷◌};
+ghost use Rattle.definitions.specs.Zone.{NoName, Records};
+ghost use Rattle.answer_judge_facts.specs.Judging.{Says, Refuses};
+ghost use Rattle.answer_judge_facts.specs.declared.verdict.Refusal.TheVariants.{NoTrustedKey, NotProven};
+ghost use Rattle.counterexamples_honest.specs.Premises.{AllAreHonest, IsHonestCase, IsMixture, NoneIsFalse, SaysFalsely, without_answer_unforged, without_ds, without_handed_out, without_hashes_apart, without_keys_known, without_keys_unforged, without_settled};
+ghost use Rattle.counterexamples_honest.specs.Quoted.{QuotesAreHonest};
+ghost use Rattle.counterexamples_honest.specs.Rows.{first_version, forged_late, mixed, of_strangers, own, second_version, small, spliced, starred};
+ghost use Rattle.counterexamples_honest.specs.World.{address, plain};
+
+/// With all premises messages are honest, and no verdict on them is false.
+pub fn all_premises_are_honesty()
+    ensures same { AllAreHonest }
+    ensures truly { NoneIsFalse }
+{}
+
+/// Messages are honest whose signatures that hold were quoted from messages which were handed out, however many, under whatever
+/// owners and beside whatever records, or pass under no published key; where a signature passes over one string of octets alone.
+pub fn quotes_are_honest()
+    ensures { QuotesAreHonest }
+{}
+
+/// A zone's own two answers are honest, and say what it says.
+pub fn own_answers_are_honest()
+    ensures { IsHonestCase plain own (small ∷ []) (Says (Records (address ∷ []))) }
+{}
+
+/// So are a wildcard's address, moved to a name below one that is there, and the record of the chain which covers that name: both
+/// were signed, in two answers. They prove nothing (RFC 4035, 5.3.4).
+pub fn splices_are_honest()
+    ensures { IsHonestCase plain spliced (starred ∷ []) (Refuses NotProven) }
+{}
+
+/// So are a DNSKEY answer of a stranger's key that has the tag of the zone's, and an answer that this key signed. No trusted key
+/// signed the keys (RFC 4035, 5.2).
+pub fn answers_of_strangers_are_honest()
+    ensures { IsHonestCase plain of_strangers (small ∷ []) (Refuses NoTrustedKey) }
+{}
+
+/// So is an address that was forged under the zone's key, in a signature whose time is over. It proves nothing (RFC 4035, 5.3.1).
+pub fn what_is_forged_late_is_honest()
+    ensures { IsHonestCase plain forged_late (small ∷ []) (Refuses NotProven) }
+{}
+
+/// Beside an empty DS set nothing is verified, so each zone would be called unsigned (RFC 4035, 5.2).
+pub fn a_ds_record_is_needed()
+    ensures { SaysFalsely without_ds }
+{}
+
+/// Who can sign a DNSKEY RRset under the zone's key adds a key, and signs with that whatever answer (RFC 4035, 5.2).
+pub fn no_keys_may_be_forged()
+    ensures { SaysFalsely without_keys_unforged }
+{}
+
+/// Who has a key of the same tag, algorithm and digest as the DS record signs a DNSKEY RRset of it (RFC 4034, 5.1.4).
+pub fn digests_must_name_the_zones_keys()
+    ensures { SaysFalsely without_keys_known }
+{}
+
+/// Who can sign an answer under the zone's key says what the zone does not say (RFC 4035, 5.3.3).
+pub fn no_answer_may_be_forged()
+    ensures { SaysFalsely without_answer_unforged }
+{}
+
+/// A key that the zone signs into its DNSKEY RRset may sign whatever answer, so it is to be one of those that are published.
+pub fn keys_that_are_signed_must_be_published()
+    ensures { SaysFalsely without_handed_out }
+{}
+
+/// A name that has the hash of another passes for it: a name that does not exist, for one that lacks the type (RFC 5155, 12.1.1).
+pub fn no_two_names_may_share_a_hash()
+    ensures { SaysFalsely without_hashes_apart }
+{}
+
+/// Records of two versions, signed at two moments, are refused though nothing in them is forged. A judge that does not ask for
+/// signatures of one moment calls a name missing that both versions have.
+pub fn versions_do_not_mix()
+    ensures { IsMixture plain mixed (first_version ∷ second_version ∷ []) NoName }
+{}
+
+/// Two versions at one moment are not told apart, so at one moment a zone is to have one version.
+pub fn one_moment_has_one_version()
+    ensures { SaysFalsely without_settled }
+{}

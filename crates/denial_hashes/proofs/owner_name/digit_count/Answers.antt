@@ -1,6 +1,0 @@
-use Rattle.std.proofs.Common.{arith}
-use Rattle.denial_hashes.proofs.Digits.{digits_least, digits_most}
-use Rattle.denial_hashes.proofs.owner_name.digit_count.Goals as goal
-
-pub returns : goal.returns
-returns c = omega (arith, c.div_ceil.ensures, digits_least c.args.hash.now, digits_most c.args.hash.now)

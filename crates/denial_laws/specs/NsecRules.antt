@@ -1,0 +1,93 @@
+-- What NSEC records prove of a name and a type (RFC 4035, 5.4; RFC 4592; RFC 6840, 4.1 and 4.3).
+use Rattle.std.specs.Prelude.{ℕ, Bool, true, false, not, ◌&&◌, ◌||◌, ◌==◌, List, [], ◌∷◌, length, Option, Some, None}
+use Rattle.definitions.specs.Name.{Name, same, at_or_above, strictly_above}
+use Rattle.definitions.specs.Covering.{covers}
+use Rattle.definitions.specs.Bitmap.{bitmap_has}
+use Rattle.definitions.specs.Zone.{Verdict, NoType, NoName, StarRecords, StarNoType, Delegated, star_under}
+use Rattle.denial_laws.specs.Facts.{Rrset, Link}
+
+-- the first of the answers on items in turn
+abbrev pub first_some : {A B : Type 0} → (A → Option B) → List A → Option B
+first_some f [] = None
+first_some f (x ∷ xs) = elim (f x) [ None ↦ first_some f xs | Some y ↦ Some y ]
+
+abbrev pub or_else : {A : Type 0} → Option A → Option A → Option A
+or_else (Some x) other = Some x
+or_else None other = other
+
+-- the record is of a delegation: NS below the apex. Its bits are the parent's: replayed against the child zone they would
+-- deny what that zone holds (RFC 6840, 4.1).
+abbrev pub is_cut : Name → Name → List ℕ → Bool
+is_cut apex owner bits = bitmap_has bits 2 && not (same owner apex)
+
+-- A matching record proves that a type is missing, unless it has the type. One of an alias proves it of no type: the alias
+-- answers for all (RFC 6840, 4.3).
+abbrev pub lacks : List ℕ → ℕ → Bool
+lacks bits t = not (bitmap_has bits t) && not (bitmap_has bits 5)
+
+-- What a record that matches the name says: at a delegation of DS alone.
+abbrev pub at_name : Name → Name → ℕ → List ℕ → Option Verdict
+at_name apex q t bits = elim (is_cut apex q bits && not (t == 43)) [
+  | true ↦ Some Delegated
+  | false ↦ elim (lacks bits t) [ true ↦ Some NoType | false ↦ None ]
+]
+
+abbrev pub at_owner : Name → Name → ℕ → Link → Option Verdict
+at_owner apex q t f = elim (same f.owner q) [ true ↦ at_name apex q t f.bits | false ↦ None ]
+
+-- A record above a name, with DNAME in its bits, proves nothing of the name: what is below it is redirected
+-- (RFC 6840, 4.1).
+abbrev pub redirects : Name → Link → Bool
+redirects q f = strictly_above f.owner q && bitmap_has f.bits 39
+
+-- a delegation above the name: what lies below it is the child zone's, and this zone can't deny it
+abbrev pub below_cut : Name → Name → Link → Option Verdict
+below_cut apex q f = elim (is_cut apex f.owner f.bits && strictly_above f.owner q && not (bitmap_has f.bits 39)) [ true ↦ Some Delegated | false ↦ None ]
+
+-- strictly between owner and next name, and nothing redirects the name
+abbrev pub link_covers : Name → Link → Name → Bool
+link_covers apex f q = covers apex f.owner f.next q && not (redirects q f)
+
+-- The closest encloser that a covering record shows: the longest ancestor at or above its owner or next name
+-- (RFC 4592, 3.3.1). An ancestor further up would let another wildcard speak for the name.
+abbrev pub closest : Link → Name → Option Name
+closest f [] = None
+closest f (l ∷ q) = elim (at_or_above q f.owner || at_or_above q f.next) [ true ↦ Some q | false ↦ closest f q ]
+
+-- the wildcard: there without the type, there with names below it alone, or not there; without this look a name that it stands
+-- for would pass for one that does not exist
+abbrev pub at_star : Name → Name → ℕ → Link → Option Verdict
+at_star apex s t f = elim (same f.owner s) [
+  | true ↦ elim (lacks f.bits t) [ true ↦ Some StarNoType | false ↦ None ]
+  | false ↦ elim (link_covers apex f s) [
+    | true ↦ elim (strictly_above s f.next) [ true ↦ Some StarNoType | false ↦ Some NoName ]
+    | false ↦ None
+  ]
+]
+
+-- the name is covered: an empty non-terminal where the next name is below it, otherwise the wildcard decides
+abbrev pub covered : Name → Name → ℕ → List Link → Link → Option Verdict
+covered apex q t fs f = elim (link_covers apex f q) [
+  | true ↦ elim (strictly_above q f.next) [
+    | true ↦ Some NoType
+    | false ↦ elim (closest f q) [ None ↦ None | Some e ↦ first_some (at_star apex (star_under e) t) fs ]
+  ]
+  | false ↦ None
+]
+
+-- each rule is tried on the records in turn, before the next rule is
+abbrev pub denied : Name → Name → ℕ → List Link → Option Verdict
+denied apex q t fs = or_else (first_some (at_owner apex q t) fs) (or_else (first_some (below_cut apex q) fs) (first_some (covered apex q t fs) fs))
+
+-- the closest encloser that a record shows has so many labels
+abbrev pub encloses_at : ℕ → Option Name → Bool
+encloses_at n None = false
+encloses_at n (Some e) = length e == n
+
+-- A wildcard's RRset answers for a name that does not exist, and from its closest encloser alone: otherwise the wildcard of an
+-- ancestor further up, or one beside an existing name, would answer in its place (RFC 4035, 5.3.4).
+abbrev pub expanded_by : Name → Name → Rrset → Link → Option Verdict
+expanded_by apex q r f = elim (link_covers apex f q && not (strictly_above q f.next) && encloses_at r.labels (closest f q)) [ true ↦ Some (StarRecords r.datas) | false ↦ None ]
+
+abbrev pub expanded : Name → Name → Rrset → List Link → Option Verdict
+expanded apex q r fs = first_some (expanded_by apex q r) fs

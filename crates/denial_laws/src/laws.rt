@@ -1,0 +1,37 @@
+//! Laws of denial. Each is the contract of a function that does nothing.
+ghost use Rattle.denial_laws.specs.Laws.{TrueFactsDecideTruly, OwnAnswersDecide, BothChainsSayTheSame, ConcernedAreNames, FewHashes, OneVerdict};
+
+/// Every question has exactly one verdict: the conditions under which a zone gives one or another shut each other out, and
+/// leave no question over (RFC 1034, 4.3.2; RFC 4592).
+pub fn each_question_has_one_verdict()
+    ensures { OneVerdict }
+{}
+
+/// Whatever records of a zone are verified, in any order and number, what the rules make of them is the zone's verdict
+/// or nothing. For NSEC3 the names of the chain have different hashes, and no name of the chain shares its hash with another
+/// name that the question concerns (RFC 4035, 5.4; RFC 5155, 8).
+pub fn true_facts_decide_truly()
+    ensures { TrueFactsDecideTruly }
+{}
+
+/// A zone's own answer to a question decides its verdict.
+pub fn own_answers_decide()
+    ensures { OwnAnswersDecide }
+{}
+
+/// A zone says the same by NSEC records as by NSEC3 records without opt-out.
+pub fn both_chains_say_the_same()
+    ensures { BothChainsSayTheSame }
+{}
+
+/// The names that a question concerns are names of at most 255 octets in wire form, as its own is (RFC 1035, 2.3.4): what is asked
+/// of a hasher is asked of such names alone.
+pub fn concerned_are_names()
+    ensures { ConcernedAreNames }
+{}
+
+/// No more names are hashed for a question than its name has labels, the root's counted, and one: the name and its ancestors
+/// each once, and behind them at most the wildcard under the last.
+pub fn few_hashes()
+    ensures { FewHashes }
+{}

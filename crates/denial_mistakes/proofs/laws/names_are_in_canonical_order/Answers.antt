@@ -1,5 +1,0 @@
-use Rattle.denial_mistakes.proofs.NsecMistakes.{wire_octets_falsely}
-use Rattle.denial_mistakes.proofs.laws.names_are_in_canonical_order.Goals as goal
-
-pub returns : goal.returns
-returns c = wire_octets_falsely

@@ -1,9 +1,0 @@
-use Rattle.denial_mistakes.proofs.NsecMistakes.{open_falsely}
-use Rattle.denial_mistakes.proofs.Nsec3Mistakes.{hashed_open_falsely}
-use Rattle.denial_mistakes.proofs.laws.not_all_is_open.Goals as goal
-
-pub returns-clause-nsec : goal.returns-clause-nsec
-returns-clause-nsec c = open_falsely
-
-pub returns-clause-nsec3 : goal.returns-clause-nsec3
-returns-clause-nsec3 c = hashed_open_falsely

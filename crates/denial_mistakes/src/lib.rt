@@ -1,5 +1,0 @@
-//! Wrong rules of denial. Each differs from those of `denial_rules` in one choice and decides falsely: of true facts of a small
-//! zone it makes what the zone does not say.
-#![tactic(auto)]
-
-pub mod laws;

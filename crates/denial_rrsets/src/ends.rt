@@ -1,0 +1,173 @@
+//! Owners and RRsets split off records, by the places at which owners begin where these are known.
+
+ghost use Rattle.std.specs.Prelude.{◌≡◌, ◌≤◌, ◌∷◌, [], drop, if◌then◌else◌, IfSome, MatchOption, Some};
+ghost use Rattle.denial_rrsets.specs.Ends.{AreEnds, first_count};
+ghost use Rattle.denial_rrsets.specs.Groups.{IsGroup, groups, of_one_owner, of_one_set};
+ghost use Rattle.denial_rrsets.specs.Slices.{items_of};
+
+use crate::runs::{ByOwner, BySet, ByType, split_group};
+use crate::slices::SliceRefsOrOwned;
+use names_rdata::data::RecordData;
+use names_traits::to_name::ToName;
+use plain::record::Record;
+
+/// The places at which owners begin behind the first one of some records, the last of so many.
+#[derive(Clone, Copy, Debug, Drop)]
+pub struct Ends<'a> {
+    later: &'a [usize],
+    count: usize,
+}
+
+impl<'a> Ends<'a> {
+    /// Those of all of so many records, by the places at which their owners begin.
+    pub fn new(starts: &'a [usize], count: usize) -> Self
+        ensures later { result.later.now ≡ drop 1 starts.now }
+        ensures count { result.count ≡ count }
+    {
+        let later = match starts.split_first() {
+            Some((_, later)) => later,
+            None => starts,
+        };
+        Ends { later, count }
+    }
+
+    /// How many of the records that are left, so many, the first owner has.
+    fn first_count(self, left: usize) -> usize
+        requires few { left ≤ self.count }
+        ensures { result ≡ first_count self.entry.later.now self.entry.count left }
+    {
+        match self.later.first() {
+            Some(end) => end.saturating_sub(self.count - left),
+            None => left,
+        }
+    }
+
+    /// Those behind some records of the first owner, which may be all that it has.
+    fn left(self, are_all: bool) -> Self
+        ensures later { result.later.now
+            ≡ (if are_all then drop 1 self.entry.later.now else self.entry.later.now) }
+        ensures count { result.count ≡ self.entry.count }
+    {
+        if are_all { self.behind() } else { self }
+    }
+
+    /// Those behind the first owner.
+    fn behind(self) -> Self
+        ensures later { result.later.now ≡ drop 1 self.entry.later.now }
+        ensures count { result.count ≡ self.entry.count }
+    {
+        Ends::new(self.later, self.count)
+    }
+}
+
+/// The first group of records, and those behind it.
+#[derive(Drop)]
+pub struct Parts<'a, N, D> {
+    pub group: SliceRefsOrOwned<'a, Record<N, D>>,
+    pub behind: SliceRefsOrOwned<'a, Record<N, D>>,
+    pub ends: Option<Ends<'a>>,
+}
+
+/// The records of the first owner, and those behind them.
+pub(crate) fn split_owner<'a, N: ToName, D: RecordData>(
+    slice: SliceRefsOrOwned<'a, Record<N, D>>,
+    ends: Option<Ends<'a>>,
+) -> Option<Parts<'a, N, D>>
+    requires { AreEnds N.name ends (items_of slice) }
+    ensures group { IfSome result (λ p. IsGroup (of_one_owner N.name) (items_of p.group)) }
+    ensures parts { let owners = groups (of_one_owner N.name) in
+        MatchOption result (items_of slice.entry ≡ [])
+        (λ p. owners (items_of slice.entry) ≡ items_of p.group ∷ owners (items_of p.behind)) }
+    ensures ends { IfSome result (λ p. AreEnds N.name p.ends (items_of p.behind)) }
+{
+    match ends {
+        Some(ends) => split_owner_at(slice, ends),
+        None => {
+            let (group, behind) = split_group::<Record<N, D>, ByOwner>(slice)?;
+            Some(Parts {
+                group,
+                behind,
+                ends: None,
+            })
+        }
+    }
+}
+
+/// As `split_owner`, by where owners begin.
+fn split_owner_at<'a, N: ToName, D: RecordData>(
+    slice: SliceRefsOrOwned<'a, Record<N, D>>,
+    ends: Ends<'a>,
+) -> Option<Parts<'a, N, D>>
+    requires { AreEnds N.name (Some ends) (items_of slice) }
+    ensures group { IfSome result (λ p. IsGroup (of_one_owner N.name) (items_of p.group)) }
+    ensures parts { let owners = groups (of_one_owner N.name) in
+        MatchOption result (items_of slice.entry ≡ [])
+        (λ p. owners (items_of slice.entry) ≡ items_of p.group ∷ owners (items_of p.behind)) }
+    ensures ends { IfSome result (λ p. AreEnds N.name p.ends (items_of p.behind)) }
+{
+    let left = slice.len();
+    if left == 0 {
+        return None;
+    }
+    let (group, behind) = slice.split_at(ends.first_count(left));
+    Some(Parts {
+        group,
+        behind,
+        ends: Some(ends.behind()),
+    })
+}
+
+/// The records of the first owner and type, and those behind them.
+pub fn split_set<'a, N: ToName, D: RecordData>(
+    slice: SliceRefsOrOwned<'a, Record<N, D>>,
+    ends: Option<Ends<'a>>,
+) -> Option<Parts<'a, N, D>>
+    requires { AreEnds N.name ends (items_of slice) }
+    ensures group { IfSome result (λ p. IsGroup (of_one_set N.name D.type_of) (items_of p.group)) }
+    ensures parts { let sets = groups (of_one_set N.name D.type_of) in
+        MatchOption result (items_of slice.entry ≡ [])
+        (λ p. sets (items_of slice.entry) ≡ items_of p.group ∷ sets (items_of p.behind)) }
+    ensures ends { IfSome result (λ p. AreEnds N.name p.ends (items_of p.behind)) }
+{
+    match ends {
+        Some(ends) => split_set_at(slice, ends),
+        None => {
+            let (group, behind) = split_group::<Record<N, D>, BySet>(slice)?;
+            Some(Parts {
+                group,
+                behind,
+                ends: None,
+            })
+        }
+    }
+}
+
+/// As `split_set`, by where owners begin: types alone are compared.
+fn split_set_at<'a, N: ToName, D: RecordData>(
+    slice: SliceRefsOrOwned<'a, Record<N, D>>,
+    ends: Ends<'a>,
+) -> Option<Parts<'a, N, D>>
+    requires { AreEnds N.name (Some ends) (items_of slice) }
+    ensures group { IfSome result (λ p. IsGroup (of_one_set N.name D.type_of) (items_of p.group)) }
+    ensures parts { let sets = groups (of_one_set N.name D.type_of) in
+        MatchOption result (items_of slice.entry ≡ [])
+        (λ p. sets (items_of slice.entry) ≡ items_of p.group ∷ sets (items_of p.behind)) }
+    ensures ends { IfSome result (λ p. AreEnds N.name p.ends (items_of p.behind)) }
+{
+    let left = slice.len();
+    if left == 0 {
+        return None;
+    }
+    let owned = ends.first_count(left);
+    let (owner, _behind) = slice.split_at(owned);
+    let Some((set, _others)) = split_group::<Record<N, D>, ByType>(owner) else {
+        return None;
+    };
+    let count = set.len();
+    let (group, behind) = slice.split_at(count);
+    Some(Parts {
+        group,
+        behind,
+        ends: Some(ends.left(count == owned)),
+    })
+}

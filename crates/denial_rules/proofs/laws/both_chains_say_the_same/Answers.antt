@@ -1,5 +1,0 @@
-use Rattle.denial_rules.proofs.Complete.{both_chains_say_the_same}
-use Rattle.denial_rules.proofs.laws.both_chains_say_the_same.Goals as goal
-
-pub returns : goal.returns
-returns c = both_chains_say_the_same

@@ -1,5 +1,0 @@
-use Rattle.std.proofs.Common.{length}
-use Rattle.denial_rules.proofs.reference.facts.PlainLink.+closest.Given as goal
-
-abbrev pub decreases-closest : goal.decreases-closest
-decreases-closest l = length l.name.now

@@ -1,5 +1,0 @@
-use Rattle.std.proofs.Common.{length}
-use Rattle.denial_rules.proofs.reference.hashed.+first_beyond.Given as goal
-
-abbrev pub decreases-first_beyond : goal.decreases-first_beyond
-decreases-first_beyond g l = length l.links.now

@@ -1,0 +1,14 @@
+//! The lines of a session of the bench: octets cut into lines and fields, and read as a zone, its records and the
+//! events that follow.
+#![tactic(auto)]
+
+mod event_lines;
+mod fields;
+pub mod form;
+pub mod line_error;
+pub mod lines;
+mod number_fields;
+mod reading;
+pub mod session;
+pub mod zone;
+mod zone_lines;

@@ -1,9 +1,0 @@
-pub mod Dealt
-pub mod FalseRows
-pub mod Handed
-pub mod HonestRows
-pub mod Known
-pub mod OwnKeys
-pub mod Premises
-pub mod Quoted
-pub mod Row

@@ -1,8 +1,0 @@
-use Rattle.honest_cases.proofs.Premises.{all_honest, none_false}
-use Rattle.honest_cases.proofs.laws.all_premises_are_honesty.Goals as goal
-
-pub returns-clause-same : goal.returns-clause-same
-returns-clause-same c = all_honest
-
-pub returns-clause-truly : goal.returns-clause-truly
-returns-clause-truly c = none_false

@@ -1,5 +1,0 @@
-use Rattle.honest_cases.proofs.FalseRows.{handed_out_row}
-use Rattle.honest_cases.proofs.laws.keys_that_are_signed_must_be_published.Goals as goal
-
-pub returns : goal.returns
-returns c = handed_out_row

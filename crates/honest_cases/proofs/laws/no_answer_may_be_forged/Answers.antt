@@ -1,5 +1,0 @@
-use Rattle.honest_cases.proofs.FalseRows.{forged_answer_row}
-use Rattle.honest_cases.proofs.laws.no_answer_may_be_forged.Goals as goal
-
-pub returns : goal.returns
-returns c = forged_answer_row

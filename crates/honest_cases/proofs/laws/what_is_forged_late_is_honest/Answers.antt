@@ -1,5 +1,0 @@
-use Rattle.honest_cases.proofs.HonestRows.{late_row}
-use Rattle.honest_cases.proofs.laws.what_is_forged_late_is_honest.Goals as goal
-
-pub returns : goal.returns
-returns c = late_row

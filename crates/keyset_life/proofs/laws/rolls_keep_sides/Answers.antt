@@ -1,5 +1,0 @@
-use Rattle.keyset_life.proofs.Meets as meets
-use Rattle.keyset_life.proofs.laws.rolls_keep_sides.Goals as goal
-
-pub returns : goal.returns
-returns c = meets.rolls_keep_sides

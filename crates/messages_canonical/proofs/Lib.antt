@@ -1,0 +1,5 @@
+pub mod NamesRead
+pub mod HeadRead
+pub mod Pieces
+pub mod WrittenBack
+pub mod Whole

@@ -1,0 +1,175 @@
+//! The data of records in canonical form.
+ghost use Rattle.std.specs.Prelude.{◌≡◌, ◌≤◌, ◌+◌, ◌++◌, length, slice_index, IfOk, OnOk};
+ghost use Rattle.std.specs.Option.{option_map};
+ghost use Rattle.definitions.specs.Limits.{pointer_limit};
+ghost use Rattle.definitions.specs.Name.{low, wire};
+ghost use Rattle.messages.specs.Message.{name_upto};
+ghost use Rattle.messages.specs.Record.{spelled};
+ghost use Rattle.messages.specs.View.{named};
+ghost use Rattle.names_parsed.specs.Parsed.{parsed_name};
+ghost use Rattle.messages_canonical.specs.Forms.{form_of};
+ghost use Rattle.messages_canonical.specs.Canonical.{PutsData, PutsPart, formed_data, is_canonical_data, octets_upto, part_at, parts_at, suffix_width, width_at};
+
+use crate::form::{Part, form_of};
+use messages::ViewRecord;
+use messages::names::{ParsedName, read_name};
+use names_rdata::composer::{compose_canonical_name, compose_name};
+use names_rdata::rtype::Rtype;
+use std::alloc::{AllocError, Global};
+
+/// Puts the data of a record into a buffer, in the place of what was there, in canonical form; false where their type's form
+/// doesn't read them.
+pub(crate) fn put_data(
+    message: &[u8],
+    record: &ViewRecord,
+    data: &mut Vec<u8>,
+) -> Result<bool, AllocError>
+    ensures { let formed = formed_data pointer_limit message.now (spelled record.now) in
+        IfOk result (λ b. PutsData b data.new.items formed) }
+{
+    let limit = record.start + record.length;
+    if limit > message.len() {
+        return Ok(false);
+    }
+    put_formed(message, record.rtype, record.start, limit, data)
+}
+
+/// The same of data from a place up to a limit.
+fn put_formed(
+    message: &[u8],
+    rtype: Rtype,
+    start: usize,
+    limit: usize,
+    data: &mut Vec<u8>,
+) -> Result<bool, AllocError>
+    requires { limit ≤ length message.now }
+    ensures { let form = form_of rtype (slice_index message.now start) in
+        let formed = parts_at pointer_limit message.now limit form start in
+        IfOk result (λ b. PutsData b data.new.items formed) }
+{
+    data.clear();
+    let first = message.get(start).copied().unwrap_or(0);
+    let mut at = start;
+    for part in form_of(rtype, first) {
+        match put_part(message, *part, at, limit, data)? {
+            Some(behind) => at = behind,
+            None => return Ok(false),
+        }
+    }
+    Ok(at == limit)
+}
+
+/// Whether octets, by themselves, are data of a type in canonical form: its form reads them, all names stand in full, and in
+/// lower case where signatures are made over them so (RFC 4034, 6.2). Data that a signer takes as they are handed in verify
+/// elsewhere only in this form.
+pub fn is_canonical_data(alloc: Global, rtype: Rtype, octets: &[u8]) -> Result<bool, AllocError>
+    ensures { IfOk result (λ b. b ≡ is_canonical_data pointer_limit rtype octets.now) }
+{
+    let mut data = Vec::new(alloc);
+    let is_formed = put_formed(octets, rtype, 0, octets.len(), &mut data)?;
+    Ok(is_formed && data.as_slice() == octets)
+}
+
+/// Puts a part that stands at a place at the end, and gives the place behind it; nothing where no such part ends by the limit.
+fn put_part(
+    message: &[u8],
+    part: Part,
+    at: usize,
+    limit: usize,
+    data: &mut Vec<u8>,
+) -> Result<Option<usize>, AllocError>
+    requires { limit ≤ length message.now }
+    ensures { let is = part_at pointer_limit message.now limit part at in
+        IfOk result (λ o. PutsPart o data.old.items data.new.items is) }
+{
+    match part {
+        Part::Lowered => {
+            let Some((name, behind)) = name_upto(message, at, limit) else {
+                return Ok(None);
+            };
+            put_lowered(&name, data)?;
+            Ok(Some(behind))
+        }
+        Part::Kept => {
+            let Some((name, behind)) = name_upto(message, at, limit) else {
+                return Ok(None);
+            };
+            put_kept(&name, data)?;
+            Ok(Some(behind))
+        }
+        _ => {
+            let Some((octets, behind)) = octets_upto(message, part, at, limit) else {
+                return Ok(None);
+            };
+            data.extend_from_slice(octets)?;
+            Ok(Some(behind))
+        }
+    }
+}
+
+/// The name at a place, and the place behind it, no further than a limit.
+fn name_upto(message: &[u8], at: usize, limit: usize) -> Option<(ParsedName<'_>, usize)>
+    ensures { option_map (λ r. named (parsed_name r.0) r.1) result
+        ≡ name_upto pointer_limit message.now at limit }
+{
+    let (name, behind) = read_name(message, at).ok()?;
+    if behind > limit {
+        return None;
+    }
+    Some((name, behind))
+}
+
+/// Puts a name in full at the end, in lower case.
+fn put_lowered(name: &ParsedName, data: &mut Vec<u8>) -> Result<(), AllocError>
+    ensures { let octets = wire (low (parsed_name name.now)) in
+        OnOk result (data.new.items ≡ data.old.items ++ octets) }
+{
+    match compose_canonical_name(name, data) {
+        Ok(()) => Ok(()),
+        Err(_) => Err(AllocError),
+    }
+}
+
+/// Puts a name in full at the end, as it is spelled.
+pub(crate) fn put_kept(name: &ParsedName, data: &mut Vec<u8>) -> Result<(), AllocError>
+    ensures { OnOk result (data.new.items ≡ data.old.items ++ wire (parsed_name name.now)) }
+{
+    match compose_name(name, data) {
+        Ok(()) => Ok(()),
+        Err(_) => Err(AllocError),
+    }
+}
+
+/// The octets of a part without names, as they stand, and the place behind them.
+fn octets_upto(message: &[u8], part: Part, at: usize, limit: usize) -> Option<(&[u8], usize)>
+    requires { limit ≤ length message.now }
+    ensures { let width = width_at message.now limit part at in
+        option_map (λ r. (r.0.now, r.1)) result ≡ octets_upto message.now limit at width }
+{
+    let width = width_at(message, part, at, limit)?;
+    if limit.checked_sub(at)? < width {
+        return None;
+    }
+    Some((&message[at..at + width], at + width))
+}
+
+/// How many octets a part has, in front of a limit; nothing where its own octets don't say, and for a name.
+fn width_at(message: &[u8], part: Part, at: usize, limit: usize) -> Option<usize>
+    ensures { result ≡ width_at message.now limit part at }
+{
+    match part {
+        Part::Octets(count) => Some(usize::from(count)),
+        Part::Text => message.get(at).map(|len| 1 + usize::from(*len)),
+        Part::Suffix => message.get(at).and_then(|prefix| suffix_width(*prefix)),
+        Part::Rest => Some(limit.saturating_sub(at)),
+        Part::Lowered | Part::Kept => None,
+    }
+}
+
+/// How many octets the length of a prefix and the bits behind it take; nothing where it is no length of one.
+fn suffix_width(prefix: u8) -> Option<usize>
+    ensures { result ≡ suffix_width prefix }
+{
+    let bits = 128u8.checked_sub(prefix)?;
+    Some(1 + (usize::from(bits) + 7) / 8)
+}

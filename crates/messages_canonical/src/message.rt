@@ -1,0 +1,123 @@
+//! Whole messages in canonical form.
+ghost use Rattle.std.specs.Prelude.{◌≡◌, ◌≤◌, ◌++◌, length, map, IfOk, IfErr, OnOk};
+ghost use Rattle.std.specs.List.{flat_map};
+ghost use Rattle.definitions.specs.Limits.{pointer_limit};
+ghost use Rattle.messages.specs.Record.{spelled};
+ghost use Rattle.messages.specs.Rrsig.{record_numbers};
+ghost use Rattle.messages.specs.Written.{record_octets};
+ghost use Rattle.messages_canonical.specs.Canonical.{HasNone, IsCanonical, Writes, canonical_record, canonical_records, head_octets, most_octets, with_data};
+
+use crate::data::{put_data, put_kept};
+use crate::error::CanonicalError;
+use messages::write::push_u16;
+use messages::{MessageView, ViewRecord, read_message_into};
+use names_rdata::rtype::Rtype;
+use numbers::class::Class;
+use numbers::ttl::Ttl;
+use std::alloc::{AllocError, Global};
+
+/// A message has no more octets (RFC 1035, 4.2.2).
+const MOST: usize = 65535;
+
+/// So many octets stand before the question (RFC 1035, 4.1.1).
+const HEADER: usize = 12;
+
+/// The message in canonical form: names in full, those in data in lower case where signatures are made over them so. Header,
+/// question, order and TTLs are as they were, and so are data that their type's form doesn't read, octet for octet.
+///
+/// A message that doesn't read is refused as [`read_message`](messages::read_message) refuses it.
+pub fn canonical_message(alloc: Global, bytes: &[u8]) -> Result<Vec<u8>, CanonicalError>
+    ensures ok { IfOk result (λ v. IsCanonical bytes.now v.items) }
+    ensures none { IfErr result (HasNone bytes.now) }
+{
+    let mut records = Vec::new(alloc);
+    let (view, listed) = read_message_into(bytes, &mut records)?;
+    listed?;
+    let mut octets = Vec::with_capacity(alloc, bytes.len())?;
+    push_head(bytes, &view, &mut octets)?;
+    if !push_records(alloc, bytes, &records, &mut octets)? {
+        return Err(CanonicalError::TooLong);
+    }
+    Ok(octets)
+}
+
+/// Writes the header and the question at the end.
+fn push_head(bytes: &[u8], view: &MessageView, octets: &mut Vec<u8>) -> Result<(), AllocError>
+    ensures { let head = head_octets bytes.now view.now.asked in
+        OnOk result (octets.new.items ≡ octets.old.items ++ head) }
+{
+    octets.extend_from_slice(&bytes[..HEADER.min(bytes.len())])?;
+    let question = view.question();
+    put_kept(&question.name, octets)?;
+    push_u16(octets, question.rtype.to_int())?;
+    push_u16(octets, question.class.to_int())?;
+    Ok(())
+}
+
+/// Writes records at the end; false where a message has no room for them.
+fn push_records(
+    alloc: Global,
+    bytes: &[u8],
+    records: &[ViewRecord],
+    octets: &mut Vec<u8>,
+) -> Result<bool, AllocError>
+    requires { length octets.old.items ≤ most_octets }
+    ensures { let are = canonical_records pointer_limit bytes.now (map spelled records.now) in
+        let more = flat_map record_octets are in
+        IfOk result (λ b. Writes b octets.old.items octets.new.items more) }
+{
+    let mut data = Vec::new(alloc);
+    for record in records {
+        if !push_record(bytes, record, &mut data, octets)? {
+            return Ok(false);
+        }
+    }
+    Ok(true)
+}
+
+/// Writes a record at the end, by a buffer for its data; false where a message has no room for it.
+fn push_record(
+    bytes: &[u8],
+    record: &ViewRecord,
+    data: &mut Vec<u8>,
+    octets: &mut Vec<u8>,
+) -> Result<bool, AllocError>
+    ensures { let more = record_octets (canonical_record pointer_limit bytes.now (spelled record.now)) in
+        IfOk result (λ b. Writes b octets.old.items octets.new.items more) }
+{
+    if put_data(bytes, record, data)? {
+        return push_with_data(record, data, octets);
+    }
+    push_with_data(record, record.octets(bytes), octets)
+}
+
+/// Writes a record with these data at the end; false where a message has no room for it.
+fn push_with_data(
+    record: &ViewRecord,
+    data: &[u8],
+    octets: &mut Vec<u8>,
+) -> Result<bool, AllocError>
+    ensures { let more = record_octets (with_data (spelled record.now) data.now) in
+        IfOk result (λ b. Writes b octets.old.items octets.new.items more) }
+{
+    if data.len() > MOST {
+        return Ok(false);
+    }
+    put_kept(record.owner.name(), octets)?;
+    octets.extend_from_slice(&record_numbers(record.rtype, record.class, record.ttl, data.len()))?;
+    octets.extend_from_slice(data)?;
+    Ok(octets.len() <= MOST)
+}
+
+/// The numbers between a record's owner and its data (RFC 1035, 4.1.3).
+#[tactic(auto, unfolding(messages::specs::Rrsig::record_numbers))]
+fn record_numbers(rtype: Rtype, class: Class, ttl: Ttl, len: usize) -> [u8; 10]
+    requires { len ≤ most_octets }
+    ensures { result ≡ record_numbers rtype class ttl len }
+{
+    let [a, b] = rtype.to_int().to_be_bytes();
+    let [c, d] = class.to_int().to_be_bytes();
+    let [e, f, g, h] = ttl.as_secs().to_be_bytes();
+    let [i, j] = (len as u16).to_be_bytes();
+    [a, b, c, d, e, f, g, h, i, j]
+}

@@ -1,5 +1,0 @@
-use Rattle.names_data.proofs.WrittenNames.{written_names}
-use Rattle.names_data.proofs.laws.names_are_read_back.Goals as goal
-
-pub returns : goal.returns
-returns c = written_names

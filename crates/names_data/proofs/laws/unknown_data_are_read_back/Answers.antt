@@ -1,5 +1,0 @@
-use Rattle.names_data.proofs.WrittenParts.{written_rest}
-use Rattle.names_data.proofs.laws.unknown_data_are_read_back.Goals as goal
-
-pub returns : goal.returns
-returns c = written_rest

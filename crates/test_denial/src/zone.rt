@@ -1,0 +1,144 @@
+//! A small zone: which of its owners are live and kept, and which RRsets it has signed.
+
+use crate::names::{copied, is_above, is_among, label_count, last_labels, under};
+use definitions::reference::Octets;
+use definitions::reference::names::{at_or_above, same};
+use definitions::reference::zone::{PlainRecord, PlainZone};
+use denial_laws::reference::facts::PlainRrset;
+use std::alloc::{AllocError, Global};
+
+const NS: u16 = 2;
+
+const DS: u16 = 43;
+
+/// A record, of whose data no more matters than whose they are: they spell the owner.
+#[derive(Debug, Drop)]
+struct SmallRecord {
+    owner: Vec<Octets>,
+    rtype: u16,
+}
+
+/// A zone.
+#[derive(Debug, Drop)]
+pub struct SmallZone {
+    apex: Vec<Octets>,
+    records: Vec<SmallRecord>,
+}
+
+impl SmallZone {
+    /// A zone without records.
+    pub fn new(alloc: Global, apex: Vec<Octets>) -> SmallZone {
+        SmallZone {
+            apex,
+            records: Vec::new(alloc),
+        }
+    }
+
+    /// Adds a record.
+    pub fn add(&mut self, owner: Vec<Octets>, rtype: u16) -> Result<(), AllocError> {
+        Ok(self.records.push(SmallRecord { owner, rtype })?)
+    }
+
+    /// The apex.
+    pub fn apex(&self) -> &[Octets] {
+        &self.apex
+    }
+
+    /// The zone, as the definitions see it.
+    pub fn plain(&self, alloc: Global) -> Result<PlainZone, AllocError> {
+        let mut records = Vec::new(alloc);
+        for record in &self.records {
+            let bytes = spelled(alloc, &record.owner)?;
+            records.push(PlainRecord::new(alloc, &record.owner, record.rtype, bytes)?)?;
+        }
+        PlainZone::new(alloc, &self.apex, records)
+    }
+
+    fn has(&self, name: &[Octets], rtype: u16) -> bool {
+        self.records
+            .iter()
+            .any(|r| r.rtype == rtype && same(&r.owner, name))
+    }
+
+    fn is_delegation(&self, name: &[Octets]) -> bool {
+        self.has(name, NS) && is_above(&self.apex, name)
+    }
+
+    fn is_below_delegation(&self, name: &[Octets]) -> bool {
+        self.records.iter().any(|r| is_above(&r.owner, name) && self.is_delegation(&r.owner))
+    }
+
+    fn is_live(&self, name: &[Octets]) -> bool {
+        at_or_above(&self.apex, name) && !self.is_below_delegation(name)
+    }
+
+    fn is_kept(&self, excluding: bool, name: &[Octets]) -> bool {
+        let left_out = excluding && self.is_delegation(name) && !self.has(name, DS);
+        self.is_live(name) && !left_out
+    }
+
+    /// The owners that a chain has records of, each once.
+    pub fn kept_owners(
+        &self,
+        alloc: Global,
+        excluding: bool,
+    ) -> Result<Vec<Vec<Octets>>, AllocError> {
+        let mut owners = Vec::new(alloc);
+        for record in &self.records {
+            if self.is_kept(excluding, &record.owner) && !is_among(&owners, &record.owner) {
+                owners.push(copied(alloc, &record.owner)?)?;
+            }
+        }
+        Ok(owners)
+    }
+
+    /// The RRset that the zone has signed for a question, with so many labels, if it has.
+    pub fn signed(
+        &self,
+        alloc: Global,
+        name: &[Octets],
+        rtype: u16,
+        labels: u8,
+    ) -> Result<Option<PlainRrset>, AllocError> {
+        let count = usize::from(labels);
+        if count > label_count(name) {
+            return Ok(None);
+        }
+        if count == label_count(name) {
+            return self.signed_at(alloc, name, rtype, labels);
+        }
+        if count < self.apex.len() {
+            return Ok(None);
+        }
+        let star = under(alloc, b"*", last_labels(name, count))?;
+        self.signed_at(alloc, &star, rtype, labels)
+    }
+
+    fn signed_at(
+        &self,
+        alloc: Global,
+        owner: &[Octets],
+        rtype: u16,
+        labels: u8,
+    ) -> Result<Option<PlainRrset>, AllocError> {
+        if !self.is_live(owner) || !self.has(owner, rtype) {
+            return Ok(None);
+        }
+        if self.is_delegation(owner) && rtype != DS {
+            return Ok(None);
+        }
+        let mut datas = Vec::new(alloc);
+        datas.push(spelled(alloc, owner)?)?;
+        Ok(Some(PlainRrset::new(datas, labels)))
+    }
+}
+
+/// The octets of a name's labels, joined.
+fn spelled(alloc: Global, name: &[Octets]) -> Result<Octets, AllocError> {
+    let mut octets = Vec::new(alloc);
+    for label in name {
+        octets.extend_from_slice(label.as_slice())?;
+        octets.push(b'.')?;
+    }
+    Octets::from_slice(alloc, &octets)
+}

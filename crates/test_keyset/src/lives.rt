@@ -1,0 +1,389 @@
+//! Key lives of a few calls, all of them: what was handed out and isn't retired meets.
+
+use crate::calls::{NewKey, put_key};
+use crate::rows::Column;
+use crate::words::{at, roll};
+use keyset::{Error, KeySet, RollType};
+use names_flat::name::Name;
+use std::alloc::{AllocError, AllocFailed, Global};
+use test_lines::{listed, text};
+use thiserror::Error;
+
+/// Why not all lives are as they have to be.
+#[derive(Debug, Drop, Error)]
+enum Fault {
+    /// Things that were handed out and aren't retired don't meet.
+    #[error("some do not meet")]
+    Apart,
+    /// A call changed the keys and was refused.
+    #[error("a refused call changed the keys")]
+    Changed,
+    #[error("{0}")]
+    Keys(Error),
+}
+
+impl From<Error> for Fault {
+    fn from(error: Error) -> Fault {
+        Fault::Keys(error)
+    }
+}
+
+impl From<AllocError> for Fault {
+    fn from(_error: AllocError) -> Fault {
+        Fault::Keys(Error::Memory)
+    }
+}
+
+impl<T: Drop> From<AllocFailed<T>> for Fault {
+    fn from(_error: AllocFailed<T>) -> Fault {
+        Fault::Keys(Error::Memory)
+    }
+}
+
+/// What is said of all lists of so many accepted calls of some rolls.
+pub fn lives_of(alloc: Global, words: &[&str]) -> Option<String> {
+    let [names, calls] = words else {
+        return None;
+    };
+    let mut rolls = Vec::new(alloc);
+    for name in &listed(alloc, names)? {
+        rolls.push(roll(name)?).ok()?;
+    }
+    match lives(alloc, &rolls, calls.parse::<usize>().ok()?) {
+        Ok(0) => text(alloc, "no list of so many calls"),
+        Ok(_) => text(alloc, "all meet"),
+        Err(fault) => fault.to_string(alloc).ok(),
+    }
+}
+
+/// The TTL of each report, in seconds.
+const TTL: u64 = 2;
+
+/// What a state shows of the keys: a bit for each.
+#[derive(Clone, Copy, PartialEq, Eq)]
+struct Shown {
+    ds: u8,
+    present: u8,
+    signs_keys: u8,
+    signs_zone: u8,
+}
+
+const NAMES: [(&str, u8); 5] = [("K1", 1), ("Z1", 2), ("K2", 4), ("Z2", 8), ("C1", 16)];
+
+fn bits(set: &KeySet, column: Column) -> u8 {
+    let mut bits = 0;
+    for (name, bit) in NAMES {
+        if let Some(key) = set.key(name) {
+            if column.has(key.keytype()) {
+                bits |= bit;
+            }
+        }
+    }
+    bits
+}
+
+fn state_of(set: &KeySet) -> Shown {
+    Shown {
+        ds: bits(set, Column::AtParent),
+        present: bits(set, Column::Present),
+        signs_keys: bits(set, Column::SignsKeys),
+        signs_zone: bits(set, Column::SignsZone),
+    }
+}
+
+/// What is handed out of a zone.
+#[derive(Clone, Copy, PartialEq, Eq)]
+pub enum Thing {
+    DsSet,
+    DnskeyAnswer,
+    ZoneAnswer,
+}
+
+fn content(thing: Thing, shown: Shown) -> (u8, u8) {
+    match thing {
+        Thing::DsSet => (shown.ds, 0),
+        Thing::DnskeyAnswer => (shown.present, shown.signs_keys),
+        Thing::ZoneAnswer => (shown.signs_zone, 0),
+    }
+}
+
+#[derive(Clone, Copy, PartialEq, Eq)]
+enum Call {
+    Start,
+    Report1,
+    Wait1,
+    Report2,
+    Wait2,
+    Finish,
+}
+
+const CALLS: [Call; 6] = [
+    Call::Start,
+    Call::Report1,
+    Call::Wait1,
+    Call::Report2,
+    Call::Wait2,
+    Call::Finish,
+];
+
+impl Call {
+    /// How much later than the call before it may come, in seconds.
+    fn latest(self) -> u64 {
+        match self {
+            Call::Wait1 | Call::Wait2 => TTL,
+            _ => 0,
+        }
+    }
+}
+
+#[derive(Clone, Copy)]
+struct Made {
+    call: Call,
+    roll: RollType,
+    now: u64,
+}
+
+fn olds(roll: RollType) -> &'static [&'static str] {
+    match roll {
+        RollType::KskRoll | RollType::KskDoubleDsRoll => &["K1"],
+        RollType::ZskRoll | RollType::ZskDoubleSignatureRoll => &["Z1"],
+        RollType::CskRoll | RollType::AlgorithmRoll => &["K1", "Z1"],
+    }
+}
+
+fn news(roll: RollType) -> &'static [&'static str] {
+    match roll {
+        RollType::KskRoll | RollType::KskDoubleDsRoll => &["K2"],
+        RollType::ZskRoll | RollType::ZskDoubleSignatureRoll => &["Z2"],
+        RollType::CskRoll | RollType::AlgorithmRoll => &["C1"],
+    }
+}
+
+fn is_accepted(set: &mut KeySet, made: Made) -> bool {
+    let now = at(made.now);
+    let ttl = TTL as u32;
+    match made.call {
+        Call::Start => set
+            .start_roll(made.roll, olds(made.roll), news(made.roll), &now)
+            .is_ok(),
+        Call::Report1 => set.propagation1_complete(made.roll, ttl, &now).is_ok(),
+        Call::Wait1 => set.cache_expired1(made.roll, &now).is_ok(),
+        Call::Report2 => set.propagation2_complete(made.roll, ttl, &now).is_ok(),
+        Call::Wait2 => set.cache_expired2(made.roll, &now).is_ok(),
+        Call::Finish => set.roll_done(made.roll).is_ok(),
+    }
+}
+
+/// The things of which a roll's first report says that they are everywhere.
+pub fn in_report1(roll: RollType, thing: Thing) -> bool {
+    match roll {
+        RollType::KskRoll | RollType::ZskRoll | RollType::CskRoll => thing == Thing::DnskeyAnswer,
+        RollType::KskDoubleDsRoll => thing == Thing::DsSet,
+        RollType::ZskDoubleSignatureRoll | RollType::AlgorithmRoll => thing != Thing::DsSet,
+    }
+}
+
+/// The same of its second report.
+pub fn in_report2(roll: RollType, thing: Thing) -> bool {
+    match roll {
+        RollType::KskRoll | RollType::AlgorithmRoll => thing == Thing::DsSet,
+        RollType::KskDoubleDsRoll => thing == Thing::DnskeyAnswer,
+        RollType::ZskRoll => thing == Thing::ZoneAnswer,
+        RollType::ZskDoubleSignatureRoll => thing != Thing::DsSet,
+        RollType::CskRoll => thing != Thing::DnskeyAnswer,
+    }
+}
+
+/// How many calls there are up to the last of this kind before a place.
+fn last_call(steps: &[Made], place: usize, call: Call, roll: RollType) -> usize {
+    let mut last = 0;
+    for (before, step) in steps.iter().enumerate() {
+        if before < place && step.call == call && step.roll == roll {
+            last = before.saturating_add(1);
+        }
+    }
+    last
+}
+
+/// Whether what was handed out in a state changed up to and with a call.
+fn is_replaced(states: &[Shown], thing: Thing, state: usize, call: usize) -> bool {
+    let mut before = None;
+    let mut changed = false;
+    for (place, shown) in states.iter().enumerate() {
+        let now = content(thing, *shown);
+        if state < place && place <= call && before != Some(now) {
+            changed = true;
+        }
+        before = Some(now);
+    }
+    changed
+}
+
+fn is_retired(states: &[Shown], steps: &[Made], thing: Thing, state: usize, moment: u64) -> bool {
+    let mut retired = false;
+    for (place, step) in steps.iter().enumerate() {
+        let began = match step.call {
+            Call::Report1 if in_report1(step.roll, thing) => Some(Call::Start),
+            Call::Report2 if in_report2(step.roll, thing) => Some(Call::Wait1),
+            _ => None,
+        };
+        if let Some(call) = began {
+            if step.now.saturating_add(TTL) <= moment {
+                let last = last_call(steps, place, call, step.roll);
+                if is_replaced(states, thing, state, last) {
+                    retired = true;
+                }
+            }
+        }
+    }
+    retired
+}
+
+fn live(
+    alloc: Global,
+    states: &[Shown],
+    steps: &[Made],
+    thing: Thing,
+    moment: u64,
+) -> Result<Vec<Shown>, Fault> {
+    let mut live = Vec::new(alloc);
+    for (place, shown) in states.iter().enumerate() {
+        if !is_retired(states, steps, thing, place, moment) {
+            live.push(*shown)?;
+        }
+    }
+    Ok(live)
+}
+
+/// Whether the DS set of one state, the DNSKEY answer of another and a zone answer of a third fit together.
+fn meet(ds: Shown, keys: Shown, zone: Shown) -> bool {
+    ds.ds & keys.present & keys.signs_keys != 0 && keys.present & zone.signs_zone != 0
+}
+
+fn all_meet(alloc: Global, states: &[Shown], steps: &[Made], moment: u64) -> Result<bool, Fault> {
+    let ds_sets = live(alloc, states, steps, Thing::DsSet, moment)?;
+    let keys = live(alloc, states, steps, Thing::DnskeyAnswer, moment)?;
+    let zones = live(alloc, states, steps, Thing::ZoneAnswer, moment)?;
+    let mut all = true;
+    for ds in &ds_sets {
+        for key in &keys {
+            for zone in &zones {
+                if ds.ds != 0 && !meet(*ds, *key, *zone) {
+                    all = false;
+                }
+            }
+        }
+    }
+    Ok(all)
+}
+
+/// Adds a key of algorithm 13, made at 0 and available.
+fn add(
+    alloc: Global,
+    set: &mut KeySet,
+    kind: &str,
+    reference: &str,
+    key_tag: u16,
+) -> Result<(), Error> {
+    let reference = String::from_str(alloc, reference)?;
+    put_key(set, kind, NewKey::plain(reference, key_tag))
+}
+
+/// K1 and Z1 in use, with nothing of before left.
+fn rolled_in(alloc: Global) -> Result<KeySet, Error> {
+    let mut set = KeySet::new(alloc, Name::root(alloc).map_err(|_| Error::Memory)?);
+    add(alloc, &mut set, "ksk", "K1", 0)?;
+    add(alloc, &mut set, "zsk", "Z1", 1)?;
+    let first = RollType::AlgorithmRoll;
+    set.start_roll(first, &[], &["K1", "Z1"], &at(0))?;
+    set.propagation1_complete(first, 0, &at(0))?;
+    set.cache_expired1(first, &at(0))?;
+    set.propagation2_complete(first, 0, &at(0))?;
+    set.cache_expired2(first, &at(0))?;
+    set.roll_done(first)?;
+    Ok(set)
+}
+
+/// The same with fresh keys beside them.
+fn in_use(alloc: Global) -> Result<KeySet, Error> {
+    let mut set = rolled_in(alloc)?;
+    add(alloc, &mut set, "ksk", "K2", 2)?;
+    add(alloc, &mut set, "zsk", "Z2", 3)?;
+    add(alloc, &mut set, "csk", "C1", 4)?;
+    Ok(set)
+}
+
+/// The states of some calls, if the last was accepted; refused calls change nothing.
+fn states_of(alloc: Global, steps: &[Made]) -> Result<Option<Vec<Shown>>, Fault> {
+    let mut set = in_use(alloc)?;
+    let mut states = Vec::new(alloc);
+    states.push(state_of(&set))?;
+    let mut accepted = true;
+    for step in steps {
+        let before = state_of(&set);
+        accepted = is_accepted(&mut set, *step);
+        if accepted {
+            states.push(state_of(&set))?;
+        } else if before != state_of(&set) {
+            return Err(Fault::Changed);
+        }
+    }
+    Ok(if accepted { Some(states) } else { None })
+}
+
+fn with_call(alloc: Global, steps: &[Made], made: Made) -> Result<Vec<Made>, Fault> {
+    let mut longer = Vec::with_capacity(alloc, 1)?;
+    for step in steps {
+        longer.push(*step)?;
+    }
+    longer.push(made)?;
+    Ok(longer)
+}
+
+/// The list with one call more, if that is accepted; checked at its moment and behind it.
+fn one_longer(alloc: Global, list: &[Made], made: Made) -> Result<Option<Vec<Made>>, Fault> {
+    let steps = with_call(alloc, list, made)?;
+    let Some(states) = states_of(alloc, steps.as_slice())? else {
+        return Ok(None);
+    };
+    for later in [0, 1, TTL] {
+        let moment = made.now.saturating_add(later);
+        if !all_meet(alloc, states.as_slice(), steps.as_slice(), moment)? {
+            return Err(Fault::Apart);
+        }
+    }
+    Ok(Some(steps))
+}
+
+/// All lists of accepted calls of these rolls that are one call longer.
+fn longer(alloc: Global, lists: &[Vec<Made>], rolls: &[RollType]) -> Result<Vec<Vec<Made>>, Fault> {
+    let mut next = Vec::new(alloc);
+    for list in lists {
+        let last = list.as_slice().last().map_or(0, |made| made.now);
+        for roll in rolls {
+            for call in CALLS {
+                for later in 0..=call.latest() {
+                    let made = Made {
+                        call,
+                        roll: *roll,
+                        now: last.saturating_add(later),
+                    };
+                    if let Some(steps) = one_longer(alloc, list.as_slice(), made)? {
+                        next.push(steps)?;
+                    }
+                }
+            }
+        }
+    }
+    Ok(next)
+}
+
+/// How many lists there are of so many calls.
+fn lives(alloc: Global, rolls: &[RollType], calls: usize) -> Result<usize, Fault> {
+    let mut lists = Vec::new(alloc);
+    lists.push(Vec::new(alloc))?;
+    for _ in 0..calls {
+        lists = longer(alloc, lists.as_slice(), rolls)?;
+    }
+    Ok(lists.len())
+}

@@ -1,0 +1,96 @@
+//! Reads lines of names, messages, keys and zones and prints what is read, written and answered, so that it is compared with
+//! rows of the standards and what was worked out by hand.
+//!
+//! Names are texts, octets hexadecimal digits (`-` for none), numbers decimal, lists joined by commas:
+//!
+//! - `name OCTETS PLACE`: the name at a place of a message as spelled, in canonical form, and the place behind it;
+//!   `is OCTETS PLACE NAME`: whether it is this one. `flat OCTETS PLACE`: the same of octets without pointers;
+//!   `whole OCTETS`: the name that octets are, and how many labels it has.
+//! - `compare NAME NAME`: how the first stands to the second, how that to the first and to its copy, and whether the first is
+//!   above the second. `parts NAME COUNT`: how many labels a name has and a signature counts, and how many octets; whether its
+//!   first label is a star, whether any is, and the wildcard below it; its last labels; its octets, spelled and canonical.
+//! - `message OCTETS`: what a message asks, and each record with the place of its data; `data OCTETS`: the canonical data of
+//!   the first record, and what a link or signature says; `write NAME TYPE CLASS OWNER TTL OCTETS`: a message of one record;
+//!   `numbers NUMBER NUMBER`: of 16 and of 32 bits, as they are written. `canonical OCTETS`: the message in canonical form.
+//! - `key FLAGS ALGORITHM OCTETS`, `key-data OCTETS`: a key with its tag, whether it is a zone key, and its data.
+//!   `ranked OCTETS,..`: data in order; `digests TAG,..`: DS records in order.
+//! - `fields RRSIG`: the fields of a signature, spelled and canonical; `signed RRSIG OWNER OCTETS,..`: what it is made over.
+//! - `zone NAME`: begins a zone; `soa SERIAL`, `ns OWNER TTL SERVER`, `rr OWNER CLASS TTL TYPE OCTETS`: its records;
+//!   `nsec3 ITERATIONS SALT OPTOUT LIMIT`: asks for a chain of hashes, by SHA-1, instead of one of names; `accept`: makes it.
+//!   Then `ask NAME TYPE`: the flags and RRsets of the answer, the data of each as written and in canonical form;
+//!   `has NAME TYPE`, `exists NAME`, `ttl NAME TYPE`, `apex`.
+//!
+//! Each line is printed, and the answer behind it. Lines that begin with `#` and empty ones are printed alone.
+#![tactic(auto)]
+
+mod keys;
+mod name_answers;
+mod read;
+mod records;
+mod words;
+mod zone;
+
+use denial_nsec3_sha1::hasher::Sha1Hasher;
+use std::alloc::Global;
+use std::io;
+use test_lines::{first_word, reply_to_each_line, words};
+use zone::Section;
+
+/// What is printed behind a line, if it can be read.
+fn reply(alloc: Global, section: &mut Section<'_>, line: &str) -> Option<String> {
+    let (name, rest) = first_word(line);
+    match name {
+        "name" | "is" | "flat" | "whole" | "compare" | "parts" => of_names(alloc, name, rest),
+        "message" | "data" | "write" | "numbers" | "canonical" => of_messages(alloc, name, rest),
+        "key" | "key-data" | "ranked" | "digests" | "fields" | "signed" => {
+            of_keys(alloc, name, rest)
+        }
+        _ => section.reply(alloc, name, rest),
+    }
+}
+
+fn of_names(alloc: Global, name: &str, rest: &str) -> Option<String> {
+    let words = words(alloc, rest)?;
+    match (name, words.as_slice()) {
+        ("name", [octets, place]) => read::read(alloc, octets, place),
+        ("is", [octets, place, name]) => read::is_name(alloc, octets, place, name),
+        ("flat", [octets, place]) => read::at_place(alloc, octets, place),
+        ("whole", [octets]) => read::whole(alloc, octets),
+        ("compare", [first, second]) => name_answers::compare(alloc, first, second),
+        ("parts", [name, count]) => name_answers::parts(alloc, name, count),
+        _ => None,
+    }
+}
+
+fn of_messages(alloc: Global, name: &str, rest: &str) -> Option<String> {
+    let words = words(alloc, rest)?;
+    match (name, words.as_slice()) {
+        ("message", [octets]) => records::message(alloc, octets),
+        ("data", [octets]) => records::data(alloc, octets),
+        ("write", words) => records::written(alloc, words),
+        ("numbers", [first, second]) => records::numbers(alloc, first, second),
+        ("canonical", [octets]) => records::canonical(alloc, octets),
+        _ => None,
+    }
+}
+
+fn of_keys(alloc: Global, name: &str, rest: &str) -> Option<String> {
+    let words = words(alloc, rest)?;
+    match (name, words.as_slice()) {
+        ("key", [flags, algorithm, octets]) => keys::key(alloc, flags, algorithm, octets),
+        ("key-data", [octets]) => keys::key_of(alloc, octets),
+        ("ranked", [list]) => keys::ranked(alloc, list),
+        ("digests", [tags]) => keys::digests(alloc, tags),
+        ("fields", [rrsig]) => keys::fields(alloc, rrsig),
+        ("signed", [rrsig, owner, list]) => keys::signed(alloc, rrsig, owner, list),
+        _ => None,
+    }
+}
+
+fn main(rt: HostRuntime) -> io::Result<()> {
+    let hasher = Sha1Hasher;
+    let mut section = Section::new(rt.alloc(), &hasher);
+    reply_to_each_line(&rt, rt.alloc(), |alloc, line| {
+        reply(alloc, &mut section, line)
+    })
+}

@@ -1,0 +1,109 @@
+//! Messages and their records.
+
+use crate::words::{name_of, wire_of};
+use messages::write::{push_header, push_question, push_record, push_u16, push_u32};
+use messages::{MessageView, ViewRecord, read_message};
+use messages_canonical::canonical_message;
+use names::Rtype;
+use plain::{Class, Ttl};
+use std::alloc::Global;
+use test_lines::{octets_of, printed, refused};
+
+/// What a message asks, and its records.
+pub fn message(alloc: Global, octets: &str) -> Option<String> {
+    let octets = octets_of(alloc, octets)?;
+    match read_message(&octets) {
+        Ok(view) => contents(alloc, &octets, &view),
+        Err(error) => refused(alloc, &error),
+    }
+}
+
+/// A message in canonical form: its octets, and what they read as.
+pub fn canonical(alloc: Global, octets: &str) -> Option<String> {
+    let octets = octets_of(alloc, octets)?;
+    match canonical_message(alloc, &octets) {
+        Ok(octets) => {
+            let view = read_message(&octets).ok()?;
+            let (digits, contents) = (printed(alloc, &octets)?, contents(alloc, &octets, &view)?);
+            format!(in alloc; "{digits}: {contents}").ok()
+        }
+        Err(error) => refused(alloc, &error),
+    }
+}
+
+fn contents(alloc: Global, octets: &[u8], view: &MessageView<'_>) -> Option<String> {
+    let asked = view.question();
+    let name = wire_of(alloc, &asked.name)?;
+    let (rtype, class, count) = (
+        asked.rtype.to_int(),
+        asked.class.to_int(),
+        view.record_count(),
+    );
+    let mut text = format!(in alloc; "{name} {rtype} {class}, {count} records").ok()?;
+    for record in view.records() {
+        text.push_str("; ").ok()?;
+        text.push_str(&one_record(alloc, octets, &record)?).ok()?;
+    }
+    Some(text)
+}
+
+fn one_record(alloc: Global, message: &[u8], record: &ViewRecord<'_>) -> Option<String> {
+    let owner = wire_of(alloc, record.owner.name())?;
+    let (rtype, class) = (record.rtype.to_int(), record.class.to_int());
+    let (ttl, start) = (record.ttl.as_secs(), record.start);
+    let data = printed(alloc, record.octets(message))?;
+    format!(in alloc; "{owner} {rtype} {class} {ttl} {data} at {start}").ok()
+}
+
+/// The canonical data of the first record of a message; and what they say, of a link and a signature.
+pub fn data(alloc: Global, octets: &str) -> Option<String> {
+    let octets = octets_of(alloc, octets)?;
+    let record = read_message(&octets).ok()?.records().next()?;
+    let canonical = printed(alloc, &record.canonical_data(alloc, &octets).ok()??)?;
+    let borrowed = record.canonical_cow(alloc, &octets).ok()??;
+    if printed(alloc, borrowed.as_slice())? != canonical {
+        return format!(in alloc; "{canonical}, but borrowed otherwise").ok();
+    }
+    match said(alloc, &octets, &record)? {
+        Some(said) => format!(in alloc; "{canonical}; {said}").ok(),
+        None => Some(canonical),
+    }
+}
+
+fn said(alloc: Global, octets: &[u8], record: &ViewRecord<'_>) -> Option<Option<String>> {
+    match record.rtype.to_int() {
+        46 => Some(Some(record.signature(octets)?.to_string(alloc).ok()?)),
+        47 => Some(Some(record.link(octets)?.to_string(alloc).ok()?)),
+        _ => Some(None),
+    }
+}
+
+/// A message that asks for the type and class of one record and has it.
+pub fn written(alloc: Global, words: &[&str]) -> Option<String> {
+    let [name, rtype, class, owner, ttl, octets] = words else {
+        return None;
+    };
+    let (name, owner) = (name_of(alloc, name)?, name_of(alloc, owner)?);
+    let rtype = Rtype::from_int(rtype.parse::<u16>().ok()?);
+    let class = Class::from_int(class.parse::<u16>().ok()?);
+    let (ttl, octets) = (
+        Ttl::from_secs(ttl.parse::<u32>().ok()?),
+        octets_of(alloc, octets)?,
+    );
+    if octets.len() > 65_535 {
+        return None;
+    }
+    let mut out = Vec::new(alloc);
+    push_header(&mut out, 0x8400, 1, 0).ok()?;
+    push_question(&mut out, &name, rtype, class).ok()?;
+    push_record(&mut out, &owner, rtype, class, ttl, &octets).ok()?;
+    printed(alloc, &out)
+}
+
+/// Two numbers as they are written.
+pub fn numbers(alloc: Global, first: &str, second: &str) -> Option<String> {
+    let mut out = Vec::new(alloc);
+    push_u16(&mut out, first.parse::<u16>().ok()?).ok()?;
+    push_u32(&mut out, second.parse::<u32>().ok()?).ok()?;
+    printed(alloc, &out)
+}

@@ -1,0 +1,192 @@
+//! What the lines so far handed in.
+
+use crate::judging::{IN, Outcome, outcome_of};
+use crate::signatures::Signatures;
+use crate::tally::Tally;
+use crate::words::{ds_set, nothing};
+use crate::zone::{Asked, Zone};
+use answer_judge_octets::OctetCase;
+use std::alloc::Global;
+use test_lines::{octets_of, text};
+
+/// How an answer is judged besides.
+#[derive(Clone, Copy)]
+struct Flags {
+    one_moment: bool,
+    as_received: bool,
+}
+
+/// As every validator does.
+const PLAIN: Flags = Flags {
+    one_moment: false,
+    as_received: false,
+};
+
+#[derive(Drop)]
+pub struct Desk {
+    signatures: Signatures,
+    zone: Option<Zone>,
+    asked: Option<Asked>,
+    /// The answer that is held.
+    answer: Vec<u8>,
+    tally: Tally,
+}
+
+impl Desk {
+    pub fn new(alloc: Global) -> Desk {
+        Desk {
+            signatures: Signatures::new(alloc),
+            zone: None,
+            asked: None,
+            answer: Vec::new(alloc),
+            tally: Tally::new(),
+        }
+    }
+
+    /// A line of the table of signatures.
+    pub fn take_signature(&mut self, alloc: Global, name: &str, words: &[&str]) -> Option<String> {
+        match name {
+            "key" => self.signatures.take_key(alloc, words)?,
+            _ => self.signatures.take_signature(alloc, words)?,
+        }
+        nothing(alloc)
+    }
+
+    /// A line of a zone.
+    pub fn take_zone(
+        &mut self,
+        alloc: Global,
+        line: &str,
+        name: &str,
+        words: &[&str],
+    ) -> Option<String> {
+        match name {
+            "zone" => self.zone = Some(Zone::read(alloc, words)?),
+            "ds" => self.zone.as_mut()?.take_ds(alloc, words)?,
+            _ => self.zone.as_mut()?.take_keys(alloc, words)?,
+        }
+        text(alloc, line)
+    }
+
+    /// A question, and what the zone says of it.
+    pub fn ask(&mut self, alloc: Global, line: &str, words: &[&str]) -> Option<String> {
+        self.asked = Some(Asked::read(alloc, words)?);
+        text(alloc, line)
+    }
+
+    /// Holds an answer.
+    pub fn hold(&mut self, alloc: Global, words: &[&str]) -> Option<String> {
+        let [octets] = words else {
+            return None;
+        };
+        self.answer = octets_of(alloc, octets)?;
+        nothing(alloc)
+    }
+
+    /// How many were judged so far.
+    pub fn told(&self, alloc: Global) -> Option<String> {
+        self.tally.told(alloc)
+    }
+
+    /// A line that judges the answer that is held, as it is or altered.
+    pub fn judge_line(&mut self, alloc: Global, name: &str, words: &[&str]) -> Option<String> {
+        if name == "answer" {
+            self.hold(alloc, words)?;
+            let outcome = self.as_held(alloc)?;
+            return self.tell(alloc, name, outcome);
+        }
+        let kind = words.first()?;
+        let label = format!(in alloc; "{name} {kind}").ok()?;
+        let outcome = self.altered(alloc, name, words)?;
+        self.tell(alloc, &label, outcome)
+    }
+
+    /// Counts what was said, behind what was judged.
+    fn tell(&mut self, alloc: Global, label: &str, outcome: Outcome) -> Option<String> {
+        self.tally.count(outcome.said);
+        let text = outcome.text;
+        format!(in alloc; "{label}: {text}").ok()
+    }
+
+    /// What is said of an answer beside a DS set, at a moment.
+    fn outcome(&self, alloc: Global, ds: &[u8], answer: &[u8], moment: u64) -> Option<Outcome> {
+        self.outcome_with(alloc, ds, answer, moment, PLAIN)
+    }
+
+    /// The same, judged so.
+    fn outcome_with(
+        &self,
+        alloc: Global,
+        ds: &[u8],
+        answer: &[u8],
+        moment: u64,
+        flags: Flags,
+    ) -> Option<Outcome> {
+        let (zone, asked) = (self.zone.as_ref()?, self.asked.as_ref()?);
+        let case = OctetCase {
+            size: size_of::<OctetCase>(),
+            apex: &zone.apex,
+            ds,
+            dnskey: &zone.keys,
+            answer,
+            name: &asked.name,
+            checked: &[],
+            moment,
+            rtype: asked.rtype,
+            class: IN,
+            limit: zone.limit,
+            one_moment: u32::from(flags.one_moment),
+            as_received: u32::from(flags.as_received),
+        };
+        outcome_of(alloc, &self.signatures, &case, &asked.verdict)
+    }
+
+    /// What is said of the answer that is held.
+    fn as_held(&self, alloc: Global) -> Option<Outcome> {
+        let zone = self.zone.as_ref()?;
+        self.outcome(alloc, &zone.ds, &self.answer, zone.moment)
+    }
+
+    /// What is said of it altered.
+    fn altered(&self, alloc: Global, name: &str, words: &[&str]) -> Option<Outcome> {
+        let zone = self.zone.as_ref()?;
+        match (name, words) {
+            ("altered", [_kind, octets]) => {
+                let octets = octets_of(alloc, octets)?;
+                self.outcome(alloc, &zone.ds, &octets, zone.moment)
+            }
+            ("cut", [count]) => {
+                let left = self.answer.len().checked_sub(count.parse::<usize>().ok()?)?;
+                self.outcome(alloc, &zone.ds, self.answer.get(..left)?, zone.moment)
+            }
+            ("at", [now]) => {
+                self.outcome(alloc, &zone.ds, &self.answer, now.parse::<u64>().ok()?)
+            }
+            ("beside", [list]) => {
+                let set = ds_set(alloc, list)?;
+                self.outcome(alloc, &set, &self.answer, zone.moment)
+            }
+            ("with", ["one-moment"]) => self.as_held_with(
+                alloc,
+                Flags {
+                    one_moment: true,
+                    ..PLAIN
+                },
+            ),
+            ("with", ["as-received"]) => self.as_held_with(
+                alloc,
+                Flags {
+                    as_received: true,
+                    ..PLAIN
+                },
+            ),
+            _ => None,
+        }
+    }
+
+    /// What is said of the answer that is held, judged so.
+    fn as_held_with(&self, alloc: Global, flags: Flags) -> Option<Outcome> {
+        let zone = self.zone.as_ref()?;
+        self.outcome_with(alloc, &zone.ds, &self.answer, zone.moment, flags)
+    }
+}

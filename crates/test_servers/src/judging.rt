@@ -1,0 +1,178 @@
+//! Judgements, their signatures looked up as they are asked for.
+
+use crate::signatures::Signatures;
+use crate::tally::Said;
+use answer_judge_octets::{OctetCase, ReplyCode, Report, judge_octets};
+use std::alloc::Global;
+use test_lines::{first_word, text};
+
+/// The class IN (RFC 1035, 3.2.4).
+pub const IN: u16 = 1;
+
+/// A buffer of so many octets is handed in at first, and a larger one where it is too small.
+const ROOM: usize = 64;
+
+/// A reply that asks for nothing more.
+#[derive(Drop)]
+struct LastReply {
+    code: ReplyCode,
+    octets: Vec<u8>,
+    verifications: u32,
+    hashes: u32,
+}
+
+/// The reply to a case, once each signature that was asked for was looked up; `checked` of the case is not looked at.
+fn last_reply(alloc: Global, signatures: &Signatures, case: &OctetCase) -> Option<LastReply> {
+    let mut checked = Vec::new(alloc);
+    let mut out = Vec::from_elem(alloc, 0, ROOM).ok()?;
+    for _ in 0..u64::MAX {
+        let (code, report) = reply_to(alloc, case, &checked, &mut out);
+        let octets = out.get(..report.len);
+        match code {
+            ReplyCode::BufferTooSmall => out = Vec::from_elem(alloc, 0, report.len).ok()?,
+            ReplyCode::Ask => put_all_answered(&mut checked, signatures, octets?)?,
+            _ => {
+                return Some(LastReply {
+                    code,
+                    octets: octets?.to_vec(alloc).ok()?,
+                    verifications: report.verifications,
+                    hashes: report.hashes,
+                });
+            }
+        }
+    }
+    None
+}
+
+/// One reply to a case with these signatures.
+fn reply_to(
+    alloc: Global,
+    case: &OctetCase,
+    checked: &[u8],
+    out: &mut [u8],
+) -> (ReplyCode, Report) {
+    let mut report = Report {
+        len: 0,
+        verifications: 0,
+        hashes: 0,
+    };
+    let case = OctetCase {
+        size: case.size,
+        apex: case.apex,
+        ds: case.ds,
+        dnskey: case.dnskey,
+        answer: case.answer,
+        name: case.name,
+        checked,
+        moment: case.moment,
+        rtype: case.rtype,
+        class: case.class,
+        limit: case.limit,
+        one_moment: case.one_moment,
+        as_received: case.as_received,
+    };
+    let code = judge_octets(alloc, &case, out, &mut report);
+    (code, report)
+}
+
+/// Puts entries that were asked for at the end, their last octets set where the signatures pass.
+fn put_all_answered(checked: &mut Vec<u8>, signatures: &Signatures, entries: &[u8]) -> Option<()> {
+    let mut rest = entries;
+    for _ in 0..entries.len() {
+        if rest.is_empty() {
+            break;
+        }
+        let (entry, behind) = rest.split_at_checked(entry_len(rest)?)?;
+        put_answered(checked, signatures, entry)?;
+        rest = behind;
+    }
+    Some(())
+}
+
+/// How many octets the first entry has: key and signature behind their lengths in two octets, what is signed behind its length
+/// in four, and one.
+fn entry_len(entries: &[u8]) -> Option<usize> {
+    let (len, rest) = entries.split_first_chunk::<2>()?;
+    let rest = rest.get(usize::from(u16::from_be_bytes(*len))..)?;
+    let (len, rest) = rest.split_first_chunk::<4>()?;
+    let rest = rest.get(usize::try_from(u32::from_be_bytes(*len)).ok()?..)?;
+    let (len, rest) = rest.split_first_chunk::<2>()?;
+    let rest = rest.get(usize::from(u16::from_be_bytes(*len))..)?;
+    entries.len().checked_sub(rest.len().checked_sub(1)?)
+}
+
+/// Puts an entry that was asked for at the end, its last octet set where the signature passes.
+fn put_answered(checked: &mut Vec<u8>, signatures: &Signatures, entry: &[u8]) -> Option<()> {
+    let (_unset, head) = entry.split_last()?;
+    checked.extend_from_slice(head).ok()?;
+    checked.push(u8::from(signatures.passes(entry))).ok()
+}
+
+/// What is said of an answer, and how it is printed.
+#[derive(Drop)]
+pub struct Outcome {
+    pub said: Said,
+    pub text: String,
+}
+
+/// What the judge says, beside what the zone says, and how often was verified and hashed.
+pub fn outcome_of(
+    alloc: Global,
+    signatures: &Signatures,
+    case: &OctetCase,
+    zone: &str,
+) -> Option<Outcome> {
+    let replied = last_reply(alloc, signatures, case)?;
+    let words = words_of(alloc, &replied)?;
+    let said = compared(replied.code, &words, zone);
+    let words = told(alloc, said, &words)?;
+    let (verifications, hashes) = (replied.verifications, replied.hashes);
+    let text = format!(in alloc; "{words}; {verifications} verified, {hashes} hashed").ok()?;
+    Some(Outcome { said, text })
+}
+
+/// Whether a verdict is the zone's, data and all.
+fn compared(code: ReplyCode, words: &str, zone: &str) -> Said {
+    match code {
+        ReplyCode::Unsigned => Said::Unsigned,
+        ReplyCode::Records | ReplyCode::NoType | ReplyCode::NoName => as_zone(words, zone),
+        ReplyCode::StarRecords | ReplyCode::StarNoType => as_zone(words, zone),
+        ReplyCode::Delegated | ReplyCode::Open => as_zone(words, zone),
+        _ => Said::Refused,
+    }
+}
+
+fn as_zone(words: &str, zone: &str) -> Said {
+    if words == zone {
+        Said::AsZone
+    } else {
+        Said::Otherwise
+    }
+}
+
+/// What was said in print; of the zone's verdict its name alone.
+fn told(alloc: Global, said: Said, words: &str) -> Option<String> {
+    let (name, _data) = first_word(words);
+    match said {
+        Said::AsZone => format!(in alloc; "{name} as the zone says").ok(),
+        Said::Otherwise => format!(in alloc; "{words}, not as the zone says").ok(),
+        Said::Unsigned => text(alloc, words),
+        Said::Refused => format!(in alloc; "refused {words}").ok(),
+    }
+}
+
+/// A code, and the data of its octets joined by commas.
+fn words_of(alloc: Global, replied: &LastReply) -> Option<String> {
+    let code = replied.code;
+    let mut text = format!(in alloc; "{code:?}").ok()?;
+    let mut rest = replied.octets.as_slice();
+    let mut separator = ' ';
+    while let Some((len, behind)) = rest.split_first_chunk::<2>() {
+        let (datum, behind) = behind.split_at_checked(usize::from(u16::from_be_bytes(*len)))?;
+        text.push(separator).ok()?;
+        text.push_str(&hex::encode(alloc, datum).ok()?).ok()?;
+        separator = ',';
+        rest = behind;
+    }
+    Some(text)
+}

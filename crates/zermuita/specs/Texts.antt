@@ -1,0 +1,40 @@
+-- What is said of a reply: its name in C, and a sentence.
+use Rattle.std.specs.Prelude.{ℕ, List, codes, ◌≡◌, ◌∷◌, ◌++◌, []}
+use Rattle.answer_judge_octets.specs.declared.reply.ReplyCode.{ReplyCode}
+use Rattle.answer_judge_octets.specs.declared.reply.ReplyCode.TheVariants as c
+use Rattle.answer_judge_octets.specs.Replying.{number_of}
+
+abbrev pub code_text : ReplyCode → List ℕ
+code_text c.Records = codes "ZERMUITA_RECORDS: the name has records of the type"
+code_text c.NoType = codes "ZERMUITA_NODATA: the name has no records of the type"
+code_text c.NoName = codes "ZERMUITA_NXDOMAIN: there is no such name"
+code_text c.StarRecords = codes "ZERMUITA_WILDCARD: a wildcard stands for the name and has records of the type"
+code_text c.StarNoType = codes "ZERMUITA_WILDCARD_NODATA: a wildcard stands for the name and has no records of the type"
+code_text c.Delegated = codes "ZERMUITA_DELEGATED: the name is at or below a delegation"
+code_text c.Open = codes "ZERMUITA_OPTOUT: an opt-out chain leaves open what is there"
+code_text c.Unsigned = codes "ZERMUITA_INSECURE: the DS set is empty, so nothing in the zone is signed"
+code_text c.QuestionNotAllowed = codes "ZERMUITA_QUESTION_NOT_ALLOWED: the name is not in the zone, the class is not IN, or the type is not judged"
+code_text c.BadDnskeyMessage = codes "ZERMUITA_BAD_DNSKEY_MESSAGE: the DNSKEY answer is not a message"
+code_text c.BadAnswerMessage = codes "ZERMUITA_BAD_ANSWER_MESSAGE: the answer is not a message"
+code_text c.QuestionMismatch = codes "ZERMUITA_QUESTION_MISMATCH: a message answers another question"
+code_text c.EqualTags = codes "ZERMUITA_EQUAL_TAGS: two unlike keys have one tag"
+code_text c.NoTrustedKey = codes "ZERMUITA_NO_TRUSTED_KEY: no key that a DS record names signs the DNSKEY set"
+code_text c.MixedNsec3Parameters = codes "ZERMUITA_MIXED_NSEC3_PARAMETERS: NSEC3 records have unlike parameters"
+code_text c.IterationsOverLimit = codes "ZERMUITA_ITERATIONS_OVER_LIMIT: the NSEC3 iterations are over the limit"
+code_text c.HashFailed = codes "ZERMUITA_HASH_FAILED: a name was not hashed"
+code_text c.NotProven = codes "ZERMUITA_NOT_PROVEN: the signed records prove no verdict"
+code_text c.OutOfMemory = codes "ZERMUITA_OUT_OF_MEMORY: memory ran out"
+code_text c.MixedVersions = codes "ZERMUITA_MIXED_VERSIONS: signatures are of unlike times, and one moment is asked for"
+code_text c.MessageTooLong = codes "ZERMUITA_MESSAGE_TOO_LONG: a message is too long in canonical form"
+code_text c.Ask = codes "ZERMUITA_ASK: signatures are to be checked"
+code_text c.BufferTooSmall = codes "ZERMUITA_BUFFER_TOO_SMALL: the reply has more octets than there is room for"
+code_text c.BadApex = codes "ZERMUITA_BAD_APEX: the name of the zone is not a name in wire form"
+code_text c.BadDsSet = codes "ZERMUITA_BAD_DS_SET: the DS set is not DS records behind their lengths"
+code_text c.BadName = codes "ZERMUITA_BAD_NAME: the name that was asked for is not a name in wire form"
+code_text c.BadSignatures = codes "ZERMUITA_BAD_SIGNATURES: the checked signatures are not entries"
+code_text c.BadCase = codes "ZERMUITA_BAD_CASE: the case has an unknown size, a flag is not 0 or 1, or octets are null"
+
+-- The text of a reply's number, or that no reply has it, and an octet 0 behind it.
+pub record IsTextOf (number : ℕ) (octets : List ℕ) : Type 0 where
+  pub known : (code : ReplyCode) → number_of code ≡ number → octets ≡ code_text code ++ (0 ∷ [])
+  pub unknown : ((code : ReplyCode) → number_of code ≡ number → ⊥) → octets ≡ codes "not a reply of this library" ++ (0 ∷ [])

@@ -1,0 +1,108 @@
+//! The names of replies in C, and what each says in a sentence.
+ghost use Rattle.std.specs.Prelude.{◌≡◌, ◌∷◌, ◌++◌, [], MatchOption};
+ghost use Rattle.answer_judge_octets.specs.declared.reply.ReplyCode.{ReplyCode};
+ghost use Rattle.answer_judge_octets.specs.Replying.{number_of};
+ghost use Rattle.zermuita.specs.Texts.{code_text, IsTextOf};
+
+use answer_judge_octets::ReplyCode;
+
+/// The text of a reply by its number, and an octet 0 behind it.
+pub(crate) fn text_of(number: u32) -> &'static [u8]
+    ensures { IsTextOf number result.now }
+{
+    match code_of(number) {
+        Some(code) => text_of_code(code),
+        None => b"not a reply of this library\0",
+    }
+}
+
+/// The reply of a number.
+fn code_of(number: u32) -> Option<ReplyCode>
+    ensures { MatchOption result
+        ((c : ReplyCode) → number_of c ≡ number → ⊥) (λ c. number_of c ≡ number) }
+{
+    match number {
+        0 => Some(ReplyCode::Records),
+        1 => Some(ReplyCode::NoType),
+        2 => Some(ReplyCode::NoName),
+        3 => Some(ReplyCode::StarRecords),
+        4 => Some(ReplyCode::StarNoType),
+        5 => Some(ReplyCode::Delegated),
+        6 => Some(ReplyCode::Open),
+        7 => Some(ReplyCode::Unsigned),
+        16 => Some(ReplyCode::QuestionNotAllowed),
+        17 => Some(ReplyCode::BadDnskeyMessage),
+        18 => Some(ReplyCode::BadAnswerMessage),
+        19 => Some(ReplyCode::QuestionMismatch),
+        20 => Some(ReplyCode::EqualTags),
+        21 => Some(ReplyCode::NoTrustedKey),
+        22 => Some(ReplyCode::MixedNsec3Parameters),
+        23 => Some(ReplyCode::IterationsOverLimit),
+        24 => Some(ReplyCode::HashFailed),
+        25 => Some(ReplyCode::NotProven),
+        26 => Some(ReplyCode::OutOfMemory),
+        27 => Some(ReplyCode::MixedVersions),
+        28 => Some(ReplyCode::MessageTooLong),
+        32 => Some(ReplyCode::Ask),
+        34 => Some(ReplyCode::BufferTooSmall),
+        35 => Some(ReplyCode::BadApex),
+        36 => Some(ReplyCode::BadDsSet),
+        37 => Some(ReplyCode::BadName),
+        38 => Some(ReplyCode::BadSignatures),
+        39 => Some(ReplyCode::BadCase),
+        _ => None,
+    }
+}
+
+fn text_of_code(code: ReplyCode) -> &'static [u8]
+    ensures { result.now ≡ code_text code ++ (0 ∷ []) }
+{
+    match code {
+        ReplyCode::Records => b"ZERMUITA_RECORDS: the name has records of the type\0",
+        ReplyCode::NoType => b"ZERMUITA_NODATA: the name has no records of the type\0",
+        ReplyCode::NoName => b"ZERMUITA_NXDOMAIN: there is no such name\0",
+        ReplyCode::StarRecords =>
+            b"ZERMUITA_WILDCARD: a wildcard stands for the name and has records of the type\0",
+        ReplyCode::StarNoType =>
+            b"ZERMUITA_WILDCARD_NODATA: a wildcard stands for the name and has no records of the type\0",
+        ReplyCode::Delegated => b"ZERMUITA_DELEGATED: the name is at or below a delegation\0",
+        ReplyCode::Open => b"ZERMUITA_OPTOUT: an opt-out chain leaves open what is there\0",
+        ReplyCode::Unsigned =>
+            b"ZERMUITA_INSECURE: the DS set is empty, so nothing in the zone is signed\0",
+        ReplyCode::QuestionNotAllowed =>
+            b"ZERMUITA_QUESTION_NOT_ALLOWED: the name is not in the zone, the class is not IN, or the type is not judged\0",
+        ReplyCode::BadDnskeyMessage =>
+            b"ZERMUITA_BAD_DNSKEY_MESSAGE: the DNSKEY answer is not a message\0",
+        ReplyCode::BadAnswerMessage =>
+            b"ZERMUITA_BAD_ANSWER_MESSAGE: the answer is not a message\0",
+        ReplyCode::QuestionMismatch =>
+            b"ZERMUITA_QUESTION_MISMATCH: a message answers another question\0",
+        ReplyCode::EqualTags => b"ZERMUITA_EQUAL_TAGS: two unlike keys have one tag\0",
+        ReplyCode::NoTrustedKey =>
+            b"ZERMUITA_NO_TRUSTED_KEY: no key that a DS record names signs the DNSKEY set\0",
+        ReplyCode::MixedNsec3Parameters =>
+            b"ZERMUITA_MIXED_NSEC3_PARAMETERS: NSEC3 records have unlike parameters\0",
+        ReplyCode::IterationsOverLimit =>
+            b"ZERMUITA_ITERATIONS_OVER_LIMIT: the NSEC3 iterations are over the limit\0",
+        ReplyCode::HashFailed => b"ZERMUITA_HASH_FAILED: a name was not hashed\0",
+        ReplyCode::NotProven => b"ZERMUITA_NOT_PROVEN: the signed records prove no verdict\0",
+        ReplyCode::OutOfMemory => b"ZERMUITA_OUT_OF_MEMORY: memory ran out\0",
+        ReplyCode::MixedVersions =>
+            b"ZERMUITA_MIXED_VERSIONS: signatures are of unlike times, and one moment is asked for\0",
+        ReplyCode::MessageTooLong =>
+            b"ZERMUITA_MESSAGE_TOO_LONG: a message is too long in canonical form\0",
+        ReplyCode::Ask => b"ZERMUITA_ASK: signatures are to be checked\0",
+        ReplyCode::BufferTooSmall =>
+            b"ZERMUITA_BUFFER_TOO_SMALL: the reply has more octets than there is room for\0",
+        ReplyCode::BadApex =>
+            b"ZERMUITA_BAD_APEX: the name of the zone is not a name in wire form\0",
+        ReplyCode::BadDsSet =>
+            b"ZERMUITA_BAD_DS_SET: the DS set is not DS records behind their lengths\0",
+        ReplyCode::BadName =>
+            b"ZERMUITA_BAD_NAME: the name that was asked for is not a name in wire form\0",
+        ReplyCode::BadSignatures =>
+            b"ZERMUITA_BAD_SIGNATURES: the checked signatures are not entries\0",
+        ReplyCode::BadCase =>
+            b"ZERMUITA_BAD_CASE: the case has an unknown size, a flag is not 0 or 1, or octets are null\0",
+    }
+}

@@ -1,0 +1,80 @@
+/*
+ * Prints what a signed zone says of a name, from files with the octets of two messages and of a DS set, each record's data behind
+ * its length in two octets. The type is a number; the moment, else now, is in seconds since 1970. OpenSSL checks the signatures.
+ * The status is 0 for a verdict, 1 for a refusal, else 2. To build it: cc validate.c $(pkg-config --cflags --libs zermuita) -lcrypto
+ */
+#include "signature.h"
+
+#include <stdio.h>
+#include <stdlib.h>
+#include <time.h>
+
+enum { MOST_SIGNATURES = 16 }; /* each is work: an answer that wants more is given up */
+
+static void *or_exit(void *that, const char *what) {
+    if (that == NULL) {
+        perror(what);
+        exit(2);
+    }
+    return that;
+}
+
+static struct zermuita_octets octets_of_file(const char *path) {
+    FILE *file = or_exit(fopen(path, "rb"), path);
+    uint8_t *octets = or_exit(malloc(65536), path);
+    struct zermuita_octets all = {octets, fread(octets, 1, 65536, file)};
+    fclose(file);
+    return all;
+}
+
+/* The wire form of a name's text, which has no escapes. */
+static struct zermuita_octets name_of_text(const char *text, uint8_t name[256]) {
+    size_t len = 0;
+    for (size_t label; (label = strcspn(text, ".")) > 0 && label < 64 && len + label < 254; len += 1 + label) {
+        name[len] = (uint8_t)label;
+        memcpy(name + len + 1, text, label);
+        text += label + (text[label] == '.');
+    }
+    name[len] = 0;
+    return (struct zermuita_octets){name, *text == 0 || strcmp(text, ".") == 0 ? len + 1 : 0};
+}
+
+int main(int argc, char **argv) {
+    if (argc < 7) {
+        fputs("usage: validate APEX DS DNSKEY NAME TYPE ANSWER [MOMENT]\n", stderr);
+        return 2;
+    }
+    uint8_t apex[256], name[256], *out = NULL, *checked = NULL;
+    struct zermuita_case handed = {
+        .size = sizeof handed, .apex = name_of_text(argv[1], apex), .ds = octets_of_file(argv[2]),
+        .dnskey = octets_of_file(argv[3]), .name = name_of_text(argv[4], name), .rtype = (uint16_t)atoi(argv[5]), .rclass = 1,
+        .answer = octets_of_file(argv[6]), .now = argc > 7 ? strtoull(argv[7], NULL, 10) : (uint64_t)time(NULL),
+        .max_nsec3_iterations = 100,
+    };
+    struct zermuita_report report = {0};
+    enum zermuita_reply reply;
+    size_t room = 0, seen = 0;
+    while ((reply = zermuita_judge(&handed, out, room, &report)) == ZERMUITA_BUFFER_TOO_SMALL
+           || (reply == ZERMUITA_ASK && seen < MOST_SIGNATURES)) {
+        struct zermuita_ask ask;
+        uint8_t *next = out;
+        if (reply == ZERMUITA_BUFFER_TOO_SMALL) {
+            out = or_exit(realloc(out, room = report.len), "memory");
+            continue;
+        }
+        for (size_t len = report.len; seen < MOST_SIGNATURES && zermuita_next_ask(&next, &len, &ask); seen++) {
+            zermuita_answer(&ask, signature_passes(&ask));
+        }
+        checked = or_exit(realloc(checked, handed.checked.len + report.len), "memory");
+        memcpy(checked + handed.checked.len, out, report.len);
+        handed.checked = (struct zermuita_octets){checked, handed.checked.len + report.len};
+    }
+    puts(zermuita_strerror(reply));
+    struct zermuita_octets rest = {out, report.len}, rdata;
+    while ((reply == ZERMUITA_RECORDS || reply == ZERMUITA_WILDCARD) && zermuita_next_record(&rest, &rdata)) {
+        for (size_t i = 0; i < rdata.len; i++) {
+            printf("%02x%s", rdata.data[i], i + 1 < rdata.len ? "" : "\n");
+        }
+    }
+    return zermuita_is_verdict(reply) ? 0 : zermuita_is_refusal(reply) ? 1 : 2;
+}

@@ -1,0 +1,253 @@
+/*
+ * Asks a name server what a signed zone says of a name, and judges it. The parent's DS set is handed in, since it is what is trusted.
+ * `build` builds it, and usage() says how it is called. Signatures are checked by OpenSSL.
+ */
+#include "ask.h"
+#include "show.h"
+#include "signature.h"
+
+#include <stdlib.h>
+#include <time.h>
+#include <unistd.h>
+
+enum { PROVEN = 0, NOT_PROVEN = 1, FAILED = 2 };
+/* Each signature is work for whoever checks it, and a message may have hundreds (CVE-2023-50387). */
+enum { MOST_SIGNATURES = 16 };
+
+/* The DS set of the parent, each record's data behind their length, without those of which nothing here knows algorithm or digest. */
+struct ds_set {
+    uint8_t octets[65536];
+    size_t len;
+    unsigned unsupported;
+};
+
+/* A judgement, with the signatures that were checked for it. */
+struct judgement {
+    enum zermuita_reply reply;
+    struct zermuita_report report;
+    uint8_t out[1 << 17], checked[1 << 17];
+    size_t checked_len;
+    unsigned signatures;
+};
+
+struct options {
+    const char *port;
+    uint64_t moment;
+    uint16_t max_nsec3_iterations;
+    bool is_verbose;
+};
+
+static int usage(void) {
+    fputs("usage: probe [-v] [-p PORT] [-t MOMENT] [-l LIMIT] SERVER ZONE DS NAME TYPE\n"
+          "\n"
+          "SERVER  a name server of the zone: its address, or its name\n"
+          "DS      the parent's DS records, as '12345 13 2 ABCD..', with commas between them, or a file with one on each line,\n"
+          "        as dig +short prints them or as zone files have them, or - for standard input\n"
+          "-v      prints both answers, each signature with its times and whether it passed\n"
+          "-t      when signatures are to hold, in seconds since 1970: now, if it is left out\n"
+          "-l      how many iterations of NSEC3 are allowed: 100, if it is left out\n"
+          "\n"
+          "Prints a line: records, wildcard, NODATA, wildcard NODATA, NXDOMAIN, delegated, opt-out, insecure or bogus, with the\n"
+          "records or the reason. The status is 0 where the answer proves what the line says, 1 where it doesn't, and 2 where there\n"
+          "is no answer or the call cannot be read.\n",
+          stderr);
+    return FAILED;
+}
+
+/* Whether algorithm and type of digest of a DS record are known: the first by signature_passes, the other by the library. */
+static bool is_supported(unsigned algorithm, unsigned digest_type) {
+    static const unsigned algorithms[] = {8, 10, 13, 14, 15, 16};
+    bool is_known = false;
+    for (size_t i = 0; i < sizeof algorithms / sizeof algorithms[0]; i++) {
+        is_known |= algorithm == algorithms[i];
+    }
+    return is_known && (digest_type == 2 || digest_type == 4);
+}
+
+/* Adds a DS record of its text, of which only what stands behind a word DS counts. */
+static bool add_ds(struct ds_set *ds, const char *text) {
+    const char *word = strstr(text, " DS ");
+    unsigned tag, algorithm, digest_type;
+    int read = 0;
+    text = word != NULL ? word + 4 : text;
+    if (sscanf(text, "%5u %3u %3u %n", &tag, &algorithm, &digest_type, &read) != 3 || read == 0 || tag > 65535 || algorithm > 255
+        || digest_type > 255 || sizeof ds->octets - ds->len < 512) {
+        return false;
+    }
+    uint8_t *record = ds->octets + ds->len;
+    long digest_len = octets_of_hex(text + read, record + 6, 255);
+    if (digest_len <= 0) {
+        return false;
+    }
+    if (!is_supported(algorithm, digest_type)) {
+        ds->unsupported++;
+        return true;
+    }
+    const uint8_t head[] = {0, (uint8_t)(4 + digest_len), (uint8_t)(tag >> 8), (uint8_t)tag, (uint8_t)algorithm, (uint8_t)digest_type};
+    memcpy(record, head, sizeof head);
+    ds->len += 6 + (size_t)digest_len;
+    return true;
+}
+
+/* Adds the records of a file, or of a text with commas between them. */
+static bool read_ds_set(struct ds_set *ds, char *text) {
+    FILE *file = strcmp(text, "-") == 0 ? stdin : fopen(text, "r");
+    char line[4096];
+    bool is_read = true;
+    if (file == NULL) {
+        for (char *record; is_read && (record = strsep(&text, ",")) != NULL;) {
+            is_read = add_ds(ds, record);
+        }
+        return is_read;
+    }
+    while (is_read && fgets(line, sizeof line, file) != NULL) {
+        line[strcspn(line, ";\n")] = 0;
+        for (char *tab; (tab = strchr(line, '\t')) != NULL;) {
+            *tab = ' ';
+        }
+        is_read = line[strspn(line, " \r")] == 0 || add_ds(ds, line);
+    }
+    return is_read && !ferror(file);
+}
+
+/* Checks the signatures that are asked for, and adds them to those that were. False where they are too many. */
+static bool check(struct judgement *judgement) {
+    struct zermuita_ask ask;
+    uint8_t *next = judgement->out;
+    for (size_t len = judgement->report.len; zermuita_next_ask(&next, &len, &ask);) {
+        if (judgement->signatures == MOST_SIGNATURES) {
+            return false;
+        }
+        judgement->signatures++;
+        zermuita_answer(&ask, signature_passes(&ask));
+    }
+    if (judgement->report.len > sizeof judgement->checked - judgement->checked_len) {
+        return false;
+    }
+    memcpy(judgement->checked + judgement->checked_len, judgement->out, judgement->report.len);
+    judgement->checked_len += judgement->report.len;
+    return true;
+}
+
+static void judge(struct zermuita_case handed, struct judgement *judgement) {
+    do {
+        handed.checked = (struct zermuita_octets){judgement->checked, judgement->checked_len};
+        judgement->reply = zermuita_judge(&handed, judgement->out, sizeof judgement->out, &judgement->report);
+    } while (judgement->reply == ZERMUITA_ASK && check(judgement));
+}
+
+/* Prints what is said, and gives the status. */
+static int tell(const struct judgement *judgement, const struct ds_set *ds, uint16_t rtype) {
+    static const char *const verdicts[] = {
+        "records", "NODATA", "NXDOMAIN", "wildcard", "wildcard NODATA", "delegated", "opt-out", "insecure",
+    };
+    struct zermuita_octets rest = {judgement->out, judgement->report.len}, data;
+    const char *separator = " ";
+    if (judgement->reply == ZERMUITA_QUESTION_NOT_ALLOWED || judgement->reply == ZERMUITA_OUT_OF_MEMORY) {
+        fprintf(stderr, "probe: not judged: %s\n", zermuita_strerror(judgement->reply));
+        return FAILED;
+    }
+    /* What is asked for has more octets than there is room for where it is more signatures than are checked, and over much. */
+    if (judgement->reply == ZERMUITA_ASK || judgement->reply == ZERMUITA_BUFFER_TOO_SMALL) {
+        printf("bogus: more signatures than are checked; %u signatures checked\n", judgement->signatures);
+        return NOT_PROVEN;
+    }
+    bool is_proven = zermuita_is_verdict(judgement->reply);
+    if (is_proven) {
+        fputs(verdicts[judgement->reply], stdout);
+    } else {
+        printf("bogus: %s", zermuita_strerror(judgement->reply));
+    }
+    while ((judgement->reply == ZERMUITA_RECORDS || judgement->reply == ZERMUITA_WILDCARD) && zermuita_next_record(&rest, &data)) {
+        fputs(separator, stdout);
+        print_data(stdout, rtype, data, 0, data.len);
+        separator = ", ";
+    }
+    if (judgement->reply == ZERMUITA_INSECURE && ds->unsupported > 0) {
+        fputs(": no DS record has an algorithm and a digest that are known here", stdout);
+    }
+    printf("; %u signatures checked, %u looked up, %u names hashed\n", judgement->signatures, judgement->report.verifications,
+           judgement->report.hashes);
+    return is_proven ? PROVEN : NOT_PROVEN;
+}
+
+static void show_answer(const char *what, const struct answer *answer, const struct judgement *judgement) {
+    printf("; answer for %s over %s\n", what, answer->is_by_tcp ? "TCP" : "UDP");
+    show((struct zermuita_octets){answer->octets, answer->len}, (struct zermuita_octets){judgement->checked, judgement->checked_len});
+}
+
+/* Asks both questions, and judges the answers. */
+static int probe(const struct options *options, const struct addrinfo *server, struct zermuita_case handed, const struct ds_set *ds,
+                 const struct name *zone, const struct name *name) {
+    static struct answer dnskey, answer;
+    static struct judgement judgement;
+    if (!ask(server, zone, 48, &dnskey) || !ask(server, name, handed.rtype, &answer)) {
+        fputs("probe: no answer\n", stderr);
+        return FAILED;
+    }
+    handed.dnskey = (struct zermuita_octets){dnskey.octets, dnskey.len};
+    handed.answer = (struct zermuita_octets){answer.octets, answer.len};
+    judge(handed, &judgement);
+    if (options->is_verbose) {
+        show_answer("the keys", &dnskey, &judgement);
+        show_answer("the name", &answer, &judgement);
+    }
+    return tell(&judgement, ds, handed.rtype);
+}
+
+static bool read_options(int argc, char **argv, struct options *options) {
+    char *end = "";
+    for (int option; (option = getopt(argc, argv, "vp:t:l:")) != -1 && *end == 0;) {
+        unsigned long long number = optarg == NULL ? 0 : strtoull(optarg, &end, 10);
+        switch (option) {
+        case 'v':
+            options->is_verbose = true;
+            break;
+        case 'p':
+            options->port = optarg;
+            break;
+        case 't':
+            options->moment = number;
+            break;
+        case 'l':
+            options->max_nsec3_iterations = (uint16_t)number;
+            end = number > 65535 ? optarg : end;
+            break;
+        default:
+            return false;
+        }
+    }
+    return *end == 0 && argc - optind == 5;
+}
+
+int main(int argc, char **argv) {
+    static struct ds_set ds;
+    struct options options = {.port = "53", .moment = (uint64_t)time(NULL), .max_nsec3_iterations = 100};
+    if (!read_options(argc, argv, &options)) {
+        return usage();
+    }
+    char **words = argv + optind;
+    struct name zone, name;
+    struct zermuita_case handed = {
+        .size = sizeof handed,
+        .now = options.moment,
+        .rclass = 1,
+        .max_nsec3_iterations = options.max_nsec3_iterations,
+    };
+    if (!name_of_text(words[1], &zone) || !read_ds_set(&ds, words[2]) || !name_of_text(words[3], &name)
+        || !type_of_text(words[4], &handed.rtype)) {
+        return usage();
+    }
+    handed.apex = (struct zermuita_octets){zone.octets, zone.len};
+    handed.ds = (struct zermuita_octets){ds.octets, ds.len};
+    handed.name = (struct zermuita_octets){name.octets, name.len};
+    struct addrinfo *server, hints = {.ai_socktype = SOCK_DGRAM};
+    int failure = getaddrinfo(words[0], options.port, &hints, &server);
+    if (failure != 0) {
+        fprintf(stderr, "probe: %s: %s\n", words[0], gai_strerror(failure));
+        return FAILED;
+    }
+    int status = probe(&options, server, handed, &ds, &zone, &name);
+    freeaddrinfo(server);
+    return status;
+}

@@ -1,0 +1,59 @@
+/* Eight threads judge the same answers at once, each beginning with another: every judgement must be that of one thread alone. */
+#include "cases.h"
+
+#include <pthread.h>
+#include <stdio.h>
+#include <stdlib.h>
+
+enum { THREADS = 8, ROUNDS = 20 };
+
+static struct cases cases;
+static struct judgement *alone;
+
+static bool is_same(const struct judgement *one, const struct judgement *other) {
+    return one->reply == other->reply && one->octets.len == other->octets.len
+        && memcmp(one->octets.data, other->octets.data, one->octets.len) == 0
+        && one->report.verifications == other->report.verifications && one->report.hashes == other->report.hashes;
+}
+
+/* How many judgements of a thread are unlike those of one alone, written where its number stood. */
+static void *judge_all(void *number) {
+    struct judgement judgement = {0};
+    size_t *thread = number, unlike = 0;
+    for (size_t i = 0; i < ROUNDS * cases.len; i++) {
+        size_t which = (i + *thread * cases.len / THREADS) % cases.len;
+        judge(case_of(&cases.all[which]), is_in_table, &judgement);
+        unlike += !is_same(&judgement, &alone[which]);
+    }
+    judgement_free(&judgement);
+    *thread = unlike;
+    return NULL;
+}
+
+int main(void) {
+    pthread_t threads[THREADS];
+    size_t numbers[THREADS], unlike = 0;
+    cases = read_cases();
+    alone = calloc(cases.len + 1, sizeof *alone);
+    for (size_t i = 0; i < cases.len; i++) {
+        judge(case_of(&cases.all[i]), is_in_table, &alone[i]);
+    }
+    for (size_t i = 0; i < THREADS; i++) {
+        numbers[i] = i;
+        if (pthread_create(&threads[i], NULL, judge_all, &numbers[i]) != 0) {
+            perror("pthread_create");
+            return 2;
+        }
+    }
+    for (size_t i = 0; i < THREADS; i++) {
+        pthread_join(threads[i], NULL);
+        unlike += numbers[i];
+    }
+    printf("%d threads, each %d times %zu answers: %zu unlike those of one\n", THREADS, ROUNDS, cases.len, unlike);
+    for (size_t i = 0; i < cases.len; i++) {
+        judgement_free(&alone[i]);
+    }
+    free(alone);
+    cases_free(&cases);
+    return unlike > 0;
+}

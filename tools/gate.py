@@ -1,0 +1,112 @@
+#!/usr/bin/env python3
+"""Runs `rt ci` and measures what it costs, crate by crate: processor time of proofs, tests and edits.
+
+usage: tools/gate.py [FILE]
+
+It passes on what `rt ci` prints and looks at its processes twice a second. The row `rt` is what all of them but the prover
+take: `rt ci` itself, links, and runs. A crate that an earlier run passed on this machine is not proved again and has no row.
+Before the last line, which stays the last, it prints once more the lines that say what failed, and the table of
+docs/proof/GATE.md. RT_JOBS says on how many processors the gate runs. FILE gets the table so far
+each minute, so that a run that is stopped tells what it cost.
+"""
+
+import collections
+import os
+import pathlib
+import re
+import subprocess
+import sys
+import threading
+import time
+
+TOP = pathlib.Path(__file__).resolve().parent.parent
+PHASES = ("proof", "tests", "edits")
+TICKS = os.sysconf("SC_CLK_TCK")
+# Lines that say what was refused and why; of them the last so many are printed again.
+FAULT = re.compile(r": error: |FAILED|NOT REFUSED|BAD EDIT|NOT TRIED|no proof: |was killed|differ first at|panicked")
+FAULTS = 60
+
+
+def is_below(entry):
+    """Whether a process was started by this one, or by one that it started."""
+    while entry not in ("0", "1"):
+        if entry == str(os.getpid()):
+            return True
+        entry = pathlib.Path(f"/proc/{entry}/stat").read_text(errors="replace").rpartition(")")[2].split()[1]
+    return False
+
+
+def part_of(words, entry):
+    """Returns the crate and the phase that a process works for: the prover's of one crate, or those of `rt`."""
+    if not words[0].endswith("/rattle") or "--crate-name" not in words:
+        return "rt", "proof"
+    folder = os.readlink(f"/proc/{entry}/cwd")
+    phase = "edits" if "rt-edit-" in folder else "tests" if "--test" in words else "proof"
+    return words[words.index("--crate-name") + 1], phase
+
+
+def processes():
+    """Yields each process below this one: what tells it from others, its crate and phase, its own processor seconds so far."""
+    for entry in filter(str.isdigit, os.listdir("/proc")):
+        try:
+            if entry == str(os.getpid()) or not is_below(entry):
+                continue
+            words = pathlib.Path(f"/proc/{entry}/cmdline").read_text(errors="replace").split("\0")
+            times = pathlib.Path(f"/proc/{entry}/stat").read_text(errors="replace").rpartition(")")[2].split()
+            part = part_of(words, entry)
+        except OSError:
+            continue
+        yield (entry, times[19]), part, (int(times[11]) + int(times[12])) / TICKS
+
+
+def watch(seconds, is_over, file):
+    """Notes the processor seconds of each crate and phase until the run is over."""
+    began = written = time.monotonic()
+    while not is_over.wait(0.5):
+        for process, part, used in processes():
+            # a process may become another by `exec`, or be read while it ends
+            seen = seconds[part].get(process, 0)
+            seconds[part][process] = max(used, seen)
+        now = time.monotonic()
+        if file and now - written > 60:
+            file.write_text(table(seconds, (now - began) / 60))
+            written = now
+
+
+def row(name, cells):
+    return f"| {name} | " + " | ".join(f"{it / 60:.1f}" for it in cells) + " |"
+
+
+def table(seconds, minutes):
+    spent = {part: sum(used.values()) for part, used in seconds.items()}
+    lines = [f"\nThe gate took {minutes:.0f} minutes on {os.cpu_count()} processors. Minutes of one processor:\n",
+             "| crate | proof | tests | edits | all |\n|---|---|---|---|---|"]
+    for crate in dict.fromkeys(crate for crate, _ in spent):
+        cells = [spent.get((crate, phase), 0) for phase in PHASES]
+        lines.append(row(f"`{crate}`", [*cells, sum(cells)]))
+    totals = [sum(used for (_, phase), used in spent.items() if phase == it) for it in PHASES]
+    return "\n".join([*lines, row("all", [*totals, sum(totals)]) + "\n\n"])
+
+
+def main():
+    seconds, is_over = collections.defaultdict(dict), threading.Event()
+    file = pathlib.Path(sys.argv[1]) if len(sys.argv) > 1 else None
+    began, last, faults = time.monotonic(), "", collections.deque(maxlen=FAULTS)
+    with subprocess.Popen(["rt", "ci"], cwd=TOP, stdout=subprocess.PIPE, text=True, errors="replace") as gate:
+        watcher = threading.Thread(target=watch, args=(seconds, is_over, file), daemon=True)
+        watcher.start()
+        for line in gate.stdout:
+            print(last, end="", flush=True)
+            last = line
+            if FAULT.search(line):
+                faults.append(line)
+    is_over.set()
+    watcher.join()
+    print("".join(faults), end="")
+    print(table(seconds, (time.monotonic() - began) / 60), end="")
+    print(last, end="", flush=True)
+    return gate.returncode
+
+
+if __name__ == "__main__":
+    sys.exit(main())
