@@ -47,6 +47,10 @@ fn event(alloc: Global, events: &[Event]) -> Option<String> {
             format!(in alloc; "judgement of {ds}, {dnskey} and {answer} at {seconds}").ok()
         }
         Act::JudgeBytes { .. } => format!(in alloc; "judgement of octets at {seconds}").ok(),
+        Act::Replace(records) => {
+            let count = records.len();
+            format!(in alloc; "replacement by {count} records at {seconds}").ok()
+        }
     }
 }
 

@@ -36,7 +36,7 @@ impl Desk {
             return None;
         };
         let question = question(alloc, name, rtype)?;
-        let shown = self.publisher.as_ref()?.answer(&question, &moment(now)?);
+        let shown = self.publisher.as_mut()?.answer(&question, &moment(now)?);
         self.hold_answer(alloc, shown)
     }
 }
