@@ -1,3 +1,4 @@
+pub mod ModeView
 pub mod Accepting
 pub mod Served
 pub mod Links

@@ -1,8 +1,9 @@
-//! What a publisher and a judge share: which zones are accepted and which questions are answered, what an answer holds and
+//! What a publisher and a judge share: which chain a zone gets, which zones are accepted and which questions are answered, what an answer holds and
 //! when bytes spell it; what a zone asks of its keys; short lists in order.
 #![tactic(auto)]
 
 pub mod dnskey;
 pub mod laws;
+pub mod mode;
 pub mod question;
 pub mod ranked;

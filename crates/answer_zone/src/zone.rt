@@ -8,11 +8,12 @@ ghost use Rattle.answer_shared.specs.Accepted.{IsAccepted};
 ghost use Rattle.answer_shared.specs.Accepting.{sorted_records};
 ghost use Rattle.answer_shared.specs.ZoneView.{IsPublished};
 ghost use Rattle.answer_zone_records.specs.Faults.{RefusesZone, first_fault};
-ghost use Rattle.answer_zone_records.specs.ModeView.{mode_of};
+ghost use Rattle.answer_shared.specs.ModeView.{mode_of};
 
 use crate::zone::contents::contents_of;
+use answer_shared::mode::Mode;
 use answer_zone_records::chains::Chain;
-use answer_zone_records::fault::{Mode, ZoneFault};
+use answer_zone_records::fault::ZoneFault;
 use answer_zone_records::faults::first_fault;
 use denial_nsec3_hash::hasher::Nsec3Hasher;
 use denial_sorted::sorted::SortedRecords;
@@ -53,7 +54,7 @@ impl<'h, H: Nsec3Hasher> Model for ZoneRecords<'h, H> {
     ghost use Rattle.answer_shared.specs.ZoneView.{IsPublished};
     ghost use Rattle.answer_zone.specs.HashedZone.{HashedZone};
     ghost use Rattle.answer_zone_records.specs.MadeLinks.{IsChain};
-    ghost use Rattle.answer_zone_records.specs.ModeView.{mode_of};
+    ghost use Rattle.answer_shared.specs.ModeView.{mode_of};
     ghost use Rattle.answer_zone_records.specs.KeptNames.{KeepsNames};
     ghost use Rattle.answer_zone_records.specs.OwnedRecords.{IsInternet};
 

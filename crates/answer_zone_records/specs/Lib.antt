@@ -1,4 +1,3 @@
-pub mod ModeView
 pub mod Faults
 pub mod HashParameters
 pub mod MadeLinks

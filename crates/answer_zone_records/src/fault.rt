@@ -1,20 +1,7 @@
-//! Which chain a zone gets, and why a zone is not accepted.
+//! Why a zone is not accepted.
 use denial_chain_owners::error::SigningError;
 use denial_fields::salt::Nsec3Salt;
 use thiserror::Error;
-
-/// Which chain a zone gets.
-#[derive(Drop)]
-pub enum Mode {
-    /// A chain of names (RFC 4034, 4).
-    Nsec,
-    /// A chain of hashes, SHA-1 ones, with or without opt-out (RFC 5155, 3 and 6).
-    Nsec3 {
-        iterations: u16,
-        salt: Nsec3Salt<Vec<u8>>,
-        opt_out: bool,
-    },
-}
 
 /// Why a zone is not accepted. Each is sought in the whole list before the next.
 #[derive(Clone, Copy, Debug, PartialEq, Eq, Drop, Error)]

@@ -11,12 +11,13 @@ ghost use Rattle.answer_shared.specs.Accepting.{
   over_limit,
 };
 ghost use Rattle.answer_zone_records.specs.Faults.{first_fault};
-ghost use Rattle.answer_zone_records.specs.ModeView.{mode_of};
+ghost use Rattle.answer_shared.specs.ModeView.{mode_of};
 
-use crate::fault::{Mode, ZoneFault};
+use crate::fault::ZoneFault;
 use crate::record_faults::{
     delegates_star, is_added_by_signing, is_alias, is_meta, is_of_other_class, is_outside,
 };
+use answer_shared::mode::Mode;
 use messages::names::Name;
 use messages::record::ZoneRecord;
 

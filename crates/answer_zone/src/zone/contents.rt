@@ -7,12 +7,13 @@ ghost use Rattle.messages.specs.HandedRr.{handed_of};
 ghost use Rattle.answer_shared.specs.Accepted.{IsAccepted};
 ghost use Rattle.answer_zone_records.specs.Faults.{RefusesZone, zone_fault};
 ghost use Rattle.answer_zone_records.specs.KeptNames.{KeepsNames};
-ghost use Rattle.answer_zone_records.specs.ModeView.{mode_of};
+ghost use Rattle.answer_shared.specs.ModeView.{mode_of};
 ghost use Rattle.answer_zone_records.specs.OwnedRecords.{IsInternet};
 ghost use Rattle.answer_zone.specs.Contents.{IsContents};
 
+use answer_shared::mode::Mode;
 use answer_zone_records::chains::{Chain, made_chain};
-use answer_zone_records::fault::{Mode, ZoneFault};
+use answer_zone_records::fault::ZoneFault;
 use answer_zone_records::faults::first_fault;
 use answer_zone_records::kept::kept_names;
 use answer_zone_records::owned::chain_ttl;

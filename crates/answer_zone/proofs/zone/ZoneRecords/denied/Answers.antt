@@ -4,7 +4,7 @@ use Rattle.answer_shared.specs.Accepting.{zone_with}
 use Rattle.answer_shared.specs.Served.{proofs_of, soa}
 use Rattle.answer_shared.proofs.ZoneData.{if_ok_map}
 use Rattle.answer_zone.specs.HashedZone.{IsHashFailure, served_by}
-use Rattle.answer_zone_records.specs.ModeView.{mode_of}
+use Rattle.answer_shared.specs.ModeView.{mode_of}
 use Rattle.answer_zone.specs.ZoneAnswers.{Holds}
 use Rattle.answer_zone.proofs.Failures.{if_err_map}
 use Rattle.answer_zone.proofs.Spoken.{denied_hashes, denied_names}

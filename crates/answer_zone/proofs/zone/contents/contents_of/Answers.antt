@@ -8,7 +8,7 @@ use Rattle.answer_shared.specs.Accepting.{sorted_records}
 use Rattle.answer_zone_records.specs.Faults.{RefusesZone, first_fault}
 use Rattle.answer_zone_records.specs.MadeLinks.{IsMade, IsUnmade}
 use Rattle.answer_shared.specs.ZoneView.{IsPublished}
-use Rattle.answer_zone_records.specs.ModeView.{mode_of}
+use Rattle.answer_shared.specs.ModeView.{mode_of}
 use Rattle.answer_shared.proofs.ZoneFaultless.{no_fault_from}
 use Rattle.answer_zone_records.proofs.ZoneFaults.{faultless}
 use Rattle.answer_zone_records.specs.OwnedRecords.{IsInternet}

@@ -1,8 +1,8 @@
 -- How the mode of a zone's chain is seen.
 use Rattle.definitions.specs.ZoneChain.{Mode}
 use Rattle.definitions.specs.ZoneChain as chain
-use Rattle.answer_zone_records.specs.declared.fault.Mode as declared
-use Rattle.answer_zone_records.specs.declared.fault.Mode.TheVariants.{Nsec, Nsec3}
+use Rattle.answer_shared.specs.declared.mode.Mode as declared
+use Rattle.answer_shared.specs.declared.mode.Mode.TheVariants.{Nsec, Nsec3}
 
 abbrev pub mode_of : declared.Mode → Mode
 mode_of Nsec = chain.Nsec
