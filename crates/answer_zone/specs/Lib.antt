@@ -4,3 +4,4 @@ pub mod Around
 pub mod Cuts
 pub mod ZoneAnswers
 pub mod Placed
+pub mod Questions

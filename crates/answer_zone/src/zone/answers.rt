@@ -1,25 +1,24 @@
 //! The RRsets of an answer.
-ghost use Rattle.std.specs.Prelude.{◌≡◌, ℕ, [], ◌∷◌, ◌++◌, ◌&&◌, ◌||◌, ◌==◌, List, None, true, false, map, IfErr, IfOk, OnOk};
+ghost use Rattle.std.specs.Prelude.{◌≡◌, ℕ, [], ◌∷◌, ◌++◌, ◌&&◌, ◌||◌, ◌==◌, None, true, false, map, IfErr, IfOk, OnOk};
 ghost use Rattle.std.specs.List.{AllZip};
 ghost use Rattle.definitions.specs.Name.{at_or_above, low};
-ghost use Rattle.definitions.specs.Zone.{NoName, StarRecords, cut_above, exists, has, is_open};
+ghost use Rattle.definitions.specs.Zone.{NoName, StarRecords, cut_above, exists, has};
 ghost use Rattle.definitions.specs.ZoneChain.{optout_of};
 ghost use Rattle.denial_laws.specs.OwnFacts.{spoken};
 ghost use Rattle.denial_laws.specs.Truth.{concerned};
-ghost use Rattle.answer_shared.specs.Accepting.{zone_with};
 ghost use Rattle.answer_shared.specs.GroupView.{Adds, Presents};
 ghost use Rattle.answer_shared.specs.HashedLinks.{hashed_said_of};
 ghost use Rattle.answer_shared.specs.Hashing.{hash_in};
 ghost use Rattle.answer_shared.specs.Links.{said_of};
 ghost use Rattle.answer_shared.specs.Served.{chain_ttl, expanded, if_any, proofs_of, rrset, soa, under, unsigned_ns};
 ghost use Rattle.answer_zone.specs.Around.{IsAround};
-ghost use Rattle.answer_zone.specs.Cuts.{NoneRefers};
 ghost use Rattle.answer_zone_records.specs.OwnedRecords.{owned_by};
 ghost use Rattle.answer_zone_records.specs.Round.{IsCircle, IsRound};
 ghost use Rattle.answer_zone.specs.Placed.{IsCutRecords, IsNear};
 ghost use Rattle.answer_zone_records.specs.GroupRecords.{rrset_from};
 ghost use Rattle.answer_zone.specs.HashedZone.{FailsFor, IsHashFailure, served_by};
 ghost use Rattle.answer_zone.specs.ZoneAnswers.{AnswersAs, Holds};
+ghost use Rattle.answer_zone.specs.Questions.{AnswersItself, IsPlain, LeavesOpen, zone_of};
 
 use crate::zone::ZoneRecords;
 use crate::zone::around::Around;
@@ -64,7 +63,7 @@ impl<'h, H: Nsec3Hasher> ZoneRecords<'h, H> {
         name: &Name<Vec<u8>>,
         rtype: Rtype,
     ) -> Result<ZoneAnswer, HashError>
-        requires { ((rtype == 47) || (rtype == 50)) ≡ false }
+        requires { IsPlain rtype }
         ensures answer { IfOk result (AnswersAs (served_by H.hash_of self.now) name.now rtype) }
         ensures failed { IfErr result (FailsFor H.hash_of self.now name.now rtype) }
         ensures concerned { let hash = H.hash_of self.now.hasher in
@@ -89,10 +88,9 @@ impl<'h, H: Nsec3Hasher> ZoneRecords<'h, H> {
         near: &Neighbours<'_>,
         rtype: Rtype,
     ) -> Result<ZoneAnswer, HashError>
-        requires plain { ((rtype == 47) || (rtype == 50)) ≡ false }
+        requires plain { IsPlain rtype }
         requires near { IsNear name.now self.now.records near.now }
-        requires told { let z = zone_with self.now.apex self.now.records in
-            is_open z (optout_of self.now.mode) (low name.now) ≡ false }
+        requires told { LeavesOpen self.now name.now false }
         ensures answer { IfOk result (AnswersAs (served_by H.hash_of self.now) name.now rtype) }
         ensures failed { IfErr result (FailsFor H.hash_of self.now name.now rtype) }
     {
@@ -105,8 +103,7 @@ impl<'h, H: Nsec3Hasher> ZoneRecords<'h, H> {
     /// A referral: the name servers of a delegation without signatures, its DS records if it has any, and its record of
     /// the chain, which shows whether it has (RFC 4035, 3.1.4; RFC 5155, 7.2.7).
     fn referral(&self, alloc: Global, cut: &Cut<'_>) -> Result<ZoneAnswer, HashError>
-        requires delegation { has (zone_with self.now.apex self.now.records) (low cut.now.name.now) 2
-            ≡ true }
+        requires delegation { has (zone_of self.now) (low cut.now.name.now) 2 ≡ true }
         requires records { IsCutRecords self.now.records cut.now }
         ensures answer { let s = served_by H.hash_of self.now in let c = low cut.now.name.now in
             IfOk result (Holds 32768 [] (unsigned_ns s c ++ if_any s c 43 ++ proofs_of s (c ∷ []))) }
@@ -129,8 +126,7 @@ impl<'h, H: Nsec3Hasher> ZoneRecords<'h, H> {
         alloc: Global,
         cut: &Cut<'_>,
     ) -> Result<Vec<RrGroup>, AllocError>
-        requires delegation { has (zone_with self.now.apex self.now.records) (low cut.now.name.now) 2
-            ≡ true }
+        requires delegation { has (zone_of self.now) (low cut.now.name.now) 2 ≡ true }
         requires records { IsCutRecords self.now.records cut.now }
         ensures { let s = served_by H.hash_of self.now in
             IfOk result (λ v. AllZip Presents v.items (unsigned_ns s (low cut.now.name.now))) }
@@ -169,15 +165,11 @@ impl<'h, H: Nsec3Hasher> ZoneRecords<'h, H> {
         owned: &Owned<'_>,
         rtype: Rtype,
     ) -> Result<ZoneAnswer, HashError>
-        requires plain { ((rtype == 47) || (rtype == 50)) ≡ false }
+        requires plain { IsPlain rtype }
         requires near { IsNear name.now self.now.records near.now }
         requires owned { owned.now ≡ owned_by name.now self.now.records }
-        requires told { let z = zone_with self.now.apex self.now.records in
-            is_open z (optout_of self.now.mode) (low name.now) ≡ false }
-        requires own { let z = zone_with self.now.apex self.now.records in
-            NoneRefers z (low name.now) rtype }
-        requires uncut { let z = zone_with self.now.apex self.now.records in
-            cut_above z (low name.now) ≡ None }
+        requires told { LeavesOpen self.now name.now false }
+        requires own { AnswersItself self.now name.now rtype }
         ensures answer { IfOk result (AnswersAs (served_by H.hash_of self.now) name.now rtype) }
         ensures failed { IfErr result (FailsFor H.hash_of self.now name.now rtype) }
     {
@@ -201,16 +193,11 @@ impl<'h, H: Nsec3Hasher> ZoneRecords<'h, H> {
         near: &Neighbours<'_>,
         rtype: Rtype,
     ) -> Result<ZoneAnswer, HashError>
-        requires plain { ((rtype == 47) || (rtype == 50)) ≡ false }
+        requires plain { IsPlain rtype }
         requires near { IsNear name.now self.now.records near.now }
-        requires told { let z = zone_with self.now.apex self.now.records in
-            is_open z (optout_of self.now.mode) (low name.now) ≡ false }
-        requires own { let z = zone_with self.now.apex self.now.records in
-            NoneRefers z (low name.now) rtype }
-        requires uncut { let z = zone_with self.now.apex self.now.records in
-            cut_above z (low name.now) ≡ None }
-        requires gone { let z = zone_with self.now.apex self.now.records in
-            exists z (low name.now) ≡ false }
+        requires told { LeavesOpen self.now name.now false }
+        requires own { AnswersItself self.now name.now rtype }
+        requires gone { exists (zone_of self.now) (low name.now) ≡ false }
         ensures answer { IfOk result (AnswersAs (served_by H.hash_of self.now) name.now rtype) }
         ensures failed { IfErr result (FailsFor H.hash_of self.now name.now rtype) }
     {
@@ -234,10 +221,10 @@ impl<'h, H: Nsec3Hasher> ZoneRecords<'h, H> {
         wild: &Owned<'_>,
     ) -> bool
         requires owned { wild.now ≡ owned_by star.now self.now.records }
-        requires uncut { let z = zone_with self.now.apex self.now.records in
+        requires uncut { let z = zone_of self.now in
             at_or_above self.now.apex name.now ≡ true → cut_above z (low star.now) ≡ None }
         ensures { result ≡ (at_or_above self.now.apex name.now
-            && exists (zone_with self.now.apex self.now.records) (low star.now)) }
+            && exists (zone_of self.now) (low star.now)) }
     {
         is_at_or_above(&self.apex, name) && self.stands_with(star, wild)
     }
@@ -250,7 +237,7 @@ impl<'h, H: Nsec3Hasher> ZoneRecords<'h, H> {
         owned: &Owned<'_>,
         rtype: Rtype,
     ) -> Result<ZoneAnswer, AllocError>
-        requires plain { ((rtype == 47) || (rtype == 50)) ≡ false }
+        requires plain { IsPlain rtype }
         requires owned { owned.now ≡ owned_by name.now self.now.records }
         ensures { let s = served_by H.hash_of self.now in
             IfOk result (Holds 33792 (under name.now (rrset s (low name.now) rtype) ∷ []) []) }
@@ -272,16 +259,16 @@ impl<'h, H: Nsec3Hasher> ZoneRecords<'h, H> {
         wild: &Owned<'_>,
         rtype: Rtype,
     ) -> Result<ZoneAnswer, HashError>
-        requires plain { ((rtype == 47) || (rtype == 50)) ≡ false }
+        requires plain { IsPlain rtype }
         requires owned { wild.now ≡ owned_by around.now.star self.now.records }
-        requires around { let z = zone_with self.now.apex self.now.records in
+        requires around { let z = zone_of self.now in
             IsAround z (optout_of self.now.mode) (low name.now) around.now }
         ensures answer { let s = served_by H.hash_of self.now in let q = low name.now in
             let star = low around.now.star in
             let said = spoken s.zone s.mode q (StarRecords []) in
             IfOk result (Holds 33792 (expanded s star name.now rtype) (proofs_of s said)) }
         ensures failed { let hash = H.hash_of self.now.hasher in let mode = self.now.mode in
-            let z = zone_with self.now.apex self.now.records in
+            let z = zone_of self.now in
             let said = spoken z mode (low name.now) (StarRecords []) in
             IfErr result (IsHashFailure hash mode said) }
     {
@@ -297,9 +284,9 @@ impl<'h, H: Nsec3Hasher> ZoneRecords<'h, H> {
 
     /// The name that an expanded wildcard's proof covers: the question's, or the next closer one.
     fn covered_name<'n>(&self, name: &'n Name<Vec<u8>>, around: &'n Around) -> &'n Name<Vec<u8>>
-        requires around { let z = zone_with self.now.apex self.now.records in
+        requires around { let z = zone_of self.now in
             IsAround z (optout_of self.now.mode) (low name.now) around.now }
-        ensures { let z = zone_with self.now.apex self.now.records in
+        ensures { let z = zone_of self.now in
             low result.now ∷ [] ≡ spoken z self.now.mode (low name.now) (StarRecords []) }
     {
         match &self.mode {
@@ -317,7 +304,7 @@ impl<'h, H: Nsec3Hasher> ZoneRecords<'h, H> {
         owned: &Owned<'_>,
         rtype: Rtype,
     ) -> Result<Vec<RrGroup>, AllocError>
-        requires plain { ((rtype == 47) || (rtype == 50)) ≡ false }
+        requires plain { IsPlain rtype }
         requires owned { owned.now ≡ owned_by source.now self.now.records }
         ensures { let s = served_by H.hash_of self.now in
             let there = rrset s (low source.now) rtype in
@@ -338,13 +325,13 @@ impl<'h, H: Nsec3Hasher> ZoneRecords<'h, H> {
         name: &Name<Vec<u8>>,
         around: &Around,
     ) -> Result<ZoneAnswer, HashError>
-        requires around { let z = zone_with self.now.apex self.now.records in
+        requires around { let z = zone_of self.now in
             IsAround z (optout_of self.now.mode) (low name.now) around.now }
         ensures answer { let s = served_by H.hash_of self.now in
             let said = spoken s.zone s.mode (low name.now) NoName in
             IfOk result (Holds flags [] (soa s ∷ proofs_of s said)) }
         ensures failed { let hash = H.hash_of self.now.hasher in let mode = self.now.mode in
-            let z = zone_with self.now.apex self.now.records in
+            let z = zone_of self.now in
             let said = spoken z mode (low name.now) NoName in
             IfErr result (IsHashFailure hash mode said) }
     {
@@ -526,9 +513,9 @@ impl<'h, H: Nsec3Hasher> ZoneRecords<'h, H> {
         owned: &Owned<'_>,
         rtype: Rtype,
     ) -> Result<RrGroup, AllocError>
-        requires plain { ((rtype == 47) || (rtype == 50)) ≡ false }
+        requires plain { IsPlain rtype }
         requires owned { owned.now ≡ owned_by name.now self.now.records }
-        requires there { has (zone_with self.now.apex self.now.records) (low name.now) rtype ≡ true }
+        requires there { has (zone_of self.now) (low name.now) rtype ≡ true }
         ensures { let s = served_by H.hash_of self.now in
             IfOk result (λ g. Presents g (rrset s (low name.now) rtype)) }
     {

@@ -12,10 +12,10 @@ ghost use Rattle.definitions.specs.Zone.{
 };
 ghost use Rattle.definitions.specs.ZoneChain.{optout_of};
 ghost use Rattle.denial_laws.specs.OwnFacts.{kept_ancestor};
-ghost use Rattle.answer_shared.specs.Accepting.{zone_with};
 ghost use Rattle.answer_zone_records.specs.Near.{shows};
 ghost use Rattle.answer_zone.specs.Around.{IsAround};
 ghost use Rattle.answer_zone.specs.Placed.{IsNear, shown_ancestor};
+ghost use Rattle.answer_zone.specs.Questions.{zone_of};
 
 use crate::zone::ZoneRecords;
 use crate::zone::contents::opts_out;
@@ -40,7 +40,7 @@ impl<'h, H: Nsec3Hasher> ZoneRecords<'h, H> {
     /// (RFC 5155, 6 and 7.2.4).
     pub(super) fn leaves_open(&self, name: &Name<Vec<u8>>, near: &Neighbours<'_>) -> bool
         requires { IsNear name.now self.now.records near.now }
-        ensures { let z = zone_with self.now.apex self.now.records in
+        ensures { let z = zone_of self.now in
             result ≡ is_open z (optout_of self.now.mode) (low name.now) }
     {
         opts_out(&self.mode) && !self.is_kept(name) && !self.is_below_kept_cut(name, near)
@@ -49,7 +49,7 @@ impl<'h, H: Nsec3Hasher> ZoneRecords<'h, H> {
     /// Whether a delegation stands strictly above a name and is kept under opt-out: it has DS.
     fn is_below_kept_cut(&self, name: &Name<Vec<u8>>, near: &Neighbours<'_>) -> bool
         requires { IsNear name.now self.now.records near.now }
-        ensures { let z = zone_with self.now.apex self.now.records in
+        ensures { let z = zone_of self.now in
             result ≡ kept_cut_above z true (low name.now) }
     {
         match self.cut_above(name, near) {
@@ -61,7 +61,7 @@ impl<'h, H: Nsec3Hasher> ZoneRecords<'h, H> {
     /// Whether a name is at or below the apex, and an owner that opt-out keeps at or below the name.
     fn is_kept(&self, name: &Name<Vec<u8>>) -> bool
         requires { optout_of self.now.mode ≡ true }
-        ensures { let z = zone_with self.now.apex self.now.records in
+        ensures { let z = zone_of self.now in
             result ≡ kept z true (low name.now) }
     {
         is_shown(&self.apex, &self.near_kept(name), name)
@@ -70,7 +70,7 @@ impl<'h, H: Nsec3Hasher> ZoneRecords<'h, H> {
     /// The owners that opt-out keeps between which a name stands.
     fn near_kept(&self, name: &Name<Vec<u8>>) -> Neighbours<'_>
         requires { optout_of self.now.mode ≡ true }
-        ensures { let z = zone_with self.now.apex self.now.records in
+        ensures { let z = zone_of self.now in
             (a : List (List ℕ)) → at_or_above a name.now ≡ true
             → list_any (at_or_above a) (kept_owners z true) ≡ shows result a }
     {
@@ -85,9 +85,9 @@ impl<'h, H: Nsec3Hasher> ZoneRecords<'h, H> {
         near: &Neighbours<'_>,
     ) -> Result<Around, AllocError>
         requires near { IsNear name.now self.now.records near.now }
-        requires uncut { let z = zone_with self.now.apex self.now.records in
+        requires uncut { let z = zone_of self.now in
             optout_of self.now.mode ≡ false → cut_above z (low name.now) ≡ None }
-        ensures { let z = zone_with self.now.apex self.now.records in
+        ensures { let z = zone_of self.now in
             IfOk result (IsAround z (optout_of self.now.mode) (low name.now)) }
     {
         let encloser = self.chain_encloser(alloc, name, near)?;
@@ -109,9 +109,9 @@ impl<'h, H: Nsec3Hasher> ZoneRecords<'h, H> {
         near: &Neighbours<'_>,
     ) -> Result<Name<Vec<u8>>, AllocError>
         requires near { IsNear name.now self.now.records near.now }
-        requires uncut { let z = zone_with self.now.apex self.now.records in
+        requires uncut { let z = zone_of self.now in
             optout_of self.now.mode ≡ false → cut_above z (low name.now) ≡ None }
-        ensures ancestor { let z = zone_with self.now.apex self.now.records in
+        ensures ancestor { let z = zone_of self.now in
             IfOk result (λ e. low e ≡ kept_ancestor z (optout_of self.now.mode) (low name.now)) }
         ensures room { IfOk result (λ e. wire_len (star_under e) ≤ 255) }
     {
@@ -130,10 +130,10 @@ impl<'h, H: Nsec3Hasher> ZoneRecords<'h, H> {
         near: &Neighbours<'_>,
     ) -> Result<Name<Vec<u8>>, AllocError>
         requires near { IsNear name.now self.now.records near.now }
-        requires uncut { let z = zone_with self.now.apex self.now.records in
+        requires uncut { let z = zone_of self.now in
             cut_above z (low name.now) ≡ None }
         ensures { IfOk result (λ s. low s ≡ star_under
-            (kept_ancestor (zone_with self.now.apex self.now.records) false (low name.now))) }
+            (kept_ancestor (zone_of self.now) false (low name.now))) }
     {
         let encloser = encloser_of(alloc, &self.apex, name, near)?;
         wildcard_under(alloc, &encloser)

@@ -3,11 +3,11 @@ ghost use Rattle.std.specs.Prelude.{◌≡◌, ◌&&◌, false, true, IfSome, Is
 ghost use Rattle.std.specs.List.{list_any};
 ghost use Rattle.definitions.specs.Name.{low, at_or_above};
 ghost use Rattle.definitions.specs.Zone.{cut_above, has, exists};
-ghost use Rattle.answer_shared.specs.Accepting.{zone_with};
 ghost use Rattle.answer_shared.specs.Served.{ttl_among};
 ghost use Rattle.answer_zone_records.specs.Near.{shows};
 ghost use Rattle.answer_zone_records.specs.OwnedRecords.{owned_by};
 ghost use Rattle.answer_zone.specs.Placed.{IsCutRecords, IsNear};
+ghost use Rattle.answer_zone.specs.Questions.{zone_of};
 
 use crate::zone::ZoneRecords;
 use answer_zone_records::near::{Neighbours, neighbours_of};
@@ -20,14 +20,14 @@ use plain::Ttl;
 impl<'h, H: Nsec3Hasher> ZoneRecords<'h, H> {
     /// Whether a record of this owner and type stands in the zone.
     pub fn has(&self, name: &Name<Vec<u8>>, rtype: Rtype) -> bool
-        ensures { result ≡ has (zone_with self.now.apex self.now.records) (low name.now) rtype }
+        ensures { result ≡ has (zone_of self.now) (low name.now) rtype }
     {
         self.owned(name).has(rtype)
     }
 
     /// Whether a name exists: an owner that is not below a delegation is at or below it (RFC 4592, 2.2).
     pub fn exists(&self, name: &Name<Vec<u8>>) -> bool
-        ensures { result ≡ exists (zone_with self.now.apex self.now.records) (low name.now) }
+        ensures { result ≡ exists (zone_of self.now) (low name.now) }
     {
         let near = self.near(name);
         self.stands(name, &near) && self.cut_above(name, &near).is_none()
@@ -106,10 +106,10 @@ impl<'h, H: Nsec3Hasher> ZoneRecords<'h, H> {
     /// or below owns nothing.
     pub(super) fn cut_above(&self, name: &Name<Vec<u8>>, near: &Neighbours<'_>) -> Option<Cut<'_>>
         requires { IsNear name.now self.now.records near.now }
-        ensures some { let z = zone_with self.now.apex self.now.records in
+        ensures some { let z = zone_of self.now in
             IfSome result (λ c. (cut_above z (low name.now) ≡ Some (low c.name.now))
             × IsCutRecords self.now.records c) }
-        ensures none { let z = zone_with self.now.apex self.now.records in
+        ensures none { let z = zone_of self.now in
             IsNone result → cut_above z (low name.now) ≡ None }
     {
         let mut topmost = None;
@@ -130,10 +130,10 @@ impl<'h, H: Nsec3Hasher> ZoneRecords<'h, H> {
     fn cut_at<O: ToName>(&self, ancestor: &O, near: &Neighbours<'_>) -> Option<Cut<'_>>
         requires { shows near.now (O.name ancestor.now)
             ≡ list_any (λ r. at_or_above (O.name ancestor.now) r.owner) self.now.records }
-        ensures some { let z = zone_with self.now.apex self.now.records in
+        ensures some { let z = zone_of self.now in
             IfSome result (λ c. (has z (low (O.name ancestor.now)) 2 ≡ true)
             × (low c.name.now ≡ low (O.name ancestor.now)) × IsCutRecords self.now.records c) }
-        ensures none { let z = zone_with self.now.apex self.now.records in
+        ensures none { let z = zone_of self.now in
             IsNone result → has z (low (O.name ancestor.now)) 2 ≡ false }
     {
         if !near.shows(ancestor) {

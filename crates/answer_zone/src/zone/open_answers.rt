@@ -1,17 +1,16 @@
 //! Answers that opt-out leaves open (RFC 5155, 6, 7.2.4 and 7.2.7).
 ghost use Rattle.std.specs.Prelude.{◌≡◌, [], ◌∷◌, ◌++◌, ◌||◌, ◌==◌, None, true, false, IfErr, IfOk, OnOk};
 ghost use Rattle.definitions.specs.Name.{low};
-ghost use Rattle.definitions.specs.Zone.{Open, cut_above, has, is_open};
+ghost use Rattle.definitions.specs.Zone.{Open, has};
 ghost use Rattle.definitions.specs.ZoneChain.{optout_of};
 ghost use Rattle.denial_laws.specs.OwnFacts.{spoken};
-ghost use Rattle.answer_shared.specs.Accepting.{zone_with};
 ghost use Rattle.answer_shared.specs.GroupView.{Adds};
 ghost use Rattle.answer_shared.specs.Served.{expanded, proofs_of, soa, unsigned_ns};
 ghost use Rattle.answer_zone_records.specs.OwnedRecords.{owned_by};
-ghost use Rattle.answer_zone.specs.Cuts.{NoneRefers};
 ghost use Rattle.answer_zone.specs.HashedZone.{FailsFor, IsHashFailure, served_by};
 ghost use Rattle.answer_zone.specs.Placed.{IsCutRecords, IsNear};
 ghost use Rattle.answer_zone.specs.ZoneAnswers.{AnswersAs, Holds};
+ghost use Rattle.answer_zone.specs.Questions.{AnswersItself, IsPlain, LeavesOpen, zone_of};
 
 use crate::zone::ZoneRecords;
 use crate::zone::answers::{AUTHORITATIVE, NO_SUCH_NAME, REFERRAL, ZoneAnswer};
@@ -34,10 +33,9 @@ impl<'h, H: Nsec3Hasher> ZoneRecords<'h, H> {
         near: &Neighbours<'_>,
         rtype: Rtype,
     ) -> Result<ZoneAnswer, HashError>
-        requires plain { ((rtype == 47) || (rtype == 50)) ≡ false }
+        requires plain { IsPlain rtype }
         requires near { IsNear name.now self.now.records near.now }
-        requires open { let z = zone_with self.now.apex self.now.records in
-            is_open z (optout_of self.now.mode) (low name.now) ≡ true }
+        requires open { LeavesOpen self.now name.now true }
         ensures answer { IfOk result (AnswersAs (served_by H.hash_of self.now) name.now rtype) }
         ensures failed { IfErr result (FailsFor H.hash_of self.now name.now rtype) }
     {
@@ -57,14 +55,13 @@ impl<'h, H: Nsec3Hasher> ZoneRecords<'h, H> {
     ) -> Result<ZoneAnswer, HashError>
         requires near { IsNear name.now self.now.records near.now }
         requires opted { optout_of self.now.mode ≡ true }
-        requires delegation { has (zone_with self.now.apex self.now.records) (low cut.now.name.now) 2
-            ≡ true }
+        requires delegation { has (zone_of self.now) (low cut.now.name.now) 2 ≡ true }
         requires records { IsCutRecords self.now.records cut.now }
         ensures answer { let s = served_by H.hash_of self.now in
             let said = spoken s.zone s.mode (low name.now) Open in
             IfOk result (Holds 32768 [] (unsigned_ns s (low cut.now.name.now) ++ proofs_of s said)) }
         ensures failed { let hash = H.hash_of self.now.hasher in let mode = self.now.mode in
-            let z = zone_with self.now.apex self.now.records in
+            let z = zone_of self.now in
             IfErr result (IsHashFailure hash mode (spoken z mode (low name.now) Open)) }
     {
         let mut authority = self.name_servers(alloc, cut)?;
@@ -84,14 +81,10 @@ impl<'h, H: Nsec3Hasher> ZoneRecords<'h, H> {
         near: &Neighbours<'_>,
         rtype: Rtype,
     ) -> Result<ZoneAnswer, HashError>
-        requires plain { ((rtype == 47) || (rtype == 50)) ≡ false }
+        requires plain { IsPlain rtype }
         requires near { IsNear name.now self.now.records near.now }
-        requires open { let z = zone_with self.now.apex self.now.records in
-            is_open z (optout_of self.now.mode) (low name.now) ≡ true }
-        requires own { let z = zone_with self.now.apex self.now.records in
-            NoneRefers z (low name.now) rtype }
-        requires uncut { let z = zone_with self.now.apex self.now.records in
-            cut_above z (low name.now) ≡ None }
+        requires open { LeavesOpen self.now name.now true }
+        requires own { AnswersItself self.now name.now rtype }
         ensures answer { IfOk result (AnswersAs (served_by H.hash_of self.now) name.now rtype) }
         ensures failed { IfErr result (FailsFor H.hash_of self.now name.now rtype) }
     {
@@ -124,7 +117,7 @@ impl<'h, H: Nsec3Hasher> ZoneRecords<'h, H> {
             let said = spoken s.zone s.mode (low name.now) Open in
             IfOk result (Holds flags [] (soa s ∷ proofs_of s said)) }
         ensures failed { let hash = H.hash_of self.now.hasher in let mode = self.now.mode in
-            let z = zone_with self.now.apex self.now.records in
+            let z = zone_of self.now in
             IfErr result (IsHashFailure hash mode (spoken z mode (low name.now) Open)) }
     {
         let mut authority = self.soa_alone(alloc)?;
@@ -146,7 +139,7 @@ impl<'h, H: Nsec3Hasher> ZoneRecords<'h, H> {
         wild: &Owned<'_>,
         rtype: Rtype,
     ) -> Result<ZoneAnswer, HashError>
-        requires plain { ((rtype == 47) || (rtype == 50)) ≡ false }
+        requires plain { IsPlain rtype }
         requires near { IsNear name.now self.now.records near.now }
         requires opted { optout_of self.now.mode ≡ true }
         requires owned { wild.now ≡ owned_by star.now self.now.records }
@@ -155,7 +148,7 @@ impl<'h, H: Nsec3Hasher> ZoneRecords<'h, H> {
             let there = expanded s (low star.now) name.now rtype in
             IfOk result (Holds 33792 there (proofs_of s said)) }
         ensures failed { let hash = H.hash_of self.now.hasher in let mode = self.now.mode in
-            let z = zone_with self.now.apex self.now.records in
+            let z = zone_of self.now in
             IfErr result (IsHashFailure hash mode (spoken z mode (low name.now) Open)) }
     {
         let mut authority = Vec::new(alloc);
@@ -181,7 +174,7 @@ impl<'h, H: Nsec3Hasher> ZoneRecords<'h, H> {
             let said = spoken s.zone s.mode (low name.now) Open in
             OnOk result (Adds groups.old.items groups.new.items (proofs_of s said)) }
         ensures failed { let hash = H.hash_of self.now.hasher in let mode = self.now.mode in
-            let z = zone_with self.now.apex self.now.records in
+            let z = zone_of self.now in
             IfErr result (IsHashFailure hash mode (spoken z mode (low name.now) Open)) }
     {
         let around = self.around(alloc, name, near)?;

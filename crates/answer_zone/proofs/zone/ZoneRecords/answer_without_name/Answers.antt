@@ -31,12 +31,12 @@ returns-then-not-expands-clause-answer g c =
     let q = c.args.name.now in
     let t = c.args.rtype in
     let z = zone_with apex rs in
-    let plain : optout_of mode ≡ false = plain_zone z (optout_of mode) q c.requires.told c.requires.gone (below_none z q t c.requires.own c.requires.gone) in
+    let plain : optout_of mode ≡ false = plain_zone z (optout_of mode) q c.requires.told c.requires.gone (below_none z q t c.requires.own.0 c.requires.gone) in
     let star = star_under (kept_ancestor z false (low q)) in
     let is : low c.in_ok-around.around.star ≡ star = c.in_ok-around.ensures.star ∙ ap (λ b. star_under (kept_ancestor z b (low q))) plain in
     let x = apex_exists apex rs c.keeps.ensures.published.soa in
     let none : (at_or_above (low apex) (low q) && exists z star) ≡ false = (λ i. above-low apex q i && exists z (sym is i)) ∙ sym c.expands.ensures ∙ c.if-not-expands.true in
-    let said = no_name z x q t c.requires.own c.requires.gone none in
+    let said = no_name z x q t c.requires.own.0 c.requires.gone none in
     let whole = closed z (optout_of mode) q t c.requires.told ∙ said in
     let names = own.spoken z mode (low q) NoName in
     if_ok_map (Holds 33795 [] (soa s ∷ proofs_of s names)) (AnswersAs s q t) c.denied.result
@@ -54,12 +54,12 @@ returns-then-not-expands-clause-failed g c =
     let q = c.args.name.now in
     let t = c.args.rtype in
     let z = zone_with apex rs in
-    let plain : optout_of mode ≡ false = plain_zone z (optout_of mode) q c.requires.told c.requires.gone (below_none z q t c.requires.own c.requires.gone) in
+    let plain : optout_of mode ≡ false = plain_zone z (optout_of mode) q c.requires.told c.requires.gone (below_none z q t c.requires.own.0 c.requires.gone) in
     let star = star_under (kept_ancestor z false (low q)) in
     let is : low c.in_ok-around.around.star ≡ star = c.in_ok-around.ensures.star ∙ ap (λ b. star_under (kept_ancestor z b (low q))) plain in
     let x = apex_exists apex rs c.keeps.ensures.published.soa in
     let none : (at_or_above (low apex) (low q) && exists z star) ≡ false = (λ i. above-low apex q i && exists z (sym is i)) ∙ sym c.expands.ensures ∙ c.if-not-expands.true in
-    let said = no_name z x q t c.requires.own c.requires.gone none in
+    let said = no_name z x q t c.requires.own.0 c.requires.gone none in
     let whole = closed z (optout_of mode) q t c.requires.told ∙ said in
     if_err_map _ _ c.denied.result (λ f h. subst (λ (qs : List Name). IsHashFailure answers_of mode qs f) (sym (ap (spoken s (low q)) whole)) h) c.denied.ensures.failed
 
@@ -74,15 +74,15 @@ returns-then-has-clause-answer g c =
     let q = c.args.name.now in
     let t = c.args.rtype in
     let z = zone_with apex rs in
-    let plain : optout_of mode ≡ false = plain_zone z (optout_of mode) q c.requires.told c.requires.gone (below_none z q t c.requires.own c.requires.gone) in
+    let plain : optout_of mode ≡ false = plain_zone z (optout_of mode) q c.requires.told c.requires.gone (below_none z q t c.requires.own.0 c.requires.gone) in
     let star = star_under (kept_ancestor z false (low q)) in
     let is : low c.in_ok-around.around.star ≡ star = c.in_ok-around.ensures.star ∙ ap (λ b. star_under (kept_ancestor z b (low q))) plain in
     let x = apex_exists apex rs c.keeps.ensures.published.soa in
     let both = and_parts (at_or_above (low apex) (low q)) (exists z star) ((λ i. above-low apex q i && exists z (sym is i)) ∙ sym c.expands.ensures ∙ c.if-not-expands.false) in
     let there : has z star t ≡ true = ap (λ n. has z n t) (sym is) ∙ sym (c.has.ensures ∙ ap (list_any (is_of_type t)) c.owned-wild.ensures ∙ has_owned apex rs c.in_ok-around.around.star t) ∙ c.if-has.true in
     let ds = data_at z star t in
-    let said = star_records z x q t c.requires.own c.requires.gone both.0 both.1 there in
-    let e = encloser_there z x q t c.requires.own c.requires.gone both.0 in
+    let said = star_records z x q t c.requires.own.0 c.requires.gone both.0 both.1 there in
+    let e = encloser_there z x q t c.requires.own.0 c.requires.gone both.0 in
     let whole = closed z (optout_of mode) q t c.requires.told ∙ said in
     let names = own.spoken z mode (low q) (StarRecords []) in
     if_ok_map (Holds 33792 (expanded s (low c.in_ok-around.around.star) q t) (proofs_of s names)) (AnswersAs s q t) c.expanded.result
@@ -101,15 +101,15 @@ returns-then-has-clause-failed g c =
     let q = c.args.name.now in
     let t = c.args.rtype in
     let z = zone_with apex rs in
-    let plain : optout_of mode ≡ false = plain_zone z (optout_of mode) q c.requires.told c.requires.gone (below_none z q t c.requires.own c.requires.gone) in
+    let plain : optout_of mode ≡ false = plain_zone z (optout_of mode) q c.requires.told c.requires.gone (below_none z q t c.requires.own.0 c.requires.gone) in
     let star = star_under (kept_ancestor z false (low q)) in
     let is : low c.in_ok-around.around.star ≡ star = c.in_ok-around.ensures.star ∙ ap (λ b. star_under (kept_ancestor z b (low q))) plain in
     let x = apex_exists apex rs c.keeps.ensures.published.soa in
     let both = and_parts (at_or_above (low apex) (low q)) (exists z star) ((λ i. above-low apex q i && exists z (sym is i)) ∙ sym c.expands.ensures ∙ c.if-not-expands.false) in
     let there : has z star t ≡ true = ap (λ n. has z n t) (sym is) ∙ sym (c.has.ensures ∙ ap (list_any (is_of_type t)) c.owned-wild.ensures ∙ has_owned apex rs c.in_ok-around.around.star t) ∙ c.if-has.true in
     let ds = data_at z star t in
-    let said = star_records z x q t c.requires.own c.requires.gone both.0 both.1 there in
-    let e = encloser_there z x q t c.requires.own c.requires.gone both.0 in
+    let said = star_records z x q t c.requires.own.0 c.requires.gone both.0 both.1 there in
+    let e = encloser_there z x q t c.requires.own.0 c.requires.gone both.0 in
     let whole = closed z (optout_of mode) q t c.requires.told ∙ said in
     if_err_map _ _ c.expanded.result (λ f h. subst (λ (qs : List Name). IsHashFailure answers_of mode qs f) (sym (ap (spoken s (low q)) whole)) h) c.expanded.ensures.failed
 
@@ -124,13 +124,13 @@ returns-clause-answer g c =
     let q = c.args.name.now in
     let t = c.args.rtype in
     let z = zone_with apex rs in
-    let plain : optout_of mode ≡ false = plain_zone z (optout_of mode) q c.requires.told c.requires.gone (below_none z q t c.requires.own c.requires.gone) in
+    let plain : optout_of mode ≡ false = plain_zone z (optout_of mode) q c.requires.told c.requires.gone (below_none z q t c.requires.own.0 c.requires.gone) in
     let star = star_under (kept_ancestor z false (low q)) in
     let is : low c.in_ok-around.around.star ≡ star = c.in_ok-around.ensures.star ∙ ap (λ b. star_under (kept_ancestor z b (low q))) plain in
     let x = apex_exists apex rs c.keeps.ensures.published.soa in
     let both = and_parts (at_or_above (low apex) (low q)) (exists z star) ((λ i. above-low apex q i && exists z (sym is i)) ∙ sym c.expands.ensures ∙ c.if-not-expands.false) in
     let none : has z star t ≡ false = ap (λ n. has z n t) (sym is) ∙ sym (c.has.ensures ∙ ap (list_any (is_of_type t)) c.owned-wild.ensures ∙ has_owned apex rs c.in_ok-around.around.star t) ∙ c.if-has.false in
-    let said = star_no_type z x q t c.requires.own c.requires.gone both.0 both.1 none in
+    let said = star_no_type z x q t c.requires.own.0 c.requires.gone both.0 both.1 none in
     let whole = closed z (optout_of mode) q t c.requires.told ∙ said in
     let names = own.spoken z mode (low q) NoName in
     if_ok_map (Holds 33792 [] (soa s ∷ proofs_of s names)) (AnswersAs s q t) c.denied-2.result
@@ -148,13 +148,13 @@ returns-clause-failed g c =
     let q = c.args.name.now in
     let t = c.args.rtype in
     let z = zone_with apex rs in
-    let plain : optout_of mode ≡ false = plain_zone z (optout_of mode) q c.requires.told c.requires.gone (below_none z q t c.requires.own c.requires.gone) in
+    let plain : optout_of mode ≡ false = plain_zone z (optout_of mode) q c.requires.told c.requires.gone (below_none z q t c.requires.own.0 c.requires.gone) in
     let star = star_under (kept_ancestor z false (low q)) in
     let is : low c.in_ok-around.around.star ≡ star = c.in_ok-around.ensures.star ∙ ap (λ b. star_under (kept_ancestor z b (low q))) plain in
     let x = apex_exists apex rs c.keeps.ensures.published.soa in
     let both = and_parts (at_or_above (low apex) (low q)) (exists z star) ((λ i. above-low apex q i && exists z (sym is i)) ∙ sym c.expands.ensures ∙ c.if-not-expands.false) in
     let none : has z star t ≡ false = ap (λ n. has z n t) (sym is) ∙ sym (c.has.ensures ∙ ap (list_any (is_of_type t)) c.owned-wild.ensures ∙ has_owned apex rs c.in_ok-around.around.star t) ∙ c.if-has.false in
-    let said = star_no_type z x q t c.requires.own c.requires.gone both.0 both.1 none in
+    let said = star_no_type z x q t c.requires.own.0 c.requires.gone both.0 both.1 none in
     let whole = closed z (optout_of mode) q t c.requires.told ∙ said in
     if_err_map _ _ c.denied-2.result (λ f h. subst (λ (qs : List Name). IsHashFailure answers_of mode qs f) (sym (ap (spoken s (low q)) whole)) h) c.denied-2.ensures.failed
 
@@ -162,4 +162,4 @@ pub expands-requires-clause-uncut : goal.expands-requires-clause-uncut
 expands-requires-clause-uncut g c = λ inside.
     let z = zone_with c.args.self.now.apex c.args.self.now.records in
     let q = low c.args.name.now in
-    ap (cut_above z) c.in_ok-around.ensures.star ∙ uncut_encloser z (optout_of c.args.self.now.mode) q c.requires.uncut
+    ap (cut_above z) c.in_ok-around.ensures.star ∙ uncut_encloser z (optout_of c.args.self.now.mode) q c.requires.own.1

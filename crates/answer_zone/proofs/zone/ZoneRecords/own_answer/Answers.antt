@@ -30,7 +30,7 @@ returns-then-has-clause-answer g c =
     let z = zone_with apex rs in
     let there : has z (low q) t ≡ true = sym (c.has.ensures ∙ ap (list_any (is_of_type t)) c.requires.owned ∙ has_owned apex rs q t) ∙ c.if-has.true in
     let ds = data_at z (low q) t in
-    let said = has_type z q t c.requires.own (owner_inside apex rs c.keeps.ensures.published.inside q t there) there in
+    let said = has_type z q t c.requires.own.0 (owner_inside apex rs c.keeps.ensures.published.inside q t there) there in
     let whole = closed z (optout_of mode) q t c.requires.told ∙ said in
     answers s q t (Records ds) (under q (rrset s (low q) t) ∷ []) [] c.in_ok-found.field-0 said refl (groups_found apex mode hash rs q t ds whole) c.in_ok-found.ensures
 
@@ -45,10 +45,10 @@ returns-then-stands-clause-answer g c =
     let q = c.args.name.now in
     let t = c.args.rtype in
     let z = zone_with apex rs in
-    let stood = exists_here apex rs q (none_strictly z (low q) (low-low q) c.requires.uncut) in
+    let stood = exists_here apex rs q (none_strictly z (low q) (low-low q) c.requires.own.1) in
     let none : has z (low q) t ≡ false = sym (c.has.ensures ∙ ap (list_any (is_of_type t)) c.requires.owned ∙ has_owned apex rs q t) ∙ c.if-has.false in
     let there : exists z (low q) ≡ true = stood ∙ sym c.stands.ensures ∙ c.if-stands.true in
-    let said = lacks_type z q t c.requires.own there none in
+    let said = lacks_type z q t c.requires.own.0 there none in
     let whole = closed z (optout_of mode) q t c.requires.told ∙ said in
     if_ok_map (Holds 33792 [] (soa s ∷ proofs_of s (low q ∷ []))) (AnswersAs s q t) c.missing.result
     (λ a h. answers s q t NoType [] (soa s ∷ proofs_of s (low q ∷ [])) a said refl (groups_without_type apex mode hash rs q t whole) h)
@@ -65,10 +65,10 @@ returns-then-stands-clause-failed g c =
     let q = c.args.name.now in
     let t = c.args.rtype in
     let z = zone_with apex rs in
-    let stood = exists_here apex rs q (none_strictly z (low q) (low-low q) c.requires.uncut) in
+    let stood = exists_here apex rs q (none_strictly z (low q) (low-low q) c.requires.own.1) in
     let none : has z (low q) t ≡ false = sym (c.has.ensures ∙ ap (list_any (is_of_type t)) c.requires.owned ∙ has_owned apex rs q t) ∙ c.if-has.false in
     let there : exists z (low q) ≡ true = stood ∙ sym c.stands.ensures ∙ c.if-stands.true in
-    let said = lacks_type z q t c.requires.own there none in
+    let said = lacks_type z q t c.requires.own.0 there none in
     let whole = closed z (optout_of mode) q t c.requires.told ∙ said in
     if_err_map _ _ c.missing.result (λ e h. subst (λ (qs : List Name). IsHashFailure answers_of mode qs e) (sym (ap (spoken s (low q)) whole)) h) c.missing.ensures.failed
 
@@ -76,4 +76,4 @@ pub answer_without_name-requires-clause-gone : goal.answer_without_name-requires
 answer_without_name-requires-clause-gone g c =
     let z = c.args.self.now in
     let q = c.args.name.now in
-    exists_here z.apex z.records q (none_strictly (zone_with z.apex z.records) (low q) (low-low q) c.requires.uncut) ∙ sym c.stands.ensures ∙ c.if-stands.false
+    exists_here z.apex z.records q (none_strictly (zone_with z.apex z.records) (low q) (low-low q) c.requires.own.1) ∙ sym c.stands.ensures ∙ c.if-stands.false
