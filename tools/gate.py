@@ -5,8 +5,9 @@ usage: tools/gate.py [FILE]
 
 It passes on what `rt ci` prints and looks at its processes twice a second. The row `rt` is what all of them but the prover
 take: `rt ci` itself, links, and runs. A crate that an earlier run passed on this machine is not proved again and has no row.
-Before the last line, which stays the last, it prints once more the lines that say what failed, and the table of
-docs/proof/GATE.md. RT_JOBS says on how many processors the gate runs. FILE gets the table so far
+Behind each crate it says how many are done, how long that took and how long the rest will take, by the minutes that
+docs/proof/GATE.md has. Before the last line, which stays the last, it prints once more the lines that say what failed, and
+the table of docs/proof/GATE.md. RT_JOBS says on how many processors the gate runs. FILE gets the table so far
 each minute, so that a run that is stopped tells what it cost.
 """
 
@@ -25,6 +26,9 @@ TICKS = os.sysconf("SC_CLK_TCK")
 # Lines that say what was refused and why; of them the last so many are printed again.
 FAULT = re.compile(r": error: |FAILED|NOT REFUSED|BAD EDIT|NOT TRIED|no proof: |was killed|differ first at|panicked")
 FAULTS = 60
+# Lines that end a crate's proof, or one of its edits; rows of the table that was measured.
+DONE = re.compile(r"rt: (?:(\w+) (?:proved|is kept)|must-fail (\w+)/)")
+MEASURED = re.compile(r"\| `(\w+)` \| ([\d.]+) \| ([\d.]*) \| ([\d.]*) \|")
 
 
 def is_below(entry):
@@ -73,6 +77,36 @@ def watch(seconds, is_over, file):
             written = now
 
 
+class Progress:
+    """How far a run is: crates done of all, and minutes of one processor that they took when they were measured."""
+
+    def __init__(self):
+        lines = (TOP / "crates.txt").read_text().splitlines()
+        names = [line.split(":")[0].split()[0] for line in lines if ":" in line and not line.startswith("#")]
+        measured = {}
+        for name, *cells in MEASURED.findall((TOP / "docs/proof/GATE.md").read_text()):
+            measured[name] = [float(cell or 0) for cell in cells]
+        self.proofs = {name: measured.get(name, [3, 0, 0])[0] for name in names}
+        edits = {name: list((TOP / "crates" / name / "must-fail").glob("*.edit")) for name in names}
+        self.edits = {name: measured.get(name, [3, 0, 0])[2] / max(1, len(edits[name])) or 1 for name in names}
+        self.left = sum(self.proofs.values()) + sum(self.edits[name] * len(edits[name]) for name in names)
+        self.spent, self.done, self.began = 0, 0, time.monotonic()
+
+    def after(self, line):
+        """What is said behind a line that ends a part of the run; nothing behind others."""
+        found = DONE.match(line)
+        if not found or not {found[1], found[2]} & self.proofs.keys():
+            return ""
+        took = self.proofs[found[1]] if found[1] else self.edits[found[2]]
+        self.done += bool(found[1])
+        self.left -= took
+        # what an earlier run proved takes no time
+        self.spent += 0 if "is kept" in line else took
+        minutes = (time.monotonic() - self.began) / 60
+        rest = f", some {max(0, self.left) * minutes / self.spent:.0f} left" if self.spent > 5 else ""
+        return f"gate: {self.done} of {len(self.proofs)} crates done, {minutes:.0f} minutes so far{rest}\n"
+
+
 def row(name, cells):
     return f"| {name} | " + " | ".join(f"{it / 60:.1f}" for it in cells) + " |"
 
@@ -92,11 +126,12 @@ def main():
     seconds, is_over = collections.defaultdict(dict), threading.Event()
     file = pathlib.Path(sys.argv[1]) if len(sys.argv) > 1 else None
     began, last, faults = time.monotonic(), "", collections.deque(maxlen=FAULTS)
+    progress = Progress()
     with subprocess.Popen(["rt", "ci"], cwd=TOP, stdout=subprocess.PIPE, text=True, errors="replace") as gate:
         watcher = threading.Thread(target=watch, args=(seconds, is_over, file), daemon=True)
         watcher.start()
         for line in gate.stdout:
-            print(last, end="", flush=True)
+            print(last + progress.after(last), end="", flush=True)
             last = line
             if FAULT.search(line):
                 faults.append(line)
