@@ -14,12 +14,12 @@ use crate::signing::{SignatureTerms, sign_group};
 use answer_scheme::error::SchemeError;
 use answer_scheme::scheme::Scheme;
 use answer_shared::dnskey::Dnskey;
-use answer_zone::group::RrGroup;
+use answer_zone_records::group::RrGroup;
 use messages::names::{Name, Octets};
 use messages::question::Question;
 use messages::write::{push_header, push_question, push_record};
-use names_rdata::rtype::Rtype;
 use numbers::class::Class;
+use numbers::rtype::Rtype;
 use numbers::ttl::Ttl;
 use std::alloc::Global;
 

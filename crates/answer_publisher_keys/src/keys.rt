@@ -16,7 +16,7 @@ ghost use Rattle.answer_publisher_keys.specs.KeyCalls.{ActsOnKeys, SetsKeys};
 ghost use Rattle.answer_publisher_keys.specs.NewKeys.{added_tag, added_to, AddsBound, Foretells};
 
 use crate::fault::KeyFault;
-pub use answer_events::key_kind::KeyKind;
+use answer_events::key_kind::KeyKind;
 use answer_shared::dnskey::{Dnskey, ZoneKey};
 use answer_shared::ranked::{put_data, put_ranked};
 use denial_data::Ds;

@@ -5,8 +5,8 @@ ghost use Rattle.answer_shared.specs.Asking.{is_allowed};
 
 use messages::names::{Name, is_at_or_above};
 use messages::question::Question;
-use names_rdata::rtype::Rtype;
 use numbers::class::Class;
+use numbers::rtype::Rtype;
 
 /// Whether a question is answered and judged: class IN, at or below the apex, and none of the types that signing
 /// adds, of aliases, or that no zone holds (RFC 6895, 3.1).

@@ -1,6 +1,4 @@
 //! A zone's records in canonical order, and the RRsets of the zone's answers.
 #![tactic(auto)]
 
-pub use answer_zone_records::{fault, group};
-
 pub mod zone;

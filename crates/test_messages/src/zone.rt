@@ -2,9 +2,9 @@
 
 use crate::words::{name_of, wire_of};
 use answer_shared::mode::Mode;
-use answer_zone::group::RrGroup;
 use answer_zone::zone::ZoneRecords;
 use answer_zone::zone::answers::ZoneAnswer;
+use answer_zone_records::group::RrGroup;
 use denial_fields::salt::Nsec3Salt;
 use denial_nsec3_sha1::hasher::Sha1Hasher;
 use messages::names::{Name, copy_name};
