@@ -3,3 +3,7 @@ pub mod HeadRead
 pub mod Pieces
 pub mod WrittenBack
 pub mod Whole
+pub mod Walked
+pub mod InPlace
+pub mod Anywhere
+pub mod Seen

@@ -35,7 +35,7 @@ pub(crate) fn put_data(
 }
 
 /// The same of data from a place up to a limit.
-fn put_formed(
+pub(crate) fn put_formed(
     message: &[u8],
     rtype: Rtype,
     start: usize,
@@ -108,7 +108,7 @@ fn put_part(
 }
 
 /// The name at a place, and the place behind it, no further than a limit.
-fn name_upto(message: &[u8], at: usize, limit: usize) -> Option<(ParsedName<'_>, usize)>
+pub(crate) fn name_upto(message: &[u8], at: usize, limit: usize) -> Option<(ParsedName<'_>, usize)>
     ensures { option_map (λ r. named (parsed_name r.0) r.1) result
         ≡ name_upto pointer_limit message.now at limit }
 {
@@ -141,7 +141,12 @@ pub(crate) fn put_kept(name: &ParsedName, data: &mut Vec<u8>) -> Result<(), Allo
 }
 
 /// The octets of a part without names, as they stand, and the place behind them.
-fn octets_upto(message: &[u8], part: Part, at: usize, limit: usize) -> Option<(&[u8], usize)>
+pub(crate) fn octets_upto(
+    message: &[u8],
+    part: Part,
+    at: usize,
+    limit: usize,
+) -> Option<(&[u8], usize)>
     requires { limit ≤ length message.now }
     ensures { let width = width_at message.now limit part at in
         option_map (λ r. (r.0.now, r.1)) result ≡ octets_upto message.now limit at width }

@@ -7,7 +7,9 @@ pub mod error;
 pub mod form;
 pub mod laws;
 pub mod message;
+mod standing;
+mod walk;
 
 pub use crate::data::is_canonical_data;
 pub use crate::error::CanonicalError;
-pub use crate::message::canonical_message;
+pub use crate::message::{canonical_cow, canonical_message};

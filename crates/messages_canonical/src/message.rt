@@ -1,20 +1,26 @@
 //! Whole messages in canonical form.
-ghost use Rattle.std.specs.Prelude.{◌≡◌, ◌≤◌, ◌++◌, length, map, IfOk, IfErr, OnOk};
+ghost use Rattle.std.specs.Prelude.{◌≡◌, ◌≤◌, ◌++◌, length, map, true, IfOk, IfErr, OnOk};
+ghost use Rattle.std.specs.Cow.{cow_slice_items};
 ghost use Rattle.std.specs.List.{flat_map};
 ghost use Rattle.definitions.specs.Limits.{pointer_limit};
+ghost use Rattle.messages.specs.Message.{data_of};
 ghost use Rattle.messages.specs.Record.{spelled};
 ghost use Rattle.messages.specs.Rrsig.{record_numbers};
 ghost use Rattle.messages.specs.Written.{record_octets};
-ghost use Rattle.messages_canonical.specs.Canonical.{HasNone, IsCanonical, Writes, canonical_record, canonical_records, head_octets, most_octets, with_data};
+ghost use Rattle.messages_canonical.specs.Canonical.{HasNone, IsCanonical, Writes, canonical_rdata, canonical_record, canonical_records, head_octets, most_octets, with_data};
+ghost use Rattle.messages_canonical.specs.InForm.{HasNoForm, IsInForm};
 
 use crate::data::{put_data, put_kept};
 use crate::error::CanonicalError;
+use crate::standing::data_stand;
+use crate::walk::is_in_form;
 use messages::write::push_u16;
 use messages::{MessageView, ViewRecord, read_message_into};
 use names_rdata::rtype::Rtype;
 use numbers::class::Class;
 use numbers::ttl::Ttl;
 use std::alloc::{AllocError, Global};
+use std::borrow::CowSlice;
 
 /// A message has no more octets (RFC 1035, 4.2.2).
 const MOST: usize = 65535;
@@ -39,6 +45,23 @@ pub fn canonical_message(alloc: Global, bytes: &[u8]) -> Result<Vec<u8>, Canonic
         return Err(CanonicalError::TooLong);
     }
     Ok(octets)
+}
+
+/// The message as whoever verifies signatures is to see it: as it was received where the data of all its records are in canonical
+/// form already, or of a type whose names are read as names (NS, SOA, RRSIG, NSEC), and where it doesn't read; else in canonical
+/// form. What was received is borrowed.
+pub fn canonical_cow<'a>(alloc: Global, bytes: &'a [u8]) -> Result<CowSlice<'a, u8>, CanonicalError>
+    ensures ok { IfOk result (λ o. IsInForm bytes.now (cow_slice_items o)) }
+    ensures none { IfErr result (HasNoForm bytes.now) }
+{
+    if is_in_form(alloc, bytes)? {
+        return Ok(CowSlice::Borrowed(bytes));
+    }
+    match canonical_message(alloc, bytes) {
+        Ok(octets) => Ok(CowSlice::Owned(octets)),
+        Err(CanonicalError::Message(_)) => Ok(CowSlice::Borrowed(bytes)),
+        Err(error) => Err(error),
+    }
 }
 
 /// Writes the header and the question at the end.
@@ -85,10 +108,19 @@ fn push_record(
     ensures { let more = record_octets (canonical_record pointer_limit bytes.now (spelled record.now)) in
         IfOk result (λ b. Writes b octets.old.items octets.new.items more) }
 {
-    if put_data(bytes, record, data)? {
+    if !record_stands(bytes, record) && put_data(bytes, record, data)? {
         return push_with_data(record, data, octets);
     }
     push_with_data(record, record.octets(bytes), octets)
+}
+
+/// Whether the data of a record are seen to be in canonical form as they stand.
+fn record_stands(bytes: &[u8], record: &ViewRecord) -> bool
+    ensures { let r = spelled record.now in
+        result ≡ true → canonical_rdata pointer_limit bytes.now r ≡ data_of bytes.now r }
+{
+    let limit = record.start + record.length;
+    limit <= bytes.len() && data_stand(bytes, record.rtype, record.start, limit)
 }
 
 /// Writes a record with these data at the end; false where a message has no room for it.

@@ -11,7 +11,8 @@
 //!   first label is a star, whether any is, and the wildcard below it; its last labels; its octets, spelled and canonical.
 //! - `message OCTETS`: what a message asks, and each record with the place of its data; `data OCTETS`: the canonical data of
 //!   the first record, and what a link or signature says; `write NAME TYPE CLASS OWNER TTL OCTETS`: a message of one record;
-//!   `numbers NUMBER NUMBER`: of 16 and of 32 bits, as they are written. `canonical OCTETS`: the message in canonical form.
+//!   `numbers NUMBER NUMBER`: of 16 and of 32 bits, as they are written. `canonical OCTETS`: the message in canonical form;
+//!   `form OCTETS`: as whoever verifies signatures is to see it.
 //! - `key FLAGS ALGORITHM OCTETS`, `key-data OCTETS`: a key with its tag, whether it is a zone key, and its data.
 //!   `ranked OCTETS,..`: data in order; `digests TAG,..`: DS records in order.
 //! - `fields RRSIG`: the fields of a signature, spelled and canonical; `signed RRSIG OWNER OCTETS,..`: what it is made over.
@@ -41,7 +42,9 @@ fn reply(alloc: Global, section: &mut Section<'_>, line: &str) -> Option<String>
     let (name, rest) = first_word(line);
     match name {
         "name" | "is" | "flat" | "whole" | "compare" | "parts" => of_names(alloc, name, rest),
-        "message" | "data" | "write" | "numbers" | "canonical" => of_messages(alloc, name, rest),
+        "message" | "data" | "write" | "numbers" | "canonical" | "form" => {
+            of_messages(alloc, name, rest)
+        }
         "key" | "key-data" | "ranked" | "digests" | "fields" | "signed" => {
             of_keys(alloc, name, rest)
         }
@@ -70,6 +73,7 @@ fn of_messages(alloc: Global, name: &str, rest: &str) -> Option<String> {
         ("write", words) => records::written(alloc, words),
         ("numbers", [first, second]) => records::numbers(alloc, first, second),
         ("canonical", [octets]) => records::canonical(alloc, octets),
+        ("form", [octets]) => records::form(alloc, octets),
         _ => None,
     }
 }

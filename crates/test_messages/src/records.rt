@@ -3,10 +3,11 @@
 use crate::words::{name_of, wire_of};
 use messages::write::{push_header, push_question, push_record, push_u16, push_u32};
 use messages::{MessageView, ViewRecord, read_message};
-use messages_canonical::canonical_message;
+use messages_canonical::{canonical_cow, canonical_message};
 use names::Rtype;
 use plain::{Class, Ttl};
 use std::alloc::Global;
+use std::borrow::CowSlice;
 use test_lines::{octets_of, printed, refused};
 
 /// What a message asks, and its records.
@@ -27,6 +28,16 @@ pub fn canonical(alloc: Global, octets: &str) -> Option<String> {
             let (digits, contents) = (printed(alloc, &octets)?, contents(alloc, &octets, &view)?);
             format!(in alloc; "{digits}: {contents}").ok()
         }
+        Err(error) => refused(alloc, &error),
+    }
+}
+
+/// A message as whoever verifies signatures is to see it: its octets, and whether they are those that were received.
+pub fn form(alloc: Global, octets: &str) -> Option<String> {
+    let octets = octets_of(alloc, octets)?;
+    match canonical_cow(alloc, &octets) {
+        Ok(CowSlice::Borrowed(_)) => format!(in alloc; "as received").ok(),
+        Ok(CowSlice::Owned(written)) => printed(alloc, &written),
         Err(error) => refused(alloc, &error),
     }
 }
