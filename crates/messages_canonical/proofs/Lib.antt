@@ -7,3 +7,4 @@ pub mod Walked
 pub mod InPlace
 pub mod Anywhere
 pub mod Seen
+pub mod ReadSo

@@ -1,10 +1,11 @@
 -- Laws of canonical forms.
-use Rattle.std.specs.Prelude.{◌≡◌, ℕ, ◌+◌, ◌≤◌, ◌<◌, true, List, length, Ok}
+use Rattle.std.specs.Prelude.{◌≡◌, ℕ, ◌+◌, ◌≤◌, ◌<◌, true, List, [], ◌∷◌, length, Some, Ok}
 use Rattle.std.specs.List.{AllByRecursion}
 use Rattle.definitions.specs.Limits.{pointer_limit}
-use Rattle.messages.specs.Message.{Message, Spelled, data_of, message}
+use Rattle.messages.specs.Message.{Message, Spelled, canonical_data, data_of, message}
 use Rattle.messages.specs.WrittenLaws.{ReadsBack}
-use Rattle.messages_canonical.specs.Canonical.{canonical_octets, canonical_records, most_octets}
+use Rattle.messages_canonical.specs.Canonical.{canonical_octets, canonical_rdata, canonical_records, most_octets}
+use Rattle.messages_canonical.specs.Forms.{is_among}
 use Rattle.messages_canonical.specs.InForm.{has_form, is_in_form}
 
 -- what is written in canonical form, where it isn't too long
@@ -18,3 +19,9 @@ CanonicalReadsBack =
 abbrev pub DataStayInForm : Type 0
 DataStayInForm =
     (m : List ℕ) (r : Spelled) → r.start + r.length ≤ length m → has_form r.rtype (data_of m r) ≡ true → is_in_form pointer_limit m r ≡ true
+
+-- NS, SOA and NSEC data that read as their type's read in canonical form, however they stand
+abbrev pub NamesAreReadSo : Type 0
+NamesAreReadSo =
+    (m : List ℕ) (r : Spelled) (d : List ℕ) → is_among r.rtype (2 ∷ 6 ∷ 47 ∷ []) ≡ true → canonical_data pointer_limit m r ≡ Some d
+    → canonical_rdata pointer_limit m r ≡ d

@@ -39,7 +39,8 @@ pub fn canonical_message(alloc: Global, bytes: &[u8]) -> Result<Vec<u8>, Canonic
     let mut records = Vec::new(alloc);
     let (view, listed) = read_message_into(bytes, &mut records)?;
     listed?;
-    let mut octets = Vec::with_capacity(alloc, bytes.len())?;
+    let room = bytes.len().saturating_mul(2).min(MOST);
+    let mut octets = Vec::with_capacity(alloc, room)?;
     push_head(bytes, &view, &mut octets)?;
     if !push_records(alloc, bytes, &records, &mut octets)? {
         return Err(CanonicalError::TooLong);
