@@ -61,12 +61,14 @@ impl<'a> MessageText<'a> {
     ) -> fmt::Result {
         let answers = usize::from(self.number_at(6));
         let behind = answers + usize::from(self.number_at(8));
-        for (place, record) in view.records().enumerate() {
+        let mut place = 0usize;
+        for record in view.records() {
             if let Some(title) = title_at(place, answers, behind) {
                 writeln!(f, ";; {title} SECTION:")?;
             }
             write_record(f, self.octets, &record)?;
             f.write_str("\n")?;
+            place = place.wrapping_add(1);
         }
         Ok(())
     }
