@@ -6,6 +6,7 @@ ghost use Rattle.denial_laws.specs.Deciding.{decided, hashed};
 ghost use Rattle.answer_judge_rules.specs.Hashes.{fails_among, hash_among, hashed_for};
 ghost use Rattle.answer_judge_rules.specs.Hashing.{by_hashes, by_names, fails_as, hash_as, hashed_by, Hashes};
 ghost use Rattle.answer_judge_rules.specs.Rules.{verdict_of};
+ghost use Rattle.answer_scheme.specs.Answers.{NoneVerified};
 
 use crate::expanded::expanded;
 pub use crate::facts::{Facts, HashLink, Link, Rrset};
@@ -54,6 +55,7 @@ pub fn decide<C: Checks>(
     ensures few { C.hashed checks.new ≤ C.hashed checks.old + length name.now + 2 }
     ensures told { C.hashed checks.new ≡ C.hashed checks.old + hashes.new }
     ensures others { C.verified checks.new ≡ C.verified checks.old }
+    ensures none { NoneVerified C.agrees C.asked_only checks.old checks.new }
     ensures same { C.answers checks.new ≡ C.answers checks.old }
 {
     name.keeps();
@@ -81,6 +83,7 @@ fn by_rules<C: Checks>(
         Hashes fails names (C.hashed checks.old) (C.hashed checks.new) result }
     ensures alike { C.hashed checks.new + count.old ≡ C.hashed checks.old + count.new }
     ensures others { C.verified checks.new ≡ C.verified checks.old }
+    ensures none { NoneVerified C.agrees C.asked_only checks.old checks.new }
     ensures same { C.answers checks.new ≡ C.answers checks.old }
 {
     if !is_at_or_above(apex, name) {
@@ -148,6 +151,7 @@ fn by_hash_links<C: Checks>(
         Hashes fails names (C.hashed checks.old) (C.hashed checks.new) result }
     ensures alike { C.hashed checks.new + count.old ≡ C.hashed checks.old + count.new }
     ensures others { C.verified checks.new ≡ C.verified checks.old }
+    ensures none { NoneVerified C.agrees C.asked_only checks.old checks.new }
     ensures same { C.answers checks.new ≡ C.answers checks.old }
 {
     let mut octets = Vec::with_capacity(chain.alloc, 255)?;

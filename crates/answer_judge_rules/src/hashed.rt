@@ -7,6 +7,7 @@ ghost use Rattle.denial_laws.specs.NsecRules.{first_some};
 ghost use Rattle.denial_laws.specs.Nsec3Rules.{star_at, beyond, enclosed, climbed, hash_denied, hash_expanded_by, hash_expanded, last_labels, hashed_enclosed, hashed_climbing, hashed_denied};
 ghost use Rattle.answer_judge_rules.specs.Hashing.{fails_as, hash_as, hashed_beyond, Hashes};
 ghost use Rattle.answer_judge_rules.specs.Rules.{verdict_of};
+ghost use Rattle.answer_scheme.specs.Answers.{NoneVerified};
 
 use crate::facts::{HashLink, Rrset};
 use crate::hash_links::{
@@ -50,6 +51,7 @@ fn at_wildcard<C: Checks>(
         Hashes fails names (C.hashed checks.old) (C.hashed checks.new) result }
     ensures alike { C.hashed checks.new + count.old ≡ C.hashed checks.old + count.new }
     ensures others { C.verified checks.new ≡ C.verified checks.old }
+    ensures none { NoneVerified C.agrees C.asked_only checks.old checks.new }
     ensures same { C.answers checks.new ≡ C.answers checks.old }
 {
     let star = hash_wildcard(chain.alloc, chain.first, checks, count, octets, encloser)?;
@@ -81,6 +83,7 @@ fn beyond_encloser<C: Checks>(
         Hashes fails names (C.hashed checks.old) (C.hashed checks.new) result }
     ensures alike { C.hashed checks.new + count.old ≡ C.hashed checks.old + count.new }
     ensures others { C.verified checks.new ≡ C.verified checks.old }
+    ensures none { NoneVerified C.agrees C.asked_only checks.old checks.new }
     ensures same { C.answers checks.new ≡ C.answers checks.old }
 {
     if !is_denied(chain.links, &closer.hash) {
@@ -119,6 +122,7 @@ fn from_encloser<C: Checks>(
         Hashes fails names (C.hashed checks.old) (C.hashed checks.new) result }
     ensures alike { C.hashed checks.new + count.old ≡ C.hashed checks.old + count.new }
     ensures others { C.verified checks.new ≡ C.verified checks.old }
+    ensures none { NoneVerified C.agrees C.asked_only checks.old checks.new }
     ensures same { C.answers checks.new ≡ C.answers checks.old }
 {
     let cut = first_cut_above(chain.apex, chain.links, &encloser.name, &encloser.hash);
@@ -157,6 +161,7 @@ fn climbed<C: Checks>(
         Hashes fails names (C.hashed checks.old) (C.hashed checks.new) result }
     ensures alike { C.hashed checks.new + count.old ≡ C.hashed checks.old + count.new }
     ensures others { C.verified checks.new ≡ C.verified checks.old }
+    ensures none { NoneVerified C.agrees C.asked_only checks.old checks.new }
     ensures same { C.answers checks.new ≡ C.answers checks.old }
 {
     if below.name.name_eq(chain.apex) {
@@ -193,6 +198,7 @@ pub(crate) fn hash_denied<C: Checks>(
         Hashes fails names (C.hashed checks.old) (C.hashed checks.new) result }
     ensures alike { C.hashed checks.new + count.old ≡ C.hashed checks.old + count.new }
     ensures others { C.verified checks.new ≡ C.verified checks.old }
+    ensures none { NoneVerified C.agrees C.asked_only checks.old checks.new }
     ensures same { C.answers checks.new ≡ C.answers checks.old }
 {
     let name = hash_name(
@@ -243,6 +249,7 @@ pub(crate) fn hash_expanded<C: Checks>(
         Hashes fails names (C.hashed checks.old) (C.hashed checks.new) result }
     ensures alike { C.hashed checks.new + count.old ≡ C.hashed checks.old + count.new }
     ensures others { C.verified checks.new ≡ C.verified checks.old }
+    ensures none { NoneVerified C.agrees C.asked_only checks.old checks.new }
     ensures same { C.answers checks.new ≡ C.answers checks.old }
 {
     let skipped = name.depth().saturating_sub(usize::from(rrset.labels) + 1);

@@ -3,6 +3,7 @@ ghost use Rattle.std.specs.Prelude.{◌≡◌, ◌+◌, ◌<◌, ◌^◌, ◌∷
 ghost use Rattle.definitions.specs.Name.{low, wire};
 ghost use Rattle.definitions.specs.Zone.{star_under};
 ghost use Rattle.answer_judge_rules.specs.Hashing.{fails_as, hash_as, Hashes};
+ghost use Rattle.answer_scheme.specs.Answers.{NoneVerified};
 
 use crate::facts::HashLink;
 use answer_scheme::checks::Checks;
@@ -34,6 +35,7 @@ fn hash_octets<C: Checks>(
     ensures counted { C.hashed checks.new ≡ C.hashed checks.old + 1 }
     ensures alike { C.hashed checks.new + count.old ≡ C.hashed checks.old + count.new }
     ensures others { C.verified checks.new ≡ C.verified checks.old }
+    ensures none { NoneVerified C.agrees C.asked_only checks.old checks.new }
     ensures same { C.answers checks.new ≡ C.answers checks.old }
 {
     *count += 1;
@@ -58,6 +60,7 @@ pub(crate) fn hash_behind<N: ToName, C: Checks>(
         Hashes fails names (C.hashed checks.old) (C.hashed checks.new) result }
     ensures alike { C.hashed checks.new + count.old ≡ C.hashed checks.old + count.new }
     ensures others { C.verified checks.new ≡ C.verified checks.old }
+    ensures none { NoneVerified C.agrees C.asked_only checks.old checks.new }
     ensures same { C.answers checks.new ≡ C.answers checks.old }
 {
     write_lower_wire(octets, name, skipped)?;
@@ -88,6 +91,7 @@ fn hash_whole<C: Checks>(
         Hashes fails (name.now ∷ []) (C.hashed checks.old) (C.hashed checks.new) result }
     ensures alike { C.hashed checks.new + count.old ≡ C.hashed checks.old + count.new }
     ensures others { C.verified checks.new ≡ C.verified checks.old }
+    ensures none { NoneVerified C.agrees C.asked_only checks.old checks.new }
     ensures same { C.answers checks.new ≡ C.answers checks.old }
 {
     write_name(octets, name)?;
@@ -111,6 +115,7 @@ pub(crate) fn hash_name<'n, C: Checks>(
         Hashes fails (name.entry ∷ []) (C.hashed checks.old) (C.hashed checks.new) result }
     ensures alike { C.hashed checks.new + count.old ≡ C.hashed checks.old + count.new }
     ensures others { C.verified checks.new ≡ C.verified checks.old }
+    ensures none { NoneVerified C.agrees C.asked_only checks.old checks.new }
     ensures same { C.answers checks.new ≡ C.answers checks.old }
 {
     let hash = hash_whole(alloc, link, checks, count, octets, &name)?;
@@ -143,6 +148,7 @@ pub(crate) fn hash_wildcard<C: Checks>(
         Hashes fails names (C.hashed checks.old) (C.hashed checks.new) result }
     ensures alike { C.hashed checks.new + count.old ≡ C.hashed checks.old + count.new }
     ensures others { C.verified checks.new ≡ C.verified checks.old }
+    ensures none { NoneVerified C.agrees C.asked_only checks.old checks.new }
     ensures same { C.answers checks.new ≡ C.answers checks.old }
 {
     write_wildcard(octets, name)?;

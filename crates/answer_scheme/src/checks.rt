@@ -1,6 +1,6 @@
 //! What a judge asks of what signs, digests and hashes.
-ghost use Rattle.std.specs.Prelude.{◌≡◌, ℕ, ◌+◌, Some, None, IfOk, IsErrOf};
-ghost use Rattle.answer_scheme.specs.Answers.{Answers};
+ghost use Rattle.std.specs.Prelude.{◌≡◌, ℕ, ◌+◌, true, Some, None, IfOk, IsErrOf, ⊤};
+ghost use Rattle.answer_scheme.specs.Answers.{Answers, NoneVerified, SignatureTest};
 
 use crate::error::SchemeError;
 use denial_keys::dnskey::Dnskey;
@@ -9,8 +9,18 @@ use numbers::algorithm::DigestAlgorithm;
 use std::alloc::Global;
 
 /// What a judge asks of a scheme and a hasher. A contract sees how often `verify` and `hash` were called.
+///
+/// Checks that know some signatures alone, and say of others what they please, tell by `agrees` for whom their answers hold: a
+/// judgement is then that of every scheme which agrees with all that was answered. By `asked_only` they tell what they were
+/// asked. Most have no use for either.
 pub trait Checks {
     ghost answers: { Self → Answers };
+
+    /// By which other tests of signatures `verify` may have answered as it did, each time so far.
+    ghost agrees: { Self → SignatureTest → Type 0 } = { λ _ _. ⊥ };
+
+    /// Which tests pass for all that `verify` was asked about so far.
+    ghost asked_only: { Self → SignatureTest → Type 0 } = { λ _ _. ⊤ };
 
     /// How often `verify` was called.
     ghost verified: { Self → ℕ };
@@ -20,6 +30,10 @@ pub trait Checks {
 
     fn verify(&mut self, key: &Dnskey<&[u8]>, octets: &[u8], signature: &[u8]) -> bool
         ensures answer { result ≡ (answers self.old).verifies key.now octets.now signature.now }
+        ensures agrees { (test : SignatureTest) → agrees self.new test
+            → agrees self.old test × (result ≡ test key.now octets.now signature.now) }
+        ensures asked { (test : SignatureTest) → test key.now octets.now signature.now ≡ true
+            → asked_only self.old test → asked_only self.new test }
         ensures counted { verified self.new ≡ verified self.old + 1 }
         ensures others { hashed self.new ≡ hashed self.old }
         ensures same { answers self.new ≡ answers self.old };
@@ -49,5 +63,6 @@ pub trait Checks {
             → (answers self.old).hash name.now algorithm iterations salt.now ≡ None }
         ensures counted { hashed self.new ≡ hashed self.old + 1 }
         ensures others { verified self.new ≡ verified self.old }
+        ensures none { NoneVerified agrees asked_only self.old self.new }
         ensures same { answers self.new ≡ answers self.old };
 }
