@@ -78,10 +78,14 @@ spells-owner apex (l ∷ a) (k ∷ b) h =
 -- ---- signers
 
 -- the signer lowered or as spelled
+pub signed_octets-signer : (s : Signature) (owner : Name) (items : List (List ℕ)) → signed_octets (fields_of s) owner 1 items ≡ signed_octets (fields_read s) owner 1 items
+signed_octets-signer s owner items =
+    let f = fields_read s in
+    ap (λ (n : Name). (to_be_bytes w16 f.covered ++ f.algorithm ∷ f.labels ∷ to_be_bytes w32 f.ttl ++ to_be_bytes w32 f.expiration ++ to_be_bytes w32 f.inception ++ to_be_bytes w16 f.tag ++ wire n) ++ flat_map (canonical_record (signed_owner f.labels owner) f.covered 1 f.ttl) items) (low-low f.signer)
+
 pub signs-signer : (v : Answers) (apex : Name) (keys : List Dnskey) (now : ℕ) (owner : Name) (items : List (List ℕ)) (s : Signature) (sig : List ℕ) → signs v apex keys now owner items (fields_of s) sig ≡ signs v apex keys now owner items (fields_read s) sig
 signs-signer v apex keys now owner items s sig =
     let f = fields_read s in
     let d : is_due apex now owner (fields_of s) ≡ is_due apex now owner (fields_read s) = ap (λ n. labels_fit apex owner f && in_time f now && labels_eq n (low apex)) (low-low f.signer) in
-    let o : signed_octets (fields_of s) owner 1 items ≡ signed_octets (fields_read s) owner 1 items =
-    ap (λ (n : Name). (to_be_bytes w16 f.covered ++ f.algorithm ∷ f.labels ∷ to_be_bytes w32 f.ttl ++ to_be_bytes w32 f.expiration ++ to_be_bytes w32 f.inception ++ to_be_bytes w16 f.tag ++ wire n) ++ flat_map (canonical_record (signed_owner f.labels owner) f.covered 1 f.ttl) items) (low-low f.signer) in
+    let o = signed_octets-signer s owner items in
     (λ i. elim (not (length items == 0) && d i) [ false ↦ false | true ↦ elim (find (fits_key (fields_read s)) keys) [ None ↦ false | Some k ↦ v.verifies k (o i) sig ] ])

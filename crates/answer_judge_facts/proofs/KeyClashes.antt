@@ -22,7 +22,7 @@ to_in : (xs : List Dnskey) (x : Dnskey) → Has xs x → In x xs
 to_in [] x h = absurd h
 to_in (y ∷ ys) x h = elim h [ inl e ↦ inl e | inr later ↦ inr (to_in ys x later) ]
 
-same_itself : (k : Dnskey) → same_key k k ≡ true
+pub same_itself : (k : Dnskey) → same_key k k ≡ true
 same_itself k =
     let e = λ (n : ℕ). eq-eqb n n refl in
     and_from _ _ (and_from _ _ (and_from _ _ (e k.flags) (e k.protocol)) (e k.algorithm)) ((bytes_decides k.octets k.octets).1 refl)

@@ -7,6 +7,7 @@ pub mod GivenKeys
 pub mod GivenSorted
 pub mod GroupPlaces
 pub mod HashOwners
+pub mod JudgeAsked
 pub mod JudgeCase
 pub mod JudgeCounted
 pub mod JudgeFacts

@@ -5,7 +5,9 @@ ghost use Rattle.definitions.specs.Limits.{pointer_limit};
 ghost use Rattle.std.specs.List.{list_any, filter_map, AllByRecursion};
 ghost use Rattle.messages.specs.Record.{spelled};
 ghost use Rattle.answer_judge_facts.specs.Facts.{is_signature};
+ghost use Rattle.answer_judge_facts.specs.Asked.{PassesSought};
 ghost use Rattle.answer_judge_facts.specs.Counted.{tries};
+ghost use Rattle.answer_scheme.specs.Answers.{EachAgreeing, SignatureTest};
 ghost use Rattle.answer_judge_facts.specs.Sought.{answer_sought};
 ghost use Rattle.answer_judge_facts.specs.Times.{are_unlike, proof_times};
 ghost use Rattle.answer_judge_facts.specs.Verified.{is_known_datum, verified_facts};
@@ -52,18 +54,28 @@ pub fn read_facts<'a, C: Checks>(
     requires index { Ranks trust.now.keys.now trust.now.ranked.now }
     requires room { verifier.old.count + length records.now < 2 ^ 32 }
     requires other { is_chain_type rtype ≡ false }
-    ensures facts { let w = held_by (C.answers verifier.old.checks.now) trust.now in
+    ensures facts { EachAgreeing (C.answers verifier.old.checks.now)
+        (C.agrees verifier.new.checks.now) (λ a. let w = held_by a trust.now in
         let m = message.now in let rs = map spelled records.now in
-        IfOk result (λ p. p.facts ≡ verified_facts w pointer_limit m rs name.now rtype) }
-    ensures moments { let w = held_by (C.answers verifier.old.checks.now) trust.now in
+        IfOk result (λ p. p.facts ≡ verified_facts w pointer_limit m rs name.now rtype)) }
+    ensures moments { EachAgreeing (C.answers verifier.old.checks.now)
+        (C.agrees verifier.new.checks.now) (λ a. let w = held_by a trust.now in
         let m = message.now in let rs = map spelled records.now in
         let times = proof_times w pointer_limit m rs name.now rtype in
-        IfOk result (λ p. p.is_of_moments ≡ are_unlike times) }
-    ensures tried { let w = held_by (C.answers verifier.old.checks.now) trust.now in
+        IfOk result (λ p. p.is_of_moments ≡ are_unlike times)) }
+    ensures tried { EachAgreeing (C.answers verifier.old.checks.now)
+        (C.agrees verifier.new.checks.now) (λ a. let w = held_by a trust.now in
         let m = message.now in let rs = map spelled records.now in
         let sought = answer_sought pointer_limit m w.apex rs name.now rtype in
         let count = verifier.old.count + tries w pointer_limit m sought [] rs in
-        IfOk result (λ _. verifier.new.count ≡ count) }
+        IfOk result (λ _. verifier.new.count ≡ count)) }
+    ensures agrees { (test : SignatureTest) → C.agrees verifier.new.checks.now test
+        → C.agrees verifier.old.checks.now test }
+    ensures asked { (test : SignatureTest) → let m = message.now in
+        let rs = map spelled records.now in let apex = trust.now.apex.now in
+        let sought = answer_sought pointer_limit m apex rs name.now rtype in
+        PassesSought test trust.now.keys.now m sought rs
+        → C.asked_only verifier.old.checks.now test → C.asked_only verifier.new.checks.now test }
     ensures counted { C.verified verifier.new.checks.now + verifier.old.count
         ≡ C.verified verifier.old.checks.now + verifier.new.count }
     ensures bound { let rs = map spelled records.now in

@@ -11,6 +11,8 @@ ghost use Rattle.answer_judge_facts.specs.Ranked.{AreRanked, place_of, sought_cm
 ghost use Rattle.answer_judge_facts.specs.KeyOrder.{Ranks};
 ghost use Rattle.messages.specs.Message.{if_true};
 ghost use Rattle.answer_judge_facts.specs.Counted.{can_try, one_if};
+ghost use Rattle.answer_judge_facts.specs.Asked.{PassesGroups, PassesOver, PassesRecord, bare};
+ghost use Rattle.answer_scheme.specs.Answers.{EachAgreeing, SignatureTest};
 ghost use Rattle.std.specs.Option.{option_map};
 ghost use Rattle.std.specs.List.{list_any};
 ghost use Rattle.definitions.specs.Name.{same};
@@ -158,12 +160,19 @@ pub fn verify_groups<C: Checks>(
     requires room { verifier.old.count + length records.now < 2 ^ 32 }
     requires apart { are_apart groups.old ≡ true }
     requires ranked { AreRanked groups.old }
-    ensures marked { let w = held_by (C.answers verifier.old.checks.now) trust.now in
+    ensures marked { EachAgreeing (C.answers verifier.old.checks.now)
+        (C.agrees verifier.new.checks.now) (λ a. let w = held_by a trust.now in
         let rs = map spelled records.now in
-        IfOk result (λ _. groups.new ≡ map (marked w message.now rs) groups.old) }
-    ensures tried { let w = held_by (C.answers verifier.old.checks.now) trust.now in
+        IfOk result (λ _. groups.new ≡ map (marked w message.now rs) groups.old)) }
+    ensures tried { EachAgreeing (C.answers verifier.old.checks.now)
+        (C.agrees verifier.new.checks.now) (λ a. let w = held_by a trust.now in
         let tried = tries_in w message.now groups.old (map spelled records.now) in
-        IfOk result (λ _. verifier.new.count ≡ verifier.old.count + tried) }
+        IfOk result (λ _. verifier.new.count ≡ verifier.old.count + tried)) }
+    ensures agrees { (test : SignatureTest) → C.agrees verifier.new.checks.now test
+        → C.agrees verifier.old.checks.now test }
+    ensures asked { (test : SignatureTest) → let rs = map spelled records.now in
+        let m = message.now in PassesGroups test trust.now.keys.now m groups.old rs
+        → C.asked_only verifier.old.checks.now test → C.asked_only verifier.new.checks.now test }
     ensures counted { C.verified verifier.new.checks.now + verifier.old.count
         ≡ C.verified verifier.old.checks.now + verifier.new.count }
     ensures bound { let rs = map spelled records.now in
@@ -195,12 +204,19 @@ fn verify_record<C: Checks>(
     requires signature { is_signature (spelled record.now) ≡ true }
     requires apart { are_apart groups.old ≡ true }
     requires ranked { AreRanked groups.old }
-    ensures marked { let w = held_by (C.answers verifier.old.checks.now) trust.now in
+    ensures marked { EachAgreeing (C.answers verifier.old.checks.now)
+        (C.agrees verifier.new.checks.now) (λ a. let w = held_by a trust.now in
         let r = spelled record.now in
-        IfOk result (λ _. groups.new ≡ map (marked w message.now (r ∷ [])) groups.old) }
-    ensures tried { let w = held_by (C.answers verifier.old.checks.now) trust.now in
+        IfOk result (λ _. groups.new ≡ map (marked w message.now (r ∷ [])) groups.old)) }
+    ensures tried { EachAgreeing (C.answers verifier.old.checks.now)
+        (C.agrees verifier.new.checks.now) (λ a. let w = held_by a trust.now in
         let is_tried = is_tried_in w message.now groups.old (spelled record.now) in
-        IfOk result (λ _. verifier.new.count ≡ verifier.old.count + one_if is_tried) }
+        IfOk result (λ _. verifier.new.count ≡ verifier.old.count + one_if is_tried)) }
+    ensures agrees { (test : SignatureTest) → C.agrees verifier.new.checks.now test
+        → C.agrees verifier.old.checks.now test }
+    ensures asked { (test : SignatureTest) → let r = spelled record.now in
+        PassesRecord test trust.now.keys.now message.now (map bare groups.old) r
+        → C.asked_only verifier.old.checks.now test → C.asked_only verifier.new.checks.now test }
     ensures counted { C.verified verifier.new.checks.now + verifier.old.count
         ≡ C.verified verifier.old.checks.now + verifier.new.count }
     ensures bound { verifier.new.count ≤ verifier.old.count + 1 }
@@ -268,14 +284,22 @@ fn verifies<C: Checks>(
 ) -> Result<Option<Signed>, AllocError>
     requires index { Ranks trust.now.keys.now trust.now.ranked.now }
     requires room { verifier.old.count + 1 < 2 ^ 32 }
-    ensures signs { let w = held_by (C.answers verifier.old.checks.now) trust.now in
+    ensures signs { EachAgreeing (C.answers verifier.old.checks.now)
+        (C.agrees verifier.new.checks.now) (λ a. let w = held_by a trust.now in
         let f = fields_read signature.now in
         let is_signed = signs_group w group.now f signature.now.signature in
-        IfOk result (λ o. o ≡ if_true is_signed (signed_of f)) }
-    ensures tried { let w = held_by (C.answers verifier.old.checks.now) trust.now in
+        IfOk result (λ o. o ≡ if_true is_signed (signed_of f))) }
+    ensures tried { EachAgreeing (C.answers verifier.old.checks.now)
+        (C.agrees verifier.new.checks.now) (λ a. let w = held_by a trust.now in
         let f = fields_read signature.now in
         let is_tried = can_try w group.now.owner (data_in group.now) f in
-        IfOk result (λ _. verifier.new.count ≡ verifier.old.count + one_if is_tried) }
+        IfOk result (λ _. verifier.new.count ≡ verifier.old.count + one_if is_tried)) }
+    ensures agrees { (test : SignatureTest) → C.agrees verifier.new.checks.now test
+        → C.agrees verifier.old.checks.now test }
+    ensures asked { (test : SignatureTest) → let f = fields_read signature.now in
+        let g = group.now in
+        PassesOver test trust.now.keys.now f signature.now.signature g.owner (data_in g)
+        → C.asked_only verifier.old.checks.now test → C.asked_only verifier.new.checks.now test }
     ensures counted { C.verified verifier.new.checks.now + verifier.old.count
         ≡ C.verified verifier.old.checks.now + verifier.new.count }
     ensures bound { verifier.new.count ≤ verifier.old.count + 1 }

@@ -5,7 +5,9 @@ ghost use Rattle.definitions.specs.Limits.{pointer_limit};
 ghost use Rattle.definitions.specs.Dnskey.{dnskey_data};
 ghost use Rattle.definitions.specs.Zone.{sorted_data};
 ghost use Rattle.messages.specs.Record.{spelled};
+ghost use Rattle.answer_judge_facts.specs.Asked.{PassesSought};
 ghost use Rattle.answer_judge_facts.specs.Counted.{tries};
+ghost use Rattle.answer_scheme.specs.Answers.{EachAgreeing, SignatureTest};
 ghost use Rattle.answer_judge_facts.specs.Facts.{is_signature};
 ghost use Rattle.answer_judge_facts.specs.KeyOrder.{Ranks};
 ghost use Rattle.answer_judge_facts.specs.Marked.{held_by};
@@ -34,13 +36,21 @@ pub fn are_verified<C: Checks>(
 ) -> Result<bool, AllocError>
     requires index { Ranks trust.now.keys.now trust.now.ranked.now }
     requires room { verifier.old.count + length records.now < 2 ^ 32 }
-    ensures exact { let w = held_by (C.answers verifier.old.checks.now) trust.now in
+    ensures exact { EachAgreeing (C.answers verifier.old.checks.now)
+        (C.agrees verifier.new.checks.now) (λ a. let w = held_by a trust.now in
         let items = sorted_data (map dnskey_data keys.now) in let rs = map spelled records.now in
-        IfOk result (λ b. b ≡ is_verified w pointer_limit message.now rs w.apex 48 items) }
-    ensures tried { let w = held_by (C.answers verifier.old.checks.now) trust.now in
+        IfOk result (λ b. b ≡ is_verified w pointer_limit message.now rs w.apex 48 items)) }
+    ensures tried { EachAgreeing (C.answers verifier.old.checks.now)
+        (C.agrees verifier.new.checks.now) (λ a. let w = held_by a trust.now in
         let sought = keys_sought w.apex keys.now in let rs = map spelled records.now in
         let count = verifier.old.count + tries w pointer_limit message.now sought [] rs in
-        IfOk result (λ _. verifier.new.count ≡ count) }
+        IfOk result (λ _. verifier.new.count ≡ count)) }
+    ensures agrees { (test : SignatureTest) → C.agrees verifier.new.checks.now test
+        → C.agrees verifier.old.checks.now test }
+    ensures asked { (test : SignatureTest) → let t = trust.now in
+        let sought = keys_sought t.apex.now keys.now in
+        PassesSought test t.keys.now message.now sought (map spelled records.now)
+        → C.asked_only verifier.old.checks.now test → C.asked_only verifier.new.checks.now test }
     ensures counted { C.verified verifier.new.checks.now + verifier.old.count
         ≡ C.verified verifier.old.checks.now + verifier.new.count }
     ensures bound { let rs = map spelled records.now in

@@ -1,8 +1,11 @@
-use Rattle.std.proofs.Common.{rules, ◌≡◌, [], ◌∷◌, map, true, false, sym, ap, ◌∙◌, arith}
+use Rattle.std.proofs.Common.{rules, ◌≡◌, ◌⊎◌, [], ◌∷◌, map, true, false, refl, sym, subst, ap, ◌∙◌, inl, arith}
 use Rattle.messages.specs.Record.{spelled}
+use Rattle.answer_scheme.specs.Answers.{SignatureTest, with_test}
+use Rattle.answer_judge_facts.specs.Asked.{PassesRecord, bare}
 use Rattle.answer_judge_facts.specs.Facts.{is_signature}
 use Rattle.answer_judge_facts.specs.Marked.{held_by, is_tried_in, marked}
 use Rattle.answer_judge_facts.specs.Counted.{one_if}
+use Rattle.answer_judge_facts.proofs.JudgeAsked.{agreed, agreed_by, bare_next, next_passes}
 use Rattle.answer_judge_facts.proofs.JudgeCounted.{tries_last, tries_next, tries_unsigned}
 use Rattle.answer_judge_facts.proofs.JudgeTried.{untried, unsigned, after_next, after_last, apart_next, signatures_next, signatures_same}
 use Rattle.answer_judge_facts.proofs.GroupPlaces.{ranked_next}
@@ -11,49 +14,97 @@ use Rattle.answer_judge_facts.proofs.groups.verify_groups.Goals.{then-eq+in_ok-v
 
 pub loop-record-preserved : goal.loop-record-preserved
 loop-record-preserved g c =
-    let a = held_by (g.C.Checks.answers c.args.verifier.now.checks.now) c.args.trust.now in
+    let agrees = g.C.Checks.agrees in
+    let own = g.C.Checks.answers c.args.verifier.now.checks.now in
+    let trust = c.args.trust.now in
     let m = c.args.message.now in
     let rs = c.args.records.now in
     let i = c.loop-record.record-index in
     let r = c.record-item.result in
+    let at = c.loop-record-test.true in
+    let item = c.record-item.is in
     let inv = c.loop-record.invariant in
     elim c.if-eq.branch [
       | then-eq+in_ok-verify_record w ↦
+          let a = held_by own trust in
           let is : is_signature (spelled r) ≡ true = sym c.eq.ensures ∙ w.if-eq.true in
-          let one : c.if-eq.groups ≡ map (marked a m (spelled r ∷ [])) c.loop-record.groups = w.groups-is ∙ w.in_ok-verify_record.ensures.marked ∙ ap (λ v. map (marked (held_by v c.args.trust.now) m (spelled r ∷ [])) c.loop-record.groups) inv.6 in (
-            omega (arith, ap (λ v. v.count) w.verifier-is, w.in_ok-verify_record.ensures.bound, inv.0, signatures_next rs i r c.loop-record-test.true c.record-item.is is),
-            omega (arith, inv.1, ap (λ v. v.count) w.verifier-is, w.in_ok-verify_record.ensures.bound),
-            apart_next a m (spelled r) _ _ one inv.2,
-            after_next a m rs i r c.args.groups.now _ _ c.loop-record-test.true c.record-item.is one inv.3,
+          let ensures = w.in_ok-verify_record.ensures in
+          let back : (test : SignatureTest) → agrees c.if-eq.verifier.checks.now test → agrees c.loop-record.verifier.checks.now test =
+          λ test h. ensures.agrees test (subst (λ v. agrees v.checks.now test) w.verifier-is h) in
+          let now : (test : SignatureTest) → (test ≡ own.verifies) ⊎ agrees c.if-eq.verifier.checks.now test → (test ≡ (g.C.Checks.answers c.loop-record.verifier.checks.now).verifies) ⊎ agrees w.verify_record.new.verifier.checks.now test =
+          λ test h. agreed_by own _ test _ inv.6 (subst (λ v. (test ≡ own.verifies) ⊎ agrees v.checks.now test) w.verifier-is h) in
+          let one : (test : SignatureTest) → (test ≡ own.verifies) ⊎ agrees c.if-eq.verifier.checks.now test → c.if-eq.groups ≡ map (marked (held_by (with_test own test) trust) m (spelled r ∷ [])) c.loop-record.groups =
+          λ test h. w.groups-is ∙ ensures.marked test (now test h) ∙ ap (λ v. map (marked (held_by (with_test v test) trust) m (spelled r ∷ [])) c.loop-record.groups) inv.6 in
+          let first = one own.verifies (inl refl) in (
+            omega (arith, ap (λ v. v.count) w.verifier-is, ensures.bound, inv.0, signatures_next rs i r at item is),
+            omega (arith, inv.1, ap (λ v. v.count) w.verifier-is, ensures.bound),
+            apart_next a m (spelled r) _ _ first inv.2,
+            (λ test h. after_next (held_by (with_test own test) trust) m rs i r c.args.groups.now _ _ at item (one test h) (inv.3 test (agreed own.verifies test _ _ (back test) h))),
             search rules,
             search rules,
             search rules,
-            omega (arith, inv.7, ap (λ v. v.count) w.verifier-is, w.in_ok-verify_record.ensures.tried, ap (λ v. one_if (is_tried_in (held_by v c.args.trust.now) m c.loop-record.groups (spelled r))) inv.6, tries_next a m rs i r c.loop-record.groups c.if-eq.groups c.loop-record-test.true c.record-item.is one),
+            (λ test h.
+                let b = held_by (with_test own test) trust in
+                omega (
+                  arith,
+                  inv.7 test (agreed own.verifies test _ _ (back test) h),
+                  ap (λ v. v.count) w.verifier-is,
+                  ensures.tried test (now test h),
+                  ap (λ v. one_if (is_tried_in (held_by (with_test v test) trust) m c.loop-record.groups (spelled r))) inv.6,
+                  tries_next b m rs i r c.loop-record.groups c.if-eq.groups at item (one test h),
+                )),
             search rules,
-            ranked_next a m (spelled r ∷ []) c.loop-record.groups c.if-eq.groups one inv.9,
+            ranked_next a m (spelled r ∷ []) c.loop-record.groups c.if-eq.groups first inv.9,
+            (λ test h. inv.10 test (back test h)),
+            bare_next a m (spelled r ∷ []) c.loop-record.groups c.if-eq.groups c.args.groups.now first inv.11,
+            (λ test passes.
+                let before = inv.12 test passes in
+                let next = next_passes (PassesRecord test trust.keys.now m (map bare c.args.groups.now)) rs i r at item before.0 in (
+                  next.1,
+                  (λ asked. subst (λ v. g.C.Checks.asked_only v.checks.now test) (sym w.verifier-is) (ensures.asked test (subst (λ gs. PassesRecord test trust.keys.now m gs (spelled r)) (sym inv.11) next.0) (before.1 asked))),
+                )),
           )
       | else-eq w ↦
+          let a = held_by own trust in
           let other : is_signature (spelled r) ≡ false = sym c.eq.ensures ∙ w.if-eq.false in
-          let one : c.if-eq.groups ≡ map (marked a m (spelled r ∷ [])) c.loop-record.groups = w.groups-is ∙ untried a m (spelled r) c.loop-record.groups (λ g. unsigned a m (spelled r) g other) in (
-            omega (arith, ap (λ v. v.count) w.verifier-is, inv.0, signatures_same rs i r c.loop-record-test.true c.record-item.is other),
+          let back : (test : SignatureTest) → agrees c.if-eq.verifier.checks.now test → agrees c.loop-record.verifier.checks.now test =
+          λ test h. subst (λ v. agrees v.checks.now test) w.verifier-is h in
+          let one : (test : SignatureTest) → c.if-eq.groups ≡ map (marked (held_by (with_test own test) trust) m (spelled r ∷ [])) c.loop-record.groups =
+          λ test. w.groups-is ∙ untried (held_by (with_test own test) trust) m (spelled r) c.loop-record.groups (λ x. unsigned (held_by (with_test own test) trust) m (spelled r) x other) in
+          let first = one own.verifies in (
+            omega (arith, ap (λ v. v.count) w.verifier-is, inv.0, signatures_same rs i r at item other),
             omega (arith, inv.1, ap (λ v. v.count) w.verifier-is),
-            apart_next a m (spelled r) _ _ one inv.2,
-            after_next a m rs i r c.args.groups.now _ _ c.loop-record-test.true c.record-item.is one inv.3,
+            apart_next a m (spelled r) _ _ first inv.2,
+            (λ test h. after_next (held_by (with_test own test) trust) m rs i r c.args.groups.now _ _ at item (one test) (inv.3 test (agreed own.verifies test _ _ (back test) h))),
             search rules,
             search rules,
             search rules,
-            omega (arith, inv.7, ap (λ v. v.count) w.verifier-is, ap one_if (tries_unsigned a m (spelled r) c.loop-record.groups other), tries_next a m rs i r c.loop-record.groups c.if-eq.groups c.loop-record-test.true c.record-item.is one),
+            (λ test h.
+                let b = held_by (with_test own test) trust in
+                omega (
+                  arith,
+                  inv.7 test (agreed own.verifies test _ _ (back test) h),
+                  ap (λ v. v.count) w.verifier-is,
+                  ap one_if (tries_unsigned b m (spelled r) c.loop-record.groups other),
+                  tries_next b m rs i r c.loop-record.groups c.if-eq.groups at item (one test),
+                )),
             search rules,
-            ranked_next a m (spelled r ∷ []) c.loop-record.groups c.if-eq.groups one inv.9,
+            ranked_next a m (spelled r ∷ []) c.loop-record.groups c.if-eq.groups first inv.9,
+            (λ test h. inv.10 test (back test h)),
+            bare_next a m (spelled r ∷ []) c.loop-record.groups c.if-eq.groups c.args.groups.now first inv.11,
+            (λ test passes.
+                let before = inv.12 test passes in
+                let next = next_passes (PassesRecord test trust.keys.now m (map bare c.args.groups.now)) rs i r at item before.0 in
+                (next.1, (λ asked. subst (λ v. g.C.Checks.asked_only v.checks.now test) (sym w.verifier-is) (before.1 asked)))),
           )
     ]
 
 pub returns-clause-marked : goal.returns-clause-marked
-returns-clause-marked g c =
-    let a = held_by (g.C.Checks.answers c.args.verifier.now.checks.now) c.args.trust.now in
-    after_last a c.args.message.now c.args.records.now c.loop-record.record-index c.args.groups.now c.loop-record.groups (omega arith) c.loop-record.invariant.3
+returns-clause-marked g c = λ test h.
+    let a = held_by (with_test (g.C.Checks.answers c.args.verifier.now.checks.now) test) c.args.trust.now in
+    after_last a c.args.message.now c.args.records.now c.loop-record.record-index c.args.groups.now c.loop-record.groups (omega arith) (c.loop-record.invariant.3 test h)
 
 pub returns-clause-tried : goal.returns-clause-tried
-returns-clause-tried g c =
-    let a = held_by (g.C.Checks.answers c.args.verifier.now.checks.now) c.args.trust.now in
-    omega (arith, c.loop-record.invariant.7, tries_last a c.args.message.now c.args.records.now c.loop-record.record-index c.loop-record.groups (omega arith))
+returns-clause-tried g c = λ test h.
+    let a = held_by (with_test (g.C.Checks.answers c.args.verifier.now.checks.now) test) c.args.trust.now in
+    omega (arith, c.loop-record.invariant.7 test h, tries_last a c.args.message.now c.args.records.now c.loop-record.record-index c.loop-record.groups (omega arith))

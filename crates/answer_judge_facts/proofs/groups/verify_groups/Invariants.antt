@@ -1,6 +1,8 @@
 use Rattle.std.proofs.Common.{◌≡◌, ◌+◌, ◌≤◌, drop, map, length, true}
 use Rattle.std.specs.List.{filter}
 use Rattle.messages.specs.Record.{spelled}
+use Rattle.answer_scheme.specs.Answers.{EachAgreeing, SignatureTest}
+use Rattle.answer_judge_facts.specs.Asked.{PassesGroups, bare}
 use Rattle.answer_judge_facts.specs.Facts.{is_signature}
 use Rattle.answer_judge_facts.specs.Marked.{held_by, are_apart, marked, tries_in}
 use Rattle.answer_judge_facts.specs.Ranked.{AreRanked}
@@ -11,13 +13,18 @@ invariant-loop-record g l =
     let c = g.C.Checks in
     let v = l.verifier in
     let old = l.fn.verifier in
-    let w = held_by (c.answers old.checks.now) l.trust in
-    (v.count + length (filter is_signature (map spelled (drop l.record-index l.records))) ≤ old.count + length (filter is_signature (map spelled l.records)))
+    let own = c.answers old.checks.now in
+    let rest = map spelled (drop l.record-index l.records) in
+    let all = map spelled l.records in
+    (v.count + length (filter is_signature rest) ≤ old.count + length (filter is_signature all))
     × (v.count ≤ old.count + l.record-index)
     × (are_apart l.groups ≡ true)
-    × (map (marked w l.message (map spelled (drop l.record-index l.records))) l.groups ≡ map (marked w l.message (map spelled l.records)) l.fn.groups)
+    × EachAgreeing own (c.agrees v.checks.now) (λ a. let w = held_by a l.trust in map (marked w l.message rest) l.groups ≡ map (marked w l.message all) l.fn.groups)
     × (c.verified v.checks.now + old.count ≡ c.verified old.checks.now + v.count)
     × (c.hashed v.checks.now ≡ c.hashed old.checks.now) × (c.answers v.checks.now ≡ c.answers old.checks.now)
-    × (v.count + tries_in w l.message l.groups (map spelled (drop l.record-index l.records)) ≡ old.count + tries_in w l.message l.fn.groups (map spelled l.records))
+    × EachAgreeing own (c.agrees v.checks.now) (λ a. let w = held_by a l.trust in v.count + tries_in w l.message l.groups rest ≡ old.count + tries_in w l.message l.fn.groups all)
     × (v.checks.ghost_name ≡ old.checks.ghost_name)
     × AreRanked l.groups
+    × ((test : SignatureTest) → c.agrees v.checks.now test → c.agrees old.checks.now test)
+    × (map bare l.groups ≡ map bare l.fn.groups)
+    × ((test : SignatureTest) → PassesGroups test l.trust.keys.now l.message l.fn.groups all → PassesGroups test l.trust.keys.now l.message l.fn.groups rest × (c.asked_only old.checks.now test → c.asked_only v.checks.now test))

@@ -6,65 +6,67 @@ use Rattle.std.proofs.lemmas.Bool.{not-true, not-false}
 use Rattle.std.proofs.lemmas.Option.{slice_get-get_or}
 use Rattle.messages.specs.Record.{fields_read, spelled, signature_of}
 use Rattle.messages.specs.Message.{rrsig_at}
+use Rattle.answer_scheme.specs.Answers.{with_test}
 use Rattle.answer_judge_facts.specs.Marked.{held_by, is_of}
+use Rattle.answer_judge_facts.proofs.JudgeAsked.{passes_at}
 use Rattle.answer_judge_facts.proofs.JudgeCounted.{count_now, count_type_again, count_type_none}
 use Rattle.answer_judge_facts.proofs.JudgeTried.{class_other, no_signature, tried_now, type_again, type_none, type_read, type_unread, untried}
 use Rattle.answer_judge_facts.proofs.groups.verify_record.Goals as goal
 use Rattle.definitions.specs.Limits.{pointer_limit}
 
 pub returns-then-ne-clause-marked : goal.returns-then-ne-clause-marked
-returns-then-ne-clause-marked g c =
-    let w = held_by (g.C.Checks.answers c.args.verifier.now.checks.now) c.args.trust.now in
+returns-then-ne-clause-marked g c = λ test h.
+    let w = held_by (with_test (g.C.Checks.answers c.args.verifier.now.checks.now) test) c.args.trust.now in
     let r = spelled c.args.record.now in
-    let h : (r.class == 1) ≡ false = not-true _ (sym c.ne.ensures ∙ c.if-ne.true) in
-    untried w c.args.message.now r c.args.groups.now (λ g. class_other w c.args.message.now r g h)
+    let class : (r.class == 1) ≡ false = not-true _ (sym c.ne.ensures ∙ c.if-ne.true) in
+    untried w c.args.message.now r c.args.groups.now (λ g. class_other w c.args.message.now r g class)
 
 pub returns-in_default-clause-marked : goal.returns-in_default-clause-marked
-returns-in_default-clause-marked g c =
-    let w = held_by (g.C.Checks.answers c.args.verifier.now.checks.now) c.args.trust.now in
+returns-in_default-clause-marked g c = λ test h.
+    let w = held_by (with_test (g.C.Checks.answers c.args.verifier.now.checks.now) test) c.args.trust.now in
     let m = c.args.message.now in
     let r = spelled c.args.record.now in
     untried w m r c.args.groups.now (λ g. no_signature w m r g (type_unread m r _ c.covered_type.ensures c.in_default.is))
 
 pub returns-in_default-place_of-clause-marked : goal.returns-in_default-place_of-clause-marked
-returns-in_default-place_of-clause-marked g c =
-    let w = held_by (g.C.Checks.answers c.args.verifier.now.checks.now) c.args.trust.now in
+returns-in_default-place_of-clause-marked g c = λ test h.
+    let w = held_by (with_test (g.C.Checks.answers c.args.verifier.now.checks.now) test) c.args.trust.now in
     type_none w c.args.message.now (spelled c.args.record.now) c.args.groups.now c.in-Some.covered c.in-Some.ensures c.in_default-place_of.ensures.found
 
 pub returns-in_default-place_of-clause-tried : goal.returns-in_default-place_of-clause-tried
-returns-in_default-place_of-clause-tried g c =
-    let w = held_by (g.C.Checks.answers c.args.verifier.now.checks.now) c.args.trust.now in
+returns-in_default-place_of-clause-tried g c = λ test h.
+    let w = held_by (with_test (g.C.Checks.answers c.args.verifier.now.checks.now) test) c.args.trust.now in
     let n = c.args.verifier.now.count in
     count_type_none w c.args.message.now (spelled c.args.record.now) c.args.groups.now c.in-Some.covered n n c.in-Some.ensures c.requires.signature (not-false _ (sym c.ne.ensures ∙ c.if-ne.false)) c.in_default-place_of.ensures.found refl
 
 pub returns-then-is_some-clause-marked : goal.returns-then-is_some-clause-marked
-returns-then-is_some-clause-marked g c =
-    let w = held_by (g.C.Checks.answers c.args.verifier.now.checks.now) c.args.trust.now in
+returns-then-is_some-clause-marked g c = λ test h.
+    let w = held_by (with_test (g.C.Checks.answers c.args.verifier.now.checks.now) test) c.args.trust.now in
     let x = c.index-groups-place.result in
     let own = c.in-Some-place_of.ensures.found x c.index-groups-place.is in
     type_again w c.args.message.now (spelled c.args.record.now) c.args.groups.now c.in-Some-place_of.place x c.in-Some.covered c.in-Some.ensures c.requires.apart c.in-Some-place_of.ensures.within c.index-groups-place.is own (ap (λ (y : Group). is_some y.verified) c.index-groups-place.is ∙ sym c.is_some.ensures ∙ c.if-is_some.true)
 
 pub returns-then-is_some-clause-tried : goal.returns-then-is_some-clause-tried
-returns-then-is_some-clause-tried g c =
-    let w = held_by (g.C.Checks.answers c.args.verifier.now.checks.now) c.args.trust.now in
+returns-then-is_some-clause-tried g c = λ test h.
+    let w = held_by (with_test (g.C.Checks.answers c.args.verifier.now.checks.now) test) c.args.trust.now in
     let n = c.args.verifier.now.count in
     let x = c.index-groups-place.result in
     let own = c.in-Some-place_of.ensures.found x c.index-groups-place.is in
     count_type_again w c.args.message.now (spelled c.args.record.now) c.args.groups.now c.in-Some-place_of.place x c.in-Some.covered n n c.in-Some.ensures c.requires.signature (not-false _ (sym c.ne.ensures ∙ c.if-ne.false)) c.requires.apart c.in-Some-place_of.ensures.within c.index-groups-place.is own (ap (λ (y : Group). is_some y.verified) c.index-groups-place.is ∙ sym c.is_some.ensures ∙ c.if-is_some.true) refl
 
 pub returns-in_default-signature-clause-marked : goal.returns-in_default-signature-clause-marked
-returns-in_default-signature-clause-marked g c =
-    let w = held_by (g.C.Checks.answers c.args.verifier.now.checks.now) c.args.trust.now in
+returns-in_default-signature-clause-marked g c = λ test h.
+    let w = held_by (with_test (g.C.Checks.answers c.args.verifier.now.checks.now) test) c.args.trust.now in
     let r = spelled c.args.record.now in
-    let h = sym c.signature.ensures ∙ ap (option_map signature_of) c.in_default-signature.is in
-    untried w c.args.message.now r c.args.groups.now (λ g. no_signature w c.args.message.now r g h)
+    let none = sym c.signature.ensures ∙ ap (option_map signature_of) c.in_default-signature.is in
+    untried w c.args.message.now r c.args.groups.now (λ g. no_signature w c.args.message.now r g none)
 
 same_item : (gs : List Group) (i : ℕ) (x y : Group) → i < length gs → get_or gs i x ≡ get_or gs i y
 same_item gs i x y h = let p = sym (slice_get-get_or gs i x h) ∙ slice_get-get_or gs i y h in cc
 
 pub returns-clause-marked : goal.returns-clause-marked
-returns-clause-marked g c =
-    let w = held_by (g.C.Checks.answers c.args.verifier.now.checks.now) c.args.trust.now in
+returns-clause-marked g c = λ test h.
+    let w = held_by (with_test (g.C.Checks.answers c.args.verifier.now.checks.now) test) c.args.trust.now in
     let m = c.args.message.now in
     let r = spelled c.args.record.now in
     let gs = c.args.groups.now in
@@ -78,11 +80,11 @@ returns-clause-marked g c =
     let own : is_of r.owner (fields_read s).covered x ≡ true = subst (λ (t : ℕ). is_of r.owner t x ≡ true) type (c.in-Some-place_of.ensures.found x c.index-groups-place-2.is) in
     let not_yet : is_some x.verified ≡ false =
     ap (λ (y : Group). is_some y.verified) (c.index-groups-place-2.is ∙ same_item gs i x c.index-groups-place.result within) ∙ sym c.is_some.ensures ∙ c.if-is_some.false in
-    tried_now w m r s gs i x c.in_ok-group.field-0 read c.requires.signature class c.requires.apart within c.index-groups-place-2.is own not_yet c.in_ok-group.ensures.signs
+    tried_now w m r s gs i x c.in_ok-group.field-0 read c.requires.signature class c.requires.apart within c.index-groups-place-2.is own not_yet (c.in_ok-group.ensures.signs test h)
 
 pub returns-clause-tried : goal.returns-clause-tried
-returns-clause-tried g c =
-    let w = held_by (g.C.Checks.answers c.args.verifier.now.checks.now) c.args.trust.now in
+returns-clause-tried g c = λ test h.
+    let w = held_by (with_test (g.C.Checks.answers c.args.verifier.now.checks.now) test) c.args.trust.now in
     let m = c.args.message.now in
     let r = spelled c.args.record.now in
     let gs = c.args.groups.now in
@@ -96,4 +98,26 @@ returns-clause-tried g c =
     let own : is_of r.owner (fields_read s).covered x ≡ true = subst (λ (t : ℕ). is_of r.owner t x ≡ true) type (c.in-Some-place_of.ensures.found x c.index-groups-place-2.is) in
     let not_yet : is_some x.verified ≡ false =
     ap (λ (y : Group). is_some y.verified) (c.index-groups-place-2.is ∙ same_item gs i x c.index-groups-place.result within) ∙ sym c.is_some.ensures ∙ c.if-is_some.false in
-    count_now w m r s gs i x c.args.verifier.now.count _ read c.requires.signature class c.requires.apart within c.index-groups-place-2.is own not_yet c.in_ok-group.ensures.tried
+    count_now w m r s gs i x c.args.verifier.now.count _ read c.requires.signature class c.requires.apart within c.index-groups-place-2.is own not_yet (c.in_ok-group.ensures.tried test h)
+
+pub returns-clause-asked : goal.returns-clause-asked
+returns-clause-asked g c = λ test passes.
+    let m = c.args.message.now in
+    let r = spelled c.args.record.now in
+    let s = c.in-Some-signature.signature in
+    let read : rrsig_at pointer_limit m r ≡ Some (signature_of s) = sym c.signature.ensures ∙ ap (option_map signature_of) c.in-Some-signature.is in
+    let type : c.in-Some.covered ≡ (fields_read s).covered = type_read m r c.in-Some.covered (signature_of s) c.in-Some.ensures read in
+    let x = c.index-groups-place-2.result in
+    let own : is_of r.owner (fields_read s).covered x ≡ true = subst (λ (t : ℕ). is_of r.owner t x ≡ true) type (c.in-Some-place_of.ensures.found x c.index-groups-place-2.is) in
+    c.in_ok-group.ensures.asked test (passes_at test c.args.trust.now.keys.now m r s c.args.groups.now c.in-Some-place_of.place x read c.requires.signature c.in-Some-place_of.ensures.within c.index-groups-place-2.is own passes)
+
+pub returns-in_err-group-clause-asked : goal.returns-in_err-group-clause-asked
+returns-in_err-group-clause-asked g c = λ test passes.
+    let m = c.args.message.now in
+    let r = spelled c.args.record.now in
+    let s = c.in-Some-signature.signature in
+    let read : rrsig_at pointer_limit m r ≡ Some (signature_of s) = sym c.signature.ensures ∙ ap (option_map signature_of) c.in-Some-signature.is in
+    let type : c.in-Some.covered ≡ (fields_read s).covered = type_read m r c.in-Some.covered (signature_of s) c.in-Some.ensures read in
+    let x = c.index-groups-place-2.result in
+    let own : is_of r.owner (fields_read s).covered x ≡ true = subst (λ (t : ℕ). is_of r.owner t x ≡ true) type (c.in-Some-place_of.ensures.found x c.index-groups-place-2.is) in
+    c.verifies.ensures.asked test (passes_at test c.args.trust.now.keys.now m r s c.args.groups.now c.in-Some-place_of.place x read c.requires.signature c.in-Some-place_of.ensures.within c.index-groups-place-2.is own passes)
