@@ -23,7 +23,7 @@ use Rattle.messages_canonical.proofs.Pieces.{all_parts, front_none, part_more}
 abbrev when_there : Option (List ℕ) → Bool → Option (List ℕ)
 when_there o b = elim b [ false ↦ None | true ↦ o ]
 
-range_join : (m : List ℕ) (p q e : ℕ) → p ≤ q → q ≤ e → slice_range m p e ≡ slice_range m p q ++ slice_range m q e
+pub range_join : (m : List ℕ) (p q e : ℕ) → p ≤ q → q ≤ e → slice_range m p e ≡ slice_range m p q ++ slice_range m q e
 range_join m p q e h k =
     let n : e - p ≡ (q - p) + (e - q) = omega (arith, h, k) in
     let at : p + (q - p) ≡ q = omega (arith, h) in

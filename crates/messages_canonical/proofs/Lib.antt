@@ -8,3 +8,4 @@ pub mod InPlace
 pub mod Anywhere
 pub mod Seen
 pub mod ReadSo
+pub mod NamesPut

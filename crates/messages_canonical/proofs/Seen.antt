@@ -1,14 +1,20 @@
 -- What a walk over a message tells of it.
-use Rattle.std.proofs.Common.{◌≡◌, ℕ, suc, ◌+◌, ◌<◌, ◌≤◌, Bool, true, false, List, length, Some, None, Result, Ok, Err, get_or, inl, inr, refl, sym, ap, subst, ◌∙◌, arith}
-use Rattle.std.specs.Prelude.{slice_get}
+use Rattle.std.proofs.Common.{◌≡◌, ℕ, zero, suc, ◌+◌, ◌-◌, ◌<◌, ◌≤◌, Bool, true, false, List, [], ◌∷◌, length, map, drop, Option, Some, None, Result, Ok, Err, get_or, inl, inr, refl, sym, ap, subst, ◌∙◌, arith}
+use Rattle.std.specs.Prelude.{slice_get, unwrap_or}
 use Rattle.std.proofs.lemmas.Option.{slice_get_cases, get_or_from_slice_get}
 use Rattle.definitions.specs.Limits.{pointer_limit}
 use Rattle.messages.specs.declared.error.MessageError.{MessageError}
 use Rattle.messages.specs.Message.{Message, Spelled, behind, message, pair, record_at, records_at, u16_at}
 use Rattle.messages.specs.Numbers.{NumbersReadAlike}
+use Rattle.std.proofs.lemmas.List.{length-map}
+use Rattle.messages.specs.declared.view.ViewRecord.{ViewRecord}
+use Rattle.messages.specs.Record.{spelled}
+use Rattle.messages.proofs.CountedRecords.{records_at-length}
+use Rattle.messages.proofs.Lists.{items_from}
+use Rattle.messages.proofs.MessageRecords.{one_less}
 use Rattle.messages_canonical.specs.Canonical.{IsCanonical, IsTooLong}
 use Rattle.messages_canonical.specs.InForm.{GrowsTooLong, IsFormOf, IsInForm, are_in_form, is_in_form}
-use Rattle.messages_canonical.specs.Walking.{EndsName, FindsRecords, Passes, TellsForm, data_in_form}
+use Rattle.messages_canonical.specs.Walking.{EndsName, FindsRecords, Passes, StartsWithOwner, TellsForm, data_in_form}
 use Rattle.messages_canonical.proofs.InPlace.{in_form_there}
 use Rattle.messages_canonical.proofs.Walked.{Leaves, headed, next_record, owner_ends, placed_record}
 
@@ -25,6 +31,24 @@ pub octet_none : (m : List ℕ) (p : ℕ) → length m ≤ p → slice_get m p �
 octet_none m p outside =
     elim (slice_get_cases m p).1 [
       | inl w ↦ absurd (omega (arith, w.1, outside))
+      | inr w ↦ w.1
+    ]
+
+get_outside : (m : List ℕ) (p d : ℕ) → length m ≤ p → get_or m p d ≡ d
+get_outside [] p d h = refl
+get_outside (x ∷ m) zero d h = absurd (omega (arith, h))
+get_outside (x ∷ m) (suc p) d h = get_outside m p d (omega (arith, h))
+
+-- an octet that is told whatever stands for one that isn't there
+pub octet_told : (m : List ℕ) (p : ℕ) (o : Option ℕ) → ((d : ℕ) → unwrap_or o d ≡ get_or m p d) → slice_get m p ≡ o
+octet_told m p (Some x) told =
+    elim (slice_get_cases m p).1 [
+      | inl w ↦ w.2 ∙ ap Some (sym (get_or_from_slice_get m p w.0 0 w.2) ∙ sym (told 0))
+      | inr w ↦ absurd (omega (arith, told 0, told 1, get_outside m p 0 w.0, get_outside m p 1 w.0))
+    ]
+octet_told m p None told =
+    elim (slice_get_cases m p).1 [
+      | inl w ↦ absurd (omega (arith, told 0, told 1, get_or_from_slice_get m p w.0 0 w.2, get_or_from_slice_get m p w.0 1 w.2))
       | inr w ↦ w.1
     ]
 
@@ -116,6 +140,36 @@ record_left m rs left p l passes =
     let n = next_record m left p l.rest l.reads in
     let e = passes n.next.0 n.next.1 n.is in
     cc
+
+-- ---- records of a list, where they stand in the message
+
+-- the records of a list from a place in it on stand in the message from a place on
+abbrev pub StandOn : List ℕ → List ViewRecord → ℕ → ℕ → Type 0
+StandOn m rs i p = records_at (length rs - i) pointer_limit m p ≡ Ok (map spelled (drop i rs))
+
+heads_are : (a b : Spelled) (xs ys : List Spelled) → a ∷ xs ≡ b ∷ ys → (a ≡ b) × (xs ≡ ys)
+heads_are a b xs ys e = (cc, cc)
+
+pub next_stands : (m : List ℕ) (rs : List ViewRecord) (i p : ℕ) (r : ViewRecord) → i < length rs → r ≡ get_or rs i r → StandOn m rs i p → StartsWithOwner m p (spelled r) × StandOn m rs (i + 1) (r.start + r.length)
+next_stands m rs i p r inside is stand =
+    let left = length rs - (i + 1) in
+    let all : map spelled (drop i rs) ≡ spelled r ∷ map spelled (drop (i + 1) rs) = ap (map spelled) (items_from rs i r inside is) in
+    let some : records_at (suc left) pointer_limit m p ≡ Ok (spelled r ∷ map spelled (drop (i + 1) rs)) =
+    ap (λ n. records_at n pointer_limit m p) (sym (one_less (length rs) i inside)) ∙ stand ∙ ap Ok all in
+    let n = next_record m left p (spelled r ∷ map spelled (drop (i + 1) rs)) some in
+    let same = heads_are (spelled r) n.next.0 (map spelled (drop (i + 1) rs)) n.more n.whole in
+    let w = placed_record m p n.next n.is in
+    let end : r.start + r.length ≡ n.next.1 = ap behind same.0 ∙ sym w.limit in (
+      (w.end, w.owner ∙ ap (λ (s : Spelled). Ok (s.owner, w.end)) (sym same.0)),
+      ap (λ x. records_at left pointer_limit m x) end ∙ n.reads ∙ ap Ok (sym same.1),
+    )
+
+-- all records of a message that reads
+pub all_stand : (m : List ℕ) (read : Message) (rs : List ViewRecord) (first count : ℕ) → FindsRecords m (Some (first, count)) → message pointer_limit m ≡ Ok read → map spelled rs ≡ read.records → records_at (length rs) pointer_limit m first ≡ Ok (map spelled rs)
+all_stand m read rs first count finds h are =
+    let reads = found_records m first count read finds h in
+    let counted : count ≡ length rs = sym (records_at-length count pointer_limit m first read.records reads) ∙ sym (ap length are) ∙ length-map rs spelled in
+    ap (λ n. records_at n pointer_limit m first) (sym counted) ∙ reads ∙ ap Ok (sym are)
 
 -- ---- the whole
 

@@ -1,10 +1,10 @@
 -- What a walk over a message finds, where the message reads.
-use Rattle.std.specs.Prelude.{◌≡◌, ℕ, ◌≤◌, Bool, ◌||◌, List, Option, Some, Ok, slice_range, slice_index, unwrap_or}
+use Rattle.std.specs.Prelude.{◌≡◌, ℕ, ◌≤◌, Bool, ◌||◌, List, ◌++◌, Option, Some, Ok, slice_range, slice_index, unwrap_or}
 use Rattle.std.specs.Str.{bytes_eq, str_to_ascii_lowercase}
 use Rattle.definitions.specs.Limits.{pointer_limit}
 use Rattle.definitions.specs.Name.{Name, low, wire}
 use Rattle.definitions.specs.Reading.{Reads}
-use Rattle.messages.specs.Message.{Message, Spelled, message, name_upto, record_at, records_at}
+use Rattle.messages.specs.Message.{Message, Spelled, message, name_upto, owner_at, record_at, records_at}
 use Rattle.messages_canonical.specs.Forms.{form_of, is_among}
 use Rattle.messages_canonical.specs.Canonical.{parts_at}
 use Rattle.messages_canonical.specs.InForm.{are_in_form, read_by_name}
@@ -26,6 +26,14 @@ FindsRecords m found =
 -- of a message that reads it is told whether its data are in form
 abbrev pub TellsForm : List ℕ → Bool → Type 0
 TellsForm m said = (read : Message) → message pointer_limit m ≡ Ok read → said ≡ are_in_form pointer_limit m read.records
+
+-- a name that reads at a place is put in full behind what was there
+abbrev pub PutsName : List ℕ → ℕ → List ℕ → List ℕ → Type 0
+PutsName m p old new = (n : Name) (e : ℕ) → owner_at pointer_limit m p ≡ Ok (n, e) → new ≡ old ++ wire n
+
+-- a record's owner reads at a place
+abbrev pub StartsWithOwner : List ℕ → ℕ → Spelled → Type 0
+StartsWithOwner m p r = (e : ℕ) × (owner_at pointer_limit m p ≡ Ok (r.owner, e))
 
 -- a name stands at a place in full, and ends by a limit
 pub record StandsInFull (m : List ℕ) (limit p e : ℕ) : Type 0 where

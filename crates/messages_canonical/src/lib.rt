@@ -7,6 +7,7 @@ pub mod error;
 pub mod form;
 pub mod laws;
 pub mod message;
+mod names;
 mod standing;
 mod walk;
 

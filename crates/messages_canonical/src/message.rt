@@ -1,19 +1,21 @@
 //! Whole messages in canonical form.
-ghost use Rattle.std.specs.Prelude.{◌≡◌, ◌≤◌, ◌++◌, length, map, true, IfOk, IfErr, OnOk};
+ghost use Rattle.std.specs.Prelude.{◌≡◌, ◌≤◌, ◌++◌, length, map, true, Ok, IfOk, IfErr, OnOk};
 ghost use Rattle.std.specs.Cow.{cow_slice_items};
 ghost use Rattle.std.specs.List.{flat_map};
 ghost use Rattle.definitions.specs.Limits.{pointer_limit};
-ghost use Rattle.messages.specs.Message.{data_of};
+ghost use Rattle.messages.specs.Message.{data_of, records_at};
 ghost use Rattle.messages.specs.Record.{spelled};
 ghost use Rattle.messages.specs.Rrsig.{record_numbers};
 ghost use Rattle.messages.specs.Written.{record_octets};
 ghost use Rattle.messages_canonical.specs.Canonical.{HasNone, IsCanonical, Writes, canonical_rdata, canonical_record, canonical_records, head_octets, most_octets, with_data};
 ghost use Rattle.messages_canonical.specs.InForm.{HasNoForm, IsInForm};
+ghost use Rattle.messages_canonical.specs.Walking.{StartsWithOwner};
 
 use crate::data::{put_data, put_kept};
 use crate::error::CanonicalError;
+use crate::names::put_name_at;
 use crate::standing::data_stand;
-use crate::walk::is_in_form;
+use crate::walk::{is_in_form, records_place};
 use messages::write::push_u16;
 use messages::{MessageView, ViewRecord, read_message_into};
 use names_rdata::rtype::Rtype;
@@ -24,6 +26,9 @@ use std::borrow::CowSlice;
 
 /// A message has no more octets (RFC 1035, 4.2.2).
 const MOST: usize = 65535;
+
+/// Room for data with two names of ordinary length; data that need more get it.
+const ROOM_FOR_DATA: usize = 128;
 
 /// So many octets stand before the question (RFC 1035, 4.1.1).
 const HEADER: usize = 12;
@@ -42,7 +47,8 @@ pub fn canonical_message(alloc: Global, bytes: &[u8]) -> Result<Vec<u8>, Canonic
     let room = bytes.len().saturating_mul(2).min(MOST);
     let mut octets = Vec::with_capacity(alloc, room)?;
     push_head(bytes, &view, &mut octets)?;
-    if !push_records(alloc, bytes, &records, &mut octets)? {
+    let (first, _) = records_place(bytes).unwrap();
+    if !push_records(alloc, bytes, first, &records, &mut octets)? {
         return Err(CanonicalError::TooLong);
     }
     Ok(octets)
@@ -78,41 +84,48 @@ fn push_head(bytes: &[u8], view: &MessageView, octets: &mut Vec<u8>) -> Result<(
     Ok(())
 }
 
-/// Writes records at the end; false where a message has no room for them.
+/// Writes records at the end, which stand in the message from a place on; false where a message has no room for them.
 fn push_records(
     alloc: Global,
     bytes: &[u8],
+    first: usize,
     records: &[ViewRecord],
     octets: &mut Vec<u8>,
 ) -> Result<bool, AllocError>
-    requires { length octets.old.items ≤ most_octets }
+    requires short { length octets.old.items ≤ most_octets }
+    requires placed { let are = map spelled records.now in
+        records_at (length records.now) pointer_limit bytes.now first ≡ Ok are }
     ensures { let are = canonical_records pointer_limit bytes.now (map spelled records.now) in
         let more = flat_map record_octets are in
         IfOk result (λ b. Writes b octets.old.items octets.new.items more) }
 {
-    let mut data = Vec::new(alloc);
+    let mut data = Vec::with_capacity(alloc, ROOM_FOR_DATA)?;
+    let mut at = first;
     for record in records {
-        if !push_record(bytes, record, &mut data, octets)? {
+        if !push_record(bytes, at, record, &mut data, octets)? {
             return Ok(false);
         }
+        at = record.start + record.length;
     }
     Ok(true)
 }
 
-/// Writes a record at the end, by a buffer for its data; false where a message has no room for it.
+/// Writes the record at a place at the end, by a buffer for its data; false where a message has no room for it.
 fn push_record(
     bytes: &[u8],
+    at: usize,
     record: &ViewRecord,
     data: &mut Vec<u8>,
     octets: &mut Vec<u8>,
 ) -> Result<bool, AllocError>
+    requires { StartsWithOwner bytes.now at (spelled record.now) }
     ensures { let more = record_octets (canonical_record pointer_limit bytes.now (spelled record.now)) in
         IfOk result (λ b. Writes b octets.old.items octets.new.items more) }
 {
     if !record_stands(bytes, record) && put_data(bytes, record, data)? {
-        return push_with_data(record, data, octets);
+        return push_with_data(bytes, at, record, data, octets);
     }
-    push_with_data(record, record.octets(bytes), octets)
+    push_with_data(bytes, at, record, record.octets(bytes), octets)
 }
 
 /// Whether the data of a record are seen to be in canonical form as they stand.
@@ -124,19 +137,22 @@ fn record_stands(bytes: &[u8], record: &ViewRecord) -> bool
     limit <= bytes.len() && data_stand(bytes, record.rtype, record.start, limit)
 }
 
-/// Writes a record with these data at the end; false where a message has no room for it.
+/// Writes the record at a place with these data at the end; false where a message has no room for it.
 fn push_with_data(
+    bytes: &[u8],
+    at: usize,
     record: &ViewRecord,
     data: &[u8],
     octets: &mut Vec<u8>,
 ) -> Result<bool, AllocError>
+    requires { StartsWithOwner bytes.now at (spelled record.now) }
     ensures { let more = record_octets (with_data (spelled record.now) data.now) in
         IfOk result (λ b. Writes b octets.old.items octets.new.items more) }
 {
     if data.len() > MOST {
         return Ok(false);
     }
-    put_kept(record.owner.name(), octets)?;
+    put_name_at(bytes, at, octets)?;
     octets.extend_from_slice(&record_numbers(record.rtype, record.class, record.ttl, data.len()))?;
     octets.extend_from_slice(data)?;
     Ok(octets.len() <= MOST)

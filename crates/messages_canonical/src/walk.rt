@@ -34,7 +34,7 @@ pub(crate) fn is_in_form(alloc: Global, message: &[u8]) -> Result<bool, AllocErr
 }
 
 /// Where the first record stands, and how many there are.
-fn records_place(message: &[u8]) -> Option<(usize, usize)>
+pub(crate) fn records_place(message: &[u8]) -> Option<(usize, usize)>
     ensures { FindsRecords message.now result }
 {
     numbers_read_alike();
@@ -118,7 +118,7 @@ fn name_end(message: &[u8], start: usize) -> Option<usize>
 }
 
 /// The 16-bit number of two octets (RFC 1035, 2.3.2).
-fn of_pair(high: u8, low: u8) -> usize
+pub(crate) fn of_pair(high: u8, low: u8) -> usize
     ensures { result ≡ of_octets high low }
 {
     usize::from(high) * 256 + usize::from(low)
