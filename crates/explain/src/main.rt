@@ -89,7 +89,10 @@ fn serve(
 }
 
 fn main(rt: HostRuntime) -> Result<()> {
-    let words = env::args(&rt)?.skip(1).collect::<Vec<String>>(rt.alloc())?;
+    let mut words = Vec::new(rt.alloc());
+    for word in env::args(&rt)?.skip(1) {
+        words.push(word)?;
+    }
     let count = words.iter().filter(|word| !is_option(word)).count();
     let (mut options, mut refused) = (Options::new(), 0u32);
     for word in &words {

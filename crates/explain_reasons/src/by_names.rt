@@ -20,8 +20,14 @@ fn covers(asked: &Asked, link: &Link, name: &Name<Vec<u8>>) -> bool {
 /// The closest encloser of a name that a link covers.
 fn encloser<'n>(link: &Link, name: &'n Name<Vec<u8>>) -> Option<Name<&'n [u8]>> {
     let next = link.data.next_name();
-    name.iter_suffixes().skip(1).find(|above| is_at_or_above(above, &link.owner)
-        || is_at_or_above(above, next))
+    let mut ancestors = name.iter_suffixes();
+    let _itself = ancestors.next();
+    for above in ancestors {
+        if is_at_or_above(&above, &link.owner) || is_at_or_above(&above, next) {
+            return Some(above);
+        }
+    }
+    None
 }
 
 /// Says what the record of a name says of a type, there or at a wildcard.
