@@ -1,12 +1,11 @@
 -- What a case in octets spells.
-use Rattle.std.proofs.Common.{◌≡◌, ℕ, ◌+◌, ◌-◌, Bool, true, false, List, [], ◌∷◌, ◌++◌, length, Some, Ok, Result, sym, ap, subst, ◌∙◌, inl, inr, length-append, arith}
-use Rattle.std.specs.Prelude.{IsErr, Option}
-use Rattle.std.specs.Result.{is_err}
-use Rattle.std.proofs.lemmas.Bool.{false≢true}
+use Rattle.std.proofs.Common.{◌≡◌, ℕ, ◌+◌, ◌-◌, Bool, true, false, List, [], ◌∷◌, ◌++◌, length, Some, Ok, Err, Result, sym, ap, subst, ◌∙◌, length-append, arith}
+use Rattle.std.specs.Prelude.{Option}
 use Rattle.definitions.specs.Limits.{pointer_limit}
 use Rattle.messages.specs.Message.{Message, message}
 use Rattle.messages.specs.declared.error.MessageError.{MessageError}
 use Rattle.messages_canonical.specs.Canonical.{IsCanonical, canonical_octets}
+use Rattle.messages_canonical.specs.InForm.{IsFormOf, are_in_form}
 use Rattle.std.specs.List.{AllByRecursion, flat_map}
 use Rattle.std.specs.Option.{unwrap_or}
 use Rattle.std.proofs.lemmas.List.{append-nil, take_at}
@@ -41,15 +40,22 @@ one_canonical m x y p q =
     let same : p.read ≡ q.read = found_once p.read q.read (sym p.reads ∙ q.reads) in
     p.octets_are ∙ ap (canonical_octets pointer_limit m) same ∙ sym q.octets_are
 
-not_both : (m x : List ℕ) → IsCanonical m x → IsErr (message pointer_limit m) → ⊥
-not_both m x p is = false≢true (sym (ap is_err p.reads) ∙ is)
+-- one that is in form, or isn't
+one_form : (m x y : List ℕ) (b : Bool) → IsFormOf b m x → IsFormOf b m y → x ≡ y
+one_form m x y true p q = p ∙ sym q
+one_form m x y false p q = one_canonical m x y p q
+
+-- as what it reads as is to be seen
+abbrev FormOf : List ℕ → List ℕ → Result Message MessageError → Type 0
+FormOf m octets r = elim r [ Err fault ↦ octets ≡ m | Ok read ↦ IsFormOf (are_in_form pointer_limit m read.records) m octets ]
+
+one_of_read : (m x y : List ℕ) (r : Result Message MessageError) → FormOf m x r → FormOf m y r → x ≡ y
+one_of_read m x y (Err fault) p q = p ∙ sym q
+one_of_read m x y (Ok read) p q = one_form m x y (are_in_form pointer_limit m read.records) p q
 
 one_of : (m x y : List ℕ) (a : Bool) → IsJudged a m x → IsJudged a m y → x ≡ y
 one_of m x y true p q = p ∙ sym q
-one_of m x y false (inl p) (inl q) = one_canonical m x y p q
-one_of m x y false (inl p) (inr q) = absurd (not_both m x p q.1)
-one_of m x y false (inr p) (inl q) = absurd (not_both m y q p.1)
-one_of m x y false (inr p) (inr q) = p.0 ∙ sym q.0
+one_of m x y false p q = one_of_read m x y (message pointer_limit m) p q
 
 one_judged : (m x y : List ℕ) (a b : Bool) → a ≡ b → IsJudged a m x → IsJudged b m y → x ≡ y
 one_judged m x y a b e p q = one_of m x y b (subst (λ f. IsJudged f m x) e p) q

@@ -1,10 +1,8 @@
 -- What is replied to a case in octets.
-use Rattle.std.specs.Prelude.{◌≡◌, ℕ, ◌%◌, ◌≤◌, ◌<◌, ◌==◌, ◌⊎◌, Bool, true, false, ◌&&◌, List, [], ◌++◌, drop, length, map, Option, Some, None, Ok, Err, IsErr, nat_le, if◌then◌else◌, ⊤}
+use Rattle.std.specs.Prelude.{◌≡◌, ℕ, ◌%◌, ◌≤◌, ◌<◌, ◌==◌, ◌⊎◌, Bool, true, false, ◌&&◌, List, [], ◌++◌, drop, length, map, Option, Some, None, Ok, Err, nat_le, if◌then◌else◌, ⊤}
 use Rattle.std.specs.List.{AllByRecursion, flat_map}
 use Rattle.definitions.specs.Dnskey.{Ds}
-use Rattle.definitions.specs.Limits.{pointer_limit}
-use Rattle.messages.specs.Message.{message}
-use Rattle.messages_canonical.specs.Canonical.{IsCanonical, IsTooLong}
+use Rattle.messages_canonical.specs.InForm.{GrowsTooLong, IsInForm}
 use Rattle.names_rdata.specs.Composing.{with_length}
 use Rattle.messages.specs.NameOctets.{name_of_octets}
 use Rattle.answer_judge_rules.specs.declared.verdict.Verdict.{Verdict}
@@ -47,11 +45,11 @@ is_sized case = nat_le smallest_size case.size && nat_le case.size whole_size
 abbrev pub flag_in : OctetCase → ℕ → Option Bool
 flag_in case flag = if is_sized case then (if has_flags case then flag_of flag else Some false) else None
 
--- The octets that are judged of a message: those that were received, or else its canonical form. What doesn't read is
--- refused as it was received.
+-- The octets that are judged of a message: those that were received; or, where names in data are to be taken in full and in lower
+-- case, these too where its data are so, and else its canonical form. What doesn't read is refused as it was received.
 abbrev pub IsJudged : Bool → List ℕ → List ℕ → Type 0
 IsJudged true m judged = judged ≡ m
-IsJudged false m judged = IsCanonical m judged ⊎ ((judged ≡ m) × IsErr (message pointer_limit m))
+IsJudged false m judged = IsInForm m judged
 
 -- What the octets of a case spell: what a judge is handed, and a table.
 pub record Spells (case : OctetCase) (h : Handing) (table : List Checked) : Type 0 where
@@ -76,7 +74,7 @@ Unread case c.BadDsSet = (ds : List Ds) → IsList FitsDs ds_octets case.ds.now 
 Unread case c.BadName = name_of_octets case.name.now ≡ None
 Unread case c.BadSignatures = (table : List Checked) → IsList FitsChecked checked_octets case.checked.now table → ⊥
 Unread case c.BadCase = (flag_in case case.one_moment ≡ None) ⊎ (flag_in case case.as_received ≡ None)
-Unread case c.MessageTooLong = (flag_in case case.as_received ≡ Some false) × (IsTooLong case.dnskey.now ⊎ IsTooLong case.answer.now)
+Unread case c.MessageTooLong = (flag_in case case.as_received ≡ Some false) × (GrowsTooLong case.dnskey.now ⊎ GrowsTooLong case.answer.now)
 Unread case _ = ⊥
 
 -- ---- what is replied

@@ -2,7 +2,7 @@
 ghost use Rattle.std.specs.Prelude.{◌≡◌, ◌⊎◌, Some, None, false, IfOk, IfErr};
 ghost use Rattle.std.specs.Cow.{cow_slice_items};
 ghost use Rattle.messages.specs.NameOctets.{name_of_octets};
-ghost use Rattle.messages_canonical.specs.Canonical.{IsTooLong};
+ghost use Rattle.messages_canonical.specs.InForm.{GrowsTooLong};
 ghost use Rattle.answer_judge_octets.specs.Replying.{Answers, IsJudged, Replies, SaysOutcome, Spells, Unread, flag_in, reply_seen};
 ghost use Rattle.answer_judge_octets.specs.ReadCases.{handing_of};
 
@@ -15,7 +15,7 @@ use denial_data::Ds;
 use denial_fields::unix_time::UnixTime;
 use messages::names::{Name, name_from_octets};
 use messages::question::Question;
-use messages_canonical::{CanonicalError, canonical_message};
+use messages_canonical::{CanonicalError, canonical_cow};
 use names_rdata::rtype::Rtype;
 use numbers::class::Class;
 use std::alloc::{AllocError, Global};
@@ -50,8 +50,8 @@ pub struct OctetCase<'a> {
     pub limit: u16,
     /// 1 where all signatures of the answer are to be of one inception and one expiration; else 0.
     pub one_moment: u32,
-    /// 0 where both messages are judged in canonical form, names in their data in full and in lower case (RFC 4034, 6.2), as
-    /// every validator does; 1 where they are judged as their octets stand.
+    /// 0 where both messages are judged with names in their data in full and in lower case (RFC 4034, 6.2), as every validator
+    /// does: put in canonical form where they have to be; 1 where they are judged as their octets stand.
     pub as_received: u32,
 }
 
@@ -199,16 +199,15 @@ fn judged_form<'a>(
 ) -> Result<CowSlice<'a, u8>, ReplyCode>
     ensures ok { IfOk result (λ o. IsJudged as_received message.now (cow_slice_items o)) }
     ensures long { IfErr result (λ c. (c ≡ ReplyCode.OutOfMemory)
-        ⊎ ((c ≡ ReplyCode.MessageTooLong) × (as_received ≡ false) × IsTooLong message.now)) }
+        ⊎ ((c ≡ ReplyCode.MessageTooLong) × (as_received ≡ false) × GrowsTooLong message.now)) }
 {
     if as_received {
         return Ok(CowSlice::Borrowed(message));
     }
-    match canonical_message(alloc, message) {
-        Ok(octets) => Ok(CowSlice::Owned(octets)),
-        Err(CanonicalError::Message(_)) => Ok(CowSlice::Borrowed(message)),
+    match canonical_cow(alloc, message) {
+        Ok(octets) => Ok(octets),
         Err(CanonicalError::TooLong) => Err(ReplyCode::MessageTooLong),
-        Err(CanonicalError::Memory) => Err(ReplyCode::OutOfMemory),
+        Err(_) => Err(ReplyCode::OutOfMemory),
     }
 }
 
