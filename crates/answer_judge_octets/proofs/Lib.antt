@@ -4,3 +4,4 @@ pub mod EntriesSplit
 pub mod HonestTable
 pub mod SpelledCases
 pub mod AsksGrow
+pub mod ToldInForm

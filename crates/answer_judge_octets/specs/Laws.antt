@@ -1,8 +1,17 @@
 -- What octets spell is one thing, and a list grows by what was asked for.
-use Rattle.std.specs.Prelude.{◌≡◌, ℕ, ◌-◌, Bool, false, List, [], ◌∷◌, ◌++◌, length, take}
+use Rattle.std.specs.Prelude.{◌≡◌, ℕ, ◌-◌, Bool, true, false, List, [], ◌∷◌, ◌++◌, length, take}
+use Rattle.std.specs.List.{list_all}
+use Rattle.definitions.specs.Name.{Name}
+use Rattle.definitions.specs.Dnskey.{Dnskey}
+use Rattle.definitions.specs.Limits.{pointer_limit}
+use Rattle.definitions.specs.Zone.{Zone}
+use Rattle.messages.specs.Message.{Asked}
+use Rattle.messages_canonical.specs.InForm.{has_form}
+use Rattle.answer_shared.specs.Served.{Group, Served}
+use Rattle.answer_shared.specs.Told.{TellsAnswer, TellsKeys}
 use Rattle.answer_judge_facts.specs.Judging.{Handing}
 use Rattle.answer_judge_octets.specs.declared.octets.OctetCase.{OctetCase}
-use Rattle.answer_judge_octets.specs.Replying.{Spells}
+use Rattle.answer_judge_octets.specs.Replying.{IsJudged, Spells}
 use Rattle.answer_judge_octets.specs.Table.{Checked, Tried, checked}
 use Rattle.answer_judge_octets.specs.Written.{FitsChecked, IsList, checked_octets, passes_octets}
 
@@ -22,3 +31,19 @@ ListsGrow =
     (octets : List ℕ) (table : List Checked) (t : Tried) (passes : Bool)
     → IsList FitsChecked checked_octets octets table → FitsChecked (checked t false)
     → IsList FitsChecked checked_octets (octets ++ answered_entry (checked_octets (checked t false)) passes) (table ++ checked t passes ∷ [])
+
+-- the data of an RRset are in form, each by itself
+abbrev pub is_group_in_form : Group → Bool
+is_group_in_form g = list_all (has_form g.rtype) g.datas
+
+-- and those of a zone's records
+abbrev pub is_zone_in_form : Zone → Bool
+is_zone_in_form z = list_all (λ r. has_form r.rtype r.bytes) z.records
+
+-- Messages that tell what a zone's publisher answers, as those that it gives do, are judged as they were received: zone answers
+-- where the data of the zone's records are in form, and DNSKEY answers.
+pub record ToldAreInForm : Type 0 where
+  pub answers : (verifies : Dnskey → List ℕ → List ℕ → Bool) (s : Served) (apex : Name) (signers : List Dnskey) (at life : ℕ) (asked : Asked) (bytes judged : List ℕ)
+      → is_zone_in_form s.zone ≡ true → TellsAnswer verifies pointer_limit s apex signers at life asked bytes → IsJudged false bytes judged → judged ≡ bytes
+  pub keys : (verifies : Dnskey → List ℕ → List ℕ → Bool) (ttl : ℕ) (apex : Name) (present signers : List Dnskey) (at life : ℕ) (bytes judged : List ℕ)
+      → TellsKeys verifies pointer_limit ttl apex present signers at life bytes → IsJudged false bytes judged → judged ≡ bytes

@@ -1,6 +1,6 @@
 //! Laws of cases in octets.
 
-ghost use Rattle.answer_judge_octets.specs.Laws.{ListsGrow, OctetsSpellOneCase};
+ghost use Rattle.answer_judge_octets.specs.Laws.{ListsGrow, OctetsSpellOneCase, ToldAreInForm};
 
 /// The octets of a case spell one thing to be judged, and one table of signatures, if any.
 pub fn octets_spell_one_case()
@@ -11,4 +11,10 @@ pub fn octets_spell_one_case()
 /// signature too.
 pub fn lists_grow_by_entries()
     ensures { ListsGrow }
+{}
+
+/// Where the data of a zone's records are canonical by themselves, what its publisher gives is judged as it was received: no
+/// message of it is put in canonical form.
+pub fn told_are_in_form()
+    ensures { ToldAreInForm }
 {}

@@ -3,6 +3,7 @@
 use crate::words::{name_of, wire_of};
 use messages::write::{push_header, push_question, push_record, push_u16, push_u32};
 use messages::{MessageView, ViewRecord, read_message};
+use messages_canonical::laws::{canonical_reads_back, data_stay_in_form, names_are_read_so};
 use messages_canonical::{canonical_cow, canonical_message};
 use names::Rtype;
 use plain::{Class, Ttl};
@@ -32,8 +33,11 @@ pub fn canonical(alloc: Global, octets: &str) -> Option<String> {
     }
 }
 
-/// A message as whoever verifies signatures is to see it: its octets, and whether they are those that were received.
+/// A message as whoever verifies signatures is to see it: its octets, unless they are those that were received.
 pub fn form(alloc: Global, octets: &str) -> Option<String> {
+    canonical_reads_back();
+    data_stay_in_form();
+    names_are_read_so();
     let octets = octets_of(alloc, octets)?;
     match canonical_cow(alloc, &octets) {
         Ok(CowSlice::Borrowed(_)) => format!(in alloc; "as received").ok(),

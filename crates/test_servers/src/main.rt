@@ -26,6 +26,7 @@ mod tally;
 mod words;
 mod zone;
 
+use answer_judge_octets::laws::{lists_grow_by_entries, octets_spell_one_case, told_are_in_form};
 use desk::Desk;
 use std::alloc::Global;
 use std::io;
@@ -58,6 +59,10 @@ fn is_silent(line: &str) -> bool {
 }
 
 fn main(rt: HostRuntime) -> io::Result<()> {
+    // Laws of judging from octets.
+    octets_spell_one_case();
+    lists_grow_by_entries();
+    told_are_in_form();
     let mut desk = Desk::new(rt.alloc());
     for line in rt.lines(rt.alloc()) {
         let line = line?;
