@@ -1,4 +1,5 @@
 pub mod JudgeWhole
+pub mod JudgeAsks
 pub mod GivenLists
 pub mod GivenRecords
 pub mod GivenSignatures
@@ -17,6 +18,7 @@ pub mod GivenChained
 pub mod GivenJudged
 pub mod GivenMoments
 pub mod JudgeTotals
+pub mod JudgedWholly
 pub mod GivenGroups
 pub mod FirstSigns
 pub mod BothChains

@@ -12,6 +12,8 @@ ghost use Rattle.answer_judge_facts.specs.Judged.{judged, judged_beyond, said, A
 ghost use Rattle.answer_judge.specs.Meeting.{AnswersGiven, JudgesSo};
 ghost use Rattle.answer_judge_facts.specs.Judging.{Judges, answer_of, handed, verifications_of, hashes_of, is_first, message_refusal, same_question, hash_bound, verification_bound};
 ghost use Rattle.answer_shared.specs.Asking.{is_allowed};
+ghost use Rattle.answer_scheme.specs.Answers.{EachAgreeing, SignatureTest, with_test};
+ghost use Rattle.answer_judge_facts.specs.Asked.{Implies, is_candidate};
 
 pub mod by_scheme;
 mod deciding;
@@ -77,6 +79,9 @@ impl<'a> Case<'a> {
     /// under a key that the zone published is over octets that were not signed, and each key of the DNSKEY answer whose digest
     /// the DS set has is one that the zone published. For a zone that changes this asks that signatures must be of one moment.
     /// Where no signature of the one message holds at the moment, or none of the other, they are refused.
+    ///
+    /// What is said holds under each scheme that agrees with all that `verify` answered. It is asked about candidates alone:
+    /// signatures of the two messages, over RRsets there that are sought, under keys of the DNSKEY answer.
     pub fn judge<C: Checks>(&self, alloc: Global, checks: &mut C) -> Result<Judgement, Refused>
         ensures judges { let answer = answer_of result in
             Judges pointer_limit self.now answer (verifications_of result) (hashes_of result) }
@@ -91,10 +96,17 @@ impl<'a> Case<'a> {
             Counts (answer_of result) (verifications_of result) due }
         ensures hash_counts { let a = C.answers checks.old in
             Counts (answer_of result) (hashes_of result) (hashes_due a pointer_limit self.now) }
+        ensures agreeing { (test : SignatureTest) → C.agrees checks.new test
+            → C.agrees checks.old test
+            × JudgesSo pointer_limit (with_test (C.answers checks.old) test) self.now result }
+        ensures asked { let a = C.answers checks.old in
+            (test : SignatureTest) → Implies (is_candidate a pointer_limit self.now) test
+            → C.asked_only checks.old test → C.asked_only checks.new test }
         ensures verified { C.verified checks.new ≡ C.verified checks.old + verifications_of result }
         ensures hashed { C.hashed checks.new ≡ C.hashed checks.old + hashes_of result }
         ensures same { C.answers checks.new ≡ C.answers checks.old }
     {
+        self.limit_fits();
         if !is_allowed(self.apex, self.question) {
             return Err(Refused {
                 refusal: Refusal::QuestionNotAllowed,
@@ -109,7 +121,6 @@ impl<'a> Case<'a> {
                 hashes: 0,
             });
         }
-        self.limit_fits();
         let mut octets = Vec::new(alloc);
         let mut verifier = Verifier::new(alloc, checks, &mut octets);
         let mut hashes = 0;
@@ -145,21 +156,29 @@ fn judge_messages<C: Checks>(
     requires none_hashed { hashes.old ≡ 0 }
     requires other { (case.now.asked.rtype == 47) ≡ false }
     requires other_too { (case.now.asked.rtype == 50) ≡ false }
-    ensures exact { let a = C.answers verifier.old.checks.now in
-        AnswersAs (said result) (judged_beyond a pointer_limit case.now) }
-    ensures counts { let a = C.answers verifier.old.checks.now in
-        Counts (said result) verifier.new.count (tries_beyond a pointer_limit case.now) }
+    ensures exact { EachAgreeing (C.answers verifier.old.checks.now)
+        (C.agrees verifier.new.checks.now)
+        (λ a. AnswersAs (said result) (judged_beyond a pointer_limit case.now)) }
+    ensures counts { EachAgreeing (C.answers verifier.old.checks.now)
+        (C.agrees verifier.new.checks.now)
+        (λ a. Counts (said result) verifier.new.count (tries_beyond a pointer_limit case.now)) }
     ensures verdict { OnOk result (message_refusal pointer_limit case.now ≡ None) }
     ensures refusal { IfErr result
         (λ e. RefusesFirst e (message_refusal pointer_limit case.now)) }
     ensures bound { verifier.new.count ≤ verification_bound pointer_limit case.now }
     ensures counted { C.verified verifier.new.checks.now
         ≡ C.verified verifier.old.checks.now + verifier.new.count }
-    ensures hash_counts { let a = C.answers verifier.old.checks.now in
-        Counts (said result) hashes.new (hashes_beyond a pointer_limit case.now) }
+    ensures hash_counts { EachAgreeing (C.answers verifier.old.checks.now)
+        (C.agrees verifier.new.checks.now)
+        (λ a. Counts (said result) hashes.new (hashes_beyond a pointer_limit case.now)) }
     ensures hash_bound { hashes.new ≤ hash_bound case.now }
     ensures hashed { C.hashed verifier.new.checks.now
         ≡ C.hashed verifier.old.checks.now + hashes.new }
+    ensures agrees { (test : SignatureTest) → C.agrees verifier.new.checks.now test
+        → C.agrees verifier.old.checks.now test }
+    ensures asked { let a = C.answers verifier.old.checks.now in
+        (test : SignatureTest) → Implies (is_candidate a pointer_limit case.now) test
+        → C.asked_only verifier.old.checks.now test → C.asked_only verifier.new.checks.now test }
     ensures same { C.answers verifier.new.checks.now ≡ C.answers verifier.old.checks.now }
     ensures same_checks { verifier.new.checks.ghost_name ≡ verifier.old.checks.ghost_name }
 {

@@ -1,6 +1,7 @@
 //! What verified facts prove, beside signatures of one moment and links that were hashed alike and within a limit.
 ghost use Rattle.std.specs.Prelude.{◌≡◌, ◌≤◌, ◌+◌, not, IfErr, None};
 ghost use Rattle.std.specs.List.{list_any};
+ghost use Rattle.answer_scheme.specs.Answers.{NoneVerified};
 ghost use Rattle.answer_judge_facts.specs.Facts.{RefusesFirst};
 ghost use Rattle.answer_judge_facts.specs.Judging.{hash_bound};
 ghost use Rattle.answer_judge_facts.specs.Judged.{are_alike, are_mixed, are_over, judged_facts, judged_proof, said, AnswersAs};
@@ -34,6 +35,7 @@ pub(crate) fn judge_proof<C: Checks>(
     ensures hashed { C.hashed checks.new ≡ C.hashed checks.old + hashes.new }
     ensures refusal { IfErr result (λ e. RefusesFirst e None) }
     ensures verified { C.verified checks.new ≡ C.verified checks.old }
+    ensures none { NoneVerified C.agrees C.asked_only checks.old checks.new }
     ensures same { C.answers checks.new ≡ C.answers checks.old }
 {
     if case.one_moment && proof.is_of_moments {
@@ -59,6 +61,7 @@ fn judge_facts<C: Checks>(
     ensures hashed { C.hashed checks.new ≡ C.hashed checks.old + hashes.new }
     ensures refusal { IfErr result (λ e. RefusesFirst e None) }
     ensures verified { C.verified checks.new ≡ C.verified checks.old }
+    ensures none { NoneVerified C.agrees C.asked_only checks.old checks.new }
     ensures same { C.answers checks.new ≡ C.answers checks.old }
 {
     if are_mixed(facts.hash_links()) {

@@ -1,0 +1,48 @@
+-- What a judgement is, from what it answers and counts.
+use Rattle.std.proofs.Common.{◌≡◌, ◌<◌, ℕ, Bool, true, false, not, length, sym, subst}
+use Rattle.std.specs.Prelude.{Option, Some, None, nat_eq, if◌then◌else◌}
+use Rattle.definitions.specs.Limits.{pointer_limit}
+use Rattle.definitions.specs.Zone.{Unsigned}
+use Rattle.answer_scheme.specs.Answers.{Answers}
+use Rattle.answer_shared.specs.Asking.{is_allowed}
+use Rattle.answer_judge_facts.specs.Counted.{Counts, hashes_beyond, hashes_due, hashes_in_bytes, tries_beyond, tries_in_bytes, verifications_due}
+use Rattle.answer_judge_facts.specs.Judged.{AnswersAs, judged, judged_beyond, judged_bytes}
+use Rattle.answer_judge_facts.specs.Judging.{Answer, Handing, Judges, Refuses, Says, message_refusal}
+use Rattle.answer_judge_facts.specs.declared.verdict.Refusal.{Refusal}
+use Rattle.answer_judge_facts.specs.declared.verdict.Refusal.TheVariants as r
+use Rattle.answer_judge.specs.Meeting.{IsJudgement}
+use Rattle.answer_judge.proofs.GivenAnswers.{answers_given}
+use Rattle.answer_judge.proofs.HonestJudged.{answers_honest}
+use Rattle.answer_judge.proofs.Timely.{refuses_untimely}
+
+module _ (a : Answers) (h : Handing) (short : h.limit < 65536) where
+  -- the refusal in front of all others, or that of the messages
+  abbrev first : Bool → Bool → Option Refusal
+  first allowed empty = if not allowed then Some r.QuestionNotAllowed else if empty then None else message_refusal pointer_limit h
+
+  abbrev said_then : Bool → Bool → Answer
+  said_then allowed empty = elim (first allowed empty) as (λ _. Answer) [ Some e ↦ Refuses e | None ↦ if empty then Says Unsigned else judged_bytes a pointer_limit h ]
+
+  abbrev counted_then : ℕ → Bool → Bool → ℕ
+  counted_then n allowed empty = elim (first allowed empty) as (λ _. ℕ) [ Some e ↦ 0 | None ↦ if empty then 0 else n ]
+
+  whole : (answer : Answer) (verifications hashes : ℕ) (allowed empty : Bool) → is_allowed h.apex h.asked ≡ allowed → nat_eq (length h.ds) 0 ≡ empty → Judges pointer_limit h answer verifications hashes
+      → AnswersAs answer (said_then allowed empty) → Counts answer verifications (counted_then (tries_in_bytes a pointer_limit h) allowed empty) → Counts answer hashes (counted_then (hashes_in_bytes a pointer_limit h) allowed empty)
+      → IsJudgement pointer_limit a h answer verifications hashes
+  whole answer verifications hashes allowed empty p q keeps said tried hashed =
+      let exact : AnswersAs answer (judged a pointer_limit h) = subst (AnswersAs answer) (λ i. said_then (sym p i) (sym q i)) said in
+      record {
+        keeps = keeps;
+        exact = exact;
+        counts = subst (Counts answer verifications) (λ i. counted_then (tries_in_bytes a pointer_limit h) (sym p i) (sym q i)) tried;
+        hash_counts = subst (Counts answer hashes) (λ i. counted_then (hashes_in_bytes a pointer_limit h) (sym p i) (sym q i)) hashed;
+        given = answers_given a pointer_limit h answer short exact;
+        honest = answers_honest a pointer_limit h answer short exact;
+        timely = refuses_untimely a pointer_limit h answer exact;
+      }
+
+  -- beside a DS set that isn't empty, of an allowed question
+  pub wholly : (answer : Answer) (verifications hashes : ℕ) → is_allowed h.apex h.asked ≡ true → nat_eq (length h.ds) 0 ≡ false → Judges pointer_limit h answer verifications hashes
+      → AnswersAs answer (judged_beyond a pointer_limit h) → Counts answer verifications (tries_beyond a pointer_limit h) → Counts answer hashes (hashes_beyond a pointer_limit h)
+      → IsJudgement pointer_limit a h answer verifications hashes
+  wholly answer verifications hashes p q keeps said tried hashed = whole answer verifications hashes true false p q keeps said tried hashed
