@@ -177,12 +177,18 @@ fn octets_of_data(alloc: Global, data: &DataList) -> Result<Vec<u8>, AllocError>
     Ok(octets)
 }
 
+/// Room for the data of a key of an elliptic curve; longer ones get more.
+const ROOM_FOR_KEY: usize = 128;
+
+/// Room for an entry of a small RRset that such a key signs; longer ones get more.
+const ROOM_FOR_ENTRY: usize = 512;
+
 /// Signatures that are asked for, as entries that don't pass.
 fn octets_of_asks(alloc: Global, asks: &[Ask]) -> Result<Vec<u8>, AllocError>
     ensures octets { IfOk result (λ v. v.items ≡ entries_of asks.now) }
     ensures fit { OnOk result (AllByRecursion FitsChecked (map unchecked asks.now)) }
 {
-    let mut octets = Vec::new(alloc);
+    let mut octets = Vec::with_capacity(alloc, asks.len().saturating_mul(ROOM_FOR_ENTRY))?;
     for ask in asks {
         put_ask(alloc, ask, &mut octets)?;
     }
@@ -196,7 +202,7 @@ fn put_ask(alloc: Global, ask: &Ask, octets: &mut Vec<u8>) -> Result<(), AllocEr
     ensures fits { OnOk result (FitsChecked (unchecked ask.now)) }
 {
     let _flags = ask.key.flags();
-    let mut rdata = Vec::new(alloc);
+    let mut rdata = Vec::with_capacity(alloc, ROOM_FOR_KEY)?;
     ask.key.compose(&mut rdata)?;
     put_short(octets, &rdata)?;
     put_long(octets, &ask.octets)?;
