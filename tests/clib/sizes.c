@@ -12,8 +12,8 @@
 #include <stdio.h>
 #include <stdlib.h>
 
-enum { ROOM_EACH = 64, ROOM_BESIDES = 16384, NOW = 1790000000 };
-enum { A = 1, TXT = 16, RRSIG = 46, NSEC = 47, DNSKEY = 48 };
+enum { ROOM_EACH = 64, ROOM_ANEW = 128, ROOM_BESIDES = 16384, NOW = 1790000000 };
+enum { A = 1, MX = 15, TXT = 16, RRSIG = 46, NSEC = 47, DNSKEY = 48 };
 
 static const size_t sizes[] = {512, 1232, 4096, 16384, 65535};
 
@@ -140,6 +140,19 @@ static void make_records(struct buffer *answer, size_t size) {
     count(answer, 0);
 }
 
+/* One RRset of mail exchanges, each the long name by a pointer, as many as there is room for in canonical form too. */
+static void make_exchanges(struct buffer *answer, size_t size) {
+    begin(answer, whole, MX);
+    for (size_t number = 0; number < 120 && answer->len + 16 + 34 <= size; number++) {
+        head(answer, nothing, MX, 4);
+        put(answer, number, 2);
+        put(answer, 0xc00c, 2);
+        count(answer, 0);
+    }
+    sign(answer, nothing, MX, 5, last, tag_of(signer, sizeof signer));
+    count(answer, 0);
+}
+
 /* One record with all octets that there is room for. */
 static void make_text(struct buffer *answer, size_t size) {
     begin(answer, whole, TXT);
@@ -188,7 +201,8 @@ static size_t measured(struct zermuita_case handed, struct judgement *judgement)
         judgement->reply = zermuita_judge(&handed, judgement->octets.data, judgement->octets.room, &judgement->report);
         struct heap heap = heap_end();
         most = most < heap.most ? heap.most : most;
-        wrong |= heap.most > ROOM_EACH * (handed.dnskey.len + handed.answer.len + handed.checked.len) + ROOM_BESIDES;
+        size_t each = handed.as_received ? ROOM_EACH : ROOM_ANEW;
+        wrong |= heap.most > each * (handed.dnskey.len + handed.answer.len + handed.checked.len) + ROOM_BESIDES;
         judgement->octets.len = judgement->report.len;
         if (judgement->reply == ZERMUITA_BUFFER_TOO_SMALL) {
             buffer_reserve(&judgement->octets, judgement->report.len);
@@ -248,6 +262,7 @@ int main(void) {
         print_row("one record", make_text, TXT, as_received);
         print_row("records of one name", make_records, A, as_received);
         print_row("NSEC records", make_chain, A, as_received);
+        print_row("mail exchanges", make_exchanges, MX, as_received);
         print_row("keys", NULL, A, as_received);
     }
     return wrong;
