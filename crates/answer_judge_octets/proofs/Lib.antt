@@ -2,6 +2,7 @@ pub mod PartsSplit
 pub mod ListsRead
 pub mod EntriesSplit
 pub mod HonestTable
+pub mod LackingTried
 pub mod SpelledCases
 pub mod AsksGrow
 pub mod ToldInForm

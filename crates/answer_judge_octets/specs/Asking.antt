@@ -1,8 +1,11 @@
 -- Signatures that are asked for.
-use Rattle.std.specs.Prelude.{◌≡◌, ℕ, ◌<◌, ◌≤◌, Bool, true, false, ◌&&◌, List, [], ◌∷◌, ◌++◌, Option, Some, None, Result, Ok, length, is_none}
+use Rattle.std.specs.Prelude.{◌≡◌, ℕ, ◌<◌, ◌≤◌, Bool, true, false, ◌&&◌, List, [], ◌∷◌, ◌++◌, Option, Some, None, Result, Ok, length, is_none, ⊤}
+use Rattle.std.specs.List.{AllByRecursion}
 use Rattle.definitions.specs.Limits.{pointer_limit}
+use Rattle.answer_scheme.specs.Answers.{SignatureTest}
+use Rattle.answer_judge_facts.specs.Asked.{is_candidate}
 use Rattle.answer_judge_facts.specs.Judging.{Handing, verification_bound}
-use Rattle.answer_judge_octets.specs.Table.{Checked, Tried, checked, told}
+use Rattle.answer_judge_octets.specs.Table.{AgreesWith, Checked, Tried, answers_of, checked, passes_by, told}
 
 -- a signature that is asked for, as an entry
 abbrev pub unchecked : Tried → Checked
@@ -17,10 +20,16 @@ are_new table (t ∷ ts) = is_none (told table t) && are_new (table ++ unchecked
 abbrev pub KeepsNew : Tried → List Tried → List Tried → Type 0
 KeepsNew t old new = (table : List Checked) → told table t ≡ None → are_new table old ≡ true → are_new table new ≡ true
 
--- Signatures that are asked for: some that the table doesn't have, each once, and no more than both messages have.
+-- one that a judge may verify: of the two messages, over an RRset there that is sought, under a key of the DNSKEY answer
+abbrev pub IsCandidate : List Checked → Handing → Tried → Type 0
+IsCandidate table h t = passes_by (is_candidate (answers_of table) pointer_limit h) t ≡ true
+
+-- Signatures that are asked for: some that the table doesn't have, each once, candidates of both messages, and no more than
+-- these have.
 pub record AreAsked (table : List Checked) (h : Handing) (asks : List Tried) : Type 0 where
   pub some : 0 < length asks
   pub are_new : are_new table asks ≡ true
+  pub stand : AllByRecursion (IsCandidate table h) asks
   pub few : length asks ≤ verification_bound pointer_limit h
 
 -- none, or such
@@ -36,3 +45,18 @@ is_new_in table _ = true
 abbrev pub count_of : {E : Type 0} → Option (Result Tried E) → ℕ
 count_of None = 0
 count_of (Some lacked) = 1
+
+-- ---- what checks know of a judgement
+
+-- the table lacked nothing, and a test says of each signature in it what the table says
+abbrev pub AgreesSoFar : {E : Type 0} → List Checked → Option (Result Tried E) → SignatureTest → Type 0
+AgreesSoFar table lacking test = (lacking ≡ None) × AgreesWith table (passes_by test)
+
+-- a test passes for what the judgement lacked
+abbrev pub PassesLacking : {E : Type 0} → Option (Result Tried E) → SignatureTest → Type 0
+PassesLacking (Some (Ok t)) test = passes_by test t ≡ true
+PassesLacking _ test = ⊤
+
+-- for all that is asked for
+abbrev pub PassesEach : List Tried → SignatureTest → Type 0
+PassesEach asks test = AllByRecursion (λ t. passes_by test t ≡ true) asks

@@ -9,12 +9,12 @@ use Rattle.answer_judge.specs.Meeting.{JudgesSo}
 use Rattle.answer_judge_octets.specs.declared.outcome.Outcome.{Outcome}
 use Rattle.answer_judge_octets.specs.declared.outcome.Outcome.TheVariants as o
 use Rattle.answer_judge_octets.specs.Asking.{AreAsked}
-use Rattle.answer_judge_octets.specs.Table.{AreTrue, Checked, Tried, answers_of, answers_with, passes_in}
+use Rattle.answer_judge_octets.specs.Table.{AgreesWith, AreTrue, Checked, Tried, answers_with, passes_in}
 
--- What is said is a judgement by the table. Whatever signatures truly pass, those that pass in the table among them, of honest
--- messages no verdict is said but the zone's.
+-- What is said is a judgement whichever signatures pass that the table doesn't have: nothing was wanted that it lacks. Whatever
+-- signatures truly pass, those that pass in the table among them, of honest messages no verdict is said but the zone's.
 pub record IsJudgedBy (table : List Checked) (h : Handing) (said : Result Judgement Refused) : Type 0 where
-  pub by_table : JudgesSo pointer_limit (answers_of table) h said
+  pub by_table : (passes : Tried → Bool) → AgreesWith table passes → JudgesSo pointer_limit (answers_with passes) h said
   pub honest : (passes : Tried → Bool) → AreTrue (passes_in table) passes → AnswersHonest (answers_with passes) pointer_limit h (answer_of said)
 
 -- what comes of a judgement by a table

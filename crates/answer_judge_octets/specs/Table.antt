@@ -7,7 +7,7 @@ use Rattle.sha2.specs.Sha256.{sha256}
 use Rattle.sha2.specs.Sha512.{sha384}
 use Rattle.definitions.specs.Dnskey.{Dnskey, same_key}
 use Rattle.denial_nsec3_sha1.specs.Iterated.{answered}
-use Rattle.answer_scheme.specs.Answers.{Answers}
+use Rattle.answer_scheme.specs.Answers.{Answers, SignatureTest}
 
 -- a signature, and the key and the octets that it is checked with
 pub record Tried : Type 0 where
@@ -64,3 +64,11 @@ answers_with passes = record {
 -- those of a table
 abbrev pub answers_of : List Checked → Answers
 answers_of table = answers_with (passes_in table)
+
+-- what passes says of each signature in a table what the table says
+abbrev pub AgreesWith : List Checked → (Tried → Bool) → Type 0
+AgreesWith table passes = (t : Tried) (b : Bool) → told table t ≡ Some b → passes t ≡ b
+
+-- a test of signatures, as one of such
+abbrev pub passes_by : SignatureTest → Tried → Bool
+passes_by test t = test t.key t.octets t.signature

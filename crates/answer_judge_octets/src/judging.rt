@@ -15,8 +15,8 @@ use std::sync::ledger::{Blank, Ledger};
 /// for, all that the judgement comes to where each of them passes.
 ///
 /// A caller begins with no entry, checks what is asked for in any order, puts it into its table with what came of it, and calls
-/// again: where all of it passes, no more is asked for. Entries of other judgements do no harm. An error says that memory was
-/// refused.
+/// again: where all of it passes, no more is asked for. What is said holds whichever other signatures pass. Entries of other
+/// judgements do no harm. An error says that memory was refused.
 pub fn judge_by_table(
     alloc: Global,
     case: &Case,

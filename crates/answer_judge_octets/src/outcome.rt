@@ -1,7 +1,8 @@
 //! What comes of a judgement by a table.
-ghost use Rattle.std.specs.Prelude.{◌≡◌, ◌≤◌, ◌+◌, length};
+ghost use Rattle.std.specs.Prelude.{◌≡◌, ◌≤◌, ◌+◌, length, true};
 ghost use Rattle.std.specs.List.{list_any};
-ghost use Rattle.answer_judge_octets.specs.Asking.{KeepsNew};
+ghost use Rattle.answer_scheme.specs.Answers.{SignatureTest};
+ghost use Rattle.answer_judge_octets.specs.Asking.{KeepsNew, PassesEach};
 ghost use Rattle.answer_judge_octets.specs.Table.{is_same_try, tried};
 
 use crate::checked::is_same_key;
@@ -76,6 +77,8 @@ pub(crate) fn note(
 ) -> Result<(), AllocError>
     ensures new { let t = tried key.now octets.now signature.now in
         KeepsNew t asks.old.items asks.new.items }
+    ensures only { (test : SignatureTest) → test key.now octets.now signature.now ≡ true
+        → PassesEach asks.old.items test → PassesEach asks.new.items test }
     ensures one { length asks.new.items ≤ length asks.old.items + 1 }
 {
     if is_among(asks, key, octets, signature) {

@@ -1,5 +1,5 @@
 //! A table as the checks of a judge: one that lacks nothing, and one that asks for what it lacks.
-ghost use Rattle.std.specs.Prelude.{◌≡◌, ◌<◌, ◌≤◌, true, length, None, IfOk, IfSome};
+ghost use Rattle.std.specs.Prelude.{◌≡◌, ◌<◌, ◌≤◌, true, length, Some, None, Ok, IfOk, IfSome, MatchOption};
 ghost use Rattle.answer_judge_octets.specs.Table.{told};
 ghost use Rattle.answer_judge_octets.specs.Asking.{are_new, count_of, is_new_in};
 
@@ -31,7 +31,8 @@ impl Told for Brand {
 }
 
 /// The checks of a judge that knows the signatures of a table, makes digests by SHA-2, and hashes names by SHA-1. A
-/// signature that the table does not have fails, and the first one is kept.
+/// signature that the table does not have fails, and the first one is kept: where there was none, whatever agrees with the table
+/// agrees with all that was answered.
 #[derive(Drop)]
 pub(crate) struct TableChecks<'t, 's, T: Told, L: Ledger, M: Ledger> {
     alloc: Global,
@@ -78,6 +79,8 @@ impl<'t, 's, T: Told, L: Ledger, M: Ledger> TableChecks<'t, 's, T, L, M> {
     pub(crate) fn into_lacking(self) -> Result<Option<Ask>, AllocError>
         ensures new { IfOk result (λ o. IfSome o (λ t. told T.table t ≡ None)) }
         ensures counted { IfOk result (λ o. IfSome o (λ _. 0 < self.entry.verified)) }
+        ensures lacking { let lacking = self.entry.lacking in
+            IfOk result (λ o. MatchOption o (lacking ≡ None) (λ t. lacking ≡ Some (Ok t))) }
     {
         let TableChecks { lacking, .. } = self;
         lacking.transpose()
@@ -85,9 +88,14 @@ impl<'t, 's, T: Told, L: Ledger, M: Ledger> TableChecks<'t, 's, T, L, M> {
 }
 
 impl<'t, 's, T: Told, L: Ledger, M: Ledger> Checks for TableChecks<'t, 's, T, L, M> {
+    ghost use Rattle.answer_judge_octets.specs.Asking.{AgreesSoFar, PassesLacking};
     ghost use Rattle.answer_judge_octets.specs.Table.{answers_of};
 
     ghost answers = { λ _. answers_of T.table };
+
+    ghost agrees = { λ c test. AgreesSoFar T.table c.lacking test };
+
+    ghost asked_only = { λ c test. PassesLacking c.lacking test };
 
     ghost verified = { λ c. c.verified };
 
@@ -176,6 +184,7 @@ impl<'t, 's, T: Told, L: Ledger, M: Ledger> AskingChecks<'t, 's, T, L, M> {
     pub(crate) fn into_asks(self) -> Result<Vec<Ask>, AllocError>
         ensures new { IfOk result (λ v. are_new T.table v.items ≡ true) }
         ensures counted { IfOk result (λ v. length v.items ≤ self.entry.verified) }
+        ensures asks { IfOk result (λ v. v.items ≡ self.entry.asks.items) }
     {
         let AskingChecks { asks, kept, .. } = self;
         kept?;
@@ -184,9 +193,12 @@ impl<'t, 's, T: Told, L: Ledger, M: Ledger> AskingChecks<'t, 's, T, L, M> {
 }
 
 impl<'t, 's, T: Told, L: Ledger, M: Ledger> Checks for AskingChecks<'t, 's, T, L, M> {
+    ghost use Rattle.answer_judge_octets.specs.Asking.{PassesEach};
     ghost use Rattle.answer_judge_octets.specs.Table.{answers_with, may_pass_in};
 
     ghost answers = { λ _. answers_with (may_pass_in T.table) };
+
+    ghost asked_only = { λ c test. PassesEach c.asks.items test };
 
     ghost verified = { λ c. c.verified };
 

@@ -1,7 +1,8 @@
-use Rattle.std.proofs.Common.{[], ◌∷◌, ◌++◌, ap, sym, ◌∙◌}
+use Rattle.std.proofs.Common.{◌≡◌, true, [], ◌∷◌, ◌++◌, ap, subst, sym, ◌∙◌}
 use Rattle.std.specs.List.{list_any}
-use Rattle.answer_judge_octets.specs.Table.{is_same_try, tried}
-use Rattle.answer_judge_octets.proofs.AsksGrow.{keeps_more}
+use Rattle.answer_judge_octets.specs.Asking.{PassesEach}
+use Rattle.answer_judge_octets.specs.Table.{is_same_try, passes_by, tried}
+use Rattle.answer_judge_octets.proofs.AsksGrow.{all_more, keeps_more}
 use Rattle.answer_judge_octets.proofs.outcome.note.Goals as goal
 
 pub returns-clause-new : goal.returns-clause-new
@@ -10,3 +11,10 @@ returns-clause-new c =
     keeps_more t c.args.asks.now.items c.push.new.self.items
     (ap (list_any (is_same_try t)) (sym c.deref.ensures.value) ∙ sym c.is_among.ensures ∙ c.if-is_among.false)
     (c.in_ok-push.ensures.items ∙ ap (λ a. c.args.asks.now.items ++ a ∷ []) c.in_ok-ask.ensures)
+
+pub returns-clause-only : goal.returns-clause-only
+returns-clause-only c = λ test passes before.
+    let t = tried c.args.key.now c.args.octets.now c.args.signature.now in
+    let old = c.args.asks.now.items in
+    let more : c.push.new.self.items ≡ old ++ t ∷ [] = c.in_ok-push.ensures.items ∙ ap (λ a. old ++ a ∷ []) c.in_ok-ask.ensures in
+    subst (λ asks. PassesEach asks test) (sym more) (all_more (λ a. passes_by test a ≡ true) old t before passes)
