@@ -1,12 +1,12 @@
 -- What a table lacked, and tests of it.
-use Rattle.std.proofs.Common.{◌≡◌, true, List, [], ◌∷◌, ap, sym, subst, ◌∙◌}
+use Rattle.std.proofs.Common.{◌≡◌, ℕ, ◌≤◌, length, arith, true, List, [], ◌∷◌, ap, sym, subst, ◌∙◌}
 use Rattle.std.specs.Prelude.{IfOk, Option, Result, Ok, Err, Some}
 use Rattle.std.specs.List.{AllByRecursion}
 use Rattle.definitions.specs.Limits.{pointer_limit}
 use Rattle.answer_scheme.specs.Answers.{SignatureTest}
 use Rattle.answer_judge_facts.specs.Asked.{is_candidate}
-use Rattle.answer_judge_facts.specs.Judging.{Handing}
-use Rattle.answer_judge_octets.specs.Asking.{IsCandidate, PassesLacking}
+use Rattle.answer_judge_facts.specs.Judging.{Handing, verification_bound}
+use Rattle.answer_judge_octets.specs.Asking.{AskedIfAny, IsCandidate, PassesEach, PassesLacking, are_new}
 use Rattle.answer_judge_octets.specs.Table.{Checked, Tried, answers_of, passes_by}
 
 -- a copy of what was tried, if there was memory for it
@@ -19,3 +19,14 @@ pub one_stands : {E : Type 0} (table : List Checked) (h : Handing) (lacking : Op
     → PassesLacking lacking (is_candidate (answers_of table) pointer_limit h) → AllByRecursion (IsCandidate table h) asks
 one_stands table h lacking t asks one is passes =
     subst (AllByRecursion (IsCandidate table h)) (sym one) (subst (λ l. PassesLacking l (is_candidate (answers_of table) pointer_limit h)) is passes, tt)
+
+-- what is asked for, if anything
+pub asked_if_any : {V E : Type 0} (items : V → List Tried) (r : Result V E) (table : List Checked) (h : Handing) (kept : List Tried) (n : ℕ) → IfOk r (λ v. are_new table (items v) ≡ true) → IfOk r (λ v. length (items v) ≤ n) → IfOk r (λ v. items v ≡ kept)
+    → n ≤ verification_bound pointer_limit h → PassesEach kept (is_candidate (answers_of table) pointer_limit h) → IfOk r (λ v. AskedIfAny table h (items v))
+asked_if_any items (Err e) table h kept n new few is bound passes = tt
+asked_if_any items (Ok v) table h kept n new few is bound passes = λ some. record {
+  some = some;
+  are_new = new;
+  stand = subst (AllByRecursion (IsCandidate table h)) (sym is) passes;
+  few = omega arith;
+}

@@ -1,5 +1,5 @@
 //! A table as the checks of a judge: one that lacks nothing, and one that asks for what it lacks.
-ghost use Rattle.std.specs.Prelude.{◌≡◌, ◌<◌, ◌≤◌, true, length, Some, None, Ok, IfOk, IfSome, MatchOption};
+ghost use Rattle.std.specs.Prelude.{◌≡◌, ◌<◌, ◌≤◌, [], true, length, Some, None, Ok, IfOk, IfSome, MatchOption};
 ghost use Rattle.answer_judge_octets.specs.Table.{told};
 ghost use Rattle.answer_judge_octets.specs.Asking.{are_new, count_of, is_new_in};
 
@@ -62,6 +62,7 @@ impl<'t, 's, T: Told, L: Ledger, M: Ledger> TableChecks<'t, 's, T, L, M> {
         requires second_name { second.name ≡ M.name }
         requires second_parts { second.parts ≡ M.parts }
         requires second_some { 0 < M.parts }
+        ensures lacking { result.lacking ≡ None }
         ensures verified { result.verified ≡ 0 }
         ensures hashed { result.hashed ≡ 0 }
     {
@@ -166,6 +167,7 @@ impl<'t, 's, T: Told, L: Ledger, M: Ledger> AskingChecks<'t, 's, T, L, M> {
         requires second_name { second.name ≡ M.name }
         requires second_parts { second.parts ≡ M.parts }
         requires second_some { 0 < M.parts }
+        ensures asks { result.asks.items ≡ [] }
         ensures verified { result.verified ≡ 0 }
         ensures hashed { result.hashed ≡ 0 }
     {
