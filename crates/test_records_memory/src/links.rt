@@ -58,51 +58,39 @@ pub const OPT_OUT_HASHES: [HashedLink; 6] = [
     (W_HASH, &[]),
 ];
 
-/// Whether the types of a bitmap are these.
-pub fn has_types(found: &RtypeBitmap<Vec<u8>>, types: &[u16]) -> bool {
-    let are_there = types
-        .iter()
-        .all(|rtype| found.contains(Rtype::from_int(*rtype)));
-    are_there && found.iter().count() == types.len()
+/// How many types a bitmap has.
+pub fn type_count(types: &RtypeBitmap<Vec<u8>>) -> usize {
+    let mut count = 0usize;
+    for _ in types.iter() {
+        count = count.wrapping_add(1);
+    }
+    count
 }
 
-fn is_link(rr: &Record<&Owner, Nsec<Vec<u8>, &Owner>>, link: &Link) -> bool {
+/// Whether the types of a bitmap are these.
+fn has_types(found: &RtypeBitmap<Vec<u8>>, types: &[u16]) -> bool {
+    for rtype in types {
+        if !found.contains(Rtype::from_int(*rtype)) {
+            return false;
+        }
+    }
+    type_count(found) == types.len()
+}
+
+pub fn is_link(rr: &Record<&Owner, Nsec<Vec<u8>, &Owner>>, link: Link) -> bool {
     let (owner, next, types) = link;
-    rr.owner().as_slice() == *owner
-        && rr.data().next_name().as_slice() == *next
+    rr.owner().as_slice() == owner
+        && rr.data().next_name().as_slice() == next
         && rr.class() == Class::IN
         && rr.ttl().as_secs() == 900
         && has_types(rr.data().types(), types)
 }
 
-/// Whether the records of a chain are these links.
-pub fn are_links(chain: &[Record<&Owner, Nsec<Vec<u8>, &Owner>>], links: &[Link]) -> bool {
-    chain.len() == links.len() && chain.iter().zip(links).all(|(rr, link)| is_link(rr, link))
-}
-
-fn is_hashed_link(
-    rr: &Record<Name<Vec<u8>>, Nsec3<Vec<u8>>>,
-    link: &HashedLink,
-    opt_out: bool,
-) -> bool {
+pub fn is_hashed_link(rr: &Record<Name<Vec<u8>>, Nsec3<Vec<u8>>>, link: HashedLink) -> bool {
     let (hash, types) = link;
-    rr.owner().first().as_slice() == *hash
+    rr.owner().first().as_slice() == hash
         && rr.owner().label_count() == 3
         && rr.class() == Class::IN
         && rr.ttl().as_secs() == 900
-        && rr.data().opt_out() == opt_out
         && has_types(rr.data().types(), types)
-}
-
-/// Whether the records of a chain of hashes are these links.
-pub fn are_hashed_links(
-    chain: &[Record<Name<Vec<u8>>, Nsec3<Vec<u8>>>],
-    links: &[HashedLink],
-    opt_out: bool,
-) -> bool {
-    chain.len() == links.len()
-        && chain
-            .iter()
-            .zip(links)
-            .all(|(rr, link)| is_hashed_link(rr, link, opt_out))
 }

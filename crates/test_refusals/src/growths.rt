@@ -1,5 +1,4 @@
 //! Growths that nothing is kept in.
-ghost use Rattle.std.specs.Prelude.{◌≡◌, false};
 
 use std::alloc::Global;
 use std::io;
@@ -10,9 +9,7 @@ pub fn is_refused(alloc: Global) -> bool {
 }
 
 /// Takes so many growths, so that the one behind them is the first that counts. Says whether one of them was refused.
-pub fn take_growths(alloc: Global, count: u32) -> bool
-    ensures none { count ≡ 0 → result ≡ false }
-{
+pub fn take_growths(alloc: Global, count: u32) -> bool {
     let mut refused = false;
     for _ in 0..count {
         refused |= is_refused(alloc);
