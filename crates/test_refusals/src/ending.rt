@@ -22,6 +22,12 @@ pub enum Ending {
 }
 
 impl From<Ending> for ExitCode {
+    ghost use Rattle.std.specs.Prelude.{◌≡◌};
+    ghost use Rattle.std.specs.Process.{exit_status};
+    ghost use Rattle.test_refusals.specs.Statuses.{status_of};
+
+    ghost from_gives = { λ ending code. exit_status code ≡ status_of ending };
+
     fn from(ending: Ending) -> ExitCode {
         ExitCode::from(match ending {
             Ending::Quiet => 0,

@@ -1,4 +1,5 @@
 //! Growths that nothing is kept in.
+ghost use Rattle.std.specs.Prelude.{◌≡◌, false};
 
 use std::alloc::Global;
 use std::io;
@@ -9,7 +10,9 @@ pub fn is_refused(alloc: Global) -> bool {
 }
 
 /// Takes so many growths, so that the one behind them is the first that counts. Says whether one of them was refused.
-pub fn take_growths(alloc: Global, count: u32) -> bool {
+pub fn take_growths(alloc: Global, count: u32) -> bool
+    ensures none { count ≡ 0 → result ≡ false }
+{
     let mut refused = false;
     for _ in 0..count {
         refused |= is_refused(alloc);

@@ -1,14 +1,16 @@
 //! A trial of calls.
+ghost use Rattle.std.specs.Prelude.{◌≡◌, true, false, Ok, IfSome};
 
 use crate::twins::Twins;
 use std::alloc::{AllocError, Global};
 use std::fmt::Display;
 use std::io;
+use std::marker::Model;
 
 /// Calls that may be refused memory, each told on a line.
 ///
 /// A call that is refused must answer with the error that says so, and is made again; then it must succeed. What it works on
-/// must be as it was before.
+/// must be as it was before. A contract sees whether a call was refused.
 #[derive(Drop)]
 pub struct Trial<'a, R> {
     rt: &'a R,
@@ -16,8 +18,19 @@ pub struct Trial<'a, R> {
     refused: bool,
 }
 
+impl<'a, R> Model for Trial<'a, R> {
+    ghost use Rattle.std.specs.Prelude.{Bool};
+
+    ghost Value = { Bool };
+
+    ghost view = { λ t. t.refused };
+}
+
 impl<'a, R: Print> Trial<'a, R> {
-    pub fn new(rt: &'a R, alloc: Global) -> Self {
+    /// A trial of calls none of which was refused so far.
+    pub fn new(rt: &'a R, alloc: Global) -> Self
+        ensures { result ≡ false }
+    {
         Trial {
             rt,
             alloc,
@@ -31,12 +44,17 @@ impl<'a, R: Print> Trial<'a, R> {
     }
 
     /// Whether a call was refused memory.
-    pub fn is_refused(&self) -> bool {
+    pub fn is_refused(&self) -> bool
+        ensures { result ≡ self.now }
+    {
         self.refused
     }
 
     /// Notes that a call was refused, and says whether its error is the one that says so.
-    pub fn note<E: PartialEq + Drop>(&mut self, error: E, memory: &E) -> bool {
+    pub fn note<E: PartialEq + Drop>(&mut self, error: E, memory: &E) -> bool
+        ensures noted { self.new ≡ true }
+        ensures memory { result ≡ E.eq error memory.now }
+    {
         self.refused = true;
         error == *memory
     }
@@ -54,6 +72,8 @@ impl<'a, R: Print> Trial<'a, R> {
         call: C,
     ) -> Option<T>
         requires { C.IsAlwaysCallable call }
+        ensures given { IfSome result (λ value. C.post call (Ok value)) }
+        ensures kept { self.old ≡ true → self.new ≡ true }
     {
         match call() {
             Ok(value) => Some(value),
@@ -77,6 +97,7 @@ impl<'a, R: Print> Trial<'a, R> {
     ) -> io::Result<()>
         requires call { C.IsAlwaysCallable call }
         requires holds { H.IsAlwaysCallable holds }
+        ensures kept { self.old ≡ true → self.new ≡ true }
     {
         let given = self.value(memory, call);
         let is_so = match &given {
@@ -94,6 +115,7 @@ impl<'a, R: Print> Trial<'a, R> {
         call: C,
     ) -> io::Result<()>
         requires { C.IsAlwaysCallable call }
+        ensures kept { self.old ≡ true → self.new ≡ true }
     {
         for (place, (name, octets)) in calls.iter().enumerate() {
             let is_given = |given: &Vec<u8>| given.as_slice() == *octets;
@@ -110,6 +132,7 @@ impl<'a, R: Print> Trial<'a, R> {
         call: C,
     ) -> io::Result<()>
         requires { C.IsAlwaysCallable call }
+        ensures kept { self.old ≡ true → self.new ≡ true }
     {
         for (place, name) in calls.iter().enumerate() {
             self.gives(name, memory, || call(place), |holds| *holds)?;
@@ -118,7 +141,9 @@ impl<'a, R: Print> Trial<'a, R> {
     }
 
     /// A value that is to be printed as a text.
-    pub fn prints<D: Display>(&mut self, name: &str, value: &D, text: &str) -> io::Result<()> {
+    pub fn prints<D: Display>(&mut self, name: &str, value: &D, text: &str) -> io::Result<()>
+        ensures kept { self.old ≡ true → self.new ≡ true }
+    {
         let alloc = self.alloc();
         let is_text = |printed: &String| printed.as_str() == text;
         self.gives(name, AllocError, || value.to_string(alloc), is_text)
@@ -132,6 +157,7 @@ impl<'a, R: Print> Trial<'a, R> {
         call: C,
     ) -> io::Result<()>
         requires { C.IsAlwaysCallable call }
+        ensures kept { self.old ≡ true → self.new ≡ true }
     {
         for (place, (name, octets)) in calls.iter().enumerate() {
             let mut target = Vec::new(self.alloc);
@@ -166,6 +192,7 @@ impl<'a, R: Print> Trial<'a, R> {
     ) -> io::Result<()>
         requires call { C.IsAlwaysCallable call }
         requires are_alike { A.IsAlwaysCallable are_alike }
+        ensures kept { self.old ≡ true → self.new ≡ true }
     {
         let mut is_so = true;
         let given = match call(&mut twins.value) {

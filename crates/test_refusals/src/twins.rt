@@ -1,4 +1,5 @@
 //! Two values on which the same calls are made.
+ghost use Rattle.std.specs.Prelude.{◌≡◌};
 
 /// A value and its twin, on which each call is made too, but later. So where a call on the value is refused, the twin is as
 /// the value was before, and afterwards both must be alike.
@@ -9,7 +10,10 @@ pub struct Twins<S> {
 }
 
 impl<S> Twins<S> {
-    pub fn new(value: S, twin: S) -> Self {
+    pub fn new(value: S, twin: S) -> Self
+        ensures value { result.value ≡ value }
+        ensures twin { result.twin ≡ twin }
+    {
         Twins { value, twin }
     }
 }
