@@ -130,13 +130,11 @@ impl Keys {
     }
 
     /// The rolls that run, each with its phase.
-    pub fn push_rolls(&self, notes: &mut Vec<String>) -> Result<(), AllocError> {
+    pub fn push_rolls(&self, out: &mut String) -> Result<(), AllocError> {
         for (rolltype, name) in ROLLS {
             if let Some(state) = self.set.rollstates().get(&rolltype) {
-                let mut note = String::new(self.alloc);
-                write!(note, "{name}: ")?;
-                self.push_phase(&mut note, rolltype, *state)?;
-                notes.push(note)?;
+                write!(out, "  {name}: ")?;
+                self.push_phase(out, rolltype, *state)?;
             }
         }
         Ok(())
@@ -144,29 +142,29 @@ impl Keys {
 
     fn push_phase(
         &self,
-        note: &mut String,
+        out: &mut String,
         rolltype: RollType,
         state: RollState,
     ) -> Result<(), AllocError> {
         match state {
-            RollState::Propagation1 => note.push_str("first changes under way, then report1"),
+            RollState::Propagation1 => out.push_str("first changes under way, then report1\n"),
             RollState::CacheExpire1(ttl) => {
-                write!(note, "first wait, TTL {ttl}, ")?;
-                self.push_end(note, rolltype, state)
+                write!(out, "first wait, TTL {ttl}, ")?;
+                self.push_end(out, rolltype, state)
             }
-            RollState::Propagation2 => note.push_str("second changes under way, then report2"),
+            RollState::Propagation2 => out.push_str("second changes under way, then report2\n"),
             RollState::CacheExpire2(ttl) => {
-                write!(note, "second wait, TTL {ttl}, ")?;
-                self.push_end(note, rolltype, state)
+                write!(out, "second wait, TTL {ttl}, ")?;
+                self.push_end(out, rolltype, state)
             }
-            RollState::Done => note.push_str("last changes under way, then done"),
+            RollState::Done => out.push_str("last changes under way, then done\n"),
         }
     }
 
     /// The moment at which a wait ends.
     fn push_end(
         &self,
-        note: &mut String,
+        out: &mut String,
         rolltype: RollType,
         state: RollState,
     ) -> Result<(), AllocError> {
@@ -174,9 +172,9 @@ impl Keys {
             Some(rest) => {
                 let now = Duration::from(self.latest).as_secs();
                 let end = u128::from(now) + u128::from(rest.as_secs());
-                write!(note, "ends at {end}")
+                writeln!(out, "ends at {end}")
             }
-            None => note.push_str("over"),
+            None => out.push_str("over\n"),
         }
     }
 
