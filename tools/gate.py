@@ -1,5 +1,6 @@
 #!/usr/bin/env python3
-"""Runs `rt ci` and measures what it costs, crate by crate: processor time of proofs, tests and edits.
+"""Runs `rt ci`, and what is run behind it over the program that it proved. Measures what it costs, crate by crate: processor time
+of proofs, tests and edits.
 
 usage: tools/gate.py [FILE]
 
@@ -9,6 +10,8 @@ Behind each crate it says how many are done, how long that took and how long the
 docs/proof/GATE.md has. Before the last line, which stays the last, it prints once more the lines that say what failed, and
 the table of docs/proof/GATE.md. RT_JOBS says on how many processors the gate runs. FILE gets the table so far
 each minute, so that a run that is stopped tells what it cost.
+
+The last line is that of `rt ci`, unless something behind it failed: then it is the name of that.
 """
 
 import collections
@@ -22,6 +25,14 @@ import time
 
 TOP = pathlib.Path(__file__).resolve().parent.parent
 PHASES = ("proof", "tests", "edits")
+# What is run behind `rt ci`.
+BEHIND = (
+    "tests/cases examples/sessions tests/sessions",
+    "tests/inputs",
+    "tests/process",
+    "cd examples/sessions && ../../tests/growths/run first_wait opt_out own_zone",
+    "tests/pictures",
+)
 TICKS = os.sysconf("SC_CLK_TCK")
 # Lines that say what was refused and why; of them the last so many are printed again.
 FAULT = re.compile(r": error: |FAILED|NOT REFUSED|BAD EDIT|NOT TRIED|no proof: |was killed|differ first at|panicked")
@@ -122,25 +133,35 @@ def table(seconds, minutes):
     return "\n".join([*lines, row("all", [*totals, sum(totals)]) + "\n\n"])
 
 
+def behind():
+    """Runs what is run behind `rt ci`, and gives the first that failed."""
+    for command in BEHIND:
+        print(f"gate: {command}", flush=True)
+        if subprocess.run(command, shell=True, cwd=TOP).returncode:
+            return command
+    return None
+
+
 def main():
     seconds, is_over = collections.defaultdict(dict), threading.Event()
     file = pathlib.Path(sys.argv[1]) if len(sys.argv) > 1 else None
     began, last, faults = time.monotonic(), "", collections.deque(maxlen=FAULTS)
     progress = Progress()
+    watcher = threading.Thread(target=watch, args=(seconds, is_over, file), daemon=True)
+    watcher.start()
     with subprocess.Popen(["rt", "ci"], cwd=TOP, stdout=subprocess.PIPE, text=True, errors="replace") as gate:
-        watcher = threading.Thread(target=watch, args=(seconds, is_over, file), daemon=True)
-        watcher.start()
         for line in gate.stdout:
             print(last + progress.after(last), end="", flush=True)
             last = line
             if FAULT.search(line):
                 faults.append(line)
+    failed = None if gate.returncode else behind()
     is_over.set()
     watcher.join()
     print("".join(faults), end="")
     print(table(seconds, (time.monotonic() - began) / 60), end="")
-    print(last, end="", flush=True)
-    return gate.returncode
+    print(f"FAILED: {failed}" if failed else last.rstrip("\n"), flush=True)
+    return gate.returncode or (1 if failed else 0)
 
 
 if __name__ == "__main__":
