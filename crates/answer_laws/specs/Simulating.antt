@@ -17,8 +17,8 @@ use Rattle.messages.specs.Handed.{IsHanded}
 use Rattle.messages.specs.HandedRr.{HandedRr, handed_of}
 use Rattle.messages.specs.Message.{Asked}
 use Rattle.messages.specs.Questions.{asked_of}
-use Rattle.answer_publisher_keys.specs.Bindings.{ZoneKeys, apply, no_keys, ds_set}
-use Rattle.answer_publisher_keys.specs.KeyCalls.{Gives, RanOutCopying}
+use Rattle.answer_publisher_keys.specs.Bindings.{ZoneKeys, no_keys, ds_set}
+use Rattle.answer_publisher_keys.specs.KeyCalls.{Acts}
 use Rattle.answer_publisher.specs.Publishing.{digest_at}
 use Rattle.answer_publisher.specs.Replacing.{RefusesReplacement, is_too_soon, noted}
 use Rattle.answer_scheme.specs.Moments.{second_of}
@@ -99,7 +99,7 @@ Replaces w s at rs (Err e) t = RefusesReplacement w.answers.hash w.zone s.latest
 -- no place.
 abbrev pub StepOf : World → Sofar → ℕ → Act → Outcome → Sofar → Type 0
 StepOf w s at (act.Key c) (outcome.Key r) t =
-    Gives (RanOutCopying (call_of c)) (λ v. v.items) s.keys t.keys r (apply (digest_at w.answers.digest w.zone.apex) (call_of c) at s.keys) × (t ≡ record s { keys = t.keys })
+    Acts (digest_at w.answers.digest w.zone.apex) (call_of c) at s.keys t.keys r × (t ≡ record s { keys = t.keys })
 StepOf w s at (act.Replace records) (outcome.Replaced r) t = Replaces w s at (map handed_of records.items) r t
 StepOf w s at act.ShowDs (outcome.Ds place set) t =
     (place ≡ length s.shown) × (set.items ≡ ds_set s.keys) × (t ≡ record s { shown = s.shown ++ OfParent set.items ∷ [] })

@@ -12,7 +12,7 @@ ghost use Rattle.answer_zone_records.specs.Faults.{RefusesZone};
 ghost use Rattle.answer_zone.specs.HashedZone.{accepted_zone};
 ghost use Rattle.answer_shared.specs.ModeView.{mode_of};
 ghost use Rattle.messages.specs.HandedRr.{handed_of};
-ghost use Rattle.keyset.specs.KeyState.{text_of, is_available, texts};
+ghost use Rattle.keyset.specs.KeyState.{text_of, is_available};
 ghost use Rattle.answer_events.specs.Calls.{Decoupled, Present, Signer, AtParent, Visible, DsVisible, RrsigVisible, Stale};
 ghost use Rattle.answer_publisher_keys.specs.Bindings.{no_keys, dnskey_at, dnskey_for, ds_set, is_bound_away, published, dnskeys, keys_by_tag, Add, Set, Delete, Start, Report1, Wait1, Report2, Wait2, Finish};
 ghost use Rattle.answer_publisher_keys.specs.KeyCalls.{Acts, Changes};
@@ -45,6 +45,7 @@ use numbers::algorithm::{DigestAlgorithm, SecurityAlgorithm};
 use numbers::class::Class;
 use numbers::rtype::Rtype;
 use std::alloc::{AllocError, Global};
+use std::convert::AsStr;
 use std::slice;
 use std::time::Duration;
 
@@ -534,14 +535,14 @@ impl<'a, S: Scheme, H: Nsec3Hasher> Publisher<'a, S, H> {
     }
 
     /// Starts a roll from the old keys to the new ones.
-    pub fn start_roll(
+    pub fn start_roll<T: AsStr>(
         &mut self,
         rolltype: RollType,
-        old: &[&str],
-        new: &[&str],
+        old: &[T],
+        new: &[T],
         now: &UnixTime,
     ) -> Result<Vec<Action>, KeyFault>
-        ensures keys { let call = Start rolltype (texts old.now) (texts new.now) in
+        ensures keys { let call = Start rolltype (map T.text old.now) (map T.text new.now) in
             Acts (digests S.digest_of self.old) call now.now self.old.keys self.new.keys result }
         ensures rest { self.new ≡ record self.old { keys = self.new.keys } }
     {

@@ -10,10 +10,10 @@ use Rattle.keyset.specs.KeyAnswers.{Refuses, refusal_of}
 use Rattle.answer_publisher_keys.specs.declared.fault.KeyFault.{KeyFault}
 use Rattle.answer_publisher_keys.specs.declared.fault.KeyFault.TheVariants as fault
 use Rattle.keyset_rolls.specs.declared.rolls.Action.{Action}
-use Rattle.answer_publisher_keys.specs.KeyCalls.{Fails, Gives, IsAccepted, IsFree, IsNamed, RanOut, RanOutCopying, RefusesAhead, fault_of, fault_from}
+use Rattle.answer_publisher_keys.specs.KeyCalls.{Fails, Gives, IsAccepted, IsFree, IsNamed, RefusesAhead, fault_of, fault_from}
 use Rattle.keyset.specs.KeyState.{KeySetState, Reference, Refusal, Answer}
 use Rattle.keyset.specs.KeyRuns as runs
-use Rattle.answer_publisher_keys.specs.Bindings.{ZoneKeys, BoundKey, Call, Fault, Outcome, ReferenceBound, DigestFailed, Add, Set, Delete, Start, Report1, Wait1, Report2, Wait2, Finish, apply, lifted, bind, dnskey_for, is_bound_away, new_in_set}
+use Rattle.answer_publisher_keys.specs.Bindings.{ZoneKeys, BoundKey, Fault, Outcome, ReferenceBound, DigestFailed, Add, apply, lifted, bind, dnskey_for, is_bound_away, new_in_set}
 
 pub lifted_ok : (b d : List (Reference × BoundKey)) (a : Answer) (k : KeySetState) → a ≡ Ok (k, []) → b ≡ d → lifted b a ≡ Ok (record { keys = k; bound = d }, [])
 lifted_ok b d a k e f i = lifted (f i) (e i)
@@ -94,23 +94,3 @@ refused_ahead view digests kind q private algorithm octets available now s fault
     (refl, tt, free_applied digests kind q private algorithm octets available now s h)
 refused_ahead view digests kind q private algorithm octets available now s fault.DigestFailed h = absurd h
 refused_ahead view digests kind q private algorithm octets available now s (fault.Key e) h = absurd h
-
--- where arguments are copied before the call, no more is certain than without that
-ran_out_copying : (c : Call) (o : Outcome) → RanOut c o → RanOutCopying c o
-ran_out_copying (Add kind q private algorithm octets available) o h = h
-ran_out_copying (Set q setting) o h = h
-ran_out_copying (Delete q) o h = h
-ran_out_copying (Start r olds news) o h = tt
-ran_out_copying (Report1 r ttl) o h = h
-ran_out_copying (Wait1 r) o h = h
-ran_out_copying (Report2 r ttl) o h = h
-ran_out_copying (Wait2 r) o h = h
-ran_out_copying (Finish r) o h = h
-
-fails_copying : (c : Call) (f : Option Fault) (o : Outcome) → Fails (RanOut c) f o → Fails (RanOutCopying c) f o
-fails_copying c None o h = ran_out_copying c o h
-fails_copying c (Some f) o h = h
-
-pub copied : {X : Type 0} (c : Call) (view : X → List Action) (old new : ZoneKeys) (r : Result X KeyFault) (o : Outcome) → Gives (RanOut c) view old new r o → Gives (RanOutCopying c) view old new r o
-copied c view old new (Ok x) o h = h
-copied c view old new (Err e) o h = (h.0, h.1, fails_copying c (fault_of e) o h.2)

@@ -10,7 +10,7 @@ use Rattle.keyset_keys.specs.declared.errors.Error.TheVariants as error
 use Rattle.keyset.specs.KeyState.{Refusal}
 use Rattle.keyset.specs.KeyAnswers.{refusal_of}
 use Rattle.answer_publisher_keys.specs.Bindings as bindings
-use Rattle.answer_publisher_keys.specs.Bindings.{ZoneKeys, Fault, Outcome, Call, Add, Set, Delete, Start, apply, lifted, on_state}
+use Rattle.answer_publisher_keys.specs.Bindings.{ZoneKeys, Fault, Outcome, Call, Add, Set, Delete, apply, lifted, on_state}
 
 abbrev pub refused : Option Refusal → Option Fault
 refused None = None
@@ -51,11 +51,6 @@ RanOut (Add kind q private algorithm octets available) outcome = IsFree outcome
 RanOut (Set q setting) outcome = ⊥
 RanOut (Delete q) outcome = ⊥
 RanOut _ outcome = IsAccepted outcome
-
--- The same where the references that a start lists are copied before the call: of a start nothing is certain then.
-abbrev pub RanOutCopying : Call → Outcome → Type 0
-RanOutCopying (Start r olds news) outcome = Unit {0}
-RanOutCopying c outcome = RanOut c outcome
 
 -- What an add is refused for before its call: its reference is bound to another key, or, where it isn't, memory ran out.
 abbrev pub RefusesAhead : Bool → KeyFault → Type 0

@@ -6,7 +6,7 @@ ghost use Rattle.definitions.specs.Dnskey as dnskey;
 ghost use Rattle.definitions.specs.Dnskey.{dnskey_data};
 ghost use Rattle.definitions.specs.Sorting.{put_by, sort_by};
 ghost use Rattle.std.specs.Ordering.{nat_cmp};
-ghost use Rattle.keyset.specs.KeyState.{Key, add, texts};
+ghost use Rattle.keyset.specs.KeyState.{Key, add};
 ghost use Rattle.answer_events.specs.Calls.{Decoupled, Present, Signer, AtParent, Visible, DsVisible, RrsigVisible, Stale};
 ghost use Rattle.answer_publisher_keys.specs.Bindings.{ZoneKeys, BoundKey, no_keys, Set, Delete, Start, Report1, Wait1, Report2, Wait2, Finish, bound_at, dnskey_at, is_bound_away, has_role, is_published, keys_by_tag, ds_of, ds_set, dnskey_rdata};
 ghost use Rattle.answer_publisher_keys.specs.Bindings as bindings;
@@ -26,6 +26,7 @@ use messages::names::Name;
 use numbers::algorithm::{DigestAlgorithm, SecurityAlgorithm};
 use std::alloc::{AllocError, Global};
 use std::collections::BTreeMap;
+use std::convert::AsStr;
 use std::marker::Model;
 
 /// Which of a zone's keys are asked for.
@@ -313,14 +314,14 @@ impl ZoneKeys {
     }
 
     /// Starts a roll from the old keys to the new ones.
-    pub fn start_roll(
+    pub fn start_roll<T: AsStr>(
         &mut self,
         rolltype: RollType,
-        old: &[&str],
-        new: &[&str],
+        old: &[T],
+        new: &[T],
         now: &UnixTime,
     ) -> Result<Vec<Action>, KeyFault>
-        ensures { let call = Start rolltype (texts old.now) (texts new.now) in
+        ensures { let call = Start rolltype (map T.text old.now) (map T.text new.now) in
             ActsOnKeys call now.now self.old self.new result }
     {
         Ok(self.keys.start_roll(rolltype, old, new, now)?)

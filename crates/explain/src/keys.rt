@@ -88,10 +88,7 @@ impl Keys {
     fn rolled(&mut self, call: &KeyCall, at: &UnixTime) -> Result<(), Error> {
         let set = &mut self.set;
         let _actions = match call {
-            KeyCall::StartRoll { rolltype, old, new } => {
-                let (old, new) = (texts(self.alloc, old)?, texts(self.alloc, new)?);
-                set.start_roll(*rolltype, &old, &new, at)?
-            }
+            KeyCall::StartRoll { rolltype, old, new } => set.start_roll(*rolltype, old, new, at)?,
             KeyCall::Propagation1Complete { rolltype, ttl } => {
                 set.propagation1_complete(*rolltype, *ttl, at)?
             }
@@ -191,11 +188,4 @@ impl Keys {
             Err(_) => Err(AllocError),
         }
     }
-}
-
-fn texts(alloc: Global, references: &[String]) -> Result<Vec<&str>, AllocError> {
-    references
-        .iter()
-        .map(|reference| reference.as_str())
-        .collect(alloc)
 }

@@ -1,5 +1,5 @@
 -- References that are found by their hash.
-use Rattle.std.proofs.Common.{◌≡◌, ◌<◌, ◌+◌, ℕ, Bool, true, false, Bor, List, [], ◌∷◌, ◌++◌, take, drop, get_or, length, refl, sym, ap, ◌∙◌, ◌||◌, not, add-one}
+use Rattle.std.proofs.Common.{◌≡◌, ◌<◌, ◌+◌, ℕ, Bool, true, false, Bor, List, [], ◌∷◌, ◌++◌, take, drop, get_or, length, map, refl, sym, ap, ◌∙◌, ◌||◌, not, add-one}
 use Rattle.std.specs.Prelude.{None, Some, slice_get}
 use Rattle.std.specs.List.{list_any}
 use Rattle.std.specs.List.Sorted.{IsPermutation}
@@ -11,7 +11,7 @@ use Rattle.std.proofs.lemmas.List.Sorted.{list_any-IsPermutation}
 use Rattle.std.proofs.lemmas.Option.{slice_get-get_or}
 use Rattle.std.proofs.lemmas.Slice.Eq.{bytes_eq-Decides}
 use Rattle.std.proofs.Math.Seq.{drop-cons}
-use Rattle.keyset.specs.KeyState.{KeySetState, Reference, first_new_fault, listed, new_fault, texts}
+use Rattle.keyset.specs.KeyState.{KeySetState, Reference, first_new_fault, listed, new_fault}
 use Rattle.keyset_rolls.specs.declared.rolls.RollType.{RollType}
 use Rattle.keyset.specs.Listing.{IsIndexOf}
 use Rattle.keyset.proofs.KeyMaps.{bytes_eq-sym}
@@ -49,21 +49,22 @@ index_grows qs ks ns k false h a p q =
     ∙ absorbed (bytes_eq k.now q) (listed qs q) (λ e. sym (h q) ∙ sym (among ks k.now q ((bytes_eq-Decides k.now q).0 e)) ∙ not_false (list_any (λ x. bytes_eq k.now x.now) ks) a)
     ∙ sym (list_any-append (λ x. bytes_eq x q) qs (k.now ∷ []))
 
-map_snoc : (rs : List (Bor Reference)) (r : Bor Reference) → texts (rs ++ r ∷ []) ≡ texts rs ++ r.now ∷ []
-map_snoc [] r = refl
-map_snoc (x ∷ rs) r = ap (λ ts. x.now ∷ ts) (map_snoc rs r)
+map_snoc : {X : Type 0} (text : X → Reference) (rs : List X) (r : X) → map text (rs ++ r ∷ []) ≡ map text rs ++ text r ∷ []
+map_snoc text [] r = refl
+map_snoc text (x ∷ rs) r = ap (λ ts. text x ∷ ts) (map_snoc text rs r)
 
 -- one more of some references
-pub texts_one : (rs : List (Bor Reference)) (i : ℕ) (r : Bor Reference) → Some r ≡ slice_get rs i → take (i + 1) (texts rs) ≡ take i (texts rs) ++ r.now ∷ []
-texts_one rs i r h = take-map (λ x. x.now) (i + 1) rs ∙ ap texts (take_one rs i r h) ∙ map_snoc (take i rs) r ∙ ap (λ ts. ts ++ r.now ∷ []) (sym (take-map (λ x. x.now) i rs))
+pub texts_one : {X : Type 0} (text : X → Reference) (rs : List X) (i : ℕ) (r : X) → Some r ≡ slice_get rs i → take (i + 1) (map text rs) ≡ take i (map text rs) ++ text r ∷ []
+texts_one text rs i r h = take-map text (i + 1) rs ∙ ap (map text) (take_one rs i r h) ∙ map_snoc text (take i rs) r ∙ ap (λ ts. ts ++ text r ∷ []) (sym (take-map text i rs))
 
 -- of a new key that is not at fault, the first fault is that of the keys behind it
-pub past_new : (r : RollType) (s : KeySetState) (olds before : List Reference) (rs : List (Bor Reference)) (i : ℕ) (d : Bor Reference) → i < length rs → before ≡ texts (take i rs) → new_fault r s olds before (get_or rs i d).now ≡ None → first_new_fault r s olds (texts (take (i + 1) rs)) (texts (drop (i + 1) rs)) ≡ first_new_fault r s olds (texts (take i rs)) (texts (drop i rs))
-past_new r s olds before rs i d h b none =
-    let q = (get_or rs i d).now in
-    let behind = texts (drop (i + 1) rs) in
-    let more = ap texts (take_one rs i (get_or rs i d) (sym (slice_get-get_or rs i d h))) ∙ map_snoc (take i rs) (get_or rs i d) in
-    let left : texts (drop i rs) ≡ q ∷ behind = ap texts (drop-cons rs i d h) ∙ ap (λ k. q ∷ texts (drop k rs)) (sym (add-one i)) in
+pub past_new : {X : Type 0} (text : X → Reference) (r : RollType) (s : KeySetState) (olds before : List Reference) (rs : List X) (i : ℕ) (x : X) (q : Reference) → i < length rs → x ≡ get_or rs i x → q ≡ text x → before ≡ map text (take i rs) → new_fault r s olds before q ≡ None → first_new_fault r s olds (map text (take (i + 1) rs)) (map text (drop (i + 1) rs)) ≡ first_new_fault r s olds (map text (take i rs)) (map text (drop i rs))
+past_new text r s olds before rs i x q h there named b none =
+    let behind = map text (drop (i + 1) rs) in
+    let first = map text (take i rs) in
+    let said : text (get_or rs i x) ≡ q = ap text (sym there) ∙ sym named in
+    let more = ap (map text) (take_one rs i (get_or rs i x) (sym (slice_get-get_or rs i x h))) ∙ map_snoc text (take i rs) (get_or rs i x) ∙ ap (λ p. first ++ p ∷ []) said in
+    let left : map text (drop i rs) ≡ q ∷ behind = ap (map text) (drop-cons rs i x h) ∙ (λ j. said j ∷ map text (drop (sym (add-one i) j) rs)) in
     ap (λ qs. first_new_fault r s olds qs behind) more
-    ∙ sym (ap (first_new_fault r s olds (texts (take i rs))) left
-    ∙ ap (λ f. elim f [ Some e ↦ Some e | None ↦ first_new_fault r s olds (texts (take i rs) ++ q ∷ []) behind ]) (ap (λ qs. new_fault r s olds qs q) (sym b) ∙ none))
+    ∙ sym (ap (first_new_fault r s olds first) left
+    ∙ ap (λ f. elim f [ Some e ↦ Some e | None ↦ first_new_fault r s olds (first ++ q ∷ []) behind ]) (ap (λ qs. new_fault r s olds qs q) (sym b) ∙ none))

@@ -1,7 +1,6 @@
 -- The keys of a zone and the rolls that are running, and what each call on them does (RFC 6781, section 4.1). Moments are
 -- numbers of nanoseconds. What a roll does to one key is the table of `keyset_rolls`; a call maps it over the keys.
 use Rattle.std.specs.Prelude.{ℕ, Bool, true, false, not, ◌&&◌, ◌||◌, ◌==◌, List, [], ◌∷◌, ◌++◌, map, Option, Some, None, Result, Ok, Err, is_some, if◌then◌else◌, max, String, string_bytes, nat_eq}
-use Rattle.std.specs.Borrow.{Bor}
 use Rattle.std.specs.List.{filter, list_all, list_any}
 use Rattle.std.specs.Str.{bytes_eq}
 use Rattle.std.specs.declared.cmp.Ordering.{Ordering}
@@ -96,9 +95,6 @@ when b h k = if b then h k else k
 -- a change of the keys that a roll touches
 abbrev pub on_keys : RollType → (Key → Key) → List (Reference × Key) → List (Reference × Key)
 on_keys r h es = map (λ e. (e.0, when (touches r e.1.roles) h e.1)) es
-
-abbrev pub texts : List (Bor Reference) → List Reference
-texts rs = map (λ r. r.now) rs
 
 abbrev pub listed : List Reference → Reference → Bool
 listed qs q = list_any (λ p. bytes_eq p q) qs

@@ -1,38 +1,38 @@
 //! The references that a call lists.
-ghost use Rattle.std.specs.Prelude.{◌≡◌, ◌<◌, ◌+◌, ◌++◌, ◌∷◌, [], List, IfSome, length};
-ghost use Rattle.keyset.specs.KeyState.{Reference, listed, texts};
+ghost use Rattle.std.specs.Prelude.{◌≡◌, ◌<◌, ◌+◌, ◌++◌, ◌∷◌, [], List, IfSome, length, map};
+ghost use Rattle.keyset.specs.KeyState.{Reference, listed};
 ghost use Rattle.keyset.specs.Listing.{IsIndexOf, listed_by};
 
 use std::alloc::Global;
 use std::collections::HashSet;
+use std::convert::AsStr;
 use std::marker::Model;
 
 /// The first so many of some references, each found by its hash; where no memory is left for that, by going over them.
 #[derive(Drop)]
-pub(crate) struct Listing<'a> {
-    all: &'a [&'a str],
+pub(crate) struct Listing<'a, T: AsStr> {
+    all: &'a [T],
     count: usize,
     index: Option<HashSet<&'a str>>,
 }
 
-impl<'a> Model for Listing<'a> {
-    ghost use Rattle.std.specs.Prelude.{take, length, ◌≤◌, IfSome};
-    ghost use Rattle.keyset.specs.KeyState.{texts};
+impl<'a, T: AsStr> Model for Listing<'a, T> {
+    ghost use Rattle.std.specs.Prelude.{map, take, length, ◌≤◌, IfSome};
     ghost use Rattle.keyset.specs.Listing.{IsIndexOf};
     ghost use Rattle.keyset.specs.Listing as specs;
 
     ghost Value = { specs.Listing };
 
-    ghost view = { λ l. record { all = texts l.all.now; count = l.count } };
+    ghost view = { λ l. record { all = map T.text l.all.now; count = l.count } };
 
     ghost invariant = { λ l. (l.count ≤ length l.all.now)
-        × IfSome l.index (λ s. IsIndexOf (take l.count (texts l.all.now)) s.keys) };
+        × IfSome l.index (λ s. IsIndexOf (take l.count (map T.text l.all.now)) s.keys) };
 }
 
-impl<'a> Listing<'a> {
+impl<'a, T: AsStr> Listing<'a, T> {
     /// None of the references yet.
-    pub(crate) fn none_of(alloc: Global, all: &'a [&'a str]) -> Self
-        ensures { result ≡ record { all = texts all.now; count = 0 } }
+    pub(crate) fn none_of(alloc: Global, all: &'a [T]) -> Self
+        ensures { result ≡ record { all = map T.text all.now; count = 0 } }
     {
         Listing {
             all,
@@ -42,8 +42,8 @@ impl<'a> Listing<'a> {
     }
 
     /// All of the references.
-    pub(crate) fn all_of(alloc: Global, all: &'a [&'a str]) -> Self
-        ensures { result ≡ record { all = texts all.now; count = length all.now } }
+    pub(crate) fn all_of(alloc: Global, all: &'a [T]) -> Self
+        ensures { result ≡ record { all = map T.text all.now; count = length all.now } }
     {
         let mut listing = Listing::none_of(alloc, all);
         for _ in 0..all.len() {
@@ -58,14 +58,14 @@ impl<'a> Listing<'a> {
         ensures { self.new ≡ record self.old { count = self.old.count + 1 } }
     {
         if let Some(reference) = self.all.get(self.count) {
-            self.index = with(self.index.take(), reference);
+            self.index = with(self.index.take(), reference.as_str());
             self.count += 1;
         }
     }
 
     /// What is listed.
-    pub(crate) fn references(&self) -> &'a [&'a str]
-        ensures { texts result.now ≡ listed_by self.now }
+    pub(crate) fn references(&self) -> &'a [T]
+        ensures { map T.text result.now ≡ listed_by self.now }
     {
         &self.all[..self.count]
     }
@@ -94,8 +94,8 @@ fn with<'a>(index: Option<HashSet<&'a str>>, reference: &'a str) -> Option<HashS
 }
 
 /// Whether one of the references is this one.
-fn is_listed(references: &[&str], reference: &str) -> bool
-    ensures { result ≡ listed (texts references.now) reference.now }
+fn is_listed<T: AsStr>(references: &[T], reference: &str) -> bool
+    ensures { result ≡ listed (map T.text references.now) reference.now }
 {
-    references.iter().any(|listed| *listed == reference)
+    references.iter().any(|listed| listed.as_str() == reference)
 }

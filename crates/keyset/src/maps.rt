@@ -2,17 +2,18 @@
 ghost use Rattle.std.specs.Prelude.{◌≡◌, ℕ, ◌*◌, ◌≤◌, string_bytes, OnOk, OnErr};
 ghost use Rattle.std.specs.List.{list_any};
 ghost use Rattle.std.specs.FinMap.Entries.{put};
-ghost use Rattle.keyset.specs.KeyState.{by_reference, by_kind, reference_cmp, kind_cmp, has_tag, has_needed, roles_after, on_keys, started, misses, greatest_rest, without, removed, suitable};
+ghost use Rattle.keyset.specs.KeyState.{by_reference, by_kind, reference_cmp, kind_cmp, has_tag, has_needed, listed, roles_after, on_keys, started, misses, greatest_rest, without, removed, suitable};
 ghost use Rattle.keyset.specs.KeySteps.{stepped};
 ghost use Rattle.keyset.specs.Listing.{listed_by};
-ghost use Rattle.keyset_rolls.specs.Rolls.{conflicts};
+ghost use Rattle.keyset_rolls.specs.Rolls.{conflicts, started_roles};
 
 use crate::listing::Listing;
-use keyset_keys::{Key, UnixTime};
+use keyset_keys::{Key, KeyType, UnixTime};
 use keyset_rolls::table::Need;
 use keyset_rolls::{RollState, RollType, Turn};
 use std::alloc::AllocError;
 use std::collections::HashMap;
+use std::convert::AsStr;
 
 /// Whether a key has this tag.
 pub(crate) fn has_tag(keys: &HashMap<String, Key>, key_tag: u16) -> bool
@@ -57,11 +58,11 @@ pub(crate) fn is_blocked(rollstates: &HashMap<RollType, RollState>, rolltype: Ro
 }
 
 /// Whether keys would serve in all that a roll is of, behind its start.
-pub(crate) fn serves_after_start(
+pub(crate) fn serves_after_start<T: AsStr>(
     keys: &HashMap<String, Key>,
     rolltype: RollType,
-    old: &Listing,
-    new: &Listing,
+    old: &Listing<T>,
+    new: &Listing<T>,
 ) -> bool
     ensures { let es = by_reference keys.now.entries in
         let roles = roles_after rolltype (listed_by old.now) (listed_by new.now) es in
@@ -70,23 +71,37 @@ pub(crate) fn serves_after_start(
     rolltype.needs().iter().all(|need| has_needed_after_start(keys, rolltype, *need, old, new))
 }
 
-fn has_needed_after_start(
+fn has_needed_after_start<T: AsStr>(
     keys: &HashMap<String, Key>,
     rolltype: RollType,
     need: Need,
-    old: &Listing,
-    new: &Listing,
+    old: &Listing<T>,
+    new: &Listing<T>,
 ) -> bool
     ensures { let es = by_reference keys.now.entries in
         let after = roles_after rolltype (listed_by old.now) (listed_by new.now) es in
         result ≡ has_needed rolltype need after }
 {
     keys.iter().any(|(reference, key)| {
-        let is_old = old.contains(reference.as_str());
-        let is_new = new.contains(reference.as_str());
-        let keytype = rolltype.roles_after_start(key.keytype(), is_old, is_new);
+        let keytype = keytype_after_start(reference.as_str(), key, rolltype, old, new);
         rolltype.touches(keytype) && need.is_met_by(keytype)
     })
+}
+
+/// The roles of a key behind a start.
+fn keytype_after_start<T: AsStr>(
+    reference: &str,
+    key: &Key,
+    rolltype: RollType,
+    old: &Listing<T>,
+    new: &Listing<T>,
+) -> KeyType
+    ensures { let is_old = listed (listed_by old.now) reference.now in
+        let is_new = listed (listed_by new.now) reference.now in
+        result ≡ started_roles rolltype is_old is_new key.now.roles }
+{
+    let (is_old, is_new) = (old.contains(reference), new.contains(reference));
+    rolltype.roles_after_start(key.keytype(), is_old, is_new)
 }
 
 /// Puts a key in.
@@ -126,11 +141,11 @@ pub(crate) fn remove_phase(rollstates: &mut HashMap<RollType, RollState>, rollty
 }
 
 /// Marks the old keys of a roll, and puts its new keys into use.
-pub(crate) fn start_keys(
+pub(crate) fn start_keys<T: AsStr>(
     keys: &mut HashMap<String, Key>,
     rolltype: RollType,
-    old: &Listing,
-    new: &Listing,
+    old: &Listing<T>,
+    new: &Listing<T>,
     now: &UnixTime,
 )
     ensures { let es = by_reference keys.old.entries in

@@ -1,9 +1,9 @@
 //! The key set.
-ghost use Rattle.std.specs.Prelude.{◌≡◌, ◌∷◌, ◌++◌, ℕ, List, Bool, [], Some, string_bytes, option_copied, MatchResult, IfOk, OnOk, OnErr};
+ghost use Rattle.std.specs.Prelude.{◌≡◌, ◌∷◌, ◌++◌, ℕ, List, Bool, [], Some, string_bytes, option_copied, map, MatchResult, IfOk, OnOk, OnErr};
 ghost use Rattle.keyset_keys.specs.declared.keys.KeyType.TheVariants.{Ksk, Zsk, Csk, Include};
 ghost use Rattle.keyset_keys.specs.declared.errors.Error.TheVariants.{Memory};
 ghost use Rattle.keyset_rolls.specs.Actions.{actions_in};
-ghost use Rattle.keyset.specs.KeyState.{KeySetState, by_reference, by_kind, key_of, phase_of, add, done, entered, first_fault, first_new_fault, has_tag, new_fault, old_fault, report1, report2, start, start_fault, algorithms_fault, texts, wait1, wait2, wait_fault, new_key, text_of, clear, is_available, write, decoupled_to, present_to, signer_to, at_parent_to, seen_at, ds_seen_at, rrsig_seen_at, stale_now, delete, Reference, algorithms_within, algorithm_is_within, same_algorithms};
+ghost use Rattle.keyset.specs.KeyState.{KeySetState, by_reference, by_kind, key_of, phase_of, add, done, entered, first_fault, first_new_fault, has_tag, new_fault, old_fault, report1, report2, start, start_fault, algorithms_fault, wait1, wait2, wait_fault, new_key, text_of, clear, is_available, write, decoupled_to, present_to, signer_to, at_parent_to, seen_at, ds_seen_at, rrsig_seen_at, stale_now, delete, Reference, algorithms_within, algorithm_is_within, same_algorithms};
 ghost use Rattle.keyset.specs.KeyAnswers.{Acts, Adds, Finds, GivesAtOnce, Lists, Writes};
 ghost use Rattle.keyset.specs.Listing.{AreAlgorithmsOf, listed_by};
 ghost use Rattle.keyset.specs.KeySteps.{new_csk, new_ksk, new_other, new_zsk, set_to};
@@ -21,6 +21,7 @@ use names_traits::to_name::ToName;
 use numbers::algorithm::SecurityAlgorithm;
 use std::alloc::{AllocError, Global};
 use std::collections::HashMap;
+use std::convert::AsStr;
 use std::marker::Model;
 use std::time::Duration;
 
@@ -294,14 +295,14 @@ impl KeySet {
     /// that isn't there or isn't of a kind that the roll touches, at the first such new key or one that isn't
     /// fresh or is listed before, where old and new keys have other algorithms though the roll isn't one of
     /// algorithms, and where after the start no key would serve in one of the roles.
-    pub fn start_roll(
+    pub fn start_roll<T: AsStr>(
         &mut self,
         rolltype: RollType,
-        old: &[&str],
-        new: &[&str],
+        old: &[T],
+        new: &[T],
         now: &UnixTime,
     ) -> Result<Vec<Action>, Error>
-        ensures { let olds = texts old.now in let news = texts new.now in
+        ensures { let olds = map T.text old.now in let news = map T.text new.now in
             Acts self.old self.new result (start rolltype olds news now.now self.old) }
     {
         let olds = Listing::all_of(self.alloc, old);
@@ -428,7 +429,12 @@ impl KeySet {
         Ok(())
     }
 
-    fn check_start(&self, rolltype: RollType, old: &Listing, new: &Listing) -> Result<(), Error>
+    fn check_start<T: AsStr>(
+        &self,
+        rolltype: RollType,
+        old: &Listing<T>,
+        new: &Listing<T>,
+    ) -> Result<(), Error>
         ensures { let olds = listed_by old.now in
             Finds result (start_fault rolltype olds (listed_by new.now) self.now) }
     {
@@ -449,8 +455,13 @@ impl KeySet {
         Ok(())
     }
 
-    fn check_algorithms(&self, rolltype: RollType, old: &[&str], new: &[&str]) -> Result<(), Error>
-        ensures { let olds = texts old.now in let news = texts new.now in
+    fn check_algorithms<T: AsStr>(
+        &self,
+        rolltype: RollType,
+        old: &[T],
+        new: &[T],
+    ) -> Result<(), Error>
+        ensures { let olds = map T.text old.now in let news = map T.text new.now in
             Finds result (algorithms_fault rolltype olds news self.now) }
     {
         if matches!(rolltype, RollType::AlgorithmRoll) {
@@ -463,13 +474,12 @@ impl KeySet {
     }
 
     /// Whether the algorithms of the first keys are among those of the second.
-    fn algorithms_are_within(&self, first: &[&str], second: &[&str]) -> bool
-        ensures { result ≡ algorithms_within self.now (texts first.now) (texts second.now) }
+    fn algorithms_are_within<T: AsStr>(&self, first: &[T], second: &[T]) -> bool
+        ensures { result ≡ algorithms_within self.now
+            (map T.text first.now) (map T.text second.now) }
     {
         let found = self.algorithms_of(second);
-        first
-            .iter()
-            .all(|reference| self.algorithm_is_found(reference, &found))
+        first.iter().all(|reference| self.algorithm_is_found(reference.as_str(), &found))
     }
 
     fn algorithm_is_found(&self, reference: &str, found: &[bool; 256]) -> bool
@@ -483,12 +493,12 @@ impl KeySet {
     }
 
     /// For each number whether it is the algorithm of one of these keys.
-    fn algorithms_of(&self, references: &[&str]) -> [bool; 256]
-        ensures { AreAlgorithmsOf self.now (texts references.now) result }
+    fn algorithms_of<T: AsStr>(&self, references: &[T]) -> [bool; 256]
+        ensures { AreAlgorithmsOf self.now (map T.text references.now) result }
     {
         let mut found = [false; 256];
         for reference in references {
-            self.note_algorithm(reference, &mut found);
+            self.note_algorithm(reference.as_str(), &mut found);
         }
         found
     }
@@ -502,11 +512,12 @@ impl KeySet {
         }
     }
 
-    fn check_old_keys(&self, rolltype: RollType, old: &[&str]) -> Result<(), Error>
-        ensures { Finds result (first_fault (old_fault rolltype self.now) (texts old.now)) }
+    fn check_old_keys<T: AsStr>(&self, rolltype: RollType, old: &[T]) -> Result<(), Error>
+        ensures { let olds = map T.text old.now in
+            Finds result (first_fault (old_fault rolltype self.now) olds) }
     {
         for reference in old {
-            self.check_old_key(rolltype, reference)?;
+            self.check_old_key(rolltype, reference.as_str())?;
         }
         Ok(())
     }
@@ -523,23 +534,28 @@ impl KeySet {
         Ok(())
     }
 
-    fn check_new_keys(&self, rolltype: RollType, old: &Listing, new: &[&str]) -> Result<(), Error>
-        ensures { let olds = listed_by old.now in
-            Finds result (first_new_fault rolltype self.now olds [] (texts new.now)) }
+    fn check_new_keys<T: AsStr>(
+        &self,
+        rolltype: RollType,
+        old: &Listing<T>,
+        new: &[T],
+    ) -> Result<(), Error>
+        ensures { let olds = listed_by old.now in let news = map T.text new.now in
+            Finds result (first_new_fault rolltype self.now olds [] news) }
     {
         let mut before = Listing::none_of(self.alloc, new);
         for i in 0..new.len() {
-            self.check_new_key(rolltype, old, &before, new[i])?;
+            self.check_new_key(rolltype, old, &before, new[i].as_str())?;
             before.advance();
         }
         Ok(())
     }
 
-    fn check_new_key(
+    fn check_new_key<T: AsStr>(
         &self,
         rolltype: RollType,
-        old: &Listing,
-        before: &Listing,
+        old: &Listing<T>,
+        before: &Listing<T>,
         reference: &str,
     ) -> Result<(), Error>
         ensures { let olds = listed_by old.now in

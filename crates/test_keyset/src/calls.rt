@@ -2,7 +2,7 @@
 
 use crate::answer::Answer;
 use crate::settings::set_by_hand;
-use crate::words::{at, keys_of, moment, roll, texts};
+use crate::words::{at, keys_of, moment, roll};
 use keyset::{Available, Error, KeySet, UnixTime};
 use numbers::algorithm::SecurityAlgorithm;
 use std::alloc::Global;
@@ -128,7 +128,6 @@ fn start(alloc: Global, set: &mut KeySet, words: &[&str]) -> Option<Answer> {
         return None;
     };
     let (old, new) = (keys_of(alloc, old)?, keys_of(alloc, new)?);
-    let (old, new) = (texts(alloc, &old)?, texts(alloc, &new)?);
     let answered = set.start_roll(roll(name)?, &old, &new, &moment(now)?);
     Some(Answer::rolled("start", answered))
 }

@@ -25,15 +25,6 @@ fn push_numbered(alloc: Global, keys: &mut Vec<String>, letters: &str, count: &s
     Some(())
 }
 
-/// The texts of keys.
-pub fn texts(alloc: Global, keys: &[String]) -> Option<Vec<&str>> {
-    let mut texts = Vec::new(alloc);
-    for key in keys {
-        texts.push(key.as_str()).ok()?;
-    }
-    Some(texts)
-}
-
 /// A moment as whole seconds.
 pub fn moment(word: &str) -> Option<UnixTime> {
     Some(at(word.parse::<u64>().ok()?))

@@ -1,11 +1,10 @@
 //! Calls on the keys of a zone, as values.
-ghost use Rattle.std.specs.Prelude.{◌≡◌, ◌≤◌, IfErr, IfOk, length, map, string_bytes};
-ghost use Rattle.keyset.specs.KeyState as key_state;
+ghost use Rattle.std.specs.Prelude.{◌≡◌, ◌≤◌, IfErr, IfOk, length, string_bytes};
 ghost use Rattle.keyset.specs.KeyState.{is_available, text_of};
 ghost use Rattle.answer_events.specs.Calls.{call_of};
 ghost use Rattle.answer_events.specs.Events.{added_by_call};
-ghost use Rattle.answer_publisher_keys.specs.Bindings.{Add, apply, dnskey_for, is_bound_away};
-ghost use Rattle.answer_publisher_keys.specs.KeyCalls.{Gives, RanOutCopying, RefusesAhead};
+ghost use Rattle.answer_publisher_keys.specs.Bindings.{Add, dnskey_for, is_bound_away};
+ghost use Rattle.answer_publisher_keys.specs.KeyCalls.{Acts, RefusesAhead};
 ghost use Rattle.answer_publisher.specs.World.{digests};
 
 use crate::fault::KeyFault;
@@ -16,7 +15,6 @@ use answer_scheme::scheme::Scheme;
 use denial_nsec3_hash::hasher::Nsec3Hasher;
 use keyset::{Action, Available, UnixTime};
 use numbers::algorithm::SecurityAlgorithm;
-use std::alloc::{AllocError, Global};
 
 /// A key that is to be added, copied from its call.
 #[derive(Drop)]
@@ -30,9 +28,8 @@ impl<'a, S: Scheme, H: Nsec3Hasher> Publisher<'a, S, H> {
     /// Makes a call on the keys at a moment: that of its name, with its arguments. Only a call that is accepted has actions.
     pub fn apply(&mut self, call: &KeyCall, at: &UnixTime) -> Result<Vec<Action>, KeyFault>
         requires { added_by_call call.now ≤ 65531 }
-        ensures keys { let c = call_of call.now in
-            let outcome = apply (digests S.digest_of self.old) c at.now self.old.keys in
-            Gives (RanOutCopying c) (λ v. v.items) self.old.keys self.new.keys result outcome }
+        ensures keys { let digests = digests S.digest_of self.old in
+            Acts digests (call_of call.now) at.now self.old.keys self.new.keys result }
         ensures rest { self.new ≡ record self.old { keys = self.new.keys } }
     {
         match call {
@@ -132,9 +129,7 @@ impl<'a, S: Scheme, H: Nsec3Hasher> Publisher<'a, S, H> {
                 Ok(Vec::new(self.alloc))
             }
             KeyCall::StartRoll { rolltype, old, new } => {
-                let old = texts(self.alloc, old)?;
-                let new = texts(self.alloc, new)?;
-                self.start_roll(*rolltype, &old, &new, at)
+                self.start_roll(*rolltype, old, new, at)
             }
             KeyCall::Propagation1Complete { rolltype, ttl } => {
                 self.propagation1_complete(*rolltype, *ttl, at)
@@ -163,8 +158,7 @@ impl<'a, S: Scheme, H: Nsec3Hasher> Publisher<'a, S, H> {
         ensures keys { let at_hand = is_available available in
             let private = text_of privref.now in
             let c = Add kind pubref.now private algorithm public_key.now at_hand in
-            let outcome = apply (digests S.digest_of self.old) c at.now self.old.keys in
-            Gives (RanOutCopying c) (λ v. v.items) self.old.keys self.new.keys result outcome }
+            Acts (digests S.digest_of self.old) c at.now self.old.keys self.new.keys result }
         ensures rest { self.new ≡ record self.old { keys = self.new.keys } }
     {
         let copy = self.copied_key(kind, pubref, privref, algorithm, public_key)?;
@@ -208,15 +202,4 @@ impl<'a, S: Scheme, H: Nsec3Hasher> Publisher<'a, S, H> {
             public_key: public_key.to_vec(self.alloc)?,
         })
     }
-}
-
-/// Texts by reference.
-fn texts(alloc: Global, references: &[String]) -> Result<Vec<&str>, AllocError>
-    ensures { IfOk result (λ v. key_state.texts v.items ≡ map string_bytes references.now) }
-{
-    let mut texts = Vec::with_capacity(alloc, references.len())?;
-    for reference in references {
-        texts.push(reference.as_str())?;
-    }
-    Ok(texts)
 }

@@ -1,4 +1,4 @@
-use Rattle.std.proofs.Common.{◌∙◌, sym, rules, tests, Bor, List, ℕ}
+use Rattle.std.proofs.Common.{◌∙◌, sym, rules, tests}
 use Rattle.std.specs.Str.{bytes_eq}
 use Rattle.std.proofs.lemmas.Iterator.{YieldsList-from_slice}
 use Rattle.std.proofs.lemmas.Iterator.Search.{any_from_yields_List}
@@ -6,7 +6,8 @@ use Rattle.keyset.proofs.listing.is_listed.Goals as goal
 use Rattle.keyset.proofs.Lists.{list_any-map}
 
 pub returns : goal.returns
-returns c =
-    let test = λ (r : Bor (List ℕ)). bytes_eq r.now c.args.reference.now in
+returns g c =
+    let text = g.T.AsStr.text in
+    let test = λ (r : g.row.T.Denot). bytes_eq (text r) c.args.reference.now in
     any_from_yields_List test _ _ _ c.any.ensures.ran (YieldsList-from_slice c.args.references.now cc) (λ x b q k. search (rules, tests))
-    ∙ sym (list_any-map (λ p. bytes_eq p c.args.reference.now) (λ (r : Bor (List ℕ)). r.now) c.args.references.now)
+    ∙ sym (list_any-map (λ p. bytes_eq p c.args.reference.now) text c.args.references.now)

@@ -4,7 +4,6 @@ use Rattle.keyset.specs.Listing.{IsIndexOf}
 use Rattle.keyset.proofs.Listings.{index_grows}
 use Rattle.keyset.proofs.listing.with.Goals as goal
 
--- src/listing.rt:85:1
 pub returns-in-Ok : goal.returns-in-Ok
 returns-in-Ok c qs h =
     index_grows qs c.in_ok-index.index.keys c.insert.new.self.keys c.args.reference c.in-Ok.field-0

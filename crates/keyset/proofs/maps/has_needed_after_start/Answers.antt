@@ -11,7 +11,7 @@ use Rattle.keyset.proofs.maps.has_needed_after_start.Goals as goal
 use Rattle.keyset.proofs.Lists.{list_any-map}
 
 pub returns : goal.returns
-returns c =
+returns g c =
     let after = λ (q : Reference) (k : Key). started_roles c.args.rolltype (listed (listed_by c.args.old.now) q) (listed (listed_by c.args.new.now) q) k.roles in
     let serves = λ (t : KeyType). touches c.args.rolltype t && meets_need c.args.need t in
     any_from_yields_List (λ (e : String Global × Key). serves (after (string_bytes e.0) e.1)) _ _ _ c.any.ensures.ran (YieldsList-from_rest _ c.iter.ensures.rest) (λ x r q k. search (rules, tests))

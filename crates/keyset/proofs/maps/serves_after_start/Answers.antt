@@ -8,7 +8,7 @@ use Rattle.keyset.specs.Listing.{listed_by}
 use Rattle.keyset.proofs.maps.serves_after_start.Goals as goal
 
 pub returns : goal.returns
-returns c =
+returns g c =
     let after = roles_after c.args.rolltype (listed_by c.args.old.now) (listed_by c.args.new.now) (by_reference c.args.keys.now.entries) in
     let test = λ (n : Need). has_needed c.args.rolltype n after in
     all_from_yields_List test _ _ _ c.all.ensures.ran (YieldsList-from_slice _ cc) (λ x b q k. search (rules, tests))

@@ -8,7 +8,7 @@ use Rattle.keyset.specs.Listing.{listed_by}
 use Rattle.keyset.proofs.maps.start_keys.Goals as goal
 
 pub returns : goal.returns
-returns c =
-    let g = λ (q : Reference) (k : Key). started_key c.args.rolltype c.args.now.now (listed (listed_by c.args.old.now) q) (listed (listed_by c.args.new.now) q) k in
-    ap by_reference (map_pairs _ (λ q k. g (string_bytes q) k) _ (λ k v b w f' t. search (rules, tests)) c.args.keys.now.entries c.retain.new.self.entries c.retain.ensures.filtered)
-    ∙ by_reference-map g c.args.keys.now.entries
+returns g c =
+    let change = λ (q : Reference) (k : Key). started_key c.args.rolltype c.args.now.now (listed (listed_by c.args.old.now) q) (listed (listed_by c.args.new.now) q) k in
+    ap by_reference (map_pairs _ (λ q k. change (string_bytes q) k) _ (λ k v b w f' t. search (rules, tests)) c.args.keys.now.entries c.retain.new.self.entries c.retain.ensures.filtered)
+    ∙ by_reference-map change c.args.keys.now.entries
