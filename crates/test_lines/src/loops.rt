@@ -1,16 +1,17 @@
 //! Lines that are read and answered, one by one.
 
+use crate::answer::Answer;
 use crate::reading::is_comment;
 use std::alloc::Global;
 use std::io;
 
 /// Prints each line of the input with its answer behind it; one that begins with `#` alone.
-pub fn answer_each_line<F: Fn(Global, &str) -> Option<String>>(
+pub fn answer_each_line<F: Fn(Global, &mut Answer, &str) -> Option<()>>(
     rt: &(impl Input + Print),
     alloc: Global,
-    answer: F,
+    answer_to: F,
 ) -> io::Result<()>
-    requires { F.IsAlwaysCallable answer }
+    requires { F.IsAlwaysCallable answer_to }
 {
     for line in rt.lines(alloc) {
         let line = line?;
@@ -18,7 +19,11 @@ pub fn answer_each_line<F: Fn(Global, &str) -> Option<String>>(
             println!(rt; "{line}")?;
             continue;
         }
-        match answer(alloc, line.as_str()) {
+        let mut answer = Answer::new(alloc);
+        if answer_to(alloc, &mut answer, line.as_str()).is_none() {
+            answer.check(false);
+        }
+        match answer.done() {
             Some(answer) => println!(rt; "{line} {answer}")?,
             None => println!(rt; "{line} cannot be read")?,
         }

@@ -5,38 +5,72 @@
 //! - `name=OCTETS`: a relative name. `dec=NUMBER`, `hex=NUMBER`: a label of the number's digits.
 //! - `chars=TEXT`, `symbols=SYMBOLS`: a text, or symbols joined by commas.
 
-use crate::answer::{Answer, text_of};
+use crate::said;
 use crate::texts::symbols_of;
 use arrayvec::ArrayVec;
-use names::{BuiltOctets, Finish, Name, NameBuilder, PushError, PushNameError, RelativeName};
+use names::{BuiltOctets, Finish, Name, NameBuilder, PushError, RelativeName};
 use std::alloc::Global;
 use std::fmt::Display;
-use test_lines::octets_of;
+use test_lines::{Answer, octets_of};
 
-/// A step's error, or nothing.
-type Done = Option<String>;
-
-fn done<E: Display + Drop>(alloc: Global, step: Result<(), E>) -> Option<Done> {
-    match step {
-        Ok(()) => Some(None),
-        Err(error) => Some(Some(text_of(alloc, &error)?)),
+/// Answers a line of steps; in front of them stands the room of the builder, or the name that it goes on behind.
+pub fn answer_to(alloc: Global, answer: &mut Answer, word: &str, line: &str) -> Option<()> {
+    let (first, line) = line.split_once(' ')?;
+    match word {
+        "build" => build(alloc, answer, first, line),
+        "join" => join(alloc, answer, first, line),
+        _ => rebuild(alloc, answer, first, line),
     }
 }
 
+/// Says why a step was refused, if it was.
+fn done<E: Display + Drop>(fault: &mut Answer, step: Result<(), E>) -> Option<()> {
+    if let Err(error) = step {
+        fault.value(&error);
+    }
+    Some(())
+}
+
 /// Makes a step.
-fn step<B: BuiltOctets>(alloc: Global, builder: &mut NameBuilder<B>, step: &str) -> Option<Done> {
+fn step<B: BuiltOctets>(
+    alloc: Global,
+    fault: &mut Answer,
+    builder: &mut NameBuilder<B>,
+    step: &str,
+) -> Option<()> {
     if step == "end" {
         builder.end_label();
-        return Some(None);
+        return Some(());
     }
     let (word, field) = step.split_once('=')?;
     match word {
-        "label" => done(alloc, builder.append_label(&octets_of(alloc, field)?)),
-        "octets" => done(alloc, builder.append_slice(&octets_of(alloc, field)?)),
-        "push" => done(alloc, push_each(builder, &octets_of(alloc, field)?)),
-        "dec" => done(alloc, builder.append_dec_u8_label(field.parse().ok()?)),
-        "hex" => done(alloc, builder.append_hex_digit_label(field.parse().ok()?)),
-        _ => long_step(alloc, builder, word, field),
+        "dec" => done(fault, builder.append_dec_u8_label(field.parse().ok()?)),
+        "hex" => done(fault, builder.append_hex_digit_label(field.parse().ok()?)),
+        "chars" => done(fault, builder.append_chars(field.chars())),
+        "symbols" => {
+            let symbols = symbols_of(alloc, field)?;
+            done(fault, builder.append_symbols(symbols.into_iter()))
+        }
+        _ => step_of_octets(fault, builder, word, &octets_of(alloc, field)?),
+    }
+}
+
+/// Makes a step that adds octets.
+fn step_of_octets<B: BuiltOctets>(
+    fault: &mut Answer,
+    builder: &mut NameBuilder<B>,
+    word: &str,
+    octets: &[u8],
+) -> Option<()> {
+    match word {
+        "label" => done(fault, builder.append_label(octets)),
+        "octets" => done(fault, builder.append_slice(octets)),
+        "push" => done(fault, push_each(builder, octets)),
+        "name" => done(
+            fault,
+            builder.append_name(&RelativeName::from_slice(octets).ok()?),
+        ),
+        _ => None,
     }
 }
 
@@ -47,101 +81,82 @@ fn push_each<B: BuiltOctets>(builder: &mut NameBuilder<B>, octets: &[u8]) -> Res
     Ok(())
 }
 
-/// Makes a step that adds several labels.
-fn long_step<B: BuiltOctets>(
-    alloc: Global,
-    builder: &mut NameBuilder<B>,
-    word: &str,
-    field: &str,
-) -> Option<Done> {
-    match word {
-        "name" => {
-            let octets = octets_of(alloc, field)?;
-            let name = RelativeName::from_slice(&octets).ok()?;
-            done(alloc, builder.append_name(&name))
-        }
-        "chars" => done(alloc, builder.append_chars(field.chars())),
-        "symbols" => {
-            let symbols = symbols_of(alloc, field)?;
-            done(alloc, builder.append_symbols(symbols.into_iter()))
-        }
-        _ => None,
-    }
-}
-
 /// Makes all steps, and says of each how many octets the builder has then, whether a label is open, and why the step was
-/// refused, if it was.
+/// refused, if it was; at the end the octets.
 fn steps<B: BuiltOctets>(
     alloc: Global,
+    answer: &mut Answer,
     builder: &mut NameBuilder<B>,
     line: &str,
-    answer: &mut Answer,
-) -> Option<()> {
+) {
     for word in line.split(' ') {
-        let refused = step(alloc, builder, word)?;
-        answer.value(&builder.len())?;
-        answer.word(if builder.in_label() { "open" } else { "shut" })?;
-        if let Some(fault) = refused {
-            answer.word(&fault)?;
-        }
-        answer.word("|")?;
+        let mut fault = Answer::new(alloc);
+        answer.check(step(alloc, &mut fault, builder, word).is_some());
+        answer.value(&builder.len());
+        answer.word(if builder.in_label() { "open" } else { "shut" });
+        answer.append(fault);
+        answer.word("|");
     }
-    answer.octets(builder.as_slice())
+    answer.octets(builder.as_slice());
 }
 
 /// What the steps say, the octets that they leave, the relative name that they make and the absolute one.
 fn built<B: BuiltOctets + Drop>(
     alloc: Global,
-    first: NameBuilder<B>,
-    second: NameBuilder<B>,
-    third: NameBuilder<B>,
+    answer: &mut Answer,
+    builders: [NameBuilder<B>; 3],
     line: &str,
-) -> Option<String> {
-    let (mut first, mut second, mut third) = (first, second, third);
-    let mut answer = Answer::new(alloc);
-    let is_new = first.is_empty() && second.is_empty();
-    steps(alloc, &mut first, line, &mut answer)?;
-    steps(alloc, &mut second, line, &mut Answer::new(alloc))?;
-    steps(alloc, &mut third, line, &mut Answer::new(alloc))?;
-    let relative = first.finish();
-    answer.octets(relative.as_slice())?;
-    let name = name_or_fault(alloc, second.into_name())?;
-    if !is_new || name != name_or_fault(alloc, third.finish().into_absolute())? {
-        return None;
-    }
-    answer.word(&name)?;
-    answer.done()
-}
-
-/// The octets of a name, or why it was not made.
-fn name_or_fault<B: BuiltOctets + Drop>(
-    alloc: Global,
-    made: Result<Name<B>, PushNameError>,
-) -> Option<String> {
-    let mut answer = Answer::new(alloc);
-    match made {
-        Ok(name) => answer.octets(name.as_slice())?,
-        Err(error) => answer.value(&error)?,
-    }
-    answer.done()
+) -> Option<()> {
+    let [mut first, mut second, mut third] = builders;
+    answer.check(first.is_empty());
+    answer.check(second.is_empty());
+    steps(alloc, answer, &mut first, line);
+    steps(alloc, &mut Answer::new(alloc), &mut second, line);
+    steps(alloc, &mut Answer::new(alloc), &mut third, line);
+    answer.octets(first.finish().as_slice());
+    let (mut name, mut again) = (Answer::new(alloc), Answer::new(alloc));
+    said::name(&mut name, second.into_name());
+    said::name(&mut again, third.finish().into_absolute());
+    name.check_same(again);
+    answer.append(name);
+    Some(())
 }
 
 /// What steps make of builders with room for so many octets; `-` is none, and a builder of `fixed3` or `fixed4` never has
 /// more than three or four.
-pub fn build(alloc: Global, line: &str) -> Option<String> {
-    let (room, line) = line.split_once(' ')?;
+fn build(alloc: Global, answer: &mut Answer, room: &str, line: &str) -> Option<()> {
     match room {
         "-" => {
             let (first, second) = (NameBuilder::new(alloc), NameBuilder::new_vec(alloc));
-            built(alloc, first, second, NameBuilder::new(alloc), line)
+            built(
+                alloc,
+                answer,
+                [first, second, NameBuilder::new(alloc)],
+                line,
+            )
         }
-        "fixed3" => built(alloc, fixed::<3>()?, fixed::<3>()?, fixed::<3>()?, line),
-        "fixed4" => built(alloc, fixed::<4>()?, fixed::<4>()?, fixed::<4>()?, line),
+        "fixed3" => built(
+            alloc,
+            answer,
+            [fixed::<3>()?, fixed::<3>()?, fixed::<3>()?],
+            line,
+        ),
+        "fixed4" => built(
+            alloc,
+            answer,
+            [fixed::<4>()?, fixed::<4>()?, fixed::<4>()?],
+            line,
+        ),
         room => {
             let room = room.parse().ok()?;
             let first = NameBuilder::with_capacity(alloc, room).ok()?;
             let second = NameBuilder::vec_with_capacity(alloc, room).ok()?;
-            built(alloc, first, second, NameBuilder::new(alloc), line)
+            built(
+                alloc,
+                answer,
+                [first, second, NameBuilder::new(alloc)],
+                line,
+            )
         }
     }
 }
@@ -151,45 +166,41 @@ fn fixed<const N: usize>() -> Option<NameBuilder<ArrayVec<u8, N>>> {
 }
 
 /// What steps make, an absolute name behind them.
-pub fn join(alloc: Global, line: &str) -> Option<String> {
-    let (room, rest) = line.split_once(' ')?;
-    let (origin, line) = rest.split_once(' ')?;
+fn join(alloc: Global, answer: &mut Answer, room: &str, line: &str) -> Option<()> {
+    let (origin, line) = line.split_once(' ')?;
     let origin = octets_of(alloc, origin)?;
     let origin = Name::from_slice(&origin).ok()?;
     match room {
-        "-" => joined(alloc, NameBuilder::new(alloc), &origin, line),
-        "fixed4" => joined(alloc, fixed::<4>()?, &origin, line),
+        "-" => joined(alloc, answer, NameBuilder::new(alloc), &origin, line),
+        "fixed4" => joined(alloc, answer, fixed::<4>()?, &origin, line),
         _ => None,
     }
 }
 
 fn joined<B: BuiltOctets + Drop>(
     alloc: Global,
+    answer: &mut Answer,
     builder: NameBuilder<B>,
     origin: &Name<&[u8]>,
     line: &str,
-) -> Option<String> {
+) -> Option<()> {
     let mut builder = builder;
-    let mut answer = Answer::new(alloc);
-    steps(alloc, &mut builder, line, &mut answer)?;
-    answer.word(&name_or_fault(alloc, builder.append_origin(origin))?)?;
-    answer.done()
+    steps(alloc, answer, &mut builder, line);
+    said::name(answer, builder.append_origin(origin));
+    Some(())
 }
 
 /// A relative name cut at a place, and the steps of a builder that goes on behind it.
-pub fn rebuild(alloc: Global, line: &str) -> Option<String> {
-    let (octets, rest) = line.split_once(' ')?;
-    let (place, line) = rest.split_once(' ')?;
-    let mut name = RelativeName::from_octets(octets_of(alloc, octets)?).ok()?;
+fn rebuild(alloc: Global, answer: &mut Answer, octets: &str, line: &str) -> Option<()> {
+    let (place, line) = line.split_once(' ')?;
     let place = place.parse().ok()?;
+    let mut name = RelativeName::from_octets(octets_of(alloc, octets)?).ok()?;
     if !name.is_label_start(place) {
         return None;
     }
     name.truncate(place);
     let mut builder = name.into_builder();
-    let mut answer = Answer::new(alloc);
-    steps(alloc, &mut builder, line, &mut answer)?;
-    let name = builder.finish().into_absolute().ok()?;
-    answer.octets(name.as_slice())?;
-    answer.done()
+    steps(alloc, answer, &mut builder, line);
+    said::name(answer, builder.finish().into_absolute());
+    Some(())
 }

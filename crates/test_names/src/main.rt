@@ -7,79 +7,60 @@
 //! Each line is printed with the answer behind it. Lines that begin with `#` are printed as they are.
 #![tactic(auto)]
 
-mod answer;
 mod build;
 mod flat;
 mod messages;
-mod octets;
 mod orders;
 mod parts;
+mod said;
 mod texts;
 mod wire_numbers;
 
 use std::alloc::Global;
 use std::io;
-use test_lines::{answer_each_line, first_word};
+use test_lines::{Answer, answer_each_line, first_word, octets_of};
 
-/// What is printed behind a line, if it can be read.
-fn answer_to(alloc: Global, line: &str) -> Option<String> {
+/// Answers a line, if it can be read.
+fn answer_to(alloc: Global, answer: &mut Answer, line: &str) -> Option<()> {
     let (word, rest) = first_word(line);
     match word {
-        "name" => flat::name(alloc, rest),
-        "relative" => flat::relative(alloc, rest),
-        "chain" => flat::chain(alloc, rest),
-        "strip" => flat::strip(alloc, rest),
-        "strip-relative" => flat::strip_relative(alloc, rest),
-        "fixed" => flat::fixed(alloc),
-        "pair" => orders::pair(alloc, rest),
-        "relative-pair" => orders::relative_pair(alloc, rest),
-        "label-pair" => orders::label_pair(alloc, rest),
-        "message-pair" => orders::message_pair(alloc, rest),
-        "build" => build::build(alloc, rest),
-        "join" => build::join(alloc, rest),
-        "rebuild" => build::rebuild(alloc, rest),
-        _ => answer_of_text(alloc, word, rest),
+        "fixed" => flat::fixed(alloc, answer),
+        "text" | "symbols" | "relative-text" | "label" | "symbol" | "octet" | "address" => {
+            texts::answer_to(alloc, answer, word, rest)
+        }
+        "message" | "message-name" | "along" | "parent" => {
+            messages::answer_to(alloc, answer, word, "", rest)
+        }
+        "turns" | "suffixes" | "message-pair" => {
+            let (front, rest) = rest.split_once(' ')?;
+            messages::answer_to(alloc, answer, word, front, rest)
+        }
+        "build" | "join" | "rebuild" => build::answer_to(alloc, answer, word, rest),
+        "serials" | "later" => wire_numbers::answer_to(answer, word, rest),
+        _ => answer_to_octets(alloc, answer, word, rest),
     }
 }
 
-/// As `answer_to`, of texts and messages.
-fn answer_of_text(alloc: Global, word: &str, rest: &str) -> Option<String> {
+/// Answers a line that begins with octets, or has them behind a word.
+fn answer_to_octets(alloc: Global, answer: &mut Answer, word: &str, line: &str) -> Option<()> {
+    let (first, rest) = first_word(line);
     match word {
-        "text" => texts::text(alloc, rest),
-        "symbols" => texts::symbols(alloc, rest),
-        "relative-text" => texts::relative_text(alloc, rest),
-        "label" => texts::label(alloc, rest),
-        "symbol" => texts::symbol(alloc, rest),
-        "octet" => texts::octet(alloc, rest),
-        "address" => texts::address(alloc, rest),
-        "message" => messages::message(alloc, rest),
-        "message-name" => messages::message_name(alloc, rest),
-        "suffixes" => messages::suffixes(alloc, rest),
-        "parent" => messages::parent(alloc, rest),
-        "numbers" => wire_numbers::numbers(alloc, rest),
-        "seek" => wire_numbers::seek(alloc, rest),
-        "serials" => wire_numbers::serials(alloc, rest),
-        "later" => wire_numbers::later(alloc, rest),
-        _ => answer_of_parts(alloc, word, rest),
-    }
-}
-
-/// As `answer_to`, of parts of names.
-fn answer_of_parts(alloc: Global, word: &str, rest: &str) -> Option<String> {
-    match word {
-        "parts" => parts::parts(alloc, rest),
-        "relative-parts" => parts::relative_parts(alloc, rest),
-        "first" => parts::first(alloc, rest),
-        "relative-first" => parts::relative_first(alloc, rest),
-        "cut" => parts::cut(alloc, rest),
-        "relative-cut" => parts::relative_cut(alloc, rest),
-        "turns" => parts::turns(alloc, rest),
-        "flat-turns" => parts::flat_turns(alloc, rest),
-        "relative-turns" => parts::relative_turns(alloc, rest),
-        "along" => parts::along(alloc, rest),
-        "split" => parts::split(alloc, rest),
-        "octets" => parts::label_of(alloc, rest),
-        _ => None,
+        "pair" | "relative-pair" | "label-pair" | "chain" | "strip" | "strip-relative" => {
+            let (first, second) = (octets_of(alloc, first)?, octets_of(alloc, rest)?);
+            orders::answer_to(alloc, answer, word, &first, &second)
+        }
+        "cut" | "relative-cut" | "seek" => {
+            let (begin, end) = rest.split_once(' ')?;
+            let (begin, end) = (begin.parse().ok()?, end.parse().ok()?);
+            parts::answer_between(answer, word, octets_of(alloc, first)?, begin, end)
+        }
+        "flat-turns" | "relative-turns" => {
+            parts::answer_by_turns(answer, word, first, &octets_of(alloc, rest)?)
+        }
+        "name" => flat::name(alloc, answer, &octets_of(alloc, line)?),
+        "relative" => flat::relative(alloc, answer, &octets_of(alloc, line)?),
+        "numbers" => wire_numbers::numbers(alloc, answer, &octets_of(alloc, line)?),
+        _ => parts::answer_to(answer, word, &octets_of(alloc, line)?),
     }
 }
 

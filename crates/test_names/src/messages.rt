@@ -1,10 +1,64 @@
 //! Names in messages (RFC 1035, 4.1.4).
 
-use crate::answer::{Answer, text_of};
-use crate::flat::{flattened, told};
-use crate::octets::message_of;
-use names::{Labels, ParseError, ParsedName, Parser, ToName};
+use crate::flat::told;
+use crate::orders::pair;
+use crate::parts::by_turns;
+use crate::said::{self, is_name};
+use names::{FlattenInto, Label, Labels, ParseError, ParsedName, Parser, ToLabelIter, ToName};
 use std::alloc::Global;
+use test_lines::{Answer, octets_of};
+
+/// Answers a line of a message in hexadecimal digits and a place in it; in front of them turns or another name may stand.
+pub fn answer_to(
+    alloc: Global,
+    answer: &mut Answer,
+    word: &str,
+    front: &str,
+    line: &str,
+) -> Option<()> {
+    let (message, place) = line.split_once(' ')?;
+    let (message, place) = (octets_of(alloc, message)?, place.parse().ok()?);
+    match word {
+        "message" => whole(alloc, answer, &message, place),
+        "along" => along(alloc, answer, &message, place),
+        _ => {
+            let (name, _) = read(&message, place).ok()?;
+            answer_to_name(alloc, answer, word, front, name)
+        }
+    }
+}
+
+/// Answers what is asked of the name at a place of a message.
+fn answer_to_name(
+    alloc: Global,
+    answer: &mut Answer,
+    word: &str,
+    front: &str,
+    name: ParsedName<'_>,
+) -> Option<()> {
+    match word {
+        "message-name" => {
+            let flat = name.to_vec(alloc).ok()?;
+            answer.check(is_name::<Vec<u8>, _>(name.flatten_into(alloc), flat.as_slice()));
+            answer.check(name.ref_octets() == name.deref_octets());
+            answer.check(name.last().is_root());
+            told(alloc, answer, &name)
+        }
+        "message-pair" => pair(alloc, answer, &name, &octets_of(alloc, front)?),
+        "turns" => {
+            by_turns(answer, front, name.iter(), name.iter_labels());
+            Some(())
+        }
+        "suffixes" => {
+            suffixes(answer, front, name);
+            Some(())
+        }
+        _ => {
+            parent(answer, name);
+            Some(())
+        }
+    }
+}
 
 /// What is read at a place of a message, and the place behind it.
 fn read(message: &[u8], place: usize) -> Result<(ParsedName<'_>, usize), ParseError> {
@@ -53,95 +107,74 @@ fn shortest(message: &[u8], place: usize) -> Option<usize> {
 
 /// The octets of the name at a place of a message, the place behind it when it is read and when it is passed over, how
 /// long a beginning of the message has to be, and whether it goes through pointers; or the faults of both.
-pub fn message(alloc: Global, line: &str) -> Option<String> {
-    let (message, place) = message_of(alloc, line)?;
-    let mut answer = Answer::new(alloc);
-    match read(&message, place) {
+fn whole(alloc: Global, answer: &mut Answer, message: &[u8], place: usize) -> Option<()> {
+    match read(message, place) {
         Ok((name, end)) => {
-            answer.octets(name.to_vec(alloc).ok()?.as_slice())?;
-            answer.value(&end)?;
-            answer.value(&skip(&message, place).ok()?)?;
-            answer.value(&shortest(&message, place)?)?;
+            said::name(answer, name.to_vec(alloc));
+            answer.value(&end);
+            answer.value(&skip(message, place).ok()?);
+            answer.value(&shortest(message, place)?);
             answer.word(if name.is_compressed() {
                 "pointers"
             } else {
                 "row"
-            })?;
+            });
         }
         Err(error) => {
-            answer.value(&error)?;
-            answer.word("|")?;
-            answer.word(&passed(alloc, &message, place)?)?;
-            if shortest(&message, place).is_some() || !stays(&message, place) {
-                return None;
-            }
+            answer.value(&error);
+            answer.word("|");
+            said::value(answer, skip(message, place));
+            answer.check(shortest(message, place).is_none());
+            answer.check(stays(message, place));
         }
     }
-    answer.done()
+    Some(())
 }
 
-/// The place behind what is passed over, or the fault.
-fn passed(alloc: Global, message: &[u8], place: usize) -> Option<String> {
-    match skip(message, place) {
-        Ok(end) => text_of(alloc, &end),
-        Err(error) => text_of(alloc, &error),
+/// The labels along a message from a place on, through pointers, and how many there are.
+fn along(alloc: Global, answer: &mut Answer, message: &[u8], place: usize) -> Option<()> {
+    let (mut labels, mut count) = (Answer::new(alloc), 0usize);
+    for label in Label::iter_slice(message, place) {
+        labels.octets(label.as_slice());
+        count = count.saturating_add(1);
     }
+    answer.value(&count);
+    answer.append(labels);
+    Some(())
 }
 
-/// What is told of the name at a place of a message.
-pub fn message_name(alloc: Global, line: &str) -> Option<String> {
-    let (message, place) = message_of(alloc, line)?;
-    let (name, _) = read(&message, place).ok()?;
-    let is_same = flattened(alloc, name)?.as_slice() == name.to_vec(alloc).ok()?.as_slice()
-        && name.ref_octets() == name.deref_octets()
-        && name.last().is_root();
-    if !is_same {
-        return None;
-    }
-    told(alloc, &name)
-}
-
-/// The names that the one at a place ends with, the next from the front at each `f` and from the end at each `b`: of each
-/// the row that its labels are, or how many they are through pointers.
-pub fn suffixes(alloc: Global, line: &str) -> Option<String> {
-    let (turns, rest) = line.split_once(' ')?;
-    let (message, place) = message_of(alloc, rest)?;
-    let (name, _) = read(&message, place).ok()?;
+/// The names that the one at a place ends with, the next from the front at each `f` and from the end at each `b`.
+fn suffixes(answer: &mut Answer, turns: &str, name: ParsedName<'_>) {
     let mut suffixes = name.iter_suffixes();
-    let mut answer = Answer::new(alloc);
     for turn in turns.chars() {
         let suffix = match turn {
             'f' => suffixes.next(),
             _ => suffixes.next_back(),
         };
-        match suffix {
-            Some(suffix) => push_row(&mut answer, suffix)?,
-            None => answer.word("none")?,
-        }
-    }
-    answer.done()
-}
-
-fn push_row(answer: &mut Answer, name: ParsedName<'_>) -> Option<()> {
-    match name.label_row() {
-        Some(row) => answer.octets(row),
-        None => answer.value(&name.label_count()),
+        row(answer, suffix);
     }
 }
 
-/// The first label of the name at a place, and the name without it by two functions, as `suffixes` says it; or that there is
-/// none.
-pub fn parent(alloc: Global, line: &str) -> Option<String> {
-    let (message, place) = message_of(alloc, line)?;
-    let (name, _) = read(&message, place).ok()?;
-    let mut answer = Answer::new(alloc);
+/// The row that the labels of a name are, or how many they are through pointers; or that there is no name.
+fn row(answer: &mut Answer, name: Option<ParsedName<'_>>) {
+    match name {
+        Some(name) => match name.label_row() {
+            Some(row) => answer.octets(row),
+            None => answer.value(&name.label_count()),
+        },
+        None => answer.word("none"),
+    }
+}
+
+/// The first label of the name at a place, and the name without it by two functions; or that there is none.
+fn parent(answer: &mut Answer, name: ParsedName<'_>) {
     match name.split_first() {
         Some((label, rest)) => {
-            answer.octets(label.as_slice())?;
-            push_row(&mut answer, rest)?;
-            push_row(&mut answer, name.parent()?)?;
+            answer.octets(label.as_slice());
+            row(answer, Some(rest));
+            answer.check(name.parent().is_some());
+            row(answer, name.parent());
         }
-        None => answer.yes(name.parent().is_some())?,
+        None => answer.yes(name.parent().is_some()),
     }
-    answer.done()
 }

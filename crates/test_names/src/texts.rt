@@ -1,31 +1,60 @@
 //! Texts of names, of labels and of symbols (RFC 1035, 5.1).
 
-use crate::answer::{Answer, text_of};
-use names::{
-    FromStrError, LabelFromStrError, Name, OwnedLabel, RelativeFromStrError, RelativeName, Symbol,
-};
+use crate::said;
+use names::{LabelFromStrError, Name, OwnedLabel, RelativeName, Symbol};
 use std::alloc::Global;
 use std::net::IpAddr;
-use test_lines::printed;
+use test_lines::Answer;
 
-/// The octets of the name that a text spells, read from the text, its characters and its symbols; or the fault of the text.
-pub fn text(alloc: Global, text: &str) -> Option<String> {
-    let read = name_or_fault(alloc, Name::vec_from_str(alloc, text))?;
-    let from_chars = name_or_fault(alloc, Name::from_chars(alloc, text.chars()))?;
-    if read == from_chars { Some(read) } else { None }
-}
-
-fn name_or_fault(alloc: Global, read: Result<Name<Vec<u8>>, FromStrError>) -> Option<String> {
-    match read {
-        Ok(name) => printed(alloc, name.as_slice()),
-        Err(error) => text_of(alloc, &error),
+/// Answers a line of a text: what is read of it is read in two ways, of the text and of its characters.
+pub fn answer_to(alloc: Global, answer: &mut Answer, word: &str, text: &str) -> Option<()> {
+    match word {
+        "text" => {
+            let mut again = Answer::new(alloc);
+            said::name(answer, Name::vec_from_str(alloc, text));
+            said::name(&mut again, Name::from_chars(alloc, text.chars()));
+            answer.check_same(again);
+        }
+        "relative-text" => {
+            let mut again = Answer::new(alloc);
+            said::relative(answer, RelativeName::vec_from_str(alloc, text));
+            said::relative(&mut again, RelativeName::from_chars(alloc, text.chars()));
+            answer.check_same(again);
+        }
+        "label" => {
+            let mut again = Answer::new(alloc);
+            label(answer, text.parse());
+            label(&mut again, OwnedLabel::from_chars(text.chars()));
+            answer.check_same(again);
+        }
+        "symbols" => {
+            let symbols = symbols_of(alloc, text)?;
+            said::name(answer, Name::from_symbols(alloc, symbols.into_iter()));
+        }
+        "symbol" => said::value(answer, Symbol::Char(text.chars().next()?).into_octet()),
+        "octet" => {
+            let octet = text.parse::<u8>().ok()?;
+            let symbol = Symbol::from_octet(octet);
+            answer.check(symbol.into_octet() == Ok(octet));
+            answer.value(&symbol);
+        }
+        _ => said::value(
+            answer,
+            Name::reverse_from_addr(alloc, text.parse::<IpAddr>().ok()?),
+        ),
     }
+    Some(())
 }
 
-/// The octets of the name whose symbols these are.
-pub fn symbols(alloc: Global, text: &str) -> Option<String> {
-    let symbols = symbols_of(alloc, text)?;
-    name_or_fault(alloc, Name::from_symbols(alloc, symbols.into_iter()))
+/// The octets of a label, and its text when it is printed; or the fault of the text.
+fn label(answer: &mut Answer, read: Result<OwnedLabel, LabelFromStrError>) {
+    match read {
+        Ok(label) => {
+            answer.octets(label.as_label().as_slice());
+            answer.value(&label);
+        }
+        Err(error) => answer.value(&error),
+    }
 }
 
 /// Symbols, joined by commas: a character, a character behind a backslash, or three digits behind one.
@@ -46,66 +75,4 @@ fn symbol_of(word: &str) -> Option<Symbol> {
         [value] => Some(Symbol::SimpleEscape(*value)),
         _ => Some(Symbol::DecimalEscape(behind.parse().ok()?)),
     }
-}
-
-/// As `text`, of relative names; the empty text spells the empty one.
-pub fn relative_text(alloc: Global, text: &str) -> Option<String> {
-    let read = relative_or_fault(alloc, RelativeName::vec_from_str(alloc, text))?;
-    let from_chars = relative_or_fault(alloc, RelativeName::from_chars(alloc, text.chars()))?;
-    if read == from_chars { Some(read) } else { None }
-}
-
-fn relative_or_fault(
-    alloc: Global,
-    read: Result<RelativeName<Vec<u8>>, RelativeFromStrError>,
-) -> Option<String> {
-    let mut answer = Answer::new(alloc);
-    match read {
-        Ok(name) => answer.octets(name.as_slice())?,
-        Err(error) => answer.value(&error)?,
-    }
-    answer.done()
-}
-
-/// The octets of the label that a text spells, and its text when it is printed, by two functions; or the fault of the text.
-pub fn label(alloc: Global, text: &str) -> Option<String> {
-    let read = label_or_fault(alloc, OwnedLabel::from_chars(text.chars()))?;
-    let parsed = label_or_fault(alloc, text.parse::<OwnedLabel>())?;
-    if read == parsed { Some(read) } else { None }
-}
-
-fn label_or_fault(alloc: Global, read: Result<OwnedLabel, LabelFromStrError>) -> Option<String> {
-    let mut answer = Answer::new(alloc);
-    match read {
-        Ok(label) => {
-            answer.octets(label.as_label().as_slice())?;
-            answer.value(&label)?;
-        }
-        Err(error) => answer.value(&error)?,
-    }
-    answer.done()
-}
-
-/// The octet of a character that is a symbol, or its fault.
-pub fn symbol(alloc: Global, text: &str) -> Option<String> {
-    match Symbol::Char(text.chars().next()?).into_octet() {
-        Ok(octet) => text_of(alloc, &octet),
-        Err(error) => text_of(alloc, &error),
-    }
-}
-
-/// The symbol that an octet is printed as, if it is that of the octet.
-pub fn octet(alloc: Global, text: &str) -> Option<String> {
-    let octet = text.parse::<u8>().ok()?;
-    let symbol = Symbol::from_octet(octet);
-    if symbol.into_octet() != Ok(octet) {
-        return None;
-    }
-    text_of(alloc, &symbol)
-}
-
-/// The name of an address.
-pub fn address(alloc: Global, text: &str) -> Option<String> {
-    let name = Name::reverse_from_addr(alloc, text.parse::<IpAddr>().ok()?);
-    text_of(alloc, &name.ok()?)
 }

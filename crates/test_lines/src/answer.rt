@@ -1,0 +1,98 @@
+//! An answer while it is made.
+
+use crate::answering::{order_word, printed, push_word, yes_or_no};
+use std::alloc::Global;
+use std::cmp::Ordering;
+use std::fmt::Display;
+
+/// Words, one blank apart. Once memory is lacking for one of them, or something doesn't hold that has to, there is no
+/// answer, whatever is added.
+#[derive(Drop)]
+pub struct Answer {
+    alloc: Global,
+    text: Option<String>,
+}
+
+impl Answer {
+    pub fn new(alloc: Global) -> Answer {
+        Answer {
+            alloc,
+            text: Some(String::new(alloc)),
+        }
+    }
+
+    pub fn word(&mut self, word: &str) {
+        if let Some(text) = &mut self.text {
+            if push_word(text, word).is_none() {
+                self.text = None;
+            }
+        }
+    }
+
+    /// Puts a text right behind the last word.
+    pub fn mark(&mut self, mark: &str) {
+        if let Some(text) = &mut self.text {
+            if text.push_str(mark).is_err() {
+                self.text = None;
+            }
+        }
+    }
+
+    /// What is printed of a value.
+    pub fn value<D: Display>(&mut self, value: &D) {
+        match value.to_string(self.alloc) {
+            Ok(text) => self.word(&text),
+            Err(_) => self.text = None,
+        }
+    }
+
+    /// Hexadecimal digits; `-` for no octets.
+    pub fn octets(&mut self, octets: &[u8]) {
+        match printed(self.alloc, octets) {
+            Some(text) => self.word(&text),
+            None => self.text = None,
+        }
+    }
+
+    /// Why something was refused.
+    pub fn refused<D: Display>(&mut self, fault: &D) {
+        self.word("refused:");
+        self.value(fault)
+    }
+
+    pub fn order(&mut self, order: Ordering) {
+        self.word(order_word(order))
+    }
+
+    pub fn yes(&mut self, holds: bool) {
+        self.word(yes_or_no(holds))
+    }
+
+    /// Leaves no answer where something doesn't hold.
+    pub fn check(&mut self, holds: bool) {
+        if !holds {
+            self.text = None;
+        }
+    }
+
+    /// Leaves no answer where another is not the same, or is none.
+    pub fn check_same(&mut self, other: Answer) {
+        if self.text != other.text || other.text.is_none() {
+            self.text = None;
+        }
+    }
+
+    /// Adds the words of another answer, if it has any.
+    pub fn append(&mut self, other: Answer) {
+        match other.done() {
+            Some(text) if text.is_empty() => {}
+            Some(text) => self.word(&text),
+            None => self.text = None,
+        }
+    }
+
+    pub fn done(self) -> Option<String> {
+        let Answer { alloc: _, text } = self;
+        text
+    }
+}
