@@ -1,31 +1,70 @@
 //! An answer while it is made.
 
-use crate::answering::{order_word, printed, push_word, yes_or_no};
+use crate::answering::{order_word, printed, yes_or_no};
 use std::alloc::Global;
 use std::cmp::Ordering;
 use std::fmt::Display;
 
-/// Words, one blank apart. Once memory is lacking for one of them, or something doesn't hold that has to, there is no
-/// answer, whatever is added.
+/// What stands between two words.
+#[derive(Clone, Copy)]
+pub enum Between {
+    Blank,
+    Comma,
+    CommaAndBlank,
+}
+
+impl Between {
+    fn text(self) -> &'static str {
+        match self {
+            Between::Blank => " ",
+            Between::Comma => ",",
+            Between::CommaAndBlank => ", ",
+        }
+    }
+}
+
+/// Words, something between two. Once memory is lacking for one of them, or something doesn't hold that has to, there is
+/// no answer, whatever is added.
 #[derive(Drop)]
 pub struct Answer {
     alloc: Global,
+    between: Between,
     text: Option<String>,
 }
 
 impl Answer {
+    /// Words, one blank apart.
     pub fn new(alloc: Global) -> Answer {
+        Answer::list(alloc, Between::Blank)
+    }
+
+    /// Words with this between two.
+    pub fn list(alloc: Global, between: Between) -> Answer {
         Answer {
             alloc,
+            between,
             text: Some(String::new(alloc)),
         }
     }
 
+    fn is_empty(&self) -> bool {
+        match &self.text {
+            Some(text) => text.is_empty(),
+            None => false,
+        }
+    }
+
     pub fn word(&mut self, word: &str) {
-        if let Some(text) = &mut self.text {
-            if push_word(text, word).is_none() {
-                self.text = None;
-            }
+        if !self.is_empty() {
+            self.mark(self.between.text());
+        }
+        self.mark(word)
+    }
+
+    /// Says a word where none is said yet.
+    pub fn word_if_empty(&mut self, word: &str) {
+        if self.is_empty() {
+            self.mark(word)
         }
     }
 
@@ -92,7 +131,11 @@ impl Answer {
     }
 
     pub fn done(self) -> Option<String> {
-        let Answer { alloc: _, text } = self;
+        let Answer {
+            alloc: _,
+            between: _,
+            text,
+        } = self;
         text
     }
 }

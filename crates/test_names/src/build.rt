@@ -104,10 +104,12 @@ fn steps<B: BuiltOctets>(
 fn built<B: BuiltOctets + Drop>(
     alloc: Global,
     answer: &mut Answer,
-    builders: [NameBuilder<B>; 3],
+    first: NameBuilder<B>,
+    second: NameBuilder<B>,
+    third: NameBuilder<B>,
     line: &str,
 ) -> Option<()> {
-    let [mut first, mut second, mut third] = builders;
+    let (mut first, mut second, mut third) = (first, second, third);
     answer.check(first.is_empty());
     answer.check(second.is_empty());
     steps(alloc, answer, &mut first, line);
@@ -128,35 +130,21 @@ fn build(alloc: Global, answer: &mut Answer, room: &str, line: &str) -> Option<(
     match room {
         "-" => {
             let (first, second) = (NameBuilder::new(alloc), NameBuilder::new_vec(alloc));
-            built(
-                alloc,
-                answer,
-                [first, second, NameBuilder::new(alloc)],
-                line,
-            )
+            built(alloc, answer, first, second, NameBuilder::new(alloc), line)
         }
-        "fixed3" => built(
-            alloc,
-            answer,
-            [fixed::<3>()?, fixed::<3>()?, fixed::<3>()?],
-            line,
-        ),
-        "fixed4" => built(
-            alloc,
-            answer,
-            [fixed::<4>()?, fixed::<4>()?, fixed::<4>()?],
-            line,
-        ),
+        "fixed3" => {
+            let (first, second) = (fixed::<3>()?, fixed::<3>()?);
+            built(alloc, answer, first, second, fixed::<3>()?, line)
+        }
+        "fixed4" => {
+            let (first, second) = (fixed::<4>()?, fixed::<4>()?);
+            built(alloc, answer, first, second, fixed::<4>()?, line)
+        }
         room => {
             let room = room.parse().ok()?;
             let first = NameBuilder::with_capacity(alloc, room).ok()?;
             let second = NameBuilder::vec_with_capacity(alloc, room).ok()?;
-            built(
-                alloc,
-                answer,
-                [first, second, NameBuilder::new(alloc)],
-                line,
-            )
+            built(alloc, answer, first, second, NameBuilder::new(alloc), line)
         }
     }
 }

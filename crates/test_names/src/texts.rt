@@ -70,9 +70,9 @@ fn symbol_of(word: &str) -> Option<Symbol> {
     let Some(behind) = word.strip_prefix('\\') else {
         return Some(Symbol::Char(word.chars().next()?));
     };
-    match behind.as_bytes() {
-        [] => Some(Symbol::Char('\\')),
-        [value] => Some(Symbol::SimpleEscape(*value)),
-        _ => Some(Symbol::DecimalEscape(behind.parse().ok()?)),
+    match behind.as_bytes().first() {
+        None => Some(Symbol::Char('\\')),
+        Some(value) if behind.len() == 1 => Some(Symbol::SimpleEscape(*value)),
+        Some(_) => Some(Symbol::DecimalEscape(behind.parse().ok()?)),
     }
 }

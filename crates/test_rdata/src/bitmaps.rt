@@ -1,113 +1,68 @@
 //! Bitmaps of types.
 
-use crate::data::push_range;
-use crate::words::compared;
 use denial_data::{RtypeBitmap, RtypeBitmapBuilder};
 use names::Rtype;
 use std::alloc::Global;
-use test_lines::{joined, numbers_of, octets_of, printed, refused, yes_or_no};
+use test_lines::{Answer, Between, numbers_of, octets_of};
 
-/// The bitmap of types and the types that it gives, where it is the same built from the last type on.
-pub fn bitmap_of(alloc: Global, text: &str) -> Option<String> {
-    let types = numbers_of(alloc, text)?;
-    let bitmap = built(alloc, &types)?;
-    if built_backwards(alloc, &types)? != bitmap || !has_exactly(&bitmap, &types) {
-        return None;
+/// Answers a line of types, or of a bitmap and types.
+pub fn answer_to(alloc: Global, answer: &mut Answer, asked: &str, line: &str) -> Option<()> {
+    match asked {
+        "bitmap" => bitmap_of(alloc, answer, numbers_of(alloc, line)?),
+        "each" => bitmap_of_each(alloc, answer, line.parse().ok()?),
+        _ => {
+            let (octets, types) = line.split_once(' ')?;
+            let (octets, types) = (octets_of(alloc, octets)?, numbers_of(alloc, types)?);
+            has_types(alloc, answer, &octets, &types)
+        }
     }
-    let octets = printed(alloc, bitmap.as_slice())?;
-    let given = given_types(alloc, &bitmap)?;
-    format!(in alloc; "{octets} {given}").ok()
 }
 
-fn built(alloc: Global, types: &[u16]) -> Option<RtypeBitmap<Vec<u8>>> {
+/// The bitmap of types and the types that it gives, where it is the same built from the last type on, with each type
+/// twice, and is read as a bitmap that has these types, and of their neighbours those that are among them.
+fn bitmap_of(alloc: Global, answer: &mut Answer, types: Vec<u16>) -> Option<()> {
+    let mut types = types;
     let mut builder = RtypeBitmapBuilder::new_vec(alloc);
+    add(&mut builder, &types)?;
+    let bitmap = builder.finalize();
+    types.reverse();
+    let mut builder = RtypeBitmap::builder(alloc);
+    add(&mut builder, &types)?;
+    add(&mut builder, &types)?;
+    answer.check(builder.finalize() == bitmap);
+    check_types(
+        answer,
+        &RtypeBitmap::from_octets(bitmap.as_slice()).ok()?,
+        &types,
+    );
+    answer.octets(bitmap.as_slice());
+    let mut given = Answer::list(alloc, Between::Comma);
+    for rtype in bitmap.iter() {
+        given.value(&rtype.to_int());
+    }
+    given.word_if_empty("-");
+    answer.append(given);
+    Some(())
+}
+
+fn add(builder: &mut RtypeBitmapBuilder<Vec<u8>>, types: &[u16]) -> Option<()> {
     for rtype in types {
         builder.add(Rtype::from_int(*rtype)).ok()?;
     }
-    Some(builder.finalize())
+    Some(())
 }
 
-/// As `built`, the last type first, and each twice.
-fn built_backwards(alloc: Global, types: &[u16]) -> Option<RtypeBitmap<Vec<u8>>> {
-    let mut builder = RtypeBitmap::builder(alloc);
-    for rtype in types.iter().rev() {
-        builder.add(Rtype::from_int(*rtype)).ok()?;
-        builder.add(Rtype::from_int(*rtype)).ok()?;
-    }
-    Some(builder.finalize())
-}
-
-/// Whether the octets are read as a bitmap that has these types, and of their neighbours those that are among them.
-fn has_exactly(bitmap: &RtypeBitmap<Vec<u8>>, types: &[u16]) -> bool {
-    let Ok(read) = RtypeBitmap::from_octets(bitmap.as_slice()) else {
-        return false;
-    };
-    types.iter().all(|rtype| {
+/// Leaves no answer unless a bitmap has types, and of their neighbours those that are among them.
+fn check_types(answer: &mut Answer, bitmap: &RtypeBitmap<&[u8]>, types: &[u16]) {
+    for rtype in types {
         let next = rtype.wrapping_add(1);
-        read.contains(Rtype::from_int(*rtype))
-            && read.contains(Rtype::from_int(next)) == types.contains(&next)
-    })
-}
-
-/// The types that a bitmap gives, joined by commas; `-` where it gives none.
-fn given_types(alloc: Global, bitmap: &RtypeBitmap<Vec<u8>>) -> Option<String> {
-    let mut types = Vec::new(alloc);
-    for rtype in bitmap.iter() {
-        types.push(rtype.to_int()).ok()?;
+        answer.check(bitmap.contains(Rtype::from_int(*rtype)));
+        answer.check(bitmap.contains(Rtype::from_int(next)) == types.contains(&next));
     }
-    joined(alloc, &types, ",")
-}
-
-/// The types of a bitmap as text, how many octets it has, whether data may hold them and whether they are none.
-pub fn types_of(alloc: Global, octets: &str) -> Option<String> {
-    let octets = octets_of(alloc, octets)?;
-    let bitmap = match RtypeBitmap::from_octets(octets.as_slice()) {
-        Ok(bitmap) => bitmap,
-        Err(error) => return refused(alloc, &error),
-    };
-    if !bitmap.fits_rdlen() {
-        return None;
-    }
-    let (len, is_empty) = (bitmap.compose_len(), yes_or_no(bitmap.is_empty()));
-    format!(in alloc; "{len}, none {is_empty}: {bitmap}").ok()
-}
-
-/// Whether a bitmap has types.
-pub fn has_types(alloc: Global, line: &str) -> Option<String> {
-    let (octets, types) = line.split_once(' ')?;
-    let octets = octets_of(alloc, octets)?;
-    let bitmap = RtypeBitmap::from_octets(octets.as_slice()).ok()?;
-    let mut found = Vec::new(alloc);
-    for rtype in &numbers_of(alloc, types)? {
-        let has_type = bitmap.contains(Rtype::from_int(*rtype));
-        found.push(yes_or_no(has_type)).ok()?;
-    }
-    joined(alloc, &found, ",")
-}
-
-/// How many octets from the front on are a bitmap: ranges, joined by commas.
-pub fn accepted_lengths(alloc: Global, octets: &str) -> Option<String> {
-    let octets = octets_of(alloc, octets)?;
-    let mut text = String::new(alloc);
-    for len in 0..=octets.len() {
-        if RtypeBitmap::from_octets(octets.get(..len)?).is_ok() {
-            push_range(alloc, &mut text, Some((len, len)))?;
-        }
-    }
-    Some(text)
-}
-
-/// How a bitmap stands to another.
-pub fn bitmaps(alloc: Global, line: &str) -> Option<String> {
-    let (first, second) = line.split_once(' ')?;
-    let (first, second) = (octets_of(alloc, first)?, octets_of(alloc, second)?);
-    let first = RtypeBitmap::from_octets(first).ok()?;
-    compared(alloc, &first, &RtypeBitmap::from_octets(second).ok()?)
 }
 
 /// The bitmap of the types that are multiples of a number.
-pub fn bitmap_of_each(alloc: Global, step: &str) -> Option<String> {
-    let step = step.parse::<u16>().ok()?;
+fn bitmap_of_each(alloc: Global, answer: &mut Answer, step: u16) -> Option<()> {
     let mut builder = RtypeBitmap::builder(alloc);
     let mut rtype = Some(0u16);
     for _ in 0..=u16::MAX {
@@ -117,5 +72,44 @@ pub fn bitmap_of_each(alloc: Global, step: &str) -> Option<String> {
         builder.add(Rtype::from_int(number)).ok()?;
         rtype = number.checked_add(step);
     }
-    printed(alloc, builder.finalize().as_slice())
+    answer.octets(builder.finalize().as_slice());
+    Some(())
+}
+
+/// Whether a bitmap has types.
+fn has_types(alloc: Global, answer: &mut Answer, octets: &[u8], types: &[u16]) -> Option<()> {
+    let bitmap = RtypeBitmap::from_octets(octets).ok()?;
+    let mut found = Answer::list(alloc, Between::Comma);
+    for rtype in types {
+        found.yes(bitmap.contains(Rtype::from_int(*rtype)));
+    }
+    answer.append(found);
+    Some(())
+}
+
+/// The types of a bitmap as text, how many octets it has, whether data may hold them and whether they are none.
+pub fn types_of(answer: &mut Answer, octets: &[u8]) {
+    match RtypeBitmap::from_octets(octets) {
+        Ok(bitmap) => {
+            answer.check(bitmap.fits_rdlen());
+            answer.value(&bitmap.compose_len());
+            answer.mark(", none");
+            answer.yes(bitmap.is_empty());
+            answer.mark(":");
+            answer.value(&bitmap);
+        }
+        Err(error) => answer.refused(&error),
+    }
+}
+
+/// How many octets from the front on are a bitmap: numbers, joined by commas.
+pub fn accepted_lengths(alloc: Global, answer: &mut Answer, octets: &[u8]) -> Option<()> {
+    let mut lengths = Answer::list(alloc, Between::Comma);
+    for len in 0..=octets.len() {
+        if RtypeBitmap::from_octets(octets.get(..len)?).is_ok() {
+            lengths.value(&len);
+        }
+    }
+    answer.append(lengths);
+    Some(())
 }

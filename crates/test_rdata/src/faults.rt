@@ -5,41 +5,41 @@ use denial_data::{
     OwnerHashFromStrError, RtypeBitmapError,
 };
 use plain::base32hex::DecodeError;
-use std::alloc::Global;
-use test_lines::joined;
+use std::fmt::Display;
+use test_lines::Answer;
 
 /// The texts of the faults of a kind, one behind another.
-pub fn faults(alloc: Global, kind: &str) -> Option<String> {
+pub fn faults(answer: &mut Answer, kind: &str) -> Option<()> {
     match kind {
-        "time" => joined(alloc, &[IllegalSignatureTime], "; "),
-        "salt" => joined(alloc, &[Nsec3SaltError], "; "),
-        "hash" => joined(alloc, &[OwnerHashError], "; "),
-        "bitmap" => joined(alloc, &bitmap_errors(), "; "),
-        "salt-text" => joined(alloc, &salt_errors(), "; "),
-        "hash-text" => joined(alloc, &hash_errors(), "; "),
-        "digits" => joined(alloc, &[DecodeError::BadChar(2), DecodeError::Memory], "; "),
-        _ => None,
+        "time" => answer.value(&IllegalSignatureTime),
+        "salt" => answer.value(&Nsec3SaltError),
+        "hash" => answer.value(&OwnerHashError),
+        "bitmap" => {
+            answer.value(&RtypeBitmapError::BadRtypeBitmap);
+            one_more(answer, RtypeBitmapError::ShortInput);
+        }
+        "salt-text" => {
+            answer.value(&Nsec3SaltFromStrError::Nsec3SaltError(Nsec3SaltError));
+            one_more(answer, Nsec3SaltFromStrError::Memory);
+        }
+        "hash-text" => {
+            answer.value(&OwnerHashFromStrError::DecodeError(DecodeError::BadChar(2)));
+            one_more(
+                answer,
+                OwnerHashFromStrError::OwnerHashError(OwnerHashError),
+            );
+            one_more(answer, OwnerHashFromStrError::Memory);
+        }
+        "digits" => {
+            answer.value(&DecodeError::BadChar(2));
+            one_more(answer, DecodeError::Memory);
+        }
+        _ => return None,
     }
+    Some(())
 }
 
-fn bitmap_errors() -> [RtypeBitmapError; 2] {
-    [
-        RtypeBitmapError::BadRtypeBitmap,
-        RtypeBitmapError::ShortInput,
-    ]
-}
-
-fn salt_errors() -> [Nsec3SaltFromStrError; 2] {
-    [
-        Nsec3SaltFromStrError::Nsec3SaltError(Nsec3SaltError),
-        Nsec3SaltFromStrError::Memory,
-    ]
-}
-
-fn hash_errors() -> [OwnerHashFromStrError; 3] {
-    [
-        OwnerHashFromStrError::DecodeError(DecodeError::BadChar(2)),
-        OwnerHashFromStrError::OwnerHashError(OwnerHashError),
-        OwnerHashFromStrError::Memory,
-    ]
+fn one_more<E: Display + Drop>(answer: &mut Answer, fault: E) {
+    answer.mark(";");
+    answer.value(&fault);
 }

@@ -1,133 +1,110 @@
 //! Times, salts, hashes, and texts in base32hex.
 
-use crate::words::compared;
 use denial_data::{Nsec3Salt, OwnerHash, Timestamp};
-use names::{CanonicalOrd, Parser};
+use names::CanonicalOrd;
 use plain::base32hex;
 use std::alloc::Global;
+use std::fmt::Display;
 use std::str::FromStr;
-use test_lines::{octets_of, order_word, printed, refused, text};
+use test_lines::Answer;
 
-/// The moment that seconds say near a reference.
-pub fn near(alloc: Global, line: &str) -> Option<String> {
-    let (seconds, reference) = line.split_once(' ')?;
-    let time = Timestamp::from(seconds.parse::<u32>().ok()?);
-    match time.to_system_time(reference.parse::<u64>().ok()?) {
-        Some(moment) => moment.to_string(alloc).ok(),
-        None => text(alloc, "none"),
+/// Answers a line of a text.
+pub fn answer_to(alloc: Global, answer: &mut Answer, asked: &str, text: &str) -> Option<()> {
+    match asked {
+        "time-text" => time(alloc, answer, Timestamp::from_str(text)),
+        "salt" => salt_from(alloc, answer, text),
+        "owner-hash" => hash_from(alloc, answer, text),
+        "base32hex" => match base32hex::decode(alloc, text) {
+            Ok(octets) => answer.octets(&octets),
+            Err(error) => answer.refused(&error),
+        },
+        _ => return None,
     }
+    Some(())
 }
 
-/// A time of octets, written again.
-pub fn time_of(alloc: Global, octets: &str) -> Option<String> {
-    let octets = octets_of(alloc, octets)?;
-    match Timestamp::parse(&mut Parser::from_ref(&octets)) {
-        Ok(time) => time_text(alloc, time),
-        Err(error) => refused(alloc, &error),
-    }
-}
-
-/// A time of text.
-pub fn time_from(alloc: Global, text: &str) -> Option<String> {
-    match Timestamp::from_str(text) {
-        Ok(time) => time_text(alloc, time),
-        Err(error) => refused(alloc, &error),
-    }
-}
-
-fn time_text(alloc: Global, time: Timestamp) -> Option<String> {
-    let mut octets = Vec::new(alloc);
-    time.compose(&mut octets).ok()?;
-    let (octets, number) = (printed(alloc, &octets)?, time.into_int());
-    let len = Timestamp::COMPOSE_LEN;
-    format!(in alloc; "{time} {number} {octets} of {len}").ok()
-}
-
-/// How a time stands to another, as serial numbers and in canonical order.
-pub fn times(alloc: Global, line: &str) -> Option<String> {
+/// Answers a line of two numbers: the moment that seconds say near a reference; or how a time stands to another, as
+/// serial numbers and in canonical order.
+pub fn answer_to_numbers(answer: &mut Answer, asked: &str, line: &str) -> Option<()> {
     let (first, second) = line.split_once(' ')?;
-    let first = Timestamp::from(first.parse::<u32>().ok()?);
-    let second = Timestamp::from(second.parse::<u32>().ok()?);
-    let order = match first.partial_cmp(&second) {
-        Some(order) => order_word(order),
-        None => "none",
-    };
-    let canonical = order_word(first.canonical_cmp(&second));
-    format!(in alloc; "{order} {canonical}").ok()
+    let time = Timestamp::from(first.parse::<u32>().ok()?);
+    if asked == "near" {
+        match time.to_system_time(second.parse::<u64>().ok()?) {
+            Some(moment) => answer.value(&moment),
+            None => answer.word("none"),
+        }
+        return Some(());
+    }
+    let other = Timestamp::from(second.parse::<u32>().ok()?);
+    match time.partial_cmp(&other) {
+        Some(order) => answer.order(order),
+        None => answer.word("none"),
+    }
+    answer.order(time.canonical_cmp(&other));
+    Some(())
+}
+
+/// A time, its number, and its octets; or why it was not read.
+pub fn time<E: Display + Drop>(alloc: Global, answer: &mut Answer, read: Result<Timestamp, E>) {
+    match read {
+        Ok(time) => {
+            let mut octets = Vec::new(alloc);
+            answer.check(time.compose(&mut octets).is_ok());
+            answer.value(&time);
+            answer.value(&time.into_int());
+            answer.octets(&octets);
+            answer.word("of");
+            answer.value(&Timestamp::COMPOSE_LEN);
+        }
+        Err(error) => answer.refused(&error),
+    }
 }
 
 /// The salt of a text: its octets, and its text.
-pub fn salt_from(alloc: Global, text: &str) -> Option<String> {
+fn salt_from(alloc: Global, answer: &mut Answer, text: &str) {
     match Nsec3Salt::from_str(alloc, text) {
         Ok(salt) => {
-            let octets = printed(alloc, salt.as_slice())?;
-            let empty = if salt == Nsec3Salt::empty(alloc) {
-                ", empty"
-            } else {
-                ""
-            };
-            format!(in alloc; "{octets} {salt}{empty}").ok()
+            answer.octets(salt.as_slice());
+            answer.value(&salt);
+            if salt == Nsec3Salt::empty(alloc) {
+                answer.mark(", empty");
+            }
         }
-        Err(error) => refused(alloc, &error),
+        Err(error) => answer.refused(&error),
     }
 }
 
 /// How many octets a salt has, and how many one may have.
-pub fn salt_of(alloc: Global, octets: &str) -> Option<String> {
-    let octets = octets_of(alloc, octets)?;
-    match Nsec3Salt::from_slice(&octets) {
+pub fn salt_of(answer: &mut Answer, octets: &[u8]) {
+    match Nsec3Salt::from_slice(octets) {
         Ok(salt) => {
-            let (len, most) = (salt.as_slice().len(), Nsec3Salt::<&[u8]>::MAX_LEN);
-            format!(in alloc; "{len} of {most}").ok()
+            answer.value(&salt.as_slice().len());
+            answer.word("of");
+            answer.value(&Nsec3Salt::<&[u8]>::MAX_LEN);
         }
-        Err(error) => refused(alloc, &error),
+        Err(error) => answer.refused(&error),
     }
 }
 
-/// How a salt stands to another.
-pub fn salts(alloc: Global, line: &str) -> Option<String> {
-    let (first, second) = line.split_once(' ')?;
-    let (first, second) = (octets_of(alloc, first)?, octets_of(alloc, second)?);
-    let first = Nsec3Salt::from_slice(&first).ok()?;
-    compared(alloc, &first, &Nsec3Salt::from_slice(&second).ok()?)
-}
-
 /// The hash of a text: its text, and its octets.
-pub fn hash_from(alloc: Global, text: &str) -> Option<String> {
+fn hash_from(alloc: Global, answer: &mut Answer, text: &str) {
     match OwnerHash::from_str(alloc, text) {
         Ok(hash) => {
-            let digits = hash.to_string(alloc).ok()?;
-            let octets = printed(alloc, &hash.into_octets())?;
-            format!(in alloc; "{digits} {octets}").ok()
+            answer.value(&hash);
+            answer.octets(&hash.into_octets());
         }
-        Err(error) => refused(alloc, &error),
+        Err(error) => answer.refused(&error),
     }
 }
 
 /// The text of a hash, and its octets in base32hex.
-pub fn hash_text(alloc: Global, octets: &str) -> Option<String> {
-    let octets = octets_of(alloc, octets)?;
-    match OwnerHash::from_slice(&octets) {
+pub fn hash_text(alloc: Global, answer: &mut Answer, octets: &[u8]) -> Option<()> {
+    match OwnerHash::from_slice(octets) {
         Ok(hash) => {
-            let plain = base32hex::encode(alloc, hash.as_slice()).ok()?;
-            format!(in alloc; "{hash} {plain}").ok()
+            answer.value(&hash);
+            answer.word(&base32hex::encode(alloc, hash.as_slice()).ok()?);
         }
-        Err(error) => refused(alloc, &error),
+        Err(error) => answer.refused(&error),
     }
-}
-
-/// How a hash stands to another.
-pub fn hashes(alloc: Global, line: &str) -> Option<String> {
-    let (first, second) = line.split_once(' ')?;
-    let (first, second) = (octets_of(alloc, first)?, octets_of(alloc, second)?);
-    let first = OwnerHash::from_slice(&first).ok()?;
-    compared(alloc, &first, &OwnerHash::from_slice(&second).ok()?)
-}
-
-/// The octets of text in base32hex.
-pub fn digits(alloc: Global, text: &str) -> Option<String> {
-    match base32hex::decode(alloc, text) {
-        Ok(octets) => printed(alloc, &octets),
-        Err(error) => refused(alloc, &error),
-    }
+    Some(())
 }

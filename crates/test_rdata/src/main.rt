@@ -30,98 +30,114 @@
 #![tactic(auto)]
 
 mod bitmaps;
-mod data;
 mod faults;
 mod fields;
-mod hashes;
 mod keys;
 mod links;
 mod longest;
-mod parts;
-mod signed;
+mod ranges;
+mod signatures;
 mod typed;
-mod words;
 
+use denial_data::{Nsec3Salt, OwnerHash, RtypeBitmap, Timestamp};
+use names::Parser;
 use std::alloc::Global;
 use std::io;
-use test_lines::answer_each_line;
+use test_lines::{Answer, answer_each_line, first_word, octets_of};
+use typed::compared;
 
-/// What is printed behind a line, if it can be read.
-fn answer(alloc: Global, line: &str) -> Option<String> {
+/// Answers a line, if it can be read.
+fn answer_to(alloc: Global, answer: &mut Answer, line: &str) -> Option<()> {
     let (asked, rest) = line.split_once(' ')?;
     match asked {
-        "data" => data::written_again(alloc, rest),
-        "text" | "canonical" | "fault" => typed::asked_of(alloc, asked, rest),
-        "order" => typed::order_of(alloc, rest),
-        "longest" => longest::longest(alloc, rest),
-        "hash" => hashes::hash_of(alloc, rest),
-        "faults" => faults::faults(alloc, rest),
-        "tag" | "digest" | "flags" | "end" => of_keys(alloc, asked, rest),
-        "signed" | "fields" | "same-fields" | "signature" => of_signatures(alloc, asked, rest),
-        "bitmap" | "each" | "types" | "has" | "lengths" | "bitmaps" => {
-            of_bitmaps(alloc, asked, rest)
+        "data" | "text" | "canonical" | "fault" | "order" | "end" => {
+            typed::answer_to(alloc, answer, asked, rest)
         }
-        "renamed" | "nsec-at" | "nsec3" | "rehashed" | "opted" => of_links(alloc, asked, rest),
-        _ => of_fields(alloc, asked, rest),
+        "bitmap" | "each" | "has" => bitmaps::answer_to(alloc, answer, asked, rest),
+        "longest" => longest::longest(alloc, answer, rest),
+        "faults" => faults::faults(answer, rest),
+        "nsec3" => links::nsec3_of(alloc, answer, rest),
+        "near" | "times" => fields::answer_to_numbers(answer, asked, rest),
+        "time-text" | "salt" | "owner-hash" | "base32hex" => {
+            fields::answer_to(alloc, answer, asked, rest)
+        }
+        _ => {
+            let (first, rest) = first_word(rest);
+            answer_to_octets(alloc, answer, asked, &octets_of(alloc, first)?, rest)
+        }
     }
 }
 
-fn of_keys(alloc: Global, asked: &str, rest: &str) -> Option<String> {
+/// Answers a line that begins with octets.
+fn answer_to_octets(
+    alloc: Global,
+    answer: &mut Answer,
+    asked: &str,
+    octets: &[u8],
+    rest: &str,
+) -> Option<()> {
     match asked {
-        "tag" => keys::tag_of(alloc, rest),
-        "digest" => keys::digest_of(alloc, rest),
-        "flags" => parts::flags_of(alloc, rest),
-        _ => parts::taken_out(alloc, rest),
+        "tag" | "flags" => keys::answer_to(answer, asked, octets),
+        "fields" => signatures::fields_of(alloc, answer, octets),
+        "opted" => links::opted(answer, octets),
+        "lengths" => bitmaps::accepted_lengths(alloc, answer, octets),
+        "hash-octets" => fields::hash_text(alloc, answer, octets),
+        "hash" => keys::hash_of(alloc, answer, octets, rest),
+        "signed" => signatures::signed_octets(alloc, answer, octets, rest),
+        "nsec-at" => links::nsec_at(alloc, answer, octets, rest.parse().ok()?),
+        "salt-octets" => {
+            fields::salt_of(answer, octets);
+            Some(())
+        }
+        "types" => {
+            bitmaps::types_of(answer, octets);
+            Some(())
+        }
+        "time" => {
+            fields::time(
+                alloc,
+                answer,
+                Timestamp::parse(&mut Parser::from_ref(octets)),
+            );
+            Some(())
+        }
+        _ => answer_to_two(alloc, answer, asked, octets, &octets_of(alloc, rest)?),
     }
 }
 
-fn of_signatures(alloc: Global, asked: &str, rest: &str) -> Option<String> {
+/// Answers a line of octets, twice.
+fn answer_to_two(
+    alloc: Global,
+    answer: &mut Answer,
+    asked: &str,
+    first: &[u8],
+    second: &[u8],
+) -> Option<()> {
     match asked {
-        "signed" => signed::signed_octets(alloc, rest),
-        "fields" => parts::fields_of(alloc, rest),
-        "same-fields" => parts::are_equal_fields(alloc, rest),
-        _ => parts::resigned(alloc, rest),
-    }
-}
-
-fn of_bitmaps(alloc: Global, asked: &str, rest: &str) -> Option<String> {
-    match asked {
-        "bitmap" => bitmaps::bitmap_of(alloc, rest),
-        "each" => bitmaps::bitmap_of_each(alloc, rest),
-        "types" => bitmaps::types_of(alloc, rest),
-        "has" => bitmaps::has_types(alloc, rest),
-        "lengths" => bitmaps::accepted_lengths(alloc, rest),
-        _ => bitmaps::bitmaps(alloc, rest),
-    }
-}
-
-fn of_links(alloc: Global, asked: &str, rest: &str) -> Option<String> {
-    match asked {
-        "renamed" => links::renamed(alloc, rest),
-        "nsec-at" => links::nsec_at(alloc, rest),
-        "nsec3" => links::nsec3_of(alloc, rest),
-        "rehashed" => links::rehashed(alloc, rest),
-        _ => links::opted(alloc, rest),
-    }
-}
-
-fn of_fields(alloc: Global, asked: &str, rest: &str) -> Option<String> {
-    match asked {
-        "near" => fields::near(alloc, rest),
-        "time" => fields::time_of(alloc, rest),
-        "time-text" => fields::time_from(alloc, rest),
-        "times" => fields::times(alloc, rest),
-        "salt" => fields::salt_from(alloc, rest),
-        "salt-octets" => fields::salt_of(alloc, rest),
-        "salts" => fields::salts(alloc, rest),
-        "owner-hash" => fields::hash_from(alloc, rest),
-        "hash-octets" => fields::hash_text(alloc, rest),
-        "hashes" => fields::hashes(alloc, rest),
-        "base32hex" => fields::digits(alloc, rest),
+        "digest" => keys::digest_of(alloc, answer, first, second),
+        "same-fields" => signatures::are_equal_fields(answer, first, second),
+        "signature" => signatures::resigned(answer, first, second),
+        "renamed" => links::renamed(answer, first, second),
+        "rehashed" => links::rehashed(answer, first, second),
+        "salts" => {
+            let salt = Nsec3Salt::from_slice(first).ok()?;
+            compared(answer, &salt, &Nsec3Salt::from_slice(second).ok()?);
+            Some(())
+        }
+        "hashes" => {
+            let hash = OwnerHash::from_slice(first).ok()?;
+            compared(answer, &hash, &OwnerHash::from_slice(second).ok()?);
+            Some(())
+        }
+        "bitmaps" => {
+            let bitmap = RtypeBitmap::from_octets(first).ok()?;
+            compared(answer, &bitmap, &RtypeBitmap::from_octets(second).ok()?);
+            Some(())
+        }
         _ => None,
     }
 }
 
 fn main(rt: HostRuntime) -> io::Result<()> {
-    answer_each_line(&rt, rt.alloc(), answer)
+    answer_each_line(&rt, rt.alloc(), answer_to)
 }
