@@ -5,7 +5,7 @@ use crate::lives::{Thing, in_report1, in_report2};
 use crate::rows::{Column, keys_in};
 use crate::words::at;
 use keyset::{Error, KeySet, RollState, RollType};
-use std::alloc::{AllocError, Global};
+use std::alloc::Global;
 use std::fmt::Display;
 
 /// What is shown behind a call of a roll.
@@ -22,7 +22,7 @@ pub struct Scene {
 }
 
 /// A wait for what caches may hold.
-#[derive(Clone, Copy, Debug)]
+#[derive(Clone, Copy)]
 struct Wait {
     ttl: u64,
     /// From when on the key set accepts that it is over.
@@ -38,17 +38,18 @@ impl Scene {
         roll: RollType,
         step: &'static str,
         now: u64,
-    ) -> Result<Scene, AllocError> {
-        let present = keys_in(alloc, set, keys, Column::Present)?;
-        let signers = keys_in(alloc, set, keys, Column::SignsKeys)?;
-        Ok(Scene {
+    ) -> Option<Scene> {
+        let mut dnskey = keys_in(alloc, set, keys, Column::Present);
+        dnskey.mark(", signed by");
+        dnskey.append(keys_in(alloc, set, keys, Column::SignsKeys));
+        Some(Scene {
             roll,
             step,
             now,
-            wait: wait_of(set, roll, now)?,
-            ds: keys_in(alloc, set, keys, Column::AtParent)?,
-            dnskey: format!(in alloc; "{present}, signed by {signers}")?,
-            signatures: keys_in(alloc, set, keys, Column::SignsZone)?,
+            wait: wait_of(set.clone().ok()?, roll, now),
+            ds: keys_in(alloc, set, keys, Column::AtParent).done()?,
+            dnskey: dnskey.done()?,
+            signatures: keys_in(alloc, set, keys, Column::SignsZone).done()?,
         })
     }
 
@@ -62,21 +63,21 @@ impl Scene {
 }
 
 /// The wait that a roll is in at a moment: a copy of the set is asked how long it still is.
-fn wait_of(set: &KeySet, roll: RollType, now: u64) -> Result<Option<Wait>, AllocError> {
-    let mut copy = set.clone()?;
-    let (ttl, ended) = match set.rollstates().get(&roll) {
-        Some(RollState::CacheExpire1(ttl)) => (*ttl, copy.cache_expired1(roll, &at(now))),
-        Some(RollState::CacheExpire2(ttl)) => (*ttl, copy.cache_expired2(roll, &at(now))),
-        _ => return Ok(None),
+fn wait_of(copy: KeySet, roll: RollType, now: u64) -> Option<Wait> {
+    let mut copy = copy;
+    let (ttl, ended) = match copy.rollstates().get(&roll).copied()? {
+        RollState::CacheExpire1(ttl) => (ttl, copy.cache_expired1(roll, &at(now))),
+        RollState::CacheExpire2(ttl) => (ttl, copy.cache_expired2(roll, &at(now))),
+        _ => return None,
     };
     let rest = match ended {
         Err(Error::Wait(rest)) => rest.as_secs(),
         _ => 0,
     };
-    Ok(Some(Wait {
+    Some(Wait {
         ttl: u64::from(ttl),
         end: now.saturating_add(rest),
-    }))
+    })
 }
 
 /// Draws the last roll of some scenes; the one before its start is what was shown until then.
@@ -92,8 +93,8 @@ pub fn drawing(alloc: Global, scenes: &[Scene]) -> Option<String> {
     let (before, start) = begun?;
     let (_, steps) = scenes.split_at_checked(start)?;
     let mut sheet = Sheet::new(alloc, steps.last()?.now);
-    sheet.draw(before, steps).ok()?;
-    Some(sheet.text)
+    sheet.draw(before, steps);
+    sheet.ended()
 }
 
 /// How many pixels a second is wide.
@@ -123,7 +124,7 @@ const STYLE: &str =
     "<style>text { font: 12px sans-serif; fill: #222 } .middle { text-anchor: middle } \
     .shown { fill: #d3e6f8; stroke: #2f6296 } \
     .replaced { fill: #fdebd0; stroke: #b5772a; stroke-dasharray: 4 3 } \
-    .wait { fill: #edf2dc } .call { stroke: #777; stroke-dasharray: 2 3 }</style>\n";
+    .wait { fill: #edf2dc } .call { stroke: #777; stroke-dasharray: 2 3 }</style>";
 
 /// The place of a moment.
 fn place(now: u64) -> u64 {
@@ -141,10 +142,11 @@ fn replaced_until(steps: &[Scene], call: &Scene, thing: Thing) -> Option<u64> {
     Some(reported.now.saturating_add(reported.wait?.ttl))
 }
 
-/// A drawing as far as it is written.
+/// A drawing as far as it is written; once memory is lacking for a line, there is none.
 #[derive(Drop)]
 struct Sheet {
     text: String,
+    is_lost: bool,
     width: u64,
 }
 
@@ -152,108 +154,93 @@ impl Sheet {
     fn new(alloc: Global, last: u64) -> Sheet {
         Sheet {
             text: String::new(alloc),
+            is_lost: false,
             width: place(last.saturating_add(MARGIN)),
         }
     }
 
-    fn draw<'s>(&mut self, before: &'s Scene, steps: &'s [Scene]) -> Result<(), AllocError> {
-        self.begin()?;
-        for step in steps {
-            self.draw_wait(step)?;
+    fn line(&mut self, line: impl Display + Drop) {
+        if writeln!(self.text, "{line}").is_err() {
+            self.is_lost = true;
         }
-        for step in steps {
-            self.draw_call(step)?;
-        }
-        for (thing, name, top) in LANES {
-            self.write(8, top.saturating_add(15), name)?;
-            self.draw_lane(before, steps, thing, top)?;
-        }
-        self.draw_legend()?;
-        self.text.push_str("</svg>")
     }
 
-    fn begin(&mut self) -> Result<(), AllocError> {
+    fn ended(self) -> Option<String> {
+        let Sheet {
+            mut text,
+            is_lost,
+            width: _,
+        } = self;
+        text.push_str("</svg>").ok()?;
+        if is_lost { None } else { Some(text) }
+    }
+
+    fn draw<'s>(&mut self, before: &'s Scene, steps: &'s [Scene]) {
         let width = self.width.saturating_add(8);
-        let out = &mut self.text;
-        write!(
-            out,
-            "<svg xmlns=\"http://www.w3.org/2000/svg\" width=\"{width}\" height=\"{HEIGHT}\" "
-        )?;
-        writeln!(out, "viewBox=\"0 0 {width} {HEIGHT}\">")?;
-        out.push_str(STYLE)?;
-        writeln!(
-            out,
-            "<rect width=\"{width}\" height=\"{HEIGHT}\" fill=\"#fff\"/>"
-        )
+        self.line(format_args!(
+            "<svg xmlns=\"http://www.w3.org/2000/svg\" width=\"{width}\" height=\"{HEIGHT}\" \
+            viewBox=\"0 0 {width} {HEIGHT}\">"
+        ));
+        self.line(STYLE);
+        self.line(format_args!("<rect width=\"{width}\" height=\"{HEIGHT}\" fill=\"#fff\"/>"));
+        for step in steps {
+            self.draw_wait(step);
+        }
+        for step in steps {
+            self.draw_call(step);
+        }
+        for (thing, name, top) in LANES {
+            self.write(8, top.saturating_add(15), name);
+            self.draw_lane(before, steps, thing, top);
+        }
+        self.draw_legend();
     }
 
     /// Writes a text from a place on, its letters standing on a line.
-    fn write(&mut self, x: u64, line: u64, text: &str) -> Result<(), AllocError> {
-        writeln!(self.text, "<text x=\"{x}\" y=\"{line}\">{text}</text>")
+    fn write(&mut self, x: u64, line: u64, text: &str) {
+        self.line(format_args!("<text x=\"{x}\" y=\"{line}\">{text}</text>"));
     }
 
     /// Writes a text on both sides of a place.
-    fn write_about(
-        &mut self,
-        x: u64,
-        line: u64,
-        text: impl Display + Drop,
-    ) -> Result<(), AllocError> {
-        let out = &mut self.text;
-        writeln!(
-            out,
-            "<text class=\"middle\" x=\"{x}\" y=\"{line}\">{text}</text>"
-        )
+    fn write_about(&mut self, x: u64, line: u64, text: impl Display + Drop) {
+        self.line(format_args!("<text class=\"middle\" x=\"{x}\" y=\"{line}\">{text}</text>"));
     }
 
     /// Draws a rectangle between two places, so many pixels high.
-    fn bar(
-        &mut self,
-        class: &str,
-        (from, to): (u64, u64),
-        top: u64,
-        height: u64,
-    ) -> Result<(), AllocError> {
+    fn bar(&mut self, class: &str, (from, to): (u64, u64), top: u64, height: u64) {
         let width = to.saturating_sub(from);
-        let out = &mut self.text;
-        write!(out, "<rect class=\"{class}\" x=\"{from}\" y=\"{top}\" ")?;
-        writeln!(out, "width=\"{width}\" height=\"{height}\"/>")
+        self.line(format_args!(
+            "<rect class=\"{class}\" x=\"{from}\" y=\"{top}\" width=\"{width}\" height=\"{height}\"/>"
+        ));
     }
 
     /// A wait, behind all lanes.
-    fn draw_wait(&mut self, step: &Scene) -> Result<(), AllocError> {
+    fn draw_wait(&mut self, step: &Scene) {
         let Some(wait) = step.wait else {
-            return Ok(());
+            return;
         };
         if wait.end <= step.now {
-            return Ok(());
+            return;
         }
         let (from, to, ttl) = (place(step.now), place(wait.end), wait.ttl);
-        self.bar("wait", (from, to), 34, BOTTOM.saturating_sub(34))?;
+        self.bar("wait", (from, to), 34, BOTTOM.saturating_sub(34));
         let x = from.saturating_add(to) / 2;
         let line = BOTTOM.saturating_sub(6);
-        self.write_about(x, line, format_args!("wait, TTL {ttl}"))
+        self.write_about(x, line, format_args!("wait, TTL {ttl}"));
     }
 
     /// A call with its moment.
-    fn draw_call(&mut self, step: &Scene) -> Result<(), AllocError> {
+    fn draw_call(&mut self, step: &Scene) {
         let (x, now) = (place(step.now), step.now);
-        self.write_about(x, 14, step.step)?;
-        self.write_about(x, 29, format_args!("at {now}"))?;
-        writeln!(
-            self.text,
+        self.write_about(x, 14, step.step);
+        self.write_about(x, 29, format_args!("at {now}"));
+        self.line(format_args!(
             "<line class=\"call\" x1=\"{x}\" y1=\"34\" x2=\"{x}\" y2=\"{BOTTOM}\"/>"
-        )
+        ));
     }
 
     /// A lane: above what is shown, below what was replaced and may be in use.
-    fn draw_lane<'s>(
-        &mut self,
-        before: &'s Scene,
-        steps: &'s [Scene],
-        thing: Thing,
-        top: u64,
-    ) -> Result<(), AllocError> {
+    fn draw_lane<'s>(&mut self, before: &'s Scene, steps: &'s [Scene], thing: Thing, top: u64) {
         let below = top.saturating_add(ROW).saturating_add(3);
         let mut shown = before.content(thing);
         let mut from = LEFT;
@@ -264,41 +251,30 @@ impl Sheet {
                     Some(moment) => place(moment),
                     None => self.width,
                 };
-                self.draw_content("shown", (from, now), top, shown)?;
-                self.draw_content("replaced", (now, end), below, shown)?;
+                self.draw_content("shown", (from, now), top, shown);
+                self.draw_content("replaced", (now, end), below, shown);
                 from = now;
                 shown = step.content(thing);
             }
         }
         let end = self.width;
-        self.draw_content("shown", (from, end), top, shown)
+        self.draw_content("shown", (from, end), top, shown);
     }
 
-    fn draw_content(
-        &mut self,
-        class: &str,
-        (from, to): (u64, u64),
-        top: u64,
-        content: &str,
-    ) -> Result<(), AllocError> {
-        self.bar(class, (from, to), top, ROW)?;
-        self.write(from.saturating_add(5), top.saturating_add(15), content)
+    fn draw_content(&mut self, class: &str, (from, to): (u64, u64), top: u64, content: &str) {
+        self.bar(class, (from, to), top, ROW);
+        self.write(from.saturating_add(5), top.saturating_add(15), content);
     }
 
-    fn draw_legend(&mut self) -> Result<(), AllocError> {
+    fn draw_legend(&mut self) {
         let (top, line) = (BOTTOM.saturating_add(12), BOTTOM.saturating_add(25));
         for (class, x, text) in [
             ("shown", LEFT, "shown"),
-            (
-                "replaced",
-                LEFT.saturating_add(90),
-                "replaced, and perhaps in use",
-            ),
-            ("wait", LEFT.saturating_add(300), "a wait"),
+            ("replaced", LEFT + 90, "replaced, and perhaps in use"),
+            ("wait", LEFT + 300, "a wait"),
         ] {
-            self.bar(class, (x, x.saturating_add(16)), top, 16)?;
-            self.write(x.saturating_add(22), line, text)?;
+            self.bar(class, (x, x.saturating_add(16)), top, 16);
+            self.write(x.saturating_add(22), line, text);
         }
-        Ok(())
     }
 }

@@ -3,57 +3,29 @@
 use crate::calls::{NewKey, put_key};
 use crate::rows::Column;
 use crate::words::{at, roll};
-use keyset::{Error, KeySet, RollType};
+use keyset::{KeySet, RollType};
 use names_flat::name::Name;
-use std::alloc::{AllocError, AllocFailed, Global};
-use test_lines::{listed, text};
-use thiserror::Error;
+use std::alloc::Global;
+use test_lines::{Answer, listed, text};
 
-/// Why not all lives are as they have to be.
-#[derive(Debug, Drop, Error)]
-enum Fault {
-    /// Things that were handed out and aren't retired don't meet.
-    #[error("some do not meet")]
-    Apart,
-    /// A call changed the keys and was refused.
-    #[error("a refused call changed the keys")]
-    Changed,
-    #[error("{0}")]
-    Keys(Error),
-}
-
-impl From<Error> for Fault {
-    fn from(error: Error) -> Fault {
-        Fault::Keys(error)
-    }
-}
-
-impl From<AllocError> for Fault {
-    fn from(_error: AllocError) -> Fault {
-        Fault::Keys(Error::Memory)
-    }
-}
-
-impl<T: Drop> From<AllocFailed<T>> for Fault {
-    fn from(_error: AllocFailed<T>) -> Fault {
-        Fault::Keys(Error::Memory)
-    }
-}
+/// Why not all lives are as they have to be, if they aren't.
+type Fault = Option<&'static str>;
 
 /// What is said of all lists of so many accepted calls of some rolls.
-pub fn lives_of(alloc: Global, words: &[&str]) -> Option<String> {
-    let [names, calls] = words else {
-        return None;
-    };
+pub fn lives_of(alloc: Global, answer: &mut Answer, line: &str) -> Option<()> {
+    let (names, calls) = line.split_once(' ')?;
     let mut rolls = Vec::new(alloc);
     for name in &listed(alloc, names)? {
         rolls.push(roll(name)?).ok()?;
     }
-    match lives(alloc, &rolls, calls.parse::<usize>().ok()?) {
-        Ok(0) => text(alloc, "no list of so many calls"),
-        Ok(_) => text(alloc, "all meet"),
-        Err(fault) => fault.to_string(alloc).ok(),
-    }
+    let mut fault = None;
+    let count = lives(alloc, &mut fault, &rolls, calls.parse::<usize>().ok()?)?;
+    answer.word(match (fault, count) {
+        (Some(fault), _) => fault,
+        (None, 0) => "no list of so many calls",
+        (None, _) => "all meet",
+    });
+    Some(())
 }
 
 /// The TTL of each report, in seconds.
@@ -239,20 +211,21 @@ fn is_retired(states: &[Shown], steps: &[Made], thing: Thing, state: usize, mome
     retired
 }
 
+/// The states whose thing is not retired at a moment.
 fn live(
     alloc: Global,
     states: &[Shown],
     steps: &[Made],
     thing: Thing,
     moment: u64,
-) -> Result<Vec<Shown>, Fault> {
+) -> Option<Vec<Shown>> {
     let mut live = Vec::new(alloc);
     for (place, shown) in states.iter().enumerate() {
         if !is_retired(states, steps, thing, place, moment) {
-            live.push(*shown)?;
+            live.push(*shown).ok()?;
         }
     }
-    Ok(live)
+    Some(live)
 }
 
 /// Whether the DS set of one state, the DNSKEY answer of another and a zone answer of a third fit together.
@@ -260,7 +233,7 @@ fn meet(ds: Shown, keys: Shown, zone: Shown) -> bool {
     ds.ds & keys.present & keys.signs_keys != 0 && keys.present & zone.signs_zone != 0
 }
 
-fn all_meet(alloc: Global, states: &[Shown], steps: &[Made], moment: u64) -> Result<bool, Fault> {
+fn all_meet(alloc: Global, states: &[Shown], steps: &[Made], moment: u64) -> Option<bool> {
     let ds_sets = live(alloc, states, steps, Thing::DsSet, moment)?;
     let keys = live(alloc, states, steps, Thing::DnskeyAnswer, moment)?;
     let zones = live(alloc, states, steps, Thing::ZoneAnswer, moment)?;
@@ -274,116 +247,112 @@ fn all_meet(alloc: Global, states: &[Shown], steps: &[Made], moment: u64) -> Res
             }
         }
     }
-    Ok(all)
+    Some(all)
 }
 
 /// Adds a key of algorithm 13, made at 0 and available.
-fn add(
-    alloc: Global,
-    set: &mut KeySet,
-    kind: &str,
-    reference: &str,
-    key_tag: u16,
-) -> Result<(), Error> {
-    let reference = String::from_str(alloc, reference)?;
-    put_key(set, kind, NewKey::plain(reference, key_tag))
+fn add(alloc: Global, set: &mut KeySet, kind: &str, reference: &str, key_tag: u16) -> Option<()> {
+    put_key(set, kind, NewKey::plain(text(alloc, reference)?, key_tag)).ok()
 }
 
-/// K1 and Z1 in use, with nothing of before left.
-fn rolled_in(alloc: Global) -> Result<KeySet, Error> {
-    let mut set = KeySet::new(alloc, Name::root(alloc).map_err(|_| Error::Memory)?);
-    add(alloc, &mut set, "ksk", "K1", 0)?;
-    add(alloc, &mut set, "zsk", "Z1", 1)?;
+/// Puts K1 and Z1 in use, with nothing of before left, and fresh keys beside them.
+fn put_in_use(alloc: Global, set: &mut KeySet) -> Option<()> {
+    add(alloc, set, "ksk", "K1", 0)?;
+    add(alloc, set, "zsk", "Z1", 1)?;
     let first = RollType::AlgorithmRoll;
-    set.start_roll(first, &[], &["K1", "Z1"], &at(0))?;
-    set.propagation1_complete(first, 0, &at(0))?;
-    set.cache_expired1(first, &at(0))?;
-    set.propagation2_complete(first, 0, &at(0))?;
-    set.cache_expired2(first, &at(0))?;
-    set.roll_done(first)?;
-    Ok(set)
+    set.start_roll(first, &[], &["K1", "Z1"], &at(0)).ok()?;
+    set.propagation1_complete(first, 0, &at(0)).ok()?;
+    set.cache_expired1(first, &at(0)).ok()?;
+    set.propagation2_complete(first, 0, &at(0)).ok()?;
+    set.cache_expired2(first, &at(0)).ok()?;
+    set.roll_done(first).ok()?;
+    add(alloc, set, "ksk", "K2", 2)?;
+    add(alloc, set, "zsk", "Z2", 3)?;
+    add(alloc, set, "csk", "C1", 4)
 }
 
-/// The same with fresh keys beside them.
-fn in_use(alloc: Global) -> Result<KeySet, Error> {
-    let mut set = rolled_in(alloc)?;
-    add(alloc, &mut set, "ksk", "K2", 2)?;
-    add(alloc, &mut set, "zsk", "Z2", 3)?;
-    add(alloc, &mut set, "csk", "C1", 4)?;
-    Ok(set)
-}
-
-/// The states of some calls, if the last was accepted; refused calls change nothing.
-fn states_of(alloc: Global, steps: &[Made]) -> Result<Option<Vec<Shown>>, Fault> {
-    let mut set = in_use(alloc)?;
+/// The states behind the calls that are accepted; those that are refused change nothing.
+fn states_of(alloc: Global, fault: &mut Fault, steps: &[Made]) -> Option<Vec<Shown>> {
+    let mut set = KeySet::new(alloc, Name::root(alloc).ok()?);
+    put_in_use(alloc, &mut set)?;
     let mut states = Vec::new(alloc);
-    states.push(state_of(&set))?;
-    let mut accepted = true;
+    states.push(state_of(&set)).ok()?;
     for step in steps {
         let before = state_of(&set);
-        accepted = is_accepted(&mut set, *step);
-        if accepted {
-            states.push(state_of(&set))?;
+        if is_accepted(&mut set, *step) {
+            states.push(state_of(&set)).ok()?;
         } else if before != state_of(&set) {
-            return Err(Fault::Changed);
+            *fault = Some("a refused call changed the keys");
         }
     }
-    Ok(if accepted { Some(states) } else { None })
+    Some(states)
 }
 
-fn with_call(alloc: Global, steps: &[Made], made: Made) -> Result<Vec<Made>, Fault> {
-    let mut longer = Vec::with_capacity(alloc, 1)?;
-    for step in steps {
-        longer.push(*step)?;
-    }
-    longer.push(made)?;
-    Ok(longer)
+/// A list with one call more.
+fn with_call(alloc: Global, steps: &[Made], made: Made) -> Option<Vec<Made>> {
+    let mut longer = Vec::with_capacity(alloc, 1).ok()?;
+    longer.extend_from_slice(steps).ok()?;
+    longer.push(made).ok()?;
+    Some(longer)
 }
 
-/// The list with one call more, if that is accepted; checked at its moment and behind it.
-fn one_longer(alloc: Global, list: &[Made], made: Made) -> Result<Option<Vec<Made>>, Fault> {
+/// Adds the list with one call more, if that is accepted; checked at its moment and behind it.
+fn push_longer(
+    alloc: Global,
+    fault: &mut Fault,
+    next: &mut Vec<Vec<Made>>,
+    list: &[Made],
+    made: Made,
+) -> Option<()> {
     let steps = with_call(alloc, list, made)?;
-    let Some(states) = states_of(alloc, steps.as_slice())? else {
-        return Ok(None);
-    };
+    let states = states_of(alloc, fault, steps.as_slice())?;
+    if states.len() <= steps.len() {
+        return Some(());
+    }
     for later in [0, 1, TTL] {
         let moment = made.now.saturating_add(later);
         if !all_meet(alloc, states.as_slice(), steps.as_slice(), moment)? {
-            return Err(Fault::Apart);
+            *fault = Some("some do not meet");
         }
     }
-    Ok(Some(steps))
+    next.push(steps).ok()
 }
 
-/// All lists of accepted calls of these rolls that are one call longer.
-fn longer(alloc: Global, lists: &[Vec<Made>], rolls: &[RollType]) -> Result<Vec<Vec<Made>>, Fault> {
-    let mut next = Vec::new(alloc);
-    for list in lists {
-        let last = list.as_slice().last().map_or(0, |made| made.now);
-        for roll in rolls {
-            for call in CALLS {
-                for later in 0..=call.latest() {
-                    let made = Made {
-                        call,
-                        roll: *roll,
-                        now: last.saturating_add(later),
-                    };
-                    if let Some(steps) = one_longer(alloc, list.as_slice(), made)? {
-                        next.push(steps)?;
-                    }
-                }
+/// All lists of accepted calls of these rolls that are one call longer than a list.
+fn push_all_longer(
+    alloc: Global,
+    fault: &mut Fault,
+    next: &mut Vec<Vec<Made>>,
+    list: &[Made],
+    rolls: &[RollType],
+) -> Option<()> {
+    let last = list.last().map_or(0, |made| made.now);
+    for roll in rolls {
+        for call in CALLS {
+            for later in 0..=call.latest() {
+                let now = last.saturating_add(later);
+                let made = Made {
+                    call,
+                    roll: *roll,
+                    now,
+                };
+                push_longer(alloc, fault, next, list, made)?;
             }
         }
     }
-    Ok(next)
+    Some(())
 }
 
 /// How many lists there are of so many calls.
-fn lives(alloc: Global, rolls: &[RollType], calls: usize) -> Result<usize, Fault> {
+fn lives(alloc: Global, fault: &mut Fault, rolls: &[RollType], calls: usize) -> Option<usize> {
     let mut lists = Vec::new(alloc);
-    lists.push(Vec::new(alloc))?;
+    lists.push(Vec::new(alloc)).ok()?;
     for _ in 0..calls {
-        lists = longer(alloc, lists.as_slice(), rolls)?;
+        let mut next = Vec::new(alloc);
+        for list in &lists {
+            push_all_longer(alloc, fault, &mut next, list, rolls)?;
+        }
+        lists = next;
     }
-    Ok(lists.len())
+    Some(lists.len())
 }

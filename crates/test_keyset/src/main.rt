@@ -29,62 +29,70 @@
 //!   was handed out and isn't retired meets.
 #![tactic(auto)]
 
-mod answer;
 mod calls;
 mod drawing;
 mod lives;
 mod moments;
 mod rows;
-mod settings;
 mod shown;
 mod words;
 mod zone;
 
-use lives::lives_of;
-use moments::{errors, of_moments, roll_named};
-use shown::{counts, shown};
 use std::alloc::Global;
 use std::io;
-use test_lines::{first_word, reply_to_each_line, words};
+use test_lines::{Answer, first_word, reply_to_each_line};
 use zone::Zone;
 
-/// What is printed behind a line, if it can be read.
-fn reply(alloc: Global, zone: &mut Option<Zone>, line: &str) -> Option<String> {
+/// Answers a line, if it can be read.
+fn answer_to(
+    alloc: Global,
+    answer: &mut Answer,
+    zone: &mut Option<Zone>,
+    line: &str,
+) -> Option<()> {
     let (name, rest) = first_word(line);
     match name {
-        "zone" => begin(alloc, zone, rest),
-        "elapsed" | "later" | "before" | "timestamp" | "from-timestamp" => {
-            of_moments(alloc, name, rest)
+        "zone" => {
+            *zone = Some(Zone::read(alloc, answer, rest)?);
+            Some(())
         }
-        "roll" => roll_named(alloc, rest),
-        "errors" => errors(alloc),
-        "lives" => lives_of(alloc, &words(alloc, rest)?),
-        _ => of_set(alloc, zone.as_mut()?, name, rest),
+        "elapsed" | "later" | "before" | "timestamp" | "from-timestamp" => {
+            moments::answer_to(answer, name, rest)
+        }
+        "roll" => {
+            moments::roll_named(answer, rest);
+            Some(())
+        }
+        "errors" => moments::errors(alloc, answer),
+        "lives" => lives::lives_of(alloc, answer, rest),
+        _ => answer_of_set(alloc, answer, zone.as_mut()?, name, rest),
     }
 }
 
-fn begin(alloc: Global, zone: &mut Option<Zone>, rest: &str) -> Option<String> {
-    let made = Zone::read(alloc, rest)?;
-    let said = made.title(alloc)?;
-    *zone = Some(made);
-    Some(said)
-}
-
-/// What is printed behind a line that speaks of the set.
-fn of_set(alloc: Global, zone: &mut Zone, name: &str, rest: &str) -> Option<String> {
+/// Answers a line that speaks of the set.
+fn answer_of_set(
+    alloc: Global,
+    answer: &mut Answer,
+    zone: &mut Zone,
+    name: &str,
+    rest: &str,
+) -> Option<()> {
     match name {
-        "key" | "alone" | "phase" | "owed" => shown(alloc, zone.set(), name, rest),
-        "counts" => counts(alloc, zone.set()),
-        "drawing" => zone.drawing(alloc),
-        "copy" => zone.copy(alloc),
-        "swap" => zone.swap(alloc),
-        _ => zone.called(alloc, name, rest),
+        "key" | "alone" | "phase" | "owed" | "counts" => {
+            shown::answer_to(alloc, answer, zone.set(), name, rest)
+        }
+        "drawing" => zone.drawing(alloc, answer),
+        "copy" => zone.copy(answer),
+        "swap" => zone.swap(answer),
+        _ => zone.called(alloc, answer, name, rest),
     }
 }
 
 fn main(rt: HostRuntime) -> io::Result<()> {
     let mut zone = None;
     reply_to_each_line(&rt, rt.alloc(), |alloc, line| {
-        reply(alloc, &mut zone, line)
+        let mut answer = Answer::new(alloc);
+        answer_to(alloc, &mut answer, &mut zone, line)?;
+        answer.done()
     })
 }

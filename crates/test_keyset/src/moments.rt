@@ -1,34 +1,26 @@
 //! Moments, rolls by name, and the texts of errors.
 
-use crate::words::{at, moment};
+use crate::words::moment;
 use denial_fields::timestamp::Timestamp;
 use keyset::{Error, RollType, UnixTime};
 use std::alloc::Global;
 use std::time::Duration;
-use test_lines::{joined, refused, text, words, yes_or_no};
+use test_lines::{Answer, first_word, joined};
 
-/// What a line of one or two numbers asks of moments.
-pub fn of_moments(alloc: Global, name: &str, rest: &str) -> Option<String> {
-    let words = words(alloc, rest)?;
-    match (name, words.as_slice()) {
-        ("timestamp", [first]) => moment(first)?.timestamp().to_string(alloc).ok(),
-        ("from-timestamp", [first]) => {
-            seconds(
-                alloc,
-                UnixTime::from(Timestamp::from(first.parse::<u32>().ok()?)),
-            )
+/// Answers what a line of one or two numbers asks of moments.
+pub fn answer_to(answer: &mut Answer, name: &str, line: &str) -> Option<()> {
+    let (first, second) = first_word(line);
+    match name {
+        "timestamp" => answer.value(&moment(first)?.timestamp()),
+        "from-timestamp" => {
+            let time = UnixTime::from(Timestamp::from(first.parse::<u32>().ok()?));
+            answer.value(&Duration::from(time).as_secs());
         }
-        ("elapsed", [first, second]) => {
-            let elapsed = moment(first)?.elapsed(&moment(second)?);
-            elapsed.as_secs().to_string(alloc).ok()
-        }
-        ("later", [first, second]) => seconds(alloc, later(first, second)?),
-        ("before", [first, second]) => {
-            let is_before = moment(first)? < moment(second)?;
-            text(alloc, yes_or_no(is_before))
-        }
-        _ => None,
+        "elapsed" => answer.value(&moment(first)?.elapsed(&moment(second)?).as_secs()),
+        "later" => answer.value(&Duration::from(later(first, second)?).as_secs()),
+        _ => answer.yes(moment(first)? < moment(second)?),
     }
+    Some(())
 }
 
 /// So many seconds behind a moment, both of 32 bits.
@@ -38,23 +30,20 @@ fn later(first: &str, second: &str) -> Option<UnixTime> {
     Some(UnixTime::new(Duration::from_secs(first)) + Duration::from_secs(second))
 }
 
-fn seconds(alloc: Global, time: UnixTime) -> Option<String> {
-    Duration::from(time).as_secs().to_string(alloc).ok()
-}
-
 /// The roll that has a name.
-pub fn roll_named(alloc: Global, name: &str) -> Option<String> {
+pub fn roll_named(answer: &mut Answer, name: &str) {
     match name.parse::<RollType>() {
-        Ok(roll) => format!(in alloc; "{roll:?}").ok(),
-        Err(error) => refused(alloc, &error),
+        Ok(roll) => answer.value(&format_args!("{roll:?}")),
+        Err(error) => answer.refused(&error),
     }
 }
 
 /// The texts of all errors.
-pub fn errors(alloc: Global) -> Option<String> {
-    let first = joined(alloc, &first_errors(), "; ")?;
-    let last = joined(alloc, &last_errors(), "; ")?;
-    format!(in alloc; "{first}; {last}").ok()
+pub fn errors(alloc: Global, answer: &mut Answer) -> Option<()> {
+    answer.word(&joined(alloc, &first_errors(), "; ")?);
+    answer.mark(";");
+    answer.word(&joined(alloc, &last_errors(), "; ")?);
+    Some(())
 }
 
 fn first_errors() -> [Error; 7] {

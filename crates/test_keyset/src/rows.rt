@@ -1,7 +1,8 @@
 //! Rows of the tables of rolls.
 
 use keyset::{Action, KeySet, KeyState, KeyType};
-use std::alloc::{AllocError, Global};
+use std::alloc::Global;
+use test_lines::{Answer, Between};
 
 /// The short name of an action, as the tables have it.
 fn short_name(action: Action) -> &'static str {
@@ -21,7 +22,7 @@ fn short_name(action: Action) -> &'static str {
 }
 
 /// A column of the tables: which keys are in it.
-#[derive(Clone, Copy, Debug)]
+#[derive(Clone, Copy)]
 pub enum Column {
     Present,
     SignsKeys,
@@ -63,77 +64,49 @@ impl Column {
     }
 }
 
-/// What stands in a cell: texts with something between two, of none `none`.
-#[derive(Drop)]
-struct Cell {
-    text: String,
-    between: &'static str,
-}
-
-impl Cell {
-    fn new(alloc: Global, between: &'static str) -> Cell {
-        Cell {
-            text: String::new(alloc),
-            between,
-        }
-    }
-
-    fn push(&mut self, text: &str) -> Result<(), AllocError> {
-        if !self.text.is_empty() {
-            self.text.push_str(self.between)?;
-        }
-        self.text.push_str(text)
-    }
-
-    fn ended(self) -> Result<String, AllocError> {
-        let Cell {
-            mut text,
-            between: _,
-        } = self;
-        if text.is_empty() {
-            text.push_str("none")?;
-        }
-        Ok(text)
-    }
-}
-
 /// The shown keys that are in a column.
-pub fn keys_in(
-    alloc: Global,
-    set: &KeySet,
-    shown: &[String],
-    column: Column,
-) -> Result<String, AllocError> {
-    let mut cell = Cell::new(alloc, " ");
+pub fn keys_in(alloc: Global, set: &KeySet, shown: &[String], column: Column) -> Answer {
+    let mut keys = Answer::new(alloc);
     for reference in shown {
         if column.has_key(set, reference.as_str()) {
-            cell.push(reference.as_str())?;
+            keys.word(reference.as_str());
         }
     }
-    cell.ended()
+    keys.word_if_empty("none");
+    keys
 }
 
 /// The short names of actions.
-pub fn named(alloc: Global, actions: &[Action]) -> Result<String, AllocError> {
-    let mut cell = Cell::new(alloc, ", ");
+pub fn named(alloc: Global, actions: &[Action]) -> Answer {
+    let mut names = Answer::list(alloc, Between::CommaAndBlank);
     for action in actions {
-        cell.push(short_name(*action))?;
+        names.word(short_name(*action));
     }
-    cell.ended()
+    names.word_if_empty("none");
+    names
 }
 
 /// The row of a step: what the shown keys are behind it, and what is to be done.
 pub fn row(
     alloc: Global,
+    answer: &mut Answer,
     set: &KeySet,
     shown: &[String],
     step: &str,
     actions: &[Action],
-) -> Result<String, AllocError> {
-    let present = keys_in(alloc, set, shown, Column::Present)?;
-    let sign_keys = keys_in(alloc, set, shown, Column::SignsKeys)?;
-    let sign_zone = keys_in(alloc, set, shown, Column::SignsZone)?;
-    let at_parent = keys_in(alloc, set, shown, Column::AtParent)?;
-    let owed = named(alloc, actions)?;
-    format!(in alloc; "| {step} | {present} | {sign_keys} | {sign_zone} | {at_parent} | {owed} |")
+) {
+    answer.word("|");
+    answer.word(step);
+    for column in [
+        Column::Present,
+        Column::SignsKeys,
+        Column::SignsZone,
+        Column::AtParent,
+    ] {
+        answer.word("|");
+        answer.append(keys_in(alloc, set, shown, column));
+    }
+    answer.word("|");
+    answer.append(named(alloc, actions));
+    answer.word("|");
 }

@@ -2,93 +2,101 @@
 
 use crate::rows::named;
 use crate::words::roll;
-use keyset::{Key, KeySet, KeyTimestamps, KeyType, RollState, UnixTime};
+use keyset::{Key, KeySet, KeyType, RollState, UnixTime};
 use std::alloc::Global;
 use std::time::Duration;
-use test_lines::{refused, text};
+use test_lines::Answer;
 
-/// What is asked for by this name.
-pub fn shown(alloc: Global, set: &KeySet, name: &str, word: &str) -> Option<String> {
+/// Answers what is asked for by this name.
+pub fn answer_to(
+    alloc: Global,
+    answer: &mut Answer,
+    set: &KeySet,
+    name: &str,
+    word: &str,
+) -> Option<()> {
     match name {
         "key" => match set.key(word) {
-            Some(key) => whole(alloc, key),
-            None => text(alloc, "no key"),
+            Some(key) => whole(answer, key),
+            None => answer.word("no key"),
         },
-        "alone" => alone(alloc, set.key(word)?),
-        "phase" => phase(alloc, set.rollstates().get(&roll(word)?).copied()),
+        "alone" => alone(answer, set.key(word)?)?,
+        "phase" => phase(answer, set.rollstates().get(&roll(word)?).copied()),
         "owed" => match set.actions(roll(word)?) {
-            Ok(actions) => named(alloc, &actions).ok(),
-            Err(error) => refused(alloc, &error),
+            Ok(actions) => answer.append(named(alloc, &actions)),
+            Err(error) => answer.refused(&error),
         },
-        _ => None,
+        _ => {
+            answer.value(&set.keys().len());
+            answer.word("keys,");
+            answer.value(&set.rollstates().len());
+            answer.word("rolls");
+        }
     }
-}
-
-/// How many keys there are, and how many rolls run.
-pub fn counts(alloc: Global, set: &KeySet) -> Option<String> {
-    let (keys, rolls) = (set.keys().len(), set.rollstates().len());
-    format!(in alloc; "{keys} keys, {rolls} rolls").ok()
+    Some(())
 }
 
 /// Everything of a key.
-fn whole(alloc: Global, key: &Key) -> Option<String> {
-    let kind = kind(alloc, key.keytype())?;
-    let (algorithm, tag) = (key.algorithm().to_int(), key.key_tag());
-    let stamps = stamps(alloc, key.timestamps())?;
-    let private = key.privref().unwrap_or("-");
-    let coupled = if key.decoupled() {
+fn whole(answer: &mut Answer, key: &Key) {
+    kind(answer, key.keytype());
+    answer.mark(";");
+    answer.value(&key.algorithm().to_int());
+    answer.value(&key.key_tag());
+    answer.mark(";");
+    let stamps = key.timestamps();
+    stamp(answer, stamps.creation());
+    stamp(answer, stamps.published());
+    stamp(answer, stamps.withdrawn());
+    stamp(answer, stamps.visible());
+    stamp(answer, stamps.ds_visible());
+    stamp(answer, stamps.rrsig_visible());
+    answer.mark(";");
+    answer.word(key.privref().unwrap_or("-"));
+    answer.mark(",");
+    answer.word(if key.decoupled() {
         "decoupled"
     } else {
         "coupled"
-    };
-    format!(in alloc; "{kind}; {algorithm} {tag}; {stamps}; {private}, {coupled}").ok()
+    });
 }
 
 /// The kind of a key, and its flags: of a combined one those of both roles.
-fn kind(alloc: Global, keytype: KeyType) -> Option<String> {
+fn kind(answer: &mut Answer, keytype: KeyType) {
     match keytype {
-        KeyType::Ksk(state) => format!(in alloc; "ksk {state}").ok(),
-        KeyType::Zsk(state) => format!(in alloc; "zsk {state}").ok(),
-        KeyType::Csk(ksk, zsk) => format!(in alloc; "ksk {ksk}, zsk {zsk}").ok(),
-        KeyType::Include(state) => format!(in alloc; "included {state}").ok(),
+        KeyType::Ksk(state) => answer.value(&format_args!("ksk {state}")),
+        KeyType::Zsk(state) => answer.value(&format_args!("zsk {state}")),
+        KeyType::Csk(ksk, zsk) => answer.value(&format_args!("ksk {ksk}, zsk {zsk}")),
+        KeyType::Include(state) => answer.value(&format_args!("included {state}")),
     }
 }
 
-/// When a key was made, put in and taken out, and since when its record, its DS record and its signatures are seen.
-fn stamps(alloc: Global, stamps: &KeyTimestamps) -> Option<String> {
-    let made = seconds(alloc, stamps.creation())?;
-    let published = seconds(alloc, stamps.published())?;
-    let withdrawn = seconds(alloc, stamps.withdrawn())?;
-    let visible = seconds(alloc, stamps.visible())?;
-    let ds_visible = seconds(alloc, stamps.ds_visible())?;
-    let rrsig_visible = seconds(alloc, stamps.rrsig_visible())?;
-    format!(in alloc; "{made} {published} {withdrawn} {visible} {ds_visible} {rrsig_visible}").ok()
-}
-
-/// The whole seconds of a stamp; `-` for none.
-fn seconds(alloc: Global, stamp: Option<UnixTime>) -> Option<String> {
+/// The whole seconds of a stamp: when a key was made, put in or taken out, or since when something of it is seen; `-` for
+/// none.
+fn stamp(answer: &mut Answer, stamp: Option<UnixTime>) {
     match stamp {
-        Some(time) => Duration::from(time).as_secs().to_string(alloc).ok(),
-        None => text(alloc, "-"),
+        Some(time) => answer.value(&Duration::from(time).as_secs()),
+        None => answer.word("-"),
     }
 }
 
 /// How far a roll is.
-fn phase(alloc: Global, state: Option<RollState>) -> Option<String> {
+fn phase(answer: &mut Answer, state: Option<RollState>) {
     match state {
-        None => text(alloc, "none"),
-        Some(RollState::Propagation1) => text(alloc, "first changes"),
-        Some(RollState::CacheExpire1(ttl)) => format!(in alloc; "first wait for {ttl}").ok(),
-        Some(RollState::Propagation2) => text(alloc, "second changes"),
-        Some(RollState::CacheExpire2(ttl)) => format!(in alloc; "second wait for {ttl}").ok(),
-        Some(RollState::Done) => text(alloc, "last actions"),
+        None => answer.word("none"),
+        Some(RollState::Propagation1) => answer.word("first changes"),
+        Some(RollState::CacheExpire1(ttl)) => answer.value(&format_args!("first wait for {ttl}")),
+        Some(RollState::Propagation2) => answer.word("second changes"),
+        Some(RollState::CacheExpire2(ttl)) => answer.value(&format_args!("second wait for {ttl}")),
+        Some(RollState::Done) => answer.word("last actions"),
     }
 }
 
 /// A key beside a copy of it that is decoupled.
-fn alone(alloc: Global, key: &Key) -> Option<String> {
+fn alone(answer: &mut Answer, key: &Key) -> Option<()> {
     let mut copy = key.clone().ok()?;
     copy.set_decoupled(true);
-    let (key, copy) = (whole(alloc, key)?, whole(alloc, &copy)?);
-    format!(in alloc; "{key} | {copy}").ok()
+    whole(answer, key);
+    answer.word("|");
+    whole(answer, &copy);
+    Some(())
 }

@@ -9,18 +9,18 @@ use test_lines::{listed, text};
 pub fn keys_of(alloc: Global, list: &str) -> Option<Vec<String>> {
     let mut keys = Vec::new(alloc);
     for word in &listed(alloc, list)? {
-        match word.split_once('*') {
-            Some((letters, count)) => push_numbered(alloc, &mut keys, letters, count)?,
-            None => keys.push(text(alloc, word)?).ok()?,
-        }
+        push_keys(alloc, &mut keys, word)?;
     }
     Some(keys)
 }
 
-fn push_numbered(alloc: Global, keys: &mut Vec<String>, letters: &str, count: &str) -> Option<()> {
+fn push_keys(alloc: Global, keys: &mut Vec<String>, word: &str) -> Option<()> {
+    let Some((letters, count)) = word.split_once('*') else {
+        return keys.push(text(alloc, word)?).ok();
+    };
     for number in 0..count.parse::<u16>().ok()? {
-        keys.push(format!(in alloc; "{letters}{number}").ok()?)
-            .ok()?;
+        let key = format!(in alloc; "{letters}{number}").ok()?;
+        keys.push(key).ok()?;
     }
     Some(())
 }
