@@ -2,9 +2,9 @@
 
 use crate::flat::told;
 use crate::orders::pair;
-use crate::parts::by_turns;
+use crate::parts::turns;
 use crate::said::{self, is_name};
-use names::{FlattenInto, Label, Labels, ParseError, ParsedName, Parser, ToLabelIter, ToName};
+use names::{FlattenInto, Label, Labels, ParseError, ParsedName, Parser, ToName};
 use std::alloc::Global;
 use test_lines::{Answer, octets_of};
 
@@ -46,7 +46,7 @@ fn answer_to_name(
         }
         "message-pair" => pair(alloc, answer, &name, &octets_of(alloc, front)?),
         "turns" => {
-            by_turns(answer, front, name.iter(), name.iter_labels());
+            turns(answer, front, name);
             Some(())
         }
         "suffixes" => {

@@ -2,7 +2,7 @@
 
 use crate::said;
 use crate::wire_numbers::seek;
-use names::{Label, Name, RelativeName, ToLabelIter};
+use names::{Label, Name, NameIter, ParsedName, RelativeName, ToLabelIter};
 use test_lines::Answer;
 
 /// Answers a line of octets.
@@ -130,34 +130,37 @@ fn relative_cut(answer: &mut Answer, name: RelativeName<Vec<u8>>, begin: usize, 
 
 /// Answers a line of a name over flat octets, whose labels are taken by turns.
 pub fn answer_by_turns(answer: &mut Answer, word: &str, turns: &str, octets: &[u8]) -> Option<()> {
-    match word {
-        "flat-turns" => {
-            let name = Name::from_slice(octets).ok()?;
-            by_turns(answer, turns, name.iter(), name.iter_labels());
-        }
-        _ => {
-            let name = RelativeName::from_slice(octets).ok()?;
-            by_turns(answer, turns, name.iter(), name.iter_labels());
-        }
+    if word == "flat-turns" {
+        let name = Name::from_slice(octets).ok()?;
+        flat_turns(answer, turns, name.iter(), &name);
+    } else {
+        let name = RelativeName::from_slice(octets).ok()?;
+        flat_turns(answer, turns, name.iter(), &name);
     }
     Some(())
 }
 
 /// The labels of a name, the next from the front at each `f` and from the end at each `b`, by its own walk and by that of
 /// any name.
-pub fn by_turns<'a>(
-    answer: &mut Answer,
-    turns: &str,
-    labels: impl DoubleEndedIterator<Item = Label<'a>> + Drop,
-    any: impl DoubleEndedIterator<Item = Label<'a>> + Drop,
-) {
-    let (mut labels, mut any) = (labels, any);
-    for turn in turns.chars() {
-        let (label, same) = match turn {
-            'f' => (labels.next(), any.next()),
-            _ => (labels.next_back(), any.next_back()),
-        };
-        answer.check(label == same);
-        said::label(answer, label);
-    }
+macro_rules! by_turns {
+    ($answer:expr, $turns:expr, $labels:expr, $any:expr) => {{
+        let (mut labels, mut any) = ($labels, $any);
+        for turn in $turns.chars() {
+            let (label, same) = match turn {
+                'f' => (labels.next(), any.next()),
+                _ => (labels.next_back(), any.next_back()),
+            };
+            $answer.check(label == same);
+            crate::said::label($answer, label);
+        }
+    }};
+}
+
+fn flat_turns<N: ToLabelIter>(answer: &mut Answer, turns: &str, labels: NameIter<'_>, name: &N) {
+    by_turns!(answer, turns, labels, name.iter_labels())
+}
+
+/// The labels by turns of a name in a message.
+pub fn turns(answer: &mut Answer, turns: &str, name: ParsedName<'_>) {
+    by_turns!(answer, turns, name.iter(), name.iter_labels())
 }

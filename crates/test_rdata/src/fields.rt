@@ -1,7 +1,7 @@
 //! Times, salts, hashes, and texts in base32hex.
 
 use denial_data::{Nsec3Salt, OwnerHash, Timestamp};
-use names::CanonicalOrd;
+use names::{CanonicalOrd, Parser};
 use plain::base32hex;
 use std::alloc::Global;
 use std::fmt::Display;
@@ -44,8 +44,14 @@ pub fn answer_to_numbers(answer: &mut Answer, asked: &str, line: &str) -> Option
     Some(())
 }
 
+/// A time of octets, written again.
+pub fn time_of(alloc: Global, answer: &mut Answer, octets: &[u8]) {
+    let read = Timestamp::parse(&mut Parser::from_ref(octets));
+    time(alloc, answer, read);
+}
+
 /// A time, its number, and its octets; or why it was not read.
-pub fn time<E: Display + Drop>(alloc: Global, answer: &mut Answer, read: Result<Timestamp, E>) {
+fn time<E: Display + Drop>(alloc: Global, answer: &mut Answer, read: Result<Timestamp, E>) {
     match read {
         Ok(time) => {
             let mut octets = Vec::new(alloc);

@@ -39,8 +39,7 @@ mod ranges;
 mod signatures;
 mod typed;
 
-use denial_data::{Nsec3Salt, OwnerHash, RtypeBitmap, Timestamp};
-use names::Parser;
+use denial_data::{Nsec3Salt, OwnerHash, RtypeBitmap};
 use std::alloc::Global;
 use std::io;
 use test_lines::{Answer, answer_each_line, first_word, octets_of};
@@ -94,11 +93,7 @@ fn answer_to_octets(
             Some(())
         }
         "time" => {
-            fields::time(
-                alloc,
-                answer,
-                Timestamp::parse(&mut Parser::from_ref(octets)),
-            );
+            fields::time_of(alloc, answer, octets);
             Some(())
         }
         _ => answer_to_two(alloc, answer, asked, octets, &octets_of(alloc, rest)?),

@@ -49,7 +49,7 @@ pub fn are_equal_fields(answer: &mut Answer, first: &[u8], second: &[u8]) -> Opt
 
 /// Data of the same fields with other octets as the signature: how many octets they have, how they stand to the data,
 /// and whether they are equal to them once they have the data's signature.
-pub fn resigned(answer: &mut Answer, octets: &[u8], signature: &[u8]) -> Option<()> {
+pub fn resigned<'a>(answer: &mut Answer, octets: &'a [u8], signature: &'a [u8]) -> Option<()> {
     let rrsig = rrsig_of(octets)?;
     let mut other = proto_of(&rrsig).into_rrsig(signature).ok()?;
     if !Rrsig::fits_rdlen(other.signer_name(), rrsig.signature()) {

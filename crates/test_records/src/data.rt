@@ -8,7 +8,7 @@ use plain::ns::Ns;
 use plain::soa::Soa;
 use plain::zone_data::ZoneRecordData;
 use std::alloc::Global;
-use test_lines::{first_word, octets_of, order_word, printed, push_word};
+use test_lines::{Answer, first_word, octets_of};
 
 pub type Data<'a> = ZoneRecordData<&'a [u8], ParsedName<'a>>;
 
@@ -77,174 +77,168 @@ impl Place {
     }
 }
 
-/// How long data are, and where names in them may be shortened; the data written in full and in canonical form; how many
+/// Answers a line of data that stand in a message.
+pub fn answer_to(alloc: Global, answer: &mut Answer, word: &str, line: &str) -> Option<()> {
+    let (place, rest) = Place::read(alloc, line)?;
+    match word {
+        "data" => data(alloc, answer, &place),
+        "soa" => soa(answer, &place),
+        "ns" => ns(answer, &place),
+        _ => {
+            let (other, _) = Place::read(alloc, rest)?;
+            let (data, other) = (place.data()?.ok()?, other.data()?.ok()?);
+            ordered(answer, &data, &other);
+            Some(())
+        }
+    }
+}
+
+/// How long data are, and whether names in them may be shortened; the data written in full and in canonical form; how many
 /// beginnings of the octets are data too. Or the fault.
-pub fn data(alloc: Global, line: &str) -> Option<String> {
-    let (place, _) = Place::read(alloc, line)?;
+fn data(alloc: Global, answer: &mut Answer, place: &Place) -> Option<()> {
     let data = match place.data()? {
         Ok(data) => data,
-        Err(error) => return format!(in alloc; "{error}").ok(),
+        Err(error) => {
+            answer.value(&error);
+            return Some(());
+        }
     };
-    if data.rtype() != place.rtype {
-        return None;
-    }
+    answer.check(data.rtype() == place.rtype);
     let (full, short) = (data.rdlen(false)?, data.rdlen(true));
-    let short = if short == Some(full) {
+    answer.value(&full);
+    answer.word(if short == Some(full) {
         "fixed"
     } else {
         "shorter"
-    };
-    let (written, canonical) = (written(alloc, &data)?, canonical(alloc, &data)?);
-    let count = place.read_beginnings()?;
-    format!(in alloc; "{full} {short} {written} {canonical} {count}").ok()
+    });
+    written(alloc, answer, &data);
+    canonical(alloc, answer, &data);
+    answer.value(&place.read_beginnings()?);
+    Some(())
 }
 
 /// The data as they are written, alone and behind their length.
-fn written<D: ComposeRecordData>(alloc: Global, data: &D) -> Option<String> {
+fn written<D: ComposeRecordData>(alloc: Global, answer: &mut Answer, data: &D) {
     let (mut alone, mut behind) = (Vec::new(alloc), Vec::new(alloc));
-    data.compose_rdata(&mut alone).ok()?;
-    (&data).compose_len_rdata(&mut &mut behind).ok()?;
-    let len = u16::try_from(alone.len()).ok()?.to_be_bytes();
-    if behind.strip_prefix(&len) != Some(alone.as_slice()) || behind.can_compress() {
-        return None;
-    }
-    printed(alloc, &alone)
+    answer.check(data.compose_rdata(&mut alone).is_ok());
+    answer.check((&data).compose_len_rdata(&mut &mut behind).is_ok());
+    answer.check(is_behind_len(&behind, &alone));
+    answer.check(!behind.can_compress());
+    answer.octets(&alone);
 }
 
 /// As `written`, in canonical form.
-fn canonical<D: ComposeRecordData>(alloc: Global, data: &D) -> Option<String> {
+fn canonical<D: ComposeRecordData>(alloc: Global, answer: &mut Answer, data: &D) {
     let (mut alone, mut behind) = (Vec::new(alloc), Vec::new(alloc));
-    data.compose_canonical_rdata(&mut alone).ok()?;
-    data.compose_canonical_len_rdata(&mut behind).ok()?;
-    let len = u16::try_from(alone.len()).ok()?.to_be_bytes();
-    if behind.strip_prefix(&len) != Some(alone.as_slice()) {
-        return None;
+    answer.check(data.compose_canonical_rdata(&mut alone).is_ok());
+    answer.check(data.compose_canonical_len_rdata(&mut behind).is_ok());
+    answer.check(is_behind_len(&behind, &alone));
+    answer.octets(&alone);
+}
+
+/// Whether octets are others behind their length, in two octets.
+fn is_behind_len(behind: &[u8], alone: &[u8]) -> bool {
+    match u16::try_from(alone.len()) {
+        Ok(len) => behind.strip_prefix(&len.to_be_bytes()) == Some(alone),
+        Err(_) => false,
     }
-    printed(alloc, &alone)
 }
 
 /// The fields of SOA data, which are none of NS data.
-pub fn soa(alloc: Global, line: &str) -> Option<String> {
-    let (place, _) = Place::read(alloc, line)?;
-    let soa = read_soa(&place)?;
-    let (mname, rname) = (soa.mname(), soa.rname());
-    let (serial, refresh, retry) = (soa.serial(), soa.refresh(), soa.retry());
-    let (expire, minimum) = (soa.expire(), soa.minimum());
-    format!(in alloc; "{mname} {rname} {serial} {refresh} {retry} {expire} {minimum}").ok()
-}
-
-fn read_soa(place: &Place) -> Option<Soa<ParsedName<'_>>> {
+fn soa(answer: &mut Answer, place: &Place) -> Option<()> {
     let mut parser = place.parser(place.len())?;
     let begin = parser.pos();
     let other: Option<Soa<ParsedName>> = Soa::parse_rdata(Rtype::NS, &mut parser).ok()?;
-    if other.is_some() || parser.pos() != begin {
-        return None;
-    }
+    answer.check(other.is_none());
+    answer.check(parser.pos() == begin);
     let mut again = place.parser(place.len())?;
     let asked: Option<Soa<ParsedName>> = Soa::parse_rdata(Rtype::SOA, &mut again).ok()?;
     let soa = Soa::parse(&mut parser).ok()?;
-    if asked? == soa && parser.remaining() == 0 {
-        Some(soa)
-    } else {
-        None
-    }
+    answer.check(asked? == soa);
+    answer.check(parser.remaining() == 0);
+    answer.value(soa.mname());
+    answer.value(soa.rname());
+    answer.value(&soa.serial());
+    answer.value(&soa.refresh());
+    answer.value(&soa.retry());
+    answer.value(&soa.expire());
+    answer.value(&soa.minimum());
+    Some(())
 }
 
 /// The name of NS data, which are none of SOA data.
-pub fn ns(alloc: Global, line: &str) -> Option<String> {
-    let (place, _) = Place::read(alloc, line)?;
+fn ns(answer: &mut Answer, place: &Place) -> Option<()> {
     let mut parser = place.parser(place.len())?;
     let begin = parser.pos();
     let other: Option<Ns<ParsedName>> = Ns::parse_rdata(Rtype::SOA, &mut parser).ok()?;
-    if other.is_some() || parser.pos() != begin {
-        return None;
-    }
+    answer.check(other.is_none());
+    answer.check(parser.pos() == begin);
     let mut again = place.parser(place.len())?;
     let asked: Option<Ns<ParsedName>> = Ns::parse_rdata(Rtype::NS, &mut again).ok()?;
     let ns = Ns::parse(&mut parser).ok()?;
-    let name = ns.nsdname();
-    if asked? != ns || !name.name_eq(name) {
-        return None;
-    }
-    format!(in alloc; "{name}").ok()
-}
-
-/// The canonical order of two data, and the order of their values.
-pub fn order(alloc: Global, line: &str) -> Option<String> {
-    let (place, rest) = Place::read(alloc, line)?;
-    let (other, _) = Place::read(alloc, rest)?;
-    let (data, other) = (place.data()?.ok()?, other.data()?.ok()?);
-    ordered(alloc, &data, &other)
+    answer.check(asked? == ns);
+    answer.check(ns.nsdname().name_eq(ns.nsdname()));
+    answer.value(ns.nsdname());
+    Some(())
 }
 
 /// The canonical order of two values where all its functions agree, and their own.
-pub fn ordered<D: CanonicalOrd + Ord>(alloc: Global, value: &D, other: &D) -> Option<String> {
-    let order = value.canonical_cmp(other);
-    let is_same = value.canonical_lt(other) == order.is_lt()
-        && value.canonical_le(other) == order.is_le()
-        && value.canonical_gt(other) == order.is_gt()
-        && value.canonical_ge(other) == order.is_ge()
-        && other.canonical_cmp(value) == order.reverse();
-    let own = value.cmp(other);
-    if !is_same || (value == other) != own.is_eq() {
-        return None;
-    }
-    format!(in alloc; "{} {}", order_word(order), order_word(own)).ok()
+pub fn ordered<D: CanonicalOrd + Ord>(answer: &mut Answer, value: &D, other: &D) {
+    let (order, own) = (value.canonical_cmp(other), value.cmp(other));
+    answer.check(value.canonical_lt(other) == order.is_lt());
+    answer.check(value.canonical_le(other) == order.is_le());
+    answer.check(value.canonical_gt(other) == order.is_gt());
+    answer.check(value.canonical_ge(other) == order.is_ge());
+    answer.check(other.canonical_cmp(value) == order.reverse());
+    answer.check((value == other) == own.is_eq());
+    answer.order(order);
+    answer.order(own);
 }
 
-/// What is printed of octets as data of a type that is not known (RFC 3597, 5).
-pub fn unknown(alloc: Global, line: &str) -> Option<String> {
-    let (rtype, octets) = line.split_once(' ')?;
-    let (rtype, octets) = (
-        Rtype::from_int(rtype.parse().ok()?),
-        octets_of(alloc, octets)?,
-    );
-    let data = UnknownRecordData::from_octets(rtype, octets.as_slice()).ok()?;
-    let mut parser = Parser::from_ref(&octets);
+/// Answers a line of octets as data of a type that is not known: what is printed of them (RFC 3597, 5), or how they stand
+/// to others of a type.
+pub fn answer_to_unknown(alloc: Global, answer: &mut Answer, word: &str, line: &str) -> Option<()> {
+    let (rtype, rest) = line.split_once(' ')?;
+    let (octets, rest) = first_word(rest);
+    let rtype = Rtype::from_int(rtype.parse().ok()?);
+    let octets = octets_of(alloc, octets)?;
+    if word == "unknown" {
+        return unknown(answer, rtype, &octets);
+    }
+    let (other, others) = rest.split_once(' ')?;
+    let other = Rtype::from_int(other.parse().ok()?);
+    let data = UnknownRecordData::from_octets(rtype, octets).ok()?;
+    let other = UnknownRecordData::from_octets(other, octets_of(alloc, others)?).ok()?;
+    ordered(answer, &data, &other);
+    Some(())
+}
+
+fn unknown(answer: &mut Answer, rtype: Rtype, octets: &[u8]) -> Option<()> {
+    let data = UnknownRecordData::from_octets(rtype, octets).ok()?;
+    let mut parser = Parser::from_ref(octets);
     let read = UnknownRecordData::parse_any_rdata(rtype, &mut parser).ok()?;
-    let is_same = read == data
-        && data.rtype() == rtype
-        && *data.data() == octets.as_slice()
-        && data.rdlen(true).map(usize::from) == Some(octets.len())
-        && parser.remaining() == 0;
-    if is_same {
-        format!(in alloc; "{data}").ok()
-    } else {
-        None
-    }
+    answer.check(read == data);
+    answer.check(parser.remaining() == 0);
+    answer.check(data.rtype() == rtype);
+    answer.check(*data.data() == octets);
+    answer.check(data.rdlen(true).map(usize::from) == Some(octets.len()));
+    answer.value(&data);
+    Some(())
 }
 
-/// The order of two such data.
-pub fn unknown_order(alloc: Global, line: &str) -> Option<String> {
-    let mut words = line.split(' ');
-    let (rtype, octets) = (
-        words.next()?.parse().ok()?,
-        octets_of(alloc, words.next()?)?,
-    );
-    let (other, others) = (
-        words.next()?.parse().ok()?,
-        octets_of(alloc, words.next()?)?,
-    );
-    let data = UnknownRecordData::from_octets(Rtype::from_int(rtype), octets).ok()?;
-    let other = UnknownRecordData::from_octets(Rtype::from_int(other), others).ok()?;
-    ordered(alloc, &data, &other)
-}
-
-/// Whether so many octets are data, and read as data; or why not.
-pub fn zeros(alloc: Global, line: &str) -> Option<String> {
+/// Whether so many octets are data, and read as data; or why not; and where the parser stands then.
+pub fn zeros(alloc: Global, answer: &mut Answer, line: &str) -> Option<()> {
     let mut octets = Vec::new(alloc);
     octets.resize(line.parse().ok()?, 0u8).ok()?;
-    let mut parser = Parser::from_ref(&octets);
-    let read = UnknownRecordData::parse_any_rdata(Rtype::A, &mut parser);
-    let mut answer = String::new(alloc);
     match UnknownRecordData::from_octets(Rtype::A, octets.as_slice()) {
-        Ok(_) => push_word(&mut answer, "data")?,
-        Err(error) => push_word(&mut answer, error.as_str())?,
+        Ok(_) => answer.word("data"),
+        Err(error) => answer.word(error.as_str()),
     }
-    match read {
-        Ok(_) => push_word(&mut answer, "read")?,
-        Err(error) => push_word(&mut answer, &format!(in alloc; "{error}").ok()?)?,
+    let mut parser = Parser::from_ref(&octets);
+    match UnknownRecordData::parse_any_rdata(Rtype::A, &mut parser) {
+        Ok(_) => answer.word("read"),
+        Err(error) => answer.value(&error),
     }
-    push_word(&mut answer, &parser.pos().to_string(alloc).ok()?)?;
-    Some(answer)
+    answer.value(&parser.pos());
+    Some(())
 }

@@ -1,13 +1,13 @@
 //! Groups of sorted records, by owner and by type.
 
-use crate::records::{Rr, shown};
-use crate::sorted::sorted_of;
-use denial_rrsets::groups::{MultipleTtlValues, OwnerRrs, Rrset};
+use crate::records::shown;
+use crate::sorted::{Sorted, sorted_of};
+use denial_rrsets::groups::{MultipleTtlValues, Rrset};
 use denial_rrsets::slices::SliceRefsOrOwned;
 use denial_rrsets::walks::RecordsIter;
 use names::{Name, Rtype, UnknownRecordData};
 use std::alloc::Global;
-use test_lines::{octets_of, printed, push_word, text};
+use test_lines::{Answer, Between, octets_of};
 
 type Owner = Name<Vec<u8>>;
 
@@ -15,130 +15,140 @@ type Data = UnknownRecordData<Vec<u8>>;
 
 type Set<'a> = Result<Rrset<'a, Owner, Data>, MultipleTtlValues>;
 
-/// The owners of records in groups, with the class and how many records each has.
-pub fn owners(alloc: Global, line: &str) -> Option<String> {
+/// Answers a line of records.
+pub fn answer_to(alloc: Global, answer: &mut Answer, word: &str, line: &str) -> Option<()> {
     let sorted = sorted_of(alloc, line)?;
-    let told = walked(alloc, sorted.owner_rrs())?;
+    match word {
+        "owners" => owners(alloc, answer, &sorted),
+        "sets" => {
+            sets(alloc, answer, &sorted);
+            Some(())
+        }
+        "find-soa" => {
+            found(alloc, answer, sorted.find_soa());
+            Some(())
+        }
+        _ => {
+            singles(alloc, answer, &sorted);
+            Some(())
+        }
+    }
+}
+
+/// Answers a line of a name, and of records behind it; in front of them stands a type, where one is to be found.
+pub fn answer_to_name(alloc: Global, answer: &mut Answer, word: &str, line: &str) -> Option<()> {
+    let (name, rest) = line.split_once(' ')?;
+    let name = Name::from_octets(octets_of(alloc, name)?).ok()?;
+    if word == "zone" {
+        return zone(alloc, answer, &name, &sorted_of(alloc, rest)?);
+    }
+    let (rtype, rest) = rest.split_once(' ')?;
+    let rtype = Rtype::from_int(rtype.parse().ok()?);
+    let sorted = sorted_of(alloc, rest)?;
+    found(alloc, answer, sorted.find_apex_rtype(&name, rtype));
+    Some(())
+}
+
+/// The owners of records in groups, with the class and how many records each has.
+fn owners(alloc: Global, answer: &mut Answer, sorted: &Sorted) -> Option<()> {
     let mut refs = Vec::new(alloc);
     for rr in sorted.iter() {
         refs.push(rr).ok()?;
     }
     let owned = sorted.as_slice();
-    let is_same = walked(alloc, RecordsIter::new_from_refs(&refs))? == told
-        && walked(
-            alloc,
-            RecordsIter::new(SliceRefsOrOwned::new_from_owned(owned)),
-        )? == told
-        && walked(alloc, RecordsIter::new_from_owned(owned))? == told;
-    if is_same { Some(told) } else { None }
+    let slices = SliceRefsOrOwned::new_from_owned(owned);
+    answer.append(walked(alloc, sorted.owner_rrs()));
+    answer.check_same(walked(alloc, RecordsIter::new_from_refs(&refs)));
+    answer.check_same(walked(alloc, RecordsIter::new(slices)));
+    answer.check_same(walked(alloc, RecordsIter::new_from_owned(owned)));
+    Some(())
 }
 
-fn walked(alloc: Global, owners: RecordsIter<'_, Owner, Data>) -> Option<String> {
-    let mut answer = String::new(alloc);
+fn walked(alloc: Global, owners: RecordsIter<'_, Owner, Data>) -> Answer {
+    let mut walked = Answer::new(alloc);
     for group in owners {
-        let owner = printed(alloc, group.owner().as_slice())?;
-        let (class, count) = (group.class().to_int(), group.records().count());
-        push_word(
-            &mut answer,
-            &format!(in alloc; "{owner},{class},{count}").ok()?,
-        )?;
+        let mut told = Answer::list(alloc, Between::Comma);
+        told.octets(group.owner().as_slice());
+        told.value(&group.class().to_int());
+        told.value(&group.records().count());
+        walked.append(told);
     }
-    Some(answer)
+    walked
 }
 
 /// The RRsets of records, by two walks.
-pub fn sets(alloc: Global, line: &str) -> Option<String> {
-    let sorted = sorted_of(alloc, line)?;
-    let (mut answer, mut again) = (String::new(alloc), String::new(alloc));
+fn sets(alloc: Global, answer: &mut Answer, sorted: &Sorted) {
     for set in sorted.rrsets() {
-        push_word(&mut answer, &told(alloc, set)?)?;
+        answer.append(told(alloc, set));
     }
+    let mut again = Answer::new(alloc);
     for group in sorted.owner_rrs() {
         for set in group.rrsets() {
-            push_word(&mut again, &told(alloc, set)?)?;
+            again.append(told(alloc, set));
         }
     }
-    if answer == again { Some(answer) } else { None }
+    answer.check_same(again);
 }
 
 /// An RRset: owner, class, type, TTL, how many records it has, and the first of them; or why it is none.
-fn told(alloc: Global, set: Set<'_>) -> Option<String> {
-    let set = match set {
-        Ok(set) => set,
-        Err(error) => return format!(in alloc; "({error})").ok(),
-    };
-    let owner = printed(alloc, set.owner().as_slice())?;
-    let (class, rtype) = (set.class().to_int(), set.rtype().to_int());
-    let (ttl, len, first) = (set.ttl(), set.len(), shown(alloc, set.first())?);
-    if set.iter().count() != len || set.into_inner().iter().count() != len {
-        return None;
+fn told(alloc: Global, set: Set<'_>) -> Answer {
+    let mut told = Answer::list(alloc, Between::Comma);
+    match set {
+        Ok(set) => {
+            let len = set.len();
+            told.octets(set.owner().as_slice());
+            told.value(&set.class().to_int());
+            told.value(&set.rtype().to_int());
+            told.value(&set.ttl());
+            match shown(alloc, set.first()).done() {
+                Some(first) => told.value(&format_args!("{len}={first}")),
+                None => told.check(false),
+            }
+            told.check(set.iter().count() == len);
+            told.check(set.into_inner().iter().count() == len);
+        }
+        Err(error) => told.value(&format_args!("({error})")),
     }
-    format!(in alloc; "{owner},{class},{rtype},{ttl},{len}={first}").ok()
+    told
 }
 
-/// The RRset of a type at an owner among records, if there is one.
-pub fn find(alloc: Global, line: &str) -> Option<String> {
-    let (owner, rest) = line.split_once(' ')?;
-    let (rtype, rest) = rest.split_once(' ')?;
-    let owner = Name::from_octets(octets_of(alloc, owner)?).ok()?;
-    let sorted = sorted_of(alloc, rest)?;
-    match sorted.find_apex_rtype(&owner, Rtype::from_int(rtype.parse().ok()?)) {
-        Ok(Some(set)) => told(alloc, Ok(set)),
-        Ok(None) => text(alloc, "none"),
-        Err(error) => told(alloc, Err(error)),
-    }
-}
-
-/// The first RRset of SOA records.
-pub fn find_soa(alloc: Global, line: &str) -> Option<String> {
-    let sorted = sorted_of(alloc, line)?;
-    match sorted.find_soa() {
-        Ok(Some(set)) => told(alloc, Ok(set)),
-        Ok(None) => text(alloc, "none"),
-        Err(error) => told(alloc, Err(error)),
+/// The RRset that was found, if there is one.
+fn found(
+    alloc: Global,
+    answer: &mut Answer,
+    found: Result<Option<Rrset<'_, Owner, Data>>, MultipleTtlValues>,
+) {
+    match found {
+        Ok(Some(set)) => answer.append(told(alloc, Ok(set))),
+        Ok(None) => answer.word("none"),
+        Err(error) => answer.append(told(alloc, Err(error))),
     }
 }
 
 /// The first record; and from the apex on each owner, whether it is in the zone and whether it delegates.
-pub fn zone(alloc: Global, line: &str) -> Option<String> {
-    let (apex, rest) = line.split_once(' ')?;
-    let apex = Name::from_octets(octets_of(alloc, apex)?).ok()?;
-    let sorted = sorted_of(alloc, rest)?;
+fn zone(alloc: Global, answer: &mut Answer, apex: &Owner, sorted: &Sorted) -> Option<()> {
     let mut owners = sorted.owner_rrs();
-    let mut answer = shown(alloc, owners.first()?)?;
-    owners.skip_before(&apex);
+    answer.append(shown(alloc, owners.first()?));
+    owners.skip_before(apex);
     for group in owners {
-        push_word(&mut answer, &place_in_zone(alloc, &group, &apex)?)?;
+        let mut told = Answer::list(alloc, Between::Comma);
+        told.octets(group.owner().as_slice());
+        told.word(match (group.is_in_zone(apex), group.is_zone_cut(apex)) {
+            (true, false) => "inside",
+            (true, true) => "cut",
+            (false, _) => "outside",
+        });
+        answer.append(told);
     }
-    Some(answer)
-}
-
-fn place_in_zone(alloc: Global, group: &OwnerRrs<'_, Owner, Data>, apex: &Owner) -> Option<String> {
-    let owner = printed(alloc, group.owner().as_slice())?;
-    let place = match (group.is_in_zone(apex), group.is_zone_cut(apex)) {
-        (true, false) => "inside",
-        (true, true) => "cut",
-        (false, _) => "outside",
-    };
-    format!(in alloc; "{owner},{place}").ok()
+    Some(())
 }
 
 /// Whether each record alone is an RRset.
-pub fn singles(alloc: Global, line: &str) -> Option<String> {
-    let sorted = sorted_of(alloc, line)?;
-    let mut answer = String::new(alloc);
+fn singles(alloc: Global, answer: &mut Answer, sorted: &Sorted) {
     for rr in sorted.iter() {
-        push_word(&mut answer, &single(alloc, rr)?)?;
-    }
-    Some(answer)
-}
-
-fn single(alloc: Global, rr: &Rr) -> Option<String> {
-    let (owned, refs) = (std::slice::from_ref(rr), [rr]);
-    let set = told(alloc, Rrset::new_from_owned(owned))?;
-    if told(alloc, Rrset::new_from_refs(&refs))? == set {
-        Some(set)
-    } else {
-        None
+        let (owned, refs) = (std::slice::from_ref(rr), [rr]);
+        let mut single = told(alloc, Rrset::new_from_owned(owned));
+        single.check_same(told(alloc, Rrset::new_from_refs(&refs)));
+        answer.append(single);
     }
 }

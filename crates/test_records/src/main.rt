@@ -15,43 +15,33 @@ mod sorted;
 
 use std::alloc::Global;
 use std::io;
-use test_lines::{answer_each_line, first_word};
+use test_lines::{Answer, answer_each_line, first_word};
 
-/// What is printed behind a line, if it can be read.
-fn answer_to(alloc: Global, line: &str) -> Option<String> {
+/// Answers a line, if it can be read.
+fn answer_to(alloc: Global, answer: &mut Answer, line: &str) -> Option<()> {
     let (word, rest) = first_word(line);
     match word {
-        "constants" => named_numbers::constants(alloc),
-        "encode" => named_numbers::encode(alloc, rest),
-        "decode" => named_numbers::decode(alloc, rest),
-        "lengths" => named_numbers::lengths(alloc, rest),
-        "data" => data::data(alloc, rest),
-        "soa" => data::soa(alloc, rest),
-        "ns" => data::ns(alloc, rest),
-        "order" => data::order(alloc, rest),
-        "unknown" => data::unknown(alloc, rest),
-        "unknown-order" => data::unknown_order(alloc, rest),
-        "zeros" => data::zeros(alloc, rest),
-        "record" => records::record(alloc, rest),
-        "record-order" => records::order(alloc, rest),
-        _ => answer_of_many(alloc, word, rest),
-    }
-}
-
-/// As `answer_to`, of many records.
-fn answer_of_many(alloc: Global, word: &str, rest: &str) -> Option<String> {
-    match word {
-        "sort" => sorted::sort(alloc, rest),
-        "extend" => sorted::extend(alloc, rest),
-        "insert" => sorted::insert(alloc, rest),
-        "remove-first" | "remove-all" => sorted::remove(alloc, word, rest),
-        "owners" => groups::owners(alloc, rest),
-        "sets" => groups::sets(alloc, rest),
-        "find" => groups::find(alloc, rest),
-        "find-soa" => groups::find_soa(alloc, rest),
-        "zone" => groups::zone(alloc, rest),
-        "singles" => groups::singles(alloc, rest),
-        _ => named_numbers::number(alloc, word, rest),
+        "constants" => {
+            named_numbers::constants(answer);
+            Some(())
+        }
+        "encode" => named_numbers::encode(alloc, answer, rest),
+        "decode" => {
+            named_numbers::decode(alloc, answer, rest);
+            Some(())
+        }
+        "lengths" => named_numbers::lengths(answer, rest),
+        "data" | "soa" | "ns" | "order" => data::answer_to(alloc, answer, word, rest),
+        "unknown" | "unknown-order" => data::answer_to_unknown(alloc, answer, word, rest),
+        "zeros" => data::zeros(alloc, answer, rest),
+        "record" => records::record(alloc, answer, rest),
+        "record-order" => records::order(alloc, answer, rest),
+        "sort" => sorted::sort(alloc, answer, rest),
+        "extend" | "insert" => sorted::answer_to_added(alloc, answer, word, rest),
+        "remove-first" | "remove-all" => sorted::remove(alloc, answer, word, rest),
+        "owners" | "sets" | "find-soa" | "singles" => groups::answer_to(alloc, answer, word, rest),
+        "find" | "zone" => groups::answer_to_name(alloc, answer, word, rest),
+        _ => named_numbers::answer_to(answer, word, rest),
     }
 }
 

@@ -6,7 +6,7 @@ use plain::record::Record;
 use plain::zone_data::ZoneRecordData;
 use plain::{Class, Ttl};
 use std::alloc::Global;
-use test_lines::{octets_of, printed};
+use test_lines::{Answer, Between, octets_of};
 
 /// A record that owns its octets.
 pub type Rr = Record<Name<Vec<u8>>, UnknownRecordData<Vec<u8>>>;
@@ -26,18 +26,16 @@ struct Fields {
 
 impl Fields {
     fn read(alloc: Global, text: &str) -> Option<Fields> {
-        let mut words = text.split(',');
-        let owner = octets_of(alloc, words.next()?)?;
-        let class = Class::from_int(words.next()?.parse().ok()?);
-        let ttl = Ttl::from_secs(words.next()?.parse().ok()?);
-        let rtype = Rtype::from_int(words.next()?.parse().ok()?);
-        let content = octets_of(alloc, words.next()?)?;
+        let (owner, rest) = text.split_once(',')?;
+        let (class, rest) = rest.split_once(',')?;
+        let (ttl, rest) = rest.split_once(',')?;
+        let (rtype, content) = rest.split_once(',')?;
         Some(Fields {
-            owner,
-            class,
-            ttl,
-            rtype,
-            content,
+            class: Class::from_int(class.parse().ok()?),
+            ttl: Ttl::from_secs(ttl.parse().ok()?),
+            rtype: Rtype::from_int(rtype.parse().ok()?),
+            owner: octets_of(alloc, owner)?,
+            content: octets_of(alloc, content)?,
         })
     }
 
@@ -62,27 +60,32 @@ pub fn record_of(alloc: Global, text: &str) -> Option<Rr> {
 }
 
 /// A record as it stands in a line.
-pub fn shown(alloc: Global, rr: &Rr) -> Option<String> {
-    let owner = printed(alloc, rr.owner().as_slice())?;
-    let content = printed(alloc, rr.data().as_slice())?;
-    let (class, ttl, rtype) = (rr.class().to_int(), rr.ttl(), rr.rtype().to_int());
-    format!(in alloc; "{owner},{class},{ttl},{rtype},{content}").ok()
+pub fn shown(alloc: Global, rr: &Rr) -> Answer {
+    let mut fields = Answer::list(alloc, Between::Comma);
+    fields.octets(rr.owner().as_slice());
+    fields.value(&rr.class().to_int());
+    fields.value(&rr.ttl());
+    fields.value(&rr.rtype().to_int());
+    fields.octets(rr.data().as_slice());
+    fields
 }
 
 /// A record as it is written, and in canonical form.
-pub fn record(alloc: Global, line: &str) -> Option<String> {
+pub fn record(alloc: Global, answer: &mut Answer, line: &str) -> Option<()> {
     let fields = Fields::read(alloc, line)?;
     let rr = fields.zone_record()?;
     let (mut written, mut canonical) = (Vec::new(alloc), Vec::new(alloc));
-    rr.compose(&mut written).ok()?;
-    rr.compose_canonical(&mut canonical).ok()?;
-    let (written, canonical) = (printed(alloc, &written)?, printed(alloc, &canonical)?);
-    format!(in alloc; "{written} {canonical}").ok()
+    answer.check(rr.compose(&mut written).is_ok());
+    answer.check(rr.compose_canonical(&mut canonical).is_ok());
+    answer.octets(&written);
+    answer.octets(&canonical);
+    Some(())
 }
 
 /// The canonical order of two records, and the order of their values.
-pub fn order(alloc: Global, line: &str) -> Option<String> {
+pub fn order(alloc: Global, answer: &mut Answer, line: &str) -> Option<()> {
     let (fields, others) = line.split_once(' ')?;
     let (fields, others) = (Fields::read(alloc, fields)?, Fields::read(alloc, others)?);
-    ordered(alloc, &fields.zone_record()?, &others.zone_record()?)
+    ordered(answer, &fields.zone_record()?, &others.zone_record()?);
+    Some(())
 }

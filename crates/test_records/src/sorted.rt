@@ -7,7 +7,7 @@ use denial_sorted::sorter::DefaultSorter;
 use names::{Name, Rtype, UnknownRecordData};
 use plain::Class;
 use std::alloc::Global;
-use test_lines::{octets_of, push_word, yes_or_no};
+use test_lines::{Answer, octets_of};
 
 pub type Sorted = SortedRecords<Name<Vec<u8>>, UnknownRecordData<Vec<u8>>, DefaultSorter>;
 
@@ -27,58 +27,60 @@ pub fn sorted_of(alloc: Global, line: &str) -> Option<Sorted> {
 }
 
 /// Records as they stand in a line.
-fn held(alloc: Global, records: &[Rr]) -> Option<String> {
-    let mut text = String::new(alloc);
+fn held(alloc: Global, records: &[Rr]) -> Answer {
+    let mut held = Answer::new(alloc);
     for rr in records {
-        push_word(&mut text, &shown(alloc, rr)?)?;
+        held.append(shown(alloc, rr));
     }
-    if text.is_empty() {
-        push_word(&mut text, "none")?;
-    }
-    Some(text)
+    held.word_if_empty("none");
+    held
 }
 
 /// Records in order, of equal ones the first, put in at once from a vector and an iterator, and one by one.
-pub fn sort(alloc: Global, line: &str) -> Option<String> {
+pub fn sort(alloc: Global, answer: &mut Answer, line: &str) -> Option<()> {
     unknown_data_order_is_total::<Vec<u8>>();
-    let told = held(alloc, sorted_of(alloc, line)?.as_slice())?;
+    answer.append(held(alloc, sorted_of(alloc, line)?.as_slice()));
     let again = Sorted::from_iter(alloc, records_of(alloc, line)?).ok()?;
+    answer.check_same(held(alloc, &again.into_inner()));
     let mut single = Sorted::new(alloc);
-    let was_empty = single.is_empty();
+    answer.check(single.is_empty());
     for rr in records_of(alloc, line)? {
         match single.insert(rr) {
             Ok(()) | Err(InsertError::Present(_)) => {}
             Err(InsertError::Memory(_)) => return None,
         }
     }
-    let is_same = held(alloc, &again.into_inner())? == told
-        && held(alloc, single.as_slice())? == told
-        && was_empty
-        && single.len() > 0;
-    if is_same { Some(told) } else { None }
+    answer.check_same(held(alloc, single.as_slice()));
+    answer.check(single.len() > 0);
+    Some(())
 }
 
-/// Records in order, and those behind `+` added to them.
-pub fn extend(alloc: Global, line: &str) -> Option<String> {
+/// Answers a line of records in order, and others behind `+`, which are added to them.
+pub fn answer_to_added(alloc: Global, answer: &mut Answer, word: &str, line: &str) -> Option<()> {
     let (first, more) = line.split_once(" + ")?;
     let mut sorted = sorted_of(alloc, first)?;
+    if word == "insert" {
+        return insert(alloc, answer, &mut sorted, record_of(alloc, more)?);
+    }
     sorted.extend(records_of(alloc, more)?).ok()?;
-    held(alloc, sorted.as_slice())
+    answer.append(held(alloc, sorted.as_slice()));
+    Some(())
 }
 
-/// Records in order, and the one behind `+` put in its place; or why it was not, and the record that is handed back.
-pub fn insert(alloc: Global, line: &str) -> Option<String> {
-    let (first, rr) = line.split_once(" + ")?;
-    let mut sorted = sorted_of(alloc, first)?;
-    let rr = record_of(alloc, rr)?;
-    let back = match sorted.insert(rr) {
-        Ok(()) => return held(alloc, sorted.as_slice()),
-        Err(InsertError::Present(back)) => back,
+/// Puts a record in its place; or says why it was not put in, and the record that is handed back.
+fn insert(alloc: Global, answer: &mut Answer, sorted: &mut Sorted, rr: Rr) -> Option<()> {
+    match sorted.insert(rr) {
+        Ok(()) => {}
+        Err(InsertError::Present(back)) => {
+            let told = shown(alloc, &back);
+            answer.value(&InsertError::Present(back));
+            answer.append(told);
+            answer.word("|");
+        }
         Err(InsertError::Memory(_)) => return None,
-    };
-    let told = shown(alloc, &back)?;
-    let (fault, left) = (InsertError::Present(back), held(alloc, sorted.as_slice())?);
-    format!(in alloc; "{fault} {told} | {left}").ok()
+    }
+    answer.append(held(alloc, sorted.as_slice()));
+    Some(())
 }
 
 /// A word that may be `*`, for any.
@@ -90,18 +92,18 @@ fn asked(word: &str) -> Option<Option<u16>> {
 }
 
 /// Whether there was a record of an owner, class and type, and what is left when it, or all of them, are taken out.
-pub fn remove(alloc: Global, which: &str, line: &str) -> Option<String> {
+pub fn remove(alloc: Global, answer: &mut Answer, which: &str, line: &str) -> Option<()> {
     let (owner, rest) = line.split_once(' ')?;
     let (class, rest) = rest.split_once(' ')?;
     let (rtype, rest) = rest.split_once(' ')?;
-    let owner = Name::from_octets(octets_of(alloc, owner)?).ok()?;
     let class = asked(class)?.map(Class::from_int);
     let rtype = asked(rtype)?.map(Rtype::from_int);
+    let owner = Name::from_octets(octets_of(alloc, owner)?).ok()?;
     let mut sorted = sorted_of(alloc, rest)?;
-    let found = match which {
+    answer.yes(match which {
         "remove-all" => sorted.remove_all_by_name_class_rtype(&owner, class, rtype),
         _ => sorted.remove_first_by_name_class_rtype(&owner, class, rtype),
-    };
-    let (found, left) = (yes_or_no(found), held(alloc, sorted.as_slice())?);
-    format!(in alloc; "{found} {left}").ok()
+    });
+    answer.append(held(alloc, sorted.as_slice()));
+    Some(())
 }
