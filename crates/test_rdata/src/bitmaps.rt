@@ -89,17 +89,22 @@ fn has_types(alloc: Global, answer: &mut Answer, octets: &[u8], types: &[u16]) -
 
 /// The types of a bitmap as text, how many octets it has, whether data may hold them and whether they are none.
 pub fn types_of(answer: &mut Answer, octets: &[u8]) {
-    match RtypeBitmap::from_octets(octets) {
-        Ok(bitmap) => {
-            answer.check(bitmap.fits_rdlen());
-            answer.value(&bitmap.compose_len());
-            answer.mark(", none");
-            answer.yes(bitmap.is_empty());
-            answer.mark(":");
-            answer.value(&bitmap);
+    let bitmap = match RtypeBitmap::from_octets(octets) {
+        Ok(bitmap) => bitmap,
+        Err(error) => {
+            answer.refused(&error);
+            return;
         }
-        Err(error) => answer.refused(&error),
+    };
+    if !bitmap.fits_rdlen() {
+        answer.check(false);
+        return;
     }
+    answer.value(&bitmap.compose_len());
+    answer.mark(", none");
+    answer.yes(bitmap.is_empty());
+    answer.mark(":");
+    answer.value(&bitmap);
 }
 
 /// How many octets from the front on are a bitmap: numbers, joined by commas.
