@@ -8,8 +8,16 @@ use names_flat::name::Name;
 use std::alloc::Global;
 use test_lines::{Answer, listed, text};
 
-/// Why not all lives are as they have to be, if they aren't.
-type Fault = Option<&'static str>;
+/// What is found of all lists of calls.
+#[derive(Clone, Copy)]
+enum Found {
+    /// Things that were handed out and aren't retired meet.
+    AllMeet,
+    /// Some don't.
+    Apart,
+    /// A call changed the keys and was refused.
+    Changed,
+}
 
 /// What is said of all lists of so many accepted calls of some rolls.
 pub fn lives_of(alloc: Global, answer: &mut Answer, line: &str) -> Option<()> {
@@ -18,12 +26,13 @@ pub fn lives_of(alloc: Global, answer: &mut Answer, line: &str) -> Option<()> {
     for name in &listed(alloc, names)? {
         rolls.push(roll(name)?).ok()?;
     }
-    let mut fault = None;
-    let count = lives(alloc, &mut fault, &rolls, calls.parse::<usize>().ok()?)?;
-    answer.word(match (fault, count) {
-        (Some(fault), _) => fault,
-        (None, 0) => "no list of so many calls",
-        (None, _) => "all meet",
+    let mut found = Found::AllMeet;
+    let count = lives(alloc, &mut found, &rolls, calls.parse::<usize>().ok()?)?;
+    answer.word(match found {
+        Found::Apart => "some do not meet",
+        Found::Changed => "a refused call changed the keys",
+        Found::AllMeet if count == 0 => "no list of so many calls",
+        Found::AllMeet => "all meet",
     });
     Some(())
 }
@@ -272,7 +281,7 @@ fn put_in_use(alloc: Global, set: &mut KeySet) -> Option<()> {
 }
 
 /// The states behind the calls that are accepted; those that are refused change nothing.
-fn states_of(alloc: Global, fault: &mut Fault, steps: &[Made]) -> Option<Vec<Shown>> {
+fn states_of(alloc: Global, found: &mut Found, steps: &[Made]) -> Option<Vec<Shown>> {
     let mut set = KeySet::new(alloc, Name::root(alloc).ok()?);
     put_in_use(alloc, &mut set)?;
     let mut states = Vec::new(alloc);
@@ -282,7 +291,7 @@ fn states_of(alloc: Global, fault: &mut Fault, steps: &[Made]) -> Option<Vec<Sho
         if is_accepted(&mut set, *step) {
             states.push(state_of(&set)).ok()?;
         } else if before != state_of(&set) {
-            *fault = Some("a refused call changed the keys");
+            *found = Found::Changed;
         }
     }
     Some(states)
@@ -299,20 +308,20 @@ fn with_call(alloc: Global, steps: &[Made], made: Made) -> Option<Vec<Made>> {
 /// Adds the list with one call more, if that is accepted; checked at its moment and behind it.
 fn push_longer(
     alloc: Global,
-    fault: &mut Fault,
+    found: &mut Found,
     next: &mut Vec<Vec<Made>>,
     list: &[Made],
     made: Made,
 ) -> Option<()> {
     let steps = with_call(alloc, list, made)?;
-    let states = states_of(alloc, fault, steps.as_slice())?;
+    let states = states_of(alloc, found, steps.as_slice())?;
     if states.len() <= steps.len() {
         return Some(());
     }
     for later in [0, 1, TTL] {
         let moment = made.now.saturating_add(later);
         if !all_meet(alloc, states.as_slice(), steps.as_slice(), moment)? {
-            *fault = Some("some do not meet");
+            *found = Found::Apart;
         }
     }
     next.push(steps).ok()
@@ -321,7 +330,7 @@ fn push_longer(
 /// All lists of accepted calls of these rolls that are one call longer than a list.
 fn push_all_longer(
     alloc: Global,
-    fault: &mut Fault,
+    found: &mut Found,
     next: &mut Vec<Vec<Made>>,
     list: &[Made],
     rolls: &[RollType],
@@ -336,7 +345,7 @@ fn push_all_longer(
                     roll: *roll,
                     now,
                 };
-                push_longer(alloc, fault, next, list, made)?;
+                push_longer(alloc, found, next, list, made)?;
             }
         }
     }
@@ -344,13 +353,13 @@ fn push_all_longer(
 }
 
 /// How many lists there are of so many calls.
-fn lives(alloc: Global, fault: &mut Fault, rolls: &[RollType], calls: usize) -> Option<usize> {
+fn lives(alloc: Global, found: &mut Found, rolls: &[RollType], calls: usize) -> Option<usize> {
     let mut lists = Vec::new(alloc);
     lists.push(Vec::new(alloc)).ok()?;
     for _ in 0..calls {
         let mut next = Vec::new(alloc);
         for list in &lists {
-            push_all_longer(alloc, fault, &mut next, list, rolls)?;
+            push_all_longer(alloc, found, &mut next, list, rolls)?;
         }
         lists = next;
     }

@@ -1,6 +1,6 @@
 //! Builders of names: steps, one blank apart.
 //!
-//! - `label=OCTETS`: a label. `octets=OCTETS`, `times=NUMBER`: octets, or so many `a`, into the open label.
+//! - `label=OCTETS`: a label. `octets=OCTETS`: octets into the open label.
 //! - `push=OCTETS`: these octets, each alone. `end`: ends the open label.
 //! - `name=OCTETS`: a relative name. `dec=NUMBER`, `hex=NUMBER`: a label of the number's digits.
 //! - `chars=TEXT`, `symbols=SYMBOLS`: a text, or symbols joined by commas.
