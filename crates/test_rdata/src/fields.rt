@@ -4,14 +4,16 @@ use denial_data::{Nsec3Salt, OwnerHash, Timestamp};
 use names::{CanonicalOrd, Parser};
 use plain::base32hex;
 use std::alloc::Global;
-use std::fmt::Display;
 use std::str::FromStr;
 use test_lines::Answer;
 
 /// Answers a line of a text.
 pub fn answer_to(alloc: Global, answer: &mut Answer, asked: &str, text: &str) -> Option<()> {
     match asked {
-        "time-text" => time(alloc, answer, Timestamp::from_str(text)),
+        "time-text" => match Timestamp::from_str(text) {
+            Ok(time) => told(alloc, answer, time),
+            Err(error) => answer.refused(&error),
+        },
         "salt" => salt_from(alloc, answer, text),
         "owner-hash" => hash_from(alloc, answer, text),
         "base32hex" => match base32hex::decode(alloc, text) {
@@ -46,24 +48,21 @@ pub fn answer_to_numbers(answer: &mut Answer, asked: &str, line: &str) -> Option
 
 /// A time of octets, written again.
 pub fn time_of(alloc: Global, answer: &mut Answer, octets: &[u8]) {
-    let read = Timestamp::parse(&mut Parser::from_ref(octets));
-    time(alloc, answer, read);
-}
-
-/// A time, its number, and its octets; or why it was not read.
-fn time<E: Display + Drop>(alloc: Global, answer: &mut Answer, read: Result<Timestamp, E>) {
-    match read {
-        Ok(time) => {
-            let mut octets = Vec::new(alloc);
-            answer.check(time.compose(&mut octets).is_ok());
-            answer.value(&time);
-            answer.value(&time.into_int());
-            answer.octets(&octets);
-            answer.word("of");
-            answer.value(&Timestamp::COMPOSE_LEN);
-        }
+    match Timestamp::parse(&mut Parser::from_ref(octets)) {
+        Ok(time) => told(alloc, answer, time),
         Err(error) => answer.refused(&error),
     }
+}
+
+/// A time, its number, and its octets.
+fn told(alloc: Global, answer: &mut Answer, time: Timestamp) {
+    let mut octets = Vec::new(alloc);
+    answer.check(time.compose(&mut octets).is_ok());
+    answer.value(&time);
+    answer.value(&time.into_int());
+    answer.octets(&octets);
+    answer.word("of");
+    answer.value(&Timestamp::COMPOSE_LEN);
 }
 
 /// The salt of a text: its octets, and its text.
