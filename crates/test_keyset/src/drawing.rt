@@ -270,7 +270,11 @@ impl Sheet {
         let (top, line) = (BOTTOM.saturating_add(12), BOTTOM.saturating_add(25));
         for (class, x, text) in [
             ("shown", LEFT, "shown"),
-            ("replaced", LEFT.saturating_add(90), "replaced, and perhaps in use"),
+            (
+                "replaced",
+                LEFT.saturating_add(90),
+                "replaced, and perhaps in use",
+            ),
             ("wait", LEFT.saturating_add(300), "a wait"),
         ] {
             self.bar(class, (x, x.saturating_add(16)), top, 16);
