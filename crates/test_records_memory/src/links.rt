@@ -1,10 +1,8 @@
 //! Records of chains: what they must say, link by link.
 
 use crate::zones::{A, B_C, D, EXAMPLE, Owner, STAR_W};
-use denial_bitmap::bitmap::RtypeBitmap;
-use denial_nsec_data::nsec::Nsec;
-use denial_nsec_data::nsec3::Nsec3;
-use names::{Name, Rtype};
+use denial_data::{Nsec, Nsec3, RtypeBitmap};
+use names::Name;
 use plain::Class;
 use plain::record::Record;
 
@@ -58,39 +56,55 @@ pub const OPT_OUT_HASHES: [HashedLink; 6] = [
     (W_HASH, &[]),
 ];
 
-/// How many types a bitmap has.
-pub fn type_count(types: &RtypeBitmap<Vec<u8>>) -> usize {
-    let mut count = 0usize;
-    for _ in types.iter() {
-        count = count.wrapping_add(1);
-    }
-    count
-}
-
-/// Whether the types of a bitmap are these.
-fn has_types(found: &RtypeBitmap<Vec<u8>>, types: &[u16]) -> bool {
-    for rtype in types {
-        if !found.contains(Rtype::from_int(*rtype)) {
-            return false;
+/// Whether the types of a bitmap are these, in order.
+pub fn has_types(found: &RtypeBitmap<Vec<u8>>, types: &[u16]) -> bool {
+    let mut rest = types;
+    for rtype in found.iter() {
+        match rest.split_first() {
+            Some((first, behind)) if *first == rtype.to_int() => rest = behind,
+            _ => return false,
         }
     }
-    type_count(found) == types.len()
+    rest.is_empty()
 }
 
-pub fn is_link(rr: &Record<&Owner, Nsec<Vec<u8>, &Owner>>, link: Link) -> bool {
+fn is_link(rr: &Record<&Owner, Nsec<Vec<u8>, &Owner>>, link: &Link) -> bool {
     let (owner, next, types) = link;
-    rr.owner().as_slice() == owner
-        && rr.data().next_name().as_slice() == next
+    rr.owner().as_slice() == *owner
+        && rr.data().next_name().as_slice() == *next
         && rr.class() == Class::IN
         && rr.ttl().as_secs() == 900
         && has_types(rr.data().types(), types)
 }
 
-pub fn is_hashed_link(rr: &Record<Name<Vec<u8>>, Nsec3<Vec<u8>>>, link: HashedLink) -> bool {
+/// Whether the records of a chain are these links.
+pub fn are_links(chain: &[Record<&Owner, Nsec<Vec<u8>, &Owner>>], links: &[Link]) -> bool {
+    chain.len() == links.len() && chain.iter().zip(links).all(|(rr, link)| is_link(rr, link))
+}
+
+fn is_hashed_link(
+    rr: &Record<Name<Vec<u8>>, Nsec3<Vec<u8>>>,
+    link: &HashedLink,
+    opt_out: bool,
+) -> bool {
     let (hash, types) = link;
-    rr.owner().first().as_slice() == hash
+    rr.owner().first().as_slice() == *hash
         && rr.owner().label_count() == 3
         && rr.class() == Class::IN
         && rr.ttl().as_secs() == 900
+        && rr.data().opt_out() == opt_out
         && has_types(rr.data().types(), types)
+}
+
+/// Whether the records of a chain of hashes are these links.
+pub fn are_hashed_links(
+    chain: &[Record<Name<Vec<u8>>, Nsec3<Vec<u8>>>],
+    links: &[HashedLink],
+    opt_out: bool,
+) -> bool {
+    chain.len() == links.len()
+        && chain
+            .iter()
+            .zip(links)
+            .all(|(rr, link)| is_hashed_link(rr, link, opt_out))
 }

@@ -1,26 +1,46 @@
-//! Tests that no line of a program carries, of records, DNSSEC record data, chains and key sets: calls that are refused memory,
-//! buffers of fixed sizes, owners that are found, laws, and a fault that no line brings. All else that is tried of them are
-//! lines of `test_records`, `test_rdata`, `test_chains` and `test_keyset`.
+//! Calls on records, DNSSEC record data and chains that are refused memory, each told on a line with whether it said so, left
+//! what it worked on as it was, and then succeeded. `tests/refusals` runs the program once for each growth, with that one
+//! refused; what is printed is the same.
+//!
+//! Behind them stand lines of what no line of `test_records` and `test_rdata` carries: buffers of fixed sizes, owners that are
+//! found as records come and go, and laws.
 #![tactic(auto)]
 
-#[cfg(test)]
-mod buffer_tests;
-#[cfg(test)]
-mod key_calls;
-#[cfg(test)]
-mod law_tests;
-#[cfg(test)]
+mod bitmaps;
+mod chains;
+mod composed;
+mod fixed;
+mod laws;
 mod links;
-#[cfg(test)]
-mod moments;
-#[cfg(test)]
-mod owner_tests;
-#[cfg(test)]
-mod record_tests;
-#[cfg(test)]
-mod refusal_tests;
-#[cfg(test)]
+mod made;
+mod octets;
+mod owners;
+mod printed;
+mod refused;
+mod sorted;
 mod zones;
 
-/// There is nothing to run but the tests.
-fn main() {}
+use std::io;
+use std::process::ExitCode;
+use test_refusals::{Trial, run};
+
+/// Each public call on records that takes memory.
+fn calls<R: Print>(trial: &mut Trial<'_, R>) -> io::Result<()> {
+    composed::plain_data(trial)?;
+    composed::denial_data(trial)?;
+    composed::parts(trial)?;
+    made::all(trial)?;
+    bitmaps::all(trial)?;
+    sorted::all(trial)?;
+    chains::all(trial)?;
+    printed::data(trial)?;
+    printed::fields(trial)?;
+    printed::faults(trial)?;
+    owners::all(trial)?;
+    fixed::all(trial)?;
+    laws::all(trial)
+}
+
+fn main(rt: HostRuntime) -> ExitCode {
+    run(&rt, rt.alloc(), |trial| calls(trial)).into()
+}

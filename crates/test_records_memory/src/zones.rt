@@ -1,5 +1,6 @@
 //! Small zones.
 
+use crate::refused::Refused;
 use denial_sorted::laws::zone_data_order_is_total;
 use denial_sorted::sorted::SortedRecords;
 use denial_sorted::sorter::DefaultSorter;
@@ -8,8 +9,7 @@ use plain::record::Record;
 use plain::soa::Soa;
 use plain::zone_data::ZoneRecordData;
 use plain::{Class, Ttl};
-use std::alloc::{AllocError, Global};
-use std::process::Abort;
+use std::alloc::Global;
 
 pub type Owner = Name<&'static [u8]>;
 
@@ -41,37 +41,35 @@ pub const ZONE: [Line; 5] = [
     (A, 1, 3600),
 ];
 
-pub fn name(rt: &impl Abort, octets: &'static [u8]) -> Owner {
-    Name::from_slice(octets).expect(rt, "a name")
+pub fn name(octets: &'static [u8]) -> Result<Owner, Refused> {
+    Name::from_slice(octets).map_err(|_| Refused::Otherwise)
 }
 
-fn content(rt: &impl Abort, rtype: u16) -> Data {
+fn content(rtype: u16) -> Result<Data, Refused> {
     if rtype == 6 {
-        let (mname, rname) = (name(rt, A), name(rt, B_C));
+        let (mname, rname) = (name(A)?, name(B_C)?);
         let (hour, minimum) = (Ttl::from_secs(3600), Ttl::from_secs(900));
-        return ZoneRecordData::Soa(Soa::new(mname, rname, Serial(1), hour, hour, hour, minimum));
+        let soa = Soa::new(mname, rname, Serial(1), hour, hour, hour, minimum);
+        return Ok(ZoneRecordData::Soa(soa));
     }
-    let octets = b"\x01\x02".as_slice();
-    let rtype = Rtype::from_int(rtype);
-    ZoneRecordData::Unknown(UnknownRecordData::from_octets(rtype, octets).expect(rt, "few octets"))
+    match UnknownRecordData::from_octets(Rtype::from_int(rtype), b"\x01\x02".as_slice()) {
+        Ok(content) => Ok(ZoneRecordData::Unknown(content)),
+        Err(_) => Err(Refused::Otherwise),
+    }
 }
 
-pub fn record(rt: &impl Abort, line: Line) -> Rr {
+fn record(line: Line) -> Result<Rr, Refused> {
     let (owner, rtype, ttl) = line;
-    Record::new(
-        name(rt, owner),
-        Class::IN,
-        Ttl::from_secs(ttl),
-        content(rt, rtype),
-    )
+    let (owner, content) = (name(owner)?, content(rtype)?);
+    Ok(Record::new(owner, Class::IN, Ttl::from_secs(ttl), content))
 }
 
-/// The records of some lines, in canonical order, memory aside.
-pub fn in_order(rt: &impl Abort, alloc: Global, lines: &[Line]) -> Result<Sorted, AllocError> {
+/// The records of some lines, in canonical order.
+pub fn in_order(alloc: Global, lines: &[Line]) -> Result<Sorted, Refused> {
     zone_data_order_is_total::<&[u8], Owner>();
     let mut records = Vec::new(alloc);
     for line in lines {
-        records.push(record(rt, *line))?;
+        records.push(record(*line)?)?;
     }
-    Sorted::from_vec(records)
+    Ok(Sorted::from_vec(records)?)
 }
