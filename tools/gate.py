@@ -15,6 +15,7 @@ The last line is that of `rt ci`, unless something behind it failed: then it is 
 """
 
 import collections
+import concurrent.futures
 import os
 import pathlib
 import re
@@ -31,6 +32,7 @@ BEHIND = (
     "tests/inputs",
     "tests/process",
     "cd examples/sessions && ../../tests/growths/run first_wait opt_out own_zone",
+    "tests/refusals --part",
     "tests/pictures",
 )
 TICKS = os.sysconf("SC_CLK_TCK")
@@ -134,12 +136,17 @@ def table(seconds, minutes):
 
 
 def behind():
-    """Runs what is run behind `rt ci`, and gives the first that failed."""
-    for command in BEHIND:
-        print(f"gate: {command}", flush=True)
-        if subprocess.run(command, shell=True, cwd=TOP).returncode:
-            return command
-    return None
+    """Runs what is run behind `rt ci`, side by side, and gives what failed."""
+
+    def run(command):
+        streams = {"stdin": subprocess.DEVNULL, "stdout": subprocess.PIPE, "stderr": subprocess.STDOUT}
+        return subprocess.run(command, shell=True, cwd=TOP, **streams)
+
+    with concurrent.futures.ThreadPoolExecutor() as pool:
+        ran = list(pool.map(run, BEHIND))
+    for command, it in zip(BEHIND, ran):
+        print(f"gate: {command}\n{it.stdout.decode(errors='replace')}", end="", flush=True)
+    return [command for command, it in zip(BEHIND, ran) if it.returncode]
 
 
 def main():
@@ -155,12 +162,12 @@ def main():
             last = line
             if FAULT.search(line):
                 faults.append(line)
-    failed = None if gate.returncode else behind()
+    failed = [] if gate.returncode else behind()
     is_over.set()
     watcher.join()
     print("".join(faults), end="")
     print(table(seconds, (time.monotonic() - began) / 60), end="")
-    print(f"FAILED: {failed}" if failed else last.rstrip("\n"), flush=True)
+    print(f"FAILED: {'; '.join(failed)}" if failed else last.rstrip("\n"), flush=True)
     return gate.returncode or (1 if failed else 0)
 
 
