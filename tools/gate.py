@@ -34,6 +34,7 @@ BEHIND = (
     "cd examples/sessions && ../../tests/growths/run first_wait opt_out own_zone",
     "tests/refusals --part",
     "tests/pictures",
+    "tests/explained/run",
 )
 TICKS = os.sysconf("SC_CLK_TCK")
 # Lines that say what was refused and why; of them the last so many are printed again.

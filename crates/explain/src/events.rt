@@ -1,85 +1,166 @@
 //! Events, each beside its outcome.
 
+use crate::advice::{on_answer, on_keys};
+use crate::explained::Explained;
 use crate::keys::Keys;
-use crate::session::{next_counting, push_line};
-use answer::{Act, Ds, Event, Outcome};
+use crate::options::Options;
+use crate::session::{line_text, next_counting};
+use crate::shown::{Shown, case_of, push_shown};
+use answer::names::ToName;
+use answer::{Act, Ds, Event, Name, Outcome, Verdict};
+use denial_nsec3_sha1::hasher::Sha1Hasher;
 use denialbench_print::print::push_outcome;
+use denialbench_print::scheme::BenchScheme;
 use denialbench_session::lines::Lines;
-use std::alloc::AllocError;
+use explain_messages::message::MessageText;
+use explain_reasons::reasons::reasons_of;
+use std::alloc::{AllocError, Global};
+
+/// What is known of a session while its events are explained.
+#[derive(Drop)]
+pub struct Telling<'a> {
+    pub alloc: Global,
+    pub apex: &'a Name<Vec<u8>>,
+    pub limit: u16,
+    pub options: &'a Options<'a>,
+}
 
 /// The line of each event, what is printed of it, and what that is about.
-pub fn push_events(
+pub fn push_events<'a>(
+    telling: &Telling<'a>,
     out: &mut String,
     lines: &mut Lines<'_>,
     keys: &mut Keys,
-    events: &[Event],
-    outcomes: &[Outcome],
+    events: &'a [Event],
+    outcomes: &'a [Outcome],
 ) -> Result<(), AllocError> {
+    let mut shown = Vec::new(telling.alloc);
     for (event, outcome) in events.iter().zip(outcomes) {
-        push_event_lines(out, lines)?;
-        out.push_str("  > ")?;
-        push_outcome(out, outcome)?;
-        out.push_str("\n")?;
-        push_details(out, keys, event, outcome)?;
+        let mut explained = read_event(telling.alloc, lines)?;
+        push_outcome(&mut explained.printed, outcome)?;
+        push_shown(&mut shown, event, outcome)?;
+        push_details(telling, &mut explained, keys, event, outcome)?;
+        if let Some(case) = case_of(&shown, event, telling.apex, telling.limit) {
+            let found = reasons_of(telling.alloc, &BenchScheme, &Sha1Hasher, &case)?;
+            explained.reasons = Some(found);
+        }
+        explained.push_to(out, telling.options.style)?;
     }
     Ok(())
 }
 
 /// The line of an event, and before it those of the records that are gathered there.
-fn push_event_lines(out: &mut String, lines: &mut Lines<'_>) -> Result<(), AllocError> {
+fn read_event(alloc: Global, lines: &mut Lines<'_>) -> Result<Explained, AllocError> {
+    let mut records = Vec::new(alloc);
     for _ in 0..u64::MAX {
         let Some((number, line)) = next_counting(lines) else {
             break;
         };
-        push_line(out, number, line)?;
         if !line.starts_with(b"rr ") {
-            break;
+            let mut explained = Explained::new(alloc, number, line)?;
+            explained.records = records;
+            return Ok(explained);
         }
+        records.push(line_text(alloc, number, line)?)?;
     }
-    Ok(())
+    Explained::new(alloc, 0, b"")
 }
 
-/// Behind a key call the rolls that run; of a replacement how many records there are, or why it is refused; of a thing shown its
-/// octets.
+/// Behind a key call the rolls that run; of a replacement how many records there are; of a thing shown its records; of what is
+/// refused why, and of a judgement what it says in the field's words.
 fn push_details(
-    out: &mut String,
+    telling: &Telling,
+    explained: &mut Explained,
     keys: &mut Keys,
     event: &Event,
     outcome: &Outcome,
 ) -> Result<(), AllocError> {
     match (&event.act, outcome) {
-        (Act::Key(call), Outcome::Key(answered)) => {
-            if answered.is_ok() {
-                keys.call(call, &event.at)?;
-            }
-            keys.push_rolls(out)
+        (Act::Key(call), Outcome::Key(Ok(_))) => {
+            keys.call(call, &event.at)?;
+            keys.push_rolls(&mut explained.notes)
+        }
+        (_, Outcome::Key(Err(fault))) => {
+            explained.note(fault)?;
+            explained.note(on_keys(fault))?;
+            keys.push_rolls(&mut explained.notes)
         }
         (Act::Replace(records), Outcome::Replaced(Ok(()))) => {
             let count = records.len();
-            writeln!(out, "  the zone is made anew of {count} records")
+            explained.note(format_args!("the zone is made anew of {count} records"))
         }
-        (Act::Replace(_), Outcome::Replaced(Err(fault))) => writeln!(out, "  {fault}"),
-        (_, Outcome::Ds { set, .. }) => push_ds_set(out, set),
-        (_, Outcome::Message { octets, .. }) => push_octets(out, octets),
+        (_, Outcome::Replaced(Err(fault))) => explained.note(fault),
+        (_, Outcome::Refused(fault)) => {
+            explained.note(fault)?;
+            explained.note(on_answer(fault))
+        }
+        (_, Outcome::BadPlace) => explained.note(
+            "places of a DS set, a DNSKEY answer and an answer, or of a DS set, are wanting: `judge 0 1 2 8000`",
+        ),
+        (_, Outcome::Ds { set, .. }) => push_ds_set(telling, &mut explained.shown, set),
+        (_, Outcome::Message { octets, .. }) => push_message(telling, &mut explained.shown, octets),
+        (_, Outcome::Judged(Ok(judgement))) => explained.note(field_words(&judgement.verdict)),
+        (_, Outcome::Judged(Err(refused))) => {
+            let refusal = refused.refusal;
+            explained.note(format_args!("bogus: {refusal}"))
+        }
         _ => Ok(()),
     }
 }
 
-/// The data of each DS record (RFC 4034, 5.1).
-fn push_ds_set(out: &mut String, set: &[Ds<Vec<u8>>]) -> Result<(), AllocError> {
+/// What a verdict is called in the field.
+fn field_words(verdict: &Verdict) -> &'static str {
+    match verdict {
+        Verdict::Records(_) => "secure: the records are the zone's",
+        Verdict::NoType => "secure NODATA: the name exists and has no records of the type",
+        Verdict::NoName => "secure NXDOMAIN: there is no such name, and no wildcard for it",
+        Verdict::StarRecords(_) =>
+            "secure: a wildcard's records stand for the name, which does not exist",
+        Verdict::StarNoType =>
+            "secure NODATA: a wildcard stands for the name and has no records of the type",
+        Verdict::Delegated =>
+            "secure referral: the name is at or below a delegation, so another zone tells of it",
+        Verdict::Open =>
+            "insecure by opt-out: a delegation without signatures may be there, so nothing is proven",
+        Verdict::Unsigned => "insecure: the zone is not signed",
+    }
+}
+
+/// The DS records as `dig` writes them behind their type, or their data in hexadecimal.
+fn push_ds_set(
+    telling: &Telling,
+    shown: &mut Vec<String>,
+    set: &[Ds<Vec<u8>>],
+) -> Result<(), AllocError> {
+    let apex = telling.apex.fmt_with_dot();
     for ds in set {
-        let mut octets = Vec::new(*out.allocator());
-        octets.extend_from_slice(&ds.key_tag().to_be_bytes())?;
-        octets.push(ds.algorithm().to_int())?;
-        octets.push(ds.digest_type().to_int())?;
-        octets.extend_from_slice(ds.digest())?;
-        push_octets(out, &octets)?;
+        if telling.options.has_octets {
+            let mut octets = Vec::new(telling.alloc);
+            octets.extend_from_slice(&ds.key_tag().to_be_bytes())?;
+            octets.push(ds.algorithm().to_int())?;
+            octets.push(ds.digest_type().to_int())?;
+            octets.extend_from_slice(ds.digest())?;
+            shown.push(hex::encode(telling.alloc, &octets)?)?;
+        } else {
+            shown.push(format!(in telling.alloc; "{apex} IN DS {ds}")?)?;
+        }
     }
     Ok(())
 }
 
-/// Octets in hexadecimal, in a line of their own.
-fn push_octets(out: &mut String, octets: &[u8]) -> Result<(), AllocError> {
-    let digits = hex::encode(*out.allocator(), octets)?;
-    writeln!(out, "  {digits}")
+/// A message as `dig` writes it, or in hexadecimal.
+fn push_message(
+    telling: &Telling,
+    shown: &mut Vec<String>,
+    octets: &[u8],
+) -> Result<(), AllocError> {
+    if telling.options.has_octets {
+        shown.push(hex::encode(telling.alloc, octets)?)?;
+        return Ok(());
+    }
+    let text = MessageText { octets }.to_string(telling.alloc)?;
+    for line in text.lines() {
+        shown.push(String::from_str(telling.alloc, line)?)?;
+    }
+    Ok(())
 }

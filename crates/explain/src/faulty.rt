@@ -1,6 +1,8 @@
 //! The records by which a zone is refused.
 
-use crate::session::{next_counting, push_line};
+use crate::explained::Explained;
+use crate::options::Options;
+use crate::session::{line_text, next_counting};
 use answer::denial::{OwnerRrs, SigningError, SortedRecords, is_canonical_order, is_one_class};
 use answer::names::{Rtype, ToName};
 use answer::{Mode, Name, ZoneData, ZoneFault, ZoneRecord, simulate};
@@ -13,31 +15,58 @@ use denialbench_session::lines::Lines;
 use denialbench_session::session::{Session, read_session};
 use std::alloc::{AllocError, Global};
 
-/// Why the zone of an input is refused, and which of its lines say so.
+/// Why the zone of an input is refused, which of its lines say so, and what would be right.
 pub fn push_refused(
     alloc: Global,
     out: &mut String,
     input: &[u8],
     fault: ZoneFault,
+    options: &Options,
 ) -> Result<(), AllocError> {
     let mut lines = Lines::new(input);
-    if let Some((number, line)) = next_counting(&mut lines) {
-        push_line(out, number, line)?;
-    }
+    let (number, line) = next_counting(&mut lines).unwrap_or((0, b""));
+    let mut explained = Explained::new(alloc, number, line)?;
     let name = fault.name();
-    writeln!(out, "  > refused {name}")?;
-    writeln!(out, "  {fault}")?;
+    write!(explained.printed, "refused {name}")?;
+    explained.note(fault)?;
+    explained.note(format_args!("wanting: {}", wanting(&fault)))?;
     let Ok(session) = read_session(alloc, input) else {
         return Err(AllocError);
     };
     for is_faulty in &faulty_records(alloc, session, input, fault)? {
         if let Some((number, line)) = next_counting(&mut lines) {
             if *is_faulty {
-                push_line(out, number, line)?;
+                explained.shown.push(line_text(alloc, number, line)?)?;
             }
         }
     }
-    Ok(())
+    explained.push_to(out, options.style)
+}
+
+/// What a zone that is refused so would have to be, with an example.
+fn wanting(fault: &ZoneFault) -> &'static str {
+    match fault {
+        ZoneFault::WrongClass => "class 1 (IN) in each record: `rr a.example 3600 1 1 c0000201`",
+        ZoneFault::OutsideApex =>
+            "owners at or below the zone's name: `rr a.example 3600 1 1 c0000201` in `zone example`",
+        ZoneFault::SignedType =>
+            "no DNSKEY, RRSIG, NSEC, NSEC3 or NSEC3PARAM records: signing adds them",
+        ZoneFault::Alias =>
+            "no CNAME or DNAME records; the records of the name that it leads to in their place",
+        ZoneFault::MetaType =>
+            "types of records, not of questions: `rr a.example 3600 1 1 c0000201`",
+        ZoneFault::StarNs => "no NS records at a wildcard; one delegation for each name",
+        ZoneFault::IterationsOverLimit =>
+            "no more iterations than the limit: `zone example nsec3 0 - 0 86400`",
+        ZoneFault::Chain(SigningError::NoSingleSoa) => {
+            "exactly one SOA record at the zone's name: `rr example 3600 1 6 00000000000100000e10000003840001518000000e10`"
+        }
+        ZoneFault::Chain(SigningError::MultipleTtlValues) =>
+            "one TTL for all records of an owner and a type",
+        ZoneFault::Chain(SigningError::HashTooLong) =>
+            "a zone's name of at most 222 octets, so that a hash has room below it",
+        ZoneFault::Chain(_) | ZoneFault::Memory => "a hash of each name, and memory",
+    }
 }
 
 /// Of each record of a session whether its zone is refused for it.

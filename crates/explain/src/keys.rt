@@ -127,11 +127,13 @@ impl Keys {
     }
 
     /// The rolls that run, each with its phase.
-    pub fn push_rolls(&self, out: &mut String) -> Result<(), AllocError> {
+    pub fn push_rolls(&self, notes: &mut Vec<String>) -> Result<(), AllocError> {
         for (rolltype, name) in ROLLS {
             if let Some(state) = self.set.rollstates().get(&rolltype) {
-                write!(out, "  {name}: ")?;
-                self.push_phase(out, rolltype, *state)?;
+                let mut note = String::new(self.alloc);
+                write!(note, "{name}: ")?;
+                self.push_phase(&mut note, rolltype, *state)?;
+                notes.push(note)?;
             }
         }
         Ok(())
@@ -139,29 +141,29 @@ impl Keys {
 
     fn push_phase(
         &self,
-        out: &mut String,
+        note: &mut String,
         rolltype: RollType,
         state: RollState,
     ) -> Result<(), AllocError> {
         match state {
-            RollState::Propagation1 => out.push_str("first changes under way, then report1\n"),
+            RollState::Propagation1 => note.push_str("first changes under way, then report1"),
             RollState::CacheExpire1(ttl) => {
-                write!(out, "first wait, TTL {ttl}, ")?;
-                self.push_end(out, rolltype, state)
+                write!(note, "first wait, TTL {ttl}, ")?;
+                self.push_end(note, rolltype, state)
             }
-            RollState::Propagation2 => out.push_str("second changes under way, then report2\n"),
+            RollState::Propagation2 => note.push_str("second changes under way, then report2"),
             RollState::CacheExpire2(ttl) => {
-                write!(out, "second wait, TTL {ttl}, ")?;
-                self.push_end(out, rolltype, state)
+                write!(note, "second wait, TTL {ttl}, ")?;
+                self.push_end(note, rolltype, state)
             }
-            RollState::Done => out.push_str("last changes under way, then done\n"),
+            RollState::Done => note.push_str("last changes under way, then done"),
         }
     }
 
     /// The moment at which a wait ends.
     fn push_end(
         &self,
-        out: &mut String,
+        note: &mut String,
         rolltype: RollType,
         state: RollState,
     ) -> Result<(), AllocError> {
@@ -169,9 +171,9 @@ impl Keys {
             Some(rest) => {
                 let now = Duration::from(self.latest).as_secs();
                 let end = u128::from(now) + u128::from(rest.as_secs());
-                writeln!(out, "ends at {end}")
+                write!(note, "ends at {end}")
             }
-            None => out.push_str("over\n"),
+            None => note.push_str("over"),
         }
     }
 

@@ -1,42 +1,116 @@
 //! Explains sessions of the bench: each event beside what is printed of it; behind a key call the rolls that run, and when
-//! their waits end; the octets of each thing shown; of a line that cannot be read the field and why; of a refused zone the
-//! records.
+//! their waits end; each thing shown as `dig` writes it; behind a judgement its reasons; of a line that cannot be read the
+//! field and why; of a refused zone the records.
 //!
-//! usage: explain [FILE..]
+//! usage: explain [--octets] [--text | --json | --agree] [FILE..] [--zone [--origin=NAME] FILE..] [--date DATE|SECONDS..]
 //!
-//! Without a file it reads standard input.
+//! Each option holds for the words behind it. Without a file or date it reads a session from standard input.
 #![tactic(auto)]
 
+mod advice;
 mod events;
+mod examples;
+mod explained;
 mod faulty;
 mod keys;
+mod options;
 mod session;
+mod shown;
 
-use anyhow::{Context, Result};
-use session::push_explained;
+use crate::options::{OPTIONS, Options, Style, Task, is_option};
+use crate::session::push_explained;
+use anyhow::{Context, Result, anyhow, ensure};
+use explain_messages::date::Date;
+use explain_zone::zone_file::session_lines;
 use std::io::Read;
+use std::rt::Files;
 use std::{env, fs};
 
 /// Explains the session of an input.
-fn explain(rt: &(impl Print + AllocGlobal), input: &[u8]) -> Result<()> {
+fn explain(rt: &(impl Print + AllocGlobal), input: &[u8], options: &Options) -> Result<()> {
     let mut text = String::new(rt.alloc());
-    push_explained(rt.alloc(), &mut text, input)?;
+    push_explained(rt.alloc(), &mut text, input, options)?;
     rt.print(text)?;
     Ok(())
 }
 
-fn main(rt: HostRuntime) -> Result<()> {
-    let mut files = 0u32;
-    for file in env::args(&rt)?.skip(1) {
-        let input = fs::read(&rt, file.as_str()).context(format_args!("reading {file}"))?;
-        println!(rt; "==> {file}")?;
-        explain(&rt, &input)?;
-        files = files.saturating_add(1);
+/// Prints the lines of a session for a master file, or why it is refused.
+fn print_zone(
+    rt: &(impl Print + Eprint + AllocGlobal),
+    file: &str,
+    text: &[u8],
+    options: &Options,
+) -> Result<bool> {
+    match session_lines(rt.alloc(), text, options.origin) {
+        Ok(lines) => {
+            rt.print(lines)?;
+            Ok(true)
+        }
+        Err(fault) => {
+            eprintln!(rt; "{file}: {fault}")?;
+            Ok(false)
+        }
     }
-    if files == 0 {
+}
+
+/// Prints the seconds of a date, or the date of seconds.
+fn print_date(rt: &impl Print, text: &str) -> Result<()> {
+    match (text.parse::<Date>(), text.parse::<u32>()) {
+        (Ok(Date { seconds }), _) => rt.println(seconds)?,
+        (Err(_), Ok(seconds)) => rt.println(Date { seconds })?,
+        (Err(fault), Err(_)) => return Err(anyhow!("{text}: {fault}")),
+    }
+    Ok(())
+}
+
+/// Does what is asked with one word, and says whether it is accepted.
+fn serve(
+    rt: &(impl Print + Eprint + AllocGlobal + Files),
+    word: &str,
+    count: usize,
+    options: &Options,
+) -> Result<bool> {
+    if options.task == Task::Date {
+        print_date(rt, word)?;
+        return Ok(true);
+    }
+    let input = fs::read(rt, word).context(format_args!("reading {word}"))?;
+    if options.task == Task::Zone {
+        if count > 1 {
+            println!(rt; "==> {word}")?;
+        }
+        return print_zone(rt, word, &input, options);
+    }
+    if options.style != Style::Objects {
+        println!(rt; "==> {word}")?;
+    }
+    explain(rt, &input, options)?;
+    Ok(true)
+}
+
+fn main(rt: HostRuntime) -> Result<()> {
+    let mut words = Vec::new(rt.alloc());
+    for word in env::args(&rt)?.skip(1) {
+        words.push(word)?;
+    }
+    let count = words.iter().filter(|word| !is_option(word)).count();
+    let (mut options, mut refused) = (Options::new(), 0u32);
+    for word in &words {
+        if is_option(word) {
+            let known = options.with(word);
+            options = known.context(format_args!("{word} is no option: {OPTIONS}"))?;
+        } else if !serve(&rt, word, count, &options)? {
+            refused = refused.saturating_add(1);
+        }
+    }
+    if count == 0 {
         let mut input = Vec::new(rt.alloc());
         rt.reader().read_to_end(&mut input)?;
-        explain(&rt, &input)?;
+        explain(&rt, &input, &options)?;
     }
+    ensure!(
+        refused == 0,
+        "{refused} of {count} master files are refused"
+    );
     Ok(())
 }

@@ -1,30 +1,42 @@
 //! A whole session explained.
 
-use crate::events::push_events;
+use crate::events::{Telling, push_events};
+use crate::examples::example_of;
+use crate::explained::Explained;
 use crate::faulty::push_refused;
 use crate::keys::Keys;
+use crate::options::Options;
+use answer::names::ToName;
 use answer::{ZoneFault, simulate};
 use denial_nsec3_sha1::hasher::Sha1Hasher;
 use denialbench_print::scheme::BenchScheme;
+use denialbench_session::form::Form;
 use denialbench_session::line_error::LineFault;
 use denialbench_session::lines::{Lines, is_passed_over};
 use denialbench_session::session::{Session, SessionError, read_session};
 use std::alloc::{AllocError, Global};
 
 /// Explains the session of an input. Its only error is out of memory.
-pub fn push_explained(alloc: Global, out: &mut String, input: &[u8]) -> Result<(), AllocError> {
+pub fn push_explained(
+    alloc: Global,
+    out: &mut String,
+    input: &[u8],
+    options: &Options,
+) -> Result<(), AllocError> {
     match read_session(alloc, input) {
-        Ok(session) => push_session(alloc, out, input, session),
-        Err(SessionError::Line { number, fault }) => push_unreadable(out, input, number, fault),
+        Ok(session) => push_session(alloc, out, input, session, options),
+        Err(SessionError::Line { number, fault }) => {
+            push_unreadable(alloc, out, input, number, fault, options)
+        }
         Err(SessionError::Memory) => Err(AllocError),
     }
 }
 
 /// A line of the input, with its number.
-pub fn push_line(out: &mut String, number: usize, line: &[u8]) -> Result<(), AllocError> {
+pub fn line_text(alloc: Global, number: usize, line: &[u8]) -> Result<String, AllocError> {
     match str::from_utf8(line) {
-        Ok(text) => writeln!(out, "{number}: {text}"),
-        Err(_) => writeln!(out, "{number}: (no text)"),
+        Ok(text) => format!(in alloc; "{number}: {text}"),
+        Err(_) => format!(in alloc; "{number}: (no text)"),
     }
 }
 
@@ -38,26 +50,52 @@ pub fn next_counting<'a>(lines: &mut Lines<'a>) -> Option<(usize, &'a [u8])> {
     None
 }
 
-/// The line that cannot be read, and why.
+/// The line of a number; nothing behind the last.
+fn line_at(input: &[u8], number: usize) -> &[u8] {
+    let mut lines = Lines::new(input);
+    while let Some(line) = lines.next_line() {
+        if lines.number() == number {
+            return line;
+        }
+    }
+    b""
+}
+
+/// The line that cannot be read, why, and a right one.
 fn push_unreadable(
+    alloc: Global,
     out: &mut String,
     input: &[u8],
     number: usize,
     fault: LineFault,
+    options: &Options,
 ) -> Result<(), AllocError> {
-    let mut lines = Lines::new(input);
-    while let Some(line) = lines.next_line() {
-        if lines.number() == number {
-            push_line(out, number, line)?;
+    let mut explained = Explained::new(alloc, number, line_at(input, number))?;
+    write!(explained.printed, "line {number}: cannot be read")?;
+    explained.note(fault)?;
+    match fault {
+        LineFault::At(field, _) => {
+            let form = field.form;
+            explained.note(format_args!("the fields of such a line: {form}"))?;
+            note_example(&mut explained, form)?;
+        }
+        LineFault::Fields(form) => note_example(&mut explained, form)?,
+        LineFault::NoZone | LineFault::NotZone => note_example(&mut explained, Form::Zone)?,
+        LineFault::NotText | LineFault::Late | LineFault::Word => {
+            explained.note(
+                "events: key, start, report1, wait1, report2, wait2, done, delete, replace, ds, dnskey, ask, judge, bytes",
+            )?;
+            note_example(&mut explained, Form::Ask)?;
         }
     }
-    writeln!(out, "  > line {number}: cannot be read")?;
-    writeln!(out, "  {fault}")?;
-    if let LineFault::At(field, _) = fault {
-        let form = field.form;
-        writeln!(out, "  the fields of such a line: {form}")?;
-    }
-    Ok(())
+    explained.push_to(out, options.style)
+}
+
+/// Adds what a line takes and a right one.
+fn note_example(explained: &mut Explained, form: Form) -> Result<(), AllocError> {
+    let ((takes, example), line) = (example_of(form), explained.line);
+    let word = form.fields().first().copied().unwrap_or("");
+    explained.note(format_args!("line {line}: `{word}` takes {takes}: `{example}`"))
 }
 
 /// The events of a session, or why its zone is refused.
@@ -66,14 +104,18 @@ fn push_session(
     out: &mut String,
     input: &[u8],
     session: Session,
+    options: &Options,
 ) -> Result<(), AllocError> {
     let Session {
         zone,
         records,
         events,
     } = session;
-    let before = records.len();
-    let mut keys = Keys::new(alloc, &zone.apex)?;
+    let (before, limit) = (records.len(), zone.limit);
+    let Ok(apex) = zone.apex.to_vec(alloc) else {
+        return Err(AllocError);
+    };
+    let mut keys = Keys::new(alloc, &apex)?;
     let outcomes = simulate(
         alloc,
         zone.apex,
@@ -81,7 +123,7 @@ fn push_session(
         zone.mode,
         &BenchScheme,
         &Sha1Hasher,
-        zone.limit,
+        limit,
         zone.life,
         &events,
     );
@@ -92,9 +134,15 @@ fn push_session(
             for _record in 0..before {
                 let _record = next_counting(&mut lines);
             }
-            push_events(out, &mut lines, &mut keys, &events, &outcomes)
+            let telling = Telling {
+                alloc,
+                apex: &apex,
+                limit,
+                options,
+            };
+            push_events(&telling, out, &mut lines, &mut keys, &events, &outcomes)
         }
         Err(ZoneFault::Memory) => Err(AllocError),
-        Err(fault) => push_refused(alloc, out, input, fault),
+        Err(fault) => push_refused(alloc, out, input, fault, options),
     }
 }

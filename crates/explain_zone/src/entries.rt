@@ -1,0 +1,194 @@
+//! The entries of a master file: its fields, over several lines where parentheses stand (RFC 1035, 5.1).
+
+use crate::fault::{EntryFault, ZoneFileError};
+use std::alloc::{AllocError, Global};
+
+/// A field, with its escapes as they are written.
+#[derive(Debug, Drop)]
+pub(crate) struct Field {
+    pub(crate) text: String,
+    pub(crate) is_quoted: bool,
+}
+
+/// The fields of an entry.
+#[derive(Debug, Drop)]
+pub(crate) struct Entry {
+    /// The number of its first line, from 1 on.
+    pub(crate) line: usize,
+    /// Whether a blank stands before the first field, so that the last owner is meant.
+    pub(crate) is_indented: bool,
+    pub(crate) fields: Vec<Field>,
+}
+
+/// Where the reader is in a line.
+#[derive(Clone, Copy, PartialEq, Eq)]
+enum Place {
+    /// Before the first octet of an entry.
+    Start,
+    Between,
+    InField,
+    Quoted,
+    Comment,
+}
+
+/// Reads octet by octet.
+#[derive(Drop)]
+struct Reader {
+    alloc: Global,
+    line: usize,
+    place: Place,
+    /// The octet behind a backslash.
+    is_escaped: bool,
+    is_open: bool,
+    field: Vec<u8>,
+    entry: Entry,
+    entries: Vec<Entry>,
+}
+
+impl Reader {
+    fn fault<T>(&self, fault: EntryFault) -> Result<T, ZoneFileError> {
+        let line = self.line;
+        Err(ZoneFileError::Line { line, fault })
+    }
+
+    /// An entry without fields.
+    fn next_entry(&self) -> Entry {
+        Entry {
+            line: self.line,
+            is_indented: false,
+            fields: Vec::new(self.alloc),
+        }
+    }
+
+    /// Ends a field, if one has begun.
+    fn end_field(&mut self, is_quoted: bool) -> Result<(), ZoneFileError> {
+        if self.place != Place::InField && self.place != Place::Quoted {
+            return Ok(());
+        }
+        let octets = std::mem::replace(&mut self.field, Vec::new(self.alloc));
+        let Ok(text) = str::from_utf8(&octets) else {
+            return self.fault(EntryFault::NotText);
+        };
+        let text = String::from_str(self.alloc, text)?;
+        self.entry
+            .fields
+            .push(Field { text, is_quoted })
+            .map_err(AllocError::from)?;
+        self.place = Place::Between;
+        Ok(())
+    }
+
+    /// Ends a line, and with it the entry unless a parenthesis is open.
+    fn end_line(&mut self) -> Result<(), ZoneFileError> {
+        if self.place == Place::Quoted || self.is_escaped {
+            return self.fault(EntryFault::Unbalanced);
+        }
+        self.end_field(false)?;
+        self.line = self.line.wrapping_add(1);
+        self.place = Place::Between;
+        if self.is_open {
+            return Ok(());
+        }
+        let next = self.next_entry();
+        let entry = std::mem::replace(&mut self.entry, next);
+        if !entry.fields.is_empty() {
+            self.entries.push(entry).map_err(AllocError::from)?;
+        }
+        self.place = Place::Start;
+        Ok(())
+    }
+
+    fn read(&mut self, octet: u8) -> Result<(), ZoneFileError> {
+        if octet == b'\n' {
+            return self.end_line();
+        }
+        if self.place == Place::Comment {
+            return Ok(());
+        }
+        if self.is_escaped {
+            self.is_escaped = false;
+            self.field.push(octet).map_err(AllocError::from)?;
+            return Ok(());
+        }
+        match (octet, self.place) {
+            (b'"', Place::Quoted) => self.end_field(true),
+            (b'\\', _) => {
+                self.is_escaped = true;
+                self.read_plain(octet)
+            }
+            (_, Place::Quoted) => self.read_plain(octet),
+            (b' ' | b'\t' | b'\r', place) => {
+                if place == Place::Start {
+                    self.entry.is_indented = true;
+                }
+                self.end_field(false)?;
+                self.place = Place::Between;
+                Ok(())
+            }
+            _ => self.read_special(octet),
+        }
+    }
+
+    /// Reads what stands outside quotes and is no blank.
+    fn read_special(&mut self, octet: u8) -> Result<(), ZoneFileError> {
+        match octet {
+            b';' => {
+                self.end_field(false)?;
+                self.place = Place::Comment;
+                Ok(())
+            }
+            b'(' | b')' => {
+                self.end_field(false)?;
+                if self.is_open == (octet == b'(') {
+                    return self.fault(EntryFault::Unbalanced);
+                }
+                self.is_open = !self.is_open;
+                self.place = Place::Between;
+                Ok(())
+            }
+            b'"' => {
+                self.end_field(false)?;
+                self.place = Place::Quoted;
+                Ok(())
+            }
+            _ => self.read_plain(octet),
+        }
+    }
+
+    /// Adds an octet to the field.
+    fn read_plain(&mut self, octet: u8) -> Result<(), ZoneFileError> {
+        if self.place != Place::Quoted {
+            self.place = Place::InField;
+        }
+        self.field.push(octet).map_err(AllocError::from)?;
+        Ok(())
+    }
+}
+
+/// The entries of a master file, or its first line that is none.
+pub(crate) fn read_entries(alloc: Global, text: &[u8]) -> Result<Vec<Entry>, ZoneFileError> {
+    let entry = Entry {
+        line: 1,
+        is_indented: false,
+        fields: Vec::new(alloc),
+    };
+    let mut reader = Reader {
+        alloc,
+        line: 1,
+        place: Place::Start,
+        is_escaped: false,
+        is_open: false,
+        field: Vec::new(alloc),
+        entry,
+        entries: Vec::new(alloc),
+    };
+    for octet in text {
+        reader.read(*octet)?;
+    }
+    reader.end_line()?;
+    if reader.is_open {
+        let (line, fault) = (reader.entry.line, EntryFault::Unbalanced);
+        return Err(ZoneFileError::Line { line, fault });
+    }
+    Ok(reader.entries)
+}
