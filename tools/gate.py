@@ -71,6 +71,9 @@ def processes():
                 continue
             words = pathlib.Path(f"/proc/{entry}/cmdline").read_text(errors="replace").split("\0")
             times = pathlib.Path(f"/proc/{entry}/stat").read_text(errors="replace").rpartition(")")[2].split()
+            # one that has ended, and was counted while it ran, has no words left
+            if not words[0]:
+                continue
             part = part_of(words, entry)
         except OSError:
             continue
