@@ -2,14 +2,14 @@
 use mathlib.Core.Path.{transport}
 use lib.Pointwise.{bytes_decides}
 use Rattle.std.proofs.Common.{◌≡◌, ℕ, Bool, true, false, ◌&&◌, ◌||◌, cond, List, [], ◌∷◌, filter, inl, inr, refl, sym, ap, ◌∙◌}
-use Rattle.std.specs.Prelude.{Option, Some, None, Ok, Err}
+use Rattle.std.specs.Prelude.{Some, None, Ok, Err}
 use Rattle.std.specs.List.{find, list_any}
 use Rattle.std.specs.Str.{bytes_eq}
 use Rattle.std.proofs.lemmas.Bool.{and_from, or_left, or_right}
 use Rattle.definitions.specs.Dnskey.{Dnskey, same_key}
 use Rattle.definitions.specs.Limits.{pointer_limit}
-use Rattle.definitions.specs.Signing.{Fields, signed_octets}
-use Rattle.messages.specs.Message.{Message, Spelled, message, rrsig_at}
+use Rattle.definitions.specs.Signing.{signed_octets}
+use Rattle.messages.specs.Message.{Message, Spelled, message}
 use Rattle.messages.proofs.Lists.{Has, any_from, some_is}
 use Rattle.answer_scheme.specs.Answers.{Answers, SignatureTest}
 use Rattle.answer_judge_facts.specs.Asked.{Implies, PassesSought, is_candidate, is_carried, stands_in, stands_in_messages}
