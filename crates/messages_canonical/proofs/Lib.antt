@@ -9,3 +9,5 @@ pub mod Anywhere
 pub mod Seen
 pub mod ReadSo
 pub mod NamesPut
+pub mod NamesInFull
+pub mod NumbersStand

@@ -1,5 +1,5 @@
 -- A name that is put run by run of its labels.
-use Rattle.std.proofs.Common.{◌≡◌, ℕ, suc, ◌+◌, ◌-◌, ◌*◌, ◌<◌, ◌≤◌, List, [], ◌∷◌, ◌++◌, length, take, drop, get_or, Some, None, flat_map, sym, ap, subst, ◌∙◌, append_assoc, arith}
+use Rattle.std.proofs.Common.{◌≡◌, ℕ, suc, ◌+◌, ◌-◌, ◌*◌, ◌<◌, ◌≤◌, List, [], ◌∷◌, ◌++◌, length, take, drop, Some, None, flat_map, sym, ap, subst, ◌∙◌, append_assoc, arith}
 use Rattle.std.specs.Prelude.{slice_get, slice_range}
 use Rattle.std.proofs.lemmas.List.{drop_more}
 use Rattle.std.proofs.lemmas.Option.{get_or_from_slice_get, slice_get_within}
@@ -34,7 +34,7 @@ puts_name m start old new put n e h =
     let r = (reads_exactly m start pointer_limit n e).0 (owner_reads pointer_limit m start (n, e) h) in
     put n e r.0 r.1
 
-empty : (m : List ℕ) (p : ℕ) → slice_range m p p ≡ []
+pub empty : (m : List ℕ) (p : ℕ) → slice_range m p p ≡ []
 empty m p = let none : p - p ≡ 0 = omega arith in ap (λ n. take n (drop p m)) none
 
 pub begins : (m : List ℕ) (start : ℕ) (old : List ℕ) → GoesOn m start start start old old 383
@@ -46,10 +46,19 @@ begins m start old n e r short = record {
   octets = ap (λ (l : List ℕ). old ++ (l ++ wire n)) (empty m start);
 }
 
-range_more : (m : List ℕ) (p e : ℕ) → p < e → p < length m → slice_range m p e ≡ get_or m p 0 ∷ slice_range m (p + 1) e
-range_more m p e h inside =
-    let left : e - p ≡ suc (e - (p + 1)) = omega (arith, h) in
-    ap (λ n. take n (drop p m)) left ∙ ap (take (suc (e - (p + 1)))) (drop_more m p 0 inside)
+-- octets from a place on begin with the one that is there
+pub range_more : (m : List ℕ) (p e h : ℕ) → slice_get m p ≡ Some h → p < e → slice_range m p e ≡ h ∷ slice_range m (p + 1) e
+range_more m p e h at before =
+    let left : e - p ≡ suc (e - (p + 1)) = omega (arith, before) in
+    let inside = slice_get_within m p h at in
+    ap (λ n. take n (drop p m)) left ∙ ap (take (suc (e - (p + 1)))) (drop_more m p 0 inside) ∙ ap (λ x. x ∷ slice_range m (p + 1) e) (get_or_from_slice_get m p h 0 at)
+
+-- a label with its length octet
+pub label_range : (m : List ℕ) (p h : ℕ) → slice_get m p ≡ Some h → p + (h + 1) ≤ length m → slice_range m p (p + (h + 1)) ≡ length (slice_range m (p + 1) (p + (h + 1))) ∷ slice_range m (p + 1) (p + (h + 1))
+label_range m p h at inside =
+    let place : p + 1 + h ≡ p + (h + 1) = omega arith in
+    let len : length (slice_range m (p + 1) (p + (h + 1))) ≡ h = ap (λ e. length (slice_range m (p + 1) e)) (sym place) ∙ length-range m (p + 1) h (omega (arith, inside)) in
+    range_more m p (p + (h + 1)) h at (omega arith) ∙ ap (λ x. x ∷ slice_range m (p + 1) (p + (h + 1))) (sym len)
 
 -- a label at a place, and what is behind it
 pub record Labelled (m : List ℕ) (p h k : ℕ) (n : Name) (e heads : ℕ) : Type 0 where
@@ -62,10 +71,8 @@ label_there h heads (root s b) few at some small = let is : h ≡ 0 = cc in absu
 label_there {m} {p} {k} {e} h heads (label {n = size} {e = q} {l = l} {ls = ls} s a c d f g r) few at some small =
     let is : h ≡ size = cc in
     let place : q ≡ p + (h + 1) = omega (arith, d, is) in
-    let inside = slice_get_within m p size s in
-    let len : length l ≡ size = ap length g ∙ ap (λ x. length (slice_range m (p + 1) x)) d ∙ length-range m (p + 1) size (omega (arith, d, f)) in
-    let first : get_or m p 0 ≡ length l = get_or_from_slice_get m p size 0 s ∙ sym len in
-    let range : slice_range m p (p + (h + 1)) ≡ length l ∷ l = range_more m p (p + (h + 1)) (omega arith) inside ∙ (λ i. first i ∷ slice_range m (p + 1) (sym place i)) ∙ ap (λ (x : List ℕ). length l ∷ x) (sym g) in
+    let same : slice_range m (p + 1) (p + (h + 1)) ≡ l = ap (slice_range m (p + 1)) (sym place) ∙ sym g in
+    let range : slice_range m p (p + (h + 1)) ≡ length l ∷ l = label_range m p h at (omega (arith, place, f)) ∙ ap (λ (x : List ℕ). length x ∷ x) same in
     record {
       rest = ls;
       reads = subst (λ x. ReadsBy m x k ls e heads) place (r, omega (arith, few));
@@ -120,9 +127,7 @@ beyond_pointer m start from place h low heads old items new goes at large behind
 
 -- the root octet ends it
 root_there : {m : List ℕ} {p k e : ℕ} {n : Name} (r : Reads m p k n e) → slice_get m p ≡ Some 0 → wire n ≡ slice_range m p (p + 1)
-root_there {m} {p} (root s b) at =
-    let inside = slice_get_within m p 0 s in
-    sym (range_more m p (p + 1) (omega arith) inside ∙ (λ i. get_or_from_slice_get m p 0 0 s i ∷ empty m (p + 1) i))
+root_there {m} {p} (root s b) at = sym (range_more m p (p + 1) 0 s (omega arith) ∙ ap (λ (x : List ℕ). 0 ∷ x) (empty m (p + 1)))
 root_there (label {n = size} s a c d f g r) at = let is : size ≡ 0 = cc in absurd (omega (arith, is, a))
 root_there (pointer {high = high} s a c d f b r) at = let is : high ≡ 0 = cc in absurd (omega (arith, is, a))
 

@@ -25,7 +25,7 @@ octets_all (x ∷ m) h = (h zero, octets_all m (λ i. h (suc i)))
 
 -- ---- names
 
-labels_read : {m : List ℕ} {p k b : ℕ} {ls : Name} → Reads m p k ls b → AllByRecursion IsLabel ls
+pub labels_read : {m : List ℕ} {p k b : ℕ} {ls : Name} → Reads m p k ls b → AllByRecursion IsLabel ls
 labels_read (root h e) = tt
 labels_read {m} {p} (label {n = n} {e = e} {l = l} h a b c d f r) =
     let inside : p + 1 + n ≤ length m = omega (arith, c, d) in
@@ -49,7 +49,7 @@ owner_name k m p n h =
 
 -- ---- numbers
 
-octet_there : (m : List ℕ) (p b : ℕ) → AreOctets m → octet_at m p ≡ Ok b → (p < length m) × (b < 256)
+pub octet_there : (m : List ℕ) (p b : ℕ) → AreOctets m → octet_at m p ≡ Ok b → (p < length m) × (b < 256)
 octet_there m p b o h =
     elim (slice_get_cases m p).1 [
       | inl w ↦

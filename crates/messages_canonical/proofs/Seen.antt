@@ -14,7 +14,7 @@ use Rattle.messages.proofs.Lists.{items_from}
 use Rattle.messages.proofs.MessageRecords.{one_less}
 use Rattle.messages_canonical.specs.Canonical.{IsCanonical, IsTooLong}
 use Rattle.messages_canonical.specs.InForm.{GrowsTooLong, IsFormOf, IsInForm, are_in_form, is_in_form}
-use Rattle.messages_canonical.specs.Walking.{EndsName, FindsRecords, Passes, StartsWithOwner, TellsForm, data_in_form}
+use Rattle.messages_canonical.specs.Walking.{EndsName, FindsRecords, Passes, StandsAt, TellsForm, data_in_form}
 use Rattle.messages_canonical.proofs.InPlace.{in_form_there}
 use Rattle.messages_canonical.proofs.Walked.{Leaves, headed, next_record, owner_ends, placed_record}
 
@@ -150,7 +150,7 @@ StandOn m rs i p = records_at (length rs - i) pointer_limit m p ≡ Ok (map spel
 heads_are : (a b : Spelled) (xs ys : List Spelled) → a ∷ xs ≡ b ∷ ys → (a ≡ b) × (xs ≡ ys)
 heads_are a b xs ys e = (cc, cc)
 
-pub next_stands : (m : List ℕ) (rs : List ViewRecord) (i p : ℕ) (r : ViewRecord) → i < length rs → r ≡ get_or rs i r → StandOn m rs i p → StartsWithOwner m p (spelled r) × StandOn m rs (i + 1) (r.start + r.length)
+pub next_stands : (m : List ℕ) (rs : List ViewRecord) (i p : ℕ) (r : ViewRecord) → i < length rs → r ≡ get_or rs i r → StandOn m rs i p → StandsAt m p (spelled r) × StandOn m rs (i + 1) (r.start + r.length)
 next_stands m rs i p r inside is stand =
     let left = length rs - (i + 1) in
     let all : map spelled (drop i rs) ≡ spelled r ∷ map spelled (drop (i + 1) rs) = ap (map spelled) (items_from rs i r inside is) in
@@ -160,7 +160,7 @@ next_stands m rs i p r inside is stand =
     let same = heads_are (spelled r) n.next.0 (map spelled (drop (i + 1) rs)) n.more n.whole in
     let w = placed_record m p n.next n.is in
     let end : r.start + r.length ≡ n.next.1 = ap behind same.0 ∙ sym w.limit in (
-      (w.end, w.owner ∙ ap (λ (s : Spelled). Ok (s.owner, w.end)) (sym same.0)),
+      n.is ∙ (λ i. Ok (sym same.0 i, sym end i)),
       ap (λ x. records_at left pointer_limit m x) end ∙ n.reads ∙ ap Ok (sym same.1),
     )
 

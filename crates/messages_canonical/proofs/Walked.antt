@@ -68,6 +68,8 @@ pub record Placed (m : List ℕ) (p : ℕ) (r : Spelled) (e : ℕ) : Type 0 wher
   pub end : ℕ
   pub owner : owner_at pointer_limit m p ≡ Ok (r.owner, end)
   pub rtype : u16_at m end ≡ Ok r.rtype
+  pub class : u16_at m (end + 2) ≡ Ok r.class
+  pub ttl : u32_at m (end + 4) ≡ Ok r.ttl
   pub length_at : u16_at m (end + 8) ≡ Ok r.length
   pub start : r.start ≡ end + 10
   pub limit : e ≡ r.start + r.length
@@ -95,6 +97,8 @@ placed_record m p x h =
       end = n.0.1;
       owner = n.1;
       rtype = t.1;
+      class = c.1;
+      ttl = l.1;
       length_at = s.1;
       start = refl;
       limit = inside.0;

@@ -3,6 +3,7 @@ use Rattle.std.specs.Prelude.{◌≡◌, ℕ, ◌<◌, Bool, true, false, ◌||�
 use Rattle.std.specs.List.{list_all}
 use Rattle.std.specs.Str.{bytes_eq}
 use Rattle.definitions.specs.Limits.{pointer_limit}
+use Rattle.messages.specs.HandedRr.{HandedRr}
 use Rattle.messages.specs.Message.{Message, Spelled, data_of, message}
 use Rattle.messages_canonical.specs.declared.error.CanonicalError.{CanonicalError}
 use Rattle.messages_canonical.specs.declared.error.CanonicalError.TheVariants as e
@@ -23,6 +24,10 @@ are_in_form k m rs = list_all (is_in_form k m) rs
 -- octets by themselves are data of a type in form
 abbrev pub has_form : ℕ → List ℕ → Bool
 has_form t octets = is_among t read_by_name || is_canonical_data pointer_limit t octets
+
+-- a record of a zone has data in form, by themselves
+abbrev pub is_record_in_form : HandedRr → Bool
+is_record_in_form r = has_form r.rtype r.bytes
 
 -- a message as it stands, if all its data are in form, or else its canonical form
 abbrev pub IsFormOf : Bool → List ℕ → List ℕ → Type 0

@@ -4,7 +4,7 @@ use Rattle.std.specs.Str.{bytes_eq, str_to_ascii_lowercase}
 use Rattle.definitions.specs.Limits.{pointer_limit}
 use Rattle.definitions.specs.Name.{Name, low, wire}
 use Rattle.definitions.specs.Reading.{Reads}
-use Rattle.messages.specs.Message.{Message, Spelled, message, name_upto, owner_at, record_at, records_at}
+use Rattle.messages.specs.Message.{Message, Spelled, behind, message, name_upto, owner_at, record_at, records_at}
 use Rattle.messages_canonical.specs.Forms.{form_of, is_among}
 use Rattle.messages_canonical.specs.Canonical.{parts_at}
 use Rattle.messages_canonical.specs.InForm.{are_in_form, read_by_name}
@@ -31,9 +31,17 @@ TellsForm m said = (read : Message) → message pointer_limit m ≡ Ok read → 
 abbrev pub PutsName : List ℕ → ℕ → List ℕ → List ℕ → Type 0
 PutsName m p old new = (n : Name) (e : ℕ) → owner_at pointer_limit m p ≡ Ok (n, e) → new ≡ old ++ wire n
 
--- a record's owner reads at a place
-abbrev pub StartsWithOwner : List ℕ → ℕ → Spelled → Type 0
-StartsWithOwner m p r = (e : ℕ) × (owner_at pointer_limit m p ≡ Ok (r.owner, e))
+-- a record reads at a place
+abbrev pub StandsAt : List ℕ → ℕ → Spelled → Type 0
+StandsAt m p r = record_at pointer_limit m p ≡ Ok (r, behind r)
+
+-- a name stands at a place with no pointer in it, and ends at another
+pub record SpelledInFull (m : List ℕ) (p e : ℕ) : Type 0 where
+  pub name : Name
+  pub read : owner_at pointer_limit m p ≡ Ok (name, e)
+  pub spelled : slice_range m p e ≡ wire name
+  pub lowered : str_to_ascii_lowercase (slice_range m p e) ≡ wire (low name)
+  pub onward : p ≤ e
 
 -- a name stands at a place in full, and ends by a limit
 pub record StandsInFull (m : List ℕ) (limit p e : ℕ) : Type 0 where

@@ -11,11 +11,15 @@ ghost use Rattle.messages_canonical.specs.Forms.{form_of};
 ghost use Rattle.messages_canonical.specs.Canonical.{PutsData, PutsPart, formed_data, is_canonical_data, octets_upto, part_at, parts_at, suffix_width, width_at};
 
 use crate::form::{Part, form_of};
+use crate::names::{put_lowered_at, put_name_at};
 use messages::ViewRecord;
 use messages::names::{ParsedName, read_name};
-use names_rdata::composer::{compose_canonical_name, compose_name};
+use names_rdata::composer::compose_name;
 use names_rdata::rtype::Rtype;
 use std::alloc::{AllocError, Global};
+
+/// Room for data with two names of ordinary length; data that need more get it.
+pub(crate) const ROOM_FOR_DATA: usize = 128;
 
 /// Puts the data of a record into a buffer, in the place of what was there, in canonical form; false where their type's form
 /// doesn't read them.
@@ -84,17 +88,17 @@ fn put_part(
 {
     match part {
         Part::Lowered => {
-            let Some((name, behind)) = name_upto(message, at, limit) else {
+            let Some((_, behind)) = name_upto(message, at, limit) else {
                 return Ok(None);
             };
-            put_lowered(&name, data)?;
+            put_lowered_at(message, at, data)?;
             Ok(Some(behind))
         }
         Part::Kept => {
-            let Some((name, behind)) = name_upto(message, at, limit) else {
+            let Some((_, behind)) = name_upto(message, at, limit) else {
                 return Ok(None);
             };
-            put_kept(&name, data)?;
+            put_name_at(message, at, data)?;
             Ok(Some(behind))
         }
         _ => {
@@ -117,17 +121,6 @@ pub(crate) fn name_upto(message: &[u8], at: usize, limit: usize) -> Option<(Pars
         return None;
     }
     Some((name, behind))
-}
-
-/// Puts a name in full at the end, in lower case.
-fn put_lowered(name: &ParsedName, data: &mut Vec<u8>) -> Result<(), AllocError>
-    ensures { let octets = wire (low (parsed_name name.now)) in
-        OnOk result (data.new.items ≡ data.old.items ++ octets) }
-{
-    match compose_canonical_name(name, data) {
-        Ok(()) => Ok(()),
-        Err(_) => Err(AllocError),
-    }
 }
 
 /// Puts a name in full at the end, as it is spelled.

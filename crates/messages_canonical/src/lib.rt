@@ -8,9 +8,12 @@ pub mod form;
 pub mod laws;
 pub mod message;
 mod names;
+pub mod records;
 mod standing;
 mod walk;
 
 pub use crate::data::is_canonical_data;
 pub use crate::error::CanonicalError;
 pub use crate::message::{canonical_cow, canonical_message};
+pub use crate::records::{are_records_in_form, is_record_in_form};
+pub use crate::standing::is_data_in_form;

@@ -9,9 +9,9 @@ ghost use Rattle.messages.specs.Rrsig.{record_numbers};
 ghost use Rattle.messages.specs.Written.{record_octets};
 ghost use Rattle.messages_canonical.specs.Canonical.{HasNone, IsCanonical, Writes, canonical_rdata, canonical_record, canonical_records, head_octets, most_octets, with_data};
 ghost use Rattle.messages_canonical.specs.InForm.{HasNoForm, IsInForm};
-ghost use Rattle.messages_canonical.specs.Walking.{StartsWithOwner};
+ghost use Rattle.messages_canonical.specs.Walking.{StandsAt};
 
-use crate::data::{put_data, put_kept};
+use crate::data::{ROOM_FOR_DATA, put_data, put_kept};
 use crate::error::CanonicalError;
 use crate::names::put_name_at;
 use crate::standing::data_stand;
@@ -27,11 +27,11 @@ use std::borrow::CowSlice;
 /// A message has no more octets (RFC 1035, 4.2.2).
 const MOST: usize = 65535;
 
-/// Room for data with two names of ordinary length; data that need more get it.
-const ROOM_FOR_DATA: usize = 128;
-
 /// So many octets stand before the question (RFC 1035, 4.1.1).
 const HEADER: usize = 12;
+
+/// And so many between a record's owner and its data (RFC 1035, 4.1.3).
+const NUMBERS: usize = 10;
 
 /// The message in canonical form: names in full, those in data in lower case where signatures are made over them so. Header,
 /// question, order and TTLs are as they were, and so are data that their type's form doesn't read, octet for octet.
@@ -118,14 +118,14 @@ fn push_record(
     data: &mut Vec<u8>,
     octets: &mut Vec<u8>,
 ) -> Result<bool, AllocError>
-    requires { StartsWithOwner bytes.now at (spelled record.now) }
+    requires { StandsAt bytes.now at (spelled record.now) }
     ensures { let more = record_octets (canonical_record pointer_limit bytes.now (spelled record.now)) in
         IfOk result (λ b. Writes b octets.old.items octets.new.items more) }
 {
     if !record_stands(bytes, record) && put_data(bytes, record, data)? {
         return push_with_data(bytes, at, record, data, octets);
     }
-    push_with_data(bytes, at, record, record.octets(bytes), octets)
+    push_with_own_data(bytes, at, record, octets)
 }
 
 /// Whether the data of a record are seen to be in canonical form as they stand.
@@ -137,6 +137,23 @@ fn record_stands(bytes: &[u8], record: &ViewRecord) -> bool
     limit <= bytes.len() && data_stand(bytes, record.rtype, record.start, limit)
 }
 
+/// Writes the record at a place with its data as they stand at the end; false where a message has no room for it.
+fn push_with_own_data(
+    bytes: &[u8],
+    at: usize,
+    record: &ViewRecord,
+    octets: &mut Vec<u8>,
+) -> Result<bool, AllocError>
+    requires { StandsAt bytes.now at (spelled record.now) }
+    ensures { let r = spelled record.now in
+        let more = record_octets (with_data r (data_of bytes.now r)) in
+        IfOk result (λ b. Writes b octets.old.items octets.new.items more) }
+{
+    put_name_at(bytes, at, octets)?;
+    octets.extend_from_slice(&bytes[record.start - NUMBERS..record.start + record.length])?;
+    Ok(octets.len() <= MOST)
+}
+
 /// Writes the record at a place with these data at the end; false where a message has no room for it.
 fn push_with_data(
     bytes: &[u8],
@@ -145,7 +162,7 @@ fn push_with_data(
     data: &[u8],
     octets: &mut Vec<u8>,
 ) -> Result<bool, AllocError>
-    requires { StartsWithOwner bytes.now at (spelled record.now) }
+    requires { StandsAt bytes.now at (spelled record.now) }
     ensures { let more = record_octets (with_data (spelled record.now) data.now) in
         IfOk result (λ b. Writes b octets.old.items octets.new.items more) }
 {

@@ -1,12 +1,64 @@
-//! Names that are put in full, each run of their labels at once.
-ghost use Rattle.std.specs.Prelude.{OnOk};
-ghost use Rattle.messages_canonical.specs.Walking.{PutsName};
+//! Names that stand in full, and names that are put in full, each run of their labels at once.
+ghost use Rattle.std.specs.Prelude.{◌≡◌, ◌≤◌, ◌++◌, length, take, drop, slice_range, IfSome, OnOk};
+ghost use Rattle.std.specs.Str.{str_to_ascii_lowercase};
+ghost use Rattle.definitions.specs.Name.{low, wire};
+ghost use Rattle.messages.specs.View.{NameReads, name_read};
+ghost use Rattle.messages_canonical.specs.Walking.{PutsName, SpelledInFull};
 
 use crate::walk::of_pair;
 use std::alloc::AllocError;
 
+/// How many labels a name has at most, the root's too (RFC 1035, 2.3.4).
+const MOST_LABELS: usize = 128;
+
+/// How many octets a name has at most.
+const MOST_OCTETS: usize = 255;
+
 /// How many length octets, the root's too, and pointers a name has at most.
 const MOST_HEADS: usize = 383;
+
+/// The place behind a name that stands at a place with no pointer in it.
+pub(crate) fn end_in_full(message: &[u8], start: usize) -> Option<usize>
+    ensures { IfSome result (SpelledInFull message.now start) }
+{
+    let mut place = start;
+    for _ in 0..MOST_LABELS {
+        let head = usize::from(*message.get(place)?);
+        if head > 63 || place - start >= MOST_OCTETS {
+            return None;
+        }
+        place += head + 1;
+        if head == 0 {
+            return Some(place);
+        }
+    }
+    None
+}
+
+/// As [`put_name_at`], in lower case.
+pub(crate) fn put_lowered_at(
+    message: &[u8],
+    start: usize,
+    data: &mut Vec<u8>,
+) -> Result<(), AllocError>
+    requires { NameReads message.now start }
+    ensures { let octets = wire (low (name_read message.now start)) in
+        OnOk result (data.new.items ≡ data.old.items ++ octets) }
+{
+    let len = data.len();
+    put_name_at(message, start, data)?;
+    lower_behind(data, len);
+    Ok(())
+}
+
+/// Lowers the letters behind so many octets.
+fn lower_behind(data: &mut Vec<u8>, count: usize)
+    requires { count ≤ length data.old.items }
+    ensures { data.new.items
+        ≡ take count data.old.items ++ str_to_ascii_lowercase (drop count data.old.items) }
+{
+    data.as_mut_slice()[count..].make_ascii_lowercase();
+}
 
 /// Puts the name that reads at a place in full at the end, as it is spelled (RFC 1035, 4.1.4).
 pub(crate) fn put_name_at(
@@ -27,7 +79,7 @@ pub(crate) fn put_name_at(
         if head < 192 {
             place += usize::from(head) + 1;
         } else {
-            data.extend_from_slice(&message[from..place])?;
+            put_run(message, from, place, data)?;
             let Some(low) = message.get(place + 1).copied() else {
                 return Ok(());
             };
@@ -36,4 +88,16 @@ pub(crate) fn put_name_at(
         }
     }
     Ok(())
+}
+
+/// Puts the octets from one place up to another at the end. Before most pointers stand none.
+fn put_run(message: &[u8], from: usize, to: usize, data: &mut Vec<u8>) -> Result<(), AllocError>
+    requires ordered { from ≤ to }
+    requires inside { to ≤ length message.now }
+    ensures { OnOk result (data.new.items ≡ data.old.items ++ slice_range message.now from to) }
+{
+    if from == to {
+        return Ok(());
+    }
+    data.extend_from_slice(&message[from..to])
 }

@@ -3,13 +3,13 @@ ghost use Rattle.std.specs.Prelude.{◌≡◌, ◌≤◌, true, length, slice_in
 ghost use Rattle.std.specs.Str.{str_to_ascii_lowercase};
 ghost use Rattle.definitions.specs.Limits.{pointer_limit};
 ghost use Rattle.messages_canonical.specs.Forms.{form_of, is_among};
-ghost use Rattle.messages_canonical.specs.InForm.{read_by_name};
+ghost use Rattle.messages_canonical.specs.InForm.{has_form, read_by_name};
 ghost use Rattle.messages_canonical.specs.Canonical.{parts_at, part_at};
 ghost use Rattle.messages_canonical.specs.Walking.{StandsInFull, data_in_form};
 
-use crate::data::{name_upto, octets_upto, put_formed};
+use crate::data::{ROOM_FOR_DATA, is_canonical_data, octets_upto, put_formed};
 use crate::form::{Part, form_of};
-use names_labels::traits::Labels;
+use crate::names::end_in_full;
 use names_rdata::rtype::Rtype;
 use std::alloc::{AllocError, Global};
 
@@ -28,9 +28,21 @@ pub(crate) fn has_form(
     if is_read_by_name(rtype) || data_stand(message, rtype, start, limit) {
         return Ok(true);
     }
-    let mut data = Vec::new(alloc);
+    let mut data = Vec::with_capacity(alloc, ROOM_FOR_DATA)?;
     let is_formed = put_formed(message, rtype, start, limit, &mut data)?;
     Ok(!is_formed || data.as_slice() == &message[start..limit])
+}
+
+/// Whether data of a type, by themselves, are signed alike by every signer: names in them stand in full and in lower case, or,
+/// as those of NS, SOA, RRSIG and NSEC data, are read as names by whoever makes signed octets of them (RFC 4034, 6.2). Signatures
+/// that are made over other data as they stand verify nowhere else.
+pub fn is_data_in_form(alloc: Global, rtype: Rtype, octets: &[u8]) -> Result<bool, AllocError>
+    ensures { IfOk result (λ b. b ≡ has_form rtype octets.now) }
+{
+    if is_read_by_name(rtype) {
+        return Ok(true);
+    }
+    is_canonical_data(alloc, rtype, octets)
 }
 
 /// Whether names in data of a type are read as names by whoever makes signed octets of them.
@@ -92,8 +104,8 @@ fn part_stands(message: &[u8], part: Part, at: usize, limit: usize) -> Option<us
 fn name_in_full(message: &[u8], at: usize, limit: usize) -> Option<usize>
     ensures { IfSome result (StandsInFull message.now limit at) }
 {
-    let (name, behind) = name_upto(message, at, limit)?;
-    if name.label_row()? != message.get(at..behind)? {
+    let behind = end_in_full(message, at)?;
+    if behind > limit {
         return None;
     }
     Some(behind)

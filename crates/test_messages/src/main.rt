@@ -12,12 +12,14 @@
 //! - `message OCTETS`: what a message asks, and each record with the place of its data; `data OCTETS`: the canonical data of
 //!   the first record, and what a link or signature says; `write NAME TYPE CLASS OWNER TTL OCTETS`: a message of one record;
 //!   `numbers NUMBER NUMBER`: of 16 and of 32 bits, as they are written. `canonical OCTETS`: the message in canonical form;
-//!   `form OCTETS`: as whoever verifies signatures is to see it.
+//!   `form OCTETS`: as whoever verifies signatures is to see it; `data-form TYPE OCTETS`: whether data by themselves are
+//!   canonical, or only in form, since names in them are read as names.
 //! - `key FLAGS ALGORITHM OCTETS`, `key-data OCTETS`: a key with its tag, whether it is a zone key, and its data.
 //!   `ranked OCTETS,..`: data in order; `digests TAG,..`: DS records in order.
 //! - `fields RRSIG`: the fields of a signature, spelled and canonical; `signed RRSIG OWNER OCTETS,..`: what it is made over.
 //! - `zone NAME`: begins a zone; `soa SERIAL`, `ns OWNER TTL SERVER`, `rr OWNER CLASS TTL TYPE OCTETS`: its records;
-//!   `nsec3 ITERATIONS SALT OPTOUT LIMIT`: asks for a chain of hashes, by SHA-1, instead of one of names; `accept`: makes it.
+//!   `nsec3 ITERATIONS SALT OPTOUT LIMIT`: asks for a chain of hashes, by SHA-1, instead of one of names; `accept`: makes it;
+//!   `in-form`, before that: whether every signer signs the data of the records so far alike.
 //!   Then `ask NAME TYPE`: the flags and RRsets of the answer, the data of each as written and in canonical form;
 //!   `has NAME TYPE`, `exists NAME`, `ttl NAME TYPE`, `apex`.
 //!
@@ -42,7 +44,7 @@ fn reply(alloc: Global, section: &mut Section<'_>, line: &str) -> Option<String>
     let (name, rest) = first_word(line);
     match name {
         "name" | "is" | "flat" | "whole" | "compare" | "parts" => of_names(alloc, name, rest),
-        "message" | "data" | "write" | "numbers" | "canonical" | "form" => {
+        "message" | "data" | "write" | "numbers" | "canonical" | "form" | "data-form" => {
             of_messages(alloc, name, rest)
         }
         "key" | "key-data" | "ranked" | "digests" | "fields" | "signed" => {
@@ -74,6 +76,7 @@ fn of_messages(alloc: Global, name: &str, rest: &str) -> Option<String> {
         ("numbers", [first, second]) => records::numbers(alloc, first, second),
         ("canonical", [octets]) => records::canonical(alloc, octets),
         ("form", [octets]) => records::form(alloc, octets),
+        ("data-form", [rtype, octets]) => records::data_form(alloc, rtype, octets),
         _ => None,
     }
 }

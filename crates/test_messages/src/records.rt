@@ -4,7 +4,7 @@ use crate::words::{name_of, wire_of};
 use messages::write::{push_header, push_question, push_record, push_u16, push_u32};
 use messages::{MessageView, ViewRecord, read_message};
 use messages_canonical::laws::{canonical_reads_back, data_stay_in_form, names_are_read_so};
-use messages_canonical::{canonical_cow, canonical_message};
+use messages_canonical::{canonical_cow, canonical_message, is_canonical_data, is_data_in_form};
 use names::Rtype;
 use plain::{Class, Ttl};
 use std::alloc::Global;
@@ -44,6 +44,23 @@ pub fn form(alloc: Global, octets: &str) -> Option<String> {
         Ok(CowSlice::Owned(written)) => printed(alloc, &written),
         Err(error) => refused(alloc, &error),
     }
+}
+
+/// Whether data by themselves are canonical, and whether every signer signs them alike.
+pub fn data_form(alloc: Global, rtype: &str, octets: &str) -> Option<String> {
+    let (rtype, octets) = (
+        Rtype::from_int(rtype.parse().ok()?),
+        octets_of(alloc, octets)?,
+    );
+    let is_canonical = is_canonical_data(alloc, rtype, &octets).ok()?;
+    let is_in_form = is_data_in_form(alloc, rtype, &octets).ok()?;
+    let told = match (is_canonical, is_in_form) {
+        (true, true) => "canonical",
+        (false, true) => "in form",
+        (true, false) => "canonical, not in form",
+        (false, false) => "neither",
+    };
+    format!(in alloc; "{told}").ok()
 }
 
 fn contents(alloc: Global, octets: &[u8], view: &MessageView<'_>) -> Option<String> {

@@ -9,6 +9,7 @@ use denial_fields::salt::Nsec3Salt;
 use denial_nsec3_sha1::hasher::Sha1Hasher;
 use messages::names::{Name, copy_name};
 use messages::record::ZoneRecord;
+use messages_canonical::are_records_in_form;
 use names::{Rtype, Serial, UnknownRecordData};
 use plain::ns::Ns;
 use plain::record::Record;
@@ -55,6 +56,7 @@ impl<'h> Section<'h> {
             ("nsec3", [iterations, salt, opt_out, limit]) => {
                 self.put_mode(alloc, iterations, salt, opt_out, limit)
             }
+            ("in-form", _) => self.in_form(alloc),
             ("accept", _) => self.accept(alloc),
             ("ask", [name, rtype]) => self.ask(alloc, name, rtype),
             ("has", [name, rtype]) => self.has(alloc, name, rtype),
@@ -102,6 +104,14 @@ impl<'h> Section<'h> {
     fn put(&mut self, alloc: Global, record: ZoneRecord) -> Option<String> {
         self.records.push(record).ok()?;
         text(alloc, "ok")
+    }
+
+    /// Whether every signer signs the data of the records so far alike.
+    fn in_form(&self, alloc: Global) -> Option<String> {
+        text(
+            alloc,
+            yes_or_no(are_records_in_form(alloc, &self.records).ok()?),
+        )
     }
 
     /// Makes the zone of the records so far.

@@ -4,7 +4,7 @@ use Rattle.messages_canonical.specs.Walking.{PutsName}
 use Rattle.messages_canonical.proofs.NamesPut.{GoesOn, all_heads, begins, behind_label, beyond_pointer, ends_at_root, half_a_pointer, moved, one_head_less, reads_no_further}
 use Rattle.messages_canonical.proofs.Seen.{octet_told}
 use Rattle.messages_canonical.proofs.names.put_name_at.Goals as goal
-use Rattle.messages_canonical.proofs.names.put_name_at.Goals.{then-head-lt192, else-head-lt192+in_ok-extend_from_slice+in-Some-copied}
+use Rattle.messages_canonical.proofs.names.put_name_at.Goals.{then-head-lt192, else-head-lt192+in_ok-put_run+in-Some-copied}
 
 pub loop-init : goal.loop-init
 loop-init c = (omega arith, begins c.args.message.now c.args.start c.args.data.now.items)
@@ -32,7 +32,7 @@ returns-in_default-copied c =
     let m = c.args.message.now in
     let told = octet_told m c.loop.place c.copied.result (λ d. ap (λ o. unwrap_or o d) c.copied.ensures ∙ c.get.ensures.lookup.4 (omega arith) d) in
     let behind = octet_told m (c.loop.place + 1) c.copied-else-head-lt192.result (λ d. ap (λ o. unwrap_or o d) c.copied-else-head-lt192.ensures ∙ c.get-else-head-lt192.ensures.lookup.4 (omega arith) d) in
-    half_a_pointer m c.args.start c.loop.from c.loop.place c.in-Some.head _ c.args.data.now.items c.loop.data.items c.extend_from_slice-else-head-lt192.new.self.items c.loop.invariant.1 (told ∙ c.in-Some.is) c.if-head-lt192.false (behind ∙ c.in_default-copied.is)
+    half_a_pointer m c.args.start c.loop.from c.loop.place c.in-Some.head _ c.args.data.now.items c.loop.data.items c.put_run.new.data.items c.loop.invariant.1 (told ∙ c.in-Some.is) c.if-head-lt192.false (behind ∙ c.in_default-copied.is)
 
 pub loop-preserved : goal.loop-preserved
 loop-preserved c =
@@ -46,11 +46,11 @@ loop-preserved c =
           let place : c.if-head-lt192.place ≡ c.loop.place + (h + 1) = w.place-is ∙ ap (λ n. c.loop.place + (n + 1)) w.from.ensures in
           let on = behind_label m c.args.start c.loop.from c.loop.place h _ old c.loop.data.items c.loop.invariant.0 less told c.if-head-eq0.false w.if-head-lt192.true in
           moved m c.args.start _ old c.loop.data.items c.if-head-lt192.data.items c.loop.from c.if-head-lt192.from (c.loop.place + (h + 1)) c.if-head-lt192.place w.from-is place (ap (λ v. v.items) w.data-is) (omega (arith, c.loop.invariant.0), on)
-      | else-head-lt192+in_ok-extend_from_slice+in-Some-copied w ↦
+      | else-head-lt192+in_ok-put_run+in-Some-copied w ↦
           let behind = octet_told m (c.loop.place + 1) w.copied-else-head-lt192.result (λ d. ap (λ o. unwrap_or o d) w.copied-else-head-lt192.ensures ∙ w.get-else-head-lt192.ensures.lookup.4 (omega arith) d) ∙ w.in-Some-copied.is in
-          let new = w.extend_from_slice-else-head-lt192.new.self.items in
+          let new = w.put_run.new.data.items in
           let to = (c.in-Some.head - 192) * 256 + w.in-Some-copied.low in
-          let on = beyond_pointer m c.args.start c.loop.from c.loop.place c.in-Some.head w.in-Some-copied.low _ old c.loop.data.items new less told w.if-head-lt192.false behind w.in_ok-extend_from_slice.ensures.items in
+          let on = beyond_pointer m c.args.start c.loop.from c.loop.place c.in-Some.head w.in-Some-copied.low _ old c.loop.data.items new less told w.if-head-lt192.false behind w.in_ok-put_run.ensures in
           moved m c.args.start _ old new c.if-head-lt192.data.items to c.if-head-lt192.from to c.if-head-lt192.place (w.from-is ∙ w.of_pair-place.ensures) (w.place-is ∙ w.of_pair-place.ensures) (ap (λ v. v.items) w.data-is) (omega arith, on)
     ]
 

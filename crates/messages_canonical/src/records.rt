@@ -1,0 +1,35 @@
+//! Records of a zone whose data every signer signs alike.
+ghost use Rattle.std.specs.Prelude.{◌≡◌, map, IfOk};
+ghost use Rattle.std.specs.List.{list_all};
+ghost use Rattle.messages.specs.HandedRr.{handed_of};
+ghost use Rattle.messages_canonical.specs.InForm.{is_record_in_form};
+
+use crate::standing::is_data_in_form;
+use messages::record::ZoneRecord;
+use names_rdata::data::ComposeRecordData;
+use std::alloc::{AllocError, Global};
+
+/// Whether the data of all records are in form, as [`is_data_in_form`] has it. What a publisher gives of such a zone is judged as
+/// it is received, and signatures over its data verify elsewhere too.
+pub fn are_records_in_form(alloc: Global, records: &[ZoneRecord]) -> Result<bool, AllocError>
+    ensures { let is = list_all is_record_in_form (map handed_of records.now) in
+        IfOk result (λ b. b ≡ is) }
+{
+    for record in records {
+        if !is_record_in_form(alloc, record)? {
+            return Ok(false);
+        }
+    }
+    Ok(true)
+}
+
+/// The same of one record.
+pub fn is_record_in_form(alloc: Global, record: &ZoneRecord) -> Result<bool, AllocError>
+    ensures { IfOk result (λ b. b ≡ is_record_in_form (handed_of record.now)) }
+{
+    let mut octets = Vec::new(alloc);
+    match record.data().compose_canonical_rdata(&mut octets) {
+        Ok(()) => is_data_in_form(alloc, record.rtype(), &octets),
+        Err(_) => Err(AllocError),
+    }
+}
