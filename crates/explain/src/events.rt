@@ -6,6 +6,7 @@ use crate::keys::Keys;
 use crate::options::Options;
 use crate::session::{line_text, next_counting};
 use crate::shown::{Shown, case_of, push_shown};
+use crate::signed_alike::note_unlike;
 use answer::names::ToName;
 use answer::{Act, Ds, Event, Name, Outcome, Verdict};
 use denial_nsec3_sha1::hasher::Sha1Hasher;
@@ -87,7 +88,8 @@ fn push_details(
         }
         (Act::Replace(records), Outcome::Replaced(Ok(()))) => {
             let count = records.len();
-            explained.note(format_args!("the zone is made anew of {count} records"))
+            explained.note(format_args!("the zone is made anew of {count} records"))?;
+            note_unlike(telling.alloc, explained, records)
         }
         (_, Outcome::Replaced(Err(fault))) => explained.note(fault),
         (_, Outcome::Refused(fault)) => {

@@ -12,7 +12,7 @@ pub struct Explained {
     /// The number of the event's line, from 1 on.
     pub line: usize,
     pub event: String,
-    /// What the bench prints of it.
+    /// What the bench prints of it: nothing of a zone's record.
     pub printed: String,
     /// The lines of records on which it rests.
     pub records: Vec<String>,
@@ -79,7 +79,9 @@ impl fmt::Display for Explained {
             writeln!(f, "{record}")?;
         }
         writeln!(f, "{line}: {event}")?;
-        writeln!(f, "  > {printed}")?;
+        if !printed.is_empty() {
+            writeln!(f, "  > {printed}")?;
+        }
         for note in &self.notes {
             writeln!(f, "  {note}")?;
         }

@@ -16,6 +16,7 @@ mod keys;
 mod options;
 mod session;
 mod shown;
+mod signed_alike;
 
 use crate::options::{OPTIONS, Options, Style, Task, is_option};
 use crate::session::push_explained;

@@ -6,6 +6,7 @@ use crate::explained::Explained;
 use crate::faulty::push_refused;
 use crate::keys::Keys;
 use crate::options::Options;
+use crate::signed_alike::{push_warnings, signed_alike};
 use answer::names::ToName;
 use answer::{ZoneFault, simulate};
 use denial_nsec3_sha1::hasher::Sha1Hasher;
@@ -111,7 +112,7 @@ fn push_session(
         records,
         events,
     } = session;
-    let (before, limit) = (records.len(), zone.limit);
+    let (alike, limit) = (signed_alike(alloc, &records)?, zone.limit);
     let Ok(apex) = zone.apex.to_vec(alloc) else {
         return Err(AllocError);
     };
@@ -131,9 +132,7 @@ fn push_session(
         Ok(outcomes) => {
             let mut lines = Lines::new(input);
             let _zone = next_counting(&mut lines);
-            for _record in 0..before {
-                let _record = next_counting(&mut lines);
-            }
+            push_warnings(alloc, out, &mut lines, &alike, options)?;
             let telling = Telling {
                 alloc,
                 apex: &apex,

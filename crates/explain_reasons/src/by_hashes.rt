@@ -1,10 +1,10 @@
 //! What verified NSEC3 records tell of a question, and why, by the names that the judge hashed (RFC 5155, 8).
 
-use crate::asked::{Asked, Told, TypeList, is_cut, lacks};
 use crate::facts::HashLink;
-use crate::recording::Hashed;
 use crate::tell::tell;
 use explain_messages::type_text::TypeText;
+use explain_signatures::asked::{Asked, Told, TypeList, is_cut, lacks};
+use explain_signatures::recording::Hashed;
 use messages::names::{Name, ToName};
 use names_rdata::rtype::Rtype;
 use numbers::base32hex::digits::Base32hexDigits;

@@ -1,9 +1,9 @@
 //! What verified NSEC records tell of a question, and why (RFC 4035, 5.4; RFC 4592; RFC 6840, 4.1 and 4.3).
 
-use crate::asked::{Asked, Told, TypeList, is_cut, lacks};
 use crate::facts::Link;
 use crate::tell::tell;
 use explain_messages::type_text::TypeText;
+use explain_signatures::asked::{Asked, Told, TypeList, is_cut, lacks};
 use messages::names::{Name, ToName, ZoneName, is_above, is_at_or_above};
 use names_rdata::rtype::Rtype;
 use std::alloc::{AllocError, Global};

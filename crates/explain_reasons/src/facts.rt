@@ -1,9 +1,9 @@
 //! The verified records of an answer.
 
-use crate::asked::Asked;
-use crate::signatures::{Seen, Source};
 use answer_judge_facts::hash_owner::hash_spelled;
 use denial_data::{Nsec, Nsec3};
+use explain_signatures::asked::Asked;
+use explain_signatures::signatures::{Seen, Source};
 use messages::ViewRecord;
 use messages::names::ParsedName;
 use names_rdata::rtype::Rtype;

@@ -2,16 +2,10 @@
 
 ghost use Rattle.std.specs.Prelude.{◌≡◌, ◌<◌};
 
-use crate::asked::{Asked, Told};
 use crate::by_hashes::hash_reasons;
 pub use crate::by_hashes::{HashReason, HashState};
-pub use crate::delegation::{DsReason, DsState, KeyReason};
-use crate::delegation::{ds_reasons, key_reasons};
 use crate::facts::{Facts, read_facts};
-use crate::recording::{Calls, Hashed, Recording, Tried};
 use crate::refusals::{tell_keys, tell_messages, tell_records};
-pub use crate::signatures::{SignatureReason, SignatureState, Source};
-use crate::signatures::{Scope, Seen, see_signatures, signature_reasons, tried_count};
 use crate::{by_hashes, by_names};
 use answer_judge::case::Case;
 use answer_judge_facts::keys::{TaggedKey, read_keys};
@@ -19,6 +13,12 @@ use answer_judge_facts::verdict::{Judgement, Refusal, Refused, Verdict};
 use answer_scheme::counting::SchemeChecks;
 use answer_scheme::scheme::Scheme;
 use denial_nsec3_hash::hasher::Nsec3Hasher;
+use explain_signatures::asked::{Asked, Told};
+use explain_signatures::delegation::{DsReason, KeyReason, ds_reasons, key_reasons};
+use explain_signatures::recording::{Calls, Hashed, Recording, Tried};
+use explain_signatures::signatures::{
+    Scope, Seen, SignatureReason, Source, see_signatures, signature_reasons, tried_count,
+};
 use messages::{ViewRecord, read_message_into};
 use serde::Serialize;
 use std::alloc::{AllocError, Global};

@@ -1,13 +1,13 @@
 //! What was wrong with messages, keys and records of a refused judgement, and what would have to be there.
 
 use crate::facts::Facts;
-use crate::signatures::{Seen, SignatureState, Source};
 use crate::tell::tell;
 use answer_judge::case::Case;
 use answer_judge_facts::keys::TaggedKey;
 use answer_judge_facts::verdict::{Judgement, Refusal, Refused, Verdict};
 use explain_messages::date::Date;
 use explain_messages::type_text::TypeText;
+use explain_signatures::signatures::{Seen, SignatureState, Source};
 use messages::names::{Name, ToName};
 use messages::read_message;
 use names_rdata::rtype::Rtype;

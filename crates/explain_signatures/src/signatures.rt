@@ -96,15 +96,15 @@ impl fmt::Display for SignatureReason {
 
 /// A signature of a message.
 #[derive(Drop)]
-pub(crate) struct Seen {
-    pub(crate) source: Source,
-    pub(crate) owner: Name<Vec<u8>>,
-    pub(crate) covered: Rtype,
-    pub(crate) labels: u8,
-    pub(crate) tag: u16,
-    pub(crate) inception: u32,
-    pub(crate) expiration: u32,
-    pub(crate) state: SignatureState,
+pub struct Seen {
+    pub source: Source,
+    pub owner: Name<Vec<u8>>,
+    pub covered: Rtype,
+    pub labels: u8,
+    tag: u16,
+    pub inception: u32,
+    pub expiration: u32,
+    pub state: SignatureState,
 }
 
 /// What a signature says of itself.
@@ -142,7 +142,7 @@ impl Fields {
 
 impl Seen {
     /// Whether it passed over the RRset of an owner and a type.
-    pub(crate) fn verifies<N: ToName>(&self, source: Source, owner: &N, rtype: Rtype) -> bool {
+    pub fn verifies<N: ToName>(&self, source: Source, owner: &N, rtype: Rtype) -> bool {
         self.source == source
             && self.state == SignatureState::Passed
             && self.covered == rtype
@@ -177,21 +177,21 @@ impl Seen {
 
 /// What signatures of a message are held against.
 #[derive(Drop)]
-pub(crate) struct Scope<'s, 'm> {
-    pub(crate) source: Source,
-    pub(crate) message: &'m [u8],
-    pub(crate) records: &'s [ViewRecord<'m>],
-    pub(crate) asked: Asked<'s>,
-    pub(crate) keys: &'s [TaggedKey<'m>],
-    pub(crate) named: &'s [KeyReason],
-    pub(crate) moment: u32,
+pub struct Scope<'s, 'm> {
+    pub source: Source,
+    pub message: &'m [u8],
+    pub records: &'s [ViewRecord<'m>],
+    pub asked: Asked<'s>,
+    pub keys: &'s [TaggedKey<'m>],
+    pub named: &'s [KeyReason],
+    pub moment: u32,
     /// What the judge tried, in both messages.
-    pub(crate) tried: &'s [Tried],
+    pub tried: &'s [Tried],
 }
 
 /// The signatures of a message in its order, behind those that were seen before. What the judge tried is found again, signature
 /// by signature, over the same octets.
-pub(crate) fn see_signatures(
+pub fn see_signatures(
     alloc: Global,
     scope: &Scope,
     seen: &mut Vec<Seen>,
@@ -205,10 +205,7 @@ pub(crate) fn see_signatures(
 }
 
 /// The signatures for people.
-pub(crate) fn signature_reasons(
-    alloc: Global,
-    seen: &[Seen],
-) -> Result<Vec<SignatureReason>, AllocError> {
+pub fn signature_reasons(alloc: Global, seen: &[Seen]) -> Result<Vec<SignatureReason>, AllocError> {
     let mut reasons = Vec::new(alloc);
     for found in seen {
         reasons.push(found.reason(alloc)?)?;
@@ -217,7 +214,7 @@ pub(crate) fn signature_reasons(
 }
 
 /// How many of the signatures were tried.
-pub(crate) fn tried_count(seen: &[Seen]) -> usize {
+pub fn tried_count(seen: &[Seen]) -> usize {
     seen.iter().filter(|found| found.is_tried()).count()
 }
 

@@ -9,7 +9,7 @@ use std::alloc::{AllocError, Global};
 
 /// A signature that the judge tried.
 #[derive(Debug, Drop)]
-pub(crate) struct Tried {
+pub struct Tried {
     /// What it was to be made over (RFC 4034, 3.1.8.1).
     pub(crate) signed: Vec<u8>,
     pub(crate) signature: Vec<u8>,
@@ -18,23 +18,23 @@ pub(crate) struct Tried {
 
 /// A name that the judge hashed.
 #[derive(Debug, Drop)]
-pub(crate) struct Hashed {
+pub struct Hashed {
     /// The name in wire form, in lower case.
-    pub(crate) name: Vec<u8>,
+    pub name: Vec<u8>,
     /// Its hash; empty where that failed.
-    pub(crate) hash: Vec<u8>,
+    pub hash: Vec<u8>,
 }
 
 /// What the judge tried and hashed, in order.
 #[derive(Debug, Drop)]
-pub(crate) struct Calls {
-    pub(crate) tried: Vec<Tried>,
-    pub(crate) hashed: Vec<Hashed>,
+pub struct Calls {
+    pub tried: Vec<Tried>,
+    pub hashed: Vec<Hashed>,
 }
 
 /// Checks that answer as others do, and keep each verification and each hash.
 #[derive(Drop)]
-pub(crate) struct Recording<C: Checks> {
+pub struct Recording<C: Checks> {
     checks: C,
     calls: Calls,
     /// Whether there was memory to keep all.
@@ -43,7 +43,7 @@ pub(crate) struct Recording<C: Checks> {
 
 impl<C: Checks + Drop> Recording<C> {
     /// Checks that were asked nothing yet.
-    pub(crate) fn new(alloc: Global, checks: C) -> Self {
+    pub fn new(alloc: Global, checks: C) -> Self {
         Recording {
             checks,
             calls: Calls {
@@ -55,7 +55,7 @@ impl<C: Checks + Drop> Recording<C> {
     }
 
     /// What was asked.
-    pub(crate) fn into_calls(self) -> Result<Calls, AllocError> {
+    pub fn into_calls(self) -> Result<Calls, AllocError> {
         let Recording { calls, kept, .. } = self;
         kept?;
         Ok(calls)

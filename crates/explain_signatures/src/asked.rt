@@ -8,15 +8,15 @@ use std::fmt;
 
 /// A zone's name, and what is asked of it.
 #[derive(Clone, Copy, Drop)]
-pub(crate) struct Asked<'a> {
-    pub(crate) apex: &'a Name<Vec<u8>>,
-    pub(crate) name: &'a Name<Vec<u8>>,
-    pub(crate) rtype: Rtype,
+pub struct Asked<'a> {
+    pub apex: &'a Name<Vec<u8>>,
+    pub name: &'a Name<Vec<u8>>,
+    pub rtype: Rtype,
 }
 
 /// What records tell of a question.
 #[derive(Clone, Copy, Debug, PartialEq, Eq)]
-pub(crate) enum Told {
+pub enum Told {
     Records,
     NoType,
     NoName,
@@ -29,22 +29,18 @@ pub(crate) enum Told {
 }
 
 /// Whether types are those of a delegation, if they stand at a name: NS below the apex (RFC 6840, 4.1).
-pub(crate) fn is_cut<N: ToName>(
-    types: &RtypeBitmap<&[u8]>,
-    apex: &Name<Vec<u8>>,
-    owner: &N,
-) -> bool {
+pub fn is_cut<N: ToName>(types: &RtypeBitmap<&[u8]>, apex: &Name<Vec<u8>>, owner: &N) -> bool {
     types.contains(Rtype::NS) && !owner.name_eq(apex)
 }
 
 /// Whether types have neither the one that is asked for nor CNAME (RFC 6840, 4.3).
-pub(crate) fn lacks(types: &RtypeBitmap<&[u8]>, rtype: Rtype) -> bool {
+pub fn lacks(types: &RtypeBitmap<&[u8]>, rtype: Rtype) -> bool {
     !types.contains(rtype) && !types.contains(Rtype::CNAME)
 }
 
 /// Types that print with commas between.
 #[derive(Clone, Copy, Drop)]
-pub(crate) struct TypeList<'a>(pub(crate) &'a RtypeBitmap<&'a [u8]>);
+pub struct TypeList<'a>(pub &'a RtypeBitmap<&'a [u8]>);
 
 impl<'a> fmt::Display for TypeList<'a> {
     fn fmt<W: fmt::Write>(&self, f: &mut fmt::Formatter<W>) -> fmt::Result {

@@ -128,7 +128,7 @@ fn state_among<S: Scheme>(
 }
 
 /// The DS records, each with what it is to the keys.
-pub(crate) fn ds_reasons<S: Scheme>(
+pub fn ds_reasons<S: Scheme>(
     alloc: Global,
     scheme: &S,
     apex: &Name<Vec<u8>>,
@@ -149,7 +149,7 @@ pub(crate) fn ds_reasons<S: Scheme>(
 }
 
 /// The keys, each with whether a DS record names it.
-pub(crate) fn key_reasons(
+pub fn key_reasons(
     alloc: Global,
     keys: &[TaggedKey],
     set: &[DsReason],
