@@ -14,12 +14,14 @@ use Rattle.definitions.specs.Zone.{Delegated, NoName, NoType, Open, Records, Rr,
 use Rattle.definitions.specs.ZoneChain.{Mode, Nsec, Nsec3, nsec3_data, optout_of, parameters_of}
 use Rattle.messages.specs.declared.error.MessageError.{MessageError}
 use Rattle.messages.specs.Message.{Asked, Message, Spelled, behind, canonical_data, data_of, ns_data, nsec3_at, nsec_data, records_at, soa_data}
+use Rattle.messages.specs.HandedRr.{HandedRr}
 use Rattle.messages.proofs.Lists.{all_sorted}
 use Rattle.messages_canonical.specs.Canonical.{canonical_rdata}
 use Rattle.messages_canonical.specs.Forms.{is_among}
-use Rattle.messages_canonical.specs.InForm.{IsFormOf, IsInForm, are_in_form, has_form, is_in_form, read_by_name}
+use Rattle.messages_canonical.specs.InForm.{IsFormOf, IsInForm, are_in_form, has_form, is_in_form, is_record_in_form, read_by_name}
 use Rattle.messages_canonical.proofs.Anywhere.{stay_in_form, without_names}
 use Rattle.messages_canonical.proofs.Walked.{headed, next_record, placed_record}
+use Rattle.answer_shared.specs.Accepting.{record_cmp, rr_of, sorted_records}
 use Rattle.answer_shared.specs.Served.{Group, Served, ahead, ahead_open, answer_groups, by_tag, chain_names, chain_record, expanded, if_any, key_data, key_group, proofs_of, rrset, soa, speaks_for, spoken, unsigned_ns}
 use Rattle.answer_shared.specs.Told.{AreRecords, AreSignatures, IsRecord, Tells, TellsGroups}
 use Rattle.answer_judge_octets.specs.Laws.{ToldAreInForm, is_group_in_form, is_zone_in_form}
@@ -228,10 +230,21 @@ key_data_in_form ds = all_as_test 48 ds (all_of ds)
     all_of [] = tt
     all_of (d ∷ ds) = (without_names 48 d refl, all_of ds)
 
+-- ---- the records that a zone is made of
+
+records_as_test : (rs : List HandedRr) → AllByRecursion (λ r. is_record_in_form r ≡ true) rs → list_all (λ r. has_form r.rtype r.bytes) (map rr_of rs) ≡ true
+records_as_test [] h = refl
+records_as_test (r ∷ rs) h = ap (λ b. b && list_all (λ r. has_form r.rtype r.bytes) (map rr_of rs)) h.0 ∙ records_as_test rs h.1
+
+each_record : (rs : List HandedRr) → list_all is_record_in_form rs ≡ true → AllByRecursion (λ r. is_record_in_form r ≡ true) rs
+each_record [] h = tt
+each_record (r ∷ rs) h = let parts = and_parts (is_record_in_form r) (list_all is_record_in_form rs) h in (parts.0, each_record rs parts.1)
+
 pub told : ToldAreInForm
 told = record {
   answers = λ v s apex signers at life asked bytes judged zone tells is.
       told_in_form v apex at life (by_tag signers) asked (answer_groups s asked.name asked.rtype) bytes judged (answer_in_form s zone asked.name asked.rtype) tells is;
   keys = λ v ttl apex present signers at life bytes judged tells is.
       told_in_form v apex at life (by_tag signers) (record { name = apex; rtype = 48; class = 1 }) (key_group apex ttl present ∷ []) bytes judged (key_data_in_form (key_data present), tt) tells is;
+  records = λ apex rs all. records_as_test (sorted_records rs) (all_sorted (λ r. is_record_in_form r ≡ true) record_cmp rs (each_record rs all));
 }

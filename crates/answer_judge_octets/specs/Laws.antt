@@ -6,7 +6,9 @@ use Rattle.definitions.specs.Dnskey.{Dnskey}
 use Rattle.definitions.specs.Limits.{pointer_limit}
 use Rattle.definitions.specs.Zone.{Zone}
 use Rattle.messages.specs.Message.{Asked}
-use Rattle.messages_canonical.specs.InForm.{has_form}
+use Rattle.messages.specs.HandedRr.{HandedRr}
+use Rattle.messages_canonical.specs.InForm.{has_form, is_record_in_form}
+use Rattle.answer_shared.specs.Accepting.{zone_of}
 use Rattle.answer_shared.specs.Served.{Group, Served}
 use Rattle.answer_shared.specs.Told.{TellsAnswer, TellsKeys}
 use Rattle.answer_judge_facts.specs.Judging.{Handing}
@@ -41,9 +43,11 @@ abbrev pub is_zone_in_form : Zone → Bool
 is_zone_in_form z = list_all (λ r. has_form r.rtype r.bytes) z.records
 
 -- Messages that tell what a zone's publisher answers, as those that it gives do, are judged as they were received: zone answers
--- where the data of the zone's records are in form, and DNSKEY answers.
+-- where the data of the zone's records are in form, and DNSKEY answers. A zone's are where those of the records are that it is
+-- made of.
 pub record ToldAreInForm : Type 0 where
   pub answers : (verifies : Dnskey → List ℕ → List ℕ → Bool) (s : Served) (apex : Name) (signers : List Dnskey) (at life : ℕ) (asked : Asked) (bytes judged : List ℕ)
       → is_zone_in_form s.zone ≡ true → TellsAnswer verifies pointer_limit s apex signers at life asked bytes → IsJudged false bytes judged → judged ≡ bytes
   pub keys : (verifies : Dnskey → List ℕ → List ℕ → Bool) (ttl : ℕ) (apex : Name) (present signers : List Dnskey) (at life : ℕ) (bytes judged : List ℕ)
       → TellsKeys verifies pointer_limit ttl apex present signers at life bytes → IsJudged false bytes judged → judged ≡ bytes
+  pub records : (apex : Name) (rs : List HandedRr) → list_all is_record_in_form rs ≡ true → is_zone_in_form (zone_of apex rs) ≡ true

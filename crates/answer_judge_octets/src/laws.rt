@@ -13,8 +13,8 @@ pub fn lists_grow_by_entries()
     ensures { ListsGrow }
 {}
 
-/// Where the data of a zone's records are canonical by themselves, what its publisher gives is judged as it was received: no
-/// message of it is put in canonical form.
+/// Where the data of a zone's records are in form, as `are_records_in_form` says of the records that it is made of, what its
+/// publisher gives is judged as it was received: no message of it is put in canonical form.
 pub fn told_are_in_form()
     ensures { ToldAreInForm }
 {}
