@@ -68,11 +68,16 @@ fn append_number(target: &mut Vec<u8>, call: usize) -> Result<(), ShortBuf> {
         6 => 1u64.compose(target),
         7 => (-1i64).compose(target),
         8 => b"abc".compose(target),
-        9 => (&0x1234u16).compose(target),
+        9 => append_value(&&0x1234u16, target),
         10 => Ipv4Addr::new(192, 0, 2, 1).compose(target),
         11 => Ipv6Addr::new(0x2001, 0xdb8, 0, 0, 0, 0, 0, 1).compose(target),
         _ => Serial(1).compose(target),
     }
+}
+
+/// By the bound, so that of a reference the reference's own call is made.
+fn append_value<C: Compose>(value: &C, target: &mut Vec<u8>) -> Result<(), ShortBuf> {
+    value.compose(target)
 }
 
 /// Record data of any type, bare and behind their length.
