@@ -1,7 +1,8 @@
 /*
  * Prints what a signed zone says of a name, from files with the octets of two messages and of a DS set, each record's data behind
  * its length in two octets. The type is a number; the moment, else now, is in seconds since 1970. OpenSSL checks the signatures.
- * The status is 0 for a verdict, 1 for a refusal, else 2. To build it: cc validate.c $(pkg-config --cflags --libs zermuita) -lcrypto
+ * The status is 0 for a verdict, 1 for a refusal or where too many signatures are asked for, else 2. To build it:
+ * cc validate.c $(pkg-config --cflags --libs zermuita) -lcrypto
  */
 #include "signature.h"
 
@@ -76,5 +77,5 @@ int main(int argc, char **argv) {
             printf("%02x%s", rdata.data[i], i + 1 < rdata.len ? "" : "\n");
         }
     }
-    return zermuita_is_verdict(reply) ? 0 : zermuita_is_refusal(reply) ? 1 : 2;
+    return zermuita_is_verdict(reply) ? 0 : zermuita_is_refusal(reply) || reply == ZERMUITA_ASK ? 1 : 2;
 }

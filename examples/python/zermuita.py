@@ -37,7 +37,7 @@ class Verdict(enum.IntEnum):
 
 
 class Refused(Exception):
-    """The messages prove no verdict: a validator calls them bogus. `reply` is the number of the reason."""
+    """The messages prove no verdict: a validator calls them bogus. `reply` is the number of the reason, or that of `ASK`."""
 
     def __init__(self, reply: int, text: str) -> None:
         super().__init__(text)
@@ -163,7 +163,7 @@ class Library:
         return bytes(text.data).decode("ascii")
 
     def judge(self, case: Case, passes: Callable[[Ask], bool], checked: bytes = b"", most: int = 16) -> Judgement:
-        """Judges, beginning with signatures that were checked. More than `most` are not checked, and count as failing."""
+        """Judges, beginning with signatures that were checked. `Refused` is raised where more than `most` are asked for."""
         now = int(time.time()) if case.now is None else case.now
         tried = 0
         while True:
@@ -171,8 +171,10 @@ class Library:
             if reply != ASK:
                 break
             for dnskey, signed, signature in _parts(octets, (2, 4, 2), gap=1):
+                if tried == most:
+                    raise Refused(reply, f"more than {most} signatures are asked for")
                 ask = Ask(dnskey, signed, signature)
-                checked += ask.entry(tried < most and passes(ask))
+                checked += ask.entry(passes(ask))
                 tried += 1
         if reply == OUT_OF_MEMORY:
             raise MemoryError(self.strerror(reply))
