@@ -76,6 +76,9 @@ def owner(place):
     return [record(label(place) + APEX, A, b"\xc0\0\2\1")]
 
 
+ADDRESS = [record(QUESTION, A, b"\xc0\0\2\1")]
+
+
 def signed(place):
     return [signature(QUESTION, A, 2, tag(ZSK))]
 
@@ -115,9 +118,9 @@ def key(place):
     return bytes.fromhex("0100030d") + (scattered(place) + 32).to_bytes(2, "big")
 
 
-def filled(size, made):
-    """A message with as many records as fit it, and how many these are."""
-    records, left, place = [], size - len(message("a.example", A, [])), 0
+def filled(size, made, front=()):
+    """A message with some records and as many others behind them as fit it, and how many all are."""
+    records, left, place = list(front), size - len(message("a.example", A, list(front))), 0
     while sum(map(len, made(place))) <= left:
         records += made(place)
         left -= sum(map(len, made(place)))
@@ -129,13 +132,18 @@ def with_keys(size, made):
     """Answers of a size, one of as many keys as fit."""
     count = (size - 200) // 43
     keys = [KSK, ZSK, *map(key, range(count))]
-    answer, records = filled(size, made)
+    answer, records = filled(size, made, ADDRESS)
     return keys_answer(keys), answer, records + len(keys)
 
 
-def with_two(size, made):
+def with_two(size, made, front=()):
     """An answer of a size beside two keys."""
-    return keys_answer([KSK, ZSK]), *filled(size, made)
+    return keys_answer([KSK, ZSK]), *filled(size, made, front)
+
+
+def with_address(size, made):
+    """The same, an address of the name that is asked for in front: so its signatures are tried."""
+    return with_two(size, made, ADDRESS)
 
 
 def alike(size, made):
@@ -147,8 +155,9 @@ def alike(size, made):
 
 ROWS = (
     ("addresses, each of another owner", with_two, owner),
-    ("signatures of one RRset, none of which verifies it", with_two, signed),
-    ("signatures of one RRset under keys that are not there", with_two, unsigned),
+    ("signatures of one RRset, none of which verifies it", with_address, signed),
+    ("signatures of one RRset under keys that are not there", with_address, unsigned),
+    ("signatures of an RRset that is not there", with_two, signed),
     ("records of one RRset", with_two, datum),
     ("NSEC records, each of another owner", with_two, link),
     ("NSEC records, each with a signature that does not verify it", with_two, unsigned_link),
