@@ -117,7 +117,7 @@ bytes_itself x = (bytes_decides x x).1 refl
 
 pub trusted_given : (a : Answers) (apex : Name) (ds : List Ds) (k : Dnskey) → is_usable k ≡ true → HasDs a apex ds k → is_trusted a apex ds k ≡ true
 trusted_given a apex ds k usable has =
-    let d : Ds = record { tag = key_tag k; algorithm = k.algorithm; digest_type = 2; digest = has.digest } in
+    let d : Ds = record { tag = key_tag k; algorithm = k.algorithm; digest_type = has.digest_type; digest = has.digest } in
     let digests : digests_to a apex k d ≡ true = ap (λ (o : Option (List ℕ)). elim o [ None ↦ false | Some octets ↦ bytes_eq octets has.digest ]) has.made ∙ bytes_itself has.digest in
     let named : names_key a apex k d ≡ true = and_from _ _ (and_from _ _ (eq-eqb (key_tag k) (key_tag k) refl) (eq-eqb k.algorithm k.algorithm refl)) digests in
     and_from (is_usable k) (list_any (names_key a apex k) ds) usable (any_from (names_key a apex k) ds d (has_contained ds d has.held) named)

@@ -30,7 +30,7 @@ use Rattle.answer_judge.specs.Meeting.{holds}
 use Rattle.answer_shared.specs.FactsCase.{low_facts, low_link}
 use Rattle.answer_judge.specs.OwnFacts.{TellsZone, ToldFactsAreOwn}
 use Rattle.answer_judge_facts.specs.Verified.{Trusting, verified_facts, verified_hash_links, verified_links, verified_rrset}
-use Rattle.answer_judge.proofs.GivenGroups.{SameLink}
+use Rattle.answer_judge.proofs.GivenGroups.{SameLink, has_twins}
 use Rattle.answer_judge.proofs.GivenHashes.{verified_hash_links_given}
 use Rattle.answer_judge.proofs.GivenLinks.{IsProof, verified_links_given}
 use Rattle.answer_judge.proofs.GivenLists.{has_contained, has_left}
@@ -192,6 +192,16 @@ groups_ordinary w k m records apex (Nsec3 iterations salt optout) hash rs q t to
     let f = is_front w k m records apex mode hash rs q t told in
     ordinary w k m records apex mode hash rs q t told
     (hashes_behind apex rs q t hash (names w k m records apex mode hash rs q t told) (front w k m records apex mode hash rs q t told) f.beside f.unhashed f.alone iterations salt optout fits.1 fits.0 told.not_nsec3)
+
+-- each RRset of it is there once
+pub groups_alone : (w : Trusting) (k : ℕ) (m : List ℕ) (records : List Spelled) (apex : Name) (mode : Mode) (hash : Name → List ℕ) (rs : List HandedRr) (q : Name) (t : ℕ) → IsToldBy w k m records apex mode hash rs q t → FitsRecords (zone_with apex rs) mode hash → has_twins (answer_groups (served_of apex mode hash rs) q t) ≡ false
+groups_alone w k m records apex Nsec hash rs q t told fits =
+    let f = is_front w k m records apex Nsec hash rs q t told in
+    (names_behind apex rs q t hash (names w k m records apex Nsec hash rs q t told) (front w k m records apex Nsec hash rs q t told) f.beside f.unhashed f.alone told.servable told.apex_is told.named told.not_nsec).alone
+groups_alone w k m records apex (Nsec3 iterations salt optout) hash rs q t told fits =
+    let mode : Mode = Nsec3 iterations salt optout in
+    let f = is_front w k m records apex mode hash rs q t told in
+    (hashes_behind apex rs q t hash (names w k m records apex mode hash rs q t told) (front w k m records apex mode hash rs q t told) f.beside f.unhashed f.alone iterations salt optout fits.1 fits.0 told.not_nsec3).alone
 
 -- ---- an accepted zone
 

@@ -84,7 +84,7 @@ module _ (a : Answers) (k : ℕ) (h : Handing) (mode : Mode) (rs : List HandedRr
   some_ds =
       let anchor : Dnskey = given.meet.anchor in
       let has : HasDs a h.apex h.ds anchor = all_at (HasDs a h.apex h.ds) given.parents anchor given.ds_is (has_contained given.parents anchor given.meet.at_parent) in
-      let some : 0 < length h.ds = some_ds_length h.ds (record { tag = key_tag anchor; algorithm = anchor.algorithm; digest_type = 2; digest = has.digest }) (has_contained h.ds _ has.held) in
+      let some : 0 < length h.ds = some_ds_length h.ds (record { tag = key_tag anchor; algorithm = anchor.algorithm; digest_type = has.digest_type; digest = has.digest }) (has_contained h.ds _ has.held) in
       ne_eqb (length h.ds) 0 (λ e. omega (arith, e, some))
     where
       some_ds_length : (ds : List Ds) (d : Ds) → Has ds d → 0 < length ds

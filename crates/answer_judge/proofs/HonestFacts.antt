@@ -22,11 +22,11 @@ use Rattle.messages.proofs.Lists.{Has, some_is}
 use Rattle.messages.proofs.Lists as lists
 use Rattle.messages.proofs.ZoneNames.{labels_eq-same}
 use Rattle.answer_shared.specs.Accepting.{sorted_records, zone_with}
-use Rattle.answer_shared.specs.Made.{Content, HandedOut, OfKeys, OfZone, WasHandedOut, groups_of, made}
+use Rattle.answer_shared.specs.Made.{Content, HandedOut, OfKeys, OfZone, WasHandedOut, groups_of}
 use Rattle.answer_shared.specs.Served.{Group, Served, chain_names, chain_record, served_of}
 use Rattle.answer_scheme.specs.Answers.{Answers}
 use Rattle.answer_judge_facts.specs.Facts.{labels_fit, may_expand}
-use Rattle.answer_judge.specs.Honest.{IsHonest, IsOfZone}
+use Rattle.answer_judge.specs.Honest.{IsHonest, IsOfZone, IsSignedOf, SignedOf, WasSigned, rrset_there}
 use Rattle.answer_judge_facts.specs.Judged.{trusting}
 use Rattle.answer_judge_facts.specs.Judging.{Handing}
 use Rattle.answer_judge_facts.specs.Sought.{answer_sought}
@@ -37,11 +37,12 @@ use Rattle.answer_judge_facts.proofs.GivenSorted.{data_has}
 use Rattle.answer_judge_facts.proofs.JudgeCase.{signed_owner-owner}
 use Rattle.answer_judge_facts.proofs.JudgeTimes.{first_used}
 use Rattle.answer_judge_facts.proofs.KeptItems.{kept_has, mapped, only_item, when}
-use Rattle.answer_judge.proofs.HonestMade.{ChainFits, IsMade, IsRoomy, IsZoneGroup, Kind, KeyKind, ZoneKind, ChainKind, is_made, kind_of, kind_roomy, owner_whole, signed_has}
+use Rattle.answer_judge.proofs.GivenLists.{has_contained}
+use Rattle.answer_judge.proofs.HonestMade.{ChainFits, IsRoomy, IsZoneGroup, Kind, KeyKind, ZoneKind, ChainKind, kind_of, kind_roomy, owner_whole, signed_has}
 use Rattle.answer_judge.proofs.HonestReads.{IsDatum, message_read, rrset_read}
 use Rattle.answer_judge.proofs.HonestSpelled.{Spells, spells, spells_moment}
 use Rattle.answer_judge.proofs.HonestUsed.{asked_sought, first_there, hash_sought, link_sought, not_keys}
-use Rattle.answer_judge.proofs.HonestVerified.{Found, IsOver, due_labels, first_verifying, over_made, sorted_ascend}
+use Rattle.answer_judge.proofs.HonestVerified.{Found, IsOver, due_labels, first_verifying, over_signed, rrset_covered}
 
 -- ---- labels
 
@@ -96,6 +97,9 @@ pub record WasMade (apex : Name) (mode : Mode) (hash : Name → List ℕ) (publi
   pub began : f.inception ≡ out.at % 4294967296
   pub of_zone : eqb f.covered 48 ≡ false → IsOfZone out.content
 
+signed_of : {serve : List HandedRr → Served} {apex : Name} {outs : List HandedOut} {octets : List ℕ} → WasSigned serve apex outs octets → IsSignedOf serve apex outs octets
+signed_of (SignedOf is) = is
+
 -- an RRset of another type than DNSKEY is of a zone's answer
 content_of : (s : Served) (apex : Name) (c : Content) (g : Group) → Has (groups_of s apex c) g → eqb g.rtype 48 ≡ false → IsOfZone c
 content_of s apex (OfZone asked) g h n = tt
@@ -105,23 +109,25 @@ content_of s apex (OfKeys present) g h n = elim h [
 ]
 
 module _ (apex : Name) (mode : Mode) (hash : Name → List ℕ) (published : List Dnskey) (outs : List HandedOut) (known : IsLife apex mode hash published outs) where
-  pub of_made : (life : ℕ) (f : Fields) (owner : Name) (items : List (List ℕ)) → IsOver (made (serve_by apex mode hash) apex life outs) f owner items → WasMade apex mode hash published outs f owner items
-  of_made life f owner items over =
-      let m : IsMade (serve_by apex mode hash) apex life outs (Rattle.definitions.specs.Signing.signed_octets f owner 1 items) = is_made (serve_by apex mode hash) apex life outs _ over.there in
+  pub of_signed : (f : Fields) (owner : Name) (items : List (List ℕ)) → IsOver (WasSigned (serve_by apex mode hash) apex outs) f owner items → WasMade apex mode hash published outs f owner items
+  of_signed f owner items over =
+      let m : IsSignedOf (serve_by apex mode hash) apex outs (Rattle.definitions.specs.Signing.signed_octets f owner 1 items) = signed_of over.there in
+      let there : Has outs m.out = has_contained outs m.out m.there in
       let rs : List HandedRr = sorted_records m.out.records in
       let s : Served = served_of apex mode hash rs in
-      let out = lists.all_at (WasHandedOut (serve_by apex mode hash) apex published) outs m.out known.outs_are m.there in
-      let is : IsKnown apex mode hash rs = known.versions m.out m.there in
-      let kind : Kind s apex published m.group = kind_of apex mode hash rs is.servable is.soa_there known.apex_is is.handed published m.out.content m.group out.of m.inside m.signed in
+      let inside : Has (groups_of s apex m.out.content) m.group = has_contained (groups_of s apex m.out.content) m.group m.inside in
+      let out = lists.all_at (WasHandedOut (serve_by apex mode hash) apex published) outs m.out known.outs_are there in
+      let is : IsKnown apex mode hash rs = known.versions m.out there in
+      let kind : Kind s apex published m.group = kind_of apex mode hash rs is.servable is.soa_there known.apex_is is.handed published m.out.content m.group out.of inside m.signed in
       let roomy : IsRoomy m.group = kind_roomy apex mode hash rs known.apex_is is.handed is.fits published m.group m.signed kind in
-      let short = lists.all_at Rattle.answer_shared.specs.Made.IsShortGroup (groups_of s apex m.out.content) m.group out.short m.inside in
-      let told : Spells f owner items m.group = spells f owner items apex m.out.at life m.group m.key over.fits known.apex_is roomy short m.is in
+      let short = lists.all_at Rattle.answer_shared.specs.Made.IsShortGroup (groups_of s apex m.out.content) m.group out.short inside in
+      let told : Spells f owner items m.group = spells f owner items (serve_by apex mode hash) apex outs m over.fits known.apex_is roomy short in
       record {
         out = m.out;
-        there = m.there;
+        there = there;
         is = record { group = m.group; kind = kind; spells = told };
-        began = spells_moment f owner items apex m.out.at life m.group m.key over.fits known.apex_is roomy short m.is;
-        of_zone = λ n. content_of s apex m.out.content m.group m.inside (ap (λ u. eqb u 48) (sym told.covered) ∙ n);
+        began = spells_moment f owner items (serve_by apex mode hash) apex outs m over.fits known.apex_is roomy short;
+        of_zone = λ n. content_of s apex m.out.content m.group inside (ap (λ u. eqb u 48) (sym told.covered) ∙ n);
       }
 
 module _ (apex : Name) (mode : Mode) (hash : Name → List ℕ) (rs : List HandedRr) (known : IsKnown apex mode hash rs) where
@@ -192,11 +198,12 @@ pub record IsHashRecord (s : Served) (m : List ℕ) (r : Spelled) (l : HashLink)
 
 -- ---- what is found in an honest message
 
-module _ (a : Answers) (k : ℕ) (h : Handing) (mode : Mode) (hash : Name → List ℕ) (published : List Dnskey) (outs : List HandedOut) (known : IsLife h.apex mode hash published outs) (life : ℕ) (m : List ℕ) (read : Message)
-    (honest : IsHonest a k h published (made (serve_by h.apex mode hash) h.apex life outs) m) (reads : message k m ≡ Ok read) (keys : List Dnskey) (trusted : (key : Dnskey) → Has keys key → Contains published key) where
-  pub of_found : (owner : Name) (t : ℕ) (items : List (List ℕ)) → AllByRecursion IsDatum items → Rattle.definitions.specs.Signing.ascending items ≡ true → (x : Found (trusting a h keys) k m read.records owner t items) → WasMade h.apex mode hash published outs x.by.fields owner items
-  of_found owner t items data_are rising x =
-      let was = of_made h.apex mode hash published outs known life x.by.fields x.spelled.owner items (over_made a k h published (made (serve_by h.apex mode hash) h.apex life outs) m read honest reads keys trusted owner t items data_are rising x) in
+module _ (a : Answers) (k : ℕ) (h : Handing) (mode : Mode) (hash : Name → List ℕ) (published : List Dnskey) (outs : List HandedOut) (known : IsLife h.apex mode hash published outs) (m : List ℕ) (read : Message)
+    (honest : IsHonest a k h published (WasSigned (serve_by h.apex mode hash) h.apex outs) m) (reads : message k m ≡ Ok read) (keys : List Dnskey) (trusted : (key : Dnskey) → Has keys key → Contains published key) where
+  pub of_found : (owner : Name) (t : ℕ) (items : List (List ℕ)) → AllByRecursion IsDatum items → (x : Found (trusting a h keys) k m read.records owner t items) → rrset_there k m read.records x.spelled.owner x.by.fields.covered ≡ items
+      → WasMade h.apex mode hash published outs x.by.fields owner items
+  of_found owner t items data_are x covers =
+      let was = of_signed h.apex mode hash published outs known x.by.fields x.spelled.owner items (over_signed a k h published (WasSigned (serve_by h.apex mode hash) h.apex outs) m read honest reads keys trusted owner t items data_are x covers) in
       let spells : Spells x.by.fields x.spelled.owner items was.is.group = was.is.spells in
       record {
         out = was.out;
@@ -215,8 +222,10 @@ module _ (a : Answers) (k : ℕ) (h : Handing) (mode : Mode) (hash : Name → Li
         of_zone = was.of_zone;
       }
 
-  pub of_rrset : (owner : Name) (t : ℕ) → (x : Found (trusting a h keys) k m read.records owner t (rrset_in k m read.records owner t)) → WasMade h.apex mode hash published outs x.by.fields owner (rrset_in k m read.records owner t)
-  of_rrset owner t x = of_found owner t (rrset_in k m read.records owner t) (rrset_read k m read.records owner t honest.octets_are (message_read k m read honest.octets_are reads)) (sorted_ascend (filter_map (datum_of k m owner t) read.records)) x
+  pub of_rrset : (owner : Name) (t : ℕ) → eqb t 48 ≡ false → (x : Found (trusting a h keys) k m read.records owner t (rrset_in k m read.records owner t)) → WasMade h.apex mode hash published outs x.by.fields owner (rrset_in k m read.records owner t)
+  of_rrset owner t other x =
+      of_found owner t (rrset_in k m read.records owner t) (rrset_read k m read.records owner t honest.octets_are (message_read k m read honest.octets_are reads)) x
+      (rrset_covered k m read.records x.spelled.owner owner x.by.fields.covered t x.by.covered other x.by.owner_is)
 
 -- What is used of a message for a question is of one version: each RRset that is sought, as its first signature verifies it.
 abbrev pub IsOfVersion : Answers → ℕ → Handing → Mode → (Name → List ℕ) → List HandedRr → List Dnskey → List ℕ → Message → List Dnskey → Name → ℕ → Type 0

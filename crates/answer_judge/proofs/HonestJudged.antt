@@ -46,7 +46,7 @@ chain_fits hash apex (Nsec3 iterations salt optout) rs c = λ o i.
     let inside : Has (nsec3_names (zone_of apex rs) optout) o = sorted_from (λ x y. hash_cmp (name x) (name y)) (nsec3_names (zone_of apex rs) optout) o i in
     c.fit o (contained_has (nsec3_names (zone_of apex rs) optout) o inside)
 
-plain_type : (t : ℕ) → is_asked_type t ≡ true → is_foreign_type t ≡ false
+pub plain_type : (t : ℕ) → is_asked_type t ≡ true → is_foreign_type t ≡ false
 plain_type t h = go (is_foreign_type t) refl
   where
     go : (b : Bool) → is_foreign_type t ≡ b → b ≡ false
@@ -107,11 +107,11 @@ module _ (a : Answers) (k : ℕ) (h : Handing) (mode : Mode) (versions : List (L
   says_of v said =
       let keys : List Dnskey = keys_of h said.keys in
       let usable : List Dnskey = filter is_usable keys in
-      let published = all_published a k h mode hash x.published x.handed_out known x.life said.keys x.keys_honest said.keys_read x.keys_known x.flags_are said.chained in
+      let published = all_published a k h mode hash x.published x.handed_out known said.keys x.keys_honest said.keys_read x.keys_known x.flags_are said.chained in
       let trusted : (key : Dnskey) → Has usable key → Contains x.published key = λ key i. published key (filter_from is_usable keys key i) in
       let asked : is_foreign_type h.asked.rtype ≡ false = plain_type h.asked.rtype (asked_inside h.apex h.asked said.allowed).asked_type in
-      let spare = signed_in a k h mode hash x.published x.handed_out known x.life said.keys x.keys_honest said.keys_read x.keys_known x.flags_are said.chained in
-      let used = chosen a k h mode hash x.published x.handed_out known x.life h.answer_bytes said.answer x.answer_honest said.answer_read usable trusted h.asked.name h.asked.rtype (not_keys h.asked.rtype asked) one said.of_one_moment spare.0 spare.1 in
+      let spare = signed_in a k h mode hash x.published x.handed_out known said.keys x.keys_honest said.keys_read x.keys_known x.flags_are said.chained in
+      let used = chosen a k h mode hash x.published x.handed_out known h.answer_bytes said.answer x.answer_honest said.answer_read usable trusted h.asked.name h.asked.rtype (not_keys h.asked.rtype asked) one said.of_one_moment spare.0 spare.1 in
       let rs : List HandedRr = used.out.records in
       let there : Has versions rs = of_versions used.out used.there in
       let is : IsVersion a h mode rs = version_is rs there in

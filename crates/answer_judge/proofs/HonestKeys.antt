@@ -18,15 +18,15 @@ use Rattle.messages.specs.HandedRr.{HandedRr}
 use Rattle.messages.specs.Message.{Message, Spelled, data_of, message}
 use Rattle.messages.proofs.Lists.{Has, all_at, all_more, all_sorted, found, some_is}
 use Rattle.answer_shared.specs.Accepting.{sorted_records}
-use Rattle.answer_shared.specs.Made.{HandedOut, made}
+use Rattle.answer_shared.specs.Made.{HandedOut}
 use Rattle.answer_shared.specs.Served.{Group, Served, chain_record, key_group, served_of}
 use Rattle.answer_shared.specs.Served as served
 use Rattle.answer_shared.proofs.KeyData.{key_read_back}
 use Rattle.answer_scheme.specs.Answers.{Answers}
 use Rattle.answer_judge_facts.specs.Facts.{digests_to, is_trusted, is_usable, names_key}
-use Rattle.answer_judge.specs.Honest.{IsHonest, NoStranger}
+use Rattle.answer_judge.specs.Honest.{AreOctets, IsHonest, NoStranger, WasSigned}
 use Rattle.answer_judge_facts.specs.Judged.{is_chained, keys_of, trusting}
-use Rattle.answer_judge_facts.specs.Judging.{Handing, key_at}
+use Rattle.answer_judge_facts.specs.Judging.{Handing, key_at, keys_in}
 use Rattle.answer_judge_facts.proofs.GivenKeys.{IsKeyData, data_of_key, key_data}
 use Rattle.answer_judge.proofs.GivenLists.{contained_has, has_contained}
 use Rattle.answer_judge_facts.proofs.GivenSorted.{data_has, sorted_from}
@@ -35,7 +35,7 @@ use Rattle.answer_judge_facts.proofs.KeptItems.{kept_from, passes_has}
 use Rattle.answer_judge.proofs.HonestMade.{Kind, KeyKind, ZoneKind, ChainKind}
 use Rattle.answer_judge.proofs.HonestReads.{IsDatum, ReadsRecord, data_read, message_read, octets_16, octets_join}
 use Rattle.answer_judge.proofs.HonestSpelled.{Spells}
-use Rattle.answer_judge.proofs.HonestVerified.{Found, found_verifying, sorted_ascend}
+use Rattle.answer_judge.proofs.HonestVerified.{Found, found_verifying, keys_covered}
 
 -- ---- keys that are read
 
@@ -80,6 +80,20 @@ key_record m apex rs key r i e =
     go true h = (refl, h)
     go false h = cc
 
+pub is_read_key : (m : List ℕ) (apex : Name) (rs : List Spelled) → AreOctets m → AllByRecursion ReadsRecord rs → (key : Dnskey) → Has (keys_in m apex rs) key → IsReadKey key
+is_read_key m apex rs octets are key i =
+    let from = kept_from (key_at m apex) rs key i in
+    let r : IsKeyRecord m rs key = key_record m apex rs key from.0 from.1 from.2 in
+    read_key (data_of m r.spelled) key (data_read m r.spelled octets (all_at ReadsRecord rs r.spelled are r.there).short) r.reads
+
+each_datum : (ks : List Dnskey) → ((key : Dnskey) → Has ks key → IsReadKey key) → AllByRecursion IsDatum (map dnskey_data ks)
+each_datum [] f = tt
+each_datum (key ∷ ks) f = ((f key (inl refl)).datum, each_datum ks (λ y i. f y (inr i)))
+
+-- the RRset of the keys of a message
+pub keys_read : (m : List ℕ) (apex : Name) (rs : List Spelled) → AreOctets m → AllByRecursion ReadsRecord rs → AllByRecursion IsDatum (sorted_data (map dnskey_data (keys_in m apex rs)))
+keys_read m apex rs octets are = all_sorted IsDatum (slice_cmp nat_cmp) (map dnskey_data (keys_in m apex rs)) (each_datum (keys_in m apex rs) (is_read_key m apex rs octets are))
+
 same_digest : (a : Answers) (apex : Name) (key : Dnskey) (d : Ds) → digests_to a apex key d ≡ true → a.digest d.digest_type (digested apex key) ≡ Some d.digest
 same_digest a apex key d e = go (a.digest d.digest_type (digested apex key)) e
   where
@@ -91,20 +105,11 @@ chain_other : (apex : Name) (mode : Mode) (hash : Name → List ℕ) (rs : List 
 chain_other apex Nsec hash rs o e = false≢true (ap (λ (n : ℕ). eqb n 48) e)
 chain_other apex (Nsec3 iterations salt optout) hash rs o e = false≢true (ap (λ (n : ℕ). eqb n 48) e)
 
-module _ (a : Answers) (k : ℕ) (h : Handing) (mode : Mode) (hash : Name → List ℕ) (published : List Dnskey) (outs : List HandedOut) (known : IsLife h.apex mode hash published outs) (life : ℕ) (read : Message)
-    (honest : IsHonest a k h published (made (serve_by h.apex mode hash) h.apex life outs) h.dnskey_bytes) (reads : message k h.dnskey_bytes ≡ Ok read) (keys_known : NoStranger a k h.apex published h.ds h.dnskey_bytes)
+module _ (a : Answers) (k : ℕ) (h : Handing) (mode : Mode) (hash : Name → List ℕ) (published : List Dnskey) (outs : List HandedOut) (known : IsLife h.apex mode hash published outs) (read : Message)
+    (honest : IsHonest a k h published (WasSigned (serve_by h.apex mode hash) h.apex outs) h.dnskey_bytes) (reads : message k h.dnskey_bytes ≡ Ok read) (keys_known : NoStranger a k h.apex published h.ds h.dnskey_bytes)
     (flags_are : AllByRecursion (λ (key : Dnskey). key.flags < 65536) published) where
   abbrev keys : List Dnskey
   keys = keys_of h read
-
-  here : (key : Dnskey) → Has keys key → IsKeyRecord h.dnskey_bytes read.records key
-  here key i = let r = kept_from (key_at h.dnskey_bytes h.apex) read.records key i in key_record h.dnskey_bytes h.apex read.records key r.0 r.1 r.2
-
-  is_read : (key : Dnskey) → Has keys key → IsReadKey key
-  is_read key i =
-      let r : IsKeyRecord h.dnskey_bytes read.records key = here key i in
-      let short = all_at ReadsRecord read.records r.spelled (message_read k h.dnskey_bytes read honest.octets_are reads) r.there in
-      read_key (data_of h.dnskey_bytes r.spelled) key (data_read h.dnskey_bytes r.spelled honest.octets_are short.short) r.reads
 
   -- those that a DS record names
   abbrev trusted : List Dnskey
@@ -120,12 +125,8 @@ module _ (a : Answers) (k : ℕ) (h : Handing) (mode : Mode) (hash : Name → Li
   abbrev items : List (List ℕ)
   items = sorted_data (map dnskey_data keys)
 
-  each_datum : (ks : List Dnskey) → ((key : Dnskey) → Has ks key → IsReadKey key) → AllByRecursion IsDatum (map dnskey_data ks)
-  each_datum [] f = tt
-  each_datum (key ∷ ks) f = ((f key (inl refl)).datum, each_datum ks (λ y i. f y (inr i)))
-
-  data_are : AllByRecursion IsDatum items
-  data_are = all_sorted IsDatum (slice_cmp nat_cmp) (map dnskey_data keys) (each_datum keys is_read)
+  records_are : AllByRecursion ReadsRecord read.records
+  records_are = message_read k h.dnskey_bytes read honest.octets_are reads
 
   -- the RRset that was signed is that of keys that were published
   from_present : (present : List Dnskey) → AllByRecursion (Contains published) present → items ≡ served.key_data present → (key : Dnskey) → Has keys key → Contains published key
@@ -135,7 +136,7 @@ module _ (a : Answers) (k : ℕ) (h : Handing) (mode : Mode) (hash : Name → Li
       let back : Has (map dnskey_data present) d = sorted_from (slice_cmp nat_cmp) (map dnskey_data present) d (subst (λ ds. Has ds d) same inside) in
       let small : AllByRecursion (λ (key : Dnskey). key.flags < 65536) present = all_more (Contains published) (λ (key : Dnskey). key.flags < 65536) present (λ x c. all_at (λ (key : Dnskey). key.flags < 65536) published x flags_are (has_contained published x c)) of in
       let p : IsKeyData present d = key_data present d small back in
-      let one : p.key ≡ key = some_is p.key key (sym p.reads ∙ key_read_back key (is_read key i).small) in
+      let one : p.key ≡ key = some_is p.key key (sym p.reads ∙ key_read_back key (is_read_key h.dnskey_bytes h.apex read.records honest.octets_are records_are key i).small) in
       subst (Contains published) one (all_at (Contains published) present p.key of p.inside)
 
   module _ (chained : is_chained a k h read ≡ true) where
@@ -143,7 +144,9 @@ module _ (a : Answers) (k : ℕ) (h : Handing) (mode : Mode) (hash : Name → Li
     x = found_verifying (trusting a h trusted) k h.dnskey_bytes read.records h.apex 48 items chained
 
     abbrev was : WasMade h.apex mode hash published outs x.by.fields h.apex items
-    was = of_found a k h mode hash published outs known life h.dnskey_bytes read honest reads trusted trusted_published h.apex 48 items data_are (sorted_ascend (map dnskey_data keys)) x
+    was =
+        of_found a k h mode hash published outs known h.dnskey_bytes read honest reads trusted trusted_published h.apex 48 items (keys_read h.dnskey_bytes h.apex read.records honest.octets_are records_are) x
+        (keys_covered k h.dnskey_bytes read.records x.spelled.owner h.apex x.by.fields.covered x.by.covered x.by.owner_is)
 
     -- the message that they were signed for
     pub signed_in : (out : HandedOut) × Has outs out

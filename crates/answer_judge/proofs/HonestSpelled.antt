@@ -1,18 +1,18 @@
 -- Octets of a signature over an RRset that was signed tell that RRset.
-use Rattle.std.proofs.Common.{◌≡◌, ℕ, zero, suc, ◌/◌, ◌%◌, ◌<◌, ◌^◌, List, ◌∷◌, ◌++◌, length, get_or, refl, sym, ◌∙◌, arith, lit<}
+use Rattle.std.proofs.Common.{◌≡◌, ℕ, zero, suc, ◌/◌, ◌%◌, ◌<◌, ◌^◌, List, ◌∷◌, ◌++◌, length, get_or, refl, sym, ap, subst, ◌∙◌, arith, lit<}
 use Rattle.std.specs.Int.{w16, w32, from_be_bytes, to_be_bytes}
 use Rattle.std.specs.List.{flat_map}
 use Rattle.std.proofs.Math.Nat.{mod-lt}
 use Rattle.std.proofs.lemmas.Nat.{be_bytes_2, be_bytes_4, from_be_bytes-to_be_bytes_4}
-use Rattle.definitions.specs.Dnskey.{Dnskey, key_tag}
 use Rattle.definitions.specs.Laws.{IsSignable, SignsSame}
 use Rattle.definitions.specs.Name.{Name, IsName, low, wire}
 use Rattle.definitions.specs.Signing.{Fields, label_count, signed_octets, signed_owner}
 use Rattle.definitions.proofs.SignedLaws.{signed_octets_spell}
-use Rattle.answer_shared.specs.Made.{IsShortGroup}
-use Rattle.answer_shared.specs.Served.{Group}
-use Rattle.answer_shared.specs.Told.{fields_for, octets_for}
+use Rattle.messages.specs.HandedRr.{HandedRr}
+use Rattle.answer_shared.specs.Made.{HandedOut, IsShortGroup}
+use Rattle.answer_shared.specs.Served.{Group, Served}
 use Rattle.answer_shared.proofs.ZoneNaming.{lower_name}
+use Rattle.answer_judge.specs.Honest.{IsSignedOf}
 use Rattle.answer_judge.proofs.HonestMade.{IsRoomy}
 
 -- ---- numbers as their octets say them
@@ -77,29 +77,35 @@ pub record Spells (f : Fields) (owner : Name) (items : List (List ℕ)) (g : Gro
   pub owners : signed_owner f.labels owner ≡ signed_owner (label_count g.source) g.owner
   pub contents : items ≡ g.datas
 
-signs_same : (f : Fields) (owner : Name) (items : List (List ℕ)) (apex : Name) (at life : ℕ) (g : Group) (key : Dnskey) → IsSignable f owner 1 items → IsName apex → IsRoomy g → IsShortGroup g → signed_octets f owner 1 items ≡ octets_for apex at life g key → SignsSame f (tidied (fields_for apex at life g key)) owner g.owner 1 1 items g.datas
-signs_same f owner items apex at life g key p apex_is roomy short e =
-    let made : Fields = tidied (fields_for apex at life g key) in
-    let q : IsSignable made g.owner 1 g.datas = record {
-      covered = roomy.small;
-      ttl = fits_32 g.ttl;
-      expiration = fits_32 (fields_for apex at life g key).expiration;
-      inception = fits_32 (fields_for apex at life g key).inception;
-      tag = fits_16 (key_tag key);
-      signer = lower_name apex apex_is;
-      named = roomy.named;
-      classed = lit< tt;
-      some = roomy.some;
-      short = short;
-    } in
-    signed_octets_spell f made owner g.owner 1 1 items g.datas p q (e ∙ sym (tidied_octets (fields_for apex at life g key) g.owner g.datas))
+module _ (f : Fields) (owner : Name) (items : List (List ℕ)) (serve : List HandedRr → Served) (apex : Name) (outs : List HandedOut) (was : IsSignedOf serve apex outs (signed_octets f owner 1 items))
+    (fits : IsSignable f owner 1 items) (apex_is : IsName apex) (roomy : IsRoomy was.group) (short : IsShortGroup was.group) where
+  abbrev g : Group
+  g = was.group
 
-pub spells : (f : Fields) (owner : Name) (items : List (List ℕ)) (apex : Name) (at life : ℕ) (g : Group) (key : Dnskey) → IsSignable f owner 1 items → IsName apex → IsRoomy g → IsShortGroup g → signed_octets f owner 1 items ≡ octets_for apex at life g key → Spells f owner items g
-spells f owner items apex at life g key p apex_is roomy short e =
-    let same = signs_same f owner items apex at life g key p apex_is roomy short e in
-    record { covered = same.covered; labels = same.labels; owners = same.owners; contents = same.contents }
+  same : SignsSame f (tidied was.fields) owner g.owner 1 1 items g.datas
+  same =
+      let q : IsSignable (tidied was.fields) g.owner 1 g.datas = record {
+        covered = subst (λ t. t < 65536) (sym was.covered) roomy.small;
+        ttl = fits_32 was.fields.ttl;
+        expiration = fits_32 was.fields.expiration;
+        inception = fits_32 was.fields.inception;
+        tag = fits_16 was.fields.tag;
+        signer = subst IsName (sym was.signer) (lower_name apex apex_is);
+        named = roomy.named;
+        classed = lit< tt;
+        some = roomy.some;
+        short = short;
+      } in
+      signed_octets_spell f (tidied was.fields) owner g.owner 1 1 items g.datas fits q (was.is ∙ sym (tidied_octets was.fields g.owner g.datas))
 
--- and the moment that it was signed at
-pub spells_moment : (f : Fields) (owner : Name) (items : List (List ℕ)) (apex : Name) (at life : ℕ) (g : Group) (key : Dnskey) → IsSignable f owner 1 items → IsName apex → IsRoomy g → IsShortGroup g → signed_octets f owner 1 items ≡ octets_for apex at life g key → f.inception ≡ at % 4294967296
-spells_moment f owner items apex at life g key p apex_is roomy short e =
-    (signs_same f owner items apex at life g key p apex_is roomy short e).inception ∙ kept_32 (at % 4294967296) (mod-lt at (lit< tt))
+  pub spells : Spells f owner items g
+  spells = record {
+    covered = same.covered ∙ was.covered;
+    labels = same.labels ∙ was.labels;
+    owners = same.owners ∙ ap (λ n. signed_owner n g.owner) was.labels;
+    contents = same.contents;
+  }
+
+  -- and the moment that it was signed at
+  pub spells_moment : f.inception ≡ was.out.at % 4294967296
+  spells_moment = same.inception ∙ kept_32 was.fields.inception (subst (λ n. n < 2 ^ 32) (sym was.inception) (mod-lt was.out.at (lit< tt))) ∙ was.inception

@@ -1,32 +1,32 @@
 -- What verifies in an honest message is an RRset that was signed.
-use Rattle.std.proofs.Common.{◌≡◌, ℕ, ◌<◌, Bool, true, false, not, ◌&&◌, cond, List, [], ◌∷◌, ◌++◌, ◌-◌, ◌^◌, drop, length, Option, Some, None, Ok, refl, sym, ap, ◌∙◌, inl, inr, arith, lit<, lit≤}
+use Rattle.std.proofs.Common.{◌≡◌, ℕ, ◌<◌, Bool, true, false, not, ◌&&◌, cond, List, [], ◌∷◌, ◌++◌, ◌-◌, ◌^◌, drop, length, map, Option, Some, None, Ok, eqb, refl, sym, ap, subst, ◌∙◌, inl, inr, arith, lit<, lit≤}
 use Rattle.std.specs.Prelude.{◌==◌, Contains, if◌then◌else◌, nat_lt}
-use Rattle.std.specs.List.{AllByRecursion, find, flat_map}
+use Rattle.std.specs.List.{AllByRecursion, filter_map, find, flat_map}
 use Rattle.std.specs.Ordering.{is_lt, nat_cmp}
 use Rattle.std.specs.Cmp.Lexicographic.{slice_cmp}
 use Rattle.std.specs.Int.{w16, w32, to_be_bytes}
 use Rattle.std.proofs.lemmas.Bool.{and_parts, eqb-true, false≢true}
 use Rattle.std.proofs.lemmas.Cmp.{nat_list_cmp_total}
-use Rattle.definitions.specs.Dnskey.{Dnskey}
+use Rattle.definitions.specs.Dnskey.{Dnskey, dnskey_data, dnskey_of_data}
 use Rattle.definitions.specs.Laws.{IsSignable}
 use Rattle.definitions.specs.Name.{Name, IsLabel, IsName, low, same, wire}
 use Rattle.definitions.specs.Signing.{Fields, ascending, canonical_record, fields_data, in_time, label_count, signed_octets, signed_owner}
 use Rattle.definitions.specs.Zone.{sorted_data}
 use Rattle.definitions.proofs.Members.{Rises, sort_rises}
 use Rattle.denial_laws.proofs.Found.{first_from}
-use Rattle.messages.specs.Message.{Message, Spelled, message, rrsig_at}
+use Rattle.messages.specs.Message.{Message, Spelled, data_of, message, rrsig_at}
 use Rattle.messages.proofs.Lists.{Has, all_at, all_more, found, some_is}
 use Rattle.messages.proofs.ZoneNames.{same_labels}
 use Rattle.answer_scheme.specs.Answers.{Answers}
 use Rattle.answer_judge_facts.specs.Facts.{fits_key, is_due, is_signature, labels_fit, signs}
-use Rattle.answer_judge.specs.Honest.{AreOctets, IsHonest, Signs}
+use Rattle.answer_judge.specs.Honest.{AreOctets, IsHonest, covered_in, over_in, rrset_there}
 use Rattle.answer_judge_facts.specs.Judged.{trusting}
-use Rattle.answer_judge_facts.specs.Judging.{Handing}
-use Rattle.answer_judge_facts.specs.Verified.{Trusting, is_verified, verified_by, verified_with, verifies_with}
+use Rattle.answer_judge_facts.specs.Judging.{Handing, key_at, keys_in}
+use Rattle.answer_judge_facts.specs.Verified.{Trusting, is_verified, rrset_in, verified_by, verified_with, verifies_with}
 use Rattle.answer_judge.proofs.FirstSigns.{opened, read_of}
-use Rattle.answer_judge.proofs.GivenLists.{contained_has, has_contained}
+use Rattle.answer_judge.proofs.GivenLists.{contained_has}
 use Rattle.answer_judge_facts.proofs.GivenSorted.{in_has}
-use Rattle.answer_judge_facts.proofs.JudgeCase.{signed_octets-owner}
+use Rattle.answer_judge_facts.proofs.JudgeCase.{rrset_in-owner, same-owner, signed_octets-owner}
 use Rattle.answer_judge.proofs.HonestReads.{IsDatum, IsRead, ReadsFields, ReadsRecord, all_drop, fields_read, lowered_read, message_read, octets_16, octets_32, octets_join, wire_octets}
 
 -- ---- a signature that verifies
@@ -135,6 +135,25 @@ climb (d ∷ e ∷ ds) h = ap (λ r. chosen e ds (is_lt r)) (h.0 e (inl refl)) �
 pub sorted_ascend : (ds : List (List ℕ)) → ascending (sorted_data ds) ≡ true
 sorted_ascend ds = climb (sorted_data ds) (sort_rises (slice_cmp nat_cmp) nat_list_cmp_total ds)
 
+-- ---- the RRset that a signature covers in its message
+
+pub rrset_covered : (k : ℕ) (m : List ℕ) (rs : List Spelled) (a b : Name) (u t : ℕ) → u ≡ t → eqb t 48 ≡ false → low a ≡ low b → rrset_there k m rs a u ≡ rrset_in k m rs b t
+unfolding rrset_there
+rrset_covered k m rs a b u t is other h =
+    ap (rrset_there k m rs a) is
+    ∙ ap (λ keys. if keys then sorted_data (map dnskey_data (keys_in m a rs)) else rrset_in k m rs a t) other
+    ∙ rrset_in-owner k m rs a b t h
+
+key_at-owner : (m : List ℕ) (a b : Name) (r : Spelled) → low a ≡ low b → key_at m a r ≡ key_at m b r
+key_at-owner m a b r h = ap (λ here. if here && (r.rtype == 48) && (r.class == 1) then dnskey_of_data (data_of m r) else None) (same-owner r.owner a b h)
+
+keys_in-owner : (m : List ℕ) (rs : List Spelled) (a b : Name) → low a ≡ low b → keys_in m a rs ≡ keys_in m b rs
+keys_in-owner m rs a b h = (λ i. filter_map (λ r. key_at-owner m a b r h i) rs)
+
+pub keys_covered : (k : ℕ) (m : List ℕ) (rs : List Spelled) (a b : Name) (u : ℕ) → u ≡ 48 → low a ≡ low b → rrset_there k m rs a u ≡ sorted_data (map dnskey_data (keys_in m b rs))
+unfolding rrset_there
+keys_covered k m rs a b u is h = ap (rrset_there k m rs a) is ∙ ap (λ keys. sorted_data (map dnskey_data keys)) (keys_in-owner m rs a b h)
+
 -- ---- signed octets are octets
 
 star_label : IsLabel (42 ∷ [])
@@ -176,13 +195,13 @@ fields_octets f h =
     let tag_are = octets_join (to_be_bytes w16 f.covered ++ front ++ to_be_bytes w32 f.expiration ++ to_be_bytes w32 f.inception) (to_be_bytes w16 f.tag) inception_are (octets_16 f.tag) in
     octets_join (to_be_bytes w16 f.covered ++ front ++ to_be_bytes w32 f.expiration ++ to_be_bytes w32 f.inception ++ to_be_bytes w16 f.tag) (wire (low f.signer)) tag_are (wire_octets (low f.signer) signer.name.labels signer.octets)
 
-signed_are_octets : (f : Fields) (owner : Name) (ds : List (List ℕ)) → ReadsFields f → IsRead owner → AllByRecursion IsDatum ds → AreOctets (signed_octets f owner 1 ds)
+pub signed_are_octets : (f : Fields) (owner : Name) (ds : List (List ℕ)) → ReadsFields f → IsRead owner → AllByRecursion IsDatum ds → AreOctets (signed_octets f owner 1 ds)
 signed_are_octets f owner ds h i d =
     octets_join (fields_data f) _ (fields_octets f h) (records_octets (signed_owner f.labels owner) f.covered 1 f.ttl ds (owner_octets f.labels owner i) d)
 
 -- ---- what a verifying signature is over
 
-signable : (f : Fields) (owner : Name) (items : List (List ℕ)) → ReadsFields f → IsName owner → 0 < length items → AllByRecursion IsDatum items → IsSignable f owner 1 items
+pub signable : (f : Fields) (owner : Name) (items : List (List ℕ)) → ReadsFields f → IsName owner → 0 < length items → AllByRecursion IsDatum items → IsSignable f owner 1 items
 signable f owner items h name some data_are = record {
   covered = h.covered;
   ttl = h.ttl;
@@ -197,24 +216,26 @@ signable f owner items h name some data_are = record {
 }
 
 -- fields and octets of a signature over an RRset that is read
-pub record IsOver (made : List (List ℕ)) (f : Fields) (owner : Name) (items : List (List ℕ)) : Type 0 where
+pub record IsOver (Signed : List ℕ → Type 0) (f : Fields) (owner : Name) (items : List (List ℕ)) : Type 0 where
   pub fits : IsSignable f owner 1 items
-  pub there : Has made (signed_octets f owner 1 items)
+  pub there : Signed (signed_octets f owner 1 items)
 
 -- its owner is spelled as the signature's
-pub over_made : (a : Answers) (k : ℕ) (h : Handing) (published : List Dnskey) (made : List (List ℕ)) (m : List ℕ) (read : Message) → IsHonest a k h published made m → message k m ≡ Ok read
-    → (keys : List Dnskey) → ((key : Dnskey) → Has keys key → Contains published key) → (owner : Name) (t : ℕ) (items : List (List ℕ)) → AllByRecursion IsDatum items → ascending items ≡ true
-    → (x : Found (trusting a h keys) k m read.records owner t items) → IsOver made x.by.fields x.spelled.owner items
-over_made a k h published made m read honest reads keys trusted owner t items data_are rising x =
+pub over_signed : (a : Answers) (k : ℕ) (h : Handing) (published : List Dnskey) (Signed : List ℕ → Type 0) (m : List ℕ) (read : Message) → IsHonest a k h published Signed m → message k m ≡ Ok read
+    → (keys : List Dnskey) → ((key : Dnskey) → Has keys key → Contains published key) → (owner : Name) (t : ℕ) (items : List (List ℕ)) → AllByRecursion IsDatum items
+    → (x : Found (trusting a h keys) k m read.records owner t items) → rrset_there k m read.records x.spelled.owner x.by.fields.covered ≡ items → IsOver Signed x.by.fields x.spelled.owner items
+unfolding over_in covered_in
+over_signed a k h published Signed m read honest reads keys trusted owner t items data_are x covers =
     let f : Fields = x.by.fields in
     let r : Spelled = x.spelled in
     let octets : List ℕ = signed_octets f r.owner 1 items in
+    let here : over_in k m read.records r f ≡ octets = ap (signed_octets f r.owner 1) covers in
     let name : IsRead r.owner = (all_at ReadsRecord read.records r (message_read k m read honest.octets_are reads) x.there).owner in
     let there : ReadsFields f = fields_read k m r (f, x.by.signature) honest.octets_are x.by.reads in
     let fits : IsSignable f r.owner 1 items = signable f r.owner items there name.name x.by.some data_are in
-    let signs : Signs octets f r.owner 1 items = record { fits = fits; rising = rising; are = refl; octets_are = signed_are_octets f r.owner items there name data_are } in
     let passes : a.verifies x.by.key octets x.by.signature ≡ true = ap (λ o. a.verifies x.by.key o x.by.signature) (signed_octets-owner f r.owner owner items x.by.owner_is) ∙ x.by.passes in
     record {
       fits = fits;
-      there = has_contained made octets (honest.unforged read r f x.by.signature octets r.owner 1 items x.by.key reads (contained_has read.records r x.there) x.by.type_is x.by.reads (timely h.apex h.now owner f x.by.due) (trusted x.by.key x.by.trusted) signs passes);
+      there = subst Signed here (honest.unforged read r f x.by.signature x.by.key reads (contained_has read.records r x.there) x.by.type_is x.by.reads (timely h.apex h.now owner f x.by.due)
+          (trusted x.by.key x.by.trusted) (subst (λ ds. 0 < length ds) (sym covers) x.by.some) (ap (λ o. a.verifies x.by.key o x.by.signature) here ∙ passes));
     }

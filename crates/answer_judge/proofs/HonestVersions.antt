@@ -9,10 +9,10 @@ use Rattle.definitions.specs.ZoneChain.{Mode}
 use Rattle.messages.specs.Message.{Message, message}
 use Rattle.messages.proofs.Lists.{Has}
 use Rattle.answer_shared.specs.Accepting.{sorted_records}
-use Rattle.answer_shared.specs.Made.{HandedOut, made}
+use Rattle.answer_shared.specs.Made.{HandedOut}
 use Rattle.answer_shared.specs.Served.{served_of}
 use Rattle.answer_scheme.specs.Answers.{Answers}
-use Rattle.answer_judge.specs.Honest.{IsHonest, IsOfZone}
+use Rattle.answer_judge.specs.Honest.{IsHonest, IsOfZone, WasSigned}
 use Rattle.answer_judge_facts.specs.Judged.{trusting}
 use Rattle.answer_judge_facts.specs.Judging.{Handing}
 use Rattle.answer_judge_facts.specs.Sought.{answer_sought}
@@ -28,8 +28,8 @@ abbrev pub AreOfOne : Handing → List HandedOut → Type 0
 AreOfOne h outs =
     (x y : HandedOut) → Has outs x → Has outs y → IsOfZone x.content → IsOfZone y.content → (h.one_moment ≡ true → x.at % 4294967296 ≡ y.at % 4294967296) → x.records ≡ y.records
 
-module _ (a : Answers) (k : ℕ) (h : Handing) (mode : Mode) (hash : Name → List ℕ) (published : List Dnskey) (outs : List HandedOut) (known : IsLife h.apex mode hash published outs) (life : ℕ) (m : List ℕ) (read : Message)
-    (honest : IsHonest a k h published (made (serve_by h.apex mode hash) h.apex life outs) m) (reads : message k m ≡ Ok read) (keys : List Dnskey) (trusted : (key : Dnskey) → Has keys key → Contains published key)
+module _ (a : Answers) (k : ℕ) (h : Handing) (mode : Mode) (hash : Name → List ℕ) (published : List Dnskey) (outs : List HandedOut) (known : IsLife h.apex mode hash published outs) (m : List ℕ) (read : Message)
+    (honest : IsHonest a k h published (WasSigned (serve_by h.apex mode hash) h.apex outs) m) (reads : message k m ≡ Ok read) (keys : List Dnskey) (trusted : (key : Dnskey) → Has keys key → Contains published key)
     (q : Name) (t : ℕ) (asked : eqb t 48 ≡ false) (one : AreOfOne h outs) where
   abbrev w : Trusting
   w = trusting a h keys
@@ -55,11 +55,12 @@ module _ (a : Answers) (k : ℕ) (h : Handing) (mode : Mode) (hash : Name → Li
       let f = mapped times_of (verified_by w k m read.records o u items) x there.1 in
       let first = first_verifying w k m read.records o u items f.0 f.1 in
       let found : Found w k m read.records o u items = first.0 in
-      let was = of_rrset a k h mode hash published outs known life m read honest reads keys trusted o u found in
+      let other = not_of_keys k m h.apex read.records q t o u asked sought in
+      let was = of_rrset a k h mode hash published outs known m read honest reads keys trusted o u other found in
       record {
         out = was.out;
         there = was.there;
-        of_zone = was.of_zone (ap (λ n. eqb n 48) found.by.covered ∙ not_of_keys k m h.apex read.records q t o u asked sought);
+        of_zone = was.of_zone (ap (λ n. eqb n 48) found.by.covered ∙ other);
         began = ap (λ (y : Times). y.inception) (sym f.2 ∙ ap times_of (sym first.1)) ∙ was.began;
       }
 
@@ -85,7 +86,7 @@ module _ (a : Answers) (k : ℕ) (h : Handing) (mode : Mode) (hash : Name → Li
               out = of.out;
               there = of.there;
               is_of = λ owner u x j other.
-                  let was = of_rrset a k h mode hash published outs known life m read honest reads keys trusted owner u x in
+                  let was = of_rrset a k h mode hash published outs known m read honest reads keys trusted owner u other x in
                   let same : was.out.records ≡ of.out.records =
                   one was.out of.out was.there of.there (was.of_zone (ap (λ n. eqb n 48) x.by.covered ∙ other)) of.of_zone
                   (λ on. sym was.began ∙ same_began (times_of x.by.fields) first j i on ∙ of.began) in

@@ -37,4 +37,6 @@ pub mod HonestVersions
 pub mod HonestJudged
 pub mod Timely
 pub mod Spliced
+pub mod ForgedAtAll
+pub mod OwnMessages
 pub mod ToldShort

@@ -1,7 +1,7 @@
 -- Nothing is forged in a message whose signatures were handed out, or pass under no published key.
-use Rattle.std.proofs.Common.{◌≡◌, ℕ, Bool, true, false, List, [], ◌∷◌, ◌++◌, Option, Some, Result, Ok, map, refl, sym, ap, subst, ◌∙◌, inl, inr, ⊎_elim}
+use Rattle.std.proofs.Common.{◌≡◌, ℕ, Bool, true, List, [], ◌∷◌, ◌++◌, Option, Some, Result, Ok, refl, sym, ap, subst, ◌∙◌, inl, inr, ⊎_elim}
 use Rattle.std.specs.Prelude.{Contains, if◌then◌else◌}
-use Rattle.std.specs.List.{AllByRecursion, flat_map}
+use Rattle.std.specs.List.{AllByRecursion}
 use Rattle.std.specs.Int.{w16, to_be_bytes}
 use Rattle.std.proofs.lemmas.Bool.{false≢true}
 use lib.Pointwise.{bytes_decides}
@@ -9,28 +9,26 @@ use Rattle.definitions.specs.Dnskey.{Dnskey, key_tag}
 use Rattle.definitions.specs.Name.{Name}
 use Rattle.definitions.specs.Signing.{Fields}
 use Rattle.definitions.proofs.SignedLaws.{pieces}
-use Rattle.std.specs.Ordering.{nat_cmp}
 use Rattle.messages.specs.declared.error.MessageError.{MessageError}
 use Rattle.messages.specs.HandedRr.{HandedRr}
 use Rattle.messages.specs.Message.{Message, Spelled}
 use Rattle.messages.proofs.Lists.{Has, some_is}
-use Rattle.answer_shared.specs.Made.{HandedOut, groups_in, made, made_in, made_of}
+use Rattle.answer_shared.specs.Made.{HandedOut, groups_in}
 use Rattle.answer_shared.specs.Served.{Group, Served, by_tag}
-use Rattle.answer_shared.specs.Told.{AreRecords, AreSignatures, IsRecord, IsSignature, TellsGroups, octets_for}
+use Rattle.answer_shared.specs.Told.{AreRecords, AreSignatures, IsRecord, IsSignature, TellsGroups, fields_for, octets_for}
 use Rattle.answer_judge.proofs.GivenFacts.{from_joined}
-use Rattle.answer_judge.proofs.GivenLists.{contained_has, has_contained, has_left, has_right}
-use Rattle.answer_judge_facts.proofs.GivenSorted.{sorted_from}
-use Rattle.answer_judge_facts.proofs.KeptItems.{has_map}
+use Rattle.answer_judge.proofs.GivenLists.{contained_has, has_contained}
 use Rattle.answer_judge.proofs.HonestMade.{signed_only}
+use Rattle.answer_judge.specs.Honest.{SignedOf, WasSigned, over_in}
 use Rattle.answer_judge.specs.Splices.{PassesNowhere, PlainSchemeBinds, ToldIsSpliced, SplicesAreHonest, WasCarried}
 
 pub splices_are_honest : SplicesAreHonest
-splices_are_honest a k h published made m binds octets spliced = record {
+splices_are_honest a k h published serve apex outs m binds octets spliced = record {
   octets_are = octets;
-  unforged = λ read r f signature signed owner class ds key reads there type_is fields time inside signs passes.
+  unforged = λ read r f signature key reads there type_is fields time inside some passes.
       ⊎_elim
-      (λ (c : WasCarried a made signature). subst (Contains made) (binds c.key key c.octets signed signature c.passes passes) c.there)
-      (λ (n : PassesNowhere a published signature). absurd (false≢true (sym (n key signed inside) ∙ passes)))
+      (λ (c : WasCarried a (WasSigned serve apex outs) signature). subst (WasSigned serve apex outs) (binds c.key key c.octets (over_in k m read.records r f) signature c.passes passes) c.there)
+      (λ (n : PassesNowhere a published signature). absurd (false≢true (sym (n key (over_in k m read.records r f) inside) ∙ passes)))
       (spliced read r f signature reads there type_is fields time);
 }
 
@@ -42,23 +40,21 @@ plain_scheme_binds digest hash j k octets others signature p q =
 
 -- ---- what was handed out
 
-in_parts : {A B : Type 0} (f : A → List B) (xs : List A) (x : A) (y : B) → Has xs x → Has (f x) y → Has (flat_map f xs) y
-in_parts f [] x y h i = absurd h
-in_parts {A} {B} f (z ∷ xs) x y h i = elim h [
-  | inl e ↦ has_left (f z) (flat_map f xs) y (subst (λ (a : A). Has (f a) y) e i)
-  | inr j ↦ has_right (f z) (flat_map f xs) y (in_parts f xs x y j i)
-]
-
-if_signed : (b : Bool) (xs : List (List ℕ)) (x : List ℕ) → b ≡ true → Has xs x → Has (if b then xs else []) x
-if_signed true xs x e h = h
-if_signed false xs x e h = absurd (false≢true e)
-
--- what a key signed of an RRset of it was made
-signed_made : (serve : List HandedRr → Served) (apex : Name) (life : ℕ) (outs : List HandedOut) (out : HandedOut) (g : Group) (key : Dnskey) → Has outs out → Has (groups_in serve apex out) g → g.signed ≡ true → Has out.signers key → Has (made serve apex life outs) (octets_for apex out.at life g key)
-signed_made serve apex life outs out g key there inside signed signs =
-    in_parts (made_in serve apex life) outs out (octets_for apex out.at life g key) there
-    (in_parts (made_of apex out.at life out.signers) (groups_in serve apex out) g (octets_for apex out.at life g key) inside
-    (if_signed g.signed (map (octets_for apex out.at life g) out.signers) (octets_for apex out.at life g key) signed (has_map (octets_for apex out.at life g) out.signers key signs)))
+-- what a key signed of an RRset of it was signed
+pub was_signed : (serve : List HandedRr → Served) (apex : Name) (life : ℕ) (outs : List HandedOut) (out : HandedOut) (g : Group) (key : Dnskey) → Contains outs out → Has (groups_in serve apex out) g → g.signed ≡ true → WasSigned serve apex outs (octets_for apex out.at life g key)
+was_signed serve apex life outs out g key there inside signed = SignedOf (record {
+  out = out;
+  there = there;
+  group = g;
+  inside = contained_has (groups_in serve apex out) g inside;
+  signed = signed;
+  fields = fields_for apex out.at life g key;
+  covered = refl;
+  labels = refl;
+  inception = refl;
+  signer = refl;
+  is = refl;
+})
 
 -- ---- signatures of a message that tells it
 
@@ -110,7 +106,7 @@ signature_of v k m rs apex at life keys (g ∷ gs) r types (own, signatures, res
           record { group = x.group; inside = inr x.inside; signed = x.signed; key = x.key; signs = x.signs; is = x.is }
     ]
 
-ok_is : (x y : Message) → message_ok x ≡ message_ok y → x ≡ y
+pub ok_is : (x y : Message) → message_ok x ≡ message_ok y → x ≡ y
 ok_is x y e = cc
 
 pub told_is_spliced : ToldIsSpliced
@@ -118,12 +114,11 @@ told_is_spliced a k now serve apex life published outs out asked m there types t
     let same : read ≡ tells.read = ok_is read tells.read (sym reads ∙ tells.reads) in
     let here : Has tells.read.records r = subst (λ (x : Message). Has x.records r) same (has_contained read.records r inside) in
     let x = signature_of a.verifies k m tells.read.records apex out.at life (by_tag out.signers) (groups_in serve apex out) r types tells.groups_are here kind in
-    let one : f_and (f, signature) ≡ f_and (Rattle.answer_shared.specs.Told.fields_for apex out.at life x.group x.key, x.is.signature) = sym fields ∙ x.is.fields_are in
+    let one : f_and (f, signature) ≡ f_and (fields_for apex out.at life x.group x.key, x.is.signature) = sym fields ∙ x.is.fields_are in
     let octets : signature ≡ x.is.signature = ap (λ (y : Fields × List ℕ). y.1) (some_is _ _ one) in
-    let signer : Has out.signers x.key = sorted_from (λ b c. nat_cmp (key_tag b) (key_tag c)) out.signers x.key x.signs in
     inl (record {
       key = x.key;
       octets = octets_for apex out.at life x.group x.key;
-      there = contained_has (made serve apex life outs) (octets_for apex out.at life x.group x.key) (signed_made serve apex life outs out x.group x.key (has_contained outs out there) x.inside x.signed signer);
+      there = was_signed serve apex life outs out x.group x.key there x.inside x.signed;
       passes = ap (a.verifies x.key (octets_for apex out.at life x.group x.key)) octets ∙ x.is.passes;
     })

@@ -1,11 +1,11 @@
 -- Messages in which nothing is forged, and what a judge says of them.
-use Rattle.std.specs.Prelude.{◌≡◌, ◌⊎◌, ℕ, ◌%◌, ◌<◌, Bool, true, false, ◌&&◌, List, [], ◌∷◌, Contains, Some, None, Ok, Err, length, map}
+use Rattle.std.specs.Prelude.{◌≡◌, ◌⊎◌, ℕ, ◌%◌, ◌<◌, ◌==◌, Bool, true, false, ◌&&◌, if◌then◌else◌, List, [], ◌∷◌, Contains, Some, None, Ok, Err, length, map}
 use Rattle.std.specs.List.{AllByRecursion, list_any}
-use Rattle.definitions.specs.Name.{Name, IsName}
-use Rattle.definitions.specs.Dnskey.{Dnskey, Ds, digested}
 use Rattle.definitions.specs.Laws.{IsSignable}
-use Rattle.definitions.specs.Signing.{Fields, ascending, in_time, signed_octets}
-use Rattle.definitions.specs.Zone.{Verdict, verdict}
+use Rattle.definitions.specs.Name.{Name, IsName, low}
+use Rattle.definitions.specs.Dnskey.{Dnskey, Ds, digested, dnskey_data}
+use Rattle.definitions.specs.Signing.{Fields, ascending, in_time, label_count, signed_octets}
+use Rattle.definitions.specs.Zone.{Verdict, sorted_data, verdict}
 use Rattle.definitions.specs.ZoneChain.{Mode, optout_of}
 use Rattle.denial_laws.specs.Truth.{NoSharedHash}
 use Rattle.messages.specs.Handed.{IsHanded}
@@ -16,30 +16,77 @@ use Rattle.answer_scheme.specs.Answers.{Answers}
 use Rattle.answer_shared.specs.Accepted.{IsAccepted}
 use Rattle.answer_shared.specs.Accepting.{sorted_records, zone_of}
 use Rattle.answer_shared.specs.Hashing.{hash_in}
-use Rattle.answer_shared.specs.Made.{Content, HandedOut, OfKeys, OfZone, WasHandedOut, made}
-use Rattle.answer_shared.specs.Served.{Served, served_of}
+use Rattle.answer_shared.specs.Made.{Content, HandedOut, OfKeys, OfZone, WasHandedOut, groups_in, made}
+use Rattle.answer_shared.specs.Served.{Group, Served, served_of}
 use Rattle.answer_judge_facts.specs.Facts.{is_signature}
 use Rattle.answer_judge_facts.specs.Judged.{AnswersAs, judged}
 use Rattle.answer_judge_facts.specs.Judging.{Answer, Says, Refuses, Handing, keys_in}
+use Rattle.answer_judge_facts.specs.Verified.{rrset_in}
 
 abbrev pub AreOctets : List ℕ → Type 0
 AreOctets xs = AllByRecursion (λ x. x < 256) xs
 
--- Octets that a signature of these fields may be made over: one RRset, at least one record, each once and ascending
--- (RFC 4034, 3.1.8.1 and 6.3).
+-- What octets were signed of: an RRset of a message of the zone, with its type, the labels of its source and the moment, by the apex,
+-- with whatever TTL, expiration, tag and algorithm. So who signs the zone may give RRsets and signatures other lives than its
+-- publisher here does.
+pub record IsSignedOf (serve : List HandedRr → Served) (apex : Name) (outs : List HandedOut) (octets : List ℕ) : Type 0 where
+  pub out : HandedOut
+  pub there : Contains outs out
+  pub group : Group
+  pub inside : Contains (groups_in serve apex out) group
+  pub signed : group.signed ≡ true
+  pub fields : Fields
+  pub covered : fields.covered ≡ group.rtype
+  pub labels : fields.labels ≡ label_count group.source
+  pub inception : fields.inception ≡ out.at % 4294967296
+  pub signer : fields.signer ≡ low apex
+  pub is : octets ≡ signed_octets fields group.owner 1 group.datas
+
+-- octets that were signed in a zone's life
+pub data WasSigned (serve : List HandedRr → Served) (apex : Name) (outs : List HandedOut) (octets : List ℕ) : Type 0 where
+  SignedOf : IsSignedOf serve apex outs octets → WasSigned serve apex outs octets
+
+-- The RRset of an owner and a type in a message, as a judge gathers it: of DNSKEY records those that read, of others their canonical
+-- data; class IN, each once and ascending.
+unfoldable pub rrset_there : ℕ → List ℕ → List Spelled → Name → ℕ → List (List ℕ)
+rrset_there k m rs owner t = if t == 48 then sorted_data (map dnskey_data (keys_in m owner rs)) else rrset_in k m rs owner t
+
+-- what the signature of a record covers there, and the octets that it was made over if it is one of that (RFC 4034, 3.1.8.1)
+unfoldable pub covered_in : ℕ → List ℕ → List Spelled → Spelled → Fields → List (List ℕ)
+covered_in k m rs r f = rrset_there k m rs r.owner f.covered
+
+unfoldable pub over_in : ℕ → List ℕ → List Spelled → Spelled → Fields → List ℕ
+over_in k m rs r f = signed_octets f r.owner 1 (covered_in k m rs r f)
+
+-- Each signature of a message that holds at the moment and verifies under a published key what it covers there is over octets that
+-- were signed. Of signatures out of their times nothing is asked, and of none what else it may verify: so a scheme meets this whose
+-- signatures are shorter than what they are made over.
+abbrev pub NothingForged : Answers → ℕ → ℕ → List Dnskey → (List ℕ → Type 0) → List ℕ → Type 0
+NothingForged a k now published Signed m =
+    (read : Message) (r : Spelled) (f : Fields) (signature : List ℕ) (key : Dnskey)
+    → message k m ≡ Ok read → Contains read.records r → r.rtype ≡ 46 → rrsig_at k m r ≡ Some (f, signature) → in_time f now ≡ true
+    → Contains published key → 0 < length (covered_in k m read.records r f)
+    → a.verifies key (over_in k m read.records r f) signature ≡ true → Signed (over_in k m read.records r f)
+
+-- The same asked of all octets that a signature may be made over, one RRset of at least one record, each once and ascending, whether or
+-- not it stands in the message (RFC 4034, 3.1.8.1 and 6.3); and that they are octets of a message as it was handed out. It is more
+-- than is needed.
 pub record Signs (octets : List ℕ) (f : Fields) (owner : Name) (class : ℕ) (ds : List (List ℕ)) : Type 0 where
   pub fits : IsSignable f owner class ds
   pub rising : ascending ds ≡ true
   pub are : octets ≡ signed_octets f owner class ds
   pub octets_are : AreOctets octets
 
--- Each signature of a message that holds at the moment and verifies under a published key, over whichever octets, is over
--- octets that were made. Of signatures out of their times nothing is asked.
-abbrev pub NothingForged : Answers → ℕ → ℕ → List Dnskey → List (List ℕ) → List ℕ → Type 0
-NothingForged a k now published made m =
+abbrev pub NothingForgedAtAll : Answers → ℕ → ℕ → List Dnskey → List (List ℕ) → List ℕ → Type 0
+NothingForgedAtAll a k now published made m =
     (read : Message) (r : Spelled) (f : Fields) (signature octets : List ℕ) (owner : Name) (class : ℕ) (ds : List (List ℕ)) (key : Dnskey)
     → message k m ≡ Ok read → Contains read.records r → r.rtype ≡ 46 → rrsig_at k m r ≡ Some (f, signature) → in_time f now ≡ true
     → Contains published key → Signs octets f owner class ds → a.verifies key octets signature ≡ true → Contains made octets
+
+abbrev pub AtAllIsEnough : Type 0
+AtAllIsEnough =
+    (a : Answers) (k now : ℕ) (published : List Dnskey) (serve : List HandedRr → Served) (apex : Name) (life : ℕ) (outs : List HandedOut) (m : List ℕ)
+    → AreOctets m → NothingForgedAtAll a k now published (made serve apex life outs) m → NothingForged a k now published (WasSigned serve apex outs) m
 
 -- Each key of the apex in a message, class IN, whose digest some DS records have, is published.
 abbrev pub NoStranger : Answers → ℕ → Name → List Dnskey → List Ds → List ℕ → Type 0
@@ -49,9 +96,9 @@ NoStranger a k apex published ds m =
     → Contains ds d → a.digest d.digest_type (digested apex key) ≡ Some d.digest → Contains published key
 
 -- octets of a message, in which nothing is forged
-pub record IsHonest (a : Answers) (k : ℕ) (h : Handing) (published : List Dnskey) (made : List (List ℕ)) (m : List ℕ) : Type 0 where
+pub record IsHonest (a : Answers) (k : ℕ) (h : Handing) (published : List Dnskey) (Signed : List ℕ → Type 0) (m : List ℕ) : Type 0 where
   pub octets_are : AreOctets m
-  pub unforged : NothingForged a k h.now published made m
+  pub unforged : NothingForged a k h.now published Signed m
 
 -- how the zone of some records is served, in order
 abbrev pub served_by : Answers → Handing → Mode → List HandedRr → Served
@@ -86,7 +133,6 @@ Settled one_moment versions outs = (length versions ≡ 1) ⊎ ((one_moment ≡ 
 pub record AreHonest (a : Answers) (k : ℕ) (h : Handing) (mode : Mode) (versions : List (List HandedRr)) : Type 0 where
   pub published : List Dnskey
   pub handed_out : List HandedOut
-  pub life : ℕ
   pub apex_is : IsName h.apex
   pub versions_are : AllByRecursion (IsVersion a h mode) versions
   pub asked_is : IsQuestion h.asked
@@ -95,9 +141,9 @@ pub record AreHonest (a : Answers) (k : ℕ) (h : Handing) (mode : Mode) (versio
   pub handed_out_are : AllByRecursion (WasHandedOut (served_by a h mode) h.apex published) handed_out
   pub of_versions : AllByRecursion (λ out. Contains versions out.records) handed_out
   pub settled : Settled h.one_moment versions handed_out
-  pub keys_honest : IsHonest a k h published (made (served_by a h mode) h.apex life handed_out) h.dnskey_bytes
+  pub keys_honest : IsHonest a k h published (WasSigned (served_by a h mode) h.apex handed_out) h.dnskey_bytes
   pub keys_known : NoStranger a k h.apex published h.ds h.dnskey_bytes
-  pub answer_honest : IsHonest a k h published (made (served_by a h mode) h.apex life handed_out) h.answer_bytes
+  pub answer_honest : IsHonest a k h published (WasSigned (served_by a h mode) h.apex handed_out) h.answer_bytes
 
 -- the verdict of the zone of some records
 abbrev pub verdict_of : Handing → Mode → List HandedRr → Verdict

@@ -4,3 +4,4 @@ pub mod OwnFacts
 pub mod BothChains
 pub mod Honest
 pub mod Splices
+pub mod OwnMessages

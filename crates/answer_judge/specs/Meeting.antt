@@ -26,11 +26,12 @@ use Rattle.answer_shared.specs.Served.{Served}
 use Rattle.messages.specs.WrittenLaws.{IsQuestion}
 use Rattle.answer_shared.specs.ZoneView.{AcceptedZone}
 
--- a DS record of type 2 names the key (RFC 4034, 5.1; RFC 4509)
+-- a DS record names the key, by a digest of a type that is made (RFC 4034, 5.1)
 pub record HasDs (a : Answers) (apex : Name) (ds : List Ds) (k : Dnskey) : Type 0 where
+  pub digest_type : ℕ
   pub digest : List ℕ
-  pub made : a.digest 2 (digested apex k) ≡ Some digest
-  pub held : Contains ds (record { tag = key_tag k; algorithm = k.algorithm; digest_type = 2; digest = digest })
+  pub made : a.digest digest_type (digested apex k) ≡ Some digest
+  pub held : Contains ds (record { tag = key_tag k; algorithm = k.algorithm; digest_type = digest_type; digest = digest })
 
 -- a key that may sign for a zone, whose flags are a number of 16 bits (RFC 4034, 2.1)
 pub record IsZoneKey (k : Dnskey) : Type 0 where

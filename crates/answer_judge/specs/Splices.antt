@@ -8,22 +8,22 @@ use Rattle.definitions.specs.Name.{Name}
 use Rattle.std.specs.List.{AllByRecursion}
 use Rattle.messages.specs.HandedRr.{HandedRr}
 use Rattle.messages.specs.Message.{Asked, Message, Spelled, message, rrsig_at}
-use Rattle.answer_shared.specs.Made.{HandedOut, groups_in, made}
+use Rattle.answer_shared.specs.Made.{HandedOut, groups_in}
 use Rattle.answer_shared.specs.Served.{Served, by_tag}
 use Rattle.answer_shared.specs.Told.{Tells}
 use Rattle.answer_scheme.specs.Answers.{Answers}
-use Rattle.answer_judge.specs.Honest.{AreOctets, IsHonest}
+use Rattle.answer_judge.specs.Honest.{AreOctets, IsHonest, WasSigned}
 use Rattle.answer_judge_facts.specs.Judging.{Handing}
 
 -- a signature passes over one string of octets alone, whatever the key
 abbrev pub Binds : Answers → Type 0
 Binds a = (j k : Dnskey) (octets others signature : List ℕ) → a.verifies j octets signature ≡ true → a.verifies k others signature ≡ true → octets ≡ others
 
--- a signature that passes over octets that were made, as those in messages that were handed out
-pub record WasCarried (a : Answers) (made : List (List ℕ)) (signature : List ℕ) : Type 0 where
+-- a signature that passes over octets that were signed, as those in messages that were handed out
+pub record WasCarried (a : Answers) (Signed : List ℕ → Type 0) (signature : List ℕ) : Type 0 where
   pub key : Dnskey
   pub octets : List ℕ
-  pub there : Contains made octets
+  pub there : Signed octets
   pub passes : a.verifies key octets signature ≡ true
 
 -- one that passes under none of some keys, as a stranger's
@@ -32,16 +32,16 @@ PassesNowhere a keys signature = (key : Dnskey) (octets : List ℕ) → Contains
 
 -- Each signature of a message that holds at the moment is such, wherever it stands, whatever its fields say and whatever stands
 -- beside it.
-abbrev pub IsSpliced : Answers → ℕ → ℕ → List Dnskey → List (List ℕ) → List ℕ → Type 0
-IsSpliced a k now published made m =
+abbrev pub IsSpliced : Answers → ℕ → ℕ → List Dnskey → (List ℕ → Type 0) → List ℕ → Type 0
+IsSpliced a k now published Signed m =
     (read : Message) (r : Spelled) (f : Fields) (signature : List ℕ)
     → message k m ≡ Ok read → Contains read.records r → r.rtype ≡ 46 → rrsig_at k m r ≡ Some (f, signature) → in_time f now ≡ true
-    → WasCarried a made signature ⊎ PassesNowhere a published signature
+    → WasCarried a Signed signature ⊎ PassesNowhere a published signature
 
 abbrev pub SplicesAreHonest : Type 0
 SplicesAreHonest =
-    (a : Answers) (k : ℕ) (h : Handing) (published : List Dnskey) (made : List (List ℕ)) (m : List ℕ)
-    → Binds a → AreOctets m → IsSpliced a k h.now published made m → IsHonest a k h published made m
+    (a : Answers) (k : ℕ) (h : Handing) (published : List Dnskey) (serve : List HandedRr → Served) (apex : Name) (outs : List HandedOut) (m : List ℕ)
+    → Binds a → AreOctets m → IsSpliced a k h.now published (WasSigned serve apex outs) m → IsHonest a k h published (WasSigned serve apex outs) m
 
 -- a scheme whose signatures are the tag of the key and the octets themselves
 abbrev pub plain_verifies : Dnskey → List ℕ → List ℕ → Bool
@@ -61,4 +61,4 @@ ToldIsSpliced =
     (a : Answers) (k now : ℕ) (serve : List HandedRr → Served) (apex : Name) (life : ℕ) (published : List Dnskey) (outs : List HandedOut) (out : HandedOut) (asked : Asked) (m : List ℕ)
     → Contains outs out → AllByRecursion (λ g. g.rtype ≡ 46 → ⊥) (groups_in serve apex out)
     → Tells a.verifies k apex out.at life (by_tag out.signers) asked (groups_in serve apex out) m
-    → IsSpliced a k now published (made serve apex life outs) m
+    → IsSpliced a k now published (WasSigned serve apex outs) m

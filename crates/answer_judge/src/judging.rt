@@ -76,9 +76,10 @@ impl<'a> Case<'a> {
     ///
     /// Whatever one version of a zone gives under keys that meet, within the times of its signatures, gets its verdict. No two
     /// messages get a verdict that no version has in which nothing is forged: no signature that holds at the moment and passes
-    /// under a key that the zone published is over octets that were not signed, and each key of the DNSKEY answer whose digest
-    /// the DS set has is one that the zone published. For a zone that changes this asks that signatures must be of one moment.
-    /// Where no signature of the one message holds at the moment, or none of the other, they are refused.
+    /// under a key that the zone published, over the RRset that it covers in its message, is over octets that were not signed,
+    /// and each key of the DNSKEY answer whose digest the DS set has is one that the zone published. For a zone that changes this
+    /// asks that signatures must be of one moment. Where no signature of the one message holds at the moment, or none of the
+    /// other, they are refused.
     ///
     /// What is said holds under each scheme that agrees with all that `verify` answered. It is asked about candidates alone:
     /// signatures of the two messages, over RRsets there that are sought, under keys of the DNSKEY answer.

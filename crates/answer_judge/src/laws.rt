@@ -2,8 +2,9 @@
 
 ghost use Rattle.answer_judge.specs.BothChains.{ChainsSayTheSame};
 ghost use Rattle.answer_judge.specs.FirstSignature.{SaysFirst};
-ghost use Rattle.answer_judge.specs.Honest.{HonestOfOneZone, NoFalseVerdict, UntimelyIsRefused};
+ghost use Rattle.answer_judge.specs.Honest.{AtAllIsEnough, HonestOfOneZone, NoFalseVerdict, UntimelyIsRefused};
 ghost use Rattle.answer_judge.specs.OwnFacts.{ToldFactsAreOwn};
+ghost use Rattle.answer_judge.specs.OwnMessages.{OwnAnswersAreHonest, OwnKeysAreHonest};
 ghost use Rattle.answer_judge.specs.Splices.{PlainSchemeBinds, SplicesAreHonest, ToldIsSpliced};
 
 /// An RRset of a message is verified exactly where some signature of it is the first that verifies it. That signature
@@ -32,13 +33,19 @@ pub fn chains_say_the_same()
 /// that isn't empty. The zone never changed, or signatures must be of one moment and at one moment the zone had one version: of
 /// records of two versions no verdict is made that neither has.
 ///
-/// Nothing is forged where each signature that holds at the moment and passes under a key that the zone published, over
-/// whichever octets, is over octets that were signed in the zone's life, and where each key of the DNSKEY answer whose digest the DS
-/// set has is one that the zone published. So messages may be spliced of any answers that the zone gave, under any of its keys;
+/// Nothing is forged where each signature that holds at the moment and passes under a key that the zone published, over the RRset
+/// that it covers in its message, is over octets that were signed in the zone's life, and where each key of the DNSKEY answer whose
+/// digest the DS set has is one that the zone published. So messages may be spliced of any answers that the zone gave, under any of its keys;
 /// signatures may be moved to other owners and made by strangers; keys of strangers may stand in the DNSKEY answer, and sign it;
 /// what is out of its times may be forged (RFC 4035, 5; RFC 5155, 8).
 pub fn no_bytes_bring_a_false_verdict()
     ensures { NoFalseVerdict }
+{}
+
+/// Nothing is forged in a message where that is so of each signature over whichever octets it may be made of: that is more than is
+/// asked, and more than a scheme can promise whose signatures are shorter than what they are made over.
+pub fn nothing_forged_at_all_is_enough()
+    ensures { AtAllIsEnough }
 {}
 
 /// Of a zone that does not change it says the verdict, or refuses, whether or not signatures must be of one moment.
@@ -67,4 +74,11 @@ pub fn a_plain_scheme_binds()
 /// The signatures of bytes that tell a message which was handed out are such as may be spliced.
 pub fn what_is_told_is_spliced()
     ensures { ToldIsSpliced }
+{}
+
+/// Nothing is forged in what a zone gave, whatever the scheme, its DNSKEY answers and its answers: each signature there is over the
+/// RRset that it covers.
+pub fn what_a_zone_gave_is_honest()
+    ensures keys { OwnKeysAreHonest }
+    ensures answers { OwnAnswersAreHonest }
 {}

@@ -4,16 +4,16 @@ use Rattle.std.specs.List.{AllByRecursion}
 use Rattle.definitions.specs.ZoneChain.{Mode}
 use Rattle.messages.specs.HandedRr.{HandedRr}
 use Rattle.answer_judge_facts.specs.Judging.{Answer, Handing}
-use Rattle.answer_judge.specs.Honest.{AnswersHonest, IsHonest, IsVersion}
+use Rattle.answer_judge.specs.Honest.{AnswersHonest, IsHonest, IsVersion, over_in}
 use Rattle.answer_judge_octets.specs.Table.{AreTrue, Tried, answers_with, tried}
 use Rattle.definitions.specs.Dnskey.{Dnskey}
 
 module _ (fewer passes : Tried → Bool) (true_are : AreTrue fewer passes) (k : ℕ) (h : Handing) where
-  stays : (published : List Dnskey) (made : List (List ℕ)) (m : List ℕ) → IsHonest (answers_with passes) k h published made m → IsHonest (answers_with fewer) k h published made m
-  stays published made m is = record {
+  stays : (published : List Dnskey) (Signed : List ℕ → Type 0) (m : List ℕ) → IsHonest (answers_with passes) k h published Signed m → IsHonest (answers_with fewer) k h published Signed m
+  stays published Signed m is = record {
     octets_are = is.octets_are;
-    unforged = λ read r f signature octets owner class ds key reads among rtype said timely known signs verifies.
-        is.unforged read r f signature octets owner class ds key reads among rtype said timely known signs (true_are (tried key octets signature) verifies);
+    unforged = λ read r f signature key reads among rtype said timely known some verifies.
+        is.unforged read r f signature key reads among rtype said timely known some (true_are (tried key (over_in k m read.records r f) signature) verifies);
   }
 
   version_stays : (mode : Mode) (rs : List HandedRr) → IsVersion (answers_with passes) h mode rs → IsVersion (answers_with fewer) h mode rs
@@ -28,7 +28,6 @@ module _ (fewer passes : Tried → Bool) (true_are : AreTrue fewer passes) (k : 
   stays_honest answer by_fewer mode versions are = by_fewer mode versions (record {
     published = are.published;
     handed_out = are.handed_out;
-    life = are.life;
     apex_is = are.apex_is;
     versions_are = versions_stay mode versions are.versions_are;
     asked_is = are.asked_is;

@@ -1,5 +1,5 @@
 -- Things that were shown in states of the keys were given by the zone.
-use Rattle.std.proofs.Common.{◌≡◌, ℕ, true, false, List, [], ◌∷◌, map, refl, sym, ap, subst, ◌∙◌, inl, inr, ⊎_elim}
+use Rattle.std.proofs.Common.{◌≡◌, ℕ, true, false, List, [], ◌∷◌, map, refl, sym, ap, ◌∙◌, inl, inr, ⊎_elim}
 use Rattle.std.specs.Prelude.{Option}
 use Rattle.std.specs.List.{AllByRecursion}
 use Rattle.std.specs.declared.cmp.Ordering.TheVariants.{Equal}
@@ -85,6 +85,7 @@ parents_have_ds w keys left =
     all_keys (HasDs w.answers w.zone.apex (ds_set keys)) bs (λ b h.
     let is : IsBound digest b = all_at (IsBound digest) bs b made h in
     record {
+      digest_type = 2;
       digest = b.digest;
       made = is.made;
       held = contained_has (ds_set keys) (ds_of b) (sorted_has ds_cmp (IsDsOf bs) (exact digest bs made apart) (map ds_of bs) (ds_of b) (all_has (IsDsOf bs) (map ds_of bs) (from_bound bs)) (ds_in bs b h));

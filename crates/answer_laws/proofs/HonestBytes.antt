@@ -1,6 +1,6 @@
 -- A simulation's judgements of messages in which nothing is forged.
 use Rattle.std.proofs.Common.{◌≡◌, ℕ, zero, suc, ◌<◌, true, List, [], ◌∷◌, ◌++◌, map, refl, sym, ap, subst, ◌∙◌, inl, inr}
-use Rattle.std.specs.Prelude.{Contains, Option, Some, None, Ok, Err, slice_get}
+use Rattle.std.specs.Prelude.{Contains, Option, Some, Ok, Err, slice_get}
 use Rattle.std.specs.List.{AllByRecursion, flat_map}
 use Rattle.std.specs.declared.result.Result.{Result}
 use Rattle.std.proofs.lemmas.Grind.{flat_map-append}
@@ -239,7 +239,6 @@ honestly w y s at set keys bytes asked j apex all one known question judges hone
     judges.honest w.zone.mode y.versions.all (record {
       published = published_by y.past s.keys;
       handed_out = y.handed_out;
-      life = w.life;
       apex_is = apex;
       versions_are = versions_are w h asked y.versions.all refl refl refl all apart;
       asked_is = question;

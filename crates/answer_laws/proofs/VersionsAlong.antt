@@ -1,12 +1,11 @@
 -- What judgements say of the versions of a zone, and of a zone that doesn't change.
-use Rattle.std.proofs.Common.{◌≡◌, ℕ, zero, suc, List, [], ◌∷◌, ◌++◌, map, refl, sym, ap, subst, ◌∙◌, ⊎_elim, inl, inr}
-use Rattle.std.specs.Prelude.{Contains, Option, Some, Ok, Err, length, slice_get}
+use Rattle.std.proofs.Common.{◌≡◌, ℕ, zero, suc, List, [], ◌∷◌, ◌++◌, map, refl, sym, ap, subst, ⊎_elim, inl}
+use Rattle.std.specs.Prelude.{Contains, Some, Ok, Err, length, slice_get}
 use Rattle.std.specs.List.{AllByRecursion}
 use Rattle.definitions.specs.Dnskey.{Ds}
 use Rattle.definitions.specs.Zone.{Verdict}
-use Rattle.messages.specs.HandedRr.{HandedRr, handed_of}
+use Rattle.messages.specs.HandedRr.{HandedRr}
 use Rattle.messages.specs.Message.{Asked}
-use Rattle.messages.proofs.Lists.{some_is}
 use Rattle.answer_shared.specs.Made.{HandedOut}
 use Rattle.answer_shared.specs.ZoneView.{AcceptedZone}
 use Rattle.answer_events.specs.declared.event.Act.{Act}
@@ -20,11 +19,11 @@ use Rattle.answer_publisher_keys.specs.Bindings.{ZoneKeys}
 use Rattle.answer_laws.specs.declared.outcome.Outcome.{Outcome}
 use Rattle.answer_laws.specs.declared.outcome.Outcome.TheVariants as outcome
 use Rattle.answer_laws.specs.HonestBytes.{AtJudgement, SaysHonestly, VerdictHonest, VerdictsHonest, handed_with, verdict_in}
-use Rattle.answer_laws.specs.OneState.{Moment, VerdictAt, VerdictsAlong}
+use Rattle.answer_laws.specs.OneState.{VerdictAt, VerdictsAlong}
 use Rattle.answer_laws.specs.Simulating.{Simulates, Sofar, StepOf, begin}
 use Rattle.answer_laws.specs.Simulations.{IsZoneOf}
-use Rattle.answer_laws.specs.ThroughRolls.{History, Showing, VerdictThrough, VerdictsThrough}
-use Rattle.answer_laws.specs.Versions.{AreTimely, IsAbout, KeepsZone, NeverReplaced, SaysOfVersions, SaysOneHonestly, Story, Versions, VersionsAlong, first_story, in_version, story_with}
+use Rattle.answer_laws.specs.ThroughRolls.{VerdictThrough, VerdictsThrough}
+use Rattle.answer_laws.specs.Versions.{KeepsZone, NeverReplaced, SaysOfVersions, SaysOneHonestly, Story, VersionsAlong, first_story, in_version, story_with}
 use Rattle.answer_laws.proofs.HonestBytes as honest
 use Rattle.answer_laws.proofs.Judgements as judgements
 use Rattle.answer_laws.proofs.OneAtATime as moments

@@ -11,13 +11,13 @@ use Rattle.messages.specs.Message.{Asked}
 use Rattle.messages.specs.Questions.{asked_of}
 use Rattle.answer_shared.specs.Accepting.{sorted_records, zone_of}
 use Rattle.answer_shared.specs.Hashing.{hash_in}
-use Rattle.answer_shared.specs.Made.{HandedOut, OfKeys, OfZone, made}
+use Rattle.answer_shared.specs.Made.{HandedOut, OfKeys, OfZone}
 use Rattle.answer_shared.specs.Served.{Served}
 use Rattle.answer_events.specs.declared.event.Event.{Event}
 use Rattle.answer_events.specs.declared.event.Act.{Act}
 use Rattle.answer_events.specs.declared.event.Act.TheVariants as act
 use Rattle.answer_scheme.specs.Moments.{second_of}
-use Rattle.answer_judge.specs.Honest.{IsHonest, NoStranger, SaysAtMost}
+use Rattle.answer_judge.specs.Honest.{IsHonest, NoStranger, SaysAtMost, WasSigned}
 use Rattle.answer_judge_facts.specs.Judging.{Answer, Handing, answer_of}
 use Rattle.answer_publisher_keys.specs.Bindings.{ZoneKeys, dnskeys, published}
 use Rattle.answer_publisher_keys.specs.declared.keys.Publication.TheVariants as publication
@@ -53,13 +53,9 @@ published_by past keys = flat_map published_in (past ++ keys ∷ [])
 abbrev pub serves : World → List HandedRr → Served
 serves w rs = served_in (with_records w (sorted_records rs))
 
--- the octets of all signatures that were handed out
-abbrev pub made_by : World → List HandedOut → List (List ℕ)
-made_by w outs = made (serves w) w.zone.apex w.life outs
-
 -- a message in which nothing is forged, in the run so far
 abbrev pub IsHonestSo : World → List HandedOut → List ZoneKeys → Sofar → Handing → List ℕ → Type 0
-IsHonestSo w outs past s h m = IsHonest w.answers pointer_limit h (published_by past s.keys) (made_by w outs) m
+IsHonestSo w outs past s h m = IsHonest w.answers pointer_limit h (published_by past s.keys) (WasSigned (serves w) w.zone.apex outs) m
 
 -- the verdict of the zone of some records
 abbrev pub verdict_in : World → List HandedRr → Asked → Verdict

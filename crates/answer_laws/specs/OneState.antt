@@ -1,5 +1,5 @@
 -- What a judgement says of things that were given in one state of the keys.
-use Rattle.std.specs.Prelude.{◌≡◌, ℕ, true, false, List, [], ◌∷◌, ◌++◌, Some, slice_get}
+use Rattle.std.specs.Prelude.{◌≡◌, ℕ, true, List, [], ◌∷◌, ◌++◌, Some, slice_get}
 use Rattle.definitions.specs.Zone.{verdict}
 use Rattle.definitions.specs.ZoneChain.{optout_of}
 use Rattle.answer_events.specs.declared.event.Event.{Event}

@@ -21,7 +21,6 @@ use Rattle.answer_publisher_keys.specs.Bindings.{ZoneKeys, no_keys, ds_set}
 use Rattle.answer_publisher_keys.specs.KeyCalls.{Acts}
 use Rattle.answer_publisher.specs.Publishing.{digest_at}
 use Rattle.answer_publisher.specs.Replacing.{RefusesReplacement, is_too_soon, noted}
-use Rattle.answer_scheme.specs.Moments.{second_of}
 use Rattle.answer_publisher.specs.World.{World, AnswersKeysQuestion, AnswersQuestion, RefusesKeysQuestion, RefusesQuestion, SpellsAnswer, SpellsKeys}
 use Rattle.answer_judge.specs.Meeting.{IsJudgement}
 use Rattle.messages.specs.WrittenLaws.{IsQuestion}

@@ -12,7 +12,7 @@ use Rattle.messages.specs.declared.error.MessageError.{MessageError}
 use Rattle.messages.specs.Message.{Message, Spelled, message, rrsig_at}
 use Rattle.messages.proofs.Lists.{Has, all_at, all_fail, all_more, some_is}
 use Rattle.answer_scheme.specs.Answers.{Answers}
-use Rattle.answer_judge.specs.Honest.{AreOctets, NothingForged}
+use Rattle.answer_judge.specs.Honest.{AreOctets, NothingForged, over_in}
 use Rattle.answer_judge.proofs.GivenLists.{has_contained}
 use Rattle.counterexamples_honest.specs.World.{own_key, plain}
 
@@ -39,10 +39,10 @@ IsDealt a now published made m r =
     → in_time f now ≡ true → Has published key → a.verifies key octets signature ≡ true → Contains made octets
 
 pub unforged : (a : Answers) (now : ℕ) (published : List Dnskey) (made : List (List ℕ)) (m : List ℕ) (read : Message) → message pointer_limit m ≡ Ok read → AllByRecursion (IsDealt a now published made m) read.records
-    → NothingForged a pointer_limit now published made m
-unforged a now published made m read reads dealt other r f signature octets owner class ds key is there kind fields time inside signs passes =
+    → NothingForged a pointer_limit now published (Contains made) m
+unforged a now published made m read reads dealt other r f signature key is there kind fields time inside some passes =
     let same : other ≡ read = ok_is other read (sym is ∙ reads) in
-    all_at (IsDealt a now published made m) read.records r dealt (subst (λ (x : Message). Has x.records r) same (has_contained other.records r there)) f signature octets key kind fields time
+    all_at (IsDealt a now published made m) read.records r dealt (subst (λ (x : Message). Has x.records r) same (has_contained other.records r there)) f signature (over_in pointer_limit m other.records r f) key kind fields time
     (has_contained published key inside) passes
 
 -- ---- records

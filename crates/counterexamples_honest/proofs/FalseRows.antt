@@ -36,7 +36,7 @@ no_ds_is = record { name_is = a_is; type_fits = refl; keys_octets = refl; answer
 
 -- no message has no octets
 nothing_forged : Unforged no_ds_at []
-nothing_forged read r f signature octets owner class datas key is there kind said time inside signs passes = cc
+nothing_forged read r f signature key is there kind said time inside some passes = cc
 
 no_key_known : NoStranger plain pointer_limit example (own_key ∷ []) [] []
 no_key_known read key d is there named digest = cc
@@ -80,7 +80,7 @@ mixed_known =
     no_stranger mixed_keys (read_of mixed_keys) refl (foreign_known other refl, (own_known, tt))
 
 -- whatever was made
-other_unforged : (made : List (List ℕ)) → NothingForged plain pointer_limit 1500 (own_key ∷ []) made forged_keys.answer_bytes
+other_unforged : (made : List (List ℕ)) → NothingForged plain pointer_limit 1500 (own_key ∷ []) (Contains made) forged_keys.answer_bytes
 unfolding pointer_limit most_heads owner_at
 other_unforged made =
     let m = forged_keys.answer_bytes in

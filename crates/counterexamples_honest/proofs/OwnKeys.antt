@@ -1,6 +1,6 @@
 -- What rows share: names, records, what was handed out at second 1000, and the DNSKEY answer of the zone's key.
 use Rattle.std.proofs.Common.{◌≡◌, ℕ, true, false, List, [], ◌∷◌, length, Ok, refl}
-use Rattle.std.specs.Prelude.{Result, Err, get_or, nat_lt}
+use Rattle.std.specs.Prelude.{Contains, Result, Err, get_or, nat_lt}
 use Rattle.std.specs.List.{AllByRecursion, list_any}
 use Rattle.definitions.specs.Dnskey.{Dnskey, dnskey_data}
 use Rattle.definitions.specs.Limits.{pointer_limit}
@@ -148,7 +148,7 @@ abbrev own_over : List ℕ
 own_over = keys_over (dnskey_data own_key ∷ [])
 
 -- nothing is forged in it, where that was signed first
-pub own_keys_unforged : (made : List (List ℕ)) → nat_lt 0 (length made) ≡ true → get_or made 0 own_over ≡ own_over → NothingForged plain pointer_limit 1500 (own_key ∷ []) made own_keys
+pub own_keys_unforged : (made : List (List ℕ)) → nat_lt 0 (length made) ≡ true → get_or made 0 own_over ≡ own_over → NothingForged plain pointer_limit 1500 (own_key ∷ []) (Contains made) own_keys
 unfolding pointer_limit most_heads owner_at
 own_keys_unforged made some first = unforged plain 1500 (own_key ∷ []) made own_keys (read_of own_keys) refl (
   no_signature plain 1500 (own_key ∷ []) made own_keys (item own_keys 0) refl,

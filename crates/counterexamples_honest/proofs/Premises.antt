@@ -17,7 +17,6 @@ pub all_honest : AllAreHonest
 all_honest a h mode versions x = record {
   published = x.published;
   handed_out = x.handed_out;
-  life = x.life;
   apex_is = x.apex_is;
   versions_are = all_more (IsVersionIn all a h mode) (IsVersion a h mode) versions (is_version a h mode) x.versions_are;
   asked_is = x.asked_is;

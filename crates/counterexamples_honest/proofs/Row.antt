@@ -1,5 +1,5 @@
 -- What is handed in of a row is honest as far as some premises ask.
-use Rattle.std.proofs.Common.{◌≡◌, ℕ, true, false, List, [], ◌∷◌, refl, inl, inr}
+use Rattle.std.proofs.Common.{◌≡◌, ℕ, Bool, true, false, List, [], ◌∷◌, refl, inl, inr}
 use Rattle.std.specs.Prelude.{Contains, nat_le, nat_lt}
 use Rattle.std.specs.List.{AllByRecursion, list_any}
 use Rattle.std.proofs.lemmas.Bool.{ltb-true}
@@ -15,7 +15,8 @@ use Rattle.answer_shared.specs.Accepted.{IsAccepted}
 use Rattle.answer_shared.specs.Accepting.{zone_of}
 use Rattle.answer_shared.specs.Hashing.{hash_in}
 use Rattle.answer_shared.specs.Made.{HandedOut, WasHandedOut}
-use Rattle.answer_judge.specs.Honest.{NoStranger, NothingForged, Settled, served_by}
+use Rattle.answer_judge.specs.Honest.{NoStranger, NothingForged, Settled, WasSigned, over_in, served_by}
+use Rattle.answer_judge.proofs.ForgedAtAll.{handed_out_was_signed}
 use Rattle.answer_judge.proofs.GivenLists.{has_contained}
 use Rattle.counterexamples_honest.specs.Premises.{AreHonestIn, IsVersionIn, Premises, Where}
 use Rattle.counterexamples_honest.specs.Rows.{handing, own, small}
@@ -50,7 +51,16 @@ pub record IsRow (r : Row) : Type 0 where
   pub of_versions : AllByRecursion (λ (out : HandedOut). Contains r.versions out.records) r.outs
 
 abbrev pub Unforged : Row → List ℕ → Type 0
-Unforged r m = NothingForged plain pointer_limit 1500 (own_key ∷ []) (made_of r.mode r.outs) m
+Unforged r m = NothingForged plain pointer_limit 1500 (own_key ∷ []) (Contains (made_of r.mode r.outs)) m
+
+-- what was handed out was signed
+signed_out : (r : Row) (m : List ℕ) → Unforged r m → NothingForged plain pointer_limit 1500 (own_key ∷ []) (WasSigned (served_by plain own r.mode) example r.outs) m
+signed_out r m unforged read s f signature key reads there kind fields time inside some passes =
+    handed_out_was_signed (served_by plain own r.mode) example 1000 r.outs (over_in pointer_limit m read.records s f) (unforged read s f signature key reads there kind fields time inside some passes)
+
+where_more : {A B : Type 0} (b : Bool) → (A → B) → Where b A → Where b B
+where_more true f a = f a
+where_more false f a = a
 
 abbrev pub AreOuts : Row → Type 0
 AreOuts r = AllByRecursion (WasHandedOut (served_by plain own r.mode) example (own_key ∷ [])) r.outs
@@ -76,7 +86,6 @@ pub honest_in : (p : Premises) (r : Row) → IsRow r
 honest_in p r is some outs settled keys known answer apart = record {
   published = own_key ∷ [];
   handed_out = r.outs;
-  life = 1000;
   apex_is = example_is;
   versions_are = versions_in p r r.versions is.versions_are apart;
   limit_fits = ltb-true 0 65536 refl;
@@ -88,9 +97,9 @@ honest_in p r is some outs settled keys known answer apart = record {
   handed_out_are = outs;
   of_versions = is.of_versions;
   settled = settled;
-  keys_unforged = keys;
+  keys_unforged = where_more p.keys_unforged (signed_out r r.keys) keys;
   keys_known = known;
-  answer_unforged = answer;
+  answer_unforged = where_more p.answer_unforged (signed_out r r.answer) answer;
 }
 
 -- a verdict that the one version does not have

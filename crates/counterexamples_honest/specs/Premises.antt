@@ -1,5 +1,5 @@
 -- The premises on messages that are handed to a judge, each of which may be left out.
-use Rattle.std.specs.Prelude.{◌≡◌, ℕ, ◌<◌, Bool, true, false, List, [], Contains, map}
+use Rattle.std.specs.Prelude.{◌≡◌, ◌<◌, Bool, true, false, List, [], Contains, map}
 use Rattle.std.specs.List.{AllByRecursion}
 use Rattle.definitions.specs.Dnskey.{Dnskey}
 use Rattle.definitions.specs.Limits.{pointer_limit}
@@ -13,12 +13,12 @@ use Rattle.messages.specs.WrittenLaws.{IsQuestion}
 use Rattle.answer_shared.specs.Accepted.{IsAccepted}
 use Rattle.answer_shared.specs.Accepting.{zone_of}
 use Rattle.answer_shared.specs.Hashing.{hash_in}
-use Rattle.answer_shared.specs.Made.{HandedOut, WasHandedOut, made}
+use Rattle.answer_shared.specs.Made.{HandedOut, WasHandedOut}
 use Rattle.answer_scheme.specs.Answers.{Answers}
 use Rattle.answer_judge_facts.specs.Judged.{judged}
 use Rattle.answer_judge_facts.specs.Judging.{Answer, Handing, Refuses, Says}
 use Rattle.answer_judge_facts.specs.declared.verdict.Refusal.TheVariants.{MixedVersions}
-use Rattle.answer_judge.specs.Honest.{AreHonest, AreOctets, NoStranger, NothingForged, Settled, served_by, verdict_of}
+use Rattle.answer_judge.specs.Honest.{AreHonest, AreOctets, NoStranger, NothingForged, Settled, WasSigned, served_by, verdict_of}
 
 -- Which of them are asked. Beside these a zone is accepted, and names, numbers and octets are such.
 pub record Premises : Type 0 where
@@ -89,7 +89,6 @@ pub record IsVersionIn (p : Premises) (a : Answers) (h : Handing) (mode : Mode) 
 pub record AreHonestIn (p : Premises) (a : Answers) (h : Handing) (mode : Mode) (versions : List (List HandedRr)) : Type 0 where
   pub published : List Dnskey
   pub handed_out : List HandedOut
-  pub life : ℕ
   pub apex_is : IsName h.apex
   pub versions_are : AllByRecursion (IsVersionIn p a h mode) versions
   pub limit_fits : h.limit < 65536
@@ -101,9 +100,9 @@ pub record AreHonestIn (p : Premises) (a : Answers) (h : Handing) (mode : Mode) 
   pub handed_out_are : Where p.handed_out (AllByRecursion (WasHandedOut (served_by a h mode) h.apex published) handed_out)
   pub of_versions : AllByRecursion (λ out. Contains versions out.records) handed_out
   pub settled : Where p.settled (Settled h.one_moment versions handed_out)
-  pub keys_unforged : Where p.keys_unforged (NothingForged a pointer_limit h.now published (made (served_by a h mode) h.apex life handed_out) h.dnskey_bytes)
+  pub keys_unforged : Where p.keys_unforged (NothingForged a pointer_limit h.now published (WasSigned (served_by a h mode) h.apex handed_out) h.dnskey_bytes)
   pub keys_known : Where p.keys_known (NoStranger a pointer_limit h.apex published h.ds h.dnskey_bytes)
-  pub answer_unforged : Where p.answer_unforged (NothingForged a pointer_limit h.now published (made (served_by a h mode) h.apex life handed_out) h.answer_bytes)
+  pub answer_unforged : Where p.answer_unforged (NothingForged a pointer_limit h.now published (WasSigned (served_by a h mode) h.apex handed_out) h.answer_bytes)
 
 -- with all premises what is handed in is honest, as `AreHonest` says it
 abbrev pub AllAreHonest : Type 0

@@ -6,12 +6,12 @@ use Rattle.definitions.specs.Name.{Name}
 use Rattle.definitions.specs.Signing.{Fields, in_time}
 use Rattle.messages.specs.HandedRr.{HandedRr}
 use Rattle.messages.specs.Message.{Asked, Message, Spelled, message, rrsig_at}
-use Rattle.answer_shared.specs.Made.{HandedOut, groups_in, made}
+use Rattle.answer_shared.specs.Made.{HandedOut, groups_in}
 use Rattle.answer_shared.specs.Served.{Served, by_tag}
 use Rattle.answer_shared.specs.Told.{Tells}
 use Rattle.answer_scheme.specs.Answers.{Answers}
 use Rattle.answer_judge_facts.specs.Judging.{Handing}
-use Rattle.answer_judge.specs.Honest.{AreOctets, IsHonest}
+use Rattle.answer_judge.specs.Honest.{AreOctets, IsHonest, WasSigned}
 use Rattle.answer_judge.specs.Splices.{Binds, PassesNowhere}
 
 -- A signature stands in bytes that tell a message which was handed out, in a record that held at some moment. No RRset of that
@@ -45,4 +45,4 @@ AreQuotes a k now published serve apex life outs m =
 abbrev pub QuotesAreHonest : Type 0
 QuotesAreHonest =
     (a : Answers) (k : ℕ) (h : Handing) (published : List Dnskey) (serve : List HandedRr → Served) (apex : Name) (life : ℕ) (outs : List HandedOut) (m : List ℕ)
-    → Binds a → AreOctets m → AreQuotes a k h.now published serve apex life outs m → IsHonest a k h published (made serve apex life outs) m
+    → Binds a → AreOctets m → AreQuotes a k h.now published serve apex life outs m → IsHonest a k h published (WasSigned serve apex outs) m
