@@ -1,12 +1,14 @@
 -- What a table lacked, and tests of it.
-use Rattle.std.proofs.Common.{◌≡◌, ℕ, ◌≤◌, length, arith, true, List, [], ◌∷◌, ap, sym, subst, ◌∙◌}
+use Rattle.std.proofs.Common.{◌≡◌, ℕ, ◌+◌, ◌<◌, ◌≤◌, length, arith, true, false, List, [], ◌∷◌, ap, sym, subst, ◌∙◌, inr, ⊎_elim}
 use Rattle.std.specs.Prelude.{IfOk, Option, Result, Ok, Err, Some}
 use Rattle.std.specs.List.{AllByRecursion}
+use Rattle.std.proofs.lemmas.Bool.{false≢true}
 use Rattle.definitions.specs.Limits.{pointer_limit}
 use Rattle.answer_scheme.specs.Answers.{SignatureTest}
 use Rattle.answer_judge_facts.specs.Asked.{is_candidate}
-use Rattle.answer_judge_facts.specs.Judging.{Handing, verification_bound}
-use Rattle.answer_judge_octets.specs.Asking.{AskedIfAny, IsCandidate, PassesEach, PassesLacking, are_new}
+use Rattle.answer_judge_facts.specs.Counted.{Counts}
+use Rattle.answer_judge_facts.specs.Judging.{Answer, Handing, verification_bound}
+use Rattle.answer_judge_octets.specs.Asking.{AskedIfAny, IsCandidate, PassesEach, PassesLacking, are_new, due_beyond, is_out_of_memory}
 use Rattle.answer_judge_octets.specs.Table.{Checked, Tried, answers_of, passes_by}
 
 -- a copy of what was tried, if there was memory for it
@@ -22,11 +24,20 @@ one_stands table h lacking t asks one is passes =
 
 -- what is asked for, if anything
 pub asked_if_any : {V E : Type 0} (items : V → List Tried) (r : Result V E) (table : List Checked) (h : Handing) (kept : List Tried) (n : ℕ) → IfOk r (λ v. are_new table (items v) ≡ true) → IfOk r (λ v. length (items v) ≤ n) → IfOk r (λ v. items v ≡ kept)
-    → n ≤ verification_bound pointer_limit h → PassesEach kept (is_candidate (answers_of table) pointer_limit h) → IfOk r (λ v. AskedIfAny table h (items v))
-asked_if_any items (Err e) table h kept n new few is bound passes = tt
-asked_if_any items (Ok v) table h kept n new few is bound passes = λ some. record {
+    → n ≤ verification_bound pointer_limit h → n ≤ due_beyond table h → PassesEach kept (is_candidate (answers_of table) pointer_limit h) → IfOk r (λ v. AskedIfAny table h (items v))
+asked_if_any items (Err e) table h kept n new few is bound due passes = tt
+asked_if_any items (Ok v) table h kept n new few is bound due passes = λ some. record {
   some = some;
   are_new = new;
   stand = subst (AllByRecursion (IsCandidate table h)) (sym is) passes;
   few = omega arith;
+  due = inr (omega arith);
 }
+
+-- with memory enough a count is what is due
+pub counted : (answer : Answer) (count due : ℕ) → is_out_of_memory answer ≡ false → Counts answer count due → count ≡ due
+counted answer count due enough counts = ⊎_elim (λ ran. absurd (false≢true (sym enough ∙ ap is_out_of_memory ran))) (λ is. is) counts
+
+-- one that is asked for is among those that were verified
+pub one_due : (verified before count due : ℕ) (t : Tried) (asks : List Tried) → asks ≡ t ∷ [] → 0 < verified → verified ≡ before + count → before ≡ 0 → count ≡ due → length asks ≤ due
+one_due verified before count due t asks one some more none is = subst (λ (ts : List Tried). length ts ≤ due) (sym one) (omega (arith, some, more, none, is))

@@ -1,11 +1,13 @@
 -- Signatures that are asked for.
-use Rattle.std.specs.Prelude.{◌≡◌, ℕ, ◌<◌, ◌≤◌, Bool, true, false, ◌&&◌, List, [], ◌∷◌, ◌++◌, Option, Some, None, Result, Ok, length, is_none, ⊤}
+use Rattle.std.specs.Prelude.{◌≡◌, ◌⊎◌, ℕ, ◌<◌, ◌≤◌, Bool, true, false, ◌&&◌, List, [], ◌∷◌, ◌++◌, Option, Some, None, Result, Ok, length, is_none, ⊤}
 use Rattle.std.specs.List.{AllByRecursion}
 use Rattle.definitions.specs.Limits.{pointer_limit}
 use Rattle.answer_scheme.specs.Answers.{SignatureTest}
 use Rattle.answer_judge_facts.specs.Asked.{is_candidate}
-use Rattle.answer_judge_facts.specs.Judging.{Handing, verification_bound}
-use Rattle.answer_judge_octets.specs.Table.{AgreesWith, Checked, Tried, answers_of, checked, passes_by, told}
+use Rattle.answer_judge_facts.specs.Counted.{verifications_due}
+use Rattle.answer_judge_facts.specs.Judging.{Answer, Refuses, Handing, verification_bound}
+use Rattle.answer_judge_facts.specs.declared.verdict.Refusal.TheVariants as r
+use Rattle.answer_judge_octets.specs.Table.{AgreesWith, Checked, Tried, answers_of, answers_with, checked, may_pass_in, passes_by, told}
 
 -- a signature that is asked for, as an entry
 abbrev pub unchecked : Tried → Checked
@@ -24,13 +26,26 @@ KeepsNew t old new = (table : List Checked) → told table t ≡ None → are_ne
 abbrev pub IsCandidate : List Checked → Handing → Tried → Type 0
 IsCandidate table h t = passes_by (is_candidate (answers_of table) pointer_limit h) t ≡ true
 
--- Signatures that are asked for: some that the table doesn't have, each once, candidates of both messages, and no more than
--- these have.
+-- a judgement that ended for want of memory
+abbrev pub is_out_of_memory : Answer → Bool
+is_out_of_memory (Refuses r.Memory) = true
+is_out_of_memory _ = false
+
+-- signatures that a judgement verifies where those that a table doesn't have fail, or where they pass
+abbrev pub due_by : List Checked → Handing → ℕ
+due_by table h = verifications_due (answers_of table) pointer_limit h
+
+abbrev pub due_beyond : List Checked → Handing → ℕ
+due_beyond table h = verifications_due (answers_with (may_pass_in table)) pointer_limit h
+
+-- Signatures that are asked for: some that the table doesn't have, each once, candidates of both messages, no more than these
+-- have, and no more than a judgement comes to: so none where it verifies nothing, as beside an empty DS set.
 pub record AreAsked (table : List Checked) (h : Handing) (asks : List Tried) : Type 0 where
   pub some : 0 < length asks
   pub are_new : are_new table asks ≡ true
   pub stand : AllByRecursion (IsCandidate table h) asks
   pub few : length asks ≤ verification_bound pointer_limit h
+  pub due : (length asks ≤ due_by table h) ⊎ (length asks ≤ due_beyond table h)
 
 -- none, or such
 abbrev pub AskedIfAny : List Checked → Handing → List Tried → Type 0

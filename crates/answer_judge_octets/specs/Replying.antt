@@ -179,9 +179,15 @@ pub record IsReply (case : OctetCase) (said : Replied) : Type 0 where
   pub spelled : Spells case handing table
   pub says : SaysOutcome handing table said
 
--- A reply to a case: that memory ran out, that octets of it spell nothing, or the outcome of what they spell.
+-- a code alone: no octets, and nothing was verified or hashed
+pub record IsBare (said : Replied) : Type 0 where
+  pub octets : said.octets ≡ []
+  pub verifications : said.verifications ≡ 0
+  pub hashes : said.hashes ≡ 0
+
+-- A reply to a case: that memory ran out or that octets of it spell nothing, both bare, or the outcome of what they spell.
 abbrev pub Replies : OctetCase → Replied → Type 0
-Replies case said = (said.code ≡ c.OutOfMemory) ⊎ (Unread case said.code ⊎ IsReply case said)
+Replies case said = (IsBare said × ((said.code ≡ c.OutOfMemory) ⊎ Unread case said.code)) ⊎ IsReply case said
 
 -- ---- what is handed out
 

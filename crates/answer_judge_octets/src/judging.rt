@@ -1,12 +1,13 @@
 //! Judging by a table.
 ghost use Rattle.std.specs.Prelude.{◌≡◌, ◌<◌, ◌∷◌, [], IfOk};
-ghost use Rattle.answer_judge_octets.specs.Asking.{AskedIfAny};
+ghost use Rattle.answer_judge_facts.specs.Judging.{answer_of};
+ghost use Rattle.answer_judge_octets.specs.Asking.{AskedIfAny, is_out_of_memory};
 ghost use Rattle.answer_judge_octets.specs.Outcomes.{IsOutcome};
 
 use crate::checked::CheckedSignature;
 use crate::outcome::{Ask, Outcome};
 use crate::table_checks::{AskingChecks, TableChecks, Told};
-use answer_judge::{Case, Refusal};
+use answer_judge::{Case, Judgement, Refusal, Refused};
 use std::alloc::{AllocError, Global};
 use std::marker::Brand;
 use std::sync::ledger::{Blank, Ledger};
@@ -63,9 +64,22 @@ fn judged<T: Told, L: Ledger, M: Ledger>(
 {
     let mut checks = TableChecks::<T, L, M>::new(alloc, table, first, second);
     let judged = case.judge(alloc, &mut checks);
-    match checks.into_lacking()? {
-        None => Ok(Outcome::Judged(judged)),
-        Some(ask) => Ok(Outcome::Asks(one_ask(alloc, ask)?)),
+    let Some(ask) = checks.into_lacking()? else {
+        return Ok(Outcome::Judged(judged));
+    };
+    if ran_out(&judged) {
+        return Err(AllocError);
+    }
+    Ok(Outcome::Asks(one_ask(alloc, ask)?))
+}
+
+/// Whether a judgement ended for want of memory: then more signatures may be due than it came to.
+fn ran_out(judged: &Result<Judgement, Refused>) -> bool
+    ensures { result ≡ is_out_of_memory (answer_of judged.now) }
+{
+    match judged {
+        Ok(_) => false,
+        Err(refused) => refused.refusal == Refusal::Memory,
     }
 }
 
@@ -104,9 +118,7 @@ fn asked<T: Told, L: Ledger, M: Ledger>(
 {
     let mut checks = AskingChecks::<T, L, M>::new(alloc, table, first, second);
     let judged = case.judge(alloc, &mut checks);
-    if let Err(refused) = judged
-        && refused.refusal == Refusal::Memory
-    {
+    if ran_out(&judged) {
         return Err(AllocError);
     }
     checks.into_asks()

@@ -1,16 +1,16 @@
-use Rattle.std.proofs.Common.{rules, ◌≡◌, subst, sym}
-use Rattle.std.specs.Prelude.{None, Some, Ok}
+use Rattle.std.proofs.Common.{rules, ◌≡◌, ◌<◌, false, inl, subst, sym, ◌∙◌}
+use Rattle.std.specs.Prelude.{Some, None, Ok}
 use Rattle.definitions.specs.Limits.{pointer_limit}
 use Rattle.answer_judge_facts.specs.Asked.{is_candidate}
-use Rattle.answer_judge_facts.specs.Judging.{answer_of}
-use Rattle.answer_judge_octets.specs.Asking.{PassesLacking}
+use Rattle.answer_judge_facts.specs.Judging.{answer_of, verifications_of}
+use Rattle.answer_judge_octets.specs.Asking.{PassesLacking, due_by, is_out_of_memory}
 use Rattle.answer_judge_octets.specs.Table.{answers_of, passes_in, tried}
 use Rattle.answer_judge_octets.proofs.HonestTable.{stays_honest}
-use Rattle.answer_judge_octets.proofs.LackingTried.{one_stands}
+use Rattle.answer_judge_octets.proofs.LackingTried.{counted, one_due, one_stands}
 use Rattle.answer_judge_octets.proofs.judging.judged.Goals as goal
 
-pub returns-in-None : goal.returns-in-None
-returns-in-None g c =
+pub returns-in_default : goal.returns-in_default
+returns-in_default g c =
     let said = c.judge-judged.ensures in
     let none : c.judge-judged.new.checks.lacking ≡ None = search rules in
     record {
@@ -18,14 +18,20 @@ returns-in-None g c =
       honest = λ passes true_are. stays_honest (passes_in g.T.Told.table) passes true_are pointer_limit c.args.case.now (answer_of c.judge-judged.result) said.honest;
     }
 
-pub returns-in_ok-one_ask-in-Some : goal.returns-in_ok-one_ask-in-Some
-returns-in_ok-one_ask-in-Some g c =
-    let candidate = is_candidate (answers_of g.T.Told.table) pointer_limit c.args.case.now in
+pub returns : goal.returns
+returns g c =
+    let table = g.T.Told.table in
+    let e = c.judge-judged.ensures in
+    let candidate = is_candidate (answers_of table) pointer_limit c.args.case.now in
     let lacking : c.judge-judged.new.checks.lacking ≡ Some (Ok c.in-Some.ask) = search rules in
-    let passes = c.judge-judged.ensures.asked candidate (λ key octets signature h. h) (subst (λ l. PassesLacking l candidate) (sym c.new-checks.ensures.lacking) tt) in
+    let passes = e.asked candidate (λ key octets signature h. h) (subst (λ l. PassesLacking l candidate) (sym c.new-checks.ensures.lacking) tt) in
+    let enough : is_out_of_memory (answer_of c.judge-judged.result) ≡ false = sym c.ran_out.ensures ∙ c.if-ran_out.false in
+    let due = counted (answer_of c.judge-judged.result) (verifications_of c.judge-judged.result) (due_by table c.args.case.now) enough e.counts in
+    let some : 0 < c.judge-judged.new.checks.verified = search rules in
     record {
       some = search rules;
       are_new = search rules;
-      stand = one_stands g.T.Told.table c.args.case.now c.judge-judged.new.checks.lacking c.in-Some.ask _ c.in_ok-one_ask-in-Some.ensures lacking passes;
+      stand = one_stands table c.args.case.now c.judge-judged.new.checks.lacking c.in-Some.ask _ c.in_ok-one_ask.ensures lacking passes;
       few = search rules;
+      due = inl (one_due c.judge-judged.new.checks.verified c.new-checks.result.verified (verifications_of c.judge-judged.result) (due_by table c.args.case.now) c.in-Some.ask _ c.in_ok-one_ask.ensures some e.verified c.new-checks.ensures.verified due);
     }
