@@ -34,7 +34,7 @@ OTHERS = (
 )
 CHAINS = {"names": "nsec 0 86400", "hashes": "nsec3 0 - 0 86400"}
 TOOLS = ("callgrind", "memcheck")
-DECIDE = r"deciding::judge_facts\b"
+DECIDE = r"deciding::judge_proof\b"
 
 
 def opening(owners, chain="names"):
