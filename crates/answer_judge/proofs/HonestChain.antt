@@ -22,7 +22,7 @@ use Rattle.answer_shared.specs.Accepting.{zone_with}
 use Rattle.answer_shared.specs.Served.{served_of, spelled_as}
 use Rattle.answer_shared.proofs.ZoneNaming.{chain_named, lower_name, next_name, spelled_name}
 use Rattle.answer_judge.specs.Honest.{AreOctets}
-use Rattle.answer_judge_facts.specs.Verified.{hash_spelled}
+use Rattle.answer_hash_owners.specs.HashOwner.{hash_spelled}
 use Rattle.answer_judge.proofs.GivenGroups.{SaysHashLink, said_of}
 use Rattle.answer_judge.proofs.GivenHashes.{owner_spells}
 use Rattle.answer_judge_facts.proofs.GivenSorted.{has_in}

@@ -2,11 +2,9 @@ pub mod ChainRuns
 pub mod ChainSteps
 pub mod ChainsWhole
 pub mod DataOrder
-pub mod Digits
 pub mod GivenKeys
 pub mod GivenSorted
 pub mod GroupPlaces
-pub mod HashOwners
 pub mod JudgeAsked
 pub mod JudgeCase
 pub mod JudgeCounted

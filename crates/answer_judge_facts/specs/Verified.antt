@@ -3,11 +3,9 @@ use Rattle.std.specs.Prelude.{ℕ, Bool, true, false, ◌&&◌, ◌==◌, List, 
 use Rattle.std.specs.List.{filter_map, list_any}
 use Rattle.std.specs.Option.{option_map}
 use Rattle.definitions.specs.Name.{Name, same, at_or_above}
-use Rattle.std.specs.Str.{bytes_eq, str_to_ascii_lowercase}
-use Rattle.definitions.specs.Base32hex.{base32hex}
 use Rattle.definitions.specs.Dnskey.{Dnskey}
-use Rattle.numbers.specs.Decoding.{decoded}
 use Rattle.definitions.specs.Zone.{sorted_data}
+use Rattle.answer_hash_owners.specs.HashOwner.{hash_spelled, spells_hash}
 use Rattle.answer_scheme.specs.Answers.{Answers}
 use Rattle.answer_judge_facts.specs.Facts.{is_signature, signs}
 use Rattle.denial_laws.specs.Facts.{Facts, HashLink, Link, Rrset}
@@ -74,22 +72,6 @@ link_at w k m rs r = elim (is_link w k m rs r) [ true ↦ link_of k m r | false 
 -- the links that a message proves, in order
 abbrev pub verified_links : Trusting → ℕ → List ℕ → List Spelled → List Link
 verified_links w k m rs = filter_map (link_at w k m rs) rs
-
--- the octets that a label spells in base32hex, in either case
-abbrev pub label_octets : List ℕ → List ℕ
-label_octets l = decoded (str_to_ascii_lowercase l)
-
-abbrev pub is_base32hex : List ℕ → Bool
-is_base32hex l = bytes_eq (base32hex (label_octets l)) (str_to_ascii_lowercase l)
-
--- an owner that spells a hash: one label of base32hex under the apex (RFC 5155, 3)
-abbrev pub spells_hash : Name → Name → Bool
-spells_hash apex [] = false
-spells_hash apex (l ∷ o) = same o apex && is_base32hex l
-
-abbrev pub hash_spelled : Name → List ℕ
-hash_spelled [] = []
-hash_spelled (l ∷ o) = label_octets l
 
 -- SHA-1, and no flag but that of opt-out: other records are as if they weren't there (RFC 5155, 8.1 and 8.2)
 abbrev pub is_known : HashedNext → Bool

@@ -18,12 +18,12 @@ ghost use Rattle.answer_judge_facts.specs.KeyOrder.{Ranks};
 ghost use Rattle.answer_judge_facts.specs.Ranked.{AreRanked, IsRun, alike_len, are_alike, chain_cmp, run_data};
 
 use crate::groups::{Group, is_chain_type, place_of, read_group, verify_groups};
-use crate::hash_owner::{hash_spelled, spells_hash};
 use crate::order::sort_data;
 use crate::times::are_unlike;
 use crate::trust::Trust;
 use crate::verdict::DataList;
 use crate::verifier::Verifier;
+use answer_hash_owners::owner::{hash_spelled, spells_hash};
 use answer_judge_rules::decide::{Facts, HashLink, Link, Rrset};
 use answer_scheme::checks::Checks;
 use messages::names::{Name, ToName, cow_name, is_at_or_above};

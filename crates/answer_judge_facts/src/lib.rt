@@ -3,7 +3,6 @@
 
 pub mod facts;
 pub mod groups;
-pub mod hash_owner;
 pub mod keys;
 pub mod order;
 pub mod signed_keys;

@@ -3,8 +3,8 @@
 use crate::asked::Asked;
 use crate::delegation::{KeyReason, is_usable};
 use crate::recording::Tried;
+use answer_hash_owners::owner::spells_hash;
 use answer_judge_facts::groups::{Signature, is_chain_type, read_group};
-use answer_judge_facts::hash_owner::spells_hash;
 use answer_judge_facts::keys::TaggedKey;
 use answer_judge_facts::order::sort_data;
 use denial_data::Timestamp;

@@ -1,11 +1,11 @@
-//! Owners of NSEC3 records (RFC 5155, 3).
+//! Which owners spell a hash, and which one (RFC 5155, 3).
 ghost use Rattle.std.specs.Prelude.{◌≡◌, ◌<◌, true, false, IfOk, MatchOption, length};
 ghost use Rattle.std.specs.Char.{to_ascii_lowercase};
 ghost use Rattle.std.specs.List.{list_all};
 ghost use Rattle.std.specs.Str.{str_to_ascii_lowercase};
 ghost use Rattle.definitions.specs.Base32hex.{base32hex};
 ghost use Rattle.numbers.specs.Decoding.{is_digit, value};
-ghost use Rattle.answer_judge_facts.specs.Verified.{hash_spelled, is_base32hex, label_octets, spells_hash};
+ghost use Rattle.answer_hash_owners.specs.HashOwner.{hash_spelled, is_base32hex, label_octets, spells_hash};
 
 use messages::Owner;
 use messages::names::{Name, ToName};
