@@ -1,5 +1,5 @@
 -- What is refused ahead of a replacement's memory is what the replacement would be refused for.
-use Rattle.std.proofs.Common.{◌≡◌, ℕ, Bool, true, false, List, refl, sym, ap, subst, ◌∙◌, inl, inr}
+use Rattle.std.proofs.Common.{◌≡◌, ℕ, Bool, true, false, List, refl, sym, subst, inr}
 use Rattle.std.specs.Prelude.{Option, Some, None, if◌then◌else◌}
 use Rattle.std.specs.Option.{option_map}
 use Rattle.std.specs.List.{list_any}
@@ -11,7 +11,7 @@ use Rattle.messages.proofs.Lists.{some_is}
 use Rattle.answer_shared.specs.Accepting.{delegates_star, is_added_by_signing, is_alias, is_of_other_class, is_outside, over_limit}
 use Rattle.answer_shared.specs.Hashing.{Hasher}
 use Rattle.answer_shared.specs.ZoneView.{AcceptedZone}
-use Rattle.answer_zone_records.specs.Faults.{IsFault, RefusesZone, first_fault}
+use Rattle.answer_zone_records.specs.Faults.{IsFault, first_fault}
 use Rattle.answer_zone_records.specs.declared.fault.ZoneFault.{ZoneFault}
 use Rattle.answer_zone_records.specs.declared.fault.ZoneFault.TheVariants as fault
 use Rattle.answer_publisher.specs.Replacing.{RefusesReplacement, is_too_soon, refused_ahead}

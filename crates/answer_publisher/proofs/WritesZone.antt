@@ -4,14 +4,14 @@ use Rattle.std.specs.Prelude.{Option, Some, None, ◌||◌}
 use Rattle.std.specs.List.{AllByRecursion, AllZip, filter, list_any}
 use Rattle.std.proofs.lemmas.Bool.{and_parts, eqb-true}
 use Rattle.messages.proofs.ZoneNames.{low-low, same_labels}
-use Rattle.definitions.specs.Name.{Name, IsName, labels_eq, low, name_cmp, same}
+use Rattle.definitions.specs.Name.{Name, IsName, labels_eq, low, same}
 use Rattle.definitions.specs.Bitmap.{bitmap}
 use Rattle.definitions.specs.Dnskey.{Dnskey}
-use Rattle.definitions.specs.Zone.{Verdict, Records, NoType, NoName, StarRecords, StarNoType, Delegated, Open, Unsigned, ce, cut, data_at, has, is_kept, kept_owners, owner_of, owners, star_under, verdict}
+use Rattle.definitions.specs.Zone.{Verdict, Records, NoType, NoName, StarRecords, StarNoType, Delegated, Open, Unsigned, ce, cut, data_at, has, star_under, verdict}
 use Rattle.definitions.specs.ZoneChain.{Mode, Nsec, Nsec3, nsec_names, nsec_next, nsec_types, optout_of, parameters_of}
 use Rattle.definitions.proofs.BitmapLaws.{spells_set}
 use Rattle.messages.specs.HandedRr.{HandedRr, is_meta}
-use Rattle.answer_shared.specs.Accepting.{rr_of, zone_with}
+use Rattle.answer_shared.specs.Accepting.{zone_with}
 use Rattle.messages.specs.Handed.{AreHanded, IsHanded}
 use Rattle.answer_shared.specs.GroupView.{all_spelled_by, spelled_by}
 use Rattle.answer_shared.specs.Served.{Group, Served, ahead, ahead_open, answer_groups, chain_names, chain_record, chain_ttl, if_any, key_data, key_group, owned_by, owner_among, proofs_of, rrset, served_of, served_owner, soa, speaks_for, spelled_among, spoken, ttl_among, under, unsigned_ns, written_among, written_of_handed, written_rr}
@@ -22,9 +22,9 @@ use Rattle.answer_publisher.proofs.WritesGroups.{IsFormed}
 use Rattle.answer_publisher.proofs.WritesHashes.{chain_is_read}
 use Rattle.answer_shared.proofs.ZoneCutNames.{ce_lower, cut_lower, cut_name}
 use Rattle.answer_publisher.proofs.WritesRecords.{ReadsAs, ReadsRecord}
-use Rattle.answer_shared.proofs.ZoneNaming.{all_filter, chain_named, chain_small, either, first_name, lower_name, next_name, owner_name, owner_names, spelled_name, ttl_small}
+use Rattle.answer_shared.proofs.ZoneNaming.{all_filter, chain_named, chain_small, either, first_name, lower_name, next_name, owner_name, spelled_name, ttl_small}
 use Rattle.answer_shared.proofs.ZoneData.{data_are, low-owner_among, low-spelled_among}
-use Rattle.messages.proofs.Lists.{all_more, all_sorted, map-map}
+use Rattle.messages.proofs.Lists.{all_more, map-map}
 
 -- records that keep their owners stand under that of the RRset, up to case
 abbrev NamesIt : Bool → Group → Name → Type 0

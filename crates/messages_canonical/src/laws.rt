@@ -12,8 +12,8 @@ pub fn data_stay_in_form()
     ensures { DataStayInForm }
 {}
 
-/// NS, SOA and NSEC data that read as their type's read in canonical form, however they stand: there is nothing to write anew for
-/// them.
+/// NS, SOA and NSEC data that read as their type's read in canonical form, however they stand: there is nothing to write anew
+/// for them.
 pub fn names_are_read_so()
     ensures { NamesAreReadSo }
 {}

@@ -54,9 +54,9 @@ pub fn canonical_message(alloc: Global, bytes: &[u8]) -> Result<Vec<u8>, Canonic
     Ok(octets)
 }
 
-/// The message as whoever verifies signatures is to see it: as it was received where the data of all its records are in canonical
-/// form already, or of a type whose names are read as names (NS, SOA, RRSIG, NSEC), and where it doesn't read; else in canonical
-/// form. What was received is borrowed.
+/// The message as whoever verifies signatures is to see it: as it was received where the data of all its records are in
+/// canonical form already, or of a type whose names are read as names (NS, SOA, RRSIG, NSEC), and where it doesn't read; else
+/// in canonical form. What was received is borrowed.
 pub fn canonical_cow<'a>(alloc: Global, bytes: &'a [u8]) -> Result<CowSlice<'a, u8>, CanonicalError>
     ensures ok { IfOk result (λ o. IsInForm bytes.now (cow_slice_items o)) }
     ensures none { IfErr result (HasNoForm bytes.now) }

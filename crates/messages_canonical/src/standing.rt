@@ -34,8 +34,8 @@ pub(crate) fn has_form(
 }
 
 /// Whether data of a type, by themselves, are signed alike by every signer: names in them stand in full and in lower case, or,
-/// as those of NS, SOA, RRSIG and NSEC data, are read as names by whoever makes signed octets of them (RFC 4034, 6.2). Signatures
-/// that are made over other data as they stand verify nowhere else.
+/// as those of NS, SOA, RRSIG and NSEC data, are read as names by whoever makes signed octets of them (RFC 4034, 6.2).
+/// Signatures that are made over other data as they stand verify nowhere else.
 pub fn is_data_in_form(alloc: Global, rtype: Rtype, octets: &[u8]) -> Result<bool, AllocError>
     ensures { IfOk result (λ b. b ≡ has_form rtype octets.now) }
 {

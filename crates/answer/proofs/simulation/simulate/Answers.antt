@@ -4,7 +4,7 @@ use Rattle.answer_zone.specs.HashedZone.{accepted_zone}
 use Rattle.answer_shared.specs.ModeView.{mode_of}
 use Rattle.messages.specs.HandedRr.{HandedRr, handed_of}
 use Rattle.answer.specs.Running.{sofar}
-use Rattle.answer_laws.specs.Simulating.{begin, now_in, with_records}
+use Rattle.answer_laws.specs.Simulating.{begin, with_records}
 use Rattle.answer_laws.specs.Simulations.{IsSimulation}
 use Rattle.answer_publisher.specs.World.{World, world}
 use Rattle.answer.proofs.SimulateLoop.{step_on, step_at, at_end}

@@ -5,7 +5,7 @@ use Rattle.keyset.specs.KeyState.{Answer, Reference, text_of, is_available}
 use Rattle.answer_publisher_keys.specs.Bindings.{BoundKey, Outcome, bind, dnskey_for, is_bound_away}
 use Rattle.answer_publisher_keys.specs.KeyCalls.{Gives, IsFree}
 use Rattle.answer_publisher.specs.World.{digests}
-use Rattle.answer_publisher_keys.proofs.AddProofs.{applied, free_applied, loosened, taking}
+use Rattle.answer_publisher_keys.proofs.AddProofs.{applied, loosened, taking}
 use Rattle.answer_publisher.proofs.publishing.Publisher.add_key.Goals as goal
 
 -- the key set takes the key beside its digest

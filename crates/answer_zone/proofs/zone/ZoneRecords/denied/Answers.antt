@@ -10,30 +10,24 @@ use Rattle.answer_zone.proofs.Failures.{if_err_map}
 use Rattle.answer_zone.proofs.Spoken.{denied_hashes, denied_names}
 use Rattle.answer_zone.proofs.zone.ZoneRecords.denied.Goals as goal
 
-pub returns-in-Nsec-clause-answer : goal.returns-in-Nsec-clause-answer
-returns-in-Nsec-clause-answer g c =
+pub returns-in-Nsec : goal.returns-in-Nsec
+returns-in-Nsec g c =
     let z = c.args.self.now in
     let s = served_by g.H.Nsec3Hasher.hash_of z in
     let said = denied_names (zone_with z.apex z.records) z.mode (low c.args.name.now) c.args.around.now c.requires.around (sym (ap (λ z. z.mode) c.self.view_is) ∙ ap mode_of c.in-Nsec.is) in
-    if_ok_map _ _ c.missing.result (λ a h. subst (λ (qs : List Name). Holds c.args.flags [] (soa s ∷ proofs_of s qs) a) said h) c.missing.ensures.answer
-
-pub returns-in-Nsec-clause-failed : goal.returns-in-Nsec-clause-failed
-returns-in-Nsec-clause-failed g c =
-    let z = c.args.self.now in
     let hash = g.H.Nsec3Hasher.hash_of z.hasher in
-    let said = denied_names (zone_with z.apex z.records) z.mode (low c.args.name.now) c.args.around.now c.requires.around (sym (ap (λ z. z.mode) c.self.view_is) ∙ ap mode_of c.in-Nsec.is) in
-    if_err_map _ _ c.missing.result (λ e h. subst (λ (qs : List Name). IsHashFailure hash z.mode qs e) said h) c.missing.ensures.failed
+    record {
+      answer = if_ok_map _ _ c.missing.result (λ a h. subst (λ (qs : List Name). Holds c.args.flags [] (soa s ∷ proofs_of s qs) a) said h) c.missing.ensures.answer;
+      failed = if_err_map _ _ c.missing.result (λ e h. subst (λ (qs : List Name). IsHashFailure hash z.mode qs e) said h) c.missing.ensures.failed;
+    }
 
-pub returns-in-Nsec3-clause-answer : goal.returns-in-Nsec3-clause-answer
-returns-in-Nsec3-clause-answer g c =
+pub returns-in-Nsec3 : goal.returns-in-Nsec3
+returns-in-Nsec3 g c =
     let z = c.args.self.now in
     let s = served_by g.H.Nsec3Hasher.hash_of z in
     let said = denied_hashes (zone_with z.apex z.records) z.mode (low c.args.name.now) c.args.around.now c.in-Nsec3.iterations c.in-Nsec3.salt c.in-Nsec3.opt_out c.requires.around (sym (ap (λ z. z.mode) c.self.view_is) ∙ ap mode_of c.in-Nsec3.is) in
-    if_ok_map _ _ c.missing-in-Nsec3.result (λ a h. subst (λ (qs : List Name). Holds c.args.flags [] (soa s ∷ proofs_of s qs) a) said h) c.missing-in-Nsec3.ensures.answer
-
-pub returns-in-Nsec3-clause-failed : goal.returns-in-Nsec3-clause-failed
-returns-in-Nsec3-clause-failed g c =
-    let z = c.args.self.now in
     let hash = g.H.Nsec3Hasher.hash_of z.hasher in
-    let said = denied_hashes (zone_with z.apex z.records) z.mode (low c.args.name.now) c.args.around.now c.in-Nsec3.iterations c.in-Nsec3.salt c.in-Nsec3.opt_out c.requires.around (sym (ap (λ z. z.mode) c.self.view_is) ∙ ap mode_of c.in-Nsec3.is) in
-    if_err_map _ _ c.missing-in-Nsec3.result (λ e h. subst (λ (qs : List Name). IsHashFailure hash z.mode qs e) said h) c.missing-in-Nsec3.ensures.failed
+    record {
+      answer = if_ok_map _ _ c.missing-in-Nsec3.result (λ a h. subst (λ (qs : List Name). Holds c.args.flags [] (soa s ∷ proofs_of s qs) a) said h) c.missing-in-Nsec3.ensures.answer;
+      failed = if_err_map _ _ c.missing-in-Nsec3.result (λ e h. subst (λ (qs : List Name). IsHashFailure hash z.mode qs e) said h) c.missing-in-Nsec3.ensures.failed;
+    }

@@ -21,8 +21,8 @@ use Rattle.answer_zone.proofs.Placing.{exists_here, has_owned, none_strictly, un
 use Rattle.answer_zone.proofs.Verdicts.{answers, apex_exists, encloser_there, lacks_type, left_open, no_name, no_record, not_referred, owner_inside, star_no_type, star_records}
 use Rattle.answer_zone.proofs.zone.ZoneRecords.open_own_answer.Goals as goal
 
-pub returns-then-stands-clause-answer : goal.returns-then-stands-clause-answer
-returns-then-stands-clause-answer g c =
+pub returns-then-stands : goal.returns-then-stands
+returns-then-stands g c =
     let apex = c.args.self.now.apex in
     let rs = c.args.self.now.records in
     let mode = c.args.self.now.mode in
@@ -38,27 +38,15 @@ returns-then-stands-clause-answer g c =
     let uncut = not_referred z (low q) t (soa s ∷ []) (unsigned_ns s) c.requires.own.0 (cut z (low q)) refl in
     let none : has z (low q) t ≡ false = false_from_ne_true (has z (low q) t) (λ h. no_record z (optout_of mode) q t c.requires.own.0 c.requires.open (owner_inside apex rs c.keeps.ensures.published.inside q t h) h) in
     let said = lacks_type z q t c.requires.own.0 (stood ∙ sym c.stands.ensures ∙ c.if-stands.true) none in
-    if_ok_map (Holds 33792 [] rest) (AnswersAs s q t) c.open_missing.result
-    (λ a h. answers s q t NoType [] rest a said refl (groups_open_missing apex mode hash rs q t NoType refl uncut whole said) h)
-    c.open_missing.ensures.answer
+    record {
+      answer = if_ok_map (Holds 33792 [] rest) (AnswersAs s q t) c.open_missing.result
+        (λ a h. answers s q t NoType [] rest a said refl (groups_open_missing apex mode hash rs q t NoType refl uncut whole said) h)
+        c.open_missing.ensures.answer;
+      failed = if_err_map _ _ c.open_missing.result (λ f h. subst (λ (qs : List Name). IsHashFailure answers_of mode qs f) (sym (ap (spoken s (low q)) whole)) h) c.open_missing.ensures.failed;
+    }
 
-pub returns-then-stands-clause-failed : goal.returns-then-stands-clause-failed
-returns-then-stands-clause-failed g c =
-    let apex = c.args.self.now.apex in
-    let rs = c.args.self.now.records in
-    let mode = c.args.self.now.mode in
-    let answers_of = g.H.Nsec3Hasher.hash_of c.args.self.now.hasher in
-    let hash = hash_in answers_of mode in
-    let s = served_of apex mode hash rs in
-    let q = c.args.name.now in
-    let t = c.args.rtype in
-    let z = zone_with apex rs in
-    let stood = exists_here apex rs q (none_strictly z (low q) (low-low q) c.requires.own.1) in
-    let whole = left_open z (optout_of mode) q t c.requires.open in
-    if_err_map _ _ c.open_missing.result (λ f h. subst (λ (qs : List Name). IsHashFailure answers_of mode qs f) (sym (ap (spoken s (low q)) whole)) h) c.open_missing.ensures.failed
-
-pub returns-then-not-expands-clause-answer : goal.returns-then-not-expands-clause-answer
-returns-then-not-expands-clause-answer g c =
+pub returns-then-not-expands : goal.returns-then-not-expands
+returns-then-not-expands g c =
     let apex = c.args.self.now.apex in
     let rs = c.args.self.now.records in
     let mode = c.args.self.now.mode in
@@ -78,27 +66,15 @@ returns-then-not-expands-clause-answer g c =
     let x = apex_exists apex rs c.keeps.ensures.published.soa in
     let none : (at_or_above (low apex) (low q) && exists z star) ≡ false = (λ i. above-low apex q i && exists z (sym is i)) ∙ sym c.expands.ensures ∙ c.if-not-expands.true in
     let said = no_name z x q t c.requires.own.0 gone none in
-    if_ok_map (Holds 33795 [] rest) (AnswersAs s q t) c.open_missing-then-not-expands.result
-    (λ a h. answers s q t NoName [] rest a said refl (groups_open_missing apex mode hash rs q t NoName refl uncut whole said) h)
-    c.open_missing-then-not-expands.ensures.answer
+    record {
+      answer = if_ok_map (Holds 33795 [] rest) (AnswersAs s q t) c.open_missing-then-not-expands.result
+        (λ a h. answers s q t NoName [] rest a said refl (groups_open_missing apex mode hash rs q t NoName refl uncut whole said) h)
+        c.open_missing-then-not-expands.ensures.answer;
+      failed = if_err_map _ _ c.open_missing-then-not-expands.result (λ f h. subst (λ (qs : List Name). IsHashFailure answers_of mode qs f) (sym (ap (spoken s (low q)) whole)) h) c.open_missing-then-not-expands.ensures.failed;
+    }
 
-pub returns-then-not-expands-clause-failed : goal.returns-then-not-expands-clause-failed
-returns-then-not-expands-clause-failed g c =
-    let apex = c.args.self.now.apex in
-    let rs = c.args.self.now.records in
-    let mode = c.args.self.now.mode in
-    let answers_of = g.H.Nsec3Hasher.hash_of c.args.self.now.hasher in
-    let hash = hash_in answers_of mode in
-    let s = served_of apex mode hash rs in
-    let q = c.args.name.now in
-    let t = c.args.rtype in
-    let z = zone_with apex rs in
-    let stood = exists_here apex rs q (none_strictly z (low q) (low-low q) c.requires.own.1) in
-    let whole = left_open z (optout_of mode) q t c.requires.open in
-    if_err_map _ _ c.open_missing-then-not-expands.result (λ f h. subst (λ (qs : List Name). IsHashFailure answers_of mode qs f) (sym (ap (spoken s (low q)) whole)) h) c.open_missing-then-not-expands.ensures.failed
-
-pub returns-then-has-clause-answer : goal.returns-then-has-clause-answer
-returns-then-has-clause-answer g c =
+pub returns-then-has : goal.returns-then-has
+returns-then-has g c =
     let apex = c.args.self.now.apex in
     let rs = c.args.self.now.records in
     let mode = c.args.self.now.mode in
@@ -122,28 +98,16 @@ returns-then-has-clause-answer g c =
     let said = star_records z x q t c.requires.own.0 gone both.0 both.1 there in
     let e = encloser_there z x q t c.requires.own.0 gone both.0 in
     let names = own.spoken z mode (low q) Open in
-    if_ok_map (Holds 33792 (expanded s (low c.in_ok-star.star) q t) (proofs_of s names)) (AnswersAs s q t) c.open_expanded.result
-    (λ a h. answers s q t (StarRecords ds) (expanded s star q t) (proofs_of s names) a said refl (groups_open_expanded apex mode hash rs q t (kept_ancestor z false (low q)) ds whole said e)
-    (subst (λ n. Holds 33792 (expanded s n q t) (proofs_of s names) a) is h))
-    c.open_expanded.ensures.answer
+    record {
+      answer = if_ok_map (Holds 33792 (expanded s (low c.in_ok-star.star) q t) (proofs_of s names)) (AnswersAs s q t) c.open_expanded.result
+        (λ a h. answers s q t (StarRecords ds) (expanded s star q t) (proofs_of s names) a said refl (groups_open_expanded apex mode hash rs q t (kept_ancestor z false (low q)) ds whole said e)
+        (subst (λ n. Holds 33792 (expanded s n q t) (proofs_of s names) a) is h))
+        c.open_expanded.ensures.answer;
+      failed = if_err_map _ _ c.open_expanded.result (λ f h. subst (λ (qs : List Name). IsHashFailure answers_of mode qs f) (sym (ap (spoken s (low q)) whole)) h) c.open_expanded.ensures.failed;
+    }
 
-pub returns-then-has-clause-failed : goal.returns-then-has-clause-failed
-returns-then-has-clause-failed g c =
-    let apex = c.args.self.now.apex in
-    let rs = c.args.self.now.records in
-    let mode = c.args.self.now.mode in
-    let answers_of = g.H.Nsec3Hasher.hash_of c.args.self.now.hasher in
-    let hash = hash_in answers_of mode in
-    let s = served_of apex mode hash rs in
-    let q = c.args.name.now in
-    let t = c.args.rtype in
-    let z = zone_with apex rs in
-    let stood = exists_here apex rs q (none_strictly z (low q) (low-low q) c.requires.own.1) in
-    let whole = left_open z (optout_of mode) q t c.requires.open in
-    if_err_map _ _ c.open_expanded.result (λ f h. subst (λ (qs : List Name). IsHashFailure answers_of mode qs f) (sym (ap (spoken s (low q)) whole)) h) c.open_expanded.ensures.failed
-
-pub returns-clause-answer : goal.returns-clause-answer
-returns-clause-answer g c =
+pub returns : goal.returns
+returns g c =
     let apex = c.args.self.now.apex in
     let rs = c.args.self.now.records in
     let mode = c.args.self.now.mode in
@@ -164,24 +128,12 @@ returns-clause-answer g c =
     let both = and_parts (at_or_above (low apex) (low q)) (exists z star) ((λ i. above-low apex q i && exists z (sym is i)) ∙ sym c.expands.ensures ∙ c.if-not-expands.false) in
     let none : has z star t ≡ false = ap (λ n. has z n t) (sym is) ∙ sym (c.has.ensures ∙ ap (list_any (is_of_type t)) c.owned-wild.ensures ∙ has_owned apex rs c.in_ok-star.star t) ∙ c.if-has.false in
     let said = star_no_type z x q t c.requires.own.0 gone both.0 both.1 none in
-    if_ok_map (Holds 33792 [] rest) (AnswersAs s q t) c.open_missing-2.result
-    (λ a h. answers s q t StarNoType [] rest a said refl (groups_open_missing apex mode hash rs q t StarNoType refl uncut whole said) h)
-    c.open_missing-2.ensures.answer
-
-pub returns-clause-failed : goal.returns-clause-failed
-returns-clause-failed g c =
-    let apex = c.args.self.now.apex in
-    let rs = c.args.self.now.records in
-    let mode = c.args.self.now.mode in
-    let answers_of = g.H.Nsec3Hasher.hash_of c.args.self.now.hasher in
-    let hash = hash_in answers_of mode in
-    let s = served_of apex mode hash rs in
-    let q = c.args.name.now in
-    let t = c.args.rtype in
-    let z = zone_with apex rs in
-    let stood = exists_here apex rs q (none_strictly z (low q) (low-low q) c.requires.own.1) in
-    let whole = left_open z (optout_of mode) q t c.requires.open in
-    if_err_map _ _ c.open_missing-2.result (λ f h. subst (λ (qs : List Name). IsHashFailure answers_of mode qs f) (sym (ap (spoken s (low q)) whole)) h) c.open_missing-2.ensures.failed
+    record {
+      answer = if_ok_map (Holds 33792 [] rest) (AnswersAs s q t) c.open_missing-2.result
+        (λ a h. answers s q t StarNoType [] rest a said refl (groups_open_missing apex mode hash rs q t StarNoType refl uncut whole said) h)
+        c.open_missing-2.ensures.answer;
+      failed = if_err_map _ _ c.open_missing-2.result (λ f h. subst (λ (qs : List Name). IsHashFailure answers_of mode qs f) (sym (ap (spoken s (low q)) whole)) h) c.open_missing-2.ensures.failed;
+    }
 
 pub expands-requires-clause-uncut : goal.expands-requires-clause-uncut
 expands-requires-clause-uncut g c = λ inside.

@@ -34,8 +34,8 @@ returns-then-has-clause-answer g c =
     let whole = closed z (optout_of mode) q t c.requires.told ∙ said in
     answers s q t (Records ds) (under q (rrset s (low q) t) ∷ []) [] c.in_ok-found.field-0 said refl (groups_found apex mode hash rs q t ds whole) c.in_ok-found.ensures
 
-pub returns-then-stands-clause-answer : goal.returns-then-stands-clause-answer
-returns-then-stands-clause-answer g c =
+pub returns-then-stands : goal.returns-then-stands
+returns-then-stands g c =
     let apex = c.args.self.now.apex in
     let rs = c.args.self.now.records in
     let mode = c.args.self.now.mode in
@@ -50,27 +50,12 @@ returns-then-stands-clause-answer g c =
     let there : exists z (low q) ≡ true = stood ∙ sym c.stands.ensures ∙ c.if-stands.true in
     let said = lacks_type z q t c.requires.own.0 there none in
     let whole = closed z (optout_of mode) q t c.requires.told ∙ said in
-    if_ok_map (Holds 33792 [] (soa s ∷ proofs_of s (low q ∷ []))) (AnswersAs s q t) c.missing.result
-    (λ a h. answers s q t NoType [] (soa s ∷ proofs_of s (low q ∷ [])) a said refl (groups_without_type apex mode hash rs q t whole) h)
-    c.missing.ensures.answer
-
-pub returns-then-stands-clause-failed : goal.returns-then-stands-clause-failed
-returns-then-stands-clause-failed g c =
-    let apex = c.args.self.now.apex in
-    let rs = c.args.self.now.records in
-    let mode = c.args.self.now.mode in
-    let answers_of = g.H.Nsec3Hasher.hash_of c.args.self.now.hasher in
-    let hash = hash_in answers_of mode in
-    let s = served_of apex mode hash rs in
-    let q = c.args.name.now in
-    let t = c.args.rtype in
-    let z = zone_with apex rs in
-    let stood = exists_here apex rs q (none_strictly z (low q) (low-low q) c.requires.own.1) in
-    let none : has z (low q) t ≡ false = sym (c.has.ensures ∙ ap (list_any (is_of_type t)) c.requires.owned ∙ has_owned apex rs q t) ∙ c.if-has.false in
-    let there : exists z (low q) ≡ true = stood ∙ sym c.stands.ensures ∙ c.if-stands.true in
-    let said = lacks_type z q t c.requires.own.0 there none in
-    let whole = closed z (optout_of mode) q t c.requires.told ∙ said in
-    if_err_map _ _ c.missing.result (λ e h. subst (λ (qs : List Name). IsHashFailure answers_of mode qs e) (sym (ap (spoken s (low q)) whole)) h) c.missing.ensures.failed
+    record {
+      answer = if_ok_map (Holds 33792 [] (soa s ∷ proofs_of s (low q ∷ []))) (AnswersAs s q t) c.missing.result
+        (λ a h. answers s q t NoType [] (soa s ∷ proofs_of s (low q ∷ [])) a said refl (groups_without_type apex mode hash rs q t whole) h)
+        c.missing.ensures.answer;
+      failed = if_err_map _ _ c.missing.result (λ e h. subst (λ (qs : List Name). IsHashFailure answers_of mode qs e) (sym (ap (spoken s (low q)) whole)) h) c.missing.ensures.failed;
+    }
 
 pub answer_without_name-requires-clause-gone : goal.answer_without_name-requires-clause-gone
 answer_without_name-requires-clause-gone g c =
