@@ -130,7 +130,7 @@ def row(name, cells):
 
 def table(seconds, minutes):
     spent = {part: sum(used.values()) for part, used in seconds.items()}
-    lines = [f"\nThe gate took {minutes:.0f} minutes on {os.cpu_count()} processors. Minutes of one processor:\n",
+    lines = [f"\nThe gate took {minutes:.0f} minutes on {len(os.sched_getaffinity(0))} processors. Minutes of one processor:\n",
              "| crate | proof | tests | edits | all |\n|---|---|---|---|---|"]
     for crate in dict.fromkeys(crate for crate, _ in spent):
         cells = [spent.get((crate, phase), 0) for phase in PHASES]

@@ -13,7 +13,8 @@ use Rattle.answer_shared.specs.Made.{HandedOut, made}
 use Rattle.answer_shared.specs.Served.{Served}
 use Rattle.answer_judge_facts.specs.Judging.{keys_in}
 use Rattle.answer_judge_facts.specs.Verified.{datum_of, rrset_in}
-use Rattle.answer_judge.specs.Honest.{AreOctets, AtAllIsEnough, WasSigned, covered_in, over_in, rrset_there}
+use Rattle.answer_judge.specs.ForgedAtAll.{AtAllIsEnough}
+use Rattle.answer_judge.specs.Honest.{AreOctets, WasSigned, covered_in, over_in, rrset_there}
 use Rattle.answer_judge.proofs.GivenLists.{contained_has, has_contained}
 use Rattle.answer_judge.proofs.HonestKeys.{keys_read}
 use Rattle.answer_judge.proofs.HonestMade.{IsMade, is_made}

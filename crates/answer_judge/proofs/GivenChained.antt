@@ -18,7 +18,7 @@ use Rattle.answer_shared.specs.Told.{TellsGroups, AreRecords, AreSignatures, Tel
 use Rattle.answer_judge_facts.specs.Judged.{is_chained, keys_of, trusting}
 use Rattle.answer_judge_facts.specs.Judging.{Handing, key_at, keys_in}
 use Rattle.answer_shared.specs.EqualTags.{has_equal_tags}
-use Rattle.answer_judge.specs.Meeting.{HasDs, IsZoneKey, WasGiven}
+use Rattle.answer_judge.specs.Meeting.{HasDs, WasGiven}
 use Rattle.messages.specs.Message.{Spelled, data_of}
 use Rattle.answer_shared.specs.Served.{Group, by_tag, key_group}
 use Rattle.answer_judge_facts.specs.Verified.{Trusting, is_verified}
@@ -27,7 +27,7 @@ use Rattle.answer_judge.proofs.GivenLists.{has_contained}
 use Rattle.answer_judge.proofs.GivenNext.{canonical_octets}
 use Rattle.answer_judge.proofs.GivenSignatures.{IsSignedBy, fits_equal, verified_given}
 use Rattle.answer_judge_facts.proofs.GivenSorted.{all_has, data_has, some_length, sorted_from, sorted_twice}
-use Rattle.messages.proofs.Lists.{Has, all_at, all_more, any_from}
+use Rattle.messages.proofs.Lists.{Has, all_at, any_from}
 use Rattle.messages.proofs.ZoneNames.{labels_eq-same}
 
 -- ---- the keys of a message
@@ -122,22 +122,17 @@ trusted_given a apex ds k usable has =
     let named : names_key a apex k d ≡ true = and_from _ _ (and_from _ _ (eq-eqb (key_tag k) (key_tag k) refl) (eq-eqb k.algorithm k.algorithm refl)) digests in
     and_from (is_usable k) (list_any (names_key a apex k) ds) usable (any_from (names_key a apex k) ds d (has_contained ds d has.held) named)
 
--- flags of keys that may sign
-pub small_flags : (ks : List Dnskey) → AllByRecursion IsZoneKey ks → Small ks
-small_flags ks h = all_more IsZoneKey (λ (k : Dnskey). k.flags < 65536) ks (λ k is. is.flags) h
-
 pub chained_given : (a : Answers) (k : ℕ) (h : Handing) (mode : Mode) (rs : List HandedRr) → (given : WasGiven a k h mode rs) → is_chained a k h given.keys_told.read ≡ true
 chained_given a k h mode rs given =
     let gives = given.keys_told in
     let ttl : ℕ = given.keys_ttl in
     let anchor : Dnskey = given.meet.anchor in
     let present : List Dnskey = given.present in
-    let small : Small present = small_flags present given.keys_are in
+    let small : Small present = given.flags_are in
     let keys : List Dnskey = keys_of h gives.read in
     let there : Has present anchor = has_contained present anchor given.meet.anchor_present in
-    let usable : is_usable anchor ≡ true = (all_at IsZoneKey present anchor given.keys_are there).usable in
     let ds : HasDs a h.apex h.ds anchor = all_at (HasDs a h.apex h.ds) given.parents anchor given.ds_is (has_contained given.parents anchor given.meet.at_parent) in
-    let trusted : is_trusted a h.apex h.ds anchor ≡ true = trusted_given a h.apex h.ds anchor usable ds in
+    let trusted : is_trusted a h.apex h.ds anchor ≡ true = trusted_given a h.apex h.ds anchor given.anchor_usable ds in
     let apart : has_equal_tags keys ≡ false = keys_apart a.verifies k ttl h.apex present given.keysigners given.keys_at given.life h.dnskey_bytes gives small given.present_tags in
     let kept : Has keys anchor = keys_has a.verifies k ttl h.apex present given.keysigners given.keys_at given.life h.dnskey_bytes gives small anchor there in
     let datas : map dnskey_data keys ≡ present_data present = keys_data a.verifies k ttl h.apex present given.keysigners given.keys_at given.life h.dnskey_bytes gives small in

@@ -167,41 +167,30 @@ module _ (w : Trusting) (k : ℕ) (m : List ℕ) (records : List Spelled) (apex 
     facts_behind : low_facts (verified_facts w k m records q t) ≡ own_facts z hash mode q t
     facts_behind = λ i. record { rrset = rrset_by (own_rrset z q t said) is_front.proves i; links = links_are i; hash_links = hash_links_are i }
 
-abbrev FactsTold : Trusting → ℕ → List ℕ → List Spelled → Name → Mode → (Name → List ℕ) → List HandedRr → Name → ℕ → Type 0
-FactsTold w k m records apex mode hash rs q t = low_facts (verified_facts w k m records q t) ≡ own_facts (zone_with apex rs) hash mode q t
-
-pub facts_told : (w : Trusting) (k : ℕ) (m : List ℕ) (records : List Spelled) (apex : Name) (mode : Mode) (hash : Name → List ℕ) (rs : List HandedRr) (q : Name) (t : ℕ) → IsToldBy w k m records apex mode hash rs q t → FitsRecords (zone_with apex rs) mode hash → FactsTold w k m records apex mode hash rs q t
-facts_told w k m records apex Nsec hash rs q t told fits =
+-- behind the RRsets in front stand those of its chain
+behind_told : (w : Trusting) (k : ℕ) (m : List ℕ) (records : List Spelled) (apex : Name) (mode : Mode) (hash : Name → List ℕ) (rs : List HandedRr) (q : Name) (t : ℕ) (told : IsToldBy w k m records apex mode hash rs q t) → FitsRecords (zone_with apex rs) mode hash → IsBehind apex q t (front w k m records apex mode hash rs q t told) (chain w k m records apex mode hash rs q t told) (own_links (zone_with apex rs) mode (names w k m records apex mode hash rs q t told)) (own_hash_links (zone_with apex rs) hash mode (names w k m records apex mode hash rs q t told))
+behind_told w k m records apex Nsec hash rs q t told fits =
     let f = is_front w k m records apex Nsec hash rs q t told in
-    facts_behind w k m records apex Nsec hash rs q t told
-    (names_behind apex rs q t hash (names w k m records apex Nsec hash rs q t told) (front w k m records apex Nsec hash rs q t told) f.beside f.unhashed f.alone told.servable told.apex_is told.named told.not_nsec)
-facts_told w k m records apex (Nsec3 iterations salt optout) hash rs q t told fits =
+    names_behind apex rs q t hash (names w k m records apex Nsec hash rs q t told) (front w k m records apex Nsec hash rs q t told) f.beside f.unhashed f.alone told.servable told.apex_is told.named told.not_nsec
+behind_told w k m records apex (Nsec3 iterations salt optout) hash rs q t told fits =
     let mode : Mode = Nsec3 iterations salt optout in
     let f = is_front w k m records apex mode hash rs q t told in
-    facts_behind w k m records apex mode hash rs q t told
-    (hashes_behind apex rs q t hash (names w k m records apex mode hash rs q t told) (front w k m records apex mode hash rs q t told) f.beside f.unhashed f.alone iterations salt optout fits.1 fits.0 told.not_nsec3)
+    hashes_behind apex rs q t hash (names w k m records apex mode hash rs q t told) (front w k m records apex mode hash rs q t told) f.beside f.unhashed f.alone iterations salt optout fits.1 fits.0 told.not_nsec3
 
--- no RRset of the answer is one of signatures
-pub groups_ordinary : (w : Trusting) (k : ℕ) (m : List ℕ) (records : List Spelled) (apex : Name) (mode : Mode) (hash : Name → List ℕ) (rs : List HandedRr) (q : Name) (t : ℕ) → IsToldBy w k m records apex mode hash rs q t → FitsRecords (zone_with apex rs) mode hash → AllByRecursion is_ordinary (answer_groups (served_of apex mode hash rs) q t)
-groups_ordinary w k m records apex Nsec hash rs q t told fits =
-    let f = is_front w k m records apex Nsec hash rs q t told in
-    ordinary w k m records apex Nsec hash rs q t told
-    (names_behind apex rs q t hash (names w k m records apex Nsec hash rs q t told) (front w k m records apex Nsec hash rs q t told) f.beside f.unhashed f.alone told.servable told.apex_is told.named told.not_nsec)
-groups_ordinary w k m records apex (Nsec3 iterations salt optout) hash rs q t told fits =
-    let mode : Mode = Nsec3 iterations salt optout in
-    let f = is_front w k m records apex mode hash rs q t told in
-    ordinary w k m records apex mode hash rs q t told
-    (hashes_behind apex rs q t hash (names w k m records apex mode hash rs q t told) (front w k m records apex mode hash rs q t told) f.beside f.unhashed f.alone iterations salt optout fits.1 fits.0 told.not_nsec3)
+module _ (w : Trusting) (k : ℕ) (m : List ℕ) (records : List Spelled) (apex : Name) (mode : Mode) (hash : Name → List ℕ) (rs : List HandedRr) (q : Name) (t : ℕ) (told : IsToldBy w k m records apex mode hash rs q t) (fits : FitsRecords (zone_with apex rs) mode hash) where
+  abbrev behind : IsBehind apex q t (front w k m records apex mode hash rs q t told) (chain w k m records apex mode hash rs q t told) (own_links (zone_with apex rs) mode (names w k m records apex mode hash rs q t told)) (own_hash_links (zone_with apex rs) hash mode (names w k m records apex mode hash rs q t told))
+  behind = behind_told w k m records apex mode hash rs q t told fits
 
--- each RRset of it is there once
-pub groups_alone : (w : Trusting) (k : ℕ) (m : List ℕ) (records : List Spelled) (apex : Name) (mode : Mode) (hash : Name → List ℕ) (rs : List HandedRr) (q : Name) (t : ℕ) → IsToldBy w k m records apex mode hash rs q t → FitsRecords (zone_with apex rs) mode hash → has_twins (answer_groups (served_of apex mode hash rs) q t) ≡ false
-groups_alone w k m records apex Nsec hash rs q t told fits =
-    let f = is_front w k m records apex Nsec hash rs q t told in
-    (names_behind apex rs q t hash (names w k m records apex Nsec hash rs q t told) (front w k m records apex Nsec hash rs q t told) f.beside f.unhashed f.alone told.servable told.apex_is told.named told.not_nsec).alone
-groups_alone w k m records apex (Nsec3 iterations salt optout) hash rs q t told fits =
-    let mode : Mode = Nsec3 iterations salt optout in
-    let f = is_front w k m records apex mode hash rs q t told in
-    (hashes_behind apex rs q t hash (names w k m records apex mode hash rs q t told) (front w k m records apex mode hash rs q t told) f.beside f.unhashed f.alone iterations salt optout fits.1 fits.0 told.not_nsec3).alone
+  pub facts_told : low_facts (verified_facts w k m records q t) ≡ own_facts (zone_with apex rs) hash mode q t
+  facts_told = facts_behind w k m records apex mode hash rs q t told behind
+
+  -- no RRset of the answer is one of signatures
+  pub groups_ordinary : AllByRecursion is_ordinary (answer_groups (served_of apex mode hash rs) q t)
+  groups_ordinary = ordinary w k m records apex mode hash rs q t told behind
+
+  -- each RRset of it is there once
+  pub groups_alone : has_twins (answer_groups (served_of apex mode hash rs) q t) ≡ false
+  groups_alone = behind.alone
 
 -- ---- an accepted zone
 

@@ -17,10 +17,10 @@ use Rattle.messages.specs.declared.error.MessageError.{MessageError}
 use Rattle.answer_judge_facts.specs.Judged.{judged, judged_answer, judged_messages, keys_of}
 use Rattle.answer_judge_facts.specs.Judging.{Answer, Handing, Refuses, Says, first_refusal, message_refusal, same_question}
 use Rattle.answer_shared.specs.EqualTags.{has_equal_tags}
-use Rattle.answer_judge.specs.Meeting.{HasDs, IsZoneKey, WasGiven}
+use Rattle.answer_judge.specs.Meeting.{HasDs, WasGiven}
 use Rattle.messages.specs.Message.{Asked, Message}
 use Rattle.answer_shared.specs.Served.{by_tag}
-use Rattle.answer_judge.proofs.GivenChained.{chained_given, keys_apart, keys_has, small_flags}
+use Rattle.answer_judge.proofs.GivenChained.{chained_given, keys_apart, keys_has}
 use Rattle.answer_judge_facts.proofs.GivenKeys.{by_tag-has, find_kept}
 use Rattle.answer_judge.proofs.GivenLists.{has_contained}
 use Rattle.messages.proofs.Lists.{Has, all_at}
@@ -69,7 +69,7 @@ module _ (a : Answers) (k : ℕ) (h : Handing) (mode : Mode) (rs : List HandedRr
   usable_keys = filter is_usable read_keys
 
   apart : has_equal_tags read_keys ≡ false
-  apart = keys_apart a.verifies k given.keys_ttl h.apex given.present given.keysigners given.keys_at given.life h.dnskey_bytes given.keys_told (small_flags given.present given.keys_are) given.present_tags
+  apart = keys_apart a.verifies k given.keys_ttl h.apex given.present given.keysigners given.keys_at given.life h.dnskey_bytes given.keys_told given.flags_are given.present_tags
 
   asked : (same_question given.keys_told.read.asked (question_of h.apex) && same_question given.answer_told.read.asked h.asked) ≡ true
   asked = and_from _ _ (same_asked given.keys_told.read.asked (question_of h.apex) given.keys_told.name_is given.keys_told.rtype_is given.keys_told.class_is) (same_asked given.answer_told.read.asked h.asked given.answer_told.name_is given.answer_told.rtype_is given.answer_told.class_is)
@@ -107,8 +107,8 @@ module _ (a : Answers) (k : ℕ) (h : Handing) (mode : Mode) (rs : List HandedRr
       let there : Has given.present signer = has_contained given.present signer given.meet.signer_present in
       let named : Fields = record { covered = 0; algorithm = signer.algorithm; labels = 0; ttl = 0; expiration = 0; inception = 0; tag = key_tag signer; signer = h.apex } in
       find_kept is_usable read_keys signer named apart
-      (keys_has a.verifies k given.keys_ttl h.apex given.present given.keysigners given.keys_at given.life h.dnskey_bytes given.keys_told (small_flags given.present given.keys_are) signer there)
-      (all_at IsZoneKey given.present signer given.keys_are there).usable refl refl
+      (keys_has a.verifies k given.keys_ttl h.apex given.present given.keysigners given.keys_at given.life h.dnskey_bytes given.keys_told given.flags_are signer there)
+      given.signer_usable refl refl
 
   pub signer_signs : Has (by_tag given.zonesigners) given.meet.signer
   signer_signs = by_tag-has given.zonesigners given.meet.signer given.zonesigner_tags (has_contained given.zonesigners given.meet.signer given.meet.signs_zone)

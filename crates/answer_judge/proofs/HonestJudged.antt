@@ -82,7 +82,7 @@ module _ (a : Answers) (k : ℕ) (h : Handing) (mode : Mode) (versions : List (L
       let is : IsVersion a h mode rs = version_is rs i in
       let one : length (soas h.apex (sorted_records rs)) ≡ 1 = is.accepted.soa in
       record {
-        servable = servable a.hash h.apex mode h.limit rs is.accepted;
+        servable = servable a.hash h.apex mode is.limit rs is.accepted;
         soa_there = soa_has h.apex (sorted_records rs) (omega (arith, one));
         apex_is = x.apex_is;
         handed = all_sorted IsHanded record_cmp rs is.records_are;
@@ -116,7 +116,8 @@ module _ (a : Answers) (k : ℕ) (h : Handing) (mode : Mode) (versions : List (L
       let there : Has versions rs = of_versions used.out used.there in
       let is : IsVersion a h mode rs = version_is rs there in
       let z : Zone = zone_of h.apex rs in
-      let fits : FitsRecords z mode hash = fitting a.hash z mode h.limit short is.accepted.faultless.within_limit is.accepted.chain in
+      let small : is.limit < 65536 = ⊎_elim (λ (e : is.limit ≡ h.limit). subst (λ (n : ℕ). n < 65536) (sym e) short) (λ (s : is.limit < 65536). s) is.a_limit in
+      let fits : FitsRecords z mode hash = fitting a.hash z mode is.limit small is.accepted.faultless.within_limit is.accepted.chain in
       let f : Facts = facts_of a k h said.keys said.answer in
       let version : IsKnown h.apex mode hash (sorted_records rs) = known_version rs there in
       let here : AreTrueHere h.apex mode hash (sorted_records rs) h.asked.name h.asked.rtype f =

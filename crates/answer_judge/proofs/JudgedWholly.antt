@@ -5,12 +5,13 @@ use Rattle.definitions.specs.Limits.{pointer_limit}
 use Rattle.definitions.specs.Zone.{Unsigned}
 use Rattle.answer_scheme.specs.Answers.{Answers, EachAgreeing, SignatureTest, with_test}
 use Rattle.answer_shared.specs.Asking.{is_allowed}
-use Rattle.answer_judge_facts.specs.Counted.{Counts, hashes_beyond, hashes_in_bytes, tries_beyond, tries_in_bytes}
-use Rattle.answer_judge_facts.specs.Judged.{AnswersAs, judged, judged_beyond, judged_bytes}
+use Rattle.answer_judge_facts.specs.Counted.{Counts, hashes_in_bytes, tries_in_bytes}
+use Rattle.answer_judge_facts.specs.Judged.{AnswersAs, judged, judged_bytes}
 use Rattle.answer_judge_facts.specs.Judging.{Answer, Handing, Judges, Refuses, Says, message_refusal}
 use Rattle.answer_judge_facts.specs.declared.verdict.Refusal.{Refusal}
 use Rattle.answer_judge_facts.specs.declared.verdict.Refusal.TheVariants as r
 use Rattle.answer_judge_facts.proofs.JudgeAsked.{agreed_by}
+use Rattle.answer_judge.specs.Beyond.{SaysBeyond}
 use Rattle.answer_judge.specs.Meeting.{IsJudgement}
 use Rattle.answer_judge.proofs.GivenAnswers.{answers_given}
 use Rattle.answer_judge.proofs.HonestJudged.{answers_honest}
@@ -44,22 +45,19 @@ module _ (a : Answers) (h : Handing) (short : h.limit < 65536) where
 
   -- beside a DS set that isn't empty, of an allowed question
   pub wholly : (answer : Answer) (verifications hashes : ℕ) → is_allowed h.apex h.asked ≡ true → nat_eq (length h.ds) 0 ≡ false → Judges pointer_limit h answer verifications hashes
-      → AnswersAs answer (judged_beyond a pointer_limit h) → Counts answer verifications (tries_beyond a pointer_limit h) → Counts answer hashes (hashes_beyond a pointer_limit h)
-      → IsJudgement pointer_limit a h answer verifications hashes
-  wholly answer verifications hashes p q keeps said tried hashed = whole answer verifications hashes true false p q keeps said tried hashed
+      → SaysBeyond a pointer_limit h answer verifications hashes → IsJudgement pointer_limit a h answer verifications hashes
+  wholly answer verifications hashes p q keeps (said, tried, hashed) = whole answer verifications hashes true false p q keeps said tried hashed
 
 -- beside such a DS set, what is said of both messages under each test of signatures that agrees with what was answered is said of
 -- the case
 pub each_wholly : (own was : Answers) (agrees : SignatureTest → Type 0) (h : Handing) (answer : Answer) (verifications hashes : ℕ) → h.limit < 65536 → was ≡ own
     → is_allowed h.apex h.asked ≡ true → nat_eq (length h.ds) 0 ≡ false → Judges pointer_limit h answer verifications hashes
-    → EachAgreeing was agrees (λ a. AnswersAs answer (judged_beyond a pointer_limit h)) → EachAgreeing was agrees (λ a. Counts answer verifications (tries_beyond a pointer_limit h)) → EachAgreeing was agrees (λ a. Counts answer hashes (hashes_beyond a pointer_limit h))
+    → EachAgreeing was agrees (λ a. SaysBeyond a pointer_limit h answer verifications hashes)
     → EachAgreeing own agrees (λ a. IsJudgement pointer_limit a h answer verifications hashes)
-each_wholly own was agrees h answer verifications hashes short same allowed some keeps said tried hashed test fits =
+each_wholly own was agrees h answer verifications hashes short same allowed some keeps said test fits =
     let fit = agreed_by own was test (agrees test) same fits in
     wholly (with_test own test) h short answer verifications hashes allowed some keeps
-    (subst (λ (a : Answers). AnswersAs answer (judged_beyond (with_test a test) pointer_limit h)) same (said test fit))
-    (subst (λ (a : Answers). Counts answer verifications (tries_beyond (with_test a test) pointer_limit h)) same (tried test fit))
-    (subst (λ (a : Answers). Counts answer hashes (hashes_beyond (with_test a test) pointer_limit h)) same (hashed test fit))
+    (subst (λ (a : Answers). SaysBeyond (with_test a test) pointer_limit h answer verifications hashes) same (said test fit))
 
 -- a test that agrees with checks agrees with what they are
 pub agrees_too : {C : Type 0} (agrees : C → SignatureTest → Type 0) (new now : C) (test : SignatureTest) → agrees new test → new ≡ now → agrees now test

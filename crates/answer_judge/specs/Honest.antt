@@ -1,10 +1,9 @@
 -- Messages in which nothing is forged, and what a judge says of them.
 use Rattle.std.specs.Prelude.{◌≡◌, ◌⊎◌, ℕ, ◌%◌, ◌<◌, ◌==◌, Bool, true, false, ◌&&◌, if◌then◌else◌, List, [], ◌∷◌, Contains, Some, None, Ok, Err, length, map}
 use Rattle.std.specs.List.{AllByRecursion, list_any}
-use Rattle.definitions.specs.Laws.{IsSignable}
 use Rattle.definitions.specs.Name.{Name, IsName, low}
 use Rattle.definitions.specs.Dnskey.{Dnskey, Ds, digested, dnskey_data}
-use Rattle.definitions.specs.Signing.{Fields, ascending, in_time, label_count, signed_octets}
+use Rattle.definitions.specs.Signing.{Fields, in_time, label_count, signed_octets}
 use Rattle.definitions.specs.Zone.{Verdict, sorted_data, verdict}
 use Rattle.definitions.specs.ZoneChain.{Mode, optout_of}
 use Rattle.denial_laws.specs.Truth.{NoSharedHash}
@@ -16,7 +15,7 @@ use Rattle.answer_scheme.specs.Answers.{Answers}
 use Rattle.answer_shared.specs.Accepted.{IsAccepted}
 use Rattle.answer_shared.specs.Accepting.{sorted_records, zone_of}
 use Rattle.answer_shared.specs.Hashing.{hash_in}
-use Rattle.answer_shared.specs.Made.{Content, HandedOut, OfKeys, OfZone, WasHandedOut, groups_in, made}
+use Rattle.answer_shared.specs.Made.{Content, HandedOut, OfKeys, OfZone, WasHandedOut, groups_in}
 use Rattle.answer_shared.specs.Served.{Group, Served, served_of}
 use Rattle.answer_judge_facts.specs.Facts.{is_signature}
 use Rattle.answer_judge_facts.specs.Judged.{AnswersAs, judged}
@@ -68,26 +67,6 @@ NothingForged a k now published Signed m =
     → Contains published key → 0 < length (covered_in k m read.records r f)
     → a.verifies key (over_in k m read.records r f) signature ≡ true → Signed (over_in k m read.records r f)
 
--- The same asked of all octets that a signature may be made over, one RRset of at least one record, each once and ascending, whether or
--- not it stands in the message (RFC 4034, 3.1.8.1 and 6.3); and that they are octets of a message as it was handed out. It is more
--- than is needed.
-pub record Signs (octets : List ℕ) (f : Fields) (owner : Name) (class : ℕ) (ds : List (List ℕ)) : Type 0 where
-  pub fits : IsSignable f owner class ds
-  pub rising : ascending ds ≡ true
-  pub are : octets ≡ signed_octets f owner class ds
-  pub octets_are : AreOctets octets
-
-abbrev pub NothingForgedAtAll : Answers → ℕ → ℕ → List Dnskey → List (List ℕ) → List ℕ → Type 0
-NothingForgedAtAll a k now published made m =
-    (read : Message) (r : Spelled) (f : Fields) (signature octets : List ℕ) (owner : Name) (class : ℕ) (ds : List (List ℕ)) (key : Dnskey)
-    → message k m ≡ Ok read → Contains read.records r → r.rtype ≡ 46 → rrsig_at k m r ≡ Some (f, signature) → in_time f now ≡ true
-    → Contains published key → Signs octets f owner class ds → a.verifies key octets signature ≡ true → Contains made octets
-
-abbrev pub AtAllIsEnough : Type 0
-AtAllIsEnough =
-    (a : Answers) (k now : ℕ) (published : List Dnskey) (serve : List HandedRr → Served) (apex : Name) (life : ℕ) (outs : List HandedOut) (m : List ℕ)
-    → AreOctets m → NothingForgedAtAll a k now published (made serve apex life outs) m → NothingForged a k now published (WasSigned serve apex outs) m
-
 -- Each key of the apex in a message, class IN, whose digest some DS records have, is published.
 abbrev pub NoStranger : Answers → ℕ → Name → List Dnskey → List Ds → List ℕ → Type 0
 NoStranger a k apex published ds m =
@@ -104,11 +83,13 @@ pub record IsHonest (a : Answers) (k : ℕ) (h : Handing) (published : List Dnsk
 abbrev pub served_by : Answers → Handing → Mode → List HandedRr → Served
 served_by a h mode rs = served_of h.apex mode (hash_in a.hash mode) (sorted_records rs)
 
--- Records that the zone had. The names of their chain have different hashes, and no name of the chain shares its hash with
--- another name that the question concerns.
+-- Records that the zone had, accepted within the judge's limit or another of 16 bits (RFC 5155, 3.1.3). The names of their chain
+-- have different hashes, and no name of the chain shares its hash with another name that the question concerns.
 pub record IsVersion (a : Answers) (h : Handing) (mode : Mode) (rs : List HandedRr) : Type 0 where
   pub records_are : AllByRecursion IsHanded rs
-  pub accepted : IsAccepted a.hash h.apex mode h.limit rs
+  pub limit : ℕ
+  pub a_limit : (limit ≡ h.limit) ⊎ (limit < 65536)
+  pub accepted : IsAccepted a.hash h.apex mode limit rs
   pub apart : NoSharedHash (zone_of h.apex rs) (hash_in a.hash mode) mode h.asked.name
 
 -- an answer to a question, not one of keys

@@ -1,7 +1,9 @@
 pub mod Meeting
+pub mod Beyond
 pub mod FirstSignature
 pub mod OwnFacts
 pub mod BothChains
 pub mod Honest
+pub mod ForgedAtAll
 pub mod Splices
 pub mod OwnMessages

@@ -33,11 +33,6 @@ pub record HasDs (a : Answers) (apex : Name) (ds : List Ds) (k : Dnskey) : Type 
   pub made : a.digest digest_type (digested apex k) ≡ Some digest
   pub held : Contains ds (record { tag = key_tag k; algorithm = k.algorithm; digest_type = digest_type; digest = digest })
 
--- a key that may sign for a zone, whose flags are a number of 16 bits (RFC 4034, 2.1)
-pub record IsZoneKey (k : Dnskey) : Type 0 where
-  pub flags : k.flags < 65536
-  pub usable : is_usable k ≡ true
-
 -- one key is at the parent, present, and signs the keys; one is present and signs the zone
 pub record Meet (parents present keysigners zonesigners : List Dnskey) : Type 0 where
   pub anchor : Dnskey
@@ -61,7 +56,8 @@ abbrev pub served_from : Answers → Handing → Mode → List HandedRr → Serv
 served_from a h mode rs = served a.hash (zone_from h.apex mode h.limit rs)
 
 -- What is handed in was given by the zone of these records and this chain: the DS set of the keys at the parent, a DNSKEY
--- answer, which has of the zone's records a TTL alone, and a zone answer, of keys that meet, whose signatures hold.
+-- answer, which has of the zone's records a TTL alone, and a zone answer, of keys that meet, whose signatures hold. Other keys may
+-- be present that a judge may not use.
 pub record WasGiven (a : Answers) (k : ℕ) (h : Handing) (mode : Mode) (rs : List HandedRr) : Type 0 where
   pub parents : List Dnskey
   pub present : List Dnskey
@@ -77,9 +73,11 @@ pub record WasGiven (a : Answers) (k : ℕ) (h : Handing) (mode : Mode) (rs : Li
   pub hashes : HashesHold a.hash mode (zone_of h.apex rs) h.asked.name
   pub asked_is : IsQuestion h.asked
   pub allowed : is_allowed h.apex h.asked ≡ true
-  pub keys_are : AllByRecursion IsZoneKey present
+  pub flags_are : AllByRecursion (λ key. key.flags < 65536) present
   pub ds_is : AllByRecursion (HasDs a h.apex h.ds) parents
   pub meet : Meet parents present keysigners zonesigners
+  pub anchor_usable : is_usable meet.anchor ≡ true
+  pub signer_usable : is_usable meet.signer ≡ true
   pub present_tags : has_equal_tags present ≡ false
   pub keysigner_tags : has_equal_tags keysigners ≡ false
   pub zonesigner_tags : has_equal_tags zonesigners ≡ false

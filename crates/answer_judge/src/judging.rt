@@ -3,12 +3,13 @@ ghost use Rattle.std.specs.Prelude.{◌≡◌, ◌==◌, ◌+◌, ◌++◌, ◌<
 ghost use Rattle.definitions.specs.Limits.{pointer_limit};
 ghost use Rattle.messages.specs.Questions.{asked_of};
 ghost use Rattle.messages.specs.Record.{spelled};
-ghost use Rattle.answer_judge_facts.specs.Counted.{Counts, hashes_beyond, hashes_due, tries_beyond, verifications_due};
+ghost use Rattle.answer_judge_facts.specs.Counted.{Counts, hashes_due, verifications_due};
 ghost use Rattle.messages.specs.Message.{Asked, message};
 ghost use Rattle.messages.specs.View.{Gives};
 ghost use Rattle.answer_judge_facts.specs.Facts.{RefusesFirst};
+ghost use Rattle.answer_judge.specs.Beyond.{SaysBeyond};
 ghost use Rattle.answer_judge.specs.Honest.{AnswersHonest, RefusesUntimely};
-ghost use Rattle.answer_judge_facts.specs.Judged.{judged, judged_beyond, said, AnswersAs};
+ghost use Rattle.answer_judge_facts.specs.Judged.{judged, said, AnswersAs};
 ghost use Rattle.answer_judge.specs.Meeting.{AnswersGiven, JudgesSo};
 ghost use Rattle.answer_judge_facts.specs.Judging.{Judges, answer_of, handed, verifications_of, hashes_of, is_first, message_refusal, same_question, hash_bound, verification_bound};
 ghost use Rattle.answer_shared.specs.Asking.{is_allowed};
@@ -77,9 +78,9 @@ impl<'a> Case<'a> {
     /// Whatever one version of a zone gives under keys that meet, within the times of its signatures, gets its verdict. No two
     /// messages get a verdict that no version has in which nothing is forged: no signature that holds at the moment and passes
     /// under a key that the zone published, over the RRset that it covers in its message, is over octets that were not signed,
-    /// and each key of the DNSKEY answer whose digest the DS set has is one that the zone published. For a zone that changes this
-    /// asks that signatures must be of one moment. Where no signature of the one message holds at the moment, or none of the
-    /// other, they are refused.
+    /// and each key of the DNSKEY answer whose digest the DS set has is one that the zone published. For a zone that changes
+    /// this asks that signatures must be of one moment. Where no signature of the one message holds at the moment, or none of
+    /// the other, they are refused.
     ///
     /// What is said holds under each scheme that agrees with all that `verify` answered. It is asked about candidates alone:
     /// signatures of the two messages, over RRsets there that are sought, under keys of the DNSKEY answer.
@@ -157,21 +158,15 @@ fn judge_messages<C: Checks>(
     requires none_hashed { hashes.old ≡ 0 }
     requires other { (case.now.asked.rtype == 47) ≡ false }
     requires other_too { (case.now.asked.rtype == 50) ≡ false }
-    ensures exact { EachAgreeing (C.answers verifier.old.checks.now)
+    ensures says { EachAgreeing (C.answers verifier.old.checks.now)
         (C.agrees verifier.new.checks.now)
-        (λ a. AnswersAs (said result) (judged_beyond a pointer_limit case.now)) }
-    ensures counts { EachAgreeing (C.answers verifier.old.checks.now)
-        (C.agrees verifier.new.checks.now)
-        (λ a. Counts (said result) verifier.new.count (tries_beyond a pointer_limit case.now)) }
+        (λ a. SaysBeyond a pointer_limit case.now (said result) verifier.new.count hashes.new) }
     ensures verdict { OnOk result (message_refusal pointer_limit case.now ≡ None) }
     ensures refusal { IfErr result
         (λ e. RefusesFirst e (message_refusal pointer_limit case.now)) }
     ensures bound { verifier.new.count ≤ verification_bound pointer_limit case.now }
     ensures counted { C.verified verifier.new.checks.now
         ≡ C.verified verifier.old.checks.now + verifier.new.count }
-    ensures hash_counts { EachAgreeing (C.answers verifier.old.checks.now)
-        (C.agrees verifier.new.checks.now)
-        (λ a. Counts (said result) hashes.new (hashes_beyond a pointer_limit case.now)) }
     ensures hash_bound { hashes.new ≤ hash_bound case.now }
     ensures hashed { C.hashed verifier.new.checks.now
         ≡ C.hashed verifier.old.checks.now + hashes.new }

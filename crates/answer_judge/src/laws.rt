@@ -2,7 +2,8 @@
 
 ghost use Rattle.answer_judge.specs.BothChains.{ChainsSayTheSame};
 ghost use Rattle.answer_judge.specs.FirstSignature.{SaysFirst};
-ghost use Rattle.answer_judge.specs.Honest.{AtAllIsEnough, HonestOfOneZone, NoFalseVerdict, UntimelyIsRefused};
+ghost use Rattle.answer_judge.specs.ForgedAtAll.{AtAllIsEnough};
+ghost use Rattle.answer_judge.specs.Honest.{HonestOfOneZone, NoFalseVerdict, UntimelyIsRefused};
 ghost use Rattle.answer_judge.specs.OwnFacts.{ToldFactsAreOwn};
 ghost use Rattle.answer_judge.specs.OwnMessages.{OwnAnswersAreHonest, OwnKeysAreHonest};
 ghost use Rattle.answer_judge.specs.Splices.{PlainSchemeBinds, SplicesAreHonest, ToldIsSpliced};
@@ -29,21 +30,21 @@ pub fn chains_say_the_same()
     ensures { ChainsSayTheSame }
 {}
 
-/// Of messages in which nothing is forged a judge says the verdict of a version that the zone had, or refuses, beside any DS set
-/// that isn't empty. The zone never changed, or signatures must be of one moment and at one moment the zone had one version: of
-/// records of two versions no verdict is made that neither has.
+/// Of messages in which nothing is forged a judge says the verdict of a version that the zone had, or refuses, beside any DS
+/// set that isn't empty. The zone never changed, or signatures must be of one moment and at one moment the zone had one
+/// version: of records of two versions no verdict is made that neither has.
 ///
-/// Nothing is forged where each signature that holds at the moment and passes under a key that the zone published, over the RRset
-/// that it covers in its message, is over octets that were signed in the zone's life, and where each key of the DNSKEY answer whose
-/// digest the DS set has is one that the zone published. So messages may be spliced of any answers that the zone gave, under any of its keys;
-/// signatures may be moved to other owners and made by strangers; keys of strangers may stand in the DNSKEY answer, and sign it;
-/// what is out of its times may be forged (RFC 4035, 5; RFC 5155, 8).
+/// Nothing is forged where each signature that holds at the moment and passes under a key that the zone published, over the
+/// RRset that it covers in its message, is over octets that were signed in the zone's life, and where each key of the DNSKEY
+/// answer whose digest the DS set has is one that the zone published. So messages may be spliced of any answers that the zone
+/// gave, under any of its keys; signatures may be moved to other owners and made by strangers; keys of strangers may stand in
+/// the DNSKEY answer, and sign it; what is out of its times may be forged (RFC 4035, 5; RFC 5155, 8).
 pub fn no_bytes_bring_a_false_verdict()
     ensures { NoFalseVerdict }
 {}
 
-/// Nothing is forged in a message where that is so of each signature over whichever octets it may be made of: that is more than is
-/// asked, and more than a scheme can promise whose signatures are shorter than what they are made over.
+/// Nothing is forged in a message where that is so of each signature over whichever octets it may be made of: that is more than
+/// is asked, and more than a scheme can promise whose signatures are shorter than what they are made over.
 pub fn nothing_forged_at_all_is_enough()
     ensures { AtAllIsEnough }
 {}
@@ -76,8 +77,8 @@ pub fn what_is_told_is_spliced()
     ensures { ToldIsSpliced }
 {}
 
-/// Nothing is forged in what a zone gave, whatever the scheme, its DNSKEY answers and its answers: each signature there is over the
-/// RRset that it covers.
+/// Nothing is forged in what a zone gave, whatever the scheme, its DNSKEY answers and its answers: each signature there is over
+/// the RRset that it covers.
 pub fn what_a_zone_gave_is_honest()
     ensures keys { OwnKeysAreHonest }
     ensures answers { OwnAnswersAreHonest }

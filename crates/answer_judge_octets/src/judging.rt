@@ -12,8 +12,8 @@ use std::alloc::{AllocError, Global};
 use std::marker::Brand;
 use std::sync::ledger::{Blank, Ledger};
 
-/// Judges by a table of signatures that were checked, as [`Case::judge`] does. Signatures that the table does not have are asked
-/// for, all that the judgement comes to where each of them passes.
+/// Judges by a table of signatures that were checked, as [`Case::judge`] does. Signatures that the table does not have are
+/// asked for, all that the judgement comes to where each of them passes.
 ///
 /// A caller begins with no entry, checks what is asked for in any order, puts it into its table with what came of it, and calls
 /// again: where all of it passes, no more is asked for. What is said holds whichever other signatures pass. Entries of other

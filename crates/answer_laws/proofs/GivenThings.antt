@@ -1,11 +1,12 @@
 -- Things that were shown in states of the keys were given by the zone.
 use Rattle.std.proofs.Common.{◌≡◌, ℕ, true, false, List, [], ◌∷◌, map, refl, sym, ap, ◌∙◌, inl, inr, ⊎_elim}
-use Rattle.std.specs.Prelude.{Option}
+use Rattle.std.specs.Prelude.{Contains, Option}
 use Rattle.std.specs.List.{AllByRecursion}
 use Rattle.std.specs.declared.cmp.Ordering.TheVariants.{Equal}
 use Rattle.std.specs.FinMap.{nat_cmp-IsAntisymmetric}
 use Rattle.definitions.specs.Dnskey.{Dnskey, Ds, key_tag}
 use Rattle.definitions.specs.Limits.{pointer_limit}
+use Rattle.answer_judge_facts.specs.Facts.{is_usable}
 use Rattle.answer_publisher_keys.specs.declared.keys.Publication.TheVariants as publication
 use Rattle.messages.specs.HandedRr.{HandedRr}
 use Rattle.answer_shared.specs.Accepting.{zone_of}
@@ -18,14 +19,15 @@ use Rattle.answer_publisher.specs.Publishing.{digest_at}
 use Rattle.answer_scheme.specs.Moments.{second_of}
 use Rattle.answer_shared.specs.Hashing.{HashesHold}
 use Rattle.answer_laws.specs.Simulating.{handing}
+use Rattle.answer_laws.specs.PublishedKeys.{IsKeyOfZone}
 use Rattle.answer_laws.specs.Simulations.{IsZoneOf}
 use Rattle.answer_laws.specs.Versions.{in_version}
 use Rattle.answer_publisher.specs.World.{TellsAnswer, TellsKeys, World}
 use Rattle.messages.specs.WrittenLaws.{IsQuestion}
 use Rattle.answer_judge_facts.proofs.GivenKeys.{one_of_tag}
-use Rattle.answer_judge.proofs.GivenLists.{contained_has}
+use Rattle.answer_judge.proofs.GivenLists.{contained_has, has_contained}
 use Rattle.answer_judge_facts.proofs.GivenSorted.{all_has, sorted_has}
-use Rattle.answer_laws.proofs.KeyLife.{AreBound, IsBound, all_published, published_sign}
+use Rattle.answer_laws.proofs.KeyLife.{AreBound, IsBound, all_published, published_flags, published_sign}
 use Rattle.answer_publisher_keys.proofs.KeyTags.{HasOwnTags}
 use Rattle.answer_laws.proofs.KeysMeet.{KeysMeet}
 use Rattle.answer_publisher_keys.proofs.KeyTagsPublished.{equal_tags}
@@ -93,6 +95,12 @@ parents_have_ds w keys left =
 
 -- ---- three things
 
+-- a key that is present may sign
+present_usable : (w : World) (keys : ZoneKeys) (key : Dnskey) → AreLeft w keys → Contains (dnskeys (published keys publication.Present)) key → is_usable key ≡ true
+present_usable w keys key left there =
+    let ks : List Dnskey = dnskeys (published keys publication.Present) in
+    (all_at IsKeyOfZone ks key (published_sign (digest_at w.answers.digest w.zone.apex) keys publication.Present left.bound) (has_contained ks key there)).usable
+
 -- the DS set of some keys, bytes that tell the DNSKEY answer of others, and bytes that tell an answer of a version of the zone,
 -- signed by others again
 pub given : (w : World) (rs : List HandedRr) (x y z : ZoneKeys) (keys_at answer_at at : ℕ) (key_bytes bytes : List ℕ) (asked : Asked)
@@ -114,9 +122,11 @@ given w rs x y z keys_at answer_at at key_bytes bytes asked zone left_x left_y l
   hashes = hashes;
   asked_is = is;
   allowed = allowed;
-  keys_are = published_sign (digest_at w.answers.digest w.zone.apex) y publication.Present left_y.bound;
+  flags_are = published_flags (digest_at w.answers.digest w.zone.apex) y publication.Present left_y.bound;
   ds_is = parents_have_ds w x left_x;
   meet = meets;
+  anchor_usable = present_usable w y meets.anchor left_y meets.anchor_present;
+  signer_usable = present_usable w y meets.signer left_y meets.signer_present;
   present_tags = equal_tags y publication.Present left_y.own;
   keysigner_tags = equal_tags y publication.SignsKeys left_y.own;
   zonesigner_tags = equal_tags z publication.SignsZone left_z.own;

@@ -1,5 +1,5 @@
 -- A simulation's judgements of messages in which nothing is forged.
-use Rattle.std.proofs.Common.{◌≡◌, ℕ, zero, suc, ◌<◌, true, List, [], ◌∷◌, ◌++◌, map, refl, sym, ap, subst, ◌∙◌, inl, inr}
+use Rattle.std.proofs.Common.{◌≡◌, ℕ, zero, suc, true, List, [], ◌∷◌, ◌++◌, map, refl, sym, ap, subst, ◌∙◌, inl, inr}
 use Rattle.std.specs.Prelude.{Contains, Option, Some, Ok, Err, slice_get}
 use Rattle.std.specs.List.{AllByRecursion, flat_map}
 use Rattle.std.specs.declared.result.Result.{Result}
@@ -26,7 +26,7 @@ use Rattle.answer_events.specs.Calls.{call_of}
 use Rattle.answer_scheme.specs.Moments.{second_of}
 use Rattle.answer_judge.specs.Honest.{IsVersion, OneAtATime, Settled}
 use Rattle.answer_judge_facts.specs.Judging.{Handing, answer_of, hashes_of, verifications_of}
-use Rattle.answer_judge.specs.Meeting.{IsJudgement, IsZoneKey}
+use Rattle.answer_judge.specs.Meeting.{IsJudgement}
 use Rattle.answer_judge_facts.specs.declared.verdict.Judgement.{Judgement}
 use Rattle.answer_judge_facts.specs.declared.verdict.Refused.{Refused}
 use Rattle.answer_judge.proofs.GivenLists.{contained_has, has_contained, has_left, has_right}
@@ -47,10 +47,7 @@ use Rattle.answer_laws.specs.Simulating.{JudgesBytes, JudgesThings, Shown, Sofar
 use Rattle.answer_laws.specs.ThroughRolls.{past_with}
 use Rattle.answer_laws.specs.Versions.{AreTimely, IsSettled, SaysOneHonestly, Story, Versions, first_version, in_version, replaced_by, versions_with, with_showing}
 use Rattle.answer_laws.proofs.Judgements.{IsVersionOf, answer_of_now, keys_of_now}
-use Rattle.answer_laws.proofs.KeyLife.{AreBound, apply_binds, published_sign}
-
-abbrev HasFlags : Dnskey → Type 0
-HasFlags key = key.flags < 65536
+use Rattle.answer_laws.proofs.KeyLife.{AreBound, HasFlags, apply_binds, published_flags}
 
 -- ---- published keys
 
@@ -61,8 +58,7 @@ state_flags : (w : World) (keys : ZoneKeys) → Bound w keys → AllByRecursion 
 state_flags w keys h =
     let digest = digest_at w.answers.digest w.zone.apex in
     all_joined HasFlags (dnskeys (published keys publication.AtParent)) (present_keys keys)
-    (all_more IsZoneKey HasFlags (dnskeys (published keys publication.AtParent)) (λ key is. is.flags) (published_sign digest keys publication.AtParent h))
-    (all_more IsZoneKey HasFlags (present_keys keys) (λ key is. is.flags) (published_sign digest keys publication.Present h))
+    (published_flags digest keys publication.AtParent h) (published_flags digest keys publication.Present h)
 
 all_flags : (w : World) (states : List ZoneKeys) → AllByRecursion (Bound w) states → AllByRecursion HasFlags (flat_map published_in states)
 all_flags w [] h = tt
@@ -220,6 +216,8 @@ versions_are w h asked [] a l q is apart = tt
 versions_are w h asked (rs ∷ all) a l q is apart = (
   record {
     records_are = is.0.records_are;
+    limit = h.limit;
+    a_limit = inl refl;
     accepted = subst (λ (n : Name). IsAccepted w.answers.hash n w.zone.mode h.limit rs) (sym a) (subst (λ n. IsAccepted w.answers.hash w.zone.apex w.zone.mode n rs) (sym l) is.0.accepted);
     apart = subst (λ (n : Name). NoSharedHash (zone_of n rs) (hash_in w.answers.hash w.zone.mode) w.zone.mode h.asked.name) (sym a)
         (subst (λ (x : Asked). NoSharedHash (zone_of w.zone.apex rs) (hash_in w.answers.hash w.zone.mode) w.zone.mode x.name) (sym q) apart.0);

@@ -1,12 +1,11 @@
 -- Keys that calls bind may sign a zone, and have the digest that their DS records say.
-use Rattle.std.proofs.Common.{◌≡◌, ℕ, Bool, true, false, cond, List, [], ◌∷◌, map, Option, Some, Ok, Err, refl, inl, inr, lit<}
+use Rattle.std.proofs.Common.{◌≡◌, ℕ, ◌<◌, Bool, true, false, cond, List, [], ◌∷◌, map, Option, Some, Ok, Err, refl, inl, inr, ◌⊎◌, ⊎_elim, arith}
 use Rattle.std.specs.List.{AllByRecursion, filter}
 use Rattle.definitions.specs.Dnskey.{Dnskey}
 use Rattle.answer_publisher_keys.specs.Bindings.{BoundKey, Call, Outcome, ZoneKeys, apply, dnskey_for, dnskeys, is_published, no_keys, published}
 use Rattle.answer_publisher_keys.specs.KeyTags.{behind, left}
 use Rattle.answer_publisher_keys.proofs.BoundAll.{apply_all}
 use Rattle.keyset.specs.KeyState.{Reference}
-use Rattle.answer_judge.specs.Meeting.{IsZoneKey}
 use Rattle.answer_laws.specs.PublishedKeys.{IsKeyOfZone, PublishedKeysAreOfTheZone}
 use Rattle.messages.proofs.Lists.{all_more}
 use Rattle.keyset_rolls.specs.declared.rolls.Action.{Action}
@@ -24,10 +23,10 @@ abbrev pub AreBound : (Dnskey → Option (List ℕ)) → List (Reference × Boun
 AreBound digest es = AllByRecursion (λ (e : Reference × BoundKey). IsBound digest e.1) es
 
 zone_key : (kind : KeyKind) (algorithm : ℕ) (octets : List ℕ) → IsKeyOfZone (dnskey_for kind algorithm octets)
-zone_key Ksk algorithm octets = record { flags = inr refl; protocol = refl; usable = record { flags = lit< tt; usable = refl } }
-zone_key Zsk algorithm octets = record { flags = inl refl; protocol = refl; usable = record { flags = lit< tt; usable = refl } }
-zone_key Csk algorithm octets = record { flags = inr refl; protocol = refl; usable = record { flags = lit< tt; usable = refl } }
-zone_key Include algorithm octets = record { flags = inl refl; protocol = refl; usable = record { flags = lit< tt; usable = refl } }
+zone_key Ksk algorithm octets = record { flags = inr refl; protocol = refl; usable = refl }
+zone_key Zsk algorithm octets = record { flags = inl refl; protocol = refl; usable = refl }
+zone_key Csk algorithm octets = record { flags = inr refl; protocol = refl; usable = refl }
+zone_key Include algorithm octets = record { flags = inl refl; protocol = refl; usable = refl }
 
 -- a call keeps it
 pub apply_binds : (digest : Dnskey → Option (List ℕ)) (c : Call) (now : ℕ) (s t : ZoneKeys) (acts : List Action) → AreBound digest s.bound → apply digest c now s ≡ Ok (t, acts) → AreBound digest t.bound
@@ -50,8 +49,18 @@ zone_keys digest [] h = tt
 zone_keys digest (b ∷ bs) h = (h.0.key, zone_keys digest bs h.1)
 
 -- the keys that are published may sign a zone
-pub published_sign : (digest : Dnskey → Option (List ℕ)) (s : ZoneKeys) (p : Publication) → AreBound digest s.bound → AllByRecursion IsZoneKey (dnskeys (published s p))
-published_sign digest s p h = all_more IsKeyOfZone IsZoneKey (dnskeys (published s p)) (λ k is. is.usable) (zone_keys digest (published s p) (all_published digest s p h))
+pub published_sign : (digest : Dnskey → Option (List ℕ)) (s : ZoneKeys) (p : Publication) → AreBound digest s.bound → AllByRecursion IsKeyOfZone (dnskeys (published s p))
+published_sign digest s p h = zone_keys digest (published s p) (all_published digest s p h)
+
+-- their flags are numbers of 16 bits
+abbrev pub HasFlags : Dnskey → Type 0
+HasFlags key = key.flags < 65536
+
+small_flags : (key : Dnskey) → (key.flags ≡ 256) ⊎ (key.flags ≡ 257) → HasFlags key
+small_flags key h = ⊎_elim (λ (e : key.flags ≡ 256). omega (arith, e)) (λ (e : key.flags ≡ 257). omega (arith, e)) h
+
+pub published_flags : (digest : Dnskey → Option (List ℕ)) (s : ZoneKeys) (p : Publication) → AreBound digest s.bound → AllByRecursion HasFlags (dnskeys (published s p))
+published_flags digest s p h = all_more IsKeyOfZone HasFlags (dnskeys (published s p)) (λ key is. small_flags key is.flags) (published_sign digest s p h)
 
 -- ---- whatever calls are behind them
 
@@ -66,4 +75,4 @@ behind_binds digest s (c ∷ cs) h = behind_binds digest (left s (apply digest c
 pub keys_of_the_zone : PublishedKeysAreOfTheZone
 keys_of_the_zone digest name cs p =
     let s : ZoneKeys = behind digest (no_keys name) cs in
-    zone_keys digest (published s p) (all_published digest s p (behind_binds digest (no_keys name) cs tt))
+    published_sign digest s p (behind_binds digest (no_keys name) cs tt)

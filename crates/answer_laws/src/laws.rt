@@ -10,8 +10,8 @@ pub fn references_stay_bound()
     ensures stay { ReferencesStayBound }
 {}
 
-/// The keys that a publisher publishes are keys of a zone, whatever calls are behind them: flags 256 or 257, protocol 3. So they are
-/// what a judge asks of the keys of a DNSKEY answer (RFC 4034, 2.1).
+/// The keys that a publisher publishes are keys of a zone, whatever calls are behind them: flags 256 or 257, protocol 3. So
+/// they are what a judge asks of the keys of a DNSKEY answer (RFC 4034, 2.1).
 pub fn published_keys_are_of_the_zone()
     ensures { PublishedKeysAreOfTheZone }
 {}

@@ -1,5 +1,5 @@
 -- Nothing is forged in a message each of whose records is dealt with.
-use Rattle.std.proofs.Common.{◌≡◌, ℕ, ◌<◌, true, false, List, [], ◌∷◌, ◌++◌, length, take, drop, Option, Some, Result, Ok, eqb, sym, ap, subst, ◌∙◌, inl, inr}
+use Rattle.std.proofs.Common.{◌≡◌, ℕ, ◌<◌, true, false, List, [], ◌∷◌, ◌++◌, length, take, drop, Option, Some, Ok, eqb, sym, ap, subst, ◌∙◌, inl, inr}
 use Rattle.std.specs.Prelude.{Contains, get_or, nat_le, nat_lt}
 use Rattle.std.specs.List.{AllByRecursion, list_any}
 use Rattle.std.specs.Str.{bytes_eq}
@@ -8,12 +8,12 @@ use lib.Pointwise.{bytes_decides}
 use Rattle.definitions.specs.Dnskey.{Dnskey}
 use Rattle.definitions.specs.Limits.{pointer_limit}
 use Rattle.definitions.specs.Signing.{Fields, in_time}
-use Rattle.messages.specs.declared.error.MessageError.{MessageError}
 use Rattle.messages.specs.Message.{Message, Spelled, message, rrsig_at}
 use Rattle.messages.proofs.Lists.{Has, all_at, all_fail, all_more, some_is}
 use Rattle.answer_scheme.specs.Answers.{Answers}
 use Rattle.answer_judge.specs.Honest.{AreOctets, NothingForged, over_in}
 use Rattle.answer_judge.proofs.GivenLists.{has_contained}
+use Rattle.answer_judge.proofs.Spliced.{ok_is}
 use Rattle.counterexamples_honest.specs.World.{own_key, plain}
 
 -- ---- lists
@@ -25,12 +25,6 @@ pub small_octets : (m : List ℕ) → list_any (nat_le 256) m ≡ false → AreO
 small_octets m e = all_more (λ x. nat_le 256 x ≡ false) (λ x. x < 256) m (λ x h. leb-false 256 x h) (all_fail (nat_le 256) m e)
 
 -- ---- messages
-
-abbrev message_ok : Message → Result Message MessageError
-message_ok x = Ok x
-
-pub ok_is : (x y : Message) → message_ok x ≡ message_ok y → x ≡ y
-ok_is x y e = cc
 
 -- a record is no signature that holds and passes under a published key, but over octets that were made
 abbrev pub IsDealt : Answers → ℕ → List Dnskey → List (List ℕ) → List ℕ → Spelled → Type 0

@@ -16,7 +16,8 @@ pub fn all_premises_are_honesty()
 {}
 
 /// Messages are honest whose signatures that hold were quoted from messages which were handed out, however many, under whatever
-/// owners and beside whatever records, or pass under no published key; where a signature passes over one string of octets alone.
+/// owners and beside whatever records, or pass under no published key; where a signature passes over one string of octets
+/// alone.
 pub fn quotes_are_honest()
     ensures { QuotesAreHonest }
 {}
@@ -26,19 +27,20 @@ pub fn own_answers_are_honest()
     ensures { IsHonestCase plain own (small ∷ []) (Says (Records (address ∷ []))) }
 {}
 
-/// So are a wildcard's address, moved to a name below one that is there, and the record of the chain which covers that name: both
-/// were signed, in two answers. They prove nothing (RFC 4035, 5.3.4).
+/// So are a wildcard's address, moved to a name below one that is there, and the record of the chain which covers that name:
+/// both were signed, in two answers. They prove nothing (RFC 4035, 5.3.4).
 pub fn splices_are_honest()
     ensures { IsHonestCase plain spliced (starred ∷ []) (Refuses NotProven) }
 {}
 
-/// So are a DNSKEY answer of a stranger's key that has the tag of the zone's, and an answer that this key signed. No trusted key
-/// signed the keys (RFC 4035, 5.2).
+/// So are a DNSKEY answer of a stranger's key that has the tag of the zone's, and an answer that this key signed. No trusted
+/// key signed the keys (RFC 4035, 5.2).
 pub fn answers_of_strangers_are_honest()
     ensures { IsHonestCase plain of_strangers (small ∷ []) (Refuses NoTrustedKey) }
 {}
 
-/// So is an address that was forged under the zone's key, in a signature whose time is over. It proves nothing (RFC 4035, 5.3.1).
+/// So is an address that was forged under the zone's key, in a signature whose time is over. It proves nothing (RFC 4035,
+/// 5.3.1).
 pub fn what_is_forged_late_is_honest()
     ensures { IsHonestCase plain forged_late (small ∷ []) (Refuses NotProven) }
 {}
@@ -68,7 +70,8 @@ pub fn keys_that_are_signed_must_be_published()
     ensures { SaysFalsely without_handed_out }
 {}
 
-/// A name that has the hash of another passes for it: a name that does not exist, for one that lacks the type (RFC 5155, 12.1.1).
+/// A name that has the hash of another passes for it: a name that does not exist, for one that lacks the type (RFC 5155,
+/// 12.1.1).
 pub fn no_two_names_may_share_a_hash()
     ensures { SaysFalsely without_hashes_apart }
 {}

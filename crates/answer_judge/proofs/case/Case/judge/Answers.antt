@@ -10,7 +10,7 @@ returns-in-Ok g c =
     let now = c.judge_messages.new.verifier.checks.now in
     let so = each_wholly own _ (g.C.Checks.agrees now) c.args.self.now (Says (verdict_of c.in-Ok.verdict)) c.judge_messages.new.verifier.count c.judge_messages.new.hashes
     (omega (arith, c.limit_fits.ensures)) (ap g.C.Checks.answers c.new-verifier.ensures.checks) (search rules) (search rules) (search rules)
-    c.in-Ok.ensures.exact c.in-Ok.ensures.counts c.in-Ok.ensures.hash_counts in
+    c.in-Ok.ensures.says in
     let mine = so own.verifies (inl refl) in record {
       judges = search rules;
       exact = mine.exact;
@@ -34,7 +34,7 @@ returns g c =
     let now = c.judge_messages.new.verifier.checks.now in
     let so = each_wholly own _ (g.C.Checks.agrees now) c.args.self.now (Refuses c.in-Err.refusal) c.judge_messages.new.verifier.count c.judge_messages.new.hashes
     (omega (arith, c.limit_fits.ensures)) (ap g.C.Checks.answers c.new-verifier.ensures.checks) (search rules) (search rules) (search rules)
-    c.in-Err.ensures.exact c.in-Err.ensures.counts c.in-Err.ensures.hash_counts in
+    c.in-Err.ensures.says in
     let mine = so own.verifies (inl refl) in record {
       judges = search rules;
       exact = mine.exact;
