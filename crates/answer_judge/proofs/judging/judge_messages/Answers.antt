@@ -74,11 +74,10 @@ returns-then-not-branch-clause-says g c = λ test fits.
     c.in_ok-are_verified.ensures.exact test first ∙ (λ i. is_verified (record { answers = same i; apex = (is i).apex; keys = c.deref-7.ensures.value i; now = moment i }) pointer_limit (is i).dnskey_bytes (map spelled (c.deref-9.ensures.value i)) (is i).apex 48 (sorted_data (map dnskey_data (c.deref-10.ensures.value i)))) in
     let none_yet = ap (λ v. v.count) rest ∙ c.requires.counts in
     let tried = c.in_ok-are_verified.ensures.tried test first ∙ (λ i. none_yet i + tries (record { answers = same i; apex = (is i).apex; keys = c.deref-7.ensures.value i; now = moment i }) pointer_limit (is i).dnskey_bytes (keys_sought (is i).apex (c.deref-10.ensures.value i)) [] (map spelled (c.deref-9.ensures.value i))) in
-    let unchained = sym c.if-not-branch.true ∙ chained_as a h keys rs c.in_ok-keys.keys.items c.in_ok-trusted.trusted.items c.in_ok-are_verified.field-0 c.in_ok-messages.ensures.key_records ks trusted chained in
-    (
+    let unchained = sym c.if-not-branch.true ∙ chained_as a h keys rs c.in_ok-keys.keys.items c.in_ok-trusted.trusted.items c.in_ok-are_verified.field-0 c.in_ok-messages.ensures.key_records ks trusted chained in (
       untrusted a h keys answer (beyond a pointer_limit h keys answer c.in_ok-messages.ensures.keys c.in_ok-messages.ensures.answer none) unchained,
       inr (keys_alone a h keys answer c.are_verified.new.verifier.count none c.in_ok-messages.ensures.keys c.in_ok-messages.ensures.answer unchained
-      (key_tries_as a h keys rs c.in_ok-keys.keys.items c.in_ok-trusted.trusted.items c.are_verified.new.verifier.count c.in_ok-messages.ensures.key_records ks trusted tried)),
+          (key_tries_as a h keys rs c.in_ok-keys.keys.items c.in_ok-trusted.trusted.items c.are_verified.new.verifier.count c.in_ok-messages.ensures.key_records ks trusted tried)),
       inr (c.requires.none_hashed ∙ sym (none_hashed a h keys answer none c.in_ok-messages.ensures.keys c.in_ok-messages.ensures.answer unchained)),
     )
 
@@ -122,15 +121,14 @@ returns-clause-says g c = λ test fits.
     let all = decided_as a h keys answer c.usable_keys-usable.result.items (map spelled c.in_ok-messages.messages.answer_records.items) facts of_moments
     (beyond a pointer_limit h keys answer c.in_ok-messages.ensures.keys c.in_ok-messages.ensures.answer none) chain usable c.in_ok-messages.ensures.answer_records found timed in
     let due = facts_hashed a h keys answer c.usable_keys-usable.result.items (map spelled c.in_ok-messages.messages.answer_records.items) facts of_moments none c.in_ok-messages.ensures.keys c.in_ok-messages.ensures.answer chain usable c.in_ok-messages.ensures.answer_records found timed in
-    let last = c.in_ok-proof.ensures.same ∙ later_own in
-    (
+    let last = c.in_ok-proof.ensures.same ∙ later_own in (
       subst (AnswersAs (said c.judge_proof.result)) (ap (λ v. judged_proof v h facts of_moments) last ∙ all) c.judge_proof.ensures.exact,
       inr (keys_and_answer a h keys answer c.usable_keys-usable.result.items (map spelled c.in_ok-messages.messages.answer_records.items) c.are_verified.new.verifier.count c.read_facts.new.verifier.count none
-      c.in_ok-messages.ensures.keys c.in_ok-messages.ensures.answer chain
-      (key_tries_as a h keys rs c.in_ok-keys.keys.items c.in_ok-trusted.trusted.items c.are_verified.new.verifier.count c.in_ok-messages.ensures.key_records ks trusted tried)
-      usable c.in_ok-messages.ensures.answer_records more),
+          c.in_ok-messages.ensures.keys c.in_ok-messages.ensures.answer chain
+          (key_tries_as a h keys rs c.in_ok-keys.keys.items c.in_ok-trusted.trusted.items c.are_verified.new.verifier.count c.in_ok-messages.ensures.key_records ks trusted tried)
+          usable c.in_ok-messages.ensures.answer_records more),
       counts_as (said c.judge_proof.result) c.judge_proof.new.hashes (hashes_of_proof (g.C.Checks.answers c.read_facts.new.verifier.checks.now) h facts of_moments) (hashes_beyond a pointer_limit h)
-      (ap (λ v. hashes_of_proof v h facts of_moments) last ∙ due) c.judge_proof.ensures.hash_counts,
+          (ap (λ v. hashes_of_proof v h facts of_moments) last ∙ due) c.judge_proof.ensures.hash_counts,
     )
 
 -- ---- all that is verified are candidates

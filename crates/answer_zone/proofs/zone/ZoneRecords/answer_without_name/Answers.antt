@@ -41,8 +41,8 @@ returns-then-not-expands g c =
     let names = own.spoken z mode (low q) NoName in
     record {
       answer = if_ok_map (Holds 33795 [] (soa s ∷ proofs_of s names)) (AnswersAs s q t) c.denied.result
-        (λ a h. answers s q t NoName [] (soa s ∷ proofs_of s names) a said refl (groups_without_name apex mode hash rs q t whole) h)
-        c.denied.ensures.answer;
+          (λ a h. answers s q t NoName [] (soa s ∷ proofs_of s names) a said refl (groups_without_name apex mode hash rs q t whole) h)
+          c.denied.ensures.answer;
       failed = if_err_map _ _ c.denied.result (λ f h. subst (λ (qs : List Name). IsHashFailure answers_of mode qs f) (sym (ap (spoken s (low q)) whole)) h) c.denied.ensures.failed;
     }
 
@@ -70,9 +70,9 @@ returns-then-has g c =
     let names = own.spoken z mode (low q) (StarRecords []) in
     record {
       answer = if_ok_map (Holds 33792 (expanded s (low c.in_ok-around.around.star) q t) (proofs_of s names)) (AnswersAs s q t) c.expanded.result
-        (λ a h. answers s q t (StarRecords ds) (expanded s star q t) (proofs_of s names) a said refl (groups_expanded apex mode hash rs q t (kept_ancestor z false (low q)) ds e whole)
-        (subst (λ n. Holds 33792 (expanded s n q t) (proofs_of s names) a) is h))
-        c.expanded.ensures.answer;
+          (λ a h. answers s q t (StarRecords ds) (expanded s star q t) (proofs_of s names) a said refl (groups_expanded apex mode hash rs q t (kept_ancestor z false (low q)) ds e whole)
+          (subst (λ n. Holds 33792 (expanded s n q t) (proofs_of s names) a) is h))
+          c.expanded.ensures.answer;
       failed = if_err_map _ _ c.expanded.result (λ f h. subst (λ (qs : List Name). IsHashFailure answers_of mode qs f) (sym (ap (spoken s (low q)) whole)) h) c.expanded.ensures.failed;
     }
 
@@ -98,8 +98,8 @@ returns g c =
     let names = own.spoken z mode (low q) NoName in
     record {
       answer = if_ok_map (Holds 33792 [] (soa s ∷ proofs_of s names)) (AnswersAs s q t) c.denied-2.result
-        (λ a h. answers s q t StarNoType [] (soa s ∷ proofs_of s names) a said refl (groups_without_star_type apex mode hash rs q t whole) h)
-        c.denied-2.ensures.answer;
+          (λ a h. answers s q t StarNoType [] (soa s ∷ proofs_of s names) a said refl (groups_without_star_type apex mode hash rs q t whole) h)
+          c.denied-2.ensures.answer;
       failed = if_err_map _ _ c.denied-2.result (λ f h. subst (λ (qs : List Name). IsHashFailure answers_of mode qs f) (sym (ap (spoken s (low q)) whole)) h) c.denied-2.ensures.failed;
     }
 

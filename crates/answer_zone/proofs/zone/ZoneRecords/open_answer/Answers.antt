@@ -40,7 +40,7 @@ returns-in-Away g c =
     let rest = unsigned_ns s n ++ proofs_of s (own.spoken z mode (low q) Open) in
     record {
       answer = if_ok_map (Holds 32768 [] rest) (AnswersAs s q t) c.open_referral.result
-        (λ a h. answers s q t Delegated [] rest a said refl (groups_open_delegated apex mode hash rs q t n whole said r.topmost r.away) h)
-        c.open_referral.ensures.answer;
+          (λ a h. answers s q t Delegated [] rest a said refl (groups_open_delegated apex mode hash rs q t n whole said r.topmost r.away) h)
+          c.open_referral.ensures.answer;
       failed = if_err_map _ _ c.open_referral.result (λ f h. subst (λ (qs : List Name). IsHashFailure answers_of mode qs f) (sym (ap (spoken s (low q)) whole)) h) c.open_referral.ensures.failed;
     }

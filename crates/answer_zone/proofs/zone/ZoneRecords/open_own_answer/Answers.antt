@@ -40,8 +40,8 @@ returns-then-stands g c =
     let said = lacks_type z q t c.requires.own.0 (stood ∙ sym c.stands.ensures ∙ c.if-stands.true) none in
     record {
       answer = if_ok_map (Holds 33792 [] rest) (AnswersAs s q t) c.open_missing.result
-        (λ a h. answers s q t NoType [] rest a said refl (groups_open_missing apex mode hash rs q t NoType refl uncut whole said) h)
-        c.open_missing.ensures.answer;
+          (λ a h. answers s q t NoType [] rest a said refl (groups_open_missing apex mode hash rs q t NoType refl uncut whole said) h)
+          c.open_missing.ensures.answer;
       failed = if_err_map _ _ c.open_missing.result (λ f h. subst (λ (qs : List Name). IsHashFailure answers_of mode qs f) (sym (ap (spoken s (low q)) whole)) h) c.open_missing.ensures.failed;
     }
 
@@ -68,8 +68,8 @@ returns-then-not-expands g c =
     let said = no_name z x q t c.requires.own.0 gone none in
     record {
       answer = if_ok_map (Holds 33795 [] rest) (AnswersAs s q t) c.open_missing-then-not-expands.result
-        (λ a h. answers s q t NoName [] rest a said refl (groups_open_missing apex mode hash rs q t NoName refl uncut whole said) h)
-        c.open_missing-then-not-expands.ensures.answer;
+          (λ a h. answers s q t NoName [] rest a said refl (groups_open_missing apex mode hash rs q t NoName refl uncut whole said) h)
+          c.open_missing-then-not-expands.ensures.answer;
       failed = if_err_map _ _ c.open_missing-then-not-expands.result (λ f h. subst (λ (qs : List Name). IsHashFailure answers_of mode qs f) (sym (ap (spoken s (low q)) whole)) h) c.open_missing-then-not-expands.ensures.failed;
     }
 
@@ -100,9 +100,9 @@ returns-then-has g c =
     let names = own.spoken z mode (low q) Open in
     record {
       answer = if_ok_map (Holds 33792 (expanded s (low c.in_ok-star.star) q t) (proofs_of s names)) (AnswersAs s q t) c.open_expanded.result
-        (λ a h. answers s q t (StarRecords ds) (expanded s star q t) (proofs_of s names) a said refl (groups_open_expanded apex mode hash rs q t (kept_ancestor z false (low q)) ds whole said e)
-        (subst (λ n. Holds 33792 (expanded s n q t) (proofs_of s names) a) is h))
-        c.open_expanded.ensures.answer;
+          (λ a h. answers s q t (StarRecords ds) (expanded s star q t) (proofs_of s names) a said refl (groups_open_expanded apex mode hash rs q t (kept_ancestor z false (low q)) ds whole said e)
+          (subst (λ n. Holds 33792 (expanded s n q t) (proofs_of s names) a) is h))
+          c.open_expanded.ensures.answer;
       failed = if_err_map _ _ c.open_expanded.result (λ f h. subst (λ (qs : List Name). IsHashFailure answers_of mode qs f) (sym (ap (spoken s (low q)) whole)) h) c.open_expanded.ensures.failed;
     }
 
@@ -130,8 +130,8 @@ returns g c =
     let said = star_no_type z x q t c.requires.own.0 gone both.0 both.1 none in
     record {
       answer = if_ok_map (Holds 33792 [] rest) (AnswersAs s q t) c.open_missing-2.result
-        (λ a h. answers s q t StarNoType [] rest a said refl (groups_open_missing apex mode hash rs q t StarNoType refl uncut whole said) h)
-        c.open_missing-2.ensures.answer;
+          (λ a h. answers s q t StarNoType [] rest a said refl (groups_open_missing apex mode hash rs q t StarNoType refl uncut whole said) h)
+          c.open_missing-2.ensures.answer;
       failed = if_err_map _ _ c.open_missing-2.result (λ f h. subst (λ (qs : List Name). IsHashFailure answers_of mode qs f) (sym (ap (spoken s (low q)) whole)) h) c.open_missing-2.ensures.failed;
     }
 

@@ -52,8 +52,8 @@ returns-then-stands g c =
     let whole = closed z (optout_of mode) q t c.requires.told ∙ said in
     record {
       answer = if_ok_map (Holds 33792 [] (soa s ∷ proofs_of s (low q ∷ []))) (AnswersAs s q t) c.missing.result
-        (λ a h. answers s q t NoType [] (soa s ∷ proofs_of s (low q ∷ [])) a said refl (groups_without_type apex mode hash rs q t whole) h)
-        c.missing.ensures.answer;
+          (λ a h. answers s q t NoType [] (soa s ∷ proofs_of s (low q ∷ [])) a said refl (groups_without_type apex mode hash rs q t whole) h)
+          c.missing.ensures.answer;
       failed = if_err_map _ _ c.missing.result (λ e h. subst (λ (qs : List Name). IsHashFailure answers_of mode qs e) (sym (ap (spoken s (low q)) whole)) h) c.missing.ensures.failed;
     }
 

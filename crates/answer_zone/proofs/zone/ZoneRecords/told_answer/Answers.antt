@@ -39,9 +39,9 @@ returns-in-Away g c =
     let names : List Name = n ∷ [] in
     record {
       answer = if_ok_map (Holds 32768 [] rest) (AnswersAs s q t) c.referral.result
-        (λ a h. answers s q t Delegated [] rest a said refl (groups_delegated apex mode hash rs q t n r.topmost whole) h)
-        c.referral.ensures.answer;
+          (λ a h. answers s q t Delegated [] rest a said refl (groups_delegated apex mode hash rs q t n r.topmost whole) h)
+          c.referral.ensures.answer;
       failed = if_err_map _ _ c.referral.result
-        (λ f h. subst (λ (qs : List Name). IsHashFailure answers_of mode qs f) (sym (ap (spoken s (low q)) whole ∙ ap (λ o. elim o as (λ _. List Name) [ None ↦ [] | Some c ↦ c ∷ [] ]) r.topmost)) h)
-        c.referral.ensures.failed;
+          (λ f h. subst (λ (qs : List Name). IsHashFailure answers_of mode qs f) (sym (ap (spoken s (low q)) whole ∙ ap (λ o. elim o as (λ _. List Name) [ None ↦ [] | Some c ↦ c ∷ [] ]) r.topmost)) h)
+          c.referral.ensures.failed;
     }
