@@ -116,7 +116,7 @@ module _ (a : Answers) (k : ℕ) (h : Handing) (mode : Mode) (versions : List (L
       let there : Has versions rs = of_versions used.out used.there in
       let is : IsVersion a h mode rs = version_is rs there in
       let z : Zone = zone_of h.apex rs in
-      let small : is.limit < 65536 = ⊎_elim (λ (e : is.limit ≡ h.limit). subst (λ (n : ℕ). n < 65536) (sym e) short) (λ (s : is.limit < 65536). s) is.a_limit in
+      let small : is.limit < 65536 = ⊎_elim (λ (e : is.limit ≡ h.limit). subst (λ (n : ℕ). n < 65536) (sym e) short) (λ (s : is.limit < 65536). s) is.limit_fits in
       let fits : FitsRecords z mode hash = fitting a.hash z mode is.limit small is.accepted.faultless.within_limit is.accepted.chain in
       let f : Facts = facts_of a k h said.keys said.answer in
       let version : IsKnown h.apex mode hash (sorted_records rs) = known_version rs there in

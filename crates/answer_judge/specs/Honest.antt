@@ -88,7 +88,7 @@ served_by a h mode rs = served_of h.apex mode (hash_in a.hash mode) (sorted_reco
 pub record IsVersion (a : Answers) (h : Handing) (mode : Mode) (rs : List HandedRr) : Type 0 where
   pub records_are : AllByRecursion IsHanded rs
   pub limit : ℕ
-  pub a_limit : (limit ≡ h.limit) ⊎ (limit < 65536)
+  pub limit_fits : (limit ≡ h.limit) ⊎ (limit < 65536)
   pub accepted : IsAccepted a.hash h.apex mode limit rs
   pub apart : NoSharedHash (zone_of h.apex rs) (hash_in a.hash mode) mode h.asked.name
 

@@ -17,7 +17,7 @@ module _ (fewer passes : Tried → Bool) (true_are : AreTrue fewer passes) (k : 
   }
 
   version_stays : (mode : Mode) (rs : List HandedRr) → IsVersion (answers_with passes) h mode rs → IsVersion (answers_with fewer) h mode rs
-  version_stays mode rs is = record { records_are = is.records_are; limit = is.limit; a_limit = is.a_limit; accepted = is.accepted; apart = is.apart }
+  version_stays mode rs is = record { records_are = is.records_are; limit = is.limit; limit_fits = is.limit_fits; accepted = is.accepted; apart = is.apart }
 
   versions_stay : (mode : Mode) (versions : List (List HandedRr)) → AllByRecursion (IsVersion (answers_with passes) h mode) versions → AllByRecursion (IsVersion (answers_with fewer) h mode) versions
   versions_stay mode [] are = tt

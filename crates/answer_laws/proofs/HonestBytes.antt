@@ -217,7 +217,7 @@ versions_are w h asked (rs ∷ all) a l q is apart = (
   record {
     records_are = is.0.records_are;
     limit = h.limit;
-    a_limit = inl refl;
+    limit_fits = inl refl;
     accepted = subst (λ (n : Name). IsAccepted w.answers.hash n w.zone.mode h.limit rs) (sym a) (subst (λ n. IsAccepted w.answers.hash w.zone.apex w.zone.mode n rs) (sym l) is.0.accepted);
     apart = subst (λ (n : Name). NoSharedHash (zone_of n rs) (hash_in w.answers.hash w.zone.mode) w.zone.mode h.asked.name) (sym a)
         (subst (λ (x : Asked). NoSharedHash (zone_of w.zone.apex rs) (hash_in w.answers.hash w.zone.mode) w.zone.mode x.name) (sym q) apart.0);

@@ -11,7 +11,7 @@ use Rattle.answer_judge.proofs.HonestJudged.{answers_honest}
 use Rattle.counterexamples_honest.specs.Premises.{AllAreHonest, IsVersionIn, NoneIsFalse, all}
 
 is_version : (a : Answers) (h : Handing) (mode : Mode) (rs : List HandedRr) → IsVersionIn all a h mode rs → IsVersion a h mode rs
-is_version a h mode rs v = record { records_are = v.records_are; limit = h.limit; a_limit = inl refl; accepted = v.accepted; apart = v.apart }
+is_version a h mode rs v = record { records_are = v.records_are; limit = h.limit; limit_fits = inl refl; accepted = v.accepted; apart = v.apart }
 
 pub all_honest : AllAreHonest
 all_honest a h mode versions x = record {
