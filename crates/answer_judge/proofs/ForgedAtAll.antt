@@ -7,14 +7,14 @@ use Rattle.definitions.specs.Name.{Name}
 use Rattle.definitions.specs.Signing.{ascending, signed_octets}
 use Rattle.definitions.specs.Zone.{sorted_data}
 use Rattle.messages.specs.HandedRr.{HandedRr}
-use Rattle.messages.specs.Message.{Spelled}
+use Rattle.messages.specs.Message.{AreOctets, Spelled}
 use Rattle.messages.proofs.Lists.{all_at}
 use Rattle.answer_shared.specs.Made.{HandedOut, made}
 use Rattle.answer_shared.specs.Served.{Served}
 use Rattle.answer_judge_facts.specs.Judging.{keys_in}
 use Rattle.answer_judge_facts.specs.Verified.{datum_of, rrset_in}
 use Rattle.answer_judge.specs.ForgedAtAll.{AtAllIsEnough}
-use Rattle.answer_judge.specs.Honest.{AreOctets, WasSigned, covered_in, over_in, rrset_there}
+use Rattle.answer_judge.specs.Honest.{WasSigned, covered_in, over_in, rrset_there}
 use Rattle.answer_judge.proofs.GivenLists.{contained_has, has_contained}
 use Rattle.answer_judge.proofs.HonestKeys.{keys_read}
 use Rattle.answer_judge.proofs.HonestMade.{IsMade, is_made}

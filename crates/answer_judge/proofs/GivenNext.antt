@@ -5,31 +5,15 @@ use Rattle.std.specs.List.{AllByRecursion}
 use Rattle.std.proofs.lemmas.Bool.{eq-eqb, ne_eqb}
 use Rattle.definitions.specs.Bitmap.{is_bitmap}
 use Rattle.definitions.specs.Name.{Name, IsLabel, wire}
-use Rattle.definitions.specs.Reading.{ReadFault, name_at}
+use Rattle.definitions.specs.Reading.{name_at}
 use Rattle.definitions.proofs.ReadingLaws.{reads_exactly}
 use Rattle.definitions.proofs.SignedLaws.{Labelled, wire_of}
 use Rattle.messages.specs.declared.error.MessageError.{MessageError}
-use Rattle.messages.specs.Message.{Spelled, canonical_data, data_of, fault_of, fits, if_true, name_in, name_upto, ns_data, nsec3_data, nsec_at, nsec_data, owner_at, soa_data}
+use Rattle.messages.specs.Message.{Spelled, canonical_data, data_of, fits, if_true, name_in, name_upto, ns_data, nsec3_data, nsec_at, nsec_data, owner_at, soa_data}
 use Rattle.messages.specs.Message as message
 use Rattle.messages.proofs.Lists.{some_is}
+use Rattle.messages.proofs.MessageParts.{owner_reads}
 use Rattle.messages.proofs.ReadNames.{labelled, reads_labelled}
-
-abbrev read_ok : Name × ℕ → Result (Name × ℕ) MessageError
-read_ok n = Ok n
-
-ok_back : (a b : Name × ℕ) → read_ok a ≡ read_ok b → a ≡ b
-ok_back a b e = cc
-
-abbrev owner_from : Result (Name × ℕ) ReadFault → Result (Name × ℕ) MessageError
-owner_from o = elim o [ Ok r ↦ Ok r | Err f ↦ Err (fault_of f) ]
-
-owner_from_ok : (o : Result (Name × ℕ) ReadFault) (n : Name × ℕ) → owner_from o ≡ Ok n → o ≡ Ok n
-owner_from_ok (Ok r) n h = ap Ok (ok_back r n h)
-owner_from_ok (Err f) n h = cc
-
-pub owner_reads : (k : ℕ) (m : List ℕ) (p : ℕ) (n : Name × ℕ) → owner_at k m p ≡ Ok n → name_at k m p ≡ Ok n
-unfolding owner_at
-owner_reads k m p n h = owner_from_ok (name_at k m p) n h
 
 abbrev name_upto_from : ℕ → Result (Name × ℕ) MessageError → Option (Name × ℕ)
 name_upto_from limit o = elim o [ Err e ↦ None | Ok n ↦ if_true (leb n.1 limit) n ]

@@ -15,13 +15,12 @@ use Rattle.denial_laws.specs.OwnFacts.{hash_link_of}
 use Rattle.denial_laws.specs.Truth.{IsServable, IsTrueLink}
 use Rattle.messages.specs.Handed.{IsHanded}
 use Rattle.messages.specs.HandedRr.{HandedRr}
-use Rattle.messages.specs.Message.{Spelled, data_of, nsec3_of}
+use Rattle.messages.specs.Message.{AreOctets, Spelled, data_of, nsec3_of}
 use Rattle.messages.proofs.Lists.{Has, some_is}
 use Rattle.messages.proofs.ReadNames.{labelled}
 use Rattle.answer_shared.specs.Accepting.{zone_with}
 use Rattle.answer_shared.specs.Served.{served_of, spelled_as}
 use Rattle.answer_shared.proofs.ZoneNaming.{chain_named, lower_name, next_name, spelled_name}
-use Rattle.answer_judge.specs.Honest.{AreOctets}
 use Rattle.answer_hash_owners.specs.HashOwner.{hash_spelled}
 use Rattle.answer_judge.proofs.GivenGroups.{SaysHashLink, said_of}
 use Rattle.answer_judge.proofs.GivenHashes.{owner_spells}

@@ -15,16 +15,16 @@ use Rattle.definitions.specs.Zone.{sorted_data}
 use Rattle.definitions.specs.ZoneChain.{Mode, Nsec, Nsec3}
 use Rattle.denial_laws.specs.Truth.{is_foreign_type}
 use Rattle.messages.specs.HandedRr.{HandedRr}
-use Rattle.messages.specs.Message.{Message, Spelled, data_of, message}
+use Rattle.messages.specs.Message.{AreOctets, Message, Spelled, data_of, message}
 use Rattle.messages.proofs.Lists.{Has, all_at, all_more, all_sorted, found, some_is}
 use Rattle.answer_shared.specs.Accepting.{sorted_records}
 use Rattle.answer_shared.specs.Made.{HandedOut}
-use Rattle.answer_shared.specs.Served.{Group, Served, chain_record, key_group, served_of}
+use Rattle.answer_shared.specs.Served.{Group, chain_record, served_of}
 use Rattle.answer_shared.specs.Served as served
 use Rattle.answer_shared.proofs.KeyData.{key_read_back}
 use Rattle.answer_scheme.specs.Answers.{Answers}
 use Rattle.answer_judge_facts.specs.Facts.{digests_to, is_trusted, is_usable, names_key}
-use Rattle.answer_judge.specs.Honest.{AreOctets, IsHonest, NoStranger, WasSigned}
+use Rattle.answer_judge.specs.Honest.{IsHonest, NoStranger, WasSigned}
 use Rattle.answer_judge_facts.specs.Judged.{is_chained, keys_of, trusting}
 use Rattle.answer_judge_facts.specs.Judging.{Handing, key_at, keys_in}
 use Rattle.answer_judge_facts.proofs.GivenKeys.{IsKeyData, data_of_key, key_data}

@@ -1,6 +1,6 @@
 -- What is read of a message of octets: names, numbers that fit, and short data of octets.
-use Rattle.std.proofs.Common.{◌≡◌, ℕ, zero, suc, ◌+◌, ◌-◌, ◌*◌, ◌<◌, ◌≤◌, ◌^◌, Bool, true, false, ◌&&◌, List, [], ◌∷◌, ◌++◌, length, take, drop, get_or, Option, Some, None, Result, Ok, Err, eqb, leb, refl, sym, ap, subst, ◌∙◌, inl, inr, arith}
-use Rattle.std.specs.Prelude.{slice_range, slice_index, nat_eq}
+use Rattle.std.proofs.Common.{◌≡◌, ℕ, zero, suc, ◌+◌, ◌-◌, ◌<◌, ◌≤◌, ◌^◌, Bool, true, false, ◌&&◌, List, [], ◌∷◌, ◌++◌, length, take, drop, Option, Some, None, Ok, eqb, leb, refl, sym, ap, subst, ◌∙◌, arith}
+use Rattle.std.specs.Prelude.{slice_range, nat_eq}
 use Rattle.std.specs.Int.{w16, w32, to_be_bytes}
 use Rattle.std.specs.List.{AllByRecursion, cons_option, filter_map, flat_map}
 use Rattle.std.specs.Char.{to_ascii_lowercase}
@@ -9,22 +9,18 @@ use Rattle.std.specs.Cmp.Lexicographic.{slice_cmp}
 use Rattle.std.specs.Str.{str_to_ascii_lowercase}
 use Rattle.std.proofs.lemmas.Bool.{and_parts, eqb-true, leb-true}
 use Rattle.std.proofs.lemmas.List.{length-append, length-take}
-use Rattle.std.proofs.lemmas.Option.{slice_get_cases, get_or_from_slice_get}
 use Rattle.definitions.specs.Bitmap.{is_bitmap}
 use Rattle.definitions.specs.Name.{Name, IsLabel, IsName, low, same, wire, wire_len}
 use Rattle.definitions.specs.Reading.{Reads, root, label, pointer, name_at}
 use Rattle.definitions.specs.Signing.{Fields}
 use Rattle.definitions.proofs.ReadingLaws.{length-range, reads_exactly, wire_len-cons}
-use Rattle.messages.specs.declared.error.MessageError.{MessageError}
-use Rattle.messages.specs.declared.error.MessageError.TheVariants.{ShortInput}
-use Rattle.messages.specs.Message.{◌>>=◌, Asked, Message, Spelled, HashedNext, asked_at, canonical_data, data_of, fits, if_true, message, name_in, name_upto, ns_data, nsec3_at, nsec3_data, nsec_at, nsec_data, octet_at, one_question, owner_at, pair, quad, record_at, records_at, rrsig_at, rrsig_fields, soa_data, u16_at, u32_at, within}
+use Rattle.messages.specs.Message.{AreOctets, Message, Spelled, canonical_data, data_of, fits, if_true, message, name_in, nsec3_at, nsec_at, pair, quad, rrsig_at, rrsig_fields}
 use Rattle.messages.specs.Message as message
-use Rattle.messages.proofs.CountedRecords.{bound}
-use Rattle.messages.proofs.Lists.{all_sorted, some_is}
+use Rattle.messages.proofs.Lists.{all_more, all_sorted, some_is}
+use Rattle.messages.proofs.MessageParts.{Stands, each_stands, headed, number_there, octet_index, owner_reads}
 use Rattle.answer_shared.proofs.ZoneNaming.{lower_len, lower_name}
-use Rattle.answer_judge.specs.Honest.{AreOctets}
 use Rattle.answer_judge_facts.specs.Verified.{datum_of, rrset_in}
-use Rattle.answer_judge.proofs.GivenNext.{canonical_by, if_true_some, name_in_at, owner_reads}
+use Rattle.answer_judge.proofs.GivenNext.{canonical_by, if_true_some, name_in_at}
 
 -- ---- octets
 
@@ -44,15 +40,6 @@ octets_take (suc n) (x ∷ xs) h = (h.0, octets_take n xs h.1)
 
 pub octets_range : (m : List ℕ) (s e : ℕ) → AreOctets m → AreOctets (slice_range m s e)
 octets_range m s e h = octets_take (e - s) (drop s m) (all_drop (λ x. x < 256) s m h)
-
-pub octet_index : (m : List ℕ) (p : ℕ) → AreOctets m → slice_index m p < 256
-octet_index [] p h = omega arith
-octet_index (x ∷ m) zero h = h.0
-octet_index (x ∷ m) (suc p) h = octet_index m p h.1
-
-pub octets_all : (m : List ℕ) → ((i : ℕ) → slice_index m i < 256) → AreOctets m
-octets_all [] h = tt
-octets_all (x ∷ m) h = (h zero, octets_all m (λ i. h (suc i)))
 
 pub octets_16 : (n : ℕ) → AreOctets (to_be_bytes w16 n)
 octets_16 n = (omega arith, (omega arith, tt))
@@ -117,27 +104,6 @@ pair_small m p o = omega (arith, octet_index m p o, octet_index m (p + 1) o)
 
 quad_small : (m : List ℕ) (p : ℕ) → AreOctets m → quad m p < 2 ^ 32
 quad_small m p o = omega (arith, pair_small m p o, pair_small m (p + 2) o)
-
-octet_there : (m : List ℕ) (p b : ℕ) → AreOctets m → octet_at m p ≡ Ok b → b < 256
-octet_there m p b o h =
-    elim (slice_get_cases m p).1 [
-      | inl w ↦
-          let e : octet_at m p ≡ Ok w.0 = ap (λ (o : Option ℕ). elim o [ None ↦ Err ShortInput | Some b ↦ Ok b ]) w.2 in
-          let same : b ≡ w.0 = cc in
-          let at : get_or m p 0 ≡ w.0 = get_or_from_slice_get m p w.0 0 w.2 in
-          omega (arith, octet_index m p o, at, same)
-      | inr w ↦
-          let e : octet_at m p ≡ Err ShortInput = ap (λ (o : Option ℕ). elim o [ None ↦ Err ShortInput | Some b ↦ Ok b ]) w.1 in
-          cc
-    ]
-
-number_there : (m : List ℕ) (p x : ℕ) → AreOctets m → u16_at m p ≡ Ok x → x < 65536
-number_there m p x o h =
-    let one = bound (octet_at m p) (λ (a : ℕ). octet_at m (p + 1) >>= (λ b. Ok (a * 256 + b))) x h in
-    let two = bound (octet_at m (p + 1)) (λ (b : ℕ). Ok (one.0 * 256 + b)) x one.2 in
-    let ok = two.2 in
-    let e : x ≡ one.0 * 256 + two.0 = cc in
-    omega (arith, octet_there m p one.0 o one.1, octet_there m (p + 1) two.0 o two.1)
 
 -- ---- signatures
 
@@ -348,45 +314,15 @@ pub record ReadsRecord (r : Spelled) : Type 0 where
   pub owner : IsRead r.owner
   pub short : r.length < 65536
 
-abbrev placed : Spelled × ℕ → Result (Spelled × ℕ) MessageError
-placed x = Ok x
-
-ok_is : (a b : Spelled × ℕ) → placed a ≡ placed b → a ≡ b
-ok_is a b e = cc
-
-record_read : (k : ℕ) (m : List ℕ) (p : ℕ) (x : Spelled × ℕ) → AreOctets m → record_at k m p ≡ Ok x → ReadsRecord x.0
-record_read k m p x o h =
-    let n = bound (owner_at k m p) (λ (n : Name × ℕ). u16_at m n.1 >>= (λ t. u16_at m (n.1 + 2) >>= (λ c. u32_at m (n.1 + 4) >>= (λ ttl. u16_at m (n.1 + 8) >>= (λ len. within m (n.1 + 10) len >>= (λ e. Ok (record { owner = n.0; rtype = t; class = c; ttl = ttl; start = n.1 + 10; length = len }, e))))))) x h in
-    let t = bound (u16_at m n.0.1) (λ (t : ℕ). u16_at m (n.0.1 + 2) >>= (λ c. u32_at m (n.0.1 + 4) >>= (λ ttl. u16_at m (n.0.1 + 8) >>= (λ len. within m (n.0.1 + 10) len >>= (λ e. Ok (record { owner = n.0.0; rtype = t; class = c; ttl = ttl; start = n.0.1 + 10; length = len }, e)))))) x n.2 in
-    let c = bound (u16_at m (n.0.1 + 2)) (λ (c : ℕ). u32_at m (n.0.1 + 4) >>= (λ ttl. u16_at m (n.0.1 + 8) >>= (λ len. within m (n.0.1 + 10) len >>= (λ e. Ok (record { owner = n.0.0; rtype = t.0; class = c; ttl = ttl; start = n.0.1 + 10; length = len }, e))))) x t.2 in
-    let l = bound (u32_at m (n.0.1 + 4)) (λ (ttl : ℕ). u16_at m (n.0.1 + 8) >>= (λ len. within m (n.0.1 + 10) len >>= (λ e. Ok (record { owner = n.0.0; rtype = t.0; class = c.0; ttl = ttl; start = n.0.1 + 10; length = len }, e)))) x c.2 in
-    let s = bound (u16_at m (n.0.1 + 8)) (λ (len : ℕ). within m (n.0.1 + 10) len >>= (λ e. Ok (record { owner = n.0.0; rtype = t.0; class = c.0; ttl = l.0; start = n.0.1 + 10; length = len }, e))) x l.2 in
-    let e = bound (within m (n.0.1 + 10) s.0) (λ (e : ℕ). Ok (record { owner = n.0.0; rtype = t.0; class = c.0; ttl = l.0; start = n.0.1 + 10; length = s.0 }, e)) x s.2 in
-    let r : Spelled = record { owner = n.0.0; rtype = t.0; class = c.0; ttl = l.0; start = n.0.1 + 10; length = s.0 } in
-    let is : (r, e.0) ≡ x = ok_is (r, e.0) x e.2 in
-    subst (λ (y : Spelled × ℕ). ReadsRecord y.0) is (record { owner = name_read k m p n.0 o (owner_reads k m p n.0 n.1); short = number_there m (n.0.1 + 8) s.0 o s.1 })
-
-records_read : (n k : ℕ) (m : List ℕ) (p : ℕ) (rs : List Spelled) → AreOctets m → records_at n k m p ≡ Ok rs → AllByRecursion ReadsRecord rs
-records_read zero k m p rs o h = let e : rs ≡ [] = cc in subst (AllByRecursion ReadsRecord) (sym e) tt
-records_read (suc n) k m p rs o h =
-    let one = bound (record_at k m p) (λ (r : Spelled × ℕ). records_at n k m r.1 >>= (λ rest. Ok (r.0 ∷ rest))) rs h in
-    let more = bound (records_at n k m one.0.1) (λ (rest : List Spelled). Ok (one.0.0 ∷ rest)) rs one.2 in
-    let ok = more.2 in
-    let e : one.0.0 ∷ more.0 ≡ rs = cc in
-    subst (AllByRecursion ReadsRecord) e (record_read k m p one.0 o one.1, records_read n k m one.0.1 more.0 o more.1)
-
 pub message_read : (k : ℕ) (m : List ℕ) (r : Message) → AreOctets m → message k m ≡ Ok r → AllByRecursion ReadsRecord r.records
-message_read k m r o h =
-    let q = bound (u16_at m 4) (λ (questions : ℕ). u16_at m 6 >>= (λ answers. u16_at m 8 >>= (λ authority. u16_at m 10 >>= (λ additional. one_question questions >>= (λ only. asked_at k m 12 >>= (λ q. records_at (answers + authority + additional) k m q.1 >>= (λ rs. Ok (record { asked = q.0; records = rs })))))))) r h in
-    let a = bound (u16_at m 6) (λ (answers : ℕ). u16_at m 8 >>= (λ authority. u16_at m 10 >>= (λ additional. one_question q.0 >>= (λ only. asked_at k m 12 >>= (λ q. records_at (answers + authority + additional) k m q.1 >>= (λ rs. Ok (record { asked = q.0; records = rs }))))))) r q.2 in
-    let b = bound (u16_at m 8) (λ (authority : ℕ). u16_at m 10 >>= (λ additional. one_question q.0 >>= (λ only. asked_at k m 12 >>= (λ q. records_at (a.0 + authority + additional) k m q.1 >>= (λ rs. Ok (record { asked = q.0; records = rs })))))) r a.2 in
-    let d = bound (u16_at m 10) (λ (additional : ℕ). one_question q.0 >>= (λ only. asked_at k m 12 >>= (λ q. records_at (a.0 + b.0 + additional) k m q.1 >>= (λ rs. Ok (record { asked = q.0; records = rs }))))) r b.2 in
-    let o1 = bound (one_question q.0) (λ (only : ℕ). asked_at k m 12 >>= (λ q. records_at (a.0 + b.0 + d.0) k m q.1 >>= (λ rs. Ok (record { asked = q.0; records = rs })))) r d.2 in
-    let n = bound (asked_at k m 12) (λ (q : Asked × ℕ). records_at (a.0 + b.0 + d.0) k m q.1 >>= (λ rs. Ok (record { asked = q.0; records = rs }))) r o1.2 in
-    let l = bound (records_at (a.0 + b.0 + d.0) k m n.0.1) (λ (rs : List Spelled). Ok (record { asked = n.0.0; records = rs })) r n.2 in
-    let ok = l.2 in
-    let whole : record { asked = n.0.0; records = l.0 } ≡ r = cc in
-    subst (λ (x : Message). AllByRecursion ReadsRecord x.records) whole (records_read (a.0 + b.0 + d.0) k m n.0.1 l.0 o l.1)
+message_read k m r o reads =
+    let h = headed k m r reads in
+    all_more (Stands k m) ReadsRecord r.records holds (each_stands (h.answers + h.authority + h.additional) k m h.behind r.records h.records)
+  where
+    holds : (x : Spelled) → Stands k m x → ReadsRecord x
+    holds x s =
+        let w = s.placed in
+        record { owner = name_read k m s.place (x.owner, w.end) o (owner_reads k m s.place (x.owner, w.end) w.owner); short = (number_there m (w.end + 8) x.length o w.length_at).1 }
 
 -- ---- RRsets
 

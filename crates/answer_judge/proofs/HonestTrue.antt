@@ -4,14 +4,13 @@ use Rattle.std.specs.Prelude.{false}
 use Rattle.definitions.specs.Dnskey.{Dnskey}
 use Rattle.definitions.specs.Name.{Name}
 use Rattle.definitions.specs.ZoneChain.{Mode, Nsec, Nsec3, hashed_names}
-use Rattle.denial_laws.specs.Facts.{HashLink, Link}
+use Rattle.denial_laws.specs.Facts.{HashLink}
 use Rattle.denial_laws.specs.Truth.{AreTrue, IsTrueHashLink, IsTrueLink, is_foreign_type}
 use Rattle.messages.specs.HandedRr.{HandedRr}
-use Rattle.messages.specs.Message.{Message}
+use Rattle.messages.specs.Message.{AreOctets, Message}
 use Rattle.messages.proofs.Lists.{Has}
 use Rattle.answer_shared.specs.Accepting.{zone_with}
 use Rattle.answer_scheme.specs.Answers.{Answers}
-use Rattle.answer_judge.specs.Honest.{AreOctets}
 use Rattle.answer_judge_facts.specs.Judged.{trusting}
 use Rattle.answer_judge_facts.specs.Judging.{Handing}
 use Rattle.answer_judge_facts.specs.Verified.{hash_link_at, link_at, verified_facts}

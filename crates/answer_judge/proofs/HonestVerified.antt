@@ -14,12 +14,12 @@ use Rattle.definitions.specs.Signing.{Fields, ascending, canonical_record, field
 use Rattle.definitions.specs.Zone.{sorted_data}
 use Rattle.definitions.proofs.Members.{Rises, sort_rises}
 use Rattle.denial_laws.proofs.Found.{first_from}
-use Rattle.messages.specs.Message.{Message, Spelled, data_of, message, rrsig_at}
+use Rattle.messages.specs.Message.{AreOctets, Message, Spelled, data_of, message, rrsig_at}
 use Rattle.messages.proofs.Lists.{Has, all_at, all_more, found, some_is}
 use Rattle.messages.proofs.ZoneNames.{same_labels}
 use Rattle.answer_scheme.specs.Answers.{Answers}
 use Rattle.answer_judge_facts.specs.Facts.{fits_key, is_due, is_signature, labels_fit, signs}
-use Rattle.answer_judge.specs.Honest.{AreOctets, IsHonest, covered_in, over_in, rrset_there}
+use Rattle.answer_judge.specs.Honest.{IsHonest, covered_in, over_in, rrset_there}
 use Rattle.answer_judge_facts.specs.Judged.{trusting}
 use Rattle.answer_judge_facts.specs.Judging.{Handing, key_at, keys_in}
 use Rattle.answer_judge_facts.specs.Verified.{Trusting, is_verified, rrset_in, verified_by, verified_with, verifies_with}

@@ -5,11 +5,11 @@ use Rattle.definitions.specs.Name.{Name}
 use Rattle.definitions.specs.Dnskey.{Dnskey}
 use Rattle.definitions.specs.Signing.{Fields, ascending, in_time, signed_octets}
 use Rattle.messages.specs.HandedRr.{HandedRr}
-use Rattle.messages.specs.Message.{Message, Spelled, message, rrsig_at}
+use Rattle.messages.specs.Message.{AreOctets, Message, Spelled, message, rrsig_at}
 use Rattle.answer_scheme.specs.Answers.{Answers}
 use Rattle.answer_shared.specs.Made.{HandedOut, made}
 use Rattle.answer_shared.specs.Served.{Served}
-use Rattle.answer_judge.specs.Honest.{AreOctets, NothingForged, WasSigned}
+use Rattle.answer_judge.specs.Honest.{NothingForged, WasSigned}
 
 -- An RRset that may be signed, of at least one record, each once and ascending, whether or not it stands in the message
 -- (RFC 4034, 3.1.8.1 and 6.3), and the octets that its signature is made over.

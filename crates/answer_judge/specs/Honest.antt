@@ -9,7 +9,7 @@ use Rattle.definitions.specs.ZoneChain.{Mode, optout_of}
 use Rattle.denial_laws.specs.Truth.{NoSharedHash}
 use Rattle.messages.specs.Handed.{IsHanded}
 use Rattle.messages.specs.HandedRr.{HandedRr}
-use Rattle.messages.specs.Message.{Message, Spelled, message, rrsig_at}
+use Rattle.messages.specs.Message.{AreOctets, Message, Spelled, message, rrsig_at}
 use Rattle.messages.specs.WrittenLaws.{IsQuestion}
 use Rattle.answer_scheme.specs.Answers.{Answers}
 use Rattle.answer_shared.specs.Accepted.{IsAccepted}
@@ -21,9 +21,6 @@ use Rattle.answer_judge_facts.specs.Facts.{is_signature}
 use Rattle.answer_judge_facts.specs.Judged.{AnswersAs, judged}
 use Rattle.answer_judge_facts.specs.Judging.{Answer, Says, Refuses, Handing, keys_in}
 use Rattle.answer_judge_facts.specs.Verified.{rrset_in}
-
-abbrev pub AreOctets : List ℕ → Type 0
-AreOctets xs = AllByRecursion (λ x. x < 256) xs
 
 -- What octets were signed of: an RRset of a message of the zone, with its type, the labels of its source and the moment, by the apex,
 -- with whatever TTL, expiration, tag and algorithm. So who signs the zone may give RRsets and signatures other lives than its

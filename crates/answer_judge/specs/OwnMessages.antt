@@ -5,7 +5,7 @@ use Rattle.definitions.specs.Dnskey.{Dnskey}
 use Rattle.definitions.specs.Name.{Name}
 use Rattle.definitions.specs.ZoneChain.{Mode}
 use Rattle.messages.specs.HandedRr.{HandedRr}
-use Rattle.messages.specs.Message.{Asked}
+use Rattle.messages.specs.Message.{AreOctets, Asked}
 use Rattle.answer_scheme.specs.Answers.{Answers}
 use Rattle.answer_shared.specs.Accepting.{sorted_records}
 use Rattle.answer_shared.specs.Hashing.{hash_in}
@@ -14,7 +14,7 @@ use Rattle.answer_shared.specs.Served.{Served, served_of}
 use Rattle.answer_shared.specs.Told.{TellsKeys}
 use Rattle.answer_judge_facts.specs.Judging.{Handing}
 use Rattle.answer_judge_facts.specs.Verified.{Trusting}
-use Rattle.answer_judge.specs.Honest.{AreOctets, IsHonest, WasSigned}
+use Rattle.answer_judge.specs.Honest.{IsHonest, WasSigned}
 use Rattle.answer_judge.specs.OwnFacts.{TellsZone}
 
 -- a message of a zone with these records

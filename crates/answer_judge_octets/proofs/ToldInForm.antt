@@ -1,5 +1,5 @@
 -- What tells the RRsets of a zone is in form where the zone's data are canonical.
-use Rattle.std.proofs.Common.{◌≡◌, ℕ, zero, suc, ◌+◌, ◌≤◌, Bool, true, false, ◌&&◌, List, [], ◌∷◌, ◌++◌, length, map, Option, Some, None, Result, Ok, Err, inl, inr, refl, sym, ap, subst, ◌∙◌}
+use Rattle.std.proofs.Common.{◌≡◌, ℕ, ◌+◌, ◌≤◌, Bool, true, false, ◌&&◌, List, [], ◌∷◌, ◌++◌, length, map, Option, Some, None, Result, Ok, Err, inl, inr, refl, sym, ap, subst, ◌∙◌}
 use Rattle.std.specs.Prelude.{◌==◌, nat_eq, if◌then◌else◌}
 use Rattle.std.specs.List.{AllByRecursion, filter, list_all, list_any}
 use Rattle.std.specs.Ordering.{nat_cmp}
@@ -15,12 +15,12 @@ use Rattle.definitions.specs.ZoneChain.{Mode, Nsec, Nsec3, nsec3_data, optout_of
 use Rattle.messages.specs.declared.error.MessageError.{MessageError}
 use Rattle.messages.specs.Message.{Asked, Message, Spelled, behind, canonical_data, data_of, ns_data, nsec3_at, nsec_data, records_at, soa_data}
 use Rattle.messages.specs.HandedRr.{HandedRr}
-use Rattle.messages.proofs.Lists.{all_sorted}
+use Rattle.messages.proofs.Lists.{all_more, all_sorted}
+use Rattle.messages.proofs.MessageParts.{Stands, each_stands, headed}
 use Rattle.messages_canonical.specs.Canonical.{canonical_rdata}
 use Rattle.messages_canonical.specs.Forms.{is_among}
 use Rattle.messages_canonical.specs.InForm.{IsFormOf, IsInForm, are_in_form, has_form, is_in_form, is_record_in_form, read_by_name}
 use Rattle.messages_canonical.proofs.Anywhere.{stay_in_form, without_names}
-use Rattle.messages_canonical.proofs.Walked.{headed, next_record, placed_record}
 use Rattle.answer_shared.specs.Accepting.{record_cmp, rr_of, sorted_records}
 use Rattle.answer_shared.specs.Served.{Group, Served, ahead, ahead_open, answer_groups, by_tag, chain_names, chain_record, expanded, if_any, key_data, key_group, proofs_of, rrset, soa, speaks_for, spoken, unsigned_ns}
 use Rattle.answer_shared.specs.Told.{AreRecords, AreSignatures, IsRecord, Tells, TellsGroups}
@@ -32,12 +32,7 @@ abbrev Inside : List ℕ → Spelled → Type 0
 Inside m r = behind r ≤ length m
 
 all_inside : (n : ℕ) (m : List ℕ) (p : ℕ) (rs : List Spelled) → records_at n pointer_limit m p ≡ Ok rs → AllByRecursion (Inside m) rs
-all_inside zero m p rs h = let e : [] ≡ rs = cc in subst (AllByRecursion (Inside m)) e tt
-all_inside (suc n) m p rs h =
-    let next = next_record m n p rs h in
-    let placed = placed_record m p next.next next.is in
-    let here : Inside m next.next.0 = subst (λ e. e ≤ length m) placed.limit placed.inside in
-    subst (AllByRecursion (Inside m)) (sym next.whole) (here, all_inside n m next.next.1 next.more next.reads)
+all_inside n m p rs h = all_more (Stands pointer_limit m) (Inside m) rs (λ r s. subst (λ e. e ≤ length m) s.placed.limit s.placed.inside) (each_stands n pointer_limit m p rs h)
 
 -- ---- one record
 
@@ -217,8 +212,8 @@ FormOf m octets r = elim r [ Err fault ↦ octets ≡ m | Ok read ↦ IsFormOf (
 
 told_in_form : (v : Dnskey → List ℕ → List ℕ → Bool) (apex : Name) (at life : ℕ) (keys : List Dnskey) (asked : Asked) (groups : List Group) (bytes judged : List ℕ) → AllByRecursion InForm groups → Tells v pointer_limit apex at life keys asked groups bytes → IsInForm bytes judged → judged ≡ bytes
 told_in_form v apex at life keys asked groups bytes judged all tells is =
-    let h = headed bytes tells.read tells.reads in
-    let inside = all_inside (h.answers + h.authority + h.additional) bytes (h.end + 4) tells.read.records h.records in
+    let h = headed pointer_limit bytes tells.read tells.reads in
+    let inside = all_inside (h.answers + h.authority + h.additional) bytes h.behind tells.read.records h.records in
     let form = groups_in_form v bytes tells.read.records apex at life keys groups inside all tells.groups_are in
     let whole : IsFormOf (are_in_form pointer_limit bytes tells.read.records) bytes judged = subst (FormOf bytes judged) tells.reads is in
     subst (λ b. IsFormOf b bytes judged) form whole

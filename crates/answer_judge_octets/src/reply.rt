@@ -167,11 +167,11 @@ fn octets_of_verdict(alloc: Global, verdict: &Verdict) -> Result<Vec<u8>, AllocE
     }
 }
 
-fn octets_of_data(alloc: Global, data: &DataList) -> Result<Vec<u8>, AllocError>
-    ensures { IfOk result (λ v. v.items ≡ flat_map with_length data.now) }
+fn octets_of_data(alloc: Global, datas: &DataList) -> Result<Vec<u8>, AllocError>
+    ensures { IfOk result (λ v. v.items ≡ flat_map with_length datas.now) }
 {
     let mut octets = Vec::new(alloc);
-    for datum in data.as_slice() {
+    for datum in datas.as_slice() {
         put_short(&mut octets, datum)?;
     }
     Ok(octets)

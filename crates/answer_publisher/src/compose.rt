@@ -160,23 +160,23 @@ impl Section {
         owner: &Name<Vec<u8>>,
         rtype: Rtype,
         ttl: Ttl,
-        data: &[u8],
+        rdata: &[u8],
     ) -> Result<(), AnswerFault>
         ensures refused { IfErr result (RefusesRecords self.old.octets.items self.old.count
-            (written_rr owner.now rtype ttl data.now ∷ [])) }
+            (written_rr owner.now rtype ttl rdata.now ∷ [])) }
         ensures room { OnOk result (HasRoom self.old.octets.items self.old.count
             → HasRoom self.new.octets.items self.new.count) }
         ensures octets { OnOk result (self.new.octets.items ≡ self.old.octets.items
-            ++ record_octets (written_rr owner.now rtype ttl data.now)) }
+            ++ record_octets (written_rr owner.now rtype ttl rdata.now)) }
         ensures count { OnOk result (self.new.count ≡ self.old.count + 1) }
     {
         let Some(count) = self.count.checked_add(1) else {
             return Err(AnswerFault::TooLong);
         };
-        if data.len() > LONGEST {
+        if rdata.len() > LONGEST {
             return Err(AnswerFault::TooLong);
         }
-        push_record(&mut self.octets, owner, rtype, Class::IN, ttl, data)?;
+        push_record(&mut self.octets, owner, rtype, Class::IN, ttl, rdata)?;
         self.count = count;
         Ok(())
     }

@@ -8,10 +8,10 @@ use lib.Pointwise.{bytes_decides}
 use Rattle.definitions.specs.Dnskey.{Dnskey}
 use Rattle.definitions.specs.Limits.{pointer_limit}
 use Rattle.definitions.specs.Signing.{Fields, in_time}
-use Rattle.messages.specs.Message.{Message, Spelled, message, rrsig_at}
+use Rattle.messages.specs.Message.{AreOctets, Message, Spelled, message, rrsig_at}
 use Rattle.messages.proofs.Lists.{Has, all_at, all_fail, all_more, some_is}
 use Rattle.answer_scheme.specs.Answers.{Answers}
-use Rattle.answer_judge.specs.Honest.{AreOctets, NothingForged, over_in}
+use Rattle.answer_judge.specs.Honest.{NothingForged, over_in}
 use Rattle.answer_judge.proofs.GivenLists.{has_contained}
 use Rattle.answer_judge.proofs.Spliced.{ok_is}
 use Rattle.counterexamples_honest.specs.World.{own_key, plain}

@@ -18,7 +18,8 @@ use Rattle.answer_scheme.specs.Answers.{Answers}
 use Rattle.answer_judge_facts.specs.Judged.{judged}
 use Rattle.answer_judge_facts.specs.Judging.{Answer, Handing, Refuses, Says}
 use Rattle.answer_judge_facts.specs.declared.verdict.Refusal.TheVariants.{MixedVersions}
-use Rattle.answer_judge.specs.Honest.{AreHonest, AreOctets, NoStranger, NothingForged, Settled, WasSigned, served_by, verdict_of}
+use Rattle.messages.specs.Message.{AreOctets}
+use Rattle.answer_judge.specs.Honest.{AreHonest, NoStranger, NothingForged, Settled, WasSigned, served_by, verdict_of}
 
 -- Which of them are asked. Beside these a zone is accepted, and names, numbers and octets are such.
 pub record Premises : Type 0 where

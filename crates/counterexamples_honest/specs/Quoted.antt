@@ -5,13 +5,13 @@ use Rattle.definitions.specs.Dnskey.{Dnskey}
 use Rattle.definitions.specs.Name.{Name}
 use Rattle.definitions.specs.Signing.{Fields, in_time}
 use Rattle.messages.specs.HandedRr.{HandedRr}
-use Rattle.messages.specs.Message.{Asked, Message, Spelled, message, rrsig_at}
+use Rattle.messages.specs.Message.{AreOctets, Asked, Message, Spelled, message, rrsig_at}
 use Rattle.answer_shared.specs.Made.{HandedOut, groups_in}
 use Rattle.answer_shared.specs.Served.{Served, by_tag}
 use Rattle.answer_shared.specs.Told.{Tells}
 use Rattle.answer_scheme.specs.Answers.{Answers}
 use Rattle.answer_judge_facts.specs.Judging.{Handing}
-use Rattle.answer_judge.specs.Honest.{AreOctets, IsHonest, WasSigned}
+use Rattle.answer_judge.specs.Honest.{IsHonest, WasSigned}
 use Rattle.answer_judge.specs.Splices.{Binds, PassesNowhere}
 
 -- A signature stands in bytes that tell a message which was handed out, in a record that held at some moment. No RRset of that

@@ -114,11 +114,11 @@ fn push_counts(out: &mut String, verifications: u32, hashes: u32) -> Result<(), 
     write!(out, " verifications {verifications} hashes {hashes}")
 }
 
-fn push_data(out: &mut String, data: &DataList) -> Result<(), AllocError>
-    ensures { OnOk result (string_bytes out.new ≡ string_bytes out.old ++ data_text data.now) }
+fn push_data(out: &mut String, datas: &DataList) -> Result<(), AllocError>
+    ensures { OnOk result (string_bytes out.new ≡ string_bytes out.old ++ data_text datas.now) }
 {
     out.push_str(" ")?;
-    push_list(out, data.as_slice())
+    push_list(out, datas.as_slice())
 }
 
 fn push_judgement(out: &mut String, judgement: &Judgement) -> Result<(), AllocError>

@@ -1,5 +1,6 @@
 pub mod MessageRecords
 pub mod CountedRecords
+pub mod MessageParts
 pub mod MessageWritten
 pub mod MessageWhole
 pub mod MessageSignatures

@@ -1,6 +1,7 @@
 -- Messages by the field layout of RFC 1035, 4: one question, and the records of all sections in order. The
 -- first argument is how many pointers may be followed in a name.
-use Rattle.std.specs.Prelude.{ℕ, zero, suc, ◌+◌, ◌*◌, Bool, true, false, ◌&&◌, List, [], ◌∷◌, ◌++◌, length, Option, Some, None, Result, Ok, Err, slice_get, slice_range, slice_index, nat_le, nat_eq}
+use Rattle.std.specs.Prelude.{ℕ, zero, suc, ◌+◌, ◌*◌, ◌<◌, Bool, true, false, ◌&&◌, List, [], ◌∷◌, ◌++◌, length, Option, Some, None, Result, Ok, Err, slice_get, slice_range, slice_index, nat_le, nat_eq}
+use Rattle.std.specs.List.{AllByRecursion}
 use Rattle.definitions.specs.Name.{Name, wire, low}
 use Rattle.definitions.specs.Signing.{Fields}
 use Rattle.definitions.specs.Bitmap.{is_bitmap}
@@ -26,6 +27,10 @@ pub record Spelled : Type 0 where
 pub record Message : Type 0 where
   pub asked : Asked
   pub records : List Spelled
+
+-- numbers that are octets
+abbrev pub AreOctets : List ℕ → Type 0
+AreOctets m = AllByRecursion (λ x. x < 256) m
 
 infixl 10 ◌>>=◌
 abbrev pub ◌>>=◌ : {A B : Type 0} → Result A MessageError → (A → Result B MessageError) → Result B MessageError

@@ -53,14 +53,14 @@ fn list_records<'a>(
 /// Puts a record behind those of a list that held all records before it.
 fn list_record<'a>(
     records: &mut Vec<ViewRecord<'a>>,
-    record: ViewRecord<'a>,
+    view: ViewRecord<'a>,
     listed: Result<(), AllocError>,
 ) -> Result<(), AllocError>
     ensures before { OnOk result (IsOk listed) }
     ensures listed { OnOk result (map spelled records.new.items
-        ≡ map spelled records.old.items ++ spelled record.entry ∷ []) }
+        ≡ map spelled records.old.items ++ spelled view.entry ∷ []) }
 {
     listed?;
-    records.push(record)?;
+    records.push(view)?;
     Ok(())
 }

@@ -260,12 +260,12 @@ pub fn read_hashed_link(octets: &[u8]) -> Option<Nsec3<&[u8]>>
 /// The octets of data in canonical form (RFC 4034, 6.2).
 pub fn canonical_octets<D: ComposeRecordData>(
     alloc: Global,
-    data: &D,
+    rdata: &D,
 ) -> Result<Vec<u8>, AllocError>
-    ensures { IfOk result (λ v. v.items ≡ D.canonical_rdata data.now) }
+    ensures { IfOk result (λ v. v.items ≡ D.canonical_rdata rdata.now) }
 {
     let mut octets = Vec::with_capacity(alloc, 64)?;
-    match data.compose_canonical_rdata(&mut octets) {
+    match rdata.compose_canonical_rdata(&mut octets) {
         Ok(()) => Ok(octets),
         Err(_) => Err(AllocError),
     }

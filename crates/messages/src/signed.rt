@@ -101,21 +101,21 @@ fn compose_signed_record<N: ToName, Octs: Octets>(
     fields: &ProtoRrsig<N>,
     owner: &Name<Octs>,
     class: Class,
-    data: &[u8],
+    rdata: &[u8],
     out: &mut Vec<u8>,
 ) -> Result<(), AllocError>
     ensures ok { let f = fields_of N.name fields.now in
         let head = record_head (signed_owner f.labels owner.now) f.covered class f.ttl in
-        OnOk result (out.new.items ≡ out.old.items ++ (head ++ with_length data.now)) }
+        OnOk result (out.new.items ≡ out.old.items ++ (head ++ with_length rdata.now)) }
 {
     compose_signed_owner(alloc, fields.labels(), owner, out)?;
     out.extend_from_slice(&record_numbers(
         fields.type_covered(),
         class,
         fields.original_ttl(),
-        data.len(),
+        rdata.len(),
     ))?;
-    out.extend_from_slice(data)
+    out.extend_from_slice(rdata)
 }
 
 /// The numbers between a record's owner and its data, the length of these taken modulo 65,536.

@@ -54,18 +54,18 @@ pub fn push_record(
     rtype: Rtype,
     class: Class,
     ttl: Ttl,
-    data: &[u8],
+    rdata: &[u8],
 ) -> Result<(), AllocError>
-    requires { length data.now < 2 ^ 16 }
+    requires { length rdata.now < 2 ^ 16 }
     ensures { OnOk result (out.new.items ≡ out.old.items
-        ++ record_octets (written owner.now rtype class ttl data.now)) }
+        ++ record_octets (written owner.now rtype class ttl rdata.now)) }
 {
     owner.compose(out)?;
     push_u16(out, rtype.to_int())?;
     push_u16(out, class.to_int())?;
     push_u32(out, ttl.as_secs())?;
-    push_u16(out, data.len() as u16)?;
-    out.extend_from_slice(data)
+    push_u16(out, rdata.len() as u16)?;
+    out.extend_from_slice(rdata)
 }
 
 /// Writes a 16-bit number at the end, the highest octet first (RFC 1035, 2.3.2), or nothing.

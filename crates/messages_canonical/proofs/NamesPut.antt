@@ -10,7 +10,7 @@ use Rattle.definitions.proofs.ReadingLaws.{length-range, reading_is_short, reads
 use Rattle.messages.proofs.MessageRecords.{one_less}
 use Rattle.messages_canonical.specs.Walking.{PutsName}
 use Rattle.messages_canonical.proofs.InPlace.{range_join}
-use Rattle.messages_canonical.proofs.NamesRead.{owner_reads}
+use Rattle.messages.proofs.MessageParts.{owner_reads}
 
 -- a name that reads at a place, with so many heads at most
 abbrev pub ReadsBy : List ℕ → ℕ → ℕ → Name → ℕ → ℕ → Type 0

@@ -3,21 +3,20 @@ use Rattle.std.proofs.Common.{◌≡◌, ℕ, zero, suc, ◌+◌, ◌-◌, ◌*�
 use Rattle.std.specs.Prelude.{slice_get, slice_range}
 use Rattle.std.specs.Int.{w16, w32, to_be_bytes}
 use Rattle.std.proofs.lemmas.Nat.{be_bytes_2, be_bytes_4}
+use Rattle.definitions.specs.Limits.{pointer_limit}
 use Rattle.definitions.specs.Name.{wire}
 use Rattle.definitions.proofs.ReadingLaws.{length-range}
 use Rattle.messages.specs.declared.error.MessageError.{MessageError}
 use Rattle.messages.specs.declared.error.MessageError.TheVariants.{ShortInput}
-use Rattle.messages.specs.Message.{◌>>=◌, Spelled, behind, data_of, octet_at, u16_at, u32_at}
+use Rattle.messages.specs.Message.{◌>>=◌, AreOctets, Spelled, behind, data_of, octet_at, u16_at, u32_at}
 use Rattle.messages.specs.Rrsig.{record_numbers}
 use Rattle.messages.specs.Written.{record_octets}
-use Rattle.messages.proofs.CountedRecords.{bound}
+use Rattle.messages.proofs.MessageParts.{bound, octet_there, placed_record}
 use Rattle.messages_canonical.specs.Canonical.{with_data}
 use Rattle.messages_canonical.specs.Walking.{StandsAt}
 use Rattle.messages_canonical.proofs.InPlace.{range_join}
 use Rattle.messages_canonical.proofs.NamesPut.{empty, range_more}
-use Rattle.messages_canonical.proofs.NamesRead.{AreOctets, octet_there}
 use Rattle.messages_canonical.proofs.Pieces.{record_pieces}
-use Rattle.messages_canonical.proofs.Walked.{placed_record}
 
 -- ---- numbers
 
@@ -110,7 +109,7 @@ pub record Own (m : List ℕ) (p : ℕ) (r : Spelled) : Type 0 where
 
 pub own_data : (m : List ℕ) (p : ℕ) (r : Spelled) → AreOctets m → StandsAt m p r → Own m p r
 own_data m p r o h =
-    let w = placed_record m p (r, behind r) h in
+    let w = placed_record pointer_limit m p (r, behind r) h in
     let size : length (data_of m r) ≡ r.length = length-range m r.start r.length w.inside in
     let from : r.start - 10 ≡ w.end = omega (arith, w.start) in
     let numbers = numbers_there m w.end r.rtype r.class r.ttl r.length o w.rtype w.class w.ttl w.length_at in

@@ -9,14 +9,14 @@ use Rattle.messages.specs.Numbers.{NumbersReadAlike}
 use Rattle.std.proofs.lemmas.List.{length-map}
 use Rattle.messages.specs.declared.view.ViewRecord.{ViewRecord}
 use Rattle.messages.specs.Record.{spelled}
-use Rattle.messages.proofs.CountedRecords.{records_at-length}
 use Rattle.messages.proofs.Lists.{items_from}
+use Rattle.messages.proofs.MessageParts.{headed, next_record, placed_record, records_at-length}
 use Rattle.messages.proofs.MessageRecords.{one_less}
 use Rattle.messages_canonical.specs.Canonical.{IsCanonical, IsTooLong}
 use Rattle.messages_canonical.specs.InForm.{GrowsTooLong, IsFormOf, IsInForm, are_in_form, is_in_form}
 use Rattle.messages_canonical.specs.Walking.{EndsName, FindsRecords, Passes, StandsAt, TellsForm, data_in_form}
 use Rattle.messages_canonical.proofs.InPlace.{in_form_there}
-use Rattle.messages_canonical.proofs.Walked.{Leaves, headed, next_record, owner_ends, placed_record}
+use Rattle.messages_canonical.proofs.Walked.{Leaves, owner_ends}
 
 -- ---- octets
 
@@ -71,33 +71,35 @@ module _ (alike : NumbersReadAlike) (m : List ℕ) where
   -- ---- the header
 
   pub no_place : EndsName m 12 None → (read : Message) → message pointer_limit m ≡ Ok read → ⊥
-  no_place ends read h = let w = headed m read h in nothing_is w.end (owner_ends m 12 (read.asked.name, w.end) None w.name ends)
+  no_place ends read h = let q = (headed pointer_limit m read h).question in nothing_is q.end (owner_ends m 12 (read.asked.name, q.end) None q.name ends)
 
   pub place : (count end : ℕ) → 12 ≤ length m → count ≡ pair m 6 + pair m 8 + pair m 10 → EndsName m 12 (Some end) → FindsRecords m (Some (end + 4, count))
   place count end long sum ends read h =
-      let w = headed m read h in
-      let same : end ≡ w.end = something_is end w.end (owner_ends m 12 (read.asked.name, w.end) (Some end) w.name ends) in
+      let w = headed pointer_limit m read h in
+      let q = w.question in
+      let same : end ≡ q.end = something_is end q.end (owner_ends m 12 (read.asked.name, q.end) (Some end) q.name ends) in
+      let behind : end + 4 ≡ w.behind = ap (λ n. n + 4) same ∙ sym q.limit in
       let a = pair_is 6 w.answers (omega (arith, long)) w.answers_at in
       let b = pair_is 8 w.authority (omega (arith, long)) w.authority_at in
       let c = pair_is 10 w.additional (omega (arith, long)) w.additional_at in
       let all : count ≡ w.answers + w.authority + w.additional = omega (arith, sum, a, b, c) in
-      (w.end + 4, w.answers + w.authority + w.additional, (λ i. Some (same i + 4, all i)), w.records)
+      (w.behind, w.answers + w.authority + w.additional, (λ i. Some (behind i, all i)), w.records)
 
   -- ---- a record
 
   pub no_owner : (p : ℕ) (r : Spelled) (e : ℕ) → EndsName m p None → record_at pointer_limit m p ≡ Ok (r, e) → ⊥
-  no_owner p r e ends h = let w = placed_record m p (r, e) h in nothing_is w.end (owner_ends m p (r.owner, w.end) None w.owner ends)
+  no_owner p r e ends h = let w = placed_record pointer_limit m p (r, e) h in nothing_is w.end (owner_ends m p (r.owner, w.end) None w.owner ends)
 
   pub no_numbers : (p end : ℕ) (r : Spelled) (e : ℕ) → EndsName m p (Some end) → length m < end + 10 → record_at pointer_limit m p ≡ Ok (r, e) → ⊥
   no_numbers p end r e ends short h =
-      let w = placed_record m p (r, e) h in
+      let w = placed_record pointer_limit m p (r, e) h in
       let same : end ≡ w.end = something_is end w.end (owner_ends m p (r.owner, w.end) (Some end) w.owner ends) in
       omega (arith, short, same, w.start, w.limit, w.inside)
 
   pub record_there : (p end t size : ℕ) (r : Spelled) (e : ℕ) → EndsName m p (Some end) → end + 10 ≤ length m → t ≡ pair m end → size ≡ pair m (end + 8) → record_at pointer_limit m p ≡ Ok (r, e)
       → (t ≡ r.rtype) × (end + 10 ≡ r.start) × (end + 10 + size ≡ e) × (e ≤ length m)
   record_there p end t size r e ends there type long h =
-      let w = placed_record m p (r, e) h in
+      let w = placed_record pointer_limit m p (r, e) h in
       let same : end ≡ w.end = something_is end w.end (owner_ends m p (r.owner, w.end) (Some end) w.owner ends) in
       let rtype : pair m end ≡ r.rtype = pair_is end r.rtype (omega (arith, there)) (ap (u16_at m) same ∙ w.rtype) in
       let len : pair m (end + 8) ≡ r.length = pair_is (end + 8) r.length (omega (arith, there)) (ap (λ n. u16_at m (n + 8)) same ∙ w.length_at) in
@@ -126,7 +128,7 @@ told_are a b e = cc
 -- what is told of the data of a record that reads there
 pub form_here : (m : List ℕ) (p t start limit : ℕ) (b : Bool) → Passes m p (Some (t, start, limit)) → b ≡ data_in_form pointer_limit m t start limit → (r : Spelled × ℕ) → record_at pointer_limit m p ≡ Ok r → (limit ≡ r.1) × (is_in_form pointer_limit m r.0 ≡ b)
 form_here m p t start limit b passes is r h =
-    let w = placed_record m p r h in
+    let w = placed_record pointer_limit m p r h in
     let same = told_are (t, start, limit) (r.0.rtype, r.0.start, r.1) (passes r.0 r.1 h) in
     let inside : behind r.0 ≤ length m = omega (arith, w.limit, w.inside) in
     let end : behind r.0 ≡ r.1 = sym w.limit in (
@@ -137,7 +139,7 @@ form_here m p t start limit b passes is r h =
 -- there is a record where some are left
 pub record_left : (m : List ℕ) (rs : List Spelled) (left p : ℕ) → Leaves m rs (suc left) p → Passes m p None → ⊥
 record_left m rs left p l passes =
-    let n = next_record m left p l.rest l.reads in
+    let n = next_record pointer_limit m left p l.rest l.reads in
     let e = passes n.next.0 n.next.1 n.is in
     cc
 
@@ -156,9 +158,9 @@ next_stands m rs i p r inside is stand =
     let all : map spelled (drop i rs) ≡ spelled r ∷ map spelled (drop (i + 1) rs) = ap (map spelled) (items_from rs i r inside is) in
     let some : records_at (suc left) pointer_limit m p ≡ Ok (spelled r ∷ map spelled (drop (i + 1) rs)) =
     ap (λ n. records_at n pointer_limit m p) (sym (one_less (length rs) i inside)) ∙ stand ∙ ap Ok all in
-    let n = next_record m left p (spelled r ∷ map spelled (drop (i + 1) rs)) some in
+    let n = next_record pointer_limit m left p (spelled r ∷ map spelled (drop (i + 1) rs)) some in
     let same = heads_are (spelled r) n.next.0 (map spelled (drop (i + 1) rs)) n.more n.whole in
-    let w = placed_record m p n.next n.is in
+    let w = placed_record pointer_limit m p n.next n.is in
     let end : r.start + r.length ≡ n.next.1 = ap behind same.0 ∙ sym w.limit in (
       n.is ∙ (λ i. Ok (sym same.0 i, sym end i)),
       ap (λ x. records_at left pointer_limit m x) end ∙ n.reads ∙ ap Ok (sym same.1),

@@ -13,7 +13,7 @@ use Rattle.messages.specs.WrittenLaws.{ReadsBack}
 use Rattle.messages.proofs.MessageWritten.{wire-length}
 use Rattle.messages_canonical.specs.Canonical.{IsCanonical, IsTooLong, canonical_octets, canonical_records, head_octets, most_octets}
 use Rattle.messages_canonical.proofs.HeadRead.{head_of}
-use Rattle.messages_canonical.proofs.NamesRead.{octets_all}
+use Rattle.messages.proofs.MessageParts.{octets_all}
 use Rattle.messages_canonical.proofs.WrittenBack.{reads_back}
 
 -- header and question take no more than twelve octets, a name and four

@@ -6,13 +6,13 @@ use Rattle.std.proofs.lemmas.List.{append-nil, length-map, take-append-drop}
 use Rattle.definitions.specs.Name.{wire, wire_len}
 use Rattle.definitions.specs.Limits.{pointer_limit}
 use Rattle.messages.specs.declared.error.MessageError.{MessageError}
-use Rattle.messages.specs.Message.{Asked, Message, Spelled, ◌>>=◌, asked_at, message, one_question, owner_at, records_at, u16_at}
+use Rattle.messages.specs.Message.{AreOctets, Asked, Message, Spelled, ◌>>=◌, asked_at, message, one_question, owner_at, records_at, u16_at}
 use Rattle.messages.specs.Written.{Written, question_octets, record_octets}
 use Rattle.messages.specs.WrittenLaws.{IsRecord, ReadsBack, first_place, spelled_from}
 use Rattle.messages.proofs.MessageWritten.{StandsAt, bind_ok, data_here, owner_here, past, records_here, u16_here, wire-length}
 use Rattle.messages_canonical.specs.Canonical.{canonical_octets, canonical_record, canonical_records, head_octets, most_octets}
 use Rattle.messages_canonical.specs.Laws.{CanonicalReadsBack}
-use Rattle.messages_canonical.proofs.NamesRead.{AreOctets, ReadsRecord}
+use Rattle.messages_canonical.proofs.NamesRead.{ReadsRecord}
 use Rattle.messages_canonical.proofs.Pieces.{data_fit}
 use Rattle.messages_canonical.proofs.HeadRead.{HeadOf, head_of, number_front}
 
@@ -86,10 +86,10 @@ module _ (m : List ℕ) (read : Message) (o : AreOctets m) (reads : message poin
   body_short : length body ≤ most_octets
   body_short = omega (arith, length-append (head_octets m q) body, short)
 
-  count_is : head.answers + head.authority + head.additional ≡ length ws
+  count_is : head.parts.answers + head.parts.authority + head.parts.additional ≡ length ws
   count_is = head.count ∙ sym (length-map read.records (canonical_record pointer_limit m))
 
-  records_are : records_at (head.answers + head.authority + head.additional) pointer_limit new (first_place q) ≡ Ok (spelled_from (first_place q) ws)
+  records_are : records_at (head.parts.answers + head.parts.authority + head.parts.additional) pointer_limit new (first_place q) ≡ Ok (spelled_from (first_place q) ws)
   records_are =
       ap (λ n. records_at n pointer_limit new (first_place q)) count_is
       ∙ records_here ws new (first_place q) [] (all_fit pointer_limit m read.records head.records body_short) records_stand
@@ -104,14 +104,14 @@ module _ (m : List ℕ) (read : Message) (o : AreOctets m) (reads : message poin
 
   pub reads_back : ReadsBack new q ws
   reads_back =
-      let total = head.answers + head.authority + head.additional in
+      let total = head.parts.answers + head.parts.authority + head.parts.additional in
       record {
         reads =
-            bind_ok (u16_at new 4) head.questions _ _ (same_number 4 (omega arith) ∙ head.questions_at)
-            (bind_ok (u16_at new 6) head.answers _ _ (same_number 6 (omega arith) ∙ head.answers_at)
-            (bind_ok (u16_at new 8) head.authority _ _ (same_number 8 (omega arith) ∙ head.authority_at)
-            (bind_ok (u16_at new 10) head.additional (λ k. behind_counts head.questions (head.answers + head.authority + k)) _ (same_number 10 (omega arith) ∙ head.additional_at)
-            (bind_ok (one_question head.questions) head.only (λ only. asked_at pointer_limit new 12 >>= λ a. behind_question total a) _ head.one
+            bind_ok (u16_at new 4) head.parts.questions _ _ (same_number 4 (omega arith) ∙ head.parts.questions_at)
+            (bind_ok (u16_at new 6) head.parts.answers _ _ (same_number 6 (omega arith) ∙ head.parts.answers_at)
+            (bind_ok (u16_at new 8) head.parts.authority _ _ (same_number 8 (omega arith) ∙ head.parts.authority_at)
+            (bind_ok (u16_at new 10) head.parts.additional (λ k. behind_counts head.parts.questions (head.parts.answers + head.parts.authority + k)) _ (same_number 10 (omega arith) ∙ head.parts.additional_at)
+            (bind_ok (one_question head.parts.questions) head.parts.only (λ only. asked_at pointer_limit new 12 >>= λ a. behind_question total a) _ head.parts.one
             (bind_ok (asked_at pointer_limit new 12) (q, first_place q) (behind_question total) _ asked_here
             (bind_ok (records_at total pointer_limit new (first_place q)) (spelled_from (first_place q) ws) (λ rs. Ok (record { asked = q; records = rs })) _ records_are refl))))));
         octets = data_here ws new (first_place q) [] records_stand;

@@ -25,17 +25,17 @@ pub(crate) const ROOM_FOR_DATA: usize = 128;
 /// doesn't read them.
 pub(crate) fn put_data(
     message: &[u8],
-    record: &ViewRecord,
-    data: &mut Vec<u8>,
+    view: &ViewRecord,
+    rdata: &mut Vec<u8>,
 ) -> Result<bool, AllocError>
-    ensures { let formed = formed_data pointer_limit message.now (spelled record.now) in
-        IfOk result (λ b. PutsData b data.new.items formed) }
+    ensures { let formed = formed_data pointer_limit message.now (spelled view.now) in
+        IfOk result (λ b. PutsData b rdata.new.items formed) }
 {
-    let limit = record.start + record.length;
+    let limit = view.start + view.length;
     if limit > message.len() {
         return Ok(false);
     }
-    put_formed(message, record.rtype, record.start, limit, data)
+    put_formed(message, view.rtype, view.start, limit, rdata)
 }
 
 /// The same of data from a place up to a limit.
@@ -44,18 +44,18 @@ pub(crate) fn put_formed(
     rtype: Rtype,
     start: usize,
     limit: usize,
-    data: &mut Vec<u8>,
+    rdata: &mut Vec<u8>,
 ) -> Result<bool, AllocError>
     requires { limit ≤ length message.now }
     ensures { let form = form_of rtype (slice_index message.now start) in
         let formed = parts_at pointer_limit message.now limit form start in
-        IfOk result (λ b. PutsData b data.new.items formed) }
+        IfOk result (λ b. PutsData b rdata.new.items formed) }
 {
-    data.clear();
+    rdata.clear();
     let first = message.get(start).copied().unwrap_or(0);
     let mut at = start;
     for part in form_of(rtype, first) {
-        match put_part(message, *part, at, limit, data)? {
+        match put_part(message, *part, at, limit, rdata)? {
             Some(behind) => at = behind,
             None => return Ok(false),
         }
@@ -80,32 +80,32 @@ fn put_part(
     part: Part,
     at: usize,
     limit: usize,
-    data: &mut Vec<u8>,
+    rdata: &mut Vec<u8>,
 ) -> Result<Option<usize>, AllocError>
     requires { limit ≤ length message.now }
     ensures { let is = part_at pointer_limit message.now limit part at in
-        IfOk result (λ o. PutsPart o data.old.items data.new.items is) }
+        IfOk result (λ o. PutsPart o rdata.old.items rdata.new.items is) }
 {
     match part {
         Part::Lowered => {
             let Some((_, behind)) = name_upto(message, at, limit) else {
                 return Ok(None);
             };
-            put_lowered_at(message, at, data)?;
+            put_lowered_at(message, at, rdata)?;
             Ok(Some(behind))
         }
         Part::Kept => {
             let Some((_, behind)) = name_upto(message, at, limit) else {
                 return Ok(None);
             };
-            put_name_at(message, at, data)?;
+            put_name_at(message, at, rdata)?;
             Ok(Some(behind))
         }
         _ => {
             let Some((octets, behind)) = octets_upto(message, part, at, limit) else {
                 return Ok(None);
             };
-            data.extend_from_slice(octets)?;
+            rdata.extend_from_slice(octets)?;
             Ok(Some(behind))
         }
     }
@@ -124,10 +124,10 @@ pub(crate) fn name_upto(message: &[u8], at: usize, limit: usize) -> Option<(Pars
 }
 
 /// Puts a name in full at the end, as it is spelled.
-pub(crate) fn put_kept(name: &ParsedName, data: &mut Vec<u8>) -> Result<(), AllocError>
-    ensures { OnOk result (data.new.items ≡ data.old.items ++ wire (parsed_name name.now)) }
+pub(crate) fn put_kept(name: &ParsedName, rdata: &mut Vec<u8>) -> Result<(), AllocError>
+    ensures { OnOk result (rdata.new.items ≡ rdata.old.items ++ wire (parsed_name name.now)) }
 {
-    match compose_name(name, data) {
+    match compose_name(name, rdata) {
         Ok(()) => Ok(()),
         Err(_) => Err(AllocError),
     }

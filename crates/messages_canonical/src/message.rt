@@ -114,43 +114,43 @@ fn push_records(
 fn push_record(
     bytes: &[u8],
     at: usize,
-    record: &ViewRecord,
-    data: &mut Vec<u8>,
+    view: &ViewRecord,
+    rdata: &mut Vec<u8>,
     octets: &mut Vec<u8>,
 ) -> Result<bool, AllocError>
-    requires { StandsAt bytes.now at (spelled record.now) }
-    ensures { let more = record_octets (canonical_record pointer_limit bytes.now (spelled record.now)) in
+    requires { StandsAt bytes.now at (spelled view.now) }
+    ensures { let more = record_octets (canonical_record pointer_limit bytes.now (spelled view.now)) in
         IfOk result (λ b. Writes b octets.old.items octets.new.items more) }
 {
-    if !record_stands(bytes, record) && put_data(bytes, record, data)? {
-        return push_with_data(bytes, at, record, data, octets);
+    if !record_stands(bytes, view) && put_data(bytes, view, rdata)? {
+        return push_with_data(bytes, at, view, rdata, octets);
     }
-    push_with_own_data(bytes, at, record, octets)
+    push_with_own_data(bytes, at, view, octets)
 }
 
 /// Whether the data of a record are seen to be in canonical form as they stand.
-fn record_stands(bytes: &[u8], record: &ViewRecord) -> bool
-    ensures { let r = spelled record.now in
+fn record_stands(bytes: &[u8], view: &ViewRecord) -> bool
+    ensures { let r = spelled view.now in
         result ≡ true → canonical_rdata pointer_limit bytes.now r ≡ data_of bytes.now r }
 {
-    let limit = record.start + record.length;
-    limit <= bytes.len() && data_stand(bytes, record.rtype, record.start, limit)
+    let limit = view.start + view.length;
+    limit <= bytes.len() && data_stand(bytes, view.rtype, view.start, limit)
 }
 
 /// Writes the record at a place with its data as they stand at the end; false where a message has no room for it.
 fn push_with_own_data(
     bytes: &[u8],
     at: usize,
-    record: &ViewRecord,
+    view: &ViewRecord,
     octets: &mut Vec<u8>,
 ) -> Result<bool, AllocError>
-    requires { StandsAt bytes.now at (spelled record.now) }
-    ensures { let r = spelled record.now in
+    requires { StandsAt bytes.now at (spelled view.now) }
+    ensures { let r = spelled view.now in
         let more = record_octets (with_data r (data_of bytes.now r)) in
         IfOk result (λ b. Writes b octets.old.items octets.new.items more) }
 {
     put_name_at(bytes, at, octets)?;
-    octets.extend_from_slice(&bytes[record.start - NUMBERS..record.start + record.length])?;
+    octets.extend_from_slice(&bytes[view.start - NUMBERS..view.start + view.length])?;
     Ok(octets.len() <= MOST)
 }
 
@@ -158,20 +158,20 @@ fn push_with_own_data(
 fn push_with_data(
     bytes: &[u8],
     at: usize,
-    record: &ViewRecord,
-    data: &[u8],
+    view: &ViewRecord,
+    rdata: &[u8],
     octets: &mut Vec<u8>,
 ) -> Result<bool, AllocError>
-    requires { StandsAt bytes.now at (spelled record.now) }
-    ensures { let more = record_octets (with_data (spelled record.now) data.now) in
+    requires { StandsAt bytes.now at (spelled view.now) }
+    ensures { let more = record_octets (with_data (spelled view.now) rdata.now) in
         IfOk result (λ b. Writes b octets.old.items octets.new.items more) }
 {
-    if data.len() > MOST {
+    if rdata.len() > MOST {
         return Ok(false);
     }
     put_name_at(bytes, at, octets)?;
-    octets.extend_from_slice(&record_numbers(record.rtype, record.class, record.ttl, data.len()))?;
-    octets.extend_from_slice(data)?;
+    octets.extend_from_slice(&record_numbers(view.rtype, view.class, view.ttl, rdata.len()))?;
+    octets.extend_from_slice(rdata)?;
     Ok(octets.len() <= MOST)
 }
 

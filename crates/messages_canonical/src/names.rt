@@ -39,34 +39,34 @@ pub(crate) fn end_in_full(message: &[u8], start: usize) -> Option<usize>
 pub(crate) fn put_lowered_at(
     message: &[u8],
     start: usize,
-    data: &mut Vec<u8>,
+    rdata: &mut Vec<u8>,
 ) -> Result<(), AllocError>
     requires { NameReads message.now start }
     ensures { let octets = wire (low (name_read message.now start)) in
-        OnOk result (data.new.items ≡ data.old.items ++ octets) }
+        OnOk result (rdata.new.items ≡ rdata.old.items ++ octets) }
 {
-    let len = data.len();
-    put_name_at(message, start, data)?;
-    lower_behind(data, len);
+    let len = rdata.len();
+    put_name_at(message, start, rdata)?;
+    lower_behind(rdata, len);
     Ok(())
 }
 
 /// Lowers the letters behind so many octets.
-fn lower_behind(data: &mut Vec<u8>, count: usize)
-    requires { count ≤ length data.old.items }
-    ensures { data.new.items
-        ≡ take count data.old.items ++ str_to_ascii_lowercase (drop count data.old.items) }
+fn lower_behind(rdata: &mut Vec<u8>, count: usize)
+    requires { count ≤ length rdata.old.items }
+    ensures { rdata.new.items
+        ≡ take count rdata.old.items ++ str_to_ascii_lowercase (drop count rdata.old.items) }
 {
-    data.as_mut_slice()[count..].make_ascii_lowercase();
+    rdata.as_mut_slice()[count..].make_ascii_lowercase();
 }
 
 /// Puts the name that reads at a place in full at the end, as it is spelled (RFC 1035, 4.1.4).
 pub(crate) fn put_name_at(
     message: &[u8],
     start: usize,
-    data: &mut Vec<u8>,
+    rdata: &mut Vec<u8>,
 ) -> Result<(), AllocError>
-    ensures { OnOk result (PutsName message.now start data.old.items data.new.items) }
+    ensures { OnOk result (PutsName message.now start rdata.old.items rdata.new.items) }
 {
     let (mut from, mut place) = (start, start);
     for _ in 0..MOST_HEADS {
@@ -74,12 +74,12 @@ pub(crate) fn put_name_at(
             return Ok(());
         };
         if head == 0 {
-            return data.extend_from_slice(&message[from..place + 1]);
+            return rdata.extend_from_slice(&message[from..place + 1]);
         }
         if head < 192 {
             place += usize::from(head) + 1;
         } else {
-            put_run(message, from, place, data)?;
+            put_run(message, from, place, rdata)?;
             let Some(low) = message.get(place + 1).copied() else {
                 return Ok(());
             };
@@ -91,13 +91,13 @@ pub(crate) fn put_name_at(
 }
 
 /// Puts the octets from one place up to another at the end. Before most pointers stand none.
-fn put_run(message: &[u8], from: usize, to: usize, data: &mut Vec<u8>) -> Result<(), AllocError>
+fn put_run(message: &[u8], from: usize, to: usize, rdata: &mut Vec<u8>) -> Result<(), AllocError>
     requires ordered { from ≤ to }
     requires inside { to ≤ length message.now }
-    ensures { OnOk result (data.new.items ≡ data.old.items ++ slice_range message.now from to) }
+    ensures { OnOk result (rdata.new.items ≡ rdata.old.items ++ slice_range message.now from to) }
 {
     if from == to {
         return Ok(());
     }
-    data.extend_from_slice(&message[from..to])
+    rdata.extend_from_slice(&message[from..to])
 }

@@ -24,12 +24,12 @@ pub fn are_records_in_form(alloc: Global, records: &[ZoneRecord]) -> Result<bool
 }
 
 /// The same of one record.
-pub fn is_record_in_form(alloc: Global, record: &ZoneRecord) -> Result<bool, AllocError>
-    ensures { IfOk result (λ b. b ≡ is_record_in_form (handed_of record.now)) }
+pub fn is_record_in_form(alloc: Global, zone_record: &ZoneRecord) -> Result<bool, AllocError>
+    ensures { IfOk result (λ b. b ≡ is_record_in_form (handed_of zone_record.now)) }
 {
     let mut octets = Vec::new(alloc);
-    match record.data().compose_canonical_rdata(&mut octets) {
-        Ok(()) => is_data_in_form(alloc, record.rtype(), &octets),
+    match zone_record.data().compose_canonical_rdata(&mut octets) {
+        Ok(()) => is_data_in_form(alloc, zone_record.rtype(), &octets),
         Err(_) => Err(AllocError),
     }
 }

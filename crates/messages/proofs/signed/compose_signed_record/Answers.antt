@@ -11,7 +11,7 @@ pub returns : goal.returns
 returns g c =
     let f = fields_of g.N.Labels.name c.args.fields.now in
     let old = c.args.out.now.items in
-    let octets = c.args.data.now in
+    let octets = c.args.rdata.now in
     let owner = wire (signed_owner f.labels c.args.owner.now) in
     let numbers = record_numbers f.covered c.args.class f.ttl (length octets) in
     let first : c.compose_signed_owner.new.out.items ≡ old ++ owner =

@@ -7,4 +7,4 @@ use Rattle.messages_canonical.proofs.data.put_formed.Given as goal
 abbrev pub invariant-loop-part : goal.invariant-loop-part
 invariant-loop-part l =
     parts_at pointer_limit l.message l.limit l.part-items l.start
-    ≡ in_front l.data.items (parts_at pointer_limit l.message l.limit (drop l.part-index l.part-items) l.at)
+    ≡ in_front l.rdata.items (parts_at pointer_limit l.message l.limit (drop l.part-index l.part-items) l.at)

@@ -20,7 +20,7 @@ returns-in_ok-put_lowered_at-in-Lowered c =
     let there = reads_there m c.args.at n (owner_upto m c.args.at c.args.limit n read) in (
       wire (low n.0),
       ap (λ d. part_at pointer_limit m c.args.limit d c.args.at) c.in-Lowered.is ∙ ap (option_map (λ (x : Name × ℕ). (wire (low x.0), x.1))) read,
-      c.in_ok-put_lowered_at-in-Lowered.ensures ∙ ap (λ (x : Name). c.args.data.now.items ++ wire (low x)) there.1,
+      c.in_ok-put_lowered_at-in-Lowered.ensures ∙ ap (λ (x : Name). c.args.rdata.now.items ++ wire (low x)) there.1,
     )
 
 pub returns-in_ok-put_name_at-in-Kept : goal.returns-in_ok-put_name_at-in-Kept

@@ -9,7 +9,7 @@ pub returns : goal.returns
 returns c =
     let m = c.args.bytes.now in
     let a = c.extend_from_slice.new.self.items in
-    let b = c.put_kept.new.data.items in
+    let b = c.put_kept.new.rdata.items in
     let d = c.push_u16.new.out.items in
     head_written m c.args.octets.now.items a b d c.push_u16-2.new.out.items c.args.view.now.asked (take c.min.result m)
     (ap (λ n. take n m) c.min.ensures ∙ take_min 12 m)
