@@ -17,12 +17,13 @@ use Rattle.definitions.specs.Limits.{pointer_limit}
 use Rattle.definitions.specs.Name.{Name, name_cmp, same}
 use Rattle.definitions.specs.Zone.{sorted_data}
 use Rattle.messages.specs.Message.{Spelled, canonical_data}
-use Rattle.answer_judge_facts.specs.Marked.{AreGathered, IsAlone, IsGathered, are_apart, has_place, holds_one, is_chain, is_chain_type, is_like, is_of, stands_alone}
+use Rattle.answer_judge_facts.specs.Marked.{AreGathered, IsAlone, IsGathered, has_place, holds_one, is_chain, is_chain_type, is_of, stands_alone}
 use Rattle.answer_judge_facts.specs.Ranked.{AreRanked, IsRun, alike_len, are_alike, chain_cmp, place_of, run_data, sought_cmp, type_rank}
 use Rattle.answer_judge_facts.specs.Verified.{datum_of, rrset_in}
 use Rattle.answer_judge_facts.specs.declared.groups.Group.{Group}
 use Rattle.answer_judge_facts.proofs.JudgeFacts.{alone_is, alone_owner}
 use Rattle.answer_judge_facts.proofs.JudgeGathered.{all_push, any_kept, any_push, same_swap}
+use Rattle.answer_judge_facts.proofs.JudgeMarks.{are_apart, is_like}
 use Rattle.answer_judge_facts.proofs.Places.{apart_parts, none_ranked, ranked_push}
 use Rattle.messages.proofs.Lists.{all_more}
 
@@ -214,7 +215,6 @@ pub all_gathered : (m : List ℕ) (apex : Name) (rs : List Spelled) (gs : List G
 all_gathered m apex rs gs c =
     let done : c.done ≡ rs = sym (append-nil c.done) ∙ c.whole in
     record {
-      apart = ranked_apart gs c.ranked;
       each = c.each;
       all = subst (AllByRecursion (IsGathered m apex rs gs)) done c.all;
     }

@@ -133,7 +133,6 @@ module _ (m : List ℕ) (apex : Name) (rs ys : List Spelled) (moved : IsPermutat
   -- what was gathered of them was gathered of the message
   pub gathered_whole : (gs : List Group) → AreGathered m apex ys ys gs → AreGathered m apex rs rs gs
   gathered_whole gs a = record {
-    apart = a.apart;
     each = all_more (IsAlone m apex ys) (IsAlone m apex rs) gs each_same a.each;
     all = all_has (IsGathered m apex rs gs) rs (λ r h c s. all_at (IsGathered m apex ys gs) ys r a.all (to_has ys r (chained r (to_in rs r h) c)) c (alone_same r.rtype r.owner ∙ s));
   }

@@ -2,7 +2,7 @@
 use Rattle.std.proofs.Common.{◌≡◌, ℕ, zero, suc, ◌<◌, ◌+◌, Bool, true, false, not, ◌&&◌, ◌||◌, ◌==◌, cond, List, [], ◌∷◌, ◌++◌, map, length, get_or, refl, sym, ap, subst, ◌∙◌, arith, ⊎_elim, Ordering}
 use Rattle.std.specs.Fn.{Called, ComputesKey}
 use Rattle.std.specs.List.Sorted.{IsBinarySearchResult, IsSearchInRange}
-use Rattle.std.specs.Prelude.{Err, IfSome, MatchOption, Ok, Option, Result, is_some}
+use Rattle.std.specs.Prelude.{Err, IfSome, MatchOption, Ok, Option, Result, is_some, option_to_list}
 use Rattle.std.specs.Result.{result_ok}
 use Rattle.std.proofs.lemmas.Fn.{always_returns_same}
 use denote.Param.Members.{Mut}
@@ -17,16 +17,16 @@ use Rattle.std.proofs.lemmas.Bool.{and_from, and_parts, eq-eqb, eqb-true, false_
 use Rattle.definitions.proofs.NameLaws.{equal_is_same, same_is_equal}
 use Rattle.definitions.specs.Name.{Name, name_cmp, same}
 use Rattle.messages.specs.Message.{Spelled}
-use Rattle.answer_judge_facts.specs.Marked.{IsAlone, are_apart, is_chain_type, is_like, is_of, is_proved, marked, marked_if}
+use Rattle.answer_judge_facts.specs.Marked.{IsAlone, is_chain_type, is_of, is_proved, marked, marked_if}
 use Rattle.answer_judge_facts.specs.Ranked.{AreRanked, place_of, sought_cmp, type_rank}
 use Rattle.answer_judge_facts.specs.Verified.{Trusting}
 use Rattle.answer_judge_facts.specs.declared.groups.Group.{Group}
 use Rattle.answer_judge_facts.specs.declared.groups.Signed.{Signed}
 use Rattle.answer_judge_facts.proofs.ChainRuns.{both_equal, sought_total}
 use Rattle.answer_judge_facts.proofs.JudgeFacts.{chain_type}
-use Rattle.answer_judge_facts.proofs.Places.{none_found, none_ranked, ranked_push}
+use Rattle.answer_judge_facts.proofs.Places.{none_found, none_ranked, ranked_front, ranked_push}
 use Rattle.answer_judge_facts.proofs.JudgeGathered.{same_swap}
-use Rattle.answer_judge_facts.proofs.JudgeMarks.{any_at, none_like, or_no}
+use Rattle.answer_judge_facts.proofs.JudgeMarks.{any_at, are_apart, is_like, none_like, or_no}
 use Rattle.answer_judge_facts.proofs.JudgeTried.{both_of}
 
 places_kept : (b : Group → Option Signed) (gs : List Group) → map place_of (map (λ g. marked_if (b g) g) gs) ≡ map place_of gs
@@ -110,6 +110,10 @@ below_asked m apex rs (g ∷ gs) x each d = (
 
 pub asked_ranked : (m : List ℕ) (apex : Name) (rs : List Spelled) (gs : List Group) (x : Group) (new : List Group) → AllByRecursion (IsAlone m apex rs) gs → AreRanked gs → is_chain_type x.rtype ≡ false → new ≡ gs ++ x ∷ [] → AreRanked new
 asked_ranked m apex rs gs x new each s d n = subst AreRanked (sym n) (ranked_push place_of sought_cmp sought_total gs x s (below_asked m apex rs gs x each d))
+
+-- without the last
+pub front_ranked : (gs : List Group) (last : Option Group) → AreRanked (gs ++ option_to_list last) → AreRanked gs
+front_ranked gs last s = ranked_front place_of sought_cmp sought_total gs (option_to_list last) s
 
 -- one group is in order
 pub one_ranked : (x : Group) → AreRanked (x ∷ [])

@@ -18,11 +18,11 @@ use Rattle.answer_judge_facts.specs.Sought.{Sought}
 use Rattle.answer_judge_facts.specs.Counted.{can_try, is_tried, one_if, tries, tries_fields}
 use Rattle.answer_judge_facts.specs.Facts.{fits_key, is_due, is_signature, labels_fit}
 use Rattle.denial_laws.specs.NsecRules.{first_some}
-use Rattle.answer_judge_facts.specs.Marked.{are_apart, data_in, is_like, is_of, is_tried_in, marked, or_first, signed_of, tries_group, tries_in}
+use Rattle.answer_judge_facts.specs.Marked.{data_in, is_of, is_tried_in, marked, or_first, signed_of, tries_group, tries_in}
 use Rattle.answer_judge_facts.specs.Verified.{Trusting, is_verified, verified_with}
 use Rattle.answer_judge_facts.specs.declared.groups.Group.{Group}
 use Rattle.answer_judge_facts.proofs.JudgeCase.{is_due-owner, is_verified-owner}
-use Rattle.answer_judge_facts.proofs.JudgeMarks.{any_at, marked_done, marked_is, none_like, or_no, or_rest}
+use Rattle.answer_judge_facts.proofs.JudgeMarks.{any_at, are_apart, is_like, marked_done, marked_is, none_like, or_no, or_rest}
 use Rattle.answer_judge_facts.proofs.JudgeTried.{both_of}
 
 -- ---- tests of two parts

@@ -4,22 +4,23 @@ use Rattle.std.specs.Prelude.{Option, Some, None, is_some}
 use Rattle.std.specs.List.{list_any, filter_map, cons_option, AllByRecursion}
 use Rattle.std.specs.Option.{option_map}
 use Rattle.definitions.specs.Signing.{Fields}
-use Rattle.std.proofs.lemmas.Bool.{and_parts, eqb-true, false≢true}
+use Rattle.std.proofs.lemmas.Bool.{and_parts, eqb-true}
 use Rattle.definitions.proofs.Members.{both_ways}
 use Rattle.definitions.specs.Name.{Name, low, same, at_or_above}
 use Rattle.definitions.specs.Limits.{pointer_limit}
 use Rattle.answer_judge_facts.specs.declared.groups.Group.{Group}
 use Rattle.answer_judge_facts.specs.declared.groups.Signed.{Signed}
-use Rattle.denial_laws.specs.Facts.{Facts, HashLink, Link, Rrset}
+use Rattle.denial_laws.specs.Facts.{HashLink, Link, Rrset}
 use Rattle.messages.specs.Message.{Spelled, nsec3_at}
 use Rattle.answer_judge_facts.specs.Sought.{is_alone}
 use Rattle.answer_judge_facts.specs.Verified.{Trusting, hash_link_at, hash_link_with, is_hash_alone, is_hash_link, is_verified, link_at, link_of, one_known, rrset_in, verified_by, verified_facts, verified_hash_links, verified_links, verified_rrset}
 use Rattle.answer_hash_owners.specs.HashOwner.{spells_hash}
-use Rattle.answer_judge_facts.specs.Marked.{data_in, has_place, hash_link_by, hash_link_of, holds_one, is_chain, is_chain_type, is_of, is_proved, is_like, is_record_of, are_apart, stands_alone, marked, IsAlone, IsGathered, AreGathered, link_by, or_first, rrset_verified, signed_of}
+use Rattle.answer_judge_facts.specs.Marked.{data_in, has_place, hash_link_by, hash_link_of, holds_one, is_chain, is_chain_type, is_of, is_proved, is_record_of, stands_alone, marked, IsAlone, IsGathered, AreGathered, facts_by, link_by, or_first, rrset_verified, signed_of}
+use Rattle.answer_judge_facts.specs.Ranked.{AskedLast}
+use Rattle.std.proofs.lemmas.List.{map-append}
 use Rattle.messages.proofs.ZoneNames.{same_labels}
 use Rattle.messages.proofs.Lists.{found, any_from, all_at, list_any-map}
 use Rattle.answer_judge_facts.proofs.JudgeCase.{above-owner, rrset_in-owner, is_verified-owner, spells-owner}
-use Rattle.answer_judge_facts.proofs.JudgeGathered.{apart_push}
 use Rattle.answer_judge_facts.proofs.JudgeMarks.{marked_is, or_no}
 
 -- ---- the groups
@@ -45,23 +46,6 @@ alone_is m apex rs t o h = ⊎_elim
     (λ b. subst (λ n. stands_alone m apex rs n o ≡ (has_place n apex o && holds_one n (rrset_in pointer_limit m rs o n))) (sym (eqb-true t 50 b)) refl)
     (or_cases (t == 47) (t == 50) h)
 
-other_type : (x g : Group) → is_chain_type x.rtype ≡ true → is_chain_type g.rtype ≡ false → is_like x g ≡ false
-other_type x g one none = go (x.rtype == g.rtype) refl
-  where
-    go : (b : Bool) → (x.rtype == g.rtype) ≡ b → is_like x g ≡ false
-    go true e = absurd (false≢true (sym none ∙ ap is_chain_type (sym (eqb-true x.rtype g.rtype e)) ∙ one))
-    go false e = ap (λ b. b && same x.owner g.owner) e
-
-none_of_type : (m : List ℕ) (apex : Name) (rs : List Spelled) (gs : List Group) (g : Group) → is_chain_type g.rtype ≡ false → AllByRecursion (IsAlone m apex rs) gs → list_any (λ x. is_like x g) gs ≡ false
-none_of_type m apex rs [] g h a = refl
-none_of_type m apex rs (x ∷ gs) g h a =
-    let first = other_type x g (chain_type m apex rs x.rtype x.owner (a.0).alone) h in
-    (λ i. first i || none_of_type m apex rs gs g h a.1 i)
-
--- the group that was asked for is of another type
-pub asked_apart : (m : List ℕ) (apex : Name) (rs some : List Spelled) (gs : List Group) (g : Group) (new : List Group) → AreGathered m apex rs some gs → is_chain_type g.rtype ≡ false → new ≡ gs ++ g ∷ [] → are_apart new ≡ true
-asked_apart m apex rs some gs g new a h n = ap are_apart n ∙ apart_push gs g a.apart (none_of_type m apex rs gs g h a.each)
-
 abbrev with_labels : List (List ℕ) → ℕ → Rrset
 with_labels ds n = record { datas = ds; labels = n }
 
@@ -70,7 +54,7 @@ signed_labels ds None = refl
 signed_labels ds (Some f) = refl
 
 -- the RRset that was asked for, with the labels of its first signature
-pub asked_rrset : (w : Trusting) (m : List ℕ) (rs : List Spelled) (g : Group) (owner : Name) (t : ℕ) → g.owner ≡ owner → g.rtype ≡ t → data_in g ≡ rrset_in pointer_limit m rs owner t → g.verified ≡ None → rrset_verified (Some (marked w m rs g)) ≡ verified_rrset w pointer_limit m rs owner t
+asked_rrset : (w : Trusting) (m : List ℕ) (rs : List Spelled) (g : Group) (owner : Name) (t : ℕ) → g.owner ≡ owner → g.rtype ≡ t → data_in g ≡ rrset_in pointer_limit m rs owner t → g.verified ≡ None → rrset_verified (Some (marked w m rs g)) ≡ verified_rrset w pointer_limit m rs owner t
 asked_rrset w m rs g owner t o r d v =
     (λ i. option_map (λ (s : Signed). with_labels (d i) s.labels) (or_first (v i) (option_map signed_of (verified_by w pointer_limit m rs (o i) (r i) (d i)))))
     ∙ signed_labels (rrset_in pointer_limit m rs owner t) (verified_by w pointer_limit m rs owner t (rrset_in pointer_limit m rs owner t))
@@ -163,8 +147,8 @@ links_same w m rs [] gs each has = refl
 links_same w m rs (r ∷ some) gs each has = (λ i. cons_option (link_same w m rs gs r each has.0 i) (links_same w m rs some gs each has.1 i))
 
 -- the links by the groups are those of the message
-pub links_verified : (w : Trusting) (m : List ℕ) (rs : List Spelled) (gs new : List Group) → AreGathered m w.apex rs rs gs → new ≡ map (marked w m rs) gs → filter_map (link_by m new) rs ≡ verified_links w pointer_limit m rs
-links_verified w m rs gs new a n = ap (λ ys. filter_map (link_by m ys) rs) n ∙ links_same w m rs rs gs a.each a.all
+links_verified : (w : Trusting) (m : List ℕ) (rs : List Spelled) (gs : List Group) → AreGathered m w.apex rs rs gs → filter_map (link_by m (map (marked w m rs) gs)) rs ≡ verified_links w pointer_limit m rs
+links_verified w m rs gs a = links_same w m rs rs gs a.each a.all
 
 -- ---- links of hashes
 
@@ -193,8 +177,8 @@ hash_links_same : (w : Trusting) (m : List ℕ) (rs some : List Spelled) (gs : L
 hash_links_same w m rs [] gs each has = refl
 hash_links_same w m rs (r ∷ some) gs each has = (λ i. cons_option (hash_link_same w m rs gs r each has.0 i) (hash_links_same w m rs some gs each has.1 i))
 
-pub hash_links_verified : (w : Trusting) (m : List ℕ) (rs : List Spelled) (gs new : List Group) → AreGathered m w.apex rs rs gs → new ≡ map (marked w m rs) gs → filter_map (hash_link_by w.apex m new) rs ≡ verified_hash_links w pointer_limit m rs
-hash_links_verified w m rs gs new a n = ap (λ ys. filter_map (hash_link_by w.apex m ys) rs) n ∙ hash_links_same w m rs rs gs a.each a.all
+hash_links_verified : (w : Trusting) (m : List ℕ) (rs : List Spelled) (gs : List Group) → AreGathered m w.apex rs rs gs → filter_map (hash_link_by w.apex m (map (marked w m rs) gs)) rs ≡ verified_hash_links w pointer_limit m rs
+hash_links_verified w m rs gs a = hash_links_same w m rs rs gs a.each a.all
 
 -- ---- the last group is taken off
 
@@ -214,17 +198,25 @@ length_more (x ∷ xs) y = ap suc (length_more xs y)
 pub over : {X : Type 0} (now old : List X) (n : ℕ) → n ≡ length now → take n (now ++ drop (length now) old) ≡ now
 over now old n h = ap (λ k. take k (now ++ drop (length now) old)) h ∙ take_front now (drop (length now) old)
 
-pub front_of : {X : Type 0} (xs : List X) (y : X) (now old : List X) (n : ℕ) → now ≡ xs ++ y ∷ [] → n ≡ length now → take (n - 1) (take n (now ++ drop (length now) old)) ≡ xs
-front_of xs y now old n e h =
-    let k : n - 1 ≡ length xs = omega (arith, h, ap length e ∙ length_more xs y) in
-    (λ i. take (k i) ((over now old n h ∙ e) i)) ∙ take_front xs (y ∷ [])
+module _ {X : Type 0} (xs : List X) (y : X) (all : List X) (n : ℕ) (e : all ≡ xs ++ y ∷ []) (h : n ≡ length all) where
+  others : n - 1 ≡ length xs
+  others = omega (arith, h, ap length e ∙ length_more xs y)
 
-pub last_of : {X : Type 0} (xs : List X) (y d : X) (now old : List X) (n : ℕ) → now ≡ xs ++ y ∷ [] → n ≡ length now → get_or (take n (now ++ drop (length now) old)) (n - 1) d ≡ y
-last_of xs y d now old n e h =
-    let k : n - 1 ≡ length xs = omega (arith, h, ap length e ∙ length_more xs y) in
-    (λ i. get_or ((over now old n h ∙ e) i) (k i) d) ∙ get_last xs y d
+  pub front_of : take (n - 1) all ≡ xs
+  front_of = (λ i. take (others i) (e i)) ∙ take_front xs (y ∷ [])
+
+  pub last_of : (d : X) → get_or all (n - 1) d ≡ y
+  last_of d = (λ i. get_or (e i) (others i) d) ∙ get_last xs y d
 
 -- ---- all facts
 
-pub facts_verified : (w : Trusting) (m : List ℕ) (rs : List Spelled) (q : Name) (t : ℕ) (f : Facts) → f.rrset ≡ verified_rrset w pointer_limit m rs q t → f.links ≡ verified_links w pointer_limit m rs → f.hash_links ≡ verified_hash_links w pointer_limit m rs → f ≡ verified_facts w pointer_limit m rs q t
-facts_verified w m rs q t f r l n = λ i. record { rrset = r i; links = l i; hash_links = n i }
+-- groups that are marked, the one that was asked for still behind the others
+pub marked_last : (w : Trusting) (m : List ℕ) (rs : List Spelled) (q : Name) (t : ℕ) (gs : List Group) (l : AskedLast m w.apex rs q t gs) → map (marked w m rs) gs ≡ map (marked w m rs) l.chains ++ marked w m rs l.asked ∷ []
+marked_last w m rs q t gs l = ap (map (marked w m rs)) l.are ∙ map-append (marked w m rs) l.chains (l.asked ∷ [])
+
+pub facts_verified : (w : Trusting) (m : List ℕ) (rs : List Spelled) (q : Name) (t : ℕ) (gs : List Group) (l : AskedLast m w.apex rs q t gs) → facts_by w.apex m rs (map (marked w m rs) l.chains) (marked w m rs l.asked) ≡ verified_facts w pointer_limit m rs q t
+facts_verified w m rs q t gs l = λ i. record {
+  rrset = asked_rrset w m rs l.asked q t l.owner_is l.rtype_is l.datas_are l.unverified i;
+  links = links_verified w m rs l.chains l.gathered i;
+  hash_links = hash_links_verified w m rs l.chains l.gathered i;
+}

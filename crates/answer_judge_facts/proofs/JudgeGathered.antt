@@ -1,10 +1,8 @@
--- Lists of RRsets, one RRset more.
-use Rattle.std.proofs.Common.{◌≡◌, Bool, true, false, ◌&&◌, ◌||◌, not, List, [], ◌∷◌, ◌++◌, refl, sym, ap}
+-- Lists with one item more.
+use Rattle.std.proofs.Common.{◌≡◌, Bool, true, false, ◌||◌, List, [], ◌∷◌, ◌++◌, refl, sym, ap}
 use Rattle.std.specs.List.{list_any, AllByRecursion}
-use Rattle.std.proofs.lemmas.Bool.{or_parts, and_parts, not-true, false≢true}
+use Rattle.std.proofs.lemmas.Bool.{false≢true}
 use Rattle.definitions.specs.Name.{Name, low, same}
-use Rattle.answer_judge_facts.specs.declared.groups.Group.{Group}
-use Rattle.answer_judge_facts.specs.Marked.{is_like, are_apart}
 use Rattle.messages.proofs.ZoneNames.{same_labels, labels_eq-same}
 use Rattle.answer_judge_facts.proofs.JudgeMarks.{or_true}
 
@@ -21,22 +19,9 @@ any_kept p (y ∷ xs) x h =
     ] e in
     go (p y) refl h
 
-none_push : {X : Type 0} (p : X → Bool) (xs : List X) (x : X) → list_any p xs ≡ false → p x ≡ false → list_any p (xs ++ x ∷ []) ≡ false
-none_push p [] x h e = ap (λ b. b || false) e
-none_push p (y ∷ xs) x h e = let o = or_parts (p y) (list_any p xs) h in (λ i. o.0 i || none_push p xs x o.1 e i)
-
 pub all_push : {X : Type 0} (P : X → Type 0) (xs : List X) (x : X) → AllByRecursion P xs → P x → AllByRecursion P (xs ++ x ∷ [])
 all_push P [] x h k = (k, tt)
 all_push P (y ∷ xs) x h k = (h.0, all_push P xs x h.1 k)
-
--- a group that is like none of the others
-pub apart_push : (gs : List Group) (g : Group) → are_apart gs ≡ true → list_any (λ x. is_like x g) gs ≡ false → are_apart (gs ++ g ∷ []) ≡ true
-apart_push [] g a h = refl
-apart_push (x ∷ gs) g a h =
-    let o = and_parts (not (list_any (is_like x) gs)) (are_apart gs) a in
-    let p = or_parts (is_like x g) (list_any (λ x. is_like x g) gs) h in
-    let none = none_push (is_like x) gs g (not-true _ o.0) p.0 in
-    (λ i. not (none i) && apart_push gs g o.1 p.1 i)
 
 pub same_swap : (a b : Name) → same a b ≡ true → same b a ≡ true
 same_swap a b h = labels_eq-same (low b) (low a) (sym (same_labels (low a) (low b) h))

@@ -11,9 +11,17 @@ use Rattle.messages.specs.Message.{Spelled, rrsig_at}
 use Rattle.answer_judge_facts.specs.Facts.{is_signature, signs}
 use Rattle.answer_judge_facts.specs.declared.groups.Signed.{Signed}
 use Rattle.answer_judge_facts.specs.Verified.{Trusting, is_verified, verifies_with, verified_by, verified_with}
-use Rattle.answer_judge_facts.specs.Marked.{data_in, is_like, are_apart, marked_if, marked, or_first, signed_of}
-use Rattle.messages.proofs.Lists.{list_any-map}
+use Rattle.answer_judge_facts.specs.Marked.{data_in, marked_if, marked, or_first, signed_of}
 use Rattle.definitions.specs.Limits.{pointer_limit}
+
+-- two groups of one type and one owner
+abbrev pub is_like : Group → Group → Bool
+is_like a b = (a.rtype == b.rtype) && same a.owner b.owner
+
+-- no two are
+abbrev pub are_apart : List Group → Bool
+are_apart [] = true
+are_apart (g ∷ gs) = not (list_any (is_like g) gs) && are_apart gs
 
 -- the item at a place
 pub item_one : {X : Type 0} (xs : List X) (i : ℕ) (x y : X) → i < length xs → x ≡ get_or xs i x → y ≡ get_or xs i y → x ≡ y
@@ -80,11 +88,6 @@ marked_at p b f like (x ∷ gs) (suc i) g a h e k =
     let one = ap (λ v. marked_if v x) (f x (first (p x) refl)) ∙ unmarked_one x in
     let rest = marked_at p b f like gs i g o.1 inside e k in
     (λ j. one j ∷ rest j)
-
--- what is marked stays apart
-pub marked_apart : (b : Group → Option Signed) (gs : List Group) → are_apart (map (λ g. marked_if (b g) g) gs) ≡ are_apart gs
-marked_apart b [] = refl
-marked_apart b (g ∷ gs) = (λ i. not (list_any-map (is_like (marked_if (b g) g)) (λ h. marked_if (b h) h) gs i) && marked_apart b gs i)
 
 -- by one record and then by others, or by all of them
 abbrev pub or_rest : Option Fields → Option Fields → Option Fields

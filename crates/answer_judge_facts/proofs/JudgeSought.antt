@@ -1,5 +1,5 @@
 -- The groups that a judge gathers are the RRsets that are sought.
-use Rattle.std.proofs.Common.{◌≡◌, ℕ, Bool, true, false, ◌&&◌, ◌||◌, ◌==◌, List, [], ◌∷◌, ◌++◌, length, map, refl, sym, ap, ◌∙◌, inl, inr, ◌⊎◌, ⊎_elim}
+use Rattle.std.proofs.Common.{◌≡◌, ℕ, Bool, true, false, ◌&&◌, ◌||◌, ◌==◌, List, [], ◌∷◌, ◌++◌, length, map, refl, sym, ap, subst, ◌∙◌, inl, inr, ◌⊎◌, ⊎_elim}
 use Rattle.std.specs.Prelude.{Option, Some, None}
 use Rattle.std.specs.List.{AllByRecursion, cons_option, filter_map, list_any}
 use Rattle.std.proofs.lemmas.Bool.{and_parts, and_from, eqb-true, false≢true}
@@ -13,6 +13,7 @@ use Rattle.messages.proofs.Lists.{Has, all_at, any_from, found}
 use Rattle.messages.proofs.ZoneNames.{labels_eq-same, same_labels}
 use Rattle.answer_judge_facts.specs.Sought.{answer_sought, is_alone, keys_sought}
 use Rattle.answer_judge_facts.specs.Marked.{AreGathered, IsAlone, IsGathered, data_in, is_chain, is_chain_type, is_of, stands_alone}
+use Rattle.answer_judge_facts.specs.Ranked.{AskedLast}
 use Rattle.answer_judge_facts.specs.Verified.{datum_of, is_hash_alone, one_known, rrset_in}
 use Rattle.answer_hash_owners.specs.HashOwner.{spells_hash}
 use Rattle.answer_judge_facts.specs.declared.groups.Group.{Group}
@@ -114,9 +115,9 @@ all_last : (P : Group → Type 0) (gs : List Group) (x : Group) → AllByRecursi
 all_last P [] x h k = (k, tt)
 all_last P (g ∷ gs) x h k = (h.0, all_last P gs x h.1 k)
 
-pub answer_is : (m : List ℕ) (apex : Name) (rs : List Spelled) (name : Name) (rtype : ℕ) (gs : List Group) (x : Group) → AreGathered m apex rs rs gs → x.owner ≡ name → x.rtype ≡ rtype → data_in x ≡ rrset_in pointer_limit m rs name rtype → x.verified ≡ None
+one_behind : (m : List ℕ) (apex : Name) (rs : List Spelled) (name : Name) (rtype : ℕ) (gs : List Group) (x : Group) → AreGathered m apex rs rs gs → x.owner ≡ name → x.rtype ≡ rtype → data_in x ≡ rrset_in pointer_limit m rs name rtype → x.verified ≡ None
     → AreSought (answer_sought pointer_limit m apex rs name rtype) (gs ++ x ∷ [])
-answer_is m apex rs name rtype gs x a o k d v = record {
+one_behind m apex rs name rtype gs x a o k d v = record {
   found = λ p t.
       (λ i. both_ways (stands_alone m apex rs t p) (list_any (is_of p t) gs) (chain_to m apex rs gs p t a) (chain_from m apex rs gs p t a.each) i || ((sym k i == t) && same p (sym o i)))
       ∙ sym (any_last (is_of p t) gs x);
@@ -126,3 +127,6 @@ answer_is m apex rs name rtype gs x a o k d v = record {
       d ∙ rrset_in-owner pointer_limit m rs name p rtype owner ∙ ap (rrset_in pointer_limit m rs p) (sym k ∙ eqb-true x.rtype t q.0));
   fresh = all_last (λ g. g.verified ≡ None) gs x (chain_fresh m apex rs gs a.each) v;
 }
+
+pub answer_is : (m : List ℕ) (apex : Name) (rs : List Spelled) (name : Name) (rtype : ℕ) (gs : List Group) → AskedLast m apex rs name rtype gs → AreSought (answer_sought pointer_limit m apex rs name rtype) gs
+answer_is m apex rs name rtype gs l = subst (AreSought (answer_sought pointer_limit m apex rs name rtype)) (sym l.are) (one_behind m apex rs name rtype l.chains l.asked l.gathered l.owner_is l.rtype_is l.datas_are l.unverified)

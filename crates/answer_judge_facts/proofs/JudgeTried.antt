@@ -18,9 +18,9 @@ use Rattle.messages.proofs.Lists.{items_from}
 use Rattle.answer_judge_facts.proofs.JudgeCase.{signs-signer}
 use Rattle.messages.specs.Message.{Spelled, if_true, rrsig_at}
 use Rattle.answer_judge_facts.specs.Verified.{Trusting, is_verified, verified_by, verifies_with}
-use Rattle.answer_judge_facts.specs.Marked.{data_in, is_of, is_like, are_apart, marked_if, marked, or_first, signed_of}
+use Rattle.answer_judge_facts.specs.Marked.{data_in, is_of, marked_if, marked, or_first, signed_of}
 use Rattle.messages.proofs.ZoneNames.{same_labels, labels_eq-same}
-use Rattle.answer_judge_facts.proofs.JudgeMarks.{or_no, or_rest, unmarked, unmarked_by, marked_at, marked_next, marked_done, marked_apart}
+use Rattle.answer_judge_facts.proofs.JudgeMarks.{are_apart, is_like, or_no, or_rest, unmarked, unmarked_by, marked_at, marked_next, marked_done}
 
 gate_class : (a s x : Bool) → elim (a && false && s) as (λ _. Bool) [ false ↦ false | true ↦ x ] ≡ false
 gate_class true s x = refl
@@ -196,9 +196,6 @@ after_next w m rs i r old now new h e n inv =
 -- and after the last
 pub after_last : (w : Trusting) (m : List ℕ) (rs : List ViewRecord) (i : ℕ) (old now : List Group) → length rs ≤ i → map (marked w m (map spelled (drop i rs))) now ≡ map (marked w m (map spelled rs)) old → now ≡ map (marked w m (map spelled rs)) old
 after_last w m rs i old now h inv = sym (ap (λ ys. map (marked w m (map spelled ys)) now) (drop_all i rs h) ∙ marked_done w m now) ∙ inv
-
-pub apart_next : (w : Trusting) (m : List ℕ) (r : Spelled) (now new : List Group) → new ≡ map (marked w m (r ∷ [])) now → are_apart now ≡ true → are_apart new ≡ true
-apart_next w m r now new n h = ap are_apart n ∙ marked_apart (gives w m r) now ∙ h
 
 -- signature records from a place on
 pub signatures_next : (rs : List ViewRecord) (i : ℕ) (r : ViewRecord) → i < length rs → r ≡ get_or rs i r → is_signature (spelled r) ≡ true → length (filter is_signature (map spelled (drop i rs))) ≡ suc (length (filter is_signature (map spelled (drop (i + 1) rs))))

@@ -74,6 +74,17 @@ module _ {G K : Type 0} (place : G → K) (R : K → K → Ordering) (o : IsTota
       let p = parts x gs s in
       joined x (gs ++ g ∷ []) (all_after (place x) gs g p.0 a.0) (ranked_push gs g p.1 a.1)
 
+  all_front : (k : K) (gs others : List G) → AllByRecursion (λ x. R k x ≡ Less) (map place (gs ++ others)) → AllByRecursion (λ x. R k x ≡ Less) (map place gs)
+  all_front k [] others a = tt
+  all_front k (x ∷ gs) others a = (a.0, all_front k gs others a.1)
+
+  -- those in front of others
+  pub ranked_front : (gs others : List G) → Ranked (gs ++ others) → Ranked gs
+  ranked_front [] others s = none_ranked
+  ranked_front (g ∷ gs) others s =
+      let p = parts g (gs ++ others) s in
+      joined g gs (all_front (place g) gs others p.0) (ranked_front gs others p.1)
+
   no_like : (like : G → G → Bool) → ((a b : G) → like a b ≡ true → R (place a) (place b) ≡ Equal) → (g : G) (gs : List G) → AllByRecursion (λ k. R (place g) k ≡ Less) (map place gs) → list_any (like g) gs ≡ false
   no_like like means g [] a = refl
   no_like like means g (x ∷ gs) a =

@@ -1,6 +1,6 @@
 -- RRsets of a message, and which of them are verified, as contracts see them.
 use Rattle.std.specs.Prelude.{◌≡◌, Bool, true, false, not, ◌&&◌, ◌||◌, ◌==◌, ℕ, ◌+◌, ◌≤◌, List, [], ◌∷◌, map, length, Option, Some, None, is_some, if◌then◌else◌}
-use Rattle.std.specs.List.{list_any, AllByRecursion}
+use Rattle.std.specs.List.{filter_map, list_any, AllByRecursion}
 use Rattle.std.specs.Cow.{cow_slice_items}
 use Rattle.definitions.specs.Name.{Name, same, at_or_above}
 use Rattle.definitions.specs.Limits.{pointer_limit}
@@ -10,7 +10,7 @@ use Rattle.answer_judge_facts.specs.Sought.{is_alone}
 use Rattle.answer_judge_facts.specs.Times.{Times, same_times}
 use Rattle.definitions.specs.Signing.{Fields}
 use Rattle.answer_judge_facts.specs.Facts.{is_signature, signs}
-use Rattle.denial_laws.specs.Facts.{HashLink, Link, Rrset}
+use Rattle.denial_laws.specs.Facts.{Facts, HashLink, Link, Rrset}
 use Rattle.messages.specs.Message.{Spelled, nsec3_at, rrsig_at}
 use Rattle.answer_judge_facts.specs.Verified.{Trusting, hash_link_with, is_hash_alone, link_of, one_known, rrset_in, verified_by}
 use Rattle.answer_hash_owners.specs.HashOwner.{spells_hash}
@@ -30,15 +30,6 @@ data_in g = map cow_slice_items g.items.items
 -- the group is of a type and an owner, up to case
 abbrev pub is_of : Name → ℕ → Group → Bool
 is_of owner t g = (g.rtype == t) && same owner g.owner
-
--- two groups of one type and one owner
-abbrev pub is_like : Group → Group → Bool
-is_like a b = (a.rtype == b.rtype) && same a.owner b.owner
-
--- no two are
-abbrev pub are_apart : List Group → Bool
-are_apart [] = true
-are_apart (g ∷ gs) = not (list_any (is_like g) gs) && are_apart gs
 
 -- what a signature says beside the RRset and the name
 abbrev pub signed_of : Fields → Signed
@@ -140,7 +131,6 @@ IsGathered m apex rs gs r = is_chain r ≡ true → stands_alone m apex rs r.rty
 
 -- groups of the owners of some of a message's records
 pub record AreGathered (m : List ℕ) (apex : Name) (rs some : List Spelled) (gs : List Group) : Type 0 where
-  pub apart : are_apart gs ≡ true
   pub each : AllByRecursion (IsAlone m apex rs) gs
   pub all : AllByRecursion (IsGathered m apex rs gs) some
 
@@ -159,3 +149,11 @@ hash_link_by apex m gs r = elim (is_record_of 50 r && list_any (is_proved r.owne
 abbrev pub rrset_verified : Option Group → Option Rrset
 rrset_verified None = None
 rrset_verified (Some g) = option_map (λ s. record { datas = data_in g; labels = s.labels }) g.verified
+
+-- what groups say of chains' records, and one of the RRset that was asked for
+abbrev pub facts_by : Name → List ℕ → List Spelled → List Group → Group → Facts
+facts_by apex m rs chains asked = record {
+  rrset = rrset_verified (Some asked);
+  links = filter_map (link_by m chains) rs;
+  hash_links = filter_map (hash_link_by apex m chains) rs;
+}

@@ -1,5 +1,5 @@
 -- The order in which a judge searches RRsets, and runs of records of one owner and type.
-use Rattle.std.specs.Prelude.{◌≡◌, ℕ, suc, ◌+◌, Bool, true, ◌&&◌, ◌==◌, List, [], ◌∷◌, map, None, if◌then◌else◌}
+use Rattle.std.specs.Prelude.{◌≡◌, ℕ, suc, ◌+◌, Bool, true, ◌&&◌, ◌==◌, List, [], ◌∷◌, ◌++◌, map, None, if◌then◌else◌}
 use Rattle.std.specs.List.{filter_map}
 use Rattle.std.specs.List.Sorted.{IsStrictlySortedBy}
 use Rattle.std.specs.Ordering.{nat_cmp, ordering_then}
@@ -8,7 +8,8 @@ use Rattle.definitions.specs.Name.{Name, name_cmp, same}
 use Rattle.definitions.specs.Limits.{pointer_limit}
 use Rattle.definitions.specs.Zone.{sorted_data}
 use Rattle.messages.specs.Message.{Spelled, canonical_data}
-use Rattle.answer_judge_facts.specs.Marked.{data_in, has_place, holds_one, is_chain_type}
+use Rattle.answer_judge_facts.specs.Marked.{AreGathered, data_in, has_place, holds_one, is_chain_type}
+use Rattle.answer_judge_facts.specs.Verified.{rrset_in}
 use Rattle.answer_judge_facts.specs.declared.groups.Group.{Group}
 
 -- ---- RRsets by type and owner
@@ -25,6 +26,19 @@ place_of g = (g.rtype, g.owner)
 
 abbrev pub AreRanked : List Group → Type 0
 AreRanked gs = IsStrictlySortedBy sought_cmp (map place_of gs)
+
+-- The groups of what is sought in an answer, in order: those of chains' records, behind them that of the RRset that was asked
+-- for. None is verified yet.
+pub record AskedLast (m : List ℕ) (apex : Name) (rs : List Spelled) (name : Name) (rtype : ℕ) (gs : List Group) : Type 0 where
+  pub chains : List Group
+  pub asked : Group
+  pub are : gs ≡ chains ++ asked ∷ []
+  pub ranked : AreRanked gs
+  pub gathered : AreGathered m apex rs rs chains
+  pub owner_is : asked.owner ≡ name
+  pub rtype_is : asked.rtype ≡ rtype
+  pub datas_are : data_in asked ≡ rrset_in pointer_limit m rs name rtype
+  pub unverified : asked.verified ≡ None
 
 -- ---- records of chains
 

@@ -1,5 +1,5 @@
 //! From bytes to verified facts (RFC 4035, 5.3).
-ghost use Rattle.std.specs.Prelude.{◌≡◌, ◌&&◌, ◌==◌, ◌+◌, ◌<◌, ◌≤◌, ◌^◌, [], None, true, false, IfOk, MatchOption, length, map, filter};
+ghost use Rattle.std.specs.Prelude.{◌≡◌, ◌&&◌, ◌==◌, ◌+◌, ◌++◌, ◌<◌, ◌≤◌, ◌^◌, [], ◌∷◌, None, true, false, IfOk, List, MatchOption, length, map, filter};
 ghost use Rattle.std.specs.Cow.{cow_slice_items};
 ghost use Rattle.definitions.specs.Limits.{pointer_limit};
 ghost use Rattle.std.specs.List.{list_any, filter_map, AllByRecursion};
@@ -13,9 +13,10 @@ ghost use Rattle.answer_judge_facts.specs.Times.{are_unlike, proof_times};
 ghost use Rattle.answer_judge_facts.specs.Verified.{is_known_datum, verified_facts};
 ghost use Rattle.std.specs.List.Sorted.{IsPermutation, IsSortedBy};
 ghost use Rattle.std.specs.Ordering.{is_lt};
-ghost use Rattle.answer_judge_facts.specs.Marked.{held_by, data_in, is_proved, is_chain_type, is_chain, is_record_of, has_place, holds_one, stands_alone, AreShort, IsAlone, AreGathered, link_by, hash_link_by, hash_link_of, rrset_verified};
+ghost use Rattle.answer_judge_facts.specs.Marked.{held_by, data_in, facts_by, is_proved, is_chain_type, is_chain, is_record_of, has_place, holds_one, stands_alone, AreShort, IsAlone, AreGathered, link_by, hash_link_by, hash_link_of, rrset_verified};
 ghost use Rattle.answer_judge_facts.specs.KeyOrder.{Ranks};
-ghost use Rattle.answer_judge_facts.specs.Ranked.{AreRanked, IsRun, alike_len, are_alike, chain_cmp, run_data};
+ghost use Rattle.answer_judge_facts.specs.declared.groups.Group.{Group};
+ghost use Rattle.answer_judge_facts.specs.Ranked.{AreRanked, AskedLast, IsRun, alike_len, are_alike, chain_cmp, run_data};
 
 use crate::groups::{Group, is_chain_type, place_of, read_group, verify_groups};
 use crate::order::sort_data;
@@ -86,19 +87,57 @@ pub fn read_facts<'a, C: Checks>(
 {
     let alloc = verifier.alloc;
     let chained = sorted_chain(alloc, records)?;
-    let mut groups = read_chain_groups(alloc, trust.apex, message, &chained)?;
-    let owner = cow_name(alloc, name)?;
-    groups.push(read_group(alloc, message, records, owner, rtype)?)?;
+    let mut groups = sought_groups(alloc, trust.apex, message, records, &chained, name, rtype)?;
     verify_groups(message, records, trust, &mut groups, verifier)?;
     let is_of_moments = are_unlike(&groups);
-    let rrset = rrset_of(alloc, groups.pop())?;
-    let links = read_links(alloc, message, records, &groups)?;
-    let hash_links = read_hash_links(alloc, trust.apex, message, records, &groups)?;
-    let facts = Facts::new(rrset, links, hash_links);
+    let facts = facts_of_groups(alloc, trust.apex, message, records, groups)?;
     Ok(Proof {
         facts,
         is_of_moments,
     })
+}
+
+/// The RRsets that a judge seeks: those of chains' records in their order, behind them the one that was asked for.
+fn sought_groups<'r>(
+    alloc: Global,
+    apex: &Name<Vec<u8>>,
+    message: &'r [u8],
+    records: &[ViewRecord],
+    chained: &'r [ViewRecord],
+    name: &'r Name<Vec<u8>>,
+    rtype: Rtype,
+) -> Result<Vec<Group<'r>>, AllocError>
+    requires moved { let rs = filter is_chain (map spelled records.now) in
+        IsPermutation rs (map spelled chained.now) }
+    requires sorted { IsSortedBy (λ a b. is_lt (chain_cmp a b)) (map spelled chained.now) }
+    requires other { is_chain_type rtype ≡ false }
+    ensures { let rs = map spelled records.now in
+        IfOk result (λ gs. AskedLast message.now apex.now rs name.now rtype gs.items) }
+{
+    let mut groups = read_chain_groups(alloc, apex, message, chained)?;
+    let owner = cow_name(alloc, name)?;
+    groups.push(read_group(alloc, message, records, owner, rtype)?)?;
+    Ok(groups)
+}
+
+/// What groups say that signatures were tried on: the last is the RRset that was asked for.
+fn facts_of_groups<'a>(
+    alloc: Global,
+    apex: &Name<Vec<u8>>,
+    message: &'a [u8],
+    records: &[ViewRecord<'a>],
+    groups: Vec<Group>,
+) -> Result<Facts<'a>, AllocError>
+    requires { AreRanked groups.items }
+    ensures { let rs = map spelled records.now in
+        (chains : List Group) (asked : Group) → groups.entry.items ≡ chains ++ asked ∷ []
+        → IfOk result (λ f. f ≡ facts_by apex.now message.now rs chains asked) }
+{
+    let mut chains = groups;
+    let rrset = rrset_of(alloc, chains.pop())?;
+    let links = read_links(alloc, message, records, &chains)?;
+    let hash_links = read_hash_links(alloc, apex, message, records, &chains)?;
+    Ok(Facts::new(rrset, links, hash_links))
 }
 
 /// The data of a group and the label count of its signature, if one verified it.
@@ -319,17 +358,17 @@ fn is_known(octets: &[u8]) -> bool
 }
 
 /// Whether a record is one of a chain, NSEC or NSEC3, of class IN.
-fn is_chain(record: &ViewRecord) -> bool
-    ensures { result ≡ is_chain (spelled record.now) }
+fn is_chain(view: &ViewRecord) -> bool
+    ensures { result ≡ is_chain (spelled view.now) }
 {
-    is_chain_type(record.rtype) && record.class == Class::IN
+    is_chain_type(view.rtype) && view.class == Class::IN
 }
 
 /// Whether a record is of a type and of class IN.
-fn is_record_of(record: &ViewRecord, rtype: Rtype) -> bool
-    ensures { result ≡ is_record_of rtype (spelled record.now) }
+fn is_record_of(view: &ViewRecord, rtype: Rtype) -> bool
+    ensures { result ≡ is_record_of rtype (spelled view.now) }
 {
-    record.rtype == rtype && record.class == Class::IN
+    view.rtype == rtype && view.class == Class::IN
 }
 
 /// Whether an owner has one of the groups of a type, and that is verified.
@@ -393,14 +432,14 @@ fn read_hash_link<'a>(
     alloc: Global,
     apex: &Name<Vec<u8>>,
     message: &'a [u8],
-    record: &ViewRecord<'a>,
+    view: &ViewRecord<'a>,
 ) -> Result<Option<HashLink<'a>>, AllocError>
-    ensures { IfOk result (λ o. o ≡ hash_link_of apex.now message.now (spelled record.now)) }
+    ensures { IfOk result (λ o. o ≡ hash_link_of apex.now message.now (spelled view.now)) }
 {
-    let Some(hash) = hash_spelled(alloc, apex, &record.owner)? else {
+    let Some(hash) = hash_spelled(alloc, apex, &view.owner)? else {
         return Ok(None);
     };
-    match record.hashed_link(message) {
+    match view.hashed_link(message) {
         None => Ok(None),
         Some(data) => Ok(Some(HashLink::new(hash, data))),
     }

@@ -6,7 +6,7 @@ ghost use Rattle.messages.specs.Record.{fields_read, spelled};
 ghost use Rattle.answer_judge_facts.specs.Facts.{is_signature};
 ghost use Rattle.answer_judge_facts.specs.Verified.{datum_of, rrset_in};
 ghost use Rattle.answer_judge_facts.specs.declared.groups.Group.{Group};
-ghost use Rattle.answer_judge_facts.specs.Marked.{held_by, is_of, are_apart, data_in, marked, signed_of, signs_group, is_chain_type, is_tried_in, tries_in};
+ghost use Rattle.answer_judge_facts.specs.Marked.{held_by, is_of, data_in, marked, signed_of, signs_group, is_chain_type, is_tried_in, tries_in};
 ghost use Rattle.answer_judge_facts.specs.Ranked.{AreRanked, place_of, sought_cmp, type_rank};
 ghost use Rattle.answer_judge_facts.specs.KeyOrder.{Ranks};
 ghost use Rattle.messages.specs.Message.{if_true};
@@ -135,15 +135,15 @@ pub fn read_group<'a>(
 fn datum_of<'m>(
     alloc: Global,
     message: &'m [u8],
-    record: &ViewRecord,
+    view: &ViewRecord,
     owner: &GroupOwner,
     rtype: Rtype,
 ) -> Result<Option<CowSlice<'m, u8>>, AllocError>
     ensures { IfOk result (λ o. option_map cow_slice_items o
-        ≡ datum_of pointer_limit message.now owner.now rtype (spelled record.now)) }
+        ≡ datum_of pointer_limit message.now owner.now rtype (spelled view.now)) }
 {
-    if record.class == Class::IN && record.rtype == rtype && record.owner.name().name_eq(owner) {
-        return record.canonical_cow(alloc, message);
+    if view.class == Class::IN && view.rtype == rtype && view.owner.name().name_eq(owner) {
+        return view.canonical_cow(alloc, message);
     }
     Ok(None)
 }
@@ -158,7 +158,6 @@ pub fn verify_groups<C: Checks>(
 ) -> Result<(), AllocError>
     requires index { Ranks trust.now.keys.now trust.now.ranked.now }
     requires room { verifier.old.count + length records.now < 2 ^ 32 }
-    requires apart { are_apart groups.old ≡ true }
     requires ranked { AreRanked groups.old }
     ensures marked { EachAgreeing (C.answers verifier.old.checks.now)
         (C.agrees verifier.new.checks.now) (λ a. let w = held_by a trust.now in
@@ -194,27 +193,26 @@ pub fn verify_groups<C: Checks>(
 /// the covered type is read of it.
 fn verify_record<C: Checks>(
     message: &[u8],
-    record: &ViewRecord,
+    view: &ViewRecord,
     trust: &Trust,
     groups: &mut [Group],
     verifier: &mut Verifier<C>,
 ) -> Result<(), AllocError>
     requires index { Ranks trust.now.keys.now trust.now.ranked.now }
     requires room { verifier.old.count + 1 < 2 ^ 32 }
-    requires signature { is_signature (spelled record.now) ≡ true }
-    requires apart { are_apart groups.old ≡ true }
+    requires signature { is_signature (spelled view.now) ≡ true }
     requires ranked { AreRanked groups.old }
     ensures marked { EachAgreeing (C.answers verifier.old.checks.now)
         (C.agrees verifier.new.checks.now) (λ a. let w = held_by a trust.now in
-        let r = spelled record.now in
+        let r = spelled view.now in
         IfOk result (λ _. groups.new ≡ map (marked w message.now (r ∷ [])) groups.old)) }
     ensures tried { EachAgreeing (C.answers verifier.old.checks.now)
         (C.agrees verifier.new.checks.now) (λ a. let w = held_by a trust.now in
-        let is_tried = is_tried_in w message.now groups.old (spelled record.now) in
+        let is_tried = is_tried_in w message.now groups.old (spelled view.now) in
         IfOk result (λ _. verifier.new.count ≡ verifier.old.count + one_if is_tried)) }
     ensures agrees { (test : SignatureTest) → C.agrees verifier.new.checks.now test
         → C.agrees verifier.old.checks.now test }
-    ensures asked { (test : SignatureTest) → let r = spelled record.now in
+    ensures asked { (test : SignatureTest) → let r = spelled view.now in
         PassesRecord test trust.now.keys.now message.now (map bare groups.old) r
         → C.asked_only verifier.old.checks.now test → C.asked_only verifier.new.checks.now test }
     ensures counted { C.verified verifier.new.checks.now + verifier.old.count
@@ -224,19 +222,19 @@ fn verify_record<C: Checks>(
     ensures same { C.answers verifier.new.checks.now ≡ C.answers verifier.old.checks.now }
     ensures same_checks { verifier.new.checks.ghost_name ≡ verifier.old.checks.ghost_name }
 {
-    if record.class != Class::IN {
+    if view.class != Class::IN {
         return Ok(());
     }
-    let Some(covered) = record.covered_type(message) else {
+    let Some(covered) = view.covered_type(message) else {
         return Ok(());
     };
-    let Some(place) = place_of(groups, &record.owner, covered) else {
+    let Some(place) = place_of(groups, &view.owner, covered) else {
         return Ok(());
     };
     if groups[place].verified.is_some() {
         return Ok(());
     }
-    let Some(signature) = record.signature(message) else {
+    let Some(signature) = view.signature(message) else {
         return Ok(());
     };
     let group = &mut groups[place];

@@ -35,7 +35,7 @@ const FEW: usize = 8;
 #[derive(Debug, Drop)]
 pub struct TaggedKey<'a> {
     dnskey: Dnskey<&'a [u8]>,
-    data: &'a [u8],
+    rdata: &'a [u8],
     tag: u16,
 }
 
@@ -47,17 +47,17 @@ impl<'a> Model for TaggedKey<'a> {
 
     ghost view = { λ k. k.dnskey };
 
-    ghost invariant = { λ k. (k.tag ≡ key_tag k.dnskey) × (k.data.now ≡ dnskey_data k.dnskey) };
+    ghost invariant = { λ k. (k.tag ≡ key_tag k.dnskey) × (k.rdata.now ≡ dnskey_data k.dnskey) };
 }
 
 impl<'a> TaggedKey<'a> {
     /// A key, its data and its tag.
-    pub fn new(dnskey: Dnskey<&'a [u8]>, data: &'a [u8]) -> Self
-        requires { data.now ≡ dnskey_data dnskey }
+    pub fn new(dnskey: Dnskey<&'a [u8]>, rdata: &'a [u8]) -> Self
+        requires { rdata.now ≡ dnskey_data dnskey }
         ensures { result ≡ dnskey.entry }
     {
         let tag = dnskey.key_tag();
-        TaggedKey { dnskey, data, tag }
+        TaggedKey { dnskey, rdata, tag }
     }
 
     /// The key.
@@ -71,7 +71,7 @@ impl<'a> TaggedKey<'a> {
     pub fn data(&self) -> &'a [u8]
         ensures { result.now ≡ dnskey_data self.now }
     {
-        self.data
+        self.rdata
     }
 
     /// The tag.
@@ -93,7 +93,7 @@ impl<'a> TaggedKey<'a> {
                 self.dnskey.algorithm(),
                 *self.dnskey.public_key(),
             ),
-            data: self.data,
+            rdata: self.rdata,
             tag: self.tag,
         }
     }
@@ -161,20 +161,13 @@ pub fn read_keys<'a>(
 }
 
 /// The key that a record spells, if it stands at the apex and its data read.
-fn read_key<'a>(
-    apex: &Name<Vec<u8>>,
-    message: &'a [u8],
-    record: &ViewRecord,
-) -> Option<TaggedKey<'a>>
-    ensures { result ≡ key_at message.now apex.now (spelled record.now) }
+fn read_key<'a>(apex: &Name<Vec<u8>>, message: &'a [u8], view: &ViewRecord) -> Option<TaggedKey<'a>>
+    ensures { result ≡ key_at message.now apex.now (spelled view.now) }
 {
-    if record.rtype != Rtype::DNSKEY
-        || record.class != Class::IN
-        || !record.owner.name().name_eq(apex)
-    {
+    if view.rtype != Rtype::DNSKEY || view.class != Class::IN || !view.owner.name().name_eq(apex) {
         return None;
     }
-    let data = record.octets(message);
+    let data = view.octets(message);
     let dnskey = key_of_data(data)?;
     Some(TaggedKey::new(dnskey, data))
 }

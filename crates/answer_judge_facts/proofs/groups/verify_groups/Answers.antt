@@ -7,7 +7,7 @@ use Rattle.answer_judge_facts.specs.Marked.{held_by, is_tried_in, marked}
 use Rattle.answer_judge_facts.specs.Counted.{one_if}
 use Rattle.answer_judge_facts.proofs.JudgeAsked.{agreed, agreed_by, bare_next, next_passes}
 use Rattle.answer_judge_facts.proofs.JudgeCounted.{tries_last, tries_next, tries_unsigned}
-use Rattle.answer_judge_facts.proofs.JudgeTried.{untried, unsigned, after_next, after_last, apart_next, signatures_next, signatures_same}
+use Rattle.answer_judge_facts.proofs.JudgeTried.{untried, unsigned, after_next, after_last, signatures_next, signatures_same}
 use Rattle.answer_judge_facts.proofs.GroupPlaces.{ranked_next}
 use Rattle.answer_judge_facts.proofs.groups.verify_groups.Goals as goal
 use Rattle.answer_judge_facts.proofs.groups.verify_groups.Goals.{then-eq+in_ok-verify_record, else-eq}
@@ -32,14 +32,13 @@ loop-record-preserved g c =
           let back : (test : SignatureTest) → agrees c.if-eq.verifier.checks.now test → agrees c.loop-record.verifier.checks.now test =
           λ test h. ensures.agrees test (subst (λ v. agrees v.checks.now test) w.verifier-is h) in
           let now : (test : SignatureTest) → (test ≡ own.verifies) ⊎ agrees c.if-eq.verifier.checks.now test → (test ≡ (g.C.Checks.answers c.loop-record.verifier.checks.now).verifies) ⊎ agrees w.verify_record.new.verifier.checks.now test =
-          λ test h. agreed_by own _ test _ inv.6 (subst (λ v. (test ≡ own.verifies) ⊎ agrees v.checks.now test) w.verifier-is h) in
+          λ test h. agreed_by own _ test _ inv.5 (subst (λ v. (test ≡ own.verifies) ⊎ agrees v.checks.now test) w.verifier-is h) in
           let one : (test : SignatureTest) → (test ≡ own.verifies) ⊎ agrees c.if-eq.verifier.checks.now test → c.if-eq.groups ≡ map (marked (held_by (with_test own test) trust) m (spelled r ∷ [])) c.loop-record.groups =
-          λ test h. w.groups-is ∙ ensures.marked test (now test h) ∙ ap (λ v. map (marked (held_by (with_test v test) trust) m (spelled r ∷ [])) c.loop-record.groups) inv.6 in
+          λ test h. w.groups-is ∙ ensures.marked test (now test h) ∙ ap (λ v. map (marked (held_by (with_test v test) trust) m (spelled r ∷ [])) c.loop-record.groups) inv.5 in
           let first = one own.verifies (inl refl) in (
             omega (arith, ap (λ v. v.count) w.verifier-is, ensures.bound, inv.0, signatures_next rs i r at item is),
             omega (arith, inv.1, ap (λ v. v.count) w.verifier-is, ensures.bound),
-            apart_next a m (spelled r) _ _ first inv.2,
-            (λ test h. after_next (held_by (with_test own test) trust) m rs i r c.args.groups.now _ _ at item (one test h) (inv.3 test (agreed own.verifies test _ _ (back test) h))),
+            (λ test h. after_next (held_by (with_test own test) trust) m rs i r c.args.groups.now _ _ at item (one test h) (inv.2 test (agreed own.verifies test _ _ (back test) h))),
             search rules,
             search rules,
             search rules,
@@ -47,21 +46,21 @@ loop-record-preserved g c =
                 let b = held_by (with_test own test) trust in
                 omega (
                   arith,
-                  inv.7 test (agreed own.verifies test _ _ (back test) h),
+                  inv.6 test (agreed own.verifies test _ _ (back test) h),
                   ap (λ v. v.count) w.verifier-is,
                   ensures.tried test (now test h),
-                  ap (λ v. one_if (is_tried_in (held_by (with_test v test) trust) m c.loop-record.groups (spelled r))) inv.6,
+                  ap (λ v. one_if (is_tried_in (held_by (with_test v test) trust) m c.loop-record.groups (spelled r))) inv.5,
                   tries_next b m rs i r c.loop-record.groups c.if-eq.groups at item (one test h),
                 )),
             search rules,
-            ranked_next a m (spelled r ∷ []) c.loop-record.groups c.if-eq.groups first inv.9,
-            (λ test h. inv.10 test (back test h)),
-            bare_next a m (spelled r ∷ []) c.loop-record.groups c.if-eq.groups c.args.groups.now first inv.11,
+            ranked_next a m (spelled r ∷ []) c.loop-record.groups c.if-eq.groups first inv.8,
+            (λ test h. inv.9 test (back test h)),
+            bare_next a m (spelled r ∷ []) c.loop-record.groups c.if-eq.groups c.args.groups.now first inv.10,
             (λ test passes.
-                let before = inv.12 test passes in
+                let before = inv.11 test passes in
                 let next = next_passes (PassesRecord test trust.keys.now m (map bare c.args.groups.now)) rs i r at item before.0 in (
                   next.1,
-                  (λ asked. subst (λ v. g.C.Checks.asked_only v.checks.now test) (sym w.verifier-is) (ensures.asked test (subst (λ gs. PassesRecord test trust.keys.now m gs (spelled r)) (sym inv.11) next.0) (before.1 asked))),
+                  (λ asked. subst (λ v. g.C.Checks.asked_only v.checks.now test) (sym w.verifier-is) (ensures.asked test (subst (λ gs. PassesRecord test trust.keys.now m gs (spelled r)) (sym inv.10) next.0) (before.1 asked))),
                 )),
           )
       | else-eq w ↦
@@ -74,8 +73,7 @@ loop-record-preserved g c =
           let first = one own.verifies in (
             omega (arith, ap (λ v. v.count) w.verifier-is, inv.0, signatures_same rs i r at item other),
             omega (arith, inv.1, ap (λ v. v.count) w.verifier-is),
-            apart_next a m (spelled r) _ _ first inv.2,
-            (λ test h. after_next (held_by (with_test own test) trust) m rs i r c.args.groups.now _ _ at item (one test) (inv.3 test (agreed own.verifies test _ _ (back test) h))),
+            (λ test h. after_next (held_by (with_test own test) trust) m rs i r c.args.groups.now _ _ at item (one test) (inv.2 test (agreed own.verifies test _ _ (back test) h))),
             search rules,
             search rules,
             search rules,
@@ -83,17 +81,17 @@ loop-record-preserved g c =
                 let b = held_by (with_test own test) trust in
                 omega (
                   arith,
-                  inv.7 test (agreed own.verifies test _ _ (back test) h),
+                  inv.6 test (agreed own.verifies test _ _ (back test) h),
                   ap (λ v. v.count) w.verifier-is,
                   ap one_if (tries_unsigned b m (spelled r) c.loop-record.groups other),
                   tries_next b m rs i r c.loop-record.groups c.if-eq.groups at item (one test),
                 )),
             search rules,
-            ranked_next a m (spelled r ∷ []) c.loop-record.groups c.if-eq.groups first inv.9,
-            (λ test h. inv.10 test (back test h)),
-            bare_next a m (spelled r ∷ []) c.loop-record.groups c.if-eq.groups c.args.groups.now first inv.11,
+            ranked_next a m (spelled r ∷ []) c.loop-record.groups c.if-eq.groups first inv.8,
+            (λ test h. inv.9 test (back test h)),
+            bare_next a m (spelled r ∷ []) c.loop-record.groups c.if-eq.groups c.args.groups.now first inv.10,
             (λ test passes.
-                let before = inv.12 test passes in
+                let before = inv.11 test passes in
                 let next = next_passes (PassesRecord test trust.keys.now m (map bare c.args.groups.now)) rs i r at item before.0 in
                 (next.1, (λ asked. subst (λ v. g.C.Checks.asked_only v.checks.now test) (sym w.verifier-is) (before.1 asked)))),
           )
@@ -102,9 +100,9 @@ loop-record-preserved g c =
 pub returns-clause-marked : goal.returns-clause-marked
 returns-clause-marked g c = λ test h.
     let a = held_by (with_test (g.C.Checks.answers c.args.verifier.now.checks.now) test) c.args.trust.now in
-    after_last a c.args.message.now c.args.records.now c.loop-record.record-index c.args.groups.now c.loop-record.groups (omega arith) (c.loop-record.invariant.3 test h)
+    after_last a c.args.message.now c.args.records.now c.loop-record.record-index c.args.groups.now c.loop-record.groups (omega arith) (c.loop-record.invariant.2 test h)
 
 pub returns-clause-tried : goal.returns-clause-tried
 returns-clause-tried g c = λ test h.
     let a = held_by (with_test (g.C.Checks.answers c.args.verifier.now.checks.now) test) c.args.trust.now in
-    omega (arith, c.loop-record.invariant.7 test h, tries_last a c.args.message.now c.args.records.now c.loop-record.record-index c.loop-record.groups (omega arith))
+    omega (arith, c.loop-record.invariant.6 test h, tries_last a c.args.message.now c.args.records.now c.loop-record.record-index c.loop-record.groups (omega arith))

@@ -1,10 +1,10 @@
-use Rattle.std.proofs.Common.{◌≡◌, ◌+◌, ◌≤◌, drop, map, length, true}
+use Rattle.std.proofs.Common.{◌≡◌, ◌+◌, ◌≤◌, drop, map, length}
 use Rattle.std.specs.List.{filter}
 use Rattle.messages.specs.Record.{spelled}
 use Rattle.answer_scheme.specs.Answers.{EachAgreeing, SignatureTest}
 use Rattle.answer_judge_facts.specs.Asked.{PassesGroups, bare}
 use Rattle.answer_judge_facts.specs.Facts.{is_signature}
-use Rattle.answer_judge_facts.specs.Marked.{held_by, are_apart, marked, tries_in}
+use Rattle.answer_judge_facts.specs.Marked.{held_by, marked, tries_in}
 use Rattle.answer_judge_facts.specs.Ranked.{AreRanked}
 use Rattle.answer_judge_facts.proofs.groups.verify_groups.Given as goal
 
@@ -18,7 +18,6 @@ invariant-loop-record g l =
     let all = map spelled l.records in
     (v.count + length (filter is_signature rest) ≤ old.count + length (filter is_signature all))
     × (v.count ≤ old.count + l.record-index)
-    × (are_apart l.groups ≡ true)
     × EachAgreeing own (c.agrees v.checks.now) (λ a. let w = held_by a l.trust in map (marked w l.message rest) l.groups ≡ map (marked w l.message all) l.fn.groups)
     × (c.verified v.checks.now + old.count ≡ c.verified old.checks.now + v.count)
     × (c.hashed v.checks.now ≡ c.hashed old.checks.now) × (c.answers v.checks.now ≡ c.answers old.checks.now)

@@ -1,4 +1,4 @@
-use Rattle.std.proofs.Common.{rules, ◌≡◌, false, subst, ◌||◌, [], ◌∷◌, ◌+◌, ◌++◌, map, length, sym, ap, ◌∙◌, arith}
+use Rattle.std.proofs.Common.{rules, ◌≡◌, false, subst, ◌||◌, [], ◌∷◌, ◌+◌, ◌++◌, map, take, drop, length, sym, ap, ◌∙◌, arith}
 use Rattle.std.specs.Prelude.{MatchOption, Some, is_some}
 use Rattle.definitions.specs.Limits.{pointer_limit}
 use Rattle.answer_judge_facts.specs.declared.groups.Group.{Group}
@@ -11,7 +11,7 @@ use Rattle.answer_judge_facts.specs.Marked.{held_by, marked, tries_in}
 use Rattle.answer_scheme.specs.Answers.{with_test}
 use Rattle.answer_judge_facts.proofs.JudgeAsked.{sought_passes}
 use Rattle.answer_judge_facts.proofs.JudgeCounted.{tries_are}
-use Rattle.answer_judge_facts.proofs.JudgeFacts.{last_of}
+use Rattle.answer_judge_facts.proofs.JudgeFacts.{last_of, over}
 use Rattle.answer_judge_facts.proofs.JudgeSought.{keys_are}
 use Rattle.answer_judge_facts.specs.Ranked.{AreRanked}
 use Rattle.answer_judge_facts.proofs.GroupPlaces.{one_ranked}
@@ -41,7 +41,9 @@ returns-clause-exact g c = λ test h.
     let old : c.deref_mut.result.now ≡ x ∷ [] = c.deref_mut.ensures.value ∙ c.in_ok-push.ensures.items ∙ ap (λ gs. gs ++ x ∷ []) c.in_ok-groups.ensures.items in
     let all : c.verify_groups.new.groups ≡ y ∷ [] = c.in_ok-verify_groups.ensures.marked test h ∙ ap (map (marked a m rs)) old in
     let len : c.push.new.self.len ≡ length c.verify_groups.new.groups = search rules in
-    let last = c.pop.ensures.value y (omega (arith, len, ap length all)) ∙ ap Some (last_of [] y y c.verify_groups.new.groups c.push.new.self.items c.push.new.self.len all len) in
+    let now = c.verify_groups.new.groups in
+    let over_all : take c.push.new.self.len (now ++ drop (length now) c.push.new.self.items) ≡ now = over now c.push.new.self.items c.push.new.self.len len in
+    let last = c.pop.ensures.value y (omega (arith, len, ap length all)) ∙ ap Some (last_of [] y (take c.push.new.self.len (now ++ drop (length now) c.push.new.self.items)) c.push.new.self.len (over_all ∙ all) (len ∙ sym (ap length over_all)) y) in
     subst (λ o. MatchOption o (c.was_verified.result ≡ false) (λ (g : Group). c.was_verified.result ≡ is_some g.verified)) last c.was_verified.ensures ∙ marked_is a m rs x
     ∙ (λ i. is_some (e.unverified i) || is_verified a pointer_limit m rs (e.owner i) (e.rtype i) (e.items i))
 
