@@ -5,9 +5,10 @@ use Rattle.definitions.specs.Dnskey.{Dnskey}
 use Rattle.definitions.specs.Limits.{pointer_limit}
 use Rattle.messages.specs.Message.{Message, Spelled, message}
 use Rattle.answer_scheme.specs.Answers.{Answers}
+use Rattle.answer_judge.specs.Stages.{tries_of_keys}
 use Rattle.answer_judge_facts.specs.Counted.{answer_tries, key_tries, tries, tries_beyond, tries_in_bytes, tries_in_messages}
-use Rattle.answer_judge_facts.specs.Sought.{answer_sought, keys_sought}
-use Rattle.answer_judge_facts.specs.Facts.{is_trusted, is_usable}
+use Rattle.answer_judge_facts.specs.Sought.{answer_sought}
+use Rattle.answer_judge_facts.specs.Facts.{is_usable}
 use Rattle.answer_judge_facts.specs.Judged.{is_chained, keys_of, trusting}
 use Rattle.answer_judge_facts.specs.Judging.{Handing, keys_in, message_refusal}
 
@@ -17,14 +18,8 @@ beyond a h keys answer none d z =
     (λ i. elim (none i) as (λ _. ℕ) [ Some e ↦ 0 | None ↦ tries_in_bytes a pointer_limit h ])
     ∙ (λ i. elim (d i) as (λ _. ℕ) [ Err e ↦ 0 | Ok keys ↦ elim (z i) as (λ _. ℕ) [ Err e ↦ 0 | Ok answer ↦ tries_in_messages a pointer_limit h keys answer ] ])
 
-pub key_tries_as : (a : Answers) (h : Handing) (keys : Message) (rs : List Spelled) (ks trusted : List Dnskey) (n : ℕ) → rs ≡ keys.records → ks ≡ keys_in h.dnskey_bytes h.apex rs → trusted ≡ filter (is_trusted a h.apex h.ds) ks
-    → n ≡ 0 + tries (trusting a h trusted) pointer_limit h.dnskey_bytes (keys_sought h.apex ks) [] rs → n ≡ key_tries a pointer_limit h keys
-key_tries_as a h keys rs ks trusted n e f g is =
-    let count : List Dnskey → List Dnskey → List Spelled → ℕ = λ ts qs ss. tries (trusting a h ts) pointer_limit h.dnskey_bytes (keys_sought h.apex qs) [] ss in
-    let first : n ≡ count trusted ks rs = omega (arith, is) in
-    first ∙ ap (λ t. count t ks rs) g
-    ∙ ap (λ q. count (filter (is_trusted a h.apex h.ds) q) q rs) f
-    ∙ ap (λ ss. count (filter (is_trusted a h.apex h.ds) (keys_in h.dnskey_bytes h.apex ss)) (keys_in h.dnskey_bytes h.apex ss) ss) e
+pub key_tries_as : (a : Answers) (h : Handing) (keys : Message) (rs : List Spelled) (ks : List Dnskey) → rs ≡ keys.records → ks ≡ keys_in h.dnskey_bytes h.apex rs → tries_of_keys a pointer_limit h rs ks ≡ key_tries a pointer_limit h keys
+key_tries_as a h keys rs ks e f = λ i. tries_of_keys a pointer_limit h (e i) ((f ∙ ap (keys_in h.dnskey_bytes h.apex) e) i)
 
 -- the keys aren't signed
 pub keys_alone : (a : Answers) (h : Handing) (keys answer : Message) (n : ℕ) → message_refusal pointer_limit h ≡ None → message pointer_limit h.dnskey_bytes ≡ Ok keys → message pointer_limit h.answer_bytes ≡ Ok answer

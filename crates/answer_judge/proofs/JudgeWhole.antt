@@ -1,12 +1,12 @@
 -- What a judge says, from what it read and verified.
-use Rattle.std.proofs.Common.{◌≡◌, ℕ, Bool, true, false, not, ◌&&◌, List, map, filter, length, inr, sym, ap, subst, ◌∙◌}
+use Rattle.std.proofs.Common.{◌≡◌, ℕ, Bool, true, false, not, ◌&&◌, List, filter, length, inr, sym, ap, subst, ◌∙◌}
 use Rattle.std.specs.Prelude.{Option, Some, None, Ok, Err, nat_eq, if◌then◌else◌}
 use Rattle.std.specs.Option.{option_map, ok_or}
-use Rattle.definitions.specs.Dnskey.{Dnskey, dnskey_data}
-use Rattle.definitions.specs.Zone.{sorted_data}
+use Rattle.definitions.specs.Dnskey.{Dnskey}
 use Rattle.definitions.specs.Limits.{pointer_limit}
 use Rattle.answer_scheme.specs.Answers.{Answers}
-use Rattle.answer_judge_facts.specs.Facts.{is_usable, is_trusted, RefusesFirst}
+use Rattle.answer_judge.specs.Stages.{are_signed}
+use Rattle.answer_judge_facts.specs.Facts.{is_usable, RefusesFirst}
 use Rattle.denial_laws.specs.Facts.{Facts}
 use Rattle.answer_judge_rules.specs.declared.verdict.Verdict.{Verdict as CodeVerdict}
 use Rattle.answer_judge_facts.specs.declared.verdict.Refusal.{Refusal}
@@ -16,7 +16,7 @@ use Rattle.answer_shared.specs.Asking.{is_allowed}
 use Rattle.answer_shared.specs.EqualTags.{has_equal_tags}
 use Rattle.answer_judge_rules.specs.Rules.{verdict_of}
 use Rattle.messages.specs.Message.{Asked, Message, Spelled, message}
-use Rattle.answer_judge_facts.specs.Verified.{is_verified, verified_facts}
+use Rattle.answer_judge_facts.specs.Verified.{verified_facts}
 use Rattle.answer_judge_facts.specs.Times.{are_unlike, proof_times}
 use Rattle.answer_judge_facts.specs.Judged.{trusting, keys_of, is_chained, by_facts, judged_answer, judged_proof, judged_messages, judged_bytes, judged_beyond, said, AnswersAs}
 
@@ -51,13 +51,9 @@ unrefused k h keys answer d z p q t =
     ])
     ∙ (λ i. brought (p i) (q i) (t i))
 
--- the keys are signed, or not, as was found out
-pub chained_as : (a : Answers) (h : Handing) (keys : Message) (rs : List Spelled) (ks trusted : List Dnskey) (b : Bool) → rs ≡ keys.records → ks ≡ keys_in h.dnskey_bytes h.apex rs → trusted ≡ filter (is_trusted a h.apex h.ds) ks
-    → b ≡ is_verified (trusting a h trusted) pointer_limit h.dnskey_bytes rs h.apex 48 (sorted_data (map dnskey_data ks)) → b ≡ is_chained a pointer_limit h keys
-chained_as a h keys rs ks trusted b e f g is =
-    is ∙ ap (λ t. is_verified (trusting a h t) pointer_limit h.dnskey_bytes rs h.apex 48 (sorted_data (map dnskey_data ks))) g
-    ∙ ap (λ q. is_verified (trusting a h (filter (is_trusted a h.apex h.ds) q)) pointer_limit h.dnskey_bytes rs h.apex 48 (sorted_data (map dnskey_data q))) f
-    ∙ ap (λ ss. is_verified (trusting a h (filter (is_trusted a h.apex h.ds) (keys_in h.dnskey_bytes h.apex ss))) pointer_limit h.dnskey_bytes ss h.apex 48 (sorted_data (map dnskey_data (keys_in h.dnskey_bytes h.apex ss)))) e
+-- what was found out of the keys, said of the message
+pub chained_as : (a : Answers) (h : Handing) (keys : Message) (rs : List Spelled) (ks : List Dnskey) → rs ≡ keys.records → ks ≡ keys_in h.dnskey_bytes h.apex rs → are_signed a pointer_limit h rs ks ≡ is_chained a pointer_limit h keys
+chained_as a h keys rs ks e f = λ i. are_signed a pointer_limit h (e i) ((f ∙ ap (keys_in h.dnskey_bytes h.apex) e) i)
 
 -- the keys that may sign the zone
 pub usable_as : (h : Handing) (keys : Message) (rs : List Spelled) (ks usable : List Dnskey) → rs ≡ keys.records → ks ≡ keys_in h.dnskey_bytes h.apex rs → usable ≡ filter is_usable ks → usable ≡ filter is_usable (keys_of h keys)

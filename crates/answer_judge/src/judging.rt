@@ -18,13 +18,11 @@ ghost use Rattle.answer_judge_facts.specs.Asked.{Implies, is_candidate};
 
 pub mod by_scheme;
 mod deciding;
+mod trusting;
 
 use crate::case::Case;
 use crate::judging::deciding::judge_proof;
-use answer_judge_facts::facts::read_facts;
-use answer_judge_facts::keys::{has_equal_tags, ranked_keys, read_keys, trusted_keys, usable_keys};
-use answer_judge_facts::signed_keys::are_verified;
-use answer_judge_facts::trust::Trust;
+use crate::judging::trusting::{read_proof, read_unlike_keys, signed_keys};
 use answer_judge_facts::verdict::{Judgement, Refusal, Refused, Verdict};
 use answer_judge_facts::verifier::Verifier;
 use answer_scheme::checks::Checks;
@@ -32,7 +30,7 @@ pub use answer_shared::question::is_allowed;
 use denial_data::Ds;
 use denial_fields::unix_time::UnixTime;
 use messages::error::MessageError;
-use messages::names::{Name, ToName, ZoneName};
+use messages::names::{Name, ToName};
 use messages::question::Question;
 use messages::{MessageView, ViewRecord, read_message_into};
 use names_rdata::rtype::Rtype;
@@ -180,44 +178,9 @@ fn judge_messages<C: Checks>(
 {
     let alloc = verifier.alloc;
     let messages = read_messages(alloc, case)?;
-    let keys = read_keys(alloc, case.apex, case.dnskey, &messages.key_records)?;
-    let by_tag = ranked_keys(alloc, &keys)?;
-    if has_equal_tags(&keys, &by_tag) {
-        return Err(Refusal::EqualTags);
-    }
-    verifier.octets.reserve(512)?;
-    let trusted = trusted_keys(case.apex, case.ds, &keys, verifier)?;
-    let trusted_by_tag = ranked_keys(alloc, &trusted)?;
-    let moment = case.moment.timestamp();
-    let depth = case.apex.depth();
-    let trust = Trust {
-        apex: case.apex,
-        depth,
-        keys: &trusted,
-        ranked: &trusted_by_tag,
-        moment,
-    };
-    if !are_verified(case.dnskey, &messages.key_records, &keys, &trust, verifier)? {
-        return Err(Refusal::NoTrustedKey);
-    }
-    let usable = usable_keys(keys);
-    let usable_by_tag = ranked_keys(alloc, &usable)?;
-    let trust = Trust {
-        apex: case.apex,
-        depth,
-        keys: &usable,
-        ranked: &usable_by_tag,
-        moment,
-    };
-    let question = case.question;
-    let proof = read_facts(
-        case.answer,
-        &messages.answer_records,
-        &trust,
-        &question.name,
-        question.rtype,
-        verifier,
-    )?;
+    let keys = read_unlike_keys(alloc, case, &messages.key_records)?;
+    let usable = signed_keys(case, &messages.key_records, keys, verifier)?;
+    let proof = read_proof(case, &messages.answer_records, &usable, verifier)?;
     judge_proof(alloc, case, proof, verifier.checks, hashes)
 }
 

@@ -1,0 +1,165 @@
+//! The keys of a DNSKEY answer that may sign the zone, and what they verify of an answer (RFC 4035, 5.2 and 5.3).
+ghost use Rattle.std.specs.Prelude.{◌≡◌, ◌==◌, ◌⊎◌, ◌+◌, ◌<◌, ◌≤◌, ◌^◌, [], IfOk, IfErr, filter, length, map, true, false};
+ghost use Rattle.definitions.specs.Limits.{pointer_limit};
+ghost use Rattle.messages.specs.Record.{spelled};
+ghost use Rattle.answer_judge.specs.Stages.{FindsSigned, FindsUnsigned};
+ghost use Rattle.answer_judge_facts.specs.Asked.{PassesSought};
+ghost use Rattle.answer_judge_facts.specs.Counted.{tries};
+ghost use Rattle.answer_judge_facts.specs.Facts.{is_signature, is_trusted, is_usable};
+ghost use Rattle.answer_judge_facts.specs.Judged.{trusting};
+ghost use Rattle.answer_judge_facts.specs.Judging.{keys_in};
+ghost use Rattle.answer_judge_facts.specs.Sought.{answer_sought, keys_sought};
+ghost use Rattle.answer_judge_facts.specs.Times.{are_unlike, proof_times};
+ghost use Rattle.answer_judge_facts.specs.Verified.{verified_facts};
+ghost use Rattle.answer_scheme.specs.Answers.{EachAgreeing, SignatureTest};
+ghost use Rattle.answer_shared.specs.EqualTags.{has_equal_tags};
+
+use crate::case::Case;
+use answer_judge_facts::facts::{Proof, read_facts};
+use answer_judge_facts::keys::{
+    TaggedKey, has_equal_tags, ranked_keys, read_keys, trusted_keys, usable_keys,
+};
+use answer_judge_facts::signed_keys::are_verified;
+use answer_judge_facts::trust::Trust;
+use answer_judge_facts::verdict::Refusal;
+use answer_judge_facts::verifier::Verifier;
+use answer_scheme::checks::Checks;
+use messages::ViewRecord;
+use messages::names::ZoneName;
+use std::alloc::{AllocError, Global};
+
+/// The keys of the DNSKEY answer, no two unlike ones of one tag.
+///
+/// Keys of one tag would each be tried on a signature: an answer full of them would wear a judge out.
+pub(crate) fn read_unlike_keys<'a>(
+    alloc: Global,
+    case: &Case<'a>,
+    records: &[ViewRecord],
+) -> Result<Vec<TaggedKey<'a>>, Refusal>
+    ensures keys { let h = case.now in let rs = map spelled records.now in
+        IfOk result (λ ks. ks.items ≡ keys_in h.dnskey_bytes h.apex rs) }
+    ensures unlike { IfOk result (λ ks. has_equal_tags ks.items ≡ false) }
+    ensures equal { let h = case.now in let rs = map spelled records.now in
+        let are_equal = has_equal_tags (keys_in h.dnskey_bytes h.apex rs) in
+        IfErr result (λ e. (e ≡ Refusal.Memory) ⊎ ((e ≡ Refusal.EqualTags) × (are_equal ≡ true))) }
+{
+    let keys = read_keys(alloc, case.apex, case.dnskey, records)?;
+    let by_tag = ranked_keys(alloc, &keys)?;
+    if has_equal_tags(&keys, &by_tag) {
+        return Err(Refusal::EqualTags);
+    }
+    Ok(keys)
+}
+
+/// The keys that may sign the zone, if one that a DS record names signs all keys.
+///
+/// Keys that nothing at the parent vouches for are those of whoever sent the answer (RFC 4035, 5.2).
+pub(crate) fn signed_keys<'a, C: Checks>(
+    case: &Case,
+    records: &[ViewRecord],
+    keys: Vec<TaggedKey<'a>>,
+    verifier: &mut Verifier<C>,
+) -> Result<Vec<TaggedKey<'a>>, Refusal>
+    requires none_yet { verifier.old.count ≡ 0 }
+    requires room { length records.now < 2 ^ 32 }
+    ensures usable { IfOk result (λ ks. ks.items ≡ filter is_usable keys.entry.items) }
+    ensures signed { EachAgreeing (C.answers verifier.old.checks.now)
+        (C.agrees verifier.new.checks.now) (λ a. let rs = map spelled records.now in
+        let count = verifier.new.count in
+        IfOk result (λ _. FindsSigned a pointer_limit case.now rs keys.entry.items count)) }
+    ensures unsigned { EachAgreeing (C.answers verifier.old.checks.now)
+        (C.agrees verifier.new.checks.now) (λ a. let rs = map spelled records.now in
+        let count = verifier.new.count in
+        IfErr result (λ e. FindsUnsigned a pointer_limit case.now rs keys.entry.items count e)) }
+    ensures agrees { (test : SignatureTest) → C.agrees verifier.new.checks.now test
+        → C.agrees verifier.old.checks.now test }
+    ensures asked { (test : SignatureTest) → let a = C.answers verifier.old.checks.now in
+        let h = case.now in let ks = keys.entry.items in
+        let named = filter (is_trusted a h.apex h.ds) ks in
+        PassesSought test named h.dnskey_bytes (keys_sought h.apex ks) (map spelled records.now)
+        → C.asked_only verifier.old.checks.now test → C.asked_only verifier.new.checks.now test }
+    ensures counted { C.verified verifier.new.checks.now
+        ≡ C.verified verifier.old.checks.now + verifier.new.count }
+    ensures bound { let rs = map spelled records.now in
+        verifier.new.count ≤ length (filter is_signature rs) }
+    ensures few { verifier.new.count ≤ length records.now }
+    ensures hashed { C.hashed verifier.new.checks.now ≡ C.hashed verifier.old.checks.now }
+    ensures same { C.answers verifier.new.checks.now ≡ C.answers verifier.old.checks.now }
+    ensures same_checks { verifier.new.checks.ghost_name ≡ verifier.old.checks.ghost_name }
+{
+    verifier.octets.reserve(512)?;
+    let trusted = trusted_keys(case.apex, case.ds, &keys, verifier)?;
+    let by_tag = ranked_keys(verifier.alloc, &trusted)?;
+    let trust = Trust {
+        apex: case.apex,
+        depth: case.apex.depth(),
+        keys: &trusted,
+        ranked: &by_tag,
+        moment: case.moment.timestamp(),
+    };
+    if !are_verified(case.dnskey, records, &keys, &trust, verifier)? {
+        return Err(Refusal::NoTrustedKey);
+    }
+    Ok(usable_keys(keys))
+}
+
+/// What some keys verify of the answer.
+pub(crate) fn read_proof<'a, C: Checks>(
+    case: &Case<'a>,
+    records: &[ViewRecord<'a>],
+    keys: &'a [TaggedKey<'a>],
+    verifier: &mut Verifier<C>,
+) -> Result<Proof<'a>, AllocError>
+    requires room { verifier.old.count + length records.now < 2 ^ 32 }
+    requires other { (case.now.asked.rtype == 47) ≡ false }
+    requires other_too { (case.now.asked.rtype == 50) ≡ false }
+    ensures facts { EachAgreeing (C.answers verifier.old.checks.now)
+        (C.agrees verifier.new.checks.now) (λ a. let h = case.now in
+        let w = trusting a h keys.now in let rs = map spelled records.now in
+        let q = h.asked.name in let t = h.asked.rtype in
+        IfOk result (λ p. p.facts ≡ verified_facts w pointer_limit h.answer_bytes rs q t)) }
+    ensures moments { EachAgreeing (C.answers verifier.old.checks.now)
+        (C.agrees verifier.new.checks.now) (λ a. let h = case.now in
+        let w = trusting a h keys.now in let rs = map spelled records.now in
+        let times = proof_times w pointer_limit h.answer_bytes rs h.asked.name h.asked.rtype in
+        IfOk result (λ p. p.is_of_moments ≡ are_unlike times)) }
+    ensures tried { EachAgreeing (C.answers verifier.old.checks.now)
+        (C.agrees verifier.new.checks.now) (λ a. let h = case.now in
+        let w = trusting a h keys.now in let rs = map spelled records.now in
+        let m = h.answer_bytes in
+        let sought = answer_sought pointer_limit m h.apex rs h.asked.name h.asked.rtype in
+        let count = verifier.old.count + tries w pointer_limit m sought [] rs in
+        IfOk result (λ _. verifier.new.count ≡ count)) }
+    ensures agrees { (test : SignatureTest) → C.agrees verifier.new.checks.now test
+        → C.agrees verifier.old.checks.now test }
+    ensures asked { (test : SignatureTest) → let h = case.now in let rs = map spelled records.now in
+        let m = h.answer_bytes in
+        let sought = answer_sought pointer_limit m h.apex rs h.asked.name h.asked.rtype in
+        PassesSought test keys.now m sought rs
+        → C.asked_only verifier.old.checks.now test → C.asked_only verifier.new.checks.now test }
+    ensures counted { C.verified verifier.new.checks.now + verifier.old.count
+        ≡ C.verified verifier.old.checks.now + verifier.new.count }
+    ensures bound { let rs = map spelled records.now in
+        verifier.new.count ≤ verifier.old.count + length (filter is_signature rs) }
+    ensures hashed { C.hashed verifier.new.checks.now ≡ C.hashed verifier.old.checks.now }
+    ensures same { C.answers verifier.new.checks.now ≡ C.answers verifier.old.checks.now }
+    ensures same_checks { verifier.new.checks.ghost_name ≡ verifier.old.checks.ghost_name }
+{
+    let by_tag = ranked_keys(verifier.alloc, keys)?;
+    let trust = Trust {
+        apex: case.apex,
+        depth: case.apex.depth(),
+        keys,
+        ranked: &by_tag,
+        moment: case.moment.timestamp(),
+    };
+    let question = case.question;
+    read_facts(
+        case.answer,
+        records,
+        &trust,
+        &question.name,
+        question.rtype,
+        verifier,
+    )
+}
