@@ -69,3 +69,15 @@ void count(const struct asked *asked, const char *word, bool (*work)(const struc
     }
     puts(title);
 }
+
+void count_reader(const struct reader *reader) {
+    struct asked asked = {0};
+    while (next_asked(&asked)) {
+        count(&asked, "answer", reader->read_answer);
+        count(&asked, "dnskey", reader->read_dnskey);
+        if (strcmp(asked.word, "records") != 0) {
+            count(&asked, "check", reader->read_and_check);
+        }
+    }
+    asked_free(&asked);
+}

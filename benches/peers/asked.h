@@ -24,4 +24,15 @@ void asked_free(struct asked *asked);
    bear the question's word and the work's, and both are printed where the work was done as it should. */
 void count(const struct asked *asked, const char *word, bool (*work)(const struct asked *));
 
+/* The works of a library that only reads answers: of each line it reads both and, where there is no such name, checks what denies
+   it. */
+struct reader {
+    bool (*read_answer)(const struct asked *);
+    bool (*read_dnskey)(const struct asked *);
+    bool (*read_and_check)(const struct asked *);
+};
+
+/* Counts each of them on each line. */
+void count_reader(const struct reader *reader);
+
 #endif

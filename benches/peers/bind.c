@@ -4,7 +4,6 @@
 #include <isc/buffer.h>
 #include <isc/mem.h>
 #include <isc/result.h>
-#include <string.h>
 
 #include <dns/fixedname.h>
 #include <dns/message.h>
@@ -172,16 +171,9 @@ static bool read_and_check(const struct asked *asked) {
 }
 
 int main(void) {
-    struct asked asked = {0};
+    const struct reader reader = {read_answer, read_dnskey, read_and_check};
     isc_mem_create(&memory);
-    while (next_asked(&asked)) {
-        count(&asked, "answer", read_answer);
-        count(&asked, "dnskey", read_dnskey);
-        if (strcmp(asked.word, "records") != 0) {
-            count(&asked, "check", read_and_check);
-        }
-    }
-    asked_free(&asked);
+    count_reader(&reader);
     isc_mem_destroy(&memory);
     return 0;
 }

@@ -2,7 +2,6 @@
 #include "asked.h"
 
 #include <ldns/ldns.h>
-#include <string.h>
 
 static bool reads(const struct buffer *octets) {
     ldns_pkt *message = NULL;
@@ -55,14 +54,7 @@ static bool read_and_check(const struct asked *asked) {
 }
 
 int main(void) {
-    struct asked asked = {0};
-    while (next_asked(&asked)) {
-        count(&asked, "answer", read_answer);
-        count(&asked, "dnskey", read_dnskey);
-        if (strcmp(asked.word, "records") != 0) {
-            count(&asked, "check", read_and_check);
-        }
-    }
-    asked_free(&asked);
+    const struct reader reader = {read_answer, read_dnskey, read_and_check};
+    count_reader(&reader);
     return 0;
 }
