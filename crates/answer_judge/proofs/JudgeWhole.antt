@@ -38,7 +38,7 @@ abbrev brought : Bool → Bool → Bool → Option Refusal
 brought p q t = if not (p && q) then Some r.QuestionMismatch else if t then Some r.EqualTags else None
 
 -- both messages are read, ask what they should, and no keys have one tag: they bring no refusal
-pub unrefused : (k : ℕ) (h : Handing) (keys answer : Message) → message k h.dnskey_bytes ≡ Ok keys → message k h.answer_bytes ≡ Ok answer
+unrefused : (k : ℕ) (h : Handing) (keys answer : Message) → message k h.dnskey_bytes ≡ Ok keys → message k h.answer_bytes ≡ Ok answer
     → same_question keys.asked (asked_for_keys h) ≡ true → same_question answer.asked h.asked ≡ true
     → has_equal_tags (keys_in h.dnskey_bytes h.apex keys.records) ≡ false → message_refusal k h ≡ None
 unrefused k h keys answer d z p q t =
@@ -50,6 +50,24 @@ unrefused k h keys answer d z p q t =
       ]
     ])
     ∙ (λ i. brought (p i) (q i) (t i))
+
+-- both messages were read, the records of the one and the keys in them, and nothing stands in the messages that is refused
+pub record BothRead (h : Handing) (keys answer : Message) (rs : List Spelled) (ks : List Dnskey) : Type 0 where
+  pub dnskey : message pointer_limit h.dnskey_bytes ≡ Ok keys
+  pub zone : message pointer_limit h.answer_bytes ≡ Ok answer
+  pub records_are : rs ≡ keys.records
+  pub keys_are : ks ≡ keys_in h.dnskey_bytes h.apex rs
+  pub none : message_refusal pointer_limit h ≡ None
+
+pub both_read : (h : Handing) (keys answer : Message) (rs : List Spelled) (ks : List Dnskey) → message pointer_limit h.dnskey_bytes ≡ Ok keys → message pointer_limit h.answer_bytes ≡ Ok answer → same_question keys.asked (asked_for_keys h) ≡ true → same_question answer.asked h.asked ≡ true
+    → rs ≡ keys.records → ks ≡ keys_in h.dnskey_bytes h.apex rs → has_equal_tags ks ≡ false → BothRead h keys answer rs ks
+both_read h keys answer rs ks d z p q e f unlike = record {
+  dnskey = d;
+  zone = z;
+  records_are = e;
+  keys_are = f;
+  none = unrefused pointer_limit h keys answer d z p q (ap has_equal_tags (sym (f ∙ ap (keys_in h.dnskey_bytes h.apex) e)) ∙ unlike);
+}
 
 -- what was found out of the keys, said of the message
 pub chained_as : (a : Answers) (h : Handing) (keys : Message) (rs : List Spelled) (ks : List Dnskey) → rs ≡ keys.records → ks ≡ keys_in h.dnskey_bytes h.apex rs → are_signed a pointer_limit h rs ks ≡ is_chained a pointer_limit h keys

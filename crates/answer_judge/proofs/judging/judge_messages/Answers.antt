@@ -1,23 +1,19 @@
-use mathlib.Core.Path.{transport}
 use Rattle.std.proofs.Common.{◌≡◌, ℕ, List, false, map, filter, [], ◌+◌, inl, inr, ⊎_elim, refl, sym, ap, subst, ◌∙◌, arith}
-use Rattle.std.specs.Prelude.{IfErr, None, Ok}
+use Rattle.std.specs.Prelude.{IfErr}
 use Rattle.std.proofs.lemmas.Result.{err_from_is_err_and}
 use Rattle.definitions.specs.Dnskey.{Dnskey}
 use Rattle.definitions.specs.Limits.{pointer_limit}
-use Rattle.messages.specs.Message.{Message, Spelled, message}
-use Rattle.messages.specs.declared.view.ViewRecord.{ViewRecord}
+use Rattle.messages.specs.Message.{Message, Spelled}
 use Rattle.messages.specs.Record.{spelled}
 use Rattle.messages.proofs.CountedRecords.{same_count}
 use Rattle.answer_judge.specs.Beyond.{SaysBeyond}
 use Rattle.answer_judge.specs.Stages.{FindsUnsigned}
 use Rattle.answer_scheme.specs.Answers.{Answers, with_test}
-use Rattle.answer_shared.specs.EqualTags.{has_equal_tags}
-use Rattle.answer_judge_facts.specs.Asked.{PassesSought}
 use Rattle.answer_judge_facts.specs.Counted.{hashes_beyond, hashes_of_proof, tries}
 use Rattle.answer_judge_facts.specs.Facts.{RefusesFirst, is_trusted}
 use Rattle.answer_judge_facts.specs.Judged.{AnswersAs, is_chained, judged_beyond, judged_proof, said, trusting}
 use Rattle.answer_judge_facts.specs.Judging.{Handing, IsRead, Refuses, keys_in, message_refusal}
-use Rattle.answer_judge_facts.specs.Sought.{Sought, answer_sought, keys_sought}
+use Rattle.answer_judge_facts.specs.Sought.{answer_sought}
 use Rattle.answer_judge_facts.specs.Times.{are_unlike, proof_times}
 use Rattle.answer_judge_facts.specs.Verified.{verified_facts}
 use Rattle.answer_judge_facts.specs.declared.verdict.Refusal.{Refusal}
@@ -25,7 +21,7 @@ use Rattle.answer_judge_facts.proofs.JudgeAsked.{agreed, agreed_by}
 use Rattle.answer_judge.proofs.JudgeAsks.{answer_pass, keys_pass}
 use Rattle.answer_judge.proofs.JudgeHashes.{counts_as, facts_hashed, none_hashed}
 use Rattle.answer_judge.proofs.JudgeTotals.{key_tries_as, keys_alone, keys_and_answer}
-use Rattle.answer_judge.proofs.JudgeWhole.{beyond, chained_as, decided_as, unrefused, untrusted, usable_as}
+use Rattle.answer_judge.proofs.JudgeWhole.{BothRead, beyond, both_read, chained_as, decided_as, untrusted, usable_as}
 use Rattle.answer_judge.proofs.judging.judge_messages.Goals as goal
 
 pub read_proof-requires-clause-room : goal.read_proof-requires-clause-room
@@ -39,23 +35,22 @@ read_proof-requires-clause-room g c = omega (
 )
 
 -- what is said where the keys aren't signed: their signatures alone were tried, and no name was hashed
-module _ (a : Answers) (h : Handing) (keys answer : Message) (rs : List Spelled) (ks : List Dnskey) (count hashes : ℕ) (none : message_refusal pointer_limit h ≡ None) (d : message pointer_limit h.dnskey_bytes ≡ Ok keys) (z : message pointer_limit h.answer_bytes ≡ Ok answer)
-    (e : rs ≡ keys.records) (f : ks ≡ keys_in h.dnskey_bytes h.apex rs) (zero : hashes ≡ 0) where
+module _ (a : Answers) (h : Handing) (keys answer : Message) (rs : List Spelled) (ks : List Dnskey) (count hashes : ℕ) (both : BothRead h keys answer rs ks) (zero : hashes ≡ 0) where
   unsigned_says : (r : Refusal) → FindsUnsigned a pointer_limit h rs ks count r → SaysBeyond a pointer_limit h (Refuses r) count hashes
   unsigned_says r found = ⊎_elim
       (λ m. let lost = ap Refuses m in (inl lost, inl lost, inl lost))
       (λ u.
-      let chain : false ≡ is_chained a pointer_limit h keys = sym u.1 ∙ chained_as a h keys rs ks e f in (
-        subst (λ x. AnswersAs (Refuses x) (judged_beyond a pointer_limit h)) (sym u.0) (untrusted a h keys answer (beyond a pointer_limit h keys answer d z none) chain),
-        inr (keys_alone a h keys answer count none d z chain (u.2 ∙ key_tries_as a h keys rs ks e f)),
-        inr (zero ∙ sym (none_hashed a h keys answer none d z chain)),
+      let chain : false ≡ is_chained a pointer_limit h keys = sym u.1 ∙ chained_as a h keys rs ks both.records_are both.keys_are in (
+        subst (λ x. AnswersAs (Refuses x) (judged_beyond a pointer_limit h)) (sym u.0) (untrusted a h keys answer (beyond a pointer_limit h keys answer both.dnskey both.zone both.none) chain),
+        inr (keys_alone a h keys answer count both.none both.dnskey both.zone chain (u.2 ∙ key_tries_as a h keys rs ks both.records_are both.keys_are)),
+        inr (zero ∙ sym (none_hashed a h keys answer both.none both.dnskey both.zone chain)),
       ))
       found
 
   unsigned_refuses : (r : Refusal) → FindsUnsigned a pointer_limit h rs ks count r → RefusesFirst r (message_refusal pointer_limit h)
   unsigned_refuses r found = ⊎_elim
-      (λ m. subst (λ x. RefusesFirst x (message_refusal pointer_limit h)) (sym m) (subst IsRead (sym none) tt))
-      (λ u. subst (λ x. RefusesFirst x (message_refusal pointer_limit h)) (sym u.0) none)
+      (λ m. subst (λ x. RefusesFirst x (message_refusal pointer_limit h)) (sym m) (subst IsRead (sym both.none) tt))
+      (λ u. subst (λ x. RefusesFirst x (message_refusal pointer_limit h)) (sym u.0) both.none)
       found
 
 pub returns-in_err-usable-clause-says : goal.returns-in_err-usable-clause-says
@@ -65,17 +60,16 @@ returns-in_err-usable-clause-says g c = λ test fits.
     let reads = c.in_ok-messages.ensures in
     let keys = c.in_ok-messages.messages.keys in
     let answer = c.in_ok-messages.messages.answer in
-    let rs = map spelled c.in_ok-messages.messages.key_records.items in
-    let ks : c.in_ok-keys.keys.items ≡ keys_in h.dnskey_bytes h.apex rs = c.in_ok-keys.ensures.keys ∙ ap (λ vs. keys_in h.dnskey_bytes h.apex (map spelled vs)) c.deref.ensures.value in
-    let tags : has_equal_tags (keys_in h.dnskey_bytes h.apex keys.records) ≡ false = ap has_equal_tags (sym (ks ∙ ap (keys_in h.dnskey_bytes h.apex) reads.key_records)) ∙ c.in_ok-keys.ensures.unlike in
-    let none : message_refusal pointer_limit h ≡ None = unrefused pointer_limit h keys answer reads.keys reads.answer reads.asks_keys reads.asks_answer tags in
-    let e = ap (map spelled) c.deref-2.ensures.value ∙ reads.key_records in
-    let f : c.in_ok-keys.keys.items ≡ keys_in h.dnskey_bytes h.apex (map spelled c.deref-2.result.now) = ks ∙ ap (λ vs. keys_in h.dnskey_bytes h.apex (map spelled vs)) (sym c.deref-2.ensures.value) in
+    let rs = map spelled c.deref-2.result.now in
+    let ks = c.in_ok-keys.keys.items in
+    let whole = ap (map spelled) c.deref-2.ensures.value ∙ reads.key_records in
+    let are = c.in_ok-keys.ensures.keys ∙ ap (λ vs. keys_in h.dnskey_bytes h.apex (map spelled vs)) (c.deref.ensures.value ∙ sym c.deref-2.ensures.value) in
+    let both : BothRead h keys answer rs ks = both_read h keys answer rs ks reads.keys reads.answer reads.asks_keys reads.asks_answer whole are c.in_ok-keys.ensures.unlike in
     let count = c.signed_keys.new.verifier.count in
     let from = err_from_is_err_and c.from_residual-in_err-usable.result c.from_residual-in_err-usable.ensures.1 in
-    let found = subst (FindsUnsigned a pointer_limit h (map spelled c.deref-2.result.now) c.in_ok-keys.keys.items count) (sym from.2) (c.in_err-usable.ensures.unsigned test fits) in
+    let found = subst (FindsUnsigned a pointer_limit h rs ks count) (sym from.2) (c.in_err-usable.ensures.unsigned test fits) in
     subst (λ r. SaysBeyond a pointer_limit h (said r) count c.args.hashes.now) (sym from.1)
-    (unsigned_says a h keys answer (map spelled c.deref-2.result.now) c.in_ok-keys.keys.items count c.args.hashes.now none reads.keys reads.answer e f c.requires.none_hashed from.0 found)
+    (unsigned_says a h keys answer rs ks count c.args.hashes.now both c.requires.none_hashed from.0 found)
 
 pub returns-in_err-usable-clause-refusal : goal.returns-in_err-usable-clause-refusal
 returns-in_err-usable-clause-refusal g c =
@@ -85,17 +79,16 @@ returns-in_err-usable-clause-refusal g c =
     let reads = c.in_ok-messages.ensures in
     let keys = c.in_ok-messages.messages.keys in
     let answer = c.in_ok-messages.messages.answer in
-    let rs = map spelled c.in_ok-messages.messages.key_records.items in
-    let ks : c.in_ok-keys.keys.items ≡ keys_in h.dnskey_bytes h.apex rs = c.in_ok-keys.ensures.keys ∙ ap (λ vs. keys_in h.dnskey_bytes h.apex (map spelled vs)) c.deref.ensures.value in
-    let tags : has_equal_tags (keys_in h.dnskey_bytes h.apex keys.records) ≡ false = ap has_equal_tags (sym (ks ∙ ap (keys_in h.dnskey_bytes h.apex) reads.key_records)) ∙ c.in_ok-keys.ensures.unlike in
-    let none : message_refusal pointer_limit h ≡ None = unrefused pointer_limit h keys answer reads.keys reads.answer reads.asks_keys reads.asks_answer tags in
-    let e = ap (map spelled) c.deref-2.ensures.value ∙ reads.key_records in
-    let f : c.in_ok-keys.keys.items ≡ keys_in h.dnskey_bytes h.apex (map spelled c.deref-2.result.now) = ks ∙ ap (λ vs. keys_in h.dnskey_bytes h.apex (map spelled vs)) (sym c.deref-2.ensures.value) in
+    let rs = map spelled c.deref-2.result.now in
+    let ks = c.in_ok-keys.keys.items in
+    let whole = ap (map spelled) c.deref-2.ensures.value ∙ reads.key_records in
+    let are = c.in_ok-keys.ensures.keys ∙ ap (λ vs. keys_in h.dnskey_bytes h.apex (map spelled vs)) (c.deref.ensures.value ∙ sym c.deref-2.ensures.value) in
+    let both : BothRead h keys answer rs ks = both_read h keys answer rs ks reads.keys reads.answer reads.asks_keys reads.asks_answer whole are c.in_ok-keys.ensures.unlike in
     let count = c.signed_keys.new.verifier.count in
     let from = err_from_is_err_and c.from_residual-in_err-usable.result c.from_residual-in_err-usable.ensures.1 in
-    let found = subst (FindsUnsigned a pointer_limit h (map spelled c.deref-2.result.now) c.in_ok-keys.keys.items count) (sym from.2) (c.in_err-usable.ensures.unsigned own.verifies (inl refl)) in
+    let found = subst (FindsUnsigned a pointer_limit h rs ks count) (sym from.2) (c.in_err-usable.ensures.unsigned own.verifies (inl refl)) in
     subst (λ r. IfErr r (λ e. RefusesFirst e (message_refusal pointer_limit h))) (sym from.1)
-    (unsigned_refuses a h keys answer (map spelled c.deref-2.result.now) c.in_ok-keys.keys.items count c.args.hashes.now none reads.keys reads.answer e f c.requires.none_hashed from.0 found)
+    (unsigned_refuses a h keys answer rs ks count c.args.hashes.now both c.requires.none_hashed from.0 found)
 
 -- they are: what verifies of the answer decides
 pub returns-clause-says : goal.returns-clause-says
@@ -106,32 +99,34 @@ returns-clause-says g c = λ test fits.
     let reads = c.in_ok-messages.ensures in
     let keys = c.in_ok-messages.messages.keys in
     let answer = c.in_ok-messages.messages.answer in
-    let rs = map spelled c.in_ok-messages.messages.key_records.items in
-    let answer_rs = map spelled c.in_ok-messages.messages.answer_records.items in
-    let ks : c.in_ok-keys.keys.items ≡ keys_in h.dnskey_bytes h.apex rs = c.in_ok-keys.ensures.keys ∙ ap (λ vs. keys_in h.dnskey_bytes h.apex (map spelled vs)) c.deref.ensures.value in
-    let tags : has_equal_tags (keys_in h.dnskey_bytes h.apex keys.records) ≡ false = ap has_equal_tags (sym (ks ∙ ap (keys_in h.dnskey_bytes h.apex) reads.key_records)) ∙ c.in_ok-keys.ensures.unlike in
-    let none : message_refusal pointer_limit h ≡ None = unrefused pointer_limit h keys answer reads.keys reads.answer reads.asks_keys reads.asks_answer tags in
+    let rs = map spelled c.deref-2.result.now in
+    let ks = c.in_ok-keys.keys.items in
+    let whole = ap (map spelled) c.deref-2.ensures.value ∙ reads.key_records in
+    let are = c.in_ok-keys.ensures.keys ∙ ap (λ vs. keys_in h.dnskey_bytes h.apex (map spelled vs)) (c.deref.ensures.value ∙ sym c.deref-2.ensures.value) in
+    let both : BothRead h keys answer rs ks = both_read h keys answer rs ks reads.keys reads.answer reads.asks_keys reads.asks_answer whole are c.in_ok-keys.ensures.unlike in
     let at_proof = agreed own.verifies test _ _ (c.judge_proof.ensures.none.0 test) fits in
     let at_keys = agreed own.verifies test _ _ (c.in_ok-proof.ensures.agrees test) at_proof in
-    let e = ap (map spelled) c.deref-2.ensures.value ∙ reads.key_records in
-    let f : c.in_ok-keys.keys.items ≡ keys_in h.dnskey_bytes h.apex (map spelled c.deref-2.result.now) = ks ∙ ap (λ vs. keys_in h.dnskey_bytes h.apex (map spelled vs)) (sym c.deref-2.ensures.value) in
     let found = c.in_ok-usable.ensures.signed test at_keys in
-    let chain = sym found.0 ∙ chained_as a h keys (map spelled c.deref-2.result.now) c.in_ok-keys.keys.items e f in
-    let first = found.1 ∙ key_tries_as a h keys (map spelled c.deref-2.result.now) c.in_ok-keys.keys.items e f in
-    let usable = usable_as h keys rs c.in_ok-keys.keys.items c.in_ok-usable.usable.items reads.key_records ks c.in_ok-usable.ensures.usable in
+    let chain = sym found.0 ∙ chained_as a h keys rs ks both.records_are both.keys_are in
+    let first = found.1 ∙ key_tries_as a h keys rs ks both.records_are both.keys_are in
+    let held = c.deref-4.result.now in
+    let usable = c.deref-4.ensures.value ∙ usable_as h keys rs ks c.in_ok-usable.usable.items both.records_are both.keys_are c.in_ok-usable.ensures.usable in
+    let read_rs = map spelled c.deref-3.result.now in
+    let all_read = ap (map spelled) c.deref-3.ensures.value ∙ reads.answer_records in
     let later_own = c.in_ok-usable.ensures.same in
     let later = ap (λ x. with_test x test) later_own in
     let second = agreed_by own _ test _ later_own at_proof in
     let facts = c.in_ok-proof.proof.facts in
     let of_moments = c.in_ok-proof.proof.is_of_moments in
-    let read = c.in_ok-proof.ensures.facts test second ∙ (λ i. verified_facts (trusting (later i) h (c.deref-4.ensures.value i)) pointer_limit h.answer_bytes (map spelled (c.deref-3.ensures.value i)) h.asked.name h.asked.rtype) in
-    let timed = c.in_ok-proof.ensures.moments test second ∙ (λ i. are_unlike (proof_times (trusting (later i) h (c.deref-4.ensures.value i)) pointer_limit h.answer_bytes (map spelled (c.deref-3.ensures.value i)) h.asked.name h.asked.rtype)) in
-    let more = c.in_ok-proof.ensures.tried test second ∙ (λ i. c.signed_keys.new.verifier.count + tries (trusting (later i) h (c.deref-4.ensures.value i)) pointer_limit h.answer_bytes (answer_sought pointer_limit h.answer_bytes h.apex (map spelled (c.deref-3.ensures.value i)) h.asked.name h.asked.rtype) [] (map spelled (c.deref-3.ensures.value i))) in
-    let all = decided_as a h keys answer c.in_ok-usable.usable.items answer_rs facts of_moments (beyond a pointer_limit h keys answer reads.keys reads.answer none) chain usable reads.answer_records read timed in
-    let due = facts_hashed a h keys answer c.in_ok-usable.usable.items answer_rs facts of_moments none reads.keys reads.answer chain usable reads.answer_records read timed in
+    let read = c.in_ok-proof.ensures.facts test second ∙ ap (λ x. verified_facts (trusting x h held) pointer_limit h.answer_bytes read_rs h.asked.name h.asked.rtype) later in
+    let timed = c.in_ok-proof.ensures.moments test second ∙ ap (λ x. are_unlike (proof_times (trusting x h held) pointer_limit h.answer_bytes read_rs h.asked.name h.asked.rtype)) later in
+    let sought = answer_sought pointer_limit h.answer_bytes h.apex read_rs h.asked.name h.asked.rtype in
+    let more = c.in_ok-proof.ensures.tried test second ∙ ap (λ x. c.signed_keys.new.verifier.count + tries (trusting x h held) pointer_limit h.answer_bytes sought [] read_rs) later in
+    let all = decided_as a h keys answer held read_rs facts of_moments (beyond a pointer_limit h keys answer both.dnskey both.zone both.none) chain usable all_read read timed in
+    let due = facts_hashed a h keys answer held read_rs facts of_moments both.none both.dnskey both.zone chain usable all_read read timed in
     let last = c.in_ok-proof.ensures.same ∙ later_own in (
       subst (AnswersAs (said c.judge_proof.result)) (ap (λ v. judged_proof v h facts of_moments) last ∙ all) c.judge_proof.ensures.exact,
-      inr (keys_and_answer a h keys answer c.in_ok-usable.usable.items answer_rs c.signed_keys.new.verifier.count c.read_proof.new.verifier.count none reads.keys reads.answer chain first usable reads.answer_records more),
+      inr (keys_and_answer a h keys answer held read_rs c.signed_keys.new.verifier.count c.read_proof.new.verifier.count both.none both.dnskey both.zone chain first usable all_read more),
       counts_as (said c.judge_proof.result) c.judge_proof.new.hashes (hashes_of_proof (g.C.Checks.answers c.read_proof.new.verifier.checks.now) h facts of_moments) (hashes_beyond a pointer_limit h)
           (ap (λ v. hashes_of_proof v h facts of_moments) last ∙ due) c.judge_proof.ensures.hash_counts,
     )
@@ -143,10 +138,14 @@ returns-in_err-usable-clause-asked g c = λ test implies before.
     let own = g.C.Checks.answers c.args.verifier.now.checks.now in
     let h : Handing = c.args.case.now in
     let reads = c.in_ok-messages.ensures in
-    let rs = map spelled c.in_ok-messages.messages.key_records.items in
-    let ks : c.in_ok-keys.keys.items ≡ keys_in h.dnskey_bytes h.apex rs = c.in_ok-keys.ensures.keys ∙ ap (λ vs. keys_in h.dnskey_bytes h.apex (map spelled vs)) c.deref.ensures.value in
-    let passes = keys_pass own h c.in_ok-messages.messages.keys c.in_ok-messages.messages.answer reads.keys reads.answer test rs c.in_ok-keys.keys.items (filter (is_trusted own h.apex h.ds) c.in_ok-keys.keys.items) implies reads.key_records ks refl in
-    c.signed_keys.ensures.asked test (subst (λ vs. PassesSought test (filter (is_trusted own h.apex h.ds) c.in_ok-keys.keys.items) h.dnskey_bytes (keys_sought h.apex c.in_ok-keys.keys.items) (map spelled vs)) (sym c.deref-2.ensures.value) passes) before
+    let keys = c.in_ok-messages.messages.keys in
+    let answer = c.in_ok-messages.messages.answer in
+    let rs = map spelled c.deref-2.result.now in
+    let ks = c.in_ok-keys.keys.items in
+    let whole = ap (map spelled) c.deref-2.ensures.value ∙ reads.key_records in
+    let are = c.in_ok-keys.ensures.keys ∙ ap (λ vs. keys_in h.dnskey_bytes h.apex (map spelled vs)) (c.deref.ensures.value ∙ sym c.deref-2.ensures.value) in
+    let both : BothRead h keys answer rs ks = both_read h keys answer rs ks reads.keys reads.answer reads.asks_keys reads.asks_answer whole are c.in_ok-keys.ensures.unlike in
+    c.signed_keys.ensures.asked test (keys_pass own h keys answer both.dnskey both.zone test rs ks (filter (is_trusted own h.apex h.ds) ks) implies both.records_are both.keys_are refl) before
 
 pub returns-in_err-proof-clause-asked : goal.returns-in_err-proof-clause-asked
 returns-in_err-proof-clause-asked g c = λ test implies before.
@@ -155,15 +154,15 @@ returns-in_err-proof-clause-asked g c = λ test implies before.
     let reads = c.in_ok-messages.ensures in
     let keys = c.in_ok-messages.messages.keys in
     let answer = c.in_ok-messages.messages.answer in
-    let rs = map spelled c.in_ok-messages.messages.key_records.items in
-    let answer_rs = map spelled c.in_ok-messages.messages.answer_records.items in
-    let ks : c.in_ok-keys.keys.items ≡ keys_in h.dnskey_bytes h.apex rs = c.in_ok-keys.ensures.keys ∙ ap (λ vs. keys_in h.dnskey_bytes h.apex (map spelled vs)) c.deref.ensures.value in
-    let passes = keys_pass own h keys answer reads.keys reads.answer test rs c.in_ok-keys.keys.items (filter (is_trusted own h.apex h.ds) c.in_ok-keys.keys.items) implies reads.key_records ks refl in
-    let first = c.signed_keys.ensures.asked test (subst (λ vs. PassesSought test (filter (is_trusted own h.apex h.ds) c.in_ok-keys.keys.items) h.dnskey_bytes (keys_sought h.apex c.in_ok-keys.keys.items) (map spelled vs)) (sym c.deref-2.ensures.value) passes) before in
-    let usable = usable_as h keys rs c.in_ok-keys.keys.items c.in_ok-usable.usable.items reads.key_records ks c.in_ok-usable.ensures.usable in
-    let standing = answer_pass own h keys answer reads.keys reads.answer test answer_rs c.in_ok-usable.usable.items implies reads.answer_records usable in
-    let sought : List ViewRecord → Sought = λ vs. answer_sought pointer_limit h.answer_bytes h.apex (map spelled vs) h.asked.name h.asked.rtype in
-    c.read_proof.ensures.asked test (transport (λ i. PassesSought test (sym c.deref-4.ensures.value i) h.answer_bytes (sought (sym c.deref-3.ensures.value i)) (map spelled (sym c.deref-3.ensures.value i))) standing) first
+    let rs = map spelled c.deref-2.result.now in
+    let ks = c.in_ok-keys.keys.items in
+    let whole = ap (map spelled) c.deref-2.ensures.value ∙ reads.key_records in
+    let are = c.in_ok-keys.ensures.keys ∙ ap (λ vs. keys_in h.dnskey_bytes h.apex (map spelled vs)) (c.deref.ensures.value ∙ sym c.deref-2.ensures.value) in
+    let both : BothRead h keys answer rs ks = both_read h keys answer rs ks reads.keys reads.answer reads.asks_keys reads.asks_answer whole are c.in_ok-keys.ensures.unlike in
+    let first = c.signed_keys.ensures.asked test (keys_pass own h keys answer both.dnskey both.zone test rs ks (filter (is_trusted own h.apex h.ds) ks) implies both.records_are both.keys_are refl) before in
+    let usable = c.deref-4.ensures.value ∙ usable_as h keys rs ks c.in_ok-usable.usable.items both.records_are both.keys_are c.in_ok-usable.ensures.usable in
+    let all_read = ap (map spelled) c.deref-3.ensures.value ∙ reads.answer_records in
+    c.read_proof.ensures.asked test (answer_pass own h keys answer both.dnskey both.zone test (map spelled c.deref-3.result.now) c.deref-4.result.now implies all_read usable) first
 
 pub returns-clause-asked : goal.returns-clause-asked
 returns-clause-asked g c = λ test implies before.
@@ -172,12 +171,12 @@ returns-clause-asked g c = λ test implies before.
     let reads = c.in_ok-messages.ensures in
     let keys = c.in_ok-messages.messages.keys in
     let answer = c.in_ok-messages.messages.answer in
-    let rs = map spelled c.in_ok-messages.messages.key_records.items in
-    let answer_rs = map spelled c.in_ok-messages.messages.answer_records.items in
-    let ks : c.in_ok-keys.keys.items ≡ keys_in h.dnskey_bytes h.apex rs = c.in_ok-keys.ensures.keys ∙ ap (λ vs. keys_in h.dnskey_bytes h.apex (map spelled vs)) c.deref.ensures.value in
-    let passes = keys_pass own h keys answer reads.keys reads.answer test rs c.in_ok-keys.keys.items (filter (is_trusted own h.apex h.ds) c.in_ok-keys.keys.items) implies reads.key_records ks refl in
-    let first = c.signed_keys.ensures.asked test (subst (λ vs. PassesSought test (filter (is_trusted own h.apex h.ds) c.in_ok-keys.keys.items) h.dnskey_bytes (keys_sought h.apex c.in_ok-keys.keys.items) (map spelled vs)) (sym c.deref-2.ensures.value) passes) before in
-    let usable = usable_as h keys rs c.in_ok-keys.keys.items c.in_ok-usable.usable.items reads.key_records ks c.in_ok-usable.ensures.usable in
-    let standing = answer_pass own h keys answer reads.keys reads.answer test answer_rs c.in_ok-usable.usable.items implies reads.answer_records usable in
-    let sought : List ViewRecord → Sought = λ vs. answer_sought pointer_limit h.answer_bytes h.apex (map spelled vs) h.asked.name h.asked.rtype in
-    c.judge_proof.ensures.none.1 test (c.read_proof.ensures.asked test (transport (λ i. PassesSought test (sym c.deref-4.ensures.value i) h.answer_bytes (sought (sym c.deref-3.ensures.value i)) (map spelled (sym c.deref-3.ensures.value i))) standing) first)
+    let rs = map spelled c.deref-2.result.now in
+    let ks = c.in_ok-keys.keys.items in
+    let whole = ap (map spelled) c.deref-2.ensures.value ∙ reads.key_records in
+    let are = c.in_ok-keys.ensures.keys ∙ ap (λ vs. keys_in h.dnskey_bytes h.apex (map spelled vs)) (c.deref.ensures.value ∙ sym c.deref-2.ensures.value) in
+    let both : BothRead h keys answer rs ks = both_read h keys answer rs ks reads.keys reads.answer reads.asks_keys reads.asks_answer whole are c.in_ok-keys.ensures.unlike in
+    let first = c.signed_keys.ensures.asked test (keys_pass own h keys answer both.dnskey both.zone test rs ks (filter (is_trusted own h.apex h.ds) ks) implies both.records_are both.keys_are refl) before in
+    let usable = c.deref-4.ensures.value ∙ usable_as h keys rs ks c.in_ok-usable.usable.items both.records_are both.keys_are c.in_ok-usable.ensures.usable in
+    let all_read = ap (map spelled) c.deref-3.ensures.value ∙ reads.answer_records in
+    c.judge_proof.ensures.none.1 test (c.read_proof.ensures.asked test (answer_pass own h keys answer both.dnskey both.zone test (map spelled c.deref-3.result.now) c.deref-4.result.now implies all_read usable) first)

@@ -1,18 +1,19 @@
 use mathlib.Core.Path.{transport}
-use Rattle.std.proofs.Common.{◌≡◌, ◌+◌, [], map, filter, true, false, refl, inr, sym, ap, subst, ◌∙◌, arith}
-use Rattle.definitions.specs.Dnskey.{dnskey_data}
+use Rattle.std.proofs.Common.{◌≡◌, ℕ, Bool, List, ◌+◌, [], map, filter, true, false, refl, inr, sym, ap, subst, ◌∙◌, arith}
+use Rattle.definitions.specs.Dnskey.{Dnskey, dnskey_data}
 use Rattle.definitions.specs.Limits.{pointer_limit}
 use Rattle.definitions.specs.Zone.{sorted_data}
+use Rattle.messages.specs.Message.{Spelled}
 use Rattle.messages.specs.Record.{spelled}
-use Rattle.answer_scheme.specs.Answers.{with_test}
-use Rattle.answer_judge.specs.Stages.{are_signed}
+use Rattle.answer_scheme.specs.Answers.{Answers, SignatureTest, with_test}
+use Rattle.answer_judge.specs.Stages.{are_signed, tries_of_keys, trusting_named}
 use Rattle.answer_judge_facts.specs.Asked.{PassesSought}
 use Rattle.answer_judge_facts.specs.Counted.{tries}
 use Rattle.answer_judge_facts.specs.Facts.{is_trusted}
 use Rattle.answer_judge_facts.specs.Judging.{Handing}
 use Rattle.answer_judge_facts.specs.KeyOrder.{Ranks}
 use Rattle.answer_judge_facts.specs.Sought.{keys_sought}
-use Rattle.answer_judge_facts.specs.Verified.{is_verified}
+use Rattle.answer_judge_facts.specs.Verified.{Trusting, is_verified}
 use Rattle.answer_judge_facts.proofs.JudgeAsked.{agreed_by}
 use Rattle.answer_judge.proofs.judging.trusting.signed_keys.Goals as goal
 
@@ -21,46 +22,48 @@ are_verified-requires-clause-index g c =
     subst (λ ks. Ranks ks c.deref-4.result.now) (sym c.deref-3.ensures.value)
     (subst (λ vs. Ranks c.in_ok-trusted.trusted.items vs) (sym c.deref-4.ensures.value) (subst (λ ks. Ranks ks c.in_ok-by_tag.by_tag.items) c.deref-2.ensures.value c.in_ok-by_tag.ensures))
 
--- what was found out of the keys
+-- what was found out of the keys, said of what is handed in
+module _ (own : Answers) (test : SignatureTest) (h now : Handing) (is : now ≡ h) (rs : List Spelled) (ks held trusted : List Dnskey) (named : trusted ≡ filter (is_trusted own h.apex h.ds) ks) (items : held ≡ ks) (checks : Answers) (same : checks ≡ own) (moment : ℕ) (at : moment ≡ h.now) where
+  abbrev w : Trusting
+  w = record { answers = with_test checks test; apex = now.apex; keys = trusted; now = moment }
+
+  w_is : w ≡ trusting_named (with_test own test) h ks
+  w_is = λ i. record { answers = with_test (same i) test; apex = (is i).apex; keys = named i; now = at i }
+
+  found_out : (b : Bool) (n count : ℕ) → n ≡ 0 → b ≡ is_verified w pointer_limit now.dnskey_bytes rs now.apex 48 (sorted_data (map dnskey_data held)) → count ≡ n + tries w pointer_limit now.dnskey_bytes (keys_sought now.apex held) [] rs
+      → (b ≡ are_signed (with_test own test) pointer_limit h rs ks) × (count ≡ tries_of_keys (with_test own test) pointer_limit h rs ks)
+  found_out b n count zero signed tried =
+      let due : tries w pointer_limit now.dnskey_bytes (keys_sought now.apex held) [] rs ≡ tries_of_keys (with_test own test) pointer_limit h rs ks =
+      (λ i. tries (w_is i) pointer_limit (is i).dnskey_bytes (keys_sought (is i).apex (items i)) [] rs) in (
+        signed ∙ (λ i. is_verified (w_is i) pointer_limit (is i).dnskey_bytes rs (is i).apex 48 (sorted_data (map dnskey_data (items i)))),
+        omega (arith, tried, zero, due),
+      )
+
 pub returns-clause-signed : goal.returns-clause-signed
 returns-clause-signed g c = λ test fits.
     let own = g.C.Checks.answers c.args.verifier.now.checks.now in
-    let a = with_test own test in
-    let h : Handing = c.args.case.now in
     let is = c.case.view_is in
     let moment = c.timestamp.ensures ∙ ap (λ (h : Handing). h.now) is in
-    let rs = map spelled c.args.records.now in
-    let ks = c.args.keys.items in
     let rest = c.in_ok-trusted.ensures.rest in
-    let same_own = ap (λ v. g.C.Checks.answers v.checks.now) rest in
-    let same = ap (λ x. with_test x test) same_own in
+    let same = ap (λ v. g.C.Checks.answers v.checks.now) rest in
     let named = c.deref-3.ensures.value ∙ c.in_ok-trusted.ensures.trusted ∙ (λ i. filter (is_trusted own (is i).apex (is i).ds) (c.deref.ensures.value i)) in
-    let first = agreed_by own _ test _ same_own fits in
-    let signed : c.in_ok-are_verified.field-0 ≡ are_signed a pointer_limit h rs ks =
-    c.in_ok-are_verified.ensures.exact test first ∙ (λ i. is_verified (record { answers = same i; apex = (is i).apex; keys = named i; now = moment i }) pointer_limit (is i).dnskey_bytes rs (is i).apex 48 (sorted_data (map dnskey_data (c.deref-5.ensures.value i)))) in
+    let first = agreed_by own _ test _ same fits in
     let none_yet = ap (λ v. v.count) rest ∙ c.requires.none_yet in
-    let tried = c.in_ok-are_verified.ensures.tried test first ∙ (λ i. none_yet i + tries (record { answers = same i; apex = (is i).apex; keys = named i; now = moment i }) pointer_limit (is i).dnskey_bytes (keys_sought (is i).apex (c.deref-5.ensures.value i)) [] rs) in
-    (sym signed ∙ c.if-not-branch.false, omega (arith, tried))
+    let found = found_out own test c.args.case.now _ is (map spelled c.args.records.now) c.args.keys.items c.deref-5.result.now c.deref-3.result.now named c.deref-5.ensures.value _ same _ moment _ _ _ none_yet (c.in_ok-are_verified.ensures.exact test first) (c.in_ok-are_verified.ensures.tried test first) in
+    (sym found.0 ∙ c.if-not-branch.false, found.1)
 
 pub returns-then-not-branch-clause-unsigned : goal.returns-then-not-branch-clause-unsigned
 returns-then-not-branch-clause-unsigned g c = λ test fits.
     let own = g.C.Checks.answers c.args.verifier.now.checks.now in
-    let a = with_test own test in
-    let h : Handing = c.args.case.now in
     let is = c.case.view_is in
     let moment = c.timestamp.ensures ∙ ap (λ (h : Handing). h.now) is in
-    let rs = map spelled c.args.records.now in
-    let ks = c.args.keys.items in
     let rest = c.in_ok-trusted.ensures.rest in
-    let same_own = ap (λ v. g.C.Checks.answers v.checks.now) rest in
-    let same = ap (λ x. with_test x test) same_own in
+    let same = ap (λ v. g.C.Checks.answers v.checks.now) rest in
     let named = c.deref-3.ensures.value ∙ c.in_ok-trusted.ensures.trusted ∙ (λ i. filter (is_trusted own (is i).apex (is i).ds) (c.deref.ensures.value i)) in
-    let first = agreed_by own _ test _ same_own fits in
-    let signed : c.in_ok-are_verified.field-0 ≡ are_signed a pointer_limit h rs ks =
-    c.in_ok-are_verified.ensures.exact test first ∙ (λ i. is_verified (record { answers = same i; apex = (is i).apex; keys = named i; now = moment i }) pointer_limit (is i).dnskey_bytes rs (is i).apex 48 (sorted_data (map dnskey_data (c.deref-5.ensures.value i)))) in
+    let first = agreed_by own _ test _ same fits in
     let none_yet = ap (λ v. v.count) rest ∙ c.requires.none_yet in
-    let tried = c.in_ok-are_verified.ensures.tried test first ∙ (λ i. none_yet i + tries (record { answers = same i; apex = (is i).apex; keys = named i; now = moment i }) pointer_limit (is i).dnskey_bytes (keys_sought (is i).apex (c.deref-5.ensures.value i)) [] rs) in
-    inr (refl, sym signed ∙ c.if-not-branch.true, omega (arith, tried))
+    let found = found_out own test c.args.case.now _ is (map spelled c.args.records.now) c.args.keys.items c.deref-5.result.now c.deref-3.result.now named c.deref-5.ensures.value _ same _ moment _ _ _ none_yet (c.in_ok-are_verified.ensures.exact test first) (c.in_ok-are_verified.ensures.tried test first) in
+    inr (refl, sym found.0 ∙ c.if-not-branch.true, found.1)
 
 -- ---- all that are verified are sought
 
