@@ -11,7 +11,7 @@ use Rattle.messages.specs.Message.{AreOctets, Spelled}
 use Rattle.messages.proofs.Lists.{all_at}
 use Rattle.answer_shared.specs.Made.{HandedOut, made}
 use Rattle.answer_shared.specs.Served.{Served}
-use Rattle.answer_judge_facts.specs.Judging.{keys_in}
+use Rattle.answer_judge_keys.specs.Judging.{keys_in}
 use Rattle.answer_judge_facts.specs.Verified.{datum_of, rrset_in}
 use Rattle.answer_judge.specs.ForgedAtAll.{AtAllIsEnough}
 use Rattle.answer_judge.specs.Honest.{WasSigned, covered_in, over_in, rrset_there}

@@ -25,7 +25,7 @@ use Rattle.answer_shared.specs.Told.{TellsGroups, fields_for}
 use Rattle.answer_shared.proofs.AllowedTypes.{unsigned_from}
 use Rattle.answer_shared.proofs.Servable.{asked_inside, servable}
 use Rattle.answer_shared.proofs.ZoneData.{label_count-low}
-use Rattle.answer_judge_facts.specs.Facts.{fits_key, may_expand}
+use Rattle.answer_judge_keys.specs.Trusted.{fits_key, may_expand}
 use Rattle.answer_judge.specs.Meeting.{holds}
 use Rattle.answer_shared.specs.FactsCase.{low_facts, low_link}
 use Rattle.answer_judge.specs.OwnFacts.{TellsZone, ToldFactsAreOwn}

@@ -9,19 +9,19 @@ use Rattle.definitions.specs.Zone.{Unsigned}
 use Rattle.definitions.specs.ZoneChain.{Mode}
 use Rattle.messages.specs.HandedRr.{HandedRr}
 use Rattle.answer_scheme.specs.Answers.{Answers}
-use Rattle.answer_judge_facts.specs.Facts.{is_usable}
+use Rattle.answer_judge_keys.specs.Trusted.{is_usable}
 use Rattle.answer_judge.specs.OwnFacts.{passes_for}
-use Rattle.answer_judge_facts.specs.declared.verdict.Refusal.{Refusal}
-use Rattle.answer_judge_facts.specs.declared.verdict.Refusal.TheVariants as r
+use Rattle.answer_judge_keys.specs.declared.verdict.Refusal.{Refusal}
+use Rattle.answer_judge_keys.specs.declared.verdict.Refusal.TheVariants as r
 use Rattle.messages.specs.declared.error.MessageError.{MessageError}
 use Rattle.answer_judge_facts.specs.Judged.{judged, judged_answer, judged_messages, keys_of}
-use Rattle.answer_judge_facts.specs.Judging.{Answer, Handing, Refuses, Says, first_refusal, message_refusal, same_question}
+use Rattle.answer_judge_keys.specs.Judging.{Answer, Handing, Refuses, Says, first_refusal, message_refusal, same_question}
 use Rattle.answer_shared.specs.EqualTags.{has_equal_tags}
 use Rattle.answer_judge.specs.Meeting.{HasDs, WasGiven}
 use Rattle.messages.specs.Message.{Asked, Message}
 use Rattle.answer_shared.specs.Served.{by_tag}
 use Rattle.answer_judge.proofs.GivenChained.{chained_given, keys_apart, keys_has}
-use Rattle.answer_judge_facts.proofs.GivenKeys.{by_tag-has, find_kept}
+use Rattle.answer_judge_keys.proofs.GivenKeys.{by_tag-has, find_kept}
 use Rattle.answer_judge.proofs.GivenLists.{has_contained}
 use Rattle.messages.proofs.Lists.{Has, all_at}
 use Rattle.messages.proofs.ZoneNames.{labels_eq-same}

@@ -24,7 +24,7 @@ use Rattle.answer_shared.proofs.ZoneNaming.{chain_named, lower_name, next_name, 
 use Rattle.answer_hash_owners.specs.HashOwner.{hash_spelled}
 use Rattle.answer_judge.proofs.GivenGroups.{SaysHashLink, said_of}
 use Rattle.answer_judge.proofs.GivenHashes.{owner_spells}
-use Rattle.answer_judge_facts.proofs.GivenSorted.{has_in}
+use Rattle.answer_judge_keys.proofs.GivenSorted.{has_in}
 use Rattle.answer_judge.proofs.HonestFacts.{IsHashRecord, IsNextRecord}
 use Rattle.answer_judge.proofs.HonestMade.{owner_whole}
 use Rattle.answer_judge.proofs.HonestReads.{ReadsNext, link_read}

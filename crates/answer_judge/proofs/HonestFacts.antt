@@ -25,15 +25,15 @@ use Rattle.answer_shared.specs.Accepting.{sorted_records, zone_with}
 use Rattle.answer_shared.specs.Made.{Content, HandedOut, OfKeys, OfZone, WasHandedOut, groups_of}
 use Rattle.answer_shared.specs.Served.{Group, Served, chain_names, chain_record, served_of}
 use Rattle.answer_scheme.specs.Answers.{Answers}
-use Rattle.answer_judge_facts.specs.Facts.{labels_fit, may_expand}
+use Rattle.answer_judge_keys.specs.Trusted.{labels_fit, may_expand}
 use Rattle.answer_judge.specs.Honest.{IsHonest, IsOfZone, IsSignedOf, SignedOf, WasSigned, rrset_there}
 use Rattle.answer_judge_facts.specs.Judged.{trusting}
-use Rattle.answer_judge_facts.specs.Judging.{Handing}
+use Rattle.answer_judge_keys.specs.Judging.{Handing}
 use Rattle.answer_judge_facts.specs.Sought.{answer_sought}
 use Rattle.answer_judge_facts.specs.Times.{proof_times, times_of}
 use Rattle.answer_judge_facts.specs.Verified.{Trusting, datum_of, hash_link_at, hash_link_with, is_hash_alone, is_hash_link, is_link, is_verified, link_at, link_of, rrset_in, verified_by, verified_rrset}
 use Rattle.answer_judge.proofs.GivenNext.{canonical_nsec, canonical_nsec3}
-use Rattle.answer_judge_facts.proofs.GivenSorted.{data_has}
+use Rattle.answer_judge_keys.proofs.GivenSorted.{data_has}
 use Rattle.answer_judge_facts.proofs.JudgeCase.{signed_owner-owner}
 use Rattle.answer_judge_facts.proofs.JudgeTimes.{first_used}
 use Rattle.answer_judge_facts.proofs.KeptItems.{kept_has, mapped, only_item, when}

@@ -20,15 +20,15 @@ use Rattle.answer_shared.specs.Chainable.{HasChain}
 use Rattle.answer_shared.specs.Hashing.{Hasher, hash_in}
 use Rattle.answer_shared.specs.Made.{HandedOut}
 use Rattle.answer_shared.proofs.Servable.{asked_inside, servable}
-use Rattle.answer_judge_facts.specs.Facts.{is_usable}
+use Rattle.answer_judge_keys.specs.Trusted.{is_usable}
 use Rattle.answer_judge.specs.Honest.{AnswersHonest, AreHonest, HonestOfOneZone, IsVersion, OneAtATime, SaysAtMost, SaysOneOf, Settled, verdict_of}
 use Rattle.answer_judge_facts.specs.Judged.{AnswersAs, judged, keys_of}
-use Rattle.answer_judge_facts.specs.Judging.{Answer, Handing, Refuses, Says}
-use Rattle.answer_judge_facts.specs.declared.verdict.Refusal.TheVariants as r
+use Rattle.answer_judge_keys.specs.Judging.{Answer, Handing, Refuses, Says}
+use Rattle.answer_judge_keys.specs.declared.verdict.Refusal.TheVariants as r
 use Rattle.answer_judge.proofs.GivenFacts.{FitsRecords, fitting, soa_has}
 use Rattle.answer_judge.proofs.GivenHashing.{hashes_agree}
 use Rattle.answer_judge.proofs.GivenLists.{contained_has, has_contained}
-use Rattle.answer_judge_facts.proofs.GivenSorted.{filter_from, sorted_from}
+use Rattle.answer_judge_keys.proofs.GivenSorted.{filter_from, sorted_from}
 use Rattle.answer_judge_facts.proofs.KeptItems.{has_map}
 use Rattle.answer_judge.proofs.HonestFacts.{IsKnown, IsLife}
 use Rattle.answer_judge.proofs.HonestKeys.{all_published, signed_in}

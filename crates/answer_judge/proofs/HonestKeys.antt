@@ -23,13 +23,13 @@ use Rattle.answer_shared.specs.Served.{Group, chain_record, served_of}
 use Rattle.answer_shared.specs.Served as served
 use Rattle.answer_shared.proofs.KeyData.{key_read_back}
 use Rattle.answer_scheme.specs.Answers.{Answers}
-use Rattle.answer_judge_facts.specs.Facts.{digests_to, is_trusted, is_usable, names_key}
+use Rattle.answer_judge_keys.specs.Trusted.{digests_to, is_trusted, is_usable, names_key}
 use Rattle.answer_judge.specs.Honest.{IsHonest, NoStranger, WasSigned}
 use Rattle.answer_judge_facts.specs.Judged.{is_chained, keys_of, trusting}
-use Rattle.answer_judge_facts.specs.Judging.{Handing, key_at, keys_in}
-use Rattle.answer_judge_facts.proofs.GivenKeys.{IsKeyData, data_of_key, key_data}
+use Rattle.answer_judge_keys.specs.Judging.{Handing, key_at, keys_in}
+use Rattle.answer_judge_keys.proofs.GivenKeys.{IsKeyData, data_of_key, key_data}
 use Rattle.answer_judge.proofs.GivenLists.{contained_has, has_contained}
-use Rattle.answer_judge_facts.proofs.GivenSorted.{data_has, sorted_from}
+use Rattle.answer_judge_keys.proofs.GivenSorted.{data_has, sorted_from}
 use Rattle.answer_judge.proofs.HonestFacts.{IsLife, WasMade, of_found, serve_by, zone_type}
 use Rattle.answer_judge_facts.proofs.KeptItems.{kept_from, passes_has}
 use Rattle.answer_judge.proofs.HonestMade.{Kind, KeyKind, ZoneKind, ChainKind}

@@ -31,7 +31,7 @@ use Rattle.answer_shared.proofs.ZoneCutNames.{cut_name}
 use Rattle.answer_shared.proofs.ZoneData.{label_count-low, low-owner_among}
 use Rattle.answer_shared.proofs.ZoneNaming.{chain_named, first_name, lower_name, owner_name}
 use Rattle.answer_judge.proofs.GivenFacts.{from_joined}
-use Rattle.answer_judge_facts.proofs.GivenSorted.{filter_from, in_has}
+use Rattle.answer_judge_keys.proofs.GivenSorted.{filter_from, in_has}
 use Rattle.answer_judge_facts.proofs.KeptItems.{has_from_map}
 use Rattle.answer_judge.proofs.OwnAnswer.{some_data}
 

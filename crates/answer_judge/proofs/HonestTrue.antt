@@ -12,7 +12,7 @@ use Rattle.messages.proofs.Lists.{Has}
 use Rattle.answer_shared.specs.Accepting.{zone_with}
 use Rattle.answer_scheme.specs.Answers.{Answers}
 use Rattle.answer_judge_facts.specs.Judged.{trusting}
-use Rattle.answer_judge_facts.specs.Judging.{Handing}
+use Rattle.answer_judge_keys.specs.Judging.{Handing}
 use Rattle.answer_judge_facts.specs.Verified.{hash_link_at, link_at, verified_facts}
 use Rattle.answer_judge.proofs.GivenFacts.{FitsRecords}
 use Rattle.answer_judge.proofs.GivenHashing.{AreHashedBy, SaysHashing}

@@ -18,14 +18,14 @@ use Rattle.messages.specs.Message.{AreOctets, Message, Spelled, data_of, message
 use Rattle.messages.proofs.Lists.{Has, all_at, all_more, found, some_is}
 use Rattle.messages.proofs.ZoneNames.{same_labels}
 use Rattle.answer_scheme.specs.Answers.{Answers}
-use Rattle.answer_judge_facts.specs.Facts.{fits_key, is_due, is_signature, labels_fit, signs}
+use Rattle.answer_judge_keys.specs.Trusted.{fits_key, is_due, is_signature, labels_fit, signs}
 use Rattle.answer_judge.specs.Honest.{IsHonest, covered_in, over_in, rrset_there}
 use Rattle.answer_judge_facts.specs.Judged.{trusting}
-use Rattle.answer_judge_facts.specs.Judging.{Handing, key_at, keys_in}
+use Rattle.answer_judge_keys.specs.Judging.{Handing, key_at, keys_in}
 use Rattle.answer_judge_facts.specs.Verified.{Trusting, is_verified, rrset_in, verified_by, verified_with, verifies_with}
 use Rattle.answer_judge.proofs.FirstSigns.{opened, read_of}
 use Rattle.answer_judge.proofs.GivenLists.{contained_has}
-use Rattle.answer_judge_facts.proofs.GivenSorted.{in_has}
+use Rattle.answer_judge_keys.proofs.GivenSorted.{in_has}
 use Rattle.answer_judge_facts.proofs.JudgeCase.{rrset_in-owner, same-owner, signed_octets-owner}
 use Rattle.answer_judge.proofs.HonestReads.{IsDatum, IsRead, ReadsFields, ReadsRecord, all_drop, fields_read, lowered_read, message_read, octets_16, octets_32, octets_join, wire_octets}
 

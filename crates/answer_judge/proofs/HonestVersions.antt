@@ -14,7 +14,7 @@ use Rattle.answer_shared.specs.Served.{served_of}
 use Rattle.answer_scheme.specs.Answers.{Answers}
 use Rattle.answer_judge.specs.Honest.{IsHonest, IsOfZone, WasSigned}
 use Rattle.answer_judge_facts.specs.Judged.{trusting}
-use Rattle.answer_judge_facts.specs.Judging.{Handing}
+use Rattle.answer_judge_keys.specs.Judging.{Handing}
 use Rattle.answer_judge_facts.specs.Sought.{answer_sought}
 use Rattle.answer_judge_facts.specs.Times.{Times, are_unlike, proof_times, times_at, times_of}
 use Rattle.answer_judge_facts.specs.Verified.{Trusting, rrset_in, verified_by}

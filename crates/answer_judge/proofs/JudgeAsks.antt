@@ -13,11 +13,11 @@ use Rattle.messages.specs.Message.{Message, Spelled, message}
 use Rattle.messages.proofs.Lists.{Has, any_from, some_is}
 use Rattle.answer_scheme.specs.Answers.{Answers, SignatureTest}
 use Rattle.answer_judge_facts.specs.Asked.{Implies, PassesSought, is_candidate, is_carried, stands_in, stands_in_messages}
-use Rattle.answer_judge_facts.specs.Facts.{fits_key, is_trusted, is_usable}
+use Rattle.answer_judge_keys.specs.Trusted.{fits_key, is_trusted, is_usable}
 use Rattle.answer_judge_facts.specs.Judged.{keys_of}
-use Rattle.answer_judge_facts.specs.Judging.{Handing, keys_in}
+use Rattle.answer_judge_keys.specs.Judging.{Handing, keys_in}
 use Rattle.answer_judge_facts.specs.Sought.{Sought, answer_sought, keys_sought}
-use Rattle.answer_judge_facts.proofs.KeyClashes.{same_itself}
+use Rattle.answer_judge_keys.proofs.KeyClashes.{same_itself}
 
 -- a key that is found is one of them
 found_fits : (p : Dnskey → Bool) (ks : List Dnskey) (x : Dnskey) → find p ks ≡ Some x → (p x ≡ true) × (list_any (same_key x) ks ≡ true)

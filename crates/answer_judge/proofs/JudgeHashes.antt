@@ -8,9 +8,9 @@ use Rattle.messages.specs.Message.{Message, Spelled, message}
 use Rattle.answer_scheme.specs.Answers.{Answers}
 use Rattle.answer_judge_facts.specs.Counted.{Counts, hashes_beyond, hashes_in_bytes, hashes_in_messages, hashes_of_answer, hashes_of_proof}
 use Rattle.answer_judge_facts.specs.Times.{are_unlike, proof_times}
-use Rattle.answer_judge_facts.specs.Facts.{is_usable}
+use Rattle.answer_judge_keys.specs.Trusted.{is_usable}
 use Rattle.answer_judge_facts.specs.Judged.{is_chained, keys_of, trusting}
-use Rattle.answer_judge_facts.specs.Judging.{Answer, Handing, message_refusal}
+use Rattle.answer_judge_keys.specs.Judging.{Answer, Handing, message_refusal}
 use Rattle.answer_judge_facts.specs.Verified.{verified_facts}
 
 -- both messages were read, and they bring no refusal

@@ -6,12 +6,12 @@ use Rattle.definitions.specs.Dnskey.{Dnskey}
 use Rattle.definitions.specs.Limits.{pointer_limit}
 use Rattle.answer_scheme.specs.Answers.{Answers}
 use Rattle.answer_judge.specs.Stages.{are_signed}
-use Rattle.answer_judge_facts.specs.Facts.{is_usable, RefusesFirst}
+use Rattle.answer_judge_keys.specs.Trusted.{is_usable}
 use Rattle.denial_laws.specs.Facts.{Facts}
 use Rattle.answer_judge_rules.specs.declared.verdict.Verdict.{Verdict as CodeVerdict}
-use Rattle.answer_judge_facts.specs.declared.verdict.Refusal.{Refusal}
-use Rattle.answer_judge_facts.specs.declared.verdict.Refusal.TheVariants as r
-use Rattle.answer_judge_facts.specs.Judging.{Answer, Refuses, Handing, first_refusal, message_refusal, keys_in, same_question, AnswersFirst}
+use Rattle.answer_judge_keys.specs.declared.verdict.Refusal.{Refusal}
+use Rattle.answer_judge_keys.specs.declared.verdict.Refusal.TheVariants as r
+use Rattle.answer_judge_keys.specs.Judging.{Answer, Refuses, RefusesFirst, Handing, first_refusal, message_refusal, keys_in, same_question, AnswersFirst}
 use Rattle.answer_shared.specs.Asking.{is_allowed}
 use Rattle.answer_shared.specs.EqualTags.{has_equal_tags}
 use Rattle.answer_judge_rules.specs.Rules.{verdict_of}

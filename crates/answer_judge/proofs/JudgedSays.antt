@@ -10,11 +10,11 @@ use Rattle.messages.specs.declared.error.MessageError.{MessageError}
 use Rattle.messages.specs.Message.{Message, message}
 use Rattle.answer_scheme.specs.Answers.{Answers}
 use Rattle.answer_shared.specs.Asking.{is_allowed}
-use Rattle.answer_judge_facts.specs.declared.verdict.Refusal.{Refusal}
-use Rattle.answer_judge_facts.specs.declared.verdict.Refusal.TheVariants as r
-use Rattle.answer_judge_facts.specs.Facts.{is_usable}
+use Rattle.answer_judge_keys.specs.declared.verdict.Refusal.{Refusal}
+use Rattle.answer_judge_keys.specs.declared.verdict.Refusal.TheVariants as r
+use Rattle.answer_judge_keys.specs.Trusted.{is_usable}
 use Rattle.answer_judge_facts.specs.Judged.{are_mixed, are_of_moments, are_over, by_facts, decided_by, facts_in, is_chained, is_unhashed, judged, judged_answer, judged_bytes, judged_facts, judged_messages, keys_of}
-use Rattle.answer_judge_facts.specs.Judging.{Answer, Handing, Refuses, Says, first_refusal}
+use Rattle.answer_judge_keys.specs.Judging.{Answer, Handing, Refuses, Says, first_refusal}
 
 -- the facts of the answer, under the usable keys
 abbrev pub facts_of : Answers → ℕ → Handing → Message → Message → Facts

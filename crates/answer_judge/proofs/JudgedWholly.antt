@@ -7,9 +7,9 @@ use Rattle.answer_scheme.specs.Answers.{Answers, EachAgreeing, SignatureTest, wi
 use Rattle.answer_shared.specs.Asking.{is_allowed}
 use Rattle.answer_judge_facts.specs.Counted.{Counts, hashes_in_bytes, tries_in_bytes}
 use Rattle.answer_judge_facts.specs.Judged.{AnswersAs, judged, judged_bytes}
-use Rattle.answer_judge_facts.specs.Judging.{Answer, Handing, Judges, Refuses, Says, message_refusal}
-use Rattle.answer_judge_facts.specs.declared.verdict.Refusal.{Refusal}
-use Rattle.answer_judge_facts.specs.declared.verdict.Refusal.TheVariants as r
+use Rattle.answer_judge_keys.specs.Judging.{Answer, Handing, Judges, Refuses, Says, message_refusal}
+use Rattle.answer_judge_keys.specs.declared.verdict.Refusal.{Refusal}
+use Rattle.answer_judge_keys.specs.declared.verdict.Refusal.TheVariants as r
 use Rattle.answer_judge_facts.proofs.JudgeAsked.{agreed_by}
 use Rattle.answer_judge.specs.Beyond.{SaysBeyond}
 use Rattle.answer_judge.specs.Meeting.{IsJudgement}

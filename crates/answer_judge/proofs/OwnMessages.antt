@@ -18,7 +18,7 @@ use Rattle.answer_shared.specs.Served.{Group, Served, ahead, ahead_open, answer_
 use Rattle.answer_shared.specs.Told.{fields_for}
 use Rattle.answer_shared.proofs.Servable.{asked_inside}
 use Rattle.answer_judge_facts.specs.Verified.{Trusting}
-use Rattle.answer_judge_facts.proofs.GivenSorted.{sorted_twice}
+use Rattle.answer_judge_keys.proofs.GivenSorted.{sorted_twice}
 use Rattle.answer_judge_facts.proofs.JudgeCase.{signed_octets-owner}
 use Rattle.answer_judge.specs.Honest.{SignedOf, WasSigned, covered_in, over_in, rrset_there}
 use Rattle.answer_judge.specs.OwnMessages.{OwnAnswersAreHonest, OwnKeysAreHonest, message_of, serves}

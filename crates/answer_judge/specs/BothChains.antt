@@ -5,7 +5,7 @@ use Rattle.definitions.specs.ZoneChain.{Nsec, Nsec3}
 use Rattle.messages.specs.HandedRr.{HandedRr}
 use Rattle.answer_scheme.specs.Answers.{Answers}
 use Rattle.answer_judge_facts.specs.Judged.{AnswersAs}
-use Rattle.answer_judge_facts.specs.Judging.{Answer, Handing, Says}
+use Rattle.answer_judge_keys.specs.Judging.{Answer, Handing, Says}
 use Rattle.answer_judge.specs.Meeting.{IsJudgement, WasGiven}
 
 -- A judgement, and the counts of its verifications and hashes.

@@ -17,9 +17,9 @@ use Rattle.answer_shared.specs.Accepting.{sorted_records, zone_of}
 use Rattle.answer_shared.specs.Hashing.{hash_in}
 use Rattle.answer_shared.specs.Made.{Content, HandedOut, OfKeys, OfZone, WasHandedOut, groups_in}
 use Rattle.answer_shared.specs.Served.{Group, Served, served_of}
-use Rattle.answer_judge_facts.specs.Facts.{is_signature}
+use Rattle.answer_judge_keys.specs.Trusted.{is_signature}
 use Rattle.answer_judge_facts.specs.Judged.{AnswersAs, judged}
-use Rattle.answer_judge_facts.specs.Judging.{Answer, Says, Refuses, Handing, keys_in}
+use Rattle.answer_judge_keys.specs.Judging.{Answer, Says, Refuses, Handing, keys_in}
 use Rattle.answer_judge_facts.specs.Verified.{rrset_in}
 
 -- What octets were signed of: an RRset of a message of the zone, with its type, the labels of its source and the moment, by the apex,

@@ -9,15 +9,15 @@ use Rattle.definitions.specs.ZoneChain.{Mode, optout_of}
 use Rattle.messages.specs.HandedRr.{HandedRr}
 use Rattle.answer_shared.specs.Accepting.{sorted_records, zone_of}
 use Rattle.answer_scheme.specs.Answers.{Answers}
-use Rattle.answer_judge_facts.specs.Facts.{is_usable}
+use Rattle.answer_judge_keys.specs.Trusted.{is_usable}
 use Rattle.answer_shared.specs.Told.{TellsKeys, TellsAnswer}
 use Rattle.messages.specs.Handed.{IsHanded}
-use Rattle.answer_judge_facts.specs.Judging.{Answer, Says, Handing, Judges, answer_of, verifications_of, hashes_of}
+use Rattle.answer_judge_keys.specs.Judging.{Answer, Says, Handing, Judges, answer_of, verifications_of, hashes_of}
 use Rattle.answer_shared.specs.Accepted.{IsAccepted}
 use Rattle.answer_shared.specs.Asking.{is_allowed}
 use Rattle.answer_shared.specs.EqualTags.{has_equal_tags}
-use Rattle.answer_judge_facts.specs.declared.verdict.Judgement.{Judgement}
-use Rattle.answer_judge_facts.specs.declared.verdict.Refused.{Refused}
+use Rattle.answer_judge_keys.specs.declared.verdict.Judgement.{Judgement}
+use Rattle.answer_judge_keys.specs.declared.verdict.Refused.{Refused}
 use Rattle.answer_judge.specs.Honest.{AnswersHonest, RefusesUntimely}
 use Rattle.answer_judge_facts.specs.Judged.{AnswersAs, judged}
 use Rattle.answer_judge_facts.specs.Counted.{Counts, hashes_due, verifications_due}

@@ -12,7 +12,7 @@ use Rattle.answer_shared.specs.Hashing.{hash_in}
 use Rattle.answer_shared.specs.Made.{Content, HandedOut, OfKeys, OfZone}
 use Rattle.answer_shared.specs.Served.{Served, served_of}
 use Rattle.answer_shared.specs.Told.{TellsKeys}
-use Rattle.answer_judge_facts.specs.Judging.{Handing}
+use Rattle.answer_judge_keys.specs.Judging.{Handing}
 use Rattle.answer_judge_facts.specs.Verified.{Trusting}
 use Rattle.answer_judge.specs.Honest.{IsHonest, WasSigned}
 use Rattle.answer_judge.specs.OwnFacts.{TellsZone}

@@ -34,7 +34,7 @@ pub struct Case<'a> {
 
 impl<'a> Model for Case<'a> {
     ghost use Rattle.messages.specs.Questions.{asked_of};
-    ghost use Rattle.answer_judge_facts.specs.Judging.{Handing, handed};
+    ghost use Rattle.answer_judge_keys.specs.Judging.{Handing, handed};
 
     ghost Value = { Handing };
 

@@ -25,7 +25,7 @@ use Rattle.answer_judge_facts.specs.Verified.{datum_of, one_known, rrset_in}
 use Rattle.answer_hash_owners.specs.HashOwner.{spells_hash}
 use Rattle.answer_judge_facts.specs.declared.groups.Group.{Group}
 use Rattle.answer_judge_facts.proofs.ChainRuns.{chain_total}
-use Rattle.answer_judge_facts.proofs.GivenSorted.{all_has}
+use Rattle.answer_judge_keys.proofs.GivenSorted.{all_has}
 use Rattle.answer_judge_facts.proofs.JudgeFacts.{chain_type}
 use Rattle.messages.proofs.Lists.{Has, all_at, all_more}
 

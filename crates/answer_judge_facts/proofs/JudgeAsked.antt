@@ -16,7 +16,7 @@ use Rattle.messages.proofs.Lists.{items_from}
 use Rattle.messages.proofs.ZoneNames.{same_labels}
 use Rattle.answer_scheme.specs.Answers.{Answers, SignatureTest}
 use Rattle.answer_judge_facts.specs.Asked.{PassesGroup, PassesGroups, PassesOver, PassesRecord, PassesSought, bare}
-use Rattle.answer_judge_facts.specs.Facts.{fits_key, is_due, is_signature, signs}
+use Rattle.answer_judge_keys.specs.Trusted.{fits_key, is_due, is_signature, signs}
 use Rattle.answer_judge_facts.specs.Marked.{data_in, is_of, marked}
 use Rattle.answer_judge_facts.specs.Sought.{Sought}
 use Rattle.answer_judge_facts.specs.Verified.{Trusting}

@@ -11,7 +11,7 @@ use Rattle.definitions.specs.Dnskey.{Dnskey}
 use Rattle.definitions.specs.Zone.{sorted_data}
 use Rattle.definitions.specs.Signing.{Fields, in_time, label_count, signed_owner, signed_octets, fields_data, canonical_record}
 use Rattle.answer_scheme.specs.Answers.{Answers}
-use Rattle.answer_judge_facts.specs.Facts.{is_signature, signs, is_due, fits_key, labels_fit, may_expand}
+use Rattle.answer_judge_keys.specs.Trusted.{is_signature, signs, is_due, fits_key, labels_fit, may_expand}
 use Rattle.messages.specs.Message.{Spelled, canonical_data, rrsig_at}
 use Rattle.messages.specs.Record.{Signature, fields_of, fields_read}
 use Rattle.numbers.specs.Decoding.{decoded}

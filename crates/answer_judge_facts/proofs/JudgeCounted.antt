@@ -16,7 +16,7 @@ use Rattle.messages.proofs.Lists.{items_from, list_any-map}
 use Rattle.messages.proofs.ZoneNames.{low-low, same_labels}
 use Rattle.answer_judge_facts.specs.Sought.{Sought}
 use Rattle.answer_judge_facts.specs.Counted.{can_try, is_tried, one_if, tries, tries_fields}
-use Rattle.answer_judge_facts.specs.Facts.{fits_key, is_due, is_signature, labels_fit}
+use Rattle.answer_judge_keys.specs.Trusted.{fits_key, is_due, is_signature, labels_fit}
 use Rattle.denial_laws.specs.NsecRules.{first_some}
 use Rattle.answer_judge_facts.specs.Marked.{data_in, is_of, is_tried_in, marked, or_first, signed_of, tries_group, tries_in}
 use Rattle.answer_judge_facts.specs.Verified.{Trusting, is_verified, verified_with}

@@ -8,7 +8,7 @@ use Rattle.std.specs.Option.{option_map}
 use Rattle.definitions.specs.Name.{Name, same}
 use Rattle.definitions.specs.Signing.{Fields}
 use Rattle.messages.specs.Message.{Spelled, rrsig_at}
-use Rattle.answer_judge_facts.specs.Facts.{is_signature, signs}
+use Rattle.answer_judge_keys.specs.Trusted.{is_signature, signs}
 use Rattle.answer_judge_facts.specs.declared.groups.Signed.{Signed}
 use Rattle.answer_judge_facts.specs.Verified.{Trusting, is_verified, verifies_with, verified_by, verified_with}
 use Rattle.answer_judge_facts.specs.Marked.{data_in, marked_if, marked, or_first, signed_of}

@@ -11,7 +11,7 @@ use Rattle.denial_laws.specs.NsecRules.{first_some}
 use Rattle.messages.specs.Message.{Spelled, rrsig_at}
 use Rattle.messages.proofs.Lists.{Has, all_at, any_from, both_ways, found}
 use Rattle.messages.proofs.ZoneNames.{labels_eq-same, same_labels}
-use Rattle.answer_judge_facts.specs.Facts.{is_signature, signs}
+use Rattle.answer_judge_keys.specs.Trusted.{is_signature, signs}
 use Rattle.answer_judge_facts.specs.Marked.{data_in, is_of, is_unlike, marked, or_first, signed_of, times_by, times_in}
 use Rattle.answer_judge_facts.specs.Sought.{Sought, answer_sought, is_alone}
 use Rattle.answer_judge_facts.specs.Times.{Times, are_unlike, proof_times, same_times, times_at, times_of}

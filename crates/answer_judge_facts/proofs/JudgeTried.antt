@@ -10,7 +10,7 @@ use Rattle.definitions.specs.Name.{Name, low, same}
 use Rattle.definitions.specs.Signing.{Fields}
 use Rattle.definitions.specs.Limits.{pointer_limit}
 use Rattle.answer_judge_facts.specs.declared.groups.Group.{Group}
-use Rattle.answer_judge_facts.specs.Facts.{is_signature, signs}
+use Rattle.answer_judge_keys.specs.Trusted.{is_signature, signs}
 use Rattle.messages.specs.Record.{Signature, fields_read, signature_of, spelled}
 use Rattle.messages.specs.declared.view.ViewRecord.{ViewRecord}
 use Rattle.std.proofs.lemmas.List.{drop_all, set-get_or}

@@ -8,9 +8,9 @@ use Rattle.definitions.specs.Limits.{pointer_limit}
 use Rattle.definitions.specs.Signing.{Fields, signed_octets}
 use Rattle.messages.specs.Message.{Message, Spelled, message, rrsig_at}
 use Rattle.answer_scheme.specs.Answers.{Answers, SignatureTest}
-use Rattle.answer_judge_facts.specs.Facts.{fits_key, is_signature, is_trusted, is_usable}
+use Rattle.answer_judge_keys.specs.Trusted.{fits_key, is_signature, is_trusted, is_usable}
 use Rattle.answer_judge_facts.specs.Judged.{keys_of}
-use Rattle.answer_judge_facts.specs.Judging.{Handing}
+use Rattle.answer_judge_keys.specs.Judging.{Handing}
 use Rattle.answer_judge_facts.specs.Marked.{data_in, is_of}
 use Rattle.answer_judge_facts.specs.Sought.{Sought, answer_sought, keys_sought}
 use Rattle.answer_judge_facts.specs.declared.groups.Group.{Group}

@@ -7,12 +7,12 @@ use Rattle.definitions.specs.Dnskey.{Dnskey}
 use Rattle.definitions.specs.Signing.{Fields}
 use Rattle.messages.specs.Message.{Message, Spelled, message, rrsig_at}
 use Rattle.answer_scheme.specs.Answers.{Answers}
-use Rattle.answer_judge_facts.specs.Facts.{fits_key, is_due, is_signature, is_trusted, is_usable}
+use Rattle.answer_judge_keys.specs.Trusted.{fits_key, is_due, is_signature, is_trusted, is_usable}
 use Rattle.denial_laws.specs.Facts.{Facts}
 use Rattle.answer_judge_rules.specs.Hashes.{hashed_for}
 use Rattle.answer_judge_facts.specs.Judged.{are_mixed, are_of_moments, are_over, facts_in, is_chained, keys_of, trusting}
-use Rattle.answer_judge_facts.specs.Judging.{Answer, Handing, Refuses, first_refusal, message_refusal}
-use Rattle.answer_judge_facts.specs.declared.verdict.Refusal.TheVariants as r
+use Rattle.answer_judge_keys.specs.Judging.{Answer, Handing, Refuses, first_refusal, message_refusal}
+use Rattle.answer_judge_keys.specs.declared.verdict.Refusal.TheVariants as r
 use Rattle.answer_judge_facts.specs.Sought.{Sought, answer_sought, keys_sought}
 use Rattle.answer_judge_facts.specs.Verified.{Trusting, is_verified}
 

@@ -1,10 +1,6 @@
 pub mod Asked
 pub mod Counted
-pub mod Facts
-pub mod HashRefusal
 pub mod Judged
-pub mod Judging
-pub mod KeyOrder
 pub mod Marked
 pub mod Ranked
 pub mod Sought

@@ -9,7 +9,7 @@ use Rattle.answer_judge_facts.specs.Counted.{can_try, one_if}
 use Rattle.answer_judge_facts.specs.Sought.{is_alone}
 use Rattle.answer_judge_facts.specs.Times.{Times, same_times}
 use Rattle.definitions.specs.Signing.{Fields}
-use Rattle.answer_judge_facts.specs.Facts.{is_signature, signs}
+use Rattle.answer_judge_keys.specs.Trusted.{is_signature, signs}
 use Rattle.denial_laws.specs.Facts.{Facts, HashLink, Link, Rrset}
 use Rattle.messages.specs.Message.{Spelled, nsec3_at, rrsig_at}
 use Rattle.answer_judge_facts.specs.Verified.{Trusting, hash_link_with, is_hash_alone, link_of, one_known, rrset_in, verified_by}
@@ -17,7 +17,7 @@ use Rattle.answer_hash_owners.specs.HashOwner.{spells_hash}
 use Rattle.answer_judge_facts.specs.declared.groups.Signed.{Signed}
 use Rattle.std.specs.Option.{option_map}
 use Rattle.answer_judge_facts.specs.declared.groups.Group.{Group}
-use Rattle.answer_judge_facts.specs.declared.trust.Trust.{Trust}
+use Rattle.answer_judge_keys.specs.declared.trust.Trust.{Trust}
 
 -- what is verified with, under a scheme's answers
 abbrev pub held_by : Answers → Trust → Trusting

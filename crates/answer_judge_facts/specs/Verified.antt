@@ -7,7 +7,7 @@ use Rattle.definitions.specs.Dnskey.{Dnskey}
 use Rattle.definitions.specs.Zone.{sorted_data}
 use Rattle.answer_hash_owners.specs.HashOwner.{hash_spelled, spells_hash}
 use Rattle.answer_scheme.specs.Answers.{Answers}
-use Rattle.answer_judge_facts.specs.Facts.{is_signature, signs}
+use Rattle.answer_judge_keys.specs.Trusted.{is_signature, signs}
 use Rattle.denial_laws.specs.Facts.{Facts, HashLink, Link, Rrset}
 use Rattle.denial_laws.specs.NsecRules.{first_some}
 use Rattle.definitions.specs.Signing.{Fields}

@@ -3,12 +3,12 @@ ghost use Rattle.std.specs.Prelude.{◌≡◌, ◌==◌, ◌&&◌, ◌+◌, ◌<
 ghost use Rattle.std.specs.Cow.{cow_slice_items};
 ghost use Rattle.definitions.specs.Limits.{pointer_limit};
 ghost use Rattle.messages.specs.Record.{fields_read, spelled};
-ghost use Rattle.answer_judge_facts.specs.Facts.{is_signature};
+ghost use Rattle.answer_judge_keys.specs.Trusted.{is_signature};
 ghost use Rattle.answer_judge_facts.specs.Verified.{datum_of, rrset_in};
 ghost use Rattle.answer_judge_facts.specs.declared.groups.Group.{Group};
 ghost use Rattle.answer_judge_facts.specs.Marked.{held_by, is_of, data_in, marked, signed_of, signs_group, is_chain_type, is_tried_in, tries_in};
 ghost use Rattle.answer_judge_facts.specs.Ranked.{AreRanked, place_of, sought_cmp, type_rank};
-ghost use Rattle.answer_judge_facts.specs.KeyOrder.{Ranks};
+ghost use Rattle.answer_judge_keys.specs.KeyOrder.{Ranks};
 ghost use Rattle.messages.specs.Message.{if_true};
 ghost use Rattle.answer_judge_facts.specs.Counted.{can_try, one_if};
 ghost use Rattle.answer_judge_facts.specs.Asked.{PassesGroups, PassesOver, PassesRecord, bare};
@@ -18,12 +18,11 @@ ghost use Rattle.std.specs.List.{list_any};
 ghost use Rattle.definitions.specs.Name.{same};
 ghost use Rattle.definitions.specs.Signing.{signed_octets};
 
-use crate::order::sort_data;
-use crate::trust::Trust;
-use crate::verifier::Verifier;
+use answer_judge_keys::order::sort_data;
+use answer_judge_keys::trust::{GroupOwner, Signature, Trust};
+use answer_judge_keys::verifier::Verifier;
 use answer_scheme::checks::Checks;
-use denial_data::Rrsig;
-use messages::names::{Name, ParsedName, ToName};
+use messages::names::ToName;
 use messages::signed::compose_signed_octets;
 use messages::{Owner, ViewRecord};
 use names_rdata::rtype::Rtype;
@@ -48,9 +47,6 @@ pub struct Signed {
     pub tag: u16,
 }
 
-/// The owner of an RRset, borrowed from what has it in a row.
-pub type GroupOwner<'a> = Name<CowSlice<'a, u8>>;
-
 /// An RRset of a message: its canonical data ascending, each once, and what the first signature says that verified it.
 #[derive(Debug, Drop)]
 pub struct Group<'a> {
@@ -59,9 +55,6 @@ pub struct Group<'a> {
     pub items: Vec<CowSlice<'a, u8>>,
     pub verified: Option<Signed>,
 }
-
-/// A signature in a message, its signer in place.
-pub type Signature<'a> = Rrsig<&'a [u8], ParsedName<'a>>;
 
 impl<'a> Group<'a> {
     /// Whether the group has a type and an owner, up to case.

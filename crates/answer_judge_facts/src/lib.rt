@@ -3,10 +3,5 @@
 
 pub mod facts;
 pub mod groups;
-pub mod keys;
-pub mod order;
 pub mod signed_keys;
 pub mod times;
-pub mod trust;
-pub mod verdict;
-pub mod verifier;

@@ -2,7 +2,7 @@
 use Rattle.std.proofs.Common.{◌≡◌, ℕ, ◌+◌, ◌-◌, ◌*◌, ◌<◌, ◌≤◌, Bool, List, [], ◌∷◌, ◌++◌, length, Some, None, refl, sym, ap, ◌∙◌, append_assoc, length-append, get_or, subst, arith}
 use Rattle.std.proofs.Math.ListN.{get_or-append}
 use Rattle.std.proofs.lemmas.List.{get_or-append_right}
-use Rattle.answer_judge_facts.proofs.JudgeKeys.{data_spelled}
+use Rattle.answer_judge_keys.proofs.JudgeKeys.{data_spelled}
 use Rattle.std.specs.Prelude.{⊤}
 use Rattle.std.specs.Int.{w16, to_be_bytes}
 use Rattle.names_rdata.specs.Composing.{with_length}

@@ -3,7 +3,7 @@ use Rattle.std.proofs.Common.{ℕ, Bool, List, [], ◌∷◌}
 use Rattle.std.specs.List.{AllByRecursion}
 use Rattle.definitions.specs.ZoneChain.{Mode}
 use Rattle.messages.specs.HandedRr.{HandedRr}
-use Rattle.answer_judge_facts.specs.Judging.{Answer, Handing}
+use Rattle.answer_judge_keys.specs.Judging.{Answer, Handing}
 use Rattle.answer_judge.specs.Honest.{AnswersHonest, IsHonest, IsVersion, over_in}
 use Rattle.answer_judge_octets.specs.Table.{AreTrue, Tried, answers_with, tried}
 use Rattle.definitions.specs.Dnskey.{Dnskey}

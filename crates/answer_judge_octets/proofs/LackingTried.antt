@@ -7,7 +7,7 @@ use Rattle.definitions.specs.Limits.{pointer_limit}
 use Rattle.answer_scheme.specs.Answers.{SignatureTest}
 use Rattle.answer_judge_facts.specs.Asked.{is_candidate}
 use Rattle.answer_judge_facts.specs.Counted.{Counts}
-use Rattle.answer_judge_facts.specs.Judging.{Answer, Handing, verification_bound}
+use Rattle.answer_judge_keys.specs.Judging.{Answer, Handing, verification_bound}
 use Rattle.answer_judge_octets.specs.Asking.{AskedIfAny, IsCandidate, PassesEach, PassesLacking, are_new, due_beyond, is_out_of_memory}
 use Rattle.answer_judge_octets.specs.Table.{Checked, Tried, answers_of, passes_by}
 

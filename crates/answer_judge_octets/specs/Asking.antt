@@ -5,8 +5,8 @@ use Rattle.definitions.specs.Limits.{pointer_limit}
 use Rattle.answer_scheme.specs.Answers.{SignatureTest}
 use Rattle.answer_judge_facts.specs.Asked.{is_candidate}
 use Rattle.answer_judge_facts.specs.Counted.{verifications_due}
-use Rattle.answer_judge_facts.specs.Judging.{Answer, Refuses, Handing, verification_bound}
-use Rattle.answer_judge_facts.specs.declared.verdict.Refusal.TheVariants as r
+use Rattle.answer_judge_keys.specs.Judging.{Answer, Refuses, Handing, verification_bound}
+use Rattle.answer_judge_keys.specs.declared.verdict.Refusal.TheVariants as r
 use Rattle.answer_judge_octets.specs.Table.{AgreesWith, Checked, Tried, answers_of, answers_with, checked, may_pass_in, passes_by, told}
 
 -- a signature that is asked for, as an entry

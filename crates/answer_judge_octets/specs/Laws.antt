@@ -11,7 +11,7 @@ use Rattle.messages_canonical.specs.InForm.{has_form, is_record_in_form}
 use Rattle.answer_shared.specs.Accepting.{zone_of}
 use Rattle.answer_shared.specs.Served.{Group, Served}
 use Rattle.answer_shared.specs.Told.{TellsAnswer, TellsKeys}
-use Rattle.answer_judge_facts.specs.Judging.{Handing}
+use Rattle.answer_judge_keys.specs.Judging.{Handing}
 use Rattle.answer_judge_octets.specs.declared.octets.OctetCase.{OctetCase}
 use Rattle.answer_judge_octets.specs.Replying.{IsJudged, Spells}
 use Rattle.answer_judge_octets.specs.Table.{Checked, Tried, checked}

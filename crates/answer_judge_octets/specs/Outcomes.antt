@@ -1,9 +1,9 @@
 -- What an outcome is.
 use Rattle.std.specs.Prelude.{Bool, List, Result}
 use Rattle.definitions.specs.Limits.{pointer_limit}
-use Rattle.answer_judge_facts.specs.Judging.{Handing, answer_of}
-use Rattle.answer_judge_facts.specs.declared.verdict.Judgement.{Judgement}
-use Rattle.answer_judge_facts.specs.declared.verdict.Refused.{Refused}
+use Rattle.answer_judge_keys.specs.Judging.{Handing, answer_of}
+use Rattle.answer_judge_keys.specs.declared.verdict.Judgement.{Judgement}
+use Rattle.answer_judge_keys.specs.declared.verdict.Refused.{Refused}
 use Rattle.answer_judge.specs.Honest.{AnswersHonest}
 use Rattle.answer_judge.specs.Meeting.{JudgesSo}
 use Rattle.answer_judge_octets.specs.declared.outcome.Outcome.{Outcome}

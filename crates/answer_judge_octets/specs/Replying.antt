@@ -7,9 +7,9 @@ use Rattle.names_rdata.specs.Composing.{with_length}
 use Rattle.messages.specs.NameOctets.{name_of_octets}
 use Rattle.answer_judge_rules.specs.declared.verdict.Verdict.{Verdict}
 use Rattle.answer_judge_rules.specs.declared.verdict.Verdict.TheVariants as v
-use Rattle.answer_judge_facts.specs.declared.verdict.Refusal.{Refusal}
-use Rattle.answer_judge_facts.specs.declared.verdict.Refusal.TheVariants as r
-use Rattle.answer_judge_facts.specs.Judging.{Handing}
+use Rattle.answer_judge_keys.specs.declared.verdict.Refusal.{Refusal}
+use Rattle.answer_judge_keys.specs.declared.verdict.Refusal.TheVariants as r
+use Rattle.answer_judge_keys.specs.Judging.{Handing}
 use Rattle.answer_judge_octets.specs.declared.outcome.Outcome.{Outcome}
 use Rattle.answer_judge_octets.specs.declared.outcome.Outcome.TheVariants as o
 use Rattle.answer_judge_octets.specs.declared.reply.ReplyCode.{ReplyCode}

@@ -1,6 +1,6 @@
 //! Judging by a table.
 ghost use Rattle.std.specs.Prelude.{◌≡◌, ◌<◌, ◌∷◌, [], IfOk};
-ghost use Rattle.answer_judge_facts.specs.Judging.{answer_of};
+ghost use Rattle.answer_judge_keys.specs.Judging.{answer_of};
 ghost use Rattle.answer_judge_octets.specs.Asking.{AskedIfAny, is_out_of_memory};
 ghost use Rattle.answer_judge_octets.specs.Outcomes.{IsOutcome};
 

@@ -6,7 +6,7 @@ use Rattle.std.specs.declared.cmp.Ordering.TheVariants.{Equal}
 use Rattle.std.specs.FinMap.{nat_cmp-IsAntisymmetric}
 use Rattle.definitions.specs.Dnskey.{Dnskey, Ds, key_tag}
 use Rattle.definitions.specs.Limits.{pointer_limit}
-use Rattle.answer_judge_facts.specs.Facts.{is_usable}
+use Rattle.answer_judge_keys.specs.Trusted.{is_usable}
 use Rattle.answer_publisher_keys.specs.declared.keys.Publication.TheVariants as publication
 use Rattle.messages.specs.HandedRr.{HandedRr}
 use Rattle.answer_shared.specs.Accepting.{zone_of}
@@ -24,9 +24,9 @@ use Rattle.answer_laws.specs.Simulations.{IsZoneOf}
 use Rattle.answer_laws.specs.Versions.{in_version}
 use Rattle.answer_publisher.specs.World.{TellsAnswer, TellsKeys, World}
 use Rattle.messages.specs.WrittenLaws.{IsQuestion}
-use Rattle.answer_judge_facts.proofs.GivenKeys.{one_of_tag}
+use Rattle.answer_judge_keys.proofs.GivenKeys.{one_of_tag}
 use Rattle.answer_judge.proofs.GivenLists.{contained_has, has_contained}
-use Rattle.answer_judge_facts.proofs.GivenSorted.{all_has, sorted_has}
+use Rattle.answer_judge_keys.proofs.GivenSorted.{all_has, sorted_has}
 use Rattle.answer_laws.proofs.KeyLife.{AreBound, IsBound, all_published, published_flags, published_sign}
 use Rattle.answer_publisher_keys.proofs.KeyTags.{HasOwnTags}
 use Rattle.answer_laws.proofs.KeysMeet.{KeysMeet}

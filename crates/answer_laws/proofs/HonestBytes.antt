@@ -25,13 +25,13 @@ use Rattle.answer_events.specs.declared.event.Act.TheVariants as act
 use Rattle.answer_events.specs.Calls.{call_of}
 use Rattle.answer_scheme.specs.Moments.{second_of}
 use Rattle.answer_judge.specs.Honest.{IsVersion, OneAtATime, Settled}
-use Rattle.answer_judge_facts.specs.Judging.{Handing, answer_of, hashes_of, verifications_of}
+use Rattle.answer_judge_keys.specs.Judging.{Handing, answer_of, hashes_of, verifications_of}
 use Rattle.answer_judge.specs.Meeting.{IsJudgement}
-use Rattle.answer_judge_facts.specs.declared.verdict.Judgement.{Judgement}
-use Rattle.answer_judge_facts.specs.declared.verdict.Refused.{Refused}
+use Rattle.answer_judge_keys.specs.declared.verdict.Judgement.{Judgement}
+use Rattle.answer_judge_keys.specs.declared.verdict.Refused.{Refused}
 use Rattle.answer_judge.proofs.GivenLists.{contained_has, has_contained, has_left, has_right}
 use Rattle.answer_judge.proofs.GivenRrset.{all_joined}
-use Rattle.answer_judge_facts.proofs.GivenSorted.{all_has}
+use Rattle.answer_judge_keys.proofs.GivenSorted.{all_has}
 use Rattle.answer_judge.proofs.ToldShort.{short_told}
 use Rattle.answer_publisher_keys.specs.Bindings.{Call, ZoneKeys, apply, dnskeys, published}
 use Rattle.answer_publisher.specs.Publishing.{digest_at}

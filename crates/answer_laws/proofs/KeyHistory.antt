@@ -17,7 +17,7 @@ use Rattle.answer_publisher_keys.specs.Bindings as bindings
 use Rattle.answer_publisher_keys.specs.Bindings.{BoundKey, Outcome, ZoneKeys, apply, bind, bound_at, dnskey_at, dnskey_for, is_bound_away, lifted, on_state}
 use Rattle.answer_publisher_keys.specs.KeyTags.{behind, left}
 use Rattle.answer_laws.specs.StaysBound.{AddsBind, ReferencesStayBound}
-use Rattle.answer_judge_facts.proofs.GivenKeys.{same_key-is}
+use Rattle.answer_judge_keys.proofs.GivenKeys.{same_key-is}
 use Rattle.answer_publisher_keys.proofs.BoundAll.{bound_by, by_digest}
 use Rattle.messages.proofs.Lists.{some_is}
 

@@ -13,7 +13,7 @@ use Rattle.answer_events.specs.declared.event.Act.TheVariants as act
 use Rattle.answer_events.specs.declared.event.Event.{Event}
 use Rattle.answer_judge.specs.Honest.{SaysAtMost, SaysOneOf}
 use Rattle.answer_judge.proofs.GivenLists.{contained_has, has_contained}
-use Rattle.answer_judge_facts.specs.Judging.{Answer, Says, Refuses}
+use Rattle.answer_judge_keys.specs.Judging.{Answer, Says, Refuses}
 use Rattle.answer_publisher.specs.World.{World}
 use Rattle.answer_publisher_keys.specs.Bindings.{ZoneKeys}
 use Rattle.answer_laws.specs.declared.outcome.Outcome.{Outcome}

@@ -18,7 +18,7 @@ use Rattle.answer_events.specs.declared.event.Act.{Act}
 use Rattle.answer_events.specs.declared.event.Act.TheVariants as act
 use Rattle.answer_scheme.specs.Moments.{second_of}
 use Rattle.answer_judge.specs.Honest.{IsHonest, NoStranger, SaysAtMost, WasSigned}
-use Rattle.answer_judge_facts.specs.Judging.{Answer, Handing, answer_of}
+use Rattle.answer_judge_keys.specs.Judging.{Answer, Handing, answer_of}
 use Rattle.answer_publisher_keys.specs.Bindings.{ZoneKeys, dnskeys, published}
 use Rattle.answer_publisher_keys.specs.declared.keys.Publication.TheVariants as publication
 use Rattle.answer_publisher.specs.World.{World, present_keys, served_in}

@@ -3,7 +3,7 @@ use Rattle.std.specs.Prelude.{◌≡◌, ◌⊎◌, ℕ, true, List, Option}
 use Rattle.std.specs.List.{AllByRecursion}
 use Rattle.definitions.specs.Dnskey.{Dnskey}
 use Rattle.definitions.specs.Name.{Name}
-use Rattle.answer_judge_facts.specs.Facts.{is_usable}
+use Rattle.answer_judge_keys.specs.Trusted.{is_usable}
 use Rattle.answer_publisher_keys.specs.declared.keys.Publication.{Publication}
 use Rattle.answer_publisher_keys.specs.Bindings.{Call, dnskeys, no_keys, published}
 use Rattle.answer_publisher_keys.specs.KeyTags.{behind}

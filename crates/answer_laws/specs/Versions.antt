@@ -10,7 +10,7 @@ use Rattle.answer_events.specs.declared.event.Act.{Act}
 use Rattle.answer_events.specs.declared.event.Act.TheVariants as act
 use Rattle.answer_events.specs.declared.event.Event.{Event}
 use Rattle.answer_judge.specs.Honest.{SaysOneOf}
-use Rattle.answer_judge_facts.specs.Judging.{Answer}
+use Rattle.answer_judge_keys.specs.Judging.{Answer}
 use Rattle.answer_publisher.specs.Replacing.{whole_second}
 use Rattle.answer_publisher.specs.World.{World}
 use Rattle.answer_publisher_keys.specs.Bindings.{ZoneKeys}

@@ -9,8 +9,8 @@ use Rattle.definitions.specs.Signing.{Fields, signed_octets}
 use Rattle.definitions.specs.Zone.{Records}
 use Rattle.definitions.specs.ZoneChain.{Nsec}
 use Rattle.messages.specs.Message.{owner_at}
-use Rattle.answer_judge_facts.specs.Judging.{Says, Refuses}
-use Rattle.answer_judge_facts.specs.declared.verdict.Refusal.TheVariants.{NoTrustedKey, NotProven}
+use Rattle.answer_judge_keys.specs.Judging.{Says, Refuses}
+use Rattle.answer_judge_keys.specs.declared.verdict.Refusal.TheVariants.{NoTrustedKey, NotProven}
 use Rattle.answer_judge.specs.Honest.{NoStranger}
 use Rattle.counterexamples_honest.specs.Premises.{IsHonestCase, all}
 use Rattle.counterexamples_honest.specs.Rows.{forged_late, next_of_b, of_strangers, own, own_keys, small, spliced, spliced_answer, starred, stranger_keys}

@@ -10,7 +10,7 @@ use Rattle.messages.proofs.Lists.{all_at, some_is}
 use Rattle.answer_judge.specs.Honest.{NoStranger}
 use Rattle.answer_judge.proofs.GivenLists.{has_contained}
 use Rattle.answer_judge.proofs.Spliced.{ok_is}
-use Rattle.answer_judge_facts.specs.Judging.{keys_in}
+use Rattle.answer_judge_keys.specs.Judging.{keys_in}
 use Rattle.counterexamples_honest.specs.World.{ds, example, own_key, plain}
 use Rattle.counterexamples_honest.proofs.Dealt.{at_place}
 

@@ -5,7 +5,7 @@ use Rattle.definitions.specs.ZoneChain.{Mode}
 use Rattle.messages.specs.HandedRr.{HandedRr}
 use Rattle.messages.proofs.Lists.{all_more}
 use Rattle.answer_scheme.specs.Answers.{Answers}
-use Rattle.answer_judge_facts.specs.Judging.{Handing, Says}
+use Rattle.answer_judge_keys.specs.Judging.{Handing, Says}
 use Rattle.answer_judge.specs.Honest.{IsVersion}
 use Rattle.answer_judge.proofs.HonestJudged.{answers_honest}
 use Rattle.counterexamples_honest.specs.Premises.{AllAreHonest, IsVersionIn, NoneIsFalse, all}

@@ -16,8 +16,8 @@ use Rattle.answer_shared.specs.Hashing.{hash_in}
 use Rattle.answer_shared.specs.Made.{HandedOut, WasHandedOut}
 use Rattle.answer_scheme.specs.Answers.{Answers}
 use Rattle.answer_judge_facts.specs.Judged.{judged}
-use Rattle.answer_judge_facts.specs.Judging.{Answer, Handing, Refuses, Says}
-use Rattle.answer_judge_facts.specs.declared.verdict.Refusal.TheVariants.{MixedVersions}
+use Rattle.answer_judge_keys.specs.Judging.{Answer, Handing, Refuses, Says}
+use Rattle.answer_judge_keys.specs.declared.verdict.Refusal.TheVariants.{MixedVersions}
 use Rattle.messages.specs.Message.{AreOctets}
 use Rattle.answer_judge.specs.Honest.{AreHonest, NoStranger, NothingForged, Settled, WasSigned, served_by, verdict_of}
 

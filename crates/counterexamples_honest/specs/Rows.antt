@@ -5,7 +5,7 @@ use Rattle.definitions.specs.Bitmap.{bitmap}
 use Rattle.definitions.specs.Dnskey.{Dnskey, Ds, dnskey_data}
 use Rattle.definitions.specs.Name.{Name, wire}
 use Rattle.messages.specs.HandedRr.{HandedRr}
-use Rattle.answer_judge_facts.specs.Judging.{Handing}
+use Rattle.answer_judge_keys.specs.Judging.{Handing}
 use Rattle.counterexamples_honest.specs.World.{a, address, address_of, b, ds, example, false_address, fields, message_of, other, own_key, rr, rrsig, soa, star, stranger, text_of, twin, x, x_b}
 
 -- ---- zones

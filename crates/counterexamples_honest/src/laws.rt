@@ -2,8 +2,8 @@
 //! nothing.
 ghost use Rattle.std.specs.Prelude.{[], ◌∷◌};
 ghost use Rattle.definitions.specs.Zone.{NoName, Records};
-ghost use Rattle.answer_judge_facts.specs.Judging.{Says, Refuses};
-ghost use Rattle.answer_judge_facts.specs.declared.verdict.Refusal.TheVariants.{NoTrustedKey, NotProven};
+ghost use Rattle.answer_judge_keys.specs.Judging.{Says, Refuses};
+ghost use Rattle.answer_judge_keys.specs.declared.verdict.Refusal.TheVariants.{NoTrustedKey, NotProven};
 ghost use Rattle.counterexamples_honest.specs.Premises.{AllAreHonest, IsHonestCase, IsMixture, NoneIsFalse, SaysFalsely, without_answer_unforged, without_ds, without_handed_out, without_hashes_apart, without_keys_known, without_keys_unforged, without_settled};
 ghost use Rattle.counterexamples_honest.specs.Quoted.{QuotesAreHonest};
 ghost use Rattle.counterexamples_honest.specs.Rows.{first_version, forged_late, mixed, of_strangers, own, second_version, small, spliced, starred};

@@ -5,8 +5,8 @@ use Rattle.std.specs.Duration.{as_nanos}
 use Rattle.hex.specs.Hex.{encode_lower}
 use Rattle.answer_laws.specs.declared.outcome.Outcome.{Outcome}
 use Rattle.answer_laws.specs.declared.outcome.Outcome.TheVariants.{Key, Replaced, Ds, Message, Refused, Judged, BadPlace}
-use Rattle.answer_judge_facts.specs.declared.verdict.Judgement.{Judgement}
-use Rattle.answer_judge_facts.specs.declared.verdict.Refused.{Refused as JudgeRefused}
+use Rattle.answer_judge_keys.specs.declared.verdict.Judgement.{Judgement}
+use Rattle.answer_judge_keys.specs.declared.verdict.Refused.{Refused as JudgeRefused}
 use Rattle.answer_judge_rules.specs.declared.verdict.Verdict.{Verdict}
 use Rattle.answer_judge_rules.specs.declared.verdict.Verdict.TheVariants.{Records, StarRecords}
 use Rattle.keyset_rolls.specs.declared.rolls.Action.{Action}

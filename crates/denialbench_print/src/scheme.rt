@@ -4,7 +4,9 @@ ghost use Rattle.std.specs.Str.{bytes_eq};
 ghost use Rattle.definitions.specs.Dnskey.{dnskey_data};
 ghost use Rattle.sha2.specs.Sha256.{sha256};
 
-use answer::{DigestAlgorithm, Dnskey, Scheme, SchemeError};
+use answer_scheme::{Scheme, SchemeError};
+use denial_keys::dnskey::Dnskey;
+use numbers::algorithm::DigestAlgorithm;
 use sha2::{Digest, Sha256};
 use std::alloc::Global;
 

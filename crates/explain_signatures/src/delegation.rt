@@ -1,6 +1,6 @@
 //! The DS records of a zone beside the keys of its DNSKEY answer (RFC 4035, 5.2).
 
-use answer_judge_facts::keys::TaggedKey;
+use answer_judge_keys::keys::TaggedKey;
 use answer_scheme::error::SchemeError;
 use answer_scheme::scheme::Scheme;
 use denial_data::Ds;

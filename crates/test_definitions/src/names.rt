@@ -10,17 +10,20 @@ use test_lines::{octets_of, order_word, printed, push_word, text, words, yes_or_
 /// What a line asks of names.
 pub fn reply(alloc: Global, name: &str, rest: &str) -> Option<String> {
     let words = words(alloc, rest)?;
-    match (name, words.as_slice()) {
-        ("order", [first, second]) => order(alloc, first, second),
-        ("covers", [apex, owner, next, name]) => covered(alloc, apex, owner, next, name),
-        ("hash-covers", [owner, next, hash]) => hash_covered(alloc, owner, next, hash),
-        ("name", [octets, place, pointers]) => read(alloc, octets, place, pointers),
+    match name {
+        "order" => order(alloc, &words),
+        "covers" => covered(alloc, &words),
+        "hash-covers" => hash_covered(alloc, &words),
+        "name" => read(alloc, &words),
         _ => None,
     }
 }
 
 /// How a name stands to another, and whether it is at or above it.
-fn order(alloc: Global, first: &str, second: &str) -> Option<String> {
+fn order(alloc: Global, words: &[&str]) -> Option<String> {
+    let [first, second] = words else {
+        return None;
+    };
     let (first, second) = (labels_of(alloc, first)?, labels_of(alloc, second)?);
     let order = order_word(name_cmp(&first, &second));
     let same = yes_or_no(same(&first, &second));
@@ -29,21 +32,30 @@ fn order(alloc: Global, first: &str, second: &str) -> Option<String> {
 }
 
 /// Whether a link from an owner to a next name covers a name.
-fn covered(alloc: Global, apex: &str, owner: &str, next: &str, name: &str) -> Option<String> {
+fn covered(alloc: Global, words: &[&str]) -> Option<String> {
+    let [apex, owner, next, name] = words else {
+        return None;
+    };
     let (apex, owner) = (labels_of(alloc, apex)?, labels_of(alloc, owner)?);
     let (next, name) = (labels_of(alloc, next)?, labels_of(alloc, name)?);
     text(alloc, yes_or_no(covers(&apex, &owner, &next, &name)))
 }
 
 /// Whether a link from a hash to a next one covers a hash.
-fn hash_covered(alloc: Global, owner: &str, next: &str, hash: &str) -> Option<String> {
+fn hash_covered(alloc: Global, words: &[&str]) -> Option<String> {
+    let [owner, next, hash] = words else {
+        return None;
+    };
     let (owner, next) = (octets_of(alloc, owner)?, octets_of(alloc, next)?);
     let hash = octets_of(alloc, hash)?;
     text(alloc, yes_or_no(hash_covers(&owner, &next, &hash)))
 }
 
 /// The labels of the name at a place of octets, with so many pointers at most, and the place behind it.
-fn read(alloc: Global, octets: &str, place: &str, pointers: &str) -> Option<String> {
+fn read(alloc: Global, words: &[&str]) -> Option<String> {
+    let [octets, place, pointers] = words else {
+        return None;
+    };
     let octets = octets_of(alloc, octets)?;
     let (place, pointers) = (
         place.parse::<usize>().ok()?,

@@ -27,27 +27,33 @@ impl Section {
     /// A line of a zone, or one that asks something of it.
     pub fn reply(&mut self, alloc: Global, name: &str, rest: &str) -> Option<String> {
         let words = words(alloc, rest)?;
-        match (name, words.as_slice()) {
-            ("zone", [apex]) => self.begin(alloc, apex),
-            ("rr", [owner, rtype, octets]) => self.put(alloc, owner, rtype, octets),
-            ("made", _) => self.make(alloc),
-            ("says", [name, rtype]) => self.says(alloc, false, name, rtype),
-            ("says-opt-out", [name, rtype]) => self.says(alloc, true, name, rtype),
-            ("exists", [name]) => self.exists(alloc, name),
-            ("nsec", [keys, name]) => self.nsec_types(alloc, *keys == "keys", name),
-            ("nsec3", [keys, name]) => self.nsec3_types(alloc, *keys == "keys", name),
+        match name {
+            "zone" => self.begin(alloc, &words),
+            "rr" => self.put(alloc, &words),
+            "made" => self.make(alloc),
+            "says" => self.says(alloc, false, &words),
+            "says-opt-out" => self.says(alloc, true, &words),
+            "exists" => self.exists(alloc, &words),
+            "nsec" => self.nsec_types(alloc, &words),
+            "nsec3" => self.nsec3_types(alloc, &words),
             _ => None,
         }
     }
 
     /// Begins a zone without records.
-    fn begin(&mut self, alloc: Global, apex: &str) -> Option<String> {
+    fn begin(&mut self, alloc: Global, words: &[&str]) -> Option<String> {
+        let [apex] = words else {
+            return None;
+        };
         self.apex = labels_of(alloc, apex)?;
         self.records.clear();
         text(alloc, "ok")
     }
 
-    fn put(&mut self, alloc: Global, owner: &str, rtype: &str, octets: &str) -> Option<String> {
+    fn put(&mut self, alloc: Global, words: &[&str]) -> Option<String> {
+        let [owner, rtype, octets] = words else {
+            return None;
+        };
         let (owner, octets) = (labels_of(alloc, owner)?, octets_of(alloc, octets)?);
         let octets = Octets::from_slice(alloc, &octets).ok()?;
         let record = PlainRecord::new(alloc, &owner, rtype.parse::<u16>().ok()?, octets);
@@ -62,7 +68,10 @@ impl Section {
         text(alloc, "ok")
     }
 
-    fn says(&self, alloc: Global, opt_out: bool, name: &str, rtype: &str) -> Option<String> {
+    fn says(&self, alloc: Global, opt_out: bool, words: &[&str]) -> Option<String> {
+        let [name, rtype] = words else {
+            return None;
+        };
         let (labels, rtype) = (labels_of(alloc, name)?, rtype.parse::<u16>().ok()?);
         let said = self
             .zone
@@ -72,22 +81,31 @@ impl Section {
         verdict(alloc, &said)
     }
 
-    fn exists(&self, alloc: Global, name: &str) -> Option<String> {
+    fn exists(&self, alloc: Global, words: &[&str]) -> Option<String> {
+        let [name] = words else {
+            return None;
+        };
         let labels = labels_of(alloc, name)?;
         text(alloc, yes_or_no(self.zone.as_ref()?.exists(&labels)))
     }
 
     /// The types that the NSEC record of an owner tells of.
-    fn nsec_types(&self, alloc: Global, with_keys: bool, name: &str) -> Option<String> {
-        let labels = labels_of(alloc, name)?;
-        let types = self.zone.as_ref()?.nsec_types(alloc, with_keys, &labels);
+    fn nsec_types(&self, alloc: Global, words: &[&str]) -> Option<String> {
+        let [keys, name] = words else {
+            return None;
+        };
+        let (zone, labels) = (self.zone.as_ref()?, labels_of(alloc, name)?);
+        let types = zone.nsec_types(alloc, *keys == "keys", &labels);
         joined(alloc, &types.ok()?, ",")
     }
 
     /// The types that the NSEC3 record of a name tells of.
-    fn nsec3_types(&self, alloc: Global, with_keys: bool, name: &str) -> Option<String> {
-        let labels = labels_of(alloc, name)?;
-        let types = self.zone.as_ref()?.nsec3_types(alloc, with_keys, &labels);
+    fn nsec3_types(&self, alloc: Global, words: &[&str]) -> Option<String> {
+        let [keys, name] = words else {
+            return None;
+        };
+        let (zone, labels) = (self.zone.as_ref()?, labels_of(alloc, name)?);
+        let types = zone.nsec3_types(alloc, *keys == "keys", &labels);
         joined(alloc, &types.ok()?, ",")
     }
 }

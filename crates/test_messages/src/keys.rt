@@ -13,7 +13,10 @@ use test_lines::{joined, octets_of, printed, text, yes_or_no};
 type ReadRrsig<'a> = Rrsig<&'a [u8], ParsedName<'a>>;
 
 /// A key of its fields.
-pub fn key(alloc: Global, flags: &str, algorithm: &str, octets: &str) -> Option<String> {
+pub fn key(alloc: Global, words: &[&str]) -> Option<String> {
+    let [flags, algorithm, octets] = words else {
+        return None;
+    };
     let octets = octets_of(alloc, octets)?;
     let algorithm = SecurityAlgorithm::from_int(algorithm.parse::<u8>().ok()?);
     let flags = flags.parse::<u16>().ok()?;
@@ -22,7 +25,10 @@ pub fn key(alloc: Global, flags: &str, algorithm: &str, octets: &str) -> Option<
 }
 
 /// A key of its data.
-pub fn key_of(alloc: Global, octets: &str) -> Option<String> {
+pub fn key_of(alloc: Global, words: &[&str]) -> Option<String> {
+    let [octets] = words else {
+        return None;
+    };
     let octets = octets_of(alloc, octets)?;
     if octets.len() > 65_535 {
         return None;
@@ -45,7 +51,10 @@ fn key_text(alloc: Global, key: &Dnskey<&[u8]>) -> Option<String> {
 }
 
 /// Data in order, each once.
-pub fn ranked(alloc: Global, list: &str) -> Option<String> {
+pub fn ranked(alloc: Global, words: &[&str]) -> Option<String> {
+    let [list] = words else {
+        return None;
+    };
     let (mut ranked, mut texts) = (Vec::new(alloc), Vec::new(alloc));
     for octets in list_of(alloc, list)? {
         put_data(&mut ranked, octets).ok()?;
@@ -57,7 +66,10 @@ pub fn ranked(alloc: Global, list: &str) -> Option<String> {
 }
 
 /// DS records of algorithm 5 and these tags in order, each once.
-pub fn digests(alloc: Global, list: &str) -> Option<String> {
+pub fn digests(alloc: Global, words: &[&str]) -> Option<String> {
+    let [list] = words else {
+        return None;
+    };
     let mut set = Vec::new(alloc);
     for tag in list.split(',') {
         put_ranked(&mut set, digest(alloc, tag)?).ok()?;
@@ -72,7 +84,10 @@ fn digest(alloc: Global, tag: &str) -> Option<Ds<Vec<u8>>> {
 }
 
 /// The fields of a signature, as spelled and in canonical form.
-pub fn fields(alloc: Global, octets: &str) -> Option<String> {
+pub fn fields(alloc: Global, words: &[&str]) -> Option<String> {
+    let [octets] = words else {
+        return None;
+    };
     let octets = octets_of(alloc, octets)?;
     let rrsig: ReadRrsig<'_> = Rrsig::parse(&mut Parser::from_ref(&octets)).ok()?;
     let (mut spelled, mut canonical) = (Vec::new(alloc), Vec::new(alloc));
@@ -83,7 +98,10 @@ pub fn fields(alloc: Global, octets: &str) -> Option<String> {
 }
 
 /// The octets that a signature is made over, of an owner's data.
-pub fn signed(alloc: Global, octets: &str, owner: &str, list: &str) -> Option<String> {
+pub fn signed(alloc: Global, words: &[&str]) -> Option<String> {
+    let [octets, owner, list] = words else {
+        return None;
+    };
     let (octets, owner) = (octets_of(alloc, octets)?, name_of(alloc, owner)?);
     let rrsig: ReadRrsig<'_> = Rrsig::parse(&mut Parser::from_ref(&octets)).ok()?;
     let canonical = list_of(alloc, list)?;

@@ -56,40 +56,40 @@ fn reply(alloc: Global, section: &mut Section<'_>, line: &str) -> Option<String>
 
 fn of_names(alloc: Global, name: &str, rest: &str) -> Option<String> {
     let words = words(alloc, rest)?;
-    match (name, words.as_slice()) {
-        ("name", [octets, place]) => read::read(alloc, octets, place),
-        ("is", [octets, place, name]) => read::is_name(alloc, octets, place, name),
-        ("flat", [octets, place]) => read::at_place(alloc, octets, place),
-        ("whole", [octets]) => read::whole(alloc, octets),
-        ("compare", [first, second]) => name_answers::compare(alloc, first, second),
-        ("parts", [name, count]) => name_answers::parts(alloc, name, count),
+    match name {
+        "name" => read::read(alloc, &words),
+        "is" => read::is_name(alloc, &words),
+        "flat" => read::at_place(alloc, &words),
+        "whole" => read::whole(alloc, &words),
+        "compare" => name_answers::compare(alloc, &words),
+        "parts" => name_answers::parts(alloc, &words),
         _ => None,
     }
 }
 
 fn of_messages(alloc: Global, name: &str, rest: &str) -> Option<String> {
     let words = words(alloc, rest)?;
-    match (name, words.as_slice()) {
-        ("message", [octets]) => records::message(alloc, octets),
-        ("data", [octets]) => records::data(alloc, octets),
-        ("write", words) => records::written(alloc, words),
-        ("numbers", [first, second]) => records::numbers(alloc, first, second),
-        ("canonical", [octets]) => records::canonical(alloc, octets),
-        ("form", [octets]) => records::form(alloc, octets),
-        ("data-form", [rtype, octets]) => records::data_form(alloc, rtype, octets),
+    match name {
+        "message" => records::message(alloc, &words),
+        "data" => records::data(alloc, &words),
+        "write" => records::written(alloc, &words),
+        "numbers" => records::numbers(alloc, &words),
+        "canonical" => records::canonical(alloc, &words),
+        "form" => records::form(alloc, &words),
+        "data-form" => records::data_form(alloc, &words),
         _ => None,
     }
 }
 
 fn of_keys(alloc: Global, name: &str, rest: &str) -> Option<String> {
     let words = words(alloc, rest)?;
-    match (name, words.as_slice()) {
-        ("key", [flags, algorithm, octets]) => keys::key(alloc, flags, algorithm, octets),
-        ("key-data", [octets]) => keys::key_of(alloc, octets),
-        ("ranked", [list]) => keys::ranked(alloc, list),
-        ("digests", [tags]) => keys::digests(alloc, tags),
-        ("fields", [rrsig]) => keys::fields(alloc, rrsig),
-        ("signed", [rrsig, owner, list]) => keys::signed(alloc, rrsig, owner, list),
+    match name {
+        "key" => keys::key(alloc, &words),
+        "key-data" => keys::key_of(alloc, &words),
+        "ranked" => keys::ranked(alloc, &words),
+        "digests" => keys::digests(alloc, &words),
+        "fields" => keys::fields(alloc, &words),
+        "signed" => keys::signed(alloc, &words),
         _ => None,
     }
 }

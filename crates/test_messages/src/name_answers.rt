@@ -6,7 +6,10 @@ use std::alloc::Global;
 use test_lines::{order_word, printed, text, yes_or_no};
 
 /// How a name stands to another, how the other way round, and how the second to its copy; and what is above what.
-pub fn compare(alloc: Global, first: &str, second: &str) -> Option<String> {
+pub fn compare(alloc: Global, words: &[&str]) -> Option<String> {
+    let [first, second] = words else {
+        return None;
+    };
     let (first, second) = (name_of(alloc, first)?, name_of(alloc, second)?);
     let copy = copy_name(alloc, &second).ok()?;
     let there = order_word(first.name_cmp(&second));
@@ -26,7 +29,10 @@ fn above(first: &Name<Vec<u8>>, second: &Name<Vec<u8>>) -> &'static str {
 }
 
 /// The parts of a name: its lengths, its stars, its wildcard, its last labels, so many of them, and its octets.
-pub fn parts(alloc: Global, name: &str, count: &str) -> Option<String> {
+pub fn parts(alloc: Global, words: &[&str]) -> Option<String> {
+    let [name, count] = words else {
+        return None;
+    };
     let name = name_of(alloc, name)?;
     let last = name.suffix(alloc, name.depth().min(count.parse::<usize>().ok()?));
     let (counts, stars) = (counts(alloc, &name)?, stars(alloc, &name)?);

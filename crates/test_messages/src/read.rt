@@ -9,7 +9,10 @@ use std::alloc::Global;
 use test_lines::{octets_of, printed, refused, text, yes_or_no};
 
 /// The name at a place of a message, as spelled and in canonical form, and the place behind it.
-pub fn read(alloc: Global, octets: &str, place: &str) -> Option<String> {
+pub fn read(alloc: Global, words: &[&str]) -> Option<String> {
+    let [octets, place] = words else {
+        return None;
+    };
     let octets = octets_of(alloc, octets)?;
     match read_name(&octets, place.parse::<usize>().ok()?) {
         Ok((name, end)) => both_forms(alloc, &name, end),
@@ -35,14 +38,20 @@ fn is_copied(alloc: Global, name: &ParsedName<'_>) -> Option<bool> {
 }
 
 /// Whether the name at a place of a message is this one.
-pub fn is_name(alloc: Global, octets: &str, place: &str, name: &str) -> Option<String> {
+pub fn is_name(alloc: Global, words: &[&str]) -> Option<String> {
+    let [octets, place, name] = words else {
+        return None;
+    };
     let octets = octets_of(alloc, octets)?;
     let (read, _) = read_name(&octets, place.parse::<usize>().ok()?).ok()?;
     text(alloc, yes_or_no(read.name_eq(&name_of(alloc, name)?)))
 }
 
 /// The name that octets have at a place, without pointers, and the place behind it.
-pub fn at_place(alloc: Global, octets: &str, place: &str) -> Option<String> {
+pub fn at_place(alloc: Global, words: &[&str]) -> Option<String> {
+    let [octets, place] = words else {
+        return None;
+    };
     let octets = octets_of(alloc, octets)?;
     match name_at_place(alloc, &octets, place.parse::<usize>().ok()?).ok()? {
         Some((name, end)) => {
@@ -54,7 +63,10 @@ pub fn at_place(alloc: Global, octets: &str, place: &str) -> Option<String> {
 }
 
 /// The one name that octets are, and how many labels it has.
-pub fn whole(alloc: Global, octets: &str) -> Option<String> {
+pub fn whole(alloc: Global, words: &[&str]) -> Option<String> {
+    let [octets] = words else {
+        return None;
+    };
     match name_from_octets(alloc, &octets_of(alloc, octets)?).ok()? {
         Some(name) => {
             let (spelled, depth) = (wire_of(alloc, &name)?, name.depth());

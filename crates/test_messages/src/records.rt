@@ -12,7 +12,10 @@ use std::borrow::CowSlice;
 use test_lines::{octets_of, printed, refused};
 
 /// What a message asks, and its records.
-pub fn message(alloc: Global, octets: &str) -> Option<String> {
+pub fn message(alloc: Global, words: &[&str]) -> Option<String> {
+    let [octets] = words else {
+        return None;
+    };
     let octets = octets_of(alloc, octets)?;
     match read_message(&octets) {
         Ok(view) => contents(alloc, &octets, &view),
@@ -21,7 +24,10 @@ pub fn message(alloc: Global, octets: &str) -> Option<String> {
 }
 
 /// A message in canonical form: its octets, and what they read as.
-pub fn canonical(alloc: Global, octets: &str) -> Option<String> {
+pub fn canonical(alloc: Global, words: &[&str]) -> Option<String> {
+    let [octets] = words else {
+        return None;
+    };
     let octets = octets_of(alloc, octets)?;
     match canonical_message(alloc, &octets) {
         Ok(octets) => {
@@ -34,7 +40,10 @@ pub fn canonical(alloc: Global, octets: &str) -> Option<String> {
 }
 
 /// A message as whoever verifies signatures is to see it: its octets, unless they are those that were received.
-pub fn form(alloc: Global, octets: &str) -> Option<String> {
+pub fn form(alloc: Global, words: &[&str]) -> Option<String> {
+    let [octets] = words else {
+        return None;
+    };
     canonical_reads_back();
     data_stay_in_form();
     names_are_read_so();
@@ -47,7 +56,10 @@ pub fn form(alloc: Global, octets: &str) -> Option<String> {
 }
 
 /// Whether data by themselves are canonical, and whether every signer signs them alike.
-pub fn data_form(alloc: Global, rtype: &str, octets: &str) -> Option<String> {
+pub fn data_form(alloc: Global, words: &[&str]) -> Option<String> {
+    let [rtype, octets] = words else {
+        return None;
+    };
     let (rtype, octets) = (
         Rtype::from_int(rtype.parse().ok()?),
         octets_of(alloc, octets)?,
@@ -88,7 +100,10 @@ fn one_record(alloc: Global, message: &[u8], record: &ViewRecord<'_>) -> Option<
 }
 
 /// The canonical data of the first record of a message; and what they say, of a link and a signature.
-pub fn data(alloc: Global, octets: &str) -> Option<String> {
+pub fn data(alloc: Global, words: &[&str]) -> Option<String> {
+    let [octets] = words else {
+        return None;
+    };
     let octets = octets_of(alloc, octets)?;
     let record = read_message(&octets).ok()?.records().next()?;
     let canonical = printed(alloc, &record.canonical_data(alloc, &octets).ok()??)?;
@@ -133,7 +148,10 @@ pub fn written(alloc: Global, words: &[&str]) -> Option<String> {
 }
 
 /// Two numbers as they are written.
-pub fn numbers(alloc: Global, first: &str, second: &str) -> Option<String> {
+pub fn numbers(alloc: Global, words: &[&str]) -> Option<String> {
+    let [first, second] = words else {
+        return None;
+    };
     let mut out = Vec::new(alloc);
     push_u16(&mut out, first.parse::<u16>().ok()?).ok()?;
     push_u32(&mut out, second.parse::<u32>().ok()?).ok()?;

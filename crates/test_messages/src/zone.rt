@@ -45,55 +45,52 @@ impl<'h> Section<'h> {
     /// A line of a zone, or one that asks something of it.
     pub fn reply(&mut self, alloc: Global, name: &str, rest: &str) -> Option<String> {
         let words = words(alloc, rest)?;
-        match (name, words.as_slice()) {
-            ("zone", [apex]) => self.begin(alloc, apex),
-            ("soa", [serial]) => self.put_soa(alloc, serial),
-            ("rr", [owner, class, ttl, rtype, octets]) => {
-                let octets = octets_of(alloc, octets)?;
-                self.put(alloc, record(alloc, owner, class, ttl, rtype, octets)?)
-            }
-            ("ns", [owner, ttl, server]) => self.put(alloc, ns(alloc, owner, ttl, server)?),
-            ("nsec3", [iterations, salt, opt_out, limit]) => {
-                self.put_mode(alloc, iterations, salt, opt_out, limit)
-            }
-            ("in-form", _) => self.in_form(alloc),
-            ("accept", _) => self.accept(alloc),
-            ("ask", [name, rtype]) => self.ask(alloc, name, rtype),
-            ("has", [name, rtype]) => self.has(alloc, name, rtype),
-            ("exists", [name]) => self.exists(alloc, name),
-            ("ttl", [name, rtype]) => self.ttl(alloc, name, rtype),
-            ("apex", _) => self.of_apex(alloc),
+        match name {
+            "zone" => self.begin(alloc, &words),
+            "soa" => self.put_soa(alloc, &words),
+            "rr" => self.put(alloc, record(alloc, &words)?),
+            "ns" => self.put(alloc, ns(alloc, &words)?),
+            "nsec3" => self.put_mode(alloc, &words),
+            "in-form" => self.in_form(alloc),
+            "accept" => self.accept(alloc),
+            "ask" => self.ask(alloc, &words),
+            "has" => self.has(alloc, &words),
+            "exists" => self.exists(alloc, &words),
+            "ttl" => self.ttl(alloc, &words),
+            "apex" => self.of_apex(alloc),
             _ => None,
         }
     }
 
     /// Asks for a chain of hashes, with opt-out where the word says `yes`.
-    fn put_mode(
-        &mut self,
-        alloc: Global,
-        iterations: &str,
-        salt: &str,
-        opt_out: &str,
-        limit: &str,
-    ) -> Option<String> {
+    fn put_mode(&mut self, alloc: Global, words: &[&str]) -> Option<String> {
+        let [iterations, salt, opt_out, limit] = words else {
+            return None;
+        };
         self.mode = Mode::Nsec3 {
             iterations: iterations.parse::<u16>().ok()?,
             salt: Nsec3Salt::from_str(alloc, salt).ok()?,
-            opt_out: opt_out == "yes",
+            opt_out: *opt_out == "yes",
         };
         self.limit = limit.parse::<u16>().ok()?;
         text(alloc, "ok")
     }
 
     /// Begins a zone without records.
-    fn begin(&mut self, alloc: Global, apex: &str) -> Option<String> {
+    fn begin(&mut self, alloc: Global, words: &[&str]) -> Option<String> {
+        let [apex] = words else {
+            return None;
+        };
         self.apex = Some(name_of(alloc, apex)?);
         self.records.clear();
         self.zone = None;
         text(alloc, "ok")
     }
 
-    fn put_soa(&mut self, alloc: Global, serial: &str) -> Option<String> {
+    fn put_soa(&mut self, alloc: Global, words: &[&str]) -> Option<String> {
+        let [serial] = words else {
+            return None;
+        };
         let record = match &self.apex {
             Some(apex) => soa(alloc, apex, serial)?,
             None => return None,
@@ -128,18 +125,27 @@ impl<'h> Section<'h> {
         }
     }
 
-    fn has(&self, alloc: Global, name: &str, rtype: &str) -> Option<String> {
+    fn has(&self, alloc: Global, words: &[&str]) -> Option<String> {
+        let [name, rtype] = words else {
+            return None;
+        };
         let (name, rtype) = (name_of(alloc, name)?, rtype_of(rtype)?);
         text(alloc, yes_or_no(self.zone.as_ref()?.has(&name, rtype)))
     }
 
-    fn exists(&self, alloc: Global, name: &str) -> Option<String> {
+    fn exists(&self, alloc: Global, words: &[&str]) -> Option<String> {
+        let [name] = words else {
+            return None;
+        };
         let name = name_of(alloc, name)?;
         text(alloc, yes_or_no(self.zone.as_ref()?.exists(&name)))
     }
 
     /// The TTL of an RRset.
-    fn ttl(&self, alloc: Global, name: &str, rtype: &str) -> Option<String> {
+    fn ttl(&self, alloc: Global, words: &[&str]) -> Option<String> {
+        let [name, rtype] = words else {
+            return None;
+        };
         let (name, rtype) = (name_of(alloc, name)?, rtype_of(rtype)?);
         let ttl = self.zone.as_ref()?.ttl_at(&name, rtype);
         ttl.as_secs().to_string(alloc).ok()
@@ -153,7 +159,10 @@ impl<'h> Section<'h> {
     }
 
     /// The answer to a question; none of the types of a chain is asked for.
-    fn ask(&self, alloc: Global, name: &str, rtype: &str) -> Option<String> {
+    fn ask(&self, alloc: Global, words: &[&str]) -> Option<String> {
+        let [name, rtype] = words else {
+            return None;
+        };
         let (name, rtype) = (name_of(alloc, name)?, rtype_of(rtype)?);
         if rtype.to_int() == 47 || rtype.to_int() == 50 {
             return None;
@@ -168,14 +177,11 @@ fn rtype_of(word: &str) -> Option<Rtype> {
 }
 
 /// A record with opaque data.
-fn record(
-    alloc: Global,
-    owner: &str,
-    class: &str,
-    ttl: &str,
-    rtype: &str,
-    octets: Vec<u8>,
-) -> Option<ZoneRecord> {
+fn record(alloc: Global, words: &[&str]) -> Option<ZoneRecord> {
+    let [owner, class, ttl, rtype, octets] = words else {
+        return None;
+    };
+    let octets = octets_of(alloc, octets)?;
     let class = Class::from_int(class.parse::<u16>().ok()?);
     let ttl = Ttl::from_secs(ttl.parse::<u32>().ok()?);
     let data = UnknownRecordData::from_octets(rtype_of(rtype)?, octets).ok()?;
@@ -184,7 +190,10 @@ fn record(
 }
 
 /// A name server of an owner.
-fn ns(alloc: Global, owner: &str, ttl: &str, server: &str) -> Option<ZoneRecord> {
+fn ns(alloc: Global, words: &[&str]) -> Option<ZoneRecord> {
+    let [owner, ttl, server] = words else {
+        return None;
+    };
     let ttl = Ttl::from_secs(ttl.parse::<u32>().ok()?);
     let data = ZoneRecordData::Ns(Ns::new(name_of(alloc, server)?));
     Some(Record::new(name_of(alloc, owner)?, Class::IN, ttl, data))

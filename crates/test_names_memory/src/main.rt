@@ -1,19 +1,12 @@
 //! Calls on names that are refused memory, each told on a line with whether it said so, left what it worked on as it was, and then
 //! succeeded. `tests/refusals` runs the program once for each growth, with that one refused; what is printed is the same.
-//!
-//! The tests are of names that no line of `test_names` carries: buffers of fixed sizes, what is written in place, walks from
-//! places, and faults that no text brings.
 #![tactic(auto)]
 
 mod appended;
 mod building;
 mod copied;
 mod fixed;
-#[cfg(test)]
-mod label_tests;
 mod made;
-#[cfg(test)]
-mod name_tests;
 mod printed;
 mod refused;
 

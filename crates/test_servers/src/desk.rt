@@ -149,39 +149,51 @@ impl Desk {
 
     /// What is said of it altered.
     fn altered(&self, alloc: Global, name: &str, words: &[&str]) -> Option<Outcome> {
-        let zone = self.zone.as_ref()?;
-        match (name, words) {
-            ("altered", [_kind, octets]) => {
-                let octets = octets_of(alloc, octets)?;
-                self.outcome(alloc, &zone.ds, &octets, zone.moment)
-            }
-            ("cut", [count]) => {
-                let left = self.answer.len().checked_sub(count.parse::<usize>().ok()?)?;
-                self.outcome(alloc, &zone.ds, self.answer.get(..left)?, zone.moment)
-            }
-            ("at", [now]) => {
-                self.outcome(alloc, &zone.ds, &self.answer, now.parse::<u64>().ok()?)
-            }
-            ("beside", [list]) => {
-                let set = ds_set(alloc, list)?;
-                self.outcome(alloc, &set, &self.answer, zone.moment)
-            }
-            ("with", ["one-moment"]) => self.as_held_with(
-                alloc,
-                Flags {
-                    one_moment: true,
-                    ..PLAIN
-                },
-            ),
-            ("with", ["as-received"]) => self.as_held_with(
-                alloc,
-                Flags {
-                    as_received: true,
-                    ..PLAIN
-                },
-            ),
+        match name {
+            "altered" => self.with_octets(alloc, words),
+            "cut" => self.cut(alloc, words),
+            "at" => self.at(alloc, words),
+            "beside" => self.beside(alloc, words),
+            "with" => self.as_held_with(alloc, flags_of(words)?),
             _ => None,
         }
+    }
+
+    /// What is said of other octets in its place.
+    fn with_octets(&self, alloc: Global, words: &[&str]) -> Option<Outcome> {
+        let [_kind, octets] = words else {
+            return None;
+        };
+        let (zone, octets) = (self.zone.as_ref()?, octets_of(alloc, octets)?);
+        self.outcome(alloc, &zone.ds, &octets, zone.moment)
+    }
+
+    /// What is said of it without so many octets at its end.
+    fn cut(&self, alloc: Global, words: &[&str]) -> Option<Outcome> {
+        let [count] = words else {
+            return None;
+        };
+        let zone = self.zone.as_ref()?;
+        let left = self.answer.len().checked_sub(count.parse::<usize>().ok()?)?;
+        self.outcome(alloc, &zone.ds, self.answer.get(..left)?, zone.moment)
+    }
+
+    /// What is said of it at another moment.
+    fn at(&self, alloc: Global, words: &[&str]) -> Option<Outcome> {
+        let [now] = words else {
+            return None;
+        };
+        let zone = self.zone.as_ref()?;
+        self.outcome(alloc, &zone.ds, &self.answer, now.parse::<u64>().ok()?)
+    }
+
+    /// What is said of it beside another DS set.
+    fn beside(&self, alloc: Global, words: &[&str]) -> Option<Outcome> {
+        let [list] = words else {
+            return None;
+        };
+        let (zone, set) = (self.zone.as_ref()?, ds_set(alloc, list)?);
+        self.outcome(alloc, &set, &self.answer, zone.moment)
     }
 
     /// What is said of the answer that is held, judged so.
@@ -189,4 +201,15 @@ impl Desk {
         let zone = self.zone.as_ref()?;
         self.outcome_with(alloc, &zone.ds, &self.answer, zone.moment, flags)
     }
+}
+
+/// The flags that a word names.
+fn flags_of(words: &[&str]) -> Option<Flags> {
+    let mut flags = PLAIN;
+    match *words.first()? {
+        "one-moment" => flags.one_moment = true,
+        "as-received" => flags.as_received = true,
+        _ => return None,
+    }
+    Some(flags)
 }

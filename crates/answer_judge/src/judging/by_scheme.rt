@@ -5,7 +5,7 @@ ghost use Rattle.answer_scheme.specs.Answers.{answers_by};
 ghost use Rattle.answer_judge.specs.Meeting.{JudgesSo};
 
 use crate::case::Case;
-use answer_judge_facts::verdict::{Judgement, Refused};
+use answer_judge_keys::verdict::{Judgement, Refused};
 use answer_scheme::counting::SchemeChecks;
 use answer_scheme::scheme::Scheme;
 use denial_nsec3_hash::hasher::Nsec3Hasher;

@@ -2,14 +2,13 @@
 ghost use Rattle.std.specs.Prelude.{◌≡◌, ◌≤◌, ◌+◌, not, IfErr, None};
 ghost use Rattle.std.specs.List.{list_any};
 ghost use Rattle.answer_scheme.specs.Answers.{NoneVerified};
-ghost use Rattle.answer_judge_facts.specs.Facts.{RefusesFirst};
-ghost use Rattle.answer_judge_facts.specs.Judging.{hash_bound};
+ghost use Rattle.answer_judge_keys.specs.Judging.{RefusesFirst, hash_bound};
 ghost use Rattle.answer_judge_facts.specs.Judged.{are_alike, are_mixed, are_over, judged_facts, judged_proof, said, AnswersAs};
 ghost use Rattle.answer_judge_facts.specs.Counted.{hashes_of_facts, hashes_of_proof, Counts};
 
 use crate::case::Case;
 use answer_judge_facts::facts::Proof;
-use answer_judge_facts::verdict::{Refusal, Verdict};
+use answer_judge_keys::verdict::{Refusal, Verdict};
 use answer_judge_rules::decide::{Facts, HashLink, decide};
 use answer_scheme::checks::Checks;
 use std::alloc::Global;

@@ -5,9 +5,9 @@ ghost use Rattle.messages.specs.Record.{spelled};
 ghost use Rattle.answer_judge.specs.Stages.{FindsSigned, FindsUnsigned};
 ghost use Rattle.answer_judge_facts.specs.Asked.{PassesSought};
 ghost use Rattle.answer_judge_facts.specs.Counted.{tries};
-ghost use Rattle.answer_judge_facts.specs.Facts.{is_signature, is_trusted, is_usable};
+ghost use Rattle.answer_judge_keys.specs.Trusted.{is_signature, is_trusted, is_usable};
 ghost use Rattle.answer_judge_facts.specs.Judged.{trusting};
-ghost use Rattle.answer_judge_facts.specs.Judging.{keys_in};
+ghost use Rattle.answer_judge_keys.specs.Judging.{keys_in};
 ghost use Rattle.answer_judge_facts.specs.Sought.{answer_sought, keys_sought};
 ghost use Rattle.answer_judge_facts.specs.Times.{are_unlike, proof_times};
 ghost use Rattle.answer_judge_facts.specs.Verified.{verified_facts};
@@ -16,13 +16,13 @@ ghost use Rattle.answer_shared.specs.EqualTags.{has_equal_tags};
 
 use crate::case::Case;
 use answer_judge_facts::facts::{Proof, read_facts};
-use answer_judge_facts::keys::{
+use answer_judge_facts::signed_keys::are_verified;
+use answer_judge_keys::keys::{
     TaggedKey, has_equal_tags, ranked_keys, read_keys, trusted_keys, usable_keys,
 };
-use answer_judge_facts::signed_keys::are_verified;
-use answer_judge_facts::trust::Trust;
-use answer_judge_facts::verdict::Refusal;
-use answer_judge_facts::verifier::Verifier;
+use answer_judge_keys::trust::Trust;
+use answer_judge_keys::verdict::Refusal;
+use answer_judge_keys::verifier::Verifier;
 use answer_scheme::checks::Checks;
 use messages::ViewRecord;
 use messages::names::ZoneName;

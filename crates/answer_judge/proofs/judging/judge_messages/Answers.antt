@@ -10,13 +10,13 @@ use Rattle.answer_judge.specs.Beyond.{SaysBeyond}
 use Rattle.answer_judge.specs.Stages.{FindsUnsigned}
 use Rattle.answer_scheme.specs.Answers.{Answers, with_test}
 use Rattle.answer_judge_facts.specs.Counted.{hashes_beyond, hashes_of_proof, tries}
-use Rattle.answer_judge_facts.specs.Facts.{RefusesFirst, is_trusted}
+use Rattle.answer_judge_keys.specs.Trusted.{is_trusted}
 use Rattle.answer_judge_facts.specs.Judged.{AnswersAs, is_chained, judged_beyond, judged_proof, said, trusting}
-use Rattle.answer_judge_facts.specs.Judging.{Handing, IsRead, Refuses, keys_in, message_refusal}
+use Rattle.answer_judge_keys.specs.Judging.{Handing, IsRead, Refuses, RefusesFirst, keys_in, message_refusal}
 use Rattle.answer_judge_facts.specs.Sought.{answer_sought}
 use Rattle.answer_judge_facts.specs.Times.{are_unlike, proof_times}
 use Rattle.answer_judge_facts.specs.Verified.{verified_facts}
-use Rattle.answer_judge_facts.specs.declared.verdict.Refusal.{Refusal}
+use Rattle.answer_judge_keys.specs.declared.verdict.Refusal.{Refusal}
 use Rattle.answer_judge_facts.proofs.JudgeAsked.{agreed, agreed_by}
 use Rattle.answer_judge.proofs.JudgeAsks.{answer_pass, keys_pass}
 use Rattle.answer_judge.proofs.JudgeHashes.{counts_as, facts_hashed, none_hashed}

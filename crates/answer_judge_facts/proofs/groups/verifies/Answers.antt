@@ -2,7 +2,7 @@ use Rattle.std.proofs.Common.{◌≡◌, ◌==◌, ◌&&◌, true, not, length, 
 use Rattle.std.specs.Prelude.{Some}
 use Rattle.std.specs.List.{find}
 use Rattle.answer_scheme.specs.Answers.{with_test}
-use Rattle.answer_judge_facts.specs.Facts.{fits_key, is_due}
+use Rattle.answer_judge_keys.specs.Trusted.{fits_key, is_due}
 use Rattle.answer_judge_facts.specs.Marked.{data_in, signed_of}
 use Rattle.messages.specs.Message.{if_true}
 use Rattle.messages.specs.Record.{fields_read}

@@ -2,7 +2,7 @@ use Rattle.std.proofs.Common.{rules, ◌≡◌, ◌⊎◌, [], ◌∷◌, map, t
 use Rattle.messages.specs.Record.{spelled}
 use Rattle.answer_scheme.specs.Answers.{SignatureTest, with_test}
 use Rattle.answer_judge_facts.specs.Asked.{PassesRecord, bare}
-use Rattle.answer_judge_facts.specs.Facts.{is_signature}
+use Rattle.answer_judge_keys.specs.Trusted.{is_signature}
 use Rattle.answer_judge_facts.specs.Marked.{held_by, is_tried_in, marked}
 use Rattle.answer_judge_facts.specs.Counted.{one_if}
 use Rattle.answer_judge_facts.proofs.JudgeAsked.{agreed, agreed_by, bare_next, next_passes}

@@ -3,7 +3,7 @@ use Rattle.std.specs.List.{filter}
 use Rattle.messages.specs.Record.{spelled}
 use Rattle.answer_scheme.specs.Answers.{EachAgreeing, SignatureTest}
 use Rattle.answer_judge_facts.specs.Asked.{PassesGroups, bare}
-use Rattle.answer_judge_facts.specs.Facts.{is_signature}
+use Rattle.answer_judge_keys.specs.Trusted.{is_signature}
 use Rattle.answer_judge_facts.specs.Marked.{held_by, marked, tries_in}
 use Rattle.answer_judge_facts.specs.Ranked.{AreRanked}
 use Rattle.answer_judge_facts.proofs.groups.verify_groups.Given as goal

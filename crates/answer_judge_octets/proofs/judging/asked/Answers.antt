@@ -1,7 +1,7 @@
 use Rattle.std.proofs.Common.{◌≡◌, false, subst, sym, ◌∙◌, arith}
 use Rattle.definitions.specs.Limits.{pointer_limit}
 use Rattle.answer_judge_facts.specs.Asked.{is_candidate}
-use Rattle.answer_judge_facts.specs.Judging.{answer_of, verifications_of}
+use Rattle.answer_judge_keys.specs.Judging.{answer_of, verifications_of}
 use Rattle.answer_judge_octets.specs.Asking.{PassesEach, due_beyond, is_out_of_memory}
 use Rattle.answer_judge_octets.specs.Table.{answers_of}
 use Rattle.answer_judge_octets.proofs.LackingTried.{asked_if_any, counted}

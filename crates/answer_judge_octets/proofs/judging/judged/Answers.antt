@@ -2,7 +2,7 @@ use Rattle.std.proofs.Common.{rules, ◌≡◌, ◌<◌, false, inl, subst, sym,
 use Rattle.std.specs.Prelude.{Some, None, Ok}
 use Rattle.definitions.specs.Limits.{pointer_limit}
 use Rattle.answer_judge_facts.specs.Asked.{is_candidate}
-use Rattle.answer_judge_facts.specs.Judging.{answer_of, verifications_of}
+use Rattle.answer_judge_keys.specs.Judging.{answer_of, verifications_of}
 use Rattle.answer_judge_octets.specs.Asking.{PassesLacking, due_by, is_out_of_memory}
 use Rattle.answer_judge_octets.specs.Table.{answers_of, passes_in, tried}
 use Rattle.answer_judge_octets.proofs.HonestTable.{stays_honest}

@@ -1,5 +1,5 @@
 use Rattle.std.proofs.Common.{inl, inr, refl, subst, ap, arith, rules}
-use Rattle.answer_judge_facts.specs.Judging.{Refuses, Says}
+use Rattle.answer_judge_keys.specs.Judging.{Refuses, Says}
 use Rattle.answer_judge_rules.specs.Rules.{verdict_of}
 use Rattle.answer_judge.proofs.JudgedWholly.{agrees_too, each_wholly}
 use Rattle.answer_judge.proofs.case.Case.judge.Goals as goal

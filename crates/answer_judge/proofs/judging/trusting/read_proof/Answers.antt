@@ -5,8 +5,8 @@ use Rattle.messages.specs.Record.{spelled}
 use Rattle.answer_scheme.specs.Answers.{with_test}
 use Rattle.answer_judge_facts.specs.Asked.{PassesSought}
 use Rattle.answer_judge_facts.specs.Counted.{tries}
-use Rattle.answer_judge_facts.specs.Judging.{Handing}
-use Rattle.answer_judge_facts.specs.KeyOrder.{Ranks}
+use Rattle.answer_judge_keys.specs.Judging.{Handing}
+use Rattle.answer_judge_keys.specs.KeyOrder.{Ranks}
 use Rattle.answer_judge_facts.specs.Sought.{answer_sought}
 use Rattle.answer_judge_facts.specs.Times.{are_unlike, proof_times}
 use Rattle.answer_judge_facts.specs.Verified.{verified_facts}

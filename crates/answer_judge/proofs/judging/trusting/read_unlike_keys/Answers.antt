@@ -1,7 +1,7 @@
 use Rattle.std.proofs.Common.{◌≡◌, true, map, inr, refl, sym, ap, subst, ◌∙◌}
 use Rattle.messages.specs.Record.{spelled}
-use Rattle.answer_judge_facts.specs.Judging.{keys_in}
-use Rattle.answer_judge_facts.specs.KeyOrder.{Ranks}
+use Rattle.answer_judge_keys.specs.Judging.{keys_in}
+use Rattle.answer_judge_keys.specs.KeyOrder.{Ranks}
 use Rattle.answer_shared.specs.EqualTags.{has_equal_tags}
 use Rattle.answer_judge.proofs.judging.trusting.read_unlike_keys.Goals as goal
 

@@ -9,9 +9,9 @@ use Rattle.answer_scheme.specs.Answers.{Answers, SignatureTest, with_test}
 use Rattle.answer_judge.specs.Stages.{are_signed, tries_of_keys, trusting_named}
 use Rattle.answer_judge_facts.specs.Asked.{PassesSought}
 use Rattle.answer_judge_facts.specs.Counted.{tries}
-use Rattle.answer_judge_facts.specs.Facts.{is_trusted}
-use Rattle.answer_judge_facts.specs.Judging.{Handing}
-use Rattle.answer_judge_facts.specs.KeyOrder.{Ranks}
+use Rattle.answer_judge_keys.specs.Trusted.{is_trusted}
+use Rattle.answer_judge_keys.specs.Judging.{Handing}
+use Rattle.answer_judge_keys.specs.KeyOrder.{Ranks}
 use Rattle.answer_judge_facts.specs.Sought.{keys_sought}
 use Rattle.answer_judge_facts.specs.Verified.{Trusting, is_verified}
 use Rattle.answer_judge_facts.proofs.JudgeAsked.{agreed_by}

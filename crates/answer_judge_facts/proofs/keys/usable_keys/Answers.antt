@@ -1,7 +1,0 @@
-use Rattle.std.proofs.Common.{rules}
-use Rattle.std.proofs.lemmas.List.Elements.{filter_from_retain}
-use Rattle.answer_judge_facts.specs.Facts.{is_usable}
-use Rattle.answer_judge_facts.proofs.keys.usable_keys.Goals as goal
-
-pub returns : goal.returns
-returns c = filter_from_retain _ is_usable (λ p x b q t. search rules) _ _ _ c.retain.ensures.filtered

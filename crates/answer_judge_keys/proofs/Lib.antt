@@ -1,0 +1,7 @@
+pub mod DataOrder
+pub mod GivenKeys
+pub mod GivenSorted
+pub mod JudgeKeys
+pub mod KeyClashes
+pub mod KeyPlaces
+pub mod Searching

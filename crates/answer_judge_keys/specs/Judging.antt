@@ -1,0 +1,144 @@
+-- What a judge is handed, what it answers, and what it promises.
+use Rattle.std.specs.Prelude.{◌≡◌, MatchBool, ℕ, ◌+◌, ◌≤◌, Bool, true, false, not, ◌&&◌, ◌==◌, List, [], filter, length, Option, Some, None, Result, Ok, Err, IsTrue, nat_eq, if◌then◌else◌}
+use Rattle.std.specs.List.{filter_map}
+use Rattle.definitions.specs.Name.{Name, same}
+use Rattle.definitions.specs.Dnskey.{Dnskey, Ds, dnskey_of_data}
+use Rattle.definitions.specs.Zone.{Verdict, Unsigned}
+use Rattle.messages.specs.Message.{Spelled, Asked, message, data_of}
+use Rattle.answer_shared.specs.Asking.{is_allowed}
+use Rattle.answer_shared.specs.EqualTags.{has_equal_tags}
+use Rattle.answer_judge_rules.specs.Rules.{verdict_of}
+use Rattle.answer_scheme.specs.Moments.{second_of}
+use Rattle.answer_judge_keys.specs.declared.verdict.Refusal.{Refusal}
+use Rattle.answer_judge_keys.specs.declared.verdict.Refusal.TheVariants as r
+use Rattle.answer_judge_keys.specs.declared.verdict.Judgement.{Judgement}
+use Rattle.answer_judge_keys.specs.declared.verdict.Refused.{Refused}
+
+-- what a judge answers, apart from its counts
+pub data Answer : Type 0 where
+  Says : Verdict → Answer
+  Refuses : Refusal → Answer
+
+abbrev pub answer_of : Result Judgement Refused → Answer
+answer_of (Ok j) = Says (verdict_of j.verdict)
+answer_of (Err e) = Refuses e.refusal
+
+abbrev pub verifications_of : Result Judgement Refused → ℕ
+verifications_of (Ok j) = j.verifications
+verifications_of (Err e) = e.verifications
+
+abbrev pub hashes_of : Result Judgement Refused → ℕ
+hashes_of (Ok j) = j.hashes
+hashes_of (Err e) = e.hashes
+
+-- what it is handed; the moment in whole seconds modulo 2^32
+pub record Handing : Type 0 where
+  pub apex : Name
+  pub ds : List Ds
+  pub dnskey_bytes : List ℕ
+  pub answer_bytes : List ℕ
+  pub asked : Asked
+  pub now : ℕ
+  pub limit : ℕ
+  -- whether the signatures by which the answer is verified must be of one inception and one expiration
+  pub one_moment : Bool
+
+-- at a moment in nanoseconds
+abbrev pub handed : Name → List Ds → List ℕ → List ℕ → Asked → ℕ → ℕ → Bool → Handing
+handed apex ds dnskey_bytes answer_bytes asked at limit one_moment = record {
+  apex = apex;
+  ds = ds;
+  dnskey_bytes = dnskey_bytes;
+  answer_bytes = answer_bytes;
+  asked = asked;
+  now = second_of at;
+  limit = limit;
+  one_moment = one_moment;
+}
+
+-- ---- the first refusals
+
+-- the same question, names up to case
+abbrev pub same_question : Asked → Asked → Bool
+same_question a b = same a.name b.name && (a.rtype == b.rtype) && (a.class == b.class)
+
+-- the keys of a DNSKEY answer: at the apex, class IN, data that read as a key
+abbrev pub key_at : List ℕ → Name → Spelled → Option Dnskey
+key_at m apex s = if same s.owner apex && (s.rtype == 48) && (s.class == 1) then dnskey_of_data (data_of m s) else None
+
+abbrev pub keys_in : List ℕ → Name → List Spelled → List Dnskey
+keys_in m apex rs = filter_map (key_at m apex) rs
+
+-- what the messages themselves bring, beside a DS set that isn't empty
+abbrev pub message_refusal : ℕ → Handing → Option Refusal
+message_refusal k h = elim (message k h.dnskey_bytes) [
+  | Err e ↦ Some r.BadDnskeyMessage
+  | Ok keys ↦ elim (message k h.answer_bytes) [
+    | Err e ↦ Some r.BadAnswerMessage
+    | Ok answer ↦
+        if not (same_question keys.asked (record { name = h.apex; rtype = 48; class = 1 }) && same_question answer.asked h.asked) then Some r.QuestionMismatch
+        else if has_equal_tags (keys_in h.dnskey_bytes h.apex keys.records) then Some r.EqualTags
+        else None
+  ]
+]
+
+-- the first of the refusals that stand in what is handed in, in their order
+abbrev pub first_refusal : ℕ → Handing → Option Refusal
+first_refusal k h =
+    if not (is_allowed h.apex h.asked) then Some r.QuestionNotAllowed
+    else if nat_eq (length h.ds) 0 then None
+    else message_refusal k h
+
+-- these refusals stand in what is handed in; the others depend on the checks too
+abbrev pub is_first : Refusal → Bool
+is_first r.QuestionNotAllowed = true
+is_first r.BadDnskeyMessage = true
+is_first r.BadAnswerMessage = true
+is_first r.QuestionMismatch = true
+is_first r.EqualTags = true
+is_first _ = false
+
+-- Both messages are read, and their questions compared, without memory: where it ran out, the messages bring no other
+-- refusal than that of equal tags.
+abbrev pub IsRead : Option Refusal → Type 0
+IsRead None = Unit {0}
+IsRead (Some r.EqualTags) = Unit {0}
+IsRead (Some e) = ⊥
+
+-- An answer is such a refusal exactly where it is the first, but that memory may run out after the messages were read.
+abbrev pub AnswersFirst : Answer → Option Refusal → Type 0
+AnswersFirst (Says w) first = first ≡ None
+AnswersFirst (Refuses r.Memory) first = IsRead first
+AnswersFirst (Refuses e) first = MatchBool (is_first e) (first ≡ Some e) (first ≡ None)
+
+abbrev pub RefusesFirst : Refusal → Option Refusal → Type 0
+RefusesFirst e first = AnswersFirst (Refuses e) first
+
+-- with no DS there is nothing to check, whatever the bytes
+pub record IsUnsignedOnly (answer : Answer) (verifications hashes : ℕ) : Type 0 where
+  pub says : answer ≡ Says Unsigned
+  pub none_verified : verifications ≡ 0
+  pub none_hashed : hashes ≡ 0
+
+abbrev pub EmptyIsUnsigned : Handing → Answer → ℕ → ℕ → Type 0
+EmptyIsUnsigned h answer v k = IsTrue (is_allowed h.apex h.asked) → h.ds ≡ [] → IsUnsignedOnly answer v k
+
+-- ---- bounds
+
+-- signature records that a message spells, 0 where it can't be read
+abbrev pub signatures_in : ℕ → List ℕ → ℕ
+signatures_in k m = elim (message k m) [ Err e ↦ 0 | Ok read ↦ length (filter (λ s. nat_eq s.rtype 46) read.records) ]
+
+abbrev pub verification_bound : ℕ → Handing → ℕ
+verification_bound k h = signatures_in k h.dnskey_bytes + signatures_in k h.answer_bytes
+
+-- the labels of the question's name, the root's counted, and one
+abbrev pub hash_bound : Handing → ℕ
+hash_bound h = length h.asked.name + 2
+
+-- what every judgement keeps, whatever is handed in
+pub record Judges (k : ℕ) (h : Handing) (answer : Answer) (verifications hashes : ℕ) : Type 0 where
+  pub first : AnswersFirst answer (first_refusal k h)
+  pub empty : EmptyIsUnsigned h answer verifications hashes
+  pub verifications_bound : verifications ≤ verification_bound k h
+  pub hashes_bound : hashes ≤ hash_bound h

@@ -1,0 +1,4 @@
+pub mod HashRefusal
+pub mod Judging
+pub mod KeyOrder
+pub mod Trusted

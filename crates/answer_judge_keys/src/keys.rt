@@ -1,0 +1,375 @@
+//! The keys of a DNSKEY answer, and which of them are trusted (RFC 4035, 5.2).
+ghost use Rattle.std.specs.Prelude.{◌≡◌, ◌≤◌, IfOk, filter, length, map};
+ghost use Rattle.std.specs.List.{find, list_any};
+ghost use Rattle.std.specs.Option.{option_map};
+ghost use Rattle.definitions.specs.Dnskey.{dnskey_data, key_tag};
+ghost use Rattle.answer_judge_keys.specs.Trusted.{fits_key, is_usable, is_trusted, names_key};
+ghost use Rattle.answer_shared.specs.EqualTags.{clashes, has_equal_tags};
+ghost use Rattle.answer_judge_keys.specs.Judging.{key_at, keys_in};
+ghost use Rattle.messages.specs.Message.{data_of};
+ghost use Rattle.messages.specs.Record.{fields_read, spelled};
+ghost use Rattle.answer_judge_keys.specs.KeyOrder.{Ranks, is_before, key_cmp};
+ghost use Rattle.std.specs.List.Sorted.{IsSortedBy};
+ghost use Rattle.std.specs.Ordering.{is_lt};
+
+use crate::trust::Signature;
+use crate::verifier::Verifier;
+use answer_scheme::checks::Checks;
+use answer_scheme::error::SchemeError;
+use answer_shared::dnskey::{Dnskey, ZoneKey, key_of_data};
+use denial_data::Ds;
+use messages::ViewRecord;
+use messages::names::{Name, ToName, ZoneName};
+use names_rdata::data::ComposeRecordData;
+use names_rdata::rtype::Rtype;
+use numbers::algorithm::SecurityAlgorithm;
+use numbers::class::Class;
+use std::alloc::{AllocError, Global};
+use std::cmp::Ordering;
+use std::marker::Model;
+
+/// So many keys at most are looked through one by one; among more one is searched.
+const FEW: usize = 8;
+
+/// A key with the data that spell it, and its tag, which is summed once. A contract sees the key.
+#[derive(Debug, Drop)]
+pub struct TaggedKey<'a> {
+    dnskey: Dnskey<&'a [u8]>,
+    rdata: &'a [u8],
+    tag: u16,
+}
+
+impl<'a> Model for TaggedKey<'a> {
+    ghost use Rattle.std.specs.Prelude.{◌≡◌};
+    ghost use Rattle.definitions.specs.Dnskey.{Dnskey, dnskey_data, key_tag};
+
+    ghost Value = { Dnskey };
+
+    ghost view = { λ k. k.dnskey };
+
+    ghost invariant = { λ k. (k.tag ≡ key_tag k.dnskey) × (k.rdata.now ≡ dnskey_data k.dnskey) };
+}
+
+impl<'a> TaggedKey<'a> {
+    /// A key, its data and its tag.
+    pub fn new(dnskey: Dnskey<&'a [u8]>, rdata: &'a [u8]) -> Self
+        requires { rdata.now ≡ dnskey_data dnskey }
+        ensures { result ≡ dnskey.entry }
+    {
+        let tag = dnskey.key_tag();
+        TaggedKey { dnskey, rdata, tag }
+    }
+
+    /// The key.
+    pub fn dnskey(&self) -> &Dnskey<&'a [u8]>
+        ensures { result.now ≡ self.now }
+    {
+        &self.dnskey
+    }
+
+    /// The octets of its data.
+    pub fn data(&self) -> &'a [u8]
+        ensures { result.now ≡ dnskey_data self.now }
+    {
+        self.rdata
+    }
+
+    /// The tag.
+    pub fn tag(&self) -> u16
+        ensures { result ≡ key_tag self.now }
+    {
+        self.tag
+    }
+
+    /// The same key over the same octets.
+    fn copied(&self) -> TaggedKey<'a>
+        ensures { result ≡ self.now }
+    {
+        let _len = self.dnskey.rdlen(false);
+        TaggedKey {
+            dnskey: Dnskey::new_unchecked(
+                self.dnskey.flags(),
+                self.dnskey.protocol(),
+                self.dnskey.algorithm(),
+                *self.dnskey.public_key(),
+            ),
+            rdata: self.rdata,
+            tag: self.tag,
+        }
+    }
+
+    /// Whether the key is a zone's key for DNSSEC (RFC 4034, 2.1.1 and 2.1.2).
+    fn is_usable(&self) -> bool
+        ensures { result ≡ is_usable self.now }
+    {
+        self.dnskey.is_zone_key() && self.dnskey.protocol() == 3
+    }
+
+    /// By tag, and then by algorithm.
+    fn key_cmp(&self, other: &TaggedKey) -> Ordering
+        ensures { result ≡ key_cmp self.now other.now }
+    {
+        let order = self.tag.cmp(&other.tag);
+        if order.is_ne() {
+            return order;
+        }
+        let own = self.dnskey.algorithm().to_int();
+        own.cmp(&other.dnskey.algorithm().to_int())
+    }
+
+    /// Whether the key stands before those of a signature's tag and algorithm.
+    fn is_before(&self, signature: &Signature) -> bool
+        ensures { result ≡ is_before (fields_read signature.now) self.now }
+    {
+        let tag = signature.key_tag();
+        let algorithm = signature.algorithm().to_int();
+        self.tag < tag || (self.tag == tag && self.dnskey.algorithm().to_int() < algorithm)
+    }
+
+    /// Whether the key has a signature's tag and algorithm.
+    fn fits(&self, signature: &Signature) -> bool
+        ensures { result ≡ fits_key (fields_read signature.now) self.now }
+    {
+        self.tag == signature.key_tag() && self.dnskey.algorithm() == signature.algorithm()
+    }
+
+    /// Whether another key is unlike this one and has its tag.
+    fn clashes(&self, other: &TaggedKey) -> bool
+        ensures { result ≡ clashes self.now other.now }
+    {
+        self.tag == other.tag && self.dnskey != other.dnskey
+    }
+}
+
+/// The keys that a DNSKEY answer's records spell at the apex, in order.
+pub fn read_keys<'a>(
+    alloc: Global,
+    apex: &Name<Vec<u8>>,
+    message: &'a [u8],
+    records: &[ViewRecord],
+) -> Result<Vec<TaggedKey<'a>>, AllocError>
+    ensures { IfOk result
+        (λ ks. ks.items ≡ keys_in message.now apex.now (map spelled records.now)) }
+{
+    let mut keys = Vec::new(alloc);
+    for record in records {
+        if let Some(key) = read_key(apex, message, record) {
+            keys.push(key)?;
+        }
+    }
+    Ok(keys)
+}
+
+/// The key that a record spells, if it stands at the apex and its data read.
+fn read_key<'a>(apex: &Name<Vec<u8>>, message: &'a [u8], view: &ViewRecord) -> Option<TaggedKey<'a>>
+    ensures { result ≡ key_at message.now apex.now (spelled view.now) }
+{
+    if view.rtype != Rtype::DNSKEY || view.class != Class::IN || !view.owner.name().name_eq(apex) {
+        return None;
+    }
+    let data = view.octets(message);
+    let dnskey = key_of_data(data)?;
+    Some(TaggedKey::new(dnskey, data))
+}
+
+/// The keys again, by tag and algorithm; none where they are few, since these are looked through.
+pub fn ranked_keys<'a>(
+    alloc: Global,
+    keys: &[TaggedKey<'a>],
+) -> Result<Vec<TaggedKey<'a>>, AllocError>
+    ensures { IfOk result (λ v. Ranks keys.now v.items) }
+{
+    if keys.len() <= FEW {
+        return Ok(Vec::new(alloc));
+    }
+    let mut ranked = copied_keys(alloc, keys)?;
+    ranked.sort_by(|a, b| a.key_cmp(b))?;
+    Ok(ranked)
+}
+
+/// The same keys over the same octets.
+fn copied_keys<'a>(alloc: Global, keys: &[TaggedKey<'a>]) -> Result<Vec<TaggedKey<'a>>, AllocError>
+    ensures { IfOk result (λ v. v.items ≡ keys.now) }
+{
+    let mut copies = Vec::with_capacity(alloc, keys.len())?;
+    for key in keys {
+        copies.push(key.copied())?;
+    }
+    Ok(copies)
+}
+
+/// The first key of a signature's tag and algorithm, of keys that stand by these too where they are many.
+pub fn key_of<'k, 'a>(
+    keys: &'k [TaggedKey<'a>],
+    ranked: &'k [TaggedKey<'a>],
+    signature: &Signature,
+) -> Option<&'k TaggedKey<'a>>
+    requires { Ranks keys.now ranked.now }
+    ensures { let fits = fits_key (fields_read signature.now) in
+        option_map (λ k. k.now) result ≡ find fits keys.now }
+{
+    if keys.len() <= FEW {
+        return first_key(keys, signature);
+    }
+    searched_key(ranked, signature)
+}
+
+/// The same, of keys that are looked through.
+fn first_key<'k, 'a>(keys: &'k [TaggedKey<'a>], signature: &Signature) -> Option<&'k TaggedKey<'a>>
+    ensures { let fits = fits_key (fields_read signature.now) in
+        option_map (λ k. k.now) result ≡ find fits keys.now }
+{
+    for key in keys {
+        if key.fits(signature) {
+            return Some(key);
+        }
+    }
+    None
+}
+
+/// The same, of keys by tag and algorithm.
+fn searched_key<'k, 'a>(
+    ranked: &'k [TaggedKey<'a>],
+    signature: &Signature,
+) -> Option<&'k TaggedKey<'a>>
+    requires { IsSortedBy (λ a b. is_lt (key_cmp a b)) ranked.now }
+    ensures { let fits = fits_key (fields_read signature.now) in
+        option_map (λ k. k.now) result ≡ find fits ranked.now }
+{
+    let place = ranked.partition_point(|key| key.is_before(signature));
+    if place == ranked.len() {
+        return None;
+    }
+    let key = &ranked[place];
+    if key.fits(signature) {
+        return Some(key);
+    }
+    None
+}
+
+/// Whether two unlike keys have one tag, of keys that stand by tag too where they are many.
+pub fn has_equal_tags(keys: &[TaggedKey], ranked: &[TaggedKey]) -> bool
+    requires { Ranks keys.now ranked.now }
+    ensures { result ≡ has_equal_tags keys.now }
+{
+    if keys.len() <= FEW {
+        return are_clashing(keys);
+    }
+    has_clashing_neighbors(ranked)
+}
+
+/// Whether two unlike keys side by side have one tag: among keys by tag these are all that do.
+fn has_clashing_neighbors(ranked: &[TaggedKey]) -> bool
+    requires { IsSortedBy (λ a b. is_lt (key_cmp a b)) ranked.now }
+    ensures { result ≡ has_equal_tags ranked.now }
+{
+    let mut place = 1;
+    while place < ranked.len() {
+        let before = place - 1;
+        if ranked[before].clashes(&ranked[place]) {
+            return true;
+        }
+        place += 1;
+    }
+    false
+}
+
+/// Whether two unlike keys have one tag, each beside each.
+fn are_clashing(keys: &[TaggedKey]) -> bool
+    ensures { result ≡ has_equal_tags keys.now }
+{
+    for key in keys {
+        if clashes_with_any(key, keys) {
+            return true;
+        }
+    }
+    false
+}
+
+/// Whether a key clashes with one of a list.
+fn clashes_with_any(key: &TaggedKey, keys: &[TaggedKey]) -> bool
+    ensures { result ≡ list_any (clashes key.now) keys.now }
+{
+    for other in keys {
+        if key.clashes(other) {
+            return true;
+        }
+    }
+    false
+}
+
+/// The keys that may sign what is in the zone.
+pub fn usable_keys<'a>(keys: Vec<TaggedKey<'a>>) -> Vec<TaggedKey<'a>>
+    ensures { result.items ≡ filter is_usable keys.entry.items }
+{
+    let mut usable = keys;
+    usable.retain(|key| key.is_usable());
+    usable
+}
+
+/// The keys that may sign the keys: the usable ones that a DS record names.
+pub fn trusted_keys<'a, C: Checks>(
+    apex: &Name<Vec<u8>>,
+    ds: &[Ds<Vec<u8>>],
+    keys: &[TaggedKey<'a>],
+    verifier: &mut Verifier<C>,
+) -> Result<Vec<TaggedKey<'a>>, AllocError>
+    ensures trusted { let a = C.answers verifier.old.checks.now in
+        IfOk result (λ ks. ks.items ≡ filter (is_trusted a apex.now ds.now) keys.now) }
+    ensures rest { verifier.new ≡ record verifier.old { octets = verifier.new.octets } }
+{
+    let mut trusted = Vec::new(verifier.alloc);
+    for key in keys {
+        if key.is_usable() && is_named(apex, ds, key, verifier)? {
+            trusted.push(key.copied())?;
+        }
+    }
+    Ok(trusted)
+}
+
+/// Whether a DS record names a key.
+fn is_named<C: Checks>(
+    apex: &Name<Vec<u8>>,
+    ds: &[Ds<Vec<u8>>],
+    key: &TaggedKey,
+    verifier: &mut Verifier<C>,
+) -> Result<bool, AllocError>
+    ensures named { let a = C.answers verifier.old.checks.now in
+        IfOk result (λ b. b ≡ list_any (names_key a apex.now key.now) ds.now) }
+    ensures rest { verifier.new ≡ record verifier.old { octets = verifier.new.octets } }
+{
+    for record in ds {
+        if names_key(apex, record, key, verifier)? {
+            return Ok(true);
+        }
+    }
+    Ok(false)
+}
+
+/// Whether one DS record names a key (RFC 4034, 5.1.4).
+fn names_key<C: Checks>(
+    apex: &Name<Vec<u8>>,
+    ds: &Ds<Vec<u8>>,
+    key: &TaggedKey,
+    verifier: &mut Verifier<C>,
+) -> Result<bool, AllocError>
+    ensures named { let a = C.answers verifier.old.checks.now in
+        IfOk result (λ b. b ≡ names_key a apex.now key.now ds.now) }
+    ensures rest { verifier.new ≡ record verifier.old { octets = verifier.new.octets } }
+{
+    if ds.key_tag() != key.tag() || ds.algorithm() != key.dnskey().algorithm() {
+        return Ok(false);
+    }
+    let octets = &mut *verifier.octets;
+    octets.clear();
+    apex.compose_canonical(octets)?;
+    key.dnskey().compose(octets)?;
+    match verifier
+        .checks
+        .digest(verifier.alloc, ds.digest_type(), octets)
+    {
+        Ok(digest) => Ok(digest == *ds.digest()),
+        Err(SchemeError::Failed) => Ok(false),
+        Err(SchemeError::Memory) => Err(AllocError),
+    }
+}
