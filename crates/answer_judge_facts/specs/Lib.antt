@@ -6,3 +6,4 @@ pub mod Ranked
 pub mod Sought
 pub mod Times
 pub mod Verified
+pub mod VerifiedProof

@@ -6,14 +6,13 @@ ghost use Rattle.std.specs.List.{list_any, filter_map, AllByRecursion};
 ghost use Rattle.messages.specs.Record.{spelled};
 ghost use Rattle.answer_judge_keys.specs.Trusted.{is_signature};
 ghost use Rattle.answer_judge_facts.specs.Asked.{PassesSought};
-ghost use Rattle.answer_judge_facts.specs.Counted.{tries};
+ghost use Rattle.answer_judge_facts.specs.VerifiedProof.{IsVerifiedProof};
 ghost use Rattle.answer_scheme.specs.Answers.{EachAgreeing, SignatureTest};
 ghost use Rattle.answer_judge_facts.specs.Sought.{answer_sought};
-ghost use Rattle.answer_judge_facts.specs.Times.{are_unlike, proof_times};
-ghost use Rattle.answer_judge_facts.specs.Verified.{is_known_datum, verified_facts};
+ghost use Rattle.answer_judge_facts.specs.Verified.{is_known_datum};
 ghost use Rattle.std.specs.List.Sorted.{IsPermutation, IsSortedBy};
 ghost use Rattle.std.specs.Ordering.{is_lt};
-ghost use Rattle.answer_judge_facts.specs.Marked.{held_by, data_in, facts_by, is_proved, is_chain_type, is_chain, is_record_of, has_place, holds_one, stands_alone, AreShort, IsAlone, AreGathered, link_by, hash_link_by, hash_link_of, rrset_verified};
+ghost use Rattle.answer_judge_facts.specs.Marked.{held_by, data_in, facts_by, is_proved, is_chain_type, is_chain, is_record_of, has_place, holds_one, AreShort, AreGathered, link_by, hash_link_by, hash_link_of, rrset_verified};
 ghost use Rattle.answer_judge_keys.specs.KeyOrder.{Ranks};
 ghost use Rattle.answer_judge_facts.specs.declared.groups.Group.{Group};
 ghost use Rattle.answer_judge_facts.specs.Ranked.{AreRanked, AskedLast, IsRun, alike_len, are_alike, chain_cmp, run_data};
@@ -55,21 +54,11 @@ pub fn read_facts<'a, C: Checks>(
     requires index { Ranks trust.now.keys.now trust.now.ranked.now }
     requires room { verifier.old.count + length records.now < 2 ^ 32 }
     requires other { is_chain_type rtype ≡ false }
-    ensures facts { EachAgreeing (C.answers verifier.old.checks.now)
+    ensures proves { EachAgreeing (C.answers verifier.old.checks.now)
         (C.agrees verifier.new.checks.now) (λ a. let w = held_by a trust.now in
         let m = message.now in let rs = map spelled records.now in
-        IfOk result (λ p. p.facts ≡ verified_facts w pointer_limit m rs name.now rtype)) }
-    ensures moments { EachAgreeing (C.answers verifier.old.checks.now)
-        (C.agrees verifier.new.checks.now) (λ a. let w = held_by a trust.now in
-        let m = message.now in let rs = map spelled records.now in
-        let times = proof_times w pointer_limit m rs name.now rtype in
-        IfOk result (λ p. p.is_of_moments ≡ are_unlike times)) }
-    ensures tried { EachAgreeing (C.answers verifier.old.checks.now)
-        (C.agrees verifier.new.checks.now) (λ a. let w = held_by a trust.now in
-        let m = message.now in let rs = map spelled records.now in
-        let sought = answer_sought pointer_limit m w.apex rs name.now rtype in
-        let count = verifier.old.count + tries w pointer_limit m sought [] rs in
-        IfOk result (λ _. verifier.new.count ≡ count)) }
+        IfOk result (λ p. IsVerifiedProof w pointer_limit m rs name.now rtype p
+        verifier.old.count verifier.new.count)) }
     ensures agrees { (test : SignatureTest) → C.agrees verifier.new.checks.now test
         → C.agrees verifier.old.checks.now test }
     ensures asked { (test : SignatureTest) → let m = message.now in

@@ -4,13 +4,11 @@ ghost use Rattle.definitions.specs.Limits.{pointer_limit};
 ghost use Rattle.messages.specs.Record.{spelled};
 ghost use Rattle.answer_judge.specs.Stages.{FindsSigned, FindsUnsigned};
 ghost use Rattle.answer_judge_facts.specs.Asked.{PassesSought};
-ghost use Rattle.answer_judge_facts.specs.Counted.{tries};
 ghost use Rattle.answer_judge_keys.specs.Trusted.{is_signature, is_trusted, is_usable};
 ghost use Rattle.answer_judge_facts.specs.Judged.{trusting};
 ghost use Rattle.answer_judge_keys.specs.Judging.{keys_in};
 ghost use Rattle.answer_judge_facts.specs.Sought.{answer_sought, keys_sought};
-ghost use Rattle.answer_judge_facts.specs.Times.{are_unlike, proof_times};
-ghost use Rattle.answer_judge_facts.specs.Verified.{verified_facts};
+ghost use Rattle.answer_judge_facts.specs.VerifiedProof.{IsVerifiedProof};
 ghost use Rattle.answer_scheme.specs.Answers.{EachAgreeing, SignatureTest};
 ghost use Rattle.answer_shared.specs.EqualTags.{has_equal_tags};
 
@@ -113,23 +111,12 @@ pub(crate) fn read_proof<'a, C: Checks>(
     requires room { verifier.old.count + length records.now < 2 ^ 32 }
     requires other { (case.now.asked.rtype == 47) ≡ false }
     requires other_too { (case.now.asked.rtype == 50) ≡ false }
-    ensures facts { EachAgreeing (C.answers verifier.old.checks.now)
+    ensures proves { EachAgreeing (C.answers verifier.old.checks.now)
         (C.agrees verifier.new.checks.now) (λ a. let h = case.now in
         let w = trusting a h keys.now in let rs = map spelled records.now in
-        let q = h.asked.name in let t = h.asked.rtype in
-        IfOk result (λ p. p.facts ≡ verified_facts w pointer_limit h.answer_bytes rs q t)) }
-    ensures moments { EachAgreeing (C.answers verifier.old.checks.now)
-        (C.agrees verifier.new.checks.now) (λ a. let h = case.now in
-        let w = trusting a h keys.now in let rs = map spelled records.now in
-        let times = proof_times w pointer_limit h.answer_bytes rs h.asked.name h.asked.rtype in
-        IfOk result (λ p. p.is_of_moments ≡ are_unlike times)) }
-    ensures tried { EachAgreeing (C.answers verifier.old.checks.now)
-        (C.agrees verifier.new.checks.now) (λ a. let h = case.now in
-        let w = trusting a h keys.now in let rs = map spelled records.now in
-        let m = h.answer_bytes in
-        let sought = answer_sought pointer_limit m h.apex rs h.asked.name h.asked.rtype in
-        let count = verifier.old.count + tries w pointer_limit m sought [] rs in
-        IfOk result (λ _. verifier.new.count ≡ count)) }
+        let m = h.answer_bytes in let q = h.asked.name in let t = h.asked.rtype in
+        IfOk result (λ p. IsVerifiedProof w pointer_limit m rs q t p
+        verifier.old.count verifier.new.count)) }
     ensures agrees { (test : SignatureTest) → C.agrees verifier.new.checks.now test
         → C.agrees verifier.old.checks.now test }
     ensures asked { (test : SignatureTest) → let h = case.now in let rs = map spelled records.now in

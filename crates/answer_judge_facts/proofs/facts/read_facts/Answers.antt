@@ -43,8 +43,8 @@ facts_of_groups-requires g c =
     let ranked = subst AreRanked (sym c.deref_mut.ensures.value) c.in_ok-groups.ensures.ranked in
     subst AreRanked (sym (over now old.items old.len len)) (ranked_next (held_by own c.args.trust.now) m rs c.deref_mut.result.now now (c.in_ok-verify_groups.ensures.marked own.verifies (inl refl)) ranked)
 
-pub returns-clause-facts : goal.returns-clause-facts
-returns-clause-facts g c = λ test h.
+pub returns-clause-proves : goal.returns-clause-proves
+returns-clause-proves g c = λ test h.
     let w = held_by (with_test (g.C.Checks.answers c.args.verifier.now.checks.now) test) c.args.trust.now in
     let m = c.args.message.now in
     let rs = map spelled c.args.records.now in
@@ -52,38 +52,15 @@ returns-clause-facts g c = λ test h.
     let t = c.args.rtype in
     let gs = c.deref_mut.result.now in
     let last : AskedLast m w.apex rs q t gs = subst (AskedLast m w.apex rs q t) (sym c.deref_mut.ensures.value) c.in_ok-groups.ensures in
+    let sought = answer_is m w.apex rs q t gs last in
     let old = c.in_ok-groups.groups in
     let now = c.verify_groups.new.groups in
     let len : old.len ≡ length now = search rules in
-    let all = over now old.items old.len len ∙ c.in_ok-verify_groups.ensures.marked test h ∙ marked_last w m rs q t gs last in
-    c.in_ok-facts.ensures (map (marked w m rs) last.chains) (marked w m rs last.asked) all ∙ facts_verified w m rs q t gs last
-
-pub returns-clause-moments : goal.returns-clause-moments
-returns-clause-moments g c = λ test h.
-    let w = held_by (with_test (g.C.Checks.answers c.args.verifier.now.checks.now) test) c.args.trust.now in
-    let m = c.args.message.now in
-    let rs = map spelled c.args.records.now in
-    let q = c.args.name.now in
-    let t = c.args.rtype in
-    let gs = c.deref_mut.result.now in
-    let last : AskedLast m w.apex rs q t gs = subst (AskedLast m w.apex rs q t) (sym c.deref_mut.ensures.value) c.in_ok-groups.ensures in
-    let old = c.in_ok-groups.groups in
-    let now = c.verify_groups.new.groups in
-    let len : old.len ≡ length now = search rules in
-    let all = c.deref-2.ensures.value ∙ over now old.items old.len len ∙ c.in_ok-verify_groups.ensures.marked test h in
-    c.are_unlike-is_of_moments.ensures ∙ times_verified w m rs q t gs (answer_is m w.apex rs q t gs last) c.deref-2.result.now all
-
-pub returns-clause-tried : goal.returns-clause-tried
-returns-clause-tried g c = λ test h.
-    let w = held_by (with_test (g.C.Checks.answers c.args.verifier.now.checks.now) test) c.args.trust.now in
-    let m = c.args.message.now in
-    let rs = map spelled c.args.records.now in
-    let q = c.args.name.now in
-    let t = c.args.rtype in
-    let gs = c.deref_mut.result.now in
-    let last : AskedLast m w.apex rs q t gs = subst (AskedLast m w.apex rs q t) (sym c.deref_mut.ensures.value) c.in_ok-groups.ensures in
-    c.in_ok-verify_groups.ensures.tried test h
-    ∙ ap (λ n. c.args.verifier.now.count + n) (tries_are w m (answer_sought pointer_limit m w.apex rs q t) gs rs (answer_is m w.apex rs q t gs last))
+    let all = over now old.items old.len len ∙ c.in_ok-verify_groups.ensures.marked test h in (
+      c.in_ok-facts.ensures (map (marked w m rs) last.chains) (marked w m rs last.asked) (all ∙ marked_last w m rs q t gs last) ∙ facts_verified w m rs q t gs last,
+      c.are_unlike-is_of_moments.ensures ∙ times_verified w m rs q t gs sought c.deref-2.result.now (c.deref-2.ensures.value ∙ all),
+      c.in_ok-verify_groups.ensures.tried test h ∙ ap (λ n. c.args.verifier.now.count + n) (tries_are w m (answer_sought pointer_limit m w.apex rs q t) gs rs sought),
+    )
 
 -- what passes for the RRsets that are sought passes for their groups
 module _ (test : SignatureTest) (keys : List Dnskey) (m : List ℕ) (apex : Name) (rs : List Spelled) (q : Name) (t : ℕ) (gs now : List Group) (is : now ≡ gs) (last : AskedLast m apex rs q t gs) where

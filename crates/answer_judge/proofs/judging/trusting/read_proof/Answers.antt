@@ -1,15 +1,14 @@
-use Rattle.std.proofs.Common.{◌≡◌, ◌||◌, ◌+◌, [], map, sym, ap, subst, ◌∙◌}
+use mathlib.Core.Path.{transport}
+use Rattle.std.proofs.Common.{◌||◌, map, sym, ap, subst, ◌∙◌}
 use Rattle.std.specs.Prelude.{IfOk, nat_eq}
 use Rattle.definitions.specs.Limits.{pointer_limit}
 use Rattle.messages.specs.Record.{spelled}
 use Rattle.answer_scheme.specs.Answers.{with_test}
 use Rattle.answer_judge_facts.specs.Asked.{PassesSought}
-use Rattle.answer_judge_facts.specs.Counted.{tries}
 use Rattle.answer_judge_keys.specs.Judging.{Handing}
 use Rattle.answer_judge_keys.specs.KeyOrder.{Ranks}
 use Rattle.answer_judge_facts.specs.Sought.{answer_sought}
-use Rattle.answer_judge_facts.specs.Times.{are_unlike, proof_times}
-use Rattle.answer_judge_facts.specs.Verified.{verified_facts}
+use Rattle.answer_judge_facts.specs.VerifiedProof.{IsVerifiedProof}
 use Rattle.answer_judge.proofs.judging.trusting.read_proof.Goals as goal
 
 pub read_facts-requires : goal.read_facts-requires
@@ -21,29 +20,17 @@ read_facts-requires g c =
       other = (λ i. (ap (λ (h : Handing). nat_eq h.asked.rtype 47) is ∙ c.requires.other) i || (ap (λ (h : Handing). nat_eq h.asked.rtype 50) is ∙ c.requires.other_too) i);
     }
 
-pub returns-clause-facts : goal.returns-clause-facts
-returns-clause-facts g c = λ test fits.
+pub returns-clause-proves : goal.returns-clause-proves
+returns-clause-proves g c = λ test fits.
     let is = c.case.view_is in
     let moment = c.timestamp.ensures ∙ ap (λ (h : Handing). h.now) is in
     let a = with_test (g.C.Checks.answers c.args.verifier.now.checks.now) test in
     let rs = map spelled c.args.records.now in
-    subst (λ x. IfOk c.read_facts.result (λ p. p.facts ≡ x)) (λ i. verified_facts (record { answers = a; apex = (is i).apex; keys = c.args.keys.now; now = moment i }) pointer_limit (is i).answer_bytes rs (is i).asked.name (is i).asked.rtype) (c.read_facts.ensures.facts test fits)
-
-pub returns-clause-moments : goal.returns-clause-moments
-returns-clause-moments g c = λ test fits.
-    let is = c.case.view_is in
-    let moment = c.timestamp.ensures ∙ ap (λ (h : Handing). h.now) is in
-    let a = with_test (g.C.Checks.answers c.args.verifier.now.checks.now) test in
-    let rs = map spelled c.args.records.now in
-    subst (λ x. IfOk c.read_facts.result (λ p. p.is_of_moments ≡ x)) (λ i. are_unlike (proof_times (record { answers = a; apex = (is i).apex; keys = c.args.keys.now; now = moment i }) pointer_limit (is i).answer_bytes rs (is i).asked.name (is i).asked.rtype)) (c.read_facts.ensures.moments test fits)
-
-pub returns-clause-tried : goal.returns-clause-tried
-returns-clause-tried g c = λ test fits.
-    let is = c.case.view_is in
-    let moment = c.timestamp.ensures ∙ ap (λ (h : Handing). h.now) is in
-    let a = with_test (g.C.Checks.answers c.args.verifier.now.checks.now) test in
-    let rs = map spelled c.args.records.now in
-    subst (λ n. IfOk c.read_facts.result (λ _. c.read_facts.new.verifier.count ≡ n)) (λ i. c.args.verifier.now.count + tries (record { answers = a; apex = (is i).apex; keys = c.args.keys.now; now = moment i }) pointer_limit (is i).answer_bytes (answer_sought pointer_limit (is i).answer_bytes (is i).apex rs (is i).asked.name (is i).asked.rtype) [] rs) (c.read_facts.ensures.tried test fits)
+    let before = c.args.verifier.now.count in
+    let after = c.read_facts.new.verifier.count in
+    transport
+    (λ i. IfOk c.read_facts.result (λ p. IsVerifiedProof (record { answers = a; apex = (is i).apex; keys = c.args.keys.now; now = moment i }) pointer_limit (is i).answer_bytes rs (is i).asked.name (is i).asked.rtype p before after))
+    (c.read_facts.ensures.proves test fits)
 
 pub returns-clause-asked : goal.returns-clause-asked
 returns-clause-asked g c = λ test passes.
