@@ -1,5 +1,5 @@
 -- Which keys a DS set trusts, and which signatures count (RFC 4034, 3 and 4; RFC 4035, 5; RFC 4592).
-use Rattle.std.specs.Prelude.{◌≡◌, MatchBool, ℕ, ◌/◌, ◌%◌, Bool, true, false, not, ◌&&◌, ◌||◌, ◌==◌, List, length, Option, Some, None, nat_eq, nat_le, nat_lt}
+use Rattle.std.specs.Prelude.{ℕ, ◌/◌, ◌%◌, Bool, true, false, not, ◌&&◌, ◌||◌, ◌==◌, List, length, Some, None, nat_eq, nat_le, nat_lt}
 use Rattle.std.specs.List.{find, list_any}
 use Rattle.std.specs.Str.{bytes_eq}
 use Rattle.definitions.specs.Name.{Name, same}

@@ -5,6 +5,23 @@ use names::{Finish, NameBuilder, PushError, PushNameError, RelativeName};
 use std::io;
 use test_refusals::Trial;
 
+/// Appends an octet, a few, a label or a name.
+fn append<const N: usize>(
+    builder: &mut NameBuilder<ArrayVec<u8, N>>,
+    name: &RelativeName<&[u8]>,
+    step: usize,
+) -> Result<(), PushError> {
+    match step {
+        0 => builder.push(b'a'),
+        1 => builder.append_slice(b"bc"),
+        2 => builder.append_label(b"d"),
+        _ => builder.append_name(name).map_err(|error| match error {
+            PushNameError::LongName => PushError::LongName,
+            PushNameError::ShortBuf => PushError::ShortBuf,
+        }),
+    }
+}
+
 /// Labels into a buffer of so many octets: each is taken exactly where it fits.
 fn takes_what_fits<const N: usize>(room: ArrayVec<u8, N>) -> bool {
     let Ok(mut builder) = NameBuilder::from_builder(room) else {
@@ -23,15 +40,7 @@ fn takes_what_fits<const N: usize>(room: ArrayVec<u8, N>) -> bool {
     .into_iter()
     .enumerate()
     {
-        let result = match step {
-            0 => builder.push(b'a'),
-            1 => builder.append_slice(b"bc"),
-            2 => builder.append_label(b"d"),
-            _ => builder.append_name(&name).map_err(|error| match error {
-                PushNameError::LongName => PushError::LongName,
-                PushNameError::ShortBuf => PushError::ShortBuf,
-            }),
-        };
+        let result = append(&mut builder, &name, step);
         if after.len() > N {
             return result == Err(PushError::ShortBuf) && builder.as_slice() == before;
         }
