@@ -1,4 +1,4 @@
-use Rattle.std.proofs.Common.{◌≡◌, true, map, inr, refl, sym, ap, subst, ◌∙◌}
+use Rattle.std.proofs.Common.{◌≡◌, map, inr, refl, sym, ap, subst, ◌∙◌}
 use Rattle.messages.specs.Record.{spelled}
 use Rattle.answer_judge_keys.specs.Judging.{keys_in}
 use Rattle.answer_judge_keys.specs.KeyOrder.{Ranks}

@@ -1,5 +1,5 @@
 use mathlib.Core.Path.{transport}
-use Rattle.std.proofs.Common.{◌≡◌, ℕ, Bool, List, ◌+◌, [], map, filter, true, false, refl, inr, sym, ap, subst, ◌∙◌, arith}
+use Rattle.std.proofs.Common.{◌≡◌, ℕ, Bool, List, ◌+◌, [], map, filter, refl, inr, sym, ap, subst, ◌∙◌, arith}
 use Rattle.definitions.specs.Dnskey.{Dnskey, dnskey_data}
 use Rattle.definitions.specs.Limits.{pointer_limit}
 use Rattle.definitions.specs.Zone.{sorted_data}
