@@ -7,3 +7,4 @@ pub mod Kept
 pub mod Failures
 pub mod Enclosers
 pub mod Concerned
+pub mod Replies

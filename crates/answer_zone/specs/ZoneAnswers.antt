@@ -1,10 +1,13 @@
 -- What a zone answers, before it is signed.
-use Rattle.std.specs.Prelude.{◌≡◌, ℕ, false, List, ◌++◌, length}
+use Rattle.std.specs.Prelude.{◌≡◌, ℕ, false, IfErr, IfOk, List, ◌++◌, Result, length}
 use Rattle.std.specs.List.{AllZip}
 use Rattle.definitions.specs.Name.{Name}
 use Rattle.definitions.specs.Zone.{Verdict, verdict, Records, NoName, StarRecords, Delegated}
+use Rattle.denial_nsec3_hash.specs.declared.hasher.HashError.{HashError}
 use Rattle.answer_shared.specs.GroupView.{Presents}
+use Rattle.answer_shared.specs.Hashing.{Hasher}
 use Rattle.answer_shared.specs.Served.{Group, Served, answer_groups}
+use Rattle.answer_zone.specs.HashedZone.{FailsFor, HashedZone, served_by}
 use Rattle.answer_zone.specs.declared.zone.answers.ZoneAnswer.{ZoneAnswer}
 
 -- an authoritative answer, one that no such name exists, or a referral (RFC 1035, 4.1.1)
@@ -24,6 +27,10 @@ pub record AnswersAs (s : Served) (name : Name) (t : ℕ) (a : ZoneAnswer) : Typ
   pub groups_are : AllZip Presents (a.answer.items ++ a.authority.items) (answer_groups s name t)
   pub split : length a.answer.items ≡ answered (verdict s.zone false name t)
   pub flags_are : a.flags ≡ flags_for (verdict s.zone false name t)
+
+-- what a call answers for a zone, or why it does not: a name that the proof speaks of was not hashed
+abbrev pub Replies : {H : Type 0} → (H → Hasher) → HashedZone H → Name → ℕ → Result ZoneAnswer HashError → Type 0
+Replies hash_of z q t r = IfOk r (AnswersAs (served_by hash_of z) q t) × IfErr r (FailsFor hash_of z q t)
 
 -- its flags, the RRsets of its answer section, and the others
 pub record Holds (flags : ℕ) (found rest : List Group) (a : ZoneAnswer) : Type 0 where

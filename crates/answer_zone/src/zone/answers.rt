@@ -1,5 +1,5 @@
 //! The RRsets of an answer.
-ghost use Rattle.std.specs.Prelude.{◌≡◌, ℕ, [], ◌∷◌, ◌++◌, ◌&&◌, ◌||◌, ◌==◌, None, true, false, map, IfErr, IfOk, OnOk};
+ghost use Rattle.std.specs.Prelude.{◌≡◌, [], ◌∷◌, ◌++◌, ◌&&◌, None, true, false, map, IfErr, IfOk, OnOk};
 ghost use Rattle.std.specs.List.{AllZip};
 ghost use Rattle.definitions.specs.Name.{at_or_above, low};
 ghost use Rattle.definitions.specs.Zone.{NoName, StarRecords, cut_above, exists, has};
@@ -16,8 +16,8 @@ ghost use Rattle.answer_zone_records.specs.OwnedRecords.{owned_by};
 ghost use Rattle.answer_zone_records.specs.Round.{IsCircle, IsRound};
 ghost use Rattle.answer_zone.specs.Placed.{IsCutRecords, IsNear};
 ghost use Rattle.answer_zone_records.specs.GroupRecords.{rrset_from};
-ghost use Rattle.answer_zone.specs.HashedZone.{FailsFor, IsHashFailure, served_by};
-ghost use Rattle.answer_zone.specs.ZoneAnswers.{AnswersAs, Holds};
+ghost use Rattle.answer_zone.specs.HashedZone.{IsHashFailure, served_by};
+ghost use Rattle.answer_zone.specs.ZoneAnswers.{Holds, Replies};
 ghost use Rattle.answer_zone.specs.Questions.{AnswersItself, IsPlain, LeavesOpen, zone_of};
 
 use crate::zone::ZoneRecords;
@@ -64,8 +64,7 @@ impl<'h, H: Nsec3Hasher> ZoneRecords<'h, H> {
         rtype: Rtype,
     ) -> Result<ZoneAnswer, HashError>
         requires { IsPlain rtype }
-        ensures answer { IfOk result (AnswersAs (served_by H.hash_of self.now) name.now rtype) }
-        ensures failed { IfErr result (FailsFor H.hash_of self.now name.now rtype) }
+        ensures replies { Replies H.hash_of self.now name.now rtype result }
         ensures concerned { let hash = H.hash_of self.now.hasher in
             at_or_above self.now.apex name.now ≡ true
             → IfErr result (IsHashFailure hash self.now.mode
@@ -91,8 +90,7 @@ impl<'h, H: Nsec3Hasher> ZoneRecords<'h, H> {
         requires plain { IsPlain rtype }
         requires near { IsNear name.now self.now.records near.now }
         requires told { LeavesOpen self.now name.now false }
-        ensures answer { IfOk result (AnswersAs (served_by H.hash_of self.now) name.now rtype) }
-        ensures failed { IfErr result (FailsFor H.hash_of self.now name.now rtype) }
+        ensures { Replies H.hash_of self.now name.now rtype result }
     {
         match self.asked(name, near, rtype) {
             Asked::Away(cut) => self.referral(alloc, &cut),
@@ -170,8 +168,7 @@ impl<'h, H: Nsec3Hasher> ZoneRecords<'h, H> {
         requires owned { owned.now ≡ owned_by name.now self.now.records }
         requires told { LeavesOpen self.now name.now false }
         requires own { AnswersItself self.now name.now rtype }
-        ensures answer { IfOk result (AnswersAs (served_by H.hash_of self.now) name.now rtype) }
-        ensures failed { IfErr result (FailsFor H.hash_of self.now name.now rtype) }
+        ensures { Replies H.hash_of self.now name.now rtype result }
     {
         self.keeps();
         if owned.has(rtype) {
@@ -198,8 +195,7 @@ impl<'h, H: Nsec3Hasher> ZoneRecords<'h, H> {
         requires told { LeavesOpen self.now name.now false }
         requires own { AnswersItself self.now name.now rtype }
         requires gone { exists (zone_of self.now) (low name.now) ≡ false }
-        ensures answer { IfOk result (AnswersAs (served_by H.hash_of self.now) name.now rtype) }
-        ensures failed { IfErr result (FailsFor H.hash_of self.now name.now rtype) }
+        ensures { Replies H.hash_of self.now name.now rtype result }
     {
         self.keeps();
         let around = self.around(alloc, name, near)?;

@@ -1,5 +1,5 @@
 //! Answers that opt-out leaves open (RFC 5155, 6, 7.2.4 and 7.2.7).
-ghost use Rattle.std.specs.Prelude.{◌≡◌, [], ◌∷◌, ◌++◌, ◌||◌, ◌==◌, None, true, false, IfErr, IfOk, OnOk};
+ghost use Rattle.std.specs.Prelude.{◌≡◌, [], ◌∷◌, ◌++◌, true, IfErr, IfOk, OnOk};
 ghost use Rattle.definitions.specs.Name.{low};
 ghost use Rattle.definitions.specs.Zone.{Open, has};
 ghost use Rattle.definitions.specs.ZoneChain.{optout_of};
@@ -7,9 +7,9 @@ ghost use Rattle.denial_laws.specs.OwnFacts.{spoken};
 ghost use Rattle.answer_shared.specs.GroupView.{Adds};
 ghost use Rattle.answer_shared.specs.Served.{expanded, proofs_of, soa, unsigned_ns};
 ghost use Rattle.answer_zone_records.specs.OwnedRecords.{owned_by};
-ghost use Rattle.answer_zone.specs.HashedZone.{FailsFor, IsHashFailure, served_by};
+ghost use Rattle.answer_zone.specs.HashedZone.{IsHashFailure, served_by};
 ghost use Rattle.answer_zone.specs.Placed.{IsCutRecords, IsNear};
-ghost use Rattle.answer_zone.specs.ZoneAnswers.{AnswersAs, Holds};
+ghost use Rattle.answer_zone.specs.ZoneAnswers.{Holds, Replies};
 ghost use Rattle.answer_zone.specs.Questions.{AnswersItself, IsPlain, LeavesOpen, zone_of};
 
 use crate::zone::ZoneRecords;
@@ -36,8 +36,7 @@ impl<'h, H: Nsec3Hasher> ZoneRecords<'h, H> {
         requires plain { IsPlain rtype }
         requires near { IsNear name.now self.now.records near.now }
         requires open { LeavesOpen self.now name.now true }
-        ensures answer { IfOk result (AnswersAs (served_by H.hash_of self.now) name.now rtype) }
-        ensures failed { IfErr result (FailsFor H.hash_of self.now name.now rtype) }
+        ensures { Replies H.hash_of self.now name.now rtype result }
     {
         match self.asked(name, near, rtype) {
             Asked::Away(cut) => self.open_referral(alloc, name, near, &cut),
@@ -85,8 +84,7 @@ impl<'h, H: Nsec3Hasher> ZoneRecords<'h, H> {
         requires near { IsNear name.now self.now.records near.now }
         requires open { LeavesOpen self.now name.now true }
         requires own { AnswersItself self.now name.now rtype }
-        ensures answer { IfOk result (AnswersAs (served_by H.hash_of self.now) name.now rtype) }
-        ensures failed { IfErr result (FailsFor H.hash_of self.now name.now rtype) }
+        ensures { Replies H.hash_of self.now name.now rtype result }
     {
         self.keeps();
         if self.stands(name, near) {

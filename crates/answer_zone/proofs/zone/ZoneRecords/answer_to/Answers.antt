@@ -20,7 +20,7 @@ returns-then-leaves_open-clause-concerned g c = λ inside.
     if_err_map _ _ c.open_answer.result
     (λ e h. fails_among (g.H.Nsec3Hasher.hash_of x.hasher) x.mode _ (concerned (low x.apex) (low c.args.name.now)) e
     (all_concerned z there x.mode c.args.name.now c.args.rtype (above-low x.apex c.args.name.now ∙ inside) (verdict z (optout_of x.mode) c.args.name.now c.args.rtype) refl) h)
-    c.open_answer.ensures.failed
+    c.open_answer.ensures.1
 
 pub returns-else-leaves_open-clause-concerned : goal.returns-else-leaves_open-clause-concerned
 returns-else-leaves_open-clause-concerned g c = λ inside.
@@ -30,4 +30,4 @@ returns-else-leaves_open-clause-concerned g c = λ inside.
     if_err_map _ _ c.told_answer.result
     (λ e h. fails_among (g.H.Nsec3Hasher.hash_of x.hasher) x.mode _ (concerned (low x.apex) (low c.args.name.now)) e
     (all_concerned z there x.mode c.args.name.now c.args.rtype (above-low x.apex c.args.name.now ∙ inside) (verdict z (optout_of x.mode) c.args.name.now c.args.rtype) refl) h)
-    c.told_answer.ensures.failed
+    c.told_answer.ensures.1
