@@ -4,14 +4,14 @@
 A chain is made once and once more of the same records, and the difference is divided by the records that were made, so
 that reading the input, sorting and starting the program fall away; what the tests of the conditions cost is counted by
 itself and taken off. Run it from anywhere; it builds crates/bench_counts first.
+
+usage: benches/chains.py [RECORDS]: zones of at most so many, 100,000 without it
 """
 import random
 import sys
 
-from counting import build, counted
+from counting import BENCH, PLAIN, build, counted
 
-BENCH = "bench_counts"
-PLAIN = "abcdefghijklmnopqrstuvwxyz0123456789"
 APEX = ["example. 6 soa", "example. 2 ns1"]
 
 

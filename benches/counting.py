@@ -1,9 +1,13 @@
 """Builds benches, and counts what they do, with callgrind and memcheck."""
 import pathlib
 import re
+import string
 import subprocess
 import sys
 
+# What counts all layers but the program itself; the signs of labels.
+BENCH = "bench_counts"
+PLAIN = string.ascii_lowercase + string.digits
 TOP = pathlib.Path(__file__).resolve().parent.parent
 FOUND = {"callgrind": r"Collected : (\d+)", "memcheck": r"total heap usage: ([\d,]+) allocs"}
 

@@ -6,9 +6,10 @@ A session is run once as it is and once more with more of the same lines, and th
 an event costs that only says that its place holds nothing is taken off answers and judgements, so that reading a line and
 printing fall away; an owner's set-up has the reading of its line in it. The bench's stand-in for
 signatures and digests, SHA-256, is part of the counts; how much of a judgement it is stands beside it, and how much it takes to
-decide from the facts that were verified. Zones have a chain of names, of which ten owners are asked and 10,000, or a chain
-of hashes, of which ten are. Numbers behind the command ask zones of so many owners for answers alone, with both chains:
-judgements.py 10 100000. Run it from anywhere; it builds crates/denialbench first.
+decide from the facts that were verified. Zones have NSEC records, where ten owners are asked and 10,000, or NSEC3 records,
+where ten are. Run it from anywhere; it builds crates/denialbench first.
+
+usage: benches/judgements.py [OWNERS..]: with numbers only answers, by both chains, of zones of so many owners
 """
 import re
 import subprocess
@@ -21,23 +22,23 @@ BENCH = "denialbench"
 TIMES = 50
 ASKED = (
     ("records", "n000004.example 1"),
-    ("no records of a type", "n000004.example 15"),
-    ("no such name", "n000004x.example 1"),
-    ("a wildcard's records", "x.w.example 16"),
-    ("no records of a type by a wildcard", "x.w.example 1"),
-    ("a delegation", "x.d.example 1"),
+    ("NODATA", "n000004.example 15"),
+    ("NXDOMAIN", "n000004x.example 1"),
+    ("a wildcard", "x.w.example 16"),
+    ("wildcard NODATA", "x.w.example 1"),
+    ("a referral", "x.d.example 1"),
 )
 # a wildcard and a delegation beside the addresses
 OTHERS = (
     "rr *.w.example 3600 1 16 0474657874",
     "rr d.example 3600 1 2 026e73076578616d706c6500",
 )
-CHAINS = {"names": "nsec 0 86400", "hashes": "nsec3 0 - 0 86400"}
+CHAINS = {"NSEC": "nsec 0 86400", "NSEC3": "nsec3 0 - 0 86400"}
 TOOLS = ("callgrind", "memcheck")
 DECIDE = r"deciding::judge_proof\b"
 
 
-def opening(owners, chain="names"):
+def opening(owners, chain="NSEC"):
     """A zone of so many owners whose keys have finished their first roll, and its DS set and DNSKEY answer."""
     words = [sys.executable, str(TOP / "benches/session.py"), str(owners)]
     session = subprocess.run(words, capture_output=True, text=True, check=True)
@@ -90,7 +91,7 @@ def answers(owners, chain):
 def grown(sizes):
     """Prints what answers take in zones of so many owners."""
     for chain in CHAINS:
-        print(f"\n| an answer, with a chain of {chain}, of | " + " | ".join(f"{owners:,} owners" for owners in sizes) + " |")
+        print(f"\n| an answer, by {chain}, of | " + " | ".join(f"{owners:,} owners" for owners in sizes) + " |")
         print("|---" * (len(sizes) + 1) + "|")
         for (what, _), cells in zip(ASKED, zip(*(answers(owners, chain) for owners in sizes))):
             print(row(what, cells), flush=True)
@@ -103,11 +104,11 @@ def main():
     print("| owners | set-up of an owner | blocks |\n|---|---|---|")
     for owners in (1_000, 10_000, 100_000):
         print(row(f"{owners:,}", counts(opening(owners), opening(2 * owners), owners)))
-    for owners, chain in ((10, "names"), (10_000, "names"), (10, "hashes")):
+    for owners, chain in ((10, "NSEC"), (10_000, "NSEC"), (10, "NSEC3")):
         start = [*opening(owners, chain), *(f"ask {asked} 7200" for _, asked in ASKED)]
         idle = counts(start, start + ["judge 0 1 9999 7200"] * TIMES, TIMES)
         heads = ("an answer", "blocks", "its judgement", "blocks", "SHA-256", "SHA-1", "deciding")
-        print(f"\n| what is asked of {owners:,} owners of a chain of {chain} | {' | '.join(heads)} |")
+        print(f"\n| what is asked of {owners:,} owners, {chain} | {' | '.join(heads)} |")
         print("|---" * (len(heads) + 1) + "|")
         for place, (what, asked) in enumerate(ASKED):
             answer = counts(start, start + [f"ask {asked} 7200"] * TIMES, TIMES)

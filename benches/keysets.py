@@ -6,9 +6,8 @@ builds crates/bench_counts first.
 """
 import sys
 
-from counting import build, counted
+from counting import BENCH, build, counted
 
-BENCH = "bench_counts"
 SIZES = (100, 1000, 4000)
 CALLS = (
     "`start_roll`, each key listed",

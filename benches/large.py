@@ -5,9 +5,8 @@ Each message is as full as it can be of one thing: owners, signatures, keys, rec
 judged once and three times, and half of the difference is printed. A signature is a copy of the octets that it is made over,
 so that verifying costs next to nothing. Run it from anywhere; it builds crates/bench_counts first.
 """
-from counting import build, counted
+from counting import BENCH, build, counted
 
-BENCH = "bench_counts"
 FULL = 65_535
 QUESTION, APEX = b"\xc0\x0c", b"\xc0\x0e"
 A, DNSKEY, RRSIG, NSEC, NSEC3, OTHER = 1, 48, 46, 47, 50, 65_280

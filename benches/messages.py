@@ -4,9 +4,8 @@
 A task is done once and once more on the same names, and the difference is divided by the names, so that reading the input
 and starting the program fall away. Run it from anywhere; it builds crates/bench_counts first.
 """
-from counting import build, counted
+from counting import BENCH, build, counted
 
-BENCH = "bench_counts"
 
 
 def wire(name):

@@ -7,10 +7,8 @@ reading the input and starting the program fall away. Run it from anywhere; it b
 import random
 import re
 
-from counting import TOP, build, counted
+from counting import BENCH, PLAIN, TOP, build, counted
 
-BENCH = "bench_counts"
-PLAIN = "abcdefghijklmnopqrstuvwxyz0123456789"
 
 
 def text(wire):

@@ -1,10 +1,12 @@
 #!/usr/bin/env python3
-"""Writes a session of N records and 200 questions, each answered and judged: session.py N > session.
+"""Writes a session of so many records and 200 questions, each answered and judged.
+
+usage: benches/session.py RECORDS >session
 
 The zone has one address at each of its owners, and its keys have finished their first roll. Half of the questions
 ask for a type that an owner lacks, half for a name that does not exist. Run the program on it with
 
-    time denialbench < session > /dev/null
+    time crates/denialbench/out/denialbench <session >/dev/null
 """
 import sys
 
@@ -33,5 +35,7 @@ def session(records):
         yield f"judge 0 1 {question + 2} 7200"
 
 
-for line in session(int(sys.argv[1])):
-    print(line)
+if __name__ == "__main__":
+    if len(sys.argv) != 2:
+        sys.exit("usage: benches/session.py RECORDS >session")
+    print(*session(int(sys.argv[1])), sep="\n")

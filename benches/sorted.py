@@ -3,14 +3,14 @@
 
 A pass is done once and once more on the same records, and the difference is divided by them, so that reading the input
 and starting the program fall away. Run it from anywhere; it builds crates/bench_counts first.
+
+usage: benches/sorted.py [RECORDS]: so many, 100,000 without it
 """
 import random
 import sys
 
-from counting import build, counted
+from counting import BENCH, PLAIN, build, counted
 
-BENCH = "bench_counts"
-PLAIN = "abcdefghijklmnopqrstuvwxyz0123456789"
 OWNERS = 12_581
 
 

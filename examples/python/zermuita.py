@@ -5,7 +5,7 @@
 
 `passes` is asked of each signature that is to be checked: a function of an `Ask` that says whether it passes, by a library of the
 caller's. A judgement has a verdict and, of records, their data. Where the messages prove none, `Refused` is raised; octets that
-can't be read raise `ValueError`. Calls may be made in any number of threads at once.
+can't be read raise `ValueError`, and `MemoryError` is raised where memory ran out. Calls may be made in any number of threads at once.
 """
 
 from __future__ import annotations
@@ -37,7 +37,10 @@ class Verdict(enum.IntEnum):
 
 
 class Refused(Exception):
-    """The messages prove no verdict: a validator calls them bogus. `reply` is the number of the reason, or that of `ASK`."""
+    """No verdict, which is bogus for most reasons: docs/use/CALLING.md has the table of replies.
+
+    `reply` is the number of the reason, or that of `ASK`.
+    """
 
     def __init__(self, reply: int, text: str) -> None:
         super().__init__(text)

@@ -8,6 +8,7 @@
  */
 #include "signature.h"
 
+#include <ctype.h>
 #include <inttypes.h>
 #include <search.h>
 #include <stdio.h>
@@ -40,11 +41,19 @@ static void fail(const char *line) {
     exit(2);
 }
 
+/* The octet that two hexadecimal digits spell, or -1. */
+static int octet_of(const char *digits) {
+    if (!isxdigit((unsigned char)digits[0]) || !isxdigit((unsigned char)digits[1])) {
+        return -1;
+    }
+    return (int)strtol((char[]){digits[0], digits[1], 0}, NULL, 16);
+}
+
 static void keep(struct kept *kept, const char *digits) {
     uint8_t *octets = or_exit(malloc(strlen(digits) / 2 + 1));
     size_t len = 0;
-    for (; sscanf(digits, "%2" SCNx8, &octets[len]) == 1; digits += 2) {
-        len++;
+    for (int octet; (octet = octet_of(digits)) >= 0; digits += 2) {
+        octets[len++] = (uint8_t)octet;
     }
     kept->at = or_exit(realloc(kept->at, (kept->len + 1) * sizeof *kept->at));
     kept->at[kept->len++] = (struct zermuita_octets){octets, len};
