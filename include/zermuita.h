@@ -35,7 +35,7 @@ enum zermuita_reply {
     ZERMUITA_WILDCARD_NODATA = 4, /* a wildcard stands for the name and has no records of the type */
     ZERMUITA_DELEGATED = 5,       /* the name is at or below a delegation */
     ZERMUITA_OPTOUT = 6,          /* an opt-out chain leaves open what is there */
-    ZERMUITA_INSECURE = 7,        /* the DS set is empty, so nothing in the zone is signed */
+    ZERMUITA_INSECURE = 7,        /* the DS set is empty, so nothing vouches for the zone's keys */
 
     /* Refusals: why there is no verdict. */
     ZERMUITA_QUESTION_NOT_ALLOWED = 16,   /* the name is not in the zone, the class is not IN, or the type is not judged */
@@ -71,8 +71,8 @@ struct zermuita_octets {
 };
 
 /*
- * What is judged. Names are in wire form, without pointers (RFC 1035, 3.1). A case of an older header, which is smaller, is read
- * as if what it lacks were 0.
+ * What is judged. Names are in wire form, without pointers (RFC 1035, 3.1). A case of an older header, which ends in front of
+ * `one_moment`, is read as if what it lacks were 0.
  */
 struct zermuita_case {
     size_t size;                    /* sizeof(struct zermuita_case) */
@@ -139,7 +139,8 @@ static inline int zermuita_octets_are(struct zermuita_octets *octets) {
  * is read overlaps `out` or `report`.
  *
  * On ZERMUITA_ASK `out` has all signatures that are to be checked: check each (zermuita_next_ask), put the octets of `out` at
- * the end of `checked`, and call again. An answer whose signatures pass takes two calls.
+ * the end of `checked`, and call again. An answer whose signatures pass takes two calls. An entry that was not checked is not to be
+ * put there: it stands for a signature that fails.
  */
 static inline enum zermuita_reply zermuita_judge(const struct zermuita_case *handed, uint8_t *out, size_t out_len,
                                                  struct zermuita_report *report) {

@@ -66,9 +66,10 @@ int main(int argc, char **argv) {
         for (size_t len = report.len; seen < MOST_SIGNATURES && zermuita_next_ask(&next, &len, &ask); seen++) {
             zermuita_answer(&ask, signature_passes(&ask));
         }
-        checked = or_exit(realloc(checked, handed.checked.len + report.len), "memory");
-        memcpy(checked + handed.checked.len, out, report.len);
-        handed.checked = (struct zermuita_octets){checked, handed.checked.len + report.len};
+        size_t answered = (size_t)(next - out); /* not those behind the last one that was checked */
+        checked = or_exit(realloc(checked, handed.checked.len + answered), "memory");
+        memcpy(checked + handed.checked.len, out, answered);
+        handed.checked = (struct zermuita_octets){checked, handed.checked.len + answered};
     }
     puts(zermuita_strerror(reply));
     struct zermuita_octets rest = {out, report.len}, rdata;

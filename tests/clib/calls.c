@@ -72,6 +72,10 @@ static void call_with_sizes(void) {
     handed.size = offsetof(struct zermuita_case, one_moment);
     handed.one_moment = handed.as_received = 7;
     expect(reply_to(handed) == ZERMUITA_INSECURE, "an older case, whose flags are not read");
+    for (size_t size = handed.size + 1; size < sizeof handed; size++) {
+        handed.size = size;
+        expect(reply_to(handed) == ZERMUITA_BAD_CASE, "a size with a part of the flags");
+    }
     handed.size = sizeof handed;
     expect(reply_to(handed) == ZERMUITA_BAD_CASE, "a flag that is neither 0 nor 1");
     handed.one_moment = handed.as_received = 1;

@@ -17,7 +17,7 @@ use Rattle.answer_judge_keys.specs.Judging.{Handing}
 use Rattle.answer_judge_octets.specs.declared.octets.OctetCase.{OctetCase}
 use Rattle.answer_judge_octets.specs.EntryLaws.{once_checked, once_ds, some_checked, some_ds}
 use Rattle.answer_judge_octets.specs.Laws.{ListsGrow, OctetsSpellOneCase, answered_entry}
-use Rattle.answer_judge_octets.specs.Replying.{IsJudged, Spells, flag_in}
+use Rattle.answer_judge_octets.specs.Replying.{IsJudged, Spells, flag_in, stand_as_received}
 use Rattle.answer_judge_octets.specs.Table.{Checked, Tried, checked}
 use Rattle.answer_judge_octets.specs.Written.{FitsChecked, FitsDs, checked_octets, ds_octets, passes_octets, with_long_length}
 use Rattle.answer_judge_octets.proofs.ListsRead.{spelled_once}
@@ -64,9 +64,9 @@ one_handing : (case : OctetCase) (h j : Handing) (table others : List Checked) �
 one_handing case h j table others p q =
     let apex = one_some h.apex j.apex _ p.apex q.apex in
     let ds = spelled_once FitsDs ds_octets once_ds some_ds h.ds j.ds p.ds.fit q.ds.fit (sym p.ds.octets_are ∙ q.ds.octets_are) in
-    let received = one_flag p.as_received q.as_received (flag_in case case.as_received) p.flag q.flag in
-    let dnskey_bytes = one_judged case.dnskey.now h.dnskey_bytes j.dnskey_bytes p.as_received q.as_received received p.dnskey_bytes q.dnskey_bytes in
-    let answer_bytes = one_judged case.answer.now h.answer_bytes j.answer_bytes p.as_received q.as_received received p.answer_bytes q.answer_bytes in
+    let received = ap (stand_as_received case) (one_flag p.as_received q.as_received (flag_in case case.as_received) p.flag q.flag) in
+    let dnskey_bytes = one_judged case.dnskey.now h.dnskey_bytes j.dnskey_bytes _ _ received p.dnskey_bytes q.dnskey_bytes in
+    let answer_bytes = one_judged case.answer.now h.answer_bytes j.answer_bytes _ _ received p.answer_bytes q.answer_bytes in
     let one_moment = one_flag h.one_moment j.one_moment (flag_in case case.one_moment) p.one_moment q.one_moment in
     let name = one_some h.asked.name j.asked.name _ p.name q.name in
     let rtype = p.rtype ∙ sym q.rtype in

@@ -1,5 +1,5 @@
 -- What is replied to a case in octets.
-use Rattle.std.specs.Prelude.{◌≡◌, ℕ, ◌%◌, ◌≤◌, ◌<◌, ◌==◌, ◌⊎◌, Bool, true, false, ◌&&◌, List, [], ◌++◌, drop, length, map, Option, Some, None, Ok, Err, nat_le, if◌then◌else◌, ⊤}
+use Rattle.std.specs.Prelude.{◌≡◌, ℕ, ◌%◌, ◌≤◌, ◌<◌, ◌==◌, ◌⊎◌, Bool, true, false, ◌||◌, List, [], ◌++◌, drop, length, map, Option, Some, None, Ok, Err, if◌then◌else◌, ⊤}
 use Rattle.std.specs.List.{AllByRecursion, flat_map}
 use Rattle.definitions.specs.Dnskey.{Ds}
 use Rattle.messages_canonical.specs.InForm.{GrowsTooLong, IsInForm}
@@ -35,15 +35,13 @@ whole_size = 128
 abbrev pub smallest_size : ℕ
 smallest_size = 120
 
-abbrev pub has_flags : OctetCase → Bool
-has_flags case = nat_le whole_size case.size
-
-abbrev pub is_sized : OctetCase → Bool
-is_sized case = nat_le smallest_size case.size && nat_le case.size whole_size
-
--- what a flag of a case says, if anything
+-- what a flag of a case says, if anything: no other size is known, and a part of the flags would be read as none
 abbrev pub flag_in : OctetCase → ℕ → Option Bool
-flag_in case flag = if is_sized case then (if has_flags case then flag_of flag else Some false) else None
+flag_in case flag = if case.size == whole_size then flag_of flag else if case.size == smallest_size then Some false else None
+
+-- Messages stand as they were received where that is asked for, and beside an empty DS set, where nothing that they hold counts.
+abbrev pub stand_as_received : OctetCase → Bool → Bool
+stand_as_received case flag = (length case.ds.now == 0) || flag
 
 -- The octets that are judged of a message: those that were received; or, where names in data are to be taken in full and in lower
 -- case, these too where its data are so, and else its canonical form. What doesn't read is refused as it was received.
@@ -57,8 +55,8 @@ pub record Spells (case : OctetCase) (h : Handing) (table : List Checked) : Type
   pub flag : flag_in case case.as_received ≡ Some as_received
   pub apex : name_of_octets case.apex.now ≡ Some h.apex
   pub ds : IsList FitsDs ds_octets case.ds.now h.ds
-  pub dnskey_bytes : IsJudged as_received case.dnskey.now h.dnskey_bytes
-  pub answer_bytes : IsJudged as_received case.answer.now h.answer_bytes
+  pub dnskey_bytes : IsJudged (stand_as_received case as_received) case.dnskey.now h.dnskey_bytes
+  pub answer_bytes : IsJudged (stand_as_received case as_received) case.answer.now h.answer_bytes
   pub name : name_of_octets case.name.now ≡ Some h.asked.name
   pub rtype : h.asked.rtype ≡ case.rtype
   pub class : h.asked.class ≡ case.class
@@ -74,7 +72,8 @@ Unread case c.BadDsSet = (ds : List Ds) → IsList FitsDs ds_octets case.ds.now 
 Unread case c.BadName = name_of_octets case.name.now ≡ None
 Unread case c.BadSignatures = (table : List Checked) → IsList FitsChecked checked_octets case.checked.now table → ⊥
 Unread case c.BadCase = (flag_in case case.one_moment ≡ None) ⊎ (flag_in case case.as_received ≡ None)
-Unread case c.MessageTooLong = (flag_in case case.as_received ≡ Some false) × (GrowsTooLong case.dnskey.now ⊎ GrowsTooLong case.answer.now)
+Unread case c.MessageTooLong =
+    (flag_in case case.as_received ≡ Some false) × ((length case.ds.now == 0) ≡ false) × (GrowsTooLong case.dnskey.now ⊎ GrowsTooLong case.answer.now)
 Unread case _ = ⊥
 
 -- ---- what is replied

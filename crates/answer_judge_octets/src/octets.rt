@@ -156,6 +156,7 @@ fn read_case<'a>(alloc: Global, case: &OctetCase<'a>) -> Result<ReadCase<'a>, Re
     let Some(table) = read_list(alloc, case.checked)? else {
         return Err(ReplyCode::BadSignatures);
     };
+    let as_received = case.ds.is_empty() || as_received;
     let dnskey = judged_form(alloc, case.dnskey, as_received)?;
     let answer = judged_form(alloc, case.answer, as_received)?;
     Ok(ReadCase {
@@ -178,11 +179,11 @@ fn flag_in(case: &OctetCase, flag: u32) -> Result<bool, ReplyCode>
     ensures said { IfOk result (λ b. flag_in case.now flag ≡ Some b) }
     ensures unread { IfErr result (λ c. (c ≡ ReplyCode.BadCase) × (flag_in case.now flag ≡ None)) }
 {
-    if case.size < WITHOUT_FLAGS || case.size > WHOLE {
-        return Err(ReplyCode::BadCase);
-    }
-    if case.size < WHOLE {
+    if case.size == WITHOUT_FLAGS {
         return Ok(false);
+    }
+    if case.size != WHOLE {
+        return Err(ReplyCode::BadCase);
     }
     match flag {
         0 => Ok(false),

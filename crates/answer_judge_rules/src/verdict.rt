@@ -50,6 +50,6 @@ pub enum Verdict {
     Delegated,
     /// An opt-out chain leaves open what is there (RFC 5155, 6).
     Open,
-    /// The zone has no DS record: nothing in it is signed.
+    /// The DS set is empty, so nothing vouches for the zone's keys (RFC 4035, 5.2).
     Unsigned,
 }

@@ -18,6 +18,7 @@ pub trait Scheme {
     /// The digest of a type of octets; None for a failure.
     ghost digest_of: { Self → ℕ → List ℕ → Option (List ℕ) };
 
+    /// The signature of octets under a key, which passes (RFC 4034, 3.1.8.1). It fails where it has no private key, say.
     fn sign(
         &self,
         alloc: Global,
@@ -30,9 +31,12 @@ pub trait Scheme {
         ensures failed { IsErrOf result SchemeError.Failed
             → signature_of self.now key.now octets.now ≡ None };
 
+    /// Whether a signature of octets passes under a key.
     fn verify(&self, key: &Dnskey<&[u8]>, octets: &[u8], signature: &[u8]) -> bool
         ensures { result ≡ verifies self.now key.now octets.now signature.now };
 
+    /// The digest of a DS record's type, of an owner in canonical form and DNSKEY data (RFC 4034, 5.1.4). It fails for a type that
+    /// is not made.
     fn digest(
         &self,
         alloc: Global,

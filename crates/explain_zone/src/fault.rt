@@ -23,7 +23,7 @@ pub enum EntryFault {
     NotText,
     #[error("a quoted text or a parenthesis does not end, or ends where none began: `a TXT \"one\" ( \"two\" )`")]
     Unbalanced,
-    #[error("only $ORIGIN with an absolute name and $TTL with a number are read: `$ORIGIN example.`, `$TTL 3600`")]
+    #[error("only $ORIGIN with a name and $TTL with seconds are read: `$ORIGIN example.`, `$TTL 3600`, `$TTL 1h`")]
     Directive,
     #[error("no owner to repeat: `www 3600 IN A 192.0.2.1`")]
     NoOwner,

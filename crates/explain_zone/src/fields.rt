@@ -50,7 +50,7 @@ pub(crate) fn name_from(alloc: Global, text: &str) -> Result<Name<Vec<u8>>, Entr
     }
 }
 
-/// Seconds: a number, or numbers each behind its unit of w, d, h, m or s, up to 2^31 - 1 (RFC 2181, 8).
+/// Seconds, below 2^31 (RFC 2181, 8): a number, or numbers each with its unit of w, d, h, m or s behind it. The last may have none.
 pub(crate) fn seconds_of(text: &str) -> Option<u32> {
     let (mut total, mut number, mut has_digits) = (0u64, 0u64, false);
     for octet in text.bytes() {

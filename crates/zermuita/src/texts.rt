@@ -68,7 +68,7 @@ fn text_of_code(code: ReplyCode) -> &'static [u8]
         ReplyCode::Delegated => b"ZERMUITA_DELEGATED: the name is at or below a delegation\0",
         ReplyCode::Open => b"ZERMUITA_OPTOUT: an opt-out chain leaves open what is there\0",
         ReplyCode::Unsigned =>
-            b"ZERMUITA_INSECURE: the DS set is empty, so nothing in the zone is signed\0",
+            b"ZERMUITA_INSECURE: the DS set is empty, so nothing vouches for the zone's keys\0",
         ReplyCode::QuestionNotAllowed =>
             b"ZERMUITA_QUESTION_NOT_ALLOWED: the name is not in the zone, the class is not IN, or the type is not judged\0",
         ReplyCode::BadDnskeyMessage =>
