@@ -20,7 +20,7 @@ mod wire;
 
 pub use above::{is_above, is_at_or_above};
 pub use names_parsed::parsed::ParsedName;
-pub use read::{known_name, read_name};
+pub use read::read_name;
 pub use wire::{copy_name, cow_name, name_at_place, name_from_octets};
 
 /// What a zone asks of a name.

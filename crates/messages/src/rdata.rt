@@ -6,7 +6,6 @@ ghost use Rattle.std.specs.Cow.{cow_slice_items};
 ghost use Rattle.std.specs.Option.{option_map};
 ghost use Rattle.messages.specs.Message.{rrsig_at, nsec_at, nsec3_at, nsec3_of};
 ghost use Rattle.messages.specs.Message.{canonical_data, data_of, ns_data, soa_data, nsec_data, nsec3_data};
-ghost use Rattle.messages.specs.Items.{octets_in};
 ghost use Rattle.messages.specs.Record.{hashed_link_of};
 ghost use Rattle.names_parsed.specs.Parsed.{parsed_name};
 ghost use Rattle.plain.specs.Ns.{ns_canonical};
@@ -83,28 +82,7 @@ impl<'a> ViewRecord<'a> {
         read_hashed_link(self.octets(message))
     }
 
-    /// The canonical data (RFC 4034, 6.2); None where the data don't read as their type's.
-    pub fn canonical_data(
-        &self,
-        alloc: Global,
-        message: &[u8],
-    ) -> Result<Option<Vec<u8>>, AllocError>
-        ensures { IfOk result (λ o.
-            octets_in o ≡ canonical_data pointer_limit message.now (spelled self.now)) }
-    {
-        match self.rtype {
-            Rtype::NS => self.ns_data(alloc, message),
-            Rtype::SOA => self.soa_data(alloc, message),
-            Rtype::NSEC => self.nsec_data(alloc, message),
-            Rtype::NSEC3 => match self.nsec3_data(message) {
-                None => Ok(None),
-                Some(octets) => Ok(Some(octets.to_vec(alloc)?)),
-            },
-            _ => Ok(Some(self.octets(message).to_vec(alloc)?)),
-        }
-    }
-
-    /// As `canonical_data`; what the message has as it is to be is borrowed.
+    /// The canonical data (RFC 4034, 6.2), borrowed where the message has them so; None where the data don't read as their type's.
     pub fn canonical_cow<'m>(
         &self,
         alloc: Global,
@@ -114,11 +92,9 @@ impl<'a> ViewRecord<'a> {
             ≡ canonical_data pointer_limit message.now (spelled self.now)) }
     {
         match self.rtype {
-            Rtype::NS | Rtype::SOA => match self.canonical_data(alloc, message)? {
-                None => Ok(None),
-                Some(octets) => Ok(Some(CowSlice::Owned(octets))),
-            },
-            Rtype::NSEC => self.nsec_cow(alloc, message),
+            Rtype::NS => self.ns_data(alloc, message),
+            Rtype::SOA => self.soa_data(alloc, message),
+            Rtype::NSEC => self.nsec_data(alloc, message),
             Rtype::NSEC3 => match self.nsec3_data(message) {
                 None => Ok(None),
                 Some(octets) => Ok(Some(CowSlice::Borrowed(octets))),
@@ -128,40 +104,37 @@ impl<'a> ViewRecord<'a> {
     }
 
     /// The canonical data of an NS record (RFC 1035, 3.3.11).
-    fn ns_data(&self, alloc: Global, message: &[u8]) -> Result<Option<Vec<u8>>, AllocError>
-        ensures { IfOk result (λ o.
-            octets_in o ≡ ns_data pointer_limit message.now (spelled self.now)) }
+    fn ns_data<'m>(
+        &self,
+        alloc: Global,
+        message: &'m [u8],
+    ) -> Result<Option<CowSlice<'m, u8>>, AllocError>
+        ensures { IfOk result (λ o. option_map cow_slice_items o
+            ≡ ns_data pointer_limit message.now (spelled self.now)) }
     {
         match self.name_server(message) {
             None => Ok(None),
-            Some(ns) => Ok(Some(canonical_octets(alloc, &ns)?)),
+            Some(ns) => Ok(Some(CowSlice::Owned(canonical_octets(alloc, &ns)?))),
         }
     }
 
     /// The canonical data of an SOA record (RFC 1035, 3.3.13).
-    fn soa_data(&self, alloc: Global, message: &[u8]) -> Result<Option<Vec<u8>>, AllocError>
-        ensures { IfOk result (λ o.
-            octets_in o ≡ soa_data pointer_limit message.now (spelled self.now)) }
+    fn soa_data<'m>(
+        &self,
+        alloc: Global,
+        message: &'m [u8],
+    ) -> Result<Option<CowSlice<'m, u8>>, AllocError>
+        ensures { IfOk result (λ o. option_map cow_slice_items o
+            ≡ soa_data pointer_limit message.now (spelled self.now)) }
     {
         match self.start_of_authority(message) {
             None => Ok(None),
-            Some(soa) => Ok(Some(canonical_octets(alloc, &soa)?)),
+            Some(soa) => Ok(Some(CowSlice::Owned(canonical_octets(alloc, &soa)?))),
         }
     }
 
-    /// The canonical data of an NSEC record, whose next name isn't lowered (RFC 6840, 5.1).
-    fn nsec_data(&self, alloc: Global, message: &[u8]) -> Result<Option<Vec<u8>>, AllocError>
-        ensures { IfOk result (λ o.
-            octets_in o ≡ nsec_data pointer_limit message.now (spelled self.now)) }
-    {
-        match self.link(message) {
-            None => Ok(None),
-            Some(link) => Ok(Some(canonical_octets(alloc, &link)?)),
-        }
-    }
-
-    /// As `nsec_data`; where the next name stands in full they are borrowed.
-    fn nsec_cow<'m>(
+    /// The canonical data of an NSEC record, whose next name isn't lowered (RFC 6840, 5.1): borrowed where that stands in full.
+    fn nsec_data<'m>(
         &self,
         alloc: Global,
         message: &'m [u8],

@@ -118,9 +118,9 @@ fn compose_signed_record<N: ToName, Octs: Octets>(
     out.extend_from_slice(rdata)
 }
 
-/// The numbers between a record's owner and its data, the length of these taken modulo 65,536.
+/// The numbers between a record's owner and its data (RFC 1035, 4.1.3), the length of these taken modulo 65,536.
 #[tactic(auto, unfolding(crate::specs::Rrsig::record_numbers))]
-fn record_numbers(rtype: Rtype, class: Class, ttl: Ttl, len: usize) -> [u8; 10]
+pub fn record_numbers(rtype: Rtype, class: Class, ttl: Ttl, len: usize) -> [u8; 10]
     ensures { result ≡ record_numbers rtype class ttl len }
 {
     let [a, b] = rtype.to_int().to_be_bytes();

@@ -5,7 +5,6 @@ ghost use Rattle.std.specs.List.{flat_map};
 ghost use Rattle.definitions.specs.Limits.{pointer_limit};
 ghost use Rattle.messages.specs.Message.{data_of, records_at};
 ghost use Rattle.messages.specs.Record.{spelled};
-ghost use Rattle.messages.specs.Rrsig.{record_numbers};
 ghost use Rattle.messages.specs.Written.{record_octets};
 ghost use Rattle.messages_canonical.specs.Canonical.{HasNone, IsCanonical, Writes, canonical_rdata, canonical_record, canonical_records, head_octets, most_octets, with_data};
 ghost use Rattle.messages_canonical.specs.InForm.{HasNoForm, IsInForm};
@@ -16,11 +15,9 @@ use crate::error::CanonicalError;
 use crate::names::put_name_at;
 use crate::standing::data_stand;
 use crate::walk::{is_in_form, records_place};
+use messages::signed::record_numbers;
 use messages::write::push_u16;
 use messages::{MessageView, ViewRecord, read_message_into};
-use names_rdata::rtype::Rtype;
-use numbers::class::Class;
-use numbers::ttl::Ttl;
 use std::alloc::{AllocError, Global};
 use std::borrow::CowSlice;
 
@@ -173,17 +170,4 @@ fn push_with_data(
     octets.extend_from_slice(&record_numbers(view.rtype, view.class, view.ttl, rdata.len()))?;
     octets.extend_from_slice(rdata)?;
     Ok(octets.len() <= MOST)
-}
-
-/// The numbers between a record's owner and its data (RFC 1035, 4.1.3).
-#[tactic(auto, unfolding(messages::specs::Rrsig::record_numbers))]
-fn record_numbers(rtype: Rtype, class: Class, ttl: Ttl, len: usize) -> [u8; 10]
-    requires { len ≤ most_octets }
-    ensures { result ≡ record_numbers rtype class ttl len }
-{
-    let [a, b] = rtype.to_int().to_be_bytes();
-    let [c, d] = class.to_int().to_be_bytes();
-    let [e, f, g, h] = ttl.as_secs().to_be_bytes();
-    let [i, j] = (len as u16).to_be_bytes();
-    [a, b, c, d, e, f, g, h, i, j]
 }

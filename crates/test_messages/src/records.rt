@@ -106,11 +106,8 @@ pub fn data(alloc: Global, words: &[&str]) -> Option<String> {
     };
     let octets = octets_of(alloc, octets)?;
     let record = read_message(&octets).ok()?.records().next()?;
-    let canonical = printed(alloc, &record.canonical_data(alloc, &octets).ok()??)?;
-    let borrowed = record.canonical_cow(alloc, &octets).ok()??;
-    if printed(alloc, borrowed.as_slice())? != canonical {
-        return format!(in alloc; "{canonical}, but borrowed otherwise").ok();
-    }
+    let canonical = record.canonical_cow(alloc, &octets).ok()??;
+    let canonical = printed(alloc, canonical.as_slice())?;
     match said(alloc, &octets, &record)? {
         Some(said) => format!(in alloc; "{canonical}; {said}").ok(),
         None => Some(canonical),

@@ -3,7 +3,7 @@ ghost use Rattle.std.specs.Prelude.{◌≡◌, ◌<◌, ◌≤◌, length, IfOk}
 ghost use Rattle.definitions.specs.Limits.{pointer_limit};
 ghost use Rattle.names_parsed.specs.Parsed.{parsed_name};
 ghost use Rattle.messages.specs.Message.{owner_at};
-ghost use Rattle.messages.specs.View.{Gives, named, name_read, NameReads};
+ghost use Rattle.messages.specs.View.{Gives, named};
 
 use crate::error::MessageError;
 use names_parsed::parsed::ParsedName;
@@ -20,13 +20,4 @@ pub fn read_name(message: &[u8], start: usize) -> Result<(ParsedName<'_>, usize)
     parser.seek(start)?;
     let name = ParsedName::parse(&mut parser)?;
     Ok((name, parser.pos()))
-}
-
-/// The name at a place where one is known to stand.
-pub fn known_name(message: &[u8], start: usize) -> ParsedName<'_>
-    requires { NameReads message.now start }
-    ensures { parsed_name result ≡ name_read message.now start }
-{
-    let (name, _) = read_name(message, start).unwrap();
-    name
 }
