@@ -47,7 +47,7 @@ fn is_digit(octet: u8) -> bool
     ensures { result ≡ is_digit (to_ascii_lowercase octet) }
 {
     let lower = octet.to_ascii_lowercase();
-    (48 <= lower && lower <= 57) || (97 <= lower && lower <= 118)
+    (b'0' <= lower && lower <= b'9') || (b'a' <= lower && lower <= b'v')
 }
 
 /// Whether fewer than eight digits spell octets: as many as octets have, and the bits behind the last octet are zeros.
@@ -71,10 +71,10 @@ fn value(octet: u8) -> u8
     ensures { result ≡ value (to_ascii_lowercase octet) }
 {
     let lower = octet.to_ascii_lowercase();
-    if lower <= 57 {
-        lower.saturating_sub(48) % 32
+    if lower <= b'9' {
+        lower.saturating_sub(b'0') % 32
     } else {
-        lower.saturating_sub(87) % 32
+        lower.saturating_sub(b'a' - 10) % 32
     }
 }
 
