@@ -1,7 +1,8 @@
 //! What is replied to a caller in octets.
-ghost use Rattle.std.specs.Prelude.{◌≡◌, ◌++◌, [], length, map, IfOk, OnOk};
+ghost use Rattle.std.specs.Prelude.{◌≡◌, ◌++◌, [], length, map, IfOk, MatchOption, OnOk};
 ghost use Rattle.std.specs.List.{AllByRecursion, flat_map};
 ghost use Rattle.names_rdata.specs.Composing.{with_length};
+ghost use Rattle.answer_judge_octets.specs.declared.reply.ReplyCode.{ReplyCode};
 ghost use Rattle.answer_judge_octets.specs.Asking.{unchecked};
 ghost use Rattle.answer_judge_octets.specs.Written.{FitsChecked, IsLong, IsShort, checked_octets, with_long_length};
 ghost use Rattle.answer_judge_octets.specs.Replying.{EntriesFit, code_of_refusal, code_of_verdict, entries_of, number_of, octets_of_verdict, replied, reply_seen};
@@ -28,7 +29,7 @@ pub enum ReplyCode {
     Delegated = 5,
     /// An opt-out chain leaves open what is there.
     Open = 6,
-    /// The zone has no DS record.
+    /// The DS set is empty, so nothing vouches for the zone's keys.
     Unsigned = 7,
     QuestionNotAllowed = 16,
     BadDnskeyMessage = 17,
@@ -67,6 +68,44 @@ impl ReplyCode {
         ensures { result ≡ number_of self }
     {
         self as u32
+    }
+
+    /// The code of a number, if it is one.
+    pub fn from_number(number: u32) -> Option<Self>
+        ensures { MatchOption result
+            ((c : ReplyCode) → number_of c ≡ number → ⊥) (λ c. number_of c ≡ number) }
+    {
+        match number {
+            0 => Some(ReplyCode::Records),
+            1 => Some(ReplyCode::NoType),
+            2 => Some(ReplyCode::NoName),
+            3 => Some(ReplyCode::StarRecords),
+            4 => Some(ReplyCode::StarNoType),
+            5 => Some(ReplyCode::Delegated),
+            6 => Some(ReplyCode::Open),
+            7 => Some(ReplyCode::Unsigned),
+            16 => Some(ReplyCode::QuestionNotAllowed),
+            17 => Some(ReplyCode::BadDnskeyMessage),
+            18 => Some(ReplyCode::BadAnswerMessage),
+            19 => Some(ReplyCode::QuestionMismatch),
+            20 => Some(ReplyCode::EqualTags),
+            21 => Some(ReplyCode::NoTrustedKey),
+            22 => Some(ReplyCode::MixedNsec3Parameters),
+            23 => Some(ReplyCode::IterationsOverLimit),
+            24 => Some(ReplyCode::HashFailed),
+            25 => Some(ReplyCode::NotProven),
+            26 => Some(ReplyCode::OutOfMemory),
+            27 => Some(ReplyCode::MixedVersions),
+            28 => Some(ReplyCode::MessageTooLong),
+            32 => Some(ReplyCode::Ask),
+            34 => Some(ReplyCode::BufferTooSmall),
+            35 => Some(ReplyCode::BadApex),
+            36 => Some(ReplyCode::BadDsSet),
+            37 => Some(ReplyCode::BadName),
+            38 => Some(ReplyCode::BadSignatures),
+            39 => Some(ReplyCode::BadCase),
+            _ => None,
+        }
     }
 }
 

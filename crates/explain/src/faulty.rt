@@ -5,15 +5,15 @@ use crate::options::Options;
 use crate::session::{line_text, next_counting};
 use answer::denial::{OwnerRrs, SigningError, SortedRecords, is_canonical_order, is_one_class};
 use answer::names::{Rtype, ToName};
-use answer::{Mode, Name, ZoneData, ZoneFault, ZoneRecord, simulate};
+use answer::{Mode, Name, ZoneData, ZoneFault, ZoneRecord};
+use answer_zone_records::faults::first_fault;
 use denial_chain_owners::kept::kept_owners;
-use denial_nsec3_sha1::hasher::Sha1Hasher;
 use denial_sorted::laws::zone_data_order_is_total;
 use denialbench_print::named::Named;
-use denialbench_print::scheme::BenchScheme;
 use denialbench_session::lines::Lines;
 use denialbench_session::session::{Session, read_session};
 use std::alloc::{AllocError, Global};
+use std::slice;
 
 /// Why the zone of an input is refused, which of its lines say so, and what would be right.
 pub fn push_refused(
@@ -82,7 +82,7 @@ fn faulty_records(
         | ZoneFault::SignedType
         | ZoneFault::Alias
         | ZoneFault::MetaType
-        | ZoneFault::StarNs => faulty_alone(alloc, session, fault),
+        | ZoneFault::StarNs => faulty_alone(alloc, &session, fault),
         ZoneFault::Chain(SigningError::NoSingleSoa) => soas_at_the_apex(alloc, &session),
         ZoneFault::Chain(SigningError::MultipleTtlValues) => {
             of_unequal_ttls(alloc, session, input)
@@ -94,31 +94,14 @@ fn faulty_records(
 /// Of each record whether a zone that holds it alone is refused for the same.
 fn faulty_alone(
     alloc: Global,
-    session: Session,
+    session: &Session,
     fault: ZoneFault,
 ) -> Result<Vec<bool>, AllocError> {
-    let Session {
-        zone,
-        records,
-        events: _,
-    } = session;
-    let mut faulty = Vec::new(alloc);
-    for record in records {
-        let Ok(apex) = zone.apex.to_vec(alloc) else {
-            return Err(AllocError);
-        };
-        let refused = simulate(
-            alloc,
-            apex,
-            vec![in alloc; record]?,
-            Mode::Nsec,
-            &BenchScheme,
-            &Sha1Hasher,
-            zone.limit,
-            zone.life,
-            &[],
-        );
-        faulty.push(refused.is_err_and(|other| other == fault))?;
+    let zone = &session.zone;
+    let mut faulty = Vec::with_capacity(alloc, session.records.len())?;
+    for record in &session.records {
+        let alone = first_fault(&zone.apex, &Mode::Nsec, zone.limit, slice::from_ref(record));
+        faulty.push(alone == Some(fault))?;
     }
     Ok(faulty)
 }

@@ -1,7 +1,5 @@
 //! The names of replies in C, and what each says in a sentence.
-ghost use Rattle.std.specs.Prelude.{◌≡◌, ◌∷◌, ◌++◌, [], MatchOption};
-ghost use Rattle.answer_judge_octets.specs.declared.reply.ReplyCode.{ReplyCode};
-ghost use Rattle.answer_judge_octets.specs.Replying.{number_of};
+ghost use Rattle.std.specs.Prelude.{◌≡◌, ◌∷◌, ◌++◌, []};
 ghost use Rattle.zermuita.specs.Texts.{code_text, IsTextOf};
 
 use answer_judge_octets::ReplyCode;
@@ -10,47 +8,9 @@ use answer_judge_octets::ReplyCode;
 pub(crate) fn text_of(number: u32) -> &'static [u8]
     ensures { IsTextOf number result.now }
 {
-    match code_of(number) {
+    match ReplyCode::from_number(number) {
         Some(code) => text_of_code(code),
         None => b"not a reply of this library\0",
-    }
-}
-
-/// The reply of a number.
-fn code_of(number: u32) -> Option<ReplyCode>
-    ensures { MatchOption result
-        ((c : ReplyCode) → number_of c ≡ number → ⊥) (λ c. number_of c ≡ number) }
-{
-    match number {
-        0 => Some(ReplyCode::Records),
-        1 => Some(ReplyCode::NoType),
-        2 => Some(ReplyCode::NoName),
-        3 => Some(ReplyCode::StarRecords),
-        4 => Some(ReplyCode::StarNoType),
-        5 => Some(ReplyCode::Delegated),
-        6 => Some(ReplyCode::Open),
-        7 => Some(ReplyCode::Unsigned),
-        16 => Some(ReplyCode::QuestionNotAllowed),
-        17 => Some(ReplyCode::BadDnskeyMessage),
-        18 => Some(ReplyCode::BadAnswerMessage),
-        19 => Some(ReplyCode::QuestionMismatch),
-        20 => Some(ReplyCode::EqualTags),
-        21 => Some(ReplyCode::NoTrustedKey),
-        22 => Some(ReplyCode::MixedNsec3Parameters),
-        23 => Some(ReplyCode::IterationsOverLimit),
-        24 => Some(ReplyCode::HashFailed),
-        25 => Some(ReplyCode::NotProven),
-        26 => Some(ReplyCode::OutOfMemory),
-        27 => Some(ReplyCode::MixedVersions),
-        28 => Some(ReplyCode::MessageTooLong),
-        32 => Some(ReplyCode::Ask),
-        34 => Some(ReplyCode::BufferTooSmall),
-        35 => Some(ReplyCode::BadApex),
-        36 => Some(ReplyCode::BadDsSet),
-        37 => Some(ReplyCode::BadName),
-        38 => Some(ReplyCode::BadSignatures),
-        39 => Some(ReplyCode::BadCase),
-        _ => None,
     }
 }
 
