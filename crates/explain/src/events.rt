@@ -124,7 +124,8 @@ fn field_words(verdict: &Verdict) -> &'static str {
             "secure referral: the name is at or below a delegation, so another zone tells of it",
         Verdict::Open =>
             "insecure by opt-out: a delegation without signatures may be there, so nothing is proven",
-        Verdict::Unsigned => "insecure: the DS set is empty, so nothing vouches for the zone's keys",
+        Verdict::Unsigned =>
+            "insecure: the DS set is empty, so nothing vouches for the zone's keys",
     }
 }
 

@@ -6,7 +6,7 @@ use Rattle.definitions.specs.Name.{Name, wire}
 use Rattle.messages.specs.Message.{data_of, nsec_at}
 use Rattle.messages.specs.Record.{link_of, spelled}
 use Rattle.messages.proofs.InFull.{in_full}
-use Rattle.messages.proofs.view.ViewRecord.nsec_cow.Goals as goal
+use Rattle.messages.proofs.view.ViewRecord.nsec_data.Goals as goal
 
 pub returns-then-is_in_full : goal.returns-then-is_in_full
 returns-then-is_in_full c =
