@@ -9,7 +9,7 @@ ghost use Rattle.answer_judge_rules.specs.Hashing.{opens, open_among};
 ghost use Rattle.answer_judge_rules.specs.Rules.{verdict_of};
 
 use crate::facts::HashLink;
-use crate::types::{at_name, is_cut, lacks};
+use crate::types::{at_name, is_cut, star_lacks};
 use crate::verdict::Verdict;
 use messages::names::{Name, ToName};
 use names_rdata::rtype::Rtype;
@@ -98,7 +98,7 @@ impl<'a> HashLink<'a> {
         ensures { option_map verdict_of result ≡ star_at hash.now rtype self.now }
     {
         if self.is_at(hash) {
-            return if lacks(self.types(), rtype) {
+            return if star_lacks(self.types(), rtype) {
                 Some(Verdict::StarNoType)
             } else {
                 None

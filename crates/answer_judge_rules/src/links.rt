@@ -7,7 +7,7 @@ ghost use Rattle.denial_laws.specs.NsecRules.{first_some, at_owner, below_cut, r
 ghost use Rattle.answer_judge_rules.specs.Rules.{verdict_of};
 
 use crate::facts::Link;
-use crate::types::{at_name, is_cut, lacks};
+use crate::types::{at_name, is_cut, star_lacks};
 use crate::verdict::Verdict;
 use messages::names::{Name, Octets, ToName, ZoneName, is_above, is_at_or_above};
 use names_rdata::rtype::Rtype;
@@ -109,7 +109,7 @@ impl<'a> Link<'a> {
         ensures { option_map verdict_of result ≡ at_star apex.now star.now rtype self.now }
     {
         if self.owner.name_eq(star) {
-            return if lacks(self.types(), rtype) {
+            return if star_lacks(self.types(), rtype) {
                 Some(Verdict::StarNoType)
             } else {
                 None

@@ -1,7 +1,7 @@
 //! What the types of a record of a chain say where it stands, by names or by hashes (RFC 6840, 4.1 and 4.3).
 ghost use Rattle.std.specs.Prelude.{◌≡◌};
 ghost use Rattle.std.specs.Option.{option_map};
-ghost use Rattle.denial_laws.specs.NsecRules.{is_cut, lacks, at_name};
+ghost use Rattle.denial_laws.specs.NsecRules.{is_cut, lacks, star_lacks, at_name};
 ghost use Rattle.answer_judge_rules.specs.Rules.{verdict_of};
 
 use crate::verdict::Verdict;
@@ -12,10 +12,19 @@ use names_rdata::rtype::Rtype;
 /// Whether they prove that a type is missing: they have neither the type nor CNAME.
 ///
 /// An alias answers for all types: taken as proof, its record would hide where it leads (RFC 6840, 4.3).
-pub(crate) fn lacks(types: &RtypeBitmap<&[u8]>, rtype: Rtype) -> bool
+fn lacks(types: &RtypeBitmap<&[u8]>, rtype: Rtype) -> bool
     ensures { result ≡ lacks types.now rtype }
 {
     !types.contains(rtype) && !types.contains(Rtype::CNAME)
+}
+
+/// Whether they prove that a type is missing, if they stand at a wildcard: those of a delegation prove it of DS alone.
+///
+/// A delegation's record is of the parent's side: taken as proof, it would deny types that the child holds (RFC 6840, 4.1).
+pub(crate) fn star_lacks(types: &RtypeBitmap<&[u8]>, rtype: Rtype) -> bool
+    ensures { result ≡ star_lacks types.now rtype }
+{
+    lacks(types, rtype) && (rtype == Rtype::DS || !types.contains(Rtype::NS))
 }
 
 /// Whether they are those of a delegation, if they stand at a name: NS below the apex.

@@ -13,7 +13,7 @@ use Rattle.definitions.specs.Bitmap.{bitmap_has}
 use Rattle.definitions.specs.Zone.{Verdict, Records, NoType, NoName, StarRecords, StarNoType, Delegated, Open, star_under}
 use Rattle.definitions.proofs.ZoneNames.{low-low, above_lowered, lowered_above}
 use Rattle.denial_laws.specs.Facts.{Rrset, Link, HashLink, Facts, is_expanded}
-use Rattle.denial_laws.specs.NsecRules.{first_some, or_else, is_cut, lacks, at_name, at_owner, below_cut, link_covers, closest, at_star, covered, denied, encloses_at, expanded_by}
+use Rattle.denial_laws.specs.NsecRules.{first_some, or_else, is_cut, lacks, star_lacks, at_name, at_owner, below_cut, link_covers, closest, at_star, covered, denied, encloses_at, expanded_by}
 use Rattle.denial_laws.specs.Nsec3Rules.{is_at, covers_hash, is_matched, at_hash, encloses, cut_above, star_at, beyond, enclosed, climbed, hash_denied, last_labels, hash_expanded_by, hash_expanded}
 use Rattle.denial_laws.specs.Deciding.{by_chain, by_wildcard, decided_inside, decided}
 use Rattle.denial_laws.proofs.NameFacts.{strictly_lowered}
@@ -67,7 +67,7 @@ module _ (apex : Name) where
 
   star_linked : (s : Name) (t : ℕ) (f : Link) → at_star apex s t (low_link f) ≡ at_star apex s t f
   star_linked s t f i = elim (same_first f.owner s i) [
-    | true ↦ elim (lacks f.bits t) [ true ↦ Some StarNoType | false ↦ None ]
+    | true ↦ elim (star_lacks f.bits t) [ true ↦ Some StarNoType | false ↦ None ]
     | false ↦ elim (covers_linked s f i) [
       | true ↦ elim (strictly_lowered s f.next i) [ true ↦ Some StarNoType | false ↦ Some NoName ]
       | false ↦ None
@@ -153,7 +153,7 @@ module _ (apex : Name) where
 
   star_named : (s : Name) (t : ℕ) (f : Link) → at_star apex (low s) t f ≡ at_star apex s t f
   star_named s t f i = elim (same_second f.owner s i) [
-    | true ↦ elim (lacks f.bits t) [ true ↦ Some StarNoType | false ↦ None ]
+    | true ↦ elim (star_lacks f.bits t) [ true ↦ Some StarNoType | false ↦ None ]
     | false ↦ elim (covers_named s f i) [
       | true ↦ elim (strictly_first s f.next i) [ true ↦ Some StarNoType | false ↦ Some NoName ]
       | false ↦ None

@@ -4,7 +4,7 @@ use Rattle.definitions.specs.Name.{Name, low, same, strictly_above, wire}
 use Rattle.definitions.specs.Covering.{before, octets_before}
 use Rattle.definitions.specs.Zone.{Verdict, NoType, NoName, StarRecords, StarNoType, star_under}
 use Rattle.denial_laws.specs.Facts.{Rrset, Link}
-use Rattle.denial_laws.specs.NsecRules.{first_some, or_else, lacks, at_name, redirects, below_cut, closest, encloses_at}
+use Rattle.denial_laws.specs.NsecRules.{first_some, or_else, lacks, star_lacks, at_name, redirects, below_cut, closest, encloses_at}
 use Rattle.counterexamples_denial.specs.Choices.{Choices}
 
 abbrev pub at_name_with : Choices → Name → Name → ℕ → List ℕ → Option Verdict
@@ -35,7 +35,7 @@ leads_below c q f = elim c.non_terminals [ true ↦ strictly_above q f.next | fa
 
 abbrev pub at_star_with : Choices → Name → Name → ℕ → Link → Option Verdict
 at_star_with c apex s t f = elim (same f.owner s) [
-  | true ↦ elim (lacks f.bits t) [ true ↦ Some StarNoType | false ↦ None ]
+  | true ↦ elim (star_lacks f.bits t) [ true ↦ Some StarNoType | false ↦ None ]
   | false ↦ elim (link_covers_with c apex f s) [
     | true ↦ elim (leads_below c s f) [ true ↦ Some StarNoType | false ↦ Some NoName ]
     | false ↦ None

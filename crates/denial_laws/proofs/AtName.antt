@@ -1,16 +1,17 @@
 -- What the bits of a name's own record prove of the name.
 use Rattle.std.proofs.Common.{◌≡◌, ℕ, ◌<◌, Bool, true, false, ◌&&◌, not, List, Option, Some, None, refl, sym, ap, ◌∙◌, ◌⊎◌, inl, inr}
 use Rattle.std.specs.Prelude.{◌==◌}
-use Rattle.std.proofs.lemmas.Bool.{and_parts, and_from, and_cases, and_right, not-true, not-false, not_from_false, false≢true, false_from_ne_true, eqb-true}
+use Rattle.std.proofs.lemmas.Bool.{and_parts, and_from, and_cases, and_right, or_right, not-true, not-false, not_from_false, false≢true, false_from_ne_true, eqb-true}
 use Rattle.definitions.specs.Name.{Name, low, labels_eq}
 use Rattle.definitions.specs.Bitmap.{bitmap_has}
 use Rattle.definitions.specs.Zone.{Zone, Verdict, NoType, Delegated, is_delegation, kept, has, verdict}
 use Rattle.definitions.proofs.ZoneNames.{above_itself}
-use Rattle.denial_laws.specs.NsecRules.{is_cut, lacks, at_name}
+use Rattle.denial_laws.specs.NsecRules.{is_cut, lacks, star_lacks, at_name}
+use Rattle.denial_laws.specs.Truth.{IsServable, is_star}
 use Rattle.denial_laws.specs.Laws.{is_asked_type}
 use Rattle.denial_laws.proofs.ChainBits.{ShowsTypes, cut_test}
 use Rattle.denial_laws.proofs.Verdicts.{verdict_no_type, verdict_delegated, verdict_ds, lacking}
-use Rattle.denial_laws.proofs.ZoneCuts.{kept_inside, kept_delegation}
+use Rattle.denial_laws.proofs.ZoneCuts.{kept_inside, kept_delegation, no_star_ns}
 
 -- what a test lets through
 pub on_true : {A : Type 0} (b : Bool) (x : Option A) (y : A) → (elim b [ true ↦ x | false ↦ None ]) ≡ Some y → (b ≡ true) × (x ≡ Some y)
@@ -27,6 +28,10 @@ not_there z n bits t l k c h = false_from_ne_true (has z n t) (λ e.
 -- bits of a name that lacks the type
 pub lacks_from : (z : Zone) (n : Name) (bits : List ℕ) (t : ℕ) → t < 65536 → is_asked_type t ≡ true → ShowsTypes z n bits → has z n t ≡ false → lacks bits t ≡ true
 lacks_from z n bits t l asked k h = and_from _ _ (not_from_false (bitmap_has bits t) (k.lacks t l asked h)) (not_from_false (bitmap_has bits 5) k.alias)
+
+-- bits of a wildcard that lacks the type: they have no NS
+pub star_lacks_from : (z : Zone) → IsServable z → (n : Name) (bits : List ℕ) (t : ℕ) → is_star n ≡ true → t < 65536 → is_asked_type t ≡ true → ShowsTypes z n bits → has z n t ≡ false → star_lacks bits t ≡ true
+star_lacks_from z s n bits t star l asked k h = and_from (lacks bits t) _ (lacks_from z n bits t l asked k h) (or_right (t == 43) _ (not_from_false (bitmap_has bits 2) (k.two ∙ no_star_ns z s n star)))
 
 -- ---- they prove the zone's verdict, or nothing
 

@@ -8,7 +8,7 @@ use Rattle.definitions.specs.Zone.{Zone, Verdict, NoName, StarNoType, Delegated,
 use Rattle.definitions.proofs.Members.{any_in}
 use Rattle.definitions.proofs.ZoneNames.{low-low, above_itself, above_longer}
 use Rattle.denial_laws.specs.Facts.{HashLink}
-use Rattle.denial_laws.specs.NsecRules.{first_some, is_cut, lacks, at_name}
+use Rattle.denial_laws.specs.NsecRules.{first_some, is_cut, star_lacks, at_name}
 use Rattle.denial_laws.specs.Nsec3Rules.{is_at, covers_hash, is_matched, at_hash, encloses, cut_above, star_at, beyond, enclosed, climbed, hash_denied}
 use Rattle.denial_laws.proofs.NameFacts.{same_names, names_same, above_cases, above_trans, strictly_at, at_strictly_above, strictly_shorter, strictly_unlike}
 use Rattle.denial_laws.proofs.AtName.{Answers}
@@ -62,8 +62,8 @@ module _ (apex : Name) (hash : Name → List ℕ) (t : ℕ) (fs : List HashLink)
       (ap (λ b. elim b as (λ _. Option Verdict) [ true ↦ first_some (beyond hash p t fs h) fs | false ↦ None ]) encloser ∙ first.1)
 
   -- the wildcard's own record without the type, or one that covers it
-  pub star_lacks : (e : Name) (f : IsAmong fs (is_at (hash (low (star_under e))))) → lacks f.link.bits t ≡ true → Answers (first_some (star_at (hash (low (star_under e))) t) fs)
-  star_lacks e f n =
+  pub star_matched : (e : Name) (f : IsAmong fs (is_at (hash (low (star_under e))))) → star_lacks f.link.bits t ≡ true → Answers (first_some (star_at (hash (low (star_under e))) t) fs)
+  star_matched e f n =
       let h : List ℕ = hash (low (star_under e)) in
       let other : Option Verdict = elim (covers_hash h f.link) [ true ↦ Some NoName | false ↦ None ] in
       first_is (star_at h t) fs f.link StarNoType f.inside
@@ -72,7 +72,7 @@ module _ (apex : Name) (hash : Name → List ℕ) (t : ℕ) (fs : List HashLink)
   pub star_covered : (e : Name) (f : IsAmong fs (covers_hash (hash (low (star_under e))))) → is_at (hash (low (star_under e))) f.link ≡ false → Answers (first_some (star_at (hash (low (star_under e))) t) fs)
   star_covered e f n =
       let h : List ℕ = hash (low (star_under e)) in
-      let other : Option Verdict = elim (lacks f.link.bits t) [ true ↦ Some StarNoType | false ↦ None ] in
+      let other : Option Verdict = elim (star_lacks f.link.bits t) [ true ↦ Some StarNoType | false ↦ None ] in
       first_is (star_at h t) fs f.link NoName f.inside
       (λ i. elim (n i) as (λ _. Option Verdict) [ true ↦ other | false ↦ elim (f.passes i) [ true ↦ Some NoName | false ↦ None ] ])
 

@@ -12,7 +12,7 @@ use Rattle.definitions.specs.Laws.{NoneShare, SharesNone}
 use Rattle.definitions.proofs.Members.{any_of}
 use Rattle.definitions.proofs.ZoneNames.{above_itself, low-low, lowered_above}
 use Rattle.denial_laws.specs.Facts.{HashLink}
-use Rattle.denial_laws.specs.NsecRules.{first_some, is_cut, lacks}
+use Rattle.denial_laws.specs.NsecRules.{first_some, is_cut, lacks, star_lacks}
 use Rattle.denial_laws.specs.Nsec3Rules.{is_at, covers_hash, is_matched, encloses, cut_above, star_at, beyond, enclosed, climbed}
 use Rattle.denial_laws.specs.Truth.{IsServable, IsTrueHashLink, concerned}
 use Rattle.denial_laws.proofs.NameFacts.{same_names, names_same, above-low, strictly_at, strictly_unlike, strictly_above_at}
@@ -103,13 +103,13 @@ module _ (z : Zone) (hash : Name → List ℕ) (ex : Bool) (s : IsServable z) (n
       star = star_under (low p)
 
       go : (b : Bool) → is_at (hash (low (star_under p))) f ≡ b
-          → (elim b as (λ _. Option Verdict) [ true ↦ elim (lacks f.bits t) [ true ↦ Some StarNoType | false ↦ None ] | false ↦ elim (covers_hash (hash (low (star_under p))) f) [ true ↦ Some NoName | false ↦ None ] ]) ≡ Some v
+          → (elim b as (λ _. Option Verdict) [ true ↦ elim (star_lacks f.bits t) [ true ↦ Some StarNoType | false ↦ None ] | false ↦ elim (covers_hash (hash (low (star_under p))) f) [ true ↦ Some NoName | false ↦ None ] ]) ≡ Some v
           → v ≡ at_star z (star_under (low p)) t
       go true e h =
-          let r = on_true (lacks f.bits t) (Some StarNoType) v h in
+          let r = on_true (star_lacks f.bits t) (Some StarNoType) v h in
           let is : StarNoType ≡ v = cc in
           let there : exists z (star_under (low p)) ≡ true = kept_exists z ex (star_under (low p)) (kept_lowered z ex (star_under p) ∙ matched_kept z hash ex s none f k (star_under p) shares e) in
-          let gone : has z (star_under (low p)) t ≡ false = not_there z (star_under (low p)) f.bits t l (matched_shows z hash ex s none f k (star_under p) shares e) (inl (no_star_cut z s (star_under (low p)) refl)) r.0 in
+          let gone : has z (star_under (low p)) t ≡ false = not_there z (star_under (low p)) f.bits t l (matched_shows z hash ex s none f k (star_under p) shares e) (inl (no_star_cut z s (star_under (low p)) refl)) (and_parts (lacks f.bits t) _ r.0).0 in
           sym is ∙ (λ i. if sym there i then (if sym gone i then StarRecords (data_at z (star_under (low p)) t) else StarNoType) else NoName)
       go false e h =
           let r = on_true (covers_hash (hash (low (star_under p))) f) (Some NoName) v h in

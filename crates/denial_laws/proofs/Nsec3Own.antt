@@ -19,8 +19,8 @@ use Rattle.denial_laws.proofs.ChainBits.{ShowsTypes, all_at, cut_test}
 use Rattle.denial_laws.proofs.Found.{first_is}
 use Rattle.denial_laws.proofs.HashChain.{concerns_name, concerns_star, matched_shows}
 use Rattle.denial_laws.proofs.KeptAncestor.{closer_is, IsKeptParent, closer_gone}
-use Rattle.denial_laws.proofs.AtName.{lacks_from, Answers, cut_answers, lack_answers}
-use Rattle.denial_laws.proofs.Nsec3Answers.{matched_answers, above_answers, gap_answers, star_lacks, star_covered, Climbs, climbs}
+use Rattle.denial_laws.proofs.AtName.{lacks_from, star_lacks_from, Answers, cut_answers, lack_answers}
+use Rattle.denial_laws.proofs.Nsec3Answers.{matched_answers, above_answers, gap_answers, star_matched, star_covered, Climbs, climbs}
 use Rattle.denial_laws.proofs.Nsec3Wildcard.{last_labels_are}
 use Rattle.denial_laws.proofs.OwnHashes.{IsAmong, own, own_true, own_at, own_unmatched, own_covers, own_none}
 use Rattle.denial_laws.proofs.ZoneCuts.{delegation_low, kept_inside, kept_lowered, kept_uncut}
@@ -136,7 +136,7 @@ module _ (z : Zone) (hash : Name → List ℕ) (ex : Bool) (s : IsServable z) (i
       elim c [
         | inl b ↦
             let f = at_kept (star_under p) listed (alike ∙ b.0) in
-            star_lacks z.name hash t records p f (lacks_from z (low (star_under p)) f.link.bits t l asked (shown (star_under p) h f) (ap (λ n. has z n t) star ∙ b.1))
+            star_matched z.name hash t records p f (star_lacks_from z s (low (star_under p)) f.link.bits t refl l asked (shown (star_under p) h f) (ap (λ n. has z n t) star ∙ b.1))
         | inr n ↦
             let f = own_covers z hash ex s apart.0 iterations salt qs (star_under p) listed h (alike ∙ n) in
             star_covered z.name hash t records p f (own_unmatched z hash ex s apart.0 iterations salt qs (star_under p) h (alike ∙ n) f.link f.inside)

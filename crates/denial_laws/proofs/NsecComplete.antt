@@ -12,13 +12,13 @@ use Rattle.definitions.proofs.NameLaws.{labels_decide}
 use Rattle.definitions.proofs.ChainSpeaks.{all_from}
 use Rattle.definitions.proofs.ZoneNames.{above_lowered, lowered_above, same-length, low-low, same_lowered, owner_in_chain}
 use Rattle.denial_laws.specs.Facts.{Rrset, Link, Facts}
-use Rattle.denial_laws.specs.NsecRules.{first_some, is_cut, lacks, at_name, at_owner, below_cut, link_covers, closest, at_star, covered, denied, encloses_at, expanded_by, expanded}
+use Rattle.denial_laws.specs.NsecRules.{first_some, is_cut, lacks, star_lacks, at_name, at_owner, below_cut, link_covers, closest, at_star, covered, denied, encloses_at, expanded_by, expanded}
 use Rattle.denial_laws.specs.Deciding.{decided_inside, decided}
 use Rattle.denial_laws.specs.OwnFacts.{spoken, link_of, own_rrset, own_links, own_facts}
-use Rattle.denial_laws.specs.Truth.{IsServable, IsTrueLink, IsTrueRrset, AreTrue}
+use Rattle.denial_laws.specs.Truth.{IsServable, IsTrueLink, IsTrueRrset, AreTrue, is_star}
 use Rattle.denial_laws.specs.Laws.{is_asked_type}
 use Rattle.denial_laws.proofs.NameFacts.{names_same, same-low, before_unlike, strictly-low, strictly_lowered, above_cases, strictly_at}
-use Rattle.denial_laws.proofs.AtName.{Answers, lacks_from, cut_answers, lack_answers}
+use Rattle.denial_laws.proofs.AtName.{Answers, lacks_from, star_lacks_from, cut_answers, lack_answers}
 use Rattle.denial_laws.proofs.KeptAncestor.{kept_encloser}
 use Rattle.denial_laws.proofs.ChainBits.{ShowsTypes, nsec_shows, cut_test}
 use Rattle.denial_laws.proofs.ZoneCuts.{IsCut, ce_encloses, ce_lowered, delegation_owner, delegation_low, cut_is, cut_live}
@@ -35,6 +35,10 @@ module _ (z : Zone) (s : IsServable z) (q : Name) (t : ℕ) (l : t < 65536) (k :
   -- bits of a name that lacks the type
   own_lacks : (o : Name) → has z o t ≡ false → lacks (bitmap (nsec_types z true o)) t ≡ true
   own_lacks o h = lacks_from z o (bitmap (nsec_types z true o)) t l k (nsec_shows z s o) h
+
+  -- bits of a wildcard that lacks it
+  star_lacking : (o : Name) → is_star o ≡ true → has z o t ≡ false → star_lacks (bitmap (nsec_types z true o)) t ≡ true
+  star_lacking o w h = star_lacks_from z s o (bitmap (nsec_types z true o)) t w l k (nsec_shows z s o) h
 
   -- ---- a record of the name
 
@@ -63,8 +67,8 @@ module _ (z : Zone) (s : IsServable z) (q : Name) (t : ℕ) (l : t < 65536) (k :
       unlike = false_from_ne_true (same o (star_under n)) (λ e. before_unlike (low o) (low (star_under n)) reach.before (same-low o (star_under n) ∙ e))
 
       go : (d : Bool) → strictly_above (star_under n) (nsec_next z o) ≡ d → Answers (at_star z.name (star_under n) t (link_of z o))
-      go true e = (StarNoType, (λ i. star_case (unlike i) (lacks (bitmap (nsec_types z true o)) t) (c i) (e i)))
-      go false e = (NoName, (λ i. star_case (unlike i) (lacks (bitmap (nsec_types z true o)) t) (c i) (e i)))
+      go true e = (StarNoType, (λ i. star_case (unlike i) (star_lacks (bitmap (nsec_types z true o)) t) (c i) (e i)))
+      go false e = (NoName, (λ i. star_case (unlike i) (star_lacks (bitmap (nsec_types z true o)) t) (c i) (e i)))
 
   module _ (qs : List Name) where
     abbrev fs : List Link
@@ -134,7 +138,7 @@ module _ (z : Zone) (s : IsServable z) (q : Name) (t : ℕ) (l : t < 65536) (k :
         let told : Answers (at_star z.name (star_under n) t g) = elim p.says [
           | inl m ↦
               let is : same p.owner (star_under n) ≡ true = names_same p.owner (star_under n) (ap low m ∙ le ∙ sym ls) in
-              let lacking : lacks (bitmap (nsec_types z true p.owner)) t ≡ true = own_lacks p.owner (ap (λ n. has z n t) m ∙ h (subst (λ n. In n (nsec_names z)) m p.inside)) in
+              let lacking : star_lacks (bitmap (nsec_types z true p.owner)) t ≡ true = star_lacking p.owner (ap is_star m) (ap (λ n. has z n t) m ∙ h (subst (λ n. In n (nsec_names z)) m p.inside)) in
               (StarNoType, (λ i. star_case (is i) (lacking i) (link_covers z.name g (star_under n)) (strictly_above (star_under n) g.next)))
           | inr c ↦ star_beside p.owner p.inside n (own_covers z s p.owner (star_under n) p.inside (ap (covers (apex_of z) p.owner (nsec_next z p.owner)) ls ∙ c))
         ] in

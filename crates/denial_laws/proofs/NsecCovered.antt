@@ -12,7 +12,7 @@ use Rattle.definitions.proofs.Members.{In}
 use Rattle.definitions.proofs.NameLaws.{labels_decide}
 use Rattle.definitions.proofs.ZoneNames.{kept-live, above_lowered, low-low, same_lowered, owner_lowered, live_owner, owner_in_chain}
 use Rattle.denial_laws.specs.Facts.{Link}
-use Rattle.denial_laws.specs.NsecRules.{first_some, is_cut, lacks, below_cut, link_covers, redirects, closest, at_star, covered}
+use Rattle.denial_laws.specs.NsecRules.{first_some, is_cut, lacks, star_lacks, below_cut, link_covers, redirects, closest, at_star, covered}
 use Rattle.denial_laws.specs.Truth.{IsServable, IsTrueLink, is_star}
 use Rattle.denial_laws.proofs.NameFacts.{above-low, strictly-low, strictly_lowered, same_names, names_same, above_cases, strictly_at, strictly_unlike, strictly_from, above_trans, at_strictly_above}
 use Rattle.denial_laws.proofs.ChainBits.{ShowsTypes}
@@ -116,16 +116,16 @@ module _ (z : Zone) (s : IsServable z) (f : Link) (k : IsTrueLink z f) (q : Name
 
       go : (b : Bool) → same f.owner q ≡ b
           → (elim b as (λ _. Option Verdict) [
-            | true ↦ elim (lacks f.bits t) [ true ↦ Some StarNoType | false ↦ None ]
+            | true ↦ elim (star_lacks f.bits t) [ true ↦ Some StarNoType | false ↦ None ]
             | false ↦ elim (link_covers z.name f q) [ true ↦ elim (strictly_above q f.next) [ true ↦ Some StarNoType | false ↦ Some NoName ] | false ↦ None ]
           ]) ≡ Some v → zone.at_star z (low q) t ≡ v
       go true m h =
-          let r = on_true (lacks f.bits t) (Some StarNoType) v h in
+          let r = on_true (star_lacks f.bits t) (Some StarNoType) v h in
           let is : StarNoType ≡ v = cc in
           let same_name : low f.owner ≡ low q = same_names f.owner q m in
           let x : exists z (low q) ≡ true = owner_exists z s (low q) (subst (λ n. In n (nsec_names z)) same_name (link_owner z s f k)) in
           let d : is_delegation z (low q) ≡ false = no_star_cut z s (low q) (ap (λ n. is_star (low n)) st) in
-          let y : has z (low q) t ≡ false = not_there z (low q) f.bits t l (subst (λ n. ShowsTypes z n f.bits) same_name (link_shows z s f k)) (inl d) r.0 in
+          let y : has z (low q) t ≡ false = not_there z (low q) f.bits t l (subst (λ n. ShowsTypes z n f.bits) same_name (link_shows z s f k)) (inl d) (and_parts (lacks f.bits t) _ r.0).0 in
           (λ i. if x i then (if y i then StarRecords (data_at z (low q) t) else StarNoType) else NoName) ∙ is
       go false m h = between (link_covers z.name f q) (strictly_above q f.next) refl refl h
 

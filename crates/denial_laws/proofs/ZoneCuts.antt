@@ -6,7 +6,7 @@ use Rattle.std.specs.Option.{is_none}
 use Rattle.std.specs.Str.{str_to_ascii_lowercase}
 use Rattle.std.specs.Char.{to_ascii_lowercase}
 use Rattle.std.specs.Cmp.Lexicographic.{bytes_decides}
-use Rattle.std.proofs.lemmas.Bool.{and_parts, and_from, or_cases, or_left, or_right, false≢true, false_from_ne_true, cases_lt}
+use Rattle.std.proofs.lemmas.Bool.{and_parts, and_from, and_left, or_cases, or_left, or_right, false≢true, false_from_ne_true, cases_lt}
 use Rattle.std.proofs.lemmas.Str.Ascii.{lowercase_is}
 use Rattle.definitions.specs.Name.{Name, low, same, labels_eq, at_or_above, strictly_above}
 use Rattle.definitions.specs.Zone.{Zone, owner_of, apex_of, owners, is_of, has, is_delegation, cut, is_live, is_kept, kept_owners, kept, exists, ce, kept_cut_above}
@@ -73,14 +73,17 @@ module _ (z : Zone) where
   delegation_inside : (d : Name) → is_delegation z d ≡ true → strictly_above (apex_of z) d ≡ true
   delegation_inside d h = (and_parts (has z d 2) (strictly_above (apex_of z) d) h).1
 
-  -- no wildcard is a delegation
-  pub no_star_cut : IsServable z → (s : Name) → is_star s ≡ true → is_delegation z s ≡ false
-  no_star_cut servable s star = false_from_ne_true (is_delegation z s) (λ h.
-      let r = any_of (is_of s 2) z.records (and_parts (has z s 2) (strictly_above (apex_of z) s) h).0 in
+  -- no wildcard has NS, so none is a delegation
+  pub no_star_ns : IsServable z → (s : Name) → is_star s ≡ true → has z s 2 ≡ false
+  no_star_ns servable s star = false_from_ne_true (has z s 2) (λ h.
+      let r = any_of (is_of s 2) z.records h in
       let both = and_parts (labels_eq (owner_of r.0) s) _ r.1.1 in
       let e : owner_of r.0 ≡ s = (labels_decide (owner_of r.0) s).0 both.0 in
       let bad : delegates_star r.0 ≡ true = and_from _ _ both.1 (star_lowered r.0.spelled (ap is_star e ∙ star)) in
       false≢true (sym (all_at (λ r. delegates_star r ≡ false) z.records r.0 servable.stars r.1.0) ∙ bad))
+
+  pub no_star_cut : IsServable z → (s : Name) → is_star s ≡ true → is_delegation z s ≡ false
+  no_star_cut servable s star = and_left (has z s 2) (strictly_above (apex_of z) s) (no_star_ns servable s star)
 
   -- ---- cuts
 

@@ -7,7 +7,7 @@ use Rattle.definitions.specs.Covering.{hash_covers}
 use Rattle.definitions.specs.Bitmap.{bitmap_has}
 use Rattle.definitions.specs.Zone.{Verdict, NoName, StarRecords, StarNoType, Delegated, Open, star_under}
 use Rattle.denial_laws.specs.Facts.{Rrset, HashLink}
-use Rattle.denial_laws.specs.NsecRules.{first_some, or_else, is_cut, lacks, at_name}
+use Rattle.denial_laws.specs.NsecRules.{first_some, or_else, is_cut, star_lacks, at_name}
 
 -- the record has this hash as its owner's
 abbrev pub is_at : List ℕ → HashLink → Bool
@@ -34,7 +34,7 @@ cut_above apex p h f = elim (encloses h f && is_cut apex p f.bits) [ true ↦ So
 -- the wildcard: there without the type, or not there
 abbrev pub star_at : List ℕ → ℕ → HashLink → Option Verdict
 star_at h t f = elim (is_at h f) [
-  | true ↦ elim (lacks f.bits t) [ true ↦ Some StarNoType | false ↦ None ]
+  | true ↦ elim (star_lacks f.bits t) [ true ↦ Some StarNoType | false ↦ None ]
   | false ↦ elim (covers_hash h f) [ true ↦ Some NoName | false ↦ None ]
 ]
 

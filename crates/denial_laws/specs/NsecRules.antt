@@ -25,6 +25,11 @@ is_cut apex owner bits = bitmap_has bits 2 && not (same owner apex)
 abbrev pub lacks : List ℕ → ℕ → Bool
 lacks bits t = not (bitmap_has bits t) && not (bitmap_has bits 5)
 
+-- What a matching record proves missing at a wildcard: with NS there DS alone. Such a record is a delegation's, of the parent's
+-- side, and would deny types that the child zone has (RFC 6840, 4.1).
+abbrev pub star_lacks : List ℕ → ℕ → Bool
+star_lacks bits t = lacks bits t && ((t == 43) || not (bitmap_has bits 2))
+
 -- What a record that matches the name says: at a delegation of DS alone.
 abbrev pub at_name : Name → Name → ℕ → List ℕ → Option Verdict
 at_name apex q t bits = elim (is_cut apex q bits && not (t == 43)) [
@@ -58,7 +63,7 @@ closest f (l ∷ q) = elim (at_or_above q f.owner || at_or_above q f.next) [ tru
 -- for would pass for one that does not exist
 abbrev pub at_star : Name → Name → ℕ → Link → Option Verdict
 at_star apex s t f = elim (same f.owner s) [
-  | true ↦ elim (lacks f.bits t) [ true ↦ Some StarNoType | false ↦ None ]
+  | true ↦ elim (star_lacks f.bits t) [ true ↦ Some StarNoType | false ↦ None ]
   | false ↦ elim (link_covers apex f s) [
     | true ↦ elim (strictly_above s f.next) [ true ↦ Some StarNoType | false ↦ Some NoName ]
     | false ↦ None

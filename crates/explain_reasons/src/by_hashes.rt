@@ -133,6 +133,26 @@ fn tell_types(
     Ok(false)
 }
 
+/// Says what the record of a wildcard says of a type there: a delegation's of DS alone (RFC 6840, 4.1).
+fn tell_star_types(
+    because: &mut Vec<String>,
+    asked: &Asked,
+    link: &HashLink,
+    name: &str,
+) -> Result<bool, AllocError> {
+    if !link.data.types().contains(Rtype::NS) || asked.rtype == Rtype::DS {
+        return tell_types(because, asked, link, name);
+    }
+    let types = TypeList(link.data.types());
+    tell(
+        because,
+        format_args!(
+            "the NSEC3 record of {name} has the types {types}: a delegation's says of DS alone that it is missing"
+        ),
+    )?;
+    Ok(false)
+}
+
 /// Says what links leave open of a next closer name, which none of them denies (RFC 5155, 6).
 fn left_open(
     because: &mut Vec<String>,
@@ -200,7 +220,7 @@ fn at_wildcard(
 ) -> Result<Told, AllocError> {
     let name = name_text(*because.allocator(), &wildcard.name)?;
     if let Some(link) = matching(links, &wildcard.hash) {
-        if tell_types(because, asked, link, &name)? {
+        if tell_star_types(because, asked, link, &name)? {
             return Ok(Told::StarNoType);
         }
         return Ok(Told::Nothing);

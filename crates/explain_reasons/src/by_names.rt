@@ -60,6 +60,26 @@ fn tell_types<N: ToName>(
     Ok(false)
 }
 
+/// Says what the record of a wildcard says of a type there: a delegation's of DS alone (RFC 6840, 4.1).
+fn tell_star_types(
+    because: &mut Vec<String>,
+    asked: &Asked,
+    link: &Link,
+    wildcard: &Name<Vec<u8>>,
+) -> Result<bool, AllocError> {
+    if !link.data.types().contains(Rtype::NS) || asked.rtype == Rtype::DS {
+        return tell_types(because, asked, link, wildcard);
+    }
+    let (owner, types) = (wildcard.fmt_with_dot(), TypeList(link.data.types()));
+    tell(
+        because,
+        format_args!(
+            "the NSEC record of {owner} has the types {types}: a delegation's says of DS alone that it is missing"
+        ),
+    )?;
+    Ok(false)
+}
+
 /// What a link says of its own name.
 fn at_owner(
     because: &mut Vec<String>,
@@ -154,7 +174,7 @@ fn at_wildcard(
 ) -> Result<Option<Told>, AllocError> {
     for link in links {
         if link.owner.name_eq(wildcard) {
-            if tell_types(because, asked, link, wildcard)? {
+            if tell_star_types(because, asked, link, wildcard)? {
                 return Ok(Some(Told::StarNoType));
             }
         } else if covers(asked, link, wildcard) {

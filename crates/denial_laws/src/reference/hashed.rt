@@ -8,7 +8,7 @@ ghost use Rattle.denial_laws.specs.NsecRules.{first_some};
 ghost use Rattle.denial_laws.specs.Nsec3Rules.{is_at, covers_hash, is_matched, at_hash, encloses, cut_above, star_at, beyond, enclosed, climbed, hash_denied, last_labels, hash_expanded_by, hash_expanded};
 
 use crate::reference::facts::{NameHash, PlainHashLink, PlainRrset};
-use crate::reference::linked::{at_name, has_dname, is_cut, lacks};
+use crate::reference::linked::{at_name, has_dname, is_cut, star_lacks};
 use crate::reference::names::star_under;
 use definitions::reference::Octets;
 use definitions::reference::names::{hash_covers, same};
@@ -64,7 +64,7 @@ impl PlainHashLink {
         ensures { option_map verdict_of result ≡ star_at hash.now rtype self.now }
     {
         if self.is_at(hash) {
-            return if lacks(self.bits.as_slice(), rtype) {
+            return if star_lacks(self.bits.as_slice(), rtype) {
                 Some(PlainVerdict::StarNoType)
             } else {
                 None

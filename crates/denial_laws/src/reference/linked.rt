@@ -5,7 +5,7 @@ ghost use Rattle.definitions.specs.Bitmap.{bitmap_has};
 ghost use Rattle.definitions.specs.Name.{at_or_above, strictly_above};
 ghost use Rattle.definitions.specs.Zone.{star_under};
 ghost use Rattle.definitions.specs.Reference.{verdict_of};
-ghost use Rattle.denial_laws.specs.NsecRules.{first_some, is_cut, lacks, at_name, at_owner, below_cut, redirects, link_covers, closest, at_star, covered, denied, encloses_at, expanded_by, expanded};
+ghost use Rattle.denial_laws.specs.NsecRules.{first_some, is_cut, lacks, star_lacks, at_name, at_owner, below_cut, redirects, link_covers, closest, at_star, covered, denied, encloses_at, expanded_by, expanded};
 
 use crate::reference::facts::{PlainLink, PlainRrset};
 use crate::reference::names::{star_under, strictly_above};
@@ -31,10 +31,17 @@ pub(super) fn is_cut(apex: &[Octets], owner: &[Octets], bits: &[u8]) -> bool
 }
 
 /// Whether a matching record proves that a type is missing.
-pub(super) fn lacks(bits: &[u8], rtype: u16) -> bool
+fn lacks(bits: &[u8], rtype: u16) -> bool
     ensures { result ≡ lacks bits.now rtype }
 {
     !bitmap_has(bits, rtype) && !bitmap_has(bits, CNAME)
+}
+
+/// Whether a wildcard's record proves that a type is missing there: a delegation's of DS alone, since the rest is the child's.
+pub(super) fn star_lacks(bits: &[u8], rtype: u16) -> bool
+    ensures { result ≡ star_lacks bits.now rtype }
+{
+    lacks(bits, rtype) && (rtype == DS || !bitmap_has(bits, NS))
 }
 
 /// Whether a bitmap has DNAME.
@@ -125,7 +132,7 @@ impl PlainLink {
         ensures { option_map verdict_of result ≡ at_star apex.now star.now rtype self.now }
     {
         if same(&self.owner, star) {
-            return if lacks(self.bits.as_slice(), rtype) {
+            return if star_lacks(self.bits.as_slice(), rtype) {
                 Some(PlainVerdict::StarNoType)
             } else {
                 None
