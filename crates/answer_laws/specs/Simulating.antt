@@ -21,7 +21,7 @@ use Rattle.answer_publisher_keys.specs.Bindings.{ZoneKeys, no_keys, ds_set}
 use Rattle.answer_publisher_keys.specs.KeyCalls.{Acts}
 use Rattle.answer_publisher.specs.Publishing.{digest_at}
 use Rattle.answer_publisher.specs.Replacing.{RefusesReplacement, is_too_soon, noted}
-use Rattle.answer_publisher.specs.World.{World, AnswersKeysQuestion, AnswersQuestion, RefusesKeysQuestion, RefusesQuestion, SpellsAnswer, SpellsKeys}
+use Rattle.answer_publisher.specs.World.{World, AnswersKeysQuestion, AnswersQuestion, HashesNames, RefusesKeysQuestion, RefusesQuestion, SpellsAnswer, SpellsKeys}
 use Rattle.answer_judge.specs.Meeting.{IsJudgement}
 use Rattle.messages.specs.WrittenLaws.{IsQuestion}
 use Rattle.answer_judge_keys.specs.Judging.{Handing, answer_of, handed, verifications_of, hashes_of}
@@ -74,9 +74,10 @@ JudgesBytes w at _ keys answer asked o = o ≡ outcome.BadPlace
 abbrev pub ShowsKeys : World → ZoneKeys → ℕ → List ℕ → Type 0
 ShowsKeys w keys at bytes = AnswersKeysQuestion w keys at bytes × SpellsKeys w keys at bytes
 
--- the zone's answer to a question at a moment, signed by these keys, whose bytes spell its RRsets and their signatures
+-- the zone's answer to a question at a moment, signed by these keys, whose bytes spell its RRsets and their signatures; each name
+-- that its proof speaks of has a hash
 abbrev pub ShowsAnswer : World → ZoneKeys → ℕ → Asked → List ℕ → Type 0
-ShowsAnswer w keys at asked bytes = AnswersQuestion w keys at asked bytes × SpellsAnswer w keys at asked bytes
+ShowsAnswer w keys at asked bytes = AnswersQuestion w keys at asked bytes × SpellsAnswer w keys at asked bytes × HashesNames w asked
 
 -- a question that isn't allowed is refused so, and no other
 abbrev pub RefusesAsked : Bool → AnswerFault → Type 0

@@ -10,7 +10,7 @@ use Rattle.answer_shared.specs.Accepting.{sorted_records}
 use Rattle.answer_shared.specs.ZoneView.{AcceptedZone}
 use Rattle.answer_shared.specs.Hashing.{served}
 use Rattle.answer_shared.specs.Served.{Served, keys_ttl}
-use Rattle.answer_zone.specs.HashedZone.{accepted_zone}
+use Rattle.answer_zone.specs.HashedZone.{AreHashed, accepted_zone, spoken_for}
 use Rattle.answer_scheme.specs.Answers.{Answers}
 use Rattle.answer_shared.specs.Given as spelled
 use Rattle.answer_shared.specs.Told as told
@@ -74,6 +74,10 @@ AnswersQuestion w keys at asked m = AnswersZone w.sign w.answers.verifies (serve
 
 abbrev pub SpellsAnswer : World → ZoneKeys → ℕ → Asked → List ℕ → Type 0
 SpellsAnswer w keys at asked m = spelled.GivesAnswer w.answers.verifies pointer_limit (served_in w) w.zone.apex (dnskeys (published keys publication.SignsZone)) (second_of at) w.life asked m
+
+-- each name that the proof of the answer speaks of has a hash
+abbrev pub HashesNames : World → Asked → Type 0
+HashesNames w asked = AreHashed w.answers.hash w.zone.mode (spoken_for (served_in w) asked.name asked.rtype)
 
 abbrev pub RefusesQuestion : World → ZoneKeys → ℕ → Asked → AnswerFault → Type 0
 RefusesQuestion w keys at asked f = RefusesAnswer w.sign w.answers.verifies w.answers.hash (served_in w) w.zone.apex (second_of at) w.life (keys_by_tag keys publication.SignsZone) asked f

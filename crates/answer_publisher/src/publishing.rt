@@ -19,7 +19,7 @@ ghost use Rattle.answer_publisher_keys.specs.KeyCalls.{Acts, Changes};
 ghost use Rattle.answer_publisher.specs.Publishing.{digest_at};
 ghost use Rattle.answer_publisher.specs.Replacing.{later, noted, whole_second};
 ghost use Rattle.answer_scheme.specs.Moments.{second_of};
-ghost use Rattle.answer_publisher.specs.World.{AnswersKeysQuestion, AnswersQuestion, RefusesKeysQuestion, RefusesQuestion, SpellsAnswer, SpellsKeys, digests, present_keys, world_of, zone_by};
+ghost use Rattle.answer_publisher.specs.World.{AnswersKeysQuestion, AnswersQuestion, HashesNames, RefusesKeysQuestion, RefusesQuestion, SpellsAnswer, SpellsKeys, digests, present_keys, world_of, zone_by};
 
 use crate::compose::compose_answer;
 use crate::fault::{AnswerFault, KeyFault, ZoneFault};
@@ -171,8 +171,9 @@ impl<'a, S: Scheme, H: Nsec3Hasher> Publisher<'a, S, H> {
         }
     }
 
-    /// The zone's answer to a question at a moment, signed by each key that signs the zone. Its second is noted, also where no
-    /// key signs: in it, and before, the zone's records are not replaced. A refused call changes nothing.
+    /// The zone's answer to a question at a moment, signed by each key that signs the zone; each name that its proof speaks of
+    /// has a hash. Its second is noted, also where no key signs: in it, and before, the zone's records are not replaced. A
+    /// refused call changes nothing.
     pub fn answer(&mut self, question: &Question, now: &UnixTime) -> Result<Vec<u8>, AnswerFault>
         ensures allowed { let asked = asked_of question.now in
             let allowed = is_allowed self.old.zone.apex asked in
@@ -186,6 +187,8 @@ impl<'a, S: Scheme, H: Nsec3Hasher> Publisher<'a, S, H> {
         ensures given { let w = world_of S.signature_of S.verifies S.digest_of H.hash_of self.old in
             let asked = asked_of question.now in
             IfOk result (λ m. SpellsAnswer w self.old.keys now.now asked m.items) }
+        ensures hashed { let w = world_of S.signature_of S.verifies S.digest_of H.hash_of self.old in
+            OnOk result (HashesNames w (asked_of question.now)) }
         ensures noted { let latest = noted self.old.latest now.now in
             OnOk result (self.new ≡ record self.old { latest = latest }) }
         ensures refused { OnErr result (self.new ≡ self.old) }
@@ -209,6 +212,8 @@ impl<'a, S: Scheme, H: Nsec3Hasher> Publisher<'a, S, H> {
         ensures given { let w = world_of S.signature_of S.verifies S.digest_of H.hash_of self.now in
             let asked = asked_of question.now in
             IfOk result (λ m. SpellsAnswer w self.now.keys now.now asked m.items) }
+        ensures hashed { let w = world_of S.signature_of S.verifies S.digest_of H.hash_of self.now in
+            OnOk result (HashesNames w (asked_of question.now)) }
     {
         self.zone.keeps();
         question.keeps();

@@ -14,7 +14,7 @@ use Rattle.answer_shared.specs.Hashing.{Hasher, hash_in}
 use Rattle.answer_shared.specs.Links.{ChainLink, said_of}
 use Rattle.answer_shared.specs.Served.{chain_ttl, proofs_of, served_of}
 use Rattle.answer_shared.proofs.HashedLinks.{proofs_are_hashed}
-use Rattle.answer_zone.specs.HashedZone.{IsHashFailure}
+use Rattle.answer_zone.specs.HashedZone.{HashesEach, IsHashFailure}
 use Rattle.answer_zone_records.specs.MadeLinks.{IsChain}
 use Rattle.answer_zone_records.specs.declared.chains.Chain.TheVariants.{Names, Hashes}
 use Rattle.answer_zone_records.specs.Round.{IsCircle, IsRound}
@@ -45,9 +45,12 @@ hashed_proofs hash apex (Nsec3 i s o) rs f xs old new ls k a =
 memory_is : (hash : Hasher) (mode : Mode) (ns : List Name) (e : HashError) → e ≡ Memory → IsHashFailure hash mode ns e
 memory_is hash mode ns e is = subst (IsHashFailure hash mode ns) (sym is) tt
 
-pub memory_only : {T : Type 0} (hash : Hasher) (mode : Mode) (ns : List Name) (r : Result T HashError) → IfErr r (λ e. e ≡ Memory) → IfErr r (IsHashFailure hash mode ns)
-memory_only hash mode ns (Ok x) h = tt
-memory_only hash mode ns (Err e) h = memory_is hash mode ns e h
+-- a chain of names needs no hashes, and only memory can fail
+pub named_hashed : {T : Type 0} (hash : Hasher) (apex : Name) (mode : Mode) (rs : List HandedRr) (qs : List Name) (ls : Vec ChainLink Global) (r : Result T HashError) → IsChain hash apex mode rs (Names ls) → IfErr r (λ e. e ≡ Memory)
+    → HashesEach hash mode qs r
+named_hashed hash apex Nsec rs qs ls (Ok x) k h = tt
+named_hashed hash apex Nsec rs qs ls (Err e) k h = memory_is hash Nsec qs e h
+named_hashed hash apex (Nsec3 i s o) rs qs ls r k h = absurd k
 
 -- ---- each record leads to the next
 

@@ -1,6 +1,6 @@
 -- What a call answers for a zone, from the verdict on a question and the RRsets that it found.
 use Rattle.std.proofs.Common.{◌≡◌, ℕ, Bool, true, false, ◌&&◌, List, [], ◌∷◌, ◌++◌, Option, Some, None, refl, sym, ap, subst, ◌∙◌, length}
-use Rattle.std.specs.Prelude.{IfErr, IfOk, Result, ◌==◌, if◌then◌else◌}
+use Rattle.std.specs.Prelude.{IfOk, Result, ◌==◌, if◌then◌else◌}
 use Rattle.std.specs.List.{list_any}
 use Rattle.std.proofs.lemmas.Bool.{and_parts}
 use Rattle.definitions.specs.Name.{Name, at_or_above, labels_eq, low}
@@ -17,11 +17,10 @@ use Rattle.answer_shared.proofs.ZoneAnswers.{groups_open_missing}
 use Rattle.answer_shared.proofs.ZoneData.{if_ok_map}
 use Rattle.answer_zone_records.specs.OwnedRecords.{is_of_type, owned_by}
 use Rattle.answer_zone.specs.Cuts.{NoneRefers}
-use Rattle.answer_zone.specs.HashedZone.{HashedZone, IsHashFailure, served_by, spoken_for}
+use Rattle.answer_zone.specs.HashedZone.{HashedZone, HashesEach, served_by, spoken_for}
 use Rattle.answer_zone.specs.Questions.{AnswersItself, LeavesOpen, zone_of}
 use Rattle.answer_zone.specs.ZoneAnswers.{AnswersAs, Holds, Replies, answered, flags_for}
 use Rattle.answer_zone.specs.declared.zone.answers.ZoneAnswer.{ZoneAnswer}
-use Rattle.answer_zone.proofs.Failures.{if_err_map}
 use Rattle.answer_zone.proofs.Placing.{has_owned}
 use Rattle.answer_zone.proofs.Verdicts.{answers, apex_exists, encloser_there, left_open, no_name, not_referred, star_no_type, star_records}
 
@@ -36,11 +35,11 @@ module _ {H : Type 0} (hash_of : H → Hasher) (x : HashedZone H) (q : Name) (t 
       → found ++ rest ≡ answer_groups ours q t
       → spoken_for ours q t ≡ names
       → IfOk r (Holds (flags_for v) found rest)
-      → IfErr r (IsHashFailure (hash_of x.hasher) x.mode names)
+      → HashesEach (hash_of x.hasher) x.mode names r
       → Replies hash_of x q t r
-  reply v found rest names r said one groups spoke holds fails = (
+  reply v found rest names r said one groups spoke holds hashed = (
     if_ok_map (Holds (flags_for v) found rest) (AnswersAs ours q t) r (λ a h. answers ours q t v found rest a said one groups h) holds,
-    if_err_map _ _ r (λ e h. subst (λ (qs : List Name). IsHashFailure (hash_of x.hasher) x.mode qs e) (sym spoke) h) fails,
+    subst (λ (qs : List Name). HashesEach (hash_of x.hasher) x.mode qs r) (sym spoke) hashed,
   )
 
   -- ---- where opt-out leaves the name open
@@ -57,7 +56,7 @@ module _ {H : Type 0} (hash_of : H → Hasher) (x : HashedZone H) (q : Name) (t 
       → 0 ≡ answered v
       → verdict (zone_of x) false q t ≡ v
       → IfOk r (Holds (flags_for v) [] (soa ours ∷ proofs_of ours open_names))
-      → IfErr r (IsHashFailure (hash_of x.hasher) x.mode open_names)
+      → HashesEach (hash_of x.hasher) x.mode open_names r
       → Replies hash_of x q t r
   open_missing own opens v r ahead none said =
       let whole = left_open (zone_of x) (optout_of x.mode) q t opens in

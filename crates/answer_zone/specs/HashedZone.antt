@@ -1,5 +1,5 @@
 -- An accepted zone beside what hashes its names.
-use Rattle.std.specs.Prelude.{◌≡◌, ℕ, List, Contains, None}
+use Rattle.std.specs.Prelude.{◌≡◌, ℕ, List, Contains, IsSome, MatchResult, None, Result}
 use Rattle.definitions.specs.Name.{Name, low, wire}
 use Rattle.definitions.specs.Zone.{verdict}
 use Rattle.definitions.specs.ZoneChain.{Mode, Nsec, Nsec3, optout_of}
@@ -26,22 +26,31 @@ accepted_zone z = record { apex = z.apex; mode = z.mode; limit = z.limit; record
 abbrev pub served_by : {H : Type 0} → (H → Hasher) → HashedZone H → Served
 served_by hash_of z = served (hash_of z.hasher) (accepted_zone z)
 
--- ---- names that are not hashed
+-- ---- names that are hashed, and names that are not
 
--- the hasher fails on one of some names in lower case; a chain of names has no hashes
+-- the hasher has a hash for each of some names in lower case; a chain of names has no hashes
+abbrev pub AreHashed : Hasher → Mode → List Name → Type 0
+AreHashed hash Nsec ns = Unit {0}
+AreHashed hash (Nsec3 iterations salt optout) ns = (n : Name) → Contains ns n → IsSome (hash (wire n) 1 iterations salt)
+
+-- the hasher fails on one of them
 abbrev pub FailsOn : Hasher → Mode → List Name → Type 0
 FailsOn hash Nsec ns = ⊥
 FailsOn hash (Nsec3 iterations salt optout) ns = (n : Name) × Contains ns n × (hash (wire n) 1 iterations salt ≡ None)
 
--- why no answer is made: that, or want of memory
+-- why a call fails: that, or want of memory
 abbrev pub IsHashFailure : Hasher → Mode → List Name → HashError → Type 0
 IsHashFailure hash mode ns Failed = FailsOn hash mode ns
 IsHashFailure hash mode ns Memory = Unit {0}
+
+-- what a call says of some names: by a value, that each is hashed; by an error, why not
+abbrev pub HashesEach : {T : Type 0} → Hasher → Mode → List Name → Result T HashError → Type 0
+HashesEach hash mode ns r = MatchResult r (λ _. AreHashed hash mode ns) (IsHashFailure hash mode ns)
 
 -- the names that the proof of an answer speaks of
 abbrev pub spoken_for : Served → Name → ℕ → List Name
 spoken_for s q t = spoken s (low q) (verdict s.zone (optout_of s.mode) q t)
 
--- the hasher fails on one of these
-abbrev pub FailsFor : {H : Type 0} → (H → Hasher) → HashedZone H → Name → ℕ → HashError → Type 0
-FailsFor hash_of z q t e = IsHashFailure (hash_of z.hasher) z.mode (spoken_for (served_by hash_of z) q t) e
+-- what a call says of these
+abbrev pub HashesFor : {H T : Type 0} → (H → Hasher) → HashedZone H → Name → ℕ → Result T HashError → Type 0
+HashesFor hash_of z q t r = HashesEach (hash_of z.hasher) z.mode (spoken_for (served_by hash_of z) q t) r

@@ -1,5 +1,5 @@
 -- What a zone answers, before it is signed.
-use Rattle.std.specs.Prelude.{◌≡◌, ℕ, false, IfErr, IfOk, List, ◌++◌, Result, length}
+use Rattle.std.specs.Prelude.{◌≡◌, ℕ, false, IfOk, List, ◌++◌, Result, length}
 use Rattle.std.specs.List.{AllZip}
 use Rattle.definitions.specs.Name.{Name}
 use Rattle.definitions.specs.Zone.{Verdict, verdict, Records, NoName, StarRecords, Delegated}
@@ -7,7 +7,7 @@ use Rattle.denial_nsec3_hash.specs.declared.hasher.HashError.{HashError}
 use Rattle.answer_shared.specs.GroupView.{Presents}
 use Rattle.answer_shared.specs.Hashing.{Hasher}
 use Rattle.answer_shared.specs.Served.{Group, Served, answer_groups}
-use Rattle.answer_zone.specs.HashedZone.{FailsFor, HashedZone, served_by}
+use Rattle.answer_zone.specs.HashedZone.{HashedZone, HashesFor, served_by}
 use Rattle.answer_zone.specs.declared.zone.answers.ZoneAnswer.{ZoneAnswer}
 
 -- an authoritative answer, one that no such name exists, or a referral (RFC 1035, 4.1.1)
@@ -28,9 +28,9 @@ pub record AnswersAs (s : Served) (name : Name) (t : ℕ) (a : ZoneAnswer) : Typ
   pub split : length a.answer.items ≡ answered (verdict s.zone false name t)
   pub flags_are : a.flags ≡ flags_for (verdict s.zone false name t)
 
--- what a call answers for a zone, or why it does not: a name that the proof speaks of was not hashed
+-- what a call answers for a zone, where each name that the proof speaks of is hashed, or why it does not: one was not
 abbrev pub Replies : {H : Type 0} → (H → Hasher) → HashedZone H → Name → ℕ → Result ZoneAnswer HashError → Type 0
-Replies hash_of z q t r = IfOk r (AnswersAs (served_by hash_of z) q t) × IfErr r (FailsFor hash_of z q t)
+Replies hash_of z q t r = IfOk r (AnswersAs (served_by hash_of z) q t) × HashesFor hash_of z q t r
 
 -- its flags, the RRsets of its answer section, and the others
 pub record Holds (flags : ℕ) (found rest : List Group) (a : ZoneAnswer) : Type 0 where

@@ -141,11 +141,10 @@ fn hashed_links(alloc: Global, nsec3s: &[Nsec3Record]) -> Result<Vec<HashedLink>
 fn next_of_last(nsec3s: &[Nsec3Record]) -> &[u8]
     ensures { result.now ≡ last_next [] nsec3s.now }
 {
-    let mut next: &[u8] = &[];
-    for nsec3 in nsec3s {
-        next = nsec3.data().next_owner().as_slice();
+    match nsec3s.last() {
+        Some(nsec3) => nsec3.data().next_owner().as_slice(),
+        None => &[],
     }
-    next
 }
 
 impl HashedLink {

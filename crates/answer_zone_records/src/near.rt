@@ -87,6 +87,9 @@ pub fn neighbours_of<'a, T: Named>(items: &'a [T], name: &Name<Vec<u8>>) -> Neig
     ensures shows { (a : List (List ℕ)) → at_or_above a name.now ≡ true
         → list_any (λ x. at_or_above a (T.name_of x)) items.now ≡ shows result a }
     ensures owns { list_any (λ x. same (T.name_of x) name.now) items.now ≡ owns result name.now }
+    ensures place { let is = λ (x : T). before (T.name_of x) name.now in
+        IsPartitionPoint (λ x. is x ≡ true) (λ x. is x ≡ false) items.now result.place }
+    ensures bound { result.place ≤ length items.now }
 {
     let place = place_of(items, name);
     let before = if place > 0 {

@@ -16,7 +16,7 @@ ghost use Rattle.answer_zone_records.specs.OwnedRecords.{owned_by};
 ghost use Rattle.answer_zone_records.specs.Round.{IsCircle, IsRound};
 ghost use Rattle.answer_zone.specs.Placed.{IsCutRecords, IsNear};
 ghost use Rattle.answer_zone_records.specs.GroupRecords.{rrset_from};
-ghost use Rattle.answer_zone.specs.HashedZone.{IsHashFailure, served_by};
+ghost use Rattle.answer_zone.specs.HashedZone.{HashesEach, IsHashFailure, served_by};
 ghost use Rattle.answer_zone.specs.ZoneAnswers.{Holds, Replies};
 ghost use Rattle.answer_zone.specs.Questions.{AnswersItself, IsPlain, LeavesOpen, zone_of};
 
@@ -55,8 +55,8 @@ pub struct ZoneAnswer {
 impl<'h, H: Nsec3Hasher> ZoneRecords<'h, H> {
     /// The answer to a question: the RRset asked for, its own or a wildcard's, or the SOA record, or a referral, with the
     /// records of the chain that prove it (RFC 4035, 3.1; RFC 5155, 7.2). The type is none of those that the chain has.
-    /// It fails where memory does, or where the hasher fails on a name that the proof speaks of: the question's name, what
-    /// stands above it up to the apex, or a wildcard under these.
+    /// The hasher has a hash for each name that the proof speaks of. It fails where memory does, or where the hasher fails on
+    /// such a name: the question's name, what stands above it up to the apex, or a wildcard under these.
     pub fn answer_to(
         &self,
         alloc: Global,
@@ -105,8 +105,8 @@ impl<'h, H: Nsec3Hasher> ZoneRecords<'h, H> {
         requires records { IsCutRecords self.now.records cut.now }
         ensures answer { let s = served_by H.hash_of self.now in let c = low cut.now.name.now in
             IfOk result (Holds 32768 [] (unsigned_ns s c ++ if_any s c 43 ++ proofs_of s (c ∷ []))) }
-        ensures failed { let hash = H.hash_of self.now.hasher in
-            IfErr result (IsHashFailure hash self.now.mode (low cut.now.name.now ∷ [])) }
+        ensures hashed { let hash = H.hash_of self.now.hasher in
+            HashesEach hash self.now.mode (low cut.now.name.now ∷ []) result }
     {
         let mut authority = self.name_servers(alloc, cut)?;
         self.push_ds(alloc, &mut authority, cut)?;
@@ -263,10 +263,10 @@ impl<'h, H: Nsec3Hasher> ZoneRecords<'h, H> {
             let star = low around.now.star in
             let said = spoken s.zone s.mode q (StarRecords []) in
             IfOk result (Holds 33792 (expanded s star name.now rtype) (proofs_of s said)) }
-        ensures failed { let hash = H.hash_of self.now.hasher in let mode = self.now.mode in
+        ensures hashed { let hash = H.hash_of self.now.hasher in let mode = self.now.mode in
             let z = zone_of self.now in
             let said = spoken z mode (low name.now) (StarRecords []) in
-            IfErr result (IsHashFailure hash mode said) }
+            HashesEach hash mode said result }
     {
         let covered = self.covered_name(name, around);
         let mut authority = Vec::new(alloc);
@@ -326,10 +326,10 @@ impl<'h, H: Nsec3Hasher> ZoneRecords<'h, H> {
         ensures answer { let s = served_by H.hash_of self.now in
             let said = spoken s.zone s.mode (low name.now) NoName in
             IfOk result (Holds flags [] (soa s ∷ proofs_of s said)) }
-        ensures failed { let hash = H.hash_of self.now.hasher in let mode = self.now.mode in
+        ensures hashed { let hash = H.hash_of self.now.hasher in let mode = self.now.mode in
             let z = zone_of self.now in
             let said = spoken z mode (low name.now) NoName in
-            IfErr result (IsHashFailure hash mode said) }
+            HashesEach hash mode said result }
     {
         match &self.mode {
             Mode::Nsec => self.missing(alloc, flags, &[name, &around.star]),
@@ -351,9 +351,9 @@ impl<'h, H: Nsec3Hasher> ZoneRecords<'h, H> {
         ensures answer { let s = served_by H.hash_of self.now in
             let qs = map (λ n. low n.now) names.now in
             IfOk result (Holds flags [] (soa s ∷ proofs_of s qs)) }
-        ensures failed { let hash = H.hash_of self.now.hasher in
+        ensures hashed { let hash = H.hash_of self.now.hasher in
             let qs = map (λ n. low n.now) names.now in
-            IfErr result (IsHashFailure hash self.now.mode qs) }
+            HashesEach hash self.now.mode qs result }
     {
         Ok(ZoneAnswer {
             flags,
@@ -367,9 +367,9 @@ impl<'h, H: Nsec3Hasher> ZoneRecords<'h, H> {
         ensures answer { let s = served_by H.hash_of self.now in
             let qs = map (λ n. low n.now) names.now in
             IfOk result (λ gs. AllZip Presents gs.items (soa s ∷ proofs_of s qs)) }
-        ensures failed { let hash = H.hash_of self.now.hasher in
+        ensures hashed { let hash = H.hash_of self.now.hasher in
             let qs = map (λ n. low n.now) names.now in
-            IfErr result (IsHashFailure hash self.now.mode qs) }
+            HashesEach hash self.now.mode qs result }
     {
         let mut groups = self.soa_alone(alloc)?;
         self.push_proofs(alloc, &mut groups, names)?;
@@ -386,9 +386,9 @@ impl<'h, H: Nsec3Hasher> ZoneRecords<'h, H> {
         ensures adds { let s = served_by H.hash_of self.now in
             let qs = map (λ n. low n.now) names.now in
             OnOk result (Adds groups.old.items groups.new.items (proofs_of s qs)) }
-        ensures failed { let hash = H.hash_of self.now.hasher in
+        ensures hashed { let hash = H.hash_of self.now.hasher in
             let qs = map (λ n. low n.now) names.now in
-            IfErr result (IsHashFailure hash self.now.mode qs) }
+            HashesEach hash self.now.mode qs result }
     {
         match &self.chain {
             Chain::Names(links) => self.push_named_proofs(alloc, groups, links, names),
@@ -427,9 +427,9 @@ impl<'h, H: Nsec3Hasher> ZoneRecords<'h, H> {
             let hash = hash_in (H.hash_of self.now.hasher) self.now.mode in
             let said = hashed_said_of ttl (map (λ n. hash n.now) names.now) links.now.items in
             OnOk result (Adds groups.old.items groups.new.items said) }
-        ensures failed { let hash = H.hash_of self.now.hasher in
+        ensures hashed { let hash = H.hash_of self.now.hasher in
             let qs = map (λ n. low n.now) names.now in
-            IfErr result (IsHashFailure hash self.now.mode qs) }
+            HashesEach hash self.now.mode qs result }
     {
         let hashes = self.hashes_of(alloc, names)?;
         push_hashed_links(alloc, groups, links, self.link_ttl, &hashes)?;
@@ -441,9 +441,9 @@ impl<'h, H: Nsec3Hasher> ZoneRecords<'h, H> {
         ensures hashes { let hash = hash_in (H.hash_of self.now.hasher) self.now.mode in
             let hashes = map (λ n. hash n.now) names.now in
             IfOk result (λ v. map (λ h. h.items) v.items ≡ hashes) }
-        ensures failed { let hash = H.hash_of self.now.hasher in
+        ensures hashed { let hash = H.hash_of self.now.hasher in
             let qs = map (λ n. low n.now) names.now in
-            IfErr result (IsHashFailure hash self.now.mode qs) }
+            HashesEach hash self.now.mode qs result }
     {
         let mut hashes = Vec::with_capacity(alloc, names.len())?;
         for name in names {
@@ -460,8 +460,8 @@ impl<'h, H: Nsec3Hasher> ZoneRecords<'h, H> {
     fn hash_of_name(&self, alloc: Global, name: &Name<Vec<u8>>) -> Result<Vec<u8>, HashError>
         ensures hash { let hash = hash_in (H.hash_of self.now.hasher) self.now.mode in
             IfOk result (λ h. h.items ≡ hash name.now) }
-        ensures failed { let hash = H.hash_of self.now.hasher in
-            IfErr result (IsHashFailure hash self.now.mode (low name.now ∷ [])) }
+        ensures hashed { let hash = H.hash_of self.now.hasher in
+            HashesEach hash self.now.mode (low name.now ∷ []) result }
     {
         match &self.mode {
             Mode::Nsec => Ok(Vec::new(alloc)),

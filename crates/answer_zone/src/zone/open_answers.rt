@@ -1,5 +1,5 @@
 //! Answers that opt-out leaves open (RFC 5155, 6, 7.2.4 and 7.2.7).
-ghost use Rattle.std.specs.Prelude.{◌≡◌, [], ◌∷◌, ◌++◌, true, IfErr, IfOk, OnOk};
+ghost use Rattle.std.specs.Prelude.{◌≡◌, [], ◌∷◌, ◌++◌, true, IfOk, OnOk};
 ghost use Rattle.definitions.specs.Name.{low};
 ghost use Rattle.definitions.specs.Zone.{Open, has};
 ghost use Rattle.definitions.specs.ZoneChain.{optout_of};
@@ -7,7 +7,7 @@ ghost use Rattle.denial_laws.specs.OwnFacts.{spoken};
 ghost use Rattle.answer_shared.specs.GroupView.{Adds};
 ghost use Rattle.answer_shared.specs.Served.{expanded, proofs_of, soa, unsigned_ns};
 ghost use Rattle.answer_zone_records.specs.OwnedRecords.{owned_by};
-ghost use Rattle.answer_zone.specs.HashedZone.{IsHashFailure, served_by};
+ghost use Rattle.answer_zone.specs.HashedZone.{HashesEach, served_by};
 ghost use Rattle.answer_zone.specs.Placed.{IsCutRecords, IsNear};
 ghost use Rattle.answer_zone.specs.ZoneAnswers.{Holds, Replies};
 ghost use Rattle.answer_zone.specs.Questions.{AnswersItself, IsPlain, LeavesOpen, zone_of};
@@ -59,9 +59,9 @@ impl<'h, H: Nsec3Hasher> ZoneRecords<'h, H> {
         ensures answer { let s = served_by H.hash_of self.now in
             let said = spoken s.zone s.mode (low name.now) Open in
             IfOk result (Holds 32768 [] (unsigned_ns s (low cut.now.name.now) ++ proofs_of s said)) }
-        ensures failed { let hash = H.hash_of self.now.hasher in let mode = self.now.mode in
+        ensures hashed { let hash = H.hash_of self.now.hasher in let mode = self.now.mode in
             let z = zone_of self.now in
-            IfErr result (IsHashFailure hash mode (spoken z mode (low name.now) Open)) }
+            HashesEach hash mode (spoken z mode (low name.now) Open) result }
     {
         let mut authority = self.name_servers(alloc, cut)?;
         self.push_open_proofs(alloc, &mut authority, name, near)?;
@@ -114,9 +114,9 @@ impl<'h, H: Nsec3Hasher> ZoneRecords<'h, H> {
         ensures answer { let s = served_by H.hash_of self.now in
             let said = spoken s.zone s.mode (low name.now) Open in
             IfOk result (Holds flags [] (soa s ∷ proofs_of s said)) }
-        ensures failed { let hash = H.hash_of self.now.hasher in let mode = self.now.mode in
+        ensures hashed { let hash = H.hash_of self.now.hasher in let mode = self.now.mode in
             let z = zone_of self.now in
-            IfErr result (IsHashFailure hash mode (spoken z mode (low name.now) Open)) }
+            HashesEach hash mode (spoken z mode (low name.now) Open) result }
     {
         let mut authority = self.soa_alone(alloc)?;
         self.push_open_proofs(alloc, &mut authority, name, near)?;
@@ -145,9 +145,9 @@ impl<'h, H: Nsec3Hasher> ZoneRecords<'h, H> {
             let said = spoken s.zone s.mode (low name.now) Open in
             let there = expanded s (low star.now) name.now rtype in
             IfOk result (Holds 33792 there (proofs_of s said)) }
-        ensures failed { let hash = H.hash_of self.now.hasher in let mode = self.now.mode in
+        ensures hashed { let hash = H.hash_of self.now.hasher in let mode = self.now.mode in
             let z = zone_of self.now in
-            IfErr result (IsHashFailure hash mode (spoken z mode (low name.now) Open)) }
+            HashesEach hash mode (spoken z mode (low name.now) Open) result }
     {
         let mut authority = Vec::new(alloc);
         self.push_open_proofs(alloc, &mut authority, name, near)?;
@@ -171,9 +171,9 @@ impl<'h, H: Nsec3Hasher> ZoneRecords<'h, H> {
         ensures adds { let s = served_by H.hash_of self.now in
             let said = spoken s.zone s.mode (low name.now) Open in
             OnOk result (Adds groups.old.items groups.new.items (proofs_of s said)) }
-        ensures failed { let hash = H.hash_of self.now.hasher in let mode = self.now.mode in
+        ensures hashed { let hash = H.hash_of self.now.hasher in let mode = self.now.mode in
             let z = zone_of self.now in
-            IfErr result (IsHashFailure hash mode (spoken z mode (low name.now) Open)) }
+            HashesEach hash mode (spoken z mode (low name.now) Open) result }
     {
         let around = self.around(alloc, name, near)?;
         self.push_proofs(alloc, groups, &[&around.encloser, &around.closer])

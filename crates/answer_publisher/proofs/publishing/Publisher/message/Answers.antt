@@ -1,5 +1,5 @@
 use Rattle.std.proofs.Common.{◌++◌, subst, rules}
-use Rattle.std.specs.Prelude.{IfErr, IfOk}
+use Rattle.std.specs.Prelude.{Err, IfErr, IfOk, Ok, OnOk, Result}
 use Rattle.std.specs.List.{AllByRecursion}
 use Rattle.definitions.specs.Limits.{pointer_limit}
 use Rattle.answer_shared.specs.Given.{GivesAnswer}
@@ -17,6 +17,10 @@ use Rattle.answer_publisher_keys.specs.declared.keys.Publication.TheVariants.{Si
 use Rattle.answer_publisher.proofs.Refusals.{answer_refused, if_err_map}
 use Rattle.answer_publisher.proofs.WritesGiven.{NamedView, answer_given}
 use Rattle.answer_publisher.proofs.publishing.Publisher.message.Goals as goal
+
+of_value : {T E P : Type 0} (r : Result T E) → P → OnOk r P
+of_value (Ok x) p = p
+of_value (Err e) p = tt
 
 pub answer_to-requires : goal.answer_to-requires
 answer_to-requires g c = allowed_plain c.args.self.now.zone.apex (asked_of c.args.question.now) (search rules)
@@ -88,3 +92,6 @@ returns-clause-fault g c =
     c.compose_answer.result
     (λ f h. answer_refused sign verifies hash (served hash z) z.apex at life keys asked groups f made.groups_are h)
     refused
+
+pub returns-clause-hashed : goal.returns-clause-hashed
+returns-clause-hashed g c = of_value c.compose_answer.result c.in_ok-found.ensures.replies.1

@@ -30,7 +30,7 @@ returns-then-not-expands g c =
     let names = spoken s (low q) NoName in
     reply answers_of x q t NoName [] (soa s ∷ proofs_of s names) names c.denied.result said refl
     (groups_without_name x.apex x.mode (hash_in (answers_of x.hasher) x.mode) x.records q t whole)
-    (ap (spoken s (low q)) whole) c.denied.ensures.answer c.denied.ensures.failed
+    (ap (spoken s (low q)) whole) c.denied.ensures.answer c.denied.ensures.hashed
 
 pub returns-then-has : goal.returns-then-has
 returns-then-has g c =
@@ -51,7 +51,7 @@ returns-then-has g c =
     let names = spoken s (low q) (StarRecords []) in
     let groups = groups_expanded x.apex x.mode (hash_in (answers_of x.hasher) x.mode) x.records q t encloser ds ce whole in
     let holds = if_ok_map _ (Holds 33792 (expanded s star q t) (proofs_of s names)) c.expanded.result (λ a h. subst (λ n. Holds 33792 (expanded s n q t) (proofs_of s names) a) is h) c.expanded.ensures.answer in
-    reply answers_of x q t (StarRecords ds) (expanded s star q t) (proofs_of s names) names c.expanded.result said refl groups (ap (spoken s (low q)) whole) holds c.expanded.ensures.failed
+    reply answers_of x q t (StarRecords ds) (expanded s star q t) (proofs_of s names) names c.expanded.result said refl groups (ap (spoken s (low q)) whole) holds c.expanded.ensures.hashed
 
 pub returns : goal.returns
 returns g c =
@@ -68,7 +68,7 @@ returns g c =
     let names = spoken s (low q) NoName in
     reply answers_of x q t StarNoType [] (soa s ∷ proofs_of s names) names c.denied-2.result said refl
     (groups_without_star_type x.apex x.mode (hash_in (answers_of x.hasher) x.mode) x.records q t whole)
-    (ap (spoken s (low q)) whole) c.denied-2.ensures.answer c.denied-2.ensures.failed
+    (ap (spoken s (low q)) whole) c.denied-2.ensures.answer c.denied-2.ensures.hashed
 
 pub expands-requires-clause-uncut : goal.expands-requires-clause-uncut
 expands-requires-clause-uncut g c = λ inside.

@@ -3,10 +3,9 @@ use Rattle.definitions.specs.Name.{Name, low}
 use Rattle.answer_shared.specs.Accepting.{zone_with}
 use Rattle.answer_shared.specs.Served.{proofs_of, soa}
 use Rattle.answer_shared.proofs.ZoneData.{if_ok_map}
-use Rattle.answer_zone.specs.HashedZone.{IsHashFailure, served_by}
+use Rattle.answer_zone.specs.HashedZone.{HashesEach, served_by}
 use Rattle.answer_shared.specs.ModeView.{mode_of}
 use Rattle.answer_zone.specs.ZoneAnswers.{Holds}
-use Rattle.answer_zone.proofs.Failures.{if_err_map}
 use Rattle.answer_zone.proofs.Spoken.{denied_hashes, denied_names}
 use Rattle.answer_zone.proofs.zone.ZoneRecords.denied.Goals as goal
 
@@ -18,7 +17,7 @@ returns-in-Nsec g c =
     let hash = g.H.Nsec3Hasher.hash_of z.hasher in
     record {
       answer = if_ok_map _ _ c.missing.result (λ a h. subst (λ (qs : List Name). Holds c.args.flags [] (soa s ∷ proofs_of s qs) a) said h) c.missing.ensures.answer;
-      failed = if_err_map _ _ c.missing.result (λ e h. subst (λ (qs : List Name). IsHashFailure hash z.mode qs e) said h) c.missing.ensures.failed;
+      hashed = subst (λ (qs : List Name). HashesEach hash z.mode qs c.missing.result) said c.missing.ensures.hashed;
     }
 
 pub returns-in-Nsec3 : goal.returns-in-Nsec3
@@ -29,5 +28,5 @@ returns-in-Nsec3 g c =
     let hash = g.H.Nsec3Hasher.hash_of z.hasher in
     record {
       answer = if_ok_map _ _ c.missing-in-Nsec3.result (λ a h. subst (λ (qs : List Name). Holds c.args.flags [] (soa s ∷ proofs_of s qs) a) said h) c.missing-in-Nsec3.ensures.answer;
-      failed = if_err_map _ _ c.missing-in-Nsec3.result (λ e h. subst (λ (qs : List Name). IsHashFailure hash z.mode qs e) said h) c.missing-in-Nsec3.ensures.failed;
+      hashed = subst (λ (qs : List Name). HashesEach hash z.mode qs c.missing-in-Nsec3.result) said c.missing-in-Nsec3.ensures.hashed;
     }

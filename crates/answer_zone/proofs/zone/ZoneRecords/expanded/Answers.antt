@@ -1,8 +1,9 @@
-use Rattle.std.proofs.Common.{[], ◌∷◌, ◌++◌, refl, sym, ap, subst, ◌∙◌}
+use Rattle.std.proofs.Common.{List, [], ◌∷◌, ◌++◌, refl, sym, ap, subst, ◌∙◌}
 use Rattle.std.specs.List.{AllZip}
+use Rattle.definitions.specs.Name.{Name, low}
 use Rattle.answer_shared.specs.GroupView.{Presents}
 use Rattle.answer_shared.specs.Served.{proofs_of}
-use Rattle.answer_zone.specs.HashedZone.{served_by}
+use Rattle.answer_zone.specs.HashedZone.{AreHashed, served_by}
 use Rattle.answer_zone.proofs.zone.ZoneRecords.expanded.Goals as goal
 
 pub returns-clause-answer : goal.returns-clause-answer
@@ -13,5 +14,10 @@ returns-clause-answer g c =
       flags_are = refl;
       found_are = c.in_ok-under_name.ensures;
       rest_are = subst (λ qs. AllZip Presents c.push_proofs.new.groups.items (proofs_of s qs)) c.covered_name-covered.ensures
-          (subst (λ gs. AllZip Presents gs (proofs_of s (Rattle.definitions.specs.Name.low c.covered_name-covered.result.now ∷ []))) (sym (more.2 ∙ ap (λ x. x ++ more.0) c.new-authority.ensures.items)) more.1);
+          (subst (λ gs. AllZip Presents gs (proofs_of s (low c.covered_name-covered.result.now ∷ []))) (sym (more.2 ∙ ap (λ x. x ++ more.0) c.new-authority.ensures.items)) more.1);
     }
+
+pub returns-clause-hashed : goal.returns-clause-hashed
+returns-clause-hashed g c =
+    let z = c.args.self.now in
+    subst (λ (qs : List Name). AreHashed (g.H.Nsec3Hasher.hash_of z.hasher) z.mode qs) c.covered_name-covered.ensures c.in_ok-push_proofs.ensures.hashed

@@ -32,4 +32,4 @@ returns-in-Away g c =
     let names = spoken s (low q) Open in
     reply answers_of x q t Delegated [] (unsigned_ns s n ++ proofs_of s names) names c.open_referral.result said refl
     (groups_open_delegated x.apex x.mode (hash_in (answers_of x.hasher) x.mode) x.records q t n whole said r.topmost r.away)
-    (ap (spoken s (low q)) whole) c.open_referral.ensures.answer c.open_referral.ensures.failed
+    (ap (spoken s (low q)) whole) c.open_referral.ensures.answer c.open_referral.ensures.hashed

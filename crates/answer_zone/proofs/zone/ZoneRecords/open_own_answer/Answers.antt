@@ -26,7 +26,7 @@ returns-then-stands g c =
     let stood = exists_here x.apex x.records q (none_strictly z (low q) (low-low q) c.requires.own.1) in
     let none : has z (low q) t ≡ false = false_from_ne_true (has z (low q) t) (λ h. no_record z (optout_of x.mode) q t c.requires.own.0 c.requires.open (owner_inside x.apex x.records c.keeps.ensures.published.inside q t h) h) in
     let said = lacks_type z q t c.requires.own.0 (stood ∙ sym c.stands.ensures ∙ c.if-stands.true) none in
-    open_missing g.H.Nsec3Hasher.hash_of x q t c.requires.own c.requires.open NoType c.open_missing.result refl refl said c.open_missing.ensures.answer c.open_missing.ensures.failed
+    open_missing g.H.Nsec3Hasher.hash_of x q t c.requires.own c.requires.open NoType c.open_missing.result refl refl said c.open_missing.ensures.answer c.open_missing.ensures.hashed
 
 pub returns-then-not-expands : goal.returns-then-not-expands
 returns-then-not-expands g c =
@@ -36,7 +36,7 @@ returns-then-not-expands g c =
     let z = zone_of x in
     let gone : exists z (low q) ≡ false = exists_here x.apex x.records q (none_strictly z (low q) (low-low q) c.requires.own.1) ∙ sym c.stands.ensures ∙ c.if-stands.false in
     let said = unexpanded x.apex x.records q t c.requires.own.0 c.keeps.ensures.published.soa gone c.in_ok-star.star c.in_ok-star.ensures c.expands.result c.expands.ensures c.if-not-expands.true in
-    open_missing g.H.Nsec3Hasher.hash_of x q t c.requires.own c.requires.open NoName c.open_missing-then-not-expands.result refl refl said c.open_missing-then-not-expands.ensures.answer c.open_missing-then-not-expands.ensures.failed
+    open_missing g.H.Nsec3Hasher.hash_of x q t c.requires.own c.requires.open NoName c.open_missing-then-not-expands.result refl refl said c.open_missing-then-not-expands.ensures.answer c.open_missing-then-not-expands.ensures.hashed
 
 pub returns-then-has : goal.returns-then-has
 returns-then-has g c =
@@ -56,7 +56,7 @@ returns-then-has g c =
     let names = spoken s (low q) Open in
     let groups = groups_open_expanded x.apex x.mode (hash_in (answers_of x.hasher) x.mode) x.records q t encloser ds whole said ce in
     let holds = if_ok_map _ (Holds 33792 (expanded s star q t) (proofs_of s names)) c.open_expanded.result (λ a h. subst (λ n. Holds 33792 (expanded s n q t) (proofs_of s names) a) c.in_ok-star.ensures h) c.open_expanded.ensures.answer in
-    reply answers_of x q t (StarRecords ds) (expanded s star q t) (proofs_of s names) names c.open_expanded.result said refl groups (ap (spoken s (low q)) whole) holds c.open_expanded.ensures.failed
+    reply answers_of x q t (StarRecords ds) (expanded s star q t) (proofs_of s names) names c.open_expanded.result said refl groups (ap (spoken s (low q)) whole) holds c.open_expanded.ensures.hashed
 
 pub returns : goal.returns
 returns g c =
@@ -66,7 +66,7 @@ returns g c =
     let z = zone_of x in
     let gone : exists z (low q) ≡ false = exists_here x.apex x.records q (none_strictly z (low q) (low-low q) c.requires.own.1) ∙ sym c.stands.ensures ∙ c.if-stands.false in
     let said = star_lacks x.apex x.records q t c.requires.own.0 c.keeps.ensures.published.soa gone c.in_ok-star.star c.in_ok-star.ensures c.expands.result c.expands.ensures c.if-not-expands.false c.owned-wild.result c.owned-wild.ensures c.has.result c.has.ensures c.if-has.false in
-    open_missing g.H.Nsec3Hasher.hash_of x q t c.requires.own c.requires.open StarNoType c.open_missing-2.result refl refl said c.open_missing-2.ensures.answer c.open_missing-2.ensures.failed
+    open_missing g.H.Nsec3Hasher.hash_of x q t c.requires.own c.requires.open StarNoType c.open_missing-2.result refl refl said c.open_missing-2.ensures.answer c.open_missing-2.ensures.hashed
 
 pub expands-requires-clause-uncut : goal.expands-requires-clause-uncut
 expands-requires-clause-uncut g c = λ inside.

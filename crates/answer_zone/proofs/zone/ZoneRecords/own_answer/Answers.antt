@@ -1,5 +1,5 @@
-use Rattle.std.proofs.Common.{◌≡◌, [], ◌∷◌, true, false, refl, sym, ap, ◌∙◌}
-use Rattle.definitions.specs.Name.{low}
+use Rattle.std.proofs.Common.{◌≡◌, List, [], ◌∷◌, true, false, refl, sym, ap, subst, ◌∙◌}
+use Rattle.definitions.specs.Name.{Name, low}
 use Rattle.definitions.specs.Zone.{NoType, Records, data_at, has}
 use Rattle.definitions.specs.ZoneChain.{optout_of}
 use Rattle.definitions.proofs.ZoneNames.{low-low}
@@ -8,8 +8,9 @@ use Rattle.answer_shared.specs.Hashing.{hash_in}
 use Rattle.answer_shared.specs.Served.{proofs_of, rrset, soa, spoken, under}
 use Rattle.answer_shared.proofs.ZoneAnswers.{groups_found, groups_without_type}
 use Rattle.answer_zone_records.specs.OwnedRecords.{is_of_type}
-use Rattle.answer_zone.specs.HashedZone.{served_by}
+use Rattle.answer_zone.specs.HashedZone.{AreHashed, served_by}
 use Rattle.answer_zone.specs.Questions.{zone_of}
+use Rattle.answer_zone.proofs.Failures.{none_hashed}
 use Rattle.answer_zone.proofs.Placing.{exists_here, has_owned, none_strictly}
 use Rattle.answer_zone.proofs.Replies.{reply}
 use Rattle.answer_zone.proofs.Verdicts.{answers, closed, has_type, lacks_type, owner_inside}
@@ -26,8 +27,11 @@ returns-then-has g c =
     let ds = data_at z (low q) t in
     let said = has_type z q t c.requires.own.0 (owner_inside x.apex x.records c.keeps.ensures.published.inside q t there) there in
     let whole = closed z (optout_of x.mode) q t c.requires.told ∙ said in
-    let groups = groups_found x.apex x.mode (hash_in (g.H.Nsec3Hasher.hash_of x.hasher) x.mode) x.records q t ds whole in
-    (answers s q t (Records ds) (under q (rrset s (low q) t) ∷ []) [] c.in_ok-found.field-0 said refl groups c.in_ok-found.ensures, tt)
+    let hash = g.H.Nsec3Hasher.hash_of x.hasher in
+    let groups = groups_found x.apex x.mode (hash_in hash x.mode) x.records q t ds whole in (
+      answers s q t (Records ds) (under q (rrset s (low q) t) ∷ []) [] c.in_ok-found.field-0 said refl groups c.in_ok-found.ensures,
+      subst (λ (qs : List Name). AreHashed hash x.mode qs) (sym (ap (spoken s (low q)) whole)) (none_hashed hash x.mode),
+    )
 
 pub returns-then-stands : goal.returns-then-stands
 returns-then-stands g c =
@@ -43,7 +47,7 @@ returns-then-stands g c =
     let whole = closed z (optout_of x.mode) q t c.requires.told ∙ said in
     reply answers_of x q t NoType [] (soa s ∷ proofs_of s (low q ∷ [])) (low q ∷ []) c.missing.result said refl
     (groups_without_type x.apex x.mode (hash_in (answers_of x.hasher) x.mode) x.records q t whole)
-    (ap (spoken s (low q)) whole) c.missing.ensures.answer c.missing.ensures.failed
+    (ap (spoken s (low q)) whole) c.missing.ensures.answer c.missing.ensures.hashed
 
 pub answer_without_name-requires-clause-gone : goal.answer_without_name-requires-clause-gone
 answer_without_name-requires-clause-gone g c =

@@ -2,7 +2,7 @@ use Rattle.std.proofs.Common.{List, map, subst}
 use Rattle.std.proofs.lemmas.Result.{on_ok_weaker}
 use Rattle.definitions.specs.Name.{Name, low}
 use Rattle.answer_zone_records.specs.MadeLinks.{IsChain}
-use Rattle.answer_zone.proofs.ChainProofs.{hashed_circle, hashed_proofs, memory_only, named_proofs, named_round}
+use Rattle.answer_zone.proofs.ChainProofs.{hashed_circle, hashed_proofs, named_hashed, named_proofs, named_round}
 use Rattle.answer_zone.proofs.zone.ZoneRecords.push_proofs.Goals as goal
 
 pub returns-in-Names-clause-adds : goal.returns-in-Names-clause-adds
@@ -14,10 +14,14 @@ returns-in-Names-clause-adds g c =
     let chain = subst (IsChain hash z.apex z.mode z.records) c.in-Names.is kept in
     on_ok_weaker c.push_named_proofs.result (named_proofs hash z.apex z.mode z.records qs _ _ _ chain) c.push_named_proofs.ensures.adds
 
-pub returns-in-Names-clause-failed : goal.returns-in-Names-clause-failed
-returns-in-Names-clause-failed g c =
+pub returns-in-Names-clause-hashed : goal.returns-in-Names-clause-hashed
+returns-in-Names-clause-hashed g c =
     let z = c.args.self.now in
-    memory_only (g.H.Nsec3Hasher.hash_of z.hasher) z.mode (map (λ n. low n.now) c.args.names.now) c.push_named_proofs.result c.push_named_proofs.ensures.failed
+    let hash = g.H.Nsec3Hasher.hash_of z.hasher in
+    let qs : List Name = map (λ n. low n.now) c.args.names.now in
+    let kept = subst (λ z. IsChain (g.H.Nsec3Hasher.hash_of z.hasher) z.apex z.mode z.records c.self.inside.chain) c.self.view_is c.self.invariant.2 in
+    let chain = subst (IsChain hash z.apex z.mode z.records) c.in-Names.is kept in
+    named_hashed hash z.apex z.mode z.records qs _ c.push_named_proofs.result chain c.push_named_proofs.ensures.failed
 
 pub returns-in-Hashes-clause-adds : goal.returns-in-Hashes-clause-adds
 returns-in-Hashes-clause-adds g c =

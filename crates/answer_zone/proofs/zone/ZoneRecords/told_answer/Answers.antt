@@ -32,4 +32,4 @@ returns-in-Away g c =
     let spoke = ap (spoken s (low q)) whole ∙ ap (λ o. elim o as (λ _. List Name) [ None ↦ [] | Some c ↦ c ∷ [] ]) r.topmost in
     reply answers_of x q t Delegated [] (unsigned_ns s n ++ if_any s n 43 ++ proofs_of s (n ∷ [])) (n ∷ []) c.referral.result said refl
     (groups_delegated x.apex x.mode (hash_in (answers_of x.hasher) x.mode) x.records q t n r.topmost whole)
-    spoke c.referral.ensures.answer c.referral.ensures.failed
+    spoke c.referral.ensures.answer c.referral.ensures.hashed
