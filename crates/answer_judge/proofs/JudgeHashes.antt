@@ -29,10 +29,10 @@ none_hashed a h keys answer none d z chained =
     beyond a h keys answer none d z ∙ ap (λ b. elim b as (λ _. ℕ) [ true ↦ usable_hashes a h keys answer | false ↦ 0 ]) (sym chained)
 
 -- they are
-pub facts_hashed : (a : Answers) (h : Handing) (keys answer : Message) (usable : List Dnskey) (rs : List Spelled) (facts : Facts) (of_moments : Bool) → message_refusal pointer_limit h ≡ None → message pointer_limit h.dnskey_bytes ≡ Ok keys → message pointer_limit h.answer_bytes ≡ Ok answer
+pub facts_hashed : (a : Answers) (h : Handing) (keys answer : Message) (usable : List Dnskey) (rs : List Spelled) (facts : Facts) (unlike_times : Bool) → message_refusal pointer_limit h ≡ None → message pointer_limit h.dnskey_bytes ≡ Ok keys → message pointer_limit h.answer_bytes ≡ Ok answer
     → true ≡ is_chained a pointer_limit h keys → usable ≡ filter is_usable (keys_of h keys) → rs ≡ answer.records
-    → facts ≡ verified_facts (trusting a h usable) pointer_limit h.answer_bytes rs h.asked.name h.asked.rtype → of_moments ≡ are_unlike (proof_times (trusting a h usable) pointer_limit h.answer_bytes rs h.asked.name h.asked.rtype) → hashes_of_proof a h facts of_moments ≡ hashes_beyond a pointer_limit h
-facts_hashed a h keys answer usable rs facts of_moments none d z chained u s f t =
+    → facts ≡ verified_facts (trusting a h usable) pointer_limit h.answer_bytes rs h.asked.name h.asked.rtype → unlike_times ≡ are_unlike (proof_times (trusting a h usable) pointer_limit h.answer_bytes rs h.asked.name h.asked.rtype) → hashes_of_proof a h facts unlike_times ≡ hashes_beyond a pointer_limit h
+facts_hashed a h keys answer usable rs facts unlike_times none d z chained u s f t =
     (λ i. hashes_of_proof a h (f i) (t i))
     ∙ (λ i. hashes_of_proof a h (verified_facts (trusting a h (u i)) pointer_limit h.answer_bytes (s i) h.asked.name h.asked.rtype) (are_unlike (proof_times (trusting a h (u i)) pointer_limit h.answer_bytes (s i) h.asked.name h.asked.rtype)))
     ∙ ap (λ b. elim b as (λ _. ℕ) [ true ↦ usable_hashes a h keys answer | false ↦ 0 ]) chained

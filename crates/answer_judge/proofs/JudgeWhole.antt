@@ -83,10 +83,10 @@ untrusted a h keys answer e chained =
     inr (sym (e ∙ ap (λ b. elim b as (λ _. Answer) [ true ↦ judged_answer a pointer_limit h (filter is_usable (keys_of h keys)) answer | false ↦ Refuses r.NoTrustedKey ]) (sym chained)))
 
 -- they are, and what was verified of the answer decides
-pub decided_as : (a : Answers) (h : Handing) (keys answer : Message) (usable : List Dnskey) (rs : List Spelled) (facts : Facts) (of_moments : Bool) → judged_beyond a pointer_limit h ≡ judged_messages a pointer_limit h keys answer → true ≡ is_chained a pointer_limit h keys
+pub decided_as : (a : Answers) (h : Handing) (keys answer : Message) (usable : List Dnskey) (rs : List Spelled) (facts : Facts) (unlike_times : Bool) → judged_beyond a pointer_limit h ≡ judged_messages a pointer_limit h keys answer → true ≡ is_chained a pointer_limit h keys
     → usable ≡ filter is_usable (keys_of h keys) → rs ≡ answer.records → facts ≡ verified_facts (trusting a h usable) pointer_limit h.answer_bytes rs h.asked.name h.asked.rtype
-    → of_moments ≡ are_unlike (proof_times (trusting a h usable) pointer_limit h.answer_bytes rs h.asked.name h.asked.rtype) → judged_proof a h facts of_moments ≡ judged_beyond a pointer_limit h
-decided_as a h keys answer usable rs facts of_moments e chained u s f t =
+    → unlike_times ≡ are_unlike (proof_times (trusting a h usable) pointer_limit h.answer_bytes rs h.asked.name h.asked.rtype) → judged_proof a h facts unlike_times ≡ judged_beyond a pointer_limit h
+decided_as a h keys answer usable rs facts unlike_times e chained u s f t =
     (λ i. judged_proof a h (f i) (t i))
     ∙ (λ i. judged_proof a h (verified_facts (trusting a h (u i)) pointer_limit h.answer_bytes (s i) h.asked.name h.asked.rtype) (are_unlike (proof_times (trusting a h (u i)) pointer_limit h.answer_bytes (s i) h.asked.name h.asked.rtype)))
     ∙ ap (λ b. elim b as (λ _. Answer) [ true ↦ judged_answer a pointer_limit h (filter is_usable (keys_of h keys)) answer | false ↦ Refuses r.NoTrustedKey ]) chained

@@ -13,7 +13,7 @@ use Rattle.answer_shared.specs.Asking.{is_allowed}
 use Rattle.answer_judge_keys.specs.declared.verdict.Refusal.{Refusal}
 use Rattle.answer_judge_keys.specs.declared.verdict.Refusal.TheVariants as r
 use Rattle.answer_judge_keys.specs.Trusted.{is_usable}
-use Rattle.answer_judge_facts.specs.Judged.{are_mixed, are_of_moments, are_over, by_facts, decided_by, facts_in, is_chained, is_unhashed, judged, judged_answer, judged_bytes, judged_facts, judged_messages, keys_of}
+use Rattle.answer_judge_facts.specs.Judged.{are_mixed, has_unlike_times, are_over, by_facts, decided_by, facts_in, is_chained, is_unhashed, judged, judged_answer, judged_bytes, judged_facts, judged_messages, keys_of}
 use Rattle.answer_judge_keys.specs.Judging.{Answer, Handing, Refuses, Says, first_refusal}
 
 -- the facts of the answer, under the usable keys
@@ -27,7 +27,7 @@ pub record IsSaid (a : Answers) (k : ℕ) (h : Handing) (v : Verdict) : Type 0 w
   pub answer_read : message k h.answer_bytes ≡ Ok answer
   pub allowed : is_allowed h.apex h.asked ≡ true
   pub chained : is_chained a k h keys ≡ true
-  pub of_one_moment : (h.one_moment && are_of_moments a k h (filter is_usable (keys_of h keys)) answer) ≡ false
+  pub of_one_moment : (h.one_moment && has_unlike_times a k h (filter is_usable (keys_of h keys)) answer) ≡ false
   pub decided : decided_by a h (facts_of a k h keys answer) ≡ Some v
 
 said_is : (v w : Verdict) → Says v ≡ Says w → v ≡ w
@@ -75,7 +75,7 @@ module _ (a : Answers) (k : ℕ) (h : Handing) (v : Verdict) (allowed : is_allow
   messages_say keys answer i j e =
       let usable = filter is_usable (keys_of h keys) in
       let c = chained_says (is_chained a k h keys) (judged_answer a k h usable answer) e in
-      let mixed : Bool = h.one_moment && are_of_moments a k h usable answer in
+      let mixed : Bool = h.one_moment && has_unlike_times a k h usable answer in
       let facts : Facts = facts_of a k h keys answer in
       record {
         keys = keys;

@@ -13,7 +13,7 @@ ghost use Rattle.answer_judge.specs.Meeting.{AnswersGiven, JudgesSo};
 ghost use Rattle.answer_judge_keys.specs.Judging.{Judges, RefusesFirst, answer_of, handed, verifications_of, hashes_of, is_first, message_refusal, same_question, hash_bound, verification_bound};
 ghost use Rattle.answer_shared.specs.Asking.{is_allowed};
 ghost use Rattle.answer_scheme.specs.Answers.{EachAgreeing, SignatureTest, with_test};
-ghost use Rattle.answer_judge_facts.specs.Asked.{Implies, is_candidate};
+ghost use Rattle.answer_judge_facts.specs.Asked.{Implies, is_tried_beyond, is_tried_signature};
 
 pub mod by_scheme;
 mod deciding;
@@ -79,8 +79,9 @@ impl<'a> Case<'a> {
     /// this asks that signatures must be of one moment. Where no signature of the one message holds at the moment, or none of
     /// the other, they are refused.
     ///
-    /// What is said holds under each scheme that agrees with all that `verify` answered. It is asked about candidates alone:
-    /// signatures of the two messages, over RRsets there that are sought, under keys of the DNSKEY answer.
+    /// What is said holds under each scheme that agrees with all that `verify` answered. It is asked about those signatures alone
+    /// that are due: of the two messages, in time, over an RRset there that is sought and that no earlier one verified, each
+    /// under the key of its tag and algorithm.
     pub fn judge<C: Checks>(&self, alloc: Global, checks: &mut C) -> Result<Judgement, Refused>
         ensures judges { let answer = answer_of result in
             Judges pointer_limit self.now answer (verifications_of result) (hashes_of result) }
@@ -99,7 +100,7 @@ impl<'a> Case<'a> {
             → C.agrees checks.old test
             × JudgesSo pointer_limit (with_test (C.answers checks.old) test) self.now result }
         ensures asked { let a = C.answers checks.old in
-            (test : SignatureTest) → Implies (is_candidate a pointer_limit self.now) test
+            (test : SignatureTest) → Implies (is_tried_signature a pointer_limit self.now) test
             → C.asked_only checks.old test → C.asked_only checks.new test }
         ensures verified { C.verified checks.new ≡ C.verified checks.old + verifications_of result }
         ensures hashed { C.hashed checks.new ≡ C.hashed checks.old + hashes_of result }
@@ -170,7 +171,7 @@ fn judge_messages<C: Checks>(
     ensures agrees { (test : SignatureTest) → C.agrees verifier.new.checks.now test
         → C.agrees verifier.old.checks.now test }
     ensures asked { let a = C.answers verifier.old.checks.now in
-        (test : SignatureTest) → Implies (is_candidate a pointer_limit case.now) test
+        (test : SignatureTest) → Implies (is_tried_beyond a pointer_limit case.now) test
         → C.asked_only verifier.old.checks.now test → C.asked_only verifier.new.checks.now test }
     ensures same { C.answers verifier.new.checks.now ≡ C.answers verifier.old.checks.now }
     ensures same_checks { verifier.new.checks.ghost_name ≡ verifier.old.checks.ghost_name }
@@ -248,6 +249,8 @@ fn read_counted<'a>(
 }
 
 /// Whether a message asks for a name, up to case, a type and a class.
+///
+/// The answer to another question, replayed, would pass for what the zone says of this one.
 fn asks(view: &MessageView, name: &Name<Vec<u8>>, rtype: Rtype, class: Class) -> bool
     ensures { let asked : Asked = record { name = name.now; rtype = rtype; class = class } in
         result ≡ same_question view.now.asked asked }

@@ -1,11 +1,13 @@
 -- What a judge asks of signatures, and which other answers it may have had.
-use Rattle.std.proofs.Common.{◌≡◌, ◌⊎◌, ℕ, zero, suc, ◌+◌, ◌<◌, Bool, true, false, not, ◌&&◌, ◌||◌, ◌==◌, List, [], ◌∷◌, map, length, drop, get_or, refl, sym, subst, ap, ◌∙◌, arith, inl, inr, ⊎_elim}
-use Rattle.std.specs.Prelude.{Some, None}
+use lib.Pointwise.{bytes_decides}
+use Rattle.std.proofs.Common.{◌≡◌, ◌⊎◌, ℕ, zero, suc, ◌+◌, ◌<◌, Bool, true, false, not, ◌&&◌, ◌||◌, ◌==◌, List, [], ◌∷◌, ◌++◌, map, length, drop, get_or, refl, sym, subst, ap, ◌∙◌, arith, inl, inr, ⊎_elim}
+use Rattle.std.specs.Prelude.{Some, None, is_some}
 use Rattle.std.specs.List.{AllByRecursion, find, list_any}
 use Rattle.std.specs.Cow.{cow_slice_items}
 use Rattle.std.proofs.lemmas.List.{length-map}
-use Rattle.std.proofs.lemmas.Bool.{and_parts, or_right}
-use Rattle.definitions.specs.Dnskey.{Dnskey}
+use Rattle.std.specs.Str.{bytes_eq}
+use Rattle.std.proofs.lemmas.Bool.{and_parts, or_left, or_right}
+use Rattle.definitions.specs.Dnskey.{Dnskey, same_key}
 use Rattle.definitions.specs.Name.{Name, low, same}
 use Rattle.definitions.specs.Limits.{pointer_limit}
 use Rattle.definitions.specs.Signing.{Fields, signed_octets}
@@ -15,14 +17,17 @@ use Rattle.messages.specs.declared.view.ViewRecord.{ViewRecord}
 use Rattle.messages.proofs.Lists.{items_from}
 use Rattle.messages.proofs.ZoneNames.{same_labels}
 use Rattle.answer_scheme.specs.Answers.{Answers, SignatureTest}
-use Rattle.answer_judge_facts.specs.Asked.{PassesGroup, PassesGroups, PassesOver, PassesRecord, PassesSought, bare}
+use Rattle.answer_judge_facts.specs.Asked.{Implies, PassesGroup, PassesGroups, PassesOver, PassesRecord, is_carried, is_found, is_tried_among}
+use Rattle.answer_judge_facts.specs.Counted.{can_try, is_tried, tries_fields}
 use Rattle.answer_judge_keys.specs.Trusted.{fits_key, is_due, is_signature, signs}
-use Rattle.answer_judge_facts.specs.Marked.{data_in, is_of, marked}
+use Rattle.answer_judge_facts.specs.Marked.{data_in, is_of, marked, tries_group}
 use Rattle.answer_judge_facts.specs.Sought.{Sought}
 use Rattle.answer_judge_facts.specs.Verified.{Trusting}
 use Rattle.answer_judge_facts.specs.declared.groups.Group.{Group}
 use Rattle.answer_judge_facts.proofs.JudgeCase.{signed_octets-owner, signed_octets-signer}
-use Rattle.answer_judge_facts.proofs.JudgeCounted.{AreSought}
+use Rattle.answer_judge_facts.proofs.JudgeCounted.{AreSought, marked_more, tried_fields, try-signer}
+use Rattle.answer_judge_facts.proofs.JudgeMarks.{marked_done}
+use Rattle.answer_judge_keys.proofs.KeyClashes.{same_itself}
 
 -- ---- tests that agree
 
@@ -52,55 +57,86 @@ signs_found a apex keys now owner items f signature key due found =
     ])
     ∙ (λ i. elim (found i) as (λ _. Bool) [ None ↦ false | Some k ↦ a.verifies k (signed_octets f owner 1 items) signature ])
 
--- ---- groups as if nothing verified them
-
-pub bare_marked : (w : Trusting) (m : List ℕ) (rs : List Spelled) (gs : List Group) → map bare (map (marked w m rs) gs) ≡ map bare gs
-bare_marked w m rs [] = refl
-bare_marked w m rs (g ∷ gs) = ap (λ ys. bare g ∷ ys) (bare_marked w m rs gs)
-
-pub bare_next : (w : Trusting) (m : List ℕ) (rs : List Spelled) (now new old : List Group) → new ≡ map (marked w m rs) now → map bare now ≡ map bare old → map bare new ≡ map bare old
-bare_next w m rs now new old n h = ap (map bare) n ∙ bare_marked w m rs now ∙ h
-
-bare_at : (P : Group → Type 0) (gs : List Group) (i : ℕ) (x : Group) → AllByRecursion P (map bare gs) → i < length gs → x ≡ get_or gs i x → P (bare x)
-bare_at P [] i x a h e = absurd (omega arith)
-bare_at P (g ∷ gs) zero x a h e = subst (λ (y : Group). P (bare y)) (sym e) a.0
-bare_at P (g ∷ gs) (suc i) x a h e = let inside : i < length gs = omega arith in bare_at P gs i x a.1 inside e
+-- such a signature is tried
+pub tries_found : (w : Trusting) (owner : Name) (items : List (List ℕ)) (f : Fields) (key : Dnskey) → (not (length items == 0) && is_due w.apex w.now owner f) ≡ true → find (fits_key f) w.keys ≡ Some key → can_try w owner items f ≡ true
+tries_found w owner items f key due found =
+    (λ i. elim (due i) as (λ _. Bool) [ false ↦ false | true ↦ is_some (find (fits_key f) w.keys) ])
+    ∙ ap is_some found
 
 -- ---- records
 
 -- one record more
-pub next_passes : (P : Spelled → Type 0) (rs : List ViewRecord) (i : ℕ) (r : ViewRecord) → i < length rs → r ≡ get_or rs i r → AllByRecursion P (map spelled (drop i rs)) → P (spelled r) × AllByRecursion P (map spelled (drop (i + 1) rs))
-next_passes P rs i r h e all = subst (λ (ys : List ViewRecord). AllByRecursion P (map spelled ys)) (items_from rs i r h e) all
+pub next_passes : (test : SignatureTest) (w : Trusting) (m : List ℕ) (rs : List ViewRecord) (i : ℕ) (r : ViewRecord) (now new : List Group) → i < length rs → r ≡ get_or rs i r → new ≡ map (marked w m (spelled r ∷ [])) now
+    → PassesGroups test w m now (map spelled (drop i rs)) → PassesRecord test w m now (spelled r) × PassesGroups test w m new (map spelled (drop (i + 1) rs))
+next_passes test w m rs i r now new h e n passes =
+    let both : PassesGroups test w m now (map spelled (r ∷ drop (i + 1) rs)) = subst (λ (ys : List ViewRecord). PassesGroups test w m now (map spelled ys)) (items_from rs i r h e) passes in
+    (both.0, subst (λ (gs : List Group). PassesGroups test w m gs (map spelled (drop (i + 1) rs))) (sym n) both.1)
 
--- a record's signature, over the group at a place
-pub passes_at : (test : SignatureTest) (keys : List Dnskey) (m : List ℕ) (r : Spelled) (s : Signature) (gs : List Group) (i : ℕ) (x : Group) → rrsig_at pointer_limit m r ≡ Some (signature_of s) → is_signature r ≡ true
-    → i < length gs → x ≡ get_or gs i x → is_of r.owner (fields_read s).covered x ≡ true → PassesRecord test keys m (map bare gs) r
-    → PassesOver test keys (fields_read s) s.signature (get_or gs i x).owner (data_in (get_or gs i x))
-passes_at test keys m r s gs i x read is within at own passes =
-    let over : PassesOver test keys (fields_of s) s.signature x.owner (data_in x) = bare_at (PassesGroup test keys r.owner (fields_of s) s.signature) gs i x (passes (fields_of s) s.signature is read) within at own in
-    subst (λ (y : Group). PassesOver test keys (fields_read s) s.signature y.owner (data_in y)) at
+item_at : (P : Group → Type 0) (gs : List Group) (i : ℕ) (x : Group) → AllByRecursion P gs → i < length gs → x ≡ get_or gs i x → P x
+item_at P [] i x a h e = absurd (omega arith)
+item_at P (g ∷ gs) zero x a h e = subst P (sym e) a.0
+item_at P (g ∷ gs) (suc i) x a h e = let inside : i < length gs = omega arith in item_at P gs i x a.1 inside e
+
+-- a record's signature, over the group at a place that is not verified yet
+pub passes_at : (test : SignatureTest) (w : Trusting) (m : List ℕ) (r : Spelled) (s : Signature) (gs : List Group) (i : ℕ) (x : Group) → rrsig_at pointer_limit m r ≡ Some (signature_of s) → is_signature r ≡ true → (r.class == 1) ≡ true
+    → i < length gs → x ≡ get_or gs i x → is_of r.owner (fields_read s).covered x ≡ true → is_some x.verified ≡ false → PassesRecord test w m gs r
+    → can_try w (get_or gs i x).owner (data_in (get_or gs i x)) (fields_read s) ≡ true → PassesOver test w.keys (fields_read s) s.signature (get_or gs i x).owner (data_in (get_or gs i x))
+passes_at test w m r s gs i x read is class within at own not_yet passes can =
+    let here : can_try w x.owner (data_in x) (fields_of s) ≡ true = try-signer w x.owner (data_in x) s ∙ ap (λ (y : Group). can_try w y.owner (data_in y) (fields_read s)) at ∙ can in
+    let tries : tries_group w r.owner (fields_of s) x ≡ true = λ j. own j && (not (not_yet j) && here j) in
+    let over : PassesOver test w.keys (fields_of s) s.signature x.owner (data_in x) =
+    item_at (PassesGroup test w r.owner (fields_of s) s.signature) gs i x (passes (fields_of s) s.signature (λ j. is j && class j) read) within at tries in
+    subst (λ (y : Group). PassesOver test w.keys (fields_read s) s.signature y.owner (data_in y)) at
     (λ key found. ap (λ octets. test key octets s.signature) (sym (signed_octets-signer s x.owner (data_in x))) ∙ over key found)
 
 -- ---- RRsets that are sought
 
-each_group : (test : SignatureTest) (keys : List Dnskey) (s : Sought) (o : Name) (f : Fields) (signature : List ℕ) (gs : List Group)
-    → AllByRecursion (λ g. is_of o f.covered g ≡ true → data_in g ≡ s.datas o f.covered) gs → (list_any (is_of o f.covered) gs ≡ true → PassesOver test keys f signature o (s.datas o f.covered))
-    → AllByRecursion (PassesGroup test keys o f signature) (map bare gs)
-each_group test keys s o f signature [] d over = tt
-each_group test keys s o f signature (g ∷ gs) d over = (
-  (λ is key found.
+itself : (octets : List ℕ) → bytes_eq octets octets ≡ true
+itself octets = (bytes_decides octets octets).1 refl
+
+-- a signature that is tried, with its key and octets
+one_tried : (w : Trusting) (m : List ℕ) (s : Sought) (earlier : List Spelled) (r : Spelled) (f : Fields) (signature : List ℕ) (key : Dnskey) → (is_signature r && (r.class == 1)) ≡ true → rrsig_at pointer_limit m r ≡ Some (f, signature)
+    → tries_fields w pointer_limit m s earlier r.owner f ≡ true → find (fits_key f) w.keys ≡ Some key
+    → (is_tried w pointer_limit m s earlier r && is_carried w pointer_limit m s r key (signed_octets f r.owner 1 (s.datas r.owner f.covered)) signature) ≡ true
+one_tried w m s earlier r f signature key is read tries found =
+    let octets = signed_octets f r.owner 1 (s.datas r.owner f.covered) in
+    let tried : is_tried w pointer_limit m s earlier r ≡ true =
+    (λ i. elim (is i) as (λ _. Bool) [ false ↦ false | true ↦ elim (read i) as (λ _. Bool) [ None ↦ false | Some f ↦ tries_fields w pointer_limit m s earlier r.owner f.0 ] ]) ∙ tries in
+    let carried : is_carried w pointer_limit m s r key octets signature ≡ true =
+    (λ i. elim (read i) as (λ _. Bool) [ None ↦ false | Some f ↦ is_found w f.0 key && bytes_eq signature f.1 && bytes_eq octets (signed_octets f.0 r.owner 1 (s.datas r.owner f.0.covered)) ])
+    ∙ (λ i. elim (found i) as (λ _. Bool) [ None ↦ false | Some found ↦ same_key key found ] && itself signature i && itself octets i)
+    ∙ ap (λ b. b && true && true) (same_itself key) in
+    λ i. tried i && carried i
+
+each_group : (test : SignatureTest) (w : Trusting) (s : Sought) (o : Name) (f : Fields) (signature : List ℕ) (gs : List Group)
+    → AllByRecursion (λ g. is_of o f.covered g ≡ true → data_in g ≡ s.datas o f.covered) gs → (list_any (tries_group w o f) gs ≡ true → PassesOver test w.keys f signature o (s.datas o f.covered))
+    → AllByRecursion (PassesGroup test w o f signature) gs
+each_group test w s o f signature [] d over = tt
+each_group test w s o f signature (g ∷ gs) d over = (
+  (λ tries key found.
+      let is = (and_parts (is_of o f.covered g) (not (is_some g.verified) && can_try w g.owner (data_in g) f) tries).0 in
       let p = and_parts (g.rtype == f.covered) (same o g.owner) is in
       let owner : low g.owner ≡ low o = sym (same_labels (low o) (low g.owner) p.1) in
       let octets : signed_octets f g.owner 1 (data_in g) ≡ signed_octets f o 1 (s.datas o f.covered) = ap (signed_octets f g.owner 1) (d.0 is) ∙ signed_octets-owner f g.owner o (s.datas o f.covered) owner in
-      let any : list_any (is_of o f.covered) (g ∷ gs) ≡ true = ap (λ b. b || list_any (is_of o f.covered) gs) is in
-      ap (λ os. test key os signature) octets ∙ over any key found),
-  each_group test keys s o f signature gs d.1 (λ any. over (or_right (is_of o f.covered g) (list_any (is_of o f.covered) gs) any)),
+      ap (λ os. test key os signature) octets ∙ over (or_left (tries_group w o f g) (list_any (tries_group w o f) gs) tries) key found),
+  each_group test w s o f signature gs d.1 (λ any. over (or_right (tries_group w o f g) (list_any (tries_group w o f) gs) any)),
 )
 
--- where a test passes for what is sought, it passes for the groups of it
-pub sought_passes : (test : SignatureTest) (keys : List Dnskey) (m : List ℕ) (s : Sought) (gs : List Group) (rs : List Spelled) → AreSought s gs → PassesSought test keys m s rs → PassesGroups test keys m gs rs
-sought_passes test keys m s gs [] a passes = tt
-sought_passes test keys m s gs (r ∷ rs) a passes = (
-  (λ f signature is read. each_group test keys s r.owner f signature gs (a.datas r.owner f.covered) (λ any. passes.0 f signature is read (a.found r.owner f.covered ∙ any))),
-  sought_passes test keys m s gs rs a passes.1,
+datas_marked : (w : Trusting) (m : List ℕ) (earlier : List Spelled) (s : Sought) (o : Name) (t : ℕ) (gs : List Group) → AllByRecursion (λ g. is_of o t g ≡ true → data_in g ≡ s.datas o t) gs
+    → AllByRecursion (λ g. is_of o t g ≡ true → data_in g ≡ s.datas o t) (map (marked w m earlier) gs)
+datas_marked w m earlier s o t [] d = tt
+datas_marked w m earlier s o t (g ∷ gs) d = (d.0, datas_marked w m earlier s o t gs d.1)
+
+passes_behind : (test : SignatureTest) (w : Trusting) (m : List ℕ) (s : Sought) (gs : List Group) (earlier rs : List Spelled) → AreSought s gs → Implies (is_tried_among w pointer_limit m s earlier rs) test → PassesGroups test w m (map (marked w m earlier) gs) rs
+passes_behind test w m s gs earlier [] a passes = tt
+passes_behind test w m s gs earlier (r ∷ rs) a passes = (
+  (λ f signature is read.
+      each_group test w s r.owner f signature (map (marked w m earlier) gs) (datas_marked w m earlier s r.owner f.covered gs (a.datas r.owner f.covered))
+      (λ any key found. passes key (signed_octets f r.owner 1 (s.datas r.owner f.covered)) signature (or_left _ _ (one_tried w m s earlier r f signature key is read (sym (tried_fields w m s gs earlier r.owner f a) ∙ any) found)))),
+  subst (λ (ys : List Group). PassesGroups test w m ys rs) (sym (marked_more w m earlier r gs))
+      (passes_behind test w m s gs (earlier ++ r ∷ []) rs a (λ key octets signature later. passes key octets signature (or_right _ _ later))),
 )
+
+-- where a test passes for the signatures that are tried on what is sought, it passes for the groups of it
+pub sought_passes : (test : SignatureTest) (w : Trusting) (m : List ℕ) (s : Sought) (gs : List Group) (rs : List Spelled) → AreSought s gs → Implies (is_tried_among w pointer_limit m s [] rs) test → PassesGroups test w m gs rs
+sought_passes test w m s gs rs a passes = subst (λ (ys : List Group). PassesGroups test w m ys rs) (marked_done w m gs) (passes_behind test w m s gs [] rs a passes)

@@ -132,7 +132,7 @@ count_type_again w m r gs i g t n k is s c a h at own v same = go (rrsig_at poin
     go (Some f) e x = let even : t ≡ f.0.covered = cc in count_again w m r f gs i g n k e s c a h at (ap (λ (t : ℕ). is_of r.owner t g) (sym even) ∙ own) v same
 
 -- whether the signer is lowered makes no difference
-try-signer : (w : Trusting) (owner : Name) (items : List (List ℕ)) (s : Signature) → can_try w owner items (fields_of s) ≡ can_try w owner items (fields_read s)
+pub try-signer : (w : Trusting) (owner : Name) (items : List (List ℕ)) (s : Signature) → can_try w owner items (fields_of s) ≡ can_try w owner items (fields_read s)
 try-signer w owner items s =
     let d : is_due w.apex w.now owner (fields_of s) ≡ is_due w.apex w.now owner (fields_read s) = ap (λ n. labels_fit w.apex owner (fields_read s) && in_time (fields_read s) w.now && labels_eq n (low w.apex)) (low-low (fields_read s).signer) in
     λ i. elim (not (length items == 0) && d i) as (λ _. Bool) [ false ↦ false | true ↦ is_some (find (fits_key (fields_read s)) w.keys) ]
@@ -189,7 +189,7 @@ each_alike w m s earlier o f (g ∷ gs) d v = (
   each_alike w m s earlier o f gs d.1 v.1,
 )
 
-tried_fields : (w : Trusting) (m : List ℕ) (s : Sought) (gs : List Group) (earlier : List Spelled) (o : Name) (f : Fields) → AreSought s gs → list_any (tries_group w o f) (map (marked w m earlier) gs) ≡ tries_fields w pointer_limit m s earlier o f
+pub tried_fields : (w : Trusting) (m : List ℕ) (s : Sought) (gs : List Group) (earlier : List Spelled) (o : Name) (f : Fields) → AreSought s gs → list_any (tries_group w o f) (map (marked w m earlier) gs) ≡ tries_fields w pointer_limit m s earlier o f
 tried_fields w m s gs earlier o f a =
     list_any-map (tries_group w o f) (marked w m earlier) gs
     ∙ any_alike (is_of o f.covered) (λ g. not (is_some (marked w m earlier g).verified) && can_try w g.owner (data_in g) f)
@@ -221,7 +221,7 @@ first_more p (y ∷ xs) x = ap (or_rest (p y)) (first_more p xs x) ∙ rest_asso
     rest_assoc (Some f) b c = refl
     rest_assoc None b c = refl
 
-marked_more : (w : Trusting) (m : List ℕ) (earlier : List Spelled) (r : Spelled) (gs : List Group) → map (marked w m (r ∷ [])) (map (marked w m earlier) gs) ≡ map (marked w m (earlier ++ r ∷ [])) gs
+pub marked_more : (w : Trusting) (m : List ℕ) (earlier : List Spelled) (r : Spelled) (gs : List Group) → map (marked w m (r ∷ [])) (map (marked w m earlier) gs) ≡ map (marked w m (earlier ++ r ∷ [])) gs
 marked_more w m earlier r [] = refl
 marked_more w m earlier r (g ∷ gs) =
     let p = verified_with w pointer_limit m g.owner g.rtype (data_in g) in

@@ -1,6 +1,6 @@
--- Which signatures a judge verifies, and where they stand (RFC 4035, 5.2 and 5.3).
-use Rattle.std.specs.Prelude.{◌≡◌, ℕ, Bool, true, false, ◌&&◌, ◌||◌, List, filter, map, Some, None, Ok, Err}
-use Rattle.std.specs.List.{AllByRecursion, find, list_any}
+-- Which signatures a judge verifies, with which keys and octets (RFC 4035, 5.2 and 5.3).
+use Rattle.std.specs.Prelude.{◌≡◌, ℕ, Bool, true, false, ◌&&◌, ◌||◌, ◌==◌, List, [], ◌∷◌, ◌++◌, filter, length, map, Some, None, Ok, Err, ⊤, nat_eq, if◌then◌else◌}
+use Rattle.std.specs.List.{AllByRecursion, find}
 use Rattle.std.specs.Str.{bytes_eq}
 use Rattle.definitions.specs.Name.{Name}
 use Rattle.definitions.specs.Dnskey.{Dnskey, same_key}
@@ -9,10 +9,12 @@ use Rattle.definitions.specs.Signing.{Fields, signed_octets}
 use Rattle.messages.specs.Message.{Message, Spelled, message, rrsig_at}
 use Rattle.answer_scheme.specs.Answers.{Answers, SignatureTest}
 use Rattle.answer_judge_keys.specs.Trusted.{fits_key, is_signature, is_trusted, is_usable}
-use Rattle.answer_judge_facts.specs.Judged.{keys_of}
-use Rattle.answer_judge_keys.specs.Judging.{Handing}
-use Rattle.answer_judge_facts.specs.Marked.{data_in, is_of}
+use Rattle.answer_judge_facts.specs.Counted.{is_tried}
+use Rattle.answer_judge_facts.specs.Judged.{is_chained, keys_of, trusting}
+use Rattle.answer_judge_keys.specs.Judging.{Handing, first_refusal, message_refusal}
+use Rattle.answer_judge_facts.specs.Marked.{data_in, marked, tries_group}
 use Rattle.answer_judge_facts.specs.Sought.{Sought, answer_sought, keys_sought}
+use Rattle.answer_judge_facts.specs.Verified.{Trusting}
 use Rattle.answer_judge_facts.specs.declared.groups.Group.{Group}
 
 -- ---- what a test has to pass for
@@ -21,58 +23,72 @@ use Rattle.answer_judge_facts.specs.declared.groups.Group.{Group}
 abbrev pub PassesOver : SignatureTest → List Dnskey → Fields → List ℕ → Name → List (List ℕ) → Type 0
 PassesOver test keys f signature owner items = (key : Dnskey) → find (fits_key f) keys ≡ Some key → test key (signed_octets f owner 1 items) signature ≡ true
 
--- the same, over a group of an owner and the covered type
-abbrev pub PassesGroup : SignatureTest → List Dnskey → Name → Fields → List ℕ → Group → Type 0
-PassesGroup test keys owner f signature g = is_of owner f.covered g ≡ true → PassesOver test keys f signature g.owner (data_in g)
+-- the same, over a group that it is tried on
+abbrev pub PassesGroup : SignatureTest → Trusting → Name → Fields → List ℕ → Group → Type 0
+PassesGroup test w owner f signature g = tries_group w owner f g ≡ true → PassesOver test w.keys f signature g.owner (data_in g)
 
--- a record's signature, over each of some groups that it may verify
-abbrev pub PassesRecord : SignatureTest → List Dnskey → List ℕ → List Group → Spelled → Type 0
-PassesRecord test keys m gs r =
-    (f : Fields) (signature : List ℕ) → is_signature r ≡ true → rrsig_at pointer_limit m r ≡ Some (f, signature)
-    → AllByRecursion (PassesGroup test keys r.owner f signature) gs
+-- a record's signature, over each of some groups that it is tried on
+abbrev pub PassesRecord : SignatureTest → Trusting → List ℕ → List Group → Spelled → Type 0
+PassesRecord test w m gs r =
+    (f : Fields) (signature : List ℕ) → (is_signature r && (r.class == 1)) ≡ true → rrsig_at pointer_limit m r ≡ Some (f, signature)
+    → AllByRecursion (PassesGroup test w r.owner f signature) gs
 
--- a group as if nothing verified it
-abbrev pub bare : Group → Group
-bare g = record { owner = g.owner; rtype = g.rtype; items = g.items; verified = None }
+-- the signatures of some records in turn, each of which may verify a group
+abbrev pub PassesGroups : SignatureTest → Trusting → List ℕ → List Group → List Spelled → Type 0
+PassesGroups test w m gs [] = ⊤
+PassesGroups test w m gs (r ∷ rs) = PassesRecord test w m gs r × PassesGroups test w m (map (marked w m (r ∷ [])) gs) rs
 
--- the signatures of some records, over groups
-abbrev pub PassesGroups : SignatureTest → List Dnskey → List ℕ → List Group → List Spelled → Type 0
-PassesGroups test keys m gs rs = AllByRecursion (PassesRecord test keys m (map bare gs)) rs
+-- ---- the signatures that a judge verifies
 
--- the signatures of some records, each over the RRset of its owner and the covered type, where that is sought
-abbrev pub PassesSought : SignatureTest → List Dnskey → List ℕ → Sought → List Spelled → Type 0
-PassesSought test keys m s rs =
-    AllByRecursion (λ r. (f : Fields) (signature : List ℕ) → is_signature r ≡ true → rrsig_at pointer_limit m r ≡ Some (f, signature)
-    → s.is r.owner f.covered ≡ true → PassesOver test keys f signature r.owner (s.datas r.owner f.covered)) rs
+-- the first key of a signature's tag and algorithm
+abbrev pub is_found : Trusting → Fields → Dnskey → Bool
+is_found w f key = elim (find (fits_key f) w.keys) [ None ↦ false | Some found ↦ same_key key found ]
 
--- ---- the signatures that a judge may verify
-
--- a record's signature, the octets that it is made over for an RRset that is sought, and a key of its tag and algorithm
-abbrev pub is_carried : ℕ → List ℕ → Sought → Dnskey → List ℕ → List ℕ → Spelled → Bool
-is_carried k m s key octets signature r = is_signature r && elim (rrsig_at k m r) [
+-- a record's signature, the octets that it is made over for the RRset that is sought, and the key that is found for it
+abbrev pub is_carried : Trusting → ℕ → List ℕ → Sought → Spelled → Dnskey → List ℕ → List ℕ → Bool
+is_carried w k m s r key octets signature = elim (rrsig_at k m r) [
   | None ↦ false
-  | Some f ↦
-      s.is r.owner f.0.covered && fits_key f.0 key && bytes_eq signature f.1
-      && bytes_eq octets (signed_octets f.0 r.owner 1 (s.datas r.owner f.0.covered))
+  | Some f ↦ is_found w f.0 key && bytes_eq signature f.1 && bytes_eq octets (signed_octets f.0 r.owner 1 (s.datas r.owner f.0.covered))
 ]
 
--- one that a record of a message carries, under one of some keys
-abbrev pub stands_in : ℕ → List ℕ → Sought → List Spelled → List Dnskey → SignatureTest
-stands_in k m s rs keys key octets signature = list_any (same_key key) keys && list_any (is_carried k m s key octets signature) rs
+-- one that is tried of some records behind others
+abbrev pub is_tried_among : Trusting → ℕ → List ℕ → Sought → List Spelled → List Spelled → Dnskey → List ℕ → List ℕ → Bool
+is_tried_among w k m s earlier [] key octets signature = false
+is_tried_among w k m s earlier (r ∷ rs) key octets signature =
+    (is_tried w k m s earlier r && is_carried w k m s r key octets signature) || is_tried_among w k m s (earlier ++ r ∷ []) rs key octets signature
 
--- of the DNSKEY answer under the keys that DS records name, or of the zone answer under the usable keys
-abbrev pub stands_in_messages : Answers → ℕ → Handing → Message → Message → SignatureTest
-stands_in_messages a k h keys answer key octets signature =
+-- of the DNSKEY answer, under the keys that DS records name
+abbrev pub is_tried_of_keys : Answers → ℕ → Handing → Message → SignatureTest
+is_tried_of_keys a k h keys =
     let ks = keys_of h keys in
-    let asked = answer_sought k h.answer_bytes h.apex answer.records h.asked.name h.asked.rtype in
-    stands_in k h.dnskey_bytes (keys_sought h.apex ks) keys.records (filter (is_trusted a h.apex h.ds) ks) key octets signature
-    || stands_in k h.answer_bytes asked answer.records (filter is_usable ks) key octets signature
+    is_tried_among (trusting a h (filter (is_trusted a h.apex h.ds) ks)) k h.dnskey_bytes (keys_sought h.apex ks) [] keys.records
 
--- a signature that a judge may verify
-abbrev pub is_candidate : Answers → ℕ → Handing → SignatureTest
-is_candidate a k h key octets signature = elim (message k h.dnskey_bytes) [
+-- of the zone answer, under the usable keys
+abbrev pub is_tried_of_answer : Answers → ℕ → Handing → Message → Message → SignatureTest
+is_tried_of_answer a k h keys answer =
+    is_tried_among (trusting a h (filter is_usable (keys_of h keys))) k h.answer_bytes
+    (answer_sought k h.answer_bytes h.apex answer.records h.asked.name h.asked.rtype) [] answer.records
+
+-- the zone answer is looked at only where the keys are verified
+abbrev pub is_tried_in_messages : Answers → ℕ → Handing → Message → Message → SignatureTest
+is_tried_in_messages a k h keys answer key octets signature =
+    is_tried_of_keys a k h keys key octets signature || (is_chained a k h keys && is_tried_of_answer a k h keys answer key octets signature)
+
+abbrev pub is_tried_in_bytes : Answers → ℕ → Handing → SignatureTest
+is_tried_in_bytes a k h key octets signature = elim (message k h.dnskey_bytes) [
   | Err e ↦ false
-  | Ok keys ↦ elim (message k h.answer_bytes) [ Err e ↦ false | Ok answer ↦ stands_in_messages a k h keys answer key octets signature ]
+  | Ok keys ↦ elim (message k h.answer_bytes) [ Err e ↦ false | Ok answer ↦ is_tried_in_messages a k h keys answer key octets signature ]
+]
+
+-- beside a DS set that isn't empty
+abbrev pub is_tried_beyond : Answers → ℕ → Handing → SignatureTest
+is_tried_beyond a k h key octets signature = elim (message_refusal k h) [ Some e ↦ false | None ↦ is_tried_in_bytes a k h key octets signature ]
+
+-- A signature that a judgement verifies, memory aside: of those that `verifications_due` counts.
+abbrev pub is_tried_signature : Answers → ℕ → Handing → SignatureTest
+is_tried_signature a k h key octets signature = elim (first_refusal k h) [
+  | Some e ↦ false
+  | None ↦ if nat_eq (length h.ds) 0 then false else is_tried_in_bytes a k h key octets signature
 ]
 
 -- what passes one test passes another

@@ -10,7 +10,7 @@ use Rattle.answer_scheme.specs.Answers.{Answers}
 use Rattle.answer_judge_keys.specs.Trusted.{fits_key, is_due, is_signature, is_trusted, is_usable}
 use Rattle.denial_laws.specs.Facts.{Facts}
 use Rattle.answer_judge_rules.specs.Hashes.{hashed_for}
-use Rattle.answer_judge_facts.specs.Judged.{are_mixed, are_of_moments, are_over, facts_in, is_chained, keys_of, trusting}
+use Rattle.answer_judge_facts.specs.Judged.{are_mixed, has_unlike_times, are_over, facts_in, is_chained, keys_of, trusting}
 use Rattle.answer_judge_keys.specs.Judging.{Answer, Handing, Refuses, first_refusal, message_refusal}
 use Rattle.answer_judge_keys.specs.declared.verdict.Refusal.TheVariants as r
 use Rattle.answer_judge_facts.specs.Sought.{Sought, answer_sought, keys_sought}
@@ -83,10 +83,10 @@ abbrev pub hashes_of_facts : Answers → Handing → Facts → ℕ
 hashes_of_facts a h f = if are_mixed f.hash_links || are_over h.limit f.hash_links then 0 else length (hashed_for a.hash h.apex f h.asked.name)
 
 abbrev pub hashes_of_proof : Answers → Handing → Facts → Bool → ℕ
-hashes_of_proof a h f of_moments = if h.one_moment && of_moments then 0 else hashes_of_facts a h f
+hashes_of_proof a h f unlike_times = if h.one_moment && unlike_times then 0 else hashes_of_facts a h f
 
 abbrev pub hashes_of_answer : Answers → ℕ → Handing → List Dnskey → Message → ℕ
-hashes_of_answer a k h usable answer = hashes_of_proof a h (facts_in a k h usable answer) (are_of_moments a k h usable answer)
+hashes_of_answer a k h usable answer = hashes_of_proof a h (facts_in a k h usable answer) (has_unlike_times a k h usable answer)
 
 abbrev pub hashes_in_messages : Answers → ℕ → Handing → Message → Message → ℕ
 hashes_in_messages a k h keys answer = elim (is_chained a k h keys) [

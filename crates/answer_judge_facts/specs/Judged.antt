@@ -66,15 +66,15 @@ judged_facts a h f =
     else by_facts (decided_by a h f)
 
 -- the signatures by which the answer is verified are not all of one inception and one expiration
-abbrev pub are_of_moments : Answers → ℕ → Handing → List Dnskey → Message → Bool
-are_of_moments a k h usable answer = are_unlike (proof_times (trusting a h usable) k h.answer_bytes answer.records h.asked.name h.asked.rtype)
+abbrev pub has_unlike_times : Answers → ℕ → Handing → List Dnskey → Message → Bool
+has_unlike_times a k h usable answer = are_unlike (proof_times (trusting a h usable) k h.answer_bytes answer.records h.asked.name h.asked.rtype)
 
 -- Signatures of unlike times may be those of two versions of a zone, which together prove what neither says.
 abbrev pub judged_proof : Answers → Handing → Facts → Bool → Answer
-judged_proof a h f of_moments = if h.one_moment && of_moments then Refuses r.MixedVersions else judged_facts a h f
+judged_proof a h f unlike_times = if h.one_moment && unlike_times then Refuses r.MixedVersions else judged_facts a h f
 
 abbrev pub judged_answer : Answers → ℕ → Handing → List Dnskey → Message → Answer
-judged_answer a k h usable answer = judged_proof a h (facts_in a k h usable answer) (are_of_moments a k h usable answer)
+judged_answer a k h usable answer = judged_proof a h (facts_in a k h usable answer) (has_unlike_times a k h usable answer)
 
 abbrev pub judged_messages : Answers → ℕ → Handing → Message → Message → Answer
 judged_messages a k h keys answer = elim (is_chained a k h keys) [ true ↦ judged_answer a k h (filter is_usable (keys_of h keys)) answer | false ↦ Refuses r.NoTrustedKey ]

@@ -12,5 +12,5 @@ use Rattle.answer_judge_facts.specs.Verified.{Trusting, verified_facts}
 abbrev pub IsVerifiedProof : Trusting → ℕ → List ℕ → List Spelled → Name → ℕ → Proof → ℕ → ℕ → Type 0
 IsVerifiedProof w k m rs q t p before after =
     (p.facts ≡ verified_facts w k m rs q t)
-    × (p.is_of_moments ≡ are_unlike (proof_times w k m rs q t))
+    × (p.has_unlike_times ≡ are_unlike (proof_times w k m rs q t))
     × (after ≡ before + tries w k m (answer_sought k m w.apex rs q t) [] rs)

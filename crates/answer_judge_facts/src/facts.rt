@@ -5,7 +5,7 @@ ghost use Rattle.definitions.specs.Limits.{pointer_limit};
 ghost use Rattle.std.specs.List.{list_any, filter_map, AllByRecursion};
 ghost use Rattle.messages.specs.Record.{spelled};
 ghost use Rattle.answer_judge_keys.specs.Trusted.{is_signature};
-ghost use Rattle.answer_judge_facts.specs.Asked.{PassesSought};
+ghost use Rattle.answer_judge_facts.specs.Asked.{Implies, is_tried_among};
 ghost use Rattle.answer_judge_facts.specs.VerifiedProof.{IsVerifiedProof};
 ghost use Rattle.answer_scheme.specs.Answers.{EachAgreeing, SignatureTest};
 ghost use Rattle.answer_judge_facts.specs.Sought.{answer_sought};
@@ -20,7 +20,6 @@ ghost use Rattle.answer_judge_facts.specs.Ranked.{AreRanked, AskedLast, IsRun, a
 use crate::groups::{Group, is_chain_type, place_of, read_group, verify_groups};
 use crate::times::are_unlike;
 use answer_hash_owners::owner::{hash_spelled, spells_hash};
-use answer_judge_keys::order::sort_data;
 use answer_judge_keys::trust::Trust;
 use answer_judge_keys::verdict::DataList;
 use answer_judge_keys::verifier::Verifier;
@@ -39,7 +38,7 @@ use std::cmp::Ordering;
 #[derive(Drop)]
 pub struct Proof<'a> {
     pub facts: Facts<'a>,
-    pub is_of_moments: bool,
+    pub has_unlike_times: bool,
 }
 
 /// What signatures of an answer verify: the RRset that was asked for, and records of chains, NSEC and NSEC3.
@@ -61,10 +60,10 @@ pub fn read_facts<'a, C: Checks>(
         verifier.old.count verifier.new.count)) }
     ensures agrees { (test : SignatureTest) → C.agrees verifier.new.checks.now test
         → C.agrees verifier.old.checks.now test }
-    ensures asked { (test : SignatureTest) → let m = message.now in
-        let rs = map spelled records.now in let apex = trust.now.apex.now in
-        let sought = answer_sought pointer_limit m apex rs name.now rtype in
-        PassesSought test trust.now.keys.now m sought rs
+    ensures asked { (test : SignatureTest) → let a = C.answers verifier.old.checks.now in
+        let w = held_by a trust.now in let m = message.now in let rs = map spelled records.now in
+        let sought = answer_sought pointer_limit m w.apex rs name.now rtype in
+        Implies (is_tried_among w pointer_limit m sought [] rs) test
         → C.asked_only verifier.old.checks.now test → C.asked_only verifier.new.checks.now test }
     ensures counted { C.verified verifier.new.checks.now + verifier.old.count
         ≡ C.verified verifier.old.checks.now + verifier.new.count }
@@ -78,11 +77,11 @@ pub fn read_facts<'a, C: Checks>(
     let chained = sorted_chain(alloc, records)?;
     let mut groups = sought_groups(alloc, trust.apex, message, records, &chained, name, rtype)?;
     verify_groups(message, records, trust, &mut groups, verifier)?;
-    let is_of_moments = are_unlike(&groups);
+    let has_unlike_times = are_unlike(&groups);
     let facts = facts_of_groups(alloc, trust.apex, message, records, groups)?;
     Ok(Proof {
         facts,
-        is_of_moments,
+        has_unlike_times,
     })
 }
 
@@ -297,13 +296,7 @@ fn read_run<'r>(
             items.push(item)?;
         }
     }
-    sort_data(&mut items);
-    Ok(Group {
-        owner,
-        rtype: first.rtype,
-        items,
-        verified: None,
-    })
+    Ok(Group::unverified(owner, first.rtype, items))
 }
 
 /// Whether records of a chain's type may have an owner: NSEC at or below the apex, NSEC3 at a hash under it.
@@ -319,6 +312,8 @@ fn has_place(apex: &Name<Vec<u8>>, owner: &Owner, rtype: Rtype) -> bool
 }
 
 /// Whether a group of a chain's type is one record, for NSEC3 one that is known.
+///
+/// Two records at one owner are not of one chain: each would deny names that stand by the other.
 fn holds_one(group: &Group) -> bool
     requires { AreShort group.now }
     ensures { result ≡ holds_one group.now.rtype (data_in group.now) }

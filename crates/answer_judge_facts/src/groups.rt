@@ -11,11 +11,12 @@ ghost use Rattle.answer_judge_facts.specs.Ranked.{AreRanked, place_of, sought_cm
 ghost use Rattle.answer_judge_keys.specs.KeyOrder.{Ranks};
 ghost use Rattle.messages.specs.Message.{if_true};
 ghost use Rattle.answer_judge_facts.specs.Counted.{can_try, one_if};
-ghost use Rattle.answer_judge_facts.specs.Asked.{PassesGroups, PassesOver, PassesRecord, bare};
+ghost use Rattle.answer_judge_facts.specs.Asked.{PassesGroups, PassesOver, PassesRecord};
 ghost use Rattle.answer_scheme.specs.Answers.{EachAgreeing, SignatureTest};
 ghost use Rattle.std.specs.Option.{option_map};
 ghost use Rattle.std.specs.List.{list_any};
 ghost use Rattle.definitions.specs.Name.{same};
+ghost use Rattle.definitions.specs.Zone.{sorted_data};
 ghost use Rattle.definitions.specs.Signing.{signed_octets};
 
 use answer_judge_keys::order::sort_data;
@@ -57,6 +58,27 @@ pub struct Group<'a> {
 }
 
 impl<'a> Group<'a> {
+    /// An RRset of some canonical data, which nothing verified yet: they are put in order, each once.
+    pub(crate) fn unverified(
+        owner: GroupOwner<'a>,
+        rtype: Rtype,
+        items: Vec<CowSlice<'a, u8>>,
+    ) -> Self
+        ensures owner { result.owner ≡ owner.entry }
+        ensures rtype { result.rtype ≡ rtype }
+        ensures items { data_in result ≡ sorted_data (map cow_slice_items items.entry.items) }
+        ensures unverified { result.verified ≡ None }
+    {
+        let mut items = items;
+        sort_data(&mut items);
+        Group {
+            owner,
+            rtype,
+            items,
+            verified: None,
+        }
+    }
+
     /// Whether the group has a type and an owner, up to case.
     pub fn is_of(&self, owner: &Owner, rtype: Rtype) -> bool
         ensures { result ≡ ((self.now.rtype == rtype) && same owner.now self.now.owner) }
@@ -115,13 +137,7 @@ pub fn read_group<'a>(
             items.push(item)?;
         }
     }
-    sort_data(&mut items);
-    Ok(Group {
-        owner,
-        rtype,
-        items,
-        verified: None,
-    })
+    Ok(Group::unverified(owner, rtype, items))
 }
 
 /// The canonical data of a record of an owner, up to case, and a type, class IN; None where they do not read.
@@ -162,8 +178,9 @@ pub fn verify_groups<C: Checks>(
         IfOk result (λ _. verifier.new.count ≡ verifier.old.count + tried)) }
     ensures agrees { (test : SignatureTest) → C.agrees verifier.new.checks.now test
         → C.agrees verifier.old.checks.now test }
-    ensures asked { (test : SignatureTest) → let rs = map spelled records.now in
-        let m = message.now in PassesGroups test trust.now.keys.now m groups.old rs
+    ensures asked { (test : SignatureTest) → let a = C.answers verifier.old.checks.now in
+        let m = message.now in let rs = map spelled records.now in
+        PassesGroups test (held_by a trust.now) m groups.old rs
         → C.asked_only verifier.old.checks.now test → C.asked_only verifier.new.checks.now test }
     ensures counted { C.verified verifier.new.checks.now + verifier.old.count
         ≡ C.verified verifier.old.checks.now + verifier.new.count }
@@ -205,8 +222,8 @@ fn verify_record<C: Checks>(
         IfOk result (λ _. verifier.new.count ≡ verifier.old.count + one_if is_tried)) }
     ensures agrees { (test : SignatureTest) → C.agrees verifier.new.checks.now test
         → C.agrees verifier.old.checks.now test }
-    ensures asked { (test : SignatureTest) → let r = spelled view.now in
-        PassesRecord test trust.now.keys.now message.now (map bare groups.old) r
+    ensures asked { (test : SignatureTest) → let a = C.answers verifier.old.checks.now in
+        PassesRecord test (held_by a trust.now) message.now groups.old (spelled view.now)
         → C.asked_only verifier.old.checks.now test → C.asked_only verifier.new.checks.now test }
     ensures counted { C.verified verifier.new.checks.now + verifier.old.count
         ≡ C.verified verifier.old.checks.now + verifier.new.count }
@@ -287,9 +304,10 @@ fn verifies<C: Checks>(
         IfOk result (λ _. verifier.new.count ≡ verifier.old.count + one_if is_tried)) }
     ensures agrees { (test : SignatureTest) → C.agrees verifier.new.checks.now test
         → C.agrees verifier.old.checks.now test }
-    ensures asked { (test : SignatureTest) → let f = fields_read signature.now in
-        let g = group.now in
-        PassesOver test trust.now.keys.now f signature.now.signature g.owner (data_in g)
+    ensures asked { (test : SignatureTest) → let a = C.answers verifier.old.checks.now in
+        let w = held_by a trust.now in let f = fields_read signature.now in let g = group.now in
+        (can_try w g.owner (data_in g) f ≡ true
+        → PassesOver test w.keys f signature.now.signature g.owner (data_in g))
         → C.asked_only verifier.old.checks.now test → C.asked_only verifier.new.checks.now test }
     ensures counted { C.verified verifier.new.checks.now + verifier.old.count
         ≡ C.verified verifier.old.checks.now + verifier.new.count }

@@ -5,7 +5,7 @@ ghost use Rattle.definitions.specs.Limits.{pointer_limit};
 ghost use Rattle.definitions.specs.Dnskey.{dnskey_data};
 ghost use Rattle.definitions.specs.Zone.{sorted_data};
 ghost use Rattle.messages.specs.Record.{spelled};
-ghost use Rattle.answer_judge_facts.specs.Asked.{PassesSought};
+ghost use Rattle.answer_judge_facts.specs.Asked.{Implies, is_tried_among};
 ghost use Rattle.answer_judge_facts.specs.Counted.{tries};
 ghost use Rattle.answer_scheme.specs.Answers.{EachAgreeing, SignatureTest};
 ghost use Rattle.answer_judge_keys.specs.Trusted.{is_signature};
@@ -16,7 +16,6 @@ ghost use Rattle.answer_judge_facts.specs.Verified.{is_verified};
 
 use crate::groups::{Group, verify_groups};
 use answer_judge_keys::keys::TaggedKey;
-use answer_judge_keys::order::sort_data;
 use answer_judge_keys::trust::Trust;
 use answer_judge_keys::verifier::Verifier;
 use answer_scheme::checks::Checks;
@@ -47,9 +46,10 @@ pub fn are_verified<C: Checks>(
         IfOk result (λ _. verifier.new.count ≡ count)) }
     ensures agrees { (test : SignatureTest) → C.agrees verifier.new.checks.now test
         → C.agrees verifier.old.checks.now test }
-    ensures asked { (test : SignatureTest) → let t = trust.now in
-        let sought = keys_sought t.apex.now keys.now in
-        PassesSought test t.keys.now message.now sought (map spelled records.now)
+    ensures asked { (test : SignatureTest) → let a = C.answers verifier.old.checks.now in
+        let w = held_by a trust.now in let rs = map spelled records.now in
+        let sought = keys_sought w.apex keys.now in
+        Implies (is_tried_among w pointer_limit message.now sought [] rs) test
         → C.asked_only verifier.old.checks.now test → C.asked_only verifier.new.checks.now test }
     ensures counted { C.verified verifier.new.checks.now + verifier.old.count
         ≡ C.verified verifier.old.checks.now + verifier.new.count }
@@ -83,13 +83,8 @@ fn key_group<'a>(
     for key in keys {
         items.push(CowSlice::Borrowed(key.data()))?;
     }
-    sort_data(&mut items);
-    Ok(Group {
-        owner: cow_name(alloc, apex)?,
-        rtype: Rtype::DNSKEY,
-        items,
-        verified: None,
-    })
+    let owner = cow_name(alloc, apex)?;
+    Ok(Group::unverified(owner, Rtype::DNSKEY, items))
 }
 
 /// Whether there is an RRset, and a signature verified it.

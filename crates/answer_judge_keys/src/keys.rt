@@ -99,6 +99,8 @@ impl<'a> TaggedKey<'a> {
     }
 
     /// Whether the key is a zone's key for DNSSEC (RFC 4034, 2.1.1 and 2.1.2).
+    ///
+    /// A key that is published for something else would sign records of the zone.
     fn is_usable(&self) -> bool
         ensures { result ≡ is_usable self.now }
     {
@@ -347,6 +349,8 @@ fn is_named<C: Checks>(
 }
 
 /// Whether one DS record names a key (RFC 4034, 5.1.4).
+///
+/// Anyone can make a key of a tag and an algorithm: the digest alone tells the one that the parent vouches for.
 fn names_key<C: Checks>(
     apex: &Name<Vec<u8>>,
     ds: &Ds<Vec<u8>>,

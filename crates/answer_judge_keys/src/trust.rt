@@ -33,6 +33,8 @@ pub struct Trust<'a> {
 
 impl<'a> Trust<'a> {
     /// Whether a signature is the apex's, holds at the moment, and has a label count that fits an owner (RFC 4035, 5.3.1).
+    ///
+    /// Another zone's signature would speak for names that are not its own.
     pub fn is_due(&self, signature: &Signature, owner: &GroupOwner) -> bool
         ensures { let f = fields_read signature.now in
             result ≡ is_due self.now.apex.now self.now.moment owner.now f }
@@ -76,6 +78,8 @@ fn may_expand(rtype: Rtype) -> bool
 }
 
 /// Whether a signature holds at a moment (RFC 4034, 3.1.5).
+///
+/// An expired signature, replayed, would bring back records that the zone has withdrawn.
 fn in_time(signature: &Signature, now: u32) -> bool
     ensures { result ≡ in_time (fields_read signature.now) now }
 {

@@ -5,33 +5,35 @@ use Rattle.std.specs.List.{AllByRecursion}
 use Rattle.std.proofs.lemmas.Bool.{false≢true}
 use Rattle.definitions.specs.Limits.{pointer_limit}
 use Rattle.answer_scheme.specs.Answers.{SignatureTest}
-use Rattle.answer_judge_facts.specs.Asked.{is_candidate}
+use Rattle.answer_judge_facts.specs.Asked.{is_tried_signature}
 use Rattle.answer_judge_facts.specs.Counted.{Counts}
 use Rattle.answer_judge_keys.specs.Judging.{Answer, Handing, verification_bound}
-use Rattle.answer_judge_octets.specs.Asking.{AskedIfAny, IsCandidate, PassesEach, PassesLacking, are_new, due_beyond, is_out_of_memory}
-use Rattle.answer_judge_octets.specs.Table.{Checked, Tried, answers_of, passes_by}
+use Rattle.answer_judge_octets.specs.Asking.{AskedIfAny, IsTriedBy, PassesEach, PassesLacking, are_new, due_by, is_out_of_memory}
+use Rattle.answer_judge_octets.specs.Table.{Checked, Tried, answers_with, may_pass_in, passes_by}
 
 -- a copy of what was tried, if there was memory for it
 pub passes_copied : {E : Type 0} (lacked : Result Tried E) (t : Tried) (test : SignatureTest) → IfOk lacked (λ a. a ≡ t) → passes_by test t ≡ true → PassesLacking (Some lacked) test
 passes_copied (Ok a) t test is passes = ap (passes_by test) is ∙ passes
 passes_copied (Err e) t test is passes = tt
 
--- what a judgement lacked stands in the messages, where all that it asked about does
-pub one_stands : {E : Type 0} (table : List Checked) (h : Handing) (lacking : Option (Result Tried E)) (t : Tried) (asks : List Tried) → asks ≡ t ∷ [] → lacking ≡ Some (Ok t)
-    → PassesLacking lacking (is_candidate (answers_of table) pointer_limit h) → AllByRecursion (IsCandidate table h) asks
-one_stands table h lacking t asks one is passes =
-    subst (AllByRecursion (IsCandidate table h)) (sym one) (subst (λ l. PassesLacking l (is_candidate (answers_of table) pointer_limit h)) is passes, tt)
+-- what a judgement lacked is tried, where all that it asked about is
+pub one_tried : {E : Type 0} (passes : Tried → Bool) (h : Handing) (lacking : Option (Result Tried E)) (t : Tried) (asks : List Tried) → asks ≡ t ∷ [] → lacking ≡ Some (Ok t)
+    → PassesLacking lacking (is_tried_signature (answers_with passes) pointer_limit h) → AllByRecursion (IsTriedBy passes h) asks
+one_tried passes h lacking t asks one is tried =
+    subst (AllByRecursion (IsTriedBy passes h)) (sym one) (subst (λ l. PassesLacking l (is_tried_signature (answers_with passes) pointer_limit h)) is tried, tt)
 
 -- what is asked for, if anything
 pub asked_if_any : {V E : Type 0} (items : V → List Tried) (r : Result V E) (table : List Checked) (h : Handing) (kept : List Tried) (n : ℕ) → IfOk r (λ v. are_new table (items v) ≡ true) → IfOk r (λ v. length (items v) ≤ n) → IfOk r (λ v. items v ≡ kept)
-    → n ≤ verification_bound pointer_limit h → n ≤ due_beyond table h → PassesEach kept (is_candidate (answers_of table) pointer_limit h) → IfOk r (λ v. AskedIfAny table h (items v))
-asked_if_any items (Err e) table h kept n new few is bound due passes = tt
-asked_if_any items (Ok v) table h kept n new few is bound due passes = λ some. record {
+    → n ≤ verification_bound pointer_limit h → n ≤ due_by (may_pass_in table) h → PassesEach kept (is_tried_signature (answers_with (may_pass_in table)) pointer_limit h) → IfOk r (λ v. AskedIfAny table h (items v))
+asked_if_any items (Err e) table h kept n new few is bound due tried = tt
+asked_if_any items (Ok v) table h kept n new few is bound due tried = λ some. record {
   some = some;
   are_new = new;
-  stand = subst (AllByRecursion (IsCandidate table h)) (sym is) passes;
   few = omega arith;
-  due = inr (omega arith);
+  tried = inr (record {
+    each = subst (AllByRecursion (IsTriedBy (may_pass_in table) h)) (sym is) tried;
+    due = omega arith;
+  });
 }
 
 -- with memory enough a count is what is due

@@ -3,11 +3,11 @@ use Rattle.std.specs.Prelude.{◌≡◌, ◌⊎◌, ℕ, ◌<◌, ◌≤◌, Boo
 use Rattle.std.specs.List.{AllByRecursion}
 use Rattle.definitions.specs.Limits.{pointer_limit}
 use Rattle.answer_scheme.specs.Answers.{SignatureTest}
-use Rattle.answer_judge_facts.specs.Asked.{is_candidate}
+use Rattle.answer_judge_facts.specs.Asked.{is_tried_signature}
 use Rattle.answer_judge_facts.specs.Counted.{verifications_due}
 use Rattle.answer_judge_keys.specs.Judging.{Answer, Refuses, Handing, verification_bound}
 use Rattle.answer_judge_keys.specs.declared.verdict.Refusal.TheVariants as r
-use Rattle.answer_judge_octets.specs.Table.{AgreesWith, Checked, Tried, answers_of, answers_with, checked, may_pass_in, passes_by, told}
+use Rattle.answer_judge_octets.specs.Table.{AgreesWith, Checked, Tried, answers_with, checked, may_pass_in, passes_by, passes_in, told}
 
 -- a signature that is asked for, as an entry
 abbrev pub unchecked : Tried → Checked
@@ -22,30 +22,32 @@ are_new table (t ∷ ts) = is_none (told table t) && are_new (table ++ unchecked
 abbrev pub KeepsNew : Tried → List Tried → List Tried → Type 0
 KeepsNew t old new = (table : List Checked) → told table t ≡ None → are_new table old ≡ true → are_new table new ≡ true
 
--- one that a judge may verify: of the two messages, over an RRset there that is sought, under a key of the DNSKEY answer
-abbrev pub IsCandidate : List Checked → Handing → Tried → Type 0
-IsCandidate table h t = passes_by (is_candidate (answers_of table) pointer_limit h) t ≡ true
-
 -- a judgement that ended for want of memory
 abbrev pub is_out_of_memory : Answer → Bool
 is_out_of_memory (Refuses r.Memory) = true
 is_out_of_memory _ = false
 
--- signatures that a judgement verifies where those that a table doesn't have fail, or where they pass
-abbrev pub due_by : List Checked → Handing → ℕ
-due_by table h = verifications_due (answers_of table) pointer_limit h
+-- one that a judgement verifies where these pass
+abbrev pub IsTriedBy : (Tried → Bool) → Handing → Tried → Type 0
+IsTriedBy passes h t = passes_by (is_tried_signature (answers_with passes) pointer_limit h) t ≡ true
 
-abbrev pub due_beyond : List Checked → Handing → ℕ
-due_beyond table h = verifications_due (answers_with (may_pass_in table)) pointer_limit h
+-- how many it verifies then
+abbrev pub due_by : (Tried → Bool) → Handing → ℕ
+due_by passes h = verifications_due (answers_with passes) pointer_limit h
 
--- Signatures that are asked for: some that the table doesn't have, each once, candidates of both messages, no more than these
--- have, and no more than a judgement comes to: so none where it verifies nothing, as beside an empty DS set.
+-- signatures that a judgement verifies where these pass, no more than it verifies
+pub record AreTried (passes : Tried → Bool) (h : Handing) (asks : List Tried) : Type 0 where
+  pub each : AllByRecursion (IsTriedBy passes h) asks
+  pub due : length asks ≤ due_by passes h
+
+-- Signatures that are asked for: some that the table doesn't have, each once, no more than both messages have. A judgement
+-- verifies each, where those that the table doesn't have fail, or where they pass: so none that isn't due, none of an RRset
+-- that another one verified before, and none where nothing is verified, as beside an empty DS set.
 pub record AreAsked (table : List Checked) (h : Handing) (asks : List Tried) : Type 0 where
   pub some : 0 < length asks
   pub are_new : are_new table asks ≡ true
-  pub stand : AllByRecursion (IsCandidate table h) asks
   pub few : length asks ≤ verification_bound pointer_limit h
-  pub due : (length asks ≤ due_by table h) ⊎ (length asks ≤ due_beyond table h)
+  pub tried : AreTried (passes_in table) h asks ⊎ AreTried (may_pass_in table) h asks
 
 -- none, or such
 abbrev pub AskedIfAny : List Checked → Handing → List Tried → Type 0

@@ -67,37 +67,6 @@ pub(crate) fn hash_behind<N: ToName, C: Checks>(
     hash_octets(alloc, link, checks, count, octets)
 }
 
-/// Writes a name in lower-case wire form, over what a buffer held.
-fn write_name(octets: &mut Vec<u8>, name: &Name<&[u8]>) -> Result<(), AllocError>
-    ensures { OnOk result (octets.new.items ≡ wire (low name.now)) }
-{
-    octets.clear();
-    name.compose_canonical(octets)
-}
-
-/// The hash of a name, which is written to the buffer.
-fn hash_whole<C: Checks>(
-    alloc: Global,
-    link: &HashLink,
-    checks: &mut C,
-    count: &mut u32,
-    octets: &mut Vec<u8>,
-    name: &Name<&[u8]>,
-) -> Result<Vec<u8>, HashError>
-    requires room { count.old + 1 < 2 ^ 32 }
-    ensures hash { let hash = hash_as (C.answers checks.old).hash link.now in
-        IfOk result (λ h. h.items ≡ hash (low name.now)) }
-    ensures hashes { let fails = fails_as (C.answers checks.old).hash link.now in
-        Hashes fails (name.now ∷ []) (C.hashed checks.old) (C.hashed checks.new) result }
-    ensures alike { C.hashed checks.new + count.old ≡ C.hashed checks.old + count.new }
-    ensures others { C.verified checks.new ≡ C.verified checks.old }
-    ensures none { NoneVerified C.agrees C.asked_only checks.old checks.new }
-    ensures same { C.answers checks.new ≡ C.answers checks.old }
-{
-    write_name(octets, name)?;
-    hash_octets(alloc, link, checks, count, octets)
-}
-
 /// A name with its hash.
 pub(crate) fn hash_name<'n, C: Checks>(
     alloc: Global,
@@ -118,7 +87,7 @@ pub(crate) fn hash_name<'n, C: Checks>(
     ensures none { NoneVerified C.agrees C.asked_only checks.old checks.new }
     ensures same { C.answers checks.new ≡ C.answers checks.old }
 {
-    let hash = hash_whole(alloc, link, checks, count, octets, &name)?;
+    let hash = hash_behind(alloc, link, checks, count, octets, &name, 0)?;
     Ok(HashedName { name, hash })
 }
 

@@ -25,10 +25,10 @@ pub(crate) fn judge_proof<C: Checks>(
 ) -> Result<Verdict, Refusal>
     requires { hashes.old ≡ 0 }
     ensures exact { let a = C.answers checks.old in
-        let judged = judged_proof a case.now proof.entry.facts proof.entry.is_of_moments in
+        let judged = judged_proof a case.now proof.entry.facts proof.entry.has_unlike_times in
         AnswersAs (said result) judged }
     ensures hash_counts { let a = C.answers checks.old in
-        let due = hashes_of_proof a case.now proof.entry.facts proof.entry.is_of_moments in
+        let due = hashes_of_proof a case.now proof.entry.facts proof.entry.has_unlike_times in
         Counts (said result) hashes.new due }
     ensures hash_bound { hashes.new ≤ hash_bound case.now }
     ensures hashed { C.hashed checks.new ≡ C.hashed checks.old + hashes.new }
@@ -37,7 +37,7 @@ pub(crate) fn judge_proof<C: Checks>(
     ensures none { NoneVerified C.agrees C.asked_only checks.old checks.new }
     ensures same { C.answers checks.new ≡ C.answers checks.old }
 {
-    if case.one_moment && proof.is_of_moments {
+    if case.one_moment && proof.has_unlike_times {
         return Err(Refusal::MixedVersions);
     }
     judge_facts(alloc, case, proof.facts, checks, hashes)

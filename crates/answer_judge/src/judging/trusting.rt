@@ -2,9 +2,9 @@
 ghost use Rattle.std.specs.Prelude.{◌≡◌, ◌==◌, ◌⊎◌, ◌+◌, ◌<◌, ◌≤◌, ◌^◌, [], IfOk, IfErr, filter, length, map, true, false};
 ghost use Rattle.definitions.specs.Limits.{pointer_limit};
 ghost use Rattle.messages.specs.Record.{spelled};
-ghost use Rattle.answer_judge.specs.Stages.{FindsSigned, FindsUnsigned};
-ghost use Rattle.answer_judge_facts.specs.Asked.{PassesSought};
-ghost use Rattle.answer_judge_keys.specs.Trusted.{is_signature, is_trusted, is_usable};
+ghost use Rattle.answer_judge.specs.Stages.{FindsSigned, FindsUnsigned, trusting_named};
+ghost use Rattle.answer_judge_facts.specs.Asked.{Implies, is_tried_among};
+ghost use Rattle.answer_judge_keys.specs.Trusted.{is_signature, is_usable};
 ghost use Rattle.answer_judge_facts.specs.Judged.{trusting};
 ghost use Rattle.answer_judge_keys.specs.Judging.{keys_in};
 ghost use Rattle.answer_judge_facts.specs.Sought.{answer_sought, keys_sought};
@@ -72,9 +72,9 @@ pub(crate) fn signed_keys<'a, C: Checks>(
     ensures agrees { (test : SignatureTest) → C.agrees verifier.new.checks.now test
         → C.agrees verifier.old.checks.now test }
     ensures asked { (test : SignatureTest) → let a = C.answers verifier.old.checks.now in
-        let h = case.now in let ks = keys.entry.items in
-        let named = filter (is_trusted a h.apex h.ds) ks in
-        PassesSought test named h.dnskey_bytes (keys_sought h.apex ks) (map spelled records.now)
+        let h = case.now in let ks = keys.entry.items in let rs = map spelled records.now in
+        let w = trusting_named a h ks in let sought = keys_sought h.apex ks in
+        Implies (is_tried_among w pointer_limit h.dnskey_bytes sought [] rs) test
         → C.asked_only verifier.old.checks.now test → C.asked_only verifier.new.checks.now test }
     ensures counted { C.verified verifier.new.checks.now
         ≡ C.verified verifier.old.checks.now + verifier.new.count }
@@ -119,10 +119,10 @@ pub(crate) fn read_proof<'a, C: Checks>(
         verifier.old.count verifier.new.count)) }
     ensures agrees { (test : SignatureTest) → C.agrees verifier.new.checks.now test
         → C.agrees verifier.old.checks.now test }
-    ensures asked { (test : SignatureTest) → let h = case.now in let rs = map spelled records.now in
-        let m = h.answer_bytes in
+    ensures asked { (test : SignatureTest) → let a = C.answers verifier.old.checks.now in
+        let h = case.now in let m = h.answer_bytes in let rs = map spelled records.now in
         let sought = answer_sought pointer_limit m h.apex rs h.asked.name h.asked.rtype in
-        PassesSought test keys.now m sought rs
+        Implies (is_tried_among (trusting a h keys.now) pointer_limit m sought [] rs) test
         → C.asked_only verifier.old.checks.now test → C.asked_only verifier.new.checks.now test }
     ensures counted { C.verified verifier.new.checks.now + verifier.old.count
         ≡ C.verified verifier.old.checks.now + verifier.new.count }

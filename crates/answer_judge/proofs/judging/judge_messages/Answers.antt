@@ -10,7 +10,6 @@ use Rattle.answer_judge.specs.Beyond.{SaysBeyond}
 use Rattle.answer_judge.specs.Stages.{FindsUnsigned}
 use Rattle.answer_scheme.specs.Answers.{Answers, with_test}
 use Rattle.answer_judge_facts.specs.Counted.{hashes_beyond, hashes_of_proof, tries}
-use Rattle.answer_judge_keys.specs.Trusted.{is_trusted}
 use Rattle.answer_judge_facts.specs.Judged.{AnswersAs, is_chained, judged_beyond, judged_proof, said, trusting}
 use Rattle.answer_judge_keys.specs.Judging.{Handing, IsRead, Refuses, RefusesFirst, keys_in, message_refusal}
 use Rattle.answer_judge_facts.specs.Sought.{answer_sought}
@@ -117,22 +116,22 @@ returns-clause-says g c = λ test fits.
     let later = ap (λ x. with_test x test) later_own in
     let second = agreed_by own _ test _ later_own at_proof in
     let facts = c.in_ok-proof.proof.facts in
-    let of_moments = c.in_ok-proof.proof.is_of_moments in
+    let unlike_times = c.in_ok-proof.proof.has_unlike_times in
     let proved = c.in_ok-proof.ensures.proves test second in
     let read = proved.0 ∙ ap (λ x. verified_facts (trusting x h held) pointer_limit h.answer_bytes read_rs h.asked.name h.asked.rtype) later in
     let timed = proved.1 ∙ ap (λ x. are_unlike (proof_times (trusting x h held) pointer_limit h.answer_bytes read_rs h.asked.name h.asked.rtype)) later in
     let sought = answer_sought pointer_limit h.answer_bytes h.apex read_rs h.asked.name h.asked.rtype in
     let more = proved.2 ∙ ap (λ x. c.signed_keys.new.verifier.count + tries (trusting x h held) pointer_limit h.answer_bytes sought [] read_rs) later in
-    let all = decided_as a h keys answer held read_rs facts of_moments (beyond a pointer_limit h keys answer both.dnskey both.zone both.none) chain usable all_read read timed in
-    let due = facts_hashed a h keys answer held read_rs facts of_moments both.none both.dnskey both.zone chain usable all_read read timed in
+    let all = decided_as a h keys answer held read_rs facts unlike_times (beyond a pointer_limit h keys answer both.dnskey both.zone both.none) chain usable all_read read timed in
+    let due = facts_hashed a h keys answer held read_rs facts unlike_times both.none both.dnskey both.zone chain usable all_read read timed in
     let last = c.in_ok-proof.ensures.same ∙ later_own in (
-      subst (AnswersAs (said c.judge_proof.result)) (ap (λ v. judged_proof v h facts of_moments) last ∙ all) c.judge_proof.ensures.exact,
+      subst (AnswersAs (said c.judge_proof.result)) (ap (λ v. judged_proof v h facts unlike_times) last ∙ all) c.judge_proof.ensures.exact,
       inr (keys_and_answer a h keys answer held read_rs c.signed_keys.new.verifier.count c.read_proof.new.verifier.count both.none both.dnskey both.zone chain first usable all_read more),
-      counts_as (said c.judge_proof.result) c.judge_proof.new.hashes (hashes_of_proof (g.C.Checks.answers c.read_proof.new.verifier.checks.now) h facts of_moments) (hashes_beyond a pointer_limit h)
-          (ap (λ v. hashes_of_proof v h facts of_moments) last ∙ due) c.judge_proof.ensures.hash_counts,
+      counts_as (said c.judge_proof.result) c.judge_proof.new.hashes (hashes_of_proof (g.C.Checks.answers c.read_proof.new.verifier.checks.now) h facts unlike_times) (hashes_beyond a pointer_limit h)
+          (ap (λ v. hashes_of_proof v h facts unlike_times) last ∙ due) c.judge_proof.ensures.hash_counts,
     )
 
--- ---- all that are verified are candidates
+-- ---- all that are verified are tried of the messages
 
 pub returns-in_err-usable-clause-asked : goal.returns-in_err-usable-clause-asked
 returns-in_err-usable-clause-asked g c = λ test implies before.
@@ -146,7 +145,7 @@ returns-in_err-usable-clause-asked g c = λ test implies before.
     let whole = ap (map spelled) c.deref-2.ensures.value ∙ reads.key_records in
     let are = c.in_ok-keys.ensures.keys ∙ ap (λ vs. keys_in h.dnskey_bytes h.apex (map spelled vs)) (c.deref.ensures.value ∙ sym c.deref-2.ensures.value) in
     let both : BothRead h keys answer rs ks = both_read h keys answer rs ks reads.keys reads.answer reads.asks_keys reads.asks_answer whole are c.in_ok-keys.ensures.unlike in
-    c.signed_keys.ensures.asked test (keys_pass own h keys answer both.dnskey both.zone test rs ks (filter (is_trusted own h.apex h.ds) ks) implies both.records_are both.keys_are refl) before
+    c.signed_keys.ensures.asked test (keys_pass own h keys answer both.none both.dnskey both.zone test rs ks implies both.records_are both.keys_are) before
 
 pub returns-in_err-proof-clause-asked : goal.returns-in_err-proof-clause-asked
 returns-in_err-proof-clause-asked g c = λ test implies before.
@@ -160,10 +159,13 @@ returns-in_err-proof-clause-asked g c = λ test implies before.
     let whole = ap (map spelled) c.deref-2.ensures.value ∙ reads.key_records in
     let are = c.in_ok-keys.ensures.keys ∙ ap (λ vs. keys_in h.dnskey_bytes h.apex (map spelled vs)) (c.deref.ensures.value ∙ sym c.deref-2.ensures.value) in
     let both : BothRead h keys answer rs ks = both_read h keys answer rs ks reads.keys reads.answer reads.asks_keys reads.asks_answer whole are c.in_ok-keys.ensures.unlike in
-    let first = c.signed_keys.ensures.asked test (keys_pass own h keys answer both.dnskey both.zone test rs ks (filter (is_trusted own h.apex h.ds) ks) implies both.records_are both.keys_are refl) before in
+    let first = c.signed_keys.ensures.asked test (keys_pass own h keys answer both.none both.dnskey both.zone test rs ks implies both.records_are both.keys_are) before in
+    let found = c.in_ok-usable.ensures.signed own.verifies (inl refl) in
+    let chain = sym found.0 ∙ chained_as own h keys rs ks both.records_are both.keys_are in
     let usable = c.deref-4.ensures.value ∙ usable_as h keys rs ks c.in_ok-usable.usable.items both.records_are both.keys_are c.in_ok-usable.ensures.usable in
     let all_read = ap (map spelled) c.deref-3.ensures.value ∙ reads.answer_records in
-    c.read_proof.ensures.asked test (answer_pass own h keys answer both.dnskey both.zone test (map spelled c.deref-3.result.now) c.deref-4.result.now implies all_read usable) first
+    let second = c.read_proof.ensures.asked test (answer_pass own h keys answer both.none both.dnskey both.zone test _ (map spelled c.deref-3.result.now) c.deref-4.result.now implies c.in_ok-usable.ensures.same chain all_read usable) first in
+    second
 
 pub returns-clause-asked : goal.returns-clause-asked
 returns-clause-asked g c = λ test implies before.
@@ -177,7 +179,10 @@ returns-clause-asked g c = λ test implies before.
     let whole = ap (map spelled) c.deref-2.ensures.value ∙ reads.key_records in
     let are = c.in_ok-keys.ensures.keys ∙ ap (λ vs. keys_in h.dnskey_bytes h.apex (map spelled vs)) (c.deref.ensures.value ∙ sym c.deref-2.ensures.value) in
     let both : BothRead h keys answer rs ks = both_read h keys answer rs ks reads.keys reads.answer reads.asks_keys reads.asks_answer whole are c.in_ok-keys.ensures.unlike in
-    let first = c.signed_keys.ensures.asked test (keys_pass own h keys answer both.dnskey both.zone test rs ks (filter (is_trusted own h.apex h.ds) ks) implies both.records_are both.keys_are refl) before in
+    let first = c.signed_keys.ensures.asked test (keys_pass own h keys answer both.none both.dnskey both.zone test rs ks implies both.records_are both.keys_are) before in
+    let found = c.in_ok-usable.ensures.signed own.verifies (inl refl) in
+    let chain = sym found.0 ∙ chained_as own h keys rs ks both.records_are both.keys_are in
     let usable = c.deref-4.ensures.value ∙ usable_as h keys rs ks c.in_ok-usable.usable.items both.records_are both.keys_are c.in_ok-usable.ensures.usable in
     let all_read = ap (map spelled) c.deref-3.ensures.value ∙ reads.answer_records in
-    c.judge_proof.ensures.none.1 test (c.read_proof.ensures.asked test (answer_pass own h keys answer both.dnskey both.zone test (map spelled c.deref-3.result.now) c.deref-4.result.now implies all_read usable) first)
+    let second = c.read_proof.ensures.asked test (answer_pass own h keys answer both.none both.dnskey both.zone test _ (map spelled c.deref-3.result.now) c.deref-4.result.now implies c.in_ok-usable.ensures.same chain all_read usable) first in
+    c.judge_proof.ensures.none.1 test second

@@ -1,16 +1,16 @@
-use Rattle.std.proofs.Common.{rules, ◌≡◌, ◌+◌, ℕ, List, filter, length, map, refl, inl, sym, ap, subst, ◌∙◌}
+use Rattle.std.proofs.Common.{rules, ◌≡◌, ◌+◌, ℕ, List, [], filter, length, map, refl, inl, sym, ap, subst, ◌∙◌}
 use Rattle.std.specs.List.Sorted.{IsPermutation, IsSortedBy}
 use Rattle.std.specs.Ordering.{is_lt}
 use Rattle.definitions.specs.Limits.{pointer_limit}
-use Rattle.definitions.specs.Dnskey.{Dnskey}
 use Rattle.definitions.specs.Name.{Name}
 use Rattle.messages.specs.Message.{Spelled}
 use Rattle.messages.specs.Record.{spelled}
 use Rattle.answer_scheme.specs.Answers.{SignatureTest, with_test}
-use Rattle.answer_judge_facts.specs.Asked.{PassesGroups, PassesSought}
+use Rattle.answer_judge_facts.specs.Asked.{Implies, PassesGroups, is_tried_among}
 use Rattle.answer_judge_facts.specs.Marked.{held_by, is_chain, marked}
 use Rattle.answer_judge_facts.specs.Ranked.{AreRanked, AskedLast, chain_cmp}
 use Rattle.answer_judge_facts.specs.Sought.{answer_sought}
+use Rattle.answer_judge_facts.specs.Verified.{Trusting}
 use Rattle.answer_judge_facts.specs.declared.groups.Group.{Group}
 use Rattle.answer_judge_facts.proofs.GroupPlaces.{ranked_next}
 use Rattle.answer_judge_facts.proofs.JudgeAsked.{sought_passes}
@@ -58,26 +58,29 @@ returns-clause-proves g c = λ test h.
     let len : old.len ≡ length now = search rules in
     let all = over now old.items old.len len ∙ c.in_ok-verify_groups.ensures.marked test h in (
       c.in_ok-facts.ensures (map (marked w m rs) last.chains) (marked w m rs last.asked) (all ∙ marked_last w m rs q t gs last) ∙ facts_verified w m rs q t gs last,
-      c.are_unlike-is_of_moments.ensures ∙ times_verified w m rs q t gs sought c.deref-2.result.now (c.deref-2.ensures.value ∙ all),
+      c.are_unlike-has_unlike_times.ensures ∙ times_verified w m rs q t gs sought c.deref-2.result.now (c.deref-2.ensures.value ∙ all),
       c.in_ok-verify_groups.ensures.tried test h ∙ ap (λ n. c.args.verifier.now.count + n) (tries_are w m (answer_sought pointer_limit m w.apex rs q t) gs rs sought),
     )
 
--- what passes for the RRsets that are sought passes for their groups
-module _ (test : SignatureTest) (keys : List Dnskey) (m : List ℕ) (apex : Name) (rs : List Spelled) (q : Name) (t : ℕ) (gs now : List Group) (is : now ≡ gs) (last : AskedLast m apex rs q t gs) where
-  groups_pass : PassesSought test keys m (answer_sought pointer_limit m apex rs q t) rs → PassesGroups test keys m now rs
-  groups_pass passes = subst (λ ys. PassesGroups test keys m ys rs) (sym is) (sought_passes test keys m (answer_sought pointer_limit m apex rs q t) gs rs (answer_is m apex rs q t gs last) passes)
+-- what passes for the signatures that are tried passes for the groups of what is sought
+module _ (test : SignatureTest) (w : Trusting) (m : List ℕ) (rs : List Spelled) (q : Name) (t : ℕ) (gs now : List Group) (is : now ≡ gs) (last : AskedLast m w.apex rs q t gs) where
+  groups_pass : Implies (is_tried_among w pointer_limit m (answer_sought pointer_limit m w.apex rs q t) [] rs) test → PassesGroups test w m now rs
+  groups_pass passes = subst (λ ys. PassesGroups test w m ys rs) (sym is) (sought_passes test w m (answer_sought pointer_limit m w.apex rs q t) gs rs (answer_is m w.apex rs q t gs last) passes)
 
 pub returns-clause-asked : goal.returns-clause-asked
 returns-clause-asked g c = λ test passes.
+    let w = held_by (g.C.Checks.answers c.args.verifier.now.checks.now) c.args.trust.now in
     c.in_ok-verify_groups.ensures.asked test
-    (groups_pass test c.args.trust.now.keys.now c.args.message.now c.args.trust.now.apex.now (map spelled c.args.records.now) c.args.name.now c.args.rtype c.in_ok-groups.groups.items c.deref_mut.result.now c.deref_mut.ensures.value c.in_ok-groups.ensures passes)
+    (groups_pass test w c.args.message.now (map spelled c.args.records.now) c.args.name.now c.args.rtype c.in_ok-groups.groups.items c.deref_mut.result.now c.deref_mut.ensures.value c.in_ok-groups.ensures passes)
 
 pub returns-in_err-verify_groups-clause-asked : goal.returns-in_err-verify_groups-clause-asked
 returns-in_err-verify_groups-clause-asked g c = λ test passes.
+    let w = held_by (g.C.Checks.answers c.args.verifier.now.checks.now) c.args.trust.now in
     c.verify_groups.ensures.asked test
-    (groups_pass test c.args.trust.now.keys.now c.args.message.now c.args.trust.now.apex.now (map spelled c.args.records.now) c.args.name.now c.args.rtype c.in_ok-groups.groups.items c.deref_mut.result.now c.deref_mut.ensures.value c.in_ok-groups.ensures passes)
+    (groups_pass test w c.args.message.now (map spelled c.args.records.now) c.args.name.now c.args.rtype c.in_ok-groups.groups.items c.deref_mut.result.now c.deref_mut.ensures.value c.in_ok-groups.ensures passes)
 
 pub returns-in_err-facts-clause-asked : goal.returns-in_err-facts-clause-asked
 returns-in_err-facts-clause-asked g c = λ test passes.
+    let w = held_by (g.C.Checks.answers c.args.verifier.now.checks.now) c.args.trust.now in
     c.verify_groups.ensures.asked test
-    (groups_pass test c.args.trust.now.keys.now c.args.message.now c.args.trust.now.apex.now (map spelled c.args.records.now) c.args.name.now c.args.rtype c.in_ok-groups.groups.items c.deref_mut.result.now c.deref_mut.ensures.value c.in_ok-groups.ensures passes)
+    (groups_pass test w c.args.message.now (map spelled c.args.records.now) c.args.name.now c.args.rtype c.in_ok-groups.groups.items c.deref_mut.result.now c.deref_mut.ensures.value c.in_ok-groups.ensures passes)

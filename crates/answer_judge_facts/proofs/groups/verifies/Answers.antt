@@ -3,10 +3,10 @@ use Rattle.std.specs.Prelude.{Some}
 use Rattle.std.specs.List.{find}
 use Rattle.answer_scheme.specs.Answers.{with_test}
 use Rattle.answer_judge_keys.specs.Trusted.{fits_key, is_due}
-use Rattle.answer_judge_facts.specs.Marked.{data_in, signed_of}
+use Rattle.answer_judge_facts.specs.Marked.{data_in, held_by, signed_of}
 use Rattle.messages.specs.Message.{if_true}
 use Rattle.messages.specs.Record.{fields_read}
-use Rattle.answer_judge_facts.proofs.JudgeAsked.{answered, due_then, signs_found}
+use Rattle.answer_judge_facts.proofs.JudgeAsked.{answered, due_then, signs_found, tries_found}
 use Rattle.answer_judge_facts.proofs.groups.verifies.Goals as goal
 
 pub returns-then-verify-clause-signs : goal.returns-then-verify-clause-signs
@@ -39,12 +39,20 @@ returns-clause-signs g c = λ test fits.
 
 pub returns-then-verify-clause-asked : goal.returns-then-verify-clause-asked
 returns-then-verify-clause-asked g c = λ test passes.
-    let found : find (fits_key (fields_read c.args.signature.now)) c.args.trust.now.keys.now ≡ Some c.in-Some.key.now = sym c.in-Some.ensures in
+    let w = held_by (g.C.Checks.answers c.args.verifier.now.checks.now) c.args.trust.now in
+    let group = c.args.group.now in
+    let f = fields_read c.args.signature.now in
+    let due : (not (length (data_in group) == 0) && is_due w.apex w.now group.owner f) ≡ true = due_then group c.is_empty.result c.is_due.result _ (c.is_empty.ensures ∙ ap (λ n. n == 0) group.items.ok.0) c.if-is_empty.false c.is_due.ensures c.if-not-is_due.false in
+    let found : find (fits_key f) w.keys ≡ Some c.in-Some.key.now = sym c.in-Some.ensures in
     let octets = c.deref.ensures.value ∙ c.in_ok-write_signed.ensures in
-    c.verify.ensures.asked test ((λ i. test (c.dnskey.ensures i) (octets i) (c.signature.ensures i)) ∙ passes c.in-Some.key.now found)
+    c.verify.ensures.asked test ((λ i. test (c.dnskey.ensures i) (octets i) (c.signature.ensures i)) ∙ passes (tries_found w group.owner (data_in group) f c.in-Some.key.now due found) c.in-Some.key.now found)
 
 pub returns-clause-asked : goal.returns-clause-asked
 returns-clause-asked g c = λ test passes.
-    let found : find (fits_key (fields_read c.args.signature.now)) c.args.trust.now.keys.now ≡ Some c.in-Some.key.now = sym c.in-Some.ensures in
+    let w = held_by (g.C.Checks.answers c.args.verifier.now.checks.now) c.args.trust.now in
+    let group = c.args.group.now in
+    let f = fields_read c.args.signature.now in
+    let due : (not (length (data_in group) == 0) && is_due w.apex w.now group.owner f) ≡ true = due_then group c.is_empty.result c.is_due.result _ (c.is_empty.ensures ∙ ap (λ n. n == 0) group.items.ok.0) c.if-is_empty.false c.is_due.ensures c.if-not-is_due.false in
+    let found : find (fits_key f) w.keys ≡ Some c.in-Some.key.now = sym c.in-Some.ensures in
     let octets = c.deref.ensures.value ∙ c.in_ok-write_signed.ensures in
-    c.verify.ensures.asked test ((λ i. test (c.dnskey.ensures i) (octets i) (c.signature.ensures i)) ∙ passes c.in-Some.key.now found)
+    c.verify.ensures.asked test ((λ i. test (c.dnskey.ensures i) (octets i) (c.signature.ensures i)) ∙ passes (tries_found w group.owner (data_in group) f c.in-Some.key.now due found) c.in-Some.key.now found)

@@ -1,11 +1,11 @@
 use Rattle.std.proofs.Common.{rules, ◌≡◌, ◌⊎◌, [], ◌∷◌, map, true, false, refl, sym, subst, ap, ◌∙◌, inl, arith}
 use Rattle.messages.specs.Record.{spelled}
 use Rattle.answer_scheme.specs.Answers.{SignatureTest, with_test}
-use Rattle.answer_judge_facts.specs.Asked.{PassesRecord, bare}
+use Rattle.answer_judge_facts.specs.Asked.{PassesRecord}
 use Rattle.answer_judge_keys.specs.Trusted.{is_signature}
 use Rattle.answer_judge_facts.specs.Marked.{held_by, is_tried_in, marked}
 use Rattle.answer_judge_facts.specs.Counted.{one_if}
-use Rattle.answer_judge_facts.proofs.JudgeAsked.{agreed, agreed_by, bare_next, next_passes}
+use Rattle.answer_judge_facts.proofs.JudgeAsked.{agreed, agreed_by, next_passes}
 use Rattle.answer_judge_facts.proofs.JudgeCounted.{tries_last, tries_next, tries_unsigned}
 use Rattle.answer_judge_facts.proofs.JudgeTried.{untried, unsigned, after_next, after_last, signatures_next, signatures_same}
 use Rattle.answer_judge_facts.proofs.GroupPlaces.{ranked_next}
@@ -55,12 +55,11 @@ loop-record-preserved g c =
             search rules,
             ranked_next a m (spelled r ∷ []) c.loop-record.groups c.if-eq.groups first inv.8,
             (λ test h. inv.9 test (back test h)),
-            bare_next a m (spelled r ∷ []) c.loop-record.groups c.if-eq.groups c.args.groups.now first inv.10,
             (λ test passes.
-                let before = inv.11 test passes in
-                let next = next_passes (PassesRecord test trust.keys.now m (map bare c.args.groups.now)) rs i r at item before.0 in (
+                let before = inv.10 test passes in
+                let next = next_passes test a m rs i r c.loop-record.groups c.if-eq.groups at item first before.0 in (
                   next.1,
-                  (λ asked. subst (λ v. g.C.Checks.asked_only v.checks.now test) (sym w.verifier-is) (ensures.asked test (subst (λ gs. PassesRecord test trust.keys.now m gs (spelled r)) (sym inv.10) next.0) (before.1 asked))),
+                  (λ asked. subst (λ v. g.C.Checks.asked_only v.checks.now test) (sym w.verifier-is) (ensures.asked test (subst (λ v. PassesRecord test (held_by v trust) m c.loop-record.groups (spelled r)) (sym inv.5) next.0) (before.1 asked))),
                 )),
           )
       | else-eq w ↦
@@ -89,10 +88,9 @@ loop-record-preserved g c =
             search rules,
             ranked_next a m (spelled r ∷ []) c.loop-record.groups c.if-eq.groups first inv.8,
             (λ test h. inv.9 test (back test h)),
-            bare_next a m (spelled r ∷ []) c.loop-record.groups c.if-eq.groups c.args.groups.now first inv.10,
             (λ test passes.
-                let before = inv.11 test passes in
-                let next = next_passes (PassesRecord test trust.keys.now m (map bare c.args.groups.now)) rs i r at item before.0 in
+                let before = inv.10 test passes in
+                let next = next_passes test a m rs i r c.loop-record.groups c.if-eq.groups at item first before.0 in
                 (next.1, (λ asked. subst (λ v. g.C.Checks.asked_only v.checks.now test) (sym w.verifier-is) (before.1 asked)))),
           )
     ]
@@ -106,3 +104,13 @@ pub returns-clause-tried : goal.returns-clause-tried
 returns-clause-tried g c = λ test h.
     let a = held_by (with_test (g.C.Checks.answers c.args.verifier.now.checks.now) test) c.args.trust.now in
     omega (arith, c.loop-record.invariant.6 test h, tries_last a c.args.message.now c.args.records.now c.loop-record.record-index c.loop-record.groups (omega arith))
+
+pub returns-in_err-verify_record-clause-asked : goal.returns-in_err-verify_record-clause-asked
+returns-in_err-verify_record-clause-asked g c = λ test passes before.
+    let a = held_by (g.C.Checks.answers c.args.verifier.now.checks.now) c.args.trust.now in
+    let m = c.args.message.now in
+    let r = c.record-item.result in
+    let groups = c.loop-record.groups in
+    let kept = c.loop-record.invariant.10 test passes in
+    let next = next_passes test a m c.args.records.now c.loop-record.record-index r groups (map (marked a m (spelled r ∷ [])) groups) c.loop-record-test.true c.record-item.is refl kept.0 in
+    c.verify_record.ensures.asked test (subst (λ v. PassesRecord test (held_by v c.args.trust.now) m groups (spelled r)) (sym c.loop-record.invariant.5) next.0) (kept.1 before)

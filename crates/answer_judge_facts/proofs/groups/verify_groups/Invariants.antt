@@ -2,7 +2,7 @@ use Rattle.std.proofs.Common.{◌≡◌, ◌+◌, ◌≤◌, drop, map, length}
 use Rattle.std.specs.List.{filter}
 use Rattle.messages.specs.Record.{spelled}
 use Rattle.answer_scheme.specs.Answers.{EachAgreeing, SignatureTest}
-use Rattle.answer_judge_facts.specs.Asked.{PassesGroups, bare}
+use Rattle.answer_judge_facts.specs.Asked.{PassesGroups}
 use Rattle.answer_judge_keys.specs.Trusted.{is_signature}
 use Rattle.answer_judge_facts.specs.Marked.{held_by, marked, tries_in}
 use Rattle.answer_judge_facts.specs.Ranked.{AreRanked}
@@ -25,5 +25,4 @@ invariant-loop-record g l =
     × (v.checks.ghost_name ≡ old.checks.ghost_name)
     × AreRanked l.groups
     × ((test : SignatureTest) → c.agrees v.checks.now test → c.agrees old.checks.now test)
-    × (map bare l.groups ≡ map bare l.fn.groups)
-    × ((test : SignatureTest) → PassesGroups test l.trust.keys.now l.message l.fn.groups all → PassesGroups test l.trust.keys.now l.message l.fn.groups rest × (c.asked_only old.checks.now test → c.asked_only v.checks.now test))
+    × ((test : SignatureTest) → let w = held_by own l.trust in PassesGroups test w l.message l.fn.groups all → PassesGroups test w l.message l.groups rest × (c.asked_only old.checks.now test → c.asked_only v.checks.now test))

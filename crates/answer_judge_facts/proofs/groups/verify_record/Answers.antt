@@ -103,22 +103,36 @@ returns-clause-tried g c = λ test h.
 
 pub returns-clause-asked : goal.returns-clause-asked
 returns-clause-asked g c = λ test passes.
+    let w = held_by (g.C.Checks.answers c.args.verifier.now.checks.now) c.args.trust.now in
     let m = c.args.message.now in
     let r = spelled c.args.view.now in
+    let gs = c.args.groups.now in
     let s = c.in-Some-signature.signature in
+    let class : (r.class == 1) ≡ true = not-false _ (sym c.ne.ensures ∙ c.if-ne.false) in
     let read : rrsig_at pointer_limit m r ≡ Some (signature_of s) = sym c.signature.ensures ∙ ap (option_map signature_of) c.in-Some-signature.is in
     let type : c.in-Some.covered ≡ (fields_read s).covered = type_read m r c.in-Some.covered (signature_of s) c.in-Some.ensures read in
+    let i = c.in-Some-place_of.place in
+    let within = c.in-Some-place_of.ensures.within in
     let x = c.index-groups-place-2.result in
     let own : is_of r.owner (fields_read s).covered x ≡ true = subst (λ (t : ℕ). is_of r.owner t x ≡ true) type (c.in-Some-place_of.ensures.found x c.index-groups-place-2.is) in
-    c.in_ok-group.ensures.asked test (passes_at test c.args.trust.now.keys.now m r s c.args.groups.now c.in-Some-place_of.place x read c.requires.signature c.in-Some-place_of.ensures.within c.index-groups-place-2.is own passes)
+    let not_yet : is_some x.verified ≡ false =
+    ap (λ (y : Group). is_some y.verified) (c.index-groups-place-2.is ∙ same_item gs i x c.index-groups-place.result within) ∙ sym c.is_some.ensures ∙ c.if-is_some.false in
+    c.in_ok-group.ensures.asked test (passes_at test w m r s gs i x read c.requires.signature class within c.index-groups-place-2.is own not_yet passes)
 
 pub returns-in_err-group-clause-asked : goal.returns-in_err-group-clause-asked
 returns-in_err-group-clause-asked g c = λ test passes.
+    let w = held_by (g.C.Checks.answers c.args.verifier.now.checks.now) c.args.trust.now in
     let m = c.args.message.now in
     let r = spelled c.args.view.now in
+    let gs = c.args.groups.now in
     let s = c.in-Some-signature.signature in
+    let class : (r.class == 1) ≡ true = not-false _ (sym c.ne.ensures ∙ c.if-ne.false) in
     let read : rrsig_at pointer_limit m r ≡ Some (signature_of s) = sym c.signature.ensures ∙ ap (option_map signature_of) c.in-Some-signature.is in
     let type : c.in-Some.covered ≡ (fields_read s).covered = type_read m r c.in-Some.covered (signature_of s) c.in-Some.ensures read in
+    let i = c.in-Some-place_of.place in
+    let within = c.in-Some-place_of.ensures.within in
     let x = c.index-groups-place-2.result in
     let own : is_of r.owner (fields_read s).covered x ≡ true = subst (λ (t : ℕ). is_of r.owner t x ≡ true) type (c.in-Some-place_of.ensures.found x c.index-groups-place-2.is) in
-    c.verifies.ensures.asked test (passes_at test c.args.trust.now.keys.now m r s c.args.groups.now c.in-Some-place_of.place x read c.requires.signature c.in-Some-place_of.ensures.within c.index-groups-place-2.is own passes)
+    let not_yet : is_some x.verified ≡ false =
+    ap (λ (y : Group). is_some y.verified) (c.index-groups-place-2.is ∙ same_item gs i x c.index-groups-place.result within) ∙ sym c.is_some.ensures ∙ c.if-is_some.false in
+    c.verifies.ensures.asked test (passes_at test w m r s gs i x read c.requires.signature class within c.index-groups-place-2.is own not_yet passes)

@@ -55,24 +55,24 @@ verify_groups-requires-clause-ranked g c =
 
 pub returns-clause-asked : goal.returns-clause-asked
 returns-clause-asked g c = λ test passes.
-    let apex = c.args.trust.now.apex.now in
+    let w = held_by (g.C.Checks.answers c.args.verifier.now.checks.now) c.args.trust.now in
     let m = c.args.message.now in
     let ks = c.args.keys.now in
     let rs = map spelled c.args.records.now in
     let x = c.in_ok-key_group.field-0 in
     let e = c.in_ok-key_group.ensures in
     let old : c.deref_mut.result.now ≡ x ∷ [] = c.deref_mut.ensures.value ∙ c.in_ok-push.ensures.items ∙ ap (λ gs. gs ++ x ∷ []) c.in_ok-groups.ensures.items in
-    let groups = sought_passes test c.args.trust.now.keys.now m (keys_sought apex ks) (x ∷ []) rs (keys_are apex ks x e.owner e.rtype e.items e.unverified) passes in
-    c.in_ok-verify_groups.ensures.asked test (subst (λ gs. PassesGroups test c.args.trust.now.keys.now m gs rs) (sym old) groups)
+    let groups = sought_passes test w m (keys_sought w.apex ks) (x ∷ []) rs (keys_are w.apex ks x e.owner e.rtype e.items e.unverified) passes in
+    c.in_ok-verify_groups.ensures.asked test (subst (λ gs. PassesGroups test w m gs rs) (sym old) groups)
 
 pub returns-in_err-verify_groups-clause-asked : goal.returns-in_err-verify_groups-clause-asked
 returns-in_err-verify_groups-clause-asked g c = λ test passes.
-    let apex = c.args.trust.now.apex.now in
+    let w = held_by (g.C.Checks.answers c.args.verifier.now.checks.now) c.args.trust.now in
     let m = c.args.message.now in
     let ks = c.args.keys.now in
     let rs = map spelled c.args.records.now in
     let x = c.in_ok-key_group.field-0 in
     let e = c.in_ok-key_group.ensures in
     let old : c.deref_mut.result.now ≡ x ∷ [] = c.deref_mut.ensures.value ∙ c.in_ok-push.ensures.items ∙ ap (λ gs. gs ++ x ∷ []) c.in_ok-groups.ensures.items in
-    let groups = sought_passes test c.args.trust.now.keys.now m (keys_sought apex ks) (x ∷ []) rs (keys_are apex ks x e.owner e.rtype e.items e.unverified) passes in
-    c.verify_groups.ensures.asked test (subst (λ gs. PassesGroups test c.args.trust.now.keys.now m gs rs) (sym old) groups)
+    let groups = sought_passes test w m (keys_sought w.apex ks) (x ∷ []) rs (keys_are w.apex ks x e.owner e.rtype e.items e.unverified) passes in
+    c.verify_groups.ensures.asked test (subst (λ gs. PassesGroups test w m gs rs) (sym old) groups)

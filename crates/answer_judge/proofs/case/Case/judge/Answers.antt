@@ -1,6 +1,7 @@
-use Rattle.std.proofs.Common.{inl, inr, refl, subst, ap, arith, rules}
+use Rattle.std.proofs.Common.{inl, inr, refl, sym, subst, ap, arith, rules}
 use Rattle.answer_judge_keys.specs.Judging.{Refuses, Says}
 use Rattle.answer_judge_rules.specs.Rules.{verdict_of}
+use Rattle.answer_judge.proofs.JudgeAsks.{case_passes}
 use Rattle.answer_judge.proofs.JudgedWholly.{agrees_too, each_wholly}
 use Rattle.answer_judge.proofs.case.Case.judge.Goals as goal
 
@@ -22,7 +23,10 @@ returns-in-Ok g c =
       agreeing = λ test agrees.
           let agrees_now = agrees_too g.C.Checks.agrees _ now test agrees (search rules) in
           (subst (λ v. g.C.Checks.agrees v test) c.new-verifier.ensures.checks (c.in-Ok.ensures.agrees test agrees_now), so test (inr agrees_now));
-      asked = search rules;
+      asked = λ test implies before.
+          let passes = case_passes own _ c.args.self.now test (ap g.C.Checks.answers c.new-verifier.ensures.checks) (search rules) (search rules) implies in
+          let asked_now = c.in-Ok.ensures.asked test passes (subst (λ v. g.C.Checks.asked_only v test) (sym c.new-verifier.ensures.checks) before) in
+          agrees_too g.C.Checks.asked_only now _ test asked_now (search rules);
       verified = search rules;
       hashed = search rules;
       same = search rules;
@@ -46,7 +50,10 @@ returns g c =
       agreeing = λ test agrees.
           let agrees_now = agrees_too g.C.Checks.agrees _ now test agrees (search rules) in
           (subst (λ v. g.C.Checks.agrees v test) c.new-verifier.ensures.checks (c.in-Err.ensures.agrees test agrees_now), so test (inr agrees_now));
-      asked = search rules;
+      asked = λ test implies before.
+          let passes = case_passes own _ c.args.self.now test (ap g.C.Checks.answers c.new-verifier.ensures.checks) (search rules) (search rules) implies in
+          let asked_now = c.in-Err.ensures.asked test passes (subst (λ v. g.C.Checks.asked_only v test) (sym c.new-verifier.ensures.checks) before) in
+          agrees_too g.C.Checks.asked_only now _ test asked_now (search rules);
       verified = search rules;
       hashed = search rules;
       same = search rules;

@@ -1,10 +1,10 @@
 use mathlib.Core.Path.{transport}
-use Rattle.std.proofs.Common.{◌||◌, map, sym, ap, subst, ◌∙◌}
+use Rattle.std.proofs.Common.{◌||◌, [], map, sym, ap, subst, ◌∙◌}
 use Rattle.std.specs.Prelude.{IfOk, nat_eq}
 use Rattle.definitions.specs.Limits.{pointer_limit}
 use Rattle.messages.specs.Record.{spelled}
 use Rattle.answer_scheme.specs.Answers.{with_test}
-use Rattle.answer_judge_facts.specs.Asked.{PassesSought}
+use Rattle.answer_judge_facts.specs.Asked.{Implies, is_tried_among}
 use Rattle.answer_judge_keys.specs.Judging.{Handing}
 use Rattle.answer_judge_keys.specs.KeyOrder.{Ranks}
 use Rattle.answer_judge_facts.specs.Sought.{answer_sought}
@@ -34,6 +34,12 @@ returns-clause-proves g c = λ test fits.
 
 pub returns-clause-asked : goal.returns-clause-asked
 returns-clause-asked g c = λ test passes.
-    let back = sym c.case.view_is in
+    let is = c.case.view_is in
+    let back = sym is in
+    let moment = c.timestamp.ensures ∙ ap (λ (h : Handing). h.now) is in
+    let own = g.C.Checks.answers c.args.verifier.now.checks.now in
     let rs = map spelled c.args.records.now in
-    c.read_facts.ensures.asked test (subst (λ (h : Handing). PassesSought test c.args.keys.now h.answer_bytes (answer_sought pointer_limit h.answer_bytes h.apex rs h.asked.name h.asked.rtype) rs) back passes)
+    c.read_facts.ensures.asked test
+    (transport
+    (λ i. Implies (is_tried_among (record { answers = own; apex = (back i).apex; keys = c.args.keys.now; now = sym moment i }) pointer_limit (back i).answer_bytes (answer_sought pointer_limit (back i).answer_bytes (back i).apex rs (back i).asked.name (back i).asked.rtype) [] rs) test)
+    passes)

@@ -7,7 +7,7 @@ use Rattle.messages.specs.Message.{Spelled}
 use Rattle.messages.specs.Record.{spelled}
 use Rattle.answer_scheme.specs.Answers.{Answers, SignatureTest, with_test}
 use Rattle.answer_judge.specs.Stages.{are_signed, tries_of_keys, trusting_named}
-use Rattle.answer_judge_facts.specs.Asked.{PassesSought}
+use Rattle.answer_judge_facts.specs.Asked.{Implies, is_tried_among}
 use Rattle.answer_judge_facts.specs.Counted.{tries}
 use Rattle.answer_judge_keys.specs.Trusted.{is_trusted}
 use Rattle.answer_judge_keys.specs.Judging.{Handing}
@@ -39,6 +39,11 @@ module _ (own : Answers) (test : SignatureTest) (h now : Handing) (is : now ≡ 
         omega (arith, tried, zero, due),
       )
 
+  -- where a test passes for the signatures that are tried then, it passes for them as they are held against the keys
+  tried_pass : Implies (is_tried_among (trusting_named own h ks) pointer_limit h.dnskey_bytes (keys_sought h.apex ks) [] rs) test
+      → Implies (is_tried_among (record { answers = checks; apex = now.apex; keys = trusted; now = moment }) pointer_limit now.dnskey_bytes (keys_sought now.apex held) [] rs) test
+  tried_pass = transport (λ i. Implies (is_tried_among (record { answers = sym same i; apex = (sym is i).apex; keys = sym named i; now = sym at i }) pointer_limit (sym is i).dnskey_bytes (keys_sought (sym is i).apex (sym items i)) [] rs) test)
+
 pub returns-clause-signed : goal.returns-clause-signed
 returns-clause-signed g c = λ test fits.
     let own = g.C.Checks.answers c.args.verifier.now.checks.now in
@@ -65,28 +70,37 @@ returns-then-not-branch-clause-unsigned g c = λ test fits.
     let found = found_out own test c.args.case.now _ is (map spelled c.args.records.now) c.args.keys.items c.deref-5.result.now c.deref-3.result.now named c.deref-5.ensures.value _ same _ moment _ _ _ none_yet (c.in_ok-are_verified.ensures.exact test first) (c.in_ok-are_verified.ensures.tried test first) in
     inr (refl, sym found.0 ∙ c.if-not-branch.true, found.1)
 
--- ---- all that are verified are sought
+-- ---- all that are verified are tried
 
 pub returns-clause-asked : goal.returns-clause-asked
 returns-clause-asked g c = λ test passes before.
     let own = g.C.Checks.answers c.args.verifier.now.checks.now in
     let is = c.case.view_is in
+    let moment = c.timestamp.ensures ∙ ap (λ (h : Handing). h.now) is in
+    let rest = c.in_ok-trusted.ensures.rest in
+    let same = ap (λ v. g.C.Checks.answers v.checks.now) rest in
     let named = c.deref-3.ensures.value ∙ c.in_ok-trusted.ensures.trusted ∙ (λ i. filter (is_trusted own (is i).apex (is i).ds) (c.deref.ensures.value i)) in
-    let sought = transport (λ i. PassesSought test (sym named i) (sym is i).dnskey_bytes (keys_sought (sym is i).apex (sym c.deref-5.ensures.value i)) (map spelled c.args.records.now)) passes in
-    c.are_verified.ensures.asked test sought (subst (λ v. g.C.Checks.asked_only v.checks.now test) (sym c.in_ok-trusted.ensures.rest) before)
+    let tried = tried_pass own test c.args.case.now _ is (map spelled c.args.records.now) c.args.keys.items c.deref-5.result.now c.deref-3.result.now named c.deref-5.ensures.value _ same _ moment passes in
+    c.are_verified.ensures.asked test tried (subst (λ v. g.C.Checks.asked_only v.checks.now test) (sym rest) before)
 
 pub returns-then-not-branch-clause-asked : goal.returns-then-not-branch-clause-asked
 returns-then-not-branch-clause-asked g c = λ test passes before.
     let own = g.C.Checks.answers c.args.verifier.now.checks.now in
     let is = c.case.view_is in
+    let moment = c.timestamp.ensures ∙ ap (λ (h : Handing). h.now) is in
+    let rest = c.in_ok-trusted.ensures.rest in
+    let same = ap (λ v. g.C.Checks.answers v.checks.now) rest in
     let named = c.deref-3.ensures.value ∙ c.in_ok-trusted.ensures.trusted ∙ (λ i. filter (is_trusted own (is i).apex (is i).ds) (c.deref.ensures.value i)) in
-    let sought = transport (λ i. PassesSought test (sym named i) (sym is i).dnskey_bytes (keys_sought (sym is i).apex (sym c.deref-5.ensures.value i)) (map spelled c.args.records.now)) passes in
-    c.are_verified.ensures.asked test sought (subst (λ v. g.C.Checks.asked_only v.checks.now test) (sym c.in_ok-trusted.ensures.rest) before)
+    let tried = tried_pass own test c.args.case.now _ is (map spelled c.args.records.now) c.args.keys.items c.deref-5.result.now c.deref-3.result.now named c.deref-5.ensures.value _ same _ moment passes in
+    c.are_verified.ensures.asked test tried (subst (λ v. g.C.Checks.asked_only v.checks.now test) (sym rest) before)
 
 pub returns-in_err-are_verified-clause-asked : goal.returns-in_err-are_verified-clause-asked
 returns-in_err-are_verified-clause-asked g c = λ test passes before.
     let own = g.C.Checks.answers c.args.verifier.now.checks.now in
     let is = c.case.view_is in
+    let moment = c.timestamp.ensures ∙ ap (λ (h : Handing). h.now) is in
+    let rest = c.in_ok-trusted.ensures.rest in
+    let same = ap (λ v. g.C.Checks.answers v.checks.now) rest in
     let named = c.deref-3.ensures.value ∙ c.in_ok-trusted.ensures.trusted ∙ (λ i. filter (is_trusted own (is i).apex (is i).ds) (c.deref.ensures.value i)) in
-    let sought = transport (λ i. PassesSought test (sym named i) (sym is i).dnskey_bytes (keys_sought (sym is i).apex (sym c.deref-5.ensures.value i)) (map spelled c.args.records.now)) passes in
-    c.are_verified.ensures.asked test sought (subst (λ v. g.C.Checks.asked_only v.checks.now test) (sym c.in_ok-trusted.ensures.rest) before)
+    let tried = tried_pass own test c.args.case.now _ is (map spelled c.args.records.now) c.args.keys.items c.deref-5.result.now c.deref-3.result.now named c.deref-5.ensures.value _ same _ moment passes in
+    c.are_verified.ensures.asked test tried (subst (λ v. g.C.Checks.asked_only v.checks.now test) (sym rest) before)
