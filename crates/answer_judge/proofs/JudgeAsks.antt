@@ -1,6 +1,6 @@
 -- The signatures that a judge verifies are those that are tried of the case.
 use mathlib.Core.Path.{transport}
-use Rattle.std.proofs.Common.{◌≡◌, ℕ, Bool, true, false, not, ◌&&◌, ◌||◌, List, [], filter, length, sym, ap, ◌∙◌}
+use Rattle.std.proofs.Common.{◌≡◌, ℕ, Bool, true, false, not, ◌&&◌, List, [], filter, length, sym, ap, ◌∙◌}
 use Rattle.std.specs.Prelude.{Some, None, Ok, Err, nat_eq, if◌then◌else◌}
 use Rattle.std.proofs.lemmas.Bool.{or_left, or_right}
 use Rattle.definitions.specs.Dnskey.{Dnskey}
@@ -41,7 +41,7 @@ module _ (a : Answers) (h : Handing) (keys answer : Message) (none : message_ref
   answer_pass test later rs usable implies same chained e u =
       transport (λ i. Implies (is_tried_among (trusting (sym same i) h (sym u i)) pointer_limit h.answer_bytes (answer_sought pointer_limit h.answer_bytes h.apex (sym e i) h.asked.name h.asked.rtype) [] (sym e i)) test)
       (λ key octets signature tried. implies key octets signature
-          (tried_beyond key octets signature (or_right _ _ ((λ i. sym chained i && is_tried_of_answer a pointer_limit h keys answer key octets signature) ∙ tried))))
+      (tried_beyond key octets signature (or_right _ _ ((λ i. sym chained i && is_tried_of_answer a pointer_limit h keys answer key octets signature) ∙ tried))))
 
 -- beside a DS set that isn't empty, of an allowed question
 pub case_passes : (own was : Answers) (h : Handing) (test : SignatureTest) → was ≡ own → is_allowed h.apex h.asked ≡ true → nat_eq (length h.ds) 0 ≡ false → Implies (is_tried_signature own pointer_limit h) test → Implies (is_tried_beyond was pointer_limit h) test
