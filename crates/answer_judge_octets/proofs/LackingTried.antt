@@ -1,5 +1,5 @@
 -- What a table lacked, and tests of it.
-use Rattle.std.proofs.Common.{◌≡◌, ℕ, ◌+◌, ◌<◌, ◌≤◌, length, arith, true, false, List, [], ◌∷◌, ap, sym, subst, ◌∙◌, inr, ⊎_elim}
+use Rattle.std.proofs.Common.{◌≡◌, ℕ, ◌+◌, ◌<◌, ◌≤◌, length, arith, Bool, true, false, List, [], ◌∷◌, ap, sym, subst, ◌∙◌, inr, ⊎_elim}
 use Rattle.std.specs.Prelude.{IfOk, Option, Result, Ok, Err, Some}
 use Rattle.std.specs.List.{AllByRecursion}
 use Rattle.std.proofs.lemmas.Bool.{false≢true}
