@@ -35,6 +35,7 @@ BEHIND = (
     "tests/refusals --part",
     "tests/pictures",
     "tests/explained/run",
+    "tests/signers | cmp - tests/sessions/octets_of_signers",
 )
 TICKS = os.sysconf("SC_CLK_TCK")
 # Lines that say what was refused and why; of them the last so many are printed again.
