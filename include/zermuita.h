@@ -1,11 +1,11 @@
 /*
- * What a signed DNS zone says of a name, judged from messages alone (RFC 4035, 5). zermuita_judge(3) and docs/use/CALLING.md say how a
- * call is made.
+ * What a signed DNS zone says of a name, judged from messages alone (RFC 4035, 5). zermuita_judge(3) and docs/use/CALLING.md say how
+ * a call is made, what each reply proves and under which premises.
  *
- * The library checks no signature. It is handed those that its caller has checked, and gives a verdict, a refusal, or all
- * signatures that are still to be checked. It keeps nothing between calls, calls nothing back but malloc, realloc and free,
- * and has given back all memory when a call returns. It is thread-safe: it has no state, so any number of calls may run at once,
- * on the same octets too, where no octets change meanwhile.
+ * The library checks no signature. Its caller passes those that it has checked, and the library gives a verdict, a refusal, or
+ * signatures that are still to be checked. It keeps nothing between calls, calls nothing back but malloc, realloc and free, and
+ * frees all memory before a call returns. It is thread-safe: it has no state, so any number of calls may run at once, on the same
+ * octets too, as long as no octets change.
  */
 #ifndef ZERMUITA_H
 #define ZERMUITA_H
@@ -25,9 +25,13 @@
 extern "C" {
 #endif
 
-/* What a call answers. Behind each stands what zermuita_strerror says of it. */
+/* What a call answers. The comment behind each is what zermuita_strerror says of it. */
 enum zermuita_reply {
-    /* Verdicts: secure, but for the last two. Of ZERMUITA_RECORDS and ZERMUITA_WILDCARD the records' data are written. */
+    /*
+     * Verdicts: secure, but for the last two. With ZERMUITA_RECORDS and ZERMUITA_WILDCARD the library writes the records' data. A
+     * verdict vouches for the RRset that was asked for and for NSEC and NSEC3 records alone: no SOA record beside a denial and no
+     * NS set of a referral is verified.
+     */
     ZERMUITA_RECORDS = 0,         /* the name has records of the type */
     ZERMUITA_NODATA = 1,          /* the name has no records of the type */
     ZERMUITA_NXDOMAIN = 2,        /* there is no such name */
@@ -37,7 +41,7 @@ enum zermuita_reply {
     ZERMUITA_OPTOUT = 6,          /* an opt-out chain leaves open what is there */
     ZERMUITA_INSECURE = 7,        /* the DS set is empty, so nothing vouches for the zone's keys */
 
-    /* Refusals: why there is no verdict. */
+    /* Refusals: why there is no verdict. An alias that is not proved, and all that is reached through it, is bogus. */
     ZERMUITA_QUESTION_NOT_ALLOWED = 16,   /* the name is not in the zone, the class is not IN, or the type is not judged */
     ZERMUITA_BAD_DNSKEY_MESSAGE = 17,     /* the DNSKEY answer is not a message */
     ZERMUITA_BAD_ANSWER_MESSAGE = 18,     /* the answer is not a message */
@@ -52,7 +56,7 @@ enum zermuita_reply {
     ZERMUITA_MIXED_VERSIONS = 27,         /* signatures are of unlike times, and one moment is asked for */
     ZERMUITA_MESSAGE_TOO_LONG = 28,       /* a message is too long in canonical form */
 
-    /* What the library wants. */
+    /* What the library needs. */
     ZERMUITA_ASK = 32,              /* signatures are to be checked */
     ZERMUITA_BUFFER_TOO_SMALL = 34, /* the reply has more octets than there is room for */
 
@@ -73,30 +77,33 @@ struct zermuita_octets {
 /*
  * What is judged. Names are in wire form, without pointers (RFC 1035, 3.1). A case of an older header, which ends in front of
  * `one_moment`, is read as if what it lacks were 0.
+ *
+ * No octets of `ds` mean that the parent proved that there is no DS record: a `ds` that was forgotten gives ZERMUITA_INSECURE, whatever
+ * the messages say.
  */
 struct zermuita_case {
     size_t size;                    /* sizeof(struct zermuita_case) */
     struct zermuita_octets apex;    /* the name of the zone */
-    struct zermuita_octets ds;      /* the DS set of the parent: each record's data behind its length in two octets */
+    struct zermuita_octets ds;      /* the parent's DS set: each record's data behind its length in two octets; none: insecure */
     struct zermuita_octets dnskey;  /* the zone's answer for its DNSKEY records, a whole message */
     struct zermuita_octets answer;  /* its answer to the question, a whole message */
     struct zermuita_octets name;    /* the name that was asked for */
     struct zermuita_octets checked; /* the signatures that were checked so far, as entries back to back, in any order */
-    uint64_t now;                   /* when signatures are to hold, in seconds since 1970 */
+    uint64_t now;                   /* the moment at which signatures must hold, in seconds since 1970 */
     uint16_t rtype;                 /* the type that was asked for */
     uint16_t rclass;                /* the class that was asked for: 1 */
     uint16_t max_nsec3_iterations;  /* how many iterations of a name's hash are allowed (RFC 9276, 3.2) */
-    uint32_t one_moment;            /* 1: the answer's signatures are to be of one inception and one expiration; 0: of any */
+    uint32_t one_moment;            /* 1: the answer's signatures must have one inception and one expiration; 0: any */
     uint32_t as_received;           /* 1: messages are judged as their octets stand; 0: names in data in canonical form first */
 };
 
 struct zermuita_report {
     size_t len;             /* how many octets the reply has */
     uint32_t verifications; /* with a verdict or a refusal: how many signatures were looked up in `checked` */
-    uint32_t hashes;        /* and how many names were hashed */
+    uint32_t hashes;        /* with a verdict or a refusal: how many names were hashed */
 };
 
-/* Of the library. These take no null pointer; call zermuita_judge and zermuita_strerror, which are written over them below. */
+/* The library's own functions. They take no null pointer: call zermuita_judge and zermuita_strerror below in their place. */
 uint32_t zermuita_judge_case(const struct zermuita_case *handed, uint8_t *out, size_t out_len, struct zermuita_report *report);
 void zermuita_reply_text(uint32_t reply, struct zermuita_octets *text);
 
@@ -113,7 +120,7 @@ static inline int zermuita_is_refusal(enum zermuita_reply reply) {
     return ZERMUITA_QUESTION_NOT_ALLOWED <= reply && reply <= ZERMUITA_MESSAGE_TOO_LONG;
 }
 
-/* A reply's name and a sentence. The text stands as long as the program runs. */
+/* A reply's name and a sentence. The text is valid as long as the program runs. */
 static inline const char *zermuita_strerror(enum zermuita_reply reply) {
     static const uint8_t none[1] = {0};
     struct zermuita_octets text = {none, 0};
@@ -121,7 +128,7 @@ static inline const char *zermuita_strerror(enum zermuita_reply reply) {
     return (const char *)text.data;
 }
 
-/* Puts a pointer in the place of null where there are no octets. 0 where null has a length. */
+/* Puts a pointer in the place of null where there are no octets. Gives 0 where null has a length. */
 static inline int zermuita_octets_are(struct zermuita_octets *octets) {
     static const uint8_t none[1] = {0};
     if (octets->data == NULL && octets->len == 0) {
@@ -130,17 +137,17 @@ static inline int zermuita_octets_are(struct zermuita_octets *octets) {
     return octets->data != NULL;
 }
 
-/* The octets that the library may read of a case, whatever the size of the caller's. */
+/* How many octets of a case the library may read, whatever the size of the caller's. */
 #define ZERMUITA_CASE_ROOM 256
 
 /*
- * Judges. Where the reply's `report->len` octets are at most `out_len`, they are written to the front of `out`; else nothing is, and
- * the reply is ZERMUITA_BUFFER_TOO_SMALL. `out` may be null where `out_len` is 0, and `report` where it is not wanted. Nothing that
- * is read overlaps `out` or `report`.
+ * Judges a case. Where the reply's `report->len` octets are at most `out_len`, they are written to the front of `out`; else nothing
+ * is, and the reply is ZERMUITA_BUFFER_TOO_SMALL. `out` may be null where `out_len` is 0, and `report` where it is not wanted.
+ * Nothing that the library reads may overlap `out` or `report`.
  *
- * On ZERMUITA_ASK `out` has all signatures that are to be checked: check each (zermuita_next_ask), put the octets of `out` at
- * the end of `checked`, and call again. An answer whose signatures pass takes two calls. An entry that was not checked is not to be
- * put there: it stands for a signature that fails.
+ * On ZERMUITA_ASK `out` has signatures that are to be checked: check each (zermuita_next_ask), put the octets of `out` at the end of
+ * `checked`, and call again. Stop at 16 signatures: a reply that is still ZERMUITA_ASK is bogus then. Put no entry there that was
+ * not checked: it stands for a signature that fails.
  */
 static inline enum zermuita_reply zermuita_judge(const struct zermuita_case *handed, uint8_t *out, size_t out_len,
                                                  struct zermuita_report *report) {
@@ -166,7 +173,7 @@ static inline enum zermuita_reply zermuita_judge(const struct zermuita_case *han
     return (enum zermuita_reply)zermuita_judge_case(&room.handed, out, out_len, report);
 }
 
-/* A number of so many octets, the highest first. */
+/* The number that `width` octets spell, the highest first. */
 static inline size_t zermuita_number(const uint8_t *octets, size_t width) {
     size_t number = 0;
     for (size_t i = 0; i < width; i++) {
@@ -175,7 +182,7 @@ static inline size_t zermuita_number(const uint8_t *octets, size_t width) {
     return number;
 }
 
-/* Takes a part behind its length in so many octets off the front of `rest`. 0 where there is none. */
+/* Takes a part behind its length in `width` octets off the front of `rest`. Gives 0 where there is none. */
 static inline int zermuita_next_part(struct zermuita_octets *rest, size_t width, struct zermuita_octets *part) {
     size_t len = rest->len < width ? 0 : zermuita_number(rest->data, width);
     if (rest->len < width || rest->len - width < len) {
@@ -190,13 +197,13 @@ static inline int zermuita_next_part(struct zermuita_octets *rest, size_t width,
 
 /*
  * Takes the data of one record off the front of `rest`, which begins as the octets of a reply that is ZERMUITA_RECORDS or
- * ZERMUITA_WILDCARD. 0 where there are no more. They come in canonical order.
+ * ZERMUITA_WILDCARD. Gives 0 where there are no more. Records come in canonical order.
  */
 static inline int zermuita_next_record(struct zermuita_octets *rest, struct zermuita_octets *rdata) {
     return zermuita_next_part(rest, 2, rdata);
 }
 
-/* A signature that is to be checked. All of it points into the reply. */
+/* A signature that is to be checked. Its octets are those of the reply, and valid until `out` is written or freed. */
 struct zermuita_ask {
     struct zermuita_octets dnskey;    /* the data of the DNSKEY record: flags, protocol, algorithm and key (RFC 4034, 2.1) */
     struct zermuita_octets key;       /* the key alone, as its algorithm writes it */
@@ -207,9 +214,9 @@ struct zermuita_ask {
 };
 
 /*
- * Takes an entry off the front of `len` octets at `*next`, and moves both behind it. 0 where there is no more. An entry is a DNSKEY
- * record's data behind their length in two octets, the octets that the signature is made over behind their length in four, the
- * signature behind its length in two, and one octet: 1 where the signature passes, else 0.
+ * Takes an entry off the front of `*len` octets at `*next`, and moves both behind it. Gives 0 where there are no more. An entry is a
+ * DNSKEY record's data behind their length in two octets, the octets that the signature is made over behind their length in four,
+ * the signature behind its length in two, and one octet: 1 where the signature passes, else 0.
  */
 static inline int zermuita_next_ask(uint8_t **next, size_t *len, struct zermuita_ask *ask) {
     struct zermuita_octets rest;
