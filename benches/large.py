@@ -163,8 +163,8 @@ ROWS = (
     ("NSEC records, each verified", with_two, signed_link),
     ("NSEC3 records, each of another owner", with_two, hash_link),
     ("NSEC3 records, each verified", with_two, signed_hash_link),
-    ("keys of unlike tags, unsigned", alike, None),
-    ("signed keys of unlike tags, and signatures of one RRset under other keys", with_keys, unsigned),
+    ("keys with different tags, unsigned", alike, None),
+    ("signed keys with different tags, and signatures of one RRset under other keys", with_keys, unsigned),
 )
 
 

@@ -72,7 +72,7 @@ def main():
         row(f"{what} of a name of the table", instructions(task, order), len(order), blocks(task, order))
         row(f"{what} of a name of a zone", instructions(task, zone), len(zone), blocks(task, zone))
     longest = ["a." * 127]
-    for task, what in (("walk", "`iter` to its end from the front"), ("walk_back", "the same from the back")):
+    for task, what in (("walk", "`iter` to its end from the front"), ("walk_back", "`iter` to its end from the back")):
         row(f"{what}, of a name of a zone", instructions(task, zone), len(zone), blocks(task, zone))
         row(f"{what}, of a name of 127 labels", instructions(task, longest), len(longest), blocks(task, longest))
 

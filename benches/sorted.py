@@ -73,7 +73,7 @@ def main():
     read = instructions("read", 0, mixed)
     sort = instructions("sort", 0, mixed) - read
     row("`from_vec` of records in no order, an owner", sort / owners)
-    row("the same, a record", sort / count)
+    row("`from_vec` of records in no order, a record", sort / count)
     row("`from_vec` of records in order, an owner", (instructions("sort", 0, ordered) - instructions("read", 0, ordered)) / owners)
     single = hosts(OWNERS)
     taken = instructions("sort", 0, single) - instructions("read", 0, single)
