@@ -1,6 +1,6 @@
 /*
- * What a signed DNS zone says of a name, judged from messages alone (RFC 4035, 5). zermuita_judge(3) and docs/use/CALLING.md say how
- * a call is made, what each reply proves and under which premises.
+ * What a signed DNS zone says of a name, judged from messages alone (RFC 4035, 5). zermuita_judge(3) and docs/use/CALLING.md say
+ * how a call is made, what each reply proves and under which premises.
  *
  * The library checks no signature. Its caller passes those that it has checked, and the library gives a verdict, a refusal, or
  * signatures that are still to be checked. It keeps nothing between calls, calls nothing back but malloc, realloc and free, and
@@ -78,8 +78,8 @@ struct zermuita_octets {
  * What is judged. Names are in wire form, without pointers (RFC 1035, 3.1). A case of an older header, which ends in front of
  * `one_moment`, is read as if what it lacks were 0.
  *
- * No octets of `ds` mean that the parent proved that there is no DS record: a `ds` that was forgotten gives ZERMUITA_INSECURE, whatever
- * the messages say.
+ * No octets of `ds` mean that the parent proved that there is no DS record: a `ds` that was forgotten gives ZERMUITA_INSECURE,
+ * whatever the messages say.
  */
 struct zermuita_case {
     size_t size;                    /* sizeof(struct zermuita_case) */
@@ -145,9 +145,9 @@ static inline int zermuita_octets_are(struct zermuita_octets *octets) {
  * is, and the reply is ZERMUITA_BUFFER_TOO_SMALL. `out` may be null where `out_len` is 0, and `report` where it is not wanted.
  * Nothing that the library reads may overlap `out` or `report`.
  *
- * On ZERMUITA_ASK `out` has signatures that are to be checked: check each (zermuita_next_ask), put the octets of `out` at the end of
- * `checked`, and call again. Stop at 16 signatures: a reply that is still ZERMUITA_ASK is bogus then. Put no entry there that was
- * not checked: it stands for a signature that fails.
+ * On ZERMUITA_ASK `out` has signatures that are to be checked: check each (zermuita_next_ask), put the octets of `out` at the end
+ * of `checked`, and call again. Stop at 16 signatures: a reply that is still ZERMUITA_ASK is bogus then. Put no entry there that
+ * was not checked: it stands for a signature that fails.
  */
 static inline enum zermuita_reply zermuita_judge(const struct zermuita_case *handed, uint8_t *out, size_t out_len,
                                                  struct zermuita_report *report) {
@@ -214,9 +214,9 @@ struct zermuita_ask {
 };
 
 /*
- * Takes an entry off the front of `*len` octets at `*next`, and moves both behind it. Gives 0 where there are no more. An entry is a
- * DNSKEY record's data behind their length in two octets, the octets that the signature is made over behind their length in four,
- * the signature behind its length in two, and one octet: 1 where the signature passes, else 0.
+ * Takes an entry off the front of `*len` octets at `*next`, and moves both behind it. Gives 0 where there are no more. An entry
+ * is a DNSKEY record's data behind their length in two octets, the octets that the signature is made over behind their length in
+ * four, the signature behind its length in two, and one octet: 1 where the signature passes, else 0.
  */
 static inline int zermuita_next_ask(uint8_t **next, size_t *len, struct zermuita_ask *ask) {
     struct zermuita_octets rest;
