@@ -11,7 +11,8 @@ before a b = is_lt (name_cmp a b)
 abbrev pub covers : Name → Name → Name → Name → Bool
 covers apex owner next q = before owner q && (same next apex || before q next)
 
--- the same on hash octets, on a circle; a single record covers all but itself
+-- the order of octets, by which hashes are covered: an owner and a next hash cover what lies between them on a circle;
+-- a single record covers all but itself
 abbrev pub octets_before : List ℕ → List ℕ → Bool
 octets_before a b = is_lt (slice_cmp nat_cmp a b)
 

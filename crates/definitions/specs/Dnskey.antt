@@ -19,17 +19,17 @@ abbrev pub dnskey_of_data : List ℕ → Option Dnskey
 dnskey_of_data (a ∷ b ∷ p ∷ g ∷ octets) = Some (record { flags = a * 256 + b; protocol = p; algorithm = g; octets = octets })
 dnskey_of_data _ = None
 
--- summed as 16-bit numbers from the left, a last single octet as the upper half
+-- the sum of octets as 16-bit numbers from the left, a last single octet as the upper half
 abbrev pub sum16 : List ℕ → ℕ
 sum16 [] = 0
 sum16 (a ∷ []) = a * 256
 sum16 (a ∷ b ∷ bs) = a * 256 + b + sum16 bs
 
--- of data: the upper 16 bits of the sum are added once (RFC 4034, appendix B)
+-- the tag of a sum: its upper 16 bits are added once (RFC 4034, appendix B)
 abbrev pub tag_of_sum : ℕ → ℕ
 tag_of_sum s = (s + s / 65536) % 65536
 
--- of a key of algorithm 1: the upper two of its last three octets (RFC 4034, appendix B.1)
+-- the tag of a key of algorithm 1: the upper two of its last three octets (RFC 4034, appendix B.1)
 abbrev pub rsamd5_tag : List ℕ → ℕ
 rsamd5_tag octets =
     let n = length octets in
@@ -38,7 +38,7 @@ rsamd5_tag octets =
 abbrev pub key_tag : Dnskey → ℕ
 key_tag k = if nat_eq k.algorithm 1 then rsamd5_tag k.octets else tag_of_sum (sum16 (dnskey_data k))
 
--- the same key
+-- whether two keys are the same
 abbrev pub same_key : Dnskey → Dnskey → Bool
 same_key a b = nat_eq a.flags b.flags && nat_eq a.protocol b.protocol && nat_eq a.algorithm b.algorithm && bytes_eq a.octets b.octets
 

@@ -33,7 +33,7 @@ rising (a ∷ b ∷ ns) = before a b && rising (b ∷ ns)
 abbrev pub link_speaks : Name → Name → Name × Name → Bool
 link_speaks apex q l = same l.0 q || covers apex l.0 l.1 q
 
--- of the links of rising names that begin with the apex, exactly one speaks for each name at or below the apex
+-- exactly one of the links of rising names that begin with the apex speaks for each name at or below the apex
 abbrev pub OneLinkSpeaks : Type 0
 OneLinkSpeaks = (apex q : Name) (names : List Name) → IsTrue (rising (apex ∷ names)) → IsTrue (at_or_above apex q) → (l : Name × Name) × (filter (link_speaks apex q) (links apex (apex ∷ names)) ≡ l ∷ [])
 
@@ -41,7 +41,7 @@ OneLinkSpeaks = (apex q : Name) (names : List Name) → IsTrue (rising (apex ∷
 abbrev pub hash_link_speaks : List ℕ → List ℕ × List ℕ → Bool
 hash_link_speaks h l = bytes_eq l.0 h || hash_covers l.0 l.1 h
 
--- of the links of ascending hashes, round a circle, exactly one speaks for each hash
+-- exactly one of the links of ascending hashes, round a circle, speaks for each hash
 abbrev pub OneHashLinkSpeaks : Type 0
 OneHashLinkSpeaks = (first : List ℕ) (hashes : List (List ℕ)) (h : List ℕ) → IsTrue (ascending (first ∷ hashes)) → (l : List ℕ × List ℕ) × (filter (hash_link_speaks h) (links first (first ∷ hashes)) ≡ l ∷ [])
 
@@ -64,8 +64,8 @@ pub record IsSignable (f : Fields) (owner : Name) (class : ℕ) (ds : List (List
   pub some : 0 < length ds
   pub short : AllByRecursion (λ d. length d < 2 ^ 16) ds
 
--- The same fields, the signer up to ASCII case, and the same records. Owners that were expanded from one star are
--- signed as that star.
+-- Two signatures have the same fields, signers that are the same up to ASCII case, and the same records. Owners that
+-- were expanded from one star are signed as that star.
 pub record SignsSame (f g : Fields) (owner other : Name) (class kind : ℕ) (ds es : List (List ℕ)) : Type 0 where
   pub covered : f.covered ≡ g.covered
   pub algorithm : f.algorithm ≡ g.algorithm
@@ -89,7 +89,7 @@ SignedOctetsSpell = (f g : Fields) (owner other : Name) (class kind : ℕ) (ds e
 abbrev pub lowered : Rr → Rr
 lowered r = record r { spelled = owner_of r }
 
--- the same apex, and the same records, in any order, however often each, and up to the case of names
+-- two zones have the same apex and the same records, in any order, however often each, and up to the case of names
 pub record SameZone (z w : Zone) : Type 0 where
   pub apex : apex_of z ≡ apex_of w
   pub records : (r : Rr) → Contains (map lowered z.records) r ↔ Contains (map lowered w.records) r
@@ -112,7 +112,7 @@ pub record IsNsecChain (z : Zone) : Type 0 where
   pub rises : IsTrue (rising (nsec_names z))
   pub one : (q : Name) → IsTrue (at_or_above (apex_of z) q) → (o : Name) × (filter (nsec_speaks z q) (nsec_names z) ≡ o ∷ [])
 
--- of every zone that has records at its apex
+-- every zone that has records at its apex has such an NSEC chain
 abbrev pub NsecChainSpeaks : Type 0
 NsecChainSpeaks = (z : Zone) → Contains (owners z) (apex_of z) → IsNsecChain z
 
@@ -120,7 +120,7 @@ NsecChainSpeaks = (z : Zone) → Contains (owners z) (apex_of z) → IsNsecChain
 abbrev pub NoneShare : (Name → List ℕ) → List Name → Type 0
 NoneShare hash ns = (a b : Name) → Contains ns a → Contains ns b → hash a ≡ hash b → a ≡ b
 
--- a name has the hash of no other name of some (the names of a chain)
+-- no other name among some (the names of a chain) has the hash of a name
 abbrev pub SharesNone : (Name → List ℕ) → List Name → Name → Type 0
 SharesNone hash ns q = (n : Name) → Contains ns n → hash n ≡ hash q → n ≡ q
 
@@ -128,9 +128,9 @@ SharesNone hash ns q = (n : Name) → Contains ns n → hash n ≡ hash q → n 
 abbrev pub nsec3_speaks : (Name → List ℕ) → Zone → Bool → List ℕ → Name → Bool
 nsec3_speaks hash z excluding h o = hash_link_speaks h (hash o, nsec3_next hash z excluding o)
 
--- The NSEC3 chain of a zone, of whose names no two share a hash: a record for each kept name, in order of hash. A
--- name's hash, where no other name of the chain has it, is one of the chain exactly where the name is kept. Exactly one
--- record matches or covers each hash.
+-- The NSEC3 chain of a zone, no two names of which share a hash: a record for each kept name, in order of hash. The
+-- hash of a name, where no other name of the chain has it, is one of the chain exactly where the name is kept. Exactly
+-- one record matches or covers each hash.
 pub record IsNsec3Chain (hash : Name → List ℕ) (z : Zone) (excluding : Bool) : Type 0 where
   pub each : (q : Name) → Contains (hashed_names hash z excluding) (low q) ↔ IsTrue (kept z excluding q)
   pub ascends : IsTrue (ascending (hashes hash z excluding))
@@ -161,7 +161,7 @@ OneSpelling = (ts us : List ℕ) → (bitmap ts ≡ bitmap us) ↔ ((t : ℕ) �
 abbrev pub ReadsExactly : Type 0
 ReadsExactly = (m : List ℕ) (p k : ℕ) (n : Name) (e : ℕ) → (name_at k m p ≡ Ok (n, e)) ↔ (Reads m p k n e × (wire_len n ≤ 255))
 
--- At one place stands one name at most, which ends at one place, within the octets, and has so many pointers.
+-- At most one name stands at a place. It ends at one place, within the octets, and has one number of pointers.
 pub record EndsOnce (m : List ℕ) : Type 0 where
   pub one : (p k j : ℕ) (n o : Name) (e f : ℕ) → Reads m p k n e → Reads m p j o f → (n ≡ o) × (e ≡ f)
   pub pointers : (p k j : ℕ) (n o : Name) (e f : ℕ) (r : Reads m p k n e) (s : Reads m p j o f) → pointers_of r ≡ pointers_of s

@@ -35,20 +35,20 @@ pub record IsName (n : Name) : Type 0 where
   pub labels : AllByRecursion IsLabel n
   pub short : wire_len n ≤ 255
 
--- the same octets
+-- whether two names have the same octets
 abbrev pub labels_eq : Name → Name → Bool
 labels_eq a b = pointwise bytes_eq a b
 
--- the same up to ASCII case (RFC 4343, 3)
+-- whether two names are the same up to ASCII case (RFC 4343, 3)
 abbrev pub same : Name → Name → Bool
 same a b = labels_eq (low a) (low b)
 
--- n is at or above m: it is m, or at or above what m stands under
+-- n is at or above m: it is m, or at or above the parent of m
 abbrev pub at_or_above : Name → Name → Bool
 at_or_above n [] = same n []
 at_or_above n (l ∷ m) = same n (l ∷ m) || at_or_above n m
 
--- at or above what m stands under
+-- n is at or above the parent of m
 abbrev pub strictly_above : Name → Name → Bool
 strictly_above n [] = false
 strictly_above n (l ∷ m) = at_or_above n m

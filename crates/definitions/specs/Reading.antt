@@ -2,9 +2,9 @@
 use Rattle.std.specs.Prelude.{◌≡◌, ℕ, zero, suc, ◌+◌, ◌-◌, ◌*◌, ◌<◌, ◌≤◌, true, false, List, [], ◌∷◌, ◌++◌, length, Some, None, Result, Ok, Err, slice_get, slice_range, nat_le, nat_lt, nat_eq}
 use Rattle.definitions.specs.Name.{Name, Label}
 
--- What stands at a place, with so many pointers left, and the place behind it: a root octet, a label of 1 to 63
--- octets and what follows it, or a pointer to a place before its own. A name ends behind its first pointer or its
--- root octet.
+-- What stands at a place, where a number of pointers may still be followed, and the place behind it: a root octet, a
+-- label of 1 to 63 octets and what follows it, or a pointer to a place before its own. A name ends behind its first
+-- pointer or its root octet.
 pub data Reads (m : List ℕ) : ℕ → ℕ → Name → ℕ → Type 0 where
   root : {p k b : ℕ} → slice_get m p ≡ Some 0 → b ≡ p + 1 → Reads m p k [] b
   label : {p k n e b : ℕ} {l : Label} {ls : Name} → slice_get m p ≡ Some n → 0 < n → n ≤ 63 → e ≡ p + 1 + n → e ≤ length m → l ≡ slice_range m (p + 1) e → Reads m e k ls b → Reads m p k (l ∷ ls) b
@@ -16,7 +16,7 @@ heads_of (root h e) = 1
 heads_of (label h a b c d e r) = 1 + heads_of r
 heads_of (pointer h a b c d e r) = 1 + heads_of r
 
--- the pointers among them
+-- the pointers among the heads that a reading looks at
 abbrev pub pointers_of : {m : List ℕ} {p k b : ℕ} {ls : Name} → Reads m p k ls b → ℕ
 pointers_of (root h e) = 0
 pointers_of (label h a b c d e r) = pointers_of r
@@ -81,16 +81,16 @@ abbrev pub behind_labels : Name → Result Name ReadFault → Result Name ReadFa
 behind_labels ls (Ok rest) = Ok (ls ++ rest)
 behind_labels ls (Err f) = Err f
 
--- a name of 255 octets has at most so many heads between two pointers
+-- how many heads a name of 255 octets has at most between two pointers
 unfoldable pub most_heads : ℕ
 most_heads = 128
 
--- the labels at a place, following at most so many pointers, in so many octets
+-- the labels at a place, through a limited number of pointers and within a limited number of octets
 abbrev pub labels_at : ℕ → ℕ → List ℕ → ℕ → Result Name ReadFault
 labels_at zero room m p = elim (run_at most_heads 0 room m p) [ Err f ↦ Err f | Ok r ↦ elim r.end [ AtRoot ↦ Ok r.labels | To to ↦ Err Malformed ] ]
 labels_at (suc k) room m p = elim (run_at most_heads (suc k) room m p) [ Err f ↦ Err f | Ok r ↦ elim r.end [ AtRoot ↦ Ok r.labels | To to ↦ behind_labels r.labels (labels_at k r.room m to) ] ]
 
--- behind its first pointer or its root octet
+-- the place behind the name at a place: behind its first pointer or its root octet
 abbrev pub end_at : ℕ → List ℕ → ℕ → Result ℕ ReadFault
 end_at k m p = elim (run_at most_heads k 255 m p) [ Err f ↦ Err f | Ok r ↦ Ok r.behind ]
 

@@ -18,7 +18,7 @@ pub record Fields : Type 0 where
   pub tag : ℕ
   pub signer : Name
 
--- with the signer in lower case, as it is signed and read (RFC 4034, 6.2)
+-- the fields with the signer in lower case, as it is signed and read (RFC 4034, 6.2)
 abbrev pub lowered_signer : Fields → Fields
 lowered_signer f = record f { signer = low f.signer }
 
@@ -41,7 +41,7 @@ signed_owner count owner = if nat_lt count (label_count owner) then (42 ∷ []) 
 abbrev pub canonical_record : Name → ℕ → ℕ → ℕ → List ℕ → List ℕ
 canonical_record owner t class ttl d = wire owner ++ to_be_bytes w16 t ++ to_be_bytes w16 class ++ to_be_bytes w32 ttl ++ to_be_bytes w16 (length d) ++ d
 
--- the fields, then the RRset's records (RFC 4034, 3.1.8.1)
+-- the octets that are signed: the fields, then the RRset's records (RFC 4034, 3.1.8.1)
 abbrev pub signed_octets : Fields → Name → ℕ → List (List ℕ) → List ℕ
 signed_octets f owner class ds = fields_data f ++ flat_map (canonical_record (signed_owner f.labels owner) f.covered class f.ttl) ds
 
@@ -51,6 +51,6 @@ ascending [] = true
 ascending (d ∷ []) = true
 ascending (d ∷ e ∷ ds) = elim (octets_before d e) [ true ↦ ascending (e ∷ ds) | false ↦ false ]
 
--- inception ≤ now ≤ expiration as serial numbers
+-- the signature holds now: inception ≤ now ≤ expiration as serial numbers
 abbrev pub in_time : Fields → ℕ → Bool
 in_time f now = serial_le f.inception now && serial_le now f.expiration

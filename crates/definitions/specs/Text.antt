@@ -32,7 +32,7 @@ spelling (Plain c) = c ∷ []
 spelling (Quoted c) = 92 ∷ c ∷ []
 spelling (Decimal b) = 92 ∷ three_digits b
 
--- the octet that it stands for
+-- the octet that a symbol stands for
 abbrev pub octet : Symbol → ℕ
 octet (Plain c) = c
 octet (Quoted c) = c
@@ -81,7 +81,7 @@ tail_len (Plain c) = 0
 tail_len (Quoted c) = 1
 tail_len (Decimal b) = 3
 
--- the symbols of a text, behind so many characters of one that began before it
+-- the symbols of a text, where its first characters belong to a symbol that began before it
 abbrev pub symbols_behind : ℕ → List ℕ → Option (List Symbol)
 symbols_behind zero [] = Some []
 symbols_behind (suc k) [] = None
@@ -121,12 +121,12 @@ abbrev pub labels_of_pieces : List (List Symbol) → Option Name
 labels_of_pieces [] = Some []
 labels_of_pieces (p ∷ ps) = elim (label_of_symbols p) [ None ↦ None | Some l ↦ option_map (λ ls. l ∷ ls) (labels_of_pieces ps) ]
 
--- at most 255 octets with the root's
+-- the name where it has at most 255 octets with the root's
 abbrev pub if_short : Option Name → Option Name
 if_short None = None
 if_short (Some n) = if nat_le (wire_len n) 255 then Some n else None
 
--- without an unescaped dot at the end
+-- the symbols without an unescaped dot at the end
 abbrev pub without_last_dot : List Symbol → List Symbol
 without_last_dot [] = []
 without_last_dot (s ∷ []) = if is_dot s then [] else s ∷ []

@@ -101,8 +101,8 @@ data_among rs q t = sorted_data (map (λ r. r.bytes) (filter (is_of q t) rs))
 abbrev pub data_at : Zone → Name → ℕ → List (List ℕ)
 data_at z q t = data_among z.records q t
 
--- what a zone says: the data, no such type, no such name, the same by a wildcard, a delegation, not told under
--- opt-out, and not signed
+-- what a zone says: the data; no such type; no such name; by a wildcard, the data or no such type; a delegation; not
+-- told under opt-out; not signed
 pub data Verdict : Type 0 where
   Records : List (List ℕ) → Verdict
   NoType : Verdict

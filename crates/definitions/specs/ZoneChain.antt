@@ -46,7 +46,7 @@ parameters_of (Nsec3 iterations salt optout) = record {
 abbrev pub optout_of : Mode → Bool
 optout_of mode = excludes (parameters_of mode)
 
--- a name and what it stands under
+-- a name and its ancestors
 abbrev pub with_parents : Name → List Name
 with_parents [] = [] ∷ []
 with_parents (l ∷ n) = (l ∷ n) ∷ with_parents n
@@ -77,13 +77,13 @@ of_keys dnskey = if dnskey then 48 ∷ [] else []
 abbrev pub if_has : Zone → Name → ℕ → List ℕ
 if_has z o t = if has z o t then t ∷ [] else []
 
--- the bits of an NSEC record, with or without DNSKEY at the apex (RFC 4034, 4.1.2; RFC 4035, 2.3)
+-- the types of an NSEC record, with or without DNSKEY at the apex (RFC 4034, 4.1.2; RFC 4035, 2.3)
 abbrev pub nsec_types : Zone → Bool → Name → List ℕ
 nsec_types z dnskey o =
     if is_delegation z o then 2 ∷ if_has z o 43 ++ 46 ∷ 47 ∷ []
     else types_at z o ++ 46 ∷ 47 ∷ at_apex z o (of_keys dnskey)
 
--- the bits of an NSEC3 record, likewise; none at an empty non-terminal (RFC 5155, 7.1)
+-- the types of an NSEC3 record, with or without DNSKEY at the apex; none at an empty non-terminal (RFC 5155, 7.1)
 abbrev pub nsec3_types : Zone → Bool → Name → List ℕ
 nsec3_types z dnskey o =
     if is_delegation z o then 2 ∷ (if has z o 43 then 43 ∷ 46 ∷ [] else [])
@@ -121,7 +121,7 @@ hash_cmp = slice_cmp nat_cmp
 abbrev pub hashed_names : (Name → List ℕ) → Zone → Bool → List Name
 hashed_names hash z excluding = sort_by (λ a b. hash_cmp (hash a) (hash b)) (nsec3_names z excluding)
 
--- their hashes, which ascend
+-- the hashes of the names of NSEC3 records, ascending
 abbrev pub hashes : (Name → List ℕ) → Zone → Bool → List (List ℕ)
 hashes hash z excluding = map hash (hashed_names hash z excluding)
 

@@ -14,14 +14,13 @@ pub fn names_below_apex()
     ensures { (apex : Name) → IsInterval apex }
 {}
 
-/// Of a chain that rises from its apex, exactly one link matches or covers each name at or below the apex
-/// (RFC 4034, 4).
+/// Exactly one link of a chain that rises from its apex matches or covers each name at or below the apex (RFC 4034, 4).
 pub fn one_link_speaks()
     ensures { OneLinkSpeaks }
 {}
 
-/// Of a chain of hashes that ascends, exactly one link matches or covers each hash; the last leads back to the
-/// first (RFC 5155, 3.1.7).
+/// Exactly one link of an ascending chain of hashes matches or covers each hash; the last link leads back to the first
+/// hash (RFC 5155, 3.1.7).
 pub fn one_hash_link_speaks()
     ensures { OneHashLinkSpeaks }
 {}
@@ -32,7 +31,7 @@ pub fn one_nsec_record_speaks()
     ensures { NsecChainSpeaks }
 {}
 
-/// The NSEC3 chain of a zone with records at its apex, of whose names no two share a hash, has a record for each kept
+/// The NSEC3 chain of a zone with records at its apex, no two names of which share a hash, has a record for each kept
 /// name, in order of hash. It matches no other name whose hash isn't shared, and exactly one record matches or covers
 /// each hash (RFC 5155, 7.1 and 8.3).
 pub fn one_nsec3_record_speaks()
@@ -66,13 +65,13 @@ pub fn equal_bitmaps_are_equal_sets()
     ensures { OneSpelling }
 {}
 
-/// A name is read, with at most so many pointers, exactly where a name of at most 255 octets stands, and ends where
-/// that ends: behind its first pointer or its root octet (RFC 1035, 4.1.4).
+/// A name is read through a limited number of pointers exactly where a name of at most 255 octets stands, and it ends
+/// where that name ends: behind its first pointer or its root octet (RFC 1035, 4.1.4).
 pub fn names_are_read_where_they_stand()
     ensures { ReadsExactly }
 {}
 
-/// At one place stands one name at most, and it ends at one place, within the octets.
+/// At most one name stands at a place, and it ends at one place, within the octets.
 pub fn a_name_ends_once()
     ensures { (m : List ℕ) → EndsOnce m }
 {}

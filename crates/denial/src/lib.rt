@@ -1,5 +1,4 @@
-//! DNSSEC record data, sorted records and the chains of denial under one name (RFC 4034, RFC 5155): what signs a zone's
-//! RRsets and its gaps.
+//! DNSSEC record data, sorted records and the chains of denial under one name (RFC 4034, RFC 5155).
 #![tactic(auto)]
 
 pub mod config;

@@ -15,7 +15,7 @@ zeros (suc n) = 0 ∷ zeros n
 abbrev pub inserted : List ℕ → ℕ → List ℕ → List ℕ
 inserted octets place more = take place octets ++ (more ++ drop place octets)
 
--- how many octets the window of a number has at the front, 0 where another stands there or none
+-- how many octets the window of a number has at the front; 0 where another window or none stands there
 abbrev pub window_len : ℕ → List ℕ → ℕ
 window_len number (n ∷ len ∷ rest) = if nat_eq n number then len else 0
 window_len number _ = 0

@@ -15,7 +15,7 @@ pub data BreaksOff : List ℕ → RtypeBitmapError → Type 0 where
   short : {w len : ℕ} {rest : List ℕ} → 0 < len → len ≤ 32 → length rest < len → BreaksOff (w ∷ len ∷ rest) ShortInput
   behind : {w : ℕ} {rest all : List ℕ} {e : RtypeBitmapError} (octets : List ℕ) → 0 < length octets → length octets ≤ 32 → all ≡ w ∷ length octets ∷ (octets ++ rest) → BreaksOff rest e → BreaksOff all e
 
--- as a fault of reading
+-- the error of a bitmap as a fault of reading
 abbrev pub as_parse_error : RtypeBitmapError → ParseError → Type 0
 as_parse_error BadRtypeBitmap p = form_text p ≡ Some (codes "invalid type bitmap")
 as_parse_error ShortInput p = p ≡ parse.ShortInput

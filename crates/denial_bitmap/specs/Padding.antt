@@ -4,11 +4,11 @@ use Rattle.std.specs.List.{flat_map}
 use Rattle.definitions.specs.Bitmap.{bitmap, window, window_octets}
 use Rattle.denial_bitmap.specs.Building.{zeros, windows_before}
 
--- octets filled up with zeros, to so many at least
+-- octets filled up with zeros to a least number
 abbrev pub padded : List ℕ → ℕ → List ℕ
 padded octets n = octets ++ zeros (n - length octets)
 
--- the numbers from one on, so many
+-- a given number of consecutive numbers from one on
 abbrev pub from : ℕ → ℕ → List ℕ
 from a zero = []
 from a (suc n) = a ∷ from (suc a) n
@@ -17,7 +17,7 @@ from a (suc n) = a ∷ from (suc a) n
 abbrev pub windows_after : List ℕ → ℕ → List ℕ
 windows_after ts number = flat_map (window ts) (from (suc number) (255 - number))
 
--- a bitmap in which a window has room for so many octets at least
+-- a bitmap in which a window has room for a least number of octets
 abbrev pub roomy : List ℕ → ℕ → ℕ → List ℕ
 roomy ts number needed =
     let octets = padded (window_octets ts number) needed in

@@ -2,7 +2,7 @@
 use Rattle.std.specs.Prelude.{ℕ, List, [], ◌∷◌, ◌++◌}
 use Rattle.numbers.specs.Types.{type_text}
 
--- with a blank between
+-- the text of types, with a blank between each two
 abbrev pub types_text : List ℕ → List ℕ
 types_text [] = []
 types_text (t ∷ []) = type_text t

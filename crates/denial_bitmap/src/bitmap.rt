@@ -35,7 +35,7 @@ impl<Octs: Octets> Model for RtypeBitmap<Octs> {
 }
 
 impl<Octs: Octets> RtypeBitmap<Octs> {
-    /// The bitmap that the octets spell, its windows in any order. Octets that spell none are dropped.
+    /// The bitmap that the octets spell, its windows in any order. Octets that spell no bitmap are dropped.
     pub fn from_octets(octets: Octs) -> Result<Self, RtypeBitmapError>
     where
         Octs: Drop,
@@ -51,7 +51,7 @@ impl<Octs: Octets> RtypeBitmap<Octs> {
         }
     }
 
-    /// The bitmap over octets that were built as one.
+    /// The bitmap over octets that a builder made.
     pub(crate) fn of_built(octets: Octs) -> Self
         requires { is_bitmap (Octs.bytes octets) ≡ true }
         ensures { result ≡ Octs.bytes octets }
@@ -80,7 +80,7 @@ impl<Octs: Octets> RtypeBitmap<Octs> {
         self.octets.into_octets()
     }
 
-    /// Whether record data have room for the octets: at most 65,535.
+    /// Whether the octets fit in record data: at most 65,535.
     pub fn fits_rdlen(&self) -> bool
         ensures { IsTrue result ↔ (length self.now ≤ 65535) }
     {
@@ -102,7 +102,7 @@ impl<Octs: Octets> RtypeBitmap<Octs> {
         self.as_slice().is_empty()
     }
 
-    /// Whether the set has a type: whether the first window of its number has its bit.
+    /// Whether the set has a type: the first window of the type's number has its bit.
     pub fn contains(&self, rtype: Rtype) -> bool
         ensures { result ≡ bitmap_has self.now rtype }
     {
@@ -119,7 +119,7 @@ impl RtypeBitmap<Vec<u8>> {
     }
 }
 
-/// Passes over windows to the end.
+/// Passes over the windows to the end, and refuses octets that are no window.
 fn check(octets: &[u8]) -> Result<(), RtypeBitmapError>
     ensures accepts { IsOk result ↔ (is_bitmap octets.now ≡ true) }
     ensures refused { IfErr result (BreaksOff octets.now) }

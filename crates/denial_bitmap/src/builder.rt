@@ -11,7 +11,7 @@ use numbers::rtype::Rtype;
 use std::alloc::Global;
 use std::marker::Model;
 
-/// Types that are gathered, in octets that are their bitmap all along. A contract sees the octets.
+/// A set of types under construction. Its octets are the bitmap of the types at all times. A contract sees the octets.
 #[derive(Drop)]
 pub struct RtypeBitmapBuilder<B: BuiltOctets> {
     octets: B,
@@ -29,14 +29,14 @@ impl<B: BuiltOctets> Model for RtypeBitmapBuilder<B> {
 }
 
 impl RtypeBitmapBuilder<Vec<u8>> {
-    /// No types.
+    /// A builder of an empty set.
     pub fn new(alloc: Global) -> Self
         ensures { result ≡ bitmap [] }
     {
         RtypeBitmapBuilder::with_builder(Vec::new(alloc))
     }
 
-    /// No types.
+    /// A builder of an empty set.
     pub fn new_vec(alloc: Global) -> Self
         ensures { result ≡ bitmap [] }
     {
@@ -45,7 +45,7 @@ impl RtypeBitmapBuilder<Vec<u8>> {
 }
 
 impl<B: BuiltOctets> RtypeBitmapBuilder<B> {
-    /// No types, in a builder that holds no octets.
+    /// A builder of an empty set, over a target that holds no octets.
     pub fn with_builder(builder: B) -> Self
         requires { B.OctetsBuilder.bytes builder ≡ [] }
         ensures { result ≡ bitmap [] }
@@ -77,7 +77,7 @@ impl<B: BuiltOctets> RtypeBitmapBuilder<B> {
     }
 }
 
-/// How many octets the window of a number has at a place, 0 where another stands there or none.
+/// How many octets the window of a number has at a place; 0 where another window or none stands there.
 fn window_len(octets: &[u8], place: usize, number: u8) -> u8
     requires { place ≤ length octets.now }
     ensures { result ≡ window_len number (drop place octets.now) }
@@ -88,7 +88,7 @@ fn window_len(octets: &[u8], place: usize, number: u8) -> u8
     }
 }
 
-/// Where the window of a number stands, or is to stand.
+/// The place where the window of a number stands, or where it belongs.
 fn place_of(octets: &[u8], number: u8) -> usize
     requires { IsBuilt octets.now }
     ensures value { (ts : List ℕ) → octets.now ≡ bitmap ts
@@ -105,7 +105,7 @@ fn place_of(octets: &[u8], number: u8) -> usize
     place
 }
 
-/// Puts zeros between octets. A refused call leaves them as they were.
+/// Inserts zeros between octets. A refused call leaves them as they were.
 fn insert_zeros<B: OctetsBuilder>(octets: &mut B, place: usize, count: u8) -> Result<(), ShortBuf>
     requires inside { place ≤ length (B.bytes octets.old) }
     requires few { count ≤ 34 }
@@ -128,7 +128,7 @@ fn set_octet<B: OctetsBuilder>(octets: &mut B, place: usize, octet: u8)
     octets.as_mut_slice()[place] = octet;
 }
 
-/// Makes the window of a number have so many octets at least. A refused call changes nothing.
+/// Makes the window of a number have at least `needed` octets. A refused call changes nothing.
 fn make_room<B: OctetsBuilder>(
     octets: &mut B,
     place: usize,
@@ -152,7 +152,7 @@ fn make_room<B: OctetsBuilder>(
     longer_window(octets, place, len, needed)
 }
 
-/// Puts a window of zeros between octets. A refused call leaves them as they were.
+/// Inserts a window of zeros between octets. A refused call leaves them as they were.
 fn new_window<B: OctetsBuilder>(
     octets: &mut B,
     place: usize,
@@ -171,7 +171,7 @@ fn new_window<B: OctetsBuilder>(
     Ok(())
 }
 
-/// Puts zeros behind the window at a place, up to a length. A refused call leaves the octets as they were.
+/// Appends zeros to the window at a place, up to a length. A refused call leaves the octets as they were.
 fn longer_window<B: OctetsBuilder>(
     octets: &mut B,
     place: usize,
@@ -203,7 +203,7 @@ fn set_bit<B: OctetsBuilder>(octets: &mut B, place: usize, bit: u8)
     set_octet(octets, place, octet);
 }
 
-/// An octet with one more bit.
+/// An octet with one more bit set.
 fn with_bit(octet: u8, bit: u8) -> u8
     requires { bit < 8 }
     ensures { result ≡ with_bit octet bit }

@@ -1,4 +1,4 @@
-//! Bitmaps as text: their types with a blank between (RFC 4034, 4.2).
+//! Bitmaps as text: their types, separated by blanks (RFC 4034, 4.2).
 
 ghost use Rattle.std.specs.Prelude.{Some};
 ghost use Rattle.denial_bitmap.specs.Types.{types_in};

@@ -6,7 +6,7 @@ ghost use Rattle.names_parser.specs.Errors.{form_text};
 use names_parser::error::ParseError;
 use thiserror::Error;
 
-/// Octets are no bitmap: the first window that is none is at fault.
+/// Octets are no bitmap. The fault is that of the first window that is malformed.
 #[derive(Clone, Copy, Debug, PartialEq, Eq, Error)]
 pub enum RtypeBitmapError {
     /// A window has no octets, or more than 32.

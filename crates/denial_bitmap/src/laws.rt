@@ -9,12 +9,12 @@ pub fn built_bitmap_gives_its_types()
     ensures { GivesTypesInOrder }
 {}
 
-/// No types are no octets.
+/// The bitmap of no types has no octets.
 pub fn no_types_are_no_octets()
     ensures { NoTypesNoOctets }
 {}
 
-/// What is printed of a built bitmap tells its types: bitmaps of other types have other texts.
+/// The text of a built bitmap determines its types: bitmaps of different types have different texts.
 pub fn printed_bitmap_tells_its_types()
     ensures { TextsTellTypes }
 {}

@@ -9,7 +9,7 @@ use Rattle.denial_chain_owners.specs.Ttls.{has_unequal_ttls}
 use Rattle.denial_chain_owners.specs.declared.error.SigningError.{SigningError}
 use Rattle.denial_chain_owners.specs.declared.error.SigningError.TheVariants.{NoSingleSoa, MultipleTtlValues, HashFailed, HashTooLong, HashCollision, Memory}
 
--- the cause of a refusal stands; want of memory has none here
+-- the cause of a refusal holds; lack of memory has no cause here
 abbrev pub IsOwnersFault : {O N : Type 0} → (N → Name) → Name → Bool → List (Record N (ZoneRecordData O N)) → SigningError → Type 0
 IsOwnersFault name apex excluding rs NoSingleSoa = soa_ttls name apex rs ≡ None
 IsOwnersFault name apex excluding rs MultipleTtlValues = has_unequal_ttls name zone_type (zone_canonical name) apex excluding rs ≡ true

@@ -21,17 +21,17 @@ minimum_of (variant.Unknown u) = None
 abbrev pub ttls_of : {O N : Type 0} → Record N (ZoneRecordData O N) → Option SoaTtls
 ttls_of r = option_map (λ m. record { ttl = r.ttl; minimum = m }) (minimum_of r.content)
 
--- of the one record
+-- the TTL and the minimum of the only SOA record among some, if there is exactly one
 abbrev pub ttls_of_one : {O N : Type 0} → List (Record N (ZoneRecordData O N)) → Option SoaTtls
 ttls_of_one [] = None
 ttls_of_one (r ∷ []) = ttls_of r
 ttls_of_one (r ∷ s ∷ rs) = None
 
--- of the one SOA record at the apex
+-- the TTL and the minimum of the one SOA record at the apex
 abbrev pub soa_ttls : {O N : Type 0} → (N → Name) → Name → List (Record N (ZoneRecordData O N)) → Option SoaTtls
 soa_ttls name apex rs = ttls_of_one (filter (is_at name zone_type apex 6) rs)
 
--- the TTL of a chain's records: the lesser of both (RFC 9077, 3)
+-- the TTL of a chain's records: the lesser of the SOA record's TTL and its minimum (RFC 9077, 3)
 abbrev pub chain_ttl : SoaTtls → ℕ
 chain_ttl s = min s.ttl s.minimum
 
@@ -42,7 +42,7 @@ and_ttls seen.Nothing None = seen.Unfit
 and_ttls (seen.One t) o = seen.Unfit
 and_ttls seen.Unfit o = seen.Unfit
 
--- after SOA records, one behind the other
+-- what is known after SOA records, one behind the other
 abbrev pub seen_from : {O N : Type 0} → Seen → List (Record N (ZoneRecordData O N)) → Seen
 seen_from s [] = s
 seen_from s (r ∷ rs) = seen_from (and_ttls s (ttls_of r)) rs

@@ -9,7 +9,7 @@ use Rattle.plain.specs.declared.record.Record.{Record}
 abbrev pub has_type : {N D : Type 0} → (D → ℕ) → ℕ → List (Record N D) → Bool
 has_type rtype t g = list_any (λ r. nat_eq (rtype r.content) t) g
 
--- those of its records; at a delegation NS, and DS where it is there
+-- the types of an owner's records; at a delegation NS, and DS where there is one
 abbrev pub own_types : {N D : Type 0} → (N → Name) → (D → ℕ) → Name → List (Record N D) → List ℕ
 own_types name rtype apex g =
     if zone_cut name rtype apex g then 2 ∷ (if has_type rtype 43 g then 43 ∷ [] else [])

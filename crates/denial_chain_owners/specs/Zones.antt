@@ -17,6 +17,6 @@ abbrev pub spelled_among : {N D : Type 0} → (N → Name) → List (Record N D)
 spelled_among name [] o = o
 spelled_among name (r ∷ rs) o = if labels_eq (low (name r.owner)) o then name r.owner else spelled_among name rs o
 
--- the same, and the apex as it is handed in
+-- an owner as its first record spells it, and the apex as it is handed in
 abbrev pub spelled_as : {N D : Type 0} → (N → Name) → Name → List (Record N D) → Name → Name
 spelled_as name apex rs o = if labels_eq (low apex) o then apex else spelled_among name rs o

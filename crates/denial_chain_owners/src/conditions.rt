@@ -1,4 +1,4 @@
-//! What the makers of chains ask of the records that they are handed, as tests (RFC 4034, 6).
+//! Tests of what chain makers require of the records that they are given (RFC 4034, 6).
 
 ghost use Rattle.std.specs.Prelude.{◌≡◌, ◌↔◌, IsTrue};
 ghost use Rattle.std.specs.Cmp.{IsTotalOrder};
@@ -10,7 +10,7 @@ use names_rdata::data::RecordData;
 use names_traits::to_name::ToName;
 use plain::record::Record;
 
-/// Whether records are of one class; of no records it is true.
+/// Whether all records have one class. It is true of an empty slice.
 pub fn is_one_class<N, D>(records: &[Record<N, D>]) -> bool
     ensures { IsTrue result ↔ IsOneClass records.now }
 {
@@ -37,7 +37,7 @@ fn ascend<N: ToName, D: RecordData + CanonicalOrd>(records: &[Record<N, D>]) -> 
     true
 }
 
-/// Whether records stand in canonical order, no two of them equal; of no records it is true.
+/// Whether records stand in canonical order, no two of them equal. It is true of an empty slice.
 pub fn is_canonical_order<N: ToName, D: RecordData + CanonicalOrd>(records: &[Record<N, D>]) -> bool
     requires { IsTotalOrder D.canonical }
     ensures { IsTrue result ↔ IsCanonicalOrder N.name D.type_of D.canonical records.now }

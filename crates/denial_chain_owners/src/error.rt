@@ -10,13 +10,13 @@ pub enum SigningError {
     /// Not exactly one SOA record stands at the apex, or its fields aren't known.
     #[error("not exactly one SOA record at the apex")]
     NoSingleSoa,
-    /// Records of one RRset have unequal TTLs (RFC 2181, 5.2).
+    /// Records of one RRset have different TTLs (RFC 2181, 5.2).
     #[error("records of one RRset have unequal TTLs")]
     MultipleTtlValues,
     /// A name was not hashed.
     #[error("a name was not hashed")]
     HashFailed,
-    /// No label or name has room for a hash.
+    /// A hash doesn't fit in a label, or its owner name is too long.
     #[error("a hash is too long")]
     HashTooLong,
     /// Two names have one hash.
@@ -48,7 +48,7 @@ impl<T: Drop> From<AllocFailed<T>> for SigningError {
     }
 }
 
-/// Want of room in octets that grow is want of memory.
+/// Lack of room in octets that grow is lack of memory.
 impl From<ShortBuf> for SigningError {
     ghost use Rattle.std.specs.Prelude.{◌≡◌};
     ghost use Rattle.denial_chain_owners.specs.declared.error.SigningError.TheVariants.{Memory};

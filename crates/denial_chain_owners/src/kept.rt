@@ -45,7 +45,7 @@ pub fn has_type<'a, N: ToName, D: RecordData>(owner: &OwnerRrs<'a, N, D>, rtype:
     false
 }
 
-/// Whether an owner is a delegation. Its types are looked at first, since most owners have no NS record.
+/// Whether an owner is a delegation. Its types are tested first, since most owners have no NS record.
 #[inline(always)]
 pub fn is_cut<'a, N: ToName, D: RecordData>(apex: &N, owner: &OwnerRrs<'a, N, D>) -> bool
     ensures { result ≡ zone_cut N.name D.type_of (N.name apex.now) owner.now }
@@ -53,15 +53,15 @@ pub fn is_cut<'a, N: ToName, D: RecordData>(apex: &N, owner: &OwnerRrs<'a, N, D>
     has_type(owner, Rtype::NS) && !owner.owner().name_eq(apex)
 }
 
-/// Whether a delegation is left out: it has no DS, and such are excluded.
+/// Whether a delegation is left out: it has no DS record, and unsigned delegations are excluded.
 fn is_left_out<'a, N: ToName, D: RecordData>(excluding: bool, owner: &OwnerRrs<'a, N, D>) -> bool
     ensures { result ≡ (excluding && not (has_type D.type_of 43 owner.now)) }
 {
     excluding && !has_type(owner, Rtype::DS)
 }
 
-/// The records of the owners at or below the apex and not strictly below a delegation, in canonical order; where
-/// unsigned delegations are excluded, without those of delegations that have no DS (RFC 5155, 6).
+/// The records of the owners at or below the apex and not strictly below a delegation, in canonical order. Where
+/// unsigned delegations are excluded, those without DS records are left out (RFC 5155, 6).
 pub fn kept_owners<'a, N: ToName, D: RecordData + CanonicalOrd>(
     alloc: Global,
     apex: &N,

@@ -1,4 +1,4 @@
-//! What every chain of a zone is made from.
+//! The input from which every chain of a zone is made.
 
 ghost use Rattle.std.specs.Prelude.{◌≡◌, false, Some, IfOk, IfErr};
 ghost use Rattle.plain.specs.ZoneData.{zone_canonical, zone_type};
@@ -27,8 +27,8 @@ pub struct ChainOwners<'a, N: ToName, D: RecordData> {
     pub soa: SoaTtls,
 }
 
-/// What a chain is made from: the owners that are kept, with the one SOA record, where no RRset of a kept owner has
-/// unequal TTLs.
+/// The input of a chain: the owners that are kept, and the TTLs of the one SOA record. It is refused where an RRset of
+/// a kept owner has different TTLs.
 pub fn chain_owners<'a, Octs: Octets, N: ToName>(
     alloc: Global,
     apex: &N,

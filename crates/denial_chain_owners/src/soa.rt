@@ -23,7 +23,7 @@ pub struct SoaTtls {
 }
 
 impl SoaTtls {
-    /// The TTL of a chain's records: the lesser of both (RFC 9077, 3).
+    /// The TTL of a chain's records: the lesser of the SOA record's TTL and its minimum (RFC 9077, 3).
     pub fn chain_ttl(&self) -> Ttl
         ensures { result ≡ chain_ttl self.now }
     {
@@ -36,12 +36,12 @@ impl SoaTtls {
 enum Seen {
     Nothing,
     One(SoaTtls),
-    /// More than one, or one whose fields aren't known.
+    /// More than one SOA record, or one whose fields aren't known.
     Unfit,
 }
 
 impl Seen {
-    /// With one more SOA record.
+    /// What is known after one more SOA record.
     fn and(self, ttls: Option<SoaTtls>) -> Seen
         ensures { result ≡ and_ttls self ttls }
     {

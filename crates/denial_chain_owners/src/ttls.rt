@@ -1,4 +1,4 @@
-//! RRsets whose records have unequal TTLs (RFC 2181, 5.2).
+//! RRsets whose records have different TTLs (RFC 2181, 5.2).
 
 ghost use Rattle.std.specs.Prelude.{◌≡◌};
 ghost use Rattle.std.specs.List.{list_any};
@@ -12,14 +12,14 @@ use names_rdata::rtype::Rtype;
 use names_traits::to_name::ToName;
 use plain::record::Record;
 
-/// Whether two records are of one type and have unequal TTLs, RRSIG records aside.
+/// Whether two records are of one type and have different TTLs, RRSIG records aside.
 fn are_unlike<N, D: RecordData>(a: &Record<N, D>, b: &Record<N, D>) -> bool
     ensures { result ≡ unlike_ttls D.type_of a.now b.now }
 {
     a.rtype() == b.rtype() && a.ttl() != b.ttl() && a.rtype() != Rtype::RRSIG
 }
 
-/// Whether a record and the next are of one type and have unequal TTLs.
+/// Whether a record and the next are of one type and have different TTLs.
 fn has_unlike_neighbours<N, D: RecordData>(records: SliceRefsOrOwnedIterator<Record<N, D>>) -> bool
     ensures { result ≡ neighbours (unlike_ttls D.type_of) records.entry }
 {
@@ -36,7 +36,7 @@ fn has_unlike_neighbours<N, D: RecordData>(records: SliceRefsOrOwnedIterator<Rec
     false
 }
 
-/// Whether records of one owner and type that stand side by side have unequal TTLs.
+/// Whether two neighbouring records of one owner and type have different TTLs.
 pub(crate) fn have_unlike_ttls<'a, N: ToName, D: RecordData>(owners: &[OwnerRrs<'a, N, D>]) -> bool
     ensures { result ≡ list_any (neighbours (unlike_ttls D.type_of)) owners.now }
 {

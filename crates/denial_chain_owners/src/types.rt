@@ -14,7 +14,7 @@ use names_traits::to_name::ToName;
 use names_wire::builder::ShortBuf;
 use plain::record::Record;
 
-/// Whether a type is the last that was added.
+/// Whether a type is the last one that was added.
 fn is_last(last: &Option<Rtype>, rtype: Rtype) -> bool
     ensures { result ≡ last_is last.now rtype }
 {
@@ -43,8 +43,8 @@ fn add_all<N, D: RecordData>(
     Ok(())
 }
 
-/// Adds the types at an owner; of a delegation NS, and DS where it is there: other records there, as glue, are not of
-/// the zone (RFC 4035, 2.3). What was added before a refusal stays.
+/// Adds the types at an owner. At a delegation these are NS, and DS where there is one: other records there, such as
+/// glue, are not of the zone (RFC 4035, 2.3). A refused call leaves the types that were added before.
 pub fn add_types<'a, N: ToName, D: RecordData>(
     types: &mut RtypeBitmapBuilder<Vec<u8>>,
     apex: &N,

@@ -20,11 +20,11 @@ abbrev pub fields_of : {N : Type 0} → (N → Name) → ProtoRrsig N → Fields
 fields_of name p =
     record { covered = p.numbers.type_covered; algorithm = p.numbers.algorithm; labels = p.numbers.labels; ttl = p.numbers.original_ttl; expiration = p.numbers.expiration; inception = p.numbers.inception; tag = p.numbers.key_tag; signer = name p.signer_name }
 
--- the signer as it is spelled
+-- the octets of RRSIG data without the signature, the signer as it is spelled
 abbrev pub proto_octets : {N : Type 0} → (N → Name) → ProtoRrsig N → List ℕ
 proto_octets name p = numbers_octets p.numbers ++ wire (name p.signer_name)
 
--- and in lower case (RFC 4034, 6.2)
+-- the octets of RRSIG data without the signature, the signer in lower case (RFC 4034, 6.2)
 abbrev pub proto_canonical : {N : Type 0} → (N → Name) → ProtoRrsig N → List ℕ
 proto_canonical name p = numbers_octets p.numbers ++ wire (low (name p.signer_name))
 

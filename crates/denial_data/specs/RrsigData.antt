@@ -11,14 +11,14 @@ pub record RrsigData (N : Type 0) : Type 0 where
 abbrev pub rrsig_with : {N : Type 0} → ProtoRrsig N → List ℕ → RrsigData N
 rrsig_with proto signature = record { proto = proto; signature = signature }
 
--- the signer as it is spelled
+-- the octets of RRSIG data, the signer as it is spelled
 abbrev pub rrsig_octets : {N : Type 0} → (N → Name) → RrsigData N → List ℕ
 rrsig_octets name d = numbers_octets d.proto.numbers ++ (wire (name d.proto.signer_name) ++ d.signature)
 
--- and in lower case (RFC 4034, 6.2)
+-- the octets of RRSIG data, the signer in lower case (RFC 4034, 6.2)
 abbrev pub rrsig_canonical : {N : Type 0} → (N → Name) → RrsigData N → List ℕ
 rrsig_canonical name d = numbers_octets d.proto.numbers ++ (wire (low (name d.proto.signer_name)) ++ d.signature)
 
--- how many octets they are
+-- how many octets RRSIG data have
 abbrev pub rrsig_len : {N : Type 0} → (N → Name) → N → List ℕ → ℕ
 rrsig_len name signer signature = 18 + length (wire (name signer)) + length signature

@@ -33,37 +33,37 @@ pub fn dnskey_data_are_read_back()
         → IsReadBack ended_part (dnskey_data k) }
 {}
 
-/// As of DNSKEY data.
+/// DS data are read as the octets that were written, wherever they stand in a message.
 pub fn ds_data_are_read_back()
     ensures { (d : Ds) → length (ds_data d) ≤ 65535 → IsReadBack ended_part (ds_data d) }
 {}
 
-/// As of DNSKEY data.
+/// RRSIG data are read as the octets that were written, wherever they stand in a message.
 pub fn rrsig_data_are_read_back()
     ensures { (d : RrsigData Name) → IsName d.proto.signer_name
         → length (rrsig_octets (λ n. n) d) ≤ 65535
         → IsReadBack rrsig_part (rrsig_octets (λ n. n) d) }
 {}
 
-/// As of DNSKEY data.
+/// NSEC data are read as the octets that were written, wherever they stand in a message.
 pub fn nsec_data_are_read_back()
     ensures { (d : NsecData Name) → IsName d.next_name → is_bitmap d.types ≡ true
         → length (nsec_octets (λ n. n) d) ≤ 65535
         → IsReadBack nsec_part (nsec_octets (λ n. n) d) }
 {}
 
-/// As of DNSKEY data.
+/// NSEC3 data are read as the octets that were written, wherever they stand in a message.
 pub fn nsec3_data_are_read_back()
     ensures { (d : Nsec3Data) → is_bitmap d.types ≡ true → length (nsec3_octets d) ≤ 65535
         → IsReadBack nsec3_part (nsec3_octets d) }
 {}
 
-/// As of DNSKEY data.
+/// NSEC3PARAM data are read as the octets that were written, wherever they stand in a message.
 pub fn nsec3param_data_are_read_back()
     ensures { (d : Nsec3paramData) → IsReadBack nsec3param_part (nsec3param_octets d) }
 {}
 
-/// What is printed of a hash is read as that hash, memory aside (RFC 5155, 3.3).
+/// A printed hash is read as the same hash, memory aside (RFC 5155, 3.3).
 pub fn hashes_are_read_back()
     ensures { HashesAreReadBack }
 {}
@@ -73,27 +73,27 @@ pub fn dnskey_octets_tell_the_data()
     ensures { KeysAreTold }
 {}
 
-/// As of DNSKEY data.
+/// DS data with the same octets are equal, so what is read back is equal.
 pub fn ds_octets_tell_the_data()
     ensures { DigestsAreTold }
 {}
 
-/// As of DNSKEY data.
+/// RRSIG data with the same octets are equal, so what is read back is equal.
 pub fn rrsig_octets_tell_the_data()
     ensures { SignaturesAreTold }
 {}
 
-/// As of DNSKEY data.
+/// NSEC data with the same octets are equal, so what is read back is equal.
 pub fn nsec_octets_tell_the_data()
     ensures { LinksAreTold }
 {}
 
-/// As of DNSKEY data.
+/// NSEC3 data with the same octets are equal, so what is read back is equal.
 pub fn nsec3_octets_tell_the_data()
     ensures { HashedLinksAreTold }
 {}
 
-/// As of DNSKEY data.
+/// NSEC3PARAM data with the same octets are equal, so what is read back is equal.
 pub fn nsec3param_octets_tell_the_data()
     ensures { ParametersAreTold }
 {}

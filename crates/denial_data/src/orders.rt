@@ -1,5 +1,5 @@
-//! That the canonical orders of DNSSEC data are total, as sorted records ask of theirs. Each is a function that does
-//! nothing, whose contract is the law.
+//! The canonical orders of DNSSEC data are total, which sorted records require of their data. Each law is the contract
+//! of a function that does nothing.
 
 ghost use Rattle.std.specs.Cmp.{IsTotalOrder};
 
@@ -18,27 +18,27 @@ pub fn dnskey_order_is_total<Octs: Octets>()
     ensures { IsTotalOrder ⟦<Dnskey<Octs> as CanonicalOrd>⟧.canonical }
 {}
 
-/// As of DNSKEY data.
+/// The canonical order of DS data is total.
 pub fn ds_order_is_total<Octs: Octets>()
     ensures { IsTotalOrder ⟦<Ds<Octs> as CanonicalOrd>⟧.canonical }
 {}
 
-/// As of DNSKEY data.
+/// The canonical order of RRSIG data is total.
 pub fn rrsig_order_is_total<Octs: Octets, N: ToName>()
     ensures { IsTotalOrder ⟦<Rrsig<Octs, N> as CanonicalOrd>⟧.canonical }
 {}
 
-/// As of DNSKEY data.
+/// The canonical order of NSEC data is total.
 pub fn nsec_order_is_total<Octs: Octets, N: ToName>()
     ensures { IsTotalOrder ⟦<Nsec<Octs, N> as CanonicalOrd>⟧.canonical }
 {}
 
-/// As of DNSKEY data.
+/// The canonical order of NSEC3 data is total.
 pub fn nsec3_order_is_total<Octs: Octets>()
     ensures { IsTotalOrder ⟦<Nsec3<Octs> as CanonicalOrd>⟧.canonical }
 {}
 
-/// As of DNSKEY data.
+/// The canonical order of NSEC3PARAM data is total.
 pub fn nsec3param_order_is_total<Octs: Octets>()
     ensures { IsTotalOrder ⟦<Nsec3param<Octs> as CanonicalOrd>⟧.canonical }
 {}

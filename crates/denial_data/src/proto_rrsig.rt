@@ -1,4 +1,4 @@
-//! What a signature says of itself, and is made over (RFC 4034, 3.1.8.1).
+//! RRSIG data without the signature, over which the signature is made (RFC 4034, 3.1.8.1).
 
 ghost use Rattle.std.specs.Prelude.{◌≡◌, ◌↔◌, ◌++◌, ◌≤◌, length, take, Some, IsOk, IfOk, OnOk, OnErr};
 ghost use Rattle.denial_data.specs.Protos.{numbers_with, numbers_octets, proto_octets, proto_canonical};
@@ -135,7 +135,7 @@ impl fmt::Display for Times {
     }
 }
 
-/// RRSIG data without the signature. They are equal, ordered and hashed by their numbers, and then as their names are.
+/// RRSIG data without the signature. They are equal, ordered and hashed by their numbers first and then by their names.
 #[derive(Clone, Copy, Debug, PartialEq, Eq, PartialOrd, Ord, Hash, Drop)]
 pub struct ProtoRrsig<N> {
     pub(crate) numbers: Numbers,
@@ -143,8 +143,8 @@ pub struct ProtoRrsig<N> {
 }
 
 impl<N> ProtoRrsig<N> {
-    /// The type of the records that are signed, the algorithm of the key, how many labels their owner has without the
-    /// root and a leading star, their TTL, the times between which the signature holds, the tag of the key and its zone.
+    /// The type covered, the algorithm of the key, the number of labels of the owner (without the root and a leading
+    /// star), the original TTL, the expiration and the inception, the key tag and the signer's name.
     pub fn new(
         type_covered: Rtype,
         algorithm: SecurityAlgorithm,
@@ -180,14 +180,14 @@ impl<N> ProtoRrsig<N> {
         Rtype::from_int(self.numbers.type_covered)
     }
 
-    /// How many labels their owner has, without the root and a leading star (RFC 4034, 3.1.3).
+    /// The number of labels of the owner, without the root and a leading star (RFC 4034, 3.1.3).
     pub fn labels(&self) -> u8
         ensures { result ≡ self.now.numbers.labels }
     {
         self.numbers.labels
     }
 
-    /// Their TTL.
+    /// The original TTL of the records that are signed.
     pub fn original_ttl(&self) -> Ttl
         ensures { result ≡ self.now.numbers.original_ttl }
     {
@@ -234,7 +234,7 @@ impl<N: ToName> ProtoRrsig<N> {
     }
 }
 
-/// Appends the fields; those that there is room for, where it is refused.
+/// Appends the fields. A refused call leaves the fields for which there was room.
 pub(crate) fn compose_fields<N: ToName, B: Composer>(
     proto: &ProtoRrsig<N>,
     target: &mut B,
@@ -248,7 +248,7 @@ pub(crate) fn compose_fields<N: ToName, B: Composer>(
     compose_name(&proto.signer_name, target)
 }
 
-/// As `compose_fields`, in canonical form.
+/// Appends the fields in canonical form. A refused call leaves the fields for which there was room.
 pub(crate) fn compose_canonical_fields<N: ToName, B: Composer>(
     proto: &ProtoRrsig<N>,
     target: &mut B,

@@ -35,8 +35,8 @@ use std::cmp::Ordering;
 use std::fmt;
 use std::marker::Model;
 
-/// RRSIG data: what a signature says of itself, and the signature, at most 65,535 octets in all. They are equal, ordered
-/// and hashed by their numbers, as their names are, and then by the signature.
+/// RRSIG data: the fields of a signature and the signature, at most 65,535 octets in all. RRSIG data are equal, ordered
+/// and hashed by their numbers, then by their names, and then by the signature.
 #[derive(Drop)]
 #[derive_where(PartialEq, Eq, PartialOrd, Ord, Hash; N)]
 pub struct Rrsig<Octs: Octets, N: ToName> {
@@ -127,7 +127,7 @@ impl<Octs: Octets, N: ToName> Rrsig<Octs, N> {
         }
     }
 
-    /// Data of both, or none where they are too long.
+    /// Data of the fields and the signature; refused where they are too long.
     pub(crate) fn from_parts(proto: ProtoRrsig<N>, signature: Octs) -> Result<Self, LongRecordData>
     where
         N: Drop,
@@ -164,7 +164,7 @@ impl<Octs: Octets, N: ToName> Rrsig<Octs, N> {
         len + self.signature.as_slice().len() as u16
     }
 
-    /// What the signature says of itself.
+    /// The fields of the signature.
     pub fn proto(&self) -> &ProtoRrsig<N>
         ensures { result.now ≡ self.now.proto }
     {
@@ -195,7 +195,7 @@ impl<Octs: Octets, N: ToName> Rrsig<Octs, N> {
         SecurityAlgorithm::from_int(self.proto.numbers.algorithm)
     }
 
-    /// How many labels the signed owner has, without the root and a leading star (RFC 4034, 3.1.3).
+    /// The number of labels of the signed owner, without the root and a leading star (RFC 4034, 3.1.3).
     pub fn labels(&self) -> u8
         ensures { result ≡ self.now.proto.numbers.labels }
     {
@@ -216,7 +216,7 @@ impl<Octs: Octets, N: ToName> Rrsig<Octs, N> {
         Timestamp::from(self.proto.numbers.expiration)
     }
 
-    /// The first one.
+    /// The first moment at which the signature holds.
     pub fn inception(&self) -> Timestamp
         ensures { result ≡ self.now.proto.numbers.inception }
     {
@@ -243,7 +243,7 @@ impl<Octs: Octets, N: ToName> Rrsig<Octs, N> {
         self.signature.as_octets()
     }
 
-    /// Puts another signature in place of this one. It has to fit (`fits_rdlen`).
+    /// Replaces the signature. The new one has to fit (`fits_rdlen`).
     pub fn set_signature(&mut self, signature: Octs)
     where
         Octs: Drop,
@@ -329,7 +329,7 @@ impl<Octs: Octets, N: ToName> ComposeRecordData for Rrsig<Octs, N> {
     }
 }
 
-/// Appends the fields; those that there is room for, where it is refused.
+/// Appends the fields and the signature. A refused call leaves the parts for which there was room.
 fn compose_signed<Octs: Octets, N: ToName, B: Composer>(
     rrsig: &Rrsig<Octs, N>,
     target: &mut B,
@@ -343,7 +343,7 @@ fn compose_signed<Octs: Octets, N: ToName, B: Composer>(
     target.append_slice(rrsig.signature.as_slice())
 }
 
-/// As `compose_signed`, in canonical form.
+/// Appends the fields and the signature in canonical form. A refused call leaves the parts for which there was room.
 fn compose_canonical_signed<Octs: Octets, N: ToName, B: Composer>(
     rrsig: &Rrsig<Octs, N>,
     target: &mut B,

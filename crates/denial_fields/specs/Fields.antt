@@ -3,7 +3,7 @@ use Rattle.std.specs.Prelude.{ℕ, List, [], ◌∷◌}
 use Rattle.base64.specs.Engines.{standard}
 use Rattle.base64.specs.GeneralPurpose.{encode_of}
 
--- in base64, behind a blank, if there are any
+-- the text of octets in base64 behind a blank; empty where there are none
 abbrev pub base64_field : List ℕ → List ℕ
 base64_field [] = []
 base64_field (o ∷ octets) = 32 ∷ encode_of standard (o ∷ octets)

@@ -10,7 +10,7 @@ use Rattle.denial_fields.specs.declared.error.Nsec3SaltFromStrError.TheVariants 
 use Rattle.denial_fields.specs.declared.error.OwnerHashFromStrError.{OwnerHashFromStrError}
 use Rattle.denial_fields.specs.declared.error.OwnerHashFromStrError.TheVariants as hash
 
--- two digits an octet; no octets are a hyphen
+-- the text of a salt: two digits an octet, or a hyphen for no octets
 abbrev pub salt_text : List ℕ → List ℕ
 salt_text [] = codes "-"
 salt_text (o ∷ octets) = hex (o ∷ octets)

@@ -1,4 +1,4 @@
-//! Octets behind their number in one octet, as record data have salts and hashes (RFC 5155, 3.2).
+//! Octets behind their number in one octet, as salts and hashes stand in record data (RFC 5155, 3.2).
 
 ghost use Rattle.std.specs.Prelude.{◌≡◌, ◌≤◌, ◌++◌, length, take, IfOk, OnOk, OnErr};
 ghost use Rattle.names_rdata.specs.Reading.{ReadsPart};
@@ -38,7 +38,7 @@ pub fn compose_counted<B: OctetsBuilder>(octets: &[u8], target: &mut B) -> Resul
     or_undone(target, len, done)
 }
 
-/// As `compose_counted`, which takes back what there was room for.
+/// Appends at most 255 octets behind their number. A refused call leaves the octets for which there was room.
 fn append_counted<B: OctetsBuilder>(octets: &[u8], target: &mut B) -> Result<(), ShortBuf>
     requires { length octets.now ≤ 255 }
     ensures ok { OnOk result (B.bytes target.new ≡ B.bytes target.old ++ counted octets.now) }

@@ -6,7 +6,7 @@ use base64::display::Base64Display;
 use base64::engine::general_purpose::STANDARD;
 use std::fmt;
 
-/// Octets that print as base64 behind a blank, and none as nothing.
+/// Octets that print as a blank and base64; an empty slice prints as nothing.
 #[derive(Clone, Copy, Debug, Drop)]
 pub struct Base64Field<'a>(pub &'a [u8]);
 

@@ -15,8 +15,8 @@ use names_rdata::reading::{closed, parse_array, parse_rest};
 use names_wire::builder::{OctetsBuilder, ShortBuf};
 use std::cmp::Ordering;
 
-/// Reads four octets and those up to the parser's end, at most 65,535 in all. A refused call leaves the parser where it
-/// was.
+/// Reads four octets and the octets up to the parser's end, at most 65,535 in all. A refused call leaves the parser
+/// where it was.
 pub fn parse_ended<'a>(parser: &mut Parser<'a>) -> Result<([u8; 4], &'a [u8]), ParseError>
     ensures { let found = data_at (ended_part) parser.old in
         ReadsData found (λ r. r.0 ++ r.1.now) parser.old parser.new result }
@@ -35,7 +35,7 @@ fn parse_both<'a>(parser: &mut Parser<'a>) -> Result<([u8; 4], &'a [u8]), ParseE
     Ok((head, rest))
 }
 
-/// Appends octets and others behind them. A refused call leaves the target as it was.
+/// Appends a head of octets and the rest behind it. A refused call leaves the target as it was.
 pub fn compose_ended<B: OctetsBuilder>(
     head: &[u8],
     rest: &[u8],
@@ -49,7 +49,7 @@ pub fn compose_ended<B: OctetsBuilder>(
     or_undone(target, len, done)
 }
 
-/// As `compose_ended`; those that there is room for stay, where it is refused.
+/// Appends a head of octets and the rest behind it. A refused call leaves the octets for which there was room.
 fn append_both<B: OctetsBuilder>(head: &[u8], rest: &[u8], target: &mut B) -> Result<(), ShortBuf>
     ensures ok { OnOk result (B.bytes target.new ≡ B.bytes target.old ++ (head.now ++ rest.now)) }
     ensures err { let old = B.bytes target.old in
@@ -59,7 +59,7 @@ fn append_both<B: OctetsBuilder>(head: &[u8], rest: &[u8], target: &mut B) -> Re
     target.append_slice(rest)
 }
 
-/// The order of octets that begin with equally many.
+/// The order of two rows of octets, each a head and a rest. Both heads have the same length.
 pub fn cmp_ended(head: &[u8], rest: &[u8], other_head: &[u8], other_rest: &[u8]) -> Ordering
     requires { length head.now ≡ length other_head.now }
     ensures { let octets = head.now ++ rest.now in

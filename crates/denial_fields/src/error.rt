@@ -22,13 +22,13 @@ pub struct OwnerHashError;
 /// Why text is no salt.
 #[derive(Clone, Copy, Debug, PartialEq, Eq, Error)]
 pub enum Nsec3SaltFromStrError {
-    /// It is not hexadecimal, nor `-`.
+    /// The text is neither hexadecimal nor `-`.
     #[error("{0}")]
     DecodeError(FromHexError),
-    /// It spells too many octets.
+    /// The text spells too many octets.
     #[error("{0}")]
     Nsec3SaltError(Nsec3SaltError),
-    /// There was no memory.
+    /// Memory ran out.
     #[error("out of memory")]
     Memory,
 }
@@ -36,13 +36,13 @@ pub enum Nsec3SaltFromStrError {
 /// Why text is no hash.
 #[derive(Clone, Copy, Debug, PartialEq, Eq, Error)]
 pub enum OwnerHashFromStrError {
-    /// It is not base32hex.
+    /// The text is not base32hex.
     #[error("{0}")]
     DecodeError(DecodeError),
-    /// It spells too many octets.
+    /// The text spells too many octets.
     #[error("{0}")]
     OwnerHashError(OwnerHashError),
-    /// There was no memory.
+    /// Memory ran out.
     #[error("out of memory")]
     Memory,
 }

@@ -43,7 +43,7 @@ impl<Octs: Octets> OwnerHash<Octs> {
     /// The most octets that a hash has.
     pub const MAX_LEN: usize = 255;
 
-    /// The hash of the octets. More than 255 are refused, and dropped.
+    /// The hash of the octets. More than 255 octets are refused, and dropped.
     pub fn from_octets(octets: Octs) -> Result<Self, OwnerHashError>
     where
         Octs: Drop,
@@ -81,7 +81,7 @@ impl<Octs: Octets> OwnerHash<Octs> {
 }
 
 impl<'a> OwnerHash<&'a [u8]> {
-    /// The hash of the octets. More than 255 are refused.
+    /// The hash of the octets. More than 255 octets are refused.
     pub fn from_slice(octets: &'a [u8]) -> Result<Self, OwnerHashError>
         ensures ok { IfOk result (λ h. h ≡ octets.now) }
         ensures accepts { IsOk result ↔ (length octets.now ≤ 255) }
@@ -116,7 +116,7 @@ impl<Octs: Octets> CanonicalOrd for OwnerHash<Octs> {
     }
 }
 
-/// In base32hex (RFC 5155, 3.3).
+/// The hash in base32hex (RFC 5155, 3.3).
 impl<Octs: Octets> fmt::Display for OwnerHash<Octs> {
     ghost output = { λ h. Some (base32hex h) };
 

@@ -7,7 +7,7 @@ ghost use Rattle.denial_fields.specs.declared.error.IllegalSignatureTime.{Illega
 ghost use Rattle.denial_fields.specs.Times.{IsTimeNear};
 ghost use Rattle.denial_fields.specs.TextLaws.{SaltsAreReadBack};
 
-/// What is printed of a time is read as that time.
+/// A printed time is read as the same time.
 pub fn times_are_read_back()
     ensures { (t : ℕ) (r : Result ℕ IllegalSignatureTime) → t < 2 ^ 32
         → ParsesUnsigned 32 10 (decimal t) r → r ≡ Ok t }
@@ -19,7 +19,7 @@ pub fn one_time_is_near()
         → IsTimeNear seconds reference other → time ≡ other }
 {}
 
-/// What is printed of a salt is read as that salt, memory aside (RFC 5155, 3.3).
+/// A printed salt is read as the same salt, memory aside (RFC 5155, 3.3).
 pub fn salts_are_read_back()
     ensures { SaltsAreReadBack }
 {}

@@ -45,7 +45,7 @@ impl<Octs: Octets> Nsec3Salt<Octs> {
     /// The most octets that a salt has.
     pub const MAX_LEN: usize = 255;
 
-    /// The salt of the octets. More than 255 are refused, and dropped.
+    /// The salt of the octets. More than 255 octets are refused, and dropped.
     pub fn from_octets(octets: Octs) -> Result<Self, Nsec3SaltError>
     where
         Octs: Drop,
@@ -83,7 +83,7 @@ impl<Octs: Octets> Nsec3Salt<Octs> {
 }
 
 impl<'a> Nsec3Salt<&'a [u8]> {
-    /// The salt of the octets. More than 255 are refused.
+    /// The salt of the octets. More than 255 octets are refused.
     pub fn from_slice(octets: &'a [u8]) -> Result<Self, Nsec3SaltError>
         ensures ok { IfOk result (λ s. s ≡ octets.now) }
         ensures accepts { IsOk result ↔ (length octets.now ≤ 255) }
@@ -113,7 +113,7 @@ impl Nsec3Salt<Vec<u8>> {
         }
     }
 
-    /// Reads a salt as it is printed, digits in either case. No text at all is the empty salt too.
+    /// Reads a salt as it is printed, digits in either case. An empty text is the empty salt too.
     pub fn from_str(alloc: Global, text: &str) -> Result<Self, Nsec3SaltFromStrError>
         ensures { ReadsSalt text.now result }
     {
@@ -141,7 +141,7 @@ impl<Octs: Octets> CanonicalOrd for Nsec3Salt<Octs> {
     }
 }
 
-/// In lower-case hexadecimal; the empty salt as `-` (RFC 5155, 3.3).
+/// The salt in lower-case hexadecimal; the empty salt as `-` (RFC 5155, 3.3).
 impl<Octs: Octets> fmt::Display for Nsec3Salt<Octs> {
     ghost output = { λ s. Some (salt_text s) };
 

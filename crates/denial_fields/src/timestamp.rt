@@ -46,8 +46,8 @@ impl Timestamp {
         self.seconds
     }
 
-    /// The time in seconds since 1970 that is less than 2^31 seconds from a reference, or 2^31 before it; the seconds as
-    /// they are where that would lie before 1970. `None` stands where the time has no 64 bits.
+    /// The time in seconds since 1970 that lies less than 2^31 seconds from a reference, or exactly 2^31 before it.
+    /// Where that would lie before 1970, it is the seconds as they are. `None` where the time does not fit in 64 bits.
     pub fn to_system_time(self, reference: u64) -> Option<u64>
         ensures near { IfSome result (IsTimeNear self reference) }
         ensures past { IsNone result → (time : ℕ) → IsTimeNear self reference time → 2 ^ 64 ≤ time }
@@ -65,14 +65,15 @@ impl Timestamp {
         }
     }
 
-    /// Whether it is another, or less than half the circle before it, as serial numbers (RFC 4034, 3.1.5).
+    /// Whether this time equals the other or is less than half the circle before it, as serial numbers (RFC 4034,
+    /// 3.1.5).
     pub fn is_at_or_before(&self, other: &Self) -> bool
         ensures { result ≡ serial_le self.now other.now }
     {
         Serial(self.seconds).is_at_or_before(&Serial(other.seconds))
     }
 
-    /// Which is before the other, as serial numbers: none of two that are 2^31 seconds apart.
+    /// Compares two times as serial numbers. Two times that are 2^31 seconds apart have no order.
     pub fn partial_cmp(&self, other: &Self) -> Option<Ordering>
         ensures { result ≡ serial_cmp self.now other.now }
     {
@@ -97,7 +98,7 @@ impl Timestamp {
     }
 }
 
-/// The plain order of the numbers, and so of their octets (RFC 4034, 6.3).
+/// The plain order of the numbers, which is that of their octets (RFC 4034, 6.3).
 impl CanonicalOrd for Timestamp {
     ghost canonical = { nat_cmp };
 
@@ -114,7 +115,7 @@ impl From<u32> for Timestamp {
     }
 }
 
-/// Reads the seconds as a number of 32 bits is read, in decimal.
+/// Reads the seconds as a number of 32 bits in decimal.
 impl FromStr for Timestamp {
     ghost use Rattle.std.specs.Str.Parse.{ParsesUnsigned};
 
@@ -130,7 +131,7 @@ impl FromStr for Timestamp {
     }
 }
 
-/// In decimal.
+/// The seconds in decimal.
 impl fmt::Display for Timestamp {
     ghost output = { λ t. Some (decimal t) };
 

@@ -6,7 +6,7 @@ use Rattle.definitions.specs.Dnskey.{Dnskey, Ds}
 use Rattle.names_rdata.specs.Unknown.{hex_field}
 use Rattle.denial_fields.specs.Fields.{base64_field}
 
--- of these fields
+-- the key of these fields
 abbrev pub dnskey_with : ℕ → ℕ → ℕ → List ℕ → Dnskey
 dnskey_with flags protocol algorithm octets = record { flags = flags; protocol = protocol; algorithm = algorithm; octets = octets }
 
@@ -17,7 +17,7 @@ ds_with tag algorithm digest_type digest = record { tag = tag; algorithm = algor
 abbrev pub dnskey_head : Dnskey → List ℕ
 dnskey_head k = to_be_bytes w16 k.flags ++ k.protocol ∷ k.algorithm ∷ []
 
--- three numbers, and the key
+-- the text of DNSKEY data: three numbers, and the key
 abbrev pub dnskey_text : Dnskey → List ℕ
 dnskey_text k = decimal k.flags ++ 32 ∷ decimal k.protocol ++ 32 ∷ decimal k.algorithm ++ base64_field k.octets
 
@@ -29,6 +29,6 @@ ds_head d = to_be_bytes w16 d.tag ++ d.algorithm ∷ d.digest_type ∷ []
 abbrev pub ds_data : Ds → List ℕ
 ds_data d = to_be_bytes w16 d.tag ++ d.algorithm ∷ d.digest_type ∷ d.digest
 
--- three numbers, and the digest
+-- the text of DS data: three numbers, and the digest
 abbrev pub ds_text : Ds → List ℕ
 ds_text d = decimal d.tag ++ 32 ∷ decimal d.algorithm ++ 32 ∷ decimal d.digest_type ++ hex_field d.digest

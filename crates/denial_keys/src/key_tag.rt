@@ -31,7 +31,7 @@ pub(crate) fn sum_of(octets: &[u8]) -> u32
     }
 }
 
-/// The upper half of a sum is added once.
+/// The tag of a sum: the upper half is added to the lower half once.
 pub(crate) fn tag_of_sum(sum: u32) -> u16
     ensures { result ≡ tag_of_sum sum }
 {

@@ -13,7 +13,7 @@ use Rattle.denial_chain_owners.specs.declared.error.SigningError.{SigningError}
 use Rattle.denial_chain_owners.specs.declared.error.SigningError.TheVariants.{NoSingleSoa, MultipleTtlValues, HashFailed, HashTooLong, HashCollision, Memory}
 use Rattle.denial_nsec3_chain.specs.Bits.{spot_types}
 
--- how records are made: what names are hashed with, and the flags; whether DNSKEY is to come; the TTL
+-- how records are made: the parameters of the hash and the flags; whether DNSKEY records will be added later; the TTL
 pub record Making : Type 0 where
   pub params : Nsec3paramData
   pub dnskey : Bool
@@ -28,7 +28,7 @@ nsec3_record m apex hash next types = record {
   content = record { params = m.params; next_owner = next; types = bitmap types };
 }
 
--- of a name and the next one
+-- the record of a name and the next one
 abbrev pub linked : {N D : Type 0} → (N → Name) → (D → ℕ) → Name → Making → HashedName N D × HashedName N D → Record Name Nsec3Data
 linked name rtype apex m l = nsec3_record m apex l.0.hash.items l.1.hash.items (spot_types name rtype apex m.dnskey (spot_of l.0.name))
 
@@ -37,7 +37,7 @@ abbrev pub links_around : {A : Type 0} → List A → List (A × A)
 links_around [] = []
 links_around (a ∷ xs) = links a (a ∷ xs)
 
--- one of some hashes fits no name, where it is told so
+-- one of some hashes has no owner name, where the error says so
 abbrev pub IsLinkFault : Name → List (List ℕ) → SigningError → Type 0
 IsLinkFault apex hashes HashTooLong = (h : List ℕ) × (Contains hashes h × (FitsName apex h → ⊥))
 IsLinkFault apex hashes Memory = Unit {0}

@@ -1,4 +1,4 @@
-//! NSEC3 records made of names in the order of their hashes (RFC 5155, 3 and 7.1).
+//! NSEC3 records made of names in order of hash (RFC 5155, 3 and 7.1).
 
 ghost use Rattle.std.specs.Prelude.{◌≡◌, ◌≤◌, ◌++◌, ◌∷◌, [], length, map, IfErr, IfOk, OnOk};
 ghost use Rattle.std.specs.List.{AllByRecursion};
@@ -28,21 +28,21 @@ use std::alloc::{AllocError, Global};
 /// How the records of a chain are made.
 #[derive(Drop)]
 pub(crate) struct Settings<'c, S: Octets> {
-    /// What names are hashed with, and the flags of the records.
+    /// The parameters of the hash, and the flags of the records.
     pub(crate) params: &'c Nsec3param<S>,
-    /// Whether the bits of the apex have DNSKEY.
+    /// Whether the type bitmap of the apex has DNSKEY.
     pub(crate) dnskey: bool,
     pub(crate) ttl: Ttl,
 }
 
-/// What is known of a record before the next hash is: its owner, and the name whose types it has.
+/// What is known of a record before the next hash is known: its owner, and the name whose types it has.
 #[derive(Drop)]
 struct Begun<'g, 'a, N: ToName, D> {
     owner: Name<Vec<u8>>,
     name: ChainName<'g, 'a, N, D>,
 }
 
-/// A record for each name, which leads to the next one, the last to the first.
+/// A record for each name. Each leads to the next one, the last to the first.
 #[inline(never)]
 pub(crate) fn nsec3s_of<'g, 'a, 'c, N: ToName, D: RecordData, S: Octets>(
     alloc: Global,
@@ -99,7 +99,7 @@ fn begin<'g, 'a, N: ToName, D: RecordData>(
     }
 }
 
-/// Adds a record that was begun and leads to a hash.
+/// Adds the record that was begun, which leads to a given hash.
 #[inline(always)]
 fn push_link<'g, 'a, 'c, N: ToName, D: RecordData, S: Octets>(
     alloc: Global,
@@ -125,7 +125,7 @@ fn push_link<'g, 'a, 'c, N: ToName, D: RecordData, S: Octets>(
     Ok(())
 }
 
-/// The data of a record: at most 8,704 octets are types.
+/// The data of a record, whose type bitmap has at most 8,704 octets.
 fn data_of<S: Octets>(
     params: &Nsec3param<S>,
     salt: Nsec3Salt<Vec<u8>>,

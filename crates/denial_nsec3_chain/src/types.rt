@@ -1,4 +1,4 @@
-//! The bits of NSEC3 records (RFC 5155, 7.1).
+//! The type bitmaps of NSEC3 records (RFC 5155, 7.1).
 
 ghost use Rattle.std.specs.Prelude.{◌≡◌, ◌≤◌, ◌++◌, [], ℕ, List, length, IfOk, OnOk};
 ghost use Rattle.definitions.specs.Bitmap.{bitmap};
@@ -18,7 +18,7 @@ use names_traits::to_name::ToName;
 use names_wire::builder::ShortBuf;
 use std::alloc::Global;
 
-/// Adds what signing adds at the apex.
+/// Adds the types that signing adds at the apex.
 fn add_apex_types<N: ToName>(
     types: &mut RtypeBitmapBuilder<Vec<u8>>,
     apex: &N,
@@ -38,7 +38,8 @@ fn add_apex_types<N: ToName>(
     Ok(())
 }
 
-/// Adds the types at a delegation: NS, and where it is there DS, which alone is signed (RFC 4035, 2.2).
+/// Adds the types at a delegation: NS, and where there is a DS record, DS and RRSIG, since only DS is signed there (RFC
+/// 4035, 2.2).
 fn add_cut_types<'a, N: ToName, D: RecordData>(
     types: &mut RtypeBitmapBuilder<Vec<u8>>,
     owner: &OwnerRrs<'a, N, D>,
@@ -54,7 +55,7 @@ fn add_cut_types<'a, N: ToName, D: RecordData>(
     types.add(Rtype::NS)
 }
 
-/// Adds the types at an owner to none.
+/// Adds the types at an owner to an empty set.
 fn add_group<'a, N: ToName, D: RecordData>(
     types: &mut RtypeBitmapBuilder<Vec<u8>>,
     apex: &N,
@@ -73,7 +74,7 @@ fn add_group<'a, N: ToName, D: RecordData>(
     add_types(types, apex, owner)
 }
 
-/// No types, with room for those of most owners: RRSIG is the highest of them.
+/// An empty set with room for the types of most owners: RRSIG is the highest of them.
 fn none_with_room(alloc: Global) -> Result<RtypeBitmapBuilder<Vec<u8>>, ShortBuf>
     ensures { IfOk result (λ types. types ≡ bitmap []) }
 {
@@ -83,7 +84,7 @@ fn none_with_room(alloc: Global) -> Result<RtypeBitmapBuilder<Vec<u8>>, ShortBuf
     }
 }
 
-/// The bits of a name of the chain: none where it is no owner of records.
+/// The type bitmap of a name of the chain; an empty one where the name owns no records.
 pub(crate) fn types_of<'g, 'a, N: ToName, D: RecordData>(
     alloc: Global,
     apex: &N,

@@ -8,7 +8,7 @@ use Rattle.denial_nsec_data.specs.Hashed.{Nsec3paramData}
 abbrev pub Answers : Type 0
 Answers = List ℕ → ℕ → ℕ → List ℕ → Option (List ℕ)
 
--- what it answers for a name
+-- what a hasher answers for a name
 abbrev pub answered : Answers → Nsec3paramData → Name → Option (List ℕ)
 answered answers p n = answers (wire (low n)) p.algorithm p.iterations p.salt
 
@@ -20,6 +20,6 @@ hash_by answers p n = unwrap_or (answered answers p n) []
 abbrev pub hashed_owner : Name → List ℕ → Name
 hashed_owner apex hash = base32hex hash ∷ apex
 
--- a label holds the hash, and a name does
+-- the hash fits in a label, and its owner name is not too long
 abbrev pub FitsName : Name → List ℕ → Type 0
 FitsName apex hash = IsName (hashed_owner apex hash)

@@ -10,11 +10,11 @@ use denial_nsec_data::nsec3param::Nsec3param;
 use names_wire::octets::Octets;
 use plain::Ttl;
 
-/// Which TTL the NSEC3PARAM record has.
+/// The choice of the NSEC3PARAM record's TTL.
 #[derive(Clone, Copy, Debug, PartialEq, Eq)]
 pub enum Nsec3ParamTtlMode {
     Fixed(Ttl),
-    /// That of the SOA record.
+    /// The TTL of the SOA record.
     Soa,
     /// The SOA record's minimum field.
     SoaMinimum,
@@ -39,7 +39,7 @@ impl Nsec3ParamTtlMode {
         Nsec3ParamTtlMode::SoaMinimum
     }
 
-    /// The TTL beside a SOA record of this TTL and minimum.
+    /// The TTL of the NSEC3PARAM record, from the TTL and the minimum of the SOA record.
     pub fn ttl(self, soa: Ttl, minimum: Ttl) -> Ttl
         ensures { result ≡ parameter_ttl self soa minimum }
     {
@@ -54,9 +54,9 @@ impl Nsec3ParamTtlMode {
 /// How a chain of hashed names is made.
 #[derive(Drop)]
 pub struct GenerateNsec3Config<Octs: Octets> {
-    /// Whether the bits of the apex have DNSKEY, whose records are to come.
+    /// Whether the type bitmap of the apex has DNSKEY, whose records will be added later.
     pub assume_dnskeys_will_be_added: bool,
-    /// What names are hashed with, and the flags of the chain's records.
+    /// The parameters of the hash, and the flags of the chain's records.
     pub params: Nsec3param<Octs>,
     /// Whether delegations without DS are left out where opt-out is set (RFC 5155, 6).
     pub opt_out_exclude_owner_names_of_unsigned_delegations: bool,
@@ -64,7 +64,8 @@ pub struct GenerateNsec3Config<Octs: Octets> {
 }
 
 impl<Octs: Octets> GenerateNsec3Config<Octs> {
-    /// DNSKEY records are to come, opt-out excludes, and the NSEC3PARAM record has the SOA's TTL.
+    /// A configuration under which DNSKEY records will be added later, unsigned delegations are left out where opt-out
+    /// is set, and the NSEC3PARAM record has the SOA record's TTL.
     pub fn new(params: Nsec3param<Octs>) -> Self
         ensures dnskeys { result.assume_dnskeys_will_be_added ≡ true }
         ensures params { result.params ≡ params }

@@ -27,7 +27,7 @@ impl From<AllocError> for HashError {
     }
 }
 
-/// Want of room in octets that grow is want of memory.
+/// Lack of room in octets that grow is lack of memory.
 impl From<ShortBuf> for HashError {
     ghost use Rattle.std.specs.Prelude.{◌≡◌};
     ghost use Rattle.denial_nsec3_hash.specs.declared.hasher.HashError.TheVariants.{Memory};
@@ -39,9 +39,9 @@ impl From<ShortBuf> for HashError {
     }
 }
 
-/// Hashes names. What it answers is a function of the arguments, memory aside.
+/// Hashes names. The answer is a function of the arguments, memory aside.
 pub trait Nsec3Hasher {
-    /// What is answered for a name in lower-case wire form, an algorithm, iterations and a salt; None for a failure.
+    /// The answer for a name in lower-case wire form, an algorithm, iterations and a salt; `None` for a failure.
     ghost hash_of: { Self → List ℕ → ℕ → ℕ → List ℕ → Option (List ℕ) };
 
     fn hash(

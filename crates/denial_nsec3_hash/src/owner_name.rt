@@ -13,7 +13,7 @@ use plain::base32hex;
 use std::alloc::Global;
 use thiserror::Error;
 
-/// Why a hash is no owner's label.
+/// Why a hash has no owner name.
 #[derive(Clone, Copy, Debug, PartialEq, Eq, Error)]
 pub enum HashedOwnerError {
     /// No label holds it, or no name.
@@ -55,7 +55,7 @@ pub fn hashed_owner<N: Absolute>(
     }
 }
 
-/// How many digits a hash has that a label holds.
+/// The number of base32hex digits of a hash that fits in a label.
 fn digit_count(hash: &[u8]) -> u8
     requires { length hash.now ≤ 39 }
     ensures { result ≡ length (base32hex hash.now) }

@@ -9,8 +9,8 @@ use names_labels::traits::{Absolute, LabelIter};
 use names_rdata::composer::{compose_canonical_name, compose_labels};
 use names_wire::builder::ShortBuf;
 
-/// Writes a name without its first labels, so many (the root where there are no more), in lower-case wire form, over what
-/// a buffer held.
+/// Replaces the content of a buffer by a name without its first `skipped` labels, in lower-case wire form. Without any
+/// labels left it is the root.
 pub fn write_lower_wire<N: Absolute>(
     buffer: &mut Vec<u8>,
     name: &N,
@@ -25,7 +25,7 @@ pub fn write_lower_wire<N: Absolute>(
     write_labels(buffer, without_first(name.iter_labels(), skipped.min(most)))
 }
 
-/// Writes a name in lower-case wire form over what a buffer held.
+/// Replaces the content of a buffer by a name in lower-case wire form.
 fn write_whole<N: Absolute>(buffer: &mut Vec<u8>, name: &N) -> Result<(), ShortBuf>
     ensures { OnOk result (buffer.new.items ≡ wire (low (N.name name.now))) }
 {
@@ -33,7 +33,7 @@ fn write_whole<N: Absolute>(buffer: &mut Vec<u8>, name: &N) -> Result<(), ShortB
     compose_canonical_name(name, buffer)
 }
 
-/// Writes labels in lower case, each behind its length, over what a buffer held.
+/// Replaces the content of a buffer by labels in lower case, each behind its length.
 fn write_labels<N: Absolute>(buffer: &mut Vec<u8>, labels: LabelIter<'_, N>) -> Result<(), ShortBuf>
     ensures { OnOk result (buffer.new.items ≡ spelled (low labels.entry)) }
 {
@@ -41,7 +41,7 @@ fn write_labels<N: Absolute>(buffer: &mut Vec<u8>, labels: LabelIter<'_, N>) -> 
     compose_labels(labels, buffer, Case::Lowered)
 }
 
-/// The labels behind the first ones, so many.
+/// The labels behind the first `count` ones.
 pub fn without_first<N: Absolute>(labels: LabelIter<'_, N>, count: usize) -> LabelIter<'_, N>
     ensures { result ≡ drop count labels.entry }
 {

@@ -1,9 +1,9 @@
--- Labels beside as many others.
+-- How two names with the same number of labels differ.
 use Rattle.std.specs.Prelude.{ℕ, zero, suc, Bool, true, false, ◌∷◌}
 use Rattle.std.specs.Str.{bytes_eq, str_to_ascii_lowercase}
 use Rattle.definitions.specs.Name.{Name}
 
--- one more label in front of some of which so many are up to the last that differs
+-- the number of labels up to the last one that differs, with one more label in front
 abbrev pub one_more : Bool → ℕ → ℕ
 one_more true zero = zero
 one_more false zero = suc zero

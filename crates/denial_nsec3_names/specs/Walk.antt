@@ -2,13 +2,13 @@
 use Rattle.std.specs.Prelude.{ℕ, zero, suc, List, [], ◌∷◌, ◌++◌, drop, if◌then◌else◌}
 use Rattle.definitions.specs.Name.{Name, at_or_above}
 
--- how many names an owner adds behind the one before it: itself and what it stands under, but for what the one before
--- it is or stands under too
+-- how many names an owner adds behind the one before it: itself and its ancestors, without those that the one before is
+-- or has as ancestors too
 abbrev pub fresh_count : Name → Name → ℕ
 fresh_count p [] = 0
 fresh_count p (l ∷ o) = if at_or_above (l ∷ o) p then 0 else suc (fresh_count p o)
 
--- an owner without its first labels, so many
+-- an owner without a number of its first labels
 pub record Spot (G : Type 0) : Type 0 where
   pub owner : G
   pub skipped : ℕ
@@ -19,7 +19,7 @@ spot g n = record { owner = g; skipped = n }
 abbrev pub spot_name : {G : Type 0} → (G → Name) → Spot G → Name
 spot_name name s = drop s.skipped (name s.owner)
 
--- an owner and what it stands under, so many, the shortest first
+-- an owner and a number of its ancestors, the shortest first
 abbrev pub last_spots : {G : Type 0} → ℕ → G → List (Spot G)
 last_spots zero g = []
 last_spots (suc n) g = spot g n ∷ last_spots n g

@@ -1,4 +1,4 @@
-//! The names of a chain: owners of records, and what they stand under (RFC 5155, 7.1).
+//! The names of a chain: owners of records and their ancestors (RFC 5155, 7.1).
 
 ghost use Rattle.std.specs.Prelude.{◌≡◌, ◌++◌, ◌<◌, map, IfOk, MatchOption, OnOk};
 ghost use Rattle.definitions.specs.Name.{low, wire};
@@ -14,7 +14,7 @@ use names_traits::to_name::ToName;
 use names_wire::builder::ShortBuf;
 use std::alloc::{AllocError, Global};
 
-/// A name of a chain: an owner of records, or an owner without its first labels, so many. Nothing is copied.
+/// A name of a chain: an owner of records without its first `skipped` labels, possibly none. Nothing is copied.
 #[derive(Drop)]
 pub struct ChainName<'g, 'a, N: ToName, D> {
     group: &'g OwnerRrs<'a, N, D>,
@@ -32,7 +32,7 @@ impl<'g, 'a, N: ToName, D> Clone for ChainName<'g, 'a, N, D> {
 }
 
 impl<'g, 'a, N: ToName, D: RecordData> ChainName<'g, 'a, N, D> {
-    /// The records of the name, if it is an owner: none of its labels is left out.
+    /// The records of the name, if it is an owner: it has all labels of the owner.
     pub fn records(&self) -> Option<&'g OwnerRrs<'a, N, D>>
         ensures { let spot = spot_of self.now in
             MatchOption result (0 < spot.skipped) (λ g. (spot.skipped ≡ 0) × (g.now ≡ spot.owner)) }
@@ -44,7 +44,7 @@ impl<'g, 'a, N: ToName, D: RecordData> ChainName<'g, 'a, N, D> {
         }
     }
 
-    /// Writes the name in lower-case wire form over what a buffer held.
+    /// Replaces the content of a buffer by the name in lower-case wire form.
     pub(crate) fn write(&self, buffer: &mut Vec<u8>) -> Result<(), ShortBuf>
         ensures { OnOk result (buffer.new.items ≡ wire (low (chain_name N.name self.now))) }
     {
@@ -52,8 +52,8 @@ impl<'g, 'a, N: ToName, D: RecordData> ChainName<'g, 'a, N, D> {
     }
 }
 
-/// The names of the chain of owners in canonical order, of which the apex is the first: each owner, and before it the
-/// names that it stands under and the owner before it doesn't, the shortest first.
+/// The names of the chain of owners in canonical order, of which the apex is the first: each owner, and before it those
+/// of its ancestors that aren't ancestors of the owner before it, the shortest first.
 #[inline(never)]
 pub fn chain_names<'g, 'a, N: ToName, D: RecordData>(
     alloc: Global,
@@ -78,7 +78,7 @@ pub fn chain_names<'g, 'a, N: ToName, D: RecordData>(
     Ok(names)
 }
 
-/// Adds an owner and what it stands under, so many, the shortest first.
+/// Adds an owner and `count` of its ancestors, the shortest first.
 fn push_names<'g, 'a, N: ToName, D: RecordData>(
     names: &mut Vec<ChainName<'g, 'a, N, D>>,
     owner: &'g OwnerRrs<'a, N, D>,

@@ -36,7 +36,7 @@ impl Nsec3Hasher for Sha1Hasher {
     }
 }
 
-/// The hash of octets and a salt, hashed with the salt again so often.
+/// The SHA-1 hash of octets and a salt, hashed again with the salt `iterations` times.
 fn hashed(octets: &[u8], iterations: u16, salt: &[u8]) -> [u8; 20]
     ensures { result ≡ iterated iterations octets.now salt.now }
 {

@@ -20,7 +20,7 @@ pub record ChainRecord : Type 0 where
   pub next : Name
   pub types : List ℕ
 
--- one whose names are borrowed
+-- a record of the chain whose names are borrowed
 abbrev pub record_of : {N : Type 0} → (N → Name) → Record (Bor N) (NsecData (Bor N)) → ChainRecord
 record_of name r = record {
   owner = name r.owner.now;
@@ -53,7 +53,7 @@ nsec_record name apex dnskey rs o =
       types = bitmap (nsec_types z dnskey o);
     }
 
--- one for each name of the chain, in canonical order
+-- the records of the chain: one for each name, in canonical order
 abbrev pub nsec_chain : {O N : Type 0} → (N → Name) → Name → Bool → List (Record N (ZoneRecordData O N)) → List ChainRecord
 nsec_chain name apex dnskey rs =
     map (nsec_record name apex dnskey rs) (nsec_names (zone_of name zone_type (zone_canonical name) apex rs))

@@ -7,13 +7,13 @@ use Rattle.plain.specs.declared.record.Record.{Record}
 use Rattle.denial_chain_owners.specs.Types.{own_types}
 use Rattle.denial_nsec_chain.specs.Chain.{ChainRecord, class_of}
 
--- the owner of some records, as the first one spells it; of none the apex
+-- the owner of the next records, as the first one spells it; the apex where there are none
 abbrev pub next_of : {N D : Type 0} → (N → Name) → Name → List (List (Record N D)) → Name
 next_of name apex [] = apex
 next_of name apex ([] ∷ gs) = apex
 next_of name apex ((r ∷ g) ∷ gs) = name r.owner
 
--- the types that the record of an owner tells of (RFC 4035, 2.3)
+-- the types in the bitmap of an owner (RFC 4035, 2.3)
 abbrev pub group_types : {N D : Type 0} → (N → Name) → (D → ℕ) → Name → Bool → List (Record N D) → List ℕ
 group_types name rtype apex dnskey g =
     own_types name rtype apex g
@@ -28,7 +28,7 @@ group_record name rtype apex ttl dnskey g next = record {
   types = bitmap (group_types name rtype apex dnskey g);
 }
 
--- of each owner, with the next one
+-- the records of all owners, each with the next one
 abbrev pub group_records : {N D : Type 0} → (N → Name) → (D → ℕ) → Name → ℕ → Bool → List (List (Record N D)) → List ChainRecord
 group_records name rtype apex ttl dnskey [] = []
 group_records name rtype apex ttl dnskey (g ∷ gs) =

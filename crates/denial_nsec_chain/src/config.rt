@@ -5,12 +5,12 @@ ghost use Rattle.std.specs.Prelude.{◌≡◌, true, false};
 /// How NSEC records are made.
 #[derive(Clone, Copy, Debug, PartialEq, Eq, Drop)]
 pub struct GenerateNsecConfig {
-    /// Whether the record of the apex tells of DNSKEY records, which are often added only when the zone is signed.
+    /// Whether the bitmap of the apex has DNSKEY. DNSKEY records are often added only when the zone is signed.
     pub assume_dnskeys_will_be_added: bool,
 }
 
 impl GenerateNsecConfig {
-    /// DNSKEY records are to come.
+    /// A configuration under which DNSKEY records will be added later.
     pub fn new() -> Self
         ensures { result.assume_dnskeys_will_be_added ≡ true }
     {
@@ -19,7 +19,7 @@ impl GenerateNsecConfig {
         }
     }
 
-    /// The record of the apex tells of DNSKEY records only where the zone has some.
+    /// A configuration under which the bitmap of the apex has DNSKEY only where the zone has DNSKEY records.
     pub fn without_assuming_dnskeys_will_be_added(self) -> Self
         ensures { result.assume_dnskeys_will_be_added ≡ false }
     {

@@ -26,7 +26,8 @@ use std::alloc::Global;
 /// A record of the chain, which borrows its names.
 pub(crate) type NsecRecord<'a, N> = Record<&'a N, Nsec<Vec<u8>, &'a N>>;
 
-/// Whether the record of an owner tells of keys: that of the apex, where keys are to come.
+/// Whether the bitmap of an owner has DNSKEY in any case: the owner is the apex, and DNSKEY records will be added
+/// later.
 fn tells_of_keys<'a, N: ToName, D: RecordData>(
     apex: &N,
     owner: &OwnerRrs<'a, N, D>,
@@ -38,7 +39,7 @@ fn tells_of_keys<'a, N: ToName, D: RecordData>(
     dnskey && owner.owner().name_eq(apex)
 }
 
-/// Adds the type of keys, where it is told of.
+/// Adds DNSKEY, where the bitmap is to have it.
 fn add_keys(types: &mut RtypeBitmapBuilder<Vec<u8>>, keys: bool) -> Result<(), ShortBuf>
     ensures { (ts : List ℕ) → types.old ≡ bitmap ts
         → OnOk result (types.new ≡ bitmap (of_keys keys ++ ts)) }
@@ -49,7 +50,7 @@ fn add_keys(types: &mut RtypeBitmapBuilder<Vec<u8>>, keys: bool) -> Result<(), S
     Ok(())
 }
 
-/// The types that the record of an owner tells of.
+/// The types in the bitmap of an owner.
 fn types_at<'a, N: ToName, D: RecordData>(
     alloc: Global,
     apex: &N,
@@ -68,7 +69,7 @@ fn types_at<'a, N: ToName, D: RecordData>(
     Ok(types.finalize())
 }
 
-/// The record of an owner, which leads to the next one.
+/// The record of an owner. It leads to the next owner.
 fn nsec_of<'a, N: ToName, D: RecordData>(
     alloc: Global,
     apex: &N,
@@ -90,7 +91,7 @@ fn nsec_of<'a, N: ToName, D: RecordData>(
     Ok(Record::new(owner.owner(), owner.class(), ttl, nsec))
 }
 
-/// The owner behind, and behind the last one the apex.
+/// The next owner; the apex behind the last one.
 fn next_name<'a, N: ToName, D: RecordData>(apex: &'a N, behind: &[OwnerRrs<'a, N, D>]) -> &'a N
     ensures { N.name result.now ≡ next_of N.name (N.name apex.now) behind.now }
 {
@@ -100,7 +101,7 @@ fn next_name<'a, N: ToName, D: RecordData>(apex: &'a N, behind: &[OwnerRrs<'a, N
     }
 }
 
-/// The records of owners in order, the last of which leads to the apex.
+/// The records of owners in order. The last one leads to the apex.
 pub(crate) fn nsecs_of<'a, N: ToName, D: RecordData>(
     alloc: Global,
     apex: &'a N,

@@ -6,7 +6,7 @@ use Rattle.names_rdata.specs.Reading.{Part}
 use Rattle.denial_bitmap.specs.Texts.{types_text}
 use Rattle.denial_bitmap.specs.Types.{types_in}
 
--- Why octets are no bitmap, of at most so many windows: one ends too soon, or has no octets or more than 32.
+-- Why octets are no bitmap of at most a number of windows: a window ends too soon, or has no octets or more than 32.
 abbrev pub fault_upto : ℕ → List ℕ → ReadFault
 fault_upto (suc n) (w ∷ len ∷ rest) = if (len == 0) || nat_lt 32 len then Malformed else (if nat_lt (length rest) len then Short else fault_upto n (drop len rest))
 fault_upto n octets = Short

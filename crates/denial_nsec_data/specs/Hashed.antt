@@ -8,7 +8,7 @@ use Rattle.denial_fields.specs.Counted.{counted, counted_part}
 use Rattle.denial_fields.specs.Texts.{salt_text}
 use Rattle.denial_nsec_data.specs.Bitmaps.{bitmap_part, types_field}
 
--- what names are hashed with
+-- the parameters of a hash, as NSEC3PARAM data have them
 pub record Nsec3paramData : Type 0 where
   pub algorithm : ℕ
   pub flags : ℕ
@@ -35,7 +35,7 @@ with_opt_out flags = if flags % 2 == 1 then flags else flags + 1
 abbrev pub nsec3param_text : Nsec3paramData → List ℕ
 nsec3param_text d = decimal d.algorithm ++ 32 ∷ decimal d.flags ++ 32 ∷ decimal d.iterations ++ 32 ∷ salt_text d.salt
 
--- a link: what names are hashed with, the next hash and the types of this name
+-- NSEC3 data: the parameters of the hash, the next hash and the types of this name
 pub record Nsec3Data : Type 0 where
   pub params : Nsec3paramData
   pub next_owner : List ℕ
@@ -54,7 +54,7 @@ tail_part = two_parts counted_part bitmap_part
 abbrev pub nsec3_part : Part
 nsec3_part = limited (two_parts nsec3param_part tail_part)
 
--- behind a blank, if there are any octets
+-- the text of a hash behind a blank; empty where it has no octets
 abbrev pub hash_field : List ℕ → List ℕ
 hash_field [] = []
 hash_field (o ∷ octets) = 32 ∷ base32hex (o ∷ octets)

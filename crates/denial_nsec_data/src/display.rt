@@ -13,7 +13,7 @@ use names_traits::to_name::ToName;
 use names_wire::octets::Octets;
 use std::fmt;
 
-/// Types behind a blank, and none as nothing.
+/// Types that print behind a blank; an empty set prints as nothing.
 #[derive(Drop)]
 struct TypesField<'a, Octs: Octets>(&'a RtypeBitmap<Octs>);
 
@@ -30,7 +30,7 @@ impl<'a, Octs: Octets> fmt::Display for TypesField<'a, Octs> {
     }
 }
 
-/// A hash behind a blank, and that of no octets as nothing.
+/// A hash that prints behind a blank; a hash of no octets prints as nothing.
 #[derive(Drop)]
 struct HashField<'a, Octs: Octets>(&'a OwnerHash<Octs>);
 

@@ -27,8 +27,8 @@ use names_wire::octets::Octets;
 use std::cmp::Ordering;
 use std::marker::Model;
 
-/// NSEC data: the next name of the chain and the types of this one, at most 65,535 octets in all. They are equal, ordered
-/// and hashed as their names are, and then as their bitmaps.
+/// NSEC data: the next name of the chain and the types of this name, at most 65,535 octets in all. NSEC data are equal,
+/// ordered and hashed by their names first and then by their bitmaps.
 #[derive(Drop)]
 #[derive_where(PartialEq, Eq, PartialOrd, Ord, Hash; N)]
 pub struct Nsec<Octs: Octets, N: ToName> {
@@ -66,7 +66,7 @@ impl<Octs: Octets, N: ToName> Nsec<Octs, N> {
         Ok(Nsec { next_name, types })
     }
 
-    /// Whether data of these have at most 65,535 octets.
+    /// Whether data of this name and these types have at most 65,535 octets.
     pub fn fits_rdlen(next_name: &N, types: &RtypeBitmap<Octs>) -> bool
         ensures { let octets = nsec_octets N.name (nsec_with next_name.now types.now) in
             IsTrue result ↔ (length octets ≤ 65535) }
@@ -82,7 +82,7 @@ impl<Octs: Octets, N: ToName> Nsec<Octs, N> {
         &self.next_name
     }
 
-    /// Puts another next name in place of this one. It has to fit (`fits_rdlen`).
+    /// Replaces the next name. The new one has to fit (`fits_rdlen`).
     pub fn set_next_name(&mut self, next_name: N)
     where
         N: Drop,
@@ -157,7 +157,7 @@ impl<Octs: Octets, N: ToName> ComposeRecordData for Nsec<Octs, N> {
     }
 }
 
-/// Appends the fields; those that there is room for, where it is refused.
+/// Appends the fields. A refused call leaves the fields for which there was room.
 fn compose_fields<Octs: Octets, N: ToName, B: Composer>(
     nsec: &Nsec<Octs, N>,
     target: &mut B,

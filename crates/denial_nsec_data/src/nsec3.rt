@@ -26,8 +26,8 @@ use names_wire::octets::Octets;
 use std::cmp::Ordering;
 use std::marker::Model;
 
-/// NSEC3 data: what names are hashed with, the next hash of the chain and the types of this name, at most 65,535 octets in
-/// all. They are equal, ordered and hashed by these fields.
+/// NSEC3 data: the parameters of the hash, the next hash of the chain and the types of this name, at most 65,535 octets
+/// in all. NSEC3 data are equal, ordered and hashed by these fields.
 #[derive(Drop)]
 #[derive_where(PartialEq, Eq, PartialOrd, Ord, Hash)]
 pub struct Nsec3<Octs: Octets> {
@@ -81,7 +81,7 @@ impl<Octs: Octets> Nsec3<Octs> {
         })
     }
 
-    /// Whether data of these have at most 65,535 octets.
+    /// Whether data of these fields have at most 65,535 octets.
     pub fn fits_rdlen(
         salt: &Nsec3Salt<Octs>,
         next_owner: &OwnerHash<Octs>,
@@ -94,7 +94,7 @@ impl<Octs: Octets> Nsec3<Octs> {
         LongRecordData::check_append_len(len, types.as_slice().len()).is_ok()
     }
 
-    /// What names are hashed with, and the flags.
+    /// The parameters of the hash, and the flags.
     pub(crate) fn params(&self) -> &Nsec3param<Octs>
         ensures { result.now ≡ self.now.params }
     {
@@ -121,7 +121,7 @@ impl<Octs: Octets> Nsec3<Octs> {
         self.params.opt_out_flag()
     }
 
-    /// How often a hash is hashed again.
+    /// The number of additional iterations of the hash.
     pub fn iterations(&self) -> u16
         ensures { result ≡ self.now.params.iterations }
     {
@@ -140,7 +140,7 @@ impl<Octs: Octets> Nsec3<Octs> {
         &self.next_owner
     }
 
-    /// Puts another next hash in place of this one. It has to fit (`fits_rdlen`).
+    /// Replaces the next hash. The new one has to fit (`fits_rdlen`).
     pub fn set_next_owner(&mut self, next_owner: OwnerHash<Octs>)
     where
         Octs: Drop,
@@ -156,7 +156,7 @@ impl<Octs: Octets> Nsec3<Octs> {
         &self.types
     }
 
-    /// Puts other types in place of these. They have to fit (`fits_rdlen`).
+    /// Replaces the types. The new ones have to fit (`fits_rdlen`).
     pub fn set_types(&mut self, types: RtypeBitmap<Octs>)
     where
         Octs: Drop,
@@ -249,7 +249,7 @@ impl<Octs: Octets> ComposeRecordData for Nsec3<Octs> {
     }
 }
 
-/// Appends the fields; those that there is room for, where it is refused.
+/// Appends the fields. A refused call leaves the fields for which there was room.
 fn compose_fields<Octs: Octets, B: Composer>(
     nsec3: &Nsec3<Octs>,
     target: &mut B,

@@ -21,7 +21,8 @@ use std::cmp::Ordering;
 use std::fmt;
 use std::marker::Model;
 
-/// NSEC3PARAM data: algorithm, flags, iterations and salt. They are equal, ordered and hashed by these fields.
+/// NSEC3PARAM data: algorithm, flags, iterations and salt. NSEC3PARAM data are equal, ordered and hashed by these
+/// fields.
 #[derive(Drop)]
 #[derive_where(PartialEq, Eq, PartialOrd, Ord, Hash)]
 pub struct Nsec3param<Octs: Octets> {
@@ -84,7 +85,7 @@ impl<Octs: Octets> Nsec3param<Octs> {
         self.flags % 2 == 1
     }
 
-    /// Sets that bit.
+    /// Sets the flag of opt-out.
     pub fn set_opt_out_flag(&mut self)
         ensures { self.new ≡ record self.old { flags = with_opt_out self.old.flags } }
     {
@@ -93,7 +94,7 @@ impl<Octs: Octets> Nsec3param<Octs> {
         }
     }
 
-    /// How often a hash is hashed again.
+    /// The number of additional iterations of the hash.
     pub fn iterations(&self) -> u16
         ensures { result ≡ self.now.iterations }
     {
@@ -133,7 +134,7 @@ impl<'a> Nsec3param<&'a [u8]> {
     }
 }
 
-/// Reads the data, with more behind them or not.
+/// Reads the parameters at the front of the data; more may stand behind them.
 pub(crate) fn parse_params<'a>(parser: &mut Parser<'a>) -> Result<Nsec3param<&'a [u8]>, ParseError>
     ensures { ReadsPart nsec3param_part nsec3param_octets parser.old parser.new result }
 {
@@ -174,7 +175,7 @@ impl<Octs: Octets> ComposeRecordData for Nsec3param<Octs> {
     }
 }
 
-/// Appends the fields; those that there is room for, where it is refused.
+/// Appends the fields. A refused call leaves the fields for which there was room.
 pub(crate) fn compose_params<Octs: Octets, B: Composer>(
     params: &Nsec3param<Octs>,
     target: &mut B,

@@ -12,7 +12,7 @@ abbrev pub AreEnds : {N D : Type 0} → (N → Name) → Option Ends → List (R
 AreEnds name None rs = Unit {0}
 AreEnds name (Some e) rs = AreStartsBehind (of_one_owner name) e.later.now e.count rs
 
--- how many of the items that are left, the last of so many, stand before the next place
+-- how many of the items that are left, the last ones of a number, stand before the next place
 abbrev pub first_count : List ℕ → ℕ → ℕ → ℕ
 first_count [] count left = left
 first_count (s ∷ ss) count left = s - (count - left)

@@ -11,7 +11,8 @@ use names_rdata::data::RecordData;
 use names_traits::to_name::ToName;
 use plain::record::Record;
 
-/// The places at which owners begin behind the first one of some records, the last of so many.
+/// Where the owners of some records end: the places at which owners begin, behind the first owner of these records. The
+/// records are the last ones of `count` records.
 #[derive(Clone, Copy, Debug, Drop)]
 pub struct Ends<'a> {
     later: &'a [usize],
@@ -19,7 +20,7 @@ pub struct Ends<'a> {
 }
 
 impl<'a> Ends<'a> {
-    /// Those of all of so many records, by the places at which their owners begin.
+    /// The ends for all of `count` records, from the places at which their owners begin.
     pub fn new(starts: &'a [usize], count: usize) -> Self
         ensures later { result.later.now ≡ drop 1 starts.now }
         ensures count { result.count ≡ count }
@@ -31,7 +32,7 @@ impl<'a> Ends<'a> {
         Ends { later, count }
     }
 
-    /// How many of the records that are left, so many, the first owner has.
+    /// How many of the `left` records that are left belong to the first owner.
     fn first_count(self, left: usize) -> usize
         requires few { left ≤ self.count }
         ensures { result ≡ first_count self.entry.later.now self.entry.count left }
@@ -42,7 +43,7 @@ impl<'a> Ends<'a> {
         }
     }
 
-    /// Those behind some records of the first owner, which may be all that it has.
+    /// The ends of what is left behind some records of the first owner, which may be all of its records.
     fn left(self, are_all: bool) -> Self
         ensures later { result.later.now
             ≡ (if are_all then drop 1 self.entry.later.now else self.entry.later.now) }
@@ -51,7 +52,7 @@ impl<'a> Ends<'a> {
         if are_all { self.behind() } else { self }
     }
 
-    /// Those behind the first owner.
+    /// The ends of what is left behind the first owner's records.
     fn behind(self) -> Self
         ensures later { result.later.now ≡ drop 1 self.entry.later.now }
         ensures count { result.count ≡ self.entry.count }
@@ -93,7 +94,7 @@ pub(crate) fn split_owner<'a, N: ToName, D: RecordData>(
     }
 }
 
-/// As `split_owner`, by where owners begin.
+/// Splits off the records of the first owner, by the places at which owners begin.
 fn split_owner_at<'a, N: ToName, D: RecordData>(
     slice: SliceRefsOrOwned<'a, Record<N, D>>,
     ends: Ends<'a>,
@@ -142,7 +143,7 @@ pub fn split_set<'a, N: ToName, D: RecordData>(
     }
 }
 
-/// As `split_set`, by where owners begin: types alone are compared.
+/// Splits off the records of the first owner and type, by the places at which owners begin. Only types are compared.
 fn split_set_at<'a, N: ToName, D: RecordData>(
     slice: SliceRefsOrOwned<'a, Record<N, D>>,
     ends: Ends<'a>,

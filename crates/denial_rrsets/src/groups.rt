@@ -118,7 +118,7 @@ impl<'a, N: ToName, D: RecordData> Model for Rrset<'a, N, D> {
 }
 
 impl<'a, N: ToName, D: RecordData> Rrset<'a, N, D> {
-    /// The records of one owner, class and type; there is one at least. They are no RRset where their TTLs differ,
+    /// The records of one owner, class and type; there is at least one. They are no RRset where their TTLs differ,
     /// except those of RRSIG records (RFC 4034, 3).
     pub fn new(slice: SliceRefsOrOwned<'a, Record<N, D>>) -> Result<Self, MultipleTtlValues>
         requires { IsGroup (of_one_set N.name D.type_of) (items_of slice) }
@@ -130,7 +130,8 @@ impl<'a, N: ToName, D: RecordData> Rrset<'a, N, D> {
         Ok(Rrset { slice })
     }
 
-    /// As `new`.
+    /// The records of one owner, class and type, by reference; there is at least one. They are no RRset where their
+    /// TTLs differ, except those of RRSIG records (RFC 4034, 3).
     pub fn new_from_refs(slice: &'a [&'a Record<N, D>]) -> Result<Self, MultipleTtlValues>
         requires { IsGroup (of_one_set N.name D.type_of) (map (λ r. r.now) slice.now) }
         ensures { result_ok result ≡ rrset_of D.type_of (map (λ r. r.now) slice.now) }
@@ -138,7 +139,8 @@ impl<'a, N: ToName, D: RecordData> Rrset<'a, N, D> {
         Rrset::new(SliceRefsOrOwned::new_from_refs(slice))
     }
 
-    /// As `new`.
+    /// The records of one owner, class and type, in a row; there is at least one. They are no RRset where their TTLs
+    /// differ, except those of RRSIG records (RFC 4034, 3).
     pub fn new_from_owned(slice: &'a [Record<N, D>]) -> Result<Self, MultipleTtlValues>
         requires { IsGroup (of_one_set N.name D.type_of) slice.now }
         ensures { result_ok result ≡ rrset_of D.type_of slice.now }
@@ -165,7 +167,7 @@ impl<'a, N: ToName, D: RecordData> Rrset<'a, N, D> {
         first(self.slice).rtype()
     }
 
-    /// The TTL; that of the first record, of RRSIG records.
+    /// The TTL. RRSIG records may differ in TTL; theirs is that of the first record.
     pub fn ttl(&self) -> Ttl
         ensures { Some result ≡ option_map (λ r. r.ttl) (slice_get self.now 0) }
     {
@@ -234,7 +236,7 @@ fn has_type<N, D: RecordData>(slice: SliceRefsOrOwned<Record<N, D>>, rtype: Rtyp
     false
 }
 
-/// Whether records other than RRSIG records have a TTL that the first one has not.
+/// Whether records other than RRSIG records have a TTL that differs from that of the first record.
 fn have_ttls<N, D: RecordData>(slice: SliceRefsOrOwned<Record<N, D>>) -> bool
     ensures { result ≡ ttls_differ D.type_of (items_of slice.entry) }
 {

@@ -76,7 +76,8 @@ impl<'a, N: ToName, D: RecordData> RecordsIter<'a, N, D> {
         self.slice.get(0)
     }
 
-    /// Passes over the records before the first whose owner is at or below the apex: over all where none is.
+    /// Passes over the records before the first whose owner is at or below the apex; over all records where there is
+    /// none.
     pub fn skip_before(&mut self, apex: &N)
         ensures { let is = λ (r : Record N D). at_or_above (N.name apex.now) (N.name r.owner) in
             self.new ≡ from_first is self.old }

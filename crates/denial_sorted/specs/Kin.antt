@@ -21,7 +21,7 @@ abbrev pub are_kin : {A : Type 0} → (A → A → Bool) → Option A → Option
 are_kin alike None b = false
 are_kin alike (Some a) b = leads alike a b
 
--- which neighbours an item is like that comes in at a place
+-- the neighbour that an item belongs with when it is inserted at a place
 abbrev pub joins : {A : Type 0} → (A → A → Bool) → List A → ℕ → A → Kin
 joins alike xs n a = if follows alike (before_at xs n) a then Before else if leads alike a (slice_get xs n) then Behind else Neither
 

@@ -8,6 +8,6 @@ use Rattle.plain.specs.declared.record.Record.{Record}
 abbrev pub is_owned : {N D : Type 0} → (N → Name) → ℕ → Name → Record N D → Bool
 is_owned name class owner r = nat_eq r.class class && same (name r.owner) owner
 
--- one of a lesser class, or of this class and an owner that comes before
+-- whether a record has a lesser class, or this class and an owner that comes before
 abbrev pub is_before : {N D : Type 0} → (N → Name) → ℕ → Name → Record N D → Bool
 is_before name class owner r = is_lt (ordering_then (nat_cmp r.class class) (name_cmp (name r.owner) owner))

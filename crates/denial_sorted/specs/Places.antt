@@ -10,7 +10,7 @@ use Rattle.definitions.specs.Sorting.{put_by}
 abbrev pub holds_equal : {A : Type 0} → (A → A → Ordering) → A → List A → Bool
 holds_equal cmp a xs = list_any (eq_by_cmp cmp a) xs
 
--- an equal one is there; or none is, and behind those before the place is the item's
+-- an equal item is there; or none is, and the item belongs behind those before the place
 abbrev pub Places : {A : Type 0} → (A → A → Ordering) → A → List A → Result ℕ ℕ → Type 0
 Places cmp a xs (Ok _) = holds_equal cmp a xs ≡ true
 Places cmp a xs (Err i) = (holds_equal cmp a xs ≡ false) × (i ≤ length xs) × (insert xs i a ≡ put_by cmp a xs)

@@ -1,4 +1,4 @@
--- Which records are asked for by owner, class and type, and what is left without the first.
+-- The records that are asked for by owner, class and type, and what is left without the first of them.
 use Rattle.std.specs.Prelude.{◌≡◌, ℕ, ◌<◌, length, false, Bool, true, ◌&&◌, nat_eq, List, [], ◌∷◌, Option, if◌then◌else◌}
 use Rattle.std.specs.declared.option.Option.TheVariants.{None, Some}
 use Rattle.std.specs.List.{list_any, remove}

@@ -1,4 +1,4 @@
-//! Records taken out of sorted ones.
+//! Removing records from sorted ones.
 
 ghost use Rattle.std.specs.Prelude.{◌≡◌, None, Some, not};
 ghost use Rattle.std.specs.List.{filter, list_any};
@@ -22,7 +22,7 @@ use plain::Class;
 use plain::record::Record;
 
 impl<N: ToName + Drop, D: RecordData + CanonicalOrd + Drop, S: Sorter> SortedRecords<N, D, S> {
-    /// Takes out each record of an owner, of the class and type that are given, and says whether there was one.
+    /// Removes each record of an owner, of the class and type that are given, and returns whether there was one.
     pub fn remove_all_by_name_class_rtype(
         &mut self,
         name: &N,
@@ -42,7 +42,7 @@ impl<N: ToName + Drop, D: RecordData + CanonicalOrd + Drop, S: Sorter> SortedRec
         true
     }
 
-    /// Takes out the first record of an owner, of the class and type that are given, and says whether there was one.
+    /// Removes the first record of an owner, of the class and type that are given, and returns whether there was one.
     pub fn remove_first_by_name_class_rtype(
         &mut self,
         name: &N,
@@ -83,8 +83,8 @@ fn is_of<N: ToName, D: RecordData>(
     of_class && of_type && rr.owner().name_eq(name)
 }
 
-/// The place of the first record of an owner, of the class and type that are given. It is sought by where owners begin,
-/// unless there are several classes and none is given.
+/// The place of the first record of an owner, of the class and type that are given. It is found by the places at which
+/// owners begin, unless there are several classes and none is given.
 fn first_of<N: ToName, D: RecordData + CanonicalOrd>(
     records: &[Record<N, D>],
     starts: &[usize],
@@ -104,7 +104,7 @@ fn first_of<N: ToName, D: RecordData + CanonicalOrd>(
     first_in(records, span, name, class, rtype)
 }
 
-/// Where the records of an owner and of the class that is given stand, and maybe others: all of them, where no class is
+/// A span with all records of an owner and of the class that is given. It is the span of all records where no class is
 /// given and there are several.
 fn span_sought<N: ToName, D: RecordData + CanonicalOrd>(
     records: &[Record<N, D>],
@@ -124,7 +124,8 @@ fn span_sought<N: ToName, D: RecordData + CanonicalOrd>(
     }
 }
 
-/// The same for records of any class: of that of all records, if they are of one.
+/// A span with all records of an owner, whatever their class. It is the span of all records where there are several
+/// classes.
 fn span_of_any<N: ToName, D: RecordData + CanonicalOrd>(
     records: &[Record<N, D>],
     starts: &[usize],
@@ -145,8 +146,8 @@ fn span_of_any<N: ToName, D: RecordData + CanonicalOrd>(
     }
 }
 
-/// The place of the first record of an owner, of the class and type that are given, where no others of this owner and
-/// class stand.
+/// The place of the first record of the class and type that are given, in a span that has all records of the owner and
+/// class.
 fn first_in<N: ToName, D: RecordData>(
     records: &[Record<N, D>],
     span: Span,

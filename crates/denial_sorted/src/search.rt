@@ -38,7 +38,8 @@ pub(crate) fn span_of<N: ToName, D: RecordData + CanonicalOrd, O: ToName>(
     span_by(records, starts, class, owner, usize::MAX)
 }
 
-/// As `span_of`, by a guess how many owners come before. One of more than there are says nothing.
+/// Where the records of a class and an owner stand, with a guess of how many owners come before. A guess beyond the
+/// number of owners is ignored.
 pub(crate) fn span_by<N: ToName, D: RecordData + CanonicalOrd, O: ToName>(
     records: &[Record<N, D>],
     starts: &[usize],
@@ -80,8 +81,9 @@ fn is_owned<N: ToName, D, O: ToName>(rr: &Record<N, D>, class: Class, owner: &O)
     rr.class() == class && rr.owner().name_eq(owner)
 }
 
-/// How many owners come before a class and an owner, by a guess. Where it is too high, what is looked at moves away from
-/// it in steps that double, until it is past the place; then, and where the guess is too low, the rest is halved.
+/// How many owners come before a class and an owner, with a guess. Where the guess is too high, the search moves down
+/// from it in steps that double until it is past the place. Then, and where the guess is too low, the rest is searched
+/// by halves.
 fn count_before<N: ToName, D: RecordData + CanonicalOrd, O: ToName>(
     records: &[Record<N, D>],
     starts: &[usize],
@@ -109,7 +111,7 @@ fn count_before<N: ToName, D: RecordData + CanonicalOrd, O: ToName>(
     low
 }
 
-/// How many owners come before at least and at most, as a look at the one at an index tells.
+/// The least and the greatest number of owners that can come before, as the owner at the guessed index shows.
 fn bounds_by<N: ToName, D: RecordData + CanonicalOrd, O: ToName>(
     records: &[Record<N, D>],
     starts: &[usize],
@@ -132,7 +134,7 @@ fn bounds_by<N: ToName, D: RecordData + CanonicalOrd, O: ToName>(
     (0, guess)
 }
 
-/// An index within bounds: by a step below the upper one, or half way where that is nearer.
+/// An index within bounds: one step below the upper bound, or half way where that is nearer.
 fn probe(low: usize, high: usize, step: usize) -> usize
     requires some { low < high }
     requires step { 0 < step }
@@ -154,7 +156,7 @@ fn is_before<N: ToName, D, O: ToName>(rr: &Record<N, D>, class: Class, owner: &O
     }
 }
 
-/// The class of all records, if they are of one.
+/// The class of all records, where they have one class.
 pub(crate) fn only_class<N: ToName, D: RecordData + CanonicalOrd>(
     records: &[Record<N, D>],
 ) -> Option<Class>

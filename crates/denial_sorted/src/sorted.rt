@@ -29,7 +29,7 @@ use std::marker::{Model, PhantomData};
 use std::slice;
 use thiserror::Error;
 
-/// Why a record wasn't put into sorted ones. It is handed back.
+/// Why a record wasn't inserted into sorted ones. The record is returned.
 #[derive(Debug, Drop, Error)]
 pub enum InsertError<N, D> {
     /// An equal record is there.
@@ -39,8 +39,8 @@ pub enum InsertError<N, D> {
     Memory(Record<N, D>),
 }
 
-/// Records in canonical order, no two of them equal, whatever their TTLs (RFC 4034, 6). A contract sees the records. An
-/// owner is found among them by binary search over the places at which owners begin.
+/// Records in canonical order, no two of them equal, whatever their TTLs (RFC 4034, 6). A contract sees the records.
+/// The records of an owner are found by binary search over the places at which owners begin.
 #[derive(Drop)]
 pub struct SortedRecords<N: ToName, D: RecordData + CanonicalOrd, S = DefaultSorter> {
     pub(crate) records: Vec<Record<N, D>>,
@@ -79,7 +79,7 @@ impl<N: ToName + Drop, D: RecordData + CanonicalOrd + Drop, S: Sorter> SortedRec
         }
     }
 
-    /// The records of a vector, of those that are equal the first.
+    /// The records of a vector; of equal records the first is kept.
     pub fn from_vec(records: Vec<Record<N, D>>) -> Result<Self, AllocError>
         requires { IsTotalOrder D.canonical }
         ensures { let by = record_canonical_cmp N.name D.type_of D.canonical in
@@ -95,7 +95,7 @@ impl<N: ToName + Drop, D: RecordData + CanonicalOrd + Drop, S: Sorter> SortedRec
         })
     }
 
-    /// The records of an iterator, of those that are equal the first.
+    /// The records of an iterator; of equal records the first is kept.
     pub fn from_iter<U: IntoIterator<Item = Record<N, D>>>(
         alloc: Global,
         records: U,
@@ -113,8 +113,8 @@ impl<N: ToName + Drop, D: RecordData + CanonicalOrd + Drop, S: Sorter> SortedRec
         Ok(sorted)
     }
 
-    /// Adds the records of an iterator that have no equal one here or earlier among them. Where it is refused, none is
-    /// added.
+    /// Adds the records of an iterator that have no equal record here or earlier in the iterator. A refused call adds
+    /// none.
     pub fn extend<U: IntoIterator<Item = Record<N, D>>>(
         &mut self,
         records: U,
@@ -129,7 +129,7 @@ impl<N: ToName + Drop, D: RecordData + CanonicalOrd + Drop, S: Sorter> SortedRec
         add_all::<N, D, S, U>(&mut self.records, &mut self.starts, records)
     }
 
-    /// Puts a record in its place, unless an equal one is there: then, and where there is no memory, all is as it was.
+    /// Inserts a record at its place. Where an equal record is there or memory runs out, nothing changes.
     pub fn insert(&mut self, rr: Record<N, D>) -> Result<(), InsertError<N, D>>
         ensures { let by = record_canonical_cmp N.name D.type_of D.canonical in
             Inserts by rr self.old result self.new }
@@ -178,7 +178,7 @@ impl<N: ToName + Drop, D: RecordData + CanonicalOrd + Drop, S: Sorter> SortedRec
     }
 }
 
-/// Puts records in order, and leaves of those that are equal the first. They are as they were where it is refused.
+/// Puts records in order; of equal records the first is kept. A refused call leaves them as they were.
 fn order_all<N: ToName + Drop, D: RecordData + CanonicalOrd + Drop, S: Sorter>(
     records: &mut Vec<Record<N, D>>,
 ) -> Result<(), AllocError>
@@ -192,7 +192,7 @@ fn order_all<N: ToName + Drop, D: RecordData + CanonicalOrd + Drop, S: Sorter>(
     Ok(())
 }
 
-/// Whether the canonical order tells two records apart: names last, since comparing them takes longest.
+/// Whether two records are equal in canonical order. Names are compared last, since that takes longest.
 fn are_equal<N: ToName, D: RecordData + CanonicalOrd>(a: &Record<N, D>, b: &Record<N, D>) -> bool
     ensures { let by = record_canonical_cmp N.name D.type_of D.canonical in
         result ≡ eq_by_cmp by a.now b.now }
@@ -209,8 +209,8 @@ fn are_equal<N: ToName, D: RecordData + CanonicalOrd>(a: &Record<N, D>, b: &Reco
     a.owner().name_eq(b.owner())
 }
 
-/// Puts a record at its place, and moves the places at which owners begin. All is as it was where there is no memory:
-/// then the record is handed back.
+/// Inserts a record at its place, and moves the places at which owners begin. Where memory runs out, nothing changes
+/// and the record is returned.
 fn put_at<N: ToName, D: RecordData>(
     records: &mut Vec<Record<N, D>>,
     starts: &mut Vec<usize>,
@@ -235,8 +235,8 @@ fn put_at<N: ToName, D: RecordData>(
     Ok(())
 }
 
-/// Puts an item in at a place, or hands it back where there is no memory. It goes to the end, and the items from the
-/// place on are turned by one: a move of memory as a whole, where `Vec::insert` goes from item to item.
+/// Inserts an item at a place, or returns it where memory runs out. The item is appended, and the items from the place
+/// on are rotated by one: one block move, where `Vec::insert` goes from item to item.
 fn insert_at<T>(items: &mut Vec<T>, place: usize, item: T) -> Result<(), T>
     requires { place ≤ length items.old.items }
     ensures items { items.new.items
@@ -250,7 +250,7 @@ fn insert_at<T>(items: &mut Vec<T>, place: usize, item: T) -> Result<(), T>
     Ok(())
 }
 
-/// Adds records to ordered ones, and leaves the places at which owners begin then. Where it is refused, none is added.
+/// Adds records to ordered ones, and updates the places at which owners begin. A refused call adds none.
 fn add_all<
     N: ToName + Drop,
     D: RecordData + CanonicalOrd + Drop,
@@ -285,7 +285,7 @@ fn add_all<
     Ok(())
 }
 
-/// Where an equal record stands, or else the place where a record belongs.
+/// The place of an equal record, or the place where a record belongs if there is none.
 fn place_for<N: ToName, D: RecordData + CanonicalOrd>(
     records: &[Record<N, D>],
     rr: &Record<N, D>,

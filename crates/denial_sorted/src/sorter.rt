@@ -7,10 +7,10 @@ use plain::record::Record;
 use std::alloc::AllocError;
 use std::cmp::Ordering;
 
-/// A stable sort of records by the comparison that it is handed.
+/// A stable sort of records by a comparison that the caller passes.
 pub trait Sorter {
-    /// Sorts the records, those that compare equal in the order that they had. They are as they were where it is
-    /// refused for want of memory.
+    /// Sorts the records; records that compare equal keep their order. Where memory runs out, the records stay as they
+    /// were.
     fn sort_by<N, D, F: Fn(&Record<N, D>, &Record<N, D>) -> Ordering>(
         records: &mut Vec<Record<N, D>>,
         compare: F,

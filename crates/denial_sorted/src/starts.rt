@@ -1,4 +1,4 @@
-//! The places at which groups of neighbours that are alike begin, kept as items come and go.
+//! The places at which groups of neighbours that are alike begin, updated as items are added and removed.
 
 ghost use Rattle.std.specs.Prelude.{◌≡◌, ◌++◌, ◌∷◌, [], ◌+◌, ◌<◌, ◌≤◌, length, map, take, drop, vec_capacity, vec_len, nat_lt, true, false, IfOk};
 ghost use Rattle.std.specs.List.{AllByRecursion};
@@ -22,7 +22,7 @@ pub(crate) fn starts_of<T, K: Alike<T>>(
     Ok(starts)
 }
 
-/// Writes the places at which a group begins over what stood there. There is room for them.
+/// Replaces the places in `starts` by those at which a group begins. There is room for them.
 pub(crate) fn fill<T, K: Alike<T>>(starts: &mut Vec<usize>, items: &[T])
     requires { length (starts_in K.alike items.now) ≤ vec_capacity starts.old }
     ensures { starts.new.items ≡ starts_in K.alike items.now }
@@ -52,17 +52,17 @@ fn push_within(starts: &mut Vec<usize>, place: usize)
     }
 }
 
-/// Which neighbours an item that comes in among others is like.
+/// The neighbour that an inserted item belongs with.
 #[derive(Clone, Copy, Debug, PartialEq, Eq)]
 pub(crate) enum Kin {
-    /// The one before it.
+    /// The item before it.
     Before,
-    /// The one behind it, and not the one before.
+    /// The item behind it, and not the item before it.
     Behind,
     Neither,
 }
 
-/// Which neighbours an item is like that comes in at a place.
+/// The neighbour that an item belongs with when it is inserted at a place.
 pub(crate) fn kin_at<T, K: Alike<T>>(items: &[T], place: usize, item: &T) -> Kin
     ensures { result ≡ joins K.alike items.now place item.now }
 {
@@ -89,8 +89,8 @@ pub(crate) fn count_before(starts: &[usize], place: usize) -> usize
     starts.partition_point(|start| *start < place)
 }
 
-/// Moves the places from the one at an index on by one, and adds or keeps that of an item which came in before them,
-/// unless it is like the one before it. There is room for one more.
+/// Raises the places from an index on by one. The place of the item that was inserted before them is added or kept,
+/// unless the item belongs with the one before it. There is room for one more place.
 pub(crate) fn move_behind(starts: &mut Vec<usize>, at: usize, place: usize, kin: Kin)
     requires room { vec_len starts.old < vec_capacity starts.old }
     requires within { at ≤ length starts.old.items }
@@ -110,7 +110,7 @@ pub(crate) fn move_behind(starts: &mut Vec<usize>, at: usize, place: usize, kin:
     }
 }
 
-/// Makes each place from an index on greater by one.
+/// Raises each place from an index on by one.
 fn raise_from(starts: &mut Vec<usize>, at: usize)
     requires within { at ≤ length starts.old.items }
     requires few { AllByRecursion (λ s. s < usize.MAX) starts.old.items }
@@ -121,7 +121,7 @@ fn raise_from(starts: &mut Vec<usize>, at: usize)
     raise(&mut starts[at..]);
 }
 
-/// Makes each place greater by one.
+/// Raises each place by one.
 fn raise(places: &mut [usize])
     requires { AllByRecursion (λ p. p < usize.MAX) places.old }
     ensures { places.new ≡ map (λ p. p + 1) places.old }

@@ -25,7 +25,7 @@ refusal_of error.UnknownRollType = Some keys.UnknownRollType
 refusal_of error.MissingTimestamp = Some keys.MissingTimestamp
 refusal_of error.Memory = None
 
--- a setting of a key is refused so
+-- a setting of a key is refused for this reason
 abbrev pub IsRefusedAs : Option Refusal → Result Key Refusal → Type 0
 IsRefusedAs None set = ⊥
 IsRefusedAs (Some refusal) set = set ≡ Err refusal
@@ -47,7 +47,7 @@ abbrev pub Gives : {X : Type 0} → (X → List Action) → KeySetState → KeyS
 Gives view old new (Ok x) answer = answer ≡ Ok (new, view x)
 Gives view old new (Err e) answer = (new ≡ old) × Fails (refusal_of e) answer
 
--- the same of a call that takes no memory
+-- the answer of a call that takes no memory is this refusal
 abbrev pub Refuses : Option Refusal → Answer → Type 0
 Refuses None answer = ⊥
 Refuses (Some refusal) answer = answer ≡ Err refusal
@@ -56,7 +56,8 @@ abbrev pub GivesAtOnce : {X : Type 0} → (X → List Action) → KeySetState �
 GivesAtOnce view old new (Ok x) answer = answer ≡ Ok (new, view x)
 GivesAtOnce view old new (Err e) answer = (new ≡ old) × Refuses (refusal_of e) answer
 
--- the same of calls that answer actions, and of those that answer nothing
+-- what calls returned and left is what the definition gives, for calls that answer actions and for calls that answer
+-- nothing
 abbrev pub Acts : KeySetState → KeySetState → Result (Vec Action) Error → Answer → Type 0
 Acts old new result answer = Gives (λ (v : Vec Action). v.items) old new result answer
 

@@ -23,7 +23,7 @@ pub record Reports : Type 0 where
 abbrev pub no_reports : Reports
 no_reports = record { first = None; second = None }
 
--- with a call that was accepted
+-- the reports of a roll with a call that was accepted
 abbrev pub noted : RollType → Call → ℕ → Reports → Reports
 noted r (Report1 q ttl) now p = if same_roll q r then record p { first = Some (now, ttl) } else p
 noted r (Report2 q ttl) now p = if same_roll q r then record p { second = Some (now, ttl) } else p

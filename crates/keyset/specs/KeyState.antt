@@ -162,7 +162,7 @@ algorithms_fault r olds news s = if is_of_algorithms r || same_algorithms s olds
 abbrev pub roles_after : RollType → List Reference → List Reference → List (Reference × Key) → List KeyType
 roles_after r olds news es = map (λ e. started_roles r (listed olds e.0) (listed news e.0) e.1.roles) es
 
--- some key that the roll touches is such a one
+-- some key that the roll touches meets a requirement
 abbrev pub has_needed : RollType → Need → List KeyType → Bool
 has_needed r n ts = list_any (λ t. touches r t && meets_need n t) ts
 
@@ -297,7 +297,7 @@ ds_seen_at time k = Ok (with_stamps (see_ds time) k)
 abbrev pub rrsig_seen_at : ℕ → Key → Result Key Refusal
 rrsig_seen_at time k = Ok (with_stamps (see_rrsig time) k)
 
--- old, and no longer used
+-- the flags of a role that is old and no longer used
 abbrev pub set_stale : Flags → Flags
 set_stale f = record f { old = true; signer = false; present = false; at_parent = false }
 

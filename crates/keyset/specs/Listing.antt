@@ -1,4 +1,4 @@
--- References of which a call lists the first so many.
+-- The first references of a call's list.
 use Rattle.std.specs.Prelude.{◌≡◌, ◌<◌, ℕ, Bool, false, List, get_or, take}
 use Rattle.std.specs.Borrow.{Bor}
 use Rattle.std.specs.List.{list_any}
@@ -9,7 +9,7 @@ pub record Listing : Type 0 where
   pub all : List Reference
   pub count : ℕ
 
--- what is listed
+-- the references that are listed
 abbrev pub listed_by : Listing → List Reference
 listed_by l = take l.count l.all
 

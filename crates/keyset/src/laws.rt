@@ -8,27 +8,28 @@ pub fn keyset_laws()
     // A wait is accepted exactly where the TTL has passed since each stamp that it reads.
     ensures waits_are_exact { WaitsAreExact }
 
-    // An accepted call leads to the next phase, and answers its actions.
+    // An accepted call leads to the next phase, and returns its actions.
     ensures starts_enter { StartsEnter }
     ensures phases_follow { PhasesFollow }
 {}
 
-/// What holds behind all calls, accepted and refused, from an empty set on, where no flag and no stamp is set by hand.
+/// What holds after all calls, accepted and refused, on an empty set at first, where no flag and no stamp is set by
+/// hand.
 pub fn run_laws()
     // A wait counts from the report before it, whatever calls stand between.
     ensures waits_count_from_reports { WaitsCountFromReports }
 
-    // The flags of a role keep what they are to keep, and rolls run together only where they may.
+    // The flags of a role keep their invariant, and rolls run together only where they may.
     ensures roles_keep { RolesKeep }
     ensures rolls_run_together { RollsRunTogether }
 {}
 
-/// The keys of a set have different tags, whatever calls it has behind it.
+/// The keys of a set have different tags, whatever calls were made on it.
 pub fn tags_differ()
     ensures { TagsDiffer }
 {}
 
-/// Seven rolls, one after another, worked through on the definitions, and calls that are refused on the way.
+/// Seven rolls, one after another, and calls that are refused on the way, worked through on the definitions.
 pub fn rolls_by_hand()
     ensures published { RollsSevenTimes }
     ensures refused { RefusesOnTheWay }

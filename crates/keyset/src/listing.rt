@@ -8,7 +8,7 @@ use std::collections::HashSet;
 use std::convert::AsStr;
 use std::marker::Model;
 
-/// The first so many of some references, each found by its hash; where no memory is left for that, by going over them.
+/// The first `count` of some references, each found by its hash, or one by one where there is no memory for hashes.
 #[derive(Drop)]
 pub(crate) struct Listing<'a, T: AsStr> {
     all: &'a [T],
@@ -93,7 +93,7 @@ fn with<'a>(index: Option<HashSet<&'a str>>, reference: &'a str) -> Option<HashS
     }
 }
 
-/// Whether one of the references is this one.
+/// Whether a reference is among others.
 fn is_listed<T: AsStr>(references: &[T], reference: &str) -> bool
     ensures { result ≡ listed (map T.text references.now) reference.now }
 {

@@ -1,4 +1,4 @@
-//! What is looked up and changed in a set's two maps, seen in order of reference and of kind.
+//! Reading and changing a set's two maps, which contracts see in order of reference and of kind.
 ghost use Rattle.std.specs.Prelude.{◌≡◌, ℕ, ◌*◌, ◌≤◌, string_bytes, OnOk, OnErr};
 ghost use Rattle.std.specs.List.{list_any};
 ghost use Rattle.std.specs.FinMap.Entries.{put};
@@ -48,7 +48,7 @@ pub(crate) fn greatest_rest(
     greatest
 }
 
-/// Whether a roll that is running is in the way of this one.
+/// Whether a running roll conflicts with this one.
 pub(crate) fn is_blocked(rollstates: &HashMap<RollType, RollState>, rolltype: RollType) -> bool
     ensures { result ≡ list_any (λ e. conflicts rolltype e.0) (by_kind rollstates.now.entries) }
 {
@@ -57,7 +57,7 @@ pub(crate) fn is_blocked(rollstates: &HashMap<RollType, RollState>, rolltype: Ro
         .any(|running| rolltype.conflicts_with(*running))
 }
 
-/// Whether keys would serve in all that a roll is of, behind its start.
+/// Whether keys would serve in all roles that a roll requires, after its start.
 pub(crate) fn serves_after_start<T: AsStr>(
     keys: &HashMap<String, Key>,
     rolltype: RollType,
@@ -88,7 +88,7 @@ fn has_needed_after_start<T: AsStr>(
     })
 }
 
-/// The roles of a key behind a start.
+/// The roles of a key after a start.
 fn keytype_after_start<T: AsStr>(
     reference: &str,
     key: &Key,
@@ -104,7 +104,7 @@ fn keytype_after_start<T: AsStr>(
     rolltype.roles_after_start(key.keytype(), is_old, is_new)
 }
 
-/// Puts a key in.
+/// Inserts a key.
 pub(crate) fn put_key(
     keys: &mut HashMap<String, Key>,
     reference: String,
@@ -201,7 +201,7 @@ pub(crate) fn step_keys(
     });
 }
 
-/// Takes a key out.
+/// Removes a key.
 pub(crate) fn remove_key(keys: &mut HashMap<String, Key>, reference: &str)
     ensures { let es = by_reference keys.old.entries in
         by_reference keys.new.entries ≡ removed reference.now es }

@@ -46,7 +46,7 @@ impl Model for KeySet {
     } };
 }
 
-/// It answers want of memory.
+/// A clone is refused where memory runs out.
 impl Clone for KeySet {
     ghost use Rattle.std.specs.Prelude.{◌≡◌};
 
@@ -291,10 +291,10 @@ impl KeySet {
 
     /// Starts a roll from the old keys to the new ones.
     ///
-    /// Refuses, in this order: where the roll runs already, where another is in its way, at the first old key
-    /// that isn't there or isn't of a kind that the roll touches, at the first such new key or one that isn't
-    /// fresh or is listed before, where old and new keys have other algorithms though the roll isn't one of
-    /// algorithms, and where after the start no key would serve in one of the roles.
+    /// Refuses, in this order: where the roll runs already; where another roll conflicts; at the first old key that
+    /// doesn't exist or isn't of a kind that the roll touches; at the first such new key, or one that isn't fresh or is
+    /// listed before; where old and new keys have different algorithms, unless the roll is one of algorithms; and where
+    /// after the start no key would serve in one of the roles.
     pub fn start_roll<T: AsStr>(
         &mut self,
         rolltype: RollType,
@@ -313,7 +313,7 @@ impl KeySet {
         Ok(actions)
     }
 
-    /// Reports that a roll's first changes are on all servers; `ttl` is the greatest one of what they replaced.
+    /// Reports that a roll's first changes are on all servers; `ttl` is the greatest TTL of what they replaced.
     pub fn propagation1_complete(
         &mut self,
         rolltype: RollType,
@@ -347,7 +347,7 @@ impl KeySet {
         Ok(actions)
     }
 
-    /// Reports that a roll's second changes are on all servers; `ttl` is the greatest one of what they replaced.
+    /// Reports that a roll's second changes are on all servers; `ttl` is the greatest TTL of what they replaced.
     pub fn propagation2_complete(
         &mut self,
         rolltype: RollType,
@@ -392,7 +392,7 @@ impl KeySet {
         Ok(Vec::new(self.alloc))
     }
 
-    /// What a roll asks for in its phase, nothing where it doesn't run.
+    /// What a roll asks for in its phase; nothing where it doesn't run.
     pub fn actions(&self, rolltype: RollType) -> Result<Vec<Action>, Error>
         ensures { Lists (actions_in rolltype (phase_of self.now rolltype)) result }
     {

@@ -1,4 +1,4 @@
-//! What is set of a key by hand, outside rolls.
+//! What is set by hand of a key, outside rolls.
 ghost use Rattle.std.specs.Prelude.{◌≡◌};
 ghost use Rattle.keyset.specs.KeyAnswers.{Sets};
 ghost use Rattle.keyset.specs.KeyState.{set_stale, on_each, on_ksk, set_present, set_signer, set_at_parent, may_sign, may_be_at_parent, published_once};
@@ -6,29 +6,29 @@ ghost use Rattle.keyset.specs.KeySteps.{set_to};
 
 use keyset_keys::{Error, Key, KeyState, KeyType, UnixTime};
 
-/// What is set of a key.
+/// A value that is set by hand of a key.
 #[derive(Clone, Copy, Debug)]
 pub(crate) enum Setting {
-    /// Whether it is no longer managed by its references.
+    /// Whether the key is no longer managed by its references.
     Decoupled(bool),
-    /// Whether it is in the DNSKEY RRset, from this moment on.
+    /// Whether the key is in the DNSKEY RRset, from this moment on.
     Present(bool, UnixTime),
-    /// Whether it signs.
+    /// Whether the key signs.
     Signer(bool),
-    /// Whether it is in the parent's DS RRset.
+    /// Whether the key is in the parent's DS RRset.
     AtParent(bool),
-    /// Since when all servers have it in the DNSKEY RRset.
+    /// Since when all servers have the key in the DNSKEY RRset.
     Visible(UnixTime),
-    /// Since when all servers of the parent have its DS record.
+    /// Since when all servers of the parent have the key's DS record.
     DsVisible(UnixTime),
-    /// Since when all servers have its signatures.
+    /// Since when all servers have the key's signatures.
     RrsigVisible(UnixTime),
-    /// That it is old and no longer used.
+    /// The key is old and no longer used.
     Stale,
 }
 
 impl Setting {
-    /// Sets it, where the key has a role for it.
+    /// Sets the value, where the key has a role for it.
     pub(crate) fn apply(self, key: &mut Key) -> Result<(), Error>
         ensures { Sets key.old key.new result (set_to self key.old) }
     {
@@ -56,7 +56,7 @@ impl Setting {
     }
 }
 
-/// Puts a key into the DNSKEY RRset or takes it out; the first moment at which it was put in stays.
+/// Puts a key into the DNSKEY RRset or takes it out. The first moment at which it was put in is kept.
 fn put(key: &mut Key, present: bool, now: UnixTime)
     ensures { Ok key.new ≡ set_to (Setting.Present present now) key.old }
 {

@@ -7,9 +7,9 @@ use std::time::Duration;
 /// Why a call on a key set is refused. A refused call changes nothing.
 #[derive(Debug, Drop)]
 pub enum Error {
-    /// A key of this reference is there.
+    /// A key of this reference exists.
     KeyExists,
-    /// No key of this reference is there.
+    /// No key of this reference exists.
     KeyNotFound,
     /// The key isn't stale.
     KeyNotOld,
@@ -19,17 +19,17 @@ pub enum Error {
     WrongKeyType,
     /// A new key has been in use, or is listed twice.
     WrongKeyState,
-    /// After the roll's start no key would serve in one of its roles.
+    /// After the roll's start no key would serve in one of the roles.
     NoSuitableKeyPresent,
     /// The roll isn't in the phase of the call.
     WrongStateForRollOperation,
-    /// A roll is running that this one can't run beside.
+    /// A roll is running that conflicts with this one.
     ConflictingRollInProgress,
-    /// The algorithms of the new keys aren't those of the old ones.
+    /// The algorithms of the new keys differ from those of the old ones.
     AlgorithmSetsMismatch,
-    /// So much time has to pass first.
+    /// This much time has to pass first.
     Wait(Duration),
-    /// No roll is called so.
+    /// No roll has this name.
     UnknownRollType,
     /// A key lacks the stamp from which a wait counts.
     MissingTimestamp,

@@ -87,28 +87,28 @@ impl KeyState {
         self.available && !self.old && !self.signer && !self.present && !self.at_parent
     }
 
-    /// The same flags, but for whether the key is on its way out.
+    /// The flags with this value of whether the key is on its way out.
     pub fn with_old(self, old: bool) -> Self
         ensures { result ≡ set_old old self }
     {
         KeyState { old, ..self }
     }
 
-    /// The same flags, but for whether the key signs.
+    /// The flags with this value of whether the key signs.
     pub fn with_signer(self, signer: bool) -> Self
         ensures { result ≡ set_signer signer self }
     {
         KeyState { signer, ..self }
     }
 
-    /// The same flags, but for whether the key is in the DNSKEY RRset.
+    /// The flags with this value of whether the key is in the DNSKEY RRset.
     pub fn with_present(self, present: bool) -> Self
         ensures { result ≡ set_present present self }
     {
         KeyState { present, ..self }
     }
 
-    /// The same flags, but for whether the parent's DS RRset has the key.
+    /// The flags with this value of whether the parent's DS RRset has the key.
     pub fn with_at_parent(self, at_parent: bool) -> Self
         ensures { result ≡ set_at_parent at_parent self }
     {
@@ -166,7 +166,8 @@ pub enum KeyType {
     Ksk(KeyState),
     /// A zone signing key, which signs the other RRsets.
     Zsk(KeyState),
-    /// A combined signing key, which does both: its flags as a key signing key, and as a zone signing key.
+    /// A combined signing key, which does both. Its flags are those as a key signing key, then those as a zone signing
+    /// key.
     Csk(KeyState, KeyState),
     /// A key of another owner, which is put into the DNSKEY RRset and signs nothing here.
     Include(KeyState),
@@ -175,7 +176,7 @@ pub enum KeyType {
 impl KeyType {
     ghost use Rattle.keyset_keys.specs.Keys.{main_role, each_is, is_fresh, is_stale};
 
-    /// The flags that stand for the key: of a combined key those of its role as a key signing key.
+    /// The flags that represent the key. A combined key is represented by its role as a key signing key.
     pub fn main_role(&self) -> KeyState
         ensures { result ≡ main_role self.now }
     {
@@ -416,7 +417,7 @@ impl Key {
     }
 }
 
-/// It answers want of memory.
+/// A clone is refused where memory runs out.
 impl Clone for Key {
     ghost use Rattle.std.specs.Prelude.{◌≡◌};
 

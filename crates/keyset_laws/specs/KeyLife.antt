@@ -39,8 +39,8 @@ same_thing DnskeyAnswer DnskeyAnswer = true
 same_thing ZoneAnswer ZoneAnswer = true
 same_thing _ _ = false
 
--- what it shows of the keys: the DS set the keys at the parent; the DNSKEY answer the keys present and those that sign it; an
--- answer of the zone those that sign it
+-- What a thing shows of the keys: the DS set the keys at the parent; the DNSKEY answer the keys present and those that
+-- sign it; an answer of the zone those that sign it.
 abbrev pub content : Thing → KeySetState → List (List Reference)
 content DsSet s = ds s ∷ []
 content DnskeyAnswer s = present s ∷ keysigners s ∷ []
@@ -56,7 +56,7 @@ same_content [] [] = true
 same_content (p ∷ ps) (q ∷ qs) = same_references p q && same_content ps qs
 same_content _ _ = false
 
--- whether it changes at some call of these states, each but the first behind one call
+-- whether the content of a thing changes at some call of these states, each but the first behind one call
 abbrev pub changes_along : Thing → List KeySetState → Bool
 changes_along thing [] = false
 changes_along thing (s ∷ []) = false
@@ -66,7 +66,7 @@ changes_along thing (s ∷ t ∷ ss) = not (same_content (content thing s) (cont
 abbrev pub replaced : Thing → List KeySetState → ℕ → ℕ → Bool
 replaced thing ss i c = nat_lt i c && changes_along thing (take (c + 1 - i) (drop i ss))
 
--- of which things a roll's first report says that they are everywhere, and its second
+-- the things of which a roll's first report says that they are everywhere, and those of its second
 abbrev pub reported_first : RollType → List Thing
 reported_first roll.KskRoll = DnskeyAnswer ∷ []
 reported_first roll.KskDoubleDsRoll = DsSet ∷ []

@@ -93,5 +93,5 @@ pub record RetiresAndMeets : Type 0 where
   pub one_at_the_parent : met double_ds 10 13 13 ∷ is_retired DsSet double_ds 10 7209 ∷ is_retired DsSet double_ds 10 7210 ∷ [] ≡ false ∷ false ∷ true ∷ []
   -- an answer that two keys signed is retired with the TTL of the second report
   pub signed_twice : met double_signatures 18 18 10 ∷ is_retired ZoneAnswer double_signatures 10 14399 ∷ is_retired ZoneAnswer double_signatures 10 14400 ∷ [] ≡ true ∷ false ∷ true ∷ []
-  -- that of both algorithms outlives the key whose tag another has by then
+  -- the answer of both algorithms outlives the key whose tag another has by then
   pub signed_by_both_algorithms : met algorithm_roll 18 18 10 ∷ is_retired ZoneAnswer algorithm_roll 10 14401 ∷ [] ≡ true ∷ false ∷ []

@@ -30,7 +30,7 @@ shows OfZone DnskeyAnswer q s = listed (present s) q
 shows OfZone ZoneAnswer q s = listed (zonesigners s) q
 shows _ _ q s = true
 
--- the same, read from the roles of the key
+-- whether a thing shows a key in the role that its side needs, read from the roles of the key
 abbrev pub is_shown : Side → Thing → KeyType → Bool
 is_shown OfKeys DsSet t = ksk_is is_at_parent t
 is_shown OfKeys DnskeyAnswer t = main_is is_present t && ksk_is signs t
@@ -70,10 +70,10 @@ abbrev pub stays : Side → KeyType → Bool
 stays OfKeys t = ksk_is (λ f. not f.old) t
 stays OfZone t = zsk_is (current is_present) t
 
--- up to the first wait: what grows shows it
+-- up to the first wait, what grows shows the new key
 abbrev pub is_ready : Side → RollType → KeyType → Bool
 is_ready side r t = touches r t && stays side t && is_shown side (first_of side r) t && (not (doubles side r) || is_shown side (second_of side r) t)
 
--- from the first wait on: both show it
+-- from the first wait on, both things show the new key
 abbrev pub is_lasting : Side → RollType → KeyType → Bool
 is_lasting side r t = touches r t && stays side t && is_shown side (first_of side r) t && is_shown side (second_of side r) t

@@ -3,8 +3,8 @@ ghost use Rattle.keyset_laws.specs.KeyLifeRows.{RetiresAndMeets};
 ghost use Rattle.keyset_laws.specs.Meeting.{CallsMakeLives, EmptyDsSetsComeFirst, RollsKeepSides, UnretiredThingsMeet};
 ghost use Rattle.keyset_laws.specs.Waiting.{WaitsAreTimed};
 
-/// Whatever calls a key set has behind it, accepted and refused, where no flag and no stamp was set by hand and the
-/// first DS set came by a roll of the algorithm: what was handed out and isn't retired fits together.
+/// After all calls on a key set, accepted and refused, what was handed out and isn't retired fits together, where no
+/// flag and no stamp was set by hand and a roll of the algorithm brought the first DS set.
 pub fn unretired_things_meet()
     ensures { UnretiredThingsMeet }
 {}
@@ -19,12 +19,12 @@ pub fn empty_ds_sets_come_first()
     ensures { EmptyDsSetsComeFirst }
 {}
 
-/// The calls of a key set make such lives: what each leaves is what the list of calls goes on from.
+/// The calls of a key set make such lives: the list of calls continues from what each call leaves.
 pub fn calls_make_lives()
     ensures { CallsMakeLives }
 {}
 
-/// Behind all calls that set no flag and no stamp by hand, a wait counts from its report, whatever calls stand between.
+/// After all calls that set no flag and no stamp by hand, a wait counts from its report, whatever calls come between.
 pub fn waits_are_timed()
     ensures { WaitsAreTimed }
 {}

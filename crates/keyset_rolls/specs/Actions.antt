@@ -10,7 +10,7 @@ use Rattle.keyset_rolls.specs.declared.rolls.RollState.TheVariants as state
 use Rattle.keyset_rolls.specs.declared.rolls.RollType.{RollType}
 use Rattle.keyset_rolls.specs.declared.rolls.RollType.TheVariants as roll
 
--- behind the start
+-- the actions after the start
 abbrev pub actions1 : RollType → List Action
 actions1 roll.KskRoll = act.UpdateDnskeyRrset ∷ act.ReportDnskeyPropagated ∷ []
 actions1 roll.KskDoubleDsRoll = act.CreateCdsRrset ∷ act.UpdateDsRrset ∷ act.ReportDsPropagated ∷ []
@@ -19,7 +19,7 @@ actions1 roll.ZskDoubleSignatureRoll = act.UpdateDnskeyRrset ∷ act.UpdateRrsig
 actions1 roll.CskRoll = act.UpdateDnskeyRrset ∷ act.ReportDnskeyPropagated ∷ []
 actions1 roll.AlgorithmRoll = act.UpdateDnskeyRrset ∷ act.UpdateRrsig ∷ act.ReportDnskeyPropagated ∷ act.ReportRrsigPropagated ∷ []
 
--- behind the first wait
+-- the actions after the first wait
 abbrev pub actions2 : RollType → List Action
 actions2 roll.KskRoll = act.CreateCdsRrset ∷ act.UpdateDsRrset ∷ act.ReportDsPropagated ∷ []
 actions2 roll.KskDoubleDsRoll = act.RemoveCdsRrset ∷ act.UpdateDnskeyRrset ∷ act.ReportDnskeyPropagated ∷ []
@@ -28,7 +28,7 @@ actions2 roll.ZskDoubleSignatureRoll = act.UpdateDnskeyRrset ∷ act.UpdateRrsig
 actions2 roll.CskRoll = act.CreateCdsRrset ∷ act.UpdateDsRrset ∷ act.UpdateRrsig ∷ act.ReportDsPropagated ∷ act.ReportRrsigPropagated ∷ []
 actions2 roll.AlgorithmRoll = act.CreateCdsRrset ∷ act.UpdateDsRrset ∷ act.ReportDsPropagated ∷ []
 
--- behind the second wait
+-- the actions after the second wait
 abbrev pub actions3 : RollType → List Action
 actions3 roll.KskRoll = act.RemoveCdsRrset ∷ act.UpdateDnskeyRrset ∷ act.WaitDnskeyPropagated ∷ []
 actions3 roll.KskDoubleDsRoll = act.CreateCdsRrset ∷ act.UpdateDsRrset ∷ act.WaitDsPropagated ∷ []

@@ -4,35 +4,35 @@ use Rattle.keyset_keys.specs.Keys.{Flags, set_old, set_signer, set_present, set_
 use Rattle.keyset_rolls.specs.declared.table.Change.{Change}
 use Rattle.keyset_rolls.specs.declared.table.Change.TheVariants as change
 
--- into the DNSKEY RRset, and signing
+-- the role enters the DNSKEY RRset, and signs
 abbrev pub serve : Flags → Flags
 serve f = set_present true (set_signer true f)
 
--- out of the DNSKEY RRset, and signing no longer
+-- the role leaves the DNSKEY RRset, and no longer signs
 abbrev pub retire : Flags → Flags
 retire f = set_present false (set_signer false f)
 
--- the DS RRset goes over: of the keys in the DNSKEY RRset it has those that aren't old
+-- the DS RRset changes: of the keys in the DNSKEY RRset it has those that aren't old
 abbrev pub hand_over : Flags → Flags
 hand_over f = if f.present then set_at_parent (not f.old) f else f
 
--- the DNSKEY RRset goes over: of the keys at the parent it has those that aren't old
+-- the DNSKEY RRset changes: of the keys at the parent it has those that aren't old
 abbrev pub swap : Flags → Flags
 swap f = if f.old then (if f.present then retire f else f) else if f.at_parent then serve f else f
 
--- the signatures go over: of the keys in the DNSKEY RRset those sign that aren't old
+-- the signatures change: of the keys in the DNSKEY RRset those sign that aren't old
 abbrev pub take_over : Flags → Flags
 take_over f = if f.old then set_signer false f else if f.present then set_signer true f else f
 
--- an old role leaves
+-- an old role leaves the DNSKEY RRset, and no longer signs
 abbrev pub retire_old : Flags → Flags
 retire_old f = if f.old then retire f else f
 
--- an old role leaves the DNSKEY RRset where it is in it
+-- an old role that is in the DNSKEY RRset leaves it, and no longer signs
 abbrev pub leave : Flags → Flags
 leave f = if f.old && f.present then retire f else f
 
--- an old role leaves the DNSKEY RRset where it signs no longer
+-- an old role that no longer signs leaves the DNSKEY RRset
 abbrev pub fade : Flags → Flags
 fade f = if f.old && not f.signer then set_present false f else f
 

@@ -161,14 +161,14 @@ waited2 t now k = record k { roles = wait2_roles t k.roles; stamps = if leaves t
 
 -- ---- what a start needs
 
--- what some key of a roll's kinds has to be behind a start
+-- whether a key meets what a roll requires after its start
 abbrev pub meets_need : Need → KeyType → Bool
 meets_need need.Present r = main_is (current is_present) r
 meets_need need.AtParent r = main_is (current is_at_parent) r
 meets_need need.KskPresent r = ksk_is (current is_present) r
 meets_need need.ZskPresent r = zsk_is (current is_present) r
 
--- what some keys have to be behind a roll's start
+-- what a roll requires of the keys after its start
 abbrev pub needs : RollType → List Need
 needs roll.KskRoll = need.Present ∷ []
 needs roll.KskDoubleDsRoll = need.AtParent ∷ []

@@ -24,7 +24,7 @@ pub enum RollType {
     AlgorithmRoll,
 }
 
-/// Which of a roll's two waits.
+/// One of a roll's two waits.
 #[derive(Clone, Copy, Debug, PartialEq, Eq)]
 pub enum Turn {
     First,
@@ -36,11 +36,11 @@ pub enum Turn {
 pub enum RollState {
     /// The first changes are on their way to the servers.
     Propagation1,
-    /// They are on all servers, and what was served before expires within these seconds.
+    /// The first changes are on all servers, and what was served before expires within these seconds.
     CacheExpire1(u32),
     /// The second changes are on their way to the servers.
     Propagation2,
-    /// They are on all servers, and what was served before expires within these seconds.
+    /// The second changes are on all servers, and what was served before expires within these seconds.
     CacheExpire2(u32),
     /// The roll is complete but for its last actions.
     Done,
@@ -107,8 +107,8 @@ impl RollType {
         matches!(self, RollType::ZskRoll | RollType::ZskDoubleSignatureRoll)
     }
 
-    /// Whether this roll may not start while the other runs: a roll of key signing keys may run beside one of
-    /// zone signing keys, and no others.
+    /// Whether this roll may not start while the other runs. A roll of key signing keys may run beside a roll of zone
+    /// signing keys; all other rolls conflict.
     pub fn conflicts_with(self, running: RollType) -> bool
         ensures { result ≡ conflicts self running }
     {

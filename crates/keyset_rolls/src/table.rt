@@ -12,27 +12,27 @@ use keyset_keys::{Key, KeyState, KeyType, UnixTime};
 pub(crate) enum Change {
     /// The role is on its way out.
     MarkOld,
-    /// It is put into the DNSKEY RRset, and signs.
+    /// The role enters the DNSKEY RRset, and signs.
     Serve,
-    /// It is put into the DNSKEY RRset.
+    /// The role enters the DNSKEY RRset.
     Show,
-    /// It is put into the parent's DS RRset.
+    /// The role enters the parent's DS RRset.
     Delegate,
-    /// The DS RRset goes over from the old keys in the DNSKEY RRset to the others in it.
+    /// The DS RRset changes from the old keys in the DNSKEY RRset to the other keys in it.
     HandOver,
-    /// The DNSKEY RRset goes over from the old keys in it to the others at the parent.
+    /// The DNSKEY RRset changes from the old keys in it to the other keys at the parent.
     Swap,
-    /// The signatures go over from the old keys to the others in the DNSKEY RRset.
+    /// The signatures change from the old keys to the other keys in the DNSKEY RRset.
     TakeOver,
-    /// It leaves the DNSKEY RRset, and signs no longer.
+    /// The role leaves the DNSKEY RRset, and no longer signs.
     Retire,
-    /// The same, where it is old.
+    /// A role that is old leaves the DNSKEY RRset, and no longer signs.
     RetireOld,
-    /// The same, where it is old and in the DNSKEY RRset.
+    /// A role that is old and in the DNSKEY RRset leaves it, and no longer signs.
     Leave,
-    /// It leaves the DNSKEY RRset, where it is old and signs no longer.
+    /// A role that is old and no longer signs leaves the DNSKEY RRset.
     Fade,
-    /// It leaves the parent's DS RRset, where it is old.
+    /// A role that is old leaves the parent's DS RRset.
     LeaveParent,
 }
 
@@ -156,21 +156,21 @@ fn leave_parent(state: KeyState) -> KeyState
     }
 }
 
-/// What a start needs of some key that the roll touches.
+/// What the start of a roll requires of some key that the roll touches.
 #[derive(Clone, Copy, Debug, PartialEq, Eq)]
 pub enum Need {
-    /// It stays, and is in the DNSKEY RRset.
+    /// The key stays, and is in the DNSKEY RRset.
     Present,
-    /// It stays, and is in the parent's DS RRset.
+    /// The key stays, and is in the parent's DS RRset.
     AtParent,
-    /// It stays as a key signing key in the DNSKEY RRset.
+    /// The key stays as a key signing key in the DNSKEY RRset.
     KskPresent,
-    /// It stays as a zone signing key in the DNSKEY RRset.
+    /// The key stays as a zone signing key in the DNSKEY RRset.
     ZskPresent,
 }
 
 impl Need {
-    /// Whether a key of these roles is one.
+    /// Whether a key of these roles meets the requirement.
     pub fn is_met_by(self, keytype: KeyType) -> bool
         ensures { result ≡ meets_need self keytype }
     {
@@ -251,7 +251,7 @@ impl RollType {
         }
     }
 
-    /// What some keys that the roll touches have to be behind its start.
+    /// What the roll requires of the keys that it touches, after its start.
     pub fn needs(self) -> &'static [Need]
         ensures { result.now ≡ needs self }
     {
@@ -277,7 +277,7 @@ impl RollType {
         }
     }
 
-    /// A key's roles behind the start, as one of the roll's old keys, of its new ones or of neither.
+    /// A key's roles after the start, as one of the roll's old keys, of its new keys or of neither.
     pub fn roles_after_start(self, keytype: KeyType, is_old: bool, is_new: bool) -> KeyType
         ensures { result ≡ started_roles self is_old is_new keytype }
     {
@@ -290,7 +290,7 @@ impl RollType {
         }
     }
 
-    /// Changes a key as the start does, as one of the roll's old keys, of its new ones or of neither.
+    /// Changes a key as the start does, as one of the roll's old keys, of its new keys or of neither.
     pub fn start(self, key: &mut Key, is_old: bool, is_new: bool, now: &UnixTime)
         ensures { key.new ≡ started_key self now.now is_old is_new key.old }
     {

@@ -11,7 +11,7 @@ pub record SpellsNs (written canonical : List ℕ) : Type 0 where
   pub written_is : written ≡ wire name
   pub canonical_is : canonical ≡ wire (low name)
 
--- of an SOA record (RFC 1035, 3.3.13)
+-- the data of an SOA record, as spelled and in canonical form (RFC 1035, 3.3.13)
 pub record SpellsSoa (written canonical : List ℕ) : Type 0 where
   pub mname : Name
   pub rname : Name

@@ -15,7 +15,7 @@ pub record Asked : Type 0 where
   pub rtype : ℕ
   pub class : ℕ
 
--- a record as spelled; its data are so many octets of the message from a place on (RFC 1035, 4.1.3)
+-- a record as spelled; its data are a number of octets of the message from a place on (RFC 1035, 4.1.3)
 pub record Spelled : Type 0 where
   pub owner : Name
   pub rtype : ℕ
@@ -75,7 +75,7 @@ asked_at k m p = do
   c ← u16_at m (n.1 + 2)
   Ok (record { name = n.0; rtype = t; class = c }, n.1 + 4)
 
--- so many octets from a place on are there
+-- a number of octets from a place on are there
 abbrev pub within : List ℕ → ℕ → ℕ → Result ℕ MessageError
 within m p len = elim (nat_le (p + len) (length m)) [ true ↦ Ok (p + len) | false ↦ Err ShortInput ]
 
@@ -145,7 +145,8 @@ name_in k m r p = elim (nat_le (behind r) (length m)) [ false ↦ None | true �
 abbrev pub fits : List ℕ → Bool
 fits octets = nat_le (length octets) 65535
 
--- A signature's fields, its signer in canonical form, and its octets (RFC 4034, 3.1); None where the data do not read so.
+-- A signature's fields, its signer in canonical form, and its octets (RFC 4034, 3.1); None where the data are no
+-- signature.
 abbrev pub rrsig_at : ℕ → List ℕ → Spelled → Option (Fields × List ℕ)
 rrsig_at k m r = elim (nat_le 18 r.length) [
   | false ↦ None
@@ -157,11 +158,11 @@ rrsig_at k m r = elim (nat_le 18 r.length) [
   ]
 ]
 
--- one name and nothing else (RFC 1035, 3.3.11), lowered
+-- the canonical data of an NS record: one name and nothing else (RFC 1035, 3.3.11), lowered
 abbrev pub ns_data : ℕ → List ℕ → Spelled → Option (List ℕ)
 ns_data k m r = elim (name_in k m r r.start) [ None ↦ None | Some n ↦ if_true (nat_eq n.1 (behind r)) (wire (low n.0)) ]
 
--- two names and five numbers (RFC 1035, 3.3.13), the names lowered
+-- the canonical data of an SOA record: two names and five numbers (RFC 1035, 3.3.13), the names lowered
 abbrev pub soa_data : ℕ → List ℕ → Spelled → Option (List ℕ)
 soa_data k m r = elim (name_in k m r r.start) [
   | None ↦ None
@@ -178,7 +179,7 @@ nsec_at k m r = elim (name_in k m r r.start) [
   | Some n ↦ let bits = slice_range m n.1 (behind r) in if_true (is_bitmap bits && fits (wire n.0 ++ bits)) (n.0, bits)
 ]
 
--- an NSEC record's next name isn't lowered (RFC 6840, 5.1)
+-- the canonical data of an NSEC record, whose next name isn't lowered (RFC 6840, 5.1)
 abbrev pub nsec_data : ℕ → List ℕ → Spelled → Option (List ℕ)
 nsec_data k m r = elim (nsec_at k m r) [ None ↦ None | Some n ↦ Some (wire n.0 ++ n.1) ]
 
@@ -192,7 +193,7 @@ pub record HashedNext : Type 0 where
   pub next : List ℕ
   pub bits : List ℕ
 
--- octets as such data, the salt up to one place and the next hash up to another (RFC 5155, 3.2)
+-- octets as NSEC3 data, the salt up to one place and the next hash up to another (RFC 5155, 3.2)
 abbrev pub hashed_next : List ℕ → ℕ → ℕ → HashedNext
 hashed_next d salt_end next_end = record {
   algorithm = slice_index d 0;
@@ -221,7 +222,7 @@ nsec3_of d = elim (nat_le 5 (length d)) [ false ↦ None | true ↦ next_of d (5
 abbrev pub nsec3_at : List ℕ → Spelled → Option HashedNext
 nsec3_at m r = nsec3_of (data_of m r)
 
--- without names, the data are canonical as they stand
+-- the canonical data of an NSEC3 record, which are the data as they stand, since they have no names
 abbrev pub nsec3_data : List ℕ → Spelled → Option (List ℕ)
 nsec3_data m r = elim (nsec3_at m r) [ None ↦ None | Some n ↦ Some (data_of m r) ]
 

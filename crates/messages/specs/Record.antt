@@ -23,15 +23,15 @@ reader_of m r = record { octets = m; place = r.start; end = behind r }
 abbrev pub Signature : Type 0
 Signature = RrsigData ParsedName
 
--- its fields, the signer as spelled
+-- the fields of a signature in a message, the signer as spelled
 abbrev pub fields_read : Signature → Fields
 fields_read s = protos.fields_of parsed_name s.proto
 
--- and in canonical form
+-- the fields of a signature in a message, the signer in canonical form
 abbrev pub fields_of : Signature → Fields
 fields_of s = lowered_signer (fields_read s)
 
--- with its octets
+-- the fields of a signature in a message, and its octets
 abbrev pub signature_of : Signature → Fields × List ℕ
 signature_of s = (fields_of s, s.signature)
 

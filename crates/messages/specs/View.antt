@@ -38,7 +38,7 @@ head_at k m = do
 abbrev pub headed : Name → ℕ → ℕ → ℕ → ℕ → Asked × ℕ × ℕ
 headed n t c p count = (record { name = n; rtype = t; class = c }, p, count)
 
--- so many records from a place on
+-- a number of records from a place on
 abbrev pub records_read : ℕ → List ℕ → ℕ → List Spelled
 records_read n m p = elim (records_at n pointer_limit m p) [ Ok rs ↦ rs | Err e ↦ [] ]
 

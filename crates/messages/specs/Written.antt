@@ -22,7 +22,7 @@ unfoldable pub header_octets : ℕ → ℕ → ℕ → List ℕ
 header_octets flags answers authority =
     to_be_bytes w16 0 ++ to_be_bytes w16 flags ++ to_be_bytes w16 1 ++ to_be_bytes w16 answers ++ to_be_bytes w16 authority ++ to_be_bytes w16 0
 
--- RFC 1035, 4.1.2
+-- the octets of a question (RFC 1035, 4.1.2)
 unfoldable pub question_octets : Name → ℕ → ℕ → List ℕ
 question_octets name t class = wire name ++ to_be_bytes w16 t ++ to_be_bytes w16 class
 

@@ -10,7 +10,7 @@ use Rattle.messages.specs.Message.{Asked, HashedNext, Spelled, owner_at, message
 use Rattle.messages.specs.Rrsig.{rrsig_data}
 use Rattle.messages.specs.Written.{Written, message_octets}
 
--- whatever number of pointers may be followed
+-- a name reads back, whatever number of pointers may be followed
 abbrev pub NamesReadBack : Type 0
 NamesReadBack = (pointers : ℕ) (n : Name) (before behind : List ℕ) → IsName n → owner_at pointers (before ++ (wire n ++ behind)) (length before) ≡ Ok (n, length before + wire_len n)
 

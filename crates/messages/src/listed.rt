@@ -9,8 +9,9 @@ use crate::error::MessageError;
 use crate::view::{MessageView, ViewRecord, read_head};
 use std::alloc::AllocError;
 
-/// As [`read_message`](crate::read_message), and puts the records behind those of a list, so that nobody need read them
-/// again. The message is read to its end also where the list cannot grow; that is told beside it.
+/// Reads a message as [`read_message`](crate::read_message) does, and appends its records to a list, so that nobody
+/// need read them again. The message is read to its end even where the list cannot grow; the result says whether it
+/// grew.
 pub fn read_message_into<'a>(
     bytes: &'a [u8],
     records: &mut Vec<ViewRecord<'a>>,
@@ -25,9 +26,10 @@ pub fn read_message_into<'a>(
     Ok((view, listed))
 }
 
-/// As `read_records`, and puts them behind those of a list while that can grow.
+/// Reads records as `read_records` does, and appends them to a list while it can grow.
 ///
-/// A record takes eleven octets at least, so counts in a header make the list grow no further than the message may need.
+/// A record takes at least eleven octets, so the counts in a header make the list grow no further than the message may
+/// need.
 fn list_records<'a>(
     bytes: &'a [u8],
     first: usize,
@@ -50,7 +52,7 @@ fn list_records<'a>(
     Ok(listed)
 }
 
-/// Puts a record behind those of a list that held all records before it.
+/// Appends a record to a list that held all records before it.
 fn list_record<'a>(
     records: &mut Vec<ViewRecord<'a>>,
     view: ViewRecord<'a>,

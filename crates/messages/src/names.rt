@@ -1,4 +1,4 @@
-//! What a zone asks of its names, beside what all names have.
+//! What a zone asks of its names, beyond what all names have.
 ghost use Rattle.std.specs.Prelude.{◌≡◌, ℕ, ◌-◌, ◌<◌, ◌≤◌, ◌↔◌, ◌++◌, List, length, drop, None, IfOk, OnOk, IfSome};
 ghost use Rattle.definitions.specs.Name.{IsName, wire, wire_len, low};
 ghost use Rattle.definitions.specs.Signing.{label_count};
@@ -33,7 +33,7 @@ pub trait ZoneName: Labels {
     fn keeps(&self)
         ensures { IsName (Self.name self.now) };
 
-    /// The name of the last labels, so many of them. Under an ancestor there is room for a wildcard.
+    /// The name of the last `count` labels. Under an ancestor there is room for a wildcard.
     fn suffix(&self, alloc: Global, count: usize) -> Result<Name<Vec<u8>>, AllocError>
         requires { count ≤ length (Self.name self.now) }
         ensures labels { let n = Self.name self.now in
@@ -41,7 +41,7 @@ pub trait ZoneName: Labels {
         ensures room { count < length (Self.name self.now)
             → IfOk result (λ m. wire_len (star_under m) ≤ 255) };
 
-    /// The wildcard name under this one (RFC 4592, 2.1.1); None where no name has room for it.
+    /// The wildcard name under this one (RFC 4592, 2.1.1); `None` where it would be too long.
     fn wildcard_child(&self, alloc: Global) -> Result<Option<Name<Vec<u8>>>, AllocError>
         ensures some { IfOk result (λ o. IfSome o (λ n. n ≡ star_under (Self.name self.now))) }
         ensures none { let star = star_under (Self.name self.now) in
@@ -55,15 +55,15 @@ pub trait ZoneName: Labels {
     fn has_star(&self) -> bool
         ensures { result ≡ has_star (Self.name self.now) };
 
-    /// How many labels a signature counts: neither the root nor a leading star (RFC 4034, 3.1.3).
+    /// The number of labels that a signature counts: neither the root nor a leading star (RFC 4034, 3.1.3).
     fn rrsig_label_count(&self) -> u8
         ensures { result ≡ label_count (Self.name self.now) };
 
-    /// Writes the wire form at the end, as spelled (RFC 1035, 3.1).
+    /// Appends the wire form, as spelled (RFC 1035, 3.1).
     fn compose(&self, out: &mut Vec<u8>) -> Result<(), AllocError>
         ensures ok { OnOk result (out.new.items ≡ out.old.items ++ wire (Self.name self.now)) };
 
-    /// Writes the canonical form at the end: the wire form with letters lowered (RFC 4034, 6.2).
+    /// Appends the canonical form: the wire form with letters lowered (RFC 4034, 6.2).
     fn compose_canonical(&self, out: &mut Vec<u8>) -> Result<(), AllocError>
         ensures ok { let octets = wire (low (Self.name self.now)) in
             OnOk result (out.new.items ≡ out.old.items ++ octets) };

@@ -60,7 +60,7 @@ pub fn record_numbers_at(bytes: &[u8], at: usize) -> Result<RecordNumbers, Messa
     }
 }
 
-/// The octets from one place up to another, so far as they are there.
+/// The octets from one place to another, as far as they are there.
 pub fn clipped(bytes: &[u8], from: usize, to: usize) -> &[u8]
     ensures { result.now ≡ slice_range bytes.now from to }
 {

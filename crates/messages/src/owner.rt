@@ -23,14 +23,14 @@ impl<'a> Model for Owner<'a> {
 }
 
 impl<'a> Owner<'a> {
-    /// The owner of this name.
+    /// The owner that has this name.
     pub(crate) fn new(name: ParsedName<'a>) -> Self
         ensures { result ≡ parsed_name name.entry }
     {
         Owner { name }
     }
 
-    /// Its name.
+    /// The name of the owner.
     pub fn name(&self) -> &ParsedName<'a>
         ensures { parsed_name result.now ≡ self.now }
     {

@@ -27,7 +27,7 @@ use std::borrow::CowSlice;
 impl<'a> ViewRecord<'a> {
     ghost use Rattle.messages.specs.Record.{spelled, reader_of, signature_of, link_of};
 
-    /// The octets of the data, so far as the message has them.
+    /// The octets of the data, as far as the message has them.
     pub fn octets<'m>(&self, message: &'m [u8]) -> &'m [u8]
         ensures data { result.now ≡ data_of message.now (spelled self.now) }
         ensures few { length result.now ≤ 65535 }
@@ -50,8 +50,8 @@ impl<'a> ViewRecord<'a> {
         }
     }
 
-    /// The type that the data begin with as those of a signature (RFC 4034, 3.1.1), for callers who need no more of most
-    /// signatures. Where the data do not read as a signature's it may be any.
+    /// The type covered by the signature that the data spell (RFC 4034, 3.1.1), for callers who need only that of most
+    /// signatures. Where the data are no signature it may be any type.
     pub fn covered_type(&self, message: &[u8]) -> Option<Rtype>
         ensures { IfSome (rrsig_at pointer_limit message.now (spelled self.now))
             (λ f. result ≡ Some f.0.covered) }
@@ -82,7 +82,8 @@ impl<'a> ViewRecord<'a> {
         read_hashed_link(self.octets(message))
     }
 
-    /// The canonical data (RFC 4034, 6.2), borrowed where the message has them so; None where the data don't read as their type's.
+    /// The canonical data (RFC 4034, 6.2), borrowed where the message has them in this form. `None` where the data
+    /// don't read as their type's.
     pub fn canonical_cow<'m>(
         &self,
         alloc: Global,
@@ -133,7 +134,8 @@ impl<'a> ViewRecord<'a> {
         }
     }
 
-    /// The canonical data of an NSEC record, whose next name isn't lowered (RFC 6840, 5.1): borrowed where that stands in full.
+    /// The canonical data of an NSEC record, whose next name isn't lowered (RFC 6840, 5.1). They are borrowed where
+    /// that name stands in full.
     fn nsec_data<'m>(
         &self,
         alloc: Global,
@@ -191,7 +193,7 @@ impl<'a> ViewRecord<'a> {
         }
     }
 
-    /// What reads the data, where the message has them.
+    /// A parser of the data, where the message has them.
     fn parser<'m>(&self, message: &'m [u8]) -> Option<Parser<'m>>
         ensures inside { IfSome result (λ p. (p ≡ reader_of message.now (spelled self.now))
             × (self.now.start + self.now.length ≤ length message.now)) }
@@ -203,7 +205,7 @@ impl<'a> ViewRecord<'a> {
     }
 }
 
-/// Whether data are as long as a link's next name in full, without pointers, and its types.
+/// Whether data are as long as a link's types and its next name in full, without pointers.
 fn is_in_full(octets: &[u8], link: &Nsec<&[u8], ParsedName>) -> bool
     ensures { let next = wire (parsed_name link.now.next_name) in
         result ≡ true → length octets.now ≡ length next + length link.now.types }

@@ -53,7 +53,7 @@ impl<'a> ViewRecord<'a> {
         Ok((record, start + length))
     }
 
-    /// The same record again; its name and its data stay in the message.
+    /// A copy of the record. Its name and its data stay in the message.
     pub fn copied(&self) -> ViewRecord<'a>
         ensures { spelled result ≡ spelled self.now }
     {
@@ -97,7 +97,7 @@ impl<'a> Model for MessageView<'a> {
 }
 
 impl<'a> MessageView<'a> {
-    /// A message with so many records from a place on, which read.
+    /// A message that has `count` records from a place on, all of which read.
     pub(crate) fn new(
         bytes: &'a [u8],
         name: ParsedName<'a>,
@@ -195,8 +195,8 @@ impl<'a> Iterator for Records<'a> {
     }
 }
 
-/// Reads a message in place; it takes no memory. The header's flags and octets behind the last counted
-/// record are passed over.
+/// Reads a message in place, without taking memory. The header's flags and octets behind the last counted record are
+/// ignored.
 pub fn read_message(bytes: &[u8]) -> Result<MessageView<'_>, MessageError>
     ensures { Gives (λ v. v) result (message pointer_limit bytes.now) }
 {
@@ -226,7 +226,7 @@ pub(crate) fn read_head(
     Ok((name, rtype, class, end + 4, count))
 }
 
-/// Reads so many records from a place on.
+/// Reads `count` records from a place on.
 fn read_records(bytes: &[u8], first: usize, count: usize) -> Result<(), MessageError>
     ensures { let read = records_at count pointer_limit bytes.now first in
         MatchResult result (λ _. IsOk read) (λ e. read ≡ Err e) }

@@ -1,6 +1,7 @@
 //! Messages as they are written (RFC 1035, 4.1), without compression.
 //!
-//! A header, a question or a record that memory was wanting for may stand there in part: callers drop the message then.
+//! Where memory runs out, a header, a question or a record may have been written in part: callers then drop the
+//! message.
 ghost use Rattle.std.specs.Prelude.{◌≡◌, ◌<◌, ◌^◌, ◌++◌, length, OnOk, OnErr};
 ghost use Rattle.std.specs.Int.{w16, w32, to_be_bytes};
 ghost use Rattle.messages.specs.Written.{written, header_octets, question_octets, record_octets};
@@ -10,8 +11,8 @@ use names_rdata::rtype::Rtype;
 use plain::{Class, Ttl};
 use std::alloc::AllocError;
 
-/// Writes a header at the end: id 0, the flags, one question and how many records the answer and the
-/// authority section have (RFC 1035, 4.1.1).
+/// Appends a header: id 0, the flags, one question, and the numbers of records of the answer and the authority section
+/// (RFC 1035, 4.1.1).
 #[tactic(auto, unfolding(crate::specs::Written::header_octets))]
 pub fn push_header(
     out: &mut Vec<u8>,
@@ -30,7 +31,7 @@ pub fn push_header(
     push_u16(out, 0)
 }
 
-/// Writes a question at the end (RFC 1035, 4.1.2).
+/// Appends a question (RFC 1035, 4.1.2).
 #[tactic(auto, unfolding(crate::specs::Written::question_octets))]
 pub fn push_question(
     out: &mut Vec<u8>,
@@ -46,7 +47,7 @@ pub fn push_question(
     push_u16(out, class.to_int())
 }
 
-/// Writes a record at the end (RFC 1035, 4.1.3).
+/// Appends a record (RFC 1035, 4.1.3).
 #[tactic(auto, unfolding(crate::specs::Written::record_octets))]
 pub fn push_record(
     out: &mut Vec<u8>,
@@ -68,7 +69,7 @@ pub fn push_record(
     out.extend_from_slice(rdata)
 }
 
-/// Writes a 16-bit number at the end, the highest octet first (RFC 1035, 2.3.2), or nothing.
+/// Appends a 16-bit number, the highest octet first (RFC 1035, 2.3.2). A refused call appends nothing.
 pub fn push_u16(out: &mut Vec<u8>, number: u16) -> Result<(), AllocError>
     ensures ok { OnOk result (out.new.items ≡ out.old.items ++ to_be_bytes w16 number) }
     ensures err { OnErr result (out.new.items ≡ out.old.items) }
@@ -76,7 +77,7 @@ pub fn push_u16(out: &mut Vec<u8>, number: u16) -> Result<(), AllocError>
     out.extend_from_slice(&number.to_be_bytes())
 }
 
-/// Writes a 32-bit number at the end, the highest octet first (RFC 1035, 2.3.2), or nothing.
+/// Appends a 32-bit number, the highest octet first (RFC 1035, 2.3.2). A refused call appends nothing.
 pub fn push_u32(out: &mut Vec<u8>, number: u32) -> Result<(), AllocError>
     ensures ok { OnOk result (out.new.items ≡ out.old.items ++ to_be_bytes w32 number) }
     ensures err { OnErr result (out.new.items ≡ out.old.items) }

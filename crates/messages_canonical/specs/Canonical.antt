@@ -16,7 +16,7 @@ use Rattle.messages_canonical.specs.Forms.{form_of}
 
 -- ---- parts of data
 
--- bits behind a prefix of at most 128 bits stand in so many octets, behind its length (RFC 2874, 3.1)
+-- how many octets hold the bits behind a prefix of at most 128 bits, behind its length (RFC 2874, 3.1)
 abbrev pub suffix_width : ℕ → Option ℕ
 suffix_width prefix = if_true (nat_le prefix 128) (1 + (135 - prefix) / 8)
 
@@ -55,8 +55,8 @@ formed_data k m r = elim (nat_le (behind r) (length m)) [
   | true ↦ parts_at k m (behind r) (form_of r.rtype (slice_index m r.start)) r.start
 ]
 
--- The data of a record in canonical form: names in full, in lower case where signatures are made over them so (RFC 4034, 6.2;
--- RFC 6840, 5.1). What the type's form doesn't read stays as it is.
+-- The data of a record in canonical form: names in full, and in lower case where signatures are made over lower case
+-- (RFC 4034, 6.2; RFC 6840, 5.1). What the type's form doesn't read stays as it is.
 abbrev pub canonical_rdata : ℕ → List ℕ → Spelled → List ℕ
 canonical_rdata k m r = unwrap_or (formed_data k m r) (data_of m r)
 
@@ -70,7 +70,7 @@ is_canonical_data k t octets = elim (parts_at k octets (length octets) (form_of 
 abbrev pub with_data : Spelled → List ℕ → Written
 with_data r octets = written r.owner r.rtype r.class r.ttl octets
 
--- and with its own in canonical form
+-- a record with its own data in canonical form
 abbrev pub canonical_record : ℕ → List ℕ → Spelled → Written
 canonical_record k m r = with_data r (canonical_rdata k m r)
 
@@ -85,7 +85,7 @@ head_octets m asked = take 12 m ++ question_octets asked.name asked.rtype asked.
 abbrev pub canonical_octets : ℕ → List ℕ → Message → List ℕ
 canonical_octets k m read = head_octets m read.asked ++ flat_map record_octets (canonical_records k m read.records)
 
--- a message has no more octets (RFC 1035, 4.2.2)
+-- how many octets a message has at most (RFC 1035, 4.2.2)
 abbrev pub most_octets : ℕ
 most_octets = 65535
 

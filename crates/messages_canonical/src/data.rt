@@ -21,8 +21,8 @@ use std::alloc::{AllocError, Global};
 /// Room for data with two names of ordinary length; data that need more get it.
 pub(crate) const ROOM_FOR_DATA: usize = 128;
 
-/// Puts the data of a record into a buffer, in the place of what was there, in canonical form; false where their type's form
-/// doesn't read them.
+/// Replaces the content of a buffer by the data of a record in canonical form. Returns false where the form of their
+/// type doesn't read the data.
 pub(crate) fn put_data(
     message: &[u8],
     view: &ViewRecord,
@@ -38,7 +38,8 @@ pub(crate) fn put_data(
     put_formed(message, view.rtype, view.start, limit, rdata)
 }
 
-/// The same of data from a place up to a limit.
+/// Replaces the content of a buffer by the data from a place up to a limit, in canonical form. Returns false where the
+/// form of their type doesn't read the data.
 pub(crate) fn put_formed(
     message: &[u8],
     rtype: Rtype,
@@ -63,9 +64,9 @@ pub(crate) fn put_formed(
     Ok(at == limit)
 }
 
-/// Whether octets, by themselves, are data of a type in canonical form: its form reads them, all names stand in full, and in
-/// lower case where signatures are made over them so (RFC 4034, 6.2). Data that a signer takes as they are handed in verify
-/// elsewhere only in this form.
+/// Whether octets, by themselves, are data of a type in canonical form: the type's form reads them, all names stand in
+/// full, and in lower case where signatures are made over lower case (RFC 4034, 6.2). Signatures that a signer makes
+/// over data exactly as it was given them verify elsewhere only where the data have this form.
 pub fn is_canonical_data(alloc: Global, rtype: Rtype, octets: &[u8]) -> Result<bool, AllocError>
     ensures { IfOk result (λ b. b ≡ is_canonical_data pointer_limit rtype octets.now) }
 {
@@ -74,7 +75,7 @@ pub fn is_canonical_data(alloc: Global, rtype: Rtype, octets: &[u8]) -> Result<b
     Ok(is_formed && data.as_slice() == octets)
 }
 
-/// Puts a part that stands at a place at the end, and gives the place behind it; nothing where no such part ends by the limit.
+/// Appends a part that stands at a place, and returns the place behind it; `None` where no such part ends by the limit.
 fn put_part(
     message: &[u8],
     part: Part,
@@ -123,7 +124,7 @@ pub(crate) fn name_upto(message: &[u8], at: usize, limit: usize) -> Option<(Pars
     Some((name, behind))
 }
 
-/// Puts a name in full at the end, as it is spelled.
+/// Appends a name in full, as it is spelled.
 pub(crate) fn put_kept(name: &ParsedName, rdata: &mut Vec<u8>) -> Result<(), AllocError>
     ensures { OnOk result (rdata.new.items ≡ rdata.old.items ++ wire (parsed_name name.now)) }
 {
@@ -151,7 +152,7 @@ pub(crate) fn octets_upto(
     Some((&message[at..at + width], at + width))
 }
 
-/// How many octets a part has, in front of a limit; nothing where its own octets don't say, and for a name.
+/// How many octets a part before a limit has; `None` where its octets don't say, and for a name.
 fn width_at(message: &[u8], part: Part, at: usize, limit: usize) -> Option<usize>
     ensures { result ≡ width_at message.now limit part at }
 {
@@ -164,7 +165,7 @@ fn width_at(message: &[u8], part: Part, at: usize, limit: usize) -> Option<usize
     }
 }
 
-/// How many octets the length of a prefix and the bits behind it take; nothing where it is no length of one.
+/// How many octets a prefix length and the bits behind it take; `None` where it is no prefix length.
 fn suffix_width(prefix: u8) -> Option<usize>
     ensures { result ≡ suffix_width prefix }
 {

@@ -7,21 +7,22 @@ use names_rdata::rtype::Rtype;
 /// A part of data.
 #[derive(Clone, Copy, Debug, PartialEq, Eq)]
 pub enum Part {
-    /// So many octets.
+    /// This number of octets.
     Octets(u8),
     /// A character-string: octets behind their number (RFC 1035, 3.3).
     Text,
     /// The length of an address's prefix, at most 128, and as many octets as the bits behind it take (RFC 2874, 3.1).
     Suffix,
-    /// A name that signatures are made over in lower case.
+    /// A name over which signatures are made in lower case.
     Lowered,
-    /// A name that they are made over as it is spelled.
+    /// A name over which signatures are made as it is spelled.
     Kept,
     /// The octets that are left.
     Rest,
 }
 
-/// The form of a type's data, by their first octet too: one part behind another (RFC 4034, 6.2; RFC 6840, 5.1).
+/// The form of a type's data, which may depend on their first octet: one part after another (RFC 4034, 6.2; RFC 6840,
+/// 5.1).
 pub fn form_of(rtype: Rtype, first: u8) -> &'static [Part]
     ensures { result.now ≡ form_of rtype first }
 {

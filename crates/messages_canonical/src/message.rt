@@ -21,17 +21,18 @@ use messages::{MessageView, ViewRecord, read_message_into};
 use std::alloc::{AllocError, Global};
 use std::borrow::CowSlice;
 
-/// A message has no more octets (RFC 1035, 4.2.2).
+/// The number of octets that a message has at most (RFC 1035, 4.2.2).
 const MOST: usize = 65535;
 
-/// So many octets stand before the question (RFC 1035, 4.1.1).
+/// The number of octets before the question (RFC 1035, 4.1.1).
 const HEADER: usize = 12;
 
-/// And so many between a record's owner and its data (RFC 1035, 4.1.3).
+/// The number of octets between a record's owner and its data (RFC 1035, 4.1.3).
 const NUMBERS: usize = 10;
 
-/// The message in canonical form: names in full, those in data in lower case where signatures are made over them so. Header,
-/// question, order and TTLs are as they were, and so are data that their type's form doesn't read, octet for octet.
+/// The message in canonical form: names in full, and names in data in lower case where signatures are made over lower
+/// case. Header, question, order and TTLs are unchanged, and so are data that their type's form doesn't read, octet for
+/// octet.
 ///
 /// A message that doesn't read is refused as [`read_message`](messages::read_message) refuses it.
 pub fn canonical_message(alloc: Global, bytes: &[u8]) -> Result<Vec<u8>, CanonicalError>
@@ -51,9 +52,9 @@ pub fn canonical_message(alloc: Global, bytes: &[u8]) -> Result<Vec<u8>, Canonic
     Ok(octets)
 }
 
-/// The message as whoever verifies signatures is to see it: as it was received where the data of all its records are in
-/// canonical form already, or of a type whose names are read as names (NS, SOA, RRSIG, NSEC), and where it doesn't read; else
-/// in canonical form. What was received is borrowed.
+/// The message in the form in which signatures are verified. It is the received message, borrowed, where it doesn't
+/// read, and where the data of each record are in canonical form already or of a type whose names are read as names
+/// (NS, SOA, RRSIG, NSEC). Otherwise it is the message in canonical form.
 pub fn canonical_cow<'a>(alloc: Global, bytes: &'a [u8]) -> Result<CowSlice<'a, u8>, CanonicalError>
     ensures ok { IfOk result (λ o. IsInForm bytes.now (cow_slice_items o)) }
     ensures none { IfErr result (HasNoForm bytes.now) }
@@ -68,7 +69,7 @@ pub fn canonical_cow<'a>(alloc: Global, bytes: &'a [u8]) -> Result<CowSlice<'a, 
     }
 }
 
-/// Writes the header and the question at the end.
+/// Appends the header and the question.
 fn push_head(bytes: &[u8], view: &MessageView, octets: &mut Vec<u8>) -> Result<(), AllocError>
     ensures { let head = head_octets bytes.now view.now.asked in
         OnOk result (octets.new.items ≡ octets.old.items ++ head) }
@@ -81,7 +82,7 @@ fn push_head(bytes: &[u8], view: &MessageView, octets: &mut Vec<u8>) -> Result<(
     Ok(())
 }
 
-/// Writes records at the end, which stand in the message from a place on; false where a message has no room for them.
+/// Appends the records that stand in the message from a place on. Returns false where a message has no room for them.
 fn push_records(
     alloc: Global,
     bytes: &[u8],
@@ -107,7 +108,7 @@ fn push_records(
     Ok(true)
 }
 
-/// Writes the record at a place at the end, by a buffer for its data; false where a message has no room for it.
+/// Appends the record at a place, with a buffer for its data. Returns false where a message has no room for it.
 fn push_record(
     bytes: &[u8],
     at: usize,
@@ -125,7 +126,7 @@ fn push_record(
     push_with_own_data(bytes, at, view, octets)
 }
 
-/// Whether the data of a record are seen to be in canonical form as they stand.
+/// Whether a quick test shows that the data of a record are in canonical form as they stand.
 fn record_stands(bytes: &[u8], view: &ViewRecord) -> bool
     ensures { let r = spelled view.now in
         result ≡ true → canonical_rdata pointer_limit bytes.now r ≡ data_of bytes.now r }
@@ -134,7 +135,7 @@ fn record_stands(bytes: &[u8], view: &ViewRecord) -> bool
     limit <= bytes.len() && data_stand(bytes, view.rtype, view.start, limit)
 }
 
-/// Writes the record at a place with its data as they stand at the end; false where a message has no room for it.
+/// Appends the record at a place with its data as they stand. Returns false where a message has no room for it.
 fn push_with_own_data(
     bytes: &[u8],
     at: usize,
@@ -151,7 +152,7 @@ fn push_with_own_data(
     Ok(octets.len() <= MOST)
 }
 
-/// Writes the record at a place with these data at the end; false where a message has no room for it.
+/// Appends the record at a place with the given data. Returns false where a message has no room for it.
 fn push_with_data(
     bytes: &[u8],
     at: usize,

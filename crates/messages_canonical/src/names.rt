@@ -1,4 +1,4 @@
-//! Names that stand in full, and names that are put in full, each run of their labels at once.
+//! Names that stand in full, and names that are written in full, each run of their labels at once.
 ghost use Rattle.std.specs.Prelude.{◌≡◌, ◌≤◌, ◌++◌, length, take, drop, slice_range, IfSome, OnOk};
 ghost use Rattle.std.specs.Str.{str_to_ascii_lowercase};
 ghost use Rattle.definitions.specs.Name.{low, wire};
@@ -17,7 +17,7 @@ const MOST_OCTETS: usize = 255;
 /// How many length octets, the root's too, and pointers a name has at most.
 const MOST_HEADS: usize = 383;
 
-/// The place behind a name that stands at a place with no pointer in it.
+/// The place behind a name that stands at a place without a pointer.
 pub(crate) fn end_in_full(message: &[u8], start: usize) -> Option<usize>
     ensures { IfSome result (SpelledInFull message.now start) }
 {
@@ -35,7 +35,7 @@ pub(crate) fn end_in_full(message: &[u8], start: usize) -> Option<usize>
     None
 }
 
-/// As [`put_name_at`], in lower case.
+/// Appends the name that reads at a place, in full and in lower case (RFC 1035, 4.1.4).
 pub(crate) fn put_lowered_at(
     message: &[u8],
     start: usize,
@@ -51,7 +51,7 @@ pub(crate) fn put_lowered_at(
     Ok(())
 }
 
-/// Lowers the letters behind so many octets.
+/// Lowers the letters behind the first `count` octets.
 fn lower_behind(rdata: &mut Vec<u8>, count: usize)
     requires { count ≤ length rdata.old.items }
     ensures { rdata.new.items
@@ -60,7 +60,7 @@ fn lower_behind(rdata: &mut Vec<u8>, count: usize)
     rdata.as_mut_slice()[count..].make_ascii_lowercase();
 }
 
-/// Puts the name that reads at a place in full at the end, as it is spelled (RFC 1035, 4.1.4).
+/// Appends the name that reads at a place, in full and as it is spelled (RFC 1035, 4.1.4).
 pub(crate) fn put_name_at(
     message: &[u8],
     start: usize,
@@ -90,7 +90,7 @@ pub(crate) fn put_name_at(
     Ok(())
 }
 
-/// Puts the octets from one place up to another at the end. Before most pointers stand none.
+/// Appends the octets from one place to another. Most pointers have none in front.
 fn put_run(message: &[u8], from: usize, to: usize, rdata: &mut Vec<u8>) -> Result<(), AllocError>
     requires ordered { from ≤ to }
     requires inside { to ≤ length message.now }

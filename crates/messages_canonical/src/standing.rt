@@ -13,7 +13,8 @@ use crate::names::end_in_full;
 use names_rdata::rtype::Rtype;
 use std::alloc::{AllocError, Global};
 
-/// Whether data from a place up to a limit need no other form. Memory is taken only where they aren't in canonical form.
+/// Whether data from a place up to a limit need no other form. Memory is taken only where they aren't in canonical
+/// form.
 pub(crate) fn has_form(
     alloc: Global,
     message: &[u8],
@@ -33,9 +34,9 @@ pub(crate) fn has_form(
     Ok(!is_formed || data.as_slice() == &message[start..limit])
 }
 
-/// Whether data of a type, by themselves, are signed alike by every signer: names in them stand in full and in lower case, or,
-/// as those of NS, SOA, RRSIG and NSEC data, are read as names by whoever makes signed octets of them (RFC 4034, 6.2).
-/// Signatures that are made over other data as they stand verify nowhere else.
+/// Whether data of a type, by themselves, are signed alike by every signer: names in them stand in full and in lower
+/// case, or are read as names by every signer, as those of NS, SOA, RRSIG and NSEC data are (RFC 4034, 6.2). Signatures
+/// made over other data as they stand verify nowhere else.
 pub fn is_data_in_form(alloc: Global, rtype: Rtype, octets: &[u8]) -> Result<bool, AllocError>
     ensures { IfOk result (λ b. b ≡ has_form rtype octets.now) }
 {
@@ -45,14 +46,15 @@ pub fn is_data_in_form(alloc: Global, rtype: Rtype, octets: &[u8]) -> Result<boo
     is_canonical_data(alloc, rtype, octets)
 }
 
-/// Whether names in data of a type are read as names by whoever makes signed octets of them.
+/// Whether every signer reads names in data of a type as names.
 fn is_read_by_name(rtype: Rtype) -> bool
     ensures { result ≡ is_among rtype read_by_name }
 {
     matches!(rtype, Rtype::NS | Rtype::SOA | Rtype::RRSIG | Rtype::NSEC)
 }
 
-/// Whether data from a place up to a limit are seen to be in canonical form as they stand; no is said of some that are, too.
+/// Whether a quick test shows that data from a place up to a limit are in canonical form as they stand. Some data in
+/// canonical form fail the test.
 pub(crate) fn data_stand(message: &[u8], rtype: Rtype, start: usize, limit: usize) -> bool
     requires ordered { start ≤ limit }
     requires inside { limit ≤ length message.now }
@@ -75,7 +77,7 @@ pub(crate) fn data_stand(message: &[u8], rtype: Rtype, start: usize, limit: usiz
     at == limit
 }
 
-/// The place behind a part that is seen to stand at a place in canonical form.
+/// The place behind a part that a quick test finds in canonical form at a place.
 fn part_stands(message: &[u8], part: Part, at: usize, limit: usize) -> Option<usize>
     requires inside { limit ≤ length message.now }
     ensures stands { IfSome result (λ b.
@@ -100,7 +102,7 @@ fn part_stands(message: &[u8], part: Part, at: usize, limit: usize) -> Option<us
     }
 }
 
-/// The place behind a name that stands at a place in full, no further than a limit.
+/// The place behind a name that stands in full at a place, no further than a limit.
 fn name_in_full(message: &[u8], at: usize, limit: usize) -> Option<usize>
     ensures { IfSome result (StandsInFull message.now limit at) }
 {

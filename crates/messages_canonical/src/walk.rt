@@ -1,5 +1,6 @@
-//! A walk over the records of a message that looks at no more than where their data stand: of names in front of them it follows
-//! no pointer. Where a message reads it finds the records that reading finds; of others it says nothing.
+//! A walk over the records of a message that looks only at where their data stand: it follows no pointer of the names
+//! in front of them. Where a message reads, the walk finds the records that reading finds; of other messages it says
+//! nothing.
 ghost use Rattle.std.specs.Prelude.{◌≡◌, ◌+◌, ◌<◌, ◌≤◌, length, IfNone, IfSome, IfOk};
 ghost use Rattle.std.specs.Option.{option_map};
 ghost use Rattle.messages.specs.Message.{of_octets, pair};

@@ -7,7 +7,7 @@ pub use names_flat::laws::{canonical_order_is_total, names_below_an_apex_are_an_
 pub use names_parsed::laws::what_is_read_is_passed_over;
 pub use names_rdata::laws::{names_are_read_back, unknown_data_are_read_back};
 
-/// What is composed of a number is read as that number (RFC 1035, 2.3.2).
+/// A composed number is read as the same number (RFC 1035, 2.3.2).
 pub fn numbers_are_read_back()
     ensures sixteen { (n : ℕ) → n < 2 ^ 16 → from_be_bytes w16 (to_be_bytes w16 n) ≡ n }
     ensures thirty_two { (n : ℕ) → n < 2 ^ 32 → from_be_bytes w32 (to_be_bytes w32 n) ≡ n }

@@ -29,23 +29,23 @@ labels_with ls (o ∷ os) = ls ++ (o ∷ os) ∷ []
 abbrev pub all_labels : Building → Name
 all_labels b = labels_with b.done b.open_label
 
--- the same with the open label ended
+-- what a builder holds, with the open label ended
 abbrev pub ended : Building → Building
 ended b = record { done = all_labels b; open_label = [] }
 
--- with octets added to the open label, or to one that they open
+-- what a builder holds, with octets added to the open label, or to one that they open
 abbrev pub with_octets : Building → List ℕ → Building
 with_octets b os = record { done = b.done; open_label = b.open_label ++ os }
 
--- with labels behind the ended one
+-- what a builder holds, with labels behind the ended one
 abbrev pub with_labels : Building → Name → Building
 with_labels b ls = record { done = all_labels b ++ ls; open_label = [] }
 
--- longer than any relative name (RFC 1035, 2.3.4)
+-- what a builder holds is longer than any relative name (RFC 1035, 2.3.4)
 abbrev pub IsOver : Building → Type 0
 IsOver b = 254 < length (octets_of_building b)
 
--- octets that would make the open label too long, and those that would make the name so
+-- octets that would make the open label too long, and octets that would make the name too long
 abbrev pub IsLongLabel : Building → List ℕ → Type 0
 IsLongLabel b os = 63 < length b.open_label + length os
 
@@ -73,13 +73,13 @@ pub record IsShort (b : Building) : Type 0 where
   pub open_label : length b.open_label ≤ 63
   pub name : length (octets_of_building b) ≤ 254
 
--- A builder held this before more was added: so many octets in front, where a label is open at this place.
+-- A builder held this before more was added: a number of octets in front, with a label open at a place or none.
 pub record IsFront (before : Building) (len : ℕ) (head : Option ℕ) (now : Building) : Type 0 where
   pub octets : closed (take len (octets_of_building now)) head 0 ≡ octets_of_building before
   pub place : head ≡ head_of before.open_label (length (spelled before.done))
   pub short : IsShort before
 
--- the buffer holds this
+-- the buffer holds what is described
 pub record Holds (bs : List ℕ) (head : Option ℕ) (b : Building) : Type 0 where
   pub octets : bs ≡ octets_of_building b
   pub place : head ≡ head_of b.open_label (length (spelled b.done))

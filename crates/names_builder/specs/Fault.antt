@@ -1,4 +1,4 @@
--- Which fault a refused symbol of a text is.
+-- The fault of a symbol of a text that is refused.
 use Rattle.std.specs.Prelude.{◌≡◌, ◌<◌, ◌≤◌, Bool, true, false, ℕ, ◌⊎◌, List, [], ◌∷◌, ◌++◌, length, Option, Some, None}
 use Rattle.std.specs.Option.{option_map}
 use Rattle.definitions.specs.Text.{Symbol, is_symbol, is_dot, is_bracket, octet, symbols_of}
@@ -47,7 +47,7 @@ pub record AddsOctet (b : Building) (s : Symbol) : Type 0 where
   pub valid : is_symbol s ≡ true
   pub begins : b.open_label ≡ [] → is_bracket s ≡ false
 
--- Why a symbol is refused behind what a builder has. Of these no two hold.
+-- Why a symbol is refused behind what a builder has. No two of these hold at once.
 abbrev pub FaultAt : Building → Symbol → Fault → Type 0
 FaultAt b s (BadText e) = (is_symbol s ≡ false) × (e ≡ BadSymbol)
 FaultAt b s EmptyLabel = (is_dot s ≡ true) × (b.open_label ≡ [])

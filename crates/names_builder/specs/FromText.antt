@@ -54,19 +54,19 @@ CannotGoOn s open_label = ((is_dot s ≡ true) × (open_label ≡ false)) ⊎ ((
 
 -- ---- what a builder reads
 
--- its labels, and the open one last: empty where none is open
+-- the labels of a builder, and the open one last: empty where none is open
 abbrev pub standing : Building → Name
 standing b = b.done ++ b.open_label ∷ []
 
--- the labels where these symbols follow, however long they get
+-- the labels of a builder where these symbols follow, however long they get
 abbrev pub continued : Building → List Symbol → Option Name
 continued b ss = option_map (λ ls. b.done ++ ls) (open_labels b.open_label (pieces ss))
 
--- the labels where these symbols follow
+-- the labels of a builder where these symbols follow
 abbrev pub symbols_behind : Building → List Symbol → Option Name
 symbols_behind b ss = read_behind b.done b.open_label ss
 
--- the labels where this text follows
+-- the labels of a builder where this text follows
 abbrev pub text_behind : Building → List ℕ → Option Name
 text_behind b text = elim (symbols_of text) [ None ↦ None | Some ss ↦ read_behind b.done b.open_label ss ]
 
@@ -124,11 +124,11 @@ NameFault {S} steps s f =
 
 -- ---- symbols that an iterator gives
 
--- they are read as this
+-- the symbols that an iterator gives are read as this value
 abbrev pub SymbolsSpell : {S A : Type 0} → (S → Option WireSymbol → S → Type 0) → S → (List Symbol → Option A) → A → Type 0
 SymbolsSpell {S} steps s read a = (symbols : List WireSymbol) × Drains steps s symbols × (read (map symbol_of symbols) ≡ Some a)
 
--- nothing is read from those it gave: whatever may come behind them, or there are no more
+-- nothing is read from the symbols that an iterator gave: whatever may come behind them, or there are no more
 abbrev pub SymbolsSpellNothing : {S A : Type 0} → (S → Option WireSymbol → S → Type 0) → S → (List Symbol → Option A) → Type 0
 SymbolsSpellNothing {S} steps s read =
     ((symbols : List WireSymbol) × (t : S) × Yields steps s symbols t × ((rest : List Symbol) → read (map symbol_of symbols ++ rest) ≡ None))
@@ -156,6 +156,6 @@ RelativeFault {S} steps s f = FaultBehind steps s nothing f
 abbrev pub IsAbsolute : List ℕ → Type 0
 IsAbsolute text = (l : Label) × (n : Name) × (name_of_text text ≡ Some (l ∷ n))
 
--- the iterator gave such a text
+-- the iterator gave a text that spells an absolute name with a label
 abbrev pub SpellsAbsolute : {S : Type 0} → (S → Option ℕ → S → Type 0) → S → Type 0
 SpellsAbsolute {S} steps s = (text : List ℕ) × Drains steps s text × IsAbsolute text

@@ -32,7 +32,7 @@ fn set_octet<B: OctetsBuilder>(builder: &mut B, place: usize, octet: u8)
     builder.as_mut_slice()[place] = octet;
 }
 
-/// Appends an octet and others behind it, or nothing.
+/// Appends an octet and others behind it; where that is refused, appends nothing.
 fn append_behind<B: OctetsBuilder>(builder: &mut B, head: u8, octets: &[u8]) -> Result<(), ShortBuf>
     ensures ok { OnOk result (B.bytes builder.new ≡ B.bytes builder.old ++ head ∷ octets.now) }
     ensures err { OnErr result (B.bytes builder.new ≡ B.bytes builder.old) }
@@ -57,7 +57,7 @@ fn close<B: OctetsBuilder>(builder: &mut B, head: Option<usize>, len: usize)
     }
 }
 
-/// Appends the labels of a name, each behind its length, or nothing.
+/// Appends all labels of a name, each behind its length; where that is refused, appends nothing.
 fn append_labels<B: OctetsBuilder, N: ToLabelIter>(
     builder: &mut B,
     name: &N,
@@ -99,7 +99,7 @@ impl<B: OctetsBuilder> Model for NameBuilder<B> {
 }
 
 impl<B: OctetsBuilder> NameBuilder<B> {
-    /// Goes on behind the labels that a buffer holds. A buffer that holds something else is dropped.
+    /// Continues behind the labels that a buffer holds. A buffer that holds anything else is dropped.
     pub fn from_builder(builder: B) -> Result<Self, RelativeNameError>
     where
         B: Drop,
@@ -116,7 +116,7 @@ impl<B: OctetsBuilder> NameBuilder<B> {
         }
     }
 
-    /// Goes on behind the labels that a buffer was found to hold.
+    /// Continues behind the labels that a buffer is known to hold.
     pub fn behind(builder: B) -> Self
         requires { SpellsRelative (B.bytes builder) (labels_in (B.bytes builder)) }
         ensures { result ≡ record { done = labels_in (B.bytes builder); open_label = [] } }
@@ -166,7 +166,7 @@ impl<B: OctetsBuilder> NameBuilder<B> {
         }
     }
 
-    /// Adds octets to the open label; where none is open they open one. No octets open none.
+    /// Adds octets to the open label; where no label is open, they open one. An empty slice opens none.
     pub fn append_slice(&mut self, octets: &[u8]) -> Result<(), PushError>
         ensures ok { OnOk result (self.new ≡ with_octets self.old octets.now) }
         ensures long_label { IsErrOf result PushError.LongLabel ↔ IsLongLabel self.old octets.now }
@@ -215,7 +215,7 @@ impl<B: OctetsBuilder> NameBuilder<B> {
         }
     }
 
-    /// Ends the open label, and adds a label behind it; no octets add none.
+    /// Ends the open label, and adds a label behind it. An empty slice adds none.
     pub fn append_label(&mut self, label: &[u8]) -> Result<(), PushError>
         ensures ok { OnOk result (self.new ≡ with_labels self.old (labels_with [] label.now)) }
         ensures long_label { IsErrOf result PushError.LongLabel ↔ (63 < length label.now) }
@@ -258,7 +258,7 @@ impl<B: OctetsBuilder> NameBuilder<B> {
     }
 }
 
-/// Reading text (RFC 1035, 5.1). A dot ends the open label; no text changes nothing.
+/// Reading text (RFC 1035, 5.1). A dot ends the open label; an empty text changes nothing.
 impl<B: OctetsBuilder> NameBuilder<B> {
     /// Adds a symbol: its octet to the open label, or a label's end.
     pub(crate) fn push_symbol(&mut self, symbol: Symbol) -> Result<(), FromStrError>
@@ -281,8 +281,8 @@ impl<B: OctetsBuilder> NameBuilder<B> {
         Ok(())
     }
 
-    /// Adds symbols: octets to the open label, and at each dot a label's end. A symbol that is refused, with those before
-    /// it added, gives its fault.
+    /// Adds symbols: octets to the open label, and at each dot a label's end. Where a symbol is refused, the call
+    /// returns its fault and adds nothing.
     pub fn append_symbols<S: Iterator<Item = Symbol> + Drop>(
         &mut self,
         symbols: S,
@@ -302,7 +302,8 @@ impl<B: OctetsBuilder> NameBuilder<B> {
         done
     }
 
-    /// As `append_symbols`; at a symbol that is refused it stops, and what those before it made stands.
+    /// Adds symbols: octets to the open label, and at each dot a label's end. The call stops at a symbol that is
+    /// refused, and keeps what the symbols before it added.
     pub(crate) fn add_symbols<S: Iterator<Item = Symbol> + Drop>(
         &mut self,
         symbols: S,
@@ -319,7 +320,7 @@ impl<B: OctetsBuilder> NameBuilder<B> {
         Ok(())
     }
 
-    /// Takes back all behind so many octets: where a label was open there, it is open again.
+    /// Removes all but the first `len` octets. A label that was open at that length is open again.
     fn put_back(&mut self, len: usize, head: Option<usize>)
         requires { (before : Building) × IsFront before len head self.old }
         ensures { (before : Building) → IsFront before len head self.old → self.new ≡ before }
@@ -329,7 +330,7 @@ impl<B: OctetsBuilder> NameBuilder<B> {
         self.head = head;
     }
 
-    /// Adds a character behind those that a reader has of a symbol.
+    /// Adds a character behind those that a reader holds of an unfinished symbol.
     pub(crate) fn push_char(
         &mut self,
         reader: &mut SymbolReader,
@@ -355,8 +356,8 @@ impl<B: OctetsBuilder> NameBuilder<B> {
         Ok(())
     }
 
-    /// Adds the symbols that characters spell: octets to the open label, and at each dot a label's end. The first
-    /// character behind which no name can come gives its fault.
+    /// Adds the symbols that characters spell: octets to the open label, and at each dot a label's end. The call
+    /// returns the fault of the first character behind which no name can come.
     pub fn append_chars<C: Iterator<Item = char> + Drop>(
         &mut self,
         chars: C,
@@ -379,8 +380,8 @@ impl<B: OctetsBuilder> NameBuilder<B> {
         done
     }
 
-    /// Adds the symbols that characters spell behind those that a reader has of one. At a character behind which no name
-    /// can come it stops; what the whole symbols before it made stands.
+    /// Adds the symbols that characters spell, behind those that a reader holds of an unfinished symbol. The call stops
+    /// at a character behind which no name can come, and keeps what the whole symbols before it added.
     pub(crate) fn append_text<C: Iterator<Item = char> + Drop>(
         &mut self,
         reader: SymbolReader,
@@ -409,7 +410,7 @@ impl<B: OctetsBuilder> NameBuilder<B> {
 
 /// The octets that a builder made.
 impl<B: OctetsBuilder> NameBuilder<B> {
-    /// Ends the open label, and gives the labels, each behind its length.
+    /// Ends the open label, and returns the labels, each behind its length.
     pub fn into_octets(self) -> B
         ensures { SpellsRelative (B.bytes result) (all_labels self) }
     {
@@ -420,8 +421,8 @@ impl<B: OctetsBuilder> NameBuilder<B> {
         octets
     }
 
-    /// Ends the open label, and gives the wire form of the name under the root. It is refused for want of room
-    /// alone.
+    /// Ends the open label, and returns the wire form of the name under the root. The call is refused only for lack of
+    /// room.
     pub fn into_name_octets(self) -> Result<B, ShortBuf>
     where
         B: Drop,
@@ -434,7 +435,7 @@ impl<B: OctetsBuilder> NameBuilder<B> {
         }
     }
 
-    /// Ends the open label, and gives the wire form of the name under an origin.
+    /// Ends the open label, and returns the wire form of the name under an origin.
     pub fn append_origin_octets<N: Absolute>(self, origin: &N) -> Result<B, PushNameError>
     where
         B: Drop,
@@ -459,7 +460,7 @@ impl<B: OctetsBuilder> NameBuilder<B> {
 }
 
 impl NameBuilder<Vec<u8>> {
-    /// An empty builder, which makes its octets as it grows.
+    /// An empty builder, which allocates as it grows.
     pub fn new(alloc: Global) -> Self
         ensures { result ≡ record { done = []; open_label = [] } }
     {
@@ -469,14 +470,14 @@ impl NameBuilder<Vec<u8>> {
         }
     }
 
-    /// As `new`.
+    /// An empty builder, which allocates as it grows.
     pub fn new_vec(alloc: Global) -> Self
         ensures { result ≡ record { done = []; open_label = [] } }
     {
         NameBuilder::new(alloc)
     }
 
-    /// An empty builder with room for so many octets.
+    /// An empty builder with room for `capacity` octets.
     pub fn with_capacity(alloc: Global, capacity: usize) -> Result<Self, ShortBuf>
         ensures { IfOk result (λ b. b ≡ record { done = []; open_label = [] }) }
     {
@@ -489,7 +490,7 @@ impl NameBuilder<Vec<u8>> {
         }
     }
 
-    /// As `with_capacity`.
+    /// An empty builder with room for `capacity` octets.
     pub fn vec_with_capacity(alloc: Global, capacity: usize) -> Result<Self, ShortBuf>
         ensures { IfOk result (λ b. b ≡ record { done = []; open_label = [] }) }
     {

@@ -1,4 +1,4 @@
-//! Why a builder takes no more.
+//! Why a builder refuses to grow.
 
 ghost use Rattle.std.specs.Prelude.{◌≡◌};
 
@@ -14,7 +14,7 @@ pub enum PushError {
     /// The name would have more than 254 octets.
     #[error("long domain name")]
     LongName,
-    /// The buffer is full, or was refused memory.
+    /// The buffer is full, or memory ran out.
     #[error("buffer too short")]
     ShortBuf,
 }
@@ -35,7 +35,7 @@ pub enum PushNameError {
     /// The name would be too long: past 254 octets, or past 255 with the root's.
     #[error("long domain name")]
     LongName,
-    /// The buffer is full, or was refused memory.
+    /// The buffer is full, or memory ran out.
     #[error("buffer too short")]
     ShortBuf,
 }

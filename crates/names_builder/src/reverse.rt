@@ -12,7 +12,7 @@ use std::alloc::Global;
 use std::net::IpAddr;
 
 impl<B: OctetsBuilder> NameBuilder<B> {
-    /// Ends the open label, and adds one of the number in decimal digits.
+    /// Ends the open label, and adds a label that spells the number in decimal digits.
     pub fn append_dec_u8_label(&mut self, value: u8) -> Result<(), PushError>
         ensures ok { OnOk result (self.new ≡ with_labels self.old (decimal_label value ∷ [])) }
         ensures long_label { IsErrOf result PushError.LongLabel → ⊥ }
@@ -32,7 +32,7 @@ impl<B: OctetsBuilder> NameBuilder<B> {
         }
     }
 
-    /// Ends the open label, and adds one of the lower four bits as a hexadecimal digit.
+    /// Ends the open label, and adds a label that spells the lower four bits as a hexadecimal digit.
     pub fn append_hex_digit_label(&mut self, nibble: u8) -> Result<(), PushError>
         ensures ok { let label = hex_digit (nibble % 16) ∷ [] in
             OnOk result (self.new ≡ with_labels self.old (label ∷ [])) }
@@ -50,8 +50,8 @@ impl<B: OctetsBuilder> NameBuilder<B> {
     }
 }
 
-/// A builder with the labels of the name under which an address is looked up. It is refused for want of memory
-/// alone.
+/// A builder with the labels of the name under which an address is looked up. The call is refused only for lack of
+/// memory.
 pub fn reverse_labels(alloc: Global, addr: IpAddr) -> Result<NameBuilder<Vec<u8>>, PushError>
     ensures labels { IfOk result (λ b. all_labels b ≡ reverse_name addr) }
     ensures memory { IfErr result (λ e. e ≡ PushError.ShortBuf) }
@@ -89,7 +89,7 @@ fn append_octets(builder: &mut NameBuilder<Vec<u8>>, octets: &[u8]) -> Result<()
     Ok(())
 }
 
-/// Appends a label for each four bits, of an octet the lower ones first.
+/// Appends a label for each four bits, the lower four bits of an octet first.
 fn append_nibbles(builder: &mut NameBuilder<Vec<u8>>, octets: &[u8]) -> Result<(), PushError>
     requires closed { builder.old.open_label ≡ [] }
     requires room { length (spelled builder.old.done) + 4 * length octets.now ≤ 254 }

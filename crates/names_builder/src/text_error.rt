@@ -52,7 +52,7 @@ pub enum FromStrError {
     /// The text spells no name.
     #[error("{0}")]
     Presentation(PresentationError),
-    /// The buffer is full, or was refused memory.
+    /// The buffer is full, or memory ran out.
     #[error("buffer too short")]
     ShortBuf,
 }

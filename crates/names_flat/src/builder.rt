@@ -1,4 +1,4 @@
-//! Builders brought to their end, as names over the octets that they made.
+//! Builders finished as names over the octets that they made.
 
 ghost use Rattle.std.specs.Prelude.{◌≡◌, ◌↔◌, ◌<◌, ◌++◌, length, IfOk, IfErr, IsErrOf};
 ghost use Rattle.names_builder.specs.Building.{Building, all_labels, IsOver, with_labels};
@@ -10,22 +10,22 @@ use names_builder::push_error::PushNameError;
 use names_labels::traits::Absolute;
 pub use names_wire::builder::BuiltOctets;
 
-/// What a builder has made, as a name.
+/// Turns what a builder has made into a name.
 pub trait Finish<B: BuiltOctets>: Sized {
     ghost building: { Self → Building };
 
-    /// Ends the open label, and gives the relative name.
+    /// Ends the open label, and returns the relative name.
     fn finish(self) -> RelativeName<B>
         ensures { result ≡ all_labels (building self) };
 
-    /// Ends the open label, and gives the name under the root. It is refused for want of room alone.
+    /// Ends the open label, and returns the name under the root. The call is refused only for lack of room.
     fn into_name(self) -> Result<Name<B>, PushNameError>
     where
         B: Drop,
         ensures ok { IfOk result (λ n. n ≡ all_labels (building self)) }
         ensures err { IfErr result (λ e. e ≡ PushNameError.ShortBuf) };
 
-    /// Ends the open label, and gives the name under an origin.
+    /// Ends the open label, and returns the name under an origin.
     fn append_origin<N: Absolute>(self, origin: &N) -> Result<Name<B>, PushNameError>
     where
         B: Drop,

@@ -18,7 +18,7 @@ use names_wire::symbol::Symbol;
 use std::alloc::Global;
 
 impl Name<Vec<u8>> {
-    /// The name that the symbols spell. A dot alone is the root, and else a last dot may be left out.
+    /// The name that the symbols spell. A lone dot is the root; any other name may leave its last dot out.
     pub fn from_symbols<S: Iterator<Item = Symbol> + Drop>(
         alloc: Global,
         symbols: S,
@@ -34,9 +34,8 @@ impl Name<Vec<u8>> {
         Ok(read_symbols(alloc, symbols)?.into_name()?)
     }
 
-    /// The name that the characters spell. A dot alone is the root, and else a last dot may be left out.
-    ///
-    /// It stops at the first character behind which no name can come.
+    /// The name that the characters spell. A lone dot is the root; any other name may leave its last dot out. Reading
+    /// stops at the first character behind which no name can come.
     pub fn from_chars<C: Iterator<Item = char> + Drop>(
         alloc: Global,
         chars: C,
@@ -52,7 +51,7 @@ impl Name<Vec<u8>> {
         Name::read(alloc, 0, chars)
     }
 
-    /// As `from_chars`, with room for so many octets at once.
+    /// The name that the characters spell, made with room for `room` octets.
     fn read<C: Iterator<Item = char> + Drop>(
         alloc: Global,
         room: usize,
@@ -69,7 +68,7 @@ impl Name<Vec<u8>> {
         Ok(read_chars(alloc, room, chars)?.into_name()?)
     }
 
-    /// The name that the text spells, as `from_chars` reads it.
+    /// The name that the text spells, with the grammar of `from_chars`.
     pub fn vec_from_str(alloc: Global, text: &str) -> Result<Self, FromStrError>
         ensures ok { IfOk result (λ n. name_of_text (chars_of text.now) ≡ Some n) }
         ensures refused { IfErr result (λ e. is_text e ≡ true
@@ -83,7 +82,7 @@ impl Name<Vec<u8>> {
         }
     }
 
-    /// The name that a text spells, read in one walk; nothing where it is to be read symbol by symbol.
+    /// The name that a text spells, read in one walk; `None` where it has to be read symbol by symbol.
     fn read_at_once(alloc: Global, text: &str) -> Result<Option<Self>, FromStrError>
         ensures ok { IfOk result (λ o.
             IfSome o (λ n. name_of_text (chars_of text.now) ≡ Some n)) }
@@ -98,8 +97,8 @@ impl Name<Vec<u8>> {
 }
 
 impl RelativeName<Vec<u8>> {
-    /// The relative name that the characters spell: the empty one where there are none. A last dot is refused; a
-    /// dot alone as an empty label.
+    /// The relative name that the characters spell; the empty name where there are none. A last dot is refused; a lone
+    /// dot is refused as an empty label.
     pub fn from_chars<C: Iterator<Item = char> + Drop>(
         alloc: Global,
         chars: C,
@@ -118,7 +117,7 @@ impl RelativeName<Vec<u8>> {
         RelativeName::read(alloc, 0, chars)
     }
 
-    /// As `from_chars`, with room for so many octets at once.
+    /// The relative name that the characters spell, made with room for `room` octets.
     fn read<C: Iterator<Item = char> + Drop>(
         alloc: Global,
         room: usize,
@@ -138,7 +137,7 @@ impl RelativeName<Vec<u8>> {
         Ok(read_relative(alloc, room, chars)?.finish())
     }
 
-    /// The relative name that the text spells, as `from_chars` reads it.
+    /// The relative name that the text spells, with the grammar of `from_chars`.
     pub fn vec_from_str(alloc: Global, text: &str) -> Result<Self, RelativeFromStrError>
         ensures ok { IfOk result (λ n. relative_of_text (chars_of text.now) ≡ Some n) }
         ensures refused { IfErr result (λ e. is_relative_text e ≡ true
@@ -155,7 +154,7 @@ impl RelativeName<Vec<u8>> {
         }
     }
 
-    /// The relative name that a text spells, read in one walk; nothing where it is to be read symbol by symbol.
+    /// The relative name that a text spells, read in one walk; `None` where it has to be read symbol by symbol.
     fn read_at_once(alloc: Global, text: &str) -> Result<Option<Self>, FromStrError>
         ensures ok { IfOk result (λ o.
             IfSome o (λ n. relative_of_text (chars_of text.now) ≡ Some n)) }
@@ -169,7 +168,7 @@ impl RelativeName<Vec<u8>> {
     }
 }
 
-/// The octets that a name takes whose text is this long, at most those of the longest name (RFC 1035, 2.3.4).
+/// The number of octets that a name of a text this long takes, at most that of the longest name (RFC 1035, 2.3.4).
 fn room_for(text: &str) -> usize
     ensures { result ≤ 255 }
 {

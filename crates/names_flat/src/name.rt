@@ -41,7 +41,7 @@ impl<Octs: Octets> Name<Octs> {
     /// The most octets that a name has, the root's included (RFC 1035, 2.3.4).
     pub const MAX_LEN: usize = 255;
 
-    /// The name that the octets spell. Octets that spell none are dropped.
+    /// The name that the octets spell. Octets that spell no name are dropped.
     pub fn from_octets(octets: Octs) -> Result<Self, NameError>
     where
         Octs: Drop,
@@ -106,7 +106,7 @@ impl<Octs: Octets> Name<Octs> {
         self.octets
     }
 
-    /// The same name over a slice of its octets.
+    /// The name over a slice of its octets.
     pub fn for_ref(&self) -> Name<&[u8]>
         ensures { result ≡ self.now }
     {
@@ -185,7 +185,7 @@ impl Name<&'static [u8]> {
         Name { octets: b"\x00" }
     }
 
-    /// As `root_ref`.
+    /// The root, over borrowed octets.
     pub fn root_slice() -> Self
         ensures { result ≡ [] }
     {
@@ -194,7 +194,7 @@ impl Name<&'static [u8]> {
 }
 
 impl<'a> Name<CowSlice<'a, u8>> {
-    /// The name that octets spell of which that is known already (`from_slice` tells), over these octets themselves.
+    /// The name over octets that are known to spell one (`from_slice` tests this). The octets are borrowed.
     pub fn borrowed(octets: &'a [u8]) -> Self
         requires { IsFlat octets.now }
         ensures { result ≡ name_in octets.now }
@@ -206,7 +206,7 @@ impl<'a> Name<CowSlice<'a, u8>> {
 }
 
 impl Name<Vec<u8>> {
-    /// The same name over octets that may be borrowed or owned.
+    /// The name over octets that may be borrowed or owned.
     pub fn into_cow(self) -> Name<CowSlice<'static, u8>>
         ensures { result ≡ self }
     {
@@ -215,8 +215,8 @@ impl Name<Vec<u8>> {
         }
     }
 
-    /// The name that octets spell of which that is known already (`from_slice` tells), over a copy of them. It is refused
-    /// for want of memory alone.
+    /// The name over a copy of octets that are known to spell one (`from_slice` tests this). The call is refused only
+    /// for lack of memory.
     pub fn copied(alloc: Global, octets: &[u8]) -> Result<Self, AllocError>
         requires { IsFlat octets.now }
         ensures { IfOk result (λ n. n ≡ name_in octets.now) }
@@ -226,14 +226,14 @@ impl Name<Vec<u8>> {
         })
     }
 
-    /// As `root_vec`. `root_ref` takes no memory.
+    /// The root with octets of its own. `root_ref` gives it without taking memory.
     pub fn root(alloc: Global) -> Result<Self, ShortBuf>
         ensures { IfOk result (λ n. n ≡ []) }
     {
         Name::root_vec(alloc)
     }
 
-    /// The root with octets of its own. It is refused for want of memory alone.
+    /// The root with octets of its own. The call is refused only for lack of memory.
     pub fn root_vec(alloc: Global) -> Result<Self, ShortBuf>
         ensures { IfOk result (λ n. n ≡ []) }
     {

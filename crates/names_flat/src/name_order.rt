@@ -52,7 +52,7 @@ impl<Octs: Octets> Ord for Name<Octs> {
     }
 }
 
-/// Each label's length and lowered octets, the root's last.
+/// Feeds each label's length and lowered octets, the root's last.
 impl<Octs: Octets> Hash for Name<Octs> {
     ghost hash_input = { name_feed };
 

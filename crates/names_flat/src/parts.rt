@@ -64,7 +64,7 @@ impl<Octs: Octets> Name<Octs> {
         Name::of_octets(name)
     }
 
-    /// As `range_from`.
+    /// The name from a place on, at which a label begins (`is_label_start`), as a slice of the octets.
     pub fn slice_from(&self, begin: usize) -> Name<&[u8]>
         requires { StartsLabel self.now begin }
         ensures { SpellsName (drop begin (wire self.now)) result }
@@ -82,7 +82,7 @@ impl<Octs: Octets> Name<Octs> {
         (RelativeName::of_octets(front), Name::of_octets(back))
     }
 
-    /// The first label and the name behind it; nothing for the root.
+    /// The first label and the name behind it; `None` for the root.
     pub fn split_first(&self) -> Option<(Label<'_>, Name<&[u8]>)>
         ensures { MatchOption result (self.now ≡ []) (λ p. self.now ≡ octets_of p.0 ∷ p.1) }
     {
@@ -93,7 +93,7 @@ impl<Octs: Octets> Name<Octs> {
         Some((label, Name::of_octets(rest)))
     }
 
-    /// The name without its first label; nothing for the root.
+    /// The name without its first label; `None` for the root.
     pub fn parent(&self) -> Option<Name<&[u8]>>
         ensures value { IfSome result (λ p. p ≡ drop 1 self.now) }
         ensures root { IsNone result ↔ (self.now ≡ []) }
@@ -159,7 +159,7 @@ impl<Octs: Octets> RelativeName<Octs> {
         )
     }
 
-    /// The first label and the name behind it; nothing for the empty name.
+    /// The first label and the name behind it; `None` for the empty name.
     pub fn split_first(&self) -> Option<(Label<'_>, RelativeName<&[u8]>)>
         ensures { MatchOption result (self.now ≡ []) (λ p. self.now ≡ octets_of p.0 ∷ p.1) }
     {
@@ -167,7 +167,7 @@ impl<Octs: Octets> RelativeName<Octs> {
         Some((label, RelativeName::of_octets(rest)))
     }
 
-    /// The name without its first label; nothing for the empty name.
+    /// The name without its first label; `None` for the empty name.
     pub fn parent(&self) -> Option<RelativeName<&[u8]>>
         ensures value { IfSome result (λ p. p ≡ drop 1 self.now) }
         ensures empty { IsNone result ↔ (self.now ≡ []) }

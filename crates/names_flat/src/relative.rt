@@ -39,7 +39,7 @@ impl<Octs: Octets> Model for RelativeName<Octs> {
 }
 
 impl<Octs: Octets> RelativeName<Octs> {
-    /// The name that the octets spell. Octets that spell none are dropped.
+    /// The name that the octets spell. Octets that spell no name are dropped.
     pub fn from_octets(octets: Octs) -> Result<Self, RelativeNameError>
     where
         Octs: Drop,
@@ -92,7 +92,7 @@ impl<Octs: Octets> RelativeName<Octs> {
         self.octets
     }
 
-    /// The same name over a slice of its octets.
+    /// The name over a slice of its octets.
     pub fn for_ref(&self) -> RelativeName<&[u8]>
         ensures { result ≡ self.now }
     {
@@ -161,7 +161,7 @@ impl<Octs: BuiltOctets> RelativeName<Octs> {
         self.octets.truncate(len);
     }
 
-    /// The name under the root. It is refused for want of room alone.
+    /// The name under the root. The call is refused only for lack of room.
     pub fn into_absolute(self) -> Result<Name<Octs>, PushNameError>
     where
         Octs: Drop,
@@ -171,7 +171,7 @@ impl<Octs: BuiltOctets> RelativeName<Octs> {
         self.into_builder().into_name()
     }
 
-    /// A builder that goes on behind the labels.
+    /// A builder that continues behind the labels.
     pub fn into_builder(self) -> NameBuilder<Octs>
         ensures { result ≡ record { done = self; open_label = [] } }
     {
@@ -180,7 +180,7 @@ impl<Octs: BuiltOctets> RelativeName<Octs> {
 }
 
 impl RelativeName<Vec<u8>> {
-    /// The same name over octets that may be borrowed or owned.
+    /// The name over octets that may be borrowed or owned.
     pub fn into_cow(self) -> RelativeName<CowSlice<'static, u8>>
         ensures { result ≡ self }
     {
@@ -189,14 +189,14 @@ impl RelativeName<Vec<u8>> {
         }
     }
 
-    /// As `empty_vec`.
+    /// The name with no labels, with octets of its own. It takes no memory yet.
     pub fn empty(alloc: Global) -> Self
         ensures { result ≡ [] }
     {
         RelativeName::empty_vec(alloc)
     }
 
-    /// As `wildcard_vec`. `wildcard_ref` takes no memory.
+    /// The name of the label `*`, with octets of its own. `wildcard_ref` gives it without taking memory.
     pub fn wildcard(alloc: Global) -> Result<Self, ShortBuf>
         ensures { IfOk result (λ n. n ≡ (42 ∷ []) ∷ []) }
     {
@@ -210,7 +210,7 @@ impl RelativeName<Vec<u8>> {
         NameBuilder::new(alloc).finish()
     }
 
-    /// The name of the label `*`, with octets of its own. It is refused for want of memory alone.
+    /// The name of the label `*`, with octets of its own. The call is refused only for lack of memory.
     pub fn wildcard_vec(alloc: Global) -> Result<Self, ShortBuf>
         ensures { IfOk result (λ n. n ≡ (42 ∷ []) ∷ []) }
     {
@@ -248,14 +248,14 @@ impl RelativeName<&'static [u8]> {
         RelativeName { octets: b"\x01*" }
     }
 
-    /// As `wildcard_ref`.
+    /// The name of the label `*`, over borrowed octets.
     pub fn wildcard_slice() -> Self
         ensures { result ≡ (42 ∷ []) ∷ [] }
     {
         RelativeName::wildcard_ref()
     }
 
-    /// As `empty_ref`.
+    /// The name with no labels, over borrowed octets.
     pub fn empty_slice() -> Self
         ensures { result ≡ [] }
     {

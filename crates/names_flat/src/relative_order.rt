@@ -52,7 +52,7 @@ impl<Octs: Octets> Ord for RelativeName<Octs> {
     }
 }
 
-/// Each label's length and lowered octets.
+/// Feeds each label's length and lowered octets.
 impl<Octs: Octets> Hash for RelativeName<Octs> {
     ghost hash_input = { labels_feed };
 

@@ -15,7 +15,7 @@ use thiserror::Error;
 pub struct StripSuffixError;
 
 impl<Octs: BuiltOctets> Name<Octs> {
-    /// The labels in front of a suffix, which is compared up to ASCII case.
+    /// The labels in front of a suffix. Suffixes are compared up to ASCII case.
     pub fn strip_suffix<N: Absolute>(self, base: &N) -> Result<RelativeName<Octs>, StripSuffixError>
     where
         Octs: Drop,
@@ -32,7 +32,7 @@ impl<Octs: BuiltOctets> Name<Octs> {
 }
 
 impl<Octs: BuiltOctets> RelativeName<Octs> {
-    /// Takes a suffix away, which is compared up to ASCII case. A refused call changes nothing.
+    /// Takes a suffix away. Suffixes are compared up to ASCII case. A refused call changes nothing.
     pub fn strip_suffix<N: Relative>(&mut self, base: &N) -> Result<(), StripSuffixError>
         ensures ok { let ending = N.name base.now in OnOk result ((suffix : Labels)
             × (self.new ++ suffix ≡ self.old) × (same ending suffix ≡ true)) }

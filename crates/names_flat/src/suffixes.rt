@@ -12,7 +12,7 @@ use std::marker::Model;
 /// A name, its parent and so on to the root. It takes no memory.
 #[derive(Drop)]
 pub struct SuffixIter<'a> {
-    /// The wire form of the next name; empty behind the root's.
+    /// The wire form of the next name; empty behind the root.
     rest: &'a [u8],
 }
 

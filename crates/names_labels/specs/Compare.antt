@@ -3,7 +3,7 @@ use Rattle.std.specs.Prelude.{Bool, true, false, ◌&&◌, [], ◌∷◌}
 use Rattle.std.specs.Str.{bytes_eq, str_to_ascii_lowercase}
 use Rattle.definitions.specs.Name.{Name}
 
--- the labels begin with these, up to ASCII case
+-- the labels of a name begin with those of another, up to ASCII case
 abbrev pub begins_with : Name → Name → Bool
 begins_with n [] = true
 begins_with [] (l ∷ m) = false

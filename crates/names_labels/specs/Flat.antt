@@ -7,7 +7,7 @@ use Rattle.definitions.specs.Name.{Name, Label, wire, IsName}
 abbrev pub spelled : Name → List ℕ
 spelled ls = flat_map (λ l. length l ∷ l) ls
 
--- the labels that the octets spell, so many at most
+-- the labels that the octets spell, up to a greatest number
 abbrev pub labels_up_to : ℕ → List ℕ → Name
 labels_up_to zero bs = []
 labels_up_to (suc k) [] = []

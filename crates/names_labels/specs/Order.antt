@@ -10,13 +10,13 @@ abbrev pub in_case : Case → Label → Label
 in_case Kept l = l
 in_case Lowered l = str_to_ascii_lowercase l
 
--- so many octets at the end of both are the same, up to ASCII case
+-- this number of octets at the end of both are the same, up to ASCII case
 abbrev pub SameEnds : List ℕ → List ℕ → ℕ → Type 0
 SameEnds octets others count =
     (count ≤ length octets) × (count ≤ length others)
     × (str_to_ascii_lowercase (drop (length octets - count) octets) ≡ str_to_ascii_lowercase (drop (length others - count) others))
 
--- and no more
+-- exactly this number of octets at the end of both are the same, up to ASCII case
 pub record HaveTail (octets others : List ℕ) (count : ℕ) : Type 0 where
   pub same : SameEnds octets others count
   pub most : (more : ℕ) → SameEnds octets others more → more ≤ count

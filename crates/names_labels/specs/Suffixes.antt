@@ -8,7 +8,7 @@ abbrev pub suffixes : Name → List Name
 suffixes [] = [] ∷ []
 suffixes (l ∷ n) = (l ∷ n) ∷ suffixes n
 
--- those of the name in wire form, or none behind the root's
+-- the suffixes of the name in wire form, or none behind the root's
 abbrev pub names_left : List ℕ → List Name
 names_left [] = []
 names_left (b ∷ bs) = suffixes (name_in (b ∷ bs))

@@ -23,16 +23,16 @@ abbrev pub HasWalked : List ℕ → List ℕ → Option LabelOf → Type 0
 HasWalked run left None = left ≡ run
 HasWalked run left (Some l) = Walked run left (octets_of l)
 
--- the octets from that label on
+-- the octets from a label on
 abbrev pub reach : List ℕ → LabelOf → ℕ
 reach left l = length left + (length (octets_of l) + 1)
 
--- that label begins in front of so many octets at the end
+-- a label begins in front of a number of octets at the end
 abbrev pub BeginsBefore : ℕ → List ℕ → Option LabelOf → Type 0
 BeginsBefore tail left None = Unit {0}
 BeginsBefore tail left (Some l) = tail < reach left l
 
--- the labels that begin in front of so many octets at the end were walked over, and no others
+-- exactly the labels that begin in front of a number of octets at the end were walked over
 pub record WalksTo (run : List ℕ) (tail : ℕ) (last : Option LabelOf) (left : List ℕ) : Type 0 where
   pub walked : HasWalked run left last
   pub begins : BeginsBefore tail left last

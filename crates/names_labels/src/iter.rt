@@ -11,11 +11,11 @@ use std::marker::Model;
 
 /// The labels of a name over flat octets, from both ends. It takes no memory.
 ///
-/// From the back a label is found by a walk from the left. So that such walks are short, labels at the end are kept apart.
+/// A label at the back is found by a walk from the left. To keep these walks short, labels near the end are kept apart.
 #[derive(Drop)]
 pub struct NameIter<'a> {
     run: &'a [u8],
-    /// The labels behind those of `run`, where some are asked from the back.
+    /// The labels behind those of `run`, once a label was asked for from the back.
     near: &'a [u8],
 }
 

@@ -35,7 +35,8 @@ fn label_cmp(a: Label<'_>, b: Label<'_>, case: Case) -> Ordering
 
 /// Canonical order of two names, from the root's side, labels in lower case (RFC 4034, 6.1).
 ///
-/// What a longer name has in front is passed over. Then both are walked once, and the last difference decides.
+/// The labels that a longer name has in front are skipped. Then both names are walked once, and the last difference
+/// decides.
 pub fn labels_cmp<A: Labels, B: Labels>(name: &A, other: &B) -> Ordering
     ensures { result ≡ name_cmp (A.labels name.now) (B.labels other.now) }
 {
@@ -52,10 +53,10 @@ pub fn labels_cmp<A: Labels, B: Labels>(name: &A, other: &B) -> Ordering
     order.then(count.cmp(&other_count))
 }
 
-/// As `labels_cmp`, of labels in rows.
+/// Canonical order of two names whose labels stand in rows, from the root's side, labels in lower case.
 ///
-/// Each row is walked to the octets that both have in common at their ends, and then the longer rest first, to where the
-/// rests are as long. The labels before these decide.
+/// Each row is walked up to the octets that both have in common at their ends. Then the longer of the two rests is
+/// walked on until both are equally long. The last labels before these rests decide.
 fn runs_cmp(run: &[u8], other: &[u8]) -> Ordering
     requires run { IsRun run.now }
     requires other { IsRun other.now }
@@ -80,8 +81,8 @@ fn runs_cmp(run: &[u8], other: &[u8]) -> Ordering
     label.cmp(&other_label)
 }
 
-/// Walks a row to where no more than so many octets are left. Gives the last label before, if there is one, and what is
-/// left.
+/// Walks a row until at most `tail` octets are left. Returns the last label that was passed, if there is one, and what
+/// is left.
 fn walk_to(run: &[u8], tail: usize) -> (Option<Label<'_>>, &[u8])
     requires { IsRun run.now }
     ensures { WalksTo run.now tail result.0 result.1.now }
@@ -115,7 +116,7 @@ pub fn common_tail(octets: &[u8], others: &[u8]) -> usize
     count
 }
 
-/// How many octets at the end of both are equal, counted by eights.
+/// How many octets at the end of both are equal, counted in groups of eight.
 fn common_eights(octets: &[u8], others: &[u8]) -> usize
     ensures { SameEnds octets.now others.now result }
 {
@@ -191,7 +192,7 @@ pub fn composed_cmp<A: Absolute, B: Absolute>(name: &A, other: &B) -> Ordering
     labels_composed_cmp(name, other, Case::Kept)
 }
 
-/// As `composed_cmp`, with ASCII letters lowered.
+/// The order of the octets of two absolute names in wire form, with ASCII letters lowered.
 pub fn lowercase_composed_cmp<A: Absolute, B: Absolute>(name: &A, other: &B) -> Ordering
     ensures { let octets = wire (low (A.name name.now)) in
         result ≡ slice_cmp nat_cmp octets (wire (low (B.name other.now))) }

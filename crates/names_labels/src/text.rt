@@ -1,4 +1,4 @@
-//! The text of names (RFC 1035, 5.1), gathered so that it is written at once.
+//! The text of names (RFC 1035, 5.1), gathered so that it is written in one call.
 
 ghost use Rattle.std.specs.Prelude.{◌≡◌, ◌+◌, ◌*◌, ◌-◌, ◌<◌, ◌≤◌, ◌++◌, ◌∷◌, [], Some, length, take};
 ghost use Rattle.std.specs.Str.{IsAscii};
@@ -55,7 +55,7 @@ impl NameText {
     pub fn as_str(&self) -> &str
         ensures { result.now ≡ self.now }
     {
-        // Each is an ASCII one.
+        // Each character is an ASCII one.
         unsafe { str::from_utf8_unchecked(&self.characters[..self.len]) }
     }
 
@@ -77,8 +77,8 @@ fn without_last(characters: &[u8]) -> &str
     unsafe { str::from_utf8_unchecked(&characters[..characters.len() - 1]) }
 }
 
-/// Writes the labels of a row with a dot between each two. Short ones are gathered in little room, since it is filled with
-/// zeros first.
+/// Writes the labels of a row with a dot between each two. Short names are gathered in a small buffer, since a buffer
+/// is first filled with zeros.
 pub fn write_labels<W: fmt::Write>(f: &mut fmt::Formatter<W>, run: &[u8]) -> fmt::Result
     requires run { IsRun run.now }
     requires short { length run.now ≤ 255 }
@@ -92,7 +92,7 @@ pub fn write_labels<W: fmt::Write>(f: &mut fmt::Formatter<W>, run: &[u8]) -> fmt
     write_labels_in::<1024, W>(f, run)
 }
 
-/// As `write_labels`, with room for so many characters.
+/// Writes the labels of a row with a dot between each two, through a buffer of `SIZE` characters.
 fn write_labels_in<const SIZE: usize, W: fmt::Write>(
     f: &mut fmt::Formatter<W>,
     run: &[u8],
@@ -109,7 +109,7 @@ fn write_labels_in<const SIZE: usize, W: fmt::Write>(
     f.write_str(without_last(&characters[..end]))
 }
 
-/// Writes the labels of a row, with a dot behind each, and gives the place behind them.
+/// Writes the labels of a row, with a dot behind each, and returns the place behind them.
 fn write_run(characters: &mut [u8], run: &[u8]) -> usize
     requires run { IsRun run.now }
     requires room { 4 * length run.now ≤ length characters.old }
@@ -126,7 +126,7 @@ fn write_run(characters: &mut [u8], run: &[u8]) -> usize
     end
 }
 
-/// Writes the text of a label and a dot from a place on, and gives the place behind it.
+/// Writes the text of a label and a dot from a place on, and returns the place behind it.
 fn write_label(characters: &mut [u8], place: usize, label: &[u8]) -> usize
     requires { place + 4 * length label.now < length characters.old }
     ensures text { let text = text_of_label label.now ++ 46 ∷ [] in
@@ -140,7 +140,7 @@ fn write_label(characters: &mut [u8], place: usize, label: &[u8]) -> usize
     end + 1
 }
 
-/// Writes the text of octets of a label from a place on, and gives the place behind it.
+/// Writes the text of the octets of a label from a place on, and returns the place behind it.
 fn write_octets(characters: &mut [u8], place: usize, octets: &[u8]) -> usize
     requires { place + 4 * length octets.now ≤ length characters.old }
     ensures text { let text = text_of_label octets.now in
@@ -155,7 +155,7 @@ fn write_octets(characters: &mut [u8], place: usize, octets: &[u8]) -> usize
     end
 }
 
-/// Writes the text of an octet from a place on, and gives the place behind it.
+/// Writes the text of an octet from a place on, and returns the place behind it.
 fn write_octet(characters: &mut [u8], place: usize, octet: u8) -> usize
     requires { place + 4 ≤ length characters.old }
     ensures text { take result characters.new ≡ take place characters.old ++ text_of_octet octet }
@@ -185,8 +185,8 @@ fn write_character(characters: &mut [u8], place: usize, character: u8)
     characters[place] = character;
 }
 
-/// Whether an octet is printed as itself: any from `!` to `~` but the dot and the backslash. Small letters are asked for
-/// first, since most are.
+/// Whether an octet is printed as itself: any from `!` to `~` but the dot and the backslash. Small letters are tested
+/// first, since most octets are small letters.
 fn is_plain(octet: u8) -> bool
     ensures { result ≡ is_plain octet }
 {

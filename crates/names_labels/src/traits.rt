@@ -20,7 +20,7 @@ pub trait Labels {
     /// The labels without the root's.
     ghost name: { Self → Name };
 
-    /// From a place the label at an index is reached. What places are is the type's own matter.
+    /// The label at an index can be reached from a place. Each type decides what its places are.
     ghost reaches: { Self → ℕ → ℕ → Type 0 };
 
     /// How many labels there are, the root's included.
@@ -33,13 +33,13 @@ pub trait Labels {
     fn label_at(&self, index: usize) -> Option<Label<'_>>
         ensures { option_map octets_of result ≡ slice_get (labels self.now) index };
 
-    /// A place from which a label is reached, or from behind the last one nothing.
+    /// A place from which the label at an index is reached, or nothing past the last label.
     fn label_place(&self, index: usize) -> usize
         requires { index ≤ length (labels self.now) }
         ensures { reaches self.now result index };
 
-    /// The label at an index, and a place from which the next one is reached: so a walk over the labels need not
-    /// begin at the first one again for each.
+    /// The label at an index, and a place from which the next label is reached, so that a walk over the labels need not
+    /// start from the first label each time.
     fn label_onward(&self, place: usize, index: usize) -> Option<(Label<'_>, usize)>
         requires { reaches self.now place index }
         ensures { let found = slice_get (labels self.now) index in
@@ -47,7 +47,7 @@ pub trait Labels {
             MatchOption result (found ≡ None)
             (λ step. (Some (octets_of step.0) ≡ found) × onward step.1) };
 
-    /// The labels in a row, of a name that keeps them so.
+    /// The labels in a row, if the name keeps them in one.
     fn label_row(&self) -> Option<&[u8]>
         ensures row { IfSome result (λ run. IsRunOf run.now (labels self.now)) }
         ensures name { IfSome result (λ _. IsName (name self.now)) }
@@ -70,7 +70,7 @@ pub(crate) fn labels_of<N: Labels>(name: &N) -> LabelIter<'_, N>
     labels_counted(name, 0, name.label_count())
 }
 
-/// The labels from an index on of a name whose labels were counted already.
+/// The labels of a name from an index on, where the number of its labels is known.
 pub(crate) fn labels_counted<N: Labels>(name: &N, start: usize, count: usize) -> LabelIter<'_, N>
     requires within { start ≤ count }
     requires all { count ≡ length (N.labels name.now) }
@@ -119,7 +119,7 @@ pub fn labels_eq<A: Labels, B: Labels>(name: &A, other: &B) -> bool
         )
 }
 
-/// How many octets the labels of a name take in wire form: as many as their row has, where they stand in one.
+/// How many octets the labels of a name take in wire form. Labels that stand in a row take as many as the row has.
 fn labels_len<N: Labels>(name: &N) -> u16
     ensures { result ≡ length (spelled (N.labels name.now)) }
 {
@@ -134,7 +134,7 @@ fn labels_len<N: Labels>(name: &N) -> u16
     len
 }
 
-/// Labels in their order, with what follows from them.
+/// Labels in their order, with what is computed from them.
 pub trait ToLabelIter: Labels {
     /// The labels from both ends.
     fn iter_labels(&self) -> LabelIter<'_, Self>
@@ -226,7 +226,7 @@ impl<N: Absolute> Absolute for &N {
 #[derive(Drop)]
 pub struct LabelIter<'a, N: Labels> {
     name: &'a N,
-    /// Where the label at `front` stands.
+    /// Where the label at index `front` stands.
     spot: Spot<'a>,
     front: usize,
     back: usize,

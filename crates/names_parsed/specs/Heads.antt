@@ -15,18 +15,19 @@ abbrev pub fault_of : ParseError → ReadFault
 fault_of ShortInput = Short
 fault_of (Form f) = Malformed
 
--- the labels from a place on, and the place behind them, with so many pointers left and in so many octets
+-- the labels from a place on, and the place behind them, through a limited number of pointers and within a limited
+-- number of octets
 unfoldable pub rest_at : ℕ → ℕ → List ℕ → ℕ → Result (Name × ℕ) ReadFault
 rest_at k room m p = finish k m (run_at most_heads k room m p)
 
--- a label that fits, with an octet behind it, and what is read there
+-- the head of a label that fits, with an octet behind it, and what is read there
 pub record LabelHead (k room : ℕ) (m : List ℕ) (p n : ℕ) : Type 0 where
   pub some : 0 < n
   pub fits : n + 2 ≤ room
   pub inside : p + 1 + n < length m
   pub onward : rest_at k room m p ≡ in_front (slice_range m (p + 1) (p + 1 + n)) (rest_at k (room - (n + 1)) m (p + 1 + n))
 
--- a pointer to a place before it, and what is read there
+-- the head of a pointer to an earlier place, and what is read there
 pub record PointerHead (k room : ℕ) (m : List ℕ) (p to : ℕ) : Type 0 where
   pub some : 0 < k
   pub before : to < p
@@ -48,7 +49,7 @@ Walks m p (Ok w) =
     × (0 < w.row → name_at 0 m p ≡ Ok (n, p + w.row))
 Walks m p (Err e) = name_at pointer_limit m p ≡ Err (fault_of e)
 
--- how many labels there are with those that are read, and so many before them; or why none are read
+-- how many labels there are, those that are read and a number before them; or why none are read
 abbrev pub CountsOn : Result Name ReadFault → ℕ → Result ℕ ParseError → Type 0
 CountsOn found before (Ok labels) = (n : Name) × (found ≡ Ok n) × (labels ≡ before + length n)
 CountsOn found before (Err e) = found ≡ Err (fault_of e)

@@ -15,7 +15,7 @@ parsed_same a b = same (parsed_name a) (parsed_name b)
 abbrev pub parsed_cmp : ParsedName → ParsedName → Ordering
 parsed_cmp a b = name_cmp (parsed_name a) (parsed_name b)
 
--- what it feeds a hasher
+-- what a name in a message feeds a hasher
 abbrev pub parsed_feed : ParsedName → List (List ℕ)
 parsed_feed n = name_feed (parsed_name n)
 

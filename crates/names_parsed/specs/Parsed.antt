@@ -18,7 +18,7 @@ parsed_name n = name_from n.message.now n.start
 abbrev pub message_of : ParsedName → List ℕ
 message_of n = n.message.now
 
--- and where
+-- the place of the message at which the name stands
 abbrev pub place_of : ParsedName → ℕ
 place_of n = n.start
 
@@ -40,10 +40,10 @@ StopsAt r e =
     (name_at pointer_limit r.octets r.place ≡ Err (fault_of e))
     ⊎ ((n : Name) × (b : ℕ) × (name_at pointer_limit r.octets r.place ≡ Ok (n, b)) × (r.end < b) × (e ≡ ShortInput))
 
--- a name stands there through pointers
+-- a name stands at a place through pointers
 abbrev pub HasPointers : List ℕ → ℕ → Type 0
 HasPointers m p = (n : Name) × (e : ℕ) × (r : Reads m p pointer_limit n e) × (0 < pointers_of r)
 
--- or through none
+-- a name stands at a place without pointers
 abbrev pub HasNoPointers : List ℕ → ℕ → Type 0
 HasNoPointers m p = (n : Name) × (e : ℕ) × (r : Reads m p pointer_limit n e) × (pointers_of r ≡ 0)

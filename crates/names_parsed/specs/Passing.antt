@@ -13,7 +13,7 @@ pub data Passes (m : List ℕ) : ℕ → Name → ℕ → Type 0 where
   at_pointer : {p high low b : ℕ} → slice_get m p ≡ Some high → 192 ≤ high → slice_get m (p + 1) ≡ Some low → b ≡ p + 2 → Passes m p [] b
   at_label : {p n e b : ℕ} {l : Label} {ls : Name} → slice_get m p ≡ Some n → 0 < n → n ≤ 63 → e ≡ p + 1 + n → e ≤ length m → l ≡ slice_range m (p + 1) e → Passes m e ls b → Passes m p (l ∷ ls) b
 
--- with room for the root's octet within 255
+-- a name can be passed over with room for the root's octet within 255
 pub record CanPass (m : List ℕ) (p b : ℕ) : Type 0 where
   pub labels : Name
   pub passes : Passes m p labels b
@@ -29,8 +29,8 @@ pub record Skips (old new : Reader) : Type 0 where
 abbrev pub NothingToSkip : Reader → Type 0
 NothingToSkip r = (b : ℕ) → CanPass r.octets r.place b → b ≤ r.end → ⊥
 
--- Passing over stops, with room for so many octets, where they end within a head or its label, at a head of another type,
--- or at a label that leaves no room for the root's octet.
+-- Passing over with room for a number of octets stops where the octets end within a head or its label, at a head of
+-- another type, or at a label that leaves no room for the root's octet.
 pub data Stuck (m : List ℕ) : ℕ → ℕ → ReadFault → Type 0 where
   no_head : {p room : ℕ} → length m ≤ p → Stuck m p room Short
   half_pointer : {p room high : ℕ} → slice_get m p ≡ Some high → 192 ≤ high → length m ≤ p + 1 → Stuck m p room Short

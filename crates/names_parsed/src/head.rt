@@ -10,9 +10,9 @@ use names_parser::error::ParseError;
 #[derive(Clone, Copy)]
 enum Head {
     Root,
-    /// A label of so many octets.
+    /// A label of this number of octets.
     Label(usize),
-    /// A pointer to a place before it.
+    /// A pointer to this earlier place.
     Pointer(usize),
 }
 
@@ -21,7 +21,7 @@ enum Head {
 pub(crate) struct Walked {
     /// How many labels it has, the root's included.
     pub(crate) labels: u8,
-    /// How many octets of its wire form stand in a row, without a pointer; 0 where one is followed.
+    /// How many octets of its wire form stand in a row, without a pointer; 0 where a pointer is followed.
     pub(crate) row: u8,
     /// The place behind it: behind its first pointer or its root octet.
     pub(crate) behind: usize,
@@ -63,8 +63,8 @@ pub(crate) fn walk(message: &[u8], start: usize) -> Result<Walked, ParseError>
     }
 }
 
-/// The number of labels of a name whose first pointer leads to a place, from the number before it and the octets that
-/// are left ahead of the root's.
+/// The number of labels of a name whose first pointer leads to a place. `before` labels stand before the pointer, and
+/// `left` octets are left for labels ahead of the root's.
 fn labels_beyond(message: &[u8], start: usize, left: usize, before: u8) -> Result<u8, ParseError>
     requires inside { start < length message.now }
     requires short { left ≤ 254 }
@@ -89,7 +89,8 @@ fn labels_beyond(message: &[u8], start: usize, left: usize, before: u8) -> Resul
     }
 }
 
-/// What stands at a place, where so many pointers may be followed and so many octets are left ahead of the root's.
+/// What stands at a place, where `pointers` pointers may still be followed and `room` octets are left ahead of the
+/// root's.
 fn head_at(message: &[u8], place: usize, pointers: u8, room: usize) -> Result<Head, ParseError>
     requires inside { place < length message.now }
     requires short { room ≤ 254 }
@@ -108,7 +109,7 @@ fn head_at(message: &[u8], place: usize, pointers: u8, room: usize) -> Result<He
     Err(ParseError::form_error("invalid label type"))
 }
 
-/// A length octet, with the label behind it.
+/// Reads a length octet and the label behind it.
 fn label_head(
     message: &[u8],
     place: usize,
@@ -131,7 +132,7 @@ fn label_head(
     Ok(Head::Label(len))
 }
 
-/// Why there is no name where nothing stands behind a label.
+/// Why there is no name where the octets end behind a label.
 fn last_label_fault(
     message: &[u8],
     place: usize,
@@ -152,7 +153,7 @@ fn last_label_fault(
     ParseError::form_error("long domain name")
 }
 
-/// The first octet of a pointer, with the one behind it.
+/// Reads the first octet of a pointer and the one behind it.
 fn pointer_head(
     message: &[u8],
     place: usize,

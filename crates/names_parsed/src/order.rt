@@ -49,7 +49,7 @@ impl<'a> Ord for ParsedName<'a> {
     }
 }
 
-/// Each label's length and lowered octets, the root's last: as a flat name.
+/// Feeds each label's length and lowered octets, the root's last, as a flat name does.
 impl<'a> Hash for ParsedName<'a> {
     ghost hash_input = { parsed_feed };
 

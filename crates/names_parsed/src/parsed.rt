@@ -36,7 +36,7 @@ pub struct ParsedName<'a> {
 impl<'a> ParsedName<'a> {
     ghost use Rattle.names_parsed.specs.Parsed.{parsed_name, message_of, place_of, ReadsName, NoName, StopsAt, HasPointers, HasNoPointers};
 
-    /// The name at a place of the message where a suffix of this one stands, which has so many labels.
+    /// The suffix of this name that stands at a place of the message and has `labels` labels.
     fn suffix(&self, start: usize, labels: u8) -> Self
         requires stands { stands_at (message_of self.now) start ≡ true }
         requires all { labels ≡ length (name_from (message_of self.now) start) + 1 }
@@ -56,7 +56,7 @@ impl<'a> ParsedName<'a> {
         }
     }
 
-    /// The name without so many of its first labels.
+    /// The name without its first `count` labels.
     pub(crate) fn without(&self, count: u8) -> Self
         requires { count ≤ length (parsed_name self.now) }
         ensures { parsed_name result ≡ drop count (parsed_name self.now) }
@@ -87,7 +87,7 @@ impl<'a> ParsedName<'a> {
         })
     }
 
-    /// As `parse`.
+    /// Reads a name as `parse` does.
     pub fn parse_ref(parser: &mut Parser<'a>) -> Result<Self, ParseError>
         ensures ok { IfOk result (ReadsName parser.old parser.new) }
         ensures refused { OnErr result (NoName parser.old) }
@@ -137,7 +137,7 @@ impl<'a> ParsedName<'a> {
         Label::root()
     }
 
-    /// The first label and the name behind it; nothing for the root.
+    /// The first label and the name behind it; `None` for the root.
     pub fn split_first(&self) -> Option<(Label<'a>, ParsedName<'a>)>
         ensures { let n = parsed_name self.now in
             MatchOption result (n ≡ []) (λ p. n ≡ octets_of p.0 ∷ parsed_name p.1) }
@@ -149,7 +149,7 @@ impl<'a> ParsedName<'a> {
         Some((label, self.suffix(start, self.labels - 1)))
     }
 
-    /// The name without its first label; nothing for the root.
+    /// The name without its first label; `None` for the root.
     pub fn parent(&self) -> Option<ParsedName<'a>>
         ensures value { IfSome result (λ p. parsed_name p ≡ drop 1 (parsed_name self.now)) }
         ensures root { IsNone result ↔ (parsed_name self.now ≡ []) }
@@ -179,7 +179,7 @@ impl<'a> ParsedName<'a> {
         ParsedSuffixIter::new(*self, self.labels)
     }
 
-    /// Whether a pointer is followed from the name's place on.
+    /// Whether a pointer is followed at or behind the name's place.
     pub fn is_compressed(&self) -> bool
         ensures compressed { result ≡ true → HasPointers (message_of self.now) (place_of self.now) }
         ensures flat { result ≡ false → HasNoPointers (message_of self.now) (place_of self.now) }
@@ -211,14 +211,14 @@ impl<'a> ParsedName<'a> {
         ToLabelIter::ends_with(self, base)
     }
 
-    /// The same name.
+    /// A copy of the name, which borrows the same message.
     pub fn ref_octets(&self) -> ParsedName<'a>
         ensures { parsed_name result ≡ parsed_name self.now }
     {
         *self
     }
 
-    /// The same name.
+    /// A copy of the name, which borrows the same message.
     pub fn deref_octets(&self) -> ParsedName<'a>
         ensures { parsed_name result ≡ parsed_name self.now }
     {

@@ -31,7 +31,7 @@ impl<'a> Model for ParsedSuffixIter<'a> {
 }
 
 impl<'a> ParsedSuffixIter<'a> {
-    /// A name, which has so many labels, and its ancestors.
+    /// A name of `labels` labels, and its ancestors.
     pub(crate) fn new(name: ParsedName<'a>, labels: u8) -> Self
         requires { labels ≡ length (parsed_name name) + 1 }
         ensures { result ≡ suffixes (parsed_name name.entry) }

@@ -8,7 +8,7 @@ ghost use Rattle.names_parsed.specs.Walking.{StepsTo};
 use names_wire::label::{Label, SplitLabelError};
 use names_wire::labels::label_at;
 
-/// The first label of a name, and the place behind it; at the root's label that is its own.
+/// The first label of a name, and the place behind it; for the root's label the place of that label.
 pub(crate) fn label_from(message: &[u8], start: usize) -> (Label<'_>, usize)
     requires { stands_at message.now start ≡ true }
     ensures { StepsTo message.now start (octets_of result.0) result.1 }
@@ -34,7 +34,7 @@ fn target(pointer: SplitLabelError) -> usize
     }
 }
 
-/// The place of the name without so many labels.
+/// The place at which the name without its first `count` labels begins.
 pub(crate) fn place_behind(message: &[u8], start: usize, count: usize) -> usize
     requires stands { stands_at message.now start ≡ true }
     requires labels { count ≤ length (name_from message.now start) }
@@ -50,7 +50,7 @@ pub(crate) fn place_behind(message: &[u8], start: usize, count: usize) -> usize
     place
 }
 
-/// The label of a name at a place, counted from the left: the root's behind the last.
+/// The label of a name at an index, counted from the left; the root's label behind the last one.
 pub(crate) fn label_within(message: &[u8], start: usize, index: usize) -> Label<'_>
     requires stands { stands_at message.now start ≡ true }
     requires labels { index ≤ length (name_from message.now start) }

@@ -9,15 +9,15 @@ pub record Reader : Type 0 where
   pub place : ℕ
   pub end : ℕ
 
--- at a later place
+-- the reader at a later place
 abbrev pub moved : Reader → ℕ → Reader
 moved r n = record { octets = r.octets; place = r.place + n; end = r.end }
 
--- the next octets, so many
+-- the next octets of a reader, of a given number
 abbrev pub next_octets : Reader → ℕ → List ℕ
 next_octets r n = slice_range r.octets r.place (r.place + n)
 
--- So many octets are taken, and are a value's; or there are too few, and nothing changes.
+-- A given number of octets is taken, and they are a value's; or there are too few, and nothing changes.
 abbrev pub Takes : {A : Type 0} → ℕ → (List ℕ → A → Type 0) → Reader → Reader → Result A ParseError → Type 0
 Takes n spells old new (Ok value) = spells (next_octets old n) value × (new ≡ moved old n) × (old.place + n ≤ old.end)
 Takes n spells old new (Err e) = (e ≡ ShortInput) × (new ≡ old) × (old.end < old.place + n)

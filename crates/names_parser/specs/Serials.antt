@@ -11,10 +11,10 @@ order_by true false = Some Less
 order_by false true = Some Greater
 order_by false false = None
 
--- RFC 1982, 3.2
+-- the order of two serial numbers (RFC 1982, 3.2)
 abbrev pub serial_cmp : ℕ → ℕ → Option Ordering
 serial_cmp a b = order_by (serial_le a b) (serial_le b a)
 
--- RFC 1982, 3.1
+-- the sum of a serial number and another number (RFC 1982, 3.1)
 abbrev pub serial_add : ℕ → ℕ → ℕ
 serial_add a n = (a + n) % 2 ^ 32

@@ -75,7 +75,7 @@ impl<'a> Parser<'a> {
         Ok(())
     }
 
-    /// Passes over so many octets.
+    /// Passes over the next `len` octets.
     pub fn advance(&mut self, len: usize) -> Result<(), ParseError>
         ensures { Takes len (λ _ _. Unit {0}) self.old self.new result }
     {
@@ -86,7 +86,7 @@ impl<'a> Parser<'a> {
         Ok(())
     }
 
-    /// The next octets, so many.
+    /// The next `len` octets.
     pub fn parse_octets(&mut self, len: usize) -> Result<&'a [u8], ParseError>
         ensures taken { Takes len (λ octets s. s.now ≡ octets) self.old self.new result }
         ensures all { IfOk result (λ s. length s.now ≡ len) }
@@ -96,7 +96,7 @@ impl<'a> Parser<'a> {
         Ok(&octets[pos..pos + len])
     }
 
-    /// A parser of the next octets alone, so many, over the whole message. This one goes behind them.
+    /// A parser of the next `len` octets alone, over the whole message. This parser goes behind them.
     pub fn parse_parser(&mut self, len: usize) -> Result<Parser<'a>, ParseError>
         ensures { Takes len (λ _ p. p ≡ record self.old { end = self.old.place + len })
             self.old self.new result }

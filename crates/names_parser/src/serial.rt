@@ -40,7 +40,7 @@ impl Serial {
         self.0
     }
 
-    /// The number so much further round; at most 2^31 - 1 (RFC 1982, 3.1).
+    /// The number that is `other` further round the circle. `other` is at most 2^31 - 1 (RFC 1982, 3.1).
     pub fn add(self, other: u32) -> Self
         requires { other ≤ 2147483647 }
         ensures { result.0 ≡ serial_add self.0 other }
@@ -48,14 +48,14 @@ impl Serial {
         Serial(self.0.wrapping_add(other))
     }
 
-    /// Whether it is another, or less than half the circle before it (RFC 1982, 3.2).
+    /// Whether this number equals the other or is less than half the circle before it (RFC 1982, 3.2).
     pub fn is_at_or_before(&self, other: &Self) -> bool
         ensures { result ≡ serial_le self.now.0 other.now.0 }
     {
         other.0.wrapping_sub(self.0) < 0x8000_0000
     }
 
-    /// Which is before the other: none of two that are 2^31 apart (RFC 1982, 3.2).
+    /// Compares two serial numbers. Two numbers that are 2^31 apart have no order (RFC 1982, 3.2).
     pub fn partial_cmp(&self, other: &Self) -> Option<Ordering>
         ensures { result ≡ serial_cmp self.now.0 other.now.0 }
     {

@@ -12,7 +12,7 @@ use Rattle.names_parsed.specs.Heads.{fault_of}
 abbrev pub Part : Type 0
 Part = List ℕ → ℕ → ℕ → Result (List ℕ × ℕ) ReadFault
 
--- so many octets
+-- the part of a given number of octets
 abbrev pub octets_part : ℕ → Part
 octets_part n m p e = if nat_le (p + n) e then Ok (slice_range m p (p + n), p + n) else Err Short
 
@@ -25,7 +25,7 @@ name_inside e (Err f) = Err f
 abbrev pub name_part : Part
 name_part m p e = name_inside e (name_at pointer_limit m p)
 
--- all that is left
+-- the part of all octets that are left
 abbrev pub rest_part : Part
 rest_part m p e = Ok (slice_range m p e, e)
 
@@ -75,7 +75,7 @@ abbrev pub ReadsData : {A : Type 0} → Result (List ℕ) ReadFault → (A → L
 ReadsData found octets old new (Ok a) = (found ≡ Ok (octets a)) × (new ≡ record old { place = old.end })
 ReadsData found octets old new (Err e) = (found ≡ Err (fault_of e)) × (new ≡ old)
 
--- the same where data of the type are read; those of another are left
+-- data of a type that is read are read up to the reader's end; data of another type are left
 abbrev pub ReadsType : {A : Type 0} → Bool → Result (List ℕ) ReadFault → (A → List ℕ) → Reader → Reader → Result (Option A) ParseError → Type 0
 ReadsType is_read found octets old new (Ok (Some a)) = (is_read ≡ true) × (found ≡ Ok (octets a)) × (new ≡ record old { place = old.end })
 ReadsType is_read found octets old new (Ok None) = (is_read ≡ false) × (new ≡ old)

@@ -17,7 +17,7 @@ pub record Opaque : Type 0 where
   pub rtype : ℕ
   pub octets : List ℕ
 
--- 0 to 9, then a to f
+-- a digit of hexadecimal: 0 to 9, then a to f
 abbrev pub hex_digit : ℕ → ℕ
 hex_digit n = if nat_lt n 10 then 48 + n else 87 + n
 
@@ -38,11 +38,11 @@ opaque_text octets = codes "\\# " ++ decimal (length octets) ++ hex_field octets
 abbrev pub opaque_eq : Opaque → Opaque → Bool
 opaque_eq a b = nat_eq a.rtype b.rtype && pointwise nat_eq a.octets b.octets
 
--- by type, and then by the octets
+-- the order of two data: by type, and then by the octets
 abbrev pub opaque_cmp : Opaque → Opaque → Ordering
 opaque_cmp a b = ordering_then (nat_cmp a.rtype b.rtype) (slice_cmp nat_cmp a.octets b.octets)
 
--- what they feed a hasher
+-- what opaque data feed a hasher
 abbrev pub opaque_feed : Opaque → HashWrites
 opaque_feed a = u16 a.rtype ++ slice u8 a.octets
 

@@ -49,7 +49,7 @@ pub fn compose_name<N: Absolute, B: OctetsBuilder>(name: &N, target: &mut B) -> 
     }
 }
 
-/// As `compose_name`, with ASCII letters lowered (RFC 4034, 6.2).
+/// Appends a name in wire form, in full, with ASCII letters lowered (RFC 4034, 6.2).
 pub fn compose_canonical_name<N: Absolute, B: OctetsBuilder>(
     name: &N,
     target: &mut B,
@@ -64,7 +64,7 @@ pub fn compose_canonical_name<N: Absolute, B: OctetsBuilder>(
     }
 }
 
-/// Appends octets with ASCII letters lowered, or nothing.
+/// Appends octets with ASCII letters lowered; where that is refused, appends nothing.
 fn append_lowered<B: OctetsBuilder>(octets: &[u8], target: &mut B) -> Result<(), ShortBuf>
     ensures ok { let lowered = str_to_ascii_lowercase octets.now in
         OnOk result (B.bytes target.new ≡ B.bytes target.old ++ lowered) }
@@ -111,7 +111,7 @@ fn compose_label<B: OctetsBuilder>(
     }
 }
 
-/// What was appended behind so many octets is taken back where that was refused.
+/// Truncates the target to `len` octets where appending was refused.
 pub fn or_undone<B: OctetsBuilder>(
     target: &mut B,
     len: usize,

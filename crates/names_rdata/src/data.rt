@@ -33,11 +33,11 @@ pub trait RecordData {
 
 /// Data that can be written.
 pub trait ComposeRecordData: RecordData {
-    /// A target that compresses may write fewer octets.
+    /// Whether a target that compresses names may write fewer octets.
     ghost compressible: { Self → Bool };
 
-    /// How many octets the data take, if that is known before they are written: not of names that `compress` says
-    /// may be compressed.
+    /// How many octets the data take, where that is known before they are written. It is not known of data with names
+    /// that `compress` allows to be compressed.
     fn rdlen(&self, compress: bool) -> Option<u16>
         ensures unknown { IsNone result ↔ (IsTrue compress × IsTrue (compressible self.now)) }
         ensures len { IfSome result (λ n. n ≡ length (Self.rdata self.now)) };
@@ -47,13 +47,13 @@ pub trait ComposeRecordData: RecordData {
         ensures ok { OnOk result (B.bytes target.new ≡ B.bytes target.old ++ Self.rdata self.now) }
         ensures err { OnErr result (B.bytes target.new ≡ B.bytes target.old) };
 
-    /// As `compose_rdata`, in canonical form (RFC 4034, 6.2).
+    /// Appends the octets in canonical form (RFC 4034, 6.2). A refused call leaves the target as it was.
     fn compose_canonical_rdata<B: Composer>(&self, target: &mut B) -> Result<(), ShortBuf>
         ensures ok { let octets = Self.canonical_rdata self.now in
             OnOk result (B.bytes target.new ≡ B.bytes target.old ++ octets) }
         ensures err { OnErr result (B.bytes target.new ≡ B.bytes target.old) };
 
-    /// As `compose_rdata`, the octets behind their number in two octets (RFC 1035, 3.2.1).
+    /// Appends the number of octets as two octets, and the octets behind it (RFC 1035, 3.2.1).
     fn compose_len_rdata<B: Composer>(&self, target: &mut B) -> Result<(), ShortBuf>
         ensures ok { let octets = with_length (Self.rdata self.now) in
             OnOk result (B.bytes target.new ≡ B.bytes target.old ++ octets) }
@@ -70,7 +70,7 @@ pub trait ComposeRecordData: RecordData {
         or_undone(target, start, done)
     }
 
-    /// As `compose_len_rdata`, in canonical form.
+    /// Appends the number of octets as two octets, and behind it the octets in canonical form.
     fn compose_canonical_len_rdata<B: Composer>(&self, target: &mut B) -> Result<(), ShortBuf>
         ensures ok { let octets = with_length (Self.canonical_rdata self.now) in
             OnOk result (B.bytes target.new ≡ B.bytes target.old ++ octets) }
@@ -97,8 +97,8 @@ pub trait ParseRecordData<'a>: RecordData + Sized {
     /// What is read of data of a type, or why nothing is.
     ghost reading: { ℕ → Reader → Result (List ℕ) ReadFault };
 
-    /// Reads the data up to the parser's end, or nothing where they are of another type. A refused call leaves the
-    /// parser where it was.
+    /// Reads the data up to the parser's end; `None` where they are of a type that isn't read. A refused call leaves
+    /// the parser where it was.
     fn parse_rdata(rtype: Rtype, parser: &mut Parser<'a>) -> Result<Option<Self>, ParseError>
         ensures read { let found = reading rtype parser.old in
             ReadsType (is_read rtype) found Self.rdata parser.old parser.new result }

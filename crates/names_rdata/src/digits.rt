@@ -32,7 +32,7 @@ fn hex_digit(value: u8) -> char
     }
 }
 
-/// Octets that print as hexadecimal behind a blank, and none as nothing.
+/// Octets that print as a blank and hexadecimal; an empty slice prints as nothing.
 #[derive(Clone, Copy, Debug, Drop)]
 pub struct HexField<'a>(pub &'a [u8]);
 

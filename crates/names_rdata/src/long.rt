@@ -39,7 +39,7 @@ impl LongRecordData {
         }
     }
 
-    /// Refuses more than 65,535 octets in so many parts.
+    /// Refuses parts that have more than 65,535 octets in all.
     pub fn check_multi_len<const N: usize>(lens: &[usize; N]) -> Result<(), LongRecordData>
         ensures { IsOk result ↔ (sum lens.now ≤ 65535) }
     {

@@ -1,11 +1,11 @@
-//! Octets that a field of record data has, whoever keeps them.
+//! Octets of a field of record data, whatever type holds them.
 
 ghost use Rattle.std.specs.Prelude.{◌≡◌};
 
 use names_wire::octets::Octets;
 use std::marker::Model;
 
-/// Octets that compare, order and hash by what they are, however they are kept. A contract sees the octets.
+/// Octets that compare, order and hash by their values, whatever type holds them. A contract sees the octets.
 #[derive(Drop)]
 pub struct FieldOctets<Octs: Octets> {
     octets: Octs,

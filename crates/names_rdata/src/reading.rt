@@ -19,7 +19,7 @@ pub fn parse_name<'a>(parser: &mut Parser<'a>) -> Result<ParsedName<'a>, ParseEr
     ParsedName::parse(parser)
 }
 
-/// The next octets, so many.
+/// The next `N` octets.
 pub fn parse_array<const N: usize>(parser: &mut Parser<'_>) -> Result<[u8; N], ParseError>
     ensures read { ReadsPart (octets_part N) (λ octets. octets) parser.old parser.new result }
     ensures unchanged { OnErr result (parser.new ≡ parser.old) }
@@ -37,7 +37,7 @@ pub fn parse_rest<'a>(parser: &mut Parser<'a>) -> Result<&'a [u8], ParseError>
     parser.parse_octets(len)
 }
 
-/// The value that was read, where the data end behind it. Else the parser goes back to where the data begin.
+/// The value that was read, where the data end behind it. Otherwise the parser goes back to where the data begin.
 pub fn closed<T: Drop>(
     parser: &mut Parser<'_>,
     start: usize,

@@ -11,7 +11,7 @@ pub record Chained (R : Type 0) : Type 0 where
 pub absolute_end : (n : Name) → (n ++ [] ∷ [] ≡ n) ⊎ (n ++ [] ∷ [] ≡ n ++ [] ∷ [])
 absolute_end n = inr refl
 
--- a relative name's do not
+-- a relative name's labels do not end with the root's
 pub relative_end : (n : Name) → (n ≡ n) ⊎ (n ≡ n ++ [] ∷ [])
 relative_end n = inl refl
 

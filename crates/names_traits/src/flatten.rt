@@ -1,4 +1,4 @@
-//! Names brought into octets of their own.
+//! Names copied into octets of their own.
 
 ghost use Rattle.std.specs.Prelude.{◌≡◌, IfOk};
 
@@ -10,16 +10,16 @@ use names_wire::builder::ShortBuf;
 use names_wire::octets::Octets;
 use std::alloc::Global;
 
-/// A name that can be brought into flat octets of its own.
+/// A name that can be copied into flat octets of its own.
 pub trait FlattenInto<Target>: Sized {
     /// The target is the same name.
     ghost is_flat: { Self → Target → Type 0 };
 
-    /// It is refused for want of memory alone.
+    /// Copies the name into the target. The call is refused only for lack of memory.
     fn try_flatten_into(self, alloc: Global) -> Result<Target, ShortBuf>
         ensures { IfOk result (is_flat self) };
 
-    /// As `try_flatten_into`.
+    /// Copies the name into the target. The call is refused only for lack of memory.
     fn flatten_into(self, alloc: Global) -> Result<Target, ShortBuf>
         ensures { IfOk result (is_flat self) }
     {

@@ -58,8 +58,8 @@ pub trait ToName: Absolute {
         DisplayWithDot::new(self)
     }
 
-    /// The name copied to octets of its own, ASCII letters lowered (RFC 4034, 6.2). It is refused for want of
-    /// memory alone.
+    /// The name copied to octets of its own, ASCII letters lowered (RFC 4034, 6.2). The call is refused only for lack
+    /// of memory.
     fn to_canonical_name(&self, alloc: Global) -> Result<Name<Vec<u8>>, ShortBuf>
         ensures { IfOk result (λ n. n ≡ low (Self.name self.now)) }
     {
@@ -72,29 +72,29 @@ pub trait ToName: Absolute {
         }
     }
 
-    /// As `to_canonical_name`.
+    /// The name copied to octets of its own, ASCII letters lowered (RFC 4034, 6.2).
     fn try_to_canonical_name(&self, alloc: Global) -> Result<Name<Vec<u8>>, ShortBuf>
         ensures { IfOk result (λ n. n ≡ low (Self.name self.now)) }
     {
         self.to_canonical_name(alloc)
     }
 
-    /// As `to_vec`.
+    /// The name copied to octets of its own.
     fn to_name(&self, alloc: Global) -> Result<Name<Vec<u8>>, ShortBuf>
         ensures { IfOk result (λ n. n ≡ Self.name self.now) }
     {
         self.to_vec(alloc)
     }
 
-    /// As `to_vec`.
+    /// The name copied to octets of its own.
     fn try_to_name(&self, alloc: Global) -> Result<Name<Vec<u8>>, ShortBuf>
         ensures { IfOk result (λ n. n ≡ Self.name self.now) }
     {
         self.to_vec(alloc)
     }
 
-    /// The name over octets that are borrowed where its labels stand in a row, and else copied. It is refused for want of
-    /// memory alone.
+    /// The name over borrowed octets where its labels stand in a row, and otherwise over a copy. The call is refused
+    /// only for lack of memory.
     fn to_cow(&self, alloc: Global) -> Result<Name<CowSlice<'_, u8>>, ShortBuf>
         ensures { IfOk result (λ n. n ≡ Self.name self.now) }
     {
@@ -107,7 +107,7 @@ pub trait ToName: Absolute {
         }
     }
 
-    /// The name copied to octets of its own. It is refused for want of memory alone.
+    /// The name copied to octets of its own. The call is refused only for lack of memory.
     fn to_vec(&self, alloc: Global) -> Result<Name<Vec<u8>>, ShortBuf>
         ensures { IfOk result (λ n. n ≡ Self.name self.now) }
     {

@@ -40,7 +40,7 @@ pub trait ToRelativeName: Relative {
         self.label_count() == 0
     }
 
-    /// The name copied to octets of its own. It is refused for want of memory alone.
+    /// The name copied to octets of its own. The call is refused only for lack of memory.
     fn to_vec(&self, alloc: Global) -> Result<RelativeName<Vec<u8>>, ShortBuf>
         ensures { IfOk result (λ n. n ≡ Self.labels self.now) }
     {
@@ -51,21 +51,21 @@ pub trait ToRelativeName: Relative {
         }
     }
 
-    /// As `to_vec`.
+    /// The name copied to octets of its own.
     fn to_relative_name(&self, alloc: Global) -> Result<RelativeName<Vec<u8>>, ShortBuf>
         ensures { IfOk result (λ n. n ≡ Self.labels self.now) }
     {
         self.to_vec(alloc)
     }
 
-    /// As `to_vec`.
+    /// The name copied to octets of its own.
     fn try_to_relative_name(&self, alloc: Global) -> Result<RelativeName<Vec<u8>>, ShortBuf>
         ensures { IfOk result (λ n. n ≡ Self.labels self.now) }
     {
         self.to_vec(alloc)
     }
 
-    /// As `to_vec`, with ASCII letters lowered (RFC 4034, 6.2).
+    /// The name copied to octets of its own, ASCII letters lowered (RFC 4034, 6.2).
     fn to_canonical_relative_name(&self, alloc: Global) -> Result<RelativeName<Vec<u8>>, ShortBuf>
         ensures { IfOk result (λ n. n ≡ low (Self.labels self.now)) }
     {
@@ -78,7 +78,7 @@ pub trait ToRelativeName: Relative {
         }
     }
 
-    /// As `to_canonical_relative_name`.
+    /// The name copied to octets of its own, ASCII letters lowered (RFC 4034, 6.2).
     fn try_to_canonical_relative_name(
         &self,
         alloc: Global,
@@ -109,7 +109,7 @@ pub trait ToRelativeName: Relative {
         Chain::rooted(self)
     }
 
-    /// The name over octets that may be borrowed or owned: here a copy.
+    /// The name over a copy of its octets. The type of the octets can also hold borrowed ones.
     fn to_cow(&self, alloc: Global) -> Result<RelativeName<CowSlice<'static, u8>>, ShortBuf>
         ensures { IfOk result (λ n. n ≡ Self.labels self.now) }
     {

@@ -12,7 +12,7 @@ use Rattle.names_wire.specs.declared.label.LabelTypeError.TheVariants.{Undefined
 abbrev pub octets_of : Label → List ℕ
 octets_of l = l.octets.now
 
--- with ASCII letters lowered
+-- a label's octets with ASCII letters lowered
 abbrev pub lowered : Label → List ℕ
 lowered l = str_to_ascii_lowercase (octets_of l)
 

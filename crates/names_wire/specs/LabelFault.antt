@@ -1,4 +1,4 @@
--- Which fault a refused text of a label is.
+-- The fault of a text that is refused as a label.
 use Rattle.std.specs.Prelude.{◌≡◌, ◌⊎◌, ◌≤◌, true, false, ℕ, List, [], ◌∷◌, ◌++◌, map, length, Option, Some, None}
 use Rattle.std.specs.Option.{option_map}
 use Rattle.std.specs.Iterator.{Yields}
@@ -13,7 +13,7 @@ use Rattle.names_wire.specs.declared.owned.LabelFromStrError.{LabelFromStrError}
 abbrev pub named : LabelFromStrError → LabelFault
 named e = e.0
 
--- Why a symbol is refused behind some octets of a label. Of these no two hold.
+-- Why a symbol is refused behind some octets of a label. No two of these hold at once.
 abbrev pub FaultBehind : List ℕ → Symbol → LabelFault → Type 0
 FaultBehind octets s (BadText e) = ⊥
 FaultBehind octets s BinaryLabel = (is_bracket s ≡ true) × (octets ≡ [])

@@ -7,6 +7,6 @@ use Rattle.names_wire.specs.declared.owned.OwnedLabel.{OwnedLabel}
 abbrev pub owned_octets : OwnedLabel → List ℕ
 owned_octets l = take (slice_index l.wire 0) (drop 1 l.wire)
 
--- with ASCII letters lowered
+-- an owned label's octets with ASCII letters lowered
 abbrev pub owned_lowered : OwnedLabel → List ℕ
 owned_lowered l = str_to_ascii_lowercase (owned_octets l)

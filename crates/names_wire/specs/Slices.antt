@@ -28,7 +28,7 @@ leads_to all here ShortInput = None
 abbrev pub pointer_from : List ℕ → ℕ → Option ℕ
 pointer_from m p = elim (split (drop p m)) [ Ok found ↦ None | Err e ↦ leads_to (length m) (length (drop p m)) e ]
 
--- Behind so many octets of a label the labels in a row: up to the root's, to a pointer or to what is no label.
+-- The labels in a row behind a number of octets of a label: up to the root's, to a pointer or to what is no label.
 abbrev pub row_behind : ℕ → ℕ → List ℕ → Row
 row_behind all k [] = stop
 row_behind all (suc k) (b ∷ rest) = row_behind all k rest
@@ -40,7 +40,7 @@ row_behind all zero (b ∷ rest) = elim (split (b ∷ rest)) [
 abbrev pub row_at : List ℕ → ℕ → Row
 row_at m p = row_behind (length m) 0 (drop p m)
 
--- the labels from a place on, following at most so many pointers
+-- the labels from a place on, through a limited number of pointers
 abbrev pub labels_along : ℕ → List ℕ → ℕ → List (List ℕ)
 labels_along zero m p = (row_at m p).labels
 labels_along (suc k) m p = (row_at m p).labels ++ (elim (row_at m p).onward [ None ↦ [] | Some q ↦ labels_along k m q ])

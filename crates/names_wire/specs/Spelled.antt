@@ -13,7 +13,7 @@ SpellsNothing {S} steps s read =
     ((text : List ℕ) × (t : S) × Yields steps s text t × ((rest : List ℕ) → read (text ++ rest) ≡ None))
     ⊎ ((text : List ℕ) × Drains steps s text × (read text ≡ None))
 
--- the iterator gave a text that is read as this
+-- the iterator gave a text that is read as this value
 abbrev pub CharsSpell : {S A : Type 0} → (S → Option ℕ → S → Type 0) → S → (List ℕ → Option A) → A → Type 0
 CharsSpell {S} steps s read a = (text : List ℕ) × Drains steps s text × (read text ≡ Some a)
 

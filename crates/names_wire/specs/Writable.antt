@@ -5,11 +5,11 @@ use Rattle.names_wire.specs.Owned.{owned_octets}
 use Rattle.names_wire.specs.declared.label_mut.LabelMut.{LabelMut}
 use Rattle.names_wire.specs.declared.label_mut.OwnedLabelMut.{OwnedLabelMut}
 
--- its octets
+-- the octets of the label
 abbrev pub mut_octets : LabelMut → List ℕ
 mut_octets l = l.octets.now
 
--- what it writes to
+-- the place that the label writes to
 abbrev pub mut_name : LabelMut → GName
 mut_name l = l.octets.ghost_name
 

@@ -19,10 +19,11 @@ pub struct ShortBuf;
 pub trait OctetsBuilder {
     ghost bytes: { Self → List ℕ };
 
-    /// So many more octets don't fit: a fixed buffer has no room for them, or a growing one would need more memory.
+    /// The builder has no room for this number of further octets: a fixed buffer is full, or a growing one needs more
+    /// memory.
     ghost lacks_room: { Self → ℕ → Type 0 };
 
-    /// The same builder with other octets, as many as it had.
+    /// The builder with its octets replaced by others of the same number.
     ghost with_bytes: { Self → List ℕ → Self };
 
     fn append_slice(&mut self, octets: &[u8]) -> Result<(), ShortBuf>

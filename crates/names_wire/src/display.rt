@@ -10,7 +10,7 @@ use crate::label::Label;
 use crate::symbol::Symbol;
 use std::{fmt, str};
 
-/// The octets as text at once, where each is printed as itself.
+/// The octets as one text, where each octet is printed as itself.
 #[tactic(auto, using(crate::proofs::PlainText::plain_label))]
 fn plain_text(octets: &[u8]) -> Option<&str>
     ensures { IfSome result (λ text. text.now ≡ text_of_label octets.now) }
@@ -38,7 +38,7 @@ fn is_plain(octet: u8) -> bool
     !matches!(octet, b' ' | b'.' | b'\\') && matches!(octet, 0x20..=0x7e)
 }
 
-/// The octets as symbols: the text of the label in a name, and nothing for the root's label.
+/// Prints the octets as symbols: the text of the label in a name, and nothing for the root's label.
 impl<'a> fmt::Display for Label<'a> {
     ghost output = { λ label. Some (text_of_label (octets_of label)) };
 

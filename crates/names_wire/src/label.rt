@@ -78,7 +78,7 @@ impl<'a> Label<'a> {
         Ok(Label { octets: slice })
     }
 
-    /// The label of octets that are few enough.
+    /// The label of at most 63 octets.
     pub fn from_short(octets: &'a [u8]) -> Label<'a>
         requires { length octets.now ≤ 63 }
         ensures { octets_of result ≡ octets.now }
@@ -153,14 +153,14 @@ impl<'a> Label<'a> {
         self.octets.is_empty()
     }
 
-    /// Whether it is the root's label, as `is_empty`.
+    /// Whether the label is the root's, which is the empty label.
     pub fn is_root(&self) -> bool
         ensures { IsTrue result ↔ (octets_of self.now ≡ []) }
     {
         self.octets.is_empty()
     }
 
-    /// Whether it is `*`.
+    /// Whether the label is `*`.
     pub fn is_wildcard(&self) -> bool
         ensures { IsTrue result ↔ (octets_of self.now ≡ 42 ∷ []) }
     {
@@ -178,7 +178,7 @@ impl<'a> Label<'a> {
         }
     }
 
-    /// As `composed_cmp`, with ASCII letters lowered.
+    /// Compares the labels as they stand in a message, each behind its length octet, with ASCII letters lowered.
     pub fn lowercase_composed_cmp(&self, other: &Label<'_>) -> Ordering
         ensures { let octets = wire_label (lowered self.now) in
             result ≡ slice_cmp nat_cmp octets (wire_label (lowered other.now)) }
@@ -199,7 +199,8 @@ impl<'a> Label<'a> {
         target.append_slice(OwnedLabel::from_label(*self).as_wire_slice())
     }
 
-    /// As `compose`, with ASCII letters lowered (RFC 4034, 6.2).
+    /// Appends the octets behind their number, ASCII letters lowered (RFC 4034, 6.2). A refused call leaves the target as it
+    /// was.
     pub fn compose_canonical<B: OctetsBuilder>(&self, target: &mut B) -> Result<(), ShortBuf>
         ensures ok { let more = wire_label (lowered self.now) in
             OnOk result (B.bytes target.new ≡ B.bytes target.old ++ more) }

@@ -17,7 +17,7 @@ pub struct LabelMut<'a> {
 impl<'a> LabelMut<'a> {
     ghost use Rattle.names_wire.specs.Writable.{mut_octets, mut_name};
 
-    /// The label of octets that are few enough. What is written through it stands in the slice at the end, and a
+    /// The label of at most 63 octets. What is written through it stands in the slice at the end, and a
     /// caller's proof knows so.
     pub fn new(slice: &'a mut [u8]) -> LabelMut<'a>
         requires { length slice.old ≤ 63 }

@@ -9,13 +9,13 @@ ghost use Rattle.names_wire.specs.LabelFault.{FirstFault};
 ghost use Rattle.names_wire.specs.Slices.{AlongNames};
 ghost use Rattle.names_wire.specs.declared.owned.LabelFault.{LabelFault};
 
-/// What is printed of a label is read as the same octets (RFC 1035, 5.1).
+/// A printed label is read as the same octets (RFC 1035, 5.1).
 pub fn printed_label_is_read_back()
     ensures { let are_octets = AllByRecursion (λ (b : ℕ). b < 256) in (l : List ℕ)
         → IsLabel l → are_octets l → label_of_text (text_of_label l) ≡ Some l }
 {}
 
-/// A text that is made of symbols is read as these, and so as no others (RFC 1035, 5.1).
+/// A text that is made of symbols is read as these symbols and as no others (RFC 1035, 5.1).
 pub fn spelled_symbols_are_read()
     ensures { (text : List ℕ) (symbols : List Symbol)
         → Spells text symbols → symbols_of text ≡ Some symbols }

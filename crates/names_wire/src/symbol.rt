@@ -10,7 +10,7 @@ use std::fmt;
 use std::marker::Model;
 use thiserror::Error;
 
-/// A symbol: a character, one behind a backslash, or an octet as three digits behind one.
+/// A symbol: a character, a character behind a backslash, or an octet as three digits behind a backslash.
 ///
 /// Any value can be made, but only the printable characters from a blank to a tilde are symbols: not a bare
 /// backslash, and no digit behind one.
@@ -47,7 +47,7 @@ impl Symbol {
         }
     }
 
-    /// The octet that it stands for, or `BadSymbol` where the value is no symbol.
+    /// The octet that the symbol stands for, or `BadSymbol` where the value is no symbol.
     pub fn into_octet(self) -> Result<u8, SymbolCharsError>
         ensures ok { IfOk result (λ value. value ≡ octet (symbol_of self)) }
         ensures err { IsOk result ↔ (is_symbol (symbol_of self) ≡ true) }
@@ -63,7 +63,7 @@ impl Symbol {
     }
 }
 
-/// The symbol as it is written: what is no symbol is written too, but no clause says how.
+/// The symbol as it is written. A value that is no symbol is written too, but no clause says how.
 impl fmt::Display for Symbol {
     ghost output = { λ s. written (symbol_of s) };
 
@@ -80,7 +80,7 @@ impl fmt::Display for Symbol {
     }
 }
 
-/// What has been read of a symbol that isn't whole. A digit is kept as its character's code.
+/// What has been read of an unfinished symbol. A digit is kept as its character's code.
 #[derive(Clone, Copy)]
 enum Pending {
     Nothing,
@@ -117,7 +117,7 @@ impl SymbolReader {
         }
     }
 
-    /// Takes the next character, and gives the symbol that it makes whole.
+    /// Takes the next character, and returns the symbol that it completes, if it completes one.
     ///
     /// After an error the reader is as it was.
     pub fn push(&mut self, ch: char) -> Result<Option<Symbol>, SymbolCharsError>

@@ -4,11 +4,11 @@ use Rattle.std.specs.List.{AllByRecursion}
 use Rattle.std.specs.Str.{str_to_ascii_lowercase}
 use Rattle.definitions.specs.Base32hex.{base32hex}
 
--- 0 to 9 and a to v
+-- whether a character is a digit: 0 to 9 and a to v
 abbrev pub is_digit : ℕ → Bool
 is_digit c = (nat_le 48 c && nat_le c 57) || (nat_le 97 c && nat_le c 118)
 
--- the place of the first that is none
+-- the place of the first character that is no digit
 abbrev pub first_no_digit : List ℕ → Option ℕ
 first_no_digit digits = position (λ c. not (is_digit c)) digits
 

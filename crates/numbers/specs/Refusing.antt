@@ -7,7 +7,7 @@ use Rattle.numbers.specs.Decoding.{first_no_digit}
 use Rattle.numbers.specs.declared.base32hex.DecodeError.{DecodeError}
 use Rattle.numbers.specs.declared.base32hex.DecodeError.TheVariants.{BadChar, BadLength, TrailingBits, Memory}
 
--- no octets have so many digits
+-- no octets have this number of digits
 abbrev pub IsBadLength : ℕ → Type 0
 IsBadLength n = (n % 8 ≡ 1) ⊎ ((n % 8 ≡ 3) ⊎ (n % 8 ≡ 6))
 
@@ -20,6 +20,6 @@ RefusedDigits digits TrailingBits =
     × ((IsBadLength (length digits) → ⊥) × ((octets : List ℕ) → AllByRecursion (λ o. o < 256) octets → base32hex octets ≡ digits → ⊥))
 RefusedDigits digits Memory = Unit {0}
 
--- digits in either case
+-- the refusal of a text, whose digits may be in either case
 abbrev pub RefusedText : List ℕ → DecodeError → Type 0
 RefusedText text e = RefusedDigits (str_to_ascii_lowercase text) e

@@ -39,7 +39,7 @@ impl SecurityAlgorithm {
     }
 }
 
-/// In decimal.
+/// The number in decimal.
 impl fmt::Display for SecurityAlgorithm {
     ghost output = { λ n. Some (decimal n) };
 
@@ -81,7 +81,7 @@ impl DigestAlgorithm {
     }
 }
 
-/// In decimal.
+/// The number in decimal.
 impl fmt::Display for DigestAlgorithm {
     ghost output = { λ n. Some (decimal n) };
 

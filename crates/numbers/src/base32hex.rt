@@ -22,7 +22,7 @@ pub fn encode(alloc: Global, octets: &[u8]) -> Result<String, AllocError>
 {
     let mut digits = Vec::with_capacity(alloc, octets.len().div_ceil(5).saturating_mul(8))?;
     append(&mut digits, octets)?;
-    // Each is an ASCII one.
+    // Each digit is an ASCII character.
     Ok(unsafe { String::from_utf8_unchecked(digits) })
 }
 
@@ -39,7 +39,7 @@ pub fn append(digits: &mut Vec<u8>, octets: &[u8]) -> Result<(), AllocError>
     done
 }
 
-/// As `append`, which takes back what there was memory for.
+/// Appends the digits of octets, and leaves a part of them where memory runs out.
 fn append_blocks(digits: &mut Vec<u8>, octets: &[u8]) -> Result<(), AllocError>
     ensures ok { OnOk result (digits.new.items ≡ digits.old.items ++ base32hex octets.now) }
     ensures err { let old = digits.old.items in
@@ -96,19 +96,19 @@ fn padded(octets: &[u8]) -> [u8; 5]
     ]
 }
 
-/// Why text is not base32hex: the first of these that holds.
+/// Why text is not base32hex. Where several reasons hold, the first one listed here is given.
 #[derive(Clone, Copy, Debug, PartialEq, Eq, Error)]
 pub enum DecodeError {
     /// The octet at this place is no digit.
     #[error("illegal character at {0}")]
     BadChar(usize),
-    /// No octets have so many digits.
+    /// No octets have this number of digits.
     #[error("illegal number of digits")]
     BadLength,
-    /// There are bits behind the last whole octet that are not zero.
+    /// Bits behind the last whole octet are not zero.
     #[error("trailing bits")]
     TrailingBits,
-    /// There was no memory.
+    /// Memory ran out.
     #[error("out of memory")]
     Memory,
 }
@@ -123,7 +123,7 @@ impl From<AllocError> for DecodeError {
     }
 }
 
-/// The octets of digits in either case: exactly those whose digits they are.
+/// The octets that digits in either case stand for: exactly those whose digits they are.
 pub fn decode(alloc: Global, text: &str) -> Result<Vec<u8>, DecodeError>
     ensures ok { IfOk result (λ octets. base32hex octets.items ≡ str_to_ascii_lowercase text.now) }
     ensures refused { IfErr result (RefusedText text.now) }
@@ -149,7 +149,7 @@ fn refusal(digits: &[u8]) -> DecodeError
     DecodeError::TrailingBits
 }
 
-/// The place of the first that is no digit in either case.
+/// The place of the first character that is no digit in either case.
 fn first_no_digit(digits: &[u8]) -> Option<usize>
     ensures { result ≡ position (λ c. not (is_digit (to_ascii_lowercase c))) digits.now }
 {
@@ -164,7 +164,7 @@ fn is_digit(octet: u8) -> bool
     (48 <= octet && octet <= 57) || (97 <= octet && octet <= 118)
 }
 
-/// Whether no octets have so many digits.
+/// Whether no octets have this number of digits.
 fn is_bad_length(len: usize) -> bool
     ensures { IsTrue result ↔ IsBadLength len }
 {
@@ -172,7 +172,7 @@ fn is_bad_length(len: usize) -> bool
     last == 1 || last == 3 || last == 6
 }
 
-/// The octets whose digits these are, where there are such.
+/// The octets whose digits these are, if any octets have them.
 fn decoded(alloc: Global, digits: &[u8]) -> Result<Option<Vec<u8>>, AllocError>
     ensures { IfOk result (λ found.
         MatchOption found (SpellsNothing digits.now) (λ octets. Spells octets.items digits.now)) }
@@ -213,7 +213,7 @@ fn block_octets(digits: &[u8]) -> Option<[u8; 5]>
     ])
 }
 
-/// Appends the octets of fewer than eight digits, and returns whether there are such.
+/// Appends the octets of fewer than eight digits, and returns whether any octets have these digits.
 fn push_rest(octets: &mut Vec<u8>, digits: &[u8]) -> Result<bool, AllocError>
     requires { length digits.now < 8 }
     ensures { IfOk result (λ found. MatchBool found

@@ -39,7 +39,7 @@ impl Class {
     }
 }
 
-/// By name, or as `CLASS` and the number (RFC 3597, 5).
+/// The name of the class, or `CLASS` and the number (RFC 3597, 5).
 impl fmt::Display for Class {
     ghost output = { λ n. Some (class_text n) };
 

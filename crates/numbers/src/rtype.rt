@@ -65,7 +65,7 @@ impl Rtype {
     }
 }
 
-/// By name, or as `TYPE` and the number (RFC 3597, 5).
+/// The name of the type, or `TYPE` and the number (RFC 3597, 5).
 impl fmt::Display for Rtype {
     ghost output = { λ n. Some (type_text n) };
 

@@ -36,7 +36,7 @@ impl Ttl {
     }
 }
 
-/// In decimal.
+/// The seconds in decimal.
 impl fmt::Display for Ttl {
     ghost output = { λ n. Some (decimal n) };
 

@@ -6,18 +6,18 @@ use Rattle.names_rdata.specs.Reading.{Part, name_part, octets_part, two_parts}
 use Rattle.plain.specs.declared.soa.Soa.{Soa}
 use Rattle.plain.specs.declared.soa.Times.{Times}
 
--- the five numbers, of 32 bits each
+-- the octets of the five numbers, of 32 bits each
 abbrev pub times_octets : Times → List ℕ
 times_octets t = to_be_bytes w32 t.serial ++ (to_be_bytes w32 t.refresh ++ (to_be_bytes w32 t.retry ++ (to_be_bytes w32 t.expire ++ to_be_bytes w32 t.minimum)))
 
--- two names, in full, and the numbers
+-- the octets of SOA data: two names, in full, and the numbers
 abbrev pub soa_octets : {N : Type 0} → (N → Name) → Soa N → List ℕ
 soa_octets name s = wire (name s.mname) ++ (wire (name s.rname) ++ times_octets s.times)
 
--- names in lower case (RFC 4034, 6.2)
+-- the octets of SOA data in canonical form: names in lower case (RFC 4034, 6.2)
 abbrev pub soa_canonical : {N : Type 0} → (N → Name) → Soa N → List ℕ
 soa_canonical name s = wire (low (name s.mname)) ++ (wire (low (name s.rname)) ++ times_octets s.times)
 
--- two names, and twenty octets
+-- the part of data that is SOA data: two names, and twenty octets
 abbrev pub soa_part : Part
 soa_part = two_parts name_part (two_parts name_part (octets_part 20))

@@ -31,7 +31,7 @@ SoaIsNamesAndNumbers =
 abbrev pub SoaIsReadBack : Type 0
 SoaIsReadBack = (m r : Name) (numbers : List ℕ) → IsName m → IsName r → length numbers ≡ 20 → IsReadBack soa_part (wire m ++ (wire r ++ numbers))
 
--- and NS data where a name stands up to the reader's end (RFC 1035, 3.3.11)
+-- NS data are read exactly where a name stands up to the reader's end (RFC 1035, 3.3.11)
 abbrev pub NsIsName : Type 0
 NsIsName = (r : Reader) (octets : List ℕ) → (data_at name_part r ≡ Ok octets) ↔ ((n : Name) × Stands r.octets r.place n r.end × (octets ≡ wire n))
 
@@ -49,7 +49,7 @@ pub record IsSoa (s : Soa Name) : Type 0 where
 abbrev pub itself : Name → Name
 itself n = n
 
--- the same up to the case of names
+-- two SOA data are the same up to the case of names
 pub record SameSoa (a b : Soa Name) : Type 0 where
   pub mname : same a.mname b.mname ≡ true
   pub rname : same a.rname b.rname ≡ true
@@ -60,7 +60,7 @@ pub record SoaOctetsSpell : Type 0 where
   pub plain : (a b : Soa Name) → IsSoa a → IsSoa b → soa_octets itself a ≡ soa_octets itself b → a ≡ b
   pub canonical : (a b : Soa Name) → IsSoa a → IsSoa b → soa_canonical itself a ≡ soa_canonical itself b → SameSoa a b
 
--- and NS data
+-- NS data with the same octets have the same name; with the same octets in canonical form they have up to case
 pub record NsOctetsSpell : Type 0 where
   pub plain : (a b : Ns Name) → IsName a.nsdname → IsName b.nsdname → ns_octets itself a ≡ ns_octets itself b → a ≡ b
   pub canonical : (a b : Ns Name) → IsName a.nsdname → IsName b.nsdname → ns_canonical itself a ≡ ns_canonical itself b → same a.nsdname b.nsdname ≡ true

@@ -17,13 +17,13 @@ zone_octets name (Soa s) = soa_octets name s
 zone_octets name (Ns d) = ns_octets name d
 zone_octets name (Unknown u) = u.octets
 
--- in canonical form (RFC 4034, 6.2)
+-- the octets of a zone's data in canonical form (RFC 4034, 6.2)
 abbrev pub zone_canonical : {O N : Type 0} → (N → Name) → ZoneRecordData O N → List ℕ
 zone_canonical name (Soa s) = soa_canonical name s
 zone_canonical name (Ns d) = ns_canonical name d
 zone_canonical name (Unknown u) = u.octets
 
--- whether it has names that a message may compress (RFC 1035, 3.3)
+-- whether a zone's data have names that a message may compress (RFC 1035, 3.3)
 abbrev pub zone_compressible : {O N : Type 0} → ZoneRecordData O N → Bool
 zone_compressible (Soa s) = true
 zone_compressible (Ns d) = true

@@ -14,8 +14,8 @@ use numbers::class::Class;
 use numbers::ttl::Ttl;
 use std::cmp::Ordering;
 
-/// A record: who has it, its class, how long it may be kept, and its data, which know the type. Records are equal,
-/// ordered and hashed by owner, class and data, whatever their TTL.
+/// A record: its owner, its class, its TTL, and its data, which determine the type. Records are equal, ordered and
+/// hashed by owner, class and data, whatever their TTL.
 #[derive(Clone, Copy, Debug, Drop)]
 #[derive_where(PartialEq, Eq, PartialOrd, Ord, Hash; N, D)]
 pub struct Record<N, D> {
@@ -87,7 +87,8 @@ impl<N: Absolute, D: ComposeRecordData> Record<N, D> {
         or_undone(target, len, done)
     }
 
-    /// As `compose`, in canonical form, with the TTL that the record has (RFC 4034, 6.2).
+    /// Appends the record in canonical form, with the TTL that it has (RFC 4034, 6.2). A refused call leaves the target
+    /// as it was.
     pub fn compose_canonical<B: Composer>(&self, target: &mut B) -> Result<(), ShortBuf>
         ensures ok { let octets = record_canonical N.name D.type_of D.canonical_rdata self.now in
             OnOk result (B.bytes target.new ≡ B.bytes target.old ++ octets) }
@@ -109,7 +110,7 @@ fn head<N, D: RecordData>(rr: &Record<N, D>) -> [u8; 8]
     [a, b, c, d, e, f, g, h]
 }
 
-/// Appends the fields; those that there is room for, where it is refused.
+/// Appends the fields. A refused call leaves the fields for which there was room.
 fn compose_fields<N: Absolute, D: ComposeRecordData, B: Composer>(
     rr: &Record<N, D>,
     target: &mut B,
@@ -124,7 +125,7 @@ fn compose_fields<N: Absolute, D: ComposeRecordData, B: Composer>(
     rr.content.compose_len_rdata(target)
 }
 
-/// As `compose_fields`, in canonical form.
+/// Appends the fields in canonical form. A refused call leaves the fields for which there was room.
 fn compose_canonical_fields<N: Absolute, D: ComposeRecordData, B: Composer>(
     rr: &Record<N, D>,
     target: &mut B,
@@ -139,7 +140,7 @@ fn compose_canonical_fields<N: Absolute, D: ComposeRecordData, B: Composer>(
     rr.content.compose_canonical_len_rdata(target)
 }
 
-/// By class, owner, type and data; TTLs aren't looked at.
+/// Compares class, owner, type and data; TTLs are ignored.
 impl<N: Absolute, D: RecordData + CanonicalOrd> CanonicalOrd for Record<N, D> {
     ghost use Rattle.plain.specs.Records.{record_canonical_cmp};
 

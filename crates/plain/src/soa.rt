@@ -66,7 +66,7 @@ fn number(octets: [u8; 4]) -> u32
     u32::from_be_bytes(octets)
 }
 
-/// SOA data. They are equal, ordered and hashed as their names are, and then by their numbers.
+/// SOA data. They are equal, ordered and hashed by their names first and then by their numbers.
 #[derive(Clone, Copy, Debug, PartialEq, Eq, PartialOrd, Ord, Hash, Drop)]
 pub struct Soa<N> {
     mname: N,
@@ -75,8 +75,8 @@ pub struct Soa<N> {
 }
 
 impl<N> Soa<N> {
-    /// The name server that the zone comes from, who answers for it (a mailbox as a name), the version of the zone,
-    /// how often a secondary asks for it, asks again and gives it up, and the TTL of negative answers (RFC 2308, 4).
+    /// The primary name server, the mailbox of the person responsible (as a name), the serial number, the refresh,
+    /// retry and expire intervals, and the TTL of negative answers (RFC 2308, 4).
     pub fn new(
         mname: N,
         rname: N,
@@ -224,7 +224,7 @@ impl<N: Absolute> ComposeRecordData for Soa<N> {
     }
 }
 
-/// Appends the fields; those that there is room for, where it is refused.
+/// Appends the fields. A refused call leaves the fields for which there was room.
 fn compose_fields<N: Absolute, B: Composer>(soa: &Soa<N>, target: &mut B) -> Result<(), ShortBuf>
     ensures ok { let octets = soa_octets N.name soa.now in
         OnOk result (B.bytes target.new ≡ B.bytes target.old ++ octets) }
@@ -236,7 +236,7 @@ fn compose_fields<N: Absolute, B: Composer>(soa: &Soa<N>, target: &mut B) -> Res
     target.append_slice(&soa.times.octets())
 }
 
-/// As `compose_fields`, in canonical form.
+/// Appends the fields in canonical form. A refused call leaves the fields for which there was room.
 fn compose_canonical_fields<N: Absolute, B: Composer>(
     soa: &Soa<N>,
     target: &mut B,

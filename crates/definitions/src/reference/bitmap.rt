@@ -194,7 +194,7 @@ fn window_octets(alloc: Global, types: &[u16], number: u16) -> Result<Vec<u8>, A
     Ok(octets)
 }
 
-/// The first octets of a window, so many of them.
+/// The first `count` octets of a window.
 fn octets_below(
     alloc: Global,
     types: &[u16],

@@ -8,7 +8,7 @@ use crate::reference::Octets;
 use std::alloc::{AllocError, Global};
 use std::cmp::Ordering;
 
-/// The same octets in each label.
+/// Whether two names have the same octets in each label.
 pub(super) fn labels_eq(a: &[Octets], b: &[Octets]) -> bool
     ensures { result ≡ labels_eq a.now b.now }
 {
@@ -40,7 +40,7 @@ fn lowered_label(alloc: Global, label: &Octets) -> Result<Octets, AllocError>
     Ok(Octets { octets })
 }
 
-/// The same up to ASCII case (RFC 4343, 3).
+/// Whether two names are the same up to ASCII case (RFC 4343, 3).
 pub fn same(a: &[Octets], b: &[Octets]) -> bool
     ensures { result ≡ same a.now b.now }
 {
@@ -85,7 +85,7 @@ pub fn name_cmp(a: &[Octets], b: &[Octets]) -> Ordering
     }
 }
 
-/// Two labels octet by octet, letters lowered.
+/// Compares two labels octet by octet, ASCII letters lowered.
 fn label_cmp(a: &[u8], b: &[u8]) -> Ordering
     ensures { result ≡ label_cmp a.now b.now }
 {

@@ -55,7 +55,7 @@ struct LabelRun {
     room: usize,
 }
 
-/// The name at a place of a message, and the place behind it; at most so many pointers are followed.
+/// The name at a place of a message, and the place behind it. At most `pointers` pointers are followed.
 pub fn name_at(
     alloc: Global,
     message: &[u8],
@@ -69,7 +69,7 @@ pub fn name_at(
     Ok((labels, behind))
 }
 
-/// The labels at a place, in so many octets.
+/// The labels at a place, which take at most `room` octets.
 fn labels_at(
     alloc: Global,
     message: &[u8],
