@@ -46,14 +46,14 @@ enum zermuita_reply {
     ZERMUITA_BAD_DNSKEY_MESSAGE = 17,     /* the DNSKEY answer is not a message */
     ZERMUITA_BAD_ANSWER_MESSAGE = 18,     /* the answer is not a message */
     ZERMUITA_QUESTION_MISMATCH = 19,      /* a message answers another question */
-    ZERMUITA_EQUAL_TAGS = 20,             /* two unlike keys have one tag */
+    ZERMUITA_EQUAL_TAGS = 20,             /* two different keys have one tag */
     ZERMUITA_NO_TRUSTED_KEY = 21,         /* no key that a DS record names signs the DNSKEY set */
-    ZERMUITA_MIXED_NSEC3_PARAMETERS = 22, /* NSEC3 records have unlike parameters */
+    ZERMUITA_MIXED_NSEC3_PARAMETERS = 22, /* NSEC3 records have different parameters */
     ZERMUITA_ITERATIONS_OVER_LIMIT = 23,  /* the NSEC3 iterations are over the limit */
     ZERMUITA_HASH_FAILED = 24,            /* a name was not hashed */
     ZERMUITA_NOT_PROVEN = 25,             /* the signed records prove no verdict */
     ZERMUITA_OUT_OF_MEMORY = 26,          /* memory ran out */
-    ZERMUITA_MIXED_VERSIONS = 27,         /* signatures are of unlike times, and one moment is asked for */
+    ZERMUITA_MIXED_VERSIONS = 27,         /* signatures have different times, and one moment is demanded */
     ZERMUITA_MESSAGE_TOO_LONG = 28,       /* a message is too long in canonical form */
 
     /* What the library needs. */

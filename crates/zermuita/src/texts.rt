@@ -37,18 +37,18 @@ fn text_of_code(code: ReplyCode) -> &'static [u8]
             b"ZERMUITA_BAD_ANSWER_MESSAGE: the answer is not a message\0",
         ReplyCode::QuestionMismatch =>
             b"ZERMUITA_QUESTION_MISMATCH: a message answers another question\0",
-        ReplyCode::EqualTags => b"ZERMUITA_EQUAL_TAGS: two unlike keys have one tag\0",
+        ReplyCode::EqualTags => b"ZERMUITA_EQUAL_TAGS: two different keys have one tag\0",
         ReplyCode::NoTrustedKey =>
             b"ZERMUITA_NO_TRUSTED_KEY: no key that a DS record names signs the DNSKEY set\0",
         ReplyCode::MixedNsec3Parameters =>
-            b"ZERMUITA_MIXED_NSEC3_PARAMETERS: NSEC3 records have unlike parameters\0",
+            b"ZERMUITA_MIXED_NSEC3_PARAMETERS: NSEC3 records have different parameters\0",
         ReplyCode::IterationsOverLimit =>
             b"ZERMUITA_ITERATIONS_OVER_LIMIT: the NSEC3 iterations are over the limit\0",
         ReplyCode::HashFailed => b"ZERMUITA_HASH_FAILED: a name was not hashed\0",
         ReplyCode::NotProven => b"ZERMUITA_NOT_PROVEN: the signed records prove no verdict\0",
         ReplyCode::OutOfMemory => b"ZERMUITA_OUT_OF_MEMORY: memory ran out\0",
         ReplyCode::MixedVersions =>
-            b"ZERMUITA_MIXED_VERSIONS: signatures are of unlike times, and one moment is asked for\0",
+            b"ZERMUITA_MIXED_VERSIONS: signatures have different times, and one moment is demanded\0",
         ReplyCode::MessageTooLong =>
             b"ZERMUITA_MESSAGE_TOO_LONG: a message is too long in canonical form\0",
         ReplyCode::Ask => b"ZERMUITA_ASK: signatures are to be checked\0",
