@@ -36,7 +36,7 @@ pub use names_traits::to_name::ToName;
 pub use names_traits::to_relative::ToRelativeName;
 pub use names_wire::builder::{OctetsBuilder, ShortBuf};
 pub use names_wire::label::{Label, LabelTypeError, LongLabelError, SplitLabelError};
-pub use names_wire::label_mut::LabelMut;
+pub use names_wire::label_mut::{LabelMut, OwnedLabelMut};
 pub use names_wire::labels::SliceLabelsIter;
 pub use names_wire::octets::Octets;
 pub use names_wire::owned::{LabelFromStrError, OwnedLabel};
