@@ -47,7 +47,7 @@ pub enum Act {
     },
 }
 
-/// Of records it says how many there are.
+/// Records are counted, not listed.
 impl fmt::Debug for Act {
     fn fmt<W: fmt::Write>(&self, f: &mut fmt::Formatter<W>) -> fmt::Result {
         match self {

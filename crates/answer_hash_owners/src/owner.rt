@@ -1,4 +1,4 @@
-//! Which owners spell a hash, and which one (RFC 5155, 3).
+//! Owners that spell a hash, and the hash that one spells (RFC 5155, 3).
 ghost use Rattle.std.specs.Prelude.{◌≡◌, ◌<◌, true, false, IfOk, MatchOption, length};
 ghost use Rattle.std.specs.Char.{to_ascii_lowercase};
 ghost use Rattle.std.specs.List.{list_all};

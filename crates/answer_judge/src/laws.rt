@@ -30,7 +30,7 @@ pub fn chains_say_the_same()
     ensures { ChainsSayTheSame }
 {}
 
-/// Of messages in which nothing is forged a judge says the verdict of a version that the zone had, or refuses, beside any DS
+/// On messages in which nothing is forged a judge says the verdict of a version that the zone had, or refuses, beside any DS
 /// set that isn't empty. The zone never changed, or signatures must be of one moment and at one moment the zone had one
 /// version: of records of two versions no verdict is made that neither has.
 ///
@@ -49,7 +49,8 @@ pub fn nothing_forged_at_all_is_enough()
     ensures { AtAllIsEnough }
 {}
 
-/// Of a zone that does not change it says the verdict, or refuses, whether or not signatures must be of one moment.
+/// On messages of a zone that does not change, in which nothing is forged, a judge says the zone's verdict or refuses, whether
+/// or not signatures must be of one moment.
 pub fn of_one_zone_its_verdict()
     ensures { HonestOfOneZone }
 {}

@@ -329,8 +329,8 @@ fn holds_one(group: &Group) -> bool
 
 /// Whether octets are data of an NSEC3 record whose algorithm is SHA-1 and whose flags are none but opt-out.
 ///
-/// Of another algorithm or flag a judge doesn't know what it says: taken as known, it would deny names by a meaning that
-/// the zone did not sign (RFC 5155, 8.1 and 8.2).
+/// A judge doesn't know what a record of another algorithm or flag says: taken as known, the record would deny names by a
+/// meaning that the zone did not sign (RFC 5155, 8.1 and 8.2).
 fn is_known(octets: &[u8]) -> bool
     requires { length octets.now ≤ 65535 }
     ensures { result ≡ is_known_datum octets.now }

@@ -34,7 +34,7 @@ use std::alloc::{AllocError, Global};
 use std::borrow::CowSlice;
 use std::cmp::Ordering;
 
-/// So many groups at most are looked through one by one; among more one is searched.
+/// The largest number of groups that are looked through one by one. Among more, a group is found by binary search.
 const FEW: usize = 8;
 
 /// What a signature says beside the RRset that it covers and the name that signs it (RFC 4034, 3.1).
@@ -268,7 +268,7 @@ pub fn place_of(groups: &[Group], owner: &Owner, rtype: Rtype) -> Option<usize>
         .ok()
 }
 
-/// The same, of groups that are looked through.
+/// The place of the first group of an owner and type, found by looking through all.
 fn first_place(groups: &[Group], owner: &Owner, rtype: Rtype) -> Option<usize>
     ensures within { IfSome result (λ i. i < length groups.now) }
     ensures found { let is = is_of owner.now rtype in

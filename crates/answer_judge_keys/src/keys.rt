@@ -28,7 +28,7 @@ use std::alloc::{AllocError, Global};
 use std::cmp::Ordering;
 use std::marker::Model;
 
-/// So many keys at most are looked through one by one; among more one is searched.
+/// The largest number of keys that are looked through one by one. Among more, a key is found by binary search.
 const FEW: usize = 8;
 
 /// A key with the data that spell it, and its tag, which is summed once. A contract sees the key.
@@ -81,7 +81,7 @@ impl<'a> TaggedKey<'a> {
         self.tag
     }
 
-    /// The same key over the same octets.
+    /// A copy of the key, over the octets of the original.
     fn copied(&self) -> TaggedKey<'a>
         ensures { result ≡ self.now }
     {
@@ -107,7 +107,7 @@ impl<'a> TaggedKey<'a> {
         self.dnskey.is_zone_key() && self.dnskey.protocol() == 3
     }
 
-    /// By tag, and then by algorithm.
+    /// The order of keys: by tag, and then by algorithm.
     fn key_cmp(&self, other: &TaggedKey) -> Ordering
         ensures { result ≡ key_cmp self.now other.now }
     {
@@ -189,7 +189,7 @@ pub fn ranked_keys<'a>(
     Ok(ranked)
 }
 
-/// The same keys over the same octets.
+/// Copies of keys, over the octets of the originals.
 fn copied_keys<'a>(alloc: Global, keys: &[TaggedKey<'a>]) -> Result<Vec<TaggedKey<'a>>, AllocError>
     ensures { IfOk result (λ v. v.items ≡ keys.now) }
 {
@@ -216,7 +216,7 @@ pub fn key_of<'k, 'a>(
     searched_key(ranked, signature)
 }
 
-/// The same, of keys that are looked through.
+/// The first key that a signature names by tag and algorithm, found by looking through all.
 fn first_key<'k, 'a>(keys: &'k [TaggedKey<'a>], signature: &Signature) -> Option<&'k TaggedKey<'a>>
     ensures { let fits = fits_key (fields_read signature.now) in
         option_map (λ k. k.now) result ≡ find fits keys.now }
@@ -229,7 +229,7 @@ fn first_key<'k, 'a>(keys: &'k [TaggedKey<'a>], signature: &Signature) -> Option
     None
 }
 
-/// The same, of keys by tag and algorithm.
+/// The key that a signature names, found by binary search among keys in order of tag and algorithm.
 fn searched_key<'k, 'a>(
     ranked: &'k [TaggedKey<'a>],
     signature: &Signature,

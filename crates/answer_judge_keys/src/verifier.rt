@@ -17,7 +17,7 @@ pub struct Verifier<'a, C: Checks> {
 }
 
 impl<'a, C: Checks> Verifier<'a, C> {
-    /// With nothing verified yet.
+    /// A verifier that has verified nothing yet.
     pub fn new(alloc: Global, checks: &'a mut C, octets: &'a mut Vec<u8>) -> Self
         ensures same_checks { result.checks.ghost_name ≡ checks.entry.ghost_name }
         ensures checks { result.checks.now ≡ checks.old }

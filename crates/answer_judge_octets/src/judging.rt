@@ -99,7 +99,7 @@ fn wanted(alloc: Global, case: &Case, table: &[CheckedSignature]) -> Result<Vec<
     asked::<Brand, Brand, Brand>(alloc, case, table, first, second)
 }
 
-/// The same, by a judgement whose calls are counted from 0 on.
+/// The signatures that a judgement by a table asks for. Its calls are counted from 0 on.
 fn asked<T: Told, L: Ledger, M: Ledger>(
     alloc: Global,
     case: &Case,

@@ -260,7 +260,7 @@ fn put_short(octets: &mut Vec<u8>, part: &[u8]) -> Result<(), AllocError>
     octets.extend_from_slice(part)
 }
 
-/// The same in four octets.
+/// Appends octets behind their length in four octets.
 fn put_long(octets: &mut Vec<u8>, part: &[u8]) -> Result<(), AllocError>
     ensures octets { OnOk result (octets.new.items ≡ octets.old.items ++ with_long_length part.now) }
     ensures long { OnOk result (IsLong part.now) }

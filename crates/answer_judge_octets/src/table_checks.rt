@@ -135,8 +135,8 @@ impl<'t, 's, T: Told, L: Ledger, M: Ledger> Checks for TableChecks<'t, 's, T, L,
     }
 }
 
-/// The same, but that a judgement goes on at a signature that the table does not have, as if it passed, and each of these is
-/// kept.
+/// Checks by a table of signatures, by which a judgement goes on at a signature that the table lacks, as if it passed. Each of
+/// these signatures is kept.
 #[derive(Drop)]
 pub(crate) struct AskingChecks<'t, 's, T: Told, L: Ledger, M: Ledger> {
     alloc: Global,

@@ -21,7 +21,7 @@ use std::alloc::{AllocError, Global};
 
 /// The verdict on a name and a type that verified facts prove; None where they prove none.
 ///
-/// Of names outside the zone they prove none: beside an apex that is a wildcard name the last record would cover them.
+/// Facts prove no verdict on names outside the zone: beside an apex that is a wildcard name the last record would cover them.
 /// A verified RRset answers at once, or, expanded, beside a link alone: no other rule is tried then (RFC 4035, 5.3.4).
 /// Names are hashed beside links of a chain of hashes alone, in order, until one fails; such a link is in use wherever there
 /// is one. `hashes` becomes how many were hashed, whatever comes of it.
@@ -63,7 +63,7 @@ pub fn decide<C: Checks>(
     by_rules(alloc, apex, facts, name, rtype, checks, hashes)
 }
 
-/// By the rules, which say nothing of names outside the zone.
+/// The verdict by the rules alone, which say nothing of names outside the zone.
 fn by_rules<C: Checks>(
     alloc: Global,
     apex: &Name<Vec<u8>>,
@@ -107,7 +107,7 @@ fn by_rules<C: Checks>(
     by_hash_links(&chain, checks, count, rrset, name)
 }
 
-/// By links of names alone.
+/// The verdict by links of names alone.
 fn by_links(
     alloc: Global,
     apex: &Name<Vec<u8>>,
@@ -131,7 +131,7 @@ fn by_links(
     }
 }
 
-/// By links of hashes, of which there is one.
+/// The verdict by links of hashes, of which there is at least one.
 fn by_hash_links<C: Checks>(
     chain: &HashChain,
     checks: &mut C,

@@ -52,7 +52,7 @@ impl<'a> HashLink<'a> {
 
     /// What it says of the name that it matches.
     ///
-    /// One that matches another name says nothing of this one: replayed, it would deny what that name lacks (RFC 5155, 8.5).
+    /// A link that matches another name says nothing of this one: replayed, it would deny what that name lacks (RFC 5155, 8.5).
     fn at_hash<N: ToName>(
         &self,
         apex: &Name<Vec<u8>>,

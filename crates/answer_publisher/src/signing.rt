@@ -19,7 +19,7 @@ use messages::signed::{compose_fields, signed_octets};
 use numbers::class::Class;
 use std::alloc::{AllocError, AllocFailed, Global};
 
-/// Whose signatures are made, and for which time.
+/// The signer of signatures, and the time for which they are made.
 #[derive(Clone, Copy, Debug)]
 pub struct SignatureTerms<'a> {
     /// The apex of the zone, as it is spelled: the signer.

@@ -29,7 +29,7 @@ use std::collections::BTreeMap;
 use std::convert::AsStr;
 use std::marker::Model;
 
-/// Which of a zone's keys are asked for.
+/// The keys of a zone that are asked for.
 #[derive(Clone, Copy, Debug, PartialEq, Eq)]
 pub enum Publication {
     /// Those that the parent's DS set names.

@@ -16,10 +16,10 @@ use std::alloc::Global;
 pub trait Checks {
     ghost answers: { Self → Answers };
 
-    /// By which other tests of signatures `verify` may have answered as it did, each time so far.
+    /// The tests of signatures by which `verify` may have answered as it did, each time so far.
     ghost agrees: { Self → SignatureTest → Type 0 } = { λ _ _. ⊥ };
 
-    /// Which tests pass for all that `verify` was asked about so far.
+    /// The tests that pass for all that `verify` was asked about so far.
     ghost asked_only: { Self → SignatureTest → Type 0 } = { λ _ _. ⊤ };
 
     /// How often `verify` was called.

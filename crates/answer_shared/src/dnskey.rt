@@ -13,11 +13,11 @@ pub trait ZoneKey {
     /// Flags, protocol, algorithm and octets.
     ghost fields: { Self → Key };
 
-    /// The same key over a slice.
+    /// This key over a slice of its octets.
     fn for_ref(&self) -> Dnskey<&[u8]>
         ensures { result ≡ fields self.now };
 
-    /// The same key with octets of its own.
+    /// A copy of this key with octets of its own.
     fn try_clone(&self, alloc: Global) -> Result<Dnskey<Vec<u8>>, AllocError>
         ensures { IfOk result (λ k. k ≡ fields self.now) };
 

@@ -1,7 +1,7 @@
-//! Which chain a zone gets.
+//! The chain that a zone gets: of names or of hashes.
 use denial_fields::salt::Nsec3Salt;
 
-/// Which chain a zone gets.
+/// The chain that a zone gets.
 #[derive(Drop)]
 pub enum Mode {
     /// A chain of names (RFC 4034, 4).

@@ -1,4 +1,4 @@
-//! Which questions a zone answers.
+//! The questions that a zone answers.
 ghost use Rattle.std.specs.Prelude.{◌≡◌};
 ghost use Rattle.messages.specs.Questions.{asked_of};
 ghost use Rattle.answer_shared.specs.Asking.{is_allowed};

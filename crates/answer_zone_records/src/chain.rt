@@ -71,7 +71,7 @@ pub fn chain_of(
     Ok(owned(alloc, &nsecs)?)
 }
 
-/// The same records, with names of their own.
+/// Links of NSEC records, with names of their own.
 fn owned(alloc: Global, nsecs: &[NsecRecord<'_>]) -> Result<Vec<ChainLink>, AllocError>
     ensures { IfOk result (λ v. v.items ≡ map (λ r. link_of (record_of (λ n. n) r)) nsecs.now) }
 {

@@ -119,7 +119,7 @@ impl RrGroup {
         Ok(RrGroup::new(owner, label_count, rtype, ttl, records, canonical, signed))
     }
 
-    /// The same without signatures (RFC 4035, 2.2).
+    /// The group as one that is not signed (RFC 4035, 2.2).
     pub fn unsigned(self) -> Self
         ensures { result ≡ record self { signed = false } }
     {

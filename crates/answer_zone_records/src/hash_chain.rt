@@ -123,7 +123,7 @@ fn config_of<'m>(parameters: &HashParameters<'m>) -> GenerateNsec3Config<&'m [u8
     }
 }
 
-/// The same records, each with the hash that its owner spells: it is the next hash of the record before.
+/// Links of NSEC3 records, each with the hash that its owner spells: it is the next hash of the record before.
 fn hashed_links(alloc: Global, nsec3s: &[Nsec3Record]) -> Result<Vec<HashedLink>, AllocError>
     ensures links { IfOk result (λ v. v.items ≡ hashed_around nsec3s.now) }
     ensures octets { IfOk result (λ v. AllByRecursion HasOctets v.items) }

@@ -1,4 +1,4 @@
-//! Which records are accepted as a zone's, the chain that is made of them and what it says of names, what a name owns among
+//! The records of a zone: which are accepted, the chain that is made of them and what it says of names, what a name owns among
 //! them, and RRsets on their way into an answer.
 #![tactic(auto)]
 

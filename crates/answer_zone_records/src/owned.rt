@@ -65,7 +65,7 @@ impl<'a> Owned<'a> {
         }
     }
 
-    /// The same, and soon where they stand at a place or not far before it.
+    /// What a name owns among records. The search is short where it stands at a place or not far before it.
     pub fn found_near<O: ToName>(
         records: &'a SortedRecords<Name<Vec<u8>>, ZoneData>,
         name: &O,

@@ -76,7 +76,7 @@ fn walk(names: &[Name<Vec<u8>>]) -> u64 {
     count
 }
 
-/// As `walk`, from the back.
+/// The sum of `walk`, with labels taken from the back.
 fn walk_back(names: &[Name<Vec<u8>>]) -> u64 {
     let mut count = 0u64;
     for name in names {

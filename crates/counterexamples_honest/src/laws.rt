@@ -1,5 +1,5 @@
-//! What the premises on honest messages are met by, and what each is needed for. Each law is the contract of a function that does
-//! nothing.
+//! Messages that meet the premises on honest messages, and what each premise is needed for. Each law is the contract of a
+//! function that does nothing.
 ghost use Rattle.std.specs.Prelude.{[], ◌∷◌};
 ghost use Rattle.definitions.specs.Zone.{NoName, Records};
 ghost use Rattle.answer_judge_keys.specs.Judging.{Says, Refuses};
@@ -9,7 +9,7 @@ ghost use Rattle.counterexamples_honest.specs.Quoted.{QuotesAreHonest};
 ghost use Rattle.counterexamples_honest.specs.Rows.{first_version, forged_late, mixed, of_strangers, own, second_version, small, spliced, starred};
 ghost use Rattle.counterexamples_honest.specs.World.{address, plain};
 
-/// With all premises messages are honest, and no verdict on them is false.
+/// Messages that meet all premises are honest, and no verdict on them is false.
 pub fn all_premises_are_honesty()
     ensures same { AllAreHonest }
     ensures truly { NoneIsFalse }
@@ -27,19 +27,19 @@ pub fn own_answers_are_honest()
     ensures { IsHonestCase plain own (small ∷ []) (Says (Records (address ∷ []))) }
 {}
 
-/// So are a wildcard's address, moved to a name below one that is there, and the record of the chain which covers that name:
-/// both were signed, in two answers. They prove nothing (RFC 4035, 5.3.4).
+/// A wildcard's address, moved to a name below one that exists, beside the record of the chain that covers that name, is honest:
+/// both records were signed, in two answers. They prove nothing (RFC 4035, 5.3.4).
 pub fn splices_are_honest()
     ensures { IsHonestCase plain spliced (starred ∷ []) (Refuses NotProven) }
 {}
 
-/// So are a DNSKEY answer of a stranger's key that has the tag of the zone's, and an answer that this key signed. No trusted
-/// key signed the keys (RFC 4035, 5.2).
+/// A DNSKEY answer of a stranger's key that has the tag of the zone's key, and an answer that the stranger's key signed, are
+/// honest. They are refused: no trusted key signed the keys (RFC 4035, 5.2).
 pub fn answers_of_strangers_are_honest()
     ensures { IsHonestCase plain of_strangers (small ∷ []) (Refuses NoTrustedKey) }
 {}
 
-/// So is an address that was forged under the zone's key, in a signature whose time is over. It proves nothing (RFC 4035,
+/// An address that was forged under the zone's key, in a signature whose time is over, is honest. It proves nothing (RFC 4035,
 /// 5.3.1).
 pub fn what_is_forged_late_is_honest()
     ensures { IsHonestCase plain forged_late (small ∷ []) (Refuses NotProven) }

@@ -101,7 +101,7 @@ impl fmt::Display for Form {
 #[derive(Clone, Copy, Debug, PartialEq, Eq)]
 pub struct Field {
     pub form: Form,
-    /// Which field of the line it is, counted from 1 on.
+    /// The field's place in the line, counted from 1 on.
     pub place: usize,
 }
 

@@ -20,12 +20,12 @@ pub struct Explained {
     pub notes: Vec<String>,
     /// What is shown, line by line.
     pub shown: Vec<String>,
-    /// Of a judgement.
+    /// Why a judgement came out so, where the event is one.
     pub reasons: Option<Reasons>,
 }
 
 impl Explained {
-    /// With what is printed alone.
+    /// An event of which nothing is said yet beside what is printed.
     pub fn new(alloc: Global, line: usize, event: &[u8]) -> Result<Self, AllocError> {
         let event = match str::from_utf8(event) {
             Ok(text) => String::from_str(alloc, text)?,

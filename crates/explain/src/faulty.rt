@@ -69,7 +69,7 @@ fn wanting(fault: &ZoneFault) -> &'static str {
     }
 }
 
-/// Of each record of a session whether its zone is refused for it.
+/// For each record of a session, whether its zone is refused for it.
 fn faulty_records(
     alloc: Global,
     session: Session,
@@ -91,7 +91,7 @@ fn faulty_records(
     }
 }
 
-/// Of each record whether a zone that holds it alone is refused for the same.
+/// For each record, whether a zone that holds it alone is refused for the same fault.
 fn faulty_alone(
     alloc: Global,
     session: &Session,
@@ -106,7 +106,7 @@ fn faulty_alone(
     Ok(faulty)
 }
 
-/// Of each record whether it is an SOA record of the zone.
+/// For each record, whether it is an SOA record of the zone.
 fn soas_at_the_apex(alloc: Global, session: &Session) -> Result<Vec<bool>, AllocError> {
     let mut faulty = Vec::new(alloc);
     for record in &session.records {
@@ -115,7 +115,7 @@ fn soas_at_the_apex(alloc: Global, session: &Session) -> Result<Vec<bool>, Alloc
     Ok(faulty)
 }
 
-/// Of each record whether it is of an RRset of several TTLs that belongs to the zone.
+/// For each record, whether it is of an RRset of several TTLs that belongs to the zone.
 fn of_unequal_ttls(alloc: Global, session: Session, input: &[u8]) -> Result<Vec<bool>, AllocError> {
     let Session {
         zone,

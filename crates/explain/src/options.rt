@@ -22,7 +22,7 @@ pub enum Style {
     Text,
     /// One JSON object, in a line.
     Objects,
-    /// Of a judgement alone: whether the judge's verdict was found again in the messages.
+    /// Whether the judge's verdict was found again in the messages, and nothing else.
     Agreement,
 }
 
@@ -67,7 +67,7 @@ impl<'a> Options<'a> {
         Some(options)
     }
 
-    /// These options, by which sessions are explained so.
+    /// These options for sessions that are explained in a style.
     fn of_sessions(self, style: Style) -> Self {
         let mut options = self;
         (options.task, options.style) = (Task::Session, style);

@@ -14,7 +14,7 @@ use std::alloc::{AllocError, Global};
 const UNLIKE: &str =
     "its data are not in canonical form (RFC 4034, 6.2), and are signed as they stand: other validators refuse the signatures";
 
-/// Of each record whether its data are signed alike everywhere.
+/// For each record, whether its data are signed alike everywhere.
 pub fn signed_alike(alloc: Global, records: &[ZoneRecord]) -> Result<Vec<bool>, AllocError> {
     let mut alike = Vec::new(alloc);
     for record in records {

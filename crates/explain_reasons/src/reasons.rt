@@ -44,7 +44,7 @@ pub struct Reasons {
 }
 
 impl Reasons {
-    /// With nothing said so far.
+    /// Reasons of which none is said so far.
     fn new(alloc: Global) -> Self {
         Reasons {
             because: Vec::new(alloc),

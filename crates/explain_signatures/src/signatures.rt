@@ -63,7 +63,7 @@ impl fmt::Display for SignatureState {
     }
 }
 
-/// Which message a signature stands in.
+/// The message in which a signature stands.
 #[derive(Clone, Copy, Debug, PartialEq, Eq, Drop, Serialize)]
 #[serde(rename_all = "kebab-case")]
 pub enum Source {
@@ -119,7 +119,7 @@ struct Fields {
 }
 
 impl Fields {
-    /// Of data that can't be read.
+    /// The fields of a signature whose data can't be read.
     fn none() -> Fields {
         Fields {
             covered: Rtype::from_int(0),
@@ -154,7 +154,7 @@ impl Seen {
         matches!(self.state, SignatureState::Passed | SignatureState::Failed)
     }
 
-    /// The same for people.
+    /// This signature as it is told to people.
     fn reason(&self, alloc: Global) -> Result<SignatureReason, AllocError> {
         let (from, until) = (
             Date {

@@ -77,7 +77,7 @@ fn push_address(out: &mut Vec<u8>, rtype: Rtype, fields: &[Field]) -> Result<(),
     Ok(out.extend_from_slice(&address.octets())?)
 }
 
-/// So many numbers of 16 bits, and a name.
+/// Appends a count of numbers of 16 bits, and a name.
 fn push_names(
     out: &mut Vec<u8>,
     fields: &[Field],

@@ -37,7 +37,7 @@ impl Asked {
         })
     }
 
-    /// The same beside two messages.
+    /// The case of a question, its DS set and moment, and two messages.
     fn of<'a>(&'a self, dnskey: &'a [u8], answer: &'a [u8]) -> Case<'a> {
         Case {
             apex: &self.apex,
@@ -51,7 +51,7 @@ impl Asked {
         }
     }
 
-    /// The same, of signatures of any moments.
+    /// That case, where signatures may be of any moments.
     fn of_any_moments<'a>(&'a self, dnskey: &'a [u8], answer: &'a [u8]) -> Case<'a> {
         let mut case = self.of(dnskey, answer);
         case.one_moment = false;
@@ -138,7 +138,7 @@ pub fn judged_any(alloc: Global, desk: &Desk, words: &[&str]) -> Option<String> 
     by_scheme(alloc, &asked.of_any_moments(&desk.keys, &desk.answer), WELL)
 }
 
-/// The same by the scheme of the first word.
+/// What `judge_with` says by the scheme of the first word.
 pub fn judged_by(alloc: Global, desk: &Desk, rest: &str) -> Option<String> {
     let (scheme, rest) = rest.split_once(' ')?;
     let asked = Asked::read(alloc, &words(alloc, rest)?)?;

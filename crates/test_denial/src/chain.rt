@@ -10,7 +10,7 @@ use definitions::reference::zone::PlainZone;
 use denial_laws::reference::facts::{NameHash, PlainHashLink, PlainLink, PlainParameters};
 use std::alloc::{AllocError, Global};
 
-/// Which chain.
+/// The kind of a chain.
 #[derive(Clone, Copy, Debug, PartialEq, Eq)]
 pub enum ChainKind {
     /// NSEC.

@@ -14,7 +14,7 @@ pub enum Line {
     Zone(Vec<Octets>),
     /// One more record.
     Record(Vec<Octets>, u16),
-    /// To try all sets of so many records of a chain.
+    /// To try all sets of a number of records of a chain.
     Cases(ChainKind, u32),
 }
 

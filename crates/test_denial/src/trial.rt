@@ -29,7 +29,7 @@ pub struct Tally {
 }
 
 impl Tally {
-    /// With one more set, and what it proved beside what the zone says.
+    /// The tally with one more set, and what it proved beside what the zone says.
     fn with(self, said: &PlainVerdict, found: Option<&PlainVerdict>) -> Tally {
         let proved = found.is_some();
         let unlike = found.is_some_and(|verdict| !is_same(verdict, said));

@@ -61,7 +61,7 @@ pub enum Call {
 /// The TTL that is reported, and how long each wait is.
 pub const TTL: u32 = 60;
 
-/// So many seconds after the beginning of 1970.
+/// The moment that is a number of seconds after the beginning of 1970.
 pub fn moment(seconds: u64) -> UnixTime {
     UnixTime::new(Duration::from_secs(seconds))
 }

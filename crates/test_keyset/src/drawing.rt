@@ -14,7 +14,7 @@ pub struct Scene {
     roll: RollType,
     step: &'static str,
     now: u64,
-    /// Behind a report.
+    /// The wait that begins with this step, where it is a report.
     wait: Option<Wait>,
     ds: String,
     dnskey: String,
@@ -25,7 +25,7 @@ pub struct Scene {
 #[derive(Clone, Copy)]
 struct Wait {
     ttl: u64,
-    /// From when on the key set accepts that it is over.
+    /// The moment from which on the key set accepts that the wait is over.
     end: u64,
 }
 

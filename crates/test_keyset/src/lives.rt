@@ -164,7 +164,7 @@ pub fn in_report1(roll: RollType, thing: Thing) -> bool {
     }
 }
 
-/// The same of its second report.
+/// The things of which a roll's second report says that they are everywhere.
 pub fn in_report2(roll: RollType, thing: Thing) -> bool {
     match roll {
         RollType::KskRoll | RollType::AlgorithmRoll => thing == Thing::DsSet,

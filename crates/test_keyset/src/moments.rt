@@ -23,7 +23,7 @@ pub fn answer_to(answer: &mut Answer, name: &str, line: &str) -> Option<()> {
     Some(())
 }
 
-/// So many seconds behind a moment, both of 32 bits.
+/// The moment that is a number of seconds behind another one, both of 32 bits.
 fn later(first: &str, second: &str) -> Option<UnixTime> {
     let (first, second) = (first.parse::<u32>().ok()?, second.parse::<u32>().ok()?);
     let (first, second) = (u64::from(first), u64::from(second));

@@ -30,7 +30,7 @@ pub fn moment(word: &str) -> Option<UnixTime> {
     Some(at(word.parse::<u64>().ok()?))
 }
 
-/// So many seconds after the beginning of 1970.
+/// The moment that is a number of seconds after the beginning of 1970.
 pub fn at(seconds: u64) -> UnixTime {
     UnixTime::new(Duration::from_secs(seconds))
 }

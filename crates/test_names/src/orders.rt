@@ -134,7 +134,7 @@ fn chain(alloc: Global, answer: &mut Answer, front: &[u8], end: &[u8]) -> Option
     Some(())
 }
 
-/// As `strip`, of relative names. What is refused stays as it was.
+/// A relative name without a suffix. A name that is refused stays as it was.
 fn strip_relative(alloc: Global, answer: &mut Answer, name: &[u8], base: &[u8]) -> Option<()> {
     let base = RelativeName::from_slice(base).ok()?;
     let mut name = RelativeName::from_slice(name).ok()?.to_vec(alloc).ok()?;

@@ -54,7 +54,7 @@ fn first(answer: &mut Answer, name: Name<&[u8]>) {
     }
 }
 
-/// As `first`, of a relative name.
+/// The first label of a relative name and the name behind it, by two functions; or that there is none.
 fn relative_first(answer: &mut Answer, name: RelativeName<&[u8]>) {
     match (name.split_first(), name.parent()) {
         (Some((label, rest)), Some(parent)) => {
@@ -113,7 +113,7 @@ fn cut(answer: &mut Answer, name: Name<Vec<u8>>, begin: usize, end: usize) {
     answer.octets(name.truncate(begin).as_slice());
 }
 
-/// As `cut`, of a relative name.
+/// What stands between two places of a relative name at which labels begin, and around them.
 fn relative_cut(answer: &mut Answer, name: RelativeName<Vec<u8>>, begin: usize, end: usize) {
     let mut name = name;
     if begin > end || !name.is_label_start(begin) || !name.is_label_start(end) {

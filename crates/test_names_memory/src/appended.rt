@@ -75,7 +75,7 @@ fn append_number(target: &mut Vec<u8>, call: usize) -> Result<(), ShortBuf> {
     }
 }
 
-/// By the bound, so that of a reference the reference's own call is made.
+/// Appends a value by the bound, so that the call of a reference is the one of its own impl.
 fn append_value<C: Compose>(value: &C, target: &mut Vec<u8>) -> Result<(), ShortBuf> {
     value.compose(target)
 }

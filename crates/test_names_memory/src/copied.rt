@@ -15,7 +15,7 @@ const PART: &[u8] = b"\x03Www\x07Example";
 
 const LOWER_PART: &[u8] = b"\x03www\x07example";
 
-/// The same in a message, behind its last label.
+/// `NAME` in a message, behind its last label.
 const MESSAGE: &[u8] = b"\x07Example\0\x03Www\xc0\0";
 
 /// What any absolute name has.

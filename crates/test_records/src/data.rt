@@ -127,7 +127,7 @@ fn written<D: ComposeRecordData>(alloc: Global, answer: &mut Answer, data: &D) {
     answer.octets(&alone);
 }
 
-/// As `written`, in canonical form.
+/// The data as they are written in canonical form, alone and behind their length.
 fn canonical<D: ComposeRecordData>(alloc: Global, answer: &mut Answer, data: &D) {
     let (mut alone, mut behind) = (Vec::new(alloc), Vec::new(alloc));
     answer.check(data.compose_canonical_rdata(&mut alone).is_ok());

@@ -6,12 +6,12 @@ use std::alloc::Global;
 use std::io;
 use std::process::ExitCode;
 
-/// Which growth was refused, and the exit status that says so.
+/// The growth that was refused, and the exit status that says so.
 #[derive(Clone, Copy, Debug, PartialEq, Eq)]
 pub enum Ending {
     /// None, or one without which a call is only slower: 0.
     Quiet,
-    /// One of a call, which said so and was made again: 1.
+    /// A growth of a call, which said so and was made again: 1.
     Refused,
     /// One of those that were taken before the first call: 2.
     Before,

@@ -16,7 +16,7 @@ struct Flags {
     as_received: bool,
 }
 
-/// As every validator does.
+/// Judged as every validator does.
 const PLAIN: Flags = Flags {
     one_moment: false,
     as_received: false,
@@ -113,7 +113,7 @@ impl Desk {
         self.outcome_with(alloc, ds, answer, moment, PLAIN)
     }
 
-    /// The same, judged so.
+    /// What is said of an answer beside a DS set, at a moment, judged by flags.
     fn outcome_with(
         &self,
         alloc: Global,

@@ -44,7 +44,7 @@ fn last_reply(alloc: Global, signatures: &Signatures, case: &OctetCase) -> Optio
     None
 }
 
-/// One reply to a case with these signatures.
+/// The reply to a case with a list of checked signatures.
 fn reply_to(
     alloc: Global,
     case: &OctetCase,

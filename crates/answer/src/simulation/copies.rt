@@ -37,7 +37,7 @@ fn copy_record(alloc: Global, original: &ZoneRecord) -> Result<ZoneRecord, Alloc
     ))
 }
 
-/// The same data.
+/// A copy of a record's data.
 fn copy_data(alloc: Global, original: &ZoneData) -> Result<ZoneData, AllocError>
     ensures { IfOk result (λ d. d ≡ original.now) }
 {
@@ -58,7 +58,7 @@ fn copy_data(alloc: Global, original: &ZoneData) -> Result<ZoneData, AllocError>
     }
 }
 
-/// The same data of a type that is kept as octets.
+/// A copy of data that are kept as octets.
 fn copy_unknown(
     alloc: Global,
     original: &UnknownRecordData<Vec<u8>>,

@@ -175,7 +175,7 @@ fn wildcard_under(alloc: Global, name: &Name<Vec<u8>>) -> Result<Name<Vec<u8>>, 
     }
 }
 
-/// One more label than so many, of those that a name has.
+/// One label more than a number of labels, and at most as many as a name has.
 fn one_more(above: usize, depth: usize) -> usize
     ensures within { result ≤ depth }
     ensures fewer { above < depth → result ≡ above + 1 }

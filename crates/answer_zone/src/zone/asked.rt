@@ -13,9 +13,9 @@ use names_rdata::rtype::Rtype;
 /// Where a question is answered.
 #[derive(Drop)]
 pub(super) enum Asked<'a> {
-    /// A delegation refers it away.
+    /// At a delegation, which refers the question away.
     Away(Cut<'a>),
-    /// None does; what the name owns.
+    /// At the question's own name: no delegation refers it away. What the name owns.
     Here(Owned<'a>),
 }
 

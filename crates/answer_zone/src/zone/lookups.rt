@@ -54,14 +54,14 @@ impl<'h, H: Nsec3Hasher> ZoneRecords<'h, H> {
         Owned::found(&self.records, name)
     }
 
-    /// The same, and soon where they stand at a place or not far before it.
+    /// What a name owns. The search is short where these records stand at a place or not far before it.
     pub(super) fn owned_from<O: ToName>(&self, name: &O, place: usize) -> Owned<'_>
         ensures { result ≡ owned_by (O.name name.now) self.now.records }
     {
         Owned::found_near(&self.records, name, place)
     }
 
-    /// The same, by what stands around the name: where it is no owner nothing is sought.
+    /// What a name owns, by its neighbours: where the name is no owner nothing is sought.
     pub(super) fn owned_near(&self, name: &Name<Vec<u8>>, near: &Neighbours<'_>) -> Owned<'_>
         requires { IsNear name.now self.now.records near.now }
         ensures { result ≡ owned_by name.now self.now.records }
@@ -89,7 +89,7 @@ impl<'h, H: Nsec3Hasher> ZoneRecords<'h, H> {
         is_shown(&self.apex, near, name)
     }
 
-    /// The same of a name whose records were found: where there are some nothing is sought.
+    /// Whether a name exists, by the records that were found at it: where there are some nothing is sought.
     pub(super) fn stands_with(&self, name: &Name<Vec<u8>>, owned: &Owned<'_>) -> bool
         requires { owned.now ≡ owned_by name.now self.now.records }
         ensures { result ≡ (at_or_above self.now.apex name.now
