@@ -7,7 +7,7 @@ use Rattle.definitions.specs.Dnskey.{Ds}
 use Rattle.definitions.specs.Name.{Name}
 use Rattle.messages.specs.declared.question.Question.{Question}
 use Rattle.messages.specs.Questions.{asked_of}
-use Rattle.answer_laws.specs.declared.outcome.Outcome.{Outcome}
+use Rattle.answer_outcomes.specs.declared.outcome.Outcome.{Outcome}
 use Rattle.answer.specs.declared.simulation.results.Shown.{Shown as CodeShown}
 use Rattle.answer.specs.declared.simulation.results.Shown.TheVariants as code
 use Rattle.answer.specs.Results.{IsThere, Results, octets_of, results, set_of, shown_of}

@@ -1,8 +1,8 @@
 -- Outcomes of a run, and what was shown, each thing by the place of its outcome.
 use Rattle.std.specs.Prelude.{ℕ, List, [], Option, Some, None, IsSome, map, slice_get, unwrap_or}
 use Rattle.definitions.specs.Dnskey.{Ds}
-use Rattle.answer_laws.specs.declared.outcome.Outcome.{Outcome}
-use Rattle.answer_laws.specs.declared.outcome.Outcome.TheVariants as outcome
+use Rattle.answer_outcomes.specs.declared.outcome.Outcome.{Outcome}
+use Rattle.answer_outcomes.specs.declared.outcome.Outcome.TheVariants as outcome
 use Rattle.answer.specs.declared.simulation.results.Shown.{Shown as CodeShown}
 use Rattle.answer.specs.declared.simulation.results.Shown.TheVariants as code
 use Rattle.answer_laws.specs.Simulating.{Shown, OfParent, OfKeys, OfZone}

@@ -2,7 +2,7 @@
 use Rattle.std.specs.Prelude.{◌≡◌, ◌++◌, ◌∷◌, [], ℕ, Bool, List, Option}
 use Rattle.definitions.specs.Dnskey.{Dnskey}
 use Rattle.answer_events.specs.declared.event.Act.{Act}
-use Rattle.answer_laws.specs.declared.outcome.Outcome.{Outcome}
+use Rattle.answer_outcomes.specs.declared.outcome.Outcome.{Outcome}
 use Rattle.answer.specs.declared.simulation.results.Thing.{Thing}
 use Rattle.answer.specs.declared.simulation.results.Thing.TheVariants as thing
 use Rattle.answer.specs.declared.simulation.run.Run.{Run}

@@ -13,7 +13,7 @@ pub use answer_events::key_kind::KeyKind;
 pub use answer_judge::judging::is_allowed;
 pub use answer_judge::{Case, DataList, Judgement, Refusal, Refused, Verdict, judge, judge_with};
 pub use answer_laws::laws;
-pub use answer_laws::outcome::Outcome;
+pub use answer_outcomes::outcome::Outcome;
 pub use answer_publisher::fault::{AnswerFault, KeyFault, ReplaceFault, ZoneFault};
 pub use answer_publisher::publishing::Publisher;
 pub use answer_scheme::counting::SchemeChecks;

@@ -9,7 +9,7 @@ ghost use Rattle.answer_publisher.specs.World.{world_by, zone_by};
 
 use crate::simulation::run::Run;
 use answer_events::event::Event;
-use answer_laws::outcome::Outcome;
+use answer_outcomes::outcome::Outcome;
 use answer_publisher::publishing::Publisher;
 use answer_scheme::scheme::Scheme;
 use answer_shared::mode::Mode;

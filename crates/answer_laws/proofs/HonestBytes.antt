@@ -39,8 +39,8 @@ use Rattle.answer_publisher.specs.Replacing.{noted}
 use Rattle.answer_publisher.specs.World.{World, present_keys}
 use Rattle.answer_publisher_keys.specs.declared.keys.Publication.TheVariants as publication
 use Rattle.keyset_rolls.specs.declared.rolls.Action.{Action}
-use Rattle.answer_laws.specs.declared.outcome.Outcome.{Outcome}
-use Rattle.answer_laws.specs.declared.outcome.Outcome.TheVariants as outcome
+use Rattle.answer_outcomes.specs.declared.outcome.Outcome.{Outcome}
+use Rattle.answer_outcomes.specs.declared.outcome.Outcome.TheVariants as outcome
 use Rattle.answer_laws.specs.HonestBytes.{AtJudgement, IsApart, handed_with, keys_message, published_by, published_in, serves, zone_message}
 use Rattle.answer_laws.specs.Simulating as things
 use Rattle.answer_laws.specs.Simulating.{JudgesBytes, JudgesThings, Shown, Sofar, StepOf, begin, handing}

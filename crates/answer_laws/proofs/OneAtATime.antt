@@ -16,8 +16,8 @@ use Rattle.answer_judge.proofs.GivenRrset.{all_joined}
 use Rattle.answer_publisher.specs.Replacing.{is_too_soon, noted, whole_second}
 use Rattle.answer_publisher.specs.World.{World}
 use Rattle.answer_publisher_keys.specs.Bindings.{ZoneKeys}
-use Rattle.answer_laws.specs.declared.outcome.Outcome.{Outcome}
-use Rattle.answer_laws.specs.declared.outcome.Outcome.TheVariants as outcome
+use Rattle.answer_outcomes.specs.declared.outcome.Outcome.{Outcome}
+use Rattle.answer_outcomes.specs.declared.outcome.Outcome.TheVariants as outcome
 use Rattle.answer_laws.specs.HonestBytes.{handed_with, keys_message, zone_message}
 use Rattle.answer_laws.specs.Simulating.{Sofar, StepOf, begin}
 use Rattle.answer_laws.specs.Versions.{AreTimely, NeverBack, Versions, first_version, versions_with}

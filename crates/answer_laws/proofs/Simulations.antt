@@ -3,7 +3,7 @@ use Rattle.std.proofs.Common.{◌≡◌, suc, List, [], ◌∷◌, length, refl,
 use Rattle.messages.specs.HandedRr.{HandedRr}
 use Rattle.answer_publisher.specs.World.{World}
 use Rattle.answer_events.specs.declared.event.Event.{Event}
-use Rattle.answer_laws.specs.declared.outcome.Outcome.{Outcome}
+use Rattle.answer_outcomes.specs.declared.outcome.Outcome.{Outcome}
 use Rattle.answer_laws.specs.HonestBytes.{VerdictsHonest}
 use Rattle.answer_laws.specs.OneState.{VerdictsAlong}
 use Rattle.answer_laws.specs.Simulating.{Simulates, Sofar, begin}

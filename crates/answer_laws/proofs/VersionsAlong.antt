@@ -16,8 +16,8 @@ use Rattle.answer_judge.proofs.GivenLists.{contained_has, has_contained}
 use Rattle.answer_judge_keys.specs.Judging.{Answer, Says, Refuses}
 use Rattle.answer_publisher.specs.World.{World}
 use Rattle.answer_publisher_keys.specs.Bindings.{ZoneKeys}
-use Rattle.answer_laws.specs.declared.outcome.Outcome.{Outcome}
-use Rattle.answer_laws.specs.declared.outcome.Outcome.TheVariants as outcome
+use Rattle.answer_outcomes.specs.declared.outcome.Outcome.{Outcome}
+use Rattle.answer_outcomes.specs.declared.outcome.Outcome.TheVariants as outcome
 use Rattle.answer_laws.specs.HonestBytes.{AtJudgement, SaysHonestly, VerdictHonest, VerdictsHonest, handed_with, verdict_in}
 use Rattle.answer_laws.specs.OneState.{VerdictAt, VerdictsAlong}
 use Rattle.answer_laws.specs.Simulating.{Simulates, Sofar, StepOf, begin}

@@ -22,8 +22,8 @@ use Rattle.answer_judge_keys.specs.Judging.{Answer, Handing, answer_of}
 use Rattle.answer_publisher_keys.specs.Bindings.{ZoneKeys, dnskeys, published}
 use Rattle.answer_publisher_keys.specs.declared.keys.Publication.TheVariants as publication
 use Rattle.answer_publisher.specs.World.{World, present_keys, served_in}
-use Rattle.answer_laws.specs.declared.outcome.Outcome.{Outcome}
-use Rattle.answer_laws.specs.declared.outcome.Outcome.TheVariants as outcome
+use Rattle.answer_outcomes.specs.declared.outcome.Outcome.{Outcome}
+use Rattle.answer_outcomes.specs.declared.outcome.Outcome.TheVariants as outcome
 use Rattle.answer_laws.specs.Simulating as things
 use Rattle.answer_laws.specs.Simulating.{Simulates, Sofar, begin, handing, with_records}
 use Rattle.answer_laws.specs.ThroughRolls.{past_with}

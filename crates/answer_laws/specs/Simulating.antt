@@ -8,8 +8,8 @@ use Rattle.answer_events.specs.declared.event.Event.{Event}
 use Rattle.answer_events.specs.declared.event.Act.{Act}
 use Rattle.answer_events.specs.declared.event.Act.TheVariants as act
 use Rattle.answer_events.specs.Calls.{call_of}
-use Rattle.answer_laws.specs.declared.outcome.Outcome.{Outcome}
-use Rattle.answer_laws.specs.declared.outcome.Outcome.TheVariants as outcome
+use Rattle.answer_outcomes.specs.declared.outcome.Outcome.{Outcome}
+use Rattle.answer_outcomes.specs.declared.outcome.Outcome.TheVariants as outcome
 use Rattle.answer_publisher.specs.declared.fault.AnswerFault.{AnswerFault}
 use Rattle.answer_publisher.specs.declared.fault.AnswerFault.TheVariants as refusal
 use Rattle.answer_publisher.specs.declared.fault.ReplaceFault.{ReplaceFault}

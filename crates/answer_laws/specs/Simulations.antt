@@ -8,7 +8,7 @@ use Rattle.answer_shared.specs.Accepted.{IsAccepted}
 use Rattle.answer_judge.specs.Meeting.{zone_from}
 use Rattle.answer_publisher.specs.World.{World}
 use Rattle.answer_events.specs.declared.event.Event.{Event}
-use Rattle.answer_laws.specs.declared.outcome.Outcome.{Outcome}
+use Rattle.answer_outcomes.specs.declared.outcome.Outcome.{Outcome}
 use Rattle.answer_laws.specs.HonestBytes.{NoFalseVerdicts}
 use Rattle.answer_laws.specs.OneState.{SaysVerdicts}
 use Rattle.answer_laws.specs.Simulating.{Simulates, Sofar, begin}

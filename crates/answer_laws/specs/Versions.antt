@@ -14,8 +14,8 @@ use Rattle.answer_judge_keys.specs.Judging.{Answer}
 use Rattle.answer_publisher.specs.Replacing.{whole_second}
 use Rattle.answer_publisher.specs.World.{World}
 use Rattle.answer_publisher_keys.specs.Bindings.{ZoneKeys}
-use Rattle.answer_laws.specs.declared.outcome.Outcome.{Outcome}
-use Rattle.answer_laws.specs.declared.outcome.Outcome.TheVariants as outcome
+use Rattle.answer_outcomes.specs.declared.outcome.Outcome.{Outcome}
+use Rattle.answer_outcomes.specs.declared.outcome.Outcome.TheVariants as outcome
 use Rattle.answer_laws.specs.HonestBytes.{AreHonestSo, AtJudgement, IsApart, handed_with, verdict_in}
 use Rattle.answer_laws.specs.OneState.{Moment, VerdictAt, moments_with}
 use Rattle.answer_laws.specs.Simulating.{Simulates, Sofar, begin, with_records}

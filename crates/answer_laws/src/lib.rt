@@ -1,5 +1,4 @@
-//! The life of a signed zone, event by event: what comes of each event, and laws of the judgements among them.
+//! Laws of the life of a signed zone: what may come of each event, and what judgements among the events say.
 #![tactic(auto)]
 
 pub mod laws;
-pub mod outcome;

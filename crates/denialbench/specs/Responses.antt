@@ -12,7 +12,7 @@ use Rattle.answer_zone_records.specs.Faults.{IsFault}
 use Rattle.answer_laws.specs.Simulations.{IsSimulation}
 use Rattle.answer_publisher.specs.World.{World, world}
 use Rattle.answer_events.specs.declared.event.Event.{Event}
-use Rattle.answer_laws.specs.declared.outcome.Outcome.{Outcome}
+use Rattle.answer_outcomes.specs.declared.outcome.Outcome.{Outcome}
 use Rattle.answer_zone_records.specs.declared.fault.ZoneFault.{ZoneFault}
 use Rattle.denialbench_session.specs.Grammar.{ZoneLine, EventLine}
 use Rattle.denialbench_session.specs.Readings.{event_view}

@@ -3,8 +3,8 @@ use Rattle.std.specs.Prelude.{ℕ, ◌/◌, List, [], ◌∷◌, ◌++◌, codes
 use Rattle.std.specs.List.{flat_map, join_by}
 use Rattle.std.specs.Duration.{as_nanos}
 use Rattle.hex.specs.Hex.{encode_lower}
-use Rattle.answer_laws.specs.declared.outcome.Outcome.{Outcome}
-use Rattle.answer_laws.specs.declared.outcome.Outcome.TheVariants.{Key, Replaced, Ds, Message, Refused, Judged, BadPlace}
+use Rattle.answer_outcomes.specs.declared.outcome.Outcome.{Outcome}
+use Rattle.answer_outcomes.specs.declared.outcome.Outcome.TheVariants.{Key, Replaced, Ds, Message, Refused, Judged, BadPlace}
 use Rattle.answer_judge_keys.specs.declared.verdict.Judgement.{Judgement}
 use Rattle.answer_judge_keys.specs.declared.verdict.Refused.{Refused as JudgeRefused}
 use Rattle.answer_judge_rules.specs.declared.verdict.Verdict.{Verdict}

@@ -7,7 +7,7 @@ ghost use Rattle.denialbench_print.specs.Printed.{octets_text, list_text, action
 
 use crate::named::Named;
 use answer_judge_keys::verdict::{DataList, Judgement, Refused, Verdict};
-use answer_laws::outcome::Outcome;
+use answer_outcomes::outcome::Outcome;
 use answer_publisher::fault::KeyFault;
 use denial_keys::ds::Ds;
 use keyset::Action;

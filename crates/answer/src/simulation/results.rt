@@ -5,7 +5,7 @@ ghost use Rattle.answer.specs.Results.{octets_of, set_of};
 ghost use Rattle.answer_laws.specs.Simulating.{OfParent, OfKeys, OfZone};
 ghost use Rattle.messages.specs.Questions.{asked_of};
 
-use answer_laws::outcome::Outcome;
+use answer_outcomes::outcome::Outcome;
 use denial_data::Ds;
 use messages::question::Question;
 use std::alloc::{AllocError, Global};

@@ -13,7 +13,7 @@ use crate::simulation::copies::copy_records;
 use crate::simulation::results::{Results, Thing};
 use answer_events::event::{Act, Event};
 use answer_judge::{Case, Judgement, Refused, judge_with};
-use answer_laws::outcome::Outcome;
+use answer_outcomes::outcome::Outcome;
 use answer_publisher::fault::ReplaceFault;
 use answer_publisher::publishing::Publisher;
 use answer_scheme::scheme::Scheme;

@@ -1,6 +1,6 @@
 use Rattle.std.proofs.Common.{◌≡◌, ℕ, length, refl, rules}
-use Rattle.answer_laws.specs.declared.outcome.Outcome.{Outcome}
-use Rattle.answer_laws.specs.declared.outcome.Outcome.TheVariants as outcome
+use Rattle.answer_outcomes.specs.declared.outcome.Outcome.{Outcome}
+use Rattle.answer_outcomes.specs.declared.outcome.Outcome.TheVariants as outcome
 use Rattle.answer.proofs.ShownThings.{last_set, one_shown}
 use Rattle.answer.proofs.simulation.results.Results.show_ds.Goals as goal
 

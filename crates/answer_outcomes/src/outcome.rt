@@ -1,5 +1,5 @@
-//! What comes of the events of a zone's life.
-use answer_judge::{Judgement, Refused};
+//! The outcomes of events.
+use answer_judge_keys::verdict::{Judgement, Refused};
 use answer_publisher::fault::{AnswerFault, KeyFault, ReplaceFault};
 use denial_data::Ds;
 use keyset::Action;
