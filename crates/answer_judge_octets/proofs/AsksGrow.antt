@@ -1,15 +1,20 @@
 -- Signatures that are asked for, one after another.
 use Rattle.std.proofs.Common.{◌≡◌, ℕ, ◌+◌, ◌<◌, Bool, true, false, List, [], ◌∷◌, ◌++◌, length, map, take, get_or, Option, Some, None, refl, sym, ap, subst, ◌∙◌}
-use Rattle.std.specs.Prelude.{◌&&◌, ◌||◌, is_none, if◌then◌else◌}
+use Rattle.std.specs.Prelude.{◌&&◌, ◌||◌, Result, is_none, if◌then◌else◌}
 use Rattle.std.specs.List.{AllByRecursion, find, flat_map, list_any}
 use Rattle.std.specs.Option.{option_map}
-use Rattle.std.proofs.lemmas.Bool.{and_parts}
+use Rattle.std.proofs.lemmas.Bool.{and_parts, false≢true}
 use Rattle.std.proofs.lemmas.Grind.{flat_map-append}
 use Rattle.std.proofs.lemmas.List.{append-nil, map-append}
+use Rattle.std.proofs.lemmas.Slice.Eq.{bytes_eq-Decides}
+use Rattle.std.specs.Str.{bytes_eq}
+use Rattle.definitions.specs.Dnskey.{same_key}
 use Rattle.messages.proofs.Lists.{take_next}
-use Rattle.answer_judge_octets.specs.Asking.{KeepsNew, are_new, unchecked}
+use Rattle.answer_scheme.specs.Answers.{SignatureTest}
+use Rattle.answer_judge_keys.proofs.GivenKeys.{same_key-is}
+use Rattle.answer_judge_octets.specs.Asking.{AgreesAsking, KeepsNew, PassesEach, are_new, unchecked}
 use Rattle.answer_judge_octets.specs.Replying.{entries_of}
-use Rattle.answer_judge_octets.specs.Table.{Checked, Tried, is_entry_of, is_same_try, told}
+use Rattle.answer_judge_octets.specs.Table.{Checked, Tried, is_entry_of, is_same_try, passes_by, told}
 use Rattle.answer_judge_octets.specs.Written.{FitsChecked, checked_octets}
 
 either_false : (a b : Bool) → (a || b) ≡ false → (a ≡ false) × (b ≡ false)
@@ -56,6 +61,35 @@ all_more P (y ∷ xs) x h k = (h.0, all_more P xs x h.1 k)
 
 pub keeps_more : (t : Tried) (old new : List Tried) → list_any (is_same_try t) old ≡ false → new ≡ old ++ t ∷ [] → KeepsNew t old new
 keeps_more t old new other is table none h = ap (are_new table) is ∙ one_more table old t h none other
+
+-- one signature
+same_try_is : (t u : Tried) → is_same_try t u ≡ true → u ≡ t
+same_try_is t u e =
+    let k = and_parts (bytes_eq u.signature t.signature && bytes_eq u.octets t.octets) (same_key u.key t.key) e in
+    let p = and_parts (bytes_eq u.signature t.signature) (bytes_eq u.octets t.octets) k.0 in
+    let signature = (bytes_eq-Decides u.signature t.signature).0 p.0 in
+    let octets = (bytes_eq-Decides u.octets t.octets).0 p.1 in
+    let key = same_key-is u.key t.key k.1 in
+    λ i. record { key = key i; octets = octets i; signature = signature i }
+
+-- one that is among those that pass passes
+pub among_passes : (test : SignatureTest) (t : Tried) (asks : List Tried) → list_any (is_same_try t) asks ≡ true → PassesEach asks test → passes_by test t ≡ true
+among_passes test t [] any each = absurd (false≢true any)
+among_passes test t (a ∷ asks) any each = go (is_same_try t a) refl any
+  where
+    go : (b : Bool) → is_same_try t a ≡ b → (b || list_any (is_same_try t) asks) ≡ true → passes_by test t ≡ true
+    go true same h = subst (λ u. passes_by test u ≡ true) (same_try_is t a same) each.0
+    go false other h = among_passes test t asks h each.1
+
+-- a list that grew by one, all of one kind
+pub all_less : {X : Type 0} (P : X → Type 0) (xs : List X) (x : X) → AllByRecursion P (xs ++ x ∷ []) → AllByRecursion P xs × P x
+all_less P [] x h = (tt, h.0)
+all_less P (y ∷ xs) x h = let rest = all_less P xs x h.1 in ((h.0, rest.0), rest.1)
+
+-- what agrees behind one more agreed before, and passes it
+pub agrees_kept : {E : Type 0} (table : List Checked) (old new : List Tried) (kept : Result (Unit {0}) E) (t : Tried) → ((test : SignatureTest) → PassesEach new test → PassesEach old test × (passes_by test t ≡ true))
+    → (test : SignatureTest) → AgreesAsking table new kept test → AgreesAsking table old kept test × (true ≡ passes_by test t)
+agrees_kept table old new kept t passes test agrees = let more = passes test agrees.2 in ((agrees.0, agrees.1, more.0), sym more.1)
 
 -- ---- entries
 

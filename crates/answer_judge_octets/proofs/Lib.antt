@@ -2,7 +2,7 @@ pub mod PartsSplit
 pub mod ListsRead
 pub mod EntriesSplit
 pub mod HonestTable
-pub mod LackingTried
+pub mod TableAsks
 pub mod SpelledCases
 pub mod AsksGrow
 pub mod ToldInForm

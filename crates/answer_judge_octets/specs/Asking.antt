@@ -1,13 +1,16 @@
 -- Signatures that are asked for.
-use Rattle.std.specs.Prelude.{◌≡◌, ◌⊎◌, ℕ, ◌<◌, ◌≤◌, Bool, true, false, ◌&&◌, List, [], ◌∷◌, ◌++◌, Option, Some, None, Result, Ok, length, is_none, ⊤}
+use Rattle.std.specs.Prelude.{◌≡◌, ℕ, ◌<◌, ◌≤◌, Bool, true, false, ◌&&◌, List, [], ◌∷◌, ◌++◌, None, Result, length, is_none, IsOk}
 use Rattle.std.specs.List.{AllByRecursion}
 use Rattle.definitions.specs.Limits.{pointer_limit}
 use Rattle.answer_scheme.specs.Answers.{SignatureTest}
 use Rattle.answer_judge_facts.specs.Asked.{is_tried_signature}
 use Rattle.answer_judge_facts.specs.Counted.{verifications_due}
-use Rattle.answer_judge_keys.specs.Judging.{Answer, Refuses, Handing, verification_bound}
+use Rattle.answer_judge_keys.specs.Judging.{Answer, Refuses, Handing, answer_of, verification_bound}
+use Rattle.answer_judge_keys.specs.declared.verdict.Judgement.{Judgement}
+use Rattle.answer_judge_keys.specs.declared.verdict.Refused.{Refused}
 use Rattle.answer_judge_keys.specs.declared.verdict.Refusal.TheVariants as r
-use Rattle.answer_judge_octets.specs.Table.{AgreesWith, Checked, Tried, answers_with, checked, may_pass_in, passes_by, passes_in, told}
+use Rattle.answer_judge.specs.Meeting.{JudgesSo}
+use Rattle.answer_judge_octets.specs.Table.{AgreesWith, Checked, Tried, answers_with, checked, may_pass_in, passes_by, told}
 
 -- a signature that is asked for, as an entry
 abbrev pub unchecked : Tried → Checked
@@ -40,40 +43,29 @@ pub record AreTried (passes : Tried → Bool) (h : Handing) (asks : List Tried) 
   pub each : AllByRecursion (IsTriedBy passes h) asks
   pub due : length asks ≤ due_by passes h
 
+-- All that is due: in memory enough a judgement is made, the same whichever others pass, where the table holds and each of these
+-- passes.
+pub record AreAll (table : List Checked) (h : Handing) (asks : List Tried) : Type 0 where
+  pub said : Result Judgement Refused
+  pub in_memory : is_out_of_memory (answer_of said) ≡ false
+  pub made : (passes : Tried → Bool) → AgreesWith table passes → AllByRecursion (λ t. passes t ≡ true) asks → JudgesSo pointer_limit (answers_with passes) h said
+
 -- Signatures that are asked for: some that the table doesn't have, each once, no more than both messages have. A judgement
--- verifies each, where those that the table doesn't have fail, or where they pass: so none that isn't due, none of an RRset
--- that another one verified before, and none where nothing is verified, as beside an empty DS set.
+-- verifies each where those that the table doesn't have pass: so none that isn't due, none of an RRset that another one verified
+-- before, and none where nothing is verified, as beside an empty DS set. They are all that is due.
 pub record AreAsked (table : List Checked) (h : Handing) (asks : List Tried) : Type 0 where
   pub some : 0 < length asks
   pub are_new : are_new table asks ≡ true
   pub few : length asks ≤ verification_bound pointer_limit h
-  pub tried : AreTried (passes_in table) h asks ⊎ AreTried (may_pass_in table) h asks
-
--- none, or such
-abbrev pub AskedIfAny : List Checked → Handing → List Tried → Type 0
-AskedIfAny table h asks = (0 < length asks) → AreAsked table h asks
-
--- the table doesn't have the signature that a judgement lacked, if it lacked one
-abbrev pub is_new_in : {E : Type 0} → List Checked → Option (Result Tried E) → Bool
-is_new_in table (Some (Ok t)) = is_none (told table t)
-is_new_in table _ = true
-
--- how many it lacked
-abbrev pub count_of : {E : Type 0} → Option (Result Tried E) → ℕ
-count_of None = 0
-count_of (Some lacked) = 1
+  pub tried : AreTried (may_pass_in table) h asks
+  pub all : AreAll table h asks
 
 -- ---- what checks know of a judgement
 
--- the table lacked nothing, and a test says of each signature in it what the table says
-abbrev pub AgreesSoFar : {E : Type 0} → List Checked → Option (Result Tried E) → SignatureTest → Type 0
-AgreesSoFar table lacking test = (lacking ≡ None) × AgreesWith table (passes_by test)
-
--- a test passes for what the judgement lacked
-abbrev pub PassesLacking : {E : Type 0} → Option (Result Tried E) → SignatureTest → Type 0
-PassesLacking (Some (Ok t)) test = passes_by test t ≡ true
-PassesLacking _ test = ⊤
-
--- for all that is asked for
+-- a test passes for all that is asked for
 abbrev pub PassesEach : List Tried → SignatureTest → Type 0
 PassesEach asks test = AllByRecursion (λ t. passes_by test t ≡ true) asks
+
+-- All that the table lacked was kept, a test passes for it, and says of each signature in the table what the table says.
+abbrev pub AgreesAsking : {E : Type 0} → List Checked → List Tried → Result (Unit {0}) E → SignatureTest → Type 0
+AgreesAsking table asks kept test = IsOk kept × AgreesWith table (passes_by test) × PassesEach asks test

@@ -61,10 +61,6 @@ answers_with passes = record {
   hash = answered;
 }
 
--- those of a table
-abbrev pub answers_of : List Checked → Answers
-answers_of table = answers_with (passes_in table)
-
 -- what passes says of each signature in a table what the table says
 abbrev pub AgreesWith : List Checked → (Tried → Bool) → Type 0
 AgreesWith table passes = (t : Tried) (b : Bool) → told table t ≡ Some b → passes t ≡ b

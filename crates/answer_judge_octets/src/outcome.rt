@@ -1,5 +1,5 @@
 //! What comes of a judgement by a table.
-ghost use Rattle.std.specs.Prelude.{◌≡◌, ◌≤◌, ◌+◌, length, true};
+ghost use Rattle.std.specs.Prelude.{◌≡◌, ◌≤◌, ◌+◌, length, true, OnOk};
 ghost use Rattle.std.specs.List.{list_any};
 ghost use Rattle.answer_scheme.specs.Answers.{SignatureTest};
 ghost use Rattle.answer_judge_octets.specs.Asking.{KeepsNew, PassesEach};
@@ -79,6 +79,8 @@ pub(crate) fn note(
         KeepsNew t asks.old.items asks.new.items }
     ensures only { (test : SignatureTest) → test key.now octets.now signature.now ≡ true
         → PassesEach asks.old.items test → PassesEach asks.new.items test }
+    ensures passes { OnOk result ((test : SignatureTest) → PassesEach asks.new.items test
+        → PassesEach asks.old.items test × (test key.now octets.now signature.now ≡ true)) }
     ensures one { length asks.new.items ≤ length asks.old.items + 1 }
 {
     if is_among(asks, key, octets, signature) {

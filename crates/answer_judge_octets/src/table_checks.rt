@@ -1,7 +1,6 @@
-//! A table as the checks of a judge: one that lacks nothing, and one that asks for what it lacks.
-ghost use Rattle.std.specs.Prelude.{◌≡◌, ◌<◌, ◌≤◌, [], true, length, Some, None, Ok, IfOk, IfSome, MatchOption};
-ghost use Rattle.answer_judge_octets.specs.Table.{told};
-ghost use Rattle.answer_judge_octets.specs.Asking.{are_new, count_of, is_new_in};
+//! A table as the checks of a judge, which asks for what it lacks.
+ghost use Rattle.std.specs.Prelude.{◌≡◌, ◌<◌, ◌≤◌, [], true, length, IfOk, IsOk};
+ghost use Rattle.answer_judge_octets.specs.Asking.{are_new};
 
 use crate::checked::{CheckedSignature, entry_of};
 use crate::digests::digest;
@@ -31,114 +30,10 @@ impl Told for Brand {
 }
 
 /// The checks of a judge that knows the signatures of a table, makes digests by SHA-2, and hashes names by SHA-1. A signature
-/// that the table does not have fails, and the first one is kept: where there was none, whatever agrees with the table agrees
-/// with all that was answered.
+/// that the table does not have passes, and is kept: whatever agrees with the table and passes what was kept agrees with all
+/// that was answered.
 #[derive(Drop)]
 pub(crate) struct TableChecks<'t, 's, T: Told, L: Ledger, M: Ledger> {
-    alloc: Global,
-    table: &'t [CheckedSignature<'s>],
-    /// What the table did not have first, if there was memory to keep it.
-    lacking: Option<Result<Ask, AllocError>>,
-    verified: Steps<L>,
-    hashed: Steps<M>,
-    told: PhantomData<T>,
-    ghost is_table: { table.now ≡ T.table },
-    ghost is_new: { is_new_in T.table lacking ≡ true },
-    ghost counted: { count_of lacking ≤ verified },
-}
-
-impl<'t, 's, T: Told, L: Ledger, M: Ledger> TableChecks<'t, 's, T, L, M> {
-    /// The checks of a table that has lacked nothing yet. The counts begin at 0.
-    pub(crate) fn new(
-        alloc: Global,
-        table: &'t [CheckedSignature<'s>],
-        first: Blank,
-        second: Blank,
-    ) -> Self
-        requires table { table.now ≡ T.table }
-        requires name { first.name ≡ L.name }
-        requires parts { first.parts ≡ L.parts }
-        requires some { 0 < L.parts }
-        requires second_name { second.name ≡ M.name }
-        requires second_parts { second.parts ≡ M.parts }
-        requires second_some { 0 < M.parts }
-        ensures lacking { result.lacking ≡ None }
-        ensures verified { result.verified ≡ 0 }
-        ensures hashed { result.hashed ≡ 0 }
-    {
-        TableChecks {
-            alloc,
-            table,
-            lacking: None,
-            verified: Steps::<L>::new(first),
-            hashed: Steps::<M>::new(second),
-            told: PhantomData,
-        }
-    }
-
-    /// What the table lacked.
-    pub(crate) fn into_lacking(self) -> Result<Option<Ask>, AllocError>
-        ensures new { IfOk result (λ o. IfSome o (λ t. told T.table t ≡ None)) }
-        ensures counted { IfOk result (λ o. IfSome o (λ _. 0 < self.entry.verified)) }
-        ensures lacking { let lacking = self.entry.lacking in
-            IfOk result (λ o. MatchOption o (lacking ≡ None) (λ t. lacking ≡ Some (Ok t))) }
-    {
-        let TableChecks { lacking, .. } = self;
-        lacking.transpose()
-    }
-}
-
-impl<'t, 's, T: Told, L: Ledger, M: Ledger> Checks for TableChecks<'t, 's, T, L, M> {
-    ghost use Rattle.answer_judge_octets.specs.Asking.{AgreesSoFar, PassesLacking};
-    ghost use Rattle.answer_judge_octets.specs.Table.{answers_of};
-
-    ghost answers = { λ _. answers_of T.table };
-
-    ghost agrees = { λ c test. AgreesSoFar T.table c.lacking test };
-
-    ghost asked_only = { λ c test. PassesLacking c.lacking test };
-
-    ghost verified = { λ c. c.verified };
-
-    ghost hashed = { λ c. c.hashed };
-
-    fn verify(&mut self, key: &Dnskey<&[u8]>, octets: &[u8], signature: &[u8]) -> bool {
-        self.verified.tick();
-        if let Some(passes) = entry_of(self.table, key, octets, signature) {
-            return passes;
-        }
-        if self.lacking.is_none() {
-            self.lacking = Some(Ask::copied(self.alloc, key, octets, signature));
-        }
-        false
-    }
-
-    fn digest(
-        &self,
-        alloc: Global,
-        algorithm: DigestAlgorithm,
-        octets: &[u8],
-    ) -> Result<Vec<u8>, SchemeError> {
-        digest(alloc, algorithm, octets)
-    }
-
-    fn hash(
-        &mut self,
-        alloc: Global,
-        name: &[u8],
-        algorithm: u8,
-        iterations: u16,
-        salt: &[u8],
-    ) -> Result<Vec<u8>, HashError> {
-        self.hashed.tick();
-        Sha1Hasher.hash(alloc, name, algorithm, iterations, salt)
-    }
-}
-
-/// Checks by a table of signatures, by which a judgement goes on at a signature that the table lacks, as if it passed. Each of
-/// these signatures is kept.
-#[derive(Drop)]
-pub(crate) struct AskingChecks<'t, 's, T: Told, L: Ledger, M: Ledger> {
     alloc: Global,
     table: &'t [CheckedSignature<'s>],
     asks: Vec<Ask>,
@@ -152,7 +47,7 @@ pub(crate) struct AskingChecks<'t, 's, T: Told, L: Ledger, M: Ledger> {
     ghost counted: { length asks.items ≤ verified },
 }
 
-impl<'t, 's, T: Told, L: Ledger, M: Ledger> AskingChecks<'t, 's, T, L, M> {
+impl<'t, 's, T: Told, L: Ledger, M: Ledger> TableChecks<'t, 's, T, L, M> {
     /// The checks of a table, of which nothing was asked yet. The counts begin at 0.
     pub(crate) fn new(
         alloc: Global,
@@ -171,7 +66,7 @@ impl<'t, 's, T: Told, L: Ledger, M: Ledger> AskingChecks<'t, 's, T, L, M> {
         ensures verified { result.verified ≡ 0 }
         ensures hashed { result.hashed ≡ 0 }
     {
-        AskingChecks {
+        TableChecks {
             alloc,
             table,
             asks: Vec::new(alloc),
@@ -182,23 +77,26 @@ impl<'t, 's, T: Told, L: Ledger, M: Ledger> AskingChecks<'t, 's, T, L, M> {
         }
     }
 
-    /// What the table does not have.
+    /// What the table lacked, if there was memory to keep all.
     pub(crate) fn into_asks(self) -> Result<Vec<Ask>, AllocError>
         ensures new { IfOk result (λ v. are_new T.table v.items ≡ true) }
         ensures counted { IfOk result (λ v. length v.items ≤ self.entry.verified) }
         ensures asks { IfOk result (λ v. v.items ≡ self.entry.asks.items) }
+        ensures kept { IfOk result (λ _. IsOk self.entry.kept) }
     {
-        let AskingChecks { asks, kept, .. } = self;
+        let TableChecks { asks, kept, .. } = self;
         kept?;
         Ok(asks)
     }
 }
 
-impl<'t, 's, T: Told, L: Ledger, M: Ledger> Checks for AskingChecks<'t, 's, T, L, M> {
-    ghost use Rattle.answer_judge_octets.specs.Asking.{PassesEach};
+impl<'t, 's, T: Told, L: Ledger, M: Ledger> Checks for TableChecks<'t, 's, T, L, M> {
+    ghost use Rattle.answer_judge_octets.specs.Asking.{AgreesAsking, PassesEach};
     ghost use Rattle.answer_judge_octets.specs.Table.{answers_with, may_pass_in};
 
     ghost answers = { λ _. answers_with (may_pass_in T.table) };
+
+    ghost agrees = { λ c test. AgreesAsking T.table c.asks.items c.kept test };
 
     ghost asked_only = { λ c test. PassesEach c.asks.items test };
 
@@ -206,15 +104,19 @@ impl<'t, 's, T: Told, L: Ledger, M: Ledger> Checks for AskingChecks<'t, 's, T, L
 
     ghost hashed = { λ c. c.hashed };
 
+    #[tactic(auto, using(crate::proofs::AsksGrow::agrees_kept))]
     fn verify(&mut self, key: &Dnskey<&[u8]>, octets: &[u8], signature: &[u8]) -> bool {
         self.verified.tick();
         if let Some(passes) = entry_of(self.table, key, octets, signature) {
             return passes;
         }
-        if let Err(error) = note(self.alloc, &mut self.asks, key, octets, signature) {
-            self.kept = Err(error);
+        match note(self.alloc, &mut self.asks, key, octets, signature) {
+            Ok(()) => true,
+            Err(error) => {
+                self.kept = Err(error);
+                true
+            }
         }
-        true
     }
 
     fn digest(
