@@ -1,18 +1,10 @@
-//! What is told of names where no line can ask: walks from places, texts in one walk, faults that no text brings, and laws.
+//! What is told of names where no line can ask: walks from places, texts in one walk, and faults that no text brings.
 
-use names::laws::{
-    canonical_order_is_total, names_below_an_apex_are_an_interval, what_is_read_is_passed_over,
-};
 use names::{
     Chain, FormError, FromStrError, Labels, Name, ParseError, ParsedName, Parser, PushNameError,
     RelativeFromStrError, RelativeName,
 };
-use names_builder::laws::refused_text_has_one_fault;
 use names_builder::walk::{relative_octets, text_octets};
-use names_labels::laws::printed_name_is_read_back;
-use names_wire::laws::{
-    printed_label_is_read_back, refused_label_text_has_one_fault, spelled_symbols_are_read,
-};
 use std::process::Abort;
 use std::test::Fail;
 
@@ -99,16 +91,4 @@ fn faults_that_no_line_brings(rt: HostRuntime) -> Result<(), Fail> {
     let fault = ParseError::form_error("another one");
     assert_eq!(rt; fault.to_string(rt.alloc())?.as_str(), "another one");
     Ok(())
-}
-
-#[test]
-fn laws_hold(_rt: HostRuntime) {
-    canonical_order_is_total();
-    names_below_an_apex_are_an_interval();
-    what_is_read_is_passed_over();
-    printed_name_is_read_back();
-    refused_text_has_one_fault();
-    printed_label_is_read_back();
-    refused_label_text_has_one_fault();
-    spelled_symbols_are_read();
 }

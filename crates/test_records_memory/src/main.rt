@@ -2,8 +2,8 @@
 //! what it worked on as it was, and then succeeded. `tests/refusals` runs the program once for each growth, with that one
 //! refused; what is printed is the same.
 //!
-//! Behind them stand lines of what no line of `test_records` and `test_rdata` carries: buffers of fixed sizes, owners that are
-//! found as records come and go, and laws.
+//! Behind them stand lines of what no line of `test_records` and `test_rdata` carries: buffers of fixed sizes, and owners that
+//! are found as records come and go.
 #![tactic(auto)]
 
 mod bitmaps;
@@ -37,10 +37,10 @@ fn calls<R: Print>(trial: &mut Trial<'_, R>) -> io::Result<()> {
     printed::fields(trial)?;
     printed::faults(trial)?;
     owners::all(trial)?;
-    fixed::all(trial)?;
-    laws::all(trial)
+    fixed::all(trial)
 }
 
 fn main(rt: HostRuntime) -> ExitCode {
+    laws::at_types();
     run(&rt, rt.alloc(), |trial| calls(trial)).into()
 }
