@@ -8,11 +8,12 @@ mod input;
 mod run;
 mod status;
 
+use crate::input::Limited;
 use std::io;
 use std::process::ExitCode;
 
 fn main(rt: HostRuntime) -> ExitCode {
     let mut reader = rt.reader();
     let mut writer = io::writer(&rt);
-    run::run(rt.alloc(), &mut reader, &mut writer).into()
+    run::run(rt.alloc(), &mut Limited::new(&mut reader), &mut writer).into()
 }

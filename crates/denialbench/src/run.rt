@@ -1,5 +1,5 @@
 //! A run of the bench: from what a reader gives to what a writer takes.
-ghost use Rattle.std.specs.Prelude.{◌≡◌, ◌≢◌, ◌↔◌, ℕ, List, [], ◌∷◌, ◌++◌, map, codes, OnOk, IfOk, IfSome, string_bytes};
+ghost use Rattle.std.specs.Prelude.{◌≡◌, ◌≢◌, ◌↔◌, ◌≤◌, ◌+◌, ℕ, List, [], ◌∷◌, ◌++◌, map, codes, OnOk, IfOk, IfSome, string_bytes};
 ghost use Rattle.std.specs.List.{flat_map};
 ghost use Rattle.std.specs.Io.KnownBytes.{Appends, IsAtEnd};
 ghost use Rattle.messages.specs.HandedRr.{handed_of};
@@ -8,7 +8,7 @@ ghost use Rattle.denialbench_print.specs.Names.{zone_fault_name};
 ghost use Rattle.denialbench_print.specs.Printed.{outcome_text};
 ghost use Rattle.denialbench.specs.Responses.{Answers, IsUnreadable, Responds, PrintsSession, refused_line};
 
-use crate::input::read_all;
+use crate::input::{LimitedRead, read_all};
 use crate::status::Status;
 use answer::{Outcome, ZoneFault, simulate};
 use denial_nsec3_sha1::hasher::Sha1Hasher;
@@ -18,7 +18,7 @@ use denialbench_print::scheme::BenchScheme;
 use denialbench_session::session::{Session, SessionError, read_session};
 use std::alloc::{AllocError, Global};
 use std::io;
-use std::io::{Read, Write};
+use std::io::Write;
 
 /// What a run writes, and how it ends.
 #[derive(Debug, Drop)]
@@ -30,14 +30,16 @@ pub struct Response {
 /// Reads a session from a reader, lets it happen, and writes what comes of it.
 ///
 /// Where a line cannot be read, one line with its number is all that is written. Nothing is written before the
-/// whole input is read and answered.
+/// whole input is read and answered. The reader is read at most 1,048,576 times.
 #[tactic(auto, using(crate::proofs::RunStatus::told_of))]
-pub fn run<R: Read, W: Write>(alloc: Global, reader: &mut R, writer: &mut W) -> Status
+pub fn run<R: LimitedRead, W: Write>(alloc: Global, reader: &mut R, writer: &mut W) -> Status
+    requires { 1048576 ≤ R.left reader.old }
     ensures writes { result ≢ Status.Fault
         → Answers (R.remaining reader.old) result (W.contents writer.old) (W.contents writer.new) }
     ensures whole { result ≢ Status.Fault → IsAtEnd (R.remaining reader.new) }
     ensures lines { result ≢ Status.Fault → IfSome (R.remaining reader.old)
         (λ input. (result ≡ Status.BadLine) ↔ IsUnreadable input) }
+    ensures reads { R.left reader.old ≤ R.left reader.new + 1048576 }
 {
     let Ok(input) = read_all(alloc, reader) else {
         return Status::Fault;

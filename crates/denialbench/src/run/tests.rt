@@ -1,7 +1,7 @@
 //! Runs over memory: readers and writers that give and take a few octets a call, or fail, and the texts of faults.
 use super::fakes::{Endless, Sink, Source};
 use super::run;
-use crate::input::InputError;
+use crate::input::{InputError, Limited};
 use crate::status::Status;
 use std::alloc::Global;
 use std::test::Fail;
@@ -93,7 +93,8 @@ fn taking(alloc: Global, step: usize, failing_call: u64) -> Sink {
 fn is_printed(alloc: Global, input: &str, step: usize, printed: &str, status: Status) -> bool {
     let mut source = Source::new(input.as_bytes(), step);
     let mut sink = taking(alloc, step, 0);
-    run(alloc, &mut source, &mut sink) == status && sink.taken.as_slice() == printed.as_bytes()
+    run(alloc, &mut Limited::new(&mut source), &mut sink) == status
+        && sink.taken.as_slice() == printed.as_bytes()
 }
 
 /// The first read in such steps that may fail without a fault, or with something written; none of so many.
@@ -102,7 +103,9 @@ fn unfailed_read(alloc: Global, input: &str, step: usize, reads: u64) -> Option<
         let mut source = Source::new(input.as_bytes(), step);
         source.failing_call = place.saturating_add(1);
         let mut sink = taking(alloc, 1, 0);
-        if run(alloc, &mut source, &mut sink) != Status::Fault || sink.calls != 0 {
+        if run(alloc, &mut Limited::new(&mut source), &mut sink) != Status::Fault
+            || sink.calls != 0
+        {
             return Some(place);
         }
     }
@@ -115,7 +118,9 @@ fn unfailed_write(alloc: Global, input: &str, step: usize, writes: u64) -> Optio
         let call = place.saturating_add(1);
         let mut source = Source::new(input.as_bytes(), usize::MAX);
         let mut sink = taking(alloc, step, call);
-        if run(alloc, &mut source, &mut sink) != Status::Fault || sink.calls != call {
+        if run(alloc, &mut Limited::new(&mut source), &mut sink) != Status::Fault
+            || sink.calls != call
+        {
             return Some(place);
         }
     }
@@ -138,7 +143,7 @@ fn faults_of_an_input(rt: HostRuntime) -> Result<(), Fail> {
 fn a_reader_has_an_end(rt: HostRuntime) -> Result<(), Fail> {
     let mut source = Endless { calls: 0 };
     let mut sink = taking(rt.alloc(), usize::MAX, 0);
-    let status = run(rt.alloc(), &mut source, &mut sink);
+    let status = run(rt.alloc(), &mut Limited::new(&mut source), &mut sink);
     assert_eq!(rt; status, Status::Fault);
     assert_eq!(rt; source.calls, 1_048_576);
     assert_eq!(rt; sink.calls, 0);
@@ -167,7 +172,11 @@ fn octets_may_come_and_go_one_by_one(rt: HostRuntime) -> Result<(), Fail> {
 fn each_read_may_fail(rt: HostRuntime) -> Result<(), Fail> {
     for (input, step) in [(EVERY, 1), (EVERY, 7), (STORED, 1), (STORED, 7)] {
         let mut source = Source::new(input.as_bytes(), step);
-        let status = run(rt.alloc(), &mut source, &mut taking(rt.alloc(), 1, 0));
+        let status = run(
+            rt.alloc(),
+            &mut Limited::new(&mut source),
+            &mut taking(rt.alloc(), 1, 0),
+        );
         assert_eq!(rt; status, Status::Done);
         assert_eq!(rt; unfailed_read(rt.alloc(), input, step, source.calls), None);
     }
@@ -178,7 +187,8 @@ fn each_read_may_fail(rt: HostRuntime) -> Result<(), Fail> {
 fn each_write_may_fail(rt: HostRuntime) -> Result<(), Fail> {
     for (input, step) in [(EVERY, 1), (EVERY, 7), (STORED, 1), (STORED, usize::MAX)] {
         let mut sink = taking(rt.alloc(), step, 0);
-        let status = run(rt.alloc(), &mut Source::new(input.as_bytes(), 7), &mut sink);
+        let mut source = Source::new(input.as_bytes(), 7);
+        let status = run(rt.alloc(), &mut Limited::new(&mut source), &mut sink);
         assert_eq!(rt; status, Status::Done);
         assert_eq!(rt; unfailed_write(rt.alloc(), input, step, sink.calls), None);
     }
@@ -189,7 +199,10 @@ fn each_write_may_fail(rt: HostRuntime) -> Result<(), Fail> {
 fn a_writer_that_takes_nothing_is_a_fault(rt: HostRuntime) -> Result<(), Fail> {
     let mut source = Source::new(EVERY.as_bytes(), usize::MAX);
     let mut sink = taking(rt.alloc(), 0, 0);
-    assert_eq!(rt; run(rt.alloc(), &mut source, &mut sink), Status::Fault);
+    assert_eq!(rt;
+        run(rt.alloc(), &mut Limited::new(&mut source), &mut sink),
+        Status::Fault
+    );
     assert_eq!(rt; sink.calls, 1);
     Ok(())
 }
