@@ -26,8 +26,9 @@ mod run;
 /// Runs events over a zone, one outcome an event.
 ///
 /// A thing that is shown takes the next place, from 0 on; a judgement names the places of what it judges. A refused
-/// key call, replacement or showing is an outcome of its own. The whole is refused as [`Publisher::new`] refuses the zone, and
-/// with `Memory` where the run's own lists cannot grow.
+/// key call, replacement or showing is an outcome of its own, for want of memory too: then keys, records and places are as they
+/// were before, and the events behind it go on. The whole is refused as [`Publisher::new`] refuses the zone, and with `Memory`
+/// where the run's own lists cannot grow, or a DS set that is shown.
 pub fn simulate<S: Scheme, H: Nsec3Hasher>(
     alloc: Global,
     apex: Name<Vec<u8>>,

@@ -18,7 +18,7 @@ use std::alloc::Global;
 use std::io;
 use std::time::Duration;
 
-/// Signs by copying, and digests to one octet.
+/// Signs by copying, and digests to one octet. The example of a caller has one of its own, so that it can be read alone.
 #[derive(Drop)]
 struct Copying;
 
