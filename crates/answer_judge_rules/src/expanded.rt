@@ -11,7 +11,7 @@ use crate::verdict::Verdict;
 use messages::names::{Name, ZoneName, is_above};
 
 impl<'a> Link<'a> {
-    /// Whether the link shows that a name does not exist and that its closest encloser has so many labels.
+    /// Whether the link shows that a name does not exist and that its closest encloser has a number of labels.
     ///
     /// A next name below the name shows that the name exists, and no wildcard speaks for it (RFC 4592, 2.2.2).
     fn encloses(&self, apex: &Name<Vec<u8>>, name: &Name<Vec<u8>>, labels: u8) -> bool
@@ -22,7 +22,7 @@ impl<'a> Link<'a> {
         self.covers(apex, name) && !is_above(name, self.next()) && self.is_closest(name, labels)
     }
 
-    /// Whether the closest encloser of a name, which the link shows, has so many labels.
+    /// Whether the closest encloser of a name, which the link shows, has a number of labels.
     ///
     /// The wildcard of an ancestor further up, replayed, would otherwise answer beside a closer one (RFC 4592, 3.3.1).
     fn is_closest(&self, name: &Name<Vec<u8>>, labels: u8) -> bool

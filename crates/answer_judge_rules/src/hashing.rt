@@ -42,7 +42,7 @@ fn hash_octets<C: Checks>(
     checks.hash(alloc, octets, 1, link.iterations(), link.salt())
 }
 
-/// The hash of a name without its first labels, so many, which is written to the buffer.
+/// The hash of a name without a number of its first labels, which is written to the buffer.
 pub(crate) fn hash_behind<N: ToName, C: Checks>(
     alloc: Global,
     link: &HashLink,

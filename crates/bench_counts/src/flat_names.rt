@@ -94,7 +94,7 @@ fn sort(names: &mut [Name<Vec<u8>>]) -> u64 {
     names.first().map_or(0, |name| name.as_slice().len() as u64)
 }
 
-/// What the task counts, done so often.
+/// What the task counts, done as often as asked.
 pub(crate) fn counted(alloc: Global, task: &str, rounds: u64, lines: &[String]) -> io::Result<u64> {
     let (mut names, mut texts) = (Vec::new(alloc), Vec::new(alloc));
     for line in lines {

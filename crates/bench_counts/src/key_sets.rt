@@ -54,7 +54,7 @@ fn call(set: &mut KeySet, step: u64, old: &[&str], new: &[&str]) -> Result<(), E
     Ok(())
 }
 
-/// How many of so many calls were accepted on a set of so many keys.
+/// How many of a number of calls were accepted on a set of a number of keys.
 pub(crate) fn counted(alloc: Global, keys: &str, calls: u64) -> io::Result<u64> {
     let half = keys.parse().unwrap_or(0u16) / 2;
     let (olds, news) = (

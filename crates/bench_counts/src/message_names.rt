@@ -101,7 +101,7 @@ fn equal(message: &[u8], places: &[usize]) -> u64 {
     count
 }
 
-/// What the task counts, done so often.
+/// What the task counts, done as often as asked.
 pub(crate) fn counted(alloc: Global, task: &str, rounds: u64, lines: &[String]) -> io::Result<u64> {
     let (mut message, mut places) = (Vec::new(alloc), Vec::new(alloc));
     for line in lines {

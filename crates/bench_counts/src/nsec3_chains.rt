@@ -32,7 +32,7 @@ fn chain(alloc: Global, apex: &Owner, zone: &Sorted) -> u64 {
     }
 }
 
-/// How many records were made, the chain made so often.
+/// How many records were made, the chain made as often as asked.
 fn work(alloc: Global, rounds: u64, records: Vec<Rr>) -> u64 {
     zone_data_order_is_total::<Vec<u8>, Owner>();
     let Ok(apex) = Name::vec_from_str(alloc, "example.") else {

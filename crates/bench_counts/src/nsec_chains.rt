@@ -37,7 +37,7 @@ fn made(alloc: Global, task: &str, apex: &Owner, records: &[Rr]) -> u64 {
     }
 }
 
-/// What the task counts, done so often.
+/// What the task counts, done as often as asked.
 fn work(alloc: Global, task: &str, rounds: u64, records: Vec<Rr>) -> u64 {
     zone_data_order_is_total::<Vec<u8>, Owner>();
     let Ok(apex) = Name::vec_from_str(alloc, "example") else {

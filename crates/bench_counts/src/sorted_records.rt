@@ -83,7 +83,7 @@ fn found(sorted: &Sorted) -> u64 {
     count
 }
 
-/// What the task counts, done so often.
+/// What the task counts, done as often as asked.
 fn work(alloc: Global, task: &str, rounds: u64, records: Vec<Rr>) -> u64 {
     match task {
         "read" => return records.len() as u64,

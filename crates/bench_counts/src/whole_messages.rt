@@ -110,7 +110,7 @@ impl Asked {
     }
 }
 
-/// What is counted of a judgement, judged so often.
+/// What is counted of a judgement, judged as often as asked.
 pub(crate) fn counted(alloc: Global, rounds: u64, lines: &[String]) -> io::Result<u64> {
     let Some(asked) = Asked::read(alloc, lines) else {
         return Ok(0);

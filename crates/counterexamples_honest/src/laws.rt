@@ -50,17 +50,17 @@ pub fn a_ds_record_is_needed()
     ensures { SaysFalsely without_ds }
 {}
 
-/// Who can sign a DNSKEY RRset under the zone's key adds a key, and signs with that whatever answer (RFC 4035, 5.2).
+/// Whoever can sign a DNSKEY RRset under the zone's key adds a key, and signs any answer with it (RFC 4035, 5.2).
 pub fn no_keys_may_be_forged()
     ensures { SaysFalsely without_keys_unforged }
 {}
 
-/// Who has a key of the same tag, algorithm and digest as the DS record signs a DNSKEY RRset of it (RFC 4034, 5.1.4).
+/// Whoever has a key of the same tag, algorithm and digest as the DS record signs a DNSKEY RRset of it (RFC 4034, 5.1.4).
 pub fn digests_must_name_the_zones_keys()
     ensures { SaysFalsely without_keys_known }
 {}
 
-/// Who can sign an answer under the zone's key says what the zone does not say (RFC 4035, 5.3.3).
+/// Whoever can sign an answer under the zone's key says what the zone does not say (RFC 4035, 5.3.3).
 pub fn no_answer_may_be_forged()
     ensures { SaysFalsely without_answer_unforged }
 {}

@@ -62,7 +62,7 @@ fn moment_fault(fields: &[&str]) -> LineFault {
     }
 }
 
-/// What is said of a line with a moment whose word is none that stands before so many fields.
+/// What is said of a line with a moment whose first word takes another number of fields.
 fn other_line(word: &str) -> LineFault {
     match (Form::of_event(word), word) {
         (Some(form), _) => LineFault::Fields(form),

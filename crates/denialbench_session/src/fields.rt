@@ -87,7 +87,7 @@ fn each_reference(alloc: Global, field: Field, parts: &[&str]) -> Result<Vec<Str
     Ok(references)
 }
 
-/// Octets as hexadecimal digits, at most so many of them; `-` for none.
+/// Octets as hexadecimal digits, at most as many as allowed; `-` for none.
 pub fn hex_octets(
     alloc: Global,
     field: Field,

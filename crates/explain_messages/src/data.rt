@@ -99,7 +99,7 @@ impl<'m> Data<'m> {
         Ok(true)
     }
 
-    /// The name that stands behind so many octets of the data and ends them.
+    /// The name that ends the data, behind a number of octets.
     fn name_behind(&self, count: usize) -> Option<ParsedName<'m>> {
         let start = self.record.start.checked_add(count)?;
         let (name, end) = read_name(self.message, start).ok()?;

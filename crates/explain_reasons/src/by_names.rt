@@ -257,7 +257,7 @@ pub(crate) fn denied(
     Ok(Told::Nothing)
 }
 
-/// What links say of a name for which a wildcard's RRset stands, whose signature counts so many labels (RFC 4035, 5.3.4).
+/// What links say of a name for which a wildcard's RRset stands, by the labels that its signature counts (RFC 4035, 5.3.4).
 pub(crate) fn expanded(
     because: &mut Vec<String>,
     asked: &Asked,

@@ -56,7 +56,7 @@ impl Desk {
         Some(())
     }
 
-    /// Adds so many addresses, each at an owner of its own.
+    /// Adds a number of addresses, each at an owner of its own.
     fn put_addresses(&mut self, alloc: Global, words: &[&str]) -> Option<()> {
         let [count] = words else {
             return None;

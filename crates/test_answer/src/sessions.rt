@@ -54,7 +54,7 @@ fn event(alloc: Global, events: &[Event]) -> Option<String> {
     }
 }
 
-/// What comes of a session of a zone and so many times the same line.
+/// What comes of a session of a zone and one line, repeated.
 pub fn many(alloc: Global, line: &str) -> Option<String> {
     let (count, line) = line.split_once(' ')?;
     let mut input = ZONE.to_vec(alloc).ok()?;

@@ -89,7 +89,7 @@ fn twins<R: Print>(trial: &mut Trial<'_, R>, text: &[u8]) -> Option<Twins<Zone>>
     Some(Twins::new(value, twin))
 }
 
-/// Makes so many calls of a life of a zone's keys.
+/// Makes the first calls of a life of a zone's keys.
 fn live<R: Print>(
     trial: &mut Trial<'_, R>,
     twins: &mut Twins<Zone>,

@@ -47,7 +47,7 @@ pub fn is_among(names: &[Vec<Octets>], name: &[Octets]) -> bool {
     names.iter().any(|other| same(other, name))
 }
 
-/// The last labels of a name, so many.
+/// A number of the last labels of a name.
 pub fn last_labels(name: &[Octets], count: usize) -> &[Octets] {
     if count < name.len() {
         &name[name.len() - count..]

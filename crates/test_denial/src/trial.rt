@@ -69,7 +69,7 @@ fn chain_of(alloc: Global, zone: &SmallZone, kind: ChainKind) -> Result<Chain, A
     }
 }
 
-/// All questions, beside all sets of at most so many records.
+/// All questions, beside all sets of at most a number of records.
 pub fn tried(
     alloc: Global,
     zone: &SmallZone,

@@ -92,7 +92,7 @@ impl SmallZone {
         Ok(owners)
     }
 
-    /// The RRset that the zone has signed for a question, with so many labels, if it has.
+    /// The RRset that the zone has signed for a question, with a number of labels, if it has one.
     pub fn signed(
         &self,
         alloc: Global,

@@ -206,7 +206,7 @@ impl Sheet {
         self.line(format_args!("<text class=\"middle\" x=\"{x}\" y=\"{line}\">{text}</text>"));
     }
 
-    /// Draws a rectangle between two places, so many pixels high.
+    /// Draws a rectangle between two places, of a height in pixels.
     fn bar(&mut self, class: &str, (from, to): (u64, u64), top: u64, height: u64) {
         let width = to.saturating_sub(from);
         self.line(format_args!(

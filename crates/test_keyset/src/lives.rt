@@ -19,7 +19,7 @@ enum Found {
     Changed,
 }
 
-/// What is said of all lists of so many accepted calls of some rolls.
+/// What is said of all lists of a number of accepted calls of some rolls.
 pub fn lives_of(alloc: Global, answer: &mut Answer, line: &str) -> Option<()> {
     let (names, calls) = line.split_once(' ')?;
     let mut rolls = Vec::new(alloc);
@@ -352,7 +352,7 @@ fn push_all_longer(
     Some(())
 }
 
-/// How many lists there are of so many calls.
+/// How many lists there are of a number of calls.
 fn lives(alloc: Global, found: &mut Found, rolls: &[RollType], calls: usize) -> Option<usize> {
     let mut lists = Vec::new(alloc);
     lists.push(Vec::new(alloc)).ok()?;

@@ -22,7 +22,7 @@ fn append<const N: usize>(
     }
 }
 
-/// Labels into a buffer of so many octets: each is taken exactly where it fits.
+/// Labels into a buffer of a fixed size: each is taken exactly where it fits.
 fn takes_what_fits<const N: usize>(room: ArrayVec<u8, N>) -> bool {
     let Ok(mut builder) = NameBuilder::from_builder(room) else {
         return false;

@@ -34,7 +34,7 @@ impl Place {
         Some((place, rest))
     }
 
-    /// A parser of so many octets from the place on, if they are there.
+    /// A parser of a number of octets from the place on, if they are there.
     fn parser(&self, len: usize) -> Option<Parser<'_>> {
         let mut parser = Parser::from_ref(&self.message);
         parser.seek(self.place).ok()?;
@@ -226,7 +226,7 @@ fn unknown(answer: &mut Answer, rtype: Rtype, octets: &[u8]) -> Option<()> {
     Some(())
 }
 
-/// Whether so many octets are data, and read as data; or why not; and where the parser stands then.
+/// Whether a number of octets are data, and read as data; or why not; and where the parser stands then.
 pub fn zeros(alloc: Global, answer: &mut Answer, line: &str) -> Option<()> {
     let mut octets = Vec::new(alloc);
     octets.resize(line.parse().ok()?, 0u8).ok()?;

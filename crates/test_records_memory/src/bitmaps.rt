@@ -9,7 +9,7 @@ use test_refusals::Trial;
 /// Types of three windows, of which the first and the last make no room of their own.
 const TYPES: [u16; 6] = [1, 300, 15, 1234, 6, 2];
 
-/// The bitmaps of so many of them.
+/// The bitmaps of the first of them, by their number.
 const BITMAPS: [&[u8]; 7] = [
     b"",
     b"\0\x01\x40",
@@ -20,7 +20,7 @@ const BITMAPS: [&[u8]; 7] = [
     b"\0\x02\x62\x01\x01\x06\0\0\0\0\0\x08\x04\x1b\0\0\0\0\0\0\0\0\0\0\0\0\0\0\0\0\0\0\0\0\0\0\0\0\0\0\x20",
 ];
 
-/// A bitmap of the first types, so many.
+/// A bitmap of a number of the first types.
 fn of_first(alloc: Global, count: usize) -> Result<RtypeBitmapBuilder<Vec<u8>>, ShortBuf> {
     let mut builder = RtypeBitmapBuilder::new_vec(alloc);
     for number in TYPES.iter().take(count) {

@@ -217,7 +217,7 @@ impl<'a, R: Print> Trial<'a, R> {
     }
 }
 
-/// Whether octets are others so many times.
+/// Whether octets are other ones, repeated `count` times.
 fn is_repeated(octets: &[u8], others: &[u8], count: usize) -> bool {
     let mut rest = octets;
     for _ in 0..count {

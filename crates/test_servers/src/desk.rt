@@ -168,7 +168,7 @@ impl Desk {
         self.outcome(alloc, &zone.ds, &octets, zone.moment)
     }
 
-    /// What is said of it without so many octets at its end.
+    /// What is said of it without a number of octets at its end.
     fn cut(&self, alloc: Global, words: &[&str]) -> Option<Outcome> {
         let [count] = words else {
             return None;

@@ -9,7 +9,7 @@ use test_lines::{first_word, text};
 /// The class IN (RFC 1035, 3.2.4).
 pub const IN: u16 = 1;
 
-/// A buffer of so many octets is handed in at first, and a larger one where it is too small.
+/// The size of the buffer that is handed in at first; a larger one is handed in where it is too small.
 const ROOM: usize = 64;
 
 /// A reply that asks for nothing more.

@@ -18,7 +18,7 @@ pub fn nothing(alloc: Global) -> Option<String> {
     Some(String::new(alloc))
 }
 
-/// Puts a part behind its length in so many octets, at most four, at the end.
+/// Puts a part at the end, behind its length in a number of octets, at most four.
 pub fn put_part(octets: &mut Vec<u8>, width: usize, part: &[u8]) -> Option<()> {
     let len = u32::try_from(part.len()).ok()?.to_be_bytes();
     octets

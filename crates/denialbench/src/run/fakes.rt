@@ -4,7 +4,7 @@ ghost use Rattle.std.specs.Prelude.{◌≡◌};
 use std::io;
 use std::io::{ErrorKind, Read, Write};
 
-/// Gives some octets, at most so many a call, and fails at one call.
+/// Gives some octets, at most `step` a call, and fails at one call.
 #[derive(Drop)]
 pub struct Source<'a> {
     pub rest: &'a [u8],
@@ -61,7 +61,7 @@ impl Read for Endless {
     }
 }
 
-/// Takes at most so many octets a call, and fails at one call.
+/// Takes at most `step` octets a call, and fails at one call.
 #[derive(Drop)]
 pub struct Sink {
     pub taken: Vec<u8>,

@@ -79,7 +79,7 @@ place 3
 NoName verifications 3 hashes 0
 ";
 
-/// A writer that takes so many octets a call, and fails at one.
+/// A writer that takes at most `step` octets a call, and fails at one call.
 fn taking(alloc: Global, step: usize, failing_call: u64) -> Sink {
     Sink {
         taken: Vec::new(alloc),
@@ -97,7 +97,7 @@ fn is_printed(alloc: Global, input: &str, step: usize, printed: &str, status: St
         && sink.taken.as_slice() == printed.as_bytes()
 }
 
-/// The first read in such steps that may fail without a fault, or with something written; none of so many.
+/// The first of `reads` reads in such steps that may fail without a fault, or with something written.
 fn unfailed_read(alloc: Global, input: &str, step: usize, reads: u64) -> Option<u64> {
     for place in 0..reads {
         let mut source = Source::new(input.as_bytes(), step);
@@ -112,7 +112,7 @@ fn unfailed_read(alloc: Global, input: &str, step: usize, reads: u64) -> Option<
     None
 }
 
-/// The first write in such steps that may fail without a fault, or with more writes behind it; none of so many.
+/// The first of `writes` writes in such steps that may fail without a fault, or with more writes behind it.
 fn unfailed_write(alloc: Global, input: &str, step: usize, writes: u64) -> Option<u64> {
     for place in 0..writes {
         let call = place.saturating_add(1);
