@@ -4,6 +4,7 @@ use Rattle.std.specs.List.{AllByRecursion, list_any}
 use Rattle.definitions.specs.Name.{Name, IsName, low, labels_eq, at_or_above}
 use Rattle.definitions.specs.Zone.{Zone, Verdict, verdict, apex_of, star_under}
 use Rattle.definitions.specs.ZoneChain.{Mode, Nsec, Nsec3, optout_of}
+use Rattle.denial_laws.specs.Aliases.{is_aliased}
 use Rattle.denial_laws.specs.Facts.{Facts}
 use Rattle.denial_laws.specs.Deciding.{decided, hashed}
 use Rattle.denial_laws.specs.Truth.{IsServable, AreTrue, NoSharedHash, concerned, is_foreign_type}
@@ -14,30 +15,35 @@ use Rattle.denial_laws.specs.Saying.{IsVerdict}
 abbrev pub OneVerdict : Type 0
 OneVerdict = (z : Zone) (optout : Bool) (name : Name) (t : ℕ) (v : Verdict) → IsVerdict z optout name t v ↔ (v ≡ verdict z optout name t)
 
--- Sound: whatever true facts are handed in, what they decide is the zone's verdict.
+-- What a zone says of a name that is no alias for the type: this verdict. Of an alias it says none.
+abbrev pub IsSaidBy : Zone → Bool → Name → ℕ → Verdict → Type 0
+IsSaidBy z optout q t v = (v ≡ verdict z optout q t) × (is_aliased z optout q t ≡ false)
+
+-- Sound: whatever true facts are handed in, what they decide is the zone's verdict, and the name is no alias.
 abbrev pub TrueFactsDecideTruly : Type 0
 TrueFactsDecideTruly =
     (z : Zone) (hash : Name → List ℕ) (mode : Mode) (f : Facts) (q : Name) (t : ℕ) (v : Verdict)
     → IsServable z → NoSharedHash z hash mode q → t < 65536 → AreTrue z hash mode q t f
-    → decided z.name hash f q t ≡ Some v → v ≡ verdict z (optout_of mode) q t
+    → decided z.name hash f q t ≡ Some v → IsSaidBy z (optout_of mode) q t v
 
 -- what facts decide is what any zone says of which they are true
 abbrev pub DecidesTruly : Name → (Name → List ℕ) → Facts → Name → ℕ → Option Verdict → Type 0
 DecidesTruly apex hash f q t None = Unit {0}
 DecidesTruly apex hash f q t (Some v) =
     (z : Zone) (mode : Mode) → z.name ≡ apex → IsServable z → NoSharedHash z hash mode q → AreTrue z hash mode q t f
-    → v ≡ verdict z (optout_of mode) q t
+    → IsSaidBy z (optout_of mode) q t v
 
 -- Types that are asked for: not those that signing adds, aliases, and types that are no data (RFC 1035, 3.2.3; RFC 6891, 6.1;
 -- RFC 6895, 3.1)
 abbrev pub is_asked_type : ℕ → Bool
 is_asked_type t = not (is_foreign_type t || nat_eq t 0 || nat_eq t 41 || (nat_le 128 t && nat_le t 255))
 
--- Complete: the zone's own answer decides its verdict.
+-- Complete: the zone's own answer decides its verdict of a name that is no alias.
 abbrev pub OwnAnswersDecide : Type 0
 OwnAnswersDecide =
     (z : Zone) (hash : Name → List ℕ) (mode : Mode) (q : Name) (t : ℕ)
     → IsServable z → NoSharedHash z hash mode q → t < 65536 → at_or_above (apex_of z) q ≡ true → is_asked_type t ≡ true
+    → is_aliased z (optout_of mode) q t ≡ false
     → decided z.name hash (own_facts z hash mode q t) q t ≡ Some (verdict z (optout_of mode) q t)
 
 -- One zone says the same by NSEC records as by NSEC3 records without opt-out.
@@ -45,6 +51,7 @@ abbrev pub BothChainsSayTheSame : Type 0
 BothChainsSayTheSame =
     (z : Zone) (hash : Name → List ℕ) (iterations : ℕ) (salt : List ℕ) (q : Name) (t : ℕ)
     → IsServable z → NoSharedHash z hash (Nsec3 iterations salt false) q → t < 65536 → at_or_above (apex_of z) q ≡ true → is_asked_type t ≡ true
+    → is_aliased z false q t ≡ false
     → decided z.name hash (own_facts z hash Nsec q t) q t
     ≡ decided z.name hash (own_facts z hash (Nsec3 iterations salt false) q t) q t
 

@@ -1,3 +1,4 @@
+pub mod Aliases
 pub mod Facts
 pub mod NsecRules
 pub mod Nsec3Rules

@@ -8,13 +8,18 @@ use Rattle.definitions.specs.Bitmap.{bitmap}
 use Rattle.definitions.specs.Zone.{Zone, Rr, apex_of, owners, has, is_delegation, is_live, star_under, data_at}
 use Rattle.definitions.specs.ZoneChain.{Mode, Nsec, Nsec3, with_parents, nsec_names, nsec_next, nsec_types, nsec3_types, nsec3_names, hashed_names, nsec3_next}
 use Rattle.definitions.specs.Laws.{NoneShare, SharesNone}
+use Rattle.denial_laws.specs.Aliases.{IsOrderly, is_alias_type}
 use Rattle.denial_laws.specs.Facts.{Rrset, Link, HashLink, Facts, is_expanded}
 
 -- ---- the zone
 
--- types that signing adds, and aliases, which no zone here holds (RFC 4034; RFC 5155; RFC 1034, 3.6.2; RFC 6672)
+-- types that signing adds, which no zone holds before (RFC 4034; RFC 5155)
+abbrev pub is_added_type : ℕ → Bool
+is_added_type t = list_any (nat_eq t) (46 ∷ 47 ∷ 48 ∷ 50 ∷ 51 ∷ [])
+
+-- types that no question asks a judge for: those that signing adds, and aliases (RFC 1034, 3.6.2; RFC 6672)
 abbrev pub is_foreign_type : ℕ → Bool
-is_foreign_type t = list_any (nat_eq t) (46 ∷ 47 ∷ 48 ∷ 50 ∷ 51 ∷ 5 ∷ 39 ∷ [])
+is_foreign_type t = is_added_type t || is_alias_type t
 
 -- the first label is an asterisk
 abbrev pub is_star : Name → Bool
@@ -25,12 +30,13 @@ is_star (l ∷ n) = bytes_eq l (42 ∷ [])
 abbrev pub delegates_star : Rr → Bool
 delegates_star r = (r.rtype == 2) && is_star r.spelled
 
--- A zone that can be served: records at the apex, all of ordinary types, and no NS at a wildcard. Records outside the zone
--- change nothing.
+-- A zone that can be served: records at the apex, none of a type that signing adds, no NS at a wildcard, and aliases in
+-- order. Records outside the zone change nothing.
 pub record IsServable (z : Zone) : Type 0 where
   pub apex : Contains (owners z) (apex_of z)
-  pub ordinary : AllByRecursion (λ r. is_foreign_type r.rtype ≡ false) z.records
+  pub ordinary : AllByRecursion (λ r. is_added_type r.rtype ≡ false) z.records
   pub stars : AllByRecursion (λ r. delegates_star r ≡ false) z.records
+  pub aliases : IsOrderly z
 
 -- ---- its records
 
