@@ -6,36 +6,33 @@ use Rattle.std.specs.Int.{w16, to_be_bytes}
 use Rattle.std.specs.Ordering.{nat_cmp}
 use Rattle.std.specs.Cmp.Lexicographic.{slice_cmp}
 use Rattle.std.specs.Str.{bytes_eq}
-use Rattle.std.proofs.lemmas.Bool.{and_parts, eqb-true, false≢true}
+use Rattle.std.proofs.lemmas.Bool.{and_from, and_parts, eq-eqb, eqb-true, false≢true}
 use lib.Pointwise.{bytes_decides}
 use Rattle.definitions.specs.Dnskey.{Dnskey, Ds, digested, dnskey_data, dnskey_of_data, key_tag}
-use Rattle.definitions.specs.Name.{Name, same}
+use Rattle.definitions.specs.Name.{Name, low, same}
 use Rattle.definitions.specs.Signing.{Fields}
-use Rattle.definitions.specs.Zone.{sorted_data}
+use Rattle.definitions.specs.Zone.{Zone, sorted_data}
 use Rattle.definitions.specs.ZoneChain.{Mode, Nsec, Nsec3}
-use Rattle.denial_laws.specs.Truth.{is_foreign_type}
-use Rattle.messages.specs.HandedRr.{HandedRr}
+use Rattle.denial_laws.specs.Truth.{is_added_type}
 use Rattle.messages.specs.Message.{AreOctets, Message, Spelled, data_of, message}
+use Rattle.messages.proofs.ZoneNames.{labels_eq-same}
 use Rattle.messages.proofs.Lists.{Has, all_at, all_more, all_sorted, found, some_is}
-use Rattle.answer_shared.specs.Accepting.{sorted_records}
-use Rattle.answer_shared.specs.Made.{HandedOut}
-use Rattle.answer_shared.specs.Served.{Group, chain_record, served_of}
-use Rattle.answer_shared.specs.Served as served
+use Rattle.answer_shared.specs.Hashing.{hash_in}
 use Rattle.answer_shared.proofs.KeyData.{key_read_back}
 use Rattle.answer_scheme.specs.Answers.{Answers}
-use Rattle.answer_judge_keys.specs.Trusted.{digests_to, is_trusted, is_usable, names_key}
-use Rattle.answer_judge.specs.Honest.{IsHonest, NoStranger, WasSigned}
+use Rattle.answer_honest.specs.Honest.{IsHonest, NoStranger, Signing, WasSigned, rrset_of_keys, sought_of_keys}
+use Rattle.answer_honest.specs.Versions.{IsOfChain, IsRrsetOf, OfZone, OfChain, OfParameters, SignedRrset, Version, zone_in}
+use Rattle.answer_judge_keys.specs.Trusted.{is_trusted, is_usable, names_key}
 use Rattle.answer_judge_facts.specs.Judged.{is_chained, keys_of, trusting}
 use Rattle.answer_judge_keys.specs.Judging.{Handing, key_at, keys_in}
 use Rattle.answer_judge_keys.proofs.GivenKeys.{IsKeyData, data_of_key, key_data}
 use Rattle.answer_judge.proofs.GivenLists.{contained_has, has_contained}
 use Rattle.answer_judge_keys.proofs.GivenSorted.{data_has, sorted_from}
-use Rattle.answer_judge.proofs.HonestFacts.{IsLife, WasMade, of_found, serve_by, zone_type}
+use Rattle.answer_judge.proofs.HonestFacts.{IsKnown, chain_type, not_added, signed_has}
 use Rattle.answer_judge_facts.proofs.KeptItems.{kept_from, passes_has}
-use Rattle.answer_judge.proofs.HonestMade.{Kind, KeyKind, ZoneKind, ChainKind}
 use Rattle.answer_judge.proofs.HonestReads.{IsDatum, ReadsRecord, data_read, message_read, octets_16, octets_join}
-use Rattle.answer_judge.proofs.HonestSpelled.{Spells}
-use Rattle.answer_judge.proofs.HonestVerified.{Found, found_verifying, keys_covered}
+use Rattle.answer_judge.proofs.HonestTold.{IsOf, IsOfKeys, IsOfSigning, IsSignedOf, OfKeys, OfVersion, Tells, signed_of}
+use Rattle.answer_judge.proofs.HonestVerified.{Found, IsOver, IsSigner, found_verifying, over_signed}
 
 -- ---- keys that are read
 
@@ -94,19 +91,18 @@ each_datum (key ∷ ks) f = ((f key (inl refl)).datum, each_datum ks (λ y i. f 
 pub keys_read : (m : List ℕ) (apex : Name) (rs : List Spelled) → AreOctets m → AllByRecursion ReadsRecord rs → AllByRecursion IsDatum (sorted_data (map dnskey_data (keys_in m apex rs)))
 keys_read m apex rs octets are = all_sorted IsDatum (slice_cmp nat_cmp) (map dnskey_data (keys_in m apex rs)) (each_datum (keys_in m apex rs) (is_read_key m apex rs octets are))
 
-same_digest : (a : Answers) (apex : Name) (key : Dnskey) (d : Ds) → digests_to a apex key d ≡ true → a.digest d.digest_type (digested apex key) ≡ Some d.digest
-same_digest a apex key d e = go (a.digest d.digest_type (digested apex key)) e
-  where
-    go : (o : Option (List ℕ)) → elim o as (λ _. Bool) [ None ↦ false | Some octets ↦ bytes_eq octets d.digest ] ≡ true → o ≡ Some d.digest
-    go None h = absurd (false≢true h)
-    go (Some octets) h = ap Some ((bytes_decides octets d.digest).0 h)
+chain_other : (z : Zone) (hash : Name → List ℕ) (mode : Mode) (x : SignedRrset) → IsOfChain z hash mode x → x.rtype ≡ 48 → ⊥
+chain_other z hash Nsec x is e = false≢true (ap (λ (n : ℕ). eqb n 48) (sym is.rtype_is ∙ e))
+chain_other z hash (Nsec3 iterations salt optout) x is e = false≢true (ap (λ (n : ℕ). eqb n 48) (sym is.rtype_is ∙ e))
 
-chain_other : (apex : Name) (mode : Mode) (hash : Name → List ℕ) (rs : List HandedRr) (o : Name) → (chain_record (served_of apex mode hash rs) o).rtype ≡ 48 → ⊥
-chain_other apex Nsec hash rs o e = false≢true (ap (λ (n : ℕ). eqb n 48) e)
-chain_other apex (Nsec3 iterations salt optout) hash rs o e = false≢true (ap (λ (n : ℕ). eqb n 48) e)
+-- no RRset of a version is one of keys
+no_keys : (apex : Name) (hash : Name → List ℕ) (v : Version) → IsKnown apex v → (g : SignedRrset) → IsRrsetOf apex hash v g → g.rtype ≡ 48 → ⊥
+no_keys apex hash v known g (OfZone signed datas) e = not_added apex v known.servable (low g.owner) g.rtype (ap is_added_type e) (signed_has (zone_in apex v) (low g.owner) g.rtype signed)
+no_keys apex hash v known g (OfChain is) e = chain_other (zone_in apex v) hash v.mode g is e
+no_keys apex hash v known g (OfParameters o e) f = false≢true (ap (λ n. eqb n 48) (sym e ∙ f))
 
-module _ (a : Answers) (k : ℕ) (h : Handing) (mode : Mode) (hash : Name → List ℕ) (published : List Dnskey) (outs : List HandedOut) (known : IsLife h.apex mode hash published outs) (read : Message)
-    (honest : IsHonest a k h published (WasSigned (serve_by h.apex mode hash) h.apex outs) h.dnskey_bytes) (reads : message k h.dnskey_bytes ≡ Ok read) (keys_known : NoStranger a k h.apex published h.ds h.dnskey_bytes)
+module _ (a : Answers) (k : ℕ) (h : Handing) (published : List Dnskey) (signings : List Signing) (known : (s : Signing) → Has signings s → IsKnown h.apex s.version) (read : Message)
+    (honest : IsHonest a k h published (WasSigned a h.apex published signings) (sought_of_keys h) h.dnskey_bytes) (reads : message k h.dnskey_bytes ≡ Ok read) (keys_known : NoStranger a k h published)
     (flags_are : AllByRecursion (λ (key : Dnskey). key.flags < 65536) published) where
   abbrev keys : List Dnskey
   keys = keys_of h read
@@ -115,12 +111,13 @@ module _ (a : Answers) (k : ℕ) (h : Handing) (mode : Mode) (hash : Name → Li
   abbrev trusted : List Dnskey
   trusted = filter (is_trusted a h.apex h.ds) keys
 
-  trusted_published : (key : Dnskey) → Has trusted key → Contains published key
-  trusted_published key i =
+  trusted_signs : (key : Dnskey) → Has trusted key → IsSigner published key
+  trusted_signs key i =
       let p = passes_has (is_trusted a h.apex h.ds) keys key i in
-      let d = found (names_key a h.apex key) h.ds (and_parts (is_usable key) (list_any (names_key a h.apex key) h.ds) p.1).1 in
-      let digest = same_digest a h.apex key d.0 (and_parts ((d.0.tag == key_tag key) && (d.0.algorithm == key.algorithm)) (digests_to a h.apex key d.0) d.2).1 in
-      keys_known read key d.0 reads (contained_has keys key p.0) (contained_has h.ds d.0 d.1) digest
+      record {
+        published = keys_known read key reads (contained_has keys key p.0) p.1;
+        usable = (and_parts (is_usable key) (list_any (names_key a h.apex key) h.ds) p.1).0;
+      }
 
   abbrev items : List (List ℕ)
   items = sorted_data (map dnskey_data keys)
@@ -129,7 +126,7 @@ module _ (a : Answers) (k : ℕ) (h : Handing) (mode : Mode) (hash : Name → Li
   records_are = message_read k h.dnskey_bytes read honest.octets_are reads
 
   -- the RRset that was signed is that of keys that were published
-  from_present : (present : List Dnskey) → AllByRecursion (Contains published) present → items ≡ served.key_data present → (key : Dnskey) → Has keys key → Contains published key
+  from_present : (present : List Dnskey) → AllByRecursion (Contains published) present → items ≡ sorted_data (map dnskey_data present) → (key : Dnskey) → Has keys key → Contains published key
   from_present present of same key i =
       let d : List ℕ = dnskey_data key in
       let inside : Has items d = data_has (map dnskey_data keys) d (data_of_key keys key i) in
@@ -143,22 +140,17 @@ module _ (a : Answers) (k : ℕ) (h : Handing) (mode : Mode) (hash : Name → Li
     abbrev x : Found (trusting a h trusted) k h.dnskey_bytes read.records h.apex 48 items
     x = found_verifying (trusting a h trusted) k h.dnskey_bytes read.records h.apex 48 items chained
 
-    abbrev was : WasMade h.apex mode hash published outs x.by.fields h.apex items
+    sought : (sought_of_keys h read.records).is x.spelled.owner x.by.fields.covered ≡ true
+    sought = and_from _ _ (eq-eqb 48 x.by.fields.covered (sym x.by.covered)) (labels_eq-same (low x.spelled.owner) (low h.apex) x.by.owner_is)
+
+    was : IsSignedOf a h.apex published signings x.by.fields x.spelled.owner items
     was =
-        of_found a k h mode hash published outs known h.dnskey_bytes read honest reads trusted trusted_published h.apex 48 items (keys_read h.dnskey_bytes h.apex read.records honest.octets_are records_are) x
-        (keys_covered k h.dnskey_bytes read.records x.spelled.owner h.apex x.by.fields.covered x.by.covered x.by.owner_is)
-
-    -- the message that they were signed for
-    pub signed_in : (out : HandedOut) × Has outs out
-    signed_in = (was.out, was.there)
-
-    abbrev rs : List HandedRr
-    rs = sorted_records was.out.records
+        signed_of a h.apex published signings x.by.fields x.spelled.owner items
+        (over_signed a k h published (WasSigned a h.apex published signings) (sought_of_keys h) h.dnskey_bytes read honest reads trusted trusted_signs h.apex 48 items (keys_read h.dnskey_bytes h.apex read.records honest.octets_are records_are) x sought refl)
 
     pub all_published : (key : Dnskey) → Has keys key → Contains published key
-    all_published = go x.by.fields x.by.covered was.is.group was.is.kind was.is.spells
+    all_published = go was
       where
-        go : (f : Fields) → f.covered ≡ 48 → (g : Group) → Kind (served_of h.apex mode hash rs) h.apex published g → Spells f h.apex items g → (key : Dnskey) → Has keys key → Contains published key
-        go f c g (KeyKind present of e) y = from_present present of (y.contents ∙ ap (λ (v : Group). v.datas) e)
-        go f c g (ZoneKind z) y = absurd (zone_type h.apex mode hash rs (known.versions was.out was.there) g z (ap is_foreign_type (sym y.covered ∙ c)))
-        go f c g (ChainKind o j e) y = absurd (chain_other h.apex mode hash rs o (ap (λ (v : Group). v.rtype) (sym e) ∙ sym y.covered ∙ c))
+        go : IsSignedOf a h.apex published signings x.by.fields x.spelled.owner items → (key : Dnskey) → Has keys key → Contains published key
+        go (OfKeys is) = from_present is.present is.published_are is.tells.contents
+        go (OfVersion is) = absurd (no_keys h.apex (hash_in a.hash is.signing.version.mode) is.signing.version (known is.signing is.there) is.is.rrset is.is.of (sym is.is.tells.covered ∙ x.by.covered))

@@ -15,7 +15,6 @@ use Rattle.denial_nsec3_hash.specs.Hashing.{FitsName}
 use Rattle.denial_laws.specs.Truth.{IsServable, is_signed}
 use Rattle.denial_laws.proofs.NameFacts.{strictly_shorter}
 use Rattle.denial_laws.proofs.OwnRrset.{own_records_true, own_star_true}
-use Rattle.denial_laws.proofs.SignedNames.{whole_owner}
 use Rattle.denial_laws.proofs.VerdictView.{View, Signed, Missing, Cut, Starred, Unstarred, Gone, view}
 use Rattle.denial_laws.proofs.ZoneCuts.{IsCut, cut_is, cut_live, delegation_low, uncut_live}
 use Rattle.messages.specs.Handed.{IsHanded}
@@ -33,6 +32,7 @@ use Rattle.answer_shared.proofs.ZoneNaming.{chain_named, first_name, lower_name,
 use Rattle.answer_judge.proofs.GivenFacts.{from_joined}
 use Rattle.answer_judge_keys.proofs.GivenSorted.{filter_from, in_has}
 use Rattle.answer_judge_facts.proofs.KeptItems.{has_from_map}
+use Rattle.answer_judge.proofs.HonestTold.{owner_whole}
 use Rattle.answer_judge.proofs.OwnAnswer.{some_data}
 
 -- ---- lists
@@ -80,11 +80,6 @@ pub data Kind (s : Served) (apex : Name) (published : List Dnskey) (g : Group) :
   KeyKind : (present : List Dnskey) → AllByRecursion (Contains published) present → g ≡ key_group apex (keys_ttl s) present → Kind s apex published g
   ZoneKind : IsZoneGroup s.zone g → Kind s apex published g
   ChainKind : (o : Name) → Has (chain_names s) o → g ≡ chain_record s o → Kind s apex published g
-
-pub owner_whole : (n : ℕ) (q : Name) → n ≡ label_count q → signed_owner n q ≡ low q
-owner_whole n q e =
-    ap (λ k. signed_owner k q) e
-    ∙ whole_owner (record { datas = []; labels = label_count q }) q (le-ltb (label_count q) (label_count q) (omega arith))
 
 module _ (apex : Name) (mode : Mode) (hash : Name → List ℕ) (rs : List HandedRr) (servable : IsServable (zone_with apex rs)) (soa_there : has (zone_with apex rs) (low apex) 6 ≡ true) (apex_is : IsName apex) (handed : AllByRecursion IsHanded rs) where
   abbrev z : Zone

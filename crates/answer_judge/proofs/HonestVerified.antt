@@ -18,10 +18,11 @@ use Rattle.messages.specs.Message.{AreOctets, Message, Spelled, data_of, message
 use Rattle.messages.proofs.Lists.{Has, all_at, all_more, found, some_is}
 use Rattle.messages.proofs.ZoneNames.{same_labels}
 use Rattle.answer_scheme.specs.Answers.{Answers}
-use Rattle.answer_judge_keys.specs.Trusted.{fits_key, is_due, is_signature, labels_fit, signs}
-use Rattle.answer_judge.specs.Honest.{IsHonest, covered_in, over_in, rrset_there}
+use Rattle.answer_judge_keys.specs.Trusted.{fits_key, is_due, is_signature, is_usable, labels_fit, signs}
+use Rattle.answer_honest.specs.Honest.{IsHonest, MayBeUsed, over}
 use Rattle.answer_judge_facts.specs.Judged.{trusting}
-use Rattle.answer_judge_keys.specs.Judging.{Handing, key_at, keys_in}
+use Rattle.answer_judge_keys.specs.Judging.{Handing}
+use Rattle.answer_judge_facts.specs.Sought.{Sought}
 use Rattle.answer_judge_facts.specs.Verified.{Trusting, is_verified, rrset_in, verified_by, verified_with, verifies_with}
 use Rattle.answer_judge.proofs.FirstSigns.{opened, read_of}
 use Rattle.answer_judge.proofs.GivenLists.{contained_has}
@@ -122,6 +123,14 @@ timely apex now owner f e = (and_parts (labels_fit apex owner f) (in_time f now)
 pub due_labels : (apex : Name) (now : ℕ) (owner : Name) (f : Fields) → is_due apex now owner f ≡ true → labels_fit apex owner f ≡ true
 due_labels apex now owner f e = (and_parts (labels_fit apex owner f) (in_time f now) (and_parts (labels_fit apex owner f && in_time f now) (same f.signer apex) e).0).0
 
+pub of_apex : (apex : Name) (now : ℕ) (owner : Name) (f : Fields) → is_due apex now owner f ≡ true → same f.signer apex ≡ true
+of_apex apex now owner f e = (and_parts (labels_fit apex owner f && in_time f now) (same f.signer apex) e).1
+
+-- a published key that may sign
+pub record IsSigner (published : List Dnskey) (key : Dnskey) : Type 0 where
+  pub published : Contains published key
+  pub usable : is_usable key ≡ true
+
 -- ---- data in order ascend
 
 abbrev chosen : List ℕ → List (List ℕ) → Bool → Bool
@@ -134,25 +143,6 @@ climb (d ∷ e ∷ ds) h = ap (λ r. chosen e ds (is_lt r)) (h.0 e (inl refl)) �
 
 pub sorted_ascend : (ds : List (List ℕ)) → ascending (sorted_data ds) ≡ true
 sorted_ascend ds = climb (sorted_data ds) (sort_rises (slice_cmp nat_cmp) nat_list_cmp_total ds)
-
--- ---- the RRset that a signature covers in its message
-
-pub rrset_covered : (k : ℕ) (m : List ℕ) (rs : List Spelled) (a b : Name) (u t : ℕ) → u ≡ t → eqb t 48 ≡ false → low a ≡ low b → rrset_there k m rs a u ≡ rrset_in k m rs b t
-unfolding rrset_there
-rrset_covered k m rs a b u t is other h =
-    ap (rrset_there k m rs a) is
-    ∙ ap (λ keys. if keys then sorted_data (map dnskey_data (keys_in m a rs)) else rrset_in k m rs a t) other
-    ∙ rrset_in-owner k m rs a b t h
-
-key_at-owner : (m : List ℕ) (a b : Name) (r : Spelled) → low a ≡ low b → key_at m a r ≡ key_at m b r
-key_at-owner m a b r h = ap (λ here. if here && (r.rtype == 48) && (r.class == 1) then dnskey_of_data (data_of m r) else None) (same-owner r.owner a b h)
-
-keys_in-owner : (m : List ℕ) (rs : List Spelled) (a b : Name) → low a ≡ low b → keys_in m a rs ≡ keys_in m b rs
-keys_in-owner m rs a b h = (λ i. filter_map (λ r. key_at-owner m a b r h i) rs)
-
-pub keys_covered : (k : ℕ) (m : List ℕ) (rs : List Spelled) (a b : Name) (u : ℕ) → u ≡ 48 → low a ≡ low b → rrset_there k m rs a u ≡ sorted_data (map dnskey_data (keys_in m b rs))
-unfolding rrset_there
-keys_covered k m rs a b u is h = ap (rrset_there k m rs a) is ∙ ap (λ keys. sorted_data (map dnskey_data keys)) (keys_in-owner m rs a b h)
 
 -- ---- signed octets are octets
 
@@ -221,21 +211,30 @@ pub record IsOver (Signed : List ℕ → Type 0) (f : Fields) (owner : Name) (it
   pub there : Signed (signed_octets f owner 1 items)
 
 -- its owner is spelled as the signature's
-pub over_signed : (a : Answers) (k : ℕ) (h : Handing) (published : List Dnskey) (Signed : List ℕ → Type 0) (m : List ℕ) (read : Message) → IsHonest a k h published Signed m → message k m ≡ Ok read
-    → (keys : List Dnskey) → ((key : Dnskey) → Has keys key → Contains published key) → (owner : Name) (t : ℕ) (items : List (List ℕ)) → AllByRecursion IsDatum items
-    → (x : Found (trusting a h keys) k m read.records owner t items) → rrset_there k m read.records x.spelled.owner x.by.fields.covered ≡ items → IsOver Signed x.by.fields x.spelled.owner items
-unfolding over_in covered_in
-over_signed a k h published Signed m read honest reads keys trusted owner t items data_are x covers =
+pub over_signed : (a : Answers) (k : ℕ) (h : Handing) (published : List Dnskey) (Signed : List ℕ → Type 0) (sought : List Spelled → Sought) (m : List ℕ) (read : Message) → IsHonest a k h published Signed sought m → message k m ≡ Ok read
+    → (keys : List Dnskey) → ((key : Dnskey) → Has keys key → IsSigner published key) → (owner : Name) (t : ℕ) (items : List (List ℕ)) → AllByRecursion IsDatum items
+    → (x : Found (trusting a h keys) k m read.records owner t items) → (sought read.records).is x.spelled.owner x.by.fields.covered ≡ true → (sought read.records).datas x.spelled.owner x.by.fields.covered ≡ items
+    → IsOver Signed x.by.fields x.spelled.owner items
+over_signed a k h published Signed sought m read honest reads keys signers owner t items data_are x is covers =
     let f : Fields = x.by.fields in
     let r : Spelled = x.spelled in
     let octets : List ℕ = signed_octets f r.owner 1 items in
-    let here : over_in k m read.records r f ≡ octets = ap (signed_octets f r.owner 1) covers in
+    let here : over (sought read.records) r f ≡ octets = ap (signed_octets f r.owner 1) covers in
     let name : IsRead r.owner = (all_at ReadsRecord read.records r (message_read k m read honest.octets_are reads) x.there).owner in
     let there : ReadsFields f = fields_read k m r (f, x.by.signature) honest.octets_are x.by.reads in
     let fits : IsSignable f r.owner 1 items = signable f r.owner items there name.name x.by.some data_are in
     let passes : a.verifies x.by.key octets x.by.signature ≡ true = ap (λ o. a.verifies x.by.key o x.by.signature) (signed_octets-owner f r.owner owner items x.by.owner_is) ∙ x.by.passes in
+    let signer : IsSigner published x.by.key = signers x.by.key x.by.trusted in
+    let used : MayBeUsed k h (sought read.records) m read r f x.by.signature = record {
+      there = contained_has read.records r x.there;
+      rtype_is = x.by.type_is;
+      reads = x.by.reads;
+      timely = timely h.apex h.now owner f x.by.due;
+      signer_is = of_apex h.apex h.now owner f x.by.due;
+      sought_is = is;
+    } in
     record {
       fits = fits;
-      there = subst Signed here (honest.unforged read r f x.by.signature x.by.key reads (contained_has read.records r x.there) x.by.type_is x.by.reads (timely h.apex h.now owner f x.by.due)
-          (trusted x.by.key x.by.trusted) (subst (λ ds. 0 < length ds) (sym covers) x.by.some) (ap (λ o. a.verifies x.by.key o x.by.signature) here ∙ passes));
+      there = subst Signed here (honest.unforged read r f x.by.signature x.by.key reads used signer.published signer.usable
+          (subst (λ ds. 0 < length ds) (sym covers) x.by.some) (ap (λ o. a.verifies x.by.key o x.by.signature) here ∙ passes));
     }

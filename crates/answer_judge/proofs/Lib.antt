@@ -24,6 +24,7 @@ pub mod FirstSigns
 pub mod BothChains
 pub mod JudgeHashes
 pub mod HonestReads
+pub mod HonestTold
 pub mod HonestMade
 pub mod HonestSpelled
 pub mod HonestVerified

@@ -1,4 +1,4 @@
--- Nothing is forged in a message whose signatures were handed out, or pass under no published key.
+-- Nothing is forged in a message whose signatures were signed, or pass under no published key.
 use Rattle.std.proofs.Common.{◌≡◌, ℕ, Bool, true, List, [], ◌∷◌, ◌++◌, Option, Some, Result, Ok, refl, sym, ap, subst, ◌∙◌, inl, inr, ⊎_elim}
 use Rattle.std.specs.Prelude.{Contains, if◌then◌else◌}
 use Rattle.std.specs.List.{AllByRecursion}
@@ -10,26 +10,25 @@ use Rattle.definitions.specs.Name.{Name}
 use Rattle.definitions.specs.Signing.{Fields}
 use Rattle.definitions.proofs.SignedLaws.{pieces}
 use Rattle.messages.specs.declared.error.MessageError.{MessageError}
-use Rattle.messages.specs.HandedRr.{HandedRr}
 use Rattle.messages.specs.Message.{Message, Spelled}
 use Rattle.messages.proofs.Lists.{Has, some_is}
-use Rattle.answer_shared.specs.Made.{HandedOut, groups_in}
-use Rattle.answer_shared.specs.Served.{Group, Served, by_tag}
+use Rattle.answer_shared.specs.Served.{Group}
 use Rattle.answer_shared.specs.Told.{AreRecords, AreSignatures, IsRecord, IsSignature, TellsGroups, fields_for, octets_for}
 use Rattle.answer_judge.proofs.GivenFacts.{from_joined}
 use Rattle.answer_judge.proofs.GivenLists.{contained_has, has_contained}
 use Rattle.answer_judge.proofs.HonestMade.{signed_only}
-use Rattle.answer_judge.specs.Honest.{SignedOf, WasSigned, over_in}
+use Rattle.answer_honest.specs.Honest.{over}
 use Rattle.answer_judge.specs.Splices.{PassesNowhere, PlainSchemeBinds, ToldIsSpliced, SplicesAreHonest, WasCarried}
 
 pub splices_are_honest : SplicesAreHonest
-splices_are_honest a k h published serve apex outs m binds octets spliced = record {
+splices_are_honest a k h published Signed sought m binds octets spliced = record {
   octets_are = octets;
-  unforged = λ read r f signature key reads there type_is fields time inside some passes.
+  unforged = λ read r f signature key reads used inside usable some passes.
+      let made : List ℕ = over (sought read.records) r f in
       ⊎_elim
-      (λ (c : WasCarried a (WasSigned serve apex outs) signature). subst (WasSigned serve apex outs) (binds c.key key c.octets (over_in k m read.records r f) signature c.passes passes) c.there)
-      (λ (n : PassesNowhere a published signature). absurd (false≢true (sym (n key (over_in k m read.records r f) inside) ∙ passes)))
-      (spliced read r f signature reads there type_is fields time);
+      (λ (c : WasCarried a Signed signature). subst Signed (binds c.key key c.octets made signature c.passes passes) c.there)
+      (λ (n : PassesNowhere a published signature). absurd (false≢true (sym (n key made inside) ∙ passes)))
+      (spliced read r f signature reads used.there used.rtype_is used.reads used.timely);
 }
 
 pub plain_scheme_binds : PlainSchemeBinds
@@ -37,24 +36,6 @@ plain_scheme_binds digest hash j k octets others signature p q =
     let first = (bytes_decides signature (to_be_bytes w16 (key_tag j) ++ octets)).0 p in
     let second = (bytes_decides signature (to_be_bytes w16 (key_tag k) ++ others)).0 q in
     (pieces (to_be_bytes w16 (key_tag j)) (to_be_bytes w16 (key_tag k)) octets others refl (sym first ∙ second)).1
-
--- ---- what was handed out
-
--- what a key signed of an RRset of it was signed
-pub was_signed : (serve : List HandedRr → Served) (apex : Name) (life : ℕ) (outs : List HandedOut) (out : HandedOut) (g : Group) (key : Dnskey) → Contains outs out → Has (groups_in serve apex out) g → g.signed ≡ true → WasSigned serve apex outs (octets_for apex out.at life g key)
-was_signed serve apex life outs out g key there inside signed = SignedOf (record {
-  out = out;
-  there = there;
-  group = g;
-  inside = contained_has (groups_in serve apex out) g inside;
-  signed = signed;
-  fields = fields_for apex out.at life g key;
-  covered = refl;
-  labels = refl;
-  inception = refl;
-  signer = refl;
-  is = refl;
-})
 
 -- ---- signatures of a message that tells it
 
@@ -110,15 +91,15 @@ pub ok_is : (x y : Message) → message_ok x ≡ message_ok y → x ≡ y
 ok_is x y e = cc
 
 pub told_is_spliced : ToldIsSpliced
-told_is_spliced a k now serve apex life published outs out asked m there types tells read r f signature reads inside kind fields time =
+told_is_spliced a k now published signers Signed apex at life asked groups m types signed tells read r f signature reads inside kind fields time =
     let same : read ≡ tells.read = ok_is read tells.read (sym reads ∙ tells.reads) in
     let here : Has tells.read.records r = subst (λ (x : Message). Has x.records r) same (has_contained read.records r inside) in
-    let x = signature_of a.verifies k m tells.read.records apex out.at life (by_tag out.signers) (groups_in serve apex out) r types tells.groups_are here kind in
-    let one : f_and (f, signature) ≡ f_and (fields_for apex out.at life x.group x.key, x.is.signature) = sym fields ∙ x.is.fields_are in
+    let x = signature_of a.verifies k m tells.read.records apex at life signers groups r types tells.groups_are here kind in
+    let one : f_and (f, signature) ≡ f_and (fields_for apex at life x.group x.key, x.is.signature) = sym fields ∙ x.is.fields_are in
     let octets : signature ≡ x.is.signature = ap (λ (y : Fields × List ℕ). y.1) (some_is _ _ one) in
     inl (record {
       key = x.key;
-      octets = octets_for apex out.at life x.group x.key;
-      there = was_signed serve apex life outs out x.group x.key there x.inside x.signed;
-      passes = ap (a.verifies x.key (octets_for apex out.at life x.group x.key)) octets ∙ x.is.passes;
+      octets = octets_for apex at life x.group x.key;
+      there = signed x.group x.key (contained_has groups x.group x.inside) x.signed;
+      passes = ap (a.verifies x.key (octets_for apex at life x.group x.key)) octets ∙ x.is.passes;
     })

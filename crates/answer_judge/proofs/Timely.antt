@@ -15,7 +15,7 @@ use Rattle.messages.proofs.Lists.{any_from}
 use Rattle.answer_judge_rules.specs.Hashes.{hash_among}
 use Rattle.answer_scheme.specs.Answers.{Answers}
 use Rattle.answer_judge_keys.specs.Trusted.{is_signature, is_trusted, is_usable}
-use Rattle.answer_judge.specs.Honest.{RefusesUntimely, has_timely, holds_now}
+use Rattle.answer_judge.specs.Timely.{RefusesUntimely, has_timely, holds_now}
 use Rattle.answer_judge_facts.specs.Judged.{AnswersAs, decided_by, judged, keys_of, trusting}
 use Rattle.answer_judge_keys.specs.Judging.{Answer, Handing, Refuses, Says}
 use Rattle.answer_judge_facts.specs.Verified.{Trusting, hash_link_at, is_hash_alone, is_hash_link, is_link, is_verified, link_at, rrset_in, verified_by, verified_facts, verified_hash_links, verified_links, verified_rrset}

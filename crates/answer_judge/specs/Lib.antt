@@ -4,7 +4,8 @@ pub mod Stages
 pub mod FirstSignature
 pub mod OwnFacts
 pub mod BothChains
-pub mod Honest
+pub mod NoFalse
+pub mod Timely
 pub mod ForgedAtAll
 pub mod Splices
 pub mod OwnMessages

@@ -1,41 +1,39 @@
--- Nothing is forged in what a zone gave, under whatever scheme: its signatures are over the RRsets that stand beside them.
-use Rattle.std.specs.Prelude.{◌<◌, ℕ, List, Contains}
+-- Nothing is forged in what a publisher gave, under whatever scheme: its signatures are over the RRsets that stand beside them.
+use Rattle.std.specs.Prelude.{◌≡◌, ◌<◌, ℕ, ◌+◌, ◌%◌, List, Contains}
 use Rattle.std.specs.List.{AllByRecursion}
 use Rattle.definitions.specs.Dnskey.{Dnskey}
-use Rattle.definitions.specs.Name.{Name}
+use Rattle.definitions.specs.Name.{Name, IsName}
 use Rattle.definitions.specs.ZoneChain.{Mode}
+use Rattle.messages.specs.Handed.{IsHanded}
 use Rattle.messages.specs.HandedRr.{HandedRr}
-use Rattle.messages.specs.Message.{AreOctets, Asked}
+use Rattle.messages.specs.Message.{AreOctets}
 use Rattle.answer_scheme.specs.Answers.{Answers}
-use Rattle.answer_shared.specs.Accepting.{sorted_records}
-use Rattle.answer_shared.specs.Hashing.{hash_in}
-use Rattle.answer_shared.specs.Made.{Content, HandedOut, OfKeys, OfZone}
-use Rattle.answer_shared.specs.Served.{Served, served_of}
 use Rattle.answer_shared.specs.Told.{TellsKeys}
 use Rattle.answer_judge_keys.specs.Judging.{Handing}
+use Rattle.answer_judge_facts.specs.Times.{Times}
 use Rattle.answer_judge_facts.specs.Verified.{Trusting}
-use Rattle.answer_judge.specs.Honest.{IsHonest, WasSigned}
+use Rattle.answer_honest.specs.Honest.{IsHonest, Signing, WasSigned, sought_of_answer, sought_of_keys}
 use Rattle.answer_judge.specs.OwnFacts.{TellsZone}
 
--- a message of a zone with these records
-abbrev pub message_of : Content → List Dnskey → ℕ → List HandedRr → HandedOut
-message_of content signers at rs = record { content = content; signers = signers; at = at; records = rs }
+-- records that are served with a chain, signed from a second on for so many seconds
+abbrev pub signing_of : Mode → List HandedRr → ℕ → ℕ → Signing
+signing_of mode rs at life = record {
+  version = record { records = rs; mode = mode };
+  times = record { inception = at % 4294967296; expiration = (at + life) % 4294967296 };
+}
 
--- octets that tell the DNSKEY answer of some keys
+-- octets that tell the DNSKEY answer of some published keys
 abbrev pub OwnKeysAreHonest : Type 0
 OwnKeysAreHonest =
-    (a : Answers) (k ttl : ℕ) (apex : Name) (present signers : List Dnskey) (at life : ℕ) (bytes : List ℕ) (h : Handing) (published : List Dnskey) (serve : List HandedRr → Served) (rs : List HandedRr) (outs : List HandedOut)
-    → AreOctets bytes → AllByRecursion (λ key. key.flags < 65536) present → TellsKeys a.verifies k ttl apex present signers at life bytes
-    → Contains outs (message_of (OfKeys present) signers at rs)
-    → IsHonest a k h published (WasSigned serve apex outs) bytes
-
--- how a zone is served under what is verified with
-abbrev pub serves : Trusting → Mode → List HandedRr → Served
-serves w mode rs = served_of w.apex mode (hash_in w.answers.hash mode) (sorted_records rs)
+    (a : Answers) (k ttl : ℕ) (h : Handing) (present signers published : List Dnskey) (at life : ℕ) (signings : List Signing)
+    → IsName h.apex → AreOctets h.dnskey_bytes → AllByRecursion (λ key. key.flags < 65536) present → AllByRecursion (Contains published) present
+    → TellsKeys a.verifies k ttl h.apex present signers at life h.dnskey_bytes
+    → IsHonest a k h published (WasSigned a h.apex published signings) (sought_of_keys h) h.dnskey_bytes
 
 -- octets that tell an accepted zone's answer to an allowed question
 abbrev pub OwnAnswersAreHonest : Type 0
 OwnAnswersAreHonest =
-    (w : Trusting) (k : ℕ) (mode : Mode) (rs : List HandedRr) (asked : Asked) (bytes : List ℕ) (h : Handing) (published signers : List Dnskey) (outs : List HandedOut)
-    → AreOctets bytes → (t : TellsZone w k mode rs asked bytes) → Contains outs (message_of (OfZone asked) signers t.at rs)
-    → IsHonest w.answers k h published (WasSigned (serves w mode) w.apex outs) bytes
+    (w : Trusting) (k : ℕ) (mode : Mode) (rs : List HandedRr) (h : Handing) (published : List Dnskey) (signings : List Signing)
+    → h.apex ≡ w.apex → AreOctets h.answer_bytes → AllByRecursion IsHanded rs → (t : TellsZone w k mode rs h.asked h.answer_bytes)
+    → Contains signings (signing_of mode rs t.at t.life)
+    → IsHonest w.answers k h published (WasSigned w.answers h.apex published signings) (sought_of_answer k h) h.answer_bytes

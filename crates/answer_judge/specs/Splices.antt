@@ -1,4 +1,4 @@
--- Messages in which nothing is forged: put together from what was handed out, and from what strangers made.
+-- Messages in which nothing is forged: put together from what was signed, and from what strangers made.
 use Rattle.std.specs.Prelude.{◌≡◌, ◌⊎◌, ℕ, Bool, true, false, List, ◌++◌, Contains, Option, Some, Ok}
 use Rattle.std.specs.Int.{w16, to_be_bytes}
 use Rattle.std.specs.Str.{bytes_eq}
@@ -6,13 +6,12 @@ use Rattle.definitions.specs.Dnskey.{Dnskey, key_tag}
 use Rattle.definitions.specs.Signing.{Fields, in_time}
 use Rattle.definitions.specs.Name.{Name}
 use Rattle.std.specs.List.{AllByRecursion}
-use Rattle.messages.specs.HandedRr.{HandedRr}
 use Rattle.messages.specs.Message.{AreOctets, Asked, Message, Spelled, message, rrsig_at}
-use Rattle.answer_shared.specs.Made.{HandedOut, groups_in}
-use Rattle.answer_shared.specs.Served.{Served, by_tag}
-use Rattle.answer_shared.specs.Told.{Tells}
+use Rattle.answer_shared.specs.Served.{Group}
+use Rattle.answer_shared.specs.Told.{Tells, octets_for}
 use Rattle.answer_scheme.specs.Answers.{Answers}
-use Rattle.answer_judge.specs.Honest.{IsHonest, WasSigned}
+use Rattle.answer_honest.specs.Honest.{IsHonest}
+use Rattle.answer_judge_facts.specs.Sought.{Sought}
 use Rattle.answer_judge_keys.specs.Judging.{Handing}
 
 -- a signature passes over one string of octets alone, whatever the key
@@ -40,8 +39,8 @@ IsSpliced a k now published Signed m =
 
 abbrev pub SplicesAreHonest : Type 0
 SplicesAreHonest =
-    (a : Answers) (k : ℕ) (h : Handing) (published : List Dnskey) (serve : List HandedRr → Served) (apex : Name) (outs : List HandedOut) (m : List ℕ)
-    → Binds a → AreOctets m → IsSpliced a k h.now published (WasSigned serve apex outs) m → IsHonest a k h published (WasSigned serve apex outs) m
+    (a : Answers) (k : ℕ) (h : Handing) (published : List Dnskey) (Signed : List ℕ → Type 0) (sought : List Spelled → Sought) (m : List ℕ)
+    → Binds a → AreOctets m → IsSpliced a k h.now published Signed m → IsHonest a k h published Signed sought m
 
 -- a scheme whose signatures are the tag of the key and the octets themselves
 abbrev pub plain_verifies : Dnskey → List ℕ → List ℕ → Bool
@@ -54,11 +53,14 @@ plain_answers digest hash = record { verifies = plain_verifies; digest = digest;
 abbrev pub PlainSchemeBinds : Type 0
 PlainSchemeBinds = (digest : ℕ → List ℕ → Option (List ℕ)) (hash : List ℕ → ℕ → ℕ → List ℕ → Option (List ℕ)) → Binds (plain_answers digest hash)
 
--- Bytes that tell a message that was handed out are such, whatever the case of owners, the TTLs and the compression; no RRset in
--- it is one of signatures.
+-- each RRset that has signatures was signed, whichever key signs it
+abbrev pub AreSigned : (List ℕ → Type 0) → Name → ℕ → ℕ → List Group → Type 0
+AreSigned Signed apex at life groups = (g : Group) (key : Dnskey) → Contains groups g → g.signed ≡ true → Signed (octets_for apex at life g key)
+
+-- Bytes that tell RRsets which were signed are such, whatever the case of owners, the TTLs and the compression; no RRset in it is
+-- one of signatures.
 abbrev pub ToldIsSpliced : Type 0
 ToldIsSpliced =
-    (a : Answers) (k now : ℕ) (serve : List HandedRr → Served) (apex : Name) (life : ℕ) (published : List Dnskey) (outs : List HandedOut) (out : HandedOut) (asked : Asked) (m : List ℕ)
-    → Contains outs out → AllByRecursion (λ g. g.rtype ≡ 46 → ⊥) (groups_in serve apex out)
-    → Tells a.verifies k apex out.at life (by_tag out.signers) asked (groups_in serve apex out) m
-    → IsSpliced a k now published (WasSigned serve apex outs) m
+    (a : Answers) (k now : ℕ) (published signers : List Dnskey) (Signed : List ℕ → Type 0) (apex : Name) (at life : ℕ) (asked : Asked) (groups : List Group) (m : List ℕ)
+    → AllByRecursion (λ g. g.rtype ≡ 46 → ⊥) groups → AreSigned Signed apex at life groups
+    → Tells a.verifies k apex at life signers asked groups m → IsSpliced a k now published Signed m

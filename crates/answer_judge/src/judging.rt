@@ -7,7 +7,8 @@ ghost use Rattle.answer_judge_facts.specs.Counted.{Counts, hashes_due, verificat
 ghost use Rattle.messages.specs.Message.{Asked, message};
 ghost use Rattle.messages.specs.View.{Gives};
 ghost use Rattle.answer_judge.specs.Beyond.{SaysBeyond};
-ghost use Rattle.answer_judge.specs.Honest.{AnswersHonest, RefusesUntimely};
+ghost use Rattle.answer_honest.specs.Honest.{AnswersHonest};
+ghost use Rattle.answer_judge.specs.Timely.{RefusesUntimely};
 ghost use Rattle.answer_judge_facts.specs.Judged.{judged, said, AnswersAs};
 ghost use Rattle.answer_judge.specs.Meeting.{AnswersGiven, JudgesSo};
 ghost use Rattle.answer_judge_keys.specs.Judging.{Judges, RefusesFirst, answer_of, handed, verifications_of, hashes_of, is_first, message_refusal, same_question, hash_bound, verification_bound};

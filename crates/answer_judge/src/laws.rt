@@ -3,10 +3,11 @@
 ghost use Rattle.answer_judge.specs.BothChains.{ChainsSayTheSame};
 ghost use Rattle.answer_judge.specs.FirstSignature.{SaysFirst};
 ghost use Rattle.answer_judge.specs.ForgedAtAll.{AtAllIsEnough};
-ghost use Rattle.answer_judge.specs.Honest.{HonestOfOneZone, NoFalseVerdict, UntimelyIsRefused};
+ghost use Rattle.answer_judge.specs.NoFalse.{NoFalseVerdict};
 ghost use Rattle.answer_judge.specs.OwnFacts.{ToldFactsAreOwn};
 ghost use Rattle.answer_judge.specs.OwnMessages.{OwnAnswersAreHonest, OwnKeysAreHonest};
 ghost use Rattle.answer_judge.specs.Splices.{PlainSchemeBinds, SplicesAreHonest, ToldIsSpliced};
+ghost use Rattle.answer_judge.specs.Timely.{UntimelyIsRefused};
 
 /// An RRset of a message is verified exactly where some signature of it is the first that verifies it. That signature
 /// covers the RRset's type, is the apex's and in time, has a label count that fits the owner, passes under a key, and no
@@ -30,15 +31,16 @@ pub fn chains_say_the_same()
     ensures { ChainsSayTheSame }
 {}
 
-/// On messages in which nothing is forged a judge says the verdict of a version that the zone had, or refuses, beside any DS
-/// set that isn't empty. The zone never changed, or signatures must be of one moment and at one moment the zone had one
-/// version: of records of two versions no verdict is made that neither has.
+/// On messages in which nothing is forged a judge says the verdict of a version that the zone had, in which the name is no alias,
+/// or refuses, beside any DS set that isn't empty. The zone never changed, or signatures must be of one moment and at one moment
+/// the zone had one version: of records of two versions no verdict is made that neither has.
 ///
-/// Nothing is forged where each signature that holds at the moment and passes under a key that the zone published, over the
-/// RRset that it covers in its message, is over octets that were signed in the zone's life, and where each key of the DNSKEY
-/// answer whose digest the DS set has is one that the zone published. So messages may be spliced of any answers that the zone
-/// gave, under any of its keys; signatures may be moved to other owners and made by strangers; keys of strangers may stand in
-/// the DNSKEY answer, and sign it; what is out of its times may be forged (RFC 4035, 5; RFC 5155, 8).
+/// A zone is one in order: nothing stands beside a CNAME, nothing below a DNAME (RFC 1034, 3.6.2; RFC 6672, 2.4). Whoever signs
+/// and serves it plays no part. Nothing is forged where each signature that a judge may use is over an RRset that was signed: the
+/// apex's, in time, of an RRset that is sought, under a published key that may sign; and where each key that the DS set trusts is
+/// published. So messages may be spliced of any answers that the zone gave, under any of its keys; signatures may be moved to
+/// other owners and made by strangers; keys of strangers may stand in the DNSKEY answer, and sign it; what is out of its times
+/// may be forged (RFC 4035, 5; RFC 5155, 8).
 pub fn no_bytes_bring_a_false_verdict()
     ensures { NoFalseVerdict }
 {}
@@ -47,12 +49,6 @@ pub fn no_bytes_bring_a_false_verdict()
 /// is asked, and more than a scheme can promise whose signatures are shorter than what they are made over.
 pub fn nothing_forged_at_all_is_enough()
     ensures { AtAllIsEnough }
-{}
-
-/// On messages of a zone that does not change, in which nothing is forged, a judge says the zone's verdict or refuses, whether
-/// or not signatures must be of one moment.
-pub fn of_one_zone_its_verdict()
-    ensures { HonestOfOneZone }
 {}
 
 /// Beside a DS set that isn't empty a judge refuses where no signature of the one message holds at the moment, or none of the

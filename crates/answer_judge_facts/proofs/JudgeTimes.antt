@@ -153,7 +153,7 @@ alike_times w k m rs a b t u h e =
     ∙ ap (first_times w k m rs b) e
 
 -- an RRset that is sought is that of a record
-sought-owner : (k : ℕ) (m : List ℕ) (apex : Name) (rs : List Spelled) (q : Name) (t : ℕ) (a b : Name) (u : ℕ) → low a ≡ low b → (answer_sought k m apex rs q t).is a u ≡ (answer_sought k m apex rs q t).is b u
+pub sought-owner : (k : ℕ) (m : List ℕ) (apex : Name) (rs : List Spelled) (q : Name) (t : ℕ) (a b : Name) (u : ℕ) → low a ≡ low b → (answer_sought k m apex rs q t).is a u ≡ (answer_sought k m apex rs q t).is b u
 sought-owner k m apex rs q t a b u h = λ i.
     ((47 == u) && (above-owner apex a b h i && (length (rrset_in-owner k m rs a b 47 h i) == 1)))
     || ((50 == u) && (spells-owner apex a b h i && one_known (rrset_in-owner k m rs a b 50 h i)))
