@@ -1,14 +1,14 @@
 -- Of a zone that doesn't change its verdict is said, or none.
-use Rattle.std.proofs.Common.{◌≡◌, List, [], ◌∷◌, sym, ap, ◌∙◌}
+use Rattle.std.proofs.Common.{◌≡◌, zero, suc, List, [], ◌∷◌, sym, ap, ◌∙◌, arith}
 use Rattle.std.specs.Prelude.{Contains}
-use Rattle.messages.proofs.Lists.{Has}
 use Rattle.answer_judge_keys.specs.Judging.{Answer, Handing, Says, Refuses}
 use Rattle.answer_honest.specs.Honest.{IsSaidByOne, SaysAtMost, SaysOneOf, is_alias_in, verdict_of}
 use Rattle.answer_honest.specs.OneZone.{HonestOfOneZone}
 use Rattle.answer_honest.specs.Versions.{Version}
 
 only : {A : Type 0} (x y : A) → Contains (x ∷ []) y → x ≡ y
-only x y c = cc
+only x y (zero, l, e) = e
+only x y (suc n, l, e) = absurd (omega (arith, l))
 
 at_most : (h : Handing) (v : Version) (answer : Answer) → SaysOneOf h (v ∷ []) answer → SaysAtMost h v answer
 at_most h v (Says w) s =

@@ -1,4 +1,4 @@
--- What was signed in a zone's life: the RRset of its keys, one of its RRsets, or one of its chain.
+-- What a publisher signs: the RRset of its keys, one of the zone's RRsets, or one of its chain.
 use Rattle.std.proofs.Common.{◌≡◌, ℕ, ◌<◌, Bool, true, false, ◌&&◌, ◌||◌, not, List, [], ◌∷◌, ◌++◌, map, length, Option, Some, None, refl, sym, ap, subst, ◌∙◌, inl, inr, arith, lit<}
 use Rattle.std.specs.Prelude.{◌==◌, Contains, if◌then◌else◌}
 use Rattle.std.specs.List.{AllByRecursion, filter, flat_map, list_any}
@@ -8,65 +8,40 @@ use Rattle.definitions.specs.Dnskey.{Dnskey}
 use Rattle.definitions.specs.Name.{Name, IsName, labels_eq, low, at_or_above, strictly_above}
 use Rattle.definitions.specs.Signing.{label_count, signed_owner}
 use Rattle.definitions.specs.Zone.{Zone, Rr, Verdict, Records, StarRecords, Delegated, Open, apex_of, has, is_of, is_delegation, is_live, exists, is_open, ce, cut, data_at, star_under, verdict}
-use Rattle.definitions.specs.ZoneChain.{Mode, Nsec, Nsec3, hashed_names, nsec_names, optout_of}
+use Rattle.definitions.specs.ZoneChain.{Mode, Nsec, Nsec3, hash_cmp, hashed_names, nsec_names, nsec3_names, optout_of}
 use Rattle.definitions.proofs.Members.{any_of}
 use Rattle.definitions.proofs.ZoneNames.{above_itself, above_lowered, low-low}
 use Rattle.denial_nsec3_hash.specs.Hashing.{FitsName}
 use Rattle.denial_laws.specs.Truth.{IsServable, is_signed}
 use Rattle.denial_laws.proofs.NameFacts.{strictly_shorter}
-use Rattle.denial_laws.proofs.OwnRrset.{own_records_true, own_star_true}
+use Rattle.denial_laws.proofs.OwnRrset.{own_records_true, own_star_owner, own_star_true}
 use Rattle.denial_laws.proofs.VerdictView.{View, Signed, Missing, Cut, Starred, Unstarred, Gone, view}
 use Rattle.denial_laws.proofs.ZoneCuts.{IsCut, cut_is, cut_live, delegation_low, uncut_live}
 use Rattle.messages.specs.Handed.{IsHanded}
 use Rattle.messages.specs.HandedRr.{HandedRr}
 use Rattle.messages.proofs.Lists.{Has, all_at}
-use Rattle.answer_shared.specs.Accepting.{rr_of, zone_with}
-use Rattle.answer_shared.specs.Made.{Content, OfKeys, OfZone, HandedOut, IsOf, groups_in, groups_of, made, made_in, made_of}
+use Rattle.answer_shared.specs.Accepting.{rr_of, sorted_records, zone_of, zone_with}
+use Rattle.answer_shared.specs.Chainable.{HasChain}
+use Rattle.answer_shared.specs.Hashing.{Hasher, hash_in}
+use Rattle.answer_shared.specs.Made.{Content, OfKeys, OfZone, IsOf, groups_of}
 use Rattle.answer_shared.specs.Served.{Group, Served, ahead, ahead_open, chain_names, chain_record, expanded, if_any, key_group, keys_ttl, owner_among, proofs_of, rrset, served_of, served_owner, soa, speaks_for, spoken, under, unsigned_ns}
-use Rattle.answer_shared.specs.Told.{octets_for}
 use Rattle.answer_shared.proofs.HashedLinks.{apex_spelled}
 use Rattle.answer_shared.proofs.Servable.{asked_inside}
 use Rattle.answer_shared.proofs.ZoneCutNames.{cut_name}
 use Rattle.answer_shared.proofs.ZoneData.{label_count-low, low-owner_among}
 use Rattle.answer_shared.proofs.ZoneNaming.{chain_named, first_name, lower_name, owner_name}
 use Rattle.answer_judge.proofs.GivenFacts.{from_joined}
-use Rattle.answer_judge_keys.proofs.GivenSorted.{filter_from, in_has}
+use Rattle.answer_judge.proofs.GivenLists.{contained_has}
+use Rattle.answer_judge_keys.proofs.GivenSorted.{filter_from, in_has, sorted_from}
 use Rattle.answer_judge_facts.proofs.KeptItems.{has_from_map}
 use Rattle.answer_judge.proofs.HonestTold.{owner_whole}
 use Rattle.answer_judge.proofs.OwnAnswer.{some_data}
 
 -- ---- lists
 
-has_from_parts : {A B : Type 0} (f : A → List B) (xs : List A) (y : B) → Has (flat_map f xs) y → (x : A) × Has xs x × Has (f x) y
-has_from_parts f [] y h = absurd h
-has_from_parts f (x ∷ xs) y h = elim (from_joined (f x) (flat_map f xs) y h) [
-  | inl here ↦ (x, inl refl, here)
-  | inr later ↦ let r = has_from_parts f xs y later in (r.0, inr r.1, r.2)
-]
-
--- ---- what was made
-
--- octets of a signature over an RRset of a message that was handed out
-pub record IsMade (serve : List HandedRr → Served) (apex : Name) (life : ℕ) (outs : List HandedOut) (octets : List ℕ) : Type 0 where
-  pub out : HandedOut
-  pub there : Has outs out
-  pub group : Group
-  pub inside : Has (groups_in serve apex out) group
-  pub signed : group.signed ≡ true
-  pub key : Dnskey
-  pub is : octets ≡ octets_for apex out.at life group key
-
 pub signed_only : {A : Type 0} (b : Bool) (xs : List A) (x : A) → Has (if b then xs else []) x → (b ≡ true) × Has xs x
 signed_only true xs x h = (refl, h)
 signed_only false xs x h = absurd h
-
-pub is_made : (serve : List HandedRr → Served) (apex : Name) (life : ℕ) (outs : List HandedOut) (octets : List ℕ) → Has (made serve apex life outs) octets → IsMade serve apex life outs octets
-is_made serve apex life outs octets h =
-    let o = has_from_parts (made_in serve apex life) outs octets h in
-    let g = has_from_parts (made_of apex o.0.at life o.0.signers) (groups_in serve apex o.0) octets o.2 in
-    let k = signed_only g.0.signed (map (octets_for apex o.0.at life g.0) o.0.signers) octets g.2 in
-    let x = has_from_map (octets_for apex o.0.at life g.0) o.0.signers octets k.1 in
-    record { out = o.0; there = o.1; group = g.0; inside = g.1; signed = k.0; key = x.0; is = x.2 }
 
 -- ---- kinds of RRsets
 
@@ -75,6 +50,7 @@ pub record IsZoneGroup (z : Zone) (g : Group) : Type 0 where
   pub named : IsName g.owner
   pub signed : is_signed z (signed_owner (label_count g.source) g.owner) g.rtype ≡ true
   pub datas : g.datas ≡ data_at z (signed_owner (label_count g.source) g.owner) g.rtype
+  pub source_is : signed_owner (label_count g.source) g.owner ≡ low g.source
 
 pub data Kind (s : Served) (apex : Name) (published : List Dnskey) (g : Group) : Type 0 where
   KeyKind : (present : List Dnskey) → AllByRecursion (Contains published) present → g ≡ key_group apex (keys_ttl s) present → Kind s apex published g
@@ -102,6 +78,7 @@ module _ (apex : Name) (mode : Mode) (hash : Name → List ℕ) (rs : List Hande
         named = subst IsName (sym e) (owner_name rs o t handed name);
         signed = ap (λ n. is_signed z n t) is ∙ h;
         datas = ap (λ n. data_at z n t) (sym is);
+        source_is = is ∙ sym lower;
       }
 
   none_above_apex : (d : Name) → is_delegation z d ≡ true → strictly_above d (low apex) ≡ true → ⊥
@@ -132,6 +109,7 @@ module _ (apex : Name) (mode : Mode) (hash : Name → List ℕ) (rs : List Hande
             named = name;
             signed = ap (λ n. is_signed z (signed_owner n q) t) (label_count-low q) ∙ r.signed;
             datas = r.datas ∙ ap (λ n. data_at z (signed_owner n q) t) (sym (label_count-low q));
+            source_is = owner_whole (label_count (low q)) q (label_count-low q) ∙ sym (low-low q);
           }),
           tt,
         )
@@ -139,7 +117,9 @@ module _ (apex : Name) (mode : Mode) (hash : Name → List ℕ) (rs : List Hande
     star_parts : (e : Name) → exists z (low q) ≡ false → ce z (low q) ≡ Some e → is_signed z (star_under e) t ≡ true → Parts (StarRecords (data_at z (star_under e) t))
     star_parts e x c h =
         let r = own_star_true z q e t x c h in
-        let part : Part (under q (rrset s (star_under e) t)) = λ _. record { named = name; signed = r.signed; datas = r.datas } in
+        let owner : signed_owner (length e) q ≡ star_under e = own_star_owner z q e t x c h in
+        let lower : low (star_under e) ≡ star_under e = ap star_under (ce_lowered z (low q) e (low-low q) c) in
+        let part : Part (under q (rrset s (star_under e) t)) = λ _. record { named = name; signed = r.signed; datas = r.datas; source_is = owner ∙ sym lower } in
         subst (λ (o : Option Name). AllByRecursion Part (elim o as (λ _. List Group) [ None ↦ [] | Some n ↦ expanded s (star_under n) q t ])) (sym c) (part, tt)
 
     -- NS of a delegation is not signed
@@ -276,3 +256,11 @@ kind_roomy apex mode hash rs apex_is handed fits published g signed (KeyKind pre
     subst IsRoomy (sym e) (record { small = lit< tt; named = apex_is; some = ltb-true _ _ (ap (λ (x : Group). x.signed) (sym e) ∙ signed) })
 kind_roomy apex mode hash rs apex_is handed fits published g signed (ZoneKind is) = zone_roomy apex rs handed g is
 kind_roomy apex mode hash rs apex_is handed fits published g signed (ChainKind o i e) = subst IsRoomy (sym e) (chain_roomy apex mode hash rs handed fits o i)
+
+-- an accepted zone's hashes fit names
+pub chain_fits : (hash : Hasher) (apex : Name) (mode : Mode) (rs : List HandedRr) → HasChain hash mode (zone_of apex rs) → ChainFits apex mode (hash_in hash mode) (sorted_records rs)
+chain_fits hash apex Nsec rs c = tt
+chain_fits hash apex (Nsec3 iterations salt optout) rs c = λ o i.
+    let name : Name → List ℕ = hash_in hash (Nsec3 iterations salt optout) in
+    let inside : Has (nsec3_names (zone_of apex rs) optout) o = sorted_from (λ x y. hash_cmp (name x) (name y)) (nsec3_names (zone_of apex rs) optout) o i in
+    c.fit o (contained_has (nsec3_names (zone_of apex rs) optout) o inside)

@@ -39,7 +39,7 @@ module _ (a : Answers) (h : Handing) (short : h.limit < 65536) where
         counts = subst (Counts answer verifications) (λ i. counted_then (tries_in_bytes a pointer_limit h) (sym p i) (sym q i)) tried;
         hash_counts = subst (Counts answer hashes) (λ i. counted_then (hashes_in_bytes a pointer_limit h) (sym p i) (sym q i)) hashed;
         given = answers_given a pointer_limit h answer short exact;
-        honest = answers_honest a pointer_limit h answer short exact;
+        honest = answers_honest a pointer_limit h answer exact;
         timely = refuses_untimely a pointer_limit h answer exact;
       }
 

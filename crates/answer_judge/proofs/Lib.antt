@@ -39,5 +39,6 @@ pub mod HonestJudged
 pub mod Timely
 pub mod Spliced
 pub mod ForgedAtAll
+pub mod HonestOwn
 pub mod OwnMessages
 pub mod ToldShort

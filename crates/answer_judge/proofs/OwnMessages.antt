@@ -1,37 +1,45 @@
--- Nothing is forged in what a zone gave: each of its signatures is over the RRset that it covers.
-use Rattle.std.proofs.Common.{◌≡◌, ℕ, Bool, true, false, ◌&&◌, List, [], ◌∷◌, ◌++◌, map, Option, Some, None, eqb, refl, sym, ap, subst, ◌∙◌, inl, inr}
-use Rattle.std.specs.Prelude.{◌==◌, if◌then◌else◌}
+-- Nothing is forged in what a publisher gave: each of its signatures is over the RRset that it covers.
+use Rattle.std.proofs.Common.{◌≡◌, ℕ, Bool, true, false, ◌&&◌, List, [], ◌∷◌, ◌++◌, map, Option, Some, None, eqb, length, ◌<◌, refl, sym, ap, subst, ◌∙◌, inl, inr, arith, lit<}
+use Rattle.std.specs.Prelude.{◌==◌, Contains, if◌then◌else◌}
 use Rattle.std.specs.List.{AllByRecursion, filter}
 use Rattle.std.proofs.lemmas.Bool.{false≢true}
-use Rattle.definitions.specs.Dnskey.{dnskey_data}
+use Rattle.definitions.specs.Dnskey.{Dnskey, dnskey_data}
 use Rattle.definitions.specs.Name.{Name, labels_eq, low}
-use Rattle.definitions.specs.Signing.{Fields, label_count, signed_octets}
+use Rattle.definitions.specs.Signing.{Fields, signed_octets}
 use Rattle.definitions.specs.Zone.{Verdict, Records, NoType, NoName, StarRecords, StarNoType, Delegated, Open, Unsigned, Rr, apex_of, ce, cut, has, is_of, sorted_data, star_under, verdict}
 use Rattle.definitions.specs.ZoneChain.{Mode, Nsec, Nsec3, optout_of}
 use Rattle.messages.specs.HandedRr.{HandedRr}
-use Rattle.messages.specs.Message.{Asked, Message, Spelled}
-use Rattle.messages.proofs.Lists.{Has, all_at, all_more, eqb-back, some_is}
-use Rattle.answer_shared.specs.Accepting.{sorted_records, zone_of}
+use Rattle.messages.specs.Handed.{IsHanded}
+use Rattle.messages.specs.Message.{AreOctets, Asked, Message, Spelled}
+use Rattle.messages.specs.WrittenLaws.{IsQuestion}
+use Rattle.messages.proofs.Lists.{Has, all_at, all_more, all_sorted, eqb-back, some_is}
+use Rattle.answer_shared.specs.Accepting.{record_cmp, soas, sorted_records, zone_of}
 use Rattle.answer_shared.specs.Hashing.{hash_in}
-use Rattle.answer_shared.specs.Made.{OfKeys, OfZone}
-use Rattle.answer_shared.specs.Served.{Group, Served, ahead, ahead_open, answer_groups, by_tag, chain_record, expanded, if_any, key_data, key_group, keys_ttl, proofs_of, rrset, served_of, soa, spoken, unsigned_ns}
-use Rattle.answer_shared.specs.Told.{fields_for}
-use Rattle.answer_shared.proofs.Servable.{asked_inside}
-use Rattle.answer_judge_facts.specs.Verified.{Trusting}
+use Rattle.answer_shared.specs.Made.{IsShortGroup, OfZone}
+use Rattle.answer_shared.specs.Served.{Group, Served, ahead, ahead_open, answer_groups, by_tag, chain_record, expanded, if_any, key_group, proofs_of, rrset, served_of, soa, spoken, unsigned_ns}
+use Rattle.answer_shared.specs.Told.{fields_for, octets_for}
+use Rattle.answer_shared.proofs.Servable.{asked_inside, servable}
+use Rattle.denial_laws.specs.Truth.{IsServable}
+use Rattle.answer_judge_facts.specs.Verified.{Trusting, rrset_in}
 use Rattle.answer_judge_keys.proofs.GivenSorted.{sorted_twice}
-use Rattle.answer_judge_facts.proofs.JudgeCase.{signed_octets-owner}
-use Rattle.answer_judge.specs.Honest.{SignedOf, WasSigned, covered_in, over_in, rrset_there}
-use Rattle.answer_judge.specs.OwnMessages.{OwnAnswersAreHonest, OwnKeysAreHonest, message_of, serves}
+use Rattle.answer_judge_facts.proofs.JudgeCase.{rrset_in-owner, signed_octets-owner}
+use Rattle.answer_honest.specs.Honest.{IsHonest, NothingForged, Signing, WasSigned, sought_of_answer}
+use Rattle.answer_judge_keys.specs.Judging.{Handing, keys_in}
+use Rattle.answer_judge.specs.OwnFacts.{TellsZone}
+use Rattle.answer_judge.specs.OwnMessages.{OwnAnswersAreHonest, OwnKeysAreHonest, signing_of}
 use Rattle.answer_judge.proofs.GivenChained.{keys_data}
-use Rattle.answer_judge.proofs.GivenFacts.{FitsRecords, IsToldBy, fitting, groups_alone, groups_ordinary, told_by}
+use Rattle.answer_judge.proofs.GivenFacts.{FitsRecords, IsToldBy, fitting, groups_alone, groups_ordinary, soa_has, told_by}
 use Rattle.answer_judge.proofs.GivenGroups.{has_twins}
-use Rattle.answer_judge.proofs.GivenLists.{contained_has, has_contained}
+use Rattle.answer_judge.proofs.GivenLists.{has_contained}
 use Rattle.answer_judge.proofs.GivenRecords.{rrset_given}
 use Rattle.answer_judge.proofs.GivenRrset.{all_joined, is_ordinary}
 use Rattle.answer_judge.proofs.HonestJudged.{plain_type}
 use Rattle.answer_judge.proofs.HonestUsed.{not_keys}
-use Rattle.answer_judge.proofs.HonestVerified.{keys_covered, rrset_covered}
-use Rattle.answer_judge.proofs.Spliced.{IsSignatureOf, ok_is, signature_of, was_signed}
+use Rattle.answer_judge.proofs.HonestKeys.{keys_read}
+use Rattle.answer_judge.proofs.HonestMade.{IsRoomy, chain_fits, kind_of, kind_roomy}
+use Rattle.answer_judge.proofs.HonestOwn.{keys_signed, kind_signed}
+use Rattle.answer_judge.proofs.HonestReads.{IsDatum, message_read, rrset_read}
+use Rattle.answer_judge.proofs.Spliced.{IsSignatureOf, ok_is, signature_of}
 
 -- ---- RRsets of an answer
 
@@ -115,82 +123,112 @@ answer_plain apex mode hash rs q t other =
 -- ---- messages
 
 -- octets over an RRset of which fields, owner and data are known
-over_is : (k : ℕ) (m : List ℕ) (rs : List Spelled) (r : Spelled) (f g : Fields) (owner : Name) (ds : List (List ℕ)) → f ≡ g → rrset_there k m rs r.owner f.covered ≡ ds → low r.owner ≡ low owner → over_in k m rs r f ≡ signed_octets g owner 1 ds
-unfolding over_in covered_in
-over_is k m rs r f g owner ds is covers owners = ap (signed_octets f r.owner 1) covers ∙ ap (λ (x : Fields). signed_octets x r.owner 1 ds) is ∙ signed_octets-owner g r.owner owner ds owners
+over_is : (f g : Fields) (r : Spelled) (owner : Name) (ds es : List (List ℕ)) → f ≡ g → ds ≡ es → low r.owner ≡ low owner → signed_octets f r.owner 1 ds ≡ signed_octets g owner 1 es
+over_is f g r owner ds es is contents owners = ap (signed_octets f r.owner 1) contents ∙ ap (λ (x : Fields). signed_octets x r.owner 1 es) is ∙ signed_octets-owner g r.owner owner es owners
+
+-- data that were read are no longer than a record can say
+short_read : (g : Group) (ds : List (List ℕ)) → AllByRecursion IsDatum ds → ds ≡ g.datas → IsShortGroup g
+short_read g ds are is = subst (λ ds. AllByRecursion (λ (d : List ℕ). length d < 65536) ds) is (all_more IsDatum (λ (d : List ℕ). length d < 65536) ds (λ d i. i.short) are)
 
 -- the RRsets of an answer
 abbrev told_groups : Trusting → Mode → List HandedRr → Asked → List Group
-told_groups w mode rs asked = answer_groups (serves w mode rs) asked.name asked.rtype
+told_groups w mode rs asked = answer_groups (served_of w.apex mode (hash_in w.answers.hash mode) (sorted_records rs)) asked.name asked.rtype
+
+module _ (w : Trusting) (k : ℕ) (mode : Mode) (rs : List HandedRr) (h : Handing) (published : List Dnskey) (signings : List Signing) (same_apex : h.apex ≡ w.apex) (octets : AreOctets h.answer_bytes) (asked_is : IsQuestion h.asked)
+    (t : TellsZone w k mode rs h.asked h.answer_bytes) (there : Contains signings (signing_of mode rs t.at t.life)) where
+  abbrev hash : Name → List ℕ
+  hash = hash_in w.answers.hash mode
+
+  abbrev sorted : List HandedRr
+  sorted = sorted_records rs
+
+  abbrev groups : List Group
+  groups = told_groups w mode rs h.asked
+
+  abbrev rs_told : List Spelled
+  rs_told = t.told.read.records
+
+  told : IsToldBy w k h.answer_bytes rs_told w.apex mode hash sorted h.asked.name h.asked.rtype
+  told = told_by w k mode rs h.asked h.answer_bytes t
+
+  fits : FitsRecords (zone_of w.apex rs) mode hash
+  fits = fitting w.answers.hash (zone_of w.apex rs) mode t.limit t.short_limit t.accepted.faultless.within_limit t.accepted.chain
+
+  ordinary : AllByRecursion is_ordinary groups
+  ordinary = groups_ordinary w k h.answer_bytes rs_told w.apex mode hash sorted h.asked.name h.asked.rtype told fits
+
+  alone : has_twins groups ≡ false
+  alone = groups_alone w k h.answer_bytes rs_told w.apex mode hash sorted h.asked.name h.asked.rtype told fits
+
+  types : AllByRecursion (λ (g : Group). g.rtype ≡ 46 → ⊥) groups
+  types = all_more is_ordinary (λ (g : Group). g.rtype ≡ 46 → ⊥) groups (λ g n e. false≢true (sym n ∙ ap (λ u. eqb u 46) e)) ordinary
+
+  plain : AllByRecursion IsPlain groups
+  plain = answer_plain w.apex mode hash sorted h.asked.name h.asked.rtype (not_keys h.asked.rtype (plain_type h.asked.rtype (asked_inside w.apex h.asked t.allowed).asked_type))
+
+  handed : AllByRecursion IsHanded sorted
+  handed = all_sorted IsHanded record_cmp rs t.records_are
+
+  zone_servable : IsServable (zone_of w.apex rs)
+  zone_servable = servable w.answers.hash w.apex mode t.limit rs t.accepted
+
+  soa_one : length (soas w.apex sorted) ≡ 1
+  soa_one = t.accepted.soa
+
+  -- an RRset of it that has signatures was signed
+  group_signed : (g : Group) (key : Dnskey) → Has groups g → g.signed ≡ true → IsShortGroup g → WasSigned w.answers w.apex published signings (octets_for w.apex t.at t.life g key)
+  group_signed g key i signed short =
+      let kind = kind_of w.apex mode hash sorted zone_servable (soa_has w.apex sorted (omega (arith, soa_one))) t.apex_is handed published (OfZone h.asked) g (asked_is, t.allowed) i signed in
+      let roomy = kind_roomy w.apex mode hash sorted t.apex_is handed (chain_fits w.answers.hash w.apex mode rs t.accepted.chain) published g signed kind in
+      kind_signed w.answers w.apex mode rs published signings t.at t.life t.apex_is there handed zone_servable t.accepted.chain g key roomy short kind
+
+  unforged : NothingForged w.answers k h published (WasSigned w.answers w.apex published signings) (sought_of_answer k h) h.answer_bytes
+  unforged read r f signature key reads used known usable some passes =
+      let same : read ≡ t.told.read = ok_is read t.told.read (sym reads ∙ t.told.reads) in
+      let here : Has rs_told r = subst (λ (x : Message). Has x.records r) same (has_contained read.records r used.there) in
+      let x : IsSignatureOf w.answers.verifies k h.answer_bytes r w.apex t.at t.life t.keys groups = signature_of w.answers.verifies k h.answer_bytes rs_told w.apex t.at t.life t.keys groups r types t.told.groups_are here used.rtype_is in
+      let one : (f, signature) ≡ (fields_for w.apex t.at t.life x.group x.key, x.is.signature) = some_is (f, signature) (fields_for w.apex t.at t.life x.group x.key, x.is.signature) (sym used.reads ∙ x.is.fields_are) in
+      let fields : f ≡ fields_for w.apex t.at t.life x.group x.key = ap (λ (y : Fields × List ℕ). y.0) one in
+      let is : IsPlain x.group = all_at IsPlain groups x.group plain x.inside in
+      let ds : List (List ℕ) = rrset_in k h.answer_bytes read.records r.owner f.covered in
+      let covers : ds ≡ x.group.datas =
+      ap (λ (y : Message). rrset_in k h.answer_bytes y.records r.owner f.covered) same
+      ∙ ap (λ (y : Fields). rrset_in k h.answer_bytes rs_told r.owner y.covered) fields
+      ∙ rrset_in-owner k h.answer_bytes rs_told r.owner x.group.owner x.group.rtype x.is.owner_is
+      ∙ rrset_given w.answers.verifies k h.answer_bytes rs_told w.apex t.at t.life t.keys groups x.group.owner x.group.rtype x.group (eqb-back 46 x.group.rtype ∙ all_at is_ordinary groups x.group ordinary x.inside) t.told.groups_are alone x.inside refl refl
+      ∙ is.sorted in
+      let short : IsShortGroup x.group = short_read x.group ds (rrset_read k h.answer_bytes read.records r.owner f.covered octets (message_read k h.answer_bytes read octets reads)) covers in
+      subst (WasSigned w.answers w.apex published signings) (sym (over_is f (fields_for w.apex t.at t.life x.group x.key) r x.group.owner ds x.group.datas fields covers x.is.owner_is))
+      (group_signed x.group x.key x.inside x.signed short)
+
+  pub answer_honest : IsHonest w.answers k h published (WasSigned w.answers h.apex published signings) (sought_of_answer k h) h.answer_bytes
+  answer_honest = record { octets_are = octets; unforged = subst (λ n. NothingForged w.answers k h published (WasSigned w.answers n published signings) (sought_of_answer k h) h.answer_bytes) (sym same_apex) unforged }
 
 pub own_answers_are_honest : OwnAnswersAreHonest
-own_answers_are_honest w k mode rs asked bytes h published signers outs octets t there = record {
-  octets_are = octets;
-  unforged = λ read r f signature key reads inside kind says time known some passes.
-      let same : read ≡ t.told.read = ok_is read t.told.read (sym reads ∙ t.told.reads) in
-      let here : Has t.told.read.records r = subst (λ (x : Message). Has x.records r) same (has_contained read.records r inside) in
-      let x : IsSignatureOf w.answers.verifies k bytes r w.apex t.at t.life t.keys (told_groups w mode rs asked) = signature_of w.answers.verifies k bytes t.told.read.records w.apex t.at t.life t.keys (told_groups w mode rs asked) r types t.told.groups_are here kind in
-      let one : (f, signature) ≡ (fields_for w.apex t.at t.life x.group x.key, x.is.signature) = some_is (f, signature) (fields_for w.apex t.at t.life x.group x.key, x.is.signature) (sym says ∙ x.is.fields_are) in
-      let fields : f ≡ fields_for w.apex t.at t.life x.group x.key = ap (λ (y : Fields × List ℕ). y.0) one in
-      let is : IsPlain x.group = all_at IsPlain (told_groups w mode rs asked) x.group plain x.inside in
-      let covers : rrset_there k bytes read.records r.owner f.covered ≡ x.group.datas =
-      ap (λ (y : Message). rrset_there k bytes y.records r.owner f.covered) same
-      ∙ rrset_covered k bytes t.told.read.records r.owner x.group.owner f.covered x.group.rtype (ap (λ (y : Fields). y.covered) fields) is.other x.is.owner_is
-      ∙ rrset_given w.answers.verifies k bytes t.told.read.records w.apex t.at t.life t.keys (told_groups w mode rs asked) x.group.owner x.group.rtype x.group (eqb-back 46 x.group.rtype ∙ all_at is_ordinary (told_groups w mode rs asked) x.group ordinary x.inside) t.told.groups_are alone x.inside refl refl
-      ∙ is.sorted in
-      subst (WasSigned (serves w mode) w.apex outs) (sym (over_is k bytes read.records r f (fields_for w.apex t.at t.life x.group x.key) x.group.owner x.group.datas fields covers x.is.owner_is))
-      (was_signed (serves w mode) w.apex t.life outs (message_of (OfZone asked) signers t.at rs) x.group x.key there x.inside x.signed);
-}
-  where
-    told : IsToldBy w k bytes t.told.read.records w.apex mode (hash_in w.answers.hash mode) (sorted_records rs) asked.name asked.rtype
-    told = told_by w k mode rs asked bytes t
-
-    fits : FitsRecords (zone_of w.apex rs) mode (hash_in w.answers.hash mode)
-    fits = fitting w.answers.hash (zone_of w.apex rs) mode t.limit t.short_limit t.accepted.faultless.within_limit t.accepted.chain
-
-    ordinary : AllByRecursion is_ordinary (told_groups w mode rs asked)
-    ordinary = groups_ordinary w k bytes t.told.read.records w.apex mode (hash_in w.answers.hash mode) (sorted_records rs) asked.name asked.rtype told fits
-
-    alone : has_twins (told_groups w mode rs asked) ≡ false
-    alone = groups_alone w k bytes t.told.read.records w.apex mode (hash_in w.answers.hash mode) (sorted_records rs) asked.name asked.rtype told fits
-
-    types : AllByRecursion (λ (g : Group). g.rtype ≡ 46 → ⊥) (told_groups w mode rs asked)
-    types = all_more is_ordinary (λ (g : Group). g.rtype ≡ 46 → ⊥) (told_groups w mode rs asked) (λ g n e. false≢true (sym n ∙ ap (λ u. eqb u 46) e)) ordinary
-
-    plain : AllByRecursion IsPlain (told_groups w mode rs asked)
-    plain = answer_plain w.apex mode (hash_in w.answers.hash mode) (sorted_records rs) asked.name asked.rtype (not_keys asked.rtype (plain_type asked.rtype (asked_inside w.apex asked t.allowed).asked_type))
+own_answers_are_honest w k mode rs h published signings same_apex octets asked_is t there = answer_honest w k mode rs h published signings same_apex octets asked_is t there
 
 pub own_keys_are_honest : OwnKeysAreHonest
-own_keys_are_honest a k ttl apex present signers at life bytes h published serve rs outs octets small tells there = record {
+own_keys_are_honest a k ttl h present signers published at life signings apex_is octets small of tells = record {
   octets_are = octets;
-  unforged = λ read r f signature key reads inside kind says time known some passes.
+  unforged = λ read r f signature key reads used known usable some passes.
+      let g : Group = key_group h.apex ttl present in
       let same : read ≡ tells.read = ok_is read tells.read (sym reads ∙ tells.reads) in
-      let here : Has tells.read.records r = subst (λ (x : Message). Has x.records r) same (has_contained read.records r inside) in
-      let x : IsSignatureOf a.verifies k bytes r apex at life (by_tag signers) (key_group apex ttl present ∷ []) = signature_of a.verifies k bytes tells.read.records apex at life (by_tag signers) (key_group apex ttl present ∷ []) r ((λ e. false≢true (ap (λ u. eqb u 46) e)), tt) tells.groups_are here kind in
-      let one : (f, signature) ≡ (fields_for apex at life x.group x.key, x.is.signature) = some_is (f, signature) (fields_for apex at life x.group x.key, x.is.signature) (sym says ∙ x.is.fields_are) in
-      let fields : f ≡ fields_for apex at life x.group x.key = ap (λ (y : Fields × List ℕ). y.0) one in
-      let is : x.group ≡ key_group apex ttl present = only x.group x.inside in
-      let owner : low r.owner ≡ low apex = x.is.owner_is ∙ ap (λ (y : Group). low y.owner) is in
-      let kind_is : f.covered ≡ 48 = ap (λ (y : Fields). y.covered) fields ∙ ap (λ (y : Group). y.rtype) is in
-      let covers : rrset_there k bytes read.records r.owner f.covered ≡ key_data present =
-      ap (λ (y : Message). rrset_there k bytes y.records r.owner f.covered) same
-      ∙ keys_covered k bytes tells.read.records r.owner apex f.covered kind_is owner
-      ∙ ap sorted_data (keys_data a.verifies k ttl apex present signers at life bytes tells small)
+      let here : Has tells.read.records r = subst (λ (x : Message). Has x.records r) same (has_contained read.records r used.there) in
+      let x : IsSignatureOf a.verifies k h.dnskey_bytes r h.apex at life (by_tag signers) (g ∷ []) = signature_of a.verifies k h.dnskey_bytes tells.read.records h.apex at life (by_tag signers) (g ∷ []) r ((λ e. false≢true (ap (λ u. eqb u 46) e)), tt) tells.groups_are here used.rtype_is in
+      let one : (f, signature) ≡ (fields_for h.apex at life x.group x.key, x.is.signature) = some_is (f, signature) (fields_for h.apex at life x.group x.key, x.is.signature) (sym used.reads ∙ x.is.fields_are) in
+      let is : x.group ≡ g = only g x.group x.inside in
+      let fields : f ≡ fields_for h.apex at life g x.key = ap (λ (y : Fields × List ℕ). y.0) one ∙ ap (λ (y : Group). fields_for h.apex at life y x.key) is in
+      let owner : low r.owner ≡ low h.apex = x.is.owner_is ∙ ap (λ (y : Group). low y.owner) is in
+      let ds : List (List ℕ) = sorted_data (map dnskey_data (keys_in h.dnskey_bytes h.apex read.records)) in
+      let covers : ds ≡ g.datas =
+      ap (λ (y : Message). sorted_data (map dnskey_data (keys_in h.dnskey_bytes h.apex y.records))) same
+      ∙ ap sorted_data (keys_data a.verifies k ttl h.apex present signers at life h.dnskey_bytes tells small)
       ∙ sorted_twice (map dnskey_data present) in
-      SignedOf (record {
-        out = message_of (OfKeys present) signers at rs;
-        there = there;
-        group = key_group apex (keys_ttl (serve rs)) present;
-        inside = contained_has (key_group apex (keys_ttl (serve rs)) present ∷ []) (key_group apex (keys_ttl (serve rs)) present) (inl refl);
-        signed = ap (λ (y : Group). y.signed) (sym is) ∙ x.signed;
-        fields = fields_for apex at life x.group x.key;
-        covered = ap (λ (y : Group). y.rtype) is;
-        labels = ap (λ (y : Group). label_count y.source) is;
-        inception = refl;
-        signer = refl;
-        is = over_is k bytes read.records r f (fields_for apex at life x.group x.key) apex (key_data present) fields covers owner;
-      });
+      let short : IsShortGroup g = short_read g ds (keys_read h.dnskey_bytes h.apex read.records octets (message_read k h.dnskey_bytes read octets reads)) covers in
+      let roomy : IsRoomy g = record { small = lit< tt; named = apex_is; some = subst (λ ds. 0 < length ds) covers some } in
+      subst (WasSigned a h.apex published signings) (sym (over_is f (fields_for h.apex at life g x.key) r h.apex ds g.datas fields covers owner))
+      (keys_signed a h.apex Nsec [] published signings at life apex_is present ttl x.key of roomy short);
 }
   where
-    only : (g : Group) → Has (key_group apex ttl present ∷ []) g → g ≡ key_group apex ttl present
-    only g i = elim i [ inl e ↦ e | inr none ↦ absurd none ]
+    only : (g x : Group) → Has (g ∷ []) x → x ≡ g
+    only g x i = elim i [ inl e ↦ e | inr none ↦ absurd none ]

@@ -4,9 +4,9 @@ use Rattle.std.specs.List.{AllByRecursion}
 use Rattle.definitions.specs.Dnskey.{Dnskey}
 use Rattle.definitions.specs.Name.{Name, IsName}
 use Rattle.definitions.specs.ZoneChain.{Mode}
-use Rattle.messages.specs.Handed.{IsHanded}
 use Rattle.messages.specs.HandedRr.{HandedRr}
 use Rattle.messages.specs.Message.{AreOctets}
+use Rattle.messages.specs.WrittenLaws.{IsQuestion}
 use Rattle.answer_scheme.specs.Answers.{Answers}
 use Rattle.answer_shared.specs.Told.{TellsKeys}
 use Rattle.answer_judge_keys.specs.Judging.{Handing}
@@ -34,6 +34,6 @@ OwnKeysAreHonest =
 abbrev pub OwnAnswersAreHonest : Type 0
 OwnAnswersAreHonest =
     (w : Trusting) (k : ℕ) (mode : Mode) (rs : List HandedRr) (h : Handing) (published : List Dnskey) (signings : List Signing)
-    → h.apex ≡ w.apex → AreOctets h.answer_bytes → AllByRecursion IsHanded rs → (t : TellsZone w k mode rs h.asked h.answer_bytes)
+    → h.apex ≡ w.apex → AreOctets h.answer_bytes → IsQuestion h.asked → (t : TellsZone w k mode rs h.asked h.answer_bytes)
     → Contains signings (signing_of mode rs t.at t.life)
     → IsHonest w.answers k h published (WasSigned w.answers h.apex published signings) (sought_of_answer k h) h.answer_bytes

@@ -69,13 +69,17 @@ module _ (z : Zone) (q e : Name) (t : ℕ) (x : exists z (low q) ≡ false) (c :
             | inr m ↦ strictly_shorter e q m
           ]
 
+  -- its signature is the wildcard's
+  pub own_star_owner : signed_owner (length e) q ≡ star_under e
+  own_star_owner =
+      let above : at_or_above e q ≡ true = sym (above_lowered e q) ∙ strictly_at e (low q) encloses.above in
+      star_owner (starred z e t) q e own_expanded above refl ∙ ap star_under (ce_lowered z (low q) e (low-low q) c)
+
   pub own_star_true : IsTrueRrset z q t (starred z e t)
   own_star_true =
-      let above : at_or_above e q ≡ true = sym (above_lowered e q) ∙ strictly_at e (low q) encloses.above in
-      let owner : signed_owner (length e) q ≡ star_under e = star_owner (starred z e t) q e own_expanded above refl ∙ ap star_under (ce_lowered z (low q) e (low-low q) c) in
       record {
-        signed = ap (λ n. is_signed z n t) owner ∙ h;
-        datas = ap (λ n. data_at z n t) (sym owner);
+        signed = ap (λ n. is_signed z n t) own_star_owner ∙ h;
+        datas = ap (λ n. data_at z n t) (sym own_star_owner);
         inside = λ _. above_longer (apex_of z) e (kept_inside z false e encloses.there);
       }
 
