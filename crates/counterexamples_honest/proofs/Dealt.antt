@@ -11,7 +11,9 @@ use Rattle.definitions.specs.Signing.{Fields, in_time}
 use Rattle.messages.specs.Message.{AreOctets, Message, Spelled, message, rrsig_at}
 use Rattle.messages.proofs.Lists.{Has, all_at, all_fail, all_more, some_is}
 use Rattle.answer_scheme.specs.Answers.{Answers}
-use Rattle.answer_judge.specs.Honest.{NothingForged, over_in}
+use Rattle.answer_honest.specs.Honest.{NothingForged, over}
+use Rattle.answer_judge_keys.specs.Judging.{Handing}
+use Rattle.answer_judge_facts.specs.Sought.{Sought}
 use Rattle.answer_judge.proofs.GivenLists.{has_contained}
 use Rattle.answer_judge.proofs.Spliced.{ok_is}
 use Rattle.counterexamples_honest.specs.World.{own_key, plain}
@@ -26,24 +28,24 @@ small_octets m e = all_more (λ x. nat_le 256 x ≡ false) (λ x. x < 256) m (λ
 
 -- ---- messages
 
--- a record is no signature that holds and passes under a published key, but over octets that were made
-abbrev pub IsDealt : Answers → ℕ → List Dnskey → List (List ℕ) → List ℕ → Spelled → Type 0
-IsDealt a now published made m r =
+-- a record is no signature that holds and passes under a published key, but over octets that were signed
+abbrev pub IsDealt : Answers → ℕ → List Dnskey → (List ℕ → Type 0) → List ℕ → Spelled → Type 0
+IsDealt a now published Signed m r =
     (f : Fields) (signature octets : List ℕ) (key : Dnskey) → r.rtype ≡ 46 → rrsig_at pointer_limit m r ≡ Some (f, signature)
-    → in_time f now ≡ true → Has published key → a.verifies key octets signature ≡ true → Contains made octets
+    → in_time f now ≡ true → Has published key → a.verifies key octets signature ≡ true → Signed octets
 
-pub unforged : (a : Answers) (now : ℕ) (published : List Dnskey) (made : List (List ℕ)) (m : List ℕ) (read : Message) → message pointer_limit m ≡ Ok read → AllByRecursion (IsDealt a now published made m) read.records
-    → NothingForged a pointer_limit now published (Contains made) m
-unforged a now published made m read reads dealt other r f signature key is there kind fields time inside some passes =
+pub unforged : (a : Answers) (h : Handing) (published : List Dnskey) (Signed : List ℕ → Type 0) (sought : List Spelled → Sought) (m : List ℕ) (read : Message) → message pointer_limit m ≡ Ok read → AllByRecursion (IsDealt a h.now published Signed m) read.records
+    → NothingForged a pointer_limit h published Signed sought m
+unforged a h published Signed sought m read reads dealt other r f signature key is used inside usable some passes =
     let same : other ≡ read = ok_is other read (sym is ∙ reads) in
-    all_at (IsDealt a now published made m) read.records r dealt (subst (λ (x : Message). Has x.records r) same (has_contained other.records r there)) f signature (over_in pointer_limit m other.records r f) key kind fields time
+    all_at (IsDealt a h.now published Signed m) read.records r dealt (subst (λ (x : Message). Has x.records r) same (has_contained other.records r used.there)) f signature (over (sought other.records) r f) key used.rtype_is used.reads used.timely
     (has_contained published key inside) passes
 
 -- ---- records
 
 -- of another type
-pub no_signature : (a : Answers) (now : ℕ) (published : List Dnskey) (made : List (List ℕ)) (m : List ℕ) (r : Spelled) → eqb r.rtype 46 ≡ false → IsDealt a now published made m r
-no_signature a now published made m r e f signature octets key kind fields time inside passes = absurd (false≢true (sym e ∙ ap (λ n. eqb n 46) kind))
+pub no_signature : (a : Answers) (now : ℕ) (published : List Dnskey) (Signed : List ℕ → Type 0) (m : List ℕ) (r : Spelled) → eqb r.rtype 46 ≡ false → IsDealt a now published Signed m r
+no_signature a now published Signed m r e f signature octets key kind fields time inside passes = absurd (false≢true (sym e ∙ ap (λ n. eqb n 46) kind))
 
 abbrev f_and : Fields × List ℕ → Option (Fields × List ℕ)
 f_and x = Some x
@@ -55,8 +57,8 @@ said m r f g x y first second =
     (ap (λ (p : Fields × List ℕ). p.0) one, ap (λ (p : Fields × List ℕ). p.1) one)
 
 -- out of its time
-pub late : (a : Answers) (now : ℕ) (published : List Dnskey) (made : List (List ℕ)) (m : List ℕ) (r : Spelled) (g : Fields) (x : List ℕ) → rrsig_at pointer_limit m r ≡ Some (g, x) → in_time g now ≡ false → IsDealt a now published made m r
-late a now published made m r g x is out f signature octets key kind fields time inside passes =
+pub late : (a : Answers) (now : ℕ) (published : List Dnskey) (Signed : List ℕ → Type 0) (m : List ℕ) (r : Spelled) (g : Fields) (x : List ℕ) → rrsig_at pointer_limit m r ≡ Some (g, x) → in_time g now ≡ false → IsDealt a now published Signed m r
+late a now published Signed m r g x is out f signature octets key kind fields time inside passes =
     absurd (false≢true (sym out ∙ ap (λ (h : Fields). in_time h now) (sym (said m r f g signature x fields is).0) ∙ time))
 
 -- a signature that passes under the zone's key is its octets and what it is made over
@@ -66,19 +68,14 @@ by_own key octets signature inside passes = elim inside [
   | inr none ↦ absurd none
 ]
 
--- by the zone's key, over octets that were made
-pub signed : (now : ℕ) (made : List (List ℕ)) (m : List ℕ) (r : Spelled) (g : Fields) (over : List ℕ) → rrsig_at pointer_limit m r ≡ Some (g, 0 ∷ 16 ∷ over) → Contains made over → IsDealt plain now (own_key ∷ []) made m r
-signed now made m r g over is there f signature octets key kind fields time inside passes =
+-- by the zone's key, over octets that were signed
+pub signed : (now : ℕ) (Signed : List ℕ → Type 0) (m : List ℕ) (r : Spelled) (g : Fields) (over : List ℕ) → rrsig_at pointer_limit m r ≡ Some (g, 0 ∷ 16 ∷ over) → Signed over → IsDealt plain now (own_key ∷ []) Signed m r
+signed now Signed m r g over is there f signature octets key kind fields time inside passes =
     let other : signature ≡ 0 ∷ 16 ∷ octets = by_own key octets signature inside passes in
-    subst (Contains made) (ap (drop 2) (sym (said m r f g signature (0 ∷ 16 ∷ over) fields is).1 ∙ other)) there
-
--- that stand at a place of what was made
-pub signed_at : (now : ℕ) (made : List (List ℕ)) (m : List ℕ) (r : Spelled) (g : Fields) (over : List ℕ) (k : ℕ) → rrsig_at pointer_limit m r ≡ Some (g, 0 ∷ 16 ∷ over) → nat_lt k (length made) ≡ true → get_or made k over ≡ over
-    → IsDealt plain now (own_key ∷ []) made m r
-signed_at now made m r g over k is inside there = signed now made m r g over is (at_place made over k inside there)
+    subst Signed (ap (drop 2) (sym (said m r f g signature (0 ∷ 16 ∷ over) fields is).1 ∙ other)) there
 
 -- by a key with other octets
-pub foreign : (now : ℕ) (made : List (List ℕ)) (m : List ℕ) (r : Spelled) (g : Fields) (x : List ℕ) → rrsig_at pointer_limit m r ≡ Some (g, x) → bytes_eq (take 2 x) (0 ∷ 16 ∷ []) ≡ false → IsDealt plain now (own_key ∷ []) made m r
-foreign now made m r g x is unlike f signature octets key kind fields time inside passes =
+pub foreign : (now : ℕ) (Signed : List ℕ → Type 0) (m : List ℕ) (r : Spelled) (g : Fields) (x : List ℕ) → rrsig_at pointer_limit m r ≡ Some (g, x) → bytes_eq (take 2 x) (0 ∷ 16 ∷ []) ≡ false → IsDealt plain now (own_key ∷ []) Signed m r
+foreign now Signed m r g x is unlike f signature octets key kind fields time inside passes =
     let other : signature ≡ 0 ∷ 16 ∷ octets = by_own key octets signature inside passes in
     absurd (false≢true (sym unlike ∙ ap (λ s. bytes_eq (take 2 s) (0 ∷ 16 ∷ [])) (sym (said m r f g signature x fields is).1 ∙ other)))

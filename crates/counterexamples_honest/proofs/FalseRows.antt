@@ -1,56 +1,64 @@
 -- Rows of which a judge says what the zone does not say, each with one premise left out.
-use Rattle.std.proofs.Common.{◌≡◌, ℕ, false, List, [], ◌∷◌, ◌++◌, refl, sym, inl, inr, ◌∙◌}
-use Rattle.std.specs.Prelude.{Contains}
-use Rattle.std.proofs.lemmas.Bool.{ltb-true}
+use Rattle.std.proofs.Common.{◌≡◌, ℕ, true, false, List, [], ◌∷◌, ◌++◌, refl, sym, ap, subst, ◌∙◌, inl, inr}
+use Rattle.std.specs.Prelude.{◌==◌, ◌&&◌, Contains}
+use Rattle.std.specs.List.{AllByRecursion, list_any}
+use Rattle.std.proofs.lemmas.Bool.{and_parts, false_from_ne_true, false≢true, ltb-true}
+use Rattle.definitions.specs.Base32hex.{base32hex}
 use Rattle.definitions.specs.Bitmap.{octet_of, window_count, window_size}
-use Rattle.definitions.specs.Dnskey.{dnskey_data}
+use Rattle.definitions.specs.Dnskey.{Dnskey, dnskey_data}
 use Rattle.definitions.specs.Limits.{pointer_limit}
-use Rattle.definitions.specs.Name.{Name}
+use Rattle.definitions.specs.Name.{IsName, Name, labels_eq, low, strictly_above}
 use Rattle.definitions.specs.Reading.{most_heads}
 use Rattle.definitions.specs.Signing.{Fields, signed_octets}
-use Rattle.definitions.specs.Zone.{NoName, NoType, Records, Unsigned}
-use Rattle.definitions.specs.ZoneChain.{Mode, Nsec, Nsec3, nsec3_names}
-use Rattle.definitions.specs.Base32hex.{base32hex}
+use Rattle.definitions.specs.Zone.{Delegated, NoName, NoType, Records, Rr, Unsigned, Zone, apex_of, has, is_delegation, is_of, owners}
+use Rattle.definitions.specs.ZoneChain.{Mode, Nsec, Nsec3, nsec_names, hashed_names, nsec3_names}
+use Rattle.definitions.proofs.Members.{any_of}
+use Rattle.messages.specs.Handed.{IsHanded}
 use Rattle.messages.specs.Message.{owner_at}
-use Rattle.answer_shared.specs.Accepted.{IsAccepted}
-use Rattle.answer_shared.specs.Accepting.{zone_of}
+use Rattle.messages.proofs.Lists.{Has}
+use Rattle.messages.proofs.ZoneNames.{same_labels}
 use Rattle.answer_shared.specs.Chainable.{IsChainable}
-use Rattle.answer_judge.specs.Honest.{NoStranger, NothingForged}
+use Rattle.answer_honest.specs.Honest.{IsSaidByOne, NoStranger, NothingForged, Signing, SignedOfKeys, sought_of_answer, sought_of_keys}
+use Rattle.answer_honest.specs.Versions.{OfChain, OfZone, Version, zone_in}
+use Rattle.answer_judge_keys.proofs.GivenSorted.{in_has}
 use Rattle.answer_judge.proofs.GivenLists.{has_contained}
-use Rattle.counterexamples_honest.specs.Premises.{SaysFalsely, without_answer_unforged, without_ds, without_handed_out, without_hashes_apart, without_keys_known, without_keys_unforged}
-use Rattle.counterexamples_honest.specs.Rows.{bare, forged_answer, forged_keys, hashed_answer, hashed_apex, mixed_keys, next_of_apex, no_ds, own_keys, shared_hash, small, stranger_keys, twin_keys}
-use Rattle.counterexamples_honest.specs.World.{a, address, ds, example, false_address, fields, other, own_key, plain, twin}
-use Rattle.counterexamples_honest.proofs.Dealt.{at_place, foreign, no_signature, signed_at, unforged}
-use Rattle.counterexamples_honest.proofs.Handed.{name}
+use Rattle.counterexamples_honest.specs.Premises.{IsServableIn, SaysFalsely, without_alone, without_answer_unforged, without_childless, without_ds, without_hashes_apart, without_keys_known, without_keys_published, without_keys_unforged, without_ordinary, without_uncut}
+use Rattle.counterexamples_honest.specs.Rows.{address_below, bare, below_redirect, beside_alias, chained_by_hand, cut_answer, cut_redirect, denied_by_hand, forged_answer, forged_keys, hashed_answer, hashed_apex, mixed_keys, next_handed, next_of_apex, next_of_cut, no_ds, of_alias, of_cut_redirect, of_hand, of_redirected, own_keys, shared_hash, small, stranger_keys, twin_keys}
+use Rattle.counterexamples_honest.specs.World.{a, address, b, ds, example, false_address, fields, other, own_key, plain, twin, x, x_b}
+use Rattle.counterexamples_honest.proofs.Dealt.{at_place, foreign, no_signature, signed, unforged}
+use Rattle.counterexamples_honest.proofs.Handed.{delegation, name, opaque, signable}
+use Rattle.counterexamples_honest.proofs.HonestRows.{small_row}
 use Rattle.counterexamples_honest.proofs.Known.{foreign_known, no_stranger, own_known}
-use Rattle.counterexamples_honest.proofs.OwnKeys.{a_is, bare_is, item, keys_out, keys_over, keys_were, made_of, own_keys_known, own_keys_unforged, question_was, read_of, zone_out}
-use Rattle.counterexamples_honest.proofs.Row.{AreAccepted, AreOuts, IsRow, Row, Unforged, honest_in, not_one, of_small, small_row}
+use Rattle.counterexamples_honest.proofs.OwnKeys.{a_is, b_is, bare_is, bare_served, example_is, in_order, item, keys_over, no_type, own_keys_known, own_keys_unforged, read_of, signed_from, soa_is, x_b_is, x_is}
+use Rattle.counterexamples_honest.proofs.Row.{AnswerUnforged, IsInOrder, IsRow, KeysUnforged, Row, SignedOf, alias_in_one, handed_in, honest_in, not_one, of_version, own_published}
 
 -- ---- no DS record
 
 abbrev no_ds_at : Row
-no_ds_at = record { set = []; keys = []; answer = []; name = a; rtype = 1; mode = Nsec; versions = small ∷ []; outs = [] }
+no_ds_at = record { set = []; keys = []; answer = []; name = a; rtype = 1; versions = small ∷ []; signed_keys = []; signings = [] }
 
-no_ds_is : IsRow no_ds_at
-no_ds_is = record { name_is = a_is; type_fits = refl; keys_octets = refl; answer_octets = refl; versions_are = (small_row, tt); of_versions = tt }
+no_ds_is : IsRow without_ds no_ds_at
+no_ds_is = record { name_is = a_is; type_fits = refl; keys_octets = refl; answer_octets = refl; some = λ e. cc; versions_are = (small_row without_ds, tt); of_versions = tt }
 
 -- no message has no octets
-nothing_forged : Unforged no_ds_at []
-nothing_forged read r f signature key is there kind said time inside some passes = cc
+no_keys_forged : KeysUnforged no_ds_at
+no_keys_forged read r f signature key is used inside usable some passes = cc
 
-no_key_known : NoStranger plain pointer_limit example (own_key ∷ []) [] []
-no_key_known read key d is there named digest = cc
+no_answer_forged : AnswerUnforged no_ds_at
+no_answer_forged read r f signature key is used inside usable some passes = cc
+
+no_key_known : NoStranger plain pointer_limit (handed_in no_ds_at) (own_key ∷ [])
+no_key_known read key is there trusted = cc
 
 pub no_ds_row : SaysFalsely without_ds
 no_ds_row = record {
   answers = plain;
   handing = no_ds;
-  mode = Nsec;
   versions = small ∷ [];
-  honest = honest_in without_ds no_ds_at no_ds_is tt tt (inl refl) nothing_forged no_key_known nothing_forged (tt, tt);
+  honest = honest_in without_ds no_ds_at no_ds_is tt tt (inl refl) no_keys_forged no_key_known no_answer_forged (tt, tt);
   said = Unsigned;
   says = refl;
-  otherwise = not_one (Records (address ∷ [])) Unsigned (λ e. cc);
+  otherwise = not_one no_ds small Unsigned (λ e. cc);
 }
 
 -- ---- a set that the zone's key did not sign
@@ -66,27 +74,26 @@ mixed_at = record {
   answer = forged_keys.answer_bytes;
   name = a;
   rtype = 1;
-  mode = Nsec;
   versions = small ∷ [];
-  outs = [];
+  signed_keys = [];
+  signings = [];
 }
 
-mixed_is : IsRow mixed_at
-mixed_is = record { name_is = a_is; type_fits = refl; keys_octets = refl; answer_octets = refl; versions_are = (small_row, tt); of_versions = tt }
+mixed_is : IsRow without_keys_unforged mixed_at
+mixed_is = record { name_is = a_is; type_fits = refl; keys_octets = refl; answer_octets = refl; some = λ e. cc; versions_are = (small_row without_keys_unforged, tt); of_versions = tt }
 
-mixed_known : NoStranger plain pointer_limit example (own_key ∷ []) (ds ∷ []) mixed_keys
+mixed_known : NoStranger plain pointer_limit (handed_in mixed_at) (own_key ∷ [])
 unfolding pointer_limit most_heads owner_at
-mixed_known =
-    no_stranger mixed_keys (read_of mixed_keys) refl (foreign_known other refl, (own_known, tt))
+mixed_known = no_stranger (handed_in mixed_at) (read_of mixed_keys) refl refl refl (foreign_known other refl, (own_known, tt))
 
--- whatever was made
-other_unforged : (made : List (List ℕ)) → NothingForged plain pointer_limit 1500 (own_key ∷ []) (Contains made) forged_keys.answer_bytes
+-- whatever was signed
+other_unforged : (Signed : List ℕ → Type 0) → NothingForged plain pointer_limit (handed_in mixed_at) (own_key ∷ []) Signed (sought_of_answer pointer_limit (handed_in mixed_at)) forged_keys.answer_bytes
 unfolding pointer_limit most_heads owner_at
-other_unforged made =
+other_unforged Signed =
     let m = forged_keys.answer_bytes in
-    unforged plain 1500 (own_key ∷ []) made m (read_of m) refl (
-      no_signature plain 1500 (own_key ∷ []) made m (item m 0) refl,
-      (foreign 1500 made m (item m 1) other_fields (other.octets ++ signed_octets other_fields a 1 (false_address ∷ [])) refl refl, tt),
+    unforged plain (handed_in mixed_at) (own_key ∷ []) Signed (sought_of_answer pointer_limit (handed_in mixed_at)) m (read_of m) refl (
+      no_signature plain 1500 (own_key ∷ []) Signed m (item m 0) refl,
+      (foreign 1500 Signed m (item m 1) other_fields (other.octets ++ signed_octets other_fields a 1 (false_address ∷ [])) refl refl, tt),
     )
 
 pub forged_keys_row : SaysFalsely without_keys_unforged
@@ -94,48 +101,57 @@ unfolding pointer_limit most_heads owner_at
 forged_keys_row = record {
   answers = plain;
   handing = forged_keys;
-  mode = Nsec;
   versions = small ∷ [];
-  honest = honest_in without_keys_unforged mixed_at mixed_is (λ e. cc) tt (inl refl) tt mixed_known (other_unforged []) (tt, tt);
+  honest = honest_in without_keys_unforged mixed_at mixed_is (λ e. cc) tt (inl refl) tt mixed_known (other_unforged (SignedOf mixed_at)) (tt, tt);
   said = Records (false_address ∷ []);
   says = refl;
-  otherwise = not_one (Records (address ∷ [])) (Records (false_address ∷ [])) (λ e. cc);
+  otherwise = not_one forged_keys small (Records (false_address ∷ [])) (λ e. cc);
 }
 
 -- ---- a set that it signed, though one key of it is a stranger's
 
-abbrev handed_out_at : Row
-handed_out_at = record mixed_at { outs = keys_out small (other ∷ own_key ∷ []) ∷ [] }
+abbrev both_keys : List Dnskey
+both_keys = other ∷ own_key ∷ []
 
-handed_out_is : IsRow handed_out_at
-handed_out_is = record { name_is = a_is; type_fits = refl; keys_octets = refl; answer_octets = refl; versions_are = (small_row, tt); of_versions = (of_small, tt) }
+abbrev signed_keys_at : Row
+signed_keys_at = record mixed_at { signed_keys = both_keys }
+
+signed_keys_is : IsRow without_keys_published signed_keys_at
+signed_keys_is = record { name_is = a_is; type_fits = refl; keys_octets = refl; answer_octets = refl; some = λ e. cc; versions_are = (small_row without_keys_published, tt); of_versions = tt }
 
 abbrev mixed_fields : Fields
 mixed_fields = fields 48 1 3600 1000 2000 own_key
 
-mixed_unforged : Unforged handed_out_at mixed_keys
+both_signed : SignedOf signed_keys_at (keys_over (dnskey_data other ∷ dnskey_data own_key ∷ []))
+both_signed = SignedOfKeys (record {
+  present = both_keys;
+  published_are = (at_place both_keys other 0 refl refl, (at_place both_keys own_key 1 refl refl, tt));
+  fields = mixed_fields;
+  over = record { covered = refl; labels = refl; signer = refl; fits = signable 48 1 3600 1000 2000 own_key example (dnskey_data other ∷ dnskey_data own_key ∷ []) example_is refl refl refl refl refl refl refl; is = refl };
+})
+
+mixed_unforged : KeysUnforged signed_keys_at
 unfolding pointer_limit most_heads owner_at
 mixed_unforged =
-    let made = made_of Nsec handed_out_at.outs in let m = mixed_keys in
-    unforged plain 1500 (own_key ∷ []) made m (read_of m) refl (
-      no_signature plain 1500 (own_key ∷ []) made m (item m 0) refl,
+    let m = mixed_keys in
+    unforged plain (handed_in signed_keys_at) (own_key ∷ []) (SignedOf signed_keys_at) (sought_of_keys (handed_in signed_keys_at)) m (read_of m) refl (
+      no_signature plain 1500 (own_key ∷ []) (SignedOf signed_keys_at) m (item m 0) refl,
       (
-        no_signature plain 1500 (own_key ∷ []) made m (item m 1) refl,
-        (signed_at 1500 made m (item m 2) mixed_fields (keys_over (dnskey_data other ∷ dnskey_data own_key ∷ [])) 0 refl refl refl, tt),
+        no_signature plain 1500 (own_key ∷ []) (SignedOf signed_keys_at) m (item m 1) refl,
+        (signed 1500 (SignedOf signed_keys_at) m (item m 2) mixed_fields (keys_over (dnskey_data other ∷ dnskey_data own_key ∷ [])) refl both_signed, tt),
       ),
     )
 
-pub handed_out_row : SaysFalsely without_handed_out
+pub signed_keys_row : SaysFalsely without_keys_published
 unfolding pointer_limit most_heads owner_at
-handed_out_row = record {
+signed_keys_row = record {
   answers = plain;
   handing = forged_keys;
-  mode = Nsec;
   versions = small ∷ [];
-  honest = honest_in without_handed_out handed_out_at handed_out_is (λ e. cc) tt (inl refl) mixed_unforged mixed_known (other_unforged (made_of Nsec handed_out_at.outs)) (tt, tt);
+  honest = honest_in without_keys_published signed_keys_at signed_keys_is (λ e. cc) tt (inl refl) mixed_unforged mixed_known (other_unforged (SignedOf signed_keys_at)) (tt, tt);
   said = Records (false_address ∷ []);
   says = refl;
-  otherwise = not_one (Records (address ∷ [])) (Records (false_address ∷ [])) (λ e. cc);
+  otherwise = not_one forged_keys small (Records (false_address ∷ [])) (λ e. cc);
 }
 
 -- ---- a key that has the digest of the zone's
@@ -147,36 +163,36 @@ twin_at = record {
   answer = twin_keys.answer_bytes;
   name = a;
   rtype = 1;
-  mode = Nsec;
   versions = small ∷ [];
-  outs = [];
+  signed_keys = [];
+  signings = [];
 }
 
-twin_is : IsRow twin_at
-twin_is = record { name_is = a_is; type_fits = refl; keys_octets = refl; answer_octets = refl; versions_are = (small_row, tt); of_versions = tt }
+twin_is : IsRow without_keys_known twin_at
+twin_is = record { name_is = a_is; type_fits = refl; keys_octets = refl; answer_octets = refl; some = λ e. cc; versions_are = (small_row without_keys_known, tt); of_versions = tt }
 
 abbrev twin_fields : Fields
 twin_fields = fields 48 1 3600 1000 2000 twin
 
-twin_keys_unforged : Unforged twin_at twin_at.keys
+twin_keys_unforged : KeysUnforged twin_at
 unfolding pointer_limit most_heads owner_at
 twin_keys_unforged =
     let m = twin_at.keys in
-    unforged plain 1500 (own_key ∷ []) [] m (read_of m) refl (
-      no_signature plain 1500 (own_key ∷ []) [] m (item m 0) refl,
-      (foreign 1500 [] m (item m 1) twin_fields (twin.octets ++ signed_octets twin_fields example 1 (dnskey_data twin ∷ [])) refl refl, tt),
+    unforged plain (handed_in twin_at) (own_key ∷ []) (SignedOf twin_at) (sought_of_keys (handed_in twin_at)) m (read_of m) refl (
+      no_signature plain 1500 (own_key ∷ []) (SignedOf twin_at) m (item m 0) refl,
+      (foreign 1500 (SignedOf twin_at) m (item m 1) twin_fields (twin.octets ++ signed_octets twin_fields example 1 (dnskey_data twin ∷ [])) refl refl, tt),
     )
 
 abbrev twin_address_fields : Fields
 twin_address_fields = fields 1 2 3600 1000 2000 twin
 
-twin_unforged : Unforged twin_at twin_at.answer
+twin_unforged : AnswerUnforged twin_at
 unfolding pointer_limit most_heads owner_at
 twin_unforged =
     let m = twin_at.answer in
-    unforged plain 1500 (own_key ∷ []) [] m (read_of m) refl (
-      no_signature plain 1500 (own_key ∷ []) [] m (item m 0) refl,
-      (foreign 1500 [] m (item m 1) twin_address_fields (twin.octets ++ signed_octets twin_address_fields a 1 (false_address ∷ [])) refl refl, tt),
+    unforged plain (handed_in twin_at) (own_key ∷ []) (SignedOf twin_at) (sought_of_answer pointer_limit (handed_in twin_at)) m (read_of m) refl (
+      no_signature plain 1500 (own_key ∷ []) (SignedOf twin_at) m (item m 0) refl,
+      (foreign 1500 (SignedOf twin_at) m (item m 1) twin_address_fields (twin.octets ++ signed_octets twin_address_fields a 1 (false_address ∷ [])) refl refl, tt),
     )
 
 pub twin_row : SaysFalsely without_keys_known
@@ -184,12 +200,11 @@ unfolding pointer_limit most_heads owner_at
 twin_row = record {
   answers = plain;
   handing = twin_keys;
-  mode = Nsec;
   versions = small ∷ [];
   honest = honest_in without_keys_known twin_at twin_is (λ e. cc) tt (inl refl) twin_keys_unforged tt twin_unforged (tt, tt);
   said = Records (false_address ∷ []);
   says = refl;
-  otherwise = not_one (Records (address ∷ [])) (Records (false_address ∷ [])) (λ e. cc);
+  otherwise = not_one twin_keys small (Records (false_address ∷ [])) (λ e. cc);
 }
 
 -- ---- an answer that the zone's key did not sign
@@ -201,32 +216,27 @@ forged_at = record {
   answer = forged_answer.answer_bytes;
   name = a;
   rtype = 1;
-  mode = Nsec;
   versions = small ∷ [];
-  outs = keys_out small (own_key ∷ []) ∷ [];
+  signed_keys = own_key ∷ [];
+  signings = [];
 }
 
-forged_is : IsRow forged_at
-forged_is = record { name_is = a_is; type_fits = refl; keys_octets = refl; answer_octets = refl; versions_are = (small_row, tt); of_versions = (of_small, tt) }
+forged_is : IsRow without_answer_unforged forged_at
+forged_is = record { name_is = a_is; type_fits = refl; keys_octets = refl; answer_octets = refl; some = λ e. cc; versions_are = (small_row without_answer_unforged, tt); of_versions = tt }
 
 pub forged_answer_row : SaysFalsely without_answer_unforged
 unfolding pointer_limit most_heads owner_at
 forged_answer_row = record {
   answers = plain;
   handing = forged_answer;
-  mode = Nsec;
   versions = small ∷ [];
-  honest = honest_in without_answer_unforged forged_at forged_is (λ e. cc) (keys_were Nsec small, tt) (inl refl)
-      (own_keys_unforged (made_of Nsec forged_at.outs) refl refl) own_keys_known tt (tt, tt);
+  honest = honest_in without_answer_unforged forged_at forged_is (λ e. cc) own_published (inl refl) (own_keys_unforged (handed_in forged_at) refl []) (own_keys_known forged_at.answer a 1) tt (tt, tt);
   said = Records (false_address ∷ []);
   says = refl;
-  otherwise = not_one (Records (address ∷ [])) (Records (false_address ∷ [])) (λ e. cc);
+  otherwise = not_one forged_answer small (Records (false_address ∷ [])) (λ e. cc);
 }
 
 -- ---- names that share a hash
-
-abbrev hashed_mode : Mode
-hashed_mode = Nsec3 0 [] false
 
 abbrev hashed_at : Row
 hashed_at = record {
@@ -235,16 +245,16 @@ hashed_at = record {
   answer = hashed_answer;
   name = a;
   rtype = 16;
-  mode = hashed_mode;
   versions = bare ∷ [];
-  outs = keys_out bare (own_key ∷ []) ∷ zone_out bare a 16 ∷ [];
+  signed_keys = own_key ∷ [];
+  signings = signed_from bare 1000 2000 ∷ [];
 }
 
 -- the chain has one name
-one_name : (n : Name) → Contains (nsec3_names (zone_of example bare) false) n → n ≡ example
+one_name : (n : Name) → Contains (nsec3_names (zone_in example bare) false) n → n ≡ example
 one_name n c = elim (has_contained (example ∷ []) n c) [ inl e ↦ e | inr none ↦ absurd none ]
 
-bare_chain : IsChainable plain.hash 0 [] false (zone_of example bare)
+bare_chain : IsChainable plain.hash 0 [] false (zone_in example bare)
 bare_chain = record {
   hashed = λ n c. (5 ∷ [], refl);
   octets = λ n c. (ltb-true 5 256 refl, tt);
@@ -252,50 +262,41 @@ bare_chain = record {
   apart = λ m n c d e. one_name m c ∙ sym (one_name n d);
 }
 
-bare_accepted : IsAccepted plain.hash example hashed_mode 0 bare
-bare_accepted = record {
-  faultless = record { of_class_in = refl; inside = refl; unsigned = refl; no_alias = refl; known = refl; no_star_delegation = refl; within_limit = refl };
-  soa = refl;
-  ttls = refl;
-  chain = bare_chain;
-}
+bare_row : IsInOrder without_hashes_apart bare
+bare_row = record { records_are = bare_is; in_order = in_order without_hashes_apart (zone_in example bare) bare_served; few = ltb-true 0 65536 refl; chain = bare_chain }
 
-bare_row : AreAccepted hashed_mode bare
-bare_row = record { records_are = bare_is; accepted = bare_accepted }
-
-of_bare : Contains (bare ∷ []) bare
-of_bare = at_place (bare ∷ []) bare 0 refl refl
-
-hashed_is : IsRow hashed_at
+hashed_is : IsRow without_hashes_apart hashed_at
 unfolding octet_of window_size window_count
-hashed_is = record { name_is = a_is; type_fits = refl; keys_octets = refl; answer_octets = refl; versions_are = (bare_row, tt); of_versions = (of_bare, (of_bare, tt)) }
+hashed_is = record { name_is = a_is; type_fits = refl; keys_octets = refl; answer_octets = refl; some = λ e. cc; versions_are = (bare_row, tt); of_versions = (at_place (bare ∷ []) bare 0 refl refl, tt) }
 
 abbrev hashed_fields : Fields
 hashed_fields = fields 50 2 0 1000 2000 own_key
 
-hashed_unforged : Unforged hashed_at hashed_answer
+hashed_owner : IsName hashed_apex
+hashed_owner = name hashed_apex refl refl
+
+hashed_unforged : AnswerUnforged hashed_at
 unfolding pointer_limit most_heads owner_at octet_of window_size window_count
 hashed_unforged =
-    let made = made_of hashed_mode hashed_at.outs in let m = hashed_answer in
-    unforged plain 1500 (own_key ∷ []) made m (read_of m) refl (
-      no_signature plain 1500 (own_key ∷ []) made m (item m 0) refl,
-      (signed_at 1500 made m (item m 1) hashed_fields (signed_octets hashed_fields hashed_apex 1 (next_of_apex ∷ [])) 2 refl refl refl, tt),
+    let m = hashed_answer in
+    unforged plain (handed_in hashed_at) (own_key ∷ []) (SignedOf hashed_at) (sought_of_answer pointer_limit (handed_in hashed_at)) m (read_of m) refl (
+      no_signature plain 1500 (own_key ∷ []) (SignedOf hashed_at) m (item m 0) refl,
+      (
+        signed 1500 (SignedOf hashed_at) m (item m 1) hashed_fields (signed_octets hashed_fields hashed_apex 1 (next_of_apex ∷ [])) refl
+            (of_version hashed_at bare hashed_apex 50 2 0 1000 2000 (next_of_apex ∷ []) (at_place hashed_at.signings (signed_from bare 1000 2000) 0 refl refl) hashed_owner refl
+            (OfChain (record { name = example; there = at_place (hashed_names (λ n. 5 ∷ []) (zone_in example bare) false) example 0 refl refl; owner_is = refl; rtype_is = refl; datas_are = refl })) refl refl refl refl refl refl),
+        tt,
+      ),
     )
-
-hashed_outs : AreOuts hashed_at
-unfolding octet_of window_size window_count
-hashed_outs = (keys_were hashed_mode bare, (question_was hashed_mode bare 1000 a 16 a_is refl refl refl, tt))
 
 pub shared_hash_row : SaysFalsely without_hashes_apart
 unfolding pointer_limit most_heads owner_at octet_of window_size window_count
 shared_hash_row = record {
   answers = plain;
   handing = shared_hash;
-  mode = hashed_mode;
   versions = bare ∷ [];
-  honest = honest_in without_hashes_apart hashed_at hashed_is (λ e. cc) hashed_outs (inl refl)
-      (own_keys_unforged (made_of hashed_mode hashed_at.outs) refl refl) own_keys_known hashed_unforged (tt, tt);
+  honest = honest_in without_hashes_apart hashed_at hashed_is (λ e. cc) own_published (inl refl) (own_keys_unforged (handed_in hashed_at) refl hashed_at.signings) (own_keys_known hashed_answer a 16) hashed_unforged (tt, tt);
   said = NoType;
   says = refl;
-  otherwise = not_one NoName NoType (λ e. cc);
+  otherwise = not_one shared_hash bare NoType (λ e. cc);
 }

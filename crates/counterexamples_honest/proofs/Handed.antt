@@ -1,16 +1,15 @@
 -- What each row has: names, records, octets that are short.
-use Rattle.std.proofs.Common.{◌≡◌, ℕ, ◌<◌, Bool, true, false, not, ◌&&◌, List, [], ◌∷◌, length, refl, inr}
+use Rattle.std.proofs.Common.{◌≡◌, ℕ, ◌<◌, Bool, true, false, not, ◌&&◌, List, [], ◌∷◌, length, refl, sym, ap, inl, inr}
 use Rattle.std.specs.Prelude.{nat_le, nat_lt}
 use Rattle.std.specs.List.{AllByRecursion, list_any}
 use Rattle.std.proofs.lemmas.Bool.{and_parts, leb-false, leb-true, ltb-true}
-use Rattle.definitions.specs.Dnskey.{Dnskey}
-use Rattle.definitions.specs.Name.{IsLabel, IsName, Name, wire_len}
+use Rattle.definitions.specs.Dnskey.{Dnskey, key_tag}
+use Rattle.definitions.specs.Laws.{IsSignable}
+use Rattle.definitions.specs.Name.{IsLabel, IsName, Name, low, wire, wire_len}
 use Rattle.messages.specs.Handed.{IsHanded}
 use Rattle.messages.specs.WrittenLaws.{IsQuestion}
 use Rattle.messages.proofs.Lists.{all_fail, all_more, all_pass}
-use Rattle.answer_shared.specs.Made.{IsShortGroup}
-use Rattle.answer_shared.specs.Served.{Group}
-use Rattle.counterexamples_honest.specs.World.{handed, own_key, soa}
+use Rattle.counterexamples_honest.specs.World.{delegation_of, example, fields, handed, own_key, soa}
 
 -- ---- names
 
@@ -59,16 +58,32 @@ soa_handed is = record {
   );
 }
 
--- ---- what was handed out
+-- a delegation to a server
+pub delegation : (n server : Name) → IsName n → IsName server → low server ≡ server → IsHanded (delegation_of n server)
+delegation n server is there lower = record {
+  owner = is;
+  rtype = ltb-true 2 65536 refl;
+  ttl = ltb-true 3600 4294967296 refl;
+  spells = inl (refl, record { name = server; is = there; written_is = refl; canonical_is = ap wire (sym lower) });
+}
 
-abbrev pub is_long_group : Group → Bool
-is_long_group g = list_any (λ d. nat_le 65536 (length d)) g.datas
+-- ---- what is signed
 
-short : (g : Group) → is_long_group g ≡ false → IsShortGroup g
-short g e = all_more (λ d. nat_le 65536 (length d) ≡ false) (λ d. length d < 65536) g.datas (λ d h. leb-false 65536 (length d) h) (all_fail (λ d. nat_le 65536 (length d)) g.datas e)
-
-pub all_short : (gs : List Group) → list_any is_long_group gs ≡ false → AllByRecursion IsShortGroup gs
-all_short gs e = all_more (λ g. is_long_group g ≡ false) IsShortGroup gs short (all_fail is_long_group gs e)
+-- fields of a signature by the zone's key over an RRset
+pub signable : (t labels ttl inception expiration : ℕ) (key : Dnskey) (n : Name) (ds : List (List ℕ)) → IsName n → nat_lt t 65536 ≡ true → nat_lt ttl 4294967296 ≡ true → nat_lt inception 4294967296 ≡ true → nat_lt expiration 4294967296 ≡ true → nat_lt (key_tag key) 65536 ≡ true → nat_lt 0 (length ds) ≡ true
+    → list_any (λ d. nat_le 65536 (length d)) ds ≡ false → IsSignable (fields t labels ttl inception expiration key) n 1 ds
+signable t labels ttl inception expiration key n ds is a b c d e f g = record {
+  covered = ltb-true t 65536 a;
+  ttl = ltb-true ttl 4294967296 b;
+  expiration = ltb-true expiration 4294967296 d;
+  inception = ltb-true inception 4294967296 c;
+  tag = ltb-true (key_tag key) 65536 e;
+  signer = name example refl refl;
+  named = is;
+  classed = ltb-true 1 65536 refl;
+  some = ltb-true 0 (length ds) f;
+  short = all_more (λ d. nat_le 65536 (length d) ≡ false) (λ d. length d < 65536) ds (λ d h. leb-false 65536 (length d) h) (all_fail (λ d. nat_le 65536 (length d)) ds g);
+}
 
 pub own_flags : AllByRecursion (λ (k : Dnskey). k.flags < 65536) (own_key ∷ [])
 own_flags = (ltb-true 257 65536 refl, tt)

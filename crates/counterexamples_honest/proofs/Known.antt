@@ -1,35 +1,34 @@
--- Each key of a DNSKEY answer whose digest the zone's DS record has is the zone's.
-use Rattle.std.proofs.Common.{◌≡◌, ℕ, false, List, [], ◌∷◌, length, Some, Ok, eqb, get_or, refl, sym, ap, subst, ◌∙◌, inl, inr}
+-- Each key of a DNSKEY answer that the zone's DS record trusts is the zone's.
+use Rattle.std.proofs.Common.{◌≡◌, ℕ, true, false, List, [], ◌∷◌, Ok, refl, sym, subst, ◌∙◌}
 use Rattle.std.specs.Prelude.{Contains}
 use Rattle.std.specs.List.{AllByRecursion}
 use Rattle.std.proofs.lemmas.Bool.{false≢true}
-use Rattle.definitions.specs.Dnskey.{Dnskey, Ds, digested}
+use Rattle.definitions.specs.Dnskey.{Dnskey}
 use Rattle.definitions.specs.Limits.{pointer_limit}
 use Rattle.messages.specs.Message.{Message, message}
-use Rattle.messages.proofs.Lists.{all_at, some_is}
-use Rattle.answer_judge.specs.Honest.{NoStranger}
+use Rattle.messages.proofs.Lists.{all_at}
+use Rattle.answer_honest.specs.Honest.{NoStranger}
 use Rattle.answer_judge.proofs.GivenLists.{has_contained}
 use Rattle.answer_judge.proofs.Spliced.{ok_is}
-use Rattle.answer_judge_keys.specs.Judging.{keys_in}
+use Rattle.answer_judge_keys.specs.Judging.{Handing, keys_in}
+use Rattle.answer_judge_keys.specs.Trusted.{is_trusted}
 use Rattle.counterexamples_honest.specs.World.{ds, example, own_key, plain}
 use Rattle.counterexamples_honest.proofs.Dealt.{at_place}
 
--- a key has not the DS record's digest, but the zone's has
+-- the zone's DS record does not trust a key, or it is the zone's
 abbrev pub IsKnown : Dnskey → Type 0
-IsKnown key = Some (length (digested example key) ∷ []) ≡ Some ds.digest → Contains (own_key ∷ []) key
+IsKnown key = is_trusted plain example (ds ∷ []) key ≡ true → Contains (own_key ∷ []) key
 
-pub no_stranger : (m : List ℕ) (read : Message) → message pointer_limit m ≡ Ok read → AllByRecursion IsKnown (keys_in m example read.records) → NoStranger plain pointer_limit example (own_key ∷ []) (ds ∷ []) m
-no_stranger m read reads known other key d is there named digest =
+pub no_stranger : (h : Handing) (read : Message) → h.apex ≡ example → h.ds ≡ ds ∷ [] → message pointer_limit h.dnskey_bytes ≡ Ok read → AllByRecursion IsKnown (keys_in h.dnskey_bytes h.apex read.records) → NoStranger plain pointer_limit h (own_key ∷ [])
+no_stranger h read apex set reads known other key is there trusted =
     let same : other ≡ read = ok_is other read (sym is ∙ reads) in
-    let this : d ≡ ds = elim (has_contained (ds ∷ []) d named) [ inl e ↦ e | inr none ↦ absurd none ] in
-    all_at IsKnown (keys_in m example read.records) key known (has_contained (keys_in m example read.records) key (subst (λ (x : Message). Contains (keys_in m example x.records) key) same there))
-    (subst (λ (y : Ds). Some (length (digested example key) ∷ []) ≡ Some y.digest) this digest)
+    let here : Contains (keys_in h.dnskey_bytes h.apex read.records) key = subst (λ (x : Message). Contains (keys_in h.dnskey_bytes h.apex x.records) key) same there in
+    all_at IsKnown (keys_in h.dnskey_bytes h.apex read.records) key known (has_contained (keys_in h.dnskey_bytes h.apex read.records) key here)
+    ((λ i. is_trusted plain (sym apex i) (sym set i) key) ∙ trusted)
 
 pub own_known : IsKnown own_key
-own_known digest = at_place (own_key ∷ []) own_key 0 refl refl
+own_known trusted = at_place (own_key ∷ []) own_key 0 refl refl
 
--- a key with another digest
-pub foreign_known : (k : Dnskey) → eqb (length (digested example k)) 15 ≡ false → IsKnown k
-foreign_known k unlike digest =
-    let length_is : length (digested example k) ≡ 15 = ap (λ (xs : List ℕ). get_or xs 0 0) (some_is (length (digested example k) ∷ []) (15 ∷ []) digest) in
-    absurd (false≢true (sym unlike ∙ ap (λ n. eqb n 15) length_is))
+-- a key that it does not trust
+pub foreign_known : (k : Dnskey) → is_trusted plain example (ds ∷ []) k ≡ false → IsKnown k
+foreign_known k unlike trusted = absurd (false≢true (sym unlike ∙ trusted))

@@ -1,5 +1,6 @@
 pub mod Dealt
 pub mod FalseRows
+pub mod DisorderRows
 pub mod Handed
 pub mod HonestRows
 pub mod Known

@@ -1,28 +1,30 @@
--- Messages that are put together from any number of messages which were handed out.
+-- Messages that are put together from any number of messages whose RRsets were signed.
 use Rattle.std.specs.Prelude.{◌≡◌, ◌⊎◌, ℕ, true, List, Contains, Some, Ok}
 use Rattle.std.specs.List.{AllByRecursion}
 use Rattle.definitions.specs.Dnskey.{Dnskey}
 use Rattle.definitions.specs.Name.{Name}
 use Rattle.definitions.specs.Signing.{Fields, in_time}
-use Rattle.messages.specs.HandedRr.{HandedRr}
 use Rattle.messages.specs.Message.{AreOctets, Asked, Message, Spelled, message, rrsig_at}
-use Rattle.answer_shared.specs.Made.{HandedOut, groups_in}
-use Rattle.answer_shared.specs.Served.{Served, by_tag}
+use Rattle.answer_shared.specs.Served.{Group}
 use Rattle.answer_shared.specs.Told.{Tells}
 use Rattle.answer_scheme.specs.Answers.{Answers}
+use Rattle.answer_honest.specs.Honest.{IsHonest}
 use Rattle.answer_judge_keys.specs.Judging.{Handing}
-use Rattle.answer_judge.specs.Honest.{IsHonest, WasSigned}
-use Rattle.answer_judge.specs.Splices.{Binds, PassesNowhere}
+use Rattle.answer_judge_facts.specs.Sought.{Sought}
+use Rattle.answer_judge.specs.Splices.{AreSigned, Binds, PassesNowhere}
 
--- A signature stands in bytes that tell a message which was handed out, in a record that held at some moment. No RRset of that
--- message is one of signatures.
-pub record IsQuoted (a : Answers) (k : ℕ) (serve : List HandedRr → Served) (apex : Name) (life : ℕ) (outs : List HandedOut) (signature : List ℕ) : Type 0 where
-  pub out : HandedOut
-  pub was : Contains outs out
-  pub others : AllByRecursion (λ g. g.rtype ≡ 46 → ⊥) (groups_in serve apex out)
+-- A signature stands in bytes that tell RRsets which were signed, in a record that held at some moment. No RRset of them is one of
+-- signatures.
+pub record IsQuoted (a : Answers) (k : ℕ) (apex : Name) (Signed : List ℕ → Type 0) (signature : List ℕ) : Type 0 where
+  pub at : ℕ
+  pub life : ℕ
+  pub signers : List Dnskey
+  pub groups : List Group
+  pub were : AreSigned Signed apex at life groups
+  pub others : AllByRecursion (λ g. g.rtype ≡ 46 → ⊥) groups
   pub asked : Asked
   pub bytes : List ℕ
-  pub tells : Tells a.verifies k apex out.at life (by_tag out.signers) asked (groups_in serve apex out) bytes
+  pub tells : Tells a.verifies k apex at life signers asked groups bytes
   pub read : Message
   pub reads : message k bytes ≡ Ok read
   pub spelled : Spelled
@@ -35,14 +37,14 @@ pub record IsQuoted (a : Answers) (k : ℕ) (serve : List HandedRr → Served) (
 
 -- each signature of a message that holds at the moment is quoted, under whatever owner and with whatever fields, or passes
 -- under no published key
-abbrev pub AreQuotes : Answers → ℕ → ℕ → List Dnskey → (List HandedRr → Served) → Name → ℕ → List HandedOut → List ℕ → Type 0
-AreQuotes a k now published serve apex life outs m =
+abbrev pub AreQuotes : Answers → ℕ → ℕ → List Dnskey → Name → (List ℕ → Type 0) → List ℕ → Type 0
+AreQuotes a k now published apex Signed m =
     (read : Message) (r : Spelled) (f : Fields) (signature : List ℕ)
     → message k m ≡ Ok read → Contains read.records r → r.rtype ≡ 46 → rrsig_at k m r ≡ Some (f, signature) → in_time f now ≡ true
-    → IsQuoted a k serve apex life outs signature ⊎ PassesNowhere a published signature
+    → IsQuoted a k apex Signed signature ⊎ PassesNowhere a published signature
 
 -- such a message is honest, where a signature passes over one string of octets alone
 abbrev pub QuotesAreHonest : Type 0
 QuotesAreHonest =
-    (a : Answers) (k : ℕ) (h : Handing) (published : List Dnskey) (serve : List HandedRr → Served) (apex : Name) (life : ℕ) (outs : List HandedOut) (m : List ℕ)
-    → Binds a → AreOctets m → AreQuotes a k h.now published serve apex life outs m → IsHonest a k h published (WasSigned serve apex outs) m
+    (a : Answers) (k : ℕ) (h : Handing) (published : List Dnskey) (apex : Name) (Signed : List ℕ → Type 0) (sought : List Spelled → Sought) (m : List ℕ)
+    → Binds a → AreOctets m → AreQuotes a k h.now published apex Signed m → IsHonest a k h published Signed sought m

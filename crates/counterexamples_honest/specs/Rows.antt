@@ -1,33 +1,60 @@
 -- What is handed to a judge at second 1500, of small zones whose one key signs for seconds 1000 to 2000.
-use Rattle.std.specs.Prelude.{ℕ, ◌+◌, true, List, [], ◌∷◌, ◌++◌, length, codes}
+use Rattle.std.specs.Prelude.{ℕ, ◌+◌, true, false, List, [], ◌∷◌, ◌++◌, length, codes}
 use Rattle.std.specs.List.{flat_map}
 use Rattle.definitions.specs.Bitmap.{bitmap}
 use Rattle.definitions.specs.Dnskey.{Dnskey, Ds, dnskey_data}
 use Rattle.definitions.specs.Name.{Name, wire}
+use Rattle.definitions.specs.ZoneChain.{Nsec, Nsec3}
 use Rattle.messages.specs.HandedRr.{HandedRr}
 use Rattle.answer_judge_keys.specs.Judging.{Handing}
-use Rattle.counterexamples_honest.specs.World.{a, address, address_of, b, ds, example, false_address, fields, message_of, other, own_key, rr, rrsig, soa, star, stranger, text_of, twin, x, x_b}
+use Rattle.answer_honest.specs.Versions.{Version}
+use Rattle.counterexamples_honest.specs.World.{a, address, address_of, alias_of, b, delegation_of, ds, example, false_address, fields, handed, message_of, other, own_key, redirect_of, rr, rrsig, soa, star, stranger, text_of, twin, x, x_b}
 
 -- ---- zones
 
+-- with a chain of names
+abbrev pub by_names : List HandedRr → Version
+by_names rs = record { records = rs; mode = Nsec }
+
 -- an address
-abbrev pub small : List HandedRr
-small = soa ∷ address_of a ∷ []
+abbrev pub small : Version
+small = by_names (soa ∷ address_of a ∷ [])
 
 -- a wildcard's address, and that of a name beside it
-abbrev pub starred : List HandedRr
-starred = soa ∷ address_of star ∷ address_of b ∷ []
+abbrev pub starred : Version
+starred = by_names (soa ∷ address_of star ∷ address_of b ∷ [])
 
--- the apex alone
-abbrev pub bare : List HandedRr
-bare = soa ∷ []
+-- the apex alone, with a chain of hashes
+abbrev pub bare : Version
+bare = record { records = soa ∷ []; mode = Nsec3 0 [] false }
 
 -- a wildcard's text beside an address, and later a text of a name's own
-abbrev pub first_version : List HandedRr
-first_version = soa ∷ text_of star ∷ address_of b ∷ []
+abbrev pub first_version : Version
+first_version = by_names (soa ∷ text_of star ∷ address_of b ∷ [])
 
-abbrev pub second_version : List HandedRr
-second_version = soa ∷ text_of x ∷ []
+abbrev pub second_version : Version
+second_version = by_names (soa ∷ text_of x ∷ [])
+
+-- ---- zones that are not in order
+
+-- an address beside an alias
+abbrev pub beside_alias : Version
+beside_alias = by_names (soa ∷ alias_of a x ∷ address_of a ∷ [])
+
+-- an address below a DNAME
+abbrev pub below_redirect : Version
+below_redirect = by_names (soa ∷ redirect_of b x ∷ address_of x_b ∷ [])
+
+-- a DNAME at a delegation
+abbrev pub cut_redirect : Version
+cut_redirect = by_names (soa ∷ delegation_of b x ∷ redirect_of b x ∷ [])
+
+-- an NSEC record that is handed in as data, beside an address
+abbrev pub next_handed : List ℕ
+next_handed = wire example ++ bitmap (6 ∷ 46 ∷ 47 ∷ 48 ∷ [])
+
+abbrev pub chained_by_hand : Version
+chained_by_hand = by_names (soa ∷ address_of a ∷ handed example 47 next_handed ∷ [])
 
 -- ---- DNSKEY answers
 
@@ -87,6 +114,20 @@ hashed_answer =
     message_of a 16 2
     (rr hashed_apex 50 next_of_apex ++ rrsig hashed_apex (fields 50 2 0 1000 2000 own_key) own_key hashed_apex (next_of_apex ∷ []))
 
+-- an address below a DNAME, and the record of the chain of a delegation that has one
+abbrev pub address_below : List ℕ
+address_below = message_of x_b 1 2 (rr x_b 1 address ++ rrsig x_b (fields 1 3 3600 1000 2000 own_key) own_key x_b (address ∷ []))
+
+abbrev pub next_of_cut : List ℕ
+next_of_cut = wire example ++ bitmap (2 ∷ 46 ∷ 47 ∷ [])
+
+abbrev pub cut_answer : List ℕ
+cut_answer = message_of x_b 1 2 (rr b 47 next_of_cut ++ rrsig b (fields 47 2 0 1000 2000 own_key) own_key b (next_of_cut ∷ []))
+
+-- an NSEC record of the apex, which leads to the apex
+abbrev pub denied_by_hand : List ℕ
+denied_by_hand = message_of a 1 2 (rr example 47 next_handed ++ rrsig example (fields 47 1 3600 1000 2000 own_key) own_key example (next_handed ∷ []))
+
 -- ---- what is handed in
 
 abbrev pub handing : List Ds → List ℕ → List ℕ → Name → ℕ → Handing
@@ -145,3 +186,17 @@ shared_hash = handing (ds ∷ []) own_keys hashed_answer a 16
 -- of two versions at one moment
 abbrev pub mixed_at_once : Handing
 mixed_at_once = handing (ds ∷ []) own_keys (mixed_answer 1000) x 16
+
+-- ---- rows of zones that are not in order
+
+abbrev pub of_alias : Handing
+of_alias = address_handed own_keys (address_by own_key address 1000 2000)
+
+abbrev pub of_redirected : Handing
+of_redirected = handing (ds ∷ []) own_keys address_below x_b 1
+
+abbrev pub of_cut_redirect : Handing
+of_cut_redirect = handing (ds ∷ []) own_keys cut_answer x_b 1
+
+abbrev pub of_hand : Handing
+of_hand = handing (ds ∷ []) own_keys denied_by_hand a 1

@@ -81,6 +81,17 @@ address = 192 ∷ 0 ∷ 2 ∷ 1 ∷ []
 abbrev pub address_of : Name → HandedRr
 address_of owner = handed owner 1 address
 
+-- an alias, and one for all names below its owner
+abbrev pub alias_of : Name → Name → HandedRr
+alias_of owner target = handed owner 5 (wire target)
+
+abbrev pub redirect_of : Name → Name → HandedRr
+redirect_of owner target = handed owner 39 (wire target)
+
+-- a delegation
+abbrev pub delegation_of : Name → Name → HandedRr
+delegation_of owner server = record (handed owner 2 (wire server)) { is_unknown = false }
+
 -- a text of one letter
 abbrev pub text : List ℕ
 text = 1 ∷ 120 ∷ []

@@ -4,7 +4,7 @@ ghost use Rattle.std.specs.Prelude.{[], ◌∷◌};
 ghost use Rattle.definitions.specs.Zone.{NoName, Records};
 ghost use Rattle.answer_judge_keys.specs.Judging.{Says, Refuses};
 ghost use Rattle.answer_judge_keys.specs.declared.verdict.Refusal.TheVariants.{NoTrustedKey, NotProven};
-ghost use Rattle.counterexamples_honest.specs.Premises.{AllAreHonest, IsHonestCase, IsMixture, NoneIsFalse, SaysFalsely, without_answer_unforged, without_ds, without_handed_out, without_hashes_apart, without_keys_known, without_keys_unforged, without_settled};
+ghost use Rattle.counterexamples_honest.specs.Premises.{AllAreHonest, IsHonestCase, IsMixture, NoneIsFalse, SaysFalsely, without_alone, without_answer_unforged, without_childless, without_ds, without_hashes_apart, without_keys_known, without_keys_published, without_keys_unforged, without_ordinary, without_settled, without_uncut};
 ghost use Rattle.counterexamples_honest.specs.Quoted.{QuotesAreHonest};
 ghost use Rattle.counterexamples_honest.specs.Rows.{first_version, forged_late, mixed, of_strangers, own, second_version, small, spliced, starred};
 ghost use Rattle.counterexamples_honest.specs.World.{address, plain};
@@ -15,7 +15,7 @@ pub fn all_premises_are_honesty()
     ensures truly { NoneIsFalse }
 {}
 
-/// Messages are honest whose signatures that hold were quoted from messages which were handed out, however many, under whatever
+/// Messages are honest whose signatures that hold were quoted from RRsets which were signed, however many, under whatever
 /// owners and beside whatever records, or pass under no published key; where a signature passes over one string of octets
 /// alone.
 pub fn quotes_are_honest()
@@ -67,7 +67,7 @@ pub fn no_answer_may_be_forged()
 
 /// A key that the zone signs into its DNSKEY RRset may sign whatever answer, so it is to be one of those that are published.
 pub fn keys_that_are_signed_must_be_published()
-    ensures { SaysFalsely without_handed_out }
+    ensures { SaysFalsely without_keys_published }
 {}
 
 /// A name that has the hash of another passes for it: a name that does not exist, for one that lacks the type (RFC 5155,
@@ -80,6 +80,27 @@ pub fn no_two_names_may_share_a_hash()
 /// signatures of one moment calls a name missing that both versions have.
 pub fn versions_do_not_mix()
     ensures { IsMixture plain mixed (first_version ∷ second_version ∷ []) NoName }
+{}
+
+/// An address beside a CNAME is proved, though the name is an alias: nothing may stand beside a CNAME (RFC 1034, 3.6.2).
+pub fn nothing_may_stand_beside_a_cname()
+    ensures { SaysFalsely without_alone }
+{}
+
+/// An address below a DNAME is proved, though the name is redirected: nothing may stand below a DNAME (RFC 6672, 2.4).
+pub fn nothing_may_stand_below_a_dname()
+    ensures { SaysFalsely without_childless }
+{}
+
+/// A delegation's NSEC record does not show a DNAME beside its NS: so names below are called delegated that are redirected
+/// (RFC 6672, 2.3).
+pub fn no_dname_may_stand_at_a_delegation()
+    ensures { SaysFalsely without_uncut }
+{}
+
+/// An NSEC record that is handed in as data is signed, and denies what the zone has (RFC 4035, 2.3).
+pub fn no_record_may_be_of_a_type_that_signing_adds()
+    ensures { SaysFalsely without_ordinary }
 {}
 
 /// Two versions at one moment are not told apart, so at one moment a zone is to have one version.

@@ -1,8 +1,8 @@
 -- Aliases: which names CNAME and DNAME records lead elsewhere, and zones in which these records are in order
 -- (RFC 1034, 3.6.2; RFC 2181, 10.1; RFC 6672).
-use Rattle.std.specs.Prelude.{◌≡◌, ℕ, Bool, true, false, not, ◌&&◌, ◌||◌, ◌==◌, List, [], ◌∷◌, length, Some, None, Contains}
+use Rattle.std.specs.Prelude.{◌≡◌, ℕ, Bool, true, false, not, ◌&&◌, ◌||◌, ◌==◌, List, [], ◌∷◌, Some, None, Contains}
 use Rattle.definitions.specs.Name.{Name, low, strictly_above}
-use Rattle.definitions.specs.Zone.{Zone, owners, has, is_delegation, is_live, is_open, cut, exists, ce, star_under, data_at}
+use Rattle.definitions.specs.Zone.{Zone, owners, has, is_delegation, is_live, is_open, cut, exists, ce, star_under}
 
 -- CNAME 5 and DNAME 39
 abbrev pub is_alias_type : ℕ → Bool
@@ -36,13 +36,7 @@ is_aliased z optout name t = let q = low name in is_redirected z q || (not (is_o
 pub record IsOrderly (z : Zone) : Type 0 where
   -- nothing stands beside a CNAME (RFC 1034, 3.6.2)
   pub alone : (o : Name) (t : ℕ) → has z o 5 ≡ true → has z o t ≡ true → t ≡ 5
-  -- an owner has one CNAME (RFC 2181, 10.1)
-  pub one_cname : (o : Name) → has z o 5 ≡ true → length (data_at z o 5) ≡ 1
-  -- an owner has one DNAME (RFC 6672, 2.4)
-  pub one_dname : (o : Name) → has z o 39 ≡ true → length (data_at z o 39) ≡ 1
   -- no DNAME stands at a delegation (RFC 6672, 2.3)
   pub uncut : (o : Name) → has z o 39 ≡ true → is_delegation z o ≡ false
   -- nothing stands below a DNAME (RFC 6672, 2.4)
   pub childless : (o below : Name) → has z o 39 ≡ true → Contains (owners z) below → strictly_above o below ≡ false
-  -- no DNAME stands at a wildcard (RFC 6672, 3.3)
-  pub no_star : (e : Name) → has z (star_under e) 39 ≡ false

@@ -1,5 +1,5 @@
-use Rattle.counterexamples_honest.proofs.FalseRows.{handed_out_row}
+use Rattle.counterexamples_honest.proofs.FalseRows.{signed_keys_row}
 use Rattle.counterexamples_honest.proofs.laws.keys_that_are_signed_must_be_published.Goals as goal
 
 pub returns : goal.returns
-returns c = handed_out_row
+returns c = signed_keys_row
