@@ -11,7 +11,8 @@ use Rattle.definitions.specs.ZoneChain.{types_among, types_at, at_apex, if_has, 
 use Rattle.definitions.proofs.BitmapLaws.{spells_set}
 use Rattle.definitions.proofs.Members.{In, any_of}
 use Rattle.definitions.proofs.ZoneNames.{low-low}
-use Rattle.denial_laws.specs.Truth.{IsServable, is_foreign_type}
+use Rattle.denial_laws.specs.Aliases.{IsOrderly, is_alias_type}
+use Rattle.denial_laws.specs.Truth.{IsServable, is_added_type, is_foreign_type}
 use Rattle.denial_laws.specs.NsecRules.{is_cut}
 use Rattle.denial_laws.specs.Laws.{is_asked_type}
 use Rattle.denial_laws.proofs.NameFacts.{same_names, names_same, strictly_from, strictly_unlike}
@@ -27,7 +28,7 @@ all_at {X} P (y ∷ xs) x h i = elim i [
 abbrev is_added : ℕ → Bool
 is_added t = list_any (nat_eq t) (46 ∷ 47 ∷ 48 ∷ 51 ∷ [])
 
-not_added : (t : ℕ) → is_foreign_type t ≡ false → is_added t ≡ false
+not_added : (t : ℕ) → is_added_type t ≡ false → is_added t ≡ false
 not_added t h =
     let a = or_parts (nat_eq t 46) _ h in
     let b = or_parts (nat_eq t 47) _ a.1 in
@@ -36,9 +37,16 @@ not_added t h =
     let e = or_parts (nat_eq t 51) _ d.1 in
     λ i. a.0 i || (b.0 i || (c.0 i || (e.0 i || false)))
 
-asked_ordinary : (t : ℕ) → is_asked_type t ≡ true → is_foreign_type t ≡ false
-asked_ordinary t h = false_from_ne_true (is_foreign_type t) (λ e.
+asked_not_foreign : (t : ℕ) → is_asked_type t ≡ true → is_foreign_type t ≡ false
+asked_not_foreign t h = false_from_ne_true (is_foreign_type t) (λ e.
     false≢true (sym (ap (λ b. not (b || nat_eq t 0 || nat_eq t 41 || (nat_le 128 t && nat_le t 255))) e) ∙ h))
+
+asked_ordinary : (t : ℕ) → is_asked_type t ≡ true → is_added_type t ≡ false
+asked_ordinary t h = (or_parts (is_added_type t) (is_alias_type t) (asked_not_foreign t h)).0
+
+-- no question asks for CNAME
+pub asked_no_cname : (t : ℕ) → is_asked_type t ≡ true → (t == 5) ≡ false
+asked_no_cname t h = (or_parts (t == 5) (t == 39) (or_parts (is_added_type t) (is_alias_type t) (asked_not_foreign t h)).1).0
 
 -- ---- the types at an owner
 
@@ -56,12 +64,21 @@ types_have : (rs : List Rr) (o : Name) (t : ℕ) → list_any (nat_eq t) (types_
 types_have [] o t = refl
 types_have (r ∷ rs) o t = type_first (labels_eq (owner_of r) o) t r (filter (λ r. labels_eq (owner_of r) o) rs) ∙ ap (λ b. is_of o t r || b) (types_have rs o t)
 
--- no owner has a type that signing adds, nor an alias
-no_foreign : (z : Zone) → IsServable z → (o : Name) (t : ℕ) → is_foreign_type t ≡ true → has z o t ≡ false
-no_foreign z s o t h = false_from_ne_true (has z o t) (λ e.
+-- no owner has a type that signing adds
+none_added : (z : Zone) → IsServable z → (o : Name) (t : ℕ) → is_added_type t ≡ true → has z o t ≡ false
+none_added z s o t h = false_from_ne_true (has z o t) (λ e.
     let r = any_of (is_of o t) z.records e in
     let same : r.0.rtype ≡ t = eqb-true r.0.rtype t (and_parts (labels_eq (owner_of r.0) o) _ r.1.1).1 in
-    false≢true (sym (all_at (λ r. is_foreign_type r.rtype ≡ false) z.records r.0 s.ordinary r.1.0) ∙ ap is_foreign_type same ∙ h))
+    false≢true (sym (all_at (λ r. is_added_type r.rtype ≡ false) z.records r.0 s.ordinary r.1.0) ∙ ap is_added_type same ∙ h))
+
+-- nor has a delegation CNAME or DNAME
+pub cut_no_cname : (z : Zone) → IsOrderly z → (o : Name) → is_delegation z o ≡ true → has z o 5 ≡ false
+cut_no_cname z s o d = false_from_ne_true (has z o 5) (λ h.
+    let two : 2 ≡ 5 = s.alone o 2 h (and_parts (has z o 2) (strictly_above (apex_of z) o) d).0 in
+    omega (arith, two))
+
+pub cut_no_dname : (z : Zone) → IsOrderly z → (o : Name) → is_delegation z o ≡ true → has z o 39 ≡ false
+cut_no_dname z s o d = false_from_ne_true (has z o 39) (λ h. false≢true (sym (s.uncut o h) ∙ d))
 
 -- ---- lists of types that a record of a chain has
 
@@ -140,12 +157,12 @@ nsec3_has z o =
 
 -- ---- what bits say
 
--- Bits of a name's record: of NS whether the name has it, no alias, and of a type that is asked for whether the name has it,
--- at a delegation of DS alone.
+-- Bits of a name's record: of NS, CNAME and DNAME whether the name has it, and of a type that is asked for whether the name
+-- has it, at a delegation of DS alone.
 pub record ShowsTypes (z : Zone) (o : Name) (bits : List ℕ) : Type 0 where
   pub two : bitmap_has bits 2 ≡ has z o 2
-  pub alias : bitmap_has bits 5 ≡ false
-  pub redirect : bitmap_has bits 39 ≡ false
+  pub alias : bitmap_has bits 5 ≡ has z o 5
+  pub redirect : bitmap_has bits 39 ≡ has z o 39
   pub shows : (t : ℕ) → t < 65536 → (is_delegation z o ≡ false) ⊎ (t ≡ 43) → has z o t ≡ true → bitmap_has bits t ≡ true
   pub lacks : (t : ℕ) → t < 65536 → is_asked_type t ≡ true → has z o t ≡ false → bitmap_has bits t ≡ false
 
@@ -157,13 +174,13 @@ module _ (z : Zone) (s : IsServable z) (o : Name) (ts : List ℕ) (k : HasTypes 
   two_shown true d = k.cut d 2 refl ∙ sym (and_parts (has z o 2) (strictly_above (apex_of z) o) d).0
   two_shown false d = k.plain d 2 refl
 
-  alias_shown : (d : Bool) → is_delegation z o ≡ d → list_any (nat_eq 5) ts ≡ false
-  alias_shown true d = k.cut d 5 refl
-  alias_shown false d = k.plain d 5 refl ∙ no_foreign z s o 5 refl
+  alias_shown : (d : Bool) → is_delegation z o ≡ d → list_any (nat_eq 5) ts ≡ has z o 5
+  alias_shown true d = k.cut d 5 refl ∙ sym (cut_no_cname z s.aliases o d)
+  alias_shown false d = k.plain d 5 refl
 
-  redirect_shown : (d : Bool) → is_delegation z o ≡ d → list_any (nat_eq 39) ts ≡ false
-  redirect_shown true d = k.cut d 39 refl
-  redirect_shown false d = k.plain d 39 refl ∙ no_foreign z s o 39 refl
+  redirect_shown : (d : Bool) → is_delegation z o ≡ d → list_any (nat_eq 39) ts ≡ has z o 39
+  redirect_shown true d = k.cut d 39 refl ∙ sym (cut_no_dname z s.aliases o d)
+  redirect_shown false d = k.plain d 39 refl
 
   type_shown : (t : ℕ) → (is_delegation z o ≡ false) ⊎ (t ≡ 43) → has z o t ≡ true → (d : Bool) → is_delegation z o ≡ d → list_any (nat_eq t) ts ≡ true
   type_shown t c h true d = elim c [
@@ -173,7 +190,7 @@ module _ (z : Zone) (s : IsServable z) (o : Name) (ts : List ℕ) (k : HasTypes 
         k.cut d t (ap is_added e) ∙ (λ i. nat_eq (e i) 2 || (nat_eq (e i) 43 && there i))
   ]
   type_shown t c h false d =
-      let ordinary : is_foreign_type t ≡ false = false_from_ne_true _ (λ f. false≢true (sym (no_foreign z s o t f) ∙ h)) in
+      let ordinary : is_added_type t ≡ false = false_from_ne_true _ (λ f. false≢true (sym (none_added z s o t f) ∙ h)) in
       k.plain d t (not_added t ordinary) ∙ h
 
   type_lacks : (t : ℕ) → is_asked_type t ≡ true → has z o t ≡ false → (d : Bool) → is_delegation z o ≡ d → list_any (nat_eq t) ts ≡ false

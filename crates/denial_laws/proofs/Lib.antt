@@ -1,6 +1,7 @@
 pub mod NameFacts
 pub mod ChainBits
 pub mod ZoneCuts
+pub mod Unaliased
 pub mod Adjacent
 pub mod Found
 pub mod NsecEncloser

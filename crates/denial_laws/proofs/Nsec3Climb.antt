@@ -3,10 +3,10 @@ use Rattle.std.proofs.Common.{◌≡◌, ℕ, ◌<◌, Bool, true, false, ◌&&�
 use Rattle.std.specs.Prelude.{◌==◌, if◌then◌else◌}
 use Rattle.std.specs.List.{AllByRecursion, list_any, Contains}
 use Rattle.std.specs.Str.{str_to_ascii_lowercase}
-use Rattle.std.proofs.lemmas.Bool.{and_parts, and_from, and_left, or_cases, false≢true, false_from_ne_true}
+use Rattle.std.proofs.lemmas.Bool.{and_parts, and_from, and_left, or_cases, not-true, false≢true, false_from_ne_true}
 use Rattle.definitions.specs.Name.{Name, low, same, labels_eq, at_or_above, strictly_above}
 use Rattle.definitions.specs.Bitmap.{bitmap_has}
-use Rattle.definitions.specs.Zone.{Zone, Verdict, NoName, StarRecords, StarNoType, Delegated, Open, apex_of, is_delegation, kept, exists, has, star_under, data_at, at_star, verdict}
+use Rattle.definitions.specs.Zone.{Zone, Verdict, NoName, StarRecords, StarNoType, Delegated, Open, apex_of, is_delegation, kept, exists, has, star_under, data_at, at_star}
 use Rattle.definitions.specs.ZoneChain.{nsec3_names}
 use Rattle.definitions.specs.Laws.{NoneShare, SharesNone}
 use Rattle.definitions.proofs.Members.{any_of}
@@ -14,14 +14,17 @@ use Rattle.definitions.proofs.ZoneNames.{above_itself, low-low, lowered_above}
 use Rattle.denial_laws.specs.Facts.{HashLink}
 use Rattle.denial_laws.specs.NsecRules.{first_some, is_cut, lacks, star_lacks}
 use Rattle.denial_laws.specs.Nsec3Rules.{is_at, covers_hash, is_matched, encloses, cut_above, star_at, beyond, enclosed, climbed}
+use Rattle.denial_laws.specs.Aliases.{has_alias}
 use Rattle.denial_laws.specs.Truth.{IsServable, IsTrueHashLink, concerned}
+use Rattle.denial_laws.specs.Laws.{IsSaidBy}
 use Rattle.denial_laws.proofs.NameFacts.{same_names, names_same, above-low, strictly_at, strictly_unlike, strictly_above_at}
 use Rattle.denial_laws.proofs.ChainBits.{all_at, cut_test}
 use Rattle.denial_laws.proofs.Found.{either_from, first_from, none_from}
 use Rattle.denial_laws.proofs.HashChain.{concerns_name, concerns_star, matched_kept, matched_shows, covered_gone}
-use Rattle.denial_laws.proofs.AtName.{on_true, not_there}
-use Rattle.denial_laws.proofs.Verdicts.{verdict_delegated, IsGap, gap_open, gap_star}
-use Rattle.denial_laws.proofs.ZoneCuts.{kept_inside, kept_lowered, kept_exists, kept_delegation, no_star_cut}
+use Rattle.denial_laws.proofs.AtName.{on_true, not_there, lacks_cname}
+use Rattle.denial_laws.proofs.Verdicts.{verdict_delegated, IsGap, gap_gone, gap_unredirected, gap_child, gap_left_open, gap_open, gap_encloser, gap_star}
+use Rattle.denial_laws.proofs.ZoneCuts.{cut_from, kept_live, kept_inside, kept_lowered, kept_exists, kept_delegation, no_star_cut}
+use Rattle.denial_laws.proofs.Unaliased.{cut_unredirected, no_alias, cut_unaliased, star_unaliased, unaliased}
 
 -- ---- the climb
 
@@ -65,13 +68,25 @@ climbed_from apex hash (l ∷ p) t fs v i h = go (same (l ∷ p) apex) refl (is_
 
 -- ---- the rules at the closest encloser
 
+-- what a wildcard says of the names that it stands for, where it has no CNAME that answers in its place
+abbrev pub SaysByStar : Zone → Name → ℕ → Verdict → Type 0
+SaysByStar z s t v = (v ≡ at_star z s t) × (has_alias z s t ≡ false)
+
 -- below a gap nothing is told under opt-out; without it the wildcard decides
-pub gap_says : (z : Zone) (ex : Bool) (l : List ℕ) (e q : Name) (t : ℕ) (v : Verdict) → IsGap z ex l e (low q) → (o : Bool) → o ≡ ex → (r : Option Verdict) → (ex ≡ false → r ≡ Some v → v ≡ at_star z (star_under e) t)
-    → (elim o as (λ _. Option Verdict) [ true ↦ Some Open | false ↦ r ]) ≡ Some v → v ≡ verdict z ex q t
-gap_says z true l e q t v g true same r f h = let is : Open ≡ v = cc in sym is ∙ sym (gap_open z l e q t g)
-gap_says z false l e q t v g false same r f h = f refl h ∙ sym (gap_star z l e q t g)
-gap_says z true l e q t v g false same r f h = absurd (false≢true same)
-gap_says z false l e q t v g true same r f h = absurd (false≢true (sym same))
+pub gap_says : (z : Zone) → IsServable z → (ex : Bool) (l : List ℕ) (e q : Name) (t : ℕ) (v : Verdict) → IsGap z ex l e (low q) → has z e 39 ≡ false → (o : Bool) → o ≡ ex → (r : Option Verdict)
+    → (ex ≡ false → r ≡ Some v → SaysByStar z (star_under e) t v) → (elim o as (λ _. Option Verdict) [ true ↦ Some Open | false ↦ r ]) ≡ Some v → IsSaidBy z ex q t v
+gap_says z s true l e q t v g n true same r f h =
+    let is : Open ≡ v = cc in (
+      sym is ∙ sym (gap_open z l e q t g),
+      unaliased z true q t (gap_unredirected z s.aliases true l e (low q) g n) (λ o. absurd (false≢true (sym o ∙ gap_left_open z l e (low q) g))),
+    )
+gap_says z s false l e q t v g n false same r f h =
+    let told = f refl h in (
+      told.0 ∙ sym (gap_star z l e q t g),
+      unaliased z false q t (gap_unredirected z s.aliases false l e (low q) g n) (λ _. star_unaliased z (low q) t e (gap_gone z false l e (low q) g) (gap_encloser z l e (low q) (low-low q) g) told.1),
+    )
+gap_says z s true l e q t v g n false same r f h = absurd (false≢true same)
+gap_says z s false l e q t v g n true same r f h = absurd (false≢true (sym same))
 
 module _ (z : Zone) (hash : Name → List ℕ) (ex : Bool) (s : IsServable z) (none : NoneShare hash (nsec3_names z ex)) (q : Name) (t : ℕ) (l : t < 65536) where
   abbrev AllTrue : List HashLink → Type 0
@@ -79,7 +94,7 @@ module _ (z : Zone) (hash : Name → List ℕ) (ex : Bool) (s : IsServable z) (n
 
   -- NS in the bits of an ancestor
   cut_truly : (a : List ℕ) (p : Name) → at_or_above (a ∷ p) q ≡ true → SharesNone hash (nsec3_names z ex) (low p) → (fs : List HashLink) → AllTrue fs → (v : Verdict)
-      → first_some (cut_above z.name p (hash (low p))) fs ≡ Some v → v ≡ verdict z ex q t
+      → first_some (cut_above z.name p (hash (low p))) fs ≡ Some v → IsSaidBy z ex q t v
   cut_truly a p above shares fs all v h =
       let found = first_from (cut_above z.name p (hash (low p))) fs v h in
       let f : HashLink = found.0 in
@@ -91,37 +106,54 @@ module _ (z : Zone) (hash : Name → List ℕ) (ex : Bool) (s : IsServable z) (n
       let d : is_delegation z (low p) ≡ true = sym (cut_test z p f.bits (kept_inside z ex (low p) there) (matched_shows z hash ex s none f k p shares at)) ∙ both.1 in
       let is : Delegated ≡ v = cc in
       let strictly : strictly_above p q ≡ true = strictly_above_at p (a ∷ p) q (above_itself p) above in
-      sym is ∙ sym (verdict_delegated z ex q (low p) t d (kept_delegation z ex (low p) d there) (above-low p q ∙ strictly_at p q strictly)
-      (and_left (labels_eq (low p) (low q)) (t == 43) (false_from_ne_true (same p q) (strictly_unlike p q strictly))))
+      let owner = kept_delegation z ex (low p) d there in
+      let live = kept_live z ex (low p) owner in
+      let up : at_or_above (low p) (low q) ≡ true = above-low p q ∙ strictly_at p q strictly in (
+        sym is ∙ sym (verdict_delegated z ex q (low p) t d owner up (and_left (labels_eq (low p) (low q)) (t == 43) (false_from_ne_true (same p q) (strictly_unlike p q strictly)))),
+        unaliased z ex q t (cut_unredirected z s.aliases (low q) (low p) d live up) (λ _. cut_unaliased z (low q) t (low p) (cut_from z (low q) (low p) (low-low q) d live up)),
+      )
 
-  -- the wildcard
-  star_says : (p : Name) (f : HashLink) → IsTrueHashLink z hash ex f → SharesNone hash (nsec3_names z ex) (low (star_under p)) → ex ≡ false → (v : Verdict)
-      → star_at (hash (low (star_under p))) t f ≡ Some v → v ≡ at_star z (star_under (low p)) t
-  star_says p f k shares plain v h = go (is_at (hash (low (star_under p))) f) refl h
+  -- the wildcard, which exists if it has a CNAME
+  star_says : (p : Name) → (has z (star_under (low p)) 5 ≡ true → exists z (star_under (low p)) ≡ true) → (f : HashLink) → IsTrueHashLink z hash ex f → SharesNone hash (nsec3_names z ex) (low (star_under p)) → ex ≡ false → (v : Verdict)
+      → star_at (hash (low (star_under p))) t f ≡ Some v → SaysByStar z (star_under (low p)) t v
+  star_says p typed f k shares plain v h = go (is_at (hash (low (star_under p))) f) refl h
     where
       star : Name
       star = star_under (low p)
 
       go : (b : Bool) → is_at (hash (low (star_under p))) f ≡ b
           → (elim b as (λ _. Option Verdict) [ true ↦ elim (star_lacks f.bits t) [ true ↦ Some StarNoType | false ↦ None ] | false ↦ elim (covers_hash (hash (low (star_under p))) f) [ true ↦ Some NoName | false ↦ None ] ]) ≡ Some v
-          → v ≡ at_star z (star_under (low p)) t
+          → SaysByStar z (star_under (low p)) t v
       go true e h =
           let r = on_true (star_lacks f.bits t) (Some StarNoType) v h in
           let is : StarNoType ≡ v = cc in
           let there : exists z (star_under (low p)) ≡ true = kept_exists z ex (star_under (low p)) (kept_lowered z ex (star_under p) ∙ matched_kept z hash ex s none f k (star_under p) shares e) in
-          let gone : has z (star_under (low p)) t ≡ false = not_there z (star_under (low p)) f.bits t l (matched_shows z hash ex s none f k (star_under p) shares e) (inl (no_star_cut z s (star_under (low p)) refl)) (and_parts (lacks f.bits t) _ r.0).0 in
-          sym is ∙ (λ i. if sym there i then (if sym gone i then StarRecords (data_at z (star_under (low p)) t) else StarNoType) else NoName)
+          let shows = matched_shows z hash ex s none f k (star_under p) shares e in
+          let lacking = (and_parts (lacks f.bits t) _ r.0).0 in
+          let gone : has z (star_under (low p)) t ≡ false = not_there z (star_under (low p)) f.bits t l shows (inl (no_star_cut z s (star_under (low p)) refl)) lacking in (
+            sym is ∙ (λ i. if sym there i then (if sym gone i then StarRecords (data_at z (star_under (low p)) t) else StarNoType) else NoName),
+            no_alias z (star_under (low p)) t (lacks_cname z (star_under (low p)) f.bits t shows lacking),
+          )
       go false e h =
           let r = on_true (covers_hash (hash (low (star_under p))) f) (Some NoName) v h in
           let is : NoName ≡ v = cc in
-          let gone : exists z (star_under (low p)) ≡ false = ap (λ b. kept z b (star_under (low p))) (sym plain) ∙ kept_lowered z ex (star_under p) ∙ covered_gone z hash ex s none f k (star_under p) r.0 in
-          sym is ∙ (λ i. if sym gone i then (if has z (star_under (low p)) t then StarRecords (data_at z (star_under (low p)) t) else StarNoType) else NoName)
+          let gone : exists z (star_under (low p)) ≡ false = ap (λ b. kept z b (star_under (low p))) (sym plain) ∙ kept_lowered z ex (star_under p) ∙ covered_gone z hash ex s none f k (star_under p) r.0 in (
+            sym is ∙ (λ i. if sym gone i then (if has z (star_under (low p)) t then StarRecords (data_at z (star_under (low p)) t) else StarNoType) else NoName),
+            no_alias z (star_under (low p)) t (false_from_ne_true (has z (star_under (low p)) 5) (λ c. false≢true (sym gone ∙ typed c))),
+          )
 
-  star_truly : (p : Name) → SharesNone hash (nsec3_names z ex) (low (star_under p)) → ex ≡ false → (fs : List HashLink) → AllTrue fs → (v : Verdict)
-      → first_some (star_at (hash (low (star_under p))) t) fs ≡ Some v → v ≡ at_star z (star_under (low p)) t
-  star_truly p shares plain fs all v h =
+  star_truly : (p : Name) → (has z (star_under (low p)) 5 ≡ true → exists z (star_under (low p)) ≡ true) → SharesNone hash (nsec3_names z ex) (low (star_under p)) → ex ≡ false → (fs : List HashLink) → AllTrue fs → (v : Verdict)
+      → first_some (star_at (hash (low (star_under p))) t) fs ≡ Some v → SaysByStar z (star_under (low p)) t v
+  star_truly p typed shares plain fs all v h =
       let found = first_from (star_at (hash (low (star_under p))) t) fs v h in
-      star_says p found.0 (all_at (IsTrueHashLink z hash ex) fs found.0 all found.1.0) shares plain v found.1.1
+      star_says p typed found.0 (all_at (IsTrueHashLink z hash ex) fs found.0 all found.1.0) shares plain v found.1.1
+
+  -- a record at an ancestor shows that the ancestor has no DNAME
+  no_dname : (p : Name) → SharesNone hash (nsec3_names z ex) (low p) → (fs : List HashLink) → AllTrue fs → list_any (encloses (hash (low p))) fs ≡ true → has z (low p) 39 ≡ false
+  no_dname p shares fs all encloser =
+      let o = any_of (encloses (hash (low p))) fs encloser in
+      let both = and_parts (is_at (hash (low p)) o.0) (not (bitmap_has o.0.bits 39)) o.1.1 in
+      sym (matched_shows z hash ex s none o.0 (all_at (IsTrueHashLink z hash ex) fs o.0 all o.1.0) p shares both.0).redirect ∙ not-true (bitmap_has o.0.bits 39) both.1
 
   -- an ancestor that a record matches, which is no delegation, and the next closer name, which one covers
   gap_from : (a : List ℕ) (p : Name) → at_or_above (a ∷ p) q ≡ true → SharesNone hash (nsec3_names z ex) (low p) → (fs : List HashLink) → AllTrue fs
@@ -147,17 +179,19 @@ module _ (z : Zone) (hash : Name → List ℕ) (ex : Bool) (s : IsServable z) (n
 
   beyond_truly : (a : List ℕ) (p : Name) → at_or_above (a ∷ p) q ≡ true → SharesNone hash (nsec3_names z ex) (low p) → SharesNone hash (nsec3_names z ex) (low (star_under p)) → (fs : List HashLink) → AllTrue fs
       → first_some (cut_above z.name p (hash (low p))) fs ≡ None → list_any (encloses (hash (low p))) fs ≡ true → (v : Verdict)
-      → first_some (beyond hash p t fs (hash (low (a ∷ p)))) fs ≡ Some v → v ≡ verdict z ex q t
+      → first_some (beyond hash p t fs (hash (low (a ∷ p)))) fs ≡ Some v → IsSaidBy z ex q t v
   beyond_truly a p above shares star fs all uncut encloser v h =
       let found = first_from (beyond hash p t fs (hash (low (a ∷ p)))) fs v h in
       let f : HashLink = found.0 in
       let k = all_at (IsTrueHashLink z hash ex) fs f all found.1.0 in
       let wildcard : Option Verdict = first_some (star_at (hash (low (star_under p))) t) fs in
       let r = on_true (covers_hash (hash (low (a ∷ p))) f) (elim f.opt_out [ true ↦ Some Open | false ↦ wildcard ]) v found.1.1 in
-      gap_says z ex (str_to_ascii_lowercase a) (low p) q t v (gap_from a p above shares fs all uncut encloser f k r.0) f.opt_out k.opts wildcard (λ plain w. star_truly p star plain fs all v w) r.1
+      let gap : IsGap z ex (str_to_ascii_lowercase a) (low p) (low q) = gap_from a p above shares fs all uncut encloser f k r.0 in
+      gap_says z s ex (str_to_ascii_lowercase a) (low p) q t v gap (no_dname p shares fs all encloser) f.opt_out k.opts wildcard
+      (λ plain w. star_truly p (gap_child z ex (str_to_ascii_lowercase a) (low p) (low q) gap (42 ∷ []) 5) star plain fs all v w) r.1
 
   enclosed_truly : (a : List ℕ) (p : Name) → at_or_above (a ∷ p) q ≡ true → SharesNone hash (nsec3_names z ex) (low p) → SharesNone hash (nsec3_names z ex) (low (star_under p)) → (fs : List HashLink) → AllTrue fs → (v : Verdict)
-      → enclosed z.name hash (a ∷ p) p t fs ≡ Some v → v ≡ verdict z ex q t
+      → enclosed z.name hash (a ∷ p) p t fs ≡ Some v → IsSaidBy z ex q t v
   enclosed_truly a p above shares star fs all v h =
       let covering : Option Verdict = elim (list_any (encloses (hash (low p))) fs) [ true ↦ first_some (beyond hash p t fs (hash (low (a ∷ p)))) fs | false ↦ None ] in
       elim (either_from (first_some (cut_above z.name p (hash (low p))) fs) covering v h) [
@@ -168,7 +202,7 @@ module _ (z : Zone) (hash : Name → List ℕ) (ex : Bool) (s : IsServable z) (n
       ]
 
   pub climbed_truly : ((n : Name) → Contains (concerned (apex_of z) (low q)) n → SharesNone hash (nsec3_names z ex) n) → at_or_above z.name q ≡ true → (fs : List HashLink) → AllTrue fs → (v : Verdict)
-      → climbed z.name hash q t fs ≡ Some v → v ≡ verdict z ex q t
+      → climbed z.name hash q t fs ≡ Some v → IsSaidBy z ex q t v
   climbed_truly shares inside fs all v h =
       let k = climbed_from z.name hash q t fs v inside h in
       let p : Name = k.parent in

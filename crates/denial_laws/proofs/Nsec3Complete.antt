@@ -1,4 +1,4 @@
--- A zone's own answer with NSEC3 records decides its verdict.
+-- A zone's own answer with NSEC3 records decides its verdict of a name that is no alias.
 use Rattle.std.proofs.Common.{◌≡◌, ℕ, ◌<◌, Bool, true, false, ◌&&◌, not, List, [], ◌∷◌, length, Option, Some, None, refl, sym, ap, subst, ◌∙◌, ◌⊎◌, inl, inr}
 use Rattle.std.specs.Prelude.{◌==◌, IfSome}
 use Rattle.std.proofs.lemmas.Bool.{and_parts, and_from, and_left, not-true, false≢true, false_from_ne_true}
@@ -25,9 +25,11 @@ use Rattle.denial_laws.proofs.Nsec3Sound.{sound_hashed}
 use Rattle.denial_laws.proofs.Nsec3Wildcard.{signed_star_kept}
 use Rattle.denial_laws.proofs.OwnHashes.{own, own_true, own_speaks}
 use Rattle.denial_laws.proofs.OwnRrset.{starred, own_whole, own_records_true, own_expanded, own_star_true, own_star_is}
-use Rattle.denial_laws.proofs.VerdictView.{View, Signed, Missing, Cut, Starred, Unstarred, Gone, view}
+use Rattle.denial_laws.proofs.VerdictView.{View, Signed, Missing, Cut, Starred, Unstarred, Gone, view, star_uncut}
+use Rattle.denial_laws.proofs.ChainBits.{asked_no_cname}
+use Rattle.denial_laws.proofs.Unaliased.{IsUnaliased, no_redirector, there_no_cname, star_no_cname}
 use Rattle.denial_laws.proofs.Verdicts.{verdict_delegated}
-use Rattle.denial_laws.proofs.ZoneCuts.{IsCut, IsEncloser, IsBelowKeptCut, delegation_owner, delegation_low, cut_is, cut_live, cut_from, kept_live, kept_inside, kept_lowered, kept_up, kept_exists, kept_uncut, owner_kept, below_cut, ce_encloses}
+use Rattle.denial_laws.proofs.ZoneCuts.{IsCut, IsEncloser, IsBelowKeptCut, delegation_owner, delegation_low, cut_is, cut_live, cut_from, uncut_live, kept_live, kept_inside, kept_lowered, kept_up, kept_exists, kept_uncut, owner_kept, below_cut, ce_encloses}
 
 -- ---- what is decided, from what the facts hold
 
@@ -73,7 +75,7 @@ closed_verdict z ex q t o = verdict-said z ex q (low q) t refl ∙ ap (λ b. sai
 
 -- ---- a zone's own answer
 
-module _ (z : Zone) (hash : Name → List ℕ) (iterations : ℕ) (salt : List ℕ) (ex : Bool) (q : Name) (t : ℕ) (s : IsServable z) (l : t < 65536) (asked : is_asked_type t ≡ true) (apart : NoSharedHash z hash (Nsec3 iterations salt ex) q) (inside : at_or_above (apex_of z) q ≡ true) where
+module _ (z : Zone) (hash : Name → List ℕ) (iterations : ℕ) (salt : List ℕ) (ex : Bool) (q : Name) (t : ℕ) (s : IsServable z) (l : t < 65536) (asked : is_asked_type t ≡ true) (apart : NoSharedHash z hash (Nsec3 iterations salt ex) q) (inside : at_or_above (apex_of z) q ≡ true) (u : IsUnaliased z ex (low q) t) where
   abbrev qs : Verdict → List Name
   qs v = spoken z (Nsec3 iterations salt ex) (low q) v
 
@@ -98,8 +100,8 @@ module _ (z : Zone) (hash : Name → List ℕ) (iterations : ℕ) (salt : List �
   records_decide : (ds : List (List ℕ)) → Decides (Records ds)
   records_decide ds = decided_whole z hash q t within (facts (Records ds)) (record { datas = ds; labels = label_count q }) refl (own_whole z q t)
 
-  no_type_decides : kept z ex q ≡ true → has z (low q) t ≡ false → Decides NoType
-  no_type_decides k h = by_records NoType refl (low q) (inl refl) (no_type_answers z hash ex s iterations salt q t l asked apart inside (qs NoType) (inl refl) k h)
+  no_type_decides : kept z ex q ≡ true → has z (low q) t ≡ false → has z (low q) 5 ≡ false → Decides NoType
+  no_type_decides k h c = by_records NoType refl (low q) (inl refl) (no_type_answers z hash ex s iterations salt q t l asked apart inside (qs NoType) (inl refl) k h c)
 
   delegated_decides : (c : Name) → cut z (low q) ≡ Some c → is_delegation z c ≡ true → kept z ex c ≡ true → at_or_above c (low q) ≡ true → (labels_eq c (low q) && (t == 43)) ≡ false → Decides Delegated
   delegated_decides c e d k a n =
@@ -129,21 +131,31 @@ module _ (z : Zone) (hash : Name → List ℕ) (iterations : ℕ) (salt : List �
       at_name parent (kept_parent z ex (low q) (apex_of z) there (strictly_from (apex_of z) (low q) low_inside (λ m.
       false≢true (sym gone ∙ sym (kept_lowered z ex q) ∙ ap (kept z ex) (sym (low-low q) ∙ sym (same_names (apex_of z) (low q) m) ∙ low-low z.name) ∙ there))))
 
+  -- it has no DNAME, which would redirect the name
+  plain_parent : kept z ex q ≡ false → has z parent 39 ≡ false
+  plain_parent gone = false_from_ne_true (has z parent 39) (λ d.
+      let k : IsKeptParent z ex q parent = has_parent gone in
+      no_redirector z (low q) parent (low-low q) u.unredirected (record {
+        redirects = d;
+        live = uncut_live z parent parent_lowered (kept_inside z ex parent k.there) (kept_uncut z ex parent k.there);
+        above = strictly_lowered parent q ∙ k.above;
+      }))
+
   open_decides : ex ≡ true → kept z ex q ≡ false → own_rrset z q t Open ≡ None → Decides Open
   open_decides y gone e =
-      by_records Open e parent (inl refl) (gap_denied z hash ex s iterations salt q t l asked apart inside (qs Open) parent parent_lowered (has_parent gone) gone (inl refl) (inr (inl refl)) (inl y))
+      by_records Open e parent (inl refl) (gap_denied z hash ex s iterations salt q t l asked apart inside (qs Open) parent parent_lowered (plain_parent gone) (has_parent gone) gone (inl refl) (inr (inl refl)) (inl y))
 
   abbrev StarLacks : Type 0
-  StarLacks = ((kept z ex (star_under parent) ≡ true) × (has z (star_under parent) t ≡ false)) ⊎ (kept z ex (star_under parent) ≡ false)
+  StarLacks = ((kept z ex (star_under parent) ≡ true) × (has z (star_under parent) t ≡ false) × (has z (star_under parent) 5 ≡ false)) ⊎ (kept z ex (star_under parent) ≡ false)
 
   no_name_decides : kept z ex q ≡ false → StarLacks → Decides NoName
   no_name_decides gone c =
-      by_records NoName refl parent (inl refl) (gap_denied z hash ex s iterations salt q t l asked apart inside (qs NoName) parent parent_lowered (has_parent gone) gone (inl refl) (inr (inl refl))
+      by_records NoName refl parent (inl refl) (gap_denied z hash ex s iterations salt q t l asked apart inside (qs NoName) parent parent_lowered (plain_parent gone) (has_parent gone) gone (inl refl) (inr (inl refl))
       (inr (λ p is. star_answers z hash ex s iterations salt q t l asked apart inside (qs NoName) parent (has_parent gone) p is (inr (inr (inl refl))) c)))
 
   star_no_type_decides : kept z ex q ≡ false → StarLacks → Decides StarNoType
   star_no_type_decides gone c =
-      by_records StarNoType refl parent (inl refl) (gap_denied z hash ex s iterations salt q t l asked apart inside (qs StarNoType) parent parent_lowered (has_parent gone) gone (inl refl) (inr (inl refl))
+      by_records StarNoType refl parent (inl refl) (gap_denied z hash ex s iterations salt q t l asked apart inside (qs StarNoType) parent parent_lowered (plain_parent gone) (has_parent gone) gone (inl refl) (inr (inl refl))
       (inr (λ p is. star_answers z hash ex s iterations salt q t l asked apart inside (qs StarNoType) parent (has_parent gone) p is (inr (inr (inl refl))) c)))
 
   star_decides : (v : Verdict) (e : Name) → own_rrset z q t v ≡ Some (starred z e t) → is_expanded (starred z e t) q ≡ true → parent ≡ e → kept z ex q ≡ false → In (next_closer parent (low q)) (qs v) → Decides v
@@ -220,7 +232,7 @@ module _ (z : Zone) (hash : Name → List ℕ) (iterations : ℕ) (salt : List �
 
       go : View z q t → Good (verdict z ex q t)
       go (Signed h v) = subst Good (sym (same ∙ v)) (own_records_true z q t h, records_decide (data_at z (low q) t))
-      go (Missing x h v) = subst Good (sym (same ∙ v)) (tt, no_type_decides (existing_kept o x) h)
+      go (Missing x h v) = subst Good (sym (same ∙ v)) (tt, no_type_decides (existing_kept o x) h (there_no_cname z (low q) t s.aliases (low-low q) x (u.own o) (asked_no_cname t asked)))
       go (Cut c e n v) =
           let k : IsCut z (low q) c = cut_is z (low q) c (low-low q) e in
           subst Good (sym (same ∙ v)) (tt, delegated_decides c e k.delegation (cut_kept o c e k) k.above n)
@@ -232,7 +244,15 @@ module _ (z : Zone) (hash : Name → List ℕ) (iterations : ℕ) (salt : List �
           let plain : ex ≡ false = plain_zone o x (λ d. let wrong : Delegated ≡ StarNoType = sym d ∙ same ∙ v in cc) in
           let r : IsEncloser z (low q) e = ce_encloses z (low q) e c in
           let is : parent ≡ e = kept_encloser z ex (low q) e (low-low q) c (ap (λ b. kept z b e) plain ∙ r.there) in
-          subst Good (sym (same ∙ v)) (tt, star_no_type_decides (not_kept x) (inl (ap (λ b. kept z b (star_under parent)) plain ∙ ap (λ n. exists z (star_under n)) is ∙ y, ap (λ n. has z (star_under n) t) is ∙ h)))
+          let c5 : has z (star_under e) 5 ≡ false = star_no_cname z (low q) t e (star_uncut z q t v) x c (u.own o) (asked_no_cname t asked) in
+          subst Good (sym (same ∙ v)) (
+            tt,
+            star_no_type_decides (not_kept x) (inl (
+              ap (λ b. kept z b (star_under parent)) plain ∙ ap (λ n. exists z (star_under n)) is ∙ y,
+              ap (λ n. has z (star_under n) t) is ∙ h,
+              ap (λ n. has z (star_under n) 5) is ∙ c5,
+            )),
+          )
       go (Gone e x c y v) =
           let plain : ex ≡ false = plain_zone o x (λ d. let wrong : Delegated ≡ NoName = sym d ∙ same ∙ v in cc) in
           let r : IsEncloser z (low q) e = ce_encloses z (low q) e c in
@@ -266,12 +286,12 @@ module _ (z : Zone) (hash : Name → List ℕ) (iterations : ℕ) (salt : List �
       let inner = and_parts ex (not (kept z ex (low q))) outer.0 in
       subst Good (sym (verdict-open z ex q (low q) t refl o)) (open_good inner.0 (sym (kept_lowered z ex q) ∙ not-true (kept z ex (low q)) inner.1) (view z s q t low_inside))
 
-pub complete_hashed : (z : Zone) (hash : Name → List ℕ) (iterations : ℕ) (salt : List ℕ) (ex : Bool) (q : Name) (t : ℕ) → IsServable z → NoSharedHash z hash (Nsec3 iterations salt ex) q → t < 65536 → at_or_above (apex_of z) q ≡ true → is_asked_type t ≡ true
+pub complete_hashed : (z : Zone) (hash : Name → List ℕ) (iterations : ℕ) (salt : List ℕ) (ex : Bool) (q : Name) (t : ℕ) → IsServable z → NoSharedHash z hash (Nsec3 iterations salt ex) q → t < 65536 → at_or_above (apex_of z) q ≡ true → is_asked_type t ≡ true → IsUnaliased z ex (low q) t
     → decided z.name hash (own_facts z hash (Nsec3 iterations salt ex) q t) q t ≡ Some (verdict z ex q t)
-complete_hashed z hash iterations salt ex q t s apart l inside asked =
-    let g = good z hash iterations salt ex q t s l asked apart inside (is_open z ex (low q)) refl in
+complete_hashed z hash iterations salt ex q t s apart l inside asked u =
+    let g = good z hash iterations salt ex q t s l asked apart inside u (is_open z ex (low q)) refl in
     let true_facts : AreTrue z hash (Nsec3 iterations salt ex) q t (own_facts z hash (Nsec3 iterations salt ex) q t) = record {
       rrset = g.0;
       chain = (refl, own_true z hash ex s apart.0 iterations salt (spoken z (Nsec3 iterations salt ex) (low q) (verdict z ex q t)));
     } in
-    g.1.1 ∙ ap (λ v. Some v) (sound_hashed z hash iterations salt ex (own_facts z hash (Nsec3 iterations salt ex) q t) q t g.1.0 s apart l true_facts g.1.1)
+    g.1.1 ∙ ap (λ v. Some v) (sound_hashed z hash iterations salt ex (own_facts z hash (Nsec3 iterations salt ex) q t) q t g.1.0 s apart l true_facts g.1.1).0

@@ -15,7 +15,7 @@ use Rattle.denial_laws.specs.OwnFacts.{next_closer}
 use Rattle.denial_laws.specs.Truth.{IsServable, IsTrueHashLink, NoSharedHash}
 use Rattle.denial_laws.specs.Laws.{is_asked_type}
 use Rattle.denial_laws.proofs.NameFacts.{same_names, names_same, same_above, above_cases, above_either, above_both, shorter_above, strictly_at, strictly_above_at, at_strictly_above, strictly_shorter}
-use Rattle.denial_laws.proofs.ChainBits.{ShowsTypes, all_at, cut_test}
+use Rattle.denial_laws.proofs.ChainBits.{ShowsTypes, all_at, cut_test, cut_no_dname}
 use Rattle.denial_laws.proofs.Found.{first_is}
 use Rattle.denial_laws.proofs.HashChain.{concerns_name, concerns_star, matched_shows}
 use Rattle.denial_laws.proofs.KeptAncestor.{closer_is, IsKeptParent, closer_gone}
@@ -49,10 +49,10 @@ module _ (z : Zone) (hash : Name → List ℕ) (ex : Bool) (s : IsServable z) (i
 
   -- ---- the name's own record
 
-  pub no_type_answers : In (low q) qs → kept z ex q ≡ true → has z (low q) t ≡ false → Answers (hash_denied z.name hash q t records)
-  no_type_answers i k h =
+  pub no_type_answers : In (low q) qs → kept z ex q ≡ true → has z (low q) t ≡ false → has z (low q) 5 ≡ false → Answers (hash_denied z.name hash q t records)
+  no_type_answers i k h c =
       let f = at_kept q i k in
-      matched_answers z.name hash t records q f (lack_answers z.name q t f.link.bits (lacks_from z (low q) f.link.bits t l asked (shown q (shares q inside (above_itself q)) f) h))
+      matched_answers z.name hash t records q f (lack_answers z.name q t f.link.bits (lacks_from z (low q) f.link.bits t l asked (shown q (shares q inside (above_itself q)) f) h c))
 
   pub cut_at_answers : In (low q) qs → kept z ex q ≡ true → is_delegation z (low q) ≡ true → (t == 43) ≡ false → Answers (hash_denied z.name hash q t records)
   cut_at_answers i k d n =
@@ -102,13 +102,14 @@ module _ (z : Zone) (hash : Name → List ℕ) (ex : Bool) (s : IsServable z) (i
       let f = at_kept p (subst (λ n. In n qs) (sym (r.is ∙ lc)) i) there in
       let shows = shown p (shares p (kept_inside z ex p there) up) f in
       let test = cut_test z p f.link.bits (kept_inside z ex (low p) (kept_lowered z ex p ∙ there)) shows in
+      let cut : is_delegation z (low p) ≡ true = ap (is_delegation z) (r.is ∙ lc) ∙ d in
       by_climb gone (enclosed z.name hash (r.label ∷ p) p t records) r.stops
-      (above_answers z.name hash t records r.label p f shows.redirect (test ∙ ap (is_delegation z) (r.is ∙ lc) ∙ d))
+      (above_answers z.name hash t records r.label p f (shows.redirect ∙ cut_no_dname z s.aliases (low p) cut) (test ∙ cut))
 
-  -- the next closer name is covered: under opt-out, or the wildcard answers
-  pub gap_denied : (e : Name) → low e ≡ e → IsKeptParent z ex q e → kept z ex q ≡ false → In e qs → In (next_closer e (low q)) qs
+  -- the next closer name is covered, and no DNAME is at its parent: under opt-out, or the wildcard answers
+  pub gap_denied : (e : Name) → low e ≡ e → has z e 39 ≡ false → IsKeptParent z ex q e → kept z ex q ≡ false → In e qs → In (next_closer e (low q)) qs
       → (ex ≡ true) ⊎ ((p : Name) → low p ≡ e → Answers (first_some (star_at (hash (low (star_under p))) t) records)) → Answers (hash_denied z.name hash q t records)
-  gap_denied e le k gone i j o =
+  gap_denied e le plain k gone i j o =
       let r = climb e k (subst (λ n. In n qs) (sym le) i) in
       let p : Name = r.parent in
       let is : low p ≡ e = r.is ∙ le in
@@ -121,10 +122,10 @@ module _ (z : Zone) (hash : Name → List ℕ) (ex : Bool) (s : IsServable z) (i
       (closer_gone z ex r.label p q e k r.is r.above gone) in
       let opts : g.link.opt_out ≡ ex = (true_one g.link g.inside).opts in
       by_climb gone (enclosed z.name hash (r.label ∷ p) p t records) r.stops
-      (gap_answers z.name hash t records r.label p f (shown p (shares p apex up) f).redirect g (elim o [ inl y ↦ inl (opts ∙ y) | inr w ↦ inr (w p is) ]))
+      (gap_answers z.name hash t records r.label p f ((shown p (shares p apex up) f).redirect ∙ ap (λ n. has z n 39) is ∙ plain) g (elim o [ inl y ↦ inl (opts ∙ y) | inr w ↦ inr (w p is) ]))
 
-  -- the wildcard lacks the type, or is not kept
-  pub star_answers : (e : Name) → IsKeptParent z ex q e → (p : Name) → low p ≡ e → In (star_under e) qs → ((kept z ex (star_under e) ≡ true) × (has z (star_under e) t ≡ false)) ⊎ (kept z ex (star_under e) ≡ false)
+  -- the wildcard has neither the type nor CNAME, or is not kept
+  pub star_answers : (e : Name) → IsKeptParent z ex q e → (p : Name) → low p ≡ e → In (star_under e) qs → ((kept z ex (star_under e) ≡ true) × (has z (star_under e) t ≡ false) × (has z (star_under e) 5 ≡ false)) ⊎ (kept z ex (star_under e) ≡ false)
       → Answers (first_some (star_at (hash (low (star_under p))) t) records)
   star_answers e k p is i c =
       let star : low (star_under p) ≡ star_under e = ap star_under is in
@@ -136,7 +137,7 @@ module _ (z : Zone) (hash : Name → List ℕ) (ex : Bool) (s : IsServable z) (i
       elim c [
         | inl b ↦
             let f = at_kept (star_under p) listed (alike ∙ b.0) in
-            star_matched z.name hash t records p f (star_lacks_from z s (low (star_under p)) f.link.bits t refl l asked (shown (star_under p) h f) (ap (λ n. has z n t) star ∙ b.1))
+            star_matched z.name hash t records p f (star_lacks_from z s (low (star_under p)) f.link.bits t refl l asked (shown (star_under p) h f) (ap (λ n. has z n t) star ∙ b.1) (ap (λ n. has z n 5) star ∙ b.2))
         | inr n ↦
             let f = own_covers z hash ex s apart.0 iterations salt qs (star_under p) listed h (alike ∙ n) in
             star_covered z.name hash t records p f (own_unmatched z hash ex s apart.0 iterations salt qs (star_under p) h (alike ∙ n) f.link f.inside)

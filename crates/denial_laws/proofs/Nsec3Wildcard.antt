@@ -7,13 +7,14 @@ use Rattle.std.proofs.lemmas.Bool.{and_parts, or_right, ltb-true, false_from_ne_
 use Rattle.std.proofs.lemmas.List.{length-drop}
 use Rattle.definitions.specs.Name.{Name, low, same, at_or_above}
 use Rattle.definitions.specs.Signing.{label_count, signed_owner}
-use Rattle.definitions.specs.Zone.{Zone, Verdict, NoName, StarRecords, StarNoType, Open, apex_of, is_delegation, is_live, kept, exists, has, star_under, data_at, at_star, verdict}
+use Rattle.definitions.specs.Zone.{Zone, Verdict, NoName, StarRecords, StarNoType, Open, apex_of, is_delegation, is_live, kept, exists, has, star_under, data_at, at_star}
 use Rattle.definitions.specs.ZoneChain.{nsec3_names}
 use Rattle.definitions.specs.Laws.{NoneShare}
 use Rattle.definitions.proofs.ZoneNames.{above_itself, low-low, above_lowered, lowered_above}
 use Rattle.denial_laws.specs.Facts.{Rrset, HashLink, is_expanded}
 use Rattle.denial_laws.specs.Nsec3Rules.{covers_hash, last_labels, hash_expanded_by, hash_expanded}
 use Rattle.denial_laws.specs.Truth.{IsServable, IsTrueRrset, IsTrueHashLink, is_signed, is_star}
+use Rattle.denial_laws.specs.Laws.{IsSaidBy}
 use Rattle.denial_laws.proofs.NameFacts.{above-low, shorter_above, strictly_at, strictly_above_at, star_below}
 use Rattle.denial_laws.proofs.ChainBits.{all_at}
 use Rattle.denial_laws.proofs.Found.{first_from}
@@ -22,6 +23,7 @@ use Rattle.denial_laws.proofs.AtName.{on_true}
 use Rattle.denial_laws.proofs.SignedNames.{star_owner}
 use Rattle.denial_laws.proofs.Nsec3Climb.{gap_says}
 use Rattle.denial_laws.proofs.Verdicts.{IsGap}
+use Rattle.denial_laws.proofs.Unaliased.{none_below, typed_no_alias}
 use Rattle.denial_laws.proofs.ZoneCuts.{has_owner, live_kept, kept_up, kept_lowered, kept_uncut, owner_kept, no_star_cut}
 
 -- ---- the last labels of a name
@@ -92,7 +94,7 @@ module _ (z : Zone) (hash : Name → List ℕ) (ex : Bool) (s : IsServable z) (n
       }
 
   pub hash_expanded_truly : at_or_above z.name q ≡ true → (r : Rrset) → IsTrueRrset z q t r → is_expanded r q ≡ true → (fs : List HashLink) → AllByRecursion (IsTrueHashLink z hash ex) fs → (v : Verdict)
-      → hash_expanded hash q r fs ≡ Some v → v ≡ verdict z ex q t
+      → hash_expanded hash q r fs ≡ Some v → IsSaidBy z ex q t v
   hash_expanded_truly inside r true_rrset x fs all v h =
       let fewer : r.labels < length q = omega (arith, ltb-true r.labels (label_count q) x, count_within q) in
       let last = last_labels_are r.labels q fewer in
@@ -107,6 +109,10 @@ module _ (z : Zone) (hash : Name → List ℕ) (ex : Bool) (s : IsServable z) (n
       let k = all_at (IsTrueHashLink z hash ex) fs f all found.1.0 in
       let m = on_true (covers_hash (hash (low (last_labels (r.labels + 1) q))) f) (elim f.opt_out [ true ↦ Some Open | false ↦ Some (StarRecords r.datas) ]) v found.1.1 in
       let gone : kept z ex (last.label ∷ e) ≡ false = ap (kept z ex) (sym last.is) ∙ covered_gone z hash ex s none f k (last_labels (r.labels + 1) q) m.0 in
-      gap_says z ex (str_to_ascii_lowercase last.label) (low e) q t v (star_gap last.label e last.above apex signed gone) f.opt_out k.opts (Some (StarRecords r.datas)) (λ plain w.
-      let is : StarRecords r.datas ≡ v = cc in
-      sym is ∙ ap (λ ds. StarRecords ds) (true_rrset.datas ∙ ap (λ n. data_at z n t) owner) ∙ sym (signed_star_says z s (low e) t signed)) m.1
+      let typed : has z (star_under (low e)) t ≡ true = (and_parts (is_live z (star_under (low e)) && (not (is_delegation z (star_under (low e))) || (t == 43))) (has z (star_under (low e)) t) signed).1 in
+      let plain : has z (low e) 39 ≡ false = false_from_ne_true (has z (low e) 39) (λ d. none_below z s.aliases (low e) (star_under (low e)) d (has_owner z (star_under (low e)) t typed) (star_below (low e))) in
+      gap_says z s ex (str_to_ascii_lowercase last.label) (low e) q t v (star_gap last.label e last.above apex signed gone) plain f.opt_out k.opts (Some (StarRecords r.datas)) (λ _ w.
+      let is : StarRecords r.datas ≡ v = cc in (
+        sym is ∙ ap (λ ds. StarRecords ds) (true_rrset.datas ∙ ap (λ n. data_at z n t) owner) ∙ sym (signed_star_says z s (low e) t signed),
+        typed_no_alias z s.aliases (star_under (low e)) t typed,
+      )) m.1

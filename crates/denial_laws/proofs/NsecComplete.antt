@@ -1,4 +1,4 @@
--- A zone's own answer with NSEC records decides its verdict.
+-- A zone's own answer with NSEC records decides its verdict of a name that is no alias.
 use Rattle.std.proofs.Common.{◌≡◌, ℕ, ◌<◌, Bool, true, false, ◌&&◌, not, List, [], ◌∷◌, length, Option, Some, None, refl, sym, ap, subst, ◌∙◌, inl, inr}
 use Rattle.std.specs.Prelude.{◌==◌, IfSome}
 use Rattle.std.proofs.lemmas.Bool.{and_from, and_cases, or_left, not_from_false, false≢true, false_from_ne_true, eq-eqb}
@@ -11,6 +11,7 @@ use Rattle.definitions.proofs.Members.{In}
 use Rattle.definitions.proofs.NameLaws.{labels_decide}
 use Rattle.definitions.proofs.ChainSpeaks.{all_from}
 use Rattle.definitions.proofs.ZoneNames.{above_lowered, lowered_above, same-length, low-low, same_lowered, owner_in_chain}
+use Rattle.denial_laws.specs.Aliases.{is_redirected}
 use Rattle.denial_laws.specs.Facts.{Rrset, Link, Facts}
 use Rattle.denial_laws.specs.NsecRules.{first_some, is_cut, lacks, star_lacks, at_name, at_owner, below_cut, link_covers, closest, at_star, covered, denied, encloses_at, expanded_by, expanded}
 use Rattle.denial_laws.specs.Deciding.{decided_inside, decided}
@@ -20,32 +21,37 @@ use Rattle.denial_laws.specs.Laws.{is_asked_type}
 use Rattle.denial_laws.proofs.NameFacts.{names_same, same-low, before_unlike, strictly-low, strictly_lowered, above_cases, strictly_at}
 use Rattle.denial_laws.proofs.AtName.{Answers, lacks_from, star_lacks_from, cut_answers, lack_answers}
 use Rattle.denial_laws.proofs.KeptAncestor.{kept_encloser}
-use Rattle.denial_laws.proofs.ChainBits.{ShowsTypes, nsec_shows, cut_test}
+use Rattle.denial_laws.proofs.ChainBits.{ShowsTypes, nsec_shows, cut_test, asked_no_cname}
 use Rattle.denial_laws.proofs.ZoneCuts.{IsCut, ce_encloses, ce_lowered, delegation_owner, delegation_low, cut_is, cut_live}
 use Rattle.denial_laws.proofs.Found.{first_is, left_is, right_is}
 use Rattle.denial_laws.proofs.Adjacent.{Covered, chain_inside}
 use Rattle.denial_laws.proofs.NsecEncloser.{Encloser, encloser, owner_exists}
 use Rattle.denial_laws.proofs.NsecCovered.{cover, exists_covered, apex_above, tells_cut}
 use Rattle.denial_laws.proofs.NsecSound.{sound_links}
-use Rattle.denial_laws.proofs.VerdictView.{View, Signed, Missing, Cut, Starred, Unstarred, Gone, view}
+use Rattle.denial_laws.proofs.VerdictView.{View, Signed, Missing, Cut, Starred, Unstarred, Gone, view, star_uncut}
+use Rattle.denial_laws.proofs.Unaliased.{IsUnaliased, beside_unredirected, there_no_cname, star_no_cname}
 use Rattle.denial_laws.proofs.OwnRrset.{named, starred, own_whole, own_records_true, own_expanded, own_star_true, own_star_is}
 use Rattle.denial_laws.proofs.OwnLinks.{Speaks, own_link_true, own_links_true, listed, speaker, own_covers}
 
-module _ (z : Zone) (s : IsServable z) (q : Name) (t : ℕ) (l : t < 65536) (k : is_asked_type t ≡ true) where
+-- the type is not there, and no CNAME
+abbrev LacksBoth : Zone → Name → ℕ → Type 0
+LacksBoth z o t = (has z o t ≡ false) × (has z o 5 ≡ false)
+
+module _ (z : Zone) (s : IsServable z) (q : Name) (t : ℕ) (l : t < 65536) (k : is_asked_type t ≡ true) (u : IsUnaliased z false (low q) t) where
   -- bits of a name that lacks the type
-  own_lacks : (o : Name) → has z o t ≡ false → lacks (bitmap (nsec_types z true o)) t ≡ true
-  own_lacks o h = lacks_from z o (bitmap (nsec_types z true o)) t l k (nsec_shows z s o) h
+  own_lacks : (o : Name) → LacksBoth z o t → lacks (bitmap (nsec_types z true o)) t ≡ true
+  own_lacks o h = lacks_from z o (bitmap (nsec_types z true o)) t l k (nsec_shows z s o) h.0 h.1
 
   -- bits of a wildcard that lacks it
-  star_lacking : (o : Name) → is_star o ≡ true → has z o t ≡ false → star_lacks (bitmap (nsec_types z true o)) t ≡ true
-  star_lacking o w h = star_lacks_from z s o (bitmap (nsec_types z true o)) t w l k (nsec_shows z s o) h
+  star_lacking : (o : Name) → is_star o ≡ true → LacksBoth z o t → star_lacks (bitmap (nsec_types z true o)) t ≡ true
+  star_lacking o w h = star_lacks_from z s o (bitmap (nsec_types z true o)) t w l k (nsec_shows z s o) h.0 h.1
 
   -- ---- a record of the name
 
   at_owner_is : (o : Name) → o ≡ low q → at_owner z.name q t (link_of z o) ≡ at_name z.name q t (bitmap (nsec_types z true o))
   at_owner_is o e = ap (λ b. elim b as (λ _. Option Verdict) [ true ↦ at_name z.name q t (bitmap (nsec_types z true o)) | false ↦ None ]) (names_same o q (ap low e ∙ low-low q))
 
-  matched : (o : Name) → o ≡ low q → has z o t ≡ false → Answers (at_owner z.name q t (link_of z o))
+  matched : (o : Name) → o ≡ low q → LacksBoth z o t → Answers (at_owner z.name q t (link_of z o))
   matched o e h = let w = lack_answers z.name q t (bitmap (nsec_types z true o)) (own_lacks o h) in (w.0, at_owner_is o e ∙ w.1)
 
   -- ---- a record that covers a wildcard
@@ -95,7 +101,7 @@ module _ (z : Zone) (s : IsServable z) (q : Name) (t : ℕ) (l : t < 65536) (k :
 
     module _ (o : Name) (i : In o (nsec_names z)) (h : covers (apex_of z) o (nsec_next z o) (low q) ≡ true) (a : at_or_above (apex_of z) (low q) ≡ true) where
       gap : Covered z (low o) (low (nsec_next z o)) (low q)
-      gap = cover z s (link_of z o) (own_link_true z s o i) q (own_covers z s o q i h)
+      gap = cover z s (link_of z o) (own_link_true z s o i) q (own_covers z s o q i u.unredirected h)
 
       -- the next name is below it exactly where it exists
       next_below : (b : Bool) → exists z (low q) ≡ b → strictly_above q (nsec_next z o) ≡ b
@@ -114,23 +120,24 @@ module _ (z : Zone) (s : IsServable z) (q : Name) (t : ℕ) (l : t < 65536) (k :
       ]
 
       covered_there : exists z (low q) ≡ true → Answers (covered z.name q t fs (link_of z o))
-      covered_there x = (NoType, (λ j. beyond (own_covers z s o q i h j) (next_below true x j) (closest (link_of z o) q)))
+      covered_there x = (NoType, (λ j. beyond (own_covers z s o q i u.unredirected h j) (next_below true x j) (closest (link_of z o) q)))
 
       covered_gone : exists z (low q) ≡ false → Answers (first_some (at_star z.name (star_under shown.name) t) fs) → Answers (covered z.name q t fs (link_of z o))
-      covered_gone x w = (w.0, (λ j. beyond (own_covers z s o q i h j) (next_below false x j) (shown.shown j)) ∙ w.1)
+      covered_gone x w = (w.0, (λ j. beyond (own_covers z s o q i u.unredirected h j) (next_below false x j) (shown.shown j)) ∙ w.1)
 
     missing : In (low q) qs → at_or_above (apex_of z) (low q) ≡ true → exists z (low q) ≡ true → has z (low q) t ≡ false → Answers (denied z.name q t fs)
     missing j a x h =
         let p : Speaks z qs (low q) = speaker z s qs (low q) (low-low q) j a in
+        let c : has z (low q) 5 ≡ false = there_no_cname z (low q) t s.aliases (low-low q) x (u.own refl) (asked_no_cname t k) in
         elim p.says [
-          | inl e ↦ by_owner (link_of z p.owner) p.listed (matched p.owner e (ap (λ n. has z n t) e ∙ h))
+          | inl e ↦ by_owner (link_of z p.owner) p.listed (matched p.owner e (ap (λ n. has z n t) e ∙ h, ap (λ n. has z n 5) e ∙ c))
           | inr c ↦ by_cover (link_of z p.owner) p.listed (covered_there p.owner p.inside c a x)
         ]
 
     -- ---- neither the name nor the type at the wildcard is there
 
-    star_answers : (e n : Name) → low n ≡ e → In (star_under e) qs → at_or_above (apex_of z) e ≡ true → (In (star_under e) (nsec_names z) → has z (star_under e) t ≡ false) → Answers (first_some (at_star z.name (star_under n) t) fs)
-    star_answers e n ln j a h =
+    star_answers : (e n : Name) → low n ≡ e → strictly_above e (low q) ≡ true → In (star_under e) qs → at_or_above (apex_of z) e ≡ true → (In (star_under e) (nsec_names z) → LacksBoth z (star_under e) t) → Answers (first_some (at_star z.name (star_under n) t) fs)
+    star_answers e n ln up j a h =
         let ls : low (star_under n) ≡ star_under e = ap star_under ln in
         let le : low (star_under e) ≡ star_under e = ap star_under (ap low (sym ln) ∙ low-low n ∙ ln) in
         let p : Speaks z qs (star_under e) = speaker z s qs (star_under e) le j (strictly_at (apex_of z) (star_under e) a) in
@@ -138,13 +145,16 @@ module _ (z : Zone) (s : IsServable z) (q : Name) (t : ℕ) (l : t < 65536) (k :
         let told : Answers (at_star z.name (star_under n) t g) = elim p.says [
           | inl m ↦
               let is : same p.owner (star_under n) ≡ true = names_same p.owner (star_under n) (ap low m ∙ le ∙ sym ls) in
-              let lacking : star_lacks (bitmap (nsec_types z true p.owner)) t ≡ true = star_lacking p.owner (ap is_star m) (ap (λ n. has z n t) m ∙ h (subst (λ n. In n (nsec_names z)) m p.inside)) in
+              let none : LacksBoth z (star_under e) t = h (subst (λ n. In n (nsec_names z)) m p.inside) in
+              let lacking : star_lacks (bitmap (nsec_types z true p.owner)) t ≡ true = star_lacking p.owner (ap is_star m) (ap (λ n. has z n t) m ∙ none.0, ap (λ n. has z n 5) m ∙ none.1) in
               (StarNoType, (λ i. star_case (is i) (lacking i) (link_covers z.name g (star_under n)) (strictly_above (star_under n) g.next)))
-          | inr c ↦ star_beside p.owner p.inside n (own_covers z s p.owner (star_under n) p.inside (ap (covers (apex_of z) p.owner (nsec_next z p.owner)) ls ∙ c))
+          | inr c ↦
+              let direct : is_redirected z (low (star_under n)) ≡ false = ap (is_redirected z) ls ∙ beside_unredirected z e (low q) (42 ∷ []) (low-low q) up u.unredirected in
+              star_beside p.owner p.inside n (own_covers z s p.owner (star_under n) p.inside direct (ap (covers (apex_of z) p.owner (nsec_next z p.owner)) ls ∙ c))
         ] in
         first_is (at_star z.name (star_under n) t) fs g told.0 p.listed told.1
 
-    by_gap : (e : Name) → In (low q) qs → In (star_under e) qs → at_or_above (apex_of z) (low q) ≡ true → exists z (low q) ≡ false → ce z (low q) ≡ Some e → (In (star_under e) (nsec_names z) → has z (star_under e) t ≡ false)
+    by_gap : (e : Name) → In (low q) qs → In (star_under e) qs → at_or_above (apex_of z) (low q) ≡ true → exists z (low q) ≡ false → ce z (low q) ≡ Some e → (In (star_under e) (nsec_names z) → LacksBoth z (star_under e) t)
         → Answers (denied z.name q t fs)
     by_gap e j m a x c h =
         let p : Speaks z qs (low q) = speaker z s qs (low q) (low-low q) j a in
@@ -154,7 +164,7 @@ module _ (z : Zone) (s : IsServable z) (q : Name) (t : ℕ) (l : t < 65536) (k :
               let r : Encloser z (link_of z p.owner) q = shown p.owner p.inside o a in
               let is : low r.name ≡ e = (let both : Some (low r.name) ≡ Some e = sym r.is ∙ c in cc) in
               let inside : at_or_above (apex_of z) e ≡ true = ap (at_or_above (apex_of z)) (sym is) ∙ above_lowered (apex_of z) r.name ∙ r.inside in
-              by_cover (link_of z p.owner) p.listed (covered_gone p.owner p.inside o a x (star_answers e r.name is m inside h))
+              by_cover (link_of z p.owner) p.listed (covered_gone p.owner p.inside o a x (star_answers e r.name is (ce_encloses z (low q) e c).above m inside h))
         ]
 
     -- ---- a delegation is above the name
@@ -193,7 +203,7 @@ module _ (z : Zone) (s : IsServable z) (q : Name) (t : ℕ) (l : t < 65536) (k :
               let is : low r.name ≡ e = (let both : Some (low r.name) ≡ Some e = sym r.is ∙ c in cc) in
               let long : length r.name ≡ length e = same-length r.name e (names_same r.name e (is ∙ sym (ce_lowered z (low q) e (low-low q) c))) in
               let encloses : encloses_at (length e) (closest g q) ≡ true = ap (encloses_at (length e)) r.shown ∙ eq-eqb (length r.name) (length e) long in
-              let covers_it : link_covers z.name g q ≡ true = own_covers z s p.owner q p.inside o in
+              let covers_it : link_covers z.name g q ≡ true = own_covers z s p.owner q p.inside u.unredirected o in
               let not_below : not (strictly_above q g.next) ≡ true = not_from_false (strictly_above q g.next) (next_below p.owner p.inside o a false x) in
               let told : expanded_by z.name q (starred z e t) g ≡ Some (StarRecords (data_at z (star_under e) t)) =
               ap (λ b. elim b as (λ _. Option Verdict) [ true ↦ Some (StarRecords (data_at z (star_under e) t)) | false ↦ None ]) (and_from (link_covers z.name g q && not (strictly_above q g.next)) _ (and_from (link_covers z.name g q) _ covers_it not_below) encloses) in
@@ -202,7 +212,7 @@ module _ (z : Zone) (s : IsServable z) (q : Name) (t : ℕ) (l : t < 65536) (k :
 
 -- ---- the answer
 
-module _ (z : Zone) (s : IsServable z) (hash : Name → List ℕ) (q : Name) (t : ℕ) (l : t < 65536) (k : is_asked_type t ≡ true) (a : at_or_above (apex_of z) q ≡ true) where
+module _ (z : Zone) (s : IsServable z) (hash : Name → List ℕ) (q : Name) (t : ℕ) (l : t < 65536) (k : is_asked_type t ≡ true) (a : at_or_above (apex_of z) q ≡ true) (u : IsUnaliased z false (low q) t) where
   abbrev made : Option Rrset → List Name → Facts
   made o qs = record { rrset = o; links = own_links z Nsec qs; hash_links = [] }
 
@@ -213,7 +223,7 @@ module _ (z : Zone) (s : IsServable z) (hash : Name → List ℕ) (q : Name) (t 
       let facts : Facts = made o qs in
       let true_facts : AreTrue z hash Nsec q t facts = record { rrset = r; chain = (all_from (IsTrueLink z) (own_links z Nsec qs) (own_links_true z s qs), refl) } in
       let said : decided z.name hash facts q t ≡ Some w.0 = ap (λ b. elim b as (λ _. Option Verdict) [ true ↦ decided_inside z.name hash facts q t | false ↦ None ]) (sym (lowered_above z.name q) ∙ a) ∙ w.1 in
-      ap (λ f. decided z.name hash f q t) e ∙ said ∙ ap (λ v. Some v) (sound_links z hash facts q t w.0 s l true_facts said)
+      ap (λ f. decided z.name hash f q t) e ∙ said ∙ ap (λ v. Some v) (sound_links z hash facts q t w.0 s l true_facts said).0
 
   facts_are : (v : Verdict) → verdict z false q t ≡ v → own_facts z hash Nsec q t ≡ made (own_rrset z q t v) (spoken z Nsec (low q) v)
   facts_are v e = ap (λ v. made (own_rrset z q t v) (spoken z Nsec (low q) v)) e
@@ -223,17 +233,17 @@ module _ (z : Zone) (s : IsServable z) (hash : Name → List ℕ) (q : Name) (t 
 
   by_case : View z q t → decided z.name hash (own_facts z hash Nsec q t) q t ≡ Some (verdict z false q t)
   by_case (Signed h v) = finish (Some (named z q t)) [] (facts_are _ v) (own_records_true z q t h) (Records (data_at z (low q) t), ap (λ b. elim b as (λ _. Option Verdict) [ true ↦ expanded z.name q (named z q t) (own_links z Nsec []) | false ↦ Some (Records (data_at z (low q) t)) ]) (own_whole z q t))
-  by_case (Missing x h v) = finish None (low q ∷ []) (facts_are NoType v) tt (missing z s q t l k (low q ∷ []) (inl refl) inside x h)
-  by_case (Cut c e n v) = finish None (c ∷ []) (facts_are Delegated v ∙ ap (λ o. made None (elim o as (λ _. List Name) [ None ↦ [] | Some c ↦ c ∷ [] ])) e) tt (cut_told z s q t l k (c ∷ []) c (inl refl) e n)
+  by_case (Missing x h v) = finish None (low q ∷ []) (facts_are NoType v) tt (missing z s q t l k u (low q ∷ []) (inl refl) inside x h)
+  by_case (Cut c e n v) = finish None (c ∷ []) (facts_are Delegated v ∙ ap (λ o. made None (elim o as (λ _. List Name) [ None ↦ [] | Some c ↦ c ∷ [] ])) e) tt (cut_told z s q t l k u (c ∷ []) c (inl refl) e n)
   by_case (Starred e x c h v) =
       let ls : List Link = own_links z Nsec (low q ∷ []) in
-      let w : Answers (expanded z.name q (starred z e t) ls) = expands z s q t l k (low q ∷ []) e (inl refl) inside x c in
+      let w : Answers (expanded z.name q (starred z e t) ls) = expands z s q t l k u (low q ∷ []) e (inl refl) inside x c in
       finish (Some (starred z e t)) (low q ∷ []) (facts_are _ v ∙ ap (λ o. made o (low q ∷ [])) (own_star_is z q e t x c h)) (own_star_true z q e t x c h)
       (w.0, ap (λ b. elim b as (λ _. Option Verdict) [ true ↦ expanded z.name q (starred z e t) ls | false ↦ Some (Records (data_at z (star_under e) t)) ]) (own_expanded z q e t x c h) ∙ w.1)
   by_case (Unstarred e x c y h v) = finish None (low q ∷ star_under e ∷ []) (facts_are StarNoType v ∙ ap (λ n. made None (low q ∷ star_under n ∷ [])) (kept_encloser z false (low q) e (low-low q) c (ce_encloses z (low q) e c).there)) tt
-      (by_gap z s q t l k (low q ∷ star_under e ∷ []) e (inl refl) (inr (inl refl)) inside x c (λ _. h))
+      (by_gap z s q t l k u (low q ∷ star_under e ∷ []) e (inl refl) (inr (inl refl)) inside x c (λ _. (h, star_no_cname z (low q) t e (star_uncut z q t v) x c (u.own refl) (asked_no_cname t k))))
   by_case (Gone e x c y v) = finish None (low q ∷ star_under e ∷ []) (facts_are NoName v ∙ ap (λ n. made None (low q ∷ star_under n ∷ [])) (kept_encloser z false (low q) e (low-low q) c (ce_encloses z (low q) e c).there)) tt
-      (by_gap z s q t l k (low q ∷ star_under e ∷ []) e (inl refl) (inr (inl refl)) inside x c (λ i. absurd (false≢true (sym y ∙ owner_exists z s (star_under e) i))))
+      (by_gap z s q t l k u (low q ∷ star_under e ∷ []) e (inl refl) (inr (inl refl)) inside x c (λ i. absurd (false≢true (sym y ∙ owner_exists z s (star_under e) i))))
 
   pub complete_links : decided z.name hash (own_facts z hash Nsec q t) q t ≡ Some (verdict z false q t)
   complete_links = by_case (view z s q t inside)

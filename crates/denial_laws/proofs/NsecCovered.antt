@@ -1,11 +1,11 @@
 -- What an NSEC record of a delegation above a name proves, and one that covers the name, is the zone's verdict.
 use Rattle.std.proofs.Common.{◌≡◌, ℕ, ◌<◌, Bool, true, false, ◌&&◌, not, List, Option, Some, None, refl, sym, ap, subst, ◌∙◌, ◌⊎◌, inl, inr}
 use Rattle.std.specs.Prelude.{◌==◌, if◌then◌else◌}
-use Rattle.std.proofs.lemmas.Bool.{and_parts, and_from, and_left, not_from_false, false≢true, false_from_ne_true}
+use Rattle.std.proofs.lemmas.Bool.{and_parts, and_from, and_left, not-true, not_from_false, false≢true, false_from_ne_true}
 use Rattle.definitions.specs.Name.{Name, low, same, labels_eq, at_or_above, strictly_above}
 use Rattle.definitions.specs.Covering.{covers}
 use Rattle.definitions.specs.Bitmap.{bitmap_has}
-use Rattle.definitions.specs.Zone.{Zone, Verdict, NoType, NoName, StarRecords, StarNoType, Delegated, apex_of, has, is_delegation, cut, exists, data_at, star_under, verdict}
+use Rattle.definitions.specs.Zone.{Zone, Verdict, NoType, NoName, StarRecords, StarNoType, Delegated, apex_of, owners, has, is_delegation, cut, exists, data_at, star_under}
 use Rattle.definitions.specs.Zone as zone
 use Rattle.definitions.specs.ZoneChain.{nsec_names}
 use Rattle.definitions.proofs.Members.{In}
@@ -13,14 +13,17 @@ use Rattle.definitions.proofs.NameLaws.{labels_decide}
 use Rattle.definitions.proofs.ZoneNames.{kept-live, above_lowered, low-low, same_lowered, owner_lowered, live_owner, owner_in_chain}
 use Rattle.denial_laws.specs.Facts.{Link}
 use Rattle.denial_laws.specs.NsecRules.{first_some, is_cut, lacks, star_lacks, below_cut, link_covers, redirects, closest, at_star, covered}
+use Rattle.denial_laws.specs.Aliases.{is_redirected}
 use Rattle.denial_laws.specs.Truth.{IsServable, IsTrueLink, is_star}
+use Rattle.denial_laws.specs.Laws.{IsSaidBy}
 use Rattle.denial_laws.proofs.NameFacts.{above-low, strictly-low, strictly_lowered, same_names, names_same, above_cases, strictly_at, strictly_unlike, strictly_from, above_trans, at_strictly_above}
-use Rattle.denial_laws.proofs.ChainBits.{ShowsTypes}
-use Rattle.denial_laws.proofs.ZoneCuts.{NoneAbove, NoneStrictlyAbove, IsCut, has_owner, delegation_owner, delegation_low, no_star_cut, uncut, cut_is, cut_live, uncut_live, live_uncut}
+use Rattle.denial_laws.proofs.ChainBits.{ShowsTypes, cut_no_dname}
+use Rattle.denial_laws.proofs.ZoneCuts.{NoneAbove, NoneStrictlyAbove, IsCut, has_owner, delegation_owner, delegation_low, no_star_cut, uncut, cut_is, cut_live, cut_from, uncut_live, live_uncut}
+use Rattle.denial_laws.proofs.Unaliased.{unredirected, none_below, cut_unredirected, no_alias, cut_unaliased, there_unaliased, star_unaliased, unaliased}
 use Rattle.denial_laws.proofs.Found.{first_from, unlike_none}
 use Rattle.denial_laws.proofs.Adjacent.{Covered, apex_in, link_covered, no_owner, below_next, above_owner}
 use Rattle.denial_laws.proofs.NsecEncloser.{Encloser, encloser, exists_from, exists_is, owner_exists}
-use Rattle.denial_laws.proofs.AtName.{on_true, not_there}
+use Rattle.denial_laws.proofs.AtName.{on_true, not_there, lacks_cname}
 use Rattle.denial_laws.proofs.NsecOwner.{link_owner, link_shows, link_cut}
 use Rattle.denial_laws.proofs.Verdicts.{lacking, verdict_delegated, verdict_existing, verdict_by_star}
 
@@ -71,7 +74,21 @@ module _ (z : Zone) (s : IsServable z) (f : Link) (k : IsTrueLink z f) (q : Name
   pub cover : link_covers z.name f q ≡ true → Covered z (low f.owner) (low f.next) (low q)
   cover h = link_covered z s f k q (and_parts (covers z.name f.owner f.next q) (not (redirects q f)) h).0
 
-  pub below_cut_truly : (t : ℕ) (v : Verdict) → below_cut z.name q f ≡ Some v → v ≡ verdict z false q t
+  -- nothing redirects what it covers: a DNAME above the name would own the record, since nothing stands below it
+  pub link_unredirected : link_covers z.name f q ≡ true → is_redirected z (low q) ≡ false
+  link_unredirected h = unredirected z (low q) (λ d r.
+      let o : Name = low f.owner in
+      let owner : In d (owners z) = has_owner z d 39 r.redirects in
+      elim (above_cases d o (above_owner z s o (low f.next) (low q) (cover h) d (owner_in_chain z d owner r.live) r.above)) [
+        | inl m ↦
+            let is : d ≡ o = same_lowered d o (owner_lowered z d owner) (low-low f.owner) m in
+            let bit : bitmap_has f.bits 39 ≡ true = (link_shows z s f k).redirect ∙ ap (λ n. has z n 39) (sym is) ∙ r.redirects in
+            let above : strictly_above f.owner q ≡ true = sym (strictly-low f.owner q) ∙ ap (λ n. strictly_above n (low q)) (sym is) ∙ r.above in
+            false≢true (sym (not-true (redirects q f) (and_parts (covers z.name f.owner f.next q) (not (redirects q f)) h).1) ∙ and_from _ _ above bit)
+        | inr m ↦ none_below z s.aliases d o r.redirects (live_owner z o (link_owner z s f k)).0 m
+      ])
+
+  pub below_cut_truly : (t : ℕ) (v : Verdict) → below_cut z.name q f ≡ Some v → IsSaidBy z false q t v
   below_cut_truly t v h =
       let r = on_true (is_cut z.name f.owner f.bits && strictly_above f.owner q && not (bitmap_has f.bits 39)) (Some Delegated) v h in
       let both = and_parts (is_cut z.name f.owner f.bits) (strictly_above f.owner q) (and_parts (is_cut z.name f.owner f.bits && strictly_above f.owner q) _ r.0).0 in
@@ -79,14 +96,18 @@ module _ (z : Zone) (s : IsServable z) (f : Link) (k : IsTrueLink z f) (q : Name
       let o : Name = low f.owner in
       let above : strictly_above o (low q) ≡ true = strictly-low f.owner q ∙ both.1 in
       let unlike : labels_eq o (low q) ≡ false = false_from_ne_true (labels_eq o (low q)) (λ e. strictly_unlike o (low q) above (names_same o (low q) (ap low ((labels_decide o (low q)).0 e)))) in
-      sym is
-      ∙ sym (verdict_delegated z false q o t (sym (link_cut z s f k) ∙ both.0) (kept-live z o ∙ (live_owner z o (link_owner z s f k)).1) (strictly_at o (low q) above) (and_left (labels_eq o (low q)) (t == 43) unlike))
+      let d : is_delegation z o ≡ true = sym (link_cut z s f k) ∙ both.0 in
+      let live = (live_owner z o (link_owner z s f k)).1 in
+      let up = strictly_at o (low q) above in (
+        sym is ∙ sym (verdict_delegated z false q o t d (kept-live z o ∙ live) up (and_left (labels_eq o (low q)) (t == 43) unlike)),
+        unaliased z false q t (cut_unredirected z s.aliases (low q) o d live up) (λ _. cut_unaliased z (low q) t o (cut_from z (low q) o (low-low q) d live up)),
+      )
 
   -- a delegation that owns the record is told of
   pub tells_cut : is_delegation z (low f.owner) ≡ true → strictly_above (low f.owner) (low q) ≡ true → below_cut z.name q f ≡ Some Delegated
   tells_cut d a = lets (is_cut z.name f.owner f.bits && strictly_above f.owner q && not (bitmap_has f.bits 39)) Delegated
       (and_from (is_cut z.name f.owner f.bits && strictly_above f.owner q) _ (and_from (is_cut z.name f.owner f.bits) _ (link_cut z s f k ∙ d) (sym (strictly-low f.owner q) ∙ a))
-      (not_from_false (bitmap_has f.bits 39) (link_shows z s f k).redirect))
+      (not_from_false (bitmap_has f.bits 39) ((link_shows z s f k).redirect ∙ cut_no_dname z s.aliases (low f.owner) d)))
 
   no_cut : link_covers z.name f q ≡ true → below_cut z.name q f ≡ None → NoneAbove z (low q)
   no_cut h n = elim (cut_or_none z s (low f.owner) (low f.next) (low q) (cover h) (low-low q)) [
@@ -94,44 +115,46 @@ module _ (z : Zone) (s : IsServable z) (f : Link) (k : IsTrueLink z f) (q : Name
     | inr c ↦ absurd (unlike_none (below_cut z.name q f) Delegated (tells_cut c.0 c.1) n)
   ]
 
-  -- of a wildcard, below no delegation
+  -- of a wildcard, below no delegation: it has no CNAME
   star_truly : (e : Name) → q ≡ star_under e → at_or_above (apex_of z) (low q) ≡ true → NoneStrictlyAbove z (low q) → (t : ℕ) → t < 65536 → (v : Verdict) → at_star z.name q t f ≡ Some v
-      → zone.at_star z (low q) t ≡ v
+      → (zone.at_star z (low q) t ≡ v) × (has z (low q) 5 ≡ false)
   star_truly e st a c t l v h = go (same f.owner q) refl h
     where
       between : (b d : Bool) → link_covers z.name f q ≡ b → strictly_above q f.next ≡ d → (elim b as (λ _. Option Verdict) [ true ↦ elim d [ true ↦ Some StarNoType | false ↦ Some NoName ] | false ↦ None ]) ≡ Some v
-          → zone.at_star z (low q) t ≡ v
+          → (zone.at_star z (low q) t ≡ v) × (has z (low q) 5 ≡ false)
       between false d m n h = absurd cc
       between true true m n h =
           let k : Covered z (low f.owner) (low f.next) (low q) = cover m in
           let is : StarNoType ≡ v = cc in
           let x : exists z (low q) ≡ true = exists_covered z s (low f.owner) (low f.next) (low q) k (low-low q) a true (strictly-low q f.next ∙ n) in
-          let y : has z (low q) t ≡ false = untyped z s (low f.owner) (low f.next) (low q) k (low-low q) a c t in
-          (λ i. if x i then (if y i then StarRecords (data_at z (low q) t) else StarNoType) else NoName) ∙ is
+          let y : (t : ℕ) → has z (low q) t ≡ false = untyped z s (low f.owner) (low f.next) (low q) k (low-low q) a c in
+          ((λ i. if x i then (if y t i then StarRecords (data_at z (low q) t) else StarNoType) else NoName) ∙ is, y 5)
       between true false m n h =
           let k : Covered z (low f.owner) (low f.next) (low q) = cover m in
           let is : NoName ≡ v = cc in
           let x : exists z (low q) ≡ false = exists_covered z s (low f.owner) (low f.next) (low q) k (low-low q) a false (strictly-low q f.next ∙ n) in
-          ap (λ b. if b then (if has z (low q) t then StarRecords (data_at z (low q) t) else StarNoType) else NoName) x ∙ is
+          (ap (λ b. if b then (if has z (low q) t then StarRecords (data_at z (low q) t) else StarNoType) else NoName) x ∙ is, untyped z s (low f.owner) (low f.next) (low q) k (low-low q) a c 5)
 
       go : (b : Bool) → same f.owner q ≡ b
           → (elim b as (λ _. Option Verdict) [
             | true ↦ elim (star_lacks f.bits t) [ true ↦ Some StarNoType | false ↦ None ]
             | false ↦ elim (link_covers z.name f q) [ true ↦ elim (strictly_above q f.next) [ true ↦ Some StarNoType | false ↦ Some NoName ] | false ↦ None ]
-          ]) ≡ Some v → zone.at_star z (low q) t ≡ v
+          ]) ≡ Some v → (zone.at_star z (low q) t ≡ v) × (has z (low q) 5 ≡ false)
       go true m h =
           let r = on_true (star_lacks f.bits t) (Some StarNoType) v h in
           let is : StarNoType ≡ v = cc in
           let same_name : low f.owner ≡ low q = same_names f.owner q m in
           let x : exists z (low q) ≡ true = owner_exists z s (low q) (subst (λ n. In n (nsec_names z)) same_name (link_owner z s f k)) in
           let d : is_delegation z (low q) ≡ false = no_star_cut z s (low q) (ap (λ n. is_star (low n)) st) in
-          let y : has z (low q) t ≡ false = not_there z (low q) f.bits t l (subst (λ n. ShowsTypes z n f.bits) same_name (link_shows z s f k)) (inl d) (and_parts (lacks f.bits t) _ r.0).0 in
-          (λ i. if x i then (if y i then StarRecords (data_at z (low q) t) else StarNoType) else NoName) ∙ is
+          let shows : ShowsTypes z (low q) f.bits = subst (λ n. ShowsTypes z n f.bits) same_name (link_shows z s f k) in
+          let lacking = (and_parts (lacks f.bits t) _ r.0).0 in
+          let y : has z (low q) t ≡ false = not_there z (low q) f.bits t l shows (inl d) lacking in
+          ((λ i. if x i then (if y i then StarRecords (data_at z (low q) t) else StarNoType) else NoName) ∙ is, lacks_cname z (low q) f.bits t shows lacking)
       go false m h = between (link_covers z.name f q) (strictly_above q f.next) refl refl h
 
 -- a name that a record covers, where the record tells of no delegation
 module _ (z : Zone) (s : IsServable z) (q : Name) (t : ℕ) (l : t < 65536) (fs : List Link) (ks : (g : Link) → In g fs → IsTrueLink z g) (a : at_or_above (apex_of z) (low q) ≡ true) where
-  pub covered_truly : (f : Link) → In f fs → below_cut z.name q f ≡ None → (v : Verdict) → covered z.name q t fs f ≡ Some v → v ≡ verdict z false q t
+  pub covered_truly : (f : Link) → In f fs → below_cut z.name q f ≡ None → (v : Verdict) → covered z.name q t fs f ≡ Some v → IsSaidBy z false q t v
   covered_truly f i n v h =
       let r = on_true (link_covers z.name f q) (elim (strictly_above q f.next) [
         | true ↦ Some NoType
@@ -141,15 +164,17 @@ module _ (z : Zone) (s : IsServable z) (q : Name) (t : ℕ) (l : t < 65536) (fs 
     where
       go : link_covers z.name f q ≡ true → (b : Bool) → strictly_above q f.next ≡ b
           → (elim b as (λ _. Option Verdict) [ true ↦ Some NoType | false ↦ elim (closest f q) [ None ↦ None | Some e ↦ first_some (at_star z.name (star_under e) t) fs ] ]) ≡ Some v
-          → v ≡ verdict z false q t
+          → IsSaidBy z false q t v
       go m true e h =
           let k : Covered z (low f.owner) (low f.next) (low q) = cover z s f (ks f i) q m in
           let is : NoType ≡ v = cc in
           let below : strictly_above (low q) (low f.next) ≡ true = strictly-low q f.next ∙ e in
           let none : NoneAbove z (low q) = λ d i b. live_uncut z (low f.next) (low-low f.next) (live_owner z (low f.next) k.next).1 d i (at_strictly_above d (low q) (low f.next) b below) in
           let x : exists z (low q) ≡ true = exists_covered z s (low f.owner) (low f.next) (low q) k (low-low q) a true below in
-          let y : has z (low q) t ≡ false = untyped z s (low f.owner) (low f.next) (low q) k (low-low q) a (λ d i b. none d i (strictly_at d (low q) b)) t in
-          sym is ∙ sym (verdict_existing z q t none x ∙ lacking z (low q) t y)
+          let y : (t : ℕ) → has z (low q) t ≡ false = untyped z s (low f.owner) (low f.next) (low q) k (low-low q) a (λ d i b. none d i (strictly_at d (low q) b)) in (
+            sym is ∙ sym (verdict_existing z q t none x ∙ lacking z (low q) t (y t)),
+            unaliased z false q t (link_unredirected z s f (ks f i) q m) (λ _. there_unaliased z (low q) t x (no_alias z (low q) t (y 5))),
+          )
       go m false e h =
           let k : Covered z (low f.owner) (low f.next) (low q) = cover z s f (ks f i) q m in
           let none : NoneAbove z (low q) = no_cut z s f (ks f i) q m n in
@@ -160,6 +185,8 @@ module _ (z : Zone) (s : IsServable z) (q : Name) (t : ℕ) (l : t < 65536) (fs 
           let g = first_from (at_star z.name (star_under c.name) t) fs v found in
           let inside : at_or_above (apex_of z) (low c.name) ≡ true = above_lowered (apex_of z) c.name ∙ c.inside in
           let up : at_or_above (low c.name) (low q) ≡ true = above-low c.name q ∙ strictly_at c.name q c.above in
-          sym (verdict_by_star z q (low c.name) t none x c.is
-          ∙ star_truly z s g.0 (ks g.0 g.1.0) (star_under c.name) c.name refl (strictly_at (apex_of z) (star_under (low c.name)) inside)
-          (λ d i b. none d i (above_trans d (low c.name) (low q) b up)) t l v g.1.1)
+          let star = star_truly z s g.0 (ks g.0 g.1.0) (star_under c.name) c.name refl (strictly_at (apex_of z) (star_under (low c.name)) inside)
+          (λ d i b. none d i (above_trans d (low c.name) (low q) b up)) t l v g.1.1 in (
+            sym (verdict_by_star z q (low c.name) t none x c.is ∙ star.0),
+            unaliased z false q t (link_unredirected z s f (ks f i) q m) (λ _. star_unaliased z (low q) t (low c.name) x c.is (no_alias z (star_under (low c.name)) t star.1)),
+          )

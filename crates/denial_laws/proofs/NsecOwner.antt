@@ -1,12 +1,13 @@
 -- What an NSEC record of the name itself proves is the zone's verdict.
 use Rattle.std.proofs.Common.{◌≡◌, ℕ, ◌<◌, true, false, Some, sym, subst}
 use Rattle.definitions.specs.Name.{Name, low, same}
-use Rattle.definitions.specs.Zone.{Zone, Verdict, is_delegation, exists, verdict}
+use Rattle.definitions.specs.Zone.{Zone, Verdict, is_delegation, exists}
 use Rattle.definitions.specs.ZoneChain.{nsec_names}
 use Rattle.definitions.proofs.Members.{In, in_contained}
 use Rattle.denial_laws.specs.Facts.{Link}
 use Rattle.denial_laws.specs.NsecRules.{is_cut, at_name, at_owner}
 use Rattle.denial_laws.specs.Truth.{IsServable, IsTrueLink}
+use Rattle.denial_laws.specs.Laws.{IsSaidBy}
 use Rattle.denial_laws.proofs.NameFacts.{same_names}
 use Rattle.denial_laws.proofs.AtName.{on_true, kept_name_truly}
 use Rattle.denial_laws.proofs.ChainBits.{ShowsTypes, nsec_shows, cut_test}
@@ -26,9 +27,9 @@ module _ (z : Zone) (s : IsServable z) (f : Link) (k : IsTrueLink z f) where
   link_cut = cut_test z f.owner f.bits (chain_inside z s (low f.owner) link_owner) link_shows
 
 module _ (z : Zone) (s : IsServable z) (q : Name) (t : ℕ) (l : t < 65536) where
-  pub owner_truly : (f : Link) → IsTrueLink z f → (v : Verdict) → at_owner z.name q t f ≡ Some v → v ≡ verdict z false q t
+  pub owner_truly : (f : Link) → IsTrueLink z f → (v : Verdict) → at_owner z.name q t f ≡ Some v → IsSaidBy z false q t v
   owner_truly f k v h =
       let r = on_true (same f.owner q) (at_name z.name q t f.bits) v h in
       let is : low f.owner ≡ low q = same_names f.owner q r.0 in
       let there : exists z (low q) ≡ true = owner_exists z s (low q) (subst (λ n. In n (nsec_names z)) is (link_owner z s f k)) in
-      kept_name_truly z false q t l f.bits there (subst (λ n. ShowsTypes z n f.bits) is (link_shows z s f k)) v r.1
+      kept_name_truly z s false q t l f.bits there (subst (λ n. ShowsTypes z n f.bits) is (link_shows z s f k)) v r.1

@@ -1,4 +1,4 @@
--- True facts decide the zone's verdict, or nothing.
+-- True facts decide the zone's verdict on a name that is no alias, or nothing.
 use Rattle.definitions.specs.ZoneChain.{Nsec, Nsec3}
 use Rattle.denial_laws.specs.Laws.{TrueFactsDecideTruly}
 use Rattle.denial_laws.proofs.NsecSound.{sound_links}

@@ -1,16 +1,30 @@
 -- The cases of a verdict that leaves nothing open, each with what the zone has there.
-use Rattle.std.proofs.Common.{◌≡◌, ℕ, Bool, true, false, ◌&&◌, ◌||◌, not, [], ◌∷◌, Option, Some, None, refl, sym, ap, ◌∙◌}
+use Rattle.std.proofs.Common.{◌≡◌, ℕ, Bool, true, false, ◌&&◌, ◌||◌, not, List, [], ◌∷◌, Option, Some, None, refl, sym, ap, ◌∙◌}
 use Rattle.std.specs.Prelude.{◌==◌, if◌then◌else◌}
 use Rattle.std.proofs.lemmas.Bool.{and_parts, and_from, or_right, false≢true, false_from_ne_true, eqb-true}
 use Rattle.definitions.specs.Name.{Name, low, labels_eq, at_or_above, strictly_above}
 use Rattle.definitions.specs.Zone.{Zone, Records, NoType, NoName, StarRecords, StarNoType, Delegated, apex_of, has, is_delegation, is_live, cut, exists, ce, data_at, at_existing, at_star, star_under, verdict}
 use Rattle.definitions.specs.Zone as zone
 use Rattle.definitions.proofs.NameLaws.{labels_decide}
+use Rattle.definitions.proofs.VerdictCases.{said, verdict-said}
 use Rattle.definitions.proofs.ZoneNames.{above_itself, low-low, same_lowered, owner_lowered, kept-live, apex_in_chain}
 use Rattle.denial_laws.specs.Truth.{IsServable, is_signed}
 use Rattle.denial_laws.proofs.NameFacts.{strictly_from, strictly_at, above_trans}
 use Rattle.denial_laws.proofs.ZoneCuts.{tail_low, NoneAbove, IsCut, IsEncloser, has_owner, delegation_owner, owner_kept, no_star_cut, uncut, cut_is, cut_live, uncut_live, kept_inside, ce_encloses}
 use Rattle.denial_laws.proofs.Verdicts.{verdict_existing, verdict_by_star, verdict_delegated, verdict_ds}
+
+-- a verdict by a wildcard is of a name below no delegation
+not_by_star : (b d : Bool) (ds : List (List ℕ)) → (if b then (if d then Records ds else NoType) else Delegated) ≡ StarNoType → ⊥
+not_by_star true true ds h = cc
+not_by_star true false ds h = cc
+not_by_star false d ds h = cc
+
+pub star_uncut : (z : Zone) (q : Name) (t : ℕ) → verdict z false q t ≡ StarNoType → cut z (low q) ≡ None
+star_uncut z q t v = go (cut z (low q)) refl (sym (verdict-said z false q (low q) t refl) ∙ v)
+  where
+    go : (c : Option Name) → cut z (low q) ≡ c → said z (low q) t false c (exists z (low q)) (ce z (low q)) ≡ StarNoType → cut z (low q) ≡ None
+    go None e h = e
+    go (Some c) e h = absurd (not_by_star (labels_eq c (low q) && (t == 43)) (has z (low q) 43) (data_at z (low q) 43) h)
 
 pub data View (z : Zone) (q : Name) (t : ℕ) : Type 0 where
   -- the zone signs the type at the name

@@ -3,13 +3,16 @@ use Rattle.std.proofs.Common.{◌≡◌, ℕ, Bool, true, false, ◌&&◌, ◌||
 use Rattle.std.specs.Prelude.{if◌then◌else◌, ◌==◌}
 use Rattle.std.proofs.lemmas.Bool.{and_parts, and_from, or_cases, not-true, not_from_false, false≢true, false_from_ne_true, eqb-true}
 use Rattle.definitions.specs.Name.{Name, low, same, labels_eq, at_or_above}
-use Rattle.definitions.specs.Zone.{Zone, Records, NoType, Delegated, Open, apex_of, has, is_delegation, cut, is_live, is_kept, kept, exists, ce, star_under, kept_cut_above, data_at, at_existing, at_star, is_open, verdict}
+use Rattle.definitions.specs.Zone.{Zone, Records, NoType, Delegated, Open, apex_of, owners, has, is_delegation, cut, is_live, is_kept, kept, exists, ce, star_under, kept_cut_above, data_at, at_existing, at_star, is_open, verdict}
 use Rattle.definitions.proofs.NameLaws.{labels_decide}
-use Rattle.definitions.proofs.ZoneNames.{low-low, same_lowered, above_itself}
+use Rattle.definitions.proofs.Members.{In}
+use Rattle.definitions.proofs.ZoneNames.{low-low, same_lowered, above_itself, owner_lowered, kept-live}
 use Rattle.definitions.proofs.VerdictCases.{verdict-open, verdict-cut, verdict-exists, verdict-star}
+use Rattle.denial_laws.specs.Aliases.{IsOrderly, is_redirected}
 use Rattle.denial_laws.specs.Truth.{is_signed}
-use Rattle.denial_laws.proofs.NameFacts.{above_cases, above_either, strictly_at}
-use Rattle.denial_laws.proofs.ZoneCuts.{NoneAbove, tail_low, has_owner, delegation_owner, delegation_low, IsCut, cut_is, uncut_from, cut_live, cut_from, kept_live, live_kept, kept_inside, kept_up, owner_kept, kept_exists, kept_none_above, IsBelowKeptCut, below_cut, cut_below, ce_is}
+use Rattle.denial_laws.proofs.NameFacts.{above_cases, above_either, strictly_at, strictly_above_at}
+use Rattle.denial_laws.proofs.ZoneCuts.{NoneAbove, tail_low, has_owner, delegation_owner, delegation_low, IsCut, cut_is, uncut_from, cut_live, cut_from, uncut_live, kept_live, live_kept, IsKeptBy, kept_by, kept_inside, kept_up, owner_kept, kept_exists, kept_none_above, IsBelowKeptCut, below_cut, cut_below, ce_is}
+use Rattle.denial_laws.proofs.Unaliased.{unredirected, none_below}
 
 not_open_kept : (o k c : Bool) → k ≡ true → (o && not k && not c) ≡ false
 not_open_kept false k c h = refl
@@ -120,20 +123,52 @@ module _ (z : Zone) (ex : Bool) where
   pub gap_gone : (l : List ℕ) (e q : Name) → IsGap z ex l e q → kept z ex q ≡ false
   gap_gone l e q g = false_from_ne_true (kept z ex q) (λ h. false≢true (sym g.gone ∙ kept_up z ex (l ∷ e) q h g.above (strictly_at (apex_of z) (l ∷ e) (kept_inside z ex e g.there))))
 
--- under opt-out nothing is told
-pub gap_open : (z : Zone) (l : List ℕ) (e name : Name) (t : ℕ) → IsGap z true l e (low name) → verdict z true name t ≡ Open
-gap_open z l e name t g =
-    let q : Name = low name in
+-- A DNAME above a name below a gap stands at the gap's parent: it is kept, and nothing stands below it.
+pub gap_unredirected : (z : Zone) → IsOrderly z → (ex : Bool) (l : List ℕ) (e q : Name) → IsGap z ex l e q → has z e 39 ≡ false → is_redirected z q ≡ false
+gap_unredirected z s ex l e q g n = unredirected z q (λ d r.
+    let owner : In d (owners z) = has_owner z d 39 r.redirects in
+    let there : kept z ex d ≡ true = owner_kept z ex d owner (live_kept z ex d r.live (inl (s.uncut d r.redirects))) in
+    let le : low e ≡ e = tail_low l e g.lowered in
+    let inside : at_or_above (apex_of z) (l ∷ e) ≡ true = strictly_at (apex_of z) (l ∷ e) (kept_inside z ex e g.there) in
+    let below : at_or_above (l ∷ e) d ≡ true → ⊥ = λ b. false≢true (sym g.gone ∙ kept_up z ex (l ∷ e) d there b inside) in
+    elim (above_either d (l ∷ e) q (strictly_at d q r.above) g.above) [
+      | inl up ↦ elim (or_cases (same d (l ∷ e)) (at_or_above d e) up) [
+        | inl m ↦ below (ap (at_or_above (l ∷ e)) (same_lowered d (l ∷ e) (owner_lowered z d owner) g.lowered m) ∙ above_itself (l ∷ e))
+        | inr b ↦ elim (above_cases d e b) [
+          | inl m ↦ false≢true (sym n ∙ ap (λ n. has z n 39) (sym (same_lowered d e (owner_lowered z d owner) le m)) ∙ r.redirects)
+          | inr a ↦ let k : IsKeptBy z ex e = kept_by z ex e g.there in none_below z s d k.owner r.redirects k.inside (strictly_above_at d e k.owner a k.below)
+        ]
+      ]
+      | inr down ↦ below down
+    ])
+
+-- an owner below a gap's parent, by one label, exists
+pub gap_child : (z : Zone) (ex : Bool) (l : List ℕ) (e q : Name) → IsGap z ex l e q → (m : List ℕ) (t : ℕ) → has z (m ∷ e) t ≡ true → exists z (m ∷ e) ≡ true
+gap_child z ex l e q g m t h =
+    let owner : In (m ∷ e) (owners z) = has_owner z (m ∷ e) t h in
+    let live : is_live z (m ∷ e) ≡ true = uncut_live z (m ∷ e) (owner_lowered z (m ∷ e) owner) (strictly_at (apex_of z) (m ∷ e) (kept_inside z ex e g.there)) (kept_none_above z ex e (tail_low l e g.lowered) g.there g.plain) in
+    owner_kept z false (m ∷ e) owner (kept-live z (m ∷ e) ∙ live)
+
+-- under opt-out it leaves the name open, so nothing is told
+pub gap_left_open : (z : Zone) (l : List ℕ) (e q : Name) → IsGap z true l e q → is_open z true q ≡ true
+gap_left_open z l e q g =
     let uncovered : kept_cut_above z true q ≡ false = false_from_ne_true (kept_cut_above z true q) (λ h.
     let c : IsBelowKeptCut z true q = below_cut z true q h in
     gap_uncut z true l e q c.cut g c.delegation c.kept (strictly_at c.cut q c.above)) in
-    verdict-open z true name q t refl (and_from _ _ (not_from_false _ (gap_gone z true l e q g)) (not_from_false _ uncovered))
+    and_from _ _ (not_from_false _ (gap_gone z true l e q g)) (not_from_false _ uncovered)
 
--- without it the wildcard decides
+pub gap_open : (z : Zone) (l : List ℕ) (e name : Name) (t : ℕ) → IsGap z true l e (low name) → verdict z true name t ≡ Open
+gap_open z l e name t g = verdict-open z true name (low name) t refl (gap_left_open z l e (low name) g)
+
+-- without it its parent is the closest encloser
+pub gap_encloser : (z : Zone) (l : List ℕ) (e q : Name) → low q ≡ q → IsGap z false l e q → ce z q ≡ Some e
+gap_encloser z l e q lq g = ce_is z l e q lq g.lowered g.above g.there g.gone
+
+-- so the wildcard decides
 pub gap_star : (z : Zone) (l : List ℕ) (e name : Name) (t : ℕ) → IsGap z false l e (low name) → verdict z false name t ≡ at_star z (star_under e) t
 gap_star z l e name t g =
     let q : Name = low name in
-    verdict-star z false name q e t refl refl (go (cut z q) refl) (gap_gone z false l e q g) (ce_is z l e q (low-low name) g.lowered g.above g.there g.gone)
+    verdict-star z false name q e t refl refl (go (cut z q) refl) (gap_gone z false l e q g) (gap_encloser z l e q (low-low name) g)
   where
     go : (o : Option Name) → cut z (low name) ≡ o → o ≡ None
     go None h = refl

@@ -7,19 +7,21 @@ pub fn each_question_has_one_verdict()
     ensures { OneVerdict }
 {}
 
-/// Whatever records of a zone are verified, in any order and number, what the rules make of them is the zone's verdict
-/// or nothing. For NSEC3 the names of the chain have different hashes, and no name of the chain shares its hash with another
-/// name that the question concerns (RFC 4035, 5.4; RFC 5155, 8).
+/// Whatever records of a zone are verified, in any order and number, what the rules make of them is the zone's verdict on a
+/// name that is no alias, or nothing. The zone's CNAME and DNAME records are in order (RFC 1034, 3.6.2; RFC 6672, 2). For NSEC3
+/// the names of the chain have different hashes, and no name of the chain shares its hash with another name that the question
+/// concerns (RFC 4035, 5.4; RFC 5155, 8).
 pub fn true_facts_decide_truly()
     ensures { TrueFactsDecideTruly }
 {}
 
-/// A zone's own answer to a question decides its verdict.
+/// A zone's own answer to a question about a name that is no alias decides its verdict: no CNAME answers in its place, and no
+/// DNAME redirects it.
 pub fn own_answers_decide()
     ensures { OwnAnswersDecide }
 {}
 
-/// A zone says the same by NSEC records as by NSEC3 records without opt-out.
+/// A zone says the same of a name that is no alias by NSEC records as by NSEC3 records without opt-out.
 pub fn both_chains_say_the_same()
     ensures { BothChainsSayTheSame }
 {}
