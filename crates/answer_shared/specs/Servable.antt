@@ -1,8 +1,9 @@
 -- Zones that are accepted can be served, and questions that are allowed are decided by a zone's own answer.
-use Rattle.std.specs.Prelude.{◌≡◌, ℕ, ◌<◌, true, List, Some}
+use Rattle.std.specs.Prelude.{◌≡◌, ℕ, ◌<◌, Bool, true, false, List, Some}
 use Rattle.definitions.specs.Name.{Name, at_or_above}
 use Rattle.definitions.specs.Zone.{apex_of, verdict}
 use Rattle.definitions.specs.ZoneChain.{Mode, optout_of}
+use Rattle.denial_laws.specs.Aliases.{is_aliased}
 use Rattle.denial_laws.specs.Truth.{IsServable, NoSharedHash}
 use Rattle.denial_laws.specs.Laws.{is_asked_type}
 use Rattle.denial_laws.specs.Deciding.{decided}
@@ -17,6 +18,12 @@ use Rattle.answer_shared.specs.Hashing.{Hasher}
 -- an accepted list spells a zone that can be served
 abbrev pub AcceptedIsServable : Type 0
 AcceptedIsServable = (hasher : Hasher) (apex : Name) (mode : Mode) (limit : ℕ) (rs : List HandedRr) → IsAccepted hasher apex mode limit rs → IsServable (zone_of apex rs)
+
+-- and none of its names is an alias
+abbrev pub AcceptedHasNoAlias : Type 0
+AcceptedHasNoAlias =
+    (hasher : Hasher) (apex : Name) (mode : Mode) (limit : ℕ) (rs : List HandedRr) → IsAccepted hasher apex mode limit rs
+    → (optout : Bool) (name : Name) (t : ℕ) → is_aliased (zone_of apex rs) optout name t ≡ false
 
 -- An allowed question asks for a type that is asked for, at or below the apex.
 pub record IsAskedInside (apex : Name) (asked : Asked) : Type 0 where

@@ -3,7 +3,7 @@
 ghost use Rattle.answer_shared.specs.Alike.{AlikeTellsAlike};
 ghost use Rattle.answer_shared.specs.FactsCase.{CaseMeansNothing};
 ghost use Rattle.answer_shared.specs.Given.{GivenIsTold};
-ghost use Rattle.answer_shared.specs.Servable.{AcceptedIsServable, AllowedAnswersDecide};
+ghost use Rattle.answer_shared.specs.Servable.{AcceptedIsServable, AcceptedHasNoAlias, AllowedAnswersDecide};
 
 /// What a publisher gives is told to a judge: bytes that spell each owner and each TTL as the zone has them tell its RRsets
 /// and their signatures, of which a judge sees owners in lower case and no TTLs (RFC 4034, 6.2; RFC 4035, 5.3).
@@ -18,10 +18,15 @@ pub fn alike_tells_alike()
     ensures { AlikeTellsAlike }
 {}
 
-/// Records that are accepted spell a zone that can be served: records at the apex, all of ordinary types, and no NS at a
-/// wildcard (RFC 4035, 2; RFC 4592, 4.2). Of such a zone the rules of denial speak.
+/// Records that are accepted spell a zone that can be served: records at the apex, none of a type that signing adds, no NS at a
+/// wildcard (RFC 4035, 2; RFC 4592, 4.2), and aliases in order. Of such a zone the rules of denial speak.
 pub fn accepted_zones_can_be_served()
     ensures { AcceptedIsServable }
+{}
+
+/// They hold no CNAME and no DNAME, so no name of the zone is an alias.
+pub fn accepted_zones_have_no_alias()
+    ensures { AcceptedHasNoAlias }
 {}
 
 /// The facts of an accepted zone's own answer to an allowed question decide its verdict; of NSEC3 where the names of the chain

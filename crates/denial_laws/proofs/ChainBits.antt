@@ -64,14 +64,18 @@ types_have : (rs : List Rr) (o : Name) (t : ℕ) → list_any (nat_eq t) (types_
 types_have [] o t = refl
 types_have (r ∷ rs) o t = type_first (labels_eq (owner_of r) o) t r (filter (λ r. labels_eq (owner_of r) o) rs) ∙ ap (λ b. is_of o t r || b) (types_have rs o t)
 
--- no owner has a type that signing adds
-none_added : (z : Zone) → IsServable z → (o : Name) (t : ℕ) → is_added_type t ≡ true → has z o t ≡ false
-none_added z s o t h = false_from_ne_true (has z o t) (λ e.
+-- no owner has a type that no record has
+pub none_of_types : (p : ℕ → Bool) (z : Zone) → AllByRecursion (λ r. p r.rtype ≡ false) z.records → (o : Name) (t : ℕ) → p t ≡ true → has z o t ≡ false
+none_of_types p z none o t h = false_from_ne_true (has z o t) (λ e.
     let r = any_of (is_of o t) z.records e in
     let same : r.0.rtype ≡ t = eqb-true r.0.rtype t (and_parts (labels_eq (owner_of r.0) o) _ r.1.1).1 in
-    false≢true (sym (all_at (λ r. is_added_type r.rtype ≡ false) z.records r.0 s.ordinary r.1.0) ∙ ap is_added_type same ∙ h))
+    false≢true (sym (all_at (λ r. p r.rtype ≡ false) z.records r.0 none r.1.0) ∙ ap p same ∙ h))
 
--- nor has a delegation CNAME or DNAME
+-- none has a type that signing adds
+none_added : (z : Zone) → IsServable z → (o : Name) (t : ℕ) → is_added_type t ≡ true → has z o t ≡ false
+none_added z s o t h = none_of_types is_added_type z s.ordinary o t h
+
+-- no delegation has CNAME or DNAME
 pub cut_no_cname : (z : Zone) → IsOrderly z → (o : Name) → is_delegation z o ≡ true → has z o 5 ≡ false
 cut_no_cname z s o d = false_from_ne_true (has z o 5) (λ h.
     let two : 2 ≡ 5 = s.alone o 2 h (and_parts (has z o 2) (strictly_above (apex_of z) o) d).0 in

@@ -2,6 +2,7 @@ pub mod NameFacts
 pub mod ChainBits
 pub mod ZoneCuts
 pub mod Unaliased
+pub mod AliasFree
 pub mod Adjacent
 pub mod Found
 pub mod NsecEncloser

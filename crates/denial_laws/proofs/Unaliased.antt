@@ -90,7 +90,7 @@ no_cname z o t h n = elim (and_cases (has z o 5) (not (t == 5)) h) [
 
 module _ (z : Zone) (q : Name) (t : ℕ) where
   -- from the delegation above the name, whether it exists, and its closest encloser
-  abbrev own_alias : Option Name → Bool → Option Name → Bool
+  abbrev pub own_alias : Option Name → Bool → Option Name → Bool
   own_alias c x e = elim c [
     | Some d ↦ false
     | None ↦ elim x [
