@@ -4,7 +4,7 @@ use Rattle.definitions.specs.Limits.{pointer_limit}
 use Rattle.answer_judge_keys.specs.Judging.{Handing, answer_of}
 use Rattle.answer_judge_keys.specs.declared.verdict.Judgement.{Judgement}
 use Rattle.answer_judge_keys.specs.declared.verdict.Refused.{Refused}
-use Rattle.answer_judge.specs.Honest.{AnswersHonest}
+use Rattle.answer_honest.specs.Honest.{AnswersHonest}
 use Rattle.answer_judge.specs.Meeting.{JudgesSo}
 use Rattle.answer_judge_octets.specs.declared.outcome.Outcome.{Outcome}
 use Rattle.answer_judge_octets.specs.declared.outcome.Outcome.TheVariants as o
@@ -12,7 +12,8 @@ use Rattle.answer_judge_octets.specs.Asking.{AreAsked}
 use Rattle.answer_judge_octets.specs.Table.{AgreesWith, AreTrue, Checked, Tried, answers_with, passes_in}
 
 -- What is said is a judgement whichever signatures pass that the table doesn't have: nothing was wanted that it lacks. Whatever
--- signatures truly pass, those that pass in the table among them, of honest messages no verdict is said but the zone's.
+-- signatures truly pass, those that pass in the table among them, of honest messages no verdict is said but that of a version of
+-- the zone, in which the name is no alias.
 pub record IsJudgedBy (table : List Checked) (h : Handing) (said : Result Judgement Refused) : Type 0 where
   pub by_table : (passes : Tried → Bool) → AgreesWith table passes → JudgesSo pointer_limit (answers_with passes) h said
   pub honest : (passes : Tried → Bool) → AreTrue (passes_in table) passes → AnswersHonest (answers_with passes) pointer_limit h (answer_of said)

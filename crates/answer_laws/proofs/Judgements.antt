@@ -1,5 +1,5 @@
 -- A simulation's judgements of things that were given in one state of the keys, and in three.
-use Rattle.std.proofs.Common.{◌≡◌, ℕ, zero, suc, ◌+◌, true, false, List, [], ◌∷◌, ◌++◌, Vec, length, map, refl, sym, ap, subst, ◌∙◌}
+use Rattle.std.proofs.Common.{◌≡◌, ℕ, zero, suc, ◌+◌, ◌<◌, true, false, List, [], ◌∷◌, ◌++◌, Vec, length, map, refl, sym, ap, subst, ◌∙◌}
 use Rattle.std.proofs.lemmas.List.{length_push}
 use Rattle.std.specs.declared.alloc.Global.{Global}
 use Rattle.std.specs.Prelude.{Option, Some, None, Ok, Err, slice_get}
@@ -387,7 +387,7 @@ stays w ms h past v s t known e = subst (IsKnown w ms h past v) (sym e) known
 
 -- what a replacement takes is a zone
 pub version_is : (w : World) (now rs : List HandedRr) → IsVersionOf w now → AllByRecursion IsHanded rs → IsAccepted w.answers.hash w.zone.apex w.zone.mode w.zone.limit rs → IsVersionOf w rs
-version_is w now rs is handed accepted = record { apex_is = is.apex_is; records_are = handed; accepted = accepted; zone_is = refl }
+version_is w now rs is handed accepted = record { apex_is = is.apex_is; records_are = handed; short_limit = is.short_limit; accepted = accepted; zone_is = refl }
 
 -- what is shown of the zone's present records is of the present version
 pub keys_of_now : (w : World) (now : List HandedRr) (s : Sofar) (at : ℕ) (bytes : List ℕ) → s.records ≡ sorted_records now → ShowsKeys (now_in w s) s.keys at bytes → ShowsKeys (in_version w now) s.keys at bytes
@@ -463,7 +463,7 @@ none_led w = record {
 
 pub none_known : (w : World) (rs : List HandedRr) → IsZoneOf w rs → IsKnown w [] no_history [] (first_version rs) (begin w.zone)
 none_known w rs zone =
-    let is : IsVersionOf w rs = record { apex_is = zone.apex_is; records_are = zone.records_are; accepted = zone.accepted; zone_is = refl } in
+    let is : IsVersionOf w rs = record { apex_is = zone.apex_is; records_are = zone.records_are; short_limit = zone.short_limit; accepted = zone.accepted; zone_is = refl } in
     record {
       led = none_led w;
       passed = record {
@@ -478,6 +478,6 @@ none_known w rs zone =
     }
 
 -- an accepted zone
-pub zone_known : (apex : Name) (mode : Mode) (limit : ℕ) (rs : List HandedRr) (life : ℕ) (sign : Dnskey → List ℕ → Option (List ℕ)) (answers : Answers) → IsAccepted answers.hash apex mode limit rs → IsName apex → AllByRecursion IsHanded rs
+pub zone_known : (apex : Name) (mode : Mode) (limit : ℕ) (rs : List HandedRr) (life : ℕ) (sign : Dnskey → List ℕ → Option (List ℕ)) (answers : Answers) → limit < 65536 → IsAccepted answers.hash apex mode limit rs → IsName apex → AllByRecursion IsHanded rs
     → IsZoneOf (record { zone = record { apex = apex; mode = mode; limit = limit; records = sorted_records rs }; life = life; sign = sign; answers = answers }) rs
-zone_known apex mode limit rs life sign answers accepted name handed = record { apex_is = name; records_are = handed; accepted = accepted; zone_is = refl }
+zone_known apex mode limit rs life sign answers short accepted name handed = record { apex_is = name; records_are = handed; short_limit = short; accepted = accepted; zone_is = refl }

@@ -1,24 +1,23 @@
--- Answers whose signatures begin in one second are of one version of the zone, where moments never go back.
+-- Signatures of answers that begin and end in the same seconds are of one version of the zone, where moments never go back.
 use Rattle.std.proofs.Common.{◌≡◌, ℕ, ◌+◌, ◌%◌, ◌<◌, ◌≤◌, false, List, [], ◌∷◌, ◌++◌, refl, sym, ap, subst, ◌∙◌, inl, inr, ⊎_elim, ◌⊎◌, arith}
 use Rattle.std.specs.Prelude.{Option, Some, None, Ok, Err, map}
 use Rattle.std.specs.List.{AllByRecursion}
 use Rattle.std.proofs.lemmas.Bool.Decides.{nat_tests}
 use Rattle.messages.specs.HandedRr.{HandedRr, handed_of}
-use Rattle.messages.specs.Questions.{asked_of}
 use Rattle.messages.proofs.Lists.{Has, all_at, all_more}
-use Rattle.answer_shared.specs.Made.{HandedOut}
 use Rattle.answer_events.specs.declared.event.Act.{Act}
 use Rattle.answer_events.specs.declared.event.Act.TheVariants as act
 use Rattle.answer_scheme.specs.Moments.{second_of}
-use Rattle.answer_judge.specs.Honest.{IsOfZone, OneAtATime}
+use Rattle.answer_honest.specs.Honest.{OneAtATime, Signing}
+use Rattle.answer_judge.specs.OwnMessages.{signing_of}
+use Rattle.answer_judge_facts.specs.Times.{Times}
 use Rattle.answer_judge.proofs.GivenLists.{contained_has, has_contained, has_left, has_right}
 use Rattle.answer_judge.proofs.GivenRrset.{all_joined}
 use Rattle.answer_publisher.specs.Replacing.{is_too_soon, noted, whole_second}
 use Rattle.answer_publisher.specs.World.{World}
-use Rattle.answer_publisher_keys.specs.Bindings.{ZoneKeys}
 use Rattle.answer_outcomes.specs.declared.outcome.Outcome.{Outcome}
 use Rattle.answer_outcomes.specs.declared.outcome.Outcome.TheVariants as outcome
-use Rattle.answer_laws.specs.HonestBytes.{handed_with, keys_message, zone_message}
+use Rattle.answer_laws.specs.HonestBytes.{signings_with, version_of}
 use Rattle.answer_laws.specs.Simulating.{Sofar, StepOf, begin}
 use Rattle.answer_laws.specs.Versions.{AreTimely, NeverBack, Versions, first_version, versions_with}
 
@@ -36,15 +35,15 @@ pub record IsNoted (times : List ℕ) (latest : Option ℕ) (d : Given) : Type 0
   pub among : Has times d.moment
   pub by : IsBy latest (whole_second d.moment)
 
--- a message is one of these answers
-pub record IsAmong (answers : List Given) (out : HandedOut) : Type 0 where
+-- what one of these answers is signed of
+abbrev signing : World → Given → Signing
+signing w d = signing_of w.zone.mode d.records (second_of d.moment) w.life
+
+-- a signing is that of one of these answers
+pub record IsGiven (w : World) (answers : List Given) (x : Signing) : Type 0 where
   pub given : Given
   pub there : Has answers given
-  pub at_is : out.at ≡ second_of given.moment
-  pub records_are : out.records ≡ given.records
-
-abbrev IsGiven : List Given → HandedOut → Type 0
-IsGiven answers out = IsOfZone out.content → IsAmong answers out
+  pub is : x ≡ signing w given
 
 -- of the present version, or of a second before some second
 abbrev IsOlder : List HandedRr → ℕ → Given → Type 0
@@ -61,11 +60,11 @@ pub record AreApart (times : List ℕ) (now : List HandedRr) (since : ℕ) (answ
   pub one : (d e : Given) → Has answers d → Has answers e → whole_second d.moment ≡ whole_second e.moment → d.records ≡ e.records
 
 -- what is known of the answers so far
-pub record AreDated (times : List ℕ) (latest : Option ℕ) (now : List HandedRr) (outs : List HandedOut) : Type 0 where
+pub record AreDated (w : World) (times : List ℕ) (latest : Option ℕ) (now : List HandedRr) (signings : List Signing) : Type 0 where
   pub since : ℕ
   pub answers : List Given
   pub noted_are : AllByRecursion (IsNoted times latest) answers
-  pub given_are : AllByRecursion (IsGiven answers) outs
+  pub given_are : AllByRecursion (IsGiven w answers) signings
   pub apart : NeverBack times → AreApart times now since answers
 
 -- ---- moments that never go back
@@ -98,23 +97,13 @@ second_more times at second (inl e) = inl e
 second_more times at second (inr k) = inr (k.0, has_left times (at ∷ []) k.0 k.1, k.2)
 
 -- a moment passes
-passes : (times : List ℕ) (at : ℕ) (latest : Option ℕ) (now : List HandedRr) (outs : List HandedOut) → AreDated times latest now outs → AreDated (times ++ at ∷ []) latest now outs
-passes times at latest now outs h = record {
+passes : (w : World) (times : List ℕ) (at : ℕ) (latest : Option ℕ) (now : List HandedRr) (signings : List Signing) → AreDated w times latest now signings → AreDated w (times ++ at ∷ []) latest now signings
+passes w times at latest now signings h = record {
   since = h.since;
   answers = h.answers;
   noted_are = all_more (IsNoted times latest) (IsNoted (times ++ at ∷ []) latest) h.answers (noted_more times at latest) h.noted_are;
   given_are = h.given_are;
   apart = λ back. let a = h.apart (back_front times at back) in record { since_is = second_more times at h.since a.since_is; older = a.older; one = a.one };
-}
-
--- a DNSKEY answer is handed out
-with_keys : (times : List ℕ) (latest : Option ℕ) (now : List HandedRr) (outs : List HandedOut) (keys : ZoneKeys) (at : ℕ) → AreDated times latest now outs → AreDated times latest now (outs ++ keys_message now keys at ∷ [])
-with_keys times latest now outs keys at h = record {
-  since = h.since;
-  answers = h.answers;
-  noted_are = h.noted_are;
-  given_are = all_joined (IsGiven h.answers) outs (keys_message now keys at ∷ []) h.given_are ((λ no. absurd no), tt);
-  apart = h.apart;
 }
 
 by_later : (latest : Option ℕ) (at second : ℕ) → IsBy latest second → IsBy (noted latest at) second
@@ -128,8 +117,8 @@ by_now (Some l) at = grind arith
 noted_later : (times : List ℕ) (at : ℕ) (latest : Option ℕ) (d : Given) → IsNoted times latest d → IsNoted (times ++ at ∷ []) (noted latest at) d
 noted_later times at latest d h = record { among = has_left times (at ∷ []) d.moment h.among; by = by_later latest at (whole_second d.moment) h.by }
 
-given_more : (answers : List Given) (d : Given) (out : HandedOut) → IsGiven answers out → IsGiven (answers ++ d ∷ []) out
-given_more answers d out h of = let i = h of in record { given = i.given; there = has_left answers (d ∷ []) i.given i.there; at_is = i.at_is; records_are = i.records_are }
+given_more : (w : World) (answers : List Given) (d : Given) (x : Signing) → IsGiven w answers x → IsGiven w (answers ++ d ∷ []) x
+given_more w answers d x h = record { given = h.given; there = has_left answers (d ∷ []) h.given h.there; is = h.is }
 
 -- the second of the present version's beginning is not behind a moment that comes last
 since_up : (times : List ℕ) (at since : ℕ) → NeverBack (times ++ at ∷ []) → IsSecondOf times since → since ≤ whole_second at
@@ -167,8 +156,9 @@ with_answer times at since now answers back a =
           (either_has answers new d hd);
     }
 
-answered : (times : List ℕ) (latest : Option ℕ) (now : List HandedRr) (outs : List HandedOut) (out : HandedOut) (at : ℕ) → out.at ≡ second_of at → out.records ≡ now → AreDated times latest now outs → AreDated (times ++ at ∷ []) (noted latest at) now (outs ++ out ∷ [])
-answered times latest now outs out at at_is of h =
+answered : (w : World) (times : List ℕ) (latest : Option ℕ) (now : List HandedRr) (signings : List Signing) (at : ℕ) → AreDated w times latest now signings
+    → AreDated w (times ++ at ∷ []) (noted latest at) now (signings ++ signing_of w.zone.mode now (second_of at) w.life ∷ [])
+answered w times latest now signings at h =
     let new : Given = record { moment = at; records = now } in
     let more : List Given = h.answers ++ new ∷ [] in
     record {
@@ -177,9 +167,9 @@ answered times latest now outs out at at_is of h =
       noted_are = all_joined (IsNoted (times ++ at ∷ []) (noted latest at)) h.answers (new ∷ [])
           (all_more (IsNoted times latest) (IsNoted (times ++ at ∷ []) (noted latest at)) h.answers (noted_later times at latest) h.noted_are)
           (record { among = has_right times (at ∷ []) at (inl refl); by = by_now latest at }, tt);
-      given_are = all_joined (IsGiven more) outs (out ∷ [])
-          (all_more (IsGiven h.answers) (IsGiven more) outs (given_more h.answers new) h.given_are)
-          ((λ is. record { given = new; there = has_right h.answers (new ∷ []) new (inl refl); at_is = at_is; records_are = of }), tt);
+      given_are = all_joined (IsGiven w more) signings (signing w new ∷ [])
+          (all_more (IsGiven w h.answers) (IsGiven w more) signings (given_more w h.answers new) h.given_are)
+          (record { given = new; there = has_right h.answers (new ∷ []) new (inl refl); is = refl }, tt);
       apart = λ back. with_answer times at h.since now h.answers back (h.apart (back_front times at back));
     }
 
@@ -188,8 +178,8 @@ behind_noted : (latest : Option ℕ) (at second : ℕ) → is_too_soon latest at
 behind_noted None at second soon h = absurd h
 behind_noted (Some l) at second soon h = grind (arith, nat_tests)
 
-replaced_at : (times : List ℕ) (latest : Option ℕ) (now rs : List HandedRr) (outs : List HandedOut) (at : ℕ) → is_too_soon latest at ≡ false → AreDated times latest now outs → AreDated (times ++ at ∷ []) latest rs outs
-replaced_at times latest now rs outs at soon h = record {
+replaced_at : (w : World) (times : List ℕ) (latest : Option ℕ) (now rs : List HandedRr) (signings : List Signing) (at : ℕ) → is_too_soon latest at ≡ false → AreDated w times latest now signings → AreDated w (times ++ at ∷ []) latest rs signings
+replaced_at w times latest now rs signings at soon h = record {
   since = whole_second at;
   answers = h.answers;
   noted_are = all_more (IsNoted times latest) (IsNoted (times ++ at ∷ []) latest) h.answers (noted_more times at latest) h.noted_are;
@@ -203,41 +193,40 @@ replaced_at times latest now rs outs at soon h = record {
 
 -- ---- each event
 
-abbrev pub AreDatedSo : List ℕ → Versions → List HandedOut → Sofar → Type 0
-AreDatedSo times v outs s = AreDated times s.latest v.now outs
+abbrev pub AreDatedSo : World → List ℕ → Versions → List Signing → Sofar → Type 0
+AreDatedSo w times v signings s = AreDated w times s.latest v.now signings
 
-same : (times : List ℕ) (at : ℕ) (v : Versions) (outs : List HandedOut) (s t : Sofar) → t.latest ≡ s.latest → AreDatedSo times v outs s → AreDatedSo (times ++ at ∷ []) v outs t
-same times at v outs s t e h = subst (λ (l : Option ℕ). AreDated (times ++ at ∷ []) l v.now outs) (sym e) (passes times at s.latest v.now outs h)
+same : (w : World) (times : List ℕ) (at : ℕ) (v : Versions) (signings : List Signing) (s t : Sofar) → t.latest ≡ s.latest → AreDatedSo w times v signings s → AreDatedSo w (times ++ at ∷ []) v signings t
+same w times at v signings s t e h = subst (λ (l : Option ℕ). AreDated w (times ++ at ∷ []) l v.now signings) (sym e) (passes w times at s.latest v.now signings h)
 
 latest_of : (s t : Sofar) → t ≡ s → t.latest ≡ s.latest
 latest_of s t e = ap (λ (x : Sofar). x.latest) e
 
-pub stepped : (w : World) (times : List ℕ) (v : Versions) (outs : List HandedOut) (s t : Sofar) (at : ℕ) (a : Act) (o : Outcome) → AreDatedSo times v outs s → StepOf w s at a o t
-    → AreDatedSo (times ++ at ∷ []) (versions_with v a o) (handed_with outs v.now s.keys at a o) t
-stepped w times v outs s t at (act.Key c) (outcome.Key (Ok acts)) known is = same times at v outs s t (ap (λ (x : Sofar). x.latest) is.1) known
-stepped w times v outs s t at (act.Key c) (outcome.Key (Err e)) known is = same times at v outs s t (ap (λ (x : Sofar). x.latest) is.1) known
-stepped w times v outs s t at (act.Key c) _ known is = absurd is
-stepped w times v outs s t at (act.Replace records) (outcome.Replaced (Ok u)) known is =
+pub stepped : (w : World) (times : List ℕ) (v : Versions) (signings : List Signing) (s t : Sofar) (at : ℕ) (a : Act) (o : Outcome) → AreDatedSo w times v signings s → StepOf w s at a o t
+    → AreDatedSo w (times ++ at ∷ []) (versions_with v a o) (signings_with signings w v.now at a o) t
+stepped w times v signings s t at (act.Key c) (outcome.Key (Ok acts)) known is = same w times at v signings s t (ap (λ (x : Sofar). x.latest) is.1) known
+stepped w times v signings s t at (act.Key c) (outcome.Key (Err e)) known is = same w times at v signings s t (ap (λ (x : Sofar). x.latest) is.1) known
+stepped w times v signings s t at (act.Key c) _ known is = absurd is
+stepped w times v signings s t at (act.Replace records) (outcome.Replaced (Ok u)) known is =
     let rs : List HandedRr = map handed_of records.items in
-    subst (λ (l : Option ℕ). AreDated (times ++ at ∷ []) l rs outs) (sym (ap (λ (x : Sofar). x.latest) is.3)) (replaced_at times s.latest v.now rs outs at is.0 known)
-stepped w times v outs s t at (act.Replace records) (outcome.Replaced (Err e)) known is = same times at v outs s t (latest_of s t is.1) known
-stepped w times v outs s t at (act.Replace records) _ known is = absurd is
-stepped w times v outs s t at act.ShowDs (outcome.Ds place set) known is = same times at v outs s t (ap (λ (x : Sofar). x.latest) is.2) known
-stepped w times v outs s t at act.ShowDs _ known is = absurd is
-stepped w times v outs s t at act.ShowDnskey (outcome.Message place octets) known is =
-    same times at v (outs ++ keys_message v.now s.keys at ∷ []) s t (ap (λ (x : Sofar). x.latest) is.2) (with_keys times s.latest v.now outs s.keys at known)
-stepped w times v outs s t at act.ShowDnskey (outcome.Refused e) known is = same times at v outs s t (latest_of s t is.1) known
-stepped w times v outs s t at act.ShowDnskey _ known is = absurd is
-stepped w times v outs s t at (act.Ask q) (outcome.Message place octets) known is =
-    subst (λ (l : Option ℕ). AreDated (times ++ at ∷ []) l v.now (outs ++ zone_message v.now s.keys at (asked_of q) ∷ [])) (sym (ap (λ (x : Sofar). x.latest) is.4))
-    (answered times s.latest v.now outs (zone_message v.now s.keys at (asked_of q)) at refl refl known)
-stepped w times v outs s t at (act.Ask q) (outcome.Refused e) known is = same times at v outs s t (latest_of s t is.2) known
-stepped w times v outs s t at (act.Ask q) _ known is = absurd is
-stepped w times v outs s t at (act.Judge ds dnskey answer) o known is = same times at v outs s t (latest_of s t is.1) known
-stepped w times v outs s t at (act.JudgeBytes ds dnskey answer q) o known is = same times at v outs s t (latest_of s t is.2) known
+    subst (λ (l : Option ℕ). AreDated w (times ++ at ∷ []) l rs signings) (sym (ap (λ (x : Sofar). x.latest) is.3)) (replaced_at w times s.latest v.now rs signings at is.0 known)
+stepped w times v signings s t at (act.Replace records) (outcome.Replaced (Err e)) known is = same w times at v signings s t (latest_of s t is.1) known
+stepped w times v signings s t at (act.Replace records) _ known is = absurd is
+stepped w times v signings s t at act.ShowDs (outcome.Ds place set) known is = same w times at v signings s t (ap (λ (x : Sofar). x.latest) is.2) known
+stepped w times v signings s t at act.ShowDs _ known is = absurd is
+stepped w times v signings s t at act.ShowDnskey (outcome.Message place octets) known is = same w times at v signings s t (ap (λ (x : Sofar). x.latest) is.2) known
+stepped w times v signings s t at act.ShowDnskey (outcome.Refused e) known is = same w times at v signings s t (latest_of s t is.1) known
+stepped w times v signings s t at act.ShowDnskey _ known is = absurd is
+stepped w times v signings s t at (act.Ask q) (outcome.Message place octets) known is =
+    subst (λ (l : Option ℕ). AreDated w (times ++ at ∷ []) l v.now (signings ++ signing_of w.zone.mode v.now (second_of at) w.life ∷ [])) (sym (ap (λ (x : Sofar). x.latest) is.4))
+    (answered w times s.latest v.now signings at known)
+stepped w times v signings s t at (act.Ask q) (outcome.Refused e) known is = same w times at v signings s t (latest_of s t is.2) known
+stepped w times v signings s t at (act.Ask q) _ known is = absurd is
+stepped w times v signings s t at (act.Judge ds dnskey answer) o known is = same w times at v signings s t (latest_of s t is.1) known
+stepped w times v signings s t at (act.JudgeBytes ds dnskey answer q) o known is = same w times at v signings s t (latest_of s t is.2) known
 
 -- at the beginning
-pub none_dated : (w : World) (rs : List HandedRr) → AreDatedSo [] (first_version rs) [] (begin w.zone)
+pub none_dated : (w : World) (rs : List HandedRr) → AreDatedSo w [] (first_version rs) [] (begin w.zone)
 none_dated w rs = record {
   since = 0;
   answers = [];
@@ -252,16 +241,18 @@ none_dated w rs = record {
 same_second : (a b : ℕ) → a % 4294967296 % 4294967296 ≡ b % 4294967296 % 4294967296 → a < b + 4294967296 → b < a + 4294967296 → a ≡ b
 same_second a b e f g = omega arith
 
-pub one_at_a_time : (times : List ℕ) (latest : Option ℕ) (now : List HandedRr) (outs : List HandedOut) → AreDated times latest now outs → AreTimely times → OneAtATime outs
-one_at_a_time times latest now outs h timely x z hx hz of_x of_z e =
-    let d = all_at (IsGiven h.answers) outs x h.given_are (has_contained outs x hx) of_x in
-    let f = all_at (IsGiven h.answers) outs z h.given_are (has_contained outs z hz) of_z in
+pub one_at_a_time : (w : World) (times : List ℕ) (latest : Option ℕ) (now : List HandedRr) (signings : List Signing) → AreDated w times latest now signings → AreTimely times → OneAtATime signings
+one_at_a_time w times latest now signings h timely x z hx hz e =
+    let d = all_at (IsGiven w h.answers) signings x h.given_are (has_contained signings x hx) in
+    let f = all_at (IsGiven w h.answers) signings z h.given_are (has_contained signings z hz) in
     let i = all_at (IsNoted times latest) h.answers d.given h.noted_are d.there in
     let j = all_at (IsNoted times latest) h.answers f.given h.noted_are f.there in
     let md = contained_has times d.given.moment i.among in
     let mf = contained_has times f.given.moment j.among in
     let seconds : second_of d.given.moment % 4294967296 ≡ second_of f.given.moment % 4294967296 =
-    sym (ap (λ n. n % 4294967296) d.at_is) ∙ e ∙ ap (λ n. n % 4294967296) f.at_is in
+    ap (λ (t : Times). t.inception) (sym (ap (λ (u : Signing). u.times) d.is) ∙ e ∙ ap (λ (u : Signing). u.times) f.is) in
     let same : whole_second d.given.moment ≡ whole_second f.given.moment = same_second (whole_second d.given.moment) (whole_second f.given.moment) seconds
     (timely.near d.given.moment f.given.moment md mf) (timely.near f.given.moment d.given.moment mf md) in
-    d.records_are ∙ (h.apart timely.rising).one d.given f.given d.there f.there same ∙ sym f.records_are
+    ap (λ (u : Signing). u.version) d.is
+    ∙ ap (version_of w) ((h.apart timely.rising).one d.given f.given d.there f.there same)
+    ∙ sym (ap (λ (u : Signing). u.version) f.is)

@@ -1,26 +1,25 @@
 -- What judgements say of the versions of a zone, and of a zone that doesn't change.
-use Rattle.std.proofs.Common.{◌≡◌, ℕ, zero, suc, List, [], ◌∷◌, ◌++◌, map, refl, sym, ap, subst, ⊎_elim, inl}
+use Rattle.std.proofs.Common.{◌≡◌, ℕ, zero, suc, List, [], ◌∷◌, ◌++◌, map, refl, sym, ap, subst, inl}
 use Rattle.std.specs.Prelude.{Contains, Some, Ok, Err, length, slice_get}
 use Rattle.std.specs.List.{AllByRecursion}
 use Rattle.definitions.specs.Dnskey.{Ds}
-use Rattle.definitions.specs.Zone.{Verdict}
 use Rattle.messages.specs.HandedRr.{HandedRr}
 use Rattle.messages.specs.Message.{Asked}
-use Rattle.answer_shared.specs.Made.{HandedOut}
 use Rattle.answer_shared.specs.ZoneView.{AcceptedZone}
 use Rattle.answer_events.specs.declared.event.Act.{Act}
 use Rattle.answer_events.specs.declared.event.Act.TheVariants as act
 use Rattle.answer_events.specs.declared.event.Event.{Event}
-use Rattle.answer_judge.specs.Honest.{SaysAtMost, SaysOneOf}
-use Rattle.answer_judge.proofs.GivenLists.{contained_has, has_contained}
-use Rattle.answer_judge_keys.specs.Judging.{Answer, Says, Refuses}
+use Rattle.answer_honest.specs.Honest.{SaysOneOf, Signing}
+use Rattle.answer_honest.proofs.OneZone.{at_most}
+use Rattle.answer_judge.proofs.GivenLists.{contained_has}
+use Rattle.answer_judge_keys.specs.Judging.{Answer}
 use Rattle.answer_publisher.specs.World.{World}
 use Rattle.answer_publisher_keys.specs.Bindings.{ZoneKeys}
 use Rattle.answer_outcomes.specs.declared.outcome.Outcome.{Outcome}
 use Rattle.answer_outcomes.specs.declared.outcome.Outcome.TheVariants as outcome
-use Rattle.answer_laws.specs.HonestBytes.{AtJudgement, SaysHonestly, VerdictHonest, VerdictsHonest, handed_with, verdict_in}
+use Rattle.answer_laws.specs.HonestBytes.{AtJudgement, SaysHonestly, VerdictHonest, VerdictsHonest, signings_with, version_of}
 use Rattle.answer_laws.specs.OneState.{VerdictAt, VerdictsAlong}
-use Rattle.answer_laws.specs.Simulating.{Simulates, Sofar, StepOf, begin}
+use Rattle.answer_laws.specs.Simulating.{Simulates, Sofar, StepOf, begin, handing}
 use Rattle.answer_laws.specs.Simulations.{IsZoneOf}
 use Rattle.answer_laws.specs.ThroughRolls.{VerdictThrough, VerdictsThrough}
 use Rattle.answer_laws.specs.Versions.{KeepsZone, NeverReplaced, SaysOfVersions, SaysOneHonestly, Story, VersionsAlong, first_story, in_version, story_with}
@@ -31,28 +30,28 @@ use Rattle.answer_laws.proofs.OneAtATime as moments
 -- what is known of a run so far
 pub record IsTold (w : World) (y : Story) (s : Sofar) : Type 0 where
   pub known : judgements.IsKnown w y.moments y.history y.past y.versions s
-  pub so : honest.IsSo w y.handed_out y.past y.versions s
-  pub dated : moments.AreDatedSo y.times y.versions y.handed_out s
+  pub so : honest.IsSo w y.signings y.past y.versions s
+  pub dated : moments.AreDatedSo w y.times y.versions y.signings s
 
-stepped : (w : World) (y : Story) (s t : Sofar) (at : ℕ) (a : Act) (o : Outcome) → IsTold w y s → StepOf w s at a o t → IsTold w (story_with y s.keys at a o) t
+stepped : (w : World) (y : Story) (s t : Sofar) (at : ℕ) (a : Act) (o : Outcome) → IsTold w y s → StepOf w s at a o t → IsTold w (story_with w y s.keys at a o) t
 stepped w y s t at a o h is = record {
   known = judgements.stepped w y.moments y.history y.past y.versions s t at a o h.known is;
-  so = honest.stepped w y.handed_out y.past y.versions s t at a o h.so h.known.records_are is;
-  dated = moments.stepped w y.times y.versions y.handed_out s t at a o h.dated is;
+  so = honest.stepped w y.signings y.past y.versions s t at a o h.so is;
+  dated = moments.stepped w y.times y.versions y.signings s t at a o h.dated is;
 }
 
 spoken : (w : World) (y : Story) (s t : Sofar) (at : ℕ) (a : Act) (o : Outcome) → IsTold w y s → StepOf w s at a o t → SaysOfVersions w y s at a o
 spoken w y s t at a o h is = record {
   one_state = judgements.spoken_at w y.moments y.history y.past y.versions s t at a o h.known is;
   through_rolls = judgements.spoken_through w y.moments y.history y.past y.versions s t at a o h.known is;
-  no_false = honest.spoken w y s t at a o h.known.now_is.apex_is h.known.all_are (moments.one_at_a_time y.times s.latest y.versions.now y.handed_out h.dated) h.so is;
+  no_false = honest.spoken w y s t at a o h.known.now_is.apex_is h.known.all_are (moments.one_at_a_time w y.times s.latest y.versions.now y.signings h.dated) h.so is;
 }
 
 along : (w : World) (y : Story) (s : Sofar) (es : List Event) (os : List Outcome) (u : Sofar) (run : Simulates w s es os u) → IsTold w y s → VersionsAlong w y s es os u run
 along w y s [] [] u run h = tt
 along w y s (e ∷ es) (o ∷ os) u run h = (
   spoken w y s run.0 e.at e.act o h run.1,
-  along w (story_with y s.keys e.at e.act o) run.0 es os u run.2 (stepped w y s run.0 e.at e.act o h run.1),
+  along w (story_with w y s.keys e.at e.act o) run.0 es os u run.2 (stepped w y s run.0 e.at e.act o h run.1),
 )
 along w y s [] (o ∷ os) u run h = tt
 along w y s (e ∷ es) [] u run h = tt
@@ -89,36 +88,36 @@ pub record IsOnly (rs : List HandedRr) (y : Story) : Type 0 where
   pub moments : AllOf rs y.moments y.versions.shown
   pub places : AllOf rs y.history.shown y.versions.shown
 
-only_keeps : (rs : List HandedRr) (y : Story) (keys : ZoneKeys) (at : ℕ) (a : Act) (o : Outcome) → KeepsZone o → IsOnly rs y → IsOnly rs (story_with y keys at a o)
-only_keeps rs y keys at (act.Key c) (outcome.Key (Ok acts)) keeps h = record { all = h.all; now = h.now; moments = h.moments; places = h.places }
-only_keeps rs y keys at (act.Key c) (outcome.Key (Err e)) keeps h = record { all = h.all; now = h.now; moments = h.moments; places = h.places }
-only_keeps rs y keys at (act.Key c) _ keeps h = record { all = h.all; now = h.now; moments = h.moments; places = h.places }
-only_keeps rs y keys at (act.Replace records) (outcome.Replaced (Ok u)) keeps h = absurd keeps
-only_keeps rs y keys at (act.Replace records) (outcome.Replaced (Err e)) keeps h = record { all = h.all; now = h.now; moments = h.moments; places = h.places }
-only_keeps rs y keys at (act.Replace records) _ keeps h = record { all = h.all; now = h.now; moments = h.moments; places = h.places }
-only_keeps rs y keys at act.ShowDs (outcome.Ds place set) keeps h = record {
+only_keeps : (w : World) (rs : List HandedRr) (y : Story) (keys : ZoneKeys) (at : ℕ) (a : Act) (o : Outcome) → KeepsZone o → IsOnly rs y → IsOnly rs (story_with w y keys at a o)
+only_keeps w rs y keys at (act.Key c) (outcome.Key (Ok acts)) keeps h = record { all = h.all; now = h.now; moments = h.moments; places = h.places }
+only_keeps w rs y keys at (act.Key c) (outcome.Key (Err e)) keeps h = record { all = h.all; now = h.now; moments = h.moments; places = h.places }
+only_keeps w rs y keys at (act.Key c) _ keeps h = record { all = h.all; now = h.now; moments = h.moments; places = h.places }
+only_keeps w rs y keys at (act.Replace records) (outcome.Replaced (Ok u)) keeps h = absurd keeps
+only_keeps w rs y keys at (act.Replace records) (outcome.Replaced (Err e)) keeps h = record { all = h.all; now = h.now; moments = h.moments; places = h.places }
+only_keeps w rs y keys at (act.Replace records) _ keeps h = record { all = h.all; now = h.now; moments = h.moments; places = h.places }
+only_keeps w rs y keys at act.ShowDs (outcome.Ds place set) keeps h = record {
   all = h.all;
   now = h.now;
   moments = one_more rs y.moments y.versions.shown _ y.versions.now h.moments h.now;
   places = one_more rs y.history.shown y.versions.shown _ y.versions.now h.places h.now;
 }
-only_keeps rs y keys at act.ShowDs _ keeps h = record { all = h.all; now = h.now; moments = h.moments; places = h.places }
-only_keeps rs y keys at act.ShowDnskey (outcome.Message place octets) keeps h = record {
+only_keeps w rs y keys at act.ShowDs _ keeps h = record { all = h.all; now = h.now; moments = h.moments; places = h.places }
+only_keeps w rs y keys at act.ShowDnskey (outcome.Message place octets) keeps h = record {
   all = h.all;
   now = h.now;
   moments = one_more rs y.moments y.versions.shown _ y.versions.now h.moments h.now;
   places = one_more rs y.history.shown y.versions.shown _ y.versions.now h.places h.now;
 }
-only_keeps rs y keys at act.ShowDnskey _ keeps h = record { all = h.all; now = h.now; moments = h.moments; places = h.places }
-only_keeps rs y keys at (act.Ask q) (outcome.Message place octets) keeps h = record {
+only_keeps w rs y keys at act.ShowDnskey _ keeps h = record { all = h.all; now = h.now; moments = h.moments; places = h.places }
+only_keeps w rs y keys at (act.Ask q) (outcome.Message place octets) keeps h = record {
   all = h.all;
   now = h.now;
   moments = one_more rs y.moments y.versions.shown _ y.versions.now h.moments h.now;
   places = one_more rs y.history.shown y.versions.shown _ y.versions.now h.places h.now;
 }
-only_keeps rs y keys at (act.Ask q) _ keeps h = record { all = h.all; now = h.now; moments = h.moments; places = h.places }
-only_keeps rs y keys at (act.Judge ds dnskey answer) o keeps h = record { all = h.all; now = h.now; moments = h.moments; places = h.places }
-only_keeps rs y keys at (act.JudgeBytes ds dnskey answer q) o keeps h = record { all = h.all; now = h.now; moments = h.moments; places = h.places }
+only_keeps w rs y keys at (act.Ask q) _ keeps h = record { all = h.all; now = h.now; moments = h.moments; places = h.places }
+only_keeps w rs y keys at (act.Judge ds dnskey answer) o keeps h = record { all = h.all; now = h.now; moments = h.moments; places = h.places }
+only_keeps w rs y keys at (act.JudgeBytes ds dnskey answer q) o keeps h = record { all = h.all; now = h.now; moments = h.moments; places = h.places }
 
 -- the world with the only version is the world
 same_world : (w : World) (rs : List HandedRr) → IsZoneOf w rs → in_version w rs ≡ w
@@ -172,28 +171,24 @@ at_more P Q s act.ShowDs o f h = tt
 at_more P Q s act.ShowDnskey o f h = tt
 at_more P Q s (act.Ask q) o f h = tt
 
--- one of one verdict
-at_most : (v : Verdict) (answer : Answer) → SaysOneOf (v ∷ []) answer → SaysAtMost v answer
-at_most v (Says x) c = ⊎_elim (λ e. e) (λ no. absurd no) (has_contained (v ∷ []) x c)
-at_most v (Refuses e) c = tt
-
-unchanged_honest : (w : World) (rs : List HandedRr) (y : Story) (s : Sofar) (at : ℕ) (a : Act) (o : Outcome) → IsOnly rs y → SaysOfVersions w y s at a o → VerdictHonest w rs y.handed_out y.past s at a o
+unchanged_honest : (w : World) (rs : List HandedRr) (y : Story) (s : Sofar) (at : ℕ) (a : Act) (o : Outcome) → IsOnly rs y → SaysOfVersions w y s at a o → VerdictHonest w rs y.signings y.past s at a o
 unchanged_honest w rs y s at a o only h =
-    at_more (SaysOneHonestly w y s at) (SaysHonestly w rs y.handed_out y.past s at) s a o (λ set keys bytes asked answer one honest apart.
+    at_more (SaysOneHonestly w y s at) (SaysHonestly w rs y.signings y.past s at) s a o (λ set keys bytes asked answer one honest apart.
     let says = one honest (subst (AllByRecursion _) (sym only.all) (apart, tt)) (inl (ap length only.all)) in
-    at_most (verdict_in w rs asked) answer (subst (λ (all : List (List HandedRr)). SaysOneOf (map (λ v. verdict_in w v asked) all) answer) only.all says))
+    at_most (handing w set keys bytes asked at) (version_of w rs) answer
+    (subst (λ (all : List (List HandedRr)). SaysOneOf (handing w set keys bytes asked at) (map (version_of w) all) answer) only.all says))
     h.no_false
 
-pub unchanged_along : (w : World) (rs : List HandedRr) (y : Story) (outs : List HandedOut) (s : Sofar) (es : List Event) (os : List Outcome) (u : Sofar) (run : Simulates w s es os u) → IsZoneOf w rs → IsOnly rs y → y.handed_out ≡ outs → NeverReplaced os → VersionsAlong w y s es os u run
-    → VerdictsAlong w rs y.moments s es os u run × VerdictsThrough w rs y.history y.past s es os u run × VerdictsHonest w rs outs y.past s es os u run
-unchanged_along w rs y outs s [] [] u run zone only same never h = (tt, tt, tt)
-unchanged_along w rs y outs s (e ∷ es) (o ∷ os) u run zone only same never h =
-    let next = story_with y s.keys e.at e.act o in
-    let after = unchanged_along w rs next (handed_with outs rs s.keys e.at e.act o) run.0 es os u run.2 zone (only_keeps rs y s.keys e.at e.act o never.0 only) (λ i. handed_with (same i) (only.now i) s.keys e.at e.act o) never.1 h.1 in
-    let honest_now : VerdictHonest w rs outs y.past s e.at e.act o = subst (λ (ms : List HandedOut). VerdictHonest w rs ms y.past s e.at e.act o) same (unchanged_honest w rs y s e.at e.act o only h.0) in
+pub unchanged_along : (w : World) (rs : List HandedRr) (y : Story) (signings : List Signing) (s : Sofar) (es : List Event) (os : List Outcome) (u : Sofar) (run : Simulates w s es os u) → IsZoneOf w rs → IsOnly rs y → y.signings ≡ signings → NeverReplaced os → VersionsAlong w y s es os u run
+    → VerdictsAlong w rs y.moments s es os u run × VerdictsThrough w rs y.history y.past s es os u run × VerdictsHonest w rs signings y.past s es os u run
+unchanged_along w rs y signings s [] [] u run zone only same never h = (tt, tt, tt)
+unchanged_along w rs y signings s (e ∷ es) (o ∷ os) u run zone only same never h =
+    let next = story_with w y s.keys e.at e.act o in
+    let after = unchanged_along w rs next (signings_with signings w rs e.at e.act o) run.0 es os u run.2 zone (only_keeps w rs y s.keys e.at e.act o never.0 only) (λ i. signings_with (same i) w (only.now i) e.at e.act o) never.1 h.1 in
+    let honest_now : VerdictHonest w rs signings y.past s e.at e.act o = subst (λ (xs : List Signing). VerdictHonest w rs xs y.past s e.at e.act o) same (unchanged_honest w rs y s e.at e.act o only h.0) in
     ((unchanged_at w rs y s e.at e.act o zone only h.0, after.0), (unchanged_through w rs y s e.at e.act o zone only h.0, after.1), (honest_now, after.2))
-unchanged_along w rs y outs s [] (o ∷ os) u run zone only same never h = (tt, tt, tt)
-unchanged_along w rs y outs s (e ∷ es) [] u run zone only same never h = (tt, tt, tt)
+unchanged_along w rs y signings s [] (o ∷ os) u run zone only same never h = (tt, tt, tt)
+unchanged_along w rs y signings s (e ∷ es) [] u run zone only same never h = (tt, tt, tt)
 
 pub only_first : (rs : List HandedRr) → IsOnly rs (first_story rs)
 only_first rs = record { all = refl; now = refl; moments = tt; places = tt }

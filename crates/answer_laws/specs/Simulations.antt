@@ -1,5 +1,5 @@
 -- What a simulation of events over a zone promises of its outcomes.
-use Rattle.std.specs.Prelude.{◌≡◌, List, length}
+use Rattle.std.specs.Prelude.{◌≡◌, ◌<◌, List, length}
 use Rattle.std.specs.List.{AllByRecursion}
 use Rattle.definitions.specs.Name.{IsName}
 use Rattle.messages.specs.Handed.{IsHanded}
@@ -15,10 +15,11 @@ use Rattle.answer_laws.specs.Simulating.{Simulates, Sofar, begin}
 use Rattle.answer_laws.specs.ThroughRolls.{VerdictsHoldThroughRolls}
 use Rattle.answer_laws.specs.Versions.{NeverReplaced, SaysVersions}
 
--- the zone is the one that records spell: they are accepted, with its chain
+-- The zone is the one that records spell: they are accepted, with its chain. Iterations are numbers of 16 bits (RFC 5155, 3.1.3).
 pub record IsZoneOf (w : World) (rs : List HandedRr) : Type 0 where
   pub apex_is : IsName w.zone.apex
   pub records_are : AllByRecursion IsHanded rs
+  pub short_limit : w.zone.limit < 65536
   pub accepted : IsAccepted w.answers.hash w.zone.apex w.zone.mode w.zone.limit rs
   pub zone_is : w.zone ≡ zone_from w.zone.apex w.zone.mode w.zone.limit rs
 

@@ -5,20 +5,19 @@ use Rattle.definitions.specs.Dnskey.{Ds}
 use Rattle.messages.specs.HandedRr.{HandedRr, handed_of}
 use Rattle.messages.specs.Message.{Asked}
 use Rattle.answer_shared.specs.Accepting.{sorted_records}
-use Rattle.answer_shared.specs.Made.{HandedOut}
 use Rattle.answer_events.specs.declared.event.Act.{Act}
 use Rattle.answer_events.specs.declared.event.Act.TheVariants as act
 use Rattle.answer_events.specs.declared.event.Event.{Event}
-use Rattle.answer_judge.specs.Honest.{SaysOneOf}
+use Rattle.answer_honest.specs.Honest.{SaysOneOf, Signing}
 use Rattle.answer_judge_keys.specs.Judging.{Answer}
 use Rattle.answer_publisher.specs.Replacing.{whole_second}
 use Rattle.answer_publisher.specs.World.{World}
 use Rattle.answer_publisher_keys.specs.Bindings.{ZoneKeys}
 use Rattle.answer_outcomes.specs.declared.outcome.Outcome.{Outcome}
 use Rattle.answer_outcomes.specs.declared.outcome.Outcome.TheVariants as outcome
-use Rattle.answer_laws.specs.HonestBytes.{AreHonestSo, AtJudgement, IsApart, handed_with, verdict_in}
+use Rattle.answer_laws.specs.HonestBytes.{AreHonestSo, AtJudgement, IsApart, signings_with, version_of}
 use Rattle.answer_laws.specs.OneState.{Moment, VerdictAt, moments_with}
-use Rattle.answer_laws.specs.Simulating.{Simulates, Sofar, begin, with_records}
+use Rattle.answer_laws.specs.Simulating.{Simulates, Sofar, begin, handing, with_records}
 use Rattle.answer_laws.specs.ThroughRolls.{History, VerdictThrough, history_with, no_history, past_with}
 
 -- ---- versions
@@ -56,27 +55,27 @@ in_version w rs = with_records w (sorted_records rs)
 
 -- ---- the events so far
 
--- the moments of all events, the showing of each thing in both ways, the keys that were passed, what was handed out, and the
+-- the moments of all events, the showing of each thing in both ways, the keys that were passed, what was signed, and the
 -- versions of the zone
 pub record Story : Type 0 where
   pub times : List ℕ
   pub moments : List Moment
   pub history : History
   pub past : List ZoneKeys
-  pub handed_out : List HandedOut
+  pub signings : List Signing
   pub versions : Versions
 
 abbrev pub first_story : List HandedRr → Story
-first_story rs = record { times = []; moments = []; history = no_history; past = []; handed_out = []; versions = first_version rs }
+first_story rs = record { times = []; moments = []; history = no_history; past = []; signings = []; versions = first_version rs }
 
 -- with one more event, before which there are these keys
-abbrev pub story_with : Story → ZoneKeys → ℕ → Act → Outcome → Story
-story_with y keys at a o = record {
+abbrev pub story_with : World → Story → ZoneKeys → ℕ → Act → Outcome → Story
+story_with w y keys at a o = record {
   times = y.times ++ at ∷ [];
   moments = moments_with y.moments keys at a o;
   history = history_with y.history at a o;
   past = past_with y.past keys a o;
-  handed_out = handed_with y.handed_out y.versions.now keys at a o;
+  signings = signings_with y.signings w y.versions.now at a o;
   versions = versions_with y.versions a o;
 }
 
@@ -101,12 +100,12 @@ pub record AreTimely (times : List ℕ) : Type 0 where
 abbrev pub IsSettled : Story → Type 0
 IsSettled y = (length y.versions.all ≡ 1) ⊎ AreTimely y.times
 
--- A judgement of messages in which nothing is forged says the verdict of one version, or refuses: a mixture of two is never
--- taken for a zone.
+-- A judgement of messages in which nothing is forged says the verdict of one version, in which the name is no alias, or refuses:
+-- a mixture of two is never taken for a zone.
 abbrev pub SaysOneHonestly : World → Story → Sofar → ℕ → List Ds → List ℕ → List ℕ → Asked → Answer → Type 0
 SaysOneHonestly w y s at set dnskey bytes asked answer =
-    AreHonestSo w y.handed_out y.past s at set dnskey bytes asked → AllByRecursion (IsApart w asked) y.versions.all → IsSettled y
-    → SaysOneOf (map (λ rs. verdict_in w rs asked) y.versions.all) answer
+    AreHonestSo w y.signings y.past s (handing w set dnskey bytes asked at) → AllByRecursion (IsApart w asked) y.versions.all → IsSettled y
+    → SaysOneOf (handing w set dnskey bytes asked at) (map (version_of w) y.versions.all) answer
 
 -- What an event brings behind others. A judgement of things of one state of the keys, or of any three states, none of them
 -- retired, says the verdict of the version that the zone answer was of, whatever versions came before and behind; one of any
@@ -119,7 +118,7 @@ pub record SaysOfVersions (w : World) (y : Story) (s : Sofar) (at : ℕ) (a : Ac
 -- at each event of a simulation
 abbrev pub VersionsAlong : (w : World) (y : Story) (s : Sofar) (es : List Event) (os : List Outcome) (u : Sofar) → Simulates w s es os u → Type 0
 VersionsAlong w y s [] [] u run = Unit {0}
-VersionsAlong w y s (e ∷ es) (o ∷ os) u run = SaysOfVersions w y s e.at e.act o × VersionsAlong w (story_with y s.keys e.at e.act o) run.0 es os u run.2
+VersionsAlong w y s (e ∷ es) (o ∷ os) u run = SaysOfVersions w y s e.at e.act o × VersionsAlong w (story_with w y s.keys e.at e.act o) run.0 es os u run.2
 VersionsAlong w y s [] (o ∷ os) u run = Unit {0}
 VersionsAlong w y s (e ∷ es) [] u run = Unit {0}
 
