@@ -88,6 +88,9 @@ struct ReadCase<'a> {
 /// Judges as [`judge_by_table`](crate::judge_by_table) does, from octets. The reply's octets are written to the front of `out`
 /// where there is room for them: of records their data, each behind its length in two octets; of signatures that are asked for
 /// their entries, which belong into the list with their last octets set.
+///
+/// Of messages in which nothing is forged, in the form that is judged, no verdict is said but that of a version of the zone, and
+/// none of an alias: of a zone in order (nothing beside a CNAME, nothing below a DNAME), whoever signs and serves it.
 pub fn judge_octets(
     alloc: Global,
     case: &OctetCase,
