@@ -41,4 +41,3 @@ pub mod Spliced
 pub mod ForgedAtAll
 pub mod HonestOwn
 pub mod OwnMessages
-pub mod ToldShort

@@ -73,15 +73,15 @@ pub fn judge<C: Checks>(
 impl<'a> Case<'a> {
     /// Judges what the zone says of the question.
     ///
-    /// Whatever one version of a zone gives under keys that meet, within the times of its signatures, gets its verdict. Where no
-    /// signature of the one message holds at the moment, or none of the other, they are refused.
+    /// Whatever one version of a zone gives under keys that meet, within the times of its signatures, gets its verdict. Where
+    /// no signature of the one message holds at the moment, or none of the other, they are refused.
     ///
     /// No two messages in which nothing is forged get a verdict that no version of the zone has, or one of a name that is an
     /// alias there. That holds of a zone in order (nothing beside a CNAME, nothing below a DNAME), whoever signs and serves it.
-    /// Nothing is forged where each signature that may be used is over an RRset that was signed: the apex's, in time, of an RRset
-    /// that is sought, passing under a key that the zone published and that may sign; and where each key of the DNSKEY answer
-    /// that the DS set trusts is one that the zone published. For a zone that changes this asks that signatures must be of one
-    /// moment.
+    /// Nothing is forged where each signature that may be used is over an RRset that was signed: the apex's, in time, of an
+    /// RRset that is sought, passing under a key that the zone published and that may sign; and where each key of the DNSKEY
+    /// answer that the DS set trusts is one that the zone published. For a zone that changes this asks that signatures must be
+    /// of one moment.
     ///
     /// What is said holds under each scheme that agrees with all that `verify` answered. It is asked about those signatures alone
     /// that are due: of the two messages, in time, over an RRset there that is sought and that no earlier one verified, each
