@@ -159,9 +159,9 @@ speaks_for s o q = elim s.mode [
 abbrev pub proofs_of : Served → List Name → List Group
 proofs_of s qs = map (chain_record s) (filter (λ o. list_any (speaks_for s o) qs) (chain_names s))
 
--- the names that the proof of a verdict speaks of (RFC 4035, 3.1.3; RFC 5155, 7.2)
-abbrev pub spoken : Served → Name → Verdict → List Name
-spoken s q v = own.spoken s.zone s.mode q v
+-- the names that the proof of a verdict speaks of, beside the verdict without opt-out (RFC 4035, 3.1.3; RFC 5155, 7.2)
+abbrev pub spoken : Served → Name → Verdict → Verdict → List Name
+spoken s q told v = own.spoken s.zone s.mode q told v
 
 abbrev pub unsigned_ns : Served → Name → List Group
 unsigned_ns s c = record (rrset s c 2) { signed = false } ∷ []
@@ -195,7 +195,7 @@ ahead s q t Unsigned = []
 abbrev pub answer_groups : Served → Name → ℕ → List Group
 answer_groups s q t =
     let v = verdict s.zone (optout_of s.mode) q t in
-    ahead s q t v ++ proofs_of s (spoken s (low q) v)
+    ahead s q t v ++ proofs_of s (spoken s (low q) (verdict s.zone false q t) v)
 
 -- the data of some keys, in canonical order
 abbrev pub key_data : List Dnskey → List (List ℕ)

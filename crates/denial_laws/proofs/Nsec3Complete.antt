@@ -77,7 +77,7 @@ closed_verdict z ex q t o = verdict-said z ex q (low q) t refl ∙ ap (λ b. sai
 
 module _ (z : Zone) (hash : Name → List ℕ) (iterations : ℕ) (salt : List ℕ) (ex : Bool) (q : Name) (t : ℕ) (s : IsServable z) (l : t < 65536) (asked : is_asked_type t ≡ true) (apart : NoSharedHash z hash (Nsec3 iterations salt ex) q) (inside : at_or_above (apex_of z) q ≡ true) (u : IsUnaliased z ex (low q) t) where
   abbrev qs : Verdict → List Name
-  qs v = spoken z (Nsec3 iterations salt ex) (low q) v
+  qs v = spoken z (Nsec3 iterations salt ex) (low q) (verdict z false q t) v
 
   -- the facts of an answer that is made for a verdict
   abbrev facts : Verdict → Facts
@@ -292,6 +292,6 @@ complete_hashed z hash iterations salt ex q t s apart l inside asked u =
     let g = good z hash iterations salt ex q t s l asked apart inside u (is_open z ex (low q)) refl in
     let true_facts : AreTrue z hash (Nsec3 iterations salt ex) q t (own_facts z hash (Nsec3 iterations salt ex) q t) = record {
       rrset = g.0;
-      chain = (refl, own_true z hash ex s apart.0 iterations salt (spoken z (Nsec3 iterations salt ex) (low q) (verdict z ex q t)));
+      chain = (refl, own_true z hash ex s apart.0 iterations salt (spoken z (Nsec3 iterations salt ex) (low q) (verdict z false q t) (verdict z ex q t)));
     } in
     g.1.1 ∙ ap (λ v. Some v) (sound_hashed z hash iterations salt ex (own_facts z hash (Nsec3 iterations salt ex) q t) q t g.1.0 s apart l true_facts g.1.1).0

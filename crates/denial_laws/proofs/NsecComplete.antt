@@ -225,8 +225,8 @@ module _ (z : Zone) (s : IsServable z) (hash : Name → List ℕ) (q : Name) (t 
       let said : decided z.name hash facts q t ≡ Some w.0 = ap (λ b. elim b as (λ _. Option Verdict) [ true ↦ decided_inside z.name hash facts q t | false ↦ None ]) (sym (lowered_above z.name q) ∙ a) ∙ w.1 in
       ap (λ f. decided z.name hash f q t) e ∙ said ∙ ap (λ v. Some v) (sound_links z hash facts q t w.0 s l true_facts said).0
 
-  facts_are : (v : Verdict) → verdict z false q t ≡ v → own_facts z hash Nsec q t ≡ made (own_rrset z q t v) (spoken z Nsec (low q) v)
-  facts_are v e = ap (λ v. made (own_rrset z q t v) (spoken z Nsec (low q) v)) e
+  facts_are : (v : Verdict) → verdict z false q t ≡ v → own_facts z hash Nsec q t ≡ made (own_rrset z q t v) (spoken z Nsec (low q) v v)
+  facts_are v e = ap (λ v. made (own_rrset z q t v) (spoken z Nsec (low q) v v)) e
 
   inside : at_or_above (apex_of z) (low q) ≡ true
   inside = above_lowered (apex_of z) q ∙ a

@@ -1,5 +1,5 @@
 -- The facts of a zone's own answer to a question (RFC 4035, 3.1.3; RFC 5155, 7.2).
-use Rattle.std.specs.Prelude.{ℕ, Bool, true, false, ◌||◌, List, [], ◌∷◌, map, filter, length, Option, Some, None, if◌then◌else◌}
+use Rattle.std.specs.Prelude.{ℕ, Bool, true, false, ◌||◌, List, [], ◌∷◌, map, filter, length, Option, Some, None, is_none, if◌then◌else◌}
 use Rattle.std.specs.List.{list_any}
 use Rattle.std.specs.Str.{bytes_eq}
 use Rattle.definitions.specs.Name.{Name, low, labels_eq}
@@ -20,16 +20,27 @@ abbrev pub kept_ancestor : Zone → Bool → Name → Name
 kept_ancestor z optout [] = []
 kept_ancestor z optout (l ∷ q) = let r = kept_ancestor z optout q in if kept z optout q then q else r
 
--- the names that the proof of a verdict on a name in lower case speaks of (RFC 4035, 3.1.3; RFC 5155, 7.2)
-abbrev pub spoken : Zone → Mode → Name → Verdict → List Name
-spoken z mode q (Records ds) = []
-spoken z mode q NoType = q ∷ []
-spoken z mode q NoName = let e = kept_ancestor z (optout_of mode) q in elim mode [ Nsec ↦ q ∷ star_under e ∷ [] | Nsec3 iterations salt optout ↦ e ∷ next_closer e q ∷ star_under e ∷ [] ]
-spoken z mode q (StarRecords ds) = let e = kept_ancestor z (optout_of mode) q in elim mode [ Nsec ↦ q ∷ [] | Nsec3 iterations salt optout ↦ next_closer e q ∷ [] ]
-spoken z mode q StarNoType = let e = kept_ancestor z (optout_of mode) q in elim mode [ Nsec ↦ q ∷ star_under e ∷ [] | Nsec3 iterations salt optout ↦ e ∷ next_closer e q ∷ star_under e ∷ [] ]
-spoken z mode q Delegated = elim (cut z q) [ None ↦ [] | Some c ↦ c ∷ [] ]
-spoken z mode q Open = let e = kept_ancestor z (optout_of mode) q in e ∷ next_closer e q ∷ []
-spoken z mode q Unsigned = []
+-- where opt-out leaves a name open, by the verdict without opt-out: the wildcard is to be denied, unless its RRset is given or
+-- a delegation stands at or above the name (RFC 5155, 7.2.2 and 7.2.5)
+abbrev pub denies_star : Zone → Name → Verdict → Bool
+denies_star z q (StarRecords ds) = false
+denies_star z q _ = is_none (cut z q)
+
+-- the names that the proof of an open name speaks of, with the wildcard or without it
+abbrev pub open_spoken : Zone → Mode → Name → Bool → List Name
+open_spoken z mode q star = let e = kept_ancestor z (optout_of mode) q in e ∷ next_closer e q ∷ (if star then star_under e ∷ [] else [])
+
+-- the names that the proof of a verdict on a name in lower case speaks of, beside the verdict without opt-out (RFC 4035, 3.1.3;
+-- RFC 5155, 7.2)
+abbrev pub spoken : Zone → Mode → Name → Verdict → Verdict → List Name
+spoken z mode q told (Records ds) = []
+spoken z mode q told NoType = q ∷ []
+spoken z mode q told NoName = let e = kept_ancestor z (optout_of mode) q in elim mode [ Nsec ↦ q ∷ star_under e ∷ [] | Nsec3 iterations salt optout ↦ e ∷ next_closer e q ∷ star_under e ∷ [] ]
+spoken z mode q told (StarRecords ds) = let e = kept_ancestor z (optout_of mode) q in elim mode [ Nsec ↦ q ∷ [] | Nsec3 iterations salt optout ↦ next_closer e q ∷ [] ]
+spoken z mode q told StarNoType = let e = kept_ancestor z (optout_of mode) q in elim mode [ Nsec ↦ q ∷ star_under e ∷ [] | Nsec3 iterations salt optout ↦ e ∷ next_closer e q ∷ star_under e ∷ [] ]
+spoken z mode q told Delegated = elim (cut z q) [ None ↦ [] | Some c ↦ c ∷ [] ]
+spoken z mode q told Open = open_spoken z mode q (denies_star z q told)
+spoken z mode q told Unsigned = []
 
 -- the record of a name of the NSEC chain
 abbrev pub link_of : Zone → Name → Link
@@ -78,5 +89,5 @@ own_hash_links z hash (Nsec3 iterations salt optout) qs =
 abbrev pub own_facts : Zone → (Name → List ℕ) → Mode → Name → ℕ → Facts
 own_facts z hash mode q t =
     let v = verdict z (optout_of mode) q t in
-    let qs = spoken z mode (low q) v in
+    let qs = spoken z mode (low q) (verdict z false q t) v in
     record { rrset = own_rrset z q t v; links = own_links z mode qs; hash_links = own_hash_links z hash mode qs }
