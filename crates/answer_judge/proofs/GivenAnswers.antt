@@ -89,7 +89,7 @@ module _ (a : Answers) (k : ℕ) (h : Handing) (mode : Mode) (rs : List HandedRr
   rrset = own_rrset z h.asked.name h.asked.rtype said
 
   abbrev names : List Name
-  names = spoken z mode (low h.asked.name) said
+  names = spoken z mode (low h.asked.name) (verdict z false h.asked.name h.asked.rtype) said
 
   abbrev links : List Link
   links = own_links z mode names

@@ -96,7 +96,7 @@ module _ (w : Trusting) (k : ℕ) (m : List ℕ) (records : List Spelled) (apex 
   is_front = own_front apex mode hash rs q t told.servable told.soa_there told.not_rrsig told.not_nsec told.not_nsec3 told.inside
 
   abbrev names : List Name
-  names = spoken z mode (low q) said
+  names = spoken z mode (low q) (verdict z false q t) said
 
   abbrev chain : List Group
   chain = proofs_of s names

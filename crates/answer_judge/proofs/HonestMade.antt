@@ -198,9 +198,9 @@ module _ (apex : Name) (mode : Mode) (hash : Name → List ℕ) (rs : List Hande
       let t : ℕ = asked.rtype in
       let v : Verdict = verdict z (optout_of mode) q t in
       let inside : at_or_above (apex_of z) (low q) ≡ true = above_lowered (low apex) q ∙ (asked_inside apex asked of.1).inside rs in
-      elim (from_joined (ahead s q t v) (proofs_of s (spoken s (low q) v)) g h) [
+      elim (from_joined (ahead s q t v) (proofs_of s (spoken s (low q) (verdict z false q t) v)) g h) [
         | inl i ↦ ZoneKind (all_at Part (ahead s q t v) g (all_parts q t of.0.name inside) i signed)
-        | inr i ↦ chain_part published (spoken s (low q) v) g i
+        | inr i ↦ chain_part published (spoken s (low q) (verdict z false q t) v) g i
       ]
 
 -- ---- what is said of an RRset's octets

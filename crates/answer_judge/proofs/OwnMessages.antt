@@ -118,7 +118,7 @@ answer_plain : (apex : Name) (mode : Mode) (hash : Name → List ℕ) (rs : List
 answer_plain apex mode hash rs q t other =
     let s : Served = served_of apex mode hash rs in
     let v : Verdict = verdict s.zone (optout_of mode) q t in
-    all_joined IsPlain (ahead s q t v) (proofs_of s (spoken s (low q) v)) (ahead_plain s q t other v) (each_plain (chain_record s) (chain_plain apex mode hash rs) _)
+    all_joined IsPlain (ahead s q t v) (proofs_of s (spoken s (low q) (verdict s.zone false q t) v)) (ahead_plain s q t other v) (each_plain (chain_record s) (chain_plain apex mode hash rs) _)
 
 -- ---- messages
 

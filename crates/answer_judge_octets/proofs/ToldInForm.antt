@@ -203,7 +203,7 @@ module _ (s : Served) (zone : is_zone_in_form s.zone ≡ true) where
   answer_in_form : (q : Name) (t : ℕ) → AllByRecursion InForm (answer_groups s q t)
   answer_in_form q t =
       let v = verdict s.zone (optout_of s.mode) q t in
-      all_front InForm (ahead s q t v) (proofs_of s (spoken s (low q) v)) (ahead_in_form q t v) (proofs_in_form (filter (λ o. list_any (speaks_for s o) (spoken s (low q) v)) (chain_names s)))
+      all_front InForm (ahead s q t v) (proofs_of s (spoken s (low q) (verdict s.zone false q t) v)) (ahead_in_form q t v) (proofs_in_form (filter (λ o. list_any (speaks_for s o) (spoken s (low q) (verdict s.zone false q t) v)) (chain_names s)))
 
 -- ---- the whole
 

@@ -253,8 +253,8 @@ answer_formed apex mode hash rs p h q t name small plain names =
     let s = served_of apex mode hash rs in
     let v = verdict (zone_with apex rs) (optout_of mode) q t in
     let first : List Group = ahead s q t v in
-    let second : List Group = proofs_of s (spoken s (low q) v) in
-    joined_formed first second (ahead_formed apex mode hash rs p h q t name small plain v) (proofs_read apex mode hash rs h (spoken s (low q) v) (all_behind Named first second names))
+    let second : List Group = proofs_of s (spoken s (low q) (verdict (zone_with apex rs) false q t) v) in
+    joined_formed first second (ahead_formed apex mode hash rs p h q t name small plain v) (proofs_read apex mode hash rs h (spoken s (low q) (verdict (zone_with apex rs) false q t) v) (all_behind Named first second names))
 
 canonical_read : (g : Group) (ttl : ℕ) (ds : List (List ℕ)) → IsName g.owner → ttl < 4294967296 → AllZip (ReadsAs g.rtype) ds ds → AllZip (ReadsRecord g) (map (written_rr g.owner g.rtype ttl) ds) ds
 canonical_read g ttl [] name small h = tt

@@ -9,7 +9,7 @@ use Rattle.definitions.specs.ZoneChain.{Mode, Nsec, Nsec3, optout_of}
 use Rattle.definitions.proofs.Members.{In, in_contained}
 use Rattle.definitions.proofs.VerdictCases.{verdict-exists}
 use Rattle.definitions.proofs.ZoneNames.{above_itself, apex_in_chain, low-low, same_lowered}
-use Rattle.denial_laws.specs.OwnFacts.{kept_ancestor, next_closer, spoken}
+use Rattle.denial_laws.specs.OwnFacts.{denies_star, kept_ancestor, next_closer, spoken}
 use Rattle.denial_laws.specs.Truth.{concerned}
 use Rattle.denial_laws.proofs.HashChain.{concerns_name, concerns_star}
 use Rattle.denial_laws.proofs.KeptAncestor.{IsKeptParent, ancestor_lowered, kept_parent}
@@ -134,17 +134,17 @@ module _ (z : Zone) (there : Contains (owners z) (apex_of z)) (mode : Mode) (q :
   by_name : (n : Name) → In n (low q ∷ []) → Concerned n
   by_name n i = elim i [ inl s ↦ subst Concerned (sym s) itself | inr b ↦ absurd b ]
 
-  pub all_concerned : (v : Verdict) → verdict z ex q t ≡ v → (n : Name) → In n (spoken z mode (low q) v) → Concerned n
+  pub all_concerned : (v : Verdict) → verdict z ex q t ≡ v → (n : Name) → In n (spoken z mode (low q) (verdict z false q t) v) → Concerned n
   all_concerned (Records ds) s n i = absurd i
   all_concerned NoType s n i = by_name n i
   all_concerned NoName s n i = by_mode mode refl n i
     where
-      by_mode : (m : Mode) → mode ≡ m → (n : Name) → In n (spoken z m (low q) NoName) → Concerned n
+      by_mode : (m : Mode) → mode ≡ m → (n : Name) → In n (spoken z m (low q) (verdict z false q t) NoName) → Concerned n
       by_mode Nsec h n i = elim i [ inl k ↦ subst Concerned (sym k) itself | inr k ↦ by_parent NoName s (λ x. cc) (λ x. cc) n (elim k [ inl k ↦ inr (inr (inl (k ∙ ap (λ m. star_under (kept_ancestor z (optout_of m) (low q))) (sym h)))) | inr b ↦ absurd b ]) ]
       by_mode (Nsec3 a b o) h n i = by_parent NoName s (λ x. cc) (λ x. cc) n (subst (λ m. In n (kept_ancestor z (optout_of m) (low q) ∷ next_closer (kept_ancestor z (optout_of m) (low q)) (low q) ∷ star_under (kept_ancestor z (optout_of m) (low q)) ∷ [])) (sym h) i)
   all_concerned (StarRecords ds) s n i = by_mode mode refl n i
     where
-      by_mode : (m : Mode) → mode ≡ m → (n : Name) → In n (spoken z m (low q) (StarRecords ds)) → Concerned n
+      by_mode : (m : Mode) → mode ≡ m → (n : Name) → In n (spoken z m (low q) (verdict z false q t) (StarRecords ds)) → Concerned n
       by_mode Nsec h n i = by_name n i
       by_mode (Nsec3 a b o) h n i =
           let j = subst (λ m. In n (next_closer (kept_ancestor z (optout_of m) (low q)) (low q) ∷ [])) (sym h) i in
@@ -154,9 +154,13 @@ module _ (z : Zone) (there : Contains (owners z) (apex_of z)) (mode : Mode) (q :
           ]
   all_concerned StarNoType s n i = by_mode mode refl n i
     where
-      by_mode : (m : Mode) → mode ≡ m → (n : Name) → In n (spoken z m (low q) StarNoType) → Concerned n
+      by_mode : (m : Mode) → mode ≡ m → (n : Name) → In n (spoken z m (low q) (verdict z false q t) StarNoType) → Concerned n
       by_mode Nsec h n i = elim i [ inl k ↦ subst Concerned (sym k) itself | inr k ↦ by_parent StarNoType s (λ x. cc) (λ x. cc) n (elim k [ inl k ↦ inr (inr (inl (k ∙ ap (λ m. star_under (kept_ancestor z (optout_of m) (low q))) (sym h)))) | inr b ↦ absurd b ]) ]
       by_mode (Nsec3 a b o) h n i = by_parent StarNoType s (λ x. cc) (λ x. cc) n (subst (λ m. In n (kept_ancestor z (optout_of m) (low q) ∷ next_closer (kept_ancestor z (optout_of m) (low q)) (low q) ∷ star_under (kept_ancestor z (optout_of m) (low q)) ∷ [])) (sym h) i)
   all_concerned Delegated s n i = at_delegation (cut z (low q)) refl n i
-  all_concerned Open s n i = by_parent Open s (λ x. cc) (λ x. cc) n (elim i [ inl k ↦ inl k | inr k ↦ elim k [ inl k ↦ inr (inl k) | inr b ↦ absurd b ] ])
+  all_concerned Open s n i = by_parent Open s (λ x. cc) (λ x. cc) n (elim i [ inl k ↦ inl k | inr k ↦ elim k [ inl k ↦ inr (inl k) | inr j ↦ inr (inr (with_star (denies_star (verdict z false q t)) j)) ] ])
+    where
+      with_star : (b : Bool) → In n (if b then star_under e ∷ [] else []) → In n (star_under e ∷ [])
+      with_star true j = j
+      with_star false j = absurd j
   all_concerned Unsigned s n i = absurd i

@@ -4,9 +4,9 @@ use Rattle.std.specs.Prelude.{IfOk, Result, ◌==◌, if◌then◌else◌}
 use Rattle.std.specs.List.{list_any}
 use Rattle.std.proofs.lemmas.Bool.{and_parts}
 use Rattle.definitions.specs.Name.{Name, at_or_above, labels_eq, low}
-use Rattle.definitions.specs.Zone.{NoName, Open, StarNoType, StarRecords, Verdict, Zone, ce, cut, data_at, exists, has, star_under, verdict}
+use Rattle.definitions.specs.Zone.{NoName, StarNoType, StarRecords, Verdict, Zone, ce, cut, data_at, exists, has, star_under, verdict}
 use Rattle.definitions.specs.ZoneChain.{optout_of}
-use Rattle.denial_laws.specs.OwnFacts.{kept_ancestor}
+use Rattle.denial_laws.specs.OwnFacts.{denies_star, kept_ancestor, open_spoken}
 use Rattle.denial_laws.proofs.NameFacts.{above-low}
 use Rattle.denial_nsec3_hash.specs.declared.hasher.HashError.{HashError}
 use Rattle.messages.specs.HandedRr.{HandedRr}
@@ -44,26 +44,32 @@ module _ {H : Type 0} (hash_of : H → Hasher) (x : HashedZone H) (q : Name) (t 
 
   -- ---- where opt-out leaves the name open
 
-  abbrev open_names : List Name
-  open_names = spoken ours (low q) Open
+  abbrev open_names : Bool → List Name
+  open_names star = open_spoken (zone_of x) x.mode (low q) star
+
+  pub open_spoke : LeavesOpen x q true → (v : Verdict) (star : Bool) → verdict (zone_of x) false q t ≡ v → denies_star v ≡ star → spoken_for ours q t ≡ open_names star
+  open_spoke opens v star said denies =
+      let whole = left_open (zone_of x) (optout_of x.mode) q t opens in
+      ap (spoken ours (low q) (verdict (zone_of x) false q t)) whole ∙ ap (λ w. open_names (denies_star w)) said ∙ ap open_names denies
 
   -- the SOA record, or the name servers of a delegation
   abbrev front : Option Name → List Group
   front o = elim o [ None ↦ soa ours ∷ [] | Some c ↦ if labels_eq c (low q) && (t == 43) then soa ours ∷ [] else unsigned_ns ours c ]
 
-  pub open_missing : AnswersItself x q t → LeavesOpen x q true → (v : Verdict) (r : Result ZoneAnswer HashError)
+  pub open_missing : AnswersItself x q t → LeavesOpen x q true → (v : Verdict) (star : Bool) (r : Result ZoneAnswer HashError)
       → ahead_open ours q t v ≡ front (cut (zone_of x) (low q))
       → 0 ≡ answered v
       → verdict (zone_of x) false q t ≡ v
-      → IfOk r (Holds (flags_for v) [] (soa ours ∷ proofs_of ours open_names))
-      → HashesEach (hash_of x.hasher) x.mode open_names r
+      → denies_star v ≡ star
+      → IfOk r (Holds (flags_for v) [] (soa ours ∷ proofs_of ours (open_names star)))
+      → HashesEach (hash_of x.hasher) x.mode (open_names star) r
       → Replies hash_of x q t r
-  open_missing own opens v r ahead none said =
+  open_missing own opens v star r ahead none said denies =
       let whole = left_open (zone_of x) (optout_of x.mode) q t opens in
       let uncut = not_referred (zone_of x) (low q) t (soa ours ∷ []) (unsigned_ns ours) own.0 (cut (zone_of x) (low q)) refl in
-      reply v [] (soa ours ∷ proofs_of ours open_names) open_names r said none
-      (groups_open_missing x.apex x.mode (hash_in (hash_of x.hasher) x.mode) x.records q t v ahead uncut whole said)
-      (ap (spoken ours (low q)) whole)
+      reply v [] (soa ours ∷ proofs_of ours (open_names star)) (open_names star) r said none
+      (groups_open_missing x.apex x.mode (hash_in (hash_of x.hasher) x.mode) x.records q t v star denies ahead uncut whole said)
+      (open_spoke opens v star said denies)
 
 -- ---- a name that does not exist, by what was found of the wildcard below its closest encloser
 

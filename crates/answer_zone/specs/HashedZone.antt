@@ -1,5 +1,5 @@
 -- An accepted zone beside what hashes its names.
-use Rattle.std.specs.Prelude.{◌≡◌, ℕ, List, Contains, IsSome, MatchResult, None, Result}
+use Rattle.std.specs.Prelude.{◌≡◌, ℕ, false, List, Contains, IsSome, MatchResult, None, Result}
 use Rattle.definitions.specs.Name.{Name, low, wire}
 use Rattle.definitions.specs.Zone.{verdict}
 use Rattle.definitions.specs.ZoneChain.{Mode, Nsec, Nsec3, optout_of}
@@ -49,7 +49,7 @@ HashesEach hash mode ns r = MatchResult r (λ _. AreHashed hash mode ns) (IsHash
 
 -- the names that the proof of an answer speaks of
 abbrev pub spoken_for : Served → Name → ℕ → List Name
-spoken_for s q t = spoken s (low q) (verdict s.zone (optout_of s.mode) q t)
+spoken_for s q t = spoken s (low q) (verdict s.zone false q t) (verdict s.zone (optout_of s.mode) q t)
 
 -- what a call says of these
 abbrev pub HashesFor : {H T : Type 0} → (H → Hasher) → HashedZone H → Name → ℕ → Result T HashError → Type 0

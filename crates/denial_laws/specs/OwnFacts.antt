@@ -1,5 +1,5 @@
 -- The facts of a zone's own answer to a question (RFC 4035, 3.1.3; RFC 5155, 7.2).
-use Rattle.std.specs.Prelude.{ℕ, Bool, true, false, ◌||◌, List, [], ◌∷◌, map, filter, length, Option, Some, None, is_none, if◌then◌else◌}
+use Rattle.std.specs.Prelude.{ℕ, Bool, true, false, ◌||◌, List, [], ◌∷◌, map, filter, length, Option, Some, None, if◌then◌else◌}
 use Rattle.std.specs.List.{list_any}
 use Rattle.std.specs.Str.{bytes_eq}
 use Rattle.definitions.specs.Name.{Name, low, labels_eq}
@@ -20,11 +20,12 @@ abbrev pub kept_ancestor : Zone → Bool → Name → Name
 kept_ancestor z optout [] = []
 kept_ancestor z optout (l ∷ q) = let r = kept_ancestor z optout q in if kept z optout q then q else r
 
--- where opt-out leaves a name open, by the verdict without opt-out: the wildcard is to be denied, unless its RRset is given or
--- a delegation stands at or above the name (RFC 5155, 7.2.2 and 7.2.5)
-abbrev pub denies_star : Zone → Name → Verdict → Bool
-denies_star z q (StarRecords ds) = false
-denies_star z q _ = is_none (cut z q)
+-- whether the proof of an open name speaks of the wildcard too, by the verdict without opt-out: where the name does not exist,
+-- and the wildcard's RRset is not given (RFC 5155, 7.2.2 and 7.2.5)
+abbrev pub denies_star : Verdict → Bool
+denies_star NoName = true
+denies_star StarNoType = true
+denies_star _ = false
 
 -- the names that the proof of an open name speaks of, with the wildcard or without it
 abbrev pub open_spoken : Zone → Mode → Name → Bool → List Name
@@ -39,7 +40,7 @@ spoken z mode q told NoName = let e = kept_ancestor z (optout_of mode) q in elim
 spoken z mode q told (StarRecords ds) = let e = kept_ancestor z (optout_of mode) q in elim mode [ Nsec ↦ q ∷ [] | Nsec3 iterations salt optout ↦ next_closer e q ∷ [] ]
 spoken z mode q told StarNoType = let e = kept_ancestor z (optout_of mode) q in elim mode [ Nsec ↦ q ∷ star_under e ∷ [] | Nsec3 iterations salt optout ↦ e ∷ next_closer e q ∷ star_under e ∷ [] ]
 spoken z mode q told Delegated = elim (cut z q) [ None ↦ [] | Some c ↦ c ∷ [] ]
-spoken z mode q told Open = open_spoken z mode q (denies_star z q told)
+spoken z mode q told Open = open_spoken z mode q (denies_star told)
 spoken z mode q told Unsigned = []
 
 -- the record of a name of the NSEC chain

@@ -261,11 +261,11 @@ impl<'h, H: Nsec3Hasher> ZoneRecords<'h, H> {
             IsAround z (optout_of self.now.mode) (low name.now) around.now }
         ensures answer { let s = served_by H.hash_of self.now in let q = low name.now in
             let star = low around.now.star in
-            let said = spoken s.zone s.mode q (StarRecords []) in
+            let said = spoken s.zone s.mode q (StarRecords []) (StarRecords []) in
             IfOk result (Holds 33792 (expanded s star name.now rtype) (proofs_of s said)) }
         ensures hashed { let hash = H.hash_of self.now.hasher in let mode = self.now.mode in
             let z = zone_of self.now in
-            let said = spoken z mode (low name.now) (StarRecords []) in
+            let said = spoken z mode (low name.now) (StarRecords []) (StarRecords []) in
             HashesEach hash mode said result }
     {
         let covered = self.covered_name(name, around);
@@ -283,7 +283,8 @@ impl<'h, H: Nsec3Hasher> ZoneRecords<'h, H> {
         requires around { let z = zone_of self.now in
             IsAround z (optout_of self.now.mode) (low name.now) around.now }
         ensures { let z = zone_of self.now in
-            low result.now ∷ [] ≡ spoken z self.now.mode (low name.now) (StarRecords []) }
+            let said = spoken z self.now.mode (low name.now) (StarRecords []) (StarRecords []) in
+            low result.now ∷ [] ≡ said }
     {
         match &self.mode {
             Mode::Nsec => name,
@@ -324,11 +325,11 @@ impl<'h, H: Nsec3Hasher> ZoneRecords<'h, H> {
         requires around { let z = zone_of self.now in
             IsAround z (optout_of self.now.mode) (low name.now) around.now }
         ensures answer { let s = served_by H.hash_of self.now in
-            let said = spoken s.zone s.mode (low name.now) NoName in
+            let said = spoken s.zone s.mode (low name.now) NoName NoName in
             IfOk result (Holds flags [] (soa s ∷ proofs_of s said)) }
         ensures hashed { let hash = H.hash_of self.now.hasher in let mode = self.now.mode in
             let z = zone_of self.now in
-            let said = spoken z mode (low name.now) NoName in
+            let said = spoken z mode (low name.now) NoName NoName in
             HashesEach hash mode said result }
     {
         match &self.mode {

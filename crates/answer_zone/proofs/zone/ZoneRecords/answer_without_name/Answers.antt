@@ -1,6 +1,6 @@
 use Rattle.std.proofs.Common.{◌≡◌, [], ◌∷◌, false, refl, ap, subst, ◌∙◌}
 use Rattle.definitions.specs.Name.{low}
-use Rattle.definitions.specs.Zone.{NoName, StarNoType, StarRecords, cut_above, data_at, star_under}
+use Rattle.definitions.specs.Zone.{NoName, StarNoType, StarRecords, cut_above, data_at, star_under, verdict}
 use Rattle.definitions.specs.ZoneChain.{optout_of}
 use Rattle.denial_laws.specs.OwnFacts.{kept_ancestor}
 use Rattle.answer_shared.specs.Hashing.{hash_in}
@@ -27,10 +27,10 @@ returns-then-not-expands g c =
     let is = c.in_ok-around.ensures.star ∙ ap (λ b. star_under (kept_ancestor z b (low q))) plain in
     let said = unexpanded x.apex x.records q t c.requires.own.0 c.keeps.ensures.published.soa c.requires.gone c.in_ok-around.around.star is c.expands.result c.expands.ensures c.if-not-expands.true in
     let whole = closed z (optout_of x.mode) q t c.requires.told ∙ said in
-    let names = spoken s (low q) NoName in
+    let names = spoken s (low q) NoName NoName in
     reply answers_of x q t NoName [] (soa s ∷ proofs_of s names) names c.denied.result said refl
     (groups_without_name x.apex x.mode (hash_in (answers_of x.hasher) x.mode) x.records q t whole)
-    (ap (spoken s (low q)) whole) c.denied.ensures.answer c.denied.ensures.hashed
+    (ap (spoken s (low q) (verdict z false q t)) whole) c.denied.ensures.answer c.denied.ensures.hashed
 
 pub returns-then-has : goal.returns-then-has
 returns-then-has g c =
@@ -48,10 +48,10 @@ returns-then-has g c =
     let said = star_found x.apex x.records q t c.requires.own.0 c.keeps.ensures.published.soa c.requires.gone c.in_ok-around.around.star is c.expands.result c.expands.ensures c.if-not-expands.false c.owned-wild.result c.owned-wild.ensures c.has.result c.has.ensures c.if-has.true in
     let ce = encloser_found x.apex x.records q t c.requires.own.0 c.keeps.ensures.published.soa c.requires.gone c.in_ok-around.around.star is c.expands.result c.expands.ensures c.if-not-expands.false c.owned-wild.result c.owned-wild.ensures c.has.result c.has.ensures in
     let whole = closed z (optout_of x.mode) q t c.requires.told ∙ said in
-    let names = spoken s (low q) (StarRecords []) in
+    let names = spoken s (low q) (StarRecords []) (StarRecords []) in
     let groups = groups_expanded x.apex x.mode (hash_in (answers_of x.hasher) x.mode) x.records q t encloser ds ce whole in
     let holds = if_ok_map _ (Holds 33792 (expanded s star q t) (proofs_of s names)) c.expanded.result (λ a h. subst (λ n. Holds 33792 (expanded s n q t) (proofs_of s names) a) is h) c.expanded.ensures.answer in
-    reply answers_of x q t (StarRecords ds) (expanded s star q t) (proofs_of s names) names c.expanded.result said refl groups (ap (spoken s (low q)) whole) holds c.expanded.ensures.hashed
+    reply answers_of x q t (StarRecords ds) (expanded s star q t) (proofs_of s names) names c.expanded.result said refl groups (ap (spoken s (low q) (verdict z false q t)) whole) holds c.expanded.ensures.hashed
 
 pub returns : goal.returns
 returns g c =
@@ -65,10 +65,10 @@ returns g c =
     let is = c.in_ok-around.ensures.star ∙ ap (λ b. star_under (kept_ancestor z b (low q))) plain in
     let said = star_lacks x.apex x.records q t c.requires.own.0 c.keeps.ensures.published.soa c.requires.gone c.in_ok-around.around.star is c.expands.result c.expands.ensures c.if-not-expands.false c.owned-wild.result c.owned-wild.ensures c.has.result c.has.ensures c.if-has.false in
     let whole = closed z (optout_of x.mode) q t c.requires.told ∙ said in
-    let names = spoken s (low q) NoName in
+    let names = spoken s (low q) NoName NoName in
     reply answers_of x q t StarNoType [] (soa s ∷ proofs_of s names) names c.denied-2.result said refl
     (groups_without_star_type x.apex x.mode (hash_in (answers_of x.hasher) x.mode) x.records q t whole)
-    (ap (spoken s (low q)) whole) c.denied-2.ensures.answer c.denied-2.ensures.hashed
+    (ap (spoken s (low q) (verdict z false q t)) whole) c.denied-2.ensures.answer c.denied-2.ensures.hashed
 
 pub expands-requires-clause-uncut : goal.expands-requires-clause-uncut
 expands-requires-clause-uncut g c = λ inside.

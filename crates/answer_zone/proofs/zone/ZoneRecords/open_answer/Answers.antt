@@ -1,14 +1,15 @@
-use Rattle.std.proofs.Common.{[], refl, ap, ◌++◌}
+use Rattle.std.proofs.Common.{[], false, refl, ap, ◌++◌}
 use Rattle.std.proofs.lemmas.Bool.{and_parts}
 use Rattle.definitions.specs.Name.{low, strictly_above}
-use Rattle.definitions.specs.Zone.{Delegated, Open, has}
+use Rattle.definitions.specs.Zone.{Delegated, has}
 use Rattle.definitions.specs.ZoneChain.{optout_of}
+use Rattle.denial_laws.specs.OwnFacts.{open_spoken}
 use Rattle.answer_shared.specs.Hashing.{hash_in}
-use Rattle.answer_shared.specs.Served.{proofs_of, spoken, unsigned_ns}
+use Rattle.answer_shared.specs.Served.{proofs_of, unsigned_ns}
 use Rattle.answer_shared.proofs.ZoneAnswers.{groups_open_delegated}
 use Rattle.answer_zone.specs.HashedZone.{served_by}
 use Rattle.answer_zone.specs.Questions.{zone_of}
-use Rattle.answer_zone.proofs.Replies.{reply}
+use Rattle.answer_zone.proofs.Replies.{open_spoke, reply}
 use Rattle.answer_zone.proofs.Verdicts.{delegation_of, left_open, referred}
 use Rattle.answer_zone.proofs.zone.ZoneRecords.open_answer.Goals as goal
 
@@ -29,7 +30,7 @@ returns-in-Away g c =
     let r = c.in-Away.ensures.0 in
     let said = referred (zone_of x) q t n r in
     let whole = left_open (zone_of x) (optout_of x.mode) q t c.requires.open in
-    let names = spoken s (low q) Open in
+    let names = open_spoken (zone_of x) x.mode (low q) false in
     reply answers_of x q t Delegated [] (unsigned_ns s n ++ proofs_of s names) names c.open_referral.result said refl
     (groups_open_delegated x.apex x.mode (hash_in (answers_of x.hasher) x.mode) x.records q t n whole said r.topmost r.away)
-    (ap (spoken s (low q)) whole) c.open_referral.ensures.answer c.open_referral.ensures.hashed
+    (open_spoke answers_of x q t c.requires.open Delegated false said refl) c.open_referral.ensures.answer c.open_referral.ensures.hashed

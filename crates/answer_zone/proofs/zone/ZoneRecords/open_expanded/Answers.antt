@@ -1,8 +1,7 @@
-use Rattle.std.proofs.Common.{◌++◌, refl, sym, ap, subst, ◌∙◌}
+use Rattle.std.proofs.Common.{◌++◌, false, refl, sym, ap, subst, ◌∙◌}
 use Rattle.std.specs.List.{AllZip}
 use Rattle.definitions.specs.Name.{low}
-use Rattle.definitions.specs.Zone.{Open}
-use Rattle.denial_laws.specs.OwnFacts.{spoken}
+use Rattle.denial_laws.specs.OwnFacts.{open_spoken}
 use Rattle.answer_shared.specs.Accepting.{zone_with}
 use Rattle.answer_shared.specs.GroupView.{Presents}
 use Rattle.answer_shared.specs.Served.{proofs_of}
@@ -13,7 +12,7 @@ pub returns-clause-answer : goal.returns-clause-answer
 returns-clause-answer g c =
     let z = c.args.self.now in
     let s = served_by g.H.Nsec3Hasher.hash_of z in
-    let said = spoken (zone_with z.apex z.records) z.mode (low c.args.name.now) Open in
+    let said = open_spoken (zone_with z.apex z.records) z.mode (low c.args.name.now) false in
     let more = c.in_ok-push_open_proofs.ensures.adds in
     record {
       flags_are = refl;

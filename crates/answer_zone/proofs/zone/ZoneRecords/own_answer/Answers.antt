@@ -1,6 +1,6 @@
 use Rattle.std.proofs.Common.{◌≡◌, List, [], ◌∷◌, true, false, refl, sym, ap, subst, ◌∙◌}
 use Rattle.definitions.specs.Name.{Name, low}
-use Rattle.definitions.specs.Zone.{NoType, Records, data_at, has}
+use Rattle.definitions.specs.Zone.{NoType, Records, data_at, has, verdict}
 use Rattle.definitions.specs.ZoneChain.{optout_of}
 use Rattle.definitions.proofs.ZoneNames.{low-low}
 use Rattle.std.specs.List.{list_any}
@@ -30,7 +30,7 @@ returns-then-has g c =
     let hash = g.H.Nsec3Hasher.hash_of x.hasher in
     let groups = groups_found x.apex x.mode (hash_in hash x.mode) x.records q t ds whole in (
       answers s q t (Records ds) (under q (rrset s (low q) t) ∷ []) [] c.in_ok-found.field-0 said refl groups c.in_ok-found.ensures,
-      subst (λ (qs : List Name). AreHashed hash x.mode qs) (sym (ap (spoken s (low q)) whole)) (none_hashed hash x.mode),
+      subst (λ (qs : List Name). AreHashed hash x.mode qs) (sym (ap (spoken s (low q) (verdict z false q t)) whole)) (none_hashed hash x.mode),
     )
 
 pub returns-then-stands : goal.returns-then-stands
@@ -47,7 +47,7 @@ returns-then-stands g c =
     let whole = closed z (optout_of x.mode) q t c.requires.told ∙ said in
     reply answers_of x q t NoType [] (soa s ∷ proofs_of s (low q ∷ [])) (low q ∷ []) c.missing.result said refl
     (groups_without_type x.apex x.mode (hash_in (answers_of x.hasher) x.mode) x.records q t whole)
-    (ap (spoken s (low q)) whole) c.missing.ensures.answer c.missing.ensures.hashed
+    (ap (spoken s (low q) (verdict z false q t)) whole) c.missing.ensures.answer c.missing.ensures.hashed
 
 pub answer_without_name-requires-clause-gone : goal.answer_without_name-requires-clause-gone
 answer_without_name-requires-clause-gone g c =

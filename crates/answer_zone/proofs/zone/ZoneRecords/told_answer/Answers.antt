@@ -1,7 +1,7 @@
-use Rattle.std.proofs.Common.{[], ◌∷◌, List, None, Some, refl, ap, ◌∙◌, ◌++◌}
+use Rattle.std.proofs.Common.{[], ◌∷◌, List, None, false, Some, refl, ap, ◌∙◌, ◌++◌}
 use Rattle.std.proofs.lemmas.Bool.{and_parts}
 use Rattle.definitions.specs.Name.{Name, low, strictly_above}
-use Rattle.definitions.specs.Zone.{Delegated, has}
+use Rattle.definitions.specs.Zone.{Delegated, has, verdict}
 use Rattle.definitions.specs.ZoneChain.{optout_of}
 use Rattle.answer_shared.specs.Hashing.{hash_in}
 use Rattle.answer_shared.specs.Served.{if_any, proofs_of, spoken, unsigned_ns}
@@ -29,7 +29,7 @@ returns-in-Away g c =
     let r = c.in-Away.ensures.0 in
     let said = referred (zone_of x) q t n r in
     let whole = closed (zone_of x) (optout_of x.mode) q t c.requires.told ∙ said in
-    let spoke = ap (spoken s (low q)) whole ∙ ap (λ o. elim o as (λ _. List Name) [ None ↦ [] | Some c ↦ c ∷ [] ]) r.topmost in
+    let spoke = ap (spoken s (low q) (verdict (zone_of x) false q t)) whole ∙ ap (λ o. elim o as (λ _. List Name) [ None ↦ [] | Some c ↦ c ∷ [] ]) r.topmost in
     reply answers_of x q t Delegated [] (unsigned_ns s n ++ if_any s n 43 ++ proofs_of s (n ∷ [])) (n ∷ []) c.referral.result said refl
     (groups_delegated x.apex x.mode (hash_in (answers_of x.hasher) x.mode) x.records q t n r.topmost whole)
     spoke c.referral.ensures.answer c.referral.ensures.hashed
