@@ -8,10 +8,11 @@ answers for all of them, as a server does that forwards, for programs that only 
 import asyncio
 import collections
 import struct
+import typing
 
 import wire
-from static import REFERRAL, Static
-from wire import A, DNSKEY, DS, NS, OPT, Record
+from static import Static
+from wire import A, DS, NS, OPT, Record
 from zones import BELOW, SERVER
 
 ROOT, PARENT = bytes([198, 51, 100, 1]), bytes([198, 51, 100, 2])
@@ -25,9 +26,40 @@ def dotted(address):
     return ".".join(map(str, address))
 
 
+class Packed(typing.NamedTuple):
+    """A message without its head: flags with the RCODE, the counts of the sections, the octets behind the question."""
+
+    flags: int
+    counts: tuple
+    body: bytes
+
+
+def packed(message, address_of):
+    """A message, in octets, with the addresses of the servers that a referral names (glue)."""
+    answer, authority, additional = message.sections
+    glue = []
+    if not answer:
+        for record in authority:
+            if record.rtype == NS:
+                glue += (Record(record.data, A, record.ttl, it) for it in address_of(record.data.lower()))
+    sections = [answer, authority, [*additional, *glue]]
+    whole = message._replace(sections=sections)
+    return Packed(message.flags, tuple(map(len, sections)), wire.body(whole))
+
+
+class Missing(Exception):
+    """What a zone under test answers is not known yet: `find` finds it, which takes a while."""
+
+    def __init__(self, find):
+        self.find = find
+
+
 class Tree:
-    """The root, the parent, and the zones under test with what is below them. A zone under test has `apex`, `ds()`,
-    `answer(name, rtype)` (a message, or none), and `children()`: zones below it by their apexes."""
+    """The root, the parent, and the zones under test with what is below them.
+
+    A zone under test has `apex`, `ds()`, `servers()`, `below()` (zones by their apexes) and `answer(name, rtype)`, a message that
+    is packed, or none; it may raise `Missing`.
+    """
 
     def __init__(self, keys, ttl=3600):
         self.keys, self.ttl, self.cases, self.children = keys, ttl, {}, {}
@@ -35,83 +67,64 @@ class Tree:
 
     def add(self, case):
         self.cases[case.apex] = case
-        self.children.update(case.children())
+        self.children.update(case.below())
 
     def close(self):
         """Makes the parent and the root, once all zones are there."""
         server = wire.wire("ns.parent")
-        records = [(ABOVE, NS, server), (server, A, PARENT)]
+        records = [(ABOVE, NS, server), (server, A, PARENT), (server, A, SERVER)]
         for apex, case in self.cases.items():
             records += [(apex, NS, it) for it in case.servers()]
             records += [(apex, DS, it) for it in case.ds()]
         self.parent = Static(ABOVE, self.keys.by_name["parent"], records, self.ttl)
-        # The name of the zones' servers that are not below them has their address, too.
-        self.parent.replace(server, A, [PARENT, SERVER])
         root_server = wire.wire("a.root")
         ds = self.keys.by_name["parent"].ds(ABOVE)
         records = [(b"\0", NS, root_server), (root_server, A, ROOT), (ABOVE, NS, server), (ABOVE, DS, ds)]
         self.root = Static(b"\0", self.keys.by_name["root"], records)
 
-    def zone_of(self, name, zones):
+    @staticmethod
+    def zone_of(name, zones):
         return next((zones[above] for above in wire.parents(name) if above in zones), None)
 
     def at(self, address, name, rtype):
-        """What the server at an address answers: a message, or none."""
-        if address == ROOT:
-            return self.root.answer(name, rtype)[1]
-        if address in (PARENT, SERVER) and self.is_parents(name, rtype):
-            return self.of_parent(name, rtype)
-        if address in (PARENT, SERVER):
-            return self.of_case(name, rtype)
-        if address == BELOW:
-            zone = self.zone_of(name, self.children)
-            return zone and zone.answer(name, rtype)[1]
-        return self.forwarded(name, rtype)
-
-    def is_parents(self, name, rtype):
-        case = self.zone_of(name, self.cases)
-        return case is None or (name == case.apex and rtype == DS)
-
-    def of_parent(self, name, rtype):
-        if not wire.is_below(name, ABOVE):
-            return None
-        case = self.cases.get(name)
-        if case:
-            self.parent.replace(name, DS, case.ds())
-        return self.parent.answer(name, rtype)[1]
-
-    def of_case(self, name, rtype):
-        case = self.zone_of(name, self.cases)
-        message = case.answer(name, rtype)
-        if message is None:
-            self.refused[wire.NAMES.get(rtype, rtype)] += 1
-        return message
-
-    def forwarded(self, name, rtype):
-        """What a server says that forwards: the answer of the deepest zone."""
+        """What the server at an address answers."""
         above = name[1 + name[0] :] if rtype == DS and name != b"\0" else name
+        if address == ROOT:
+            return self.packed(self.root.answer(name, rtype))
+        if address == BELOW:
+            return self.packed_of(self.zone_of(name, self.children), name, rtype)
         child = self.zone_of(above, self.children)
-        if child:
-            return child.answer(name, rtype)[1]
-        if self.zone_of(above, self.cases):
-            return self.of_case(name, rtype)
+        if address == FORWARD and child:
+            return self.packed(child.answer(name, rtype))
+        case = self.zone_of(above, self.cases)
+        if case:
+            return self.of_case(case, name, rtype)
         if wire.is_below(above, ABOVE):
             return self.of_parent(name, rtype)
-        return self.root.answer(name, rtype)[1]
+        return self.packed(self.root.answer(name, rtype)) if address == FORWARD else None
 
-    def glue(self, message):
-        """The addresses of servers that a referral names."""
+    def packed_of(self, zone, name, rtype):
+        return zone and self.packed(zone.answer(name, rtype))
+
+    def of_case(self, case, name, rtype):
+        answer = case.answer(name, rtype)
+        if answer is None:
+            self.refused[wire.NAMES.get(rtype, str(rtype))] += 1
+        return answer
+
+    def of_parent(self, name, rtype):
+        case = self.zone_of(name, self.cases)
+        if case:
+            self.parent.replace(case.apex, DS, case.ds())
+        return self.packed(self.parent.answer(name, rtype))
+
+    def packed(self, message):
+        return packed(message, self.addresses)
+
+    def addresses(self, target):
+        """The addresses of a server."""
         known = {wire.wire("ns.parent"): [PARENT, SERVER], wire.wire("a.root"): [ROOT]}
-        for record in message.sections[1]:
-            if record.rtype != NS:
-                continue
-            target = record.data.lower()
-            below = self.zone_of(target, self.children) and BELOW
-            addresses = known.get(target) or [below or SERVER]
-            yield from (Record(record.data, A, record.ttl, it) for it in addresses)
-
-    def is_referral(self, message):
-        return not message.sections[0] and any(it.rtype == NS for it in message.sections[1])
+        return known.get(target) or [BELOW if self.zone_of(target, self.children) else SERVER]
 
 
 class Question:
@@ -135,51 +148,52 @@ class Server:
 
     def __init__(self, tree, address):
         self.tree, self.address = tree, address
-        self.bodies = {}
-        self.is_kept = True
 
-    def answered(self, octets, limit=None):
-        """The answer to a question in octets."""
+    async def answered(self, octets, limit=None):
+        """The answer to a question in octets, cut off behind a limit."""
         question = Question(octets)
-        name = question.name.lower()
-        message = self.tree.at(self.address, name, question.rtype)
+        answer = await self.found(question)
         flags = question.flags & (wire.RD | wire.CD) | (wire.RA if self.address == FORWARD else 0)
         edns = b"\0" + struct.pack(">HHIH", OPT, LIMIT, 0x8000, 0) if question.has_edns else b""
-        if message is None:
+        if answer is None:
             return self.head(question, wire.QR | wire.REFUSED | flags, (0, 0, bool(edns))) + edns
-        counts, octets = self.body(message)
-        whole = self.head(question, message.flags | flags, (*counts[:2], counts[2] + bool(edns))) + octets + edns
+        flags |= answer.flags
+        counts = (*answer.counts[:2], answer.counts[2] + bool(edns))
+        whole = self.head(question, flags, counts) + answer.body + edns
         if limit is not None and len(whole) > min(max(question.size, 512), limit):
-            return self.head(question, message.flags | flags | wire.TC, (0, 0, bool(edns))) + edns
+            return self.head(question, flags | wire.TC, (0, 0, bool(edns))) + edns
         return whole
 
-    def head(self, question, flags, counts):
-        return struct.pack(">6H", question.number, flags, 1, *counts) + question.octets[12 : question.end]
+    async def found(self, question):
+        """What the tree says, when it knows it."""
+        name = question.name.lower()
+        for _ in range(2):
+            try:
+                return self.tree.at(self.address, name, question.rtype)
+            except Missing as missing:
+                await asyncio.get_running_loop().run_in_executor(None, missing.find)
+        return self.tree.at(self.address, name, question.rtype)
 
-    def body(self, message):
-        """The counts of a message's sections, and the octets behind its question, with glue."""
-        at = id(message)
-        if at not in self.bodies or self.bodies[at][0] is not message:
-            sections = message.sections
-            if self.tree.is_referral(message):
-                sections = [*sections[:2], [*sections[2], *self.tree.glue(message)]]
-            whole = message._replace(sections=sections)
-            self.bodies[at] = message, list(map(len, sections)), wire.body(whole)
-        return self.bodies[at][1:]
+    @staticmethod
+    def head(question, flags, counts):
+        return struct.pack(">6H", question.number, flags, 1, *counts) + question.octets[12 : question.end]
 
 
 class Datagrams(asyncio.DatagramProtocol):
     def __init__(self, server):
         self.server = server
+        self.tasks = set()
 
     def connection_made(self, transport):
         self.transport = transport
 
     def datagram_received(self, data, peer):
-        try:
-            self.transport.sendto(self.server.answered(data, LIMIT), peer)
-        except (ValueError, IndexError, struct.error):
-            pass
+        task = asyncio.get_running_loop().create_task(self.answer(data, peer))
+        self.tasks.add(task)
+        task.add_done_callback(self.tasks.discard)
+
+    async def answer(self, data, peer):
+        self.transport.sendto(await self.server.answered(data, LIMIT), peer)
 
 
 async def stream(server, reader, writer):
@@ -187,10 +201,10 @@ async def stream(server, reader, writer):
     try:
         while True:
             length = int.from_bytes(await reader.readexactly(2), "big")
-            answer = server.answered(await reader.readexactly(length))
+            answer = await server.answered(await reader.readexactly(length))
             writer.write(len(answer).to_bytes(2, "big") + answer)
             await writer.drain()
-    except (asyncio.IncompleteReadError, ConnectionError, ValueError):
+    except (asyncio.IncompleteReadError, asyncio.CancelledError, ConnectionError):
         pass
     finally:
         writer.close()
@@ -202,5 +216,6 @@ async def serve(tree, is_shared=False):
     for address in ADDRESSES:
         server = Server(tree, address)
         where = dotted(address), 53
-        await loop.create_datagram_endpoint(lambda server=server: Datagrams(server), local_addr=where, reuse_port=is_shared)
-        await asyncio.start_server(lambda *pair, server=server: stream(server, *pair), *where, reuse_port=is_shared)
+        how = {"reuse_port": is_shared}
+        await loop.create_datagram_endpoint(lambda server=server: Datagrams(server), local_addr=where, **how)
+        await asyncio.start_server(lambda *pair, server=server: stream(server, *pair), *where, **how)

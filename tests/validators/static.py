@@ -8,7 +8,6 @@ import wire
 from wire import DNSKEY, DS, NS, NSEC, RRSIG, SOA, Message, Record
 
 TTL = 3600
-REFERRAL, ANSWER = "referral", "answer"
 
 
 def times():
@@ -82,20 +81,20 @@ class Static:
         return self.signed(owner, NSEC, [following + wire.bitmap(types)])
 
     def answer(self, name, rtype):
-        """What the zone answers: a kind, a message without number and flags of a question, and the name below which it refers."""
+        """What the zone answers: a message without a number."""
         cut = self.cut(name)
         if cut and (name != cut or rtype != DS):
             servers = [Record(cut, NS, self.ttl, it) for it in self.sets[cut, NS]]
             proof = self.of(cut, DS) if self.sets.get((cut, DS)) else self.denial(cut)
-            return REFERRAL, self.message(name, rtype, 0, wire.NOERROR, [], servers + proof)
+            return self.message(name, rtype, 0, wire.NOERROR, [], servers + proof)
         if self.sets.get((name, rtype)):
-            return ANSWER, self.message(name, rtype, wire.AA, wire.NOERROR, self.of(name, rtype), [])
+            return self.message(name, rtype, wire.AA, wire.NOERROR, self.of(name, rtype), [])
         soa = self.of(self.apex, SOA)
         if name in self.names:
-            return ANSWER, self.message(name, rtype, wire.AA, wire.NOERROR, [], soa + self.denial(name))
+            return self.message(name, rtype, wire.AA, wire.NOERROR, [], soa + self.denial(name))
         encloser = next(it for it in wire.parents(name) if it in self.names)
         proof = dict.fromkeys(self.denial(name) + self.denial(b"\1*" + encloser))
-        return ANSWER, self.message(name, rtype, wire.AA, wire.NXDOMAIN, [], soa + [*proof])
+        return self.message(name, rtype, wire.AA, wire.NXDOMAIN, [], soa + [*proof])
 
     @staticmethod
     def message(name, rtype, flags, rcode, answer, authority):

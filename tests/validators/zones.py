@@ -207,6 +207,11 @@ class Zone:
             yield self.drawn.choice(there)
             yield (self.label(), *self.drawn.choice(there))
             yield self.fresh(2)
+            hidden = sorted(self.names - self.shown)
+            if hidden:
+                name = self.drawn.choice(hidden)
+                yield name
+                yield (self.label(), *name)
             if stars:
                 star = self.drawn.choice(stars)
                 yield (self.label(), *star[1:])

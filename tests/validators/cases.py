@@ -1,0 +1,151 @@
+"""Zones under test, as a name server knows them: at one stage of a roll, of mixed stages, or against the clock; and zones of BIND."""
+
+import random
+import threading
+import time
+
+import wire
+from authority import Missing, PARENT, packed
+from bench import SHOWN, STAGES, STEPS
+from static import Static
+from wire import A, AAAA, DNSKEY, DS, NS
+from zones import BELOW, SERVER
+
+# How far moments lie behind the clock.
+BEHIND = 3600
+
+
+def likely(zone):
+    """What is asked on the way: names above those that are asked for, delegations, servers."""
+    above = {name[at:] for name, _rtype in zone.questions for at in range(1, len(name))}
+    found = dict.fromkeys((name, rtype) for name in sorted(above) for rtype in (A, NS))
+    found.update(dict.fromkeys((name, DS) for name in sorted(zone.cuts)))
+    found.update(dict.fromkeys(((("ns",), A), (("ns",), AAAA), ((), A))))
+    return list(found)
+
+
+class Shown:
+    """What a source shows at a stage: the DS set, the DNSKEY answer, answers to questions."""
+
+    def __init__(self, source, stage, moment):
+        self.source, self.stage, self.moment = source, stage, moment
+        self.ds, self.dnskey, self.answers = None, None, {}
+        self.lock = threading.Lock()
+
+    def find(self, questions):
+        """Has the bench answer questions."""
+        with self.lock:
+            wanted = [it for it in questions if it not in self.answers]
+            if self.ds is not None and not wanted:
+                return
+            ds, dnskey, answers = self.source.asked(self.stage, self.moment(), wanted)
+            self.answers.update((it, self.packed(message)) for it, message in zip(wanted, answers))
+            self.ds, self.dnskey = self.ds or ds, self.dnskey or self.packed(dnskey)
+
+    def packed(self, message):
+        return message and packed(message, self.addresses)
+
+    def addresses(self, target):
+        if target == wire.wire("ns.parent"):
+            return [PARENT, SERVER]
+        return [SERVER if target == b"\2ns" + self.source.apex else BELOW]
+
+    def answer(self, name, rtype):
+        if rtype == DNSKEY and name == self.source.apex:
+            return self.dnskey
+        if (name, rtype) not in self.answers:
+            raise Missing(lambda: self.find([(name, rtype)]))
+        return self.answers[name, rtype]
+
+    def __getstate__(self):
+        return self.ds, self.dnskey, self.answers
+
+    def take(self, state):
+        """Takes what was found in another process."""
+        self.ds, self.dnskey, self.answers = state
+
+
+class Zoned:
+    """A zone under test at an apex."""
+
+    def __init__(self, zone, apex, below_key):
+        self.zone, self.apex, self.below_key = zone, apex, below_key
+
+    def servers(self):
+        return [it(self.apex) for it in self.zone.sets[(), NS]]
+
+    def below(self):
+        """The zones below delegations."""
+        return {self.zone.owner(cut, self.apex): self.child(cut, signed) for cut, signed in self.zone.cuts.items()}
+
+    def child(self, cut, is_signed):
+        apex = self.zone.owner(cut, self.apex)
+        records = [(apex, NS, b"\2ns" + apex), (b"\2ns" + apex, A, BELOW), (b"\4host" + apex, A, BELOW)]
+        return Static(apex, self.below_key if is_signed else None, records)
+
+    def asked(self, questions):
+        return [(self.zone.owner(name, self.apex), rtype) for name, rtype in questions]
+
+
+class Case(Zoned):
+    """DS set, DNSKEY answer and answers of three stages, all of one stage as a rule."""
+
+    def __init__(self, source, below_key, stages):
+        super().__init__(source.zone, source.apex, below_key)
+        self.stages = stages
+        now = int(time.time()) - BEHIND
+        self.shown = {it: Shown(source, it, lambda: now) for it in dict.fromkeys(stages)}
+
+    def find(self):
+        """All that is needed, in a form that other processes take."""
+        for stage, shown in self.shown.items():
+            questions = [*self.zone.questions, *likely(self.zone)] if stage == self.stages[2] else []
+            shown.find(self.asked(questions))
+        return {stage: shown.__getstate__() for stage, shown in self.shown.items()}
+
+    def take(self, found):
+        for stage, state in found.items():
+            self.shown[stage].take(state)
+
+    def ds(self):
+        return self.shown[self.stages[0]].ds
+
+    def answer(self, name, rtype):
+        return self.shown[self.stages[1 if rtype == DNSKEY else 2]].answer(name, rtype)
+
+
+class Clocked(Case):
+    """All stages, one after the other, at moments of the clock. Behind a change half the answers are still of the stage before, until
+    it is reported that all servers have it."""
+
+    def __init__(self, source, below_key, moments):
+        super().__init__(source, below_key, range(STAGES))
+        self.moments = moments
+        self.drawn = random.Random(source.apex)
+
+    def find(self):
+        for stage, shown in self.shown.items():
+            # An answer is of the moment at which its stage begins.
+            moment = self.source_moment(shown, stage)
+            shown.moment = lambda moment=moment: moment
+            shown.find(self.asked([*self.zone.questions, *likely(self.zone)]))
+        return {stage: shown.__getstate__() for stage, shown in self.shown.items()}
+
+    @staticmethod
+    def source_moment(shown, stage):
+        moments = shown.source.plan.moments()
+        return moments[stage - 1] if stage else moments[0] - 1
+
+    def stage(self):
+        now = time.time()
+        passed = sum(now >= it for it in self.moments)
+        changed = passed and SHOWN[passed] != SHOWN[passed - 1]
+        if changed and passed < len(STEPS) and now < self.moments[passed] - 0.3 and self.drawn.random() < 0.5:
+            return passed - 1
+        return passed
+
+    def ds(self):
+        return self.shown[self.stage()].ds
+
+    def answer(self, name, rtype):
+        return self.shown[self.stage()].answer(name, rtype)

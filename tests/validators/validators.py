@@ -1,0 +1,328 @@
+"""The six validators: four resolvers, each a process on an address of its own, and two programs that are run for each question."""
+
+import asyncio
+import pathlib
+import re
+import secrets
+import struct
+import subprocess
+import typing
+
+import wire
+from authority import FORWARD, ROOT, dotted
+
+PATIENCE = 20
+
+
+class Heard(typing.NamedTuple):
+    """What a validator says: a word for the RCODE, or bogus; whether it has a proof; the data of the records asked for."""
+
+    status: str
+    is_secure: bool
+    data: tuple
+
+
+def heard(octets, rtype):
+    message = wire.read(octets)
+    status = {0: "NOERROR", 2: "bogus", 3: "NXDOMAIN"}.get(message.rcode, f"RCODE {message.rcode}")
+    data = sorted(wire.canonical_data(rtype, it.data) for it in message.sections[0] if it.rtype == rtype)
+    return Heard(status, bool(message.flags & wire.AD), tuple(data))
+
+
+def query(number, name, rtype):
+    """A question with EDNS, DO (RFC 3225) and AD (RFC 6840, 5.7)."""
+    header = struct.pack(">6H", number, wire.RD | wire.AD, 1, 0, 0, 1)
+    return header + name + struct.pack(">HH", rtype, 1) + b"\0" + struct.pack(">HHIH", wire.OPT, 4096, 0x8000, 0)
+
+
+class Client(asyncio.DatagramProtocol):
+    """Asks a resolver; over TCP what it cuts off."""
+
+    def __init__(self, address):
+        self.address, self.waiting = address, {}
+
+    async def open(self):
+        loop = asyncio.get_running_loop()
+        self.transport, _ = await loop.create_datagram_endpoint(lambda: self, remote_addr=self.address)
+
+    def datagram_received(self, data, _peer):
+        waiting = self.waiting.pop(int.from_bytes(data[:2], "big"), None)
+        if waiting and not waiting.done():
+            waiting.set_result(data)
+
+    def error_received(self, _error):
+        pass
+
+    async def ask(self, name, rtype):
+        """The octets of the answer; none, where none came."""
+        for _ in range(2):
+            number = next(it for it in iter(lambda: secrets.randbelow(1 << 16), None) if it not in self.waiting)
+            self.waiting[number] = asyncio.get_running_loop().create_future()
+            self.transport.sendto(query(number, name, rtype))
+            try:
+                answer = await asyncio.wait_for(self.waiting[number], PATIENCE)
+            except asyncio.TimeoutError:
+                self.waiting.pop(number, None)
+                continue
+            if not int.from_bytes(answer[2:4], "big") & wire.TC:
+                return answer
+            return await self.ask_by_stream(name, rtype)
+        return None
+
+    async def ask_by_stream(self, name, rtype):
+        reader, writer = await asyncio.open_connection(*self.address)
+        octets = query(1, name, rtype)
+        writer.write(len(octets).to_bytes(2, "big") + octets)
+        length = int.from_bytes(await reader.readexactly(2), "big")
+        answer = await reader.readexactly(length)
+        writer.close()
+        return answer
+
+
+class Validator:
+    """A validator: `width` questions are open at a time. It is told of the root's key by its DNSKEY data."""
+
+    width = 30
+    package = ""
+
+    def __init__(self, folder, address, root_key):
+        self.folder = pathlib.Path(folder) / self.NAME.replace(" ", "-")
+        self.folder.mkdir()
+        self.address, self.key = address, root_key
+        self.process = None
+        self.gate = None
+
+    async def start(self):
+        self.gate = asyncio.Semaphore(self.width)
+
+    def end(self):
+        pass
+
+    def write(self, name, text):
+        (self.folder / name).write_text(text)
+        return self.folder / name
+
+    def anchor(self):
+        return f". 3600 IN DNSKEY 257 3 {self.key.algorithm} {self.key.base64}\n"
+
+    async def hear(self, name, rtype):
+        async with self.gate:
+            return await self.ask(name, rtype)
+
+    def version(self):
+        ran = subprocess.run(["dpkg-query", "-W", "-f", "${Version}", self.package], capture_output=True, text=True)
+        return f"{self.NAME} {re.sub('^[0-9]+:', '', ran.stdout)}"
+
+
+class Resolver(Validator):
+    async def start(self):
+        await super().start()
+        self.write("hints", f". 3600 NS a.root.\na.root. 3600 A {dotted(ROOT)}\n")
+        self.write("anchor", self.anchor())
+        self.write(self.FILE, self.configuration())
+        with open(self.folder / "log", "wb") as log:
+            how = {"stdin": subprocess.DEVNULL, "stdout": log, "stderr": log}
+            self.process = subprocess.Popen(self.command(), cwd=self.folder, **how)
+        self.client = Client((self.address, 53))
+        await self.client.open()
+
+    async def ask(self, name, rtype):
+        answer = await self.client.ask(name, rtype)
+        return heard(answer, rtype) if answer else Heard("no answer", False, ())
+
+    async def is_up(self):
+        """Waits until it answers."""
+        for _ in range(100):
+            self.client.transport.sendto(query(1, b"\0", wire.SOA))
+            self.client.waiting[1] = asyncio.get_running_loop().create_future()
+            try:
+                answer = await asyncio.wait_for(self.client.waiting[1], 0.5)
+                if answer[3] & 15 == 0:
+                    return
+            except asyncio.TimeoutError:
+                pass
+            await asyncio.sleep(0.2)
+        raise TimeoutError(f"{self.NAME} does not answer: see {self.folder}/log")
+
+    def end(self):
+        if self.process:
+            self.process.terminate()
+            try:
+                self.process.wait(timeout=20)
+            except subprocess.TimeoutExpired:
+                self.process.kill()
+
+
+class Unbound(Resolver):
+    NAME, FILE, package = "unbound", "unbound.conf", "unbound"
+
+    def command(self):
+        return ["unbound", "-d", "-c", self.folder / self.FILE]
+
+    def configuration(self):
+        return f"""
+server:
+    interface: {self.address}
+    outgoing-interface: {self.address}
+    access-control: 0.0.0.0/0 allow
+    directory: "{self.folder}"
+    chroot: ""
+    username: ""
+    pidfile: ""
+    use-syslog: no
+    logfile: ""
+    do-daemonize: no
+    do-ip6: no
+    root-hints: "{self.folder}/hints"
+    trust-anchor-file: "{self.folder}/anchor"
+    module-config: "validator iterator"
+    val-log-level: 2
+    num-queries-per-thread: 2048
+    outgoing-range: 4096
+    msg-cache-size: 100m
+    rrset-cache-size: 200m
+    key-cache-size: 20m
+remote-control:
+    control-enable: no
+"""
+
+
+class Named(Resolver):
+    NAME, FILE, package = "named", "named.conf", "bind9"
+
+    def command(self):
+        return ["named", "-g", "-n", "1", "-c", self.folder / self.FILE]
+
+    def configuration(self):
+        return f"""
+options {{
+    directory "{self.folder}";
+    listen-on port 53 {{ {self.address}; }};
+    listen-on-v6 {{ none; }};
+    query-source address {self.address};
+    pid-file none;
+    session-keyfile none;
+    recursion yes;
+    allow-query {{ any; }};
+    dnssec-validation yes;
+    empty-zones-enable no;
+    recursive-clients 10000;
+}};
+controls {{ }};
+trust-anchors {{ . static-key 257 3 {self.key.algorithm} "{self.key.base64}"; }};
+zone "." {{ type hint; file "{self.folder}/hints"; }};
+"""
+
+
+class Knot(Resolver):
+    NAME, FILE, package = "Knot Resolver", "kresd.conf", "knot-resolver"
+
+    def command(self):
+        return ["kresd", "-n", "-q", "-c", self.folder / self.FILE, self.folder]
+
+    def configuration(self):
+        return f"""
+net.listen('{self.address}', 53, {{ kind = 'dns' }})
+net.ipv6 = false
+net.outgoing_v4('{self.address}')
+modules.unload('ta_update')
+modules.unload('ta_signal_query')
+modules.unload('priming')
+modules.unload('detect_time_skew')
+modules.unload('detect_time_jump')
+trust_anchors.add_file('{self.folder}/anchor', true)
+modules = {{ 'hints > iterate' }}
+hints.root({{ ['a.root.'] = {{ '{dotted(ROOT)}' }} }})
+cache.open(500 * MB, 'lmdb://{self.folder}/cache')
+cache.min_ttl(0)
+"""
+
+
+class PowerDns(Resolver):
+    NAME, FILE, package = "PowerDNS", "recursor.conf", "pdns-recursor"
+
+    def command(self):
+        return ["pdns_recursor", f"--config-dir={self.folder}"]
+
+    def configuration(self):
+        digest = self.key.ds(b"\0")
+        ds = f"{self.key.tag} {digest[2]} {digest[3]} {digest[4:].hex()}"
+        self.write("anchor.lua", f'clearTA(".")\naddTA(".", "{ds}")\n')
+        return f"""
+local-address={self.address}
+local-port=53
+query-local-address={self.address}
+allow-from=0.0.0.0/0
+config-dir={self.folder}
+socket-dir={self.folder}
+hint-file={self.folder}/hints
+lua-config-file={self.folder}/anchor.lua
+dont-query=
+dnssec=validate
+daemon=no
+disable-syslog=yes
+threads=1
+minimum-ttl-override=0
+security-poll-suffix=
+"""
+
+
+class Program(Validator):
+    """A program that is run for each question; it asks the server that answers for all zones."""
+
+    width = 4
+
+    async def ask(self, name, rtype):
+        words = self.words(wire.text(name), wire.NAMES[rtype])
+        how = {"stdin": asyncio.subprocess.DEVNULL, "stdout": asyncio.subprocess.PIPE, "stderr": asyncio.subprocess.STDOUT}
+        process = await asyncio.create_subprocess_exec(*words, cwd=self.folder, **how)
+        output, _none = await process.communicate()
+        return self.said(output.decode(errors="replace"), rtype)
+
+    async def is_up(self):
+        pass
+
+
+class Delv(Program):
+    NAME, package = "delv", "bind9-dnsutils"
+
+    async def start(self):
+        await super().start()
+        self.write("anchor", f'trust-anchors {{ . static-key 257 3 {self.key.algorithm} "{self.key.base64}"; }};\n')
+
+    def words(self, name, rtype):
+        return ["delv", f"@{dotted(FORWARD)}", "-b", self.address, "-a", "anchor", "+root=.", "+unknownformat", "-q", name, "-t", rtype]
+
+    def said(self, output, rtype):
+        data = tuple(sorted(data for of, data in unknown_data(output) if of == rtype))
+        is_secure = "fully validated" in output
+        if "resolution failed" in output and "ncache" not in output:
+            return Heard("bogus", False, data)
+        status = "NXDOMAIN" if "ncache nxdomain" in output else "NOERROR"
+        return Heard(status, is_secure, data)
+
+
+def unknown_data(output):
+    """Type and data of the records of a text, as RFC 3597 writes data."""
+    for line in output.splitlines():
+        found = re.match(r"^\S+\s+\d+\s+(?:IN|CLASS1)\s+(\S+)\s+\\# \d+ ([0-9A-Fa-f ]+)$", line)
+        if found:
+            rtype = wire.NUMBERS.get(found[1]) or int(found[1].removeprefix("TYPE"))
+            yield rtype, bytes.fromhex(found[2])
+
+
+class Drill(Program):
+    NAME, package = "drill", "ldnsutils"
+
+    async def start(self):
+        await super().start()
+        self.write("anchor", self.anchor())
+
+    def words(self, name, rtype):
+        return ["drill", "-S", "-k", "anchor", f"@{dotted(FORWARD)}", name, rtype]
+
+    def said(self, output, rtype):
+        return Heard("output", False, (output,))
+
+
+ALL = [Unbound, Named, Knot, PowerDns, Delv, Drill]
