@@ -66,6 +66,12 @@ class Rsa:
         return self.secret.sign(octets, padding.PKCS1v15(), hashes.SHA256())
 
 
+def ds_of(owner, data):
+    """The DS data of DNSKEY data at an owner (RFC 4034, 5.1), with a digest of SHA-256."""
+    digest = hashlib.sha256(owner.lower() + data).digest()
+    return struct.pack(">HBB", wire.key_tag(data), data[3], 2) + digest
+
+
 KINDS = {RSA: Rsa, ECDSA: Ecdsa, EDWARDS: Edwards}
 
 
@@ -84,8 +90,7 @@ class Key:
         return base64.b64encode(self.pair.public).decode()
 
     def ds(self, owner):
-        """The DS data of the key at an owner (RFC 4034, 5.1), with a digest of SHA-256."""
-        return struct.pack(">HBB", self.tag, self.algorithm, 2) + hashlib.sha256(owner.lower() + self.data).digest()
+        return ds_of(owner, self.data)
 
     def rrsig(self, owner, rtype, ttl, records, signer, times):
         """The data of a signature of an RRset by this key."""

@@ -1,6 +1,7 @@
 """The six validators: four resolvers, each a process on an address of its own, and two programs that are run for each question."""
 
 import asyncio
+import ipaddress
 import pathlib
 import re
 import secrets
@@ -312,17 +313,56 @@ def unknown_data(output):
 
 
 class Drill(Program):
+    """It goes from the root down. What it prints does not tell NXDOMAIN from NODATA: both are `denied`."""
+
     NAME, package = "drill", "ldnsutils"
 
     async def start(self):
         await super().start()
         self.write("anchor", self.anchor())
+        self.write("hints", f". 3600 IN NS a.root.\na.root. 3600 IN A {dotted(ROOT)}\n")
 
     def words(self, name, rtype):
-        return ["drill", "-S", "-k", "anchor", f"@{dotted(FORWARD)}", name, rtype]
+        return ["drill", "-TD", "-k", "anchor", "-r", "hints", name, rtype]
 
     def said(self, output, rtype):
-        return Heard("output", False, (output,))
+        lines = re.findall(r"^\[([TUBS])\] (.*)$", output, re.MULTILINE)
+        if not lines or any(mark == "B" for mark, _line in lines):
+            return Heard("bogus", False, ())
+        mark, last = lines[-1]
+        if last.startswith(("Existence denied", "No data found")):
+            return Heard("denied", mark == "T", ())
+        data = drill_data(output[output.rindex("\n[") :], rtype)
+        return Heard("NOERROR", mark == "T", tuple(sorted(data)))
+
+
+def drill_data(text, rtype):
+    """The data of the records of a type in a text."""
+    for line in text.splitlines():
+        found = re.match(r"^(?:\[[TU]\] )?\S+\s+\d+\s+IN\s+(\S+)\s+(.*?)\s*$", line)
+        if found and wire.NUMBERS.get(found[1]) == rtype:
+            yield data_of_text(rtype, found[2].split())
+
+
+def data_of_text(rtype, words):
+    """Data of a few types, of the words of a master file."""
+    match rtype:
+        case wire.A | wire.AAAA:
+            return ipaddress.ip_address(words[0]).packed
+        case wire.NS:
+            return wire.wire(words[0])
+        case wire.MX:
+            return int(words[0]).to_bytes(2, "big") + wire.wire(words[1])
+        case wire.TXT:
+            texts = [it.strip('"').encode() for it in words]
+            return b"".join(bytes([len(it)]) + it for it in texts)
+        case wire.DS:
+            tag, algorithm, kind = map(int, words[:3])
+            return struct.pack(">HBB", tag, algorithm, kind) + bytes.fromhex("".join(words[3:]))
+        case wire.SOA:
+            numbers = b"".join(int(it).to_bytes(4, "big") for it in words[2:])
+            return wire.wire(words[0]) + wire.wire(words[1]) + numbers
+    raise ValueError(f"data of type {rtype}")
 
 
 ALL = [Unbound, Named, Knot, PowerDns, Delv, Drill]

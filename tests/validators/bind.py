@@ -1,0 +1,142 @@
+"""The same zones signed by dnssec-signzone of BIND and served by named, so that the same questions can be asked of both."""
+
+import socket
+import subprocess
+import threading
+import time
+
+import wire
+from authority import Missing, PARENT, packed
+from cases import Zoned, likely
+from keys import ds_of
+from wire import DNSKEY
+from zones import BELOW, SERVER
+
+ADDRESS = "127.0.0.1", 5300
+ALGORITHMS = {13: ["-a", "ECDSAP256SHA256"], 8: ["-a", "RSASHA256", "-b", "2048"]}
+
+
+def run(folder, *words):
+    how = {"cwd": folder, "stdin": subprocess.DEVNULL, "capture_output": True, "text": True, "timeout": 120}
+    ran = subprocess.run(words, **how)
+    if ran.returncode:
+        raise RuntimeError(f"{' '.join(map(str, words))}: {ran.stdout}{ran.stderr}")
+    return ran.stdout
+
+
+def line(owner, rtype, ttl, data):
+    """A record in a master file, as RFC 3597 writes data."""
+    return f"{wire.text(owner)} {ttl} IN TYPE{rtype} \\# {len(data)} {data.hex()}"
+
+
+class BindCase(Zoned):
+    """A zone signed by dnssec-signzone. What named answers of it is handed on."""
+
+    def __init__(self, zone, apex, below_key, folder):
+        super().__init__(zone, apex, below_key)
+        self.folder, self.answers, self.lock = folder, {}, threading.Lock()
+        self.name = wire.text(apex)
+        self.file = f"{self.name}signed"
+
+    def sign(self):
+        shape = self.zone.shape
+        for _ in range(shape.width):
+            run(self.folder, "dnssec-keygen", *ALGORITHMS[shape.algorithm], "-f", "KSK", self.name)
+            run(self.folder, "dnssec-keygen", *ALGORITHMS[shape.algorithm], self.name)
+        keys = [it.read_text() for it in sorted(self.folder.glob(f"K{self.name}*.key"))]
+        records = [line(owner, rtype, self.zone.ttl, data) for owner, rtype, data in self.zone.records(self.apex)]
+        (self.folder / self.name).write_text("\n".join([*records, *keys]))
+        chain = []
+        if shape.chain != "nsec":
+            chain = ["-3", shape.salt, "-H", str(shape.iterations), *["-A"] * shape.opts_out]
+        times = ["-s", "now-3600", "-e", "now+1209600"]
+        run(self.folder, "dnssec-signzone", "-P", *chain, *times, "-o", self.name, "-f", self.file, self.name)
+
+    def configuration(self):
+        return f'zone "{self.name}" {{ type primary; file "{self.file}"; check-integrity no; }};\n'
+
+    def ds(self):
+        message = ask(self.apex, DNSKEY)
+        points = [it.data for it in message.sections[0] if it.rtype == DNSKEY and it.data[1] & 1]
+        return sorted(ds_of(self.apex, data) for data in points)
+
+    def find(self):
+        for question in self.asked([*self.zone.questions, *likely(self.zone)]):
+            self.find_one(*question)
+
+    def find_one(self, name, rtype):
+        message = ask(name, rtype)
+        sections = [*message.sections[:2], []]
+        flags = message.flags & ~wire.RD
+        self.answers[name, rtype] = packed(message._replace(flags=flags, sections=sections), self.addresses)
+
+    def addresses(self, target):
+        if target == wire.wire("ns.parent"):
+            return [PARENT, SERVER]
+        return [SERVER if target == b"\2ns" + self.apex else BELOW]
+
+    def answer(self, name, rtype):
+        if (name, rtype) not in self.answers:
+            raise Missing(lambda: self.find_one(name, rtype))
+        return self.answers[name, rtype]
+
+
+
+
+def ask(name, rtype):
+    """What named answers, over TCP."""
+    octets = query(name, rtype)
+    with socket.create_connection(ADDRESS, timeout=20) as it:
+        it.sendall(len(octets).to_bytes(2, "big") + octets)
+        with it.makefile("rb") as answer:
+            return wire.read(answer.read(int.from_bytes(answer.read(2), "big")))
+
+
+def query(name, rtype):
+    number = 1
+    head = number.to_bytes(2, "big") + bytes([0, 0, 0, 1, 0, 0, 0, 0, 0, 1])
+    return head + name + rtype.to_bytes(2, "big") + b"\0\1" + b"\0\0\x29\xff\xff\0\0\x80\0\0\0"
+
+
+class Named:
+    """named, which serves zones that are signed."""
+
+    def __init__(self, folder, cases):
+        self.folder, self.cases, self.process = folder, cases, None
+
+    def start(self):
+        zones = "".join(it.configuration() for it in self.cases)
+        options = f"""
+options {{
+    directory "{self.folder}";
+    listen-on port {ADDRESS[1]} {{ {ADDRESS[0]}; }};
+    listen-on-v6 {{ none; }};
+    pid-file none;
+    session-keyfile none;
+    recursion no;
+    dnssec-validation no;
+    minimal-responses yes;
+    rrset-order {{ order none; }};
+}};
+controls {{ }};
+{zones}"""
+        (self.folder / "named.conf").write_text(options)
+        with open(self.folder / "log", "wb") as log:
+            how = {"stdin": subprocess.DEVNULL, "stdout": log, "stderr": log}
+            self.process = subprocess.Popen(["named", "-g", "-n", "1", "-c", self.folder / "named.conf"], **how)
+        self.wait()
+
+    def wait(self):
+        for _ in range(200):
+            try:
+                if all(ask(it.apex, DNSKEY).sections[0] for it in self.cases):
+                    return
+            except OSError:
+                pass
+            time.sleep(0.2)
+        raise TimeoutError(f"named does not answer: see {self.folder}/log")
+
+    def end(self):
+        if self.process:
+            self.process.terminate()
+            self.process.wait(timeout=30)
