@@ -7,7 +7,7 @@ import time
 
 import wire
 from authority import Missing, PARENT, packed
-from cases import Zoned, likely
+from cases import Zoned
 from keys import ds_of
 from wire import DNSKEY
 from zones import BELOW, SERVER
@@ -33,7 +33,7 @@ class BindCase(Zoned):
     """A zone signed by dnssec-signzone. What named answers of it is handed on."""
 
     def __init__(self, zone, apex, below_key, folder):
-        super().__init__(zone, apex, below_key)
+        super().__init__(zone, apex, below_key, zone.questions)
         self.folder, self.answers, self.lock = folder, {}, threading.Lock()
         self.name = wire.text(apex)
         self.file = f"{self.name}signed"
@@ -61,7 +61,7 @@ class BindCase(Zoned):
         return sorted(ds_of(self.apex, data) for data in points)
 
     def find(self):
-        for question in self.asked([*self.zone.questions, *likely(self.zone)]):
+        for question in self.all_questions():
             self.find_one(*question)
 
     def find_one(self, name, rtype):

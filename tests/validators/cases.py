@@ -6,20 +6,23 @@ import time
 
 import wire
 from authority import Missing, PARENT, packed
-from bench import SHOWN, STAGES, STEPS
+from bench import SHOWN, STAGES
 from static import Static
 from wire import A, AAAA, DNSKEY, DS, NS
 from zones import BELOW, SERVER
 
 # How far moments lie behind the clock.
 BEHIND = 3600
+# How long before the report the last server has a change, in seconds: answers may be under way.
+MARGIN = 0.5
 
 
-def likely(zone):
+def likely(zone, questions):
     """What is asked on the way: names above those that are asked for, delegations, servers."""
-    above = {name[at:] for name, _rtype in zone.questions for at in range(1, len(name))}
+    above = {name[at:] for name, _rtype in questions for at in range(1, len(name))}
     found = dict.fromkeys((name, rtype) for name in sorted(above) for rtype in (A, NS))
-    found.update(dict.fromkeys((name, DS) for name in sorted(zone.cuts)))
+    asked = {name[at:] for name, _rtype in questions for at in range(len(name))}
+    found.update(dict.fromkeys((name, DS) for name in sorted(asked & zone.cuts.keys())))
     found.update(dict.fromkeys(((("ns",), A), (("ns",), AAAA), ((), A))))
     return list(found)
 
@@ -66,10 +69,10 @@ class Shown:
 
 
 class Zoned:
-    """A zone under test at an apex."""
+    """A zone under test at an apex, and what it is asked."""
 
-    def __init__(self, zone, apex, below_key):
-        self.zone, self.apex, self.below_key = zone, apex, below_key
+    def __init__(self, zone, apex, below_key, questions):
+        self.zone, self.apex, self.below_key, self.questions = zone, apex, below_key, questions
 
     def servers(self):
         return [it(self.apex) for it in self.zone.sets[(), NS]]
@@ -83,24 +86,25 @@ class Zoned:
         records = [(apex, NS, b"\2ns" + apex), (b"\2ns" + apex, A, BELOW), (b"\4host" + apex, A, BELOW)]
         return Static(apex, self.below_key if is_signed else None, records)
 
-    def asked(self, questions):
+    def all_questions(self):
+        """The questions, and those on the way to them."""
+        questions = dict.fromkeys([*self.questions, *likely(self.zone, self.questions)])
         return [(self.zone.owner(name, self.apex), rtype) for name, rtype in questions]
 
 
 class Case(Zoned):
     """DS set, DNSKEY answer and answers of three stages, all of one stage as a rule."""
 
-    def __init__(self, source, below_key, stages):
-        super().__init__(source.zone, source.apex, below_key)
-        self.stages = stages
+    def __init__(self, source, below_key, stages, questions):
+        super().__init__(source.zone, source.apex, below_key, questions)
+        self.source, self.stages = source, stages
         now = int(time.time()) - BEHIND
         self.shown = {it: Shown(source, it, lambda: now) for it in dict.fromkeys(stages)}
 
     def find(self):
         """All that is needed, in a form that other processes take."""
         for stage, shown in self.shown.items():
-            questions = [*self.zone.questions, *likely(self.zone)] if stage == self.stages[2] else []
-            shown.find(self.asked(questions))
+            shown.find(self.all_questions() if stage == self.stages[2] else [])
         return {stage: shown.__getstate__() for stage, shown in self.shown.items()}
 
     def take(self, found):
@@ -118,31 +122,27 @@ class Clocked(Case):
     """All stages, one after the other, at moments of the clock. Behind a change half the answers are still of the stage before, until
     it is reported that all servers have it."""
 
-    def __init__(self, source, below_key, moments):
-        super().__init__(source, below_key, range(STAGES))
-        self.moments = moments
+    def __init__(self, source, below_key, questions, begin, steps):
+        """`begin` is shared by processes: the moment at which the roll begins. Steps come so many seconds behind it."""
+        super().__init__(source, below_key, range(STAGES), questions)
+        self.begin, self.steps = begin, steps
         self.drawn = random.Random(source.apex)
+        calls = source.plan.moments()
+        for stage, moment in enumerate([calls[0] - 1, *calls]):
+            # An answer is of the moment at which its stage begins.
+            self.shown[stage].moment = lambda moment=moment: moment
 
     def find(self):
-        for stage, shown in self.shown.items():
-            # An answer is of the moment at which its stage begins.
-            moment = self.source_moment(shown, stage)
-            shown.moment = lambda moment=moment: moment
-            shown.find(self.asked([*self.zone.questions, *likely(self.zone)]))
+        for shown in self.shown.values():
+            shown.find(self.all_questions())
         return {stage: shown.__getstate__() for stage, shown in self.shown.items()}
 
-    @staticmethod
-    def source_moment(shown, stage):
-        moments = shown.source.plan.moments()
-        return moments[stage - 1] if stage else moments[0] - 1
-
     def stage(self):
-        now = time.time()
-        passed = sum(now >= it for it in self.moments)
+        now = time.time() - self.begin.value
+        passed = sum(now >= it for it in self.steps)
         changed = passed and SHOWN[passed] != SHOWN[passed - 1]
-        if changed and passed < len(STEPS) and now < self.moments[passed] - 0.3 and self.drawn.random() < 0.5:
-            return passed - 1
-        return passed
+        is_under_way = passed < len(self.steps) and now < self.steps[passed] - MARGIN
+        return passed - 1 if changed and is_under_way and self.drawn.random() < 0.5 else passed
 
     def ds(self):
         return self.shown[self.stage()].ds

@@ -7,7 +7,7 @@ import itertools
 import random
 import typing
 
-from wire import A, AAAA, DS, MX, NAMES, NS, SOA, TXT, wire
+from wire import A, AAAA, DS, MX, NAMES, NS, SOA, TXT, text, wire
 
 QUESTIONS = 49
 TYPES = [A, TXT, MX, AAAA]
@@ -254,15 +254,6 @@ class Zone:
         return b"".join(bytes([len(label)]) + label.encode() for label in name) + apex
 
 
-def kinds(zone):
-    """How many questions have an answer of each kind."""
-    counts = {}
-    for question in zone.questions:
-        kind = zone.says(*question).kind
-        counts[kind] = counts.get(kind, 0) + 1
-    return counts
-
-
 def title(question, apex):
     name, rtype = question
-    return ".".join(name) + ("." if name else "") + apex + " " + NAMES[rtype]
+    return text(Zone.owner(name, apex)) + " " + NAMES[rtype]

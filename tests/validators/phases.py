@@ -1,0 +1,134 @@
+"""Runs of the validators over a tree of zones: name servers as processes, validators, questions, what was heard."""
+
+import asyncio
+import multiprocessing
+import os
+import time
+import typing
+
+import authority
+import validators
+import wire
+from validators import Drill, Heard, Program
+
+FORKED = multiprocessing.get_context("fork")
+SERVERS = 3
+# Seconds before a roll.
+LEAD = 8
+
+
+class Told(typing.NamedTuple):
+    """What a validator said of a question, beside what the zone says."""
+
+    case: object
+    question: tuple
+    validator: str
+    says: object
+    heard: Heard
+    agrees: bool
+
+
+def data_of(says, apex):
+    data = (it if isinstance(it, bytes) else it(apex) for it in says.data)
+    return tuple(sorted(data))
+
+
+def agrees(validator, says, heard, apex):
+    """Whether a validator says what the zone says. Of a denial that opts out the two programs do not tell whether it is a proof."""
+    is_program = isinstance(validator, Program)
+    wanted = "NOERROR" if says.exists else "NXDOMAIN"
+    if isinstance(validator, Drill) and not says.data:
+        wanted = "denied"
+    is_open = says.is_secure is None or (is_program and not says.is_secure and not says.data)
+    is_sure = is_open or heard.is_secure == says.is_secure
+    return heard.status == wanted and heard.data == data_of(says, apex) and is_sure
+
+
+CASES = []
+
+
+def find(at):
+    return CASES[at].find()
+
+
+def find_all(cases):
+    """Has the bench answer what all zones are asked, on all processors."""
+    CASES[:] = cases
+    with FORKED.Pool(os.cpu_count()) as pool:
+        for case, found in zip(cases, pool.imap(find, range(len(cases)))):
+            case.take(found)
+
+
+async def serve_for_ever(tree):
+    await authority.serve(tree, True)
+    await asyncio.Event().wait()
+
+
+class Phase:
+    """Name servers and validators for the time of a run."""
+
+    def __init__(self, folder, keys, cases, kinds, ttl=3600):
+        folder.mkdir()
+        self.tree = authority.Tree(keys, ttl)
+        for case in cases:
+            self.tree.add(case)
+        self.cases = cases
+        self.tree.close()
+        root = keys.by_name["root"]
+        self.validators = [kind(folder, f"198.51.100.{21 + at}", root) for at, kind in enumerate(kinds)]
+        self.servers = []
+
+    async def __aenter__(self):
+        for _ in range(SERVERS):
+            self.servers.append(FORKED.Process(target=lambda: asyncio.run(serve_for_ever(self.tree)), daemon=True))
+            self.servers[-1].start()
+        await asyncio.sleep(1)
+        try:
+            for it in self.validators:
+                await it.start()
+                await it.is_up()
+        except BaseException:
+            await self.__aexit__()
+            raise
+        return self
+
+    async def __aexit__(self, *_error):
+        for it in self.validators:
+            it.end()
+        for it in self.servers:
+            it.terminate()
+            it.join()
+
+    async def tell(self, validator, case, question):
+        """Asks a validator."""
+        name, rtype = question
+        says = case.zone.says(name, rtype)
+        heard = await validator.hear(case.zone.owner(name, case.apex), rtype)
+        return Told(case, question, validator.NAME, says, heard, agrees(validator, says, heard, case.apex))
+
+    async def tell_all(self, questions):
+        """Asks each validator about all zones; `questions` gives those for a validator and a zone."""
+
+        async def by(validator):
+            told = []
+            for case in self.cases:
+                asks = (self.tell(validator, case, it) for it in questions(validator, case))
+                told += await asyncio.gather(*asks)
+            return told
+
+        return [it for told in await asyncio.gather(*map(by, self.validators)) for it in told]
+
+
+async def by_the_clock(phase, begin, steps, per_second, drawn):
+    """Asks each resolver some questions about each zone, each second, while zones go through their stages."""
+    begin.value = int(time.time()) + LEAD
+    tasks = []
+    while time.time() < begin.value + steps[-1] + phase.tree.ttl % 60 + 1:
+        began = time.time()
+        for case in phase.cases:
+            for validator in phase.validators:
+                for question in drawn.sample(case.questions, per_second):
+                    tasks.append(asyncio.create_task(phase.tell(validator, case, question)))
+            await asyncio.sleep(0)
+        await asyncio.sleep(max(0.0, began + 1 - time.time()))
+    return await asyncio.gather(*tasks)

@@ -1,0 +1,76 @@
+"""Tables of what the validators said."""
+
+import collections
+
+CHAINS = {"nsec": "NSEC", "nsec3": "NSEC3", "nsec3optout": "opt-out"}
+
+
+def of_lines(head, rows):
+    lines = [head, ["---"] * len(head), *rows]
+    return "\n".join("| " + " | ".join(map(str, cells)) + " |" for cells in lines)
+
+
+def chain(told):
+    return CHAINS[told.case.zone.shape.chain]
+
+
+def agreements(all_told, names):
+    """A row for each chain and kind of answer, a column for each validator: how many answers it takes as the zone says."""
+    counts = collections.defaultdict(collections.Counter)
+    for it in all_told:
+        counts[chain(it), it.says.kind][it.validator, it.agrees] += 1
+    rows = []
+    for (of, kind), found in sorted(counts.items(), key=lambda it: (list(CHAINS.values()).index(it[0][0]), it[0][1])):
+        rows.append([of, kind, *(cell(found[name, True], found[name, False]) for name in names)])
+    total = collections.Counter((it.validator, it.agrees) for it in all_told)
+    rows.append(["all", "", *(cell(total[name, True], total[name, False]) for name in names)])
+    return of_lines(["chain", "answer", *names], rows)
+
+
+def cell(good, bad):
+    return "" if not good + bad else f"{good:,}" if not bad else f"{good:,} of {good + bad:,}"
+
+
+def outcome(heard):
+    """What was heard, without its data."""
+    return f"{heard.status}{', secure' if heard.is_secure else ''}{', with data' if heard.data else ''}"
+
+
+def differences(all_told, of_bind):
+    """A row for each validator, chain, kind of answer and outcome that is not the zone's: how many, and what the validator says of
+    BIND's answer to the same question."""
+    bind = {(it.case.zone.shape.name, it.question, it.validator): it for it in of_bind}
+    found = collections.defaultdict(collections.Counter)
+    for it in all_told:
+        if not it.agrees:
+            beside = bind.get((it.case.zone.shape.name, it.question, it.validator))
+            said = "not asked" if beside is None else "as the zone" if beside.agrees else outcome(beside.heard)
+            found[it.validator, chain(it), it.says.kind, outcome(it.heard)][said] += 1
+    rows = []
+    for (validator, of, kind, heard), counts in sorted(found.items()):
+        texts = ", ".join(f"{said} ({count:,})" for said, count in sorted(counts.items()))
+        rows.append([validator, of, kind, heard, f"{sum(counts.values()):,}", texts])
+    return of_lines(["validator", "chain", "answer", "it says", "answers", "of BIND's answer it says"], rows) if rows else "none"
+
+
+def is_limit(told, of_bind):
+    """Whether the validator says the same of BIND's answer to the same question."""
+    return outcome(told.heard) == outcome(of_bind.heard)
+
+
+def publishers(all_told, of_bind):
+    """Differences that are the publisher's: of BIND's answer the validator says something else."""
+    bind = {(it.case.zone.shape.name, it.question, it.validator): it for it in of_bind}
+    for it in all_told:
+        beside = bind.get((it.case.zone.shape.name, it.question, it.validator))
+        if not it.agrees and (beside is None or not is_limit(it, beside)):
+            yield it
+
+
+def by_life(all_told, names, life_of):
+    """A row for each roll: what agrees of what was asked."""
+    counts = collections.defaultdict(collections.Counter)
+    for it in all_told:
+        counts[life_of(it.case)][it.validator, it.agrees] += 1
+    rows = [[life, *(cell(found[name, True], found[name, False]) for name in names)] for life, found in counts.items()]
+    return of_lines(["roll", *names], rows)
