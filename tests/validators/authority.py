@@ -48,7 +48,7 @@ def packed(message, address_of):
 
 
 class Missing(Exception):
-    """What a zone under test answers is not known yet: `find` finds it, which takes a while."""
+    """What a zone under test answers is not known yet: `find` answers it, which takes a while."""
 
     def __init__(self, find):
         self.find = find
@@ -166,13 +166,10 @@ class Server:
 
     async def found(self, question):
         """What the tree says, when it knows it."""
-        name = question.name.lower()
-        for _ in range(2):
-            try:
-                return self.tree.at(self.address, name, question.rtype)
-            except Missing as missing:
-                await asyncio.get_running_loop().run_in_executor(None, missing.find)
-        return self.tree.at(self.address, name, question.rtype)
+        try:
+            return self.tree.at(self.address, question.name.lower(), question.rtype)
+        except Missing as missing:
+            return await asyncio.get_running_loop().run_in_executor(None, missing.find)
 
     @staticmethod
     def head(question, flags, counts):

@@ -57,7 +57,11 @@ class Shown:
         if rtype == DNSKEY and name == self.source.apex:
             return self.dnskey
         if (name, rtype) not in self.answers:
-            raise Missing(lambda: self.find([(name, rtype)]))
+            raise Missing(lambda: self.found(name, rtype))
+        return self.answers[name, rtype]
+
+    def found(self, name, rtype):
+        self.find([(name, rtype)])
         return self.answers[name, rtype]
 
     def __getstate__(self):

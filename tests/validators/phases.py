@@ -108,22 +108,25 @@ class Phase:
 
     async def tell_all(self, questions):
         """Asks each validator about all zones; `questions` gives those for a validator and a zone."""
+        told = []
 
-        async def by(validator):
-            told = []
-            for case in self.cases:
-                asks = (self.tell(validator, case, it) for it in questions(validator, case))
-                told += await asyncio.gather(*asks)
-            return told
+        async def work(validator, asks):
+            for case, question in asks:
+                told.append(await self.tell(validator, case, question))
 
-        return [it for told in await asyncio.gather(*map(by, self.validators)) for it in told]
+        works = []
+        for validator in self.validators:
+            asks = ((case, question) for case in self.cases for question in questions(validator, case))
+            works += (work(validator, asks) for _ in range(validator.width))
+        await asyncio.gather(*works)
+        return told
 
 
 async def by_the_clock(phase, begin, steps, per_second, drawn):
-    """Asks each resolver some questions about each zone, each second, while zones go through their stages."""
+    """Asks each resolver some questions about each zone, each second, while zones go through their stages, and for a while behind."""
     begin.value = int(time.time()) + LEAD
     tasks = []
-    while time.time() < begin.value + steps[-1] + phase.tree.ttl % 60 + 1:
+    while time.time() < begin.value + steps[-1] + LEAD:
         began = time.time()
         for case in phase.cases:
             for validator in phase.validators:
