@@ -114,11 +114,11 @@ class Phase:
             for case, question in asks:
                 told.append(await self.tell(validator, case, question))
 
-        works = []
-        for validator in self.validators:
+        def works(validator):
             asks = ((case, question) for case in self.cases for question in questions(validator, case))
-            works += (work(validator, asks) for _ in range(validator.width))
-        await asyncio.gather(*works)
+            return [work(validator, asks) for _ in range(validator.width)]
+
+        await asyncio.gather(*(it for validator in self.validators for it in works(validator)))
         return told
 
 

@@ -180,6 +180,7 @@ server:
     val-log-level: 2
     num-queries-per-thread: 2048
     outgoing-range: 4096
+    infra-cache-max-rtt: 1000
     msg-cache-size: 100m
     rrset-cache-size: 200m
     key-cache-size: 20m

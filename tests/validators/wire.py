@@ -3,8 +3,14 @@
 A name is its wire form without pointers.
 """
 
+import pathlib
 import struct
+import sys
 import typing
+
+sys.path.append(str(pathlib.Path(__file__).resolve().parent.parent / "rollovers"))
+
+from messages import key_tag, wire  # noqa: F401
 
 A, NS, CNAME, SOA, PTR, MX, TXT, AAAA, SRV, DS, RRSIG, NSEC, DNSKEY, NSEC3 = 1, 2, 5, 6, 12, 15, 16, 28, 33, 43, 46, 47, 48, 50
 OPT, CDS, CDNSKEY = 41, 59, 60
@@ -15,12 +21,6 @@ NAMED = {NS: (0, 1), CNAME: (0, 1), PTR: (0, 1), SOA: (0, 2), MX: (2, 1), SRV: (
 # The flags QR, AA, TC, RD, RA and AD, and the RCODEs.
 QR, AA, TC, RD, RA, AD, CD = 0x8000, 0x0400, 0x0200, 0x0100, 0x0080, 0x0020, 0x0010
 NOERROR, SERVFAIL, NXDOMAIN, REFUSED = 0, 2, 3, 5
-
-
-def wire(text):
-    """The wire form of a name's text, which has no escapes."""
-    labels = [label.encode() for label in text.rstrip(".").split(".") if label]
-    return b"".join(bytes([len(label)]) + label for label in labels) + b"\0"
 
 
 def text(name):
@@ -186,12 +186,6 @@ def signed_octets(fields, owner, rtype, records):
 
 def wire_of(of_labels):
     return b"".join(bytes([len(label)]) + label for label in of_labels) + b"\0"
-
-
-def key_tag(data):
-    """The key tag of a DNSKEY record (RFC 4034, appendix B)."""
-    total = sum(octet << 8 if at % 2 == 0 else octet for at, octet in enumerate(data))
-    return total + (total >> 16) & 0xFFFF
 
 
 def bitmap(rtypes):
