@@ -10,7 +10,7 @@ use Rattle.answer_scheme.specs.Answers.{Answers}
 use Rattle.answer_judge_keys.specs.Judging.{Handing, keys_in}
 use Rattle.answer_judge_facts.specs.Sought.{Sought}
 use Rattle.answer_judge_facts.specs.Verified.{datum_of}
-use Rattle.answer_honest.specs.Honest.{NothingForged, sought_of_answer, sought_of_keys}
+use Rattle.answer_honest.specs.Honest.{NothingForged, WasSigned, sought_of_answer, sought_of_keys}
 use Rattle.answer_judge.specs.ForgedAtAll.{AtAllIsEnough, NothingForgedAtAll}
 use Rattle.answer_judge.proofs.GivenLists.{has_contained}
 use Rattle.answer_judge.proofs.HonestKeys.{keys_read}
@@ -39,11 +39,11 @@ module _ (a : Answers) (k : ℕ) (h : Handing) (published : List Dnskey) (Signed
       }) passes
 
 pub at_all_is_enough : AtAllIsEnough
-at_all_is_enough a k h published Signed = (
-  (λ octets unforged. of_sought a k h published Signed (sought_of_keys h) h.dnskey_bytes
+at_all_is_enough a k h published keys apex signings = (
+  (λ octets unforged. of_sought a k h published (WasSigned a apex keys signings) (sought_of_keys h) h.dnskey_bytes
       (λ read r f are. record { data_are = keys_read h.dnskey_bytes h.apex read.records octets are; rising = sorted_ascend (map dnskey_data (keys_in h.dnskey_bytes h.apex read.records)) })
       octets unforged),
-  (λ octets unforged. of_sought a k h published Signed (sought_of_answer k h) h.answer_bytes
+  (λ octets unforged. of_sought a k h published (WasSigned a apex keys signings) (sought_of_answer k h) h.answer_bytes
       (λ read r f are. record { data_are = rrset_read k h.answer_bytes read.records r.owner f.covered octets are; rising = sorted_ascend (filter_map (datum_of k h.answer_bytes r.owner f.covered) read.records) })
       octets unforged),
 )

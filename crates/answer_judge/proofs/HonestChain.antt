@@ -24,7 +24,7 @@ use Rattle.answer_hash_owners.specs.HashOwner.{hash_spelled}
 use Rattle.answer_honest.specs.Versions.{IsNsecOf, IsNsec3Of, Version, zone_in}
 use Rattle.answer_judge.proofs.GivenGroups.{SaysHashLink, said_of}
 use Rattle.answer_judge.proofs.GivenHashes.{owner_spells}
-use Rattle.answer_judge.proofs.GivenLists.{contained_has, has_contained}
+use Rattle.answer_judge.proofs.GivenLists.{has_contained}
 use Rattle.answer_judge_keys.proofs.GivenSorted.{has_in}
 use Rattle.answer_judge.proofs.HonestFacts.{IsHashRecord, IsKnown, IsNextRecord}
 use Rattle.answer_judge.proofs.HonestReads.{ReadsNext, link_read}
@@ -82,7 +82,7 @@ module _ (apex : Name) (hash : Name → List ℕ) (v : Version) (iterations : �
   hash_of m r l x =
       let of : IsNsec3Of zone hash iterations salt optout x.chain.rrset = x.chain.of in
       let o : Name = of.name in
-      let named : In o (nsec3_names zone optout) = sort_has (by_hash hash) (by_hash_total hash) (nsec3_names zone optout) o (has_in (hashed_names hash zone optout) o (contained_has (hashed_names hash zone optout) o of.there)) in
+      let named : In o (nsec3_names zone optout) = sort_has (by_hash hash) (by_hash_total hash) (nsec3_names zone optout) o (has_in (hashed_names hash zone optout) o (has_contained (hashed_names hash zone optout) o of.there)) in
       let bytes : AllByRecursion (λ x. x < 256) (hash o) = octets o (contained (nsec3_names zone optout) o named) in
       let say : SaysHashLink apex (hashed_group apex rs hash iterations salt optout o) (hash_link_of zone hash iterations salt optout o) = says apex rs hash iterations salt optout small o bytes in
       let data_is : data_of m r ≡ say.datum = x.chain.data_is say.datum (of.datas_are ∙ say.data_are) in

@@ -87,7 +87,7 @@ module _ (a : Answers) (k : ℕ) (h : Handing) (versions : List Version) (x : Ar
       let keys : List Dnskey = keys_of h said.keys in
       let usable : List Dnskey = filter is_usable keys in
       let published = all_published a k h x.published x.signings (λ s i. known_version s.version (of_versions s i)) said.keys x.keys_honest said.keys_read x.keys_known x.flags_are said.chained in
-      let signers : (key : Dnskey) → Has usable key → IsSigner x.published key = λ key i. record { published = published key (filter_from is_usable keys key i); usable = (passes_has is_usable keys key i).1 } in
+      let signers : (key : Dnskey) → Has usable key → IsSigner x.published key = λ key i. record { known = published key (filter_from is_usable keys key i); usable = (passes_has is_usable keys key i).1 } in
       let asked : is_foreign_type h.asked.rtype ≡ false = plain_type h.asked.rtype (asked_inside h.apex h.asked said.allowed).asked_type in
       let spare = first_of versions x.one in
       let used : IsChosen a k h x.published x.signings said.answer x.answer_honest said.answer_read usable signers (not_keys h.asked.rtype asked) (one_at_a_time h versions x.signings of_versions x.settled) versions =

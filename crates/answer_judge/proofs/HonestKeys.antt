@@ -115,7 +115,7 @@ module _ (a : Answers) (k : ℕ) (h : Handing) (published : List Dnskey) (signin
   trusted_signs key i =
       let p = passes_has (is_trusted a h.apex h.ds) keys key i in
       record {
-        published = keys_known read key reads (contained_has keys key p.0) p.1;
+        known = keys_known read key reads (contained_has keys key p.0) p.1;
         usable = (and_parts (is_usable key) (list_any (names_key a h.apex key) h.ds) p.1).0;
       }
 

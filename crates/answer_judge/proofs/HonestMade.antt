@@ -16,7 +16,7 @@ use Rattle.denial_laws.specs.Truth.{IsServable, is_signed}
 use Rattle.denial_laws.proofs.NameFacts.{strictly_shorter}
 use Rattle.denial_laws.proofs.OwnRrset.{own_records_true, own_star_owner, own_star_true}
 use Rattle.denial_laws.proofs.VerdictView.{View, Signed, Missing, Cut, Starred, Unstarred, Gone, view}
-use Rattle.denial_laws.proofs.ZoneCuts.{IsCut, cut_is, cut_live, delegation_low, uncut_live}
+use Rattle.denial_laws.proofs.ZoneCuts.{ce_lowered, IsCut, cut_is, cut_live, delegation_low, uncut_live}
 use Rattle.messages.specs.Handed.{IsHanded}
 use Rattle.messages.specs.HandedRr.{HandedRr}
 use Rattle.messages.proofs.Lists.{Has, all_at}

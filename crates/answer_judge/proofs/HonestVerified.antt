@@ -128,7 +128,7 @@ of_apex apex now owner f e = (and_parts (labels_fit apex owner f && in_time f no
 
 -- a published key that may sign
 pub record IsSigner (published : List Dnskey) (key : Dnskey) : Type 0 where
-  pub published : Contains published key
+  pub known : Contains published key
   pub usable : is_usable key ≡ true
 
 -- ---- data in order ascend
@@ -235,6 +235,6 @@ over_signed a k h published Signed sought m read honest reads keys signers owner
     } in
     record {
       fits = fits;
-      there = subst Signed here (honest.unforged read r f x.by.signature x.by.key reads used signer.published signer.usable
+      there = subst Signed here (honest.unforged read r f x.by.signature x.by.key reads used signer.known signer.usable
           (subst (λ ds. 0 < length ds) (sym covers) x.by.some) (ap (λ o. a.verifies x.by.key o x.by.signature) here ∙ passes));
     }

@@ -10,18 +10,23 @@ use Rattle.definitions.specs.Name.{Name}
 use Rattle.definitions.specs.Signing.{Fields}
 use Rattle.definitions.proofs.SignedLaws.{pieces}
 use Rattle.messages.specs.declared.error.MessageError.{MessageError}
-use Rattle.messages.specs.Message.{Message, Spelled}
+use Rattle.messages.specs.Message.{AreOctets, Asked, Message, Spelled}
 use Rattle.messages.proofs.Lists.{Has, some_is}
 use Rattle.answer_shared.specs.Served.{Group}
-use Rattle.answer_shared.specs.Told.{AreRecords, AreSignatures, IsRecord, IsSignature, TellsGroups, fields_for, octets_for}
+use Rattle.answer_shared.specs.Told.{AreRecords, AreSignatures, IsRecord, IsSignature, Tells, TellsGroups, fields_for, octets_for}
 use Rattle.answer_judge.proofs.GivenFacts.{from_joined}
 use Rattle.answer_judge.proofs.GivenLists.{contained_has, has_contained}
 use Rattle.answer_judge.proofs.HonestMade.{signed_only}
-use Rattle.answer_honest.specs.Honest.{over}
-use Rattle.answer_judge.specs.Splices.{PassesNowhere, PlainSchemeBinds, ToldIsSpliced, SplicesAreHonest, WasCarried}
+use Rattle.answer_honest.specs.Honest.{IsHonest, WasSigned, over}
+use Rattle.answer_scheme.specs.Answers.{Answers}
+use Rattle.answer_judge_keys.specs.Judging.{Handing}
+use Rattle.answer_judge_facts.specs.Sought.{Sought}
+use Rattle.answer_judge.specs.Splices.{AreSigned, Binds, IsSpliced, PassesNowhere, PlainSchemeBinds, ToldIsSpliced, SplicesAreHonest, WasCarried}
 
-pub splices_are_honest : SplicesAreHonest
-splices_are_honest a k h published Signed sought m binds octets spliced = record {
+-- whatever was signed
+pub spliced_honest : (a : Answers) (k : ℕ) (h : Handing) (published : List Dnskey) (Signed : List ℕ → Type 0) (sought : List Spelled → Sought) (m : List ℕ)
+    → Binds a → AreOctets m → IsSpliced a k h.now published Signed m → IsHonest a k h published Signed sought m
+spliced_honest a k h published Signed sought m binds octets spliced = record {
   octets_are = octets;
   unforged = λ read r f signature key reads used inside usable some passes.
       let made : List ℕ = over (sought read.records) r f in
@@ -30,6 +35,9 @@ splices_are_honest a k h published Signed sought m binds octets spliced = record
       (λ (n : PassesNowhere a published signature). absurd (false≢true (sym (n key made inside) ∙ passes)))
       (spliced read r f signature reads used.there used.rtype_is used.reads used.timely);
 }
+
+pub splices_are_honest : SplicesAreHonest
+splices_are_honest a k h published keys apex signings sought m binds octets spliced = spliced_honest a k h published (WasSigned a apex keys signings) sought m binds octets spliced
 
 pub plain_scheme_binds : PlainSchemeBinds
 plain_scheme_binds digest hash j k octets others signature p q =
@@ -90,8 +98,9 @@ signature_of v k m rs apex at life keys (g ∷ gs) r types (own, signatures, res
 pub ok_is : (x y : Message) → message_ok x ≡ message_ok y → x ≡ y
 ok_is x y e = cc
 
-pub told_is_spliced : ToldIsSpliced
-told_is_spliced a k now published signers Signed apex at life asked groups m types signed tells read r f signature reads inside kind fields time =
+pub told_spliced : (a : Answers) (k now : ℕ) (published signers : List Dnskey) (Signed : List ℕ → Type 0) (apex : Name) (at life : ℕ) (asked : Asked) (groups : List Group) (m : List ℕ)
+    → AllByRecursion (λ (g : Group). g.rtype ≡ 46 → ⊥) groups → AreSigned Signed apex at life groups → Tells a.verifies k apex at life signers asked groups m → IsSpliced a k now published Signed m
+told_spliced a k now published signers Signed apex at life asked groups m types signed tells read r f signature reads inside kind fields time =
     let same : read ≡ tells.read = ok_is read tells.read (sym reads ∙ tells.reads) in
     let here : Has tells.read.records r = subst (λ (x : Message). Has x.records r) same (has_contained read.records r inside) in
     let x = signature_of a.verifies k m tells.read.records apex at life signers groups r types tells.groups_are here kind in
@@ -103,3 +112,6 @@ told_is_spliced a k now published signers Signed apex at life asked groups m typ
       there = signed x.group x.key (contained_has groups x.group x.inside) x.signed;
       passes = ap (a.verifies x.key (octets_for apex at life x.group x.key)) octets ∙ x.is.passes;
     })
+
+pub told_is_spliced : ToldIsSpliced
+told_is_spliced a k now published keys signers signings apex at life asked groups m types signed tells = told_spliced a k now published signers (WasSigned a apex keys signings) apex at life asked groups m types signed tells

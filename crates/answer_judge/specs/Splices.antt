@@ -10,7 +10,7 @@ use Rattle.messages.specs.Message.{AreOctets, Asked, Message, Spelled, message, 
 use Rattle.answer_shared.specs.Served.{Group}
 use Rattle.answer_shared.specs.Told.{Tells, octets_for}
 use Rattle.answer_scheme.specs.Answers.{Answers}
-use Rattle.answer_honest.specs.Honest.{IsHonest}
+use Rattle.answer_honest.specs.Honest.{IsHonest, Signing, WasSigned}
 use Rattle.answer_judge_facts.specs.Sought.{Sought}
 use Rattle.answer_judge_keys.specs.Judging.{Handing}
 
@@ -39,8 +39,8 @@ IsSpliced a k now published Signed m =
 
 abbrev pub SplicesAreHonest : Type 0
 SplicesAreHonest =
-    (a : Answers) (k : ℕ) (h : Handing) (published : List Dnskey) (Signed : List ℕ → Type 0) (sought : List Spelled → Sought) (m : List ℕ)
-    → Binds a → AreOctets m → IsSpliced a k h.now published Signed m → IsHonest a k h published Signed sought m
+    (a : Answers) (k : ℕ) (h : Handing) (published keys : List Dnskey) (apex : Name) (signings : List Signing) (sought : List Spelled → Sought) (m : List ℕ)
+    → Binds a → AreOctets m → IsSpliced a k h.now published (WasSigned a apex keys signings) m → IsHonest a k h published (WasSigned a apex keys signings) sought m
 
 -- a scheme whose signatures are the tag of the key and the octets themselves
 abbrev pub plain_verifies : Dnskey → List ℕ → List ℕ → Bool
@@ -61,6 +61,6 @@ AreSigned Signed apex at life groups = (g : Group) (key : Dnskey) → Contains g
 -- one of signatures.
 abbrev pub ToldIsSpliced : Type 0
 ToldIsSpliced =
-    (a : Answers) (k now : ℕ) (published signers : List Dnskey) (Signed : List ℕ → Type 0) (apex : Name) (at life : ℕ) (asked : Asked) (groups : List Group) (m : List ℕ)
-    → AllByRecursion (λ g. g.rtype ≡ 46 → ⊥) groups → AreSigned Signed apex at life groups
-    → Tells a.verifies k apex at life signers asked groups m → IsSpliced a k now published Signed m
+    (a : Answers) (k now : ℕ) (published keys signers : List Dnskey) (signings : List Signing) (apex : Name) (at life : ℕ) (asked : Asked) (groups : List Group) (m : List ℕ)
+    → AllByRecursion (λ g. g.rtype ≡ 46 → ⊥) groups → AreSigned (WasSigned a apex keys signings) apex at life groups
+    → Tells a.verifies k apex at life signers asked groups m → IsSpliced a k now published (WasSigned a apex keys signings) m
