@@ -97,7 +97,7 @@ apart_unforged =
       ),
     )
 
-unlike_moments : 1000 ≡ 1100 → ⊥
+unlike_moments : ◌≡◌ {A = ℕ} 1000 1100 → ⊥
 unlike_moments e = false≢true (ap (λ n. eqb n 1000) (sym e))
 
 -- no two signings of one moment are of two versions
