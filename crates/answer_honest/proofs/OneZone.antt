@@ -1,8 +1,8 @@
 -- Of a zone that doesn't change its verdict is said, or none.
-use Rattle.std.proofs.Common.{◌≡◌, zero, suc, List, [], ◌∷◌, sym, ap, ◌∙◌, arith}
+use Rattle.std.proofs.Common.{◌≡◌, zero, suc, [], ◌∷◌, sym, ap, ◌∙◌, arith}
 use Rattle.std.specs.Prelude.{Contains}
 use Rattle.answer_judge_keys.specs.Judging.{Answer, Handing, Says, Refuses}
-use Rattle.answer_honest.specs.Honest.{IsSaidByOne, SaysAtMost, SaysOneOf, is_alias_in, verdict_of}
+use Rattle.answer_honest.specs.Honest.{SaysAtMost, SaysOneOf, is_alias_in, verdict_of}
 use Rattle.answer_honest.specs.OneZone.{HonestOfOneZone}
 use Rattle.answer_honest.specs.Versions.{Version}
 

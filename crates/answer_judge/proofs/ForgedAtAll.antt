@@ -1,10 +1,10 @@
 -- What is asked of all that may be signed holds of what stands in a message.
-use Rattle.std.proofs.Common.{◌≡◌, ℕ, List, map, refl, ap, ◌∙◌}
+use Rattle.std.proofs.Common.{◌≡◌, ℕ, List, map, refl}
 use Rattle.std.specs.Prelude.{Ok}
 use Rattle.std.specs.List.{AllByRecursion, filter_map}
 use Rattle.definitions.specs.Dnskey.{Dnskey, dnskey_data}
 use Rattle.definitions.specs.Signing.{Fields, ascending, signed_octets}
-use Rattle.messages.specs.Message.{AreOctets, Message, Spelled, message}
+use Rattle.messages.specs.Message.{AreOctets, Message, Spelled}
 use Rattle.messages.proofs.Lists.{all_at}
 use Rattle.answer_scheme.specs.Answers.{Answers}
 use Rattle.answer_judge_keys.specs.Judging.{Handing, keys_in}

@@ -1,5 +1,5 @@
 -- Records of a version's chain that are verified say true links.
-use Rattle.std.proofs.Common.{◌≡◌, ℕ, ◌<◌, Bool, true, List, [], ◌∷◌, ◌++◌, eqb, refl, sym, ap, subst, ◌∙◌, arith}
+use Rattle.std.proofs.Common.{◌≡◌, ℕ, ◌<◌, Bool, true, List, [], ◌∷◌, ◌++◌, eqb, sym, ap, subst, ◌∙◌, arith}
 use Rattle.std.specs.List.{AllByRecursion, Contains}
 use Rattle.std.specs.Char.{to_ascii_lowercase}
 use Rattle.std.proofs.lemmas.Bool.{false≢true}
@@ -7,7 +7,7 @@ use Rattle.std.proofs.lemmas.List.{length-map}
 use Rattle.definitions.specs.Base32hex.{base32hex}
 use Rattle.definitions.specs.Bitmap.{bitmap}
 use Rattle.definitions.specs.Name.{Name, IsName, low, wire}
-use Rattle.definitions.specs.Zone.{Zone, apex_of}
+use Rattle.definitions.specs.Zone.{Zone}
 use Rattle.definitions.specs.ZoneChain.{Mode, Nsec, Nsec3, hashed_names, nsec_names, nsec_next, nsec_types, nsec3_names}
 use Rattle.definitions.proofs.Members.{In, contained, sort_has}
 use Rattle.definitions.proofs.SignedLaws.{Labelled, wire_of}
@@ -16,7 +16,7 @@ use Rattle.denial_laws.specs.OwnFacts.{hash_link_of}
 use Rattle.denial_laws.specs.Truth.{IsTrueLink}
 use Rattle.messages.specs.HandedRr.{HandedRr}
 use Rattle.messages.specs.Message.{AreOctets, Spelled, data_of, nsec3_of}
-use Rattle.messages.proofs.Lists.{Has, some_is}
+use Rattle.messages.proofs.Lists.{some_is}
 use Rattle.messages.proofs.ReadNames.{labelled}
 use Rattle.answer_shared.specs.Accepting.{sorted_records}
 use Rattle.answer_shared.proofs.ZoneNaming.{chain_named, lower_name, next_name}

@@ -8,17 +8,16 @@ use Rattle.std.proofs.lemmas.List.{length-map}
 use Rattle.std.specs.Str.{str_to_ascii_lowercase}
 use Rattle.definitions.specs.Dnskey.{Dnskey}
 use Rattle.definitions.specs.Name.{Name, IsName, low, same, wire, at_or_above}
-use Rattle.definitions.specs.Signing.{Fields, label_count, signed_owner}
+use Rattle.definitions.specs.Signing.{Fields, label_count}
 use Rattle.definitions.specs.Zone.{Zone, Rr, has, data_at, is_of}
 use Rattle.definitions.specs.ZoneChain.{Mode, Nsec, Nsec3}
 use Rattle.definitions.proofs.Members.{any_of}
 use Rattle.denial_laws.specs.Facts.{HashLink, Link, Rrset}
 use Rattle.denial_laws.specs.Truth.{IsServable, IsTrueRrset, is_added_type, is_foreign_type, is_signed}
 use Rattle.denial_laws.proofs.ChainBits.{all_at}
-use Rattle.messages.specs.HandedRr.{HandedRr}
 use Rattle.messages.specs.Handed.{IsHanded}
 use Rattle.messages.specs.Message.{HashedNext, Message, Spelled, canonical_data, data_of, message, nsec3_at, nsec3_of, nsec_at}
-use Rattle.messages.proofs.Lists.{Has, some_is}
+use Rattle.messages.proofs.Lists.{Has}
 use Rattle.messages.proofs.ZoneNames.{labels_eq-same}
 use Rattle.answer_shared.specs.Accepting.{sorted_records}
 use Rattle.answer_shared.specs.Hashing.{hash_in}

@@ -1,7 +1,6 @@
 -- Of honest messages a judge says the verdict of a version in which the name is no alias, or refuses.
-use Rattle.std.proofs.Common.{◌≡◌, ℕ, ◌<◌, Bool, true, false, not, ◌&&◌, ◌||◌, List, [], ◌∷◌, length, filter, refl, sym, ap, subst, ◌∙◌, inl, inr, ⊎_elim, arith}
+use Rattle.std.proofs.Common.{◌≡◌, ℕ, Bool, true, false, not, ◌&&◌, ◌||◌, List, [], ◌∷◌, length, filter, refl, sym, ap, subst, ◌∙◌, inl, inr, ⊎_elim, arith}
 use Rattle.std.specs.Prelude.{Contains, nat_eq, nat_le}
-use Rattle.std.specs.List.{AllByRecursion}
 use Rattle.std.proofs.lemmas.Bool.{false≢true}
 use Rattle.definitions.specs.Dnskey.{Dnskey}
 use Rattle.definitions.specs.Name.{Name}
@@ -14,11 +13,11 @@ use Rattle.denial_laws.proofs.Sound.{true_facts_decide_truly}
 use Rattle.messages.specs.Handed.{IsHanded}
 use Rattle.messages.proofs.Lists.{Has, all_at, all_sorted}
 use Rattle.answer_scheme.specs.Answers.{Answers}
-use Rattle.answer_shared.specs.Accepting.{record_cmp, sorted_records}
+use Rattle.answer_shared.specs.Accepting.{record_cmp}
 use Rattle.answer_shared.specs.Chainable.{HasChain}
 use Rattle.answer_shared.specs.Hashing.{Hasher, hash_in}
 use Rattle.answer_shared.proofs.Servable.{asked_inside}
-use Rattle.answer_honest.specs.Honest.{AnswersHonest, AreHonest, FewIterations, IsSaidByOne, IsVersion, OneAtATime, SaysOneOf, Settled, Signing, is_alias_in, verdict_of}
+use Rattle.answer_honest.specs.Honest.{AnswersHonest, AreHonest, FewIterations, IsSaidByOne, IsVersion, OneAtATime, SaysOneOf, Settled, Signing}
 use Rattle.answer_honest.specs.Versions.{Version, zone_in}
 use Rattle.answer_judge_keys.specs.Trusted.{is_usable}
 use Rattle.answer_judge_facts.specs.Judged.{AnswersAs, judged, keys_of}

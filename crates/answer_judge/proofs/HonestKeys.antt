@@ -1,26 +1,23 @@
 -- The keys of an honest DNSKEY answer that a trusted key signs are published.
-use Rattle.std.proofs.Common.{◌≡◌, ℕ, ◌+◌, ◌*◌, ◌<◌, Bool, true, false, ◌&&◌, List, [], ◌∷◌, map, Option, Some, None, Ok, eqb, refl, sym, ap, subst, ◌∙◌, inl, inr, arith}
+use Rattle.std.proofs.Common.{◌≡◌, ℕ, ◌+◌, ◌*◌, ◌<◌, Bool, true, false, ◌&&◌, List, [], ◌∷◌, map, Some, None, Ok, eqb, refl, sym, ap, subst, ◌∙◌, inl, inr, arith}
 use Rattle.std.specs.Prelude.{◌==◌, Contains, if◌then◌else◌}
 use Rattle.std.specs.List.{AllByRecursion, filter, list_any}
 use Rattle.std.specs.Int.{w16, to_be_bytes}
 use Rattle.std.specs.Ordering.{nat_cmp}
 use Rattle.std.specs.Cmp.Lexicographic.{slice_cmp}
-use Rattle.std.specs.Str.{bytes_eq}
 use Rattle.std.proofs.lemmas.Bool.{and_from, and_parts, eq-eqb, eqb-true, false≢true}
-use lib.Pointwise.{bytes_decides}
-use Rattle.definitions.specs.Dnskey.{Dnskey, Ds, digested, dnskey_data, dnskey_of_data, key_tag}
+use Rattle.definitions.specs.Dnskey.{Dnskey, dnskey_data, dnskey_of_data}
 use Rattle.definitions.specs.Name.{Name, low, same}
-use Rattle.definitions.specs.Signing.{Fields}
 use Rattle.definitions.specs.Zone.{Zone, sorted_data}
 use Rattle.definitions.specs.ZoneChain.{Mode, Nsec, Nsec3}
 use Rattle.denial_laws.specs.Truth.{is_added_type}
 use Rattle.messages.specs.Message.{AreOctets, Message, Spelled, data_of, message}
 use Rattle.messages.proofs.ZoneNames.{labels_eq-same}
-use Rattle.messages.proofs.Lists.{Has, all_at, all_more, all_sorted, found, some_is}
+use Rattle.messages.proofs.Lists.{Has, all_at, all_more, all_sorted, some_is}
 use Rattle.answer_shared.specs.Hashing.{hash_in}
 use Rattle.answer_shared.proofs.KeyData.{key_read_back}
 use Rattle.answer_scheme.specs.Answers.{Answers}
-use Rattle.answer_honest.specs.Honest.{IsHonest, NoStranger, Signing, WasSigned, rrset_of_keys, sought_of_keys}
+use Rattle.answer_honest.specs.Honest.{IsHonest, NoStranger, Signing, WasSigned, sought_of_keys}
 use Rattle.answer_honest.specs.Versions.{IsOfChain, IsRrsetOf, OfZone, OfChain, OfParameters, SignedRrset, Version, zone_in}
 use Rattle.answer_judge_keys.specs.Trusted.{is_trusted, is_usable, names_key}
 use Rattle.answer_judge_facts.specs.Judged.{is_chained, keys_of, trusting}
@@ -28,11 +25,11 @@ use Rattle.answer_judge_keys.specs.Judging.{Handing, key_at, keys_in}
 use Rattle.answer_judge_keys.proofs.GivenKeys.{IsKeyData, data_of_key, key_data}
 use Rattle.answer_judge.proofs.GivenLists.{contained_has, has_contained}
 use Rattle.answer_judge_keys.proofs.GivenSorted.{data_has, sorted_from}
-use Rattle.answer_judge.proofs.HonestFacts.{IsKnown, chain_type, not_added, signed_has}
+use Rattle.answer_judge.proofs.HonestFacts.{IsKnown, not_added, signed_has}
 use Rattle.answer_judge_facts.proofs.KeptItems.{kept_from, passes_has}
 use Rattle.answer_judge.proofs.HonestReads.{IsDatum, ReadsRecord, data_read, message_read, octets_16, octets_join}
-use Rattle.answer_judge.proofs.HonestTold.{IsOf, IsOfKeys, IsOfSigning, IsSignedOf, OfKeys, OfVersion, Tells, signed_of}
-use Rattle.answer_judge.proofs.HonestVerified.{Found, IsOver, IsSigner, found_verifying, over_signed}
+use Rattle.answer_judge.proofs.HonestTold.{IsSignedOf, OfKeys, OfVersion, signed_of}
+use Rattle.answer_judge.proofs.HonestVerified.{Found, IsSigner, found_verifying, over_signed}
 
 -- ---- keys that are read
 

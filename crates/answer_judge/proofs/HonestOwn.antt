@@ -6,7 +6,7 @@ use Rattle.std.proofs.Math.Nat.{mod-lt}
 use Rattle.definitions.specs.Bitmap.{bitmap}
 use Rattle.definitions.specs.Dnskey.{Dnskey}
 use Rattle.definitions.specs.Name.{Name, IsName, labels_eq, low, wire}
-use Rattle.definitions.specs.Signing.{Fields, canonical_record, fields_data, label_count, signed_octets, signed_owner}
+use Rattle.definitions.specs.Signing.{Fields, canonical_record, fields_data, label_count, signed_owner}
 use Rattle.definitions.specs.Zone.{Rr, Zone, data_at, is_of}
 use Rattle.definitions.specs.ZoneChain.{Mode, Nsec, Nsec3, hashed_names, nsec_names, nsec_next, nsec_types, nsec3_names}
 use Rattle.definitions.proofs.Members.{In, any_of, contained, sort_has}
@@ -15,21 +15,21 @@ use Rattle.denial_laws.specs.Facts.{Link}
 use Rattle.denial_laws.specs.Truth.{IsServable, is_signed}
 use Rattle.messages.specs.Handed.{IsHanded}
 use Rattle.messages.specs.HandedRr.{HandedRr}
-use Rattle.messages.proofs.Lists.{Has, all_at}
+use Rattle.messages.proofs.Lists.{Has}
 use Rattle.messages.proofs.ZoneNames.{same_labels}
 use Rattle.std.proofs.lemmas.Bool.{and_parts}
 use Rattle.answer_scheme.specs.Answers.{Answers}
 use Rattle.answer_shared.specs.Accepting.{rr_of, sorted_records, zone_with}
 use Rattle.answer_shared.specs.Chainable.{HasChain}
-use Rattle.answer_shared.specs.Hashing.{Hasher, hash_in}
+use Rattle.answer_shared.specs.Hashing.{hash_in}
 use Rattle.answer_shared.specs.Made.{IsShortGroup}
-use Rattle.answer_shared.specs.Served.{Group, Served, chain_names, chain_record, key_group, served_of, spelled_as}
+use Rattle.answer_shared.specs.Served.{Group, Served, chain_record, key_group, served_of, spelled_as}
 use Rattle.answer_shared.specs.Told.{fields_for, octets_for}
 use Rattle.answer_shared.proofs.ZoneData.{label_count-low}
 use Rattle.answer_shared.proofs.ZoneNaming.{lower_name}
-use Rattle.answer_honest.specs.Honest.{IsMadeOver, Signing, SignedOfKeys, SignedOfVersion, WasSigned, rrset_of_keys}
-use Rattle.answer_honest.specs.Versions.{IsRrsetOf, OfChain, OfZone, SignedRrset, Version, zone_in}
-use Rattle.answer_judge_facts.specs.Times.{Times, times_of}
+use Rattle.answer_honest.specs.Honest.{IsMadeOver, Signing, SignedOfKeys, SignedOfVersion, WasSigned}
+use Rattle.answer_honest.specs.Versions.{IsRrsetOf, OfChain, OfZone, Version, zone_in}
+use Rattle.answer_judge_facts.specs.Times.{times_of}
 use Rattle.answer_judge.specs.OwnMessages.{signing_of}
 use Rattle.answer_judge.proofs.GivenLists.{contained_has}
 use Rattle.answer_judge_keys.proofs.GivenSorted.{has_in, in_has}

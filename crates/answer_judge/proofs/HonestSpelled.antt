@@ -1,5 +1,5 @@
 -- Fields whose numbers are what their octets say.
-use Rattle.std.proofs.Common.{◌≡◌, ℕ, zero, suc, ◌/◌, ◌%◌, ◌<◌, ◌^◌, List, ◌∷◌, ◌++◌, length, get_or, refl, sym, ap, subst, ◌∙◌, arith, lit<}
+use Rattle.std.proofs.Common.{◌≡◌, ℕ, zero, suc, ◌/◌, ◌<◌, ◌^◌, List, ◌∷◌, ◌++◌, length, get_or, refl, arith, lit<}
 use Rattle.std.specs.Int.{w16, w32, from_be_bytes, to_be_bytes}
 use Rattle.std.specs.List.{flat_map}
 use Rattle.std.proofs.Math.Nat.{mod-lt}

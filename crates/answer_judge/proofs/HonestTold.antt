@@ -1,5 +1,5 @@
 -- Octets of a signature over an RRset that was signed tell that RRset, whose it is, and when it was signed.
-use Rattle.std.proofs.Common.{◌≡◌, ℕ, true, false, List, [], eqb, refl, sym, ap, ◌∙◌, arith}
+use Rattle.std.proofs.Common.{◌≡◌, ℕ, false, List, [], eqb, sym, ap, ◌∙◌, arith}
 use Rattle.std.specs.Prelude.{Contains}
 use Rattle.std.specs.List.{AllByRecursion}
 use Rattle.std.proofs.lemmas.Bool.{false≢true, le-ltb}
@@ -14,7 +14,7 @@ use Rattle.answer_scheme.specs.Answers.{Answers}
 use Rattle.answer_shared.specs.Hashing.{hash_in}
 use Rattle.answer_honest.specs.Honest.{IsMadeOver, IsSignedOfKeys, IsSignedOfVersion, Signing, SignedOfKeys, SignedOfVersion, WasSigned, rrset_of_keys}
 use Rattle.answer_honest.specs.Versions.{IsRrsetOf, SignedRrset, Version}
-use Rattle.answer_judge_facts.specs.Times.{Times, times_of}
+use Rattle.answer_judge_facts.specs.Times.{times_of}
 use Rattle.answer_judge.proofs.GivenLists.{has_contained}
 use Rattle.answer_judge.proofs.HonestVerified.{IsOver}
 

@@ -3,7 +3,7 @@ use Rattle.std.proofs.Common.{◌≡◌, ℕ, List, refl, subst}
 use Rattle.definitions.specs.Dnskey.{Dnskey}
 use Rattle.definitions.specs.Name.{Name}
 use Rattle.definitions.specs.Zone.{Zone}
-use Rattle.definitions.specs.ZoneChain.{Mode, Nsec, Nsec3, hashed_names}
+use Rattle.definitions.specs.ZoneChain.{Mode, Nsec, Nsec3}
 use Rattle.denial_laws.specs.Facts.{Facts, HashLink}
 use Rattle.denial_laws.specs.Truth.{AreTrue, IsTrueHashLink, IsTrueLink, is_foreign_type}
 use Rattle.std.specs.Prelude.{false}

@@ -1,20 +1,20 @@
 -- What verifies in an honest message is an RRset that was signed.
-use Rattle.std.proofs.Common.{◌≡◌, ℕ, ◌<◌, Bool, true, false, not, ◌&&◌, cond, List, [], ◌∷◌, ◌++◌, ◌-◌, ◌^◌, drop, length, map, Option, Some, None, Ok, eqb, refl, sym, ap, subst, ◌∙◌, inl, inr, arith, lit<, lit≤}
+use Rattle.std.proofs.Common.{◌≡◌, ℕ, ◌<◌, Bool, true, false, not, ◌&&◌, cond, List, [], ◌∷◌, ◌++◌, ◌-◌, ◌^◌, drop, length, Option, Some, None, Ok, refl, sym, ap, subst, ◌∙◌, inl, inr, arith, lit<, lit≤}
 use Rattle.std.specs.Prelude.{◌==◌, Contains, if◌then◌else◌, nat_lt}
-use Rattle.std.specs.List.{AllByRecursion, filter_map, find, flat_map}
+use Rattle.std.specs.List.{AllByRecursion, find, flat_map}
 use Rattle.std.specs.Ordering.{is_lt, nat_cmp}
 use Rattle.std.specs.Cmp.Lexicographic.{slice_cmp}
 use Rattle.std.specs.Int.{w16, w32, to_be_bytes}
 use Rattle.std.proofs.lemmas.Bool.{and_parts, eqb-true, false≢true}
 use Rattle.std.proofs.lemmas.Cmp.{nat_list_cmp_total}
-use Rattle.definitions.specs.Dnskey.{Dnskey, dnskey_data, dnskey_of_data}
+use Rattle.definitions.specs.Dnskey.{Dnskey}
 use Rattle.definitions.specs.Laws.{IsSignable}
 use Rattle.definitions.specs.Name.{Name, IsLabel, IsName, low, same, wire}
 use Rattle.definitions.specs.Signing.{Fields, ascending, canonical_record, fields_data, in_time, label_count, signed_octets, signed_owner}
 use Rattle.definitions.specs.Zone.{sorted_data}
 use Rattle.definitions.proofs.Members.{Rises, sort_rises}
 use Rattle.denial_laws.proofs.Found.{first_from}
-use Rattle.messages.specs.Message.{AreOctets, Message, Spelled, data_of, message, rrsig_at}
+use Rattle.messages.specs.Message.{AreOctets, Message, Spelled, message, rrsig_at}
 use Rattle.messages.proofs.Lists.{Has, all_at, all_more, found, some_is}
 use Rattle.messages.proofs.ZoneNames.{same_labels}
 use Rattle.answer_scheme.specs.Answers.{Answers}
@@ -23,11 +23,11 @@ use Rattle.answer_honest.specs.Honest.{IsHonest, MayBeUsed, over}
 use Rattle.answer_judge_facts.specs.Judged.{trusting}
 use Rattle.answer_judge_keys.specs.Judging.{Handing}
 use Rattle.answer_judge_facts.specs.Sought.{Sought}
-use Rattle.answer_judge_facts.specs.Verified.{Trusting, is_verified, rrset_in, verified_by, verified_with, verifies_with}
+use Rattle.answer_judge_facts.specs.Verified.{Trusting, is_verified, verified_by, verified_with, verifies_with}
 use Rattle.answer_judge.proofs.FirstSigns.{opened, read_of}
 use Rattle.answer_judge.proofs.GivenLists.{contained_has}
 use Rattle.answer_judge_keys.proofs.GivenSorted.{in_has}
-use Rattle.answer_judge_facts.proofs.JudgeCase.{rrset_in-owner, same-owner, signed_octets-owner}
+use Rattle.answer_judge_facts.proofs.JudgeCase.{signed_octets-owner}
 use Rattle.answer_judge.proofs.HonestReads.{IsDatum, IsRead, ReadsFields, ReadsRecord, all_drop, fields_read, lowered_read, message_read, octets_16, octets_32, octets_join, wire_octets}
 
 -- ---- a signature that verifies

@@ -2,7 +2,7 @@
 use Rattle.std.specs.Prelude.{◌≡◌, ◌<◌, ℕ, ◌+◌, ◌%◌, List, Contains}
 use Rattle.std.specs.List.{AllByRecursion}
 use Rattle.definitions.specs.Dnskey.{Dnskey}
-use Rattle.definitions.specs.Name.{Name, IsName}
+use Rattle.definitions.specs.Name.{IsName}
 use Rattle.definitions.specs.ZoneChain.{Mode}
 use Rattle.messages.specs.HandedRr.{HandedRr}
 use Rattle.messages.specs.Message.{AreOctets}
@@ -10,7 +10,6 @@ use Rattle.messages.specs.WrittenLaws.{IsQuestion}
 use Rattle.answer_scheme.specs.Answers.{Answers}
 use Rattle.answer_shared.specs.Told.{TellsKeys}
 use Rattle.answer_judge_keys.specs.Judging.{Handing}
-use Rattle.answer_judge_facts.specs.Times.{Times}
 use Rattle.answer_judge_facts.specs.Verified.{Trusting}
 use Rattle.answer_honest.specs.Honest.{IsHonest, Signing, WasSigned, sought_of_answer, sought_of_keys}
 use Rattle.answer_judge.specs.OwnFacts.{TellsZone}

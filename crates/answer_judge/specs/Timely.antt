@@ -1,5 +1,5 @@
 -- A judge refuses where no signature of a message holds at the moment.
-use Rattle.std.specs.Prelude.{◌≡◌, ℕ, Bool, true, false, ◌&&◌, List, [], Some, None, Ok, Err}
+use Rattle.std.specs.Prelude.{◌≡◌, ℕ, Bool, false, ◌&&◌, List, [], Some, None, Ok, Err}
 use Rattle.std.specs.List.{list_any}
 use Rattle.definitions.specs.Signing.{in_time}
 use Rattle.messages.specs.Message.{Spelled, message, rrsig_at}

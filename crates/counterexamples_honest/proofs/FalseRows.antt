@@ -1,36 +1,30 @@
 -- Rows of which a judge says what the zone does not say, each with one premise left out.
-use Rattle.std.proofs.Common.{◌≡◌, ℕ, true, false, List, [], ◌∷◌, ◌++◌, refl, sym, ap, subst, ◌∙◌, inl, inr}
-use Rattle.std.specs.Prelude.{◌==◌, ◌&&◌, Contains}
-use Rattle.std.specs.List.{AllByRecursion, list_any}
-use Rattle.std.proofs.lemmas.Bool.{and_parts, false_from_ne_true, false≢true, ltb-true}
+use Rattle.std.proofs.Common.{◌≡◌, ℕ, false, List, [], ◌∷◌, ◌++◌, refl, sym, ◌∙◌, inl, inr}
+use Rattle.std.specs.Prelude.{Contains}
+use Rattle.std.proofs.lemmas.Bool.{ltb-true}
 use Rattle.definitions.specs.Base32hex.{base32hex}
 use Rattle.definitions.specs.Bitmap.{octet_of, window_count, window_size}
 use Rattle.definitions.specs.Dnskey.{Dnskey, dnskey_data}
 use Rattle.definitions.specs.Limits.{pointer_limit}
-use Rattle.definitions.specs.Name.{IsName, Name, labels_eq, low, strictly_above}
+use Rattle.definitions.specs.Name.{IsName, Name}
 use Rattle.definitions.specs.Reading.{most_heads}
 use Rattle.definitions.specs.Signing.{Fields, signed_octets}
-use Rattle.definitions.specs.Zone.{Delegated, NoName, NoType, Records, Rr, Unsigned, Zone, apex_of, has, is_delegation, is_of, owners}
-use Rattle.definitions.specs.ZoneChain.{Mode, Nsec, Nsec3, nsec_names, hashed_names, nsec3_names}
-use Rattle.definitions.proofs.Members.{any_of}
-use Rattle.messages.specs.Handed.{IsHanded}
+use Rattle.definitions.specs.Zone.{NoType, Records, Unsigned}
+use Rattle.definitions.specs.ZoneChain.{hashed_names, nsec3_names}
 use Rattle.messages.specs.Message.{owner_at}
-use Rattle.messages.proofs.Lists.{Has}
-use Rattle.messages.proofs.ZoneNames.{same_labels}
 use Rattle.answer_shared.specs.Chainable.{IsChainable}
-use Rattle.answer_honest.specs.Honest.{IsSaidByOne, NoStranger, NothingForged, Signing, SignedOfKeys, sought_of_answer, sought_of_keys}
-use Rattle.answer_honest.specs.Versions.{OfChain, OfZone, Version, zone_in}
-use Rattle.answer_judge_keys.proofs.GivenSorted.{in_has}
+use Rattle.answer_honest.specs.Honest.{NoStranger, NothingForged, SignedOfKeys, sought_of_answer, sought_of_keys}
+use Rattle.answer_honest.specs.Versions.{OfChain, zone_in}
 use Rattle.answer_judge.proofs.GivenLists.{has_contained}
-use Rattle.counterexamples_honest.specs.Premises.{IsServableIn, SaysFalsely, without_alone, without_answer_unforged, without_childless, without_ds, without_hashes_apart, without_keys_known, without_keys_published, without_keys_unforged, without_ordinary, without_uncut}
-use Rattle.counterexamples_honest.specs.Rows.{address_below, bare, below_redirect, beside_alias, chained_by_hand, cut_answer, cut_redirect, denied_by_hand, forged_answer, forged_keys, hashed_answer, hashed_apex, mixed_keys, next_handed, next_of_apex, next_of_cut, no_ds, of_alias, of_cut_redirect, of_hand, of_redirected, own_keys, shared_hash, small, stranger_keys, twin_keys}
-use Rattle.counterexamples_honest.specs.World.{a, address, b, ds, example, false_address, fields, other, own_key, plain, twin, x, x_b}
+use Rattle.counterexamples_honest.specs.Premises.{SaysFalsely, without_answer_unforged, without_ds, without_hashes_apart, without_keys_known, without_keys_published, without_keys_unforged}
+use Rattle.counterexamples_honest.specs.Rows.{bare, forged_answer, forged_keys, hashed_answer, hashed_apex, mixed_keys, next_of_apex, no_ds, own_keys, shared_hash, small, stranger_keys, twin_keys}
+use Rattle.counterexamples_honest.specs.World.{a, ds, example, false_address, fields, other, own_key, plain, twin}
 use Rattle.counterexamples_honest.proofs.Dealt.{at_place, foreign, no_signature, signed, unforged}
-use Rattle.counterexamples_honest.proofs.Handed.{delegation, name, opaque, signable}
+use Rattle.counterexamples_honest.proofs.Handed.{name, signable}
 use Rattle.counterexamples_honest.proofs.HonestRows.{small_row}
 use Rattle.counterexamples_honest.proofs.Known.{foreign_known, no_stranger, own_known}
-use Rattle.counterexamples_honest.proofs.OwnKeys.{a_is, b_is, bare_is, bare_served, example_is, in_order, item, keys_over, no_type, own_keys_known, own_keys_unforged, read_of, signed_from, soa_is, x_b_is, x_is}
-use Rattle.counterexamples_honest.proofs.Row.{AnswerUnforged, IsInOrder, IsRow, KeysUnforged, Row, SignedOf, alias_in_one, handed_in, honest_in, not_one, of_version, own_published}
+use Rattle.counterexamples_honest.proofs.OwnKeys.{a_is, bare_is, bare_served, example_is, in_order, item, keys_over, own_keys_known, own_keys_unforged, read_of, signed_from}
+use Rattle.counterexamples_honest.proofs.Row.{AnswerUnforged, IsInOrder, IsRow, KeysUnforged, Row, SignedOf, handed_in, honest_in, not_one, of_version, own_published}
 
 -- ---- no DS record
 

@@ -1,5 +1,5 @@
 -- Rows that are honest.
-use Rattle.std.proofs.Common.{◌≡◌, ℕ, List, [], ◌∷◌, ◌++◌, refl, inl}
+use Rattle.std.proofs.Common.{[], ◌∷◌, ◌++◌, refl, inl}
 use Rattle.std.specs.Prelude.{Contains}
 use Rattle.definitions.specs.Bitmap.{octet_of, window_count, window_size}
 use Rattle.definitions.specs.Dnskey.{dnskey_data}

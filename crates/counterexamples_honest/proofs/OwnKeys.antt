@@ -1,32 +1,30 @@
 -- What rows share: names, records, zones in order, what was signed, and the DNSKEY answer of the zone's key.
-use Rattle.std.proofs.Common.{◌≡◌, ℕ, Bool, true, false, List, [], ◌∷◌, length, Ok, refl, sym, ap, ◌∙◌}
-use Rattle.std.specs.Prelude.{◌==◌, Contains, Result, Err, get_or, nat_lt}
+use Rattle.std.proofs.Common.{◌≡◌, ℕ, Bool, true, false, List, [], ◌∷◌, length, Ok, refl, sym, ◌∙◌}
+use Rattle.std.specs.Prelude.{◌==◌, Result, Err, get_or}
 use Rattle.std.specs.List.{AllByRecursion, list_any}
 use Rattle.std.proofs.lemmas.Bool.{and_parts, false≢true}
-use Rattle.definitions.specs.Dnskey.{Dnskey, dnskey_data}
+use Rattle.definitions.specs.Dnskey.{dnskey_data}
 use Rattle.definitions.specs.Limits.{pointer_limit}
 use Rattle.definitions.specs.Name.{IsName, Name, labels_eq, low}
 use Rattle.definitions.specs.Reading.{most_heads}
 use Rattle.definitions.specs.Signing.{Fields, signed_octets}
 use Rattle.definitions.specs.Zone.{Rr, Zone, has, is_of}
-use Rattle.definitions.specs.ZoneChain.{Mode, Nsec}
+use Rattle.definitions.specs.ZoneChain.{Nsec}
 use Rattle.definitions.proofs.Members.{any_of}
 use Rattle.denial_laws.specs.Truth.{IsServable}
 use Rattle.messages.specs.Handed.{IsHanded}
 use Rattle.messages.specs.HandedRr.{HandedRr}
 use Rattle.messages.specs.declared.error.MessageError.{MessageError}
 use Rattle.messages.specs.Message.{Message, Spelled, message, owner_at}
-use Rattle.messages.proofs.Lists.{Has, all_at, all_fail}
-use Rattle.answer_shared.specs.Accepted.{IsAccepted}
+use Rattle.messages.proofs.Lists.{all_at, all_fail}
 use Rattle.answer_shared.specs.Accepting.{IsFaultless, has_unlike_ttls, soas, sorted_records, zone_of}
 use Rattle.answer_shared.proofs.Servable.{servable}
-use Rattle.answer_honest.specs.Honest.{NoStranger, NothingForged, Signing, SignedOfKeys, SignedOfVersion, WasSigned, sought_of_keys}
-use Rattle.answer_honest.specs.Versions.{IsRrsetOf, Version, zone_in}
-use Rattle.answer_judge_facts.specs.Times.{Times}
+use Rattle.answer_honest.specs.Honest.{NoStranger, NothingForged, Signing, SignedOfKeys, WasSigned, sought_of_keys}
+use Rattle.answer_honest.specs.Versions.{Version, zone_in}
 use Rattle.answer_judge_keys.specs.Judging.{Handing}
 use Rattle.answer_judge_keys.proofs.GivenSorted.{in_has}
 use Rattle.counterexamples_honest.specs.Premises.{IsServableIn, Premises, Where}
-use Rattle.counterexamples_honest.specs.Rows.{bare, first_version, own, own_keys, second_version, handing, small, starred}
+use Rattle.counterexamples_honest.specs.Rows.{bare, first_version, own_keys, second_version, handing, small, starred}
 use Rattle.counterexamples_honest.specs.World.{a, address, b, c, ds, example, fields, own_key, plain, soa, star, text, x, x_b}
 use Rattle.counterexamples_honest.proofs.Dealt.{at_place, no_signature, signed, unforged}
 use Rattle.counterexamples_honest.proofs.Handed.{name, opaque, signable, soa_handed}

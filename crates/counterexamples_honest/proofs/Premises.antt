@@ -1,5 +1,5 @@
 -- With all premises messages are honest, and no verdict on them is false.
-use Rattle.std.proofs.Common.{◌≡◌, ℕ, List, sym, inr}
+use Rattle.std.proofs.Common.{ℕ, List, sym, inr}
 use Rattle.std.specs.Prelude.{Contains}
 use Rattle.std.specs.List.{AllByRecursion}
 use Rattle.definitions.specs.Dnskey.{Dnskey}

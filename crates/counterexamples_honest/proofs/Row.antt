@@ -1,12 +1,12 @@
 -- What is handed in of a row is honest as far as some premises ask.
-use Rattle.std.proofs.Common.{◌≡◌, ℕ, Bool, true, false, List, [], ◌∷◌, length, refl, sym, ap, ◌∙◌, inl, inr}
+use Rattle.std.proofs.Common.{◌≡◌, ℕ, true, false, List, [], ◌∷◌, length, refl, sym, ap, ◌∙◌, inl, inr}
 use Rattle.std.specs.Prelude.{Contains, nat_le, nat_lt}
 use Rattle.std.specs.List.{AllByRecursion, list_any}
 use Rattle.std.proofs.lemmas.Bool.{false≢true}
 use Rattle.definitions.specs.Dnskey.{Dnskey, Ds}
 use Rattle.definitions.specs.Limits.{pointer_limit}
 use Rattle.definitions.specs.Name.{IsName, Name}
-use Rattle.definitions.specs.Signing.{Fields, label_count, signed_octets}
+use Rattle.definitions.specs.Signing.{label_count, signed_octets}
 use Rattle.definitions.specs.Zone.{Verdict}
 use Rattle.denial_laws.specs.Truth.{NoSharedHash}
 use Rattle.messages.specs.Handed.{IsHanded}

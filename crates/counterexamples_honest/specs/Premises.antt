@@ -4,7 +4,7 @@ use Rattle.std.specs.List.{AllByRecursion}
 use Rattle.definitions.specs.Dnskey.{Dnskey}
 use Rattle.definitions.specs.Limits.{pointer_limit}
 use Rattle.definitions.specs.Name.{IsName, Name, strictly_above}
-use Rattle.definitions.specs.Zone.{Verdict, Zone, apex_of, data_at, has, is_delegation, owners, star_under}
+use Rattle.definitions.specs.Zone.{Verdict, Zone, apex_of, has, is_delegation, owners}
 use Rattle.denial_laws.specs.Truth.{NoSharedHash, delegates_star, is_added_type}
 use Rattle.messages.specs.Handed.{IsHanded}
 use Rattle.messages.specs.Message.{AreOctets}
