@@ -75,11 +75,11 @@ same_try_is t u e =
 -- one that is among those that pass passes
 pub among_passes : (test : SignatureTest) (t : Tried) (asks : List Tried) → list_any (is_same_try t) asks ≡ true → PassesEach asks test → passes_by test t ≡ true
 among_passes test t [] any each = absurd (false≢true any)
-among_passes test t (a ∷ asks) any each = go (is_same_try t a) refl any
+among_passes test t (a ∷ asks) any each = go (is_same_try t a) refl any (λ h. among_passes test t asks h each.1)
   where
-    go : (b : Bool) → is_same_try t a ≡ b → (b || list_any (is_same_try t) asks) ≡ true → passes_by test t ≡ true
-    go true same h = subst (λ u. passes_by test u ≡ true) (same_try_is t a same) each.0
-    go false other h = among_passes test t asks h each.1
+    go : (b : Bool) → is_same_try t a ≡ b → (b || list_any (is_same_try t) asks) ≡ true → (list_any (is_same_try t) asks ≡ true → passes_by test t ≡ true) → passes_by test t ≡ true
+    go true same h rest = subst (λ u. passes_by test u ≡ true) (same_try_is t a same) each.0
+    go false other h rest = rest h
 
 -- a list that grew by one, all of one kind
 pub all_less : {X : Type 0} (P : X → Type 0) (xs : List X) (x : X) → AllByRecursion P (xs ++ x ∷ []) → AllByRecursion P xs × P x

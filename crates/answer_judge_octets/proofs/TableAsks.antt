@@ -1,5 +1,5 @@
 -- What comes of a judgement that goes on at signatures which a table lacks, as if they passed.
-use Rattle.std.proofs.Common.{◌≡◌, ℕ, ◌<◌, ◌≤◌, length, arith, Bool, true, false, List, [], ◌∷◌, ap, sym, ◌∙◌, ⊎_elim}
+use Rattle.std.proofs.Common.{◌≡◌, ◌==◌, ℕ, ◌<◌, ◌≤◌, length, arith, Bool, true, false, List, [], ◌∷◌, zero, suc, ap, sym, ◌∙◌, ⊎_elim}
 use Rattle.std.specs.Prelude.{Result, unwrap_or}
 use Rattle.std.specs.List.{AllByRecursion}
 use Rattle.std.proofs.lemmas.Bool.{false≢true}
@@ -20,6 +20,11 @@ use Rattle.answer_judge_octets.proofs.HonestTable.{stays_honest}
 pub none_each : (asks : List Tried) (test : SignatureTest) → length asks ≡ 0 → PassesEach asks test
 none_each [] test none = tt
 none_each (t ∷ asks) test none = absurd (omega (arith, none))
+
+-- something is asked for
+pub some_asked : (n : ℕ) → (n == 0) ≡ false → 0 < n
+some_asked zero e = cc
+some_asked (suc n) e = omega arith
 
 -- with memory enough a count is what is due
 pub counted : (answer : Answer) (count due : ℕ) → is_out_of_memory answer ≡ false → Counts answer count due → count ≡ due

@@ -104,7 +104,6 @@ impl<'t, 's, T: Told, L: Ledger, M: Ledger> Checks for TableChecks<'t, 's, T, L,
 
     ghost hashed = { λ c. c.hashed };
 
-    #[tactic(auto, using(crate::proofs::AsksGrow::agrees_kept))]
     fn verify(&mut self, key: &Dnskey<&[u8]>, octets: &[u8], signature: &[u8]) -> bool {
         self.verified.tick();
         if let Some(passes) = entry_of(self.table, key, octets, signature) {

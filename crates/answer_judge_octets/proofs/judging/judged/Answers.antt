@@ -1,11 +1,11 @@
-use Rattle.std.proofs.Common.{◌≡◌, ◌<◌, false, length, subst, sym, ◌∙◌, arith, rules}
+use Rattle.std.proofs.Common.{◌≡◌, ◌==◌, false, length, ap, subst, sym, ◌∙◌, arith, rules}
 use Rattle.definitions.specs.Limits.{pointer_limit}
 use Rattle.answer_scheme.specs.Answers.{SignatureTest}
 use Rattle.answer_judge_facts.specs.Asked.{is_tried_signature}
 use Rattle.answer_judge_keys.specs.Judging.{answer_of, verifications_of}
 use Rattle.answer_judge_octets.specs.Asking.{PassesEach, due_by, is_out_of_memory}
 use Rattle.answer_judge_octets.specs.Table.{answers_with, may_pass_in, tried}
-use Rattle.answer_judge_octets.proofs.TableAsks.{are_asked, counted, is_judged, none_each}
+use Rattle.answer_judge_octets.proofs.TableAsks.{are_asked, counted, is_judged, none_each, some_asked}
 use Rattle.answer_judge_octets.proofs.judging.judged.Goals as goal
 
 pub returns-then-is_empty : goal.returns-then-is_empty
@@ -26,7 +26,7 @@ returns g c =
     let each = e.asked is_tried (λ key octets signature t. t) (subst (λ xs. PassesEach xs is_tried) (sym c.new-checks.ensures.asks) tt) in
     let enough : is_out_of_memory (answer_of c.judge-judged.result) ≡ false = sym c.ran_out.ensures ∙ c.if-ran_out.false in
     let due = counted (answer_of c.judge-judged.result) (verifications_of c.judge-judged.result) (due_by (may_pass_in table) h) enough e.counts in
-    let some : 0 < length asks = search rules in
+    let some = some_asked (length asks) (sym (c.is_empty.ensures ∙ ap (λ n. n == 0) c.in_ok-asks.asks.ok.0) ∙ c.if-is_empty.false) in
     are_asked table h c.judge-judged.result asks c.judge-judged.new.checks.verified some c.in_ok-asks.ensures.new c.in_ok-asks.ensures.counted
     (omega (arith, e.verified, c.new-checks.ensures.verified, e.judges.verifications_bound))
     (omega (arith, e.verified, c.new-checks.ensures.verified, due))
