@@ -13,6 +13,8 @@ REFUSALS = [
     *("MixedNsec3Parameters", "IterationsOverLimit", "HashFailed", "NotProven", "Memory", "MixedVersions", "TooLong"),
 ]
 NUMBERS = {word: at for at, word in enumerate(VERDICTS)} | {word: 16 + at for at, word in enumerate(REFUSALS)}
+# What a zone says of an alias: no reply says it.
+NUMBERS["Alias"] = 255
 
 
 def part(octets: bytes, width: int = 2) -> bytes:
