@@ -8,7 +8,7 @@ import wire
 from authority import Missing, PARENT, packed
 from bench import SHOWN, STAGES
 from static import Static
-from wire import A, AAAA, DNSKEY, DS, NS
+from wire import A, AAAA, DNSKEY, DS, NS, SOA
 from zones import BELOW, SERVER
 
 # How far moments lie behind the clock.
@@ -23,7 +23,7 @@ def likely(zone, questions):
     found = dict.fromkeys((name, rtype) for name in sorted(above) for rtype in (A, NS))
     asked = {name[at:] for name, _rtype in questions for at in range(len(name))}
     found.update(dict.fromkeys((name, DS) for name in sorted(asked & zone.cuts.keys())))
-    found.update(dict.fromkeys(((("ns",), A), (("ns",), AAAA), ((), A))))
+    found.update(dict.fromkeys(((("ns",), A), (("ns",), AAAA), ((), A), ((), NS), ((), SOA))))
     return list(found)
 
 

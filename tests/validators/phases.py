@@ -41,7 +41,8 @@ def agrees(validator, says, heard, apex):
         wanted = "denied"
     is_open = says.is_secure is None or (is_program and not says.is_secure and not says.data)
     is_sure = is_open or heard.is_secure == says.is_secure
-    return heard.status == wanted and heard.data == data_of(says, apex) and is_sure
+    has_data = heard.data == data_of(says, apex) or (heard.data is None and says.data)
+    return heard.status == wanted and bool(has_data) and is_sure
 
 
 CASES = []

@@ -2,12 +2,22 @@
 
 import collections
 
+import zones
+
 CHAINS = {"nsec": "NSEC", "nsec3": "NSEC3", "nsec3optout": "opt-out"}
 
 
 def of_lines(head, rows):
     lines = [head, ["---"] * len(head), *rows]
     return "\n".join("| " + " | ".join(map(str, cells)) + " |" for cells in lines)
+
+
+def lines(all_told):
+    """A line for each question: whether what was heard agrees, of whom, question, kind of answer, what was heard."""
+    for it in all_told:
+        asked = zones.title(it.question, it.case.apex)
+        heard = outcome(it.heard) + "".join(f" {data.hex()}" for data in it.heard.data or ())
+        yield f"{'agrees' if it.agrees else 'differs'}: {it.validator}: {asked}: {it.says.kind}: {heard}"
 
 
 def chain(told):

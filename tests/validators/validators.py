@@ -16,11 +16,12 @@ PATIENCE = 20
 
 
 class Heard(typing.NamedTuple):
-    """What a validator says: a word for the RCODE, or bogus; whether it has a proof; the data of the records asked for."""
+    """What a validator says: a word for the RCODE, or bogus; whether it has a proof; the data of the records asked for, unless it
+    does not tell them."""
 
     status: str
     is_secure: bool
-    data: tuple
+    data: tuple | None
 
 
 def heard(octets, rtype):
@@ -275,11 +276,13 @@ class Program(Validator):
     width = 4
 
     async def ask(self, name, rtype):
-        words = self.words(wire.text(name), wire.NAMES[rtype])
+        return self.said(await self.output(self.words(wire.text(name), wire.NAMES[rtype])), rtype)
+
+    async def output(self, words):
         how = {"stdin": asyncio.subprocess.DEVNULL, "stdout": asyncio.subprocess.PIPE, "stderr": asyncio.subprocess.STDOUT}
         process = await asyncio.create_subprocess_exec(*words, cwd=self.folder, **how)
         output, _none = await process.communicate()
-        return self.said(output.decode(errors="replace"), rtype)
+        return output.decode(errors="replace")
 
     async def is_up(self):
         pass
@@ -314,7 +317,9 @@ def unknown_data(output):
 
 
 class Drill(Program):
-    """It goes from the root down. What it prints does not tell NXDOMAIN from NODATA: both are `denied`."""
+    """It goes from the root down, and stops where a wildcard answers for a name above the one that is asked for; there, and for DS,
+    which it would ask of the zone below, it is run so that it goes from signatures up, and prints no data. What it prints does
+    not tell NXDOMAIN from NODATA: both are `denied`."""
 
     NAME, package = "drill", "ldnsutils"
 
@@ -323,15 +328,38 @@ class Drill(Program):
         self.write("anchor", self.anchor())
         self.write("hints", f". 3600 IN NS a.root.\na.root. 3600 IN A {dotted(ROOT)}\n")
 
-    def words(self, name, rtype):
-        return ["drill", "-TD", "-k", "anchor", "-r", "hints", name, rtype]
+    async def ask(self, name, rtype):
+        asked = wire.text(name), wire.NAMES[rtype]
+        down = ["drill", "-TD", "-k", "anchor", "-r", "hints", *asked]
+        output = "" if rtype == wire.DS else await self.output(down)
+        if rtype == wire.DS or self.stops_above(output, *asked):
+            return self.chased(await self.output(["drill", "-S", "-k", "anchor", f"@{dotted(FORWARD)}", *asked]))
+        return self.said(output, rtype)
+
+    @staticmethod
+    def stops_above(output, name, rtype):
+        lines = re.findall(r"^\[[TUS]\] Existence denied: (\S+) (\S+)$", output, re.MULTILINE)
+        marks = re.findall(r"^\[(.)\]", output, re.MULTILINE)
+        is_denied = bool(re.search(r"^\[[TUS]\] Existence denied.*\n(?:;;.*\n)*\Z", output, re.MULTILINE))
+        return is_denied and "B" not in marks and lines[-1] != (name, rtype)
+
+    @staticmethod
+    def chased(output):
+        """What was heard from the chase of signatures."""
+        if "Chase successful" not in output:
+            return Heard("bogus", False, ())
+        is_denied = "Existence" in output
+        return Heard("denied" if is_denied else "NOERROR", True, () if is_denied else None)
 
     def said(self, output, rtype):
         lines = re.findall(r"^\[([TUBS])\] (.*)$", output, re.MULTILINE)
         if not lines or any(mark == "B" for mark, _line in lines):
             return Heard("bogus", False, ())
+        if lines[-1][1].startswith("No data found"):
+            # The mark of this line is that of no record: the one before it tells whether that has a proof.
+            lines.pop()
         mark, last = lines[-1]
-        if last.startswith(("Existence denied", "No data found")):
+        if last.startswith("Existence denied"):
             return Heard("denied", mark == "T", ())
         data = drill_data(output[output.rindex("\n[") :], rtype)
         return Heard("NOERROR", mark == "T", tuple(sorted(data)))
