@@ -329,6 +329,14 @@ class Drill(Program):
         self.write("hints", f". 3600 IN NS a.root.\na.root. 3600 IN A {dotted(ROOT)}\n")
 
     async def ask(self, name, rtype):
+        """It gives up where a server is late, so that it is asked anew where it has no proof."""
+        for _ in range(3):
+            heard = await self.asked(name, rtype)
+            if heard.status != "bogus":
+                break
+        return heard
+
+    async def asked(self, name, rtype):
         asked = wire.text(name), wire.NAMES[rtype]
         down = ["drill", "-TD", "-k", "anchor", "-r", "hints", *asked]
         output = "" if rtype == wire.DS else await self.output(down)
@@ -361,8 +369,8 @@ class Drill(Program):
         mark, last = lines[-1]
         if last.startswith("Existence denied"):
             return Heard("denied", mark == "T", ())
-        data = drill_data(output[output.rindex("\n[") :], rtype)
-        return Heard("NOERROR", mark == "T", tuple(sorted(data)))
+        data = tuple(sorted(drill_data(output[output.rindex("\n[") :], rtype)))
+        return Heard("NOERROR" if data else "bogus", mark == "T", data)
 
 
 def drill_data(text, rtype):
