@@ -1,5 +1,5 @@
-"""A name server on addresses of its own. Of the zones under test it hands out a publisher's messages, to which it adds what a server
-has to add, and nothing else: number, question as it was asked, EDNS, addresses of servers (glue), truncation.
+"""A name server on addresses of its own. Of the zones under test it hands out a publisher's messages, to which it adds what a
+server has to add, and nothing else: number, question as it was asked, EDNS, addresses of servers (glue), truncation.
 
 The root, the parent, and the zones below delegations are its own (see static.py). Each is on another address; on one address it
 answers for all of them, as a server does that forwards, for programs that only validate.

@@ -29,8 +29,8 @@ class Roll(typing.NamedTuple):
 
 
 class Life(typing.NamedTuple):
-    """The first keys of a zone, and rolls that begin at one time. A key's name is K (KSK), Z (ZSK) or C (CSK) and a number; from a
-    stroke on, of the other algorithm."""
+    """The first keys of a zone, and rolls that begin at one time. A key's name is K (KSK), Z (ZSK) or C (CSK) and a number, and
+    for a key of the other algorithm a stroke."""
 
     name: str
     first: str

@@ -1,4 +1,4 @@
-"""Zones under test, as a name server knows them: at one stage of a roll, of mixed stages, or against the clock; and zones of BIND."""
+"""Zones under test, as a name server knows them: at one stage of a roll, of mixed stages, or against the clock."""
 
 import random
 import threading
@@ -123,8 +123,8 @@ class Case(Zoned):
 
 
 class Clocked(Case):
-    """All stages, one after the other, at moments of the clock. Behind a change half the answers are still of the stage before, until
-    it is reported that all servers have it."""
+    """All stages, one after the other, at moments of the clock. Behind a change half the answers are still of the stage before,
+    until it is reported that all servers have it."""
 
     def __init__(self, source, below_key, questions, begin, steps):
         """`begin` is shared by processes: the moment at which the roll begins. Steps come so many seconds behind it."""

@@ -1,4 +1,4 @@
-"""Keys of a seed: ECDSA P-256 with SHA-256 (13), RSA with SHA-256 (8), Ed25519 (15); and what they sign."""
+"""Keys of a seed, ECDSA P-256 with SHA-256 (13) and RSA with SHA-256 (8), and what they sign."""
 
 import base64
 import hashlib
@@ -6,12 +6,12 @@ import math
 import random
 import struct
 
-from cryptography.hazmat.primitives import hashes, serialization
-from cryptography.hazmat.primitives.asymmetric import ec, ed25519, padding, rsa, utils
+from cryptography.hazmat.primitives import hashes
+from cryptography.hazmat.primitives.asymmetric import ec, padding, rsa, utils
 
 import wire
 
-RSA, ECDSA, EDWARDS = 8, 13, 15
+RSA, ECDSA = 8, 13
 ZONE, POINT = 256, 257
 ORDER = 0xFFFFFFFF00000000FFFFFFFFFFFFFFFFBCE6FAADA7179E84F3B9CAC2FC632551
 SMALL = [n for n in range(3, 2000, 2) if all(n % d for d in range(3, math.isqrt(n) + 1, 2))]
@@ -30,16 +30,6 @@ class Ecdsa:
     def sign(self, octets):
         r, s = utils.decode_dss_signature(self.secret.sign(octets, ec.ECDSA(hashes.SHA256())))
         return r.to_bytes(32, "big") + s.to_bytes(32, "big")
-
-
-class Edwards:
-    def __init__(self, seed):
-        self.secret = ed25519.Ed25519PrivateKey.from_private_bytes(octets_of(seed)[:32])
-        raw = serialization.Encoding.Raw, serialization.PublicFormat.Raw
-        self.public = self.secret.public_key().public_bytes(*raw)
-
-    def sign(self, octets):
-        return self.secret.sign(octets)
 
 
 class Rsa:
@@ -72,7 +62,7 @@ def ds_of(owner, data):
     return struct.pack(">HBB", wire.key_tag(data), data[3], 2) + digest
 
 
-KINDS = {RSA: Rsa, ECDSA: Ecdsa, EDWARDS: Edwards}
+KINDS = {RSA: Rsa, ECDSA: Ecdsa}
 
 
 class Key:

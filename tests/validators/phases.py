@@ -7,8 +7,6 @@ import time
 import typing
 
 import authority
-import validators
-import wire
 from validators import Drill, Heard, Program
 
 FORKED = multiprocessing.get_context("fork")
@@ -45,6 +43,11 @@ def agrees(validator, says, heard, apex):
     return heard.status == wanted and bool(has_data) and is_sure
 
 
+def address_of(at):
+    """The address of a validator by its number."""
+    return f"198.51.100.{21 + at}"
+
+
 CASES = []
 
 
@@ -76,7 +79,7 @@ class Phase:
         self.cases = cases
         self.tree.close()
         root = keys.by_name["root"]
-        self.validators = [kind(folder, f"198.51.100.{21 + at}", root) for at, kind in enumerate(kinds)]
+        self.validators = [kind(folder, address_of(at), root) for at, kind in enumerate(kinds)]
         self.servers = []
 
     async def __aenter__(self):
@@ -124,7 +127,8 @@ class Phase:
 
 
 async def by_the_clock(phase, begin, steps, per_second, drawn):
-    """Asks each resolver some questions about each zone, each second, while zones go through their stages, and for a while behind."""
+    """Asks each resolver some questions about each zone, each second, while zones go through their stages and for a while
+    behind."""
     begin.value = int(time.time()) + LEAD
     tasks = []
     while time.time() < begin.value + steps[-1] + LEAD:

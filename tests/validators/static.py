@@ -1,5 +1,5 @@
-"""Small zones that need no roll: the root, the parent of the zones under test, and those below their delegations. Signed by one key,
-with a chain of NSEC records, or not at all."""
+"""Small zones that need no roll: the root, the parent of the zones under test, and those below their delegations. One key signs
+them, with a chain of NSEC records, or none does."""
 
 import bisect
 import time

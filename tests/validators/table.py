@@ -47,8 +47,8 @@ def outcome(heard):
 
 
 def differences(all_told, of_bind):
-    """A row for each validator, chain, kind of answer and outcome that is not the zone's: how many, and what the validator says of
-    BIND's answer to the same question."""
+    """A row for each validator, chain, kind of answer and outcome that is not the zone's: how many, and what the validator says
+    of BIND's answer to the same question."""
     bind = {(it.case.zone.shape.name, it.question, it.validator): it for it in of_bind}
     found = collections.defaultdict(collections.Counter)
     for it in all_told:

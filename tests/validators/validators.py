@@ -1,4 +1,4 @@
-"""The six validators: four resolvers, each a process on an address of its own, and two programs that are run for each question."""
+"""The six validators: four resolvers, each a process on an address of its own, and two programs that are run for a question."""
 
 import asyncio
 import ipaddress
@@ -16,8 +16,8 @@ PATIENCE = 20
 
 
 class Heard(typing.NamedTuple):
-    """What a validator says: a word for the RCODE, or bogus; whether it has a proof; the data of the records asked for, unless it
-    does not tell them."""
+    """What a validator says: a word for the RCODE, or bogus; whether it has a proof; the data of the records asked for, unless
+    it does not tell them."""
 
     status: str
     is_secure: bool
@@ -296,7 +296,8 @@ class Delv(Program):
         self.write("anchor", f'trust-anchors {{ . static-key 257 3 {self.key.algorithm} "{self.key.base64}"; }};\n')
 
     def words(self, name, rtype):
-        return ["delv", f"@{dotted(FORWARD)}", "-b", self.address, "-a", "anchor", "+root=.", "+unknownformat", "-q", name, "-t", rtype]
+        how = [f"@{dotted(FORWARD)}", "-b", self.address, "-a", "anchor", "+root=.", "+unknownformat"]
+        return ["delv", *how, "-q", name, "-t", rtype]
 
     def said(self, output, rtype):
         data = tuple(sorted(data for of, data in unknown_data(output) if of == rtype))

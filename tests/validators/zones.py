@@ -1,4 +1,5 @@
-"""Zones that are drawn from seeds, the questions that each is asked, and what it says of them (RFC 1034, 4.3.2; RFC 4592; RFC 5155, 9.2).
+"""Zones that are drawn from seeds, the questions that each is asked, and what it says of them (RFC 1034, 4.3.2; RFC 4592;
+RFC 5155, 9.2).
 
 Names are tuples of labels below the apex, the lowest first: `()` is the apex.
 """
