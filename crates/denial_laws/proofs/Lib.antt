@@ -33,3 +33,5 @@ pub mod Nsec3Complete
 pub mod OneVerdict
 pub mod Truly
 mod ConcernedNames
+pub mod WireTells
+mod LeadsToOne

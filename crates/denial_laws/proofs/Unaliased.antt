@@ -25,7 +25,7 @@ redirector z (l ∷ q) h = elim (or_cases (has z q 39 && is_live z q) (is_redire
   | inr b ↦ let r = redirector z q b in (r.0, record { redirects = r.1.redirects; live = r.1.live; above = strictly_at r.0 q r.1.above })
 ]
 
-redirected_by : (z : Zone) (q d : Name) → low q ≡ q → IsRedirector z q d → is_redirected z q ≡ true
+pub redirected_by : (z : Zone) (q d : Name) → low q ≡ q → IsRedirector z q d → is_redirected z q ≡ true
 redirected_by z [] d lq k = absurd (false≢true k.above)
 redirected_by z (l ∷ q) d lq k = elim (above_cases d q k.above) [
   | inl m ↦

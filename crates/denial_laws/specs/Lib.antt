@@ -1,4 +1,5 @@
 pub mod Aliases
+pub mod Leading
 pub mod Facts
 pub mod NsecRules
 pub mod Nsec3Rules

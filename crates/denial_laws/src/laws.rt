@@ -1,4 +1,5 @@
 //! Laws of denial. Each is the contract of a function that does nothing.
+ghost use Rattle.denial_laws.specs.Leading.{OnlyAliasesLead, AliasesLeadToOne};
 ghost use Rattle.denial_laws.specs.Laws.{TrueFactsDecideTruly, OwnAnswersDecide, BothChainsSayTheSame, ConcernedAreNames, FewHashes, OneVerdict};
 
 /// Every question has exactly one verdict: the conditions under which a zone gives one or another shut each other out, and
@@ -36,4 +37,15 @@ pub fn concerned_are_names()
 /// each once, and behind them at most the wildcard under the last.
 pub fn few_hashes()
     ensures { FewHashes }
+{}
+
+/// A name that a CNAME or a DNAME of a zone leads elsewhere is an alias.
+pub fn only_aliases_lead()
+    ensures { OnlyAliasesLead }
+{}
+
+/// Where a zone's CNAME and DNAME records are in order, an alias leads to one name at most: to the CNAME's, or to what the DNAME
+/// above it makes of it, unless that would be too long (RFC 1034, 3.6.2; RFC 6672, 2.2).
+pub fn aliases_lead_to_one()
+    ensures { AliasesLeadToOne }
 {}
