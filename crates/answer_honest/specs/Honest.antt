@@ -126,9 +126,18 @@ pub record IsVersion (a : Answers) (h : Handing) (v : Version) : Type 0 where
 abbrev pub OneAtATime : List Signing → Type 0
 OneAtATime signings = (x y : Signing) → Contains signings x → Contains signings y → x.times ≡ y.times → x.version ≡ y.version
 
--- The zone never changed, or signatures must be of one moment, and at one moment there was one version.
-abbrev pub Settled : Bool → List Version → List Signing → Type 0
-Settled one_moment versions signings = (length versions ≡ 1) ⊎ ((one_moment ≡ true) × OneAtATime signings)
+-- The zone answer has one RRset that is sought, up to the case of its owner: what it proves rests on that alone.
+abbrev pub HasOneRrset : ℕ → Handing → Type 0
+HasOneRrset k h =
+    (read : Message) (o p : Name) (t u : ℕ) → message k h.answer_bytes ≡ Ok read
+    → (sought_of_answer k h read.records).is o t ≡ true → 0 < length ((sought_of_answer k h read.records).datas o t)
+    → (sought_of_answer k h read.records).is p u ≡ true → 0 < length ((sought_of_answer k h read.records).datas p u)
+    → (low o ≡ low p) × (t ≡ u)
+
+-- The zone never changed; or signatures must be of one moment, and at one moment there was one version; or the answer has one
+-- RRset that is sought, whatever its moment.
+abbrev pub Settled : ℕ → Handing → List Version → List Signing → Type 0
+Settled k h versions signings = (length versions ≡ 1) ⊎ (((h.one_moment ≡ true) × OneAtATime signings) ⊎ HasOneRrset k h)
 
 -- ---- what is handed in
 
@@ -144,7 +153,7 @@ pub record AreHonest (a : Answers) (k : ℕ) (h : Handing) (versions : List Vers
   pub ds_some : h.ds ≡ [] → ⊥
   pub flags_are : AllByRecursion (λ key. key.flags < 65536) published
   pub of_versions : AllByRecursion (λ s. Contains versions s.version) signings
-  pub settled : Settled h.one_moment versions signings
+  pub settled : Settled k h versions signings
   pub keys_honest : IsHonest a k h published (WasSigned a h.apex published signings) (sought_of_keys h) h.dnskey_bytes
   pub keys_known : NoStranger a k h published
   pub answer_honest : IsHonest a k h published (WasSigned a h.apex published signings) (sought_of_answer k h) h.answer_bytes

@@ -28,12 +28,11 @@ use Rattle.answer_judge_keys.specs.Trusted.{labels_fit, may_expand}
 use Rattle.answer_judge_facts.specs.Judged.{trusting}
 use Rattle.answer_judge_keys.specs.Judging.{Handing}
 use Rattle.answer_judge_facts.specs.Sought.{answer_sought}
-use Rattle.answer_judge_facts.specs.Times.{proof_times, times_of}
 use Rattle.answer_judge_facts.specs.Verified.{Trusting, datum_of, hash_link_at, hash_link_with, is_hash_alone, is_hash_link, is_link, is_verified, link_at, link_of, rrset_in, verified_by, verified_rrset}
 use Rattle.answer_judge.proofs.GivenNext.{canonical_nsec, canonical_nsec3}
 use Rattle.answer_judge_keys.proofs.GivenSorted.{data_has}
 use Rattle.answer_judge_facts.proofs.JudgeCase.{rrset_in-owner, signed_owner-owner}
-use Rattle.answer_judge_facts.proofs.JudgeTimes.{first_used, sought-owner}
+use Rattle.answer_judge_facts.proofs.JudgeTimes.{sought-owner}
 use Rattle.answer_judge_facts.proofs.KeptItems.{kept_has, mapped, only_item, when}
 use Rattle.answer_judge.proofs.HonestReads.{IsDatum, message_read, rrset_read}
 use Rattle.answer_judge.proofs.HonestTold.{IsOf, IsOfSigning, Tells, owner_whole, signed_of_version}
@@ -174,9 +173,8 @@ module _ (a : Answers) (k : ℕ) (h : Handing) (published : List Dnskey) (signin
 abbrev pub IsOfVersion : Answers → ℕ → Handing → Version → Message → List Dnskey → Type 0
 IsOfVersion a k h v read keys =
     (owner : Name) (u : ℕ) → (sought_of_answer k h read.records).is owner u ≡ true → eqb u 48 ≡ false
-    → (x : Found (trusting a h keys) k h.answer_bytes read.records owner u (rrset_in k h.answer_bytes read.records owner u))
-    → Has (proof_times (trusting a h keys) k h.answer_bytes read.records h.asked.name h.asked.rtype) (times_of x.by.fields)
-    → IsOf h.apex (hash_in a.hash v.mode) v x.by.fields owner (rrset_in k h.answer_bytes read.records owner u)
+    → (f : Fields) → verified_by (trusting a h keys) k h.answer_bytes read.records owner u (rrset_in k h.answer_bytes read.records owner u) ≡ Some f
+    → IsOf h.apex (hash_in a.hash v.mode) v f owner (rrset_in k h.answer_bytes read.records owner u)
 
 module _ (a : Answers) (k : ℕ) (h : Handing) (v : Version) (known : IsKnown h.apex v) (read : Message) (keys : List Dnskey) (asked : is_foreign_type h.asked.rtype ≡ false) (is_of : IsOfVersion a k h v read keys) where
   abbrev zone_here : Zone
@@ -205,7 +203,7 @@ module _ (a : Answers) (k : ℕ) (h : Handing) (v : Version) (known : IsKnown h.
       → (x : Found w k m read.records owner u (rrset owner u)) × IsOf h.apex hash v x.by.fields owner (rrset owner u) × (x.by.fields ≡ f)
   used owner u sought other f e =
       let first = first_verifying w k m read.records owner u (rrset owner u) f e in
-      (first.0, is_of owner u sought other first.0 (subst (λ (y : Fields). Has (proof_times w k m read.records q t) (times_of y)) (sym first.1) (first_used w k m read.records q t owner u sought f e)), first.1)
+      (first.0, subst (λ (y : Fields). IsOf h.apex hash v y owner (rrset owner u)) (sym first.1) (is_of owner u sought other f e), first.1)
 
   -- ---- the RRset of the question
 

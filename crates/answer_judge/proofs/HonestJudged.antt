@@ -1,5 +1,5 @@
 -- Of honest messages a judge says the verdict of a version in which the name is no alias, or refuses.
-use Rattle.std.proofs.Common.{◌≡◌, ℕ, Bool, true, false, not, ◌&&◌, ◌||◌, List, [], ◌∷◌, length, filter, refl, sym, ap, subst, ◌∙◌, inl, inr, ⊎_elim, arith}
+use Rattle.std.proofs.Common.{◌≡◌, ◌⊎◌, ℕ, Bool, true, false, not, ◌&&◌, ◌||◌, List, [], ◌∷◌, length, filter, refl, sym, ap, subst, ◌∙◌, inl, inr, ⊎_elim, arith}
 use Rattle.std.specs.Prelude.{Contains, nat_eq, nat_le}
 use Rattle.std.proofs.lemmas.Bool.{false≢true}
 use Rattle.definitions.specs.Dnskey.{Dnskey}
@@ -17,7 +17,7 @@ use Rattle.answer_shared.specs.Accepting.{record_cmp}
 use Rattle.answer_shared.specs.Chainable.{HasChain}
 use Rattle.answer_shared.specs.Hashing.{Hasher, hash_in}
 use Rattle.answer_shared.proofs.Servable.{asked_inside}
-use Rattle.answer_honest.specs.Honest.{AnswersHonest, AreHonest, FewIterations, IsSaidByOne, IsVersion, OneAtATime, SaysOneOf, Settled, Signing}
+use Rattle.answer_honest.specs.Honest.{AnswersHonest, AreHonest, FewIterations, HasOneRrset, IsSaidByOne, IsVersion, OneAtATime, SaysOneOf, Settled, Signing}
 use Rattle.answer_honest.specs.Versions.{Version, zone_in}
 use Rattle.answer_judge_keys.specs.Trusted.{is_usable}
 use Rattle.answer_judge_facts.specs.Judged.{AnswersAs, judged, keys_of}
@@ -56,11 +56,14 @@ first_of : {A : Type 0} (xs : List A) → (xs ≡ [] → ⊥) → (x : A) × Has
 first_of [] h = absurd (h refl)
 first_of (x ∷ xs) h = (x, inl refl)
 
--- that are settled: at one moment there is one
-one_at_a_time : (h : Handing) (versions : List Version) (signings : List Signing) → ((s : Signing) → Has signings s → Has versions s.version) → Settled h.one_moment versions signings → AreOfOne h signings
-one_at_a_time h versions signings of settled x y i j alike = ⊎_elim
-    (λ (single : length versions ≡ 1). only_one versions x.version y.version single (of x i) (of y j))
-    (λ (s : (h.one_moment ≡ true) × OneAtATime signings). s.1 x y (contained_has signings x i) (contained_has signings y j) (alike s.0))
+-- that are settled: at one moment there is one, or the answer has one RRset
+settled_so : (k : ℕ) (h : Handing) (versions : List Version) (signings : List Signing) → ((s : Signing) → Has signings s → Has versions s.version) → Settled k h versions signings → AreOfOne h signings ⊎ HasOneRrset k h
+settled_so k h versions signings of settled = ⊎_elim
+    (λ (single : length versions ≡ 1). inl (λ x y i j alike. only_one versions x.version y.version single (of x i) (of y j)))
+    (λ (more : ((h.one_moment ≡ true) × OneAtATime signings) ⊎ HasOneRrset k h). ⊎_elim
+    (λ (s : (h.one_moment ≡ true) × OneAtATime signings). inl (λ x y i j alike. s.1 x y (contained_has signings x i) (contained_has signings y j) (alike s.0)))
+    (λ (single : HasOneRrset k h). inr single)
+    more)
     settled
 
 -- hashes of a version's chain fit records
@@ -89,8 +92,8 @@ module _ (a : Answers) (k : ℕ) (h : Handing) (versions : List Version) (x : Ar
       let signers : (key : Dnskey) → Has usable key → IsSigner x.published key = λ key i. record { known = published key (filter_from is_usable keys key i); usable = (passes_has is_usable keys key i).1 } in
       let asked : is_foreign_type h.asked.rtype ≡ false = plain_type h.asked.rtype (asked_inside h.apex h.asked said.allowed).asked_type in
       let spare = first_of versions x.one in
-      let used : IsChosen a k h x.published x.signings said.answer x.answer_honest said.answer_read usable signers (not_keys h.asked.rtype asked) (one_at_a_time h versions x.signings of_versions x.settled) versions =
-      chosen a k h x.published x.signings said.answer x.answer_honest said.answer_read usable signers (not_keys h.asked.rtype asked) (one_at_a_time h versions x.signings of_versions x.settled) said.of_one_moment versions of_versions spare.0 spare.1 in
+      let used : IsChosen a k h x.published x.signings said.answer x.answer_honest said.answer_read usable signers (not_keys h.asked.rtype asked) versions =
+      chosen a k h x.published x.signings said.answer x.answer_honest said.answer_read usable signers (not_keys h.asked.rtype asked) said.of_one_moment versions of_versions (settled_so k h versions x.signings of_versions x.settled) spare.0 spare.1 in
       let version : Version = used.version in
       let is : IsVersion a h version = version_is version used.there in
       let hash : Name → List ℕ = hash_in a.hash version.mode in

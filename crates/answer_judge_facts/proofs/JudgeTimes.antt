@@ -147,10 +147,15 @@ first_times w k m rs o t = option_map times_of (verified_by w k m rs o t (rrset_
 by-owner : (w : Trusting) (k : ℕ) (m : List ℕ) (rs : List Spelled) (a b : Name) (t : ℕ) (items : List (List ℕ)) → low a ≡ low b → verified_by w k m rs a t items ≡ verified_by w k m rs b t items
 by-owner w k m rs a b t items h = λ i. first_some (λ r. elim (verifies_with-owner w k m a b t items r h i) as (λ _. Option Fields) [ true ↦ option_map (λ f. f.0) (rrsig_at k m r) | false ↦ None ]) rs
 
+-- an RRset under its owner in another case is verified by the same signature
+pub alike_verified : (w : Trusting) (k : ℕ) (m : List ℕ) (rs : List Spelled) (a b : Name) (t u : ℕ) → low a ≡ low b → t ≡ u
+    → verified_by w k m rs a t (rrset_in k m rs a t) ≡ verified_by w k m rs b u (rrset_in k m rs b u)
+alike_verified w k m rs a b t u h e =
+    by-owner w k m rs a b t (rrset_in k m rs a t) h ∙ ap (verified_by w k m rs b t) (rrset_in-owner k m rs a b t h)
+    ∙ ap (λ n. verified_by w k m rs b n (rrset_in k m rs b n)) e
+
 alike_times : (w : Trusting) (k : ℕ) (m : List ℕ) (rs : List Spelled) (a b : Name) (t u : ℕ) → low a ≡ low b → t ≡ u → first_times w k m rs a t ≡ first_times w k m rs b u
-alike_times w k m rs a b t u h e =
-    ap (option_map times_of) (by-owner w k m rs a b t (rrset_in k m rs a t) h ∙ ap (verified_by w k m rs b t) (rrset_in-owner k m rs a b t h))
-    ∙ ap (first_times w k m rs b) e
+alike_times w k m rs a b t u h e = ap (option_map times_of) (alike_verified w k m rs a b t u h e)
 
 -- an RRset that is sought is that of a record
 pub sought-owner : (k : ℕ) (m : List ℕ) (apex : Name) (rs : List Spelled) (q : Name) (t : ℕ) (a b : Name) (u : ℕ) → low a ≡ low b → (answer_sought k m apex rs q t).is a u ≡ (answer_sought k m apex rs q t).is b u

@@ -25,7 +25,7 @@ use Rattle.answer_scheme.specs.Moments.{second_of}
 use Rattle.answer_honest.specs.Honest.{FewIterations, IsVersion, OneAtATime, Settled, Signing}
 use Rattle.answer_judge.specs.Meeting.{IsJudgement}
 use Rattle.answer_judge.specs.OwnMessages.{signing_of}
-use Rattle.answer_judge_keys.specs.Judging.{answer_of, hashes_of, verifications_of}
+use Rattle.answer_judge_keys.specs.Judging.{Handing, answer_of, hashes_of, verifications_of}
 use Rattle.answer_judge_keys.specs.declared.verdict.Judgement.{Judgement}
 use Rattle.answer_judge_keys.specs.declared.verdict.Refused.{Refused}
 use Rattle.answer_judge.proofs.GivenFacts.{fitting}
@@ -189,9 +189,9 @@ some_version w [] rs h e = has_contained [] rs h
 some_version w (x ∷ all) rs h e = cc
 
 -- at one moment there was one version
-settled_so : (w : World) (y : Story) → (AreTimely y.times → OneAtATime y.signings) → IsSettled y → Settled true (map (version_of w) y.versions.all) y.signings
-settled_so w y one (inl e) = inl (length-map y.versions.all (version_of w) ∙ e)
-settled_so w y one (inr timely) = inr (refl, one timely)
+settled_so : (w : World) (h : Handing) (y : Story) → h.one_moment ≡ true → (AreTimely y.times → OneAtATime y.signings) → IsSettled y → Settled pointer_limit h (map (version_of w) y.versions.all) y.signings
+settled_so w h y on one (inl e) = inl (length-map y.versions.all (version_of w) ∙ e)
+settled_so w h y on one (inr timely) = inr (inl (on, one timely))
 
 honestly : (w : World) (y : Story) (s : Sofar) (at : ℕ) (set : List Ds) (keys bytes : List ℕ) (asked : Asked) (j : Result Judgement Refused) → IsName w.zone.apex → AllByRecursion (IsVersionOf w) y.versions.all → (AreTimely y.times → OneAtATime y.signings)
     → IsSo w y.signings y.past y.versions s → IsQuestion asked → Judges w at set keys bytes asked j → SaysOneHonestly w y s at set keys bytes asked (answer_of j)
@@ -205,7 +205,7 @@ honestly w y s at set keys bytes asked j apex all one known question judges hone
   ds_some = honest.some;
   flags_are = all_flags w (y.past ++ s.keys ∷ []) known.bound;
   of_versions = known.of_versions;
-  settled = settled_so w y one settled;
+  settled = settled_so w (handing w set keys bytes asked at) y refl one settled;
   keys_honest = honest.keys_honest;
   keys_known = honest.keys_known;
   answer_honest = honest.answer_honest;

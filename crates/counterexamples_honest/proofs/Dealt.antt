@@ -7,6 +7,8 @@ use Rattle.std.proofs.lemmas.Bool.{false≢true, leb-false, ltb-true}
 use lib.Pointwise.{bytes_decides}
 use Rattle.definitions.specs.Dnskey.{Dnskey}
 use Rattle.definitions.specs.Limits.{pointer_limit}
+use Rattle.definitions.specs.Name.{same}
+use Rattle.answer_judge_keys.specs.Trusted.{is_usable}
 use Rattle.definitions.specs.Signing.{Fields, in_time}
 use Rattle.messages.specs.Message.{AreOctets, Message, Spelled, message, rrsig_at}
 use Rattle.messages.proofs.Lists.{Has, all_at, all_fail, all_more, some_is}
@@ -33,6 +35,22 @@ abbrev pub IsDealt : Answers → ℕ → List Dnskey → (List ℕ → Type 0) �
 IsDealt a now published Signed m r =
     (f : Fields) (signature octets : List ℕ) (key : Dnskey) → r.rtype ≡ 46 → rrsig_at pointer_limit m r ≡ Some (f, signature)
     → in_time f now ≡ true → Has published key → a.verifies key octets signature ≡ true → Signed octets
+
+-- the same of those that a judge may use: the apex's, under a key that may sign
+abbrev pub IsDealtHere : Answers → Handing → List Dnskey → (List ℕ → Type 0) → List ℕ → Spelled → Type 0
+IsDealtHere a h published Signed m r =
+    (f : Fields) (signature octets : List ℕ) (key : Dnskey) → r.rtype ≡ 46 → rrsig_at pointer_limit m r ≡ Some (f, signature)
+    → in_time f h.now ≡ true → same f.signer h.apex ≡ true → Has published key → is_usable key ≡ true → a.verifies key octets signature ≡ true → Signed octets
+
+pub here : (a : Answers) (h : Handing) (published : List Dnskey) (Signed : List ℕ → Type 0) (m : List ℕ) (r : Spelled) → IsDealt a h.now published Signed m r → IsDealtHere a h published Signed m r
+here a h published Signed m r dealt f signature octets key kind fields time signer inside usable passes = dealt f signature octets key kind fields time inside passes
+
+pub unforged_here : (a : Answers) (h : Handing) (published : List Dnskey) (Signed : List ℕ → Type 0) (sought : List Spelled → Sought) (m : List ℕ) (read : Message) → message pointer_limit m ≡ Ok read → AllByRecursion (IsDealtHere a h published Signed m) read.records
+    → NothingForged a pointer_limit h published Signed sought m
+unforged_here a h published Signed sought m read reads dealt other r f signature key is used inside usable some passes =
+    let alike : other ≡ read = ok_is other read (sym is ∙ reads) in
+    all_at (IsDealtHere a h published Signed m) read.records r dealt (subst (λ (x : Message). Has x.records r) alike (has_contained other.records r used.there)) f signature (over (sought other.records) r f) key used.rtype_is used.reads used.timely used.signer_is
+    (has_contained published key inside) usable passes
 
 pub unforged : (a : Answers) (h : Handing) (published : List Dnskey) (Signed : List ℕ → Type 0) (sought : List Spelled → Sought) (m : List ℕ) (read : Message) → message pointer_limit m ≡ Ok read → AllByRecursion (IsDealt a h.now published Signed m) read.records
     → NothingForged a pointer_limit h published Signed sought m
@@ -73,6 +91,11 @@ pub signed : (now : ℕ) (Signed : List ℕ → Type 0) (m : List ℕ) (r : Spel
 signed now Signed m r g over is there f signature octets key kind fields time inside passes =
     let other : signature ≡ 0 ∷ 16 ∷ octets = by_own key octets signature inside passes in
     subst Signed (ap (drop 2) (sym (said m r f g signature (0 ∷ 16 ∷ over) fields is).1 ∙ other)) there
+
+-- by the apex of another zone
+pub of_another : (a : Answers) (h : Handing) (published : List Dnskey) (Signed : List ℕ → Type 0) (m : List ℕ) (r : Spelled) (g : Fields) (x : List ℕ) → rrsig_at pointer_limit m r ≡ Some (g, x) → same g.signer h.apex ≡ false → IsDealtHere a h published Signed m r
+of_another a h published Signed m r g x is unlike f signature octets key kind fields time signer inside usable passes =
+    absurd (false≢true (sym unlike ∙ ap (λ (y : Fields). same y.signer h.apex) (sym (said m r f g signature x fields is).0) ∙ signer))
 
 -- by a key with other octets
 pub foreign : (now : ℕ) (Signed : List ℕ → Type 0) (m : List ℕ) (r : Spelled) (g : Fields) (x : List ℕ) → rrsig_at pointer_limit m r ≡ Some (g, x) → bytes_eq (take 2 x) (0 ∷ 16 ∷ []) ≡ false → IsDealt plain now (own_key ∷ []) Signed m r

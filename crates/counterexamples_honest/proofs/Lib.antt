@@ -8,4 +8,5 @@ pub mod Mixtures
 pub mod OwnKeys
 pub mod Premises
 pub mod Quoted
+pub mod RefusedRows
 pub mod Row

@@ -22,7 +22,7 @@ use Rattle.counterexamples_honest.proofs.OwnKeys.{b_is, example_is, first_is, fi
 use Rattle.counterexamples_honest.proofs.Premises.{all_honest}
 use Rattle.counterexamples_honest.proofs.Row.{AnswerUnforged, IsInOrder, IsRow, Row, SignedOf, handed_in, honest_in, of_version, own_published}
 
-abbrev both : List Version
+abbrev pub both : List Version
 both = first_version ∷ second_version ∷ []
 
 -- the second version is signed at some second
@@ -38,16 +38,16 @@ mixed_row later = record {
   signings = signed_from first_version 1000 2000 ∷ signed_from second_version later (later + 1000) ∷ [];
 }
 
-first_row : (p : Premises) → IsInOrder p first_version
+pub first_row : (p : Premises) → IsInOrder p first_version
 first_row p = record { records_are = first_is; in_order = in_order p (zone_in example first_version) first_served; few = tt; chain = tt }
 
-second_row : (p : Premises) → IsInOrder p second_version
+pub second_row : (p : Premises) → IsInOrder p second_version
 second_row p = record { records_are = second_is; in_order = in_order p (zone_in example second_version) second_served; few = tt; chain = tt }
 
-of_first : Contains both first_version
+pub of_first : Contains both first_version
 of_first = at_place both first_version 0 refl refl
 
-of_second : Contains both second_version
+pub of_second : Contains both second_version
 of_second = at_place both second_version 1 refl refl
 
 -- neither version says that there is no such name
@@ -121,7 +121,7 @@ unfolding pointer_limit most_heads owner_at octet_of window_size window_count
 mixture = record {
   refused = record {
     honest = all_honest plain mixed both
-        (honest_in all (mixed_row 1100) apart_is (λ e. cc) own_published (inr (refl, apart_at_a_time))
+        (honest_in all (mixed_row 1100) apart_is (λ e. cc) own_published (inr (inl (refl, apart_at_a_time)))
         (own_keys_unforged (handed_in (mixed_row 1100)) refl (mixed_row 1100).signings) (own_keys_known (mixed_answer 1100) x 16) apart_unforged (tt, (tt, tt)));
     answers = refl;
   };

@@ -133,7 +133,7 @@ pub record AreHonestIn (p : Premises) (a : Answers) (h : Handing) (versions : Li
   pub of_versions : AllByRecursion (λ s. Contains versions s.version) signings
   pub ds_some : Where p.ds_some (h.ds ≡ [] → ⊥)
   pub keys_published : Where p.keys_published (AllByRecursion (Contains published) signed_keys)
-  pub settled : Where p.settled (Settled h.one_moment versions signings)
+  pub settled : Where p.settled (Settled pointer_limit h versions signings)
   pub keys_unforged : Where p.keys_unforged (NothingForged a pointer_limit h published (WasSigned a h.apex signed_keys signings) (sought_of_keys h) h.dnskey_bytes)
   pub keys_known : Where p.keys_known (NoStranger a pointer_limit h published)
   pub answer_unforged : Where p.answer_unforged (NothingForged a pointer_limit h published (WasSigned a h.apex signed_keys signings) (sought_of_answer pointer_limit h) h.answer_bytes)

@@ -4,11 +4,12 @@ use Rattle.std.specs.List.{flat_map}
 use Rattle.definitions.specs.Bitmap.{bitmap}
 use Rattle.definitions.specs.Dnskey.{Dnskey, Ds, dnskey_data}
 use Rattle.definitions.specs.Name.{Name, wire}
+use Rattle.definitions.specs.Signing.{Fields}
 use Rattle.definitions.specs.ZoneChain.{Nsec, Nsec3}
 use Rattle.messages.specs.HandedRr.{HandedRr}
 use Rattle.answer_judge_keys.specs.Judging.{Handing}
 use Rattle.answer_honest.specs.Versions.{Version}
-use Rattle.counterexamples_honest.specs.World.{a, address, address_of, alias_of, b, delegation_of, ds, example, false_address, fields, handed, message_of, other, own_key, redirect_of, rr, rrsig, soa, star, stranger, text_of, twin, x, x_b}
+use Rattle.counterexamples_honest.specs.World.{a, address, address_of, alias_of, b, delegation_of, ds, example, false_address, fields, handed, idle, message_of, other, own_key, redirect_of, rr, rrsig, soa, star, stranger, text_of, twin, x, x_b}
 
 -- ---- zones
 
@@ -200,3 +201,53 @@ of_cut_redirect = handing (ds ∷ []) own_keys cut_answer x_b 1
 
 abbrev pub of_hand : Handing
 of_hand = handing (ds ∷ []) own_keys denied_by_hand a 1
+
+-- ---- honest rows that a judge refuses, of whatever is forged where no judge may look
+
+-- an address that the zone's key signed for another zone
+abbrev pub other_signer : Fields
+other_signer = record (fields 1 2 3600 1000 2000 own_key) { signer = x }
+
+abbrev pub of_other_signer : Handing
+of_other_signer = address_handed own_keys (message_of a 1 2 (rr a 1 false_address ++ rrsig a other_signer own_key a (false_address ∷ [])))
+
+-- an address that a published key signed which is no zone key
+abbrev pub idle_keys : List ℕ
+idle_keys = keys_by own_key (dnskey_data idle ∷ dnskey_data own_key ∷ [])
+
+abbrev pub of_idle : Handing
+of_idle = address_handed idle_keys (address_by idle false_address 1000 2000)
+
+-- an alias, and the record of the chain that it has
+abbrev pub aliased : Version
+aliased = by_names (soa ∷ alias_of a x ∷ [])
+
+abbrev pub next_of_alias : List ℕ
+next_of_alias = wire example ++ bitmap (5 ∷ 46 ∷ 47 ∷ [])
+
+abbrev pub at_alias : Handing
+at_alias =
+    handing (ds ∷ []) own_keys
+    (message_of a 1 2 (rr a 47 next_of_alias ++ rrsig a (fields 47 2 0 1000 2000 own_key) own_key a (next_of_alias ∷ []))) a 1
+
+-- a DNAME, and the record of the chain that it has
+abbrev pub redirected : Version
+redirected = by_names (soa ∷ redirect_of b x ∷ [])
+
+abbrev pub next_of_redirect : List ℕ
+next_of_redirect = wire example ++ bitmap (39 ∷ 46 ∷ 47 ∷ [])
+
+abbrev pub below_redirected : Handing
+below_redirected =
+    handing (ds ∷ []) own_keys
+    (message_of x_b 1 2 (rr b 47 next_of_redirect ++ rrsig b (fields 47 2 0 1000 2000 own_key) own_key b (next_of_redirect ∷ []))) x_b 1
+
+-- of two versions that were signed in one second, the second for longer
+abbrev pub mixed_until : List ℕ
+mixed_until =
+    message_of x 16 4
+    (rr b 47 next_of_b ++ rrsig b (fields 47 2 0 1000 2000 own_key) own_key b (next_of_b ∷ [])
+    ++ rr example 47 next_of_apex_later ++ rrsig example (fields 47 1 0 1000 3000 own_key) own_key example (next_of_apex_later ∷ []))
+
+abbrev pub begun_at_once : Handing
+begun_at_once = handing (ds ∷ []) own_keys mixed_until x 16

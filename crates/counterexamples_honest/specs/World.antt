@@ -59,6 +59,10 @@ twin = key 256 (0 ∷ 17 ∷ [])
 abbrev pub other : Dnskey
 other = key 256 (0 ∷ 32 ∷ 0 ∷ [])
 
+-- a key of the zone that is no zone key
+abbrev pub idle : Dnskey
+idle = key 0 (0 ∷ 48 ∷ [])
+
 -- the DS record of the zone's key: the name has 9 octets in wire form, the data of its key 6
 abbrev pub ds : Ds
 ds = record { tag = 1054; algorithm = 13; digest_type = 2; digest = 15 ∷ [] }

@@ -3,10 +3,10 @@
 ghost use Rattle.std.specs.Prelude.{[], ◌∷◌};
 ghost use Rattle.definitions.specs.Zone.{NoName, Records};
 ghost use Rattle.answer_judge_keys.specs.Judging.{Says, Refuses};
-ghost use Rattle.answer_judge_keys.specs.declared.verdict.Refusal.TheVariants.{NoTrustedKey, NotProven};
+ghost use Rattle.answer_judge_keys.specs.declared.verdict.Refusal.TheVariants.{MixedVersions, NoTrustedKey, NotProven};
 ghost use Rattle.counterexamples_honest.specs.Premises.{AllAreHonest, IsHonestCase, IsMixture, NoneIsFalse, SaysFalsely, without_alone, without_answer_unforged, without_childless, without_ds, without_hashes_apart, without_keys_known, without_keys_published, without_keys_unforged, without_ordinary, without_settled, without_uncut};
 ghost use Rattle.counterexamples_honest.specs.Quoted.{QuotesAreHonest};
-ghost use Rattle.counterexamples_honest.specs.Rows.{first_version, forged_late, mixed, of_strangers, own, second_version, small, spliced, starred};
+ghost use Rattle.counterexamples_honest.specs.Rows.{aliased, at_alias, begun_at_once, below_redirected, first_version, forged_late, mixed, of_idle, of_other_signer, of_strangers, own, redirected, second_version, small, spliced, starred};
 ghost use Rattle.counterexamples_honest.specs.World.{address, plain};
 
 /// Messages that meet all premises are honest, and no verdict on them is false.
@@ -43,6 +43,36 @@ pub fn answers_of_strangers_are_honest()
 /// 5.3.1).
 pub fn what_is_forged_late_is_honest()
     ensures { IsHonestCase plain forged_late (small ∷ []) (Refuses NotProven) }
+{}
+
+/// So is an address that the zone's key signed for another zone: a judge that does not look at the signer would say it
+/// (RFC 4035, 5.3.1).
+pub fn what_is_signed_for_another_zone_is_honest()
+    ensures { IsHonestCase plain of_other_signer (small ∷ []) (Refuses NotProven) }
+{}
+
+/// So is an address that a published key signed which is no zone key: a judge that does not look at the bit of zone keys would
+/// say it (RFC 4034, 2.1.1).
+pub fn what_is_signed_by_no_zone_key_is_honest()
+    ensures { IsHonestCase plain of_idle (small ∷ []) (Refuses NotProven) }
+{}
+
+/// So is the record of the chain of an alias, which lacks the type: a judge that takes it as proof says NODATA at an alias
+/// (RFC 6840, 4.3).
+pub fn the_record_of_an_alias_is_honest()
+    ensures { IsHonestCase plain at_alias (aliased ∷ []) (Refuses NotProven) }
+{}
+
+/// So is the record of the chain of a DNAME, which covers the names below it: a judge that takes it as proof denies what is
+/// redirected (RFC 6840, 4.1).
+pub fn the_record_of_a_dname_is_honest()
+    ensures { IsHonestCase plain below_redirected (redirected ∷ []) (Refuses NotProven) }
+{}
+
+/// So are records of two versions that were signed in one second, the second for longer: a judge that compares inceptions alone
+/// calls a name missing that both versions have.
+pub fn versions_that_begin_at_once_are_honest()
+    ensures { IsHonestCase plain begun_at_once (first_version ∷ second_version ∷ []) (Refuses MixedVersions) }
 {}
 
 /// Beside an empty DS set nothing is verified, so each zone would be called unsigned (RFC 4035, 5.2).
