@@ -147,7 +147,7 @@ class Server:
     """Answers questions about a tree at one address."""
 
     def __init__(self, tree, address):
-        self.tree, self.address = tree, address
+        self.tree, self.address, self.finding = tree, address, {}
 
     async def answered(self, octets, limit=None):
         """The answer to a question in octets, cut off behind a limit."""
@@ -165,11 +165,15 @@ class Server:
         return whole
 
     async def found(self, question):
-        """What the tree says, when it knows it."""
+        """What the tree says, when it knows it. What many ask for is found once."""
+        asked = question.name.lower(), question.rtype
         try:
-            return self.tree.at(self.address, question.name.lower(), question.rtype)
+            return self.tree.at(self.address, *asked)
         except Missing as missing:
-            return await asyncio.get_running_loop().run_in_executor(None, missing.find)
+            if asked not in self.finding:
+                self.finding[asked] = asyncio.get_running_loop().run_in_executor(None, missing.find)
+                self.finding[asked].add_done_callback(lambda _it: self.finding.pop(asked))
+            return await self.finding[asked]
 
     @staticmethod
     def head(question, flags, counts):

@@ -8,7 +8,7 @@ import wire
 from authority import Missing, PARENT, packed
 from bench import SHOWN, STAGES
 from static import Static
-from wire import A, AAAA, DNSKEY, DS, NS, SOA
+from wire import A, AAAA, DNSKEY, DS, NS, NSEC, NSEC3, NSEC3PARAM, RRSIG, SOA
 from zones import BELOW, SERVER
 
 # How far moments lie behind the clock.
@@ -16,13 +16,16 @@ BEHIND = 3600
 # How long before the report the last server has a change, in seconds: answers may be under way.
 MARGIN = 0.5
 
+# Types that signing adds: a publisher shows the DNSKEY set, and refuses all other questions for these.
+ADDED = {RRSIG, NSEC, DNSKEY, NSEC3, NSEC3PARAM}
+
 
 def likely(zone, questions):
-    """What is asked on the way: names above those that are asked for, delegations, servers."""
-    above = {name[at:] for name, _rtype in questions for at in range(1, len(name))}
-    found = dict.fromkeys((name, rtype) for name in sorted(above) for rtype in (A, NS))
-    asked = {name[at:] for name, _rtype in questions for at in range(len(name))}
-    found.update(dict.fromkeys((name, DS) for name in sorted(asked & zone.cuts.keys())))
+    """What is asked on the way: names and those above them, delegations, the names right below the apex, servers."""
+    asked = sorted({name[at:] for name, _rtype in questions for at in range(len(name))})
+    found = dict.fromkeys((name, rtype) for name in asked for rtype in (A, NS))
+    found.update(dict.fromkeys((name, DS) for name in asked if len(name) == 1 or name in zone.cuts))
+    found.update(dict.fromkeys((("ns", *name), AAAA) for name in asked if name in zone.cuts))
     found.update(dict.fromkeys(((("ns",), A), (("ns",), AAAA), ((), A), ((), NS), ((), SOA))))
     return list(found)
 
@@ -54,8 +57,8 @@ class Shown:
         return [SERVER if target == b"\2ns" + self.source.apex else BELOW]
 
     def answer(self, name, rtype):
-        if rtype == DNSKEY and name == self.source.apex:
-            return self.dnskey
+        if rtype in ADDED:
+            return self.dnskey if (name, rtype) == (self.source.apex, DNSKEY) else None
         if (name, rtype) not in self.answers:
             raise Missing(lambda: self.found(name, rtype))
         return self.answers[name, rtype]

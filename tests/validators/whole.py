@@ -7,10 +7,8 @@ import wire
 from bench import LIVES, Plan
 from bind import line
 from cases import BEHIND
-from wire import A, DS, NSEC3, RRSIG, SRV, Record
+from wire import A, DS, NSEC3, NSEC3PARAM, RRSIG, SRV, Record
 from zones import SHAPES
-
-NSEC3PARAM = 51
 
 
 def questions(zone):

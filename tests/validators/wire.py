@@ -13,7 +13,7 @@ sys.path.append(str(pathlib.Path(__file__).resolve().parent.parent / "rollovers"
 from messages import key_tag, wire  # noqa: F401
 
 A, NS, CNAME, SOA, PTR, MX, TXT, AAAA, SRV, DS, RRSIG, NSEC, DNSKEY, NSEC3 = 1, 2, 5, 6, 12, 15, 16, 28, 33, 43, 46, 47, 48, 50
-OPT, CDS, CDNSKEY = 41, 59, 60
+OPT, NSEC3PARAM, CDS, CDNSKEY = 41, 51, 59, 60
 NUMBERS = {"A": A, "NS": NS, "SOA": SOA, "MX": MX, "TXT": TXT, "AAAA": AAAA, "DS": DS, "DNSKEY": DNSKEY, "CDS": CDS, "SRV": SRV}
 NAMES = {number: name for name, number in NUMBERS.items()} | {CDNSKEY: "CDNSKEY", RRSIG: "RRSIG", NSEC: "NSEC", NSEC3: "NSEC3"}
 # Octets before the names in data of these types, and how many names there are.
