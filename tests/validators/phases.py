@@ -11,8 +11,8 @@ from validators import Drill, Heard, Program
 
 FORKED = multiprocessing.get_context("fork")
 SERVERS = 3
-# Seconds before a roll.
-LEAD = 8
+# Seconds before a roll, and before what differs is asked anew.
+LEAD, PAUSE = 8, 5
 
 
 class Told(typing.NamedTuple):
@@ -123,6 +123,17 @@ class Phase:
             return [work(validator, asks) for _ in range(validator.width)]
 
         await asyncio.gather(*(it for validator in self.validators for it in works(validator)))
+        return await self.told_anew(told)
+
+    async def told_anew(self, told):
+        """Has what differs asked anew, some at a time: an answer may have come late."""
+        by_name = {it.NAME: it for it in self.validators}
+        for _ in range(2):
+            await asyncio.sleep(PAUSE)
+            places = [at for at, it in enumerate(told) if not it.agrees]
+            asks = [self.tell(by_name[told[at].validator], told[at].case, told[at].question) for at in places]
+            for at, it in zip(places, await asyncio.gather(*asks)):
+                told[at] = it
         return told
 
 

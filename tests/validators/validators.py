@@ -185,6 +185,7 @@ server:
     msg-cache-size: 100m
     rrset-cache-size: 200m
     key-cache-size: 20m
+    val-bogus-ttl: 1
 remote-control:
     control-enable: no
 """
@@ -266,6 +267,9 @@ daemon=no
 disable-syslog=yes
 threads=1
 minimum-ttl-override=0
+max-cache-bogus-ttl=1
+packetcache-servfail-ttl=1
+max-rrsigs-per-record=20
 security-poll-suffix=
 """
 
@@ -339,10 +343,10 @@ class Drill(Program):
 
     async def asked(self, name, rtype):
         asked = wire.text(name), wire.NAMES[rtype]
-        down = ["drill", "-TD", "-k", "anchor", "-r", "hints", *asked]
+        down = ["drill", "-t", "-TD", "-k", "anchor", "-r", "hints", *asked]
         output = "" if rtype == wire.DS else await self.output(down)
         if rtype == wire.DS or self.stops_above(output, *asked):
-            return self.chased(await self.output(["drill", "-S", "-k", "anchor", f"@{dotted(FORWARD)}", *asked]))
+            return self.chased(await self.output(["drill", "-t", "-S", "-k", "anchor", f"@{dotted(FORWARD)}", *asked]))
         return self.said(output, rtype)
 
     @staticmethod
