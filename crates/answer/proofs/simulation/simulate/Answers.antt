@@ -41,6 +41,6 @@ returns-clause-simulation g c =
     let rs = map handed_of c.args.records.items in
     let events = c.args.events.now in
     let there : World = world (record { apex = c.args.apex; mode = mode_of c.args.mode; limit = c.args.limit; records = sorted_records rs }) c.args.life (g.S.Scheme.signature_of c.args.scheme.now) (g.S.Scheme.verifies c.args.scheme.now) (g.S.Scheme.digest_of c.args.scheme.now) (g.H.Nsec3Hasher.hash_of c.args.hasher.now) in
-    let zone = zone_known c.args.apex (mode_of c.args.mode) c.args.limit rs c.args.life there.sign there.answers c.ranges.limit c.in_ok-publisher.ensures.accepted c.in_ok-publisher.ensures.handed.0 c.in_ok-publisher.ensures.handed.1 in
+    let zone = zone_known c.args.apex (mode_of c.args.mode) c.args.limit rs c.args.life there.sign there.answers c.ranges.limit.fits c.in_ok-publisher.ensures.accepted c.in_ok-publisher.ensures.handed.0 c.in_ok-publisher.ensures.handed.1 in
     let whole = at_end there (begin there.zone) events run.results.outcomes c.loop-event.event-index (sofar run.publisher run.results) c.loop-event-test.false c.loop-event.invariant.follows in
     subst (IsSimulation there rs events) (sym c.into_outcomes.ensures) (runs_are_simulations there rs events run.results.outcomes whole.0 zone whole.1)
