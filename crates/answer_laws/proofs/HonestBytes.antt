@@ -13,7 +13,7 @@ use Rattle.messages.specs.HandedRr.{HandedRr, handed_of}
 use Rattle.messages.specs.Message.{Asked}
 use Rattle.messages.specs.Questions.{asked_of}
 use Rattle.messages.specs.WrittenLaws.{IsQuestion}
-use Rattle.messages.proofs.Lists.{all_more, some_is}
+use Rattle.messages.proofs.Lists.{all_at, all_more, some_is}
 use Rattle.answer_shared.specs.Accepting.{over_limit, sorted_records, zone_of}
 use Rattle.answer_shared.specs.Chainable.{HasChain}
 use Rattle.answer_shared.specs.Hashing.{Hasher}
@@ -22,7 +22,8 @@ use Rattle.answer_events.specs.declared.event.Act.{Act}
 use Rattle.answer_events.specs.declared.event.Act.TheVariants as act
 use Rattle.answer_events.specs.Calls.{call_of}
 use Rattle.answer_scheme.specs.Moments.{second_of}
-use Rattle.answer_honest.specs.Honest.{FewIterations, IsVersion, OneAtATime, Settled, Signing}
+use Rattle.answer_honest.specs.Versions.{Version}
+use Rattle.answer_honest.specs.Honest.{FewIterations, IsVersion, Settled, Signing}
 use Rattle.answer_judge.specs.Meeting.{IsJudgement}
 use Rattle.answer_judge.specs.OwnMessages.{signing_of}
 use Rattle.answer_judge_keys.specs.Judging.{Handing, answer_of, hashes_of, verifications_of}
@@ -40,11 +41,12 @@ use Rattle.answer_publisher_keys.specs.declared.keys.Publication.TheVariants as 
 use Rattle.keyset_rolls.specs.declared.rolls.Action.{Action}
 use Rattle.answer_outcomes.specs.declared.outcome.Outcome.{Outcome}
 use Rattle.answer_outcomes.specs.declared.outcome.Outcome.TheVariants as outcome
-use Rattle.answer_laws.specs.HonestBytes.{AtJudgement, IsApart, published_by, published_in, signings_with, version_of}
+use Rattle.answer_laws.specs.HonestBytes.{AtJudgement, IsApart, IsOfRun, published_by, published_in, signings_with, version_of}
 use Rattle.answer_laws.specs.Simulating as things
 use Rattle.answer_laws.specs.Simulating.{JudgesBytes, JudgesThings, Shown, Sofar, StepOf, begin, handing}
 use Rattle.answer_laws.specs.ThroughRolls.{past_with}
 use Rattle.answer_laws.specs.Versions.{AreTimely, IsSettled, SaysOneHonestly, Story, Versions, first_version, replaced_by, versions_with, with_showing}
+use Rattle.answer_laws.proofs.OneAtATime.{OneBegins, one_at_a_time}
 use Rattle.answer_laws.proofs.Judgements.{IsVersionOf}
 use Rattle.answer_laws.proofs.KeyLife.{AreBound, HasFlags, apply_binds, published_flags}
 
@@ -189,23 +191,28 @@ some_version w [] rs h e = has_contained [] rs h
 some_version w (x ∷ all) rs h e = cc
 
 -- at one moment there was one version
-settled_so : (w : World) (h : Handing) (y : Story) → h.one_moment ≡ true → (AreTimely y.times → OneAtATime y.signings) → IsSettled y → Settled pointer_limit h (map (version_of w) y.versions.all) y.signings
-settled_so w h y on one (inl e) = inl (length-map y.versions.all (version_of w) ∙ e)
-settled_so w h y on one (inr timely) = inr (inl (on, one timely))
+settled_so : (w : World) (h : Handing) (y : Story) (signed : List Signing) → AllByRecursion (IsOfRun y.signings) signed → h.one_moment ≡ true → (AreTimely y.times → OneBegins y.signings) → IsSettled y → Settled pointer_limit h (map (version_of w) y.versions.all) signed
+settled_so w h y signed of_run on one (inl e) = inl (length-map y.versions.all (version_of w) ∙ e)
+settled_so w h y signed of_run on one (inr timely) = inr (inl (on, one_at_a_time y.signings signed (one timely) of_run))
 
-honestly : (w : World) (y : Story) (s : Sofar) (at : ℕ) (set : List Ds) (keys bytes : List ℕ) (asked : Asked) (j : Result Judgement Refused) → IsName w.zone.apex → AllByRecursion (IsVersionOf w) y.versions.all → (AreTimely y.times → OneAtATime y.signings)
+-- what was signed with versions of the run is of its versions
+of_run_versions : (versions : List Version) (signings signed : List Signing) → AllByRecursion (λ (s : Signing). Contains versions s.version) signings → AllByRecursion (IsOfRun signings) signed → AllByRecursion (λ (s : Signing). Contains versions s.version) signed
+of_run_versions versions signings signed of = all_more (IsOfRun signings) (λ (s : Signing). Contains versions s.version) signed
+    (λ s d. subst (Contains versions) (sym d.version_is) (all_at (λ (s : Signing). Contains versions s.version) signings d.given of (has_contained signings d.given d.there)))
+
+honestly : (w : World) (y : Story) (s : Sofar) (at : ℕ) (set : List Ds) (keys bytes : List ℕ) (asked : Asked) (j : Result Judgement Refused) → IsName w.zone.apex → AllByRecursion (IsVersionOf w) y.versions.all → (AreTimely y.times → OneBegins y.signings)
     → IsSo w y.signings y.past y.versions s → IsQuestion asked → Judges w at set keys bytes asked j → SaysOneHonestly w y s at set keys bytes asked (answer_of j)
 honestly w y s at set keys bytes asked j apex all one known question judges honest apart settled = judges.honest (map (version_of w) y.versions.all) (record {
   published = published_by y.past s.keys;
-  signings = y.signings;
+  signings = honest.signed;
   apex_is = apex;
   one = some_version w y.versions.all y.versions.now known.now_among;
   versions_are = versions_are w at set keys bytes asked y.versions.all all apart;
   asked_is = question;
   ds_some = honest.some;
   flags_are = all_flags w (y.past ++ s.keys ∷ []) known.bound;
-  of_versions = known.of_versions;
-  settled = settled_so w (handing w set keys bytes asked at) y refl one settled;
+  of_versions = of_run_versions (map (version_of w) y.versions.all) y.signings honest.signed known.of_versions honest.of_run;
+  settled = settled_so w (handing w set keys bytes asked at) y honest.signed honest.of_run refl one settled;
   keys_honest = honest.keys_honest;
   keys_known = honest.keys_known;
   answer_honest = honest.answer_honest;
@@ -216,7 +223,7 @@ question_at [] i asked bytes h e = cc
 question_at (x ∷ xs) zero asked bytes h e = subst HasQuestion (some_is x (things.OfZone asked bytes) e) h.0
 question_at (x ∷ xs) (suc i) asked bytes h e = question_at xs i asked bytes h.1 e
 
-pub spoken : (w : World) (y : Story) (s t : Sofar) (at : ℕ) (a : Act) (o : Outcome) → IsName w.zone.apex → AllByRecursion (IsVersionOf w) y.versions.all → (AreTimely y.times → OneAtATime y.signings) → IsSo w y.signings y.past y.versions s → StepOf w s at a o t
+pub spoken : (w : World) (y : Story) (s t : Sofar) (at : ℕ) (a : Act) (o : Outcome) → IsName w.zone.apex → AllByRecursion (IsVersionOf w) y.versions.all → (AreTimely y.times → OneBegins y.signings) → IsSo w y.signings y.past y.versions s → StepOf w s at a o t
     → AtJudgement (SaysOneHonestly w y s at) s a o
 spoken w y s t at (act.JudgeBytes ds dnskey answer q) (outcome.Judged j) apex all one known is = λ set a.
     honestly w y s at set dnskey.items answer.items (asked_of q) j apex all one known is.1

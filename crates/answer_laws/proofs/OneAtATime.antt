@@ -1,6 +1,6 @@
 -- Signatures of answers that begin and end in the same seconds are of one version of the zone, where moments never go back.
 use Rattle.std.proofs.Common.{◌≡◌, ℕ, ◌+◌, ◌%◌, ◌<◌, ◌≤◌, false, List, [], ◌∷◌, ◌++◌, refl, sym, ap, subst, ◌∙◌, inl, inr, ⊎_elim, ◌⊎◌, arith}
-use Rattle.std.specs.Prelude.{Option, Some, None, Ok, Err, map}
+use Rattle.std.specs.Prelude.{Contains, Option, Some, None, Ok, Err, map}
 use Rattle.std.specs.List.{AllByRecursion}
 use Rattle.std.proofs.lemmas.Bool.Decides.{nat_tests}
 use Rattle.messages.specs.HandedRr.{HandedRr, handed_of}
@@ -17,7 +17,7 @@ use Rattle.answer_publisher.specs.Replacing.{is_too_soon, noted, whole_second}
 use Rattle.answer_publisher.specs.World.{World}
 use Rattle.answer_outcomes.specs.declared.outcome.Outcome.{Outcome}
 use Rattle.answer_outcomes.specs.declared.outcome.Outcome.TheVariants as outcome
-use Rattle.answer_laws.specs.HonestBytes.{signings_with, version_of}
+use Rattle.answer_laws.specs.HonestBytes.{IsOfRun, signings_with, version_of}
 use Rattle.answer_laws.specs.Simulating.{Sofar, StepOf, begin}
 use Rattle.answer_laws.specs.Versions.{AreTimely, NeverBack, Versions, first_version, versions_with}
 
@@ -241,8 +241,12 @@ none_dated w rs = record {
 same_second : (a b : ℕ) → a % 4294967296 % 4294967296 ≡ b % 4294967296 % 4294967296 → a < b + 4294967296 → b < a + 4294967296 → a ≡ b
 same_second a b e f g = omega arith
 
-pub one_at_a_time : (w : World) (times : List ℕ) (latest : Option ℕ) (now : List HandedRr) (signings : List Signing) → AreDated w times latest now signings → AreTimely times → OneAtATime signings
-one_at_a_time w times latest now signings h timely x z hx hz e =
+-- what begins in one second is of one version
+abbrev pub OneBegins : List Signing → Type 0
+OneBegins signings = (x z : Signing) → Contains signings x → Contains signings z → x.times.inception ≡ z.times.inception → x.version ≡ z.version
+
+pub one_begins : (w : World) (times : List ℕ) (latest : Option ℕ) (now : List HandedRr) (signings : List Signing) → AreDated w times latest now signings → AreTimely times → OneBegins signings
+one_begins w times latest now signings h timely x z hx hz e =
     let d = all_at (IsGiven w h.answers) signings x h.given_are (has_contained signings x hx) in
     let f = all_at (IsGiven w h.answers) signings z h.given_are (has_contained signings z hz) in
     let i = all_at (IsNoted times latest) h.answers d.given h.noted_are d.there in
@@ -250,9 +254,16 @@ one_at_a_time w times latest now signings h timely x z hx hz e =
     let md = contained_has times d.given.moment i.among in
     let mf = contained_has times f.given.moment j.among in
     let seconds : second_of d.given.moment % 4294967296 ≡ second_of f.given.moment % 4294967296 =
-    ap (λ (t : Times). t.inception) (sym (ap (λ (u : Signing). u.times) d.is) ∙ e ∙ ap (λ (u : Signing). u.times) f.is) in
+    sym (ap (λ (u : Signing). u.times.inception) d.is) ∙ e ∙ ap (λ (u : Signing). u.times.inception) f.is in
     let same : whole_second d.given.moment ≡ whole_second f.given.moment = same_second (whole_second d.given.moment) (whole_second f.given.moment) seconds
     (timely.near d.given.moment f.given.moment md mf) (timely.near f.given.moment d.given.moment mf md) in
     ap (λ (u : Signing). u.version) d.is
     ∙ ap (version_of w) ((h.apart timely.rising).one d.given f.given d.there f.there same)
     ∙ sym (ap (λ (u : Signing). u.version) f.is)
+
+-- so of what was signed with versions of the run, what is of one moment is of one version
+pub one_at_a_time : (signings signed : List Signing) → OneBegins signings → AllByRecursion (IsOfRun signings) signed → OneAtATime signed
+one_at_a_time signings signed one of_run x z hx hz e =
+    let d = all_at (IsOfRun signings) signed x of_run (has_contained signed x hx) in
+    let f = all_at (IsOfRun signings) signed z of_run (has_contained signed z hz) in
+    d.version_is ∙ one d.given f.given d.there f.there (sym d.began ∙ ap (λ (t : Times). t.inception) e ∙ f.began) ∙ sym f.version_is

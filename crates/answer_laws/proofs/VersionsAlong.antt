@@ -44,7 +44,7 @@ spoken : (w : World) (y : Story) (s t : Sofar) (at : ℕ) (a : Act) (o : Outcome
 spoken w y s t at a o h is = record {
   one_state = judgements.spoken_at w y.moments y.history y.past y.versions s t at a o h.known is;
   through_rolls = judgements.spoken_through w y.moments y.history y.past y.versions s t at a o h.known is;
-  no_false = honest.spoken w y s t at a o h.known.now_is.apex_is h.known.all_are (moments.one_at_a_time w y.times s.latest y.versions.now y.signings h.dated) h.so is;
+  no_false = honest.spoken w y s t at a o h.known.now_is.apex_is h.known.all_are (moments.one_begins w y.times s.latest y.versions.now y.signings h.dated) h.so is;
 }
 
 along : (w : World) (y : Story) (s : Sofar) (es : List Event) (os : List Outcome) (u : Sofar) (run : Simulates w s es os u) → IsTold w y s → VersionsAlong w y s es os u run

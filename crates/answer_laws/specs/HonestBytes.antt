@@ -1,6 +1,6 @@
 -- What was signed in a run so far, and what a judgement of messages says in which nothing is forged.
-use Rattle.std.specs.Prelude.{◌≡◌, ℕ, List, [], ◌∷◌, ◌++◌, Some, slice_get}
-use Rattle.std.specs.List.{flat_map}
+use Rattle.std.specs.Prelude.{◌≡◌, ℕ, List, [], ◌∷◌, ◌++◌, Contains, Some, slice_get}
+use Rattle.std.specs.List.{AllByRecursion, flat_map}
 use Rattle.definitions.specs.Dnskey.{Dnskey, Ds}
 use Rattle.definitions.specs.Limits.{pointer_limit}
 use Rattle.denial_laws.specs.Truth.{NoSharedHash}
@@ -45,10 +45,17 @@ published_in keys = dnskeys (published keys publication.AtParent) ++ present_key
 abbrev pub published_by : List ZoneKeys → ZoneKeys → List Dnskey
 published_by past keys = flat_map published_in (past ++ keys ∷ [])
 
--- a message in which nothing is forged, in the run so far
+-- a version of the run, signed from the second of an answer that was of it, until whenever
+pub record IsOfRun (signings : List Signing) (s : Signing) : Type 0 where
+  pub given : Signing
+  pub there : Contains signings given
+  pub version_is : s.version ≡ given.version
+  pub began : s.times.inception ≡ given.times.inception
+
+-- a message in which nothing is forged, of what was signed in the run so far
 abbrev pub IsHonestSo : World → List Signing → List ZoneKeys → Sofar → Handing → (List Spelled → Sought) → List ℕ → Type 0
-IsHonestSo w signings past s h sought m =
-    IsHonest w.answers pointer_limit h (published_by past s.keys) (WasSigned w.answers h.apex (published_by past s.keys) signings) sought m
+IsHonestSo w signed past s h sought m =
+    IsHonest w.answers pointer_limit h (published_by past s.keys) (WasSigned w.answers h.apex (published_by past s.keys) signed) sought m
 
 -- names of the zone's chain have different hashes, and none of them shares its hash with another name that the question concerns
 abbrev pub IsApart : World → Asked → List HandedRr → Type 0
@@ -58,9 +65,11 @@ IsApart w asked rs = NoSharedHash (zone_of w.zone.apex rs) (hash_in w.answers.ha
 -- DS set trusts a published one.
 pub record AreHonestSo (w : World) (signings : List Signing) (past : List ZoneKeys) (s : Sofar) (h : Handing) : Type 0 where
   pub some : h.ds ≡ [] → ⊥
-  pub keys_honest : IsHonestSo w signings past s h (sought_of_keys h) h.dnskey_bytes
+  pub signed : List Signing
+  pub of_run : AllByRecursion (IsOfRun signings) signed
+  pub keys_honest : IsHonestSo w signed past s h (sought_of_keys h) h.dnskey_bytes
   pub keys_known : NoStranger w.answers pointer_limit h (published_by past s.keys)
-  pub answer_honest : IsHonestSo w signings past s h (sought_of_answer pointer_limit h) h.answer_bytes
+  pub answer_honest : IsHonestSo w signed past s h (sought_of_answer pointer_limit h) h.answer_bytes
 
 -- a judgement of these says the zone's verdict, of a name that is no alias there, or refuses
 abbrev pub SaysHonestly : World → List HandedRr → List Signing → List ZoneKeys → Sofar → ℕ → List Ds → List ℕ → List ℕ → Asked → Answer → Type 0
