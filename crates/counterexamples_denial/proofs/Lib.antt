@@ -3,3 +3,5 @@ pub mod WireHash
 pub mod Zones
 pub mod NsecMistakes
 pub mod Nsec3Mistakes
+pub mod AliasZones
+pub mod AliasMistakes

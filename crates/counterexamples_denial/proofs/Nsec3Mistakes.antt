@@ -25,7 +25,7 @@ hashed_open_falsely = record {
   fits = omega arith;
   holds = record { rrset = tt; chain = (refl, tt) };
   says = refl;
-  otherwise = λ e. let n : Open ≡ Records ((1 ∷ []) ∷ []) = e in cc;
+  otherwise = λ e. let n : Open ≡ Records ((1 ∷ []) ∷ []) = e.0 in cc;
 }
 
 -- in order of hash: the delegation, the apex
@@ -63,7 +63,7 @@ hashed_delegations_falsely = record {
   fits = omega arith;
   holds = record { rrset = tt; chain = (refl, (cut_holds, (above_holds, tt))) };
   says = refl;
-  otherwise = λ e. let n : NoName ≡ Delegated = e in cc;
+  otherwise = λ e. let n : NoName ≡ Delegated = e.0 in cc;
 }
 
 -- and it lists no type of the child zone
@@ -80,7 +80,7 @@ hashed_child_types_falsely = record {
   fits = omega arith;
   holds = record { rrset = tt; chain = (refl, (cut_holds, tt)) };
   says = refl;
-  otherwise = λ e. let n : NoType ≡ Delegated = e in cc;
+  otherwise = λ e. let n : NoType ≡ Delegated = e.0 in cc;
 }
 
 -- in order of hash: the wildcard, the apex
@@ -118,7 +118,7 @@ hashed_wildcards_falsely = record {
   fits = omega arith;
   holds = record { rrset = tt; chain = (refl, (star_holds, (apex_holds, tt))) };
   says = refl;
-  otherwise = λ e. let n : NoName ≡ StarRecords ((192 ∷ 0 ∷ 2 ∷ 1 ∷ []) ∷ []) = e in cc;
+  otherwise = λ e. let n : NoName ≡ StarRecords ((192 ∷ 0 ∷ 2 ∷ 1 ∷ []) ∷ []) = e.0 in cc;
 }
 
 -- the wildcard's RRset beside the record of `b`, which covers a name below `b`: its closest encloser is `b`
@@ -145,7 +145,7 @@ hashed_label_counts_falsely = record {
   fits = omega arith;
   holds = record { rrset = star_rrset_holds; chain = (refl, (beside_holds, tt)) };
   says = refl;
-  otherwise = λ e. let n : StarRecords ((192 ∷ 0 ∷ 2 ∷ 1 ∷ []) ∷ []) ≡ NoName = e in cc;
+  otherwise = λ e. let n : StarRecords ((192 ∷ 0 ∷ 2 ∷ 1 ∷ []) ∷ []) ≡ NoName = e.0 in cc;
 }
 
 -- the only record of a chain under opt-out, which leaves the unsigned delegation out
@@ -173,5 +173,5 @@ opt_out_falsely = record {
   fits = omega arith;
   holds = record { rrset = tt; chain = (refl, (alone_holds, tt)) };
   says = refl;
-  otherwise = λ e. let n : NoName ≡ Open = e in cc;
+  otherwise = λ e. let n : NoName ≡ Open = e.0 in cc;
 }

@@ -24,7 +24,7 @@ open_falsely = record {
   fits = omega arith;
   holds = record { rrset = tt; chain = (tt, refl) };
   says = refl;
-  otherwise = λ e. let n : Open ≡ Records ((1 ∷ []) ∷ []) = e in cc;
+  otherwise = λ e. let n : Open ≡ Records ((1 ∷ []) ∷ []) = e.0 in cc;
 }
 
 -- nothing is said of the SOA record
@@ -39,6 +39,7 @@ nothing_misses = record {
   fits = omega arith;
   inside = refl;
   asked = refl;
+  unaliased = refl;
   misses = λ e. cc;
 }
 
@@ -59,7 +60,7 @@ delegations_falsely = record {
   fits = omega arith;
   holds = record { rrset = tt; chain = ((cut_holds, tt), refl) };
   says = refl;
-  otherwise = λ e. let n : NoName ≡ Delegated = e in cc;
+  otherwise = λ e. let n : NoName ≡ Delegated = e.0 in cc;
 }
 
 -- and it lists no type of the child zone
@@ -76,7 +77,7 @@ child_types_falsely = record {
   fits = omega arith;
   holds = record { rrset = tt; chain = ((cut_holds, tt), refl) };
   says = refl;
-  otherwise = λ e. let n : NoType ≡ Delegated = e in cc;
+  otherwise = λ e. let n : NoType ≡ Delegated = e.0 in cc;
 }
 
 -- the wildcard's record covers a name for which the wildcard answers
@@ -96,7 +97,7 @@ wildcards_falsely = record {
   fits = omega arith;
   holds = record { rrset = tt; chain = ((star_holds, tt), refl) };
   says = refl;
-  otherwise = λ e. let n : NoName ≡ StarRecords ((192 ∷ 0 ∷ 2 ∷ 1 ∷ []) ∷ []) = e in cc;
+  otherwise = λ e. let n : NoName ≡ StarRecords ((192 ∷ 0 ∷ 2 ∷ 1 ∷ []) ∷ []) = e.0 in cc;
 }
 
 -- the wildcard's RRset beside the record of `b`, which covers a name below `b`: its closest encloser is `b`
@@ -122,7 +123,7 @@ label_counts_falsely = record {
   fits = omega arith;
   holds = record { rrset = star_rrset_holds; chain = ((beside_holds, tt), refl) };
   says = refl;
-  otherwise = λ e. let n : StarRecords ((192 ∷ 0 ∷ 2 ∷ 1 ∷ []) ∷ []) ≡ NoName = e in cc;
+  otherwise = λ e. let n : StarRecords ((192 ∷ 0 ∷ 2 ∷ 1 ∷ []) ∷ []) ≡ NoName = e.0 in cc;
 }
 
 -- By wire octets the last record covers the second name under `b`, which has an address, and the record of `*.a` the wildcard
@@ -146,7 +147,7 @@ wire_octets_falsely = record {
   fits = omega arith;
   holds = record { rrset = tt; chain = ((first_holds, (last_holds, tt)), refl) };
   says = refl;
-  otherwise = λ e. let n : NoName ≡ Records ((192 ∷ 0 ∷ 2 ∷ 1 ∷ []) ∷ []) = e in cc;
+  otherwise = λ e. let n : NoName ≡ Records ((192 ∷ 0 ∷ 2 ∷ 1 ∷ []) ∷ []) = e.0 in cc;
 }
 
 -- the record of the apex covers `b`, below which the next name stands, and the wildcard beside it
@@ -166,5 +167,5 @@ non_terminals_falsely = record {
   fits = omega arith;
   holds = record { rrset = tt; chain = ((deep_holds, tt), refl) };
   says = refl;
-  otherwise = λ e. let n : NoName ≡ NoType = e in cc;
+  otherwise = λ e. let n : NoName ≡ NoType = e.0 in cc;
 }

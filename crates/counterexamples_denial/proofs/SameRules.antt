@@ -14,5 +14,5 @@ never_false mode d =
 
 pub none_missed : RightChoicesMissNothing
 none_missed mode d =
-    let says = own_answers_decide d.zone d.hash mode d.name d.rtype d.servable d.unshared d.fits d.inside d.asked in
+    let says = own_answers_decide d.zone d.hash mode d.name d.rtype d.servable d.unshared d.fits d.inside d.asked d.unaliased in
     d.misses (same_rules d.zone.name d.hash _ d.name d.rtype ∙ says)

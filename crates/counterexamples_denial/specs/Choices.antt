@@ -27,6 +27,10 @@ pub record Choices : Type 0 where
   pub non_terminals : Bool
   -- a gap under opt-out proves nothing (RFC 5155, 6); otherwise the flag is passed over
   pub opt_out : Bool
+  -- a record with CNAME in its bits proves no type missing (RFC 6840, 4.3); otherwise each that its bits lack
+  pub aliases : Bool
+  -- a record with DNAME in its bits proves nothing of the names below it (RFC 6840, 4.1); otherwise that they are missing
+  pub redirections : Bool
 
 -- all made rightly
 abbrev pub right : Choices
@@ -39,4 +43,6 @@ right = record {
   canonical_order = true;
   non_terminals = true;
   opt_out = true;
+  aliases = true;
+  redirections = true;
 }

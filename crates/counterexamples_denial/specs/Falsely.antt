@@ -1,5 +1,5 @@
 -- When a rule says of true facts what is not so, and when it does not say what is.
-use Rattle.std.specs.Prelude.{◌≡◌, ℕ, ◌<◌, true, List, Some}
+use Rattle.std.specs.Prelude.{◌≡◌, ℕ, ◌<◌, true, false, List, Some}
 use Rattle.definitions.specs.Name.{Name, at_or_above}
 use Rattle.definitions.specs.Zone.{Zone, Verdict, verdict, apex_of}
 use Rattle.definitions.specs.ZoneChain.{Mode, optout_of}
@@ -7,12 +7,13 @@ use Rattle.denial_laws.specs.Facts.{Facts}
 use Rattle.denial_laws.specs.Deciding.{decided}
 use Rattle.denial_laws.specs.Truth.{IsServable, NoSharedHash, AreTrue}
 use Rattle.denial_laws.specs.OwnFacts.{own_facts}
-use Rattle.denial_laws.specs.Laws.{is_asked_type}
+use Rattle.denial_laws.specs.Aliases.{is_aliased}
+use Rattle.denial_laws.specs.Laws.{IsSaidBy, is_asked_type}
 use Rattle.counterexamples_denial.specs.Choices.{Rule, right}
 use Rattle.counterexamples_denial.specs.Mistakes.{decided_with}
 
--- There is a zone with a chain of a mode, and facts that are true of it, of which the rule makes a verdict that is not the
--- zone's. All premises of `TrueFactsDecideTruly` hold.
+-- There is a zone with a chain of a mode, and facts that are true of it, of which the rule makes what the zone does not say:
+-- another verdict, or one on an alias. All premises of `TrueFactsDecideTruly` hold.
 pub record DecidesFalsely (rule : Rule) (mode : Mode) : Type 0 where
   pub zone : Zone
   pub hash : Name → List ℕ
@@ -25,7 +26,7 @@ pub record DecidesFalsely (rule : Rule) (mode : Mode) : Type 0 where
   pub fits : rtype < 65536
   pub holds : AreTrue zone hash mode name rtype facts
   pub says : rule zone.name hash facts name rtype ≡ Some said
-  pub otherwise : said ≡ verdict zone (optout_of mode) name rtype → ⊥
+  pub otherwise : IsSaidBy zone (optout_of mode) name rtype said → ⊥
 
 -- There is a zone with a chain of a mode, of whose own answer to a question the rule does not make its verdict. All premises
 -- of `OwnAnswersDecide` hold.
@@ -39,6 +40,7 @@ pub record MissesOwnAnswer (rule : Rule) (mode : Mode) : Type 0 where
   pub fits : rtype < 65536
   pub inside : at_or_above (apex_of zone) name ≡ true
   pub asked : is_asked_type rtype ≡ true
+  pub unaliased : is_aliased zone (optout_of mode) name rtype ≡ false
   pub misses :
       rule zone.name hash (own_facts zone hash mode name rtype) name rtype ≡ Some (verdict zone (optout_of mode) name rtype) → ⊥
 

@@ -57,6 +57,12 @@ without_non_terminals = decided_with (record right { non_terminals = false })
 abbrev pub without_opt_out : Rule
 without_opt_out = decided_with (record right { opt_out = false })
 
+abbrev pub without_aliases : Rule
+without_aliases = decided_with (record right { aliases = false })
+
+abbrev pub without_redirections : Rule
+without_redirections = decided_with (record right { redirections = false })
+
 -- ---- no rule at all
 
 abbrev pub nothing : Rule

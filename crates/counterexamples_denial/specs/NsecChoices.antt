@@ -1,16 +1,28 @@
 -- The rules on NSEC records, with choices. What no choice concerns is that of `denial_laws`.
-use Rattle.std.specs.Prelude.{ℕ, Bool, true, false, not, ◌&&◌, ◌||◌, List, Option, Some, None}
+use Rattle.std.specs.Prelude.{ℕ, Bool, true, false, not, ◌&&◌, ◌||◌, ◌==◌, List, Option, Some, None}
 use Rattle.definitions.specs.Name.{Name, low, same, strictly_above, wire}
 use Rattle.definitions.specs.Covering.{before, octets_before}
-use Rattle.definitions.specs.Zone.{Verdict, NoType, NoName, StarRecords, StarNoType, star_under}
+use Rattle.definitions.specs.Bitmap.{bitmap_has}
+use Rattle.definitions.specs.Zone.{Verdict, NoType, NoName, StarRecords, StarNoType, Delegated, star_under}
 use Rattle.denial_laws.specs.Facts.{Rrset, Link}
-use Rattle.denial_laws.specs.NsecRules.{first_some, or_else, lacks, star_lacks, at_name, redirects, below_cut, closest, encloses_at}
+use Rattle.denial_laws.specs.NsecRules.{first_some, or_else, is_cut, redirects, below_cut, closest, encloses_at}
 use Rattle.counterexamples_denial.specs.Choices.{Choices}
 
+-- a matching record proves a type missing
+abbrev pub lacks_with : Choices → List ℕ → ℕ → Bool
+lacks_with c bits t = not (bitmap_has bits t) && elim c.aliases [ true ↦ not (bitmap_has bits 5) | false ↦ true ]
+
+abbrev pub star_lacks_with : Choices → List ℕ → ℕ → Bool
+star_lacks_with c bits t = lacks_with c bits t && ((t == 43) || not (bitmap_has bits 2))
+
+-- the record is a delegation's, and another type than DS is asked for
+abbrev pub delegates_with : Choices → Name → Name → ℕ → List ℕ → Bool
+delegates_with c apex q t bits = elim c.child_types [ true ↦ is_cut apex q bits && not (t == 43) | false ↦ false ]
+
 abbrev pub at_name_with : Choices → Name → Name → ℕ → List ℕ → Option Verdict
-at_name_with c apex q t bits = elim c.child_types [
-  | true ↦ at_name apex q t bits
-  | false ↦ elim (lacks bits t) [ true ↦ Some NoType | false ↦ None ]
+at_name_with c apex q t bits = elim (delegates_with c apex q t bits) [
+  | true ↦ Some Delegated
+  | false ↦ elim (lacks_with c bits t) [ true ↦ Some NoType | false ↦ None ]
 ]
 
 abbrev pub at_owner_with : Choices → Name → Name → ℕ → Link → Option Verdict
@@ -26,8 +38,11 @@ before_with c a b = elim c.canonical_order [ true ↦ before a b | false ↦ wir
 abbrev pub covers_with : Choices → Name → Name → Name → Name → Bool
 covers_with c apex owner next q = before_with c owner q && (same next apex || before_with c q next)
 
+abbrev pub redirects_with : Choices → Name → Link → Bool
+redirects_with c q f = elim c.redirections [ true ↦ redirects q f | false ↦ false ]
+
 abbrev pub link_covers_with : Choices → Name → Link → Name → Bool
-link_covers_with c apex f q = covers_with c apex f.owner f.next q && not (redirects q f)
+link_covers_with c apex f q = covers_with c apex f.owner f.next q && not (redirects_with c q f)
 
 -- the next name is below the name
 abbrev pub leads_below : Choices → Name → Link → Bool
@@ -35,7 +50,7 @@ leads_below c q f = elim c.non_terminals [ true ↦ strictly_above q f.next | fa
 
 abbrev pub at_star_with : Choices → Name → Name → ℕ → Link → Option Verdict
 at_star_with c apex s t f = elim (same f.owner s) [
-  | true ↦ elim (star_lacks f.bits t) [ true ↦ Some StarNoType | false ↦ None ]
+  | true ↦ elim (star_lacks_with c f.bits t) [ true ↦ Some StarNoType | false ↦ None ]
   | false ↦ elim (link_covers_with c apex f s) [
     | true ↦ elim (leads_below c s f) [ true ↦ Some StarNoType | false ↦ Some NoName ]
     | false ↦ None

@@ -2,7 +2,7 @@
 ghost use Rattle.std.specs.Prelude.{true, false, []};
 ghost use Rattle.definitions.specs.ZoneChain.{Nsec, Nsec3};
 ghost use Rattle.counterexamples_denial.specs.Falsely.{DecidesFalsely, MissesOwnAnswer, RightChoicesAreTheRules, RightChoicesAreNeverFalse, RightChoicesMissNothing};
-ghost use Rattle.counterexamples_denial.specs.Mistakes.{all_open, nothing, without_delegations, without_child_types, without_wildcards, without_label_counts, by_wire_octets, without_non_terminals, without_opt_out};
+ghost use Rattle.counterexamples_denial.specs.Mistakes.{all_open, nothing, without_delegations, without_child_types, without_wildcards, without_label_counts, by_wire_octets, without_non_terminals, without_opt_out, without_aliases, without_redirections};
 
 /// With all choices made rightly the rules are those of `denial_laws`. They never decide falsely, and miss no zone's own
 /// answer.
@@ -68,4 +68,18 @@ pub fn names_above_names_exist()
 /// (RFC 5155, 6).
 pub fn opt_out_proves_nothing()
     ensures { DecidesFalsely without_opt_out (Nsec3 0 [] true) }
+{}
+
+/// A record with CNAME in its bits proves no type missing: the alias answers for each of them. An attacker who replays it would
+/// deny the records that the alias leads to (RFC 6840, 4.3).
+pub fn an_alias_lacks_no_type()
+    ensures nsec { DecidesFalsely without_aliases Nsec }
+    ensures nsec3 { DecidesFalsely without_aliases (Nsec3 0 [] false) }
+{}
+
+/// A record with DNAME in its bits proves nothing of the names below it: they are redirected. An attacker who replays it would
+/// deny them all (RFC 6840, 4.1).
+pub fn redirected_names_are_not_denied()
+    ensures nsec { DecidesFalsely without_redirections Nsec }
+    ensures nsec3 { DecidesFalsely without_redirections (Nsec3 0 [] false) }
 {}

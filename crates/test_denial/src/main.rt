@@ -3,7 +3,8 @@
 //!
 //! A zone is a line `zone APEX` and lines `rr OWNER TYPE`, names in text without escapes, in lower case. A line
 //! `cases nsec SIZE`, `nsec3` or `nsec3optout` is answered by how many sets of facts were tried, of at most SIZE records of
-//! the chain and an RRset or none, how many of them proved a verdict, and how many of these verdicts the zone does not say.
+//! the chain and an RRset or none, how many of them proved a verdict, and how many of these verdicts the zone does not say: of
+//! an alias it says none.
 //! Lines that begin with `#` are passed over. The exit status is 1 where a line cannot be read.
 #![tactic(auto)]
 

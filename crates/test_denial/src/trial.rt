@@ -20,7 +20,7 @@ const LABELS: [&str; 4] = ["a", "b", "x", "*"];
 /// The most records of a chain that are tried.
 const MOST: u32 = 12;
 
-/// How many sets of facts were tried, proved a verdict, and proved another than the zone's.
+/// How many sets of facts were tried, proved a verdict, and proved what the zone does not say.
 #[derive(Clone, Copy, Debug)]
 pub struct Tally {
     pub sets: u32,
@@ -29,10 +29,10 @@ pub struct Tally {
 }
 
 impl Tally {
-    /// The tally with one more set, and what it proved beside what the zone says.
-    fn with(self, said: &PlainVerdict, found: Option<&PlainVerdict>) -> Tally {
+    /// The tally with one more set, and what it proved beside what the zone says: of an alias nothing.
+    fn with(self, said: Option<&PlainVerdict>, found: Option<&PlainVerdict>) -> Tally {
         let proved = found.is_some();
-        let unlike = found.is_some_and(|verdict| !is_same(verdict, said));
+        let unlike = found.is_some_and(|verdict| !said.is_some_and(|s| is_same(verdict, s)));
         Tally {
             sets: self.sets.wrapping_add(1),
             proved: self.proved.wrapping_add(u32::from(proved)),
@@ -131,13 +131,18 @@ impl<'a> Trial<'a> {
         rtype: u16,
         tally: Tally,
     ) -> Result<Tally, AllocError> {
-        let said = self
+        let verdict = self
             .plain
             .verdict(alloc, self.chain.opts_out(), name, rtype)?;
-        let mut tally = self.with_rrset(alloc, name, rtype, &said, None, tally)?;
+        let said = if self.zone.is_alias(alloc, name, &verdict)? {
+            None
+        } else {
+            Some(&verdict)
+        };
+        let mut tally = self.with_rrset(alloc, name, rtype, said, None, tally)?;
         for labels in 0..8u8 {
             if self.zone.signed(alloc, name, rtype, labels)?.is_some() {
-                tally = self.with_rrset(alloc, name, rtype, &said, Some(labels), tally)?;
+                tally = self.with_rrset(alloc, name, rtype, said, Some(labels), tally)?;
             }
         }
         Ok(tally)
@@ -148,7 +153,7 @@ impl<'a> Trial<'a> {
         alloc: Global,
         name: &[Octets],
         rtype: u16,
-        said: &PlainVerdict,
+        said: Option<&PlainVerdict>,
         labels: Option<u8>,
         tally: Tally,
     ) -> Result<Tally, AllocError> {

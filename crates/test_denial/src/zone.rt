@@ -3,6 +3,7 @@
 use crate::names::{copied, is_above, is_among, label_count, last_labels, under};
 use definitions::reference::Octets;
 use definitions::reference::names::{at_or_above, same};
+use definitions::reference::verdict::PlainVerdict;
 use definitions::reference::zone::{PlainRecord, PlainZone};
 use denial_laws::reference::facts::PlainRrset;
 use std::alloc::{AllocError, Global};
@@ -10,6 +11,10 @@ use std::alloc::{AllocError, Global};
 const NS: u16 = 2;
 
 const DS: u16 = 43;
+
+const CNAME: u16 = 5;
+
+const DNAME: u16 = 39;
 
 /// A record, of whose data no more matters than whose they are: they spell the owner.
 #[derive(Debug, Drop)]
@@ -75,6 +80,49 @@ impl SmallZone {
     fn is_kept(&self, excluding: bool, name: &[Octets]) -> bool {
         let left_out = excluding && self.is_delegation(name) && !self.has(name, DS);
         self.is_live(name) && !left_out
+    }
+
+    fn exists(&self, name: &[Octets]) -> bool {
+        let below = |r: &SmallRecord| self.is_live(&r.owner) && at_or_above(name, &r.owner);
+        at_or_above(&self.apex, name) && self.records.iter().any(below)
+    }
+
+    fn is_redirected(&self, name: &[Octets]) -> bool {
+        self.records.iter().any(|r| r.rtype == DNAME
+            && is_above(&r.owner, name)
+            && self.is_live(&r.owner))
+    }
+
+    /// Whether the wildcard under a missing name's closest encloser has CNAME.
+    fn is_wildcard_alias(&self, alloc: Global, name: &[Octets]) -> Result<bool, AllocError> {
+        match name.split_first() {
+            None => Ok(false),
+            Some((_, parent)) => {
+                if self.exists(parent) {
+                    Ok(self.has(&under(alloc, b"*", parent)?, CNAME))
+                } else {
+                    self.is_wildcard_alias(alloc, parent)
+                }
+            },
+        }
+    }
+
+    /// Whether a name of this verdict is an alias: a DNAME stands above it, or where a type other than CNAME is missing,
+    /// CNAME is there.
+    pub fn is_alias(
+        &self,
+        alloc: Global,
+        name: &[Octets],
+        verdict: &PlainVerdict,
+    ) -> Result<bool, AllocError> {
+        if self.is_redirected(name) {
+            return Ok(true);
+        }
+        match verdict {
+            PlainVerdict::NoType => Ok(self.has(name, CNAME)),
+            PlainVerdict::StarNoType => self.is_wildcard_alias(alloc, name),
+            _ => Ok(false),
+        }
     }
 
     /// The owners that a chain has records of, each once.
