@@ -31,8 +31,8 @@ mod run;
 /// where the run's own lists cannot grow, or a DS set that is shown.
 ///
 /// Whatever messages are judged beside a DS set that was shown, where nothing in them is forged the verdict is that of a
-/// version of the zone: each signature in them that a judge may use is over an RRset of a version, with the times of an answer
-/// that was of it, or over keys that were published.
+/// version of the zone: each signature in them that a judge may use is over an RRset of a version, from the second of an answer
+/// that was of it until whenever, or over keys that were published.
 pub fn simulate<S: Scheme, H: Nsec3Hasher>(
     alloc: Global,
     apex: Name<Vec<u8>>,
