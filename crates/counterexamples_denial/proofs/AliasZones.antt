@@ -4,7 +4,7 @@ use Rattle.std.specs.Prelude.{◌==◌}
 use Rattle.std.proofs.lemmas.Bool.{and_parts, or_cases, false≢true, false_from_ne_true, eqb-true}
 use Rattle.definitions.specs.Name.{Name, labels_eq, strictly_above}
 use Rattle.definitions.specs.Bitmap.{bitmap, octet_of, window_size, window_count}
-use Rattle.definitions.specs.Zone.{Rr, Zone, owners, is_of, has, is_delegation, star_under, data_at}
+use Rattle.definitions.specs.Zone.{Rr, Zone, owners, is_of, has, is_delegation}
 use Rattle.definitions.proofs.Members.{in_contained}
 use Rattle.definitions.proofs.NameLaws.{labels_decide}
 use Rattle.denial_laws.specs.Aliases.{IsOrderly}
@@ -85,11 +85,8 @@ aliasing_orderly = record {
     | inl e ↦ absurd (apart (e.0 ∙ sym (at_b 5 (λ f. omega (arith, f)) o c)))
     | inr e ↦ sym e.1
   ];
-  one_cname = λ o c. ap (λ n. length (data_at aliasing n 5)) (sym (at_b 5 (λ f. omega (arith, f)) o c));
-  one_dname = λ o d. absurd (false≢true (sym (no_dname o) ∙ d));
   uncut = λ o d. absurd (false≢true (sym (no_dname o) ∙ d));
   childless = λ o below d i. absurd (false≢true (sym (no_dname o) ∙ d));
-  no_star = λ e. no_dname (star_under e);
 }
 
 no_cname : (o : Name) → has redirecting o 5 ≡ false
@@ -101,14 +98,11 @@ dname_at o d = at_b 39 (λ f. omega (arith, f)) o d
 redirecting_orderly : IsOrderly redirecting
 redirecting_orderly = record {
   alone = λ o t c h. absurd (false≢true (sym (no_cname o) ∙ c));
-  one_cname = λ o c. absurd (false≢true (sym (no_cname o) ∙ c));
-  one_dname = λ o d. ap (λ n. length (data_at redirecting n 39)) (sym (dname_at o d));
   uncut = λ o d. ap (is_delegation redirecting) (sym (dname_at o d));
   childless = λ o below d i. elim (in_contained (owners redirecting) below i.0 i.1 i.2) [
     | inl m ↦ (λ j. strictly_above (sym (dname_at o d) j) (m j))
     | inr r ↦ elim r [ inl m ↦ (λ j. strictly_above (sym (dname_at o d) j) (m j)) | inr n ↦ absurd n ]
   ];
-  no_star = λ e. false_from_ne_true (has redirecting (star_under e) 39) (λ d. false≢true ((labels_decide b (star_under e)).1 (dname_at (star_under e) d)));
 }
 
 pub aliasing_served : IsServable aliasing
