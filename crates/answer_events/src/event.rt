@@ -19,7 +19,7 @@ pub struct Event {
 
 /// What a zone's keeper, a resolver or a stranger does.
 ///
-/// A place counts the things shown so far, from 0 on.
+/// A place counts the things shown so far that can be judged, from 0 on.
 #[derive(Drop)]
 pub enum Act {
     /// A call on the keys of the zone.
@@ -28,6 +28,10 @@ pub enum Act {
     Replace(Vec<ZoneRecord>),
     /// Shows the DS set of the parent (RFC 4034, 5).
     ShowDs,
+    /// Shows the CDS set, which asks the parent for a DS set. It takes no place (RFC 7344, 3).
+    ShowCds,
+    /// Shows the CDNSKEY set. It takes no place.
+    ShowCdnskey,
     /// Shows the answer for the DNSKEY RRset.
     ShowDnskey,
     /// Shows the zone's answer to a question.
@@ -54,6 +58,8 @@ impl fmt::Debug for Act {
             Act::Key(call) => f.debug_tuple("Key").field(call).finish(),
             Act::Replace(records) => f.debug_tuple("Replace").field(&records.len()).finish(),
             Act::ShowDs => f.write_str("ShowDs"),
+            Act::ShowCds => f.write_str("ShowCds"),
+            Act::ShowCdnskey => f.write_str("ShowCdnskey"),
             Act::ShowDnskey => f.write_str("ShowDnskey"),
             Act::Ask(question) => f.debug_tuple("Ask").field(question).finish(),
             Act::Judge { ds, dnskey, answer } => f

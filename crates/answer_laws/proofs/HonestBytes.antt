@@ -153,6 +153,10 @@ stepped w signings past v s t at (act.Replace records) (outcome.Replaced (Err e)
 stepped w signings past v s t at (act.Replace records) _ known is = absurd is
 stepped w signings past v s t at act.ShowDs (outcome.Ds place set) known is = shows w signings past v s t (things.OfParent set.items) known tt is.2
 stepped w signings past v s t at act.ShowDs _ known is = absurd is
+stepped w signings past v s t at act.ShowCds (outcome.Cds set) known is = stays w signings past v s t known is.1
+stepped w signings past v s t at act.ShowCds _ known is = absurd is
+stepped w signings past v s t at act.ShowCdnskey (outcome.Cdnskey set) known is = stays w signings past v s t known is.1
+stepped w signings past v s t at act.ShowCdnskey _ known is = absurd is
 stepped w signings past v s t at act.ShowDnskey (outcome.Message place octets) known is = shows w signings past v s t (things.OfKeys octets.items) known tt is.2
 stepped w signings past v s t at act.ShowDnskey (outcome.Refused e) known is = stays w signings past v s t known is.1
 stepped w signings past v s t at act.ShowDnskey _ known is = absurd is
@@ -238,6 +242,8 @@ spoken w y s t at (act.Judge ds dnskey answer) _ apex all one known is = tt
 spoken w y s t at (act.Key c) o apex all one known is = tt
 spoken w y s t at (act.Replace records) o apex all one known is = tt
 spoken w y s t at act.ShowDs o apex all one known is = tt
+spoken w y s t at act.ShowCds o apex all one known is = tt
+spoken w y s t at act.ShowCdnskey o apex all one known is = tt
 spoken w y s t at act.ShowDnskey o apex all one known is = tt
 spoken w y s t at (act.Ask q) o apex all one known is = tt
 

@@ -411,6 +411,10 @@ stepped w ms h past v s t at (act.Replace records) (outcome.Replaced (Err e)) kn
 stepped w ms h past v s t at (act.Replace records) _ known is = absurd is
 stepped w ms h past v s t at act.ShowDs (outcome.Ds place set) known is = shows w ms h past v s t at s.latest (OfParent set.items) known is.1 is.2
 stepped w ms h past v s t at act.ShowDs _ known is = absurd is
+stepped w ms h past v s t at act.ShowCds (outcome.Cds set) known is = stays w ms h past v s t known is.1
+stepped w ms h past v s t at act.ShowCds _ known is = absurd is
+stepped w ms h past v s t at act.ShowCdnskey (outcome.Cdnskey set) known is = stays w ms h past v s t known is.1
+stepped w ms h past v s t at act.ShowCdnskey _ known is = absurd is
 stepped w ms h past v s t at act.ShowDnskey (outcome.Message place octets) known is = shows w ms h past v s t at s.latest (OfKeys octets.items) known (keys_of_now w v.now s at octets.items known.records_are is.1) is.2
 stepped w ms h past v s t at act.ShowDnskey (outcome.Refused e) known is = stays w ms h past v s t known is.1
 stepped w ms h past v s t at act.ShowDnskey _ known is = absurd is
@@ -435,6 +439,8 @@ spoken_at w ms h past v s t at (act.JudgeBytes ds dnskey answer q) _ known is = 
 spoken_at w ms h past v s t at (act.Key c) o known is = λ rs about. tt
 spoken_at w ms h past v s t at (act.Replace records) o known is = λ rs about. tt
 spoken_at w ms h past v s t at act.ShowDs o known is = λ rs about. tt
+spoken_at w ms h past v s t at act.ShowCds o known is = λ rs about. tt
+spoken_at w ms h past v s t at act.ShowCdnskey o known is = λ rs about. tt
 spoken_at w ms h past v s t at act.ShowDnskey o known is = λ rs about. tt
 spoken_at w ms h past v s t at (act.Ask q) o known is = λ rs about. tt
 
@@ -450,6 +456,8 @@ spoken_through w ms h past v s t at (act.JudgeBytes ds dnskey answer q) _ known 
 spoken_through w ms h past v s t at (act.Key c) o known is = λ rs about. tt
 spoken_through w ms h past v s t at (act.Replace records) o known is = λ rs about. tt
 spoken_through w ms h past v s t at act.ShowDs o known is = λ rs about. tt
+spoken_through w ms h past v s t at act.ShowCds o known is = λ rs about. tt
+spoken_through w ms h past v s t at act.ShowCdnskey o known is = λ rs about. tt
 spoken_through w ms h past v s t at act.ShowDnskey o known is = λ rs about. tt
 spoken_through w ms h past v s t at (act.Ask q) o known is = λ rs about. tt
 

@@ -214,6 +214,10 @@ stepped w times v signings s t at (act.Replace records) (outcome.Replaced (Err e
 stepped w times v signings s t at (act.Replace records) _ known is = absurd is
 stepped w times v signings s t at act.ShowDs (outcome.Ds place set) known is = same w times at v signings s t (ap (λ (x : Sofar). x.latest) is.2) known
 stepped w times v signings s t at act.ShowDs _ known is = absurd is
+stepped w times v signings s t at act.ShowCds (outcome.Cds set) known is = same w times at v signings s t (latest_of s t is.1) known
+stepped w times v signings s t at act.ShowCds _ known is = absurd is
+stepped w times v signings s t at act.ShowCdnskey (outcome.Cdnskey set) known is = same w times at v signings s t (latest_of s t is.1) known
+stepped w times v signings s t at act.ShowCdnskey _ known is = absurd is
 stepped w times v signings s t at act.ShowDnskey (outcome.Message place octets) known is = same w times at v signings s t (ap (λ (x : Sofar). x.latest) is.2) known
 stepped w times v signings s t at act.ShowDnskey (outcome.Refused e) known is = same w times at v signings s t (latest_of s t is.1) known
 stepped w times v signings s t at act.ShowDnskey _ known is = absurd is

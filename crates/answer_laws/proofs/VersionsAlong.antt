@@ -102,6 +102,8 @@ only_keeps w rs y keys at act.ShowDs (outcome.Ds place set) keeps h = record {
   places = one_more rs y.history.shown y.versions.shown _ y.versions.now h.places h.now;
 }
 only_keeps w rs y keys at act.ShowDs _ keeps h = record { all = h.all; now = h.now; moments = h.moments; places = h.places }
+only_keeps w rs y keys at act.ShowCds o keeps h = record { all = h.all; now = h.now; moments = h.moments; places = h.places }
+only_keeps w rs y keys at act.ShowCdnskey o keeps h = record { all = h.all; now = h.now; moments = h.moments; places = h.places }
 only_keeps w rs y keys at act.ShowDnskey (outcome.Message place octets) keeps h = record {
   all = h.all;
   now = h.now;
@@ -139,6 +141,8 @@ unchanged_at w rs y s at (act.JudgeBytes ds dnskey answer q) _ zone only h = tt
 unchanged_at w rs y s at (act.Key c) o zone only h = tt
 unchanged_at w rs y s at (act.Replace records) o zone only h = tt
 unchanged_at w rs y s at act.ShowDs o zone only h = tt
+unchanged_at w rs y s at act.ShowCds o zone only h = tt
+unchanged_at w rs y s at act.ShowCdnskey o zone only h = tt
 unchanged_at w rs y s at act.ShowDnskey o zone only h = tt
 unchanged_at w rs y s at (act.Ask q) o zone only h = tt
 
@@ -155,6 +159,8 @@ unchanged_through w rs y s at (act.JudgeBytes ds dnskey answer q) _ zone only h 
 unchanged_through w rs y s at (act.Key c) o zone only h = tt
 unchanged_through w rs y s at (act.Replace records) o zone only h = tt
 unchanged_through w rs y s at act.ShowDs o zone only h = tt
+unchanged_through w rs y s at act.ShowCds o zone only h = tt
+unchanged_through w rs y s at act.ShowCdnskey o zone only h = tt
 unchanged_through w rs y s at act.ShowDnskey o zone only h = tt
 unchanged_through w rs y s at (act.Ask q) o zone only h = tt
 
@@ -168,6 +174,8 @@ at_more P Q s (act.JudgeBytes ds dnskey answer q) _ f h = tt
 at_more P Q s (act.Key c) o f h = tt
 at_more P Q s (act.Replace records) o f h = tt
 at_more P Q s act.ShowDs o f h = tt
+at_more P Q s act.ShowCds o f h = tt
+at_more P Q s act.ShowCdnskey o f h = tt
 at_more P Q s act.ShowDnskey o f h = tt
 at_more P Q s (act.Ask q) o f h = tt
 

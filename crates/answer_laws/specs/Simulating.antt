@@ -17,7 +17,7 @@ use Rattle.messages.specs.Handed.{IsHanded}
 use Rattle.messages.specs.HandedRr.{HandedRr, handed_of}
 use Rattle.messages.specs.Message.{Asked}
 use Rattle.messages.specs.Questions.{asked_of}
-use Rattle.answer_publisher_keys.specs.Bindings.{ZoneKeys, no_keys, ds_set}
+use Rattle.answer_publisher_keys.specs.Bindings.{ZoneKeys, no_keys, cdnskey_set, cds_set, ds_set}
 use Rattle.answer_publisher_keys.specs.KeyCalls.{Acts}
 use Rattle.answer_publisher.specs.Publishing.{digest_at}
 use Rattle.answer_publisher.specs.Replacing.{RefusesReplacement, is_too_soon, noted}
@@ -95,14 +95,16 @@ Replaces w s at rs (Ok u) t =
 Replaces w s at rs (Err e) t = RefusesReplacement w.answers.hash w.zone s.latest at rs e × (t ≡ s)
 
 -- One event, its outcome, and what there is after it: a key call gives what the table says; a replacement changes the zone's
--- records alone; a thing that is shown takes the next place; a judgement is of what stands at its places. What is refused takes
--- no place.
+-- records alone; a thing that is shown takes the next place, but for what the parent is asked for, which isn't judged; a
+-- judgement is of what stands at its places. What is refused takes no place.
 abbrev pub StepOf : World → Sofar → ℕ → Act → Outcome → Sofar → Type 0
 StepOf w s at (act.Key c) (outcome.Key r) t =
     Acts (digest_at w.answers.digest w.zone.apex) (call_of c) at s.keys t.keys r × (t ≡ record s { keys = t.keys })
 StepOf w s at (act.Replace records) (outcome.Replaced r) t = Replaces w s at (map handed_of records.items) r t
 StepOf w s at act.ShowDs (outcome.Ds place set) t =
     (place ≡ length s.shown) × (set.items ≡ ds_set s.keys) × (t ≡ record s { shown = s.shown ++ OfParent set.items ∷ [] })
+StepOf w s at act.ShowCds (outcome.Cds set) t = (set.items ≡ cds_set s.keys) × (t ≡ s)
+StepOf w s at act.ShowCdnskey (outcome.Cdnskey set) t = (set.items ≡ cdnskey_set s.keys) × (t ≡ s)
 StepOf w s at act.ShowDnskey (outcome.Message place octets) t =
     (place ≡ length s.shown) × ShowsKeys (now_in w s) s.keys at octets.items × (t ≡ record s { shown = s.shown ++ OfKeys octets.items ∷ [] })
 StepOf w s at act.ShowDnskey (outcome.Refused e) t = RefusesKeysQuestion (now_in w s) s.keys at e × (t ≡ s)

@@ -1,6 +1,7 @@
 //! The outcomes of events.
 use answer_judge_keys::verdict::{Judgement, Refused};
 use answer_publisher::fault::{AnswerFault, KeyFault, ReplaceFault};
+use answer_shared::dnskey::Dnskey;
 use denial_data::Ds;
 use keyset::Action;
 
@@ -13,6 +14,10 @@ pub enum Outcome {
     Replaced(Result<(), ReplaceFault>),
     /// A DS set, in ascending order of tag.
     Ds { place: usize, set: Vec<Ds<Vec<u8>>> },
+    /// A CDS set, in ascending order of tag. It takes no place.
+    Cds(Vec<Ds<Vec<u8>>>),
+    /// A CDNSKEY set, in ascending order of tag. It takes no place.
+    Cdnskey(Vec<Dnskey<Vec<u8>>>),
     /// A DNSKEY answer or a zone answer.
     Message { place: usize, octets: Vec<u8> },
     /// Nothing is shown, and no place is taken.

@@ -14,7 +14,7 @@ ghost use Rattle.answer_shared.specs.ModeView.{mode_of};
 ghost use Rattle.messages.specs.HandedRr.{handed_of};
 ghost use Rattle.keyset.specs.KeyState.{text_of, is_available};
 ghost use Rattle.answer_events.specs.Calls.{Decoupled, Present, Signer, AtParent, Visible, DsVisible, RrsigVisible, Stale};
-ghost use Rattle.answer_publisher_keys.specs.Bindings.{no_keys, dnskey_at, dnskey_for, ds_set, is_bound_away, published, dnskeys, keys_by_tag, Add, Set, Delete, Start, Report1, Wait1, Report2, Wait2, Finish};
+ghost use Rattle.answer_publisher_keys.specs.Bindings.{no_keys, dnskey_at, dnskey_for, ds_set, cds_set, cdnskey_set, is_bound_away, published, dnskeys, keys_by_tag, Add, Set, Delete, Start, Report1, Wait1, Report2, Wait2, Finish};
 ghost use Rattle.answer_publisher_keys.specs.KeyCalls.{Acts, Changes};
 ghost use Rattle.answer_publisher.specs.Publishing.{digest_at};
 ghost use Rattle.answer_publisher.specs.Replacing.{later, noted, whole_second};
@@ -278,6 +278,21 @@ impl<'a, S: Scheme, H: Nsec3Hasher> Publisher<'a, S, H> {
         ensures { IfOk result (λ v. v.items ≡ ds_set self.now.keys) }
     {
         self.keys.ds_set()
+    }
+
+    /// The CDS set, which asks the parent for the DS set: that set from the actions that create the CDS RRset on, up to those
+    /// that remove it, else nothing (RFC 7344, 3).
+    pub fn cds_set(&self) -> Result<Vec<Ds<Vec<u8>>>, AllocError>
+        ensures { IfOk result (λ v. v.items ≡ cds_set self.now.keys) }
+    {
+        self.keys.cds_set()
+    }
+
+    /// The CDNSKEY set, in order of tag: the keys that the CDS set is of (RFC 7344, 3).
+    pub fn cdnskey_set(&self) -> Result<Vec<Dnskey<Vec<u8>>>, AllocError>
+        ensures { IfOk result (λ v. v.items ≡ cdnskey_set self.now.keys) }
+    {
+        self.keys.cdnskey_set()
     }
 
     /// Whether a reference is bound to another key than one of these octets, at most 65,531 of them, so that an add of

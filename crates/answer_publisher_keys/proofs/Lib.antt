@@ -4,3 +4,4 @@ pub mod BoundKeys
 pub mod KeyTags
 pub mod KeyTagsPublished
 pub mod PublishedKeys
+pub mod Asking

@@ -17,7 +17,7 @@ use Rattle.keyset.specs.KeyState.{Key, KeySetState, Reference, key_of, reference
 use Rattle.keyset.proofs.KeyFinds.{both_first, both_second, is_itself, is_same}
 use Rattle.messages.proofs.Lists.{some_is}
 use Rattle.answer_publisher_keys.specs.declared.keys.Publication.{Publication}
-use Rattle.answer_publisher_keys.specs.declared.keys.Publication.TheVariants.{AtParent, Present, SignsKeys, SignsZone}
+use Rattle.answer_publisher_keys.specs.declared.keys.Publication.TheVariants.{AtParent, Present, Signs, SignsKeys, SignsZone}
 use Rattle.answer_publisher_keys.specs.Bindings.{BoundKey, ListsRoles, ZoneKeys, bound_at, dnskey_rdata, dnskeys, ds_cmp, ds_of, ds_set, has_role, is_published, keys_by_tag, no_keys, published, references_in, shown}
 use Rattle.answer_publisher_keys.specs.KeyTags.{behind}
 use Rattle.answer_publisher_keys.specs.PublishedKeys.{AreOf, IsPublishedAs, PublishedKeysAreThoseOfTheSet, PublishesKeySet}
@@ -30,6 +30,7 @@ lists_roles AtParent s = refl
 lists_roles Present s = refl
 lists_roles SignsKeys s = refl
 lists_roles SignsZone s = refl
+lists_roles Signs s = refl
 
 -- ---- entries in order of reference
 

@@ -1,5 +1,5 @@
 -- Keys together with the DNSKEYs that their references are bound to, call by call.
-use Rattle.std.specs.Prelude.{◌≡◌, ℕ, Bool, false, not, List, [], map, filter, Option, Some, None, option_map, Result, Ok, Err, if◌then◌else◌}
+use Rattle.std.specs.Prelude.{◌≡◌, ℕ, Bool, false, not, ◌||◌, List, [], map, filter, Option, Some, None, option_map, Result, Ok, Err, if◌then◌else◌}
 use Rattle.std.specs.declared.cmp.Ordering.{Ordering}
 use Rattle.std.specs.Ordering.{nat_cmp}
 use Rattle.std.specs.Cmp.Lexicographic.{slice_cmp}
@@ -17,7 +17,7 @@ use Rattle.answer_events.specs.Calls as calls
 use Rattle.keyset_rolls.specs.declared.rolls.RollType.{RollType}
 use Rattle.keyset_rolls.specs.declared.rolls.Action.{Action}
 use Rattle.keyset.specs.KeyState as key_set
-use Rattle.keyset.specs.KeyState.{KeySetState, Reference, reference_cmp, Refusal, Answer, key_of, ksk_is, zsk_is, main_is, is_at_parent, is_present, signs}
+use Rattle.keyset.specs.KeyState.{KeySetState, Reference, reference_cmp, Refusal, Answer, asks_parent, key_of, ksk_is, zsk_is, main_is, is_at_parent, is_present, signs}
 use Rattle.keyset.specs.KeyRuns as runs
 use Rattle.keyset.specs.KeyRuns.{Kind, OfKsk, OfZsk, OfCsk, OfOther}
 
@@ -126,12 +126,13 @@ no_keys name = record { keys = record { name = name; keys = []; rolls = [] }; bo
 
 -- ---- what is published
 
--- what the DS set, the DNSKEY set and the two kinds of signatures are of
+-- what the DS set, the DNSKEY set and the kinds of signatures are of
 abbrev pub has_role : Publication → KeyType → Bool
 has_role publication.AtParent r = ksk_is is_at_parent r
 has_role publication.Present r = main_is is_present r
 has_role publication.SignsKeys r = ksk_is signs r
 has_role publication.SignsZone r = zsk_is signs r
+has_role publication.Signs r = ksk_is signs r || zsk_is signs r
 
 -- the references of such keys, as the key set lists them
 abbrev pub references_in : Publication → KeySetState → List Reference
@@ -139,6 +140,7 @@ references_in publication.AtParent s = key_set.ds s
 references_in publication.Present s = key_set.present s
 references_in publication.SignsKeys s = key_set.keysigners s
 references_in publication.SignsZone s = key_set.zonesigners s
+references_in publication.Signs s = key_set.signers s
 
 -- they are those whose keys have the role
 abbrev pub ListsRoles : Type 0
@@ -178,3 +180,11 @@ keys_by_tag s p = by_tag (dnskeys (published s p))
 -- the data of the DNSKEY RRset, in canonical order (RFC 4034, 6.3)
 abbrev pub dnskey_rdata : ZoneKeys → List (List ℕ)
 dnskey_rdata s = sort_by (slice_cmp nat_cmp) (map dnskey_data (dnskeys (published s publication.Present)))
+
+-- what the parent is asked for while a roll asks for its DS set: that set as CDS records, and the keys that it is of as CDNSKEY
+-- records (RFC 7344, 3); nothing at other times
+abbrev pub cds_set : ZoneKeys → List Ds
+cds_set s = if asks_parent s.keys then ds_set s else []
+
+abbrev pub cdnskey_set : ZoneKeys → List Dnskey
+cdnskey_set s = if asks_parent s.keys then keys_by_tag s publication.AtParent else []

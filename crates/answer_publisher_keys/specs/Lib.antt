@@ -4,3 +4,4 @@ pub mod KeyCalls
 pub mod KeyTags
 pub mod NewKeys
 pub mod PublishedKeys
+pub mod Asking

@@ -8,7 +8,7 @@ ghost use Rattle.definitions.specs.Sorting.{put_by, sort_by};
 ghost use Rattle.std.specs.Ordering.{nat_cmp};
 ghost use Rattle.keyset.specs.KeyState.{Key, add};
 ghost use Rattle.answer_events.specs.Calls.{Decoupled, Present, Signer, AtParent, Visible, DsVisible, RrsigVisible, Stale};
-ghost use Rattle.answer_publisher_keys.specs.Bindings.{ZoneKeys, BoundKey, no_keys, Set, Delete, Start, Report1, Wait1, Report2, Wait2, Finish, bound_at, dnskey_at, is_bound_away, has_role, is_published, keys_by_tag, ds_of, ds_set, dnskey_rdata};
+ghost use Rattle.answer_publisher_keys.specs.Bindings.{ZoneKeys, BoundKey, no_keys, Set, Delete, Start, Report1, Wait1, Report2, Wait2, Finish, bound_at, dnskey_at, is_bound_away, has_role, is_published, keys_by_tag, ds_of, ds_set, cds_set, cdnskey_set, dnskey_rdata};
 ghost use Rattle.answer_publisher_keys.specs.Bindings as bindings;
 ghost use Rattle.answer_publisher_keys.specs.BoundView.{by_text};
 ghost use Rattle.keyset.specs.KeyAnswers.{Changes, IsAccepted};
@@ -40,6 +40,8 @@ pub enum Publication {
     SignsKeys,
     /// Those that sign the zone.
     SignsZone,
+    /// Those that sign the one or the other.
+    Signs,
 }
 
 impl Publication {
@@ -60,6 +62,11 @@ impl Publication {
             Publication::SignsZone => match keytype {
                 KeyType::Zsk(state) | KeyType::Csk(_, state) => state.signer(),
                 KeyType::Ksk(_) | KeyType::Include(_) => false,
+            },
+            Publication::Signs => match keytype {
+                KeyType::Ksk(state) | KeyType::Zsk(state) => state.signer(),
+                KeyType::Csk(ksk, zsk) => ksk.signer() || zsk.signer(),
+                KeyType::Include(_) => false,
             },
         }
     }
@@ -427,6 +434,28 @@ impl ZoneKeys {
             }
         }
         Ok(set)
+    }
+
+    /// The CDS set: the DS set while a roll asks the parent for it, else nothing (RFC 7344, 3).
+    pub fn cds_set(&self) -> Result<Vec<Ds<Vec<u8>>>, AllocError>
+        ensures { IfOk result (λ v. v.items ≡ cds_set self.now) }
+    {
+        if self.keys.asks_parent() {
+            self.ds_set()
+        } else {
+            Ok(Vec::new(self.alloc))
+        }
+    }
+
+    /// The CDNSKEY set: the keys that the CDS set is of, in order of tag.
+    pub fn cdnskey_set(&self) -> Result<Vec<Dnskey<Vec<u8>>>, AllocError>
+        ensures { IfOk result (λ v. v.items ≡ cdnskey_set self.now) }
+    {
+        if self.keys.asks_parent() {
+            self.keys_by_tag(Publication::AtParent)
+        } else {
+            Ok(Vec::new(self.alloc))
+        }
     }
 }
 

@@ -1,5 +1,6 @@
 //! Laws of a zone's keys.
 ghost use Rattle.answer_publisher_keys.specs.Bindings.{ListsRoles};
+ghost use Rattle.answer_publisher_keys.specs.Asking.{AsksForDsSet, AsksWhatRollsWaitFor};
 ghost use Rattle.answer_publisher_keys.specs.KeyTags.{PublishedTagsDiffer, PublishedTagsPass};
 ghost use Rattle.answer_publisher_keys.specs.PublishedKeys.{PublishedKeysAreThoseOfTheSet};
 
@@ -15,4 +16,11 @@ pub fn published_tags_differ()
 pub fn published_keys_are_those_of_the_set()
     ensures lists { ListsRoles }
     ensures published { PublishedKeysAreThoseOfTheSet }
+{}
+
+/// What the parent is asked for, whatever calls are behind a zone's keys: a CDS record for the DS record of each key at the parent,
+/// and a CDNSKEY record for its DNSKEY, or nothing. Behind a call whose actions wait for the parent's DS set it is that DS set.
+pub fn parent_is_asked_for_the_ds_set()
+    ensures sets { AsksForDsSet }
+    ensures waits { AsksWhatRollsWaitFor }
 {}

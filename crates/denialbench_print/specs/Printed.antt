@@ -3,8 +3,9 @@ use Rattle.std.specs.Prelude.{ℕ, ◌/◌, List, [], ◌∷◌, ◌++◌, codes
 use Rattle.std.specs.List.{flat_map, join_by}
 use Rattle.std.specs.Duration.{as_nanos}
 use Rattle.hex.specs.Hex.{encode_lower}
+use Rattle.definitions.specs.Dnskey.{key_tag}
 use Rattle.answer_outcomes.specs.declared.outcome.Outcome.{Outcome}
-use Rattle.answer_outcomes.specs.declared.outcome.Outcome.TheVariants.{Key, Replaced, Ds, Message, Refused, Judged, BadPlace}
+use Rattle.answer_outcomes.specs.declared.outcome.Outcome.TheVariants.{Key, Replaced, Ds, Cds, Cdnskey, Message, Refused, Judged, BadPlace}
 use Rattle.answer_judge_keys.specs.declared.verdict.Judgement.{Judgement}
 use Rattle.answer_judge_keys.specs.declared.verdict.Refused.{Refused as JudgeRefused}
 use Rattle.answer_judge_rules.specs.declared.verdict.Verdict.{Verdict}
@@ -65,6 +66,8 @@ outcome_text (Key (Err fault)) = key_refusal fault
 outcome_text (Replaced (Ok u)) = codes "ok"
 outcome_text (Replaced (Err fault)) = codes "refused " ++ replace_fault_name fault
 outcome_text (Ds place set) = codes "place " ++ decimal place ++ codes " " ++ list_text (λ d. decimal d.tag) set.items
+outcome_text (Cds set) = codes "tags " ++ list_text (λ d. decimal d.tag) set.items
+outcome_text (Cdnskey set) = codes "tags " ++ list_text (λ k. decimal (key_tag k)) set.items
 outcome_text (Message place octets) = codes "place " ++ decimal place
 outcome_text (Refused fault) = codes "refused " ++ answer_fault_name fault
 outcome_text (Judged (Ok judgement)) = judgement_text judgement

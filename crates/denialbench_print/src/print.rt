@@ -2,6 +2,7 @@
 ghost use Rattle.std.specs.Prelude.{◌≡◌, ℕ, List, [], ◌∷◌, ◌++◌, OnOk, string_bytes, decimal};
 ghost use Rattle.std.specs.List.{flat_map};
 ghost use Rattle.hex.specs.Hex.{encode_lower};
+ghost use Rattle.definitions.specs.Dnskey.{key_tag};
 ghost use Rattle.denialbench_print.specs.Names.{action_name};
 ghost use Rattle.denialbench_print.specs.Printed.{octets_text, list_text, actions_text, key_error_text, key_refusal, counts_text, data_text, judgement_text, judge_refusal, outcome_text};
 
@@ -9,6 +10,7 @@ use crate::named::Named;
 use answer_judge_keys::verdict::{DataList, Judgement, Refused, Verdict};
 use answer_outcomes::outcome::Outcome;
 use answer_publisher::fault::KeyFault;
+use denial_keys::dnskey::Dnskey;
 use denial_keys::ds::Ds;
 use keyset::Action;
 use std::alloc::AllocError;
@@ -33,6 +35,16 @@ impl Item for Action {
 /// A DS record is printed by its tag.
 impl Item for Ds<Vec<u8>> {
     ghost text_of = { λ d. decimal d.tag };
+
+    fn push_to(&self, out: &mut String) -> Result<(), AllocError> {
+        let tag = self.key_tag();
+        write!(out, "{tag}")
+    }
+}
+
+/// So is a DNSKEY record.
+impl Item for Dnskey<Vec<u8>> {
+    ghost text_of = { λ k. decimal (key_tag k) };
 
     fn push_to(&self, out: &mut String) -> Result<(), AllocError> {
         let tag = self.key_tag();
@@ -166,6 +178,14 @@ pub fn push_outcome(out: &mut String, outcome: &Outcome) -> Result<(), AllocErro
         }
         Outcome::Ds { place, set } => {
             write!(out, "place {place} ")?;
+            push_list(out, set)
+        }
+        Outcome::Cds(set) => {
+            out.push_str("tags ")?;
+            push_list(out, set)
+        }
+        Outcome::Cdnskey(set) => {
+            out.push_str("tags ")?;
             push_list(out, set)
         }
         Outcome::Message { place, .. } => write!(out, "place {place}"),

@@ -100,6 +100,8 @@ pub data ActLine : Type 0 where
   Replace : List HandedRr → ActLine
   ShowDs : ActLine
   ShowDnskey : ActLine
+  ShowCds : ActLine
+  ShowCdnskey : ActLine
   Ask : Asked → ActLine
   Judge : ℕ → ℕ → ℕ → ActLine
   JudgeBytes : ℕ → List ℕ → List ℕ → Asked → ActLine
@@ -185,7 +187,7 @@ delete_line pubref = do
 
 -- by how many fields stand before the moment
 abbrev pub act_line1 : List ℕ → Option ActLine
-act_line1 w = if bytes_eq w (codes "ds") then Some ShowDs else if bytes_eq w (codes "dnskey") then Some ShowDnskey else None
+act_line1 w = if bytes_eq w (codes "ds") then Some ShowDs else if bytes_eq w (codes "dnskey") then Some ShowDnskey else if bytes_eq w (codes "cds") then Some ShowCds else if bytes_eq w (codes "cdnskey") then Some ShowCdnskey else None
 
 abbrev pub act_line2 : List ℕ → List ℕ → Option ActLine
 act_line2 w a = if bytes_eq w (codes "wait1") then roll_line Wait1 a else if bytes_eq w (codes "wait2") then roll_line Wait2 a else if bytes_eq w (codes "done") then roll_line Finish a else if bytes_eq w (codes "delete") then delete_line a else None

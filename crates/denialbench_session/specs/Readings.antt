@@ -19,7 +19,7 @@ use Rattle.plain.specs.Soa.{soa_octets, soa_canonical}
 use Rattle.plain.specs.declared.soa.Soa.{Soa}
 use Rattle.plain.specs.declared.zone_data.ZoneRecordData.{ZoneRecordData}
 use Rattle.answer_events.specs.HandedRr.{handed_of, is_unknown, written_of, canonical_of}
-use Rattle.denialbench_session.specs.Grammar.{ZoneLine, ActLine, EventLine, DataField, KeyCall, Replace, ShowDs, ShowDnskey, Ask, Judge, JudgeBytes}
+use Rattle.denialbench_session.specs.Grammar.{ZoneLine, ActLine, EventLine, DataField, KeyCall, Replace, ShowDs, ShowDnskey, ShowCds, ShowCdnskey, Ask, Judge, JudgeBytes}
 use Rattle.denialbench_session.specs.Sessions.{Lines, session_of}
 
 -- What a reading returned, seen by view, is what the grammar reads; it is refused where the grammar reads nothing.
@@ -40,6 +40,8 @@ act_view (act.Key c) = KeyCall (call_of c)
 act_view (act.Replace records) = Replace (map handed_of records.items)
 act_view act.ShowDs = ShowDs
 act_view act.ShowDnskey = ShowDnskey
+act_view act.ShowCds = ShowCds
+act_view act.ShowCdnskey = ShowCdnskey
 act_view (act.Ask q) = Ask (asked_of q)
 act_view (act.Judge ds dnskey answer) = Judge ds dnskey answer
 act_view (act.JudgeBytes ds dnskey answer q) = JudgeBytes ds dnskey.items answer.items (asked_of q)

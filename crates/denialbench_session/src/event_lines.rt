@@ -91,7 +91,7 @@ fn read_act(alloc: Global, fields: &[&str]) -> Result<Act, LineError>
     }
 }
 
-/// Reads `ds` and `dnskey`.
+/// Reads `ds`, `dnskey`, `cds` and `cdnskey`.
 fn read_showing(word: &str) -> Result<Act, LineError>
     ensures small { IfOk result (λ a. added_by_act a ≤ 65531) }
     ensures read { Reads act_view result (act_line1 word.now) }
@@ -99,6 +99,8 @@ fn read_showing(word: &str) -> Result<Act, LineError>
     match word {
         "ds" => Ok(Act::ShowDs),
         "dnskey" => Ok(Act::ShowDnskey),
+        "cds" => Ok(Act::ShowCds),
+        "cdnskey" => Ok(Act::ShowCdnskey),
         _ => Err(LineError::Unreadable(other_line(word))),
     }
 }

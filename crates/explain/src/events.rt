@@ -8,7 +8,7 @@ use crate::session::{line_text, next_counting};
 use crate::shown::{Shown, case_of, push_shown};
 use crate::signed_alike::note_unlike;
 use answer::names::ToName;
-use answer::{Act, Ds, Event, Name, Outcome, Verdict};
+use answer::{Act, Dnskey, Ds, Event, Name, Outcome, Verdict};
 use denial_nsec3_sha1::hasher::Sha1Hasher;
 use denialbench_print::print::push_outcome;
 use denialbench_print::scheme::BenchScheme;
@@ -99,7 +99,9 @@ fn push_details(
         (_, Outcome::BadPlace) => explained.note(
             "places of a DS set, a DNSKEY answer and an answer, or of a DS set, are wanting: `judge 0 1 2 8000`",
         ),
-        (_, Outcome::Ds { set, .. }) => push_ds_set(telling, &mut explained.shown, set),
+        (_, Outcome::Ds { set, .. }) => push_ds_set(telling, &mut explained.shown, "DS", set),
+        (_, Outcome::Cds(set)) => push_ds_set(telling, &mut explained.shown, "CDS", set),
+        (_, Outcome::Cdnskey(set)) => push_cdnskey_set(telling, &mut explained.shown, set),
         (_, Outcome::Message { octets, .. }) => push_message(telling, &mut explained.shown, octets),
         (_, Outcome::Judged(Ok(judgement))) => explained.note(field_words(&judgement.verdict)),
         (_, Outcome::Judged(Err(refused))) => {
@@ -129,10 +131,11 @@ fn field_words(verdict: &Verdict) -> &'static str {
     }
 }
 
-/// The DS records as `dig` writes them behind their type, or their data in hexadecimal.
+/// The records of a type that has data of DS records as `dig` writes them, or their data in hexadecimal.
 fn push_ds_set(
     telling: &Telling,
     shown: &mut Vec<String>,
+    rtype: &str,
     set: &[Ds<Vec<u8>>],
 ) -> Result<(), AllocError> {
     let apex = telling.apex.fmt_with_dot();
@@ -145,7 +148,29 @@ fn push_ds_set(
             octets.extend_from_slice(ds.digest())?;
             shown.push(hex::encode(telling.alloc, &octets)?)?;
         } else {
-            shown.push(format!(in telling.alloc; "{apex} IN DS {ds}")?)?;
+            shown.push(format!(in telling.alloc; "{apex} IN {rtype} {ds}")?)?;
+        }
+    }
+    Ok(())
+}
+
+/// The CDNSKEY records as `dig` writes them, or their data in hexadecimal.
+fn push_cdnskey_set(
+    telling: &Telling,
+    shown: &mut Vec<String>,
+    set: &[Dnskey<Vec<u8>>],
+) -> Result<(), AllocError> {
+    let apex = telling.apex.fmt_with_dot();
+    for key in set {
+        if telling.options.has_octets {
+            let mut octets = Vec::new(telling.alloc);
+            octets.extend_from_slice(&key.flags().to_be_bytes())?;
+            octets.push(key.protocol())?;
+            octets.push(key.algorithm().to_int())?;
+            octets.extend_from_slice(key.public_key())?;
+            shown.push(hex::encode(telling.alloc, &octets)?)?;
+        } else {
+            shown.push(format!(in telling.alloc; "{apex} IN CDNSKEY {key}")?)?;
         }
     }
     Ok(())

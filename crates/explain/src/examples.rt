@@ -34,6 +34,8 @@ pub fn example_of(form: Form) -> (&'static str, &'static str) {
         Form::Replace => ("a moment", "replace 7900"),
         Form::Ds => ("a moment", "ds 8000"),
         Form::Dnskey => ("a moment", "dnskey 8000"),
+        Form::Cds => ("a moment", "cds 8000"),
+        Form::Cdnskey => ("a moment", "cdnskey 8000"),
         Form::Ask => ("a name, a type and a moment", "ask a.example 15 3600"),
         Form::Judge => (
             "the places of a DS set, a DNSKEY answer and an answer, and a moment",

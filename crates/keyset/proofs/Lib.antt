@@ -13,3 +13,4 @@ pub mod KeyRunCalls
 pub mod KeyRunStarts
 pub mod KeyRunEnds
 pub mod KeyRunTags
+pub mod Asking

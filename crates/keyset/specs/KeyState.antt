@@ -17,7 +17,7 @@ use Rattle.keyset_rolls.specs.declared.rolls.RollType.TheVariants as roll
 use Rattle.keyset_rolls.specs.declared.rolls.Turn.{Turn}
 use Rattle.keyset_rolls.specs.declared.rolls.Turn.TheVariants as turn
 use Rattle.keyset_rolls.specs.declared.table.Need.{Need}
-use Rattle.keyset_rolls.specs.Actions.{actions_in}
+use Rattle.keyset_rolls.specs.Actions.{actions_in, asks_parent_in}
 use Rattle.keyset_rolls.specs.Rolls.{touches, conflicts, meets_need, needs, started_key, started_roles, reported1, reported2, waited1, waited2, awaited, is_missing, rest_of}
 pub use Rattle.keyset_keys.specs.Keys.{Reference, text_of, is_available, Flags, Key, main_role, ksk_is, zsk_is, main_is, each_is, is_old, is_present, signs, is_at_parent, current, outgoing, is_stale, is_fresh, clear, new_key, on_ksk, on_zsk, on_each, set_old, set_signer, set_present, set_at_parent, publish, see, see_ds, see_rrsig, withdraw, with_roles, with_stamps}
 
@@ -337,3 +337,20 @@ keysigners s = references_where (ksk_is signs) s
 -- the keys that sign the other RRsets
 abbrev pub zonesigners : KeySetState → List Reference
 zonesigners s = references_where (zsk_is signs) s
+
+-- the keys that sign any RRset
+abbrev pub signers : KeySetState → List Reference
+signers s = references_where (λ t. ksk_is signs t || zsk_is signs t) s
+
+-- ---- what the parent is asked for
+
+abbrev pub asks_in : KeySetState → RollType → Bool
+asks_in s r = asks_parent_in r (phase_of s r)
+
+-- the rolls that change the DS set
+abbrev pub rolls_of_ds : List RollType
+rolls_of_ds = roll.KskRoll ∷ roll.KskDoubleDsRoll ∷ roll.CskRoll ∷ roll.AlgorithmRoll ∷ []
+
+-- whether one that runs asks the parent for its DS set
+abbrev pub asks_parent : KeySetState → Bool
+asks_parent s = list_any (asks_in s) rolls_of_ds

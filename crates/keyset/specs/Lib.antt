@@ -10,3 +10,4 @@ pub mod KeyLaws
 pub mod KeyRuns
 pub mod KeyRows
 pub mod KeyRunLaws
+pub mod AskingLaws

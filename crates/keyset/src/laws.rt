@@ -1,4 +1,5 @@
 //! Laws of key sets.
+ghost use Rattle.keyset.specs.AskingLaws.{CdsComesWithDs, CreatedCdsAsks, RemovedCdsAsksNot};
 ghost use Rattle.keyset.specs.KeyLaws.{PhasesFollow, StartsEnter, WaitsAreExact};
 ghost use Rattle.keyset.specs.KeyRunLaws.{RolesKeep, RollsRunTogether, TagsDiffer, WaitsCountFromReports};
 ghost use Rattle.keyset.specs.KeyRows.{RefusesOnTheWay, RollsSevenTimes};
@@ -22,6 +23,14 @@ pub fn run_laws()
     // The flags of a role keep their invariant, and rolls run together only where they may.
     ensures roles_keep { RolesKeep }
     ensures rolls_run_together { RollsRunTogether }
+{}
+
+/// The parent is asked for a DS set from the actions that create the CDS RRset on, beside which a roll waits for that DS set, up to
+/// those that remove it.
+pub fn parent_is_asked()
+    ensures with_ds { CdsComesWithDs }
+    ensures created { CreatedCdsAsks }
+    ensures removed { RemovedCdsAsksNot }
 {}
 
 /// The keys of a set have different tags, whatever calls were made on it.

@@ -3,7 +3,7 @@ ghost use Rattle.std.specs.Prelude.{◌≡◌, ◌∷◌, ◌++◌, ℕ, List, B
 ghost use Rattle.keyset_keys.specs.declared.keys.KeyType.TheVariants.{Ksk, Zsk, Csk, Include};
 ghost use Rattle.keyset_keys.specs.declared.errors.Error.TheVariants.{Memory};
 ghost use Rattle.keyset_rolls.specs.Actions.{actions_in};
-ghost use Rattle.keyset.specs.KeyState.{KeySetState, by_reference, by_kind, key_of, phase_of, add, done, entered, first_fault, first_new_fault, has_tag, new_fault, old_fault, report1, report2, start, start_fault, algorithms_fault, wait1, wait2, wait_fault, new_key, text_of, clear, is_available, write, decoupled_to, present_to, signer_to, at_parent_to, seen_at, ds_seen_at, rrsig_seen_at, stale_now, delete, Reference, algorithms_within, algorithm_is_within, same_algorithms};
+ghost use Rattle.keyset.specs.KeyState.{KeySetState, by_reference, by_kind, key_of, phase_of, asks_in, asks_parent, add, done, entered, first_fault, first_new_fault, has_tag, new_fault, old_fault, report1, report2, start, start_fault, algorithms_fault, wait1, wait2, wait_fault, new_key, text_of, clear, is_available, write, decoupled_to, present_to, signer_to, at_parent_to, seen_at, ds_seen_at, rrsig_seen_at, stale_now, delete, Reference, algorithms_within, algorithm_is_within, same_algorithms};
 ghost use Rattle.keyset.specs.KeyAnswers.{Acts, Adds, Finds, GivesAtOnce, Lists, Writes};
 ghost use Rattle.keyset.specs.Listing.{AreAlgorithmsOf, listed_by};
 ghost use Rattle.keyset.specs.KeySteps.{new_csk, new_ksk, new_other, new_zsk, set_to};
@@ -398,6 +398,23 @@ impl KeySet {
     {
         let actions = rolltype.actions_in(self.alloc, self.phase(rolltype))?;
         Ok(actions)
+    }
+
+    /// Whether a roll that runs asks the parent for the DS set of the keys at the parent: then the zone has CDS and CDNSKEY
+    /// RRsets of them (RFC 7344, 4).
+    pub fn asks_parent(&self) -> bool
+        ensures { result ≡ asks_parent self.now }
+    {
+        self.asks_in(RollType::KskRoll)
+            || self.asks_in(RollType::KskDoubleDsRoll)
+            || self.asks_in(RollType::CskRoll)
+            || self.asks_in(RollType::AlgorithmRoll)
+    }
+
+    fn asks_in(&self, rolltype: RollType) -> bool
+        ensures { result ≡ asks_in self.now rolltype }
+    {
+        rolltype.asks_parent_in(self.phase(rolltype))
     }
 
     fn enter(&mut self, rolltype: RollType, state: RollState) -> Result<Vec<Action>, AllocError>

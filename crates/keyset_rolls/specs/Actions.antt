@@ -1,5 +1,6 @@
 -- What a roll asks for in each of its phases, and how its name is read.
-use Rattle.std.specs.Prelude.{ℕ, List, [], ◌∷◌, Option, Some, None, Result, Ok, Err, codes, if◌then◌else◌}
+use Rattle.std.specs.Prelude.{ℕ, Bool, true, false, List, [], ◌∷◌, Option, Some, None, Result, Ok, Err, codes, if◌then◌else◌}
+use Rattle.std.specs.List.{list_any}
 use Rattle.std.specs.Str.{bytes_eq}
 use Rattle.keyset_keys.specs.declared.errors.Error.{Error}
 use Rattle.keyset_keys.specs.declared.errors.Error.TheVariants as error
@@ -44,6 +45,30 @@ actions_in r (Some (state.CacheExpire1 ttl)) = []
 actions_in r (Some state.Propagation2) = actions2 r
 actions_in r (Some (state.CacheExpire2 ttl)) = []
 actions_in r (Some state.Done) = actions3 r
+
+-- whether an action is to create the CDS RRset or to remove it, and whether it waits for the parent's DS set
+abbrev pub creates_cds : Action → Bool
+creates_cds act.CreateCdsRrset = true
+creates_cds _ = false
+
+abbrev pub removes_cds : Action → Bool
+removes_cds act.RemoveCdsRrset = true
+removes_cds _ = false
+
+abbrev pub awaits_ds : Action → Bool
+awaits_ds act.ReportDsPropagated = true
+awaits_ds act.WaitDsPropagated = true
+awaits_ds _ = false
+
+-- whether a roll asks the parent for a DS set in a phase: from the actions that create the CDS RRset on, up to the next
+-- actions, which remove it, or to the roll's end (RFC 7344, 4)
+abbrev pub asks_parent_in : RollType → Option RollState → Bool
+asks_parent_in r None = false
+asks_parent_in r (Some state.Propagation1) = list_any creates_cds (actions1 r)
+asks_parent_in r (Some (state.CacheExpire1 ttl)) = list_any creates_cds (actions1 r)
+asks_parent_in r (Some state.Propagation2) = list_any creates_cds (actions2 r)
+asks_parent_in r (Some (state.CacheExpire2 ttl)) = list_any creates_cds (actions2 r)
+asks_parent_in r (Some state.Done) = list_any creates_cds (actions3 r)
 
 -- the name of a roll
 abbrev pub roll_name : RollType → List ℕ

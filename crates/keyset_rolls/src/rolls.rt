@@ -1,6 +1,6 @@
 //! Rolls, their phases, and what they ask for.
 ghost use Rattle.std.specs.Prelude.{◌≡◌, IfOk};
-ghost use Rattle.keyset_rolls.specs.Actions.{actions1, actions2, actions3, actions_in};
+ghost use Rattle.keyset_rolls.specs.Actions.{actions1, actions2, actions3, actions_in, asks_parent_in};
 ghost use Rattle.keyset_rolls.specs.Rolls.{conflicts, is_of_ksks, is_of_zsks};
 
 use keyset_keys::Error;
@@ -130,6 +130,25 @@ impl RollType {
             None | Some(RollState::CacheExpire1(_) | RollState::CacheExpire2(_)) => {
                 Ok(Vec::new(alloc))
             }
+        }
+    }
+
+    /// Whether a roll asks the parent for a DS set in this phase: from the actions that create the CDS RRset on, up to the
+    /// next actions, which remove it, or to the roll's end (RFC 7344, 4).
+    pub fn asks_parent_in(self, phase: Option<RollState>) -> bool
+        ensures { result ≡ asks_parent_in self phase }
+    {
+        match phase {
+            Some(RollState::Propagation1 | RollState::CacheExpire1(_) | RollState::Done) => {
+                matches!(self, RollType::KskDoubleDsRoll)
+            }
+            Some(RollState::Propagation2 | RollState::CacheExpire2(_)) => {
+                matches!(
+                    self,
+                    RollType::KskRoll | RollType::CskRoll | RollType::AlgorithmRoll
+                )
+            }
+            None => false,
         }
     }
 

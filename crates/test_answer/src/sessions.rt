@@ -41,6 +41,8 @@ fn event(alloc: Global, events: &[Event]) -> Option<String> {
     match &event.act {
         Act::Key(_) => format!(in alloc; "key call at {seconds}").ok(),
         Act::ShowDs => format!(in alloc; "DS set at {seconds}").ok(),
+        Act::ShowCds => format!(in alloc; "CDS set at {seconds}").ok(),
+        Act::ShowCdnskey => format!(in alloc; "CDNSKEY set at {seconds}").ok(),
         Act::ShowDnskey => format!(in alloc; "DNSKEY answer at {seconds}").ok(),
         Act::Ask(_) => format!(in alloc; "question at {seconds}").ok(),
         Act::Judge { ds, dnskey, answer } => {

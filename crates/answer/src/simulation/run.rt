@@ -83,6 +83,14 @@ impl<'a, S: Scheme, H: Nsec3Hasher> Run<'a, S, H> {
                 self.results.add(outcome)
             }
             Act::ShowDs => self.show_ds(),
+            Act::ShowCds => {
+                let set = self.publisher.cds_set()?;
+                self.results.add(Outcome::Cds(set))
+            }
+            Act::ShowCdnskey => {
+                let set = self.publisher.cdnskey_set()?;
+                self.results.add(Outcome::Cdnskey(set))
+            }
             Act::ShowDnskey => self.show_dnskey(&event.at),
             Act::Ask(question) => self.ask(question, &event.at),
             Act::Judge { ds, dnskey, answer } => {
