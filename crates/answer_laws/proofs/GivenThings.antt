@@ -1,6 +1,6 @@
 -- Things that were shown in states of the keys were given by the zone.
 use Rattle.std.proofs.Common.{◌≡◌, ℕ, true, false, List, [], ◌∷◌, map, refl, sym, ap, ◌∙◌, inl, inr, ⊎_elim}
-use Rattle.std.specs.Prelude.{Contains, Option}
+use Rattle.std.specs.Prelude.{Contains, Option, ◌&&◌, nat_lt}
 use Rattle.std.specs.List.{AllByRecursion}
 use Rattle.std.specs.declared.cmp.Ordering.TheVariants.{Equal}
 use Rattle.std.specs.FinMap.{nat_cmp-IsAntisymmetric}
@@ -22,14 +22,15 @@ use Rattle.answer_laws.specs.Simulating.{handing}
 use Rattle.answer_laws.specs.PublishedKeys.{IsKeyOfZone}
 use Rattle.answer_laws.specs.Simulations.{IsZoneOf}
 use Rattle.answer_laws.specs.Versions.{in_version}
-use Rattle.answer_publisher.specs.World.{TellsAnswer, TellsKeys, World}
+use Rattle.answer_publisher.specs.Signing.{is_for_parent}
+use Rattle.answer_publisher.specs.World.{TellsAnswer, TellsKeys, World, found_in, signing_in}
 use Rattle.messages.specs.WrittenLaws.{IsQuestion}
 use Rattle.answer_judge_keys.proofs.GivenKeys.{one_of_tag}
 use Rattle.answer_judge.proofs.GivenLists.{contained_has, has_contained}
 use Rattle.answer_judge_keys.proofs.GivenSorted.{all_has, sorted_has}
 use Rattle.answer_laws.proofs.KeyLife.{AreBound, IsBound, all_published, published_flags, published_sign}
 use Rattle.answer_publisher_keys.proofs.KeyTags.{HasOwnTags}
-use Rattle.answer_laws.proofs.KeysMeet.{KeysMeet}
+use Rattle.answer_laws.proofs.KeysMeet.{KeysMeet, meet_so}
 use Rattle.answer_publisher_keys.proofs.KeyTagsPublished.{equal_tags}
 use Rattle.messages.proofs.Lists.{Has, all_at, some_is}
 
@@ -107,31 +108,33 @@ pub given : (w : World) (rs : List HandedRr) (x y z : ZoneKeys) (keys_at answer_
     → IsZoneOf (in_version w rs) rs → AreLeft w x → AreLeft w y → AreLeft w z → TellsKeys w y keys_at key_bytes → IsQuestion asked → is_allowed w.zone.apex asked ≡ true → TellsAnswer (in_version w rs) z answer_at asked bytes
     → KeysMeet x y z → holds (second_of keys_at) w.life (second_of at) ≡ true → holds (second_of answer_at) w.life (second_of at) ≡ true
     → HashesHold w.answers.hash w.zone.mode (zone_of w.zone.apex rs) asked.name → WasGiven w.answers pointer_limit (handing w (ds_set x) key_bytes bytes asked at) w.zone.mode rs
-given w rs x y z keys_at answer_at at key_bytes bytes asked zone left_x left_y left_z tells is allowed answers meets keys_hold answer_holds hashes = record {
-  parents = dnskeys (published x publication.AtParent);
-  present = dnskeys (published y publication.Present);
-  keysigners = dnskeys (published y publication.SignsKeys);
-  zonesigners = dnskeys (published z publication.SignsZone);
-  life = w.life;
-  keys_ttl = tells.0;
-  keys_at = second_of keys_at;
-  answer_at = second_of answer_at;
-  apex_is = zone.apex_is;
-  records_are = zone.records_are;
-  accepted = zone.accepted;
-  hashes = hashes;
-  asked_is = is;
-  allowed = allowed;
-  flags_are = published_flags (digest_at w.answers.digest w.zone.apex) y publication.Present left_y.bound;
-  ds_is = parents_have_ds w x left_x;
-  meet = meets;
-  anchor_usable = present_usable w y meets.anchor left_y meets.anchor_present;
-  signer_usable = present_usable w y meets.signer left_y meets.signer_present;
-  present_tags = equal_tags y publication.Present left_y.own;
-  keysigner_tags = equal_tags y publication.SignsKeys left_y.own;
-  zonesigner_tags = equal_tags z publication.SignsZone left_z.own;
-  keys_told = tells.1;
-  answer_told = answers;
-  keys_hold = keys_hold;
-  answer_holds = answer_holds;
-}
+given w rs x y z keys_at answer_at at key_bytes bytes asked zone left_x left_y left_z tells is allowed answers meets keys_hold answer_holds hashes =
+    let met = meet_so x y z (is_for_parent w.zone.apex asked && nat_lt 0 (found_in (in_version w rs) asked)) meets in
+    record {
+      parents = dnskeys (published x publication.AtParent);
+      present = dnskeys (published y publication.Present);
+      keysigners = dnskeys (published y publication.SignsKeys);
+      zonesigners = dnskeys (published z (signing_in (in_version w rs) asked));
+      life = w.life;
+      keys_ttl = tells.0;
+      keys_at = second_of keys_at;
+      answer_at = second_of answer_at;
+      apex_is = zone.apex_is;
+      records_are = zone.records_are;
+      accepted = zone.accepted;
+      hashes = hashes;
+      asked_is = is;
+      allowed = allowed;
+      flags_are = published_flags (digest_at w.answers.digest w.zone.apex) y publication.Present left_y.bound;
+      ds_is = parents_have_ds w x left_x;
+      meet = met;
+      anchor_usable = present_usable w y met.anchor left_y met.anchor_present;
+      signer_usable = present_usable w y met.signer left_y met.signer_present;
+      present_tags = equal_tags y publication.Present left_y.own;
+      keysigner_tags = equal_tags y publication.SignsKeys left_y.own;
+      zonesigner_tags = equal_tags z (signing_in (in_version w rs) asked) left_z.own;
+      keys_told = tells.1;
+      answer_told = answers;
+      keys_hold = keys_hold;
+      answer_holds = answer_holds;
+    }

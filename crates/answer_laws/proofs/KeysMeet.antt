@@ -1,6 +1,6 @@
 -- Keys of three states meet where their references do.
-use Rattle.std.proofs.Common.{◌≡◌, Bool, true, false, cond, ◌&&◌, List, [], ◌∷◌, map, refl, sym, ap, subst, ◌∙◌, T, inl, inr, ⊎_elim}
-use Rattle.std.specs.Prelude.{Option, Some, None}
+use Rattle.std.proofs.Common.{◌≡◌, Bool, true, false, cond, ◌&&◌, ◌||◌, List, [], ◌∷◌, map, refl, sym, ap, subst, ◌∙◌, T, inl, inr, ⊎_elim}
+use Rattle.std.specs.Prelude.{Contains, Option, Some, None, if◌then◌else◌}
 use Rattle.std.specs.List.{filter, list_any}
 use Rattle.std.specs.Str.{bytes_eq}
 use Rattle.std.specs.Cmp.Lexicographic.{bytes_decides}
@@ -9,7 +9,7 @@ use Rattle.std.specs.FinMap.Entries.{find, is_sorted}
 use Rattle.std.proofs.lemmas.Bool.{and_parts, false_from_ne_true, false≢true}
 use Rattle.definitions.specs.Dnskey.{Dnskey}
 use Rattle.keyset_keys.specs.declared.keys.KeyType.{KeyType}
-use Rattle.keyset.specs.KeyState.{Key, Reference, ds, key_of, keysigners, listed, present, reference_cmp, references_where, zonesigners}
+use Rattle.keyset.specs.KeyState.{Key, Reference, ds, key_of, keysigners, ksk_is, listed, present, reference_cmp, references_where, signs, zonesigners, zsk_is}
 use Rattle.keyset.proofs.KeyFinds.{first_found, is_same, later, sorted_rest}
 use Rattle.keyset_laws.specs.KeyLife.{differ, meet, tags_of}
 use Rattle.keyset_laws.specs.Sides.{is_empty}
@@ -19,7 +19,7 @@ use Rattle.answer_publisher_keys.specs.declared.keys.Publication.TheVariants as 
 use Rattle.answer_publisher_keys.specs.Bindings.{BoundKey, ZoneKeys, bound_at, dnskeys, ds_cmp, ds_of, ds_set, has_role, is_published, published}
 use Rattle.definitions.specs.Sorting.{sort_by}
 use Rattle.answer_judge.specs.Meeting.{Meet}
-use Rattle.answer_judge.proofs.GivenLists.{contained_has}
+use Rattle.answer_judge.proofs.GivenLists.{contained_has, has_contained}
 use Rattle.answer_laws.proofs.KeyHistory.{StayBound}
 use Rattle.answer_publisher_keys.proofs.KeyTags.{HasOwnTags}
 use Rattle.messages.proofs.Lists.{Has, found, some_is}
@@ -120,6 +120,52 @@ keys_meet x y z now px py pz e =
       signer_present = contained_has (dnskeys (published y publication.Present)) member.0.key member.2;
       signs_zone = contained_has (dnskeys (published z publication.SignsZone)) member.0.key (shared z y now publication.SignsZone publication.Present signer.0 pz py zone member);
     }
+
+-- ---- keys that sign the zone are among those that sign any RRset
+
+more_have : (t u : Reference → Bool) → ((q : Reference) → t q ≡ true → u q ≡ true) → (es : List (Reference × BoundKey)) (k : Dnskey) → Has (dnskeys (map (λ (e : Reference × BoundKey). e.1) (filter (λ (e : Reference × BoundKey). t e.0) es))) k
+    → Has (dnskeys (map (λ (e : Reference × BoundKey). e.1) (filter (λ (e : Reference × BoundKey). u e.0) es))) k
+more_have t u f [] k h = absurd h
+more_have t u f (e ∷ es) k h = at (t e.0) refl (u e.0) refl h (more_have t u f es k)
+  where
+    keys : (Reference → Bool) → Bool → List Dnskey
+    keys v b = dnskeys (map (λ (e : Reference × BoundKey). e.1) (cond b (e ∷ filter (λ (e : Reference × BoundKey). v e.0) es) (filter (λ (e : Reference × BoundKey). v e.0) es)))
+
+    at : (a : Bool) → t e.0 ≡ a → (b : Bool) → u e.0 ≡ b → Has (keys t a) k → (Has (keys t false) k → Has (keys u false) k) → Has (keys u b) k
+    at true i true j h more = ⊎_elim (λ same. inl same) (λ rest. inr (more rest)) h
+    at true i false j h more = absurd (false≢true (sym j ∙ f e.0 i))
+    at false i true j h more = inr (more h)
+    at false i false j h more = more h
+
+or_second : (a b : Bool) → b ≡ true → (a || b) ≡ true
+or_second true b h = refl
+or_second false b h = h
+
+signs_any : (s : ZoneKeys) (q : Reference) → is_published s.keys publication.SignsZone q ≡ true → is_published s.keys publication.Signs q ≡ true
+signs_any s q h = at (key_of s.keys q) h
+  where
+    at : (o : Option Key) → elim o [ None ↦ false | Some k ↦ has_role publication.SignsZone k.roles ] ≡ true → elim o [ None ↦ false | Some k ↦ has_role publication.Signs k.roles ] ≡ true
+    at None h = h
+    at (Some k) h = or_second (ksk_is signs k.roles) (zsk_is signs k.roles) h
+
+signs_so : (s : ZoneKeys) (k : Dnskey) (b : Bool) → Contains (dnskeys (published s publication.SignsZone)) k → Contains (dnskeys (published s (if b then publication.Signs else publication.SignsZone))) k
+signs_so s k true h =
+    contained_has (dnskeys (published s publication.Signs)) k
+    (more_have (is_published s.keys publication.SignsZone) (is_published s.keys publication.Signs) (signs_any s) s.bound k (has_contained (dnskeys (published s publication.SignsZone)) k h))
+signs_so s k false h = h
+
+-- so keys that meet do so with whichever sign an answer
+pub meet_so : (x y z : ZoneKeys) (b : Bool) → KeysMeet x y z
+    → Meet (dnskeys (published x publication.AtParent)) (dnskeys (published y publication.Present)) (dnskeys (published y publication.SignsKeys)) (dnskeys (published z (if b then publication.Signs else publication.SignsZone)))
+meet_so x y z b m = record {
+  anchor = m.anchor;
+  at_parent = m.at_parent;
+  anchor_present = m.anchor_present;
+  signs_keys = m.signs_keys;
+  signer = m.signer;
+  signer_present = m.signer_present;
+  signs_zone = signs_so z m.signer b m.signs_zone;
+}
 
 -- ---- an empty DS set
 

@@ -1,5 +1,6 @@
 pub mod Publishing
 pub mod Replacing
+pub mod Signing
 pub mod Composed
 pub mod AnswerFaults
 pub mod Answering

@@ -1,8 +1,9 @@
 -- A publisher as its contracts see it, and what it answers.
-use Rattle.std.specs.Prelude.{ℕ, Bool, List, Option}
+use Rattle.std.specs.Prelude.{ℕ, Bool, false, List, Option}
 use Rattle.definitions.specs.Name.{Name}
 use Rattle.definitions.specs.Dnskey.{Dnskey}
 use Rattle.definitions.specs.Limits.{pointer_limit}
+use Rattle.definitions.specs.Zone.{verdict}
 use Rattle.definitions.specs.ZoneChain.{Mode}
 use Rattle.messages.specs.HandedRr.{HandedRr}
 use Rattle.messages.specs.Message.{Asked}
@@ -11,16 +12,19 @@ use Rattle.answer_shared.specs.ZoneView.{AcceptedZone}
 use Rattle.answer_shared.specs.Hashing.{served}
 use Rattle.answer_shared.specs.Served.{Served, keys_ttl}
 use Rattle.answer_zone.specs.HashedZone.{AreHashed, accepted_zone, spoken_for}
+use Rattle.answer_zone.specs.ZoneAnswers.{answered}
 use Rattle.answer_scheme.specs.Answers.{Answers}
 use Rattle.answer_shared.specs.Given as spelled
 use Rattle.answer_shared.specs.Told as told
 use Rattle.answer_publisher.specs.declared.publishing.Publisher.{Publisher}
 use Rattle.answer_publisher.specs.declared.fault.AnswerFault.{AnswerFault}
+use Rattle.answer_publisher_keys.specs.declared.keys.Publication.{Publication}
 use Rattle.answer_publisher_keys.specs.declared.keys.Publication.TheVariants as publication
 use Rattle.answer_publisher_keys.specs.Bindings.{ZoneKeys, published, dnskeys, keys_by_tag}
 use Rattle.answer_publisher.specs.Publishing.{digest_at}
 use Rattle.answer_scheme.specs.Moments.{second_of}
 use Rattle.answer_publisher.specs.Answering.{AnswersKeys, AnswersZone, RefusesAnswer, RefusesKeys}
+use Rattle.answer_publisher.specs.Signing.{signing}
 
 -- an accepted zone, how long its signatures hold, what its scheme signs, and what scheme and hasher answer a judge
 pub record World : Type 0 where
@@ -56,6 +60,13 @@ served_in w = served w.answers.hash w.zone
 abbrev pub present_keys : ZoneKeys → List Dnskey
 present_keys keys = dnskeys (published keys publication.Present)
 
+-- how many RRsets of those asked for the zone's answer to a question has, and which keys sign it
+abbrev pub found_in : World → Asked → ℕ
+found_in w asked = answered (verdict (served_in w).zone false asked.name asked.rtype)
+
+abbrev pub signing_in : World → Asked → Publication
+signing_in w asked = signing w.zone.apex asked (found_in w asked)
+
 -- ---- the DNSKEY answer of these keys at a moment: octet for octet, what it reads as, and why there is none
 
 abbrev pub AnswersKeysQuestion : World → ZoneKeys → ℕ → List ℕ → Type 0
@@ -70,17 +81,17 @@ RefusesKeysQuestion w keys at f = RefusesKeys w.sign w.answers.verifies (served_
 -- ---- the same of the answer to a question
 
 abbrev pub AnswersQuestion : World → ZoneKeys → ℕ → Asked → List ℕ → Type 0
-AnswersQuestion w keys at asked m = AnswersZone w.sign w.answers.verifies (served_in w) w.zone.apex (second_of at) w.life (keys_by_tag keys publication.SignsZone) asked m
+AnswersQuestion w keys at asked m = AnswersZone w.sign w.answers.verifies (served_in w) w.zone.apex (second_of at) w.life (keys_by_tag keys (signing_in w asked)) asked m
 
 abbrev pub SpellsAnswer : World → ZoneKeys → ℕ → Asked → List ℕ → Type 0
-SpellsAnswer w keys at asked m = spelled.GivesAnswer w.answers.verifies pointer_limit (served_in w) w.zone.apex (dnskeys (published keys publication.SignsZone)) (second_of at) w.life asked m
+SpellsAnswer w keys at asked m = spelled.GivesAnswer w.answers.verifies pointer_limit (served_in w) w.zone.apex (dnskeys (published keys (signing_in w asked))) (second_of at) w.life asked m
 
 -- each name that the proof of the answer speaks of has a hash
 abbrev pub HashesNames : World → Asked → Type 0
 HashesNames w asked = AreHashed w.answers.hash w.zone.mode (spoken_for (served_in w) asked.name asked.rtype)
 
 abbrev pub RefusesQuestion : World → ZoneKeys → ℕ → Asked → AnswerFault → Type 0
-RefusesQuestion w keys at asked f = RefusesAnswer w.sign w.answers.verifies w.answers.hash (served_in w) w.zone.apex (second_of at) w.life (keys_by_tag keys publication.SignsZone) asked f
+RefusesQuestion w keys at asked f = RefusesAnswer w.sign w.answers.verifies w.answers.hash (served_in w) w.zone.apex (second_of at) w.life (keys_by_tag keys (signing_in w asked)) asked f
 
 -- ---- what any bytes tell a judge
 
@@ -90,4 +101,4 @@ TellsKeys w keys at m = (ttl : ℕ) × told.TellsKeys w.answers.verifies pointer
 
 -- the zone's answer to a question at a moment, signed by these keys
 abbrev pub TellsAnswer : World → ZoneKeys → ℕ → Asked → List ℕ → Type 0
-TellsAnswer w keys at asked m = told.TellsAnswer w.answers.verifies pointer_limit (served_in w) w.zone.apex (dnskeys (published keys publication.SignsZone)) (second_of at) w.life asked m
+TellsAnswer w keys at asked m = told.TellsAnswer w.answers.verifies pointer_limit (served_in w) w.zone.apex (dnskeys (published keys (signing_in w asked))) (second_of at) w.life asked m

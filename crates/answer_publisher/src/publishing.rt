@@ -18,12 +18,13 @@ ghost use Rattle.answer_publisher_keys.specs.Bindings.{no_keys, dnskey_at, dnske
 ghost use Rattle.answer_publisher_keys.specs.KeyCalls.{Acts, Changes};
 ghost use Rattle.answer_publisher.specs.Publishing.{digest_at};
 ghost use Rattle.answer_publisher.specs.Replacing.{later, noted, whole_second};
+ghost use Rattle.answer_publisher.specs.Signing.{signing};
 ghost use Rattle.answer_scheme.specs.Moments.{second_of};
 ghost use Rattle.answer_publisher.specs.World.{AnswersKeysQuestion, AnswersQuestion, HashesNames, RefusesKeysQuestion, RefusesQuestion, SpellsAnswer, SpellsKeys, digests, present_keys, world_of, zone_by};
 
 use crate::compose::compose_answer;
 use crate::fault::{AnswerFault, KeyFault, ZoneFault};
-use crate::signing::SignatureTerms;
+use crate::signing::{SignatureTerms, is_for_parent};
 use answer_events::key_kind::{KeyKind, availability};
 use answer_publisher_keys::keys::{NewKey, Publication, ZoneKeys};
 use answer_scheme::error::SchemeError;
@@ -171,9 +172,9 @@ impl<'a, S: Scheme, H: Nsec3Hasher> Publisher<'a, S, H> {
         }
     }
 
-    /// The zone's answer to a question at a moment, signed by each key that signs the zone; each name that its proof speaks of
-    /// has a hash. Its second is noted, also where no key signs: in it, and before, the zone's records are not replaced. A
-    /// refused call changes nothing.
+    /// The zone's answer to a question at a moment, signed by each key that signs the zone, the CDS and CDNSKEY RRsets of the
+    /// apex also by each key that signs keys (RFC 7344, 4.1); each name that its proof speaks of has a hash. Its second is noted,
+    /// also where no key signs: in it, and before, the zone's records are not replaced. A refused call changes nothing.
     pub fn answer(&mut self, question: &Question, now: &UnixTime) -> Result<Vec<u8>, AnswerFault>
         ensures allowed { let asked = asked_of question.now in
             let allowed = is_allowed self.old.zone.apex asked in
@@ -220,12 +221,13 @@ impl<'a, S: Scheme, H: Nsec3Hasher> Publisher<'a, S, H> {
         if !is_allowed(self.zone.apex(), question) {
             return Err(AnswerFault::QuestionNotAllowed);
         }
-        let keys = self.keys.keys_by_tag(Publication::SignsZone)?;
         let found = self
             .zone
             .answer_to(self.alloc, &question.name, question.rtype)?;
         owners_keep(&found.answer);
         owners_keep(&found.authority);
+        let which = self.signers_of(question, found.answer.len());
+        let keys = self.keys.keys_by_tag(which)?;
         compose_answer(
             self.alloc,
             self.scheme,
@@ -236,6 +238,17 @@ impl<'a, S: Scheme, H: Nsec3Hasher> Publisher<'a, S, H> {
             &found.answer,
             &found.authority,
         )
+    }
+
+    /// Which keys sign an answer that has so many RRsets of those asked for.
+    fn signers_of(&self, question: &Question, found: usize) -> Publication
+        ensures { result ≡ signing self.now.zone.apex (asked_of question.now) found }
+    {
+        if is_for_parent(self.zone.apex(), question) && found > 0 {
+            Publication::Signs
+        } else {
+            Publication::SignsZone
+        }
     }
 
     /// The name of the zone.

@@ -5,7 +5,9 @@ ghost use Rattle.definitions.specs.Name.{wire};
 ghost use Rattle.definitions.specs.Dnskey.{key_tag};
 ghost use Rattle.definitions.specs.Signing.{signed_octets, signed_owner};
 ghost use Rattle.answer_shared.specs.GroupView.{FailsFor, IsRrsigData, fields_of, octets_of};
+ghost use Rattle.answer_publisher.specs.Signing.{is_for_parent};
 ghost use Rattle.denial_data.specs.Protos as protos;
+ghost use Rattle.messages.specs.Questions.{asked_of};
 ghost use Rattle.messages.specs.Rrsig.{record_head, with_length};
 ghost use Rattle.answer_scheme.specs.declared.error.SchemeError.TheVariants as error;
 
@@ -14,10 +16,19 @@ use answer_scheme::scheme::Scheme;
 use answer_shared::dnskey::{Dnskey, ZoneKey};
 use answer_zone_records::group::RrGroup;
 use denial_data::{ProtoRrsig, Timestamp};
-use messages::names::{Name, Octets};
+use messages::names::{Name, Octets, ToName};
+use messages::question::Question;
 use messages::signed::{compose_fields, signed_octets};
 use numbers::class::Class;
 use std::alloc::{AllocError, AllocFailed, Global};
+
+/// Whether a question is for the CDS or the CDNSKEY RRset of the apex, by which a zone asks its parent for a DS set
+/// (RFC 7344, 3).
+pub fn is_for_parent(apex: &Name<Vec<u8>>, question: &Question) -> bool
+    ensures { result ≡ is_for_parent apex.now (asked_of question.now) }
+{
+    matches!(question.rtype.to_int(), 59 | 60) && question.name.name_eq(apex)
+}
 
 /// The signer of signatures, and the time for which they are made.
 #[derive(Clone, Copy, Debug)]

@@ -42,7 +42,7 @@ abbrev pub GivesKeys : (Dnskey → List ℕ → List ℕ → Bool) → ℕ → �
 GivesKeys v k ttl apex present signers at life bytes =
     Gives v k apex at life (by_tag signers) (record { name = apex; rtype = 48; class = 1 }) (key_group apex ttl present ∷ []) bytes
 
--- a zone answer, signed by the ZSK roles that sign
+-- a zone answer, signed by these keys
 abbrev pub GivesAnswer : (Dnskey → List ℕ → List ℕ → Bool) → ℕ → Served → Name → List Dnskey → ℕ → ℕ → Asked → List ℕ → Type 0
 GivesAnswer v k s apex signers at life asked bytes =
     Gives v k apex at life (by_tag signers) asked (answer_groups s asked.name asked.rtype) bytes

@@ -67,7 +67,7 @@ abbrev pub TellsKeys : (Dnskey → List ℕ → List ℕ → Bool) → ℕ → �
 TellsKeys v k ttl apex present signers at life bytes =
     Tells v k apex at life (by_tag signers) (record { name = apex; rtype = 48; class = 1 }) (key_group apex ttl present ∷ []) bytes
 
--- a zone answer, signed by the ZSK roles that sign
+-- a zone answer, signed by these keys
 abbrev pub TellsAnswer : (Dnskey → List ℕ → List ℕ → Bool) → ℕ → Served → Name → List Dnskey → ℕ → ℕ → Asked → List ℕ → Type 0
 TellsAnswer v k s apex signers at life asked bytes =
     Tells v k apex at life (by_tag signers) asked (answer_groups s asked.name asked.rtype) bytes

@@ -1,19 +1,22 @@
-use Rattle.std.proofs.Common.{◌++◌, subst, rules}
+use Rattle.std.proofs.Common.{◌≡◌, false, ◌++◌, ◌∙◌, length, ap, subst, rules}
 use Rattle.std.specs.Prelude.{Err, IfErr, IfOk, Ok, OnOk, Result}
 use Rattle.std.specs.List.{AllByRecursion}
 use Rattle.definitions.specs.Limits.{pointer_limit}
+use Rattle.definitions.specs.Zone.{verdict}
 use Rattle.answer_shared.specs.Given.{GivesAnswer}
 use Rattle.answer_shared.specs.Hashing.{served}
 use Rattle.answer_shared.specs.Served.{by_tag}
 use Rattle.answer_shared.proofs.AllowedTypes.{allowed_plain}
 use Rattle.answer_shared.proofs.ZoneData.{if_ok_map}
 use Rattle.answer_zone.specs.HashedZone.{accepted_zone}
+use Rattle.answer_zone.specs.ZoneAnswers.{answered}
 use Rattle.answer_scheme.specs.Moments.{second_of}
 use Rattle.messages.specs.Questions.{asked_of}
 use Rattle.answer_publisher.specs.Answering.{AnswersZone, RefusesAnswer, ahead_of_records}
 use Rattle.answer_publisher_keys.specs.Bindings.{dnskeys, keys_by_tag, published}
 use Rattle.answer_publisher.specs.Composed.{IsAnswer, RefusesGroups}
-use Rattle.answer_publisher_keys.specs.declared.keys.Publication.TheVariants.{SignsZone}
+use Rattle.answer_publisher.specs.Signing.{signing}
+use Rattle.answer_publisher_keys.specs.declared.keys.Publication.{Publication}
 use Rattle.answer_publisher.proofs.Refusals.{answer_refused, if_err_map}
 use Rattle.answer_publisher.proofs.WritesGiven.{NamedView, answer_given}
 use Rattle.answer_publisher.proofs.publishing.Publisher.message.Goals as goal
@@ -32,10 +35,15 @@ returns-clause-bytes g c =
     let verifies = g.S.Scheme.verifies c.args.self.now.scheme.now in
     let made = c.in_ok-found.ensures.replies.0 in
     let found = c.in_ok-found.found in
-    let keys = keys_by_tag c.args.self.now.keys SignsZone in
+    let role = c.signers_of-which.result in
+    let keys = keys_by_tag c.args.self.now.keys role in
     let written : IfOk c.compose_answer.result (λ m. IsAnswer sign verifies z.apex (second_of c.args.now.now) c.args.self.now.life keys found.flags (asked_of c.args.question.now) found.answer.items found.authority.items m.items) = search rules in
     let served_as = served (g.H.Nsec3Hasher.hash_of c.args.self.now.zone.hasher) z in
-    if_ok_map
+    let asked = asked_of c.args.question.now in
+    let which : role ≡ signing z.apex asked (length found.answer.items) = search rules in
+    let role_is : role ≡ signing z.apex asked (answered (verdict served_as.zone false asked.name asked.rtype)) = which ∙ ap (λ n. signing z.apex asked n) made.split in
+    subst (λ (p : Publication). IfOk c.compose_answer.result (λ m. AnswersZone sign verifies served_as z.apex (second_of c.args.now.now) c.args.self.now.life (keys_by_tag c.args.self.now.keys p) asked m.items)) role_is
+    (if_ok_map
     (λ m. IsAnswer sign verifies z.apex (second_of c.args.now.now) c.args.self.now.life keys found.flags (asked_of c.args.question.now) found.answer.items found.authority.items m.items)
     (λ m. AnswersZone sign verifies served_as z.apex (second_of c.args.now.now) c.args.self.now.life keys (asked_of c.args.question.now) m.items)
     c.compose_answer.result
@@ -46,7 +54,7 @@ returns-clause-bytes g c =
       split = made.split;
       written = subst (λ f. IsAnswer sign verifies z.apex (second_of c.args.now.now) c.args.self.now.life keys f (asked_of c.args.question.now) found.answer.items found.authority.items m.items) made.flags_are w;
     })
-    written
+    written)
 
 pub returns-clause-given : goal.returns-clause-given
 returns-clause-given g c =
@@ -56,7 +64,8 @@ returns-clause-given g c =
     let hash = g.H.Nsec3Hasher.hash_of c.args.self.now.zone.hasher in
     let made = c.in_ok-found.ensures.replies.0 in
     let found = c.in_ok-found.found in
-    let signers = dnskeys (published c.args.self.now.keys SignsZone) in
+    let role = c.signers_of-which.result in
+    let signers = dnskeys (published c.args.self.now.keys role) in
     let asked = asked_of c.args.question.now in
     let at = second_of c.args.now.now in
     let life = c.args.self.now.life in
@@ -64,13 +73,16 @@ returns-clause-given g c =
     let owners : AllByRecursion NamedView found.answer.items = subst (AllByRecursion NamedView) c.deref.ensures.value c.owners_keep.ensures in
     let others : AllByRecursion NamedView found.authority.items = subst (AllByRecursion NamedView) c.deref-2.ensures.value c.owners_keep-2.ensures in
     let written : IfOk c.compose_answer.result (λ m. IsAnswer sign verifies z.apex at life (by_tag signers) found.flags asked found.answer.items found.authority.items m.items) = search rules in
-    if_ok_map
+    let which : role ≡ signing z.apex asked (length found.answer.items) = search rules in
+    let role_is : role ≡ signing z.apex asked (answered (verdict (served hash z).zone false asked.name asked.rtype)) = which ∙ ap (λ n. signing z.apex asked n) made.split in
+    subst (λ (p : Publication). IfOk c.compose_answer.result (λ m. GivesAnswer verifies pointer_limit (served hash z) z.apex (dnskeys (published c.args.self.now.keys p)) at life asked m.items)) role_is
+    (if_ok_map
     (λ m. IsAnswer sign verifies z.apex at life (by_tag signers) found.flags asked found.answer.items found.authority.items m.items)
     (λ m. GivesAnswer verifies pointer_limit (served hash z) z.apex signers at life asked m.items)
     c.compose_answer.result
     (λ m w. answer_given sign verifies hash z at life found.flags signers asked found.answer.items found.authority.items m.items c.keeps.ensures.published c.keeps.ensures.handed
     c.keeps-2.ensures plain owners others made.groups_are w)
-    written
+    written)
 
 pub returns-clause-fault : goal.returns-clause-fault
 returns-clause-fault g c =
@@ -80,18 +92,22 @@ returns-clause-fault g c =
     let hash = g.H.Nsec3Hasher.hash_of c.args.self.now.zone.hasher in
     let made = c.in_ok-found.ensures.replies.0 in
     let found = c.in_ok-found.found in
-    let keys = keys_by_tag c.args.self.now.keys SignsZone in
+    let role = c.signers_of-which.result in
+    let keys = keys_by_tag c.args.self.now.keys role in
     let asked = asked_of c.args.question.now in
     let at = second_of c.args.now.now in
     let life = c.args.self.now.life in
     let groups = found.answer.items ++ found.authority.items in
     let refused : IfErr c.compose_answer.result (RefusesGroups sign verifies z.apex at life keys (ahead_of_records asked) groups) = search rules in
-    if_err_map
+    let which : role ≡ signing z.apex asked (length found.answer.items) = search rules in
+    let role_is : role ≡ signing z.apex asked (answered (verdict (served hash z).zone false asked.name asked.rtype)) = which ∙ ap (λ n. signing z.apex asked n) made.split in
+    subst (λ (p : Publication). IfErr c.compose_answer.result (RefusesAnswer sign verifies hash (served hash z) z.apex at life (keys_by_tag c.args.self.now.keys p) asked)) role_is
+    (if_err_map
     (RefusesGroups sign verifies z.apex at life keys (ahead_of_records asked) groups)
     (RefusesAnswer sign verifies hash (served hash z) z.apex at life keys asked)
     c.compose_answer.result
     (λ f h. answer_refused sign verifies hash (served hash z) z.apex at life keys asked groups f made.groups_are h)
-    refused
+    refused)
 
 pub returns-clause-hashed : goal.returns-clause-hashed
 returns-clause-hashed g c = of_value c.compose_answer.result c.in_ok-found.ensures.replies.1
