@@ -25,6 +25,9 @@ returns-in-Ok-clause-step g c =
     let given = c.in-Ok.ensures in
     let allowed = allowed_so c.in-Ok.octets refusal.QuestionNotAllowed (is_allowed run.publisher.zone.apex asked) given.allowed.1 in
     on_ok_weaker {Q = Serves there run c.args.at.now (act.Ask c.args.question.now) served} c.show_answer.result
-        (λ shows. (outcome.Message (length run.results.shown) c.in-Ok.octets, ap (λ (r : Results). r.outcomes) shows,
-            (refl, allowed, c.keeps.ensures, (given.bytes, given.given, given.hashed), λ i. sofar (given.noted i) (shows i))))
-        c.show_answer.ensures
+    (λ shows. (
+      outcome.Message (length run.results.shown) c.in-Ok.octets,
+      ap (λ (r : Results). r.outcomes) shows,
+      (refl, allowed, c.keeps.ensures, (given.bytes, given.given, given.hashed), λ i. sofar (given.noted i) (shows i)),
+    ))
+    c.show_answer.ensures
