@@ -14,7 +14,8 @@ use Rattle.denialbench_session.specs.declared.line_error.LineFault.{LineFault}
 use Rattle.denialbench_session.specs.Fields.{is_nothing, is_reference}
 use Rattle.denialbench_session.specs.Grammar.{◌>>=◌, ActLine, EventLine, act_line, act_line3, event_line, zone_line, record_line, reference_field, references_field}
 use Rattle.denialbench_session.specs.Numbers.{number_field}
-use Rattle.denialbench_session.specs.Readings.{Reads}
+use Rattle.answer_events.specs.declared.event.Event.{Event}
+use Rattle.denialbench_session.specs.Readings.{Reads, act_view, event_view}
 
 ne_of : (b : Bool) (xs ys : List ℕ) → Decides b (xs ≡ ys) → (xs ≡ ys → ⊥) → b ≡ false
 ne_of true xs ys d h = absurd (h (d.0 refl))
@@ -113,3 +114,18 @@ pub event_read : (fields rest : List (List ℕ)) (last : List ℕ) (n at : ℕ) 
 event_read fields rest last n at a e number act is =
     let with_act : ℕ → Option ActLine → Option EventLine = λ k o. o >>= λ b. Some (record { at = k * 1000000000; act = b }) in
     moment_read fields rest last e ∙ ap (λ r. r >>= λ k. with_act k (act_line rest)) number ∙ ap (with_act n) act ∙ ap (λ t. Some (record { at = t; act = a })) (sym is)
+
+
+-- where an act can't be read, the event can't
+event_unread : (fields rest : List (List ℕ)) (last : List ℕ) (n : ℕ) → fields ≡ rest ++ last ∷ [] → number_field 64 last ≡ Some n → act_line rest ≡ None → event_line fields ≡ None
+event_unread fields rest last n e number act =
+    let with_act : ℕ → Option ActLine → Option EventLine = λ k o. o >>= λ b. Some (record { at = k * 1000000000; act = b }) in
+    moment_read fields rest last e ∙ ap (λ r. r >>= λ k. with_act k (act_line rest)) number ∙ ap (with_act n) act
+
+refused_so : (e : LineError) (fields rest : List (List ℕ)) (last : List ℕ) (n : ℕ) → fields ≡ rest ++ last ∷ [] → number_field 64 last ≡ Some n → Reads act_view (Err e) (act_line rest) → Reads event_view (Err e) (event_line fields)
+refused_so (Unreadable fault) fields rest last n e number act = event_unread fields rest last n e number act
+refused_so Memory fields rest last n e number act = tt
+
+pub event_refused : (r : Result Event LineError) (e : LineError) (fields rest : List (List ℕ)) (last : List ℕ) (n : ℕ) → fields ≡ rest ++ last ∷ [] → number_field 64 last ≡ Some n → Reads act_view (Err e) (act_line rest) → r ≡ Err e → Reads event_view r (event_line fields)
+event_refused r e fields rest last n cut number act is =
+    subst (λ (r : Result Event LineError). Reads event_view r (event_line fields)) (sym is) (refused_so e fields rest last n cut number act)

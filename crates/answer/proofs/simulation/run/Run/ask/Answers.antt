@@ -21,7 +21,7 @@ returns-in-Ok-clause-step g c =
     let run = c.args.self.now in
     let there = world_in g.S.Scheme.signature_of g.S.Scheme.verifies g.S.Scheme.digest_of g.H.Nsec3Hasher.hash_of run in
     let asked = asked_of c.args.question.now in
-    let served : Run g.row.S.Denot g.row.H.Denot = record { alloc = run.alloc; publisher = c.answer.new.self; limit = run.limit; results = c.show_answer.new.self } in
+    let served : Run g.row.S.Denot g.row.H.Denot = record run { publisher = c.answer.new.self; results = c.show_answer.new.self } in
     let given = c.in-Ok.ensures in
     let allowed = allowed_so c.in-Ok.octets refusal.QuestionNotAllowed (is_allowed run.publisher.zone.apex asked) given.allowed.1 in
     on_ok_weaker {Q = Serves there run c.args.at.now (act.Ask c.args.question.now) served} c.show_answer.result
