@@ -115,7 +115,6 @@ event_read fields rest last n at a e number act is =
     let with_act : ℕ → Option ActLine → Option EventLine = λ k o. o >>= λ b. Some (record { at = k * 1000000000; act = b }) in
     moment_read fields rest last e ∙ ap (λ r. r >>= λ k. with_act k (act_line rest)) number ∙ ap (with_act n) act ∙ ap (λ t. Some (record { at = t; act = a })) (sym is)
 
-
 -- where an act can't be read, the event can't
 event_unread : (fields rest : List (List ℕ)) (last : List ℕ) (n : ℕ) → fields ≡ rest ++ last ∷ [] → number_field 64 last ≡ Some n → act_line rest ≡ None → event_line fields ≡ None
 event_unread fields rest last n e number act =
