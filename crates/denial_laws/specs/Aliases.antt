@@ -1,5 +1,5 @@
 -- Aliases: which names CNAME and DNAME records lead elsewhere, and zones in which these records are in order
--- (RFC 1034, 3.6.2; RFC 2181, 10.1; RFC 6672).
+-- (RFC 1034, 3.6.2; RFC 6672).
 use Rattle.std.specs.Prelude.{◌≡◌, ℕ, Bool, true, false, not, ◌&&◌, ◌||◌, ◌==◌, [], ◌∷◌, Some, None, Contains}
 use Rattle.definitions.specs.Name.{Name, low, strictly_above}
 use Rattle.definitions.specs.Zone.{Zone, owners, has, is_delegation, is_live, is_open, cut, exists, ce, star_under}
