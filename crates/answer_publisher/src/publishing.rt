@@ -240,7 +240,7 @@ impl<'a, S: Scheme, H: Nsec3Hasher> Publisher<'a, S, H> {
         )
     }
 
-    /// Which keys sign an answer that has so many RRsets of those asked for.
+    /// The keys that sign an answer to a question: those of the zone, and for CDS and CDNSKEY RRsets found at the apex all signers.
     fn signers_of(&self, question: &Question, found: usize) -> Publication
         ensures { result ≡ signing self.now.zone.apex (asked_of question.now) found }
     {
