@@ -240,7 +240,8 @@ impl<'a, S: Scheme, H: Nsec3Hasher> Publisher<'a, S, H> {
         )
     }
 
-    /// The keys that sign an answer to a question: those of the zone, and for CDS and CDNSKEY RRsets found at the apex all signers.
+    /// The keys that sign the answer to a question: those that sign the zone, and those that sign keys too where the answer has
+    /// the CDS or the CDNSKEY RRset of the apex.
     fn signers_of(&self, question: &Question, found: usize) -> Publication
         ensures { result ≡ signing self.now.zone.apex (asked_of question.now) found }
     {
