@@ -1,0 +1,1 @@
+"""The maker of the corpus: zones, keys, messages and cases."""

@@ -1,0 +1,107 @@
+"""The tables of corpus/README.md, from what was kept of the runs."""
+
+from __future__ import annotations
+
+import collections
+import json
+import re
+from typing import Any
+
+from .differences import REASONS, Reason
+from .outcome import SAID, TOP, Case, Said, groups, mark, verdict
+
+ORDER = ["zermuita", "unbound", "bind", "ldns", "knot-resolver", "powerdns", "dnspython"]
+BEGIN, END = "<!-- written by corpus/run table: begin -->\n", "<!-- written by corpus/run table: end -->\n"
+README = TOP / "README.md"
+WORDS = {"accepts": "accepted", "refuses": "refused", "differs": "otherwise"}
+
+
+def kept() -> dict[str, dict[str, Any]]:
+    return {it: json.loads((SAID / f"{it}.json").read_text()) for it in ORDER if (SAID / f"{it}.json").exists()}
+
+
+def verdicts(cases: list[Case], said: dict[str, list[str]]) -> dict[str, str]:
+    """Of cases that have changed since nothing was said."""
+    known = {it["id"]: said[it["id"]] for it in cases if said.get(it["id"], [])[3:] == [mark(it)]}
+    return {it["id"]: verdict(it, Said(*known[it["id"]][:3])) if it["id"] in known else "none" for it in cases}
+
+
+def cell(of: dict[str, str]) -> str:
+    """What a validator says of a group: how many agree of those that it was asked, and how the others differ."""
+    counts = collections.Counter(of.values())
+    asked = sum(counts.values()) - counts["none"]
+    if not asked:
+        return "not asked"
+    rest = [f"{counts[it]} {word}" for it, word in WORDS.items() if counts[it]]
+    return f"{counts['agrees']} of {asked}" + (": " + ", ".join(rest) if rest else "")
+
+
+def of_lines(head: list[str], rows: list[list[str]]) -> str:
+    return "".join("| " + " | ".join(it) + " |\n" for it in [head, ["---"] * len(head), *rows])
+
+
+def by_group(all_cases: dict[str, list[Case]], told: dict[str, dict[str, Any]]) -> str:
+    rows = []
+    total: dict[str, dict[str, str]] = {it: {} for it in told}
+    for name, cases in all_cases.items():
+        row = [name, str(len(cases))]
+        for validator, of in told.items():
+            found = verdicts(cases, of["said"])
+            total[validator].update(found)
+            row.append(cell(found))
+        rows.append(row)
+    every = sum(map(len, all_cases.values()))
+    rows.append(["all", str(every), *(cell(total[it]) for it in told)])
+    return of_lines(["group", "cases", *told], rows)
+
+
+def reason_of(validator: str, kind: str, case: Case) -> Reason | None:
+    return next((it for it in REASONS if it.fits(validator, kind, case)), None)
+
+
+def differences(all_cases: dict[str, list[Case]], told: dict[str, dict[str, Any]]) -> tuple[str, list[str]]:
+    """A row for each reason, with the cases; and what has none."""
+    found: dict[tuple[str, Reason], list[str]] = collections.defaultdict(list)
+    unknown = []
+    for validator, of in told.items():
+        for cases in all_cases.values():
+            of_cases = verdicts(cases, of["said"])
+            for case in cases:
+                kind = of_cases[case["id"]]
+                if kind in WORDS:
+                    reason = reason_of(validator, kind, case)
+                    if reason is None:
+                        unknown.append(f"{validator} {kind} {case['id']}: {' '.join(of['said'][case['id']][:3])}: {case['tries']}")
+                    else:
+                        found[validator, reason].append(case["id"])
+    rows = [[validator, reason.text, spans(ids)] for (validator, reason), ids in found.items()]
+    return of_lines(["validator", "what differs, and what the standards have", "cases"], rows), unknown
+
+
+def spans(ids: list[str]) -> str:
+    """Ids in a row in short: `matching-001` to `matching-003` as `matching-001 to 003`."""
+    found: list[list[str]] = []
+    for it in ids:
+        group, number = it.rsplit("-", 1)
+        last = found[-1] if found else None
+        if last and last[0] == group and int(last[2]) + 1 == int(number):
+            last[2] = number
+        else:
+            found.append([group, number, number])
+    parts, before = [], ""
+    for group, first, last_number in found:
+        name = first if group == before else f"{group}-{first}"
+        before = group
+        parts.append(name if first == last_number else f"{name} to {last_number}")
+    return ", ".join(parts)
+
+
+def write() -> int:
+    told, all_cases = kept(), groups([])
+    versions = of_lines(["validator", "version", "date of the run"], [[name, of["version"], of["date"]] for name, of in told.items()])
+    rows, unknown = differences(all_cases, told)
+    text = f"{BEGIN}\n{versions}\n{by_group(all_cases, told)}\n{rows}\n{END}"
+    page = README.read_text()
+    README.write_text(re.sub(re.escape(BEGIN) + ".*" + re.escape(END), lambda _it: text, page, flags=re.DOTALL))
+    print("\n".join([*unknown, f"{len(unknown)} differences without a sentence"]))
+    return 1 if unknown else 0

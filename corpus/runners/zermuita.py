@@ -1,0 +1,90 @@
+"""The library of this repository, by its module for Python: what docs/use/CALLING.md asks of a caller is done here."""
+
+from __future__ import annotations
+
+import pathlib
+import sys
+from typing import Any
+
+from cryptography.exceptions import InvalidSignature
+from cryptography.hazmat.primitives import hashes
+from cryptography.hazmat.primitives.asymmetric import ec, ed25519, padding, rsa, utils
+
+from .outcome import BOGUS, INSECURE, SECURE, TOP, Case, Said
+
+sys.path.insert(0, str(TOP.parent / "examples" / "python"))
+
+import zermuita  # noqa: E402
+
+RSA, ECDSA, ED25519 = 8, 13, 15
+ALGORITHMS, DIGESTS = {RSA, ECDSA, ED25519}, {2, 4}
+SAYS = {
+    zermuita.Verdict.RECORDS: (SECURE, "answer"), zermuita.Verdict.NODATA: (SECURE, "nodata"), zermuita.Verdict.NXDOMAIN: (SECURE, "nxdomain"),
+    zermuita.Verdict.WILDCARD: (SECURE, "wildcard"), zermuita.Verdict.WILDCARD_NODATA: (SECURE, "wildcard-nodata"),
+    zermuita.Verdict.OPTOUT: (INSECURE, "optout"), zermuita.Verdict.INSECURE: (INSECURE, "no-ds"),
+}
+ITERATIONS_OVER_LIMIT = 23
+
+
+def number(octets: bytes) -> int:
+    return int.from_bytes(octets, "big")
+
+
+def passes(ask: Any) -> bool:
+    """Checks a signature."""
+    try:
+        check(ask)
+    except (InvalidSignature, ValueError, IndexError):
+        return False
+    return True
+
+
+def check(ask: Any) -> None:
+    if ask.algorithm == RSA:
+        length = ask.key[0]
+        key = rsa.RSAPublicNumbers(number(ask.key[1 : 1 + length]), number(ask.key[1 + length :])).public_key()
+        key.verify(ask.signature, ask.octets, padding.PKCS1v15(), hashes.SHA256())
+    elif ask.algorithm == ECDSA and len(ask.signature) == 64:
+        point = ec.EllipticCurvePublicNumbers(number(ask.key[:32]), number(ask.key[32:]), ec.SECP256R1()).public_key()
+        signature = utils.encode_dss_signature(number(ask.signature[:32]), number(ask.signature[32:]))
+        point.verify(signature, ask.octets, ec.ECDSA(hashes.SHA256()))
+    elif ask.algorithm == ED25519:
+        ed25519.Ed25519PublicKey.from_public_bytes(ask.key).verify(ask.signature, ask.octets)
+    else:
+        raise ValueError("an algorithm that is not checked")
+
+
+def said(library: Any, case: Case) -> Said:
+    every = [bytes.fromhex(it) for it in case["ds"]]
+    ds = [it for it in every if it[2] in ALGORITHMS and it[3] in DIGESTS]
+    if every and not ds:
+        return Said(INSECURE, "algorithms", "no DS record is of a known algorithm and digest")
+    handed = zermuita.Case(
+        bytes.fromhex(case["apex"]), ds, bytes.fromhex(case["dnskey"]), bytes.fromhex(case["answer"]), bytes.fromhex(case["question"]["name"]),
+        case["question"]["type"], now=case["moment"], max_nsec3_iterations=case["nsec3_limit"],
+    )
+    try:
+        judgement = library.judge(handed, passes)
+    except zermuita.Refused as refused:
+        if refused.reply == ITERATIONS_OVER_LIMIT:
+            return Said(INSECURE, "iterations", str(refused))
+        return Said(BOGUS, "", str(refused))
+    if judgement.verdict == zermuita.Verdict.DELEGATED:
+        return delegated(case)
+    result, which = SAYS[judgement.verdict]
+    return Said(result, which, library.strerror(int(judgement.verdict)))
+
+
+def delegated(case: Case) -> Said:
+    """That a name is at or below a delegation, which says nothing of the zone below: the result is what is asked of the case."""
+    allowed = [case["expected"], *case.get("also", [])]
+    result = next((it["result"] for it in allowed if it.get("which") == "delegated"), SECURE)
+    return Said(result, "delegated", "ZERMUITA_DELEGATED: the name is at or below a delegation")
+
+
+def run(cases: list[Case], path: str) -> tuple[str, dict[str, Said]]:
+    if not path or not pathlib.Path(path).exists():
+        raise SystemExit("corpus/run zermuita --library PATH: the shared object, as tools/install installs it")
+    library = zermuita.Library(path)
+    version = "zermuita " + ".".join(map(str, library.version))
+    return version, {it["id"]: said(library, it) for it in cases}
