@@ -16,8 +16,10 @@ import enum
 import time
 from collections.abc import Callable, Iterator, Sequence
 
-__all__ = ["Ask", "Case", "Judgement", "Library", "Refused", "Verdict"]
+__all__ = ["SONAME", "Ask", "Case", "Judgement", "Library", "Refused", "Verdict"]
 
+# The shared object that this module is written for. A version that may break it has another name.
+SONAME = "libzermuita.so.0.1"
 ASK, BUFFER_TOO_SMALL, OUT_OF_MEMORY, LAST_REFUSAL = 32, 34, 26, 28
 # What the library may read of a case, whatever the size that this module knows.
 CASE_ROOM = 256
@@ -106,11 +108,13 @@ class _Octets(ctypes.Structure):
 
 
 class _Case(ctypes.Structure):
-    _fields_ = [("size", ctypes.c_size_t)]
-    _fields_ += [(name, _Octets) for name in ("apex", "ds", "dnskey", "answer", "name", "checked")]
-    _fields_ += [("now", ctypes.c_uint64)]
-    _fields_ += [(name, ctypes.c_uint16) for name in ("rtype", "rclass", "max_nsec3_iterations")]
-    _fields_ += [(name, ctypes.c_uint32) for name in ("one_moment", "as_received")]
+    _fields_ = [
+        ("size", ctypes.c_size_t),
+        *((name, _Octets) for name in ("apex", "ds", "dnskey", "answer", "name", "checked")),
+        ("now", ctypes.c_uint64),
+        *((name, ctypes.c_uint16) for name in ("rtype", "rclass", "max_nsec3_iterations")),
+        *((name, ctypes.c_uint32) for name in ("one_moment", "as_received")),
+    ]
 
 
 class _Room(ctypes.Union):
@@ -140,9 +144,9 @@ def _parts(octets: bytes, widths: Sequence[int], gap: int = 0) -> Iterator[list[
 
 
 class Library:
-    """The shared object, by its name or its path."""
+    """The shared object, by its name, where the system's linker finds it, or by its path."""
 
-    def __init__(self, path: str = "libzermuita.so") -> None:
+    def __init__(self, path: str = SONAME) -> None:
         library = ctypes.CDLL(path)
         self._judge = library.zermuita_judge_case
         self._judge.argtypes = [ctypes.POINTER(_Room), ctypes.c_char_p, ctypes.c_size_t, ctypes.POINTER(_Report)]

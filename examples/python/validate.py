@@ -1,0 +1,79 @@
+#!/usr/bin/env python3
+"""Prints what a signed zone says of a name, as examples/c/validate.c does. The package `cryptography` checks the signatures.
+
+usage: validate.py APEX DS DNSKEY NAME TYPE ANSWER [MOMENT]
+
+DS, DNSKEY and ANSWER are files: DS records' data, each behind its length in two octets, and two messages. Names have no escapes,
+the type is a number, and the moment, else now, is in seconds since 1970. The status is 0 for a verdict, else 1.
+"""
+
+from __future__ import annotations
+
+import pathlib
+import sys
+
+import zermuita
+from cryptography.exceptions import InvalidSignature, UnsupportedAlgorithm
+from cryptography.hazmat.primitives import hashes
+from cryptography.hazmat.primitives.asymmetric import ec, ed448, ed25519, padding, rsa
+from cryptography.hazmat.primitives.asymmetric.utils import encode_dss_signature
+
+RSA = {8: hashes.SHA256(), 10: hashes.SHA512()}
+ECDSA = {13: (ec.SECP256R1(), 32, hashes.SHA256()), 14: (ec.SECP384R1(), 48, hashes.SHA384())}
+
+
+def verify(ask: zermuita.Ask) -> None:
+    """Raises an error unless the signature passes (RFC 8624, 3.1)."""
+    if ask.algorithm in RSA:
+        # An exponent behind its length in one octet, or in three, and the modulus (RFC 3110, 2).
+        head = 1 if ask.key[:1] != b"\0" else 3
+        end = head + int.from_bytes(ask.key[:head], "big")
+        numbers = rsa.RSAPublicNumbers(int.from_bytes(ask.key[head:end], "big"), int.from_bytes(ask.key[end:], "big"))
+        numbers.public_key().verify(ask.signature, ask.octets, padding.PKCS1v15(), RSA[ask.algorithm])
+    elif ask.algorithm in ECDSA:
+        # A point's coordinates, and two numbers, each in so many octets (RFC 6605, 4).
+        curve, width, digest = ECDSA[ask.algorithm]
+        if len(ask.signature) != 2 * width:
+            raise InvalidSignature
+        pair = encode_dss_signature(int.from_bytes(ask.signature[:width], "big"), int.from_bytes(ask.signature[width:], "big"))
+        ec.EllipticCurvePublicKey.from_encoded_point(curve, b"\4" + ask.key).verify(pair, ask.octets, ec.ECDSA(digest))
+    elif ask.algorithm == 15:
+        ed25519.Ed25519PublicKey.from_public_bytes(ask.key).verify(ask.signature, ask.octets)
+    elif ask.algorithm == 16:
+        ed448.Ed448PublicKey.from_public_bytes(ask.key).verify(ask.signature, ask.octets)
+    else:
+        raise UnsupportedAlgorithm(f"algorithm {ask.algorithm}")
+
+
+def signature_passes(ask: zermuita.Ask) -> bool:
+    try:
+        verify(ask)
+    except (InvalidSignature, UnsupportedAlgorithm, ValueError):
+        return False
+    return True
+
+
+def wire(name: str) -> bytes:
+    return b"".join(zermuita.behind_length(label.encode(), 1) for label in name.split(".") if label) + b"\0"
+
+
+def main(apex: str, ds: str, dnskey: str, name: str, rtype: str, answer: str, moment: str | None = None) -> int:
+    rest, records = pathlib.Path(ds).read_bytes(), []
+    while rest:
+        end = 2 + int.from_bytes(rest[:2], "big")
+        records.append(rest[2:end])
+        rest = rest[end:]
+    messages = pathlib.Path(dnskey).read_bytes(), pathlib.Path(answer).read_bytes()
+    case = zermuita.Case(wire(apex), records, *messages, wire(name), int(rtype), now=int(moment) if moment else None)
+    library = zermuita.Library()
+    try:
+        judgement = library.judge(case, signature_passes)
+    except zermuita.Refused as refused:
+        print(refused)
+        return 1
+    print(library.strerror(judgement.verdict), *(record.hex() for record in judgement.records), sep="\n")
+    return 0
+
+
+if __name__ == "__main__":
+    sys.exit(main(*sys.argv[1:]) if 7 <= len(sys.argv) <= 8 else __doc__)
