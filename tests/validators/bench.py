@@ -19,6 +19,8 @@ STEPS = ["start", "report1", "wait1", "report2", "wait2", "done"]
 # What is shown at each stage: before the roll, and behind each step, the changes that have been made.
 SHOWN = [0, 1, 1, 2, 2, 3, 3]
 STAGES = len(SHOWN)
+# A stage for each state of what is shown.
+STATES = [SHOWN.index(it) for it in range(4)]
 LIFE = 14 * 86400
 
 

@@ -41,7 +41,7 @@ class Rsa:
         private = pow(65537, -1, (p - 1) * (q - 1))
         public = rsa.RSAPublicNumbers(65537, p * q)
         halves = rsa.rsa_crt_dmp1(private, p), rsa.rsa_crt_dmq1(private, q), rsa.rsa_crt_iqmp(p, q)
-        self.secret = rsa.RSAPrivateNumbers(p, q, private, *halves, public).private_key(unsafe_skip_rsa_key_validation=True)
+        self.secret = rsa.RSAPrivateNumbers(p, q, private, *halves, public).private_key()
         self.public = b"\3\1\0\1" + (p * q).to_bytes(256, "big")
 
     @staticmethod

@@ -84,3 +84,20 @@ def by_life(all_told, names, life_of):
         counts[life_of(it.case)][it.validator, it.agrees] += 1
     rows = [[life, *(cell(found[name, True], found[name, False]) for name in names)] for life, found in counts.items()]
     return of_lines(["roll", *names], rows)
+
+
+def wholes(told):
+    """How many whole zones each program takes, and how many of those that are broken, and each zone of which a program says the
+    wrong thing."""
+    counts = collections.Counter((program, is_broken, said == "well") for program, _zone, is_broken, said in told)
+    for program in dict.fromkeys(it[0] for it in told):
+        whole, broken = ((counts[program, of, True], sum(counts[program, of, it] for it in (True, False))) for of in (False, True))
+        yield f"{program}: takes {whole[0]} of {whole[1]}, and {broken[0]} of {broken[1]} that are broken"
+    for program, zone, is_broken, said in told:
+        if is_broken == (said == "well"):
+            yield f"{program}: {zone}: {said}"
+
+
+def tells_apart(told):
+    """Whether the programs take the whole zones, and refuse the broken ones."""
+    return all(is_broken != (said == "well") for _program, _zone, is_broken, said in told)

@@ -1,14 +1,17 @@
 """Zones put together from answers, as other programs verify them."""
 
+import itertools
+import os
 import subprocess
 import time
 
 import wire
-from bench import LIVES, Plan
+from bench import STATES, Plan
 from bind import line
 from cases import BEHIND
-from wire import A, DS, NSEC3, NSEC3PARAM, RRSIG, SRV, Record
-from zones import SHAPES
+from keys import POINT
+from phases import FORKED
+from wire import A, DS, NSEC, NSEC3, NSEC3PARAM, RRSIG, SRV, Record
 
 
 def questions(zone):
@@ -20,7 +23,7 @@ def questions(zone):
     return list(found)
 
 
-def records(source, moment, stage=0):
+def records(source, moment, stage):
     """All records of the answers."""
     asked = [(source.zone.owner(name, source.apex), rtype) for name, rtype in questions(source.zone)]
     _ds, dnskey, answers = source.asked(stage, moment, asked)
@@ -45,21 +48,61 @@ def parameters(source, of_zone):
             yield record._replace(data=fields + key.sign(octets))
 
 
+def is_combined(source, of_zone):
+    """Whether each key that signs the zone signs keys, too: dnssec-verify is told that."""
+    of_soa = (it.data for it in of_zone if it.rtype == RRSIG and it.data[:2] == wire.SOA.to_bytes(2, "big"))
+    return all(source.signer.by_tag[int.from_bytes(it[16:18], "big")].flags == POINT for it in of_soa)
+
+
 def said(words):
     ran = subprocess.run(words, stdin=subprocess.DEVNULL, capture_output=True, text=True, timeout=120)
     return "well" if ran.returncode == 0 else " ".join((ran.stdout + ran.stderr).split())[-300:]
 
 
-def verify(world, room):
-    """The programs, and what they say of each zone."""
-    for shape in world.shapes:
-        moment = int(time.time()) - BEHIND
-        source = world.source(world.zone(shape), LIVES[0], "whole", Plan(moment - 4 * 3600, 10, 3600))
-        of_zone = records(source, moment)
-        if any(it.rtype == NSEC3 for it in of_zone):
-            of_zone += parameters(source, of_zone)
-        file = room / f"whole{SHAPES.index(shape)}"
-        lines = (line(it.owner, it.rtype, it.ttl, it.data) for it in sorted(of_zone, key=lambda it: it.rtype != wire.SOA))
-        file.write_text("\n".join([*lines, ""]))
-        yield f"dnssec-verify, {shape.name}", said(["dnssec-verify", "-q", "-o", wire.text(source.apex), file])
-        yield f"ldns-verify-zone, {shape.name}", said(["ldns-verify-zone", file])
+def whole(source, moment, stage):
+    """All records of a zone at a stage, the SOA record first."""
+    found = records(source, moment, stage)
+    if any(it.rtype == NSEC3 for it in found):
+        found += parameters(source, found)
+    return sorted(found, key=lambda it: it.rtype != wire.SOA)
+
+
+def broken(of_zone):
+    """A zone without a record of its chain."""
+    gone = next(it for it in reversed(of_zone) if it.rtype in (NSEC, NSEC3))
+    signed = gone.rtype.to_bytes(2, "big")
+    is_signature = {it for it in of_zone if it.owner == gone.owner and it.rtype == RRSIG and it.data[:2] == signed}
+    return [it for it in of_zone if it != gone and it not in is_signature]
+
+
+STAGED = []
+
+
+def verify(world, folder):
+    """Each program, a zone at a stage, whether it is broken, and what the program says: of each zone what each change of each roll
+    leaves, and as a control, once of each roll, the zone without a record of its chain."""
+    folder.mkdir()
+    moment = int(time.time()) - BEHIND
+    plan = Plan(moment - 4 * 3600, 10, 3600)
+    pairs = itertools.product(world.pairs(), STATES)
+    STAGED[:] = [(world.source(*pair, f"whole{stage}", plan), stage, moment, folder) for pair, stage in pairs]
+    with FORKED.Pool(os.cpu_count()) as pool:
+        for told in pool.imap(verified_at, range(len(STAGED))):
+            yield from told
+
+
+def verified_at(at):
+    """What the programs say of a zone at a stage."""
+    source, stage, moment, folder = STAGED[at]
+    of_zone, apex = whole(source, moment, stage), wire.text(source.apex)
+    dnssec_verify = ["dnssec-verify", "-q", *["-z"] * is_combined(source, of_zone), "-o", apex]
+    told = [*verified(dnssec_verify, folder / apex, of_zone, False)]
+    if stage == STATES[0]:
+        told += verified(dnssec_verify, folder / f"{apex}broken", broken(of_zone), True)
+    return told
+
+
+def verified(dnssec_verify, file, of_zone, is_broken):
+    file.write_text("\n".join([*(line(it.owner, it.rtype, it.ttl, it.data) for it in of_zone), ""]))
+    for words in (dnssec_verify, ["ldns-verify-zone"]):
+        yield words[0], file.name, is_broken, said([*words, file])
