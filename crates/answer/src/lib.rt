@@ -11,7 +11,9 @@ pub use crate::simulation::simulate;
 pub use answer_events::event::{Act, Event, KeyCall};
 pub use answer_events::key_kind::KeyKind;
 pub use answer_judge::judging::is_allowed;
-pub use answer_judge::{Case, DataList, Judgement, Refusal, Refused, Verdict, judge, judge_with};
+pub use answer_judge::{
+    Case, DataList, Judgement, Lasting, Refusal, Refused, Verdict, judge, judge_with,
+};
 pub use answer_laws::laws;
 pub use answer_outcomes::outcome::Outcome;
 pub use answer_publisher::fault::{AnswerFault, KeyFault, ReplaceFault, ZoneFault};

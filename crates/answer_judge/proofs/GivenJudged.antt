@@ -1,7 +1,7 @@
 -- What a zone under keys that meet has given is judged by what its answer verifies.
-use Rattle.std.proofs.Common.{◌≡◌, ℕ, ◌<◌, Bool, true, false, not, ◌&&◌, List, [], ◌∷◌, Option, Some, None, Result, Ok, Err, length, filter, refl, ap, ◌∙◌, arith}
+use Rattle.std.proofs.Common.{◌≡◌, ℕ, ◌<◌, Bool, true, false, not, ◌&&◌, ◌||◌, List, [], ◌∷◌, Option, Some, None, Result, Ok, Err, length, filter, refl, ap, ◌∙◌, arith}
 use Rattle.std.specs.Prelude.{find, nat_eq, if◌then◌else◌}
-use Rattle.std.proofs.lemmas.Bool.{and_from, eq-eqb, ne_eqb}
+use Rattle.std.proofs.lemmas.Bool.{and_from, eq-eqb, ne_eqb, or_right}
 use Rattle.definitions.specs.Name.{Name, low}
 use Rattle.definitions.specs.Dnskey.{Dnskey, Ds, key_tag}
 use Rattle.definitions.specs.Signing.{Fields}
@@ -9,13 +9,14 @@ use Rattle.definitions.specs.Zone.{Unsigned}
 use Rattle.definitions.specs.ZoneChain.{Mode}
 use Rattle.messages.specs.HandedRr.{HandedRr}
 use Rattle.answer_scheme.specs.Answers.{Answers}
+use Rattle.answer_shared.specs.Asking.{asks_alias}
 use Rattle.answer_judge_keys.specs.Trusted.{is_usable}
 use Rattle.answer_judge.specs.OwnFacts.{passes_for}
 use Rattle.answer_judge_keys.specs.declared.verdict.Refusal.{Refusal}
 use Rattle.answer_judge_keys.specs.declared.verdict.Refusal.TheVariants as r
 use Rattle.messages.specs.declared.error.MessageError.{MessageError}
 use Rattle.answer_judge_facts.specs.Judged.{judged, judged_answer, judged_messages, keys_of}
-use Rattle.answer_judge_keys.specs.Judging.{Answer, Handing, Refuses, Says, first_refusal, message_refusal, same_question}
+use Rattle.answer_judge_keys.specs.Judging.{Answer, Handing, Refuses, Says, first_refusal, is_judged, may_ask, message_refusal, same_question}
 use Rattle.answer_shared.specs.EqualTags.{has_equal_tags}
 use Rattle.answer_judge.specs.Meeting.{HasDs, WasGiven}
 use Rattle.messages.specs.Message.{Asked, Message}
@@ -44,10 +45,10 @@ abbrev refusal_by : Bool → Bool → Option Refusal
 refusal_by asked tags = if not asked then Some r.QuestionMismatch else if tags then Some r.EqualTags else None
 
 abbrev refusal_of : Handing → Message → Message → Option Refusal
-refusal_of h keys answer = refusal_by (same_question keys.asked (question_of h.apex) && same_question answer.asked h.asked) (has_equal_tags (keys_of h keys))
+refusal_of h keys answer = refusal_by (same_question keys.asked (question_of h.apex) && may_ask h answer.asked) (has_equal_tags (keys_of h keys))
 
 abbrev first_by : Bool → Bool → Option Refusal → Option Refusal
-first_by allowed none later = if not allowed then Some r.QuestionNotAllowed else if none then None else later
+first_by asked none later = if not asked then Some r.QuestionNotAllowed else if none then None else later
 
 abbrev judged_by : Option Refusal → Bool → Answer → Answer
 judged_by first none later = elim first [ Some e ↦ Refuses e | None ↦ if none then Says Unsigned else later ]
@@ -71,13 +72,16 @@ module _ (a : Answers) (k : ℕ) (h : Handing) (mode : Mode) (rs : List HandedRr
   apart : has_equal_tags read_keys ≡ false
   apart = keys_apart a.verifies k given.keys_ttl h.apex given.present given.keysigners given.keys_at given.life h.dnskey_bytes given.keys_told given.flags_are given.present_tags
 
-  asked : (same_question given.keys_told.read.asked (question_of h.apex) && same_question given.answer_told.read.asked h.asked) ≡ true
-  asked = and_from _ _ (same_asked given.keys_told.read.asked (question_of h.apex) given.keys_told.name_is given.keys_told.rtype_is given.keys_told.class_is) (same_asked given.answer_told.read.asked h.asked given.answer_told.name_is given.answer_told.rtype_is given.answer_told.class_is)
+  asked : (same_question given.keys_told.read.asked (question_of h.apex) && may_ask h given.answer_told.read.asked) ≡ true
+  asked = and_from _ _ (same_asked given.keys_told.read.asked (question_of h.apex) given.keys_told.name_is given.keys_told.rtype_is given.keys_told.class_is) (or_right h.other_question _ (same_asked given.answer_told.read.asked h.asked given.answer_told.name_is given.answer_told.rtype_is given.answer_told.class_is))
 
   messages_first : message_refusal k h ≡ None
   messages_first =
       (λ i. two_messages (given.keys_told.reads i) (given.answer_told.reads i) (refusal_of h))
       ∙ (λ i. refusal_by (asked i) (apart i))
+
+  judged_question : is_judged h ≡ true
+  judged_question = or_right (h.other_question && asks_alias h.apex h.asked) _ given.allowed
 
   -- the DS set has the key at the parent
   pub some_ds : nat_eq (length h.ds) 0 ≡ false
@@ -92,7 +96,7 @@ module _ (a : Answers) (k : ℕ) (h : Handing) (mode : Mode) (rs : List HandedRr
       some_ds_length (x ∷ xs) d i = omega arith
 
   pub first_refusal_given : first_refusal k h ≡ None
-  first_refusal_given = (λ i. first_by (given.allowed i) (some_ds i) (messages_first i))
+  first_refusal_given = (λ i. first_by (judged_question i) (some_ds i) (messages_first i))
 
   -- the judgement is what the answer verifies under the usable keys
   pub judged_given : judged a k h ≡ judged_answer a k h usable_keys given.answer_told.read

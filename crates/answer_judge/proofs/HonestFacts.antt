@@ -3,7 +3,7 @@ use Rattle.std.proofs.Common.{◌≡◌, ℕ, ◌<◌, ◌≤◌, true, false, �
 use Rattle.std.specs.Prelude.{◌==◌, IfSome, nat_le, nat_lt}
 use Rattle.std.specs.List.{AllByRecursion, filter_map}
 use Rattle.std.specs.Option.{option_map}
-use Rattle.std.proofs.lemmas.Bool.{and_from, and_parts, eqb-true, false≢true, leb-true, ltb-true, or_cases, or_parts}
+use Rattle.std.proofs.lemmas.Bool.{and_from, and_parts, eqb-true, false≢true, leb-true, ltb-true, or_cases}
 use Rattle.std.proofs.lemmas.List.{length-map}
 use Rattle.std.specs.Str.{str_to_ascii_lowercase}
 use Rattle.definitions.specs.Dnskey.{Dnskey}
@@ -13,7 +13,7 @@ use Rattle.definitions.specs.Zone.{Zone, Rr, has, data_at, is_of}
 use Rattle.definitions.specs.ZoneChain.{Mode, Nsec, Nsec3}
 use Rattle.definitions.proofs.Members.{any_of}
 use Rattle.denial_laws.specs.Facts.{HashLink, Link, Rrset}
-use Rattle.denial_laws.specs.Truth.{IsServable, IsTrueRrset, is_added_type, is_foreign_type, is_signed}
+use Rattle.denial_laws.specs.Truth.{IsServable, IsTrueRrset, is_added_type, is_signed}
 use Rattle.denial_laws.proofs.ChainBits.{all_at}
 use Rattle.messages.specs.Handed.{IsHanded}
 use Rattle.messages.specs.Message.{HashedNext, Message, Spelled, canonical_data, data_of, message, nsec3_at, nsec3_of, nsec_at}
@@ -84,11 +84,7 @@ pub chain_type : (z : Zone) (hash : Name → List ℕ) (mode : Mode) (x : Signed
 chain_type z hash Nsec x is = ap is_added_type is.rtype_is
 chain_type z hash (Nsec3 iterations salt optout) x is = ap is_added_type is.rtype_is
 
--- a type that may be asked for is not one that signing adds
-pub unadded_type : (t : ℕ) → is_foreign_type t ≡ false → is_added_type t ≡ false
-unadded_type t h = (or_parts (is_added_type t) _ h).0
-
-module _ (apex : Name) (hash : Name → List ℕ) (v : Version) (q : Name) (t : ℕ) (asked : is_foreign_type t ≡ false) where
+module _ (apex : Name) (hash : Name → List ℕ) (v : Version) (q : Name) (t : ℕ) (asked : is_added_type t ≡ false) where
   abbrev zone : Zone
   zone = zone_in apex v
 
@@ -96,7 +92,7 @@ module _ (apex : Name) (hash : Name → List ℕ) (v : Version) (q : Name) (t : 
   rrset_of f items covered fit x = go x.rrset x.of x.tells
     where
       added : (g : SignedRrset) → f.covered ≡ g.rtype → is_added_type g.rtype ≡ true → ⊥
-      added g e h = false≢true (sym (unadded_type t asked) ∙ ap is_added_type (sym covered ∙ e) ∙ h)
+      added g e h = false≢true (sym asked ∙ ap is_added_type (sym covered ∙ e) ∙ h)
 
       go : (g : SignedRrset) → IsRrsetOf apex hash v g → Tells f q items g → IsTrueRrset zone q t (record { datas = items; labels = f.labels })
       go g (OfChain is) y = absurd (added g y.covered (chain_type zone hash v.mode g is))
@@ -176,7 +172,7 @@ IsOfVersion a k h v read keys =
     → (f : Fields) → verified_by (trusting a h keys) k h.answer_bytes read.records owner u (rrset_in k h.answer_bytes read.records owner u) ≡ Some f
     → IsOf h.apex (hash_in a.hash v.mode) v f owner (rrset_in k h.answer_bytes read.records owner u)
 
-module _ (a : Answers) (k : ℕ) (h : Handing) (v : Version) (known : IsKnown h.apex v) (read : Message) (keys : List Dnskey) (asked : is_foreign_type h.asked.rtype ≡ false) (is_of : IsOfVersion a k h v read keys) where
+module _ (a : Answers) (k : ℕ) (h : Handing) (v : Version) (known : IsKnown h.apex v) (read : Message) (keys : List Dnskey) (asked : is_added_type h.asked.rtype ≡ false) (is_of : IsOfVersion a k h v read keys) where
   abbrev zone_here : Zone
   zone_here = zone_in h.apex v
 

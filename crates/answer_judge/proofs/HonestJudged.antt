@@ -1,14 +1,13 @@
 -- Of honest messages a judge says the verdict of a version in which the name is no alias, or refuses.
-use Rattle.std.proofs.Common.{◌≡◌, ◌⊎◌, ℕ, Bool, true, false, not, ◌&&◌, ◌||◌, List, [], ◌∷◌, length, filter, refl, sym, ap, subst, ◌∙◌, inl, inr, ⊎_elim, arith}
-use Rattle.std.specs.Prelude.{Contains, nat_eq, nat_le}
-use Rattle.std.proofs.lemmas.Bool.{false≢true}
+use Rattle.std.proofs.Common.{◌≡◌, ◌⊎◌, ℕ, true, false, List, [], ◌∷◌, length, filter, refl, sym, ap, subst, ◌∙◌, inl, inr, ⊎_elim, arith}
+use Rattle.std.specs.Prelude.{Contains}
 use Rattle.definitions.specs.Dnskey.{Dnskey}
 use Rattle.definitions.specs.Name.{Name}
 use Rattle.definitions.specs.Zone.{Verdict, Zone}
 use Rattle.definitions.specs.ZoneChain.{Mode, Nsec, Nsec3}
 use Rattle.denial_laws.specs.Facts.{Facts}
-use Rattle.denial_laws.specs.Laws.{IsSaidBy, is_asked_type}
-use Rattle.denial_laws.specs.Truth.{is_foreign_type}
+use Rattle.denial_laws.specs.Laws.{IsSaidBy}
+use Rattle.denial_laws.specs.Truth.{is_added_type}
 use Rattle.denial_laws.proofs.Sound.{true_facts_decide_truly}
 use Rattle.messages.specs.Handed.{IsHanded}
 use Rattle.messages.proofs.Lists.{Has, all_at, all_sorted}
@@ -16,7 +15,6 @@ use Rattle.answer_scheme.specs.Answers.{Answers}
 use Rattle.answer_shared.specs.Accepting.{record_cmp}
 use Rattle.answer_shared.specs.Chainable.{HasChain}
 use Rattle.answer_shared.specs.Hashing.{Hasher, hash_in}
-use Rattle.answer_shared.proofs.Servable.{asked_inside}
 use Rattle.answer_honest.specs.Honest.{AnswersHonest, AreHonest, FewIterations, HasOneRrset, IsSaidByOne, IsVersion, OneAtATime, SaysOneOf, Settled, Signing}
 use Rattle.answer_honest.specs.Versions.{Version, zone_in}
 use Rattle.answer_judge_keys.specs.Trusted.{is_usable}
@@ -35,13 +33,7 @@ use Rattle.answer_judge.proofs.HonestUsed.{not_keys}
 use Rattle.answer_judge.proofs.HonestVerified.{IsSigner}
 use Rattle.answer_judge.proofs.HonestVersions.{AreOfOne, IsChosen, chosen}
 use Rattle.answer_judge.proofs.JudgedSays.{IsSaid, facts_of, judged_says}
-
-pub plain_type : (t : ℕ) → is_asked_type t ≡ true → is_foreign_type t ≡ false
-plain_type t h = go (is_foreign_type t) refl
-  where
-    go : (b : Bool) → is_foreign_type t ≡ b → b ≡ false
-    go false e = refl
-    go true e = absurd (false≢true (ap (λ b. not (b || nat_eq t 0 || nat_eq t 41 || (nat_le 128 t && nat_le t 255))) (sym e) ∙ h))
+use Rattle.answer_judge.proofs.JudgedTypes.{judged_type}
 
 -- ---- versions
 
@@ -90,7 +82,7 @@ module _ (a : Answers) (k : ℕ) (h : Handing) (versions : List Version) (x : Ar
       let usable : List Dnskey = filter is_usable keys in
       let published = all_published a k h x.published x.signings (λ s i. known_version s.version (of_versions s i)) said.keys x.keys_honest said.keys_read x.keys_known x.flags_are said.chained in
       let signers : (key : Dnskey) → Has usable key → IsSigner x.published key = λ key i. record { known = published key (filter_from is_usable keys key i); usable = (passes_has is_usable keys key i).1 } in
-      let asked : is_foreign_type h.asked.rtype ≡ false = plain_type h.asked.rtype (asked_inside h.apex h.asked said.allowed).asked_type in
+      let asked : is_added_type h.asked.rtype ≡ false = judged_type h said.asked in
       let spare = first_of versions x.one in
       let used : IsChosen a k h x.published x.signings said.answer x.answer_honest said.answer_read usable signers (not_keys h.asked.rtype asked) versions =
       chosen a k h x.published x.signings said.answer x.answer_honest said.answer_read usable signers (not_keys h.asked.rtype asked) said.of_one_moment versions of_versions (settled_so k h versions x.signings of_versions x.settled) spare.0 spare.1 in

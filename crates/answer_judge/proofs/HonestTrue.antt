@@ -5,7 +5,7 @@ use Rattle.definitions.specs.Name.{Name}
 use Rattle.definitions.specs.Zone.{Zone}
 use Rattle.definitions.specs.ZoneChain.{Mode, Nsec, Nsec3}
 use Rattle.denial_laws.specs.Facts.{Facts, HashLink}
-use Rattle.denial_laws.specs.Truth.{AreTrue, IsTrueHashLink, IsTrueLink, is_foreign_type}
+use Rattle.denial_laws.specs.Truth.{AreTrue, IsTrueHashLink, IsTrueLink, is_added_type}
 use Rattle.std.specs.Prelude.{false}
 use Rattle.messages.specs.Message.{AreOctets, Message, Spelled}
 use Rattle.messages.proofs.Lists.{Has}
@@ -26,7 +26,7 @@ pub record AreTrueHere (apex : Name) (hash : Name → List ℕ) (v : Version) (q
   pub true_facts : AreTrue (zone_in apex v) hash v.mode q t f
   pub hashed : AreHashedBy v.mode f.hash_links
 
-module _ (a : Answers) (k : ℕ) (h : Handing) (rs : List Rattle.messages.specs.HandedRr.HandedRr) (read : Message) (keys : List Dnskey) (asked : is_foreign_type h.asked.rtype ≡ false) (octets : AreOctets h.answer_bytes) where
+module _ (a : Answers) (k : ℕ) (h : Handing) (rs : List Rattle.messages.specs.HandedRr.HandedRr) (read : Message) (keys : List Dnskey) (asked : is_added_type h.asked.rtype ≡ false) (octets : AreOctets h.answer_bytes) where
   abbrev w : Trusting
   w = trusting a h keys
 

@@ -4,7 +4,7 @@ use Rattle.std.specs.Prelude.{◌==◌, is_some, length, nat_eq}
 use Rattle.std.proofs.lemmas.Bool.{and_from, eq-eqb, false≢true, or_left, or_parts, or_right}
 use Rattle.definitions.specs.Name.{Name, low, same, at_or_above}
 use Rattle.definitions.specs.Signing.{Fields}
-use Rattle.denial_laws.specs.Truth.{is_added_type, is_foreign_type}
+use Rattle.denial_laws.specs.Truth.{is_added_type}
 use Rattle.messages.specs.Message.{Spelled}
 use Rattle.messages.proofs.ZoneNames.{labels_eq-same}
 use Rattle.answer_judge_facts.specs.Sought.{answer_sought, is_alone}
@@ -31,5 +31,5 @@ module _ (k : ℕ) (m : List ℕ) (apex : Name) (rs : List Spelled) (q : Name) (
   pub hash_sought : (o : Name) → is_hash_alone k m apex rs o ≡ true → Sought o 50
   hash_sought o alone = or_left (is_hash_alone k m apex rs o) ((t == 50) && same o q) alone
 
-pub not_keys : (t : ℕ) → is_foreign_type t ≡ false → eqb t 48 ≡ false
-not_keys t h = (or_parts (nat_eq t 48) _ (or_parts (nat_eq t 47) _ (or_parts (nat_eq t 46) _ (or_parts (is_added_type t) _ h).0).1).1).0
+pub not_keys : (t : ℕ) → is_added_type t ≡ false → eqb t 48 ≡ false
+not_keys t h = (or_parts (nat_eq t 48) _ (or_parts (nat_eq t 47) _ (or_parts (nat_eq t 46) _ h).1).1).0

@@ -7,12 +7,11 @@ use Rattle.definitions.specs.Dnskey.{Dnskey}
 use Rattle.definitions.specs.Limits.{pointer_limit}
 use Rattle.messages.specs.Message.{Message, Spelled, message}
 use Rattle.answer_scheme.specs.Answers.{Answers, SignatureTest}
-use Rattle.answer_shared.specs.Asking.{is_allowed}
 use Rattle.answer_judge.specs.Stages.{trusting_named}
 use Rattle.answer_judge_facts.specs.Asked.{Implies, is_tried_among, is_tried_beyond, is_tried_in_bytes, is_tried_in_messages, is_tried_of_answer, is_tried_signature}
 use Rattle.answer_judge_keys.specs.Trusted.{is_usable}
 use Rattle.answer_judge_facts.specs.Judged.{is_chained, keys_of, trusting}
-use Rattle.answer_judge_keys.specs.Judging.{Handing, keys_in, message_refusal}
+use Rattle.answer_judge_keys.specs.Judging.{Handing, is_judged, keys_in, message_refusal}
 use Rattle.answer_judge_keys.specs.declared.verdict.Refusal.TheVariants as r
 use Rattle.answer_judge_facts.specs.Sought.{answer_sought, keys_sought}
 
@@ -43,8 +42,8 @@ module _ (a : Answers) (h : Handing) (keys answer : Message) (none : message_ref
       (λ key octets signature tried. implies key octets signature
       (tried_beyond key octets signature (or_right _ _ ((λ i. sym chained i && is_tried_of_answer a pointer_limit h keys answer key octets signature) ∙ tried))))
 
--- beside a DS set that isn't empty, of an allowed question
-pub case_passes : (own was : Answers) (h : Handing) (test : SignatureTest) → was ≡ own → is_allowed h.apex h.asked ≡ true → nat_eq (length h.ds) 0 ≡ false → Implies (is_tried_signature own pointer_limit h) test → Implies (is_tried_beyond was pointer_limit h) test
+-- beside a DS set that isn't empty, of a question that is judged
+pub case_passes : (own was : Answers) (h : Handing) (test : SignatureTest) → was ≡ own → is_judged h ≡ true → nat_eq (length h.ds) 0 ≡ false → Implies (is_tried_signature own pointer_limit h) test → Implies (is_tried_beyond was pointer_limit h) test
 case_passes own was h test same allowed some implies key octets signature tried =
     implies key octets signature
     ((λ i. elim (if not (allowed i) then Some r.QuestionNotAllowed else if some i then None else message_refusal pointer_limit h) as (λ _. Bool) [

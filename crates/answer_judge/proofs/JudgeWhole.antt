@@ -11,8 +11,7 @@ use Rattle.denial_laws.specs.Facts.{Facts}
 use Rattle.answer_judge_rules.specs.declared.verdict.Verdict.{Verdict as CodeVerdict}
 use Rattle.answer_judge_keys.specs.declared.verdict.Refusal.{Refusal}
 use Rattle.answer_judge_keys.specs.declared.verdict.Refusal.TheVariants as r
-use Rattle.answer_judge_keys.specs.Judging.{Answer, Refuses, RefusesFirst, Handing, first_refusal, message_refusal, keys_in, same_question, AnswersFirst}
-use Rattle.answer_shared.specs.Asking.{is_allowed}
+use Rattle.answer_judge_keys.specs.Judging.{Answer, Refuses, RefusesFirst, Handing, first_refusal, is_judged, may_ask, message_refusal, keys_in, same_question, AnswersFirst}
 use Rattle.answer_shared.specs.EqualTags.{has_equal_tags}
 use Rattle.answer_judge_rules.specs.Rules.{verdict_of}
 use Rattle.messages.specs.Message.{Asked, Message, Spelled, message}
@@ -39,14 +38,14 @@ brought p q t = if not (p && q) then Some r.QuestionMismatch else if t then Some
 
 -- both messages are read, ask what they should, and no keys have one tag: they bring no refusal
 unrefused : (k : ℕ) (h : Handing) (keys answer : Message) → message k h.dnskey_bytes ≡ Ok keys → message k h.answer_bytes ≡ Ok answer
-    → same_question keys.asked (asked_for_keys h) ≡ true → same_question answer.asked h.asked ≡ true
+    → same_question keys.asked (asked_for_keys h) ≡ true → may_ask h answer.asked ≡ true
     → has_equal_tags (keys_in h.dnskey_bytes h.apex keys.records) ≡ false → message_refusal k h ≡ None
 unrefused k h keys answer d z p q t =
     (λ i. elim (d i) as (λ _. Option Refusal) [
       | Err e ↦ Some r.BadDnskeyMessage
       | Ok keys ↦ elim (z i) as (λ _. Option Refusal) [
         | Err e ↦ Some r.BadAnswerMessage
-        | Ok answer ↦ brought (same_question keys.asked (asked_for_keys h)) (same_question answer.asked h.asked) (has_equal_tags (keys_in h.dnskey_bytes h.apex keys.records))
+        | Ok answer ↦ brought (same_question keys.asked (asked_for_keys h)) (may_ask h answer.asked) (has_equal_tags (keys_in h.dnskey_bytes h.apex keys.records))
       ]
     ])
     ∙ (λ i. brought (p i) (q i) (t i))
@@ -59,7 +58,7 @@ pub record BothRead (h : Handing) (keys answer : Message) (rs : List Spelled) (k
   pub keys_are : ks ≡ keys_in h.dnskey_bytes h.apex rs
   pub none : message_refusal pointer_limit h ≡ None
 
-pub both_read : (h : Handing) (keys answer : Message) (rs : List Spelled) (ks : List Dnskey) → message pointer_limit h.dnskey_bytes ≡ Ok keys → message pointer_limit h.answer_bytes ≡ Ok answer → same_question keys.asked (asked_for_keys h) ≡ true → same_question answer.asked h.asked ≡ true
+pub both_read : (h : Handing) (keys answer : Message) (rs : List Spelled) (ks : List Dnskey) → message pointer_limit h.dnskey_bytes ≡ Ok keys → message pointer_limit h.answer_bytes ≡ Ok answer → same_question keys.asked (asked_for_keys h) ≡ true → may_ask h answer.asked ≡ true
     → rs ≡ keys.records → ks ≡ keys_in h.dnskey_bytes h.apex rs → has_equal_tags ks ≡ false → BothRead h keys answer rs ks
 both_read h keys answer rs ks d z p q e f unlike = record {
   dnskey = d;
@@ -99,7 +98,7 @@ answered (Some v) e h = inr h
 
 -- ---- first refusals
 
--- beside a question that is allowed and a DS set that isn't empty
+-- beside a question that is judged and a DS set that isn't empty
 first_kept : (e : Refusal) (m : Option Refusal) → RefusesFirst e m → AnswersFirst (Refuses e) m
 first_kept r.QuestionNotAllowed m h = h
 first_kept r.BadDnskeyMessage m h = h
@@ -114,7 +113,7 @@ first_kept r.NotProven m h = h
 first_kept r.Memory m h = h
 first_kept r.MixedVersions m h = h
 
-pub refuses_first : (k : ℕ) (h : Handing) (e : Refusal) → is_allowed h.apex h.asked ≡ true → nat_eq (length h.ds) 0 ≡ false → RefusesFirst e (message_refusal k h) → AnswersFirst (Refuses e) (first_refusal k h)
+pub refuses_first : (k : ℕ) (h : Handing) (e : Refusal) → is_judged h ≡ true → nat_eq (length h.ds) 0 ≡ false → RefusesFirst e (message_refusal k h) → AnswersFirst (Refuses e) (first_refusal k h)
 refuses_first k h e allowed some first =
     let is : first_refusal k h ≡ message_refusal k h = (λ i. if not (allowed i) then Some r.QuestionNotAllowed else if some i then None else message_refusal k h) in
     subst (AnswersFirst (Refuses e)) (sym is) (first_kept e (message_refusal k h) first)

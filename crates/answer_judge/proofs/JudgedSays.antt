@@ -9,12 +9,11 @@ use Rattle.denial_laws.specs.Facts.{Facts}
 use Rattle.messages.specs.declared.error.MessageError.{MessageError}
 use Rattle.messages.specs.Message.{Message, message}
 use Rattle.answer_scheme.specs.Answers.{Answers}
-use Rattle.answer_shared.specs.Asking.{is_allowed}
 use Rattle.answer_judge_keys.specs.declared.verdict.Refusal.{Refusal}
 use Rattle.answer_judge_keys.specs.declared.verdict.Refusal.TheVariants as r
 use Rattle.answer_judge_keys.specs.Trusted.{is_usable}
 use Rattle.answer_judge_facts.specs.Judged.{are_mixed, has_unlike_times, are_over, by_facts, decided_by, facts_in, is_chained, is_unhashed, judged, judged_answer, judged_bytes, judged_facts, judged_messages, keys_of}
-use Rattle.answer_judge_keys.specs.Judging.{Answer, Handing, Refuses, Says, first_refusal}
+use Rattle.answer_judge_keys.specs.Judging.{Answer, Handing, Refuses, Says, first_refusal, is_judged}
 
 -- the facts of the answer, under the usable keys
 abbrev pub facts_of : Answers → ℕ → Handing → Message → Message → Facts
@@ -25,7 +24,7 @@ pub record IsSaid (a : Answers) (k : ℕ) (h : Handing) (v : Verdict) : Type 0 w
   pub answer : Message
   pub keys_read : message k h.dnskey_bytes ≡ Ok keys
   pub answer_read : message k h.answer_bytes ≡ Ok answer
-  pub allowed : is_allowed h.apex h.asked ≡ true
+  pub asked : is_judged h ≡ true
   pub chained : is_chained a k h keys ≡ true
   pub of_one_moment : (h.one_moment && has_unlike_times a k h (filter is_usable (keys_of h keys)) answer) ≡ false
   pub decided : decided_by a h (facts_of a k h keys answer) ≡ Some v
@@ -66,7 +65,7 @@ not_empty : (ds : List Ds) → (ds ≡ [] → ⊥) → nat_eq (length ds) 0 ≡ 
 not_empty [] h = absurd (h refl)
 not_empty (d ∷ ds) h = ne_eqb (length (d ∷ ds)) 0 (λ e. omega (arith, e))
 
-module _ (a : Answers) (k : ℕ) (h : Handing) (v : Verdict) (allowed : is_allowed h.apex h.asked ≡ true) where
+module _ (a : Answers) (k : ℕ) (h : Handing) (v : Verdict) (asked : is_judged h ≡ true) where
   chained_says : (b : Bool) (x : Answer) → elim b as (λ _. Answer) [ true ↦ x | false ↦ Refuses r.NoTrustedKey ] ≡ Says v → (b ≡ true) × (x ≡ Says v)
   chained_says true x e = (refl, e)
   chained_says false x e = absurd (not_refused r.NoTrustedKey v e)
@@ -82,7 +81,7 @@ module _ (a : Answers) (k : ℕ) (h : Handing) (v : Verdict) (allowed : is_allow
         answer = answer;
         keys_read = i;
         answer_read = j;
-        allowed = allowed;
+        asked = asked;
         chained = c.0;
         of_one_moment = not_so mixed r.MixedVersions (judged_facts a h facts) v c.1;
         decided = facts_decide a h facts v (unless mixed r.MixedVersions (judged_facts a h facts) v c.1);
@@ -101,6 +100,6 @@ module _ (a : Answers) (k : ℕ) (h : Handing) (v : Verdict) (allowed : is_allow
 pub judged_says : (a : Answers) (k : ℕ) (h : Handing) (v : Verdict) → (h.ds ≡ [] → ⊥) → judged a k h ≡ Says v → IsSaid a k h v
 judged_says a k h v some e =
     let first = not_first (first_refusal k h) _ v e in
-    let allowed = asked_first (is_allowed h.apex h.asked) _ first.0 in
+    let asked = asked_first (is_judged h) _ first.0 in
     let unsigned : judged_bytes a k h ≡ Says v = sym (ap (λ b. if b then Says Rattle.definitions.specs.Zone.Unsigned else judged_bytes a k h) (not_empty h.ds some)) ∙ first.1 in
-    bytes_say a k h v allowed (message k h.dnskey_bytes) refl unsigned
+    bytes_say a k h v asked (message k h.dnskey_bytes) refl unsigned

@@ -1,13 +1,12 @@
 -- What a judgement is, from what it answers and counts.
-use Rattle.std.proofs.Common.{◌≡◌, ◌<◌, ℕ, Bool, true, false, not, length, sym, subst}
+use Rattle.std.proofs.Common.{◌≡◌, ◌<◌, ℕ, Bool, true, false, not, length, inr, refl, sym, subst}
 use Rattle.std.specs.Prelude.{Option, Some, None, nat_eq, if◌then◌else◌}
 use Rattle.definitions.specs.Limits.{pointer_limit}
 use Rattle.definitions.specs.Zone.{Unsigned}
 use Rattle.answer_scheme.specs.Answers.{Answers, EachAgreeing, SignatureTest, with_test}
-use Rattle.answer_shared.specs.Asking.{is_allowed}
 use Rattle.answer_judge_facts.specs.Counted.{Counts, hashes_in_bytes, tries_in_bytes}
 use Rattle.answer_judge_facts.specs.Judged.{AnswersAs, judged, judged_bytes}
-use Rattle.answer_judge_keys.specs.Judging.{Answer, Handing, Judges, Refuses, Says, message_refusal}
+use Rattle.answer_judge_keys.specs.Judging.{Answer, Handing, Judges, Refuses, Says, is_judged, message_refusal}
 use Rattle.answer_judge_keys.specs.declared.verdict.Refusal.{Refusal}
 use Rattle.answer_judge_keys.specs.declared.verdict.Refusal.TheVariants as r
 use Rattle.answer_judge_facts.proofs.JudgeAsked.{agreed_by}
@@ -28,7 +27,7 @@ module _ (a : Answers) (h : Handing) (short : h.limit < 65536) where
   abbrev counted_then : ℕ → Bool → Bool → ℕ
   counted_then n allowed empty = elim (first allowed empty) as (λ _. ℕ) [ Some e ↦ 0 | None ↦ if empty then 0 else n ]
 
-  whole : (answer : Answer) (verifications hashes : ℕ) (allowed empty : Bool) → is_allowed h.apex h.asked ≡ allowed → nat_eq (length h.ds) 0 ≡ empty → Judges pointer_limit h answer verifications hashes
+  whole : (answer : Answer) (verifications hashes : ℕ) (allowed empty : Bool) → is_judged h ≡ allowed → nat_eq (length h.ds) 0 ≡ empty → Judges pointer_limit h answer verifications hashes
       → AnswersAs answer (said_then allowed empty) → Counts answer verifications (counted_then (tries_in_bytes a pointer_limit h) allowed empty) → Counts answer hashes (counted_then (hashes_in_bytes a pointer_limit h) allowed empty)
       → IsJudgement pointer_limit a h answer verifications hashes
   whole answer verifications hashes allowed empty p q keeps said tried hashed =
@@ -43,15 +42,19 @@ module _ (a : Answers) (h : Handing) (short : h.limit < 65536) where
         timely = refuses_untimely a pointer_limit h answer exact;
       }
 
-  -- beside a DS set that isn't empty, of an allowed question
-  pub wholly : (answer : Answer) (verifications hashes : ℕ) → is_allowed h.apex h.asked ≡ true → nat_eq (length h.ds) 0 ≡ false → Judges pointer_limit h answer verifications hashes
+  -- beside a DS set that isn't empty, of a question that is judged
+  pub wholly : (answer : Answer) (verifications hashes : ℕ) → is_judged h ≡ true → nat_eq (length h.ds) 0 ≡ false → Judges pointer_limit h answer verifications hashes
       → SaysBeyond a pointer_limit h answer verifications hashes → IsJudgement pointer_limit a h answer verifications hashes
   wholly answer verifications hashes p q keeps (said, tried, hashed) = whole answer verifications hashes true false p q keeps said tried hashed
+
+  -- of a question that isn't judged
+  pub unjudged : is_judged h ≡ false → Judges pointer_limit h (Refuses r.QuestionNotAllowed) 0 0 → IsJudgement pointer_limit a h (Refuses r.QuestionNotAllowed) 0 0
+  unjudged p keeps = whole (Refuses r.QuestionNotAllowed) 0 0 false (nat_eq (length h.ds) 0) p refl keeps (inr refl) (inr refl) (inr refl)
 
 -- beside such a DS set, what is said of both messages under each test of signatures that agrees with what was answered is said of
 -- the case
 pub each_wholly : (own was : Answers) (agrees : SignatureTest → Type 0) (h : Handing) (answer : Answer) (verifications hashes : ℕ) → h.limit < 65536 → was ≡ own
-    → is_allowed h.apex h.asked ≡ true → nat_eq (length h.ds) 0 ≡ false → Judges pointer_limit h answer verifications hashes
+    → is_judged h ≡ true → nat_eq (length h.ds) 0 ≡ false → Judges pointer_limit h answer verifications hashes
     → EachAgreeing was agrees (λ a. SaysBeyond a pointer_limit h answer verifications hashes)
     → EachAgreeing own agrees (λ a. IsJudgement pointer_limit a h answer verifications hashes)
 each_wholly own was agrees h answer verifications hashes short same allowed some keeps said test fits =

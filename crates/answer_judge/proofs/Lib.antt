@@ -23,6 +23,7 @@ pub mod GivenGroups
 pub mod FirstSigns
 pub mod BothChains
 pub mod JudgeHashes
+pub mod JudgeLasts
 pub mod HonestReads
 pub mod HonestTold
 pub mod HonestMade
@@ -34,6 +35,7 @@ pub mod HonestChain
 pub mod HonestTrue
 pub mod HonestKeys
 pub mod JudgedSays
+pub mod JudgedTypes
 pub mod HonestVersions
 pub mod HonestJudged
 pub mod Timely

@@ -18,7 +18,8 @@ use Rattle.answer_shared.specs.Hashing.{hash_in}
 use Rattle.answer_shared.specs.Made.{IsShortGroup, OfZone}
 use Rattle.answer_shared.specs.Served.{Group, Served, ahead, ahead_open, answer_groups, by_tag, chain_record, expanded, if_any, key_group, proofs_of, rrset, served_of, soa, spoken, unsigned_ns}
 use Rattle.answer_shared.specs.Told.{fields_for, octets_for}
-use Rattle.answer_shared.proofs.Servable.{asked_inside, servable}
+use Rattle.answer_shared.proofs.AllowedTypes.{unadded, unsigned_from}
+use Rattle.answer_shared.proofs.Servable.{servable}
 use Rattle.denial_laws.specs.Truth.{IsServable}
 use Rattle.answer_judge_facts.specs.Verified.{Trusting, rrset_in}
 use Rattle.answer_judge_keys.proofs.GivenSorted.{sorted_twice}
@@ -33,7 +34,6 @@ use Rattle.answer_judge.proofs.GivenGroups.{has_twins}
 use Rattle.answer_judge.proofs.GivenLists.{has_contained}
 use Rattle.answer_judge.proofs.GivenRecords.{rrset_given}
 use Rattle.answer_judge.proofs.GivenRrset.{all_joined, is_ordinary}
-use Rattle.answer_judge.proofs.HonestJudged.{plain_type}
 use Rattle.answer_judge.proofs.HonestUsed.{not_keys}
 use Rattle.answer_judge.proofs.HonestKeys.{keys_read}
 use Rattle.answer_judge.proofs.HonestMade.{IsRoomy, chain_fits, kind_of, kind_roomy}
@@ -164,7 +164,7 @@ module _ (w : Trusting) (k : ℕ) (mode : Mode) (rs : List HandedRr) (h : Handin
   types = all_more is_ordinary (λ (g : Group). g.rtype ≡ 46 → ⊥) groups (λ g n e. false≢true (sym n ∙ ap (λ u. eqb u 46) e)) ordinary
 
   plain : AllByRecursion IsPlain groups
-  plain = answer_plain w.apex mode hash sorted h.asked.name h.asked.rtype (not_keys h.asked.rtype (plain_type h.asked.rtype (asked_inside w.apex h.asked t.allowed).asked_type))
+  plain = answer_plain w.apex mode hash sorted h.asked.name h.asked.rtype (not_keys h.asked.rtype (unadded h.asked.rtype (unsigned_from w.apex h.asked t.allowed)))
 
   handed : AllByRecursion IsHanded sorted
   handed = all_sorted IsHanded record_cmp rs t.records_are

@@ -30,13 +30,19 @@ pub struct Case<'a> {
     /// answer is signed anew. Signers that sign as records change give unlike times at any moment: who judges these leaves
     /// this out, and has the promise for a zone that does not change.
     pub one_moment: bool,
+    /// Whether the answer may be one to another question of the zone, and the question one for CNAME or DNAME records.
+    ///
+    /// What a zone has signed is true whatever was asked: a cached denial answers the next question (RFC 8198), and a CNAME or
+    /// DNAME record in an answer for another type is proved by a question for its own. Without this such an answer is refused,
+    /// so that one which was replayed or mixed up with another is named as that.
+    pub other_question: bool,
 }
 
 impl<'a> Model for Case<'a> {
     ghost use Rattle.messages.specs.Questions.{asked_of};
-    ghost use Rattle.answer_judge_keys.specs.Judging.{Handing, handed};
+    ghost use Rattle.answer_judge_keys.specs.Judging.{Handing, handed_for};
 
     ghost Value = { Handing };
 
-    ghost view = { λ c. handed c.apex.now c.ds.now c.dnskey.now c.answer.now (asked_of c.question.now) c.moment c.limit c.one_moment };
+    ghost view = { λ c. handed_for c.apex.now c.ds.now c.dnskey.now c.answer.now (asked_of c.question.now) c.moment c.limit c.one_moment c.other_question };
 }

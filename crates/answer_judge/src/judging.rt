@@ -1,5 +1,5 @@
 //! Judging a zone answer from bytes alone (RFC 4035, 5).
-ghost use Rattle.std.specs.Prelude.{◌≡◌, ◌==◌, ◌+◌, ◌++◌, ◌<◌, ◌≤◌, ◌⊎◌, IfOk, IfErr, OnOk, length, map, true, false};
+ghost use Rattle.std.specs.Prelude.{◌≡◌, ◌==◌, ◌+◌, ◌++◌, ◌<◌, ◌≤◌, ◌⊎◌, IfOk, IfErr, OnOk, length, map, min, true, false};
 ghost use Rattle.definitions.specs.Limits.{pointer_limit};
 ghost use Rattle.messages.specs.Questions.{asked_of};
 ghost use Rattle.messages.specs.Record.{spelled};
@@ -10,9 +10,10 @@ ghost use Rattle.answer_judge.specs.Beyond.{SaysBeyond};
 ghost use Rattle.answer_honest.specs.Honest.{AnswersHonest};
 ghost use Rattle.answer_judge.specs.Timely.{RefusesUntimely};
 ghost use Rattle.answer_judge_facts.specs.Judged.{judged, said, AnswersAs};
+ghost use Rattle.answer_judge_facts.specs.Lasting.{LastsSo, lasting_in_bytes};
+ghost use Rattle.answer_judge_keys.specs.declared.verdict.Lasting.{Lasting};
 ghost use Rattle.answer_judge.specs.Meeting.{AnswersGiven, JudgesSo};
-ghost use Rattle.answer_judge_keys.specs.Judging.{Judges, RefusesFirst, answer_of, handed, verifications_of, hashes_of, is_first, message_refusal, same_question, hash_bound, verification_bound};
-ghost use Rattle.answer_shared.specs.Asking.{is_allowed};
+ghost use Rattle.answer_judge_keys.specs.Judging.{Judges, RefusesFirst, answer_of, handed, verifications_of, hashes_of, is_first, is_judged, may_ask, message_refusal, same_question, hash_bound, verification_bound};
 ghost use Rattle.answer_scheme.specs.Answers.{EachAgreeing, SignatureTest, with_test};
 ghost use Rattle.answer_judge_facts.specs.Asked.{Implies, is_tried_beyond, is_tried_signature};
 
@@ -23,9 +24,10 @@ mod trusting;
 use crate::case::Case;
 use crate::judging::deciding::judge_proof;
 use crate::judging::trusting::{read_proof, read_unlike_keys, signed_keys};
-use answer_judge_keys::verdict::{Judgement, Refusal, Refused, Verdict};
+use answer_judge_keys::verdict::{Judgement, Lasting, Refusal, Refused, Verdict};
 use answer_judge_keys::verifier::Verifier;
 use answer_scheme::checks::Checks;
+use answer_shared::question::asks_alias;
 pub use answer_shared::question::is_allowed;
 use denial_data::Ds;
 use denial_fields::unix_time::UnixTime;
@@ -53,6 +55,9 @@ pub fn judge<C: Checks>(
     ensures judgement { let asked = asked_of question.now in
         let h = handed apex.now ds.now dnskey_bytes.now answer_bytes.now asked now.now limit true in
         JudgesSo pointer_limit (C.answers checks.old) h result }
+    ensures lasts { let asked = asked_of question.now in
+        let h = handed apex.now ds.now dnskey_bytes.now answer_bytes.now asked now.now limit true in
+        LastsSo pointer_limit (C.answers checks.old) h result }
     ensures verified { C.verified checks.new ≡ C.verified checks.old + verifications_of result }
     ensures hashed { C.hashed checks.new ≡ C.hashed checks.old + hashes_of result }
     ensures same { C.answers checks.new ≡ C.answers checks.old }
@@ -66,6 +71,7 @@ pub fn judge<C: Checks>(
         moment: *now,
         limit,
         one_moment: true,
+        other_question: false,
     };
     case.judge(alloc, checks)
 }
@@ -77,15 +83,18 @@ impl<'a> Case<'a> {
     /// no signature of the one message holds at the moment, or none of the other, they are refused.
     ///
     /// No two messages in which nothing is forged get a verdict that no version of the zone has, or one of a name that is an
-    /// alias there. That holds of a zone in order (nothing beside a CNAME, nothing below a DNAME), whoever signs and serves it.
-    /// Nothing is forged where each signature that may be used is over an RRset that was signed: the apex's, in time, of an
-    /// RRset that is sought, passing under a key that the zone published and that may sign; and where each key of the DNSKEY
-    /// answer that the DS set trusts is one that the zone published. For a zone that changes this asks that signatures must be
-    /// of one moment.
+    /// alias there. That holds whatever the answer was asked, of a zone in order (nothing beside a CNAME, nothing below a
+    /// DNAME), whoever signs and serves it. Nothing is forged where each signature that may be used is over an RRset that was
+    /// signed: the apex's, in time, of an RRset that is sought, passing under a key that the zone published and that may sign;
+    /// and where each key of the DNSKEY answer that the DS set trusts is one that the zone published. For a zone that changes
+    /// this asks that signatures must be of one moment.
     ///
     /// What is said holds under each scheme that agrees with all that `verify` answered. It is asked about those signatures alone
     /// that are due: of the two messages, in time, over an RRset there that is sought and that no earlier one verified, each
     /// under the key of its tag and algorithm.
+    ///
+    /// A verdict lasts up to a second that is said beside it: at each moment up to there the same messages get the same verdict
+    /// (`answer_judge_facts::laws::verdicts_last`).
     pub fn judge<C: Checks>(&self, alloc: Global, checks: &mut C) -> Result<Judgement, Refused>
         ensures judges { let answer = answer_of result in
             Judges pointer_limit self.now answer (verifications_of result) (hashes_of result) }
@@ -103,6 +112,8 @@ impl<'a> Case<'a> {
         ensures agreeing { (test : SignatureTest) → C.agrees checks.new test
             → C.agrees checks.old test
             × JudgesSo pointer_limit (with_test (C.answers checks.old) test) self.now result }
+        ensures lasts { EachAgreeing (C.answers checks.old) (C.agrees checks.new)
+            (λ a. LastsSo pointer_limit a self.now result) }
         ensures asked { let a = C.answers checks.old in
             (test : SignatureTest) → Implies (is_tried_signature a pointer_limit self.now) test
             → C.asked_only checks.old test → C.asked_only checks.new test }
@@ -111,7 +122,7 @@ impl<'a> Case<'a> {
         ensures same { C.answers checks.new ≡ C.answers checks.old }
     {
         self.limit_fits();
-        if !is_allowed(self.apex, self.question) {
+        if !self.is_judged() {
             return Err(Refused {
                 refusal: Refusal::QuestionNotAllowed,
                 verifications: 0,
@@ -123,16 +134,19 @@ impl<'a> Case<'a> {
                 verdict: Verdict::Unsigned,
                 verifications: 0,
                 hashes: 0,
+                lasting: None,
             });
         }
         let mut octets = Vec::new(alloc);
         let mut verifier = Verifier::new(alloc, checks, &mut octets);
         let mut hashes = 0;
-        match judge_messages(self, &mut verifier, &mut hashes) {
+        let mut lasting = None;
+        match judge_messages(self, &mut verifier, &mut hashes, &mut lasting) {
             Ok(verdict) => Ok(Judgement {
                 verdict,
                 verifications: verifier.count,
                 hashes,
+                lasting,
             }),
             Err(refusal) => Err(Refused {
                 refusal,
@@ -140,6 +154,14 @@ impl<'a> Case<'a> {
                 hashes,
             }),
         }
+    }
+
+    /// Whether the question is judged: one that is allowed, or, with `other_question`, one for the records of aliases.
+    fn is_judged(&self) -> bool
+        ensures { result ≡ is_judged self.now }
+    {
+        self.other_question && asks_alias(self.apex, self.question)
+            || is_allowed(self.apex, self.question)
     }
 
     /// The limit is a number of 16 bits, as the iterations of a chain are (RFC 5155, 3.1.3).
@@ -151,10 +173,13 @@ impl<'a> Case<'a> {
 }
 
 /// The verdict of two messages beside a DS set that isn't empty, and how many names are hashed for it.
+///
+/// How long it lasts is put into the place of what stands there.
 fn judge_messages<C: Checks>(
     case: &Case,
     verifier: &mut Verifier<C>,
     hashes: &mut u32,
+    lasting: &mut Option<Lasting>,
 ) -> Result<Verdict, Refusal>
     requires counts { verifier.old.count ≡ 0 }
     requires none_hashed { hashes.old ≡ 0 }
@@ -164,6 +189,9 @@ fn judge_messages<C: Checks>(
         (C.agrees verifier.new.checks.now)
         (λ a. SaysBeyond a pointer_limit case.now (said result) verifier.new.count hashes.new) }
     ensures verdict { OnOk result (message_refusal pointer_limit case.now ≡ None) }
+    ensures lasts { EachAgreeing (C.answers verifier.old.checks.now)
+        (C.agrees verifier.new.checks.now)
+        (λ a. OnOk result (lasting.new ≡ lasting_in_bytes a pointer_limit case.now)) }
     ensures refusal { IfErr result
         (λ e. RefusesFirst e (message_refusal pointer_limit case.now)) }
     ensures bound { verifier.new.count ≤ verification_bound pointer_limit case.now }
@@ -183,9 +211,22 @@ fn judge_messages<C: Checks>(
     let alloc = verifier.alloc;
     let messages = read_messages(alloc, case)?;
     let keys = read_unlike_keys(alloc, case, &messages.key_records)?;
-    let usable = signed_keys(case, &messages.key_records, keys, verifier)?;
-    let proof = read_proof(case, &messages.answer_records, &usable, verifier)?;
+    let mut seconds = 0;
+    let usable = signed_keys(case, &messages.key_records, keys, verifier, &mut seconds)?;
+    let proof = read_proof(&*case, &messages.answer_records, &usable, verifier)?;
+    *lasting = Some(shortened(proof.lasting, seconds));
     judge_proof(alloc, case, proof, verifier.checks, hashes)
+}
+
+/// How long something lasts that lasts for no more than some seconds.
+fn shortened(lasting: Lasting, seconds: u32) -> Lasting
+    ensures { let is : Lasting = record { ttl = lasting.ttl; seconds = min seconds lasting.seconds } in
+        result ≡ is }
+{
+    Lasting {
+        ttl: lasting.ttl,
+        seconds: seconds.min(lasting.seconds),
+    }
 }
 
 /// Both messages, and the records of each.
@@ -197,8 +238,8 @@ struct Messages<'a> {
     answer_records: Vec<ViewRecord<'a>>,
 }
 
-/// Reads both messages, which answer the keys' question and the one that is asked. Memory that was refused is told
-/// behind both, so that what a message is refused for never depends on it.
+/// Reads both messages, which answer the keys' question and the one that is asked, or another where that is wanted. Memory
+/// that was refused is told behind both, so that what a message is refused for never depends on it.
 fn read_messages<'a>(alloc: Global, case: &Case<'a>) -> Result<Messages<'a>, Refusal>
     ensures keys { IfOk result (λ v. message pointer_limit case.now.dnskey_bytes ≡ Ok v.keys) }
     ensures answer { IfOk result (λ v. message pointer_limit case.now.answer_bytes ≡ Ok v.answer) }
@@ -209,7 +250,7 @@ fn read_messages<'a>(alloc: Global, case: &Case<'a>) -> Result<Messages<'a>, Ref
     ensures asks_keys { let keys : Asked = record { name = case.now.apex; rtype = 48; class = 1 } in
         IfOk result (λ v. same_question v.keys.asked keys ≡ true) }
     ensures asks_answer { IfOk result
-        (λ v. same_question v.answer.asked case.now.asked ≡ true) }
+        (λ v. may_ask case.now v.answer.asked ≡ true) }
     ensures few { IfOk result (λ v. length v.keys.records + length v.answer.records ≤ 393210) }
     ensures first { IfErr result (λ e. (e ≡ Refusal.Memory) ⊎ (is_first e ≡ true)) }
     ensures refusal { IfErr result
@@ -222,10 +263,7 @@ fn read_messages<'a>(alloc: Global, case: &Case<'a>) -> Result<Messages<'a>, Ref
     let (answer, answer_in_memory) = read_counted(case.answer, &mut answer_records).map_err(
         |_| Refusal::BadAnswerMessage,
     )?;
-    let question = case.question;
-    if !asks(&keys, case.apex, Rtype::DNSKEY, Class::IN)
-        || !asks(&answer, &question.name, question.rtype, question.class)
-    {
+    if !asks(&keys, case.apex, Rtype::DNSKEY, Class::IN) || !may_answer(case, &answer) {
         return Err(Refusal::QuestionMismatch);
     }
     keys_in_memory?;
@@ -252,9 +290,17 @@ fn read_counted<'a>(
     read_message_into(bytes, records)
 }
 
-/// Whether a message asks for a name, up to case, a type and a class.
+/// Whether a message may answer the question: it asks that, or another where this is wanted.
 ///
-/// The answer to another question, replayed, would pass for what the zone says of this one.
+/// The answer to another question, replayed, would pass for one that the zone gave to this.
+fn may_answer(case: &Case, view: &MessageView) -> bool
+    ensures { result ≡ may_ask case.now view.now.asked }
+{
+    let question = case.question;
+    case.other_question || asks(view, &question.name, question.rtype, question.class)
+}
+
+/// Whether a message asks for a name, up to case, a type and a class.
 fn asks(view: &MessageView, name: &Name<Vec<u8>>, rtype: Rtype, class: Class) -> bool
     ensures { let asked : Asked = record { name = name.now; rtype = rtype; class = class } in
         result ≡ same_question view.now.asked asked }

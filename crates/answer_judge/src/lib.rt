@@ -8,7 +8,7 @@ pub mod laws;
 pub use crate::case::Case;
 pub use crate::judging::by_scheme::judge_with;
 pub use crate::judging::judge;
-pub use answer_judge_keys::verdict::{DataList, Judgement, Refusal, Refused, Verdict};
+pub use answer_judge_keys::verdict::{DataList, Judgement, Lasting, Refusal, Refused, Verdict};
 pub use answer_scheme::{Checks, Scheme, SchemeError};
 pub use messages::question::Question;
 pub use messages::{MessageError, MessageView, ViewRecord, read_message};

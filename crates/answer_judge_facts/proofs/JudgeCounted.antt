@@ -34,7 +34,7 @@ none_of p c (g ∷ gs) h =
     λ i. (o.0 i && c g) || none_of p c gs o.1 i
 
 -- where the second part is the same for all that pass the first
-any_alike : (p c : Group → Bool) (b : Bool) (gs : List Group) → AllByRecursion (λ g. p g ≡ true → c g ≡ b) gs → list_any (λ g. p g && c g) gs ≡ (list_any p gs && b)
+pub any_alike : (p c : Group → Bool) (b : Bool) (gs : List Group) → AllByRecursion (λ g. p g ≡ true → c g ≡ b) gs → list_any (λ g. p g && c g) gs ≡ (list_any p gs && b)
 any_alike p c b [] h = refl
 any_alike p c b (g ∷ gs) h =
     let rest = any_alike p c b gs h.1 in

@@ -12,6 +12,7 @@ use Rattle.messages.specs.Message.{Spelled, rrsig_at}
 use Rattle.messages.proofs.Lists.{Has, all_at, any_from, both_ways, found}
 use Rattle.messages.proofs.ZoneNames.{labels_eq-same, same_labels}
 use Rattle.answer_judge_keys.specs.Trusted.{is_signature, signs}
+use Rattle.answer_judge_facts.specs.Lasting.{rests_on}
 use Rattle.answer_judge_facts.specs.Marked.{data_in, is_of, is_unlike, marked, or_first, signed_of, times_by, times_in}
 use Rattle.answer_judge_facts.specs.Sought.{Sought, answer_sought, is_alone}
 use Rattle.answer_judge_facts.specs.Times.{Times, are_unlike, proof_times, same_times, times_at, times_of}
@@ -194,12 +195,15 @@ alike_from ts e x y i j = same_is x y (not_false (same_times x y) (false_from_ne
 
 -- ---- groups and records
 
-marked_times : (v : Option Signed) (o : Option Fields) → v ≡ None → option_map times_in (or_first v (option_map signed_of o)) ≡ option_map times_of o
-marked_times v o e = ap (λ v. option_map times_in (or_first v (option_map signed_of o))) e ∙ go o
+abbrev pub SaysOf : {X : Type 0} → (Fields → X) → (Signed → X) → Type 0
+SaysOf of by = (f : Fields) → by (signed_of f) ≡ of f
+
+pub marked_said : {X : Type 0} (of : Fields → X) (by : Signed → X) → SaysOf of by → (v : Option Signed) (o : Option Fields) → v ≡ None → option_map by (or_first v (option_map signed_of o)) ≡ option_map of o
+marked_said {X} of by says v o e = ap (λ v. option_map by (or_first v (option_map signed_of o))) e ∙ go o
   where
-    go : (o : Option Fields) → option_map times_in (option_map signed_of o) ≡ option_map times_of o
+    go : (o : Option Fields) → option_map by (option_map signed_of o) ≡ option_map of o
     go None = refl
-    go (Some f) = refl
+    go (Some f) = ap (λ (x : X). Some x) (says f)
 
 is_own : (g : Group) → is_of g.owner g.rtype g ≡ true
 is_own g = and_from _ _ (eq-eqb g.rtype g.rtype refl) (labels_eq-same (low g.owner) (low g.owner) refl)
@@ -208,45 +212,62 @@ module _ (w : Trusting) (m : List ℕ) (rs : List Spelled) (q : Name) (t : ℕ) 
   abbrev s : Sought
   s = answer_sought pointer_limit m w.apex rs q t
 
-  group_times : (g : Group) → Has gs g → times_by (marked w m rs g) ≡ first_times w pointer_limit m rs g.owner g.rtype
-  group_times g i =
-      marked_times g.verified (verified_by w pointer_limit m rs g.owner g.rtype (data_in g)) (all_at (λ (y : Group). y.verified ≡ None) gs g a.fresh i)
-      ∙ ap (λ ds. option_map times_of (verified_by w pointer_limit m rs g.owner g.rtype ds)) (all_at (λ (y : Group). is_of g.owner g.rtype y ≡ true → data_in y ≡ rrset_in pointer_limit m rs g.owner g.rtype) gs g (a.datas g.owner g.rtype) i (is_own g))
+  -- whatever is taken of what first signatures say
+  module _ {X : Type 0} (of : Fields → X) (by : Signed → X) (says : SaysOf of by) where
+    abbrev first_said : Name → ℕ → Option X
+    first_said o u = option_map of (verified_by w pointer_limit m rs o u (rrset_in pointer_limit m rs o u))
 
-  -- a record of a group's RRset has its times
-  record_times : (g : Group) → Has gs g → (r : Spelled) → ((r.class == 1) && (r.rtype == g.rtype) && same r.owner g.owner) ≡ true → times_at w pointer_limit m rs q t r ≡ first_times w pointer_limit m rs g.owner g.rtype
-  record_times g i r e =
-      let p = and_parts ((r.class == 1) && (r.rtype == g.rtype)) (same r.owner g.owner) e in
-      let c = and_parts (r.class == 1) (r.rtype == g.rtype) p.0 in
-      let kind : r.rtype ≡ g.rtype = eqb-true r.rtype g.rtype c.1 in
-      let of : is_of r.owner r.rtype g ≡ true = and_from _ _ (eq-eqb g.rtype r.rtype (sym kind)) p.1 in
-      let gate : ((r.class == 1) && s.is r.owner r.rtype) ≡ true = and_from _ _ c.0 (a.found r.owner r.rtype ∙ any_from (is_of r.owner r.rtype) gs g i of) in
-      ap (λ b. elim b as (λ _. Option Times) [ true ↦ first_times w pointer_limit m rs r.owner r.rtype | false ↦ None ]) gate
-      ∙ alike_times w pointer_limit m rs r.owner g.owner r.rtype g.rtype (same_labels (low r.owner) (low g.owner) p.1) kind
+    abbrev said_in : Group → Option X
+    said_in g = option_map by g.verified
 
-  to_records : (x : Times) → Has (filter_map times_by (map (marked w m rs) gs)) x → Has (proof_times w pointer_limit m rs q t) x
-  to_records x h =
-      let k = kept_from times_by (map (marked w m rs) gs) x h in
-      let from = has_from_map (marked w m rs) gs k.0 k.1 in
-      let g : Group = from.0 in
-      let said : first_times w pointer_limit m rs g.owner g.rtype ≡ Some x = sym (group_times g from.1) ∙ ap times_by (sym from.2) ∙ k.2 in
-      let f = mapped times_of (verified_by w pointer_limit m rs g.owner g.rtype (rrset_in pointer_limit m rs g.owner g.rtype)) x said in
-      let r = record_there pointer_limit m rs g.owner g.rtype (some_items w pointer_limit m rs g.owner g.rtype (rrset_in pointer_limit m rs g.owner g.rtype) f.0 f.1) in
-      kept_has (times_at w pointer_limit m rs q t) rs r.0 x r.1 (record_times g from.1 r.0 r.2 ∙ said)
+    alike_said : (o p : Name) (u v : ℕ) → low o ≡ low p → u ≡ v → first_said o u ≡ first_said p v
+    alike_said o p u v h e = ap (option_map of) (alike_verified w pointer_limit m rs o p u v h e)
 
-  to_groups : (x : Times) → Has (proof_times w pointer_limit m rs q t) x → Has (filter_map times_by (map (marked w m rs) gs)) x
-  to_groups x h =
-      let k = kept_from (times_at w pointer_limit m rs q t) rs x h in
-      let r : Spelled = k.0 in
-      let there = when ((r.class == 1) && s.is r.owner r.rtype) (first_times w pointer_limit m rs r.owner r.rtype) x k.2 in
-      let sought = (and_parts (r.class == 1) (s.is r.owner r.rtype) there.0).1 in
-      let g = found (is_of r.owner r.rtype) gs (sym (a.found r.owner r.rtype) ∙ sought) in
-      let p = and_parts (g.0.rtype == r.rtype) (same r.owner g.0.owner) g.2 in
-      let said : times_by (marked w m rs g.0) ≡ Some x =
-      group_times g.0 g.1
-      ∙ sym (alike_times w pointer_limit m rs r.owner g.0.owner r.rtype g.0.rtype (same_labels (low r.owner) (low g.0.owner) p.1) (sym (eqb-true g.0.rtype r.rtype p.0)))
-      ∙ there.1 in
-      kept_has times_by (map (marked w m rs) gs) (marked w m rs g.0) x (has_map (marked w m rs) gs g.0 g.1) said
+    group_said : (g : Group) → Has gs g → said_in (marked w m rs g) ≡ first_said g.owner g.rtype
+    group_said g i =
+        marked_said of by says g.verified (verified_by w pointer_limit m rs g.owner g.rtype (data_in g)) (all_at (λ (y : Group). y.verified ≡ None) gs g a.fresh i)
+        ∙ ap (λ ds. option_map of (verified_by w pointer_limit m rs g.owner g.rtype ds)) (all_at (λ (y : Group). is_of g.owner g.rtype y ≡ true → data_in y ≡ rrset_in pointer_limit m rs g.owner g.rtype) gs g (a.datas g.owner g.rtype) i (is_own g))
+
+    -- a record of a group's RRset has what is said of it
+    record_said : (g : Group) → Has gs g → (r : Spelled) → ((r.class == 1) && (r.rtype == g.rtype) && same r.owner g.owner) ≡ true → rests_on of w pointer_limit m rs q t r ≡ first_said g.owner g.rtype
+    record_said g i r e =
+        let p = and_parts ((r.class == 1) && (r.rtype == g.rtype)) (same r.owner g.owner) e in
+        let c = and_parts (r.class == 1) (r.rtype == g.rtype) p.0 in
+        let kind : r.rtype ≡ g.rtype = eqb-true r.rtype g.rtype c.1 in
+        let own : is_of r.owner r.rtype g ≡ true = and_from _ _ (eq-eqb g.rtype r.rtype (sym kind)) p.1 in
+        let gate : ((r.class == 1) && s.is r.owner r.rtype) ≡ true = and_from _ _ c.0 (a.found r.owner r.rtype ∙ any_from (is_of r.owner r.rtype) gs g i own) in
+        ap (λ b. elim b as (λ _. Option X) [ true ↦ first_said r.owner r.rtype | false ↦ None ]) gate
+        ∙ alike_said r.owner g.owner r.rtype g.rtype (same_labels (low r.owner) (low g.owner) p.1) kind
+
+    pub to_records : (x : X) → Has (filter_map said_in (map (marked w m rs) gs)) x → Has (filter_map (rests_on of w pointer_limit m rs q t) rs) x
+    to_records x h =
+        let k = kept_from said_in (map (marked w m rs) gs) x h in
+        let from = has_from_map (marked w m rs) gs k.0 k.1 in
+        let g : Group = from.0 in
+        let said : first_said g.owner g.rtype ≡ Some x = sym (group_said g from.1) ∙ ap said_in (sym from.2) ∙ k.2 in
+        let f = mapped of (verified_by w pointer_limit m rs g.owner g.rtype (rrset_in pointer_limit m rs g.owner g.rtype)) x said in
+        let r = record_there pointer_limit m rs g.owner g.rtype (some_items w pointer_limit m rs g.owner g.rtype (rrset_in pointer_limit m rs g.owner g.rtype) f.0 f.1) in
+        kept_has (rests_on of w pointer_limit m rs q t) rs r.0 x r.1 (record_said g from.1 r.0 r.2 ∙ said)
+
+    pub to_groups : (x : X) → Has (filter_map (rests_on of w pointer_limit m rs q t) rs) x → Has (filter_map said_in (map (marked w m rs) gs)) x
+    to_groups x h =
+        let k = kept_from (rests_on of w pointer_limit m rs q t) rs x h in
+        let r : Spelled = k.0 in
+        let there = when ((r.class == 1) && s.is r.owner r.rtype) (first_said r.owner r.rtype) x k.2 in
+        let sought = (and_parts (r.class == 1) (s.is r.owner r.rtype) there.0).1 in
+        let g = found (is_of r.owner r.rtype) gs (sym (a.found r.owner r.rtype) ∙ sought) in
+        let p = and_parts (g.0.rtype == r.rtype) (same r.owner g.0.owner) g.2 in
+        let said : said_in (marked w m rs g.0) ≡ Some x =
+        group_said g.0 g.1
+        ∙ sym (alike_said r.owner g.0.owner r.rtype g.0.rtype (same_labels (low r.owner) (low g.0.owner) p.1) (sym (eqb-true g.0.rtype r.rtype p.0)))
+        ∙ there.1 in
+        kept_has said_in (map (marked w m rs) gs) (marked w m rs g.0) x (has_map (marked w m rs) gs g.0 g.1) said
+
+  pub times_to_records : (x : Times) → Has (filter_map times_by (map (marked w m rs) gs)) x → Has (proof_times w pointer_limit m rs q t) x
+  times_to_records = to_records times_of times_in (λ f. refl)
+
+  pub times_to_groups : (x : Times) → Has (proof_times w pointer_limit m rs q t) x → Has (filter_map times_by (map (marked w m rs) gs)) x
+  times_to_groups = to_groups times_of times_in (λ f. refl)
 
   pub times_verified : (new : List Group) → new ≡ map (marked w m rs) gs → are_unlike (filter_map times_by new) ≡ are_unlike (proof_times w pointer_limit m rs q t)
-  times_verified new n = ap (λ ys. are_unlike (filter_map times_by ys)) n ∙ same_unlike (filter_map times_by (map (marked w m rs) gs)) (proof_times w pointer_limit m rs q t) to_records to_groups
+  times_verified new n = ap (λ ys. are_unlike (filter_map times_by ys)) n ∙ same_unlike (filter_map times_by (map (marked w m rs) gs)) (proof_times w pointer_limit m rs q t) times_to_records times_to_groups

@@ -7,10 +7,15 @@ pub mod JudgeCase
 pub mod JudgeCounted
 pub mod JudgeFacts
 pub mod JudgeGathered
+pub mod JudgeLasting
 pub mod JudgeMarks
 pub mod JudgeSought
 pub mod JudgeTimes
 pub mod JudgeTried
 pub mod KeptItems
+pub mod LeastOf
 pub mod Places
+pub mod Seconds
 pub mod ShortData
+pub mod StayAlike
+pub mod Waits

@@ -1,6 +1,7 @@
 pub mod Asked
 pub mod Counted
 pub mod Judged
+pub mod Lasting
 pub mod Marked
 pub mod Ranked
 pub mod Sought

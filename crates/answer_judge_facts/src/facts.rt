@@ -6,6 +6,7 @@ ghost use Rattle.std.specs.List.{list_any, filter_map, AllByRecursion};
 ghost use Rattle.messages.specs.Record.{spelled};
 ghost use Rattle.answer_judge_keys.specs.Trusted.{is_signature};
 ghost use Rattle.answer_judge_facts.specs.Asked.{Implies, is_tried_among};
+ghost use Rattle.answer_judge_facts.specs.Lasting.{answer_lasting};
 ghost use Rattle.answer_judge_facts.specs.VerifiedProof.{IsVerifiedProof};
 ghost use Rattle.answer_scheme.specs.Answers.{EachAgreeing, SignatureTest};
 ghost use Rattle.answer_judge_facts.specs.Sought.{answer_sought};
@@ -18,10 +19,11 @@ ghost use Rattle.answer_judge_facts.specs.declared.groups.Group.{Group};
 ghost use Rattle.answer_judge_facts.specs.Ranked.{AreRanked, AskedLast, IsRun, alike_len, are_alike, chain_cmp, run_data};
 
 use crate::groups::{Group, is_chain_type, place_of, read_group, verify_groups};
+use crate::lasting::lasting_of;
 use crate::times::are_unlike;
 use answer_hash_owners::owner::{hash_spelled, spells_hash};
 use answer_judge_keys::trust::Trust;
-use answer_judge_keys::verdict::DataList;
+use answer_judge_keys::verdict::{DataList, Lasting};
 use answer_judge_keys::verifier::Verifier;
 use answer_judge_rules::decide::{Facts, HashLink, Link, Rrset};
 use answer_scheme::checks::Checks;
@@ -34,11 +36,13 @@ use std::alloc::{AllocError, Global};
 use std::borrow::CowSlice;
 use std::cmp::Ordering;
 
-/// What signatures of an answer verify: facts, and whether these signatures are not all of one inception and one expiration.
+/// What signatures of an answer verify: facts, whether these signatures are not all of one inception and one expiration, and how
+/// long what they verify lasts.
 #[derive(Drop)]
 pub struct Proof<'a> {
     pub facts: Facts<'a>,
     pub has_unlike_times: bool,
+    pub lasting: Lasting,
 }
 
 /// What signatures of an answer verify: the RRset that was asked for, and records of chains, NSEC and NSEC3.
@@ -58,6 +62,10 @@ pub fn read_facts<'a, C: Checks>(
         let m = message.now in let rs = map spelled records.now in
         IfOk result (λ p. IsVerifiedProof w pointer_limit m rs name.now rtype p
         verifier.old.count verifier.new.count)) }
+    ensures lasts { EachAgreeing (C.answers verifier.old.checks.now)
+        (C.agrees verifier.new.checks.now) (λ a. let w = held_by a trust.now in
+        let m = message.now in let rs = map spelled records.now in
+        IfOk result (λ p. p.lasting ≡ answer_lasting w pointer_limit m rs name.now rtype)) }
     ensures agrees { (test : SignatureTest) → C.agrees verifier.new.checks.now test
         → C.agrees verifier.old.checks.now test }
     ensures asked { (test : SignatureTest) → let a = C.answers verifier.old.checks.now in
@@ -78,10 +86,12 @@ pub fn read_facts<'a, C: Checks>(
     let mut groups = sought_groups(alloc, trust.apex, message, records, &chained, name, rtype)?;
     verify_groups(message, records, trust, &mut groups, verifier)?;
     let has_unlike_times = are_unlike(&groups);
+    let lasting = lasting_of(message, records, &groups, trust.moment);
     let facts = facts_of_groups(alloc, trust.apex, message, records, groups)?;
     Ok(Proof {
         facts,
         has_unlike_times,
+        lasting,
     })
 }
 
@@ -356,7 +366,7 @@ fn is_record_of(view: &ViewRecord, rtype: Rtype) -> bool
 }
 
 /// Whether an owner has one of the groups of a type, and that is verified.
-fn is_verified(groups: &[Group], owner: &Owner, rtype: Rtype) -> bool
+pub(crate) fn is_verified(groups: &[Group], owner: &Owner, rtype: Rtype) -> bool
     requires ranked { AreRanked groups.now }
     ensures { result ≡ list_any (is_proved owner.now rtype) groups.now }
 {

@@ -3,5 +3,7 @@
 
 pub mod facts;
 pub mod groups;
+pub mod lasting;
+pub mod laws;
 pub mod signed_keys;
 pub mod times;

@@ -10,11 +10,13 @@ ghost use Rattle.answer_judge_facts.specs.Counted.{tries};
 ghost use Rattle.answer_scheme.specs.Answers.{EachAgreeing, SignatureTest};
 ghost use Rattle.answer_judge_keys.specs.Trusted.{is_signature};
 ghost use Rattle.answer_judge_keys.specs.KeyOrder.{Ranks};
+ghost use Rattle.answer_judge_facts.specs.Lasting.{key_seconds, least_of};
 ghost use Rattle.answer_judge_facts.specs.Marked.{held_by};
 ghost use Rattle.answer_judge_facts.specs.Sought.{keys_sought};
 ghost use Rattle.answer_judge_facts.specs.Verified.{is_verified};
 
 use crate::groups::{Group, verify_groups};
+use crate::lasting::seconds_of;
 use answer_judge_keys::keys::TaggedKey;
 use answer_judge_keys::trust::Trust;
 use answer_judge_keys::verifier::Verifier;
@@ -25,13 +27,14 @@ use names_rdata::rtype::Rtype;
 use std::alloc::{AllocError, Global};
 use std::borrow::CowSlice;
 
-/// Whether a trusted key signs the keys.
+/// Whether a trusted key signs the keys, and for how many seconds more that stays as it is.
 pub fn are_verified<C: Checks>(
     message: &[u8],
     records: &[ViewRecord],
     keys: &[TaggedKey],
     trust: &Trust,
     verifier: &mut Verifier<C>,
+    seconds: &mut u32,
 ) -> Result<bool, AllocError>
     requires index { Ranks trust.now.keys.now trust.now.ranked.now }
     requires room { verifier.old.count + length records.now < 2 ^ 32 }
@@ -44,6 +47,11 @@ pub fn are_verified<C: Checks>(
         let sought = keys_sought w.apex keys.now in let rs = map spelled records.now in
         let count = verifier.old.count + tries w pointer_limit message.now sought [] rs in
         IfOk result (λ _. verifier.new.count ≡ count)) }
+    ensures lasts { EachAgreeing (C.answers verifier.old.checks.now)
+        (C.agrees verifier.new.checks.now) (λ a. let w = held_by a trust.now in
+        let m = message.now in let rs = map spelled records.now in
+        let all = key_seconds w pointer_limit m rs keys.now in
+        IfOk result (λ _. seconds.new ≡ least_of all)) }
     ensures agrees { (test : SignatureTest) → C.agrees verifier.new.checks.now test
         → C.agrees verifier.old.checks.now test }
     ensures asked { (test : SignatureTest) → let a = C.answers verifier.old.checks.now in
@@ -64,6 +72,7 @@ pub fn are_verified<C: Checks>(
     let mut groups = Vec::with_capacity(alloc, 1)?;
     groups.push(key_group(alloc, trust.apex, keys)?)?;
     verify_groups(message, records, trust, &mut groups, verifier)?;
+    *seconds = seconds_of(message, records, &groups, trust.moment);
     Ok(was_verified(groups.pop()))
 }
 

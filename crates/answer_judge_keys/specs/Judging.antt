@@ -1,11 +1,11 @@
 -- What a judge is handed, what it answers, and what it promises.
-use Rattle.std.specs.Prelude.{◌≡◌, MatchBool, ℕ, ◌+◌, ◌≤◌, Bool, true, false, not, ◌&&◌, ◌==◌, List, [], filter, length, Option, Some, None, Result, Ok, Err, IsTrue, nat_eq, if◌then◌else◌}
+use Rattle.std.specs.Prelude.{◌≡◌, MatchBool, ℕ, ◌+◌, ◌≤◌, Bool, true, false, not, ◌&&◌, ◌||◌, ◌==◌, List, [], filter, length, Option, Some, None, Result, Ok, Err, IsTrue, nat_eq, if◌then◌else◌}
 use Rattle.std.specs.List.{filter_map}
 use Rattle.definitions.specs.Name.{Name, same}
 use Rattle.definitions.specs.Dnskey.{Dnskey, Ds, dnskey_of_data}
 use Rattle.definitions.specs.Zone.{Verdict, Unsigned}
 use Rattle.messages.specs.Message.{Spelled, Asked, message, data_of}
-use Rattle.answer_shared.specs.Asking.{is_allowed}
+use Rattle.answer_shared.specs.Asking.{asks_alias, is_allowed}
 use Rattle.answer_shared.specs.EqualTags.{has_equal_tags}
 use Rattle.answer_judge_rules.specs.Rules.{verdict_of}
 use Rattle.answer_scheme.specs.Moments.{second_of}
@@ -42,10 +42,12 @@ pub record Handing : Type 0 where
   pub limit : ℕ
   -- whether the signatures by which the answer is verified must be of one inception and one expiration
   pub one_moment : Bool
+  -- whether the answer may be one to another question of the zone, and the question one for the records of aliases
+  pub other_question : Bool
 
 -- at a moment in nanoseconds
-abbrev pub handed : Name → List Ds → List ℕ → List ℕ → Asked → ℕ → ℕ → Bool → Handing
-handed apex ds dnskey_bytes answer_bytes asked at limit one_moment = record {
+abbrev pub handed_for : Name → List Ds → List ℕ → List ℕ → Asked → ℕ → ℕ → Bool → Bool → Handing
+handed_for apex ds dnskey_bytes answer_bytes asked at limit one_moment other_question = record {
   apex = apex;
   ds = ds;
   dnskey_bytes = dnskey_bytes;
@@ -54,13 +56,28 @@ handed apex ds dnskey_bytes answer_bytes asked at limit one_moment = record {
   now = second_of at;
   limit = limit;
   one_moment = one_moment;
+  other_question = other_question;
 }
+
+-- where the answer must be one to the question
+abbrev pub handed : Name → List Ds → List ℕ → List ℕ → Asked → ℕ → ℕ → Bool → Handing
+handed apex ds dnskey_bytes answer_bytes asked at limit one_moment = handed_for apex ds dnskey_bytes answer_bytes asked at limit one_moment false
 
 -- ---- the first refusals
 
 -- the same question, names up to case
 abbrev pub same_question : Asked → Asked → Bool
 same_question a b = same a.name b.name && (a.rtype == b.rtype) && (a.class == b.class)
+
+-- What a zone answer may ask: the question, or another where that is wanted. What it proves is true whatever it asks; where it
+-- must ask the question, one that was replayed or mixed up with another is named as that.
+abbrev pub may_ask : Handing → Asked → Bool
+may_ask h asked = h.other_question || same_question asked h.asked
+
+-- A question is judged that is allowed; where other questions are wanted, also one for the records of aliases. None is judged
+-- for a type that signing adds: records of the chain would pass for records of the zone, which has none of these types.
+abbrev pub is_judged : Handing → Bool
+is_judged h = (h.other_question && asks_alias h.apex h.asked) || is_allowed h.apex h.asked
 
 -- the keys of a DNSKEY answer: at the apex, class IN, data that read as a key
 abbrev pub key_at : List ℕ → Name → Spelled → Option Dnskey
@@ -76,7 +93,7 @@ message_refusal k h = elim (message k h.dnskey_bytes) [
   | Ok keys ↦ elim (message k h.answer_bytes) [
     | Err e ↦ Some r.BadAnswerMessage
     | Ok answer ↦
-        if not (same_question keys.asked (record { name = h.apex; rtype = 48; class = 1 }) && same_question answer.asked h.asked) then Some r.QuestionMismatch
+        if not (same_question keys.asked (record { name = h.apex; rtype = 48; class = 1 }) && may_ask h answer.asked) then Some r.QuestionMismatch
         else if has_equal_tags (keys_in h.dnskey_bytes h.apex keys.records) then Some r.EqualTags
         else None
   ]
@@ -85,7 +102,7 @@ message_refusal k h = elim (message k h.dnskey_bytes) [
 -- the first of the refusals that stand in what is handed in, in their order
 abbrev pub first_refusal : ℕ → Handing → Option Refusal
 first_refusal k h =
-    if not (is_allowed h.apex h.asked) then Some r.QuestionNotAllowed
+    if not (is_judged h) then Some r.QuestionNotAllowed
     else if nat_eq (length h.ds) 0 then None
     else message_refusal k h
 
@@ -121,7 +138,7 @@ pub record IsUnsignedOnly (answer : Answer) (verifications hashes : ℕ) : Type 
   pub none_hashed : hashes ≡ 0
 
 abbrev pub EmptyIsUnsigned : Handing → Answer → ℕ → ℕ → Type 0
-EmptyIsUnsigned h answer v k = IsTrue (is_allowed h.apex h.asked) → h.ds ≡ [] → IsUnsignedOnly answer v k
+EmptyIsUnsigned h answer v k = IsTrue (is_judged h) → h.ds ≡ [] → IsUnsignedOnly answer v k
 
 -- ---- bounds
 

@@ -1,10 +1,13 @@
 //! What a judge answers.
-ghost use Rattle.std.specs.Prelude.{◌≡◌};
+ghost use Rattle.std.specs.Prelude.{◌≡◌, ◌+◌, ◌-◌, ◌/◌, ◌^◌, min};
 ghost use Rattle.answer_judge_keys.specs.declared.verdict.Refusal.TheVariants.{Memory};
 
 pub use answer_judge_rules::verdict::{DataList, Verdict};
+use denial_fields::unix_time::UnixTime;
 use denial_nsec3_hash::hasher::HashError;
+use numbers::ttl::Ttl;
 use std::alloc::AllocError;
+use std::time::Duration;
 use thiserror::Error;
 
 /// Why a judge gives no verdict, in the order in which it is sought, but for the last two: `Memory` comes wherever a growth was
@@ -75,6 +78,30 @@ pub struct Judgement {
     pub verdict: Verdict,
     pub verifications: u32,
     pub hashes: u32,
+    /// How long the verdict lasts. Beside an empty DS set nothing is verified, and nothing says how long that lasts.
+    pub lasting: Option<Lasting>,
+}
+
+/// How long a verdict lasts.
+#[derive(Clone, Copy, Debug, PartialEq, Eq)]
+pub struct Lasting {
+    /// The least of the TTLs of the records that the verdict rests on and of the original TTLs of their signatures (RFC 4035,
+    /// 5.3.3).
+    pub ttl: Ttl,
+    /// For how many seconds more the same messages have the same verdict: up to the end of the signatures by which they are
+    /// verified, or to the second before another one of their RRsets begins to hold.
+    pub seconds: u32,
+}
+
+impl Lasting {
+    /// The last second since the beginning of 1970 in which the verdict stands that was given at a moment.
+    pub fn until(&self, moment: UnixTime) -> u64
+        ensures { result ≡ min (moment / 1_000_000_000 + self.now.seconds) (2 ^ 64 - 1) }
+    {
+        Duration::from(moment)
+            .as_secs()
+            .saturating_add(u64::from(self.seconds))
+    }
 }
 
 /// A refusal, and how often `verify` and `hash` were called.

@@ -18,7 +18,7 @@ use Rattle.answer_judge_octets.specs.declared.octets.OctetCase.{OctetCase}
 use Rattle.answer_judge_octets.specs.EntryLaws.{once_checked, once_ds, some_checked, some_ds}
 use Rattle.answer_judge_octets.specs.Laws.{ListsGrow, OctetsSpellOneCase, answered_entry}
 use Rattle.answer_judge_octets.specs.Replying.{IsJudged, Spells, flag_in, stand_as_received}
-use Rattle.answer_judge_octets.specs.Table.{Checked, Tried, checked}
+use Rattle.answer_judge_table.specs.Table.{Checked, Tried, checked}
 use Rattle.answer_judge_octets.specs.Written.{FitsChecked, FitsDs, checked_octets, ds_octets, passes_octets, with_long_length}
 use Rattle.answer_judge_octets.proofs.ListsRead.{spelled_once}
 
@@ -73,6 +73,7 @@ one_handing case h j table others p q =
     let class = p.class ∙ sym q.class in
     let now = p.now ∙ sym q.now in
     let limit = p.limit ∙ sym q.limit in
+    let other_question = p.other_question ∙ sym q.other_question in
     λ i. record {
       apex = apex i;
       ds = ds i;
@@ -82,6 +83,7 @@ one_handing case h j table others p q =
       now = now i;
       limit = limit i;
       one_moment = one_moment i;
+      other_question = other_question i;
     }
 
 pub one_case : OctetsSpellOneCase

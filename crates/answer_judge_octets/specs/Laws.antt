@@ -14,7 +14,7 @@ use Rattle.answer_shared.specs.Told.{TellsAnswer, TellsKeys}
 use Rattle.answer_judge_keys.specs.Judging.{Handing}
 use Rattle.answer_judge_octets.specs.declared.octets.OctetCase.{OctetCase}
 use Rattle.answer_judge_octets.specs.Replying.{IsJudged, Spells}
-use Rattle.answer_judge_octets.specs.Table.{Checked, Tried, checked}
+use Rattle.answer_judge_table.specs.Table.{Checked, Tried, checked}
 use Rattle.answer_judge_octets.specs.Written.{FitsChecked, IsList, checked_octets, passes_octets}
 
 -- a case in octets spells one thing to be judged, and one table

@@ -1,6 +1,3 @@
-pub mod Table
-pub mod Asking
-pub mod Outcomes
 pub mod Written
 pub mod Replying
 pub mod ReadCases

@@ -10,16 +10,16 @@ use Rattle.answer_judge_rules.specs.declared.verdict.Verdict.TheVariants as v
 use Rattle.answer_judge_keys.specs.declared.verdict.Refusal.{Refusal}
 use Rattle.answer_judge_keys.specs.declared.verdict.Refusal.TheVariants as r
 use Rattle.answer_judge_keys.specs.Judging.{Handing}
-use Rattle.answer_judge_octets.specs.declared.outcome.Outcome.{Outcome}
-use Rattle.answer_judge_octets.specs.declared.outcome.Outcome.TheVariants as o
+use Rattle.answer_judge_table.specs.declared.outcome.Outcome.{Outcome}
+use Rattle.answer_judge_table.specs.declared.outcome.Outcome.TheVariants as o
 use Rattle.answer_judge_octets.specs.declared.reply.ReplyCode.{ReplyCode}
 use Rattle.answer_judge_octets.specs.declared.reply.ReplyCode.TheVariants as c
 use Rattle.answer_judge_octets.specs.declared.reply.Reply.{Reply}
 use Rattle.answer_judge_octets.specs.declared.octets.OctetCase.{OctetCase}
 use Rattle.answer_judge_octets.specs.declared.octets.Report.{Report}
-use Rattle.answer_judge_octets.specs.Asking.{unchecked}
-use Rattle.answer_judge_octets.specs.Table.{Checked, Tried}
-use Rattle.answer_judge_octets.specs.Outcomes.{IsOutcome}
+use Rattle.answer_judge_table.specs.Asking.{unchecked}
+use Rattle.answer_judge_table.specs.Table.{Checked, Tried}
+use Rattle.answer_judge_table.specs.Outcomes.{IsOutcome}
 use Rattle.answer_judge_octets.specs.Written.{FitsChecked, FitsDs, IsList, checked_octets, ds_octets}
 
 -- ---- what is handed in
@@ -63,6 +63,7 @@ pub record Spells (case : OctetCase) (h : Handing) (table : List Checked) : Type
   pub now : h.now ≡ case.moment % 4294967296
   pub limit : h.limit ≡ case.limit
   pub one_moment : flag_in case case.one_moment ≡ Some h.one_moment
+  pub other_question : h.other_question ≡ false
   pub entries : IsList FitsChecked checked_octets case.checked.now table
 
 -- which octets of a case spell nothing

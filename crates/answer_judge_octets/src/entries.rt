@@ -5,9 +5,9 @@ ghost use Rattle.definitions.specs.Dnskey.{Ds as Digest};
 ghost use Rattle.denial_keys.specs.Keys.{ds_data};
 ghost use Rattle.answer_judge_octets.specs.Written.{FitsChecked, FitsDs, checked_octets, passes_octets, Splits};
 
-use crate::checked::CheckedSignature;
 use crate::list::{Entry, Written};
 use crate::parts::{split_long, split_short};
+use answer_judge_table::CheckedSignature;
 use answer_shared::dnskey::key_of_data;
 use denial_data::Ds;
 use numbers::algorithm::{DigestAlgorithm, SecurityAlgorithm};

@@ -1,21 +1,14 @@
-//! Judging by a table of signatures that a caller has checked, for callers whose library of signatures a judge cannot call: where
-//! the table does not have signatures, they are asked for, all at once (RFC 4035, 5).
+//! Judging from octets: a case that octets spell, judged by a table of signatures that its caller has checked, and the reply to it
+//! in octets, for callers in other languages.
 #![tactic(auto)]
 
-pub mod checked;
-mod digests;
 mod entries;
-pub mod judging;
 pub mod laws;
 mod list;
 pub mod octets;
-pub mod outcome;
 mod parts;
 pub mod reply;
-mod table_checks;
 
-pub use crate::checked::CheckedSignature;
-pub use crate::judging::judge_by_table;
 pub use crate::octets::{OctetCase, Report, judge_octets};
-pub use crate::outcome::{Ask, Outcome};
 pub use crate::reply::ReplyCode;
+pub use answer_judge_table::{Ask, CheckedSignature, Outcome, judge_by_table};

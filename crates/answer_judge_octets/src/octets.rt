@@ -6,11 +6,10 @@ ghost use Rattle.messages_canonical.specs.InForm.{GrowsTooLong};
 ghost use Rattle.answer_judge_octets.specs.Replying.{Answers, IsJudged, Replies, SaysOutcome, Spells, Unread, flag_in, reply_seen};
 ghost use Rattle.answer_judge_octets.specs.ReadCases.{handing_of};
 
-use crate::checked::CheckedSignature;
-use crate::judging::judge_by_table;
 use crate::list::read_list;
 use crate::reply::{Reply, ReplyCode, reply_of};
 use answer_judge::Case;
+use answer_judge_table::{CheckedSignature, judge_by_table};
 use denial_data::Ds;
 use denial_fields::unix_time::UnixTime;
 use messages::names::{Name, name_from_octets};
@@ -85,7 +84,7 @@ struct ReadCase<'a> {
     table: Vec<CheckedSignature<'a>>,
 }
 
-/// Judges as [`judge_by_table`](crate::judge_by_table) does, from octets. The reply's octets are written to the front of `out`
+/// Judges as [`judge_by_table`](answer_judge_table::judge_by_table) does, from octets. The reply's octets are written to the front of `out`
 /// where there is room for them: of records their data, each behind its length in two octets; of signatures that are asked for
 /// their entries, which belong into the list with their last octets set.
 ///
@@ -138,6 +137,7 @@ fn judged(alloc: Global, case: &OctetCase, read: &ReadCase) -> Result<Reply, All
         moment: UnixTime::new(Duration::from_secs(case.moment)),
         limit: case.limit,
         one_moment: read.one_moment,
+        other_question: false,
     };
     let outcome = judge_by_table(alloc, &handed, &read.table)?;
     reply_of(alloc, &outcome)

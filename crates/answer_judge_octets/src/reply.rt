@@ -3,12 +3,12 @@ ghost use Rattle.std.specs.Prelude.{◌≡◌, ◌++◌, [], length, map, IfOk, 
 ghost use Rattle.std.specs.List.{AllByRecursion, flat_map};
 ghost use Rattle.names_rdata.specs.Composing.{with_length};
 ghost use Rattle.answer_judge_octets.specs.declared.reply.ReplyCode.{ReplyCode};
-ghost use Rattle.answer_judge_octets.specs.Asking.{unchecked};
+ghost use Rattle.answer_judge_table.specs.Asking.{unchecked};
 ghost use Rattle.answer_judge_octets.specs.Written.{FitsChecked, IsLong, IsShort, checked_octets, with_long_length};
 ghost use Rattle.answer_judge_octets.specs.Replying.{EntriesFit, code_of_refusal, code_of_verdict, entries_of, number_of, octets_of_verdict, replied, reply_seen};
 
-use crate::outcome::{Ask, Outcome};
 use answer_judge::{DataList, Refusal, Verdict};
+use answer_judge_table::{Ask, Outcome};
 use answer_shared::dnskey::ZoneKey;
 use std::alloc::{AllocError, Global};
 

@@ -1,7 +1,7 @@
 //! The questions that a zone answers.
 ghost use Rattle.std.specs.Prelude.{◌≡◌};
 ghost use Rattle.messages.specs.Questions.{asked_of};
-ghost use Rattle.answer_shared.specs.Asking.{is_allowed};
+ghost use Rattle.answer_shared.specs.Asking.{asks_alias, is_allowed};
 
 use messages::names::{Name, is_at_or_above};
 use messages::question::Question;
@@ -21,4 +21,17 @@ pub fn is_allowed(apex: &Name<Vec<u8>>, question: &Question) -> bool
         )
         && !matches!(question.rtype, Rtype::CNAME | Rtype::DNAME | Rtype::OPT)
         && !matches!(question.rtype.to_int(), 0 | 128..=255)
+}
+
+/// Whether a question is one for the records of aliases: CNAME or DNAME (RFC 1034, 3.6.2; RFC 6672), class IN, at or below
+/// the apex.
+///
+/// A publisher answers none of these, since its zones have no aliases. A judge may be asked: what a zone says of these types
+/// is signed as what it says of others.
+pub fn asks_alias(apex: &Name<Vec<u8>>, question: &Question) -> bool
+    ensures { result ≡ asks_alias apex.now (asked_of question.now) }
+{
+    matches!(question.rtype, Rtype::CNAME | Rtype::DNAME)
+        && question.class == Class::IN
+        && is_at_or_above(apex, &question.name)
 }

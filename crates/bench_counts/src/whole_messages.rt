@@ -102,6 +102,7 @@ impl Asked {
             moment: UnixTime::new(Duration::from_secs(1500)),
             limit: 0,
             one_moment: true,
+            other_question: false,
         };
         match judge_with(alloc, &Copying, &Sha1Hasher, &case) {
             Ok(judgement) => u64::from(judgement.verifications) + 1,

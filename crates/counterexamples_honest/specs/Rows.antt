@@ -141,6 +141,7 @@ handing set keys answer name t = record {
   now = 1500;
   limit = 0;
   one_moment = true;
+  other_question = false;
 }
 
 -- beside the DS record of the zone's key, for the address of `a`

@@ -35,6 +35,7 @@ fn main(rt: HostRuntime) -> anyhow::Result<()> {
             moment: now,
             limit: 0,
             one_moment: true,
+            other_question: false,
         };
         let judgement = judge_with(alloc, &Copying, &Copying, &case);
         println!(rt; "{owner}: {}", words(&judgement))?;

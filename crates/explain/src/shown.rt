@@ -45,6 +45,7 @@ pub fn case_of<'a>(
         moment: event.at,
         limit,
         one_moment: true,
+        other_question: false,
     })
 }
 

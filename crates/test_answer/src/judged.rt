@@ -17,7 +17,7 @@ use test_lines::{listed, refused, text, words, yes_or_no};
 
 /// What is judged, beside the messages.
 #[derive(Drop)]
-struct Asked {
+pub struct Asked {
     apex: Name<Vec<u8>>,
     set: Vec<Ds<Vec<u8>>>,
     question: Question,
@@ -25,7 +25,7 @@ struct Asked {
 }
 
 impl Asked {
-    fn read(alloc: Global, words: &[&str]) -> Option<Asked> {
+    pub fn read(alloc: Global, words: &[&str]) -> Option<Asked> {
         let [apex, set, name, rtype, now] = words else {
             return None;
         };
@@ -48,13 +48,21 @@ impl Asked {
             moment: self.now,
             limit: 0,
             one_moment: true,
+            other_question: false,
         }
     }
 
     /// That case, where signatures may be of any moments.
-    fn of_any_moments<'a>(&'a self, dnskey: &'a [u8], answer: &'a [u8]) -> Case<'a> {
+    pub fn of_any_moments<'a>(&'a self, dnskey: &'a [u8], answer: &'a [u8]) -> Case<'a> {
         let mut case = self.of(dnskey, answer);
         case.one_moment = false;
+        case
+    }
+
+    /// That case, where the answer may be one to another question.
+    fn of_any_question<'a>(&'a self, dnskey: &'a [u8], answer: &'a [u8]) -> Case<'a> {
+        let mut case = self.of(dnskey, answer);
+        case.other_question = true;
         case
     }
 }
@@ -136,6 +144,16 @@ pub fn judged(alloc: Global, desk: &Desk, words: &[&str]) -> Option<String> {
 pub fn judged_any(alloc: Global, desk: &Desk, words: &[&str]) -> Option<String> {
     let asked = Asked::read(alloc, words)?;
     by_scheme(alloc, &asked.of_any_moments(&desk.keys, &desk.answer), WELL)
+}
+
+/// What `judge_with` says of them where the answer may be one to another question.
+pub fn judged_other(alloc: Global, desk: &Desk, words: &[&str]) -> Option<String> {
+    let asked = Asked::read(alloc, words)?;
+    by_scheme(
+        alloc,
+        &asked.of_any_question(&desk.keys, &desk.answer),
+        WELL,
+    )
 }
 
 /// What `judge_with` says by the scheme of the first word.

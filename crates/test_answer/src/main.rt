@@ -21,8 +21,11 @@
 //! - `judge APEX DS NAME TYPE MOMENT`: what is said of the messages that are held, beside a list of DS records, each a tag
 //!   and a type of digest, as `1054:2`; `judge-by SCHEME APEX DS NAME TYPE MOMENT`: by another scheme than `well`;
 //!   `judge-any-moments APEX DS NAME TYPE MOMENT`: where signatures may be of unlike times;
+//!   `judge-any-question APEX DS NAME TYPE MOMENT`: where the answer may be one to another question;
 //!   `cuts APEX DS NAME TYPE MOMENT`: what is said of no octets in place of the DNSKEY answer, and how many of its beginnings
 //!   that is said of; then the same of the zone answer.
+//! - `lasts APEX DS NAME TYPE MOMENT`: how long the verdict lasts of the messages that are held, each signature passing and of any
+//!   moment.
 //! - `allowed APEX NAME TYPE CLASS`: whether a question is.
 //! - `session LINE`, `session-octets OCTETS`: reads a session of the zone `example` and a line; `sessions COUNT LINE`: makes
 //!   one with so many times the line.
@@ -38,6 +41,7 @@ mod desk;
 mod faults;
 mod given;
 mod judged;
+mod lasting;
 mod scheme;
 mod sessions;
 mod settings;
@@ -69,7 +73,9 @@ fn reply(alloc: Global, desk: &mut Desk, line: &str) -> Option<String> {
         "judge" => judged::judged(alloc, desk, &words(alloc, rest)?),
         "judge-by" => judged::judged_by(alloc, desk, rest),
         "judge-any-moments" => judged::judged_any(alloc, desk, &words(alloc, rest)?),
+        "judge-any-question" => judged::judged_other(alloc, desk, &words(alloc, rest)?),
         "cuts" => judged::cuts(alloc, desk, &words(alloc, rest)?),
+        "lasts" => lasting::lasts(alloc, desk, &words(alloc, rest)?),
         "allowed" => judged::allowed(alloc, &words(alloc, rest)?),
         _ => on_keys(alloc, desk, name, &words(alloc, rest)?),
     }

@@ -51,6 +51,7 @@ impl Handed {
             moment: moment(NOW),
             limit: 0,
             one_moment: true,
+            other_question: false,
         }
     }
 }

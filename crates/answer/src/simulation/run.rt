@@ -244,6 +244,7 @@ impl<'a, S: Scheme, H: Nsec3Hasher> Run<'a, S, H> {
             moment: *at,
             limit: self.limit,
             one_moment: true,
+            other_question: false,
         };
         judge_with(
             self.alloc,

@@ -3,6 +3,7 @@ ghost use Rattle.std.specs.Prelude.{◌≡◌, ◌<◌};
 ghost use Rattle.definitions.specs.Limits.{pointer_limit};
 ghost use Rattle.answer_scheme.specs.Answers.{answers_by};
 ghost use Rattle.answer_judge.specs.Meeting.{JudgesSo};
+ghost use Rattle.answer_judge_facts.specs.Lasting.{LastsSo};
 
 use crate::case::Case;
 use answer_judge_keys::verdict::{Judgement, Refused};
@@ -20,8 +21,10 @@ pub fn judge_with<S: Scheme, H: Nsec3Hasher>(
     hasher: &H,
     case: &Case,
 ) -> Result<Judgement, Refused>
-    ensures { let a = answers_by S.verifies S.digest_of H.hash_of scheme.now hasher.now in
+    ensures judgement { let a = answers_by S.verifies S.digest_of H.hash_of scheme.now hasher.now in
         JudgesSo pointer_limit a case.now result }
+    ensures lasts { let a = answers_by S.verifies S.digest_of H.hash_of scheme.now hasher.now in
+        LastsSo pointer_limit a case.now result }
 {
     counted::<S, H, Brand, Brand>(alloc, scheme, hasher, Blank::new(1), Blank::new(1), case)
 }
@@ -41,8 +44,10 @@ fn counted<S: Scheme, H: Nsec3Hasher, L: Ledger, M: Ledger>(
     requires second_name { second.name ≡ M.name }
     requires second_parts { second.parts ≡ M.parts }
     requires second_some { 0 < M.parts }
-    ensures { let a = answers_by S.verifies S.digest_of H.hash_of scheme.now hasher.now in
+    ensures judgement { let a = answers_by S.verifies S.digest_of H.hash_of scheme.now hasher.now in
         JudgesSo pointer_limit a case.now result }
+    ensures lasts { let a = answers_by S.verifies S.digest_of H.hash_of scheme.now hasher.now in
+        LastsSo pointer_limit a case.now result }
 {
     let mut checks = SchemeChecks::<S, H, L, M>::new(scheme, hasher, first, second);
     case.judge(alloc, &mut checks)

@@ -6,6 +6,7 @@ ghost use Rattle.answer_judge.specs.Stages.{FindsSigned, FindsUnsigned, trusting
 ghost use Rattle.answer_judge_facts.specs.Asked.{Implies, is_tried_among};
 ghost use Rattle.answer_judge_keys.specs.Trusted.{is_signature, is_usable};
 ghost use Rattle.answer_judge_facts.specs.Judged.{trusting};
+ghost use Rattle.answer_judge_facts.specs.Lasting.{answer_lasting, key_seconds, least_of};
 ghost use Rattle.answer_judge_keys.specs.Judging.{keys_in};
 ghost use Rattle.answer_judge_facts.specs.Sought.{answer_sought, keys_sought};
 ghost use Rattle.answer_judge_facts.specs.VerifiedProof.{IsVerifiedProof};
@@ -49,7 +50,7 @@ pub(crate) fn read_unlike_keys<'a>(
     Ok(keys)
 }
 
-/// The keys that may sign the zone, if one that a DS record names signs all keys.
+/// The keys that may sign the zone, if one that a DS record names signs all keys, and for how many seconds more it does.
 ///
 /// Keys that nothing at the parent vouches for are those of whoever sent the answer (RFC 4035, 5.2).
 pub(crate) fn signed_keys<'a, C: Checks>(
@@ -57,6 +58,7 @@ pub(crate) fn signed_keys<'a, C: Checks>(
     records: &[ViewRecord],
     keys: Vec<TaggedKey<'a>>,
     verifier: &mut Verifier<C>,
+    seconds: &mut u32,
 ) -> Result<Vec<TaggedKey<'a>>, Refusal>
     requires none_yet { verifier.old.count ≡ 0 }
     requires room { length records.now < 2 ^ 32 }
@@ -69,6 +71,11 @@ pub(crate) fn signed_keys<'a, C: Checks>(
         (C.agrees verifier.new.checks.now) (λ a. let rs = map spelled records.now in
         let count = verifier.new.count in
         IfErr result (λ e. FindsUnsigned a pointer_limit case.now rs keys.entry.items count e)) }
+    ensures lasts { EachAgreeing (C.answers verifier.old.checks.now)
+        (C.agrees verifier.new.checks.now) (λ a. let h = case.now in
+        let ks = keys.entry.items in let w = trusting_named a h ks in
+        let all = key_seconds w pointer_limit h.dnskey_bytes (map spelled records.now) ks in
+        IfOk result (λ _. seconds.new ≡ least_of all)) }
     ensures agrees { (test : SignatureTest) → C.agrees verifier.new.checks.now test
         → C.agrees verifier.old.checks.now test }
     ensures asked { (test : SignatureTest) → let a = C.answers verifier.old.checks.now in
@@ -95,7 +102,7 @@ pub(crate) fn signed_keys<'a, C: Checks>(
         ranked: &by_tag,
         moment: case.moment.timestamp(),
     };
-    if !are_verified(case.dnskey, records, &keys, &trust, verifier)? {
+    if !are_verified(case.dnskey, records, &keys, &trust, verifier, seconds)? {
         return Err(Refusal::NoTrustedKey);
     }
     Ok(usable_keys(keys))
@@ -117,6 +124,11 @@ pub(crate) fn read_proof<'a, C: Checks>(
         let m = h.answer_bytes in let q = h.asked.name in let t = h.asked.rtype in
         IfOk result (λ p. IsVerifiedProof w pointer_limit m rs q t p
         verifier.old.count verifier.new.count)) }
+    ensures lasts { EachAgreeing (C.answers verifier.old.checks.now)
+        (C.agrees verifier.new.checks.now) (λ a. let h = case.now in
+        let w = trusting a h keys.now in let rs = map spelled records.now in
+        let m = h.answer_bytes in let q = h.asked.name in let t = h.asked.rtype in
+        IfOk result (λ p. p.lasting ≡ answer_lasting w pointer_limit m rs q t)) }
     ensures agrees { (test : SignatureTest) → C.agrees verifier.new.checks.now test
         → C.agrees verifier.old.checks.now test }
     ensures asked { (test : SignatureTest) → let a = C.answers verifier.old.checks.now in

@@ -1,5 +1,5 @@
 use Rattle.std.proofs.Common.{◌≡◌, ℕ, List, false, map, [], ◌+◌, inl, inr, ⊎_elim, refl, sym, ap, subst, ◌∙◌, arith}
-use Rattle.std.specs.Prelude.{IfErr}
+use Rattle.std.specs.Prelude.{IfErr, Some}
 use Rattle.std.proofs.lemmas.Result.{err_from_is_err_and}
 use Rattle.definitions.specs.Dnskey.{Dnskey}
 use Rattle.definitions.specs.Limits.{pointer_limit}
@@ -12,13 +12,16 @@ use Rattle.answer_scheme.specs.Answers.{Answers, with_test}
 use Rattle.answer_judge_facts.specs.Counted.{hashes_beyond, hashes_of_proof, tries}
 use Rattle.answer_judge_facts.specs.Judged.{AnswersAs, is_chained, judged_beyond, judged_proof, said, trusting}
 use Rattle.answer_judge_keys.specs.Judging.{Handing, IsRead, Refuses, RefusesFirst, keys_in, message_refusal}
+use Rattle.answer_judge_facts.specs.Lasting.{answer_lasting}
 use Rattle.answer_judge_facts.specs.Sought.{answer_sought}
 use Rattle.answer_judge_facts.specs.Times.{are_unlike, proof_times}
 use Rattle.answer_judge_facts.specs.Verified.{verified_facts}
+use Rattle.answer_judge_keys.specs.declared.verdict.Lasting.{Lasting}
 use Rattle.answer_judge_keys.specs.declared.verdict.Refusal.{Refusal}
 use Rattle.answer_judge_facts.proofs.JudgeAsked.{agreed, agreed_by}
 use Rattle.answer_judge.proofs.JudgeAsks.{answer_pass, keys_pass}
 use Rattle.answer_judge.proofs.JudgeHashes.{counts_as, facts_hashed, none_hashed}
+use Rattle.answer_judge.proofs.JudgeLasts.{lasts_as, on_ok}
 use Rattle.answer_judge.proofs.JudgeTotals.{key_tries_as, keys_alone, keys_and_answer}
 use Rattle.answer_judge.proofs.JudgeWhole.{BothRead, beyond, both_read, chained_as, decided_as, untrusted, usable_as}
 use Rattle.answer_judge.proofs.judging.judge_messages.Goals as goal
@@ -130,6 +133,31 @@ returns-clause-says g c = λ test fits.
       counts_as (said c.judge_proof.result) c.judge_proof.new.hashes (hashes_of_proof (g.C.Checks.answers c.read_proof.new.verifier.checks.now) h facts unlike_times) (hashes_beyond a pointer_limit h)
           (ap (λ v. hashes_of_proof v h facts unlike_times) last ∙ due) c.judge_proof.ensures.hash_counts,
     )
+
+pub returns-clause-lasts : goal.returns-clause-lasts
+returns-clause-lasts g c = λ test fits.
+    let own = g.C.Checks.answers c.args.verifier.now.checks.now in
+    let a = with_test own test in
+    let h : Handing = c.args.case.now in
+    let reads = c.in_ok-messages.ensures in
+    let keys = c.in_ok-messages.messages.keys in
+    let answer = c.in_ok-messages.messages.answer in
+    let rs = map spelled c.deref-2.result.now in
+    let ks = c.in_ok-keys.keys.items in
+    let whole = ap (map spelled) c.deref-2.ensures.value ∙ reads.key_records in
+    let are = c.in_ok-keys.ensures.keys ∙ ap (λ vs. keys_in h.dnskey_bytes h.apex (map spelled vs)) (c.deref.ensures.value ∙ sym c.deref-2.ensures.value) in
+    let both : BothRead h keys answer rs ks = both_read h keys answer rs ks reads.keys reads.answer reads.asks_keys reads.asks_answer whole are c.in_ok-keys.ensures.unlike in
+    let at_proof = agreed own.verifies test _ _ (c.judge_proof.ensures.none.0 test) fits in
+    let at_keys = agreed own.verifies test _ _ (c.in_ok-proof.ensures.agrees test) at_proof in
+    let held = c.deref-4.result.now in
+    let usable = c.deref-4.ensures.value ∙ usable_as h keys rs ks c.in_ok-usable.usable.items both.records_are both.keys_are c.in_ok-usable.ensures.usable in
+    let read_rs = map spelled c.deref-3.result.now in
+    let all_read = ap (map spelled) c.deref-3.ensures.value ∙ reads.answer_records in
+    let later_own = c.in_ok-usable.ensures.same in
+    let second = agreed_by own _ test _ later_own at_proof in
+    let later = ap (λ x. with_test x test) later_own in
+    let lasting = c.in_ok-proof.ensures.lasts test second ∙ ap (λ x. answer_lasting (trusting x h held) pointer_limit h.answer_bytes read_rs h.asked.name h.asked.rtype) later in
+    on_ok c.judge_proof.result _ (ap (λ (l : Lasting). Some l) c.shortened.ensures ∙ lasts_as a h keys answer rs ks both held usable read_rs all_read c.signed_keys.new.seconds c.in_ok-proof.proof.lasting (c.in_ok-usable.ensures.lasts test at_keys) lasting)
 
 -- ---- all that are verified are tried of the messages
 

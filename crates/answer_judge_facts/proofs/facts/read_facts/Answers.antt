@@ -16,6 +16,7 @@ use Rattle.answer_judge_facts.proofs.GroupPlaces.{ranked_next}
 use Rattle.answer_judge_facts.proofs.JudgeAsked.{sought_passes}
 use Rattle.answer_judge_facts.proofs.JudgeCounted.{tries_are}
 use Rattle.answer_judge_facts.proofs.JudgeFacts.{facts_verified, marked_last, over}
+use Rattle.answer_judge_facts.proofs.JudgeLasting.{seconds_are, ttls_are}
 use Rattle.answer_judge_facts.proofs.JudgeSought.{answer_is}
 use Rattle.answer_judge_facts.proofs.JudgeTimes.{times_verified}
 use Rattle.answer_judge_facts.proofs.facts.read_facts.Goals as goal
@@ -61,6 +62,37 @@ returns-clause-proves g c = λ test h.
       c.are_unlike-has_unlike_times.ensures ∙ times_verified w m rs q t gs sought c.deref-2.result.now (c.deref-2.ensures.value ∙ all),
       c.in_ok-verify_groups.ensures.tried test h ∙ ap (λ n. c.args.verifier.now.count + n) (tries_are w m (answer_sought pointer_limit m w.apex rs q t) gs rs sought),
     )
+
+pub returns-clause-lasts : goal.returns-clause-lasts
+returns-clause-lasts g c = λ test h.
+    let w = held_by (with_test (g.C.Checks.answers c.args.verifier.now.checks.now) test) c.args.trust.now in
+    let m = c.args.message.now in
+    let rs = map spelled c.args.records.now in
+    let q = c.args.name.now in
+    let t = c.args.rtype in
+    let gs = c.deref_mut.result.now in
+    let last : AskedLast m w.apex rs q t gs = subst (AskedLast m w.apex rs q t) (sym c.deref_mut.ensures.value) c.in_ok-groups.ensures in
+    let sought = answer_is m w.apex rs q t gs last in
+    let old = c.in_ok-groups.groups in
+    let now = c.verify_groups.new.groups in
+    let len : old.len ≡ length now = search rules in
+    let all = over now old.items old.len len ∙ c.in_ok-verify_groups.ensures.marked test h in
+    let new = c.deref-3.result.now in
+    let marks = c.deref-3.ensures.value ∙ all in
+    let ttl = c.lasting_of-lasting.ensures.ttl ∙ ttls_are w m rs q t gs sought new marks in
+    let seconds = c.lasting_of-lasting.ensures.seconds ∙ seconds_are w m rs q t gs sought new marks in
+    λ i. record { ttl = ttl i; seconds = seconds i }
+
+pub lasting_of-lasting-requires : goal.lasting_of-lasting-requires
+lasting_of-lasting-requires g c =
+    let own = g.C.Checks.answers c.args.verifier.now.checks.now in
+    let m = c.args.message.now in
+    let rs = map spelled c.args.records.now in
+    let old = c.in_ok-groups.groups in
+    let now = c.verify_groups.new.groups in
+    let len : old.len ≡ length now = search rules in
+    let ranked = subst AreRanked (sym c.deref_mut.ensures.value) c.in_ok-groups.ensures.ranked in
+    subst AreRanked (sym (c.deref-3.ensures.value ∙ over now old.items old.len len)) (ranked_next (held_by own c.args.trust.now) m rs c.deref_mut.result.now now (c.in_ok-verify_groups.ensures.marked own.verifies (inl refl)) ranked)
 
 -- what passes for the signatures that are tried passes for the groups of what is sought
 module _ (test : SignatureTest) (w : Trusting) (m : List ℕ) (rs : List Spelled) (q : Name) (t : ℕ) (gs now : List Group) (is : now ≡ gs) (last : AskedLast m w.apex rs q t gs) where

@@ -1,10 +1,10 @@
 use Rattle.std.proofs.Common.{map, ap, subst, ◌∙◌, arith}
 use Rattle.std.specs.List.{AllByRecursion}
 use Rattle.std.proofs.lemmas.List.{take_all}
-use Rattle.answer_judge_octets.specs.Asking.{unchecked}
+use Rattle.answer_judge_table.specs.Asking.{unchecked}
 use Rattle.answer_judge_octets.specs.Replying.{entries_of}
 use Rattle.answer_judge_octets.specs.Written.{FitsChecked}
-use Rattle.answer_judge_octets.proofs.AsksGrow.{entries_fit_more, entries_more}
+use Rattle.answer_judge_octets.proofs.EntriesGrow.{entries_fit_more, entries_more}
 use Rattle.answer_judge_octets.proofs.reply.octets_of_asks.Goals as goal
 
 pub loop-ask-preserved : goal.loop-ask-preserved

@@ -1,9 +1,21 @@
-use Rattle.std.proofs.Common.{inl, inr, refl, sym, subst, ap, arith, rules}
+use Rattle.std.proofs.Common.{inl, inr, ⊎_elim, refl, sym, subst, ap, arith, rules}
+use Rattle.answer_scheme.specs.Answers.{with_test}
 use Rattle.answer_judge_keys.specs.Judging.{Refuses, Says}
 use Rattle.answer_judge_rules.specs.Rules.{verdict_of}
 use Rattle.answer_judge.proofs.JudgeAsks.{case_passes}
-use Rattle.answer_judge.proofs.JudgedWholly.{agrees_too, each_wholly}
+use Rattle.answer_judge.proofs.JudgeLasts.{lasts_beyond}
+use Rattle.answer_judge.proofs.JudgedWholly.{agrees_too, each_wholly, unjudged}
 use Rattle.answer_judge.proofs.case.Case.judge.Goals as goal
+
+pub returns-then-not-is_judged-clause-given : goal.returns-then-not-is_judged-clause-given
+returns-then-not-is_judged-clause-given g c =
+    let own = g.C.Checks.answers c.args.checks.now in
+    (unjudged own c.args.self.now (omega (arith, c.limit_fits.ensures)) (search rules) (search rules)).given
+
+pub returns-then-not-is_judged-clause-agreeing : goal.returns-then-not-is_judged-clause-agreeing
+returns-then-not-is_judged-clause-agreeing g c = λ test agrees.
+    let own = g.C.Checks.answers c.args.checks.now in
+    (agrees, unjudged (with_test own test) c.args.self.now (omega (arith, c.limit_fits.ensures)) (search rules) (search rules))
 
 pub returns-in-Ok : goal.returns-in-Ok
 returns-in-Ok g c =
@@ -23,6 +35,9 @@ returns-in-Ok g c =
       agreeing = λ test agrees.
           let agrees_now = agrees_too g.C.Checks.agrees _ now test agrees (search rules) in
           (subst (λ v. g.C.Checks.agrees v test) c.new-verifier.ensures.checks (c.in-Ok.ensures.agrees test agrees_now), so test (inr agrees_now));
+      lasts = λ test fits.
+          let fit = ⊎_elim (λ e. inl e) (λ agrees. inr (agrees_too g.C.Checks.agrees _ now test agrees (search rules))) fits in
+          lasts_beyond own _ (g.C.Checks.agrees now) c.args.self.now c.judge_messages.new.lasting (ap g.C.Checks.answers c.new-verifier.ensures.checks) (search rules) c.in-Ok.ensures.lasts test fit;
       asked = λ test implies before.
           let passes = case_passes own _ c.args.self.now test (ap g.C.Checks.answers c.new-verifier.ensures.checks) (search rules) (search rules) implies in
           let asked_now = c.in-Ok.ensures.asked test passes (subst (λ v. g.C.Checks.asked_only v test) (sym c.new-verifier.ensures.checks) before) in
@@ -50,6 +65,7 @@ returns g c =
       agreeing = λ test agrees.
           let agrees_now = agrees_too g.C.Checks.agrees _ now test agrees (search rules) in
           (subst (λ v. g.C.Checks.agrees v test) c.new-verifier.ensures.checks (c.in-Err.ensures.agrees test agrees_now), so test (inr agrees_now));
+      lasts = λ test fits. tt;
       asked = λ test implies before.
           let passes = case_passes own _ c.args.self.now test (ap g.C.Checks.answers c.new-verifier.ensures.checks) (search rules) (search rules) implies in
           let asked_now = c.in-Err.ensures.asked test passes (subst (λ v. g.C.Checks.asked_only v test) (sym c.new-verifier.ensures.checks) before) in

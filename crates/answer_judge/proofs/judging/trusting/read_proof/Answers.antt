@@ -1,5 +1,5 @@
 use mathlib.Core.Path.{transport}
-use Rattle.std.proofs.Common.{◌||◌, [], map, sym, ap, subst, ◌∙◌}
+use Rattle.std.proofs.Common.{◌≡◌, ◌||◌, [], map, sym, ap, subst, ◌∙◌}
 use Rattle.std.specs.Prelude.{IfOk, nat_eq}
 use Rattle.definitions.specs.Limits.{pointer_limit}
 use Rattle.messages.specs.Record.{spelled}
@@ -7,6 +7,7 @@ use Rattle.answer_scheme.specs.Answers.{with_test}
 use Rattle.answer_judge_facts.specs.Asked.{Implies, is_tried_among}
 use Rattle.answer_judge_keys.specs.Judging.{Handing}
 use Rattle.answer_judge_keys.specs.KeyOrder.{Ranks}
+use Rattle.answer_judge_facts.specs.Lasting.{answer_lasting}
 use Rattle.answer_judge_facts.specs.Sought.{answer_sought}
 use Rattle.answer_judge_facts.specs.VerifiedProof.{IsVerifiedProof}
 use Rattle.answer_judge.proofs.judging.trusting.read_proof.Goals as goal
@@ -31,6 +32,16 @@ returns-clause-proves g c = λ test fits.
     transport
     (λ i. IfOk c.read_facts.result (λ p. IsVerifiedProof (record { answers = a; apex = (is i).apex; keys = c.args.keys.now; now = moment i }) pointer_limit (is i).answer_bytes rs (is i).asked.name (is i).asked.rtype p before after))
     (c.read_facts.ensures.proves test fits)
+
+pub returns-clause-lasts : goal.returns-clause-lasts
+returns-clause-lasts g c = λ test fits.
+    let is = c.case.view_is in
+    let moment = c.timestamp.ensures ∙ ap (λ (h : Handing). h.now) is in
+    let a = with_test (g.C.Checks.answers c.args.verifier.now.checks.now) test in
+    let rs = map spelled c.args.records.now in
+    transport
+    (λ i. IfOk c.read_facts.result (λ p. p.lasting ≡ answer_lasting (record { answers = a; apex = (is i).apex; keys = c.args.keys.now; now = moment i }) pointer_limit (is i).answer_bytes rs (is i).asked.name (is i).asked.rtype))
+    (c.read_facts.ensures.lasts test fits)
 
 pub returns-clause-asked : goal.returns-clause-asked
 returns-clause-asked g c = λ test passes.

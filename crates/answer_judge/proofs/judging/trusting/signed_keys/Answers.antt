@@ -12,6 +12,7 @@ use Rattle.answer_judge_facts.specs.Counted.{tries}
 use Rattle.answer_judge_keys.specs.Trusted.{is_trusted}
 use Rattle.answer_judge_keys.specs.Judging.{Handing}
 use Rattle.answer_judge_keys.specs.KeyOrder.{Ranks}
+use Rattle.answer_judge_facts.specs.Lasting.{key_seconds, least_of}
 use Rattle.answer_judge_facts.specs.Sought.{keys_sought}
 use Rattle.answer_judge_facts.specs.Verified.{Trusting, is_verified}
 use Rattle.answer_judge_facts.proofs.JudgeAsked.{agreed_by}
@@ -39,6 +40,9 @@ module _ (own : Answers) (test : SignatureTest) (h now : Handing) (is : now ≡ 
         omega (arith, tried, zero, due),
       )
 
+  lasts_as : (n : ℕ) → n ≡ least_of (key_seconds w pointer_limit now.dnskey_bytes rs held) → n ≡ least_of (key_seconds (trusting_named (with_test own test) h ks) pointer_limit h.dnskey_bytes rs ks)
+  lasts_as n e = e ∙ (λ i. least_of (key_seconds (w_is i) pointer_limit (is i).dnskey_bytes rs (items i)))
+
   -- where a test passes for the signatures that are tried then, it passes for them as they are held against the keys
   tried_pass : Implies (is_tried_among (trusting_named own h ks) pointer_limit h.dnskey_bytes (keys_sought h.apex ks) [] rs) test
       → Implies (is_tried_among (record { answers = checks; apex = now.apex; keys = trusted; now = moment }) pointer_limit now.dnskey_bytes (keys_sought now.apex held) [] rs) test
@@ -56,6 +60,17 @@ returns-clause-signed g c = λ test fits.
     let none_yet = ap (λ v. v.count) rest ∙ c.requires.none_yet in
     let found = found_out own test c.args.case.now _ is (map spelled c.args.records.now) c.args.keys.items c.deref-5.result.now c.deref-3.result.now named c.deref-5.ensures.value _ same _ moment _ _ _ none_yet (c.in_ok-are_verified.ensures.exact test first) (c.in_ok-are_verified.ensures.tried test first) in
     (sym found.0 ∙ c.if-not-branch.false, found.1)
+
+pub returns-clause-lasts : goal.returns-clause-lasts
+returns-clause-lasts g c = λ test fits.
+    let own = g.C.Checks.answers c.args.verifier.now.checks.now in
+    let is = c.case.view_is in
+    let moment = c.timestamp.ensures ∙ ap (λ (h : Handing). h.now) is in
+    let rest = c.in_ok-trusted.ensures.rest in
+    let same = ap (λ v. g.C.Checks.answers v.checks.now) rest in
+    let named = c.deref-3.ensures.value ∙ c.in_ok-trusted.ensures.trusted ∙ (λ i. filter (is_trusted own (is i).apex (is i).ds) (c.deref.ensures.value i)) in
+    let first = agreed_by own _ test _ same fits in
+    lasts_as own test c.args.case.now _ is (map spelled c.args.records.now) c.args.keys.items c.deref-5.result.now c.deref-3.result.now named c.deref-5.ensures.value _ same _ moment _ (c.in_ok-are_verified.ensures.lasts test first)
 
 pub returns-then-not-branch-clause-unsigned : goal.returns-then-not-branch-clause-unsigned
 returns-then-not-branch-clause-unsigned g c = λ test fits.

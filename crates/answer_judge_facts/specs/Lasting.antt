@@ -1,0 +1,169 @@
+-- How long a verdict lasts: how long what it rests on may be kept (RFC 4035, 5.3.3), and for how many seconds more the signatures
+-- hold by which it is verified (RFC 4034, 3.1.5).
+use Rattle.std.specs.Prelude.{◌≡◌, ℕ, ◌+◌, ◌-◌, ◌/◌, ◌%◌, ◌≤◌, min, Bool, true, false, ◌&&◌, ◌==◌, List, [], ◌∷◌, ◌++◌, map, filter, length, Option, Some, None, Result, Ok, Err, nat_eq, if◌then◌else◌}
+use Rattle.std.specs.List.{cons_option, filter_map, list_any}
+use Rattle.std.specs.Option.{option_map}
+use Rattle.definitions.specs.Dnskey.{Dnskey, dnskey_data}
+use Rattle.definitions.specs.Limits.{pointer_limit}
+use Rattle.definitions.specs.Name.{Name}
+use Rattle.definitions.specs.Serial.{serial_le}
+use Rattle.definitions.specs.Signing.{Fields}
+use Rattle.definitions.specs.Zone.{sorted_data}
+use Rattle.messages.specs.Message.{AreOctets, Message, Spelled, message, rrsig_at}
+use Rattle.answer_scheme.specs.Answers.{Answers}
+use Rattle.answer_scheme.specs.Moments.{second_of}
+use Rattle.answer_judge_keys.specs.Trusted.{is_signature, is_trusted, is_usable}
+use Rattle.answer_judge_keys.specs.Judging.{Handing}
+use Rattle.answer_judge_keys.specs.declared.verdict.Judgement.{Judgement}
+use Rattle.answer_judge_keys.specs.declared.verdict.Lasting.{Lasting}
+use Rattle.answer_judge_keys.specs.declared.verdict.Refused.{Refused}
+use Rattle.answer_judge_facts.specs.Judged.{judged, keys_of, trusting}
+use Rattle.answer_judge_facts.specs.Marked.{is_of, is_proved, times_by}
+use Rattle.answer_judge_facts.specs.Sought.{Sought, answer_sought, keys_sought}
+use Rattle.answer_judge_facts.specs.Times.{Times, proof_times, times_of}
+use Rattle.answer_judge_facts.specs.Verified.{Trusting, rrset_in, verified_by}
+use Rattle.answer_judge_facts.specs.declared.groups.Group.{Group}
+use Rattle.answer_judge_facts.specs.declared.groups.Signed.{Signed}
+
+-- ---- the least of some numbers
+
+-- of a number and those of a list
+abbrev pub least : ℕ → List ℕ → ℕ
+least n [] = n
+least n (x ∷ xs) = least (min n x) xs
+
+-- where there are none, the largest of 32 bits
+abbrev pub least_of : List ℕ → ℕ
+least_of xs = least 4294967295 xs
+
+-- ---- how long records may be kept
+
+-- What the first signature says that verifies a record's RRset, where that is sought for a question: the RRset that was asked for,
+-- and the NSEC and NSEC3 RRsets of one record. A verdict rests on such records alone, and maybe not on all of them: to count each
+-- of them may shorten the time, and never lengthens it.
+abbrev pub rests_on : {X : Type 0} → (Fields → X) → Trusting → ℕ → List ℕ → List Spelled → Name → ℕ → Spelled → Option X
+rests_on of w k m rs q t r = elim ((r.class == 1) && (answer_sought k m w.apex rs q t).is r.owner r.rtype) [
+  | true ↦ option_map of (verified_by w k m rs r.owner r.rtype (rrset_in k m rs r.owner r.rtype))
+  | false ↦ None
+]
+
+-- the record's own TTL, and the one that the zone gave it, which is signed
+abbrev pub own_ttl : Trusting → ℕ → List ℕ → List Spelled → Name → ℕ → Spelled → Option ℕ
+own_ttl w k m rs q t r = rests_on (λ f. r.ttl) w k m rs q t r
+
+abbrev pub original_ttl : Trusting → ℕ → List ℕ → List Spelled → Name → ℕ → Spelled → Option ℕ
+original_ttl w k m rs q t r = rests_on (λ f. f.ttl) w k m rs q t r
+
+-- those of all records that an answer's verdict rests on (of denials NSEC and NSEC3 records: RFC 9077)
+abbrev pub answer_ttls : Trusting → ℕ → List ℕ → List Spelled → Name → ℕ → List ℕ
+answer_ttls w k m rs q t = filter_map (original_ttl w k m rs q t) rs ++ filter_map (own_ttl w k m rs q t) rs
+
+-- ---- for how many seconds signatures hold
+
+-- the seconds from a moment on to the next one of a number, round the circle of serial numbers (RFC 1982)
+abbrev pub seconds_to : ℕ → ℕ → ℕ
+seconds_to from to = (to + 4294967296 - from) % 4294967296
+
+-- For how many seconds more a signature holds that holds now: up to its expiration, and for less than half the circle from its
+-- inception on.
+abbrev pub held_for : ℕ → Times → ℕ
+held_for now t = min (seconds_to now t.expiration) (2147483647 - seconds_to t.inception now)
+
+-- For how many seconds more one does not hold that does not now: up to the second before its inception. One that has expired
+-- would begin anew where half the circle lies behind its expiration.
+abbrev pub idle_for : ℕ → Times → ℕ
+idle_for now t = if serial_le t.inception now then 2147483648 - seconds_to t.expiration now else seconds_to now t.inception - 1
+
+-- where it does not hold
+abbrev pub idle_at : ℕ → Times → Option ℕ
+idle_at now t = if serial_le t.inception now && serial_le now t.expiration then None else Some (idle_for now t)
+
+-- A signature of an RRset that is sought and does not hold now: once it does, something else may be verified.
+abbrev pub wait_at : ℕ → ℕ → List ℕ → Sought → Spelled → Option ℕ
+wait_at now k m s r = elim (is_signature r && (r.class == 1)) [
+  | false ↦ None
+  | true ↦ elim (rrsig_at k m r) [ None ↦ None | Some f ↦ if s.is r.owner f.0.covered then idle_at now (times_of f.0) else None ]
+]
+
+-- of signatures that verify, and of those that do not hold
+abbrev pub seconds_of : ℕ → ℕ → List ℕ → Sought → List Spelled → List Times → List ℕ
+seconds_of now k m s rs ts = map (held_for now) ts ++ filter_map (wait_at now k m s) rs
+
+-- of the DNSKEY answer: the first signature that verifies the keys
+abbrev pub key_seconds : Trusting → ℕ → List ℕ → List Spelled → List Dnskey → List ℕ
+key_seconds w k m rs ks =
+    seconds_of w.now k m (keys_sought w.apex ks) rs (cons_option (option_map times_of (verified_by w k m rs w.apex 48 (sorted_data (map dnskey_data ks)))) [])
+
+-- of the zone answer
+abbrev pub answer_seconds : Trusting → ℕ → List ℕ → List Spelled → Name → ℕ → List ℕ
+answer_seconds w k m rs q t = seconds_of w.now k m (answer_sought k m w.apex rs q t) rs (proof_times w k m rs q t)
+
+-- ---- of a verdict
+
+-- what is verified of an answer
+abbrev pub answer_lasting : Trusting → ℕ → List ℕ → List Spelled → Name → ℕ → Lasting
+answer_lasting w k m rs q t = record { ttl = least_of (answer_ttls w k m rs q t); seconds = least_of (answer_seconds w k m rs q t) }
+
+-- and of the keys that may sign it
+abbrev pub lasting_in_messages : Answers → ℕ → Handing → Message → Message → Lasting
+lasting_in_messages a k h keys answer =
+    let ks = keys_of h keys in
+    let usable = trusting a h (filter is_usable ks) in
+    record {
+      ttl = least_of (answer_ttls usable k h.answer_bytes answer.records h.asked.name h.asked.rtype);
+      seconds = least_of (key_seconds (trusting a h (filter (is_trusted a h.apex h.ds) ks)) k h.dnskey_bytes keys.records ks
+          ++ answer_seconds usable k h.answer_bytes answer.records h.asked.name h.asked.rtype);
+    }
+
+abbrev pub lasting_in_bytes : Answers → ℕ → Handing → Option Lasting
+lasting_in_bytes a k h = elim (message k h.dnskey_bytes) [
+  | Err e ↦ None
+  | Ok keys ↦ elim (message k h.answer_bytes) [ Err e ↦ None | Ok answer ↦ Some (lasting_in_messages a k h keys answer) ]
+]
+
+-- beside an empty DS set nothing is verified, so nothing says how long that lasts
+abbrev pub lasting_of : Answers → ℕ → Handing → Option Lasting
+lasting_of a k h = if nat_eq (length h.ds) 0 then None else lasting_in_bytes a k h
+
+-- what is said of a judgement
+abbrev pub LastsSo : ℕ → Answers → Handing → Result Judgement Refused → Type 0
+LastsSo k a h (Ok j) = j.lasting ≡ lasting_of a k h
+LastsSo k a h (Err e) = Unit {0}
+
+-- what is handed in, at a moment in nanoseconds
+abbrev pub at_moment : ℕ → Handing → Handing
+at_moment at h = record h { now = second_of at }
+
+-- At each moment from a judgement's up to the last second of its lasting, the same octets are judged alike, under the same answers
+-- of a scheme.
+abbrev pub VerdictsLast : Type 0
+VerdictsLast =
+    (a : Answers) (k : ℕ) (h : Handing) (at later : ℕ) (l : Lasting) → AreOctets h.dnskey_bytes → AreOctets h.answer_bytes
+    → lasting_of a k (at_moment at h) ≡ Some l → at ≤ later → later / 1000000000 ≤ at / 1000000000 + l.seconds
+    → judged a k (at_moment later h) ≡ judged a k (at_moment at h)
+
+-- ---- by groups
+
+-- the original TTL of the signature that verified a group
+abbrev pub original_of : Signed → ℕ
+original_of s = s.ttl
+
+abbrev pub original_in : Group → Option ℕ
+original_in g = option_map original_of g.verified
+
+-- the TTL of a record whose owner has a verified group of its type
+abbrev pub own_in : List Group → Spelled → Option ℕ
+own_in gs r = if (r.class == 1) && list_any (is_proved r.owner r.rtype) gs then Some r.ttl else None
+
+abbrev pub ttls_in : List Group → List Spelled → List ℕ
+ttls_in gs rs = filter_map original_in gs ++ filter_map (own_in gs) rs
+
+-- a signature of a group that does not hold
+abbrev pub wait_in : ℕ → List ℕ → List Group → Spelled → Option ℕ
+wait_in now m gs r = elim (is_signature r && (r.class == 1)) [
+  | false ↦ None
+  | true ↦ elim (rrsig_at pointer_limit m r) [ None ↦ None | Some f ↦ if list_any (is_of r.owner f.0.covered) gs then idle_at now (times_of f.0) else None ]
+]
+
+abbrev pub seconds_in : ℕ → List ℕ → List Group → List Spelled → List ℕ
+seconds_in now m gs rs = map (held_for now) (filter_map times_by gs) ++ filter_map (wait_in now m gs) rs

@@ -1,0 +1,3 @@
+pub mod HonestTable
+pub mod TableAsks
+pub mod AsksGrow

@@ -1,0 +1,41 @@
+use Rattle.std.proofs.Common.{◌≡◌, ◌==◌, false, inr, length, ap, subst, sym, ◌∙◌, arith, rules}
+use Rattle.definitions.specs.Limits.{pointer_limit}
+use Rattle.answer_scheme.specs.Answers.{SignatureTest}
+use Rattle.answer_judge_facts.specs.Asked.{is_tried_signature}
+use Rattle.answer_judge_keys.specs.Judging.{answer_of, verifications_of}
+use Rattle.answer_judge_table.specs.Asking.{PassesEach, due_by, is_out_of_memory}
+use Rattle.answer_judge_table.specs.Table.{answers_with, may_pass_in, tried}
+use Rattle.answer_judge_table.proofs.TableAsks.{are_asked, counted, is_judged, none_each, some_asked}
+use Rattle.answer_judge_table.proofs.judging.judged.Goals as goal
+
+pub returns-then-is_empty : goal.returns-then-is_empty
+returns-then-is_empty g c =
+    let asks = c.in_ok-asks.asks.items in
+    let none : length asks ≡ 0 = search rules in
+    is_judged g.T.Told.table c.args.case.now c.judge-judged.result
+    (λ passes agrees.
+    let test : SignatureTest = λ key octets signature. passes (tried key octets signature) in
+    (c.judge-judged.ensures.agreeing test (c.in_ok-asks.ensures.kept, agrees, subst (λ xs. PassesEach xs test) c.in_ok-asks.ensures.asks (none_each asks test none))).1)
+    (λ passes agrees.
+    let test : SignatureTest = λ key octets signature. passes (tried key octets signature) in
+    c.judge-judged.ensures.lasts test (inr (c.in_ok-asks.ensures.kept, agrees, subst (λ xs. PassesEach xs test) c.in_ok-asks.ensures.asks (none_each asks test none))))
+
+pub returns : goal.returns
+returns g c =
+    let table = g.T.Told.table in
+    let h = c.args.case.now in
+    let e = c.judge-judged.ensures in
+    let asks = c.in_ok-asks.asks.items in
+    let is_tried : SignatureTest = is_tried_signature (answers_with (may_pass_in table)) pointer_limit h in
+    let each = e.asked is_tried (λ key octets signature t. t) (subst (λ xs. PassesEach xs is_tried) (sym c.new-checks.ensures.asks) tt) in
+    let enough : is_out_of_memory (answer_of c.judge-judged.result) ≡ false = sym c.ran_out.ensures ∙ c.if-ran_out.false in
+    let due = counted (answer_of c.judge-judged.result) (verifications_of c.judge-judged.result) (due_by (may_pass_in table) h) enough e.counts in
+    let some = some_asked (length asks) (sym (c.is_empty.ensures ∙ ap (λ n. n == 0) c.in_ok-asks.asks.ok.0) ∙ c.if-is_empty.false) in
+    are_asked table h c.judge-judged.result asks c.judge-judged.new.checks.verified some c.in_ok-asks.ensures.new c.in_ok-asks.ensures.counted
+    (omega (arith, e.verified, c.new-checks.ensures.verified, e.judges.verifications_bound))
+    (omega (arith, e.verified, c.new-checks.ensures.verified, due))
+    (subst (λ xs. PassesEach xs is_tried) (sym c.in_ok-asks.ensures.asks) each)
+    enough
+    (λ passes agrees all.
+    let test : SignatureTest = λ key octets signature. passes (tried key octets signature) in
+    (e.agreeing test (c.in_ok-asks.ensures.kept, agrees, subst (λ xs. PassesEach xs test) c.in_ok-asks.ensures.asks all)).1)

@@ -1,0 +1,74 @@
+//! Judging by a table.
+ghost use Rattle.std.specs.Prelude.{◌≡◌, ◌<◌, IfOk};
+ghost use Rattle.answer_judge_keys.specs.Judging.{answer_of};
+ghost use Rattle.answer_judge_table.specs.Asking.{is_out_of_memory};
+ghost use Rattle.answer_judge_table.specs.Outcomes.{IsOutcome};
+
+use crate::checked::CheckedSignature;
+use crate::outcome::Outcome;
+use crate::table_checks::{TableChecks, Told};
+use answer_judge::{Case, Judgement, Refusal, Refused};
+use std::alloc::{AllocError, Global};
+use std::marker::Brand;
+use std::sync::ledger::{Blank, Ledger};
+
+/// Judges by a table of signatures that were checked, as [`Case::judge`] does. Signatures that the table does not have are
+/// asked for, all that the judgement comes to where each of them passes: where the table has them too, and they pass, one
+/// judgement is made, whichever others pass.
+///
+/// A caller begins with no entry, checks what is asked for in any order, puts it into its table with what came of it, and calls
+/// again. What is said holds whichever other signatures pass. Entries of other judgements do no harm. An error says that memory
+/// was refused.
+///
+/// Whatever signatures pass beside those that pass in the table, of messages in which nothing is forged no verdict is said but
+/// that of a version of the zone, and none of an alias: of a zone in order (nothing beside a CNAME, nothing below a DNAME),
+/// whoever signs and serves it.
+pub fn judge_by_table(
+    alloc: Global,
+    case: &Case,
+    table: &[CheckedSignature],
+) -> Result<Outcome, AllocError>
+    ensures { IfOk result (λ o. IsOutcome table.now case.now o) }
+{
+    let (first, second) = (Blank::new(1), Blank::new(1));
+    judged::<Brand, Brand, Brand>(alloc, case, table, first, second)
+}
+
+/// What comes of a judgement by a table. Its calls are counted from 0 on.
+fn judged<T: Told, L: Ledger, M: Ledger>(
+    alloc: Global,
+    case: &Case,
+    table: &[CheckedSignature],
+    first: Blank,
+    second: Blank,
+) -> Result<Outcome, AllocError>
+    requires table { table.now ≡ T.table }
+    requires name { first.name ≡ L.name }
+    requires parts { first.parts ≡ L.parts }
+    requires some { 0 < L.parts }
+    requires second_name { second.name ≡ M.name }
+    requires second_parts { second.parts ≡ M.parts }
+    requires second_some { 0 < M.parts }
+    ensures { IfOk result (λ o. IsOutcome T.table case.now o) }
+{
+    let mut checks = TableChecks::<T, L, M>::new(alloc, table, first, second);
+    let judged = case.judge(alloc, &mut checks);
+    let asks = checks.into_asks()?;
+    if asks.is_empty() {
+        return Ok(Outcome::Judged(judged));
+    }
+    if ran_out(&judged) {
+        return Err(AllocError);
+    }
+    Ok(Outcome::Asks(asks))
+}
+
+/// Whether a judgement ended for want of memory: then more signatures may be due than it came to.
+fn ran_out(judged: &Result<Judgement, Refused>) -> bool
+    ensures { result ≡ is_out_of_memory (answer_of judged.now) }
+{
+    match judged {
+        Ok(_) => false,
+        Err(refused) => refused.refusal == Refusal::Memory,
+    }
+}

@@ -1,0 +1,13 @@
+//! Judging by a table of signatures that a caller has checked, for callers whose library of signatures a judge cannot call: where
+//! the table does not have signatures, they are asked for, all at once (RFC 4035, 5).
+#![tactic(auto)]
+
+pub mod checked;
+mod digests;
+pub mod judging;
+pub mod outcome;
+mod table_checks;
+
+pub use crate::checked::CheckedSignature;
+pub use crate::judging::judge_by_table;
+pub use crate::outcome::{Ask, Outcome};

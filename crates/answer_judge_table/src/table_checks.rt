@@ -1,0 +1,141 @@
+//! A table as the checks of a judge, which asks for what it lacks.
+ghost use Rattle.std.specs.Prelude.{◌≡◌, ◌<◌, ◌≤◌, [], true, length, IfOk, IsOk};
+ghost use Rattle.answer_judge_table.specs.Asking.{are_new};
+
+use crate::checked::{CheckedSignature, entry_of};
+use crate::digests::digest;
+use crate::outcome::{Ask, note};
+use answer_scheme::steps::Steps;
+use answer_scheme::{Checks, SchemeError};
+use denial_data::Dnskey;
+use denial_nsec3_hash::hasher::{HashError, Nsec3Hasher};
+use denial_nsec3_sha1::hasher::Sha1Hasher;
+use numbers::algorithm::DigestAlgorithm;
+use std::alloc::{AllocError, Global};
+use std::marker::{Brand, PhantomData};
+use std::sync::ledger::{Blank, Ledger};
+
+/// What a table says: a name for proofs alone.
+pub(crate) trait Told {
+    ghost use Rattle.std.specs.Prelude.{List};
+    ghost use Rattle.answer_judge_table.specs.Table.{Checked};
+
+    ghost table: { List Checked };
+}
+
+impl Told for Brand {
+    ghost use Rattle.std.specs.Prelude.{[]};
+
+    ghost table = { [] };
+}
+
+/// The checks of a judge that knows the signatures of a table, makes digests by SHA-2, and hashes names by SHA-1. A signature
+/// that the table does not have passes, and is kept: whatever agrees with the table and passes what was kept agrees with all
+/// that was answered.
+#[derive(Drop)]
+pub(crate) struct TableChecks<'t, 's, T: Told, L: Ledger, M: Ledger> {
+    alloc: Global,
+    table: &'t [CheckedSignature<'s>],
+    asks: Vec<Ask>,
+    /// Whether there was memory to keep all.
+    kept: Result<(), AllocError>,
+    verified: Steps<L>,
+    hashed: Steps<M>,
+    told: PhantomData<T>,
+    ghost is_table: { table.now ≡ T.table },
+    ghost are_new: { are_new T.table asks.items ≡ true },
+    ghost counted: { length asks.items ≤ verified },
+}
+
+impl<'t, 's, T: Told, L: Ledger, M: Ledger> TableChecks<'t, 's, T, L, M> {
+    /// The checks of a table, of which nothing was asked yet. The counts begin at 0.
+    pub(crate) fn new(
+        alloc: Global,
+        table: &'t [CheckedSignature<'s>],
+        first: Blank,
+        second: Blank,
+    ) -> Self
+        requires table { table.now ≡ T.table }
+        requires name { first.name ≡ L.name }
+        requires parts { first.parts ≡ L.parts }
+        requires some { 0 < L.parts }
+        requires second_name { second.name ≡ M.name }
+        requires second_parts { second.parts ≡ M.parts }
+        requires second_some { 0 < M.parts }
+        ensures asks { result.asks.items ≡ [] }
+        ensures verified { result.verified ≡ 0 }
+        ensures hashed { result.hashed ≡ 0 }
+    {
+        TableChecks {
+            alloc,
+            table,
+            asks: Vec::new(alloc),
+            kept: Ok(()),
+            verified: Steps::<L>::new(first),
+            hashed: Steps::<M>::new(second),
+            told: PhantomData,
+        }
+    }
+
+    /// What the table lacked, if there was memory to keep all.
+    pub(crate) fn into_asks(self) -> Result<Vec<Ask>, AllocError>
+        ensures new { IfOk result (λ v. are_new T.table v.items ≡ true) }
+        ensures counted { IfOk result (λ v. length v.items ≤ self.entry.verified) }
+        ensures asks { IfOk result (λ v. v.items ≡ self.entry.asks.items) }
+        ensures kept { IfOk result (λ _. IsOk self.entry.kept) }
+    {
+        let TableChecks { asks, kept, .. } = self;
+        kept?;
+        Ok(asks)
+    }
+}
+
+impl<'t, 's, T: Told, L: Ledger, M: Ledger> Checks for TableChecks<'t, 's, T, L, M> {
+    ghost use Rattle.answer_judge_table.specs.Asking.{AgreesAsking, PassesEach};
+    ghost use Rattle.answer_judge_table.specs.Table.{answers_with, may_pass_in};
+
+    ghost answers = { λ _. answers_with (may_pass_in T.table) };
+
+    ghost agrees = { λ c test. AgreesAsking T.table c.asks.items c.kept test };
+
+    ghost asked_only = { λ c test. PassesEach c.asks.items test };
+
+    ghost verified = { λ c. c.verified };
+
+    ghost hashed = { λ c. c.hashed };
+
+    fn verify(&mut self, key: &Dnskey<&[u8]>, octets: &[u8], signature: &[u8]) -> bool {
+        self.verified.tick();
+        if let Some(passes) = entry_of(self.table, key, octets, signature) {
+            return passes;
+        }
+        match note(self.alloc, &mut self.asks, key, octets, signature) {
+            Ok(()) => true,
+            Err(error) => {
+                self.kept = Err(error);
+                true
+            }
+        }
+    }
+
+    fn digest(
+        &self,
+        alloc: Global,
+        algorithm: DigestAlgorithm,
+        octets: &[u8],
+    ) -> Result<Vec<u8>, SchemeError> {
+        digest(alloc, algorithm, octets)
+    }
+
+    fn hash(
+        &mut self,
+        alloc: Global,
+        name: &[u8],
+        algorithm: u8,
+        iterations: u16,
+        salt: &[u8],
+    ) -> Result<Vec<u8>, HashError> {
+        self.hashed.tick();
+        Sha1Hasher.hash(alloc, name, algorithm, iterations, salt)
+    }
+}
