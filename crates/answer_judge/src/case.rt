@@ -44,5 +44,6 @@ impl<'a> Model for Case<'a> {
 
     ghost Value = { Handing };
 
-    ghost view = { λ c. handed_for c.apex.now c.ds.now c.dnskey.now c.answer.now (asked_of c.question.now) c.moment c.limit c.one_moment c.other_question };
+    ghost view = { λ c. handed_for c.apex.now c.ds.now c.dnskey.now c.answer.now
+        (asked_of c.question.now) c.moment c.limit c.one_moment c.other_question };
 }

@@ -105,7 +105,8 @@ impl<'a> Case<'a> {
         ensures honest { let a = C.answers checks.old in
             AnswersHonest a pointer_limit self.now (answer_of result) }
         ensures timely { RefusesUntimely pointer_limit self.now (answer_of result) }
-        ensures counts { let due = verifications_due (C.answers checks.old) pointer_limit self.now in
+        ensures counts { let a = C.answers checks.old in
+            let due = verifications_due a pointer_limit self.now in
             Counts (answer_of result) (verifications_of result) due }
         ensures hash_counts { let a = C.answers checks.old in
             Counts (answer_of result) (hashes_of result) (hashes_due a pointer_limit self.now) }
@@ -220,7 +221,8 @@ fn judge_messages<C: Checks>(
 
 /// How long something lasts that lasts for no more than some seconds.
 fn shortened(lasting: Lasting, seconds: u32) -> Lasting
-    ensures { let is : Lasting = record { ttl = lasting.ttl; seconds = min seconds lasting.seconds } in
+    ensures { let is : Lasting =
+        record { ttl = lasting.ttl; seconds = min seconds lasting.seconds } in
         result ≡ is }
 {
     Lasting {

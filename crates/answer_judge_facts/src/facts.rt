@@ -173,7 +173,7 @@ fn owned_data(alloc: Global, items: Vec<CowSlice<u8>>) -> Result<Vec<Vec<u8>>, A
 }
 
 /// The records of chains, NSEC and NSEC3, by type and by owner in canonical order.
-fn sorted_chain<'a>(
+pub fn sorted_chain<'a>(
     alloc: Global,
     records: &[ViewRecord<'a>],
 ) -> Result<Vec<ViewRecord<'a>>, AllocError>
@@ -216,7 +216,7 @@ fn chain_cmp(a: &ViewRecord, b: &ViewRecord) -> Ordering
 }
 
 /// The RRsets of one record of a chain, each where its chain's records stand, of records that are in order.
-fn read_chain_groups<'r>(
+pub fn read_chain_groups<'r>(
     alloc: Global,
     apex: &Name<Vec<u8>>,
     message: &'r [u8],

@@ -171,7 +171,8 @@ fn holds(span: Span, moment: u32) -> bool
 /// For how many seconds more a signature does not hold that does not hold at a moment.
 fn idle_for(span: Span, moment: u32) -> u32
     requires { (serial_le span.inception moment && serial_le moment span.expiration) ≡ false }
-    ensures { let times : Times = record { inception = span.inception; expiration = span.expiration } in
+    ensures { let times : Times =
+        record { inception = span.inception; expiration = span.expiration } in
         result ≡ idle_for moment times }
 {
     let inception = Timestamp::from(span.inception);

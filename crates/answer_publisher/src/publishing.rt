@@ -188,7 +188,8 @@ impl<'a, S: Scheme, H: Nsec3Hasher> Publisher<'a, S, H> {
         ensures given { let w = world_of S.signature_of S.verifies S.digest_of H.hash_of self.old in
             let asked = asked_of question.now in
             IfOk result (λ m. SpellsAnswer w self.old.keys now.now asked m.items) }
-        ensures hashed { let w = world_of S.signature_of S.verifies S.digest_of H.hash_of self.old in
+        ensures hashed { let s = self.old in
+            let w = world_of S.signature_of S.verifies S.digest_of H.hash_of s in
             OnOk result (HashesNames w (asked_of question.now)) }
         ensures noted { let latest = noted self.old.latest now.now in
             OnOk result (self.new ≡ record self.old { latest = latest }) }
@@ -213,7 +214,8 @@ impl<'a, S: Scheme, H: Nsec3Hasher> Publisher<'a, S, H> {
         ensures given { let w = world_of S.signature_of S.verifies S.digest_of H.hash_of self.now in
             let asked = asked_of question.now in
             IfOk result (λ m. SpellsAnswer w self.now.keys now.now asked m.items) }
-        ensures hashed { let w = world_of S.signature_of S.verifies S.digest_of H.hash_of self.now in
+        ensures hashed { let s = self.now in
+            let w = world_of S.signature_of S.verifies S.digest_of H.hash_of s in
             OnOk result (HashesNames w (asked_of question.now)) }
     {
         self.zone.keeps();

@@ -90,7 +90,8 @@ pub fn hash_chain_of<H: Nsec3Hasher>(
     requires class { IsOneClass records.now }
     ensures links { let mode = mode_by parameters.now in
         let hash = hash_in (H.hash_of hasher.now) mode in
-        IfOk result (λ v. v.items ≡ hashed_links_of hash mode apex.now (map handed_of records.now)) }
+        let rs = map handed_of records.now in
+        IfOk result (λ v. v.items ≡ hashed_links_of hash mode apex.now rs) }
     ensures made { let hash = H.hash_of hasher.now in
         IfOk result (λ _. IsMade hash apex.now (mode_by parameters.now) records.now) }
     ensures refused { let hash = H.hash_of hasher.now in
@@ -224,7 +225,8 @@ fn hash_places(
 fn place_around(chain: &[HashedLink], hash: &[u8]) -> Option<usize>
     requires { IsCircle chain.now }
     ensures within { IfSome result (λ k. k < length chain.now) }
-    ensures place { AreAt (λ l. hashed_link_at_or_around l hash.now) chain.now (option_to_list result) }
+    ensures place { let found = option_to_list result in
+        AreAt (λ l. hashed_link_at_or_around l hash.now) chain.now found }
 {
     let count = count_up_to(chain, hash);
     let behind = if count > 0 { count } else { chain.len() };

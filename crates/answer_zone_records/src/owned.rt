@@ -127,7 +127,8 @@ impl<'a> Owned<'a> {
 
     /// The records as a delegation, if an NS record is among them; else they are handed back.
     pub fn into_delegation(self) -> Result<Cut<'a>, Owned<'a>>
-        ensures cut { IfOk result (λ c. (c.owned ≡ self.entry) × (list_any (is_of_type 2) self.entry ≡ true)
+        ensures cut { IfOk result (λ c. (c.owned ≡ self.entry)
+            × (list_any (is_of_type 2) self.entry ≡ true)
             × (Some c.name.now ≡ option_map (λ r. r.owner) (slice_get self.entry 0))) }
         ensures back { IfErr result (λ o. (o ≡ self.entry)
             × (list_any (is_of_type 2) self.entry ≡ false)) }
@@ -146,7 +147,8 @@ impl<'a> Owned<'a> {
 
     /// The RRset of a type; each record keeps the spelling of its owner or goes without.
     pub fn rrset(&self, alloc: Global, rtype: Rtype, own: bool) -> Result<RrsetData, AllocError>
-        ensures { IfOk result (λ d. (q : List (List ℕ)) → AllByRecursion (λ r. same r.owner q ≡ true) self.now
+        ensures { IfOk result (λ d. (q : List (List ℕ))
+            → AllByRecursion (λ r. same r.owner q ≡ true) self.now
             → HoldsRrset own q rtype self.now d.records.items d.canonical.items) }
     {
         match &self.records {

@@ -72,7 +72,8 @@ pub fn the_record_of_a_dname_is_honest()
 /// So are records of two versions that were signed in one second, the second for longer: a judge that compares inceptions alone
 /// calls a name missing that both versions have.
 pub fn versions_that_begin_at_once_are_honest()
-    ensures { IsHonestCase plain begun_at_once (first_version ∷ second_version ∷ []) (Refuses MixedVersions) }
+    ensures { let versions = first_version ∷ second_version ∷ [] in
+        IsHonestCase plain begun_at_once versions (Refuses MixedVersions) }
 {}
 
 /// Beside an empty DS set nothing is verified, so each zone would be called unsigned (RFC 4035, 5.2).

@@ -1,6 +1,7 @@
 //! RRSIG data without the signature, over which the signature is made (RFC 4034, 3.1.8.1).
 
 ghost use Rattle.std.specs.Prelude.{◌≡◌, ◌↔◌, ◌++◌, ◌≤◌, length, take, Some, IsOk, IfOk, OnOk, OnErr};
+ghost use Rattle.names_wire.specs.Room.{LeavesRoom};
 ghost use Rattle.denial_data.specs.Protos.{numbers_with, numbers_octets, proto_octets, proto_canonical};
 ghost use Rattle.denial_data.specs.RrsigData.{rrsig_with, rrsig_len};
 
@@ -215,6 +216,10 @@ impl<N: ToName> ProtoRrsig<N> {
         ensures ok { let octets = proto_octets N.name self.now in
             OnOk result (B.bytes target.new ≡ B.bytes target.old ++ octets) }
         ensures err { OnErr result (B.bytes target.new ≡ B.bytes target.old) }
+        ensures full { let n = length (proto_octets N.name self.now) in
+            OnErr result (B.lacks_room target.old n) }
+        ensures left { let n = length (proto_octets N.name self.now) in
+            OnOk result (LeavesRoom B.lacks_room target.old target.new n) }
     {
         let len = target.as_slice().len();
         let done = compose_fields(self, target);
@@ -227,6 +232,10 @@ impl<N: ToName> ProtoRrsig<N> {
         ensures ok { let octets = proto_canonical N.name self.now in
             OnOk result (B.bytes target.new ≡ B.bytes target.old ++ octets) }
         ensures err { OnErr result (B.bytes target.new ≡ B.bytes target.old) }
+        ensures full { let n = length (proto_canonical N.name self.now) in
+            OnErr result (B.lacks_room target.old n) }
+        ensures left { let n = length (proto_canonical N.name self.now) in
+            OnOk result (LeavesRoom B.lacks_room target.old target.new n) }
     {
         let len = target.as_slice().len();
         let done = compose_canonical_fields(self, target);
@@ -243,6 +252,9 @@ pub(crate) fn compose_fields<N: ToName, B: Composer>(
         OnOk result (B.bytes target.new ≡ B.bytes target.old ++ octets) }
     ensures err { let old = B.bytes target.old in
         OnErr result (take (length old) (B.bytes target.new) ≡ old) }
+    ensures full { OnErr result (B.lacks_room target.old (length (proto_octets N.name proto.now))) }
+    ensures left { let n = length (proto_octets N.name proto.now) in
+        OnOk result (LeavesRoom B.lacks_room target.old target.new n) }
 {
     target.append_slice(&proto.numbers.octets())?;
     compose_name(&proto.signer_name, target)
@@ -257,6 +269,10 @@ pub(crate) fn compose_canonical_fields<N: ToName, B: Composer>(
         OnOk result (B.bytes target.new ≡ B.bytes target.old ++ octets) }
     ensures err { let old = B.bytes target.old in
         OnErr result (take (length old) (B.bytes target.new) ≡ old) }
+    ensures full { let n = length (proto_canonical N.name proto.now) in
+        OnErr result (B.lacks_room target.old n) }
+    ensures left { let n = length (proto_canonical N.name proto.now) in
+        OnOk result (LeavesRoom B.lacks_room target.old target.new n) }
 {
     target.append_slice(&proto.numbers.octets())?;
     compose_canonical_name(&proto.signer_name, target)

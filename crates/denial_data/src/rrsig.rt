@@ -4,6 +4,7 @@ ghost use Rattle.std.specs.Prelude.{◌≡◌, ◌↔◌, ◌+◌, ◌≤◌, �
 ghost use Rattle.std.specs.Ordering.{nat_cmp};
 ghost use Rattle.std.specs.Cmp.Lexicographic.{slice_cmp};
 ghost use Rattle.definitions.specs.Name.{IsName, wire};
+ghost use Rattle.names_wire.specs.Room.{LeavesRoom};
 ghost use Rattle.names_parsed.specs.Parsed.{parsed_name};
 ghost use Rattle.names_rdata.specs.Reading.{ReadsData, ReadsPart, data_at};
 ghost use Rattle.denial_data.specs.EqualData.{NumbersFit};
@@ -338,6 +339,9 @@ fn compose_signed<Octs: Octets, N: ToName, B: Composer>(
         OnOk result (B.bytes target.new ≡ B.bytes target.old ++ octets) }
     ensures err { let old = B.bytes target.old in
         OnErr result (take (length old) (B.bytes target.new) ≡ old) }
+    ensures full { OnErr result (B.lacks_room target.old (length (rrsig_octets N.name rrsig.now))) }
+    ensures left { let n = length (rrsig_octets N.name rrsig.now) in
+        OnOk result (LeavesRoom B.lacks_room target.old target.new n) }
 {
     compose_fields(&rrsig.proto, target)?;
     target.append_slice(rrsig.signature.as_slice())
@@ -352,6 +356,10 @@ fn compose_canonical_signed<Octs: Octets, N: ToName, B: Composer>(
         OnOk result (B.bytes target.new ≡ B.bytes target.old ++ octets) }
     ensures err { let old = B.bytes target.old in
         OnErr result (take (length old) (B.bytes target.new) ≡ old) }
+    ensures full { let n = length (rrsig_canonical N.name rrsig.now) in
+        OnErr result (B.lacks_room target.old n) }
+    ensures left { let n = length (rrsig_canonical N.name rrsig.now) in
+        OnOk result (LeavesRoom B.lacks_room target.old target.new n) }
 {
     compose_canonical_fields(&rrsig.proto, target)?;
     target.append_slice(rrsig.signature.as_slice())

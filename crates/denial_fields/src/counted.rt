@@ -1,6 +1,7 @@
 //! Octets behind their number in one octet, as salts and hashes stand in record data (RFC 5155, 3.2).
 
 ghost use Rattle.std.specs.Prelude.{◌≡◌, ◌≤◌, ◌++◌, length, take, IfOk, OnOk, OnErr};
+ghost use Rattle.names_wire.specs.Room.{LeavesRoom};
 ghost use Rattle.names_rdata.specs.Reading.{ReadsPart};
 ghost use Rattle.denial_fields.specs.Counted.{counted, counted_part};
 
@@ -32,6 +33,9 @@ pub fn compose_counted<B: OctetsBuilder>(octets: &[u8], target: &mut B) -> Resul
     requires { length octets.now ≤ 255 }
     ensures ok { OnOk result (B.bytes target.new ≡ B.bytes target.old ++ counted octets.now) }
     ensures err { OnErr result (B.bytes target.new ≡ B.bytes target.old) }
+    ensures full { OnErr result (B.lacks_room target.old (length (counted octets.now))) }
+    ensures left { let n = length (counted octets.now) in
+        OnOk result (LeavesRoom B.lacks_room target.old target.new n) }
 {
     let len = target.as_slice().len();
     let done = append_counted(octets, target);
@@ -44,6 +48,9 @@ fn append_counted<B: OctetsBuilder>(octets: &[u8], target: &mut B) -> Result<(),
     ensures ok { OnOk result (B.bytes target.new ≡ B.bytes target.old ++ counted octets.now) }
     ensures err { let old = B.bytes target.old in
         OnErr result (take (length old) (B.bytes target.new) ≡ old) }
+    ensures full { OnErr result (B.lacks_room target.old (length (counted octets.now))) }
+    ensures left { let n = length (counted octets.now) in
+        OnOk result (LeavesRoom B.lacks_room target.old target.new n) }
 {
     target.append_slice(&[octets.len() as u8])?;
     target.append_slice(octets)

@@ -4,6 +4,7 @@ ghost use Rattle.std.specs.Prelude.{◌≡◌, ◌++◌, length, take, OnOk, OnE
 ghost use Rattle.std.specs.Int.{w16, w32, to_be_bytes};
 ghost use Rattle.std.specs.Ordering.{nat_cmp};
 ghost use Rattle.std.specs.Cmp.Lexicographic.{slice_cmp};
+ghost use Rattle.names_wire.specs.Room.{LeavesRoom};
 ghost use Rattle.names_rdata.specs.Reading.{ReadsPart, ReadsData, data_at};
 ghost use Rattle.denial_fields.specs.Ended.{ended_part};
 
@@ -43,6 +44,9 @@ pub fn compose_ended<B: OctetsBuilder>(
 ) -> Result<(), ShortBuf>
     ensures ok { OnOk result (B.bytes target.new ≡ B.bytes target.old ++ (head.now ++ rest.now)) }
     ensures err { OnErr result (B.bytes target.new ≡ B.bytes target.old) }
+    ensures full { OnErr result (B.lacks_room target.old (length (head.now ++ rest.now))) }
+    ensures left { let n = length (head.now ++ rest.now) in
+        OnOk result (LeavesRoom B.lacks_room target.old target.new n) }
 {
     let len = target.as_slice().len();
     let done = append_both(head, rest, target);
@@ -54,6 +58,9 @@ fn append_both<B: OctetsBuilder>(head: &[u8], rest: &[u8], target: &mut B) -> Re
     ensures ok { OnOk result (B.bytes target.new ≡ B.bytes target.old ++ (head.now ++ rest.now)) }
     ensures err { let old = B.bytes target.old in
         OnErr result (take (length old) (B.bytes target.new) ≡ old) }
+    ensures full { OnErr result (B.lacks_room target.old (length (head.now ++ rest.now))) }
+    ensures left { let n = length (head.now ++ rest.now) in
+        OnOk result (LeavesRoom B.lacks_room target.old target.new n) }
 {
     target.append_slice(head)?;
     target.append_slice(rest)

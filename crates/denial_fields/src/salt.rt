@@ -3,6 +3,7 @@
 ghost use Rattle.std.specs.Prelude.{◌≡◌, ◌↔◌, ◌≤◌, ◌++◌, [], length, Some, IsOk, IfOk, IfErr, OnOk, OnErr};
 ghost use Rattle.std.specs.Ordering.{nat_cmp};
 ghost use Rattle.std.specs.Cmp.Lexicographic.{slice_cmp};
+ghost use Rattle.names_wire.specs.Room.{LeavesRoom};
 ghost use Rattle.names_rdata.specs.Reading.{ReadsPart};
 ghost use Rattle.denial_fields.specs.Counted.{counted, counted_part};
 ghost use Rattle.denial_fields.specs.Texts.{salt_text, ReadsSalt};
@@ -77,6 +78,9 @@ impl<Octs: Octets> Nsec3Salt<Octs> {
     pub fn compose<B: OctetsBuilder>(&self, target: &mut B) -> Result<(), ShortBuf>
         ensures ok { OnOk result (B.bytes target.new ≡ B.bytes target.old ++ counted self.now) }
         ensures err { OnErr result (B.bytes target.new ≡ B.bytes target.old) }
+        ensures full { OnErr result (B.lacks_room target.old (length (counted self.now))) }
+        ensures left { let n = length (counted self.now) in
+            OnOk result (LeavesRoom B.lacks_room target.old target.new n) }
     {
         compose_counted(self.as_slice(), target)
     }

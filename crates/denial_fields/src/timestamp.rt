@@ -1,10 +1,11 @@
 //! Times of signatures (RFC 4034, 3.1.5).
 
 ghost use Rattle.std.specs.Fmt.{decimal};
-ghost use Rattle.std.specs.Prelude.{◌≡◌, ◌≤◌, ◌^◌, ◌++◌, ℕ, Some, IfSome, IsNone, OnOk, OnErr};
+ghost use Rattle.std.specs.Prelude.{◌≡◌, ◌≤◌, ◌^◌, ◌++◌, ℕ, Some, IfSome, IsNone, OnOk, OnErr, length};
 ghost use Rattle.std.specs.Int.{w32, from_be_bytes, to_be_bytes};
 ghost use Rattle.std.specs.Ordering.{nat_cmp};
 ghost use Rattle.definitions.specs.Serial.{serial_le};
+ghost use Rattle.names_wire.specs.Room.{LeavesRoom};
 ghost use Rattle.names_parser.specs.Reader.{Takes};
 ghost use Rattle.names_parser.specs.Serials.{serial_cmp};
 ghost use Rattle.denial_fields.specs.Times.{IsTimeNear};
@@ -93,6 +94,8 @@ impl Timestamp {
         ensures ok { let octets = to_be_bytes w32 self.now in
             OnOk result (B.bytes target.new ≡ B.bytes target.old ++ octets) }
         ensures err { OnErr result (B.bytes target.new ≡ B.bytes target.old) }
+        ensures full { OnErr result (B.lacks_room target.old 4) }
+        ensures left { OnOk result (LeavesRoom B.lacks_room target.old target.new 4) }
     {
         Serial(self.seconds).compose(target)
     }

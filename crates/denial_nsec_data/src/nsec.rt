@@ -4,6 +4,7 @@ ghost use Rattle.std.specs.Prelude.{◌≡◌, ◌↔◌, ◌+◌, ◌≤◌, �
 ghost use Rattle.std.specs.Ordering.{nat_cmp};
 ghost use Rattle.std.specs.Cmp.Lexicographic.{slice_cmp};
 ghost use Rattle.definitions.specs.Name.{wire};
+ghost use Rattle.names_wire.specs.Room.{LeavesRoom};
 ghost use Rattle.names_parsed.specs.Parsed.{parsed_name};
 ghost use Rattle.names_rdata.specs.Reading.{ReadsData, ReadsPart, data_at};
 ghost use Rattle.denial_nsec_data.specs.Nsec.{nsec_part};
@@ -166,6 +167,9 @@ fn compose_fields<Octs: Octets, N: ToName, B: Composer>(
         OnOk result (B.bytes target.new ≡ B.bytes target.old ++ octets) }
     ensures err { let old = B.bytes target.old in
         OnErr result (take (length old) (B.bytes target.new) ≡ old) }
+    ensures full { OnErr result (B.lacks_room target.old (length (nsec_octets N.name nsec.now))) }
+    ensures left { let n = length (nsec_octets N.name nsec.now) in
+        OnOk result (LeavesRoom B.lacks_room target.old target.new n) }
 {
     compose_name(&nsec.next_name, target)?;
     target.append_slice(nsec.types.as_slice())

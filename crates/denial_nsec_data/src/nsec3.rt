@@ -3,6 +3,7 @@
 ghost use Rattle.std.specs.Prelude.{◌≡◌, ◌↔◌, ◌+◌, ◌≤◌, ◌++◌, ◌%◌, ◌==◌, false, length, refl, IsOk, IfOk, IsTrue, OnOk, OnErr, take};
 ghost use Rattle.std.specs.Ordering.{nat_cmp};
 ghost use Rattle.std.specs.Cmp.Lexicographic.{slice_cmp};
+ghost use Rattle.names_wire.specs.Room.{LeavesRoom};
 ghost use Rattle.names_rdata.specs.Reading.{ReadsData, ReadsPart, data_at};
 ghost use Rattle.denial_fields.specs.Counted.{counted, counted_part};
 ghost use Rattle.denial_nsec_data.specs.Hashed.{nsec3_with, nsec3_octets, nsec3_part, tail_part};
@@ -258,6 +259,9 @@ fn compose_fields<Octs: Octets, B: Composer>(
         OnOk result (B.bytes target.new ≡ B.bytes target.old ++ octets) }
     ensures err { let old = B.bytes target.old in
         OnErr result (take (length old) (B.bytes target.new) ≡ old) }
+    ensures full { OnErr result (B.lacks_room target.old (length (nsec3_octets nsec3.now))) }
+    ensures left { let n = length (nsec3_octets nsec3.now) in
+        OnOk result (LeavesRoom B.lacks_room target.old target.new n) }
 {
     compose_params(&nsec3.params, target)?;
     nsec3.next_owner.compose(target)?;

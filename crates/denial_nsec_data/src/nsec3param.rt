@@ -3,6 +3,7 @@
 ghost use Rattle.std.specs.Prelude.{◌≡◌, ◌+◌, ◌≤◌, ◌++◌, ◌%◌, ◌==◌, false, length, refl, Some, OnOk, OnErr, take};
 ghost use Rattle.std.specs.Ordering.{nat_cmp};
 ghost use Rattle.std.specs.Cmp.Lexicographic.{slice_cmp};
+ghost use Rattle.names_wire.specs.Room.{LeavesRoom};
 ghost use Rattle.names_rdata.specs.Reading.{ReadsData, ReadsPart, data_at};
 ghost use Rattle.denial_nsec_data.specs.Hashed.{nsec3param_with, nsec3param_head, nsec3param_octets, nsec3param_part, nsec3param_text, with_opt_out};
 
@@ -184,6 +185,9 @@ pub(crate) fn compose_params<Octs: Octets, B: Composer>(
         OnOk result (B.bytes target.new ≡ B.bytes target.old ++ octets) }
     ensures err { let old = B.bytes target.old in
         OnErr result (take (length old) (B.bytes target.new) ≡ old) }
+    ensures full { OnErr result (B.lacks_room target.old (length (nsec3param_octets params.now))) }
+    ensures left { let n = length (nsec3param_octets params.now) in
+        OnOk result (LeavesRoom B.lacks_room target.old target.new n) }
 {
     target.append_slice(&params.head())?;
     params.salt.compose(target)

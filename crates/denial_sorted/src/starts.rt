@@ -96,7 +96,8 @@ pub(crate) fn move_behind(starts: &mut Vec<usize>, at: usize, place: usize, kin:
     requires within { at ≤ length starts.old.items }
     requires some { kin ≡ Kin.Behind → at < length starts.old.items }
     requires few { AllByRecursion (λ s. s < usize.MAX) starts.old.items }
-    ensures { starts.new.items ≡ moved kin place (take at starts.old.items) (drop at starts.old.items) }
+    ensures { let old = starts.old.items in
+        starts.new.items ≡ moved kin place (take at old) (drop at old) }
 {
     raise_from(starts, at);
     match kin {

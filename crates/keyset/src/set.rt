@@ -1,12 +1,12 @@
 //! The key set.
-ghost use Rattle.std.specs.Prelude.{◌≡◌, ◌∷◌, ◌++◌, ℕ, List, Bool, [], Some, string_bytes, option_copied, map, MatchResult, IfOk, OnOk, OnErr};
+ghost use Rattle.std.specs.Prelude.{◌≡◌, ◌∷◌, ◌++◌, ℕ, List, Bool, [], Some, string_bytes, option_copied, map, MatchResult, IfOk, IfErr, OnOk, OnErr};
 ghost use Rattle.keyset_keys.specs.declared.keys.KeyType.TheVariants.{Ksk, Zsk, Csk, Include};
 ghost use Rattle.keyset_keys.specs.declared.errors.Error.TheVariants.{Memory};
 ghost use Rattle.keyset_rolls.specs.Actions.{actions_in};
-ghost use Rattle.keyset.specs.KeyState.{KeySetState, by_reference, by_kind, key_of, phase_of, asks_in, asks_parent, add, done, entered, first_fault, first_new_fault, has_tag, new_fault, old_fault, report1, report2, start, start_fault, algorithms_fault, wait1, wait2, wait_fault, new_key, text_of, clear, is_available, write, decoupled_to, present_to, signer_to, at_parent_to, seen_at, ds_seen_at, rrsig_seen_at, stale_now, delete, Reference, algorithms_within, algorithm_is_within, same_algorithms};
+ghost use Rattle.keyset.specs.KeyState.{KeySetState, by_reference, by_kind, key_of, phase_of, asks_in, asks_parent, add, done, entered, on_keys, first_fault, first_new_fault, has_tag, new_fault, old_fault, report1, report2, start, start_fault, algorithms_fault, wait1, wait2, wait_fault, new_key, text_of, clear, is_available, write, decoupled_to, present_to, signer_to, at_parent_to, seen_at, ds_seen_at, rrsig_seen_at, stale_now, delete, Reference, algorithms_within, algorithm_is_within, same_algorithms};
 ghost use Rattle.keyset.specs.KeyAnswers.{Acts, Adds, Finds, GivesAtOnce, Lists, Writes};
 ghost use Rattle.keyset.specs.Listing.{AreAlgorithmsOf, listed_by};
-ghost use Rattle.keyset.specs.KeySteps.{new_csk, new_ksk, new_other, new_zsk, set_to};
+ghost use Rattle.keyset.specs.KeySteps.{new_csk, new_ksk, new_other, new_zsk, set_to, stepped};
 
 use crate::listing::Listing;
 use crate::maps::{
@@ -325,9 +325,7 @@ impl KeySet {
         let Some(RollState::Propagation1) = self.phase(rolltype) else {
             return Err(Error::WrongStateForRollOperation);
         };
-        let actions = self.enter(rolltype, RollState::CacheExpire1(ttl))?;
-        step_keys(&mut self.keys, rolltype, Step::Report1, now);
-        Ok(actions)
+        self.go_on(rolltype, RollState::CacheExpire1(ttl), Step::Report1, now)
     }
 
     /// Ends a roll's first wait, once what was served before the first report has expired.
@@ -342,9 +340,7 @@ impl KeySet {
             return Err(Error::WrongStateForRollOperation);
         };
         self.check_wait(rolltype, Turn::First, ttl, now)?;
-        let actions = self.enter(rolltype, RollState::Propagation2)?;
-        step_keys(&mut self.keys, rolltype, Step::Wait1, now);
-        Ok(actions)
+        self.go_on(rolltype, RollState::Propagation2, Step::Wait1, now)
     }
 
     /// Reports that a roll's second changes are on all servers; `ttl` is the greatest TTL of what they replaced.
@@ -359,9 +355,7 @@ impl KeySet {
         let Some(RollState::Propagation2) = self.phase(rolltype) else {
             return Err(Error::WrongStateForRollOperation);
         };
-        let actions = self.enter(rolltype, RollState::CacheExpire2(ttl))?;
-        step_keys(&mut self.keys, rolltype, Step::Report2, now);
-        Ok(actions)
+        self.go_on(rolltype, RollState::CacheExpire2(ttl), Step::Report2, now)
     }
 
     /// Ends a roll's second wait, once what was served before the second report has expired.
@@ -376,9 +370,7 @@ impl KeySet {
             return Err(Error::WrongStateForRollOperation);
         };
         self.check_wait(rolltype, Turn::Second, ttl, now)?;
-        let actions = self.enter(rolltype, RollState::Done)?;
-        step_keys(&mut self.keys, rolltype, Step::Wait2, now);
-        Ok(actions)
+        self.go_on(rolltype, RollState::Done, Step::Wait2, now)
     }
 
     /// Ends a roll whose last actions are done.
@@ -424,6 +416,25 @@ impl KeySet {
     {
         let actions = rolltype.actions_in(self.alloc, Some(state))?;
         put_phase(&mut self.rollstates, rolltype, state)?;
+        Ok(actions)
+    }
+
+    /// Puts a roll into its next phase, and its keys through the step that leads there.
+    fn go_on(
+        &mut self,
+        rolltype: RollType,
+        state: RollState,
+        step: Step,
+        now: &UnixTime,
+    ) -> Result<Vec<Action>, Error>
+        ensures ok { IfOk result (λ v. v.items ≡ actions_in rolltype (Some state)) }
+        ensures moved { let keys = on_keys rolltype (stepped step rolltype now.now) self.old.keys in
+            OnOk result (self.new ≡ entered rolltype state keys self.old) }
+        ensures err { OnErr result (self.new ≡ self.old) }
+        ensures lacks { IfErr result (λ e. e ≡ Memory) }
+    {
+        let actions = self.enter(rolltype, state)?;
+        step_keys(&mut self.keys, rolltype, step, now);
         Ok(actions)
     }
 

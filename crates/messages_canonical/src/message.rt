@@ -117,7 +117,8 @@ fn push_record(
     octets: &mut Vec<u8>,
 ) -> Result<bool, AllocError>
     requires { StandsAt bytes.now at (spelled view.now) }
-    ensures { let more = record_octets (canonical_record pointer_limit bytes.now (spelled view.now)) in
+    ensures { let made = canonical_record pointer_limit bytes.now (spelled view.now) in
+        let more = record_octets made in
         IfOk result (λ b. Writes b octets.old.items octets.new.items more) }
 {
     if !record_stands(bytes, view) && put_data(bytes, view, rdata)? {

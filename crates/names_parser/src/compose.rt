@@ -3,6 +3,7 @@
 ghost use Rattle.std.specs.Prelude.{◌≡◌, ◌++◌, ◌∷◌, [], ℕ, List, length, OnOk, OnErr};
 ghost use Rattle.std.specs.Int.{w8, w16, w32, w64, to_be_bytes, cast_unsigned};
 ghost use Rattle.std.specs.Net.Addr.{ipv4_octets, ipv6_octets};
+ghost use Rattle.names_wire.specs.Room.{LeavesRoom};
 
 use names_wire::builder::{OctetsBuilder, ShortBuf};
 use std::net::{Ipv4Addr, Ipv6Addr};
@@ -16,7 +17,9 @@ pub trait Compose {
     fn compose<B: OctetsBuilder>(&self, target: &mut B) -> Result<(), ShortBuf>
         ensures ok { OnOk result (B.bytes target.new ≡ B.bytes target.old ++ composed self.now) }
         ensures err { OnErr result (B.bytes target.new ≡ B.bytes target.old) }
-        ensures full { OnErr result (B.lacks_room target.old (length (composed self.now))) };
+        ensures full { OnErr result (B.lacks_room target.old (length (composed self.now))) }
+        ensures left { let n = length (composed self.now) in
+            OnOk result (LeavesRoom B.lacks_room target.old target.new n) };
 }
 
 impl Compose for u8 {

@@ -5,6 +5,7 @@ ghost use Rattle.std.specs.Prelude.{◌≡◌, Some, ◌≤◌, ◌++◌, length
 ghost use Rattle.std.specs.Int.{w32, from_be_bytes, to_be_bytes};
 ghost use Rattle.std.specs.Ordering.{nat_cmp};
 ghost use Rattle.definitions.specs.Serial.{serial_le};
+ghost use Rattle.names_wire.specs.Room.{LeavesRoom};
 ghost use Rattle.names_parser.specs.Reader.{Takes};
 ghost use Rattle.names_parser.specs.Serials.{serial_add, serial_cmp};
 
@@ -88,6 +89,7 @@ impl Serial {
             OnOk result (B.bytes target.new ≡ B.bytes target.old ++ octets) }
         ensures err { OnErr result (B.bytes target.new ≡ B.bytes target.old) }
         ensures full { OnErr result (B.lacks_room target.old 4) }
+        ensures left { OnOk result (LeavesRoom B.lacks_room target.old target.new 4) }
     {
         self.0.compose(target)
     }

@@ -5,3 +5,4 @@ pub mod PartCalls
 pub mod WrittenNames
 pub mod WrittenParts
 pub mod WireOrder
+pub mod Room

@@ -1,9 +1,10 @@
 //! Targets that messages are written to, and names written there (RFC 1035, 3.1).
 
-ghost use Rattle.std.specs.Prelude.{◌≡◌, ◌++◌, false, take, map, OnOk, OnErr};
+ghost use Rattle.std.specs.Prelude.{◌≡◌, ◌++◌, false, length, take, map, OnOk, OnErr};
 ghost use Rattle.std.specs.Str.{str_to_ascii_lowercase};
 ghost use Rattle.definitions.specs.Name.{low, wire};
 ghost use Rattle.names_wire.specs.Label.{octets_of, wire_label};
+ghost use Rattle.names_wire.specs.Room.{LeavesRoom};
 ghost use Rattle.names_labels.specs.Flat.{spelled};
 ghost use Rattle.names_labels.specs.Order.{in_case};
 
@@ -27,6 +28,9 @@ pub trait Composer: OctetsBuilder {
         ensures ok { let octets = wire (N.name name.now) in
             OnOk result (Self.bytes self.new ≡ Self.bytes self.old ++ octets) }
         ensures err { OnErr result (Self.bytes self.new ≡ Self.bytes self.old) }
+        ensures full { OnErr result (Self.lacks_room self.old (length (wire (N.name name.now)))) }
+        ensures left { let n = length (wire (N.name name.now)) in
+            OnOk result (LeavesRoom Self.lacks_room self.old self.new n) }
     {
         compose_name(name, self)
     }
@@ -42,6 +46,9 @@ impl<B: Composer> Composer for &mut B {}
 pub fn compose_name<N: Absolute, B: OctetsBuilder>(name: &N, target: &mut B) -> Result<(), ShortBuf>
     ensures ok { OnOk result (B.bytes target.new ≡ B.bytes target.old ++ wire (N.name name.now)) }
     ensures err { OnErr result (B.bytes target.new ≡ B.bytes target.old) }
+    ensures full { OnErr result (B.lacks_room target.old (length (wire (N.name name.now)))) }
+    ensures left { let n = length (wire (N.name name.now)) in
+        OnOk result (LeavesRoom B.lacks_room target.old target.new n) }
 {
     match name.label_row() {
         Some(row) => target.append_slice(row),
@@ -57,6 +64,10 @@ pub fn compose_canonical_name<N: Absolute, B: OctetsBuilder>(
     ensures ok { let octets = wire (low (N.name name.now)) in
         OnOk result (B.bytes target.new ≡ B.bytes target.old ++ octets) }
     ensures err { OnErr result (B.bytes target.new ≡ B.bytes target.old) }
+    ensures full { let n = length (wire (low (N.name name.now))) in
+        OnErr result (B.lacks_room target.old n) }
+    ensures left { let n = length (wire (low (N.name name.now))) in
+        OnOk result (LeavesRoom B.lacks_room target.old target.new n) }
 {
     match name.label_row() {
         Some(row) => append_lowered(row, target),
@@ -69,6 +80,9 @@ fn append_lowered<B: OctetsBuilder>(octets: &[u8], target: &mut B) -> Result<(),
     ensures ok { let lowered = str_to_ascii_lowercase octets.now in
         OnOk result (B.bytes target.new ≡ B.bytes target.old ++ lowered) }
     ensures err { OnErr result (B.bytes target.new ≡ B.bytes target.old) }
+    ensures full { OnErr result (B.lacks_room target.old (length octets.now)) }
+    ensures left { let n = length octets.now in
+        OnOk result (LeavesRoom B.lacks_room target.old target.new n) }
 {
     let len = target.as_slice().len();
     target.append_slice(octets)?;
@@ -85,6 +99,10 @@ pub fn compose_labels<N: Absolute, B: OctetsBuilder>(
     ensures ok { let octets = spelled (map (in_case case) labels.entry) in
         OnOk result (B.bytes target.new ≡ B.bytes target.old ++ octets) }
     ensures err { OnErr result (B.bytes target.new ≡ B.bytes target.old) }
+    ensures full { let n = length (spelled (map (in_case case) labels.entry)) in
+        OnErr result (B.lacks_room target.old n) }
+    ensures left { let n = length (spelled (map (in_case case) labels.entry)) in
+        OnOk result (LeavesRoom B.lacks_room target.old target.new n) }
 {
     let (len, mut labels) = (target.as_slice().len(), labels);
     while let Some(label) = labels.next() {
@@ -104,6 +122,10 @@ fn compose_label<B: OctetsBuilder>(
     ensures ok { let octets = wire_label (in_case case (octets_of label.entry)) in
         OnOk result (B.bytes target.new ≡ B.bytes target.old ++ octets) }
     ensures err { OnErr result (B.bytes target.new ≡ B.bytes target.old) }
+    ensures full { let n = length (wire_label (in_case case (octets_of label.entry))) in
+        OnErr result (B.lacks_room target.old n) }
+    ensures left { let n = length (wire_label (in_case case (octets_of label.entry))) in
+        OnOk result (LeavesRoom B.lacks_room target.old target.new n) }
 {
     match case {
         Case::Kept => label.compose(target),
@@ -120,6 +142,7 @@ pub fn or_undone<B: OctetsBuilder>(
     ensures same { result ≡ done }
     ensures ok { OnOk result (B.bytes target.new ≡ B.bytes target.old) }
     ensures err { OnErr result (B.bytes target.new ≡ take len (B.bytes target.old)) }
+    ensures kept { OnOk result (target.new ≡ target.old) }
 {
     if done.is_err() {
         target.truncate(len);

@@ -3,6 +3,7 @@
 ghost use Rattle.std.specs.Prelude.{◌≡◌, ◌↔◌, ◌++◌, ℕ, Bool, true, List, Result, length, IfSome, IfOk, IsNone, IsTrue, OnOk, OnErr};
 ghost use Rattle.definitions.specs.Reading.{ReadFault};
 ghost use Rattle.names_parser.specs.Reader.{Reader};
+ghost use Rattle.names_wire.specs.Room.{LeavesRoom};
 ghost use Rattle.names_rdata.specs.Composing.{with_length};
 ghost use Rattle.names_rdata.specs.Reading.{ReadsData, ReadsType};
 
@@ -45,19 +46,30 @@ pub trait ComposeRecordData: RecordData {
     /// Appends the octets. A refused call leaves the target as it was.
     fn compose_rdata<B: Composer>(&self, target: &mut B) -> Result<(), ShortBuf>
         ensures ok { OnOk result (B.bytes target.new ≡ B.bytes target.old ++ Self.rdata self.now) }
-        ensures err { OnErr result (B.bytes target.new ≡ B.bytes target.old) };
+        ensures err { OnErr result (B.bytes target.new ≡ B.bytes target.old) }
+        ensures full { OnErr result (B.lacks_room target.old (length (Self.rdata self.now))) }
+        ensures left { let n = length (Self.rdata self.now) in
+            OnOk result (LeavesRoom B.lacks_room target.old target.new n) };
 
     /// Appends the octets in canonical form (RFC 4034, 6.2). A refused call leaves the target as it was.
     fn compose_canonical_rdata<B: Composer>(&self, target: &mut B) -> Result<(), ShortBuf>
         ensures ok { let octets = Self.canonical_rdata self.now in
             OnOk result (B.bytes target.new ≡ B.bytes target.old ++ octets) }
-        ensures err { OnErr result (B.bytes target.new ≡ B.bytes target.old) };
+        ensures err { OnErr result (B.bytes target.new ≡ B.bytes target.old) }
+        ensures full { let n = length (Self.canonical_rdata self.now) in
+            OnErr result (B.lacks_room target.old n) }
+        ensures left { let n = length (Self.canonical_rdata self.now) in
+            OnOk result (LeavesRoom B.lacks_room target.old target.new n) };
 
     /// Appends the number of octets as two octets, and the octets behind it (RFC 1035, 3.2.1).
     fn compose_len_rdata<B: Composer>(&self, target: &mut B) -> Result<(), ShortBuf>
         ensures ok { let octets = with_length (Self.rdata self.now) in
             OnOk result (B.bytes target.new ≡ B.bytes target.old ++ octets) }
         ensures err { OnErr result (B.bytes target.new ≡ B.bytes target.old) }
+        ensures full { let n = length (with_length (Self.rdata self.now)) in
+            OnErr result (B.lacks_room target.old n) }
+        ensures left { let n = length (with_length (Self.rdata self.now)) in
+            OnOk result (LeavesRoom B.lacks_room target.old target.new n) }
     {
         let Some(len) = self.rdlen(target.can_compress()) else {
             unreachable!()
@@ -75,6 +87,10 @@ pub trait ComposeRecordData: RecordData {
         ensures ok { let octets = with_length (Self.canonical_rdata self.now) in
             OnOk result (B.bytes target.new ≡ B.bytes target.old ++ octets) }
         ensures err { OnErr result (B.bytes target.new ≡ B.bytes target.old) }
+        ensures full { let n = length (with_length (Self.canonical_rdata self.now)) in
+            OnErr result (B.lacks_room target.old n) }
+        ensures left { let n = length (with_length (Self.canonical_rdata self.now)) in
+            OnOk result (LeavesRoom B.lacks_room target.old target.new n) }
     {
         let Some(len) = self.rdlen(false) else {
             unreachable!()

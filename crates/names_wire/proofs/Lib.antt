@@ -8,3 +8,4 @@ pub mod Characters
 pub mod LabelFaults
 pub mod AlongNames
 pub mod PlainText
+pub mod Room

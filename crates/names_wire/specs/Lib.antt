@@ -3,6 +3,7 @@ pub mod LabelFault
 pub mod Owned
 pub mod Pending
 pub mod Refill
+pub mod Room
 pub mod Slices
 pub mod Spelled
 pub mod Symbols

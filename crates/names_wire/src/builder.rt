@@ -1,10 +1,11 @@
 //! Octets that grow at their end.
 
-ghost use Rattle.std.specs.Prelude.{◌≡◌, ℕ, List, ◌++◌, take, OnOk, OnErr, length, refl, ◌+◌, ◌<◌};
+ghost use Rattle.std.specs.Prelude.{◌≡◌, ℕ, List, ◌++◌, take, OnOk, OnErr, length, refl, ◌+◌, ◌<◌, ◌≤◌};
 ghost use Rattle.std.specs.Borrow.{Lends, sem, Array, u8 as byte};
 ghost use Rattle.std.specs.Vec.{with_items, vec_len, vec_capacity};
 ghost use Rattle.arrayvec.specs.ArrayVec.{with_items as with_array_items};
 ghost use Rattle.names_wire.specs.Refill.{refilled};
+ghost use Rattle.names_wire.specs.Room.{LeavesRoom, more_is_lacked, takes_none};
 
 use crate::octets::Octets;
 use arrayvec::ArrayVec;
@@ -29,7 +30,8 @@ pub trait OctetsBuilder {
     fn append_slice(&mut self, octets: &[u8]) -> Result<(), ShortBuf>
         ensures ok { OnOk result (bytes self.new ≡ bytes self.old ++ octets.now) }
         ensures err { OnErr result (bytes self.new ≡ bytes self.old) }
-        ensures full { OnErr result (lacks_room self.old (length octets.now)) };
+        ensures full { OnErr result (lacks_room self.old (length octets.now)) }
+        ensures left { OnOk result (LeavesRoom lacks_room self.old self.new (length octets.now)) };
 
     /// Keeps the first octets, or all where there are no more than `len`.
     fn truncate(&mut self, len: usize)
@@ -45,6 +47,13 @@ pub trait OctetsBuilder {
 
     ghost shows: { (b : Self) (xs : List ℕ) → length xs ≡ length (bytes b)
         → bytes (with_bytes b xs) ≡ xs };
+
+    /// Room that is lacked for some octets is lacked for more.
+    ghost grows: { (b : Self) (m n : ℕ) → m ≤ n → lacks_room b m → lacks_room b n };
+
+    /// Octets in the place of others take no room.
+    ghost stays: { (b : Self) (xs : List ℕ) (n : ℕ) → length xs ≡ length (bytes b)
+        → lacks_room (with_bytes b xs) n → lacks_room b n };
 }
 
 impl OctetsBuilder for Vec<u8> {
@@ -55,6 +64,10 @@ impl OctetsBuilder for Vec<u8> {
     ghost with_bytes = { with_items };
 
     ghost shows = { λ b xs h. refilled b.len b.items xs b.ok.0 h };
+
+    ghost grows = { λ b m n h k. more_is_lacked (vec_capacity b) (vec_len b) m n h k };
+
+    ghost stays = { λ b xs n h k. k };
 
     fn append_slice(&mut self, octets: &[u8]) -> Result<(), ShortBuf> {
         match self.extend_from_slice(octets) {
@@ -85,6 +98,11 @@ impl<const N: usize> OctetsBuilder for ArrayVec<u8, N> {
 
     ghost shows = { λ b xs h. refilled (length b.items) b.items xs refl h };
 
+    ghost grows = { λ b m n h k. more_is_lacked N (length b.items) m n h k };
+
+    ghost stays = { λ b xs n h k. takes_none N n b.items xs (with_array_items b xs).items
+        (refilled (length b.items) b.items xs refl h) h k };
+
     fn append_slice(&mut self, octets: &[u8]) -> Result<(), ShortBuf> {
         match self.try_extend_from_slice(octets) {
             Ok(()) => Ok(()),
@@ -113,6 +131,10 @@ impl<B: OctetsBuilder> OctetsBuilder for &mut B {
     ghost with_bytes = { λ b xs. record b { now = B.with_bytes b.now xs } };
 
     ghost shows = { λ b xs h. B.shows b.now xs h };
+
+    ghost grows = { λ b m n h k. B.grows b.now m n h k };
+
+    ghost stays = { λ b xs n h k. B.stays b.now xs n h k };
 
     fn append_slice(&mut self, octets: &[u8]) -> Result<(), ShortBuf> {
         (**self).append_slice(octets)

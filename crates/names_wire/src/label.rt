@@ -48,6 +48,7 @@ pub enum SplitLabelError {
 impl<'a> Label<'a> {
     ghost use Rattle.names_wire.specs.Label.{octets_of, lowered, wire_label, split};
     ghost use Rattle.definitions.specs.Limits.{pointer_limit};
+    ghost use Rattle.names_wire.specs.Room.{LeavesRoom};
     ghost use Rattle.names_wire.specs.Slices.{labels_along};
 
     /// The most octets that a label has.
@@ -195,6 +196,8 @@ impl<'a> Label<'a> {
             OnOk result (B.bytes target.new ≡ B.bytes target.old ++ more) }
         ensures err { OnErr result (B.bytes target.new ≡ B.bytes target.old) }
         ensures full { OnErr result (B.lacks_room target.old (length (octets_of self.now) + 1)) }
+        ensures left { let n = length (octets_of self.now) + 1 in
+            OnOk result (LeavesRoom B.lacks_room target.old target.new n) }
     {
         target.append_slice(OwnedLabel::from_label(*self).as_wire_slice())
     }
@@ -206,6 +209,8 @@ impl<'a> Label<'a> {
             OnOk result (B.bytes target.new ≡ B.bytes target.old ++ more) }
         ensures err { OnErr result (B.bytes target.new ≡ B.bytes target.old) }
         ensures full { OnErr result (B.lacks_room target.old (length (octets_of self.now) + 1)) }
+        ensures left { let n = length (octets_of self.now) + 1 in
+            OnOk result (LeavesRoom B.lacks_room target.old target.new n) }
     {
         let mut label = OwnedLabel::from_label(*self);
         label.make_canonical();

@@ -1,6 +1,7 @@
 //! Records (RFC 1035, 3.2.1).
 
 ghost use Rattle.std.specs.Prelude.{◌≡◌, ◌++◌, length, take, OnOk, OnErr};
+ghost use Rattle.names_wire.specs.Room.{LeavesRoom};
 ghost use Rattle.plain.specs.Records.{head_octets, record_octets, record_canonical};
 
 use names_labels::order::name_cmp;
@@ -81,6 +82,10 @@ impl<N: Absolute, D: ComposeRecordData> Record<N, D> {
         ensures ok { let octets = record_octets N.name D.type_of D.rdata self.now in
             OnOk result (B.bytes target.new ≡ B.bytes target.old ++ octets) }
         ensures err { OnErr result (B.bytes target.new ≡ B.bytes target.old) }
+        ensures full { let n = length (record_octets N.name D.type_of D.rdata self.now) in
+            OnErr result (B.lacks_room target.old n) }
+        ensures left { let n = length (record_octets N.name D.type_of D.rdata self.now) in
+            OnOk result (LeavesRoom B.lacks_room target.old target.new n) }
     {
         let len = target.as_slice().len();
         let done = compose_fields(self, target);
@@ -93,6 +98,10 @@ impl<N: Absolute, D: ComposeRecordData> Record<N, D> {
         ensures ok { let octets = record_canonical N.name D.type_of D.canonical_rdata self.now in
             OnOk result (B.bytes target.new ≡ B.bytes target.old ++ octets) }
         ensures err { OnErr result (B.bytes target.new ≡ B.bytes target.old) }
+        ensures full { let octets = record_canonical N.name D.type_of D.canonical_rdata self.now in
+            OnErr result (B.lacks_room target.old (length octets)) }
+        ensures left { let octets = record_canonical N.name D.type_of D.canonical_rdata self.now in
+            OnOk result (LeavesRoom B.lacks_room target.old target.new (length octets)) }
     {
         let len = target.as_slice().len();
         let done = compose_canonical_fields(self, target);
@@ -119,6 +128,10 @@ fn compose_fields<N: Absolute, D: ComposeRecordData, B: Composer>(
         OnOk result (B.bytes target.new ≡ B.bytes target.old ++ octets) }
     ensures err { let old = B.bytes target.old in
         OnErr result (take (length old) (B.bytes target.new) ≡ old) }
+    ensures full { let n = length (record_octets N.name D.type_of D.rdata rr.now) in
+        OnErr result (B.lacks_room target.old n) }
+    ensures left { let n = length (record_octets N.name D.type_of D.rdata rr.now) in
+        OnOk result (LeavesRoom B.lacks_room target.old target.new n) }
 {
     target.append_compressed_name(&rr.owner)?;
     target.append_slice(&head(rr))?;
@@ -134,6 +147,10 @@ fn compose_canonical_fields<N: Absolute, D: ComposeRecordData, B: Composer>(
         OnOk result (B.bytes target.new ≡ B.bytes target.old ++ octets) }
     ensures err { let old = B.bytes target.old in
         OnErr result (take (length old) (B.bytes target.new) ≡ old) }
+    ensures full { let octets = record_canonical N.name D.type_of D.canonical_rdata rr.now in
+        OnErr result (B.lacks_room target.old (length octets)) }
+    ensures left { let octets = record_canonical N.name D.type_of D.canonical_rdata rr.now in
+        OnOk result (LeavesRoom B.lacks_room target.old target.new (length octets)) }
 {
     compose_canonical_name(&rr.owner, target)?;
     target.append_slice(&head(rr))?;

@@ -5,6 +5,7 @@ ghost use Rattle.std.specs.Int.{w32, to_be_bytes};
 ghost use Rattle.std.specs.Ordering.{nat_cmp};
 ghost use Rattle.std.specs.Cmp.Lexicographic.{slice_cmp};
 ghost use Rattle.definitions.specs.Name.{wire, low};
+ghost use Rattle.names_wire.specs.Room.{LeavesRoom};
 ghost use Rattle.names_parsed.specs.Parsed.{parsed_name};
 ghost use Rattle.names_rdata.specs.Reading.{ReadsPart, ReadsData, data_at};
 ghost use Rattle.plain.specs.Soa.{soa_octets, soa_canonical, soa_part, times_octets};
@@ -230,6 +231,9 @@ fn compose_fields<N: Absolute, B: Composer>(soa: &Soa<N>, target: &mut B) -> Res
         OnOk result (B.bytes target.new ≡ B.bytes target.old ++ octets) }
     ensures err { let old = B.bytes target.old in
         OnErr result (take (length old) (B.bytes target.new) ≡ old) }
+    ensures full { OnErr result (B.lacks_room target.old (length (soa_octets N.name soa.now))) }
+    ensures left { let n = length (soa_octets N.name soa.now) in
+        OnOk result (LeavesRoom B.lacks_room target.old target.new n) }
 {
     target.append_compressed_name(&soa.mname)?;
     target.append_compressed_name(&soa.rname)?;
@@ -245,6 +249,9 @@ fn compose_canonical_fields<N: Absolute, B: Composer>(
         OnOk result (B.bytes target.new ≡ B.bytes target.old ++ octets) }
     ensures err { let old = B.bytes target.old in
         OnErr result (take (length old) (B.bytes target.new) ≡ old) }
+    ensures full { OnErr result (B.lacks_room target.old (length (soa_canonical N.name soa.now))) }
+    ensures left { let n = length (soa_canonical N.name soa.now) in
+        OnOk result (LeavesRoom B.lacks_room target.old target.new n) }
 {
     compose_canonical_name(&soa.mname, target)?;
     compose_canonical_name(&soa.rname, target)?;

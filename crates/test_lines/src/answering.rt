@@ -67,7 +67,8 @@ pub fn joined<T: Display>(alloc: Global, items: &[T], between: &str) -> Option<S
 
 /// Adds a word to an answer, a blank before it where it is not the first.
 pub fn push_word(answer: &mut String, word: &str) -> Option<()>
-    ensures { OnSome result (string_bytes answer.new ≡ with_word (string_bytes answer.old) word.now) }
+    ensures { let more = with_word (string_bytes answer.old) word.now in
+        OnSome result (string_bytes answer.new ≡ more) }
 {
     if !answer.is_empty() {
         answer.push_str(" ").ok()?;

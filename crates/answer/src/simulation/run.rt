@@ -118,7 +118,8 @@ impl<'a, S: Scheme, H: Nsec3Hasher> Run<'a, S, H> {
     /// Publishes copies of other records in the place of the zone's. Whether it is refused is known before any memory is taken,
     /// as far as that can be.
     fn replace(&mut self, records: &[ZoneRecord], at: &UnixTime) -> Result<(), ReplaceFault>
-        ensures replaces { let w = world_in S.signature_of S.verifies S.digest_of H.hash_of self.old in
+        ensures replaces { let s = self.old in
+            let w = world_in S.signature_of S.verifies S.digest_of H.hash_of s in
             let rs = map handed_of records.now in
             Replaces w (sofar_in self.old) at.now rs result (sofar_in self.new) }
         ensures rest { self.new ≡ record self.old {
@@ -205,7 +206,8 @@ impl<'a, S: Scheme, H: Nsec3Hasher> Run<'a, S, H> {
         at: &UnixTime,
     ) -> Outcome
         requires { self.now.limit ≡ self.now.publisher.zone.limit }
-        ensures judged { let w = world_in S.signature_of S.verifies S.digest_of H.hash_of self.now in
+        ensures judged { let s = self.now in
+            let w = world_in S.signature_of S.verifies S.digest_of H.hash_of s in
             let asked = asked_of question.now in
             let thing = slice_get (sofar_in self.now).shown ds in
             JudgesBytes w at.now thing dnskey_bytes.now answer_bytes.now asked result }

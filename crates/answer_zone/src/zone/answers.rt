@@ -104,7 +104,8 @@ impl<'h, H: Nsec3Hasher> ZoneRecords<'h, H> {
         requires delegation { has (zone_of self.now) (low cut.now.name.now) 2 ≡ true }
         requires records { IsCutRecords self.now.records cut.now }
         ensures answer { let s = served_by H.hash_of self.now in let c = low cut.now.name.now in
-            IfOk result (Holds 32768 [] (unsigned_ns s c ++ if_any s c 43 ++ proofs_of s (c ∷ []))) }
+            let proofs = proofs_of s (c ∷ []) in
+            IfOk result (Holds 32768 [] (unsigned_ns s c ++ if_any s c 43 ++ proofs)) }
         ensures hashed { let hash = H.hash_of self.now.hasher in
             HashesEach hash self.now.mode (low cut.now.name.now ∷ []) result }
     {

@@ -60,7 +60,8 @@ impl<'h, H: Nsec3Hasher> ZoneRecords<'h, H> {
         requires records { IsCutRecords self.now.records cut.now }
         ensures answer { let s = served_by H.hash_of self.now in
             let said = open_spoken s.zone s.mode (low name.now) false in
-            IfOk result (Holds 32768 [] (unsigned_ns s (low cut.now.name.now) ++ proofs_of s said)) }
+            let c = low cut.now.name.now in
+            IfOk result (Holds 32768 [] (unsigned_ns s c ++ proofs_of s said)) }
         ensures hashed { let hash = H.hash_of self.now.hasher in let mode = self.now.mode in
             let z = zone_of self.now in
             HashesEach hash mode (open_spoken z mode (low name.now) false) result }

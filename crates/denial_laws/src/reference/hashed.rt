@@ -144,7 +144,8 @@ fn first_beyond<H: NameHash>(
     rtype: u16,
 ) -> Result<Option<PlainVerdict>, AllocError>
     ensures { IfOk result (λ v. option_map verdict_of v
-        ≡ first_some (beyond (H.hash_of hash.now) encloser.now rtype all.now closer.now) links.now) }
+        ≡ first_some (beyond (H.hash_of hash.now) encloser.now rtype all.now closer.now)
+        links.now) }
 {
     let Some((link, rest)) = links.split_first() else {
         return Ok(None);
