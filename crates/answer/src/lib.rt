@@ -1,8 +1,8 @@
-//! A publisher of one signed zone whose keys roll, a judge that sees a DS set, a DNSKEY answer and a zone
-//! answer as bytes alone, and a simulation of a zone's key life that joins the two.
+//! A publisher of one signed zone whose keys roll, a judge that sees a DS set, a DNSKEY answer and
+//! a zone answer as bytes alone, and a simulation of a zone's key life that joins the two.
 //!
-//! A caller finds here what these calls take and give; all of names, records, DNSSEC data and key sets stands in the modules of
-//! the layers.
+//! A caller finds here what these calls take and give; all of names, records, DNSSEC data and key
+//! sets stands in the modules of the layers.
 #![tactic(auto)]
 
 pub mod simulation;

@@ -25,14 +25,16 @@ mod run;
 
 /// Runs events over a zone, one outcome an event.
 ///
-/// A thing that is shown takes the next place, from 0 on, but for CDS and CDNSKEY sets; a judgement names the places of what it
-/// judges. A refused key call, replacement or showing is an outcome of its own, for want of memory too: then keys, records and
-/// places are as they were before, and the events behind it go on. The whole is refused as [`Publisher::new`] refuses the zone,
-/// and with `Memory` where the run's own lists cannot grow, or a DS, CDS or CDNSKEY set that is shown.
+/// A thing that is shown takes the next place, from 0 on, but for CDS and CDNSKEY sets; a judgement
+/// names the places of what it judges. A refused key call, replacement or showing is an outcome of
+/// its own, for want of memory too: then keys, records and places are as they were before, and the
+/// events behind it go on. The whole is refused as [`Publisher::new`] refuses the zone, and with
+/// `Memory` where the run's own lists cannot grow, or a DS, CDS or CDNSKEY set that is shown.
 ///
-/// Whatever messages are judged beside a DS set that was shown, where nothing in them is forged the verdict is that of a
-/// version of the zone: each signature in them that a judge may use is over an RRset of a version, from the second of an answer
-/// that was of it until whenever, or over keys that were published.
+/// Whatever messages are judged beside a DS set that was shown, where nothing in them is forged the
+/// verdict is that of a version of the zone: each signature in them that a judge may use is over an
+/// RRset of a version, from the second of an answer that was of it until whenever, or over keys
+/// that were published.
 pub fn simulate<S: Scheme, H: Nsec3Hasher>(
     alloc: Global,
     apex: Name<Vec<u8>>,

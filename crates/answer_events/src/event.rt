@@ -10,7 +10,8 @@ use messages::record::ZoneRecord;
 use numbers::algorithm::SecurityAlgorithm;
 use std::fmt;
 
-/// An act at a moment. A key call takes the moment as its present, and an added key as its creation.
+/// An act at a moment. A key call takes the moment as its present, and an added key as its
+/// creation.
 #[derive(Debug, Drop)]
 pub struct Event {
     pub at: UnixTime,
@@ -36,7 +37,8 @@ pub enum Act {
     ShowDnskey,
     /// Shows the zone's answer to a question.
     Ask(Question),
-    /// Judges three shown things by their places, for the question that the zone answer was given to.
+    /// Judges three shown things by their places, for the question that the zone answer was given
+    /// to.
     Judge {
         ds: usize,
         dnskey: usize,

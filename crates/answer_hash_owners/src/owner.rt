@@ -15,7 +15,8 @@ use std::str;
 
 /// Whether an owner spells a hash: one label of base32hex under the apex. It takes no memory.
 ///
-/// Deeper names spell no hash: taken for one, a name of the zone would pass for a record of its chain (RFC 5155, 3).
+/// Deeper names spell no hash: taken for one, a name of the zone would pass for a record of its
+/// chain (RFC 5155, 3).
 pub fn spells_hash(apex: &Name<Vec<u8>>, owner: &Owner) -> bool
     ensures { result ≡ spells_hash apex.now owner.now }
 {
@@ -50,7 +51,8 @@ fn is_digit(octet: u8) -> bool
     (b'0' <= lower && lower <= b'9') || (b'a' <= lower && lower <= b'v')
 }
 
-/// Whether fewer than eight digits spell octets: as many as octets have, and the bits behind the last octet are zeros.
+/// Whether fewer than eight digits spell octets: as many as octets have, and the bits behind the
+/// last octet are zeros.
 fn spells_rest(digits: &[u8]) -> bool
     requires few { length digits.now < 8 }
     requires digits { list_all (λ c. is_digit (to_ascii_lowercase c)) digits.now ≡ true }

@@ -2,7 +2,8 @@
 
 ghost use Rattle.answer_honest.specs.OneZone.{HonestOfOneZone};
 
-/// The judge says the verdict of a zone that does not change, or refuses, whether or not signatures must be of one moment.
+/// The judge says the verdict of a zone that does not change, or refuses, whether or not signatures
+/// must be of one moment.
 pub fn of_one_zone_its_verdict()
     ensures { HonestOfOneZone }
 {}

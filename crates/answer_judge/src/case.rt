@@ -5,9 +5,11 @@ use messages::names::Name;
 use messages::question::Question;
 use std::marker::Model;
 
-/// What a judge is handed: a zone's name, its DS set at the parent, two messages of the zone, and what they are judged for.
+/// What a judge is handed: a zone's name, its DS set at the parent, two messages of the zone, and
+/// what they are judged for.
 ///
-/// Whole seconds of the moment, modulo 2^32, are compared with the times of signatures (RFC 4034, 3.1.5).
+/// Whole seconds of the moment, modulo 2^32, are compared with the times of signatures (RFC 4034,
+/// 3.1.5).
 #[derive(Drop)]
 pub struct Case<'a> {
     /// The name of the zone.
@@ -24,17 +26,21 @@ pub struct Case<'a> {
     pub moment: UnixTime,
     /// How many iterations of a name's hash are allowed (RFC 5155, 10.3).
     pub limit: u16,
-    /// Whether the signatures by which the answer is verified must all be of one inception and one expiration.
+    /// Whether the signatures by which the answer is verified must all be of one inception and one
+    /// expiration.
     ///
-    /// Where a zone changes, records of two versions together may prove what neither says; with this they are refused, if each
-    /// answer is signed anew. Signers that sign as records change give unlike times at any moment: who judges these leaves
-    /// this out, and has the promise for a zone that does not change.
+    /// Where a zone changes, records of two versions together may prove what neither says; with
+    /// this they are refused, if each answer is signed anew. Signers that sign as records change
+    /// give unlike times at any moment: who judges these leaves this out, and has the promise for a
+    /// zone that does not change.
     pub one_moment: bool,
-    /// Whether the answer may be one to another question of the zone, and the question one for CNAME or DNAME records.
+    /// Whether the answer may be one to another question of the zone, and the question one for
+    /// CNAME or DNAME records.
     ///
-    /// What a zone has signed is true whatever was asked: a cached denial answers the next question (RFC 8198), and a CNAME or
-    /// DNAME record in an answer for another type is proved by a question for its own. Without this such an answer is refused,
-    /// so that one which was replayed or mixed up with another is named as that.
+    /// What a zone has signed is true whatever was asked: a cached denial answers the next question
+    /// (RFC 8198), and a CNAME or DNAME record in an answer for another type is proved by a
+    /// question for its own. Without this such an answer is refused, so that one which was replayed
+    /// or mixed up with another is named as that.
     pub other_question: bool,
 }
 

@@ -39,8 +39,9 @@ use names_rdata::rtype::Rtype;
 use numbers::class::Class;
 use std::alloc::{AllocError, Global};
 
-/// Judges what a zone says of a question, from a DS set, a DNSKEY answer and a zone answer (RFC 4035, 5), as [`Case::judge`]
-/// does where the signatures by which the answer is verified must be of one moment.
+/// Judges what a zone says of a question, from a DS set, a DNSKEY answer and a zone answer
+/// (RFC 4035, 5), as [`Case::judge`] does where the signatures by which the answer is verified must
+/// be of one moment.
 pub fn judge<C: Checks>(
     alloc: Global,
     apex: &Name<Vec<u8>>,
@@ -79,22 +80,25 @@ pub fn judge<C: Checks>(
 impl<'a> Case<'a> {
     /// Judges what the zone says of the question.
     ///
-    /// Whatever one version of a zone gives under keys that meet, within the times of its signatures, gets its verdict. Where
-    /// no signature of the one message holds at the moment, or none of the other, they are refused.
+    /// Whatever one version of a zone gives under keys that meet, within the times of its
+    /// signatures, gets its verdict. Where no signature of the one message holds at the moment, or
+    /// none of the other, they are refused.
     ///
-    /// No two messages in which nothing is forged get a verdict that no version of the zone has, or one of a name that is an
-    /// alias there. That holds whatever the answer was asked, of a zone in order (nothing beside a CNAME, nothing below a
-    /// DNAME), whoever signs and serves it. Nothing is forged where each signature that may be used is over an RRset that was
-    /// signed: the apex's, in time, of an RRset that is sought, passing under a key that the zone published and that may sign;
-    /// and where each key of the DNSKEY answer that the DS set trusts is one that the zone published. For a zone that changes
-    /// this asks that signatures must be of one moment.
+    /// No two messages in which nothing is forged get a verdict that no version of the zone has, or
+    /// one of a name that is an alias there. That holds whatever the answer was asked, of a zone in
+    /// order (nothing beside a CNAME, nothing below a DNAME), whoever signs and serves it. Nothing
+    /// is forged where each signature that may be used is over an RRset that was signed: the
+    /// apex's, in time, of an RRset that is sought, passing under a key that the zone published and
+    /// that may sign; and where each key of the DNSKEY answer that the DS set trusts is one that
+    /// the zone published. For a zone that changes this asks that signatures must be of one moment.
     ///
-    /// What is said holds under each scheme that agrees with all that `verify` answered. It is asked about those signatures alone
-    /// that are due: of the two messages, in time, over an RRset there that is sought and that no earlier one verified, each
-    /// under the key of its tag and algorithm.
+    /// What is said holds under each scheme that agrees with all that `verify` answered. It is
+    /// asked about those signatures alone that are due: of the two messages, in time, over an RRset
+    /// there that is sought and that no earlier one verified, each under the key of its tag and
+    /// algorithm.
     ///
-    /// A verdict lasts up to a second that is said beside it: at each moment up to there the same messages get the same verdict
-    /// (`answer_judge_facts::laws::verdicts_last`).
+    /// A verdict lasts up to a second that is said beside it: at each moment up to there the same
+    /// messages get the same verdict (`answer_judge_facts::laws::verdicts_last`).
     pub fn judge<C: Checks>(&self, alloc: Global, checks: &mut C) -> Result<Judgement, Refused>
         ensures judges { let answer = answer_of result in
             Judges pointer_limit self.now answer (verifications_of result) (hashes_of result) }
@@ -157,7 +161,8 @@ impl<'a> Case<'a> {
         }
     }
 
-    /// Whether the question is judged: one that is allowed, or, with `other_question`, one for the records of aliases.
+    /// Whether the question is judged: one that is allowed, or, with `other_question`, one for the
+    /// records of aliases.
     fn is_judged(&self) -> bool
         ensures { result ≡ is_judged self.now }
     {
@@ -173,7 +178,8 @@ impl<'a> Case<'a> {
     }
 }
 
-/// The verdict of two messages beside a DS set that isn't empty, and how many names are hashed for it.
+/// The verdict of two messages beside a DS set that isn't empty, and how many names are hashed for
+/// it.
 ///
 /// How long it lasts is put into the place of what stands there.
 fn judge_messages<C: Checks>(
@@ -240,8 +246,9 @@ struct Messages<'a> {
     answer_records: Vec<ViewRecord<'a>>,
 }
 
-/// Reads both messages, which answer the keys' question and the one that is asked, or another where that is wanted. Memory
-/// that was refused is told behind both, so that what a message is refused for never depends on it.
+/// Reads both messages, which answer the keys' question and the one that is asked, or another where
+/// that is wanted. Memory that was refused is told behind both, so that what a message is refused
+/// for never depends on it.
 fn read_messages<'a>(alloc: Global, case: &Case<'a>) -> Result<Messages<'a>, Refusal>
     ensures keys { IfOk result (λ v. message pointer_limit case.now.dnskey_bytes ≡ Ok v.keys) }
     ensures answer { IfOk result (λ v. message pointer_limit case.now.answer_bytes ≡ Ok v.answer) }
@@ -278,8 +285,8 @@ fn read_messages<'a>(alloc: Global, case: &Case<'a>) -> Result<Messages<'a>, Ref
     })
 }
 
-/// Reads a message, which has no more records than three counts of 16 bits, and puts them behind those of a list. The second
-/// part says whether all of them could be put into memory.
+/// Reads a message, which has no more records than three counts of 16 bits, and puts them behind
+/// those of a list. The second part says whether all of them could be put into memory.
 fn read_counted<'a>(
     bytes: &'a [u8],
     records: &mut Vec<ViewRecord<'a>>,

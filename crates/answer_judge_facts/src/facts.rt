@@ -36,8 +36,8 @@ use std::alloc::{AllocError, Global};
 use std::borrow::CowSlice;
 use std::cmp::Ordering;
 
-/// What signatures of an answer verify: facts, whether these signatures are not all of one inception and one expiration, and how
-/// long what they verify lasts.
+/// What signatures of an answer verify: facts, whether these signatures are not all of one
+/// inception and one expiration, and how long what they verify lasts.
 #[derive(Drop)]
 pub struct Proof<'a> {
     pub facts: Facts<'a>,
@@ -45,7 +45,8 @@ pub struct Proof<'a> {
     pub lasting: Lasting,
 }
 
-/// What signatures of an answer verify: the RRset that was asked for, and records of chains, NSEC and NSEC3.
+/// What signatures of an answer verify: the RRset that was asked for, and records of chains, NSEC
+/// and NSEC3.
 pub fn read_facts<'a, C: Checks>(
     message: &'a [u8],
     records: &[ViewRecord<'a>],
@@ -95,7 +96,8 @@ pub fn read_facts<'a, C: Checks>(
     })
 }
 
-/// The RRsets that a judge seeks: those of chains' records in their order, behind them the one that was asked for.
+/// The RRsets that a judge seeks: those of chains' records in their order, behind them the one that
+/// was asked for.
 fn sought_groups<'r>(
     alloc: Global,
     apex: &Name<Vec<u8>>,
@@ -140,8 +142,8 @@ fn facts_of_groups<'a>(
 
 /// The data of a group and the label count of its signature, if one verified it.
 ///
-/// The owner's count in its place would let a wildcard's RRset pass for one of the name, with no proof that the name does not
-/// exist (RFC 4035, 5.3.4).
+/// The owner's count in its place would let a wildcard's RRset pass for one of the name, with no
+/// proof that the name does not exist (RFC 4035, 5.3.4).
 fn rrset_of(alloc: Global, group: Option<Group>) -> Result<Option<Rrset>, AllocError>
     ensures { IfOk result (λ found. found ≡ rrset_verified group.entry) }
 {
@@ -215,7 +217,8 @@ fn chain_cmp(a: &ViewRecord, b: &ViewRecord) -> Ordering
     a.owner.name().name_cmp(b.owner.name())
 }
 
-/// The RRsets of one record of a chain, each where its chain's records stand, of records that are in order.
+/// The RRsets of one record of a chain, each where its chain's records stand, of records that are
+/// in order.
 pub fn read_chain_groups<'r>(
     alloc: Global,
     apex: &Name<Vec<u8>>,
@@ -262,7 +265,8 @@ fn are_alike(a: &ViewRecord, b: &ViewRecord) -> bool
     a.rtype == b.rtype && a.owner.name().name_eq(b.owner.name())
 }
 
-/// The RRset of a chain's records of one owner, if it is one record and stands where the chain's records do.
+/// The RRset of a chain's records of one owner, if it is one record and stands where the chain's
+/// records do.
 fn read_chain_group<'r>(
     alloc: Global,
     apex: &Name<Vec<u8>>,
@@ -309,9 +313,11 @@ fn read_run<'r>(
     Ok(Group::unverified(owner, first.rtype, items))
 }
 
-/// Whether records of a chain's type may have an owner: NSEC at or below the apex, NSEC3 at a hash under it.
+/// Whether records of a chain's type may have an owner: NSEC at or below the apex, NSEC3 at a hash
+/// under it.
 ///
-/// A record of another zone, replayed, would speak for names that are not its own (RFC 4034, 4; RFC 5155, 3).
+/// A record of another zone, replayed, would speak for names that are not its own (RFC 4034, 4;
+/// RFC 5155, 3).
 fn has_place(apex: &Name<Vec<u8>>, owner: &Owner, rtype: Rtype) -> bool
     ensures { result ≡ has_place rtype apex.now owner.now }
 {
@@ -337,10 +343,11 @@ fn holds_one(group: &Group) -> bool
     }
 }
 
-/// Whether octets are data of an NSEC3 record whose algorithm is SHA-1 and whose flags are none but opt-out.
+/// Whether octets are data of an NSEC3 record whose algorithm is SHA-1 and whose flags are none but
+/// opt-out.
 ///
-/// A judge doesn't know what a record of another algorithm or flag says: taken as known, the record would deny names by a
-/// meaning that the zone did not sign (RFC 5155, 8.1 and 8.2).
+/// A judge doesn't know what a record of another algorithm or flag says: taken as known, the record
+/// would deny names by a meaning that the zone did not sign (RFC 5155, 8.1 and 8.2).
 fn is_known(octets: &[u8]) -> bool
     requires { length octets.now ≤ 65535 }
     ensures { result ≡ is_known_datum octets.now }

@@ -34,10 +34,12 @@ use std::alloc::{AllocError, Global};
 use std::borrow::CowSlice;
 use std::cmp::Ordering;
 
-/// The largest number of groups that are looked through one by one. Among more, a group is found by binary search.
+/// The largest number of groups that are looked through one by one. Among more, a group is found by
+/// binary search.
 const FEW: usize = 8;
 
-/// What a signature says beside the RRset that it covers and the name that signs it (RFC 4034, 3.1).
+/// What a signature says beside the RRset that it covers and the name that signs it (RFC 4034,
+/// 3.1).
 #[derive(Clone, Copy, Debug)]
 pub struct Signed {
     pub algorithm: SecurityAlgorithm,
@@ -48,7 +50,8 @@ pub struct Signed {
     pub tag: u16,
 }
 
-/// An RRset of a message: its canonical data ascending, each once, and what the first signature says that verified it.
+/// An RRset of a message: its canonical data ascending, each once, and what the first signature
+/// says that verified it.
 #[derive(Debug, Drop)]
 pub struct Group<'a> {
     pub owner: GroupOwner<'a>,
@@ -58,7 +61,8 @@ pub struct Group<'a> {
 }
 
 impl<'a> Group<'a> {
-    /// An RRset of some canonical data, which nothing verified yet: they are put in order, each once.
+    /// An RRset of some canonical data, which nothing verified yet: they are put in order, each
+    /// once.
     pub(crate) fn unverified(
         owner: GroupOwner<'a>,
         rtype: Rtype,
@@ -86,8 +90,8 @@ impl<'a> Group<'a> {
         self.rtype == rtype && owner.name().name_eq(&self.owner)
     }
 
-    /// How the group stands to an owner and a type in the order of groups: by type, records of chains first, then by owner
-    /// in canonical order.
+    /// How the group stands to an owner and a type in the order of groups: by type, records of
+    /// chains first, then by owner in canonical order.
     fn sought_cmp(&self, owner: &Owner, rtype: Rtype) -> Ordering
         ensures { result ≡ sought_cmp (place_of self.now) (rtype, owner.now) }
     {
@@ -140,7 +144,8 @@ pub fn read_group<'a>(
     Ok(Group::unverified(owner, rtype, items))
 }
 
-/// The canonical data of a record of an owner, up to case, and a type, class IN; None where they do not read.
+/// The canonical data of a record of an owner, up to case, and a type, class IN; None where they do
+/// not read.
 fn datum_of<'m>(
     alloc: Global,
     message: &'m [u8],
@@ -199,8 +204,8 @@ pub fn verify_groups<C: Checks>(
     Ok(())
 }
 
-/// Tries a signature on its group, unless one verified that before. Where no group is sought that it may verify, no more than
-/// the covered type is read of it.
+/// Tries a signature on its group, unless one verified that before. Where no group is sought that
+/// it may verify, no more than the covered type is read of it.
 fn verify_record<C: Checks>(
     message: &[u8],
     view: &ViewRecord,
@@ -347,7 +352,8 @@ fn signed_of(signature: &Signature) -> Signed
     }
 }
 
-/// Writes what a signature of a group is made over (RFC 4034, 3.1.8.1), in the place of what was there.
+/// Writes what a signature of a group is made over (RFC 4034, 3.1.8.1), in the place of what was
+/// there.
 fn write_signed(
     alloc: Global,
     signature: &Signature,

@@ -1,5 +1,5 @@
-//! How long what signatures verify lasts: how long records may be kept (RFC 4035, 5.3.3), and for how many seconds signatures hold
-//! (RFC 4034, 3.1.5).
+//! How long what signatures verify lasts: how long records may be kept (RFC 4035, 5.3.3), and for
+//! how many seconds signatures hold (RFC 4034, 3.1.5).
 ghost use Rattle.std.specs.Prelude.{◌≡◌, ◌<◌, ◌+◌, ◌&&◌, MatchOption, false, length, map};
 ghost use Rattle.std.specs.List.{filter_map};
 ghost use Rattle.answer_judge_facts.specs.Lasting.{held_for, idle_for, least, least_of, original_in, own_in, seconds_in, ttls_in, wait_in};
@@ -42,7 +42,8 @@ pub fn lasting_of(message: &[u8], records: &[ViewRecord], groups: &[Group], mome
     }
 }
 
-/// For how many seconds more the signatures hold that verified some groups, and none of a group begins to.
+/// For how many seconds more the signatures hold that verified some groups, and none of a group
+/// begins to.
 pub fn seconds_of(message: &[u8], records: &[ViewRecord], groups: &[Group], moment: u32) -> u32
     requires { AreRanked groups.now }
     ensures { let rs = map spelled records.now in
@@ -64,7 +65,8 @@ fn least_original(groups: &[Group]) -> u32
     least
 }
 
-/// The least of a number and of the TTLs of the records of verified groups. A record of a TTL that is no less is not looked for.
+/// The least of a number and of the TTLs of the records of verified groups. A record of a TTL that
+/// is no less is not looked for.
 fn least_ttl(records: &[ViewRecord], groups: &[Group], start: u32) -> u32
     requires { AreRanked groups.now }
     ensures { result ≡ least start (filter_map (own_in groups.now) (map spelled records.now)) }
@@ -127,7 +129,8 @@ fn least_wait(
     least
 }
 
-/// For how many seconds more a signature of one of some groups does not hold; None where it holds, or is none.
+/// For how many seconds more a signature of one of some groups does not hold; None where it holds,
+/// or is none.
 fn wait_of(message: &[u8], view: &ViewRecord, groups: &[Group], moment: u32) -> Option<u32>
     requires { AreRanked groups.now }
     ensures { result ≡ wait_in moment message.now groups.now (spelled view.now) }

@@ -1,4 +1,5 @@
-//! What of two messages is verified under the keys that a DS set trusts: the facts from which a verdict is decided.
+//! What of two messages is verified under the keys that a DS set trusts: the facts from which a
+//! verdict is decided.
 #![tactic(auto)]
 
 pub mod facts;

@@ -7,10 +7,11 @@ ghost use Rattle.answer_judge_facts.specs.Marked.{is_unlike, times_by};
 
 use crate::groups::{Group, Signed};
 
-/// Whether the signatures that verified some groups are not all of one inception and one expiration.
+/// Whether the signatures that verified some groups are not all of one inception and one
+/// expiration.
 ///
-/// Where each answer is signed as one, groups of unlike times are of more than one, and maybe of two versions of the zone:
-/// together they would prove what neither version says.
+/// Where each answer is signed as one, groups of unlike times are of more than one, and maybe of
+/// two versions of the zone: together they would prove what neither version says.
 pub fn are_unlike(groups: &[Group]) -> bool
     ensures { result ≡ are_unlike (filter_map times_by groups.now) }
 {

@@ -28,7 +28,8 @@ use std::alloc::{AllocError, Global};
 use std::cmp::Ordering;
 use std::marker::Model;
 
-/// The largest number of keys that are looked through one by one. Among more, a key is found by binary search.
+/// The largest number of keys that are looked through one by one. Among more, a key is found by
+/// binary search.
 const FEW: usize = 8;
 
 /// A key with the data that spell it, and its tag, which is summed once. A contract sees the key.
@@ -200,7 +201,8 @@ fn copied_keys<'a>(alloc: Global, keys: &[TaggedKey<'a>]) -> Result<Vec<TaggedKe
     Ok(copies)
 }
 
-/// The first key of a signature's tag and algorithm, of keys that stand by these too where they are many.
+/// The first key of a signature's tag and algorithm, of keys that stand by these too where they are
+/// many.
 pub fn key_of<'k, 'a>(
     keys: &'k [TaggedKey<'a>],
     ranked: &'k [TaggedKey<'a>],
@@ -350,7 +352,8 @@ fn is_named<C: Checks>(
 
 /// Whether one DS record names a key (RFC 4034, 5.1.4).
 ///
-/// Anyone can make a key of a tag and an algorithm: the digest alone tells the one that the parent vouches for.
+/// Anyone can make a key of a tag and an algorithm: the digest alone tells the one that the parent
+/// vouches for.
 fn names_key<C: Checks>(
     apex: &Name<Vec<u8>>,
     ds: &Ds<Vec<u8>>,

@@ -19,8 +19,8 @@ pub type GroupOwner<'a> = Name<CowSlice<'a, u8>>;
 /// A signature in a message, its signer in place.
 pub type Signature<'a> = Rrsig<&'a [u8], ParsedName<'a>>;
 
-/// What signatures are held against: the apex and how many labels it has, the keys that may sign, as they stand and where they
-/// are many by tag too, and the moment.
+/// What signatures are held against: the apex and how many labels it has, the keys that may sign,
+/// as they stand and where they are many by tag too, and the moment.
 #[derive(Drop)]
 pub struct Trust<'a> {
     pub apex: &'a Name<Vec<u8>>,
@@ -32,7 +32,8 @@ pub struct Trust<'a> {
 }
 
 impl<'a> Trust<'a> {
-    /// Whether a signature is the apex's, holds at the moment, and has a label count that fits an owner (RFC 4035, 5.3.1).
+    /// Whether a signature is the apex's, holds at the moment, and has a label count that fits an
+    /// owner (RFC 4035, 5.3.1).
     ///
     /// Another zone's signature would speak for names that are not its own.
     pub fn is_due(&self, signature: &Signature, owner: &GroupOwner) -> bool
@@ -44,12 +45,13 @@ impl<'a> Trust<'a> {
             && signature.signer_name().name_eq(self.apex)
     }
 
-    /// Whether a signature counts the labels of an owner, or fewer: then the RRset is a wildcard's, expanded to the owner
-    /// (RFC 4035, 5.3.1 and 5.3.2).
+    /// Whether a signature counts the labels of an owner, or fewer: then the RRset is a wildcard's,
+    /// expanded to the owner (RFC 4035, 5.3.1 and 5.3.2).
     ///
-    /// Records of a chain are never expanded: a wildcard's NSEC record, replayed under another name, would deny what stands
-    /// at that name (RFC 4592, 4.6). No wildcard above the apex is expanded: it is not the zone's, and the zone's keys would
-    /// speak for names beside it (RFC 4035, 5.3.1).
+    /// Records of a chain are never expanded: a wildcard's NSEC record, replayed under another
+    /// name, would deny what stands at that name (RFC 4592, 4.6). No wildcard above the apex is
+    /// expanded: it is not the zone's, and the zone's keys would speak for names beside it
+    /// (RFC 4035, 5.3.1).
     fn fits_labels(&self, signature: &Signature, owner: &GroupOwner) -> bool
         ensures { result ≡ labels_fit self.now.apex.now owner.now (fields_read signature.now) }
     {

@@ -10,8 +10,9 @@ use std::alloc::AllocError;
 use std::time::Duration;
 use thiserror::Error;
 
-/// Why a judge gives no verdict, in the order in which it is sought, but for the last two: `Memory` comes wherever a growth was
-/// refused, and `MixedVersions` is sought before the chain's parameters.
+/// Why a judge gives no verdict, in the order in which it is sought, but for the last two: `Memory`
+/// comes wherever a growth was refused, and `MixedVersions` is sought before the chain's
+/// parameters.
 #[derive(Clone, Copy, Debug, PartialEq, Eq, Drop, Error)]
 pub enum Refusal {
     /// The name is not at or below the apex, the class is not IN, or the type is not judged.
@@ -46,7 +47,8 @@ pub enum Refusal {
     NotProven,
     #[error("out of memory")]
     Memory,
-    /// The signatures by which the answer is verified are not all of one inception and one expiration.
+    /// The signatures by which the answer is verified are not all of one inception and one
+    /// expiration.
     #[error("signatures of unlike times")]
     MixedVersions,
 }
@@ -78,23 +80,26 @@ pub struct Judgement {
     pub verdict: Verdict,
     pub verifications: u32,
     pub hashes: u32,
-    /// How long the verdict lasts. Beside an empty DS set nothing is verified, and nothing says how long that lasts.
+    /// How long the verdict lasts. Beside an empty DS set nothing is verified, and nothing says how
+    /// long that lasts.
     pub lasting: Option<Lasting>,
 }
 
 /// How long a verdict lasts.
 #[derive(Clone, Copy, Debug, PartialEq, Eq)]
 pub struct Lasting {
-    /// The least of the TTLs of the records that the verdict rests on and of the original TTLs of their signatures (RFC 4035,
-    /// 5.3.3).
+    /// The least of the TTLs of the records that the verdict rests on and of the original TTLs of
+    /// their signatures (RFC 4035, 5.3.3).
     pub ttl: Ttl,
-    /// For how many seconds more the same messages have the same verdict: up to the end of the signatures by which they are
-    /// verified, or to the second before another one of their RRsets begins to hold.
+    /// For how many seconds more the same messages have the same verdict: up to the end of the
+    /// signatures by which they are verified, or to the second before another one of their RRsets
+    /// begins to hold.
     pub seconds: u32,
 }
 
 impl Lasting {
-    /// The last second since the beginning of 1970 in which the verdict stands that was given at a moment.
+    /// The last second since the beginning of 1970 in which the verdict stands that was given at a
+    /// moment.
     pub fn until(&self, moment: UnixTime) -> u64
         ensures { result ≡ min (moment / 1_000_000_000 + self.now.seconds) (2 ^ 64 - 1) }
     {

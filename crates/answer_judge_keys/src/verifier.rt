@@ -4,10 +4,11 @@ ghost use Rattle.std.specs.Prelude.{◌≡◌};
 use answer_scheme::checks::Checks;
 use std::alloc::Global;
 
-/// What verifies for one judgement: the checks, a buffer for what they are asked about, and how many signatures were verified
-/// against a key so far.
+/// What verifies for one judgement: the checks, a buffer for what they are asked about, and how
+/// many signatures were verified against a key so far.
 ///
-/// The buffer is borrowed, since a struct that owns memory would keep what a caller's proof knows of its checks.
+/// The buffer is borrowed, since a struct that owns memory would keep what a caller's proof knows
+/// of its checks.
 #[derive(Drop)]
 pub struct Verifier<'a, C: Checks> {
     pub alloc: Global,

@@ -21,10 +21,11 @@ use std::alloc::{AllocError, Global};
 
 /// The verdict on a name and a type that verified facts prove; None where they prove none.
 ///
-/// Facts prove no verdict on names outside the zone: beside an apex that is a wildcard name the last record would cover them.
-/// A verified RRset answers at once, or, expanded, beside a link alone: no other rule is tried then (RFC 4035, 5.3.4).
-/// Names are hashed beside links of a chain of hashes alone, in order, until one fails; such a link is in use wherever there
-/// is one. `hashes` becomes how many were hashed, whatever comes of it.
+/// Facts prove no verdict on names outside the zone: beside an apex that is a wildcard name the
+/// last record would cover them. A verified RRset answers at once, or, expanded, beside a link
+/// alone: no other rule is tried then (RFC 4035, 5.3.4). Names are hashed beside links of a chain
+/// of hashes alone, in order, until one fails; such a link is in use wherever there is one.
+/// `hashes` becomes how many were hashed, whatever comes of it.
 pub fn decide<C: Checks>(
     alloc: Global,
     apex: &Name<Vec<u8>>,

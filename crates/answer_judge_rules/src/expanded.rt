@@ -11,9 +11,11 @@ use crate::verdict::Verdict;
 use messages::names::{Name, ZoneName, is_above};
 
 impl<'a> Link<'a> {
-    /// Whether the link shows that a name does not exist and that its closest encloser has a number of labels.
+    /// Whether the link shows that a name does not exist and that its closest encloser has a number
+    /// of labels.
     ///
-    /// A next name below the name shows that the name exists, and no wildcard speaks for it (RFC 4592, 2.2.2).
+    /// A next name below the name shows that the name exists, and no wildcard speaks for it
+    /// (RFC 4592, 2.2.2).
     fn encloses(&self, apex: &Name<Vec<u8>>, name: &Name<Vec<u8>>, labels: u8) -> bool
         ensures { result ≡ (link_covers apex.now self.now name.now
             && not (strictly_above name.now self.now.next)
@@ -24,7 +26,8 @@ impl<'a> Link<'a> {
 
     /// Whether the closest encloser of a name, which the link shows, has a number of labels.
     ///
-    /// The wildcard of an ancestor further up, replayed, would otherwise answer beside a closer one (RFC 4592, 3.3.1).
+    /// The wildcard of an ancestor further up, replayed, would otherwise answer beside a closer one
+    /// (RFC 4592, 3.3.1).
     fn is_closest(&self, name: &Name<Vec<u8>>, labels: u8) -> bool
         ensures { result ≡ encloses_at labels (closest self.now name.now) }
     {
@@ -35,8 +38,8 @@ impl<'a> Link<'a> {
     }
 }
 
-/// Whether a wildcard's RRset may speak for a name: some link shows that the name does not exist, and that it is the wildcard
-/// of its closest encloser.
+/// Whether a wildcard's RRset may speak for a name: some link shows that the name does not exist,
+/// and that it is the wildcard of its closest encloser.
 fn may_speak(apex: &Name<Vec<u8>>, links: &[Link], rrset: &Rrset, name: &Name<Vec<u8>>) -> bool
     ensures { (if result then Some (StarRecords rrset.now.datas) else None)
         ≡ expanded apex.now name.now rrset.now links.now }
@@ -51,7 +54,8 @@ fn may_speak(apex: &Name<Vec<u8>>, links: &[Link], rrset: &Rrset, name: &Name<Ve
 
 /// What a wildcard's RRset proves of a name.
 ///
-/// Without a link beside it, it would answer for a name that exists with its own records (RFC 4035, 5.3.4).
+/// Without a link beside it, it would answer for a name that exists with its own records (RFC 4035,
+/// 5.3.4).
 pub(crate) fn expanded(
     apex: &Name<Vec<u8>>,
     links: &[Link],

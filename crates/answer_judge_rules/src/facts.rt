@@ -1,4 +1,5 @@
-//! What verified records tell: an RRset, links of the chain of names and links of the chain of hashes.
+//! What verified records tell: an RRset, links of the chain of names and links of the chain of
+//! hashes.
 ghost use Rattle.std.specs.Prelude.{◌≡◌, ◌==◌};
 ghost use Rattle.definitions.specs.Bitmap.{bitmap_has};
 ghost use Rattle.denial_laws.specs.Facts.{is_expanded};
@@ -12,7 +13,8 @@ use messages::names::{Name, ParsedName, ZoneName};
 use names_rdata::rtype::Rtype;
 use std::marker::Model;
 
-/// The verified RRset of a question: its data and the label count of the first signature that verified it (RFC 4034, 3.1.3).
+/// The verified RRset of a question: its data and the label count of the first signature that
+/// verified it (RFC 4034, 3.1.3).
 #[derive(Debug, Drop)]
 pub struct Rrset {
     pub(crate) items: DataList,
@@ -35,9 +37,11 @@ impl Rrset {
         Rrset { items, labels }
     }
 
-    /// Whether it is a wildcard's, expanded to a name: its signature counts fewer labels than the name has.
+    /// Whether it is a wildcard's, expanded to a name: its signature counts fewer labels than the
+    /// name has.
     ///
-    /// Without the comparison a wildcard's data, replayed, would answer for a name that exists (RFC 4035, 5.3.4).
+    /// Without the comparison a wildcard's data, replayed, would answer for a name that exists
+    /// (RFC 4035, 5.3.4).
     pub(crate) fn is_expanded(&self, name: &Name<Vec<u8>>) -> bool
         ensures { result ≡ is_expanded self.now name.now }
     {
@@ -45,7 +49,8 @@ impl Rrset {
     }
 }
 
-/// A verified NSEC record (RFC 4034, 4), in place. A contract sees owner, next name and the octets of its bitmap.
+/// A verified NSEC record (RFC 4034, 4), in place. A contract sees owner, next name and the octets
+/// of its bitmap.
 #[derive(Drop)]
 pub struct Link<'a> {
     pub(crate) owner: ParsedName<'a>,
@@ -97,8 +102,9 @@ impl<'a> Link<'a> {
     }
 }
 
-/// A verified NSEC3 record (RFC 5155, 3), its data in place. A contract sees the hash that its owner spells, the next hash,
-/// the octets of its bitmap, whether it opts out, and how it was hashed.
+/// A verified NSEC3 record (RFC 5155, 3), its data in place. A contract sees the hash that its
+/// owner spells, the next hash, the octets of its bitmap, whether it opts out, and how it was
+/// hashed.
 #[derive(Drop)]
 pub struct HashLink<'a> {
     owner: Vec<u8>,
@@ -122,7 +128,8 @@ impl<'a> Model for HashLink<'a> {
 }
 
 impl<'a> HashLink<'a> {
-    /// A link of the hash that its owner spells and its data, whose algorithm is SHA-1 and whose flags are 0 or 1.
+    /// A link of the hash that its owner spells and its data, whose algorithm is SHA-1 and whose
+    /// flags are 0 or 1.
     pub fn new(owner: Vec<u8>, nsec3: Nsec3<&'a [u8]>) -> Self
         ensures owner { result.owner ≡ owner.items }
         ensures next { result.next ≡ nsec3.entry.next_owner }
@@ -177,8 +184,8 @@ impl<'a> HashLink<'a> {
     }
 }
 
-/// All that was verified of an answer: the RRset of the question, if any, and links of both chains in the order of the
-/// message.
+/// All that was verified of an answer: the RRset of the question, if any, and links of both chains
+/// in the order of the message.
 #[derive(Drop)]
 pub struct Facts<'a> {
     pub(crate) rrset: Option<Rrset>,

@@ -31,7 +31,8 @@ impl<'a> HashLink<'a> {
 
     /// Whether a hash lies strictly between owner and next hash, on a circle.
     ///
-    /// The record is silent on both ends: their names exist, and a wider gap would deny them (RFC 5155, 3.1.7).
+    /// The record is silent on both ends: their names exist, and a wider gap would deny them
+    /// (RFC 5155, 3.1.7).
     fn covers(&self, hash: &[u8]) -> bool
         ensures { result ≡ covers_hash hash.now self.now }
     {
@@ -42,8 +43,8 @@ impl<'a> HashLink<'a> {
 
     /// Whether it matches an ancestor of a name, without DNAME.
     ///
-    /// What is below DNAME is redirected: taken as proof, its record would deny names that exist where it leads
-    /// (RFC 5155, 8.3; RFC 6840, 4.1).
+    /// What is below DNAME is redirected: taken as proof, its record would deny names that exist
+    /// where it leads (RFC 5155, 8.3; RFC 6840, 4.1).
     fn encloses(&self, hash: &[u8]) -> bool
         ensures { result ≡ encloses hash.now self.now }
     {
@@ -52,7 +53,8 @@ impl<'a> HashLink<'a> {
 
     /// What it says of the name that it matches.
     ///
-    /// A link that matches another name says nothing of this one: replayed, it would deny what that name lacks (RFC 5155, 8.5).
+    /// A link that matches another name says nothing of this one: replayed, it would deny what that
+    /// name lacks (RFC 5155, 8.5).
     fn at_hash<N: ToName>(
         &self,
         apex: &Name<Vec<u8>>,
@@ -72,8 +74,8 @@ impl<'a> HashLink<'a> {
 
     /// Whether it matches a delegation above a name.
     ///
-    /// What lies below it is the child zone's: as a closest encloser it would deny what is there (RFC 5155, 8.3; RFC 6840,
-    /// 4.1).
+    /// What lies below it is the child zone's: as a closest encloser it would deny what is there
+    /// (RFC 5155, 8.3; RFC 6840, 4.1).
     fn cut_above<N: ToName>(
         &self,
         apex: &Name<Vec<u8>>,
@@ -92,8 +94,8 @@ impl<'a> HashLink<'a> {
 
     /// What it says of a wildcard.
     ///
-    /// Without a look at the wildcard a name that it stands for would pass for one that does not exist (RFC 5155, 8.4 and
-    /// 8.7).
+    /// Without a look at the wildcard a name that it stands for would pass for one that does not
+    /// exist (RFC 5155, 8.4 and 8.7).
     fn star_at(&self, hash: &[u8], rtype: Rtype) -> Option<Verdict>
         ensures { option_map verdict_of result ≡ star_at hash.now rtype self.now }
     {
@@ -113,7 +115,8 @@ impl<'a> HashLink<'a> {
 
     /// Whether it covers a hash under opt-out.
     ///
-    /// A delegation that isn't signed may lie in such a gap: taken as proof, the record would deny it (RFC 5155, 6 and 12.2).
+    /// A delegation that isn't signed may lie in such a gap: taken as proof, the record would deny
+    /// it (RFC 5155, 6 and 12.2).
     fn opens(&self, hash: &[u8]) -> bool
         ensures { result ≡ opens hash.now self.now }
     {
@@ -186,8 +189,8 @@ pub(crate) fn first_star_at(links: &[HashLink], hash: &[u8], rtype: Rtype) -> Op
 
 /// Whether the first link that covers a hash does so without opt-out.
 ///
-/// Taken as proof, a gap under opt-out would deny a delegation that isn't signed, and a missing gap a name that exists
-/// (RFC 5155, 6 and 8.3).
+/// Taken as proof, a gap under opt-out would deny a delegation that isn't signed, and a missing gap
+/// a name that exists (RFC 5155, 6 and 8.3).
 pub(crate) fn is_denied(links: &[HashLink], hash: &[u8]) -> bool
     ensures { result ≡ asks_star hash.now links.now }
 {
@@ -208,7 +211,8 @@ fn is_open(links: &[HashLink], hash: &[u8]) -> bool
 
 /// What links prove of a next closer name that none denies: under opt-out what is there stays open.
 ///
-/// Without such a gap nothing is proved: an encloser alone would deny names that exist below it (RFC 5155, 8.3).
+/// Without such a gap nothing is proved: an encloser alone would deny names that exist below it
+/// (RFC 5155, 8.3).
 pub(crate) fn left_open(links: &[HashLink], hash: &[u8]) -> Option<Verdict>
     ensures { option_map verdict_of result ≡ open_among hash.now links.now }
 {

@@ -21,7 +21,8 @@ use messages::names::{Name, ToName, ZoneName};
 use names_rdata::rtype::Rtype;
 use std::alloc::Global;
 
-/// The links of a zone's chain of hashes, of which the first says how names are hashed, and the type that is asked for.
+/// The links of a zone's chain of hashes, of which the first says how names are hashed, and the
+/// type that is asked for.
 #[derive(Drop)]
 pub(crate) struct HashChain<'a> {
     pub(crate) alloc: Global,
@@ -33,7 +34,8 @@ pub(crate) struct HashChain<'a> {
 
 /// What links say of the wildcard under a closest encloser, which is hashed for it.
 ///
-/// Without a look at the wildcard a name that it stands for would pass for one that does not exist (RFC 5155, 8.4 and 8.7).
+/// Without a look at the wildcard a name that it stands for would pass for one that does not exist
+/// (RFC 5155, 8.4 and 8.7).
 fn at_wildcard<C: Checks>(
     chain: &HashChain,
     checks: &mut C,
@@ -60,8 +62,8 @@ fn at_wildcard<C: Checks>(
 
 /// What links that cover the next closer name prove of a name, from its closest encloser.
 ///
-/// Without a look at the next closer name an ancestor would pass for the closest encloser, and names below it for none
-/// (RFC 5155, 8.3).
+/// Without a look at the next closer name an ancestor would pass for the closest encloser, and
+/// names below it for none (RFC 5155, 8.3).
 fn beyond_encloser<C: Checks>(
     chain: &HashChain,
     checks: &mut C,
@@ -95,7 +97,8 @@ fn beyond_encloser<C: Checks>(
     }
 }
 
-/// What links prove of a name from its closest encloser, which one of them matches, and the next closer name below it.
+/// What links prove of a name from its closest encloser, which one of them matches, and the next
+/// closer name below it.
 fn from_encloser<C: Checks>(
     chain: &HashChain,
     checks: &mut C,
@@ -135,8 +138,8 @@ fn from_encloser<C: Checks>(
     beyond_encloser(chain, checks, count, octets, closer, &encloser.name)
 }
 
-/// What links prove of a name that none of them matches, by its parents: each is hashed, up to the apex, until one is
-/// matched.
+/// What links prove of a name that none of them matches, by its parents: each is hashed, up to the
+/// apex, until one is matched.
 ///
 /// An ancestor further up would let another wildcard than the name's speak for it (RFC 5155, 8.3).
 fn climbed<C: Checks>(
@@ -177,7 +180,8 @@ fn climbed<C: Checks>(
     climbed(chain, checks, count, octets, &parent)
 }
 
-/// What links prove of a name: one that matches it tells, or else those that match and cover its ancestors.
+/// What links prove of a name: one that matches it tells, or else those that match and cover its
+/// ancestors.
 pub(crate) fn hash_denied<C: Checks>(
     chain: &HashChain,
     checks: &mut C,
@@ -230,8 +234,8 @@ fn expanded_at(links: &[HashLink], rrset: Rrset, hash: &[u8]) -> Option<Verdict>
     }
 }
 
-/// What a wildcard's RRset proves of a name: the next closer name, one label longer than the wildcard's parent, must not
-/// exist.
+/// What a wildcard's RRset proves of a name: the next closer name, one label longer than the
+/// wildcard's parent, must not exist.
 pub(crate) fn hash_expanded<C: Checks>(
     chain: &HashChain,
     checks: &mut C,

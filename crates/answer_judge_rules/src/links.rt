@@ -16,16 +16,19 @@ use std::alloc::{AllocError, Global};
 impl<'a> Link<'a> {
     /// Whether the owner stands above a name and has DNAME.
     ///
-    /// What is below it is redirected: taken as proof, its record would deny names that exist where it leads (RFC 6840, 4.1).
+    /// What is below it is redirected: taken as proof, its record would deny names that exist where
+    /// it leads (RFC 6840, 4.1).
     fn redirects(&self, name: &Name<Vec<u8>>) -> bool
         ensures { result ≡ redirects name.now self.now }
     {
         is_above(&self.owner, name) && self.has(Rtype::DNAME)
     }
 
-    /// Whether a name lies strictly between owner and next name; the apex as next name ends the order.
+    /// Whether a name lies strictly between owner and next name; the apex as next name ends the
+    /// order.
     ///
-    /// The record is silent on its owner and its next name: both exist, and a wider gap would deny them (RFC 4034, 4.1.1).
+    /// The record is silent on its owner and its next name: both exist, and a wider gap would deny
+    /// them (RFC 4034, 4.1.1).
     pub(crate) fn covers(&self, apex: &Name<Vec<u8>>, name: &Name<Vec<u8>>) -> bool
         ensures { result ≡ link_covers apex.now self.now name.now }
     {
@@ -36,7 +39,8 @@ impl<'a> Link<'a> {
 
     /// What the link says of its own name.
     ///
-    /// A record at another name says nothing of this one: replayed, it would deny what that name lacks (RFC 4035, 5.4).
+    /// A record at another name says nothing of this one: replayed, it would deny what that name
+    /// lacks (RFC 4035, 5.4).
     fn at_owner(&self, apex: &Name<Vec<u8>>, name: &Name<Vec<u8>>, rtype: Rtype) -> Option<Verdict>
         ensures { option_map verdict_of result ≡ at_owner apex.now name.now rtype self.now }
     {
@@ -49,7 +53,8 @@ impl<'a> Link<'a> {
 
     /// Whether the owner is a delegation above a name.
     ///
-    /// What lies below it is the child zone's: as a covering record this one would deny what is there (RFC 6840, 4.1).
+    /// What lies below it is the child zone's: as a covering record this one would deny what is
+    /// there (RFC 6840, 4.1).
     fn below_cut(&self, apex: &Name<Vec<u8>>, name: &Name<Vec<u8>>) -> Option<Verdict>
         ensures { option_map verdict_of result ≡ below_cut apex.now name.now self.now }
     {
@@ -72,7 +77,8 @@ impl<'a> Link<'a> {
 
     /// The closest encloser of a name that the link covers.
     ///
-    /// An ancestor further up would let another wildcard than the name's speak for it (RFC 4592, 3.3.1).
+    /// An ancestor further up would let another wildcard than the name's speak for it (RFC 4592,
+    /// 3.3.1).
     pub(crate) fn closest<'n>(&self, name: &'n Name<Vec<u8>>) -> Option<Name<&'n [u8]>>
         ensures { result ≡ closest self.now name.now }
     {
@@ -86,8 +92,8 @@ impl<'a> Link<'a> {
         None
     }
 
-    /// The wildcard under the closest encloser of a name. There is room for it: the encloser is at least one label shorter
-    /// than the name.
+    /// The wildcard under the closest encloser of a name. There is room for it: the encloser is at
+    /// least one label shorter than the name.
     fn wildcard(
         &self,
         alloc: Global,
@@ -104,7 +110,8 @@ impl<'a> Link<'a> {
 
     /// What the link says of a wildcard.
     ///
-    /// Without a look at the wildcard a name that it stands for would pass for one that does not exist (RFC 4035, 5.4).
+    /// Without a look at the wildcard a name that it stands for would pass for one that does not
+    /// exist (RFC 4035, 5.4).
     fn at_star(&self, apex: &Name<Vec<u8>>, star: &Name<Vec<u8>>, rtype: Rtype) -> Option<Verdict>
         ensures { option_map verdict_of result ≡ at_star apex.now star.now rtype self.now }
     {
@@ -127,7 +134,8 @@ impl<'a> Link<'a> {
 
     /// What the link, with the others, says of a name that it covers.
     ///
-    /// A next name below the name shows that the name exists: its absence would deny what stands under it (RFC 4592, 2.2.2).
+    /// A next name below the name shows that the name exists: its absence would deny what stands
+    /// under it (RFC 4592, 2.2.2).
     fn covered(
         &self,
         alloc: Global,
@@ -219,7 +227,8 @@ fn first_covered(
     Ok(None)
 }
 
-/// What links prove of a name and a type. Each rule is tried on the links in turn, before the next rule is.
+/// What links prove of a name and a type. Each rule is tried on the links in turn, before the next
+/// rule is.
 pub(crate) fn denied(
     alloc: Global,
     apex: &Name<Vec<u8>>,

@@ -1,4 +1,5 @@
-//! What the types of a record of a chain say where it stands, by names or by hashes (RFC 6840, 4.1 and 4.3).
+//! What the types of a record of a chain say where it stands, by names or by hashes (RFC 6840, 4.1
+//! and 4.3).
 ghost use Rattle.std.specs.Prelude.{◌≡◌};
 ghost use Rattle.std.specs.Option.{option_map};
 ghost use Rattle.denial_laws.specs.NsecRules.{is_cut, lacks, star_lacks, at_name};
@@ -11,16 +12,19 @@ use names_rdata::rtype::Rtype;
 
 /// Whether they prove that a type is missing: they have neither the type nor CNAME.
 ///
-/// An alias answers for all types: taken as proof, its record would hide where it leads (RFC 6840, 4.3).
+/// An alias answers for all types: taken as proof, its record would hide where it leads (RFC 6840,
+/// 4.3).
 fn lacks(types: &RtypeBitmap<&[u8]>, rtype: Rtype) -> bool
     ensures { result ≡ lacks types.now rtype }
 {
     !types.contains(rtype) && !types.contains(Rtype::CNAME)
 }
 
-/// Whether they prove that a type is missing, if they stand at a wildcard: those of a delegation prove it of DS alone.
+/// Whether they prove that a type is missing, if they stand at a wildcard: those of a delegation
+/// prove it of DS alone.
 ///
-/// A delegation's record is of the parent's side: taken as proof, it would deny types that the child holds (RFC 6840, 4.1).
+/// A delegation's record is of the parent's side: taken as proof, it would deny types that the
+/// child holds (RFC 6840, 4.1).
 pub(crate) fn star_lacks(types: &RtypeBitmap<&[u8]>, rtype: Rtype) -> bool
     ensures { result ≡ star_lacks types.now rtype }
 {
@@ -36,7 +40,8 @@ pub(crate) fn is_cut<N: ToName>(types: &RtypeBitmap<&[u8]>, apex: &Name<Vec<u8>>
 
 /// What they say of the name where they stand.
 ///
-/// At a delegation the parent tells of DS alone: its record, replayed, would deny what the child holds (RFC 6840, 4.1).
+/// At a delegation the parent tells of DS alone: its record, replayed, would deny what the child
+/// holds (RFC 6840, 4.1).
 pub(crate) fn at_name<N: ToName>(
     types: &RtypeBitmap<&[u8]>,
     apex: &Name<Vec<u8>>,

@@ -7,7 +7,8 @@ use denial_data::Dnskey;
 use messages::names::Octets;
 use std::marker::Model;
 
-/// A signature that a caller has checked with a key and octets, and whether it passes: an entry of a table.
+/// A signature that a caller has checked with a key and octets, and whether it passes: an entry of
+/// a table.
 #[derive(Debug, Drop)]
 pub struct CheckedSignature<'a> {
     pub key: Dnskey<&'a [u8]>,

@@ -12,17 +12,17 @@ use std::alloc::{AllocError, Global};
 use std::marker::Brand;
 use std::sync::ledger::{Blank, Ledger};
 
-/// Judges by a table of signatures that were checked, as [`Case::judge`] does. Signatures that the table does not have are
-/// asked for, all that the judgement comes to where each of them passes: where the table has them too, and they pass, one
-/// judgement is made, whichever others pass.
+/// Judges by a table of signatures that were checked, as [`Case::judge`] does. Signatures that the
+/// table does not have are asked for, all that the judgement comes to where each of them passes:
+/// where the table has them too, and they pass, one judgement is made, whichever others pass.
 ///
-/// A caller begins with no entry, checks what is asked for in any order, puts it into its table with what came of it, and calls
-/// again. What is said holds whichever other signatures pass. Entries of other judgements do no harm. An error says that memory
-/// was refused.
+/// A caller begins with no entry, checks what is asked for in any order, puts it into its table
+/// with what came of it, and calls again. What is said holds whichever other signatures pass.
+/// Entries of other judgements do no harm. An error says that memory was refused.
 ///
-/// Whatever signatures pass beside those that pass in the table, of messages in which nothing is forged no verdict is said but
-/// that of a version of the zone, and none of an alias: of a zone in order (nothing beside a CNAME, nothing below a DNAME),
-/// whoever signs and serves it.
+/// Whatever signatures pass beside those that pass in the table, of messages in which nothing is
+/// forged no verdict is said but that of a version of the zone, and none of an alias: of a zone in
+/// order (nothing beside a CNAME, nothing below a DNAME), whoever signs and serves it.
 pub fn judge_by_table(
     alloc: Global,
     case: &Case,

@@ -1,5 +1,6 @@
-//! Judging by a table of signatures that a caller has checked, for callers whose library of signatures a judge cannot call: where
-//! the table does not have signatures, they are asked for, all at once (RFC 4035, 5).
+//! Judging by a table of signatures that a caller has checked, for callers whose library of
+//! signatures a judge cannot call: where the table does not have signatures, they are asked for,
+//! all at once (RFC 4035, 5).
 #![tactic(auto)]
 
 pub mod checked;

@@ -29,9 +29,9 @@ impl Told for Brand {
     ghost table = { [] };
 }
 
-/// The checks of a judge that knows the signatures of a table, makes digests by SHA-2, and hashes names by SHA-1. A signature
-/// that the table does not have passes, and is kept: whatever agrees with the table and passes what was kept agrees with all
-/// that was answered.
+/// The checks of a judge that knows the signatures of a table, makes digests by SHA-2, and hashes
+/// names by SHA-1. A signature that the table does not have passes, and is kept: whatever agrees
+/// with the table and passes what was kept agrees with all that was answered.
 #[derive(Drop)]
 pub(crate) struct TableChecks<'t, 's, T: Told, L: Ledger, M: Ledger> {
     alloc: Global,

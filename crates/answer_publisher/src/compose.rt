@@ -26,8 +26,9 @@ use std::alloc::Global;
 /// The octets of a longest message (RFC 1035, 4.2.2).
 const LONGEST: usize = 65535;
 
-/// Writes an answer: id 0, the flags given, the question as asked, and in the answer and the authority section
-/// each RRset with its signatures behind it, one of each key in the order of the keys.
+/// Writes an answer: id 0, the flags given, the question as asked, and in the answer and the
+/// authority section each RRset with its signatures behind it, one of each key in the order of the
+/// keys.
 pub fn compose_answer<S: Scheme, Octs: Octets>(
     alloc: Global,
     scheme: &S,

@@ -55,8 +55,8 @@ mod replacing;
 
 /// Publishes one signed zone while its keys roll (RFC 4035, 2 and 3; RFC 6781, 4.1).
 ///
-/// It answers questions in signed messages, and shows the DS set that the parent is to have. Scheme and hasher are
-/// borrowed; the zone keeps the hasher.
+/// It answers questions in signed messages, and shows the DS set that the parent is to have. Scheme
+/// and hasher are borrowed; the zone keeps the hasher.
 #[derive(Drop)]
 pub struct Publisher<'a, S: Scheme, H: Nsec3Hasher> {
     alloc: Global,
@@ -69,9 +69,10 @@ pub struct Publisher<'a, S: Scheme, H: Nsec3Hasher> {
 }
 
 impl<'a, S: Scheme, H: Nsec3Hasher> Publisher<'a, S, H> {
-    /// A publisher of these records with a chain of names or of hashes, without keys. Records that are equal up to TTL are
-    /// one, the first. `limit` is the most iterations of NSEC3 that are accepted (RFC 5155, 10.3). A signature holds for
-    /// `life` seconds from the moment of its answer.
+    /// A publisher of these records with a chain of names or of hashes, without keys. Records that
+    /// are equal up to TTL are one, the first. `limit` is the most iterations of NSEC3 that are
+    /// accepted (RFC 5155, 10.3). A signature holds for `life` seconds from the moment of its
+    /// answer.
     pub fn new(
         alloc: Global,
         apex: Name<Vec<u8>>,
@@ -111,7 +112,8 @@ impl<'a, S: Scheme, H: Nsec3Hasher> Publisher<'a, S, H> {
         })
     }
 
-    /// The answer for the DNSKEY RRset: the keys that are present, signed by each key that signs keys, at a moment.
+    /// The answer for the DNSKEY RRset: the keys that are present, signed by each key that signs
+    /// keys, at a moment.
     pub fn dnskey_answer(&self, now: &UnixTime) -> Result<Vec<u8>, AnswerFault>
         ensures fault { let w = world_of S.signature_of S.verifies S.digest_of H.hash_of self.now in
             IfErr result (RefusesKeysQuestion w self.now.keys now.now) }
@@ -172,9 +174,10 @@ impl<'a, S: Scheme, H: Nsec3Hasher> Publisher<'a, S, H> {
         }
     }
 
-    /// The zone's answer to a question at a moment, signed by each key that signs the zone, the CDS and CDNSKEY RRsets of the
-    /// apex also by each key that signs keys (RFC 7344, 4.1); each name that its proof speaks of has a hash. Its second is noted,
-    /// also where no key signs: in it, and before, the zone's records are not replaced. A refused call changes nothing.
+    /// The zone's answer to a question at a moment, signed by each key that signs the zone, the CDS
+    /// and CDNSKEY RRsets of the apex also by each key that signs keys (RFC 7344, 4.1); each name
+    /// that its proof speaks of has a hash. Its second is noted, also where no key signs: in it,
+    /// and before, the zone's records are not replaced. A refused call changes nothing.
     pub fn answer(&mut self, question: &Question, now: &UnixTime) -> Result<Vec<u8>, AnswerFault>
         ensures allowed { let asked = asked_of question.now in
             let allowed = is_allowed self.old.zone.apex asked in
@@ -242,8 +245,8 @@ impl<'a, S: Scheme, H: Nsec3Hasher> Publisher<'a, S, H> {
         )
     }
 
-    /// The keys that sign the answer to a question: those that sign the zone, and those that sign keys too where the answer has
-    /// the CDS or the CDNSKEY RRset of the apex.
+    /// The keys that sign the answer to a question: those that sign the zone, and those that sign
+    /// keys too where the answer has the CDS or the CDNSKEY RRset of the apex.
     fn signers_of(&self, question: &Question, found: usize) -> Publication
         ensures { result ≡ signing self.now.zone.apex (asked_of question.now) found }
     {
@@ -282,22 +285,24 @@ impl<'a, S: Scheme, H: Nsec3Hasher> Publisher<'a, S, H> {
         self.keys.key_set()
     }
 
-    /// The DNSKEY that a reference is bound to: that of its first accepted add, also once its key is deleted.
+    /// The DNSKEY that a reference is bound to: that of its first accepted add, also once its key
+    /// is deleted.
     pub fn dnskey_of(&self, reference: &str) -> Option<&Dnskey<Vec<u8>>>
         ensures { option_copied result ≡ dnskey_at self.now.keys.bound reference.now }
     {
         self.keys.dnskey_of(reference)
     }
 
-    /// The DS set that the parent is to have, of digest type 2, in order of tag (RFC 4034, 5; RFC 4509).
+    /// The DS set that the parent is to have, of digest type 2, in order of tag (RFC 4034, 5;
+    /// RFC 4509).
     pub fn ds_set(&self) -> Result<Vec<Ds<Vec<u8>>>, AllocError>
         ensures { IfOk result (λ v. v.items ≡ ds_set self.now.keys) }
     {
         self.keys.ds_set()
     }
 
-    /// The CDS set, which asks the parent for the DS set: that set from the actions that create the CDS RRset on, up to those
-    /// that remove it, else nothing (RFC 7344, 3).
+    /// The CDS set, which asks the parent for the DS set: that set from the actions that create the
+    /// CDS RRset on, up to those that remove it, else nothing (RFC 7344, 3).
     pub fn cds_set(&self) -> Result<Vec<Ds<Vec<u8>>>, AllocError>
         ensures { IfOk result (λ v. v.items ≡ cds_set self.now.keys) }
     {
@@ -311,8 +316,8 @@ impl<'a, S: Scheme, H: Nsec3Hasher> Publisher<'a, S, H> {
         self.keys.cdnskey_set()
     }
 
-    /// Whether a reference is bound to another key than one of these octets, at most 65,531 of them, so that an add of
-    /// this one is refused.
+    /// Whether a reference is bound to another key than one of these octets, at most 65,531 of
+    /// them, so that an add of this one is refused.
     pub fn is_bound_away(
         &self,
         reference: &str,
@@ -415,8 +420,8 @@ impl<'a, S: Scheme, H: Nsec3Hasher> Publisher<'a, S, H> {
         )
     }
 
-    /// Adds a key of another owner, which is to be in the DNSKEY RRset and signs nothing here, of these octets, at most
-    /// 65,531 of them.
+    /// Adds a key of another owner, which is to be in the DNSKEY RRset and signs nothing here, of
+    /// these octets, at most 65,531 of them.
     pub fn add_public_key(
         &mut self,
         pubref: String,
@@ -443,8 +448,9 @@ impl<'a, S: Scheme, H: Nsec3Hasher> Publisher<'a, S, H> {
         )
     }
 
-    /// Adds a key of a kind, of these octets, at most 65,531 of them. Of a key of another owner no private reference is kept.
-    /// Whether a reference is bound to another key is known before any memory is taken.
+    /// Adds a key of a kind, of these octets, at most 65,531 of them. Of a key of another owner no
+    /// private reference is kept. Whether a reference is bound to another key is known before any
+    /// memory is taken.
     pub fn add_key(
         &mut self,
         kind: KeyKind,
@@ -489,8 +495,8 @@ impl<'a, S: Scheme, H: Nsec3Hasher> Publisher<'a, S, H> {
         self.keys.set_decoupled(pubref, value)
     }
 
-    /// Puts a key into the DNSKEY RRset, or takes it out, outside a roll. The first moment at which it was put in is
-    /// kept.
+    /// Puts a key into the DNSKEY RRset, or takes it out, outside a roll. The first moment at which
+    /// it was put in is kept.
     pub fn set_present(&mut self, pubref: &str, value: bool, now: &UnixTime) -> Result<(), KeyFault>
         ensures keys { let digests = digests S.digest_of self.old in
             let call = Set pubref.now (Present value) in
@@ -500,7 +506,8 @@ impl<'a, S: Scheme, H: Nsec3Hasher> Publisher<'a, S, H> {
         self.keys.set_present(pubref, value, now)
     }
 
-    /// Sets whether a key signs, outside a roll: a combined key in both its roles. An included key never does.
+    /// Sets whether a key signs, outside a roll: a combined key in both its roles. An included key
+    /// never does.
     pub fn set_signer(&mut self, pubref: &str, value: bool) -> Result<(), KeyFault>
         ensures keys { let digests = digests S.digest_of self.old in
             let call = Set pubref.now (Signer value) in
@@ -510,7 +517,8 @@ impl<'a, S: Scheme, H: Nsec3Hasher> Publisher<'a, S, H> {
         self.keys.set_signer(pubref, value)
     }
 
-    /// Sets whether the parent's DS RRset has a key, outside a roll. Zone signing and included keys are never there.
+    /// Sets whether the parent's DS RRset has a key, outside a roll. Zone signing and included keys
+    /// are never there.
     pub fn set_at_parent(&mut self, pubref: &str, value: bool) -> Result<(), KeyFault>
         ensures keys { let digests = digests S.digest_of self.old in
             let call = Set pubref.now (AtParent value) in
@@ -585,7 +593,8 @@ impl<'a, S: Scheme, H: Nsec3Hasher> Publisher<'a, S, H> {
         self.keys.start_roll(rolltype, old, new, now)
     }
 
-    /// Reports that a roll's first changes are on all servers; `ttl` is the greatest one of what they replaced.
+    /// Reports that a roll's first changes are on all servers; `ttl` is the greatest one of what
+    /// they replaced.
     pub fn propagation1_complete(
         &mut self,
         rolltype: RollType,
@@ -612,7 +621,8 @@ impl<'a, S: Scheme, H: Nsec3Hasher> Publisher<'a, S, H> {
         self.keys.cache_expired1(rolltype, now)
     }
 
-    /// Reports that a roll's second changes are on all servers; `ttl` is the greatest one of what they replaced.
+    /// Reports that a roll's second changes are on all servers; `ttl` is the greatest one of what
+    /// they replaced.
     pub fn propagation2_complete(
         &mut self,
         rolltype: RollType,

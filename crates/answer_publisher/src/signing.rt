@@ -22,8 +22,8 @@ use messages::signed::{compose_fields, signed_octets};
 use numbers::class::Class;
 use std::alloc::{AllocError, AllocFailed, Global};
 
-/// Whether a question is for the CDS or the CDNSKEY RRset of the apex, by which a zone asks its parent for a DS set
-/// (RFC 7344, 3).
+/// Whether a question is for the CDS or the CDNSKEY RRset of the apex, by which a zone asks its
+/// parent for a DS set (RFC 7344, 3).
 pub fn is_for_parent(apex: &Name<Vec<u8>>, question: &Question) -> bool
     ensures { result ≡ is_for_parent apex.now (asked_of question.now) }
 {

@@ -263,22 +263,24 @@ impl ZoneKeys {
         Ok(self.keys.set_decoupled(pubref, value)?)
     }
 
-    /// Puts a key into the DNSKEY RRset, or takes it out, outside a roll. The first moment at which it was put in is
-    /// kept.
+    /// Puts a key into the DNSKEY RRset, or takes it out, outside a roll. The first moment at which
+    /// it was put in is kept.
     pub fn set_present(&mut self, pubref: &str, value: bool, now: &UnixTime) -> Result<(), KeyFault>
         ensures { SetsKeys (Set pubref.now (Present value)) now.now self.old self.new result }
     {
         Ok(self.keys.set_present(pubref, value, now)?)
     }
 
-    /// Sets whether a key signs, outside a roll: a combined key in both its roles. An included key never does.
+    /// Sets whether a key signs, outside a roll: a combined key in both its roles. An included key
+    /// never does.
     pub fn set_signer(&mut self, pubref: &str, value: bool) -> Result<(), KeyFault>
         ensures { SetsKeys (Set pubref.now (Signer value)) 0 self.old self.new result }
     {
         Ok(self.keys.set_signer(pubref, value)?)
     }
 
-    /// Sets whether the parent's DS RRset has a key, outside a roll. Zone signing and included keys are never there.
+    /// Sets whether the parent's DS RRset has a key, outside a roll. Zone signing and included keys
+    /// are never there.
     pub fn set_at_parent(&mut self, pubref: &str, value: bool) -> Result<(), KeyFault>
         ensures { SetsKeys (Set pubref.now (AtParent value)) 0 self.old self.new result }
     {
@@ -334,7 +336,8 @@ impl ZoneKeys {
         Ok(self.keys.start_roll(rolltype, old, new, now)?)
     }
 
-    /// Reports that a roll's first changes are on all servers; `ttl` is the greatest one of what they replaced.
+    /// Reports that a roll's first changes are on all servers; `ttl` is the greatest one of what
+    /// they replaced.
     pub fn propagation1_complete(
         &mut self,
         rolltype: RollType,
@@ -357,7 +360,8 @@ impl ZoneKeys {
         Ok(self.keys.cache_expired1(rolltype, now)?)
     }
 
-    /// Reports that a roll's second changes are on all servers; `ttl` is the greatest one of what they replaced.
+    /// Reports that a roll's second changes are on all servers; `ttl` is the greatest one of what
+    /// they replaced.
     pub fn propagation2_complete(
         &mut self,
         rolltype: RollType,

@@ -8,11 +8,12 @@ use denial_nsec3_hash::hasher::HashError;
 use numbers::algorithm::DigestAlgorithm;
 use std::alloc::Global;
 
-/// What a judge asks of a scheme and a hasher. A contract sees how often `verify` and `hash` were called.
+/// What a judge asks of a scheme and a hasher. A contract sees how often `verify` and `hash` were
+/// called.
 ///
-/// Checks that know some signatures alone, and say of others what they please, tell by `agrees` for whom their answers hold: a
-/// judgement is then that of every scheme which agrees with all that was answered. By `asked_only` they tell what they were
-/// asked. Most have no use for either.
+/// Checks that know some signatures alone, and say of others what they please, tell by `agrees` for
+/// whom their answers hold: a judgement is then that of every scheme which agrees with all that was
+/// answered. By `asked_only` they tell what they were asked. Most have no use for either.
 pub trait Checks {
     ghost answers: { Self → Answers };
 
@@ -28,7 +29,8 @@ pub trait Checks {
     /// How often `hash` was called.
     ghost hashed: { Self → ℕ };
 
-    /// Whether a signature passes under a key, over the octets that it is made over (RFC 4034, 3.1.8.1).
+    /// Whether a signature passes under a key, over the octets that it is made over (RFC 4034,
+    /// 3.1.8.1).
     fn verify(&mut self, key: &Dnskey<&[u8]>, octets: &[u8], signature: &[u8]) -> bool
         ensures answer { result ≡ (answers self.old).verifies key.now octets.now signature.now }
         ensures agrees { (test : SignatureTest) → agrees self.new test
@@ -39,8 +41,8 @@ pub trait Checks {
         ensures others { hashed self.new ≡ hashed self.old }
         ensures same { answers self.new ≡ answers self.old };
 
-    /// The digest of a DS record's type, of an owner in canonical form and DNSKEY data (RFC 4034, 5.1.4). It fails for a type that
-    /// is not made.
+    /// The digest of a DS record's type, of an owner in canonical form and DNSKEY data (RFC 4034,
+    /// 5.1.4). It fails for a type that is not made.
     fn digest(
         &self,
         alloc: Global,
@@ -52,8 +54,8 @@ pub trait Checks {
         ensures failed { IsErrOf result SchemeError.Failed
             → (answers self.now).digest algorithm octets.now ≡ None };
 
-    /// The hash of a name in wire form and lower case, by an algorithm (1 is SHA-1), iterations and salt (RFC 5155, 5). It fails
-    /// for an algorithm that is not known.
+    /// The hash of a name in wire form and lower case, by an algorithm (1 is SHA-1), iterations and
+    /// salt (RFC 5155, 5). It fails for an algorithm that is not known.
     fn hash(
         &mut self,
         alloc: Global,

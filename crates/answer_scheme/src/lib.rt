@@ -1,4 +1,5 @@
-//! What signs, verifies and digests for a publisher and a judge, and how a judge's checks are counted.
+//! What signs, verifies and digests for a publisher and a judge, and how a judge's checks are
+//! counted.
 #![tactic(auto)]
 
 pub mod checks;

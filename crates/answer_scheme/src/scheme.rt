@@ -18,7 +18,8 @@ pub trait Scheme {
     /// The digest of a type of octets; None for a failure.
     ghost digest_of: { Self → ℕ → List ℕ → Option (List ℕ) };
 
-    /// The signature of octets under a key, which passes (RFC 4034, 3.1.8.1). It fails where it has no private key, say.
+    /// The signature of octets under a key, which passes (RFC 4034, 3.1.8.1). It fails where it has
+    /// no private key, say.
     fn sign(
         &self,
         alloc: Global,
@@ -35,8 +36,8 @@ pub trait Scheme {
     fn verify(&self, key: &Dnskey<&[u8]>, octets: &[u8], signature: &[u8]) -> bool
         ensures { result ≡ verifies self.now key.now octets.now signature.now };
 
-    /// The digest of a DS record's type, of an owner in canonical form and DNSKEY data (RFC 4034, 5.1.4). It fails for a type that
-    /// is not made.
+    /// The digest of a DS record's type, of an owner in canonical form and DNSKEY data (RFC 4034,
+    /// 5.1.4). It fails for a type that is not made.
     fn digest(
         &self,
         alloc: Global,

@@ -26,7 +26,8 @@ pub trait ZoneKey {
         ensures ok { let octets = dnskey_data (fields self.now) in
             OnOk result (out.new.items ≡ out.old.items ++ octets) };
 
-    /// What a DS record's digest is made of: the owner in canonical form and the record's data (RFC 4034, 5.1.4).
+    /// What a DS record's digest is made of: the owner in canonical form and the record's data
+    /// (RFC 4034, 5.1.4).
     fn digested(&self, alloc: Global, owner: &Name<Vec<u8>>) -> Result<Vec<u8>, AllocError>
         ensures { IfOk result (λ v. v.items ≡ digested owner.now (fields self.now)) };
 }
@@ -63,8 +64,8 @@ impl<Octs: Octets> ZoneKey for Dnskey<Octs> {
     }
 }
 
-/// The key that a DNSKEY record's data spell, over the same octets; None where they end within the fields before the
-/// key (RFC 4034, 2.1).
+/// The key that a DNSKEY record's data spell, over the same octets; None where they end within the
+/// fields before the key (RFC 4034, 2.1).
 pub fn key_of_data(rdata: &[u8]) -> Option<Dnskey<&[u8]>>
     requires { length rdata.now ≤ 65535 }
     ensures { result ≡ dnskey_of_data rdata.now }

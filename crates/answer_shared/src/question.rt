@@ -8,8 +8,8 @@ use messages::question::Question;
 use numbers::class::Class;
 use numbers::rtype::Rtype;
 
-/// Whether a question is answered and judged: class IN, at or below the apex, and none of the types that signing
-/// adds, of aliases, or that no zone holds (RFC 6895, 3.1).
+/// Whether a question is answered and judged: class IN, at or below the apex, and none of the types
+/// that signing adds, of aliases, or that no zone holds (RFC 6895, 3.1).
 pub fn is_allowed(apex: &Name<Vec<u8>>, question: &Question) -> bool
     ensures { result ≡ is_allowed apex.now (asked_of question.now) }
 {
@@ -23,11 +23,11 @@ pub fn is_allowed(apex: &Name<Vec<u8>>, question: &Question) -> bool
         && !matches!(question.rtype.to_int(), 0 | 128..=255)
 }
 
-/// Whether a question is one for the records of aliases: CNAME or DNAME (RFC 1034, 3.6.2; RFC 6672), class IN, at or below
-/// the apex.
+/// Whether a question is one for the records of aliases: CNAME or DNAME (RFC 1034, 3.6.2;
+/// RFC 6672), class IN, at or below the apex.
 ///
-/// A publisher answers none of these, since its zones have no aliases. A judge may be asked: what a zone says of these types
-/// is signed as what it says of others.
+/// A publisher answers none of these, since its zones have no aliases. A judge may be asked: what a
+/// zone says of these types is signed as what it says of others.
 pub fn asks_alias(apex: &Name<Vec<u8>>, question: &Question) -> bool
     ensures { result ≡ asks_alias apex.now (asked_of question.now) }
 {

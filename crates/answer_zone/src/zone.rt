@@ -30,8 +30,9 @@ mod contents;
 mod lookups;
 mod open_answers;
 
-/// The records of an accepted zone in canonical order, and its chain with the TTL of its records. The chain is that of one
-/// hasher, which is borrowed for as long as the zone is kept: names of questions are hashed by no other.
+/// The records of an accepted zone in canonical order, and its chain with the TTL of its records.
+/// The chain is that of one hasher, which is borrowed for as long as the zone is kept: names of
+/// questions are hashed by no other.
 #[derive(Drop)]
 pub struct ZoneRecords<'h, H: Nsec3Hasher> {
     apex: Name<Vec<u8>>,
@@ -78,9 +79,10 @@ impl<'h, H: Nsec3Hasher> Model for ZoneRecords<'h, H> {
 }
 
 impl<'h, H: Nsec3Hasher> ZoneRecords<'h, H> {
-    /// A zone of these records, unless one of them or the chain has a fault. Each fault of the list is sought in the
-    /// whole list before the next (RFC 1035, 5.2; RFC 2181, 5.2; RFC 4035, 2). Iterations beyond the limit are refused
-    /// (RFC 5155, 10.3), and so is a chain in which two names would share a hash (RFC 5155, 7.1).
+    /// A zone of these records, unless one of them or the chain has a fault. Each fault of the list
+    /// is sought in the whole list before the next (RFC 1035, 5.2; RFC 2181, 5.2; RFC 4035, 2).
+    /// Iterations beyond the limit are refused (RFC 5155, 10.3), and so is a chain in which two
+    /// names would share a hash (RFC 5155, 7.1).
     pub fn new(
         alloc: Global,
         apex: Name<Vec<u8>>,
@@ -116,8 +118,8 @@ impl<'h, H: Nsec3Hasher> ZoneRecords<'h, H> {
         })
     }
 
-    /// Makes the zone anew of other records, with the same apex, chain, limit and hasher. It is refused as a new zone would
-    /// be, and then stays as it was.
+    /// Makes the zone anew of other records, with the same apex, chain, limit and hasher. It is
+    /// refused as a new zone would be, and then stays as it was.
     pub fn replace_records(
         &mut self,
         alloc: Global,

@@ -1,4 +1,5 @@
-//! The chain of a zone, made once: a record for each name that owns records, with the next such name (RFC 4034, 4).
+//! The chain of a zone, made once: a record for each name that owns records, with the next such
+//! name (RFC 4034, 4).
 ghost use Rattle.std.specs.Prelude.{◌≡◌, ℕ, List, ◌<◌, ◌≤◌, true, false, length, map, IfErr, IfOk, IfSome, IsSome, OnOk};
 ghost use Rattle.std.specs.List.{AllByRecursion};
 ghost use Rattle.std.specs.List.Sorted.{IsPartitionPoint};
@@ -36,7 +37,8 @@ use std::marker::Model;
 /// A record of a chain as it is made, over names of a zone.
 type NsecRecord<'a> = Record<&'a Name<Vec<u8>>, Nsec<Vec<u8>, &'a Name<Vec<u8>>>>;
 
-/// A record of the chain: the owner and the next name as the zone spells them, and the data as they are written.
+/// A record of the chain: the owner and the next name as the zone spells them, and the data as they
+/// are written.
 #[derive(Drop)]
 pub struct ChainLink {
     owner: Name<Vec<u8>>,
@@ -115,8 +117,8 @@ impl Link for ChainLink {
     }
 }
 
-/// Adds the records of a chain that match or cover one of some names, each once, in the order of the chain. Each is found
-/// by binary search.
+/// Adds the records of a chain that match or cover one of some names, each once, in the order of
+/// the chain. Each is found by binary search.
 pub fn push_links(
     alloc: Global,
     groups: &mut Vec<RrGroup>,
@@ -154,7 +156,8 @@ fn link_places(
     Ok(places)
 }
 
-/// The place of the record that matches or covers a name: the last one whose owner does not come behind the name.
+/// The place of the record that matches or covers a name: the last one whose owner does not come
+/// behind the name.
 fn place_at(chain: &[ChainLink], name: &Name<Vec<u8>>) -> Option<usize>
     requires { IsClimbing chain.now }
     ensures within { IfSome result (λ k. k < length chain.now) }

@@ -20,8 +20,8 @@ use std::alloc::Global;
 pub enum Chain {
     /// NSEC records (RFC 4034, 4).
     Names(Vec<ChainLink>),
-    /// NSEC3 records, each with the hash that its owner spells, so that an answer hashes only the names of its question
-    /// (RFC 5155, 3).
+    /// NSEC3 records, each with the hash that its owner spells, so that an answer hashes only the
+    /// names of its question (RFC 5155, 3).
     Hashes(Vec<HashedLink>),
 }
 

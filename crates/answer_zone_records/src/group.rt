@@ -7,8 +7,8 @@ use plain::Ttl;
 use std::alloc::{AllocError, Global};
 use std::marker::Model;
 
-/// A record of an RRset as it is written: its owner, where it spells that otherwise than the RRset, its TTL, and its
-/// data as they are spelled.
+/// A record of an RRset as it is written: its owner, where it spells that otherwise than the RRset,
+/// its TTL, and its data as they are spelled.
 #[derive(Debug, Drop)]
 pub struct GroupRecord {
     pub owner: Option<Name<Vec<u8>>>,
@@ -28,8 +28,8 @@ impl GroupRecord {
     }
 }
 
-/// An RRset of an answer: its records as they are written, and its data in canonical form, in canonical order
-/// (RFC 4034, 6.3).
+/// An RRset of an answer: its records as they are written, and its data in canonical form, in
+/// canonical order (RFC 4034, 6.3).
 #[derive(Debug, Drop)]
 pub struct RrGroup {
     owner: Name<Vec<u8>>,
@@ -64,9 +64,9 @@ impl RrGroup {
     ghost use Rattle.answer_shared.specs.GroupView.{canonical_view};
     ghost use Rattle.answer_zone_records.specs.GroupRecords.{record_under};
 
-    /// An RRset of its parts. Owner and TTL are those of its signatures, and the owner is that of each record which has
-    /// none of its own. The label count is that of the owner that the records stem from, which for a wildcard's
-    /// records is the wildcard (RFC 4034, 3.1.3).
+    /// An RRset of its parts. Owner and TTL are those of its signatures, and the owner is that of
+    /// each record which has none of its own. The label count is that of the owner that the records
+    /// stem from, which for a wildcard's records is the wildcard (RFC 4034, 3.1.3).
     pub fn new(
         owner: Name<Vec<u8>>,
         label_count: u8,
@@ -95,7 +95,8 @@ impl RrGroup {
         }
     }
 
-    /// An RRset that is written in canonical form, under one owner; it is signed if it has a record.
+    /// An RRset that is written in canonical form, under one owner; it is signed if it has a
+    /// record.
     pub fn canonical_form(
         alloc: Global,
         owner: Name<Vec<u8>>,

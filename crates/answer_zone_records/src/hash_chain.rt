@@ -1,5 +1,5 @@
-//! A chain of hashes, made once: a record for each kept name and each empty non-terminal, in the order of their hashes
-//! (RFC 5155, 7.1).
+//! A chain of hashes, made once: a record for each kept name and each empty non-terminal, in the
+//! order of their hashes (RFC 5155, 7.1).
 ghost use Rattle.std.specs.Prelude.{◌≡◌, ◌<◌, ◌≤◌, [], length, map, true, false, IfErr, IfOk, IfSome, OnOk, if◌then◌else◌};
 ghost use Rattle.std.specs.List.{AllByRecursion};
 ghost use Rattle.std.specs.List.Sorted.{IsPartitionPoint};
@@ -57,7 +57,8 @@ pub struct HashParameters<'m> {
     pub opt_out: bool,
 }
 
-/// A record of the chain: its owner, the hash that this spells, the next hash, and the data as they are written.
+/// A record of the chain: its owner, the hash that this spells, the next hash, and the data as they
+/// are written.
 #[derive(Drop)]
 pub struct HashedLink {
     owner: Name<Vec<u8>>,
@@ -106,7 +107,8 @@ pub fn hash_chain_of<H: Nsec3Hasher>(
     Ok(hashed_links(alloc, &made.nsec3s)?)
 }
 
-/// How the chain is made: DNSKEY records are to come, hashes are SHA-1 (RFC 5155, 11), and opt-out excludes.
+/// How the chain is made: DNSKEY records are to come, hashes are SHA-1 (RFC 5155, 11), and opt-out
+/// excludes.
 fn config_of<'m>(parameters: &HashParameters<'m>) -> GenerateNsec3Config<&'m [u8]>
     ensures params { let p = parameters.now in result.params
         ≡ nsec3param_with 1 (if p.opt_out then 1 else 0) p.iterations p.salt.now }
@@ -124,7 +126,8 @@ fn config_of<'m>(parameters: &HashParameters<'m>) -> GenerateNsec3Config<&'m [u8
     }
 }
 
-/// Links of NSEC3 records, each with the hash that its owner spells: it is the next hash of the record before.
+/// Links of NSEC3 records, each with the hash that its owner spells: it is the next hash of the
+/// record before.
 fn hashed_links(alloc: Global, nsec3s: &[Nsec3Record]) -> Result<Vec<HashedLink>, AllocError>
     ensures links { IfOk result (λ v. v.items ≡ hashed_around nsec3s.now) }
     ensures octets { IfOk result (λ v. AllByRecursion HasOctets v.items) }
@@ -183,8 +186,8 @@ impl Link for HashedLink {
     }
 }
 
-/// Adds the records of a chain that match or cover one of some hashes, each once, in the order of the chain. Each is found
-/// by binary search.
+/// Adds the records of a chain that match or cover one of some hashes, each once, in the order of
+/// the chain. Each is found by binary search.
 pub fn push_hashed_links(
     alloc: Global,
     groups: &mut Vec<RrGroup>,
@@ -220,8 +223,8 @@ fn hash_places(
     Ok(places)
 }
 
-/// The place of the record that matches or covers a hash: the last one whose hash does not come behind it, or the last of
-/// all where each does (RFC 5155, 3.1.7).
+/// The place of the record that matches or covers a hash: the last one whose hash does not come
+/// behind it, or the last of all where each does (RFC 5155, 3.1.7).
 fn place_around(chain: &[HashedLink], hash: &[u8]) -> Option<usize>
     requires { IsCircle chain.now }
     ensures within { IfSome result (λ k. k < length chain.now) }

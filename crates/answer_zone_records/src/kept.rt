@@ -11,8 +11,9 @@ use messages::names::{Name, copy_name};
 use messages::record::ZoneData;
 use std::alloc::{AllocError, Global};
 
-/// Names in canonical order, some perhaps alike. A name is at or above one of them exactly where it is at or above an owner that
-/// opt-out keeps, which is below no delegation, and no delegation without DS (RFC 5155, 6).
+/// Names in canonical order, some perhaps alike. A name is at or above one of them exactly where it
+/// is at or above an owner that opt-out keeps, which is below no delegation, and no delegation
+/// without DS (RFC 5155, 6).
 pub fn kept_names(
     alloc: Global,
     apex: &Name<Vec<u8>>,

@@ -1,5 +1,5 @@
-//! The records of a zone: which are accepted, the chain that is made of them and what it says of names, what a name owns among
-//! them, and RRsets on their way into an answer.
+//! The records of a zone: which are accepted, the chain that is made of them and what it says of
+//! names, what a name owns among them, and RRsets on their way into an answer.
 #![tactic(auto)]
 
 pub mod chain;

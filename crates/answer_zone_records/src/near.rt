@@ -35,8 +35,9 @@ impl Named for ZoneRecord {
     }
 }
 
-/// Where a name stands among others: the last one before it, and the first from it on. What is below a name stands
-/// directly behind it, so an ancestor has something at or below it exactly where one of these two is.
+/// Where a name stands among others: the last one before it, and the first from it on. What is
+/// below a name stands directly behind it, so an ancestor has something at or below it exactly
+/// where one of these two is.
 #[derive(Drop)]
 pub struct Neighbours<'a> {
     before: Option<&'a Name<Vec<u8>>>,

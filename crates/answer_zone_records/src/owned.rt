@@ -44,7 +44,8 @@ pub struct Cut<'a> {
     pub owned: Owned<'a>,
 }
 
-/// An RRset: its records as they are written, under an owner that is still to be named, and its canonical data.
+/// An RRset: its records as they are written, under an owner that is still to be named, and its
+/// canonical data.
 #[derive(Drop)]
 pub struct RrsetData {
     pub records: Vec<GroupRecord>,
@@ -65,7 +66,8 @@ impl<'a> Owned<'a> {
         }
     }
 
-    /// What a name owns among records. The search is short where it stands at a place or not far before it.
+    /// What a name owns among records. The search is short where it stands at a place or not far
+    /// before it.
     pub fn found_near<O: ToName>(
         records: &'a SortedRecords<Name<Vec<u8>>, ZoneData>,
         name: &O,
@@ -220,7 +222,8 @@ fn grouped(alloc: Global, rr: &ZoneRecord, own: bool) -> Result<GroupRecord, All
     })
 }
 
-/// The TTL of the chain: the lesser of the SOA record's own and its minimum (RFC 9077, 3), 0 without an SOA record.
+/// The TTL of the chain: the lesser of the SOA record's own and its minimum (RFC 9077, 3), 0
+/// without an SOA record.
 pub fn chain_ttl(
     alloc: Global,
     apex: &Name<Vec<u8>>,
@@ -235,8 +238,8 @@ pub fn chain_ttl(
     }
 }
 
-/// The lesser of the TTL and the last four octets of the data, which in an SOA record are its minimum
-/// (RFC 1035, 3.3.13; RFC 9077, 3).
+/// The lesser of the TTL and the last four octets of the data, which in an SOA record are its
+/// minimum (RFC 1035, 3.3.13; RFC 9077, 3).
 fn chain_ttl_of(alloc: Global, rr: &ZoneRecord) -> Result<Ttl, AllocError>
     ensures { let r = handed_of rr.now in IfOk result (λ t. t ≡ min r.ttl (minimum_of r.bytes)) }
 {

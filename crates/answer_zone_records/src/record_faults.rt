@@ -42,7 +42,8 @@ pub fn is_alias(rr: &ZoneRecord) -> bool
     rr.rtype() == Rtype::CNAME || rr.rtype() == Rtype::DNAME
 }
 
-/// Whether no zone holds the type (RFC 6895, 3.1), or data of an NS or SOA record are given as unknown ones.
+/// Whether no zone holds the type (RFC 6895, 3.1), or data of an NS or SOA record are given as
+/// unknown ones.
 pub fn is_meta(rr: &ZoneRecord) -> bool
     ensures { result ≡ is_meta (handed_of rr.now) }
 {

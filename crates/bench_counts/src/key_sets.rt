@@ -1,4 +1,5 @@
-//! Makes the calls of a roll of zone signing keys on a large key set, half of whose keys are old and half of them new.
+//! Makes the calls of a roll of zone signing keys on a large key set, half of whose keys are old
+//! and half of them new.
 
 use keyset::{Available, Error, KeySet, RollType, UnixTime};
 use names_flat::name::Name;

@@ -1,7 +1,9 @@
-//! Does work whose instructions are counted: on names, names in messages, sorted records, chains, key sets and judgements.
+//! Does work whose instructions are counted: on names, names in messages, sorted records, chains,
+//! key sets and judgements.
 //!
-//! A line that begins with `#` says what is done: on what, a task and how often, as in `# names compare 2`. The lines
-//! behind it, up to the next such line, are what is worked on. For each a line is printed, which counts what was found.
+//! A line that begins with `#` says what is done: on what, a task and how often, as in `# names
+//! compare 2`. The lines behind it, up to the next such line, are what is worked on. For each a
+//! line is printed, which counts what was found.
 #![tactic(auto)]
 
 mod flat_names;

@@ -1,4 +1,5 @@
-//! Work on names in a message: it stands on the first line in hexadecimal, and a place of it on each other one.
+//! Work on names in a message: it stands on the first line in hexadecimal, and a place of it on
+//! each other one.
 
 use arrayvec::ArrayVec;
 use names_parsed::parsed::ParsedName;

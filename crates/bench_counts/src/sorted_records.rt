@@ -1,4 +1,5 @@
-//! Work on sorted records, each on a line: its owner, the number of its type and its data, the octets of a word.
+//! Work on sorted records, each on a line: its owner, the number of its type and its data, the
+//! octets of a word.
 
 use denial_sorted::laws::unknown_data_order_is_total;
 use denial_sorted::sorted::SortedRecords;
@@ -24,7 +25,8 @@ fn record(alloc: Global, line: &str) -> Option<Rr> {
     Some(Record::new(owner, Class::IN, Ttl::from_secs(3600), content))
 }
 
-/// How many records are held once all are sorted, and the last ones, as many as are given, put in one by one.
+/// How many records are held once all are sorted, and the last ones, as many as are given, put in
+/// one by one.
 fn sort(alloc: Global, records: Vec<Rr>, last: u64) -> u64 {
     unknown_data_order_is_total::<Vec<u8>>();
     let (mut records, mut later) = (records, Vec::new(alloc));

@@ -1,6 +1,7 @@
-//! Judgements of whole messages of the zone `example`: its DNSKEY answer stands on the first line, and its answer for the
-//! address of `a.example` on the second, both in hexadecimal. A signature is a copy of the octets that it is made over, so
-//! that verifying costs next to nothing, and a digest the octet 7.
+//! Judgements of whole messages of the zone `example`: its DNSKEY answer stands on the first line,
+//! and its answer for the address of `a.example` on the second, both in hexadecimal. A signature is
+//! a copy of the octets that it is made over, so that verifying costs next to nothing, and a digest
+//! the octet 7.
 
 use answer_judge::{Case, judge_with};
 use answer_scheme::error::SchemeError;
@@ -18,7 +19,8 @@ use std::alloc::Global;
 use std::io;
 use std::time::Duration;
 
-/// Signs by copying, and digests to one octet. The example of a caller has one of its own, so that it can be read alone.
+/// Signs by copying, and digests to one octet. The example of a caller has one of its own, so that
+/// it can be read alone.
 #[derive(Drop)]
 struct Copying;
 

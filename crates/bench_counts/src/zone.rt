@@ -1,5 +1,5 @@
-//! Records of a zone, a line each: an owner, the number of a type and the data, the octets of a word. SOA records have
-//! data of their own.
+//! Records of a zone, a line each: an owner, the number of a type and the data, the octets of a
+//! word. SOA records have data of their own.
 
 use names::{Name, Rtype, Serial, UnknownRecordData};
 use plain::record::Record;

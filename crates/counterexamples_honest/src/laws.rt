@@ -1,5 +1,5 @@
-//! Messages that meet the premises on honest messages, and what each premise is needed for. Each law is the contract of a
-//! function that does nothing.
+//! Messages that meet the premises on honest messages, and what each premise is needed for. Each
+//! law is the contract of a function that does nothing.
 ghost use Rattle.std.specs.Prelude.{[], ◌∷◌};
 ghost use Rattle.definitions.specs.Zone.{NoName, Records};
 ghost use Rattle.answer_judge_keys.specs.Judging.{Says, Refuses};
@@ -15,9 +15,9 @@ pub fn all_premises_are_honesty()
     ensures truly { NoneIsFalse }
 {}
 
-/// Messages are honest whose signatures that hold were quoted from RRsets which were signed, however many, under whatever
-/// owners and beside whatever records, or pass under no published key; where a signature passes over one string of octets
-/// alone.
+/// Messages are honest whose signatures that hold were quoted from RRsets which were signed,
+/// however many, under whatever owners and beside whatever records, or pass under no published key;
+/// where a signature passes over one string of octets alone.
 pub fn quotes_are_honest()
     ensures { QuotesAreHonest }
 {}
@@ -27,109 +27,120 @@ pub fn own_answers_are_honest()
     ensures { IsHonestCase plain own (small ∷ []) (Says (Records (address ∷ []))) }
 {}
 
-/// A wildcard's address, moved to a name below one that exists, beside the record of the chain that covers that name, is honest:
-/// both records were signed, in two answers. They prove nothing (RFC 4035, 5.3.4).
+/// A wildcard's address, moved to a name below one that exists, beside the record of the chain that
+/// covers that name, is honest: both records were signed, in two answers. They prove nothing
+/// (RFC 4035, 5.3.4).
 pub fn splices_are_honest()
     ensures { IsHonestCase plain spliced (starred ∷ []) (Refuses NotProven) }
 {}
 
-/// A DNSKEY answer of a stranger's key that has the tag of the zone's key, and an answer that the stranger's key signed, are
-/// honest. They are refused: no trusted key signed the keys (RFC 4035, 5.2).
+/// A DNSKEY answer of a stranger's key that has the tag of the zone's key, and an answer that the
+/// stranger's key signed, are honest. They are refused: no trusted key signed the keys (RFC 4035,
+/// 5.2).
 pub fn answers_of_strangers_are_honest()
     ensures { IsHonestCase plain of_strangers (small ∷ []) (Refuses NoTrustedKey) }
 {}
 
-/// An address that was forged under the zone's key, in a signature whose time is over, is honest. It proves nothing (RFC 4035,
-/// 5.3.1).
+/// An address that was forged under the zone's key, in a signature whose time is over, is honest.
+/// It proves nothing (RFC 4035, 5.3.1).
 pub fn what_is_forged_late_is_honest()
     ensures { IsHonestCase plain forged_late (small ∷ []) (Refuses NotProven) }
 {}
 
-/// So is an address that the zone's key signed for another zone: a judge that does not look at the signer would say it
-/// (RFC 4035, 5.3.1).
+/// So is an address that the zone's key signed for another zone: a judge that does not look at the
+/// signer would say it (RFC 4035, 5.3.1).
 pub fn what_is_signed_for_another_zone_is_honest()
     ensures { IsHonestCase plain of_other_signer (small ∷ []) (Refuses NotProven) }
 {}
 
-/// So is an address that a published key signed which is no zone key: a judge that does not look at the bit of zone keys would
-/// say it (RFC 4034, 2.1.1).
+/// So is an address that a published key signed which is no zone key: a judge that does not look at
+/// the bit of zone keys would say it (RFC 4034, 2.1.1).
 pub fn what_is_signed_by_no_zone_key_is_honest()
     ensures { IsHonestCase plain of_idle (small ∷ []) (Refuses NotProven) }
 {}
 
-/// So is the record of the chain of an alias, which lacks the type: a judge that takes it as proof says NODATA at an alias
-/// (RFC 6840, 4.3).
+/// So is the record of the chain of an alias, which lacks the type: a judge that takes it as proof
+/// says NODATA at an alias (RFC 6840, 4.3).
 pub fn the_record_of_an_alias_is_honest()
     ensures { IsHonestCase plain at_alias (aliased ∷ []) (Refuses NotProven) }
 {}
 
-/// So is the record of the chain of a DNAME, which covers the names below it: a judge that takes it as proof denies what is
-/// redirected (RFC 6840, 4.1).
+/// So is the record of the chain of a DNAME, which covers the names below it: a judge that takes it
+/// as proof denies what is redirected (RFC 6840, 4.1).
 pub fn the_record_of_a_dname_is_honest()
     ensures { IsHonestCase plain below_redirected (redirected ∷ []) (Refuses NotProven) }
 {}
 
-/// So are records of two versions that were signed in one second, the second for longer: a judge that compares inceptions alone
-/// calls a name missing that both versions have.
+/// So are records of two versions that were signed in one second, the second for longer: a judge
+/// that compares inceptions alone calls a name missing that both versions have.
 pub fn versions_that_begin_at_once_are_honest()
     ensures { let versions = first_version ∷ second_version ∷ [] in
         IsHonestCase plain begun_at_once versions (Refuses MixedVersions) }
 {}
 
-/// Beside an empty DS set nothing is verified, so each zone would be called unsigned (RFC 4035, 5.2).
+/// Beside an empty DS set nothing is verified, so each zone would be called unsigned (RFC 4035,
+/// 5.2).
 pub fn a_ds_record_is_needed()
     ensures { SaysFalsely without_ds }
 {}
 
-/// Whoever can sign a DNSKEY RRset under the zone's key adds a key, and signs any answer with it (RFC 4035, 5.2).
+/// Whoever can sign a DNSKEY RRset under the zone's key adds a key, and signs any answer with it
+/// (RFC 4035, 5.2).
 pub fn no_keys_may_be_forged()
     ensures { SaysFalsely without_keys_unforged }
 {}
 
-/// Whoever has a key of the same tag, algorithm and digest as the DS record signs a DNSKEY RRset of it (RFC 4034, 5.1.4).
+/// Whoever has a key of the same tag, algorithm and digest as the DS record signs a DNSKEY RRset of
+/// it (RFC 4034, 5.1.4).
 pub fn digests_must_name_the_zones_keys()
     ensures { SaysFalsely without_keys_known }
 {}
 
-/// Whoever can sign an answer under the zone's key says what the zone does not say (RFC 4035, 5.3.3).
+/// Whoever can sign an answer under the zone's key says what the zone does not say (RFC 4035,
+/// 5.3.3).
 pub fn no_answer_may_be_forged()
     ensures { SaysFalsely without_answer_unforged }
 {}
 
-/// A key that the zone signs into its DNSKEY RRset may sign whatever answer, so it is to be one of those that are published.
+/// A key that the zone signs into its DNSKEY RRset may sign whatever answer, so it is to be one of
+/// those that are published.
 pub fn keys_that_are_signed_must_be_published()
     ensures { SaysFalsely without_keys_published }
 {}
 
-/// A name that has the hash of another passes for it: a name that does not exist, for one that lacks the type (RFC 5155,
-/// 12.1.1).
+/// A name that has the hash of another passes for it: a name that does not exist, for one that
+/// lacks the type (RFC 5155, 12.1.1).
 pub fn no_two_names_may_share_a_hash()
     ensures { SaysFalsely without_hashes_apart }
 {}
 
-/// Records of two versions, signed at two moments, are refused though nothing in them is forged. A judge that does not ask for
-/// signatures of one moment calls a name missing that both versions have.
+/// Records of two versions, signed at two moments, are refused though nothing in them is forged. A
+/// judge that does not ask for signatures of one moment calls a name missing that both versions
+/// have.
 pub fn versions_do_not_mix()
     ensures { IsMixture plain mixed (first_version ∷ second_version ∷ []) NoName }
 {}
 
-/// An address beside a CNAME is proved, though the name is an alias: nothing may stand beside a CNAME (RFC 1034, 3.6.2).
+/// An address beside a CNAME is proved, though the name is an alias: nothing may stand beside a
+/// CNAME (RFC 1034, 3.6.2).
 pub fn nothing_may_stand_beside_a_cname()
     ensures { SaysFalsely without_alone }
 {}
 
-/// An address below a DNAME is proved, though the name is redirected: nothing may stand below a DNAME (RFC 6672, 2.4).
+/// An address below a DNAME is proved, though the name is redirected: nothing may stand below a
+/// DNAME (RFC 6672, 2.4).
 pub fn nothing_may_stand_below_a_dname()
     ensures { SaysFalsely without_childless }
 {}
 
-/// A delegation's NSEC record does not show a DNAME beside its NS: so names below are called delegated that are redirected
-/// (RFC 6672, 2.3).
+/// A delegation's NSEC record does not show a DNAME beside its NS: so names below are called
+/// delegated that are redirected (RFC 6672, 2.3).
 pub fn no_dname_may_stand_at_a_delegation()
     ensures { SaysFalsely without_uncut }
 {}
 
-/// An NSEC record that is handed in as data is signed, and denies what the zone has (RFC 4035, 2.3).
+/// An NSEC record that is handed in as data is signed, and denies what the zone has (RFC 4035,
+/// 2.3).
 pub fn no_record_may_be_of_a_type_that_signing_adds()
     ensures { SaysFalsely without_ordinary }
 {}

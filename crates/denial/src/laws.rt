@@ -1,5 +1,5 @@
-//! Laws of DNSSEC record data, sorted records and chains. Each is a function without a parameter, whose contract is the
-//! law.
+//! Laws of DNSSEC record data, sorted records and chains. Each is a function without a parameter,
+//! whose contract is the law.
 
 pub use definitions::laws::{
     one_hash_link_speaks, one_link_speaks, one_nsec_record_speaks, one_nsec3_record_speaks,

@@ -45,7 +45,8 @@ pub fn has_type<'a, N: ToName, D: RecordData>(owner: &OwnerRrs<'a, N, D>, rtype:
     false
 }
 
-/// Whether an owner is a delegation. Its types are tested first, since most owners have no NS record.
+/// Whether an owner is a delegation. Its types are tested first, since most owners have no NS
+/// record.
 #[inline(always)]
 pub fn is_cut<'a, N: ToName, D: RecordData>(apex: &N, owner: &OwnerRrs<'a, N, D>) -> bool
     ensures { result ≡ zone_cut N.name D.type_of (N.name apex.now) owner.now }
@@ -60,8 +61,9 @@ fn is_left_out<'a, N: ToName, D: RecordData>(excluding: bool, owner: &OwnerRrs<'
     excluding && !has_type(owner, Rtype::DS)
 }
 
-/// The records of the owners at or below the apex and not strictly below a delegation, in canonical order. Where
-/// unsigned delegations are excluded, those without DS records are left out (RFC 5155, 6).
+/// The records of the owners at or below the apex and not strictly below a delegation, in canonical
+/// order. Where unsigned delegations are excluded, those without DS records are left out (RFC 5155,
+/// 6).
 pub fn kept_owners<'a, N: ToName, D: RecordData + CanonicalOrd>(
     alloc: Global,
     apex: &N,

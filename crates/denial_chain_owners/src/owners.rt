@@ -20,15 +20,16 @@ use names_wire::octets::Octets;
 use plain::zone_data::ZoneRecordData;
 use std::alloc::Global;
 
-/// The records of the owners that have records of a chain, in canonical order, and the TTLs of the SOA record.
+/// The records of the owners that have records of a chain, in canonical order, and the TTLs of the
+/// SOA record.
 #[derive(Drop)]
 pub struct ChainOwners<'a, N: ToName, D: RecordData> {
     pub owners: Vec<OwnerRrs<'a, N, D>>,
     pub soa: SoaTtls,
 }
 
-/// The input of a chain: the owners that are kept, and the TTLs of the one SOA record. It is refused where an RRset of
-/// a kept owner has different TTLs.
+/// The input of a chain: the owners that are kept, and the TTLs of the one SOA record. It is
+/// refused where an RRset of a kept owner has different TTLs.
 pub fn chain_owners<'a, Octs: Octets, N: ToName>(
     alloc: Global,
     apex: &N,

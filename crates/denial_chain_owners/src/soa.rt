@@ -23,7 +23,8 @@ pub struct SoaTtls {
 }
 
 impl SoaTtls {
-    /// The TTL of a chain's records: the lesser of the SOA record's TTL and its minimum (RFC 9077, 3).
+    /// The TTL of a chain's records: the lesser of the SOA record's TTL and its minimum (RFC 9077,
+    /// 3).
     pub fn chain_ttl(&self) -> Ttl
         ensures { result ≡ chain_ttl self.now }
     {
@@ -82,8 +83,8 @@ fn seen_among<Octs: Octets, N: ToName>(
     seen
 }
 
-/// The TTLs of the one SOA record at the apex among records by owner, if exactly one stands there and its fields are
-/// known.
+/// The TTLs of the one SOA record at the apex among records by owner, if exactly one stands there
+/// and its fields are known.
 pub(crate) fn soa_ttls<'a, Octs: Octets, N: ToName>(
     apex: &N,
     owners: &[OwnerRrs<'a, N, ZoneRecordData<Octs, N>>],

@@ -43,8 +43,9 @@ fn add_all<N, D: RecordData>(
     Ok(())
 }
 
-/// Adds the types at an owner. At a delegation these are NS, and DS where there is one: other records there, such as
-/// glue, are not of the zone (RFC 4035, 2.3). A refused call leaves the types that were added before.
+/// Adds the types at an owner. At a delegation these are NS, and DS where there is one: other
+/// records there, such as glue, are not of the zone (RFC 4035, 2.3). A refused call leaves the
+/// types that were added before.
 pub fn add_types<'a, N: ToName, D: RecordData>(
     types: &mut RtypeBitmapBuilder<Vec<u8>>,
     apex: &N,

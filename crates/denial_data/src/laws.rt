@@ -22,7 +22,8 @@ pub use crate::orders::{
 };
 pub use denial_bitmap::laws::printed_bitmap_tells_its_types;
 
-/// `ProtoRrsig::compose_canonical` writes the fields that a signature is made over (RFC 4034, 3.1.8.1).
+/// `ProtoRrsig::compose_canonical` writes the fields that a signature is made over (RFC 4034,
+/// 3.1.8.1).
 pub fn fields_are_signed()
     ensures { IsSignedOver }
 {}

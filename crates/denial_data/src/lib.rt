@@ -1,4 +1,5 @@
-//! DNSSEC record data (RFC 4034, RFC 5155): signatures, and the data of the crates below, with their fields.
+//! DNSSEC record data (RFC 4034, RFC 5155): signatures, and the data of the crates below, with
+//! their fields.
 #![tactic(auto)]
 
 pub mod laws;

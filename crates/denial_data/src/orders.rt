@@ -1,5 +1,5 @@
-//! The canonical orders of DNSSEC data are total, which sorted records require of their data. Each law is the contract
-//! of a function that does nothing.
+//! The canonical orders of DNSSEC data are total, which sorted records require of their data. Each
+//! law is the contract of a function that does nothing.
 
 ghost use Rattle.std.specs.Cmp.{IsTotalOrder};
 

@@ -136,7 +136,8 @@ impl fmt::Display for Times {
     }
 }
 
-/// RRSIG data without the signature. They are equal, ordered and hashed by their numbers first and then by their names.
+/// RRSIG data without the signature. They are equal, ordered and hashed by their numbers first and
+/// then by their names.
 #[derive(Clone, Copy, Debug, PartialEq, Eq, PartialOrd, Ord, Hash, Drop)]
 pub struct ProtoRrsig<N> {
     pub(crate) numbers: Numbers,
@@ -144,8 +145,9 @@ pub struct ProtoRrsig<N> {
 }
 
 impl<N> ProtoRrsig<N> {
-    /// The type covered, the algorithm of the key, the number of labels of the owner (without the root and a leading
-    /// star), the original TTL, the expiration and the inception, the key tag and the signer's name.
+    /// The type covered, the algorithm of the key, the number of labels of the owner (without the
+    /// root and a leading star), the original TTL, the expiration and the inception, the key tag
+    /// and the signer's name.
     pub fn new(
         type_covered: Rtype,
         algorithm: SecurityAlgorithm,
@@ -226,8 +228,8 @@ impl<N: ToName> ProtoRrsig<N> {
         or_undone(target, len, done)
     }
 
-    /// Appends the octets with the signer in lower case, as a signature is made over them (RFC 4034, 3.1.8.1). A refused
-    /// call leaves the target as it was.
+    /// Appends the octets with the signer in lower case, as a signature is made over them
+    /// (RFC 4034, 3.1.8.1). A refused call leaves the target as it was.
     pub fn compose_canonical<B: Composer>(&self, target: &mut B) -> Result<(), ShortBuf>
         ensures ok { let octets = proto_canonical N.name self.now in
             OnOk result (B.bytes target.new ≡ B.bytes target.old ++ octets) }

@@ -36,8 +36,9 @@ use std::cmp::Ordering;
 use std::fmt;
 use std::marker::Model;
 
-/// RRSIG data: the fields of a signature and the signature, at most 65,535 octets in all. RRSIG data are equal, ordered
-/// and hashed by their numbers, then by their names, and then by the signature.
+/// RRSIG data: the fields of a signature and the signature, at most 65,535 octets in all. RRSIG
+/// data are equal, ordered and hashed by their numbers, then by their names, and then by the
+/// signature.
 #[derive(Drop)]
 #[derive_where(PartialEq, Eq, PartialOrd, Ord, Hash; N)]
 pub struct Rrsig<Octs: Octets, N: ToName> {
@@ -59,8 +60,8 @@ impl<Octs: Octets, N: ToName> Model for Rrsig<Octs, N> {
 }
 
 impl<Octs: Octets, N: ToName> Rrsig<Octs, N> {
-    /// Data of these fields (`ProtoRrsig::new`) and of the signature. More than 65,535 octets in all are refused, and
-    /// dropped.
+    /// Data of these fields (`ProtoRrsig::new`) and of the signature. More than 65,535 octets in
+    /// all are refused, and dropped.
     pub fn new(
         type_covered: Rtype,
         algorithm: SecurityAlgorithm,
@@ -196,7 +197,8 @@ impl<Octs: Octets, N: ToName> Rrsig<Octs, N> {
         SecurityAlgorithm::from_int(self.proto.numbers.algorithm)
     }
 
-    /// The number of labels of the signed owner, without the root and a leading star (RFC 4034, 3.1.3).
+    /// The number of labels of the signed owner, without the root and a leading star (RFC 4034,
+    /// 3.1.3).
     pub fn labels(&self) -> u8
         ensures { result ≡ self.now.proto.numbers.labels }
     {
@@ -347,7 +349,8 @@ fn compose_signed<Octs: Octets, N: ToName, B: Composer>(
     target.append_slice(rrsig.signature.as_slice())
 }
 
-/// Appends the fields and the signature in canonical form. A refused call leaves the parts for which there was room.
+/// Appends the fields and the signature in canonical form. A refused call leaves the parts for
+/// which there was room.
 fn compose_canonical_signed<Octs: Octets, N: ToName, B: Composer>(
     rrsig: &Rrsig<Octs, N>,
     target: &mut B,
@@ -398,7 +401,8 @@ impl<Octs: Octets, N: ToName> CanonicalOrd for Rrsig<Octs, N> {
     }
 }
 
-/// The type's name, the numbers in decimal, the signer as it is printed and the signature in base64 (RFC 4034, 3.2).
+/// The type's name, the numbers in decimal, the signer as it is printed and the signature in base64
+/// (RFC 4034, 3.2).
 impl<Octs: Octets, N: ToName + fmt::Display> fmt::Display for Rrsig<Octs, N> {
     ghost output = { rrsig_text N.output };
 

@@ -1,4 +1,5 @@
-//! Octets behind their number in one octet, as salts and hashes stand in record data (RFC 5155, 3.2).
+//! Octets behind their number in one octet, as salts and hashes stand in record data (RFC 5155,
+//! 3.2).
 
 ghost use Rattle.std.specs.Prelude.{◌≡◌, ◌≤◌, ◌++◌, length, take, IfOk, OnOk, OnErr};
 ghost use Rattle.names_wire.specs.Room.{LeavesRoom};
@@ -42,7 +43,8 @@ pub fn compose_counted<B: OctetsBuilder>(octets: &[u8], target: &mut B) -> Resul
     or_undone(target, len, done)
 }
 
-/// Appends at most 255 octets behind their number. A refused call leaves the octets for which there was room.
+/// Appends at most 255 octets behind their number. A refused call leaves the octets for which there
+/// was room.
 fn append_counted<B: OctetsBuilder>(octets: &[u8], target: &mut B) -> Result<(), ShortBuf>
     requires { length octets.now ≤ 255 }
     ensures ok { OnOk result (B.bytes target.new ≡ B.bytes target.old ++ counted octets.now) }

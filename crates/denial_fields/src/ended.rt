@@ -16,8 +16,8 @@ use names_rdata::reading::{closed, parse_array, parse_rest};
 use names_wire::builder::{OctetsBuilder, ShortBuf};
 use std::cmp::Ordering;
 
-/// Reads four octets and the octets up to the parser's end, at most 65,535 in all. A refused call leaves the parser
-/// where it was.
+/// Reads four octets and the octets up to the parser's end, at most 65,535 in all. A refused call
+/// leaves the parser where it was.
 pub fn parse_ended<'a>(parser: &mut Parser<'a>) -> Result<([u8; 4], &'a [u8]), ParseError>
     ensures { let found = data_at (ended_part) parser.old in
         ReadsData found (λ r. r.0 ++ r.1.now) parser.old parser.new result }
@@ -53,7 +53,8 @@ pub fn compose_ended<B: OctetsBuilder>(
     or_undone(target, len, done)
 }
 
-/// Appends a head of octets and the rest behind it. A refused call leaves the octets for which there was room.
+/// Appends a head of octets and the rest behind it. A refused call leaves the octets for which
+/// there was room.
 fn append_both<B: OctetsBuilder>(head: &[u8], rest: &[u8], target: &mut B) -> Result<(), ShortBuf>
     ensures ok { OnOk result (B.bytes target.new ≡ B.bytes target.old ++ (head.now ++ rest.now)) }
     ensures err { let old = B.bytes target.old in

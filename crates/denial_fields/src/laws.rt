@@ -1,4 +1,5 @@
-//! Laws of times, salts and hashes. Each is a function without a parameter, whose contract is the law.
+//! Laws of times, salts and hashes. Each is a function without a parameter, whose contract is the
+//! law.
 
 ghost use Rattle.std.specs.Prelude.{◌≡◌, ◌<◌, ◌^◌, ◌⊎◌, ℕ, List, Result, Ok};
 ghost use Rattle.std.specs.Fmt.{decimal};

@@ -47,8 +47,9 @@ impl Timestamp {
         self.seconds
     }
 
-    /// The time in seconds since 1970 that lies less than 2^31 seconds from a reference, or exactly 2^31 before it.
-    /// Where that would lie before 1970, it is the seconds as they are. `None` where the time does not fit in 64 bits.
+    /// The time in seconds since 1970 that lies less than 2^31 seconds from a reference, or exactly
+    /// 2^31 before it. Where that would lie before 1970, it is the seconds as they are. `None`
+    /// where the time does not fit in 64 bits.
     pub fn to_system_time(self, reference: u64) -> Option<u64>
         ensures near { IfSome result (IsTimeNear self reference) }
         ensures past { IsNone result → (time : ℕ) → IsTimeNear self reference time → 2 ^ 64 ≤ time }
@@ -66,8 +67,8 @@ impl Timestamp {
         }
     }
 
-    /// Whether this time equals the other or is less than half the circle before it, as serial numbers (RFC 4034,
-    /// 3.1.5).
+    /// Whether this time equals the other or is less than half the circle before it, as serial
+    /// numbers (RFC 4034, 3.1.5).
     pub fn is_at_or_before(&self, other: &Self) -> bool
         ensures { result ≡ serial_le self.now other.now }
     {

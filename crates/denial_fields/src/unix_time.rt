@@ -55,8 +55,8 @@ impl UnixTime {
     }
 }
 
-/// The seconds are taken as those since the beginning of 1970, so a signature time from the year 2106 on comes out too
-/// early, by a multiple of 2^32 seconds.
+/// The seconds are taken as those since the beginning of 1970, so a signature time from the year
+/// 2106 on comes out too early, by a multiple of 2^32 seconds.
 impl From<Timestamp> for UnixTime {
     ghost from_gives = { λ seconds t. t ≡ seconds * 1_000_000_000 };
 

@@ -26,8 +26,8 @@ use std::cmp::Ordering;
 use std::fmt;
 use std::marker::Model;
 
-/// DNSKEY data: flags, protocol, algorithm and key, at most 65,535 octets in all. DNSKEY data are equal, ordered and
-/// hashed by these fields.
+/// DNSKEY data: flags, protocol, algorithm and key, at most 65,535 octets in all. DNSKEY data are
+/// equal, ordered and hashed by these fields.
 #[derive(Drop)]
 #[derive_where(PartialEq, Eq, PartialOrd, Ord, Hash)]
 pub struct Dnskey<Octs: Octets> {
@@ -133,7 +133,8 @@ impl<Octs: Octets> Dnskey<Octs> {
         self.public_key.into_octets()
     }
 
-    /// The data with the octets of the key converted to another type. The converted octets have to fit (`fits_rdlen`).
+    /// The data with the octets of the key converted to another type. The converted octets have to
+    /// fit (`fits_rdlen`).
     pub fn convert<Other: Octets + From<Octs>>(self) -> Dnskey<Other>
         requires { (key : Octs) (other : Other) → Octs.bytes key ≡ self.octets
             → Other.from_gives key other → 4 + length (Other.bytes other) ≤ 65535 }

@@ -24,8 +24,8 @@ use std::cmp::Ordering;
 use std::fmt;
 use std::marker::Model;
 
-/// DS data: the tag and the algorithm of a key, the type of the digest and the digest, at most 65,535 octets in all. DS
-/// data are equal, ordered and hashed by these fields.
+/// DS data: the tag and the algorithm of a key, the type of the digest and the digest, at most
+/// 65,535 octets in all. DS data are equal, ordered and hashed by these fields.
 #[derive(Drop)]
 #[derive_where(PartialEq, Eq, PartialOrd, Ord, Hash)]
 pub struct Ds<Octs: Octets> {

@@ -26,10 +26,11 @@ use plain::record::Record;
 use plain::zone_data::ZoneRecordData;
 use std::alloc::Global;
 
-/// The NSEC3 records of a zone and its NSEC3PARAM record: one NSEC3 record for each owner at or below the apex and not
-/// strictly below a delegation, and for each of its ancestors, in order of hash. Each leads to the next one and the
-/// last to the first (RFC 5155, 7.1). Unsigned delegations are left out where the configuration says so. The zone's
-/// records are of one class and in canonical order (`is_one_class`, `is_canonical_order` test this).
+/// The NSEC3 records of a zone and its NSEC3PARAM record: one NSEC3 record for each owner at or
+/// below the apex and not strictly below a delegation, and for each of its ancestors, in order of
+/// hash. Each leads to the next one and the last to the first (RFC 5155, 7.1). Unsigned delegations
+/// are left out where the configuration says so. The zone's records are of one class and in
+/// canonical order (`is_one_class`, `is_canonical_order` test this).
 pub fn generate_nsec3s<'a, Octs: Octets, N: ToName, S: Octets, H: Nsec3Hasher>(
     alloc: Global,
     apex: &N,

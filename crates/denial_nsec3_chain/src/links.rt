@@ -35,7 +35,8 @@ pub(crate) struct Settings<'c, S: Octets> {
     pub(crate) ttl: Ttl,
 }
 
-/// What is known of a record before the next hash is known: its owner, and the name whose types it has.
+/// What is known of a record before the next hash is known: its owner, and the name whose types it
+/// has.
 #[derive(Drop)]
 struct Begun<'g, 'a, N: ToName, D> {
     owner: Name<Vec<u8>>,

@@ -14,8 +14,9 @@ use names_traits::to_name::ToName;
 use names_wire::octets::Octets;
 use std::alloc::Global;
 
-/// The owner of a name's NSEC3 record: its hash in base32hex under the apex (RFC 5155, 3 and 5). The call is refused
-/// where the name isn't hashed, or where the hash fits in no label or its owner name is too long.
+/// The owner of a name's NSEC3 record: its hash in base32hex under the apex (RFC 5155, 3 and 5).
+/// The call is refused where the name isn't hashed, or where the hash fits in no label or its owner
+/// name is too long.
 pub fn mk_hashed_nsec3_owner_name<N: ToName, S: Octets, H: Nsec3Hasher>(
     alloc: Global,
     name: &N,
@@ -42,7 +43,8 @@ pub fn mk_hashed_nsec3_owner_name<N: ToName, S: Octets, H: Nsec3Hasher>(
     owner_of_hash(alloc, &hash, apex)
 }
 
-/// The owner of a hash's record. The call is refused where the hash fits in no label or its owner name is too long.
+/// The owner of a hash's record. The call is refused where the hash fits in no label or its owner
+/// name is too long.
 pub(crate) fn owner_of_hash<N: ToName>(
     alloc: Global,
     hash: &[u8],

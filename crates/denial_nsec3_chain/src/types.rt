@@ -38,8 +38,8 @@ fn add_apex_types<N: ToName>(
     Ok(())
 }
 
-/// Adds the types at a delegation: NS, and where there is a DS record, DS and RRSIG, since only DS is signed there (RFC
-/// 4035, 2.2).
+/// Adds the types at a delegation: NS, and where there is a DS record, DS and RRSIG, since only DS
+/// is signed there (RFC 4035, 2.2).
 fn add_cut_types<'a, N: ToName, D: RecordData>(
     types: &mut RtypeBitmapBuilder<Vec<u8>>,
     owner: &OwnerRrs<'a, N, D>,

@@ -64,8 +64,8 @@ pub struct GenerateNsec3Config<Octs: Octets> {
 }
 
 impl<Octs: Octets> GenerateNsec3Config<Octs> {
-    /// A configuration under which DNSKEY records will be added later, unsigned delegations are left out where opt-out
-    /// is set, and the NSEC3PARAM record has the SOA record's TTL.
+    /// A configuration under which DNSKEY records will be added later, unsigned delegations are
+    /// left out where opt-out is set, and the NSEC3PARAM record has the SOA record's TTL.
     pub fn new(params: Nsec3param<Octs>) -> Self
         ensures dnskeys { result.assume_dnskeys_will_be_added ≡ true }
         ensures params { result.params ≡ params }

@@ -41,7 +41,8 @@ impl From<ShortBuf> for HashError {
 
 /// Hashes names. The answer is a function of the arguments, memory aside.
 pub trait Nsec3Hasher {
-    /// The answer for a name in lower-case wire form, an algorithm, iterations and a salt; `None` for a failure.
+    /// The answer for a name in lower-case wire form, an algorithm, iterations and a salt; `None`
+    /// for a failure.
     ghost hash_of: { Self → List ℕ → ℕ → ℕ → List ℕ → Option (List ℕ) };
 
     fn hash(

@@ -1,5 +1,5 @@
-//! What a chain of hashed names is made with: what hashes names, the owners of its records, and how it is configured
-//! (RFC 5155).
+//! What a chain of hashed names is made with: what hashes names, the owners of its records, and how
+//! it is configured (RFC 5155).
 #![tactic(auto)]
 
 pub mod config;

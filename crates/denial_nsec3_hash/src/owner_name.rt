@@ -23,8 +23,8 @@ pub enum HashedOwnerError {
     Memory,
 }
 
-/// The owner of a hash's record: the hash in base32hex under the apex (RFC 5155, 3). A label holds 1 to 39 octets of a
-/// hash, and a name at most 255 octets.
+/// The owner of a hash's record: the hash in base32hex under the apex (RFC 5155, 3). A label holds
+/// 1 to 39 octets of a hash, and a name at most 255 octets.
 pub fn hashed_owner<N: Absolute>(
     alloc: Global,
     hash: &[u8],

@@ -9,8 +9,8 @@ use names_labels::traits::{Absolute, LabelIter};
 use names_rdata::composer::{compose_canonical_name, compose_labels};
 use names_wire::builder::ShortBuf;
 
-/// Replaces the content of a buffer by a name without its first `skipped` labels, in lower-case wire form. Without any
-/// labels left it is the root.
+/// Replaces the content of a buffer by a name without its first `skipped` labels, in lower-case
+/// wire form. Without any labels left it is the root.
 pub fn write_lower_wire<N: Absolute>(
     buffer: &mut Vec<u8>,
     name: &N,

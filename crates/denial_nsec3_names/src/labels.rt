@@ -11,7 +11,8 @@ use names_labels::flat::split_label;
 use names_labels::order::common_tail;
 use names_labels::traits::{Absolute, LabelIter};
 
-/// How many names among an owner and its ancestors are neither the name `before` nor an ancestor of it.
+/// How many names among an owner and its ancestors are neither the name `before` nor an ancestor of
+/// it.
 pub(crate) fn fresh_labels<N: Absolute>(before: &N, owner: &N) -> usize
     ensures { result ≡ fresh_count (low (N.name before.now)) (low (N.name owner.now)) }
 {
@@ -27,8 +28,8 @@ pub(crate) fn fresh_labels<N: Absolute>(before: &N, owner: &N) -> usize
     longer + differing_labels(count.min(other), labels, others)
 }
 
-/// The number of labels up to the last one that differs from its counterpart, for two rows that differ at most in their
-/// first labels. `None` for other rows.
+/// The number of labels up to the last one that differs from its counterpart, for two rows that
+/// differ at most in their first labels. `None` for other rows.
 fn fresh_beside(run: &[u8], other: &[u8]) -> Option<usize>
     requires run { IsRun run.now }
     requires other { IsRun other.now }
@@ -47,7 +48,8 @@ fn fresh_beside(run: &[u8], other: &[u8]) -> Option<usize>
     Some(if tail == run.len() { 0 } else { 1 })
 }
 
-/// The number of labels up to the last one that differs from its counterpart, among `count` labels of both names.
+/// The number of labels up to the last one that differs from its counterpart, among `count` labels
+/// of both names.
 fn differing_labels<A: Absolute, B: Absolute>(
     count: usize,
     labels: LabelIter<'_, A>,

@@ -14,7 +14,8 @@ use names_traits::to_name::ToName;
 use names_wire::builder::ShortBuf;
 use std::alloc::{AllocError, Global};
 
-/// A name of a chain: an owner of records without its first `skipped` labels, possibly none. Nothing is copied.
+/// A name of a chain: an owner of records without its first `skipped` labels, possibly none.
+/// Nothing is copied.
 #[derive(Drop)]
 pub struct ChainName<'g, 'a, N: ToName, D> {
     group: &'g OwnerRrs<'a, N, D>,
@@ -52,8 +53,9 @@ impl<'g, 'a, N: ToName, D: RecordData> ChainName<'g, 'a, N, D> {
     }
 }
 
-/// The names of the chain of owners in canonical order, of which the apex is the first: each owner, and before it those
-/// of its ancestors that aren't ancestors of the owner before it, the shortest first.
+/// The names of the chain of owners in canonical order, of which the apex is the first: each owner,
+/// and before it those of its ancestors that aren't ancestors of the owner before it, the shortest
+/// first.
 #[inline(never)]
 pub fn chain_names<'g, 'a, N: ToName, D: RecordData>(
     alloc: Global,

@@ -5,7 +5,8 @@ ghost use Rattle.std.specs.Prelude.{◌≡◌, true, false};
 /// How NSEC records are made.
 #[derive(Clone, Copy, Debug, PartialEq, Eq, Drop)]
 pub struct GenerateNsecConfig {
-    /// Whether the bitmap of the apex has DNSKEY. DNSKEY records are often added only when the zone is signed.
+    /// Whether the bitmap of the apex has DNSKEY. DNSKEY records are often added only when the zone
+    /// is signed.
     pub assume_dnskeys_will_be_added: bool,
 }
 
@@ -19,7 +20,8 @@ impl GenerateNsecConfig {
         }
     }
 
-    /// A configuration under which the bitmap of the apex has DNSKEY only where the zone has DNSKEY records.
+    /// A configuration under which the bitmap of the apex has DNSKEY only where the zone has DNSKEY
+    /// records.
     pub fn without_assuming_dnskeys_will_be_added(self) -> Self
         ensures { result.assume_dnskeys_will_be_added ≡ false }
     {

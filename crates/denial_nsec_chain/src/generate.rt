@@ -22,10 +22,10 @@ use plain::record::Record;
 use plain::zone_data::ZoneRecordData;
 use std::alloc::Global;
 
-/// The NSEC records of a zone: one for each owner at or below the apex and not strictly below a delegation, in
-/// canonical order, each leading to the next one and the last to the apex (RFC 4034, 4; RFC 4035, 2.3). Their names are
-/// borrowed. The zone's records are of one class and in canonical order (`is_one_class`, `is_canonical_order` test
-/// this).
+/// The NSEC records of a zone: one for each owner at or below the apex and not strictly below a
+/// delegation, in canonical order, each leading to the next one and the last to the apex (RFC 4034,
+/// 4; RFC 4035, 2.3). Their names are borrowed. The zone's records are of one class and in
+/// canonical order (`is_one_class`, `is_canonical_order` test this).
 pub fn generate_nsecs<'a, Octs: Octets, N: ToName>(
     alloc: Global,
     apex: &'a N,

@@ -26,8 +26,8 @@ use std::alloc::Global;
 /// A record of the chain, which borrows its names.
 pub(crate) type NsecRecord<'a, N> = Record<&'a N, Nsec<Vec<u8>, &'a N>>;
 
-/// Whether the bitmap of an owner has DNSKEY in any case: the owner is the apex, and DNSKEY records will be added
-/// later.
+/// Whether the bitmap of an owner has DNSKEY in any case: the owner is the apex, and DNSKEY records
+/// will be added later.
 fn tells_of_keys<'a, N: ToName, D: RecordData>(
     apex: &N,
     owner: &OwnerRrs<'a, N, D>,

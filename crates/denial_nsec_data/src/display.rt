@@ -55,7 +55,8 @@ impl<Octs: Octets, N: ToName + fmt::Display> fmt::Display for Nsec<Octs, N> {
     }
 }
 
-/// Algorithm, flags and iterations in decimal, the salt, the next hash in base32hex and the types (RFC 5155, 3.3).
+/// Algorithm, flags and iterations in decimal, the salt, the next hash in base32hex and the types
+/// (RFC 5155, 3.3).
 impl<Octs: Octets> fmt::Display for Nsec3<Octs> {
     ghost output = { λ d. Some (nsec3_text d) };
 

@@ -28,8 +28,8 @@ use names_wire::octets::Octets;
 use std::cmp::Ordering;
 use std::marker::Model;
 
-/// NSEC data: the next name of the chain and the types of this name, at most 65,535 octets in all. NSEC data are equal,
-/// ordered and hashed by their names first and then by their bitmaps.
+/// NSEC data: the next name of the chain and the types of this name, at most 65,535 octets in all.
+/// NSEC data are equal, ordered and hashed by their names first and then by their bitmaps.
 #[derive(Drop)]
 #[derive_where(PartialEq, Eq, PartialOrd, Ord, Hash; N)]
 pub struct Nsec<Octs: Octets, N: ToName> {

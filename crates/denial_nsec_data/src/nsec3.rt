@@ -27,8 +27,8 @@ use names_wire::octets::Octets;
 use std::cmp::Ordering;
 use std::marker::Model;
 
-/// NSEC3 data: the parameters of the hash, the next hash of the chain and the types of this name, at most 65,535 octets
-/// in all. NSEC3 data are equal, ordered and hashed by these fields.
+/// NSEC3 data: the parameters of the hash, the next hash of the chain and the types of this name,
+/// at most 65,535 octets in all. NSEC3 data are equal, ordered and hashed by these fields.
 #[derive(Drop)]
 #[derive_where(PartialEq, Eq, PartialOrd, Ord, Hash)]
 pub struct Nsec3<Octs: Octets> {

@@ -22,8 +22,8 @@ use std::cmp::Ordering;
 use std::fmt;
 use std::marker::Model;
 
-/// NSEC3PARAM data: algorithm, flags, iterations and salt. NSEC3PARAM data are equal, ordered and hashed by these
-/// fields.
+/// NSEC3PARAM data: algorithm, flags, iterations and salt. NSEC3PARAM data are equal, ordered and
+/// hashed by these fields.
 #[derive(Drop)]
 #[derive_where(PartialEq, Eq, PartialOrd, Ord, Hash)]
 pub struct Nsec3param<Octs: Octets> {

@@ -44,8 +44,8 @@ impl<N: ToName + Drop, D: RecordData + CanonicalOrd + Drop, S: Sorter> SortedRec
         RrsetIter::indexed(&self.records, &self.starts)
     }
 
-    /// The first SOA record, with the other SOA records of its owner and class. Only the TTLs of the records found
-    /// matter.
+    /// The first SOA record, with the other SOA records of its owner and class. Only the TTLs of
+    /// the records found matter.
     pub fn find_soa(&self) -> Result<Option<Rrset<'_, N, D>>, MultipleTtlValues>
         ensures { let sets = groups (of_one_set N.name D.type_of) self.now in
             result_ok result ≡ found_set D.type_of (is_of_type D.type_of 6) sets }
@@ -56,8 +56,8 @@ impl<N: ToName + Drop, D: RecordData + CanonicalOrd + Drop, S: Sorter> SortedRec
         )
     }
 
-    /// The RRset of a type at an owner, the apex of a zone; the RRset of the lowest class where there are several. Only
-    /// the TTLs of the records found matter.
+    /// The RRset of a type at an owner, the apex of a zone; the RRset of the lowest class where
+    /// there are several. Only the TTLs of the records found matter.
     pub fn find_apex_rtype(
         &self,
         apex: &N,
@@ -91,8 +91,8 @@ impl<N: ToName + Drop, D: RecordData + CanonicalOrd + Drop, S: Sorter> SortedRec
         Some(OwnerRrs::new(SliceRefsOrOwned::new_from_owned(owned)))
     }
 
-    /// The records of a class and an owner, up to ASCII case. The search is fast where they stand at the guessed place
-    /// or not far before it.
+    /// The records of a class and an owner, up to ASCII case. The search is fast where they stand
+    /// at the guessed place or not far before it.
     pub fn find_owner_near<O: ToName>(
         &self,
         class: Class,

@@ -24,8 +24,9 @@ pub fn zone_data_order_is_total<Octs: Octets, N: ToName>()
     ensures { IsTotalOrder ⟦<ZoneRecordData<Octs, N> as CanonicalOrd>⟧.canonical }
 {}
 
-/// Records that are inserted one after another are in order, and of equal records the first is kept: a record that is
-/// there stays, and a record is added if none that is equal is there or earlier among those inserted.
+/// Records that are inserted one after another are in order, and of equal records the first is
+/// kept: a record that is there stays, and a record is added if none that is equal is there or
+/// earlier among those inserted.
 pub fn added_records_are_the_first<N: ToName, D: RecordData + CanonicalOrd>()
     ensures { let by = record_canonical_cmp N.name D.type_of D.canonical in
         IsTotalOrder D.canonical → (held records : List (Record N D)) → IsStrictlySortedBy by held →

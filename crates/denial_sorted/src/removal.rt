@@ -22,7 +22,8 @@ use plain::Class;
 use plain::record::Record;
 
 impl<N: ToName + Drop, D: RecordData + CanonicalOrd + Drop, S: Sorter> SortedRecords<N, D, S> {
-    /// Removes each record of an owner, of the class and type that are given, and returns whether there was one.
+    /// Removes each record of an owner, of the class and type that are given, and returns whether
+    /// there was one.
     pub fn remove_all_by_name_class_rtype(
         &mut self,
         name: &N,
@@ -42,7 +43,8 @@ impl<N: ToName + Drop, D: RecordData + CanonicalOrd + Drop, S: Sorter> SortedRec
         true
     }
 
-    /// Removes the first record of an owner, of the class and type that are given, and returns whether there was one.
+    /// Removes the first record of an owner, of the class and type that are given, and returns
+    /// whether there was one.
     pub fn remove_first_by_name_class_rtype(
         &mut self,
         name: &N,
@@ -83,8 +85,8 @@ fn is_of<N: ToName, D: RecordData>(
     of_class && of_type && rr.owner().name_eq(name)
 }
 
-/// The place of the first record of an owner, of the class and type that are given. It is found by the places at which
-/// owners begin, unless there are several classes and none is given.
+/// The place of the first record of an owner, of the class and type that are given. It is found by
+/// the places at which owners begin, unless there are several classes and none is given.
 fn first_of<N: ToName, D: RecordData + CanonicalOrd>(
     records: &[Record<N, D>],
     starts: &[usize],
@@ -104,8 +106,8 @@ fn first_of<N: ToName, D: RecordData + CanonicalOrd>(
     first_in(records, span, name, class, rtype)
 }
 
-/// A span with all records of an owner and of the class that is given. It is the span of all records where no class is
-/// given and there are several.
+/// A span with all records of an owner and of the class that is given. It is the span of all
+/// records where no class is given and there are several.
 fn span_sought<N: ToName, D: RecordData + CanonicalOrd>(
     records: &[Record<N, D>],
     starts: &[usize],
@@ -124,8 +126,8 @@ fn span_sought<N: ToName, D: RecordData + CanonicalOrd>(
     }
 }
 
-/// A span with all records of an owner, whatever their class. It is the span of all records where there are several
-/// classes.
+/// A span with all records of an owner, whatever their class. It is the span of all records where
+/// there are several classes.
 fn span_of_any<N: ToName, D: RecordData + CanonicalOrd>(
     records: &[Record<N, D>],
     starts: &[usize],
@@ -146,8 +148,8 @@ fn span_of_any<N: ToName, D: RecordData + CanonicalOrd>(
     }
 }
 
-/// The place of the first record of the class and type that are given, in a span that has all records of the owner and
-/// class.
+/// The place of the first record of the class and type that are given, in a span that has all
+/// records of the owner and class.
 fn first_in<N: ToName, D: RecordData>(
     records: &[Record<N, D>],
     span: Span,

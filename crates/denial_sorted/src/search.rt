@@ -38,8 +38,8 @@ pub(crate) fn span_of<N: ToName, D: RecordData + CanonicalOrd, O: ToName>(
     span_by(records, starts, class, owner, usize::MAX)
 }
 
-/// Where the records of a class and an owner stand, with a guess of how many owners come before. A guess beyond the
-/// number of owners is ignored.
+/// Where the records of a class and an owner stand, with a guess of how many owners come before. A
+/// guess beyond the number of owners is ignored.
 pub(crate) fn span_by<N: ToName, D: RecordData + CanonicalOrd, O: ToName>(
     records: &[Record<N, D>],
     starts: &[usize],
@@ -81,9 +81,9 @@ fn is_owned<N: ToName, D, O: ToName>(rr: &Record<N, D>, class: Class, owner: &O)
     rr.class() == class && rr.owner().name_eq(owner)
 }
 
-/// How many owners come before a class and an owner, with a guess. Where the guess is too high, the search moves down
-/// from it in steps that double until it is past the place. Then, and where the guess is too low, the rest is searched
-/// by halves.
+/// How many owners come before a class and an owner, with a guess. Where the guess is too high, the
+/// search moves down from it in steps that double until it is past the place. Then, and where the
+/// guess is too low, the rest is searched by halves.
 fn count_before<N: ToName, D: RecordData + CanonicalOrd, O: ToName>(
     records: &[Record<N, D>],
     starts: &[usize],
@@ -111,7 +111,8 @@ fn count_before<N: ToName, D: RecordData + CanonicalOrd, O: ToName>(
     low
 }
 
-/// The least and the greatest number of owners that can come before, as the owner at the guessed index shows.
+/// The least and the greatest number of owners that can come before, as the owner at the guessed
+/// index shows.
 fn bounds_by<N: ToName, D: RecordData + CanonicalOrd, O: ToName>(
     records: &[Record<N, D>],
     starts: &[usize],

@@ -39,8 +39,9 @@ pub enum InsertError<N, D> {
     Memory(Record<N, D>),
 }
 
-/// Records in canonical order, no two of them equal, whatever their TTLs (RFC 4034, 6). A contract sees the records.
-/// The records of an owner are found by binary search over the places at which owners begin.
+/// Records in canonical order, no two of them equal, whatever their TTLs (RFC 4034, 6). A contract
+/// sees the records. The records of an owner are found by binary search over the places at which
+/// owners begin.
 #[derive(Drop)]
 pub struct SortedRecords<N: ToName, D: RecordData + CanonicalOrd, S = DefaultSorter> {
     pub(crate) records: Vec<Record<N, D>>,
@@ -113,8 +114,8 @@ impl<N: ToName + Drop, D: RecordData + CanonicalOrd + Drop, S: Sorter> SortedRec
         Ok(sorted)
     }
 
-    /// Adds the records of an iterator that have no equal record here or earlier in the iterator. A refused call adds
-    /// none.
+    /// Adds the records of an iterator that have no equal record here or earlier in the iterator. A
+    /// refused call adds none.
     pub fn extend<U: IntoIterator<Item = Record<N, D>>>(
         &mut self,
         records: U,
@@ -129,7 +130,8 @@ impl<N: ToName + Drop, D: RecordData + CanonicalOrd + Drop, S: Sorter> SortedRec
         add_all::<N, D, S, U>(&mut self.records, &mut self.starts, records)
     }
 
-    /// Inserts a record at its place. Where an equal record is there or memory runs out, nothing changes.
+    /// Inserts a record at its place. Where an equal record is there or memory runs out, nothing
+    /// changes.
     pub fn insert(&mut self, rr: Record<N, D>) -> Result<(), InsertError<N, D>>
         ensures { let by = record_canonical_cmp N.name D.type_of D.canonical in
             Inserts by rr self.old result self.new }
@@ -178,7 +180,8 @@ impl<N: ToName + Drop, D: RecordData + CanonicalOrd + Drop, S: Sorter> SortedRec
     }
 }
 
-/// Puts records in order; of equal records the first is kept. A refused call leaves them as they were.
+/// Puts records in order; of equal records the first is kept. A refused call leaves them as they
+/// were.
 fn order_all<N: ToName + Drop, D: RecordData + CanonicalOrd + Drop, S: Sorter>(
     records: &mut Vec<Record<N, D>>,
 ) -> Result<(), AllocError>
@@ -192,7 +195,8 @@ fn order_all<N: ToName + Drop, D: RecordData + CanonicalOrd + Drop, S: Sorter>(
     Ok(())
 }
 
-/// Whether two records are equal in canonical order. Names are compared last, since that takes longest.
+/// Whether two records are equal in canonical order. Names are compared last, since that takes
+/// longest.
 fn are_equal<N: ToName, D: RecordData + CanonicalOrd>(a: &Record<N, D>, b: &Record<N, D>) -> bool
     ensures { let by = record_canonical_cmp N.name D.type_of D.canonical in
         result ≡ eq_by_cmp by a.now b.now }
@@ -209,8 +213,8 @@ fn are_equal<N: ToName, D: RecordData + CanonicalOrd>(a: &Record<N, D>, b: &Reco
     a.owner().name_eq(b.owner())
 }
 
-/// Inserts a record at its place, and moves the places at which owners begin. Where memory runs out, nothing changes
-/// and the record is returned.
+/// Inserts a record at its place, and moves the places at which owners begin. Where memory runs
+/// out, nothing changes and the record is returned.
 fn put_at<N: ToName, D: RecordData>(
     records: &mut Vec<Record<N, D>>,
     starts: &mut Vec<usize>,
@@ -235,8 +239,9 @@ fn put_at<N: ToName, D: RecordData>(
     Ok(())
 }
 
-/// Inserts an item at a place, or returns it where memory runs out. The item is appended, and the items from the place
-/// on are rotated by one: one block move, where `Vec::insert` goes from item to item.
+/// Inserts an item at a place, or returns it where memory runs out. The item is appended, and the
+/// items from the place on are rotated by one: one block move, where `Vec::insert` goes from item
+/// to item.
 fn insert_at<T>(items: &mut Vec<T>, place: usize, item: T) -> Result<(), T>
     requires { place ≤ length items.old.items }
     ensures items { items.new.items
@@ -250,7 +255,8 @@ fn insert_at<T>(items: &mut Vec<T>, place: usize, item: T) -> Result<(), T>
     Ok(())
 }
 
-/// Adds records to ordered ones, and updates the places at which owners begin. A refused call adds none.
+/// Adds records to ordered ones, and updates the places at which owners begin. A refused call adds
+/// none.
 fn add_all<
     N: ToName + Drop,
     D: RecordData + CanonicalOrd + Drop,

@@ -9,8 +9,8 @@ use std::cmp::Ordering;
 
 /// A stable sort of records by a comparison that the caller passes.
 pub trait Sorter {
-    /// Sorts the records; records that compare equal keep their order. Where memory runs out, the records stay as they
-    /// were.
+    /// Sorts the records; records that compare equal keep their order. Where memory runs out, the
+    /// records stay as they were.
     fn sort_by<N, D, F: Fn(&Record<N, D>, &Record<N, D>) -> Ordering>(
         records: &mut Vec<Record<N, D>>,
         compare: F,

@@ -1,4 +1,5 @@
-//! The places at which groups of neighbours that are alike begin, updated as items are added and removed.
+//! The places at which groups of neighbours that are alike begin, updated as items are added and
+//! removed.
 
 ghost use Rattle.std.specs.Prelude.{◌≡◌, ◌++◌, ◌∷◌, [], ◌+◌, ◌<◌, ◌≤◌, length, map, take, drop, vec_capacity, vec_len, nat_lt, true, false, IfOk};
 ghost use Rattle.std.specs.List.{AllByRecursion};
@@ -89,8 +90,9 @@ pub(crate) fn count_before(starts: &[usize], place: usize) -> usize
     starts.partition_point(|start| *start < place)
 }
 
-/// Raises the places from an index on by one. The place of the item that was inserted before them is added or kept,
-/// unless the item belongs with the one before it. There is room for one more place.
+/// Raises the places from an index on by one. The place of the item that was inserted before them
+/// is added or kept, unless the item belongs with the one before it. There is room for one more
+/// place.
 pub(crate) fn move_behind(starts: &mut Vec<usize>, at: usize, place: usize, kin: Kin)
     requires room { vec_len starts.old < vec_capacity starts.old }
     requires within { at ≤ length starts.old.items }

@@ -84,8 +84,8 @@ impl From<AllocError> for InputError {
     }
 }
 
-/// Reads to the end, by at most 1,048,576 calls of `read`, each of which but the last gives some octets. A read that
-/// fails is not made again.
+/// Reads to the end, by at most 1,048,576 calls of `read`, each of which but the last gives some
+/// octets. A read that fails is not made again.
 pub fn read_all<R: LimitedRead>(alloc: Global, reader: &mut R) -> Result<Vec<u8>, InputError>
     requires { 1048576 ≤ R.left reader.old }
     ensures whole { IfOk result (λ v. IfSome (R.remaining reader.old) (λ xs. v.items ≡ xs)) }

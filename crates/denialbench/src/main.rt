@@ -1,7 +1,8 @@
-//! Reads a session from standard input and prints what comes of it: the keys of a signed zone roll, a publisher
-//! answers, and a judge says what the answers prove.
+//! Reads a session from standard input and prints what comes of it: the keys of a signed zone roll,
+//! a publisher answers, and a judge says what the answers prove.
 //!
-//! The exit status is 0, or 1 where a line cannot be read, or 2 where input, output or memory failed.
+//! The exit status is 0, or 1 where a line cannot be read, or 2 where input, output or memory
+//! failed.
 #![tactic(auto)]
 
 mod input;

@@ -29,8 +29,8 @@ pub struct Response {
 
 /// Reads a session from a reader, lets it happen, and writes what comes of it.
 ///
-/// Where a line cannot be read, one line with its number is all that is written. Nothing is written before the
-/// whole input is read and answered. The reader is read at most 1,048,576 times.
+/// Where a line cannot be read, one line with its number is all that is written. Nothing is written
+/// before the whole input is read and answered. The reader is read at most 1,048,576 times.
 #[tactic(auto, using(crate::proofs::RunStatus::told_of))]
 pub fn run<R: LimitedRead, W: Write>(alloc: Global, reader: &mut R, writer: &mut W) -> Status
     requires { 1048576 ≤ R.left reader.old }

@@ -1,5 +1,5 @@
-//! The lines of a session of the bench: octets cut into lines and fields, and read as a zone, its records and the
-//! events that follow.
+//! The lines of a session of the bench: octets cut into lines and fields, and read as a zone, its
+//! records and the events that follow.
 #![tactic(auto)]
 
 mod event_lines;

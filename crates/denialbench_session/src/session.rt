@@ -33,8 +33,8 @@ pub enum SessionError {
     Memory,
 }
 
-/// Reads a whole input. Where no line of it counts, the line behind its last is the one that cannot be read. Records that are
-/// gathered at its end are passed over.
+/// Reads a whole input. Where no line of it counts, the line behind its last is the one that cannot
+/// be read. Records that are gathered at its end are passed over.
 pub fn read_session(alloc: Global, input: &[u8]) -> Result<Session, SessionError>
     ensures ok { IfOk result (λ s. session_of input.now ≡ Ok (record {
       zone = zone_view s.zone;

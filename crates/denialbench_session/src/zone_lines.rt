@@ -25,7 +25,8 @@ use plain::soa::Soa;
 use plain::zone_data::ZoneRecordData;
 use std::alloc::Global;
 
-/// The longest life of a signature, in seconds: serial numbers compare up to here (RFC 4034, 3.1.5).
+/// The longest life of a signature, in seconds: serial numbers compare up to here (RFC 4034,
+/// 3.1.5).
 const MAX_LIFE: u32 = 2_147_483_647;
 
 /// The most octets of a record's data (RFC 1035, 3.2.1).
@@ -34,7 +35,8 @@ const MAX_DATA: usize = 65_535;
 /// The most octets of a salt (RFC 5155, 3.1.4).
 const MAX_SALT: usize = 255;
 
-/// Reads `zone APEX nsec LIMIT LIFE`, or `zone APEX nsec3 ITERATIONS SALT LIMIT LIFE`, or the same with `nsec3optout`.
+/// Reads `zone APEX nsec LIMIT LIFE`, or `zone APEX nsec3 ITERATIONS SALT LIMIT LIFE`, or the same
+/// with `nsec3optout`.
 pub fn read_zone(alloc: Global, fields: &[&str]) -> Result<Zone, LineError>
     ensures { Reads zone_view result (zone_line (texts fields.now)) }
 {

@@ -1,4 +1,5 @@
-//! A stand-in for signatures and digests, which protects nothing: a signature is a copy of what it is made over.
+//! A stand-in for signatures and digests, which protects nothing: a signature is a copy of what it
+//! is made over.
 use answer::{DigestAlgorithm, Dnskey, HashError, Nsec3Hasher, Scheme, SchemeError};
 use std::alloc::Global;
 

@@ -1,4 +1,5 @@
-//! A caller of the judge: a zone publishes two answers, and a resolver that holds its DS set judges them from their bytes.
+//! A caller of the judge: a zone publishes two answers, and a resolver that holds its DS set judges
+//! them from their bytes.
 #![tactic(auto)]
 
 mod copying;

@@ -14,7 +14,8 @@ pub fn name(alloc: Global, text: &str) -> anyhow::Result<Name<Vec<u8>>> {
     Ok(Name::vec_from_str(alloc, text)?)
 }
 
-/// A publisher whose first two keys sign since moment 0, and whose parent has their DS record since 3600.
+/// A publisher whose first two keys sign since moment 0, and whose parent has their DS record since
+/// 3600.
 pub fn published(alloc: Global) -> anyhow::Result<Publisher<'static, Copying, Copying>> {
     let (apex, records) = (name(alloc, "example")?, records(alloc)?);
     let mut publisher = Publisher::new(

@@ -67,8 +67,8 @@ fn read_event(alloc: Global, lines: &mut Lines<'_>) -> Result<Explained, AllocEr
     Explained::new(alloc, 0, b"")
 }
 
-/// Behind a key call the rolls that run; of a replacement how many records there are; of a thing shown its records; of what is
-/// refused why, and of a judgement what it says in the field's words.
+/// Behind a key call the rolls that run; of a replacement how many records there are; of a thing
+/// shown its records; of what is refused why, and of a judgement what it says in the field's words.
 fn push_details(
     telling: &Telling,
     explained: &mut Explained,
@@ -131,7 +131,8 @@ fn field_words(verdict: &Verdict) -> &'static str {
     }
 }
 
-/// The records of a type that has data of DS records as `dig` writes them, or their data in hexadecimal.
+/// The records of a type that has data of DS records as `dig` writes them, or their data in
+/// hexadecimal.
 fn push_ds_set(
     telling: &Telling,
     shown: &mut Vec<String>,

@@ -1,10 +1,13 @@
-//! Explains sessions of the bench: each event beside what is printed of it; behind a key call the rolls that run, and when
-//! their waits end; each thing shown as `dig` writes it; behind a judgement its reasons; of a line that cannot be read the
-//! field and why; of a refused zone the records.
+//! Explains sessions of the bench: each event beside what is printed of it; behind a key call the
+//! rolls that run, and when their waits end; each thing shown as `dig` writes it; behind a
+//! judgement its reasons; of a line that cannot be read the field and why; of a refused zone the
+//! records.
 //!
-//! usage: explain [--octets] [--text | --json | --agree] [FILE..] [--zone [--origin=NAME] FILE..] [--date DATE|SECONDS..]
+//! usage: explain [--octets] [--text | --json | --agree] [FILE..] [--zone [--origin=NAME] FILE..]
+//! [--date DATE|SECONDS..]
 //!
-//! Each option holds for the words behind it. Without a file or date it reads a session from standard input.
+//! Each option holds for the words behind it. Without a file or date it reads a session from
+//! standard input.
 #![tactic(auto)]
 
 mod advice;

@@ -1,4 +1,5 @@
-//! Records over whose data every signer would make the same signatures, and those of which this is not so.
+//! Records over whose data every signer would make the same signatures, and those of which this is
+//! not so.
 
 use crate::explained::Explained;
 use crate::options::Options;
@@ -23,7 +24,8 @@ pub fn signed_alike(alloc: Global, records: &[ZoneRecord]) -> Result<Vec<bool>, 
     Ok(alike)
 }
 
-/// Passes over the lines of a zone's records, and warns of those that are signed otherwise elsewhere.
+/// Passes over the lines of a zone's records, and warns of those that are signed otherwise
+/// elsewhere.
 pub fn push_warnings(
     alloc: Global,
     out: &mut String,

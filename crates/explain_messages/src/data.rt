@@ -1,5 +1,5 @@
-//! Data of records in the text forms of their types; of other types, and of data that do not read as theirs, in that of octets
-//! (RFC 3597, 5).
+//! Data of records in the text forms of their types; of other types, and of data that do not read
+//! as theirs, in that of octets (RFC 3597, 5).
 
 use crate::date::Date;
 use crate::type_text::TypeText;
@@ -42,7 +42,8 @@ pub(crate) fn write_data<W: fmt::Write>(
     }
 }
 
-/// The data of a record of a message. Each call but the last says whether they read as their type's, and else writes nothing.
+/// The data of a record of a message. Each call but the last says whether they read as their
+/// type's, and else writes nothing.
 #[derive(Clone, Copy, Drop)]
 struct Data<'m> {
     message: &'m [u8],
@@ -265,7 +266,8 @@ fn are_texts(octets: &[u8]) -> bool {
     rest.is_empty() && !octets.is_empty()
 }
 
-/// A text in quotes, with a backslash before quotes and backslashes, and the other octets that do not print as three digits.
+/// A text in quotes, with a backslash before quotes and backslashes, and the other octets that do
+/// not print as three digits.
 #[derive(Clone, Copy, Drop)]
 struct Quoted<'a>(&'a [u8]);
 

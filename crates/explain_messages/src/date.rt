@@ -9,7 +9,8 @@ use std::fmt;
 use std::str::FromStr;
 use thiserror::Error;
 
-/// A moment in seconds since 1970 began, up to early in 2106. It prints and reads as `YYYYMMDDHHmmSS`, in UTC.
+/// A moment in seconds since 1970 began, up to early in 2106. It prints and reads as
+/// `YYYYMMDDHHmmSS`, in UTC.
 #[derive(Clone, Copy, Debug, PartialEq, Eq, Drop)]
 pub struct Date {
     pub seconds: u32,

@@ -6,7 +6,8 @@ use messages::names::ToName;
 use messages::{MessageView, read_message};
 use std::fmt;
 
-/// A message, that prints as lines: what its header says, the question, and the records of each section behind its name.
+/// A message, that prints as lines: what its header says, the question, and the records of each
+/// section behind its name.
 #[derive(Clone, Copy, Debug, Drop)]
 pub struct MessageText<'a> {
     pub octets: &'a [u8],

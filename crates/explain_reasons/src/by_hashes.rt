@@ -1,4 +1,5 @@
-//! What verified NSEC3 records tell of a question, and why, by the names that the judge hashed (RFC 5155, 8).
+//! What verified NSEC3 records tell of a question, and why, by the names that the judge hashed
+//! (RFC 5155, 8).
 
 use crate::facts::HashLink;
 use crate::tell::tell;
@@ -133,7 +134,8 @@ fn tell_types(
     Ok(false)
 }
 
-/// Says what the record of a wildcard says of a type there: a delegation's of DS alone (RFC 6840, 4.1).
+/// Says what the record of a wildcard says of a type there: a delegation's of DS alone (RFC 6840,
+/// 4.1).
 fn tell_star_types(
     because: &mut Vec<String>,
     asked: &Asked,
@@ -289,8 +291,8 @@ fn from_encloser(
     }
 }
 
-/// What links say of a name whose RRset is not verified, by the names that were hashed, in order: the name and its parents
-/// until one is matched, and then the wildcard.
+/// What links say of a name whose RRset is not verified, by the names that were hashed, in order:
+/// the name and its parents until one is matched, and then the wildcard.
 pub(crate) fn denied(
     because: &mut Vec<String>,
     asked: &Asked,
@@ -318,7 +320,8 @@ pub(crate) fn denied(
     Ok(Told::Nothing)
 }
 
-/// What links say of a name for which a wildcard's RRset stands: its next closer name was hashed (RFC 5155, 8.8).
+/// What links say of a name for which a wildcard's RRset stands: its next closer name was hashed
+/// (RFC 5155, 8.8).
 pub(crate) fn expanded(
     because: &mut Vec<String>,
     links: &[HashLink],

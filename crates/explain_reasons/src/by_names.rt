@@ -1,4 +1,5 @@
-//! What verified NSEC records tell of a question, and why (RFC 4035, 5.4; RFC 4592; RFC 6840, 4.1 and 4.3).
+//! What verified NSEC records tell of a question, and why (RFC 4035, 5.4; RFC 4592; RFC 6840, 4.1
+//! and 4.3).
 
 use crate::facts::Link;
 use crate::tell::tell;
@@ -8,7 +9,8 @@ use messages::names::{Name, ToName, ZoneName, is_above, is_at_or_above};
 use names_rdata::rtype::Rtype;
 use std::alloc::{AllocError, Global};
 
-/// Whether a name lies strictly between owner and next name; the apex as next name ends the order (RFC 4034, 4.1.1).
+/// Whether a name lies strictly between owner and next name; the apex as next name ends the order
+/// (RFC 4034, 4.1.1).
 fn covers(asked: &Asked, link: &Link, name: &Name<Vec<u8>>) -> bool {
     let (owner, next) = (&link.owner, link.data.next_name());
     let is_redirected = is_above(owner, name) && link.data.types().contains(Rtype::DNAME);
@@ -60,7 +62,8 @@ fn tell_types<N: ToName>(
     Ok(false)
 }
 
-/// Says what the record of a wildcard says of a type there: a delegation's of DS alone (RFC 6840, 4.1).
+/// Says what the record of a wildcard says of a type there: a delegation's of DS alone (RFC 6840,
+/// 4.1).
 fn tell_star_types(
     because: &mut Vec<String>,
     asked: &Asked,
@@ -223,7 +226,8 @@ fn covered(
     }
 }
 
-/// What links say of a name whose RRset is not verified: each rule is tried on the links in turn, before the next one is.
+/// What links say of a name whose RRset is not verified: each rule is tried on the links in turn,
+/// before the next one is.
 pub(crate) fn denied(
     alloc: Global,
     because: &mut Vec<String>,
@@ -257,7 +261,8 @@ pub(crate) fn denied(
     Ok(Told::Nothing)
 }
 
-/// What links say of a name for which a wildcard's RRset stands, by the labels that its signature counts (RFC 4035, 5.3.4).
+/// What links say of a name for which a wildcard's RRset stands, by the labels that its signature
+/// counts (RFC 4035, 5.3.4).
 pub(crate) fn expanded(
     because: &mut Vec<String>,
     asked: &Asked,

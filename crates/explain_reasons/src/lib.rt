@@ -1,4 +1,5 @@
-//! Why a judgement came out so: the names that the judge hashed, as its own calls tell, and the records by which it decided.
+//! Why a judgement came out so: the names that the judge hashed, as its own calls tell, and the
+//! records by which it decided.
 #![tactic(auto)]
 
 mod by_hashes;

@@ -39,7 +39,8 @@ pub struct Reasons {
     pub signatures: Vec<SignatureReason>,
     /// The names that were hashed, in order.
     pub hashes: Vec<HashReason>,
-    /// Whether all that the judge verified and hashed was found again in the messages, and its verdict with it.
+    /// Whether all that the judge verified and hashed was found again in the messages, and its
+    /// verdict with it.
     pub agrees: bool,
 }
 

@@ -1,4 +1,5 @@
-//! What was wrong with messages, keys and records of a refused judgement, and what would have to be there.
+//! What was wrong with messages, keys and records of a refused judgement, and what would have to be
+//! there.
 
 use crate::facts::Facts;
 use crate::tell::tell;
@@ -142,7 +143,8 @@ fn tell_equal_tags(because: &mut Vec<String>, keys: &[TaggedKey]) -> Result<(), 
     Ok(())
 }
 
-/// Says what is told of verified records beside one another; false where they are looked at one by one.
+/// Says what is told of verified records beside one another; false where they are looked at one by
+/// one.
 pub(crate) fn tell_records(
     because: &mut Vec<String>,
     case: &Case,

@@ -28,7 +28,8 @@ pub enum Told {
     Nothing,
 }
 
-/// Whether types are those of a delegation, if they stand at a name: NS below the apex (RFC 6840, 4.1).
+/// Whether types are those of a delegation, if they stand at a name: NS below the apex (RFC 6840,
+/// 4.1).
 pub fn is_cut<N: ToName>(types: &RtypeBitmap<&[u8]>, apex: &Name<Vec<u8>>, owner: &N) -> bool {
     types.contains(Rtype::NS) && !owner.name_eq(apex)
 }

@@ -108,7 +108,8 @@ fn state_beside<S: Scheme>(
     }
 }
 
-/// What a DS record is to the keys: of several of its tag and algorithm to one that it names, or else to the last.
+/// What a DS record is to the keys: of several of its tag and algorithm to one that it names, or
+/// else to the last.
 fn state_among<S: Scheme>(
     alloc: Global,
     scheme: &S,

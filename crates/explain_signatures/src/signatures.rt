@@ -190,8 +190,8 @@ pub struct Scope<'s, 'm> {
     pub tried: &'s [Tried],
 }
 
-/// The signatures of a message in its order, behind those that were seen before. What the judge tried is found again, signature
-/// by signature, over the same octets.
+/// The signatures of a message in its order, behind those that were seen before. What the judge
+/// tried is found again, signature by signature, over the same octets.
 pub fn see_signatures(
     alloc: Global,
     scope: &Scope,
@@ -330,7 +330,8 @@ fn state_untried(
     state_undue(scope, owner, signature)
 }
 
-/// Whether the judge looks at an RRset of a message: at the keys, at what is asked for, and at records of chains.
+/// Whether the judge looks at an RRset of a message: at the keys, at what is asked for, and at
+/// records of chains.
 fn is_needed(scope: &Scope, owner: &Owner, covered: Rtype) -> bool {
     let asked = &scope.asked;
     match scope.source {
@@ -362,7 +363,8 @@ fn state_undue(scope: &Scope, owner: &ParsedName, signature: &Signature) -> Sign
     state_of_key(scope, signature)
 }
 
-/// How many labels a signature over an owner counts: neither the root nor a leading star (RFC 4034, 3.1.3).
+/// How many labels a signature over an owner counts: neither the root nor a leading star (RFC 4034,
+/// 3.1.3).
 fn label_count(owner: &ParsedName) -> usize {
     let count = owner.label_count().saturating_sub(1);
     match owner.split_first() {

@@ -1,4 +1,5 @@
-//! The entries of a master file: its fields, over several lines where parentheses stand (RFC 1035, 5.1).
+//! The entries of a master file: its fields, over several lines where parentheses stand (RFC 1035,
+//! 5.1).
 
 use crate::fault::{EntryFault, ZoneFileError};
 use std::alloc::{AllocError, Global};

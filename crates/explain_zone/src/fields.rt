@@ -50,7 +50,8 @@ pub(crate) fn name_from(alloc: Global, text: &str) -> Result<Name<Vec<u8>>, Entr
     }
 }
 
-/// Seconds, below 2^31 (RFC 2181, 8): a number, or numbers each with its unit of w, d, h, m or s behind it. The last may have none.
+/// Seconds, below 2^31 (RFC 2181, 8): a number, or numbers each with its unit of w, d, h, m or s
+/// behind it. The last may have none.
 pub(crate) fn seconds_of(text: &str) -> Option<u32> {
     let (mut total, mut number, mut has_digits) = (0u64, 0u64, false);
     for octet in text.bytes() {
@@ -101,7 +102,8 @@ pub(crate) fn number_of(text: &str) -> Option<u32> {
     }
 }
 
-/// Adds the octets of a text, whose escapes are a backslash before three digits or any other octet (RFC 1035, 5.1).
+/// Adds the octets of a text, whose escapes are a backslash before three digits or any other octet
+/// (RFC 1035, 5.1).
 pub(crate) fn push_text(out: &mut Vec<u8>, text: &str) -> Result<Option<()>, AllocError> {
     let mut rest = text.as_bytes();
     for _ in 0..text.len() {

@@ -24,12 +24,14 @@ struct Zone {
     lines: String,
 }
 
-/// The lines of a zone for a master file: those of its records behind that of the zone, with a chain of names and signatures
-/// that hold a week. An origin may be given as text, and is empty otherwise; then the file names it where a name needs it.
+/// The lines of a zone for a master file: those of its records behind that of the zone, with a
+/// chain of names and signatures that hold a week. An origin may be given as text, and is empty
+/// otherwise; then the file names it where a name needs it.
 ///
-/// What is read of the files of RFC 1035, 5 and RFC 2308, 4: owners, TTLs, class IN, the types A, NS, SOA, MX, TXT, AAAA, SRV,
-/// DS and CAA, others with data as octets (RFC 3597, 5), `$ORIGIN`, `$TTL`, `@`, relative names, parentheses, quotes and
-/// comments. TTLs and times of SOA records may have units. All else is refused with its line.
+/// What is read of the files of RFC 1035, 5 and RFC 2308, 4: owners, TTLs, class IN, the types A,
+/// NS, SOA, MX, TXT, AAAA, SRV, DS and CAA, others with data as octets (RFC 3597, 5), `$ORIGIN`,
+/// `$TTL`, `@`, relative names, parentheses, quotes and comments. TTLs and times of SOA records may
+/// have units. All else is refused with its line.
 pub fn session_lines(alloc: Global, text: &[u8], origin: &str) -> Result<String, ZoneFileError> {
     let mut zone = Zone {
         alloc,

@@ -14,8 +14,8 @@ pub fn keyset_laws()
     ensures phases_follow { PhasesFollow }
 {}
 
-/// What holds after all calls, accepted and refused, on an empty set at first, where no flag and no stamp is set by
-/// hand.
+/// What holds after all calls, accepted and refused, on an empty set at first, where no flag and no
+/// stamp is set by hand.
 pub fn run_laws()
     // A wait counts from the report before it, whatever calls stand between.
     ensures waits_count_from_reports { WaitsCountFromReports }
@@ -25,8 +25,8 @@ pub fn run_laws()
     ensures rolls_run_together { RollsRunTogether }
 {}
 
-/// The parent is asked for a DS set from the actions that create the CDS RRset on, beside which a roll waits for that DS set, up to
-/// those that remove it.
+/// The parent is asked for a DS set from the actions that create the CDS RRset on, beside which a
+/// roll waits for that DS set, up to those that remove it.
 pub fn parent_is_asked()
     ensures with_ds { CdsComesWithDs }
     ensures created { CreatedCdsAsks }
@@ -38,7 +38,8 @@ pub fn tags_differ()
     ensures { TagsDiffer }
 {}
 
-/// Seven rolls, one after another, and calls that are refused on the way, worked through on the definitions.
+/// Seven rolls, one after another, and calls that are refused on the way, worked through on the
+/// definitions.
 pub fn rolls_by_hand()
     ensures published { RollsSevenTimes }
     ensures refused { RefusesOnTheWay }

@@ -8,7 +8,8 @@ use std::collections::HashSet;
 use std::convert::AsStr;
 use std::marker::Model;
 
-/// The first `count` of some references, each found by its hash, or one by one where there is no memory for hashes.
+/// The first `count` of some references, each found by its hash, or one by one where there is no
+/// memory for hashes.
 #[derive(Drop)]
 pub(crate) struct Listing<'a, T: AsStr> {
     all: &'a [T],

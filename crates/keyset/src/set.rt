@@ -216,22 +216,24 @@ impl KeySet {
         self.set(pubref, Setting::Decoupled(value))
     }
 
-    /// Puts a key into the DNSKEY RRset, or takes it out, outside a roll. The first moment at which it was put in is
-    /// kept.
+    /// Puts a key into the DNSKEY RRset, or takes it out, outside a roll. The first moment at which
+    /// it was put in is kept.
     pub fn set_present(&mut self, pubref: &str, value: bool, now: &UnixTime) -> Result<(), Error>
         ensures { Writes self.old self.new result (present_to value now.now) pubref.now }
     {
         self.set(pubref, Setting::Present(value, *now))
     }
 
-    /// Sets whether a key signs, outside a roll: a combined key in both its roles. An included key never does.
+    /// Sets whether a key signs, outside a roll: a combined key in both its roles. An included key
+    /// never does.
     pub fn set_signer(&mut self, pubref: &str, value: bool) -> Result<(), Error>
         ensures { Writes self.old self.new result (signer_to value) pubref.now }
     {
         self.set(pubref, Setting::Signer(value))
     }
 
-    /// Sets whether the parent's DS RRset has a key, outside a roll. Zone signing and included keys are never there.
+    /// Sets whether the parent's DS RRset has a key, outside a roll. Zone signing and included keys
+    /// are never there.
     pub fn set_at_parent(&mut self, pubref: &str, value: bool) -> Result<(), Error>
         ensures { Writes self.old self.new result (at_parent_to value) pubref.now }
     {
@@ -291,10 +293,11 @@ impl KeySet {
 
     /// Starts a roll from the old keys to the new ones.
     ///
-    /// Refuses, in this order: where the roll runs already; where another roll conflicts; at the first old key that
-    /// doesn't exist or isn't of a kind that the roll touches; at the first such new key, or one that isn't fresh or is
-    /// listed before; where old and new keys have different algorithms, unless the roll is one of algorithms; and where
-    /// after the start no key would serve in one of the roles.
+    /// Refuses, in this order: where the roll runs already; where another roll conflicts; at the
+    /// first old key that doesn't exist or isn't of a kind that the roll touches; at the first such
+    /// new key, or one that isn't fresh or is listed before; where old and new keys have different
+    /// algorithms, unless the roll is one of algorithms; and where after the start no key would
+    /// serve in one of the roles.
     pub fn start_roll<T: AsStr>(
         &mut self,
         rolltype: RollType,
@@ -313,7 +316,8 @@ impl KeySet {
         Ok(actions)
     }
 
-    /// Reports that a roll's first changes are on all servers; `ttl` is the greatest TTL of what they replaced.
+    /// Reports that a roll's first changes are on all servers; `ttl` is the greatest TTL of what
+    /// they replaced.
     pub fn propagation1_complete(
         &mut self,
         rolltype: RollType,
@@ -343,7 +347,8 @@ impl KeySet {
         self.go_on(rolltype, RollState::Propagation2, Step::Wait1, now)
     }
 
-    /// Reports that a roll's second changes are on all servers; `ttl` is the greatest TTL of what they replaced.
+    /// Reports that a roll's second changes are on all servers; `ttl` is the greatest TTL of what
+    /// they replaced.
     pub fn propagation2_complete(
         &mut self,
         rolltype: RollType,
@@ -392,8 +397,8 @@ impl KeySet {
         Ok(actions)
     }
 
-    /// Whether a roll that runs asks the parent for the DS set of the keys at the parent: then the zone has CDS and CDNSKEY
-    /// RRsets of them (RFC 7344, 4).
+    /// Whether a roll that runs asks the parent for the DS set of the keys at the parent: then the
+    /// zone has CDS and CDNSKEY RRsets of them (RFC 7344, 4).
     pub fn asks_parent(&self) -> bool
         ensures { result ≡ asks_parent self.now }
     {

@@ -56,7 +56,8 @@ impl Setting {
     }
 }
 
-/// Puts a key into the DNSKEY RRset or takes it out. The first moment at which it was put in is kept.
+/// Puts a key into the DNSKEY RRset or takes it out. The first moment at which it was put in is
+/// kept.
 fn put(key: &mut Key, present: bool, now: UnixTime)
     ensures { Ok key.new ≡ set_to (Setting.Present present now) key.old }
 {

@@ -166,8 +166,8 @@ pub enum KeyType {
     Ksk(KeyState),
     /// A zone signing key, which signs the other RRsets.
     Zsk(KeyState),
-    /// A combined signing key, which does both. Its flags are those as a key signing key, then those as a zone signing
-    /// key.
+    /// A combined signing key, which does both. Its flags are those as a key signing key, then
+    /// those as a zone signing key.
     Csk(KeyState, KeyState),
     /// A key of another owner, which is put into the DNSKEY RRset and signs nothing here.
     Include(KeyState),
@@ -176,7 +176,8 @@ pub enum KeyType {
 impl KeyType {
     ghost use Rattle.keyset_keys.specs.Keys.{main_role, each_is, is_fresh, is_stale};
 
-    /// The flags that represent the key. A combined key is represented by its role as a key signing key.
+    /// The flags that represent the key. A combined key is represented by its role as a key signing
+    /// key.
     pub fn main_role(&self) -> KeyState
         ensures { result ≡ main_role self.now }
     {

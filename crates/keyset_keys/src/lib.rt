@@ -1,5 +1,6 @@
-//! What a key of a zone is: its roles with their flags, its stamps, and why a call on a set of keys is refused.
-//! The crate `keyset`, which gives these items under its own name, has the set and the calls on it.
+//! What a key of a zone is: its roles with their flags, its stamps, and why a call on a set of keys
+//! is refused. The crate `keyset`, which gives these items under its own name, has the set and the
+//! calls on it.
 #![tactic(auto)]
 
 pub mod errors;

@@ -3,8 +3,9 @@ ghost use Rattle.keyset_laws.specs.KeyLifeRows.{RetiresAndMeets};
 ghost use Rattle.keyset_laws.specs.Meeting.{CallsMakeLives, EmptyDsSetsComeFirst, RollsKeepSides, UnretiredThingsMeet};
 ghost use Rattle.keyset_laws.specs.Waiting.{WaitsAreTimed};
 
-/// After all calls on a key set, accepted and refused, what was handed out and isn't retired fits together, where no
-/// flag and no stamp was set by hand and a roll of the algorithm brought the first DS set.
+/// After all calls on a key set, accepted and refused, what was handed out and isn't retired fits
+/// together, where no flag and no stamp was set by hand and a roll of the algorithm brought the
+/// first DS set.
 pub fn unretired_things_meet()
     ensures { UnretiredThingsMeet }
 {}
@@ -24,13 +25,14 @@ pub fn calls_make_lives()
     ensures { CallsMakeLives }
 {}
 
-/// After all calls that set no flag and no stamp by hand, a wait counts from its report, whatever calls come between.
+/// After all calls that set no flag and no stamp by hand, a wait counts from its report, whatever
+/// calls come between.
 pub fn waits_are_timed()
     ensures { WaitsAreTimed }
 {}
 
-/// Things that a zone handed out in three moments, worked through on the definitions: which are retired, and which
-/// meet.
+/// Things that a zone handed out in three moments, worked through on the definitions: which are
+/// retired, and which meet.
 pub fn things_by_hand()
     ensures { RetiresAndMeets }
 {}

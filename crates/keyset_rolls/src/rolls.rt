@@ -36,11 +36,13 @@ pub enum Turn {
 pub enum RollState {
     /// The first changes are on their way to the servers.
     Propagation1,
-    /// The first changes are on all servers, and what was served before expires within these seconds.
+    /// The first changes are on all servers, and what was served before expires within these
+    /// seconds.
     CacheExpire1(u32),
     /// The second changes are on their way to the servers.
     Propagation2,
-    /// The second changes are on all servers, and what was served before expires within these seconds.
+    /// The second changes are on all servers, and what was served before expires within these
+    /// seconds.
     CacheExpire2(u32),
     /// The roll is complete but for its last actions.
     Done,
@@ -107,8 +109,8 @@ impl RollType {
         matches!(self, RollType::ZskRoll | RollType::ZskDoubleSignatureRoll)
     }
 
-    /// Whether this roll may not start while the other runs. A roll of key signing keys may run beside a roll of zone
-    /// signing keys; all other rolls conflict.
+    /// Whether this roll may not start while the other runs. A roll of key signing keys may run
+    /// beside a roll of zone signing keys; all other rolls conflict.
     pub fn conflicts_with(self, running: RollType) -> bool
         ensures { result ≡ conflicts self running }
     {
@@ -133,8 +135,8 @@ impl RollType {
         }
     }
 
-    /// Whether a roll asks the parent for a DS set in this phase: from the actions that create the CDS RRset on, up to the
-    /// next actions, which remove it, or to the roll's end (RFC 7344, 4).
+    /// Whether a roll asks the parent for a DS set in this phase: from the actions that create the
+    /// CDS RRset on, up to the next actions, which remove it, or to the roll's end (RFC 7344, 4).
     pub fn asks_parent_in(self, phase: Option<RollState>) -> bool
         ensures { result ≡ asks_parent_in self phase }
     {

@@ -290,7 +290,8 @@ impl RollType {
         }
     }
 
-    /// Changes a key as the start does, as one of the roll's old keys, of its new keys or of neither.
+    /// Changes a key as the start does, as one of the roll's old keys, of its new keys or of
+    /// neither.
     pub fn start(self, key: &mut Key, is_old: bool, is_new: bool, now: &UnixTime)
         ensures { key.new ≡ started_key self now.now is_old is_new key.old }
     {

@@ -1,5 +1,6 @@
-//! Messages as bytes: the names and records that stand in them, read in place and written (RFC 1035, 4), the question
-//! that a message answers, and the octets that a signature is made over.
+//! Messages as bytes: the names and records that stand in them, read in place and written
+//! (RFC 1035, 4), the question that a message answers, and the octets that a signature is made
+//! over.
 #![tactic(auto)]
 
 pub mod error;

@@ -9,9 +9,9 @@ use crate::error::MessageError;
 use crate::view::{MessageView, ViewRecord, read_head};
 use std::alloc::AllocError;
 
-/// Reads a message as [`read_message`](crate::read_message) does, and appends its records to a list, so that nobody
-/// need read them again. The message is read to its end even where the list cannot grow; the result says whether it
-/// grew.
+/// Reads a message as [`read_message`](crate::read_message) does, and appends its records to a
+/// list, so that nobody need read them again. The message is read to its end even where the list
+/// cannot grow; the result says whether it grew.
 pub fn read_message_into<'a>(
     bytes: &'a [u8],
     records: &mut Vec<ViewRecord<'a>>,
@@ -28,8 +28,8 @@ pub fn read_message_into<'a>(
 
 /// Reads records as `read_records` does, and appends them to a list while it can grow.
 ///
-/// A record takes at least eleven octets, so the counts in a header make the list grow no further than the message may
-/// need.
+/// A record takes at least eleven octets, so the counts in a header make the list grow no further
+/// than the message may need.
 fn list_records<'a>(
     bytes: &'a [u8],
     first: usize,

@@ -55,7 +55,8 @@ pub trait ZoneName: Labels {
     fn has_star(&self) -> bool
         ensures { result ≡ has_star (Self.name self.now) };
 
-    /// The number of labels that a signature counts: neither the root nor a leading star (RFC 4034, 3.1.3).
+    /// The number of labels that a signature counts: neither the root nor a leading star (RFC 4034,
+    /// 3.1.3).
     fn rrsig_label_count(&self) -> u8
         ensures { result ≡ label_count (Self.name self.now) };
 

@@ -5,7 +5,8 @@ ghost use Rattle.names_parsed.specs.Parsed.{parsed_name};
 use crate::names::ParsedName;
 use std::marker::Model;
 
-/// The name that a record of a message belongs to, read in place. A contract sees its labels, as spelled.
+/// The name that a record of a message belongs to, read in place. A contract sees its labels, as
+/// spelled.
 #[derive(Drop)]
 pub struct Owner<'a> {
     name: ParsedName<'a>,

@@ -1,4 +1,5 @@
-//! The data of records within a message (RFC 1035, 3.3; RFC 4034, 3.1 and 4.1; RFC 5155, 3.2), read in place.
+//! The data of records within a message (RFC 1035, 3.3; RFC 4034, 3.1 and 4.1; RFC 5155, 3.2), read
+//! in place.
 ghost use Rattle.std.specs.Prelude.{◌≡◌, ◌+◌, ◌++◌, ◌<◌, ◌≤◌, length, true, IfOk, IfSome, IfNone, Some};
 ghost use Rattle.definitions.specs.Name.{wire};
 ghost use Rattle.definitions.specs.Limits.{pointer_limit};
@@ -50,8 +51,8 @@ impl<'a> ViewRecord<'a> {
         }
     }
 
-    /// The type covered by the signature that the data spell (RFC 4034, 3.1.1), for callers who need only that of most
-    /// signatures. Where the data are no signature it may be any type.
+    /// The type covered by the signature that the data spell (RFC 4034, 3.1.1), for callers who
+    /// need only that of most signatures. Where the data are no signature it may be any type.
     pub fn covered_type(&self, message: &[u8]) -> Option<Rtype>
         ensures { IfSome (rrsig_at pointer_limit message.now (spelled self.now))
             (λ f. result ≡ Some f.0.covered) }
@@ -82,8 +83,8 @@ impl<'a> ViewRecord<'a> {
         read_hashed_link(self.octets(message))
     }
 
-    /// The canonical data (RFC 4034, 6.2), borrowed where the message has them in this form. `None` where the data
-    /// don't read as their type's.
+    /// The canonical data (RFC 4034, 6.2), borrowed where the message has them in this form. `None`
+    /// where the data don't read as their type's.
     pub fn canonical_cow<'m>(
         &self,
         alloc: Global,
@@ -134,8 +135,8 @@ impl<'a> ViewRecord<'a> {
         }
     }
 
-    /// The canonical data of an NSEC record, whose next name isn't lowered (RFC 6840, 5.1). They are borrowed where
-    /// that name stands in full.
+    /// The canonical data of an NSEC record, whose next name isn't lowered (RFC 6840, 5.1). They
+    /// are borrowed where that name stands in full.
     fn nsec_data<'m>(
         &self,
         alloc: Global,
@@ -154,7 +155,8 @@ impl<'a> ViewRecord<'a> {
         Ok(Some(CowSlice::Owned(canonical_octets(alloc, &link)?)))
     }
 
-    /// The canonical data of an NSEC3 record: they have no names, so they are the octets themselves.
+    /// The canonical data of an NSEC3 record: they have no names, so they are the octets
+    /// themselves.
     fn nsec3_data<'m>(&self, message: &'m [u8]) -> Option<&'m [u8]>
         ensures { option_map (λ s. s.now) result ≡ nsec3_data message.now (spelled self.now) }
     {

@@ -12,7 +12,8 @@ pub type ZoneData = ZoneRecordData<Vec<u8>, Name<Vec<u8>>>;
 /// A record of a zone.
 pub type ZoneRecord = Record<Name<Vec<u8>>, ZoneData>;
 
-/// What every record keeps: a name, numbers that fit their places, and data of their type. It does nothing.
+/// What every record keeps: a name, numbers that fit their places, and data of their type. It does
+/// nothing.
 pub fn keeps(rr: &ZoneRecord)
     ensures { IsHanded (handed_of rr.now) }
 {

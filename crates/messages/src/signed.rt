@@ -12,10 +12,10 @@ use names_rdata::rtype::Rtype;
 use plain::{Class, Ttl};
 use std::alloc::{AllocError, Global};
 
-/// The octets that a signature of an RRset is made over: the fields, then the records in the order given (RFC 4034,
-/// 3.1.8.1). An owner with more labels than the fields count is signed as the wildcard from which it was expanded (RFC
-/// 4035, 5.3.2). The data are canonical and at most 65,535 octets, as a record's are; the length is written modulo
-/// 65,536.
+/// The octets that a signature of an RRset is made over: the fields, then the records in the order
+/// given (RFC 4034, 3.1.8.1). An owner with more labels than the fields count is signed as the
+/// wildcard from which it was expanded (RFC 4035, 5.3.2). The data are canonical and at most 65,535
+/// octets, as a record's are; the length is written modulo 65,536.
 pub fn signed_octets<N: ToName, Octs: Octets>(
     alloc: Global,
     fields: &ProtoRrsig<N>,
@@ -31,8 +31,9 @@ pub fn signed_octets<N: ToName, Octs: Octets>(
     Ok(out)
 }
 
-/// Appends what [`signed_octets`] gives, of data however they are stored, so that callers with many signatures reuse
-/// one vector. Where memory runs out, a part may have been appended, and callers drop the vector.
+/// Appends what [`signed_octets`] gives, of data however they are stored, so that callers with many
+/// signatures reuse one vector. Where memory runs out, a part may have been appended, and callers
+/// drop the vector.
 pub fn compose_signed_octets<N: ToName, Octs: Octets, Data: Octets>(
     alloc: Global,
     fields: &ProtoRrsig<N>,
@@ -53,7 +54,8 @@ pub fn compose_signed_octets<N: ToName, Octs: Octets, Data: Octets>(
     Ok(())
 }
 
-/// Room for the fields with the longest signer, and for each record the owner, ten octets and its data.
+/// Room for the fields with the longest signer, and for each record the owner, ten octets and its
+/// data.
 fn signed_room<Octs: Octets, Data: Octets>(owner: &Name<Octs>, canonical: &[Data]) -> usize {
     let head = owner.as_slice().len().saturating_add(10);
     let mut room = 18 + 255;
@@ -79,8 +81,8 @@ fn compose_signed_fields<N: ToName>(
     }
 }
 
-/// Writes the fields in the form that a record has, the signer as spelled (RFC 4034, 3.1). A refused call leaves the
-/// target as it was.
+/// Writes the fields in the form that a record has, the signer as spelled (RFC 4034, 3.1). A
+/// refused call leaves the target as it was.
 pub fn compose_fields<N: ToName>(
     fields: &ProtoRrsig<N>,
     out: &mut Vec<u8>,
@@ -118,7 +120,8 @@ fn compose_signed_record<N: ToName, Octs: Octets>(
     out.extend_from_slice(rdata)
 }
 
-/// The numbers between a record's owner and its data (RFC 1035, 4.1.3). The length of the data is taken modulo 65,536.
+/// The numbers between a record's owner and its data (RFC 1035, 4.1.3). The length of the data is
+/// taken modulo 65,536.
 #[tactic(auto, unfolding(crate::specs::Rrsig::record_numbers))]
 pub fn record_numbers(rtype: Rtype, class: Class, ttl: Ttl, len: usize) -> [u8; 10]
     ensures { result ≡ record_numbers rtype class ttl len }
@@ -130,7 +133,8 @@ pub fn record_numbers(rtype: Rtype, class: Class, ttl: Ttl, len: usize) -> [u8; 
     [a, b, c, d, e, f, g, h, i, j]
 }
 
-/// Writes the owner in canonical form, or the wildcard from which it was expanded (RFC 4035, 5.3.2).
+/// Writes the owner in canonical form, or the wildcard from which it was expanded (RFC 4035,
+/// 5.3.2).
 fn compose_signed_owner<Octs: Octets>(
     alloc: Global,
     labels: u8,

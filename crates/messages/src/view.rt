@@ -195,8 +195,8 @@ impl<'a> Iterator for Records<'a> {
     }
 }
 
-/// Reads a message in place, without taking memory. The header's flags and octets behind the last counted record are
-/// ignored.
+/// Reads a message in place, without taking memory. The header's flags and octets behind the last
+/// counted record are ignored.
 pub fn read_message(bytes: &[u8]) -> Result<MessageView<'_>, MessageError>
     ensures { Gives (λ v. v) result (message pointer_limit bytes.now) }
 {
@@ -205,7 +205,8 @@ pub fn read_message(bytes: &[u8]) -> Result<MessageView<'_>, MessageError>
     Ok(MessageView::new(bytes, name, rtype, class, first, count))
 }
 
-/// Reads what stands before the records: what is asked, the place behind it, and how many records there are.
+/// Reads what stands before the records: what is asked, the place behind it, and how many records
+/// there are.
 pub(crate) fn read_head(
     bytes: &[u8],
 ) -> Result<(ParsedName<'_>, u16, u16, usize, usize), MessageError>

@@ -1,7 +1,7 @@
 //! Messages as they are written (RFC 1035, 4.1), without compression.
 //!
-//! Where memory runs out, a header, a question or a record may have been written in part: callers then drop the
-//! message.
+//! Where memory runs out, a header, a question or a record may have been written in part: callers
+//! then drop the message.
 ghost use Rattle.std.specs.Prelude.{◌≡◌, ◌<◌, ◌^◌, ◌++◌, length, OnOk, OnErr};
 ghost use Rattle.std.specs.Int.{w16, w32, to_be_bytes};
 ghost use Rattle.messages.specs.Written.{written, header_octets, question_octets, record_octets};
@@ -11,8 +11,8 @@ use names_rdata::rtype::Rtype;
 use plain::{Class, Ttl};
 use std::alloc::AllocError;
 
-/// Appends a header: id 0, the flags, one question, and the numbers of records of the answer and the authority section
-/// (RFC 1035, 4.1.1).
+/// Appends a header: id 0, the flags, one question, and the numbers of records of the answer and
+/// the authority section (RFC 1035, 4.1.1).
 #[tactic(auto, unfolding(crate::specs::Written::header_octets))]
 pub fn push_header(
     out: &mut Vec<u8>,
@@ -69,7 +69,8 @@ pub fn push_record(
     out.extend_from_slice(rdata)
 }
 
-/// Appends a 16-bit number, the highest octet first (RFC 1035, 2.3.2). A refused call appends nothing.
+/// Appends a 16-bit number, the highest octet first (RFC 1035, 2.3.2). A refused call appends
+/// nothing.
 pub fn push_u16(out: &mut Vec<u8>, number: u16) -> Result<(), AllocError>
     ensures ok { OnOk result (out.new.items ≡ out.old.items ++ to_be_bytes w16 number) }
     ensures err { OnErr result (out.new.items ≡ out.old.items) }
@@ -77,7 +78,8 @@ pub fn push_u16(out: &mut Vec<u8>, number: u16) -> Result<(), AllocError>
     out.extend_from_slice(&number.to_be_bytes())
 }
 
-/// Appends a 32-bit number, the highest octet first (RFC 1035, 2.3.2). A refused call appends nothing.
+/// Appends a 32-bit number, the highest octet first (RFC 1035, 2.3.2). A refused call appends
+/// nothing.
 pub fn push_u32(out: &mut Vec<u8>, number: u32) -> Result<(), AllocError>
     ensures ok { OnOk result (out.new.items ≡ out.old.items ++ to_be_bytes w32 number) }
     ensures err { OnErr result (out.new.items ≡ out.old.items) }

@@ -21,8 +21,8 @@ use std::alloc::{AllocError, Global};
 /// Room for data with two names of ordinary length; data that need more get it.
 pub(crate) const ROOM_FOR_DATA: usize = 128;
 
-/// Replaces the content of a buffer by the data of a record in canonical form. Returns false where the form of their
-/// type doesn't read the data.
+/// Replaces the content of a buffer by the data of a record in canonical form. Returns false where
+/// the form of their type doesn't read the data.
 pub(crate) fn put_data(
     message: &[u8],
     view: &ViewRecord,
@@ -38,8 +38,8 @@ pub(crate) fn put_data(
     put_formed(message, view.rtype, view.start, limit, rdata)
 }
 
-/// Replaces the content of a buffer by the data from a place up to a limit, in canonical form. Returns false where the
-/// form of their type doesn't read the data.
+/// Replaces the content of a buffer by the data from a place up to a limit, in canonical form.
+/// Returns false where the form of their type doesn't read the data.
 pub(crate) fn put_formed(
     message: &[u8],
     rtype: Rtype,
@@ -64,9 +64,10 @@ pub(crate) fn put_formed(
     Ok(at == limit)
 }
 
-/// Whether octets, by themselves, are data of a type in canonical form: the type's form reads them, all names stand in
-/// full, and in lower case where signatures are made over lower case (RFC 4034, 6.2). Signatures that a signer makes
-/// over data exactly as it was given them verify elsewhere only where the data have this form.
+/// Whether octets, by themselves, are data of a type in canonical form: the type's form reads them,
+/// all names stand in full, and in lower case where signatures are made over lower case (RFC 4034,
+/// 6.2). Signatures that a signer makes over data exactly as it was given them verify elsewhere
+/// only where the data have this form.
 pub fn is_canonical_data(alloc: Global, rtype: Rtype, octets: &[u8]) -> Result<bool, AllocError>
     ensures { IfOk result (λ b. b ≡ is_canonical_data pointer_limit rtype octets.now) }
 {
@@ -75,7 +76,8 @@ pub fn is_canonical_data(alloc: Global, rtype: Rtype, octets: &[u8]) -> Result<b
     Ok(is_formed && data.as_slice() == octets)
 }
 
-/// Appends a part that stands at a place, and returns the place behind it; `None` where no such part ends by the limit.
+/// Appends a part that stands at a place, and returns the place behind it; `None` where no such
+/// part ends by the limit.
 fn put_part(
     message: &[u8],
     part: Part,
@@ -165,7 +167,8 @@ fn width_at(message: &[u8], part: Part, at: usize, limit: usize) -> Option<usize
     }
 }
 
-/// How many octets a prefix length and the bits behind it take; `None` where it is no prefix length.
+/// How many octets a prefix length and the bits behind it take; `None` where it is no prefix
+/// length.
 fn suffix_width(prefix: u8) -> Option<usize>
     ensures { result ≡ suffix_width prefix }
 {

@@ -11,7 +11,8 @@ pub enum Part {
     Octets(u8),
     /// A character-string: octets behind their number (RFC 1035, 3.3).
     Text,
-    /// The length of an address's prefix, at most 128, and as many octets as the bits behind it take (RFC 2874, 3.1).
+    /// The length of an address's prefix, at most 128, and as many octets as the bits behind it
+    /// take (RFC 2874, 3.1).
     Suffix,
     /// A name over which signatures are made in lower case.
     Lowered,
@@ -21,8 +22,8 @@ pub enum Part {
     Rest,
 }
 
-/// The form of a type's data, which may depend on their first octet: one part after another (RFC 4034, 6.2; RFC 6840,
-/// 5.1).
+/// The form of a type's data, which may depend on their first octet: one part after another
+/// (RFC 4034, 6.2; RFC 6840, 5.1).
 pub fn form_of(rtype: Rtype, first: u8) -> &'static [Part]
     ensures { result.now ≡ form_of rtype first }
 {

@@ -30,9 +30,9 @@ const HEADER: usize = 12;
 /// The number of octets between a record's owner and its data (RFC 1035, 4.1.3).
 const NUMBERS: usize = 10;
 
-/// The message in canonical form: names in full, and names in data in lower case where signatures are made over lower
-/// case. Header, question, order and TTLs are unchanged, and so are data that their type's form doesn't read, octet for
-/// octet.
+/// The message in canonical form: names in full, and names in data in lower case where signatures
+/// are made over lower case. Header, question, order and TTLs are unchanged, and so are data that
+/// their type's form doesn't read, octet for octet.
 ///
 /// A message that doesn't read is refused as [`read_message`](messages::read_message) refuses it.
 pub fn canonical_message(alloc: Global, bytes: &[u8]) -> Result<Vec<u8>, CanonicalError>
@@ -52,9 +52,10 @@ pub fn canonical_message(alloc: Global, bytes: &[u8]) -> Result<Vec<u8>, Canonic
     Ok(octets)
 }
 
-/// The message in the form in which signatures are verified. It is the received message, borrowed, where it doesn't
-/// read, and where the data of each record are in canonical form already or of a type whose names are read as names
-/// (NS, SOA, RRSIG, NSEC). Otherwise it is the message in canonical form.
+/// The message in the form in which signatures are verified. It is the received message, borrowed,
+/// where it doesn't read, and where the data of each record are in canonical form already or of a
+/// type whose names are read as names (NS, SOA, RRSIG, NSEC). Otherwise it is the message in
+/// canonical form.
 pub fn canonical_cow<'a>(alloc: Global, bytes: &'a [u8]) -> Result<CowSlice<'a, u8>, CanonicalError>
     ensures ok { IfOk result (λ o. IsInForm bytes.now (cow_slice_items o)) }
     ensures none { IfErr result (HasNoForm bytes.now) }
@@ -82,7 +83,8 @@ fn push_head(bytes: &[u8], view: &MessageView, octets: &mut Vec<u8>) -> Result<(
     Ok(())
 }
 
-/// Appends the records that stand in the message from a place on. Returns false where a message has no room for them.
+/// Appends the records that stand in the message from a place on. Returns false where a message has
+/// no room for them.
 fn push_records(
     alloc: Global,
     bytes: &[u8],
@@ -108,7 +110,8 @@ fn push_records(
     Ok(true)
 }
 
-/// Appends the record at a place, with a buffer for its data. Returns false where a message has no room for it.
+/// Appends the record at a place, with a buffer for its data. Returns false where a message has no
+/// room for it.
 fn push_record(
     bytes: &[u8],
     at: usize,
@@ -136,7 +139,8 @@ fn record_stands(bytes: &[u8], view: &ViewRecord) -> bool
     limit <= bytes.len() && data_stand(bytes, view.rtype, view.start, limit)
 }
 
-/// Appends the record at a place with its data as they stand. Returns false where a message has no room for it.
+/// Appends the record at a place with its data as they stand. Returns false where a message has no
+/// room for it.
 fn push_with_own_data(
     bytes: &[u8],
     at: usize,
@@ -153,7 +157,8 @@ fn push_with_own_data(
     Ok(octets.len() <= MOST)
 }
 
-/// Appends the record at a place with the given data. Returns false where a message has no room for it.
+/// Appends the record at a place with the given data. Returns false where a message has no room for
+/// it.
 fn push_with_data(
     bytes: &[u8],
     at: usize,

@@ -9,8 +9,9 @@ use messages::record::ZoneRecord;
 use names_rdata::data::ComposeRecordData;
 use std::alloc::{AllocError, Global};
 
-/// Whether the data of all records are in form, as [`is_data_in_form`] has it. A publisher's answers of such a zone are
-/// judged as they are received, and signatures over its data verify elsewhere too.
+/// Whether the data of all records are in form, as [`is_data_in_form`] has it. A publisher's
+/// answers of such a zone are judged as they are received, and signatures over its data verify
+/// elsewhere too.
 pub fn are_records_in_form(alloc: Global, records: &[ZoneRecord]) -> Result<bool, AllocError>
     ensures { let is = list_all is_record_in_form (map handed_of records.now) in
         IfOk result (λ b. b ≡ is) }

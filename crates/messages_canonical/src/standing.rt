@@ -13,8 +13,8 @@ use crate::names::end_in_full;
 use names_rdata::rtype::Rtype;
 use std::alloc::{AllocError, Global};
 
-/// Whether data from a place up to a limit need no other form. Memory is taken only where they aren't in canonical
-/// form.
+/// Whether data from a place up to a limit need no other form. Memory is taken only where they
+/// aren't in canonical form.
 pub(crate) fn has_form(
     alloc: Global,
     message: &[u8],
@@ -34,9 +34,10 @@ pub(crate) fn has_form(
     Ok(!is_formed || data.as_slice() == &message[start..limit])
 }
 
-/// Whether data of a type, by themselves, are signed alike by every signer: names in them stand in full and in lower
-/// case, or are read as names by every signer, as those of NS, SOA, RRSIG and NSEC data are (RFC 4034, 6.2). Signatures
-/// made over other data as they stand verify nowhere else.
+/// Whether data of a type, by themselves, are signed alike by every signer: names in them stand in
+/// full and in lower case, or are read as names by every signer, as those of NS, SOA, RRSIG and
+/// NSEC data are (RFC 4034, 6.2). Signatures made over other data as they stand verify nowhere
+/// else.
 pub fn is_data_in_form(alloc: Global, rtype: Rtype, octets: &[u8]) -> Result<bool, AllocError>
     ensures { IfOk result (λ b. b ≡ has_form rtype octets.now) }
 {
@@ -53,8 +54,8 @@ fn is_read_by_name(rtype: Rtype) -> bool
     matches!(rtype, Rtype::NS | Rtype::SOA | Rtype::RRSIG | Rtype::NSEC)
 }
 
-/// Whether a quick test shows that data from a place up to a limit are in canonical form as they stand. Some data in
-/// canonical form fail the test.
+/// Whether a quick test shows that data from a place up to a limit are in canonical form as they
+/// stand. Some data in canonical form fail the test.
 pub(crate) fn data_stand(message: &[u8], rtype: Rtype, start: usize, limit: usize) -> bool
     requires ordered { start ≤ limit }
     requires inside { limit ≤ length message.now }

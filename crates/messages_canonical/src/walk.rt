@@ -1,6 +1,6 @@
-//! A walk over the records of a message that looks only at where their data stand: it follows no pointer of the names
-//! in front of them. Where a message reads, the walk finds the records that reading finds; of other messages it says
-//! nothing.
+//! A walk over the records of a message that looks only at where their data stand: it follows no
+//! pointer of the names in front of them. Where a message reads, the walk finds the records that
+//! reading finds; of other messages it says nothing.
 ghost use Rattle.std.specs.Prelude.{◌≡◌, ◌+◌, ◌<◌, ◌≤◌, length, IfNone, IfSome, IfOk};
 ghost use Rattle.std.specs.Option.{option_map};
 ghost use Rattle.messages.specs.Message.{of_octets, pair};
@@ -87,7 +87,8 @@ fn passed_at(message: &[u8], at: usize) -> Option<PlacedData>
     })
 }
 
-/// The type of a record and the length of its data, by the numbers behind its owner (RFC 1035, 4.1.3).
+/// The type of a record and the length of its data, by the numbers behind its owner (RFC 1035,
+/// 4.1.3).
 fn type_and_length(message: &[u8], at: usize) -> Option<(u16, usize)>
     ensures rtype { IfSome result (λ n. n.0 ≡ pair message.now at) }
     ensures length { IfSome result (λ n. n.1 ≡ pair message.now (at + 8)) }

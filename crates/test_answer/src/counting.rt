@@ -4,7 +4,8 @@ use answer::{DigestAlgorithm, Dnskey, HashError, Nsec3Hasher, Scheme, SchemeErro
 use std::alloc::Global;
 use std::cell::Cell;
 
-/// Answers as a scheme does, which is its hasher too, and counts how often it is asked to verify and to hash.
+/// Answers as a scheme does, which is its hasher too, and counts how often it is asked to verify
+/// and to hash.
 #[derive(Drop)]
 pub struct Counting {
     scheme: TestScheme,

@@ -101,7 +101,8 @@ fn session_errors() -> [SessionError; 2] {
     [SessionError::Line { number, fault }, SessionError::Memory]
 }
 
-/// The flags of a key signing key, of a zone signing key, of a key that signs both and of one of another owner.
+/// The flags of a key signing key, of a zone signing key, of a key that signs both and of one of
+/// another owner.
 pub fn flags(alloc: Global) -> Option<String> {
     let (ksk, zsk, csk, include) = (
         KeyKind::Ksk.flags(),

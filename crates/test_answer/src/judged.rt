@@ -67,7 +67,8 @@ impl Asked {
     }
 }
 
-/// DS records of tags and digest types, as `1054:2`, of algorithm 13 and the digest that the scheme makes.
+/// DS records of tags and digest types, as `1054:2`, of algorithm 13 and the digest that the scheme
+/// makes.
 fn ds_set(alloc: Global, list: &str) -> Option<Vec<Ds<Vec<u8>>>> {
     let mut set = Vec::new(alloc);
     for word in &listed(alloc, list)? {
@@ -167,7 +168,8 @@ pub fn judged_by(alloc: Global, desk: &Desk, rest: &str) -> Option<String> {
     )
 }
 
-/// What is said of each proper beginning of the DNSKEY answer that is held, then of the zone answer.
+/// What is said of each proper beginning of the DNSKEY answer that is held, then of the zone
+/// answer.
 pub fn cuts(alloc: Global, desk: &Desk, words: &[&str]) -> Option<String> {
     let asked = Asked::read(alloc, words)?;
     let (mut of_keys, mut of_answers) = (Vec::new(alloc), Vec::new(alloc));
@@ -194,7 +196,8 @@ fn together(alloc: Global, texts: &[String]) -> Option<String> {
     format!(in alloc; "{like} of {all} {first}").ok()
 }
 
-/// What was answered, and how often was verified and hashed, as it was answered and, where that is otherwise, counted.
+/// What was answered, and how often was verified and hashed, as it was answered and, where that is
+/// otherwise, counted.
 fn outcome(
     alloc: Global,
     judged: &Result<Judgement, Refused>,

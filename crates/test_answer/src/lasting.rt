@@ -9,7 +9,8 @@ use answer::{
 use std::alloc::Global;
 use test_lines::{refused, text};
 
-/// A scheme under which each signature passes, whose digest of type 2 is the octet 7; no name is hashed.
+/// A scheme under which each signature passes, whose digest of type 2 is the octet 7; no name is
+/// hashed.
 struct Passing;
 
 impl Scheme for Passing {
@@ -64,7 +65,8 @@ impl Nsec3Hasher for Passing {
     }
 }
 
-/// How long the verdict lasts that the messages have which are held, where each of their signatures passes.
+/// How long the verdict lasts that the messages have which are held, where each of their signatures
+/// passes.
 pub fn lasts(alloc: Global, desk: &Desk, words: &[&str]) -> Option<String> {
     let asked = Asked::read(alloc, words)?;
     let case = asked.of_any_moments(&desk.keys, &desk.answer);

@@ -4,8 +4,8 @@ ghost use Rattle.std.specs.Prelude.{◌≡◌, ◌++◌, IfOk};
 use answer::{DigestAlgorithm, Dnskey, HashError, Nsec3Hasher, Scheme, SchemeError};
 use std::alloc::{AllocError, Global};
 
-/// A signature is a copy of the octets that it is made over, the digest of the one known type is the octet 7, and so is each
-/// hash.
+/// A signature is a copy of the octets that it is made over, the digest of the one known type is
+/// the octet 7, and so is each hash.
 #[derive(Clone, Copy)]
 pub struct TestScheme {
     pub signs: bool,

@@ -23,7 +23,8 @@ fn opaque(rtype: &str, octets: Vec<u8>) -> Option<ZoneRecordData<Vec<u8>, Name<V
     Some(ZoneRecordData::Unknown(data))
 }
 
-/// The SOA record of an owner, TTL and minimum of 3600 and 300 seconds; the owner is its server and its keeper too.
+/// The SOA record of an owner, TTL and minimum of 3600 and 300 seconds; the owner is its server and
+/// its keeper too.
 pub fn soa(alloc: Global, words: &[&str]) -> Option<ZoneRecord> {
     let [owner, serial] = words else {
         return None;

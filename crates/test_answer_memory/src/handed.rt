@@ -22,7 +22,8 @@ pub struct Handed {
 pub const NOW: u64 = 5000;
 
 impl Handed {
-    /// What a zone hands out, asked for a name and a type, once its first two keys have a DS record.
+    /// What a zone hands out, asked for a name and a type, once its first two keys have a DS
+    /// record.
     pub fn of(alloc: Global, text: &[u8], name: &str, rtype: Rtype) -> Result<Handed, Refused> {
         let mut publisher = read_zone(alloc, text)?.publisher;
         for key in KEYS.into_iter().take(2) {

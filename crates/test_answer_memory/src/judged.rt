@@ -18,7 +18,8 @@ use std::marker::Brand;
 use std::sync::ledger::{Blank, Ledger};
 use test_refusals::Trial;
 
-/// A zone, a name and the number of a type that are asked for, and what is printed of the judgement of the answer.
+/// A zone, a name and the number of a type that are asked for, and what is printed of the judgement
+/// of the answer.
 type Row = (&'static [u8], &'static str, u16, &'static str);
 
 const ROWS: [Row; 9] = [

@@ -1,6 +1,6 @@
-//! Calls on publishers, judges and simulations that are refused memory, each told on a line with whether it said so, left what it
-//! worked on as it was, and then succeeded. `tests/refusals` runs the program once for each growth, with that one refused; what is
-//! printed is the same.
+//! Calls on publishers, judges and simulations that are refused memory, each told on a line with
+//! whether it said so, left what it worked on as it was, and then succeeded. `tests/refusals` runs
+//! the program once for each growth, with that one refused; what is printed is the same.
 #![tactic(auto)]
 
 mod handed;

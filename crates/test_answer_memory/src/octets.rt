@@ -12,8 +12,8 @@ use std::alloc::Global;
 use std::io;
 use test_refusals::Trial;
 
-/// The reply of a host's address to an empty list of signatures, and to one of those that are asked for: the data behind their
-/// length.
+/// The reply of a host's address to an empty list of signatures, and to one of those that are asked
+/// for: the data behind their length.
 const CALLS: [&str; 2] = ["judge_octets, no signatures", "judge_octets, all of them"];
 
 const DATA: &[u8] = b"\0\x04\xc0\0\x02\x01";
@@ -29,8 +29,8 @@ pub fn asked(alloc: Global, case: &Case) -> Result<Vec<Ask>, Refused> {
     }
 }
 
-/// Signatures that are asked for, as entries of a list: key, signed octets and signature behind their lengths, and whether it
-/// passes.
+/// Signatures that are asked for, as entries of a list: key, signed octets and signature behind
+/// their lengths, and whether it passes.
 fn entries(alloc: Global, handed: &Handed, passes: u8) -> Result<Vec<u8>, Refused> {
     let mut octets = Vec::new(alloc);
     for ask in &asked(alloc, &handed.case())? {

@@ -16,7 +16,8 @@ pub struct Zone {
     pub publisher: ZonePublisher,
 }
 
-/// A zone as a session spells it: with a host, an unsigned delegation and a wildcard, by a chain of names.
+/// A zone as a session spells it: with a host, an unsigned delegation and a wildcard, by a chain of
+/// names.
 pub const NAMES: &[u8] = b"zone example nsec 0 86400
 rr example 3600 1 6 00000000000100000e10000003840001518000000e10
 rr a.example 3600 1 1 c0000201

@@ -15,8 +15,8 @@ use names::{Name, ParsedName};
 use plain::record::Record;
 use std::alloc::Global;
 
-/// The links of the chain of hashes with the iterations, the salt and the options that a line names, by SHA-1 unless it
-/// names other hashes.
+/// The links of the chain of hashes with the iterations, the salt and the options that a line
+/// names, by SHA-1 unless it names other hashes.
 pub fn nsec3_links(
     alloc: Global,
     section: &Section,

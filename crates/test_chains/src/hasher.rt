@@ -3,7 +3,8 @@
 use denial::{HashError, Nsec3Hasher};
 use std::alloc::Global;
 
-/// Answers these octets for each name, and fails for the name in lower-case wire form that it is told.
+/// Answers these octets for each name, and fails for the name in lower-case wire form that it is
+/// told.
 #[derive(Drop)]
 pub struct Faulty {
     pub answer: Vec<u8>,

@@ -18,7 +18,8 @@ pub struct Options {
 }
 
 impl Options {
-    /// Options of words, between blanks; none of an empty text. What stands behind `by` is passed over.
+    /// Options of words, between blanks; none of an empty text. What stands behind `by` is passed
+    /// over.
     pub fn read(alloc: Global, line: &str) -> Result<Options, Fault> {
         let mut options = Options {
             without_keys: false,

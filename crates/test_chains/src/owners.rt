@@ -17,7 +17,8 @@ type Data<'a> = ZoneRecordData<&'a [u8], ParsedName<'a>>;
 
 type Kept<'a> = OwnerRrs<'a, ParsedName<'a>, Data<'a>>;
 
-/// The TTL and the minimum of the SOA record, the TTL of a chain's records, and the owners with their types.
+/// The TTL and the minimum of the SOA record, the TTL of a chain's records, and the owners with
+/// their types.
 pub fn owners(alloc: Global, section: &Section, kind: &str) -> Result<String, Fault> {
     let excluding = match kind {
         "all" => false,

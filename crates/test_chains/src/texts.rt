@@ -14,7 +14,8 @@ fn push_texts<F: Display>(alloc: Global, text: &mut String, faults: &[F]) -> Res
     Ok(())
 }
 
-/// The texts of the faults of chains, of hashers and of owners of hashes, in the order in which their enums have them.
+/// The texts of the faults of chains, of hashers and of owners of hashes, in the order in which
+/// their enums have them.
 pub fn faults(alloc: Global) -> Result<String, Fault> {
     let mut text = String::new(alloc);
     push_texts(alloc, &mut text, &chain_faults())?;
@@ -45,7 +46,8 @@ fn assumes_keys(config: &DenialConfig<Vec<u8>>) -> &'static str {
     if is_assumed { "yes" } else { "no" }
 }
 
-/// Whether each of the three ways to deny gaps says so: a chain that is there, one of names, one of hashes.
+/// Whether each of the three ways to deny gaps says so: a chain that is there, one of names, one of
+/// hashes.
 pub fn ways(alloc: Global, line: &str) -> Result<String, Fault> {
     let options = Options::read(alloc, line)?;
     let present: DenialConfig<Vec<u8>> = DenialConfig::AlreadyPresent;

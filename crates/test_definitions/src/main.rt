@@ -1,5 +1,5 @@
-//! Reads lines of small zones, names and bitmaps and prints what the plain programs of the definitions say of them, so that
-//! these are compared with what was worked out by hand.
+//! Reads lines of small zones, names and bitmaps and prints what the plain programs of the
+//! definitions say of them, so that these are compared with what was worked out by hand.
 //!
 //! Names are labels between dots, octets hexadecimal digits, numbers decimal, `-` is none of them:
 //!
@@ -11,7 +11,8 @@
 //! - `name OCTETS PLACE POINTERS`: the place behind the name at a place, read with so many pointers at most, and its labels.
 //! - `bitmap TYPES`: the bitmap of types; `types OCTETS`: the types below 2000 of a bitmap.
 //!
-//! Each line is printed, and the answer behind it. Lines that begin with `#` and empty ones are printed alone.
+//! Each line is printed, and the answer behind it. Lines that begin with `#` and empty ones are
+//! printed alone.
 #![tactic(auto)]
 
 mod bitmaps;

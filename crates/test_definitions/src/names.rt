@@ -51,7 +51,8 @@ fn hash_covered(alloc: Global, words: &[&str]) -> Option<String> {
     text(alloc, yes_or_no(hash_covers(&owner, &next, &hash)))
 }
 
-/// The labels of the name at a place of octets, read with at most a number of pointers, and the place behind it.
+/// The labels of the name at a place of octets, read with at most a number of pointers, and the
+/// place behind it.
 fn read(alloc: Global, words: &[&str]) -> Option<String> {
     let [octets, place, pointers] = words else {
         return None;

@@ -1,5 +1,5 @@
-//! A stand-in for the hash of names: their labels in lower case, each with a zero octet behind it. No two names in lower case
-//! share one, and its order is not that of names.
+//! A stand-in for the hash of names: their labels in lower case, each with a zero octet behind it.
+//! No two names in lower case share one, and its order is not that of names.
 ghost use Rattle.std.specs.Prelude.{◌≡◌, ◌∷◌, [], ◌++◌, OnOk};
 ghost use Rattle.std.specs.List.{flat_map};
 ghost use Rattle.std.specs.Str.{str_to_ascii_lowercase};

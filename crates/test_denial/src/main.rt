@@ -1,11 +1,11 @@
-//! Reads small zones from standard input and tries, for every question of a small set and every small set of records that the
-//! zone has signed, whether what these prove is what the zone says.
+//! Reads small zones from standard input and tries, for every question of a small set and every
+//! small set of records that the zone has signed, whether what these prove is what the zone says.
 //!
-//! A zone is a line `zone APEX` and lines `rr OWNER TYPE`, names in text without escapes, in lower case. A line
-//! `cases nsec SIZE`, `nsec3` or `nsec3optout` is answered by how many sets of facts were tried, of at most SIZE records of
-//! the chain and an RRset or none, how many of them proved a verdict, and how many of these verdicts the zone does not say: of
-//! an alias it says none.
-//! Lines that begin with `#` are passed over. The exit status is 1 where a line cannot be read.
+//! A zone is a line `zone APEX` and lines `rr OWNER TYPE`, names in text without escapes, in lower
+//! case. A line `cases nsec SIZE`, `nsec3` or `nsec3optout` is answered by how many sets of facts
+//! were tried, of at most SIZE records of the chain and an RRset or none, how many of them proved a
+//! verdict, and how many of these verdicts the zone does not say: of an alias it says none. Lines
+//! that begin with `#` are passed over. The exit status is 1 where a line cannot be read.
 #![tactic(auto)]
 
 mod chain;

@@ -29,7 +29,8 @@ pub struct Tally {
 }
 
 impl Tally {
-    /// The tally with one more set, and what it proved beside what the zone says: of an alias nothing.
+    /// The tally with one more set, and what it proved beside what the zone says: of an alias
+    /// nothing.
     fn with(self, said: Option<&PlainVerdict>, found: Option<&PlainVerdict>) -> Tally {
         let proved = found.is_some();
         let unlike = found.is_some_and(|verdict| !said.is_some_and(|s| is_same(verdict, s)));
@@ -123,7 +124,8 @@ struct Trial<'a> {
 }
 
 impl<'a> Trial<'a> {
-    /// One question, with each RRset that the zone has signed for it and with none, beside all sets of records.
+    /// One question, with each RRset that the zone has signed for it and with none, beside all sets
+    /// of records.
     fn asked(
         &self,
         alloc: Global,

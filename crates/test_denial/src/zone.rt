@@ -107,8 +107,8 @@ impl SmallZone {
         }
     }
 
-    /// Whether a name of this verdict is an alias: a DNAME stands above it, or where a type other than CNAME is missing,
-    /// CNAME is there.
+    /// Whether a name of this verdict is an alias: a DNAME stands above it, or where a type other
+    /// than CNAME is missing, CNAME is there.
     pub fn is_alias(
         &self,
         alloc: Global,

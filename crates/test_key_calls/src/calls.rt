@@ -12,7 +12,8 @@ pub enum Kind {
     Public,
 }
 
-/// A key that is added: reference, the octets that a publisher takes, and the tag that a key set takes.
+/// A key that is added: reference, the octets that a publisher takes, and the tag that a key set
+/// takes.
 pub type NewKey = (Kind, &'static str, &'static [u8], u16);
 
 /// A roll from old keys to new ones, and the second in which it begins.

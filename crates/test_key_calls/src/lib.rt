@@ -1,5 +1,6 @@
-//! Calls on keys as rows of tables: keys of all kinds are added, all six rolls run one after another, keys are set by hand and
-//! deleted. One program makes them on key sets, another on publishers, each call refused memory.
+//! Calls on keys as rows of tables: keys of all kinds are added, all six rolls run one after
+//! another, keys are set by hand and deleted. One program makes them on key sets, another on
+//! publishers, each call refused memory.
 #![tactic(auto)]
 
 mod alike;

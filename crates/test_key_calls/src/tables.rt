@@ -46,8 +46,8 @@ pub const ROLLS: [Roll; 6] = [
     CSK,
 ];
 
-/// The calls of these keys and rolls, each with its name: all adds; of each roll all calls, and behind each what it asks for;
-/// and what is set by hand of the first key, before it is deleted.
+/// The calls of these keys and rolls, each with its name: all adds; of each roll all calls, and
+/// behind each what it asks for; and what is set by hand of the first key, before it is deleted.
 macro_rules! life {
     ($($key:ident)*; $($roll:ident)*) => {
         [

@@ -1,5 +1,5 @@
-//! A roll drawn against time (SVG 1.1): what is shown behind each call, how long it may be in use once it is replaced, and
-//! the waits.
+//! A roll drawn against time (SVG 1.1): what is shown behind each call, how long it may be in use
+//! once it is replaced, and the waits.
 
 use crate::lives::{Thing, in_report1, in_report2};
 use crate::rows::{Column, keys_in};
@@ -131,7 +131,8 @@ fn place(now: u64) -> u64 {
     LEFT.saturating_add(now.saturating_add(MARGIN).saturating_mul(SECOND))
 }
 
-/// Until when what a call replaced may be in use: a report says that all servers have what came then, and its TTL passes.
+/// Until when what a call replaced may be in use: a report says that all servers have what came
+/// then, and its TTL passes.
 fn replaced_until(steps: &[Scene], call: &Scene, thing: Thing) -> Option<u64> {
     let report = match call.step {
         "start" if in_report1(call.roll, thing) => "report 1",

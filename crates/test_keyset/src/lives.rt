@@ -237,7 +237,8 @@ fn live(
     Some(live)
 }
 
-/// Whether the DS set of one state, the DNSKEY answer of another and a zone answer of a third fit together.
+/// Whether the DS set of one state, the DNSKEY answer of another and a zone answer of a third fit
+/// together.
 fn meet(ds: Shown, keys: Shown, zone: Shown) -> bool {
     ds.ds & keys.present & keys.signs_keys != 0 && keys.present & zone.signs_zone != 0
 }

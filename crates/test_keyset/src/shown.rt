@@ -70,8 +70,8 @@ fn kind(answer: &mut Answer, keytype: KeyType) {
     }
 }
 
-/// The whole seconds of a stamp: when a key was made, put in or taken out, or since when something of it is seen; `-` for
-/// none.
+/// The whole seconds of a stamp: when a key was made, put in or taken out, or since when something
+/// of it is seen; `-` for none.
 fn stamp(answer: &mut Answer, stamp: Option<UnixTime>) {
     match stamp {
         Some(time) => answer.value(&Duration::from(time).as_secs()),

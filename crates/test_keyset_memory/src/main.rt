@@ -1,5 +1,6 @@
-//! Calls on key sets that are refused memory, each told on a line with whether it said so, left what it worked on as it was, and
-//! then succeeded. `tests/refusals` runs the program once for each growth, with that one refused; what is printed is the same.
+//! Calls on key sets that are refused memory, each told on a line with whether it said so, left
+//! what it worked on as it was, and then succeeded. `tests/refusals` runs the program once for each
+//! growth, with that one refused; what is printed is the same.
 #![tactic(auto)]
 
 mod calls;

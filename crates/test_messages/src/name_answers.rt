@@ -5,7 +5,8 @@ use messages::names::{Name, ToName, ZoneName, copy_name, is_above, is_at_or_abov
 use std::alloc::Global;
 use test_lines::{order_word, printed, text, yes_or_no};
 
-/// How a name stands to another, how the other way round, and how the second to its copy; and what is above what.
+/// How a name stands to another, how the other way round, and how the second to its copy; and what
+/// is above what.
 pub fn compare(alloc: Global, words: &[&str]) -> Option<String> {
     let [first, second] = words else {
         return None;
@@ -28,7 +29,8 @@ fn above(first: &Name<Vec<u8>>, second: &Name<Vec<u8>>) -> &'static str {
     }
 }
 
-/// The parts of a name: its lengths, its stars, its wildcard, its last labels, so many of them, and its octets.
+/// The parts of a name: its lengths, its stars, its wildcard, its last labels, so many of them, and
+/// its octets.
 pub fn parts(alloc: Global, words: &[&str]) -> Option<String> {
     let [name, count] = words else {
         return None;

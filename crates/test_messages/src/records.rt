@@ -39,7 +39,8 @@ pub fn canonical(alloc: Global, words: &[&str]) -> Option<String> {
     }
 }
 
-/// A message as whoever verifies signatures is to see it: its octets, unless they are those that were received.
+/// A message as whoever verifies signatures is to see it: its octets, unless they are those that
+/// were received.
 pub fn form(alloc: Global, words: &[&str]) -> Option<String> {
     let [octets] = words else {
         return None;
@@ -99,7 +100,8 @@ fn one_record(alloc: Global, message: &[u8], record: &ViewRecord<'_>) -> Option<
     format!(in alloc; "{owner} {rtype} {class} {ttl} {data} at {start}").ok()
 }
 
-/// The canonical data of the first record of a message; and what they say, of a link and a signature.
+/// The canonical data of the first record of a message; and what they say, of a link and a
+/// signature.
 pub fn data(alloc: Global, words: &[&str]) -> Option<String> {
     let [octets] = words else {
         return None;

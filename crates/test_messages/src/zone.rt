@@ -19,7 +19,8 @@ use plain::{Class, Ttl};
 use std::alloc::Global;
 use test_lines::{octets_of, printed, push_word, refused, text, words, yes_or_no};
 
-/// The records of a zone while its lines are read, its mode, and the zone that was accepted. Names are hashed by SHA-1.
+/// The records of a zone while its lines are read, its mode, and the zone that was accepted. Names
+/// are hashed by SHA-1.
 #[derive(Drop)]
 pub struct Section<'h> {
     apex: Option<Name<Vec<u8>>>,

@@ -13,7 +13,8 @@ use std::alloc::Global;
 use std::fmt::Display;
 use test_lines::{Answer, octets_of};
 
-/// Answers a line of steps; in front of them stands the room of the builder, or the name that it goes on behind.
+/// Answers a line of steps; in front of them stands the room of the builder, or the name that it
+/// goes on behind.
 pub fn answer_to(alloc: Global, answer: &mut Answer, word: &str, line: &str) -> Option<()> {
     let (first, line) = line.split_once(' ')?;
     match word {
@@ -81,8 +82,8 @@ fn push_each<B: BuiltOctets>(builder: &mut NameBuilder<B>, octets: &[u8]) -> Res
     Ok(())
 }
 
-/// Makes all steps, and says of each how many octets the builder has then, whether a label is open, and why the step was
-/// refused, if it was; at the end the octets.
+/// Makes all steps, and says of each how many octets the builder has then, whether a label is open,
+/// and why the step was refused, if it was; at the end the octets.
 fn steps<B: BuiltOctets>(
     alloc: Global,
     answer: &mut Answer,
@@ -100,7 +101,8 @@ fn steps<B: BuiltOctets>(
     answer.octets(builder.as_slice());
 }
 
-/// What the steps say, the octets that they leave, the relative name that they make and the absolute one.
+/// What the steps say, the octets that they leave, the relative name that they make and the
+/// absolute one.
 fn built<B: BuiltOctets + Drop>(
     alloc: Global,
     answer: &mut Answer,
@@ -124,8 +126,8 @@ fn built<B: BuiltOctets + Drop>(
     Some(())
 }
 
-/// What steps make of builders with room for so many octets; `-` is none, and a builder of `fixed3` or `fixed4` never has
-/// more than three or four.
+/// What steps make of builders with room for so many octets; `-` is none, and a builder of `fixed3`
+/// or `fixed4` never has more than three or four.
 fn build(alloc: Global, answer: &mut Answer, room: &str, line: &str) -> Option<()> {
     match room {
         "-" => {

@@ -9,7 +9,8 @@ use std::alloc::Global;
 use std::fmt::Display;
 use test_lines::Answer;
 
-/// What is told of the name that the octets spell, the same of it in a message; or why they spell none.
+/// What is told of the name that the octets spell, the same of it in a message; or why they spell
+/// none.
 pub fn name(alloc: Global, answer: &mut Answer, octets: &[u8]) -> Option<()> {
     let name = match Name::from_slice(octets) {
         Ok(name) => name,
@@ -32,8 +33,8 @@ pub fn name(alloc: Global, answer: &mut Answer, octets: &[u8]) -> Option<()> {
     Some(())
 }
 
-/// How many labels and octets a name has, its first label, its octets in lower case, where all copies of it agree, and its
-/// text with the last dot.
+/// How many labels and octets a name has, its first label, its octets in lower case, where all
+/// copies of it agree, and its text with the last dot.
 pub fn told<N: ToName + Display>(alloc: Global, answer: &mut Answer, name: &N) -> Option<()> {
     answer.value(&name.label_count());
     answer.value(&name.compose_len());
@@ -51,8 +52,8 @@ pub fn told<N: ToName + Display>(alloc: Global, answer: &mut Answer, name: &N) -
     Some(())
 }
 
-/// The text of a name with its last dot, which is read as its octets; without it the text is the same, and of the root a
-/// dot.
+/// The text of a name with its last dot, which is read as its octets; without it the text is the
+/// same, and of the root a dot.
 fn text<N: ToName + Display>(
     alloc: Global,
     answer: &mut Answer,
@@ -69,8 +70,9 @@ fn text<N: ToName + Display>(
     Some(dotted)
 }
 
-/// What is told of a relative name: how many labels it has, dots and octets, its first label and its last, its octets in
-/// lower case, where all copies of it agree, and its text; or why the octets spell none.
+/// What is told of a relative name: how many labels it has, dots and octets, its first label and
+/// its last, its octets in lower case, where all copies of it agree, and its text; or why the
+/// octets spell none.
 pub fn relative(alloc: Global, answer: &mut Answer, octets: &[u8]) -> Option<()> {
     let name = match RelativeName::from_slice(octets) {
         Ok(name) => name,

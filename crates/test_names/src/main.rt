@@ -1,10 +1,12 @@
-//! Reads lines of names and prints what this workspace makes of them, so that its output is compared with rows of the
-//! standards and with what other name servers and tools made.
+//! Reads lines of names and prints what this workspace makes of them, so that its output is
+//! compared with rows of the standards and with what other name servers and tools made.
 //!
-//! A line begins with what is asked for. Octets are in hexadecimal, `-` is none of them, places and numbers are decimal, and
-//! a text goes to the end of the line. What is answered to each word stands above the lines that begin with it.
+//! A line begins with what is asked for. Octets are in hexadecimal, `-` is none of them, places and
+//! numbers are decimal, and a text goes to the end of the line. What is answered to each word
+//! stands above the lines that begin with it.
 //!
-//! Each line is printed with the answer behind it. Lines that begin with `#` are printed as they are.
+//! Each line is printed with the answer behind it. Lines that begin with `#` are printed as they
+//! are.
 #![tactic(auto)]
 
 mod build;

@@ -8,7 +8,8 @@ use names::{FlattenInto, Label, Labels, ParseError, ParsedName, Parser, ToName};
 use std::alloc::Global;
 use test_lines::{Answer, octets_of};
 
-/// Answers a line of a message in hexadecimal digits and a place in it; in front of them turns or another name may stand.
+/// Answers a line of a message in hexadecimal digits and a place in it; in front of them turns or
+/// another name may stand.
 pub fn answer_to(
     alloc: Global,
     answer: &mut Answer,
@@ -88,8 +89,8 @@ fn stays(message: &[u8], place: usize) -> bool {
     is_same && again.pos() == parser.pos() && (is_read || parser.pos() == place)
 }
 
-/// The shortest beginning of a message from which a name is read at a place; at each shorter one the parser stays there,
-/// and from each longer one the name is read too.
+/// The shortest beginning of a message from which a name is read at a place; at each shorter one
+/// the parser stays there, and from each longer one the name is read too.
 fn shortest(message: &[u8], place: usize) -> Option<usize> {
     let mut first = None;
     for len in 0..=message.len() {
@@ -105,8 +106,9 @@ fn shortest(message: &[u8], place: usize) -> Option<usize> {
     first
 }
 
-/// The octets of the name at a place of a message, the place behind it when it is read and when it is passed over, how
-/// long a beginning of the message has to be, and whether it goes through pointers; or the faults of both.
+/// The octets of the name at a place of a message, the place behind it when it is read and when it
+/// is passed over, how long a beginning of the message has to be, and whether it goes through
+/// pointers; or the faults of both.
 fn whole(alloc: Global, answer: &mut Answer, message: &[u8], place: usize) -> Option<()> {
     match read(message, place) {
         Ok((name, end)) => {
@@ -143,7 +145,8 @@ fn along(alloc: Global, answer: &mut Answer, message: &[u8], place: usize) -> Op
     Some(())
 }
 
-/// The names that the one at a place ends with, the next from the front at each `f` and from the end at each `b`.
+/// The names that the one at a place ends with, the next from the front at each `f` and from the
+/// end at each `b`.
 fn suffixes(answer: &mut Answer, turns: &str, name: ParsedName<'_>) {
     let mut suffixes = name.iter_suffixes();
     for turn in turns.chars() {
@@ -155,7 +158,8 @@ fn suffixes(answer: &mut Answer, turns: &str, name: ParsedName<'_>) {
     }
 }
 
-/// The row that the labels of a name are, or how many they are through pointers; or that there is no name.
+/// The row that the labels of a name are, or how many they are through pointers; or that there is
+/// no name.
 fn row(answer: &mut Answer, name: Option<ParsedName<'_>>) {
     match name {
         Some(name) => match name.label_row() {
@@ -166,7 +170,8 @@ fn row(answer: &mut Answer, name: Option<ParsedName<'_>>) {
     }
 }
 
-/// The first label of the name at a place, and the name without it by two functions; or that there is none.
+/// The first label of the name at a place, and the name without it by two functions; or that there
+/// is none.
 fn parent(answer: &mut Answer, name: ParsedName<'_>) {
     match name.split_first() {
         Some((label, rest)) => {

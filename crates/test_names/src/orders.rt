@@ -35,8 +35,8 @@ pub fn answer_to(
     }
 }
 
-/// The canonical order of two names, that of their octets and that of these in lower case; whether they are equal, and the
-/// first begins and ends with the other.
+/// The canonical order of two names, that of their octets and that of these in lower case; whether
+/// they are equal, and the first begins and ends with the other.
 fn relation<A: ToName, B: ToName>(answer: &mut Answer, name: &A, other: &B) {
     answer.order(name.name_cmp(other));
     answer.order(name.composed_cmp(other));
@@ -76,7 +76,8 @@ pub fn pair(
     Some(())
 }
 
-/// The canonical order of two relative names; whether they are equal, and the first begins and ends with the other.
+/// The canonical order of two relative names; whether they are equal, and the first begins and ends
+/// with the other.
 fn relative_pair(answer: &mut Answer, first: &[u8], second: &[u8]) -> Option<()> {
     let name = RelativeName::from_slice(first).ok()?;
     let other = RelativeName::from_slice(second).ok()?;

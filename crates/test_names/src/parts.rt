@@ -54,7 +54,8 @@ fn first(answer: &mut Answer, name: Name<&[u8]>) {
     }
 }
 
-/// The first label of a relative name and the name behind it, by two functions; or that there is none.
+/// The first label of a relative name and the name behind it, by two functions; or that there is
+/// none.
 fn relative_first(answer: &mut Answer, name: RelativeName<&[u8]>) {
     match (name.split_first(), name.parent()) {
         (Some((label, rest)), Some(parent)) => {
@@ -98,7 +99,8 @@ pub fn answer_between(
     Some(())
 }
 
-/// What stands between two places of a name at which labels begin, and from the first on; and in front of it.
+/// What stands between two places of a name at which labels begin, and from the first on; and in
+/// front of it.
 fn cut(answer: &mut Answer, name: Name<Vec<u8>>, begin: usize, end: usize) {
     if begin > end || !name.is_label_start(begin) || !name.is_label_start(end) {
         answer.word("no labels there");
@@ -140,8 +142,8 @@ pub fn answer_by_turns(answer: &mut Answer, word: &str, turns: &str, octets: &[u
     Some(())
 }
 
-/// The labels of a name, the next from the front at each `f` and from the end at each `b`, by its own walk and by that of
-/// any name.
+/// The labels of a name, the next from the front at each `f` and from the end at each `b`, by its
+/// own walk and by that of any name.
 macro_rules! by_turns {
     ($answer:expr, $turns:expr, $labels:expr, $any:expr) => {{
         let (mut labels, mut any) = ($labels, $any);

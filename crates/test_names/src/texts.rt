@@ -6,7 +6,8 @@ use std::alloc::Global;
 use std::net::IpAddr;
 use test_lines::Answer;
 
-/// Answers a line of a text: what is read of it is read in two ways, of the text and of its characters.
+/// Answers a line of a text: what is read of it is read in two ways, of the text and of its
+/// characters.
 pub fn answer_to(alloc: Global, answer: &mut Answer, word: &str, text: &str) -> Option<()> {
     match word {
         "text" => {
@@ -57,7 +58,8 @@ fn label(answer: &mut Answer, read: Result<OwnedLabel, LabelFromStrError>) {
     }
 }
 
-/// Symbols, joined by commas: a character, a character behind a backslash, or three digits behind one.
+/// Symbols, joined by commas: a character, a character behind a backslash, or three digits behind
+/// one.
 pub fn symbols_of(alloc: Global, text: &str) -> Option<Vec<Symbol>> {
     let mut symbols = Vec::new(alloc);
     for word in text.split(',') {

@@ -16,8 +16,8 @@ fn copied<N: Parse + Compose + Copy>(
     }
 }
 
-/// Octets as numbers of 8, 16 and 32 bits, one of 16 with its sign and two octets, or the fault of the first that is not
-/// read; and whether they are written as these octets.
+/// Octets as numbers of 8, 16 and 32 bits, one of 16 with its sign and two octets, or the fault of
+/// the first that is not read; and whether they are written as these octets.
 pub fn numbers(alloc: Global, answer: &mut Answer, octets: &[u8]) -> Option<()> {
     let mut written = Vec::new(alloc);
     if let Err(error) = push_numbers(answer, &mut Parser::from_ref(octets), &mut written) {
@@ -42,7 +42,8 @@ fn push_numbers(
     Ok(())
 }
 
-/// Where a parser of octets stands that is to go to a place and on by so many: or the fault, and where it stayed.
+/// Where a parser of octets stands that is to go to a place and on by so many: or the fault, and
+/// where it stayed.
 pub fn seek(answer: &mut Answer, octets: &[u8], place: usize, count: usize) {
     let mut parser = Parser::from_ref(octets);
     if let Err(error) = parser.seek(place) {
@@ -55,8 +56,8 @@ pub fn seek(answer: &mut Answer, octets: &[u8], place: usize, count: usize) {
     answer.value(&parser.remaining());
 }
 
-/// Answers a line that begins with a serial number: its order to another one, if they have one, and their canonical order;
-/// or the number so much later, by less than half of all numbers.
+/// Answers a line that begins with a serial number: its order to another one, if they have one, and
+/// their canonical order; or the number so much later, by less than half of all numbers.
 pub fn answer_to(answer: &mut Answer, word: &str, line: &str) -> Option<()> {
     let (number, other) = line.split_once(' ')?;
     let serial = number.parse::<Serial>().ok()?;

@@ -1,4 +1,5 @@
-//! What is told of names where no line can ask: walks from places, texts in one walk, and faults that no text brings.
+//! What is told of names where no line can ask: walks from places, texts in one walk, and faults
+//! that no text brings.
 
 use names::{
     Chain, FormError, FromStrError, Labels, Name, ParseError, ParsedName, Parser, PushNameError,

@@ -9,7 +9,8 @@ use test_refusals::Trial;
 
 type Builder = NameBuilder<Vec<u8>>;
 
-/// Octets and labels, until the length of a label outgrows what is there, and what the builder then has.
+/// Octets and labels, until the length of a label outgrows what is there, and what the builder then
+/// has.
 const OCTETS: [(&str, &[u8]); 4] = [
     ("NameBuilder::push", b"\0a"),
     ("NameBuilder::append_slice", b"\0abcdefghi"),
@@ -92,7 +93,8 @@ fn append_texts(builder: &mut Builder, call: usize) -> Result<(), Refused> {
     Ok(())
 }
 
-/// Calls that are to make of a builder one of these octets. Where one is refused the builder must be as it was.
+/// Calls that are to make of a builder one of these octets. Where one is refused the builder must
+/// be as it was.
 fn build<R: Print, C: Fn(&mut Builder, usize) -> Result<(), Refused>>(
     trial: &mut Trial<'_, R>,
     calls: &[(&str, &[u8])],
@@ -115,7 +117,8 @@ fn build<R: Print, C: Fn(&mut Builder, usize) -> Result<(), Refused>>(
     Ok(())
 }
 
-/// What builders begin with, and what becomes of one of a label of seven octets, which fill what it grew.
+/// What builders begin with, and what becomes of one of a label of seven octets, which fill what it
+/// grew.
 const ENDS: [(&str, &[u8]); 8] = [
     ("NameBuilder::with_capacity", b""),
     ("NameBuilder::vec_with_capacity", b""),

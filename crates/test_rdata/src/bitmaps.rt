@@ -18,8 +18,9 @@ pub fn answer_to(alloc: Global, answer: &mut Answer, asked: &str, line: &str) ->
     }
 }
 
-/// The bitmap of types and the types that it gives, where it is the same built from the last type on, with each type
-/// twice, and is read as a bitmap that has these types, and of their neighbours those that are among them.
+/// The bitmap of types and the types that it gives, where it is the same built from the last type
+/// on, with each type twice, and is read as a bitmap that has these types, and of their neighbours
+/// those that are among them.
 fn bitmap_of(alloc: Global, answer: &mut Answer, types: Vec<u16>) -> Option<()> {
     let mut types = types;
     let mut builder = RtypeBitmapBuilder::new_vec(alloc);
@@ -87,7 +88,8 @@ fn has_types(alloc: Global, answer: &mut Answer, octets: &[u8], types: &[u16]) -
     Some(())
 }
 
-/// The types of a bitmap as text, how many octets it has, whether data may hold them and whether they are none.
+/// The types of a bitmap as text, how many octets it has, whether data may hold them and whether
+/// they are none.
 pub fn types_of(answer: &mut Answer, octets: &[u8]) {
     let bitmap = match RtypeBitmap::from_octets(octets) {
         Ok(bitmap) => bitmap,

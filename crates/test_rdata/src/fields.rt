@@ -25,8 +25,8 @@ pub fn answer_to(alloc: Global, answer: &mut Answer, asked: &str, text: &str) ->
     Some(())
 }
 
-/// Answers a line of two numbers: the moment that seconds say near a reference; or how a time stands to another, as
-/// serial numbers and in canonical order.
+/// Answers a line of two numbers: the moment that seconds say near a reference; or how a time
+/// stands to another, as serial numbers and in canonical order.
 pub fn answer_to_numbers(answer: &mut Answer, asked: &str, line: &str) -> Option<()> {
     let (first, second) = line.split_once(' ')?;
     let time = Timestamp::from(first.parse::<u32>().ok()?);

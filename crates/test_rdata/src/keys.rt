@@ -32,7 +32,8 @@ pub fn digest_of(alloc: Global, answer: &mut Answer, owner: &[u8], key: &[u8]) -
     Some(())
 }
 
-/// The hash of a name in base32hex, by SHA-1: the first label of its owner under the root (RFC 5155, 3 and 5).
+/// The hash of a name in base32hex, by SHA-1: the first label of its owner under the root
+/// (RFC 5155, 3 and 5).
 pub fn hash_of(alloc: Global, answer: &mut Answer, name: &[u8], line: &str) -> Option<()> {
     let (iterations, salt) = line.split_once(' ')?;
     let iterations = iterations.parse().ok()?;

@@ -7,7 +7,8 @@ use test_lines::{Answer, octets_of, words};
 
 type ReadNsec<'a> = Nsec<&'a [u8], ParsedName<'a>>;
 
-/// NSEC data with another next name: as text, how many octets they have, and how they stand to what they were.
+/// NSEC data with another next name: as text, how many octets they have, and how they stand to what
+/// they were.
 pub fn renamed<'a>(answer: &mut Answer, octets: &'a [u8], name: &'a [u8]) -> Option<()> {
     let before: ReadNsec<'a> = Nsec::parse(&mut Parser::from_ref(octets)).ok()?;
     let mut nsec: ReadNsec<'a> = Nsec::parse(&mut Parser::from_ref(octets)).ok()?;
@@ -65,7 +66,8 @@ fn nsec3_told(alloc: Global, answer: &mut Answer, nsec3: &Nsec3<Vec<u8>>) {
     answer.yes(nsec3.opt_out());
 }
 
-/// NSEC3 data with another next hash: how they stand to what they were; and then without types, as text.
+/// NSEC3 data with another next hash: how they stand to what they were; and then without types, as
+/// text.
 pub fn rehashed<'a>(answer: &mut Answer, octets: &'a [u8], hash: &'a [u8]) -> Option<()> {
     let before = Nsec3::parse(&mut Parser::from_ref(octets)).ok()?;
     let mut nsec3 = Nsec3::parse(&mut Parser::from_ref(octets)).ok()?;
@@ -86,7 +88,8 @@ pub fn rehashed<'a>(answer: &mut Answer, octets: &'a [u8], hash: &'a [u8]) -> Op
     Some(())
 }
 
-/// The flags of parameters, and whether they say opt-out: as read, and set twice. Of their fields the same are made.
+/// The flags of parameters, and whether they say opt-out: as read, and set twice. Of their fields
+/// the same are made.
 pub fn opted(answer: &mut Answer, octets: &[u8]) -> Option<()> {
     let mut params = Nsec3param::parse(&mut Parser::from_ref(octets)).ok()?;
     let salt = Nsec3Salt::from_slice(params.salt().as_slice()).ok()?;

@@ -6,8 +6,9 @@ use plain::{DigestAlgorithm, SecurityAlgorithm, Ttl};
 use std::alloc::Global;
 use test_lines::Answer;
 
-/// How many octets data have whose last field has so many zero octets, or so many windows of a bitmap, or that they are
-/// too long; and, for types that have it, how many they have where it is not tested again.
+/// How many octets data have whose last field has so many zero octets, or so many windows of a
+/// bitmap, or that they are too long; and, for types that have it, how many they have where it is
+/// not tested again.
 pub fn longest(alloc: Global, answer: &mut Answer, line: &str) -> Option<()> {
     let (rtype, count) = line.split_once(' ')?;
     let piece: &[u8] = match rtype {

@@ -1,4 +1,5 @@
-//! Signatures: their fields, and the octets that they are made over (RFC 4034, 3.1.8.1; RFC 4035, 5.3.2).
+//! Signatures: their fields, and the octets that they are made over (RFC 4034, 3.1.8.1; RFC 4035,
+//! 5.3.2).
 
 use denial_data::{ProtoRrsig, Rrsig};
 use names::{
@@ -47,8 +48,8 @@ pub fn are_equal_fields(answer: &mut Answer, first: &[u8], second: &[u8]) -> Opt
     Some(())
 }
 
-/// Data of the same fields with other octets as the signature: how many octets they have, how they stand to the data,
-/// and whether they are equal to them once they have the data's signature.
+/// Data of the same fields with other octets as the signature: how many octets they have, how they
+/// stand to the data, and whether they are equal to them once they have the data's signature.
 pub fn resigned<'a>(answer: &mut Answer, octets: &'a [u8], signature: &'a [u8]) -> Option<()> {
     let rrsig = rrsig_of(octets)?;
     let mut other = proto_of(&rrsig).into_rrsig(signature).ok()?;
@@ -63,7 +64,8 @@ pub fn resigned<'a>(answer: &mut Answer, octets: &'a [u8], signature: &'a [u8]) 
     Some(())
 }
 
-/// The octets that are signed by a signature, if it is one with the RRset of an owner and data, joined by commas.
+/// The octets that are signed by a signature, if it is one with the RRset of an owner and data,
+/// joined by commas.
 pub fn signed_octets(alloc: Global, answer: &mut Answer, rrsig: &[u8], line: &str) -> Option<()> {
     let (owner, data) = line.split_once(' ')?;
     let rrsig = rrsig_of(rrsig)?;
@@ -95,8 +97,8 @@ fn append_rrset(
     Some(())
 }
 
-/// Nothing and the owner; or, where the signature counts fewer labels than it has, the wildcard label and so many of its
-/// last ones (RFC 4035, 5.3.2).
+/// Nothing and the owner; or, where the signature counts fewer labels than it has, the wildcard
+/// label and so many of its last ones (RFC 4035, 5.3.2).
 fn signed_owner<'a>(
     rrsig: &ReadRrsig<'_>,
     owner: &'a Name<&[u8]>,

@@ -24,9 +24,10 @@ pub fn answer_to(alloc: Global, answer: &mut Answer, asked: &str, line: &str) ->
     }
 }
 
-/// What is asked of octets as data of a type: how they are printed (`text`), their octets in canonical form (`canonical`),
-/// these as they are written again (`data`), whether these are the same (`same`), how they stand to others (`order`), and
-/// else why they are refused, and where the parser stands then.
+/// What is asked of octets as data of a type: how they are printed (`text`), their octets in
+/// canonical form (`canonical`), these as they are written again (`data`), whether these are the
+/// same (`same`), how they stand to others (`order`), and else why they are refused, and where the
+/// parser stands then.
 fn answered<'a>(
     alloc: Global,
     answer: &mut Answer,
@@ -112,7 +113,8 @@ fn written<D: ComposeRecordData>(alloc: Global, answer: &mut Answer, data: &D) -
     written
 }
 
-/// How a value stands to another, plainly and in canonical order; and of equal ones whether they have one hash.
+/// How a value stands to another, plainly and in canonical order; and of equal ones whether they
+/// have one hash.
 pub fn compared<T: Ord + CanonicalOrd + Hash>(answer: &mut Answer, first: &T, second: &T) {
     answer.order(first.cmp(second));
     answer.order(first.canonical_cmp(second));
@@ -128,8 +130,8 @@ fn hash_of<T: Hash>(value: &T) -> u64 {
     hasher.finish()
 }
 
-/// Data as they are written again; and how many octets from the front on, a zero octet counted behind them, are data of
-/// the type too, written again the same.
+/// Data as they are written again; and how many octets from the front on, a zero octet counted
+/// behind them, are data of the type too, written again the same.
 fn written_again(alloc: Global, answer: &mut Answer, rtype: Rtype, octets: Vec<u8>) -> Option<()> {
     let mut octets = octets;
     answered(alloc, answer, "data", rtype, &octets, b"")?;

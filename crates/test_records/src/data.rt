@@ -61,7 +61,8 @@ impl Place {
         if is_at && is_same { Some(read) } else { None }
     }
 
-    /// How many beginnings of the octets are data of the type; the parser of each other stays where it is.
+    /// How many beginnings of the octets are data of the type; the parser of each other stays where
+    /// it is.
     fn read_beginnings(&self) -> Option<usize> {
         let mut count = 0usize;
         for len in 0..=self.len() {
@@ -93,8 +94,8 @@ pub fn answer_to(alloc: Global, answer: &mut Answer, word: &str, line: &str) -> 
     }
 }
 
-/// How long data are, and whether names in them may be shortened; the data written in full and in canonical form; how many
-/// beginnings of the octets are data too. Or the fault.
+/// How long data are, and whether names in them may be shortened; the data written in full and in
+/// canonical form; how many beginnings of the octets are data too. Or the fault.
 fn data(alloc: Global, answer: &mut Answer, place: &Place) -> Option<()> {
     let data = match place.data()? {
         Ok(data) => data,
@@ -195,8 +196,8 @@ pub fn ordered<D: CanonicalOrd + Ord>(answer: &mut Answer, value: &D, other: &D)
     answer.order(own);
 }
 
-/// Answers a line of octets as data of a type that is not known: what is printed of them (RFC 3597, 5), or how they stand
-/// to others of a type.
+/// Answers a line of octets as data of a type that is not known: what is printed of them (RFC 3597,
+/// 5), or how they stand to others of a type.
 pub fn answer_to_unknown(alloc: Global, answer: &mut Answer, word: &str, line: &str) -> Option<()> {
     let (rtype, rest) = line.split_once(' ')?;
     let (octets, rest) = first_word(rest);
@@ -226,7 +227,8 @@ fn unknown(answer: &mut Answer, rtype: Rtype, octets: &[u8]) -> Option<()> {
     Some(())
 }
 
-/// Whether a number of octets are data, and read as data; or why not; and where the parser stands then.
+/// Whether a number of octets are data, and read as data; or why not; and where the parser stands
+/// then.
 pub fn zeros(alloc: Global, answer: &mut Answer, line: &str) -> Option<()> {
     let mut octets = Vec::new(alloc);
     octets.resize(line.parse().ok()?, 0u8).ok()?;

@@ -35,7 +35,8 @@ pub fn answer_to(alloc: Global, answer: &mut Answer, word: &str, line: &str) -> 
     }
 }
 
-/// Answers a line of a name, and of records behind it; in front of them stands a type, where one is to be found.
+/// Answers a line of a name, and of records behind it; in front of them stands a type, where one is
+/// to be found.
 pub fn answer_to_name(alloc: Global, answer: &mut Answer, word: &str, line: &str) -> Option<()> {
     let (name, rest) = line.split_once(' ')?;
     let name = Name::from_octets(octets_of(alloc, name)?).ok()?;
@@ -90,7 +91,8 @@ fn sets(alloc: Global, answer: &mut Answer, sorted: &Sorted) {
     answer.check_same(again);
 }
 
-/// An RRset: owner, class, type, TTL, how many records it has, and the first of them; or why it is none.
+/// An RRset: owner, class, type, TTL, how many records it has, and the first of them; or why it is
+/// none.
 fn told(alloc: Global, set: Set<'_>) -> Answer {
     let mut told = Answer::list(alloc, Between::Comma);
     match set {
@@ -125,7 +127,8 @@ fn found(
     }
 }
 
-/// The first record; and from the apex on each owner, whether it is in the zone and whether it delegates.
+/// The first record; and from the apex on each owner, whether it is in the zone and whether it
+/// delegates.
 fn zone(alloc: Global, answer: &mut Answer, apex: &Owner, sorted: &Sorted) -> Option<()> {
     let mut owners = sorted.owner_rrs();
     answer.append(shown(alloc, owners.first()?));

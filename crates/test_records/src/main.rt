@@ -1,10 +1,11 @@
-//! Reads lines of records and record data and prints what this workspace makes of them, so that its output is compared with
-//! rows of the standards.
+//! Reads lines of records and record data and prints what this workspace makes of them, so that its
+//! output is compared with rows of the standards.
 //!
-//! A line begins with what is asked for. Octets are in hexadecimal, `-` is none of them, and numbers are decimal. What is
-//! answered to each word stands above the lines that begin with it.
+//! A line begins with what is asked for. Octets are in hexadecimal, `-` is none of them, and
+//! numbers are decimal. What is answered to each word stands above the lines that begin with it.
 //!
-//! Each line is printed with the answer behind it. Lines that begin with `#` are printed as they are.
+//! Each line is printed with the answer behind it. Lines that begin with `#` are printed as they
+//! are.
 #![tactic(auto)]
 
 mod data;

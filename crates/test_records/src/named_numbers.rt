@@ -5,8 +5,8 @@ use plain::{Class, DigestAlgorithm, Rtype, SecurityAlgorithm, Ttl, base32hex};
 use std::alloc::Global;
 use test_lines::{Answer, octets_of};
 
-/// Answers a line of a number of some kind: what is printed of it, the number again, and of an algorithm whether it is the
-/// one with a name of its own.
+/// Answers a line of a number of some kind: what is printed of it, the number again, and of an
+/// algorithm whether it is the one with a name of its own.
 pub fn answer_to(answer: &mut Answer, kind: &str, text: &str) -> Option<()> {
     match kind {
         "type" => {
@@ -84,7 +84,8 @@ pub fn decode(alloc: Global, answer: &mut Answer, line: &str) {
     }
 }
 
-/// Whether data may be so long: of one length, of one and so many octets behind it, or of three lengths together.
+/// Whether data may be so long: of one length, of one and so many octets behind it, or of three
+/// lengths together.
 pub fn lengths(answer: &mut Answer, line: &str) -> Option<()> {
     let Some((first, rest)) = line.split_once(' ') else {
         fits(answer, LongRecordData::check_len(line.parse().ok()?));

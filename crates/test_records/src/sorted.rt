@@ -36,7 +36,8 @@ fn held(alloc: Global, records: &[Rr]) -> Answer {
     held
 }
 
-/// Records in order, of equal ones the first, put in at once from a vector and an iterator, and one by one.
+/// Records in order, of equal ones the first, put in at once from a vector and an iterator, and one
+/// by one.
 pub fn sort(alloc: Global, answer: &mut Answer, line: &str) -> Option<()> {
     unknown_data_order_is_total::<Vec<u8>>();
     answer.append(held(alloc, sorted_of(alloc, line)?.as_slice()));
@@ -91,7 +92,8 @@ fn asked(word: &str) -> Option<Option<u16>> {
     }
 }
 
-/// Whether there was a record of an owner, class and type, and what is left when it, or all of them, are taken out.
+/// Whether there was a record of an owner, class and type, and what is left when it, or all of
+/// them, are taken out.
 pub fn remove(alloc: Global, answer: &mut Answer, which: &str, line: &str) -> Option<()> {
     let (owner, rest) = line.split_once(' ')?;
     let (class, rest) = rest.split_once(' ')?;

@@ -29,7 +29,8 @@ fn of_first(alloc: Global, count: usize) -> Result<RtypeBitmapBuilder<Vec<u8>>, 
     Ok(builder)
 }
 
-/// Adds the type at a place to those before it. Where it is refused, the bitmap is looked at, or the call is made again.
+/// Adds the type at a place to those before it. Where it is refused, the bitmap is looked at, or
+/// the call is made again.
 fn is_added<R: Print>(trial: &mut Trial<'_, R>, place: usize, again: bool) -> bool {
     let (Some(number), Some(before), Some(after)) = (
         TYPES.get(place),

@@ -62,7 +62,8 @@ fn reads_salts() -> bool {
 
 type Data = Soa<ParsedName<'static>>;
 
-/// Whether a record is written to a buffer of a fixed size where it fits, and its data, 38 of its 51 octets.
+/// Whether a record is written to a buffer of a fixed size where it fits, and its data, 38 of its
+/// 51 octets.
 fn fits<const N: usize>(soa: &Data, room: ArrayVec<u8, N>) -> bool {
     let Ok(owner) = Name::from_slice(b"\x01A\0".as_slice()) else {
         return false;

@@ -1,4 +1,5 @@
-//! Laws of records that are generic, each at types that meet its bounds. They do nothing when they are called.
+//! Laws of records that are generic, each at types that meet its bounds. They do nothing when they
+//! are called.
 
 use denial_sorted::laws::{
     added_records_are_the_first, unknown_data_order_is_total, zone_data_order_is_total,

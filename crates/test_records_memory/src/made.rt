@@ -18,7 +18,8 @@ const EXAMPLE: &[u8] = b"\x07example\0";
 
 const SALT: &[u8] = b"\xaa\xbb\xcc\xdd";
 
-/// Digits and octets (RFC 4648, 10), and texts of fields; of the last ones nothing is read, as the octets `refused` say.
+/// Digits and octets (RFC 4648, 10), and texts of fields; of the last ones nothing is read, as the
+/// octets `refused` say.
 const TEXTS: [(&str, &[u8]); 7] = [
     ("base32hex::encode", b"cpnmuoj1e8"),
     ("base32hex::decode", b"foobar"),

@@ -1,9 +1,9 @@
-//! Calls on records, DNSSEC record data and chains that are refused memory, each told on a line with whether it said so, left
-//! what it worked on as it was, and then succeeded. `tests/refusals` runs the program once for each growth, with that one
-//! refused; what is printed is the same.
+//! Calls on records, DNSSEC record data and chains that are refused memory, each told on a line
+//! with whether it said so, left what it worked on as it was, and then succeeded. `tests/refusals`
+//! runs the program once for each growth, with that one refused; what is printed is the same.
 //!
-//! Behind them stand lines of what no line of `test_records` and `test_rdata` carries: buffers of fixed sizes, and owners that
-//! are found as records come and go.
+//! Behind them stand lines of what no line of `test_records` and `test_rdata` carries: buffers of
+//! fixed sizes, and owners that are found as records come and go.
 #![tactic(auto)]
 
 mod bitmaps;

@@ -27,7 +27,8 @@ pub const RRSIG: &[u8] =
 pub const LOWER_RRSIG: &[u8] =
     b"\0\x1d\0\x01\x0d\x02\0\0\x0e\x10\x7c\x24\x5f\0\x69\x55\xb9\0\x33\x1b\x07example\0\x26\x0a";
 
-/// The types A, MX, RRSIG, NSEC and TYPE1234 (RFC 4034, 4.3); the next name stays as it is (RFC 6840, 5.1).
+/// The types A, MX, RRSIG, NSEC and TYPE1234 (RFC 4034, 4.3); the next name stays as it is
+/// (RFC 6840, 5.1).
 pub const NSEC: &[u8] = b"\0\x37\x04Host\x07example\x03com\0\0\x06\x40\x01\0\0\0\x03\x04\x1b\
 \0\0\0\0\0\0\0\0\0\0\0\0\0\0\0\0\0\0\0\0\0\0\0\0\0\0\x20";
 

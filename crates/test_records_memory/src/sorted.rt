@@ -21,7 +21,8 @@ struct Held {
     records: Sorted,
 }
 
-/// The data of the records, an octet each; there are more than a sort takes without room of its own.
+/// The data of the records, an octet each; there are more than a sort takes without room of its
+/// own.
 const DATA: &[u8] = &[
     12, 3, 20, 7, 1, 23, 15, 9, 4, 18, 22, 2, 10, 6, 14, 21, 0, 8, 19, 5, 17, 11, 16, 13,
 ];

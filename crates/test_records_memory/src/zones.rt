@@ -29,7 +29,8 @@ pub const D: &[u8] = b"\x01d\x07example\x00";
 
 pub const STAR_W: &[u8] = b"\x01*\x01w\x07example\x00";
 
-/// A record of a zone: owner, number of the type and TTL; SOA records have a minimum of 900 seconds.
+/// A record of a zone: owner, number of the type and TTL; SOA records have a minimum of 900
+/// seconds.
 pub type Line = (&'static [u8], u16, u32);
 
 /// Hosts, a delegation and a wildcard under the apex.

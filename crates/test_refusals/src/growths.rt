@@ -9,7 +9,8 @@ pub fn is_refused(alloc: Global) -> bool {
     Vec::<u8>::with_capacity(alloc, 1).is_err()
 }
 
-/// Takes a number of growths, so that the one behind them is the first that counts. Says whether one of them was refused.
+/// Takes a number of growths, so that the one behind them is the first that counts. Says whether
+/// one of them was refused.
 pub fn take_growths(alloc: Global, count: u32) -> bool
     ensures none { count ≡ 0 → result ≡ false }
 {

@@ -1,7 +1,8 @@
 //! Calls that are refused memory, and made again.
 //!
-//! A program makes each of its calls by a trial, which tells on a line whether the call gave what it is to give. What is printed
-//! is the same whichever growth is refused: a program is run once for each growth, with that one refused, and compared.
+//! A program makes each of its calls by a trial, which tells on a line whether the call gave what
+//! it is to give. What is printed is the same whichever growth is refused: a program is run once
+//! for each growth, with that one refused, and compared.
 #![tactic(auto)]
 
 mod ending;

@@ -9,8 +9,8 @@ use std::marker::Model;
 
 /// Calls that may be refused memory, each told on a line.
 ///
-/// A call that is refused must answer with the error that says so, and is made again; then it must succeed. What it works on
-/// must be as it was before. A contract sees whether a call was refused.
+/// A call that is refused must answer with the error that says so, and is made again; then it must
+/// succeed. What it works on must be as it was before. A contract sees whether a call was refused.
 #[derive(Drop)]
 pub struct Trial<'a, R> {
     rt: &'a R,
@@ -65,7 +65,8 @@ impl<'a, R: Print> Trial<'a, R> {
         println!(self.rt; "{name}: {word}")
     }
 
-    /// What a call gives, which is made again where it was refused; nothing where it has another error, or is refused twice.
+    /// What a call gives, which is made again where it was refused; nothing where it has another
+    /// error, or is refused twice.
     pub fn value<T, E: PartialEq + Drop, C: Fn() -> Result<T, E>>(
         &mut self,
         memory: E,
@@ -149,7 +150,8 @@ impl<'a, R: Print> Trial<'a, R> {
         self.gives(name, AllocError, || value.to_string(alloc), is_text)
     }
 
-    /// Calls by their places, each of which is to append these octets: to none, behind them, and behind them twice.
+    /// Calls by their places, each of which is to append these octets: to none, behind them, and
+    /// behind them twice.
     pub fn appends_each<E: PartialEq + Copy + Drop, C: Fn(&mut Vec<u8>, usize) -> Result<(), E>>(
         &mut self,
         calls: &[(&str, &[u8])],
@@ -174,8 +176,9 @@ impl<'a, R: Print> Trial<'a, R> {
         Ok(())
     }
 
-    /// A call on a value and on its twin, which are to give the same. Where it is refused on the value this must be as its
-    /// twin still is, and from then on both must be alike behind each call.
+    /// A call on a value and on its twin, which are to give the same. Where it is refused on the
+    /// value this must be as its twin still is, and from then on both must be alike behind each
+    /// call.
     pub fn changes<
         S,
         T: PartialEq + Drop,

@@ -1,8 +1,8 @@
 //! Two values on which the same calls are made.
 ghost use Rattle.std.specs.Prelude.{◌≡◌};
 
-/// A value and its twin, on which each call is made too, but later. So where a call on the value is refused, the twin is as
-/// the value was before, and afterwards both must be alike.
+/// A value and its twin, on which each call is made too, but later. So where a call on the value is
+/// refused, the twin is as the value was before, and afterwards both must be alike.
 #[derive(Drop)]
 pub struct Twins<S> {
     pub value: S,

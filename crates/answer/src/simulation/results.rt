@@ -27,7 +27,8 @@ pub(super) enum Thing<'a> {
     OfZone(&'a Question, &'a [u8]),
 }
 
-/// The outcomes so far, and the things shown in order of place. A thing stands once, in its outcome.
+/// The outcomes so far, and the things shown in order of place. A thing stands once, in its
+/// outcome.
 ///
 /// A call without memory ends the run, so nothing is said of what stands there behind it.
 #[derive(Drop)]

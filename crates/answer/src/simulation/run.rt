@@ -115,8 +115,8 @@ impl<'a, S: Scheme, H: Nsec3Hasher> Run<'a, S, H> {
         }
     }
 
-    /// Publishes copies of other records in the place of the zone's. Whether it is refused is known before any memory is taken,
-    /// as far as that can be.
+    /// Publishes copies of other records in the place of the zone's. Whether it is refused is known
+    /// before any memory is taken, as far as that can be.
     fn replace(&mut self, records: &[ZoneRecord], at: &UnixTime) -> Result<(), ReplaceFault>
         ensures replaces { let s = self.old in
             let w = world_in S.signature_of S.verifies S.digest_of H.hash_of s in

@@ -14,7 +14,8 @@ use std::alloc::Global;
 use std::marker::Brand;
 use std::sync::ledger::{Blank, Ledger};
 
-/// Judges as [`Case::judge`] does, for callers who have a scheme and a hasher and need no counts but those of the answer.
+/// Judges as [`Case::judge`] does, for callers who have a scheme and a hasher and need no counts
+/// but those of the answer.
 pub fn judge_with<S: Scheme, H: Nsec3Hasher>(
     alloc: Global,
     scheme: &S,

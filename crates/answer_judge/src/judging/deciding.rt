@@ -1,4 +1,5 @@
-//! What verified facts prove, beside signatures of one moment and links that were hashed alike and within a limit.
+//! What verified facts prove, beside signatures of one moment and links that were hashed alike and
+//! within a limit.
 ghost use Rattle.std.specs.Prelude.{◌≡◌, ◌≤◌, ◌+◌, not, IfErr, None};
 ghost use Rattle.std.specs.List.{list_any};
 ghost use Rattle.answer_scheme.specs.Answers.{NoneVerified};
@@ -15,7 +16,8 @@ use std::alloc::Global;
 
 /// The verdict of an answer's proof, and how many names are hashed for it.
 ///
-/// Where signatures must be of one moment, those of unlike times are refused before anything is hashed.
+/// Where signatures must be of one moment, those of unlike times are refused before anything is
+/// hashed.
 pub(crate) fn judge_proof<C: Checks>(
     alloc: Global,
     case: &Case,
@@ -91,7 +93,8 @@ fn are_alike(a: &HashLink, b: &HashLink) -> bool
 
 /// Whether links were hashed in unlike ways.
 ///
-/// Records of another chain, mixed in, would deny a name by a hash that it does not have there (RFC 5155, 8.2).
+/// Records of another chain, mixed in, would deny a name by a hash that it does not have there
+/// (RFC 5155, 8.2).
 fn are_mixed(links: &[HashLink]) -> bool
     ensures { result ≡ are_mixed links.now }
 {
@@ -110,7 +113,8 @@ fn are_unlike(first: &HashLink, others: &[HashLink]) -> bool
 
 /// Whether a link asks for more iterations than a limit.
 ///
-/// A zone that asks for endless hashing would otherwise wear a judge out (RFC 5155, 10.3; RFC 9276, 3.2).
+/// A zone that asks for endless hashing would otherwise wear a judge out (RFC 5155, 10.3; RFC 9276,
+/// 3.2).
 fn are_over(links: &[HashLink], limit: u16) -> bool
     ensures { result ≡ are_over limit links.now }
 {

@@ -1,4 +1,5 @@
-//! The keys of a DNSKEY answer that may sign the zone, and what they verify of an answer (RFC 4035, 5.2 and 5.3).
+//! The keys of a DNSKEY answer that may sign the zone, and what they verify of an answer (RFC 4035,
+//! 5.2 and 5.3).
 ghost use Rattle.std.specs.Prelude.{◌≡◌, ◌==◌, ◌⊎◌, ◌+◌, ◌<◌, ◌≤◌, ◌^◌, [], IfOk, IfErr, filter, length, map, true, false};
 ghost use Rattle.definitions.specs.Limits.{pointer_limit};
 ghost use Rattle.messages.specs.Record.{spelled};
@@ -29,7 +30,8 @@ use std::alloc::{AllocError, Global};
 
 /// The keys of the DNSKEY answer, no two unlike ones of one tag.
 ///
-/// Keys of one tag would each be tried on a signature: an answer full of them would wear a judge out.
+/// Keys of one tag would each be tried on a signature: an answer full of them would wear a judge
+/// out.
 pub(crate) fn read_unlike_keys<'a>(
     alloc: Global,
     case: &Case<'a>,
@@ -50,9 +52,11 @@ pub(crate) fn read_unlike_keys<'a>(
     Ok(keys)
 }
 
-/// The keys that may sign the zone, if one that a DS record names signs all keys, and for how many seconds more it does.
+/// The keys that may sign the zone, if one that a DS record names signs all keys, and for how many
+/// seconds more it does.
 ///
-/// Keys that nothing at the parent vouches for are those of whoever sent the answer (RFC 4035, 5.2).
+/// Keys that nothing at the parent vouches for are those of whoever sent the answer (RFC 4035,
+/// 5.2).
 pub(crate) fn signed_keys<'a, C: Checks>(
     case: &Case,
     records: &[ViewRecord],

@@ -25,7 +25,8 @@ struct KeyCopy {
 }
 
 impl<'a, S: Scheme, H: Nsec3Hasher> Publisher<'a, S, H> {
-    /// Makes a call on the keys at a moment: that of its name, with its arguments. Only a call that is accepted has actions.
+    /// Makes a call on the keys at a moment: that of its name, with its arguments. Only a call that
+    /// is accepted has actions.
     pub fn apply(&mut self, call: &KeyCall, at: &UnixTime) -> Result<Vec<Action>, KeyFault>
         requires { added_by_call call.now ≤ 65531 }
         ensures keys { let digests = digests S.digest_of self.old in
@@ -174,8 +175,8 @@ impl<'a, S: Scheme, H: Nsec3Hasher> Publisher<'a, S, H> {
         Ok(Vec::new(self.alloc))
     }
 
-    /// Copies the references and the octets of a key that is to be added. Whether its reference is bound to another key
-    /// is known before any memory is taken.
+    /// Copies the references and the octets of a key that is to be added. Whether its reference is
+    /// bound to another key is known before any memory is taken.
     fn copied_key(
         &self,
         kind: KeyKind,

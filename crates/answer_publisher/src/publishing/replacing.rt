@@ -16,12 +16,13 @@ use keyset::UnixTime;
 use messages::record::ZoneRecord;
 
 impl<'a, S: Scheme, H: Nsec3Hasher> Publisher<'a, S, H> {
-    /// Publishes other records in the place of the zone's, at a moment. Its apex, chain and limit stay, and so do the keys, their
-    /// rolls and what their references are bound to.
+    /// Publishes other records in the place of the zone's, at a moment. Its apex, chain and limit
+    /// stay, and so do the keys, their rolls and what their references are bound to.
     ///
-    /// Answers of one second are of one version of the zone, so that a judge who asks for signatures of one moment never takes
-    /// records of two versions together: where an answer was given in the second of the moment, or in a later one, the call is
-    /// refused. Otherwise it is refused as [`Publisher::new`] refuses these records. A refused call changes nothing.
+    /// Answers of one second are of one version of the zone, so that a judge who asks for
+    /// signatures of one moment never takes records of two versions together: where an answer was
+    /// given in the second of the moment, or in a later one, the call is refused. Otherwise it is
+    /// refused as [`Publisher::new`] refuses these records. A refused call changes nothing.
     pub fn replace_zone(
         &mut self,
         records: Vec<ZoneRecord>,
@@ -47,8 +48,8 @@ impl<'a, S: Scheme, H: Nsec3Hasher> Publisher<'a, S, H> {
         Ok(self.zone.replace_records(self.alloc, records)?)
     }
 
-    /// Why the zone's records would not be replaced by these at a moment, as far as that is known before any memory is taken:
-    /// that it comes too soon, or a fault of the list by itself.
+    /// Why the zone's records would not be replaced by these at a moment, as far as that is known
+    /// before any memory is taken: that it comes too soon, or a fault of the list by itself.
     pub fn refused_ahead(&self, records: &[ZoneRecord], now: &UnixTime) -> Option<ReplaceFault>
         ensures { let z = accepted_zone self.now.zone in let rs = map handed_of records.now in
             result ≡ refused_ahead z self.now.latest now.now rs }

@@ -53,10 +53,11 @@ pub struct ZoneAnswer {
 }
 
 impl<'h, H: Nsec3Hasher> ZoneRecords<'h, H> {
-    /// The answer to a question: the RRset asked for, its own or a wildcard's, or the SOA record, or a referral, with the
-    /// records of the chain that prove it (RFC 4035, 3.1; RFC 5155, 7.2). The type is none of those that the chain has.
-    /// The hasher has a hash for each name that the proof speaks of. It fails where memory does, or where the hasher fails on
-    /// such a name: the question's name, what stands above it up to the apex, or a wildcard under these.
+    /// The answer to a question: the RRset asked for, its own or a wildcard's, or the SOA record,
+    /// or a referral, with the records of the chain that prove it (RFC 4035, 3.1; RFC 5155, 7.2).
+    /// The type is none of those that the chain has. The hasher has a hash for each name that the
+    /// proof speaks of. It fails where memory does, or where the hasher fails on such a name: the
+    /// question's name, what stands above it up to the apex, or a wildcard under these.
     pub fn answer_to(
         &self,
         alloc: Global,
@@ -79,7 +80,8 @@ impl<'h, H: Nsec3Hasher> ZoneRecords<'h, H> {
         }
     }
 
-    /// The answer where opt-out leaves nothing open: a referral at or below a delegation, otherwise the zone's own.
+    /// The answer where opt-out leaves nothing open: a referral at or below a delegation, otherwise
+    /// the zone's own.
     fn told_answer(
         &self,
         alloc: Global,
@@ -98,8 +100,9 @@ impl<'h, H: Nsec3Hasher> ZoneRecords<'h, H> {
         }
     }
 
-    /// A referral: the name servers of a delegation without signatures, its DS records if it has any, and its record of
-    /// the chain, which shows whether it has (RFC 4035, 3.1.4; RFC 5155, 7.2.7).
+    /// A referral: the name servers of a delegation without signatures, its DS records if it has
+    /// any, and its record of the chain, which shows whether it has (RFC 4035, 3.1.4; RFC 5155,
+    /// 7.2.7).
     fn referral(&self, alloc: Global, cut: &Cut<'_>) -> Result<ZoneAnswer, HashError>
         requires delegation { has (zone_of self.now) (low cut.now.name.now) 2 ≡ true }
         requires records { IsCutRecords self.now.records cut.now }
@@ -154,8 +157,8 @@ impl<'h, H: Nsec3Hasher> ZoneRecords<'h, H> {
         Ok(())
     }
 
-    /// The answer where no delegation refers away: the RRset asked for, or the record of the chain that matches or covers
-    /// a name without it (RFC 4035, 3.1.1 and 3.1.3.1; RFC 5155, 7.2.3).
+    /// The answer where no delegation refers away: the RRset asked for, or the record of the chain
+    /// that matches or covers a name without it (RFC 4035, 3.1.1 and 3.1.3.1; RFC 5155, 7.2.3).
     fn own_answer(
         &self,
         alloc: Global,
@@ -181,9 +184,9 @@ impl<'h, H: Nsec3Hasher> ZoneRecords<'h, H> {
         self.answer_without_name(alloc, name, near, rtype)
     }
 
-    /// The answer for a name that does not exist: that of the wildcard under its closest encloser, with the record that
-    /// covers the name or the next closer one, or that there is no such name (RFC 4035, 3.1.3.2 to 3.1.3.4; RFC 5155,
-    /// 7.2.2, 7.2.5 and 7.2.6).
+    /// The answer for a name that does not exist: that of the wildcard under its closest encloser,
+    /// with the record that covers the name or the next closer one, or that there is no such name
+    /// (RFC 4035, 3.1.3.2 to 3.1.3.4; RFC 5155, 7.2.2, 7.2.5 and 7.2.6).
     fn answer_without_name(
         &self,
         alloc: Global,
@@ -210,7 +213,8 @@ impl<'h, H: Nsec3Hasher> ZoneRecords<'h, H> {
         self.denied(alloc, AUTHORITATIVE, name, &around)
     }
 
-    /// Whether a wildcard name above which no delegation stands exists, and the name is one of the zone.
+    /// Whether a wildcard name above which no delegation stands exists, and the name is one of the
+    /// zone.
     pub(super) fn expands(
         &self,
         name: &Name<Vec<u8>>,
@@ -246,8 +250,9 @@ impl<'h, H: Nsec3Hasher> ZoneRecords<'h, H> {
         })
     }
 
-    /// The RRset of a wildcard under the name asked for, and the record of the chain that covers that name, or the next
-    /// closer name: the name itself does not exist (RFC 4035, 3.1.3.3; RFC 5155, 7.2.6).
+    /// The RRset of a wildcard under the name asked for, and the record of the chain that covers
+    /// that name, or the next closer name: the name itself does not exist (RFC 4035, 3.1.3.3;
+    /// RFC 5155, 7.2.6).
     fn expanded(
         &self,
         alloc: Global,
@@ -314,8 +319,9 @@ impl<'h, H: Nsec3Hasher> ZoneRecords<'h, H> {
         Ok(groups)
     }
 
-    /// An answer that denies a name: the SOA record, and the records of the chain that match or cover the name and the
-    /// wildcard, or its closest encloser, the next closer name and the wildcard (RFC 4035, 3.1.3.2; RFC 5155, 7.2.2).
+    /// An answer that denies a name: the SOA record, and the records of the chain that match or
+    /// cover the name and the wildcard, or its closest encloser, the next closer name and the
+    /// wildcard (RFC 4035, 3.1.3.2; RFC 5155, 7.2.2).
     fn denied(
         &self,
         alloc: Global,
@@ -342,8 +348,8 @@ impl<'h, H: Nsec3Hasher> ZoneRecords<'h, H> {
         }
     }
 
-    /// An answer without the RRset asked for: the SOA record, and the records of the chain that match or cover one of
-    /// some names.
+    /// An answer without the RRset asked for: the SOA record, and the records of the chain that
+    /// match or cover one of some names.
     pub(super) fn missing(
         &self,
         alloc: Global,
@@ -416,7 +422,8 @@ impl<'h, H: Nsec3Hasher> ZoneRecords<'h, H> {
         Ok(())
     }
 
-    /// Adds those of NSEC3 records that match or cover one of some names, each of which is hashed once.
+    /// Adds those of NSEC3 records that match or cover one of some names, each of which is hashed
+    /// once.
     fn push_hashed_proofs(
         &self,
         alloc: Global,
@@ -458,7 +465,8 @@ impl<'h, H: Nsec3Hasher> ZoneRecords<'h, H> {
         Ok(hashes)
     }
 
-    /// The hash of a name, in lower case (RFC 5155, 5); of no octets where the chain is one of names.
+    /// The hash of a name, in lower case (RFC 5155, 5); of no octets where the chain is one of
+    /// names.
     fn hash_of_name(&self, alloc: Global, name: &Name<Vec<u8>>) -> Result<Vec<u8>, HashError>
         ensures hash { let hash = hash_in (H.hash_of self.now.hasher) self.now.mode in
             IfOk result (λ h. h.items ≡ hash name.now) }
@@ -524,8 +532,8 @@ impl<'h, H: Nsec3Hasher> ZoneRecords<'h, H> {
         self.rrset(alloc, name, owned, copy_name(alloc, owner)?, rtype, true)
     }
 
-    /// The RRset of an owner and a type, written under another name, or each record as it spells its owner itself. Its
-    /// label count is the owner's (RFC 4034, 3.1.3).
+    /// The RRset of an owner and a type, written under another name, or each record as it spells
+    /// its owner itself. Its label count is the owner's (RFC 4034, 3.1.3).
     fn rrset(
         &self,
         alloc: Global,

@@ -26,8 +26,8 @@ use messages::names::{Name, ZoneName};
 use names_rdata::rtype::Rtype;
 use std::alloc::{AllocError, Global};
 
-/// The closest ancestor of a name that the chain has, the next closer name below it, and the wildcard under it
-/// (RFC 5155, 1.3; RFC 4592, 3.3.1).
+/// The closest ancestor of a name that the chain has, the next closer name below it, and the
+/// wildcard under it (RFC 5155, 1.3; RFC 4592, 3.3.1).
 #[derive(Drop)]
 pub(super) struct Around {
     pub encloser: Name<Vec<u8>>,
@@ -36,8 +36,8 @@ pub(super) struct Around {
 }
 
 impl<'h, H: Nsec3Hasher> ZoneRecords<'h, H> {
-    /// Whether opt-out leaves a name open: the chain has no record for it, and no delegation with DS stands above it
-    /// (RFC 5155, 6 and 7.2.4).
+    /// Whether opt-out leaves a name open: the chain has no record for it, and no delegation with
+    /// DS stands above it (RFC 5155, 6 and 7.2.4).
     pub(super) fn leaves_open(&self, name: &Name<Vec<u8>>, near: &Neighbours<'_>) -> bool
         requires { IsNear name.now self.now.records near.now }
         ensures { let z = zone_of self.now in
@@ -58,7 +58,8 @@ impl<'h, H: Nsec3Hasher> ZoneRecords<'h, H> {
         }
     }
 
-    /// Whether a name is at or below the apex, and an owner that opt-out keeps at or below the name.
+    /// Whether a name is at or below the apex, and an owner that opt-out keeps at or below the
+    /// name.
     fn is_kept(&self, name: &Name<Vec<u8>>) -> bool
         requires { optout_of self.now.mode ≡ true }
         ensures { let z = zone_of self.now in
@@ -122,7 +123,8 @@ impl<'h, H: Nsec3Hasher> ZoneRecords<'h, H> {
         }
     }
 
-    /// The wildcard name under the closest encloser of a name that does not exist (RFC 4592, 3.3.1).
+    /// The wildcard name under the closest encloser of a name that does not exist (RFC 4592,
+    /// 3.3.1).
     pub(super) fn closest_wildcard(
         &self,
         alloc: Global,
@@ -140,7 +142,8 @@ impl<'h, H: Nsec3Hasher> ZoneRecords<'h, H> {
     }
 }
 
-/// The longest proper ancestor of a name that is at or below the apex and that neighbours show, the root where none is.
+/// The longest proper ancestor of a name that is at or below the apex and that neighbours show, the
+/// root where none is.
 fn encloser_of(
     alloc: Global,
     apex: &Name<Vec<u8>>,

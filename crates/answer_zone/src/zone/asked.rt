@@ -20,8 +20,8 @@ pub(super) enum Asked<'a> {
 }
 
 impl<'h, H: Nsec3Hasher> ZoneRecords<'h, H> {
-    /// The topmost delegation at or above a name refers a question away, unless the DS record there is asked for, which
-    /// stands in this zone (RFC 4035, 3.1.4.1).
+    /// The topmost delegation at or above a name refers a question away, unless the DS record there
+    /// is asked for, which stands in this zone (RFC 4035, 3.1.4.1).
     pub(super) fn asked(
         &self,
         name: &Name<Vec<u8>>,
@@ -44,7 +44,8 @@ impl<'h, H: Nsec3Hasher> ZoneRecords<'h, H> {
         }
     }
 
-    /// Whether a delegation at the name itself refers the question away: below the apex, where DS is not asked for.
+    /// Whether a delegation at the name itself refers the question away: below the apex, where DS
+    /// is not asked for.
     fn may_refer(&self, name: &Name<Vec<u8>>, rtype: Rtype) -> bool
         ensures { result ≡ (not (rtype == 43) && strictly_above self.now.apex name.now) }
     {

@@ -26,8 +26,8 @@ use messages::record::{ZoneData, ZoneRecord, keeps};
 use plain::Ttl;
 use std::alloc::{AllocError, Global};
 
-/// The records of an accepted zone in canonical order, the owners that opt-out keeps, and the chain with the TTL of its
-/// records.
+/// The records of an accepted zone in canonical order, the owners that opt-out keeps, and the chain
+/// with the TTL of its records.
 #[derive(Drop)]
 pub(super) struct Contents {
     pub(super) records: SortedRecords<Name<Vec<u8>>, ZoneData>,
@@ -36,8 +36,8 @@ pub(super) struct Contents {
     pub(super) link_ttl: Ttl,
 }
 
-/// What is made of these records, unless one of them or the chain has a fault: the faults of the list come before any of the
-/// chain, and before memory is asked for.
+/// What is made of these records, unless one of them or the chain has a fault: the faults of the
+/// list come before any of the chain, and before memory is asked for.
 pub(super) fn contents_of<H: Nsec3Hasher>(
     alloc: Global,
     apex: &Name<Vec<u8>>,

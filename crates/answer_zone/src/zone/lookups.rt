@@ -25,7 +25,8 @@ impl<'h, H: Nsec3Hasher> ZoneRecords<'h, H> {
         self.owned(name).has(rtype)
     }
 
-    /// Whether a name exists: an owner that is not below a delegation is at or below it (RFC 4592, 2.2).
+    /// Whether a name exists: an owner that is not below a delegation is at or below it (RFC 4592,
+    /// 2.2).
     pub fn exists(&self, name: &Name<Vec<u8>>) -> bool
         ensures { result ≡ exists (zone_of self.now) (low name.now) }
     {
@@ -54,7 +55,8 @@ impl<'h, H: Nsec3Hasher> ZoneRecords<'h, H> {
         Owned::found(&self.records, name)
     }
 
-    /// What a name owns. The search is short where these records stand at a place or not far before it.
+    /// What a name owns. The search is short where these records stand at a place or not far before
+    /// it.
     pub(super) fn owned_from<O: ToName>(&self, name: &O, place: usize) -> Owned<'_>
         ensures { result ≡ owned_by (O.name name.now) self.now.records }
     {
@@ -89,7 +91,8 @@ impl<'h, H: Nsec3Hasher> ZoneRecords<'h, H> {
         is_shown(&self.apex, near, name)
     }
 
-    /// Whether a name exists, by the records that were found at it: where there are some nothing is sought.
+    /// Whether a name exists, by the records that were found at it: where there are some nothing is
+    /// sought.
     pub(super) fn stands_with(&self, name: &Name<Vec<u8>>, owned: &Owned<'_>) -> bool
         requires { owned.now ≡ owned_by name.now self.now.records }
         ensures { result ≡ (at_or_above self.now.apex name.now
@@ -102,8 +105,8 @@ impl<'h, H: Nsec3Hasher> ZoneRecords<'h, H> {
         }
     }
 
-    /// The topmost delegation strictly above a name (RFC 1034, 4.2.1). An ancestor that neither neighbour of the name is at
-    /// or below owns nothing.
+    /// The topmost delegation strictly above a name (RFC 1034, 4.2.1). An ancestor that neither
+    /// neighbour of the name is at or below owns nothing.
     pub(super) fn cut_above(&self, name: &Name<Vec<u8>>, near: &Neighbours<'_>) -> Option<Cut<'_>>
         requires { IsNear name.now self.now.records near.now }
         ensures some { let z = zone_of self.now in

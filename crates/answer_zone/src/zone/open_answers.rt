@@ -24,10 +24,11 @@ use names_rdata::rtype::Rtype;
 use std::alloc::Global;
 
 impl<'h, H: Nsec3Hasher> ZoneRecords<'h, H> {
-    /// The answer where opt-out leaves a name open: what stands there without a signature, or the wildcard's RRset, or the
-    /// SOA record, with the records that match the closest encloser of the chain and cover the next closer name. Where the
-    /// name does not exist and no wildcard's RRset is given, the record that matches or covers the wildcard under that
-    /// encloser stands there too (RFC 5155, 7.2.2 and 7.2.5).
+    /// The answer where opt-out leaves a name open: what stands there without a signature, or the
+    /// wildcard's RRset, or the SOA record, with the records that match the closest encloser of the
+    /// chain and cover the next closer name. Where the name does not exist and no wildcard's RRset
+    /// is given, the record that matches or covers the wildcard under that encloser stands there
+    /// too (RFC 5155, 7.2.2 and 7.2.5).
     pub(super) fn open_answer(
         &self,
         alloc: Global,
@@ -75,7 +76,8 @@ impl<'h, H: Nsec3Hasher> ZoneRecords<'h, H> {
         })
     }
 
-    /// The answer where no delegation refers away. The RRset asked for is not there: its owner would be kept.
+    /// The answer where no delegation refers away. The RRset asked for is not there: its owner
+    /// would be kept.
     fn open_own_answer(
         &self,
         alloc: Global,
@@ -104,7 +106,8 @@ impl<'h, H: Nsec3Hasher> ZoneRecords<'h, H> {
         self.open_missing(alloc, AUTHORITATIVE, name, near, true)
     }
 
-    /// The SOA record, and what shows that opt-out leaves the name open, with the wildcard or without it.
+    /// The SOA record, and what shows that opt-out leaves the name open, with the wildcard or
+    /// without it.
     fn open_missing(
         &self,
         alloc: Global,
@@ -131,7 +134,8 @@ impl<'h, H: Nsec3Hasher> ZoneRecords<'h, H> {
         })
     }
 
-    /// The RRset of a wildcard under the name asked for, and what shows that opt-out leaves the name open.
+    /// The RRset of a wildcard under the name asked for, and what shows that opt-out leaves the
+    /// name open.
     fn open_expanded(
         &self,
         alloc: Global,
@@ -162,8 +166,9 @@ impl<'h, H: Nsec3Hasher> ZoneRecords<'h, H> {
         })
     }
 
-    /// Adds the records of the chain that match the closest kept ancestor of a name and cover the next closer name, and,
-    /// where that is asked for, the one that matches or covers the wildcard under that ancestor.
+    /// Adds the records of the chain that match the closest kept ancestor of a name and cover the
+    /// next closer name, and, where that is asked for, the one that matches or covers the wildcard
+    /// under that ancestor.
     fn push_open_proofs(
         &self,
         alloc: Global,

@@ -1,4 +1,5 @@
-//! Runs over memory: readers and writers that give and take a few octets a call, or fail, and the texts of faults.
+//! Runs over memory: readers and writers that give and take a few octets a call, or fail, and the
+//! texts of faults.
 use super::fakes::{Endless, Sink, Source};
 use super::run;
 use crate::input::{InputError, Limited};
@@ -29,8 +30,8 @@ judge 0 1 2 7200
 bytes 0 - - a.example 15 7200
 ";
 
-/// What is printed of it. The key signs the zone, so it stays; the host was not among the records that replaced the zone's; no
-/// octets are no message.
+/// What is printed of it. The key signs the zone, so it stays; the host was not among the records
+/// that replaced the zone's; no octets are no message.
 const PRINTED: &str = "ok
 ok
 ok UpdateDnskeyRrset UpdateRrsig ReportDnskeyPropagated ReportRrsigPropagated
@@ -97,7 +98,8 @@ fn is_printed(alloc: Global, input: &str, step: usize, printed: &str, status: St
         && sink.taken.as_slice() == printed.as_bytes()
 }
 
-/// The first of `reads` reads in such steps that may fail without a fault, or with something written.
+/// The first of `reads` reads in such steps that may fail without a fault, or with something
+/// written.
 fn unfailed_read(alloc: Global, input: &str, step: usize, reads: u64) -> Option<u64> {
     for place in 0..reads {
         let mut source = Source::new(input.as_bytes(), step);
@@ -112,7 +114,8 @@ fn unfailed_read(alloc: Global, input: &str, step: usize, reads: u64) -> Option<
     None
 }
 
-/// The first of `writes` writes in such steps that may fail without a fault, or with more writes behind it.
+/// The first of `writes` writes in such steps that may fail without a fault, or with more writes
+/// behind it.
 fn unfailed_write(alloc: Global, input: &str, step: usize, writes: u64) -> Option<u64> {
     for place in 0..writes {
         let call = place.saturating_add(1);

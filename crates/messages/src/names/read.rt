@@ -9,7 +9,8 @@ use crate::error::MessageError;
 use names_parsed::parsed::ParsedName;
 use names_parser::parser::Parser;
 
-/// The name at a place of a message, and the place behind it: behind its first pointer or its root octet.
+/// The name at a place of a message, and the place behind it: behind its first pointer or its root
+/// octet.
 pub fn read_name(message: &[u8], start: usize) -> Result<(ParsedName<'_>, usize), MessageError>
     ensures exact { let is = owner_at pointer_limit message.now start in
         Gives (λ r. named (parsed_name r.0) r.1) result is }

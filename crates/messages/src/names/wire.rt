@@ -13,7 +13,8 @@ use names_traits::to_name::ToName;
 use std::alloc::{AllocError, Global};
 use std::borrow::CowSlice;
 
-/// The name that all of the octets spell, without pointers (RFC 1035, 3.1). `None` where they spell none.
+/// The name that all of the octets spell, without pointers (RFC 1035, 3.1). `None` where they spell
+/// none.
 pub fn name_from_octets(alloc: Global, octets: &[u8]) -> Result<Option<Name<Vec<u8>>>, AllocError>
     ensures { IfOk result (λ name. name ≡ name_of_octets octets.now) }
 {
@@ -23,8 +24,8 @@ pub fn name_from_octets(alloc: Global, octets: &[u8]) -> Result<Option<Name<Vec<
     }
 }
 
-/// The name that stands at a place of octets, without pointers, and the place behind it. `None` where no name stands
-/// there.
+/// The name that stands at a place of octets, without pointers, and the place behind it. `None`
+/// where no name stands there.
 pub fn name_at_place(
     alloc: Global,
     octets: &[u8],
@@ -55,7 +56,8 @@ pub fn copy_name<N: ToName>(alloc: Global, name: &N) -> Result<Name<Vec<u8>>, Al
     name.to_vec(alloc).map_err(|_| AllocError)
 }
 
-/// The name with the same spelling, over its own octets where they stand in a row, and otherwise over a copy.
+/// The name with the same spelling, over its own octets where they stand in a row, and otherwise
+/// over a copy.
 pub fn cow_name<N: ToName>(alloc: Global, name: &N) -> Result<Name<CowSlice<'_, u8>>, AllocError>
     ensures { IfOk result (λ n. n ≡ N.name name.now) }
 {
