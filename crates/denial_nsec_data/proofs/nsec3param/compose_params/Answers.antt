@@ -4,7 +4,7 @@ use Rattle.names_wire.specs.Room.{LeavesRoom}
 use Rattle.names_wire.proofs.OnError.{on_err}
 use Rattle.names_wire.proofs.Room.{full_second, lacks_first, lacks_second, left_second}
 use Rattle.denial_fields.specs.Counted.{counted}
-use Rattle.denial_nsec_data.specs.Hashed.{nsec3param_head}
+use Rattle.denial_nsec_data.specs.Hashed.{Nsec3paramData, nsec3param_head}
 use Rattle.denial_nsec_data.proofs.nsec3param.compose_params.Goals as goal
 
 pub returns-in_err-append_slice-clause-full : goal.returns-in_err-append_slice-clause-full
@@ -20,11 +20,11 @@ returns-clause-full g c =
     let lacks = g.B.OctetsBuilder.lacks_room in
     let old = c.args.target.now in
     let params = c.args.params.now in
-    full_second lacks c.compose.result old c.append_slice.new.self (nsec3param_head params) (counted params.salt) (subst (λ (s : List ℕ). LeavesRoom lacks old c.append_slice.new.self (length s)) c.head.ensures c.in_ok-append_slice.ensures.left) c.compose.ensures.full
+    full_second lacks c.compose.result old c.append_slice.new.self (nsec3param_head params) (counted params.salt) (subst (λ (s : List ℕ). LeavesRoom lacks old c.append_slice.new.self (length s)) c.head.ensures c.in_ok-append_slice.ensures.left) (subst (λ (d : Nsec3paramData). OnErr c.compose.result (lacks c.append_slice.new.self (length (counted d.salt)))) c.params.view_is c.compose.ensures.full)
 
 pub returns-clause-left : goal.returns-clause-left
 returns-clause-left g c =
     let lacks = g.B.OctetsBuilder.lacks_room in
     let old = c.args.target.now in
     let params = c.args.params.now in
-    left_second lacks c.compose.result old c.append_slice.new.self c.compose.new.target (nsec3param_head params) (counted params.salt) (subst (λ (s : List ℕ). LeavesRoom lacks old c.append_slice.new.self (length s)) c.head.ensures c.in_ok-append_slice.ensures.left) c.compose.ensures.left
+    left_second lacks c.compose.result old c.append_slice.new.self c.compose.new.target (nsec3param_head params) (counted params.salt) (subst (λ (s : List ℕ). LeavesRoom lacks old c.append_slice.new.self (length s)) c.head.ensures c.in_ok-append_slice.ensures.left) (subst (λ (d : Nsec3paramData). OnOk c.compose.result (LeavesRoom lacks c.append_slice.new.self c.compose.new.target (length (counted d.salt)))) c.params.view_is c.compose.ensures.left)
