@@ -12,38 +12,38 @@ returns-in_err-compose_canonical_fields-clause-full g c =
     let lacks = g.B.OctetsBuilder.lacks_room in
     let old = c.args.target.now in
     let mid = c.compose_canonical_fields.new.target in
-    let rrsig = c.args.rrsig.now in
+    let rrsig = c.rrsig.inside in
     let numbers = numbers_octets rrsig.proto.numbers in
     let signer = (wire (low (g.N.Labels.name rrsig.proto.signer_name))) in
     let regrouped = append_assoc numbers signer rrsig.signature in
-    on_err c.from_residual.result (subst (λ (s : List ℕ). lacks old (length s)) regrouped
-    (lacks_first lacks g.met.B.OctetsBuilder.grows old (numbers ++ signer) rrsig.signature c.in_err-compose_canonical_fields.ensures.full))
+    rw (← c.rrsig.view_is) (on_err c.from_residual.result (subst (λ (s : List ℕ). lacks old (length s)) regrouped
+    (lacks_first lacks g.met.B.OctetsBuilder.grows old (numbers ++ signer) rrsig.signature c.in_err-compose_canonical_fields.ensures.full)))
 
 pub returns-clause-full : goal.returns-clause-full
 returns-clause-full g c =
     let lacks = g.B.OctetsBuilder.lacks_room in
     let old = c.args.target.now in
     let mid = c.compose_canonical_fields.new.target in
-    let rrsig = c.args.rrsig.now in
+    let rrsig = c.rrsig.inside in
     let numbers = numbers_octets rrsig.proto.numbers in
     let signer = (wire (low (g.N.Labels.name rrsig.proto.signer_name))) in
     let regrouped = append_assoc numbers signer rrsig.signature in
     let r = c.append_slice.result in
     let last = subst (λ (s : List ℕ). OnErr r (lacks mid (length s))) c.as_slice.ensures c.append_slice.ensures.full in
-    subst (λ (s : List ℕ). OnErr r (lacks old (length s))) regrouped
-    (full_second lacks r old mid (numbers ++ signer) rrsig.signature c.in_ok-compose_canonical_fields.ensures.left last)
+    rw (← c.rrsig.view_is) (subst (λ (s : List ℕ). OnErr r (lacks old (length s))) regrouped
+    (full_second lacks r old mid (numbers ++ signer) rrsig.signature c.in_ok-compose_canonical_fields.ensures.left last))
 
 pub returns-clause-left : goal.returns-clause-left
 returns-clause-left g c =
     let lacks = g.B.OctetsBuilder.lacks_room in
     let old = c.args.target.now in
     let mid = c.compose_canonical_fields.new.target in
-    let rrsig = c.args.rrsig.now in
+    let rrsig = c.rrsig.inside in
     let numbers = numbers_octets rrsig.proto.numbers in
     let signer = (wire (low (g.N.Labels.name rrsig.proto.signer_name))) in
     let regrouped = append_assoc numbers signer rrsig.signature in
     let r = c.append_slice.result in
     let new = c.append_slice.new.self in
     let last = subst (λ (s : List ℕ). OnOk r (LeavesRoom lacks mid new (length s))) c.as_slice.ensures c.append_slice.ensures.left in
-    subst (λ (s : List ℕ). OnOk r (LeavesRoom lacks old new (length s))) regrouped
-    (left_second lacks r old mid new (numbers ++ signer) rrsig.signature c.in_ok-compose_canonical_fields.ensures.left last)
+    rw (← c.rrsig.view_is) (subst (λ (s : List ℕ). OnOk r (LeavesRoom lacks old new (length s))) regrouped
+    (left_second lacks r old mid new (numbers ++ signer) rrsig.signature c.in_ok-compose_canonical_fields.ensures.left last))
