@@ -282,6 +282,7 @@ minimum-ttl-override=0
 max-cache-bogus-ttl=1
 packetcache-servfail-ttl=1
 signature-inception-skew=0
+root-nx-trust=no
 security-poll-suffix=
 """
 
