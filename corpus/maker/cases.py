@@ -151,6 +151,11 @@ WORDS = {
 }
 
 
+def by_chain(chain: Nsec | Nsec3, names: str, hashes: str) -> str:
+    """The section that decides a case by NSEC, or that by NSEC3."""
+    return names if isinstance(chain, Nsec) else hashes
+
+
 def told(name: Name) -> str:
     """A name of a zone in a sentence."""
     return wire.text_of(name)[:-1] if name else "the apex"

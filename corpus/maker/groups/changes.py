@@ -8,7 +8,7 @@ from __future__ import annotations
 
 from collections.abc import Sequence
 
-from ..cases import BOGUS, Expected, Group, each, of_type, relative, told
+from ..cases import BOGUS, Expected, Group, by_chain, each, of_type, relative, told
 from ..wire import A, Rrset
 from ..zone import NOW, Nsec, Nsec3, Zone, honest, negative, positive, unique
 
@@ -82,7 +82,7 @@ def add_mixed(group: Group, chain: Nsec | Nsec3) -> None:
         assert rrset
         shown = positive([rrset], [zone.shower(name)])
         tries = f"A wildcard's records for {name_text} from the version before, with the {chain.word} record of now, which has the name."
-        group.add(zone, name, A, shown, tries, "RFC 4035, 5.3.4")
+        group.add(zone, name, A, shown, tries, by_chain(chain, "RFC 4035, 5.3.4", "RFC 5155, 8.8"))
         before, zone = versions(group, old, new, chain)
         rrset = before.says(name, A).rrset
         assert rrset

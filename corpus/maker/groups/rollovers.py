@@ -180,17 +180,17 @@ def add_withdrawn(group: Group) -> None:
     group.add(zone, relative("a"), A, rrset, tries, "RFC 6781, 4.1", ds=[key("K1").ds(zone.apex)])
     zone = group.zone(TEXT, Nsec(), Keys([], of_names("K1 Z1"), of_names("K1"), of_names("Z1")))
     tries = "The zone is about to go unsigned: its DS set has left, and its signatures are still there."
-    group.add(zone, relative("a"), A, honest(zone, relative("a"), A), tries, "RFC 6781, 4.4.2", "valid", ("insecure", "no-ds"))
+    group.add(zone, relative("a"), A, honest(zone, relative("a"), A), tries, "RFC 4035, 5.2", "valid", ("insecure", "no-ds"))
     zone = group.zone(TEXT)
     bare = Shown([zone.rrset(relative("a"), A).replace(signatures=())], [])
     tries = "The zone went unsigned too early: its DS set and its DNSKEY set are still there, its signatures are gone."
-    group.add(zone, relative("a"), A, bare, tries, "RFC 6781, 4.4.2")
+    group.add(zone, relative("a"), A, bare, tries, "RFC 4035, 5")
     zone = group.zone(TEXT)
     tries = "The zone went unsigned too early: its DS set is still there, its DNSKEY set is gone."
     gone = negative(zone, [zone.matching(())]).octets(zone.apex, 48)
-    group.add(zone, relative("a"), A, honest(zone, relative("a"), A), tries, "RFC 6781, 4.4.2", dnskey=gone)
+    group.add(zone, relative("a"), A, honest(zone, relative("a"), A), tries, "RFC 4035, 5.2", dnskey=gone)
     for text in ("b", "c"):
         zone = group.zone(TEXT, Nsec(), Keys(of_names("K1 K5"), of_names("K1 Z1"), of_names("K1"), of_names("Z1")))
         tries = f"The DS set has a key that waits for an emergency and isn't published; {told(relative(text))} is asked."
         says = zone.says(relative(text), A)
-        group.add(zone, relative(text), A, honest(zone, relative(text), A), tries, "RFC 6781, 4.2", "valid", (says.result, says.which))
+        group.add(zone, relative(text), A, honest(zone, relative(text), A), tries, "RFC 6781, 4.2.4", "valid", (says.result, says.which))

@@ -28,6 +28,8 @@ RFC = {
     "Records": "RFC 4035, 5.3", "NoType": "RFC 4035, 5.4", "NoName": "RFC 4035, 5.4", "StarRecords": "RFC 4035, 5.3.4",
     "StarNoType": "RFC 4035, 5.4", "Delegated": "RFC 4035, 5.2", "Open": "RFC 5155, 9.2",
 }
+# By NSEC3.
+HASHED = {"NoType": "RFC 5155, 8.5", "NoName": "RFC 5155, 8.4", "StarRecords": "RFC 5155, 8.8", "StarNoType": "RFC 5155, 8.7", "Delegated": "RFC 5155, 8.9"}
 CALLED = {
     "Records": "records", "NoType": "NODATA", "NoName": "NXDOMAIN", "StarRecords": "a wildcard's records", "StarNoType": "NODATA from a wildcard",
     "Delegated": "a delegation without DS", "Open": "under opt-out",
@@ -36,7 +38,7 @@ CALLED = {
 LACKING = {
     "x.star.nsec.test.": "RFC 4035, 3.1.3.4 and 5.4, want it shown that the wildcard has no such type; the answer has no record for the wildcard, "
     "which exists for the sake of a name below it.",
-    "v.optout.test.": "RFC 5155, 8.5, wants a record that matches the name; 6 leaves names out that exist for unsigned delegations alone.",
+    "v.optout.test.": "RFC 5155, 8.5, wants a record that matches the name; 7.1 leaves names out that exist for unsigned delegations alone.",
 }
 LACKING["x.y.star.nsec.test."] = LACKING["x.star.nsec.test."]
 
@@ -110,6 +112,13 @@ def is_deep(row: Row, found: dict[tuple[str, str, int], list[Row]]) -> bool:
     return len(below) > 1 and (row.zone, f"{below[-2].decode('latin-1')}.{asked}", DS) in found and (row.zone, asked, DS) not in found
 
 
+def rfc_of(row: Row) -> str:
+    """The section that decides an answer by its verdict, and by whether it has NSEC3 records: their type and class stand behind an owner."""
+    if b"\x00\x32\x00\x01" not in row.answer:
+        return RFC[row.says]
+    return "RFC 5155, 8.6" if row.rtype == DS and row.says in ("NoType", "Delegated") else HASHED.get(row.says, RFC[row.says])
+
+
 def add_row(group: Group, row: Row) -> None:
     apex, name = wire.name_of(row.zone), name_in(row.answer)
     expected = SAYS[row.says]
@@ -122,7 +131,7 @@ def add_row(group: Group, row: Row) -> None:
     rest = {"also": [words(*it) for it in also], "open": lacking} if lacking else {}
     group.keep(
         {
-            "id": group.id, "group": group.name, "tries": f"The answer of {server} to {text}: {CALLED[row.says]}.", "rfc": RFC[row.says], "kind": "acceptable" if lacking else "valid",
+            "id": group.id, "group": group.name, "tries": f"The answer of {server} to {text}: {CALLED[row.says]}.", "rfc": rfc_of(row), "kind": "acceptable" if lacking else "valid",
             "zone": row.zone, "apex": wire.wire(apex).hex(), "question": {"name": wire.wire(name).hex(), "type": row.rtype, "text": text},
             "moment": NOW, "nsec3_limit": LIMIT, "expected": words(*expected), "ds": [it.hex() for it in row.ds], "dnskey": row.keys.hex(),
             "answer": row.answer.hex(), **rest,
