@@ -28,7 +28,7 @@ is_trusted a apex ds k = is_usable k && list_any (names_key a apex k) ds
 -- ---- signatures
 
 -- Records of a chain stand under their own owner alone: a wildcard's, replayed under another name, would pass for a record
--- of that name (RFC 4592, 4.6; RFC 4035, 5.4).
+-- of that name (RFC 4035, 3.1.3.2 and 5.4).
 abbrev pub may_expand : ℕ → Bool
 may_expand t = not (t == 47) && not (t == 50)
 

@@ -49,7 +49,7 @@ impl<'a> Trust<'a> {
     /// expanded to the owner (RFC 4035, 5.3.1 and 5.3.2).
     ///
     /// Records of a chain are never expanded: a wildcard's NSEC record, replayed under another
-    /// name, would deny what stands at that name (RFC 4592, 4.6). No wildcard above the apex is
+    /// name, would deny what stands at that name (RFC 4035, 3.1.3.2). No wildcard above the apex is
     /// expanded: it is not the zone's, and the zone's keys would speak for names beside it
     /// (RFC 4035, 5.3.1).
     fn fits_labels(&self, signature: &Signature, owner: &GroupOwner) -> bool

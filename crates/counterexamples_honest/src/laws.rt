@@ -109,7 +109,7 @@ pub fn keys_that_are_signed_must_be_published()
 {}
 
 /// A name that has the hash of another passes for it: a name that does not exist, for one that
-/// lacks the type (RFC 5155, 12.1.1).
+/// lacks the type (RFC 5155, 12.1.2).
 pub fn no_two_names_may_share_a_hash()
     ensures { SaysFalsely without_hashes_apart }
 {}

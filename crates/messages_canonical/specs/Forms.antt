@@ -1,4 +1,4 @@
--- Where names stand in data, by type (RFC 4034, 6.2; RFC 6840, 5.1; RFC 3597, 4).
+-- Where names stand in data, by type (RFC 4034, 6.2; RFC 6840, 5.1; RFC 3597, 7).
 use Rattle.std.specs.Prelude.{ℕ, Bool, ◌==◌, List, [], ◌∷◌, if◌then◌else◌}
 use Rattle.std.specs.List.{list_any}
 use Rattle.messages_canonical.specs.declared.form.Part.{Part}

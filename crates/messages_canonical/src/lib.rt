@@ -1,6 +1,6 @@
 //! Messages in canonical form: read, and rewritten with all names in full. Names in data are in
 //! lower case where signatures are made over lower case (RFC 4034, 6.2; RFC 6840, 5.1; RFC 3597,
-//! 4).
+//! 7).
 #![tactic(auto)]
 
 pub mod data;
