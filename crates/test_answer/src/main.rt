@@ -7,34 +7,34 @@
 //! and `no-signature` fail at that too, `one-hash` hashes each name to the octet 7, and with
 //! `keyed` the octets of a signature's key stand before the copy.
 //!
-//! - `zone NAME`: begins a zone; `soa OWNER SERIAL`, `rr OWNER CLASS TTL TYPE OCTETS`: its records; `addresses COUNT`: so many
-//!   addresses, at owners whose first label is the four octets of their number.
-//! - `publish LIFE SCHEME`: publishes the zone with a chain of names, signatures living so long; `publish-hashed LIFE SCHEME`:
-//!   with one of hashes.
-//! - `ksk KEY PRIVATE OCTETS`, `zsk KEY PRIVATE OCTETS`, `start ROLL OLD NEW MOMENT`, `report1 ROLL TTL MOMENT`,
-//! `wait1 ROLL MOMENT`, `report2 ROLL TTL MOMENT`, `wait2 ROLL MOMENT`, `done ROLL`: calls on its
-//! keys; `owed ROLL`: the
-//!   actions of its last step; `key KEY`: whether a key is there; `apex`: whose keys they are.
-//! - `include KEY OCTETS AVAILABLE`, `set-present KEY VALUE MOMENT`, `set-decoupled KEY VALUE`, `set-signer KEY VALUE`,
-//! `set-at-parent KEY VALUE`, `set-visible KEY MOMENT`, `set-ds-visible KEY MOMENT`,
-//! `set-rrsig-visible KEY MOMENT`,
-//! `set-stale KEY`, `delete KEY`: further calls, values `yes` or `no`; `bound KEY`: what a key is
-//! bound to.
-//! - `ds`, `dnskey MOMENT`, `answer NAME TYPE MOMENT`: what is handed out; both answers are held, and are judged.
+//! - `zone NAME`: begins a zone; `soa OWNER SERIAL`, `rr OWNER CLASS TTL TYPE OCTETS`: its records;
+//!   `addresses COUNT`: so many addresses, at owners whose first label is the four octets of their
+//!   number.
+//! - `publish LIFE SCHEME`: publishes the zone with a chain of names, signatures living so long;
+//!   `publish-hashed LIFE SCHEME`: with one of hashes.
+//! - `ksk KEY PRIVATE OCTETS`, `zsk KEY PRIVATE OCTETS`, `start ROLL OLD NEW MOMENT`, `report1 ROLL
+//!   TTL MOMENT`, `wait1 ROLL MOMENT`, `report2 ROLL TTL MOMENT`, `wait2 ROLL MOMENT`, `done ROLL`:
+//!   calls on its keys; `owed ROLL`: the actions of its last step; `key KEY`: whether a key is
+//!   there; `apex`: whose keys they are.
+//! - `include KEY OCTETS AVAILABLE`, `set-present KEY VALUE MOMENT`, `set-decoupled KEY VALUE`,
+//!   `set-signer KEY VALUE`, `set-at-parent KEY VALUE`, `set-visible KEY MOMENT`, `set-ds-visible
+//!   KEY MOMENT`, `set-rrsig-visible KEY MOMENT`, `set-stale KEY`, `delete KEY`: further calls,
+//!   values `yes` or `no`; `bound KEY`: what a key is bound to.
+//! - `ds`, `dnskey MOMENT`, `answer NAME TYPE MOMENT`: what is handed out; both answers are held,
+//!   and are judged.
 //! - `keys OCTETS`, `message OCTETS`: holds these messages in their place.
-//! - `judge APEX DS NAME TYPE MOMENT`: what is said of the messages that are held, beside a list of DS records, each a tag
-//! and a type of digest, as `1054:2`; `judge-by SCHEME APEX DS NAME TYPE MOMENT`: by another scheme
-//! than `well`;
-//!   `judge-any-moments APEX DS NAME TYPE MOMENT`: where signatures may be of unlike times;
-//! `judge-any-question APEX DS NAME TYPE MOMENT`: where the answer may be one to another question;
-//! `cuts APEX DS NAME TYPE MOMENT`: what is said of no octets in place of the DNSKEY answer, and
-//! how many of its beginnings
-//!   that is said of; then the same of the zone answer.
-//! - `lasts APEX DS NAME TYPE MOMENT`: how long the verdict lasts of the messages that are held, each signature passing and of any
-//!   moment.
+//! - `judge APEX DS NAME TYPE MOMENT`: what is said of the messages that are held, beside a list of
+//!   DS records, each a tag and a type of digest, as `1054:2`; `judge-by SCHEME APEX DS NAME TYPE
+//!   MOMENT`: by another scheme than `well`; `judge-any-moments APEX DS NAME TYPE MOMENT`: where
+//!   signatures may be of unlike times; `judge-any-question APEX DS NAME TYPE MOMENT`: where the
+//!   answer may be one to another question; `cuts APEX DS NAME TYPE MOMENT`: what is said of no
+//!   octets in place of the DNSKEY answer, and how many of its beginnings that is said of; then the
+//!   same of the zone answer.
+//! - `lasts APEX DS NAME TYPE MOMENT`: how long the verdict lasts of the messages that are held,
+//!   each signature passing and of any moment.
 //! - `allowed APEX NAME TYPE CLASS`: whether a question is.
-//! - `session LINE`, `session-octets OCTETS`: reads a session of the zone `example` and a line; `sessions COUNT LINE`: makes
-//!   one with so many times the line.
+//! - `session LINE`, `session-octets OCTETS`: reads a session of the zone `example` and a line;
+//!   `sessions COUNT LINE`: makes one with so many times the line.
 //! - `faults KIND`: the texts of faults; `flags`: those of keys.
 //!
 //! Each line is printed, and the answer behind it; octets that are more than 1000 are counted.

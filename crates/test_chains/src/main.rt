@@ -5,14 +5,16 @@
 //! digits of their wire form, no data as `-`, numbers in decimal. Behind a line that asks for
 //! something are printed its lines, or why there are none:
 //!
-//! - `chain nsec`: the NSEC chain of the zone so far, `chain nsec3 ITERATIONS SALT`: the NSEC3 chain of SHA-1 hashes; a line
-//! `link OWNER NEXT TYPES` for each record, names in lower case, of no types `-`. `records nsec`
-//! and
-//! `records nsec3 ITERATIONS SALT`: the same, each record as text, and the NSEC3PARAM record last.
-//! - `owners all`, `owners without-unsigned`: the TTLs of the SOA record and of a chain, and the owners that have records,
-//!   with their types; `conditions`: whether the records stand in the order that a chain needs.
+//! - `chain nsec`: the NSEC chain of the zone so far, `chain nsec3 ITERATIONS SALT`: the NSEC3
+//!   chain of SHA-1 hashes; a line `link OWNER NEXT TYPES` for each record, names in lower case, of
+//!   no types `-`. `records nsec` and `records nsec3 ITERATIONS SALT`: the same, each record as
+//!   text, and the NSEC3PARAM record last.
+//! - `owners all`, `owners without-unsigned`: the TTLs of the SOA record and of a chain, and the
+//!   owners that have records, with their types; `conditions`: whether the records stand in the
+//!   order that a chain needs.
 //! - `owner NAME ALGORITHM ITERATIONS SALT`: the owner of the NSEC3 record of a name.
-//! - `excludes`, `ways`: what a configuration says of unsigned delegations, and each way to deny gaps of keys to come.
+//! - `excludes`, `ways`: what a configuration says of unsigned delegations, and each way to deny
+//!   gaps of keys to come.
 //! - `faults`: the texts of faults.
 //!
 //! Words behind these are options: `without-keys` (no DNSKEY records are to come), `opt-out`,

@@ -4,34 +4,35 @@
 //! Words lie one blank apart, lists are joined by commas, `-` is an empty one, `old*2` in a list of
 //! keys is `old0,old1`, and moments are seconds:
 //!
-//! - `zone NAME KEYS`: a set without keys, of a zone; these keys are shown from now on, in this order.
-//! - `ksk KEY TAG`, `zsk KEY TAG`, `csk KEY TAG`: adds a key of algorithm 13, made at 0 and available;
-//! `new KIND KEY PRIVATE ALGORITHM TAG MOMENT yes`: adds any, available or not; `include KEY
-//! ALGORITHM TAG MOMENT`: one of
-//!   another owner; `many KEYS TAG`: zone signing keys with tags from this on.
-//! - `start ROLL OLD NEW MOMENT`, `report1 ROLL TTL MOMENT`, `wait1 ROLL MOMENT`, `report2 ROLL TTL MOMENT`,
-//!   `wait2 ROLL MOMENT`, `done ROLL`: the calls of a roll.
-//! - `delete KEY`, `present KEY yes MOMENT`, `decoupled KEY yes`, `signer KEY yes`, `parent KEY yes`, `stale KEY`,
-//! `visible KEY MOMENT`, `ds-visible KEY MOMENT`, `rrsig-visible KEY MOMENT`: other calls; `no` in
-//! place of `yes` unsets.
+//! - `zone NAME KEYS`: a set without keys, of a zone; these keys are shown from now on, in this
+//!   order.
+//! - `ksk KEY TAG`, `zsk KEY TAG`, `csk KEY TAG`: adds a key of algorithm 13, made at 0 and
+//!   available; `new KIND KEY PRIVATE ALGORITHM TAG MOMENT yes`: adds any, available or not;
+//!   `include KEY ALGORITHM TAG MOMENT`: one of another owner; `many KEYS TAG`: zone signing keys
+//!   with tags from this on.
+//! - `start ROLL OLD NEW MOMENT`, `report1 ROLL TTL MOMENT`, `wait1 ROLL MOMENT`, `report2 ROLL TTL
+//!   MOMENT`, `wait2 ROLL MOMENT`, `done ROLL`: the calls of a roll.
+//! - `delete KEY`, `present KEY yes MOMENT`, `decoupled KEY yes`, `signer KEY yes`, `parent KEY
+//!   yes`, `stale KEY`, `visible KEY MOMENT`, `ds-visible KEY MOMENT`, `rrsig-visible KEY MOMENT`:
+//!   other calls; `no` in place of `yes` unsets.
 //!
 //! Each line is printed, and behind it what was answered: of a roll's call a row with the keys in
 //! the DNSKEY RRset, those that sign it, those that sign the zone, those at the parent, and what is
 //! to be done; of another call `ok`; of either why it was refused. Lines that begin with `#` and
 //! empty ones are printed alone. What is asked besides:
 //!
-//! - `key KEY`: its kind and flags; algorithm and tag; when it was made, put in and taken out, since when its record, its DS
-//! record and its signatures are seen; its private reference, and whether it is decoupled. `alone
-//! KEY`: the same, and that
-//!   of a copy that is decoupled.
-//! - `phase ROLL`, `owed ROLL`: how far a roll is, and what its last step asked for; `counts`: of keys and rolls.
+//! - `key KEY`: its kind and flags; algorithm and tag; when it was made, put in and taken out,
+//!   since when its record, its DS record and its signatures are seen; its private reference, and
+//!   whether it is decoupled. `alone KEY`: the same, and that of a copy that is decoupled.
+//! - `phase ROLL`, `owed ROLL`: how far a roll is, and what its last step asked for; `counts`: of
+//!   keys and rolls.
 //! - `drawing`: the last roll drawn against time, in SVG.
 //! - `copy`: puts a copy of the set aside; `swap`: takes that and puts the set aside.
-//! - `elapsed MOMENT MOMENT`, `later MOMENT SECONDS`, `before MOMENT MOMENT`, `timestamp MOMENT`, `from-timestamp NUMBER`:
-//! of moments; `roll NAME`: the roll of a name; `errors`: the texts of all errors, in the order of
-//! the enum.
-//! - `lives ROLLS CALLS`: whether in all lists of so many accepted calls of these rolls, with keys in use and fresh ones, what
-//!   was handed out and isn't retired meets.
+//! - `elapsed MOMENT MOMENT`, `later MOMENT SECONDS`, `before MOMENT MOMENT`, `timestamp MOMENT`,
+//!   `from-timestamp NUMBER`: of moments; `roll NAME`: the roll of a name; `errors`: the texts of
+//!   all errors, in the order of the enum.
+//! - `lives ROLLS CALLS`: whether in all lists of so many accepted calls of these rolls, with keys
+//!   in use and fresh ones, what was handed out and isn't retired meets.
 #![tactic(auto)]
 
 mod calls;

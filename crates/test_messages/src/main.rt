@@ -4,33 +4,30 @@
 //! Names are texts, octets hexadecimal digits (`-` for none), numbers decimal, lists joined by
 //! commas:
 //!
-//! - `name OCTETS PLACE`: the name at a place of a message as spelled, in canonical form, and the place behind it;
-//! `is OCTETS PLACE NAME`: whether it is this one. `flat OCTETS PLACE`: the same of octets without
-//! pointers;
-//!   `whole OCTETS`: the name that octets are, and how many labels it has.
-//! - `compare NAME NAME`: how the first stands to the second, how that to the first and to its copy, and whether the first is
-//! above the second. `parts NAME COUNT`: how many labels a name has and a signature counts, and how
-//! many octets; whether its
-//! first label is a star, whether any is, and the wildcard below it; its last labels; its octets,
-//! spelled and canonical.
-//! - `message OCTETS`: what a message asks, and each record with the place of its data; `data OCTETS`: the canonical data of
-//! the first record, and what a link or signature says; `write NAME TYPE CLASS OWNER TTL OCTETS`: a
-//! message of one record;
-//! `numbers NUMBER NUMBER`: of 16 and of 32 bits, as they are written. `canonical OCTETS`: the
-//! message in canonical form;
-//! `form OCTETS`: as whoever verifies signatures is to see it; `data-form TYPE OCTETS`: whether
-//! data by themselves are
-//!   canonical, or only in form, since names in them are read as names.
-//! - `key FLAGS ALGORITHM OCTETS`, `key-data OCTETS`: a key with its tag, whether it is a zone key, and its data.
-//!   `ranked OCTETS,..`: data in order; `digests TAG,..`: DS records in order.
-//! - `fields RRSIG`: the fields of a signature, spelled and canonical; `signed RRSIG OWNER OCTETS,..`: what it is made over.
-//! - `zone NAME`: begins a zone; `soa SERIAL`, `ns OWNER TTL SERVER`, `rr OWNER CLASS TTL TYPE OCTETS`: its records;
-//! `nsec3 ITERATIONS SALT OPTOUT LIMIT`: asks for a chain of hashes, by SHA-1, instead of one of
-//! names; `accept`: makes it;
-//!   `in-form`, before that: whether every signer signs the data of the records so far alike.
-//! Then `ask NAME TYPE`: the flags and RRsets of the answer, the data of each as written and in
-//! canonical form;
-//!   `has NAME TYPE`, `exists NAME`, `ttl NAME TYPE`, `apex`.
+//! - `name OCTETS PLACE`: the name at a place of a message as spelled, in canonical form, and the
+//!   place behind it; `is OCTETS PLACE NAME`: whether it is this one. `flat OCTETS PLACE`: the same
+//!   of octets without pointers; `whole OCTETS`: the name that octets are, and how many labels it
+//!   has.
+//! - `compare NAME NAME`: how the first stands to the second, how that to the first and to its
+//!   copy, and whether the first is above the second. `parts NAME COUNT`: how many labels a name
+//!   has and a signature counts, and how many octets; whether its first label is a star, whether
+//!   any is, and the wildcard below it; its last labels; its octets, spelled and canonical.
+//! - `message OCTETS`: what a message asks, and each record with the place of its data; `data
+//!   OCTETS`: the canonical data of the first record, and what a link or signature says; `write
+//!   NAME TYPE CLASS OWNER TTL OCTETS`: a message of one record; `numbers NUMBER NUMBER`: of 16 and
+//!   of 32 bits, as they are written. `canonical OCTETS`: the message in canonical form; `form
+//!   OCTETS`: as whoever verifies signatures is to see it; `data-form TYPE OCTETS`: whether data by
+//!   themselves are canonical, or only in form, since names in them are read as names.
+//! - `key FLAGS ALGORITHM OCTETS`, `key-data OCTETS`: a key with its tag, whether it is a zone key,
+//!   and its data. `ranked OCTETS,..`: data in order; `digests TAG,..`: DS records in order.
+//! - `fields RRSIG`: the fields of a signature, spelled and canonical; `signed RRSIG OWNER
+//!   OCTETS,..`: what it is made over.
+//! - `zone NAME`: begins a zone; `soa SERIAL`, `ns OWNER TTL SERVER`, `rr OWNER CLASS TTL TYPE
+//!   OCTETS`: its records; `nsec3 ITERATIONS SALT OPTOUT LIMIT`: asks for a chain of hashes, by
+//!   SHA-1, instead of one of names; `accept`: makes it; `in-form`, before that: whether every
+//!   signer signs the data of the records so far alike. Then `ask NAME TYPE`: the flags and RRsets
+//!   of the answer, the data of each as written and in canonical form; `has NAME TYPE`, `exists
+//!   NAME`, `ttl NAME TYPE`, `apex`.
 //!
 //! Each line is printed, and the answer behind it. Lines that begin with `#` and empty ones are
 //! printed alone.

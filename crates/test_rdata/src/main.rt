@@ -4,32 +4,36 @@
 //! A line begins with what is asked for. All octets are in hexadecimal, numbers in decimal, and `-`
 //! is none of them:
 //!
-//! - `tag KEY`: the key tag of DNSKEY data; `flags KEY`: whether it is a zone key, a secure entry point, revoked.
+//! - `tag KEY`: the key tag of DNSKEY data; `flags KEY`: whether it is a zone key, a secure entry
+//!   point, revoked.
 //! - `digest OWNER KEY`: the SHA-256 digest of a DS record for a key at an owner in wire octets.
-//! - `bitmap TYPES`: the bitmap of types, joined by commas, and the types that it gives; `each NUMBER`: that of its multiples.
-//! - `types OCTETS`: of a bitmap how many octets it has, whether it has none, and its types as text; `has OCTETS TYPES`: which
-//! it has; `lengths OCTETS`: how many octets from the front on are one; `bitmaps OCTETS OCTETS`:
-//! how one stands to another.
-//! - `data TYPE OCTETS`: record data, read and written again; and how many octets from the front on, a zero counted behind
-//!   the last, are data of the type too, as ranges joined by commas.
-//! - `text TYPE OCTETS`, `canonical TYPE OCTETS`: the data as text, and in canonical form; `fault TYPE OCTETS`: why they are
-//! refused, and where; `order TYPE OCTETS OCTETS`: how data stand to others, plainly and in
-//! canonical order, and of equal
-//!   ones whether they have one hash; `end TYPE OCTETS`: the key, digest or salt, taken out.
-//! - `longest TYPE COUNT`: how many octets data have with so many octets, or windows of a bitmap, at their end; and where that
-//!   is not tested.
-//! - `fields RRSIG`: the fields of a signature, as spelled and canonical; `same-fields RRSIG RRSIG`;
-//! `signature RRSIG OCTETS`: the fields with these octets as the signature, and then with the one
-//! that was there.
-//! - `renamed NSEC NAME`, `rehashed NSEC3 HASH`: links with another next name or hash; `nsec-at OCTETS PLACE`: those at a place
-//! of a message; `nsec3 ALGORITHM FLAGS ITERATIONS SALT HASH TYPES`: NSEC3 data of their fields;
-//! `opted NSEC3PARAM`: flags.
-//! - `near SECONDS REFERENCE`, `time OCTETS`, `time-text TEXT`, `times SECONDS SECONDS`: times of signatures.
-//! - `salt TEXT`, `salt-octets OCTETS`, `salts OCTETS OCTETS`; `owner-hash TEXT`, `hash-octets OCTETS`,
-//! `hashes OCTETS OCTETS`: salts and hashes, read, printed and compared; `base32hex TEXT`: octets
-//! of digits.
+//! - `bitmap TYPES`: the bitmap of types, joined by commas, and the types that it gives; `each
+//!   NUMBER`: that of its multiples.
+//! - `types OCTETS`: of a bitmap how many octets it has, whether it has none, and its types as
+//!   text; `has OCTETS TYPES`: which it has; `lengths OCTETS`: how many octets from the front on
+//!   are one; `bitmaps OCTETS OCTETS`: how one stands to another.
+//! - `data TYPE OCTETS`: record data, read and written again; and how many octets from the front
+//!   on, a zero counted behind the last, are data of the type too, as ranges joined by commas.
+//! - `text TYPE OCTETS`, `canonical TYPE OCTETS`: the data as text, and in canonical form; `fault
+//!   TYPE OCTETS`: why they are refused, and where; `order TYPE OCTETS OCTETS`: how data stand to
+//!   others, plainly and in canonical order, and of equal ones whether they have one hash; `end
+//!   TYPE OCTETS`: the key, digest or salt, taken out.
+//! - `longest TYPE COUNT`: how many octets data have with so many octets, or windows of a bitmap,
+//!   at their end; and where that is not tested.
+//! - `fields RRSIG`: the fields of a signature, as spelled and canonical; `same-fields RRSIG
+//!   RRSIG`; `signature RRSIG OCTETS`: the fields with these octets as the signature, and then with
+//!   the one that was there.
+//! - `renamed NSEC NAME`, `rehashed NSEC3 HASH`: links with another next name or hash; `nsec-at
+//!   OCTETS PLACE`: those at a place of a message; `nsec3 ALGORITHM FLAGS ITERATIONS SALT HASH
+//!   TYPES`: NSEC3 data of their fields; `opted NSEC3PARAM`: flags.
+//! - `near SECONDS REFERENCE`, `time OCTETS`, `time-text TEXT`, `times SECONDS SECONDS`: times of
+//!   signatures.
+//! - `salt TEXT`, `salt-octets OCTETS`, `salts OCTETS OCTETS`; `owner-hash TEXT`, `hash-octets
+//!   OCTETS`, `hashes OCTETS OCTETS`: salts and hashes, read, printed and compared; `base32hex
+//!   TEXT`: octets of digits.
 //! - `hash NAME ITERATIONS SALT`: the hash of a name in wire octets, in base32hex.
-//! - `signed RRSIG OWNER DATA`: the octets that a signature is made over, of an RRset of data joined by commas.
+//! - `signed RRSIG OWNER DATA`: the octets that a signature is made over, of an RRset of data
+//!   joined by commas.
 //! - `faults KIND`: texts of faults.
 //!
 //! Each line is printed with the answer behind it. Lines that begin with `#` are printed as they
