@@ -27,10 +27,10 @@ def free_port():
 
 
 class Server:
-    """A server that has zones, each an apex and a file."""
+    """A server that has zones, each an apex and a file: on a free port of loopback, or where it is told."""
 
-    def __init__(self, folder, zones):
-        self.folder, self.zones, self.port = folder, zones, free_port()
+    def __init__(self, folder, zones, host=HOST, port=None):
+        self.folder, self.zones, self.host, self.port = folder, zones, host, port or free_port()
         folder.mkdir()
         (folder / "configuration").write_text(self.configuration())
         how = {"stdin": subprocess.DEVNULL, "stdout": (folder / "log").open("wb"), "stderr": subprocess.STDOUT}
@@ -51,7 +51,7 @@ class Server:
     def messages(self, qname, rtype):
         """The answers to a question, by TCP, so that none is cut off; their number is set to zero."""
         sent = query(secrets.randbelow(1 << 16), qname, rtype)
-        with socket.create_connection((HOST, self.port), timeout=5) as it, it.makefile("rb") as stream:
+        with socket.create_connection((self.host, self.port), timeout=5) as it, it.makefile("rb") as stream:
             it.sendall(struct.pack(">H", len(sent)) + sent)
             while True:
                 length = int.from_bytes(stream.read(2), "big")
@@ -88,12 +88,12 @@ class Named(Server):
     VERSION = "-v"
 
     def configuration(self):
-        named = (".".join(label.decode() for label in apex) for apex, _file in self.zones)
+        named = ((".".join(label.decode() for label in apex) or ".") for apex, _file in self.zones)
         zones = "".join(f'zone {name} {{ type primary; file "{file}"; }};\n' for name, (_apex, file) in zip(named, self.zones))
         return f"""
 options {{
     directory "{self.folder}";
-    listen-on port {self.port} {{ {HOST}; }};
+    listen-on port {self.port} {{ {self.host}; }};
     listen-on-v6 {{ none; }};
     pid-file none;
     session-keyfile none;
@@ -117,7 +117,7 @@ class Nsd(Server):
         )
         return f"""
 server:
-    ip-address: {HOST}@{self.port}
+    ip-address: {self.host}@{self.port}
     username: ""
     zonesdir: "{self.folder}"
     database: ""
@@ -142,7 +142,7 @@ class Knot(Server):
         return f"""
 server:
     rundir: {self.folder}
-    listen: {HOST}@{self.port}
+    listen: {self.host}@{self.port}
 log:
   - target: stderr
     any: info

@@ -1,0 +1,175 @@
+#include "report.h"
+
+/* The members of a result, as corpus/schema.json has them. */
+struct shown {
+    const char *result, *which;
+};
+
+static struct shown shown_verdict(const struct verdict *verdict) {
+    static const struct shown of[] = {
+        [FOUND_RECORDS] = {"secure", "answer"},     [FOUND_NODATA] = {"secure", "nodata"},
+        [FOUND_NXDOMAIN] = {"secure", "nxdomain"},  [FOUND_WILDCARD] = {"secure", "wildcard"},
+        [FOUND_WILDCARD_NODATA] = {"secure", "wildcard-nodata"}, [FOUND_DELEGATED] = {"insecure", "no-ds"},
+        [FOUND_OPTOUT] = {"insecure", "optout"},    [FOUND_BOGUS] = {"bogus", NULL},
+        [FOUND_BOGUS_KEYS] = {"bogus", NULL},
+    };
+    return of[verdict->finding];
+}
+
+static struct shown shown_told(const struct told *told) {
+    switch (told->result) {
+    case SECURE:
+        return (struct shown){"secure", told->rcode == RCODE_NXDOMAIN ? "nxdomain" : told->has_records ? "answer" : "nodata"};
+    case BOGUS:
+        return (struct shown){"bogus", NULL};
+    default:
+        return (struct shown){"insecure", NULL};
+    }
+}
+
+static void put_hex(FILE *log, struct octets octets) {
+    static const char digits[] = "0123456789abcdef";
+    for (size_t i = 0; i < octets.len; i++) {
+        fputc(digits[octets.data[i] >> 4], log);
+        fputc(digits[octets.data[i] & 15], log);
+    }
+}
+
+static void put_octets(FILE *log, const char *name, struct octets octets) {
+    fprintf(log, "\"%s\":\"", name);
+    put_hex(log, octets);
+    fputc('"', log);
+}
+
+static struct octets octets_of(const struct name *name) {
+    return (struct octets){name->octets, name->len};
+}
+
+static void put_result(FILE *log, struct shown shown) {
+    fprintf(log, "{\"result\":\"%s\"", shown.result);
+    if (shown.which != NULL) {
+        fprintf(log, ",\"which\":\"%s\"", shown.which);
+    }
+    fputc('}', log);
+}
+
+static void put_question(FILE *log, const struct trial *trial) {
+    char text[TEXT_ROOM];
+    name_text(&trial->qname, text);
+    fputs("\"question\":{", log);
+    put_octets(log, "name", octets_of(&trial->qname));
+    fprintf(log, ",\"type\":%u,\"text\":\"", trial->qtype);
+    for (const char *at = text; *at != 0; at++) {
+        fputs(*at == '\\' ? "\\\\" : (char[]){*at, 0}, log);
+    }
+    fprintf(log, " TYPE%u\"}", trial->qtype);
+}
+
+/* The numbers of extended errors (RFC 8914). */
+static void put_extended_errors(FILE *log, const struct told *told) {
+    struct octets rest = told->has_edns ? told->edns.data : (struct octets){NULL, 0};
+    const char *before = "";
+    fputs("\"ede\":[", log);
+    while (rest.len >= 4 && rest.len - 4 >= number16(rest.data + 2)) {
+        size_t len = number16(rest.data + 2);
+        if (number16(rest.data) == 15 && len >= 2) {
+            fprintf(log, "%s%u", before, number16(rest.data + 4));
+            before = ",";
+        }
+        rest = (struct octets){rest.data + 4 + len, rest.len - 4 - len};
+    }
+    fputc(']', log);
+}
+
+static void put_ds(FILE *log, struct octets rest) {
+    const char *before = "";
+    fputs("\"ds\":[", log);
+    while (rest.len >= 2 && rest.len - 2 >= number16(rest.data)) {
+        size_t len = number16(rest.data);
+        fprintf(log, "%s\"", before);
+        put_hex(log, (struct octets){rest.data + 2, len});
+        fputc('"', log);
+        before = ",";
+        rest = (struct octets){rest.data + 2 + len, rest.len - 2 - len};
+    }
+    fputc(']', log);
+}
+
+/* The messages as a case of the corpus: what the judge says is expected, and what the resolver said stands beside it. */
+static void put_case(struct shadow *shadow, const struct trial *trial, struct shown expected, struct shown also) {
+    char zone[TEXT_ROOM];
+    FILE *log = shadow->log;
+    name_text(&trial->apex, zone);
+    fprintf(log, "\"case\":{\"id\":\"shadow-%03u\",\"group\":\"shadow\",\"tries\":\"", (unsigned)(shadow->lines % 1000));
+    fputs("An answer of which a resolver and the judge say different things.\",\"rfc\":\"RFC 4035, 5\",\"kind\":\"acceptable\",\"zone\":\"", log);
+    for (const char *at = zone; *at != 0; at++) {
+        fputs(*at == '\\' ? "\\\\" : (char[]){*at, 0}, log);
+    }
+    fputs("\",", log);
+    put_octets(log, "apex", octets_of(&trial->apex));
+    fputc(',', log);
+    put_question(log, trial);
+    fprintf(log, ",\"moment\":%llu,\"nsec3_limit\":%u,\"expected\":", (unsigned long long)trial->now, judge_iterations(shadow->judge));
+    put_result(log, expected);
+    fputs(",\"also\":[", log);
+    put_result(log, also);
+    fputs("],\"open\":\"Nobody has decided yet which of both is right.\",", log);
+    put_ds(log, trial->ds);
+    fputc(',', log);
+    put_octets(log, "dnskey", trial->dnskey);
+    fputc(',', log);
+    put_octets(log, "answer", trial->answer);
+    fputc('}', log);
+}
+
+void report_disagreement(struct shadow *shadow, const struct trial *trial, const struct told *told, const struct verdict *verdict) {
+    FILE *log = shadow->log;
+    struct shown judged = shown_verdict(verdict), said = shown_told(told);
+    fprintf(log, "{\"moment\":%llu,", (unsigned long long)trial->now);
+    put_question(log, trial);
+    fputs(",\"resolver\":{", log);
+    fprintf(log, "\"result\":\"%s\",\"which\":\"%s\",", said.result, said.which != NULL ? said.which : "");
+    fprintf(log, "\"rcode\":%u,\"records\":%s,", told->rcode, told->has_records ? "true" : "false");
+    put_extended_errors(log, told);
+    fprintf(log, "},\"judge\":{\"result\":\"%s\",\"which\":\"%s\",", judged.result, judged.which != NULL ? judged.which : "");
+    fprintf(log, "\"reply\":\"%s\"},", verdict->reply);
+    put_case(shadow, trial, judged, said);
+    fputs("}\n", log);
+    fflush(log);
+    shadow->lines++;
+}
+
+static void put_count(FILE *log, const char *name, uint64_t number) {
+    fprintf(log, ",\"%s\":%llu", name, (unsigned long long)number);
+}
+
+void report_counts(const struct shadow *shadow, const struct stream_counts *stream, uint64_t dropped, uint64_t now) {
+    static const char *const reasons[REASONS] = {
+        "alias", "type", "equal tags", "iterations", "checking disabled", "cut off", "response code", "no anchor",
+        "message not seen: DS", "message not seen: DNSKEY", "message not seen: answer", "message not seen: cut", "memory",
+    };
+    const struct counts *counts = &shadow->counts;
+    FILE *log = shadow->log;
+    fprintf(log, "{\"moment\":%llu,\"counts\":{\"frames\":%llu", (unsigned long long)now, (unsigned long long)stream->frames);
+    put_count(log, "unreadable frames", stream->unreadable_frames);
+    put_count(log, "connections", stream->connections);
+    put_count(log, "dropped", dropped);
+    put_count(log, "messages of servers", counts->server_messages);
+    put_count(log, "answers to clients", counts->client_answers);
+    put_count(log, "answers to own questions", counts->own_answers);
+    put_count(log, "unreadable messages", counts->unreadable);
+    put_count(log, "judged", counts->judged);
+    put_count(log, "agree: secure", counts->agree[SECURE]);
+    put_count(log, "agree: insecure", counts->agree[INSECURE]);
+    put_count(log, "agree: bogus", counts->agree[BOGUS]);
+    put_count(log, "agree: no proof asked for", counts->agree[UNTOLD]);
+    put_count(log, "disagree", counts->disagree);
+    for (size_t i = 0; i < REASONS; i++) {
+        fprintf(log, ",\"not judged: %s\":%llu", reasons[i], (unsigned long long)counts->not_judged[i]);
+    }
+    put_count(log, "signatures checked", judge_signatures(shadow->judge));
+    put_count(log, "evicted", table_evicted(shadow->answers) + chain_evicted(shadow->chain));
+    put_count(log, "asked", shadow->asker != NULL ? asker_asked(shadow->asker) : 0);
+    fputs("}}\n", log);
+    fflush(log);
+}

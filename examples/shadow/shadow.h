@@ -1,0 +1,70 @@
+/* Compares what a resolver said to its clients with what the judge says of the messages that the resolver had. */
+#ifndef SHADOW_H
+#define SHADOW_H
+
+#include "asker.h"
+#include "chain.h"
+#include "queue.h"
+#include "table.h"
+
+#include <stdio.h>
+
+enum result { SECURE, INSECURE, BOGUS, UNTOLD }; /* UNTOLD: neither secure nor bogus, of a client that asked for no proof */
+
+/* Why an answer was not judged. */
+enum reason {
+    REASON_ALIAS,            /* the answer gives an alias, which this version of the library does not judge */
+    REASON_TYPE,             /* the library does not judge the type */
+    REASON_EQUAL_TAGS,       /* two keys have one tag, which the library does not judge */
+    REASON_ITERATIONS,       /* the iterations are over the limit, which is a matter of policy */
+    REASON_CHECKING_DISABLED, /* the client asked with the bit CD */
+    REASON_CUT_OFF,          /* the answer to the client has the bit TC */
+    REASON_CODE,             /* another response code, class or operation */
+    REASON_NO_ANCHOR,        /* no trust anchor is above the name */
+    REASON_NO_DS,            /* message not seen: of a name on the way no answer for DS was seen, and it is needed */
+    REASON_NO_DNSKEY,        /* message not seen: the zone's answer for its keys */
+    REASON_NO_ANSWER,        /* message not seen: the answer itself */
+    REASON_NO_CUT,           /* message not seen: an unsigned answer in a signed zone, and whether another zone begins below it */
+    REASON_MEMORY,           /* memory ran out */
+    REASONS
+};
+
+struct counts {
+    uint64_t server_messages, client_answers, own_answers, unreadable, judged, agree[UNTOLD + 1], disagree, not_judged[REASONS];
+};
+
+/* What a resolver said to its client. */
+struct told {
+    enum result result;
+    uint16_t rcode;
+    bool has_records;
+    struct record edns;
+    bool has_edns;
+};
+
+/* What the judge says of it. */
+struct verdict {
+    enum result result;
+    enum finding finding;
+    const char *reply;
+};
+
+struct shadow {
+    struct judge *judge;
+    struct chain *chain;
+    struct table *answers; /* by question: the zone of the server, behind its length, and the message */
+    struct asker *asker;   /* null where nothing is asked */
+    struct counts counts;
+    FILE *log;
+    uint64_t lines;
+};
+
+/* Takes what a message tells: of keys and DS sets any, of answers one of a server. */
+void shadow_learn(struct shadow *shadow, const struct event *event);
+/*
+ * Compares what the resolver said to a client. Gives false where something is missing that was asked for, and the answer may wait for it:
+ * it is to be compared once more.
+ */
+bool shadow_compare(struct shadow *shadow, const struct event *event, bool may_wait);
+
+#endif

@@ -1,0 +1,178 @@
+"""The four resolvers of tests/validators, each with dnstap switched on as docs/use/SHADOW.md prints it, and a shadow beside it."""
+
+import asyncio
+import json
+import pathlib
+import re
+import subprocess
+import sys
+import time
+
+sys.path.insert(0, str(pathlib.Path(__file__).resolve().parents[1] / "validators"))
+
+import validators
+from validators import Client
+
+DISTRIBUTOR = "198.51.100.30"
+
+
+class RootKey:
+    """The root's key, of the file that dnssec-keygen made, and its DS record."""
+
+    def __init__(self, folder, anchor):
+        line = next(it.read_text() for it in folder.glob("K*.key") if " 257 3 " in it.read_text()).splitlines()[-1]
+        self.algorithm, self.base64 = re.search(r"DNSKEY 257 3 (\d+) (.*)$", line).groups()
+        self.base64 = self.base64.replace(" ", "")
+        tag, self.ds_algorithm, digest_type, digest = re.search(r"DS (\d+) (\d+) (\d+) (\S+)", anchor.read_text()).groups()
+        self.tag, self.digest = int(tag), bytes([0, 0, int(self.ds_algorithm), int(digest_type)]) + bytes.fromhex(digest)
+
+    def ds(self, _owner):
+        return self.digest
+
+
+class Shadow:
+    """The program, on a socket in a folder, and what it logs."""
+
+    def __init__(self, program, folder, anchor, more=()):
+        self.socket, self.log = folder / "dnstap.sock", folder / "shadow.log"
+        words = [program, f"--anchors={anchor}", f"--socket={self.socket}", f"--log={self.log}", "--mode=0666", *more]
+        with open(folder / "shadow.stderr", "wb") as errors:
+            self.process = subprocess.Popen(list(map(str, words)), stdin=subprocess.DEVNULL, stderr=errors)
+        for _ in range(100):
+            if self.socket.exists():
+                return
+            time.sleep(0.1)
+        raise TimeoutError(f"no shadow: see {folder}/shadow.stderr")
+
+    def end(self):
+        """Its lines of disagreements, and its counts."""
+        self.process.terminate()
+        if self.process.wait(timeout=120):
+            raise RuntimeError(f"the shadow's status is {self.process.returncode}")
+        lines = [json.loads(line) for line in self.log.read_text().splitlines()]
+        return [it for it in lines if "case" in it], lines[-1]["counts"]
+
+
+def without_validation(text, *changes):
+    for line, other in changes:
+        if line not in text:
+            raise ValueError(f"no line to change: {line}")
+        text = text.replace(line, other)
+    return text
+
+
+class Unbound(validators.Unbound):
+    asks, is_validating = (), True
+
+    def configuration(self):
+        text = super().configuration()
+        if not self.is_validating:
+            text = without_validation(text, ('module-config: "validator iterator"', 'module-config: "iterator"'))
+        return text + f"""
+server:
+    ede: yes
+    local-zone: "test." nodefault
+dnstap:
+    dnstap-enable: yes
+    dnstap-socket-path: "{self.folder}/dnstap.sock"
+    dnstap-log-resolver-response-messages: yes
+    dnstap-log-client-response-messages: yes
+"""
+
+
+class Named(validators.Named):
+    asks, is_validating = (), True
+
+    def configuration(self):
+        text = super().configuration()
+        if not self.is_validating:
+            text = without_validation(text, ("dnssec-validation yes;", "dnssec-validation no;"))
+        return text.replace("options {", f"""options {{
+    dnstap {{ resolver response; client response; }};
+    dnstap-output unix "{self.folder}/dnstap.sock";""", 1)
+
+
+class Knot(validators.Knot):
+    is_validating = True
+
+    @property
+    def asks(self):
+        return (f"--ask={self.address}@53",)
+
+    def configuration(self):
+        text = super().configuration()
+        if not self.is_validating:
+            text = re.sub(r"(?m)^trust_anchors\.add_file.*$", "trust_anchors.remove('.')", text)
+        return text + f"""
+modules = {{ 'policy' }}
+policy.special_names = {{ count = 0 }}
+modules = {{ dnstap = {{ socket_path = '{self.folder}/dnstap.sock', client = {{ log_responses = true }} }} }}
+"""
+
+
+class PowerDns(validators.PowerDns):
+    """It logs nothing of its clients: dnsdist in front of it does."""
+
+    asks, is_validating = (), True
+    distributor = None
+
+    def configuration(self):
+        text = super().configuration()
+        if not self.is_validating:
+            text = without_validation(text, ("dnssec=validate", "dnssec=process-no-validate"))
+        anchor = (self.folder / "anchor.lua").read_text()
+        self.write("anchor.lua", anchor + f"""
+dnstapFrameStreamServer({{"{self.folder}/dnstap.sock"}}, {{logQueries=false, logResponses=true}})
+""")
+        self.write("dnsdist.conf", f"""
+setLocal("{DISTRIBUTOR}:53")
+setACL("0.0.0.0/0")
+newServer({{address="{self.address}:53", source="{DISTRIBUTOR}", checkInterval=1, checkName="."}})
+log = newFrameStreamUnixLogger("{self.folder}/dnstap.sock")
+addResponseAction(AllRule(), DnstapLogResponseAction("dnsdist", log))
+""")
+        return text
+
+    async def start(self):
+        await super().start()
+        with open(self.folder / "dnsdist.log", "wb") as log:
+            words = ["dnsdist", "--supervised", "--disable-syslog", "-C", self.folder / "dnsdist.conf"]
+            self.distributor = subprocess.Popen(words, cwd=self.folder, stdin=subprocess.DEVNULL, stdout=log, stderr=log)
+        await self.is_up()
+        self.client = Client((DISTRIBUTOR, 53))
+        await self.client.open()
+
+    def end(self):
+        if self.distributor:
+            self.distributor.terminate()
+            self.distributor.wait(timeout=20)
+        super().end()
+
+
+ALL = {"unbound": Unbound, "named": Named, "knot": Knot, "powerdns": PowerDns}
+
+
+async def asked(kind, folder, address, key, questions, program, anchor, is_validating=True):
+    """A shadow and a resolver in a folder: what the shadow wrote once the questions were asked, and how many had no answer."""
+    folder.mkdir(parents=True)
+    resolver = kind(folder, address, key)
+    resolver.is_validating = is_validating
+    shadow = Shadow(program, resolver.folder, anchor, resolver.asks)
+    missing = 0
+    try:
+        await resolver.start()
+        await resolver.is_up()
+        gate = asyncio.Semaphore(20)
+
+        async def ask(question):
+            async with gate:
+                return await resolver.client.ask(*question)
+
+        missing = sum(it is None for it in await asyncio.gather(*map(ask, questions)))
+        # What a shadow asks for comes a few times one after the other.
+        await asyncio.sleep(30 if resolver.asks else 3)
+    finally:
+        resolver.end()
+    await asyncio.sleep(1)
+    disagreements, counts = shadow.end()
+    return disagreements, counts, missing, resolver.version()
