@@ -21,7 +21,8 @@ struct judge {
 };
 
 struct judge *make_judge(uint16_t most_iterations) {
-    struct judge *judge = calloc(1, sizeof *judge);
+    bool is_of_header = zermuita_version() >> 8 == ZERMUITA_VERSION_NUMBER >> 8;
+    struct judge *judge = is_of_header ? calloc(1, sizeof *judge) : NULL;
     if (judge != NULL) {
         judge->most_iterations = most_iterations;
         judge->keys = make_table((struct bounds){KEPT_ZONES, KEPT_OCTETS});

@@ -36,7 +36,7 @@ struct judgement {
 
 struct judge;
 
-/* Null where memory runs out. */
+/* Null where memory runs out, or where the library is of another version than its header. */
 struct judge *make_judge(uint16_t most_iterations);
 void free_judge(struct judge *judge);
 struct judgement judge(struct judge *judge, const struct trial *trial);

@@ -32,7 +32,7 @@ struct queue *make_queue(size_t most_events, size_t most_octets, bool waits) {
 }
 
 static bool has_room_for(const struct queue *queue, const struct event *event) {
-    return queue->count < queue->most_events && queue->octets + event->len <= queue->most_octets;
+    return queue->count < queue->most_events && queue->octets + sizeof *event + event->len <= queue->most_octets;
 }
 
 void queue_put(struct queue *queue, struct event *event) {
@@ -43,7 +43,7 @@ void queue_put(struct queue *queue, struct event *event) {
     bool has_room = has_room_for(queue, event);
     if (has_room) {
         queue->ring[(queue->first + queue->count++) % queue->most_events] = event;
-        queue->octets += event->len;
+        queue->octets += sizeof *event + event->len;
         pthread_cond_signal(&queue->is_filled);
     } else {
         queue->dropped++;
@@ -77,7 +77,7 @@ struct event *queue_take(struct queue *queue, long milliseconds, bool *is_over) 
         event = queue->ring[queue->first];
         queue->first = (queue->first + 1) % queue->most_events;
         queue->count--;
-        queue->octets -= event->len;
+        queue->octets -= sizeof *event + event->len;
         pthread_cond_signal(&queue->is_taken);
     }
     *is_over = event == NULL && queue->has_ended;

@@ -1,5 +1,7 @@
 #include "report.h"
 
+#include <time.h>
+
 /* The members of a result, as corpus/schema.json has them. */
 struct shown {
     const char *result, *which;
@@ -143,17 +145,18 @@ static void put_count(FILE *log, const char *name, uint64_t number) {
     fprintf(log, ",\"%s\":%llu", name, (unsigned long long)number);
 }
 
-void report_counts(const struct shadow *shadow, const struct stream_counts *stream, uint64_t dropped, uint64_t now) {
+void report_counts(const struct shadow *shadow, const struct stream_counts *stream, uint64_t dropped, uint64_t waiting) {
     static const char *const reasons[REASONS] = {
         "alias", "type", "equal tags", "iterations", "checking disabled", "cut off", "response code", "no anchor",
         "message not seen: DS", "message not seen: DNSKEY", "message not seen: answer", "message not seen: cut", "memory",
     };
     const struct counts *counts = &shadow->counts;
     FILE *log = shadow->log;
-    fprintf(log, "{\"moment\":%llu,\"counts\":{\"frames\":%llu", (unsigned long long)now, (unsigned long long)stream->frames);
+    fprintf(log, "{\"moment\":%llu,\"counts\":{\"frames\":%llu", (unsigned long long)time(NULL), (unsigned long long)stream->frames);
     put_count(log, "unreadable frames", stream->unreadable_frames);
     put_count(log, "connections", stream->connections);
     put_count(log, "dropped", dropped);
+    put_count(log, "waiting", waiting);
     put_count(log, "messages of servers", counts->server_messages);
     put_count(log, "answers to clients", counts->client_answers);
     put_count(log, "answers to own questions", counts->own_answers);

@@ -41,7 +41,7 @@ static bool is_told(const struct message *message, struct told *told, enum reaso
     told->rcode = flags & MASK_RCODE;
     told->has_edns = find_edns(message, &told->edns);
     told->has_records = has_answer(message, NULL, message->qtype);
-    bool wants_proof = told->has_edns && (told->edns.ttl & 0x8000) != 0; /* the bit DO, which is that of the question (RFC 3225) */
+    told->wants_proof = told->has_edns && (told->edns.ttl & 0x8000) != 0;
     bool is_code = told->rcode == RCODE_NOERROR || told->rcode == RCODE_NXDOMAIN || told->rcode == RCODE_SERVFAIL;
     if (!is_code || message->qclass != CLASS_IN || (flags & (FLAG_QR | MASK_OPCODE)) != FLAG_QR) {
         *reason = REASON_CODE;
@@ -51,12 +51,13 @@ static bool is_told(const struct message *message, struct told *told, enum reaso
         *reason = (flags & FLAG_CD) != 0 ? REASON_CHECKING_DISABLED : REASON_CUT_OFF;
         return false;
     }
-    told->result = told->rcode == RCODE_SERVFAIL ? BOGUS : (flags & FLAG_AD) != 0 ? SECURE : wants_proof ? INSECURE : UNTOLD;
+    told->result = told->rcode == RCODE_SERVFAIL ? BOGUS : (flags & FLAG_AD) != 0 ? SECURE : told->wants_proof ? INSECURE : UNTOLD;
     return true;
 }
 
-/* The message that the resolver had for the question; else, where it has signatures, what it handed to its client. */
-static bool find_answer(struct shadow *shadow, const struct message *client, uint64_t now, struct message *answer, struct name *zone) {
+/* The message that the resolver had for the question; else what it handed to its client, where that was to have signatures. */
+static bool find_answer(struct shadow *shadow, const struct message *client, const struct told *told, uint64_t now,
+                        struct message *answer, struct name *zone) {
     struct octets kept;
     zone->len = 0;
     if (table_get(shadow->answers, &client->qname, client->qtype, now, &kept, NULL)) {
@@ -65,7 +66,11 @@ static bool find_answer(struct shadow *shadow, const struct message *client, uin
         return read_message((struct octets){kept.data + 1 + len, kept.len - 1 - len}, answer);
     }
     *answer = *client;
-    return (client->flags & MASK_RCODE) != RCODE_SERVFAIL && is_signed_by(client, NULL);
+    return told->rcode != RCODE_SERVFAIL && told->wants_proof;
+}
+
+static bool is_alias(const struct message *answer) {
+    return has_answer(answer, NULL, TYPE_CNAME) || has_answer(answer, NULL, TYPE_DNAME);
 }
 
 static enum result result_of(enum finding finding) {
@@ -99,7 +104,7 @@ static bool is_judged(struct shadow *shadow, const struct place *place, const st
         *reason = REASON_NO_DNSKEY;
         return false;
     }
-    if (has_answer(answer, NULL, TYPE_CNAME) || has_answer(answer, NULL, TYPE_DNAME)) {
+    if (is_alias(answer)) {
         *reason = REASON_ALIAS;
         return false;
     }
@@ -175,8 +180,8 @@ static bool asks_for_missing(struct shadow *shadow, const struct message *client
 }
 
 /* Finds what is to be compared with what was told. Gives false where nothing is, and why. */
-static bool find_verdict(struct shadow *shadow, const struct message *client, struct place *place, struct trial *trial,
-                         struct verdict *verdict, enum reason *reason) {
+static bool find_verdict(struct shadow *shadow, const struct message *client, const struct told *told, struct place *place,
+                         struct trial *trial, struct verdict *verdict, enum reason *reason) {
     struct message answer;
     struct name zone;
     chain_descend(shadow->chain, &client->qname, client->qtype, trial->now, place);
@@ -184,10 +189,14 @@ static bool find_verdict(struct shadow *shadow, const struct message *client, st
         *reason = REASON_NO_ANCHOR;
         return false;
     }
-    bool is_seen = find_answer(shadow, client, trial->now, &answer, &zone);
-    bool is_servfail = (client->flags & MASK_RCODE) == RCODE_SERVFAIL;
+    bool is_seen = find_answer(shadow, client, told, trial->now, &answer, &zone);
+    bool is_servfail = told->rcode == RCODE_SERVFAIL;
     trial->apex = place->apex;
     trial->answer = is_seen ? answer.octets : client->octets;
+    if (place->standing == UNSIGNED && is_servfail && is_seen && is_alias(&answer)) {
+        *reason = REASON_ALIAS; /* the answer may fail for what it leads to */
+        return false;
+    }
     if (place->standing == UNSIGNED && (is_seen || !is_servfail)) {
         *verdict = (struct verdict){INSECURE, FOUND_DELEGATED, "the zone is insecure: it has no DS record of a known algorithm"};
         return true;
@@ -217,7 +226,7 @@ bool shadow_compare(struct shadow *shadow, const struct event *event, bool may_w
     struct trial trial = {.qname = client.qname, .qtype = client.qtype, .now = event->moment};
     if (!is_told(&client, &told, &reason)) {
         shadow->counts.not_judged[reason]++;
-    } else if (find_verdict(shadow, &client, &place, &trial, &verdict, &reason)) {
+    } else if (find_verdict(shadow, &client, &told, &place, &trial, &verdict, &reason)) {
         count(shadow, &trial, &told, &verdict);
     } else if (may_wait && event->tries < MOST_TRIES && asks_for_missing(shadow, &client, &place, reason)) {
         return false;

@@ -37,9 +37,8 @@ struct counts {
 struct told {
     enum result result;
     uint16_t rcode;
-    bool has_records;
+    bool has_records, has_edns, wants_proof; /* the last: the client set the bit DO (RFC 3225) */
     struct record edns;
-    bool has_edns;
 };
 
 /* What the judge says of it. */

@@ -2,8 +2,10 @@
 
 import asyncio
 import json
+import os
 import pathlib
 import re
+import signal
 import subprocess
 import sys
 import time
@@ -33,23 +35,46 @@ class RootKey:
 class Shadow:
     """The program, on a socket in a folder, and what it logs."""
 
-    def __init__(self, program, folder, anchor, more=()):
+    def __init__(self, program, folder, anchor, more=(), environment=None):
         self.socket, self.log = folder / "dnstap.sock", folder / "shadow.log"
         words = [program, f"--anchors={anchor}", f"--socket={self.socket}", f"--log={self.log}", "--mode=0666", *more]
         with open(folder / "shadow.stderr", "wb") as errors:
-            self.process = subprocess.Popen(list(map(str, words)), stdin=subprocess.DEVNULL, stderr=errors)
+            how = {"stdin": subprocess.DEVNULL, "stderr": errors, "env": {**os.environ, **(environment or {})}}
+            self.process = subprocess.Popen(list(map(str, words)), **how)
         for _ in range(100):
             if self.socket.exists():
                 return
             time.sleep(0.1)
         raise TimeoutError(f"no shadow: see {folder}/shadow.stderr")
 
+    def lines(self):
+        return [json.loads(line) for line in self.log.read_text().splitlines(keepends=True) if line.endswith("\n")]
+
+    def counts(self):
+        """What it counts by now."""
+        before = len(self.lines())
+        self.process.send_signal(signal.SIGUSR1)
+        for _ in range(600):
+            found = [it["counts"] for it in self.lines()[before:] if "counts" in it]
+            if found:
+                return found[-1]
+            time.sleep(0.1)
+        raise TimeoutError("no counts")
+
+    async def settled(self, answers):
+        """Waits until so many answers were seen, and none waits for messages."""
+        for _ in range(240):
+            counts = self.counts()
+            if counts["frames"] and not counts["waiting"] and counts["answers to clients"] >= answers:
+                break
+            await asyncio.sleep(0.5)
+
     def end(self):
         """Its lines of disagreements, and its counts."""
         self.process.terminate()
         if self.process.wait(timeout=120):
             raise RuntimeError(f"the shadow's status is {self.process.returncode}")
-        lines = [json.loads(line) for line in self.log.read_text().splitlines()]
+        lines = self.lines()
         return [it for it in lines if "case" in it], lines[-1]["counts"]
 
 
@@ -113,7 +138,7 @@ modules = {{ dnstap = {{ socket_path = '{self.folder}/dnstap.sock', client = {{ 
 class PowerDns(validators.PowerDns):
     """It logs nothing of its clients: dnsdist in front of it does."""
 
-    asks, is_validating = (), True
+    asks, is_validating = (f"--ask={DISTRIBUTOR}@53",), True
     distributor = None
 
     def configuration(self):
@@ -152,13 +177,14 @@ addResponseAction(AllRule(), DnstapLogResponseAction("dnsdist", log))
 ALL = {"unbound": Unbound, "named": Named, "knot": Knot, "powerdns": PowerDns}
 
 
-async def asked(kind, folder, address, key, questions, program, anchor, is_validating=True):
-    """A shadow and a resolver in a folder: what the shadow wrote once the questions were asked, and how many had no answer."""
+async def asked(kind, folder, address, key, questions, program, anchor, is_validating=True, environment=None):
+    """A shadow and a resolver in a folder: what the shadow wrote once the questions were asked, and how many had no answer. A resolver
+    that doesn't validate asks for no keys, so that the shadow does."""
     folder.mkdir(parents=True)
     resolver = kind(folder, address, key)
     resolver.is_validating = is_validating
-    shadow = Shadow(program, resolver.folder, anchor, resolver.asks)
-    missing = 0
+    asks = resolver.asks or (() if is_validating else (f"--ask={address}@53",))
+    shadow = Shadow(program, resolver.folder, anchor, asks, environment)
     try:
         await resolver.start()
         await resolver.is_up()
@@ -169,10 +195,10 @@ async def asked(kind, folder, address, key, questions, program, anchor, is_valid
                 return await resolver.client.ask(*question)
 
         missing = sum(it is None for it in await asyncio.gather(*map(ask, questions)))
-        # What a shadow asks for comes a few times one after the other.
-        await asyncio.sleep(30 if resolver.asks else 3)
+        await shadow.settled(len(questions) - missing)
+        resolver.end()
+        disagreements, counts = shadow.end()
     finally:
         resolver.end()
-    await asyncio.sleep(1)
-    disagreements, counts = shadow.end()
+        shadow.process.kill()
     return disagreements, counts, missing, resolver.version()
