@@ -65,7 +65,7 @@ class Shadow:
         """Waits until so many answers were seen, and none waits for messages."""
         for _ in range(240):
             counts = self.counts()
-            if counts["frames"] and not counts["waiting"] and counts["answers to clients"] >= answers:
+            if not counts["waiting"] and counts["answers to clients"] + counts["answers to own questions"] >= answers + counts["asked"]:
                 break
             await asyncio.sleep(0.5)
 
@@ -78,25 +78,34 @@ class Shadow:
         return [it for it in lines if "case" in it], lines[-1]["counts"]
 
 
-def without_validation(text, *changes):
-    for line, other in changes:
-        if line not in text:
-            raise ValueError(f"no line to change: {line}")
-        text = text.replace(line, other)
-    return text
+def changed(text, line, other):
+    """A configuration with another line in the place of one."""
+    if line not in text:
+        raise ValueError(f"no line to change: {line}")
+    return text.replace(line, other, 1)
 
 
-class Unbound(validators.Unbound):
-    asks, is_validating = (), True
+class Logging:
+    """What a test may switch off: dnstap, and validation."""
+
+    is_logging = is_validating = True
+    asks = ()
 
     def configuration(self):
-        text = super().configuration()
-        if not self.is_validating:
-            text = without_validation(text, ('module-config: "validator iterator"', 'module-config: "iterator"'))
+        text = super().configuration() + self.NAMES
+        text = text if self.is_validating else changed(text, *self.VALIDATION)
+        return self.logging(text) if self.is_logging else text
+
+    def processes(self):
+        return [self.process]
+
+
+class Unbound(Logging, validators.Unbound):
+    NAMES = 'server:\n    ede: yes\n    local-zone: "test." nodefault\n'
+    VALIDATION = 'module-config: "validator iterator"', 'module-config: "iterator"'
+
+    def logging(self, text):
         return text + f"""
-server:
-    ede: yes
-    local-zone: "test." nodefault
 dnstap:
     dnstap-enable: yes
     dnstap-socket-path: "{self.folder}/dnstap.sock"
@@ -105,46 +114,44 @@ dnstap:
 """
 
 
-class Named(validators.Named):
-    asks, is_validating = (), True
+class Named(Logging, validators.Named):
+    NAMES = ""
+    VALIDATION = "dnssec-validation yes;", "dnssec-validation no;"
 
-    def configuration(self):
-        text = super().configuration()
-        if not self.is_validating:
-            text = without_validation(text, ("dnssec-validation yes;", "dnssec-validation no;"))
-        return text.replace("options {", f"""options {{
+    def logging(self, text):
+        return changed(text, "options {", f"""options {{
     dnstap {{ resolver response; client response; }};
-    dnstap-output unix "{self.folder}/dnstap.sock";""", 1)
+    dnstap-output unix "{self.folder}/dnstap.sock";""")
 
 
-class Knot(validators.Knot):
-    is_validating = True
+class Knot(Logging, validators.Knot):
+    """It logs nothing of its servers: what the shadow needs beside its answers to clients it is asked for."""
+
+    NAMES = "modules = { 'policy' }\npolicy.special_names = { count = 0 }\n"
+
+    @property
+    def VALIDATION(self):
+        return f"trust_anchors.add_file('{self.folder}/anchor', true)", "trust_anchors.remove('.')"
 
     @property
     def asks(self):
         return (f"--ask={self.address}@53",)
 
-    def configuration(self):
-        text = super().configuration()
-        if not self.is_validating:
-            text = re.sub(r"(?m)^trust_anchors\.add_file.*$", "trust_anchors.remove('.')", text)
+    def logging(self, text):
         return text + f"""
-modules = {{ 'policy' }}
-policy.special_names = {{ count = 0 }}
 modules = {{ dnstap = {{ socket_path = '{self.folder}/dnstap.sock', client = {{ log_responses = true }} }} }}
 """
 
 
-class PowerDns(validators.PowerDns):
+class PowerDns(Logging, validators.PowerDns):
     """It logs nothing of its clients: dnsdist in front of it does."""
 
-    asks, is_validating = (f"--ask={DISTRIBUTOR}@53",), True
+    NAMES = ""
+    VALIDATION = "dnssec=validate", "dnssec=process-no-validate"
+    asks = (f"--ask={DISTRIBUTOR}@53",)
     distributor = None
 
-    def configuration(self):
-        text = super().configuration()
-        if not self.is_validating:
-            text = without_validation(text, ("dnssec=validate", "dnssec=process-no-validate"))
+    def logging(self, text):
         anchor = (self.folder / "anchor.lua").read_text()
         self.write("anchor.lua", anchor + f"""
 dnstapFrameStreamServer({{"{self.folder}/dnstap.sock"}}, {{logQueries=false, logResponses=true}})
@@ -160,12 +167,17 @@ addResponseAction(AllRule(), DnstapLogResponseAction("dnsdist", log))
 
     async def start(self):
         await super().start()
+        if not self.is_logging:
+            return
         with open(self.folder / "dnsdist.log", "wb") as log:
             words = ["dnsdist", "--supervised", "--disable-syslog", "-C", self.folder / "dnsdist.conf"]
             self.distributor = subprocess.Popen(words, cwd=self.folder, stdin=subprocess.DEVNULL, stdout=log, stderr=log)
         await self.is_up()
         self.client = Client((DISTRIBUTOR, 53))
         await self.client.open()
+
+    def processes(self):
+        return [self.process, *([self.distributor] if self.distributor else [])]
 
     def end(self):
         if self.distributor:

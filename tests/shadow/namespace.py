@@ -1,0 +1,40 @@
+"""A network namespace with the addresses of the servers and resolvers, and the servers in it."""
+
+import contextlib
+import os
+import pathlib
+import subprocess
+import sys
+
+import resolvers
+
+HERE = pathlib.Path(__file__).resolve().parent
+SERVERS = ["198.51.100.1", "198.51.100.2", "192.0.2.1"]
+VALIDATORS = {name: f"198.51.100.{21 + at}" for at, name in enumerate(resolvers.ALL)}
+
+
+def enter(program, words):
+    """Runs a program again, in a network namespace of its own, unless it is in one."""
+    if "SHADOW_NAMESPACE" in os.environ:
+        return
+    addresses = [*SERVERS, *VALIDATORS.values(), resolvers.DISTRIBUTOR]
+    add = "".join(f"ip address add {it}/32 dev lo; " for it in addresses)
+    user = [] if os.geteuid() == 0 else ["--map-root-user"]
+    os.environ["SHADOW_NAMESPACE"] = "1"
+    command = f"ip link set lo up; {add}exec \"$@\""
+    os.execvp("unshare", ["unshare", "--net", *user, "sh", "-ec", command, "sh", sys.executable, program, *words])
+
+
+@contextlib.contextmanager
+def serving(tree, server):
+    """While a server has the zones of a tree, its version."""
+    words = [sys.executable, HERE / "tree.py", "serve", tree, server]
+    process = subprocess.Popen(words, stdin=subprocess.PIPE, stdout=subprocess.PIPE, text=True)
+    try:
+        version = process.stdout.readline().strip()
+        if not version:
+            raise RuntimeError(f"{server} doesn't serve: see {tree}/{server}-*")
+        yield version
+    finally:
+        process.stdin.close()
+        process.wait(timeout=60)
