@@ -1,0 +1,106 @@
+"""A stream in a file: what resolvers said, kept by fstrm_capture; the same with octets changed; and how the shadow takes both."""
+
+import asyncio
+import json
+import os
+import pathlib
+import random
+import re
+import subprocess
+
+from resolvers import Shadow
+
+CONTENT = "protobuf:dnstap.Dnstap"
+
+
+class Capture:
+    """fstrm_capture on a socket."""
+
+    def __init__(self, folder, file="/dev/null"):
+        words = ["fstrm_capture", "-t", CONTENT, "-u", folder / "dnstap.sock", "-w", file]
+        self.process = subprocess.Popen(words, stdin=subprocess.DEVNULL, stderr=subprocess.DEVNULL)
+
+    def end(self):
+        self.process.terminate()
+        self.process.wait(timeout=20)
+
+
+async def record(kind, folder, address, key, questions):
+    """The file of what a resolver logs as it is asked."""
+    folder.mkdir()
+    resolver, file = kind(folder, address, key), folder / "frames"
+    capture = Capture(resolver.folder, file)
+    try:
+        await resolver.start()
+        await resolver.is_up()
+        gate = asyncio.Semaphore(20)
+
+        async def ask(question):
+            async with gate:
+                await resolver.client.ask(*question)
+
+        await asyncio.gather(*map(ask, questions))
+        await asyncio.sleep(2)
+    finally:
+        resolver.end()
+        capture.end()
+    return file
+
+
+def frames_of(file):
+    """The frames of a file, and the octets of control frames before and behind them."""
+    octets, at, frames = file.read_bytes(), 0, []
+    begin = 8 + int.from_bytes(octets[4:8], "big")
+    at = begin
+    while length := int.from_bytes(octets[at : at + 4], "big"):
+        frames.append(octets[at + 4 : at + 4 + length])
+        at += 4 + length
+    return octets[:begin], frames, octets[at:]
+
+
+def write(file, kind, frames, before, behind):
+    made = pathlib.Path(f"{file}.{kind}")
+    parts = (len(it).to_bytes(4, "big") + it for it in frames)
+    made.write_bytes(b"".join([before, *parts, behind]))
+    return made, len(frames)
+
+
+def mutate(file, times, seed):
+    """A file of all frames so many times, half of them with some octets changed."""
+    drawn = random.Random(seed)
+    before, frames, behind = frames_of(file)
+    mutated = [bytearray(it) for _ in range(times) for it in frames]
+    for frame in mutated:
+        for _ in range(drawn.choice([0, 0, 0, 1, 2, 4])):
+            frame[drawn.randrange(len(frame) // drawn.choice([1, 1, 2, 8]))] = drawn.randrange(256)
+    return write(file, "mutated", mutated, before, behind)
+
+
+def rename(file, times, seed):
+    """A file of all frames so many times, each time with other names."""
+    drawn = random.Random(seed)
+    before, frames, behind = frames_of(file)
+    names = [bytes(drawn.choices(b"abcdefghijklmnopqrstuvwxyz", k=6)) for _ in range(times)]
+    renamed = [re.sub(rb"\x04test|\x06hashed|\x06optout", lambda it: it[0][:1] + name[: it[0][0]], frame) for name in names for frame in frames]
+    return write(file, "renamed", renamed, before, behind)
+
+
+def read(program, anchor, file, *more):
+    """What the shadow says of a file: its disagreements, and its counts."""
+    words = [program, f"--anchors={anchor}", f"--file={file}", *more]
+    ran = subprocess.run(list(map(str, words)), stdin=subprocess.DEVNULL, capture_output=True, text=True)
+    if ran.returncode:
+        raise RuntimeError(f"{file}: status {ran.returncode}: {ran.stderr[-3000:]}")
+    lines = [json.loads(line) for line in ran.stdout.splitlines()]
+    return lines[:-1], lines[-1]["counts"]
+
+
+def replay(program, folder, anchor, file, slowness):
+    """What the shadow counts of a file that comes by its socket at full speed, while each judgement takes some milliseconds."""
+    folder.mkdir()
+    shadow = Shadow(program, folder, anchor, ["--memory=8"], {"SLOW": str(slowness)})
+    try:
+        subprocess.run(["fstrm_replay", "-t", CONTENT, "-u", shadow.socket, "-r", file], check=True, env={**os.environ})
+        return shadow.end()[1]
+    finally:
+        shadow.process.kill()
